@@ -1,0 +1,53 @@
+// The stated limits. A limit is passed at the first number above it.
+
+/// The limits of the compiler and of its runners. A quantity may be as great as its number here.
+#[derive(Clone, Copy, Debug)]
+pub struct Limits;
+
+impl Limits {
+    /// Bytes of a source: 1 MiB.
+    pub const SOURCE_BYTES: u64 = 1_048_576;
+
+    /// Bytes of a trace: 16 MiB.
+    pub const TRACE_BYTES: u64 = 16_777_216;
+
+    /// Bytes of a BLIF or C text that is read: 256 MiB.
+    pub const TEXT_BYTES: u64 = 268_435_456;
+
+    /// Nesting of a source: statements with room for a statement or a case, `not` and brackets,
+    /// one in another.
+    pub const NESTING: u64 = 200;
+
+    /// Statements that the expansion of `run` meets.
+    pub const STATEMENTS: u64 = 65_536;
+
+    /// Statements that one statement stands in, during the expansion of `run`.
+    pub const DEPTH: u64 = 2_048;
+
+    /// Signals of a program, interface and local.
+    pub const SIGNALS: u64 = 4_096;
+
+    /// Nodes of a kernel body, statements and tests together.
+    pub const KERNEL_NODES: u64 = 65_536;
+
+    /// Nodes on the longest way from a kernel body down, tests included.
+    pub const KERNEL_HEIGHT: u64 = 1_024;
+
+    /// Traps one in another.
+    pub const TRAPS: u64 = 60;
+
+    /// Live instances of a program's statements.
+    pub const INSTANCES: u64 = 131_072;
+
+    /// Wires of a graph plus its live test nodes.
+    pub const WIRES: u64 = 262_144;
+
+    /// The least count of a delay or a `repeat`.
+    pub const LEAST_COUNT: u64 = 1;
+
+    /// The greatest count of a delay or a `repeat`.
+    pub const GREATEST_COUNT: u64 = 255;
+
+    /// Bytes of a piece in which a text is written: 64 KiB.
+    pub const PIECE_BYTES: usize = 65_536;
+}

@@ -1,0 +1,19 @@
+// What a program says of its signals.
+
+use crate::indices::SigId;
+use crate::texts::Text;
+
+/// A signal's name, as the source spells it.
+#[derive(Debug, Drop)]
+pub struct SignalInfo {
+    pub name: Text,
+}
+
+/// What a program's environment keeps of its inputs in every instant.
+#[derive(Debug, Drop)]
+pub enum InputRelation {
+    /// The second input is present whenever the first one is.
+    Implies(SigId, SigId),
+    /// At most one of the inputs is present; an input that the list names twice counts once.
+    Excludes(Vec<SigId>),
+}

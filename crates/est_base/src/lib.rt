@@ -1,0 +1,21 @@
+//! The ground of the compiler: what every pass shares.
+//!
+//! Places in a source (`Span`), typed indices, names as bytes (`Text`), sets of completion codes
+//! (`CodeSet`), the stated limits (`Limits`), and want of memory (`NoMemory`). Completion codes are
+//! those of Berry, "The Constructive Semantics of Pure Esterel": 0 is termination, 1 a pause, and k
+//! of at least 2 leaves the trap that is k - 2 traps further out.
+#![tactic(auto)]
+
+mod bounds;
+mod indices;
+mod interface;
+mod memory;
+mod place;
+mod texts;
+
+pub use bounds::Limits;
+pub use indices::{InstId, LatchId, ModId, NetId, PathId, SigId, WireId};
+pub use interface::{InputRelation, SignalInfo};
+pub use memory::NoMemory;
+pub use place::Span;
+pub use texts::Text;
