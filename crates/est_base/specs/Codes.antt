@@ -1,7 +1,7 @@
 -- Sets of completion codes, as tests: what the set has, the test answers with true.
 -- 0 is termination, 1 a pause, and k of at least 2 leaves the trap that is k - 2 traps further out
 -- (Berry, "The Constructive Semantics of Pure Esterel").
-use Rattle.std.specs.Prelude.{ℕ, zero, suc, ◌+◌, Bool, false, not, ◌==◌, ◌&&◌, ◌||◌, if◌then◌else◌}
+use Rattle.std.specs.Prelude.{ℕ, zero, suc, Bool, false, not, ◌==◌, ◌&&◌, ◌||◌}
 
 -- the empty set
 abbrev pub no_code : ℕ → Bool
@@ -31,4 +31,6 @@ maxima A B = λ k. A k && upto B k || B k && upto A k
 
 -- what a trap makes of the codes of its body: 0 and 2 become 0, 1 stays, k above 2 becomes k - 1
 abbrev pub lowered : (ℕ → Bool) → ℕ → Bool
-lowered A = λ k. if k == 0 then A 0 || A 2 else if k == 1 then A 1 else A (k + 1)
+lowered A zero = A 0 || A 2
+lowered A (suc zero) = A 1
+lowered A (suc (suc k)) = A (suc (suc (suc k)))

@@ -7,6 +7,7 @@
 #![tactic(auto)]
 
 mod bounds;
+mod code_set;
 mod indices;
 mod interface;
 mod memory;
@@ -14,6 +15,7 @@ mod place;
 mod texts;
 
 pub use bounds::Limits;
+pub use code_set::CodeSet;
 pub use indices::{InstId, LatchId, ModId, NetId, PathId, SigId, WireId};
 pub use interface::{InputRelation, SignalInfo};
 pub use memory::NoMemory;
