@@ -1,2 +1,6 @@
 pub mod Codes
 pub mod CodeSet
+pub mod Faults
+pub mod Reading
+pub mod FileEntry
+pub mod Writing

@@ -8,16 +8,26 @@
 
 mod bounds;
 mod code_set;
+mod file_entry;
 mod indices;
 mod interface;
+mod map_files;
 mod memory;
 mod place;
+mod reading;
+mod steady_files;
 mod texts;
+mod writing;
 
 pub use bounds::Limits;
 pub use code_set::CodeSet;
+pub use file_entry::FileEntry;
 pub use indices::{InstId, LatchId, ModId, NetId, PathId, SigId, WireId};
 pub use interface::{InputRelation, SignalInfo};
+pub use map_files::MapFiles;
 pub use memory::NoMemory;
 pub use place::Span;
+pub use reading::{FileFault, Files};
+pub use steady_files::SteadyFiles;
 pub use texts::Text;
+pub use writing::{Sink, SinkFault};

@@ -1,0 +1,32 @@
+-- What a read of a file answers, against the content that the files tell.
+use Rattle.std.specs.Prelude.{◌≡◌, ℕ, ◌<◌, ◌≤◌, List, length, Option, None, Some, Result, Ok, Err, Vec}
+use Rattle.std.specs.declared.alloc.Global.{Global}
+use Rattle.est_base.specs.Faults.{Rose}
+use Rattle.est_base.specs.declared.reading.FileFault.{FileFault}
+use Rattle.est_base.specs.declared.reading.FileFault.TheVariants.{Failed, TooLong, NoMemory}
+
+-- where the content is told: an answer of bytes is what the file holds, within the limit, and the
+-- answer "too long" comes only where more than the limit stands there
+abbrev pub Reads : Option (List ℕ → List ℕ) → List ℕ → ℕ → Result (Vec ℕ Global) FileFault → Type 0
+Reads None name limit answer = Unit {0}
+Reads (Some held) name limit (Ok bytes) = (bytes.items ≡ held name) × (length (held name) ≤ limit)
+Reads (Some held) name limit (Err TooLong) = limit < length (held name)
+Reads (Some held) name limit (Err Failed) = Unit {0}
+Reads (Some held) name limit (Err NoMemory) = Unit {0}
+
+-- what a read does to the count of faults and to the name that failed last
+pub record Keeps (faults_before faults_now : ℕ) (failed_before failed_now : List ℕ) : Type 0 where
+  pub faults : faults_now ≡ faults_before
+  pub failed : failed_now ≡ failed_before
+
+-- a failure raises the count, and its name is then the one that failed last
+pub record Notes (faults_before faults_now : ℕ) (name failed_now : List ℕ) : Type 0 where
+  pub faults : Rose faults_before faults_now
+  pub failed : failed_now ≡ name
+
+-- only a failure changes the count of faults and the name that failed last
+abbrev pub Counts : ℕ → ℕ → List ℕ → List ℕ → List ℕ → Result (Vec ℕ Global) FileFault → Type 0
+Counts before now failed_before failed_now name (Ok bytes) = Keeps before now failed_before failed_now
+Counts before now failed_before failed_now name (Err Failed) = Notes before now name failed_now
+Counts before now failed_before failed_now name (Err TooLong) = Keeps before now failed_before failed_now
+Counts before now failed_before failed_now name (Err NoMemory) = Keeps before now failed_before failed_now

@@ -1,0 +1,32 @@
+-- What a write to a sink appends, against the bytes that the sink tells.
+use Rattle.std.specs.Prelude.{◌≡◌, ℕ, List, ◌++◌, take, Option, None, Some, Result, Ok, Err}
+use Rattle.est_base.specs.Faults.{Rose}
+use Rattle.est_base.specs.declared.writing.SinkFault.{SinkFault}
+use Rattle.est_base.specs.declared.writing.SinkFault.TheVariants.{Failed}
+
+-- the text was appended, where the bytes are told before and after; what was not told stays untold
+abbrev pub Gains : Option (List ℕ) → Option (List ℕ) → List ℕ → Type 0
+Gains None None text = Unit {0}
+Gains None (Some after) text = ⊥
+Gains (Some before) None text = Unit {0}
+Gains (Some before) (Some after) text = after ≡ before ++ text
+
+-- a prefix of the text was appended
+pub record GainsFront (before after : Option (List ℕ)) (text : List ℕ) : Type 0 where
+  pub taken : ℕ
+  pub gains : Gains before after (take taken text)
+
+-- a failure raises the count, and a prefix of the text was appended
+pub record Stops (before after : Option (List ℕ)) (faults_before faults_now : ℕ) (text : List ℕ) : Type 0 where
+  pub faults : Rose faults_before faults_now
+  pub front : GainsFront before after text
+
+-- the whole text was appended, and no fault was counted
+pub record Appends (before after : Option (List ℕ)) (faults_before faults_now : ℕ) (text : List ℕ) : Type 0 where
+  pub faults : faults_now ≡ faults_before
+  pub whole : Gains before after text
+
+-- what a write of the text did
+abbrev pub Wrote : Option (List ℕ) → Option (List ℕ) → ℕ → ℕ → List ℕ → Result (Unit {0}) SinkFault → Type 0
+Wrote before after faults_before faults_now text (Ok done) = Appends before after faults_before faults_now text
+Wrote before after faults_before faults_now text (Err Failed) = Stops before after faults_before faults_now text
