@@ -4,3 +4,4 @@ pub mod Faults
 pub mod Reading
 pub mod FileEntry
 pub mod Writing
+pub mod SinkState

@@ -30,3 +30,8 @@ Counts before now failed_before failed_now name (Ok bytes) = Keeps before now fa
 Counts before now failed_before failed_now name (Err Failed) = Notes before now name failed_now
 Counts before now failed_before failed_now name (Err TooLong) = Keeps before now failed_before failed_now
 Counts before now failed_before failed_now name (Err NoMemory) = Keeps before now failed_before failed_now
+
+-- how many reads failed, and the name that failed last
+pub record FaultRecord : Type 0 where
+  pub faults : ℕ
+  pub last_failed : List ℕ

@@ -2,7 +2,6 @@
 use Rattle.std.specs.Prelude.{◌≡◌, ℕ, List, ◌++◌, take, Option, None, Some, Result, Ok, Err}
 use Rattle.est_base.specs.Faults.{Rose}
 use Rattle.est_base.specs.declared.writing.SinkFault.{SinkFault}
-use Rattle.est_base.specs.declared.writing.SinkFault.TheVariants.{Failed}
 
 -- the text was appended, where the bytes are told before and after; what was not told stays untold
 abbrev pub Gains : Option (List ℕ) → Option (List ℕ) → List ℕ → Type 0
@@ -29,4 +28,4 @@ pub record Appends (before after : Option (List ℕ)) (faults_before faults_now 
 -- what a write of the text did
 abbrev pub Wrote : Option (List ℕ) → Option (List ℕ) → ℕ → ℕ → List ℕ → Result (Unit {0}) SinkFault → Type 0
 Wrote before after faults_before faults_now text (Ok done) = Appends before after faults_before faults_now text
-Wrote before after faults_before faults_now text (Err Failed) = Stops before after faults_before faults_now text
+Wrote before after faults_before faults_now text (Err fault) = Stops before after faults_before faults_now text

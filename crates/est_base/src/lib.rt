@@ -8,26 +8,37 @@
 
 mod bounds;
 mod code_set;
+mod disk_files;
 mod file_entry;
 mod indices;
 mod interface;
+mod kept;
+mod list_sink;
 mod map_files;
 mod memory;
+mod pieces;
 mod place;
 mod reading;
 mod steady_files;
+mod steady_sink;
 mod texts;
+mod writer_sink;
 mod writing;
 
 pub use bounds::Limits;
 pub use code_set::CodeSet;
+pub use disk_files::DiskFiles;
 pub use file_entry::FileEntry;
 pub use indices::{InstId, LatchId, ModId, NetId, PathId, SigId, WireId};
 pub use interface::{InputRelation, SignalInfo};
+pub use list_sink::ListSink;
 pub use map_files::MapFiles;
 pub use memory::NoMemory;
+pub use pieces::{write_pieces, write_text};
 pub use place::Span;
 pub use reading::{FileFault, Files};
 pub use steady_files::SteadyFiles;
+pub use steady_sink::SteadySink;
 pub use texts::Text;
+pub use writer_sink::WriterSink;
 pub use writing::{Sink, SinkFault};

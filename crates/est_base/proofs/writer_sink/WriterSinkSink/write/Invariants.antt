@@ -1,0 +1,9 @@
+use Rattle.std.proofs.Common.{◌≡◌, length}
+use Rattle.est_base.proofs.writer_sink.WriterSinkSink.write.Given as goal
+
+-- no fault was counted so far
+abbrev pub invariant-loop-rest : goal.invariant-loop-rest
+invariant-loop-rest g l = l.self-inside.faults ≡ l.initial.self-inside.faults
+
+abbrev pub decreases-loop-rest : goal.decreases-loop-rest
+decreases-loop-rest g l = length l.rest
