@@ -1,13 +1,11 @@
 -- Writes one after another: what several writes appended, together.
-use Rattle.std.proofs.Common.{◌≡◌, ℕ, suc, ◌+◌, ◌-◌, ◌<◌, ◌≤◌, min, List, [], ◌∷◌, ◌++◌, length, get_or, take, drop, Option, None, Some, Result, Ok, Err, refl, sym, ap, ◌∙◌, subst, append_assoc, append-nil, arith}
+use Rattle.std.proofs.Common.{◌≡◌, ℕ, suc, ◌+◌, ◌-◌, ◌<◌, min, List, [], ◌∷◌, ◌++◌, length, get_or, take, drop, Option, None, Some, refl, sym, ap, ◌∙◌, subst, append_assoc, append-nil, arith}
 use Rattle.std.proofs.Math.Seq.{take-append-add, take-add, drop-cons}
 use Rattle.std.proofs.lemmas.Grind.{flat_map-append}
 use Rattle.std.proofs.lemmas.List.{take_min, take-append-le, take-append-drop}
 use Rattle.std.specs.List.{flat_map}
 use Rattle.est_base.specs.Faults.{Rose}
-use Rattle.est_base.specs.Writing.{Gains, GainsFront, Stops, Appends, Wrote}
-use Rattle.est_base.specs.declared.writing.SinkFault.{SinkFault}
-use Rattle.est_base.specs.declared.writing.SinkFault.TheVariants.{Failed}
+use Rattle.est_base.specs.Writing.{Gains, Stops, Appends}
 
 pub gains-nothing : (a : Option (List ℕ)) → Gains a a []
 gains-nothing None = tt

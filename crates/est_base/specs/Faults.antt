@@ -1,5 +1,5 @@
 -- Counts of faults, as the outside keeps them.
-use Rattle.std.specs.Prelude.{◌≡◌, ℕ, ◌+◌, ◌-◌, ◌^◌, ◌≤◌, min}
+use Rattle.std.specs.Prelude.{ℕ, ◌+◌, ◌-◌, ◌^◌, ◌≤◌, min}
 
 -- one more, but for a count that stands at the greatest u64, which stays there
 abbrev pub one_more : ℕ → ℕ

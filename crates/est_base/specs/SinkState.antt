@@ -1,5 +1,5 @@
 -- Sinks in memory: what such a sink keeps, and what it tells.
-use Rattle.std.specs.Prelude.{◌≡◌, ℕ, ◌+◌, ◌-◌, ◌^◌, ◌<◌, ◌≤◌, min, Bool, if◌then◌else◌, ◌==◌, List, ◌++◌, length, take, Option, None, Some, Contains, Result, Ok, Err}
+use Rattle.std.specs.Prelude.{◌≡◌, ℕ, ◌+◌, ◌-◌, ◌^◌, ◌<◌, ◌≤◌, min, if◌then◌else◌, ◌==◌, List, ◌++◌, length, take, Option, None, Some, Contains, Result, Ok, Err}
 use Rattle.est_base.specs.Faults.{one_more}
 use Rattle.est_base.specs.declared.writing.SinkFault.{SinkFault}
 use Rattle.est_base.specs.declared.writing.SinkFault.TheVariants.{Failed}
@@ -18,10 +18,10 @@ told_of k = if k.beyond == 0 then Some k.bytes else None
 -- what is kept after one more piece
 abbrev pub after_piece : Kept → List ℕ → Kept
 after_piece k piece = record {
-    bytes = take k.room (k.bytes ++ piece);
-    room = k.room;
-    beyond = min (k.beyond + (length k.bytes + length piece - k.room)) (2 ^ 64 - 1);
-  }
+  bytes = take k.room (k.bytes ++ piece);
+  room = k.room;
+  beyond = min (k.beyond + (length k.bytes + length piece - k.room)) (2 ^ 64 - 1);
+}
 
 -- a sink in memory that fails at chosen calls: what it keeps, the numbers of the calls that fail,
 -- how many calls there were, and how many of them failed

@@ -69,7 +69,12 @@ impl<'r, R: rt::Files> Files for DiskFiles<'r, R> {
 
 // The bytes of a file, or none where there are more than the limit. A file that says how long it is
 // gets its room at the start, so that its bytes are not moved again.
-fn read_within<R: rt::Files>(rt: &R, alloc: Global, name: &str, limit: u64) -> io::Result<Option<Vec<u8>>> {
+fn read_within<R: rt::Files>(
+    rt: &R,
+    alloc: Global,
+    name: &str,
+    limit: u64,
+) -> io::Result<Option<Vec<u8>>> {
     let file = fs::open(rt, name)?;
     let length = file.metadata()?.len();
     if length > limit {
@@ -77,5 +82,9 @@ fn read_within<R: rt::Files>(rt: &R, alloc: Global, name: &str, limit: u64) -> i
     }
     let mut bytes = Vec::with_capacity(alloc, length as usize)?;
     file.take(limit.saturating_add(1)).read_to_end(&mut bytes)?;
-    Ok(if bytes.len() as u64 > limit { None } else { Some(bytes) })
+    Ok(if bytes.len() as u64 > limit {
+        None
+    } else {
+        Some(bytes)
+    })
 }

@@ -42,3 +42,6 @@ pub use steady_sink::SteadySink;
 pub use texts::Text;
 pub use writer_sink::WriterSink;
 pub use writing::{Sink, SinkFault};
+
+#[cfg(test)]
+mod tests;

@@ -23,10 +23,10 @@ impl Model for ListSink {
     ghost Value = { ListState };
 
     ghost view = { λ s. record {
-        kept = s.kept;
-        failing = s.failing.items;
-        calls = s.calls;
-        faults = s.faults;
+      kept = s.kept;
+      failing = s.failing.items;
+      calls = s.calls;
+      faults = s.faults;
     } };
 }
 
@@ -36,10 +36,10 @@ impl ListSink {
     /// A sink with room for this many bytes, before the first call.
     pub fn new(alloc: Global, room: u64, failing: Vec<u64>) -> Result<ListSink, NoMemory>
         ensures { IfOk result (λ sink. sink ≡ record {
-            kept = record { bytes = []; room = room; beyond = 0 };
-            failing = failing.items;
-            calls = 0;
-            faults = 0;
+          kept = record { bytes = []; room = room; beyond = 0 };
+          failing = failing.items;
+          calls = 0;
+          faults = 0;
         }) }
     {
         Ok(ListSink {

@@ -27,11 +27,11 @@ impl Model for MapFiles {
     ghost Value = { MapState };
 
     ghost view = { λ m. record {
-        entries = m.entries.items;
-        failing = m.failing.items;
-        calls = m.calls;
-        faults = m.faults;
-        last_failed = unwrap_or m.failed [];
+      entries = m.entries.items;
+      failing = m.failing.items;
+      calls = m.calls;
+      faults = m.faults;
+      last_failed = unwrap_or m.failed [];
     } };
 }
 
@@ -41,11 +41,11 @@ impl MapFiles {
     /// These files, before the first call. It takes no memory.
     pub fn new(entries: Vec<FileEntry>, failing: Vec<u64>) -> MapFiles
         ensures { result ≡ record {
-            entries = entries.items;
-            failing = failing.items;
-            calls = 0;
-            faults = 0;
-            last_failed = [];
+          entries = entries.items;
+          failing = failing.items;
+          calls = 0;
+          faults = 0;
+          last_failed = [];
         } }
     {
         MapFiles {
@@ -92,7 +92,12 @@ impl Files for MapFiles {
 }
 
 // The bytes under a name, at a call that does not fail.
-fn offered<'a>(entries: &'a [FileEntry], failing: &[u64], call: u64, name: &[u8]) -> Option<&'a Text>
+fn offered<'a>(
+    entries: &'a [FileEntry],
+    failing: &[u64],
+    call: u64,
+    name: &[u8],
+) -> Option<&'a Text>
     ensures { MatchOption result
         (Contains failing.now call ⊎ IsNone (bytes_under entries.now name.now))
         (λ bytes. ¬ Contains failing.now call × (bytes_under entries.now name.now ≡ Some bytes.now)) }

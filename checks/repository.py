@@ -1,0 +1,119 @@
+#!/usr/bin/env python3
+"""The repository's own checks: quick looks that no proof makes. Ends with status 1 where one finds something."""
+
+import pathlib
+import re
+import shutil
+import subprocess
+import sys
+
+TOP = pathlib.Path(__file__).resolve().parent.parent
+
+
+def tracked():
+    """The files of the repository, as git lists them; none where git is missing."""
+    listed = subprocess.run(
+        ["git", "ls-files", "-z"], cwd=TOP, capture_output=True, check=True
+    )
+    return [TOP / name for name in listed.stdout.decode().split("\0") if name]
+
+
+def crates():
+    """The names in crates.txt, in the order of its lines."""
+    names = []
+    for line in (TOP / "crates.txt").read_text().splitlines():
+        line = line.split("#")[0].strip()
+        if line:
+            names.append(line.split(":")[0].split()[0])
+    return names
+
+
+CITES = re.compile(
+    r"\b[DTWR][0-9]{1,2}(\.[0-9]+)?\b"
+    r"|\b[Dd]ocument 0[0-9]"
+    r"|\b0[1-4]-(scope|theorems|requests|formats)"
+    r"|\b[Rr]ow [0-9]+"
+    r"|\.\./shared"
+    r"|\bpapers/"
+    r"|\bissue #?[0-9]"
+)
+SKIPPED = {"checks/repository.py"}
+READ = {".rt", ".antt", ".md", ".edit", ".txt", ".sh", ".py", ".strl", ""}
+
+
+def stands_alone():
+    """No line of code, specification, document or commit message cites what is not here."""
+    found = []
+    for path in tracked():
+        name = path.relative_to(TOP).as_posix()
+        if name in SKIPPED or path.suffix not in READ or not path.is_file():
+            continue
+        text = path.read_text(errors="replace")
+        for number, line in enumerate(text.splitlines(), 1):
+            if CITES.search(line):
+                found.append(f"{name}:{number}: {line.strip()[:100]}")
+    log = subprocess.run(
+        ["git", "log", "--format=%h %B"], cwd=TOP, capture_output=True, check=True
+    )
+    for line in log.stdout.decode(errors="replace").splitlines():
+        if CITES.search(line):
+            found.append(f"commit message: {line.strip()[:100]}")
+    return found
+
+
+def crates_are_introduced():
+    """Each crate has a row in the README's map and a `//!` head in its root file."""
+    found = []
+    readme = (TOP / "README.md").read_text()
+    for name in crates():
+        if not re.search(rf"^\| `{name}` \|", readme, re.M):
+            found.append(f"README.md: no row for {name} in the map of the crates")
+        folder = TOP / "crates" / name / "src"
+        root = folder / "lib.rt" if (folder / "lib.rt").exists() else folder / "main.rt"
+        if not root.exists() or not root.read_text().startswith("//!"):
+            found.append(f"crates/{name}: the root file has no `//!` head")
+    return found
+
+
+def edits_are_named():
+    """A must-fail edit's name says the wrong body in words."""
+    found = []
+    for name in crates():
+        for edit in sorted((TOP / "crates" / name / "must-fail").glob("*.edit")):
+            words = edit.stem.split("_")
+            if len(words) < 2 or not all(re.fullmatch(r"[a-z]+", word) for word in words):
+                found.append(f"crates/{name}/must-fail/{edit.name}: not a name in words")
+    return found
+
+
+def handles_are_none():
+    """The file HANDLES holds its one line."""
+    line = "Handles allowed: none.\n"
+    return [] if (TOP / "HANDLES").read_text() == line else ["HANDLES: not its one line"]
+
+
+CHECKS = [
+    ("the repository stands alone", stands_alone, "git"),
+    ("every crate is introduced", crates_are_introduced, None),
+    ("every edit is named in words", edits_are_named, None),
+    ("no handle is allowed", handles_are_none, None),
+]
+
+
+def main():
+    failed = 0
+    for title, check, tool in CHECKS:
+        if tool and not shutil.which(tool):
+            print(f"checks: skipped, no {tool} here: {title}")
+            continue
+        found = check()
+        print(f"checks: {'ok' if not found else 'FAILED'}: {title}")
+        for line in found:
+            print(f"  {line}")
+        failed += bool(found)
+    print(f"checks: {len(CHECKS) - failed} of {len(CHECKS)} ok or skipped")
+    return 1 if failed else 0
+
+
+if __name__ == "__main__":
+    sys.exit(main())
