@@ -5,10 +5,11 @@ use Rattle.est_base.specs.Faults.{Rose}
 use Rattle.est_base.specs.declared.reading.FileFault.{FileFault}
 use Rattle.est_base.specs.declared.reading.FileFault.TheVariants.{Failed, TooLong, NoMemory}
 
--- where the content is told: an answer of bytes is what the file holds, within the limit, and the
--- answer "too long" comes only where more than the limit stands there
+-- An answer of bytes is within the limit. Where the content is told, it is what the file holds, and the
+-- answer "too long" comes only where more than the limit stands there.
 abbrev pub Reads : Option (List ℕ → List ℕ) → List ℕ → ℕ → Result (Vec ℕ Global) FileFault → Type 0
-Reads None name limit answer = Unit {0}
+Reads None name limit (Ok bytes) = length bytes.items ≤ limit
+Reads None name limit (Err fault) = Unit {0}
 Reads (Some held) name limit (Ok bytes) = (bytes.items ≡ held name) × (length (held name) ≤ limit)
 Reads (Some held) name limit (Err TooLong) = limit < length (held name)
 Reads (Some held) name limit (Err Failed) = Unit {0}

@@ -1,5 +1,7 @@
 // Files of the disk.
 
+ghost use Rattle.std.specs.Prelude.{◌≤◌, length, IfOk, IfSome};
+
 use crate::reading::{FileFault, Files};
 use crate::texts::Text;
 use std::alloc::Global;
@@ -74,7 +76,9 @@ fn read_within<R: rt::Files>(
     alloc: Global,
     name: &str,
     limit: u64,
-) -> io::Result<Option<Vec<u8>>> {
+) -> io::Result<Option<Vec<u8>>>
+    ensures { IfOk result (λ read. IfSome read (λ bytes. length bytes.items ≤ limit)) }
+{
     let file = fs::open(rt, name)?;
     let length = file.metadata()?.len();
     if length > limit {
@@ -82,9 +86,8 @@ fn read_within<R: rt::Files>(
     }
     let mut bytes = Vec::with_capacity(alloc, length as usize)?;
     file.take(limit.saturating_add(1)).read_to_end(&mut bytes)?;
-    Ok(if bytes.len() as u64 > limit {
-        None
-    } else {
-        Some(bytes)
-    })
+    if bytes.len() as u64 > limit {
+        return Ok(None);
+    }
+    Ok(Some(bytes))
 }
