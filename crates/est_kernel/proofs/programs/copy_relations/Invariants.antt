@@ -1,0 +1,6 @@
+use Rattle.std.proofs.Common.{◌≡◌, map, take}
+use Rattle.est_kernel.specs.Plain.{relation_of}
+use Rattle.est_kernel.proofs.programs.copy_relations.Given as goal
+
+abbrev pub invariant-loop-relation : goal.invariant-loop-relation
+invariant-loop-relation l = map relation_of l.copies.items ≡ map relation_of (take l.relation-index l.relations)

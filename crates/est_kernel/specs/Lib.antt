@@ -1,0 +1,13 @@
+pub mod Terms
+pub mod Plain
+pub mod Statuses
+pub mod Potentials
+pub mod Steps
+pub mod Reactions
+pub mod StaticCodes
+pub mod Relations
+pub mod Sizes
+pub mod Preorder
+pub mod WellFormed
+pub mod CodeLists
+pub mod Laws

@@ -1,0 +1,62 @@
+-- Statuses of signals, and the value of a test (Kleene's three-valued tables).
+use Rattle.std.specs.Prelude.{ℕ, Bool, true, false, Option, Some, None, List, ◌==◌, if◌then◌else◌, slice_get}
+use Rattle.est_kernel.specs.Terms.{Expression, Tick, Sig, Not, And, Or}
+
+-- what is known of a signal in an instant, and of a test: present (true), absent (false), or not
+-- known yet
+pub data Status : Type 0 where
+  Plus : Status
+  Minus : Status
+  Unknown : Status
+
+-- a status for each signal
+abbrev pub Environment : Type 0
+Environment = ℕ → Status
+
+-- the environment with another status for one signal
+abbrev pub with_status : Environment → ℕ → Status → Environment
+with_status E s v = λ t. if t == s then v else E t
+
+-- the status of a signal that is known
+abbrev pub known : Bool → Status
+known true = Plus
+known false = Minus
+
+-- what is known of an input: nothing, where the event says nothing of it
+abbrev pub status_told : Option Bool → Status
+status_told None = Unknown
+status_told (Some b) = known b
+
+-- the environment that an event gives: input n has the status of the event's place n
+abbrev pub environment_of : List Bool → Environment
+environment_of event = λ s. status_told (slice_get event s)
+
+-- not: true and false change places
+abbrev pub opposite : Status → Status
+opposite Plus = Minus
+opposite Minus = Plus
+opposite Unknown = Unknown
+
+-- and: false where one side is false, true where both are true
+abbrev pub conjunction : Status → Status → Status
+conjunction Minus w = Minus
+conjunction Plus w = w
+conjunction Unknown Minus = Minus
+conjunction Unknown Plus = Unknown
+conjunction Unknown Unknown = Unknown
+
+-- or: true where one side is true, false where both are false
+abbrev pub disjunction : Status → Status → Status
+disjunction Plus w = Plus
+disjunction Minus w = w
+disjunction Unknown Plus = Plus
+disjunction Unknown Minus = Unknown
+disjunction Unknown Unknown = Unknown
+
+-- the value of a test; tick is true in every instant
+abbrev pub value : Expression → Environment → Status
+value Tick E = Plus
+value (Sig s) E = E s
+value (Not a) E = opposite (value a E)
+value (And a b) E = conjunction (value a E) (value b E)
+value (Or a b) E = disjunction (value a E) (value b E)

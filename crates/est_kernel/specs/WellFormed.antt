@@ -1,0 +1,73 @@
+-- What a kernel statement and a kernel program keep.
+use Rattle.std.specs.Prelude.{ℕ, Bool, ◌+◌, ◌<◌, ◌≤◌, ◌==◌, ◌||◌, nat_lt, All, IsTrue, ⊤, length}
+use Rattle.est_base.specs.declared.bounds.TheConstants.Limits.{KERNEL_NODES, KERNEL_HEIGHT, TRAPS, SIGNALS}
+use Rattle.est_kernel.specs.Terms.{Expression, Tick, Sig, Not, And, Or, Term, Nothing, Pause, Emit, Exit, Present, Suspend, Seq, Loop, Par, Trap, Local, Awake}
+use Rattle.est_kernel.specs.Relations.{Relation, Implies, Excludes}
+use Rattle.est_kernel.specs.Sizes.{size_of, height_of, trap_depth}
+use Rattle.est_kernel.specs.Plain.{Program}
+
+-- Each exit has a code of at least 2 and stands in the trap that it leaves: code k leaves the trap that
+-- is k - 2 traps further out, and n traps stand around the whole.
+abbrev pub ExitsStandInTraps : ℕ → Term → Type 0
+ExitsStandInTraps n Nothing = ⊤
+ExitsStandInTraps n Pause = ⊤
+ExitsStandInTraps n (Emit s) = ⊤
+ExitsStandInTraps n (Exit k) = (2 ≤ k) × (k < n + 2)
+ExitsStandInTraps n (Present e p q) = ExitsStandInTraps n p × ExitsStandInTraps n q
+ExitsStandInTraps n (Suspend e p) = ExitsStandInTraps n p
+ExitsStandInTraps n (Seq p q) = ExitsStandInTraps n p × ExitsStandInTraps n q
+ExitsStandInTraps n (Loop at p) = ExitsStandInTraps n p
+ExitsStandInTraps n (Par p q) = ExitsStandInTraps n p × ExitsStandInTraps n q
+ExitsStandInTraps n (Trap p) = ExitsStandInTraps (n + 1) p
+ExitsStandInTraps n (Local s p) = ExitsStandInTraps n p
+ExitsStandInTraps n (Awake e p) = ExitsStandInTraps n p
+
+-- a kernel statement keeps the limits on size, height and traps, and its exits stand in their traps
+pub record KeepsLimits (p : Term) : Type 0 where
+  pub size : size_of p ≤ KERNEL_NODES
+  pub height : height_of p ≤ KERNEL_HEIGHT
+  pub traps : trap_depth p ≤ TRAPS
+  pub exits : ExitsStandInTraps 0 p
+
+-- each signal of a test is visible
+abbrev pub TestsVisible : (ℕ → Bool) → Expression → Type 0
+TestsVisible visible Tick = ⊤
+TestsVisible visible (Sig s) = IsTrue (visible s)
+TestsVisible visible (Not a) = TestsVisible visible a
+TestsVisible visible (And a b) = TestsVisible visible a × TestsVisible visible b
+TestsVisible visible (Or a b) = TestsVisible visible a × TestsVisible visible b
+
+-- one more visible signal
+abbrev pub with_signal : ℕ → (ℕ → Bool) → ℕ → Bool
+with_signal s visible = λ t. t == s || visible t
+
+-- The signals of a statement, in a program that has this many inputs, interface signals and signals in
+-- all. What is emitted and tested is visible: an interface signal, or one bound by a Local around it.
+-- No input is emitted. A Local binds a signal of the program that is no interface signal.
+module _ (inputs interface all : ℕ) where
+  abbrev pub SignalsFit : (ℕ → Bool) → Term → Type 0
+  SignalsFit visible Nothing = ⊤
+  SignalsFit visible Pause = ⊤
+  SignalsFit visible (Emit s) = IsTrue (visible s) × (inputs ≤ s)
+  SignalsFit visible (Exit k) = ⊤
+  SignalsFit visible (Present e p q) = TestsVisible visible e × SignalsFit visible p × SignalsFit visible q
+  SignalsFit visible (Suspend e p) = TestsVisible visible e × SignalsFit visible p
+  SignalsFit visible (Seq p q) = SignalsFit visible p × SignalsFit visible q
+  SignalsFit visible (Loop at p) = SignalsFit visible p
+  SignalsFit visible (Par p q) = SignalsFit visible p × SignalsFit visible q
+  SignalsFit visible (Trap p) = SignalsFit visible p
+  SignalsFit visible (Local s p) = (interface ≤ s) × (s < all) × SignalsFit (with_signal s visible) p
+  SignalsFit visible (Awake e p) = TestsVisible visible e × SignalsFit visible p
+
+-- the signals of a relation are inputs
+abbrev pub RelatesInputs : ℕ → Relation → Type 0
+RelatesInputs inputs (Implies a b) = (a < inputs) × (b < inputs)
+RelatesInputs inputs (Excludes list) = All (λ s. s < inputs) list
+
+-- what a kernel program keeps
+pub record IsWellFormed (p : Program) : Type 0 where
+  pub body : KeepsLimits p.body
+  pub at_most : length p.signals ≤ SIGNALS
+  pub interface : p.inputs + p.outputs ≤ length p.signals
+  pub signals : SignalsFit p.inputs (p.inputs + p.outputs) (length p.signals) (λ s. nat_lt s (p.inputs + p.outputs)) p.body
+  pub relations : All (RelatesInputs p.inputs) p.relations

@@ -1,0 +1,40 @@
+// The laws that tie the tables of potentials, steps and static codes to one another. Each call does
+// nothing: its contract is the law.
+
+ghost use Rattle.est_kernel.specs.Laws.{MustGrows, CanShrinks, MayShrinks, MustLiesInCan, CanLiesInMay, MustHasOneCode, MayKeepsStaticCodes, StepIsWhatMustBeDone, StepKeepsStaticCodes, PreorderHasEachStatement};
+
+/// Must, and both kinds of Can, are monotone in what is known of the signals: Must grows, and each
+/// Can shrinks.
+pub fn potentials_are_monotone()
+    ensures must_grows { MustGrows }
+    ensures can_shrinks { CanShrinks }
+    ensures may_shrinks { MayShrinks }
+{}
+
+/// Must lies in Can, and Can of a term that must be run lies in Can of one that may be run.
+pub fn potentials_nest()
+    ensures must_in_can { MustLiesInCan }
+    ensures can_in_may { CanLiesInMay }
+{}
+
+/// Must has at most one completion code.
+pub fn must_has_one_code()
+    ensures { MustHasOneCode }
+{}
+
+/// Where no loop is instantaneous, what a term can do completes with its static codes.
+pub fn static_codes_cover_potentials()
+    ensures { MayKeepsStaticCodes }
+{}
+
+/// A step, where there is one, emits and completes just as Must says, nothing else can be done, and
+/// its code is a static one.
+pub fn steps_follow_potentials()
+    ensures just { StepIsWhatMustBeDone }
+    ensures code { StepKeepsStaticCodes }
+{}
+
+/// The statements in preorder are as many as the statements that a statement has.
+pub fn preorder_has_each_statement()
+    ensures { PreorderHasEachStatement }
+{}

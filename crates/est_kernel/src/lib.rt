@@ -1,0 +1,27 @@
+//! Kernel programs of Pure Esterel and their meaning.
+//!
+//! The trees (`Test`, `Kernel`, `KernelProgram`) stand in src/, and their meaning stands in specs/:
+//! terms, statuses, the potentials Must and Can, the constructive step, a reaction, a run, and the
+//! static completion codes. They are written after Berry, "The Constructive Semantics of Pure
+//! Esterel"; where another wording is found there, the tables of specs/ hold. The laws that tie the
+//! tables to one another are contracts of this crate's functions.
+#![tactic(auto)]
+
+mod code_lists;
+mod laws;
+mod measures;
+mod programs;
+mod signal_tests;
+mod statements;
+#[cfg(test)]
+mod tests;
+
+pub use code_lists::Codes;
+pub use laws::{
+    must_has_one_code, potentials_are_monotone, potentials_nest, preorder_has_each_statement,
+    static_codes_cover_potentials, steps_follow_potentials,
+};
+pub use measures::{height, size};
+pub use programs::KernelProgram;
+pub use signal_tests::Test;
+pub use statements::Kernel;
