@@ -1,0 +1,7 @@
+pub mod Classes
+pub mod EveryText
+pub mod Fronts
+pub mod Heads
+pub mod Longest
+pub mod OneLexing
+pub mod OneToken

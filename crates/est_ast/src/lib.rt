@@ -1,0 +1,12 @@
+//! The source language as data: the tokens of a program text, and which tokens a text has.
+//!
+//! The language is the one of Berry, "The Constructive Semantics of Pure Esterel", in the concrete
+//! syntax that docs/language.md states. `specs/Lexing.antt` says of every text either its one list
+//! of tokens or its first fault.
+#![tactic(auto)]
+
+mod one_lexing;
+mod tokens;
+
+pub use one_lexing::every_text_lexes_once;
+pub use tokens::{Kind, Mark, Reserved, Token};

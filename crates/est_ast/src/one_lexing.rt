@@ -1,0 +1,11 @@
+// The law of the token relation.
+
+ghost use Rattle.std.specs.Prelude.{◌≡◌, ℕ, List};
+ghost use Rattle.est_ast.specs.Lexing.{Lexing, LexesAs};
+
+/// Every text has exactly one lexing: its tokens, or its first fault.
+pub fn every_text_lexes_once()
+    ensures some { (text : List ℕ) → (lexing : Lexing) × LexesAs text lexing }
+    ensures at_most_one { (text : List ℕ) (one other : Lexing)
+        → LexesAs text one → LexesAs text other → one ≡ other }
+{}

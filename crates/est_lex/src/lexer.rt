@@ -1,0 +1,39 @@
+// From a text to its tokens.
+
+ghost use Rattle.std.specs.Prelude.{◌≤◌, length, IfOk, IfErr};
+ghost use Rattle.est_ast.specs.Lexing.{LexesAs, Tokens};
+ghost use Rattle.est_lex.specs.Faults.{LexesAsFault};
+
+use crate::front::{Piece, front};
+use crate::refusal::LexError;
+use est_ast::Token;
+use est_base::{Limits, Span};
+use std::alloc::Global;
+
+/// The tokens of a program text, each with its place, or the text's first fault. Reserved words
+/// and marks are told apart from identifiers and numbers; spaces and comments are left out.
+///
+/// It takes time and memory in proportion to the text.
+pub fn lex(alloc: Global, text: &[u8]) -> Result<Vec<Token>, LexError>
+    requires { length text.now ≤ Limits.SOURCE_BYTES }
+    ensures tokens { IfOk result (λ tokens. LexesAs text.now (Tokens tokens.items)) }
+    ensures fault { IfErr result (LexesAsFault text.now) }
+{
+    let mut tokens = Vec::new(alloc);
+    let mut at: usize = 0;
+    while at < text.len() {
+        let start = at as u32;
+        let Piece { width, token } = front(alloc, &text[at..], start)?;
+        at += width;
+        if let Some(kind) = token {
+            tokens.push(Token {
+                kind,
+                span: Span {
+                    start,
+                    end: at as u32,
+                },
+            })?;
+        }
+    }
+    Ok(tokens)
+}
