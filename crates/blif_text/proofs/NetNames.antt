@@ -1,0 +1,156 @@
+-- The names of a net's circuit: each is a word, no two are one, and each that is used is driven.
+use Rattle.std.proofs.Common.{◌≡◌, ℕ, ◌+◌, ◌-◌, ◌<◌, ◌≤◌, ◌^◌, true, false, List, [], ◌++◌, length, map, get_or, refl, sym, ap, ◌∙◌, arith, zero-add, ⊎_elim, Option, Some, None, IsTrue, nat_eq, All}
+use Rattle.std.specs.Prelude.{option_and_then, IfSome}
+use Rattle.std.specs.List.{list_all, range_with_len}
+use Rattle.std.proofs.lemmas.List.FromFn.{fill_by_all}
+use Rattle.std.proofs.lemmas.Bool.{cases_lt, lt-ltb, le-ltb}
+use Rattle.std.proofs.lemmas.List.{length-append, get_or_append_left, get_or-append-add}
+use Rattle.std.proofs.lemmas.List.Elements.{All-map}
+use Rattle.std.proofs.lemmas.Option.{slice_get-get_or}
+use Rattle.est_base.specs.declared.indices.WireId.{WireId}
+use Rattle.net_ir.specs.declared.netlist.Op.TheVariants.{Const}
+use Rattle.net_ir.specs.declared.netlist.Gate.{Gate}
+use Rattle.net_ir.specs.declared.netlist.NetOut.{NetOut}
+use Rattle.net_ir.specs.declared.netlist.Latch.{Latch}
+use Rattle.net_ir.specs.Distinct.{all_differ, none_shared}
+use Rattle.net_ir.specs.Names.{is_name, is_same_name}
+use Rattle.net_ir.specs.Gates.{ReadsLower, carried}
+use Rattle.net_ir.specs.Runs.{Netlist, first_gate, net_count}
+use Rattle.blif_text.specs.Written.{input_word, latch_word, gate_word, wire_at, net_word, numbered}
+use Rattle.blif_text.proofs.Words.{is_word, is_word-name, decimal_bytes}
+use Rattle.blif_text.proofs.Numbered.{list_all-parts, list_all-from_All, list_all-get_or, length-numbered, get_or-numbered, All-numbered}
+
+-- what holds of every net
+pub record IsNet (net : Netlist) : Type 0 where
+  pub name_fits : IsTrue (is_name net.name)
+  pub input_names_fit : All (λ n. IsTrue (is_name n)) net.inputs
+  pub output_names_fit : All (λ o. IsTrue (is_name o.name)) net.outputs
+  pub inputs_differ : IsTrue (all_differ is_same_name net.inputs)
+  pub outputs_differ : IsTrue (all_differ is_same_name (map (λ o. o.name) net.outputs))
+  pub no_shared_name : IsTrue (none_shared is_same_name net.inputs (map (λ o. o.name) net.outputs))
+  pub few : length net.inputs + length net.latches + length net.gates ≤ 2 ^ 32
+  pub outputs_in_range : All (λ o. o.net.0 < net_count net) net.outputs
+  pub paused_in_range : net.paused < net_count net
+  pub latches_in_range : All (λ l. l.from.0 < net_count net) net.latches
+  pub reads_lower : ReadsLower (first_gate net) net.gates
+  pub carries_once : IsTrue (all_differ nat_eq (carried net.gates))
+  pub wires_fit : All (λ g. IfSome g.wire (λ w. w.0 < 2 ^ 32)) net.gates
+
+-- ---- the name of a net, by its kind
+
+net_word-input : (net : Netlist) (n : ℕ) → n < length net.inputs → net_word net n ≡ input_word n
+net_word-input net n h = rw (lt-ltb n (length net.inputs) h) refl
+
+net_word-latch : (net : Netlist) (j : ℕ) → j < length net.latches → net_word net (length net.inputs + j) ≡ latch_word j
+net_word-latch net j h =
+    let e : length net.inputs + j - length net.inputs ≡ j = omega arith in
+    rw (le-ltb (length net.inputs + j) (length net.inputs) (omega arith), lt-ltb (length net.inputs + j) (length net.inputs + length net.latches) (omega arith)) (ap latch_word e)
+
+net_word-gate : (net : Netlist) (k : ℕ) (d : Gate) → k < length net.gates → net_word net (first_gate net + k) ≡ gate_word k (get_or net.gates k d).wire
+net_word-gate net k d h =
+    let e : first_gate net + k - first_gate net ≡ k = omega arith in
+    rw (le-ltb (first_gate net + k) (length net.inputs) (omega arith), le-ltb (first_gate net + k) (first_gate net) (omega arith))
+    (ap (λ i. gate_word i (wire_at net.gates i)) e ∙ ap (λ o. gate_word k (option_and_then (λ (g : Gate). g.wire) o)) (slice_get-get_or net.gates k d h))
+
+-- the names of all nets, in order
+abbrev pub input_words : Netlist → List (List ℕ)
+input_words net = numbered (λ j name. input_word j) 0 net.inputs
+
+abbrev pub latch_words : Netlist → List (List ℕ)
+latch_words net = numbered (λ j latch. latch_word j) 0 net.latches
+
+abbrev pub gate_words : Netlist → List (List ℕ)
+gate_words net = numbered (λ k gate. gate_word k gate.wire) 0 net.gates
+
+abbrev pub net_words : Netlist → List (List ℕ)
+net_words net = input_words net ++ latch_words net ++ gate_words net
+
+pub length-net_words : (net : Netlist) → length (net_words net) ≡ net_count net
+length-net_words net =
+    let i = length-numbered (λ j (name : List ℕ). input_word j) 0 net.inputs in
+    let l = length-numbered (λ j (latch : Latch). latch_word j) 0 net.latches in
+    let g = length-numbered (λ k (gate : Gate). gate_word k gate.wire) 0 net.gates in
+    length-append (input_words net ++ latch_words net) (gate_words net) ∙ rw (length-append (input_words net) (latch_words net), i, l, g) refl
+
+at-input : (net : Netlist) (n : ℕ) → n < length net.inputs → get_or (net_words net) n [] ≡ input_word n
+at-input net n h =
+    let i = length-numbered (λ j (name : List ℕ). input_word j) 0 net.inputs in
+    let il = length-append (input_words net) (latch_words net) in
+    get_or_append_left (input_words net ++ latch_words net) (gate_words net) [] n (omega arith)
+    ∙ get_or_append_left (input_words net) (latch_words net) [] n (omega arith)
+    ∙ get_or-numbered (λ j (name : List ℕ). input_word j) 0 net.inputs n [] [] h ∙ ap input_word (zero-add n)
+
+at-latch : (net : Netlist) (j : ℕ) → j < length net.latches → get_or (net_words net) (length net.inputs + j) [] ≡ latch_word j
+at-latch net j h =
+    let i = length-numbered (λ m (name : List ℕ). input_word m) 0 net.inputs in
+    let l = length-numbered (λ m (latch : Latch). latch_word m) 0 net.latches in
+    let il = length-append (input_words net) (latch_words net) in
+    let same : length net.inputs + j ≡ length (input_words net) + j = ap (λ m. m + j) (sym i) in
+    let any_latch : Latch = record { init = false; from = record { 0 = 0 } } in
+    get_or_append_left (input_words net ++ latch_words net) (gate_words net) [] (length net.inputs + j) (omega arith)
+    ∙ ap (λ m. get_or (input_words net ++ latch_words net) m []) same
+    ∙ get_or-append-add (input_words net) (latch_words net) j []
+    ∙ get_or-numbered (λ m (latch : Latch). latch_word m) 0 net.latches j [] any_latch h ∙ ap latch_word (zero-add j)
+
+pub at-gate : (net : Netlist) (k : ℕ) (d : Gate) → k < length net.gates → get_or (net_words net) (first_gate net + k) [] ≡ gate_word k (get_or net.gates k d).wire
+at-gate net k d h =
+    let i = length-numbered (λ m (name : List ℕ). input_word m) 0 net.inputs in
+    let l = length-numbered (λ m (latch : Latch). latch_word m) 0 net.latches in
+    let il : length (input_words net ++ latch_words net) ≡ first_gate net = length-append (input_words net) (latch_words net) ∙ rw (i, l) refl in
+    ap (λ m. get_or (net_words net) m []) (ap (λ m. m + k) (sym il))
+    ∙ get_or-append-add (input_words net ++ latch_words net) (gate_words net) k []
+    ∙ get_or-numbered (λ m (gate : Gate). gate_word m gate.wire) 0 net.gates k [] d h
+    ∙ ap (λ m. gate_word m (get_or net.gates k d).wire) (zero-add k)
+
+-- a number of a net is that of an input, of a latch or of a gate
+pub net_cases : {C : Type 0} (net : Netlist) (n : ℕ) → n < net_count net → (n < length net.inputs → C) → ((j : ℕ) → j < length net.latches → n ≡ length net.inputs + j → C) → ((k : ℕ) → k < length net.gates → n ≡ first_gate net + k → C) → C
+net_cases net n h input latch gate = ⊎_elim input
+    (λ past. ⊎_elim
+    (λ low. latch (n - length net.inputs) (omega arith) (omega arith))
+    (λ high. gate (n - first_gate net) (omega arith) (omega arith))
+    (cases_lt n (first_gate net)))
+    (cases_lt n (length net.inputs))
+
+pub net_word-at : (net : Netlist) (n : ℕ) → n < net_count net → net_word net n ≡ get_or (net_words net) n []
+net_word-at net n h =
+    let any_gate : Gate = record { op = Const false; wire = None } in
+    net_cases net n h
+    (λ low. net_word-input net n low ∙ sym (at-input net n low))
+    (λ j low e. ap (net_word net) e ∙ net_word-latch net j low ∙ sym (at-latch net j low) ∙ ap (λ m. get_or (net_words net) m []) (sym e))
+    (λ k low e. ap (net_word net) e ∙ net_word-gate net k any_gate low ∙ sym (at-gate net k any_gate low) ∙ ap (λ m. get_or (net_words net) m []) (sym e))
+
+-- the names of the nets, by their numbers
+pub net_words-numbers : (net : Netlist) → net_words net ≡ map (net_word net) (range_with_len 0 (net_count net))
+net_words-numbers net =
+    fill_by_all (net_word net) (net_words net) (net_count net) [] (length-net_words net) (λ k h. sym (net_word-at net k h))
+
+-- ---- each name is a word
+
+pub is_word-gate : (k : ℕ) (wire : Option WireId) → k < 2 ^ 64 → IfSome wire (λ w. w.0 < 2 ^ 32) → is_word (gate_word k wire) ≡ true
+is_word-gate k None small fits = decimal_bytes k small
+is_word-gate k (Some wire) small fits = decimal_bytes wire.0 (omega (arith, fits))
+
+pub words-inputs : (net : Netlist) → IsNet net → list_all is_word net.inputs ≡ true
+words-inputs net is = list_all-from_All is_word net.inputs (λ k d h. is_word-name (get_or net.inputs k d) (is.input_names_fit k d h))
+
+pub words-outputs : (net : Netlist) → IsNet net → list_all is_word (map (λ o. o.name) net.outputs) ≡ true
+words-outputs net is = list_all-from_All is_word (map (λ o. o.name) net.outputs)
+    (All-map (λ n. is_word n ≡ true) (λ (o : NetOut). o.name) net.outputs (λ k d h. is_word-name (get_or net.outputs k d).name (is.output_names_fit k d h)))
+
+pub words-input_words : (net : Netlist) → IsNet net → list_all is_word (input_words net) ≡ true
+words-input_words net is = list_all-from_All is_word (input_words net)
+    (All-numbered (λ w. is_word w ≡ true) (λ j (name : List ℕ). input_word j) 0 net.inputs (λ k d h. let few = is.few in decimal_bytes (0 + k) (omega arith)))
+
+pub words-latch_words : (net : Netlist) → IsNet net → list_all is_word (latch_words net) ≡ true
+words-latch_words net is = list_all-from_All is_word (latch_words net)
+    (All-numbered (λ w. is_word w ≡ true) (λ j (latch : Latch). latch_word j) 0 net.latches (λ k d h. let few = is.few in decimal_bytes (0 + k) (omega arith)))
+
+pub words-gate_words : (net : Netlist) → IsNet net → list_all is_word (gate_words net) ≡ true
+words-gate_words net is = list_all-from_All is_word (gate_words net)
+    (All-numbered (λ w. is_word w ≡ true) (λ k (gate : Gate). gate_word k gate.wire) 0 net.gates (λ k d h. let few = is.few in is_word-gate (0 + k) (get_or net.gates k d).wire (omega arith) (is.wires_fit k d h)))
+
+pub is_word-net_word : (net : Netlist) → IsNet net → (n : ℕ) → n < net_count net → is_word (net_word net n) ≡ true
+is_word-net_word net is n h =
+    let all = list_all-parts is_word (input_words net ++ latch_words net) (gate_words net) (list_all-parts is_word (input_words net) (latch_words net) (words-input_words net is) (words-latch_words net is)) (words-gate_words net is) in
+    let len = length-net_words net in
+    ap is_word (net_word-at net n h) ∙ list_all-get_or is_word (net_words net) n [] (omega arith) all

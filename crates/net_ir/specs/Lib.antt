@@ -1,0 +1,4 @@
+pub mod Distinct
+pub mod Names
+pub mod Gates
+pub mod Runs
