@@ -1,0 +1,116 @@
+-- A direct program's constructive runs are what its flows show.
+use Rattle.std.proofs.Common.{◌≡◌, ℕ, ◌+◌, ◌<◌, ◌≤◌, Bool, true, false, ◌==◌, List, [], ◌∷◌, map, length, slice_index_or, All, Some, refl, sym, ap, ap₂, ◌∙◌, arith}
+use Rattle.std.specs.List.{list_any, range_with_len}
+use Rattle.std.proofs.lemmas.List.Elements.{All-head, All-tail}
+use Rattle.std.proofs.lemmas.List.FromFn.{length-range_with_len, get_or-range_with_len}
+use Rattle.est_kernel.specs.Terms.{Term, Nothing}
+use Rattle.est_kernel.specs.Steps.{Step, ended}
+use Rattle.est_kernel.specs.Plain.{Program, output_signals}
+use Rattle.est_kernel.specs.Reactions.{Answer, before, goes_on, run, run_of}
+use Rattle.cec_core.specs.Direct.{IsDirect, pauses_of, Flow, flow, present_in, flows, flows_of, seen_of}
+use Rattle.cec_core.proofs.KnownInputs.{StepsAs, event_tells, reacts}
+use Rattle.cec_core.proofs.Resting.{Shows, shows_itself, Idle, idle_from_quiet, Rests, Rests-some}
+use Rattle.cec_core.proofs.FlowSteps.{Completes, terminates, pauses, Still, Does, idle_is_still, started_does, resting_does}
+
+-- where a program stands before an instant, and the term that is left of it: not yet started, at rest at
+-- a pause, or over
+data Stands (body : Term) : Bool → (ℕ → Bool) → Term → Type 0 where
+  fresh : {rested : ℕ → Bool} → Idle (pauses_of body) 0 rested → Stands body true rested body
+  resting : {rested : ℕ → Bool} {marks : List Bool} {r : Term} → Rests body marks r → Shows rested 0 marks → Stands body false rested r
+  over : {rested : ℕ → Bool} → Idle (pauses_of body) 0 rested → Stands body false rested Nothing
+
+-- the pauses that a flow shows, as the state of the next instant
+abbrev shown_by : Flow → ℕ → Bool
+shown_by f = λ k. slice_index_or f.rests k false
+
+-- the flow and the term r do the same in an instant, and the program then stands as the flow shows
+record Instant (inputs : ℕ) (present : ℕ → Bool) (body : Term) (f : Flow) (r : Term) : Type 0 where
+  done : Step
+  steps : StepsAs inputs present r done
+  emits : (t : ℕ) → f.emits t ≡ done.emitted t
+  paused : list_any (λ b. b) f.rests ≡ (done.code == 1)
+  next : Stands body false (shown_by f) done.residual
+
+-- two tests that agree choose alike from a list
+map_agree : (f g : ℕ → Bool) → ((t : ℕ) → f t ≡ g t) → (xs : List ℕ) → map f xs ≡ map g xs
+map_agree f g h [] = refl
+map_agree f g h (x ∷ xs) = ap₂ ◌∷◌ (h x) (map_agree f g h xs)
+
+-- the numbers from n on are not below n
+range_from : (n count : ℕ) → All (λ s. n ≤ s) (range_with_len n count)
+range_from n count k d below =
+    let short : k < count = omega (arith, length-range_with_len n count) in
+    omega (arith, get_or-range_with_len n count k d short)
+
+-- a flow shows a pause exactly where the code of the step is 1
+paused_by : {p left : Term} {f : Flow} {code : ℕ} → Completes p f code left → list_any (λ b. b) f.rests ≡ (code == 1)
+paused_by (terminates ends quiet) = quiet.none
+paused_by (pauses ends rests) = Rests-some rests
+
+-- after an instant the program is over, or it stands at the pause that the flow shows
+stands_after : {body left : Term} {f : Flow} {code : ℕ} → Completes body f code left → Stands body false (shown_by f) left
+stands_after {f = f} (terminates ends quiet) = over (idle_from_quiet (shows_itself f.rests) quiet)
+stands_after {f = f} (pauses ends rests) = resting rests (shows_itself f.rests)
+
+module _ (inputs : ℕ) (present : ℕ → Bool) (body : Term) where
+  -- an instant in which the program acts
+  instant_of : (f : Flow) (r : Term) → Does inputs present body f r → Instant inputs present body f r
+  instant_of f r h =
+      record {
+        done = h.done;
+        steps = h.steps;
+        emits = h.emits;
+        paused = paused_by h.completes;
+        next = stands_after h.completes;
+      }
+
+  -- an instant after the end
+  instant_over : (f : Flow) → Still (pauses_of body) f → Instant inputs present body f Nothing
+  instant_over f h =
+      record {
+        done = ended 0;
+        steps = record { at = λ E k. refl };
+        emits = h.emits;
+        paused = h.rests.none;
+        next = over (idle_from_quiet (shows_itself f.rests) h.rests);
+      }
+
+  -- an instant, wherever the program stands before it
+  instant : (interface : ℕ) → IsDirect inputs interface body → {started : Bool} {rested : ℕ → Bool} {r : Term} → Stands body started rested r → Instant inputs present body (flow body 0 started rested present) r
+  instant interface d (fresh {rested = rested} idle) =
+      instant_of _ _ (started_does inputs present interface rested body d 0 idle)
+  instant interface d (resting {rested = rested} rests shown) =
+      instant_of _ _ (resting_does inputs present interface rested rests d 0 shown)
+  instant interface d (over {rested = rested} idle) =
+      instant_over _ (idle_is_still inputs present interface rested body d 0 idle)
+
+-- a direct body, and outputs that are no inputs
+module _ (inputs interface : ℕ) (body : Term) (direct : IsDirect inputs interface body) (outs : List ℕ) (far : All (λ o. inputs ≤ o) outs) where
+  -- from wherever the program stands, its answers are what its flows show
+  runs_from : (events : List (List Bool)) → All (λ event. length event ≡ inputs) events → (started : Bool) (rested : ℕ → Bool) (r : Term) → Stands body started rested r →
+      (answers : List Answer) × (run outs r events ≡ Some answers) × (map seen_of answers ≡ flows outs body started rested events)
+  runs_from [] wide started rested r at = ([], refl, refl)
+  runs_from (event ∷ events) wide started rested r at =
+      let present = present_in event in
+      let event_wide : length event ≡ inputs = All-head (λ e. length e ≡ inputs) event events wide in
+      let events_wide : All (λ e. length e ≡ inputs) events = All-tail (λ e. length e ≡ inputs) event events wide in
+      let f = flow body 0 started rested present in
+      let now = instant inputs present body interface direct at in
+      let x = now.done in
+      let answer : Answer = record { outputs = map x.emitted outs; code = x.code } in
+      let later = runs_from events events_wide false (shown_by f) x.residual now.next in
+      let answered = reacts inputs present r x now.steps outs far event (event_tells inputs event event_wide) in (
+        answer ∷ later.0,
+        ap (λ o. goes_on o (λ left. run outs left events)) answered ∙ ap (before answer) later.1,
+        ap₂ ◌∷◌
+            (ap₂ (λ outputs paused. record { outputs = outputs; paused = paused }) (sym (map_agree f.emits x.emitted now.emits outs)) (sym now.paused))
+            later.2,
+      )
+
+-- Over events that have a truth value for each input, a direct program has an answer for each event, and
+-- what is seen of its answers is what its flows show.
+pub runs_flow : (p : Program) → IsDirect p.inputs (p.inputs + p.outputs) p.body → (events : List (List Bool)) →
+    All (λ event. length event ≡ p.inputs) events → (answers : List Answer) × (run_of p events ≡ Some answers) × (map seen_of answers ≡ flows_of p events)
+runs_flow p d events wide =
+    runs_from p.inputs (p.inputs + p.outputs) p.body d (output_signals p) (range_from p.inputs p.outputs) events wide true (λ k. false) p.body
+    (fresh (record { none = λ k below. refl }))

@@ -1,0 +1,13 @@
+pub mod SmallTrees
+pub mod SmallGrammar
+pub mod SmallReading
+pub mod SmallViews
+pub mod Small
+pub mod Direct
+pub mod DirectPrograms
+pub mod Wiring
+pub mod Circuit
+pub mod Meaning
+pub mod Asked
+pub mod Statuses
+pub mod Outcomes
