@@ -2,8 +2,9 @@
 
 ghost use Rattle.std.specs.Prelude.{◌≡◌, ◌⊎◌, ℕ, List, Some};
 ghost use Rattle.est_base.specs.FileEntry.{held};
+ghost use Rattle.est_base.specs.SinkState.{told_of};
 ghost use Rattle.cec_core.specs.Asked.{asked, words_of};
-ghost use Rattle.cec_core.specs.Outcomes.{IsSource};
+ghost use Rattle.cec_core.specs.Outcomes.{IsSource, GainsOut, GainsErr};
 
 use crate::command::cec;
 use crate::outcome::Outcome;
@@ -11,7 +12,8 @@ use est_base::{Sink, SteadyFiles, SteadySink};
 use std::alloc::Global;
 
 /// `cec` over files and a sink in memory that never fail. Where the words ask for a file that holds a
-/// source of the small language, it is done, unless memory runs out.
+/// source of the small language, it is done, and `out` gains the text of which the theorem speaks,
+/// unless memory runs out.
 pub fn cec_steadily<E: Sink>(
     alloc: Global,
     words: &[String],
@@ -20,7 +22,11 @@ pub fn cec_steadily<E: Sink>(
     err: &mut E,
 ) -> Outcome
     requires { (name : List ℕ) × (asked (words_of words.now) ≡ Some name) × IsSource (held files.old name) }
-    ensures { (result ≡ Outcome.Done) ⊎ (result ≡ Outcome.NoMemory) }
+    ensures ends { (result ≡ Outcome.Done) ⊎ (result ≡ Outcome.NoMemory) }
+    ensures files_stay { held files.new ≡ held files.old }
+    ensures out { GainsOut (asked (words_of words.now)) (Some (held files.old)) result (told_of out.old) (told_of out.new) 0 0 }
+    ensures err { GainsErr (asked (words_of words.now)) result
+        (E.told err.old) (E.told err.new) (E.faults err.old) (E.faults err.new) }
 {
     cec(alloc, words, files, out, err)
 }
