@@ -10,3 +10,4 @@ pub mod ExitLaws
 pub mod RunLaws
 pub mod PreorderLaws
 pub mod ResidualLaws
+mod Witnesses
