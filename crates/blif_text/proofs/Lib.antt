@@ -1,5 +1,6 @@
 mod WorkedTexts
 pub mod Numbered
+pub mod NameSets
 pub mod Words
 pub mod SpelledLines
 pub mod ReadsBack
@@ -10,3 +11,12 @@ pub mod NetDrivers
 pub mod NetSpelling
 pub mod NetInstants
 pub mod NetRuns
+mod TextEquations
+mod RandomEquations1
+mod RandomEquations2
+mod RandomEquations3
+mod RandomEquations4
+mod RandomEquations5
+mod RandomEquations6
+mod FixedEquations1
+mod FixedEquations2

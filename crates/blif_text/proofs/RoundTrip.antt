@@ -231,7 +231,7 @@ circuit_of-circuit c =
 same_name-symm : (x y : List ℕ) → is_same_name x y ≡ is_same_name y x
 same_name-symm x y = nat_list_eq_equiv.symm x y
 
-none_shared-front : (xs before : List (List ℕ)) (x : List ℕ) → list_any (is_same_name x) xs ≡ false → none_shared is_same_name xs before ≡ true → none_shared is_same_name xs (x ∷ before) ≡ true
+pub none_shared-front : (xs before : List (List ℕ)) (x : List ℕ) → list_any (is_same_name x) xs ≡ false → none_shared is_same_name xs before ≡ true → none_shared is_same_name xs (x ∷ before) ≡ true
 none_shared-front [] before x apart none = refl
 none_shared-front (y ∷ xs) before x apart none =
     let others = or_parts (is_same_name x y) (list_any (is_same_name x) xs) apart in
@@ -245,7 +245,7 @@ first_again-none before (name ∷ names) none differ =
     let parts = and_parts (not (is_among name names)) (all_differ is_same_name names) differ in
     rw (not-true (is_among name before) apart.0) (first_again-none (name ∷ before) names (none_shared-front names before name (not-true (is_among name names) parts.0) apart.1) parts.1)
 
-none_shared-nil : (names : List (List ℕ)) → none_shared is_same_name names [] ≡ true
+pub none_shared-nil : (names : List (List ℕ)) → none_shared is_same_name names [] ≡ true
 none_shared-nil [] = refl
 none_shared-nil (name ∷ names) = none_shared-nil names
 

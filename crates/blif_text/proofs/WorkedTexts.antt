@@ -3,7 +3,7 @@ use Rattle.std.proofs.Common.{◌≡◌, ℕ, false, List, [], ◌∷◌, ◌++�
 use Rattle.std.specs.Prelude.{flat_map}
 use Rattle.std.specs.Fmt.{digits}
 use Rattle.net_ir.specs.declared.netlist.Op.TheVariants.{Not, And}
-use Rattle.net_ir.specs.Runs.{Netlist}
+use Rattle.net_ir.specs.Netlists.{Netlist}
 use Rattle.blif_text.specs.Lines.{text_lines, read_lines, words}
 use Rattle.blif_text.specs.Statements.{Zero, One, Any}
 use Rattle.blif_text.specs.Circuits.{Circuit, Table, reading, Line, TwoDrivers, NoDriver}
