@@ -16,7 +16,7 @@ use Rattle.net_ir.specs.Gates.{operand_end, value_in}
 use Rattle.net_ir.specs.Runs.{net_values, initial_latches, next_latches, shown, values_from, net_run}
 use Rattle.std.proofs.Common.{length-drop}
 use Rattle.net_ir.proofs.Values.{value_in-gate_values}
-use Rattle.cec_core.specs.Direct.{IsDirect, holds, pauses_of, Flow, flow, present_in, seen, flows, flows_of}
+use Rattle.cec_core.specs.Direct.{IsDirect, holds, pauses_of, Flow, flow, present_in, seen, flows, direct_outputs, flows_of}
 use Rattle.cec_core.specs.DirectPrograms.{IsDirectProgram}
 use Rattle.cec_core.specs.Wiring.{Wiring, net, plain_gate, gate, any_of, pause_latch, named, first_gate_of, begun, body_wired, paused_wired, net_of}
 use Rattle.cec_core.proofs.Wirings.{NetsBelow, Fits, at_net, extends-refl, at_net-extends, at_net-gate, Grows, grows-gate, grows-trans, length-grows, keeps}
