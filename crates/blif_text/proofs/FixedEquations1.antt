@@ -1,14 +1,10 @@
 -- Inner: equations between the definitions of BLIF and an independent implementation of them in Python.
 -- Each text is read as the circuit, or refused with the fault, that the other implementation answers. Generated.
-use Rattle.std.proofs.Common.{◌≡◌, ℕ, false, List, [], ◌∷◌, ◌++◌, Ok, Err, codes, refl}
-use Rattle.std.specs.Prelude.{Bool, true}
+use Rattle.std.proofs.Common.{◌≡◌, true, false, [], ◌∷◌, ◌++◌, Ok, Err, codes, refl}
 use Rattle.est_base.specs.Items.{Event, Reset}
-use Rattle.blif_text.specs.Circuits.{reading, Line, is_among}
+use Rattle.blif_text.specs.Circuits.{Circuit, reading, Line}
 use Rattle.blif_text.specs.Runs.{IsRun}
-
--- the valuation in which just these names are true
-abbrev just : List (List ℕ) → List ℕ → Bool
-just names = λ name. is_among name names
+use Rattle.blif_text.proofs.PlainWords.{circuit, just}
 
 empty : reading [] ≡ Err (Line 1)
 empty = refl
@@ -25,18 +21,13 @@ only_return = refl
 return_feed : reading ((13 ∷ []) ++ (10 ∷ [])) ≡ Err (Line 2)
 return_feed = refl
 
-least : reading (codes ".model m" ++ (10 ∷ []) ++ codes ".end" ++ (10 ∷ [])) ≡ Ok (record {
-  name = (codes "m");
-  inputs = ([]);
-  outputs = ([]);
-  latches
-      = ([]);
-  tables = ([]);
-})
+abbrev least_circuit : Circuit
+least_circuit = circuit (codes "m") [] [] [] []
+
+least : reading (codes ".model m" ++ (10 ∷ []) ++ codes ".end" ++ (10 ∷ [])) ≡ Ok least_circuit
 least = refl
 
-least_runs : IsRun (record { name = (codes "m"); inputs = ([]); outputs = ([]); latches = ([]); tables = ([]) }) (Event ([]) ∷ Event ([]) ∷ []) (just
-    ([]) ∷ just ([]) ∷ [])
+least_runs : IsRun least_circuit (Event [] ∷ Event [] ∷ []) (just [] ∷ just [] ∷ [])
 least_runs = (
   record { inputs_given = refl; latches_kept = refl; tables_met = tt },
   (
@@ -50,18 +41,13 @@ least_runs = (
   ),
 )
 
-no_last_feed : reading (codes ".model m" ++ (10 ∷ []) ++ codes ".end") ≡ Ok (record {
-  name = (codes "m");
-  inputs = ([]);
-  outputs = ([]);
-  latches =
-      ([]);
-  tables = ([]);
-})
+abbrev no_last_feed_circuit : Circuit
+no_last_feed_circuit = circuit (codes "m") [] [] [] []
+
+no_last_feed : reading (codes ".model m" ++ (10 ∷ []) ++ codes ".end") ≡ Ok no_last_feed_circuit
 no_last_feed = refl
 
-no_last_feed_runs : IsRun (record { name = (codes "m"); inputs = ([]); outputs = ([]); latches = ([]); tables = ([]) }) (Event ([]) ∷ Event ([]) ∷
-    Event ([]) ∷ []) (just ([]) ∷ just ([]) ∷ just ([]) ∷ [])
+no_last_feed_runs : IsRun no_last_feed_circuit (Event [] ∷ Event [] ∷ Event [] ∷ []) (just [] ∷ just [] ∷ just [] ∷ [])
 no_last_feed_runs = (
   record { inputs_given = refl; latches_kept = refl; tables_met = tt },
   (
@@ -74,17 +60,13 @@ no_last_feed_runs = (
   ),
 )
 
-no_name : reading (codes ".model" ++ (10 ∷ []) ++ codes ".end" ++ (10 ∷ [])) ≡ Ok (record {
-  name = [];
-  inputs = ([]);
-  outputs = ([]);
-  latches = ([]);
-  tables = ([]);
-})
+abbrev no_name_circuit : Circuit
+no_name_circuit = circuit [] [] [] [] []
+
+no_name : reading (codes ".model" ++ (10 ∷ []) ++ codes ".end" ++ (10 ∷ [])) ≡ Ok no_name_circuit
 no_name = refl
 
-no_name_runs : IsRun (record { name = []; inputs = ([]); outputs = ([]); latches = ([]); tables = ([]) }) (Event ([]) ∷ Event ([]) ∷ Event ([]) ∷
-    Reset ∷ Reset ∷ []) (just ([]) ∷ just ([]) ∷ just ([]) ∷ [])
+no_name_runs : IsRun no_name_circuit (Event [] ∷ Event [] ∷ Event [] ∷ Reset ∷ Reset ∷ []) (just [] ∷ just [] ∷ just [] ∷ [])
 no_name_runs = (
   record { inputs_given = refl; latches_kept = refl; tables_met = tt },
   (
@@ -132,12 +114,14 @@ behind_end_words = refl
 behind_end_end : reading (codes ".model m" ++ (10 ∷ []) ++ codes ".end" ++ (10 ∷ []) ++ codes ".end" ++ (10 ∷ [])) ≡ Err (Line 3)
 behind_end_end = refl
 
+abbrev behind_end_blank_circuit : Circuit
+behind_end_blank_circuit = circuit (codes "m") [] [] [] []
+
 behind_end_blank : reading (codes ".model m" ++ (10 ∷ []) ++ codes ".end" ++ (10 ∷ []) ++ (10 ∷ []) ++ codes " " ++ (9 ∷ []) ++ codes " " ++ (10 ∷ [])
-    ++ codes "# c" ++ (10 ∷ [])) ≡ Ok (record { name = (codes "m"); inputs = ([]); outputs = ([]); latches = ([]); tables = ([]) })
+    ++ codes "# c" ++ (10 ∷ [])) ≡ Ok behind_end_blank_circuit
 behind_end_blank = refl
 
-behind_end_blank_runs : IsRun (record { name = (codes "m"); inputs = ([]); outputs = ([]); latches = ([]); tables = ([]) }) (Event ([]) ∷ Event ([]) ∷
-    []) (just ([]) ∷ just ([]) ∷ [])
+behind_end_blank_runs : IsRun behind_end_blank_circuit (Event [] ∷ Event [] ∷ []) (just [] ∷ just [] ∷ [])
 behind_end_blank_runs = (
   record { inputs_given = refl; latches_kept = refl; tables_met = tt },
   (
@@ -156,18 +140,13 @@ behind_end_bad_byte = refl
 end_with_word : reading (codes ".model m" ++ (10 ∷ []) ++ codes ".end x" ++ (10 ∷ [])) ≡ Err (Line 2)
 end_with_word = refl
 
-end_with_comment : reading (codes ".model m" ++ (10 ∷ []) ++ codes ".end# x" ++ (10 ∷ [])) ≡ Ok (record {
-  name = (codes "m");
-  inputs = ([]);
-  outputs =
-      ([]);
-  latches = ([]);
-  tables = ([]);
-})
+abbrev end_with_comment_circuit : Circuit
+end_with_comment_circuit = circuit (codes "m") [] [] [] []
+
+end_with_comment : reading (codes ".model m" ++ (10 ∷ []) ++ codes ".end# x" ++ (10 ∷ [])) ≡ Ok end_with_comment_circuit
 end_with_comment = refl
 
-end_with_comment_runs : IsRun (record { name = (codes "m"); inputs = ([]); outputs = ([]); latches = ([]); tables = ([]) }) (Event ([]) ∷ Event ([]) ∷
-    Event ([]) ∷ []) (just ([]) ∷ just ([]) ∷ just ([]) ∷ [])
+end_with_comment_runs : IsRun end_with_comment_circuit (Event [] ∷ Event [] ∷ Event [] ∷ []) (just [] ∷ just [] ∷ just [] ∷ [])
 end_with_comment_runs = (
   record { inputs_given = refl; latches_kept = refl; tables_met = tt },
   (
@@ -180,26 +159,15 @@ end_with_comment_runs = (
   ),
 )
 
+abbrev continued_circuit : Circuit
+continued_circuit = circuit (codes "m") (codes "a" ∷ codes "b" ∷ []) (codes "a" ∷ codes "b" ∷ []) [] []
+
 continued : reading (codes ".model m" ++ (10 ∷ []) ++ codes ".inputs a " ++ (92 ∷ []) ++ (10 ∷ []) ++ codes "b" ++ (10 ∷ []) ++ codes ".outputs a b"
-    ++ (10 ∷ []) ++ codes ".end" ++ (10 ∷ [])) ≡ Ok (record {
-      name = (codes "m");
-      inputs = ((codes "a") ∷ (codes "b") ∷ []);
-      outputs = ((codes "a") ∷
-          (codes "b") ∷ []);
-      latches = ([]);
-      tables = ([]);
-    })
+    ++ (10 ∷ []) ++ codes ".end" ++ (10 ∷ [])) ≡ Ok continued_circuit
 continued = refl
 
-continued_runs : IsRun (record {
-  name = (codes "m");
-  inputs = ((codes "a") ∷ (codes "b") ∷ []);
-  outputs = ((codes "a") ∷ (codes "b") ∷ []);
-  latches =
-      ([]);
-  tables = ([]);
-}) (Event (true ∷ false ∷ []) ∷ Event (true ∷ true ∷ []) ∷ Event (false ∷ true ∷ []) ∷ []) (just ((codes "a") ∷ []) ∷ just
-    ((codes "a") ∷ (codes "b") ∷ []) ∷ just ((codes "b") ∷ []) ∷ [])
+continued_runs : IsRun continued_circuit (Event (true ∷ false ∷ []) ∷ Event (true ∷ true ∷ []) ∷ Event (false ∷ true ∷ []) ∷ []) (just (codes "a" ∷
+    []) ∷ just (codes "a" ∷ codes "b" ∷ []) ∷ just (codes "b" ∷ []) ∷ [])
 continued_runs = (
   record { inputs_given = refl; latches_kept = refl; tables_met = tt },
   (
@@ -213,25 +181,15 @@ continued_runs = (
   ),
 )
 
+abbrev continued_word_circuit : Circuit
+continued_word_circuit = circuit (codes "m") (codes "ab" ∷ []) (codes "ab" ∷ []) [] []
+
 continued_word : reading (codes ".model m" ++ (10 ∷ []) ++ codes ".inputs a" ++ (92 ∷ []) ++ (10 ∷ []) ++ codes "b" ++ (10 ∷ []) ++ codes ".outputs ab"
-    ++ (10 ∷ []) ++ codes ".end" ++ (10 ∷ [])) ≡ Ok (record {
-      name = (codes "m");
-      inputs = ((codes "ab") ∷ []);
-      outputs = ((codes "ab") ∷ []);
-      latches
-          = ([]);
-      tables = ([]);
-    })
+    ++ (10 ∷ []) ++ codes ".end" ++ (10 ∷ [])) ≡ Ok continued_word_circuit
 continued_word = refl
 
-continued_word_runs : IsRun (record {
-  name = (codes "m");
-  inputs = ((codes "ab") ∷ []);
-  outputs = ((codes "ab") ∷ []);
-  latches = ([]);
-  tables = ([]);
-}) (Event (true ∷ []) ∷ Reset ∷ Event (true ∷ []) ∷ Reset ∷ Event (false ∷ []) ∷ []) (just ((codes "ab") ∷ []) ∷ just ((codes "ab") ∷ []) ∷ just
-    ([]) ∷ [])
+continued_word_runs : IsRun continued_word_circuit (Event (true ∷ []) ∷ Reset ∷ Event (true ∷ []) ∷ Reset ∷ Event (false ∷ []) ∷ []) (just (codes "ab"
+    ∷ []) ∷ just (codes "ab" ∷ []) ∷ just [] ∷ [])
 continued_word_runs = (
   record { inputs_given = refl; latches_kept = refl; tables_met = tt },
   (
@@ -244,19 +202,15 @@ continued_word_runs = (
   ),
 )
 
+abbrev continued_directive_circuit : Circuit
+continued_directive_circuit = circuit (codes "m") [] [] [] []
+
 continued_directive : reading (codes ".mo" ++ (92 ∷ []) ++ (10 ∷ []) ++ codes "del m" ++ (10 ∷ []) ++ codes ".e" ++ (92 ∷ []) ++ (10 ∷ []) ++ codes
-    "n" ++ (92 ∷ []) ++ (10 ∷ []) ++ codes "d" ++ (10 ∷ [])) ≡ Ok (record {
-      name = (codes "m");
-      inputs = ([]);
-      outputs = ([]);
-      latches = ([]);
-      tables
-          = ([]);
-    })
+    "n" ++ (92 ∷ []) ++ (10 ∷ []) ++ codes "d" ++ (10 ∷ [])) ≡ Ok continued_directive_circuit
 continued_directive = refl
 
-continued_directive_runs : IsRun (record { name = (codes "m"); inputs = ([]); outputs = ([]); latches = ([]); tables = ([]) }) (Event ([]) ∷ Event
-    ([]) ∷ Event ([]) ∷ Event ([]) ∷ []) (just ([]) ∷ just ([]) ∷ just ([]) ∷ just ([]) ∷ [])
+continued_directive_runs : IsRun continued_directive_circuit (Event [] ∷ Event [] ∷ Event [] ∷ Event [] ∷ []) (just [] ∷ just [] ∷ just [] ∷ just [] ∷
+    [])
 continued_directive_runs = (
   record { inputs_given = refl; latches_kept = refl; tables_met = tt },
   (
@@ -299,25 +253,15 @@ backslash_then_space : reading (codes ".model m" ++ (10 ∷ []) ++ codes ".input
     codes ".end" ++ (10 ∷ [])) ≡ Err (Line 2)
 backslash_then_space = refl
 
+abbrev backslash_return_circuit : Circuit
+backslash_return_circuit = circuit (codes "m") (codes "ab" ∷ []) (codes "ab" ∷ []) [] []
+
 backslash_return : reading (codes ".model m" ++ (10 ∷ []) ++ codes ".inputs a" ++ (92 ∷ []) ++ (13 ∷ []) ++ (10 ∷ []) ++ codes "b" ++ (10 ∷ []) ++
-    codes ".outputs ab" ++ (10 ∷ []) ++ codes ".end" ++ (10 ∷ [])) ≡ Ok (record {
-      name = (codes "m");
-      inputs = ((codes "ab") ∷ []);
-      outputs = ((codes
-          "ab") ∷ []);
-      latches = ([]);
-      tables = ([]);
-    })
+    codes ".outputs ab" ++ (10 ∷ []) ++ codes ".end" ++ (10 ∷ [])) ≡ Ok backslash_return_circuit
 backslash_return = refl
 
-backslash_return_runs : IsRun (record {
-  name = (codes "m");
-  inputs = ((codes "ab") ∷ []);
-  outputs = ((codes "ab") ∷ []);
-  latches = ([]);
-  tables = ([]);
-}) (Event (true ∷ []) ∷ Reset ∷ Event (true ∷ []) ∷ Event (true ∷ []) ∷ Event (true ∷ []) ∷ []) (just ((codes "ab") ∷ []) ∷ just ((codes "ab") ∷
-    []) ∷ just ((codes "ab") ∷ []) ∷ just ((codes "ab") ∷ []) ∷ [])
+backslash_return_runs : IsRun backslash_return_circuit (Event (true ∷ []) ∷ Reset ∷ Event (true ∷ []) ∷ Event (true ∷ []) ∷ Event (true ∷ []) ∷ [])
+    (just (codes "ab" ∷ []) ∷ just (codes "ab" ∷ []) ∷ just (codes "ab" ∷ []) ∷ just (codes "ab" ∷ []) ∷ [])
 backslash_return_runs = (
   record { inputs_given = refl; latches_kept = refl; tables_met = tt },
   (
@@ -340,25 +284,15 @@ backslash_return_runs = (
   ),
 )
 
+abbrev backslash_comment_circuit : Circuit
+backslash_comment_circuit = circuit (codes "m") (codes "ab" ∷ []) (codes "ab" ∷ []) [] []
+
 backslash_comment : reading (codes ".model m" ++ (10 ∷ []) ++ codes ".inputs a" ++ (92 ∷ []) ++ codes "# c" ++ (10 ∷ []) ++ codes "b" ++ (10 ∷ []) ++
-    codes ".outputs ab" ++ (10 ∷ []) ++ codes ".end" ++ (10 ∷ [])) ≡ Ok (record {
-      name = (codes "m");
-      inputs = ((codes "ab") ∷ []);
-      outputs = ((codes
-          "ab") ∷ []);
-      latches = ([]);
-      tables = ([]);
-    })
+    codes ".outputs ab" ++ (10 ∷ []) ++ codes ".end" ++ (10 ∷ [])) ≡ Ok backslash_comment_circuit
 backslash_comment = refl
 
-backslash_comment_runs : IsRun (record {
-  name = (codes "m");
-  inputs = ((codes "ab") ∷ []);
-  outputs = ((codes "ab") ∷ []);
-  latches = ([]);
-  tables =
-      ([]);
-}) (Event (false ∷ []) ∷ Event (false ∷ []) ∷ Event (true ∷ []) ∷ []) (just ([]) ∷ just ([]) ∷ just ((codes "ab") ∷ []) ∷ [])
+backslash_comment_runs : IsRun backslash_comment_circuit (Event (false ∷ []) ∷ Event (false ∷ []) ∷ Event (true ∷ []) ∷ []) (just [] ∷ just [] ∷ just
+    (codes "ab" ∷ []) ∷ [])
 backslash_comment_runs = (
   record { inputs_given = refl; latches_kept = refl; tables_met = tt },
   (
@@ -371,24 +305,14 @@ backslash_comment_runs = (
   ),
 )
 
+abbrev comment_backslash_circuit : Circuit
+comment_backslash_circuit = circuit (codes "m") (codes "a" ∷ []) (codes "a" ∷ []) [] []
+
 comment_backslash : reading (codes ".model m" ++ (10 ∷ []) ++ codes ".inputs a# c" ++ (92 ∷ []) ++ (10 ∷ []) ++ codes ".outputs a" ++ (10 ∷ []) ++
-    codes ".end" ++ (10 ∷ [])) ≡ Ok (record {
-      name = (codes "m");
-      inputs = ((codes "a") ∷ []);
-      outputs = ((codes "a") ∷ []);
-      latches = ([]);
-      tables =
-          ([]);
-    })
+    codes ".end" ++ (10 ∷ [])) ≡ Ok comment_backslash_circuit
 comment_backslash = refl
 
-comment_backslash_runs : IsRun (record {
-  name = (codes "m");
-  inputs = ((codes "a") ∷ []);
-  outputs = ((codes "a") ∷ []);
-  latches = ([]);
-  tables = ([]);
-}) (Reset ∷ Event (false ∷ []) ∷ Event (false ∷ []) ∷ []) (just ([]) ∷ just ([]) ∷ [])
+comment_backslash_runs : IsRun comment_backslash_circuit (Reset ∷ Event (false ∷ []) ∷ Event (false ∷ []) ∷ []) (just [] ∷ just [] ∷ [])
 comment_backslash_runs = (
   record { inputs_given = refl; latches_kept = refl; tables_met = tt },
   (
@@ -410,18 +334,15 @@ backslash_last_feed = refl
 backslash_last_return : reading (codes ".model m" ++ (10 ∷ []) ++ codes ".end" ++ (92 ∷ []) ++ (13 ∷ []) ++ (10 ∷ [])) ≡ Err (Line 2)
 backslash_last_return = refl
 
-backslash_before_empty_last : reading (codes ".model m" ++ (10 ∷ []) ++ codes ".end" ++ (92 ∷ []) ++ (10 ∷ []) ++ (10 ∷ [])) ≡ Ok (record {
-  name =
-      (codes "m");
-  inputs = ([]);
-  outputs = ([]);
-  latches = ([]);
-  tables = ([]);
-})
+abbrev backslash_before_empty_last_circuit : Circuit
+backslash_before_empty_last_circuit = circuit (codes "m") [] [] [] []
+
+backslash_before_empty_last : reading (codes ".model m" ++ (10 ∷ []) ++ codes ".end" ++ (92 ∷ []) ++ (10 ∷ []) ++ (10 ∷ [])) ≡ Ok
+    backslash_before_empty_last_circuit
 backslash_before_empty_last = refl
 
-backslash_before_empty_last_runs : IsRun (record { name = (codes "m"); inputs = ([]); outputs = ([]); latches = ([]); tables = ([]) }) (Event ([]) ∷
-    Event ([]) ∷ Event ([]) ∷ Event ([]) ∷ Reset ∷ []) (just ([]) ∷ just ([]) ∷ just ([]) ∷ just ([]) ∷ [])
+backslash_before_empty_last_runs : IsRun backslash_before_empty_last_circuit (Event [] ∷ Event [] ∷ Event [] ∷ Event [] ∷ Reset ∷ []) (just [] ∷ just
+    [] ∷ just [] ∷ just [] ∷ [])
 backslash_before_empty_last_runs = (
   record { inputs_given = refl; latches_kept = refl; tables_met = tt },
   (
@@ -443,283 +364,5 @@ backslash_before_empty_last_runs = (
         tt,
       ),
     ),
-  ),
-)
-
-backslash_alone : reading (codes ".model m" ++ (10 ∷ []) ++ (92 ∷ []) ++ (10 ∷ []) ++ codes ".end" ++ (10 ∷ [])) ≡ Ok (record {
-  name = (codes "m");
-  inputs = ([]);
-  outputs = ([]);
-  latches = ([]);
-  tables = ([]);
-})
-backslash_alone = refl
-
-backslash_alone_runs : IsRun (record { name = (codes "m"); inputs = ([]); outputs = ([]); latches = ([]); tables = ([]) }) (Event ([]) ∷ Event ([]) ∷
-    Reset ∷ Event ([]) ∷ []) (just ([]) ∷ just ([]) ∷ just ([]) ∷ [])
-backslash_alone_runs = (
-  record { inputs_given = refl; latches_kept = refl; tables_met = tt },
-  (
-    record {
-      inputs_given = refl;
-      latches_kept = refl;
-      tables_met = tt;
-    },
-    (record { inputs_given = refl; latches_kept = refl; tables_met = tt }, tt),
-  ),
-)
-
-backslash_alone_last : reading (codes ".model m" ++ (10 ∷ []) ++ codes ".end" ++ (10 ∷ []) ++ (92 ∷ []) ++ (10 ∷ [])) ≡ Err (Line 3)
-backslash_alone_last = refl
-
-backslash_alone_comment_last : reading (codes ".model m" ++ (10 ∷ []) ++ codes ".end" ++ (10 ∷ []) ++ (92 ∷ []) ++ codes "# c" ++ (10 ∷ [])) ≡ Err
-    (Line 3)
-backslash_alone_comment_last = refl
-
-comment_hides_bad : reading (codes ".model m # " ++ (1 ∷ []) ++ (255 ∷ []) ++ (92 ∷ []) ++ (10 ∷ []) ++ codes ".end" ++ (10 ∷ [])) ≡ Ok (record {
-  name
-      = (codes "m");
-  inputs = ([]);
-  outputs = ([]);
-  latches = ([]);
-  tables = ([]);
-})
-comment_hides_bad = refl
-
-comment_hides_bad_runs : IsRun (record { name = (codes "m"); inputs = ([]); outputs = ([]); latches = ([]); tables = ([]) }) (Event ([]) ∷ Event ([])
-    ∷ Event ([]) ∷ Reset ∷ Reset ∷ []) (just ([]) ∷ just ([]) ∷ just ([]) ∷ [])
-comment_hides_bad_runs = (
-  record { inputs_given = refl; latches_kept = refl; tables_met = tt },
-  (
-    record {
-      inputs_given = refl;
-      latches_kept = refl;
-      tables_met = tt;
-    },
-    (record { inputs_given = refl; latches_kept = refl; tables_met = tt }, tt),
-  ),
-)
-
-comment_first : reading (codes "# c" ++ (10 ∷ []) ++ codes "   # d" ++ (10 ∷ []) ++ codes ".model m" ++ (10 ∷ []) ++ codes ".end" ++ (10 ∷ [])) ≡ Ok
-    (record { name = (codes "m"); inputs = ([]); outputs = ([]); latches = ([]); tables = ([]) })
-comment_first = refl
-
-comment_first_runs : IsRun (record { name = (codes "m"); inputs = ([]); outputs = ([]); latches = ([]); tables = ([]) }) (Reset ∷ Event ([]) ∷ Event
-    ([]) ∷ Reset ∷ []) (just ([]) ∷ just ([]) ∷ [])
-comment_first_runs = (
-  record { inputs_given = refl; latches_kept = refl; tables_met = tt },
-  (
-    record {
-      inputs_given = refl;
-      latches_kept = refl;
-      tables_met = tt;
-    },
-    tt,
-  ),
-)
-
-comment_in_word : reading (codes ".model m#n" ++ (10 ∷ []) ++ codes ".end" ++ (10 ∷ [])) ≡ Ok (record {
-  name = (codes "m");
-  inputs = ([]);
-  outputs =
-      ([]);
-  latches = ([]);
-  tables = ([]);
-})
-comment_in_word = refl
-
-comment_in_word_runs : IsRun (record { name = (codes "m"); inputs = ([]); outputs = ([]); latches = ([]); tables = ([]) }) (Event ([]) ∷ Event ([]) ∷
-    Reset ∷ Event ([]) ∷ []) (just ([]) ∷ just ([]) ∷ just ([]) ∷ [])
-comment_in_word_runs = (
-  record { inputs_given = refl; latches_kept = refl; tables_met = tt },
-  (
-    record {
-      inputs_given = refl;
-      latches_kept = refl;
-      tables_met = tt;
-    },
-    (record { inputs_given = refl; latches_kept = refl; tables_met = tt }, tt),
-  ),
-)
-
-return_in_comment : reading (codes ".model m # c" ++ (13 ∷ []) ++ (10 ∷ []) ++ codes ".end" ++ (13 ∷ []) ++ (10 ∷ [])) ≡ Ok (record {
-  name = (codes
-      "m");
-  inputs = ([]);
-  outputs = ([]);
-  latches = ([]);
-  tables = ([]);
-})
-return_in_comment = refl
-
-return_in_comment_runs : IsRun (record { name = (codes "m"); inputs = ([]); outputs = ([]); latches = ([]); tables = ([]) }) (Reset ∷ Event ([]) ∷
-    Event ([]) ∷ Event ([]) ∷ Event ([]) ∷ []) (just ([]) ∷ just ([]) ∷ just ([]) ∷ just ([]) ∷ [])
-return_in_comment_runs = (
-  record { inputs_given = refl; latches_kept = refl; tables_met = tt },
-  (
-    record {
-      inputs_given = refl;
-      latches_kept = refl;
-      tables_met = tt;
-    },
-    (
-      record { inputs_given = refl; latches_kept = refl; tables_met = tt },
-      (
-        record {
-          inputs_given = refl;
-          latches_kept = refl;
-          tables_met = tt;
-        },
-        tt,
-      ),
-    ),
-  ),
-)
-
-return_before_feed : reading (codes ".model m" ++ (13 ∷ []) ++ (10 ∷ []) ++ codes ".inputs a" ++ (13 ∷ []) ++ (10 ∷ []) ++ codes ".outputs a" ++ (13 ∷
-    []) ++ (10 ∷ []) ++ codes ".end" ++ (13 ∷ []) ++ (10 ∷ [])) ≡ Ok (record {
-      name = (codes "m");
-      inputs = ((codes "a") ∷ []);
-      outputs = ((codes "a")
-          ∷ []);
-      latches = ([]);
-      tables = ([]);
-    })
-return_before_feed = refl
-
-return_before_feed_runs : IsRun (record {
-  name = (codes "m");
-  inputs = ((codes "a") ∷ []);
-  outputs = ((codes "a") ∷ []);
-  latches = ([]);
-  tables = ([]);
-}) (Event (false ∷ []) ∷ Event (true ∷ []) ∷ Reset ∷ Reset ∷ Event (true ∷ []) ∷ []) (just ([]) ∷ just ((codes "a") ∷ []) ∷ just ((codes "a") ∷
-    []) ∷ [])
-return_before_feed_runs = (
-  record { inputs_given = refl; latches_kept = refl; tables_met = tt },
-  (
-    record {
-      inputs_given = refl;
-      latches_kept = refl;
-      tables_met = tt;
-    },
-    (record { inputs_given = refl; latches_kept = refl; tables_met = tt }, tt),
-  ),
-)
-
-two_returns : reading (codes ".model m" ++ (13 ∷ []) ++ (13 ∷ []) ++ (10 ∷ []) ++ codes ".end" ++ (10 ∷ [])) ≡ Err (Line 1)
-two_returns = refl
-
-return_in_line : reading (codes ".model" ++ (13 ∷ []) ++ codes "m" ++ (10 ∷ []) ++ codes ".end" ++ (10 ∷ [])) ≡ Err (Line 1)
-return_in_line = refl
-
-return_at_end : reading (codes ".model m" ++ (10 ∷ []) ++ codes ".end" ++ (13 ∷ [])) ≡ Err (Line 2)
-return_at_end = refl
-
-return_in_comment_at_end : reading (codes ".model m" ++ (10 ∷ []) ++ codes ".end # c" ++ (13 ∷ [])) ≡ Ok (record {
-  name = (codes "m");
-  inputs = ([]);
-  outputs = ([]);
-  latches = ([]);
-  tables = ([]);
-})
-return_in_comment_at_end = refl
-
-return_in_comment_at_end_runs : IsRun (record { name = (codes "m"); inputs = ([]); outputs = ([]); latches = ([]); tables = ([]) }) (Event ([]) ∷
-    Event ([]) ∷ Event ([]) ∷ Event ([]) ∷ []) (just ([]) ∷ just ([]) ∷ just ([]) ∷ just ([]) ∷ [])
-return_in_comment_at_end_runs = (
-  record { inputs_given = refl; latches_kept = refl; tables_met = tt },
-  (
-    record {
-      inputs_given = refl;
-      latches_kept =
-          refl;
-      tables_met = tt;
-    },
-    (
-      record { inputs_given = refl; latches_kept = refl; tables_met = tt },
-      (
-        record {
-          inputs_given = refl;
-          latches_kept =
-              refl;
-          tables_met = tt;
-        },
-        tt,
-      ),
-    ),
-  ),
-)
-
-tabs : reading ((9 ∷ []) ++ codes ".model" ++ (9 ∷ []) ++ (9 ∷ []) ++ codes "m" ++ (9 ∷ []) ++ (10 ∷ []) ++ codes " " ++ (9 ∷ []) ++ codes ".inputs"
-    ++ (9 ∷ []) ++ codes "a" ++ (9 ∷ []) ++ codes "b" ++ (10 ∷ []) ++ codes ".outputs a" ++ (10 ∷ []) ++ codes ".end" ++ (9 ∷ []) ++ (10 ∷ [])) ≡ Ok
-    (record { name = (codes "m"); inputs = ((codes "a") ∷ (codes "b") ∷ []); outputs = ((codes "a") ∷ []); latches = ([]); tables = ([]) })
-tabs = refl
-
-tabs_runs : IsRun (record {
-  name = (codes "m");
-  inputs = ((codes "a") ∷ (codes "b") ∷ []);
-  outputs = ((codes "a") ∷ []);
-  latches = ([]);
-  tables = ([]);
-}) (Reset ∷ Event (true ∷ false ∷ []) ∷ Event (false ∷ false ∷ []) ∷ Event (true ∷ true ∷ []) ∷ []) (just ((codes "a") ∷ []) ∷ just ([]) ∷ just
-    ((codes "a") ∷ (codes "b") ∷ []) ∷ [])
-tabs_runs = (
-  record { inputs_given = refl; latches_kept = refl; tables_met = tt },
-  (
-    record {
-      inputs_given = refl;
-      latches_kept = refl;
-      tables_met = tt;
-    },
-    (record { inputs_given = refl; latches_kept = refl; tables_met = tt }, tt),
-  ),
-)
-
-form_feed : reading (codes ".model m" ++ (10 ∷ []) ++ codes ".inputs a" ++ (12 ∷ []) ++ codes "b" ++ (10 ∷ []) ++ codes ".end" ++ (10 ∷ [])) ≡ Err
-    (Line 2)
-form_feed = refl
-
-bad_byte_127 : reading (codes ".model m" ++ (10 ∷ []) ++ codes ".inputs " ++ (127 ∷ []) ++ (10 ∷ []) ++ codes ".end" ++ (10 ∷ [])) ≡ Err (Line 2)
-bad_byte_127 = refl
-
-bad_byte_0 : reading (codes ".model m" ++ (10 ∷ []) ++ (0 ∷ []) ++ (10 ∷ []) ++ codes ".end" ++ (10 ∷ [])) ≡ Err (Line 2)
-bad_byte_0 = refl
-
-bad_byte_200 : reading (codes ".model m" ++ (10 ∷ []) ++ codes ".inputs " ++ (195 ∷ []) ++ (169 ∷ []) ++ (10 ∷ []) ++ codes ".end" ++ (10 ∷ [])) ≡ Err
-    (Line 2)
-bad_byte_200 = refl
-
-odd_words : reading (codes ".model m!" ++ (10 ∷ []) ++ codes ".inputs " ++ (34 ∷ []) ++ codes "a" ++ (34 ∷ []) ++ codes " ~ .end [3]" ++ (10 ∷ []) ++
-    codes ".outputs ~ .end " ++ (34 ∷ []) ++ codes "a" ++ (34 ∷ []) ++ (10 ∷ []) ++ codes ".end" ++ (10 ∷ [])) ≡ Ok (record {
-      name = (codes "m!");
-      inputs = (((34 ∷ []) ++ codes "a" ++ (34 ∷ [])) ∷ (codes "~") ∷ (codes ".end") ∷ (codes "[3]") ∷ []);
-      outputs = ((codes "~") ∷ (codes ".end") ∷
-          ((34 ∷ []) ++ codes "a" ++ (34 ∷ [])) ∷ []);
-      latches = ([]);
-      tables = ([]);
-    })
-odd_words = refl
-
-odd_words_runs : IsRun (record {
-  name = (codes "m!");
-  inputs = (((34 ∷ []) ++ codes "a" ++ (34 ∷ [])) ∷ (codes "~") ∷ (codes ".end") ∷ (codes "[3]") ∷
-      []);
-  outputs = ((codes "~") ∷ (codes ".end") ∷ ((34 ∷ []) ++ codes "a" ++ (34 ∷ [])) ∷ []);
-  latches = ([]);
-  tables = ([]);
-}) (Event (false ∷ false
-    ∷ true ∷ false ∷ []) ∷ Event (false ∷ false ∷ true ∷ true ∷ []) ∷ []) (just ((codes ".end") ∷ []) ∷ just ((codes ".end") ∷ (codes "[3]") ∷ []) ∷
-    [])
-odd_words_runs = (
-  record { inputs_given = refl; latches_kept = refl; tables_met = tt },
-  (
-    record {
-      inputs_given = refl;
-      latches_kept = refl;
-      tables_met
-          = tt;
-    },
-    tt,
   ),
 )

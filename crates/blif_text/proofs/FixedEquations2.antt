@@ -1,27 +1,244 @@
 -- Inner: equations between the definitions of BLIF and an independent implementation of them in Python.
 -- Each text is read as the circuit, or refused with the fault, that the other implementation answers. Generated.
-use Rattle.std.proofs.Common.{◌≡◌, ℕ, false, List, [], ◌∷◌, ◌++◌, Ok, Err, codes, refl}
-use Rattle.std.specs.Prelude.{Bool, true}
+use Rattle.std.proofs.Common.{◌≡◌, true, false, [], ◌∷◌, ◌++◌, Ok, Err, codes, refl}
 use Rattle.est_base.specs.Items.{Event, Reset}
 use Rattle.blif_text.specs.Statements.{Zero, One, Any}
-use Rattle.blif_text.specs.Circuits.{reading, Line, TwoDrivers, NoDriver, is_among}
+use Rattle.blif_text.specs.Circuits.{Circuit, reading, Line, TwoDrivers}
 use Rattle.blif_text.specs.Runs.{IsRun}
+use Rattle.blif_text.proofs.PlainWords.{latch, table, circuit, just}
 
--- the valuation in which just these names are true
-abbrev just : List (List ℕ) → List ℕ → Bool
-just names = λ name. is_among name names
+abbrev backslash_alone_circuit : Circuit
+backslash_alone_circuit = circuit (codes "m") [] [] [] []
 
-inputs_none : reading (codes ".model m" ++ (10 ∷ []) ++ codes ".inputs" ++ (10 ∷ []) ++ codes ".end" ++ (10 ∷ [])) ≡ Ok (record {
-  name = (codes "m");
-  inputs = ([]);
-  outputs = ([]);
-  latches = ([]);
-  tables = ([]);
-})
+backslash_alone : reading (codes ".model m" ++ (10 ∷ []) ++ (92 ∷ []) ++ (10 ∷ []) ++ codes ".end" ++ (10 ∷ [])) ≡ Ok backslash_alone_circuit
+backslash_alone = refl
+
+backslash_alone_runs : IsRun backslash_alone_circuit (Event [] ∷ Event [] ∷ []) (just [] ∷ just [] ∷ [])
+backslash_alone_runs = (
+  record { inputs_given = refl; latches_kept = refl; tables_met = tt },
+  (
+    record {
+      inputs_given = refl;
+      latches_kept = refl;
+      tables_met = tt;
+    },
+    tt,
+  ),
+)
+
+backslash_alone_last : reading (codes ".model m" ++ (10 ∷ []) ++ codes ".end" ++ (10 ∷ []) ++ (92 ∷ []) ++ (10 ∷ [])) ≡ Err (Line 3)
+backslash_alone_last = refl
+
+backslash_alone_comment_last : reading (codes ".model m" ++ (10 ∷ []) ++ codes ".end" ++ (10 ∷ []) ++ (92 ∷ []) ++ codes "# c" ++ (10 ∷ [])) ≡ Err
+    (Line 3)
+backslash_alone_comment_last = refl
+
+abbrev comment_hides_bad_circuit : Circuit
+comment_hides_bad_circuit = circuit (codes "m") [] [] [] []
+
+comment_hides_bad : reading (codes ".model m # " ++ (1 ∷ []) ++ (255 ∷ []) ++ (92 ∷ []) ++ (10 ∷ []) ++ codes ".end" ++ (10 ∷ [])) ≡ Ok
+    comment_hides_bad_circuit
+comment_hides_bad = refl
+
+comment_hides_bad_runs : IsRun comment_hides_bad_circuit (Event [] ∷ Event [] ∷ Event [] ∷ []) (just [] ∷ just [] ∷ just [] ∷ [])
+comment_hides_bad_runs = (
+  record { inputs_given = refl; latches_kept = refl; tables_met = tt },
+  (
+    record {
+      inputs_given = refl;
+      latches_kept = refl;
+      tables_met = tt;
+    },
+    (record { inputs_given = refl; latches_kept = refl; tables_met = tt }, tt),
+  ),
+)
+
+abbrev comment_first_circuit : Circuit
+comment_first_circuit = circuit (codes "m") [] [] [] []
+
+comment_first : reading (codes "# c" ++ (10 ∷ []) ++ codes "   # d" ++ (10 ∷ []) ++ codes ".model m" ++ (10 ∷ []) ++ codes ".end" ++ (10 ∷ [])) ≡ Ok
+    comment_first_circuit
+comment_first = refl
+
+comment_first_runs : IsRun comment_first_circuit (Event [] ∷ Event [] ∷ Event [] ∷ Reset ∷ Reset ∷ []) (just [] ∷ just [] ∷ just [] ∷ [])
+comment_first_runs = (
+  record { inputs_given = refl; latches_kept = refl; tables_met = tt },
+  (
+    record {
+      inputs_given = refl;
+      latches_kept = refl;
+      tables_met = tt;
+    },
+    (record { inputs_given = refl; latches_kept = refl; tables_met = tt }, tt),
+  ),
+)
+
+abbrev comment_in_word_circuit : Circuit
+comment_in_word_circuit = circuit (codes "m") [] [] [] []
+
+comment_in_word : reading (codes ".model m#n" ++ (10 ∷ []) ++ codes ".end" ++ (10 ∷ [])) ≡ Ok comment_in_word_circuit
+comment_in_word = refl
+
+comment_in_word_runs : IsRun comment_in_word_circuit (Event [] ∷ Event [] ∷ []) (just [] ∷ just [] ∷ [])
+comment_in_word_runs = (
+  record { inputs_given = refl; latches_kept = refl; tables_met = tt },
+  (
+    record {
+      inputs_given = refl;
+      latches_kept = refl;
+      tables_met = tt;
+    },
+    tt,
+  ),
+)
+
+abbrev return_in_comment_circuit : Circuit
+return_in_comment_circuit = circuit (codes "m") [] [] [] []
+
+return_in_comment : reading (codes ".model m # c" ++ (13 ∷ []) ++ (10 ∷ []) ++ codes ".end" ++ (13 ∷ []) ++ (10 ∷ [])) ≡ Ok return_in_comment_circuit
+return_in_comment = refl
+
+return_in_comment_runs : IsRun return_in_comment_circuit (Event [] ∷ Event [] ∷ Event [] ∷ []) (just [] ∷ just [] ∷ just [] ∷ [])
+return_in_comment_runs = (
+  record { inputs_given = refl; latches_kept = refl; tables_met = tt },
+  (
+    record {
+      inputs_given = refl;
+      latches_kept = refl;
+      tables_met = tt;
+    },
+    (record { inputs_given = refl; latches_kept = refl; tables_met = tt }, tt),
+  ),
+)
+
+abbrev return_before_feed_circuit : Circuit
+return_before_feed_circuit = circuit (codes "m") (codes "a" ∷ []) (codes "a" ∷ []) [] []
+
+return_before_feed : reading (codes ".model m" ++ (13 ∷ []) ++ (10 ∷ []) ++ codes ".inputs a" ++ (13 ∷ []) ++ (10 ∷ []) ++ codes ".outputs a" ++ (13 ∷
+    []) ++ (10 ∷ []) ++ codes ".end" ++ (13 ∷ []) ++ (10 ∷ [])) ≡ Ok return_before_feed_circuit
+return_before_feed = refl
+
+return_before_feed_runs : IsRun return_before_feed_circuit (Event (true ∷ []) ∷ Reset ∷ Event (false ∷ []) ∷ Reset ∷ Event (true ∷ []) ∷ []) (just
+    (codes "a" ∷ []) ∷ just [] ∷ just (codes "a" ∷ []) ∷ [])
+return_before_feed_runs = (
+  record { inputs_given = refl; latches_kept = refl; tables_met = tt },
+  (
+    record {
+      inputs_given = refl;
+      latches_kept = refl;
+      tables_met = tt;
+    },
+    (record { inputs_given = refl; latches_kept = refl; tables_met = tt }, tt),
+  ),
+)
+
+two_returns : reading (codes ".model m" ++ (13 ∷ []) ++ (13 ∷ []) ++ (10 ∷ []) ++ codes ".end" ++ (10 ∷ [])) ≡ Err (Line 1)
+two_returns = refl
+
+return_in_line : reading (codes ".model" ++ (13 ∷ []) ++ codes "m" ++ (10 ∷ []) ++ codes ".end" ++ (10 ∷ [])) ≡ Err (Line 1)
+return_in_line = refl
+
+return_at_end : reading (codes ".model m" ++ (10 ∷ []) ++ codes ".end" ++ (13 ∷ [])) ≡ Err (Line 2)
+return_at_end = refl
+
+abbrev return_in_comment_at_end_circuit : Circuit
+return_in_comment_at_end_circuit = circuit (codes "m") [] [] [] []
+
+return_in_comment_at_end : reading (codes ".model m" ++ (10 ∷ []) ++ codes ".end # c" ++ (13 ∷ [])) ≡ Ok return_in_comment_at_end_circuit
+return_in_comment_at_end = refl
+
+return_in_comment_at_end_runs : IsRun return_in_comment_at_end_circuit (Event [] ∷ Event [] ∷ Event [] ∷ Event [] ∷ []) (just [] ∷ just [] ∷ just [] ∷
+    just [] ∷ [])
+return_in_comment_at_end_runs = (
+  record { inputs_given = refl; latches_kept = refl; tables_met = tt },
+  (
+    record {
+      inputs_given = refl;
+      latches_kept =
+          refl;
+      tables_met = tt;
+    },
+    (
+      record { inputs_given = refl; latches_kept = refl; tables_met = tt },
+      (
+        record {
+          inputs_given = refl;
+          latches_kept =
+              refl;
+          tables_met = tt;
+        },
+        tt,
+      ),
+    ),
+  ),
+)
+
+abbrev tabs_circuit : Circuit
+tabs_circuit = circuit (codes "m") (codes "a" ∷ codes "b" ∷ []) (codes "a" ∷ []) [] []
+
+tabs : reading ((9 ∷ []) ++ codes ".model" ++ (9 ∷ []) ++ (9 ∷ []) ++ codes "m" ++ (9 ∷ []) ++ (10 ∷ []) ++ codes " " ++ (9 ∷ []) ++ codes ".inputs"
+    ++ (9 ∷ []) ++ codes "a" ++ (9 ∷ []) ++ codes "b" ++ (10 ∷ []) ++ codes ".outputs a" ++ (10 ∷ []) ++ codes ".end" ++ (9 ∷ []) ++ (10 ∷ [])) ≡ Ok
+    tabs_circuit
+tabs = refl
+
+tabs_runs : IsRun tabs_circuit (Reset ∷ Event (true ∷ true ∷ []) ∷ Event (false ∷ false ∷ []) ∷ Event (true ∷ true ∷ []) ∷ Reset ∷ []) (just (codes
+    "a" ∷ codes "b" ∷ []) ∷ just [] ∷ just (codes "a" ∷ codes "b" ∷ []) ∷ [])
+tabs_runs = (
+  record { inputs_given = refl; latches_kept = refl; tables_met = tt },
+  (
+    record {
+      inputs_given = refl;
+      latches_kept = refl;
+      tables_met = tt;
+    },
+    (record { inputs_given = refl; latches_kept = refl; tables_met = tt }, tt),
+  ),
+)
+
+form_feed : reading (codes ".model m" ++ (10 ∷ []) ++ codes ".inputs a" ++ (12 ∷ []) ++ codes "b" ++ (10 ∷ []) ++ codes ".end" ++ (10 ∷ [])) ≡ Err
+    (Line 2)
+form_feed = refl
+
+bad_byte_127 : reading (codes ".model m" ++ (10 ∷ []) ++ codes ".inputs " ++ (127 ∷ []) ++ (10 ∷ []) ++ codes ".end" ++ (10 ∷ [])) ≡ Err (Line 2)
+bad_byte_127 = refl
+
+bad_byte_0 : reading (codes ".model m" ++ (10 ∷ []) ++ (0 ∷ []) ++ (10 ∷ []) ++ codes ".end" ++ (10 ∷ [])) ≡ Err (Line 2)
+bad_byte_0 = refl
+
+bad_byte_200 : reading (codes ".model m" ++ (10 ∷ []) ++ codes ".inputs " ++ (195 ∷ []) ++ (169 ∷ []) ++ (10 ∷ []) ++ codes ".end" ++ (10 ∷ [])) ≡ Err
+    (Line 2)
+bad_byte_200 = refl
+
+abbrev odd_words_circuit : Circuit
+odd_words_circuit = circuit (codes "m!") (((34 ∷ []) ++ codes "a" ++ (34 ∷ [])) ∷ codes "~" ∷ codes ".end" ∷ codes
+    "[3]" ∷ []) (codes "~" ∷ codes ".end" ∷ ((34 ∷ []) ++ codes "a" ++ (34 ∷ [])) ∷ []) [] []
+
+odd_words : reading (codes ".model m!" ++ (10 ∷ []) ++ codes ".inputs " ++ (34 ∷ []) ++ codes "a" ++ (34 ∷ []) ++ codes " ~ .end [3]" ++ (10 ∷ []) ++
+    codes ".outputs ~ .end " ++ (34 ∷ []) ++ codes "a" ++ (34 ∷ []) ++ (10 ∷ []) ++ codes ".end" ++ (10 ∷ [])) ≡ Ok odd_words_circuit
+odd_words = refl
+
+odd_words_runs : IsRun odd_words_circuit (Reset ∷ Event (false ∷ false ∷ false ∷ true ∷ []) ∷ Event (false ∷ false ∷ false ∷ false ∷ []) ∷ Reset ∷ [])
+    (just (codes "[3]" ∷ []) ∷ just [] ∷ [])
+odd_words_runs = (
+  record { inputs_given = refl; latches_kept = refl; tables_met = tt },
+  (
+    record {
+      inputs_given = refl;
+      latches_kept = refl;
+      tables_met
+          = tt;
+    },
+    tt,
+  ),
+)
+
+abbrev inputs_none_circuit : Circuit
+inputs_none_circuit = circuit (codes "m") [] [] [] []
+
+inputs_none : reading (codes ".model m" ++ (10 ∷ []) ++ codes ".inputs" ++ (10 ∷ []) ++ codes ".end" ++ (10 ∷ [])) ≡ Ok inputs_none_circuit
 inputs_none = refl
 
-inputs_none_runs : IsRun (record { name = (codes "m"); inputs = ([]); outputs = ([]); latches = ([]); tables = ([]) }) (Event ([]) ∷ Event ([]) ∷ [])
-    (just ([]) ∷ just ([]) ∷ [])
+inputs_none_runs : IsRun inputs_none_circuit (Reset ∷ Event [] ∷ Event [] ∷ []) (just [] ∷ just [] ∷ [])
 inputs_none_runs = (
   record { inputs_given = refl; latches_kept = refl; tables_met = tt },
   (
@@ -34,79 +251,14 @@ inputs_none_runs = (
   ),
 )
 
-outputs_none : reading (codes ".model m" ++ (10 ∷ []) ++ codes ".outputs" ++ (10 ∷ []) ++ codes ".end" ++ (10 ∷ [])) ≡ Ok (record {
-  name = (codes
-      "m");
-  inputs = ([]);
-  outputs = ([]);
-  latches = ([]);
-  tables = ([]);
-})
+abbrev outputs_none_circuit : Circuit
+outputs_none_circuit = circuit (codes "m") [] [] [] []
+
+outputs_none : reading (codes ".model m" ++ (10 ∷ []) ++ codes ".outputs" ++ (10 ∷ []) ++ codes ".end" ++ (10 ∷ [])) ≡ Ok outputs_none_circuit
 outputs_none = refl
 
-outputs_none_runs : IsRun (record { name = (codes "m"); inputs = ([]); outputs = ([]); latches = ([]); tables = ([]) }) (Event ([]) ∷ Event ([]) ∷
-    Event ([]) ∷ []) (just ([]) ∷ just ([]) ∷ just ([]) ∷ [])
+outputs_none_runs : IsRun outputs_none_circuit (Event [] ∷ Event [] ∷ Event [] ∷ Event [] ∷ Reset ∷ []) (just [] ∷ just [] ∷ just [] ∷ just [] ∷ [])
 outputs_none_runs = (
-  record { inputs_given = refl; latches_kept = refl; tables_met = tt },
-  (
-    record {
-      inputs_given = refl;
-      latches_kept = refl;
-      tables_met = tt;
-    },
-    (record { inputs_given = refl; latches_kept = refl; tables_met = tt }, tt),
-  ),
-)
-
-inputs_twice : reading (codes ".model m" ++ (10 ∷ []) ++ codes ".inputs a" ++ (10 ∷ []) ++ codes ".outputs b a" ++ (10 ∷ []) ++ codes ".inputs b c" ++
-    (10 ∷ []) ++ codes ".outputs a" ++ (10 ∷ []) ++ codes ".end" ++ (10 ∷ [])) ≡ Ok (record {
-      name = (codes "m");
-      inputs = ((codes "a") ∷ (codes "b")
-          ∷ (codes "c") ∷ []);
-      outputs = ((codes "b") ∷ (codes "a") ∷ (codes "a") ∷ []);
-      latches = ([]);
-      tables = ([]);
-    })
-inputs_twice = refl
-
-inputs_twice_runs : IsRun (record {
-  name = (codes "m");
-  inputs = ((codes "a") ∷ (codes "b") ∷ (codes "c") ∷ []);
-  outputs = ((codes "b") ∷ (codes "a")
-      ∷ (codes "a") ∷ []);
-  latches = ([]);
-  tables = ([]);
-}) (Event (false ∷ true ∷ true ∷ []) ∷ Reset ∷ Event (true ∷ true ∷ false ∷ []) ∷ Reset ∷ Event
-    (true ∷ false ∷ false ∷ []) ∷ []) (just ((codes "b") ∷ (codes "c") ∷ []) ∷ just ((codes "a") ∷ (codes "b") ∷ []) ∷ just ((codes "a") ∷ []) ∷ [])
-inputs_twice_runs = (
-  record { inputs_given = refl; latches_kept = refl; tables_met = tt },
-  (
-    record {
-      inputs_given = refl;
-      latches_kept = refl;
-      tables_met = tt;
-    },
-    (record { inputs_given = refl; latches_kept = refl; tables_met = tt }, tt),
-  ),
-)
-
-input_driven_twice : reading (codes ".model m" ++ (10 ∷ []) ++ codes ".inputs a b a" ++ (10 ∷ []) ++ codes ".end" ++ (10 ∷ [])) ≡ Err (TwoDrivers
-    (codes "a"))
-input_driven_twice = refl
-
-output_twice : reading (codes ".model m" ++ (10 ∷ []) ++ codes ".inputs a" ++ (10 ∷ []) ++ codes ".outputs a a" ++ (10 ∷ []) ++ codes ".end" ++ (10 ∷
-    [])) ≡ Ok (record { name = (codes "m"); inputs = ((codes "a") ∷ []); outputs = ((codes "a") ∷ (codes "a") ∷ []); latches = ([]); tables = ([]) })
-output_twice = refl
-
-output_twice_runs : IsRun (record {
-  name = (codes "m");
-  inputs = ((codes "a") ∷ []);
-  outputs = ((codes "a") ∷ (codes "a") ∷ []);
-  latches = ([]);
-  tables = ([]);
-}) (Event (false ∷ []) ∷ Event (false ∷ []) ∷ Event (true ∷ []) ∷ Event (true ∷ []) ∷ []) (just ([]) ∷ just ([]) ∷ just ((codes "a")
-    ∷ []) ∷ just ((codes "a") ∷ []) ∷ [])
-output_twice_runs = (
   record { inputs_given = refl; latches_kept = refl; tables_met = tt },
   (
     record {
@@ -128,37 +280,71 @@ output_twice_runs = (
   ),
 )
 
-latch : reading (codes ".model m" ++ (10 ∷ []) ++ codes ".latch a b 0" ++ (10 ∷ []) ++ codes ".latch b a 1" ++ (10 ∷ []) ++ codes ".outputs a b" ++
-    (10 ∷ []) ++ codes ".end" ++ (10 ∷ [])) ≡ Ok (record {
-      name = (codes "m");
-      inputs = ([]);
-      outputs = ((codes "a") ∷ (codes "b") ∷ []);
-      latches =
-          (record { source = (codes "a"); target = (codes "b"); init = false } ∷ record { source = (codes "b"); target = (codes "a"); init = true } ∷ []);
-      tables = ([]);
-    })
-latch = refl
+abbrev inputs_twice_circuit : Circuit
+inputs_twice_circuit = circuit (codes "m") (codes "a" ∷ codes "b" ∷ codes "c" ∷ []) (codes "b" ∷ codes "a" ∷
+    codes "a" ∷ []) [] []
 
-latch_runs : IsRun (record {
-  name = (codes "m");
-  inputs = ([]);
-  outputs = ((codes "a") ∷ (codes "b") ∷ []);
-  latches = (record {
-    source = (codes "a");
-    target = (codes "b");
-    init = false;
-  } ∷ record { source = (codes "b"); target = (codes "a"); init = true } ∷ []);
-  tables = ([]);
-}) (Event ([]) ∷
-    Event ([]) ∷ Event ([]) ∷ Reset ∷ []) (just ((codes "a") ∷ []) ∷ just ((codes "b") ∷ []) ∷ just ((codes "a") ∷ []) ∷ [])
-latch_runs = (
+inputs_twice : reading (codes ".model m" ++ (10 ∷ []) ++ codes ".inputs a" ++ (10 ∷ []) ++ codes ".outputs b a" ++ (10 ∷ []) ++ codes ".inputs b c" ++
+    (10 ∷ []) ++ codes ".outputs a" ++ (10 ∷ []) ++ codes ".end" ++ (10 ∷ [])) ≡ Ok inputs_twice_circuit
+inputs_twice = refl
+
+inputs_twice_runs : IsRun inputs_twice_circuit (Event (false ∷ false ∷ true ∷ []) ∷ Reset ∷ Event (true ∷ false ∷ true ∷ []) ∷ Reset ∷ Event (false ∷
+    true ∷ false ∷ []) ∷ []) (just (codes "c" ∷ []) ∷ just (codes "a" ∷ codes "c" ∷ []) ∷ just (codes "b" ∷ []) ∷ [])
+inputs_twice_runs = (
   record { inputs_given = refl; latches_kept = refl; tables_met = tt },
   (
     record {
       inputs_given = refl;
       latches_kept = refl;
-      tables_met =
-          tt;
+      tables_met = tt;
+    },
+    (record { inputs_given = refl; latches_kept = refl; tables_met = tt }, tt),
+  ),
+)
+
+input_driven_twice : reading (codes ".model m" ++ (10 ∷ []) ++ codes ".inputs a b a" ++ (10 ∷ []) ++ codes ".end" ++ (10 ∷ [])) ≡ Err (TwoDrivers
+    (codes "a"))
+input_driven_twice = refl
+
+abbrev output_twice_circuit : Circuit
+output_twice_circuit = circuit (codes "m") (codes "a" ∷ []) (codes "a" ∷ codes "a" ∷ []) [] []
+
+output_twice : reading (codes ".model m" ++ (10 ∷ []) ++ codes ".inputs a" ++ (10 ∷ []) ++ codes ".outputs a a" ++ (10 ∷ []) ++ codes ".end" ++ (10 ∷
+    [])) ≡ Ok output_twice_circuit
+output_twice = refl
+
+output_twice_runs : IsRun output_twice_circuit (Reset ∷ Event (false ∷ []) ∷ Event (true ∷ []) ∷ Event (false ∷ []) ∷ []) (just [] ∷ just (codes "a" ∷
+    []) ∷ just [] ∷ [])
+output_twice_runs = (
+  record { inputs_given = refl; latches_kept = refl; tables_met = tt },
+  (
+    record {
+      inputs_given = refl;
+      latches_kept = refl;
+      tables_met = tt;
+    },
+    (record { inputs_given = refl; latches_kept = refl; tables_met = tt }, tt),
+  ),
+)
+
+abbrev one_latch_circuit : Circuit
+one_latch_circuit = circuit (codes "m") [] (codes "a" ∷ codes "b" ∷ []) (latch (codes "a") (codes "b") false ∷
+    latch (codes "b") (codes "a") true ∷ []) []
+
+one_latch : reading (codes ".model m" ++ (10 ∷ []) ++ codes ".latch a b 0" ++ (10 ∷ []) ++ codes ".latch b a 1" ++ (10 ∷ []) ++ codes ".outputs a b"
+    ++ (10 ∷ []) ++ codes ".end" ++ (10 ∷ [])) ≡ Ok one_latch_circuit
+one_latch = refl
+
+one_latch_runs : IsRun one_latch_circuit (Event [] ∷ Event [] ∷ Event [] ∷ []) (just (codes "a" ∷ []) ∷ just (codes "b" ∷ []) ∷ just (codes "a" ∷ [])
+    ∷ [])
+one_latch_runs = (
+  record { inputs_given = refl; latches_kept = refl; tables_met = tt },
+  (
+    record {
+      inputs_given = refl;
+      latches_kept = refl;
+      tables_met
+          = tt;
     },
     (record { inputs_given = refl; latches_kept = refl; tables_met = tt }, tt),
   ),
@@ -184,34 +370,14 @@ latch_init_00 : reading (codes ".model m" ++ (10 ∷ []) ++ codes ".inputs a" ++
     ∷ [])) ≡ Err (Line 3)
 latch_init_00 = refl
 
+abbrev latch_self_circuit : Circuit
+latch_self_circuit = circuit (codes "m") [] (codes "a" ∷ []) (latch (codes "a") (codes "a") true ∷ []) []
+
 latch_self : reading (codes ".model m" ++ (10 ∷ []) ++ codes ".latch a a 1" ++ (10 ∷ []) ++ codes ".outputs a" ++ (10 ∷ []) ++ codes ".end" ++ (10 ∷
-    [])) ≡ Ok (record {
-      name = (codes "m");
-      inputs = ([]);
-      outputs = ((codes "a") ∷ []);
-      latches = (record {
-        source = (codes "a");
-        target = (codes
-            "a");
-        init = true;
-      } ∷ []);
-      tables = ([]);
-    })
+    [])) ≡ Ok latch_self_circuit
 latch_self = refl
 
-latch_self_runs : IsRun (record {
-  name = (codes "m");
-  inputs = ([]);
-  outputs = ((codes "a") ∷ []);
-  latches = (record {
-    source = (codes "a");
-    target =
-        (codes "a");
-    init = true;
-  } ∷ []);
-  tables = ([]);
-}) (Event ([]) ∷ Event ([]) ∷ Event ([]) ∷ Event ([]) ∷ []) (just ((codes "a") ∷ []) ∷ just
-    ((codes "a") ∷ []) ∷ just ((codes "a") ∷ []) ∷ just ((codes "a") ∷ []) ∷ [])
+latch_self_runs : IsRun latch_self_circuit (Event [] ∷ Reset ∷ Event [] ∷ Reset ∷ []) (just (codes "a" ∷ []) ∷ just (codes "a" ∷ []) ∷ [])
 latch_self_runs = (
   record { inputs_given = refl; latches_kept = refl; tables_met = tt },
   (
@@ -220,51 +386,21 @@ latch_self_runs = (
       latches_kept = refl;
       tables_met = tt;
     },
-    (
-      record { inputs_given = refl; latches_kept = refl; tables_met = tt },
-      (
-        record {
-          inputs_given = refl;
-          latches_kept = refl;
-          tables_met = tt;
-        },
-        tt,
-      ),
-    ),
+    tt,
   ),
 )
 
 names_none : reading (codes ".model m" ++ (10 ∷ []) ++ codes ".names" ++ (10 ∷ []) ++ codes ".end" ++ (10 ∷ [])) ≡ Err (Line 2)
 names_none = refl
 
+abbrev names_one_false_circuit : Circuit
+names_one_false_circuit = circuit (codes "m") [] (codes "x" ∷ []) [] (table [] (codes "x") [] ∷ [])
+
 names_one_false : reading (codes ".model m" ++ (10 ∷ []) ++ codes ".outputs x" ++ (10 ∷ []) ++ codes ".names x" ++ (10 ∷ []) ++ codes ".end" ++ (10 ∷
-    [])) ≡ Ok (record {
-      name = (codes "m");
-      inputs = ([]);
-      outputs = ((codes "x") ∷ []);
-      latches = ([]);
-      tables = (record {
-        inputs = ([]);
-        output =
-            (codes "x");
-        rows = ([]);
-      } ∷ []);
-    })
+    [])) ≡ Ok names_one_false_circuit
 names_one_false = refl
 
-names_one_false_runs : IsRun (record {
-  name = (codes "m");
-  inputs = ([]);
-  outputs = ((codes "x") ∷ []);
-  latches = ([]);
-  tables = (record {
-    inputs =
-        ([]);
-    output = (codes "x");
-    rows = ([]);
-  } ∷ []);
-}) (Event ([]) ∷ Event ([]) ∷ Event ([]) ∷ Reset ∷ Event ([]) ∷ []) (just ([]) ∷ just ([]) ∷ just
-    ([]) ∷ just ([]) ∷ [])
+names_one_false_runs : IsRun names_one_false_circuit (Event [] ∷ Event [] ∷ Event [] ∷ Event [] ∷ []) (just [] ∷ just [] ∷ just [] ∷ just [] ∷ [])
 names_one_false_runs = (
   record { inputs_given = refl; latches_kept = refl; tables_met = (refl, tt) },
   (
@@ -288,33 +424,15 @@ names_one_false_runs = (
   ),
 )
 
+abbrev names_one_true_circuit : Circuit
+names_one_true_circuit = circuit (codes "m") [] (codes "x" ∷ []) [] (table [] (codes "x") ([] ∷ []) ∷ [])
+
 names_one_true : reading (codes ".model m" ++ (10 ∷ []) ++ codes ".outputs x" ++ (10 ∷ []) ++ codes ".names x" ++ (10 ∷ []) ++ codes "1" ++ (10 ∷ [])
-    ++ codes ".end" ++ (10 ∷ [])) ≡ Ok (record {
-      name = (codes "m");
-      inputs = ([]);
-      outputs = ((codes "x") ∷ []);
-      latches = ([]);
-      tables = (record {
-        inputs = ([]);
-        output = (codes "x");
-        rows = (([]) ∷ []);
-      } ∷ []);
-    })
+    ++ codes ".end" ++ (10 ∷ [])) ≡ Ok names_one_true_circuit
 names_one_true = refl
 
-names_one_true_runs : IsRun (record {
-  name = (codes "m");
-  inputs = ([]);
-  outputs = ((codes "x") ∷ []);
-  latches = ([]);
-  tables = (record {
-    inputs =
-        ([]);
-    output = (codes "x");
-    rows = (([]) ∷ []);
-  } ∷ []);
-}) (Event ([]) ∷ Event ([]) ∷ Reset ∷ Event ([]) ∷ []) (just ((codes "x") ∷ []) ∷ just
-    ((codes "x") ∷ []) ∷ just ((codes "x") ∷ []) ∷ [])
+names_one_true_runs : IsRun names_one_true_circuit (Event [] ∷ Event [] ∷ Event [] ∷ []) (just (codes "x" ∷ []) ∷ just (codes "x" ∷ []) ∷ just (codes
+    "x" ∷ []) ∷ [])
 names_one_true_runs = (
   record { inputs_given = refl; latches_kept = refl; tables_met = (refl, tt) },
   (
@@ -328,29 +446,16 @@ names_one_true_runs = (
   ),
 )
 
+abbrev names_one_true_twice_circuit : Circuit
+names_one_true_twice_circuit = circuit (codes "m") [] (codes "x" ∷ []) [] (table [] (codes "x") ([] ∷ []
+    ∷ []) ∷ [])
+
 names_one_true_twice : reading (codes ".model m" ++ (10 ∷ []) ++ codes ".outputs x" ++ (10 ∷ []) ++ codes ".names x" ++ (10 ∷ []) ++ codes "1" ++ (10
-    ∷ []) ++ codes "1" ++ (10 ∷ []) ++ codes ".end" ++ (10 ∷ [])) ≡ Ok (record {
-      name = (codes "m");
-      inputs = ([]);
-      outputs = ((codes "x") ∷ []);
-      latches = ([]);
-      tables = (record { inputs = ([]); output = (codes "x"); rows = (([]) ∷ ([]) ∷ []) } ∷ []);
-    })
+    ∷ []) ++ codes "1" ++ (10 ∷ []) ++ codes ".end" ++ (10 ∷ [])) ≡ Ok names_one_true_twice_circuit
 names_one_true_twice = refl
 
-names_one_true_twice_runs : IsRun (record {
-  name = (codes "m");
-  inputs = ([]);
-  outputs = ((codes "x") ∷ []);
-  latches = ([]);
-  tables = (record {
-    inputs
-        = ([]);
-    output = (codes "x");
-    rows = (([]) ∷ ([]) ∷ []);
-  } ∷ []);
-}) (Event ([]) ∷ Reset ∷ Event ([]) ∷ []) (just ((codes "x") ∷ []) ∷ just ((codes
-    "x") ∷ []) ∷ [])
+names_one_true_twice_runs : IsRun names_one_true_twice_circuit (Event [] ∷ Reset ∷ Reset ∷ Event [] ∷ Event [] ∷ []) (just (codes "x" ∷ []) ∷ just
+    (codes "x" ∷ []) ∷ just (codes "x" ∷ []) ∷ [])
 names_one_true_twice_runs = (
   record { inputs_given = refl; latches_kept = refl; tables_met = (refl, tt) },
   (
@@ -360,7 +465,7 @@ names_one_true_twice_runs = (
           = refl;
       tables_met = (refl, tt);
     },
-    tt,
+    (record { inputs_given = refl; latches_kept = refl; tables_met = (refl, tt) }, tt),
   ),
 )
 
@@ -372,214 +477,25 @@ names_one_row_two_words : reading (codes ".model m" ++ (10 ∷ []) ++ codes ".ou
     (10 ∷ []) ++ codes ".end" ++ (10 ∷ [])) ≡ Err (Line 4)
 names_one_row_two_words = refl
 
+abbrev names_nine_circuit : Circuit
+names_nine_circuit = circuit (codes "m") (codes "a" ∷ codes "b" ∷ codes "c" ∷ codes "d" ∷ codes "e" ∷ codes "f" ∷
+    codes "g" ∷ codes "h" ∷ []) (codes "x" ∷ []) [] (table (codes "a" ∷ codes "b" ∷ codes "c" ∷ codes "d" ∷ codes "e" ∷ codes "f" ∷ codes "g" ∷ codes
+    "h" ∷ []) (codes "x") ((Zero ∷ One ∷ Any ∷ Zero ∷ One ∷ Any ∷ Zero ∷ One ∷ []) ∷ []) ∷ [])
+
 names_nine : reading (codes ".model m" ++ (10 ∷ []) ++ codes ".inputs a b c d e f g h" ++ (10 ∷ []) ++ codes ".outputs x" ++ (10 ∷ []) ++ codes
-    ".names a b c d e f g h x" ++ (10 ∷ []) ++ codes "01-01-01 1" ++ (10 ∷ []) ++ codes ".end" ++ (10 ∷ [])) ≡ Ok (record {
-      name = (codes "m");
-      inputs
-          = ((codes "a") ∷ (codes "b") ∷ (codes "c") ∷ (codes "d") ∷ (codes "e") ∷ (codes "f") ∷ (codes "g") ∷ (codes "h") ∷ []);
-      outputs = ((codes "x") ∷
-          []);
-      latches = ([]);
-      tables = (record {
-        inputs = ((codes "a") ∷ (codes "b") ∷ (codes "c") ∷ (codes "d") ∷ (codes "e") ∷ (codes "f") ∷ (codes "g")
-            ∷ (codes "h") ∷ []);
-        output = (codes "x");
-        rows = ((Zero ∷ One ∷ Any ∷ Zero ∷ One ∷ Any ∷ Zero ∷ One ∷ []) ∷ []);
-      } ∷ []);
-    })
+    ".names a b c d e f g h x" ++ (10 ∷ []) ++ codes "01-01-01 1" ++ (10 ∷ []) ++ codes ".end" ++ (10 ∷ [])) ≡ Ok names_nine_circuit
 names_nine = refl
 
-names_nine_runs : IsRun (record {
-  name = (codes "m");
-  inputs = ((codes "a") ∷ (codes "b") ∷ (codes "c") ∷ (codes "d") ∷ (codes "e") ∷ (codes "f") ∷
-      (codes "g") ∷ (codes "h") ∷ []);
-  outputs = ((codes "x") ∷ []);
-  latches = ([]);
-  tables = (record {
-    inputs = ((codes "a") ∷ (codes "b") ∷ (codes
-        "c") ∷ (codes "d") ∷ (codes "e") ∷ (codes "f") ∷ (codes "g") ∷ (codes "h") ∷ []);
-    output = (codes "x");
-    rows = ((Zero ∷ One ∷ Any ∷ Zero ∷ One ∷
-        Any ∷ Zero ∷ One ∷ []) ∷ []);
-  } ∷ []);
-}) (Event (false ∷ true ∷ false ∷ false ∷ true ∷ false ∷ false ∷ true ∷ []) ∷ Reset ∷ Event (false ∷ false ∷
-    false ∷ false ∷ false ∷ false ∷ false ∷ true ∷ []) ∷ Event (true ∷ false ∷ true ∷ false ∷ true ∷ false ∷ true ∷ false ∷ []) ∷ Reset ∷ []) (just
-    ((codes "b") ∷ (codes "e") ∷ (codes "h") ∷ (codes "x") ∷ []) ∷ just ((codes "h") ∷ []) ∷ just ((codes "a") ∷ (codes "c") ∷ (codes "e") ∷ (codes
-    "g") ∷ []) ∷ [])
+names_nine_runs : IsRun names_nine_circuit (Event (true ∷ true ∷ true ∷ false ∷ false ∷ true ∷ true ∷ false ∷ []) ∷ Event (true ∷ false ∷ false ∷
+    false ∷ false ∷ true ∷ false ∷ false ∷ []) ∷ Event (false ∷ false ∷ true ∷ false ∷ true ∷ false ∷ true ∷ true ∷ []) ∷ Reset ∷ Event (false ∷ false
+    ∷ true ∷ false ∷ true ∷ true ∷ false ∷ false ∷ []) ∷ []) (just (codes "a" ∷ codes "b" ∷ codes "c" ∷ codes "f" ∷ codes "g" ∷ []) ∷ just (codes "a"
+    ∷ codes "f" ∷ []) ∷ just (codes "c" ∷ codes "e" ∷ codes "g" ∷ codes "h" ∷ []) ∷ just (codes "c" ∷ codes "e" ∷ codes "f" ∷ []) ∷ [])
 names_nine_runs = (
   record { inputs_given = refl; latches_kept = refl; tables_met = (refl, tt) },
   (
     record {
       inputs_given = refl;
       latches_kept = refl;
-      tables_met = (refl, tt);
-    },
-    (record { inputs_given = refl; latches_kept = refl; tables_met = (refl, tt) }, tt),
-  ),
-)
-
-names_ten : reading (codes ".model m" ++ (10 ∷ []) ++ codes ".inputs a b c d e f g h i" ++ (10 ∷ []) ++ codes ".names a b c d e f g h i x" ++ (10 ∷
-    []) ++ codes ".end" ++ (10 ∷ [])) ≡ Err (Line 3)
-names_ten = refl
-
-row_narrow : reading (codes ".model m" ++ (10 ∷ []) ++ codes ".inputs a b" ++ (10 ∷ []) ++ codes ".names a b x" ++ (10 ∷ []) ++ codes "1 1" ++ (10 ∷
-    []) ++ codes ".end" ++ (10 ∷ [])) ≡ Err (Line 4)
-row_narrow = refl
-
-row_wide : reading (codes ".model m" ++ (10 ∷ []) ++ codes ".inputs a b" ++ (10 ∷ []) ++ codes ".names a b x" ++ (10 ∷ []) ++ codes "11 1" ++ (10 ∷
-    []) ++ codes "111 1" ++ (10 ∷ []) ++ codes ".end" ++ (10 ∷ [])) ≡ Err (Line 5)
-row_wide = refl
-
-row_output_0 : reading (codes ".model m" ++ (10 ∷ []) ++ codes ".inputs a" ++ (10 ∷ []) ++ codes ".names a x" ++ (10 ∷ []) ++ codes "1 0" ++ (10 ∷ [])
-    ++ codes ".end" ++ (10 ∷ [])) ≡ Err (Line 4)
-row_output_0 = refl
-
-row_no_output : reading (codes ".model m" ++ (10 ∷ []) ++ codes ".inputs a" ++ (10 ∷ []) ++ codes ".names a x" ++ (10 ∷ []) ++ codes "1" ++ (10 ∷ [])
-    ++ codes ".end" ++ (10 ∷ [])) ≡ Err (Line 4)
-row_no_output = refl
-
-row_bad_cell : reading (codes ".model m" ++ (10 ∷ []) ++ codes ".inputs a" ++ (10 ∷ []) ++ codes ".names a x" ++ (10 ∷ []) ++ codes "2 1" ++ (10 ∷ [])
-    ++ codes ".end" ++ (10 ∷ [])) ≡ Err (Line 4)
-row_bad_cell = refl
-
-row_three_words : reading (codes ".model m" ++ (10 ∷ []) ++ codes ".inputs a b" ++ (10 ∷ []) ++ codes ".names a b x" ++ (10 ∷ []) ++ codes "1 1 1" ++
-    (10 ∷ []) ++ codes ".end" ++ (10 ∷ [])) ≡ Err (Line 4)
-row_three_words = refl
-
-row_third_word : reading (codes ".model m" ++ (10 ∷ []) ++ codes ".inputs a" ++ (10 ∷ []) ++ codes ".names a x" ++ (10 ∷ []) ++ codes "1 1 1" ++ (10 ∷
-    []) ++ codes ".outputs x" ++ (10 ∷ []) ++ codes ".end" ++ (10 ∷ [])) ≡ Err (Line 4)
-row_third_word = refl
-
-row_first : reading (codes "1 1" ++ (10 ∷ []) ++ codes ".model m" ++ (10 ∷ []) ++ codes ".end" ++ (10 ∷ [])) ≡ Err (Line 1)
-row_first = refl
-
-row_after_model : reading (codes ".model m" ++ (10 ∷ []) ++ codes "1" ++ (10 ∷ []) ++ codes ".end" ++ (10 ∷ [])) ≡ Err (Line 2)
-row_after_model = refl
-
-row_after_inputs : reading (codes ".model m" ++ (10 ∷ []) ++ codes ".inputs a" ++ (10 ∷ []) ++ codes ".names a x" ++ (10 ∷ []) ++ codes "1 1" ++ (10 ∷
-    []) ++ codes ".outputs x" ++ (10 ∷ []) ++ codes "1 1" ++ (10 ∷ []) ++ codes ".end" ++ (10 ∷ [])) ≡ Err (Line 6)
-row_after_inputs = refl
-
-row_after_end : reading (codes ".model m" ++ (10 ∷ []) ++ codes ".names x" ++ (10 ∷ []) ++ codes ".end" ++ (10 ∷ []) ++ codes "1" ++ (10 ∷ [])) ≡ Err
-    (Line 4)
-row_after_end = refl
-
-row_after_comment : reading (codes ".model m" ++ (10 ∷ []) ++ codes ".inputs a" ++ (10 ∷ []) ++ codes ".names a x" ++ (10 ∷ []) ++ codes "# c" ++ (10
-    ∷ []) ++ (10 ∷ []) ++ codes "1 1" ++ (10 ∷ []) ++ codes ".outputs x" ++ (10 ∷ []) ++ codes ".end" ++ (10 ∷ [])) ≡ Ok (record {
-      name = (codes "m");
-      inputs = ((codes "a") ∷ []);
-      outputs = ((codes "x") ∷ []);
-      latches = ([]);
-      tables = (record {
-        inputs = ((codes "a") ∷ []);
-        output = (codes "x");
-        rows = ((One ∷ []) ∷ []);
-      } ∷ []);
-    })
-row_after_comment = refl
-
-row_after_comment_runs : IsRun (record {
-  name = (codes "m");
-  inputs = ((codes "a") ∷ []);
-  outputs = ((codes "x") ∷ []);
-  latches = ([]);
-  tables =
-      (record { inputs = ((codes "a") ∷ []); output = (codes "x"); rows = ((One ∷ []) ∷ []) } ∷ []);
-}) (Reset ∷ Event (false ∷ []) ∷ Event (false ∷ [])
-    ∷ Event (false ∷ []) ∷ []) (just ([]) ∷ just ([]) ∷ just ([]) ∷ [])
-row_after_comment_runs = (
-  record { inputs_given = refl; latches_kept = refl; tables_met = (refl, tt) },
-  (
-    record {
-      inputs_given = refl;
-      latches_kept =
-          refl;
-      tables_met = (refl, tt);
-    },
-    (record { inputs_given = refl; latches_kept = refl; tables_met = (refl, tt) }, tt),
-  ),
-)
-
-rows_of_two : reading (codes ".model m" ++ (10 ∷ []) ++ codes ".inputs a b" ++ (10 ∷ []) ++ codes ".names a x" ++ (10 ∷ []) ++ codes "1 1" ++ (10 ∷
-    []) ++ codes ".names a b y" ++ (10 ∷ []) ++ codes "1- 1" ++ (10 ∷ []) ++ codes "-1 1" ++ (10 ∷ []) ++ codes ".outputs x y" ++ (10 ∷ []) ++ codes
-    ".end" ++ (10 ∷ [])) ≡ Ok (record {
-      name = (codes "m");
-      inputs = ((codes "a") ∷ (codes "b") ∷ []);
-      outputs = ((codes "x") ∷ (codes "y") ∷ []);
-      latches = ([]);
-      tables = (record { inputs = ((codes "a") ∷ []); output = (codes "x"); rows = ((One ∷ []) ∷ []) } ∷ record {
-        inputs = ((codes "a")
-            ∷ (codes "b") ∷ []);
-        output = (codes "y");
-        rows = ((One ∷ Any ∷ []) ∷ (Any ∷ One ∷ []) ∷ []);
-      } ∷ []);
-    })
-rows_of_two = refl
-
-rows_of_two_runs : IsRun (record {
-  name = (codes "m");
-  inputs = ((codes "a") ∷ (codes "b") ∷ []);
-  outputs = ((codes "x") ∷ (codes "y") ∷ []);
-  latches
-      = ([]);
-  tables = (record { inputs = ((codes "a") ∷ []); output = (codes "x"); rows = ((One ∷ []) ∷ []) } ∷ record {
-    inputs = ((codes "a") ∷ (codes
-        "b") ∷ []);
-    output = (codes "y");
-    rows = ((One ∷ Any ∷ []) ∷ (Any ∷ One ∷ []) ∷ []);
-  } ∷ []);
-}) (Reset ∷ Event (false ∷ true ∷ []) ∷ Reset ∷ Event
-    (true ∷ false ∷ []) ∷ Event (true ∷ false ∷ []) ∷ []) (just ((codes "b") ∷ (codes "y") ∷ []) ∷ just ((codes "a") ∷ (codes "x") ∷ (codes "y") ∷ [])
-    ∷ just ((codes "a") ∷ (codes "x") ∷ (codes "y") ∷ []) ∷ [])
-rows_of_two_runs = (
-  record { inputs_given = refl; latches_kept = refl; tables_met = (refl, (refl, tt)) },
-  (
-    record {
-      inputs_given = refl;
-      latches_kept
-          = refl;
-      tables_met = (refl, (refl, tt));
-    },
-    (record { inputs_given = refl; latches_kept = refl; tables_met = (refl, (refl, tt)) }, tt),
-  ),
-)
-
-row_width_of_other_table : reading (codes ".model m" ++ (10 ∷ []) ++ codes ".inputs a b" ++ (10 ∷ []) ++ codes ".names a x" ++ (10 ∷ []) ++ codes "1 1"
-    ++ (10 ∷ []) ++ codes ".names a b y" ++ (10 ∷ []) ++ codes "1 1" ++ (10 ∷ []) ++ codes ".end" ++ (10 ∷ [])) ≡ Err (Line 6)
-row_width_of_other_table = refl
-
-row_of_dashes : reading (codes ".model m" ++ (10 ∷ []) ++ codes ".inputs a b" ++ (10 ∷ []) ++ codes ".names a b x" ++ (10 ∷ []) ++ codes "-- 1" ++ (10
-    ∷ []) ++ codes ".outputs x" ++ (10 ∷ []) ++ codes ".end" ++ (10 ∷ [])) ≡ Ok (record {
-      name = (codes "m");
-      inputs = ((codes "a") ∷ (codes "b") ∷
-          []);
-      outputs = ((codes "x") ∷ []);
-      latches = ([]);
-      tables = (record {
-        inputs = ((codes "a") ∷ (codes "b") ∷ []);
-        output = (codes "x");
-        rows =
-            ((Any ∷ Any ∷ []) ∷ []);
-      } ∷ []);
-    })
-row_of_dashes = refl
-
-row_of_dashes_runs : IsRun (record {
-  name = (codes "m");
-  inputs = ((codes "a") ∷ (codes "b") ∷ []);
-  outputs = ((codes "x") ∷ []);
-  latches = ([]);
-  tables = (record { inputs = ((codes "a") ∷ (codes "b") ∷ []); output = (codes "x"); rows = ((Any ∷ Any ∷ []) ∷ []) } ∷ []);
-}) (Event (false ∷
-    false ∷ []) ∷ Event (false ∷ false ∷ []) ∷ Event (true ∷ true ∷ []) ∷ Reset ∷ Event (true ∷ true ∷ []) ∷ []) (just ((codes "x") ∷ []) ∷ just
-    ((codes "x") ∷ []) ∷ just ((codes "a") ∷ (codes "b") ∷ (codes "x") ∷ []) ∷ just ((codes "a") ∷ (codes "b") ∷ (codes "x") ∷ []) ∷ [])
-row_of_dashes_runs = (
-  record { inputs_given = refl; latches_kept = refl; tables_met = (refl, tt) },
-  (
-    record {
-      inputs_given = refl;
-      latches_kept =
-          refl;
       tables_met = (refl, tt);
     },
     (
@@ -596,314 +512,6 @@ row_of_dashes_runs = (
   ),
 )
 
-unknown_directive : reading (codes ".model m" ++ (10 ∷ []) ++ codes ".subckt n a=b" ++ (10 ∷ []) ++ codes ".end" ++ (10 ∷ [])) ≡ Err (Line 2)
-unknown_directive = refl
-
-exdc : reading (codes ".model m" ++ (10 ∷ []) ++ codes ".exdc" ++ (10 ∷ []) ++ codes ".end" ++ (10 ∷ [])) ≡ Err (Line 2)
-exdc = refl
-
-upper_case : reading (codes ".MODEL m" ++ (10 ∷ []) ++ codes ".end" ++ (10 ∷ [])) ≡ Err (Line 1)
-upper_case = refl
-
-two_drivers_table : reading (codes ".model m" ++ (10 ∷ []) ++ codes ".inputs a" ++ (10 ∷ []) ++ codes ".names a" ++ (10 ∷ []) ++ codes "1" ++ (10 ∷
-    []) ++ codes ".end" ++ (10 ∷ [])) ≡ Err (TwoDrivers (codes "a"))
-two_drivers_table = refl
-
-two_drivers_latch : reading (codes ".model m" ++ (10 ∷ []) ++ codes ".inputs a b" ++ (10 ∷ []) ++ codes ".latch a b 0" ++ (10 ∷ []) ++ codes ".end" ++
-    (10 ∷ [])) ≡ Err (TwoDrivers (codes "b"))
-two_drivers_latch = refl
-
-two_drivers_tables : reading (codes ".model m" ++ (10 ∷ []) ++ codes ".names y" ++ (10 ∷ []) ++ codes ".names x" ++ (10 ∷ []) ++ codes ".names x" ++
-    (10 ∷ []) ++ codes "1" ++ (10 ∷ []) ++ codes ".names y" ++ (10 ∷ []) ++ codes ".end" ++ (10 ∷ [])) ≡ Err (TwoDrivers (codes "x"))
-two_drivers_tables = refl
-
-two_drivers_before_none : reading (codes ".model m" ++ (10 ∷ []) ++ codes ".outputs z" ++ (10 ∷ []) ++ codes ".names x" ++ (10 ∷ []) ++ codes ".names x"
-    ++ (10 ∷ []) ++ codes ".end" ++ (10 ∷ [])) ≡ Err (TwoDrivers (codes "x"))
-two_drivers_before_none = refl
-
-line_before_two_drivers : reading (codes ".model m" ++ (10 ∷ []) ++ codes ".names x" ++ (10 ∷ []) ++ codes ".names x" ++ (10 ∷ []) ++ codes ".foo" ++
-    (10 ∷ []) ++ codes ".end" ++ (10 ∷ [])) ≡ Err (Line 4)
-line_before_two_drivers = refl
-
-no_driver_output : reading (codes ".model m" ++ (10 ∷ []) ++ codes ".outputs x" ++ (10 ∷ []) ++ codes ".end" ++ (10 ∷ [])) ≡ Err (NoDriver (codes
-    "x"))
-no_driver_output = refl
-
-no_driver_latch : reading (codes ".model m" ++ (10 ∷ []) ++ codes ".latch a b 0" ++ (10 ∷ []) ++ codes ".end" ++ (10 ∷ [])) ≡ Err (NoDriver (codes
-    "a"))
-no_driver_latch = refl
-
-no_driver_table : reading (codes ".model m" ++ (10 ∷ []) ++ codes ".names c b x" ++ (10 ∷ []) ++ codes ".end" ++ (10 ∷ [])) ≡ Err (NoDriver (codes
-    "c"))
-no_driver_table = refl
-
-no_driver_first : reading (codes ".model m" ++ (10 ∷ []) ++ codes ".latch a b 0" ++ (10 ∷ []) ++ codes ".names c d x" ++ (10 ∷ []) ++ codes ".outputs e"
-    ++ (10 ∷ []) ++ codes ".end" ++ (10 ∷ [])) ≡ Err (NoDriver (codes "a"))
-no_driver_first = refl
-
-driver_later : reading (codes ".model m" ++ (10 ∷ []) ++ codes ".outputs x" ++ (10 ∷ []) ++ codes ".latch y z 1" ++ (10 ∷ []) ++ codes ".names z x" ++
-    (10 ∷ []) ++ codes "1 1" ++ (10 ∷ []) ++ codes ".names x y" ++ (10 ∷ []) ++ codes "0 1" ++ (10 ∷ []) ++ codes ".end" ++ (10 ∷ [])) ≡ Ok (record {
-      name = (codes "m");
-      inputs = ([]);
-      outputs = ((codes "x") ∷ []);
-      latches = (record { source = (codes "y"); target = (codes "z"); init = true } ∷
-          []);
-      tables = (record { inputs = ((codes "z") ∷ []); output = (codes "x"); rows = ((One ∷ []) ∷ []) } ∷ record {
-        inputs = ((codes "x") ∷ []);
-        output = (codes "y");
-        rows = ((Zero ∷ []) ∷ []);
-      } ∷ []);
-    })
-driver_later = refl
-
-driver_later_runs : IsRun (record {
-  name = (codes "m");
-  inputs = ([]);
-  outputs = ((codes "x") ∷ []);
-  latches = (record {
-    source = (codes "y");
-    target
-        = (codes "z");
-    init = true;
-  } ∷ []);
-  tables = (record { inputs = ((codes "z") ∷ []); output = (codes "x"); rows = ((One ∷ []) ∷ []) } ∷ record {
-    inputs = ((codes "x") ∷ []);
-    output = (codes "y");
-    rows = ((Zero ∷ []) ∷ []);
-  } ∷ []);
-}) (Event ([]) ∷ Event ([]) ∷ Event ([]) ∷ Event ([]) ∷ Reset
-    ∷ []) (just ((codes "z") ∷ (codes "x") ∷ []) ∷ just ((codes "y") ∷ []) ∷ just ((codes "z") ∷ (codes "x") ∷ []) ∷ just ((codes "y") ∷ []) ∷ [])
-driver_later_runs = (
-  record { inputs_given = refl; latches_kept = refl; tables_met = (refl, (refl, tt)) },
-  (
-    record {
-      inputs_given = refl;
-      latches_kept
-          = refl;
-      tables_met = (refl, (refl, tt));
-    },
-    (
-      record { inputs_given = refl; latches_kept = refl; tables_met = (refl, (refl, tt)) },
-      (
-        record {
-          inputs_given = refl;
-          latches_kept = refl;
-          tables_met = (refl, (refl, tt));
-        },
-        tt,
-      ),
-    ),
-  ),
-)
-
-loop_is_read : reading (codes ".model L" ++ (10 ∷ []) ++ codes ".inputs A" ++ (10 ∷ []) ++ codes ".outputs x" ++ (10 ∷ []) ++ codes ".names A y x" ++
-    (10 ∷ []) ++ codes "11 1" ++ (10 ∷ []) ++ codes ".names x y" ++ (10 ∷ []) ++ codes "1 1" ++ (10 ∷ []) ++ codes ".end" ++ (10 ∷ [])) ≡ Ok (record {
-      name = (codes "L");
-      inputs = ((codes "A") ∷ []);
-      outputs = ((codes "x") ∷ []);
-      latches = ([]);
-      tables = (record {
-        inputs = ((codes "A") ∷ (codes
-            "y") ∷ []);
-        output = (codes "x");
-        rows = ((One ∷ One ∷ []) ∷ []);
-      } ∷ record {
-        inputs = ((codes "x") ∷ []);
-        output = (codes "y");
-        rows = ((One ∷
-            []) ∷ []);
-      } ∷ []);
-    })
-loop_is_read = refl
-
-paper_two_drivers : reading (codes ".model D" ++ (10 ∷ []) ++ codes ".inputs A" ++ (10 ∷ []) ++ codes ".outputs x" ++ (10 ∷ []) ++ codes ".names A x"
-    ++ (10 ∷ []) ++ codes "1 1" ++ (10 ∷ []) ++ codes ".names x" ++ (10 ∷ []) ++ codes "1" ++ (10 ∷ []) ++ codes ".end" ++ (10 ∷ [])) ≡ Err
-    (TwoDrivers (codes "x"))
-paper_two_drivers = refl
-
-paper_width : reading (codes ".model W" ++ (10 ∷ []) ++ codes ".inputs A" ++ (10 ∷ []) ++ codes ".outputs x" ++ (10 ∷ []) ++ codes ".names A x" ++ (10
-    ∷ []) ++ codes "11 1" ++ (10 ∷ []) ++ codes ".end" ++ (10 ∷ [])) ≡ Err (Line 5)
-paper_width = refl
-
-paper_no_end : reading (codes ".model E" ++ (10 ∷ []) ++ codes ".inputs A" ++ (10 ∷ []) ++ codes ".outputs A") ≡ Err (Line 4)
-paper_no_end = refl
-
-paper_no_driver : reading (codes ".model N" ++ (10 ∷ []) ++ codes ".outputs x" ++ (10 ∷ []) ++ codes ".end" ++ (10 ∷ [])) ≡ Err (NoDriver (codes "x"))
-paper_no_driver = refl
-
-paper_row_23 : reading (codes ".model T" ++ (10 ∷ []) ++ codes ".inputs A" ++ (10 ∷ []) ++ codes ".outputs O _paused" ++ (10 ∷ []) ++ codes ".latch _g1 _s0 0"
-    ++ (10 ∷ []) ++ codes ".names A _i0" ++ (10 ∷ []) ++ codes "1 1" ++ (10 ∷ []) ++ codes ".names _i0 _s0 _g0" ++ (10 ∷ []) ++ codes "11 1" ++ (10 ∷
-    []) ++ codes ".names _g0 _g1" ++ (10 ∷ []) ++ codes "0 1" ++ (10 ∷ []) ++ codes ".names _g0 O" ++ (10 ∷ []) ++ codes "1 1" ++ (10 ∷ []) ++ codes
-    ".names _s0 _paused" ++ (10 ∷ []) ++ codes "1 1" ++ (10 ∷ []) ++ codes ".end" ++ (10 ∷ [])) ≡ Ok (record {
-      name = (codes "T");
-      inputs = ((codes
-          "A") ∷ []);
-      outputs = ((codes "O") ∷ (codes "_paused") ∷ []);
-      latches = (record { source = (codes "_g1"); target = (codes "_s0"); init = false } ∷
-          []);
-      tables = (record { inputs = ((codes "A") ∷ []); output = (codes "_i0"); rows = ((One ∷ []) ∷ []) } ∷ record {
-        inputs = ((codes "_i0") ∷
-            (codes "_s0") ∷ []);
-        output = (codes "_g0");
-        rows = ((One ∷ One ∷ []) ∷ []);
-      } ∷ record {
-        inputs = ((codes "_g0") ∷ []);
-        output = (codes "_g1");
-        rows = ((Zero ∷ []) ∷ []);
-      } ∷ record { inputs = ((codes "_g0") ∷ []); output = (codes "O"); rows = ((One ∷ []) ∷ []) } ∷ record {
-        inputs = ((codes
-            "_s0") ∷ []);
-        output = (codes "_paused");
-        rows = ((One ∷ []) ∷ []);
-      } ∷ []);
-    })
-paper_row_23 = refl
-
-paper_row_23_runs : IsRun (record {
-  name = (codes "T");
-  inputs = ((codes "A") ∷ []);
-  outputs = ((codes "O") ∷ (codes "_paused") ∷ []);
-  latches =
-      (record { source = (codes "_g1"); target = (codes "_s0"); init = false } ∷ []);
-  tables = (record {
-    inputs = ((codes "A") ∷ []);
-    output = (codes
-        "_i0");
-    rows = ((One ∷ []) ∷ []);
-  } ∷ record {
-    inputs = ((codes "_i0") ∷ (codes "_s0") ∷ []);
-    output = (codes "_g0");
-    rows = ((One ∷ One ∷ []) ∷
-        []);
-  } ∷ record { inputs = ((codes "_g0") ∷ []); output = (codes "_g1"); rows = ((Zero ∷ []) ∷ []) } ∷ record {
-    inputs = ((codes "_g0") ∷ []);
-    output = (codes "O");
-    rows = ((One ∷ []) ∷ []);
-  } ∷ record { inputs = ((codes "_s0") ∷ []); output = (codes "_paused"); rows = ((One ∷ []) ∷ []) }
-      ∷ []);
-}) (Event (true ∷ []) ∷ Event (true ∷ []) ∷ Event (false ∷ []) ∷ []) (just ((codes "A") ∷ (codes "_i0") ∷ (codes "_g1") ∷ []) ∷ just ((codes
-    "A") ∷ (codes "_s0") ∷ (codes "_i0") ∷ (codes "_g0") ∷ (codes "O") ∷ (codes "_paused") ∷ []) ∷ just ((codes "_g1") ∷ []) ∷ [])
-paper_row_23_runs = (
-  record { inputs_given = refl; latches_kept = refl; tables_met = (refl, (refl, (refl, (refl, (refl, tt))))) },
-  (
-    record {
-      inputs_given = refl;
-      latches_kept = refl;
-      tables_met = (refl, (refl, (refl, (refl, (refl, tt)))));
-    },
-    (
-      record {
-        inputs_given = refl;
-        latches_kept =
-            refl;
-        tables_met = (refl, (refl, (refl, (refl, (refl, tt)))));
-      },
-      tt,
-    ),
-  ),
-)
-
-out_names : reading (codes ".model m" ++ (10 ∷ []) ++ codes ".inputs A X" ++ (10 ∷ []) ++ codes ".outputs X.out O _paused" ++ (10 ∷ []) ++ codes
-    ".names A _i0" ++ (10 ∷ []) ++ codes "1 1" ++ (10 ∷ []) ++ codes ".names X _i1" ++ (10 ∷ []) ++ codes "1 1" ++ (10 ∷ []) ++ codes ".names _i1 X.out"
-    ++ (10 ∷ []) ++ codes "1 1" ++ (10 ∷ []) ++ codes ".names _i0 O" ++ (10 ∷ []) ++ codes "1 1" ++ (10 ∷ []) ++ codes ".names A _paused" ++ (10 ∷ [])
-    ++ codes "1 1" ++ (10 ∷ []) ++ codes ".end" ++ (10 ∷ [])) ≡ Ok (record {
-      name = (codes "m");
-      inputs = ((codes "A") ∷ (codes "X") ∷ []);
-      outputs =
-          ((codes "X.out") ∷ (codes "O") ∷ (codes "_paused") ∷ []);
-      latches = ([]);
-      tables = (record {
-        inputs = ((codes "A") ∷ []);
-        output = (codes "_i0");
-        rows = ((One ∷ []) ∷ []);
-      } ∷ record { inputs = ((codes "X") ∷ []); output = (codes "_i1"); rows = ((One ∷ []) ∷ []) } ∷ record {
-        inputs = ((codes
-            "_i1") ∷ []);
-        output = (codes "X.out");
-        rows = ((One ∷ []) ∷ []);
-      } ∷ record {
-        inputs = ((codes "_i0") ∷ []);
-        output = (codes "O");
-        rows = ((One ∷
-            []) ∷ []);
-      } ∷ record { inputs = ((codes "A") ∷ []); output = (codes "_paused"); rows = ((One ∷ []) ∷ []) } ∷ []);
-    })
-out_names = refl
-
-out_names_runs : IsRun (record {
-  name = (codes "m");
-  inputs = ((codes "A") ∷ (codes "X") ∷ []);
-  outputs = ((codes "X.out") ∷ (codes "O") ∷ (codes
-      "_paused") ∷ []);
-  latches = ([]);
-  tables = (record { inputs = ((codes "A") ∷ []); output = (codes "_i0"); rows = ((One ∷ []) ∷ []) } ∷ record {
-    inputs = ((codes "X") ∷ []);
-    output = (codes "_i1");
-    rows = ((One ∷ []) ∷ []);
-  } ∷ record {
-    inputs = ((codes "_i1") ∷ []);
-    output = (codes
-        "X.out");
-    rows = ((One ∷ []) ∷ []);
-  } ∷ record { inputs = ((codes "_i0") ∷ []); output = (codes "O"); rows = ((One ∷ []) ∷ []) } ∷ record {
-    inputs
-        = ((codes "A") ∷ []);
-    output = (codes "_paused");
-    rows = ((One ∷ []) ∷ []);
-  } ∷ []);
-}) (Event (false ∷ false ∷ []) ∷ Event (false ∷ false ∷ []) ∷
-    Event (false ∷ false ∷ []) ∷ Reset ∷ []) (just ([]) ∷ just ([]) ∷ just ([]) ∷ [])
-out_names_runs = (
-  record { inputs_given = refl; latches_kept = refl; tables_met = (refl, (refl, (refl, (refl, (refl, tt))))) },
-  (
-    record {
-      inputs_given
-          = refl;
-      latches_kept = refl;
-      tables_met = (refl, (refl, (refl, (refl, (refl, tt)))));
-    },
-    (
-      record {
-        inputs_given = refl;
-        latches_kept = refl;
-        tables_met = (refl, (refl, (refl, (refl, (refl, tt)))));
-      },
-      tt,
-    ),
-  ),
-)
-
-reset_name : reading (codes ".model R" ++ (10 ∷ []) ++ codes ".inputs !reset" ++ (10 ∷ []) ++ codes ".outputs x" ++ (10 ∷ []) ++ codes ".names !reset x"
-    ++ (10 ∷ []) ++ codes "1 1" ++ (10 ∷ []) ++ codes ".end" ++ (10 ∷ [])) ≡ Ok (record {
-      name = (codes "R");
-      inputs = ((codes "!reset") ∷ []);
-      outputs = ((codes "x") ∷ []);
-      latches = ([]);
-      tables = (record {
-        inputs = ((codes "!reset") ∷ []);
-        output = (codes "x");
-        rows = ((One ∷ []) ∷ []);
-      } ∷ []);
-    })
-reset_name = refl
-
-reset_name_runs : IsRun (record {
-  name = (codes "R");
-  inputs = ((codes "!reset") ∷ []);
-  outputs = ((codes "x") ∷ []);
-  latches = ([]);
-  tables = (record
-      { inputs = ((codes "!reset") ∷ []); output = (codes "x"); rows = ((One ∷ []) ∷ []) } ∷ []);
-}) (Event (true ∷ []) ∷ Event (true ∷ []) ∷ Reset ∷ [])
-    (just ((codes "!reset") ∷ (codes "x") ∷ []) ∷ just ((codes "!reset") ∷ (codes "x") ∷ []) ∷ [])
-reset_name_runs = (
-  record { inputs_given = refl; latches_kept = refl; tables_met = (refl, tt) },
-  (
-    record {
-      inputs_given = refl;
-      latches_kept = refl;
-      tables_met = (refl, tt);
-    },
-    tt,
-  ),
-)
+names_ten : reading (codes ".model m" ++ (10 ∷ []) ++ codes ".inputs a b c d e f g h i" ++ (10 ∷ []) ++ codes ".names a b c d e f g h i x" ++ (10 ∷
+    []) ++ codes ".end" ++ (10 ∷ [])) ≡ Err (Line 3)
+names_ten = refl

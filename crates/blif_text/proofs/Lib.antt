@@ -1,4 +1,5 @@
 mod WorkedTexts
+mod PlainWords
 pub mod Numbered
 pub mod NameSets
 pub mod Words
@@ -18,5 +19,8 @@ mod RandomEquations3
 mod RandomEquations4
 mod RandomEquations5
 mod RandomEquations6
+mod RandomEquations7
+mod RandomEquations8
 mod FixedEquations1
 mod FixedEquations2
+mod FixedEquations3

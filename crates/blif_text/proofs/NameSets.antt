@@ -19,6 +19,7 @@ is_among-push name last names =
     ∙ ap (λ b. cond b true (is_among name names)) (nat_list_eq_equiv.symm name last)
 
 -- one more name of a list
-pub is_among-more : (name : List ℕ) (names : List (List ℕ)) (i : ℕ) (d : List ℕ) → i < length names → is_among name (take (i + 1) names) ≡ cond (is_same_name (get_or names i d) name) true (is_among name (take i names))
+pub is_among-more : (name : List ℕ) (names : List (List ℕ)) (i : ℕ) (d : List ℕ) → i < length names
+    → is_among name (take (i + 1) names) ≡ cond (is_same_name (get_or names i d) name) true (is_among name (take i names))
 is_among-more name names i d h =
     ap (is_among name) (take_more names i d h) ∙ is_among-push name (get_or names i d) (take i names)

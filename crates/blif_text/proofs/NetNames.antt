@@ -1,5 +1,6 @@
 -- The names of a net's circuit: each is a word, no two are one, and each that is used is driven.
-use Rattle.std.proofs.Common.{◌≡◌, ℕ, ◌+◌, ◌-◌, ◌<◌, ◌^◌, true, false, List, [], ◌∷◌, ◌++◌, length, map, get_or, refl, sym, ap, ◌∙◌, arith, zero-add, ⊎_elim, Option, Some, None, All}
+use Rattle.std.proofs.Common.{◌≡◌, ℕ, ◌+◌, ◌-◌, ◌<◌, ◌^◌, true, false, List, [], ◌∷◌, ◌++◌, length, map, get_or, refl, sym, ap, ◌∙◌, arith, zero-add, ⊎_elim}
+use Rattle.std.proofs.Common.{Option, Some, None, All}
 use Rattle.std.specs.Prelude.{option_and_then, IfSome, codes, if◌then◌else◌}
 use Rattle.std.specs.List.{list_all, range_with_len}
 use Rattle.std.proofs.lemmas.List.FromFn.{fill_by_all}
@@ -37,7 +38,11 @@ net_word-input net n h = rw (lt-ltb n (length net.inputs) h) refl
 net_word-latch : (net : Netlist) (j : ℕ) → j < length net.latches → net_word net (length net.inputs + j) ≡ latch_word j
 net_word-latch net j h =
     let e : length net.inputs + j - length net.inputs ≡ j = omega arith in
-    rw (le-ltb (length net.inputs + j) (length net.inputs) (omega arith), lt-ltb (length net.inputs + j) (length net.inputs + length net.latches) (omega arith)) (ap latch_word e)
+    rw (
+      le-ltb (length net.inputs + j) (length net.inputs) (omega arith),
+      lt-ltb (length net.inputs + j) (length net.inputs + length net.latches)
+          (omega arith),
+    ) (ap latch_word e)
 
 net_word-gate : (net : Netlist) (k : ℕ) (d : Gate) → k < length net.gates → net_word net (first_gate net + k) ≡ gate_word k (get_or net.gates k d).wire
 net_word-gate net k d h =
@@ -85,7 +90,8 @@ at-latch net j h =
     ∙ get_or-append-add (input_words net) (latch_words net) j []
     ∙ get_or-numbered (λ m (latch : Latch). latch_word m) 0 net.latches j [] any_latch h ∙ ap latch_word (zero-add j)
 
-pub at-gate : (net : Netlist) (k : ℕ) (d : Gate) → k < length net.gates → get_or (net_words net) (first_gate net + k) [] ≡ gate_word k (get_or net.gates k d).wire
+pub at-gate : (net : Netlist) (k : ℕ) (d : Gate) → k < length net.gates
+    → get_or (net_words net) (first_gate net + k) [] ≡ gate_word k (get_or net.gates k d).wire
 at-gate net k d h =
     let i = length-numbered (λ m (name : List ℕ). input_word m) 0 net.inputs in
     let l = length-numbered (λ m (latch : Latch). latch_word m) 0 net.latches in
@@ -96,7 +102,8 @@ at-gate net k d h =
     ∙ ap (λ m. gate_word m (get_or net.gates k d).wire) (zero-add k)
 
 -- a number of a net is that of an input, of a latch or of a gate
-pub net_cases : {C : Type 0} (net : Netlist) (n : ℕ) → n < net_count net → (n < length net.inputs → C) → ((j : ℕ) → j < length net.latches → n ≡ length net.inputs + j → C) → ((k : ℕ) → k < length net.gates → n ≡ first_gate net + k → C) → C
+pub net_cases : {C : Type 0} (net : Netlist) (n : ℕ) → n < net_count net → (n < length net.inputs → C)
+    → ((j : ℕ) → j < length net.latches → n ≡ length net.inputs + j → C) → ((k : ℕ) → k < length net.gates → n ≡ first_gate net + k → C) → C
 net_cases net n h input latch gate = ⊎_elim input
     (λ past. ⊎_elim
     (λ low. latch (n - length net.inputs) (omega arith) (omega arith))
@@ -139,22 +146,27 @@ is_word-output inputs name fits = elim (is_among name inputs) as (λ shared. is_
 
 pub words-outputs : (net : Netlist) → IsWritable net → list_all is_word (shown_words net) ≡ true
 words-outputs net is = list_all-from_All is_word (shown_words net)
-    (All-map (λ n. is_word n ≡ true) (λ (o : NetOut). output_word net.inputs o.name) net.outputs (λ k d h. is_word-output net.inputs (get_or net.outputs k d).name (is.is_net.output_names_fit k d h)))
+    (All-map (λ n. is_word n ≡ true) (λ (o : NetOut). output_word net.inputs o.name) net.outputs
+    (λ k d h. is_word-output net.inputs (get_or net.outputs k d).name (is.is_net.output_names_fit k d h)))
 
 pub words-input_words : (net : Netlist) → IsWritable net → list_all is_word (input_words net) ≡ true
 words-input_words net is = list_all-from_All is_word (input_words net)
-    (All-numbered (λ w. is_word w ≡ true) (λ j (name : List ℕ). input_word j) 0 net.inputs (λ k d h. let few = is.is_net.numbered in decimal_bytes (0 + k) (omega arith)))
+    (All-numbered (λ w. is_word w ≡ true) (λ j (name : List ℕ). input_word j) 0 net.inputs
+    (λ k d h. let few = is.is_net.numbered in decimal_bytes (0 + k) (omega arith)))
 
 pub words-latch_words : (net : Netlist) → IsWritable net → list_all is_word (latch_words net) ≡ true
 words-latch_words net is = list_all-from_All is_word (latch_words net)
-    (All-numbered (λ w. is_word w ≡ true) (λ j (latch : Latch). latch_word j) 0 net.latches (λ k d h. let few = is.is_net.numbered in decimal_bytes (0 + k) (omega arith)))
+    (All-numbered (λ w. is_word w ≡ true) (λ j (latch : Latch). latch_word j) 0 net.latches
+    (λ k d h. let few = is.is_net.numbered in decimal_bytes (0 + k) (omega arith)))
 
 pub words-gate_words : (net : Netlist) → IsWritable net → list_all is_word (gate_words net) ≡ true
 words-gate_words net is = list_all-from_All is_word (gate_words net)
-    (All-numbered (λ w. is_word w ≡ true) (λ k (gate : Gate). gate_word k gate.wire) 0 net.gates (λ k d h. let few = is.is_net.numbered in is_word-gate (0 + k) (get_or net.gates k d).wire (omega arith) (is.wires_fit k d h)))
+    (All-numbered (λ w. is_word w ≡ true) (λ k (gate : Gate). gate_word k gate.wire) 0 net.gates
+    (λ k d h. let few = is.is_net.numbered in is_word-gate (0 + k) (get_or net.gates k d).wire (omega arith) (is.wires_fit k d h)))
 
 pub is_word-net_word : (net : Netlist) → IsWritable net → (n : ℕ) → n < net_count net → is_word (net_word net n) ≡ true
 is_word-net_word net is n h =
-    let all = list_all-parts is_word (input_words net ++ latch_words net) (gate_words net) (list_all-parts is_word (input_words net) (latch_words net) (words-input_words net is) (words-latch_words net is)) (words-gate_words net is) in
+    let all = list_all-parts is_word (input_words net ++ latch_words net) (gate_words net)
+    (list_all-parts is_word (input_words net) (latch_words net) (words-input_words net is) (words-latch_words net is)) (words-gate_words net is) in
     let len = length-net_words net in
     ap is_word (net_word-at net n h) ∙ list_all-get_or is_word (net_words net) n [] (omega arith) all

@@ -1,44 +1,22 @@
 -- Inner: equations between the definitions of BLIF and an independent implementation of them in Python.
 -- Each text is read as the circuit, or refused with the fault, that the other implementation answers. Generated.
-use Rattle.std.proofs.Common.{◌≡◌, ℕ, false, List, [], ◌∷◌, ◌++◌, Ok, Err, codes, refl}
-use Rattle.std.specs.Prelude.{Bool, true}
+use Rattle.std.proofs.Common.{◌≡◌, true, false, [], ◌∷◌, ◌++◌, Ok, Err, codes, refl}
 use Rattle.est_base.specs.Items.{Event, Reset}
 use Rattle.blif_text.specs.Statements.{Zero, One, Any}
-use Rattle.blif_text.specs.Circuits.{reading, Line, TwoDrivers, NoDriver, is_among}
+use Rattle.blif_text.specs.Circuits.{Circuit, reading, Line, TwoDrivers, NoDriver}
 use Rattle.blif_text.specs.Runs.{IsRun}
+use Rattle.blif_text.proofs.PlainWords.{latch, table, circuit, just}
 
--- the valuation in which just these names are true
-abbrev just : List (List ℕ) → List ℕ → Bool
-just names = λ name. is_among name names
+abbrev random_0_circuit : Circuit
+random_0_circuit = circuit [] (codes "a" ∷ []) [] (latch (codes "s0") (codes "s1") true ∷ latch (codes "s0") (codes
+    "s0") true ∷ []) []
 
 random_0 : reading (codes ".model " ++ (13 ∷ []) ++ (10 ∷ []) ++ codes ".latch s0 s1 1#c " ++ (92 ∷ []) ++ (10 ∷ []) ++ codes ".latch s0 s0 1 # c" ++
-    (10 ∷ []) ++ codes ".inputs a" ++ (10 ∷ []) ++ codes ".end " ++ (13 ∷ []) ++ (10 ∷ [])) ≡ Ok (record {
-      name = [];
-      inputs = ((codes "a") ∷ []);
-      outputs = ([]);
-      latches = (record { source = (codes "s0"); target = (codes "s1"); init = true } ∷ record {
-        source = (codes "s0");
-        target = (codes
-            "s0");
-        init = true;
-      } ∷ []);
-      tables = ([]);
-    })
+    (10 ∷ []) ++ codes ".inputs a" ++ (10 ∷ []) ++ codes ".end " ++ (13 ∷ []) ++ (10 ∷ [])) ≡ Ok random_0_circuit
 random_0 = refl
 
-random_0_runs : IsRun (record {
-  name = [];
-  inputs = ((codes "a") ∷ []);
-  outputs = ([]);
-  latches = (record {
-    source = (codes "s0");
-    target = (codes
-        "s1");
-    init = true;
-  } ∷ record { source = (codes "s0"); target = (codes "s0"); init = true } ∷ []);
-  tables = ([]);
-}) (Event (false ∷ []) ∷ Reset ∷
-    Event (true ∷ []) ∷ Reset ∷ []) (just ((codes "s1") ∷ (codes "s0") ∷ []) ∷ just ((codes "a") ∷ (codes "s1") ∷ (codes "s0") ∷ []) ∷ [])
+random_0_runs : IsRun random_0_circuit (Event (false ∷ []) ∷ Event (false ∷ []) ∷ Event (true ∷ []) ∷ Reset ∷ Reset ∷ []) (just (codes "s1" ∷ codes
+    "s0" ∷ []) ∷ just (codes "s1" ∷ codes "s0" ∷ []) ∷ just (codes "a" ∷ codes "s1" ∷ codes "s0" ∷ []) ∷ [])
 random_0_runs = (
   record { inputs_given = refl; latches_kept = refl; tables_met = tt },
   (
@@ -48,48 +26,22 @@ random_0_runs = (
       tables_met
           = tt;
     },
-    tt,
+    (record { inputs_given = refl; latches_kept = refl; tables_met = tt }, tt),
   ),
 )
+
+abbrev random_1_circuit : Circuit
+random_1_circuit = circuit [] [] (codes "g0" ∷ codes "s0" ∷ []) (latch (codes "g0") (codes "s0") false ∷ latch
+    (codes "s1") (codes "s1") false ∷ []) (table (codes "s1" ∷ []) (codes "g0") ((Zero ∷ []) ∷ []) ∷ [])
 
 random_1 : reading (codes ".model " ++ (13 ∷ []) ++ (10 ∷ []) ++ codes ".latch g0 s0 0" ++ (10 ∷ []) ++ codes ".outputs  g0  s0 # c" ++ (10 ∷ []) ++
     codes ".names s1 g0 " ++ (10 ∷ []) ++ codes "0  1 " ++ (13 ∷ []) ++ (10 ∷ []) ++ codes ".latch " ++ (92 ∷ []) ++ (10 ∷ []) ++ codes "s1 " ++ (92 ∷
     []) ++ (10 ∷ []) ++ codes "s1 " ++ (92 ∷ []) ++ (10 ∷ []) ++ codes "0#c " ++ (92 ∷ []) ++ (13 ∷ []) ++ (10 ∷ []) ++ codes ".end " ++ (13 ∷ []) ++
-    (10 ∷ [])) ≡ Ok (record {
-      name = [];
-      inputs = ([]);
-      outputs = ((codes "g0") ∷ (codes "s0") ∷ []);
-      latches = (record {
-        source = (codes "g0");
-        target = (codes "s0");
-        init = false;
-      } ∷ record { source = (codes "s1"); target = (codes "s1"); init = false } ∷ []);
-      tables = (record {
-        inputs =
-            ((codes "s1") ∷ []);
-        output = (codes "g0");
-        rows = ((Zero ∷ []) ∷ []);
-      } ∷ []);
-    })
+    (10 ∷ [])) ≡ Ok random_1_circuit
 random_1 = refl
 
-random_1_runs : IsRun (record {
-  name = [];
-  inputs = ([]);
-  outputs = ((codes "g0") ∷ (codes "s0") ∷ []);
-  latches = (record {
-    source = (codes "g0");
-    target = (codes "s0");
-    init = false;
-  } ∷ record { source = (codes "s1"); target = (codes "s1"); init = false } ∷ []);
-  tables = (record {
-    inputs =
-        ((codes "s1") ∷ []);
-    output = (codes "g0");
-    rows = ((Zero ∷ []) ∷ []);
-  } ∷ []);
-}) (Event ([]) ∷ Event ([]) ∷ Reset ∷ Event ([]) ∷ []) (just ((codes
-    "g0") ∷ []) ∷ just ((codes "s0") ∷ (codes "g0") ∷ []) ∷ just ((codes "g0") ∷ []) ∷ [])
+random_1_runs : IsRun random_1_circuit (Event [] ∷ Reset ∷ Event [] ∷ Reset ∷ Event [] ∷ Event [] ∷ []) (just (codes "g0" ∷ []) ∷ just (codes "g0" ∷
+    []) ∷ just (codes "g0" ∷ []) ∷ just (codes "s0" ∷ codes "g0" ∷ []) ∷ [])
 random_1_runs = (
   record { inputs_given = refl; latches_kept = refl; tables_met = (refl, tt) },
   (
@@ -98,9 +50,25 @@ random_1_runs = (
       latches_kept = refl;
       tables_met = (refl, tt);
     },
-    (record { inputs_given = refl; latches_kept = refl; tables_met = (refl, tt) }, tt),
+    (
+      record { inputs_given = refl; latches_kept = refl; tables_met = (refl, tt) },
+      (
+        record {
+          inputs_given = refl;
+          latches_kept = refl;
+          tables_met = (refl, tt);
+        },
+        tt,
+      ),
+    ),
   ),
 )
+
+abbrev random_2_circuit : Circuit
+random_2_circuit = circuit (codes "m") (codes "a" ∷ codes "b" ∷ codes "c" ∷ []) (codes "g0" ∷ codes "g2" ∷ [])
+    (latch (codes "g1") (codes "s0") false ∷ []) (table (codes "a" ∷ codes "c" ∷ codes "s0" ∷ []) (codes "g0") ((Zero ∷ Zero ∷ Any ∷ []) ∷ (Zero ∷
+    Zero ∷ Zero ∷ []) ∷ []) ∷ table (codes "s0" ∷ codes "c" ∷ []) (codes "g2") ((Any ∷ Any ∷ []) ∷ (Any ∷ Zero ∷ []) ∷ []) ∷ table (codes "s0" ∷ [])
+    (codes "g1") ((One ∷ []) ∷ (Any ∷ []) ∷ []) ∷ [])
 
 random_2 : reading (codes ".model " ++ (92 ∷ []) ++ (10 ∷ []) ++ codes "m # c" ++ (10 ∷ []) ++ codes ".latch  g1  s0  0 " ++ (10 ∷ []) ++ codes
     ".inputs a # c" ++ (13 ∷ []) ++ (10 ∷ []) ++ codes ".names " ++ (92 ∷ []) ++ (10 ∷ []) ++ codes "a " ++ (92 ∷ []) ++ (10 ∷ []) ++ codes "c " ++
@@ -108,61 +76,13 @@ random_2 : reading (codes ".model " ++ (92 ∷ []) ++ (10 ∷ []) ++ codes "m # 
     "000 1" ++ (13 ∷ []) ++ (10 ∷ []) ++ codes ".outputs" ++ (9 ∷ []) ++ codes "g0" ++ (9 ∷ []) ++ codes "g2" ++ (13 ∷ []) ++ (10 ∷ []) ++ (10 ∷ [])
     ++ codes ".names  s0  c  g2" ++ (10 ∷ []) ++ codes "-- 1 # c" ++ (10 ∷ []) ++ codes "-0 1" ++ (10 ∷ []) ++ codes ".names s0 g1#c " ++ (92 ∷ []) ++
     (10 ∷ []) ++ codes "1" ++ (9 ∷ []) ++ codes "1 " ++ (13 ∷ []) ++ (10 ∷ []) ++ codes "-  1" ++ (10 ∷ []) ++ codes ".inputs" ++ (9 ∷ []) ++ codes
-    "b" ++ (9 ∷ []) ++ codes "c " ++ (10 ∷ []) ++ codes ".end#c " ++ (92 ∷ []) ++ (13 ∷ []) ++ (10 ∷ [])) ≡ Ok (record {
-      name = (codes "m");
-      inputs =
-          ((codes "a") ∷ (codes "b") ∷ (codes "c") ∷ []);
-      outputs = ((codes "g0") ∷ (codes "g2") ∷ []);
-      latches = (record {
-        source = (codes "g1");
-        target =
-            (codes "s0");
-        init = false;
-      } ∷ []);
-      tables = (record {
-        inputs = ((codes "a") ∷ (codes "c") ∷ (codes "s0") ∷ []);
-        output = (codes "g0");
-        rows =
-            ((Zero ∷ Zero ∷ Any ∷ []) ∷ (Zero ∷ Zero ∷ Zero ∷ []) ∷ []);
-      } ∷ record {
-        inputs = ((codes "s0") ∷ (codes "c") ∷ []);
-        output = (codes "g2");
-        rows =
-            ((Any ∷ Any ∷ []) ∷ (Any ∷ Zero ∷ []) ∷ []);
-      } ∷ record {
-        inputs = ((codes "s0") ∷ []);
-        output = (codes "g1");
-        rows = ((One ∷ []) ∷ (Any ∷ []) ∷
-            []);
-      } ∷ []);
-    })
+    "b" ++ (9 ∷ []) ++ codes "c " ++ (10 ∷ []) ++ codes ".end#c " ++ (92 ∷ []) ++ (13 ∷ []) ++ (10 ∷ [])) ≡ Ok random_2_circuit
 random_2 = refl
 
-random_2_runs : IsRun (record {
-  name = (codes "m");
-  inputs = ((codes "a") ∷ (codes "b") ∷ (codes "c") ∷ []);
-  outputs = ((codes "g0") ∷ (codes "g2") ∷
-      []);
-  latches = (record { source = (codes "g1"); target = (codes "s0"); init = false } ∷ []);
-  tables = (record {
-    inputs = ((codes "a") ∷ (codes
-        "c") ∷ (codes "s0") ∷ []);
-    output = (codes "g0");
-    rows = ((Zero ∷ Zero ∷ Any ∷ []) ∷ (Zero ∷ Zero ∷ Zero ∷ []) ∷ []);
-  } ∷ record {
-    inputs = ((codes
-        "s0") ∷ (codes "c") ∷ []);
-    output = (codes "g2");
-    rows = ((Any ∷ Any ∷ []) ∷ (Any ∷ Zero ∷ []) ∷ []);
-  } ∷ record {
-    inputs = ((codes "s0") ∷ []);
-    output = (codes "g1");
-    rows = ((One ∷ []) ∷ (Any ∷ []) ∷ []);
-  } ∷ []);
-}) (Event (false ∷ false ∷ false ∷ []) ∷ Event (true ∷ true ∷ true ∷ []) ∷
-    Reset ∷ Event (false ∷ true ∷ false ∷ []) ∷ Event (false ∷ false ∷ true ∷ []) ∷ []) (just ((codes "g0") ∷ (codes "g2") ∷ (codes "g1") ∷ []) ∷ just
-    ((codes "a") ∷ (codes "b") ∷ (codes "c") ∷ (codes "s0") ∷ (codes "g2") ∷ (codes "g1") ∷ []) ∷ just ((codes "b") ∷ (codes "g0") ∷ (codes "g2") ∷
-    (codes "g1") ∷ []) ∷ just ((codes "c") ∷ (codes "s0") ∷ (codes "g2") ∷ (codes "g1") ∷ []) ∷ [])
+random_2_runs : IsRun random_2_circuit (Event (false ∷ true ∷ true ∷ []) ∷ Reset ∷ Event (true ∷ false ∷ true ∷ []) ∷ Event (true ∷ true ∷ true ∷ [])
+    ∷ Event (true ∷ false ∷ true ∷ []) ∷ []) (just (codes "b" ∷ codes "c" ∷ codes "g2" ∷ codes "g1" ∷ []) ∷ just (codes "a" ∷ codes "c" ∷ codes "g2" ∷
+    codes "g1" ∷ []) ∷ just (codes "a" ∷ codes "b" ∷ codes "c" ∷ codes "s0" ∷ codes "g2" ∷ codes "g1" ∷ []) ∷ just (codes "a" ∷ codes "c" ∷ codes "s0"
+    ∷ codes "g2" ∷ codes "g1" ∷ []) ∷ [])
 random_2_runs = (
   record { inputs_given = refl; latches_kept = refl; tables_met = (refl, (refl, (refl, tt))) },
   (
@@ -188,28 +108,17 @@ random_2_runs = (
   ),
 )
 
+abbrev random_3_circuit : Circuit
+random_3_circuit = circuit (codes "m") (codes "b" ∷ codes "c" ∷ codes "a" ∷ []) [] [] (table [] (codes "g0") ([] ∷
+    []) ∷ [])
+
 random_3 : reading (codes ".model  m # c" ++ (10 ∷ []) ++ codes ".inputs " ++ (92 ∷ []) ++ (10 ∷ []) ++ codes "b " ++ (92 ∷ []) ++ (10 ∷ []) ++ codes
     "c " ++ (10 ∷ []) ++ codes ".names g0 " ++ (13 ∷ []) ++ (10 ∷ []) ++ codes "1#c " ++ (92 ∷ []) ++ (13 ∷ []) ++ (10 ∷ []) ++ codes ".inputs" ++ (9
-    ∷ []) ++ codes "a" ++ (10 ∷ []) ++ codes ".end" ++ (10 ∷ [])) ≡ Ok (record {
-      name = (codes "m");
-      inputs = ((codes "b") ∷ (codes "c") ∷ (codes "a")
-          ∷ []);
-      outputs = ([]);
-      latches = ([]);
-      tables = (record { inputs = ([]); output = (codes "g0"); rows = (([]) ∷ []) } ∷ []);
-    })
+    ∷ []) ++ codes "a" ++ (10 ∷ []) ++ codes ".end" ++ (10 ∷ [])) ≡ Ok random_3_circuit
 random_3 = refl
 
-random_3_runs : IsRun (record {
-  name = (codes "m");
-  inputs = ((codes "b") ∷ (codes "c") ∷ (codes "a") ∷ []);
-  outputs = ([]);
-  latches = ([]);
-  tables =
-      (record { inputs = ([]); output = (codes "g0"); rows = (([]) ∷ []) } ∷ []);
-}) (Event (false ∷ true ∷ true ∷ []) ∷ Event (false ∷ false ∷ true ∷
-    []) ∷ Reset ∷ Event (true ∷ false ∷ true ∷ []) ∷ Reset ∷ []) (just ((codes "c") ∷ (codes "a") ∷ (codes "g0") ∷ []) ∷ just ((codes "a") ∷ (codes
-    "g0") ∷ []) ∷ just ((codes "b") ∷ (codes "a") ∷ (codes "g0") ∷ []) ∷ [])
+random_3_runs : IsRun random_3_circuit (Event (true ∷ true ∷ true ∷ []) ∷ Reset ∷ Reset ∷ Event (true ∷ false ∷ false ∷ []) ∷ Event (false ∷ false ∷
+    false ∷ []) ∷ []) (just (codes "b" ∷ codes "c" ∷ codes "a" ∷ codes "g0" ∷ []) ∷ just (codes "b" ∷ codes "g0" ∷ []) ∷ just (codes "g0" ∷ []) ∷ [])
 random_3_runs = (
   record { inputs_given = refl; latches_kept = refl; tables_met = (refl, tt) },
   (
@@ -230,29 +139,14 @@ random_4 : reading (codes ".model" ++ (10 ∷ []) ++ codes ".inputs " ++ (92 ∷
     (10 ∷ []) ++ codes ".outputs" ++ (10 ∷ []) ++ codes ".end#c " ++ (92 ∷ []) ++ (10 ∷ [])) ≡ Err (Line 12)
 random_4 = refl
 
+abbrev random_5_circuit : Circuit
+random_5_circuit = circuit [] [] [] (latch (codes "s0") (codes "s0") false ∷ []) []
+
 random_5 : reading (codes ".model # c" ++ (10 ∷ []) ++ codes ".latch" ++ (9 ∷ []) ++ codes "s0" ++ (9 ∷ []) ++ codes "s0" ++ (9 ∷ []) ++ codes "0" ++
-    (13 ∷ []) ++ (10 ∷ []) ++ codes ".outputs " ++ (10 ∷ []) ++ codes ".end") ≡ Ok (record {
-      name = [];
-      inputs = ([]);
-      outputs = ([]);
-      latches =
-          (record { source = (codes "s0"); target = (codes "s0"); init = false } ∷ []);
-      tables = ([]);
-    })
+    (13 ∷ []) ++ (10 ∷ []) ++ codes ".outputs " ++ (10 ∷ []) ++ codes ".end") ≡ Ok random_5_circuit
 random_5 = refl
 
-random_5_runs : IsRun (record {
-  name = [];
-  inputs = ([]);
-  outputs = ([]);
-  latches = (record {
-    source = (codes "s0");
-    target = (codes "s0");
-    init =
-        false;
-  } ∷ []);
-  tables = ([]);
-}) (Event ([]) ∷ Event ([]) ∷ []) (just ([]) ∷ just ([]) ∷ [])
+random_5_runs : IsRun random_5_circuit (Reset ∷ Event [] ∷ Reset ∷ Event [] ∷ []) (just [] ∷ just [] ∷ [])
 random_5_runs = (
   record { inputs_given = refl; latches_kept = refl; tables_met = tt },
   (
@@ -271,50 +165,20 @@ random_6 : reading (codes ".model m#c " ++ (92 ∷ []) ++ (10 ∷ []) ++ codes "
     (TwoDrivers (codes "b"))
 random_6 = refl
 
+abbrev random_7_circuit : Circuit
+random_7_circuit = circuit [] [] [] (latch (codes "g2") (codes "s0") true ∷ []) (table (codes "s0" ∷ codes "g0" ∷
+    []) (codes "g1") [] ∷ table (codes "s0" ∷ codes "g1" ∷ codes "g1" ∷ []) (codes "g2") ((One ∷ Zero ∷ One ∷ []) ∷ (One ∷ Zero ∷ One ∷ []) ∷ []) ∷
+    table (codes "s0" ∷ codes "s0" ∷ []) (codes "g0") ((Zero ∷ Zero ∷ []) ∷ []) ∷ [])
+
 random_7 : reading (codes ".model # c" ++ (10 ∷ []) ++ codes ".names s0 g0 g1" ++ (10 ∷ []) ++ codes "# c" ++ (10 ∷ []) ++ codes ".latch g2 s0 1#c "
     ++ (92 ∷ []) ++ (10 ∷ []) ++ (10 ∷ []) ++ codes ".inputs" ++ (10 ∷ []) ++ codes ".names s0 g1 g1 g2" ++ (13 ∷ []) ++ (10 ∷ []) ++ codes "101" ++
     (9 ∷ []) ++ codes "1" ++ (13 ∷ []) ++ (10 ∷ []) ++ codes "101 1" ++ (10 ∷ []) ++ codes ".names" ++ (9 ∷ []) ++ codes "s0" ++ (9 ∷ []) ++ codes
     "s0" ++ (9 ∷ []) ++ codes "g0" ++ (10 ∷ []) ++ codes "00 " ++ (92 ∷ []) ++ (10 ∷ []) ++ codes "1" ++ (10 ∷ []) ++ codes ".end # c" ++ (13 ∷ []) ++
-    (10 ∷ []) ++ codes " " ++ (10 ∷ [])) ≡ Ok (record {
-      name = [];
-      inputs = ([]);
-      outputs = ([]);
-      latches = (record {
-        source = (codes "g2");
-        target =
-            (codes "s0");
-        init = true;
-      } ∷ []);
-      tables = (record { inputs = ((codes "s0") ∷ (codes "g0") ∷ []); output = (codes "g1"); rows = ([]) } ∷ record {
-        inputs = ((codes "s0") ∷ (codes "g1") ∷ (codes "g1") ∷ []);
-        output = (codes "g2");
-        rows = ((One ∷ Zero ∷ One ∷ []) ∷ (One ∷ Zero ∷ One ∷ []) ∷ []);
-      } ∷ record { inputs = ((codes "s0") ∷ (codes "s0") ∷ []); output = (codes "g0"); rows = ((Zero ∷ Zero ∷ []) ∷ []) } ∷ []);
-    })
+    (10 ∷ []) ++ codes " " ++ (10 ∷ [])) ≡ Ok random_7_circuit
 random_7 = refl
 
-random_7_runs : IsRun (record {
-  name = [];
-  inputs = ([]);
-  outputs = ([]);
-  latches = (record {
-    source = (codes "g2");
-    target = (codes "s0");
-    init =
-        true;
-  } ∷ []);
-  tables = (record { inputs = ((codes "s0") ∷ (codes "g0") ∷ []); output = (codes "g1"); rows = ([]) } ∷ record {
-    inputs = ((codes
-        "s0") ∷ (codes "g1") ∷ (codes "g1") ∷ []);
-    output = (codes "g2");
-    rows = ((One ∷ Zero ∷ One ∷ []) ∷ (One ∷ Zero ∷ One ∷ []) ∷ []);
-  } ∷ record {
-    inputs = ((codes "s0") ∷ (codes "s0") ∷ []);
-    output = (codes "g0");
-    rows = ((Zero ∷ Zero ∷ []) ∷ []);
-  } ∷ []);
-}) (Event ([]) ∷ Reset ∷ Event ([]) ∷
-    Event ([]) ∷ Reset ∷ []) (just ((codes "s0") ∷ []) ∷ just ((codes "s0") ∷ []) ∷ just ((codes "g0") ∷ []) ∷ [])
+random_7_runs : IsRun random_7_circuit (Event [] ∷ Event [] ∷ Event [] ∷ Event [] ∷ Reset ∷ Reset ∷ []) (just (codes "s0" ∷ []) ∷ just (codes "g0" ∷
+    []) ∷ just (codes "g0" ∷ []) ∷ just (codes "g0" ∷ []) ∷ [])
 random_7_runs = (
   record { inputs_given = refl; latches_kept = refl; tables_met = (refl, (refl, (refl, tt))) },
   (
@@ -335,7 +199,7 @@ random_7_runs = (
           ),
         );
       },
-      tt,
+      (record { inputs_given = refl; latches_kept = refl; tables_met = (refl, (refl, (refl, tt))) }, tt),
     ),
   ),
 )
@@ -358,48 +222,23 @@ random_10 : reading (codes ".model # c" ++ (10 ∷ []) ++ codes ".latch  b  s0  
     ∷ []) ++ (10 ∷ []) ++ codes "c" ++ (13 ∷ []) ++ (10 ∷ []) ++ codes ".end" ++ (13 ∷ []) ++ (10 ∷ [])) ≡ Err (TwoDrivers (codes "a"))
 random_10 = refl
 
+abbrev random_11_circuit : Circuit
+random_11_circuit = circuit (codes "m") (codes "b" ∷ codes "c" ∷ codes "a" ∷ []) (codes "b" ∷ []) (latch (codes
+    "a") (codes "s1") false ∷ latch (codes "g1") (codes "s0") true ∷ []) (table [] (codes "g1") ([] ∷ [] ∷ []) ∷ table (codes "s0" ∷ codes "c" ∷ codes
+    "c" ∷ []) (codes "g0") ((One ∷ One ∷ Any ∷ []) ∷ (Any ∷ Any ∷ One ∷ []) ∷ []) ∷ [])
+
 random_11 : reading (codes ".model  m # c" ++ (13 ∷ []) ++ (10 ∷ []) ++ codes ".names" ++ (9 ∷ []) ++ codes "g1 # c" ++ (10 ∷ []) ++ codes "1 " ++ (10
     ∷ []) ++ codes "1 # c" ++ (13 ∷ []) ++ (10 ∷ []) ++ codes ".outputs b " ++ (13 ∷ []) ++ (10 ∷ []) ++ codes ".latch" ++ (9 ∷ []) ++ codes "a" ++ (9
     ∷ []) ++ codes "s1" ++ (9 ∷ []) ++ codes "0#c " ++ (92 ∷ []) ++ (10 ∷ []) ++ codes ".inputs b c#c " ++ (92 ∷ []) ++ (10 ∷ []) ++ codes ".latch g1 s0 1"
     ++ (13 ∷ []) ++ (10 ∷ []) ++ codes " " ++ (10 ∷ []) ++ codes ".inputs  a#c " ++ (92 ∷ []) ++ (13 ∷ []) ++ (10 ∷ []) ++ codes ".names  s0  c  c  g0"
     ++ (10 ∷ []) ++ codes "11- " ++ (92 ∷ []) ++ (10 ∷ []) ++ codes "1" ++ (10 ∷ []) ++ codes "--1 " ++ (92 ∷ []) ++ (10 ∷ []) ++ codes "1 " ++ (10 ∷
-    []) ++ codes ".end" ++ (10 ∷ [])) ≡ Ok (record {
-      name = (codes "m");
-      inputs = ((codes "b") ∷ (codes "c") ∷ (codes "a") ∷ []);
-      outputs = ((codes
-          "b") ∷ []);
-      latches = (record { source = (codes "a"); target = (codes "s1"); init = false } ∷ record {
-        source = (codes "g1");
-        target = (codes
-            "s0");
-        init = true;
-      } ∷ []);
-      tables = (record { inputs = ([]); output = (codes "g1"); rows = (([]) ∷ ([]) ∷ []) } ∷ record {
-        inputs = ((codes "s0")
-            ∷ (codes "c") ∷ (codes "c") ∷ []);
-        output = (codes "g0");
-        rows = ((One ∷ One ∷ Any ∷ []) ∷ (Any ∷ Any ∷ One ∷ []) ∷ []);
-      } ∷ []);
-    })
+    []) ++ codes ".end" ++ (10 ∷ [])) ≡ Ok random_11_circuit
 random_11 = refl
 
-random_11_runs : IsRun (record {
-  name = (codes "m");
-  inputs = ((codes "b") ∷ (codes "c") ∷ (codes "a") ∷ []);
-  outputs = ((codes "b") ∷ []);
-  latches =
-      (record { source = (codes "a"); target = (codes "s1"); init = false } ∷ record { source = (codes "g1"); target = (codes "s0"); init = true } ∷
-      []);
-  tables = (record { inputs = ([]); output = (codes "g1"); rows = (([]) ∷ ([]) ∷ []) } ∷ record {
-    inputs = ((codes "s0") ∷ (codes "c") ∷ (codes
-        "c") ∷ []);
-    output = (codes "g0");
-    rows = ((One ∷ One ∷ Any ∷ []) ∷ (Any ∷ Any ∷ One ∷ []) ∷ []);
-  } ∷ []);
-}) (Reset ∷ Event (false ∷ false ∷ true ∷
-    []) ∷ Event (false ∷ false ∷ false ∷ []) ∷ Event (true ∷ false ∷ true ∷ []) ∷ Event (true ∷ true ∷ true ∷ []) ∷ []) (just ((codes "a") ∷ (codes
-    "s0") ∷ (codes "g1") ∷ []) ∷ just ((codes "s1") ∷ (codes "s0") ∷ (codes "g1") ∷ []) ∷ just ((codes "b") ∷ (codes "a") ∷ (codes "s0") ∷ (codes
-    "g1") ∷ []) ∷ just ((codes "b") ∷ (codes "c") ∷ (codes "a") ∷ (codes "s1") ∷ (codes "s0") ∷ (codes "g1") ∷ (codes "g0") ∷ []) ∷ [])
+random_11_runs : IsRun random_11_circuit (Event (false ∷ false ∷ false ∷ []) ∷ Event (true ∷ false ∷ false ∷ []) ∷ Event (true ∷ false ∷ true ∷ []) ∷
+    Event (true ∷ true ∷ true ∷ []) ∷ []) (just (codes "s0" ∷ codes "g1" ∷ []) ∷ just (codes "b" ∷ codes "s0" ∷ codes "g1" ∷ []) ∷ just (codes "b" ∷
+    codes "a" ∷ codes "s0" ∷ codes "g1" ∷ []) ∷ just (codes "b" ∷ codes "c" ∷ codes "a" ∷ codes "s1" ∷ codes "s0" ∷ codes "g1" ∷ codes "g0" ∷ []) ∷
+    [])
 random_11_runs = (
   record { inputs_given = refl; latches_kept = refl; tables_met = (refl, (refl, tt)) },
   (
@@ -423,42 +262,17 @@ random_11_runs = (
   ),
 )
 
+abbrev random_12_circuit : Circuit
+random_12_circuit = circuit (codes "m") [] (codes "g1" ∷ codes "g1" ∷ []) (latch (codes "s0") (codes "s0") false ∷
+    []) (table (codes "s0" ∷ codes "s0" ∷ []) (codes "g0") [] ∷ table (codes "g0" ∷ codes "s0" ∷ []) (codes "g1") [] ∷ [])
+
 random_12 : reading (codes ".model m " ++ (10 ∷ []) ++ codes ".outputs" ++ (9 ∷ []) ++ codes "g1" ++ (9 ∷ []) ++ codes "g1#c " ++ (92 ∷ []) ++ (10 ∷
     []) ++ codes ".latch " ++ (92 ∷ []) ++ (10 ∷ []) ++ codes "s0 " ++ (92 ∷ []) ++ (10 ∷ []) ++ codes "s0 " ++ (92 ∷ []) ++ (10 ∷ []) ++ codes "0#c "
     ++ (92 ∷ []) ++ (10 ∷ []) ++ codes ".names s0 s0 g0 # c" ++ (10 ∷ []) ++ codes ".names  g0  s0  g1" ++ (10 ∷ []) ++ codes ".end # c" ++ (10 ∷ []))
-    ≡ Ok (record {
-      name = (codes "m");
-      inputs = ([]);
-      outputs = ((codes "g1") ∷ (codes "g1") ∷ []);
-      latches = (record {
-        source = (codes "s0");
-        target
-            = (codes "s0");
-        init = false;
-      } ∷ []);
-      tables = (record { inputs = ((codes "s0") ∷ (codes "s0") ∷ []); output = (codes "g0"); rows = ([]) } ∷
-          record { inputs = ((codes "g0") ∷ (codes "s0") ∷ []); output = (codes "g1"); rows = ([]) } ∷ []);
-    })
+    ≡ Ok random_12_circuit
 random_12 = refl
 
-random_12_runs : IsRun (record {
-  name = (codes "m");
-  inputs = ([]);
-  outputs = ((codes "g1") ∷ (codes "g1") ∷ []);
-  latches = (record {
-    source = (codes
-        "s0");
-    target = (codes "s0");
-    init = false;
-  } ∷ []);
-  tables = (record {
-    inputs = ((codes "s0") ∷ (codes "s0") ∷ []);
-    output = (codes "g0");
-    rows =
-        ([]);
-  } ∷ record { inputs = ((codes "g0") ∷ (codes "s0") ∷ []); output = (codes "g1"); rows = ([]) } ∷ []);
-}) (Event ([]) ∷ Reset ∷ Event ([]) ∷
-    Event ([]) ∷ []) (just ([]) ∷ just ([]) ∷ just ([]) ∷ [])
+random_12_runs : IsRun random_12_circuit (Event [] ∷ Event [] ∷ []) (just [] ∷ just [] ∷ [])
 random_12_runs = (
   record { inputs_given = refl; latches_kept = refl; tables_met = (refl, (refl, tt)) },
   (
@@ -468,7 +282,7 @@ random_12_runs = (
           refl;
       tables_met = (refl, (refl, tt));
     },
-    (record { inputs_given = refl; latches_kept = refl; tables_met = (refl, (refl, tt)) }, tt),
+    tt,
   ),
 )
 
@@ -485,33 +299,16 @@ random_14 : reading (codes ".model m" ++ (13 ∷ []) ++ (10 ∷ []) ++ (10 ∷ [
     ∷ []) ++ codes ".inputs  a # c" ++ (13 ∷ []) ++ (10 ∷ [])) ≡ Err (Line 7)
 random_14 = refl
 
+abbrev random_15_circuit : Circuit
+random_15_circuit = circuit (codes "m") [] [] (latch (codes "g2") (codes "s0") false ∷ []) (table [] (codes "g2")
+    [] ∷ table [] (codes "g1") [] ∷ [])
+
 random_15 : reading (codes ".model m # c" ++ (10 ∷ []) ++ codes ".names g2 " ++ (13 ∷ []) ++ (10 ∷ []) ++ codes ".names  g1" ++ (13 ∷ []) ++ (10 ∷ [])
-    ++ codes ".outputs" ++ (10 ∷ []) ++ (10 ∷ []) ++ codes ".latch  g2  s0  0" ++ (13 ∷ []) ++ (10 ∷ []) ++ codes ".end" ++ (10 ∷ [])) ≡ Ok (record {
-      name = (codes "m");
-      inputs = ([]);
-      outputs = ([]);
-      latches = (record { source = (codes "g2"); target = (codes "s0"); init = false } ∷ []);
-      tables
-          = (record { inputs = ([]); output = (codes "g2"); rows = ([]) } ∷ record { inputs = ([]); output = (codes "g1"); rows = ([]) } ∷ []);
-    })
+    ++ codes ".outputs" ++ (10 ∷ []) ++ (10 ∷ []) ++ codes ".latch  g2  s0  0" ++ (13 ∷ []) ++ (10 ∷ []) ++ codes ".end" ++ (10 ∷ [])) ≡ Ok
+    random_15_circuit
 random_15 = refl
 
-random_15_runs : IsRun (record {
-  name = (codes "m");
-  inputs = ([]);
-  outputs = ([]);
-  latches = (record {
-    source = (codes "g2");
-    target = (codes "s0");
-    init = false;
-  } ∷ []);
-  tables = (record { inputs = ([]); output = (codes "g2"); rows = ([]) } ∷ record {
-    inputs = ([]);
-    output = (codes "g1");
-    rows
-        = ([]);
-  } ∷ []);
-}) (Event ([]) ∷ Event ([]) ∷ Reset ∷ []) (just ([]) ∷ just ([]) ∷ [])
+random_15_runs : IsRun random_15_circuit (Event [] ∷ Event [] ∷ Event [] ∷ Event [] ∷ Reset ∷ []) (just [] ∷ just [] ∷ just [] ∷ just [] ∷ [])
 random_15_runs = (
   record { inputs_given = refl; latches_kept = refl; tables_met = (refl, (refl, tt)) },
   (
@@ -521,7 +318,17 @@ random_15_runs = (
           refl;
       tables_met = (refl, (refl, tt));
     },
-    tt,
+    (
+      record { inputs_given = refl; latches_kept = refl; tables_met = (refl, (refl, tt)) },
+      (
+        record {
+          inputs_given = refl;
+          latches_kept = refl;
+          tables_met = (refl, (refl, tt));
+        },
+        tt,
+      ),
+    ),
   ),
 )
 
@@ -531,42 +338,17 @@ random_16 : reading (codes ".model" ++ (10 ∷ []) ++ codes ".outputs" ++ (9 ∷
     ++ (9 ∷ []) ++ codes "1" ++ (13 ∷ []) ++ (10 ∷ []) ++ codes "x" ++ (13 ∷ []) ++ (10 ∷ [])) ≡ Err (Line 10)
 random_16 = refl
 
+abbrev random_17_circuit : Circuit
+random_17_circuit = circuit [] (codes "a" ∷ []) (codes "g0" ∷ codes "a" ∷ []) (latch (codes "s0") (codes "s1")
+    false ∷ latch (codes "a") (codes "s0") false ∷ []) (table [] (codes "b") [] ∷ table (codes "a" ∷ []) (codes "g0") [] ∷ [])
+
 random_17 : reading (codes ".model#c " ++ (92 ∷ []) ++ (10 ∷ []) ++ codes ".names  b" ++ (13 ∷ []) ++ (10 ∷ []) ++ codes ".outputs  g0  a#c " ++ (92 ∷
     []) ++ (10 ∷ []) ++ codes ".latch s0 s1 0 # c" ++ (10 ∷ []) ++ codes ".latch a s0 0 " ++ (10 ∷ []) ++ codes ".names " ++ (92 ∷ []) ++ (10 ∷ []) ++
     codes "a " ++ (92 ∷ []) ++ (10 ∷ []) ++ codes "g0" ++ (10 ∷ []) ++ codes ".inputs" ++ (9 ∷ []) ++ codes "a " ++ (10 ∷ []) ++ codes "# c" ++ (10 ∷
-    []) ++ codes ".end # c" ++ (10 ∷ []) ++ codes "# c" ++ (10 ∷ [])) ≡ Ok (record {
-      name = [];
-      inputs = ((codes "a") ∷ []);
-      outputs = ((codes "g0") ∷
-          (codes "a") ∷ []);
-      latches = (record { source = (codes "s0"); target = (codes "s1"); init = false } ∷ record {
-        source = (codes "a");
-        target =
-            (codes "s0");
-        init = false;
-      } ∷ []);
-      tables = (record { inputs = ([]); output = (codes "b"); rows = ([]) } ∷ record {
-        inputs = ((codes "a") ∷ []);
-        output = (codes "g0");
-        rows = ([]);
-      } ∷ []);
-    })
+    []) ++ codes ".end # c" ++ (10 ∷ []) ++ codes "# c" ++ (10 ∷ [])) ≡ Ok random_17_circuit
 random_17 = refl
 
-random_17_runs : IsRun (record {
-  name = [];
-  inputs = ((codes "a") ∷ []);
-  outputs = ((codes "g0") ∷ (codes "a") ∷ []);
-  latches = (record {
-    source =
-        (codes "s0");
-    target = (codes "s1");
-    init = false;
-  } ∷ record { source = (codes "a"); target = (codes "s0"); init = false } ∷ []);
-  tables = (record
-      { inputs = ([]); output = (codes "b"); rows = ([]) } ∷ record { inputs = ((codes "a") ∷ []); output = (codes "g0"); rows = ([]) } ∷ []);
-}) (Reset
-    ∷ Event (false ∷ []) ∷ Event (false ∷ []) ∷ Reset ∷ []) (just ([]) ∷ just ([]) ∷ [])
+random_17_runs : IsRun random_17_circuit (Event (true ∷ []) ∷ Reset ∷ Event (false ∷ []) ∷ []) (just (codes "a" ∷ []) ∷ just [] ∷ [])
 random_17_runs = (
   record { inputs_given = refl; latches_kept = refl; tables_met = (refl, (refl, tt)) },
   (
@@ -580,51 +362,21 @@ random_17_runs = (
   ),
 )
 
+abbrev random_18_circuit : Circuit
+random_18_circuit = circuit (codes "m") (codes "a" ∷ codes "b" ∷ codes "c" ∷ []) (codes "b" ∷ codes "g0" ∷ []) []
+    (table (codes "a" ∷ codes "a" ∷ codes "b" ∷ []) (codes "g0") ((Any ∷ Any ∷ Zero ∷ []) ∷ (Any ∷ Zero ∷ One ∷ []) ∷ []) ∷ table (codes "c" ∷ codes
+    "g0" ∷ []) (codes "g1") ((Any ∷ One ∷ []) ∷ (Any ∷ Any ∷ []) ∷ []) ∷ [])
+
 random_18 : reading (codes ".model  m#c " ++ (92 ∷ []) ++ (13 ∷ []) ++ (10 ∷ []) ++ codes ".outputs" ++ (9 ∷ []) ++ codes "b " ++ (10 ∷ []) ++ codes
     ".inputs a" ++ (10 ∷ []) ++ codes ".names  a  a  b  g0" ++ (10 ∷ []) ++ codes "--0" ++ (9 ∷ []) ++ codes "1#c " ++ (92 ∷ []) ++ (13 ∷ []) ++ (10 ∷
     []) ++ codes "-01" ++ (9 ∷ []) ++ codes "1 " ++ (10 ∷ []) ++ codes ".inputs  b  c" ++ (10 ∷ []) ++ codes ".names c g0 g1" ++ (10 ∷ []) ++ codes
     "-1 1 # c" ++ (10 ∷ []) ++ codes "--  1" ++ (13 ∷ []) ++ (10 ∷ []) ++ codes ".outputs  g0#c " ++ (92 ∷ []) ++ (10 ∷ []) ++ codes ".end" ++ (13 ∷
-    []) ++ (10 ∷ [])) ≡ Ok (record {
-      name = (codes "m");
-      inputs = ((codes "a") ∷ (codes "b") ∷ (codes "c") ∷ []);
-      outputs = ((codes "b") ∷ (codes
-          "g0") ∷ []);
-      latches = ([]);
-      tables = (record {
-        inputs = ((codes "a") ∷ (codes "a") ∷ (codes "b") ∷ []);
-        output = (codes "g0");
-        rows = ((Any ∷ Any
-            ∷ Zero ∷ []) ∷ (Any ∷ Zero ∷ One ∷ []) ∷ []);
-      } ∷ record {
-        inputs = ((codes "c") ∷ (codes "g0") ∷ []);
-        output = (codes "g1");
-        rows = ((Any ∷ One ∷
-            []) ∷ (Any ∷ Any ∷ []) ∷ []);
-      } ∷ []);
-    })
+    []) ++ (10 ∷ [])) ≡ Ok random_18_circuit
 random_18 = refl
 
-random_18_runs : IsRun (record {
-  name = (codes "m");
-  inputs = ((codes "a") ∷ (codes "b") ∷ (codes "c") ∷ []);
-  outputs = ((codes "b") ∷ (codes "g0") ∷
-      []);
-  latches = ([]);
-  tables = (record {
-    inputs = ((codes "a") ∷ (codes "a") ∷ (codes "b") ∷ []);
-    output = (codes "g0");
-    rows = ((Any ∷ Any ∷ Zero
-        ∷ []) ∷ (Any ∷ Zero ∷ One ∷ []) ∷ []);
-  } ∷ record {
-    inputs = ((codes "c") ∷ (codes "g0") ∷ []);
-    output = (codes "g1");
-    rows = ((Any ∷ One ∷ []) ∷
-        (Any ∷ Any ∷ []) ∷ []);
-  } ∷ []);
-}) (Event (true ∷ true ∷ true ∷ []) ∷ Reset ∷ Event (false ∷ true ∷ true ∷ []) ∷ Reset ∷ Event (false ∷ true ∷
-    false ∷ []) ∷ Event (true ∷ true ∷ false ∷ []) ∷ []) (just ((codes "a") ∷ (codes "b") ∷ (codes "c") ∷ (codes "g1") ∷ []) ∷ just ((codes "b") ∷
-    (codes "c") ∷ (codes "g0") ∷ (codes "g1") ∷ []) ∷ just ((codes "b") ∷ (codes "g0") ∷ (codes "g1") ∷ []) ∷ just ((codes "a") ∷ (codes "b") ∷ (codes
-    "g1") ∷ []) ∷ [])
+random_18_runs : IsRun random_18_circuit (Reset ∷ Event (false ∷ true ∷ false ∷ []) ∷ Event (true ∷ true ∷ false ∷ []) ∷ Event (false ∷ false ∷ false
+    ∷ []) ∷ Event (false ∷ false ∷ false ∷ []) ∷ []) (just (codes "b" ∷ codes "g0" ∷ codes "g1" ∷ []) ∷ just (codes "a" ∷ codes "b" ∷ codes "g1" ∷ [])
+    ∷ just (codes "g0" ∷ codes "g1" ∷ []) ∷ just (codes "g0" ∷ codes "g1" ∷ []) ∷ [])
 random_18_runs = (
   record { inputs_given = refl; latches_kept = refl; tables_met = (refl, (refl, tt)) },
   (
@@ -656,46 +408,17 @@ random_19 : reading (codes ".model " ++ (92 ∷ []) ++ (10 ∷ []) ++ codes "m#c
     (Line 16)
 random_19 = refl
 
+abbrev random_20_circuit : Circuit
+random_20_circuit = circuit [] [] [] (latch (codes "g0") (codes "s0") false ∷ latch (codes "g1") (codes "s1") true
+    ∷ []) (table (codes "s1" ∷ codes "g0" ∷ []) (codes "g1") [] ∷ table [] (codes "g0") [] ∷ [])
+
 random_20 : reading (codes ".model # c" ++ (10 ∷ []) ++ codes ".names" ++ (9 ∷ []) ++ codes "s1" ++ (9 ∷ []) ++ codes "g0" ++ (9 ∷ []) ++ codes "g1"
     ++ (10 ∷ []) ++ codes ".outputs " ++ (10 ∷ []) ++ codes ".latch " ++ (92 ∷ []) ++ (10 ∷ []) ++ codes "g0 " ++ (92 ∷ []) ++ (10 ∷ []) ++ codes "s0 "
     ++ (92 ∷ []) ++ (10 ∷ []) ++ codes "0 " ++ (10 ∷ []) ++ codes ".names " ++ (92 ∷ []) ++ (10 ∷ []) ++ codes "g0" ++ (13 ∷ []) ++ (10 ∷ []) ++ codes
-    ".latch  g1  s1  1 # c" ++ (10 ∷ []) ++ codes " " ++ (10 ∷ []) ++ codes ".end#c " ++ (92 ∷ []) ++ (10 ∷ [])) ≡ Ok (record {
-      name = [];
-      inputs =
-          ([]);
-      outputs = ([]);
-      latches = (record { source = (codes "g0"); target = (codes "s0"); init = false } ∷ record {
-        source = (codes "g1");
-        target =
-            (codes "s1");
-        init = true;
-      } ∷ []);
-      tables = (record { inputs = ((codes "s1") ∷ (codes "g0") ∷ []); output = (codes "g1"); rows = ([]) } ∷ record {
-        inputs = ([]);
-        output = (codes "g0");
-        rows = ([]);
-      } ∷ []);
-    })
+    ".latch  g1  s1  1 # c" ++ (10 ∷ []) ++ codes " " ++ (10 ∷ []) ++ codes ".end#c " ++ (92 ∷ []) ++ (10 ∷ [])) ≡ Ok random_20_circuit
 random_20 = refl
 
-random_20_runs : IsRun (record {
-  name = [];
-  inputs = ([]);
-  outputs = ([]);
-  latches = (record {
-    source = (codes "g0");
-    target = (codes "s0");
-    init =
-        false;
-  } ∷ record { source = (codes "g1"); target = (codes "s1"); init = true } ∷ []);
-  tables = (record {
-    inputs = ((codes "s1") ∷ (codes "g0") ∷
-        []);
-    output = (codes "g1");
-    rows = ([]);
-  } ∷ record { inputs = ([]); output = (codes "g0"); rows = ([]) } ∷ []);
-}) (Event ([]) ∷ Event ([]) ∷ Event
-    ([]) ∷ []) (just ((codes "s1") ∷ []) ∷ just ([]) ∷ just ([]) ∷ [])
+random_20_runs : IsRun random_20_circuit (Reset ∷ Event [] ∷ Event [] ∷ []) (just (codes "s1" ∷ []) ∷ just [] ∷ [])
 random_20_runs = (
   record { inputs_given = refl; latches_kept = refl; tables_met = (refl, (refl, tt)) },
   (
@@ -705,7 +428,7 @@ random_20_runs = (
           refl;
       tables_met = (refl, (refl, tt));
     },
-    (record { inputs_given = refl; latches_kept = refl; tables_met = (refl, (refl, tt)) }, tt),
+    tt,
   ),
 )
 
@@ -715,173 +438,21 @@ random_21 : reading (codes ".names" ++ (9 ∷ []) ++ codes "m # c" ++ (10 ∷ []
     (10 ∷ []) ++ codes ".latch a s0 0" ++ (10 ∷ []) ++ codes ".inputs a" ++ (13 ∷ []) ++ (10 ∷ []) ++ codes ".end # c") ≡ Err (Line 1)
 random_21 = refl
 
+abbrev random_22_circuit : Circuit
+random_22_circuit = circuit (codes "m") (codes "a" ∷ []) [] (latch (codes "g1") (codes "s1") true ∷ latch (codes
+    "g1") (codes "s0") true ∷ []) (table [] (codes "g1") [] ∷ table (codes "s0" ∷ codes "a" ∷ codes "s1" ∷ []) (codes "g0") ((Any ∷ Zero ∷ Zero ∷ [])
+    ∷ []) ∷ [])
+
 random_22 : reading (codes ".model " ++ (92 ∷ []) ++ (10 ∷ []) ++ codes "m" ++ (10 ∷ []) ++ codes ".latch g1 s1 1#c " ++ (92 ∷ []) ++ (10 ∷ []) ++
     codes "# c" ++ (10 ∷ []) ++ codes ".inputs" ++ (9 ∷ []) ++ codes "a # c" ++ (13 ∷ []) ++ (10 ∷ []) ++ codes ".names " ++ (92 ∷ []) ++ (10 ∷ []) ++
     codes "g1#c " ++ (92 ∷ []) ++ (13 ∷ []) ++ (10 ∷ []) ++ codes " " ++ (10 ∷ []) ++ codes ".names  s0  a  s1  g0#c " ++ (92 ∷ []) ++ (10 ∷ []) ++
     codes "-00 " ++ (92 ∷ []) ++ (10 ∷ []) ++ codes "1" ++ (13 ∷ []) ++ (10 ∷ []) ++ codes ".latch g1 s0 1 " ++ (10 ∷ []) ++ codes ".end" ++ (10 ∷
-    [])) ≡ Ok (record {
-      name = (codes "m");
-      inputs = ((codes "a") ∷ []);
-      outputs = ([]);
-      latches = (record {
-        source = (codes "g1");
-        target = (codes
-            "s1");
-        init = true;
-      } ∷ record { source = (codes "g1"); target = (codes "s0"); init = true } ∷ []);
-      tables = (record {
-        inputs = ([]);
-        output =
-            (codes "g1");
-        rows = ([]);
-      } ∷ record {
-        inputs = ((codes "s0") ∷ (codes "a") ∷ (codes "s1") ∷ []);
-        output = (codes "g0");
-        rows = ((Any ∷ Zero ∷
-            Zero ∷ []) ∷ []);
-      } ∷ []);
-    })
+    [])) ≡ Ok random_22_circuit
 random_22 = refl
 
-random_22_runs : IsRun (record {
-  name = (codes "m");
-  inputs = ((codes "a") ∷ []);
-  outputs = ([]);
-  latches = (record {
-    source = (codes "g1");
-    target =
-        (codes "s1");
-    init = true;
-  } ∷ record { source = (codes "g1"); target = (codes "s0"); init = true } ∷ []);
-  tables = (record {
-    inputs = ([]);
-    output
-        = (codes "g1");
-    rows = ([]);
-  } ∷ record {
-    inputs = ((codes "s0") ∷ (codes "a") ∷ (codes "s1") ∷ []);
-    output = (codes "g0");
-    rows = ((Any ∷ Zero ∷
-        Zero ∷ []) ∷ []);
-  } ∷ []);
-}) (Event (false ∷ []) ∷ Event (true ∷ []) ∷ Event (true ∷ []) ∷ Event (true ∷ []) ∷ []) (just ((codes "s1") ∷ (codes
-    "s0") ∷ []) ∷ just ((codes "a") ∷ []) ∷ just ((codes "a") ∷ []) ∷ just ((codes "a") ∷ []) ∷ [])
+random_22_runs : IsRun random_22_circuit (Event (true ∷ []) ∷ Event (true ∷ []) ∷ Event (false ∷ []) ∷ []) (just (codes "a" ∷ codes "s1" ∷ codes "s0"
+    ∷ []) ∷ just (codes "a" ∷ []) ∷ just (codes "g0" ∷ []) ∷ [])
 random_22_runs = (
-  record { inputs_given = refl; latches_kept = refl; tables_met = (refl, (refl, tt)) },
-  (
-    record {
-      inputs_given = refl;
-      latches_kept =
-          refl;
-      tables_met = (refl, (refl, tt));
-    },
-    (
-      record { inputs_given = refl; latches_kept = refl; tables_met = (refl, (refl, tt)) },
-      (
-        record {
-          inputs_given = refl;
-          latches_kept = refl;
-          tables_met = (refl, (refl, tt));
-        },
-        tt,
-      ),
-    ),
-  ),
-)
-
-random_23 : reading (codes ".model" ++ (9 ∷ []) ++ codes "m" ++ (10 ∷ []) ++ codes ".latch  b  s0  1" ++ (10 ∷ []) ++ codes ".inputs a#c " ++ (92 ∷
-    []) ++ (13 ∷ []) ++ (10 ∷ []) ++ codes ".outputs a a" ++ (13 ∷ []) ++ (10 ∷ []) ++ codes ".inputs " ++ (92 ∷ []) ++ (10 ∷ []) ++ codes "b " ++ (92
-    ∷ []) ++ (10 ∷ []) ++ codes "c" ++ (13 ∷ []) ++ (10 ∷ []) ++ codes ".end#c " ++ (92 ∷ []) ++ (10 ∷ [])) ≡ Ok (record {
-      name = (codes "m");
-      inputs
-          = ((codes "a") ∷ (codes "b") ∷ (codes "c") ∷ []);
-      outputs = ((codes "a") ∷ (codes "a") ∷ []);
-      latches = (record {
-        source = (codes "b");
-        target =
-            (codes "s0");
-        init = true;
-      } ∷ []);
-      tables = ([]);
-    })
-random_23 = refl
-
-random_23_runs : IsRun (record {
-  name = (codes "m");
-  inputs = ((codes "a") ∷ (codes "b") ∷ (codes "c") ∷ []);
-  outputs = ((codes "a") ∷ (codes "a") ∷
-      []);
-  latches = (record { source = (codes "b"); target = (codes "s0"); init = true } ∷ []);
-  tables = ([]);
-}) (Event (true ∷ true ∷ true ∷ []) ∷
-    Event (false ∷ true ∷ false ∷ []) ∷ Event (false ∷ true ∷ false ∷ []) ∷ []) (just ((codes "a") ∷ (codes "b") ∷ (codes "c") ∷ (codes "s0") ∷ []) ∷
-    just ((codes "b") ∷ (codes "s0") ∷ []) ∷ just ((codes "b") ∷ (codes "s0") ∷ []) ∷ [])
-random_23_runs = (
-  record { inputs_given = refl; latches_kept = refl; tables_met = tt },
-  (
-    record {
-      inputs_given = refl;
-      latches_kept = refl;
-      tables_met
-          = tt;
-    },
-    (record { inputs_given = refl; latches_kept = refl; tables_met = tt }, tt),
-  ),
-)
-
-random_24 : reading (codes ".model#c " ++ (92 ∷ []) ++ (13 ∷ []) ++ (10 ∷ []) ++ codes ".outputs" ++ (9 ∷ []) ++ codes "g0" ++ (9 ∷ []) ++ codes "0#c "
-    ++ (92 ∷ []) ++ (10 ∷ []) ++ codes ".inputs a " ++ (10 ∷ []) ++ codes ".inputs " ++ (13 ∷ []) ++ (10 ∷ []) ++ codes ".names s0 s1 g0" ++ (10 ∷ [])
-    ++ codes "1-  1#c " ++ (92 ∷ []) ++ (10 ∷ []) ++ codes ".outputs " ++ (10 ∷ []) ++ codes ".latch s1 s0 0 # c" ++ (10 ∷ []) ++ codes ".latch a s1 0"
-    ++ (10 ∷ []) ++ codes ".end" ++ (13 ∷ []) ++ (10 ∷ []) ++ (10 ∷ [])) ≡ Err (NoDriver (codes "0"))
-random_24 = refl
-
-random_25 : reading (codes "0" ++ (10 ∷ []) ++ codes ".names a s0 g0#c " ++ (92 ∷ []) ++ (13 ∷ []) ++ (10 ∷ []) ++ codes "-- " ++ (92 ∷ []) ++ (10 ∷
-    []) ++ codes "1" ++ (10 ∷ []) ++ codes ".latch  s1  s1  0" ++ (13 ∷ []) ++ (10 ∷ []) ++ codes ".outputs" ++ (13 ∷ []) ++ (10 ∷ []) ++ codes " " ++
-    (10 ∷ []) ++ codes ".inputs a # c" ++ (10 ∷ []) ++ codes ".inputs b c" ++ (10 ∷ []) ++ codes ".names  s1  g1" ++ (13 ∷ []) ++ (10 ∷ []) ++ codes
-    "1 " ++ (92 ∷ []) ++ (10 ∷ []) ++ codes "1#c " ++ (92 ∷ []) ++ (10 ∷ []) ++ codes "0  1 # c" ++ (10 ∷ []) ++ codes ".outputs  b#c " ++ (92 ∷ [])
-    ++ (10 ∷ []) ++ codes ".latch  b  s0  0" ++ (10 ∷ []) ++ codes ".end # c" ++ (10 ∷ [])) ≡ Err (Line 1)
-random_25 = refl
-
-random_26 : reading (codes ".model " ++ (10 ∷ []) ++ codes ".names s1 g1#c " ++ (92 ∷ []) ++ (10 ∷ []) ++ codes ".names s1 s0 g0" ++ (13 ∷ []) ++ (10
-    ∷ []) ++ codes ".latch  g0  s1  1#c " ++ (92 ∷ []) ++ (10 ∷ []) ++ codes ".latch g0 s0 1#c " ++ (92 ∷ []) ++ (13 ∷ []) ++ (10 ∷ []) ++ codes
-    ".inputs " ++ (10 ∷ []) ++ codes ".end" ++ (13 ∷ []) ++ (10 ∷ [])) ≡ Ok (record {
-      name = [];
-      inputs = ([]);
-      outputs = ([]);
-      latches = (record {
-        source = (codes "g0");
-        target = (codes "s1");
-        init = true;
-      } ∷ record { source = (codes "g0"); target = (codes "s0"); init = true } ∷ []);
-      tables =
-          (record { inputs = ((codes "s1") ∷ []); output = (codes "g1"); rows = ([]) } ∷ record {
-            inputs = ((codes "s1") ∷ (codes "s0") ∷ []);
-            output =
-                (codes "g0");
-            rows = ([]);
-          } ∷ []);
-    })
-random_26 = refl
-
-random_26_runs : IsRun (record {
-  name = [];
-  inputs = ([]);
-  outputs = ([]);
-  latches = (record {
-    source = (codes "g0");
-    target = (codes "s1");
-    init =
-        true;
-  } ∷ record { source = (codes "g0"); target = (codes "s0"); init = true } ∷ []);
-  tables = (record {
-    inputs = ((codes "s1") ∷ []);
-    output =
-        (codes "g1");
-    rows = ([]);
-  } ∷ record { inputs = ((codes "s1") ∷ (codes "s0") ∷ []); output = (codes "g0"); rows = ([]) } ∷ []);
-}) (Event ([]) ∷
-    Event ([]) ∷ Reset ∷ Event ([]) ∷ []) (just ((codes "s1") ∷ (codes "s0") ∷ []) ∷ just ([]) ∷ just ((codes "s1") ∷ (codes "s0") ∷ []) ∷ [])
-random_26_runs = (
   record { inputs_given = refl; latches_kept = refl; tables_met = (refl, (refl, tt)) },
   (
     record {
@@ -894,342 +465,18 @@ random_26_runs = (
   ),
 )
 
-random_27 : reading (codes ".model" ++ (13 ∷ []) ++ (10 ∷ []) ++ codes ".names  s0  g0#c " ++ (92 ∷ []) ++ (13 ∷ []) ++ (10 ∷ []) ++ codes ".names "
-    ++ (92 ∷ []) ++ (10 ∷ []) ++ codes "g0 " ++ (92 ∷ []) ++ (10 ∷ []) ++ codes "g0 " ++ (92 ∷ []) ++ (10 ∷ []) ++ codes "g1" ++ (13 ∷ []) ++ (10 ∷
-    []) ++ (10 ∷ []) ++ codes ".latch a s0 1 # c" ++ (10 ∷ []) ++ codes ".names " ++ (92 ∷ []) ++ (10 ∷ []) ++ codes "g1 " ++ (92 ∷ []) ++ (10 ∷ [])
-    ++ codes "g0 " ++ (92 ∷ []) ++ (10 ∷ []) ++ codes "g2 # c" ++ (10 ∷ []) ++ codes "00 1#c " ++ (92 ∷ []) ++ (13 ∷ []) ++ (10 ∷ []) ++ codes "10 "
-    ++ (92 ∷ []) ++ (10 ∷ []) ++ codes "1" ++ (10 ∷ []) ++ codes ".inputs  a " ++ (10 ∷ []) ++ codes ".end" ++ (13 ∷ []) ++ (10 ∷ []) ++ (10 ∷ [])) ≡
-    Ok (record {
-      name = [];
-      inputs = ((codes "a") ∷ []);
-      outputs = ([]);
-      latches = (record {
-        source = (codes "a");
-        target = (codes "s0");
-        init = true;
-      } ∷ []);
-      tables = (record { inputs = ((codes "s0") ∷ []); output = (codes "g0"); rows = ([]) } ∷ record {
-        inputs = ((codes "g0") ∷ (codes "g0") ∷
-            []);
-        output = (codes "g1");
-        rows = ([]);
-      } ∷ record {
-        inputs = ((codes "g1") ∷ (codes "g0") ∷ []);
-        output = (codes "g2");
-        rows = ((Zero ∷ Zero ∷
-            []) ∷ (One ∷ Zero ∷ []) ∷ []);
-      } ∷ []);
-    })
-random_27 = refl
+abbrev random_23_circuit : Circuit
+random_23_circuit = circuit (codes "m") (codes "a" ∷ codes "b" ∷ codes "c" ∷ []) (codes "a" ∷ codes "a" ∷ [])
+    (latch (codes "b") (codes "s0") true ∷ []) []
 
-random_27_runs : IsRun (record {
-  name = [];
-  inputs = ((codes "a") ∷ []);
-  outputs = ([]);
-  latches = (record {
-    source = (codes "a");
-    target = (codes
-        "s0");
-    init = true;
-  } ∷ []);
-  tables = (record { inputs = ((codes "s0") ∷ []); output = (codes "g0"); rows = ([]) } ∷ record {
-    inputs = ((codes
-        "g0") ∷ (codes "g0") ∷ []);
-    output = (codes "g1");
-    rows = ([]);
-  } ∷ record {
-    inputs = ((codes "g1") ∷ (codes "g0") ∷ []);
-    output = (codes "g2");
-    rows = ((Zero ∷ Zero ∷ []) ∷ (One ∷ Zero ∷ []) ∷ []);
-  } ∷ []);
-}) (Event (false ∷ []) ∷ Event (false ∷ []) ∷ Event (false ∷ []) ∷ Event (false ∷ [])
-    ∷ []) (just ((codes "s0") ∷ (codes "g2") ∷ []) ∷ just ((codes "g2") ∷ []) ∷ just ((codes "g2") ∷ []) ∷ just ((codes "g2") ∷ []) ∷ [])
-random_27_runs = (
-  record { inputs_given = refl; latches_kept = refl; tables_met = (refl, (refl, (refl, tt))) },
-  (
-    record {
-      inputs_given = refl;
-      latches_kept = refl;
-      tables_met = (refl, (refl, (refl, tt)));
-    },
-    (
-      record {
-        inputs_given = refl;
-        latches_kept = refl;
-        tables_met = (
-          refl,
-          (
-            refl,
-            (refl, tt),
-          ),
-        );
-      },
-      (record { inputs_given = refl; latches_kept = refl; tables_met = (refl, (refl, (refl, tt))) }, tt),
-    ),
-  ),
-)
+random_23 : reading (codes ".model" ++ (9 ∷ []) ++ codes "m" ++ (10 ∷ []) ++ codes ".latch  b  s0  1" ++ (10 ∷ []) ++ codes ".inputs a#c " ++ (92 ∷
+    []) ++ (13 ∷ []) ++ (10 ∷ []) ++ codes ".outputs a a" ++ (13 ∷ []) ++ (10 ∷ []) ++ codes ".inputs " ++ (92 ∷ []) ++ (10 ∷ []) ++ codes "b " ++ (92
+    ∷ []) ++ (10 ∷ []) ++ codes "c" ++ (13 ∷ []) ++ (10 ∷ []) ++ codes ".end#c " ++ (92 ∷ []) ++ (10 ∷ [])) ≡ Ok random_23_circuit
+random_23 = refl
 
-random_28 : reading (codes ".model # c" ++ (10 ∷ []) ++ codes " " ++ (10 ∷ []) ++ codes ".outputs # c" ++ (13 ∷ []) ++ (10 ∷ []) ++ codes ".latch" ++
-    (9 ∷ []) ++ codes "b" ++ (9 ∷ []) ++ codes "s0" ++ (9 ∷ []) ++ codes "0" ++ (10 ∷ []) ++ codes ".latch a s1 0 # c" ++ (10 ∷ []) ++ codes " " ++
-    (10 ∷ []) ++ codes ".names " ++ (92 ∷ []) ++ (10 ∷ []) ++ codes "b " ++ (92 ∷ []) ++ (10 ∷ []) ++ codes "g1#c " ++ (92 ∷ []) ++ (10 ∷ []) ++ codes
-    "- " ++ (92 ∷ []) ++ (10 ∷ []) ++ codes "1 # c" ++ (13 ∷ []) ++ (10 ∷ []) ++ codes ".inputs" ++ (9 ∷ []) ++ codes "b" ++ (9 ∷ []) ++ codes "c" ++
-    (13 ∷ []) ++ (10 ∷ []) ++ codes ".names" ++ (9 ∷ []) ++ codes "s0" ++ (9 ∷ []) ++ codes "b" ++ (9 ∷ []) ++ codes "b" ++ (9 ∷ []) ++ codes "g0 " ++
-    (10 ∷ []) ++ codes "-0- 1 # c" ++ (13 ∷ []) ++ (10 ∷ []) ++ codes "1-1 " ++ (92 ∷ []) ++ (10 ∷ []) ++ codes "1 # c" ++ (10 ∷ []) ++ codes
-    ".inputs" ++ (9 ∷ []) ++ codes "a" ++ (10 ∷ []) ++ codes ".outputs a#c " ++ (92 ∷ []) ++ (10 ∷ []) ++ codes ".end#c " ++ (92 ∷ []) ++ (10 ∷ [])) ≡
-    Ok (record {
-      name = [];
-      inputs = ((codes "b") ∷ (codes "c") ∷ (codes "a") ∷ []);
-      outputs = ((codes "a") ∷ []);
-      latches = (record {
-        source = (codes
-            "b");
-        target = (codes "s0");
-        init = false;
-      } ∷ record { source = (codes "a"); target = (codes "s1"); init = false } ∷ []);
-      tables = (record {
-        inputs = ((codes "b") ∷ []);
-        output = (codes "g1");
-        rows = ((Any ∷ []) ∷ []);
-      } ∷ record {
-        inputs = ((codes "s0") ∷ (codes "b") ∷ (codes "b") ∷
-            []);
-        output = (codes "g0");
-        rows = ((Any ∷ Zero ∷ Any ∷ []) ∷ (One ∷ Any ∷ One ∷ []) ∷ []);
-      } ∷ []);
-    })
-random_28 = refl
-
-random_28_runs : IsRun (record {
-  name = [];
-  inputs = ((codes "b") ∷ (codes "c") ∷ (codes "a") ∷ []);
-  outputs = ((codes "a") ∷ []);
-  latches = (record {
-    source = (codes "b");
-    target = (codes "s0");
-    init = false;
-  } ∷ record { source = (codes "a"); target = (codes "s1"); init = false } ∷ []);
-  tables =
-      (record { inputs = ((codes "b") ∷ []); output = (codes "g1"); rows = ((Any ∷ []) ∷ []) } ∷ record {
-        inputs = ((codes "s0") ∷ (codes "b") ∷ (codes
-            "b") ∷ []);
-        output = (codes "g0");
-        rows = ((Any ∷ Zero ∷ Any ∷ []) ∷ (One ∷ Any ∷ One ∷ []) ∷ []);
-      } ∷ []);
-}) (Reset ∷ Event (false ∷ true ∷ true ∷
-    []) ∷ Event (false ∷ true ∷ false ∷ []) ∷ Event (false ∷ true ∷ false ∷ []) ∷ Event (false ∷ false ∷ true ∷ []) ∷ []) (just ((codes "c") ∷ (codes
-    "a") ∷ (codes "g1") ∷ (codes "g0") ∷ []) ∷ just ((codes "c") ∷ (codes "s1") ∷ (codes "g1") ∷ (codes "g0") ∷ []) ∷ just ((codes "c") ∷ (codes "g1")
-    ∷ (codes "g0") ∷ []) ∷ just ((codes "a") ∷ (codes "g1") ∷ (codes "g0") ∷ []) ∷ [])
-random_28_runs = (
-  record { inputs_given = refl; latches_kept = refl; tables_met = (refl, (refl, tt)) },
-  (
-    record {
-      inputs_given = refl;
-      latches_kept =
-          refl;
-      tables_met = (refl, (refl, tt));
-    },
-    (
-      record { inputs_given = refl; latches_kept = refl; tables_met = (refl, (refl, tt)) },
-      (
-        record {
-          inputs_given = refl;
-          latches_kept = refl;
-          tables_met = (refl, (refl, tt));
-        },
-        tt,
-      ),
-    ),
-  ),
-)
-
-random_29 : reading (codes ".model " ++ (13 ∷ []) ++ (10 ∷ []) ++ codes ".names " ++ (92 ∷ []) ++ (10 ∷ []) ++ codes "g0" ++ (10 ∷ []) ++ codes "1 "
-    ++ (10 ∷ []) ++ codes "1#c " ++ (92 ∷ []) ++ (13 ∷ []) ++ (10 ∷ []) ++ codes ".outputs g1" ++ (10 ∷ []) ++ codes ".inputs#c " ++ (92 ∷ []) ++ (13
-    ∷ []) ++ (10 ∷ []) ++ codes ".names g0 g1 # c" ++ (10 ∷ []) ++ codes "1" ++ (9 ∷ []) ++ codes "1" ++ (13 ∷ []) ++ (10 ∷ []) ++ codes ".outputs  g1"
-    ++ (13 ∷ []) ++ (10 ∷ []) ++ codes " " ++ (10 ∷ []) ++ codes ".end#c " ++ (92 ∷ [])) ≡ Ok (record {
-      name = [];
-      inputs = ([]);
-      outputs = ((codes
-          "g1") ∷ (codes "g1") ∷ []);
-      latches = ([]);
-      tables = (record { inputs = ([]); output = (codes "g0"); rows = (([]) ∷ ([]) ∷ []) } ∷ record {
-        inputs
-            = ((codes "g0") ∷ []);
-        output = (codes "g1");
-        rows = ((One ∷ []) ∷ []);
-      } ∷ []);
-    })
-random_29 = refl
-
-random_29_runs : IsRun (record {
-  name = [];
-  inputs = ([]);
-  outputs = ((codes "g1") ∷ (codes "g1") ∷ []);
-  latches = ([]);
-  tables = (record {
-    inputs =
-        ([]);
-    output = (codes "g0");
-    rows = (([]) ∷ ([]) ∷ []);
-  } ∷ record {
-    inputs = ((codes "g0") ∷ []);
-    output = (codes "g1");
-    rows = ((One ∷ []) ∷ []);
-  } ∷ []);
-}) (Reset ∷ Event ([]) ∷ Event ([]) ∷ []) (just ((codes "g0") ∷ (codes "g1") ∷ []) ∷ just ((codes "g0") ∷ (codes "g1") ∷ []) ∷ [])
-random_29_runs = (
-  record { inputs_given = refl; latches_kept = refl; tables_met = (refl, (refl, tt)) },
-  (
-    record {
-      inputs_given = refl;
-      latches_kept =
-          refl;
-      tables_met = (refl, (refl, tt));
-    },
-    tt,
-  ),
-)
-
-random_30 : reading (codes ".model " ++ (92 ∷ []) ++ (10 ∷ []) ++ codes "m#c " ++ (92 ∷ []) ++ (10 ∷ []) ++ codes ".outputs" ++ (10 ∷ []) ++ codes " "
-    ++ (10 ∷ []) ++ codes ".names " ++ (92 ∷ []) ++ (10 ∷ []) ++ codes "a " ++ (92 ∷ []) ++ (10 ∷ []) ++ codes "g0" ++ (10 ∷ []) ++ codes "0 1 # c" ++
-    (10 ∷ []) ++ codes "# c" ++ (10 ∷ []) ++ codes "- 1" ++ (10 ∷ []) ++ codes ".outputs  c  g0 # c" ++ (10 ∷ []) ++ codes ".inputs a" ++ (13 ∷ []) ++
-    (10 ∷ []) ++ codes ".inputs " ++ (92 ∷ []) ++ (10 ∷ []) ++ codes "b " ++ (92 ∷ []) ++ (10 ∷ []) ++ codes "c" ++ (13 ∷ []) ++ (10 ∷ []) ++ codes
-    ".end" ++ (10 ∷ [])) ≡ Ok (record {
-      name = (codes "m");
-      inputs = ((codes "a") ∷ (codes "b") ∷ (codes "c") ∷ []);
-      outputs = ((codes "c") ∷ (codes
-          "g0") ∷ []);
-      latches = ([]);
-      tables = (record { inputs = ((codes "a") ∷ []); output = (codes "g0"); rows = ((Zero ∷ []) ∷ (Any ∷ []) ∷ []) } ∷ []);
-    })
-random_30 = refl
-
-random_30_runs : IsRun (record {
-  name = (codes "m");
-  inputs = ((codes "a") ∷ (codes "b") ∷ (codes "c") ∷ []);
-  outputs = ((codes "c") ∷ (codes "g0") ∷
-      []);
-  latches = ([]);
-  tables = (record { inputs = ((codes "a") ∷ []); output = (codes "g0"); rows = ((Zero ∷ []) ∷ (Any ∷ []) ∷ []) } ∷ []);
-})
-    (Event (true ∷ true ∷ true ∷ []) ∷ Reset ∷ Event (true ∷ false ∷ false ∷ []) ∷ Event (true ∷ false ∷ false ∷ []) ∷ Event (true ∷ true ∷ false ∷
-    []) ∷ []) (just ((codes "a") ∷ (codes "b") ∷ (codes "c") ∷ (codes "g0") ∷ []) ∷ just ((codes "a") ∷ (codes "g0") ∷ []) ∷ just ((codes "a") ∷
-    (codes "g0") ∷ []) ∷ just ((codes "a") ∷ (codes "b") ∷ (codes "g0") ∷ []) ∷ [])
-random_30_runs = (
-  record { inputs_given = refl; latches_kept = refl; tables_met = (refl, tt) },
-  (
-    record {
-      inputs_given = refl;
-      latches_kept = refl;
-      tables_met = (refl, tt);
-    },
-    (
-      record { inputs_given = refl; latches_kept = refl; tables_met = (refl, tt) },
-      (
-        record {
-          inputs_given = refl;
-          latches_kept = refl;
-          tables_met = (refl, tt);
-        },
-        tt,
-      ),
-    ),
-  ),
-)
-
-random_31 : reading (codes ".model  m" ++ (13 ∷ []) ++ (10 ∷ []) ++ codes ".latch g0 s1 1 " ++ (10 ∷ []) ++ (10 ∷ []) ++ codes ".names" ++ (9 ∷ []) ++
-    codes "s1" ++ (9 ∷ []) ++ codes "g0" ++ (9 ∷ []) ++ codes "g0" ++ (9 ∷ []) ++ codes "g1" ++ (10 ∷ []) ++ codes "1-1 1" ++ (10 ∷ []) ++ codes " "
-    ++ (10 ∷ []) ++ codes "01-" ++ (9 ∷ []) ++ codes "1 # c" ++ (10 ∷ []) ++ codes ".inputs b c" ++ (10 ∷ []) ++ codes ".outputs s1" ++ (13 ∷ []) ++
-    (10 ∷ []) ++ codes "-  1 # c" ++ (10 ∷ []) ++ codes ".inputs a # c" ++ (13 ∷ []) ++ (10 ∷ []) ++ codes ".outputs" ++ (9 ∷ []) ++ codes "s1" ++ (10
-    ∷ []) ++ codes ".latch " ++ (92 ∷ []) ++ (10 ∷ []) ++ codes "c " ++ (92 ∷ []) ++ (10 ∷ []) ++ codes "s0 " ++ (92 ∷ []) ++ (10 ∷ []) ++ codes "0 "
-    ++ (10 ∷ []) ++ codes ".names  s1  g0" ++ (13 ∷ []) ++ (10 ∷ []) ++ (10 ∷ []) ++ codes "- 1" ++ (13 ∷ []) ++ (10 ∷ []) ++ codes ".end # c" ++ (10
-    ∷ [])) ≡ Err (Line 10)
-random_31 = refl
-
-random_32 : reading (codes ".model  m" ++ (13 ∷ []) ++ (10 ∷ []) ++ codes ".names " ++ (92 ∷ []) ++ (10 ∷ []) ++ codes "b " ++ (92 ∷ []) ++ (10 ∷ [])
-    ++ codes "g0 " ++ (92 ∷ []) ++ (10 ∷ []) ++ codes "g1#c " ++ (92 ∷ []) ++ (13 ∷ []) ++ (10 ∷ []) ++ codes "-1" ++ (9 ∷ []) ++ codes "1 " ++ (10 ∷
-    []) ++ codes ".inputs a" ++ (13 ∷ []) ++ (10 ∷ []) ++ codes ".inputs " ++ (92 ∷ []) ++ (10 ∷ []) ++ codes "b" ++ (10 ∷ []) ++ codes ".names b a a g0"
-    ++ (10 ∷ []) ++ (10 ∷ []) ++ codes ".outputs  a  g0#c " ++ (92 ∷ []) ++ (13 ∷ []) ++ (10 ∷ []) ++ codes ".end" ++ (10 ∷ []) ++ codes " " ++ (10 ∷
-    [])) ≡ Ok (record {
-      name = (codes "m");
-      inputs = ((codes "a") ∷ (codes "b") ∷ []);
-      outputs = ((codes "a") ∷ (codes "g0") ∷ []);
-      latches = ([]);
-      tables = (record { inputs = ((codes "b") ∷ (codes "g0") ∷ []); output = (codes "g1"); rows = ((Any ∷ One ∷ []) ∷ []) } ∷ record {
-        inputs = ((codes
-            "b") ∷ (codes "a") ∷ (codes "a") ∷ []);
-        output = (codes "g0");
-        rows = ([]);
-      } ∷ []);
-    })
-random_32 = refl
-
-random_32_runs : IsRun (record {
-  name = (codes "m");
-  inputs = ((codes "a") ∷ (codes "b") ∷ []);
-  outputs = ((codes "a") ∷ (codes "g0") ∷ []);
-  latches =
-      ([]);
-  tables = (record { inputs = ((codes "b") ∷ (codes "g0") ∷ []); output = (codes "g1"); rows = ((Any ∷ One ∷ []) ∷ []) } ∷ record {
-    inputs =
-        ((codes "b") ∷ (codes "a") ∷ (codes "a") ∷ []);
-    output = (codes "g0");
-    rows = ([]);
-  } ∷ []);
-}) (Event (true ∷ true ∷ []) ∷ Reset ∷ Event (true ∷
-    true ∷ []) ∷ Event (true ∷ false ∷ []) ∷ Event (true ∷ false ∷ []) ∷ []) (just ((codes "a") ∷ (codes "b") ∷ []) ∷ just ((codes "a") ∷ (codes "b")
-    ∷ []) ∷ just ((codes "a") ∷ []) ∷ just ((codes "a") ∷ []) ∷ [])
-random_32_runs = (
-  record { inputs_given = refl; latches_kept = refl; tables_met = (refl, (refl, tt)) },
-  (
-    record {
-      inputs_given = refl;
-      latches_kept =
-          refl;
-      tables_met = (refl, (refl, tt));
-    },
-    (
-      record { inputs_given = refl; latches_kept = refl; tables_met = (refl, (refl, tt)) },
-      (
-        record {
-          inputs_given = refl;
-          latches_kept = refl;
-          tables_met = (refl, (refl, tt));
-        },
-        tt,
-      ),
-    ),
-  ),
-)
-
-random_33 : reading (codes ".model m # c" ++ (13 ∷ []) ++ (10 ∷ []) ++ codes ".latch" ++ (9 ∷ []) ++ codes "s1" ++ (9 ∷ []) ++ codes "s1" ++ (9 ∷ [])
-    ++ codes "0" ++ (10 ∷ []) ++ codes ".latch " ++ (92 ∷ []) ++ (10 ∷ []) ++ codes "s1 " ++ (92 ∷ []) ++ (10 ∷ []) ++ codes "s0 " ++ (92 ∷ []) ++ (10
-    ∷ []) ++ codes "1" ++ (13 ∷ []) ++ (10 ∷ []) ++ codes ".end" ++ (10 ∷ [])) ≡ Ok (record {
-      name = (codes "m");
-      inputs = ([]);
-      outputs = ([]);
-      latches = (record { source = (codes "s1"); target = (codes "s1"); init = false } ∷ record {
-        source = (codes "s1");
-        target = (codes "s0");
-        init =
-            true;
-      } ∷ []);
-      tables = ([]);
-    })
-random_33 = refl
-
-random_33_runs : IsRun (record {
-  name = (codes "m");
-  inputs = ([]);
-  outputs = ([]);
-  latches = (record {
-    source = (codes "s1");
-    target = (codes "s1");
-    init = false;
-  } ∷ record { source = (codes "s1"); target = (codes "s0"); init = true } ∷ []);
-  tables = ([]);
-}) (Event ([]) ∷ Event ([]) ∷ Reset ∷
-    []) (just ((codes "s0") ∷ []) ∷ just ([]) ∷ [])
-random_33_runs = (
+random_23_runs : IsRun random_23_circuit (Event (false ∷ true ∷ true ∷ []) ∷ Reset ∷ Reset ∷ Event (false ∷ false ∷ false ∷ []) ∷ []) (just (codes "b"
+    ∷ codes "c" ∷ codes "s0" ∷ []) ∷ just (codes "s0" ∷ []) ∷ [])
+random_23_runs = (
   record { inputs_given = refl; latches_kept = refl; tables_met = tt },
   (
     record {
@@ -1241,3 +488,9 @@ random_33_runs = (
     tt,
   ),
 )
+
+random_24 : reading (codes ".model#c " ++ (92 ∷ []) ++ (13 ∷ []) ++ (10 ∷ []) ++ codes ".outputs" ++ (9 ∷ []) ++ codes "g0" ++ (9 ∷ []) ++ codes "0#c "
+    ++ (92 ∷ []) ++ (10 ∷ []) ++ codes ".inputs a " ++ (10 ∷ []) ++ codes ".inputs " ++ (13 ∷ []) ++ (10 ∷ []) ++ codes ".names s0 s1 g0" ++ (10 ∷ [])
+    ++ codes "1-  1#c " ++ (92 ∷ []) ++ (10 ∷ []) ++ codes ".outputs " ++ (10 ∷ []) ++ codes ".latch s1 s0 0 # c" ++ (10 ∷ []) ++ codes ".latch a s1 0"
+    ++ (10 ∷ []) ++ codes ".end" ++ (13 ∷ []) ++ (10 ∷ []) ++ (10 ∷ [])) ≡ Err (NoDriver (codes "0"))
+random_24 = refl

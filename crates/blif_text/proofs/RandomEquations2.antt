@@ -1,46 +1,239 @@
 -- Inner: equations between the definitions of BLIF and an independent implementation of them in Python.
 -- Each text is read as the circuit, or refused with the fault, that the other implementation answers. Generated.
-use Rattle.std.proofs.Common.{◌≡◌, ℕ, false, List, [], ◌∷◌, ◌++◌, Ok, Err, codes, refl}
-use Rattle.std.specs.Prelude.{Bool, true}
+use Rattle.std.proofs.Common.{◌≡◌, true, false, [], ◌∷◌, ◌++◌, Ok, Err, codes, refl}
 use Rattle.est_base.specs.Items.{Event, Reset}
 use Rattle.blif_text.specs.Statements.{Zero, One, Any}
-use Rattle.blif_text.specs.Circuits.{reading, Line, TwoDrivers, is_among}
+use Rattle.blif_text.specs.Circuits.{Circuit, reading, Line, TwoDrivers}
 use Rattle.blif_text.specs.Runs.{IsRun}
+use Rattle.blif_text.proofs.PlainWords.{latch, table, circuit, just}
 
--- the valuation in which just these names are true
-abbrev just : List (List ℕ) → List ℕ → Bool
-just names = λ name. is_among name names
+random_25 : reading (codes "0" ++ (10 ∷ []) ++ codes ".names a s0 g0#c " ++ (92 ∷ []) ++ (13 ∷ []) ++ (10 ∷ []) ++ codes "-- " ++ (92 ∷ []) ++ (10 ∷
+    []) ++ codes "1" ++ (10 ∷ []) ++ codes ".latch  s1  s1  0" ++ (13 ∷ []) ++ (10 ∷ []) ++ codes ".outputs" ++ (13 ∷ []) ++ (10 ∷ []) ++ codes " " ++
+    (10 ∷ []) ++ codes ".inputs a # c" ++ (10 ∷ []) ++ codes ".inputs b c" ++ (10 ∷ []) ++ codes ".names  s1  g1" ++ (13 ∷ []) ++ (10 ∷ []) ++ codes
+    "1 " ++ (92 ∷ []) ++ (10 ∷ []) ++ codes "1#c " ++ (92 ∷ []) ++ (10 ∷ []) ++ codes "0  1 # c" ++ (10 ∷ []) ++ codes ".outputs  b#c " ++ (92 ∷ [])
+    ++ (10 ∷ []) ++ codes ".latch  b  s0  0" ++ (10 ∷ []) ++ codes ".end # c" ++ (10 ∷ [])) ≡ Err (Line 1)
+random_25 = refl
+
+abbrev random_26_circuit : Circuit
+random_26_circuit = circuit [] [] [] (latch (codes "g0") (codes "s1") true ∷ latch (codes "g0") (codes "s0") true ∷
+    []) (table (codes "s1" ∷ []) (codes "g1") [] ∷ table (codes "s1" ∷ codes "s0" ∷ []) (codes "g0") [] ∷ [])
+
+random_26 : reading (codes ".model " ++ (10 ∷ []) ++ codes ".names s1 g1#c " ++ (92 ∷ []) ++ (10 ∷ []) ++ codes ".names s1 s0 g0" ++ (13 ∷ []) ++ (10
+    ∷ []) ++ codes ".latch  g0  s1  1#c " ++ (92 ∷ []) ++ (10 ∷ []) ++ codes ".latch g0 s0 1#c " ++ (92 ∷ []) ++ (13 ∷ []) ++ (10 ∷ []) ++ codes
+    ".inputs " ++ (10 ∷ []) ++ codes ".end" ++ (13 ∷ []) ++ (10 ∷ [])) ≡ Ok random_26_circuit
+random_26 = refl
+
+random_26_runs : IsRun random_26_circuit (Reset ∷ Event [] ∷ Event [] ∷ Event [] ∷ []) (just (codes "s1" ∷ codes "s0" ∷ []) ∷ just [] ∷ just [] ∷ [])
+random_26_runs = (
+  record { inputs_given = refl; latches_kept = refl; tables_met = (refl, (refl, tt)) },
+  (
+    record {
+      inputs_given = refl;
+      latches_kept =
+          refl;
+      tables_met = (refl, (refl, tt));
+    },
+    (record { inputs_given = refl; latches_kept = refl; tables_met = (refl, (refl, tt)) }, tt),
+  ),
+)
+
+abbrev random_27_circuit : Circuit
+random_27_circuit = circuit [] (codes "a" ∷ []) [] (latch (codes "a") (codes "s0") true ∷ []) (table (codes "s0" ∷
+    []) (codes "g0") [] ∷ table (codes "g0" ∷ codes "g0" ∷ []) (codes "g1") [] ∷ table (codes "g1" ∷ codes "g0" ∷ []) (codes "g2") ((Zero ∷ Zero ∷ [])
+    ∷ (One ∷ Zero ∷ []) ∷ []) ∷ [])
+
+random_27 : reading (codes ".model" ++ (13 ∷ []) ++ (10 ∷ []) ++ codes ".names  s0  g0#c " ++ (92 ∷ []) ++ (13 ∷ []) ++ (10 ∷ []) ++ codes ".names "
+    ++ (92 ∷ []) ++ (10 ∷ []) ++ codes "g0 " ++ (92 ∷ []) ++ (10 ∷ []) ++ codes "g0 " ++ (92 ∷ []) ++ (10 ∷ []) ++ codes "g1" ++ (13 ∷ []) ++ (10 ∷
+    []) ++ (10 ∷ []) ++ codes ".latch a s0 1 # c" ++ (10 ∷ []) ++ codes ".names " ++ (92 ∷ []) ++ (10 ∷ []) ++ codes "g1 " ++ (92 ∷ []) ++ (10 ∷ [])
+    ++ codes "g0 " ++ (92 ∷ []) ++ (10 ∷ []) ++ codes "g2 # c" ++ (10 ∷ []) ++ codes "00 1#c " ++ (92 ∷ []) ++ (13 ∷ []) ++ (10 ∷ []) ++ codes "10 "
+    ++ (92 ∷ []) ++ (10 ∷ []) ++ codes "1" ++ (10 ∷ []) ++ codes ".inputs  a " ++ (10 ∷ []) ++ codes ".end" ++ (13 ∷ []) ++ (10 ∷ []) ++ (10 ∷ [])) ≡
+    Ok random_27_circuit
+random_27 = refl
+
+random_27_runs : IsRun random_27_circuit (Reset ∷ Event (true ∷ []) ∷ Event (true ∷ []) ∷ Reset ∷ []) (just (codes "a" ∷ codes "s0" ∷ codes "g2" ∷ [])
+    ∷ just (codes "a" ∷ codes "s0" ∷ codes "g2" ∷ []) ∷ [])
+random_27_runs = (
+  record { inputs_given = refl; latches_kept = refl; tables_met = (refl, (refl, (refl, tt))) },
+  (
+    record {
+      inputs_given = refl;
+      latches_kept = refl;
+      tables_met = (refl, (refl, (refl, tt)));
+    },
+    tt,
+  ),
+)
+
+abbrev random_28_circuit : Circuit
+random_28_circuit = circuit [] (codes "b" ∷ codes "c" ∷ codes "a" ∷ []) (codes "a" ∷ []) (latch (codes "b") (codes
+    "s0") false ∷ latch (codes "a") (codes "s1") false ∷ []) (table (codes "b" ∷ []) (codes "g1") ((Any ∷ []) ∷ []) ∷ table (codes "s0" ∷ codes "b" ∷
+    codes "b" ∷ []) (codes "g0") ((Any ∷ Zero ∷ Any ∷ []) ∷ (One ∷ Any ∷ One ∷ []) ∷ []) ∷ [])
+
+random_28 : reading (codes ".model # c" ++ (10 ∷ []) ++ codes " " ++ (10 ∷ []) ++ codes ".outputs # c" ++ (13 ∷ []) ++ (10 ∷ []) ++ codes ".latch" ++
+    (9 ∷ []) ++ codes "b" ++ (9 ∷ []) ++ codes "s0" ++ (9 ∷ []) ++ codes "0" ++ (10 ∷ []) ++ codes ".latch a s1 0 # c" ++ (10 ∷ []) ++ codes " " ++
+    (10 ∷ []) ++ codes ".names " ++ (92 ∷ []) ++ (10 ∷ []) ++ codes "b " ++ (92 ∷ []) ++ (10 ∷ []) ++ codes "g1#c " ++ (92 ∷ []) ++ (10 ∷ []) ++ codes
+    "- " ++ (92 ∷ []) ++ (10 ∷ []) ++ codes "1 # c" ++ (13 ∷ []) ++ (10 ∷ []) ++ codes ".inputs" ++ (9 ∷ []) ++ codes "b" ++ (9 ∷ []) ++ codes "c" ++
+    (13 ∷ []) ++ (10 ∷ []) ++ codes ".names" ++ (9 ∷ []) ++ codes "s0" ++ (9 ∷ []) ++ codes "b" ++ (9 ∷ []) ++ codes "b" ++ (9 ∷ []) ++ codes "g0 " ++
+    (10 ∷ []) ++ codes "-0- 1 # c" ++ (13 ∷ []) ++ (10 ∷ []) ++ codes "1-1 " ++ (92 ∷ []) ++ (10 ∷ []) ++ codes "1 # c" ++ (10 ∷ []) ++ codes
+    ".inputs" ++ (9 ∷ []) ++ codes "a" ++ (10 ∷ []) ++ codes ".outputs a#c " ++ (92 ∷ []) ++ (10 ∷ []) ++ codes ".end#c " ++ (92 ∷ []) ++ (10 ∷ [])) ≡
+    Ok random_28_circuit
+random_28 = refl
+
+random_28_runs : IsRun random_28_circuit (Event (false ∷ true ∷ true ∷ []) ∷ Reset ∷ Event (true ∷ false ∷ true ∷ []) ∷ Event (true ∷ true ∷ true ∷
+    []) ∷ Event (true ∷ false ∷ true ∷ []) ∷ []) (just (codes "c" ∷ codes "a" ∷ codes "g1" ∷ codes "g0" ∷ []) ∷ just (codes "b" ∷ codes "a" ∷ codes
+    "g1" ∷ []) ∷ just (codes "b" ∷ codes "c" ∷ codes "a" ∷ codes "s0" ∷ codes "s1" ∷ codes "g1" ∷ codes "g0" ∷ []) ∷ just (codes "b" ∷ codes "a" ∷
+    codes "s0" ∷ codes "s1" ∷ codes "g1" ∷ codes "g0" ∷ []) ∷ [])
+random_28_runs = (
+  record { inputs_given = refl; latches_kept = refl; tables_met = (refl, (refl, tt)) },
+  (
+    record {
+      inputs_given = refl;
+      latches_kept =
+          refl;
+      tables_met = (refl, (refl, tt));
+    },
+    (
+      record { inputs_given = refl; latches_kept = refl; tables_met = (refl, (refl, tt)) },
+      (
+        record {
+          inputs_given = refl;
+          latches_kept = refl;
+          tables_met = (refl, (refl, tt));
+        },
+        tt,
+      ),
+    ),
+  ),
+)
+
+abbrev random_29_circuit : Circuit
+random_29_circuit = circuit [] [] (codes "g1" ∷ codes "g1" ∷ []) [] (table [] (codes "g0") ([] ∷ [] ∷ []) ∷ table
+    (codes "g0" ∷ []) (codes "g1") ((One ∷ []) ∷ []) ∷ [])
+
+random_29 : reading (codes ".model " ++ (13 ∷ []) ++ (10 ∷ []) ++ codes ".names " ++ (92 ∷ []) ++ (10 ∷ []) ++ codes "g0" ++ (10 ∷ []) ++ codes "1 "
+    ++ (10 ∷ []) ++ codes "1#c " ++ (92 ∷ []) ++ (13 ∷ []) ++ (10 ∷ []) ++ codes ".outputs g1" ++ (10 ∷ []) ++ codes ".inputs#c " ++ (92 ∷ []) ++ (13
+    ∷ []) ++ (10 ∷ []) ++ codes ".names g0 g1 # c" ++ (10 ∷ []) ++ codes "1" ++ (9 ∷ []) ++ codes "1" ++ (13 ∷ []) ++ (10 ∷ []) ++ codes ".outputs  g1"
+    ++ (13 ∷ []) ++ (10 ∷ []) ++ codes " " ++ (10 ∷ []) ++ codes ".end#c " ++ (92 ∷ [])) ≡ Ok random_29_circuit
+random_29 = refl
+
+random_29_runs : IsRun random_29_circuit (Event [] ∷ Reset ∷ Reset ∷ Event [] ∷ Event [] ∷ []) (just (codes "g0" ∷ codes "g1" ∷ []) ∷ just (codes "g0"
+    ∷ codes "g1" ∷ []) ∷ just (codes "g0" ∷ codes "g1" ∷ []) ∷ [])
+random_29_runs = (
+  record { inputs_given = refl; latches_kept = refl; tables_met = (refl, (refl, tt)) },
+  (
+    record {
+      inputs_given = refl;
+      latches_kept =
+          refl;
+      tables_met = (refl, (refl, tt));
+    },
+    (record { inputs_given = refl; latches_kept = refl; tables_met = (refl, (refl, tt)) }, tt),
+  ),
+)
+
+abbrev random_30_circuit : Circuit
+random_30_circuit = circuit (codes "m") (codes "a" ∷ codes "b" ∷ codes "c" ∷ []) (codes "c" ∷ codes "g0" ∷ []) []
+    (table (codes "a" ∷ []) (codes "g0") ((Zero ∷ []) ∷ (Any ∷ []) ∷ []) ∷ [])
+
+random_30 : reading (codes ".model " ++ (92 ∷ []) ++ (10 ∷ []) ++ codes "m#c " ++ (92 ∷ []) ++ (10 ∷ []) ++ codes ".outputs" ++ (10 ∷ []) ++ codes " "
+    ++ (10 ∷ []) ++ codes ".names " ++ (92 ∷ []) ++ (10 ∷ []) ++ codes "a " ++ (92 ∷ []) ++ (10 ∷ []) ++ codes "g0" ++ (10 ∷ []) ++ codes "0 1 # c" ++
+    (10 ∷ []) ++ codes "# c" ++ (10 ∷ []) ++ codes "- 1" ++ (10 ∷ []) ++ codes ".outputs  c  g0 # c" ++ (10 ∷ []) ++ codes ".inputs a" ++ (13 ∷ []) ++
+    (10 ∷ []) ++ codes ".inputs " ++ (92 ∷ []) ++ (10 ∷ []) ++ codes "b " ++ (92 ∷ []) ++ (10 ∷ []) ++ codes "c" ++ (13 ∷ []) ++ (10 ∷ []) ++ codes
+    ".end" ++ (10 ∷ [])) ≡ Ok random_30_circuit
+random_30 = refl
+
+random_30_runs : IsRun random_30_circuit (Event (false ∷ true ∷ true ∷ []) ∷ Event (false ∷ false ∷ true ∷ []) ∷ Event (true ∷ false ∷ true ∷ []) ∷
+    []) (just (codes "b" ∷ codes "c" ∷ codes "g0" ∷ []) ∷ just (codes "c" ∷ codes "g0" ∷ []) ∷ just (codes "a" ∷ codes "c" ∷ codes "g0" ∷ []) ∷ [])
+random_30_runs = (
+  record { inputs_given = refl; latches_kept = refl; tables_met = (refl, tt) },
+  (
+    record {
+      inputs_given = refl;
+      latches_kept = refl;
+      tables_met = (refl, tt);
+    },
+    (record { inputs_given = refl; latches_kept = refl; tables_met = (refl, tt) }, tt),
+  ),
+)
+
+random_31 : reading (codes ".model  m" ++ (13 ∷ []) ++ (10 ∷ []) ++ codes ".latch g0 s1 1 " ++ (10 ∷ []) ++ (10 ∷ []) ++ codes ".names" ++ (9 ∷ []) ++
+    codes "s1" ++ (9 ∷ []) ++ codes "g0" ++ (9 ∷ []) ++ codes "g0" ++ (9 ∷ []) ++ codes "g1" ++ (10 ∷ []) ++ codes "1-1 1" ++ (10 ∷ []) ++ codes " "
+    ++ (10 ∷ []) ++ codes "01-" ++ (9 ∷ []) ++ codes "1 # c" ++ (10 ∷ []) ++ codes ".inputs b c" ++ (10 ∷ []) ++ codes ".outputs s1" ++ (13 ∷ []) ++
+    (10 ∷ []) ++ codes "-  1 # c" ++ (10 ∷ []) ++ codes ".inputs a # c" ++ (13 ∷ []) ++ (10 ∷ []) ++ codes ".outputs" ++ (9 ∷ []) ++ codes "s1" ++ (10
+    ∷ []) ++ codes ".latch " ++ (92 ∷ []) ++ (10 ∷ []) ++ codes "c " ++ (92 ∷ []) ++ (10 ∷ []) ++ codes "s0 " ++ (92 ∷ []) ++ (10 ∷ []) ++ codes "0 "
+    ++ (10 ∷ []) ++ codes ".names  s1  g0" ++ (13 ∷ []) ++ (10 ∷ []) ++ (10 ∷ []) ++ codes "- 1" ++ (13 ∷ []) ++ (10 ∷ []) ++ codes ".end # c" ++ (10
+    ∷ [])) ≡ Err (Line 10)
+random_31 = refl
+
+abbrev random_32_circuit : Circuit
+random_32_circuit = circuit (codes "m") (codes "a" ∷ codes "b" ∷ []) (codes "a" ∷ codes "g0" ∷ []) [] (table (codes
+    "b" ∷ codes "g0" ∷ []) (codes "g1") ((Any ∷ One ∷ []) ∷ []) ∷ table (codes "b" ∷ codes "a" ∷ codes "a" ∷ []) (codes "g0") [] ∷ [])
+
+random_32 : reading (codes ".model  m" ++ (13 ∷ []) ++ (10 ∷ []) ++ codes ".names " ++ (92 ∷ []) ++ (10 ∷ []) ++ codes "b " ++ (92 ∷ []) ++ (10 ∷ [])
+    ++ codes "g0 " ++ (92 ∷ []) ++ (10 ∷ []) ++ codes "g1#c " ++ (92 ∷ []) ++ (13 ∷ []) ++ (10 ∷ []) ++ codes "-1" ++ (9 ∷ []) ++ codes "1 " ++ (10 ∷
+    []) ++ codes ".inputs a" ++ (13 ∷ []) ++ (10 ∷ []) ++ codes ".inputs " ++ (92 ∷ []) ++ (10 ∷ []) ++ codes "b" ++ (10 ∷ []) ++ codes ".names b a a g0"
+    ++ (10 ∷ []) ++ (10 ∷ []) ++ codes ".outputs  a  g0#c " ++ (92 ∷ []) ++ (13 ∷ []) ++ (10 ∷ []) ++ codes ".end" ++ (10 ∷ []) ++ codes " " ++ (10 ∷
+    [])) ≡ Ok random_32_circuit
+random_32 = refl
+
+random_32_runs : IsRun random_32_circuit (Event (true ∷ true ∷ []) ∷ Reset ∷ Event (false ∷ false ∷ []) ∷ Event (true ∷ false ∷ []) ∷ Reset ∷ Event
+    (false ∷ false ∷ []) ∷ []) (just (codes "a" ∷ codes "b" ∷ []) ∷ just [] ∷ just (codes "a" ∷ []) ∷ just [] ∷ [])
+random_32_runs = (
+  record { inputs_given = refl; latches_kept = refl; tables_met = (refl, (refl, tt)) },
+  (
+    record {
+      inputs_given = refl;
+      latches_kept =
+          refl;
+      tables_met = (refl, (refl, tt));
+    },
+    (
+      record { inputs_given = refl; latches_kept = refl; tables_met = (refl, (refl, tt)) },
+      (
+        record {
+          inputs_given = refl;
+          latches_kept = refl;
+          tables_met = (refl, (refl, tt));
+        },
+        tt,
+      ),
+    ),
+  ),
+)
+
+abbrev random_33_circuit : Circuit
+random_33_circuit = circuit (codes "m") [] [] (latch (codes "s1") (codes "s1") false ∷ latch (codes "s1") (codes
+    "s0") true ∷ []) []
+
+random_33 : reading (codes ".model m # c" ++ (13 ∷ []) ++ (10 ∷ []) ++ codes ".latch" ++ (9 ∷ []) ++ codes "s1" ++ (9 ∷ []) ++ codes "s1" ++ (9 ∷ [])
+    ++ codes "0" ++ (10 ∷ []) ++ codes ".latch " ++ (92 ∷ []) ++ (10 ∷ []) ++ codes "s1 " ++ (92 ∷ []) ++ (10 ∷ []) ++ codes "s0 " ++ (92 ∷ []) ++ (10
+    ∷ []) ++ codes "1" ++ (13 ∷ []) ++ (10 ∷ []) ++ codes ".end" ++ (10 ∷ [])) ≡ Ok random_33_circuit
+random_33 = refl
+
+random_33_runs : IsRun random_33_circuit (Reset ∷ Event [] ∷ Event [] ∷ []) (just (codes "s0" ∷ []) ∷ just [] ∷ [])
+random_33_runs = (
+  record { inputs_given = refl; latches_kept = refl; tables_met = tt },
+  (
+    record {
+      inputs_given = refl;
+      latches_kept = refl;
+      tables_met
+          = tt;
+    },
+    tt,
+  ),
+)
+
+abbrev random_34_circuit : Circuit
+random_34_circuit = circuit [] [] (codes "g1" ∷ []) [] (table (codes "g0" ∷ []) (codes "g1") [] ∷ table [] (codes
+    "g0") ([] ∷ []) ∷ [])
 
 random_34 : reading (codes ".model" ++ (10 ∷ []) ++ codes "# c" ++ (10 ∷ []) ++ codes ".names g0 g1" ++ (13 ∷ []) ++ (10 ∷ []) ++ codes ".outputs" ++
     (9 ∷ []) ++ codes "g1#c " ++ (92 ∷ []) ++ (10 ∷ []) ++ codes ".names g0#c " ++ (92 ∷ []) ++ (10 ∷ []) ++ codes "1" ++ (10 ∷ []) ++ codes ".inputs "
-    ++ (13 ∷ []) ++ (10 ∷ []) ++ codes ".outputs" ++ (10 ∷ []) ++ codes ".end # c" ++ (13 ∷ [])) ≡ Ok (record {
-      name = [];
-      inputs = ([]);
-      outputs =
-          ((codes "g1") ∷ []);
-      latches = ([]);
-      tables = (record { inputs = ((codes "g0") ∷ []); output = (codes "g1"); rows = ([]) } ∷ record {
-        inputs =
-            ([]);
-        output = (codes "g0");
-        rows = (([]) ∷ []);
-      } ∷ []);
-    })
+    ++ (13 ∷ []) ++ (10 ∷ []) ++ codes ".outputs" ++ (10 ∷ []) ++ codes ".end # c" ++ (13 ∷ [])) ≡ Ok random_34_circuit
 random_34 = refl
 
-random_34_runs : IsRun (record {
-  name = [];
-  inputs = ([]);
-  outputs = ((codes "g1") ∷ []);
-  latches = ([]);
-  tables = (record {
-    inputs = ((codes "g0") ∷
-        []);
-    output = (codes "g1");
-    rows = ([]);
-  } ∷ record { inputs = ([]); output = (codes "g0"); rows = (([]) ∷ []) } ∷ []);
-}) (Event ([]) ∷ Event ([])
-    ∷ []) (just ((codes "g0") ∷ []) ∷ just ((codes "g0") ∷ []) ∷ [])
+random_34_runs : IsRun random_34_circuit (Reset ∷ Event [] ∷ Event [] ∷ []) (just (codes "g0" ∷ []) ∷ just (codes "g0" ∷ []) ∷ [])
 random_34_runs = (
   record { inputs_given = refl; latches_kept = refl; tables_met = (refl, (refl, tt)) },
   (
@@ -54,47 +247,21 @@ random_34_runs = (
   ),
 )
 
+abbrev random_35_circuit : Circuit
+random_35_circuit = circuit [] (codes "a" ∷ codes "b" ∷ codes "c" ∷ []) [] (latch (codes "c") (codes "s0") true ∷
+    []) (table [] (codes "g1") ([] ∷ [] ∷ []) ∷ table (codes "s0" ∷ codes "c" ∷ codes "c" ∷ []) (codes "g0") ((One ∷ One ∷ Any ∷ []) ∷ []) ∷ [])
+
 random_35 : reading (codes ".model # c" ++ (10 ∷ []) ++ codes ".names" ++ (9 ∷ []) ++ codes "g1" ++ (10 ∷ []) ++ codes "1" ++ (10 ∷ []) ++ codes "1 "
     ++ (10 ∷ []) ++ codes ".inputs" ++ (9 ∷ []) ++ codes "a" ++ (13 ∷ []) ++ (10 ∷ []) ++ codes ".names " ++ (92 ∷ []) ++ (10 ∷ []) ++ codes "s0 " ++
     (92 ∷ []) ++ (10 ∷ []) ++ codes "c " ++ (92 ∷ []) ++ (10 ∷ []) ++ codes "c " ++ (92 ∷ []) ++ (10 ∷ []) ++ codes "g0" ++ (10 ∷ []) ++ codes "11- 1#c "
     ++ (92 ∷ []) ++ (10 ∷ []) ++ codes ".inputs" ++ (9 ∷ []) ++ codes "b" ++ (9 ∷ []) ++ codes "c # c" ++ (10 ∷ []) ++ codes ".latch " ++ (92 ∷ []) ++
     (10 ∷ []) ++ codes "c " ++ (92 ∷ []) ++ (10 ∷ []) ++ codes "s0 " ++ (92 ∷ []) ++ (10 ∷ []) ++ codes "1#c " ++ (92 ∷ []) ++ (13 ∷ []) ++ (10 ∷ [])
-    ++ codes ".end" ++ (10 ∷ []) ++ codes " " ++ (10 ∷ [])) ≡ Ok (record {
-      name = [];
-      inputs = ((codes "a") ∷ (codes "b") ∷ (codes "c") ∷ []);
-      outputs
-          = ([]);
-      latches = (record { source = (codes "c"); target = (codes "s0"); init = true } ∷ []);
-      tables = (record {
-        inputs = ([]);
-        output = (codes
-            "g1");
-        rows = (([]) ∷ ([]) ∷ []);
-      } ∷ record {
-        inputs = ((codes "s0") ∷ (codes "c") ∷ (codes "c") ∷ []);
-        output = (codes "g0");
-        rows = ((One ∷ One
-            ∷ Any ∷ []) ∷ []);
-      } ∷ []);
-    })
+    ++ codes ".end" ++ (10 ∷ []) ++ codes " " ++ (10 ∷ [])) ≡ Ok random_35_circuit
 random_35 = refl
 
-random_35_runs : IsRun (record {
-  name = [];
-  inputs = ((codes "a") ∷ (codes "b") ∷ (codes "c") ∷ []);
-  outputs = ([]);
-  latches = (record {
-    source =
-        (codes "c");
-    target = (codes "s0");
-    init = true;
-  } ∷ []);
-  tables = (record { inputs = ([]); output = (codes "g1"); rows = (([]) ∷ ([]) ∷ []) } ∷
-      record { inputs = ((codes "s0") ∷ (codes "c") ∷ (codes "c") ∷ []); output = (codes "g0"); rows = ((One ∷ One ∷ Any ∷ []) ∷ []) } ∷ []);
-}) (Reset ∷
-    Event (true ∷ false ∷ false ∷ []) ∷ Event (true ∷ true ∷ false ∷ []) ∷ Event (true ∷ true ∷ true ∷ []) ∷ []) (just ((codes "a") ∷ (codes "s0") ∷
-    (codes "g1") ∷ []) ∷ just ((codes "a") ∷ (codes "b") ∷ (codes "g1") ∷ []) ∷ just ((codes "a") ∷ (codes "b") ∷ (codes "c") ∷ (codes "g1") ∷ []) ∷
-    [])
+random_35_runs : IsRun random_35_circuit (Reset ∷ Event (true ∷ true ∷ true ∷ []) ∷ Reset ∷ Event (true ∷ true ∷ true ∷ []) ∷ Event (false ∷ false ∷
+    true ∷ []) ∷ []) (just (codes "a" ∷ codes "b" ∷ codes "c" ∷ codes "s0" ∷ codes "g1" ∷ codes "g0" ∷ []) ∷ just (codes "a" ∷ codes "b" ∷ codes "c" ∷
+    codes "s0" ∷ codes "g1" ∷ codes "g0" ∷ []) ∷ just (codes "c" ∷ codes "s0" ∷ codes "g1" ∷ codes "g0" ∷ []) ∷ [])
 random_35_runs = (
   record { inputs_given = refl; latches_kept = refl; tables_met = (refl, (refl, tt)) },
   (
@@ -131,18 +298,14 @@ random_39 : reading (codes ".model  m#c " ++ (92 ∷ []) ++ (10 ∷ []) ++ codes
     ++ codes "-1 " ++ (92 ∷ []) ++ (10 ∷ []) ++ codes "1#c " ++ (92 ∷ []) ++ (10 ∷ []) ++ codes ".end " ++ (13 ∷ []) ++ (10 ∷ [])) ≡ Err (Line 4)
 random_39 = refl
 
+abbrev random_40_circuit : Circuit
+random_40_circuit = circuit (codes "0") [] [] [] []
+
 random_40 : reading (codes ".model " ++ (92 ∷ []) ++ (10 ∷ []) ++ codes "0 " ++ (10 ∷ []) ++ codes ".outputs" ++ (13 ∷ []) ++ (10 ∷ []) ++ codes
-    ".inputs # c" ++ (10 ∷ []) ++ codes ".end # c" ++ (10 ∷ [])) ≡ Ok (record {
-      name = (codes "0");
-      inputs = ([]);
-      outputs = ([]);
-      latches = ([]);
-      tables = ([]);
-    })
+    ".inputs # c" ++ (10 ∷ []) ++ codes ".end # c" ++ (10 ∷ [])) ≡ Ok random_40_circuit
 random_40 = refl
 
-random_40_runs : IsRun (record { name = (codes "0"); inputs = ([]); outputs = ([]); latches = ([]); tables = ([]) }) (Event ([]) ∷ Event ([]) ∷ Event
-    ([]) ∷ Reset ∷ []) (just ([]) ∷ just ([]) ∷ just ([]) ∷ [])
+random_40_runs : IsRun random_40_circuit (Event [] ∷ Event [] ∷ Event [] ∷ []) (just [] ∷ just [] ∷ just [] ∷ [])
 random_40_runs = (
   record { inputs_given = refl; latches_kept = refl; tables_met = tt },
   (
@@ -156,37 +319,18 @@ random_40_runs = (
   ),
 )
 
+abbrev random_41_circuit : Circuit
+random_41_circuit = circuit (codes "m") (codes "b" ∷ codes "a" ∷ []) (codes "s0" ∷ []) (latch (codes "s1") (codes
+    "s0") false ∷ latch (codes "s1") (codes "s1") true ∷ []) []
+
 random_41 : reading (codes ".model " ++ (92 ∷ []) ++ (10 ∷ []) ++ codes "m#c " ++ (92 ∷ []) ++ (10 ∷ []) ++ codes ".latch" ++ (9 ∷ []) ++ codes "s1"
     ++ (9 ∷ []) ++ codes "s0" ++ (9 ∷ []) ++ codes "0" ++ (10 ∷ []) ++ codes ".inputs " ++ (92 ∷ []) ++ (10 ∷ []) ++ codes "b" ++ (10 ∷ []) ++ codes
     ".latch s1 s1 1 " ++ (13 ∷ []) ++ (10 ∷ []) ++ codes ".inputs a#c " ++ (92 ∷ []) ++ (10 ∷ []) ++ codes ".outputs  s0" ++ (10 ∷ []) ++ codes ".end "
-    ++ (10 ∷ [])) ≡ Ok (record {
-      name = (codes "m");
-      inputs = ((codes "b") ∷ (codes "a") ∷ []);
-      outputs = ((codes "s0") ∷ []);
-      latches = (record {
-        source = (codes "s1");
-        target = (codes "s0");
-        init = false;
-      } ∷ record { source = (codes "s1"); target = (codes "s1"); init = true } ∷ []);
-      tables
-          = ([]);
-    })
+    ++ (10 ∷ [])) ≡ Ok random_41_circuit
 random_41 = refl
 
-random_41_runs : IsRun (record {
-  name = (codes "m");
-  inputs = ((codes "b") ∷ (codes "a") ∷ []);
-  outputs = ((codes "s0") ∷ []);
-  latches = (record {
-    source = (codes "s1");
-    target = (codes "s0");
-    init = false;
-  } ∷ record { source = (codes "s1"); target = (codes "s1"); init = true } ∷ []);
-  tables
-      = ([]);
-}) (Event (true ∷ false ∷ []) ∷ Event (true ∷ false ∷ []) ∷ Event (false ∷ true ∷ []) ∷ Event (true ∷ false ∷ []) ∷ []) (just ((codes "b")
-    ∷ (codes "s1") ∷ []) ∷ just ((codes "b") ∷ (codes "s0") ∷ (codes "s1") ∷ []) ∷ just ((codes "a") ∷ (codes "s0") ∷ (codes "s1") ∷ []) ∷ just
-    ((codes "b") ∷ (codes "s0") ∷ (codes "s1") ∷ []) ∷ [])
+random_41_runs : IsRun random_41_circuit (Event (true ∷ false ∷ []) ∷ Reset ∷ Event (true ∷ true ∷ []) ∷ []) (just (codes "b" ∷ codes "s1" ∷ []) ∷
+    just (codes "b" ∷ codes "a" ∷ codes "s1" ∷ []) ∷ [])
 random_41_runs = (
   record { inputs_given = refl; latches_kept = refl; tables_met = tt },
   (
@@ -196,69 +340,25 @@ random_41_runs = (
       tables_met
           = tt;
     },
-    (
-      record { inputs_given = refl; latches_kept = refl; tables_met = tt },
-      (
-        record {
-          inputs_given = refl;
-          latches_kept = refl;
-          tables_met = tt;
-        },
-        tt,
-      ),
-    ),
+    tt,
   ),
 )
+
+abbrev random_42_circuit : Circuit
+random_42_circuit = circuit [] (codes "a" ∷ codes "b" ∷ []) (codes "s0" ∷ codes "g1" ∷ codes "s0" ∷ codes "g0" ∷
+    []) (latch (codes "s0") (codes "s1") true ∷ latch (codes "g1") (codes "s0") true ∷ []) (table (codes "a" ∷ []) (codes "g0") ((Zero ∷ []) ∷ []) ∷
+    table (codes "b" ∷ codes "s1" ∷ codes "a" ∷ []) (codes "g1") ((Zero ∷ Any ∷ One ∷ []) ∷ (One ∷ One ∷ Any ∷ []) ∷ []) ∷ [])
 
 random_42 : reading (codes ".model" ++ (10 ∷ []) ++ codes ".names a g0" ++ (10 ∷ []) ++ codes "0" ++ (9 ∷ []) ++ codes "1" ++ (10 ∷ []) ++ codes
     ".outputs  s0  g1" ++ (10 ∷ []) ++ codes ".inputs" ++ (9 ∷ []) ++ codes "a " ++ (13 ∷ []) ++ (10 ∷ []) ++ codes ".inputs b" ++ (10 ∷ []) ++ codes
     ".names" ++ (9 ∷ []) ++ codes "b" ++ (9 ∷ []) ++ codes "s1" ++ (9 ∷ []) ++ codes "a" ++ (9 ∷ []) ++ codes "g1 # c" ++ (13 ∷ []) ++ (10 ∷ []) ++
     codes "0-1 1" ++ (10 ∷ []) ++ codes "11-" ++ (9 ∷ []) ++ codes "1 " ++ (10 ∷ []) ++ codes ".latch" ++ (9 ∷ []) ++ codes "s0" ++ (9 ∷ []) ++ codes
     "s1" ++ (9 ∷ []) ++ codes "1" ++ (10 ∷ []) ++ codes " " ++ (10 ∷ []) ++ codes ".latch g1 s0 1 " ++ (10 ∷ []) ++ codes ".outputs s0 g0" ++ (10 ∷
-    []) ++ codes ".end # c" ++ (13 ∷ []) ++ (10 ∷ [])) ≡ Ok (record {
-      name = [];
-      inputs = ((codes "a") ∷ (codes "b") ∷ []);
-      outputs = ((codes "s0") ∷
-          (codes "g1") ∷ (codes "s0") ∷ (codes "g0") ∷ []);
-      latches = (record { source = (codes "s0"); target = (codes "s1"); init = true } ∷ record {
-        source = (codes "g1");
-        target = (codes "s0");
-        init = true;
-      } ∷ []);
-      tables = (record {
-        inputs = ((codes "a") ∷ []);
-        output = (codes "g0");
-        rows =
-            ((Zero ∷ []) ∷ []);
-      } ∷ record {
-        inputs = ((codes "b") ∷ (codes "s1") ∷ (codes "a") ∷ []);
-        output = (codes "g1");
-        rows = ((Zero ∷ Any ∷ One ∷ []) ∷
-            (One ∷ One ∷ Any ∷ []) ∷ []);
-      } ∷ []);
-    })
+    []) ++ codes ".end # c" ++ (13 ∷ []) ++ (10 ∷ [])) ≡ Ok random_42_circuit
 random_42 = refl
 
-random_42_runs : IsRun (record {
-  name = [];
-  inputs = ((codes "a") ∷ (codes "b") ∷ []);
-  outputs = ((codes "s0") ∷ (codes "g1") ∷ (codes "s0") ∷ (codes
-      "g0") ∷ []);
-  latches = (record { source = (codes "s0"); target = (codes "s1"); init = true } ∷ record {
-    source = (codes "g1");
-    target = (codes
-        "s0");
-    init = true;
-  } ∷ []);
-  tables = (record { inputs = ((codes "a") ∷ []); output = (codes "g0"); rows = ((Zero ∷ []) ∷ []) } ∷ record {
-    inputs =
-        ((codes "b") ∷ (codes "s1") ∷ (codes "a") ∷ []);
-    output = (codes "g1");
-    rows = ((Zero ∷ Any ∷ One ∷ []) ∷ (One ∷ One ∷ Any ∷ []) ∷ []);
-  } ∷ []);
-})
-    (Event (true ∷ false ∷ []) ∷ Reset ∷ Event (false ∷ true ∷ []) ∷ []) (just ((codes "a") ∷ (codes "s1") ∷ (codes "s0") ∷ (codes "g1") ∷ []) ∷ just
-    ((codes "b") ∷ (codes "s1") ∷ (codes "s0") ∷ (codes "g0") ∷ (codes "g1") ∷ []) ∷ [])
+random_42_runs : IsRun random_42_circuit (Event (true ∷ false ∷ []) ∷ Event (false ∷ false ∷ []) ∷ []) (just (codes "a" ∷ codes "s1" ∷ codes "s0" ∷
+    codes "g1" ∷ []) ∷ just (codes "s1" ∷ codes "s0" ∷ codes "g0" ∷ []) ∷ [])
 random_42_runs = (
   record { inputs_given = refl; latches_kept = refl; tables_met = (refl, (refl, tt)) },
   (
@@ -281,19 +381,15 @@ random_44 : reading (codes ".names" ++ (10 ∷ []) ++ codes ".inputs " ++ (92 �
     ".outputs" ++ (10 ∷ []) ++ codes ".end " ++ (10 ∷ [])) ≡ Err (Line 1)
 random_44 = refl
 
+abbrev random_45_circuit : Circuit
+random_45_circuit = circuit [] (codes "a" ∷ []) [] [] []
+
 random_45 : reading (codes ".model # c" ++ (10 ∷ []) ++ codes ".inputs" ++ (13 ∷ []) ++ (10 ∷ []) ++ codes " " ++ (10 ∷ []) ++ codes ".inputs" ++ (9 ∷
-    []) ++ codes "a " ++ (10 ∷ []) ++ codes ".end ") ≡ Ok (record {
-      name = [];
-      inputs = ((codes "a") ∷ []);
-      outputs = ([]);
-      latches = ([]);
-      tables =
-          ([]);
-    })
+    []) ++ codes "a " ++ (10 ∷ []) ++ codes ".end ") ≡ Ok random_45_circuit
 random_45 = refl
 
-random_45_runs : IsRun (record { name = []; inputs = ((codes "a") ∷ []); outputs = ([]); latches = ([]); tables = ([]) }) (Event (true ∷ []) ∷ Reset ∷
-    Reset ∷ Event (true ∷ []) ∷ []) (just ((codes "a") ∷ []) ∷ just ((codes "a") ∷ []) ∷ [])
+random_45_runs : IsRun random_45_circuit (Event (true ∷ []) ∷ Event (true ∷ []) ∷ Event (false ∷ []) ∷ []) (just (codes "a" ∷ []) ∷ just (codes "a" ∷
+    []) ∷ just [] ∷ [])
 random_45_runs = (
   record { inputs_given = refl; latches_kept = refl; tables_met = tt },
   (
@@ -303,43 +399,23 @@ random_45_runs = (
       tables_met
           = tt;
     },
-    tt,
+    (record { inputs_given = refl; latches_kept = refl; tables_met = tt }, tt),
   ),
 )
+
+abbrev random_46_circuit : Circuit
+random_46_circuit = circuit (codes "1") (codes "b" ∷ codes "c" ∷ codes "a" ∷ []) (codes "a" ∷ codes "g0" ∷ []) []
+    (table [] (codes "g1") [] ∷ table [] (codes "g0") ([] ∷ []) ∷ [])
 
 random_46 : reading (codes ".model " ++ (92 ∷ []) ++ (10 ∷ []) ++ codes "1 " ++ (10 ∷ []) ++ codes ".outputs " ++ (92 ∷ []) ++ (10 ∷ []) ++ codes "a "
     ++ (92 ∷ []) ++ (10 ∷ []) ++ codes "g0 # c" ++ (10 ∷ []) ++ codes ".names  g1#c " ++ (92 ∷ []) ++ (13 ∷ []) ++ (10 ∷ []) ++ codes ".outputs" ++
     (13 ∷ []) ++ (10 ∷ []) ++ codes ".inputs" ++ (9 ∷ []) ++ codes "b" ++ (9 ∷ []) ++ codes "c " ++ (10 ∷ []) ++ codes "# c" ++ (10 ∷ []) ++ codes
     ".names " ++ (92 ∷ []) ++ (10 ∷ []) ++ codes "g0#c " ++ (92 ∷ []) ++ (10 ∷ []) ++ codes "1" ++ (10 ∷ []) ++ codes ".inputs " ++ (92 ∷ []) ++ (10 ∷
-    []) ++ codes "a" ++ (10 ∷ []) ++ codes ".end") ≡ Ok (record {
-      name = (codes "1");
-      inputs = ((codes "b") ∷ (codes "c") ∷ (codes "a") ∷ []);
-      outputs
-          = ((codes "a") ∷ (codes "g0") ∷ []);
-      latches = ([]);
-      tables = (record { inputs = ([]); output = (codes "g1"); rows = ([]) } ∷ record {
-        inputs =
-            ([]);
-        output = (codes "g0");
-        rows = (([]) ∷ []);
-      } ∷ []);
-    })
+    []) ++ codes "a" ++ (10 ∷ []) ++ codes ".end") ≡ Ok random_46_circuit
 random_46 = refl
 
-random_46_runs : IsRun (record {
-  name = (codes "1");
-  inputs = ((codes "b") ∷ (codes "c") ∷ (codes "a") ∷ []);
-  outputs = ((codes "a") ∷ (codes "g0") ∷
-      []);
-  latches = ([]);
-  tables = (record { inputs = ([]); output = (codes "g1"); rows = ([]) } ∷ record {
-    inputs = ([]);
-    output = (codes "g0");
-    rows
-        = (([]) ∷ []);
-  } ∷ []);
-}) (Event (true ∷ true ∷ true ∷ []) ∷ Reset ∷ Event (false ∷ false ∷ true ∷ []) ∷ []) (just ((codes "b") ∷ (codes "c") ∷
-    (codes "a") ∷ (codes "g0") ∷ []) ∷ just ((codes "a") ∷ (codes "g0") ∷ []) ∷ [])
+random_46_runs : IsRun random_46_circuit (Event (false ∷ true ∷ true ∷ []) ∷ Reset ∷ Reset ∷ Event (false ∷ false ∷ false ∷ []) ∷ []) (just (codes "c"
+    ∷ codes "a" ∷ codes "g0" ∷ []) ∷ just (codes "g0" ∷ []) ∷ [])
 random_46_runs = (
   record { inputs_given = refl; latches_kept = refl; tables_met = (refl, (refl, tt)) },
   (
@@ -363,12 +439,14 @@ random_47 : reading (codes ".model m" ++ (10 ∷ []) ++ (10 ∷ []) ++ codes ".i
     ++ (92 ∷ []) ++ (10 ∷ []) ++ codes "0 " ++ (10 ∷ []) ++ codes ".end" ++ (13 ∷ [])) ≡ Err (Line 25)
 random_47 = refl
 
+abbrev random_48_circuit : Circuit
+random_48_circuit = circuit (codes "m") (codes "a" ∷ []) [] [] []
+
 random_48 : reading (codes ".model m" ++ (13 ∷ []) ++ (10 ∷ []) ++ codes ".inputs a" ++ (13 ∷ []) ++ (10 ∷ []) ++ codes ".end " ++ (10 ∷ [])) ≡ Ok
-    (record { name = (codes "m"); inputs = ((codes "a") ∷ []); outputs = ([]); latches = ([]); tables = ([]) })
+    random_48_circuit
 random_48 = refl
 
-random_48_runs : IsRun (record { name = (codes "m"); inputs = ((codes "a") ∷ []); outputs = ([]); latches = ([]); tables = ([]) }) (Event (false ∷ [])
-    ∷ Event (false ∷ []) ∷ Reset ∷ Event (false ∷ []) ∷ []) (just ([]) ∷ just ([]) ∷ just ([]) ∷ [])
+random_48_runs : IsRun random_48_circuit (Event (false ∷ []) ∷ Event (false ∷ []) ∷ Event (false ∷ []) ∷ []) (just [] ∷ just [] ∷ just [] ∷ [])
 random_48_runs = (
   record { inputs_given = refl; latches_kept = refl; tables_met = tt },
   (
@@ -386,601 +464,3 @@ random_49 : reading (codes ".model m" ++ (10 ∷ []) ++ codes ".names g0 g0 g1" 
     codes ".inputs " ++ (10 ∷ []) ++ codes ".names " ++ (92 ∷ []) ++ (10 ∷ []) ++ codes "g0" ++ (10 ∷ []) ++ codes "0" ++ (10 ∷ []) ++ codes ".inputs  a#c "
     ++ (92 ∷ []) ++ (10 ∷ []) ++ codes ".end " ++ (13 ∷ [])) ≡ Err (Line 7)
 random_49 = refl
-
-random_50 : reading (codes ".model#c " ++ (92 ∷ []) ++ (13 ∷ []) ++ (10 ∷ []) ++ codes ".latch " ++ (92 ∷ []) ++ (10 ∷ []) ++ codes "c " ++ (92 ∷ [])
-    ++ (10 ∷ []) ++ codes "s0 " ++ (92 ∷ []) ++ (10 ∷ []) ++ codes "1 " ++ (10 ∷ []) ++ codes ".end " ++ (10 ∷ []) ++ codes " " ++ (10 ∷ []) ++ codes
-    ".inputs " ++ (92 ∷ []) ++ (10 ∷ []) ++ codes "a " ++ (13 ∷ []) ++ (10 ∷ []) ++ codes "# c" ++ (10 ∷ []) ++ codes ".inputs" ++ (9 ∷ []) ++ codes
-    "b" ++ (9 ∷ []) ++ codes "c " ++ (13 ∷ []) ++ (10 ∷ []) ++ codes ".latch " ++ (92 ∷ []) ++ (10 ∷ []) ++ codes "b " ++ (92 ∷ []) ++ (10 ∷ []) ++
-    codes "s1 " ++ (92 ∷ []) ++ (10 ∷ []) ++ codes "1") ≡ Err (Line 8)
-random_50 = refl
-
-random_51 : reading (codes ".model  m" ++ (10 ∷ []) ++ codes ".inputs b # c" ++ (10 ∷ []) ++ codes ".latch s1 s1 1 # c" ++ (10 ∷ []) ++ codes ".inputs a "
-    ++ (13 ∷ []) ++ (10 ∷ []) ++ codes "# c" ++ (10 ∷ []) ++ codes ".latch a s0 1 " ++ (10 ∷ []) ++ codes ".end" ++ (10 ∷ []) ++ (10 ∷ [])) ≡ Ok
-    (record {
-      name = (codes "m");
-      inputs = ((codes "b") ∷ (codes "a") ∷ []);
-      outputs = ([]);
-      latches = (record {
-        source = (codes "s1");
-        target =
-            (codes "s1");
-        init = true;
-      } ∷ record { source = (codes "a"); target = (codes "s0"); init = true } ∷ []);
-      tables = ([]);
-    })
-random_51 = refl
-
-random_51_runs : IsRun (record {
-  name = (codes "m");
-  inputs = ((codes "b") ∷ (codes "a") ∷ []);
-  outputs = ([]);
-  latches = (record {
-    source = (codes
-        "s1");
-    target = (codes "s1");
-    init = true;
-  } ∷ record { source = (codes "a"); target = (codes "s0"); init = true } ∷ []);
-  tables = ([]);
-}) (Reset ∷
-    Event (true ∷ true ∷ []) ∷ Event (true ∷ true ∷ []) ∷ Event (true ∷ false ∷ []) ∷ []) (just ((codes "b") ∷ (codes "a") ∷ (codes "s1") ∷ (codes
-    "s0") ∷ []) ∷ just ((codes "b") ∷ (codes "a") ∷ (codes "s1") ∷ (codes "s0") ∷ []) ∷ just ((codes "b") ∷ (codes "s1") ∷ (codes "s0") ∷ []) ∷ [])
-random_51_runs = (
-  record { inputs_given = refl; latches_kept = refl; tables_met = tt },
-  (
-    record {
-      inputs_given = refl;
-      latches_kept = refl;
-      tables_met
-          = tt;
-    },
-    (record { inputs_given = refl; latches_kept = refl; tables_met = tt }, tt),
-  ),
-)
-
-random_52 : reading (codes ".model" ++ (10 ∷ []) ++ codes ".outputs#c " ++ (92 ∷ []) ++ (10 ∷ []) ++ codes ".inputs  a" ++ (13 ∷ []) ++ (10 ∷ []) ++
-    codes ".outputs b" ++ (10 ∷ []) ++ codes " " ++ (10 ∷ []) ++ codes ".inputs b" ++ (10 ∷ []) ++ codes ".latch " ++ (92 ∷ []) ++ (10 ∷ []) ++ codes
-    "s0 " ++ (92 ∷ []) ++ (10 ∷ []) ++ codes "s0 " ++ (92 ∷ []) ++ (10 ∷ []) ++ codes "1" ++ (10 ∷ []) ++ codes ".end" ++ (10 ∷ [])) ≡ Ok (record {
-      name = [];
-      inputs = ((codes "a") ∷ (codes "b") ∷ []);
-      outputs = ((codes "b") ∷ []);
-      latches = (record {
-        source = (codes "s0");
-        target = (codes
-            "s0");
-        init = true;
-      } ∷ []);
-      tables = ([]);
-    })
-random_52 = refl
-
-random_52_runs : IsRun (record {
-  name = [];
-  inputs = ((codes "a") ∷ (codes "b") ∷ []);
-  outputs = ((codes "b") ∷ []);
-  latches = (record {
-    source =
-        (codes "s0");
-    target = (codes "s0");
-    init = true;
-  } ∷ []);
-  tables = ([]);
-}) (Reset ∷ Event (false ∷ false ∷ []) ∷ Event (true ∷ true ∷ []) ∷ Event
-    (false ∷ true ∷ []) ∷ Event (false ∷ false ∷ []) ∷ []) (just ((codes "s0") ∷ []) ∷ just ((codes "a") ∷ (codes "b") ∷ (codes "s0") ∷ []) ∷ just
-    ((codes "b") ∷ (codes "s0") ∷ []) ∷ just ((codes "s0") ∷ []) ∷ [])
-random_52_runs = (
-  record { inputs_given = refl; latches_kept = refl; tables_met = tt },
-  (
-    record {
-      inputs_given = refl;
-      latches_kept = refl;
-      tables_met
-          = tt;
-    },
-    (
-      record { inputs_given = refl; latches_kept = refl; tables_met = tt },
-      (
-        record {
-          inputs_given = refl;
-          latches_kept = refl;
-          tables_met = tt;
-        },
-        tt,
-      ),
-    ),
-  ),
-)
-
-random_53 : reading (codes ".model" ++ (10 ∷ []) ++ codes ".latch g0 s1 0" ++ (10 ∷ []) ++ codes ".names  g0" ++ (10 ∷ []) ++ codes " " ++ (10 ∷ [])
-    ++ codes ".outputs" ++ (9 ∷ []) ++ codes "s1" ++ (9 ∷ []) ++ codes "g1" ++ (10 ∷ []) ++ codes ".latch g0 s0 1" ++ (10 ∷ []) ++ codes ".outputs s0 # c"
-    ++ (13 ∷ []) ++ (10 ∷ []) ++ codes ".names s0 g1 " ++ (13 ∷ []) ++ (10 ∷ []) ++ (10 ∷ []) ++ codes "1  1" ++ (13 ∷ []) ++ (10 ∷ []) ++ codes "- x"
-    ++ (10 ∷ []) ++ (10 ∷ []) ++ codes ".end # c" ++ (10 ∷ [])) ≡ Err (Line 11)
-random_53 = refl
-
-random_54 : reading (codes ".model  m # c" ++ (10 ∷ []) ++ codes ".outputs" ++ (13 ∷ []) ++ (10 ∷ []) ++ codes ".names  c  a  b  g1 # c" ++ (10 ∷ [])
-    ++ codes "-10 1" ++ (10 ∷ []) ++ codes ".outputs" ++ (9 ∷ []) ++ codes "a" ++ (9 ∷ []) ++ codes "g1 # c" ++ (10 ∷ []) ++ codes ".inputs" ++ (9 ∷
-    []) ++ codes "b" ++ (9 ∷ []) ++ codes "c" ++ (13 ∷ []) ++ (10 ∷ []) ++ codes ".end" ++ (10 ∷ []) ++ codes " " ++ (10 ∷ []) ++ codes "1- 1" ++ (13
-    ∷ []) ++ (10 ∷ []) ++ codes ".inputs" ++ (9 ∷ []) ++ codes "a" ++ (10 ∷ []) ++ codes ".names b c g0#c " ++ (92 ∷ []) ++ (13 ∷ []) ++ (10 ∷ [])) ≡
-    Err (Line 9)
-random_54 = refl
-
-random_55 : reading (codes ".model m " ++ (10 ∷ []) ++ codes ".outputs" ++ (9 ∷ []) ++ codes "a" ++ (9 ∷ []) ++ codes "s0#c " ++ (92 ∷ []) ++ (10 ∷
-    []) ++ codes ".latch " ++ (92 ∷ []) ++ (10 ∷ []) ++ codes "a " ++ (92 ∷ []) ++ (10 ∷ []) ++ codes "s0 " ++ (92 ∷ []) ++ (10 ∷ []) ++ codes "1 # c"
-    ++ (13 ∷ []) ++ (10 ∷ []) ++ codes ".names s0 g0 # c" ++ (10 ∷ []) ++ codes "1" ++ (9 ∷ []) ++ codes "1#c " ++ (92 ∷ []) ++ (10 ∷ []) ++ codes "1  1#c "
-    ++ (92 ∷ []) ++ (10 ∷ []) ++ codes "# c" ++ (10 ∷ []) ++ codes ".inputs" ++ (9 ∷ []) ++ codes "a" ++ (10 ∷ []) ++ codes ".names " ++ (92 ∷ []) ++
-    (10 ∷ []) ++ codes "g0 " ++ (92 ∷ []) ++ (10 ∷ []) ++ codes "s0 " ++ (92 ∷ []) ++ (10 ∷ []) ++ codes "g1" ++ (10 ∷ []) ++ codes "11 1" ++ (10 ∷
-    []) ++ codes ".names g0 g1 g2 " ++ (10 ∷ []) ++ codes ".end#c " ++ (92 ∷ []) ++ (10 ∷ [])) ≡ Ok (record {
-      name = (codes "m");
-      inputs = ((codes
-          "a") ∷ []);
-      outputs = ((codes "a") ∷ (codes "s0") ∷ []);
-      latches = (record { source = (codes "a"); target = (codes "s0"); init = true } ∷ []);
-      tables = (record { inputs = ((codes "s0") ∷ []); output = (codes "g0"); rows = ((One ∷ []) ∷ (One ∷ []) ∷ []) } ∷ record {
-        inputs = ((codes "g0")
-            ∷ (codes "s0") ∷ []);
-        output = (codes "g1");
-        rows = ((One ∷ One ∷ []) ∷ []);
-      } ∷ record {
-        inputs = ((codes "g0") ∷ (codes "g1") ∷ []);
-        output =
-            (codes "g2");
-        rows = ([]);
-      } ∷ []);
-    })
-random_55 = refl
-
-random_55_runs : IsRun (record {
-  name = (codes "m");
-  inputs = ((codes "a") ∷ []);
-  outputs = ((codes "a") ∷ (codes "s0") ∷ []);
-  latches = (record {
-    source = (codes "a");
-    target = (codes "s0");
-    init = true;
-  } ∷ []);
-  tables = (record {
-    inputs = ((codes "s0") ∷ []);
-    output = (codes "g0");
-    rows =
-        ((One ∷ []) ∷ (One ∷ []) ∷ []);
-  } ∷ record { inputs = ((codes "g0") ∷ (codes "s0") ∷ []); output = (codes "g1"); rows = ((One ∷ One ∷ []) ∷ []) } ∷
-      record { inputs = ((codes "g0") ∷ (codes "g1") ∷ []); output = (codes "g2"); rows = ([]) } ∷ []);
-}) (Event (true ∷ []) ∷ Reset ∷ Event (true ∷ [])
-    ∷ []) (just ((codes "a") ∷ (codes "s0") ∷ (codes "g0") ∷ (codes "g1") ∷ []) ∷ just ((codes "a") ∷ (codes "s0") ∷ (codes "g0") ∷ (codes "g1") ∷ [])
-    ∷ [])
-random_55_runs = (
-  record { inputs_given = refl; latches_kept = refl; tables_met = (refl, (refl, (refl, tt))) },
-  (
-    record {
-      inputs_given = refl;
-      latches_kept = refl;
-      tables_met = (refl, (refl, (refl, tt)));
-    },
-    tt,
-  ),
-)
-
-random_56 : reading (codes ".model" ++ (10 ∷ []) ++ codes ".names " ++ (92 ∷ []) ++ (10 ∷ []) ++ codes "g0 # c" ++ (10 ∷ []) ++ codes " " ++ (10 ∷ [])
-    ++ codes "1" ++ (13 ∷ []) ++ (10 ∷ []) ++ codes ".latch  s0  s0  0" ++ (10 ∷ []) ++ codes ".outputs  s0  s0 " ++ (10 ∷ []) ++ codes ".latch" ++ (9
-    ∷ []) ++ codes "s0" ++ (9 ∷ []) ++ codes "s1" ++ (9 ∷ []) ++ codes "1 " ++ (10 ∷ []) ++ codes "00 1" ++ (10 ∷ []) ++ codes ".names  s0  g0  g1" ++
-    (10 ∷ []) ++ codes "-- " ++ (92 ∷ []) ++ (10 ∷ []) ++ codes "1 # c" ++ (13 ∷ []) ++ (10 ∷ []) ++ codes ".end" ++ (10 ∷ [])) ≡ Err (Line 9)
-random_56 = refl
-
-random_57 : reading (codes ".outputs g1 " ++ (13 ∷ []) ++ (10 ∷ []) ++ codes ".model" ++ (10 ∷ []) ++ codes ".outputs " ++ (92 ∷ []) ++ (10 ∷ []) ++
-    codes "g1 " ++ (13 ∷ []) ++ (10 ∷ []) ++ codes ".latch" ++ (9 ∷ []) ++ codes "g0" ++ (9 ∷ []) ++ codes "s0" ++ (9 ∷ []) ++ codes "1 # c" ++ (10 ∷
-    []) ++ codes ".names" ++ (9 ∷ []) ++ codes "g2 " ++ (13 ∷ []) ++ (10 ∷ []) ++ codes "1" ++ (13 ∷ []) ++ (10 ∷ []) ++ codes ".outputs" ++ (9 ∷ [])
-    ++ codes "b " ++ (10 ∷ []) ++ codes ".inputs  b # c" ++ (10 ∷ []) ++ codes ".inputs a" ++ (10 ∷ []) ++ codes ".names a b g0#c " ++ (92 ∷ []) ++
-    (13 ∷ []) ++ (10 ∷ []) ++ codes "--" ++ (9 ∷ []) ++ codes "1 # c" ++ (10 ∷ []) ++ codes "-- 1 # c" ++ (10 ∷ []) ++ codes ".names s0 g1" ++ (13 ∷
-    []) ++ (10 ∷ []) ++ codes ".end" ++ (10 ∷ [])) ≡ Err (Line 1)
-random_57 = refl
-
-random_58 : reading (codes ".model" ++ (10 ∷ []) ++ codes "1-1  1#c " ++ (92 ∷ []) ++ (13 ∷ []) ++ (10 ∷ []) ++ codes ".names" ++ (9 ∷ []) ++ codes
-    "g0 # c" ++ (10 ∷ []) ++ codes ".latch  c  s0  0 " ++ (10 ∷ []) ++ codes "# c" ++ (10 ∷ []) ++ codes ".inputs" ++ (9 ∷ []) ++ codes "b" ++ (9 ∷
-    []) ++ codes "c" ++ (13 ∷ []) ++ (10 ∷ []) ++ codes ".inputs  a#c " ++ (92 ∷ []) ++ (10 ∷ []) ++ codes ".outputs a#c " ++ (92 ∷ []) ++ (13 ∷ [])
-    ++ (10 ∷ []) ++ codes ".names " ++ (92 ∷ []) ++ (10 ∷ []) ++ codes "b " ++ (92 ∷ []) ++ (10 ∷ []) ++ codes "b " ++ (92 ∷ []) ++ (10 ∷ []) ++ codes
-    "g1" ++ (13 ∷ []) ++ (10 ∷ []) ++ codes ".end#c " ++ (92 ∷ []) ++ (13 ∷ []) ++ (10 ∷ []) ++ codes "# c" ++ (10 ∷ [])) ≡ Err (Line 2)
-random_58 = refl
-
-random_59 : reading (codes ".model  m" ++ (10 ∷ []) ++ codes ".names s0 s0 s0 g0" ++ (13 ∷ []) ++ (10 ∷ []) ++ codes "001 1 " ++ (10 ∷ []) ++ codes
-    "--- 1" ++ (10 ∷ []) ++ (10 ∷ []) ++ codes ".latch s0 s0 0 # c" ++ (13 ∷ []) ++ (10 ∷ []) ++ codes ".outputs" ++ (9 ∷ []) ++ codes "s0" ++ (9 ∷
-    []) ++ codes "g2 " ++ (10 ∷ []) ++ codes ".outputs" ++ (10 ∷ []) ++ codes ".names " ++ (92 ∷ []) ++ (10 ∷ []) ++ codes "s0 " ++ (92 ∷ []) ++ (10 ∷
-    []) ++ codes "g0 " ++ (92 ∷ []) ++ (10 ∷ []) ++ codes "s0 " ++ (92 ∷ []) ++ (10 ∷ []) ++ codes "g2 # c" ++ (10 ∷ []) ++ codes "1-- " ++ (92 ∷ [])
-    ++ (10 ∷ []) ++ codes "1 " ++ (10 ∷ []) ++ codes ".names " ++ (92 ∷ []) ++ (10 ∷ []) ++ codes "s0 " ++ (92 ∷ []) ++ (10 ∷ []) ++ codes "g0 " ++
-    (92 ∷ []) ++ (10 ∷ []) ++ codes "g0 " ++ (92 ∷ []) ++ (10 ∷ []) ++ codes "g1 " ++ (13 ∷ []) ++ (10 ∷ []) ++ codes "-1-#c " ++ (92 ∷ []) ++ (10 ∷
-    []) ++ codes "-01 1#c " ++ (92 ∷ []) ++ (10 ∷ []) ++ codes ".end") ≡ Err (Line 21)
-random_59 = refl
-
-random_60 : reading (codes ".model m # c" ++ (10 ∷ []) ++ codes ".names g1" ++ (13 ∷ []) ++ (10 ∷ []) ++ codes "1#c " ++ (92 ∷ []) ++ (10 ∷ []) ++
-    codes ".outputs" ++ (9 ∷ []) ++ codes "s0 " ++ (13 ∷ []) ++ (10 ∷ []) ++ codes ".latch" ++ (9 ∷ []) ++ codes "g1" ++ (9 ∷ []) ++ codes "s1" ++ (9
-    ∷ []) ++ codes "0" ++ (13 ∷ []) ++ (10 ∷ []) ++ codes ".outputs " ++ (92 ∷ []) ++ (10 ∷ []) ++ codes "s1" ++ (10 ∷ []) ++ codes ".latch g0 s0 1#c "
-    ++ (92 ∷ []) ++ (10 ∷ []) ++ codes ".names" ++ (9 ∷ []) ++ codes "s1" ++ (9 ∷ []) ++ codes "g0" ++ (10 ∷ []) ++ codes "- 1 " ++ (10 ∷ []) ++ codes
-    " " ++ (10 ∷ []) ++ codes "0 1" ++ (10 ∷ []) ++ codes ".end" ++ (13 ∷ []) ++ (10 ∷ [])) ≡ Ok (record {
-      name = (codes "m");
-      inputs = ([]);
-      outputs
-          = ((codes "s0") ∷ (codes "s1") ∷ []);
-      latches = (record { source = (codes "g1"); target = (codes "s1"); init = false } ∷ record {
-        source = (codes
-            "g0");
-        target = (codes "s0");
-        init = true;
-      } ∷ []);
-      tables = (record { inputs = ([]); output = (codes "g1"); rows = (([]) ∷ []) } ∷ record {
-        inputs
-            = ((codes "s1") ∷ []);
-        output = (codes "g0");
-        rows = ((Any ∷ []) ∷ (Zero ∷ []) ∷ []);
-      } ∷ []);
-    })
-random_60 = refl
-
-random_60_runs : IsRun (record {
-  name = (codes "m");
-  inputs = ([]);
-  outputs = ((codes "s0") ∷ (codes "s1") ∷ []);
-  latches = (record {
-    source = (codes
-        "g1");
-    target = (codes "s1");
-    init = false;
-  } ∷ record { source = (codes "g0"); target = (codes "s0"); init = true } ∷ []);
-  tables = (record {
-    inputs = ([]);
-    output = (codes "g1");
-    rows = (([]) ∷ []);
-  } ∷ record {
-    inputs = ((codes "s1") ∷ []);
-    output = (codes "g0");
-    rows = ((Any ∷ []) ∷
-        (Zero ∷ []) ∷ []);
-  } ∷ []);
-}) (Event ([]) ∷ Reset ∷ Event ([]) ∷ Event ([]) ∷ []) (just ((codes "s0") ∷ (codes "g1") ∷ (codes "g0") ∷ []) ∷ just
-    ((codes "s0") ∷ (codes "g1") ∷ (codes "g0") ∷ []) ∷ just ((codes "s1") ∷ (codes "s0") ∷ (codes "g1") ∷ (codes "g0") ∷ []) ∷ [])
-random_60_runs = (
-  record { inputs_given = refl; latches_kept = refl; tables_met = (refl, (refl, tt)) },
-  (
-    record {
-      inputs_given = refl;
-      latches_kept =
-          refl;
-      tables_met = (refl, (refl, tt));
-    },
-    (record { inputs_given = refl; latches_kept = refl; tables_met = (refl, (refl, tt)) }, tt),
-  ),
-)
-
-random_61 : reading (codes ".model#c " ++ (92 ∷ []) ++ (10 ∷ []) ++ codes "00" ++ (9 ∷ []) ++ codes "1" ++ (10 ∷ []) ++ codes "01  1" ++ (13 ∷ []) ++
-    (10 ∷ []) ++ codes ".outputs  a  g0" ++ (13 ∷ []) ++ (10 ∷ []) ++ codes ".inputs" ++ (9 ∷ []) ++ codes "a " ++ (13 ∷ []) ++ (10 ∷ []) ++ codes
-    ".end # c" ++ (10 ∷ [])) ≡ Err (Line 2)
-random_61 = refl
-
-random_62 : reading (codes ".model " ++ (13 ∷ []) ++ (10 ∷ []) ++ codes ".names  b  c  g0" ++ (10 ∷ []) ++ codes ".inputs b c#c " ++ (92 ∷ []) ++ (13
-    ∷ []) ++ (10 ∷ []) ++ codes ".outputs # c" ++ (10 ∷ []) ++ codes ".inputs" ++ (9 ∷ []) ++ codes "a" ++ (10 ∷ []) ++ codes ".names " ++ (92 ∷ [])
-    ++ (10 ∷ []) ++ codes "g2" ++ (10 ∷ []) ++ codes ".outputs" ++ (9 ∷ []) ++ codes "g0" ++ (9 ∷ []) ++ codes "c # c" ++ (10 ∷ []) ++ codes ".names g1"
-    ++ (13 ∷ []) ++ (10 ∷ []) ++ codes "1" ++ (10 ∷ []) ++ codes "1" ++ (10 ∷ []) ++ codes ".end" ++ (10 ∷ [])) ≡ Ok (record {
-      name = [];
-      inputs =
-          ((codes "b") ∷ (codes "c") ∷ (codes "a") ∷ []);
-      outputs = ((codes "g0") ∷ (codes "c") ∷ []);
-      latches = ([]);
-      tables = (record {
-        inputs = ((codes
-            "b") ∷ (codes "c") ∷ []);
-        output = (codes "g0");
-        rows = ([]);
-      } ∷ record { inputs = ([]); output = (codes "g2"); rows = ([]) } ∷ record {
-        inputs =
-            ([]);
-        output = (codes "g1");
-        rows = (([]) ∷ ([]) ∷ []);
-      } ∷ []);
-    })
-random_62 = refl
-
-random_62_runs : IsRun (record {
-  name = [];
-  inputs = ((codes "b") ∷ (codes "c") ∷ (codes "a") ∷ []);
-  outputs = ((codes "g0") ∷ (codes "c") ∷ []);
-  latches = ([]);
-  tables = (record { inputs = ((codes "b") ∷ (codes "c") ∷ []); output = (codes "g0"); rows = ([]) } ∷ record {
-    inputs = ([]);
-    output = (codes "g2");
-    rows = ([]);
-  } ∷ record { inputs = ([]); output = (codes "g1"); rows = (([]) ∷ ([]) ∷ []) } ∷ []);
-}) (Event (false ∷ true ∷
-    true ∷ []) ∷ Event (false ∷ true ∷ false ∷ []) ∷ Reset ∷ Reset ∷ Event (true ∷ true ∷ false ∷ []) ∷ []) (just ((codes "c") ∷ (codes "a") ∷ (codes
-    "g1") ∷ []) ∷ just ((codes "c") ∷ (codes "g1") ∷ []) ∷ just ((codes "b") ∷ (codes "c") ∷ (codes "g1") ∷ []) ∷ [])
-random_62_runs = (
-  record { inputs_given = refl; latches_kept = refl; tables_met = (refl, (refl, (refl, tt))) },
-  (
-    record {
-      inputs_given = refl;
-      latches_kept = refl;
-      tables_met = (refl, (refl, (refl, tt)));
-    },
-    (
-      record {
-        inputs_given = refl;
-        latches_kept = refl;
-        tables_met = (
-          refl,
-          (
-            refl,
-            (refl, tt),
-          ),
-        );
-      },
-      tt,
-    ),
-  ),
-)
-
-random_63 : reading (codes ".model" ++ (10 ∷ []) ++ codes ".outputs" ++ (13 ∷ []) ++ (10 ∷ []) ++ codes ".names " ++ (92 ∷ []) ++ (10 ∷ []) ++ codes
-    "a " ++ (92 ∷ []) ++ (10 ∷ []) ++ codes "s1 " ++ (92 ∷ []) ++ (10 ∷ []) ++ codes "g0" ++ (10 ∷ []) ++ codes "10 1" ++ (10 ∷ []) ++ codes "10 " ++
-    (92 ∷ []) ++ (10 ∷ []) ++ codes "1#c " ++ (92 ∷ []) ++ (13 ∷ []) ++ (10 ∷ []) ++ codes ".latch" ++ (9 ∷ []) ++ codes "a" ++ (9 ∷ []) ++ codes "s1"
-    ++ (9 ∷ []) ++ codes "0 " ++ (10 ∷ []) ++ codes ".outputs" ++ (9 ∷ []) ++ codes "g0" ++ (9 ∷ []) ++ codes "c " ++ (13 ∷ []) ++ (10 ∷ []) ++ codes
-    ".inputs " ++ (92 ∷ []) ++ (10 ∷ []) ++ codes "b " ++ (92 ∷ []) ++ (10 ∷ []) ++ codes "c" ++ (13 ∷ []) ++ (10 ∷ []) ++ codes ".latch s0 s0 0" ++
-    (13 ∷ []) ++ (10 ∷ []) ++ codes ".inputs a" ++ (13 ∷ []) ++ (10 ∷ []) ++ codes ".end" ++ (13 ∷ []) ++ (10 ∷ [])) ≡ Ok (record {
-      name = [];
-      inputs
-          = ((codes "b") ∷ (codes "c") ∷ (codes "a") ∷ []);
-      outputs = ((codes "g0") ∷ (codes "c") ∷ []);
-      latches = (record {
-        source = (codes "a");
-        target =
-            (codes "s1");
-        init = false;
-      } ∷ record { source = (codes "s0"); target = (codes "s0"); init = false } ∷ []);
-      tables = (record {
-        inputs = ((codes
-            "a") ∷ (codes "s1") ∷ []);
-        output = (codes "g0");
-        rows = ((One ∷ Zero ∷ []) ∷ (One ∷ Zero ∷ []) ∷ []);
-      } ∷ []);
-    })
-random_63 = refl
-
-random_63_runs : IsRun (record {
-  name = [];
-  inputs = ((codes "b") ∷ (codes "c") ∷ (codes "a") ∷ []);
-  outputs = ((codes "g0") ∷ (codes "c") ∷ []);
-  latches = (record { source = (codes "a"); target = (codes "s1"); init = false } ∷ record {
-    source = (codes "s0");
-    target = (codes "s0");
-    init =
-        false;
-  } ∷ []);
-  tables = (record {
-    inputs = ((codes "a") ∷ (codes "s1") ∷ []);
-    output = (codes "g0");
-    rows = ((One ∷ Zero ∷ []) ∷ (One ∷ Zero ∷ [])
-        ∷ []);
-  } ∷ []);
-}) (Event (true ∷ false ∷ true ∷ []) ∷ Reset ∷ Event (true ∷ true ∷ true ∷ []) ∷ Event (false ∷ true ∷ false ∷ []) ∷ []) (just
-    ((codes "b") ∷ (codes "a") ∷ (codes "g0") ∷ []) ∷ just ((codes "b") ∷ (codes "c") ∷ (codes "a") ∷ (codes "g0") ∷ []) ∷ just ((codes "c") ∷ (codes
-    "s1") ∷ []) ∷ [])
-random_63_runs = (
-  record { inputs_given = refl; latches_kept = refl; tables_met = (refl, tt) },
-  (
-    record {
-      inputs_given = refl;
-      latches_kept = refl;
-      tables_met = (refl, tt);
-    },
-    (record { inputs_given = refl; latches_kept = refl; tables_met = (refl, tt) }, tt),
-  ),
-)
-
-random_64 : reading (codes ".model m" ++ (13 ∷ []) ++ (10 ∷ []) ++ codes ".outputs g1 # c" ++ (13 ∷ []) ++ (10 ∷ []) ++ codes ".names  g1" ++ (10 ∷
-    []) ++ codes ".inputs " ++ (92 ∷ []) ++ (10 ∷ []) ++ codes "b#c " ++ (92 ∷ []) ++ (10 ∷ []) ++ codes "# c" ++ (10 ∷ []) ++ codes ".outputs " ++
-    (92 ∷ []) ++ (10 ∷ []) ++ codes "g1 " ++ (92 ∷ []) ++ (10 ∷ []) ++ codes "g0#c " ++ (92 ∷ []) ++ (10 ∷ []) ++ codes ".names g0" ++ (10 ∷ []) ++
-    codes "1 # c" ++ (10 ∷ []) ++ codes ".inputs a" ++ (13 ∷ []) ++ (10 ∷ []) ++ codes ".end#c " ++ (92 ∷ []) ++ (10 ∷ [])) ≡ Ok (record {
-      name =
-          (codes "m");
-      inputs = ((codes "b") ∷ (codes "a") ∷ []);
-      outputs = ((codes "g1") ∷ (codes "g1") ∷ (codes "g0") ∷ []);
-      latches = ([]);
-      tables =
-          (record { inputs = ([]); output = (codes "g1"); rows = ([]) } ∷ record { inputs = ([]); output = (codes "g0"); rows = (([]) ∷ []) } ∷ []);
-    })
-random_64 = refl
-
-random_64_runs : IsRun (record {
-  name = (codes "m");
-  inputs = ((codes "b") ∷ (codes "a") ∷ []);
-  outputs = ((codes "g1") ∷ (codes "g1") ∷ (codes "g0")
-      ∷ []);
-  latches = ([]);
-  tables = (record { inputs = ([]); output = (codes "g1"); rows = ([]) } ∷ record {
-    inputs = ([]);
-    output = (codes "g0");
-    rows = (([]) ∷ []);
-  } ∷ []);
-}) (Reset ∷ Event (false ∷ true ∷ []) ∷ Event (true ∷ false ∷ []) ∷ Event (false ∷ false ∷ []) ∷ Event (false ∷ false ∷
-    []) ∷ Reset ∷ []) (just ((codes "a") ∷ (codes "g0") ∷ []) ∷ just ((codes "b") ∷ (codes "g0") ∷ []) ∷ just ((codes "g0") ∷ []) ∷ just ((codes "g0")
-    ∷ []) ∷ [])
-random_64_runs = (
-  record { inputs_given = refl; latches_kept = refl; tables_met = (refl, (refl, tt)) },
-  (
-    record {
-      inputs_given = refl;
-      latches_kept =
-          refl;
-      tables_met = (refl, (refl, tt));
-    },
-    (
-      record { inputs_given = refl; latches_kept = refl; tables_met = (refl, (refl, tt)) },
-      (
-        record {
-          inputs_given = refl;
-          latches_kept = refl;
-          tables_met = (refl, (refl, tt));
-        },
-        tt,
-      ),
-    ),
-  ),
-)
-
-random_65 : reading (codes ".model" ++ (13 ∷ []) ++ (10 ∷ []) ++ codes ".latch " ++ (92 ∷ []) ++ (10 ∷ []) ++ codes "g1 " ++ (92 ∷ []) ++ (10 ∷ []) ++
-    codes "s0 " ++ (92 ∷ []) ++ (10 ∷ []) ++ codes "1" ++ (10 ∷ []) ++ codes ".inputs b c#c " ++ (92 ∷ []) ++ (10 ∷ []) ++ codes ".latch b s1 1" ++
-    (13 ∷ []) ++ (10 ∷ []) ++ codes ".names  c  s1  g1" ++ (10 ∷ []) ++ codes "1-" ++ (9 ∷ []) ++ codes "1 # c" ++ (10 ∷ []) ++ codes "-0" ++ (9 ∷ [])
-    ++ codes "1" ++ (10 ∷ []) ++ codes ".inputs " ++ (92 ∷ []) ++ (10 ∷ []) ++ codes "a" ++ (10 ∷ []) ++ codes ".names b c s1 g0" ++ (10 ∷ []) ++
-    codes "-0- 1 " ++ (10 ∷ []) ++ codes " " ++ (10 ∷ []) ++ codes ".end#c " ++ (92 ∷ []) ++ (13 ∷ []) ++ (10 ∷ [])) ≡ Ok (record {
-      name = [];
-      inputs
-          = ((codes "b") ∷ (codes "c") ∷ (codes "a") ∷ []);
-      outputs = ([]);
-      latches = (record { source = (codes "g1"); target = (codes "s0"); init = true }
-          ∷ record { source = (codes "b"); target = (codes "s1"); init = true } ∷ []);
-      tables = (record {
-        inputs = ((codes "c") ∷ (codes "s1") ∷ []);
-        output
-            = (codes "g1");
-        rows = ((One ∷ Any ∷ []) ∷ (Any ∷ Zero ∷ []) ∷ []);
-      } ∷ record {
-        inputs = ((codes "b") ∷ (codes "c") ∷ (codes "s1") ∷ []);
-        output =
-            (codes "g0");
-        rows = ((Any ∷ Zero ∷ Any ∷ []) ∷ []);
-      } ∷ []);
-    })
-random_65 = refl
-
-random_65_runs : IsRun (record {
-  name = [];
-  inputs = ((codes "b") ∷ (codes "c") ∷ (codes "a") ∷ []);
-  outputs = ([]);
-  latches = (record {
-    source =
-        (codes "g1");
-    target = (codes "s0");
-    init = true;
-  } ∷ record { source = (codes "b"); target = (codes "s1"); init = true } ∷ []);
-  tables = (record {
-    inputs = ((codes "c") ∷ (codes "s1") ∷ []);
-    output = (codes "g1");
-    rows = ((One ∷ Any ∷ []) ∷ (Any ∷ Zero ∷ []) ∷ []);
-  } ∷ record {
-    inputs =
-        ((codes "b") ∷ (codes "c") ∷ (codes "s1") ∷ []);
-    output = (codes "g0");
-    rows = ((Any ∷ Zero ∷ Any ∷ []) ∷ []);
-  } ∷ []);
-}) (Reset ∷ Event (true ∷
-    false ∷ false ∷ []) ∷ Event (false ∷ false ∷ false ∷ []) ∷ Event (false ∷ true ∷ true ∷ []) ∷ Event (true ∷ true ∷ true ∷ []) ∷ []) (just ((codes
-    "b") ∷ (codes "s0") ∷ (codes "s1") ∷ (codes "g0") ∷ []) ∷ just ((codes "s1") ∷ (codes "g0") ∷ []) ∷ just ((codes "c") ∷ (codes "a") ∷ (codes "g1")
-    ∷ []) ∷ just ((codes "b") ∷ (codes "c") ∷ (codes "a") ∷ (codes "s0") ∷ (codes "g1") ∷ []) ∷ [])
-random_65_runs = (
-  record { inputs_given = refl; latches_kept = refl; tables_met = (refl, (refl, tt)) },
-  (
-    record {
-      inputs_given = refl;
-      latches_kept =
-          refl;
-      tables_met = (refl, (refl, tt));
-    },
-    (
-      record { inputs_given = refl; latches_kept = refl; tables_met = (refl, (refl, tt)) },
-      (
-        record {
-          inputs_given = refl;
-          latches_kept = refl;
-          tables_met = (refl, (refl, tt));
-        },
-        tt,
-      ),
-    ),
-  ),
-)
-
-random_66 : reading (codes ".model m" ++ (13 ∷ []) ++ (10 ∷ []) ++ codes ".latch g0 s0 1#c " ++ (92 ∷ []) ++ (10 ∷ []) ++ codes ".outputs c c#c " ++
-    (92 ∷ []) ++ (10 ∷ []) ++ codes ".inputs  b  c" ++ (10 ∷ []) ++ codes ".inputs  a # c" ++ (10 ∷ []) ++ (10 ∷ []) ++ codes ".outputs" ++ (10 ∷ [])
-    ++ codes ".names " ++ (92 ∷ []) ++ (10 ∷ []) ++ codes "s0 " ++ (92 ∷ []) ++ (10 ∷ []) ++ codes "g0" ++ (10 ∷ []) ++ codes "1 1" ++ (10 ∷ []) ++
-    codes ".names g1" ++ (10 ∷ []) ++ codes ".end ") ≡ Ok (record {
-      name = (codes "m");
-      inputs = ((codes "b") ∷ (codes "c") ∷ (codes "a") ∷ []);
-      outputs = ((codes "c") ∷ (codes "c") ∷ []);
-      latches = (record { source = (codes "g0"); target = (codes "s0"); init = true } ∷ []);
-      tables =
-          (record { inputs = ((codes "s0") ∷ []); output = (codes "g0"); rows = ((One ∷ []) ∷ []) } ∷ record {
-            inputs = ([]);
-            output = (codes "g1");
-            rows =
-                ([]);
-          } ∷ []);
-    })
-random_66 = refl
-
-random_66_runs : IsRun (record {
-  name = (codes "m");
-  inputs = ((codes "b") ∷ (codes "c") ∷ (codes "a") ∷ []);
-  outputs = ((codes "c") ∷ (codes "c") ∷
-      []);
-  latches = (record { source = (codes "g0"); target = (codes "s0"); init = true } ∷ []);
-  tables = (record {
-    inputs = ((codes "s0") ∷ []);
-    output = (codes "g0");
-    rows = ((One ∷ []) ∷ []);
-  } ∷ record { inputs = ([]); output = (codes "g1"); rows = ([]) } ∷ []);
-}) (Event (true ∷ false ∷
-    false ∷ []) ∷ Event (true ∷ true ∷ true ∷ []) ∷ Reset ∷ []) (just ((codes "b") ∷ (codes "s0") ∷ (codes "g0") ∷ []) ∷ just ((codes "b") ∷ (codes
-    "c") ∷ (codes "a") ∷ (codes "s0") ∷ (codes "g0") ∷ []) ∷ [])
-random_66_runs = (
-  record { inputs_given = refl; latches_kept = refl; tables_met = (refl, (refl, tt)) },
-  (
-    record {
-      inputs_given = refl;
-      latches_kept =
-          refl;
-      tables_met = (refl, (refl, tt));
-    },
-    tt,
-  ),
-)
-
-random_67 : reading (codes ".model " ++ (13 ∷ []) ++ (10 ∷ []) ++ codes ".names a g1 " ++ (13 ∷ []) ++ (10 ∷ []) ++ codes ".inputs  a" ++ (13 ∷ []) ++
-    (10 ∷ []) ++ codes ".outputs g1" ++ (10 ∷ []) ++ codes ".names " ++ (92 ∷ []) ++ (10 ∷ []) ++ codes "g1 " ++ (92 ∷ []) ++ (10 ∷ []) ++ codes "g2 "
-    ++ (10 ∷ []) ++ codes "0  1 # c" ++ (10 ∷ []) ++ codes ".outputs  a" ++ (13 ∷ []) ++ (10 ∷ []) ++ codes ".names" ++ (9 ∷ []) ++ codes "a" ++ (9 ∷
-    []) ++ codes "a" ++ (9 ∷ []) ++ codes "a" ++ (9 ∷ []) ++ codes "g0 # c" ++ (10 ∷ []) ++ codes "000 1" ++ (10 ∷ []) ++ codes ".end#c " ++ (92 ∷ [])
-    ++ (10 ∷ [])) ≡ Ok (record {
-      name = [];
-      inputs = ((codes "a") ∷ []);
-      outputs = ((codes "g1") ∷ (codes "a") ∷ []);
-      latches = ([]);
-      tables = (record
-          { inputs = ((codes "a") ∷ []); output = (codes "g1"); rows = ([]) } ∷ record {
-            inputs = ((codes "g1") ∷ []);
-            output = (codes "g2");
-            rows = ((Zero
-                ∷ []) ∷ []);
-          } ∷ record { inputs = ((codes "a") ∷ (codes "a") ∷ (codes "a") ∷ []); output = (codes "g0"); rows = ((Zero ∷ Zero ∷ Zero ∷ []) ∷ []) }
-          ∷ []);
-    })
-random_67 = refl
-
-random_67_runs : IsRun (record {
-  name = [];
-  inputs = ((codes "a") ∷ []);
-  outputs = ((codes "g1") ∷ (codes "a") ∷ []);
-  latches = ([]);
-  tables = (record
-      { inputs = ((codes "a") ∷ []); output = (codes "g1"); rows = ([]) } ∷ record {
-        inputs = ((codes "g1") ∷ []);
-        output = (codes "g2");
-        rows = ((Zero
-            ∷ []) ∷ []);
-      } ∷ record { inputs = ((codes "a") ∷ (codes "a") ∷ (codes "a") ∷ []); output = (codes "g0"); rows = ((Zero ∷ Zero ∷ Zero ∷ []) ∷ []) }
-      ∷ []);
-}) (Event (false ∷ []) ∷ Event (true ∷ []) ∷ Reset ∷ []) (just ((codes "g2") ∷ (codes "g0") ∷ []) ∷ just ((codes "a") ∷ (codes "g2") ∷ []) ∷
-    [])
-random_67_runs = (
-  record { inputs_given = refl; latches_kept = refl; tables_met = (refl, (refl, (refl, tt))) },
-  (
-    record {
-      inputs_given = refl;
-      latches_kept = refl;
-      tables_met = (refl, (refl, (refl, tt)));
-    },
-    tt,
-  ),
-)

@@ -1,268 +1,59 @@
 -- Inner: equations between the definitions of BLIF and an independent implementation of them in Python.
 -- Each text is read as the circuit, or refused with the fault, that the other implementation answers. Generated.
-use Rattle.std.proofs.Common.{◌≡◌, ℕ, false, List, [], ◌∷◌, ◌++◌, Ok, Err, codes, refl}
-use Rattle.std.specs.Prelude.{Bool, true}
+use Rattle.std.proofs.Common.{◌≡◌, true, false, [], ◌∷◌, ◌++◌, Ok, Err, codes, refl}
 use Rattle.est_base.specs.Items.{Event, Reset}
 use Rattle.blif_text.specs.Statements.{Zero, One, Any}
-use Rattle.blif_text.specs.Circuits.{reading, Line, TwoDrivers, NoDriver, is_among}
+use Rattle.blif_text.specs.Circuits.{Circuit, reading, Line, TwoDrivers}
 use Rattle.blif_text.specs.Runs.{IsRun}
+use Rattle.blif_text.proofs.PlainWords.{latch, table, circuit, just}
 
--- the valuation in which just these names are true
-abbrev just : List (List ℕ) → List ℕ → Bool
-just names = λ name. is_among name names
+abbrev random_100_circuit : Circuit
+random_100_circuit = circuit (codes "m") [] [] [] (table [] (codes "g0") ([] ∷ [] ∷ []) ∷ [])
 
-random_136 : reading (codes ".model " ++ (92 ∷ []) ++ (10 ∷ []) ++ codes "m # c" ++ (10 ∷ []) ++ codes ".outputs " ++ (92 ∷ []) ++ (10 ∷ []) ++ codes
-    "a" ++ (13 ∷ []) ++ (10 ∷ []) ++ codes ".latch  b  s0  1" ++ (10 ∷ []) ++ codes ".inputs a" ++ (10 ∷ []) ++ (10 ∷ []) ++ codes ".outputs " ++ (92
-    ∷ []) ++ (10 ∷ []) ++ codes "s0 " ++ (92 ∷ []) ++ (10 ∷ []) ++ codes "b#c " ++ (92 ∷ []) ++ (13 ∷ []) ++ (10 ∷ []) ++ codes ".inputs b # c" ++ (13
-    ∷ []) ++ (10 ∷ []) ++ codes ".end " ++ (10 ∷ [])) ≡ Ok (record {
-      name = (codes "m");
-      inputs = ((codes "a") ∷ (codes "b") ∷ []);
-      outputs = ((codes
-          "a") ∷ (codes "s0") ∷ (codes "b") ∷ []);
-      latches = (record { source = (codes "b"); target = (codes "s0"); init = true } ∷ []);
-      tables = ([]);
-    })
-random_136 = refl
+random_100 : reading (codes ".model " ++ (92 ∷ []) ++ (10 ∷ []) ++ codes "m " ++ (13 ∷ []) ++ (10 ∷ []) ++ codes ".names g0" ++ (10 ∷ []) ++ codes "1 "
+    ++ (13 ∷ []) ++ (10 ∷ []) ++ codes "1#c " ++ (92 ∷ []) ++ (13 ∷ []) ++ (10 ∷ []) ++ codes ".end ") ≡ Ok random_100_circuit
+random_100 = refl
 
-random_136_runs : IsRun (record {
-  name = (codes "m");
-  inputs = ((codes "a") ∷ (codes "b") ∷ []);
-  outputs = ((codes "a") ∷ (codes "s0") ∷ (codes "b") ∷
-      []);
-  latches = (record { source = (codes "b"); target = (codes "s0"); init = true } ∷ []);
-  tables = ([]);
-}) (Event (false ∷ true ∷ []) ∷ Reset ∷
-    Reset ∷ Event (true ∷ false ∷ []) ∷ []) (just ((codes "b") ∷ (codes "s0") ∷ []) ∷ just ((codes "a") ∷ (codes "s0") ∷ []) ∷ [])
-random_136_runs = (
-  record { inputs_given = refl; latches_kept = refl; tables_met = tt },
+random_100_runs : IsRun random_100_circuit (Reset ∷ Event [] ∷ Event [] ∷ Event [] ∷ []) (just (codes "g0" ∷ []) ∷ just (codes "g0" ∷ []) ∷ just
+    (codes "g0" ∷ []) ∷ [])
+random_100_runs = (
+  record { inputs_given = refl; latches_kept = refl; tables_met = (refl, tt) },
   (
     record {
       inputs_given = refl;
       latches_kept = refl;
-      tables_met = tt;
+      tables_met = (refl, tt);
     },
-    tt,
+    (record { inputs_given = refl; latches_kept = refl; tables_met = (refl, tt) }, tt),
   ),
 )
 
-random_137 : reading (codes ".model" ++ (13 ∷ []) ++ (10 ∷ []) ++ codes ".inputs a " ++ (10 ∷ []) ++ codes ".end" ++ (10 ∷ [])) ≡ Ok (record {
-  name =
-      [];
-  inputs = ((codes "a") ∷ []);
-  outputs = ([]);
-  latches = ([]);
-  tables = ([]);
-})
-random_137 = refl
+random_101 : reading (codes ".model" ++ (10 ∷ []) ++ codes ".names " ++ (92 ∷ []) ++ (10 ∷ []) ++ codes "a " ++ (92 ∷ []) ++ (10 ∷ []) ++ codes "g0#c "
+    ++ (92 ∷ []) ++ (10 ∷ []) ++ codes ".outputs " ++ (92 ∷ []) ++ (10 ∷ []) ++ codes "g1 " ++ (10 ∷ []) ++ codes ".inputs" ++ (9 ∷ []) ++ codes "b#c "
+    ++ (92 ∷ []) ++ (10 ∷ []) ++ codes ".latch  s1  s1  0 " ++ (13 ∷ []) ++ (10 ∷ []) ++ codes ".inputs " ++ (92 ∷ []) ++ (10 ∷ []) ++ codes "a" ++
+    (13 ∷ []) ++ (10 ∷ []) ++ codes "# c" ++ (10 ∷ []) ++ codes ".latch s0 s0 0" ++ (10 ∷ []) ++ codes ".names " ++ (92 ∷ []) ++ (10 ∷ []) ++ codes
+    "g1 " ++ (10 ∷ []) ++ codes "1 " ++ (10 ∷ []) ++ codes ".outputs" ++ (10 ∷ []) ++ codes ".end " ++ (13 ∷ [])) ≡ Err (Line 17)
+random_101 = refl
 
-random_137_runs : IsRun (record { name = []; inputs = ((codes "a") ∷ []); outputs = ([]); latches = ([]); tables = ([]) }) (Event (false ∷ []) ∷ Event
-    (true ∷ []) ∷ Event (true ∷ []) ∷ Reset ∷ []) (just ([]) ∷ just ((codes "a") ∷ []) ∷ just ((codes "a") ∷ []) ∷ [])
-random_137_runs = (
-  record { inputs_given = refl; latches_kept = refl; tables_met = tt },
-  (
-    record {
-      inputs_given = refl;
-      latches_kept = refl;
-      tables_met = tt;
-    },
-    (record { inputs_given = refl; latches_kept = refl; tables_met = tt }, tt),
-  ),
-)
+random_102 : reading (codes ".model" ++ (10 ∷ []) ++ codes ".inputs" ++ (9 ∷ []) ++ codes "a" ++ (9 ∷ []) ++ codes "a" ++ (13 ∷ []) ++ (10 ∷ []) ++
+    codes ".inputs  b  c " ++ (10 ∷ []) ++ codes ".end # c" ++ (10 ∷ [])) ≡ Err (TwoDrivers (codes "a"))
+random_102 = refl
 
-random_138 : reading (codes ".model  m # c" ++ (10 ∷ []) ++ codes ".outputs " ++ (10 ∷ []) ++ (10 ∷ []) ++ codes ".outputs" ++ (9 ∷ []) ++ codes "g0"
-    ++ (9 ∷ []) ++ codes "g0 # c" ++ (10 ∷ []) ++ codes ".names" ++ (9 ∷ []) ++ codes "g0" ++ (13 ∷ []) ++ (10 ∷ []) ++ (10 ∷ []) ++ codes ".inputs # c"
-    ++ (13 ∷ []) ++ (10 ∷ []) ++ codes "1" ++ (13 ∷ []) ++ (10 ∷ []) ++ codes ".latch" ++ (9 ∷ []) ++ codes "s0" ++ (9 ∷ []) ++ codes "s0" ++ (9 ∷ [])
-    ++ codes "1#c " ++ (92 ∷ []) ++ (10 ∷ []) ++ codes ".end" ++ (10 ∷ [])) ≡ Err (Line 8)
-random_138 = refl
+abbrev random_103_circuit : Circuit
+random_103_circuit = circuit (codes "m") (codes "a" ∷ []) (codes "s0" ∷ codes "s1" ∷ []) (latch (codes "a") (codes
+    "s1") false ∷ latch (codes "g1") (codes "s0") true ∷ []) (table (codes "a" ∷ []) (codes "g0") ((One ∷ []) ∷ []) ∷ table [] (codes "g1") [] ∷ table
+    [] (codes "g2") ([] ∷ []) ∷ [])
 
-random_139 : reading (codes ".inputs  a#c " ++ (92 ∷ []) ++ (10 ∷ []) ++ codes ".names " ++ (92 ∷ []) ++ (10 ∷ []) ++ codes "b " ++ (92 ∷ []) ++ (10 ∷
-    []) ++ codes "a " ++ (92 ∷ []) ++ (10 ∷ []) ++ codes "g0#c " ++ (92 ∷ []) ++ (10 ∷ []) ++ codes "10 1#c " ++ (92 ∷ []) ++ (13 ∷ []) ++ (10 ∷ [])
-    ++ codes ".names c g1 a g2#c " ++ (92 ∷ []) ++ (10 ∷ []) ++ codes "00- 1#c " ++ (92 ∷ []) ++ (10 ∷ []) ++ codes ".inputs" ++ (9 ∷ []) ++ codes "b"
-    ++ (9 ∷ []) ++ codes "c" ++ (10 ∷ []) ++ codes ".names " ++ (92 ∷ []) ++ (10 ∷ []) ++ codes "g0 " ++ (92 ∷ []) ++ (10 ∷ []) ++ codes "g1" ++ (10 ∷
-    []) ++ codes "-  1" ++ (13 ∷ []) ++ (10 ∷ []) ++ codes "0 " ++ (92 ∷ []) ++ (10 ∷ []) ++ codes "1" ++ (13 ∷ []) ++ (10 ∷ []) ++ codes ".end # c"
-    ++ (13 ∷ []) ++ (10 ∷ [])) ≡ Err (Line 1)
-random_139 = refl
+random_103 : reading (codes ".model " ++ (92 ∷ []) ++ (10 ∷ []) ++ codes "m" ++ (13 ∷ []) ++ (10 ∷ []) ++ codes "# c" ++ (10 ∷ []) ++ codes ".inputs  a"
+    ++ (10 ∷ []) ++ codes ".names a g0#c " ++ (92 ∷ []) ++ (10 ∷ []) ++ codes " " ++ (10 ∷ []) ++ codes "1 1" ++ (10 ∷ []) ++ codes ".names  g1 " ++
+    (10 ∷ []) ++ codes ".names " ++ (92 ∷ []) ++ (10 ∷ []) ++ codes "g2 # c" ++ (13 ∷ []) ++ (10 ∷ []) ++ codes "1 # c" ++ (10 ∷ []) ++ codes ".latch a s1 0"
+    ++ (10 ∷ []) ++ codes ".outputs " ++ (92 ∷ []) ++ (10 ∷ []) ++ codes "s0 " ++ (92 ∷ []) ++ (10 ∷ []) ++ codes "s1 " ++ (10 ∷ []) ++ codes ".latch  g1  s0  1"
+    ++ (10 ∷ []) ++ codes ".end" ++ (10 ∷ [])) ≡ Ok random_103_circuit
+random_103 = refl
 
-random_140 : reading (codes ".model#c " ++ (92 ∷ []) ++ (10 ∷ []) ++ codes ".outputs " ++ (92 ∷ []) ++ (10 ∷ []) ++ codes "g1 " ++ (13 ∷ []) ++ (10 ∷
-    []) ++ codes " " ++ (10 ∷ []) ++ codes ".names  g0  a  g1 # c" ++ (10 ∷ []) ++ (10 ∷ []) ++ codes "00 1" ++ (10 ∷ []) ++ codes ".inputs" ++ (13 ∷
-    []) ++ (10 ∷ []) ++ codes " " ++ (10 ∷ []) ++ codes ".names a g0 # c" ++ (10 ∷ []) ++ codes "0 " ++ (92 ∷ []) ++ (10 ∷ []) ++ codes "1" ++ (10 ∷
-    []) ++ codes ".inputs a # c" ++ (13 ∷ []) ++ (10 ∷ []) ++ codes ".outputs" ++ (13 ∷ []) ++ (10 ∷ []) ++ codes ".end#c " ++ (92 ∷ []) ++ (10 ∷ [])
-    ++ codes " ") ≡ Ok (record {
-      name = [];
-      inputs = ((codes "a") ∷ []);
-      outputs = ((codes "g1") ∷ []);
-      latches = ([]);
-      tables = (record {
-        inputs =
-            ((codes "g0") ∷ (codes "a") ∷ []);
-        output = (codes "g1");
-        rows = ((Zero ∷ Zero ∷ []) ∷ []);
-      } ∷ record {
-        inputs = ((codes "a") ∷ []);
-        output =
-            (codes "g0");
-        rows = ((Zero ∷ []) ∷ []);
-      } ∷ []);
-    })
-random_140 = refl
-
-random_140_runs : IsRun (record {
-  name = [];
-  inputs = ((codes "a") ∷ []);
-  outputs = ((codes "g1") ∷ []);
-  latches = ([]);
-  tables = (record {
-    inputs =
-        ((codes "g0") ∷ (codes "a") ∷ []);
-    output = (codes "g1");
-    rows = ((Zero ∷ Zero ∷ []) ∷ []);
-  } ∷ record {
-    inputs = ((codes "a") ∷ []);
-    output =
-        (codes "g0");
-    rows = ((Zero ∷ []) ∷ []);
-  } ∷ []);
-}) (Event (true ∷ []) ∷ Reset ∷ Event (true ∷ []) ∷ []) (just ((codes "a") ∷ []) ∷ just ((codes
-    "a") ∷ []) ∷ [])
-random_140_runs = (
-  record { inputs_given = refl; latches_kept = refl; tables_met = (refl, (refl, tt)) },
-  (
-    record {
-      inputs_given = refl;
-      latches_kept =
-          refl;
-      tables_met = (refl, (refl, tt));
-    },
-    tt,
-  ),
-)
-
-random_141 : reading (codes ".model " ++ (92 ∷ []) ++ (10 ∷ []) ++ codes "m" ++ (10 ∷ []) ++ codes ".inputs  a" ++ (10 ∷ []) ++ codes ".latch  c  s0  1#c "
-    ++ (92 ∷ []) ++ (13 ∷ []) ++ (10 ∷ []) ++ codes ".names " ++ (92 ∷ []) ++ (10 ∷ []) ++ codes "a " ++ (92 ∷ []) ++ (10 ∷ []) ++ codes "g0" ++ (10 ∷
-    []) ++ codes ".inputs b c # c" ++ (13 ∷ []) ++ (10 ∷ []) ++ codes ".names" ++ (9 ∷ []) ++ codes "c" ++ (9 ∷ []) ++ codes "b" ++ (9 ∷ []) ++ codes
-    "a" ++ (9 ∷ []) ++ codes "g1#c " ++ (92 ∷ []) ++ (10 ∷ []) ++ codes "0-1 1" ++ (13 ∷ []) ++ (10 ∷ [])) ≡ Err (Line 11)
-random_141 = refl
-
-random_142 : reading (codes ".model" ++ (10 ∷ []) ++ codes ".outputs" ++ (10 ∷ []) ++ codes ".inputs " ++ (92 ∷ []) ++ (10 ∷ []) ++ codes "b " ++ (92
-    ∷ []) ++ (10 ∷ []) ++ codes "c" ++ (13 ∷ []) ++ (10 ∷ []) ++ codes ".latch" ++ (9 ∷ []) ++ codes "b" ++ (9 ∷ []) ++ codes "s0" ++ (13 ∷ []) ++ (10
-    ∷ []) ++ codes ".latch" ++ (9 ∷ []) ++ codes "a" ++ (9 ∷ []) ++ codes "s1" ++ (9 ∷ []) ++ codes "0 " ++ (10 ∷ []) ++ codes ".inputs " ++ (92 ∷ [])
-    ++ (10 ∷ []) ++ codes "a" ++ (10 ∷ []) ++ codes ".end" ++ (10 ∷ [])) ≡ Err (Line 6)
-random_142 = refl
-
-random_143 : reading (codes ".model m " ++ (10 ∷ []) ++ codes ".outputs s0 g0" ++ (10 ∷ []) ++ codes ".names  g0 " ++ (10 ∷ []) ++ codes " " ++ (10 ∷
-    []) ++ codes "1 # c" ++ (10 ∷ []) ++ (10 ∷ []) ++ codes ".latch " ++ (92 ∷ []) ++ (10 ∷ []) ++ codes "s0 " ++ (92 ∷ []) ++ (10 ∷ []) ++ codes "s0 "
-    ++ (92 ∷ []) ++ (10 ∷ []) ++ codes "1#c " ++ (92 ∷ []) ++ (10 ∷ []) ++ codes ".inputs" ++ (10 ∷ []) ++ codes ".outputs  g0  s0" ++ (13 ∷ []) ++
-    (10 ∷ []) ++ codes ".end a " ++ (10 ∷ [])) ≡ Err (Line 13)
-random_143 = refl
-
-random_144 : reading (codes ".model" ++ (10 ∷ []) ++ codes "# c" ++ (10 ∷ []) ++ codes ".outputs" ++ (10 ∷ []) ++ codes ".inputs a " ++ (10 ∷ []) ++
-    codes ".outputs" ++ (9 ∷ []) ++ codes "b" ++ (10 ∷ []) ++ codes ".latch s1 s0 0 # c" ++ (13 ∷ []) ++ (10 ∷ []) ++ codes ".inputs b c # c" ++ (10 ∷
-    []) ++ codes ".latch b s1 1" ++ (13 ∷ []) ++ (10 ∷ []) ++ codes ".end#c " ++ (92 ∷ []) ++ (13 ∷ []) ++ (10 ∷ [])) ≡ Ok (record {
-      name = [];
-      inputs
-          = ((codes "a") ∷ (codes "b") ∷ (codes "c") ∷ []);
-      outputs = ((codes "b") ∷ []);
-      latches = (record {
-        source = (codes "s1");
-        target = (codes "s0");
-        init = false;
-      } ∷ record { source = (codes "b"); target = (codes "s1"); init = true } ∷ []);
-      tables = ([]);
-    })
-random_144 = refl
-
-random_144_runs : IsRun (record {
-  name = [];
-  inputs = ((codes "a") ∷ (codes "b") ∷ (codes "c") ∷ []);
-  outputs = ((codes "b") ∷ []);
-  latches = (record
-      { source = (codes "s1"); target = (codes "s0"); init = false } ∷ record { source = (codes "b"); target = (codes "s1"); init = true } ∷ []);
-  tables
-      = ([]);
-}) (Event (false ∷ false ∷ false ∷ []) ∷ Reset ∷ Event (true ∷ true ∷ true ∷ []) ∷ Event (true ∷ true ∷ false ∷ []) ∷ Event (false ∷ false
-    ∷ true ∷ []) ∷ []) (just ((codes "s1") ∷ []) ∷ just ((codes "a") ∷ (codes "b") ∷ (codes "c") ∷ (codes "s1") ∷ []) ∷ just ((codes "a") ∷ (codes
-    "b") ∷ (codes "s0") ∷ (codes "s1") ∷ []) ∷ just ((codes "c") ∷ (codes "s0") ∷ (codes "s1") ∷ []) ∷ [])
-random_144_runs = (
-  record { inputs_given = refl; latches_kept = refl; tables_met = tt },
-  (
-    record {
-      inputs_given = refl;
-      latches_kept = refl;
-      tables_met = tt;
-    },
-    (
-      record { inputs_given = refl; latches_kept = refl; tables_met = tt },
-      (
-        record {
-          inputs_given = refl;
-          latches_kept = refl;
-          tables_met = tt;
-        },
-        tt,
-      ),
-    ),
-  ),
-)
-
-random_145 : reading (codes ".model" ++ (13 ∷ []) ++ (10 ∷ []) ++ codes ".outputs  b  a#c " ++ (92 ∷ []) ++ (10 ∷ []) ++ codes ".latch b s1 1#c " ++
-    (92 ∷ []) ++ (10 ∷ []) ++ codes ".inputs" ++ (9 ∷ []) ++ codes "b" ++ (9 ∷ []) ++ codes "c # c" ++ (13 ∷ []) ++ (10 ∷ []) ++ codes ".inputs " ++
-    (92 ∷ []) ++ (10 ∷ []) ++ codes "a # c" ++ (10 ∷ []) ++ codes ".latch s1 s0 0#c " ++ (92 ∷ []) ++ (10 ∷ []) ++ codes ".end " ++ (10 ∷ []) ++ codes
-    ".end#c " ++ (92 ∷ [])) ≡ Err (Line 9)
-random_145 = refl
-
-random_146 : reading (codes ".model" ++ (10 ∷ []) ++ codes ".latch g0 s1 1" ++ (10 ∷ []) ++ codes ".names  s0  g1" ++ (10 ∷ []) ++ codes "0 1 " ++ (10
-    ∷ []) ++ codes "0" ++ (9 ∷ []) ++ codes "1" ++ (13 ∷ []) ++ (10 ∷ []) ++ codes ".latch g1 s0 1 # c" ++ (10 ∷ []) ++ codes ".names s1 s0 g2" ++ (10
-    ∷ []) ++ codes "10  1" ++ (13 ∷ []) ++ (10 ∷ []) ++ codes ".names s1 s0 s0 g0 " ++ (13 ∷ []) ++ (10 ∷ []) ++ codes "-11 " ++ (92 ∷ []) ++ (10 ∷
-    []) ++ codes "1" ++ (10 ∷ []) ++ codes ".end" ++ (13 ∷ []) ++ (10 ∷ [])) ≡ Ok (record {
-      name = [];
-      inputs = ([]);
-      outputs = ([]);
-      latches =
-          (record { source = (codes "g0"); target = (codes "s1"); init = true } ∷ record { source = (codes "g1"); target = (codes "s0"); init = true } ∷
-          []);
-      tables = (record { inputs = ((codes "s0") ∷ []); output = (codes "g1"); rows = ((Zero ∷ []) ∷ (Zero ∷ []) ∷ []) } ∷ record {
-        inputs = ((codes
-            "s1") ∷ (codes "s0") ∷ []);
-        output = (codes "g2");
-        rows = ((One ∷ Zero ∷ []) ∷ []);
-      } ∷ record {
-        inputs = ((codes "s1") ∷ (codes "s0") ∷ (codes
-            "s0") ∷ []);
-        output = (codes "g0");
-        rows = ((Any ∷ One ∷ One ∷ []) ∷ []);
-      } ∷ []);
-    })
-random_146 = refl
-
-random_146_runs : IsRun (record {
-  name = [];
-  inputs = ([]);
-  outputs = ([]);
-  latches = (record {
-    source = (codes "g0");
-    target = (codes "s1");
-    init =
-        true;
-  } ∷ record { source = (codes "g1"); target = (codes "s0"); init = true } ∷ []);
-  tables = (record {
-    inputs = ((codes "s0") ∷ []);
-    output =
-        (codes "g1");
-    rows = ((Zero ∷ []) ∷ (Zero ∷ []) ∷ []);
-  } ∷ record {
-    inputs = ((codes "s1") ∷ (codes "s0") ∷ []);
-    output = (codes "g2");
-    rows =
-        ((One ∷ Zero ∷ []) ∷ []);
-  } ∷ record {
-    inputs = ((codes "s1") ∷ (codes "s0") ∷ (codes "s0") ∷ []);
-    output = (codes "g0");
-    rows = ((Any ∷ One ∷ One
-        ∷ []) ∷ []);
-  } ∷ []);
-}) (Event ([]) ∷ Reset ∷ Event ([]) ∷ []) (just ((codes "s1") ∷ (codes "s0") ∷ (codes "g0") ∷ []) ∷ just ((codes "s1") ∷
-    (codes "s0") ∷ (codes "g0") ∷ []) ∷ [])
-random_146_runs = (
+random_103_runs : IsRun random_103_circuit (Reset ∷ Event (true ∷ []) ∷ Event (true ∷ []) ∷ Reset ∷ []) (just (codes "a" ∷ codes "s0" ∷ codes "g0" ∷
+    codes "g2" ∷ []) ∷ just (codes "a" ∷ codes "s1" ∷ codes "g0" ∷ codes "g2" ∷ []) ∷ [])
+random_103_runs = (
   record { inputs_given = refl; latches_kept = refl; tables_met = (refl, (refl, (refl, tt))) },
   (
     record {
@@ -274,49 +65,22 @@ random_146_runs = (
   ),
 )
 
-random_147 : reading (codes ".model m " ++ (10 ∷ []) ++ codes ".inputs " ++ (92 ∷ []) ++ (10 ∷ []) ++ codes "b#c " ++ (92 ∷ []) ++ (10 ∷ []) ++ codes
-    ".inputs" ++ (9 ∷ []) ++ codes "a" ++ (13 ∷ []) ++ (10 ∷ []) ++ codes ".latch a s0 1#c " ++ (92 ∷ []) ++ (10 ∷ []) ++ codes ".names b g0 g0 g1 "
-    ++ (10 ∷ []) ++ codes ".outputs " ++ (92 ∷ []) ++ (10 ∷ []) ++ codes "b" ++ (13 ∷ []) ++ (10 ∷ []) ++ codes ".names s0 g0" ++ (13 ∷ []) ++ (10 ∷
-    []) ++ codes "x" ++ (13 ∷ []) ++ (10 ∷ [])) ≡ Err (Line 10)
-random_147 = refl
+abbrev random_104_circuit : Circuit
+random_104_circuit = circuit (codes "m") (codes "b" ∷ codes "c" ∷ codes "a" ∷ []) (codes "b" ∷ []) [] (table []
+    (codes "g0") [] ∷ table (codes "c" ∷ codes "c" ∷ codes "g0" ∷ []) (codes "g1") ((Zero ∷ Zero ∷ Any ∷ []) ∷ []) ∷ table (codes "b" ∷ codes "b" ∷
+    []) (codes "g2") [] ∷ [])
 
-random_148 : reading (codes ".model" ++ (10 ∷ []) ++ codes ".names" ++ (9 ∷ []) ++ codes "g0" ++ (10 ∷ []) ++ codes "1" ++ (10 ∷ []) ++ codes "1" ++
-    (13 ∷ []) ++ (10 ∷ []) ++ codes ".inputs" ++ (9 ∷ []) ++ codes "a" ++ (10 ∷ []) ++ codes ".outputs " ++ (92 ∷ []) ++ (10 ∷ []) ++ codes "g0 " ++
-    (92 ∷ []) ++ (10 ∷ []) ++ codes "g2" ++ (13 ∷ []) ++ (10 ∷ []) ++ codes ".names b g1 g0 g2" ++ (10 ∷ []) ++ codes ".names g1 # c" ++ (13 ∷ []) ++
-    (10 ∷ []) ++ codes ".inputs b" ++ (10 ∷ []) ++ codes ".end # c" ++ (10 ∷ []) ++ codes " " ++ (10 ∷ [])) ≡ Ok (record {
-      name = [];
-      inputs = ((codes
-          "a") ∷ (codes "b") ∷ []);
-      outputs = ((codes "g0") ∷ (codes "g2") ∷ []);
-      latches = ([]);
-      tables = (record {
-        inputs = ([]);
-        output = (codes "g0");
-        rows = (([]) ∷ ([]) ∷ []);
-      } ∷ record { inputs = ((codes "b") ∷ (codes "g1") ∷ (codes "g0") ∷ []); output = (codes "g2"); rows = ([]) } ∷ record {
-        inputs = ([]);
-        output = (codes "g1");
-        rows = ([]);
-      } ∷ []);
-    })
-random_148 = refl
+random_104 : reading (codes ".model  m" ++ (10 ∷ []) ++ codes ".names g0" ++ (10 ∷ []) ++ codes ".inputs b c" ++ (10 ∷ []) ++ codes ".names" ++ (9 ∷
+    []) ++ codes "c" ++ (9 ∷ []) ++ codes "c" ++ (9 ∷ []) ++ codes "g0" ++ (9 ∷ []) ++ codes "g1 " ++ (10 ∷ []) ++ codes "00-" ++ (9 ∷ []) ++ codes
+    "1" ++ (13 ∷ []) ++ (10 ∷ []) ++ codes ".outputs" ++ (9 ∷ []) ++ codes "b" ++ (10 ∷ []) ++ codes ".inputs " ++ (92 ∷ []) ++ (10 ∷ []) ++ codes "a"
+    ++ (10 ∷ []) ++ codes ".names" ++ (9 ∷ []) ++ codes "b" ++ (9 ∷ []) ++ codes "b" ++ (9 ∷ []) ++ codes "g2 " ++ (13 ∷ []) ++ (10 ∷ []) ++ codes
+    ".end" ++ (10 ∷ [])) ≡ Ok random_104_circuit
+random_104 = refl
 
-random_148_runs : IsRun (record {
-  name = [];
-  inputs = ((codes "a") ∷ (codes "b") ∷ []);
-  outputs = ((codes "g0") ∷ (codes "g2") ∷ []);
-  latches = ([]);
-  tables = (record { inputs = ([]); output = (codes "g0"); rows = (([]) ∷ ([]) ∷ []) } ∷ record {
-    inputs = ((codes "b") ∷ (codes "g1") ∷ (codes
-        "g0") ∷ []);
-    output = (codes "g2");
-    rows = ([]);
-  } ∷ record { inputs = ([]); output = (codes "g1"); rows = ([]) } ∷ []);
-}) (Event (true ∷ true ∷
-    []) ∷ Event (true ∷ true ∷ []) ∷ Reset ∷ Event (true ∷ false ∷ []) ∷ Event (false ∷ true ∷ []) ∷ []) (just ((codes "a") ∷ (codes "b") ∷ (codes
-    "g0") ∷ []) ∷ just ((codes "a") ∷ (codes "b") ∷ (codes "g0") ∷ []) ∷ just ((codes "a") ∷ (codes "g0") ∷ []) ∷ just ((codes "b") ∷ (codes "g0") ∷
-    []) ∷ [])
-random_148_runs = (
+random_104_runs : IsRun random_104_circuit (Event (false ∷ true ∷ true ∷ []) ∷ Reset ∷ Event (true ∷ false ∷ true ∷ []) ∷ Event (true ∷ true ∷ true ∷
+    []) ∷ Event (true ∷ false ∷ true ∷ []) ∷ []) (just (codes "c" ∷ codes "a" ∷ []) ∷ just (codes "b" ∷ codes "a" ∷ codes "g1" ∷ []) ∷ just (codes "b"
+    ∷ codes "c" ∷ codes "a" ∷ []) ∷ just (codes "b" ∷ codes "a" ∷ codes "g1" ∷ []) ∷ [])
+random_104_runs = (
   record { inputs_given = refl; latches_kept = refl; tables_met = (refl, (refl, (refl, tt))) },
   (
     record {
@@ -341,108 +105,29 @@ random_148_runs = (
   ),
 )
 
-random_149 : reading (codes ".outputs # c" ++ (13 ∷ []) ++ (10 ∷ []) ++ codes ".end" ++ (10 ∷ [])) ≡ Err (Line 1)
-random_149 = refl
+random_105 : reading (codes ".model m" ++ (10 ∷ []) ++ codes ".names s0 s0 g0 # c" ++ (10 ∷ []) ++ codes ".inputs#c " ++ (92 ∷ []) ++ (10 ∷ []) ++
+    codes "# c" ++ (10 ∷ []) ++ codes ".names " ++ (92 ∷ []) ++ (10 ∷ []) ++ codes "g1 " ++ (13 ∷ []) ++ (10 ∷ []) ++ codes "1" ++ (10 ∷ []) ++ codes
+    ".latch" ++ (9 ∷ []) ++ codes "g1" ++ (9 ∷ []) ++ codes "s0" ++ (9 ∷ []) ++ codes "1 " ++ (13 ∷ []) ++ (10 ∷ []) ++ codes ".outputs " ++ (10 ∷ [])
+    ++ codes ".end" ++ (13 ∷ [])) ≡ Err (Line 10)
+random_105 = refl
 
-random_150 : reading (codes ".model # c" ++ (10 ∷ []) ++ codes ".inputs" ++ (9 ∷ []) ++ codes "a " ++ (13 ∷ []) ++ (10 ∷ []) ++ codes ".inputs b" ++
-    (10 ∷ []) ++ codes ".end#c " ++ (92 ∷ []) ++ (10 ∷ []) ++ codes " " ++ (10 ∷ [])) ≡ Ok (record {
-      name = [];
-      inputs = ((codes "a") ∷ (codes "b") ∷
-          []);
-      outputs = ([]);
-      latches = ([]);
-      tables = ([]);
-    })
-random_150 = refl
+abbrev random_106_circuit : Circuit
+random_106_circuit = circuit [] (codes "a" ∷ codes "b" ∷ codes "c" ∷ []) [] [] (table (codes "c" ∷ codes "a" ∷ [])
+    (codes "g1") ((One ∷ One ∷ []) ∷ []) ∷ table (codes "c" ∷ codes "b" ∷ []) (codes "g0") ((Any ∷ Zero ∷ []) ∷ (Zero ∷ Any ∷ []) ∷ []) ∷ table (codes
+    "a" ∷ []) (codes "g2") ((Any ∷ []) ∷ (Any ∷ []) ∷ []) ∷ [])
 
-random_150_runs : IsRun (record { name = []; inputs = ((codes "a") ∷ (codes "b") ∷ []); outputs = ([]); latches = ([]); tables = ([]) }) (Reset ∷
-    Event (false ∷ false ∷ []) ∷ Event (false ∷ true ∷ []) ∷ Event (false ∷ true ∷ []) ∷ []) (just ([]) ∷ just ((codes "b") ∷ []) ∷ just ((codes "b")
-    ∷ []) ∷ [])
-random_150_runs = (
-  record { inputs_given = refl; latches_kept = refl; tables_met = tt },
-  (
-    record {
-      inputs_given = refl;
-      latches_kept = refl;
-      tables_met = tt;
-    },
-    (record { inputs_given = refl; latches_kept = refl; tables_met = tt }, tt),
-  ),
-)
+random_106 : reading (codes ".model" ++ (13 ∷ []) ++ (10 ∷ []) ++ codes ".names " ++ (92 ∷ []) ++ (10 ∷ []) ++ codes "c " ++ (92 ∷ []) ++ (10 ∷ []) ++
+    codes "a " ++ (92 ∷ []) ++ (10 ∷ []) ++ codes "g1" ++ (13 ∷ []) ++ (10 ∷ []) ++ codes "11 1 # c" ++ (10 ∷ []) ++ codes ".inputs a" ++ (10 ∷ []) ++
+    (10 ∷ []) ++ codes ".inputs  b  c" ++ (10 ∷ []) ++ codes ".names c b g0" ++ (10 ∷ []) ++ (10 ∷ []) ++ codes "-0  1" ++ (10 ∷ []) ++ codes "0- " ++
+    (92 ∷ []) ++ (10 ∷ []) ++ codes "1" ++ (10 ∷ []) ++ codes ".outputs#c " ++ (92 ∷ []) ++ (10 ∷ []) ++ codes ".outputs " ++ (10 ∷ []) ++ codes
+    ".names " ++ (92 ∷ []) ++ (10 ∷ []) ++ codes "a " ++ (92 ∷ []) ++ (10 ∷ []) ++ codes "g2" ++ (10 ∷ []) ++ codes "- " ++ (92 ∷ []) ++ (10 ∷ []) ++
+    codes "1 " ++ (10 ∷ []) ++ codes "-" ++ (9 ∷ []) ++ codes "1" ++ (10 ∷ []) ++ codes ".end" ++ (10 ∷ [])) ≡ Ok random_106_circuit
+random_106 = refl
 
-random_151 : reading (codes ".latch" ++ (9 ∷ []) ++ codes "a" ++ (9 ∷ []) ++ codes "s0" ++ (9 ∷ []) ++ codes "0#c " ++ (92 ∷ []) ++ (10 ∷ []) ++ codes
-    ".inputs a#c " ++ (92 ∷ []) ++ (10 ∷ []) ++ codes ".latch a s1 1" ++ (10 ∷ []) ++ codes ".names a a g0" ++ (13 ∷ []) ++ (10 ∷ []) ++ codes "1-  1 # c"
-    ++ (13 ∷ []) ++ (10 ∷ []) ++ codes ".inputs # c" ++ (10 ∷ []) ++ codes ".end" ++ (13 ∷ []) ++ (10 ∷ [])) ≡ Err (Line 1)
-random_151 = refl
-
-random_152 : reading (codes ".model " ++ (10 ∷ []) ++ codes ".end#c " ++ (92 ∷ []) ++ (10 ∷ []) ++ codes ".outputs # c" ++ (10 ∷ []) ++ codes ".inputs "
-    ++ (10 ∷ []) ++ codes ".end#c " ++ (92 ∷ []) ++ (13 ∷ []) ++ (10 ∷ []) ++ codes " " ++ (10 ∷ [])) ≡ Err (Line 3)
-random_152 = refl
-
-random_153 : reading (codes ".model#c " ++ (92 ∷ []) ++ (10 ∷ []) ++ codes ".inputs" ++ (9 ∷ []) ++ codes "b" ++ (9 ∷ []) ++ codes "c " ++ (10 ∷ [])
-    ++ codes ".outputs g0" ++ (10 ∷ []) ++ codes ".inputs  a" ++ (10 ∷ []) ++ codes ".names " ++ (92 ∷ []) ++ (10 ∷ []) ++ codes "g0 " ++ (92 ∷ []) ++
-    (10 ∷ []) ++ codes "g1#c " ++ (92 ∷ []) ++ (10 ∷ []) ++ codes "0 1" ++ (13 ∷ []) ++ (10 ∷ []) ++ codes "0" ++ (9 ∷ []) ++ codes "1 " ++ (10 ∷ [])
-    ++ codes ".outputs" ++ (9 ∷ []) ++ codes "c" ++ (9 ∷ []) ++ codes "g0 " ++ (13 ∷ []) ++ (10 ∷ []) ++ codes ".end#c " ++ (92 ∷ []) ++ (10 ∷ [])) ≡
-    Err (NoDriver (codes "g0"))
-random_153 = refl
-
-random_154 : reading (codes ".model  0" ++ (10 ∷ []) ++ codes ".inputs " ++ (92 ∷ []) ++ (10 ∷ []) ++ codes "b" ++ (10 ∷ []) ++ codes ".inputs a#c "
-    ++ (92 ∷ []) ++ (10 ∷ []) ++ codes ".names " ++ (92 ∷ []) ++ (10 ∷ []) ++ codes "s1 " ++ (92 ∷ []) ++ (10 ∷ []) ++ codes "g0 " ++ (92 ∷ []) ++ (10
-    ∷ []) ++ codes "g1" ++ (10 ∷ []) ++ codes " " ++ (10 ∷ []) ++ codes ".names" ++ (9 ∷ []) ++ codes "s0" ++ (9 ∷ []) ++ codes "s0" ++ (9 ∷ []) ++
-    codes "a" ++ (9 ∷ []) ++ codes "g2" ++ (10 ∷ []) ++ codes ".latch g2 s1 0#c " ++ (92 ∷ []) ++ (10 ∷ []) ++ codes ".latch a s0 1" ++ (10 ∷ []) ++
-    codes ".names" ++ (9 ∷ []) ++ codes "a" ++ (9 ∷ []) ++ codes "b" ++ (9 ∷ []) ++ codes "g0#c " ++ (92 ∷ []) ++ (10 ∷ []) ++ codes "-1 1 " ++ (10 ∷
-    []) ++ codes "0- " ++ (92 ∷ []) ++ (10 ∷ []) ++ codes "1 # c" ++ (10 ∷ []) ++ codes ".end#c " ++ (92 ∷ []) ++ (13 ∷ []) ++ (10 ∷ [])) ≡ Ok (record {
-      name = (codes "0");
-      inputs = ((codes "b") ∷ (codes "a") ∷ []);
-      outputs = ([]);
-      latches = (record {
-        source = (codes "g2");
-        target = (codes "s1");
-        init = false;
-      } ∷ record { source = (codes "a"); target = (codes "s0"); init = true } ∷ []);
-      tables = (record {
-        inputs = ((codes "s1") ∷ (codes
-            "g0") ∷ []);
-        output = (codes "g1");
-        rows = ([]);
-      } ∷ record {
-        inputs = ((codes "s0") ∷ (codes "s0") ∷ (codes "a") ∷ []);
-        output = (codes "g2");
-        rows = ([]);
-      } ∷ record { inputs = ((codes "a") ∷ (codes "b") ∷ []); output = (codes "g0"); rows = ((Any ∷ One ∷ []) ∷ (Zero ∷ Any ∷ []) ∷ []) } ∷
-          []);
-    })
-random_154 = refl
-
-random_154_runs : IsRun (record {
-  name = (codes "0");
-  inputs = ((codes "b") ∷ (codes "a") ∷ []);
-  outputs = ([]);
-  latches = (record {
-    source = (codes
-        "g2");
-    target = (codes "s1");
-    init = false;
-  } ∷ record { source = (codes "a"); target = (codes "s0"); init = true } ∷ []);
-  tables = (record {
-    inputs = ((codes "s1") ∷ (codes "g0") ∷ []);
-    output = (codes "g1");
-    rows = ([]);
-  } ∷ record {
-    inputs = ((codes "s0") ∷ (codes "s0") ∷ (codes "a") ∷
-        []);
-    output = (codes "g2");
-    rows = ([]);
-  } ∷ record {
-    inputs = ((codes "a") ∷ (codes "b") ∷ []);
-    output = (codes "g0");
-    rows = ((Any ∷ One ∷ []) ∷
-        (Zero ∷ Any ∷ []) ∷ []);
-  } ∷ []);
-}) (Event (true ∷ false ∷ []) ∷ Event (true ∷ true ∷ []) ∷ Event (true ∷ false ∷ []) ∷ []) (just ((codes "b") ∷
-    (codes "s0") ∷ (codes "g0") ∷ []) ∷ just ((codes "b") ∷ (codes "a") ∷ (codes "g0") ∷ []) ∷ just ((codes "b") ∷ (codes "s0") ∷ (codes "g0") ∷ []) ∷
-    [])
-random_154_runs = (
+random_106_runs : IsRun random_106_circuit (Event (true ∷ true ∷ true ∷ []) ∷ Reset ∷ Reset ∷ Event (true ∷ false ∷ false ∷ []) ∷ Event (false ∷ false
+    ∷ false ∷ []) ∷ []) (just (codes "a" ∷ codes "b" ∷ codes "c" ∷ codes "g1" ∷ codes "g2" ∷ []) ∷ just (codes "a" ∷ codes "g0" ∷ codes "g2" ∷ []) ∷
+    just (codes "g0" ∷ codes "g2" ∷ []) ∷ [])
+random_106_runs = (
   record { inputs_given = refl; latches_kept = refl; tables_met = (refl, (refl, (refl, tt))) },
   (
     record {
@@ -467,46 +152,81 @@ random_154_runs = (
   ),
 )
 
-random_155 : reading (codes ".model # c" ++ (10 ∷ []) ++ codes ".names  s0  s0  s1  g0" ++ (10 ∷ []) ++ codes ".names s0 s0 g1#c " ++ (92 ∷ []) ++ (13
-    ∷ []) ++ (10 ∷ []) ++ codes ".latch" ++ (9 ∷ []) ++ codes "g0" ++ (9 ∷ []) ++ codes "s1" ++ (9 ∷ []) ++ codes "1 # c" ++ (10 ∷ []) ++ codes
-    ".inputs # c" ++ (13 ∷ []) ++ (10 ∷ []) ++ codes ".latch " ++ (92 ∷ []) ++ (10 ∷ []) ++ codes "s1 " ++ (92 ∷ []) ++ (10 ∷ []) ++ codes "s0 " ++
-    (92 ∷ []) ++ (10 ∷ []) ++ codes "1" ++ (10 ∷ []) ++ codes ".names " ++ (92 ∷ []) ++ (10 ∷ []) ++ codes "s0 " ++ (92 ∷ []) ++ (10 ∷ []) ++ codes
-    "s0" ++ (13 ∷ []) ++ (10 ∷ []) ++ codes " " ++ (10 ∷ []) ++ codes ".end # c" ++ (10 ∷ [])) ≡ Err (TwoDrivers (codes "s0"))
-random_155 = refl
+random_107 : reading (codes ".latch m#c " ++ (92 ∷ []) ++ (10 ∷ []) ++ codes ".latch c s1 0" ++ (10 ∷ []) ++ codes ".inputs" ++ (9 ∷ []) ++ codes "a"
+    ++ (10 ∷ []) ++ codes ".inputs  b  c" ++ (10 ∷ []) ++ codes ".names " ++ (92 ∷ []) ++ (10 ∷ []) ++ codes "s0 " ++ (92 ∷ []) ++ (10 ∷ []) ++ codes
+    "g0" ++ (10 ∷ []) ++ (10 ∷ []) ++ codes "1 1" ++ (13 ∷ []) ++ (10 ∷ []) ++ codes ".latch" ++ (9 ∷ []) ++ codes "g0" ++ (9 ∷ []) ++ codes "s0" ++
+    (9 ∷ []) ++ codes "0 # c" ++ (10 ∷ []) ++ (10 ∷ []) ++ codes ".end # c" ++ (13 ∷ []) ++ (10 ∷ [])) ≡ Err (Line 1)
+random_107 = refl
 
-random_156 : reading (codes ".model m" ++ (10 ∷ []) ++ codes " " ++ (10 ∷ []) ++ codes ".latch  g0  s1  0" ++ (10 ∷ []) ++ codes ".outputs" ++ (10 ∷
-    []) ++ codes ".outputs" ++ (10 ∷ []) ++ codes ".latch" ++ (9 ∷ []) ++ codes "b" ++ (9 ∷ []) ++ codes "s0" ++ (9 ∷ []) ++ codes "1" ++ (10 ∷ []) ++
-    (10 ∷ []) ++ codes ".names  b  g0#c " ++ (92 ∷ []) ++ (10 ∷ []) ++ codes "1 1 " ++ (10 ∷ []) ++ codes "-" ++ (9 ∷ []) ++ codes "1#c " ++ (92 ∷ [])
-    ++ (10 ∷ []) ++ codes ".inputs " ++ (92 ∷ []) ++ (10 ∷ []) ++ codes "a # c" ++ (10 ∷ []) ++ codes ".inputs b c#c " ++ (92 ∷ []) ++ (10 ∷ []) ++
-    codes ".end" ++ (13 ∷ []) ++ (10 ∷ [])) ≡ Ok (record {
-      name = (codes "m");
-      inputs = ((codes "a") ∷ (codes "b") ∷ (codes "c") ∷ []);
-      outputs =
-          ([]);
-      latches = (record { source = (codes "g0"); target = (codes "s1"); init = false } ∷ record {
-        source = (codes "b");
-        target = (codes "s0");
-        init = true;
-      } ∷ []);
-      tables = (record { inputs = ((codes "b") ∷ []); output = (codes "g0"); rows = ((One ∷ []) ∷ (Any ∷ []) ∷ []) } ∷ []);
-    })
-random_156 = refl
+abbrev random_108_circuit : Circuit
+random_108_circuit = circuit [] (codes "b" ∷ codes "c" ∷ codes "a" ∷ []) [] (latch (codes "g0") (codes "s0") true
+    ∷ latch (codes "s1") (codes "s1") true ∷ []) (table (codes "s1" ∷ codes "s1" ∷ codes "a" ∷ []) (codes "g0") ((One ∷ Zero ∷ One ∷ []) ∷ (Zero ∷
+    Zero ∷ Zero ∷ []) ∷ []) ∷ table [] (codes "g1") [] ∷ [])
 
-random_156_runs : IsRun (record {
-  name = (codes "m");
-  inputs = ((codes "a") ∷ (codes "b") ∷ (codes "c") ∷ []);
-  outputs = ([]);
-  latches = (record {
-    source = (codes "g0");
-    target = (codes "s1");
-    init = false;
-  } ∷ record { source = (codes "b"); target = (codes "s0"); init = true } ∷ []);
-  tables =
-      (record { inputs = ((codes "b") ∷ []); output = (codes "g0"); rows = ((One ∷ []) ∷ (Any ∷ []) ∷ []) } ∷ []);
-}) (Event (false ∷ false ∷ true ∷ [])
-    ∷ Reset ∷ Event (true ∷ true ∷ true ∷ []) ∷ []) (just ((codes "c") ∷ (codes "s0") ∷ (codes "g0") ∷ []) ∷ just ((codes "a") ∷ (codes "b") ∷ (codes
-    "c") ∷ (codes "s0") ∷ (codes "g0") ∷ []) ∷ [])
-random_156_runs = (
+random_108 : reading (codes ".model " ++ (13 ∷ []) ++ (10 ∷ []) ++ codes ".inputs b c#c " ++ (92 ∷ []) ++ (13 ∷ []) ++ (10 ∷ []) ++ codes ".inputs a "
+    ++ (10 ∷ []) ++ codes ".latch g0 s0 1 # c" ++ (10 ∷ []) ++ codes ".names s1 s1 a g0" ++ (13 ∷ []) ++ (10 ∷ []) ++ codes "101 1 # c" ++ (13 ∷ [])
+    ++ (10 ∷ []) ++ codes "000" ++ (9 ∷ []) ++ codes "1" ++ (10 ∷ []) ++ codes ".latch " ++ (92 ∷ []) ++ (10 ∷ []) ++ codes "s1 " ++ (92 ∷ []) ++ (10
+    ∷ []) ++ codes "s1 " ++ (92 ∷ []) ++ (10 ∷ []) ++ codes "1" ++ (13 ∷ []) ++ (10 ∷ []) ++ codes ".names g1" ++ (10 ∷ []) ++ codes ".end#c " ++ (92
+    ∷ []) ++ (10 ∷ [])) ≡ Ok random_108_circuit
+random_108 = refl
+
+random_108_runs : IsRun random_108_circuit (Event (false ∷ true ∷ false ∷ []) ∷ Reset ∷ Reset ∷ Event (false ∷ false ∷ false ∷ []) ∷ []) (just (codes
+    "c" ∷ codes "s0" ∷ codes "s1" ∷ []) ∷ just (codes "s0" ∷ codes "s1" ∷ []) ∷ [])
+random_108_runs = (
+  record { inputs_given = refl; latches_kept = refl; tables_met = (refl, (refl, tt)) },
+  (
+    record {
+      inputs_given = refl;
+      latches_kept =
+          refl;
+      tables_met = (refl, (refl, tt));
+    },
+    tt,
+  ),
+)
+
+random_109 : reading (codes ".end" ++ (10 ∷ []) ++ (10 ∷ []) ++ codes ".outputs" ++ (13 ∷ []) ++ (10 ∷ []) ++ codes " " ++ (10 ∷ []) ++ codes ".model # c"
+    ++ (13 ∷ [])) ≡ Err (Line 1)
+random_109 = refl
+
+abbrev random_110_circuit : Circuit
+random_110_circuit = circuit (codes "m") [] (codes "g2" ∷ codes "g1" ∷ []) (latch (codes "g0") (codes "s0") true ∷
+    []) (table [] (codes "g0") ([] ∷ []) ∷ table [] (codes "g1") ([] ∷ [] ∷ []) ∷ table [] (codes "g2") ([] ∷ [] ∷ []) ∷ [])
+
+random_110 : reading (codes ".model" ++ (9 ∷ []) ++ codes "m # c" ++ (10 ∷ []) ++ codes ".latch g0 s0 1#c " ++ (92 ∷ []) ++ (10 ∷ []) ++ codes " " ++
+    (10 ∷ []) ++ codes ".names g0 " ++ (13 ∷ []) ++ (10 ∷ []) ++ codes "1#c " ++ (92 ∷ []) ++ (10 ∷ []) ++ codes ".outputs " ++ (92 ∷ []) ++ (10 ∷ [])
+    ++ codes "g2 " ++ (92 ∷ []) ++ (10 ∷ []) ++ codes "g1" ++ (10 ∷ []) ++ codes ".names  g1 # c" ++ (13 ∷ []) ++ (10 ∷ []) ++ codes "# c" ++ (10 ∷
+    []) ++ codes "1" ++ (10 ∷ []) ++ codes "1" ++ (10 ∷ []) ++ codes ".names  g2" ++ (10 ∷ []) ++ codes "1" ++ (10 ∷ []) ++ codes "1 # c" ++ (13 ∷ [])
+    ++ (10 ∷ []) ++ codes ".end " ++ (10 ∷ [])) ≡ Ok random_110_circuit
+random_110 = refl
+
+random_110_runs : IsRun random_110_circuit (Reset ∷ Event [] ∷ Event [] ∷ []) (just (codes "s0" ∷ codes "g0" ∷ codes "g1" ∷ codes "g2" ∷ []) ∷ just
+    (codes "s0" ∷ codes "g0" ∷ codes "g1" ∷ codes "g2" ∷ []) ∷ [])
+random_110_runs = (
+  record { inputs_given = refl; latches_kept = refl; tables_met = (refl, (refl, (refl, tt))) },
+  (
+    record {
+      inputs_given = refl;
+      latches_kept = refl;
+      tables_met = (refl, (refl, (refl, tt)));
+    },
+    tt,
+  ),
+)
+
+abbrev random_111_circuit : Circuit
+random_111_circuit = circuit [] (codes "a" ∷ codes "b" ∷ []) [] (latch (codes "a") (codes "s1") false ∷ latch
+    (codes "b") (codes "s0") true ∷ []) (table [] (codes "g0") ([] ∷ []) ∷ [])
+
+random_111 : reading (codes ".model" ++ (13 ∷ []) ++ (10 ∷ []) ++ codes ".names  g0" ++ (13 ∷ []) ++ (10 ∷ []) ++ codes "1" ++ (10 ∷ []) ++ codes
+    ".inputs " ++ (92 ∷ []) ++ (10 ∷ []) ++ codes "a # c" ++ (13 ∷ []) ++ (10 ∷ []) ++ codes "# c" ++ (10 ∷ []) ++ codes ".inputs  b # c" ++ (13 ∷ [])
+    ++ (10 ∷ []) ++ codes ".latch a s1 0" ++ (10 ∷ []) ++ codes ".latch " ++ (92 ∷ []) ++ (10 ∷ []) ++ codes "b " ++ (92 ∷ []) ++ (10 ∷ []) ++ codes
+    "s0 " ++ (92 ∷ []) ++ (10 ∷ []) ++ codes "1 # c" ++ (10 ∷ []) ++ codes ".end # c" ++ (13 ∷ []) ++ (10 ∷ [])) ≡ Ok random_111_circuit
+random_111 = refl
+
+random_111_runs : IsRun random_111_circuit (Event (true ∷ true ∷ []) ∷ Event (true ∷ true ∷ []) ∷ []) (just (codes "a" ∷ codes "b" ∷ codes "s0" ∷
+    codes "g0" ∷ []) ∷ just (codes "a" ∷ codes "b" ∷ codes "s1" ∷ codes "s0" ∷ codes "g0" ∷ []) ∷ [])
+random_111_runs = (
   record { inputs_given = refl; latches_kept = refl; tables_met = (refl, tt) },
   (
     record {
@@ -518,293 +238,31 @@ random_156_runs = (
   ),
 )
 
-random_157 : reading (codes ".model m # c" ++ (13 ∷ []) ++ (10 ∷ []) ++ codes ".latch a s1 1#c " ++ (92 ∷ []) ++ (13 ∷ []) ++ (10 ∷ []) ++ codes
-    ".inputs " ++ (92 ∷ []) ++ (10 ∷ []) ++ codes "a#c " ++ (92 ∷ []) ++ (10 ∷ []) ++ codes ".latch" ++ (9 ∷ []) ++ codes "a" ++ (9 ∷ []) ++ codes
-    "s0" ++ (9 ∷ []) ++ codes "1" ++ (10 ∷ []) ++ codes ".end#c " ++ (92 ∷ []) ++ (10 ∷ []) ++ codes " ") ≡ Ok (record {
-      name = (codes "m");
-      inputs =
-          ((codes "a") ∷ []);
-      outputs = ([]);
-      latches = (record { source = (codes "a"); target = (codes "s1"); init = true } ∷ record {
-        source = (codes
-            "a");
-        target = (codes "s0");
-        init = true;
-      } ∷ []);
-      tables = ([]);
-    })
-random_157 = refl
+random_112 : reading (codes ".model " ++ (10 ∷ []) ++ codes ".inputs" ++ (10 ∷ []) ++ codes ".latch g0 s0 1 1 " ++ (13 ∷ []) ++ (10 ∷ []) ++ codes
+    ".names  s0  s0  g0#c " ++ (92 ∷ []) ++ (13 ∷ []) ++ (10 ∷ []) ++ codes "-1 1 " ++ (10 ∷ []) ++ codes "01  1 " ++ (10 ∷ []) ++ codes "# c" ++ (10
+    ∷ []) ++ codes ".end # c" ++ (10 ∷ []) ++ codes " " ++ (10 ∷ [])) ≡ Err (Line 3)
+random_112 = refl
 
-random_157_runs : IsRun (record {
-  name = (codes "m");
-  inputs = ((codes "a") ∷ []);
-  outputs = ([]);
-  latches = (record {
-    source = (codes "a");
-    target =
-        (codes "s1");
-    init = true;
-  } ∷ record { source = (codes "a"); target = (codes "s0"); init = true } ∷ []);
-  tables = ([]);
-}) (Event (true ∷ []) ∷
-    Event (true ∷ []) ∷ Reset ∷ Event (true ∷ []) ∷ Reset ∷ Event (true ∷ []) ∷ []) (just ((codes "a") ∷ (codes "s1") ∷ (codes "s0") ∷ []) ∷ just
-    ((codes "a") ∷ (codes "s1") ∷ (codes "s0") ∷ []) ∷ just ((codes "a") ∷ (codes "s1") ∷ (codes "s0") ∷ []) ∷ just ((codes "a") ∷ (codes "s1") ∷
-    (codes "s0") ∷ []) ∷ [])
-random_157_runs = (
-  record { inputs_given = refl; latches_kept = refl; tables_met = tt },
-  (
-    record {
-      inputs_given = refl;
-      latches_kept = refl;
-      tables_met = tt;
-    },
-    (
-      record { inputs_given = refl; latches_kept = refl; tables_met = tt },
-      (
-        record {
-          inputs_given = refl;
-          latches_kept = refl;
-          tables_met = tt;
-        },
-        tt,
-      ),
-    ),
-  ),
-)
+random_113 : reading (codes ".model m # c" ++ (13 ∷ []) ++ (10 ∷ []) ++ codes ".names b a b g0 " ++ (10 ∷ []) ++ codes ".inputs " ++ (92 ∷ []) ++ (10
+    ∷ []) ++ codes "a " ++ (13 ∷ []) ++ (10 ∷ []) ++ codes ".names" ++ (9 ∷ []) ++ codes "b" ++ (9 ∷ []) ++ codes "g1" ++ (9 ∷ []) ++ codes "b" ++ (9
+    ∷ []) ++ codes "g2 " ++ (10 ∷ []) ++ codes "0-1" ++ (9 ∷ []) ++ codes "x" ++ (10 ∷ []) ++ codes "10- 1" ++ (10 ∷ []) ++ codes ".inputs b c" ++ (10
+    ∷ []) ++ codes ".names  g1 # c" ++ (13 ∷ []) ++ (10 ∷ []) ++ codes "1" ++ (10 ∷ []) ++ codes ".end" ++ (13 ∷ []) ++ (10 ∷ [])) ≡ Err (Line 6)
+random_113 = refl
 
-random_158 : reading (codes ".model" ++ (9 ∷ []) ++ codes "m#c " ++ (92 ∷ []) ++ (13 ∷ []) ++ (10 ∷ []) ++ codes ".latch  a  s1  0" ++ (10 ∷ []) ++
-    codes ".latch g0 s0 0" ++ (10 ∷ []) ++ codes ".inputs" ++ (9 ∷ []) ++ codes "a#c " ++ (92 ∷ []) ++ (10 ∷ []) ++ codes ".names " ++ (92 ∷ []) ++
-    (10 ∷ []) ++ codes "s0 " ++ (92 ∷ []) ++ (10 ∷ []) ++ codes "g0" ++ (10 ∷ []) ++ codes "-" ++ (9 ∷ []) ++ codes "1 # c" ++ (13 ∷ []) ++ (10 ∷ [])
-    ++ codes "- 1#c " ++ (92 ∷ []) ++ (10 ∷ []) ++ codes ".inputs # c" ++ (10 ∷ []) ++ codes ".outputs a " ++ (10 ∷ []) ++ codes ".end" ++ (10 ∷ []))
-    ≡ Ok (record {
-      name = (codes "m");
-      inputs = ((codes "a") ∷ []);
-      outputs = ((codes "a") ∷ []);
-      latches = (record {
-        source = (codes "a");
-        target =
-            (codes "s1");
-        init = false;
-      } ∷ record { source = (codes "g0"); target = (codes "s0"); init = false } ∷ []);
-      tables = (record {
-        inputs = ((codes
-            "s0") ∷ []);
-        output = (codes "g0");
-        rows = ((Any ∷ []) ∷ (Any ∷ []) ∷ []);
-      } ∷ []);
-    })
-random_158 = refl
+abbrev random_114_circuit : Circuit
+random_114_circuit = circuit (codes "m") [] [] (latch (codes "g1") (codes "s0") true ∷ []) (table (codes "s0" ∷
+    codes "s0" ∷ codes "s0" ∷ []) (codes "g0") [] ∷ table [] (codes "g2") ([] ∷ [] ∷ []) ∷ table [] (codes "g1") ([] ∷ [] ∷ []) ∷ [])
 
-random_158_runs : IsRun (record {
-  name = (codes "m");
-  inputs = ((codes "a") ∷ []);
-  outputs = ((codes "a") ∷ []);
-  latches = (record {
-    source = (codes
-        "a");
-    target = (codes "s1");
-    init = false;
-  } ∷ record { source = (codes "g0"); target = (codes "s0"); init = false } ∷ []);
-  tables = (record {
-    inputs = ((codes "s0") ∷ []);
-    output = (codes "g0");
-    rows = ((Any ∷ []) ∷ (Any ∷ []) ∷ []);
-  } ∷ []);
-}) (Event (true ∷ []) ∷ Event (false ∷ []) ∷
-    Event (false ∷ []) ∷ Reset ∷ []) (just ((codes "a") ∷ (codes "g0") ∷ []) ∷ just ((codes "s1") ∷ (codes "s0") ∷ (codes "g0") ∷ []) ∷ just ((codes
-    "s0") ∷ (codes "g0") ∷ []) ∷ [])
-random_158_runs = (
-  record { inputs_given = refl; latches_kept = refl; tables_met = (refl, tt) },
-  (
-    record {
-      inputs_given = refl;
-      latches_kept = refl;
-      tables_met = (refl, tt);
-    },
-    (record { inputs_given = refl; latches_kept = refl; tables_met = (refl, tt) }, tt),
-  ),
-)
+random_114 : reading (codes ".model m" ++ (10 ∷ []) ++ codes ".outputs" ++ (10 ∷ []) ++ codes ".latch " ++ (92 ∷ []) ++ (10 ∷ []) ++ codes "g1 " ++
+    (92 ∷ []) ++ (10 ∷ []) ++ codes "s0 " ++ (92 ∷ []) ++ (10 ∷ []) ++ codes "1 # c" ++ (10 ∷ []) ++ codes ".names s0 s0 s0 g0#c " ++ (92 ∷ []) ++ (10
+    ∷ []) ++ codes " " ++ (10 ∷ []) ++ codes ".names g2 # c" ++ (10 ∷ []) ++ codes "1 " ++ (10 ∷ []) ++ codes "1" ++ (13 ∷ []) ++ (10 ∷ []) ++ codes
+    ".names  g1#c " ++ (92 ∷ []) ++ (13 ∷ []) ++ (10 ∷ []) ++ codes "1" ++ (10 ∷ []) ++ codes "1#c " ++ (92 ∷ []) ++ (13 ∷ []) ++ (10 ∷ []) ++ codes
+    ".end " ++ (10 ∷ [])) ≡ Ok random_114_circuit
+random_114 = refl
 
-random_159 : reading (codes ".model " ++ (92 ∷ []) ++ (10 ∷ []) ++ codes "m#c " ++ (92 ∷ []) ++ (10 ∷ []) ++ codes ".names " ++ (92 ∷ []) ++ (10 ∷ [])
-    ++ codes "s0 " ++ (92 ∷ []) ++ (10 ∷ []) ++ codes "s0 " ++ (92 ∷ []) ++ (10 ∷ []) ++ codes "g0#c " ++ (92 ∷ []) ++ (10 ∷ []) ++ codes "-- 1" ++
-    (10 ∷ []) ++ codes "01 1" ++ (10 ∷ []) ++ codes ".latch  s0  s0  1#c " ++ (92 ∷ []) ++ (10 ∷ []) ++ codes ".inputs#c " ++ (92 ∷ []) ++ (10 ∷ [])
-    ++ codes ".end " ++ (10 ∷ [])) ≡ Ok (record {
-      name = (codes "m");
-      inputs = ([]);
-      outputs = ([]);
-      latches = (record {
-        source = (codes "s0");
-        target
-            = (codes "s0");
-        init = true;
-      } ∷ []);
-      tables = (record {
-        inputs = ((codes "s0") ∷ (codes "s0") ∷ []);
-        output = (codes "g0");
-        rows = ((Any ∷ Any ∷
-            []) ∷ (Zero ∷ One ∷ []) ∷ []);
-      } ∷ []);
-    })
-random_159 = refl
-
-random_159_runs : IsRun (record {
-  name = (codes "m");
-  inputs = ([]);
-  outputs = ([]);
-  latches = (record {
-    source = (codes "s0");
-    target = (codes "s0");
-    init = true;
-  } ∷ []);
-  tables = (record {
-    inputs = ((codes "s0") ∷ (codes "s0") ∷ []);
-    output = (codes "g0");
-    rows = ((Any ∷ Any ∷ []) ∷ (Zero ∷ One
-        ∷ []) ∷ []);
-  } ∷ []);
-}) (Event ([]) ∷ Event ([]) ∷ Event ([]) ∷ []) (just ((codes "s0") ∷ (codes "g0") ∷ []) ∷ just ((codes "s0") ∷ (codes "g0") ∷
-    []) ∷ just ((codes "s0") ∷ (codes "g0") ∷ []) ∷ [])
-random_159_runs = (
-  record { inputs_given = refl; latches_kept = refl; tables_met = (refl, tt) },
-  (
-    record {
-      inputs_given = refl;
-      latches_kept = refl;
-      tables_met = (refl, tt);
-    },
-    (record { inputs_given = refl; latches_kept = refl; tables_met = (refl, tt) }, tt),
-  ),
-)
-
-random_160 : reading (codes ".model " ++ (92 ∷ []) ++ (10 ∷ []) ++ codes "m" ++ (13 ∷ []) ++ (10 ∷ []) ++ codes ".outputs # c" ++ (13 ∷ []) ++ (10 ∷
-    []) ++ codes ".inputs a" ++ (13 ∷ []) ++ (10 ∷ []) ++ codes ".end" ++ (10 ∷ [])) ≡ Ok (record {
-      name = (codes "m");
-      inputs = ((codes "a") ∷ []);
-      outputs = ([]);
-      latches = ([]);
-      tables = ([]);
-    })
-random_160 = refl
-
-random_160_runs : IsRun (record { name = (codes "m"); inputs = ((codes "a") ∷ []); outputs = ([]); latches = ([]); tables = ([]) }) (Event (false ∷
-    []) ∷ Event (true ∷ []) ∷ Event (true ∷ []) ∷ Event (true ∷ []) ∷ []) (just ([]) ∷ just ((codes "a") ∷ []) ∷ just ((codes "a") ∷ []) ∷ just
-    ((codes "a") ∷ []) ∷ [])
-random_160_runs = (
-  record { inputs_given = refl; latches_kept = refl; tables_met = tt },
-  (
-    record {
-      inputs_given = refl;
-      latches_kept = refl;
-      tables_met = tt;
-    },
-    (
-      record { inputs_given = refl; latches_kept = refl; tables_met = tt },
-      (
-        record {
-          inputs_given = refl;
-          latches_kept = refl;
-          tables_met = tt;
-        },
-        tt,
-      ),
-    ),
-  ),
-)
-
-random_161 : reading (codes ".model" ++ (10 ∷ []) ++ codes ".outputs s0 g0#c " ++ (92 ∷ []) ++ (10 ∷ []) ++ codes ".names  s0  g0#c " ++ (92 ∷ []) ++
-    (10 ∷ []) ++ codes ".latch  s0  s0  1" ++ (10 ∷ []) ++ codes ".end # c" ++ (13 ∷ []) ++ (10 ∷ [])) ≡ Ok (record {
-      name = [];
-      inputs = ([]);
-      outputs = ((codes "s0") ∷ (codes "g0") ∷ []);
-      latches = (record { source = (codes "s0"); target = (codes "s0"); init = true } ∷ []);
-      tables =
-          (record { inputs = ((codes "s0") ∷ []); output = (codes "g0"); rows = ([]) } ∷ []);
-    })
-random_161 = refl
-
-random_161_runs : IsRun (record {
-  name = [];
-  inputs = ([]);
-  outputs = ((codes "s0") ∷ (codes "g0") ∷ []);
-  latches = (record {
-    source = (codes "s0");
-    target = (codes "s0");
-    init = true;
-  } ∷ []);
-  tables = (record { inputs = ((codes "s0") ∷ []); output = (codes "g0"); rows = ([]) } ∷ []);
-}) (Reset
-    ∷ Event ([]) ∷ Event ([]) ∷ Event ([]) ∷ []) (just ((codes "s0") ∷ []) ∷ just ((codes "s0") ∷ []) ∷ just ((codes "s0") ∷ []) ∷ [])
-random_161_runs = (
-  record { inputs_given = refl; latches_kept = refl; tables_met = (refl, tt) },
-  (
-    record {
-      inputs_given = refl;
-      latches_kept = refl;
-      tables_met = (refl, tt);
-    },
-    (record { inputs_given = refl; latches_kept = refl; tables_met = (refl, tt) }, tt),
-  ),
-)
-
-random_162 : reading (codes ".model" ++ (13 ∷ []) ++ (10 ∷ []) ++ codes ".latch " ++ (92 ∷ []) ++ (10 ∷ []) ++ codes "s0 " ++ (92 ∷ []) ++ (10 ∷ [])
-    ++ codes "s0 " ++ (92 ∷ []) ++ (10 ∷ []) ++ codes "1#c " ++ (92 ∷ []) ++ (10 ∷ []) ++ codes ".outputs " ++ (92 ∷ []) ++ (10 ∷ []) ++ codes "s1 "
-    ++ (92 ∷ []) ++ (10 ∷ []) ++ codes "s0" ++ (10 ∷ []) ++ codes ".latch" ++ (9 ∷ []) ++ codes "g0" ++ (9 ∷ []) ++ codes "s1" ++ (9 ∷ []) ++ codes
-    "1" ++ (10 ∷ []) ++ codes ".names s1 g1 " ++ (10 ∷ []) ++ codes "1 " ++ (92 ∷ []) ++ (10 ∷ []) ++ codes "1 " ++ (13 ∷ []) ++ (10 ∷ []) ++ codes
-    ".names  s1  s1  s0  g0#c " ++ (92 ∷ []) ++ (13 ∷ []) ++ (10 ∷ []) ++ codes "000  1 " ++ (13 ∷ []) ++ (10 ∷ []) ++ codes "0-0" ++ (9 ∷ []) ++
-    codes "1 " ++ (10 ∷ []) ++ (10 ∷ []) ++ codes ".names" ++ (9 ∷ []) ++ codes "s0" ++ (9 ∷ []) ++ codes "s1" ++ (9 ∷ []) ++ codes "g2" ++ (13 ∷ [])
-    ++ (10 ∷ []) ++ codes "-- 1#c " ++ (92 ∷ []) ++ (10 ∷ []) ++ codes "0- 1" ++ (10 ∷ []) ++ codes ".end" ++ (10 ∷ [])) ≡ Ok (record {
-      name = [];
-      inputs = ([]);
-      outputs = ((codes "s1") ∷ (codes "s0") ∷ []);
-      latches = (record { source = (codes "s0"); target = (codes "s0"); init = true } ∷
-          record { source = (codes "g0"); target = (codes "s1"); init = true } ∷ []);
-      tables = (record {
-        inputs = ((codes "s1") ∷ []);
-        output = (codes
-            "g1");
-        rows = ((One ∷ []) ∷ []);
-      } ∷ record {
-        inputs = ((codes "s1") ∷ (codes "s1") ∷ (codes "s0") ∷ []);
-        output = (codes "g0");
-        rows = ((Zero ∷
-            Zero ∷ Zero ∷ []) ∷ (Zero ∷ Any ∷ Zero ∷ []) ∷ []);
-      } ∷ record {
-        inputs = ((codes "s0") ∷ (codes "s1") ∷ []);
-        output = (codes "g2");
-        rows = ((Any ∷
-            Any ∷ []) ∷ (Zero ∷ Any ∷ []) ∷ []);
-      } ∷ []);
-    })
-random_162 = refl
-
-random_162_runs : IsRun (record {
-  name = [];
-  inputs = ([]);
-  outputs = ((codes "s1") ∷ (codes "s0") ∷ []);
-  latches = (record {
-    source = (codes "s0");
-    target = (codes "s0");
-    init = true;
-  } ∷ record { source = (codes "g0"); target = (codes "s1"); init = true } ∷ []);
-  tables = (record {
-    inputs =
-        ((codes "s1") ∷ []);
-    output = (codes "g1");
-    rows = ((One ∷ []) ∷ []);
-  } ∷ record {
-    inputs = ((codes "s1") ∷ (codes "s1") ∷ (codes "s0") ∷ []);
-    output = (codes "g0");
-    rows = ((Zero ∷ Zero ∷ Zero ∷ []) ∷ (Zero ∷ Any ∷ Zero ∷ []) ∷ []);
-  } ∷ record {
-    inputs = ((codes "s0") ∷ (codes "s1") ∷
-        []);
-    output = (codes "g2");
-    rows = ((Any ∷ Any ∷ []) ∷ (Zero ∷ Any ∷ []) ∷ []);
-  } ∷ []);
-}) (Event ([]) ∷ Reset ∷ Event ([]) ∷ Event ([]) ∷ Event
-    ([]) ∷ []) (just ((codes "s0") ∷ (codes "s1") ∷ (codes "g1") ∷ (codes "g2") ∷ []) ∷ just ((codes "s0") ∷ (codes "s1") ∷ (codes "g1") ∷ (codes
-    "g2") ∷ []) ∷ just ((codes "s0") ∷ (codes "g2") ∷ []) ∷ just ((codes "s0") ∷ (codes "g2") ∷ []) ∷ [])
-random_162_runs = (
+random_114_runs : IsRun random_114_circuit (Event [] ∷ Event [] ∷ []) (just (codes "s0" ∷ codes "g2" ∷ codes "g1" ∷ []) ∷ just (codes "s0" ∷ codes
+    "g2" ∷ codes "g1" ∷ []) ∷ [])
+random_114_runs = (
   record { inputs_given = refl; latches_kept = refl; tables_met = (refl, (refl, (refl, tt))) },
   (
     record {
@@ -812,60 +270,32 @@ random_162_runs = (
       latches_kept = refl;
       tables_met = (refl, (refl, (refl, tt)));
     },
-    (
-      record {
-        inputs_given = refl;
-        latches_kept = refl;
-        tables_met = (
-          refl,
-          (
-            refl,
-            (refl, tt),
-          ),
-        );
-      },
-      (record { inputs_given = refl; latches_kept = refl; tables_met = (refl, (refl, (refl, tt))) }, tt),
-    ),
+    tt,
   ),
 )
 
-random_163 : reading (codes ".model m # c" ++ (10 ∷ []) ++ codes ".outputs g1 a" ++ (10 ∷ []) ++ codes ".names b s0 g0 g1" ++ (10 ∷ []) ++ codes
-    ".names " ++ (92 ∷ []) ++ (10 ∷ []) ++ codes "a " ++ (92 ∷ []) ++ (10 ∷ []) ++ codes "b " ++ (92 ∷ []) ++ (10 ∷ []) ++ codes "g0" ++ (10 ∷ []) ++
-    codes "1-" ++ (9 ∷ []) ++ codes "1 " ++ (10 ∷ []) ++ codes ".latch  g0  s0  1" ++ (10 ∷ []) ++ codes ".inputs" ++ (9 ∷ []) ++ codes "a " ++ (10 ∷
-    []) ++ codes ".names " ++ (92 ∷ []) ++ (10 ∷ []) ++ codes "g1 " ++ (92 ∷ []) ++ (10 ∷ []) ++ codes "g2" ++ (10 ∷ []) ++ codes "-  1" ++ (13 ∷ [])
-    ++ (10 ∷ []) ++ codes ".inputs" ++ (9 ∷ []) ++ codes "b" ++ (13 ∷ []) ++ (10 ∷ [])) ≡ Err (Line 16)
-random_163 = refl
+random_115 : reading (codes "0" ++ (10 ∷ []) ++ codes ".latch g0 s0 0 # c" ++ (10 ∷ []) ++ codes ".names s0 s0 g0" ++ (13 ∷ []) ++ (10 ∷ []) ++ codes
+    "00 1#c " ++ (92 ∷ []) ++ (10 ∷ []) ++ codes " " ++ (10 ∷ []) ++ codes "0- 1" ++ (10 ∷ []) ++ codes ".end" ++ (13 ∷ []) ++ (10 ∷ [])) ≡ Err (Line
+    1)
+random_115 = refl
 
-random_164 : reading (codes ".model " ++ (10 ∷ []) ++ codes ".names " ++ (92 ∷ []) ++ (10 ∷ []) ++ codes "b " ++ (92 ∷ []) ++ (10 ∷ []) ++ codes "a "
-    ++ (92 ∷ []) ++ (10 ∷ []) ++ codes "b " ++ (92 ∷ []) ++ (10 ∷ []) ++ codes "g0" ++ (10 ∷ []) ++ codes "1--" ++ (9 ∷ []) ++ codes "1" ++ (13 ∷ [])
-    ++ (10 ∷ []) ++ codes ".names" ++ (9 ∷ []) ++ codes "a" ++ (9 ∷ []) ++ codes "g1#c " ++ (92 ∷ []) ++ (13 ∷ []) ++ (10 ∷ []) ++ codes "0  1" ++ (13
-    ∷ []) ++ (10 ∷ []) ++ codes "1 1" ++ (13 ∷ []) ++ (10 ∷ []) ++ codes ".outputs  a  a" ++ (10 ∷ []) ++ (10 ∷ []) ++ codes ".outputs" ++ (10 ∷ [])
-    ++ codes ".inputs b " ++ (13 ∷ []) ++ (10 ∷ []) ++ codes ".end # c" ++ (13 ∷ []) ++ (10 ∷ [])) ≡ Err (NoDriver (codes "a"))
-random_164 = refl
+random_116 : reading (codes ".model" ++ (13 ∷ []) ++ (10 ∷ []) ++ codes "-10" ++ (9 ∷ []) ++ codes "1 # c" ++ (13 ∷ []) ++ (10 ∷ []) ++ codes "# c" ++
+    (10 ∷ []) ++ codes ".inputs a " ++ (10 ∷ []) ++ codes ".names a a a g0 " ++ (10 ∷ []) ++ codes ".names  g0  g1  a  g2 # c" ++ (10 ∷ []) ++ codes
+    ".names" ++ (9 ∷ []) ++ codes "g0" ++ (9 ∷ []) ++ codes "g1" ++ (13 ∷ []) ++ (10 ∷ []) ++ codes ".end # c" ++ (10 ∷ [])) ≡ Err (Line 2)
+random_116 = refl
 
-random_165 : reading (codes ".model" ++ (13 ∷ []) ++ (10 ∷ []) ++ codes ".inputs" ++ (10 ∷ []) ++ codes ".names " ++ (92 ∷ []) ++ (10 ∷ []) ++ codes
-    "g0" ++ (10 ∷ []) ++ codes "1 " ++ (10 ∷ []) ++ (10 ∷ []) ++ codes "1" ++ (10 ∷ []) ++ codes ".end # c" ++ (10 ∷ [])) ≡ Ok (record {
-      name = [];
-      inputs = ([]);
-      outputs = ([]);
-      latches = ([]);
-      tables = (record { inputs = ([]); output = (codes "g0"); rows = (([]) ∷ ([]) ∷ []) } ∷ []);
-    })
-random_165 = refl
+abbrev random_117_circuit : Circuit
+random_117_circuit = circuit (codes "m") (codes "a" ∷ []) [] (latch (codes "a") (codes "s0") true ∷ []) (table
+    (codes "a" ∷ codes "a" ∷ []) (codes "g0") ((One ∷ Any ∷ []) ∷ []) ∷ [])
 
-random_165_runs : IsRun (record {
-  name = [];
-  inputs = ([]);
-  outputs = ([]);
-  latches = ([]);
-  tables = (record {
-    inputs = ([]);
-    output = (codes "g0");
-    rows = (([]) ∷ ([]) ∷ []);
-  } ∷ []);
-}) (Event ([]) ∷ Event ([]) ∷ Event ([]) ∷ Event ([]) ∷ Reset ∷ []) (just ((codes "g0") ∷ []) ∷ just ((codes
-    "g0") ∷ []) ∷ just ((codes "g0") ∷ []) ∷ just ((codes "g0") ∷ []) ∷ [])
-random_165_runs = (
+random_117 : reading (codes ".model  m#c " ++ (92 ∷ []) ++ (13 ∷ []) ++ (10 ∷ []) ++ codes ".latch  a  s0  1 " ++ (13 ∷ []) ++ (10 ∷ []) ++ codes
+    ".names  a  a  g0" ++ (13 ∷ []) ++ (10 ∷ []) ++ codes "1- 1#c " ++ (92 ∷ []) ++ (10 ∷ []) ++ codes ".inputs" ++ (9 ∷ []) ++ codes "a" ++ (10 ∷ [])
+    ++ codes ".inputs" ++ (10 ∷ []) ++ codes ".end#c " ++ (92 ∷ []) ++ (13 ∷ []) ++ (10 ∷ [])) ≡ Ok random_117_circuit
+random_117 = refl
+
+random_117_runs : IsRun random_117_circuit (Event (true ∷ []) ∷ Event (true ∷ []) ∷ Event (false ∷ []) ∷ Event (false ∷ []) ∷ Reset ∷ []) (just (codes
+    "a" ∷ codes "s0" ∷ codes "g0" ∷ []) ∷ just (codes "a" ∷ codes "s0" ∷ codes "g0" ∷ []) ∷ just (codes "s0" ∷ []) ∷ just [] ∷ [])
+random_117_runs = (
   record { inputs_given = refl; latches_kept = refl; tables_met = (refl, tt) },
   (
     record {
@@ -887,41 +317,23 @@ random_165_runs = (
   ),
 )
 
-random_166 : reading (codes ".model " ++ (13 ∷ []) ++ (10 ∷ []) ++ codes ".outputs" ++ (9 ∷ []) ++ codes "g1 # c" ++ (10 ∷ []) ++ codes ".names " ++
-    (92 ∷ []) ++ (10 ∷ []) ++ codes "b " ++ (92 ∷ []) ++ (10 ∷ []) ++ codes "b " ++ (92 ∷ []) ++ (10 ∷ []) ++ codes "a " ++ (92 ∷ []) ++ (10 ∷ []) ++
-    codes "g0 # c" ++ (10 ∷ []) ++ codes ".inputs " ++ (92 ∷ []) ++ (10 ∷ []) ++ codes "a" ++ (10 ∷ []) ++ codes ".outputs # c" ++ (10 ∷ []) ++ codes
-    ".names" ++ (9 ∷ []) ++ codes "b" ++ (9 ∷ []) ++ codes "a" ++ (9 ∷ []) ++ codes "g1" ++ (13 ∷ []) ++ (10 ∷ []) ++ codes "10  1" ++ (10 ∷ []) ++
-    codes ".inputs " ++ (92 ∷ []) ++ (10 ∷ []) ++ codes "b " ++ (92 ∷ []) ++ (10 ∷ []) ++ codes "c" ++ (13 ∷ []) ++ (10 ∷ []) ++ codes ".end " ++ (10
-    ∷ [])) ≡ Ok (record {
-      name = [];
-      inputs = ((codes "a") ∷ (codes "b") ∷ (codes "c") ∷ []);
-      outputs = ((codes "g1") ∷ []);
-      latches = ([]);
-      tables =
-          (record { inputs = ((codes "b") ∷ (codes "b") ∷ (codes "a") ∷ []); output = (codes "g0"); rows = ([]) } ∷ record {
-            inputs = ((codes "b") ∷ (codes
-                "a") ∷ []);
-            output = (codes "g1");
-            rows = ((One ∷ Zero ∷ []) ∷ []);
-          } ∷ []);
-    })
-random_166 = refl
+random_118 : reading (codes ".model  m" ++ (13 ∷ []) ++ (10 ∷ []) ++ codes ".latch" ++ (9 ∷ []) ++ codes "s0" ++ (9 ∷ []) ++ codes "s0" ++ (9 ∷ []) ++
+    codes "1" ++ (9 ∷ []) ++ codes "a#c " ++ (92 ∷ []) ++ (10 ∷ []) ++ codes ".inputs  a#c " ++ (92 ∷ []) ++ (10 ∷ []) ++ codes ".end" ++ (13 ∷ []) ++
+    (10 ∷ [])) ≡ Err (Line 2)
+random_118 = refl
 
-random_166_runs : IsRun (record {
-  name = [];
-  inputs = ((codes "a") ∷ (codes "b") ∷ (codes "c") ∷ []);
-  outputs = ((codes "g1") ∷ []);
-  latches = ([]);
-  tables = (record { inputs = ((codes "b") ∷ (codes "b") ∷ (codes "a") ∷ []); output = (codes "g0"); rows = ([]) } ∷ record {
-    inputs = ((codes "b")
-        ∷ (codes "a") ∷ []);
-    output = (codes "g1");
-    rows = ((One ∷ Zero ∷ []) ∷ []);
-  } ∷ []);
-}) (Event (false ∷ true ∷ false ∷ []) ∷ Event (false ∷ true ∷
-    true ∷ []) ∷ Event (false ∷ false ∷ false ∷ []) ∷ Event (false ∷ false ∷ true ∷ []) ∷ []) (just ((codes "b") ∷ (codes "g1") ∷ []) ∷ just ((codes
-    "b") ∷ (codes "c") ∷ (codes "g1") ∷ []) ∷ just ([]) ∷ just ((codes "c") ∷ []) ∷ [])
-random_166_runs = (
+abbrev random_119_circuit : Circuit
+random_119_circuit = circuit [] (codes "b" ∷ codes "a" ∷ []) (codes "g1" ∷ codes "g1" ∷ []) [] (table (codes "b" ∷
+    codes "b" ∷ codes "b" ∷ []) (codes "g0") [] ∷ table [] (codes "g1") [] ∷ [])
+
+random_119 : reading (codes ".model # c" ++ (13 ∷ []) ++ (10 ∷ []) ++ codes ".outputs" ++ (9 ∷ []) ++ codes "g1" ++ (9 ∷ []) ++ codes "g1 # c" ++ (10
+    ∷ []) ++ codes ".names b b b g0 # c" ++ (10 ∷ []) ++ codes ".inputs  b" ++ (13 ∷ []) ++ (10 ∷ []) ++ codes ".names g1" ++ (10 ∷ []) ++ codes
+    ".outputs" ++ (10 ∷ []) ++ codes ".inputs a" ++ (13 ∷ []) ++ (10 ∷ []) ++ codes ".end " ++ (10 ∷ [])) ≡ Ok random_119_circuit
+random_119 = refl
+
+random_119_runs : IsRun random_119_circuit (Event (true ∷ false ∷ []) ∷ Event (true ∷ true ∷ []) ∷ Reset ∷ Event (false ∷ false ∷ []) ∷ Event (false ∷
+    false ∷ []) ∷ []) (just (codes "b" ∷ []) ∷ just (codes "b" ∷ codes "a" ∷ []) ∷ just [] ∷ just [] ∷ [])
+random_119_runs = (
   record { inputs_given = refl; latches_kept = refl; tables_met = (refl, (refl, tt)) },
   (
     record {
@@ -944,66 +356,31 @@ random_166_runs = (
   ),
 )
 
-random_167 : reading (codes ".model # c" ++ (10 ∷ []) ++ codes ".latch s0 s0 1" ++ (13 ∷ []) ++ (10 ∷ []) ++ codes "# c" ++ (10 ∷ []) ++ codes "0  1"
-    ++ (10 ∷ []) ++ codes ".names s0 g0#c " ++ (92 ∷ []) ++ (10 ∷ []) ++ codes "0" ++ (9 ∷ []) ++ codes "1" ++ (10 ∷ []) ++ codes "0  1#c " ++ (92 ∷
-    []) ++ (10 ∷ []) ++ codes ".outputs " ++ (92 ∷ []) ++ (10 ∷ []) ++ codes "g0 " ++ (92 ∷ []) ++ (10 ∷ []) ++ codes "s1 " ++ (10 ∷ []) ++ codes
-    ".outputs" ++ (10 ∷ []) ++ codes ".latch s1 s1 0 " ++ (13 ∷ []) ++ (10 ∷ []) ++ codes ".end" ++ (10 ∷ [])) ≡ Err (Line 4)
-random_167 = refl
+random_120 : reading (codes ".model # c" ++ (10 ∷ []) ++ codes ".names" ++ (9 ∷ []) ++ codes "s0" ++ (9 ∷ []) ++ codes "g1" ++ (10 ∷ []) ++ codes "-"
+    ++ (9 ∷ []) ++ codes "1 # c" ++ (10 ∷ []) ++ codes ".latch  a  s0  1" ++ (10 ∷ []) ++ codes ".outputs#c " ++ (92 ∷ []) ++ (10 ∷ []) ++ codes
+    ".latch" ++ (9 ∷ []) ++ codes "g0" ++ (9 ∷ []) ++ codes "s1" ++ (9 ∷ []) ++ codes "0" ++ (10 ∷ []) ++ codes ".inputs" ++ (9 ∷ []) ++ codes "a" ++
+    (10 ∷ []) ++ codes ".names s1 s1 g0#c " ++ (92 ∷ []) ++ (13 ∷ []) ++ (10 ∷ []) ++ codes "x#c " ++ (92 ∷ []) ++ (10 ∷ []) ++ codes ".end" ++ (10 ∷
+    [])) ≡ Err (Line 9)
+random_120 = refl
 
-random_168 : reading (codes ".model m # c" ++ (10 ∷ []) ++ codes ".latch b s0 0" ++ (10 ∷ []) ++ codes ".inputs  a" ++ (10 ∷ []) ++ codes ".latch" ++
-    (9 ∷ []) ++ codes "b" ++ (9 ∷ []) ++ codes "s1" ++ (9 ∷ []) ++ codes "1 " ++ (10 ∷ []) ++ codes ".latch b s1 1" ++ (10 ∷ []) ++ codes ".inputs b # c"
-    ++ (10 ∷ []) ++ codes ".end") ≡ Err (TwoDrivers (codes "s1"))
-random_168 = refl
+random_121 : reading (codes ".model m#c " ++ (92 ∷ []) ++ (10 ∷ []) ++ codes ".inputs a" ++ (13 ∷ []) ++ (10 ∷ []) ++ codes ".end" ++ (13 ∷ [])) ≡ Err
+    (Line 3)
+random_121 = refl
 
-random_169 : reading (codes ".model " ++ (92 ∷ []) ++ (10 ∷ []) ++ codes "m" ++ (10 ∷ []) ++ codes ".inputs" ++ (9 ∷ []) ++ codes "a#c " ++ (92 ∷ [])
-    ++ (10 ∷ []) ++ codes ".names" ++ (9 ∷ []) ++ codes "a" ++ (9 ∷ []) ++ codes "a" ++ (9 ∷ []) ++ codes "g0 " ++ (10 ∷ []) ++ codes "0- " ++ (92 ∷
-    []) ++ (10 ∷ []) ++ codes "1" ++ (10 ∷ []) ++ codes ".end#c " ++ (92 ∷ []) ++ (13 ∷ []) ++ (10 ∷ [])) ≡ Ok (record {
-      name = (codes "m");
-      inputs =
-          ((codes "a") ∷ []);
-      outputs = ([]);
-      latches = ([]);
-      tables = (record {
-        inputs = ((codes "a") ∷ (codes "a") ∷ []);
-        output = (codes "g0");
-        rows =
-            ((Zero ∷ Any ∷ []) ∷ []);
-      } ∷ []);
-    })
-random_169 = refl
+random_122 : reading (codes ".model  m " ++ (10 ∷ []) ++ codes ".outputs s0 " ++ (10 ∷ []) ++ codes ".latch " ++ (92 ∷ []) ++ (10 ∷ []) ++ codes "s0 "
+    ++ (92 ∷ []) ++ (10 ∷ []) ++ codes "s1 " ++ (92 ∷ []) ++ (10 ∷ []) ++ codes "0" ++ (10 ∷ []) ++ codes ".latch s0 s0 " ++ (10 ∷ []) ++ codes ".end # c"
+    ++ (13 ∷ [])) ≡ Err (Line 7)
+random_122 = refl
 
-random_169_runs : IsRun (record {
-  name = (codes "m");
-  inputs = ((codes "a") ∷ []);
-  outputs = ([]);
-  latches = ([]);
-  tables = (record {
-    inputs = ((codes
-        "a") ∷ (codes "a") ∷ []);
-    output = (codes "g0");
-    rows = ((Zero ∷ Any ∷ []) ∷ []);
-  } ∷ []);
-}) (Event (false ∷ []) ∷ Event (true ∷ []) ∷ Event (true
-    ∷ []) ∷ Event (false ∷ []) ∷ Reset ∷ []) (just ((codes "g0") ∷ []) ∷ just ((codes "a") ∷ []) ∷ just ((codes "a") ∷ []) ∷ just ((codes "g0") ∷ [])
-    ∷ [])
-random_169_runs = (
-  record { inputs_given = refl; latches_kept = refl; tables_met = (refl, tt) },
-  (
-    record {
-      inputs_given = refl;
-      latches_kept = refl;
-      tables_met = (refl, tt);
-    },
-    (
-      record { inputs_given = refl; latches_kept = refl; tables_met = (refl, tt) },
-      (
-        record {
-          inputs_given = refl;
-          latches_kept = refl;
-          tables_met = (refl, tt);
-        },
-        tt,
-      ),
-    ),
-  ),
-)
+random_123 : reading (codes ".model m # c" ++ (10 ∷ []) ++ codes ".latch" ++ (9 ∷ []) ++ codes "g0" ++ (9 ∷ []) ++ codes "s0" ++ (9 ∷ []) ++ codes
+    "0#c " ++ (92 ∷ []) ++ (10 ∷ []) ++ codes ".latch " ++ (92 ∷ []) ++ (10 ∷ []) ++ codes "s0 " ++ (92 ∷ []) ++ (10 ∷ []) ++ codes "s1 " ++ (92 ∷ [])
+    ++ (10 ∷ []) ++ codes "0" ++ (10 ∷ []) ++ codes ".names " ++ (92 ∷ []) ++ (10 ∷ []) ++ codes "s0 " ++ (92 ∷ []) ++ (10 ∷ []) ++ codes "s1 " ++ (92
+    ∷ []) ++ (10 ∷ []) ++ codes "s0" ++ (13 ∷ []) ++ (10 ∷ []) ++ codes ".end # c" ++ (10 ∷ [])) ≡ Err (TwoDrivers (codes "s0"))
+random_123 = refl
+
+random_124 : reading (codes ".model " ++ (92 ∷ []) ++ (10 ∷ []) ++ codes "m" ++ (10 ∷ []) ++ codes ".names" ++ (9 ∷ []) ++ codes "s0" ++ (9 ∷ []) ++
+    codes "s0" ++ (9 ∷ []) ++ codes "s0" ++ (9 ∷ []) ++ codes "g0" ++ (13 ∷ []) ++ (10 ∷ []) ++ codes "-0-  1" ++ (10 ∷ []) ++ codes "-10 1" ++ (13 ∷
+    []) ++ (10 ∷ []) ++ codes ".outputs" ++ (13 ∷ []) ++ (10 ∷ []) ++ codes " " ++ (10 ∷ []) ++ codes ".outputs  g0 # c" ++ (10 ∷ []) ++ codes ".latch "
+    ++ (92 ∷ []) ++ (10 ∷ []) ++ codes "s0 " ++ (92 ∷ []) ++ (10 ∷ []) ++ codes "s0 # c" ++ (10 ∷ []) ++ codes ".end " ++ (13 ∷ []) ++ (10 ∷ [])) ≡
+    Err (Line 9)
+random_124 = refl

@@ -90,10 +90,12 @@ clean-behind : (more : List (List ℕ)) → list_all is_word more ≡ true → i
 clean-behind [] fit = refl
 clean-behind (word ∷ more) fit =
     let parts = and_parts (is_word word) (list_all is_word more) fit in
-    list_all-append is_line_byte word (flat_map (λ w. 32 ∷ w) more) ∙ and_from (is_clean word) (is_clean (flat_map (λ w. 32 ∷ w) more)) (clean-word word parts.0) (clean-behind more parts.1)
+    list_all-append is_line_byte word (flat_map (λ w. 32 ∷ w) more)
+    ∙ and_from (is_clean word) (is_clean (flat_map (λ w. 32 ∷ w) more)) (clean-word word parts.0) (clean-behind more parts.1)
 
 pub clean-spaced : (line : List (List ℕ)) → list_all is_word line ≡ true → is_clean (spaced line) ≡ true
 clean-spaced [] fit = refl
 clean-spaced (word ∷ more) fit =
     let parts = and_parts (is_word word) (list_all is_word more) fit in
-    list_all-append is_line_byte word (flat_map (λ w. 32 ∷ w) more) ∙ and_from (is_clean word) (is_clean (flat_map (λ w. 32 ∷ w) more)) (clean-word word parts.0) (clean-behind more parts.1)
+    list_all-append is_line_byte word (flat_map (λ w. 32 ∷ w) more)
+    ∙ and_from (is_clean word) (is_clean (flat_map (λ w. 32 ∷ w) more)) (clean-word word parts.0) (clean-behind more parts.1)

@@ -85,7 +85,8 @@ pub is_word-name : (name : List ℕ) → is_name name ≡ true → is_word name 
 is_word-name [] fits = cc
 is_word-name (c ∷ cs) fits =
     let parts = and_parts (is_letter c) (list_all is_name_byte cs) fits in
-    and_from (is_word_byte c) (list_all is_word_byte cs) (letter_is_word_byte c parts.0) (list_all-weaker is_name_byte is_word_byte cs name_byte_is_word_byte parts.1)
+    and_from (is_word_byte c) (list_all is_word_byte cs) (letter_is_word_byte c parts.0)
+    (list_all-weaker is_name_byte is_word_byte cs name_byte_is_word_byte parts.1)
 
 -- the decimal digits are bytes of words
 pub decimal_bytes : (n : ℕ) → n < 2 ^ 64 → list_all is_word_byte (decimal n) ≡ true
@@ -93,5 +94,6 @@ decimal_bytes n small = decimal_by_steps (λ m ds. list_all is_word_byte ds ≡ 
     (λ m low. and_from (is_word_byte (48 + m)) true (word_byte_from (48 + m) (omega arith) (omega arith) (omega arith) (omega arith)) refl)
     (λ m ds high ih.
     let last : is_word_byte (48 + m % 10) ≡ true = word_byte_from (48 + m % 10) (omega arith) (omega arith) (omega arith) (omega arith) in
-    list_all-append is_word_byte ds ((48 + m % 10) ∷ []) ∙ and_from (list_all is_word_byte ds) (is_word_byte (48 + m % 10) && true) ih (and_from (is_word_byte (48 + m % 10)) true last refl))
+    list_all-append is_word_byte ds ((48 + m % 10) ∷ [])
+    ∙ and_from (list_all is_word_byte ds) (is_word_byte (48 + m % 10) && true) ih (and_from (is_word_byte (48 + m % 10)) true last refl))
     n small

@@ -25,10 +25,13 @@ worked = record {
 abbrev shows : Bool → Bool → Shown
 shows output paused = record { outputs = output ∷ []; paused = paused }
 
-the_latch_is_set_after_the_first_instant : net_run worked (Event (true ∷ []) ∷ Event (true ∷ []) ∷ Event (false ∷ []) ∷ Event (true ∷ []) ∷ []) ≡ shows false false ∷ shows true true ∷ shows false false ∷ shows true true ∷ []
+the_latch_is_set_after_the_first_instant : net_run worked (Event (true ∷ []) ∷ Event (true ∷ []) ∷ Event (false ∷ []) ∷ Event (true ∷ []) ∷ []) ≡ shows false
+    false ∷ shows true true ∷ shows false false ∷ shows true true ∷ []
 the_latch_is_set_after_the_first_instant = refl
 
-a_reset_shows_nothing_and_puts_the_latch_back : net_run worked (Event (true ∷ []) ∷ Reset ∷ Event (true ∷ []) ∷ Event (true ∷ []) ∷ Reset ∷ Reset ∷ Event (true ∷ []) ∷ []) ≡ shows false false ∷ shows false false ∷ shows true true ∷ shows false false ∷ []
+a_reset_shows_nothing_and_puts_the_latch_back : net_run worked
+    (Event (true ∷ []) ∷ Reset ∷ Event (true ∷ []) ∷ Event (true ∷ []) ∷ Reset ∷ Reset ∷ Event (true ∷ []) ∷ []) ≡ shows false false ∷ shows false false ∷
+    shows true true ∷ shows false false ∷ []
 a_reset_shows_nothing_and_puts_the_latch_back = refl
 
 each_net_in_order : net_values worked (true ∷ []) (true ∷ []) ≡ true ∷ true ∷ true ∷ false ∷ []
@@ -37,7 +40,9 @@ each_net_in_order = refl
 one_wire_is_carried : carried worked.gates ≡ 9 ∷ []
 one_wire_is_carried = refl
 
-every_kind_of_gate : gate_values (true ∷ false ∷ []) (map (λ op. record { op = op; wire = None }) (Const true ∷ Copy (record { 0 = 0 }) ∷ Not (record { 0 = 0 }) ∷ And (record { 0 = 0 }) (record { 0 = 1 }) ∷ Or (record { 0 = 0 }) (record { 0 = 1 }) ∷ [])) ≡ true ∷ false ∷ true ∷ true ∷ false ∷ false ∷ true ∷ []
+every_kind_of_gate : gate_values (true ∷ false ∷ []) (map (λ op. record { op = op; wire = None })
+    (Const true ∷ Copy (record { 0 = 0 }) ∷ Not (record { 0 = 0 }) ∷ And (record { 0 = 0 }) (record { 0 = 1 }) ∷ Or (record { 0 = 0 }) (record { 0 = 1 }) ∷
+    [])) ≡ true ∷ false ∷ true ∷ true ∷ false ∷ false ∷ true ∷ []
 every_kind_of_gate = refl
 
 names : map is_name (codes "a_1" ∷ codes "Z" ∷ codes "_a" ∷ codes "1a" ∷ codes "a.b" ∷ [] ∷ []) ≡ true ∷ true ∷ false ∷ false ∷ false ∷ false ∷ []

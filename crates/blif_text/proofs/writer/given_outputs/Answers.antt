@@ -13,6 +13,7 @@ loop-output-preserved c =
     let i = c.loop-output.output-index in
     let output = c.output-item.result in
     let at : output ≡ get_or outputs i output = c.output-item.is ∙ ap (λ l. get_or l i output) c.deref-output-items.ensures.value in
-    let here : c.contains.result ≡ given output = c.contains.ensures ∙ c.in_ok-inputs.ensures c.bytes.result.now ∙ ap (is_among c.bytes.result.now) c.deref.ensures.value ∙ ap (λ n. is_among n inputs) c.bytes.ensures in
+    let here : c.contains.result ≡ given output = c.contains.ensures ∙ c.in_ok-inputs.ensures c.bytes.result.now
+    ∙ ap (is_among c.bytes.result.now) c.deref.ensures.value ∙ ap (λ n. is_among n inputs) c.bytes.ensures in
     c.in_ok-push.ensures.items ∙ ap (λ l. l ++ c.contains.result ∷ []) c.loop-output.invariant
     ∙ ap (λ b. map given (take i outputs) ++ b ∷ []) (here ∙ ap given at) ∙ sym (map_more given outputs i output (omega arith))

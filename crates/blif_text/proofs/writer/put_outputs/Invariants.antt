@@ -8,4 +8,5 @@ use Rattle.blif_text.proofs.writer.put_outputs.Given as goal
 -- what is written, and what is still to write, are the whole
 abbrev pub invariant-loop-k : goal.invariant-loop-k
 invariant-loop-k l =
-    l.text.items ++ text_of (flat_map table_statements (map (output_table (netlist_of l.net)) (drop l.k l.net.outputs.items))) ≡ l.fn.text.items ++ text_of (flat_map table_statements (map (output_table (netlist_of l.net)) l.net.outputs.items))
+    l.text.items ++ text_of (flat_map table_statements (map (output_table (netlist_of l.net)) (drop l.k l.net.outputs.items))) ≡ l.fn.text.items ++ text_of
+    (flat_map table_statements (map (output_table (netlist_of l.net)) l.net.outputs.items))
