@@ -26,9 +26,11 @@ pub record StepsAs (inputs : ℕ) (present : ℕ → Bool) (r : Term) (x : Step)
 -- an event of the right width tells each input
 pub event_tells : (inputs : ℕ) (event : List Bool) → length event ≡ inputs → KnowsInputs inputs (present_in event) (environment_of inputs event)
 event_tells inputs event wide =
-    record { told = λ s below.
-    cond-true (nat_lt s inputs) (status_of_input (slice_get event s)) (status_of_other (slice_get event s)) (lt-ltb s inputs below)
-    ∙ ap status_of_input (slice_get-get_or event s false (omega arith)) }
+    record {
+      told = λ s below.
+          cond-true (nat_lt s inputs) (status_of_input (slice_get event s)) (status_of_other (slice_get event s)) (lt-ltb s inputs below)
+          ∙ ap status_of_input (slice_get-get_or event s false (omega arith));
+    }
 
 -- some of the signals that are no inputs
 far_kept : (inputs : ℕ) (keep : ℕ → Bool) (outs : List ℕ) → All (λ o. inputs ≤ o) outs → All (λ o. inputs ≤ o) (filter keep outs)
