@@ -1,11 +1,11 @@
 -- Witnesses of the definitions that no call of this crate computes: relations, names and items.
-use Rattle.std.specs.Prelude.{◌≡◌, ℕ, zero, suc, ◌<◌, Bool, true, false, List, [], ◌∷◌, All, ⊤}
+use Rattle.std.specs.Prelude.{◌≡◌, zero, suc, true, false, [], ◌∷◌}
 use Rattle.std.proofs.Common.{refl, arith}
 use Rattle.std.proofs.lemmas.Bool.{false≢true}
 use Rattle.std.proofs.lemmas.List.Elements.{All-cons, All-nil}
 use Rattle.est_base.specs.declared.interface.InputRelation.TheVariants as relations_of_inputs
 use Rattle.est_base.specs.Distinct.{all_differ}
-use Rattle.est_base.specs.Items.{Item, Event, Reset, EachEvent}
+use Rattle.est_base.specs.Items.{Event, Reset, EachEvent}
 use Rattle.est_base.specs.Names.{is_name, is_same_name}
 use Rattle.est_base.specs.Relations.{relation_of, Implies, Excludes, Meets, MeetsAll}
 

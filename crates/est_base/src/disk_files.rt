@@ -100,7 +100,9 @@ fn read_open<T: Read + Drop>(
     ensures whole { IfOk result (λ read. ReadsWhole (T.remaining reader) limit read) }
 {
     let mut bytes = Vec::with_capacity(alloc, room)?;
-    reader.take(limit.saturating_add(1)).read_to_end(&mut bytes)?;
+    reader
+        .take(limit.saturating_add(1))
+        .read_to_end(&mut bytes)?;
     if bytes.len() as u64 > limit {
         return Ok(None);
     }

@@ -1,14 +1,14 @@
 -- Exits that stand in their traps: no step completes further out, and what it leaves keeps them there. One
 -- lemma per row over any steps, and then one induction.
-use Rattle.std.proofs.Common.{◌≡◌, ℕ, zero, suc, ◌+◌, ◌<◌, ◌≤◌, ◌==◌, cond, max, Option, Some, None, refl, sym, ap, subst, arith}
-use Rattle.std.proofs.lemmas.Bool.{eqb-true, eqb-false, cond_both, cond-true, cond-false, eq-eqb, ne_eqb}
+use Rattle.std.proofs.Common.{◌≡◌, ℕ, zero, suc, ◌+◌, ◌<◌, ◌≤◌, ◌==◌, max, Option, Some, None, refl, sym, subst, arith}
+use Rattle.std.proofs.lemmas.Bool.{cond_both}
 use Rattle.est_kernel.specs.Terms.{Term, Nothing, Pause, Emit, Exit, Present, Suspend, Seq, Loop, Par, Trap, Local, Awake}
 use Rattle.est_kernel.specs.Statuses.{Status, Plus, Minus, Unknown, Environment, with_status, value}
 use Rattle.est_kernel.specs.Potentials.{decided}
 use Rattle.est_kernel.specs.Steps.{Step, step, ended, left_by, leaving, leaves, chosen_step, then_step, sequence_step, loop_step, parallel_step, trap_code, trap_step, local_step, where_known}
 use Rattle.est_kernel.specs.Sizes.{trap_depth}
 use Rattle.est_kernel.specs.WellFormed.{ExitsStandInTraps}
-use Rattle.est_kernel.specs.Laws.{KeepsExits, StepKeepsExits}
+use Rattle.est_kernel.specs.Laws.{StepKeepsExits}
 
 -- a step, where there is one, has a code below the limit and leaves exits in traps, at most so deep
 record Fits (n most : ℕ) (x : Step) : Type 0 where

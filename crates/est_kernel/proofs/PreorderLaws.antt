@@ -1,5 +1,5 @@
 -- Places of preorder: what stands at a place, and its parts behind it.
-use Rattle.std.proofs.Common.{◌≡◌, ℕ, zero, suc, ◌+◌, ◌-◌, ◌<◌, ◌≤◌, List, [], ◌∷◌, ◌++◌, length, slice_get, Option, Some, None, refl, sym, ap, ◌∙◌, subst, ⊎_elim, arith, length-append}
+use Rattle.std.proofs.Common.{◌≡◌, ℕ, zero, suc, ◌+◌, ◌-◌, ◌<◌, List, [], ◌∷◌, ◌++◌, length, slice_get, Some, refl, sym, ap, ◌∙◌, subst, ⊎_elim, arith}
 use Rattle.std.proofs.lemmas.Bool.{cases_lt}
 use Rattle.est_kernel.specs.Terms.{Term, Nothing, Pause, Emit, Exit, Present, Suspend, Seq, Loop, Par, Trap, Local, Awake}
 use Rattle.est_kernel.specs.Preorder.{parts, preorder, statement_count}
@@ -31,7 +31,7 @@ within_right a b = record { at = λ n t e. get_right a b n ∙ e }
 within_within : {a b c : List Term} {m n : ℕ} → Within a b m → Within b c n → Within a c (m + n)
 within_within {a} {b} {c} {m} {n} f g = record {
   at = λ k t e. let h : m + n + k ≡ m + (n + k) = omega arith in
-  ap (slice_get a) h ∙ f.at (n + k) t (g.at k t e)
+      ap (slice_get a) h ∙ f.at (n + k) t (g.at k t e);
 }
 
 -- parts that stand in the middle stand in the whole
@@ -67,17 +67,19 @@ later_of : (p : Term) → Behind p → Later (preorder p)
 later_of p b = record { at = b }
 
 joined : (a b : List Term) → Later a → Later b → Later (a ++ b)
-joined a b f g = record { at = λ t n e. ⊎_elim
-  (λ lt.
-  let k : 0 + (n + 1) ≡ n + 1 = omega arith in
-  subst (λ m. StandAt (a ++ b) (parts t) m) k (stand_within (within_left a b) (parts t) (n + 1) (f.at t n (sym (get_in_left a b n lt) ∙ e))))
-  (λ ge.
-  let k : length a + (n - length a) ≡ n = omega arith in
-  let at_right : slice_get b (n - length a) ≡ Some t = sym (get_right a b (n - length a)) ∙ ap (slice_get (a ++ b)) k ∙ e in
-  let h = stand_within (within_right a b) (parts t) (n - length a + 1) (g.at t (n - length a) at_right) in
-  let place : length a + (n - length a + 1) ≡ n + 1 = omega arith in
-  subst (λ m. StandAt (a ++ b) (parts t) m) place h)
-  (cases_lt n (length a)) }
+joined a b f g = record {
+  at = λ t n e. ⊎_elim
+      (λ lt.
+      let k : 0 + (n + 1) ≡ n + 1 = omega arith in
+      subst (λ m. StandAt (a ++ b) (parts t) m) k (stand_within (within_left a b) (parts t) (n + 1) (f.at t n (sym (get_in_left a b n lt) ∙ e))))
+      (λ ge.
+      let k : length a + (n - length a) ≡ n = omega arith in
+      let at_right : slice_get b (n - length a) ≡ Some t = sym (get_right a b (n - length a)) ∙ ap (slice_get (a ++ b)) k ∙ e in
+      let h = stand_within (within_right a b) (parts t) (n - length a + 1) (g.at t (n - length a) at_right) in
+      let place : length a + (n - length a + 1) ≡ n + 1 = omega arith in
+      subst (λ m. StandAt (a ++ b) (parts t) m) place h)
+      (cases_lt n (length a));
+}
   where
     get_in_left : (a b : List Term) (n : ℕ) → n < length a → slice_get (a ++ b) n ≡ slice_get a n
     get_in_left [] b n h = absurd (omega (arith, h))

@@ -1,22 +1,21 @@
 -- What is left of a kernel statement that has paused, by its form; what it completes with are resumed codes
 -- of the statement.
-use Rattle.std.proofs.Common.{◌≡◌, ℕ, zero, suc, ◌+◌, ◌<◌, ◌≤◌, Bool, true, false, ◌==◌, ◌&&◌, ◌||◌, cond, max, List, [], ◌∷◌, ◌++◌, Option, Some, None, ◌⊎◌, inl, inr, refl, sym, ap, ◌∙◌, subst, ⊎_elim, arith}
+use Rattle.std.proofs.Common.{◌≡◌, ℕ, zero, suc, ◌+◌, ◌<◌, ◌≤◌, Bool, true, false, ◌==◌, ◌||◌, cond, max, List, [], ◌∷◌, ◌++◌, Option, Some, None, ◌⊎◌, inl, inr, refl, sym, ◌∙◌, subst, ⊎_elim, arith}
 use Rattle.std.specs.Prelude.{option_and_then}
-use Rattle.std.proofs.lemmas.Bool.{or_cases, or_left, or_right, and_parts, and_from, eqb-true, eqb-false, eq-eqb, ne_eqb, cond_both, cond-true, cond-false, both_ways, cases_lt}
+use Rattle.std.proofs.lemmas.Bool.{or_cases, or_left, or_right, and_from, eqb-true, eqb-false, eq-eqb, ne_eqb, cond_both, cond-true, cond-false, both_ways}
 use Rattle.est_base.specs.declared.place.Span.{Span}
-use Rattle.est_base.specs.Codes.{only, either, except, upto, maxima, lowered}
+use Rattle.est_base.specs.Codes.{only, either, except, maxima, lowered}
 use Rattle.est_kernel.specs.Terms.{Term, Nothing, Pause, Emit, Exit, Present, Suspend, Seq, Loop, Par, Trap, Local, Awake}
 use Rattle.est_kernel.specs.Statuses.{Status, Plus, Minus, Unknown, Environment, with_status, value}
 use Rattle.est_kernel.specs.Potentials.{decided}
 use Rattle.est_kernel.specs.Steps.{Step, step, left_by, leaving, leaves, chosen_step, then_step, sequence_step, loop_step, parallel_step, trap_code, trap_step, local_step, where_known}
 use Rattle.est_kernel.specs.StaticCodes.{codes_if, has_code, started_codes, branch_codes, resumed_codes, instant_loops, NoInstantLoop}
 use Rattle.est_kernel.specs.Sizes.{trap_depth}
-use Rattle.est_kernel.specs.WellFormed.{IsKernel, ExitsStandInTraps, KeepsLimits}
+use Rattle.est_kernel.specs.WellFormed.{IsKernel, ExitsStandInTraps}
 use Rattle.est_kernel.specs.Laws.{IsSubset, left_by_step, left_after, LeftCompletesAsResumed, TreesAreKernels}
-use Rattle.est_kernel.specs.declared.statements.Kernel.{Kernel}
 use Rattle.est_kernel.specs.declared.statements.Kernel.TheVariants as kernels
-use Rattle.est_kernel.proofs.Sets.{except-in, except-parts, upto-in, maxima-in, maxima-parts, lowered-in, lowered-parts, maxima-subset, lowered-subset}
-use Rattle.est_kernel.proofs.CodeLaws.{append-nil, not_instant, static_sequence, static_first, static_second, step_keeps_static_codes_lem}
+use Rattle.est_kernel.proofs.Sets.{except-in, except-parts, upto-in, maxima-in, lowered-in, maxima-subset, lowered-subset}
+use Rattle.est_kernel.proofs.CodeLaws.{append-nil, not_instant, static_sequence, step_keeps_static_codes_lem}
 
 -- ---- sets that have a code
 
@@ -415,10 +414,13 @@ branch_of p t E m h = cases (step t E) refl h
   where
     cases : (o : Option Step) → step t E ≡ o → LeavesOf p o → Branch p o
     cases None is h = tt
-    cases (Some x) is h = (h, λ z. (
-      subst (λ o. LeavesNothing o) is (nothing_left t E) (λ e. let c : 0 ≡ 1 = sym z ∙ e in absurd (omega (arith, c))),
-      m (subst (λ k. started_codes t k ≡ true) z (step_keeps_static_codes_lem t E x is)),
-    ))
+    cases (Some x) is h = (
+      h,
+      λ z. (
+        subst (λ o. LeavesNothing o) is (nothing_left t E) (λ e. let c : 0 ≡ 1 = sym z ∙ e in absurd (omega (arith, c))),
+        m (subst (λ k. started_codes t k ≡ true) z (step_keeps_static_codes_lem t E x is)),
+      ),
+    )
 
 first_left : (n : ℕ) (p : Term) (E : Environment) → ExitsStandInTraps n p → IsKernel p → LeavesOf p (step p E)
 first_left n Nothing E h k = λ e. absurd (omega (arith, e))

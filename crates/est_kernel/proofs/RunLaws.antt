@@ -1,12 +1,12 @@
 -- Runs over items: where they have answers, how many, and what their answers are before the last items.
-use Rattle.std.proofs.Common.{◌≡◌, ℕ, suc, ◌+◌, ◌<◌, ◌≤◌, ◌↔◌, Bool, List, [], ◌∷◌, ◌++◌, length, take, All, Option, Some, None, refl, sym, ap, ◌∙◌, subst, arith}
+use Rattle.std.proofs.Common.{◌≡◌, suc, ◌≤◌, Bool, List, [], ◌∷◌, ◌++◌, length, take, All, Option, Some, None, refl, sym, ap, ◌∙◌, subst, arith}
 use Rattle.std.proofs.lemmas.List.Elements.{All-cons, All-nil}
 use Rattle.est_base.specs.Items.{Item, Event, Reset}
 use Rattle.est_kernel.specs.Terms.{Term}
 use Rattle.est_kernel.specs.Statuses.{Environment, environment_of}
 use Rattle.est_kernel.specs.Steps.{Step, step}
 use Rattle.est_kernel.specs.Plain.{Interface}
-use Rattle.est_kernel.specs.Reactions.{Answer, Reaction, settle, open_signals, answer_of, reaction_of, step_in, react, before, goes_on, run_from, run}
+use Rattle.est_kernel.specs.Reactions.{Answer, Reaction, settle, open_signals, answer_of, reaction_of, step_in, react, before, goes_on, run_from}
 use Rattle.est_kernel.specs.WellFormed.{ExitsStandInTraps}
 use Rattle.est_kernel.specs.Laws.{EachReacts, event_count, RunsWhereEachReacts, RunAnswersEachEvent, PrefixHasPrefixOfAnswers, RunPausesOrEnds}
 use Rattle.est_kernel.proofs.ExitLaws.{step_keeps_exits_lem}

@@ -1,22 +1,20 @@
 -- Witnesses of the definitions that no call computes: the plain forms of Rust trees, what is well formed and
 -- what is not, clause by clause, and which lists are the codes of a body.
-use Rattle.std.specs.Prelude.{◌≡◌, ℕ, zero, suc, ◌+◌, ◌<◌, ◌≤◌, Bool, true, false, List, [], ◌∷◌, map, length, nat_lt, All, IsTrue}
-use Rattle.std.proofs.Common.{refl, ap, arith, Box, Global, ◌∙◌}
+use Rattle.std.specs.Prelude.{◌≡◌, zero, suc, ◌<◌, ◌≤◌, true, false, [], ◌∷◌, map, length, nat_lt, All, IsTrue}
+use Rattle.std.proofs.Common.{refl, arith, Box, Global}
 use Rattle.std.proofs.lemmas.Bool.{false≢true}
 use Rattle.std.proofs.lemmas.List.Elements.{All-cons, All-nil}
 use Rattle.est_base.specs.declared.place.Span.{Span}
 use Rattle.est_base.specs.declared.interface.InputRelation.TheVariants as relations_of_inputs
 use Rattle.est_base.specs.Codes.{only}
 use Rattle.est_base.specs.CodeSet.{members}
-use Rattle.est_base.specs.Relations.{Relation, relation_of, Implies, Excludes, Meets, MeetsAll}
+use Rattle.est_base.specs.Relations.{relation_of, Implies, Excludes, Meets, MeetsAll}
 use Rattle.est_base.specs.Names.{is_name}
 use Rattle.est_kernel.specs.declared.code_lists.Codes.{Codes}
 use Rattle.est_kernel.specs.declared.programs.KernelProgram.{KernelProgram}
-use Rattle.est_kernel.specs.declared.signal_tests.Test.{Test}
 use Rattle.est_kernel.specs.declared.signal_tests.Test.TheVariants as tests
-use Rattle.est_kernel.specs.declared.statements.Kernel.{Kernel}
 use Rattle.est_kernel.specs.declared.statements.Kernel.TheVariants as kernels
-use Rattle.est_kernel.specs.Terms.{Expression, Tick, Sig, Not, And, Or, Term, Nothing, Pause, Emit, Exit, Present, Suspend, Seq, Loop, Par, Trap, Local, Awake}
+use Rattle.est_kernel.specs.Terms.{Tick, Sig, Not, And, Or, Term, Nothing, Pause, Emit, Exit, Present, Suspend, Seq, Loop, Par, Trap, Local, Awake}
 use Rattle.est_kernel.specs.Plain.{expression_of, term_of, Program, program_of, given_count, outgoing_count, interface_count, interface_of, given_names, outgoing_names}
 use Rattle.est_kernel.specs.CodeLists.{AreCodesOf}
 use Rattle.est_kernel.specs.Sizes.{size_of, height_of, trap_depth}

@@ -1,5 +1,4 @@
-use Rattle.std.proofs.Common.{arith, length, ◌<◌, IfSome, ◌≡◌, ◌++◌, take}
-use Rattle.std.specs.Option.{option_map}
+use Rattle.std.proofs.Common.{arith, length, ◌<◌}
 use Rattle.est_base.proofs.Contents.{all_read}
 use Rattle.est_base.proofs.disk_files.read_open.Goals as goal
 
