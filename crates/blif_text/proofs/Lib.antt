@@ -2,9 +2,16 @@ mod WorkedTexts
 mod PlainWords
 pub mod Numbered
 pub mod NameSets
-pub mod Words
+pub mod FirstLines
+pub mod FirstWords
+pub mod WordBytes
 pub mod SpelledLines
 pub mod ReadsBack
+pub mod SaidNames
+pub mod Reversals
+pub mod DriverSets
+pub mod TakenLines
+pub mod ReadBack
 pub mod TextParts
 pub mod RoundTrip
 pub mod NetNames

@@ -18,7 +18,7 @@ use Rattle.net_ir.specs.Netlists.{Netlist, IsNet, first_gate, net_count}
 use Rattle.blif_text.specs.Lines.{is_word_byte}
 use Rattle.blif_text.specs.Circuits.{is_among}
 use Rattle.blif_text.specs.Written.{output_word, input_word, latch_word, gate_word, wire_at, net_word, numbered}
-use Rattle.blif_text.proofs.Words.{is_word, is_word-name, decimal_bytes}
+use Rattle.blif_text.proofs.WordBytes.{is_word, is_word-name, decimal_bytes}
 use Rattle.blif_text.proofs.Numbered.{list_all-parts, list_all-from_All, list_all-get_or, length-numbered, get_or-numbered, All-numbered}
 
 -- a net whose wires have numbers of their type

@@ -11,7 +11,7 @@ use Rattle.blif_text.specs.Statements.{Cell, Zero, One, Any, Statement, Model, I
 use Rattle.blif_text.specs.Statements.{Said, said_in, said, may_follow, first_refused, refused_line}
 use Rattle.blif_text.specs.Circuits.{reading, statements, driven_again, not_driven, circuit_of}
 use Rattle.blif_text.specs.Spelled.{line_text, spelled, text_of, cell_byte}
-use Rattle.blif_text.proofs.Words.{is_word}
+use Rattle.blif_text.proofs.WordBytes.{is_word}
 use Rattle.blif_text.proofs.SpelledLines.{spaced, line_text-spaced, text_lines-feed, without_comment-clean, ends_with-clean, words-spaced, clean-spaced}
 
 -- ---- statements that can be spelled
@@ -38,7 +38,7 @@ word_bytes-cells (Zero ∷ cells) = word_bytes-cells cells
 word_bytes-cells (One ∷ cells) = word_bytes-cells cells
 word_bytes-cells (Any ∷ cells) = word_bytes-cells cells
 
-table_of-names : (inputs : List (List ℕ)) (output : List ℕ) → table_of (inputs ++ output ∷ []) ≡ Some (Names inputs output)
+pub table_of-names : (inputs : List (List ℕ)) (output : List ℕ) → table_of (inputs ++ output ∷ []) ≡ Some (Names inputs output)
 table_of-names [] output = refl
 table_of-names (name ∷ inputs) output = rw (table_of-names inputs output) refl
 

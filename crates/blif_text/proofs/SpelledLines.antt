@@ -8,7 +8,7 @@ use Rattle.std.proofs.lemmas.List.Sums.{take_while-cons}
 use Rattle.std.proofs.lemmas.List.Folds.{list_all-append}
 use Rattle.blif_text.specs.Lines.{text_lines, without_comment, ends_with, is_blank, is_word_byte, is_clean, pieces, is_empty, words}
 use Rattle.blif_text.specs.Spelled.{line_text}
-use Rattle.blif_text.proofs.Words.{is_word, is_line_byte, line_byte_is, word_byte_not_blank, list_all-weaker}
+use Rattle.blif_text.proofs.WordBytes.{is_word, is_line_byte, line_byte_is, word_byte_not_blank, list_all-weaker}
 
 -- ---- one line
 

@@ -4,13 +4,9 @@
 use Rattle.std.specs.Prelude.{◌==◌, ℕ, ◌+◌, Bool, true, false, not, if◌then◌else◌, nat_le, List, [], ◌∷◌, length}
 use Rattle.std.specs.Prelude.{flat_map, codes, Option, Some, None, option_map}
 use Rattle.est_base.specs.Names.{is_same_name}
+pub use Rattle.blif_text.specs.declared.circuit.Cell.{Cell}
+pub use Rattle.blif_text.specs.declared.circuit.Cell.TheVariants.{Zero, One, Any}
 use Rattle.blif_text.specs.Lines.{Line, is_clean, words, read_lines, text_lines}
-
--- a cell of a table's row, which an input of a certain value fits, or one of any value
-pub data Cell : Type 0 where
-  Zero : Cell
-  One : Cell
-  Any : Cell
 
 pub data Statement : Type 0 where
   Model : (name : List ℕ) → Statement

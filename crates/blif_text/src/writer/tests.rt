@@ -3,6 +3,7 @@
 ghost use Rattle.std.specs.Prelude.{◌≡◌, ◌<◌};
 
 use super::*;
+use crate::reader::read_blif;
 use est_base::WireId;
 use net_ir::Latch;
 use std::test::Fail;
@@ -152,5 +153,14 @@ fn great_nets_are_written(rt: HostRuntime) -> Result<(), Fail> {
         let text = write_blif(rt.alloc(), &negations(rt.alloc(), count)?)?;
         assert_eq!(rt; text.len(), want);
     }
+    Ok(())
+}
+
+// A great text is read back as a circuit of as many tables: one for each gate, the input and `_paused`.
+#[test]
+fn a_great_text_is_read_back(rt: HostRuntime) -> Result<(), Fail> {
+    let text = write_blif(rt.alloc(), &negations(rt.alloc(), 1048576)?)?;
+    let blif = read_blif(rt.alloc(), &text)?;
+    assert_eq!(rt; blif.tables.len(), 1048578);
     Ok(())
 }
