@@ -1,5 +1,5 @@
 -- To believe: source trees as plain data, without where they lie in memory.
-use Rattle.std.specs.Prelude.{ℕ, List}
+use Rattle.std.specs.Prelude.{ℕ, List, [], ◌∷◌}
 use Rattle.est_base.specs.declared.place.Span.{Span}
 use Rattle.est_ast.specs.declared.trees.Name.{Name}
 use Rattle.est_ast.specs.declared.trees.Rename.{Rename}
@@ -94,3 +94,17 @@ pub record Module : Type 0 where
 
 abbrev pub Program : Type 0
 Program = List Module
+
+-- The lists of a tree, made of lists of their parts.
+
+abbrev pub exprs : List Expr → Exprs
+exprs [] = NoExprs
+exprs (e ∷ others) = MoreExprs e (exprs others)
+
+abbrev pub stmts : List Stmt → Stmts
+stmts [] = NoStmts
+stmts (p ∷ others) = MoreStmts p (stmts others)
+
+abbrev pub cases : List (Expr × Part) → Cases
+cases [] = NoCases
+cases (c ∷ others) = MoreCases c.0 c.1 (cases others)

@@ -1,11 +1,13 @@
 -- To believe: the plain form of a source tree.
 use Rattle.std.specs.Prelude.{List, map, Option, Some, None}
+use Rattle.std.specs.declared.alloc.Global.{Global}
+use Rattle.std.specs.declared.boxed.Box.{Box}
 use Rattle.est_ast.specs.declared.trees.Case.{Case, Case', Held-Case-body, Case-body-None', Case-body-Some'}
 use Rattle.est_ast.specs.declared.trees.Decl.{Decl as CodeDecl}
 use Rattle.est_ast.specs.declared.trees.Decl.TheVariants as decls
 use Rattle.est_ast.specs.declared.trees.Delay.{Delay as CodeDelay}
 use Rattle.est_ast.specs.declared.trees.Delay.TheVariants as delays
-use Rattle.est_ast.specs.declared.trees.Form.{Form as CodeForm, Held-Form-Await-1, Form-Await-1-None', Form-Await-1-Some', Row_of-Case, end_of-Case, more_of-Case, Held-Form-Trap-2, Form-Trap-2-None', Form-Trap-2-Some', Row_of-Stmt, end_of-Stmt, more_of-Stmt}
+use Rattle.est_ast.specs.declared.trees.Form.{Form as CodeForm, Held-Form-Await-1, Form-Await-1-None', Form-Await-1-Some', back-Form-Await-1, Row_of-Case, end_of-Case, more_of-Case, Held-Form-Trap-2, Form-Trap-2-None', Form-Trap-2-Some', back-Form-Trap-2, Row_of-Stmt, end_of-Stmt, more_of-Stmt}
 use Rattle.est_ast.specs.declared.trees.Form.TheVariants as forms
 use Rattle.est_ast.specs.declared.trees.Handle.{Handle, Handle'}
 use Rattle.est_ast.specs.declared.trees.Module.{Module as CodeModule}
@@ -35,6 +37,9 @@ abbrev pub delay_of : CodeDelay → Delay
 delay_of (delays.Plain event) = Plain (expr_of event)
 delay_of (delays.Immediate event) = Immediate (expr_of event)
 delay_of (delays.Count count span event) = Count count span (expr_of event)
+
+abbrev pub event_of : Case → Expr
+event_of (Case' event body) = expr_of event
 
 abbrev mutual
   pub form_of : CodeForm → Form
@@ -80,10 +85,10 @@ abbrev mutual
 
   pub cases_of : {n : _} → Row_of-Case n → Cases
   cases_of end_of-Case = NoCases
-  cases_of (more_of-Case c row) = case_before c (cases_of row)
+  cases_of (more_of-Case c row) = MoreCases (event_of c) (body_of c) (cases_of row)
 
-  pub case_before : Case → Cases → Cases
-  case_before (Case' event body) others = MoreCases (expr_of event) (body_in body) others
+  pub body_of : Case → Part
+  body_of (Case' event body) = body_in body
 
   pub body_in : Held-Case-body → Part
   body_in Case-body-None' = Missing
@@ -91,6 +96,20 @@ abbrev mutual
 
 abbrev pub stmt_of : CodeStmt → Stmt
 stmt_of statement = At statement.span (form_of statement.form)
+
+abbrev pub case_of : Case → Expr × Part
+case_of c = (event_of c, body_of c)
+
+-- a statement in a box
+abbrev pub boxed : Box CodeStmt Global → Stmt
+boxed p = stmt_of p.value
+
+-- a part and a handler that may be left out
+abbrev pub part_of : Option (Box CodeStmt Global) → Part
+part_of q = part_in (back-Form-Await-1 q)
+
+abbrev pub handle_of : Option Handle → Handler
+handle_of handle = handler_in (back-Form-Trap-2 handle)
 
 abbrev pub relation_of : CodeRelation → Relation
 relation_of (relations.Implies cause effect) = Implies cause effect
