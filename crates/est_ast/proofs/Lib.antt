@@ -5,3 +5,4 @@ pub mod Heads
 pub mod Longest
 pub mod OneLexing
 pub mod OneToken
+pub mod Rows
