@@ -1,5 +1,6 @@
 -- Inner: the one signal that is found present among some.
-use Rattle.std.specs.Prelude.{◌≡◌, ℕ, ◌<◌, Bool, true, false, ◌==◌, if◌then◌else◌, List, slice_index, Option, Some, None, Contains}
+use Rattle.std.specs.Prelude.{◌≡◌, ℕ, ◌<◌, Bool, true, false, ◌==◌, if◌then◌else◌, List, slice_index, Option, Some}
+use Rattle.std.specs.Prelude.{None, Contains}
 use Rattle.est_base.specs.declared.indices.SigId.{SigId}
 use Rattle.est_base.specs.Relations.{IsPresent}
 
@@ -13,4 +14,5 @@ found_after (Some other) signal true = if other.0 == signal.0 then Some (Some si
 abbrev pub IsFound : List Bool → List ℕ → ℕ → Option SigId → Type 0
 IsFound event signals count None = (j : ℕ) → j < count → IsPresent event (slice_index signals j) → ⊥
 IsFound event signals count (Some found) =
-    Contains signals found.0 × IsPresent event found.0 × ((j : ℕ) → j < count → IsPresent event (slice_index signals j) → slice_index signals j ≡ found.0)
+    Contains signals found.0 × IsPresent event found.0 × ((j : ℕ) → j < count
+    → IsPresent event (slice_index signals j) → slice_index signals j ≡ found.0)

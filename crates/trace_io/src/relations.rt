@@ -10,7 +10,8 @@ use est_base::{InputRelation, SigId};
 /// The place of the first relation that an event breaks; None where it meets them all. It takes no
 /// memory.
 pub fn first_broken(relations: &[InputRelation], event: &[bool]) -> Option<usize>
-    ensures { MatchOption result (MeetsAll (map relation_of relations.now) event.now) (IsFirstBroken (map relation_of relations.now) event.now) }
+    ensures { MatchOption result (MeetsAll (map relation_of relations.now) event.now)
+        (IsFirstBroken (map relation_of relations.now) event.now) }
 {
     for (k, relation) in relations.iter().enumerate() {
         if !meets(relation, event) {
