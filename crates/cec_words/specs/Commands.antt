@@ -1,5 +1,7 @@
 -- To believe: the commands, their options, and what one word says.
-use Rattle.std.specs.Prelude.{ℕ, ◌+◌, Bool, false, not, ◌==◌, ◌&&◌, nat_lt, nat_le, List, [], ◌∷◌, length, take, drop, slice_index, codes, if◌then◌else◌, Option, Some, None, option_map, option_and_then}
+use Rattle.std.specs.Prelude.{ℕ, ◌+◌, Bool, false, not, ◌==◌, ◌&&◌, nat_lt, nat_le, List, [], ◌∷◌, length, take}
+use Rattle.std.specs.Prelude.{drop, slice_index, codes, if◌then◌else◌, Option, Some, None, option_map}
+use Rattle.std.specs.Prelude.{option_and_then}
 use Rattle.est_base.specs.Names.{is_same_name}
 use Rattle.cec_words.specs.declared.asked.Via.{Via}
 use Rattle.cec_words.specs.declared.asked.Via.TheVariants as vias
@@ -57,7 +59,8 @@ abbrev pub spelling_of : Setting → List ℕ → Option Spelling
 spelling_of setting word =
     let size = length (option_name setting) in
     if is_same_name word (option_name setting) then Some (Bare setting)
-    else if nat_lt (size + 1) (length word) && is_same_name (take size word) (option_name setting) && (slice_index word size == 61)
+    else if nat_lt (size + 1) (length word) && is_same_name (take size word) (option_name setting)
+    && (slice_index word size == 61)
     then Some (Valued setting (size + 1))
     else None
 
@@ -85,7 +88,8 @@ pick_of value =
 
 -- a number that is at least the one and at most the other
 abbrev pub number_within : ℕ → ℕ → List ℕ → Option ℕ
-number_within least most value = option_and_then (λ n. if nat_le least n && nat_le n most then Some n else None) (number value)
+number_within least most value =
+    option_and_then (λ n. if nat_le least n && nat_le n most then Some n else None) (number value)
 
 -- the part that an option with its value makes: the value's place, and its bytes
 abbrev pub part_of : Setting → Value → List ℕ → Option Part
@@ -99,7 +103,8 @@ part_of settings.Run place value = option_map parts.Run (number_within 0 100000 
 -- what a word does that spells an option
 abbrev pub spelled_step : ℕ → List ℕ → Spelling → Option Step
 spelled_step at word (Bare setting) = Some (Waits setting)
-spelled_step at word (Valued setting start) = option_map Ends (part_of setting (record { word = at; start = start }) (drop start word))
+spelled_step at word (Valued setting start) =
+    option_map Ends (part_of setting (record { word = at; start = start }) (drop start word))
 
 -- What a word does at its place, where an option may wait for its value: it is the value, or a file, or it spells an
 -- option of the command. Any other word has no meaning.
@@ -107,4 +112,5 @@ abbrev pub step_of : Command → Option Setting → ℕ → List ℕ → Option 
 step_of command (Some setting) at word =
     if is_plain word then option_map Ends (part_of setting (record { word = at; start = 0 }) word) else None
 step_of command None at word =
-    if is_plain word then Some (Ends (parts.File at)) else option_and_then (spelled_step at word) (named (options command) word)
+    if is_plain word then Some (Ends (parts.File at))
+    else option_and_then (spelled_step at word) (named (options command) word)

@@ -53,7 +53,8 @@ Fills old new part = (rest : Gathered) → extended new rest ≡ extended old (w
 
 -- whatever comes, with this part the words have no meaning
 abbrev pub Overfills : Given → Part → Type 0
-Overfills old part = (command : Command) (rest : Gathered) → asked_once command (extended old (with_part part rest)) ≡ None
+Overfills old part = (command : Command) (rest : Gathered)
+    → asked_once command (extended old (with_part part rest)) ≡ None
 
 -- what is given and what the words that are left give ask for together
 abbrev pub asked_with : Command → Given → Option Gathered → Option Asked
@@ -62,9 +63,11 @@ asked_with command given left = option_and_then (λ rest. asked_once command (ex
 -- after this step the words have no meaning, whatever is left
 abbrev pub HasNoMeaning : Given → Step → Type 0
 HasNoMeaning given step =
-    (command : Command) (rest : Option Setting → Option Gathered) → asked_with command given (after_step rest (Some step)) ≡ None
+    (command : Command) (rest : Option Setting → Option Gathered)
+    → asked_with command given (after_step rest (Some step)) ≡ None
 
 -- after this step this is given, and this option waits
 abbrev pub Takes : Given → Step → Given → Option Setting → Type 0
 Takes given step new waiting =
-    (command : Command) (rest : Option Setting → Option Gathered) → asked_with command given (after_step rest (Some step)) ≡ asked_with command new (rest waiting)
+    (command : Command) (rest : Option Setting → Option Gathered)
+    → asked_with command given (after_step rest (Some step)) ≡ asked_with command new (rest waiting)

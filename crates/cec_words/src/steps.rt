@@ -1,7 +1,8 @@
 // What one word says.
 
 ghost use Rattle.std.specs.Prelude.{◌≡◌, IfSome};
-ghost use Rattle.cec_words.specs.Commands.{command_of, options, option_name, spelling_of, named, is_plain, via_of, pick_of, part_of, step_of};
+ghost use Rattle.cec_words.specs.Commands.{command_of, options, option_name, spelling_of, named, is_plain, via_of};
+ghost use Rattle.cec_words.specs.Commands.{pick_of, part_of, step_of};
 ghost use Rattle.cec_words.specs.Spellings.{IsWithin};
 
 use crate::asked::{Pick, Value, Via};

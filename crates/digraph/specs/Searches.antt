@@ -1,5 +1,6 @@
 -- Inner: how far a search against the edges has come.
-use Rattle.std.specs.Prelude.{◌≡◌, ◌≢◌, ℕ, ◌+◌, ◌-◌, ◌*◌, ◌<◌, ◌≤◌, Bool, true, false, List, [], ◌∷◌, ◌++◌, length, take, slice_index, slice_index_or, slice_set, replicate, IsTrue, sum, count_by}
+use Rattle.std.specs.Prelude.{◌≡◌, ◌≢◌, ℕ, ◌+◌, ◌-◌, ◌*◌, ◌<◌, ◌≤◌, Bool, true, false, List, [], ◌∷◌, ◌++◌, length}
+use Rattle.std.specs.Prelude.{take, slice_index, slice_index_or, slice_set, replicate, IsTrue, sum, count_by}
 use Rattle.digraph.specs.declared.search.State.{State}
 use Rattle.digraph.specs.declared.search.State.TheVariants.{New, OnPath, Ranked}
 use Rattle.digraph.specs.declared.search.Search.{Search}
@@ -50,12 +51,19 @@ pub record IsSearch (count : ℕ) (edges : List (ℕ × ℕ)) (states : List Sta
   pub state_each : length states ≡ count
   pub rest_each : length rest ≡ count
   pub rest_within : (node : ℕ) → node < count → slice_index rest node ≤ length edges
-  pub rest_leads : (node : ℕ) → node < count → 0 < slice_index rest node → (edge_at edges (slice_index rest node - 1)).1 ≡ node
-  pub seen : (k : ℕ) → k < length edges → slice_index rest (edge_at edges k).1 ≤ k → IsTrue (is_ranked (state_of states (edge_at edges k).0))
-  pub grow : (k : ℕ) → k < length edges → IsTrue (is_ranked (state_of states (edge_at edges k).1)) → IsTrue (is_ranked (state_of states (edge_at edges k).0)) × (rank_in (state_of states (edge_at edges k).0) < rank_in (state_of states (edge_at edges k).1))
-  pub placed : (node : ℕ) → node < count → IsTrue (is_ranked (state_of states node)) → (rank_in (state_of states node) < length order) × (slice_index order (rank_in (state_of states node)) ≡ node)
-  pub path_nodes : (k : ℕ) → k < length path → (slice_index path k < count) × (state_of states (slice_index path k) ≡ OnPath k)
-  pub path_places : (node k : ℕ) → node < count → state_of states node ≡ OnPath k → (k < length path) × (slice_index path k ≡ node)
+  pub rest_leads : (node : ℕ) → node < count → 0 < slice_index rest node
+      → (edge_at edges (slice_index rest node - 1)).1 ≡ node
+  pub seen : (k : ℕ) → k < length edges → slice_index rest (edge_at edges k).1 ≤ k
+      → IsTrue (is_ranked (state_of states (edge_at edges k).0))
+  pub grow : (k : ℕ) → k < length edges → IsTrue (is_ranked (state_of states (edge_at edges k).1))
+      → IsTrue (is_ranked (state_of states (edge_at edges k).0))
+      × (rank_in (state_of states (edge_at edges k).0) < rank_in (state_of states (edge_at edges k).1))
+  pub placed : (node : ℕ) → node < count → IsTrue (is_ranked (state_of states node))
+      → (rank_in (state_of states node) < length order) × (slice_index order (rank_in (state_of states node)) ≡ node)
+  pub path_nodes : (k : ℕ) → k < length path
+      → (slice_index path k < count) × (state_of states (slice_index path k) ≡ OnPath k)
+  pub path_places : (node k : ℕ) → node < count → state_of states node ≡ OnPath k
+      → (k < length path) × (slice_index path k ≡ node)
   pub path_steps : (k : ℕ) → k + 1 < length path → HasEdge edges (slice_index path (k + 1)) (slice_index path k)
   pub total : length order + length path + count_by is_new states ≡ count
 

@@ -1,6 +1,7 @@
 // The depth-first search: from a node back along the edges into it.
 
-ghost use Rattle.std.specs.Prelude.{◌≡◌, ◌-◌, ◌<◌, ◌^◌, ◌≤◌, [], length, drop, slice_index, reverse, IfOk, OnOk, MatchOption};
+ghost use Rattle.std.specs.Prelude.{◌≡◌, ◌-◌, ◌<◌, ◌^◌, ◌≤◌, [], length, drop, slice_index, reverse, IfOk, OnOk};
+ghost use Rattle.std.specs.Prelude.{MatchOption};
 ghost use Rattle.digraph.specs.Walks.{JoinsNodes, IsClosedWalk};
 ghost use Rattle.digraph.specs.Searches.{AreEarlier, IsFresh, IsSearchOf, Enters, Leaves, StepsOn, EndsSearch};
 
@@ -65,7 +66,8 @@ impl Search {
         requires search { IsSearchOf (length self.old.states.items) edges.now self.old }
         requires between { self.old.path.items ≡ [] }
         requires is_node { root < length self.old.states.items }
-        ensures { IfOk result (λ w. MatchOption w (EndsSearch edges.now self.old self.new root) (λ walk. IsClosedWalk edges.now walk.items)) }
+        ensures { IfOk result (λ w. MatchOption w (EndsSearch edges.now self.old self.new root)
+            (λ walk. IsClosedWalk edges.now walk.items)) }
     {
         if !self.states[root as usize].is_new() {
             return Ok(None);
@@ -95,7 +97,8 @@ impl Search {
         requires search { IsSearchOf (length self.old.states.items) edges.now self.old }
         requires on_path { 0 < length self.old.path.items }
         requires last { slice_index self.old.path.items (length self.old.path.items - 1) ≡ node }
-        ensures { IfOk result (λ w. MatchOption w (StepsOn edges.now self.old self.new) (λ walk. IsClosedWalk edges.now walk.items)) }
+        ensures { IfOk result (λ w. MatchOption w (StepsOn edges.now self.old self.new)
+            (λ walk. IsClosedWalk edges.now walk.items)) }
     {
         let rest = self.rest[node as usize];
         if rest == 0 {

@@ -33,11 +33,14 @@ statement shape number input output =
     let Q = waited_name number output in
     concat (
     if shape == 0 then codes "every " ∷ A ∷ codes " do emit " ∷ S ∷ codes "; emit " ∷ O ∷ codes " end every\n" ∷ []
-    else if shape == 1 then codes "loop await " ∷ Q ∷ codes "; emit " ∷ S ∷ codes "; present " ∷ A ∷ codes " then emit " ∷ O
+    else if shape == 1 then codes "loop await " ∷ Q ∷ codes "; emit " ∷ S ∷ codes "; present " ∷ A
+    ∷ codes " then emit " ∷ O
     ∷ codes " end present end loop\n" ∷ []
-    else if shape == 2 then codes "suspend loop present " ∷ Q ∷ codes " then emit " ∷ S ∷ codes " end present; pause; emit " ∷ O
+    else if shape == 2 then codes "suspend loop present " ∷ Q ∷ codes " then emit " ∷ S
+    ∷ codes " end present; pause; emit " ∷ O
     ∷ codes "; pause end loop when " ∷ A ∷ codes "\n" ∷ []
-    else codes "loop abort sustain " ∷ S ∷ codes " when " ∷ A ∷ codes "; await 2 " ∷ Q ∷ codes "; emit " ∷ O ∷ codes " end loop\n" ∷ [])
+    else codes "loop abort sustain " ∷ S ∷ codes " when " ∷ A ∷ codes "; await 2 " ∷ Q ∷ codes "; emit " ∷ O
+    ∷ codes " end loop\n" ∷ [])
 
 -- the line of a branch, from the state before its three draws: the shape, the input and the output
 abbrev pub branch_text : ℕ → ℕ → List ℕ
@@ -48,7 +51,8 @@ branch_text number x =
 abbrev pub branches_text : ℕ → ℕ → ℕ → List ℕ
 branches_text number zero x = []
 branches_text number (suc more) x =
-    (if number == 0 then [] else codes "||\n") ++ (branch_text number x ++ branches_text (number + 1) more (state_after 3 x))
+    (if number == 0 then [] else codes "||\n")
+    ++ (branch_text number x ++ branches_text (number + 1) more (state_after 3 x))
 
 abbrev pub source_text : ℕ → ℕ → List ℕ
 source_text start branches =
