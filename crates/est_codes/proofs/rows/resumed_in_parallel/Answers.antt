@@ -1,0 +1,5 @@
+use Rattle.std.proofs.Common.{◌≡◌, refl, sym, ◌∙◌, ap}
+use Rattle.est_codes.proofs.rows.resumed_in_parallel.Goals as goal
+
+pub returns : goal.returns
+returns c = ?
