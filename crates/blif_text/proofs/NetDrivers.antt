@@ -12,8 +12,8 @@ use Rattle.est_base.specs.declared.indices.WireId.{WireId}
 use Rattle.net_ir.specs.declared.netlist.Gate.{Gate}
 use Rattle.net_ir.specs.declared.netlist.NetOut.{NetOut}
 use Rattle.net_ir.specs.declared.netlist.Latch.{Latch}
-use Rattle.net_ir.specs.Distinct.{all_differ, none_shared}
-use Rattle.net_ir.specs.Names.{is_letter, is_name, is_name_byte, is_same_name}
+use Rattle.est_base.specs.Distinct.{all_differ, none_shared}
+use Rattle.est_base.specs.Names.{is_letter, is_name, is_name_byte, is_same_name}
 use Rattle.net_ir.specs.Gates.{carried}
 use Rattle.net_ir.specs.Runs.{Netlist}
 use Rattle.net_ir.proofs.Building.{all_differ-append}

@@ -12,8 +12,8 @@ use Rattle.net_ir.specs.declared.netlist.Op.TheVariants.{Const}
 use Rattle.net_ir.specs.declared.netlist.Gate.{Gate}
 use Rattle.net_ir.specs.declared.netlist.NetOut.{NetOut}
 use Rattle.net_ir.specs.declared.netlist.Latch.{Latch}
-use Rattle.net_ir.specs.Distinct.{all_differ, none_shared}
-use Rattle.net_ir.specs.Names.{is_name, is_same_name}
+use Rattle.est_base.specs.Distinct.{all_differ, none_shared}
+use Rattle.est_base.specs.Names.{is_name, is_same_name}
 use Rattle.net_ir.specs.Gates.{ReadsLower, carried}
 use Rattle.net_ir.specs.Runs.{Netlist, first_gate, net_count}
 use Rattle.blif_text.specs.Written.{input_word, latch_word, gate_word, wire_at, net_word, numbered}

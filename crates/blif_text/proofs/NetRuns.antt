@@ -9,8 +9,8 @@ use Rattle.std.proofs.lemmas.List.Elements.{All-tail}
 use Rattle.net_ir.specs.declared.netlist.NetOut.{NetOut}
 use Rattle.net_ir.specs.declared.netlist.Latch.{Latch}
 use Rattle.net_ir.specs.declared.netlist.Gate.{Gate}
-use Rattle.net_ir.specs.Distinct.{all_differ}
-use Rattle.net_ir.specs.Names.{is_same_name}
+use Rattle.est_base.specs.Distinct.{all_differ}
+use Rattle.est_base.specs.Names.{is_same_name}
 use Rattle.net_ir.specs.Gates.{value_in}
 use Rattle.net_ir.specs.Runs.{Netlist, Shown, first_gate, net_count, net_values, next_latches, initial_latches, values_from, net_values_run, shown}
 use Rattle.net_ir.proofs.Values.{length-gate_values, take-gate_values}

@@ -11,8 +11,8 @@ use Rattle.net_ir.specs.declared.netlist.Op.TheVariants.{Const, Copy, Not, And, 
 use Rattle.net_ir.specs.declared.netlist.Gate.{Gate}
 use Rattle.net_ir.specs.declared.netlist.NetOut.{NetOut}
 use Rattle.net_ir.specs.declared.netlist.Latch.{Latch}
-use Rattle.net_ir.specs.Distinct.{all_differ}
-use Rattle.net_ir.specs.Names.{is_same_name}
+use Rattle.est_base.specs.Distinct.{all_differ}
+use Rattle.est_base.specs.Names.{is_same_name}
 use Rattle.net_ir.specs.Gates.{operand_end}
 use Rattle.net_ir.specs.Runs.{Netlist, net_count}
 use Rattle.blif_text.specs.Circuits.{CircuitLatch, Table, is_among, reading}

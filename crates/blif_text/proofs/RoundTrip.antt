@@ -7,8 +7,8 @@ use Rattle.std.proofs.lemmas.Bool.{and_parts, or_parts, and_from, eqb-true, eq-e
 use Rattle.std.proofs.lemmas.List.{append-nil}
 use Rattle.std.proofs.lemmas.List.Concat.{flat_map-append, flat_map_single}
 use Rattle.std.proofs.lemmas.List.Folds.{list_all-append}
-use Rattle.net_ir.specs.Distinct.{all_differ, none_shared}
-use Rattle.net_ir.specs.Names.{is_same_name}
+use Rattle.est_base.specs.Distinct.{all_differ, none_shared}
+use Rattle.est_base.specs.Names.{is_same_name}
 use Rattle.blif_text.specs.Statements.{Cell, Statement, Model, Inputs, Outputs, Names, Row, End, is_end, row_may_follow}
 use Rattle.blif_text.specs.Circuits.{Circuit, CircuitLatch, Table, leading_rows, tables_of, inputs_in, outputs_in, latches_in, circuit_of, driven_by, used_by, is_among, first_again, driven_again, not_driven, reading}
 use Rattle.blif_text.specs.Spelled.{inputs_statements, latch_statement, table_statements, head_statements, circuit_statements, circuit_text}

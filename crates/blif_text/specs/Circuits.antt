@@ -1,7 +1,7 @@
 -- The circuit that a BLIF text of the profile describes, and why a text describes none.
 use Rattle.std.specs.Prelude.{ℕ, Bool, not, if◌then◌else◌, List, [], ◌∷◌, flat_map, filter_map, find, Option, Some, None, Result, Ok, Err}
 use Rattle.std.specs.List.{list_any}
-use Rattle.net_ir.specs.Names.{is_same_name}
+use Rattle.est_base.specs.Names.{is_same_name}
 use Rattle.blif_text.specs.Statements.{Cell, Statement, Model, Inputs, Outputs, Latch, Names, Row, said, refused_line}
 
 -- a latch: `target` has the value `init` in the first instant, and in each later one the value that

@@ -2,7 +2,7 @@
 -- The form is Berkeley's BLIF, cut down to one model of latches with an initial value and tables of
 -- at most eight inputs.
 use Rattle.std.specs.Prelude.{◌==◌, ℕ, ◌+◌, Bool, true, false, not, if◌then◌else◌, nat_le, List, [], ◌∷◌, length, flat_map, codes, Option, Some, None, option_map}
-use Rattle.net_ir.specs.Names.{is_same_name}
+use Rattle.est_base.specs.Names.{is_same_name}
 use Rattle.blif_text.specs.Lines.{Line, is_clean, words, read_lines, text_lines}
 
 -- a cell of a table's row, which an input of a certain value fits, or one of any value

@@ -10,8 +10,8 @@ use Rattle.est_kernel.specs.Plain.{Program}
 use Rattle.net_ir.specs.declared.netlist.Gate.{Gate}
 use Rattle.net_ir.specs.declared.netlist.Latch.{Latch}
 use Rattle.net_ir.specs.declared.netlist.NetOut.{NetOut}
-use Rattle.net_ir.specs.Distinct.{all_differ, none_shared}
-use Rattle.net_ir.specs.Names.{is_name, is_same_name}
+use Rattle.est_base.specs.Distinct.{all_differ, none_shared}
+use Rattle.est_base.specs.Names.{is_name, is_same_name}
 use Rattle.net_ir.specs.Gates.{ReadsLower, carried}
 use Rattle.net_ir.specs.Runs.{Netlist, first_gate, net_count}
 use Rattle.net_ir.proofs.Building.{all_differ-append}

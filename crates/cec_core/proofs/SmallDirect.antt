@@ -6,7 +6,7 @@ use Rattle.std.specs.Option.{IfSome, option_map, option_and_then}
 use Rattle.std.specs.List.{position_or_len}
 use Rattle.est_kernel.specs.Plain.{Program}
 use Rattle.est_kernel.specs.Sizes.{size_of}
-use Rattle.net_ir.specs.Names.{is_name, is_same_name}
+use Rattle.est_base.specs.Names.{is_name, is_same_name}
 use Rattle.cec_core.specs.declared.small.trees.Side.TheVariants.{Input, Output}
 use Rattle.cec_core.specs.Direct.{IsDirect}
 use Rattle.cec_core.specs.DirectPrograms.{IsDirectProgram}

@@ -3,10 +3,10 @@ use Rattle.std.proofs.Common.{◌≡◌, ℕ, ◌+◌, ◌-◌, ◌<◌, ◌≤�
 use Rattle.std.specs.Option.{IfSome, option_map, option_and_then}
 use Rattle.est_kernel.specs.Terms.{Term}
 use Rattle.est_kernel.specs.Plain.{Program}
-use Rattle.est_kernel.specs.Relations.{Relation}
+use Rattle.est_base.specs.Relations.{Relation}
 use Rattle.est_kernel.specs.Sizes.{size_of}
-use Rattle.net_ir.specs.Distinct.{all_differ}
-use Rattle.net_ir.specs.Names.{is_same_name}
+use Rattle.est_base.specs.Distinct.{all_differ}
+use Rattle.est_base.specs.Names.{is_same_name}
 use Rattle.cec_core.specs.declared.small.trees.Side.TheVariants.{Input, Output}
 use Rattle.cec_core.specs.SmallTrees.{Name, Statement, Nothing, Pause, Emit, Present, Seq, Branch, Missing, Written, nodes, branch_nodes, Source}
 use Rattle.cec_core.specs.Small.{names_on, Scope, scope_of, flat, flat_branch, expanded, expanded_branch, program_with, kernel_of, IsWithinLimits}

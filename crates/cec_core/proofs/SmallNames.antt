@@ -11,7 +11,7 @@ use Rattle.est_ast.specs.declared.tokens.Mark.TheVariants as marks
 use Rattle.est_ast.specs.Lexemes.{IsLetter, IsNameByte, BeginsWithWord, Part, Begins, Space, LineComment, BlockComment, Word, Numeral, Sign}
 use Rattle.est_ast.specs.Lexing.{Makes, IsFront, Piece, Cuts, token_at, tokens_from, Tokens, LexesAs}
 use Rattle.read_rules.specs.Languages.{One, Led, Many}
-use Rattle.net_ir.specs.Names.{is_letter, is_name_byte, is_name}
+use Rattle.est_base.specs.Names.{is_letter, is_name_byte, is_name}
 use Rattle.cec_core.specs.declared.small.trees.Side.{Side}
 use Rattle.cec_core.specs.declared.small.trees.Side.TheVariants.{Input, Output}
 use Rattle.cec_core.specs.SmallTrees.{Name, Declaration, Source}

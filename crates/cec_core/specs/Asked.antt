@@ -2,7 +2,7 @@
 use Rattle.std.specs.Prelude.{ℕ, Bool, false, not, ◌==◌, ◌&&◌, if◌then◌else◌, List, [], ◌∷◌, Option, Some, None, String, codes, map}
 use Rattle.std.specs.String.{string_bytes}
 use Rattle.std.specs.declared.alloc.Global.{Global}
-use Rattle.net_ir.specs.Names.{is_same_name}
+use Rattle.est_base.specs.Names.{is_same_name}
 
 -- a word that stands for a file: it is not empty and does not begin with `-` (45)
 abbrev pub is_file : List ℕ → Bool

@@ -8,8 +8,8 @@ use Rattle.est_kernel.specs.Terms.{Term, Sig}
 use Rattle.est_kernel.specs.Terms as terms
 use Rattle.est_kernel.specs.Plain.{Program}
 use Rattle.est_kernel.specs.Sizes.{size_of}
-use Rattle.net_ir.specs.Distinct.{all_differ}
-use Rattle.net_ir.specs.Names.{is_same_name}
+use Rattle.est_base.specs.Distinct.{all_differ}
+use Rattle.est_base.specs.Names.{is_same_name}
 use Rattle.cec_core.specs.declared.small.trees.Side.{Side}
 use Rattle.cec_core.specs.declared.small.trees.Side.TheVariants.{Input, Output}
 use Rattle.cec_core.specs.SmallTrees.{Name, Statement, Nothing, Pause, Emit, Present, Seq, Branch, Missing, Written, Declaration, Source}

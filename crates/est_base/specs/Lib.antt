@@ -5,3 +5,7 @@ pub mod Reading
 pub mod FileEntry
 pub mod Writing
 pub mod SinkState
+pub mod Names
+pub mod Relations
+pub mod Items
+pub mod Distinct

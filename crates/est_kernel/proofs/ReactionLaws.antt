@@ -1,22 +1,23 @@
 -- A term whose step is the same under every status of the outputs reacts with that step: each output is
 -- decided as the step emits it. So does every term that tests no output and no local signal.
-use Rattle.std.proofs.Common.{◌≡◌, ℕ, zero, suc, ◌+◌, ◌<◌, ◌≤◌, Bool, true, false, not, ◌&&◌, ◌==◌, cond, List, [], ◌∷◌, Option, Some, refl, ap, ◌∙◌, arith}
+use Rattle.std.proofs.Common.{◌≡◌, ℕ, zero, suc, ◌+◌, ◌<◌, ◌≤◌, Bool, true, false, not, ◌&&◌, ◌==◌, cond, List, [], ◌∷◌, Option, Some, filter, refl, ap, ◌∙◌, arith}
 use Rattle.std.specs.List.{range_with_len}
-use Rattle.std.proofs.lemmas.Bool.{ne_eqb, cond-false}
+use Rattle.std.proofs.lemmas.Bool.{ne_eqb, cond-false, cond_both}
 use Rattle.est_kernel.specs.Terms.{Term}
 use Rattle.est_kernel.specs.Statuses.{Status, Plus, Minus, Unknown, Environment, with_status, known, environment_of}
 use Rattle.est_kernel.specs.Potentials.{Must, Can, potential, decided}
 use Rattle.est_kernel.specs.Steps.{Step, step, where_known}
-use Rattle.est_kernel.specs.Reactions.{Reaction, bound, settle, react, reaction_in, reaction_of, before, goes_on, run}
+use Rattle.est_kernel.specs.Plain.{Interface}
+use Rattle.est_kernel.specs.Reactions.{bound, settle, open_signals, is_given, react, step_in, reaction_of}
 use Rattle.est_kernel.proofs.StepLaws.{step_is_what_must_be_done_lem}
 
 -- none of the signals is this one
-abbrev NotAmong : ℕ → List ℕ → Type 0
+abbrev pub NotAmong : ℕ → List ℕ → Type 0
 NotAmong s [] = Unit {0}
 NotAmong s (o ∷ os) = (s ≡ o → ⊥) × NotAmong s os
 
 -- the signals are at least n, and differ from one another
-abbrev AreOutputs : ℕ → List ℕ → Type 0
+abbrev pub AreOutputs : ℕ → List ℕ → Type 0
 AreOutputs n [] = Unit {0}
 AreOutputs n (o ∷ os) = (n ≤ o) × NotAmong o os × AreOutputs n os
 
@@ -24,9 +25,23 @@ above_not_among : (s a k : ℕ) → s < a → NotAmong s (range_with_len a k)
 above_not_among s a zero h = tt
 above_not_among s a (suc k) h = (λ e. omega arith, above_not_among s (a + 1) k (omega arith))
 
-ranges_are_outputs : (n a k : ℕ) → n ≤ a → AreOutputs n (range_with_len a k)
+pub ranges_are_outputs : (n a k : ℕ) → n ≤ a → AreOutputs n (range_with_len a k)
 ranges_are_outputs n a zero h = tt
 ranges_are_outputs n a (suc k) h = (h, above_not_among a (a + 1) k (omega arith), ranges_are_outputs n (a + 1) k (omega arith))
+
+not_among_kept : (keep : ℕ → Bool) (s : ℕ) (os : List ℕ) → NotAmong s os → NotAmong s (filter keep os)
+not_among_kept keep s [] h = tt
+not_among_kept keep s (o ∷ os) h =
+    cond_both (keep o) (o ∷ filter keep os) (filter keep os) (λ l. NotAmong s l)
+    (λ e. (h.0, not_among_kept keep s os h.1))
+    (λ e. not_among_kept keep s os h.1)
+
+kept_are_outputs : (keep : ℕ → Bool) (n : ℕ) (os : List ℕ) → AreOutputs n os → AreOutputs n (filter keep os)
+kept_are_outputs keep n [] h = tt
+kept_are_outputs keep n (o ∷ os) h =
+    cond_both (keep o) (o ∷ filter keep os) (filter keep os) (λ l. AreOutputs n l)
+    (λ e. (h.0, not_among_kept keep o os h.1, kept_are_outputs keep n os h.2))
+    (λ e. kept_are_outputs keep n os h.2)
 
 and_true : (b : Bool) → (b && true) ≡ b
 and_true true = refl
@@ -87,15 +102,11 @@ module _ (n : ℕ) (E : Environment) (r : Term) (x : Step) (steps : (F : Environ
       ∙ rest.1 in
       (rest.0, whole, rest.2)
 
--- The reaction of a term whose step is the same whatever is known of the outputs, which have the numbers
--- from the number of inputs on.
-pub react_of_step : (inputs outputs : ℕ) (r : Term) (event : List Bool) (x : Step) → ((F : Environment) → SameBelow inputs (environment_of event) F → step r F ≡ Some x) → react (range_with_len inputs outputs) r event ≡ reaction_of (range_with_len inputs outputs) (Some x)
-react_of_step inputs outputs r event x steps =
-    let outs = range_with_len inputs outputs in
-    let E = environment_of event in
-    let s = settles inputs E r x steps outs (ranges_are_outputs inputs inputs outputs (omega arith)) E (record { at = λ s h. refl }) in
-    ap (λ o. reaction_in outs r o) s.1 ∙ ap (λ o. reaction_of outs o) (steps s.0 s.2)
-
--- one more instant of a run
-pub run_of_reaction : (outs : List ℕ) (r : Term) (event : List Bool) (events : List (List Bool)) (x : Reaction) → react outs r event ≡ Some x → run outs r (event ∷ events) ≡ before x.answer (run outs x.residual events)
-run_of_reaction outs r event events x e = ap (λ o. goes_on o (λ r'. run outs r' events)) e
+-- The reaction of a term whose step is the same whatever is known of the outgoing signals, which have
+-- numbers of their own, at least the number of inputs.
+pub react_of_step : (interface : Interface) (r : Term) (event : List Bool) (x : Step) → AreOutputs interface.inputs interface.outgoing → ((F : Environment) → SameBelow interface.inputs (environment_of interface.inputs event) F → step r F ≡ Some x) → react interface r event ≡ reaction_of interface event (Some x)
+react_of_step interface r event x outgoing steps =
+    let E = environment_of interface.inputs event in
+    let outs = open_signals event interface.outgoing in
+    let s = settles interface.inputs E r x steps outs (kept_are_outputs (λ o. not (is_given event o)) interface.inputs interface.outgoing outgoing) E (record { at = λ o h. refl }) in
+    ap (λ o. reaction_of interface event (step_in r o)) s.1 ∙ ap (λ o. reaction_of interface event o) (steps s.0 s.2)

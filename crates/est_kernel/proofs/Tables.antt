@@ -7,7 +7,7 @@ use Rattle.est_kernel.specs.Terms.{Term, Tick, Sig, Not, And, Or, Nothing, Pause
 use Rattle.est_kernel.specs.StaticCodes.{started_codes, resumed_codes, instant_loops}
 use Rattle.est_kernel.specs.Sizes.{size_of, height_of, trap_depth}
 use Rattle.est_kernel.specs.Preorder.{preorder, statement_count}
-use Rattle.est_kernel.specs.Relations.{Implies, Excludes, Meets}
+use Rattle.est_base.specs.Relations.{Implies, Excludes, Meets}
 use Rattle.est_kernel.specs.WellFormed.{ExitsStandInTraps, SignalsFit}
 
 -- the place of a loop

@@ -5,7 +5,6 @@ pub mod Potentials
 pub mod Steps
 pub mod Reactions
 pub mod StaticCodes
-pub mod Relations
 pub mod Sizes
 pub mod Preorder
 pub mod WellFormed

@@ -1,15 +1,16 @@
--- The codes that a statement may complete with, whatever the statuses are: in the instant in which it is
--- started, and in later instants in which it is resumed.
+-- To believe: the codes that a statement may complete with, whatever the statuses are: in the instant in which
+-- it is started, and in later instants in which it is resumed. The codes of a kernel are below 64: there are at
+-- most 60 traps one in another.
 use Rattle.std.specs.Prelude.{◌≡◌, ℕ, Bool, ◌&&◌, ◌||◌, if◌then◌else◌, List, [], ◌∷◌, ◌++◌}
 use Rattle.est_base.specs.declared.place.Span.{Span}
 use Rattle.est_base.specs.Codes.{no_code, only, either, except, upto, maxima, lowered}
 use Rattle.est_kernel.specs.Terms.{Term, Nothing, Pause, Emit, Exit, Present, Suspend, Seq, Loop, Par, Trap, Local, Awake}
 
 -- a set where a condition holds, else the empty set
-abbrev pub given : Bool → (ℕ → Bool) → ℕ → Bool
-given b A = λ k. b && A k
+abbrev pub codes_if : Bool → (ℕ → Bool) → ℕ → Bool
+codes_if b A = λ k. b && A k
 
--- whether a set has a code; codes are below 64
+-- whether a set has a code; the codes of a kernel are below 64
 abbrev pub has_code : (ℕ → Bool) → Bool
 has_code A = upto A 63
 
@@ -31,7 +32,7 @@ started_codes (Awake e p) = either (only 1) (started_codes p)
 
 -- a branch of a parallel that goes on: its resumed codes, and 0 where it can have terminated before
 abbrev pub branch_codes : (ℕ → Bool) → (ℕ → Bool) → ℕ → Bool
-branch_codes started resumed = either resumed (given (started 0 || resumed 0) (only 0))
+branch_codes started resumed = either resumed (codes_if (started 0 || resumed 0) (only 0))
 
 -- the codes of a resumed statement
 abbrev pub resumed_codes : Term → ℕ → Bool
@@ -40,15 +41,15 @@ resumed_codes Pause = only 0
 resumed_codes (Emit s) = no_code
 resumed_codes (Exit k) = no_code
 resumed_codes (Present e p q) = either (resumed_codes p) (resumed_codes q)
-resumed_codes (Suspend e p) = either (resumed_codes p) (given (has_code (resumed_codes p)) (only 1))
+resumed_codes (Suspend e p) = either (resumed_codes p) (codes_if (has_code (resumed_codes p)) (only 1))
 resumed_codes (Seq p q) =
     either (except 0 (resumed_codes p))
-    (either (given (resumed_codes p 0) (started_codes q))
-    (given (started_codes p 0 || resumed_codes p 0) (resumed_codes q)))
+    (either (codes_if (resumed_codes p 0) (started_codes q))
+    (codes_if (started_codes p 0 || resumed_codes p 0) (resumed_codes q)))
 resumed_codes (Loop at p) =
-    either (except 0 (resumed_codes p)) (given (resumed_codes p 0) (except 0 (started_codes p)))
+    either (except 0 (resumed_codes p)) (codes_if (resumed_codes p 0) (except 0 (started_codes p)))
 resumed_codes (Par p q) =
-    given (has_code (resumed_codes p) || has_code (resumed_codes q))
+    codes_if (has_code (resumed_codes p) || has_code (resumed_codes q))
     (maxima (branch_codes (started_codes p) (resumed_codes p))
     (branch_codes (started_codes q) (resumed_codes q)))
 resumed_codes (Trap p) = lowered (resumed_codes p)

@@ -1,5 +1,5 @@
--- Statuses of signals, and the value of a test (Kleene's three-valued tables).
-use Rattle.std.specs.Prelude.{ℕ, Bool, true, false, Option, Some, None, List, ◌==◌, if◌then◌else◌, slice_get}
+-- To believe: statuses of signals, and the value of a test (Kleene's three-valued tables).
+use Rattle.std.specs.Prelude.{ℕ, Bool, true, false, Option, Some, None, List, ◌==◌, if◌then◌else◌, nat_lt, slice_get}
 use Rattle.est_kernel.specs.Terms.{Expression, Tick, Sig, Not, And, Or}
 
 -- what is known of a signal in an instant, and of a test: present (true), absent (false), or not
@@ -23,13 +23,22 @@ known true = Plus
 known false = Minus
 
 -- what is known of an input: nothing, where the event says nothing of it
-abbrev pub status_told : Option Bool → Status
-status_told None = Unknown
-status_told (Some b) = known b
+abbrev pub status_of_input : Option Bool → Status
+status_of_input None = Unknown
+status_of_input (Some b) = known b
 
--- the environment that an event gives: input n has the status of the event's place n
-abbrev pub environment_of : List Bool → Environment
-environment_of event = λ s. status_told (slice_get event s)
+-- what is known at first of any other signal: a signal that is input and output is present where the event
+-- gives it; where it does not, the program may still emit it, as any signal that goes out
+abbrev pub status_of_other : Option Bool → Status
+status_of_other None = Unknown
+status_of_other (Some false) = Unknown
+status_of_other (Some true) = Plus
+
+-- What an event says of the signals, where so many of them are inputs. Given signal n has the event's place
+-- n.
+abbrev pub environment_of : ℕ → List Bool → Environment
+environment_of inputs event =
+    λ s. if nat_lt s inputs then status_of_input (slice_get event s) else status_of_other (slice_get event s)
 
 -- not: true and false change places
 abbrev pub opposite : Status → Status

@@ -1,10 +1,12 @@
--- What a kernel statement and a kernel program keep.
-use Rattle.std.specs.Prelude.{ℕ, Bool, ◌+◌, ◌<◌, ◌≤◌, ◌==◌, ◌||◌, nat_lt, All, IsTrue, ⊤, length}
+-- To believe: what a kernel statement and a kernel program keep.
+use Rattle.std.specs.Prelude.{ℕ, Bool, ◌+◌, ◌<◌, ◌≤◌, ◌==◌, ◌||◌, nat_lt, All, IsTrue, ⊤, length, take}
 use Rattle.est_base.specs.declared.bounds.TheConstants.Limits.{KERNEL_NODES, KERNEL_HEIGHT, TRAPS, SIGNALS}
+use Rattle.est_base.specs.Names.{is_name, is_same_name}
+use Rattle.est_base.specs.Distinct.{all_differ}
 use Rattle.est_kernel.specs.Terms.{Expression, Tick, Sig, Not, And, Or, Term, Nothing, Pause, Emit, Exit, Present, Suspend, Seq, Loop, Par, Trap, Local, Awake}
-use Rattle.est_kernel.specs.Relations.{Relation, Implies, Excludes}
+use Rattle.est_base.specs.Relations.{Relation, Implies, Excludes}
 use Rattle.est_kernel.specs.Sizes.{size_of, height_of, trap_depth}
-use Rattle.est_kernel.specs.Plain.{Program}
+use Rattle.est_kernel.specs.Plain.{Program, given_count, interface_count}
 
 -- Each exit has a code of at least 2 and stands in the trap that it leaves: code k leaves the trap that
 -- is k - 2 traps further out, and n traps stand around the whole.
@@ -59,15 +61,22 @@ module _ (inputs interface all : ℕ) where
   SignalsFit visible (Local s p) = (interface ≤ s) × (s < all) × SignalsFit (with_signal s visible) p
   SignalsFit visible (Awake e p) = TestsVisible visible e × SignalsFit visible p
 
--- the signals of a relation are inputs
-abbrev pub RelatesInputs : ℕ → Relation → Type 0
-RelatesInputs inputs (Implies a b) = (a < inputs) × (b < inputs)
-RelatesInputs inputs (Excludes list) = All (λ s. s < inputs) list
+-- the signals of a relation are given ones
+abbrev pub RelatesGiven : ℕ → Relation → Type 0
+RelatesGiven given (Implies a b) = (a < given) × (b < given)
+RelatesGiven given (Excludes list) = All (λ s. s < given) list
 
 -- what a kernel program keeps
 pub record IsWellFormed (p : Program) : Type 0 where
   pub body : KeepsLimits p.body
   pub at_most : length p.signals ≤ SIGNALS
-  pub interface : p.inputs + p.outputs ≤ length p.signals
-  pub signals : SignalsFit p.inputs (p.inputs + p.outputs) (length p.signals) (λ s. nat_lt s (p.inputs + p.outputs)) p.body
-  pub relations : All (RelatesInputs p.inputs) p.relations
+  pub interface : interface_count p ≤ length p.signals
+  pub signals : SignalsFit p.inputs (interface_count p) (length p.signals) (λ s. nat_lt s (interface_count p)) p.body
+  pub relations : All (RelatesGiven (given_count p)) p.relations
+
+-- the names of a program and of its interface can be written, and no two signals of the interface have one
+-- name
+pub record HasNames (p : Program) : Type 0 where
+  pub name : IsTrue (is_name p.name)
+  pub interface : All (λ n. IsTrue (is_name n)) (take (interface_count p) p.signals)
+  pub differ : IsTrue (all_differ is_same_name (take (interface_count p) p.signals))

@@ -1,14 +1,17 @@
 // Kernel programs.
 
 ghost use Rattle.std.specs.Prelude.{◌≡◌, IfOk, map};
-ghost use Rattle.est_kernel.specs.Plain.{relation_of, program_of};
+ghost use Rattle.est_base.specs.Relations.{relation_of};
+ghost use Rattle.est_kernel.specs.Plain.{program_of};
 
 use crate::statements::Kernel;
 use est_base::{InputRelation, NoMemory, SignalInfo, Text};
 use std::alloc::Global;
 
-/// A kernel program. Signals below `inputs` are the inputs in declared order, the next `outputs`
-/// are the outputs in declared order, and then come the local ones.
+/// A kernel program. Signals below `inputs` are the inputs, the next `both` are those that are input
+/// and output, the next `outputs` are the outputs, each kind in declared order, and then come the
+/// local ones. An event gives the inputs and the signals that are input and output; what goes out
+/// are the signals that are input and output and the outputs.
 #[derive(Debug, Drop)]
 pub struct KernelProgram {
     /// The main module's name.
@@ -17,9 +20,11 @@ pub struct KernelProgram {
     pub signals: Vec<SignalInfo>,
     /// The number of inputs.
     pub inputs: u32,
+    /// The number of signals that are input and output.
+    pub both: u32,
     /// The number of outputs.
     pub outputs: u32,
-    /// What the environment keeps of the inputs in every instant.
+    /// What the environment keeps of the given signals in every instant.
     pub relations: Vec<InputRelation>,
     /// What the program does.
     pub body: Kernel,
@@ -34,6 +39,7 @@ impl KernelProgram {
             name: Text::from_bytes(alloc, self.name.bytes())?,
             signals: copy_signals(alloc, self.signals.as_slice())?,
             inputs: self.inputs,
+            both: self.both,
             outputs: self.outputs,
             relations: copy_relations(alloc, self.relations.as_slice())?,
             body: self.body.copy(alloc)?,

@@ -80,6 +80,7 @@ fn program(alloc: Global) -> Result<KernelProgram, NoMemory> {
         name: Text::from_bytes(alloc, b"M")?,
         signals: signals(alloc)?,
         inputs: 2,
+        both: 0,
         outputs: 1,
         relations: relations(alloc)?,
         body: every_form(alloc)?,

@@ -9,7 +9,7 @@ use Rattle.std.proofs.lemmas.List.Elements.{filter_map-append}
 use Rattle.std.proofs.lemmas.Bool.{ne_eqb}
 use Rattle.est_base.specs.declared.indices.WireId.{WireId}
 use Rattle.net_ir.specs.declared.netlist.Gate.{Gate}
-use Rattle.net_ir.specs.Distinct.{all_differ, none_shared}
+use Rattle.est_base.specs.Distinct.{all_differ, none_shared}
 use Rattle.net_ir.specs.Gates.{operand_end, ReadsLower, carried}
 
 and_assoc3 : (a b c d e : Bool) → (not (a || b) && (c && d && e)) ≡ ((not a && c) && (not b && d) && e)

@@ -2,7 +2,7 @@
 use Rattle.std.proofs.Common.{◌≡◌, Bool, true, false, [], ◌∷◌, None, Some, codes, refl, map}
 use Rattle.net_ir.specs.declared.netlist.Op.TheVariants.{Const, Copy, Not, And, Or}
 use Rattle.net_ir.specs.Gates.{carried, gate_values}
-use Rattle.net_ir.specs.Names.{is_name}
+use Rattle.est_base.specs.Names.{is_name}
 use Rattle.net_ir.specs.Runs.{Netlist, Shown, net_values, net_run}
 
 -- one input, one latch that reads the second gate, an And and a Not

@@ -1,4 +1,2 @@
-pub mod Distinct
-pub mod Names
 pub mod Gates
 pub mod Runs

@@ -1,8 +1,8 @@
 // Netlists and their gates.
 
 ghost use Rattle.std.specs.Prelude.{◌≡◌, ℕ, ◌+◌, ◌^◌, ◌<◌, ◌≤◌, ◌↔◌, map, length, take, nat_eq, IsTrue, All};
-ghost use Rattle.net_ir.specs.Distinct.{all_differ, none_shared};
-ghost use Rattle.net_ir.specs.Names.{is_name, is_same_name};
+ghost use Rattle.est_base.specs.Distinct.{all_differ, none_shared};
+ghost use Rattle.est_base.specs.Names.{is_name, is_same_name};
 ghost use Rattle.net_ir.specs.Gates.{operand_end, ReadsLower, carried, op_value, value_in, gate_values, Solves};
 
 use est_base::{NetId, Text, WireId};

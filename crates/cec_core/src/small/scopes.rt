@@ -3,8 +3,8 @@
 ghost use Rattle.std.specs.Prelude.{◌≡◌, ◌+◌, ◌++◌, ◌≤◌, length, map, OnOk};
 ghost use Rattle.std.specs.List.{list_any};
 ghost use Rattle.std.specs.Option.{option_map};
-ghost use Rattle.net_ir.specs.Distinct.{all_differ};
-ghost use Rattle.net_ir.specs.Names.{is_same_name};
+ghost use Rattle.est_base.specs.Distinct.{all_differ};
+ghost use Rattle.est_base.specs.Names.{is_same_name};
 ghost use Rattle.cec_core.specs.Small.{if_on, names_on, place_of, scope_of};
 ghost use Rattle.cec_core.specs.SmallViews.{declaration_of};
 

@@ -2,8 +2,8 @@ use Rattle.std.proofs.Common.{◌≡◌, ◌≤◌, ◌++◌, ◌∙◌, true, l
 use Rattle.std.proofs.Math.Seq.{take-append_seam, drop-append_seam}
 use Rattle.std.specs.Option.{option_map}
 use Rattle.est_kernel.specs.Plain.{term_of, relation_of}
-use Rattle.net_ir.specs.Distinct.{all_differ}
-use Rattle.net_ir.specs.Names.{is_same_name}
+use Rattle.est_base.specs.Distinct.{all_differ}
+use Rattle.est_base.specs.Names.{is_same_name}
 use Rattle.cec_core.specs.declared.small.trees.Side.TheVariants.{Input, Output}
 use Rattle.cec_core.specs.Small.{names_on}
 use Rattle.cec_core.specs.SmallViews.{declaration_of, source_of}

@@ -1,6 +1,6 @@
 use Rattle.std.proofs.Common.{◌≡◌, length}
-use Rattle.net_ir.specs.Distinct.{all_differ}
-use Rattle.net_ir.specs.Names.{is_same_name}
+use Rattle.est_base.specs.Distinct.{all_differ}
+use Rattle.est_base.specs.Names.{is_same_name}
 use Rattle.cec_core.proofs.small.scopes.all_distinct.Given as goal
 
 -- the names differ if those that are left do

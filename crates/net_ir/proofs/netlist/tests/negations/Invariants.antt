@@ -1,5 +1,5 @@
 use Rattle.std.proofs.Common.{◌≡◌, ◌<◌, length, nat_eq, IsTrue, All}
-use Rattle.net_ir.specs.Distinct.{all_differ}
+use Rattle.est_base.specs.Distinct.{all_differ}
 use Rattle.net_ir.specs.Gates.{ReadsLower, carried}
 use Rattle.net_ir.proofs.netlist.tests.negations.Given as goal
 

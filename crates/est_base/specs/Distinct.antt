@@ -1,4 +1,4 @@
--- Lists without repetitions, where a test says which elements are the same.
+-- To believe: lists without repetitions, where a test says which elements are the same.
 use Rattle.std.specs.Prelude.{Bool, true, not, ◌&&◌, List, [], ◌∷◌}
 use Rattle.std.specs.List.{list_any}
 
