@@ -27,15 +27,15 @@ pub least_right_none : (l : Option Span) (xs ys : List Span) → IsLeast l xs �
 least_right_none l xs ys h e = rw e (rw append-nil h)
 
 pub least_first : (a b : Span) (xs ys : List Span) → IsNotAfter a b → IsLeast (Some a) xs → IsLeast (Some b) ys → IsLeast (Some a) (xs ++ ys)
-least_first a b xs ys n h g =
-    ( Contains-append_left xs ys a h.0
-    , All-append (λ z. IsNotAfter a z) xs ys h.1
-        (All-weaker (λ z. IsNotAfter b z) (λ z. IsNotAfter a z) (λ z m. IsNotAfter-trans a b z n m) ys g.1)
-    )
+least_first a b xs ys n h g = (
+  Contains-append_left xs ys a h.0,
+  All-append (λ z. IsNotAfter a z) xs ys h.1
+      (All-weaker (λ z. IsNotAfter b z) (λ z. IsNotAfter a z) (λ z m. IsNotAfter-trans a b z n m) ys g.1),
+)
 
 pub least_second : (a b : Span) (xs ys : List Span) → IsNotAfter b a → IsLeast (Some a) xs → IsLeast (Some b) ys → IsLeast (Some b) (xs ++ ys)
-least_second a b xs ys n h g =
-    ( Contains-append_right xs ys b g.0
-    , All-append (λ z. IsNotAfter b z) xs ys
-        (All-weaker (λ z. IsNotAfter a z) (λ z. IsNotAfter b z) (λ z m. IsNotAfter-trans b a z n m) xs h.1) g.1
-    )
+least_second a b xs ys n h g = (
+  Contains-append_right xs ys b g.0,
+  All-append (λ z. IsNotAfter b z) xs ys
+      (All-weaker (λ z. IsNotAfter a z) (λ z. IsNotAfter b z) (λ z m. IsNotAfter-trans b a z n m) xs h.1) g.1,
+)

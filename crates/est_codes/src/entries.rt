@@ -16,10 +16,9 @@ pub(crate) struct Entry {
 impl Entry {
     ghost use Rattle.est_base.specs.Codes.{no_code, only};
     ghost use Rattle.est_base.specs.CodeSet.{members};
-    
+
     /// No code.
-    pub(crate) fn empty() -> Entry
-    {
+    pub(crate) fn empty() -> Entry {
         Entry {
             started: CodeSet::empty(),
             resumed: CodeSet::empty(),

@@ -10,6 +10,8 @@ mod entries;
 mod places;
 mod refusal;
 mod rows;
+#[cfg(test)]
+mod tests;
 mod walk;
 
 pub use refusal::CodeFault;

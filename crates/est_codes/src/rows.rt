@@ -4,7 +4,7 @@ ghost use Rattle.std.specs.Prelude.{◌≡◌, ◌||◌, if◌then◌else◌};
 ghost use Rattle.est_base.specs.CodeSet.{members};
 ghost use Rattle.est_base.specs.Codes.{either, except, maxima};
 ghost use Rattle.est_base.specs.declared.place.Span.{Span};
-ghost use Rattle.est_kernel.specs.StaticCodes.{given, has_code, branch_codes};
+ghost use Rattle.est_kernel.specs.StaticCodes.{codes_if, has_code, branch_codes};
 ghost use Rattle.est_kernel.specs.Terms.{Expression, Term, Present, Suspend, Seq, Loop, Par, Trap};
 ghost use Rattle.est_codes.specs.Entries.{HasCodesOf};
 
@@ -78,7 +78,7 @@ impl Entry {
 
 // The set where the condition holds, else the empty set.
 fn where_given(holds: bool, set: CodeSet) -> CodeSet
-    ensures { members result ≡ given holds (members set) }
+    ensures { members result ≡ codes_if holds (members set) }
 {
     if holds { set } else { CodeSet::empty() }
 }
@@ -110,8 +110,8 @@ fn started_in_sequence(first: CodeSet, second: CodeSet) -> CodeSet
 // The codes of a resumed sequence.
 fn resumed_in_sequence(first: Entry, next: Entry) -> CodeSet
     ensures { members result ≡ either (except 0 (members first.resumed))
-        (either (given (members first.resumed 0) (members next.started))
-        (given (members first.started 0 || members first.resumed 0) (members next.resumed))) }
+        (either (codes_if (members first.resumed 0) (members next.started))
+        (codes_if (members first.started 0 || members first.resumed 0) (members next.resumed))) }
 {
     let can_end = first.started.union(first.resumed).has(0);
     let handed_on = where_given(first.resumed.has(0), next.started);
@@ -122,7 +122,7 @@ fn resumed_in_sequence(first: Entry, next: Entry) -> CodeSet
 // The codes of a resumed parallel.
 fn resumed_in_parallel(left: Entry, right: Entry) -> CodeSet
     ensures { members result
-        ≡ given (has_code (members left.resumed) || has_code (members right.resumed))
+        ≡ codes_if (has_code (members left.resumed) || has_code (members right.resumed))
         (maxima (branch_codes (members left.started) (members left.resumed))
         (branch_codes (members right.started) (members right.resumed))) }
 {

@@ -50,13 +50,19 @@ fn list_entries(body: &Kernel, entries: &mut Vec<Entry>) -> Result<Found, NoMemo
     let at = entries.len();
     entries.push(Entry::empty())?;
     match body {
-        Kernel::Nothing | Kernel::Emit(_) => Ok(put(entries, at, Entry::starting_with(0), None)),
+        Kernel::Nothing => Ok(put(entries, at, Entry::starting_with(0), None)),
+        Kernel::Emit(_) => Ok(put(entries, at, Entry::starting_with(0), None)),
         Kernel::Pause => Ok(put(entries, at, Entry::pause(), None)),
         Kernel::Exit(code) => Ok(put(entries, at, Entry::starting_with(*code), None)),
         Kernel::Present(_, yes, no) => {
             let yes = list_entries(yes, entries)?;
             let no = list_entries(no, entries)?;
-            Ok(put(entries, at, yes.entry.present(no.entry), lesser(yes.least, no.least)))
+            Ok(put(
+                entries,
+                at,
+                yes.entry.present(no.entry),
+                lesser(yes.least, no.least),
+            ))
         }
         Kernel::Suspend(_, part) => {
             let part = list_entries(part, entries)?;
@@ -65,7 +71,12 @@ fn list_entries(body: &Kernel, entries: &mut Vec<Entry>) -> Result<Found, NoMemo
         Kernel::Seq(first, second) => {
             let first = list_entries(first, entries)?;
             let second = list_entries(second, entries)?;
-            Ok(put(entries, at, first.entry.then(second.entry), lesser(first.least, second.least)))
+            Ok(put(
+                entries,
+                at,
+                first.entry.then(second.entry),
+                lesser(first.least, second.least),
+            ))
         }
         Kernel::Loop(place, part) => {
             let part = list_entries(part, entries)?;
@@ -74,7 +85,12 @@ fn list_entries(body: &Kernel, entries: &mut Vec<Entry>) -> Result<Found, NoMemo
         Kernel::Par(left, right) => {
             let left = list_entries(left, entries)?;
             let right = list_entries(right, entries)?;
-            Ok(put(entries, at, left.entry.beside(right.entry), lesser(left.least, right.least)))
+            Ok(put(
+                entries,
+                at,
+                left.entry.beside(right.entry),
+                lesser(left.least, right.least),
+            ))
         }
         Kernel::Trap(part) => {
             let part = list_entries(part, entries)?;
