@@ -1,0 +1,11 @@
+pub mod Layers
+pub mod Scopes
+pub mod Wires
+pub mod Formulas
+pub mod Spots
+pub mod Equations
+pub mod Nodes
+pub mod Edges
+pub mod Orders
+pub mod Residuals
+pub mod Walk
