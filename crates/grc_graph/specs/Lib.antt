@@ -9,3 +9,8 @@ pub mod Edges
 pub mod Orders
 pub mod Residuals
 pub mod Walk
+pub mod Instances
+pub mod SelectionTrees
+pub mod Selections
+pub mod CodeTables
+pub mod PlainInstances
