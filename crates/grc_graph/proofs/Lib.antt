@@ -1,1 +1,2 @@
 pub mod CodeSets
+pub mod CodeReads
