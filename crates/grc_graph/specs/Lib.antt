@@ -5,6 +5,7 @@ pub mod Formulas
 pub mod Spots
 pub mod Equations
 pub mod Nodes
+pub mod Readings
 pub mod Edges
 pub mod Orders
 pub mod Residuals
