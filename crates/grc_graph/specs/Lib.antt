@@ -10,3 +10,4 @@ pub mod Edges
 pub mod Orders
 pub mod Residuals
 pub mod Walk
+pub mod Coherence
