@@ -10,4 +10,5 @@ pub mod Edges
 pub mod Orders
 pub mod Residuals
 pub mod Walk
+pub mod Selected
 pub mod Coherence

@@ -1,2 +1,5 @@
 mod Choices
 mod Places
+mod Rows
+mod Each
+mod Residues
