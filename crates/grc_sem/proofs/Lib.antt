@@ -3,3 +3,6 @@ mod Places
 mod Rows
 mod Each
 mod Residues
+mod Ranks
+mod Constructive
+mod Resumptions
