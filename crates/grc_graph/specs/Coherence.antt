@@ -3,16 +3,15 @@
 -- `go` of an instance is true where the walk reaches it, `end k` where it reaches it with code k, and the status wire
 -- of a Local where the walk of its body, in the same instance, emits the signal: so each status is coherent with what
 -- is emitted. The walk goes under the statuses that the status wires themselves have.
-use Rattle.std.specs.Prelude.{◌≡◌, ℕ, ◌+◌, Bool, true, false, not, ◌==◌, ◌&&◌, ◌||◌, List, Contains, nat_lt}
+use Rattle.std.specs.Prelude.{◌≡◌, ℕ, ◌+◌, Bool, true, not, ◌==◌, ◌&&◌}
 use Rattle.est_kernel.specs.Terms.{Term, Nothing, Pause, Emit, Exit, Present, Suspend, Seq, Loop, Par, Trap, Local, Awake}
 use Rattle.est_kernel.specs.Preorder.{statement_count}
 use Rattle.est_kernel.specs.StaticCodes.{has_code, started_codes, resumed_codes}
 use Rattle.grc_graph.specs.Layers.{Layer, Resumed, Started, can_pass}
-use Rattle.grc_graph.specs.Scopes.{Scope}
-use Rattle.grc_graph.specs.Wires.{Wire, Out, Go, StatusOf, End}
+use Rattle.grc_graph.specs.Wires.{Go, StatusOf, End}
 use Rattle.grc_graph.specs.Residuals.{holds}
-use Rattle.grc_graph.specs.Walk.{Walk, Values, with_value, truth, State, Initial, Selecting, started_walk, resumed_walk, body_walk, is_initial}
-use Rattle.grc_graph.specs.Readings.{Valuation, seen_values}
+use Rattle.grc_graph.specs.Walk.{Walk, Values, with_value, truth, started_walk, resumed_walk}
+use Rattle.grc_graph.specs.Readings.{Valuation}
 
 -- the statuses that a valuation gives to the instances of Locals
 abbrev pub statuses : Valuation → ℕ → Layer → Bool

@@ -12,3 +12,9 @@ pub mod Residuals
 pub mod Walk
 pub mod Selected
 pub mod Coherence
+pub mod Instances
+pub mod SelectionTrees
+pub mod Selections
+pub mod CodeTables
+pub mod PlainInstances
+pub mod GraphRuns

@@ -6,3 +6,9 @@
 //! follows Potop-Butucaru, Edwards and Berry, "Compiling Esterel", and its instances stand in full layers, so
 //! that each occurrence of a local signal has a status of its own.
 #![tactic(auto)]
+
+mod code_tables;
+mod instances;
+
+pub use code_tables::{has_some_code, resumed_codes, started_codes};
+pub use instances::{Instance, Instances, Layer};

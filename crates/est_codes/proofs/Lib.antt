@@ -1,0 +1,4 @@
+pub mod LeastPlaces
+pub mod Listings
+pub mod ExitCodes
+pub mod CodeSets
