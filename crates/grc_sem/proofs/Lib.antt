@@ -6,3 +6,5 @@ mod Residues
 mod Ranks
 mod Constructive
 mod Resumptions
+mod Kept
+mod StepWalks
