@@ -1,2 +1,3 @@
+mod Examples
 pub mod CodeSets
 pub mod CodeReads

@@ -1,5 +1,5 @@
 -- Inner: the static codes of each statement, read by its number.
-use Rattle.std.specs.Prelude.{◌≡◌, ℕ, ◌+◌, ◌<◌, Bool, List, length, map, slice_index_or, ⊤}
+use Rattle.std.specs.Prelude.{◌≡◌, ℕ, ◌+◌, ◌<◌, Bool, List, length, map, slice_index_or}
 use Rattle.est_base.specs.declared.code_set.CodeSet.{CodeSet}
 use Rattle.est_base.specs.CodeSet.{members}
 use Rattle.est_base.specs.Codes.{no_code}

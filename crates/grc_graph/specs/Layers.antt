@@ -6,8 +6,9 @@
 -- it is the start of the whole body, or the end of a resumed first part of a sequence or of a resumed loop body
 -- that encloses it: the root of a start is the number of the statement that was entered (0 for the body, else the
 -- second part or the loop body).
-use Rattle.std.specs.Prelude.{ℕ, Bool, true, false, ◌==◌, ◌&&◌, ◌||◌, nat_le, if◌then◌else◌, List, [], ◌∷◌, ◌++◌, map}
-use Rattle.est_kernel.specs.Terms.{Term}
+use Rattle.std.specs.Prelude.{ℕ, ◌+◌, Bool, true, false, ◌==◌, ◌&&◌, ◌||◌, nat_le, nat_lt, if◌then◌else◌, List, [], ◌∷◌, ◌++◌, map}
+use Rattle.est_kernel.specs.Terms.{Term, Nothing, Pause, Emit, Exit, Present, Suspend, Seq, Loop, Par, Trap, Local, Awake}
+use Rattle.est_kernel.specs.Preorder.{statement_count}
 use Rattle.est_kernel.specs.StaticCodes.{has_code, started_codes, resumed_codes}
 
 pub data Layer : Type 0 where
@@ -68,3 +69,31 @@ loop_liveness a p m = record {
   resumed = a.resumed && has_code (resumed_codes p);
   roots = a.roots ++ root_if (a.resumed && resumed_codes p 0) m;
 }
+
+-- the liveness of the statement with the number m in a statement at n that has the liveness a
+abbrev pub liveness_at : Liveness → Term → ℕ → ℕ → Liveness
+liveness_at a Nothing n m = a
+liveness_at a Pause n m = a
+liveness_at a (Emit s) n m = a
+liveness_at a (Exit k) n m = a
+liveness_at a (Present e p q) n m =
+    if m == n then a
+    else if nat_lt m (n + 1 + statement_count p) then liveness_at (part_liveness a p) p (n + 1) m
+    else liveness_at (part_liveness a q) q (n + 1 + statement_count p) m
+liveness_at a (Suspend e p) n m = if m == n then a else liveness_at (part_liveness a p) p (n + 1) m
+liveness_at a (Seq p q) n m =
+    if m == n then a
+    else if nat_lt m (n + 1 + statement_count p) then liveness_at (part_liveness a p) p (n + 1) m
+    else liveness_at (second_liveness a p q (n + 1 + statement_count p)) q (n + 1 + statement_count p) m
+liveness_at a (Loop at p) n m = if m == n then a else liveness_at (loop_liveness a p (n + 1)) p (n + 1) m
+liveness_at a (Par p q) n m =
+    if m == n then a
+    else if nat_lt m (n + 1 + statement_count p) then liveness_at (part_liveness a p) p (n + 1) m
+    else liveness_at (part_liveness a q) q (n + 1 + statement_count p) m
+liveness_at a (Trap p) n m = if m == n then a else liveness_at (part_liveness a p) p (n + 1) m
+liveness_at a (Local s p) n m = if m == n then a else liveness_at (part_liveness a p) p (n + 1) m
+liveness_at a (Awake e p) n m = a
+
+-- the layers in which each statement of a body is live
+abbrev pub body_layers : Term → ℕ → List Layer
+body_layers body m = layers_of (liveness_at (body_liveness body) body 0 m)

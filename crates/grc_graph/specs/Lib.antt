@@ -5,12 +5,16 @@ pub mod Formulas
 pub mod Spots
 pub mod Equations
 pub mod Nodes
+pub mod Readings
 pub mod Edges
 pub mod Orders
 pub mod Residuals
 pub mod Walk
+pub mod Selected
+pub mod Coherence
 pub mod Instances
 pub mod SelectionTrees
 pub mod Selections
 pub mod CodeTables
 pub mod PlainInstances
+pub mod GraphRuns

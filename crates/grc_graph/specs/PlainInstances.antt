@@ -1,5 +1,4 @@
 -- To believe: the plain forms of instances and selection trees.
-use Rattle.std.specs.Prelude.{ℕ, Bool, List, map}
 use Rattle.grc_graph.specs.declared.instances.Layer.{Layer}
 use Rattle.grc_graph.specs.declared.instances.Layer.TheVariants as layers
 use Rattle.grc_graph.specs.declared.instances.Instance.{Instance}

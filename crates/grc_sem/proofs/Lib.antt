@@ -1,0 +1,10 @@
+mod Choices
+mod Places
+mod Rows
+mod Each
+mod Residues
+mod Ranks
+mod Constructive
+mod Resumptions
+mod Kept
+mod StepWalks
