@@ -18,3 +18,7 @@ pub mod Selections
 pub mod CodeTables
 pub mod PlainInstances
 pub mod GraphRuns
+pub mod PlainGraphs
+pub mod GraphShapes
+pub mod TreeForms
+pub mod TreeJudgements

@@ -1,5 +1,5 @@
 -- To believe: the plain form of a selection tree, and what its list of nodes keeps.
-use Rattle.std.specs.Prelude.{◌≡◌, ℕ, ◌<◌, ◌≤◌, Bool, true, false, List, length, map, take, slice_index_or, count_by}
+use Rattle.std.specs.Prelude.{◌≡◌, ℕ, ◌<◌, ◌≤◌, Bool, true, false, ◌==◌, IsTrue, List, length, map, take, slice_index_or, count_by}
 use Rattle.grc_graph.specs.declared.trees.SelForm.{SelForm}
 use Rattle.grc_graph.specs.declared.trees.SelForm.TheVariants as forms
 use Rattle.grc_graph.specs.declared.trees.SelNode.{SelNode}
@@ -34,14 +34,14 @@ pub record SubtreesNest (nodes : List SelNode) : Type 0 where
 abbrev pub leaves_before : List SelNode → ℕ → ℕ
 leaves_before nodes i = count_by (λ x. is_leaf x.form) (take i nodes)
 
--- a leaf with this number has this many leaves in front of it
-abbrev pub IsNumbered : SelForm → ℕ → Type 0
-IsNumbered (forms.Leaf k) before = k ≡ before
-IsNumbered forms.Excl before = Unit {0}
-IsNumbered (forms.Par a b) before = Unit {0}
-IsNumbered forms.Pass before = Unit {0}
+-- whether a leaf has this number; other nodes have none
+abbrev pub is_numbered : SelForm → ℕ → Bool
+is_numbered (forms.Leaf k) before = k == before
+is_numbered forms.Excl before = true
+is_numbered (forms.Par a b) before = true
+is_numbered forms.Pass before = true
 
 -- the leaves are numbered in order, and there are so many
 pub record LeavesAscend (nodes : List SelNode) (leaves : ℕ) : Type 0 where
-  pub numbered : (i : ℕ) (d : SelNode) → i < length nodes → IsNumbered (slice_index_or nodes i d).form (leaves_before nodes i)
+  pub numbered : (i : ℕ) (d : SelNode) → i < length nodes → IsTrue (is_numbered (slice_index_or nodes i d).form (leaves_before nodes i))
   pub counted : leaves ≡ count_by (λ x. is_leaf x.form) nodes

@@ -8,7 +8,15 @@
 #![tactic(auto)]
 
 mod code_tables;
+mod formulas;
+mod graph;
 mod instances;
+mod trees;
+mod wires;
 
 pub use code_tables::{has_some_code, resumed_codes, started_codes};
+pub use formulas::Formula;
+pub use graph::Graph;
 pub use instances::{Instance, Instances, Layer};
+pub use trees::{SelForm, SelNode, SelTree};
+pub use wires::{Node, Wire};
