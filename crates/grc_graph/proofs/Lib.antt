@@ -1,3 +1,4 @@
 mod Examples
 pub mod CodeSets
 pub mod CodeReads
+pub mod TreeLaws
