@@ -2,3 +2,5 @@ mod Examples
 pub mod CodeSets
 pub mod CodeReads
 pub mod TreeLaws
+pub mod TreeJudging
+pub mod TreeSelections

@@ -12,6 +12,21 @@ use Rattle.grc_graph.specs.declared.trees.SelNode.{SelNode}
 use Rattle.grc_graph.specs.SelectionTrees.{Form, Leaf, Exclusive, Parallel, Passing, TreeNode, tree_nodes, leaf_paths, subtree_if, resumes, second_resumes, body_tree, body_leaves}
 use Rattle.grc_graph.specs.TreeForms.{form_of, node_of, is_leaf, end_of, is_numbered, leaves_before, SubtreesNest, LeavesAscend}
 
+-- where the resumed instance is not live there are no nodes
+pub tree_none : (t : Term) (n i k : ℕ) → tree_nodes false t n i k ≡ []
+tree_none Nothing n i k = refl
+tree_none Pause n i k = refl
+tree_none (Emit s) n i k = refl
+tree_none (Exit c) n i k = refl
+tree_none (Present e p q) n i k = refl
+tree_none (Suspend e p) n i k = refl
+tree_none (Seq p q) n i k = refl
+tree_none (Loop at p) n i k = refl
+tree_none (Par p q) n i k = refl
+tree_none (Trap p) n i k = refl
+tree_none (Local s p) n i k = refl
+tree_none (Awake e p) n i k = refl
+
 -- ---- subtrees nest
 
 -- the subtrees of these nodes nest, where the first of them has the place i

@@ -22,3 +22,4 @@ pub mod PlainGraphs
 pub mod GraphShapes
 pub mod TreeForms
 pub mod TreeJudgements
+pub mod TreeReadings

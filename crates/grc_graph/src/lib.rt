@@ -11,6 +11,7 @@ mod code_tables;
 mod formulas;
 mod graph;
 mod instances;
+mod judgements;
 mod trees;
 mod wires;
 

@@ -12,25 +12,12 @@ use Rattle.grc_graph.specs.declared.trees.SelForm.{SelForm}
 use Rattle.grc_graph.specs.declared.trees.SelNode.{SelNode}
 use Rattle.grc_graph.specs.SelectionTrees.{Form, TreeNode, tree_nodes, leaf_paths, subtree_if, resumes, second_resumes}
 use Rattle.grc_graph.specs.TreeForms.{form_of, node_of}
+use Rattle.grc_graph.proofs.TreeLaws.{tree_none}
 use Rattle.grc_select.specs.declared.nodes.Lists.{Lists}
 use Rattle.grc_select.specs.declared.nodes.Place.{Place}
 use Rattle.grc_select.specs.Growing.{node, opened, closed, Grows}
 
--- where the resumed instance is not live there are no nodes and no leaves
-tree_none : (t : Term) (n i k : ℕ) → tree_nodes false t n i k ≡ []
-tree_none Nothing n i k = refl
-tree_none Pause n i k = refl
-tree_none (Emit s) n i k = refl
-tree_none (Exit c) n i k = refl
-tree_none (Present e p q) n i k = refl
-tree_none (Suspend e p) n i k = refl
-tree_none (Seq p q) n i k = refl
-tree_none (Loop at p) n i k = refl
-tree_none (Par p q) n i k = refl
-tree_none (Trap p) n i k = refl
-tree_none (Local s p) n i k = refl
-tree_none (Awake e p) n i k = refl
-
+-- where the resumed instance is not live there are no leaves
 leaves_none : (t : Term) (n : ℕ) → leaf_paths false t n ≡ []
 leaves_none Nothing n = refl
 leaves_none Pause n = refl
