@@ -23,3 +23,5 @@ pub mod GraphShapes
 pub mod TreeForms
 pub mod TreeJudgements
 pub mod TreeReadings
+pub mod Statements
+pub mod StatementViews

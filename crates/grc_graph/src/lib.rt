@@ -12,6 +12,7 @@ mod formulas;
 mod graph;
 mod instances;
 mod judgements;
+mod statements;
 mod trees;
 mod wires;
 
@@ -19,5 +20,6 @@ pub use code_tables::{has_some_code, resumed_codes, started_codes};
 pub use formulas::Formula;
 pub use graph::Graph;
 pub use instances::{Instance, Instances, Layer};
+pub use statements::{Entry, Statement, list_statements};
 pub use trees::{SelForm, SelNode, SelTree};
 pub use wires::{Node, Wire};
