@@ -4,3 +4,4 @@ pub mod CodeReads
 pub mod TreeLaws
 pub mod TreeJudging
 pub mod TreeSelections
+pub mod LiveInstances

@@ -25,3 +25,4 @@ pub mod TreeJudgements
 pub mod TreeReadings
 pub mod Statements
 pub mod StatementViews
+pub mod InstanceLaws
