@@ -5,3 +5,4 @@ pub mod TreeLaws
 pub mod TreeJudging
 pub mod TreeSelections
 pub mod LiveInstances
+pub mod ResidualCodes

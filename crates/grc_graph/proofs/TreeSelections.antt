@@ -101,10 +101,10 @@ judged_selection S bits true (Awake e p) n k h = refl
 -- ---- the pauses that a list of truth values selects agree with it
 
 -- each path of a list lies below a number, or from it on
-abbrev Below : ℕ → List ℕ → Type 0
+abbrev pub Below : ℕ → List ℕ → Type 0
 Below n us = All (λ m. m < n) us
 
-abbrev From : ℕ → List ℕ → Type 0
+abbrev pub From : ℕ → List ℕ → Type 0
 From n us = All (λ m. n ≤ m) us
 
 selecting-passed : (us vs : List ℕ) (bits : List Bool) (n : ℕ) → Below n us → selecting (us ++ n ∷ vs) bits n ≡ get_or bits (length us) false
@@ -176,14 +176,14 @@ leaves_none (Local s p) n = refl
 leaves_none (Awake e p) n = refl
 
 -- the leaves of a statement stand in a list of leaves, those before it below its numbers and those behind it above
-record Placed (us : List ℕ) (b : Bool) (t : Term) (n k : ℕ) (pre post : List ℕ) : Type 0 where
+pub record Placed (us : List ℕ) (b : Bool) (t : Term) (n k : ℕ) (pre post : List ℕ) : Type 0 where
   pub whole : us ≡ pre ++ (leaf_paths b t n ++ post)
   pub place : b ≡ true → k ≡ length pre
   pub below : Below n pre
   pub above : From (n + statement_count t) post
 
 -- at a statement over two parts; where it is not live, neither is
-first_placed : (us : List ℕ) (b r s : Bool) (t p q : Term) (n k : ℕ) (pre post : List ℕ)
+pub first_placed : (us : List ℕ) (b r s : Bool) (t p q : Term) (n k : ℕ) (pre post : List ℕ)
     → leaf_paths b t n ≡ (if b then leaf_paths r p (n + 1) ++ leaf_paths s q (n + 1 + statement_count p) else [])
     → statement_count t ≡ 1 + statement_count p + statement_count q
     → Placed us b t n k pre post
@@ -205,7 +205,7 @@ first_placed us false r s t p q n k pre post e c h = record {
     (All-weaker (λ m. n + statement_count t ≤ m) (λ m. n + 1 + statement_count p ≤ m) (λ m l. omega (arith, c, l)) post h.above);
 }
 
-second_placed : (us : List ℕ) (b r s : Bool) (t p q : Term) (n k : ℕ) (pre post : List ℕ)
+pub second_placed : (us : List ℕ) (b r s : Bool) (t p q : Term) (n k : ℕ) (pre post : List ℕ)
     → leaf_paths b t n ≡ (if b then leaf_paths r p (n + 1) ++ leaf_paths s q (n + 1 + statement_count p) else [])
     → statement_count t ≡ 1 + statement_count p + statement_count q
     → Placed us b t n k pre post
@@ -232,7 +232,7 @@ second_placed us false r s t p q n k pre post e c h = record {
 }
 
 -- at a statement over one part
-part_placed : (us : List ℕ) (b r : Bool) (t p : Term) (n k : ℕ) (pre post : List ℕ)
+pub part_placed : (us : List ℕ) (b r : Bool) (t p : Term) (n k : ℕ) (pre post : List ℕ)
     → leaf_paths b t n ≡ (if b then leaf_paths r p (n + 1) else [])
     → statement_count t ≡ 1 + statement_count p
     → Placed us b t n k pre post
