@@ -6,3 +6,4 @@ pub mod TreeJudging
 pub mod TreeSelections
 pub mod LiveInstances
 pub mod ResidualCodes
+pub mod ResumedPauses

@@ -62,7 +62,7 @@ loop_fits a p n m l h = more_roots n m (a.resumed && resumed_codes p 0) a.roots 
 
 -- ---- in order
 
-abbrev at_layer : ℕ → Layer → Instance
+abbrev pub at_layer : ℕ → Layer → Instance
 at_layer n l = record { path = n; layer = l }
 
 starts_ascend : (n : ℕ) (roots : List ℕ) → Rises roots → Ascends (map (λ r. at_layer n (Started r)) roots)
@@ -76,7 +76,7 @@ resumed_first : (n : ℕ) (roots : List ℕ) → All (Before (at_layer n Resumed
 resumed_first n roots =
     All-map (Before (at_layer n Resumed)) (λ r. at_layer n (Started r)) roots (λ k d h. inr (refl, tt))
 
-split_layers : (a : Liveness) (n : ℕ) → map (at_layer n) (if a.resumed then Resumed ∷ [] else []) ++ map (λ r. at_layer n (Started r)) a.roots ≡ instances_at a n
+pub split_layers : (a : Liveness) (n : ℕ) → map (at_layer n) (if a.resumed then Resumed ∷ [] else []) ++ map (λ r. at_layer n (Started r)) a.roots ≡ instances_at a n
 split_layers a n =
     ap (λ l. map (at_layer n) (if a.resumed then Resumed ∷ [] else []) ++ l) (sym (map-map (at_layer n) Started a.roots))
     ∙ sym (map-append (at_layer n) (if a.resumed then Resumed ∷ [] else []) (map Started a.roots))

@@ -21,7 +21,10 @@ pub use code_tables::{has_some_code, resumed_codes, started_codes};
 pub use formulas::Formula;
 pub use graph::Graph;
 pub use instances::{Instance, Instances, Layer};
-pub use laws::{enclosing_instances_are_live, instances_ascend, residual_has_resumed_codes};
+pub use laws::{
+    enclosing_instances_are_live, instances_ascend, leaves_are_resumed_pauses,
+    residual_has_resumed_codes,
+};
 pub use statements::{Entry, Statement, list_statements};
 pub use trees::{SelForm, SelNode, SelTree};
 pub use wires::{Node, Wire};
