@@ -7,3 +7,4 @@ pub mod TreeSelections
 pub mod LiveInstances
 pub mod ResidualCodes
 pub mod ResumedPauses
+mod InstanceExamples
