@@ -8,3 +8,5 @@ mod Constructive
 mod Resumptions
 mod Kept
 mod StepWalks
+mod Outputs
+mod ReactWalks
