@@ -10,3 +10,5 @@ mod Kept
 mod StepWalks
 mod Outputs
 mod ReactWalks
+mod Lists
+mod Decode
