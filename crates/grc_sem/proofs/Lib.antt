@@ -12,3 +12,5 @@ mod Outputs
 mod ReactWalks
 mod Lists
 mod Decode
+mod Emissions
+mod Bridge
