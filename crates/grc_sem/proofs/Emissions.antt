@@ -45,7 +45,7 @@ any_second : (F : Spot → Bool) (hs ps qs : List Spot) → list_any F hs ≡ fa
 any_second F hs ps qs h g = any_only F hs (ps ++ qs) h ∙ any_only F ps qs g
 
 -- a signal with another binding has another status wire
-other_binding : (b : Binding) (s j : ℕ) (l i : Layer) → (b ≡ BoundAt j → ⊥) → is_wire (status_wire b s l) (StatusOf j i) ≡ false
+pub other_binding : (b : Binding) (s j : ℕ) (l i : Layer) → (b ≡ BoundAt j → ⊥) → is_wire (status_wire b s l) (StatusOf j i) ≡ false
 other_binding Entering s j l i h = refl
 other_binding Outgoing s j l i h = refl
 other_binding (BoundAt c) s j l i h = ap (λ d. d && same_layer (layer_above c l) i) (ne_eqb c j (λ e. h (ap BoundAt e)))

@@ -14,3 +14,5 @@ mod Lists
 mod Decode
 mod Emissions
 mod Bridge
+mod WalkCodes
+mod WalkEmits
