@@ -16,3 +16,4 @@ mod Emissions
 mod Bridge
 mod WalkCodes
 mod WalkEmits
+mod EndForms
