@@ -34,7 +34,7 @@ ends_by A X b k c f g =
     (λ h. let i = and_parts b (k == c) h in let j = g i.0 (eqb-true k c i.1) in and_true j.0 j.1)
 
 module _ (B : Scope) (body : Term) (q : State) (given : Values) (V : Valuation) where
-  abbrev val : Formula → Bool
+  abbrev pub val : Formula → Bool
   val a = meaning (boolean_reading B body q given V) a
 
   pub any_meaning : (fs : List Formula) → val (any_of fs) ≡ list_any val fs
@@ -95,12 +95,12 @@ module _ (B : Scope) (body : Term) (q : State) (given : Values) (V : Valuation) 
   two_any xs ys = any_meaning (xs ++ ys) ∙ list_any-append val xs ys
 
   -- a choice of two parts, of which one is reached
-  pub choice_ends : (A C W : ℕ → Bool) (c d : ℕ) (l j : Layer) (g h b : Bool) (x y code : ℕ) → ((k : ℕ) → A k ≡ true → V (End c l k) ≡ (g && k == x)) → ((k : ℕ) → C k ≡ true → V (End d j k) ≡ (h && k == y)) → (g ≡ true → (b ≡ true) × (code ≡ x)) → (h ≡ true → (b ≡ true) × (code ≡ y)) → (b ≡ true → W code ≡ true) → (b ≡ true → ((g ≡ true) × (code ≡ x) × (A x ≡ true)) ⊎ ((h ≡ true) × (code ≡ y) × (C y ≡ true))) → (k : ℕ) → (W k && val (any_of (part_end A c l k ++ part_end C d j k))) ≡ (b && k == code)
+  pub choice_ends : (A C W : ℕ → Bool) (c d : ℕ) (l j : Layer) (g h b : Bool) (x y code : ℕ) → ((k : ℕ) → A k ≡ true → V (End c l k) ≡ (g && k == x)) → ((k : ℕ) → C k ≡ true → V (End d j k) ≡ (h && k == y)) → (g ≡ true → (k : ℕ) → A k ≡ true → k ≡ x → (b ≡ true) × (code ≡ x)) → (h ≡ true → (b ≡ true) × (code ≡ y)) → (b ≡ true → W code ≡ true) → (b ≡ true → ((g ≡ true) × (code ≡ x) × (A x ≡ true)) ⊎ ((h ≡ true) × (code ≡ y) × (C y ≡ true))) → (k : ℕ) → (W k && val (any_of (part_end A c l k ++ part_end C d j k))) ≡ (b && k == code)
   choice_ends A C W c d l j g h b x y code e f p r a o k =
       ends_by (W k) _ b k code
       (λ i.
       ⊎_elim
-      (λ u. let s = says A c l g x k (e k) u in let t = p s.1 in (t.0, s.2 ∙ sym t.1))
+      (λ u. let s = says A c l g x k (e k) u in let t = p s.1 k s.0 s.2 in (t.0, s.2 ∙ sym t.1))
       (λ u. let s = says C d j h y k (f k) u in let t = r s.1 in (t.0, s.2 ∙ sym t.1))
       (or_cases (list_any val (part_end A c l k)) _ (sym (two_any (part_end A c l k) (part_end C d j k)) ∙ i)))
       (λ i z. (
@@ -230,6 +230,11 @@ module _ (B : Scope) (body : Term) (q : State) (given : Values) (V : Valuation) 
   branch_number true x = x
   branch_number false x = 0
 
+  pub branch_is : (h : Bool) (x : Walk) → branch_number h x.code ≡ (cond h x (ended 0)).code
+  unfolding branch_number
+  branch_is true x = refl
+  branch_is false x = refl
+
   pick : (h : Bool) (x : ℕ) → h ≡ true → branch_number h x ≡ x
   unfolding branch_number
   pick true x e = refl
@@ -322,3 +327,31 @@ module _ (B : Scope) (body : Term) (q : State) (given : Values) (V : Valuation) 
     where
       greater_of : (x y : ℕ) → (y ≤ x) ⊎ (x ≤ y)
       greater_of x y = ⊎_elim (λ l. inr (omega arith)) (λ l. inl l) (cases_lt x y)
+
+  -- a suspension that goes on
+  pub awake_ends : (A W : ℕ → Bool) (C : Scope) (e : Expression) (n c : ℕ) (b d : Bool) (x code : ℕ) → V (Go n Resumed) ≡ b → val (test_formula C e Resumed) ≡ d → ((k : ℕ) → A k ≡ true → V (End c Resumed k) ≡ ((b && not d) && k == x)) → (d ≡ true → code ≡ 1) → (d ≡ false → code ≡ x) → (b ≡ true → d ≡ false → A x ≡ true) → (b ≡ true → W code ≡ true) → (k : ℕ) → (W k && val (any_of (part_end A c Resumed k ++ cond (k == 1) (Conjunction (Value (Go n Resumed)) (test_formula C e Resumed) ∷ []) []))) ≡ (b && k == code)
+  awake_ends A W C e n c b d x code go test ends one other a w k =
+      let own = Conjunction (Value (Go n Resumed)) (test_formula C e Resumed) in
+      let all = two_any (part_end A c Resumed k) (cond (k == 1) (own ∷ []) []) in
+      ends_by (W k) _ b k code
+      (λ h.
+      ⊎_elim
+      (λ u.
+      let s = says A c Resumed (b && not d) x k (ends k) u in
+      let t = and_parts b (not d) s.1 in
+      (t.0, s.2 ∙ sym (other (not_true d t.1))))
+      (λ u.
+      let s = and_parts (k == 1) (val own) (sym (if_any (k == 1) own) ∙ u) in
+      let t = and_parts (V (Go n Resumed)) (val (test_formula C e Resumed)) s.1 in
+      (sym go ∙ t.0, eqb-true k 1 s.0 ∙ sym (one (sym test ∙ t.1))))
+      (or_cases (list_any val (part_end A c Resumed k)) _ (sym all ∙ h)))
+      (λ h z. (
+        subst (λ j. W j ≡ true) (sym z) (w h),
+        all
+        ∙ ⊎_elim
+        (λ u. or_right (list_any val (part_end A c Resumed k)) _ (if_any (k == 1) own ∙ and_true (eq-eqb k 1 (z ∙ one u)) (and_true (go ∙ h) (test ∙ u))))
+        (λ u.
+        let same : k ≡ x = z ∙ other u in
+        or_left _ _ (is_end A c Resumed (b && not d) x k (ends k) (subst (λ j. A j ≡ true) (sym same) (a h u)) (and_true h (ap not u)) same))
+        (cases_Bool d),
+      ))

@@ -17,3 +17,4 @@ mod Bridge
 mod WalkCodes
 mod WalkEmits
 mod EndForms
+mod Told
