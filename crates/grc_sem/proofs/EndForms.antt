@@ -79,17 +79,16 @@ module _ (B : Scope) (body : Term) (q : State) (given : Values) (V : Valuation) 
   is_end A c l g code k e a h z = part_meaning A c l k ∙ and_true a (e a ∙ and_true h (eq-eqb k code z))
 
   -- one part with all its codes
-  pub only_ends : (A : ℕ → Bool) (c : ℕ) (l : Layer) (g : Bool) (code : ℕ) → Ends c l g code → (g ≡ true → A code ≡ true) → (k : ℕ) → (A k && val (any_of (part_end A c l k))) ≡ (g && k == code)
-  only_ends A c l g code e a k =
+  pub only_ends_live : (A : ℕ → Bool) (c : ℕ) (l : Layer) (g : Bool) (code : ℕ) → ((k : ℕ) → A k ≡ true → V (End c l k) ≡ (g && k == code)) → (g ≡ true → A code ≡ true) → (k : ℕ) → (A k && val (any_of (part_end A c l k))) ≡ (g && k == code)
+  only_ends_live A c l g code e a k =
       ends_by (A k) _ g k code
-      (λ h. let i = says A c l g code k (λ x. e k) (sym (any_meaning (part_end A c l k)) ∙ h) in (i.1, i.2))
+      (λ h. let i = says A c l g code k (e k) (sym (any_meaning (part_end A c l k)) ∙ h) in (i.1, i.2))
       (λ h z.
       let i : A k ≡ true = subst (λ j. A j ≡ true) (sym z) (a h) in
-      (i, any_meaning (part_end A c l k) ∙ is_end A c l g code k (λ x. e k) i h z))
+      (i, any_meaning (part_end A c l k) ∙ is_end A c l g code k (e k) i h z))
 
-  -- a loop at its start
-  pub loop_ends : (A : ℕ → Bool) (c : ℕ) (l : Layer) (g : Bool) (code : ℕ) → Ends c l g code → (g ≡ true → except 0 A code ≡ true) → (k : ℕ) → (except 0 A k && val (any_of (part_end (except 0 A) c l k))) ≡ (g && k == code)
-  loop_ends A c l g code e a k = only_ends (except 0 A) c l g code e a k
+  pub only_ends : (A : ℕ → Bool) (c : ℕ) (l : Layer) (g : Bool) (code : ℕ) → Ends c l g code → (g ≡ true → A code ≡ true) → (k : ℕ) → (A k && val (any_of (part_end A c l k))) ≡ (g && k == code)
+  only_ends A c l g code e a k = only_ends_live A c l g code (λ j z. e j) a k
 
   two_any : (xs ys : List Formula) → val (any_of (xs ++ ys)) ≡ (list_any val xs || list_any val ys)
   two_any xs ys = any_meaning (xs ++ ys) ∙ list_any-append val xs ys
@@ -144,26 +143,26 @@ module _ (B : Scope) (body : Term) (q : State) (given : Values) (V : Valuation) 
       ))
 
   -- a trap
-  trapped_says : (A : ℕ → Bool) (c : ℕ) (l : Layer) (g : Bool) (x k : ℕ) → Ends c l g x → list_any val (trapped_ends A c l k) ≡ true → (g ≡ true) × (k ≡ trap_code x)
+  trapped_says : (A : ℕ → Bool) (c : ℕ) (l : Layer) (g : Bool) (x k : ℕ) → ((k : ℕ) → A k ≡ true → V (End c l k) ≡ (g && k == x)) → list_any val (trapped_ends A c l k) ≡ true → (g ≡ true) × (k ≡ trap_code x)
   trapped_says A c l g x zero e h =
       ⊎_elim
-      (λ i. let s = says A c l g x 0 (λ m. e 0) i in (s.1, ap trap_code s.2))
-      (λ i. let s = says A c l g x 2 (λ m. e 2) i in (s.1, ap trap_code s.2))
+      (λ i. let s = says A c l g x 0 (e 0) i in (s.1, ap trap_code s.2))
+      (λ i. let s = says A c l g x 2 (e 2) i in (s.1, ap trap_code s.2))
       (or_cases (list_any val (part_end A c l 0)) _ (sym (list_any-append val (part_end A c l 0) (part_end A c l 2)) ∙ h))
-  trapped_says A c l g x (suc zero) e h = let s = says A c l g x 1 (λ m. e 1) h in (s.1, ap trap_code s.2)
+  trapped_says A c l g x (suc zero) e h = let s = says A c l g x 1 (e 1) h in (s.1, ap trap_code s.2)
   trapped_says A c l g x (suc (suc k)) e h =
-      let s = says A c l g x (suc (suc (suc k))) (λ m. e (suc (suc (suc k)))) h in (s.1, ap trap_code s.2)
+      let s = says A c l g x (suc (suc (suc k))) (e (suc (suc (suc k)))) h in (s.1, ap trap_code s.2)
 
-  trapped_is : (A : ℕ → Bool) (c : ℕ) (l : Layer) (g : Bool) (x y : ℕ) → Ends c l g y → A x ≡ true → g ≡ true → x ≡ y → list_any val (trapped_ends A c l (trap_code x)) ≡ true
+  trapped_is : (A : ℕ → Bool) (c : ℕ) (l : Layer) (g : Bool) (x y : ℕ) → ((k : ℕ) → A k ≡ true → V (End c l k) ≡ (g && k == y)) → A x ≡ true → g ≡ true → x ≡ y → list_any val (trapped_ends A c l (trap_code x)) ≡ true
   trapped_is A c l g zero y e a h z =
-      list_any-append val (part_end A c l 0) (part_end A c l 2) ∙ or_left _ _ (is_end A c l g y 0 (λ m. e 0) a h z)
-  trapped_is A c l g (suc zero) y e a h z = is_end A c l g y 1 (λ m. e 1) a h z
+      list_any-append val (part_end A c l 0) (part_end A c l 2) ∙ or_left _ _ (is_end A c l g y 0 (e 0) a h z)
+  trapped_is A c l g (suc zero) y e a h z = is_end A c l g y 1 (e 1) a h z
   trapped_is A c l g (suc (suc zero)) y e a h z =
-      list_any-append val (part_end A c l 0) (part_end A c l 2) ∙ or_right (list_any val (part_end A c l 0)) _ (is_end A c l g y 2 (λ m. e 2) a h z)
-  trapped_is A c l g (suc (suc (suc x))) y e a h z = is_end A c l g y (suc (suc (suc x))) (λ m. e _) a h z
+      list_any-append val (part_end A c l 0) (part_end A c l 2) ∙ or_right (list_any val (part_end A c l 0)) _ (is_end A c l g y 2 (e 2) a h z)
+  trapped_is A c l g (suc (suc (suc x))) y e a h z = is_end A c l g y (suc (suc (suc x))) (e (suc (suc (suc x)))) a h z
 
-  pub trap_ends : (A W : ℕ → Bool) (c : ℕ) (l : Layer) (g : Bool) (x : ℕ) → Ends c l g x → (g ≡ true → A x ≡ true) → (g ≡ true → W (trap_code x) ≡ true) → (k : ℕ) → (W k && val (any_of (trapped_ends A c l k))) ≡ (g && k == trap_code x)
-  trap_ends A W c l g x e a w k =
+  pub trap_ends_live : (A W : ℕ → Bool) (c : ℕ) (l : Layer) (g : Bool) (x : ℕ) → ((k : ℕ) → A k ≡ true → V (End c l k) ≡ (g && k == x)) → (g ≡ true → A x ≡ true) → (g ≡ true → W (trap_code x) ≡ true) → (k : ℕ) → (W k && val (any_of (trapped_ends A c l k))) ≡ (g && k == trap_code x)
+  trap_ends_live A W c l g x e a w k =
       ends_by (W k) _ g k (trap_code x)
       (λ h. trapped_says A c l g x k e (sym (any_meaning (trapped_ends A c l k)) ∙ h))
       (λ h z. (
@@ -171,6 +170,9 @@ module _ (B : Scope) (body : Term) (q : State) (given : Values) (V : Valuation) 
         any_meaning (trapped_ends A c l k)
         ∙ subst (λ j. list_any val (trapped_ends A c l j) ≡ true) (sym z) (trapped_is A c l g x x e (a h) h refl),
       ))
+
+  pub trap_ends : (A W : ℕ → Bool) (c : ℕ) (l : Layer) (g : Bool) (x : ℕ) → Ends c l g x → (g ≡ true → A x ≡ true) → (g ≡ true → W (trap_code x) ≡ true) → (k : ℕ) → (W k && val (any_of (trapped_ends A c l k))) ≡ (g && k == trap_code x)
+  trap_ends A W c l g x e a w k = trap_ends_live A W c l g x (λ j z. e j) a w k
 
   -- a parallel at its start
   upto_says : (c : ℕ) (l : Layer) (g : Bool) (x k : ℕ) → Ends c l g x → upto (λ j. V (End c l j)) k ≡ true → (g ≡ true) × (x ≤ k)

@@ -28,8 +28,8 @@ use Rattle.grc_sem.proofs.Decode.{Agrees, Root, only_agrees, first_agrees, secon
 use Rattle.grc_sem.proofs.Emissions.{emission, emitted, other_binding, Whole, whole_only, whole_first, whole_second}
 use Rattle.grc_sem.proofs.Bridge.{started_any, resumed_any, split}
 use Rattle.grc_sem.proofs.WalkCodes.{started_code, resumed_code}
-use Rattle.grc_sem.proofs.WalkEmits.{Fresh, Shows, Reach, reach_part, started_silent, resumed_silent, started_emits, resumed_emits}
-use Rattle.grc_sem.proofs.EndForms.{val, test_meaning, Ends, only_ends, choice_ends, three_ends, trap_ends, parallel_ends, resumed_ends, awake_ends, branch_number, branch_is}
+use Rattle.grc_sem.proofs.WalkEmits.{Fresh, Shows, Reach, reach_part, started_silent, resumed_silent, started_emits, resumed_emits, guard_bits}
+use Rattle.grc_sem.proofs.EndForms.{val, test_meaning, Ends, only_ends, choice_ends, three_ends, trap_ends, trap_ends_live, only_ends_live, parallel_ends, resumed_ends, awake_ends, branch_number, branch_is}
 
 -- the status wire of a Local
 abbrev pub StatusMet : Valuation → List Spot → Term → ℕ → Layer → Type 0
@@ -165,6 +165,14 @@ root_left r true xs ys e h = go xs h
     go (z ∷ zs) i = ⊎_elim (λ u. inl u) (λ u. inr (go zs u)) i
 root_left r false xs ys e h = absurd (false≢true e)
 
+code_lives : (p : Term) → IsKernel p → (k : ℕ) → resumed_codes p k ≡ true → has_code (resumed_codes p) ≡ true
+code_lives p b k h = some_has (resumed_codes p) (k, omega (arith, resumed_below p b k h), h)
+
+not_both : (c d : Bool) → (c && d) ≡ false → d ≡ true → c ≡ false
+not_both true true e h = absurd (false≢true (sym e))
+not_both true false e h = absurd (false≢true h)
+not_both false d e h = refl
+
 not_back : (d : Bool) → not d ≡ true → d ≡ false
 not_back true e = absurd (false≢true e)
 not_back false e = refl
@@ -197,6 +205,80 @@ resumed_at V S (Par p q) n v b k w = w.0
 resumed_at V S (Trap p) n v b k w = w.0
 resumed_at V S (Local s p) n v b k w = w.0
 resumed_at V S (Awake e p) n v b k w = absurd k
+
+-- what a lookup of held pauses finds
+pub holds_self : (S : ℕ → Bool) (t : Term) (n : ℕ) → holds_at S t n n ≡ holds S t n
+holds_self S Nothing n = refl
+holds_self S Pause n = refl
+holds_self S (Emit s) n = refl
+holds_self S (Exit c) n = refl
+holds_self S (Present e p q) n = cond-true (n == n) _ _ (eq-eqb n n refl)
+holds_self S (Suspend e p) n = cond-true (n == n) _ _ (eq-eqb n n refl)
+holds_self S (Seq p q) n = cond-true (n == n) _ _ (eq-eqb n n refl)
+holds_self S (Loop at p) n = cond-true (n == n) _ _ (eq-eqb n n refl)
+holds_self S (Par p q) n = cond-true (n == n) _ _ (eq-eqb n n refl)
+holds_self S (Trap p) n = cond-true (n == n) _ _ (eq-eqb n n refl)
+holds_self S (Local s p) n = cond-true (n == n) _ _ (eq-eqb n n refl)
+holds_self S (Awake e p) n = refl
+
+-- the lookup g finds in the statement t, at n, what S selects
+pub record Finds (g : ℕ → Bool) (S : ℕ → Bool) (t : Term) (n : ℕ) : Type 0 where
+  pub each : (m : ℕ) → n ≤ m → m < n + statement_count t → g m ≡ holds_at S t n m
+
+finds_only : (g S : ℕ → Bool) (t p : Term) (n : ℕ) → statement_count t ≡ 1 + statement_count p → ((m : ℕ) → holds_at S t n m ≡ cond (m == n) (holds S t n) (holds_at S p (n + 1) m)) → Finds g S t n → Finds g S p (n + 1)
+finds_only g S t p n c f h =
+    record { each = λ m l u. h.each m (omega arith) (omega arith) ∙ f m ∙ cond-false (m == n) _ _ (ne_eqb m n (λ e. omega arith)) }
+
+lower : (a b : ℕ) → b ≤ a → ltb a b ≡ false
+lower a b h = cond_both (ltb a b) true false (λ x. ltb a b ≡ false) (λ e. let i = ltb-true a b e in absurd (omega arith)) (λ e. e)
+
+finds_first : (g S : ℕ → Bool) (t p q : Term) (n : ℕ) → statement_count t ≡ 1 + statement_count p + statement_count q → ((m : ℕ) → holds_at S t n m ≡ cond (m == n) (holds S t n) (cond (ltb m (n + 1 + statement_count p)) (holds_at S p (n + 1) m) (holds_at S q (n + 1 + statement_count p) m))) → Finds g S t n → Finds g S p (n + 1)
+finds_first g S t p q n c f h =
+    record { each = λ m l u.
+        h.each m (omega arith) (omega arith) ∙ f m ∙ cond-false (m == n) _ _ (ne_eqb m n (λ e. omega arith))
+        ∙ cond-true (ltb m (n + 1 + statement_count p)) _ _ (lt-ltb m (n + 1 + statement_count p) u) }
+
+finds_second : (g S : ℕ → Bool) (t p q : Term) (n : ℕ) → statement_count t ≡ 1 + statement_count p + statement_count q → ((m : ℕ) → holds_at S t n m ≡ cond (m == n) (holds S t n) (cond (ltb m (n + 1 + statement_count p)) (holds_at S p (n + 1) m) (holds_at S q (n + 1 + statement_count p) m))) → Finds g S t n → Finds g S q (n + 1 + statement_count p)
+finds_second g S t p q n c f h =
+    record { each = λ m l u.
+        h.each m (omega arith) (omega arith) ∙ f m ∙ cond-false (m == n) _ _ (ne_eqb m n (λ e. omega arith))
+        ∙ cond-false (ltb m (n + 1 + statement_count p)) _ _ (lower m (n + 1 + statement_count p) l) }
+
+count_some : (t : Term) → 1 ≤ statement_count t
+count_some Nothing = omega arith
+count_some Pause = omega arith
+count_some (Emit s) = omega arith
+count_some (Exit c) = omega arith
+count_some (Present e p q) = omega arith
+count_some (Suspend e p) = omega arith
+count_some (Seq p q) = omega arith
+count_some (Loop at p) = omega arith
+count_some (Par p q) = omega arith
+count_some (Trap p) = omega arith
+count_some (Local s p) = omega arith
+count_some (Awake e p) = omega arith
+
+pub finds_self : (g S : ℕ → Bool) (t : Term) (n : ℕ) → Finds g S t n → g n ≡ holds S t n
+finds_self g S t n h = h.each n (omega arith) (omega (arith, count_some t)) ∙ holds_self S t n
+
+-- roots at or above a statement
+low_second : (c d : Bool) (rs : List ℕ) (n m : ℕ) → n ≤ m → ((r : ℕ) → Root r rs → r ≤ n) → (r : ℕ) → Root r (cond c rs [] ++ root_if d m) → r ≤ m
+low_second c d rs n m l h r i = go (cond c rs []) (λ x j. first c x j) i
+  where
+    first : (c : Bool) (x : ℕ) → Root x (cond c rs []) → x ≤ m
+    first true x j = let k = h x j in omega arith
+    first false x j = absurd j
+    own : (d : Bool) (x : ℕ) → Root x (root_if d m) → x ≤ m
+    own true x j = ⊎_elim (λ e. omega arith) (λ e. absurd e) j
+    own false x j = absurd j
+    go : (xs : List ℕ) → ((x : ℕ) → Root x xs → x ≤ m) → Root r (xs ++ root_if d m) → r ≤ m
+    go [] f j = own d r j
+    go (x ∷ xs) f j = ⊎_elim (λ e. f r (inl e)) (λ e. go xs (λ y k. f y (inr k)) e) j
+
+root_own : (m : ℕ) (c : Bool) (xs : List ℕ) → c ≡ true → Root m (xs ++ root_if c m)
+root_own m true [] e = inl refl
+root_own m false [] e = absurd (false≢true e)
+root_own m c (x ∷ xs) e = inr (root_own m c xs e)
 
 module _ (B0 : Scope) (body : Term) (q : State) (given : Values) (V : Valuation) (all : List Spot) (L : ℕ → List Layer) where
   abbrev M : Spot → Type 0
@@ -419,3 +501,293 @@ module _ (B0 : Scope) (body : Term) (q : State) (given : Values) (V : Valuation)
         one,
       )
   told_started a (Awake x p) B f n r v b g i l nl k ab w e s h = absurd k
+
+  abbrev selects : ℕ → Bool
+  selects = λ m. state_holds_at q body m
+
+  pub told_resumed : (S : ℕ → Bool) (a : Liveness) (t : Term) (B : Scope) (f : Layer → Formula) (n : ℕ) (v : Values) (b : Bool) → Agrees L a t n → a.resumed ≡ true → ((r : ℕ) → Root r a.roots → r ≤ n) → NoInstantLoop t → IsKernel t → Above B n → Whole V L all B f t n → EachResumed M B f t n → Sees given V B Resumed v → Finds selects S t n → Reach S t n b → V (Go n Resumed) ≡ b → ResumedWalked V S t n v b
+  told_resumed S a Nothing B f n v b g i l nl k ab w e s o u h =
+      record { go = h; ends = λ j. e.ends j ∙ sym (never b (λ z. u.held z) (j == 0)) }
+    where
+      never : (b : Bool) → (b ≡ true → false ≡ true) → (x : Bool) → (b && x) ≡ false
+      never true f x = absurd (false≢true (f refl))
+      never false f x = refl
+  told_resumed S a Pause B f n v b g i l nl k ab w e s o u h =
+      record { go = h; ends = λ j. e.ends j ∙ ap (λ x. (j == 0) && x) h ∙ and_flip (j == 0) b }
+  told_resumed S a (Emit x) B f n v b g i l nl k ab w e s o u h =
+      record { go = h; ends = λ j. e.ends j ∙ sym (never b (λ z. u.held z) (j == 0)) }
+    where
+      never : (b : Bool) → (b ≡ true → false ≡ true) → (x : Bool) → (b && x) ≡ false
+      never true f x = absurd (false≢true (f refl))
+      never false f x = refl
+  told_resumed S a (Exit c) B f n v b g i l nl k ab w e s o u h =
+      record { go = h; ends = λ j. e.ends j ∙ sym (never b (λ z. u.held z) (j == 0)) }
+    where
+      never : (b : Bool) → (b ≡ true → false ≡ true) → (x : Bool) → (b && x) ≡ false
+      never true f x = absurd (false≢true (f refl))
+      never false f x = refl
+  told_resumed S a (Present x p p2) B f n v b g i l nl k ab w e s o u h =
+      let m = n + 1 + statement_count p in
+      let t = Present x p p2 in
+      let np = no_loops-left (instant_loops p) (instant_loops p2) nl in
+      let nq = no_loops-right (instant_loops p) (instant_loops p2) nl in
+      let ap1 = part_liveness a p in
+      let aq = part_liveness a p2 in
+      let c = holds S p (n + 1) in
+      let d = holds S p2 m in
+      let op = finds_first selects S t p p2 n refl (λ j. refl) o in
+      let oq = finds_second selects S t p p2 n refl (λ j. refl) o in
+      let up : Reach S p (n + 1) (b && c) = reach_part {p = p} {m = n + 1} b u (λ y z. y.1 z) in
+      let uq : Reach S p2 m (b && d) = reach_part {p = p2} {m = m} b u (λ y z. y.2 z) in
+      let one : has_code (resumed_codes p) ≡ true → ResumedWalked V S p (n + 1) v (b && c) = λ z.
+      told_resumed S ap1 p B _ (n + 1) v (b && c) (first_agrees L a ap1 aq t p p2 n refl (λ j. refl) g) (and_true i z) (λ r y. let y2 = l r y in omega arith) np k.0 (above_more B n (n + 1) (omega arith) ab) (whole_first V L all B f _ _ t p p2 n ab refl refl (λ j y y2. refl) w) (e.1 z) s op up
+      ((head_resumed M B _ p (n + 1) k.0 (e.1 z)).go ∙ ap (λ y. y && selects (n + 1)) h ∙ ap (λ y. b && y) (finds_self selects S p (n + 1) op)) in
+      let two : has_code (resumed_codes p2) ≡ true → ResumedWalked V S p2 m v (b && d) = λ z.
+      told_resumed S aq p2 B _ m v (b && d) (second_agrees L a ap1 aq t p p2 n refl (λ j. refl) g) (and_true i z) (λ r y. let y2 = l r y in omega arith) nq k.1 (above_more B n m (omega arith) ab) (whole_second V L all B f _ _ t p p2 n ab refl refl (λ j y y2. refl) w) (e.2 z) s oq uq
+      ((head_resumed M B _ p2 m k.1 (e.2 z)).go ∙ ap (λ y. y && selects m) h ∙ ap (λ y. b && y) (finds_self selects S p2 m oq)) in
+      let wp = resumed_walk (statuses V) S p (n + 1) v in
+      let wq = resumed_walk (statuses V) S p2 m v in
+      (
+        record {
+          go = h;
+          ends = λ j.
+              e.0.ends j
+              ∙ choice_ends B0 body q given V (resumed_codes p) (resumed_codes p2) (resumed_codes t) (n + 1) m Resumed Resumed (b && c) (b && d) b wp.code wq.code (cond c wp wq).code
+              (λ y z. (resumed_at V S p (n + 1) v _ k.0 (one (code_lives p k.0 y z))).ends y)
+              (λ y z. (resumed_at V S p2 m v _ k.1 (two (code_lives p2 k.1 y z))).ends y)
+              (λ z y y2 y3. let z2 = and_parts b c z in (z2.0, cond_first c wp wq z2.1))
+              (λ z. let z2 = and_parts b d z in (z2.0, cond_second c wp wq (not_both c d (u.selected z2.0).0 z2.1)))
+              (λ z. resumed_code (statuses V) S t n v nl k (u.held z) (u.selected z))
+              (λ z.
+              ⊎_elim
+              (λ y. inl (and_true z y, cond_first c wp wq y, resumed_code (statuses V) S p (n + 1) v np k.0 y ((u.selected z).1 y)))
+              (λ y.
+              let y2 = or_other c d y (u.held z) in
+              inr (and_true z y2, cond_second c wp wq y, resumed_code (statuses V) S p2 m v nq k.1 y2 ((u.selected z).2 y2)))
+              (cases_Bool c))
+              j;
+        },
+        one, two,
+      )
+  told_resumed S a (Suspend x p) B f n v b g i l nl k ab w e s o u h =
+      let t = Suspend x p in
+      let ap1 = part_liveness a p in
+      let d = truth x v in
+      let test = test_meaning B0 body q given V B x Resumed v s.each in
+      let op = finds_only selects S t p n refl (λ j. refl) o in
+      let up : Reach S p (n + 1) (b && not d) = record { held = λ z. u.held (and_parts b _ z).0; selected = λ z. u.selected (and_parts b _ z).0 } in
+      let one : has_code (resumed_codes p) ≡ true → ResumedWalked V S p (n + 1) v (b && not d) = λ z.
+      told_resumed S ap1 p B _ (n + 1) v (b && not d) (only_agrees L a ap1 t p n refl (λ j. refl) g) (and_true i z) (λ r y. let y2 = l r y in omega arith) nl k (above_more B n (n + 1) (omega arith) ab) (whole_only V L all B B f _ t p n refl refl (λ j y y2. refl) w) (e.1 z) s op up
+      ((head_resumed M B _ p (n + 1) k (e.1 z)).go ∙ ap (λ y. y && not (val B0 body q given V (test_formula B x Resumed))) h ∙ ap (λ y. b && not y) test) in
+      let wp = resumed_walk (statuses V) S p (n + 1) v in
+      let paused : Walk = record { signals = λ y. false; code = 1; kept = selected_in S p (n + 1) } in
+      (
+        record {
+          go = h;
+          ends = λ j.
+              e.0.ends j
+              ∙ awake_ends B0 body q given V (resumed_codes p) (resumed_codes t) B x n (n + 1) b d wp.code (cond d paused wp).code h test
+              (λ y z. (resumed_at V S p (n + 1) v _ k (one (code_lives p k y z))).ends y)
+              (λ z. cond_first d paused wp z) (λ z. cond_second d paused wp z)
+              (λ z y. resumed_code (statuses V) S p (n + 1) v nl k (u.held z) (u.selected z))
+              (λ z. resumed_code (statuses V) S t n v nl k (u.held z) (u.selected z)) j;
+        },
+        one,
+      )
+  told_resumed S a (Seq p p2) B f n v b g i l nl k ab w e s o u h =
+      let m = n + 1 + statement_count p in
+      let t = Seq p p2 in
+      let np = no_loops-left (instant_loops p) (instant_loops p2) nl in
+      let nq = no_loops-right (instant_loops p) (instant_loops p2) nl in
+      let ap1 = part_liveness a p in
+      let aq = second_liveness a p p2 m in
+      let gq = second_agrees L a ap1 aq t p p2 n refl (λ j. refl) g in
+      let c = holds S p (n + 1) in
+      let d = holds S p2 m in
+      let am = above_more B n m (omega arith) ab in
+      let ws = whole_second V L all B f _ _ t p p2 n ab refl refl (λ j y y2. refl) w in
+      let op = finds_first selects S t p p2 n refl (λ j. refl) o in
+      let oq = finds_second selects S t p p2 n refl (λ j. refl) o in
+      let up : Reach S p (n + 1) (b && c) = reach_part {p = p} {m = n + 1} b u (λ y z. y.1 z) in
+      let uq : Reach S p2 m (b && d) = reach_part {p = p2} {m = m} b u (λ y z. (y.2 z).1) in
+      let wp = resumed_walk (statuses V) S p (n + 1) v in
+      let wq = resumed_walk (statuses V) S p2 m v in
+      let wr = started_walk (statuses V) p2 m (Started m) v in
+      let one : has_code (resumed_codes p) ≡ true → ResumedWalked V S p (n + 1) v (b && c) = λ z.
+      told_resumed S ap1 p B _ (n + 1) v (b && c) (first_agrees L a ap1 aq t p p2 n refl (λ j. refl) g) (and_true i z) (λ r y. let y2 = l r y in omega arith) np k.0 (above_more B n (n + 1) (omega arith) ab) (whole_first V L all B f _ _ t p p2 n ab refl refl (λ j y y2. refl) w) (e.1 z) s op up
+      ((head_resumed M B _ p (n + 1) k.0 (e.1 z)).go ∙ ap (λ y. y && selects (n + 1)) h ∙ ap (λ y. b && y) (finds_self selects S p (n + 1) op)) in
+      let two : (can_pass p && has_code (resumed_codes p2)) ≡ true → ResumedWalked V S p2 m v (b && d) = λ z.
+      told_resumed S aq p2 B _ m v (b && d) gq (and_true i z) (low_second (started_codes p 0) (a.resumed && resumed_codes p 0) a.roots n m (omega arith) l) nq k.1 am ws (e.2 z) s oq uq
+      ((head_resumed M B _ p2 m k.1 (e.2 z)).go ∙ ap (λ y. y && selects m) h ∙ ap (λ y. b && y) (finds_self selects S p2 m oq)) in
+      let three : resumed_codes p 0 ≡ true → StartedWalked V p2 m (Started m) v ((b && c) && wp.code == 0) = λ z.
+      told_started aq p2 B _ m m v ((b && c) && wp.code == 0) gq (root_own m (a.resumed && resumed_codes p 0) (cond (started_codes p 0) a.roots []) (and_true i z)) (omega arith) nq k.1 am ws (e.3 z)
+      (sees_root given V B m v am s)
+      ((head_started M B _ p2 m (Started m) k.1 (e.3 z)).go ∙ ap (λ y. V (End (n + 1) y 0)) (cond-true (m == m) Resumed (Started m) (eq-eqb m m refl))
+      ∙ (resumed_at V S p (n + 1) v _ k.0 (one (code_lives p k.0 0 z))).ends 0 ∙ ap (λ y. (b && c) && y) (eqb_flip 0 wp.code)) in
+      let T = then_walk wp wr in
+      (
+        record {
+          go = h;
+          ends = λ j.
+              e.0.ends j
+              ∙ three_ends B0 body q given V (except 0 (resumed_codes p)) (codes_if (can_pass p) (resumed_codes p2)) (codes_if (resumed_codes p 0) (started_codes p2)) (resumed_codes t)
+              (n + 1) m m Resumed Resumed (Started m) (b && c) (b && d) ((b && c) && wp.code == 0) b wp.code wq.code wr.code (cond c T wq).code
+              (λ y z. (resumed_at V S p (n + 1) v _ k.0 (one (code_lives p k.0 y (except-parts (resumed_codes p) 0 y z).0))).ends y)
+              (λ y z. let z2 = and_parts (can_pass p) (resumed_codes p2 y) z in (resumed_at V S p2 m v _ k.1 (two (and_true z2.0 (code_lives p2 k.1 y z2.1)))).ends y)
+              (λ y z. let z2 = and_parts (resumed_codes p 0) (started_codes p2 y) z in (started_at V p2 m (Started m) v _ k.1 (three z2.0)).ends y)
+              (λ z y y2 y3.
+              let z2 = and_parts b c z in
+              (z2.0, cond_first c T wq z2.1 ∙ then_first wp wr (ne_eqb wp.code 0 (λ r. (except-parts (resumed_codes p) 0 y y2).1 (y3 ∙ r)))))
+              (λ z. let z2 = and_parts b d z in (z2.0, cond_second c T wq (not_both c d (u.selected z2.0).0 z2.1)))
+              (λ z. let z2 = and_parts (b && c) _ z in let z3 = and_parts b c z2.0 in (z3.0, cond_first c T wq z3.1 ∙ then_second wp wr z2.1))
+              (λ z. resumed_code (statuses V) S t n v nl k (u.held z) (u.selected z))
+              (λ z.
+              ⊎_elim
+              (λ y.
+              let f1 = resumed_code (statuses V) S p (n + 1) v np k.0 y ((u.selected z).1 y) in
+              ⊎_elim
+              (λ r. inr (inr (and_true (and_true z y) r, cond_first c T wq y ∙ then_second wp wr r, and_true (subst (λ r2. resumed_codes p r2 ≡ true) (eqb-true wp.code 0 r) f1) (started_code (statuses V) p2 m (Started m) v nq k.1))))
+              (λ r. inl (and_true z y, cond_first c T wq y ∙ then_first wp wr r, except-in (resumed_codes p) 0 wp.code f1 (eqb-false wp.code 0 r)))
+              (cases_Bool (wp.code == 0)))
+              (λ y.
+              let y2 = or_other c d y (u.held z) in
+              let r = (u.selected z).2 y2 in
+              inr (inl (and_true z y2, cond_second c T wq y, and_true r.0 (resumed_code (statuses V) S p2 m v nq k.1 y2 r.1))))
+              (cases_Bool c))
+              j;
+        },
+        one, two, three,
+      )
+  told_resumed S a (Loop at p) B f n v b g i l nl k ab w e s o u h =
+      let t = Loop at p in
+      let parts = loop_body at p nl in
+      let np = parts.1 in
+      let ap1 = loop_liveness a p (n + 1) in
+      let g1 = only_agrees L a ap1 t p n refl (λ j. refl) g in
+      let am = above_more B n (n + 1) (omega arith) ab in
+      let ws = whole_only V L all B B f _ t p n refl refl (λ j y y2. refl) w in
+      let op = finds_only selects S t p n refl (λ j. refl) o in
+      let up : Reach S p (n + 1) b = record { held = u.held; selected = u.selected } in
+      let wp = resumed_walk (statuses V) S p (n + 1) v in
+      let wr = started_walk (statuses V) p (n + 1) (Started (n + 1)) v in
+      let one : has_code (resumed_codes p) ≡ true → ResumedWalked V S p (n + 1) v b = λ z.
+      told_resumed S ap1 p B _ (n + 1) v b g1 (and_true i z) (low_second true (a.resumed && resumed_codes p 0) a.roots n (n + 1) (omega arith) l) np k am ws (e.1 z) s op up
+      ((head_resumed M B _ p (n + 1) k (e.1 z)).go ∙ h) in
+      let two : resumed_codes p 0 ≡ true → StartedWalked V p (n + 1) (Started (n + 1)) v (b && wp.code == 0) = λ z.
+      told_started ap1 p B _ (n + 1) (n + 1) v (b && wp.code == 0) g1 (root_own (n + 1) (a.resumed && resumed_codes p 0) a.roots (and_true i z)) (omega arith) np k am ws (e.2 z)
+      (sees_root given V B (n + 1) v am s)
+      ((head_started M B _ p (n + 1) (Started (n + 1)) k (e.2 z)).go ∙ ap V (cond-true (n + 1 == n + 1) (End (n + 1) Resumed 0) (Go n (Started (n + 1))) (eq-eqb (n + 1) (n + 1) refl))
+      ∙ (resumed_at V S p (n + 1) v _ k (one (code_lives p k 0 z))).ends 0 ∙ ap (λ y. b && y) (eqb_flip 0 wp.code)) in
+      (
+        record {
+          go = h;
+          ends = λ j.
+              e.0.ends j
+              ∙ choice_ends B0 body q given V (except 0 (resumed_codes p)) (codes_if (resumed_codes p 0) (except 0 (started_codes p))) (resumed_codes t) (n + 1) (n + 1) Resumed (Started (n + 1)) b (b && wp.code == 0) b wp.code wr.code (then_walk wp wr).code
+              (λ y z. (resumed_at V S p (n + 1) v _ k (one (code_lives p k y (except-parts (resumed_codes p) 0 y z).0))).ends y)
+              (λ y z. let z2 = and_parts (resumed_codes p 0) (except 0 (started_codes p) y) z in (started_at V p (n + 1) (Started (n + 1)) v _ k (two z2.0)).ends y)
+              (λ z y y2 y3. (z, then_first wp wr (ne_eqb wp.code 0 (λ r. (except-parts (resumed_codes p) 0 y y2).1 (y3 ∙ r)))))
+              (λ z. let z2 = and_parts b _ z in (z2.0, then_second wp wr z2.1))
+              (λ z. resumed_code (statuses V) S t n v nl k (u.held z) (u.selected z))
+              (λ z.
+              let f1 = resumed_code (statuses V) S p (n + 1) v np k (u.held z) (u.selected z) in
+              let f2 = started_code (statuses V) p (n + 1) (Started (n + 1)) v np k in
+              ⊎_elim
+              (λ r. inr (and_true z r, then_second wp wr r, and_true (subst (λ r2. resumed_codes p r2 ≡ true) (eqb-true wp.code 0 r) f1) (except-in (started_codes p) 0 wr.code f2 (loop_code p wr.code parts.0 f2))))
+              (λ r. inl (z, then_first wp wr r, except-in (resumed_codes p) 0 wp.code f1 (eqb-false wp.code 0 r)))
+              (cases_Bool (wp.code == 0)))
+              j;
+        },
+        one, two,
+      )
+  told_resumed S a (Par p p2) B f n v b g i l nl k ab w e s o u h =
+      let m = n + 1 + statement_count p in
+      let t = Par p p2 in
+      let np = no_loops-left (instant_loops p) (instant_loops p2) nl in
+      let nq = no_loops-right (instant_loops p) (instant_loops p2) nl in
+      let ap1 = part_liveness a p in
+      let aq = part_liveness a p2 in
+      let c = holds S p (n + 1) in
+      let d = holds S p2 m in
+      let op = finds_first selects S t p p2 n refl (λ j. refl) o in
+      let oq = finds_second selects S t p p2 n refl (λ j. refl) o in
+      let sp : selects (n + 1) ≡ c = finds_self selects S p (n + 1) op in
+      let sq : selects m ≡ d = finds_self selects S p2 m oq in
+      let up : Reach S p (n + 1) (b && c) = reach_part {p = p} {m = n + 1} b u (λ y z. y.2 z) in
+      let uq : Reach S p2 m (b && d) = reach_part {p = p2} {m = m} b u (λ y z. y.3 z) in
+      let one : has_code (resumed_codes p) ≡ true → ResumedWalked V S p (n + 1) v (b && c) = λ z.
+      told_resumed S ap1 p B _ (n + 1) v (b && c) (first_agrees L a ap1 aq t p p2 n refl (λ j. refl) g) (and_true i z) (λ r y. let y2 = l r y in omega arith) np k.0 (above_more B n (n + 1) (omega arith) ab) (whole_first V L all B f _ _ t p p2 n ab refl refl (λ j y y2. refl) w) (e.1 z) s op up
+      ((head_resumed M B _ p (n + 1) k.0 (e.1 z)).go ∙ ap (λ y. y && selects (n + 1)) h ∙ ap (λ y. b && y) sp) in
+      let two : has_code (resumed_codes p2) ≡ true → ResumedWalked V S p2 m v (b && d) = λ z.
+      told_resumed S aq p2 B _ m v (b && d) (second_agrees L a ap1 aq t p p2 n refl (λ j. refl) g) (and_true i z) (λ r y. let y2 = l r y in omega arith) nq k.1 (above_more B n m (omega arith) ab) (whole_second V L all B f _ _ t p p2 n ab refl refl (λ j y y2. refl) w) (e.2 z) s oq uq
+      ((head_resumed M B _ p2 m k.1 (e.2 z)).go ∙ ap (λ y. y && selects m) h ∙ ap (λ y. b && y) sq) in
+      let wp = resumed_walk (statuses V) S p (n + 1) v in
+      let wq = resumed_walk (statuses V) S p2 m v in
+      let code : max (branch_number B0 body q given V c wp.code) (branch_number B0 body q given V d wq.code) ≡ max (cond c wp (ended 0)).code (cond d wq (ended 0)).code =
+      ap (λ y. max y (branch_number B0 body q given V d wq.code)) (branch_is B0 body q given V c wp) ∙ ap (λ y. max (cond c wp (ended 0)).code y) (branch_is B0 body q given V d wq) in
+      (
+        record {
+          go = h;
+          ends = λ j.
+              e.0.ends j
+              ∙ resumed_ends B0 body q given V (resumed_codes p) (resumed_codes p2) (resumed_codes t) n (n + 1) m b c d wp.code wq.code h sp sq
+              (λ z. (resumed_at V S p (n + 1) v _ k.0 (one z)).ends) (λ z. (resumed_at V S p2 m v _ k.1 (two z)).ends)
+              (code_lives p k.0) (code_lives p2 k.1)
+              (λ z y. resumed_code (statuses V) S p (n + 1) v np k.0 y ((u.selected z).2 y))
+              (λ z y. resumed_code (statuses V) S p2 m v nq k.1 y ((u.selected z).3 y))
+              (λ z. subst (λ y. resumed_codes t y ≡ true) (sym code) (resumed_code (statuses V) S t n v nl k (u.held z) (u.selected z))) j
+              ∙ ap (λ y. b && j == y) code;
+        },
+        one, two,
+      )
+  told_resumed S a (Trap p) B f n v b g i l nl k ab w e s o u h =
+      let t = Trap p in
+      let ap1 = part_liveness a p in
+      let op = finds_only selects S t p n refl (λ j. refl) o in
+      let up : Reach S p (n + 1) b = record { held = u.held; selected = u.selected } in
+      let one : has_code (resumed_codes p) ≡ true → ResumedWalked V S p (n + 1) v b = λ z.
+      told_resumed S ap1 p B _ (n + 1) v b (only_agrees L a ap1 t p n refl (λ j. refl) g) (and_true i z) (λ r y. let y2 = l r y in omega arith) nl k (above_more B n (n + 1) (omega arith) ab) (whole_only V L all B B f _ t p n refl refl (λ j y y2. refl) w) (e.1 z) s op up
+      ((head_resumed M B _ p (n + 1) k (e.1 z)).go ∙ h) in
+      (
+        record {
+          go = h;
+          ends = λ j.
+              e.0.ends j
+              ∙ trap_ends_live B0 body q given V (resumed_codes p) (resumed_codes t) (n + 1) Resumed b (resumed_walk (statuses V) S p (n + 1) v).code
+              (λ y z. (resumed_at V S p (n + 1) v _ k (one (code_lives p k y z))).ends y)
+              (λ z. resumed_code (statuses V) S p (n + 1) v nl k (u.held z) (u.selected z))
+              (λ z. resumed_code (statuses V) S t n v nl k (u.held z) (u.selected z)) j;
+        },
+        one,
+      )
+  told_resumed S a (Local x p) B f n v b g i l nl k ab w e s o u h =
+      let t = Local x p in
+      let W = StatusOf n Resumed in
+      let ap1 = part_liveness a p in
+      let v2 = with_value v x (V W) in
+      let g1 = only_agrees L a ap1 t p n refl (λ j. refl) g in
+      let own = whole_only V L all B (bind B x n) f _ t p n refl refl (λ j y y2. refl) w in
+      let op = finds_only selects S t p n refl (λ j. refl) o in
+      let up : Reach S p (n + 1) b = record { held = u.held; selected = u.selected } in
+      let one : has_code (resumed_codes p) ≡ true → ResumedWalked V S p (n + 1) v2 b = λ z.
+      told_resumed S ap1 p (bind B x n) _ (n + 1) v2 b g1 (and_true i z) (λ r y. let y2 = l r y in omega arith) nl k (above_bind B n x ab) own (e.1 z) (sees_more given V B n x Resumed v refl s) op up
+      ((head_resumed M (bind B x n) _ p (n + 1) k (e.1 z)).go ∙ h) in
+      let wp = resumed_walk (statuses V) S p (n + 1) v2 in
+      (
+        record {
+          go = h;
+          ends = λ j.
+              e.0.ends j
+              ∙ only_ends_live B0 body q given V (resumed_codes p) (n + 1) Resumed b wp.code
+              (λ y z. (resumed_at V S p (n + 1) v2 _ k (one (code_lives p k y z))).ends y)
+              (λ z. resumed_code (statuses V) S p (n + 1) v2 nl k (u.held z) (u.selected z)) j;
+        },
+        resumed_status ap1 x p B _ n k ab g1 l e.0.status
+        (w.own n Resumed (omega arith) (omega arith) ∙ local_own x p B f n Resumed)
+        ∙ ap (λ y. (y && has_code (resumed_codes p)) && resumed_any (emission V W) (bind B x n) (part_entry n) p (n + 1)) i
+        ∙ guard_bits (has_code (resumed_codes p)) true b (wp.signals x) _
+        (λ z. resumed_emits V S W x true p (bind B x n) _ (n + 1) v2 b nl k up (one z) (own_fresh n Resumed) (above_bind B n x ab) (own_shows B n x Resumed Resumed true ab refl))
+        (λ z. resumed_live S p (n + 1) nl k (u.held z) (u.selected z)),
+        one,
+      )
+  told_resumed S a (Awake x p) B f n v b g i l nl k ab w e s o u h = absurd k

@@ -126,7 +126,7 @@ hide_bits true false false x = refl
 hide_bits false a b x = refl
 
 -- a part that is not live is not reached
-guard_bits : (g c b x P : Bool) → (g ≡ true → P ≡ (c && (b && x))) → (b ≡ true → g ≡ true) → (g && P) ≡ (c && (b && x))
+pub guard_bits : (g c b x P : Bool) → (g ≡ true → P ≡ (c && (b && x))) → (b ≡ true → g ≡ true) → (g && P) ≡ (c && (b && x))
 guard_bits true c b x P f h = f refl
 guard_bits false c true x P f h = absurd (false≢true (h refl))
 guard_bits false true false x P f h = refl
