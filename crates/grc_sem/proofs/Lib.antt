@@ -18,3 +18,4 @@ mod WalkCodes
 mod WalkEmits
 mod EndForms
 mod Told
+mod Joint
