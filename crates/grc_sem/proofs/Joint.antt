@@ -35,7 +35,7 @@ use Rattle.grc_sem.proofs.Told.{StatusMet, Met, Sees, Finds, told_started, told_
 use Rattle.grc_sem.proofs.ReactWalks.{Solution, scope_part, InPart, enters, goes_out, unbound}
 
 -- lists
-every_of_all : {A : Type 0} (P : A → Type 0) (xs : List A) → All P xs → Every P xs
+pub every_of_all : {A : Type 0} (P : A → Type 0) (xs : List A) → All P xs → Every P xs
 every_of_all P [] h = tt
 every_of_all P (x ∷ xs) h = (h 0 x (omega arith), every_of_all P xs (λ k d l. h (suc k) d (omega arith)))
 
@@ -168,7 +168,7 @@ layers_same (Started q) Resumed e = absurd (false≢true e)
 layers_same (Started q) (Started r) e = ap Started (eqb-true q r e)
 
 -- the emissions on a wire
-emissions_any : (B : Scope) (body : Term) (q : State) (given : Values) (V : Valuation) (w : Wire) (xs : List Spot) → list_any (val B body q given V) (emissions w xs) ≡ emitted V w xs
+pub emissions_any : (B : Scope) (body : Term) (q : State) (given : Values) (V : Valuation) (w : Wire) (xs : List Spot) → list_any (val B body q given V) (emissions w xs) ≡ emitted V w xs
 emissions_any B body q given V w [] = refl
 emissions_any B body q given V w (x ∷ xs) =
     go (emits_on w x.statement x.scope x.layer) (emissions_any B body q given V w xs)
@@ -179,12 +179,12 @@ emissions_any B body q given V w (x ∷ xs) =
 
 -- the equations of an instance met, and its dead ends false
 module _ (B0 : Scope) (body : Term) (q : State) (given : Values) (V : Valuation) (all : List Spot) where
-  abbrev MetRow : Equation → Type 0
+  abbrev pub MetRow : Equation → Type 0
   MetRow e = V e.wire ≡ val B0 body q given V e.formula
 
-  record Alive (x : Spot) : Type 0 where
-    rows : Every MetRow (instance_equations all x)
-    dead : (k : ℕ) → instance_codes x.statement x.layer k ≡ false → V (End x.path x.layer k) ≡ false
+  pub record Alive (x : Spot) : Type 0 where
+    pub rows : Every MetRow (instance_equations all x)
+    pub dead : (k : ℕ) → instance_codes x.statement x.layer k ≡ false → V (End x.path x.layer k) ≡ false
 
   ends_met : (B : Scope) (t : Term) (n : ℕ) (l : Layer) → IsKernel t → Every MetRow (map (λ k. record { wire = End n l k; formula = end_formula B t n l k }) (listed (instance_codes t l))) → ((k : ℕ) → instance_codes t l k ≡ false → V (End n l k) ≡ false) → (k : ℕ) → V (End n l k) ≡ (instance_codes t l k && val B0 body q given V (end_formula B t n l k))
   ends_met B t n l b h d k =
@@ -199,7 +199,7 @@ module _ (B0 : Scope) (body : Term) (q : State) (given : Values) (V : Valuation)
       below Resumed e = resumed_below t b k e
       below (Started r) e = started_below t b k e
 
-  met_at : (x : Spot) → IsKernel x.statement → Alive x → Met B0 body q given V all x
+  pub met_at : (x : Spot) → IsKernel x.statement → Alive x → Met B0 body q given V all x
   met_at x b a = go x.scope x.statement x.path x.layer b a.rows a.dead
     where
       go : (B : Scope) (t : Term) (n : ℕ) (l : Layer) → IsKernel t → Every MetRow (record { wire = Go n l; formula = x.entry } ∷ (instance_status all t n l ++ map (λ k. record { wire = End n l k; formula = end_formula B t n l k }) (listed (instance_codes t l)))) → ((k : ℕ) → instance_codes t l k ≡ false → V (End n l k) ≡ false) → Met B0 body q given V all (record { statement = t; path = n; layer = l; scope = B; entry = x.entry })
@@ -280,7 +280,7 @@ module _ (inputs outs given_count : ℕ) (body : Term) (q : State) (event : List
   abbrev value : Formula → Bool
   value a = val B0 body q (is_given event) V a
 
-  met_spots : (k : IsKernel body) → All (λ e. V e.wire ≡ value e.formula) rows → ((w : Wire) → list_any (λ e. same_wire w e.wire) rows ≡ false → V w ≡ false) → Every (Alive B0 body q (is_given event) V all) all
+  pub met_spots : (k : IsKernel body) → All (λ e. V e.wire ≡ value e.formula) rows → ((w : Wire) → list_any (λ e. same_wire w e.wire) rows ≡ false → V w ≡ false) → Every (Alive B0 body q (is_given event) V all) all
   met_spots k met others =
       let every = every_of_all (λ e. V e.wire ≡ value e.formula) rows met in
       let rows2 = every_flat_map (λ e. V e.wire ≡ value e.formula) (instance_equations all) all (every_right (λ e. V e.wire ≡ value e.formula) (map (output_equation given_count all) (range_with_len inputs outs)) (flat_map (instance_equations all) all) every) in

@@ -19,3 +19,4 @@ mod WalkEmits
 mod EndForms
 mod Told
 mod Joint
+mod Solutions
