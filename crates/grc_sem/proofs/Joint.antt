@@ -72,7 +72,7 @@ unfolding listed
 any_listed_none F g A h = any_below_none F g 64 A h
 
 -- the statement with a number
-abbrev statement_at : Term → ℕ → ℕ → Term
+abbrev pub statement_at : Term → ℕ → ℕ → Term
 statement_at Nothing n m = Nothing
 statement_at Pause n m = Pause
 statement_at (Emit s) n m = Emit s
@@ -280,26 +280,32 @@ module _ (inputs outs given_count : ℕ) (body : Term) (q : State) (event : List
   abbrev value : Formula → Bool
   value a = val B0 body q (is_given event) V a
 
+  looks : IsKernel body → Every (Looked (body_layers body) (statement_at body 0)) all
+  looks k = looked (body_layers body) (statement_at body 0) B0 body_entry body 0 k (record { each = λ m l u. refl })
+
+  -- a code that a statement does not have in a layer ends nothing
+  pub dead_wire : IsKernel body → ((w : Wire) → list_any (λ e. same_wire w e.wire) rows ≡ false → V w ≡ false) → (n : ℕ) (l : Layer) (k : ℕ) → instance_codes (statement_at body 0 n) l k ≡ false → V (End n l k) ≡ false
+  dead_wire b others n l k e =
+      others (End n l k)
+      (list_any-append (λ r. same_wire (End n l k) r.wire) (map (output_equation given_count all) (range_with_len inputs outs)) (flat_map (instance_equations all) all)
+      ∙ ap (λ c. c || list_any (λ r. same_wire (End n l k) r.wire) (flat_map (instance_equations all) all))
+      (any_map_none (λ r. same_wire (End n l k) r.wire) (output_equation given_count all) (range_with_len inputs outs) (λ o. refl))
+      ∙ any_flat_none (λ r. same_wire (End n l k) r.wire) (instance_equations all) all
+      (every_from _ _ all
+      (λ y h. dead_in all n l k y
+      (λ i j.
+      subst (λ x. instance_codes y.statement x k ≡ false) (sym j)
+      (subst (λ t. instance_codes t l k ≡ false) (ap (statement_at body 0) (sym i) ∙ h) e)))
+      (looks b)))
+
   pub met_spots : (k : IsKernel body) → All (λ e. V e.wire ≡ value e.formula) rows → ((w : Wire) → list_any (λ e. same_wire w e.wire) rows ≡ false → V w ≡ false) → Every (Alive B0 body q (is_given event) V all) all
   met_spots k met others =
       let every = every_of_all (λ e. V e.wire ≡ value e.formula) rows met in
       let rows2 = every_flat_map (λ e. V e.wire ≡ value e.formula) (instance_equations all) all (every_right (λ e. V e.wire ≡ value e.formula) (map (output_equation given_count all) (range_with_len inputs outs)) (flat_map (instance_equations all) all) every) in
-      let looks = looked (body_layers body) (statement_at body 0) B0 body_entry body 0 k (record { each = λ m l u. refl }) in
       every_from _ _ all
       (λ x p.
       record {
         rows = p.0;
-        dead = λ j e.
-            others (End x.path x.layer j)
-            (list_any-append (λ r. same_wire (End x.path x.layer j) r.wire) (map (output_equation given_count all) (range_with_len inputs outs)) (flat_map (instance_equations all) all)
-            ∙ ap (λ b. b || list_any (λ r. same_wire (End x.path x.layer j) r.wire) (flat_map (instance_equations all) all))
-            (any_map_none (λ r. same_wire (End x.path x.layer j) r.wire) (output_equation given_count all) (range_with_len inputs outs) (λ o. refl))
-            ∙ any_flat_none (λ r. same_wire (End x.path x.layer j) r.wire) (instance_equations all) all
-            (every_from _ _ all
-            (λ y h. dead_in all x.path x.layer j y
-            (λ a b.
-            subst (λ l. instance_codes y.statement l j ≡ false) (sym b)
-            (subst (λ t. instance_codes t x.layer j ≡ false) (sym p.1 ∙ ap (statement_at body 0) (sym a) ∙ h) e)))
-            looks));
+        dead = λ j e. dead_wire k others x.path x.layer j (subst (λ t. instance_codes t x.layer j ≡ false) (sym p.1) e);
       })
-      (every_both _ _ all rows2 looks)
+      (every_both _ _ all rows2 (looks k))

@@ -211,3 +211,33 @@ module _ (inputs outs given_count : ℕ) (body : Term) where
         ∙ list_any-append (val B0 body q (is_given event) V) own (emissions (Out o) body_all)
         ∙ ap (λ b. b || list_any (val B0 body q (is_given event) V) (emissions (Out o) body_all)) (given_only o w)
         ∙ ap (λ b. is_given event o || b) (emissions_any B0 body q (is_given event) V (Out o) body_all)
+
+    walk_signals : (o : ℕ) → ((holds S body 0 && (resumed_walk (statuses V) S body 0 v).signals o) || (is_initial q && (started_walk (statuses V) body 0 (Started 0) v).signals o)) ≡ (body_walk (statuses V) q body v).signals o
+    walk_signals o = go q v
+      where
+        go : (r : State) (u : Values) → ((holds (selected_of r) body 0 && (resumed_walk (statuses V) (selected_of r) body 0 u).signals o) || (is_initial r && (started_walk (statuses V) body 0 (Started 0) u).signals o)) ≡ (body_walk (statuses V) r body u).signals o
+        go Initial u = ap (λ b. (b && (resumed_walk (statuses V) (λ m. false) body 0 u).signals o) || (started_walk (statuses V) body 0 (Started 0) u).signals o) (nothing_held body 0)
+        go (Selecting T) u = held (holds T body 0)
+          where
+            held : (h : Bool) → ((h && (resumed_walk (statuses V) T body 0 u).signals o) || false) ≡ (cond h (resumed_walk (statuses V) T body 0 u) (ended 0)).signals o
+            held true = or_nothing _
+            held false = refl
+
+    pub solution_of : (R : Wire → ℕ) (N : ℕ) → InScope B0 body → ((w : Wire) → R w ≤ N) → GoUp R (edges body_all) → length event ≡ given_count → inputs ≤ given_count → given_count ≤ inputs + outs → Solution inputs outs body R N q event V
+    solution_of R N scope most up width low high =
+        let l = layered (body_layers body) (λ x. Every (λ e. R e.from < R e.to) (edges_at x.scope x.statement x.path x.layer)) (RowAt (Up R)) (row_at (Up R)) (body_liveness body) B0 body_entry body 0 kernel (body_agrees body) (up_rows R body_all up) in
+        record {
+          loops = nl;
+          kernel = kernel;
+          scope = scope;
+          most = most;
+          started_rows = l.1 0 (inl refl);
+          resumed_rows = l.0;
+          state = state;
+          width = (omega arith, omega arith);
+          started_wires = λ e. subst (λ b. StartedWalked V body 0 (Started 0) v b) (ap is_initial e) top_started;
+          resumed_wires = λ T e live.
+              let f : S ≡ T = ap selected_of e in
+              subst (λ U. ResumedWalked V U body 0 v (holds U body 0)) f (top_resumed live);
+          outputs = λ o i j. output_value width o i j ∙ ap (λ b. is_given event o || b) (emitted_is o i j ∙ walk_signals o);
+        }
