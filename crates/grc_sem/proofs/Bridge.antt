@@ -14,7 +14,7 @@ use Rattle.grc_graph.specs.Selected.{IsKernel}
 use Rattle.grc_sem.proofs.Each.{spot}
 use Rattle.grc_sem.proofs.Decode.{Agrees, here_agrees, only_agrees, first_agrees, second_agrees}
 
-or_left_comm : (a b c : Bool) → (a || (b || c)) ≡ (b || (a || c))
+pub or_left_comm : (a b c : Bool) → (a || (b || c)) ≡ (b || (a || c))
 or_left_comm true true c = refl
 or_left_comm true false c = refl
 or_left_comm false b c = refl
@@ -23,23 +23,23 @@ or-false : (a : Bool) → (a || false) ≡ a
 or-false true = refl
 or-false false = refl
 
-four : (a b c d : Bool) → ((a || b) || (c || d)) ≡ ((a || c) || (b || d))
+pub four : (a b c d : Bool) → ((a || b) || (c || d)) ≡ ((a || c) || (b || d))
 four a b c d = simp (or_assoc, or_comm, or_left_comm)
 
-any_or : (f g : ℕ → Bool) (rs : List ℕ) → list_any (λ r. f r || g r) rs ≡ (list_any f rs || list_any g rs)
+pub any_or : (f g : ℕ → Bool) (rs : List ℕ) → list_any (λ r. f r || g r) rs ≡ (list_any f rs || list_any g rs)
 any_or f g [] = refl
 any_or f g (r ∷ rs) = ap (λ b. (f r || g r) || b) (any_or f g rs) ∙ four (f r) (g r) (list_any f rs) (list_any g rs)
 
-any_and : (c : Bool) (f : ℕ → Bool) (rs : List ℕ) → list_any (λ r. c && f r) rs ≡ (c && list_any f rs)
+pub any_and : (c : Bool) (f : ℕ → Bool) (rs : List ℕ) → list_any (λ r. c && f r) rs ≡ (c && list_any f rs)
 any_and true f rs = refl
 any_and false f [] = refl
 any_and false f (r ∷ rs) = any_and false f rs
 
-any_if : (c : Bool) (f : ℕ → Bool) (rs : List ℕ) → list_any f (cond c rs []) ≡ (c && list_any f rs)
+pub any_if : (c : Bool) (f : ℕ → Bool) (rs : List ℕ) → list_any f (cond c rs []) ≡ (c && list_any f rs)
 any_if true f rs = refl
 any_if false f rs = refl
 
-any_root : (c : Bool) (f : ℕ → Bool) (m : ℕ) → list_any f (root_if c m) ≡ (c && f m)
+pub any_root : (c : Bool) (f : ℕ → Bool) (m : ℕ) → list_any f (root_if c m) ≡ (c && f m)
 any_root true f m = or-false (f m)
 any_root false f m = refl
 
@@ -51,7 +51,7 @@ any_started : (G : Layer → Bool) (rs : List ℕ) → list_any G (map Started r
 any_started G [] = refl
 any_started G (r ∷ rs) = ap (λ b. G (Started r) || b) (any_started G rs)
 
-any_layers : (G : Layer → Bool) (res : Bool) (rs : List ℕ) → list_any G (cond res (Resumed ∷ []) [] ++ map Started rs) ≡ ((res && G Resumed) || list_any (λ r. G (Started r)) rs)
+pub any_layers : (G : Layer → Bool) (res : Bool) (rs : List ℕ) → list_any G (cond res (Resumed ∷ []) [] ++ map Started rs) ≡ ((res && G Resumed) || list_any (λ r. G (Started r)) rs)
 any_layers G true rs = ap (λ b. G Resumed || b) (any_started G rs)
 any_layers G false rs = any_started G rs
 

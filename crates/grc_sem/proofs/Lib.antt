@@ -20,3 +20,4 @@ mod EndForms
 mod Told
 mod Joint
 mod Solutions
+mod Ways
