@@ -21,3 +21,4 @@ mod Told
 mod Joint
 mod Solutions
 mod Ways
+mod NextKept

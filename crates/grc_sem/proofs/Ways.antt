@@ -74,7 +74,7 @@ look_only m n a b l = cond-false (m == n) a b (ne_eqb m n (λ e. omega arith))
 pub look_first : {A : Type 0} (m n c : ℕ) (a b d : A) → n + 1 ≤ m → m < n + 1 + c → cond (m == n) a (cond (ltb m (n + 1 + c)) b d) ≡ b
 look_first m n c a b d l u = look_only m n a _ l ∙ cond-true (ltb m (n + 1 + c)) b d (lt-ltb m (n + 1 + c) u)
 
-lower : (a b : ℕ) → b ≤ a → ltb a b ≡ false
+pub lower : (a b : ℕ) → b ≤ a → ltb a b ≡ false
 lower a b h = cond_both (ltb a b) true false (λ x. ltb a b ≡ false) (λ e. let i = ltb-true a b e in absurd (omega arith)) (λ e. e)
 
 pub look_second : {A : Type 0} (m n c : ℕ) (a b d : A) → n + 1 + c ≤ m → cond (m == n) a (cond (ltb m (n + 1 + c)) b d) ≡ d
