@@ -22,3 +22,4 @@ mod Joint
 mod Solutions
 mod Ways
 mod NextKept
+mod NextStates
