@@ -17,7 +17,7 @@ use Rattle.grc_sem.proofs.Residues.{no_loops-right, loop_body, or_other, resumed
 use Rattle.grc_sem.proofs.Constructive.{and_true}
 use Rattle.grc_sem.proofs.Kept.{Same, same_within, first_same, second_same, only_same, holds_same, Keeps, second_none, first_none, both_first, both_second, selected_same, keeps_branch, started_keeps, resumed_keeps}
 use Rattle.grc_sem.proofs.WalkCodes.{started_code, resumed_code}
-use Rattle.grc_sem.proofs.Ways.{Way, goal, inside}
+use Rattle.grc_sem.proofs.Ways.{Way, goal, inside, way_held}
 
 -- a well-formed selection depends on the pauses of the statement alone
 pub selected_as : (S T : ℕ → Bool) (t : Term) (n : ℕ) → Same S T n (n + statement_count t) → IsSelected S t n → IsSelected T t n
@@ -264,3 +264,172 @@ pauses_second S p q n f = record { each = λ m e l u. go m (f m e (omega arith) 
         at : (m : ℕ) (h : Way p ⊎ Way q) → goal (Seq p q) n h ≡ m → n + 1 + statement_count p ≤ m → m < n + 1 + statement_count p + statement_count q → IsWay q (n + 1 + statement_count p) m
         at m (inl x) e l u = let i = inside p (n + 1) x in absurd (omega (arith, i.1))
         at m (inr y) e l u = (y, e)
+
+abbrev pub AllWays : (ℕ → Bool) → Term → ℕ → Type 0
+AllWays K t n = (m : ℕ) → K m ≡ true → IsWay t n m
+
+cond_ways : (d : Bool) (x y : Walk) (t : Term) (n : ℕ) → AllWays x.kept t n → AllWays y.kept t n → AllWays (cond d x y).kept t n
+cond_ways true x y t n f g = f
+cond_ways false x y t n f g = g
+
+then_ways : (x y : Walk) (t : Term) (n : ℕ) → AllWays x.kept t n → AllWays y.kept t n → AllWays (then_walk x y).kept t n
+then_ways x y t n f g =
+    cond_both (x.code == 0) (record { signals = λ i. x.signals i || y.signals i; code = y.code; kept = y.kept }) x (λ w. AllWays w.kept t n) (λ e. g) (λ e. f)
+
+both_ways : (x y : Walk) (t : Term) (n : ℕ) → AllWays x.kept t n → AllWays y.kept t n → AllWays (both_walks x y).kept t n
+both_ways x y t n f g m e =
+    ⊎_elim (f m) (g m) (or_cases (x.kept m) (y.kept m) (and_parts (max x.code y.code == 1) _ e).1)
+
+by_first : (p q : Term) (n m : ℕ) → IsWay p (n + 1) m → IsWay (Seq p q) n m
+by_first p q n m w = (inl w.0, w.1)
+
+by_second : (p q : Term) (n m : ℕ) → IsWay q (n + 1 + statement_count p) m → IsWay (Seq p q) n m
+by_second p q n m w = (inr w.0, w.1)
+
+pub started_ways : (Z : ℕ → Layer → Bool) (t : Term) (n : ℕ) (l : Layer) (v : Values) → IsKernel t → AllWays (started_walk Z t n l v).kept t n
+started_ways Z Nothing n l v k = λ m e. absurd (false≢true e)
+started_ways Z Pause n l v k = λ m e. (tt, sym (eqb-true m n e))
+started_ways Z (Emit x) n l v k = λ m e. absurd (false≢true e)
+started_ways Z (Exit x) n l v k = λ m e. absurd (false≢true e)
+started_ways Z (Present c p q) n l v k =
+    cond_ways (truth c v) _ _ (Present c p q) n
+    (λ m e. by_first p q n m (started_ways Z p (n + 1) l v k.0 m e)) (λ m e. by_second p q n m (started_ways Z q (n + 1 + statement_count p) l v k.1 m e))
+started_ways Z (Suspend c p) n l v k = started_ways Z p (n + 1) l v k
+started_ways Z (Seq p q) n l v k =
+    then_ways (started_walk Z p (n + 1) l v) (started_walk Z q (n + 1 + statement_count p) l v) (Seq p q) n
+    (λ m e. by_first p q n m (started_ways Z p (n + 1) l v k.0 m e)) (λ m e. by_second p q n m (started_ways Z q (n + 1 + statement_count p) l v k.1 m e))
+started_ways Z (Loop at p) n l v k = started_ways Z p (n + 1) l v k
+started_ways Z (Par p q) n l v k =
+    both_ways (started_walk Z p (n + 1) l v) (started_walk Z q (n + 1 + statement_count p) l v) (Par p q) n
+    (λ m e. by_first p q n m (started_ways Z p (n + 1) l v k.0 m e)) (λ m e. by_second p q n m (started_ways Z q (n + 1 + statement_count p) l v k.1 m e))
+started_ways Z (Trap p) n l v k = λ m e. started_ways Z p (n + 1) l v k m (and_parts _ _ e).1
+started_ways Z (Local x p) n l v k = started_ways Z p (n + 1) l (with_value v x (Z n l)) k
+started_ways Z (Awake c p) n l v k = absurd k
+
+ended_ways : (c : ℕ) (t : Term) (n : ℕ) → AllWays (ended c).kept t n
+ended_ways c t n m e = absurd (false≢true e)
+
+pauses_only : (S : ℕ → Bool) (t p : Term) (n : ℕ) → statement_count t ≡ 1 + statement_count p → ((m : ℕ) → IsWay t n m → IsWay p (n + 1) m) → Pauses S t n → Pauses S p (n + 1)
+pauses_only S t p n c f h = record { each = λ m e l u. f m (h.each m e (omega arith) (omega arith)) }
+
+pub resumed_ways : (Z : ℕ → Layer → Bool) (S : ℕ → Bool) (t : Term) (n : ℕ) (v : Values) → IsKernel t → Pauses S t n → AllWays (resumed_walk Z S t n v).kept t n
+resumed_ways Z S Nothing n v k h = ended_ways 0 Nothing n
+resumed_ways Z S Pause n v k h = ended_ways 0 Pause n
+resumed_ways Z S (Emit x) n v k h = ended_ways 0 (Emit x) n
+resumed_ways Z S (Exit x) n v k h = ended_ways 0 (Exit x) n
+resumed_ways Z S (Present c p q) n v k h =
+    cond_ways (holds S p (n + 1)) _ _ (Present c p q) n
+    (λ m e. by_first p q n m (resumed_ways Z S p (n + 1) v k.0 (pauses_first S p q n h.each) m e))
+    (λ m e. by_second p q n m (resumed_ways Z S q (n + 1 + statement_count p) v k.1 (pauses_second S p q n h.each) m e))
+resumed_ways Z S (Suspend c p) n v k h =
+    let hp = pauses_only S (Suspend c p) p n refl (λ m w. w) h in
+    cond_ways (truth c v) (record { signals = λ t. false; code = 1; kept = selected_in S p (n + 1) }) (resumed_walk Z S p (n + 1) v) (Suspend c p) n
+    (λ m e.
+    let a = and_parts (S m) _ e in
+    let b = and_parts _ _ a.1 in
+    hp.each m a.0 (leb-true (n + 1) m b.0) (ltb-true m (n + 1 + statement_count p) b.1))
+    (resumed_ways Z S p (n + 1) v k hp)
+resumed_ways Z S (Seq p q) n v k h =
+    let m2 = n + 1 + statement_count p in
+    cond_ways (holds S p (n + 1)) (then_walk (resumed_walk Z S p (n + 1) v) (started_walk Z q m2 (Started m2) v)) (resumed_walk Z S q m2 v) (Seq p q) n
+    (then_ways (resumed_walk Z S p (n + 1) v) (started_walk Z q m2 (Started m2) v) (Seq p q) n
+    (λ m e. by_first p q n m (resumed_ways Z S p (n + 1) v k.0 (pauses_first S p q n h.each) m e))
+    (λ m e. by_second p q n m (started_ways Z q m2 (Started m2) v k.1 m e)))
+    (λ m e. by_second p q n m (resumed_ways Z S q m2 v k.1 (pauses_second S p q n h.each) m e))
+resumed_ways Z S (Loop at p) n v k h =
+    then_ways (resumed_walk Z S p (n + 1) v) (started_walk Z p (n + 1) (Started (n + 1)) v) (Loop at p) n
+    (resumed_ways Z S p (n + 1) v k (pauses_only S (Loop at p) p n refl (λ m w. w) h)) (started_ways Z p (n + 1) (Started (n + 1)) v k)
+resumed_ways Z S (Par p q) n v k h =
+    let m2 = n + 1 + statement_count p in
+    both_ways (cond (holds S p (n + 1)) (resumed_walk Z S p (n + 1) v) (ended 0)) (cond (holds S q m2) (resumed_walk Z S q m2 v) (ended 0)) (Par p q) n
+    (cond_ways (holds S p (n + 1)) (resumed_walk Z S p (n + 1) v) (ended 0) (Par p q) n (λ m e. by_first p q n m (resumed_ways Z S p (n + 1) v k.0 (pauses_first S p q n h.each) m e)) (ended_ways 0 (Par p q) n))
+    (cond_ways (holds S q m2) (resumed_walk Z S q m2 v) (ended 0) (Par p q) n (λ m e. by_second p q n m (resumed_ways Z S q m2 v k.1 (pauses_second S p q n h.each) m e)) (ended_ways 0 (Par p q) n))
+resumed_ways Z S (Trap p) n v k h = λ m e. resumed_ways Z S p (n + 1) v k (pauses_only S (Trap p) p n refl (λ i w. w) h) m (and_parts _ _ e).1
+resumed_ways Z S (Local x p) n v k h = resumed_ways Z S p (n + 1) (with_value v x (Z n Resumed)) k (pauses_only S (Local x p) p n refl (λ i w. w) h)
+resumed_ways Z S (Awake c p) n v k h = absurd k
+
+-- a leaf is the pause at the end of a way
+abbrev pub among : ℕ → List ℕ → Bool
+among m ms = list_any (λ x. m == x) ms
+
+leaves_if : (b : Bool) (m : ℕ) (xs : List ℕ) → among m (cond b xs []) ≡ true → among m xs ≡ true
+leaves_if true m xs e = e
+leaves_if false m xs e = absurd (false≢true e)
+
+among_cases : (m : ℕ) (xs ys : List ℕ) → among m (xs ++ ys) ≡ true → (among m xs ≡ true) ⊎ (among m ys ≡ true)
+among_cases m xs ys e = or_cases (among m xs) (among m ys) (sym (list_any-append (λ x. m == x) xs ys) ∙ e)
+
+pub leaf_way : (b : Bool) (t : Term) (n m : ℕ) → among m (leaf_paths b t n) ≡ true → IsWay t n m
+leaf_way b Nothing n m e = absurd (false≢true e)
+leaf_way b Pause n m e =
+    ⊎_elim (λ i. (tt, sym (eqb-true m n i))) (λ i. absurd (false≢true i)) (or_cases (m == n) false (leaves_if b m (n ∷ []) e))
+leaf_way b (Emit x) n m e = absurd (false≢true e)
+leaf_way b (Exit x) n m e = absurd (false≢true e)
+leaf_way b (Present c p q) n m e =
+    ⊎_elim (λ i. by_first p q n m (leaf_way (resumes p) p (n + 1) m i)) (λ i. by_second p q n m (leaf_way (resumes q) q (n + 1 + statement_count p) m i))
+    (among_cases m (leaf_paths (resumes p) p (n + 1)) _ (leaves_if b m _ e))
+leaf_way b (Suspend c p) n m e = leaf_way (resumes p) p (n + 1) m (leaves_if b m _ e)
+leaf_way b (Seq p q) n m e =
+    ⊎_elim (λ i. by_first p q n m (leaf_way (resumes p) p (n + 1) m i)) (λ i. by_second p q n m (leaf_way (second_resumes p q) q (n + 1 + statement_count p) m i))
+    (among_cases m (leaf_paths (resumes p) p (n + 1)) _ (leaves_if b m _ e))
+leaf_way b (Loop at p) n m e = leaf_way (resumes p) p (n + 1) m (leaves_if b m _ e)
+leaf_way b (Par p q) n m e =
+    ⊎_elim (λ i. by_first p q n m (leaf_way (resumes p) p (n + 1) m i)) (λ i. by_second p q n m (leaf_way (resumes q) q (n + 1 + statement_count p) m i))
+    (among_cases m (leaf_paths (resumes p) p (n + 1)) _ (leaves_if b m _ e))
+leaf_way b (Trap p) n m e = leaf_way (resumes p) p (n + 1) m (leaves_if b m _ e)
+leaf_way b (Local x p) n m e = leaf_way (resumes p) p (n + 1) m (leaves_if b m _ e)
+leaf_way b (Awake c p) n m e = absurd (false≢true e)
+
+among_first : (m : ℕ) (xs ys : List ℕ) → among m xs ≡ true → among m (xs ++ ys) ≡ true
+among_first m xs ys e = list_any-append (λ x. m == x) xs ys ∙ or_left _ _ e
+
+among_second : (m : ℕ) (xs ys : List ℕ) → among m ys ≡ true → among m (xs ++ ys) ≡ true
+among_second m xs ys e = list_any-append (λ x. m == x) xs ys ∙ or_right (among m xs) _ e
+
+live_leaf : (b : Bool) (t : Term) (n m : ℕ) → b ≡ true → among m (leaf_paths true t n) ≡ true → among m (leaf_paths b t n) ≡ true
+live_leaf b t n m e h = subst (λ c. among m (leaf_paths c t n) ≡ true) (sym e) h
+
+-- a selected pause of a well-formed selection is a leaf
+pub way_leaf : (S : ℕ → Bool) (t : Term) (n : ℕ) (h : Way t) → NoInstantLoop t → IsKernel t → IsSelected S t n → S (goal t n h) ≡ true → among (goal t n h) (leaf_paths true t n) ≡ true
+way_leaf S Nothing n h nl k i e = absurd h
+way_leaf S Pause n h nl k i e = or_left _ _ (eq-eqb n n refl)
+way_leaf S (Emit x) n h nl k i e = absurd h
+way_leaf S (Exit x) n h nl k i e = absurd h
+way_leaf S (Present c p q) n (inl x) nl k i e =
+    let np = no_loops-left (instant_loops p) (instant_loops q) nl in
+    let y = way_held S p (n + 1) x e in
+    among_first _ (leaf_paths (resumes p) p (n + 1)) _ (live_leaf (resumes p) p (n + 1) _ (resumed_live S p (n + 1) np k.0 y (i.1 y)) (way_leaf S p (n + 1) x np k.0 (i.1 y) e))
+way_leaf S (Present c p q) n (inr x) nl k i e =
+    let m = n + 1 + statement_count p in
+    let nq = no_loops-right (instant_loops p) (instant_loops q) nl in
+    let y = way_held S q m x e in
+    among_second _ (leaf_paths (resumes p) p (n + 1)) _ (live_leaf (resumes q) q m _ (resumed_live S q m nq k.1 y (i.2 y)) (way_leaf S q m x nq k.1 (i.2 y) e))
+way_leaf S (Suspend c p) n h nl k i e =
+    let y = way_held S p (n + 1) h e in live_leaf (resumes p) p (n + 1) _ (resumed_live S p (n + 1) nl k y i) (way_leaf S p (n + 1) h nl k i e)
+way_leaf S (Seq p q) n (inl x) nl k i e =
+    let np = no_loops-left (instant_loops p) (instant_loops q) nl in
+    let y = way_held S p (n + 1) x e in
+    among_first _ (leaf_paths (resumes p) p (n + 1)) _ (live_leaf (resumes p) p (n + 1) _ (resumed_live S p (n + 1) np k.0 y (i.1 y)) (way_leaf S p (n + 1) x np k.0 (i.1 y) e))
+way_leaf S (Seq p q) n (inr x) nl k i e =
+    let m = n + 1 + statement_count p in
+    let nq = no_loops-right (instant_loops p) (instant_loops q) nl in
+    let y = way_held S q m x e in
+    let j = i.2 y in
+    among_second _ (leaf_paths (resumes p) p (n + 1)) _ (live_leaf (second_resumes p q) q m _ (and_true j.0 (resumed_live S q m nq k.1 y j.1)) (way_leaf S q m x nq k.1 j.1 e))
+way_leaf S (Loop at p) n h nl k i e =
+    let np = (loop_body at p nl).1 in
+    let y = way_held S p (n + 1) h e in live_leaf (resumes p) p (n + 1) _ (resumed_live S p (n + 1) np k y i) (way_leaf S p (n + 1) h np k i e)
+way_leaf S (Par p q) n (inl x) nl k i e =
+    let np = no_loops-left (instant_loops p) (instant_loops q) nl in
+    let y = way_held S p (n + 1) x e in
+    among_first _ (leaf_paths (resumes p) p (n + 1)) _ (live_leaf (resumes p) p (n + 1) _ (resumed_live S p (n + 1) np k.0 y (i.2 y)) (way_leaf S p (n + 1) x np k.0 (i.2 y) e))
+way_leaf S (Par p q) n (inr x) nl k i e =
+    let m = n + 1 + statement_count p in
+    let nq = no_loops-right (instant_loops p) (instant_loops q) nl in
+    let y = way_held S q m x e in
+    among_second _ (leaf_paths (resumes p) p (n + 1)) _ (live_leaf (resumes q) q m _ (resumed_live S q m nq k.1 y (i.3 y)) (way_leaf S q m x nq k.1 (i.3 y) e))
+way_leaf S (Trap p) n h nl k i e =
+    let y = way_held S p (n + 1) h e in live_leaf (resumes p) p (n + 1) _ (resumed_live S p (n + 1) nl k y i) (way_leaf S p (n + 1) h nl k i e)
+way_leaf S (Local x p) n h nl k i e =
+    let y = way_held S p (n + 1) h e in live_leaf (resumes p) p (n + 1) _ (resumed_live S p (n + 1) nl k y i) (way_leaf S p (n + 1) h nl k i e)
+way_leaf S (Awake c p) n h nl k i e = absurd h
