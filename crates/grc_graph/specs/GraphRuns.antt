@@ -1,13 +1,14 @@
 -- To believe: what a graph does from instant to instant. This speaks of the equations and next formulas alone, and
 -- asks nothing of how they were made.
-use Rattle.std.specs.Prelude.{◌≡◌, ℕ, Bool, false, ◌||◌, List, [], ◌∷◌, map, All, Contains, ⊤}
+use Rattle.std.specs.Prelude.{◌≡◌, ℕ, Bool, false, ◌||◌, List, [], ◌∷◌, map, All, ⊤}
+use Rattle.std.specs.List.{list_any}
 use Rattle.est_base.specs.Items.{Item, Event, Reset}
 use Rattle.est_kernel.specs.Terms.{Term}
 use Rattle.est_kernel.specs.Plain.{Program, Interface, interface_of, interface_count, given_count}
 use Rattle.est_kernel.specs.Reactions.{is_given}
 use Rattle.grc_graph.specs.Layers.{Resumed, Started, body_layers}
 use Rattle.grc_graph.specs.Scopes.{Scope, program_scope}
-use Rattle.grc_graph.specs.Wires.{Wire, Out, End}
+use Rattle.grc_graph.specs.Wires.{Wire, Out, End, same_wire}
 use Rattle.grc_graph.specs.Formulas.{Formula, meaning}
 use Rattle.grc_graph.specs.Spots.{Spot, body_spots}
 use Rattle.grc_graph.specs.Equations.{Equation, equations, next_formula}
@@ -47,7 +48,7 @@ formula_value g q event V a = meaning (boolean_reading g.scope g.body q (is_give
 -- A valuation solves the graph: each equation is met, and what is no wire is false.
 pub record Solves (g : PlainGraph) (q : State) (event : List Bool) (V : Valuation) : Type 0 where
   pub met : All (λ e. V e.wire ≡ formula_value g q event V e.formula) g.equations
-  pub others : (w : Wire) → (Contains (map (λ e. e.wire) g.equations) w → ⊥) → V w ≡ false
+  pub others : (w : Wire) → list_any (λ e. same_wire w e.wire) g.equations ≡ false → V w ≡ false
 
 -- the state of the next instant: the leaves whose next formula is true
 abbrev pub next_state : PlainGraph → State → List Bool → Valuation → State

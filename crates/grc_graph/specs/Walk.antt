@@ -5,7 +5,7 @@ use Rattle.est_kernel.specs.Terms.{Expression, Tick, Sig, Not, And, Or, Term, No
 use Rattle.est_kernel.specs.Preorder.{statement_count}
 use Rattle.est_kernel.specs.Steps.{trap_code}
 use Rattle.grc_graph.specs.Layers.{Layer, Resumed, Started}
-use Rattle.grc_graph.specs.Residuals.{holds}
+use Rattle.grc_graph.specs.Residuals.{holds, resumption}
 
 -- what a walk of a statement gives: the emitted signals that its outside sees, its completion code, and the pauses
 -- that stay or become selected
@@ -120,6 +120,11 @@ pub data State : Type 0 where
 abbrev pub state_holds : State → Term → ℕ → Bool
 state_holds Initial t n = false
 state_holds (Selecting S) t n = holds S t n
+
+-- what is left of a body in a state: before the first instant the whole
+abbrev pub remaining : State → Term → Term
+remaining Initial body = body
+remaining (Selecting S) body = resumption S body
 
 abbrev pub is_initial : State → Bool
 is_initial Initial = true

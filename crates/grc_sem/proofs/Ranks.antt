@@ -119,7 +119,7 @@ ranks_root R N B m r a k =
 pub above_more : (B : Scope) (n m : ℕ) → n ≤ m → Above B n → Above B m
 above_more B n m l a = record { each = λ s b e. let i = a.each s b e in omega arith }
 
-bound_above : (d : Bool) (n b : ℕ) (x : Binding) → (x ≡ BoundAt b → b < n) → cond d (BoundAt n) x ≡ BoundAt b → b < n + 1
+pub bound_above : (d : Bool) (n b : ℕ) (x : Binding) → (x ≡ BoundAt b → b < n) → cond d (BoundAt n) x ≡ BoundAt b → b < n + 1
 bound_above true n b x h e = let f : n ≡ b = cc in omega arith
 bound_above false n b x h e = let i = h e in omega arith
 

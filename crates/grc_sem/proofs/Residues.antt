@@ -46,7 +46,7 @@ SomeCode A = (k : ℕ) × (k ≤ 63) × (A k ≡ true)
 pub some_has : (A : ℕ → Bool) → SomeCode A → has_code A ≡ true
 some_has A s = upto-in A s.0 63 s.2 s.1
 
-trap_code-le : (k : ℕ) → trap_code k ≤ k
+pub trap_code-le : (k : ℕ) → trap_code k ≤ k
 trap_code-le zero = omega arith
 trap_code-le (suc zero) = omega arith
 trap_code-le (suc (suc zero)) = omega arith
