@@ -30,8 +30,8 @@ pub stands_right : {A : Type 0} (xs : List A) (n m : ℕ) (ys zs : List A) → n
 stands_right xs n m ys zs e h = record {
   within = omega (arith, h.within, length-append ys zs);
   same = λ k d l.
-    ap (λ i. get_or xs i d) (let f : m + k ≡ n + (length ys + k) = omega arith in f)
-    ∙ h.same (length ys + k) d (omega (arith, length-append ys zs)) ∙ get_or-append-add ys zs k d;
+      ap (λ i. get_or xs i d) (let f : m + k ≡ n + (length ys + k) = omega arith in f)
+      ∙ h.same (length ys + k) d (omega (arith, length-append ys zs)) ∙ get_or-append-add ys zs k d;
 }
 
 pub stands_tail : {A : Type 0} (xs : List A) (n : ℕ) (y : A) (ys : List A) → StandsAt xs n (y ∷ ys) → StandsAt xs (n + 1) ys
@@ -71,13 +71,14 @@ two_parts c t p q n e h =
     let s = subst (λ l. StandsAt (map members c.started.items) n (map started_codes l)) e h.started in
     let r = subst (λ l. StandsAt (map members c.resumed.items) n (map resumed_codes l)) e h.resumed in
     let ss = subst (λ l. StandsAt (map members c.started.items) (n + 1) l) (map-append started_codes (preorder p) (preorder q)) (stands_tail _ n _ _ s) in
-    let rr = subst (λ l. StandsAt (map members c.resumed.items) (n + 1) l) (map-append resumed_codes (preorder p) (preorder q)) (stands_tail _ n _ _ r) in
-    ( codes_here c t n (preorder p ++ preorder q) s r
-    , record { started = stands_left _ _ _ _ ss; resumed = stands_left _ _ _ _ rr }
-    , record {
-      started = stands_right _ (n + 1) _ _ _ (counts started_codes p n) ss;
-      resumed = stands_right _ (n + 1) _ _ _ (counts resumed_codes p n) rr;
-    })
+    let rr = subst (λ l. StandsAt (map members c.resumed.items) (n + 1) l) (map-append resumed_codes (preorder p) (preorder q)) (stands_tail _ n _ _ r) in (
+      codes_here c t n (preorder p ++ preorder q) s r,
+      record { started = stands_left _ _ _ _ ss; resumed = stands_left _ _ _ _ rr },
+      record {
+        started = stands_right _ (n + 1) _ _ _ (counts started_codes p n) ss;
+        resumed = stands_right _ (n + 1) _ _ _ (counts resumed_codes p n) rr;
+      },
+    )
 
 codes_from : (c : Codes) (t : Term) (n : ℕ) → Lists c t n → CodesFrom c t n
 codes_from c Nothing n h = codes_here c Nothing n [] h.started h.resumed

@@ -25,9 +25,10 @@ record RootsFit (n : ℕ) (roots : List ℕ) : Type 0 where
 rises_append : (xs ys : List ℕ) (n : ℕ) → Rises xs → Rises ys → All (λ r. r ≤ n) xs → All (λ r. n < r) ys → Rises (xs ++ ys)
 rises_append [] ys n h g w v = g
 rises_append (x ∷ xs) ys n h g w v =
-    let at : x ≤ n = All-head (λ r. r ≤ n) x xs w in
-    ( All-append (λ y. x < y) xs ys h.0 (All-weaker (λ r. n < r) (λ y. x < y) (λ y l. omega (arith, at, l)) ys v)
-    , rises_append xs ys n h.1 g (All-tail (λ r. r ≤ n) x xs w) v)
+    let at : x ≤ n = All-head (λ r. r ≤ n) x xs w in (
+      All-append (λ y. x < y) xs ys h.0 (All-weaker (λ r. n < r) (λ y. x < y) (λ y l. omega (arith, at, l)) ys v),
+      rises_append xs ys n h.1 g (All-tail (λ r. r ≤ n) x xs w) v,
+    )
 
 rises_if : (b : Bool) (m : ℕ) → Rises (root_if b m)
 rises_if true m = (All-nil (λ y. m < y), tt)
@@ -41,7 +42,7 @@ more_roots : (n m : ℕ) (b : Bool) (roots : List ℕ) → n < m → RootsFit n 
 more_roots n m b roots l h = record {
   rises = rises_append roots (root_if b m) n h.rises (rises_if b m) h.within (within_if b m (λ r. n < r) l);
   within = All-append (λ r. r ≤ m) roots (root_if b m)
-    (All-weaker (λ r. r ≤ n) (λ r. r ≤ m) (λ r e. omega arith) roots h.within) (within_if b m (λ r. r ≤ m) (omega arith));
+      (All-weaker (λ r. r ≤ n) (λ r. r ≤ m) (λ r e. omega arith) roots h.within) (within_if b m (λ r. r ≤ m) (omega arith));
 }
 
 fewer_roots : (n : ℕ) (b : Bool) (roots : List ℕ) → RootsFit n roots → RootsFit n (if b then roots else [])
@@ -67,10 +68,11 @@ at_layer n l = record { path = n; layer = l }
 
 starts_ascend : (n : ℕ) (roots : List ℕ) → Rises roots → Ascends (map (λ r. at_layer n (Started r)) roots)
 starts_ascend n [] h = tt
-starts_ascend n (r ∷ rs) h =
-    ( All-map (Before (at_layer n (Started r))) (λ r. at_layer n (Started r)) rs
-        (All-weaker (λ y. r < y) (λ y. Before (at_layer n (Started r)) (at_layer n (Started y))) (λ y l. inr (refl, l)) rs h.0)
-    , starts_ascend n rs h.1)
+starts_ascend n (r ∷ rs) h = (
+  All-map (Before (at_layer n (Started r))) (λ r. at_layer n (Started r)) rs
+      (All-weaker (λ y. r < y) (λ y. Before (at_layer n (Started r)) (at_layer n (Started y))) (λ y l. inr (refl, l)) rs h.0),
+  starts_ascend n rs h.1,
+)
 
 resumed_first : (n : ℕ) (roots : List ℕ) → All (Before (at_layer n Resumed)) (map (λ r. at_layer n (Started r)) roots)
 resumed_first n roots =
@@ -115,7 +117,7 @@ instances_among a (Suspend e p) n = both_among n _ _ _ (here_among a n _ (omega 
 instances_among a (Seq p q) n = both_among n _ _ _ (here_among a n _ (omega arith)) (both_among n _ _ _
     (wider (n + 1) (n + 1 + statement_count p) n _ _ (omega arith) (omega arith) (instances_among (part_liveness a p) p (n + 1)))
     (wider (n + 1 + statement_count p) (n + 1 + statement_count p + statement_count q) n _ _ (omega arith) (omega arith)
-      (instances_among (second_liveness a p q (n + 1 + statement_count p)) q (n + 1 + statement_count p))))
+    (instances_among (second_liveness a p q (n + 1 + statement_count p)) q (n + 1 + statement_count p))))
 instances_among a (Loop at p) n = both_among n _ _ _ (here_among a n _ (omega arith))
     (wider (n + 1) (n + 1 + statement_count p) n _ _ (omega arith) (omega arith) (instances_among (loop_liveness a p (n + 1)) p (n + 1)))
 instances_among a (Par p q) n = both_among n _ _ _ (here_among a n _ (omega arith)) (both_among n _ _ _
@@ -149,8 +151,8 @@ two_ascend a b c p q n h g k =
     (ascends_apart (n + 1) (n + 1 + statement_count p) _ _ _ g k (instances_among b p (n + 1)) (instances_among c q (n + 1 + statement_count p)))
     (here_among a n (n + 1) (omega arith))
     (both_among (n + 1) (n + 1 + statement_count p + statement_count q) _ _
-      (wider (n + 1) (n + 1 + statement_count p) (n + 1) _ _ (omega arith) (omega arith) (instances_among b p (n + 1)))
-      (wider (n + 1 + statement_count p) (n + 1 + statement_count p + statement_count q) (n + 1) _ _ (omega arith) (omega arith) (instances_among c q (n + 1 + statement_count p))))
+    (wider (n + 1) (n + 1 + statement_count p) (n + 1) _ _ (omega arith) (omega arith) (instances_among b p (n + 1)))
+    (wider (n + 1 + statement_count p) (n + 1 + statement_count p + statement_count q) (n + 1) _ _ (omega arith) (omega arith) (instances_among c q (n + 1 + statement_count p))))
 
 ascending : (a : Liveness) (t : Term) (n : ℕ) → RootsFit n a.roots → Ascends (instances a t n)
 ascending a Nothing n h = here_ascends a n h.rises
@@ -237,7 +239,7 @@ up_of : (a b : Liveness) (n : ℕ) → RootsFit n a.roots
     → Upwards a n b
 up_of a b n fit f g = record {
   up = λ l h. cases_of (λ l. Contains (layers_of a) (layer_above n l)) b l h (λ e. resumed_in a (f e))
-    (λ r k. ⊎_elim
+      (λ r k. ⊎_elim
       (λ u. subst (λ x. Contains (layers_of a) x) (sym (above_within n r (All-contains (λ r. r ≤ n) a.roots r fit.within u))) (started_in a r u))
       (λ u. subst (λ x. Contains (layers_of a) x) (sym (above_behind n r u.0)) (resumed_in a u.1))
       (g r k));
@@ -260,15 +262,15 @@ second_up : (a : Liveness) (p q : Term) (n m : ℕ) → n < m → RootsFit n a.r
 second_up a p q n m lt fit =
     up_of a (second_liveness a p q m) n fit (λ e. (and_parts a.resumed _ e).0)
     (λ r k. ⊎_elim (λ u. inl (of_fewer (started_codes p 0) a.roots r u))
-      (λ u. let o = own_root (a.resumed && resumed_codes p 0) m r u in inr (omega (arith, o.1, lt), (and_parts a.resumed _ o.0).0))
-      (Contains-append_cases (if started_codes p 0 then a.roots else []) (root_if (a.resumed && resumed_codes p 0) m) r k))
+    (λ u. let o = own_root (a.resumed && resumed_codes p 0) m r u in inr (omega (arith, o.1, lt), (and_parts a.resumed _ o.0).0))
+    (Contains-append_cases (if started_codes p 0 then a.roots else []) (root_if (a.resumed && resumed_codes p 0) m) r k))
 
 loop_up : (a : Liveness) (p : Term) (n m : ℕ) → n < m → RootsFit n a.roots → Upwards a n (loop_liveness a p m)
 loop_up a p n m lt fit =
     up_of a (loop_liveness a p m) n fit (λ e. (and_parts a.resumed _ e).0)
     (λ r k. ⊎_elim (λ u. inl u)
-      (λ u. let o = own_root (a.resumed && resumed_codes p 0) m r u in inr (omega (arith, o.1, lt), (and_parts a.resumed _ o.0).0))
-      (Contains-append_cases a.roots (root_if (a.resumed && resumed_codes p 0) m) r k))
+    (λ u. let o = own_root (a.resumed && resumed_codes p 0) m r u in inr (omega (arith, o.1, lt), (and_parts a.resumed _ o.0).0))
+    (Contains-append_cases a.roots (root_if (a.resumed && resumed_codes p 0) m) r k))
 
 -- what is true of an instance of a statement at n: from there it is one of its layers, and the instances around it are
 -- live
@@ -342,32 +344,32 @@ one_around a b p n m l fit u f h =
     let left = λ (x : Instance) (k : Contains (instances_at a n) x). Contains-append_left (instances_at a n) (instances b p (n + 1)) x k in
     ⊎_elim (λ k. own_around a n m l _ _ fit left k)
     (λ k. part_around a b n (n + 1) m l _ _ _ _ (omega arith) left
-      (λ x k. Contains-append_right (instances_at a n) (instances b p (n + 1)) x k) u
-      (past m n _ (omega (arith, (path_among (n + 1) _ m l _ (instances_among b p (n + 1)) k).0))) (f k))
+    (λ x k. Contains-append_right (instances_at a n) (instances b p (n + 1)) x k) u
+    (past m n _ (omega (arith, (path_among (n + 1) _ m l _ (instances_among b p (n + 1)) k).0))) (f k))
     (Contains-append_cases (instances_at a n) (instances b p (n + 1)) (at_layer m l) h)
 
 two_around : (a b c : Liveness) (p q : Term) (n m : ℕ) (l : Layer) → RootsFit n a.roots → Upwards a n b → Upwards a n c
     → (Contains (instances b p (n + 1)) (at_layer m l) → Around b (n + 1) m l (instances b p (n + 1)) (enclosing p (n + 1) m))
     → (Contains (instances c q (n + 1 + statement_count p)) (at_layer m l)
-      → Around c (n + 1 + statement_count p) m l (instances c q (n + 1 + statement_count p)) (enclosing q (n + 1 + statement_count p) m))
+    → Around c (n + 1 + statement_count p) m l (instances c q (n + 1 + statement_count p)) (enclosing q (n + 1 + statement_count p) m))
     → Contains (instances_at a n ++ (instances b p (n + 1) ++ instances c q (n + 1 + statement_count p))) (at_layer m l)
     → Around a n m l (instances_at a n ++ (instances b p (n + 1) ++ instances c q (n + 1 + statement_count p)))
-      (n ∷ (if m == n then [] else if nat_lt m (n + 1 + statement_count p) then enclosing p (n + 1) m else enclosing q (n + 1 + statement_count p) m))
+    (n ∷ (if m == n then [] else if nat_lt m (n + 1 + statement_count p) then enclosing p (n + 1) m else enclosing q (n + 1 + statement_count p) m))
 two_around a b c p q n m l fit u v f g h =
     let P = instances b p (n + 1) in
     let Q = instances c q (n + 1 + statement_count p) in
     let left = λ (x : Instance) (k : Contains (instances_at a n) x). Contains-append_left (instances_at a n) (P ++ Q) x k in
     ⊎_elim (λ k. own_around a n m l _ _ fit left k)
     (λ k. ⊎_elim
-      (λ j. let range = path_among (n + 1) _ m l _ (instances_among b p (n + 1)) j in
-        part_around a b n (n + 1) m l P _ _ _ (omega arith) left
-        (λ x i. Contains-append_right (instances_at a n) (P ++ Q) x (Contains-append_left P Q x i)) u
-        (past m n _ (omega (arith, range.0)) ∙ before_second m (n + 1 + statement_count p) _ _ (omega (arith, range.1))) (f j))
-      (λ j. let range = path_among (n + 1 + statement_count p) _ m l _ (instances_among c q (n + 1 + statement_count p)) j in
-        part_around a c n (n + 1 + statement_count p) m l Q _ _ _ (omega arith) left
-        (λ x i. Contains-append_right (instances_at a n) (P ++ Q) x (Contains-append_right P Q x i)) v
-        (past m n _ (omega (arith, range.0)) ∙ from_second m (n + 1 + statement_count p) _ _ range.0) (g j))
-      (Contains-append_cases P Q (at_layer m l) k))
+    (λ j. let range = path_among (n + 1) _ m l _ (instances_among b p (n + 1)) j in
+    part_around a b n (n + 1) m l P _ _ _ (omega arith) left
+    (λ x i. Contains-append_right (instances_at a n) (P ++ Q) x (Contains-append_left P Q x i)) u
+    (past m n _ (omega (arith, range.0)) ∙ before_second m (n + 1 + statement_count p) _ _ (omega (arith, range.1))) (f j))
+    (λ j. let range = path_among (n + 1 + statement_count p) _ m l _ (instances_among c q (n + 1 + statement_count p)) j in
+    part_around a c n (n + 1 + statement_count p) m l Q _ _ _ (omega arith) left
+    (λ x i. Contains-append_right (instances_at a n) (P ++ Q) x (Contains-append_right P Q x i)) v
+    (past m n _ (omega (arith, range.0)) ∙ from_second m (n + 1 + statement_count p) _ _ range.0) (g j))
+    (Contains-append_cases P Q (at_layer m l) k))
     (Contains-append_cases (instances_at a n) (P ++ Q) (at_layer m l) h)
 
 leaf_around : (a : Liveness) (n m : ℕ) (l : Layer) → RootsFit n a.roots → Contains (instances_at a n) (at_layer m l) → Around a n m l (instances_at a n) (n ∷ [])

@@ -108,7 +108,7 @@ residual_codes S (Present e p q) n o w h =
     chosen_residual (λ r. IsSubset (started_codes r) (either (resumed_codes p) (resumed_codes q))) (holds S p (n + 1)) (residual S p (n + 1)) (residual S q m)
     (λ g k u. or_left _ _ (residual_codes S p (n + 1) (subst (λ b. OnlyLive S b p (n + 1)) (holds_live S (resumes p) p (n + 1) o.0 g) o.0) parts.0 g k u))
     (λ g k u. let g' = other_holds (holds S p (n + 1)) (holds S q m) h g in
-      or_right _ _ (residual_codes S q m (subst (λ b. OnlyLive S b q m) (holds_live S (resumes q) q m o.1 g') o.1) parts.1 g' k u))
+    or_right _ _ (residual_codes S q m (subst (λ b. OnlyLive S b q m) (holds_live S (resumes q) q m o.1 g') o.1) parts.1 g' k u))
 residual_codes S (Suspend e p) n o w h = λ k u.
     let live = holds_live S (resumes p) p (n + 1) o h in
     ⊎_elim
@@ -120,15 +120,15 @@ residual_codes S (Seq p q) n o w h =
     let parts = and_parts (well_formed S p (n + 1)) (well_formed S q m) (and_parts (at_most_one (holds S p (n + 1)) (holds S q m)) _ w).1 in
     chosen_residual (λ r. IsSubset (started_codes r) (resumed_codes (Seq p q))) (holds S p (n + 1)) (Seq (residual S p (n + 1)) q) (residual S q m)
     (λ g k u.
-      let inner = residual_codes S p (n + 1) (subst (λ b. OnlyLive S b p (n + 1)) (holds_live S (resumes p) p (n + 1) o.0 g) o.0) parts.0 g in
-      ⊎_elim (λ v. or_left _ _ v) (λ v. or_right _ _ (or_left _ _ v))
-      (or_cases (except 0 (resumed_codes p) k) (codes_if (resumed_codes p 0) (started_codes q) k)
-        (sequence_subset (started_codes (residual S p (n + 1))) (resumed_codes p) (started_codes q) inner k u)))
+    let inner = residual_codes S p (n + 1) (subst (λ b. OnlyLive S b p (n + 1)) (holds_live S (resumes p) p (n + 1) o.0 g) o.0) parts.0 g in
+    ⊎_elim (λ v. or_left _ _ v) (λ v. or_right _ _ (or_left _ _ v))
+    (or_cases (except 0 (resumed_codes p) k) (codes_if (resumed_codes p 0) (started_codes q) k)
+    (sequence_subset (started_codes (residual S p (n + 1))) (resumed_codes p) (started_codes q) inner k u)))
     (λ g k u.
-      let g' = other_holds (holds S p (n + 1)) (holds S q m) h g in
-      let live = holds_live S (second_resumes p q) q m o.1 g' in
-      or_right _ _ (or_right _ _ (subset_if (can_pass p) (resumed_codes q) k (and_parts (can_pass p) (resumes q) live).0
-        (residual_codes S q m (subst (λ b. OnlyLive S b q m) live o.1) parts.1 g' k u))))
+    let g' = other_holds (holds S p (n + 1)) (holds S q m) h g in
+    let live = holds_live S (second_resumes p q) q m o.1 g' in
+    or_right _ _ (or_right _ _ (subset_if (can_pass p) (resumed_codes q) k (and_parts (can_pass p) (resumes q) live).0
+    (residual_codes S q m (subst (λ b. OnlyLive S b q m) live o.1) parts.1 g' k u))))
 residual_codes S (Loop at p) n o w h = λ k u.
     let inner = residual_codes S p (n + 1) (subst (λ b. OnlyLive S b p (n + 1)) (holds_live S (resumes p) p (n + 1) o h) o) w h in
     sequence_subset (started_codes (residual S p (n + 1))) (resumed_codes p) (except 0 (started_codes p)) inner k u
@@ -138,16 +138,16 @@ residual_codes S (Par p q) n o w h = λ k u.
     let parts = and_parts (well_formed S p (n + 1)) (well_formed S q m) both.1 in
     let fit = branches_fit (holds S p (n + 1)) (can_pass p) (holds S q m) (can_pass q) both.0 h in
     let live : (has_code (resumed_codes p) || has_code (resumed_codes q)) ≡ true
-      = ⊎_elim (λ g. or_left _ _ (holds_live S (resumes p) p (n + 1) o.0 g)) (λ g. or_right _ _ (holds_live S (resumes q) q m o.1 g))
-        (or_cases (holds S p (n + 1)) (holds S q m) h) in
+    = ⊎_elim (λ g. or_left _ _ (holds_live S (resumes p) p (n + 1) o.0 g)) (λ g. or_right _ _ (holds_live S (resumes q) q m o.1 g))
+    (or_cases (holds S p (n + 1)) (holds S q m) h) in
     subset_if _ (maxima (branch_codes (started_codes p) (resumed_codes p)) (branch_codes (started_codes q) (resumed_codes q))) k live
     (maxima-subset (started_codes (left_if (holds S p (n + 1)) (residual S p (n + 1)))) (started_codes (left_if (holds S q m) (residual S q m)))
-      (branch_codes (started_codes p) (resumed_codes p)) (branch_codes (started_codes q) (resumed_codes q))
-      (branch_subset (holds S p (n + 1)) p (residual S p (n + 1))
-        (λ g. residual_codes S p (n + 1) (subst (λ b. OnlyLive S b p (n + 1)) (holds_live S (resumes p) p (n + 1) o.0 g) o.0) parts.0 g) fit.0)
-      (branch_subset (holds S q m) q (residual S q m)
-        (λ g. residual_codes S q m (subst (λ b. OnlyLive S b q m) (holds_live S (resumes q) q m o.1 g) o.1) parts.1 g) fit.1)
-      k u)
+    (branch_codes (started_codes p) (resumed_codes p)) (branch_codes (started_codes q) (resumed_codes q))
+    (branch_subset (holds S p (n + 1)) p (residual S p (n + 1))
+    (λ g. residual_codes S p (n + 1) (subst (λ b. OnlyLive S b p (n + 1)) (holds_live S (resumes p) p (n + 1) o.0 g) o.0) parts.0 g) fit.0)
+    (branch_subset (holds S q m) q (residual S q m)
+    (λ g. residual_codes S q m (subst (λ b. OnlyLive S b q m) (holds_live S (resumes q) q m o.1 g) o.1) parts.1 g) fit.1)
+    k u)
 residual_codes S (Trap p) n o w h =
     lowered-subset (started_codes (residual S p (n + 1))) (resumed_codes p)
     (residual_codes S p (n + 1) (subst (λ b. OnlyLive S b p (n + 1)) (holds_live S (resumes p) p (n + 1) o h) o) w h)
@@ -166,9 +166,9 @@ pause_live : (S : ℕ → Bool) (us : List ℕ) (b : Bool) (n k : ℕ) (pre post
 pause_live S us true n k pre post f h e = absurd (false≢true (sym e))
 pause_live S us false n k pre post f h e =
     not_true (S n) (λ s. ⊎_elim
-      (λ u. let l = All-contains (λ m. m < n) pre n h.below u in omega arith)
-      (λ u. let l = All-contains (λ m. n + 1 ≤ m) post n h.above u in omega arith)
-      (Contains-append_cases pre post n (subst (λ l. Contains l n) h.whole (f n s))))
+    (λ u. let l = All-contains (λ m. m < n) pre n h.below u in omega arith)
+    (λ u. let l = All-contains (λ m. n + 1 ≤ m) post n h.above u in omega arith)
+    (Contains-append_cases pre post n (subst (λ l. Contains l n) h.whole (f n s))))
 
 only_live : (S : ℕ → Bool) (us : List ℕ) (b : Bool) (t : Term) (n k : ℕ) (pre post : List ℕ)
     → ((m : ℕ) → S m ≡ true → Contains us m) → Placed us b t n k pre post → OnlyLive S b t n
@@ -176,22 +176,25 @@ only_live S us b Nothing n k pre post f h = tt
 only_live S us b Pause n k pre post f h = pause_live S us b n k pre post f h
 only_live S us b (Emit s) n k pre post f h = tt
 only_live S us b (Exit c) n k pre post f h = tt
-only_live S us b (Present e p q) n k pre post f h =
-    ( only_live S us (b && resumes p) p (n + 1) k _ _ f (first_placed us b (resumes p) (resumes q) (Present e p q) p q n k pre post refl refl h)
-    , only_live S us (b && resumes q) q (n + 1 + statement_count p) (k + length (leaf_paths (resumes p) p (n + 1))) _ _ f
-        (second_placed us b (resumes p) (resumes q) (Present e p q) p q n k pre post refl refl h))
+only_live S us b (Present e p q) n k pre post f h = (
+  only_live S us (b && resumes p) p (n + 1) k _ _ f (first_placed us b (resumes p) (resumes q) (Present e p q) p q n k pre post refl refl h),
+  only_live S us (b && resumes q) q (n + 1 + statement_count p) (k + length (leaf_paths (resumes p) p (n + 1))) _ _ f
+      (second_placed us b (resumes p) (resumes q) (Present e p q) p q n k pre post refl refl h),
+)
 only_live S us b (Suspend e p) n k pre post f h =
     only_live S us (b && resumes p) p (n + 1) k _ _ f (part_placed us b (resumes p) (Suspend e p) p n k pre post refl refl h)
-only_live S us b (Seq p q) n k pre post f h =
-    ( only_live S us (b && resumes p) p (n + 1) k _ _ f (first_placed us b (resumes p) (second_resumes p q) (Seq p q) p q n k pre post refl refl h)
-    , only_live S us (b && second_resumes p q) q (n + 1 + statement_count p) (k + length (leaf_paths (resumes p) p (n + 1))) _ _ f
-        (second_placed us b (resumes p) (second_resumes p q) (Seq p q) p q n k pre post refl refl h))
+only_live S us b (Seq p q) n k pre post f h = (
+  only_live S us (b && resumes p) p (n + 1) k _ _ f (first_placed us b (resumes p) (second_resumes p q) (Seq p q) p q n k pre post refl refl h),
+  only_live S us (b && second_resumes p q) q (n + 1 + statement_count p) (k + length (leaf_paths (resumes p) p (n + 1))) _ _ f
+      (second_placed us b (resumes p) (second_resumes p q) (Seq p q) p q n k pre post refl refl h),
+)
 only_live S us b (Loop at p) n k pre post f h =
     only_live S us (b && resumes p) p (n + 1) k _ _ f (part_placed us b (resumes p) (Loop at p) p n k pre post refl refl h)
-only_live S us b (Par p q) n k pre post f h =
-    ( only_live S us (b && resumes p) p (n + 1) k _ _ f (first_placed us b (resumes p) (resumes q) (Par p q) p q n k pre post refl refl h)
-    , only_live S us (b && resumes q) q (n + 1 + statement_count p) (k + length (leaf_paths (resumes p) p (n + 1))) _ _ f
-        (second_placed us b (resumes p) (resumes q) (Par p q) p q n k pre post refl refl h))
+only_live S us b (Par p q) n k pre post f h = (
+  only_live S us (b && resumes p) p (n + 1) k _ _ f (first_placed us b (resumes p) (resumes q) (Par p q) p q n k pre post refl refl h),
+  only_live S us (b && resumes q) q (n + 1 + statement_count p) (k + length (leaf_paths (resumes p) p (n + 1))) _ _ f
+      (second_placed us b (resumes p) (resumes q) (Par p q) p q n k pre post refl refl h),
+)
 only_live S us b (Trap p) n k pre post f h =
     only_live S us (b && resumes p) p (n + 1) k _ _ f (part_placed us b (resumes p) (Trap p) p n k pre post refl refl h)
 only_live S us b (Local s p) n k pre post f h =

@@ -78,7 +78,7 @@ one_found body a b t p n r o h np e i l f =
     let s = subst (λ l. StandsAt (preorder body) n l) o h in
     l ∙ sym (part_if a.resumed r p (n + 1)) ∙ ap (λ v. leaf_paths v p (n + 1)) (sym e) ∙ f (stands_tail (preorder body) n t (preorder p) s)
     ∙ ap (λ v. v ++ pauses body (instances b p (n + 1)))
-      (sym (here_found body a t n (stands_head (preorder body) n t Nothing (preorder p) s) ∙ nothing_if a.resumed (is_pause t) n np))
+    (sym (here_found body a t n (stands_head (preorder body) n t Nothing (preorder p) s) ∙ nothing_if a.resumed (is_pause t) n np))
     ∙ sym (pauses-append body (instances_at a n) (instances b p (n + 1))) ∙ ap (λ v. pauses body v) (sym i)
 
 two_found : (body : Term) (a b c : Liveness) (t p q : Term) (n : ℕ) (r s : Bool)
@@ -91,7 +91,7 @@ two_found : (body : Term) (a b c : Liveness) (t p q : Term) (n : ℕ) (r s : Boo
     → leaf_paths a.resumed t n ≡ (if a.resumed then leaf_paths r p (n + 1) ++ leaf_paths s q (n + 1 + statement_count p) else [])
     → (StandsAt (preorder body) (n + 1) (preorder p) → leaf_paths b.resumed p (n + 1) ≡ pauses body (instances b p (n + 1)))
     → (StandsAt (preorder body) (n + 1 + statement_count p) (preorder q)
-      → leaf_paths c.resumed q (n + 1 + statement_count p) ≡ pauses body (instances c q (n + 1 + statement_count p)))
+    → leaf_paths c.resumed q (n + 1 + statement_count p) ≡ pauses body (instances c q (n + 1 + statement_count p)))
     → leaf_paths a.resumed t n ≡ pauses body (instances a t n)
 two_found body a b c t p q n r s o h np e k i l f g =
     let m = n + 1 + statement_count p in
@@ -101,10 +101,10 @@ two_found body a b c t p q n r s o h np e k i l f g =
     let parts = stands_tail (preorder body) n t (preorder p ++ preorder q) w in
     l ∙ sym (parts_if a.resumed r s p q (n + 1) m) ∙ (λ j. leaf_paths (sym e j) p (n + 1) ++ leaf_paths (sym k j) q m)
     ∙ (λ j. f (stands_left (preorder body) (n + 1) (preorder p) (preorder q) parts) j
-      ++ g (stands_right (preorder body) (n + 1) m (preorder p) (preorder q) (ap (λ x. n + 1 + x) (length-preorder p)) parts) j)
+    ++ g (stands_right (preorder body) (n + 1) m (preorder p) (preorder q) (ap (λ x. n + 1 + x) (length-preorder p)) parts) j)
     ∙ sym (pauses-append body P Q)
     ∙ ap (λ v. v ++ pauses body (P ++ Q))
-      (sym (here_found body a t n (stands_head (preorder body) n t Nothing (preorder p ++ preorder q) w) ∙ nothing_if a.resumed (is_pause t) n np))
+    (sym (here_found body a t n (stands_head (preorder body) n t Nothing (preorder p ++ preorder q) w) ∙ nothing_if a.resumed (is_pause t) n np))
     ∙ sym (pauses-append body (instances_at a n) (P ++ Q)) ∙ ap (λ v. pauses body v) (sym i)
 
 leaf_found : (body : Term) (a : Liveness) (t : Term) (n : ℕ) → StandsAt (preorder body) n (t ∷ [])

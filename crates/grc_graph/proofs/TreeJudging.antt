@@ -69,12 +69,12 @@ pub record Row (bits : List Bool) (t : Term) (n i k : ℕ) : Type 0 where
   pub number : ℕ
   pub leaf : ℕ
   pub nodes_two : tree_nodes true t n i k ≡ record {
-      path = n;
-      after = i + 1 + length (tree_nodes live first (n + 1) (i + 1) k
+    path = n;
+    after = i + 1 + length (tree_nodes live first (n + 1) (i + 1) k
         ++ tree_nodes other second number (i + 1 + length (tree_nodes live first (n + 1) (i + 1) k)) leaf);
-      form = form;
-    } ∷ (tree_nodes live first (n + 1) (i + 1) k
-    ++ tree_nodes other second number (i + 1 + length (tree_nodes live first (n + 1) (i + 1) k)) leaf)
+    form = form;
+  } ∷ (tree_nodes live first (n + 1) (i + 1) k
+      ++ tree_nodes other second number (i + 1 + length (tree_nodes live first (n + 1) (i + 1) k)) leaf)
   pub judged : judgement bits true t n k
       ≡ combined bits form (judgement bits live first (n + 1) k) (judgement bits other second number leaf)
   pub later : n + 1 < number
@@ -112,9 +112,9 @@ count_some (Awake e p) = omega arith
 
 row_two : (bits : List Bool) (t p q : Term) (other : Bool) (f : Form) (n i k : ℕ)
     → tree_nodes true t n i k ≡ subtree_if true n i f (tree_nodes (resumes p) p (n + 1) (i + 1) k
-      ++ tree_nodes other q (n + 1 + statement_count p) (i + 1 + length (tree_nodes (resumes p) p (n + 1) (i + 1) k)) (k + length (leaf_paths (resumes p) p (n + 1))))
+    ++ tree_nodes other q (n + 1 + statement_count p) (i + 1 + length (tree_nodes (resumes p) p (n + 1) (i + 1) k)) (k + length (leaf_paths (resumes p) p (n + 1))))
     → judgement bits true t n k ≡ combined bits f (judgement bits (resumes p) p (n + 1) k)
-      (judgement bits other q (n + 1 + statement_count p) (k + length (leaf_paths (resumes p) p (n + 1))))
+    (judgement bits other q (n + 1 + statement_count p) (k + length (leaf_paths (resumes p) p (n + 1))))
     → Row bits t n i k
 row_two bits t p q other f n i k e j = record {
   form = f;
@@ -177,7 +177,7 @@ pub node_there : (nodes : List SelNode) (pre xs post : List TreeNode) (i j : ℕ
     → node_of (get_or nodes i d) ≡ get_or xs j (node_of d)
 node_there nodes pre xs post i j d e at within =
     let inside : i < length nodes
-      = omega (arith, length-map nodes node_of, ap length e, length-append pre (xs ++ post), length-append xs post) in
+    = omega (arith, length-map nodes node_of, ap length e, length-append pre (xs ++ post), length-append xs post) in
     sym (get_or-map node_of nodes i d (node_of d) inside)
     ∙ (λ k. get_or (e k) (at k) (node_of d))
     ∙ get_or-append-add pre (xs ++ post) j (node_of d)
@@ -194,36 +194,36 @@ middle_of : (nodes : List SelNode) (nest : SubtreesNest nodes) (i n m : ℕ) (d 
 middle_of nodes nest i n m d pre A B post f e at a b lt =
     let x : TreeNode = record { path = n; after = i + 1 + length (A ++ B); form = f } in
     let here : node_of (get_or nodes i d) ≡ x
-      = node_there nodes pre (x ∷ (A ++ B)) post i 0 d e (omega (arith, at)) (omega arith) in
+    = node_there nodes pre (x ∷ (A ++ B)) post i 0 d e (omega (arith, at)) (omega arith) in
     let end : end_of nodes i d ≡ i + 1 + length (A ++ B) = ap (λ y. y.after) here in
     let path : (get_or nodes i d).path.0 ≡ n = ap (λ y. y.path) here in
     let both : length (A ++ B) ≡ length A + length B = length-append A B in
     let test = nat_lt (i + 1) (end_of nodes i d) && (get_or nodes (i + 1) d).path.0 == (get_or nodes i d).path.0 + 1 in
     ⊎_elim
     (λ (none : length A < 1).
-      ⊎_elim
-      (λ (empty : length B < 1).
-        left_out test _ _ (ap (λ v. v && (get_or nodes (i + 1) d).path.0 == (get_or nodes i d).path.0 + 1) (le-ltb (i + 1) (end_of nodes i d) (omega (arith, end, both))))
-        ∙ (let r : i + 1 ≡ i + 1 + length A = omega arith in r))
-      (λ (some : 1 ≤ length B).
-        let next : node_of (get_or nodes (i + 1) d) ≡ get_or (A ++ B) 0 (node_of d)
-          = node_there nodes pre (x ∷ (A ++ B)) post (i + 1) 1 d e (omega (arith, at)) (omega (arith, both)) in
-        let second : get_or (A ++ B) 0 (node_of d) ≡ get_or B 0 (node_of d)
-          = (let z : 0 ≡ length A + 0 = omega arith in ap (λ j. get_or (A ++ B) j (node_of d)) z) ∙ get_or-append-add A B 0 (node_of d) in
-        let number : (get_or nodes (i + 1) d).path.0 ≡ m = ap (λ y. y.path) (next ∙ second) ∙ b.path (node_of d) (omega arith) in
-        left_out test _ _
-          (ap (λ v. nat_lt (i + 1) (end_of nodes i d) && v) (ne_eqb _ _ (λ q. omega (arith, q, number, path, lt))) ∙ and-false _)
-        ∙ (let r : i + 1 ≡ i + 1 + length A = omega arith in r))
-      (cases_lt (length B) 1))
+    ⊎_elim
+    (λ (empty : length B < 1).
+    left_out test _ _ (ap (λ v. v && (get_or nodes (i + 1) d).path.0 == (get_or nodes i d).path.0 + 1) (le-ltb (i + 1) (end_of nodes i d) (omega (arith, end, both))))
+    ∙ (let r : i + 1 ≡ i + 1 + length A = omega arith in r))
+    (λ (some : 1 ≤ length B).
+    let next : node_of (get_or nodes (i + 1) d) ≡ get_or (A ++ B) 0 (node_of d)
+    = node_there nodes pre (x ∷ (A ++ B)) post (i + 1) 1 d e (omega (arith, at)) (omega (arith, both)) in
+    let second : get_or (A ++ B) 0 (node_of d) ≡ get_or B 0 (node_of d)
+    = (let z : 0 ≡ length A + 0 = omega arith in ap (λ j. get_or (A ++ B) j (node_of d)) z) ∙ get_or-append-add A B 0 (node_of d) in
+    let number : (get_or nodes (i + 1) d).path.0 ≡ m = ap (λ y. y.path) (next ∙ second) ∙ b.path (node_of d) (omega arith) in
+    left_out test _ _
+    (ap (λ v. nat_lt (i + 1) (end_of nodes i d) && v) (ne_eqb _ _ (λ q. omega (arith, q, number, path, lt))) ∙ and-false _)
+    ∙ (let r : i + 1 ≡ i + 1 + length A = omega arith in r))
+    (cases_lt (length B) 1))
     (λ (some : 1 ≤ length A).
-      let next : node_of (get_or nodes (i + 1) d) ≡ get_or (A ++ B) 0 (node_of d)
-        = node_there nodes pre (x ∷ (A ++ B)) post (i + 1) 1 d e (omega (arith, at)) (omega (arith, both)) in
-      let first : get_or (A ++ B) 0 (node_of d) ≡ get_or A 0 (node_of d) = get_or_append_left A B (node_of d) 0 (omega arith) in
-      let number : (get_or nodes (i + 1) d).path.0 ≡ n + 1 = ap (λ y. y.path) (next ∙ first) ∙ a.path (node_of d) (omega arith) in
-      let behind : end_of nodes (i + 1) d ≡ i + 1 + length A = ap (λ y. y.after) (next ∙ first) ∙ a.after (node_of d) (omega arith) in
-      chosen test _ _
-        (and_from _ _ (lt-ltb (i + 1) (end_of nodes i d) (omega (arith, end, both))) (eq-eqb _ _ (omega (arith, number, path))))
-      ∙ behind)
+    let next : node_of (get_or nodes (i + 1) d) ≡ get_or (A ++ B) 0 (node_of d)
+    = node_there nodes pre (x ∷ (A ++ B)) post (i + 1) 1 d e (omega (arith, at)) (omega (arith, both)) in
+    let first : get_or (A ++ B) 0 (node_of d) ≡ get_or A 0 (node_of d) = get_or_append_left A B (node_of d) 0 (omega arith) in
+    let number : (get_or nodes (i + 1) d).path.0 ≡ n + 1 = ap (λ y. y.path) (next ∙ first) ∙ a.path (node_of d) (omega arith) in
+    let behind : end_of nodes (i + 1) d ≡ i + 1 + length A = ap (λ y. y.after) (next ∙ first) ∙ a.after (node_of d) (omega arith) in
+    chosen test _ _
+    (and_from _ _ (lt-ltb (i + 1) (end_of nodes i d) (omega (arith, end, both))) (eq-eqb _ _ (omega (arith, number, path))))
+    ∙ behind)
     (cases_lt (length A) 1)
 
 -- the judgement of a subtree from those of its parts
@@ -243,27 +243,27 @@ judged_whole nodes nest i middle d bits l r within mid jl jr true t n k pre post
     let whole : map node_of nodes ≡ pre ++ ((x ∷ (A ++ B)) ++ post) = s.nodes_all ∙ ap (λ v. pre ++ (v ++ post)) row.nodes_two in
     let here : node_of (get_or nodes i d) ≡ x = node_there nodes pre (x ∷ (A ++ B)) post i 0 d whole (omega (arith, at)) (omega arith) in
     let seam : middle ≡ length pre + 1 + length A
-      = mid ∙ ap (λ j. second_place nodes j d) at
-        ∙ middle_of nodes nest (length pre) n row.number d pre A B post row.form whole refl
-          (heads_tree row.live row.first (n + 1) (length pre + 1) k) (heads_tree row.other row.second row.number (length pre + 1 + length A) row.leaf) row.later in
+    = mid ∙ ap (λ j. second_place nodes j d) at
+    ∙ middle_of nodes nest (length pre) n row.number d pre A B post row.form whole refl
+    (heads_tree row.live row.first (n + 1) (length pre + 1) k) (heads_tree row.other row.second row.number (length pre + 1 + length A) row.leaf) row.later in
     let one : length (pre ++ x ∷ []) ≡ length pre + 1 = length-append pre (x ∷ []) in
     let more : length (pre ++ x ∷ A) ≡ length pre + 1 + length A = omega (arith, length-append pre (x ∷ A)) in
     let first : l ≡ judgement bits row.live row.first (n + 1) k
-      = jl row.live row.first (n + 1) k (pre ++ x ∷ []) (B ++ post) (record {
-        nodes_all = whole ∙ ap (λ v. pre ++ (x ∷ v)) (append_assoc A B post) ∙ sym (append_assoc pre (x ∷ []) (A ++ (B ++ post)))
+    = jl row.live row.first (n + 1) k (pre ++ x ∷ []) (B ++ post) (record {
+      nodes_all = whole ∙ ap (λ v. pre ++ (x ∷ v)) (append_assoc A B post) ∙ sym (append_assoc pre (x ∷ []) (A ++ (B ++ post)))
           ∙ ap (λ v. (pre ++ x ∷ []) ++ (tree_nodes row.live row.first (n + 1) v k ++ (B ++ post))) (sym one);
-        begins = omega (arith, one, at);
-        ends = seam ∙ (λ j. sym one j + length (tree_nodes row.live row.first (n + 1) (sym one j) k));
-      }) in
+      begins = omega (arith, one, at);
+      ends = seam ∙ (λ j. sym one j + length (tree_nodes row.live row.first (n + 1) (sym one j) k));
+    }) in
     let second : r ≡ judgement bits row.other row.second row.number row.leaf
-      = jr row.other row.second row.number row.leaf (pre ++ x ∷ A) post (record {
-        nodes_all = whole ∙ ap (λ v. pre ++ (x ∷ v)) (append_assoc A B post) ∙ sym (append_assoc pre (x ∷ A) (B ++ post))
+    = jr row.other row.second row.number row.leaf (pre ++ x ∷ A) post (record {
+      nodes_all = whole ∙ ap (λ v. pre ++ (x ∷ v)) (append_assoc A B post) ∙ sym (append_assoc pre (x ∷ A) (B ++ post))
           ∙ ap (λ v. (pre ++ x ∷ A) ++ (tree_nodes row.other row.second row.number v row.leaf ++ post)) (sym more);
-        begins = seam ∙ sym more;
-        ends = ap (λ y. y.after) here ∙ ap (λ v. length pre + 1 + v) (length-append A B)
+      begins = seam ∙ sym more;
+      ends = ap (λ y. y.after) here ∙ ap (λ v. length pre + 1 + v) (length-append A B)
           ∙ (let q : length pre + 1 + (length A + length B) ≡ (length pre + 1 + length A) + length B = omega arith in q)
           ∙ (λ j. sym more j + length (tree_nodes row.other row.second row.number (sym more j) row.leaf));
-      }) in
+    }) in
     (λ j. combined bits ((here j).form) (first j) (second j)) ∙ sym row.judged
 judged_whole nodes nest i middle d bits l r within mid jl jr false t n k pre post s =
     absurd (omega (arith, nest.begun i d within, s.begins, s.ends, ap length (tree_none t n (length pre) k)))
@@ -280,9 +280,9 @@ pub judged_some : (nodes : List SelNode) (i j : ℕ) (d : SelNode) (bits : List 
 judged_some nodes i j d bits l h g b t n k pre post s =
     let T = tree_nodes b t n (length pre) k in
     let here : node_of (get_or nodes i d) ≡ get_or T 0 (node_of d)
-      = node_there nodes pre T post i 0 d s.nodes_all (omega (arith, s.begins)) (omega (arith, s.begins, s.ends)) in
+    = node_there nodes pre T post i 0 d s.nodes_all (omega (arith, s.begins)) (omega (arith, s.begins, s.ends)) in
     let end : end_of nodes i d ≡ length pre + length T
-      = ap (λ y. y.after) here ∙ (heads_tree b t n (length pre) k).after (node_of d) (omega (arith, s.begins, s.ends)) in
+    = ap (λ y. y.after) here ∙ (heads_tree b t n (length pre) k).after (node_of d) (omega (arith, s.begins, s.ends)) in
     g b t n k pre post (record { nodes_all = s.nodes_all; begins = s.begins; ends = end })
 
 -- the end of a first part that is there
@@ -308,7 +308,7 @@ second_found nodes nest i d here next end within h n e lt test =
     let later : i + 1 < end_of nodes i d = subst (λ x. i + 1 < x.after) at lt in
     record {
       place = ap (λ x. x.after) close
-        ∙ sym (chosen _ _ _ (and_from _ _ (lt-ltb (i + 1) (end_of nodes i d) later)
+          ∙ sym (chosen _ _ _ (and_from _ _ (lt-ltb (i + 1) (end_of nodes i d) later)
           ((λ j. (sym following j).path.0 == (sym at j).path.0 + 1) ∙ test)));
       after = let b = nest.begun (i + 1) d inside in subst (λ x. i < x.after) (sym close) (omega arith);
       within = subst (λ x. x.after ≤ end_of nodes i d) (sym close) (nest.whole i (i + 1) d inside (omega arith) later);

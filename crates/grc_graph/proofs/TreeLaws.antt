@@ -62,25 +62,25 @@ nest_append i xs ys h g =
     let total : length (xs ++ ys) ≡ length xs + length ys = length-append xs ys in
     record {
       begun = λ j d l. by_halves (λ j. i + j < (get_or (xs ++ ys) j d).after) (length xs) (length ys)
-        (λ j l. rw (left_node xs ys j d l) (h.begun j d l))
-        (λ j l. rw (right_node xs ys j d) (omega (arith, g.begun j d l))) j (omega arith);
+          (λ j l. rw (left_node xs ys j d l) (h.begun j d l))
+          (λ j l. rw (right_node xs ys j d) (omega (arith, g.begun j d l))) j (omega arith);
       ended = λ j d l. by_halves (λ j. (get_or (xs ++ ys) j d).after ≤ i + length (xs ++ ys)) (length xs) (length ys)
-        (λ j l. rw (left_node xs ys j d l) (omega (arith, h.ended j d l, total)))
-        (λ j l. rw (right_node xs ys j d) (omega (arith, g.ended j d l, total))) j (omega arith);
+          (λ j l. rw (left_node xs ys j d l) (omega (arith, h.ended j d l, total)))
+          (λ j l. rw (right_node xs ys j d) (omega (arith, g.ended j d l, total))) j (omega arith);
       whole = λ j k d l. by_halves
-        (λ k. j < k → i + k < (get_or (xs ++ ys) j d).after → (get_or (xs ++ ys) k d).after ≤ (get_or (xs ++ ys) j d).after)
-        (length xs) (length ys)
-        (λ k l b. let m : j < length xs = omega arith in
+          (λ k. j < k → i + k < (get_or (xs ++ ys) j d).after → (get_or (xs ++ ys) k d).after ≤ (get_or (xs ++ ys) j d).after)
+          (length xs) (length ys)
+          (λ k l b. let m : j < length xs = omega arith in
           rw (left_node xs ys j d m, left_node xs ys k d l) (h.whole j k d l b))
-        (λ k l b. by_halves
+          (λ k l b. by_halves
           (λ j. j < length xs + k → i + (length xs + k) < (get_or (xs ++ ys) j d).after
-            → (get_or (xs ++ ys) (length xs + k) d).after ≤ (get_or (xs ++ ys) j d).after)
+          → (get_or (xs ++ ys) (length xs + k) d).after ≤ (get_or (xs ++ ys) j d).after)
           (length xs) (length ys)
           (λ j m b. rw (left_node xs ys j d m) (λ e. absurd (omega (arith, h.ended j d m))))
           (λ j m b. rw (right_node xs ys j d, right_node xs ys k d)
-            (λ e. g.whole j k d l (omega arith) (omega arith)))
+          (λ e. g.whole j k d l (omega arith) (omega arith)))
           j (omega arith) b)
-        k (omega arith);
+          k (omega arith);
     }
 
 nest_node : (n i : ℕ) (f : Form) (xs : List TreeNode) → NestFrom (i + 1) xs
@@ -90,25 +90,25 @@ nest_node n i f xs h =
     let later = λ (j : ℕ) (d : TreeNode). right_node (x ∷ []) xs j d in
     record {
       begun = λ j d l. by_halves (λ j. i + j < (get_or (x ∷ xs) j d).after) 1 (length xs)
-        (λ j l. let e : j ≡ 0 = omega arith in rw e (let r : i + 0 < i + 1 + length xs = omega arith in r))
-        (λ j l. subst (λ y. i + (1 + j) < y.after) (sym (later j d)) (omega (arith, h.begun j d l))) j (omega arith);
+          (λ j l. let e : j ≡ 0 = omega arith in rw e (let r : i + 0 < i + 1 + length xs = omega arith in r))
+          (λ j l. subst (λ y. i + (1 + j) < y.after) (sym (later j d)) (omega (arith, h.begun j d l))) j (omega arith);
       ended = λ j d l. by_halves (λ j. (get_or (x ∷ xs) j d).after ≤ i + length (x ∷ xs)) 1 (length xs)
-        (λ j l. let e : j ≡ 0 = omega arith in rw e (let r : i + 1 + length xs ≤ i + length (x ∷ xs) = omega arith in r))
-        (λ j l. subst (λ y. y.after ≤ i + length (x ∷ xs)) (sym (later j d)) (omega (arith, h.ended j d l))) j (omega arith);
+          (λ j l. let e : j ≡ 0 = omega arith in rw e (let r : i + 1 + length xs ≤ i + length (x ∷ xs) = omega arith in r))
+          (λ j l. subst (λ y. y.after ≤ i + length (x ∷ xs)) (sym (later j d)) (omega (arith, h.ended j d l))) j (omega arith);
       whole = λ j k d l. by_halves
-        (λ k. j < k → i + k < (get_or (x ∷ xs) j d).after → (get_or (x ∷ xs) k d).after ≤ (get_or (x ∷ xs) j d).after)
-        1 (length xs)
-        (λ k l b. absurd (omega arith))
-        (λ k l b. by_halves
+          (λ k. j < k → i + k < (get_or (x ∷ xs) j d).after → (get_or (x ∷ xs) k d).after ≤ (get_or (x ∷ xs) j d).after)
+          1 (length xs)
+          (λ k l b. absurd (omega arith))
+          (λ k l b. by_halves
           (λ j. j < 1 + k → i + (1 + k) < (get_or (x ∷ xs) j d).after → (get_or (x ∷ xs) (1 + k) d).after ≤ (get_or (x ∷ xs) j d).after)
           1 (length xs)
           (λ j m b. let e : j ≡ 0 = omega arith in
-            rw e (λ u. subst (λ y. y.after ≤ i + 1 + length xs) (sym (later k d)) (h.ended k d l)))
+          rw e (λ u. subst (λ y. y.after ≤ i + 1 + length xs) (sym (later k d)) (h.ended k d l)))
           (λ j m b u. subst (λ y. y.after ≤ (get_or (x ∷ xs) (1 + j) d).after) (sym (later k d))
-            (subst (λ y. (get_or xs k d).after ≤ y.after) (sym (later j d))
-            (h.whole j k d l (omega arith) (let v = subst (λ y. i + (1 + k) < y.after) (later j d) u in omega arith))))
+          (subst (λ y. (get_or xs k d).after ≤ y.after) (sym (later j d))
+          (h.whole j k d l (omega arith) (let v = subst (λ y. i + (1 + k) < y.after) (later j d) u in omega arith))))
           j (omega arith) b)
-        k (omega arith);
+          k (omega arith);
     }
 
 nest_if : (b : Bool) (n i : ℕ) (f : Form) (xs : List TreeNode) → NestFrom (i + 1) xs → NestFrom i (subtree_if b n i f xs)
@@ -148,10 +148,10 @@ nest_nodes nodes h =
       begun = λ i d l. let e = after_at nodes i d l in let k = h.begun i (node_of d) (omega arith) in omega (arith, e, k);
       ended = λ i d l. let e = after_at nodes i d l in let k = h.ended i (node_of d) (omega arith) in omega (arith, e, k);
       whole = λ i j d l b m.
-        let first = after_at nodes i d (omega arith) in
-        let other = after_at nodes j d l in
-        let k = h.whole i j (node_of d) (omega arith) b (omega (arith, first)) in
-        omega (arith, first, other, k);
+          let first = after_at nodes i d (omega arith) in
+          let other = after_at nodes j d l in
+          let k = h.whole i j (node_of d) (omega arith) b (omega (arith, first)) in
+          omega (arith, first, other, k);
     }
 
 -- ---- leaves are numbered in order
@@ -276,9 +276,9 @@ numbers_nodes [] k i d h l = absurd (omega arith)
 numbers_nodes (x ∷ xs) k zero d h l = number_test x.form (k + 0) (let e : k ≡ k + 0 = omega arith in subst (λ m. HasNumber (form_of x.form) m) e h.0)
 numbers_nodes (x ∷ xs) k (suc i) d h l =
     let e : (k + leaf_in (form_of x.form)) + leaves_before xs i ≡ k + leaves_before (x ∷ xs) (suc i)
-      = (let u : (k + leaf_in (form_of x.form)) + leaves_before xs i ≡ k + (leaf_in (form_of x.form) + leaves_before xs i) = omega arith in u)
-        ∙ (λ j. k + (sym (counts_leaf x.form) j + leaves_before xs i))
-        ∙ ap (λ m. k + m) (sym (count_by-cons (λ x. is_leaf x.form) x (take i xs))) in
+    = (let u : (k + leaf_in (form_of x.form)) + leaves_before xs i ≡ k + (leaf_in (form_of x.form) + leaves_before xs i) = omega arith in u)
+    ∙ (λ j. k + (sym (counts_leaf x.form) j + leaves_before xs i))
+    ∙ ap (λ m. k + m) (sym (count_by-cons (λ x. is_leaf x.form) x (take i xs))) in
     subst (λ m. IsTrue (is_numbered (get_or xs i d).form m)) e (numbers_nodes xs (k + leaf_in (form_of x.form)) i d h.1 (omega arith))
 
 -- a list of nodes that is a body's tree keeps what a selection tree keeps
@@ -288,6 +288,6 @@ tree_nests nodes body e = nest_nodes nodes (subst (λ l. NestFrom 0 l) (sym e) (
 pub tree_numbers : (nodes : List SelNode) (leaves : ℕ) (body : Term) → map node_of nodes ≡ body_tree body → leaves ≡ length (body_leaves body) → LeavesAscend nodes leaves
 tree_numbers nodes leaves body e l = record {
   numbered = λ i d h. subst (λ m. IsTrue (is_numbered (get_or nodes i d).form m)) (let z : 0 + leaves_before nodes i ≡ leaves_before nodes i = omega arith in z)
-    (numbers_nodes nodes 0 i d (subst (λ l. NumberedFrom 0 l) (sym e) (numbered_tree (resumes body) body 0 0 0)) h);
+      (numbers_nodes nodes 0 i d (subst (λ l. NumberedFrom 0 l) (sym e) (numbered_tree (resumes body) body 0 0 0)) h);
   counted = l ∙ sym (leaf_count-tree (resumes body) body 0 0 0) ∙ ap leaf_count (sym e) ∙ sym (counts_leaves nodes);
 }

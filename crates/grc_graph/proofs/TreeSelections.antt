@@ -193,16 +193,16 @@ first_placed us true r s t p q n k pre post e c h = record {
   place = λ y. h.place refl;
   below = All-weaker (λ m. m < n) (λ m. m < n + 1) (λ m l. omega arith) pre h.below;
   above = All-append (λ m. n + 1 + statement_count p ≤ m) _ post
-    (All-weaker (λ u. (n + 1 + statement_count p ≤ u) × (u < n + 1 + statement_count p + statement_count q)) (λ m. n + 1 + statement_count p ≤ m) (λ m l. l.0) _ (leaves_among s q (n + 1 + statement_count p)))
-    (All-weaker (λ m. n + statement_count t ≤ m) (λ m. n + 1 + statement_count p ≤ m) (λ m l. omega (arith, c, l)) post h.above);
+      (All-weaker (λ u. (n + 1 + statement_count p ≤ u) × (u < n + 1 + statement_count p + statement_count q)) (λ m. n + 1 + statement_count p ≤ m) (λ m l. l.0) _ (leaves_among s q (n + 1 + statement_count p)))
+      (All-weaker (λ m. n + statement_count t ≤ m) (λ m. n + 1 + statement_count p ≤ m) (λ m l. omega (arith, c, l)) post h.above);
 }
 first_placed us false r s t p q n k pre post e c h = record {
   whole = h.whole ∙ ap (λ l. pre ++ (l ++ post)) e ∙ (λ i. pre ++ (sym (leaves_none p (n + 1)) i ++ (sym (leaves_none q (n + 1 + statement_count p)) i ++ post)));
   place = λ y. absurd (false≢true y);
   below = All-weaker (λ m. m < n) (λ m. m < n + 1) (λ m l. omega arith) pre h.below;
   above = All-append (λ m. n + 1 + statement_count p ≤ m) _ post
-    (All-weaker (λ u. (n + 1 + statement_count p ≤ u) × (u < n + 1 + statement_count p + statement_count q)) (λ m. n + 1 + statement_count p ≤ m) (λ m l. l.0) _ (leaves_among false q (n + 1 + statement_count p)))
-    (All-weaker (λ m. n + statement_count t ≤ m) (λ m. n + 1 + statement_count p ≤ m) (λ m l. omega (arith, c, l)) post h.above);
+      (All-weaker (λ u. (n + 1 + statement_count p ≤ u) × (u < n + 1 + statement_count p + statement_count q)) (λ m. n + 1 + statement_count p ≤ m) (λ m l. l.0) _ (leaves_among false q (n + 1 + statement_count p)))
+      (All-weaker (λ m. n + statement_count t ≤ m) (λ m. n + 1 + statement_count p ≤ m) (λ m l. omega (arith, c, l)) post h.above);
 }
 
 pub second_placed : (us : List ℕ) (b r s : Bool) (t p q : Term) (n k : ℕ) (pre post : List ℕ)
@@ -212,22 +212,22 @@ pub second_placed : (us : List ℕ) (b r s : Bool) (t p q : Term) (n k : ℕ) (p
     → Placed us (b && s) q (n + 1 + statement_count p) (k + length (leaf_paths r p (n + 1))) (pre ++ leaf_paths (b && r) p (n + 1)) post
 second_placed us true r s t p q n k pre post e c h = record {
   whole = h.whole ∙ ap (λ l. pre ++ (l ++ post)) e
-    ∙ ap (λ l. pre ++ l) (append_assoc (leaf_paths r p (n + 1)) (leaf_paths s q (n + 1 + statement_count p)) post)
-    ∙ sym (append_assoc pre (leaf_paths r p (n + 1)) (leaf_paths s q (n + 1 + statement_count p) ++ post));
+      ∙ ap (λ l. pre ++ l) (append_assoc (leaf_paths r p (n + 1)) (leaf_paths s q (n + 1 + statement_count p)) post)
+      ∙ sym (append_assoc pre (leaf_paths r p (n + 1)) (leaf_paths s q (n + 1 + statement_count p) ++ post));
   place = λ y. omega (arith, h.place refl, length-append pre (leaf_paths r p (n + 1)));
   below = All-append (λ m. m < n + 1 + statement_count p) pre _
-    (All-weaker (λ m. m < n) (λ m. m < n + 1 + statement_count p) (λ m l. omega arith) pre h.below)
-    (All-weaker (λ u. (n + 1 ≤ u) × (u < n + 1 + statement_count p)) (λ m. m < n + 1 + statement_count p) (λ m l. l.1) _ (leaves_among r p (n + 1)));
+      (All-weaker (λ m. m < n) (λ m. m < n + 1 + statement_count p) (λ m l. omega arith) pre h.below)
+      (All-weaker (λ u. (n + 1 ≤ u) × (u < n + 1 + statement_count p)) (λ m. m < n + 1 + statement_count p) (λ m l. l.1) _ (leaves_among r p (n + 1)));
   above = All-weaker (λ m. n + statement_count t ≤ m) (λ m. n + 1 + statement_count p + statement_count q ≤ m) (λ m l. omega (arith, c, l)) post h.above;
 }
 second_placed us false r s t p q n k pre post e c h = record {
   whole = h.whole ∙ ap (λ l. pre ++ (l ++ post)) e
-    ∙ (λ i. pre ++ (sym (leaves_none p (n + 1)) i ++ (sym (leaves_none q (n + 1 + statement_count p)) i ++ post)))
-    ∙ sym (append_assoc pre (leaf_paths false p (n + 1)) (leaf_paths false q (n + 1 + statement_count p) ++ post));
+      ∙ (λ i. pre ++ (sym (leaves_none p (n + 1)) i ++ (sym (leaves_none q (n + 1 + statement_count p)) i ++ post)))
+      ∙ sym (append_assoc pre (leaf_paths false p (n + 1)) (leaf_paths false q (n + 1 + statement_count p) ++ post));
   place = λ y. absurd (false≢true y);
   below = All-append (λ m. m < n + 1 + statement_count p) pre _
-    (All-weaker (λ m. m < n) (λ m. m < n + 1 + statement_count p) (λ m l. omega arith) pre h.below)
-    (All-weaker (λ u. (n + 1 ≤ u) × (u < n + 1 + statement_count p)) (λ m. m < n + 1 + statement_count p) (λ m l. l.1) _ (leaves_among false p (n + 1)));
+      (All-weaker (λ m. m < n) (λ m. m < n + 1 + statement_count p) (λ m l. omega arith) pre h.below)
+      (All-weaker (λ u. (n + 1 ≤ u) × (u < n + 1 + statement_count p)) (λ m. m < n + 1 + statement_count p) (λ m l. l.1) _ (leaves_among false p (n + 1)));
   above = All-weaker (λ m. n + statement_count t ≤ m) (λ m. n + 1 + statement_count p + statement_count q ≤ m) (λ m l. omega (arith, c, l)) post h.above;
 }
 
@@ -262,19 +262,22 @@ agrees us bits b Nothing n k pre post h = tt
 agrees us bits b Pause n k pre post h = pause_agrees us bits b n k pre post h
 agrees us bits b (Emit s) n k pre post h = tt
 agrees us bits b (Exit c) n k pre post h = tt
-agrees us bits b (Present e p q) n k pre post h =
-    ( agrees us bits (b && resumes p) p (n + 1) k _ _ (first_placed us b (resumes p) (resumes q) (Present e p q) p q n k pre post refl refl h)
-    , agrees us bits (b && resumes q) q (n + 1 + statement_count p) (k + length (leaf_paths (resumes p) p (n + 1))) _ _ (second_placed us b (resumes p) (resumes q) (Present e p q) p q n k pre post refl refl h))
+agrees us bits b (Present e p q) n k pre post h = (
+  agrees us bits (b && resumes p) p (n + 1) k _ _ (first_placed us b (resumes p) (resumes q) (Present e p q) p q n k pre post refl refl h),
+  agrees us bits (b && resumes q) q (n + 1 + statement_count p) (k + length (leaf_paths (resumes p) p (n + 1))) _ _ (second_placed us b (resumes p) (resumes q) (Present e p q) p q n k pre post refl refl h),
+)
 agrees us bits b (Suspend e p) n k pre post h =
     agrees us bits (b && resumes p) p (n + 1) k _ _ (part_placed us b (resumes p) (Suspend e p) p n k pre post refl refl h)
-agrees us bits b (Seq p q) n k pre post h =
-    ( agrees us bits (b && resumes p) p (n + 1) k _ _ (first_placed us b (resumes p) (second_resumes p q) (Seq p q) p q n k pre post refl refl h)
-    , agrees us bits (b && second_resumes p q) q (n + 1 + statement_count p) (k + length (leaf_paths (resumes p) p (n + 1))) _ _ (second_placed us b (resumes p) (second_resumes p q) (Seq p q) p q n k pre post refl refl h))
+agrees us bits b (Seq p q) n k pre post h = (
+  agrees us bits (b && resumes p) p (n + 1) k _ _ (first_placed us b (resumes p) (second_resumes p q) (Seq p q) p q n k pre post refl refl h),
+  agrees us bits (b && second_resumes p q) q (n + 1 + statement_count p) (k + length (leaf_paths (resumes p) p (n + 1))) _ _ (second_placed us b (resumes p) (second_resumes p q) (Seq p q) p q n k pre post refl refl h),
+)
 agrees us bits b (Loop at p) n k pre post h =
     agrees us bits (b && resumes p) p (n + 1) k _ _ (part_placed us b (resumes p) (Loop at p) p n k pre post refl refl h)
-agrees us bits b (Par p q) n k pre post h =
-    ( agrees us bits (b && resumes p) p (n + 1) k _ _ (first_placed us b (resumes p) (resumes q) (Par p q) p q n k pre post refl refl h)
-    , agrees us bits (b && resumes q) q (n + 1 + statement_count p) (k + length (leaf_paths (resumes p) p (n + 1))) _ _ (second_placed us b (resumes p) (resumes q) (Par p q) p q n k pre post refl refl h))
+agrees us bits b (Par p q) n k pre post h = (
+  agrees us bits (b && resumes p) p (n + 1) k _ _ (first_placed us b (resumes p) (resumes q) (Par p q) p q n k pre post refl refl h),
+  agrees us bits (b && resumes q) q (n + 1 + statement_count p) (k + length (leaf_paths (resumes p) p (n + 1))) _ _ (second_placed us b (resumes p) (resumes q) (Par p q) p q n k pre post refl refl h),
+)
 agrees us bits b (Trap p) n k pre post h =
     agrees us bits (b && resumes p) p (n + 1) k _ _ (part_placed us b (resumes p) (Trap p) p n k pre post refl refl h)
 agrees us bits b (Local s p) n k pre post h =

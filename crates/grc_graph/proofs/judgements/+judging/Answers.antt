@@ -12,13 +12,13 @@ pub judged_at-returns : goal.judged_at-returns
 judged_at-returns t c d b s n k pre post stands =
     let nodes = c.args.tree.now.nodes.items in
     let at : c.index-node.result.now ≡ get_or nodes c.args.at d
-      = c.index-node.ensures ∙ get_or_default nodes c.args.at c.index-node.result.now d c.requires.within in
+    = c.index-node.ensures ∙ get_or_default nodes c.args.at c.index-node.result.now d c.requires.within in
     c.judged_node.ensures
     ∙ (λ j. combined c.args.selected.now (form_of (at j).form) (judgement_of c.judged_between-first.result) (judgement_of c.judged_between-second.result))
     ∙ judged_whole nodes c.args.tree.now.nested c.args.at c.second_part-middle.result d c.args.selected.now _ _ c.requires.within
-      (c.second_part-middle.ensures.place d) c.judged_between-first.ensures
-      (subst (λ x. Judges nodes c.second_part-middle.result x.after c.args.selected.now (judgement_of c.judged_between-second.result)) at c.judged_between-second.ensures)
-      b s n k pre post stands
+    (c.second_part-middle.ensures.place d) c.judged_between-first.ensures
+    (subst (λ x. Judges nodes c.second_part-middle.result x.after c.args.selected.now (judgement_of c.judged_between-second.result)) at c.judged_between-second.ensures)
+    b s n k pre post stands
 
 pub judged_between-returns-then-from-to : goal.judged_between-returns-then-from-to
 judged_between-returns-then-from-to t c =
