@@ -1,0 +1,11 @@
+use Rattle.std.proofs.Common.{sym, ◌∙◌, arith}
+use Rattle.est_base.specs.CodeSet.{members}
+use Rattle.est_kernel.proofs.Sets.{upto-in}
+use Rattle.grc_graph.proofs.CodeSets.{upto-none}
+use Rattle.grc_graph.proofs.code_tables.has_some_code.Goals as goal
+
+pub returns-then-has : goal.returns-then-has
+returns-then-has c = sym (upto-in (members c.args.set) c.loop-code.code 63 (sym c.has.ensures ∙ c.if-has.true) (omega arith))
+
+pub returns : goal.returns
+returns c = sym (upto-none (members c.args.set) 63 (λ j l. c.loop-code.invariant j (omega arith)))

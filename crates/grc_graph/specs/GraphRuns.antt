@@ -1,0 +1,76 @@
+-- To believe: what a graph does from instant to instant. This speaks of the equations and next formulas alone, and
+-- asks nothing of how they were made.
+use Rattle.std.specs.Prelude.{◌≡◌, ℕ, Bool, false, ◌||◌, List, [], ◌∷◌, map, All, ⊤}
+use Rattle.std.specs.List.{list_any}
+use Rattle.est_base.specs.Items.{Item, Event, Reset}
+use Rattle.est_kernel.specs.Terms.{Term}
+use Rattle.est_kernel.specs.Plain.{Program, Interface, interface_of, interface_count, given_count}
+use Rattle.est_kernel.specs.Reactions.{is_given}
+use Rattle.grc_graph.specs.Layers.{Resumed, Started, body_layers}
+use Rattle.grc_graph.specs.Scopes.{Scope, program_scope}
+use Rattle.grc_graph.specs.Wires.{Wire, Out, End, same_wire}
+use Rattle.grc_graph.specs.Formulas.{Formula, meaning}
+use Rattle.grc_graph.specs.Spots.{Spot, body_spots}
+use Rattle.grc_graph.specs.Equations.{Equation, equations, next_formula}
+use Rattle.grc_graph.specs.SelectionTrees.{body_leaves, selecting}
+use Rattle.grc_graph.specs.Walk.{State, Initial, Selecting}
+use Rattle.grc_graph.specs.Readings.{Valuation, boolean_reading}
+
+-- A graph by names: one equation per wire, in order; for each leaf of the selection tree the path of its pause and its
+-- next formula; and the body, with its scope, over which the words of formulas are read.
+pub record PlainGraph : Type 0 where
+  pub interface : Interface
+  pub scope : Scope
+  pub body : Term
+  pub equations : List Equation
+  pub leaves : List ℕ
+  pub next : List Formula
+
+-- the live instances of a program
+abbrev pub program_spots : Program → List Spot
+program_spots p = body_spots (body_layers p.body) (program_scope p.inputs (interface_count p)) p.body
+
+-- the graph of a program
+abbrev pub graph_of : Program → PlainGraph
+graph_of p = record {
+  interface = interface_of p;
+  scope = program_scope p.inputs (interface_count p);
+  body = p.body;
+  equations = equations (given_count p) (interface_of p).outgoing (program_spots p);
+  leaves = body_leaves p.body;
+  next = map (λ n. next_formula n (body_layers p.body n)) (body_leaves p.body);
+}
+
+-- what a formula of the graph means in a state and an event, under a valuation
+abbrev pub formula_value : PlainGraph → State → List Bool → Valuation → Formula → Bool
+formula_value g q event V a = meaning (boolean_reading g.scope g.body q (is_given event) V) a
+
+-- A valuation solves the graph: each equation is met, and what is no wire is false.
+pub record Solves (g : PlainGraph) (q : State) (event : List Bool) (V : Valuation) : Type 0 where
+  pub met : All (λ e. V e.wire ≡ formula_value g q event V e.formula) g.equations
+  pub others : (w : Wire) → list_any (λ e. same_wire w e.wire) g.equations ≡ false → V w ≡ false
+
+-- the state of the next instant: the leaves whose next formula is true
+abbrev pub next_state : PlainGraph → State → List Bool → Valuation → State
+next_state g q event V = Selecting (selecting g.leaves (map (λ a. formula_value g q event V a) g.next))
+
+-- what is seen of an instant: which outgoing signals are present, in order, and whether the program pauses: its body
+-- ends with code 1 in the layer that runs
+pub record Shown : Type 0 where
+  pub outputs : List Bool
+  pub paused : Bool
+
+abbrev pub shown : PlainGraph → Valuation → Shown
+shown g V = record {
+  outputs = map (λ s. V (Out s)) g.interface.outgoing;
+  paused = V (End 0 Resumed 1) || V (End 0 (Started 0) 1);
+}
+
+-- A run from a state over items: one valuation per event, each of which solves the graph in the state that is reached.
+-- A reset puts the first instant back and has no valuation.
+abbrev pub IsGraphRun : PlainGraph → State → List Item → List Valuation → Type 0
+IsGraphRun g q [] [] = ⊤
+IsGraphRun g q [] (V ∷ Vs) = ⊥
+IsGraphRun g q (Event event ∷ items) [] = ⊥
+IsGraphRun g q (Event event ∷ items) (V ∷ Vs) = Solves g q event V × IsGraphRun g (next_state g q event V) items Vs
+IsGraphRun g q (Reset ∷ items) Vs = IsGraphRun g Initial items Vs

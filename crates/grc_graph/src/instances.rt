@@ -1,0 +1,42 @@
+// The live instances of a kernel body.
+
+ghost use Rattle.std.specs.Prelude.{◌≡◌, IfOk, map};
+ghost use Rattle.grc_graph.specs.PlainInstances.{instance_of};
+
+use est_base::{NoMemory, PathId};
+use std::alloc::Global;
+
+/// In which way a statement runs in an instant.
+#[derive(Clone, Copy, Debug, PartialEq, Eq)]
+pub enum Layer {
+    /// It holds control from an earlier instant.
+    Resumed,
+    /// It is started in this instant: by the start of the statement with this number, which is the
+    /// body, a second part of a sequence or the body of a loop.
+    Started(PathId),
+}
+
+/// A statement in a layer.
+#[derive(Clone, Copy, Debug, PartialEq, Eq)]
+pub struct Instance {
+    pub path: PathId,
+    pub layer: Layer,
+}
+
+/// The live instances of a body: statements in preorder, and at one statement resumed first, then
+/// started by ascending roots.
+#[derive(Debug, Drop)]
+pub struct Instances {
+    pub list: Vec<Instance>,
+}
+
+impl Instances {
+    /// An equal list, in memory of its own.
+    pub fn copy(&self, alloc: Global) -> Result<Instances, NoMemory>
+        ensures { IfOk result (λ copy. map instance_of copy.list.items ≡ map instance_of self.now.list.items) }
+    {
+        Ok(Instances {
+            list: Vec::from_slice(alloc, self.list.as_slice())?,
+        })
+    }
+}

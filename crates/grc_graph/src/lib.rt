@@ -1,0 +1,30 @@
+//! The graph of a kernel program: its live instances, its wires and their equations.
+//!
+//! Each statement of a kernel body may be live in several layers of one instant: resumed, where it holds
+//! control from the instant before, and started, once for each root that can start it. The graph has wires
+//! for each such instance, and one equation a wire; to solve the equations is to walk the program. The graph
+//! follows Potop-Butucaru, Edwards and Berry, "Compiling Esterel", and its instances stand in full layers, so
+//! that each occurrence of a local signal has a status of its own.
+#![tactic(auto)]
+
+mod code_tables;
+mod formulas;
+mod graph;
+mod instances;
+mod judgements;
+mod laws;
+mod statements;
+mod trees;
+mod wires;
+
+pub use code_tables::{has_some_code, resumed_codes, started_codes};
+pub use formulas::Formula;
+pub use graph::Graph;
+pub use instances::{Instance, Instances, Layer};
+pub use laws::{
+    enclosing_instances_are_live, instances_ascend, leaves_are_resumed_pauses,
+    residual_has_resumed_codes,
+};
+pub use statements::{Entry, Statement, list_statements};
+pub use trees::{SelForm, SelNode, SelTree};
+pub use wires::{Node, Wire};
