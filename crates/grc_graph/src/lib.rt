@@ -11,6 +11,7 @@ mod code_tables;
 mod formulas;
 mod graph;
 mod instances;
+mod orders;
 mod trees;
 mod wires;
 
@@ -18,5 +19,6 @@ pub use code_tables::{has_some_code, resumed_codes, started_codes};
 pub use formulas::Formula;
 pub use graph::Graph;
 pub use instances::{Instance, Instances, Layer};
+pub use orders::{Edges, Order, Ranks};
 pub use trees::{SelForm, SelNode, SelTree};
 pub use wires::{Node, Wire};
