@@ -17,6 +17,7 @@ pub mod SelectionTrees
 pub mod Selections
 pub mod CodeTables
 pub mod PlainInstances
+pub mod WireOrders
 pub mod GraphRuns
 pub mod PlainGraphs
 pub mod GraphShapes
