@@ -6,3 +6,4 @@ pub mod Longest
 pub mod OneLexing
 pub mod OneToken
 pub mod Rows
+pub mod FlatRows

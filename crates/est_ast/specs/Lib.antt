@@ -6,3 +6,5 @@ pub mod Runs
 pub mod Spelling
 pub mod Trees
 pub mod Views
+pub mod FlatTrees
+pub mod FlatViews

@@ -87,5 +87,4 @@ pub enum FlatForm {
     Signal(Vec<SigId>, Box<FlatStmt>),
     Seq(Vec<FlatStmt>),
     Par(Vec<FlatStmt>),
-    Group(Box<FlatStmt>),
 }

@@ -57,8 +57,8 @@ part_shows c at pos roots roots' p m n h e o b r s =
     record {
       path = o ∙ e;
       live = liveness_by pos roots' (part_liveness (liveness_of at roots) p)
-        (r ∙ (λ i. at.resumed && has_code (set_at c.resumed.items (e i))) ∙ (λ i. at.resumed && has_code (here.resumed i)))
-        (λ i. drop (b i) (s i));
+          (r ∙ (λ i. at.resumed && has_code (set_at c.resumed.items (e i))) ∙ (λ i. at.resumed && has_code (here.resumed i)))
+          (λ i. drop (b i) (s i));
     }
 
 drop_more : (base : ℕ) (roots more : List ℕ) → base ≤ length roots → drop base (roots ++ more) ≡ drop base roots ++ more
@@ -78,8 +78,8 @@ pub second_shows : (c : Codes) (at pos : Position) (roots roots' : List ℕ) (en
     → pos.path ≡ next
     → pos.base ≡ (if set_at c.started.items (at.path + 1) 0 then at.base else end)
     → pos.resumed ≡ (at.resumed
-      && ((set_at c.started.items (at.path + 1) 0 || set_at c.resumed.items (at.path + 1) 0)
-      && has_code (set_at c.resumed.items next)))
+    && ((set_at c.started.items (at.path + 1) 0 || set_at c.resumed.items (at.path + 1) 0)
+    && has_code (set_at c.resumed.items next)))
     → end ≡ length roots
     → at.base ≤ length roots
     → holds ≡ (at.resumed && set_at c.resumed.items (at.path + 1) 0)
@@ -89,20 +89,20 @@ second_shows c at pos roots roots' end next holds p q n m hp hq en e v b r l w o
     let first = codes_at c p (n + 1) hp in
     let second = codes_at c q m hq in
     let ks : (λ k. set_at c.started.items (at.path + 1) k) ≡ started_codes p
-      = (λ i. set_at c.started.items (en i + 1)) ∙ first.started in
+    = (λ i. set_at c.started.items (en i + 1)) ∙ first.started in
     let kd : (λ k. set_at c.resumed.items (at.path + 1) k) ≡ resumed_codes p
-      = (λ i. set_at c.resumed.items (en i + 1)) ∙ first.resumed in
+    = (λ i. set_at c.resumed.items (en i + 1)) ∙ first.resumed in
     let kq : (λ k. set_at c.resumed.items next k) ≡ resumed_codes q
-      = (λ i. set_at c.resumed.items (e i)) ∙ second.resumed in
+    = (λ i. set_at c.resumed.items (e i)) ∙ second.resumed in
     let own : roots' ≡ roots ++ root_if (at.resumed && resumed_codes p 0) m
-      = s ∙ (λ i. roots ++ root_if (o i) (e i)) ∙ (λ i. roots ++ root_if (at.resumed && kd i 0) m) in
+    = s ∙ (λ i. roots ++ root_if (o i) (e i)) ∙ (λ i. roots ++ root_if (at.resumed && kd i 0) m) in
     record {
       path = v ∙ e;
       live = liveness_by pos roots' (second_liveness (liveness_of at roots) p q m)
-        (r ∙ (λ i. at.resumed && ((ks i 0 || kd i 0) && has_code (kq i))))
-        ((λ i. drop (b i) (own i))
-        ∙ (λ i. drop (if ks i 0 then at.base else l i) (roots ++ root_if (at.resumed && resumed_codes p 0) m))
-        ∙ second_roots (started_codes p 0) at.base roots (root_if (at.resumed && resumed_codes p 0) m) w);
+          (r ∙ (λ i. at.resumed && ((ks i 0 || kd i 0) && has_code (kq i))))
+          ((λ i. drop (b i) (own i))
+          ∙ (λ i. drop (if ks i 0 then at.base else l i) (roots ++ root_if (at.resumed && resumed_codes p 0) m))
+          ∙ second_roots (started_codes p 0) at.base roots (root_if (at.resumed && resumed_codes p 0) m) w);
     }
 
 pub loop_shows : (c : Codes) (at pos : Position) (roots roots' : List ℕ) (holds : Bool) (p : Term) (n : ℕ)
@@ -119,10 +119,10 @@ loop_shows c at pos roots roots' holds p n h e b r w o s =
     record {
       path = e;
       live = liveness_by pos roots' (loop_liveness (liveness_of at roots) p n)
-        (r ∙ (λ i. at.resumed && has_code (here.resumed i)))
-        ((λ i. drop (b i) (s i)) ∙ (λ i. drop at.base (roots ++ root_if (o i) n))
-        ∙ (λ i. drop at.base (roots ++ root_if (at.resumed && here.resumed i 0) n))
-        ∙ drop_more at.base roots (root_if (at.resumed && resumed_codes p 0) n) w);
+          (r ∙ (λ i. at.resumed && has_code (here.resumed i)))
+          ((λ i. drop (b i) (s i)) ∙ (λ i. drop at.base (roots ++ root_if (o i) n))
+          ∙ (λ i. drop at.base (roots ++ root_if (at.resumed && here.resumed i 0) n))
+          ∙ drop_more at.base roots (root_if (at.resumed && resumed_codes p 0) n) w);
     }
 
 -- what a walk over a part says, in the part's own terms

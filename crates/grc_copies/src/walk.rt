@@ -43,7 +43,12 @@ pub fn copies(alloc: Global, body: &Kernel, codes: &Codes) -> Result<Instances, 
 
 // Appends the instances of the statement and of all in it, and answers the number behind them. The
 // roots are as before where it succeeds.
-fn copy_part(body: &Kernel, at: Position, codes: &Codes, lists: &mut Lists) -> Result<u32, CopyFault>
+fn copy_part(
+    body: &Kernel,
+    at: Position,
+    codes: &Codes,
+    lists: &mut Lists,
+) -> Result<u32, CopyFault>
     requires codes { CodesFrom codes.now (term_of body.now) at.path }
     requires fits { at.path + statement_count (term_of body.now) < 2 ^ 32 }
     requires base { at.base ≤ length lists.old.roots.items }

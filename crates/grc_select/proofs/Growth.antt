@@ -88,8 +88,13 @@ length-leaf_paths b (Awake e p) n = omega arith
 
 pub length-grown : (old new : Lists) (b : Bool) (t : Term) (n : ℕ) → Grows old new b t n → length new.nodes.items ≡ length old.nodes.items + length (tree_nodes b t n (length old.nodes.items) old.leaves)
 length-grown old new b t n g =
-    omega (arith, ap length g.nodes, length-map new.nodes.items node_of, length-map old.nodes.items node_of,
-    length-append (map node_of old.nodes.items) (tree_nodes b t n (length old.nodes.items) old.leaves))
+    omega (
+      arith,
+      ap length g.nodes,
+      length-map new.nodes.items node_of,
+      length-map old.nodes.items node_of,
+      length-append (map node_of old.nodes.items) (tree_nodes b t n (length old.nodes.items) old.leaves),
+    )
 
 pub nodes_at_most : (old new : Lists) (b : Bool) (t : Term) (n : ℕ) → Grows old new b t n → length new.nodes.items ≤ length old.nodes.items + statement_count t
 nodes_at_most old new b t n g = omega (arith, length-grown old new b t n g, length-tree_nodes b t n (length old.nodes.items) old.leaves)
@@ -121,7 +126,7 @@ seam : {A B : Type 0} (f : A → B) (old end : List A) (x y : A) (rest : List B)
 seam f old end x y rest e =
     map-set f end (length old) y
     ∙ ap (λ l. set l (length old) (f y))
-      (e ∙ ap (λ l. l ++ rest) (map-append f old (x ∷ [])) ∙ append_assoc (map f old) (f x ∷ []) rest)
+    (e ∙ ap (λ l. l ++ rest) (map-append f old (x ∷ [])) ∙ append_assoc (map f old) (f x ∷ []) rest)
     ∙ ap (λ n. set (map f old ++ f x ∷ rest) n (f y)) (sym (length-map old f))
     ∙ set-append_seam (map f old) (f x) rest (f y)
 
@@ -145,11 +150,11 @@ pub closed_over : (old o part new : Lists) (b : Bool) (i n : ℕ) (form0 form : 
     → Between old new (subtree_if b n (length old.nodes.items) (form_of form) more) (if b then l else 0)
 closed_over old o part new true i n form0 form more l at opn lv g cl lw =
     let counts : length part.nodes.items ≡ length old.nodes.items + 1 + length more
-      = omega (arith, length-between o part more l g, ap length opn, length-append old.nodes.items (node n form0 0 ∷ [])) in
+    = omega (arith, length-between o part more l g, ap length opn, length-append old.nodes.items (node n form0 0 ∷ [])) in
     record {
       nodes =
-        ap (λ v. map node_of v) (cl ∙ λ j. set part.nodes.items (at j) (node n form (counts j)))
-        ∙ seam node_of old.nodes.items part.nodes.items (node n form0 0) (node n form (length old.nodes.items + 1 + length more)) more
+          ap (λ v. map node_of v) (cl ∙ λ j. set part.nodes.items (at j) (node n form (counts j)))
+          ∙ seam node_of old.nodes.items part.nodes.items (node n form0 0) (node n form (length old.nodes.items + 1 + length more)) more
           (g.nodes ∙ ap (λ v. map node_of v ++ more) opn);
       leaves_more = lw ∙ g.leaves_more ∙ ap (λ x. x + l) lv;
     }
@@ -214,12 +219,12 @@ pub one_over : (old o part new : Lists) (t : Term) (b r live : Bool) (i n : ℕ)
     → new.nodes.items ≡ closed part.nodes.items i (record { path = n; live = b }) form
     → new.leaves ≡ part.leaves
     → tree_nodes b t n (length old.nodes.items) old.leaves
-      ≡ subtree_if b n (length old.nodes.items) (form_of form) (tree_nodes r p (n + 1) (length old.nodes.items + 1) old.leaves)
+    ≡ subtree_if b n (length old.nodes.items) (form_of form) (tree_nodes r p (n + 1) (length old.nodes.items + 1) old.leaves)
     → leaf_paths b t n ≡ (if b then leaf_paths r p (n + 1) else [])
     → Grows old new b t n
 one_over old o part new t b r live i n form0 form p at opn lv e g cl lw tn lp =
     let whole = closed_over old o part new b i n form0 form _ _ at opn lv
-      (part_between o part b r live p (n + 1) (length old.nodes.items + 1) old.leaves e (next_place old o b n form0 opn) (λ h. sym lv) g) cl lw in
+    (part_between o part b r live p (n + 1) (length old.nodes.items + 1) old.leaves e (next_place old o b n form0 opn) (λ h. sym lv) g) cl lw in
     record {
       nodes = whole.nodes ∙ ap (λ l. map node_of old.nodes.items ++ l) (sym tn);
       leaves = whole.leaves_more ∙ ap (λ l. old.leaves + l) (sym (length-if b (leaf_paths r p (n + 1))) ∙ ap length (sym lp));
@@ -246,24 +251,24 @@ pub two_over : (old o mid part new : Lists) (t : Term) (b r s live other : Bool)
     → new.nodes.items ≡ closed part.nodes.items i (record { path = n; live = b }) form
     → new.leaves ≡ part.leaves
     → tree_nodes b t n (length old.nodes.items) old.leaves
-      ≡ subtree_if b n (length old.nodes.items) (form_of form)
-        (tree_nodes r p (n + 1) (length old.nodes.items + 1) old.leaves
-        ++ tree_nodes s q m (length old.nodes.items + 1 + length (tree_nodes r p (n + 1) (length old.nodes.items + 1) old.leaves))
-          (old.leaves + length (leaf_paths r p (n + 1))))
+    ≡ subtree_if b n (length old.nodes.items) (form_of form)
+    (tree_nodes r p (n + 1) (length old.nodes.items + 1) old.leaves
+    ++ tree_nodes s q m (length old.nodes.items + 1 + length (tree_nodes r p (n + 1) (length old.nodes.items + 1) old.leaves))
+    (old.leaves + length (leaf_paths r p (n + 1))))
     → leaf_paths b t n ≡ (if b then leaf_paths r p (n + 1) ++ leaf_paths s q m else [])
     → Grows old new b t n
 two_over old o mid part new t b r s live other i n m form0 form p q at opn lv e g f h cl lw tn lp =
     let first = part_between o mid b r live p (n + 1) (length old.nodes.items + 1) old.leaves e (next_place old o b n form0 opn) (λ y. sym lv) g in
     let behind = second_at o mid b _ _ (length old.nodes.items + 1) first (next_place old o b n form0 opn) in
     let second = part_between mid part b s other q m
-      (length old.nodes.items + 1 + length (tree_nodes r p (n + 1) (length old.nodes.items + 1) old.leaves))
-      (old.leaves + length (leaf_paths r p (n + 1))) f (λ y. (behind y).0) (λ y. ap (λ l. l + length (leaf_paths r p (n + 1))) (sym lv) ∙ (behind y).1) h in
+    (length old.nodes.items + 1 + length (tree_nodes r p (n + 1) (length old.nodes.items + 1) old.leaves))
+    (old.leaves + length (leaf_paths r p (n + 1))) f (λ y. (behind y).0) (λ y. ap (λ l. l + length (leaf_paths r p (n + 1))) (sym lv) ∙ (behind y).1) h in
     let whole = closed_over old o part new b i n form0 form _ _ at opn lv (between_two o mid part b _ _ _ _ first second) cl lw in
     record {
       nodes = whole.nodes ∙ ap (λ l. map node_of old.nodes.items ++ l) (sym tn);
       leaves = whole.leaves_more ∙ ap (λ l. old.leaves + l)
-        (ap (λ l. if b then l else 0) (sym (length-append (leaf_paths r p (n + 1)) (leaf_paths s q m)))
-        ∙ sym (length-if b (leaf_paths r p (n + 1) ++ leaf_paths s q m)) ∙ ap length (sym lp));
+          (ap (λ l. if b then l else 0) (sym (length-append (leaf_paths r p (n + 1)) (leaf_paths s q m)))
+          ∙ sym (length-if b (leaf_paths r p (n + 1) ++ leaf_paths s q m)) ∙ ap length (sym lp));
     }
 
 -- what a walk over a part says, in the part's own terms

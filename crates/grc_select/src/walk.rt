@@ -112,7 +112,9 @@ fn can_pass(codes: &Codes, path: u32) -> bool
     requires resumed { path < length codes.now.resumed.items }
     ensures { result ≡ (set_at codes.now.started.items path 0 || set_at codes.now.resumed.items path 0) }
 {
-    started_codes(codes, path).union(resumed_codes(codes, path)).has(0)
+    started_codes(codes, path)
+        .union(resumed_codes(codes, path))
+        .has(0)
 }
 
 // A part with this number.

@@ -34,9 +34,9 @@ returns-clause-live c =
     let codes = codes_at _ _ 0 (codes_of_body _ (term_of c.args.body.now) c.requires.codes) in
     let roots = c.in_ok-push_root.ensures ∙ ap (λ l. l ++ 0 ∷ []) c.new-2.ensures.items in
     let g : Gains c.new.result.items c.copy_part.new.lists.live.items (body_instances (term_of c.args.body.now))
-      = gains_at c.new.result.items c.copy_part.new.lists.live.items _ c.push_root.new.roots.items _ (term_of c.args.body.now) (body_liveness (term_of c.args.body.now)) 0
-        (body_shows c.has_some_code.result _ c.push_root.new.roots.items (term_of c.args.body.now) c.has_some_code.ensures (c.resumed_codes.ensures ∙ codes.resumed) roots)
-        refl c.in_ok-copy_part.ensures.live
+    = gains_at c.new.result.items c.copy_part.new.lists.live.items _ c.push_root.new.roots.items _ (term_of c.args.body.now) (body_liveness (term_of c.args.body.now)) 0
+    (body_shows c.has_some_code.result _ c.push_root.new.roots.items (term_of c.args.body.now) c.has_some_code.ensures (c.resumed_codes.ensures ∙ codes.resumed) roots)
+    refl c.in_ok-copy_part.ensures.live
     in g.list ∙ ap (λ l. map instance_of l ++ body_instances (term_of c.args.body.now)) c.new.ensures.items
 
 pub returns-clause-few : goal.returns-clause-few
@@ -44,9 +44,9 @@ returns-clause-few c =
     let codes = codes_at _ _ 0 (codes_of_body _ (term_of c.args.body.now) c.requires.codes) in
     let roots = c.in_ok-push_root.ensures ∙ ap (λ l. l ++ 0 ∷ []) c.new-2.ensures.items in
     let g : Gains c.new.result.items c.copy_part.new.lists.live.items (body_instances (term_of c.args.body.now))
-      = gains_at c.new.result.items c.copy_part.new.lists.live.items _ c.push_root.new.roots.items _ (term_of c.args.body.now) (body_liveness (term_of c.args.body.now)) 0
-        (body_shows c.has_some_code.result _ c.push_root.new.roots.items (term_of c.args.body.now) c.has_some_code.ensures (c.resumed_codes.ensures ∙ codes.resumed) roots)
-        refl c.in_ok-copy_part.ensures.live
+    = gains_at c.new.result.items c.copy_part.new.lists.live.items _ c.push_root.new.roots.items _ (term_of c.args.body.now) (body_liveness (term_of c.args.body.now)) 0
+    (body_shows c.has_some_code.result _ c.push_root.new.roots.items (term_of c.args.body.now) c.has_some_code.ensures (c.resumed_codes.ensures ∙ codes.resumed) roots)
+    refl c.in_ok-copy_part.ensures.live
     in
     let none : length c.new.result.items ≡ 0 = ap length c.new.ensures.items in
     let few : length c.copy_part.new.lists.live.items ≤ 131072 = g.few (omega arith) in

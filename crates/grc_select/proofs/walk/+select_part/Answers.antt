@@ -136,6 +136,6 @@ returns-in_ok-after-in-Par-clause-grown t c =
     (c.part_place-in-Par-2.ensures.live ∙ (λ i. c.args.at.live && has_code (set_at c.args.codes.now.resumed.items ((c.in_ok-next-in-Par.ensures.after ∙ λ i. c.part_place-in-Par.ensures.path i + statement_count (term_of (c.deref-in-Par.ensures i))) i))) ∙ λ i. c.args.at.live && has_code ((codes_at c.args.codes.now (term_of c.in-Par.right.value) (c.args.at.path + 1 + statement_count (term_of c.in-Par.left.value)) (rw c.in-Par.is at c.requires.codes).2).resumed i))
     (grows_at c.select_part-in-Par.new.lists c.select_part-in-Par-2.new.lists c.part_place-in-Par-2.result.live _ (term_of c.in-Par.right.value) _ (c.args.at.path + 1 + statement_count (term_of c.in-Par.left.value)) (ap (λ k. term_of k) c.deref-in-Par-2.ensures) (c.part_place-in-Par-2.ensures.path ∙ (c.in_ok-next-in-Par.ensures.after ∙ λ i. c.part_place-in-Par.ensures.path i + statement_count (term_of (c.deref-in-Par.ensures i)))) c.in_ok-after-in-Par.ensures.grown)
     c.close_node-in-Par.ensures.nodes c.close_node-in-Par.ensures.leaves (λ i. subtree_if c.args.at.live c.args.at.path (length c.args.lists.now.nodes.items) (Parallel (sym (c.can_pass-first.ensures ∙ λ i. (codes_at c.args.codes.now (term_of c.in-Par.left.value) (c.args.at.path + 1) (rw c.in-Par.is at c.requires.codes).1).started i 0 || (codes_at c.args.codes.now (term_of c.in-Par.left.value) (c.args.at.path + 1) (rw c.in-Par.is at c.requires.codes).1).resumed i 0) i) (sym (c.can_pass.ensures ∙ (λ i. set_at c.args.codes.now.started.items ((c.in_ok-next-in-Par.ensures.after ∙ λ i. c.part_place-in-Par.ensures.path i + statement_count (term_of (c.deref-in-Par.ensures i))) i) 0 || set_at c.args.codes.now.resumed.items ((c.in_ok-next-in-Par.ensures.after ∙ λ i. c.part_place-in-Par.ensures.path i + statement_count (term_of (c.deref-in-Par.ensures i))) i) 0) ∙ λ i. (codes_at c.args.codes.now (term_of c.in-Par.right.value) (c.args.at.path + 1 + statement_count (term_of c.in-Par.left.value)) (rw c.in-Par.is at c.requires.codes).2).started i 0 || (codes_at c.args.codes.now (term_of c.in-Par.right.value) (c.args.at.path + 1 + statement_count (term_of c.in-Par.left.value)) (rw c.in-Par.is at c.requires.codes).2).resumed i 0) i))
-      (tree_nodes (resumes (term_of c.in-Par.left.value)) (term_of c.in-Par.left.value) (c.args.at.path + 1) (length c.args.lists.now.nodes.items + 1) c.args.lists.now.leaves
-      ++ tree_nodes (resumes (term_of c.in-Par.right.value)) (term_of c.in-Par.right.value) (c.args.at.path + 1 + statement_count (term_of c.in-Par.left.value)) (length c.args.lists.now.nodes.items + 1 + length (tree_nodes (resumes (term_of c.in-Par.left.value)) (term_of c.in-Par.left.value) (c.args.at.path + 1) (length c.args.lists.now.nodes.items + 1) c.args.lists.now.leaves))
-        (c.args.lists.now.leaves + length (leaf_paths (resumes (term_of c.in-Par.left.value)) (term_of c.in-Par.left.value) (c.args.at.path + 1))))) refl)
+    (tree_nodes (resumes (term_of c.in-Par.left.value)) (term_of c.in-Par.left.value) (c.args.at.path + 1) (length c.args.lists.now.nodes.items + 1) c.args.lists.now.leaves
+    ++ tree_nodes (resumes (term_of c.in-Par.right.value)) (term_of c.in-Par.right.value) (c.args.at.path + 1 + statement_count (term_of c.in-Par.left.value)) (length c.args.lists.now.nodes.items + 1 + length (tree_nodes (resumes (term_of c.in-Par.left.value)) (term_of c.in-Par.left.value) (c.args.at.path + 1) (length c.args.lists.now.nodes.items + 1) c.args.lists.now.leaves))
+    (c.args.lists.now.leaves + length (leaf_paths (resumes (term_of c.in-Par.left.value)) (term_of c.in-Par.left.value) (c.args.at.path + 1))))) refl)
