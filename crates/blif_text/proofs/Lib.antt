@@ -1,8 +1,17 @@
 mod WorkedTexts
+mod PlainWords
 pub mod Numbered
-pub mod Words
+pub mod NameSets
+pub mod FirstLines
+pub mod FirstWords
+pub mod WordBytes
 pub mod SpelledLines
 pub mod ReadsBack
+pub mod SaidNames
+pub mod Reversals
+pub mod DriverSets
+pub mod TakenLines
+pub mod ReadBack
 pub mod TextParts
 pub mod RoundTrip
 pub mod NetNames
@@ -10,3 +19,15 @@ pub mod NetDrivers
 pub mod NetSpelling
 pub mod NetInstants
 pub mod NetRuns
+mod TextEquations
+mod RandomEquations1
+mod RandomEquations2
+mod RandomEquations3
+mod RandomEquations4
+mod RandomEquations5
+mod RandomEquations6
+mod RandomEquations7
+mod RandomEquations8
+mod FixedEquations1
+mod FixedEquations2
+mod FixedEquations3

@@ -1,11 +1,13 @@
 -- The names that a net's circuit drives: no two are one.
-use Rattle.std.proofs.Common.{◌≡◌, ◌≢◌, ℕ, ◌+◌, ◌<◌, ◌≤◌, ◌^◌, Bool, true, false, not, ◌==◌, ◌||◌, List, [], ◌∷◌, ◌++◌, length, map, get_or, refl, sym, ap, ◌∙◌, arith, Option, Some, None, nat_eq, All}
-use Rattle.std.specs.Prelude.{option_map, filter_map, decimal, IfSome, if◌then◌else◌}
+use Rattle.std.proofs.Common.{◌≡◌, ◌≢◌, ℕ, ◌+◌, ◌<◌, ◌≤◌, ◌^◌, Bool, true, false, not, ◌==◌, ◌||◌, List, [], ◌∷◌, ◌++◌, length, map, get_or, refl, sym, ap}
+use Rattle.std.proofs.Common.{◌∙◌, arith, Option, Some, None, nat_eq, IsTrue, All}
+use Rattle.std.specs.Prelude.{option_map, filter_map, decimal, IfSome, codes, if◌then◌else◌}
 use Rattle.std.specs.List.{list_all, list_any, cons_option}
 use lib.Pointwise.{bytes_decides}
-use Rattle.std.proofs.lemmas.List.Folds.{list_any-append}
-use Rattle.std.proofs.lemmas.Bool.{both_ways, and_parts, or_parts, and_from, or_from, not-true, false_from_ne_true, not_from_false, ne_eqb, eqb-false}
-use Rattle.std.proofs.lemmas.List.{map-append, length-map}
+use Rattle.std.proofs.lemmas.List.Folds.{list_any-append, list_all-append}
+use Rattle.std.proofs.lemmas.Bool.{both_ways, and_parts, or_parts, and_from, or_from, or_left, not-true, false_from_ne_true, not_from_false, ne_eqb, eqb-false}
+use Rattle.std.proofs.Math.Bool.{and-false}
+use Rattle.std.proofs.lemmas.List.{map-append, length-map, append_cancel_right}
 use Rattle.std.proofs.lemmas.List.Elements.{All-tail, All-map}
 use Rattle.std.proofs.lemmas.Fmt.{decimal_injective}
 use Rattle.est_base.specs.declared.indices.WireId.{WireId}
@@ -13,15 +15,17 @@ use Rattle.net_ir.specs.declared.netlist.Gate.{Gate}
 use Rattle.net_ir.specs.declared.netlist.NetOut.{NetOut}
 use Rattle.net_ir.specs.declared.netlist.Latch.{Latch}
 use Rattle.est_base.specs.Distinct.{all_differ, none_shared}
-use Rattle.est_base.specs.Names.{is_letter, is_name, is_name_byte, is_same_name}
+use Rattle.est_base.specs.Names.{is_letter, is_digit, is_name, is_name_byte, is_same_name}
 use Rattle.net_ir.specs.Gates.{carried}
-use Rattle.net_ir.specs.Runs.{Netlist}
+use Rattle.net_ir.specs.Netlists.{Netlist}
 use Rattle.net_ir.proofs.Building.{all_differ-append}
-use Rattle.blif_text.specs.Circuits.{CircuitLatch, Table}
+use Rattle.blif_text.specs.Circuits.{CircuitLatch, Table, is_among}
 use Rattle.blif_text.specs.Runs.{driven_names}
-use Rattle.blif_text.specs.Written.{input_word, latch_word, gate_word, net_word, paused_word, numbered, net_latch, copy_table, input_table, gate_table, output_table, net_tables, net_circuit}
+use Rattle.blif_text.specs.Written.{output_word, input_word, latch_word, gate_word, net_word, paused_word, numbered, net_latch, copy_table, input_table}
+use Rattle.blif_text.specs.Written.{gate_table, output_table, net_tables, net_circuit}
 use Rattle.blif_text.proofs.Numbered.{list_all-from_All, All-numbered, map-numbered}
-use Rattle.blif_text.proofs.NetNames.{IsNet, input_words, latch_words, gate_words}
+use Rattle.blif_text.proofs.RoundTrip.{none_shared-front, none_shared-nil}
+use Rattle.blif_text.proofs.NetNames.{IsWritable, shown_words, input_words, latch_words, gate_words}
 
 -- ---- names that differ
 
@@ -45,9 +49,11 @@ apart-right [] ys zs a b = refl
 apart-right (x ∷ xs) ys zs a b =
     let y = and_parts (not (list_any (is_same_name x) ys)) (none_shared is_same_name xs ys) a in
     let z = and_parts (not (list_any (is_same_name x) zs)) (none_shared is_same_name xs zs) b in
-    rw (list_any-append (is_same_name x) ys zs, not-true (list_any (is_same_name x) ys) y.0, not-true (list_any (is_same_name x) zs) z.0) (apart-right xs ys zs y.1 z.1)
+    rw (list_any-append (is_same_name x) ys zs, not-true (list_any (is_same_name x) ys) y.0, not-true (list_any (is_same_name x) zs) z.0)
+    (apart-right xs ys zs y.1 z.1)
 
-joined-differ : (xs ys : List (List ℕ)) → all_differ is_same_name xs ≡ true → Apart xs ys → all_differ is_same_name ys ≡ true → all_differ is_same_name (xs ++ ys) ≡ true
+joined-differ : (xs ys : List (List ℕ)) → all_differ is_same_name xs ≡ true → Apart xs ys → all_differ is_same_name ys ≡ true
+    → all_differ is_same_name (xs ++ ys) ≡ true
 joined-differ xs ys a b c = all_differ-append is_same_name xs ys ∙ rw (a, b, c) refl
 
 -- ---- the second letter tells the kinds of names apart
@@ -61,7 +67,8 @@ mark (c ∷ d ∷ cs) = if c == 95 then d else 0
 mark-same : (x y : List ℕ) → x ≡ y → mark x ≡ mark y
 mark-same x y e = ap mark e
 
-differ-marks : (p : ℕ → Bool) (x : List ℕ) (ys : List (List ℕ)) → p (mark x) ≡ true → list_all (λ y. not (p (mark y))) ys ≡ true → list_any (is_same_name x) ys ≡ false
+differ-marks : (p : ℕ → Bool) (x : List ℕ) (ys : List (List ℕ)) → p (mark x) ≡ true → list_all (λ y. not (p (mark y))) ys ≡ true
+    → list_any (is_same_name x) ys ≡ false
 differ-marks p x [] here others = refl
 differ-marks p x (y ∷ ys) here others =
     let parts = and_parts (not (p (mark y))) (list_all (λ z. not (p (mark z))) ys) others in
@@ -73,7 +80,8 @@ apart-marks : (p : ℕ → Bool) (xs ys : List (List ℕ)) → list_all (λ x. p
 apart-marks p [] ys here others = refl
 apart-marks p (x ∷ xs) ys here others =
     let parts = and_parts (p (mark x)) (list_all (λ z. p (mark z)) xs) here in
-    and_from (not (list_any (is_same_name x) ys)) (none_shared is_same_name xs ys) (not_from_false (list_any (is_same_name x) ys) (differ-marks p x ys parts.0 others)) (apart-marks p xs ys parts.1 others)
+    and_from (not (list_any (is_same_name x) ys)) (none_shared is_same_name xs ys)
+    (not_from_false (list_any (is_same_name x) ys) (differ-marks p x ys parts.0 others)) (apart-marks p xs ys parts.1 others)
 
 mark-name : (name : List ℕ) → is_name name ≡ true → mark name ≡ 0
 mark-name [] fits = refl
@@ -82,12 +90,26 @@ mark-name (c ∷ d ∷ cs) fits =
     let parts = and_parts (is_letter c) (list_all is_name_byte (d ∷ cs)) fits in
     rw (ne_eqb c 95 (λ e. both_ways (is_letter c) (ap is_letter e) parts.0)) refl
 
-marks-inputs : (net : Netlist) → IsNet net → (p : ℕ → Bool) → p 0 ≡ true → list_all (λ x. p (mark x)) net.inputs ≡ true
-marks-inputs net is p holds = list_all-from_All (λ x. p (mark x)) net.inputs (λ k d h. ap p (mark-name (get_or net.inputs k d) (is.input_names_fit k d h)) ∙ holds)
+marks-inputs : (net : Netlist) → IsWritable net → (p : ℕ → Bool) → p 0 ≡ true → list_all (λ x. p (mark x)) net.inputs ≡ true
+marks-inputs net is p holds = list_all-from_All (λ x. p (mark x)) net.inputs
+    (λ k d h. ap p (mark-name (get_or net.inputs k d) (is.is_net.input_names_fit k d h)) ∙ holds)
 
-marks-outputs : (net : Netlist) → IsNet net → (p : ℕ → Bool) → p 0 ≡ true → list_all (λ x. p (mark x)) (map (λ o. o.name) net.outputs) ≡ true
-marks-outputs net is p holds = list_all-from_All (λ x. p (mark x)) (map (λ o. o.name) net.outputs)
-    (All-map (λ x. p (mark x) ≡ true) (λ (o : NetOut). o.name) net.outputs (λ k d h. ap p (mark-name (get_or net.outputs k d).name (is.output_names_fit k d h)) ∙ holds))
+-- `.out` behind a name leaves its second letter unmarked
+mark-marked : (name : List ℕ) → is_name name ≡ true → mark (name ++ codes ".out") ≡ 0
+mark-marked [] fits = refl
+mark-marked (c ∷ []) fits =
+    let parts = and_parts (is_letter c) true fits in
+    rw (ne_eqb c 95 (λ e. both_ways (is_letter c) (ap is_letter e) parts.0)) refl
+mark-marked (c ∷ d ∷ cs) fits = mark-name (c ∷ d ∷ cs) fits
+
+mark-output : (inputs : List (List ℕ)) (name : List ℕ) → is_name name ≡ true → mark (output_word inputs name) ≡ 0
+mark-output inputs name fits = elim (is_among name inputs) as (λ shared. mark (if shared then name ++ codes ".out" else name) ≡ 0)
+    [ true ↦ mark-marked name fits | false ↦ mark-name name fits ]
+
+marks-outputs : (net : Netlist) → IsWritable net → (p : ℕ → Bool) → p 0 ≡ true → list_all (λ x. p (mark x)) (shown_words net) ≡ true
+marks-outputs net is p holds = list_all-from_All (λ x. p (mark x)) (shown_words net)
+    (All-map (λ x. p (mark x) ≡ true) (λ (o : NetOut). output_word net.inputs o.name) net.outputs
+    (λ k d h. ap p (mark-output net.inputs (get_or net.outputs k d).name (is.is_net.output_names_fit k d h)) ∙ holds))
 
 marks-input_words : (net : Netlist) (p : ℕ → Bool) → p 105 ≡ true → list_all (λ x. p (mark x)) (input_words net) ≡ true
 marks-input_words net p holds = list_all-from_All (λ x. p (mark x)) (input_words net)
@@ -103,7 +125,8 @@ mark-gate p g w k (Some wire) = w
 
 marks-gate_words : (net : Netlist) (p : ℕ → Bool) → p 103 ≡ true → p 119 ≡ true → list_all (λ x. p (mark x)) (gate_words net) ≡ true
 marks-gate_words net p g w = list_all-from_All (λ x. p (mark x)) (gate_words net)
-    (All-numbered (λ x. p (mark x) ≡ true) (λ k (gate : Gate). gate_word k gate.wire) 0 net.gates (λ k d h. mark-gate p g w (0 + k) (get_or net.gates k d).wire))
+    (All-numbered (λ x. p (mark x) ≡ true) (λ k (gate : Gate). gate_word k gate.wire) 0 net.gates
+    (λ k d h. mark-gate p g w (0 + k) (get_or net.gates k d).wire))
 
 -- ---- within one kind the numbers differ
 
@@ -111,13 +134,15 @@ marks-gate_words net p g w = list_all-from_All (λ x. p (mark x)) (gate_words ne
 abbrev TellsNumbers : (ℕ → List ℕ) → Type 0
 TellsNumbers w = (m n : ℕ) → m < 2 ^ 64 → n < 2 ^ 64 → (m ≢ n) → is_same_name (w m) (w n) ≡ false
 
-not_later : {X : Type 0} (w : ℕ → List ℕ) → TellsNumbers w → (m n : ℕ) (xs : List X) → m < n → n + length xs ≤ 2 ^ 64 → list_any (is_same_name (w m)) (numbered (λ j x. w j) n xs) ≡ false
+not_later : {X : Type 0} (w : ℕ → List ℕ) → TellsNumbers w → (m n : ℕ) (xs : List X) → m < n → n + length xs ≤ 2 ^ 64
+    → list_any (is_same_name (w m)) (numbered (λ j x. w j) n xs) ≡ false
 not_later w tells m n [] low few = refl
 not_later w tells m n (x ∷ xs) low few =
     or_from (is_same_name (w m) (w n)) (list_any (is_same_name (w m)) (numbered (λ j x. w j) (n + 1) xs))
     (tells m n (omega arith) (omega arith) (omega arith)) (not_later w tells m (n + 1) xs (omega arith) (omega arith))
 
-numbered-differ : {X : Type 0} (w : ℕ → List ℕ) → TellsNumbers w → (n : ℕ) (xs : List X) → n + length xs ≤ 2 ^ 64 → all_differ is_same_name (numbered (λ j x. w j) n xs) ≡ true
+numbered-differ : {X : Type 0} (w : ℕ → List ℕ) → TellsNumbers w → (n : ℕ) (xs : List X) → n + length xs ≤ 2 ^ 64
+    → all_differ is_same_name (numbered (λ j x. w j) n xs) ≡ true
 numbered-differ w tells n [] few = refl
 numbered-differ w tells n (x ∷ xs) few =
     and_from (not (list_any (is_same_name (w n)) (numbered (λ j x. w j) (n + 1) xs))) (all_differ is_same_name (numbered (λ j x. w j) (n + 1) xs))
@@ -134,13 +159,15 @@ gate-differ : (m n : ℕ) (wire : Option WireId) → m < 2 ^ 64 → n < 2 ^ 64 �
 gate-differ m n None a b ne = differ-decimal m n a b ne
 gate-differ m n (Some w) a b ne = refl
 
-no_later_gate : (m n : ℕ) (wires : List (Option WireId)) → m < n → n + length wires ≤ 2 ^ 64 → list_any (is_same_name (gate_word m None)) (numbered gate_word n wires) ≡ false
+no_later_gate : (m n : ℕ) (wires : List (Option WireId)) → m < n → n + length wires ≤ 2 ^ 64
+    → list_any (is_same_name (gate_word m None)) (numbered gate_word n wires) ≡ false
 no_later_gate m n [] low few = refl
 no_later_gate m n (wire ∷ wires) low few =
     or_from (is_same_name (gate_word m None) (gate_word n wire)) (list_any (is_same_name (gate_word m None)) (numbered gate_word (n + 1) wires))
     (gate-differ m n wire (omega arith) (omega arith) (omega arith)) (no_later_gate m (n + 1) wires (omega arith) (omega arith))
 
-no_later_wire : (w : WireId) (m n : ℕ) (wires : List (Option WireId)) → w.0 < 2 ^ 32 → AllFit wires → list_any (nat_eq w.0) (wire_numbers wires) ≡ false → list_any (is_same_name (gate_word m (Some w))) (numbered gate_word n wires) ≡ false
+no_later_wire : (w : WireId) (m n : ℕ) (wires : List (Option WireId)) → w.0 < 2 ^ 32 → AllFit wires → list_any (nat_eq w.0) (wire_numbers wires) ≡ false
+    → list_any (is_same_name (gate_word m (Some w))) (numbered gate_word n wires) ≡ false
 no_later_wire w m n [] small fit none = refl
 no_later_wire w m n (None ∷ wires) small fit none =
     no_later_wire w m (n + 1) wires small (All-tail (λ wire. IfSome wire (λ v. v.0 < 2 ^ 32)) None wires fit) none
@@ -151,7 +178,8 @@ no_later_wire w m n (Some v ∷ wires) small fit none =
     (differ-decimal w.0 v.0 (omega arith) (omega arith) (eqb-false w.0 v.0 parts.0))
     (no_later_wire w m (n + 1) wires small (All-tail (λ wire. IfSome wire (λ u. u.0 < 2 ^ 32)) (Some v) wires fit) parts.1)
 
-wires-differ : (n : ℕ) (wires : List (Option WireId)) → n + length wires ≤ 2 ^ 64 → AllFit wires → all_differ nat_eq (wire_numbers wires) ≡ true → all_differ is_same_name (numbered gate_word n wires) ≡ true
+wires-differ : (n : ℕ) (wires : List (Option WireId)) → n + length wires ≤ 2 ^ 64 → AllFit wires → all_differ nat_eq (wire_numbers wires) ≡ true
+    → all_differ is_same_name (numbered gate_word n wires) ≡ true
 wires-differ n [] few fit once = refl
 wires-differ n (None ∷ wires) few fit once =
     and_from (not (list_any (is_same_name (gate_word n None)) (numbered gate_word (n + 1) wires))) (all_differ is_same_name (numbered gate_word (n + 1) wires))
@@ -160,7 +188,8 @@ wires-differ n (None ∷ wires) few fit once =
 wires-differ n (Some w ∷ wires) few fit once =
     let parts = and_parts (not (list_any (nat_eq w.0) (wire_numbers wires))) (all_differ nat_eq (wire_numbers wires)) once in
     let rest = All-tail (λ wire. IfSome wire (λ u. u.0 < 2 ^ 32)) (Some w) wires fit in
-    and_from (not (list_any (is_same_name (gate_word n (Some w))) (numbered gate_word (n + 1) wires))) (all_differ is_same_name (numbered gate_word (n + 1) wires))
+    and_from (not (list_any (is_same_name (gate_word n (Some w))) (numbered gate_word (n + 1) wires)))
+    (all_differ is_same_name (numbered gate_word (n + 1) wires))
     (not_from_false _ (no_later_wire w n (n + 1) wires (fit 0 (Some w) (omega arith)) rest (not-true _ parts.0)))
     (wires-differ (n + 1) wires (omega arith) rest parts.1)
 
@@ -172,35 +201,112 @@ carried-wires : (gates : List Gate) → carried gates ≡ wire_numbers (map (λ 
 carried-wires [] = refl
 carried-wires (g ∷ gates) = ap (cons_option (option_map (λ (w : WireId). w.0) g.wire)) (carried-wires gates)
 
-differ-inputs : (net : Netlist) → IsNet net → all_differ is_same_name (input_words net) ≡ true
+differ-inputs : (net : Netlist) → IsWritable net → all_differ is_same_name (input_words net) ≡ true
 differ-inputs net is =
-    let few = is.few in numbered-differ input_word differ-decimal 0 net.inputs (omega arith)
+    let few = is.is_net.numbered in numbered-differ input_word differ-decimal 0 net.inputs (omega arith)
 
-differ-latches : (net : Netlist) → IsNet net → all_differ is_same_name (latch_words net) ≡ true
+differ-latches : (net : Netlist) → IsWritable net → all_differ is_same_name (latch_words net) ≡ true
 differ-latches net is =
-    let few = is.few in numbered-differ latch_word differ-decimal 0 net.latches (omega arith)
+    let few = is.is_net.numbered in numbered-differ latch_word differ-decimal 0 net.latches (omega arith)
 
-differ-gates : (net : Netlist) → IsNet net → all_differ is_same_name (gate_words net) ≡ true
+differ-gates : (net : Netlist) → IsWritable net → all_differ is_same_name (gate_words net) ≡ true
 differ-gates net is =
-    let few = is.few in
+    let few = is.is_net.numbered in
     let wires = map (λ (g : Gate). g.wire) net.gates in
-    let once : all_differ nat_eq (wire_numbers wires) ≡ true = ap (all_differ nat_eq) (sym (carried-wires net.gates)) ∙ is.carries_once in
+    let once : all_differ nat_eq (wire_numbers wires) ≡ true = ap (all_differ nat_eq) (sym (carried-wires net.gates)) ∙ is.is_net.carries_once in
     let fit = All-map (λ (wire : Option WireId). IfSome wire (λ w. w.0 < 2 ^ 32)) (λ (g : Gate). g.wire) net.gates is.wires_fit in
     ap (all_differ is_same_name) (numbered-of_map gate_word (λ (g : Gate). g.wire) 0 net.gates)
     ∙ wires-differ 0 wires (omega (arith, length-map net.gates (λ (g : Gate). g.wire))) fit once
 
+-- ---- the names of outputs
+
+-- `.out` behind a name makes another than each name without a `.`
+no_name_is_marked : (x y : List ℕ) → is_name y ≡ true → (x ++ codes ".out" ≢ y)
+no_name_is_marked x [] fits same = both_ways false refl fits
+no_name_is_marked x (c ∷ cs) fits same =
+    let parts = and_parts (is_letter c) (list_all is_name_byte cs) fits in
+    let all : list_all is_name_byte (c ∷ cs) ≡ true = and_from (is_name_byte c) (list_all is_name_byte cs)
+    (or_left (is_letter c || is_digit c) (c == 95) (or_left (is_letter c) (is_digit c) parts.0)) parts.1 in
+    let marked : list_all is_name_byte (x ++ codes ".out") ≡ false = list_all-append is_name_byte x (codes ".out") ∙ and-false (list_all is_name_byte x) in
+    both_ways (list_all is_name_byte (c ∷ cs)) (ap (list_all is_name_byte) (sym same) ∙ marked) all
+
+-- names that differ are written as words that differ
+words-tell : (inputs : List (List ℕ)) (x y : List ℕ) → is_name x ≡ true → is_name y ≡ true → is_same_name x y ≡ false
+    → is_same_name (output_word inputs x) (output_word inputs y) ≡ false
+words-tell inputs x y x_fits y_fits apart =
+    let ne : x ≢ y = λ e. both_ways (is_same_name x y) apart ((bytes_decides x y).1 e) in
+    elim (is_among x inputs) as (λ a. is_same_name (if a then x ++ codes ".out" else x) (output_word inputs y) ≡ false) [
+      | true ↦ elim (is_among y inputs) as (λ b. is_same_name (x ++ codes ".out") (if b then y ++ codes ".out" else y) ≡ false) [
+        | true ↦ differ (x ++ codes ".out") (y ++ codes ".out") (λ e. ne (append_cancel_right x y (codes ".out") e))
+        | false ↦ differ (x ++ codes ".out") y (no_name_is_marked x y y_fits)
+      ]
+      | false ↦ elim (is_among y inputs) as (λ b. is_same_name x (if b then y ++ codes ".out" else y) ≡ false) [
+        | true ↦ differ x (y ++ codes ".out") (λ e. no_name_is_marked y x x_fits (sym e))
+        | false ↦ apart
+      ]
+    ]
+
+abbrev names_of : List NetOut → List (List ℕ)
+names_of outputs = map (λ o. o.name) outputs
+
+abbrev words_of : List (List ℕ) → List NetOut → List (List ℕ)
+words_of inputs outputs = map (λ o. output_word inputs o.name) outputs
+
+no_later_word : (inputs : List (List ℕ)) (x : List ℕ) (outputs : List NetOut) → is_name x ≡ true → All (λ o. IsTrue (is_name o.name)) outputs
+    → list_any (is_same_name x) (names_of outputs) ≡ false → list_any (is_same_name (output_word inputs x)) (words_of inputs outputs) ≡ false
+no_later_word inputs x [] fits all none = refl
+no_later_word inputs x (o ∷ outputs) fits all none =
+    let parts = or_parts (is_same_name x o.name) (list_any (is_same_name x) (names_of outputs)) none in
+    or_from _ _ (words-tell inputs x o.name fits (all 0 o (omega arith)) parts.0)
+    (no_later_word inputs x outputs fits (All-tail (λ (p : NetOut). IsTrue (is_name p.name)) o outputs all) parts.1)
+
+words-differ : (inputs : List (List ℕ)) (outputs : List NetOut) → All (λ o. IsTrue (is_name o.name)) outputs
+    → all_differ is_same_name (names_of outputs) ≡ true → all_differ is_same_name (words_of inputs outputs) ≡ true
+words-differ inputs [] all differ = refl
+words-differ inputs (o ∷ outputs) all differ =
+    let parts = and_parts (not (list_any (is_same_name o.name) (names_of outputs))) (all_differ is_same_name (names_of outputs)) differ in
+    let rest = All-tail (λ (p : NetOut). IsTrue (is_name p.name)) o outputs all in
+    and_from (not (list_any (is_same_name (output_word inputs o.name)) (words_of inputs outputs))) (all_differ is_same_name (words_of inputs outputs))
+    (not_from_false _ (no_later_word inputs o.name outputs (all 0 o (omega arith)) rest (not-true _ parts.0)))
+    (words-differ inputs outputs rest parts.1)
+
+-- no name of an input is the word of an output
+no_input-marked : (inputs : List (List ℕ)) (name : List ℕ) → All (λ n. IsTrue (is_name n)) inputs → is_among (name ++ codes ".out") inputs ≡ false
+no_input-marked [] name all = refl
+no_input-marked (x ∷ inputs) name all =
+    or_from _ _ (differ (name ++ codes ".out") x (no_name_is_marked name x (all 0 x (omega arith))))
+    (no_input-marked inputs name (All-tail (λ n. IsTrue (is_name n)) x inputs all))
+
+no_input-word : (inputs : List (List ℕ)) (name : List ℕ) → All (λ n. IsTrue (is_name n)) inputs → not (is_among (output_word inputs name) inputs) ≡ true
+no_input-word inputs name all = go (is_among name inputs) refl
+  where
+    go : (shared : Bool) → is_among name inputs ≡ shared → not (is_among (if shared then name ++ codes ".out" else name) inputs) ≡ true
+    go true e = not_from_false _ (no_input-marked inputs name all)
+    go false e = not_from_false _ e
+
+apart-each : (xs ys : List (List ℕ)) → list_all (λ y. not (is_among y xs)) ys ≡ true → Apart xs ys
+apart-each xs [] none = none_shared-nil xs
+apart-each xs (y ∷ ys) none =
+    let parts = and_parts (not (is_among y xs)) (list_all (λ z. not (is_among z xs)) ys) none in
+    none_shared-front xs ys y (not-true _ parts.0) (apart-each xs ys parts.1)
+
+apart-words : (net : Netlist) → IsWritable net → Apart net.inputs (shown_words net)
+apart-words net is = apart-each net.inputs (shown_words net) (list_all-from_All (λ y. not (is_among y net.inputs)) (shown_words net)
+    (All-map (λ y. not (is_among y net.inputs) ≡ true) (λ (o : NetOut). output_word net.inputs o.name) net.outputs
+    (λ k d h. no_input-word net.inputs (get_or net.outputs k d).name is.is_net.input_names_fit)))
+
 -- ---- all names together
 
 abbrev outputs_of : Netlist → List (List ℕ)
-outputs_of net = map (λ o. o.name) net.outputs
+outputs_of net = shown_words net
 
 -- the names that tables drive
 abbrev pub table_names : Netlist → List (List ℕ)
 table_names net = input_words net ++ gate_words net ++ outputs_of net ++ paused_word ∷ []
 
-outputs-tables : (net : Netlist) (outputs : List NetOut) → map (λ (t : Table). t.output) (map (output_table net) outputs) ≡ map (λ o. o.name) outputs
+outputs-tables : (net : Netlist) (outputs : List NetOut) → map (λ (t : Table). t.output) (map (output_table net) outputs) ≡ words_of net.inputs outputs
 outputs-tables net [] = refl
-outputs-tables net (o ∷ outputs) = ap (λ l. o.name ∷ l) (outputs-tables net outputs)
+outputs-tables net (o ∷ outputs) = ap (λ l. output_word net.inputs o.name ∷ l) (outputs-tables net outputs)
 
 pub driven-net : (net : Netlist) → driven_names (net_circuit net) ≡ net.inputs ++ (latch_words net ++ table_names net)
 driven-net net =
@@ -211,32 +317,43 @@ driven-net net =
     let out = λ (t : Table). t.output in
     let tables : map out (net_tables net) ≡ table_names net =
     map-append out (inputs ++ gates ++ outputs) paused
-    ∙ ap (λ l. l ++ paused_word ∷ []) (map-append out (inputs ++ gates) outputs ∙ rw (map-append out inputs gates, map-numbered out input_table 0 net.inputs, map-numbered out (gate_table net) 0 net.gates, outputs-tables net net.outputs) refl)
+    ∙ ap (λ l. l ++ paused_word ∷ []) (map-append out (inputs ++ gates) outputs ∙ rw (
+      map-append out inputs gates,
+      map-numbered out input_table 0 net.inputs,
+      map-numbered out (gate_table net) 0 net.gates,
+      outputs-tables net
+          net.outputs,
+    ) refl)
     in
     let targets = map-numbered (λ (l : CircuitLatch). l.target) (net_latch net) 0 net.latches in
     ap (λ l. net.inputs ++ (l ++ map out (net_tables net))) targets ∙ ap (λ l. net.inputs ++ (latch_words net ++ l)) tables
 
-apart-tables : (net : Netlist) → IsNet net → (xs : List (List ℕ)) → Apart xs (input_words net) → Apart xs (gate_words net) → Apart xs (outputs_of net) → Apart xs (paused_word ∷ []) → Apart xs (table_names net)
+apart-tables : (net : Netlist) → IsWritable net → (xs : List (List ℕ)) → Apart xs (input_words net) → Apart xs (gate_words net) → Apart xs (outputs_of net)
+    → Apart xs (paused_word ∷ []) → Apart xs (table_names net)
 apart-tables net is xs i g o p =
-    apart-right xs (input_words net ++ gate_words net ++ outputs_of net) (paused_word ∷ []) (apart-right xs (input_words net ++ gate_words net) (outputs_of net) (apart-right xs (input_words net) (gate_words net) i g) o) p
+    apart-right xs (input_words net ++ gate_words net ++ outputs_of net) (paused_word ∷ [])
+    (apart-right xs (input_words net ++ gate_words net) (outputs_of net) (apart-right xs (input_words net) (gate_words net) i g) o) p
 
 -- the names that tables drive: inputs, gates, outputs and `_paused`
-tables-differ : (net : Netlist) → IsNet net → all_differ is_same_name (table_names net) ≡ true
+tables-differ : (net : Netlist) → IsWritable net → all_differ is_same_name (table_names net) ≡ true
 tables-differ net is =
     let inputs = input_words net in
     let gates = gate_words net in
     let outputs = outputs_of net in
     let ig = apart-marks (λ m. m == 105) inputs gates (marks-input_words net (λ m. m == 105) refl) (marks-gate_words net (λ m. not (m == 105)) refl refl) in
     let io = apart-marks (λ m. m == 105) inputs outputs (marks-input_words net (λ m. m == 105) refl) (marks-outputs net is (λ m. not (m == 105)) refl) in
-    let go = apart-marks (λ m. m == 103 || m == 119) gates outputs (marks-gate_words net (λ m. m == 103 || m == 119) refl refl) (marks-outputs net is (λ m. not (m == 103 || m == 119)) refl) in
+    let go = apart-marks (λ m. m == 103 || m == 119) gates outputs (marks-gate_words net (λ m. m == 103 || m == 119) refl refl)
+    (marks-outputs net is (λ m. not (m == 103 || m == 119)) refl) in
     let ip = apart-marks (λ m. not (m == 112)) inputs (paused_word ∷ []) (marks-input_words net (λ m. not (m == 112)) refl) refl in
     let gp = apart-marks (λ m. not (m == 112)) gates (paused_word ∷ []) (marks-gate_words net (λ m. not (m == 112)) refl refl) refl in
     let op = apart-marks (λ m. not (m == 112)) outputs (paused_word ∷ []) (marks-outputs net is (λ m. not (m == 112)) refl) refl in
     let both = joined-differ inputs gates (differ-inputs net is) ig (differ-gates net is) in
-    let three = joined-differ (inputs ++ gates) outputs both (apart-left inputs gates outputs io go) is.outputs_differ in
-    joined-differ (inputs ++ gates ++ outputs) (paused_word ∷ []) three (apart-left (inputs ++ gates) outputs (paused_word ∷ []) (apart-left inputs gates (paused_word ∷ []) ip gp) op) refl
+    let three = joined-differ (inputs ++ gates) outputs both (apart-left inputs gates outputs io go)
+    (words-differ net.inputs net.outputs is.is_net.output_names_fit is.is_net.outputs_differ) in
+    joined-differ (inputs ++ gates ++ outputs) (paused_word ∷ []) three
+    (apart-left (inputs ++ gates) outputs (paused_word ∷ []) (apart-left inputs gates (paused_word ∷ []) ip gp) op) refl
 
-pub names-differ : (net : Netlist) → IsNet net → all_differ is_same_name (net.inputs ++ (latch_words net ++ table_names net)) ≡ true
+pub names-differ : (net : Netlist) → IsWritable net → all_differ is_same_name (net.inputs ++ (latch_words net ++ table_names net)) ≡ true
 names-differ net is =
     let latches = latch_words net in
     let lt = apart-tables net is latches
@@ -248,9 +365,9 @@ names-differ net is =
     let nt = apart-tables net is net.inputs
     (apart-marks (λ m. m == 0) net.inputs (input_words net) (marks-inputs net is (λ m. m == 0) refl) (marks-input_words net (λ m. not (m == 0)) refl))
     (apart-marks (λ m. m == 0) net.inputs (gate_words net) (marks-inputs net is (λ m. m == 0) refl) (marks-gate_words net (λ m. not (m == 0)) refl refl))
-    is.no_shared_name
+    (apart-words net is)
     (apart-marks (λ m. m == 0) net.inputs (paused_word ∷ []) (marks-inputs net is (λ m. m == 0) refl) refl)
     in
     let nl = apart-marks (λ m. m == 0) net.inputs latches (marks-inputs net is (λ m. m == 0) refl) (marks-latch_words net (λ m. not (m == 0)) refl) in
-    joined-differ net.inputs (latches ++ table_names net) is.inputs_differ (apart-right net.inputs latches (table_names net) nl nt)
+    joined-differ net.inputs (latches ++ table_names net) is.is_net.inputs_differ (apart-right net.inputs latches (table_names net) nl nt)
     (joined-differ latches (table_names net) (differ-latches net is) lt (tables-differ net is))

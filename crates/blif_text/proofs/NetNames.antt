@@ -1,9 +1,10 @@
 -- The names of a net's circuit: each is a word, no two are one, and each that is used is driven.
-use Rattle.std.proofs.Common.{◌≡◌, ℕ, ◌+◌, ◌-◌, ◌<◌, ◌≤◌, ◌^◌, true, false, List, [], ◌++◌, length, map, get_or, refl, sym, ap, ◌∙◌, arith, zero-add, ⊎_elim, Option, Some, None, IsTrue, nat_eq, All}
-use Rattle.std.specs.Prelude.{option_and_then, IfSome}
+use Rattle.std.proofs.Common.{◌≡◌, ℕ, ◌+◌, ◌-◌, ◌<◌, ◌^◌, true, false, List, [], ◌∷◌, ◌++◌, length, map, get_or, refl, sym, ap, ◌∙◌, arith, zero-add, ⊎_elim}
+use Rattle.std.proofs.Common.{Option, Some, None, All}
+use Rattle.std.specs.Prelude.{option_and_then, IfSome, codes, if◌then◌else◌}
 use Rattle.std.specs.List.{list_all, range_with_len}
 use Rattle.std.proofs.lemmas.List.FromFn.{fill_by_all}
-use Rattle.std.proofs.lemmas.Bool.{cases_lt, lt-ltb, le-ltb}
+use Rattle.std.proofs.lemmas.Bool.{and_parts, and_from, cases_lt, lt-ltb, le-ltb}
 use Rattle.std.proofs.lemmas.List.{length-append, get_or_append_left, get_or-append-add}
 use Rattle.std.proofs.lemmas.List.Elements.{All-map}
 use Rattle.std.proofs.lemmas.Option.{slice_get-get_or}
@@ -12,29 +13,22 @@ use Rattle.net_ir.specs.declared.netlist.Op.TheVariants.{Const}
 use Rattle.net_ir.specs.declared.netlist.Gate.{Gate}
 use Rattle.net_ir.specs.declared.netlist.NetOut.{NetOut}
 use Rattle.net_ir.specs.declared.netlist.Latch.{Latch}
-use Rattle.est_base.specs.Distinct.{all_differ, none_shared}
-use Rattle.est_base.specs.Names.{is_name, is_same_name}
-use Rattle.net_ir.specs.Gates.{ReadsLower, carried}
-use Rattle.net_ir.specs.Runs.{Netlist, first_gate, net_count}
-use Rattle.blif_text.specs.Written.{input_word, latch_word, gate_word, wire_at, net_word, numbered}
-use Rattle.blif_text.proofs.Words.{is_word, is_word-name, decimal_bytes}
+use Rattle.est_base.specs.Names.{is_name}
+use Rattle.net_ir.specs.Netlists.{Netlist, IsNet, first_gate, net_count}
+use Rattle.blif_text.specs.Lines.{is_word_byte}
+use Rattle.blif_text.specs.Circuits.{is_among}
+use Rattle.blif_text.specs.Written.{output_word, input_word, latch_word, gate_word, wire_at, net_word, numbered}
+use Rattle.blif_text.proofs.WordBytes.{is_word, is_word-name, decimal_bytes}
 use Rattle.blif_text.proofs.Numbered.{list_all-parts, list_all-from_All, list_all-get_or, length-numbered, get_or-numbered, All-numbered}
 
--- what holds of every net
-pub record IsNet (net : Netlist) : Type 0 where
-  pub name_fits : IsTrue (is_name net.name)
-  pub input_names_fit : All (λ n. IsTrue (is_name n)) net.inputs
-  pub output_names_fit : All (λ o. IsTrue (is_name o.name)) net.outputs
-  pub inputs_differ : IsTrue (all_differ is_same_name net.inputs)
-  pub outputs_differ : IsTrue (all_differ is_same_name (map (λ o. o.name) net.outputs))
-  pub no_shared_name : IsTrue (none_shared is_same_name net.inputs (map (λ o. o.name) net.outputs))
-  pub few : length net.inputs + length net.latches + length net.gates ≤ 2 ^ 32
-  pub outputs_in_range : All (λ o. o.net.0 < net_count net) net.outputs
-  pub paused_in_range : net.paused < net_count net
-  pub latches_in_range : All (λ l. l.from.0 < net_count net) net.latches
-  pub reads_lower : ReadsLower (first_gate net) net.gates
-  pub carries_once : IsTrue (all_differ nat_eq (carried net.gates))
+-- a net whose wires have numbers of their type
+pub record IsWritable (net : Netlist) : Type 0 where
+  pub is_net : IsNet net
   pub wires_fit : All (λ g. IfSome g.wire (λ w. w.0 < 2 ^ 32)) net.gates
+
+-- the names of the outputs in the text
+abbrev pub shown_words : Netlist → List (List ℕ)
+shown_words net = map (λ o. output_word net.inputs o.name) net.outputs
 
 -- ---- the name of a net, by its kind
 
@@ -44,7 +38,11 @@ net_word-input net n h = rw (lt-ltb n (length net.inputs) h) refl
 net_word-latch : (net : Netlist) (j : ℕ) → j < length net.latches → net_word net (length net.inputs + j) ≡ latch_word j
 net_word-latch net j h =
     let e : length net.inputs + j - length net.inputs ≡ j = omega arith in
-    rw (le-ltb (length net.inputs + j) (length net.inputs) (omega arith), lt-ltb (length net.inputs + j) (length net.inputs + length net.latches) (omega arith)) (ap latch_word e)
+    rw (
+      le-ltb (length net.inputs + j) (length net.inputs) (omega arith),
+      lt-ltb (length net.inputs + j) (length net.inputs + length net.latches)
+          (omega arith),
+    ) (ap latch_word e)
 
 net_word-gate : (net : Netlist) (k : ℕ) (d : Gate) → k < length net.gates → net_word net (first_gate net + k) ≡ gate_word k (get_or net.gates k d).wire
 net_word-gate net k d h =
@@ -92,7 +90,8 @@ at-latch net j h =
     ∙ get_or-append-add (input_words net) (latch_words net) j []
     ∙ get_or-numbered (λ m (latch : Latch). latch_word m) 0 net.latches j [] any_latch h ∙ ap latch_word (zero-add j)
 
-pub at-gate : (net : Netlist) (k : ℕ) (d : Gate) → k < length net.gates → get_or (net_words net) (first_gate net + k) [] ≡ gate_word k (get_or net.gates k d).wire
+pub at-gate : (net : Netlist) (k : ℕ) (d : Gate) → k < length net.gates
+    → get_or (net_words net) (first_gate net + k) [] ≡ gate_word k (get_or net.gates k d).wire
 at-gate net k d h =
     let i = length-numbered (λ m (name : List ℕ). input_word m) 0 net.inputs in
     let l = length-numbered (λ m (latch : Latch). latch_word m) 0 net.latches in
@@ -103,7 +102,8 @@ at-gate net k d h =
     ∙ ap (λ m. gate_word m (get_or net.gates k d).wire) (zero-add k)
 
 -- a number of a net is that of an input, of a latch or of a gate
-pub net_cases : {C : Type 0} (net : Netlist) (n : ℕ) → n < net_count net → (n < length net.inputs → C) → ((j : ℕ) → j < length net.latches → n ≡ length net.inputs + j → C) → ((k : ℕ) → k < length net.gates → n ≡ first_gate net + k → C) → C
+pub net_cases : {C : Type 0} (net : Netlist) (n : ℕ) → n < net_count net → (n < length net.inputs → C)
+    → ((j : ℕ) → j < length net.latches → n ≡ length net.inputs + j → C) → ((k : ℕ) → k < length net.gates → n ≡ first_gate net + k → C) → C
 net_cases net n h input latch gate = ⊎_elim input
     (λ past. ⊎_elim
     (λ low. latch (n - length net.inputs) (omega arith) (omega arith))
@@ -130,27 +130,43 @@ pub is_word-gate : (k : ℕ) (wire : Option WireId) → k < 2 ^ 64 → IfSome wi
 is_word-gate k None small fits = decimal_bytes k small
 is_word-gate k (Some wire) small fits = decimal_bytes wire.0 (omega (arith, fits))
 
-pub words-inputs : (net : Netlist) → IsNet net → list_all is_word net.inputs ≡ true
-words-inputs net is = list_all-from_All is_word net.inputs (λ k d h. is_word-name (get_or net.inputs k d) (is.input_names_fit k d h))
+pub words-inputs : (net : Netlist) → IsWritable net → list_all is_word net.inputs ≡ true
+words-inputs net is = list_all-from_All is_word net.inputs (λ k d h. is_word-name (get_or net.inputs k d) (is.is_net.input_names_fit k d h))
 
-pub words-outputs : (net : Netlist) → IsNet net → list_all is_word (map (λ o. o.name) net.outputs) ≡ true
-words-outputs net is = list_all-from_All is_word (map (λ o. o.name) net.outputs)
-    (All-map (λ n. is_word n ≡ true) (λ (o : NetOut). o.name) net.outputs (λ k d h. is_word-name (get_or net.outputs k d).name (is.output_names_fit k d h)))
+is_word-marked : (name : List ℕ) → is_word name ≡ true → is_word (name ++ codes ".out") ≡ true
+is_word-marked [] fits = refl
+is_word-marked (c ∷ cs) fits =
+    let parts = and_parts (is_word_byte c) (list_all is_word_byte cs) fits in
+    and_from (is_word_byte c) (list_all is_word_byte (cs ++ codes ".out")) parts.0 (list_all-parts is_word_byte cs (codes ".out") parts.1 refl)
 
-pub words-input_words : (net : Netlist) → IsNet net → list_all is_word (input_words net) ≡ true
+-- the name of an output, with `.out` behind it or not
+pub is_word-output : (inputs : List (List ℕ)) (name : List ℕ) → is_name name ≡ true → is_word (output_word inputs name) ≡ true
+is_word-output inputs name fits = elim (is_among name inputs) as (λ shared. is_word (if shared then name ++ codes ".out" else name) ≡ true)
+    [ true ↦ is_word-marked name (is_word-name name fits) | false ↦ is_word-name name fits ]
+
+pub words-outputs : (net : Netlist) → IsWritable net → list_all is_word (shown_words net) ≡ true
+words-outputs net is = list_all-from_All is_word (shown_words net)
+    (All-map (λ n. is_word n ≡ true) (λ (o : NetOut). output_word net.inputs o.name) net.outputs
+    (λ k d h. is_word-output net.inputs (get_or net.outputs k d).name (is.is_net.output_names_fit k d h)))
+
+pub words-input_words : (net : Netlist) → IsWritable net → list_all is_word (input_words net) ≡ true
 words-input_words net is = list_all-from_All is_word (input_words net)
-    (All-numbered (λ w. is_word w ≡ true) (λ j (name : List ℕ). input_word j) 0 net.inputs (λ k d h. let few = is.few in decimal_bytes (0 + k) (omega arith)))
+    (All-numbered (λ w. is_word w ≡ true) (λ j (name : List ℕ). input_word j) 0 net.inputs
+    (λ k d h. let few = is.is_net.numbered in decimal_bytes (0 + k) (omega arith)))
 
-pub words-latch_words : (net : Netlist) → IsNet net → list_all is_word (latch_words net) ≡ true
+pub words-latch_words : (net : Netlist) → IsWritable net → list_all is_word (latch_words net) ≡ true
 words-latch_words net is = list_all-from_All is_word (latch_words net)
-    (All-numbered (λ w. is_word w ≡ true) (λ j (latch : Latch). latch_word j) 0 net.latches (λ k d h. let few = is.few in decimal_bytes (0 + k) (omega arith)))
+    (All-numbered (λ w. is_word w ≡ true) (λ j (latch : Latch). latch_word j) 0 net.latches
+    (λ k d h. let few = is.is_net.numbered in decimal_bytes (0 + k) (omega arith)))
 
-pub words-gate_words : (net : Netlist) → IsNet net → list_all is_word (gate_words net) ≡ true
+pub words-gate_words : (net : Netlist) → IsWritable net → list_all is_word (gate_words net) ≡ true
 words-gate_words net is = list_all-from_All is_word (gate_words net)
-    (All-numbered (λ w. is_word w ≡ true) (λ k (gate : Gate). gate_word k gate.wire) 0 net.gates (λ k d h. let few = is.few in is_word-gate (0 + k) (get_or net.gates k d).wire (omega arith) (is.wires_fit k d h)))
+    (All-numbered (λ w. is_word w ≡ true) (λ k (gate : Gate). gate_word k gate.wire) 0 net.gates
+    (λ k d h. let few = is.is_net.numbered in is_word-gate (0 + k) (get_or net.gates k d).wire (omega arith) (is.wires_fit k d h)))
 
-pub is_word-net_word : (net : Netlist) → IsNet net → (n : ℕ) → n < net_count net → is_word (net_word net n) ≡ true
+pub is_word-net_word : (net : Netlist) → IsWritable net → (n : ℕ) → n < net_count net → is_word (net_word net n) ≡ true
 is_word-net_word net is n h =
-    let all = list_all-parts is_word (input_words net ++ latch_words net) (gate_words net) (list_all-parts is_word (input_words net) (latch_words net) (words-input_words net is) (words-latch_words net is)) (words-gate_words net is) in
+    let all = list_all-parts is_word (input_words net ++ latch_words net) (gate_words net)
+    (list_all-parts is_word (input_words net) (latch_words net) (words-input_words net is) (words-latch_words net is)) (words-gate_words net is) in
     let len = length-net_words net in
     ap is_word (net_word-at net n h) ∙ list_all-get_or is_word (net_words net) n [] (omega arith) all

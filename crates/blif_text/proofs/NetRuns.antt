@@ -1,24 +1,25 @@
 -- The runs of a net's circuit: there is one over every list of inputs, and it shows what the net shows.
-use Rattle.std.proofs.Common.{◌≡◌, ℕ, Bool, true, false, not, List, [], ◌∷◌, ◌++◌, length, map, get_or, take, drop, refl, sym, ap, ◌∙◌, subst, arith, All}
+use Rattle.std.proofs.Common.{◌≡◌, ℕ, Bool, true, false, not, List, [], ◌∷◌, ◌++◌, length, map, get_or, take, drop, refl, sym, ap, ◌∙◌, subst, arith}
 use Rattle.std.specs.Prelude.{if◌then◌else◌}
 use Rattle.std.specs.List.{list_any, range_with_len}
 use Rattle.std.specs.Cmp.Lexicographic.{nat_list_eq_equiv}
 use Rattle.std.proofs.lemmas.Bool.{and_parts, or_parts, not-true}
 use Rattle.std.proofs.lemmas.List.{map-append, length-append, length-map, map-id, length-drop, drop_at, take-append-drop}
-use Rattle.std.proofs.lemmas.List.Elements.{All-tail}
+use Rattle.est_base.specs.Items.{Item, Event, Reset, EachEvent}
 use Rattle.net_ir.specs.declared.netlist.NetOut.{NetOut}
 use Rattle.net_ir.specs.declared.netlist.Latch.{Latch}
 use Rattle.net_ir.specs.declared.netlist.Gate.{Gate}
 use Rattle.est_base.specs.Distinct.{all_differ}
 use Rattle.est_base.specs.Names.{is_same_name}
 use Rattle.net_ir.specs.Gates.{value_in}
-use Rattle.net_ir.specs.Runs.{Netlist, Shown, first_gate, net_count, net_values, next_latches, initial_latches, values_from, net_values_run, shown}
+use Rattle.net_ir.specs.Netlists.{Netlist, first_gate, net_count}
+use Rattle.net_ir.specs.Runs.{Shown, net_values, next_latches, initial_latches, values_from, net_values_run, shown}
 use Rattle.net_ir.proofs.Values.{length-gate_values, take-gate_values}
 use Rattle.blif_text.specs.Circuits.{CircuitLatch}
-use Rattle.blif_text.specs.Runs.{IsInstant, IsRunFrom, IsRun, driven_names}
-use Rattle.blif_text.specs.Written.{net_word, paused_word, net_latch, output_names, net_circuit, input_word, latch_word, gate_word, written, Means}
+use Rattle.blif_text.specs.Runs.{IsInstant, circuit_latches, IsRunFrom, IsRun, driven_names}
+use Rattle.blif_text.specs.Written.{output_word, net_word, paused_word, net_latch, output_words, net_circuit, input_word, latch_word, gate_word, written, Means}
 use Rattle.blif_text.proofs.Numbered.{length-numbered, map-numbered, numbered-map}
-use Rattle.blif_text.proofs.NetNames.{IsNet, input_words, latch_words, gate_words, net_words-numbers}
+use Rattle.blif_text.proofs.NetNames.{IsWritable, shown_words, input_words, latch_words, gate_words, net_words-numbers}
 use Rattle.blif_text.proofs.NetDrivers.{driven-net, names-differ}
 use Rattle.blif_text.proofs.NetSpelling.{reading-written}
 use Rattle.blif_text.proofs.NetInstants.{Holds, Holds-from_instant, instant-from_Holds, map-same, value-word}
@@ -32,19 +33,22 @@ looked_up (name ∷ names) [] x = false
 looked_up (name ∷ names) (value ∷ values) x =
     if is_same_name name x then value else looked_up names values x
 
-looked_up-past : (name : List ℕ) (value : Bool) (names : List (List ℕ)) (values : List Bool) (xs : List (List ℕ)) → list_any (is_same_name name) xs ≡ false → map (looked_up (name ∷ names) (value ∷ values)) xs ≡ map (looked_up names values) xs
+looked_up-past : (name : List ℕ) (value : Bool) (names : List (List ℕ)) (values : List Bool) (xs : List (List ℕ)) → list_any (is_same_name name) xs ≡ false
+    → map (looked_up (name ∷ names) (value ∷ values)) xs ≡ map (looked_up names values) xs
 looked_up-past name value names values [] apart = refl
 looked_up-past name value names values (x ∷ xs) apart =
     let parts = or_parts (is_same_name name x) (list_any (is_same_name name) xs) apart in
     rw parts.0 (ap (λ l. looked_up names values x ∷ l) (looked_up-past name value names values xs parts.1))
 
-map-looked_up : (names : List (List ℕ)) (values : List Bool) → all_differ is_same_name names ≡ true → length names ≡ length values → map (looked_up names values) names ≡ values
+map-looked_up : (names : List (List ℕ)) (values : List Bool) → all_differ is_same_name names ≡ true → length names ≡ length values
+    → map (looked_up names values) names ≡ values
 map-looked_up [] [] differ len = refl
 map-looked_up [] (value ∷ values) differ len = cc
 map-looked_up (name ∷ names) [] differ len = cc
 map-looked_up (name ∷ names) (value ∷ values) differ len =
     let parts = and_parts (not (list_any (is_same_name name) names)) (all_differ is_same_name names) differ in
-    let rest = looked_up-past name value names values names (not-true (list_any (is_same_name name) names) parts.0) ∙ map-looked_up names values parts.1 (omega arith) in
+    let rest = looked_up-past name value names values names (not-true (list_any (is_same_name name) names) parts.0)
+    ∙ map-looked_up names values parts.1 (omega arith) in
     rw (nat_list_eq_equiv.refl name) (ap (λ l. value ∷ l) rest)
 
 -- equal lists in two parts, the first ones as long as each other
@@ -69,61 +73,81 @@ all_values net latches inputs =
     let values = net_values net latches inputs in
     inputs ++ (latches ++ (inputs ++ gate_part net values ++ output_part net values ++ value_in values net.paused ∷ []))
 
-length-gate_part : (net : Netlist) (latches inputs : List Bool) → length (inputs ++ latches) ≡ first_gate net → length (gate_part net (net_values net latches inputs)) ≡ length net.gates
+length-gate_part : (net : Netlist) (latches inputs : List Bool) → length (inputs ++ latches) ≡ first_gate net
+    → length (gate_part net (net_values net latches inputs)) ≡ length net.gates
 length-gate_part net latches inputs wide =
     length-drop (first_gate net) (net_values net latches inputs) ∙ omega (arith, length-gate_values (inputs ++ latches) net.gates)
 
 -- as many values as names
-length-all_values : (net : Netlist) (latches inputs : List Bool) → length latches ≡ length net.latches → length inputs ≡ length net.inputs → length (driven_names (net_circuit net)) ≡ length (all_values net latches inputs)
+length-all_values : (net : Netlist) (latches inputs : List Bool) → length latches ≡ length net.latches → length inputs ≡ length net.inputs
+    → length (driven_names (net_circuit net)) ≡ length (all_values net latches inputs)
 length-all_values net latches inputs l i =
     let wide : length (inputs ++ latches) ≡ first_gate net = length-append inputs latches ∙ rw (i, l) refl in
     let values = net_values net latches inputs in
     let a = length-numbered (λ j (name : List ℕ). input_word j) 0 net.inputs in
     let b = length-numbered (λ j (latch : Latch). latch_word j) 0 net.latches in
     let c = length-numbered (λ k (gate : Gate). gate_word k gate.wire) 0 net.gates in
-    let d = length-map net.outputs (λ (o : NetOut). o.name) in
+    let d = length-map net.outputs (λ (o : NetOut). output_word net.inputs o.name) in
     let e = length-map net.outputs (λ (o : NetOut). value_in values o.net.0) in
     let g = length-gate_part net latches inputs wide in
     ap length (driven-net net) ∙ simp length-append (rw (a, b, c, d, e, g, i, l) refl)
 
 -- a valuation of the driven names, part by part
-map-all_names : (net : Netlist) (v : List ℕ → Bool) → map v (driven_names (net_circuit net)) ≡ map v net.inputs ++ (map v (latch_words net) ++ (map v (input_words net) ++ map v (gate_words net) ++ map v (map (λ o. o.name) net.outputs) ++ v paused_word ∷ []))
+map-all_names : (net : Netlist) (v : List ℕ → Bool)
+    → map v (driven_names (net_circuit net)) ≡ map v net.inputs ++
+    (map v (latch_words net) ++ (map v (input_words net) ++ map v (gate_words net) ++ map v (shown_words net) ++ v paused_word ∷ []))
 map-all_names net v = ap (map v) (driven-net net) ∙ simp map-append
 
-gates-from_nets : (net : Netlist) (latches inputs : List Bool) (v : List ℕ → Bool) → Holds net latches inputs v → map v (gate_words net) ≡ gate_part net (net_values net latches inputs)
+gates-from_nets : (net : Netlist) (latches inputs : List Bool) (v : List ℕ → Bool) → Holds net latches inputs v
+    → map v (gate_words net) ≡ gate_part net (net_values net latches inputs)
 gates-from_nets net latches inputs v holds =
     let before = input_words net ++ latch_words net in
-    let len : length (map v before) ≡ first_gate net = length-map before v ∙ length-append (input_words net) (latch_words net) ∙ rw (length-numbered (λ j (name : List ℕ). input_word j) 0 net.inputs, length-numbered (λ j (latch : Latch). latch_word j) 0 net.latches) refl in
-    sym (drop_at (map v before) (map v (gate_words net)) (first_gate net) len) ∙ ap (drop (first_gate net)) (sym (map-append v before (gate_words net)) ∙ holds.nets)
+    let len : length (map v before) ≡ first_gate net = length-map before v ∙ length-append (input_words net) (latch_words net)
+    ∙ rw (length-numbered (λ j (name : List ℕ). input_word j) 0 net.inputs, length-numbered (λ j (latch : Latch). latch_word j) 0 net.latches) refl in
+    sym (drop_at (map v before) (map v (gate_words net)) (first_gate net) len)
+    ∙ ap (drop (first_gate net)) (sym (map-append v before (gate_words net)) ∙ holds.nets)
 
-values-from_Holds : (net : Netlist) (latches inputs : List Bool) (v : List ℕ → Bool) → Holds net latches inputs v → map v (driven_names (net_circuit net)) ≡ all_values net latches inputs
+values-from_Holds : (net : Netlist) (latches inputs : List Bool) (v : List ℕ → Bool) → Holds net latches inputs v
+    → map v (driven_names (net_circuit net)) ≡ all_values net latches inputs
 values-from_Holds net latches inputs v holds =
     map-all_names net v ∙ rw (holds.names, holds.latches_kept, holds.inputs_kept, gates-from_nets net latches inputs v holds, holds.outputs, holds.paused) refl
 
-Holds-from_values : (net : Netlist) → IsNet net → (latches inputs : List Bool) (v : List ℕ → Bool) → length latches ≡ length net.latches → length inputs ≡ length net.inputs → map v (driven_names (net_circuit net)) ≡ all_values net latches inputs → Holds net latches inputs v
+Holds-from_values : (net : Netlist) → IsWritable net → (latches inputs : List Bool) (v : List ℕ → Bool) → length latches ≡ length net.latches
+    → length inputs ≡ length net.inputs → map v (driven_names (net_circuit net)) ≡ all_values net latches inputs → Holds net latches inputs v
 Holds-from_values net is latches inputs v l i same =
     let values = net_values net latches inputs in
     let before = input_words net ++ latch_words net in
     let wide : length (inputs ++ latches) ≡ first_gate net = length-append inputs latches ∙ rw (i, l) refl in
-    let gates_len : length (map v (gate_words net)) ≡ length net.gates = length-map (gate_words net) v ∙ length-numbered (λ k (gate : Gate). gate_word k gate.wire) 0 net.gates in
+    let gates_len : length (map v (gate_words net)) ≡ length net.gates = length-map (gate_words net) v
+    ∙ length-numbered (λ k (gate : Gate). gate_word k gate.wire) 0 net.gates in
     let part_len : length (gate_part net values) ≡ length net.gates = length-gate_part net latches inputs wide in
-    let inputs_len : length (map v (input_words net)) ≡ length inputs = length-map (input_words net) v ∙ length-numbered (λ j (name : List ℕ). input_word j) 0 net.inputs ∙ sym i in
-    let outputs_len : length (map v (map (λ (o : NetOut). o.name) net.outputs)) ≡ length (output_part net values) = length-map (map (λ (o : NetOut). o.name) net.outputs) v ∙ length-map net.outputs (λ (o : NetOut). o.name) ∙ sym (length-map net.outputs (λ (o : NetOut). value_in values o.net.0)) in
-    let latches_len : length (map v (latch_words net)) ≡ length latches = length-map (latch_words net) v ∙ length-numbered (λ j (latch : Latch). latch_word j) 0 net.latches ∙ sym l in
-    let two_len : length (map v (input_words net) ++ map v (gate_words net)) ≡ length (inputs ++ gate_part net values) = length-append (map v (input_words net)) (map v (gate_words net)) ∙ rw (inputs_len, gates_len, sym part_len) (sym (length-append inputs (gate_part net values))) in
-    let three_len : length (map v (input_words net) ++ map v (gate_words net) ++ map v (map (λ (o : NetOut). o.name) net.outputs)) ≡ length (inputs ++ gate_part net values ++ output_part net values) = length-append (map v (input_words net) ++ map v (gate_words net)) (map v (map (λ (o : NetOut). o.name) net.outputs)) ∙ rw (two_len, outputs_len) (sym (length-append (inputs ++ gate_part net values) (output_part net values))) in
+    let inputs_len : length (map v (input_words net)) ≡ length inputs = length-map (input_words net) v
+    ∙ length-numbered (λ j (name : List ℕ). input_word j) 0 net.inputs ∙ sym i in
+    let outputs_len : length (map v (shown_words net)) ≡ length (output_part net values) = length-map (shown_words net) v
+    ∙ length-map net.outputs (λ (o : NetOut). output_word net.inputs o.name) ∙ sym (length-map net.outputs (λ (o : NetOut). value_in values o.net.0)) in
+    let latches_len : length (map v (latch_words net)) ≡ length latches = length-map (latch_words net) v
+    ∙ length-numbered (λ j (latch : Latch). latch_word j) 0 net.latches ∙ sym l in
+    let two_len : length (map v (input_words net) ++ map v (gate_words net)) ≡ length (inputs ++ gate_part net values) = length-append
+    (map v (input_words net)) (map v (gate_words net)) ∙ rw (inputs_len, gates_len, sym part_len) (sym (length-append inputs (gate_part net values))) in
+    let three_len : length (map v (input_words net) ++ map v (gate_words net) ++ map v (shown_words net)) ≡ length
+    (inputs ++ gate_part net values ++ output_part net values) = length-append (map v (input_words net) ++ map v (gate_words net))
+    (map v (shown_words net)) ∙ rw (two_len, outputs_len) (sym (length-append (inputs ++ gate_part net values) (output_part net values))) in
     let a = same_parts (map v net.inputs) _ inputs _ (length-map net.inputs v ∙ sym i) (sym (map-all_names net v) ∙ same) in
     let b = same_parts (map v (latch_words net)) _ latches _ latches_len a.1 in
-    let c = same_parts (map v (input_words net) ++ map v (gate_words net) ++ map v (map (λ (o : NetOut). o.name) net.outputs)) (v paused_word ∷ []) (inputs ++ gate_part net values ++ output_part net values) (value_in values net.paused ∷ []) three_len b.1 in
-    let d = same_parts (map v (input_words net) ++ map v (gate_words net)) (map v (map (λ (o : NetOut). o.name) net.outputs)) (inputs ++ gate_part net values) (output_part net values) two_len c.0 in
+    let c = same_parts (map v (input_words net) ++ map v (gate_words net) ++ map v (shown_words net)) (v paused_word ∷ [])
+    (inputs ++ gate_part net values ++ output_part net values) (value_in values net.paused ∷ []) three_len b.1 in
+    let d = same_parts (map v (input_words net) ++ map v (gate_words net)) (map v (shown_words net)) (inputs ++ gate_part net values) (output_part net values)
+    two_len c.0 in
     let e = same_parts (map v (input_words net)) (map v (gate_words net)) inputs (gate_part net values) inputs_len d.0 in
     let first : take (first_gate net) values ≡ inputs ++ latches = ap (λ n. take n values) (sym wide) ∙ take-gate_values (inputs ++ latches) net.gates in
-    let whole : (inputs ++ latches) ++ gate_part net values ≡ values = ap (λ x. x ++ gate_part net values) (sym first) ∙ take-append-drop (first_gate net) values in
+    let whole : (inputs ++ latches) ++ gate_part net values ≡ values = ap (λ x. x ++ gate_part net values) (sym first)
+    ∙ take-append-drop (first_gate net) values in
     record {
       names = a.0;
       inputs_kept = e.0;
       latches_kept = b.0;
-      nets = map-append v before (gate_words net) ∙ ap (λ x. x ++ map v (gate_words net)) (map-append v (input_words net) (latch_words net)) ∙ rw (e.0, b.0, e.1) whole;
+      nets = map-append v before (gate_words net) ∙ ap (λ x. x ++ map v (gate_words net)) (map-append v (input_words net) (latch_words net))
+          ∙ rw (e.0, b.0, e.1) whole;
       outputs = d.1;
       paused = cc c.1;
     }
@@ -131,7 +155,8 @@ Holds-from_values net is latches inputs v l i same =
 -- ---- one instant
 
 -- over all latch values and inputs there is an instant
-instant_exists : (net : Netlist) → IsNet net → (latches inputs : List Bool) → length latches ≡ length net.latches → length inputs ≡ length net.inputs → (v : List ℕ → Bool) × IsInstant (net_circuit net) latches inputs v
+instant_exists : (net : Netlist) → IsWritable net → (latches inputs : List Bool) → length latches ≡ length net.latches → length inputs ≡ length net.inputs
+    → (v : List ℕ → Bool) × IsInstant (net_circuit net) latches inputs v
 instant_exists net is latches inputs l i =
     let names = driven_names (net_circuit net) in
     let values = all_values net latches inputs in
@@ -141,17 +166,19 @@ instant_exists net is latches inputs l i =
     (looked_up names values, instant-from_Holds net is latches inputs (looked_up names values) l i holds)
 
 -- what the latches read
-next_latches-circuit : (net : Netlist) → IsNet net → (latches inputs : List Bool) (v : List ℕ → Bool) → Holds net latches inputs v → map (λ (x : CircuitLatch). v x.source) (net_circuit net).latches ≡ next_latches net (net_values net latches inputs)
+next_latches-circuit : (net : Netlist) → IsWritable net → (latches inputs : List Bool) (v : List ℕ → Bool) → Holds net latches inputs v
+    → map (λ (x : CircuitLatch). v x.source) (net_circuit net).latches ≡ next_latches net (net_values net latches inputs)
 next_latches-circuit net is latches inputs v holds =
     map-numbered (λ (x : CircuitLatch). v x.source) (net_latch net) 0 net.latches
     ∙ numbered-map (λ (x : Latch). v (net_word net x.from.0)) 0 net.latches
     ∙ map-same (λ (x : Latch). v (net_word net x.from.0)) (λ x. value_in (net_values net latches inputs) x.from.0) net.latches
-    (λ k d h. let n = (get_or net.latches k d).from.0 in sym (value-word net v n (is.latches_in_range k d h)) ∙ ap (λ w. value_in w n) holds.nets)
+    (λ k d h. let n = (get_or net.latches k d).from.0 in sym (value-word net v n (is.is_net.latches_in_range k d h)) ∙ ap (λ w. value_in w n) holds.nets)
 
 -- what is shown
-shown-circuit : (net : Netlist) (latches inputs : List Bool) (v : List ℕ → Bool) → Holds net latches inputs v → map v (output_names net) ≡ (shown net (net_values net latches inputs)).outputs ++ (shown net (net_values net latches inputs)).paused ∷ []
+shown-circuit : (net : Netlist) (latches inputs : List Bool) (v : List ℕ → Bool) → Holds net latches inputs v
+    → map v (output_words net) ≡ (shown net (net_values net latches inputs)).outputs ++ (shown net (net_values net latches inputs)).paused ∷ []
 shown-circuit net latches inputs v holds =
-    map-append v (map (λ (o : NetOut). o.name) net.outputs) (paused_word ∷ []) ∙ rw (holds.outputs, holds.paused) refl
+    map-append v (shown_words net) (paused_word ∷ []) ∙ rw (holds.outputs, holds.paused) refl
 
 map-map : {X Y Z : Type 0} (f : Y → Z) (g : X → Y) (xs : List X) → map (λ x. f (g x)) xs ≡ map f (map g xs)
 map-map f g [] = refl
@@ -159,65 +186,83 @@ map-map f g (x ∷ xs) = ap (λ l. f (g x) ∷ l) (map-map f g xs)
 
 -- ---- runs
 
-runs_from : (net : Netlist) → IsNet net → (latches : List Bool) (instants : List (List Bool)) → length latches ≡ length net.latches → All (λ inputs. length inputs ≡ length net.inputs) instants → (vs : List (List ℕ → Bool)) × IsRunFrom (net_circuit net) latches instants vs
-runs_from net is latches [] l wide = ([], tt)
-runs_from net is latches (inputs ∷ instants) l wide =
-    let here = instant_exists net is latches inputs l (wide 0 inputs (omega arith)) in
-    let next = map (λ (x : CircuitLatch). here.0 x.source) (net_circuit net).latches in
-    let len : length next ≡ length net.latches = length-map (net_circuit net).latches (λ (x : CircuitLatch). here.0 x.source) ∙ length-numbered (net_latch net) 0 net.latches in
-    let rest = runs_from net is next instants len (All-tail (λ w. length w ≡ length net.inputs) inputs instants wide) in
-    (here.0 ∷ rest.0, (here.1, rest.1))
-
--- what g gives of the latch values and the inputs of each instant
-abbrev told_from : {X : Type 0} → Netlist → (List Bool → List Bool → X) → List Bool → List (List Bool) → List X
-told_from net g latches [] = []
-told_from net g latches (inputs ∷ instants) =
-    g latches inputs ∷ told_from net g (next_latches net (net_values net latches inputs)) instants
-
--- what is so of every instant with a net's values is so of every run: f of the valuations is g of the values
-runs-are : {X : Type 0} (net : Netlist) → IsNet net → (f : (List ℕ → Bool) → X) (g : List Bool → List Bool → X) → ((latches inputs : List Bool) (v : List ℕ → Bool) → Holds net latches inputs v → f v ≡ g latches inputs) → (latches : List Bool) (instants : List (List Bool)) (vs : List (List ℕ → Bool)) → IsRunFrom (net_circuit net) latches instants vs → map f vs ≡ told_from net g latches instants
-runs-are net is f g each latches [] [] run = refl
-runs-are net is f g each latches [] (v ∷ vs) run = absurd run
-runs-are net is f g each latches (inputs ∷ instants) [] run = absurd run
-runs-are net is f g each latches (inputs ∷ instants) (v ∷ vs) run =
-    let holds = Holds-from_instant net is latches inputs v run.0 in
-    let next = next_latches-circuit net is latches inputs v holds in
-    let rest = subst (λ l. IsRunFrom (net_circuit net) l instants vs) next run.1 in
-    let later = runs-are net is f g each (next_latches net (net_values net latches inputs)) instants vs rest in
-    ap (λ x. x ∷ map f vs) (each latches inputs v holds) ∙ ap (λ x. g latches inputs ∷ x) later
-
--- where g is a function of the values of the nets
-told-values : {X : Type 0} (net : Netlist) (h : List Bool → X) (latches : List Bool) (instants : List (List Bool)) → told_from net (λ l i. h (net_values net l i)) latches instants ≡ map h (values_from net latches instants)
-told-values net h latches [] = refl
-told-values net h latches (inputs ∷ instants) =
-    ap (λ x. h (net_values net latches inputs) ∷ x) (told-values net h (next_latches net (net_values net latches inputs)) instants)
-
--- ---- the written text means the net
-
-initial-circuit : (net : Netlist) → map (λ (x : CircuitLatch). x.init) (net_circuit net).latches ≡ initial_latches net
+initial-circuit : (net : Netlist) → circuit_latches (net_circuit net) ≡ initial_latches net
 initial-circuit net =
     map-numbered (λ (x : CircuitLatch). x.init) (net_latch net) 0 net.latches ∙ numbered-map (λ (x : Latch). x.init) 0 net.latches
 
-pub Means-written : (net : Netlist) → IsNet net → Means (written net) net
+length-initial : (net : Netlist) → length (circuit_latches (net_circuit net)) ≡ length net.latches
+length-initial net = ap length (initial-circuit net) ∙ length-map net.latches (λ (x : Latch). x.init)
+
+runs_from : (net : Netlist) → IsWritable net → (latches : List Bool) (items : List Item) → length latches ≡ length net.latches
+    → EachEvent (λ inputs. length inputs ≡ length net.inputs) items → (vs : List (List ℕ → Bool)) × IsRunFrom (net_circuit net) latches items vs
+runs_from net is latches [] l wide = ([], tt)
+runs_from net is latches (Event inputs ∷ items) l wide =
+    let here = instant_exists net is latches inputs l wide.0 in
+    let next = map (λ (x : CircuitLatch). here.0 x.source) (net_circuit net).latches in
+    let len : length next ≡ length net.latches = length-map (net_circuit net).latches (λ (x : CircuitLatch). here.0 x.source)
+    ∙ length-numbered (net_latch net) 0 net.latches in
+    let rest = runs_from net is next items len wide.1 in
+    (here.0 ∷ rest.0, (here.1, rest.1))
+runs_from net is latches (Reset ∷ items) l wide =
+    runs_from net is (circuit_latches (net_circuit net)) items (length-initial net) wide
+
+-- what g gives of the latch values and the inputs of each event
+abbrev told_from : {X : Type 0} → Netlist → (List Bool → List Bool → X) → List Bool → List Item → List X
+told_from net g latches [] = []
+told_from net g latches (Event inputs ∷ items) =
+    g latches inputs ∷ told_from net g (next_latches net (net_values net latches inputs)) items
+told_from net g latches (Reset ∷ items) = told_from net g (initial_latches net) items
+
+-- what is so of every instant with a net's values is so of every run: f of the valuations is g of the values
+runs-are : {X : Type 0} (net : Netlist) → IsWritable net → (f : (List ℕ → Bool) → X) (g : List Bool → List Bool → X)
+    → ((latches inputs : List Bool) (v : List ℕ → Bool) → Holds net latches inputs v → f v ≡ g latches inputs)
+    → (latches : List Bool) (items : List Item) (vs : List (List ℕ → Bool)) → IsRunFrom (net_circuit net) latches items vs
+    → map f vs ≡ told_from net g latches items
+runs-are net is f g each latches [] [] run = refl
+runs-are net is f g each latches [] (v ∷ vs) run = absurd run
+runs-are net is f g each latches (Event inputs ∷ items) [] run = absurd run
+runs-are net is f g each latches (Event inputs ∷ items) (v ∷ vs) run =
+    let holds = Holds-from_instant net is latches inputs v run.0 in
+    let next = next_latches-circuit net is latches inputs v holds in
+    let rest = subst (λ l. IsRunFrom (net_circuit net) l items vs) next run.1 in
+    let later = runs-are net is f g each (next_latches net (net_values net latches inputs)) items vs rest in
+    ap (λ x. x ∷ map f vs) (each latches inputs v holds) ∙ ap (λ x. g latches inputs ∷ x) later
+runs-are net is f g each latches (Reset ∷ items) vs run =
+    runs-are net is f g each (initial_latches net) items vs (subst (λ l. IsRunFrom (net_circuit net) l items vs) (initial-circuit net) run)
+
+-- where g is a function of the values of the nets
+told-values : {X : Type 0} (net : Netlist) (h : List Bool → X) (latches : List Bool) (items : List Item)
+    → told_from net (λ l i. h (net_values net l i)) latches items ≡ map h (values_from net latches items)
+told-values net h latches [] = refl
+told-values net h latches (Event inputs ∷ items) =
+    ap (λ x. h (net_values net latches inputs) ∷ x) (told-values net h (next_latches net (net_values net latches inputs)) items)
+told-values net h latches (Reset ∷ items) = told-values net h (initial_latches net) items
+
+-- ---- the written text means the net
+
+pub Means-written : (net : Netlist) → IsWritable net → Means (written net) net
 Means-written net is =
-    let start = map (λ (x : CircuitLatch). x.init) (net_circuit net).latches in
-    let wide : length start ≡ length net.latches = ap length (initial-circuit net) ∙ length-map net.latches (λ (x : Latch). x.init) in
+    let start = circuit_latches (net_circuit net) in
     let names = driven_names (net_circuit net) in
-    let values_told = λ (instants : List (List Bool)) (vs : List (List ℕ → Bool)) (run : IsRun (net_circuit net) instants vs). runs-are net is (λ v. map v names) (all_values net) (values-from_Holds net) start instants vs run in
+    let values_told = λ (items : List Item) (vs : List (List ℕ → Bool)) (run : IsRun (net_circuit net) items vs). runs-are net is (λ v. map v names)
+    (all_values net) (values-from_Holds net) start items vs run in
     let all_shown = λ (values : List Bool). (shown net values).outputs ++ (shown net values).paused ∷ [] in
-    let named = λ (latches inputs : List Bool) (v : List ℕ → Bool) (holds : Holds net latches inputs v). map-map v (net_word net) (range_with_len 0 (net_count net)) ∙ ap (map v) (sym (net_words-numbers net)) ∙ holds.nets in
+    let named = λ (latches inputs : List Bool) (v : List ℕ → Bool) (holds : Holds net latches inputs v). map-map v (net_word net)
+    (range_with_len 0 (net_count net)) ∙ ap (map v) (sym (net_words-numbers net)) ∙ holds.nets in
     record {
       circuit = net_circuit net;
       reads = reading-written net is;
+      name = refl;
       inputs = refl;
       outputs = refl;
       latches = refl;
-      runs = λ instants widths. runs_from net is start instants wide widths;
-      one_run = λ instants us vs u v. values_told instants us u ∙ sym (values_told instants vs v);
-      shows = λ instants vs run. runs-are net is (λ v. map v (output_names net)) (λ l i. all_shown (net_values net l i)) (shown-circuit net) start instants vs run
-          ∙ told-values net all_shown start instants ∙ ap (λ l. map all_shown (values_from net l instants)) (initial-circuit net)
-          ∙ map-map (λ (s : Shown). s.outputs ++ s.paused ∷ []) (shown net) (net_values_run net instants);
-      nets = λ instants vs run. runs-are net is (λ v. map (λ n. v (net_word net n)) (range_with_len 0 (net_count net))) (λ l i. net_values net l i) named start instants vs run
-          ∙ told-values net (λ values. values) start instants ∙ ap (λ l. map (λ values. values) (values_from net l instants)) (initial-circuit net)
-          ∙ map-id (net_values_run net instants);
+      runs = λ items widths. runs_from net is start items (length-initial net) widths;
+      one_run = λ items us vs u v. values_told items us u ∙ sym (values_told items vs v);
+      shows = λ items vs run. runs-are net is (λ v. map v (output_words net)) (λ l i. all_shown (net_values net l i)) (shown-circuit net) start items vs run
+          ∙ told-values net all_shown start items ∙ ap (λ l. map all_shown (values_from net l items)) (initial-circuit net)
+          ∙ map-map (λ (s : Shown). s.outputs ++ s.paused ∷ []) (shown net) (net_values_run net items);
+      nets = λ items vs run. runs-are net is (λ v. map (λ n. v (net_word net n)) (range_with_len 0 (net_count net))) (λ l i. net_values net l i) named start
+          items vs run
+          ∙ told-values net (λ values. values) start items ∙ ap (λ l. map (λ values. values) (values_from net l items)) (initial-circuit net)
+          ∙ map-id (net_values_run net items);
     }

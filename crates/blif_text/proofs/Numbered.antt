@@ -44,7 +44,8 @@ pub length-numbered : {X Y : Type 0} (f : ℕ → X → Y) (n : ℕ) (xs : List 
 length-numbered f n [] = refl
 length-numbered f n (x ∷ xs) = ap suc (length-numbered f (n + 1) xs)
 
-pub get_or-numbered : {X Y : Type 0} (f : ℕ → X → Y) (n : ℕ) (xs : List X) (i : ℕ) (d : Y) (e : X) → i < length xs → get_or (numbered f n xs) i d ≡ f (n + i) (get_or xs i e)
+pub get_or-numbered : {X Y : Type 0} (f : ℕ → X → Y) (n : ℕ) (xs : List X) (i : ℕ) (d : Y) (e : X) → i < length xs
+    → get_or (numbered f n xs) i d ≡ f (n + i) (get_or xs i e)
 get_or-numbered f n [] i d e h = absurd (omega arith)
 get_or-numbered f n (x ∷ xs) zero d e h = let s : n ≡ n + 0 = omega arith in ap (λ m. f m x) s
 get_or-numbered f n (x ∷ xs) (suc i) d e h =
@@ -61,7 +62,8 @@ numbered-map f n [] = refl
 numbered-map f n (x ∷ xs) = ap (λ ys. f x ∷ ys) (numbered-map f (n + 1) xs)
 
 -- what holds of each element and its number holds of what is made of them
-pub All-numbered : {X Y : Type 0} (P : Y → Type 0) (f : ℕ → X → Y) (n : ℕ) (xs : List X) → ((k : ℕ) (d : X) → k < length xs → P (f (n + k) (get_or xs k d))) → All P (numbered f n xs)
+pub All-numbered : {X Y : Type 0} (P : Y → Type 0) (f : ℕ → X → Y) (n : ℕ) (xs : List X) → ((k : ℕ) (d : X) → k < length xs → P (f (n + k) (get_or xs k d)))
+    → All P (numbered f n xs)
 All-numbered P f n [] each k d h = absurd (omega arith)
 All-numbered P f n (x ∷ xs) each zero d h =
     let s : n + 0 ≡ n = omega arith in subst (λ m. P (f m x)) s (each 0 x (omega arith))

@@ -10,10 +10,11 @@ use Rattle.std.proofs.lemmas.List.Folds.{list_all-append}
 use Rattle.est_base.specs.Distinct.{all_differ, none_shared}
 use Rattle.est_base.specs.Names.{is_same_name}
 use Rattle.blif_text.specs.Statements.{Cell, Statement, Model, Inputs, Outputs, Names, Row, End, is_end, row_may_follow}
-use Rattle.blif_text.specs.Circuits.{Circuit, CircuitLatch, Table, leading_rows, tables_of, inputs_in, outputs_in, latches_in, circuit_of, driven_by, used_by, is_among, first_again, driven_again, not_driven, reading}
+use Rattle.blif_text.specs.Circuits.{Circuit, CircuitLatch, Table, leading_rows, tables_of, inputs_in, outputs_in, latches_in, circuit_of, driven_by, used_by}
+use Rattle.blif_text.specs.Circuits.{is_among, first_again, driven_again, not_driven, reading}
 use Rattle.blif_text.specs.Spelled.{inputs_statements, latch_statement, table_statements, head_statements, circuit_statements, circuit_text}
 use Rattle.blif_text.specs.Runs.{driven_names}
-use Rattle.blif_text.proofs.Words.{is_word}
+use Rattle.blif_text.proofs.WordBytes.{is_word}
 use Rattle.blif_text.proofs.Numbered.{list_all-parts}
 use Rattle.blif_text.proofs.ReadsBack.{spellable, accepted, reading-text_of}
 
@@ -58,7 +59,8 @@ spellable-tables : (ts : List Table) → list_all table_fits ts ≡ true → lis
 spellable-tables [] fit = refl
 spellable-tables (t ∷ ts) fit =
     let parts = and_parts (table_fits t) (list_all table_fits ts) fit in
-    let names = and_parts (list_all is_word t.inputs && is_word t.output && nat_le (length t.inputs) 8) (list_all (λ row. length row == length t.inputs) t.rows) parts.0 in
+    let names = and_parts (list_all is_word t.inputs && is_word t.output && nat_le (length t.inputs) 8)
+    (list_all (λ row. length row == length t.inputs) t.rows) parts.0 in
     list_all-append spellable (table_statements t) (flat_map table_statements ts)
     ∙ and_from (spellable (Names t.inputs t.output) && list_all spellable (map Row t.rows)) (list_all spellable (flat_map table_statements ts))
     (and_from (spellable (Names t.inputs t.output)) (list_all spellable (map Row t.rows)) names.0 (spellable-rows t.rows))
@@ -68,9 +70,11 @@ spellable-circuit : (c : Circuit) → HasSpelling c → list_all spellable (circ
 spellable-circuit c fits =
     let name : list_all spellable (Model c.name ∷ []) ≡ true = and_from (is_word c.name) true fits.name refl in
     let outputs : list_all spellable (Outputs c.outputs ∷ []) ≡ true = and_from (list_all is_word c.outputs) true fits.outputs refl in
-    let head = list_all-parts spellable ((Model c.name ∷ []) ++ inputs_statements c.inputs) (Outputs c.outputs ∷ []) (list_all-parts spellable (Model c.name ∷ []) (inputs_statements c.inputs) name (spellable-inputs c.inputs fits.inputs)) outputs in
+    let head = list_all-parts spellable ((Model c.name ∷ []) ++ inputs_statements c.inputs) (Outputs c.outputs ∷ [])
+    (list_all-parts spellable (Model c.name ∷ []) (inputs_statements c.inputs) name (spellable-inputs c.inputs fits.inputs)) outputs in
     let latches = list_all-parts spellable (head_statements c) (map latch_statement c.latches) head (spellable-latches c.latches fits.latches) in
-    let tables = list_all-parts spellable (head_statements c ++ map latch_statement c.latches) (flat_map table_statements c.tables) latches (spellable-tables c.tables fits.tables) in
+    let tables = list_all-parts spellable (head_statements c ++ map latch_statement c.latches) (flat_map table_statements c.tables) latches
+    (spellable-tables c.tables fits.tables) in
     list_all-parts spellable (head_statements c ++ map latch_statement c.latches ++ flat_map table_statements c.tables) (End ∷ []) tables refl
 
 -- ---- each statement stands in its place: what is accepted behind every statement but `.end`
@@ -81,9 +85,12 @@ FollowsAll ss = (before : Statement) → not (is_end before) ≡ true → accept
 follows-latches : (ls : List CircuitLatch) (rest : List Statement) → FollowsAll rest → FollowsAll (map latch_statement ls ++ rest)
 follows-latches [] rest follows before o = follows before o
 follows-latches (l ∷ ls) rest follows before o =
-    and_from (not (is_end before)) (accepted (Some (latch_statement l)) (map latch_statement ls ++ rest)) o (follows-latches ls rest follows (latch_statement l) refl)
+    and_from (not (is_end before)) (accepted (Some (latch_statement l)) (map latch_statement ls ++ rest)) o
+    (follows-latches ls rest follows (latch_statement l) refl)
 
-follows-rows : (width : ℕ) (rows : List (List Cell)) (rest : List Statement) (before : Statement) → not (is_end before) ≡ true → ((cells : List Cell) → length cells ≡ width → row_may_follow before cells ≡ true) → list_all (λ row. length row == width) rows ≡ true → FollowsAll rest → accepted (Some before) (map Row rows ++ rest) ≡ true
+follows-rows : (width : ℕ) (rows : List (List Cell)) (rest : List Statement) (before : Statement) → not (is_end before) ≡ true
+    → ((cells : List Cell) → length cells ≡ width → row_may_follow before cells ≡ true) → list_all (λ row. length row == width) rows ≡ true → FollowsAll rest
+    → accepted (Some before) (map Row rows ++ rest) ≡ true
 follows-rows width [] rest before o wide fit follows = follows before o
 follows-rows width (row ∷ rows) rest before o wide fit follows =
     let parts = and_parts (length row == width) (list_all (λ r. length r == width) rows) fit in
@@ -95,19 +102,24 @@ follows-tables : (ts : List Table) (rest : List Statement) → list_all table_fi
 follows-tables [] rest fit follows before o = follows before o
 follows-tables (t ∷ ts) rest fit follows before o =
     let parts = and_parts (table_fits t) (list_all table_fits ts) fit in
-    let names = and_parts (list_all is_word t.inputs && is_word t.output && nat_le (length t.inputs) 8) (list_all (λ row. length row == length t.inputs) t.rows) parts.0 in
-    let more = follows-rows (length t.inputs) t.rows (flat_map table_statements ts ++ rest) (Names t.inputs t.output) refl (λ cells e. eq-eqb (length cells) (length t.inputs) e) names.1 (follows-tables ts rest parts.1 follows) in
+    let names = and_parts (list_all is_word t.inputs && is_word t.output && nat_le (length t.inputs) 8)
+    (list_all (λ row. length row == length t.inputs) t.rows) parts.0 in
+    let more = follows-rows (length t.inputs) t.rows (flat_map table_statements ts ++ rest) (Names t.inputs t.output) refl
+    (λ cells e. eq-eqb (length cells) (length t.inputs) e) names.1 (follows-tables ts rest parts.1 follows) in
     and_from (not (is_end before)) (accepted (Some (Names t.inputs t.output)) (map Row t.rows ++ flat_map table_statements ts ++ rest)) o (rw append_assoc more)
 
 follows-end : FollowsAll (End ∷ [])
 follows-end before o = and_from (not (is_end before)) true o refl
 
-accepted-head : (name : List ℕ) (inputs outputs : List (List ℕ)) (rest : List Statement) → FollowsAll rest → accepted (Some (Model name)) (inputs_statements inputs ++ Outputs outputs ∷ rest) ≡ true
+accepted-head : (name : List ℕ) (inputs outputs : List (List ℕ)) (rest : List Statement) → FollowsAll rest
+    → accepted (Some (Model name)) (inputs_statements inputs ++ Outputs outputs ∷ rest) ≡ true
 accepted-head name [] outputs rest follows = follows (Outputs outputs) refl
 accepted-head name (input ∷ inputs) outputs rest follows = follows (Outputs outputs) refl
 
 -- the statements of a circuit, one part behind another
-circuit_parts : (c : Circuit) → circuit_statements c ≡ Model c.name ∷ (inputs_statements c.inputs ++ Outputs c.outputs ∷ (map latch_statement c.latches ++ (flat_map table_statements c.tables ++ End ∷ [])))
+circuit_parts : (c : Circuit)
+    → circuit_statements c ≡ Model c.name ∷ (inputs_statements c.inputs ++ Outputs c.outputs ∷
+    (map latch_statement c.latches ++ (flat_map table_statements c.tables ++ End ∷ [])))
 circuit_parts c = simp append_assoc
 
 accepted-circuit : (c : Circuit) → HasSpelling c → accepted None (circuit_statements c) ≡ true
@@ -123,7 +135,8 @@ flat_map-rows : {X : Type 0} (g : Statement → List X) → ((cells : List Cell)
 flat_map-rows g none [] = refl
 flat_map-rows g none (row ∷ rows) = rw (none row, flat_map-rows g none rows) refl
 
-flat_map-tables : {X : Type 0} (g : Statement → List X) (h : Table → List X) → ((cells : List Cell) → g (Row cells) ≡ []) → ((t : Table) → g (Names t.inputs t.output) ≡ h t) → (ts : List Table) → flat_map g (flat_map table_statements ts) ≡ flat_map h ts
+flat_map-tables : {X : Type 0} (g : Statement → List X) (h : Table → List X) → ((cells : List Cell) → g (Row cells) ≡ [])
+    → ((t : Table) → g (Names t.inputs t.output) ≡ h t) → (ts : List Table) → flat_map g (flat_map table_statements ts) ≡ flat_map h ts
 flat_map-tables g h none names [] = refl
 flat_map-tables g h none names (t ∷ ts) =
     flat_map-append g (table_statements t) (flat_map table_statements ts)
@@ -134,7 +147,10 @@ flat_map-none [] = refl
 flat_map-none (x ∷ xs) = flat_map-none xs
 
 -- what a function of the statements gives, part by part
-flat_map-circuit : {X : Type 0} (g : Statement → List X) (c : Circuit) → flat_map g (circuit_statements c) ≡ g (Model c.name) ++ (flat_map g (inputs_statements c.inputs) ++ (g (Outputs c.outputs) ++ (flat_map g (map latch_statement c.latches) ++ (flat_map g (flat_map table_statements c.tables) ++ g End))))
+flat_map-circuit : {X : Type 0} (g : Statement → List X) (c : Circuit)
+    → flat_map g (circuit_statements c) ≡ g (Model c.name) ++
+    (flat_map g (inputs_statements c.inputs) ++ (g (Outputs c.outputs) ++
+    (flat_map g (map latch_statement c.latches) ++ (flat_map g (flat_map table_statements c.tables) ++ g End))))
 flat_map-circuit g c = simp (flat_map-append, append-nil, append_assoc)
 
 inputs-inputs : (names : List (List ℕ)) → flat_map inputs_in (inputs_statements names) ≡ names
@@ -146,12 +162,14 @@ driven-inputs [] = refl
 driven-inputs (name ∷ names) = append-nil (name ∷ names)
 
 -- a function that gives nothing of the inputs' line
-silent-inputs : {X : Type 0} (g : Statement → List X) → ((names : List (List ℕ)) → g (Inputs names) ≡ []) → (names : List (List ℕ)) → flat_map g (inputs_statements names) ≡ []
+silent-inputs : {X : Type 0} (g : Statement → List X) → ((names : List (List ℕ)) → g (Inputs names) ≡ []) → (names : List (List ℕ))
+    → flat_map g (inputs_statements names) ≡ []
 silent-inputs g none [] = refl
 silent-inputs g none (name ∷ names) = rw (none (name ∷ names)) refl
 
 -- what a function gives of each latch
-flat_map-latches : {X : Type 0} (g : Statement → List X) (h : CircuitLatch → List X) → ((l : CircuitLatch) → g (latch_statement l) ≡ h l) → (ls : List CircuitLatch) → flat_map g (map latch_statement ls) ≡ flat_map h ls
+flat_map-latches : {X : Type 0} (g : Statement → List X) (h : CircuitLatch → List X) → ((l : CircuitLatch) → g (latch_statement l) ≡ h l)
+    → (ls : List CircuitLatch) → flat_map g (map latch_statement ls) ≡ flat_map h ls
 flat_map-latches g h same [] = refl
 flat_map-latches g h same (l ∷ ls) = rw (same l, flat_map-latches g h same ls) refl
 
@@ -159,32 +177,57 @@ latches-latches : (ls : List CircuitLatch) → flat_map latches_in (map latch_st
 latches-latches [] = refl
 latches-latches (l ∷ ls) = ap (λ x. l ∷ x) (latches-latches ls)
 
-silent-tables : {X : Type 0} (g : Statement → List X) → ((cells : List Cell) → g (Row cells) ≡ []) → ((inputs : List (List ℕ)) (output : List ℕ) → g (Names inputs output) ≡ []) → (ts : List Table) → flat_map g (flat_map table_statements ts) ≡ []
+silent-tables : {X : Type 0} (g : Statement → List X) → ((cells : List Cell) → g (Row cells) ≡ [])
+    → ((inputs : List (List ℕ)) (output : List ℕ) → g (Names inputs output) ≡ []) → (ts : List Table) → flat_map g (flat_map table_statements ts) ≡ []
 silent-tables g rows names ts =
     flat_map-tables g (λ t. []) rows (λ t. names t.inputs t.output) ts ∙ flat_map-none ts
 
-silent-latches : {X : Type 0} (g : Statement → List X) → ((l : CircuitLatch) → g (latch_statement l) ≡ []) → (ls : List CircuitLatch) → flat_map g (map latch_statement ls) ≡ []
+silent-latches : {X : Type 0} (g : Statement → List X) → ((l : CircuitLatch) → g (latch_statement l) ≡ []) → (ls : List CircuitLatch)
+    → flat_map g (map latch_statement ls) ≡ []
 silent-latches g none ls = flat_map-latches g (λ l. []) none ls ∙ flat_map-none ls
 
 inputs-circuit : (c : Circuit) → flat_map inputs_in (circuit_statements c) ≡ c.inputs
 inputs-circuit c = flat_map-circuit inputs_in c
-    ∙ rw (inputs-inputs c.inputs, silent-latches inputs_in (λ l. refl) c.latches, silent-tables inputs_in (λ r. refl) (λ i o. refl) c.tables) (append-nil c.inputs)
+    ∙ rw (inputs-inputs c.inputs, silent-latches inputs_in (λ l. refl) c.latches, silent-tables inputs_in (λ r. refl) (λ i o. refl) c.tables)
+    (append-nil c.inputs)
 
 outputs-circuit : (c : Circuit) → flat_map outputs_in (circuit_statements c) ≡ c.outputs
 outputs-circuit c = flat_map-circuit outputs_in c
-    ∙ rw (silent-inputs outputs_in (λ n. refl) c.inputs, silent-latches outputs_in (λ l. refl) c.latches, silent-tables outputs_in (λ r. refl) (λ i o. refl) c.tables) (append-nil c.outputs)
+    ∙ rw (
+      silent-inputs outputs_in (λ n. refl) c.inputs,
+      silent-latches outputs_in (λ l. refl) c.latches,
+      silent-tables outputs_in (λ r. refl) (λ i o. refl)
+          c.tables,
+    ) (append-nil c.outputs)
 
 latches-circuit : (c : Circuit) → flat_map latches_in (circuit_statements c) ≡ c.latches
 latches-circuit c = flat_map-circuit latches_in c
-    ∙ rw (silent-inputs latches_in (λ n. refl) c.inputs, latches-latches c.latches, silent-tables latches_in (λ r. refl) (λ i o. refl) c.tables) (append-nil c.latches)
+    ∙ rw (silent-inputs latches_in (λ n. refl) c.inputs, latches-latches c.latches, silent-tables latches_in (λ r. refl) (λ i o. refl) c.tables)
+    (append-nil c.latches)
 
 driven-circuit : (c : Circuit) → flat_map driven_by (circuit_statements c) ≡ driven_names c
 driven-circuit c = flat_map-circuit driven_by c
-    ∙ rw (driven-inputs c.inputs, flat_map-latches driven_by (λ l. l.target ∷ []) (λ l. refl) c.latches, flat_map_single (λ (l : CircuitLatch). l.target) c.latches, flat_map-tables driven_by (λ t. t.output ∷ []) (λ r. refl) (λ t. refl) c.tables, flat_map_single (λ (t : Table). t.output) c.tables, append-nil (map (λ (t : Table). t.output) c.tables)) refl
+    ∙ rw (
+      driven-inputs c.inputs,
+      flat_map-latches driven_by (λ l. l.target ∷ []) (λ l. refl) c.latches,
+      flat_map_single (λ (l : CircuitLatch). l.target)
+          c.latches,
+      flat_map-tables driven_by (λ t. t.output ∷ []) (λ r. refl) (λ t. refl) c.tables,
+      flat_map_single (λ (t : Table). t.output) c.tables,
+      append-nil (map (λ (t : Table). t.output) c.tables),
+    ) refl
 
 used-circuit : (c : Circuit) → flat_map used_by (circuit_statements c) ≡ used_names c
 used-circuit c = flat_map-circuit used_by c
-    ∙ rw (silent-inputs used_by (λ n. refl) c.inputs, flat_map-latches used_by (λ l. l.source ∷ []) (λ l. refl) c.latches, flat_map_single (λ (l : CircuitLatch). l.source) c.latches, flat_map-tables used_by (λ t. t.inputs) (λ r. refl) (λ t. refl) c.tables, append-nil (flat_map (λ (t : Table). t.inputs) c.tables)) refl
+    ∙ rw (
+      silent-inputs used_by (λ n. refl) c.inputs,
+      flat_map-latches used_by (λ l. l.source ∷ []) (λ l. refl) c.latches,
+      flat_map_single
+          (λ (l : CircuitLatch). l.source) c.latches,
+      flat_map-tables used_by (λ t. t.inputs) (λ r. refl) (λ t. refl) c.tables,
+      append-nil
+          (flat_map (λ (t : Table). t.inputs) c.tables),
+    ) refl
 
 -- ---- the tables
 
@@ -231,21 +274,24 @@ circuit_of-circuit c =
 same_name-symm : (x y : List ℕ) → is_same_name x y ≡ is_same_name y x
 same_name-symm x y = nat_list_eq_equiv.symm x y
 
-none_shared-front : (xs before : List (List ℕ)) (x : List ℕ) → list_any (is_same_name x) xs ≡ false → none_shared is_same_name xs before ≡ true → none_shared is_same_name xs (x ∷ before) ≡ true
+pub none_shared-front : (xs before : List (List ℕ)) (x : List ℕ) → list_any (is_same_name x) xs ≡ false → none_shared is_same_name xs before ≡ true
+    → none_shared is_same_name xs (x ∷ before) ≡ true
 none_shared-front [] before x apart none = refl
 none_shared-front (y ∷ xs) before x apart none =
     let others = or_parts (is_same_name x y) (list_any (is_same_name x) xs) apart in
     let parts = and_parts (not (is_among y before)) (none_shared is_same_name xs before) none in
     rw (same_name-symm y x, others.0, parts.0) (none_shared-front xs before x others.1 parts.1)
 
-first_again-none : (before names : List (List ℕ)) → none_shared is_same_name names before ≡ true → all_differ is_same_name names ≡ true → first_again before names ≡ None
+first_again-none : (before names : List (List ℕ)) → none_shared is_same_name names before ≡ true → all_differ is_same_name names ≡ true
+    → first_again before names ≡ None
 first_again-none before [] none differ = refl
 first_again-none before (name ∷ names) none differ =
     let apart = and_parts (not (is_among name before)) (none_shared is_same_name names before) none in
     let parts = and_parts (not (is_among name names)) (all_differ is_same_name names) differ in
-    rw (not-true (is_among name before) apart.0) (first_again-none (name ∷ before) names (none_shared-front names before name (not-true (is_among name names) parts.0) apart.1) parts.1)
+    rw (not-true (is_among name before) apart.0) (first_again-none (name ∷ before) names
+    (none_shared-front names before name (not-true (is_among name names) parts.0) apart.1) parts.1)
 
-none_shared-nil : (names : List (List ℕ)) → none_shared is_same_name names [] ≡ true
+pub none_shared-nil : (names : List (List ℕ)) → none_shared is_same_name names [] ≡ true
 none_shared-nil [] = refl
 none_shared-nil (name ∷ names) = none_shared-nil names
 
@@ -259,6 +305,8 @@ find-none p (x ∷ xs) all =
 pub reading-circuit_text : (c : Circuit) → HasSpelling c → reading (circuit_text c) ≡ Ok c
 reading-circuit_text c fits =
     let driven = driven-circuit c in
-    let once : driven_again (circuit_statements c) ≡ None = ap (first_again []) driven ∙ first_again-none [] (driven_names c) (none_shared-nil (driven_names c)) fits.once in
-    let all : not_driven (circuit_statements c) ≡ None = rw (driven, used-circuit c) (find-none (λ name. is_among name (driven_names c)) (used_names c) fits.driven) in
+    let once : driven_again (circuit_statements c) ≡ None = ap (first_again []) driven
+    ∙ first_again-none [] (driven_names c) (none_shared-nil (driven_names c)) fits.once in
+    let all : not_driven (circuit_statements c) ≡ None = rw (driven, used-circuit c)
+    (find-none (λ name. is_among name (driven_names c)) (used_names c) fits.driven) in
     reading-text_of (circuit_statements c) (spellable-circuit c fits) (accepted-circuit c fits) once all ∙ ap Ok (circuit_of-circuit c)

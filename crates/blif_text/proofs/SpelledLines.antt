@@ -8,7 +8,7 @@ use Rattle.std.proofs.lemmas.List.Sums.{take_while-cons}
 use Rattle.std.proofs.lemmas.List.Folds.{list_all-append}
 use Rattle.blif_text.specs.Lines.{text_lines, without_comment, ends_with, is_blank, is_word_byte, is_clean, pieces, is_empty, words}
 use Rattle.blif_text.specs.Spelled.{line_text}
-use Rattle.blif_text.proofs.Words.{is_word, is_line_byte, line_byte_is, word_byte_not_blank, list_all-weaker}
+use Rattle.blif_text.proofs.WordBytes.{is_word, is_line_byte, line_byte_is, word_byte_not_blank, list_all-weaker}
 
 -- ---- one line
 
@@ -90,10 +90,12 @@ clean-behind : (more : List (List ℕ)) → list_all is_word more ≡ true → i
 clean-behind [] fit = refl
 clean-behind (word ∷ more) fit =
     let parts = and_parts (is_word word) (list_all is_word more) fit in
-    list_all-append is_line_byte word (flat_map (λ w. 32 ∷ w) more) ∙ and_from (is_clean word) (is_clean (flat_map (λ w. 32 ∷ w) more)) (clean-word word parts.0) (clean-behind more parts.1)
+    list_all-append is_line_byte word (flat_map (λ w. 32 ∷ w) more)
+    ∙ and_from (is_clean word) (is_clean (flat_map (λ w. 32 ∷ w) more)) (clean-word word parts.0) (clean-behind more parts.1)
 
 pub clean-spaced : (line : List (List ℕ)) → list_all is_word line ≡ true → is_clean (spaced line) ≡ true
 clean-spaced [] fit = refl
 clean-spaced (word ∷ more) fit =
     let parts = and_parts (is_word word) (list_all is_word more) fit in
-    list_all-append is_line_byte word (flat_map (λ w. 32 ∷ w) more) ∙ and_from (is_clean word) (is_clean (flat_map (λ w. 32 ∷ w) more)) (clean-word word parts.0) (clean-behind more parts.1)
+    list_all-append is_line_byte word (flat_map (λ w. 32 ∷ w) more)
+    ∙ and_from (is_clean word) (is_clean (flat_map (λ w. 32 ∷ w) more)) (clean-word word parts.0) (clean-behind more parts.1)

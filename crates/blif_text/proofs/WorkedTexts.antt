@@ -3,7 +3,7 @@ use Rattle.std.proofs.Common.{◌≡◌, ℕ, false, List, [], ◌∷◌, ◌++�
 use Rattle.std.specs.Prelude.{flat_map}
 use Rattle.std.specs.Fmt.{digits}
 use Rattle.net_ir.specs.declared.netlist.Op.TheVariants.{Not, And}
-use Rattle.net_ir.specs.Runs.{Netlist}
+use Rattle.net_ir.specs.Netlists.{Netlist}
 use Rattle.blif_text.specs.Lines.{text_lines, read_lines, words}
 use Rattle.blif_text.specs.Statements.{Zero, One, Any}
 use Rattle.blif_text.specs.Circuits.{Circuit, Table, reading, Line, TwoDrivers, NoDriver}
@@ -30,13 +30,15 @@ an_empty_text_has_no_line = refl
 one_carriage_return_is_dropped : text_lines (codes "a" ++ (13 ∷ 13 ∷ 10 ∷ codes "b") ++ return) ≡ (codes "a" ++ return) ∷ (codes "b" ++ return) ∷ []
 one_carriage_return_is_dropped = refl
 
-a_joined_line_has_the_number_of_its_first : map (λ l. l.number) (read_lines (feeds (codes "a" ∷ (codes "b" ++ backslash) ∷ (codes "c" ++ backslash) ∷ codes "d" ∷ codes "e" ∷ []))) ≡ 1 ∷ 2 ∷ 5 ∷ []
+a_joined_line_has_the_number_of_its_first : map (λ l. l.number)
+    (read_lines (feeds (codes "a" ∷ (codes "b" ++ backslash) ∷ (codes "c" ++ backslash) ∷ codes "d" ∷ codes "e" ∷ []))) ≡ 1 ∷ 2 ∷ 5 ∷ []
 a_joined_line_has_the_number_of_its_first = refl
 
 nothing_stands_in_place_of_a_join : map (λ l. l.bytes) (read_lines (feeds ((codes "b" ++ backslash) ∷ codes "d" ∷ []))) ≡ codes "bd" ∷ []
 nothing_stands_in_place_of_a_join = refl
 
-comments_come_first : map (λ l. l.bytes) (read_lines (feeds ((codes "a# " ++ backslash) ∷ (codes "b" ++ backslash ++ codes "# c") ∷ codes "d" ∷ []))) ≡ codes "a" ∷ codes "bd" ∷ []
+comments_come_first : map (λ l. l.bytes) (read_lines (feeds ((codes "a# " ++ backslash) ∷ (codes "b" ++ backslash ++ codes "# c") ∷ codes "d" ∷ []))) ≡ codes
+    "a" ∷ codes "bd" ∷ []
 comments_come_first = refl
 
 a_last_line_joins_nothing : map (λ l. l.bytes) (read_lines (feeds ((codes "a" ++ backslash) ∷ []))) ≡ (codes "a" ++ backslash) ∷ []
@@ -95,7 +97,16 @@ model = codes ".model m"
 abbrev finish : List ℕ
 finish = codes ".end"
 
-a_free_layout_is_read : reading (feeds (codes "# a comment" ∷ codes ".model" ∷ codes "" ∷ (codes ".inputs a " ++ backslash) ∷ codes "b" ∷ (codes ".names a b c # and" ++ return) ∷ codes "11 1" ∷ codes "-0 1" ∷ codes ".outputs c" ∷ []) ++ finish) ≡ Ok (record { name = []; inputs = codes "a" ∷ codes "b" ∷ []; outputs = codes "c" ∷ []; latches = []; tables = record { inputs = codes "a" ∷ codes "b" ∷ []; output = codes "c"; rows = (One ∷ One ∷ []) ∷ (Any ∷ Zero ∷ []) ∷ [] } ∷ [] })
+a_free_layout_is_read : reading (feeds (codes "# a comment" ∷ codes ".model" ∷ codes "" ∷ (codes ".inputs a " ++ backslash) ∷ codes "b" ∷
+    (codes ".names a b c # and" ++ return) ∷ codes "11 1" ∷ codes "-0 1" ∷ codes ".outputs c" ∷ []) ++ finish) ≡ Ok
+    (record {
+      name = [];
+      inputs = codes "a" ∷ codes "b" ∷ [];
+      outputs = codes "c" ∷ [];
+      latches = [];
+      tables = record
+          { inputs = codes "a" ∷ codes "b" ∷ []; output = codes "c"; rows = (One ∷ One ∷ []) ∷ (Any ∷ Zero ∷ []) ∷ [] } ∷ [];
+    })
 a_free_layout_is_read = refl
 
 an_empty_text_lacks_its_end : reading [] ≡ Err (Line 1)

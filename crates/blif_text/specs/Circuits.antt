@@ -1,5 +1,6 @@
--- The circuit that a BLIF text of the profile describes, and why a text describes none.
-use Rattle.std.specs.Prelude.{ℕ, Bool, not, if◌then◌else◌, List, [], ◌∷◌, flat_map, filter_map, find, Option, Some, None, Result, Ok, Err}
+-- To believe: the circuit that a BLIF text of the profile describes, and why a text describes none.
+use Rattle.std.specs.Prelude.{ℕ, Bool, not, if◌then◌else◌, List, [], ◌∷◌, flat_map, filter_map, find, Option, Some}
+use Rattle.std.specs.Prelude.{None, Result, Ok, Err}
 use Rattle.std.specs.List.{list_any}
 use Rattle.est_base.specs.Names.{is_same_name}
 use Rattle.blif_text.specs.Statements.{Cell, Statement, Model, Inputs, Outputs, Latch, Names, Row, said, refused_line}
@@ -120,4 +121,5 @@ statements text = filter_map (λ line. line.says) (said text)
 abbrev pub reading : List ℕ → Result Circuit Fault
 reading text =
     let all = statements text in
-    unless (refused_line text) Line (unless (driven_again all) TwoDrivers (unless (not_driven all) NoDriver (Ok (circuit_of all))))
+    unless (refused_line text) Line
+    (unless (driven_again all) TwoDrivers (unless (not_driven all) NoDriver (Ok (circuit_of all))))

@@ -4,3 +4,8 @@ pub mod Circuits
 pub mod Spelled
 pub mod Runs
 pub mod Written
+pub mod Plain
+pub mod PlainStatements
+pub mod Drafts
+pub mod Rests
+pub mod Reads

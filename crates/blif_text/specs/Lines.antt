@@ -1,6 +1,7 @@
--- Lines and words of a BLIF text: any list of bytes has lines, and each line has words or bytes that
+-- To believe: lines and words of a BLIF text. Any list of bytes has lines, and each line has words or bytes that
 -- no line may have.
-use Rattle.std.specs.Prelude.{◌==◌, ℕ, ◌+◌, ◌-◌, Bool, true, false, not, ◌&&◌, ◌||◌, if◌then◌else◌, nat_le, List, [], ◌∷◌, ◌++◌, length, take, map, filter, take_while}
+use Rattle.std.specs.Prelude.{◌==◌, ℕ, ◌+◌, ◌-◌, Bool, true, false, not, ◌&&◌, ◌||◌, if◌then◌else◌, nat_le, List, []}
+use Rattle.std.specs.Prelude.{◌∷◌, ◌++◌, length, take, map, filter, take_while}
 use Rattle.std.specs.List.{list_all}
 
 -- ---- lines
@@ -44,7 +45,8 @@ ends_with b (c ∷ d ∷ cs) = ends_with b (d ∷ cs)
 abbrev pub join : ℕ → List ℕ → List Line → List Line
 join n line [] = record { number = n; bytes = line } ∷ []
 join n line (next ∷ lines) =
-    if ends_with 92 line then record { number = n; bytes = take (length line - 1) line ++ next.bytes } ∷ lines else record { number = n; bytes = line } ∷ next ∷ lines
+    if ends_with 92 line then record { number = n; bytes = take (length line - 1) line ++ next.bytes } ∷ lines
+    else record { number = n; bytes = line } ∷ next ∷ lines
 
 -- lines that are joined where a `\` says so, where n is the number of the first one
 abbrev pub joined : ℕ → List (List ℕ) → List Line

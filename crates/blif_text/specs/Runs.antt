@@ -1,7 +1,8 @@
--- The meaning of a circuit: its runs over the inputs of each instant. A valuation says of every name
--- whether it is true, and a run is a list of valuations, one for each instant.
+-- To believe: the meaning of a circuit, its runs over items. A valuation says of every name whether it is
+-- true, and a run is a list of valuations, one for each event.
 use Rattle.std.specs.Prelude.{◌≡◌, ℕ, Bool, true, false, not, ◌&&◌, List, [], ◌∷◌, ◌++◌, map}
 use Rattle.std.specs.List.{list_any, AllByRecursion}
+use Rattle.est_base.specs.Items.{Item, Event, Reset}
 use Rattle.blif_text.specs.Statements.{Cell, Zero, One, Any}
 use Rattle.blif_text.specs.Circuits.{Circuit, Table}
 
@@ -28,18 +29,23 @@ pub record IsInstant (circuit : Circuit) (latches inputs : List Bool) (v : List 
   pub latches_kept : map (λ l. v l.target) circuit.latches ≡ latches
   pub tables_met : AllByRecursion (λ t. v t.output ≡ table_value t v) circuit.tables
 
--- a run from these latch values on: the latches of each later instant have the values that their
--- sources had one instant before
-abbrev pub IsRunFrom : Circuit → List Bool → List (List Bool) → List (List ℕ → Bool) → Type 0
-IsRunFrom circuit latches [] [] = Unit {0}
-IsRunFrom circuit latches (inputs ∷ instants) (v ∷ valuations) =
-    IsInstant circuit latches inputs v × IsRunFrom circuit (map (λ l. v l.source) circuit.latches) instants valuations
-IsRunFrom circuit latches [] (v ∷ valuations) = ⊥
-IsRunFrom circuit latches (inputs ∷ instants) [] = ⊥
+-- the values of the latches before the first event, and behind a reset
+abbrev pub circuit_latches : Circuit → List Bool
+circuit_latches circuit = map (λ l. l.init) circuit.latches
 
--- a run over the inputs of each instant, where each latch has its initial value in the first one
-abbrev pub IsRun : Circuit → List (List Bool) → List (List ℕ → Bool) → Type 0
-IsRun circuit instants valuations = IsRunFrom circuit (map (λ l. l.init) circuit.latches) instants valuations
+-- A run from these latch values on. Behind an event the latches have the values that their sources had in
+-- its instant; a reset has no valuation and puts the latches back.
+abbrev pub IsRunFrom : Circuit → List Bool → List Item → List (List ℕ → Bool) → Type 0
+IsRunFrom circuit latches [] [] = Unit {0}
+IsRunFrom circuit latches [] (v ∷ valuations) = ⊥
+IsRunFrom circuit latches (Event inputs ∷ items) (v ∷ valuations) =
+    IsInstant circuit latches inputs v × IsRunFrom circuit (map (λ l. v l.source) circuit.latches) items valuations
+IsRunFrom circuit latches (Event inputs ∷ items) [] = ⊥
+IsRunFrom circuit latches (Reset ∷ items) valuations = IsRunFrom circuit (circuit_latches circuit) items valuations
+
+-- a run over items, where each latch has its initial value at the first event
+abbrev pub IsRun : Circuit → List Item → List (List ℕ → Bool) → Type 0
+IsRun circuit items valuations = IsRunFrom circuit (circuit_latches circuit) items valuations
 
 -- the names that a circuit drives
 abbrev pub driven_names : Circuit → List (List ℕ)

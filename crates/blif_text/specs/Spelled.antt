@@ -1,4 +1,4 @@
--- The one spelling of a circuit as a BLIF text.
+-- To believe: the one spelling of a circuit as a BLIF text.
 use Rattle.std.specs.Prelude.{ℕ, Bool, true, false, List, [], ◌∷◌, ◌++◌, map, flat_map, codes}
 use Rattle.blif_text.specs.Statements.{Cell, Zero, One, Any, Statement, Model, Inputs, Outputs, Latch, Names, Row, End}
 use Rattle.blif_text.specs.Circuits.{Circuit, CircuitLatch, Table}

@@ -1,15 +1,12 @@
--- The statements of the BLIF profile: what each kind of line says, and which may stand after which.
+-- To believe: the statements of the BLIF profile: what each kind of line says, and which may stand after which.
 -- The form is Berkeley's BLIF, cut down to one model of latches with an initial value and tables of
 -- at most eight inputs.
-use Rattle.std.specs.Prelude.{◌==◌, ℕ, ◌+◌, Bool, true, false, not, if◌then◌else◌, nat_le, List, [], ◌∷◌, length, flat_map, codes, Option, Some, None, option_map}
+use Rattle.std.specs.Prelude.{◌==◌, ℕ, ◌+◌, Bool, true, false, not, if◌then◌else◌, nat_le, List, [], ◌∷◌, length}
+use Rattle.std.specs.Prelude.{flat_map, codes, Option, Some, None, option_map}
 use Rattle.est_base.specs.Names.{is_same_name}
+pub use Rattle.blif_text.specs.declared.circuit.Cell.{Cell}
+pub use Rattle.blif_text.specs.declared.circuit.Cell.TheVariants.{Zero, One, Any}
 use Rattle.blif_text.specs.Lines.{Line, is_clean, words, read_lines, text_lines}
-
--- a cell of a table's row, which an input of a certain value fits, or one of any value
-pub data Cell : Type 0 where
-  Zero : Cell
-  One : Cell
-  Any : Cell
 
 pub data Statement : Type 0 where
   Model : (name : List ℕ) → Statement
@@ -29,7 +26,8 @@ model_of (name ∷ []) = Some (Model name)
 model_of (name ∷ other ∷ more) = None
 
 abbrev pub bit_of : List ℕ → Option Bool
-bit_of word = if is_same_name word (codes "0") then Some false else (if is_same_name word (codes "1") then Some true else None)
+bit_of word =
+    if is_same_name word (codes "0") then Some false else (if is_same_name word (codes "1") then Some true else None)
 
 -- `.latch FROM TO INIT`, with INIT `0` or `1`
 abbrev pub latch_of : List (List ℕ) → Option Statement
@@ -96,7 +94,9 @@ said_by n (word ∷ rest) = record { number = n; says = statement_of (word ∷ r
 
 -- a line without words says nothing, and is passed over
 abbrev pub said_in : Line → List Said
-said_in line = if is_clean line.bytes then said_by line.number (words line.bytes) else record { number = line.number; says = None } ∷ []
+said_in line =
+    if is_clean line.bytes then said_by line.number (words line.bytes)
+    else record { number = line.number; says = None } ∷ []
 
 -- what the lines of a text say, in order
 abbrev pub said : List ℕ → List Said

@@ -1,6 +1,9 @@
--- The circuit that stands for a net, and its BLIF text. Net names are `_iJ` for input J, `_sJ` for latch J,
--- and for gate K `_wN` if it carries wire N, else `_gK`. An input and an output also have their own names.
-use Rattle.std.specs.Prelude.{◌≡◌, ℕ, ◌+◌, ◌-◌, Bool, true, false, if◌then◌else◌, nat_lt, List, [], ◌∷◌, ◌++◌, length, map, codes, decimal, slice_get, Option, Some, None, option_and_then, Ok, All}
+-- To believe: the circuit that stands for a net, its BLIF text, and what the text means. Net names are `_iJ`
+-- for input J, `_sJ` for latch J, and for gate K `_wN` if it carries wire N, else `_gK`. An input also has its
+-- own name, and so has an output; where that is an input's name too, the output is written `NAME.out`. No name
+-- of a net has a `.` or begins with `_`.
+use Rattle.std.specs.Prelude.{◌≡◌, ℕ, ◌+◌, ◌-◌, Bool, true, false, if◌then◌else◌, nat_lt, List, [], ◌∷◌, ◌++◌, length}
+use Rattle.std.specs.Prelude.{map, codes, decimal, slice_get, Option, Some, None, option_and_then, Ok}
 use Rattle.std.specs.List.{range_with_len}
 use Rattle.est_base.specs.declared.indices.WireId.{WireId}
 use Rattle.net_ir.specs.declared.netlist.Op.{Op}
@@ -8,9 +11,11 @@ use Rattle.net_ir.specs.declared.netlist.Op.TheVariants.{Const, Copy, Not, And, 
 use Rattle.net_ir.specs.declared.netlist.Gate.{Gate}
 use Rattle.net_ir.specs.declared.netlist.Latch.{Latch}
 use Rattle.net_ir.specs.declared.netlist.NetOut.{NetOut}
-use Rattle.net_ir.specs.Runs.{Netlist, first_gate, net_count, net_run, net_values_run}
+use Rattle.est_base.specs.Items.{Item, EachEvent}
+use Rattle.net_ir.specs.Netlists.{Netlist, first_gate, net_count}
+use Rattle.net_ir.specs.Runs.{net_run, net_values_run}
 use Rattle.blif_text.specs.Statements.{Cell, Zero, One, Any}
-use Rattle.blif_text.specs.Circuits.{Circuit, CircuitLatch, Table, reading}
+use Rattle.blif_text.specs.Circuits.{Circuit, CircuitLatch, Table, is_among, reading}
 use Rattle.blif_text.specs.Spelled.{circuit_text}
 use Rattle.blif_text.specs.Runs.{IsRun, driven_names}
 
@@ -36,6 +41,14 @@ net_word net n =
     if nat_lt n (length net.inputs) then input_word n
     else (if nat_lt n (first_gate net) then latch_word (n - length net.inputs)
     else gate_word (n - first_gate net) (wire_at net.gates (n - first_gate net)))
+
+-- the name of an output in the text, where the names of the inputs are given
+abbrev pub output_word : List (List ℕ) → List ℕ → List ℕ
+output_word inputs name = if is_among name inputs then name ++ codes ".out" else name
+
+-- for each output, whether its name is also that of an input
+abbrev pub given_outputs : Netlist → List Bool
+given_outputs net = map (λ o. is_among o.name net.inputs) net.outputs
 
 abbrev pub paused_word : List ℕ
 paused_word = codes "_paused"
@@ -73,7 +86,7 @@ gate_table net k gate = record {
 }
 
 abbrev pub output_table : Netlist → NetOut → Table
-output_table net output = copy_table (net_word net output.net.0) output.name
+output_table net output = copy_table (net_word net output.net.0) (output_word net.inputs output.name)
 
 abbrev pub net_latch : Netlist → ℕ → Latch → CircuitLatch
 net_latch net j latch = record { source = net_word net latch.from.0; target = latch_word j; init = latch.init }
@@ -83,8 +96,9 @@ abbrev pub numbered : {X Y : Type 0} → (ℕ → X → Y) → ℕ → List X �
 numbered f n [] = []
 numbered f n (x ∷ xs) = f n x ∷ numbered f (n + 1) xs
 
-abbrev pub output_names : Netlist → List (List ℕ)
-output_names net = map (λ o. o.name) net.outputs ++ paused_word ∷ []
+-- the outputs in the text, of which `_paused` is the last
+abbrev pub output_words : Netlist → List (List ℕ)
+output_words net = map (λ o. output_word net.inputs o.name) net.outputs ++ paused_word ∷ []
 
 -- a table for each input, each gate, each output and `_paused`
 abbrev pub net_tables : Netlist → List Table
@@ -96,7 +110,7 @@ abbrev pub net_circuit : Netlist → Circuit
 net_circuit net = record {
   name = net.name;
   inputs = net.inputs;
-  outputs = output_names net;
+  outputs = output_words net;
   latches = numbered (net_latch net) 0 net.latches;
   tables = net_tables net;
 }
@@ -107,19 +121,25 @@ written net = circuit_text (net_circuit net)
 
 -- ---- what the text means
 
--- A text means a net: it describes a circuit with the net's inputs, outputs and latches, which shows in
--- each instant of its runs what the net shows.
+-- A text means a net: it describes a circuit with the net's name, inputs, outputs and latches, which shows at
+-- each event of its runs what the net shows.
 pub record Means (text : List ℕ) (net : Netlist) : Type 0 where
   pub circuit : Circuit
   pub reads : reading text ≡ Ok circuit
+  pub name : circuit.name ≡ net.name
   pub inputs : circuit.inputs ≡ net.inputs
-  pub outputs : circuit.outputs ≡ output_names net
+  pub outputs : circuit.outputs ≡ output_words net
   pub latches : circuit.latches ≡ numbered (net_latch net) 0 net.latches
-  -- over every list of inputs of the right width there is a run
-  pub runs : (instants : List (List Bool)) → All (λ inputs. length inputs ≡ length net.inputs) instants → (valuations : List (List ℕ → Bool)) × IsRun circuit instants valuations
+  -- over all items of the right width there is a run
+  pub runs : (items : List Item) → EachEvent (λ inputs. length inputs ≡ length net.inputs) items
+      → (valuations : List (List ℕ → Bool)) × IsRun circuit items valuations
   -- any two runs agree on every name that is driven
-  pub one_run : (instants : List (List Bool)) (us vs : List (List ℕ → Bool)) → IsRun circuit instants us → IsRun circuit instants vs → map (λ u. map u (driven_names circuit)) us ≡ map (λ v. map v (driven_names circuit)) vs
-  -- in each instant of a run the outputs have the net's values, and the last one that of `paused`
-  pub shows : (instants : List (List Bool)) (valuations : List (List ℕ → Bool)) → IsRun circuit instants valuations → map (λ v. map v circuit.outputs) valuations ≡ map (λ s. s.outputs ++ s.paused ∷ []) (net_run net instants)
+  pub one_run : (items : List Item) (us vs : List (List ℕ → Bool)) → IsRun circuit items us → IsRun circuit items vs
+      → map (λ u. map u (driven_names circuit)) us ≡ map (λ v. map v (driven_names circuit)) vs
+  -- at each event of a run the outputs have the net's values, and the last one that of `paused`
+  pub shows : (items : List Item) (valuations : List (List ℕ → Bool)) → IsRun circuit items valuations
+      → map (λ v. map v circuit.outputs) valuations ≡ map (λ s. s.outputs ++ s.paused ∷ []) (net_run net items)
   -- and every net's name has the net's value
-  pub nets : (instants : List (List Bool)) (valuations : List (List ℕ → Bool)) → IsRun circuit instants valuations → map (λ v. map (λ n. v (net_word net n)) (range_with_len 0 (net_count net))) valuations ≡ net_values_run net instants
+  pub nets : (items : List Item) (valuations : List (List ℕ → Bool)) → IsRun circuit items valuations
+      → map (λ v. map (λ n. v (net_word net n)) (range_with_len 0 (net_count net))) valuations
+      ≡ net_values_run net items

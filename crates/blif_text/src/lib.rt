@@ -1,10 +1,21 @@
-//! BLIF texts: what they mean, and the text of a net.
+//! BLIF texts: what they mean, the text of a net, and the circuit of a text.
 //!
 //! The texts are those of Berkeley's BLIF (Berkeley Logic Interchange Format), cut down to one model
 //! of latches with an initial value and tables of at most eight inputs. `specs/` says for every list of
 //! bytes which circuit it describes, or why it describes none, and what the runs of a circuit are.
 #![tactic(auto)]
 
+mod circuit;
+mod draft;
+mod drivers;
+mod lines;
+mod reader;
+mod refusal;
+mod statements;
+mod words;
 mod writer;
 
+pub use circuit::{Blif, BlifLatch, Cell, Row, Table};
+pub use reader::read_blif;
+pub use refusal::BlifError;
 pub use writer::write_blif;

@@ -1,44 +1,80 @@
 // The BLIF text of a net, put together line by line.
 
-ghost use Rattle.std.specs.Prelude.{◌≡◌, ◌+◌, ◌<◌, ◌≤◌, ◌^◌, ◌++◌, [], ◌∷◌, map, flat_map, decimal, IfSome, IfOk, OnOk, All};
+ghost use Rattle.std.specs.Prelude.{◌≡◌, ℕ, ◌+◌, ◌<◌, ◌≤◌, ◌^◌, List, [], ◌∷◌, ◌++◌};
+ghost use Rattle.std.specs.Prelude.{map, flat_map, codes, decimal, IfSome, IfOk, OnOk, All, if◌then◌else◌};
+ghost use Rattle.std.specs.HashSet.{contains_by};
 ghost use Rattle.net_ir.specs.Gates.{operand_end};
-ghost use Rattle.net_ir.specs.Runs.{netlist_of, net_count};
+ghost use Rattle.est_base.specs.Names.{is_same_name};
+ghost use Rattle.net_ir.specs.Netlists.{net_count};
+ghost use Rattle.net_ir.specs.Runs.{netlist_of};
 ghost use Rattle.blif_text.specs.Statements.{Outputs, Row};
-ghost use Rattle.blif_text.specs.Spelled.{text_of, inputs_statements, latch_statement, table_statements, head_statements};
-ghost use Rattle.blif_text.specs.Written.{gate_word, net_word, paused_word, operands, op_rows, copy_table, input_table, gate_table, output_table, net_latch, numbered, net_circuit, written, Means};
+ghost use Rattle.blif_text.specs.Circuits.{is_among};
+ghost use Rattle.blif_text.specs.Spelled.{text_of, inputs_statements, latch_statement, table_statements};
+ghost use Rattle.blif_text.specs.Spelled.{head_statements};
+ghost use Rattle.blif_text.specs.Written.{given_outputs, output_words, gate_word, net_word, paused_word, operands};
+ghost use Rattle.blif_text.specs.Written.{op_rows, copy_table, input_table, gate_table, output_table, net_latch};
+ghost use Rattle.blif_text.specs.Written.{numbered, net_circuit, written, Means};
 
 use est_base::{NetId, NoMemory, Text};
 use itoa::Buffer;
 use net_ir::{Gate, Net, NetOut, Op};
 use std::alloc::Global;
+use std::collections::HashSet;
 
 /// The BLIF text of a net: one line feed behind each line, and one space between words.
 ///
-/// The net's inputs have their own names, and so do its outputs; the last output is `_paused`. Input
-/// J is also `_iJ`, latch J is `_sJ`, and gate K is `_wN` where it carries wire N, else `_gK`. The lines
-/// are those of Berkeley's BLIF: the model, the inputs, the outputs, the latches, and then a table for
-/// each input, each gate, each output and `_paused`. The time and the memory that it takes are linear in
-/// the length of the text; want of memory is its only error.
+/// The net's inputs have their own names, and so do its outputs, but an output whose name is an input's
+/// too is written `NAME.out`; the last output is `_paused`. Input J is also `_iJ`, latch J is `_sJ`, and
+/// gate K is `_wN` where it carries wire N, else `_gK`. The lines are those of Berkeley's BLIF: the model,
+/// the inputs, the outputs, the latches, and then a table for each input, each gate, each output and
+/// `_paused`. The time and the memory that it takes are linear in the length of the text; want of memory
+/// is its only error.
 pub fn write_blif(alloc: Global, net: &Net) -> Result<Vec<u8>, NoMemory>
     ensures text { IfOk result (λ t. t.items ≡ written (netlist_of net.now)) }
     ensures means { IfOk result (λ t. Means t.items (netlist_of net.now)) }
 {
+    let given = given_outputs(alloc, net)?;
     let mut text = Vec::new(alloc);
-    put_text(&mut text, net)?;
+    put_text(&mut text, net, &given)?;
     Ok(text)
 }
 
-// The whole text.
-fn put_text(text: &mut Vec<u8>, net: &Net) -> Result<(), NoMemory>
+// For each output, whether its name is also that of an input.
+fn given_outputs(alloc: Global, net: &Net) -> Result<Vec<bool>, NoMemory>
+    ensures { IfOk result (λ given. given.items ≡ given_outputs (netlist_of net.now)) }
+{
+    let inputs = name_set(alloc, &net.inputs)?;
+    let mut given = Vec::new(alloc);
+    for output in &net.outputs {
+        given.push(inputs.contains(output.name.bytes()))?;
+    }
+    Ok(given)
+}
+
+// The set of some names.
+fn name_set<'a>(alloc: Global, names: &'a [Text]) -> Result<HashSet<&'a [u8]>, NoMemory>
+    ensures { IfOk result
+        (λ set. (name : List ℕ) → contains_by (λ k. is_same_name name k.now) set ≡ is_among name names.now) }
+{
+    let mut set = HashSet::new(alloc);
+    for name in names {
+        set.insert(name.bytes())?;
+    }
+    Ok(set)
+}
+
+// The whole text, where `given` says of each output whether its name is also that of an input.
+fn put_text(text: &mut Vec<u8>, net: &Net, given: &[bool]) -> Result<(), NoMemory>
+    requires { given.now ≡ given_outputs (netlist_of net.now) }
     ensures text { OnOk result (text.new.items ≡ text.old.items ++ written (netlist_of net.now)) }
     ensures wires { OnOk result (All (λ g. IfSome g.wire (λ w. w.0 < 2 ^ 32)) net.now.gates.items) }
 {
-    put_head(text, net)?;
+    put_head(text, net, given)?;
     put_latches(text, net)?;
     put_inputs(text, net)?;
     put_gates(text, net)?;
-    put_outputs(text, net)?;
-    put_net_copy(text, net, net.paused, PAUSED)?;
+    put_outputs(text, net, given)?;
+    put_paused(text, net)?;
     put(text, b".end\n")
 }
 
@@ -46,14 +82,16 @@ fn put_text(text: &mut Vec<u8>, net: &Net) -> Result<(), NoMemory>
 const PAUSED: &[u8] = b"_paused";
 
 // The lines up to the outputs.
-fn put_head(text: &mut Vec<u8>, net: &Net) -> Result<(), NoMemory>
-    ensures { OnOk result (text.new.items ≡ text.old.items ++ text_of (head_statements (net_circuit (netlist_of net.now)))) }
+fn put_head(text: &mut Vec<u8>, net: &Net, given: &[bool]) -> Result<(), NoMemory>
+    requires { given.now ≡ given_outputs (netlist_of net.now) }
+    ensures { OnOk result (text.new.items ≡ text.old.items
+        ++ text_of (head_statements (net_circuit (netlist_of net.now)))) }
 {
     put(text, b".model")?;
     put_spaced(text, net.name.bytes())?;
     put(text, b"\n")?;
     put_input_names(text, &net.inputs)?;
-    put_output_names(text, &net.outputs)
+    put_output_names(text, net, given)
 }
 
 // The line of the inputs, where there are any.
@@ -79,20 +117,32 @@ fn put_names(text: &mut Vec<u8>, names: &[Text]) -> Result<(), NoMemory>
 }
 
 // The line of the outputs.
-fn put_output_names(text: &mut Vec<u8>, outputs: &[NetOut]) -> Result<(), NoMemory>
-    ensures { OnOk result (text.new.items ≡ text.old.items ++ text_of (Outputs (map (λ o. o.name) outputs.now ++ paused_word ∷ []) ∷ [])) }
+fn put_output_names(text: &mut Vec<u8>, net: &Net, given: &[bool]) -> Result<(), NoMemory>
+    requires { given.now ≡ given_outputs (netlist_of net.now) }
+    ensures { OnOk result (text.new.items ≡ text.old.items
+        ++ text_of (Outputs (output_words (netlist_of net.now)) ∷ [])) }
 {
     put(text, b".outputs")?;
-    for output in outputs {
-        put_spaced(text, output.name.bytes())?;
+    for (k, output) in net.outputs.iter().enumerate() {
+        put_output_word(text, output, given[k])?;
     }
     put_spaced(text, PAUSED)?;
     put(text, b"\n")
 }
 
+// A space and the name of an output, where `given` says whether it is also that of an input.
+fn put_output_word(text: &mut Vec<u8>, output: &NetOut, given: bool) -> Result<(), NoMemory>
+    ensures { OnOk result (text.new.items ≡ text.old.items
+        ++ 32 ∷ (if given then output.now.name ++ codes ".out" else output.now.name)) }
+{
+    put_spaced(text, output.name.bytes())?;
+    put(text, if given { b".out" } else { b"" })
+}
+
 // A line for each latch.
 fn put_latches(text: &mut Vec<u8>, net: &Net) -> Result<(), NoMemory>
-    ensures { OnOk result (text.new.items ≡ text.old.items ++ text_of (map latch_statement (numbered (net_latch (netlist_of net.now)) 0 net.now.latches.items))) }
+    ensures { OnOk result (text.new.items ≡ text.old.items
+        ++ text_of (map latch_statement (numbered (net_latch (netlist_of net.now)) 0 net.now.latches.items))) }
 {
     for (j, latch) in net.latches.iter().enumerate() {
         put(text, b".latch ")?;
@@ -105,7 +155,8 @@ fn put_latches(text: &mut Vec<u8>, net: &Net) -> Result<(), NoMemory>
 
 // A table for each input, which gives it its name among the nets.
 fn put_inputs(text: &mut Vec<u8>, net: &Net) -> Result<(), NoMemory>
-    ensures { OnOk result (text.new.items ≡ text.old.items ++ text_of (flat_map table_statements (numbered input_table 0 net.now.inputs.items))) }
+    ensures { OnOk result (text.new.items ≡ text.old.items
+        ++ text_of (flat_map table_statements (numbered input_table 0 net.now.inputs.items))) }
 {
     for (j, name) in net.inputs.iter().enumerate() {
         put(text, b".names ")?;
@@ -118,7 +169,8 @@ fn put_inputs(text: &mut Vec<u8>, net: &Net) -> Result<(), NoMemory>
 
 // A table for each gate.
 fn put_gates(text: &mut Vec<u8>, net: &Net) -> Result<(), NoMemory>
-    ensures text { OnOk result (text.new.items ≡ text.old.items ++ text_of (flat_map table_statements (numbered (gate_table (netlist_of net.now)) 0 net.now.gates.items))) }
+    ensures text { OnOk result (text.new.items ≡ text.old.items
+        ++ text_of (flat_map table_statements (numbered (gate_table (netlist_of net.now)) 0 net.now.gates.items))) }
     // The numbers of wires are those of their type.
     ensures wires { OnOk result (All (λ g. IfSome g.wire (λ w. w.0 < 2 ^ 32)) net.now.gates.items) }
 {
@@ -131,7 +183,8 @@ fn put_gates(text: &mut Vec<u8>, net: &Net) -> Result<(), NoMemory>
 // The table of a gate.
 fn put_gate(text: &mut Vec<u8>, net: &Net, k: usize, gate: Gate) -> Result<(), NoMemory>
     requires { operand_end gate.op ≤ net_count (netlist_of net.now) }
-    ensures text { OnOk result (text.new.items ≡ text.old.items ++ text_of (table_statements (gate_table (netlist_of net.now) k gate))) }
+    ensures text { OnOk result (text.new.items ≡ text.old.items
+        ++ text_of (table_statements (gate_table (netlist_of net.now) k gate))) }
     ensures wire { OnOk result (IfSome gate.wire (λ w. w.0 < 2 ^ 32)) }
 {
     put(text, b".names")?;
@@ -144,7 +197,8 @@ fn put_gate(text: &mut Vec<u8>, net: &Net, k: usize, gate: Gate) -> Result<(), N
 // The names of the nets that a gate reads, each behind a space.
 fn put_operands(text: &mut Vec<u8>, net: &Net, op: Op) -> Result<(), NoMemory>
     requires { operand_end op ≤ net_count (netlist_of net.now) }
-    ensures { OnOk result (text.new.items ≡ text.old.items ++ flat_map (λ w. 32 ∷ w) (map (net_word (netlist_of net.now)) (operands op))) }
+    ensures { OnOk result (text.new.items ≡ text.old.items
+        ++ flat_map (λ w. 32 ∷ w) (map (net_word (netlist_of net.now)) (operands op))) }
 {
     match op {
         Op::Const(_) => Ok(()),
@@ -176,23 +230,38 @@ fn rows(op: Op) -> &'static [u8]
 }
 
 // A table for each output.
-fn put_outputs(text: &mut Vec<u8>, net: &Net) -> Result<(), NoMemory>
-    ensures { OnOk result (text.new.items ≡ text.old.items ++ text_of (flat_map table_statements (map (output_table (netlist_of net.now)) net.now.outputs.items))) }
+fn put_outputs(text: &mut Vec<u8>, net: &Net, given: &[bool]) -> Result<(), NoMemory>
+    requires { given.now ≡ given_outputs (netlist_of net.now) }
+    ensures { OnOk result (text.new.items ≡ text.old.items
+        ++ text_of (flat_map table_statements (map (output_table (netlist_of net.now)) net.now.outputs.items))) }
 {
-    for output in &net.outputs {
-        put_net_copy(text, net, output.net, output.name.bytes())?;
+    for (k, output) in net.outputs.iter().enumerate() {
+        put_output(text, net, output, given[k])?;
     }
     Ok(())
 }
 
-// A table that copies a net to a name.
-fn put_net_copy(text: &mut Vec<u8>, net: &Net, from: NetId, to: &[u8]) -> Result<(), NoMemory>
-    requires { from.0 < net_count (netlist_of net.now) }
-    ensures { OnOk result (text.new.items ≡ text.old.items ++ text_of (table_statements (copy_table (net_word (netlist_of net.now) from.0) to.now))) }
+// The table of an output, where `given` says whether its name is also that of an input.
+fn put_output(text: &mut Vec<u8>, net: &Net, output: &NetOut, given: bool) -> Result<(), NoMemory>
+    requires in_range { output.now.net.0 < net_count (netlist_of net.now) }
+    requires given { given ≡ is_among output.now.name net.now.inputs.items }
+    ensures { OnOk result (text.new.items ≡ text.old.items
+        ++ text_of (table_statements (output_table (netlist_of net.now) output.now))) }
 {
     put(text, b".names ")?;
-    put_net(text, net, from)?;
-    put_spaced(text, to)?;
+    put_net(text, net, output.net)?;
+    put_output_word(text, output, given)?;
+    put(text, b"\n1 1\n")
+}
+
+// The table of `_paused`.
+fn put_paused(text: &mut Vec<u8>, net: &Net) -> Result<(), NoMemory>
+    ensures { OnOk result (text.new.items ≡ text.old.items
+        ++ text_of (table_statements (copy_table (net_word (netlist_of net.now) net.now.paused.0) paused_word))) }
+{
+    put(text, b".names ")?;
+    put_net(text, net, net.paused)?;
+    put_spaced(text, PAUSED)?;
     put(text, b"\n1 1\n")
 }
 

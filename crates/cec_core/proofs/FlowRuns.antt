@@ -1,13 +1,16 @@
 -- A direct program's constructive runs are what its flows show.
-use Rattle.std.proofs.Common.{◌≡◌, ℕ, ◌+◌, ◌<◌, ◌≤◌, Bool, true, false, ◌==◌, List, [], ◌∷◌, map, length, slice_index_or, All, Some, refl, sym, ap, ap₂, ◌∙◌, arith}
+use Rattle.std.proofs.Common.{◌≡◌, ℕ, ◌+◌, ◌<◌, ◌≤◌, Bool, true, false, ◌||◌, ◌==◌, List, [], ◌∷◌, map, length, slice_index_or, All, Some, refl, sym, ap, ap₂, ◌∙◌, arith}
 use Rattle.std.specs.List.{list_any, range_with_len}
 use Rattle.std.proofs.lemmas.List.Elements.{All-head, All-tail}
+use Rattle.std.proofs.lemmas.List.{get_or_past}
+use Rattle.est_base.specs.Items.{Item, Event, Reset, EachEvent}
 use Rattle.std.proofs.lemmas.List.FromFn.{length-range_with_len, get_or-range_with_len}
 use Rattle.est_kernel.specs.Terms.{Term, Nothing}
 use Rattle.est_kernel.specs.Steps.{Step, ended}
-use Rattle.est_kernel.specs.Plain.{Program, output_signals}
-use Rattle.est_kernel.specs.Reactions.{Answer, before, goes_on, run, run_of}
-use Rattle.cec_core.specs.Direct.{IsDirect, pauses_of, Flow, flow, present_in, flows, flows_of, seen_of}
+use Rattle.est_kernel.specs.Plain.{Program, Interface, interface_of}
+use Rattle.est_kernel.specs.Reactions.{Answer, is_given, answer_of, before, goes_on, run_from, run, run_of}
+use Rattle.cec_core.specs.Direct.{IsDirect, pauses_of, Flow, flow, present_in, flows, direct_outputs, flows_of}
+use Rattle.cec_core.specs.Meaning.{seen_of}
 use Rattle.cec_core.proofs.KnownInputs.{StepsAs, event_tells, reacts}
 use Rattle.cec_core.proofs.Resting.{Shows, shows_itself, Idle, idle_from_quiet, Rests, Rests-some}
 use Rattle.cec_core.proofs.FlowSteps.{Completes, terminates, pauses, Still, Does, idle_is_still, started_does, resting_does}
@@ -84,33 +87,50 @@ module _ (inputs : ℕ) (present : ℕ → Bool) (body : Term) where
   instant interface d (over {rested = rested} idle) =
       instant_over _ (idle_is_still inputs present interface rested body d 0 idle)
 
+-- an event gives none of the signals that are no inputs
+not_given : (inputs : ℕ) (event : List Bool) → length event ≡ inputs → (f : ℕ → Bool) (outs : List ℕ) → All (λ o. inputs ≤ o) outs → map (λ s. is_given event s || f s) outs ≡ map f outs
+not_given inputs event wide f [] far = refl
+not_given inputs event wide f (o ∷ outs) far =
+    let beyond : inputs ≤ o = All-head (λ s. inputs ≤ s) o outs far in
+    let absent : is_given event o ≡ false = get_or_past event o false (omega (arith, wide)) in
+    ap₂ ◌∷◌ (ap (λ b. b || f o) absent) (not_given inputs event wide f outs (All-tail (λ s. inputs ≤ s) o outs far))
+
 -- a direct body, and outputs that are no inputs
 module _ (inputs interface : ℕ) (body : Term) (direct : IsDirect inputs interface body) (outs : List ℕ) (far : All (λ o. inputs ≤ o) outs) where
+  abbrev sides : Interface
+  sides = record { inputs = inputs; outgoing = outs }
+
   -- from wherever the program stands, its answers are what its flows show
-  runs_from : (events : List (List Bool)) → All (λ event. length event ≡ inputs) events → (started : Bool) (rested : ℕ → Bool) (r : Term) → Stands body started rested r →
-      (answers : List Answer) × (run outs r events ≡ Some answers) × (map seen_of answers ≡ flows outs body started rested events)
+  runs_from : (items : List Item) → EachEvent (λ event. length event ≡ inputs) items → (started : Bool) (rested : ℕ → Bool) (r : Term) → Stands body started rested r →
+      (answers : List Answer) × (run_from sides body r items ≡ Some answers) × (map seen_of answers ≡ flows outs body started rested items)
   runs_from [] wide started rested r at = ([], refl, refl)
-  runs_from (event ∷ events) wide started rested r at =
+  runs_from (Reset ∷ items) wide started rested r at =
+      runs_from items wide true (λ k. false) body (fresh (record { none = λ k below. refl }))
+  runs_from (Event event ∷ items) wide started rested r at =
       let present = present_in event in
-      let event_wide : length event ≡ inputs = All-head (λ e. length e ≡ inputs) event events wide in
-      let events_wide : All (λ e. length e ≡ inputs) events = All-tail (λ e. length e ≡ inputs) event events wide in
       let f = flow body 0 started rested present in
       let now = instant inputs present body interface direct at in
       let x = now.done in
-      let answer : Answer = record { outputs = map x.emitted outs; code = x.code } in
-      let later = runs_from events events_wide false (shown_by f) x.residual now.next in
-      let answered = reacts inputs present r x now.steps outs far event (event_tells inputs event event_wide) in (
+      let answer : Answer = answer_of sides event x in
+      let later = runs_from items wide.1 false (shown_by f) x.residual now.next in
+      let answered = reacts inputs present r x now.steps outs far event (event_tells inputs event wide.0) in (
         answer ∷ later.0,
-        ap (λ o. goes_on o (λ left. run outs left events)) answered ∙ ap (before answer) later.1,
+        ap (λ o. goes_on o (λ left. run_from sides body left items)) answered ∙ ap (before answer) later.1,
         ap₂ ◌∷◌
-            (ap₂ (λ outputs paused. record { outputs = outputs; paused = paused }) (sym (map_agree f.emits x.emitted now.emits outs)) (sym now.paused))
+            (ap₂ (λ outputs paused. record { outputs = outputs; paused = paused })
+            (not_given inputs event wide.0 x.emitted outs far ∙ sym (map_agree f.emits x.emitted now.emits outs))
+            (sym now.paused))
             later.2,
       )
 
--- Over events that have a truth value for each input, a direct program has an answer for each event, and
--- what is seen of its answers is what its flows show.
-pub runs_flow : (p : Program) → IsDirect p.inputs (p.inputs + p.outputs) p.body → (events : List (List Bool)) →
-    All (λ event. length event ≡ p.inputs) events → (answers : List Answer) × (run_of p events ≡ Some answers) × (map seen_of answers ≡ flows_of p events)
-runs_flow p d events wide =
-    runs_from p.inputs (p.inputs + p.outputs) p.body d (output_signals p) (range_from p.inputs p.outputs) events wide true (λ k. false) p.body
-    (fresh (record { none = λ k below. refl }))
+-- Over items whose events have a truth value for each input, a direct program has an answer for each event,
+-- and what is seen of its answers is what its flows show.
+pub runs_flow : (p : Program) → IsDirect p.inputs (p.inputs + p.outputs) p.body → p.both ≡ 0 → (items : List Item) →
+    EachEvent (λ event. length event ≡ p.inputs) items → (answers : List Answer) × (run_of p items ≡ Some answers) × (map seen_of answers ≡ flows_of p items)
+runs_flow p d no_both items wide =
+    let found =
+    runs_from p.inputs (p.inputs + p.outputs) p.body d (direct_outputs p) (range_from p.inputs p.outputs) items wide true (λ k. false) p.body
+    (fresh (record { none = λ k below. refl })) in
+    let outgoing : p.both + p.outputs ≡ p.outputs = omega (arith, no_both) in
+    let same : interface_of p ≡ record { inputs = p.inputs; outgoing = direct_outputs p } = ap (λ n. record { inputs = p.inputs; outgoing = range_with_len p.inputs n }) outgoing in
+    (found.0, ap (λ i. run i p.body items) same ∙ found.1, found.2)

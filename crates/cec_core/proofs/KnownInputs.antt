@@ -1,14 +1,16 @@
 -- Reactions of a term whose step follows from the inputs alone: each output is decided, whatever it is, and
 -- the reaction is that step.
-use Rattle.std.proofs.Common.{◌≡◌, ℕ, ◌<◌, ◌≤◌, Bool, true, false, cond, ◌==◌, List, [], ◌∷◌, map, length, All, Option, Some, None, refl, ap, ap₂, ◌∙◌, arith}
-use Rattle.std.proofs.lemmas.Bool.{cond-false, ne_eqb}
-use Rattle.std.proofs.lemmas.List.Elements.{All-head, All-tail}
+use Rattle.std.proofs.Common.{◌≡◌, ℕ, ◌<◌, ◌≤◌, Bool, true, false, not, cond, ◌==◌, List, [], ◌∷◌, filter, length, All, Option, Some, None, refl, ap, ap₂, ◌∙◌, arith}
+use Rattle.std.specs.Prelude.{nat_lt, slice_get}
+use Rattle.std.proofs.lemmas.Bool.{cond-true, cond-false, cond_both, ne_eqb, lt-ltb}
+use Rattle.std.proofs.lemmas.List.Elements.{All-head, All-tail, All-cons}
 use Rattle.std.proofs.lemmas.Option.{slice_get-get_or}
 use Rattle.est_kernel.specs.Terms.{Term}
-use Rattle.est_kernel.specs.Statuses.{Status, Plus, Minus, Unknown, Environment, with_status, known, status_told, environment_of}
+use Rattle.est_kernel.specs.Statuses.{Status, Plus, Minus, Unknown, Environment, with_status, known, status_of_input, status_of_other, environment_of}
 use Rattle.est_kernel.specs.Potentials.{decided, must, can}
 use Rattle.est_kernel.specs.Steps.{Step, step, where_known, local_step}
-use Rattle.est_kernel.specs.Reactions.{bound, settle, react, reaction_in, reaction_of}
+use Rattle.est_kernel.specs.Plain.{Interface}
+use Rattle.est_kernel.specs.Reactions.{bound, settle, is_given, open_signals, answer_of, react, step_in, reaction_of}
 use Rattle.est_kernel.specs.Laws.{IsJust}
 use Rattle.est_kernel.proofs.StepLaws.{step_is_what_must_be_done_lem}
 use Rattle.cec_core.specs.Direct.{present_in}
@@ -22,9 +24,22 @@ pub record StepsAs (inputs : ℕ) (present : ℕ → Bool) (r : Term) (x : Step)
   pub at : (E : Environment) → KnowsInputs inputs present E → step r E ≡ Some x
 
 -- an event of the right width tells each input
-pub event_tells : (inputs : ℕ) (event : List Bool) → length event ≡ inputs → KnowsInputs inputs (present_in event) (environment_of event)
+pub event_tells : (inputs : ℕ) (event : List Bool) → length event ≡ inputs → KnowsInputs inputs (present_in event) (environment_of inputs event)
 event_tells inputs event wide =
-    record { told = λ s below. ap status_told (slice_get-get_or event s false (omega arith)) }
+    record {
+      told = λ s below.
+          cond-true (nat_lt s inputs) (status_of_input (slice_get event s)) (status_of_other (slice_get event s)) (lt-ltb s inputs below)
+          ∙ ap status_of_input (slice_get-get_or event s false (omega arith));
+    }
+
+-- some of the signals that are no inputs
+far_kept : (inputs : ℕ) (keep : ℕ → Bool) (outs : List ℕ) → All (λ o. inputs ≤ o) outs → All (λ o. inputs ≤ o) (filter keep outs)
+far_kept inputs keep [] far = far
+far_kept inputs keep (o ∷ outs) far =
+    let rest = far_kept inputs keep outs (All-tail (λ s. inputs ≤ s) o outs far) in
+    cond_both (keep o) (o ∷ filter keep outs) (filter keep outs) (λ l. All (λ s. inputs ≤ s) l)
+    (λ e. All-cons (λ s. inputs ≤ s) o (filter keep outs) (All-head (λ s. inputs ≤ s) o outs far) rest)
+    (λ e. rest)
 
 -- what is said under a known status is said
 known_says : {A : Type 0} (v : Status) (b : Bool) (a : Option A) → v ≡ known b → where_known v a ≡ a
@@ -92,8 +107,9 @@ module _ (inputs : ℕ) (present : ℕ → Bool) where
         )
 
     -- the reaction is the step
-    pub reacts : (outs : List ℕ) → All (λ o. inputs ≤ o) outs → (event : List Bool) → KnowsInputs inputs present (environment_of event) →
-        react outs r event ≡ Some (record { answer = record { outputs = map x.emitted outs; code = x.code }; residual = x.residual })
+    pub reacts : (outs : List ℕ) → All (λ o. inputs ≤ o) outs → (event : List Bool) → KnowsInputs inputs present (environment_of inputs event) →
+        react (record { inputs = inputs; outgoing = outs }) r event ≡ Some (record { answer = answer_of (record { inputs = inputs; outgoing = outs }) event x; residual = x.residual })
     reacts outs far event h =
-        let settled = settles outs far (environment_of event) h in
-        ap (reaction_in outs r) settled.1 ∙ ap (reaction_of outs) (steps.at settled.0 settled.2)
+        let interface : Interface = record { inputs = inputs; outgoing = outs } in
+        let settled = settles (open_signals event outs) (far_kept inputs (λ o. not (is_given event o)) outs far) (environment_of inputs event) h in
+        ap (λ o. reaction_of interface event (step_in r o)) settled.1 ∙ ap (reaction_of interface event) (steps.at settled.0 settled.2)

@@ -17,3 +17,4 @@ pub mod SmallKernels
 pub mod SmallNames
 pub mod SmallPrograms
 pub mod SmallDirect
+mod WorkedText

@@ -13,27 +13,13 @@ use Rattle.net_ir.specs.declared.netlist.NetOut.{NetOut}
 use Rattle.est_base.specs.Distinct.{all_differ, none_shared}
 use Rattle.est_base.specs.Names.{is_name, is_same_name}
 use Rattle.net_ir.specs.Gates.{ReadsLower, carried}
-use Rattle.net_ir.specs.Runs.{Netlist, first_gate, net_count}
+use Rattle.net_ir.specs.Netlists.{Netlist, first_gate, net_count, output_names, IsNet}
 use Rattle.net_ir.proofs.Building.{all_differ-append}
 use Rattle.cec_core.specs.Direct.{pauses_of}
 use Rattle.cec_core.specs.DirectPrograms.{IsDirectProgram}
 use Rattle.cec_core.specs.Wiring.{Wired, net, latches_of, pause_latch, named, first_gate_of, begun, body_wired, paused_wired, net_of}
 use Rattle.cec_core.proofs.Wirings.{NetsBelow, length-grows}
 use Rattle.cec_core.proofs.NetFlows.{map-named, grows-body, grows-paused}
-
--- what every net keeps, besides how many nets there may be
-pub record NetFits (n : Netlist) : Type 0 where
-  pub name_fits : IsTrue (is_name n.name)
-  pub input_names_fit : All (λ x. IsTrue (is_name x)) n.inputs
-  pub output_names_fit : All (λ o. IsTrue (is_name o.name)) n.outputs
-  pub inputs_differ : IsTrue (all_differ is_same_name n.inputs)
-  pub outputs_differ : IsTrue (all_differ is_same_name (map (λ o. o.name) n.outputs))
-  pub no_shared_name : IsTrue (none_shared is_same_name n.inputs (map (λ o. o.name) n.outputs))
-  pub outputs_in_range : All (λ o. o.net.0 < net_count n) n.outputs
-  pub paused_in_range : n.paused < net_count n
-  pub latches_in_range : All (λ l. l.from.0 < net_count n) n.latches
-  pub reads_lower : ReadsLower (first_gate n) n.gates
-  pub carries_once : carried n.gates ≡ []
 
 pub map-same : {X : Type 0} (xs : List X) → map (λ x. x) xs ≡ xs
 map-same [] = refl
@@ -74,8 +60,23 @@ net_count-of p direct =
     let inputs : length (take p.inputs p.signals) ≡ p.inputs = omega (arith, length-take p.inputs p.signals, direct.signals) in
     (omega (arith, latches, inputs), omega (arith, latches, inputs))
 
-pub net_fits : (p : Program) → IsDirectProgram p → NetFits (net_of p)
-net_fits p direct =
+-- a pause is a node
+pub pauses_of-le : (p : Term) → pauses_of p ≤ size_of p
+pauses_of-le Pause = omega arith
+pauses_of-le (Present e p q) = omega (arith, pauses_of-le p, pauses_of-le q)
+pauses_of-le (Seq p q) = omega (arith, pauses_of-le p, pauses_of-le q)
+pauses_of-le Nothing = omega arith
+pauses_of-le (Emit s) = omega arith
+pauses_of-le (Exit k) = omega arith
+pauses_of-le (Suspend e p) = omega arith
+pauses_of-le (Loop at p) = omega arith
+pauses_of-le (Par p q) = omega arith
+pauses_of-le (Trap p) = omega arith
+pauses_of-le (Local s p) = omega arith
+pauses_of-le (Awake e p) = omega arith
+
+pub net_fits : (p : Program) → IsDirectProgram p → length (paused_wired p).wiring.gates ≤ 1251 → IsNet (net_of p)
+net_fits p direct few =
     let first = first_gate_of p in
     let g = grows-body p direct.body in
     let h = grows-paused p direct.body in
@@ -84,7 +85,7 @@ net_fits p direct =
     let all_names : take p.outputs (drop p.inputs p.signals) ≡ drop p.inputs p.signals = take_all p.outputs (drop p.inputs p.signals) (omega (arith, length-drop p.inputs p.signals, direct.signals)) in
     let long : length names ≡ p.outputs = omega (arith, length-take p.outputs (drop p.inputs p.signals), length-drop p.inputs p.signals, direct.signals) in
     let nets_long : length (paused_wired p).wiring.emitted ≡ p.outputs = h.emitted ∙ g.emitted ∙ length-replicate p.outputs (net first) in
-    let names_are : map (λ o. o.name) (net_of p).outputs ≡ names = map-named (λ n. n) names (paused_wired p).wiring.emitted (long ∙ sym nets_long) ∙ map-same names in
+    let names_are : output_names (net_of p) ≡ names = map-named (λ n. n) names (paused_wired p).wiring.emitted (long ∙ sym nets_long) ∙ map-same names in
     let cut : take p.inputs p.signals ++ names ≡ p.signals = ap (λ l. take p.inputs p.signals ++ l) all_names ∙ take-append-drop p.inputs p.signals in
     let differ : IsTrue (all_differ is_same_name (take p.inputs p.signals ++ names)) = rw cut direct.signals_differ in
     let parts = three_true (all_differ is_same_name (take p.inputs p.signals)) (none_shared is_same_name (take p.inputs p.signals) names) (all_differ is_same_name names)
@@ -101,12 +102,12 @@ net_fits p direct =
       output_names_fit = named-fit names (paused_wired p).wiring.emitted (All-take (λ n. IsTrue (is_name n)) p.outputs (drop p.inputs p.signals) (All-drop (λ n. IsTrue (is_name n)) p.inputs p.signals direct.signal_names_fit));
       inputs_differ = parts.0;
       outputs_differ = rw names_are parts.2;
-      no_shared_name = rw names_are parts.1;
+      numbered = omega (arith, count.1, pauses_of-le p.body, direct.few_nodes, direct.few_signals, direct.signals, few);
       outputs_in_range = subst (λ n. All (λ o. o.net.0 < n) (net_of p).outputs) (sym count.1) outputs_low;
       paused_in_range = subst (λ n. (net_of p).paused < n) (sym count.1) h.at;
       latches_in_range = subst (λ n. All (λ l. l.from.0 < n) (net_of p).latches) (sym count.1) latches_low;
       reads_lower = subst (λ n. ReadsLower n (net_of p).gates) (sym count.0) h.fits.reads;
-      carries_once = h.silent ∙ g.silent;
+      carries_once = rw (h.silent ∙ g.silent) refl;
     }
 
 -- a netlist by its parts
@@ -122,28 +123,7 @@ net_from_parts p w never name inputs outputs latches wired is_never named_so giv
     ∙ (λ i. netlist_from p.name (take p.inputs p.signals) (named (take p.outputs (drop p.inputs p.signals)) (wired i).wiring.emitted) (wired i).at (latches_of (is_never i) (wired i).wiring.rests) (wired i).wiring.gates)
 
 -- so it keeps what every net keeps
-pub fits_from_parts : (p : Program) → IsDirectProgram p → (n : Netlist) → n ≡ net_of p → NetFits n
-fits_from_parts p direct n same = subst NetFits (sym same) (net_fits p direct)
-
--- a pause is a node
-pub pauses_of-le : (p : Term) → pauses_of p ≤ size_of p
-pauses_of-le Pause = omega arith
-pauses_of-le (Present e p q) = omega (arith, pauses_of-le p, pauses_of-le q)
-pauses_of-le (Seq p q) = omega (arith, pauses_of-le p, pauses_of-le q)
-pauses_of-le Nothing = omega arith
-pauses_of-le (Emit s) = omega arith
-pauses_of-le (Exit k) = omega arith
-pauses_of-le (Suspend e p) = omega arith
-pauses_of-le (Loop at p) = omega arith
-pauses_of-le (Par p q) = omega arith
-pauses_of-le (Trap p) = omega arith
-pauses_of-le (Local s p) = omega arith
-pauses_of-le (Awake e p) = omega arith
-
--- and its nets are few
-pub few_nets : (p : Program) → IsDirectProgram p → (n : Netlist) → n ≡ net_of p → length n.gates ≤ 1251 → net_count n ≤ 2 ^ 32
-few_nets p direct n same few =
-    let count = (net_count-of p direct).1 in
-    let here : net_count n ≡ first_gate_of p + length (paused_wired p).wiring.gates = ap net_count same ∙ count in
+pub fits_from_parts : (p : Program) → IsDirectProgram p → (n : Netlist) → n ≡ net_of p → length n.gates ≤ 1251 → IsNet n
+fits_from_parts p direct n same few =
     let gates : length n.gates ≡ length (paused_wired p).wiring.gates = ap (λ m. length m.gates) same in
-    omega (arith, here, gates, pauses_of-le p.body, direct.few_nodes, direct.few_signals, direct.signals)
+    subst IsNet (sym same) (net_fits p direct (omega (arith, gates, few)))

@@ -8,14 +8,15 @@ use Rattle.std.proofs.lemmas.List.Elements.{All-head, All-tail}
 use Rattle.std.proofs.lemmas.List.FromFn.{length-range_with_len, get_or-range_with_len}
 use Rattle.est_base.specs.declared.indices.NetId.{NetId}
 use Rattle.est_kernel.specs.Terms.{Term, Nothing, Pause, Emit, Exit, Present, Suspend, Seq, Loop, Par, Trap, Local, Awake}
-use Rattle.est_kernel.specs.Plain.{Program, output_signals}
+use Rattle.est_base.specs.Items.{Item, Event, Reset, EachEvent}
+use Rattle.est_kernel.specs.Plain.{Program}
 use Rattle.net_ir.specs.declared.netlist.Op.TheVariants.{Const, Or}
 use Rattle.net_ir.specs.declared.netlist.Gate.{Gate}
 use Rattle.net_ir.specs.Gates.{operand_end, value_in}
 use Rattle.net_ir.specs.Runs.{net_values, initial_latches, next_latches, shown, values_from, net_run}
 use Rattle.std.proofs.Common.{length-drop}
 use Rattle.net_ir.proofs.Values.{value_in-gate_values}
-use Rattle.cec_core.specs.Direct.{IsDirect, holds, pauses_of, Flow, flow, present_in, seen, flows, flows_of}
+use Rattle.cec_core.specs.Direct.{IsDirect, holds, pauses_of, Flow, flow, present_in, seen, flows, direct_outputs, flows_of}
 use Rattle.cec_core.specs.DirectPrograms.{IsDirectProgram}
 use Rattle.cec_core.specs.Wiring.{Wiring, net, plain_gate, gate, any_of, pause_latch, named, first_gate_of, begun, body_wired, paused_wired, net_of}
 use Rattle.cec_core.proofs.Wirings.{NetsBelow, Fits, at_net, extends-refl, at_net-extends, at_net-gate, Grows, grows-gate, grows-trans, length-grows, keeps}
@@ -130,7 +131,7 @@ pub record Holds (p : Program) (latches : List Bool) (started : Bool) (rested : 
 
 -- one instant: what is shown, and the latches of the next one
 pub record Instant (p : Program) (event latches : List Bool) (f : Flow) : Type 0 where
-  pub shows : shown (net_of p) (net_values (net_of p) latches event) ≡ seen (output_signals p) f
+  pub shows : shown (net_of p) (net_values (net_of p) latches event) ≡ seen (direct_outputs p) f
   pub next : next_latches (net_of p) (net_values (net_of p) latches event) ≡ false ∷ f.rests
 
 -- the nets of an instant, from the values of the inputs and latches
@@ -212,19 +213,19 @@ module _ (p : Program) (direct : IsDirectProgram p) (event latches : List Bool) 
       ∙ carried.emits j d (omega (arith, length-replicate p.outputs (net (first_gate_of p))))
       ∙ ap (λ b. b || does.emits (p.inputs + j)) begins
 
-  outputs_are : map (at_net base (paused_wired p).wiring) (paused_wired p).wiring.emitted ≡ map does.emits (output_signals p)
+  outputs_are : map (at_net base (paused_wired p).wiring) (paused_wired p).wiring.emitted ≡ map does.emits (direct_outputs p)
   outputs_are =
       let lefts = map (at_net base (paused_wired p).wiring) (paused_wired p).wiring.emitted in
-      let rights = map does.emits (output_signals p) in
+      let rights = map does.emits (direct_outputs p) in
       let left_long : length lefts ≡ p.outputs = length-map (paused_wired p).wiring.emitted (at_net base (paused_wired p).wiring) ∙ length_emitted in
-      let right_long : length rights ≡ p.outputs = length-map (output_signals p) does.emits ∙ length-range_with_len p.inputs p.outputs in
+      let right_long : length rights ≡ p.outputs = length-map (direct_outputs p) does.emits ∙ length-range_with_len p.inputs p.outputs in
       same_lists lefts rights (left_long ∙ sym right_long) (λ k d within.
       let low : k < p.outputs = omega (arith, left_long) in
       get_or-any lefts k d (at_net base (paused_wired p).wiring (net 0)) within
       ∙ get_or-map (at_net base (paused_wired p).wiring) (paused_wired p).wiring.emitted k (net 0)
       ∙ emitted_is k (net 0) low
       ∙ ap does.emits (sym (get_or-range_with_len p.inputs p.outputs k 0 low))
-      ∙ sym (get_or-map does.emits (output_signals p) k 0)
+      ∙ sym (get_or-map does.emits (direct_outputs p) k 0)
       ∙ get_or-any rights k (does.emits 0) d (omega (arith, right_long)))
 
   length_names : length (take p.outputs (drop p.inputs p.signals)) ≡ p.outputs
@@ -239,30 +240,13 @@ module _ (p : Program) (direct : IsDirectProgram p) (event latches : List Bool) 
         next = λ i. never_paused i ∷ (map-latches (at_net base (paused_wired p).wiring) (paused_wired p).wiring.rests ∙ rests_paused) i;
       }
 
-pub runs_from : (p : Program) → IsDirectProgram p → (events : List (List Bool)) (latches : List Bool) (started : Bool) (rested : ℕ → Bool) → All (λ event. length event ≡ p.inputs) events → Holds p latches started rested → map (shown (net_of p)) (values_from (net_of p) latches events) ≡ flows (output_signals p) p.body started rested events
-runs_from p direct [] latches started rested widths holds_here = refl
-runs_from p direct (event ∷ events) latches started rested widths holds_here =
-    let width : length event ≡ p.inputs = All-head (λ e. length e ≡ p.inputs) event events widths in
-    let now = instant p direct event latches started rested width holds_here in
-    let f = flow p.body 0 started rested (present_in event) in
-    let later : Holds p (false ∷ f.rests) false (λ k. get_or f.rests k false) = record {
-      len = omega (arith, length-rests p.body 0 started rested (present_in event));
-      boot = refl;
-      pauses = λ k within. ap (value_in (false ∷ f.rests)) (one_more k);
-    } in
-    let rest = runs_from p direct events (false ∷ f.rests) false (λ k. get_or f.rests k false) (All-tail (λ e. length e ≡ p.inputs) event events widths) later in
-    (λ i. now.shows i ∷ map (shown (net_of p)) (values_from (net_of p) (now.next i) events)) ∙ ap (λ l. seen (output_signals p) f ∷ l) rest
-  where
-    one_more : (k : ℕ) → 1 + k ≡ suc k
-    one_more k = omega arith
-
--- the net of a direct program shows what the program's flows show
-pub net_flows : (p : Program) → IsDirectProgram p → (events : List (List Bool)) → All (λ event. length event ≡ p.inputs) events → net_run (net_of p) events ≡ flows_of p events
-net_flows p direct events widths = runs_from p direct events (initial_latches (net_of p)) true (λ k. false) widths (record {
-  len = initial_length p direct;
+-- before the first instant the program is to be started, and rests nowhere
+begins : (p : Program) → IsDirectProgram p → Holds p (initial_latches (net_of p)) true (λ k. false)
+begins p direct = record {
+  len = initial_length;
   boot = refl;
   pauses = λ k within. initial_false (paused_wired p).wiring.rests k;
-})
+}
   where
     one_more : (k : ℕ) → 1 + k ≡ suc k
     one_more k = omega arith
@@ -275,10 +259,32 @@ net_flows p direct events widths = runs_from p direct events (initial_latches (n
     initial_false : (nets : List NetId) (k : ℕ) → value_in (true ∷ map (λ l. l.init) (map pause_latch nets)) (1 + k) ≡ false
     initial_false nets k = ap (value_in (true ∷ map (λ l. l.init) (map pause_latch nets))) (one_more k) ∙ all_false nets k
 
-    initial_length : (p : Program) → IsDirectProgram p → length (initial_latches (net_of p)) ≡ 1 + pauses_of p.body
-    initial_length p direct =
+    initial_length : length (initial_latches (net_of p)) ≡ 1 + pauses_of p.body
+    initial_length =
         let g = grows-body p direct.body in
         let h = grows-paused p direct.body in
         let inner : length (map (λ l. l.init) (map pause_latch (paused_wired p).wiring.rests)) ≡ pauses_of p.body =
         length-map (map pause_latch (paused_wired p).wiring.rests) (λ l. l.init) ∙ length-map (paused_wired p).wiring.rests pause_latch ∙ omega (arith, g.rests, h.rests) in
         omega (arith, inner)
+
+pub runs_from : (p : Program) → IsDirectProgram p → (items : List Item) (latches : List Bool) (started : Bool) (rested : ℕ → Bool) → EachEvent (λ event. length event ≡ p.inputs) items → Holds p latches started rested → map (shown (net_of p)) (values_from (net_of p) latches items) ≡ flows (direct_outputs p) p.body started rested items
+runs_from p direct [] latches started rested widths holds_here = refl
+runs_from p direct (Reset ∷ items) latches started rested widths holds_here =
+    runs_from p direct items (initial_latches (net_of p)) true (λ k. false) widths (begins p direct)
+runs_from p direct (Event event ∷ items) latches started rested widths holds_here =
+    let now = instant p direct event latches started rested widths.0 holds_here in
+    let f = flow p.body 0 started rested (present_in event) in
+    let later : Holds p (false ∷ f.rests) false (λ k. get_or f.rests k false) = record {
+      len = omega (arith, length-rests p.body 0 started rested (present_in event));
+      boot = refl;
+      pauses = λ k within. ap (value_in (false ∷ f.rests)) (one_more k);
+    } in
+    let rest = runs_from p direct items (false ∷ f.rests) false (λ k. get_or f.rests k false) widths.1 later in
+    (λ i. now.shows i ∷ map (shown (net_of p)) (values_from (net_of p) (now.next i) items)) ∙ ap (λ l. seen (direct_outputs p) f ∷ l) rest
+  where
+    one_more : (k : ℕ) → 1 + k ≡ suc k
+    one_more k = omega arith
+
+-- the net of a direct program shows what the program's flows show
+pub net_flows : (p : Program) → IsDirectProgram p → (items : List Item) → EachEvent (λ event. length event ≡ p.inputs) items → net_run (net_of p) items ≡ flows_of p items
+net_flows p direct items widths = runs_from p direct items (initial_latches (net_of p)) true (λ k. false) widths (begins p direct)

@@ -6,6 +6,8 @@ use Rattle.est_base.specs.Writing.{Appends, Stops, Wrote}
 use Rattle.est_base.specs.declared.writing.SinkFault.{SinkFault}
 use Rattle.est_kernel.specs.Plain.{Program}
 use Rattle.est_base.specs.Faults.{Rose}
+use Rattle.cec_core.specs.declared.outcome.LimitPassed.{LimitPassed}
+use Rattle.cec_core.specs.declared.outcome.LimitPassed.TheVariants as limits
 use Rattle.cec_core.specs.declared.outcome.Outcome.{Outcome}
 use Rattle.cec_core.specs.declared.outcome.Outcome.TheVariants.{Done, Usage, FileFault, Limit, NotYet, WriteFault, NoMemory}
 use Rattle.cec_core.specs.Outcomes.{Content, OfBytes, IsSource, Agrees, CountsFiles, GainsOut}
@@ -21,6 +23,10 @@ pub no_source : (content : Content) (name : List ℕ) (bytes : Vec ℕ Global) �
 no_source None name bytes read none = tt
 no_source (Some held) name bytes read none = (read.1, λ p small. none p (subst (λ xs. IsSmall xs p) (sym read.0) small))
 
+-- the one quantity that has a limit today
+pub only_source : (quantity : LimitPassed) → quantity ≡ limits.Source
+only_source limits.Source = refl
+
 -- a count that stays 0 did not rise
 never_rose : Rose 0 0 → ⊥
 never_rose rose = absurd (omega (arith, rose.more))
@@ -31,7 +37,7 @@ steady_end None name held outcome old new asks source agrees counts gains = cc
 steady_end (Some other) name held Done old new asks source agrees counts gains = inl refl
 steady_end (Some other) name held Usage old new asks source agrees counts gains = absurd agrees
 steady_end (Some other) name held (FileFault file) old new asks source agrees counts gains = absurd (never_rose counts.0)
-steady_end (Some other) name held (Limit quantity) old new asks source agrees counts gains =
+steady_end (Some other) name held (Limit limits.Source) old new asks source agrees counts gains =
     let same : other ≡ name = cc in
     let few : length (held other) ≤ 2 ^ 20 = subst (λ n. length (held n) ≤ 2 ^ 20) (sym same) source.1.short in
     absurd (omega (arith, few, agrees))

@@ -74,6 +74,7 @@ small_is_direct text p m =
     subst IsDirectProgram (sym k.program) (record {
       body = subst (λ o. IfSome o (λ b. IsDirect (length inputs) (length inputs + length outputs) (expanded b))) k.flattens (flat-direct inputs outputs s.body);
       signals = length-append inputs outputs;
+      no_both = refl;
       relations = refl;
       name_fits = source_name-good s m.tokens m.spelled.spells named;
       signal_names_fit = All-append (λ n. is_name n ≡ true) inputs outputs (names_on-good Input s m.tokens m.spelled.spells named) (names_on-good Output s m.tokens m.spelled.spells named);

@@ -84,7 +84,7 @@ kernel-too_great source size is great p expands few = omega (arith, kernel-nodes
 pub kernel-made : (source : Source) (inputs outputs : List Name) (term : Term) (size : ℕ) (p : Program) →
     inputs ≡ names_on Input source.declarations → outputs ≡ names_on Output source.declarations → all_differ is_same_name (inputs ++ outputs) ≡ true →
     Some term ≡ option_map expanded (flat (scope_of inputs outputs) source.body) → size ≡ min (nodes source.body) (2 ^ 64 - 1) → size ≤ 250 → length (inputs ++ outputs) ≤ 250 →
-    p ≡ record { name = source.name; signals = inputs ++ outputs; inputs = length inputs; outputs = length outputs; relations = []; body = term } → (kernel_of source ≡ Some p) × IsWithinLimits p
+    p ≡ record { name = source.name; signals = inputs ++ outputs; inputs = length inputs; both = 0; outputs = length outputs; relations = []; body = term } → (kernel_of source ≡ Some p) × IsWithinLimits p
 kernel-made source inputs outputs term size p inputs_are outputs_are differ lowers size_is fits few made = (
   is,
   record {
@@ -97,7 +97,7 @@ kernel-made source inputs outputs term size p inputs_are outputs_are differ lowe
     lowered None same = cc
     lowered (Some b) same =
         let body : term ≡ expanded b = cc in
-        ap Some (ap (λ t. record { name = source.name; signals = inputs ++ outputs; inputs = length inputs; outputs = length outputs; relations = []; body = t }) (sym body) ∙ sym made)
+        ap Some (ap (λ t. record { name = source.name; signals = inputs ++ outputs; inputs = length inputs; both = 0; outputs = length outputs; relations = []; body = t }) (sym body) ∙ sym made)
 
     is : kernel_of source ≡ Some p
     is =
@@ -108,7 +108,7 @@ kernel-made source inputs outputs term size p inputs_are outputs_are differ lowe
 
 -- programs with equal parts
 abbrev pub parts_of : Name → List Name → ℕ → ℕ → List Relation → Term → Program
-parts_of name signals inputs outputs relations body = record { name = name; signals = signals; inputs = inputs; outputs = outputs; relations = relations; body = body }
+parts_of name signals inputs outputs relations body = record { name = name; signals = signals; inputs = inputs; both = 0; outputs = outputs; relations = relations; body = body }
 
 pub parts-same : (name name' : Name) (signals signals' : List Name) (inputs inputs' outputs : ℕ) (relations relations' : List Relation) (body : Term) →
     name ≡ name' → signals ≡ signals' → inputs ≡ inputs' → relations ≡ relations' → parts_of name signals inputs outputs relations body ≡ parts_of name' signals' inputs' outputs relations' body

@@ -1,4 +1,4 @@
--- What the words of a command line ask for. A word is a list of bytes.
+-- To believe: what the words of a command line ask for. A word is a list of bytes.
 use Rattle.std.specs.Prelude.{ℕ, Bool, false, not, ◌==◌, ◌&&◌, if◌then◌else◌, List, [], ◌∷◌, Option, Some, None, String, codes, map}
 use Rattle.std.specs.String.{string_bytes}
 use Rattle.std.specs.declared.alloc.Global.{Global}

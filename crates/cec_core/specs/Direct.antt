@@ -1,14 +1,14 @@
--- Statements that translate to gates one for one, and what they do in an instant.
+-- Inner: statements that translate to gates one for one, and what they do in an instant.
 --
 -- A direct statement has no loop, no parallel, no trap, no suspension and no local signal, tests single
 -- inputs and emits outputs. So at most one place of it is active, and no status has to be decided: what
 -- it does in an instant follows from the inputs, from whether it is started, and from the pause that it
 -- rests at.
 use Rattle.std.specs.Prelude.{ℕ, ◌+◌, ◌<◌, ◌≤◌, ◌==◌, Bool, true, false, not, ◌&&◌, ◌||◌, ⊤, List, [], ◌∷◌, ◌++◌, map, slice_index_or}
-use Rattle.std.specs.List.{list_any}
+use Rattle.std.specs.List.{list_any, range_with_len}
+use Rattle.est_base.specs.Items.{Item, Event, Reset}
 use Rattle.est_kernel.specs.Terms.{Expression, Sig, Tick, Not, And, Or, Term, Nothing, Pause, Emit, Exit, Present, Suspend, Seq, Loop, Par, Trap, Local, Awake}
-use Rattle.est_kernel.specs.Plain.{Program, output_signals}
-use Rattle.est_kernel.specs.Reactions.{Answer}
+use Rattle.est_kernel.specs.Plain.{Program}
 use Rattle.net_ir.specs.Runs.{Shown}
 
 -- the test of a single input
@@ -81,17 +81,18 @@ present_in event s = slice_index_or event s false
 abbrev pub seen : List ℕ → Flow → Shown
 seen outputs f = record { outputs = map f.emits outputs; paused = list_any (λ b. b) f.rests }
 
--- what is seen of a statement in each instant, from this instant on
-abbrev pub flows : List ℕ → Term → Bool → (ℕ → Bool) → List (List Bool) → List Shown
+-- what is seen of a statement in each instant, from this instant on; a reset starts it again
+abbrev pub flows : List ℕ → Term → Bool → (ℕ → Bool) → List Item → List Shown
 flows outputs body started rested [] = []
-flows outputs body started rested (event ∷ events) =
+flows outputs body started rested (Reset ∷ items) = flows outputs body true (λ k. false) items
+flows outputs body started rested (Event event ∷ items) =
     let f = flow body 0 started rested (present_in event) in
-    seen outputs f ∷ flows outputs body false (λ k. slice_index_or f.rests k false) events
+    seen outputs f ∷ flows outputs body false (λ k. slice_index_or f.rests k false) items
+
+-- the outputs of a program without signals that are input and output
+abbrev pub direct_outputs : Program → List ℕ
+direct_outputs p = range_with_len p.inputs p.outputs
 
 -- what is seen of a program, which is started in the first instant and rests nowhere then
-abbrev pub flows_of : Program → List (List Bool) → List Shown
-flows_of p events = flows (output_signals p) p.body true (λ k. false) events
-
--- what is seen of an answer of the semantics: code 1 is a pause
-abbrev pub seen_of : Answer → Shown
-seen_of a = record { outputs = a.outputs; paused = a.code == 1 }
+abbrev pub flows_of : Program → List Item → List Shown
+flows_of p items = flows (direct_outputs p) p.body true (λ k. false) items

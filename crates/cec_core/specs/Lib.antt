@@ -11,3 +11,4 @@ pub mod Meaning
 pub mod Asked
 pub mod Statuses
 pub mod Outcomes
+pub mod Sources

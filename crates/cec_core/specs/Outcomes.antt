@@ -1,12 +1,14 @@
--- What each outcome of the top call says.
+-- To believe: what each outcome of the top call says.
 use Rattle.std.specs.Prelude.{◌≡◌, ℕ, ◌^◌, ◌<◌, ◌≤◌, ◌⊎◌, List, [], ◌∷◌, ◌++◌, length, Option, Some, None, codes, decimal, ⊤}
+use Rattle.est_base.specs.declared.bounds.TheConstants.Limits.{SOURCE_BYTES}
 use Rattle.est_base.specs.Faults.{Rose}
 use Rattle.est_base.specs.Writing.{Appends, Stops}
 use Rattle.est_kernel.specs.Plain.{Program}
 use Rattle.cec_core.specs.declared.outcome.Outcome.{Outcome}
 use Rattle.cec_core.specs.declared.outcome.Outcome.TheVariants.{Done, Usage, FileFault, Limit, NotYet, WriteFault, NoMemory}
 use Rattle.cec_core.specs.Meaning.{TextKeeps}
-use Rattle.cec_core.specs.Small.{IsSmall}
+use Rattle.cec_core.specs.Sources.{StandsFor}
+use Rattle.cec_core.specs.declared.outcome.LimitPassed.TheVariants as limits
 
 -- what the files tell: under each name the bytes, or nothing at all
 abbrev pub Content : Type 0
@@ -17,9 +19,9 @@ abbrev pub OfBytes : Content → List ℕ → (List ℕ → Type 0) → Type 0
 OfBytes None name fact = ⊤
 OfBytes (Some held) name fact = fact (held name)
 
--- the bytes are a text of the small language
+-- the bytes stand for a program
 abbrev pub IsSource : List ℕ → Type 0
-IsSource bytes = (p : Program) × IsSmall bytes p
+IsSource bytes = (p : Program) × StandsFor bytes p
 
 -- what an outcome says of the words and of the bytes under the file's name
 abbrev pub Agrees : Option (List ℕ) → Content → Outcome → Type 0
@@ -28,8 +30,8 @@ Agrees None content others = ⊥
 Agrees (Some name) content Usage = ⊥
 Agrees (Some name) content Done = OfBytes content name IsSource
 Agrees (Some name) content (FileFault file) = ⊤
-Agrees (Some name) content (Limit quantity) = OfBytes content name (λ bytes. 2 ^ 20 < length bytes)
-Agrees (Some name) content (NotYet place) = (place ≡ 0) × OfBytes content name (λ bytes. (length bytes ≤ 2 ^ 20) × ((p : Program) → IsSmall bytes p → ⊥))
+Agrees (Some name) content (Limit limits.Source) = OfBytes content name (λ bytes. SOURCE_BYTES < length bytes)
+Agrees (Some name) content (NotYet place) = (place ≡ 0) × OfBytes content name (λ bytes. (length bytes ≤ SOURCE_BYTES) × ((p : Program) → StandsFor bytes p → ⊥))
 Agrees (Some name) content WriteFault = OfBytes content name IsSource
 Agrees (Some name) content NoMemory = ⊤
 
@@ -42,7 +44,7 @@ CountsFiles (Some name) others before now failed_before failed_now = (now ≡ be
 
 -- a text that keeps what the program of the bytes means
 abbrev pub IsAnswer : Content → List ℕ → List ℕ → Type 0
-IsAnswer content name text = OfBytes content name (λ bytes. (p : Program) × IsSmall bytes p × TextKeeps text p)
+IsAnswer content name text = OfBytes content name (λ bytes. (p : Program) × StandsFor bytes p × TextKeeps text p)
 
 -- What `out` gained: the whole text, with no fault; a prefix of it, after a fault or where memory ran
 -- out; after every other outcome nothing.
@@ -59,7 +61,7 @@ said_of name Done = []
 said_of name Usage = codes "usage, see cec --help"
 said_of None (FileFault file) = codes "cannot read "
 said_of (Some name) (FileFault file) = codes "cannot read " ++ name
-said_of name (Limit quantity) = codes "limit: source"
+said_of name (Limit limits.Source) = codes "limit: source"
 said_of name (NotYet place) = codes "byte " ++ decimal place ++ codes ": not yet"
 said_of name WriteFault = codes "cannot write"
 said_of name NoMemory = codes "out of memory"

@@ -1,4 +1,4 @@
--- The small language: which texts are in it, and the kernel program that such a text stands for.
+-- To believe: the small language: which texts are in it, and the kernel program that such a text stands for.
 use Rattle.std.specs.Prelude.{◌≡◌, ℕ, ◌+◌, ◌≤◌, ◌^◌, ◌==◌, false, List, [], ◌∷◌, ◌++◌, length, Option, Some, None, position, if◌then◌else◌}
 use Rattle.std.specs.List.{list_any}
 use Rattle.std.specs.Option.{option_map, option_and_then}
@@ -78,6 +78,7 @@ program_with name inputs outputs body = record {
   name = name;
   signals = inputs ++ outputs;
   inputs = length inputs;
+  both = 0;
   outputs = length outputs;
   relations = [];
   body = expanded body;

@@ -1,4 +1,4 @@
--- The status that the program ends with.
+-- To believe: the status that the program ends with.
 use Rattle.std.specs.Prelude.{ℕ}
 use Rattle.cec_core.specs.declared.outcome.Outcome.{Outcome}
 use Rattle.cec_core.specs.declared.outcome.Outcome.TheVariants.{Done, Usage, FileFault, Limit, NotYet, WriteFault, NoMemory}

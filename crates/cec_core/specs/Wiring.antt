@@ -1,4 +1,4 @@
--- The gates of a direct program. A statement is wired behind the net that says whether it is started, to
+-- Inner: the gates of a direct program. A statement is wired behind the net that says whether it is started, to
 -- the net that says whether it terminates. Latch 0 is the boot latch, which is true in the first instant
 -- alone; behind it there is a latch for each pause, which is true in the instant after one that rests
 -- there.
@@ -11,7 +11,7 @@ use Rattle.net_ir.specs.declared.netlist.Op.TheVariants.{Const, Not, And, Or}
 use Rattle.net_ir.specs.declared.netlist.Gate.{Gate}
 use Rattle.net_ir.specs.declared.netlist.Latch.{Latch}
 use Rattle.net_ir.specs.declared.netlist.NetOut.{NetOut}
-use Rattle.net_ir.specs.Runs.{Netlist}
+use Rattle.net_ir.specs.Netlists.{Netlist}
 use Rattle.cec_core.specs.Direct.{pauses_of}
 
 -- the gates so far; for each output the net that says whether it was emitted so far; and for each pause so

@@ -6,7 +6,7 @@ ghost use Rattle.est_kernel.specs.Plain.{Program, program_of};
 ghost use Rattle.cec_core.specs.Asked.{asked, words_of};
 ghost use Rattle.cec_core.specs.DirectPrograms.{IsDirectProgram};
 ghost use Rattle.cec_core.specs.Meaning.{TextKeeps};
-ghost use Rattle.cec_core.specs.Small.{IsSmall};
+ghost use Rattle.cec_core.specs.Sources.{StandsFor};
 ghost use Rattle.cec_core.specs.Outcomes.{Agrees, CountsFiles, GainsOut, GainsErr, line_of};
 
 use crate::outcome::{LimitPassed, Outcome, Which};
@@ -104,8 +104,8 @@ fn blif<F: Files, O: Sink>(alloc: Global, name: &str, files: &mut F, out: &mut O
 fn compiled(alloc: Global, source: &[u8]) -> Result<Option<Vec<u8>>, NoMemory>
     requires { length source.now ≤ Limits.SOURCE_BYTES }
     ensures { IfOk result (λ found. MatchOption found
-        ((p : Program) → IsSmall source.now p → ⊥)
-        (λ text. (p : Program) × IsSmall source.now p × TextKeeps text.items p)) }
+        ((p : Program) → StandsFor source.now p → ⊥)
+        (λ text. (p : Program) × StandsFor source.now p × TextKeeps text.items p)) }
 {
     match read_source(alloc, source)? {
         Some(program) => Ok(Some(written(alloc, &program)?)),

@@ -21,8 +21,8 @@ pub fn cec_steadily<E: Sink>(
     out: &mut SteadySink,
     err: &mut E,
 ) -> Outcome
-    requires { (name : List ℕ) × (asked (words_of words.now) ≡ Some name) × IsSource (held files.old name) }
-    ensures ends { (result ≡ Outcome.Done) ⊎ (result ≡ Outcome.NoMemory) }
+    ensures ends { (name : List ℕ) → asked (words_of words.now) ≡ Some name → IsSource (held files.old name) →
+        (result ≡ Outcome.Done) ⊎ (result ≡ Outcome.NoMemory) }
     ensures files_stay { held files.new ≡ held files.old }
     ensures out { GainsOut (asked (words_of words.now)) (Some (held files.old)) result (told_of out.old) (told_of out.new) 0 0 }
     ensures err { GainsErr (asked (words_of words.now)) result

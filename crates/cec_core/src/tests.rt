@@ -1,7 +1,7 @@
 // The top call over files and sinks in memory: worked sources, whose texts are evaluated table by
 // table, and each refusal with its line.
 
-use crate::{LimitPassed, Outcome, Which, cec};
+use crate::{LimitPassed, Outcome, Which, cec, cec_steadily};
 use est_base::{FileEntry, ListSink, MapFiles, SteadyFiles, SteadySink, Text};
 use std::alloc::{AllocError, Global};
 use std::collections::BTreeMap;
@@ -257,6 +257,27 @@ fn texts_have_their_lines(rt: HostRuntime) -> Result<(), Fail> {
         Outcome::Done
     );
     assert_eq!(rt; out.bytes(), given.out.as_slice());
+    Ok(())
+}
+
+#[test]
+fn steady_files_and_sinks(rt: HostRuntime) -> Result<(), Fail> {
+    let alloc = rt.alloc();
+    let mut words = Vec::new(alloc);
+    words.push(String::from_str(alloc, "blif")?)?;
+    words.push(String::from_str(alloc, "m")?)?;
+    let mut entries = Vec::new(alloc);
+    entries.push(FileEntry {
+        name: text_of(alloc, "m")?,
+        bytes: text_of(alloc, "module M: nothing end module")?,
+    })?;
+    let mut files = SteadyFiles::new(entries);
+    let mut out = SteadySink::new(alloc, 1_000).map_err(|_| AllocError)?;
+    let mut err = SteadySink::new(alloc, 1_000).map_err(|_| AllocError)?;
+    let outcome = cec_steadily(alloc, &words, &mut files, &mut out, &mut err);
+    assert_eq!(rt; outcome, Outcome::Done);
+    assert!(rt; out.bytes().starts_with(b".model M\n"));
+    assert!(rt; err.bytes().is_empty());
     Ok(())
 }
 

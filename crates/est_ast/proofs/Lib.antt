@@ -5,3 +5,5 @@ pub mod Heads
 pub mod Longest
 pub mod OneLexing
 pub mod OneToken
+pub mod Rows
+pub mod FlatRows

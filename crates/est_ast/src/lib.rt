@@ -5,8 +5,14 @@
 //! of tokens or its first fault.
 #![tactic(auto)]
 
+mod flat;
 mod one_lexing;
 mod tokens;
+mod trees;
 
+pub use flat::{Flat, FlatCase, FlatDelay, FlatExpr, FlatForm, FlatStmt};
 pub use one_lexing::every_text_lexes_once;
 pub use tokens::{Kind, Mark, Reserved, Token};
+pub use trees::{
+    Case, Decl, Delay, Form, Handle, Module, Name, Program, Relation, Rename, SigExpr, Stmt,
+};

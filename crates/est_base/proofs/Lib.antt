@@ -1,3 +1,5 @@
 pub mod Bits
 pub mod Gains
 pub mod Room
+pub mod Contents
+mod Witnesses

@@ -36,3 +36,10 @@ Counts before now failed_before failed_now name (Err NoMemory) = Keeps before no
 pub record FaultRecord : Type 0 where
   pub faults : ℕ
   pub last_failed : List ℕ
+
+-- What a read to the end gives of the bytes that a reader has left, where the reader tells them: all of them, or
+-- nothing where there are more than the limit.
+abbrev pub ReadsWhole : Option (List ℕ) → ℕ → Option (Vec ℕ Global) → Type 0
+ReadsWhole None limit read = Unit {0}
+ReadsWhole (Some left) limit None = limit < length left
+ReadsWhole (Some left) limit (Some bytes) = bytes.items ≡ left

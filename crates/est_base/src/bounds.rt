@@ -1,5 +1,8 @@
 // The stated limits. A limit is passed at the first number above it.
 
+ghost use Rattle.std.specs.Prelude.{◌≡◌};
+ghost use Rattle.est_base.specs.declared.bounds.TheConstants.Limits.{SOURCE_BYTES, TRACE_BYTES, TEXT_BYTES, NESTING, STATEMENTS, DEPTH, SIGNALS, KERNEL_NODES, KERNEL_HEIGHT, TRAPS, INSTANCES, WIRES, LEAST_COUNT, GREATEST_COUNT};
+
 /// The limits of the compiler and of its runners. A quantity may be as great as its number here.
 #[derive(Clone, Copy, Debug)]
 pub struct Limits;
@@ -51,3 +54,22 @@ impl Limits {
     /// Bytes of a piece in which a text is written: 64 KiB.
     pub const PIECE_BYTES: usize = 65_536;
 }
+
+/// The limits have the numbers that the documents state. It does nothing: its contract says so, with
+/// a literal for each limit. `PIECE_BYTES` is stated nowhere else and may change.
+pub fn limits_are_as_stated()
+    ensures source { SOURCE_BYTES ≡ 1048576 }
+    ensures trace { TRACE_BYTES ≡ 16777216 }
+    ensures text { TEXT_BYTES ≡ 268435456 }
+    ensures nesting { NESTING ≡ 200 }
+    ensures statements { STATEMENTS ≡ 65536 }
+    ensures depth { DEPTH ≡ 2048 }
+    ensures signals { SIGNALS ≡ 4096 }
+    ensures kernel_nodes { KERNEL_NODES ≡ 65536 }
+    ensures kernel_height { KERNEL_HEIGHT ≡ 1024 }
+    ensures traps { TRAPS ≡ 60 }
+    ensures instances { INSTANCES ≡ 131072 }
+    ensures wires { WIRES ≡ 262144 }
+    ensures least_count { LEAST_COUNT ≡ 1 }
+    ensures greatest_count { GREATEST_COUNT ≡ 255 }
+{}

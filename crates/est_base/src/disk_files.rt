@@ -1,6 +1,7 @@
 // Files of the disk.
 
 ghost use Rattle.std.specs.Prelude.{◌≤◌, length, IfOk, IfSome};
+ghost use Rattle.est_base.specs.Reading.{ReadsWhole};
 
 use crate::reading::{FileFault, Files};
 use crate::texts::Text;
@@ -84,8 +85,24 @@ fn read_within<R: rt::Files>(
     if length > limit {
         return Ok(None);
     }
-    let mut bytes = Vec::with_capacity(alloc, length as usize)?;
-    file.take(limit.saturating_add(1)).read_to_end(&mut bytes)?;
+    read_open(file, alloc, length as usize, limit)
+}
+
+// All bytes that a reader has left, or none where there are more than the limit, with room for so
+// many bytes at the start.
+fn read_open<T: Read + Drop>(
+    reader: T,
+    alloc: Global,
+    room: usize,
+    limit: u64,
+) -> io::Result<Option<Vec<u8>>>
+    ensures within { IfOk result (λ read. IfSome read (λ bytes. length bytes.items ≤ limit)) }
+    ensures whole { IfOk result (λ read. ReadsWhole (T.remaining reader) limit read) }
+{
+    let mut bytes = Vec::with_capacity(alloc, room)?;
+    reader
+        .take(limit.saturating_add(1))
+        .read_to_end(&mut bytes)?;
     if bytes.len() as u64 > limit {
         return Ok(None);
     }

@@ -26,7 +26,7 @@ mod texts;
 mod writer_sink;
 mod writing;
 
-pub use bounds::Limits;
+pub use bounds::{Limits, limits_are_as_stated};
 pub use code_set::CodeSet;
 pub use disk_files::DiskFiles;
 pub use file_entry::FileEntry;

@@ -1,8 +1,7 @@
 -- The row of a sequence.
-use Rattle.std.proofs.Common.{◌≡◌, ℕ, zero, suc, ◌≤◌, ◌<◌, Bool, true, false, ◌||◌, refl, sym, ap, ◌∙◌, arith}
+use Rattle.std.proofs.Common.{◌≡◌, ℕ, zero, suc, ◌≤◌, Bool, true, false, ◌||◌, sym, ◌∙◌, arith}
 use Rattle.est_base.specs.Codes.{upto, either, except, maxima}
 use Rattle.est_kernel.specs.StaticCodes.{codes_if, has_code, branch_codes}
-use Rattle.est_base.specs.CodeSet.{members}
 
 -- a set has no code up to k where it has none of them
 pub upto-none : (A : ℕ → Bool) (k : ℕ) → ((j : ℕ) → j ≤ k → A j ≡ false) → upto A k ≡ false

@@ -1,5 +1,5 @@
 -- In a statement within the limits each exit has a code that a set can have.
-use Rattle.std.proofs.Common.{ℕ, ◌+◌, ◌<◌, ◌≤◌, max, arith}
+use Rattle.std.proofs.Common.{ℕ, ◌+◌, ◌≤◌, arith}
 use Rattle.est_kernel.specs.Terms.{Term, Nothing, Pause, Emit, Exit, Present, Suspend, Seq, Loop, Par, Trap, Local, Awake}
 use Rattle.est_kernel.specs.Sizes.{trap_depth}
 use Rattle.est_kernel.specs.WellFormed.{ExitsStandInTraps, KeepsLimits}

@@ -1,28 +1,49 @@
 // The worked examples of the tables, and which loop is named.
 
+ghost use Rattle.std.specs.Prelude.{◌≡◌, IfOk};
+ghost use Rattle.est_base.specs.declared.place.Span.{Span};
+ghost use Rattle.est_kernel.specs.Plain.{term_of};
+ghost use Rattle.est_kernel.specs.Terms.{Seq, Loop};
+ghost use Rattle.est_codes.specs.WorkedBodies.{one_pause_body, emitting_body, four_loops_body};
+
 use crate::{CodeFault, codes};
 use est_base::{CodeSet, NoMemory, SigId, Span};
 use est_kernel::Kernel;
 use std::alloc::Global;
 use std::test::Fail;
 
-fn seq(alloc: Global, first: Kernel, second: Kernel) -> Result<Kernel, NoMemory> {
+fn seq(alloc: Global, first: Kernel, second: Kernel) -> Result<Kernel, NoMemory>
+    ensures { IfOk result (λ k. term_of k ≡ Seq (term_of first) (term_of second)) }
+{
     let first = Box::new(alloc, first)?;
     Ok(Kernel::Seq(first, Box::new(alloc, second)?))
 }
 
-fn looped(alloc: Global, start: u32, end: u32, body: Kernel) -> Result<Kernel, NoMemory> {
+fn looped(alloc: Global, start: u32, end: u32, body: Kernel) -> Result<Kernel, NoMemory>
+    ensures { IfOk result (λ k. term_of k ≡ Loop (record { start = start; end = end }) (term_of body)) }
+{
     Ok(Kernel::Loop(Span { start, end }, Box::new(alloc, body)?))
 }
 
 // emit O; pause; emit O
-fn one_pause(alloc: Global) -> Result<Kernel, NoMemory> {
+fn one_pause(alloc: Global) -> Result<Kernel, NoMemory>
+    ensures { IfOk result (λ k. term_of k ≡ one_pause_body) }
+{
     let rest = seq(alloc, Kernel::Pause, Kernel::Emit(SigId(0)))?;
     seq(alloc, Kernel::Emit(SigId(0)), rest)
 }
 
+// loop emit O end
+fn emitting(alloc: Global) -> Result<Kernel, NoMemory>
+    ensures { IfOk result (λ k. term_of k ≡ emitting_body) }
+{
+    looped(alloc, 20, 35, Kernel::Emit(SigId(0)))
+}
+
 // Three instantaneous loops in a sequence, two of which start at one place, and one that pauses.
-fn four_loops(alloc: Global) -> Result<Kernel, NoMemory> {
+fn four_loops(alloc: Global) -> Result<Kernel, NoMemory>
+    ensures { IfOk result (λ k. term_of k ≡ four_loops_body) }
+{
     let later = looped(alloc, 40, 50, Kernel::Nothing)?;
     let longer = looped(alloc, 20, 35, Kernel::Emit(SigId(0)))?;
     let shorter = looped(alloc, 20, 30, Kernel::Nothing)?;
@@ -43,8 +64,7 @@ fn codes_and_loops(rt: HostRuntime) -> Result<(), Fail> {
     assert!(rt; found.resumed.as_slice() == resumed.as_slice());
 
     let place = Span { start: 20, end: 35 };
-    let emitting = looped(rt.alloc(), 20, 35, Kernel::Emit(SigId(0)))?;
-    let refused = codes(rt.alloc(), &emitting).err();
+    let refused = codes(rt.alloc(), &emitting(rt.alloc())?).err();
     assert!(rt; refused == Some(CodeFault::InstantLoop(place)));
 
     let place = Span { start: 20, end: 30 };

@@ -13,21 +13,21 @@ use Rattle.est_kernel.specs.Laws.{IsSubset, MayKeepsStaticCodes, StepKeepsStatic
 use Rattle.est_kernel.proofs.Sets.{except-in, maxima-in, maxima-subset, lowered-in, lowered-subset}
 use Rattle.est_kernel.proofs.PotentialLaws.{sequence_codes-parts}
 
-append-nil : (xs ys : List Span) → xs ++ ys ≡ [] → (xs ≡ []) × (ys ≡ [])
+pub append-nil : (xs ys : List Span) → xs ++ ys ≡ [] → (xs ≡ []) × (ys ≡ [])
 append-nil [] ys e = (refl, e)
 append-nil (x ∷ xs) ys e = cc
 
 -- the static codes of a sequence
-abbrev static_sequence : (ℕ → Bool) → (ℕ → Bool) → ℕ → Bool
+abbrev pub static_sequence : (ℕ → Bool) → (ℕ → Bool) → ℕ → Bool
 static_sequence A B = cond (A 0) (either (except 0 A) B) A
 
-static_first : (A B : ℕ → Bool) (k : ℕ) → A k ≡ true → (k ≡ 0 → ⊥) → static_sequence A B k ≡ true
+pub static_first : (A B : ℕ → Bool) (k : ℕ) → A k ≡ true → (k ≡ 0 → ⊥) → static_sequence A B k ≡ true
 static_first A B k h n =
     cond_both (A 0) (either (except 0 A) B) A (λ S. S k ≡ true)
     (λ e. or_left (except 0 A k) (B k) (except-in A 0 k h n))
     (λ e. h)
 
-static_second : (A B : ℕ → Bool) (k : ℕ) → A 0 ≡ true → B k ≡ true → static_sequence A B k ≡ true
+pub static_second : (A B : ℕ → Bool) (k : ℕ) → A 0 ≡ true → B k ≡ true → static_sequence A B k ≡ true
 static_second A B k z h =
     cond_both (A 0) (either (except 0 A) B) A (λ S. S k ≡ true)
     (λ e. or_right (except 0 A k) (B k) h)
@@ -48,7 +48,7 @@ sequence_may a b A B f g k h =
     (λ y. static_second A B k (f 0 y.0) (g k y.1))
     (sequence_codes-parts May (a May) (b May) k h)
 
-not_instant : (c : Bool) (at : Span) → cond c (at ∷ []) [] ≡ [] → c ≡ false
+pub not_instant : (c : Bool) (at : Span) → cond c (at ∷ []) [] ≡ [] → c ≡ false
 not_instant true at e = cc
 not_instant false at e = refl
 

@@ -4,8 +4,7 @@ use Rattle.std.specs.Prelude.{◌≡◌, ℕ, Bool, true, false, List, [], ◌�
 use Rattle.std.proofs.Common.{refl}
 use Rattle.est_base.specs.declared.place.Span.{Span}
 use Rattle.est_kernel.specs.Terms.{Term, Tick, Sig, Not, And, Or, Nothing, Pause, Emit, Exit, Present, Suspend, Seq, Loop, Par, Trap, Local}
-use Rattle.est_base.specs.Items.{Item, Event, Reset}
-use Rattle.est_kernel.specs.Plain.{Interface}
+use Rattle.est_base.specs.Items.{Event, Reset}
 use Rattle.est_kernel.specs.Reactions.{Answer, run}
 
 -- the place of every loop here

@@ -5,3 +5,9 @@ pub mod PotentialLaws
 pub mod StepLaws
 pub mod CodeLaws
 pub mod ReactionLaws
+mod Equations
+pub mod ExitLaws
+pub mod RunLaws
+pub mod PreorderLaws
+pub mod ResidualLaws
+mod Witnesses

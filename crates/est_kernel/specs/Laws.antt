@@ -1,11 +1,18 @@
--- The laws that tie the tables to one another: what Must and Can are to be.
-use Rattle.std.specs.Prelude.{◌≡◌, ℕ, Bool, ◌==◌, length, IsTrue, Some, ⊤}
+-- Inner: the laws that tie the tables to one another: what Must and Can, steps, runs and codes are to be.
+use Rattle.std.specs.Prelude.{◌≡◌, ℕ, suc, ◌+◌, ◌<◌, ◌≤◌, ◌↔◌, Bool, ◌==◌, List, [], ◌∷◌, ◌++◌, length, take, slice_get, All, IsTrue, Option, Some, None, option_and_then, if◌then◌else◌, ⊤}
+use Rattle.est_base.specs.Items.{Item, Event, Reset}
 use Rattle.est_kernel.specs.Terms.{Term}
 use Rattle.est_kernel.specs.Statuses.{Status, Plus, Minus, Unknown, Environment}
 use Rattle.est_kernel.specs.Potentials.{Potential, must, can, may}
 use Rattle.est_kernel.specs.Steps.{Step, step}
-use Rattle.est_kernel.specs.StaticCodes.{started_codes, NoInstantLoop}
-use Rattle.est_kernel.specs.Preorder.{preorder, statement_count}
+use Rattle.est_kernel.specs.Plain.{Interface}
+use Rattle.est_kernel.specs.Reactions.{Answer, Reaction, react, run_from, run}
+use Rattle.est_kernel.specs.StaticCodes.{started_codes, resumed_codes, NoInstantLoop}
+use Rattle.est_kernel.specs.Sizes.{trap_depth}
+use Rattle.est_kernel.specs.Preorder.{parts, preorder, statement_count}
+use Rattle.est_kernel.specs.WellFormed.{IsKernel, ExitsStandInTraps, KeepsLimits}
+use Rattle.est_kernel.specs.declared.statements.Kernel.{Kernel}
+use Rattle.est_kernel.specs.Plain.{term_of}
 
 -- each member of the first set is one of the second
 abbrev pub IsSubset : (ℕ → Bool) → (ℕ → Bool) → Type 0
@@ -75,3 +82,85 @@ StepKeepsStaticCodes =
 -- the list of the statements in preorder is as long as there are statements
 abbrev pub PreorderHasEachStatement : Type 0
 PreorderHasEachStatement = (p : Term) → length (preorder p) ≡ statement_count p
+
+-- The parts of a statement stand at the places behind it: the first at the next place, and each later one
+-- behind the statements of the one before it.
+abbrev pub StandAt : List Term → List Term → ℕ → Type 0
+StandAt whole [] n = ⊤
+StandAt whole (p ∷ ps) n = (slice_get whole n ≡ Some p) × StandAt whole ps (n + statement_count p)
+
+-- Place 0 of preorder has the statement itself, and behind place n stand the parts of what place n has.
+pub record PreorderPlaces : Type 0 where
+  pub whole : (p : Term) → slice_get (preorder p) 0 ≡ Some p
+  pub parts_behind : (p t : Term) (n : ℕ) → slice_get (preorder p) n ≡ Some t → StandAt (preorder p) (parts t) (n + 1)
+
+-- what a step leaves, where so many traps stand around the term
+pub record KeepsExits (n : ℕ) (p : Term) (x : Step) : Type 0 where
+  pub code : x.code < n + 2
+  pub residual : ExitsStandInTraps n x.residual
+  pub depth : trap_depth x.residual ≤ trap_depth p
+
+-- exits that stand in their traps reach no further out, and what is left keeps them there
+abbrev pub StepKeepsExits : Type 0
+StepKeepsExits =
+    (n : ℕ) (p : Term) (E : Environment) (x : Step) → ExitsStandInTraps n p → step p E ≡ Some x → KeepsExits n p x
+
+-- a whole program pauses or ends: no other code leaves it
+abbrev pub RunPausesOrEnds : Type 0
+RunPausesOrEnds =
+    (interface : Interface) (body : Term) (items : List Item) (answers : List Answer) →
+    ExitsStandInTraps 0 body → run interface body items ≡ Some answers → All (λ a. a.code ≤ 1) answers
+
+-- each reaction of a run is there: from the term r on, of a body to which resets go back
+abbrev pub EachReacts : Interface → Term → Term → List Item → Type 0
+EachReacts interface body r [] = ⊤
+EachReacts interface body r (Event event ∷ items) =
+    (x : Reaction) × (react interface r event ≡ Some x) × EachReacts interface body x.residual items
+EachReacts interface body r (Reset ∷ items) = EachReacts interface body body items
+
+-- how many events there are among items
+abbrev pub event_count : List Item → ℕ
+event_count [] = 0
+event_count (Event event ∷ items) = suc (event_count items)
+event_count (Reset ∷ items) = event_count items
+
+-- a run has its answers exactly where each of its reactions is there
+abbrev pub RunsWhereEachReacts : Type 0
+RunsWhereEachReacts =
+    (interface : Interface) (body r : Term) (items : List Item) →
+    ((answers : List Answer) × (run_from interface body r items ≡ Some answers)) ↔ EachReacts interface body r items
+
+-- a run has one answer per event
+abbrev pub RunAnswersEachEvent : Type 0
+RunAnswersEachEvent =
+    (interface : Interface) (body r : Term) (items : List Item) (answers : List Answer) →
+    run_from interface body r items ≡ Some answers → length answers ≡ event_count items
+
+-- what was answered stays answered: the first items of a run have the first of its answers
+abbrev pub PrefixHasPrefixOfAnswers : Type 0
+PrefixHasPrefixOfAnswers =
+    (interface : Interface) (body r : Term) (items more : List Item) (answers : List Answer) →
+    run_from interface body r (items ++ more) ≡ Some answers →
+    run_from interface body r items ≡ Some (take (event_count items) answers)
+
+-- what is left of a term after a step that pauses
+abbrev pub left_by_step : Option Step → Option Term
+left_by_step None = None
+left_by_step (Some x) = if x.code == 1 then Some x.residual else None
+
+-- what is left of a term after steps that pause, in one environment each
+abbrev pub left_after : Term → List Environment → Option Term
+left_after p [] = Some p
+left_after p (E ∷ rest) = option_and_then (λ r. left_after r rest) (left_by_step (step p E))
+
+-- the statements of the compiler's trees are kernel statements
+abbrev pub TreesAreKernels : Type 0
+TreesAreKernels = (tree : Kernel) → IsKernel (term_of tree)
+
+-- Where no loop is instantaneous, what is left of a term after one instant or more completes with a code of
+-- the resumed term.
+abbrev pub LeftCompletesAsResumed : Type 0
+LeftCompletesAsResumed =
+    (p : Term) → IsKernel p → KeepsLimits p → NoInstantLoop p →
+    (E : Environment) (rest : List Environment) (r : Term) → left_after p (E ∷ rest) ≡ Some r →
+    (F : Environment) (x : Step) → step r F ≡ Some x → IsTrue (resumed_codes p x.code)

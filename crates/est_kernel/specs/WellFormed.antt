@@ -8,6 +8,21 @@ use Rattle.est_base.specs.Relations.{Relation, Implies, Excludes}
 use Rattle.est_kernel.specs.Sizes.{size_of, height_of, trap_depth}
 use Rattle.est_kernel.specs.Plain.{Program, given_count, interface_count}
 
+-- a statement of a program: nothing in it is what an instant has left
+abbrev pub IsKernel : Term → Type 0
+IsKernel Nothing = ⊤
+IsKernel Pause = ⊤
+IsKernel (Emit s) = ⊤
+IsKernel (Exit k) = ⊤
+IsKernel (Present e p q) = IsKernel p × IsKernel q
+IsKernel (Suspend e p) = IsKernel p
+IsKernel (Seq p q) = IsKernel p × IsKernel q
+IsKernel (Loop at p) = IsKernel p
+IsKernel (Par p q) = IsKernel p × IsKernel q
+IsKernel (Trap p) = IsKernel p
+IsKernel (Local s p) = IsKernel p
+IsKernel (Awake e p) = ⊥
+
 -- Each exit has a code of at least 2 and stands in the trap that it leaves: code k leaves the trap that
 -- is k - 2 traps further out, and n traps stand around the whole.
 abbrev pub ExitsStandInTraps : ℕ → Term → Type 0

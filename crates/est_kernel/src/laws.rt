@@ -1,7 +1,7 @@
 // The laws that tie the tables of potentials, steps and static codes to one another. Each call does
 // nothing: its contract is the law.
 
-ghost use Rattle.est_kernel.specs.Laws.{MustGrows, CanShrinks, MayShrinks, MustLiesInCan, CanLiesInMay, MustHasOneCode, MayKeepsStaticCodes, StepIsWhatMustBeDone, StepKeepsStaticCodes, PreorderHasEachStatement};
+ghost use Rattle.est_kernel.specs.Laws.{MustGrows, CanShrinks, MayShrinks, MustLiesInCan, CanLiesInMay, MustHasOneCode, MayKeepsStaticCodes, StepIsWhatMustBeDone, StepKeepsStaticCodes, PreorderHasEachStatement, PreorderPlaces, StepKeepsExits, RunPausesOrEnds, RunsWhereEachReacts, RunAnswersEachEvent, PrefixHasPrefixOfAnswers, LeftCompletesAsResumed, TreesAreKernels};
 
 /// Must, and both kinds of Can, are monotone in what is known of the signals: Must grows, and each
 /// Can shrinks.
@@ -37,4 +37,31 @@ pub fn steps_follow_potentials()
 /// The statements in preorder are as many as the statements that a statement has.
 pub fn preorder_has_each_statement()
     ensures { PreorderHasEachStatement }
+{}
+
+/// Each place of preorder has its statement, and behind it stand the statement's parts.
+pub fn preorder_has_parts_behind()
+    ensures { PreorderPlaces }
+{}
+
+/// Exits stay in their traps: a step completes with no code further out, and what it leaves keeps the
+/// exits in their traps. So a whole program pauses (code 1) or ends (code 0).
+pub fn exits_stay_in_traps()
+    ensures step { StepKeepsExits }
+    ensures run { RunPausesOrEnds }
+{}
+
+/// A run has its answers exactly where each of its reactions is there, one answer per event; and the
+/// first items of a run have the first of its answers.
+pub fn runs_are_reactions()
+    ensures reactions { RunsWhereEachReacts }
+    ensures events { RunAnswersEachEvent }
+    ensures prefixes { PrefixHasPrefixOfAnswers }
+{}
+
+/// What is left of a kernel statement after an instant completes with one of its resumed codes, where
+/// no loop is instantaneous.
+pub fn residuals_complete_as_resumed()
+    ensures trees { TreesAreKernels }
+    ensures residuals { LeftCompletesAsResumed }
 {}

@@ -18,8 +18,9 @@ mod tests;
 
 pub use code_lists::Codes;
 pub use laws::{
-    must_has_one_code, potentials_are_monotone, potentials_nest, preorder_has_each_statement,
-    static_codes_cover_potentials, steps_follow_potentials,
+    exits_stay_in_traps, must_has_one_code, potentials_are_monotone, potentials_nest,
+    preorder_has_each_statement, preorder_has_parts_behind, residuals_complete_as_resumed,
+    runs_are_reactions, static_codes_cover_potentials, steps_follow_potentials,
 };
 pub use measures::{height, size};
 pub use programs::KernelProgram;

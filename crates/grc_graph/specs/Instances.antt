@@ -1,6 +1,6 @@
 -- To believe: the live instances of a body, in the order of the graph: statements in preorder, and at one statement
 -- resumed first, then started by ascending roots.
-use Rattle.std.specs.Prelude.{ℕ, ◌+◌, ◌<◌, List, ◌++◌, map, ⊤}
+use Rattle.std.specs.Prelude.{◌≡◌, ℕ, ◌+◌, ◌<◌, ◌==◌, ◌⊎◌, nat_lt, if◌then◌else◌, List, [], ◌∷◌, ◌++◌, map, All, ⊤}
 use Rattle.est_kernel.specs.Terms.{Term, Nothing, Pause, Emit, Exit, Present, Suspend, Seq, Loop, Par, Trap, Local, Awake}
 use Rattle.est_kernel.specs.Preorder.{statement_count}
 use Rattle.grc_graph.specs.Layers.{Layer, Resumed, Started, Liveness, layers_of, body_liveness, part_liveness, second_liveness, loop_liveness}
@@ -42,9 +42,38 @@ instances a (Awake e p) n = instances_at a n ++ instances (part_liveness a p) p 
 abbrev pub body_instances : Term → List Instance
 body_instances body = instances (body_liveness body) body 0
 
--- an instance comes before another
+-- an instance comes before another in the order of the graph
 abbrev pub LayerBefore : Layer → Layer → Type 0
 LayerBefore Resumed Resumed = ⊥
 LayerBefore Resumed (Started r) = ⊤
 LayerBefore (Started q) Resumed = ⊥
 LayerBefore (Started q) (Started r) = q < r
+
+abbrev pub Before : Instance → Instance → Type 0
+Before x y = (x.path < y.path) ⊎ ((x.path ≡ y.path) × LayerBefore x.layer y.layer)
+
+-- each instance of a list comes before all that stand behind it: so each stands once, and in order
+abbrev pub Ascends : List Instance → Type 0
+Ascends [] = ⊤
+Ascends (x ∷ xs) = All (Before x) xs × Ascends xs
+
+-- the statements around the one with the number m, in a statement at n, itself included, the outermost first
+abbrev pub enclosing : Term → (n m : ℕ) → List ℕ
+enclosing Nothing n m = n ∷ []
+enclosing Pause n m = n ∷ []
+enclosing (Emit s) n m = n ∷ []
+enclosing (Exit k) n m = n ∷ []
+enclosing (Present e p q) n m =
+    n ∷ (if m == n then [] else if nat_lt m (n + 1 + statement_count p) then enclosing p (n + 1) m
+    else enclosing q (n + 1 + statement_count p) m)
+enclosing (Suspend e p) n m = n ∷ (if m == n then [] else enclosing p (n + 1) m)
+enclosing (Seq p q) n m =
+    n ∷ (if m == n then [] else if nat_lt m (n + 1 + statement_count p) then enclosing p (n + 1) m
+    else enclosing q (n + 1 + statement_count p) m)
+enclosing (Loop at p) n m = n ∷ (if m == n then [] else enclosing p (n + 1) m)
+enclosing (Par p q) n m =
+    n ∷ (if m == n then [] else if nat_lt m (n + 1 + statement_count p) then enclosing p (n + 1) m
+    else enclosing q (n + 1 + statement_count p) m)
+enclosing (Trap p) n m = n ∷ (if m == n then [] else enclosing p (n + 1) m)
+enclosing (Local s p) n m = n ∷ (if m == n then [] else enclosing p (n + 1) m)
+enclosing (Awake e p) n m = n ∷ (if m == n then [] else enclosing p (n + 1) m)

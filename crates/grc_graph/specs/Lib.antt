@@ -17,4 +17,13 @@ pub mod SelectionTrees
 pub mod Selections
 pub mod CodeTables
 pub mod PlainInstances
+pub mod WireOrders
 pub mod GraphRuns
+pub mod PlainGraphs
+pub mod GraphShapes
+pub mod TreeForms
+pub mod TreeJudgements
+pub mod TreeReadings
+pub mod Statements
+pub mod StatementViews
+pub mod InstanceLaws

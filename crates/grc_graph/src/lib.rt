@@ -8,7 +8,25 @@
 #![tactic(auto)]
 
 mod code_tables;
+mod formulas;
+mod graph;
 mod instances;
+mod judgements;
+mod laws;
+mod orders;
+mod statements;
+mod trees;
+mod wires;
 
 pub use code_tables::{has_some_code, resumed_codes, started_codes};
+pub use formulas::Formula;
+pub use graph::Graph;
 pub use instances::{Instance, Instances, Layer};
+pub use laws::{
+    enclosing_instances_are_live, instances_ascend, leaves_are_resumed_pauses,
+    residual_has_resumed_codes,
+};
+pub use orders::{Edges, Order, Ranks};
+pub use statements::{Entry, Statement, list_statements};
+pub use trees::{SelForm, SelNode, SelTree};
+pub use wires::{Node, Wire};

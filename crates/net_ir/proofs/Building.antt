@@ -1,5 +1,6 @@
 -- For whoever builds a net: what a push, or an append, keeps.
-use Rattle.std.proofs.Common.{◌≡◌, ℕ, ◌+◌, ◌<◌, ◌≤◌, suc, Bool, true, false, not, ◌&&◌, ◌||◌, List, [], ◌∷◌, ◌++◌, length, refl, arith, Some, None, IsTrue, nat_eq, All}
+use Rattle.std.proofs.Common.{◌≡◌, ℕ, ◌+◌, ◌<◌, ◌≤◌, suc, Bool, true, false, not, ◌&&◌, ◌||◌, List, [], ◌∷◌, ◌++◌, length, refl, arith, Some, None, IsTrue}
+use Rattle.std.proofs.Common.{nat_eq, All}
 use Rattle.std.specs.List.{list_any}
 use Rattle.std.specs.Option.{option_map}
 use Rattle.std.proofs.lemmas.List.{append-nil}
@@ -19,7 +20,8 @@ and_assoc3 false true false d e = refl
 and_assoc3 false false c d e = refl
 
 -- the elements of two lists differ where those of each do, and none stands in both
-pub all_differ-append : {X : Type 0} (same : X → X → Bool) (xs ys : List X) → all_differ same (xs ++ ys) ≡ (all_differ same xs && none_shared same xs ys && all_differ same ys)
+pub all_differ-append : {X : Type 0} (same : X → X → Bool) (xs ys : List X)
+    → all_differ same (xs ++ ys) ≡ (all_differ same xs && none_shared same xs ys && all_differ same ys)
 all_differ-append same [] ys = refl
 all_differ-append same (x ∷ xs) ys =
     let e = list_any-append (same x) xs ys in
@@ -35,12 +37,14 @@ none_shared-one same (x ∷ xs) y apart =
     rw (here, rest) refl
 
 -- one more element, which is none of those before it
-pub all_differ-push : {X : Type 0} (same : X → X → Bool) (xs : List X) (y : X) → IsTrue (all_differ same xs) → All (λ x. same x y ≡ false) xs → IsTrue (all_differ same (xs ++ y ∷ []))
+pub all_differ-push : {X : Type 0} (same : X → X → Bool) (xs : List X) (y : X) → IsTrue (all_differ same xs) → All (λ x. same x y ≡ false) xs
+    → IsTrue (all_differ same (xs ++ y ∷ []))
 all_differ-push same xs y differ apart =
     rw (all_differ-append same xs (y ∷ []), differ, none_shared-one same xs y apart) refl
 
 -- one more gate, which reads lower nets
-pub ReadsLower-push : (start : ℕ) (gates : List Gate) (g : Gate) → ReadsLower start gates → operand_end g.op ≤ start + length gates → ReadsLower start (gates ++ g ∷ [])
+pub ReadsLower-push : (start : ℕ) (gates : List Gate) (g : Gate) → ReadsLower start gates → operand_end g.op ≤ start + length gates
+    → ReadsLower start (gates ++ g ∷ [])
 ReadsLower-push start gates g reads low = grind (arith, elements)
 
 -- one more gate, which carries no wire

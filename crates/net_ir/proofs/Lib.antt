@@ -1,3 +1,4 @@
 pub mod Building
 pub mod Values
 mod WorkedNets
+mod RunEquations

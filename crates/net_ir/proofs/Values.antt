@@ -51,7 +51,8 @@ pub ReadsLower-rest : (start : ℕ) (g : Gate) (gates : List Gate) → ReadsLowe
 ReadsLower-rest start g gates reads = λ k d h. let low = reads (suc k) d (omega arith) in omega arith
 
 -- the equations of the first gate and of those after it
-pub Solves-cons : (start : ℕ) (g : Gate) (gates : List Gate) (values : List Bool) → value_in values start ≡ op_value (value_in values) g.op → Solves (start + 1) gates values → Solves start (g ∷ gates) values
+pub Solves-cons : (start : ℕ) (g : Gate) (gates : List Gate) (values : List Bool) → value_in values start ≡ op_value (value_in values) g.op
+    → Solves (start + 1) gates values → Solves start (g ∷ gates) values
 Solves-cons start g gates values here rest zero d h =
     let e : start + 0 ≡ start = omega arith in ap (value_in values) e ∙ here
 Solves-cons start g gates values here rest (suc k) d h =
@@ -62,7 +63,8 @@ Solves-rest start g gates values solves k d h =
     let e : start + 1 + k ≡ start + suc k = omega arith in ap (value_in values) e ∙ solves (suc k) d (omega arith)
 
 -- the values of gates, one after another, meet every gate's equation
-pub Solves-gate_values : (start : ℕ) (values : List Bool) (gates : List Gate) → length values ≡ start → ReadsLower start gates → Solves start gates (gate_values values gates)
+pub Solves-gate_values : (start : ℕ) (values : List Bool) (gates : List Gate) → length values ≡ start → ReadsLower start gates
+    → Solves start gates (gate_values values gates)
 Solves-gate_values start values [] len reads = λ k d h. absurd (omega arith)
 Solves-gate_values start values (g ∷ gates) len reads =
     let v = op_value (value_in values) g.op in
@@ -70,12 +72,15 @@ Solves-gate_values start values (g ∷ gates) len reads =
     let longer = length_push values v in
     let stays : value_in all start ≡ v = value_in-gate_values (values ++ v ∷ []) gates start (omega arith) ∙ get_or_push values v false start len in
     let low = reads 0 g (omega arith) in
-    let below = λ (n : ℕ) (h : n < start). value_in-gate_values (values ++ v ∷ []) gates n (omega arith) ∙ get_or_append_left values (v ∷ []) false n (omega arith) in
+    let below = λ (n : ℕ) (h : n < start). value_in-gate_values (values ++ v ∷ []) gates n (omega arith)
+    ∙ get_or_append_left values (v ∷ []) false n (omega arith) in
     let same = op_value-same (value_in all) (value_in values) g.op start (omega arith) below in
-    Solves-cons start g gates all (stays ∙ sym same) (Solves-gate_values (start + 1) (values ++ v ∷ []) gates (omega arith) (ReadsLower-rest start g gates reads))
+    Solves-cons start g gates all (stays ∙ sym same) (Solves-gate_values (start + 1) (values ++ v ∷ []) gates (omega arith)
+    (ReadsLower-rest start g gates reads))
 
 -- values that meet every gate's equation are those of the gates, one after another
-pub gate_values-from_Solves : (start : ℕ) (gates : List Gate) (values : List Bool) → ReadsLower start gates → length values ≡ start + length gates → Solves start gates values → values ≡ gate_values (take start values) gates
+pub gate_values-from_Solves : (start : ℕ) (gates : List Gate) (values : List Bool) → ReadsLower start gates → length values ≡ start + length gates
+    → Solves start gates values → values ≡ gate_values (take start values) gates
 gate_values-from_Solves start [] values reads len solves = sym (take_all start values (omega arith))
 gate_values-from_Solves start (g ∷ gates) values reads len solves =
     let v = op_value (value_in (take start values)) g.op in
@@ -83,12 +88,14 @@ gate_values-from_Solves start (g ∷ gates) values reads len solves =
     let same = op_value-same (value_in values) (value_in (take start values)) g.op start (omega arith) (λ n h. sym (get_or-take start values n false h)) in
     let e : start ≡ start + 0 = omega arith in
     let here : value_in values start ≡ v = ap (value_in values) e ∙ solves 0 g (omega arith) ∙ same in
-    let more : take (start + 1) values ≡ take start values ++ v ∷ [] = take_more values start false (omega arith) ∙ ap (λ x. take start values ++ x ∷ []) here in
+    let more : take (start + 1) values ≡ take start values ++ v ∷ [] = take_more values start false (omega arith)
+    ∙ ap (λ x. take start values ++ x ∷ []) here in
     gate_values-from_Solves (start + 1) gates values (ReadsLower-rest start g gates reads) (omega arith) (Solves-rest start g gates values solves)
     ∙ ap (λ x. gate_values x gates) more
 
 -- so the two say the same
-pub Solves_iff : (start : ℕ) (gates : List Gate) (values : List Bool) → ReadsLower start gates → length values ≡ start + length gates → Solves start gates values ↔ (values ≡ gate_values (take start values) gates)
+pub Solves_iff : (start : ℕ) (gates : List Gate) (values : List Bool) → ReadsLower start gates → length values ≡ start + length gates
+    → Solves start gates values ↔ (values ≡ gate_values (take start values) gates)
 Solves_iff start gates values reads len = (
   gate_values-from_Solves start gates values reads len,
   λ e. subst (Solves start gates) (sym e) (Solves-gate_values start (take start values) gates (length-take-le start values (omega arith)) reads),

@@ -1,5 +1,6 @@
--- What gates read and carry, and their values. A net is meant by its number.
-use Rattle.std.specs.Prelude.{◌≡◌, ℕ, ◌+◌, ◌<◌, ◌≤◌, max, Bool, false, not, ◌&&◌, ◌||◌, List, [], ◌∷◌, ◌++◌, length, slice_index_or, filter_map, option_map}
+-- To believe: what gates read and carry, and their values. A net is meant by its number.
+use Rattle.std.specs.Prelude.{◌≡◌, ℕ, ◌+◌, ◌<◌, ◌≤◌, max, Bool, false, not, ◌&&◌, ◌||◌, List, [], ◌∷◌, ◌++◌, length}
+use Rattle.std.specs.Prelude.{slice_index_or, filter_map, option_map}
 use Rattle.net_ir.specs.declared.netlist.Op.{Op}
 use Rattle.net_ir.specs.declared.netlist.Op.TheVariants.{Const, Copy, Not, And, Or}
 use Rattle.net_ir.specs.declared.netlist.Gate.{Gate}
@@ -40,4 +41,5 @@ gate_values values (g ∷ gates) = gate_values (values ++ op_value (value_in val
 
 -- every gate's equation holds, where start is the number of the first gate
 abbrev pub Solves : ℕ → List Gate → List Bool → Type 0
-Solves start gates values = (k : ℕ) (d : Gate) → k < length gates → value_in values (start + k) ≡ op_value (value_in values) (slice_index_or gates k d).op
+Solves start gates values = (k : ℕ) (d : Gate) → k < length gates
+    → value_in values (start + k) ≡ op_value (value_in values) (slice_index_or gates k d).op

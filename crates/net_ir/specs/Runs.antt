@@ -1,20 +1,11 @@
--- The values of a netlist and its runs. A latch has its initial value in the first instant, and in
--- each later one the value that its net had one instant before.
-use Rattle.std.specs.Prelude.{ℕ, ◌+◌, Bool, List, [], ◌∷◌, ◌++◌, map, length}
-use Rattle.net_ir.specs.declared.netlist.Gate.{Gate}
-use Rattle.net_ir.specs.declared.netlist.Latch.{Latch}
-use Rattle.net_ir.specs.declared.netlist.NetOut.{NetOut}
+-- To believe: the values of a netlist and its runs over items. A latch has its initial value in the first
+-- instant and in the first one behind a reset, and in every other one the value that its net had one
+-- instant before.
+use Rattle.std.specs.Prelude.{Bool, List, [], ◌∷◌, ◌++◌, map}
+use Rattle.est_base.specs.Items.{Item, Event, Reset}
 use Rattle.net_ir.specs.declared.netlist.Net.{Net}
 use Rattle.net_ir.specs.Gates.{value_in, gate_values}
-
--- a net without where it lies in memory
-pub record Netlist : Type 0 where
-  pub name : List ℕ
-  pub inputs : List (List ℕ)
-  pub outputs : List NetOut
-  pub paused : ℕ
-  pub latches : List Latch
-  pub gates : List Gate
+use Rattle.net_ir.specs.Netlists.{Netlist}
 
 abbrev pub netlist_of : Net → Netlist
 netlist_of net = record {
@@ -25,13 +16,6 @@ netlist_of net = record {
   latches = net.latches.items;
   gates = net.gates.items;
 }
-
--- the number of the first gate: the inputs and the latches stand before it
-abbrev pub first_gate : Netlist → ℕ
-first_gate net = length net.inputs + length net.latches
-
-abbrev pub net_count : Netlist → ℕ
-net_count net = first_gate net + length net.gates
 
 -- the values of all nets in an instant with these latch values and these inputs
 abbrev pub net_values : Netlist → List Bool → List Bool → List Bool
@@ -57,17 +41,18 @@ shown net values = record {
   paused = value_in values net.paused;
 }
 
--- the values of all nets in each instant, from these latch values on
-abbrev pub values_from : Netlist → List Bool → List (List Bool) → List (List Bool)
+-- the values of all nets in the instant of each event, from these latch values on
+abbrev pub values_from : Netlist → List Bool → List Item → List (List Bool)
 values_from net latches [] = []
-values_from net latches (inputs ∷ rest) =
+values_from net latches (Event inputs ∷ items) =
     let values = net_values net latches inputs in
-    values ∷ values_from net (next_latches net values) rest
+    values ∷ values_from net (next_latches net values) items
+values_from net latches (Reset ∷ items) = values_from net (initial_latches net) items
 
--- the values of all nets in each instant, over the inputs of each, from the first instant on
-abbrev pub net_values_run : Netlist → List (List Bool) → List (List Bool)
-net_values_run net instants = values_from net (initial_latches net) instants
+-- the values of all nets in the instant of each event, from the first instant on
+abbrev pub net_values_run : Netlist → List Item → List (List Bool)
+net_values_run net items = values_from net (initial_latches net) items
 
--- the run of a net over the inputs of each instant: what it shows in each
-abbrev pub net_run : Netlist → List (List Bool) → List Shown
-net_run net instants = map (shown net) (net_values_run net instants)
+-- the run of a net over items: what it shows in the instant of each event; a reset shows nothing
+abbrev pub net_run : Netlist → List Item → List Shown
+net_run net items = map (shown net) (net_values_run net items)

@@ -1,9 +1,8 @@
 // Netlists and their gates.
 
-ghost use Rattle.std.specs.Prelude.{◌≡◌, ℕ, ◌+◌, ◌^◌, ◌<◌, ◌≤◌, ◌↔◌, map, length, take, nat_eq, IsTrue, All};
-ghost use Rattle.est_base.specs.Distinct.{all_differ, none_shared};
-ghost use Rattle.est_base.specs.Names.{is_name, is_same_name};
-ghost use Rattle.net_ir.specs.Gates.{operand_end, ReadsLower, carried, op_value, value_in, gate_values, Solves};
+ghost use Rattle.std.specs.Prelude.{◌≡◌, ◌+◌, ◌≤◌, ◌↔◌, length, take, IsTrue};
+ghost use Rattle.net_ir.specs.Gates.{operand_end, ReadsLower, op_value, value_in, gate_values, Solves};
+ghost use Rattle.net_ir.specs.Netlists.{IsNet, first_gate, net_count};
 
 use est_base::{NetId, Text, WireId};
 
@@ -39,8 +38,10 @@ pub struct NetOut {
     pub net: NetId,
 }
 
-/// A netlist of at most 2^32 nets. They are numbered from 0: the inputs, then the latches, then the
-/// gates in order. The net `paused` tells whether the program is still active after the instant.
+/// A netlist of at most 2^32 nets. There is one input for each given signal and one output for each
+/// outgoing one, so the name of a signal that is both stands in both lists. The nets are numbered from 0:
+/// the inputs, then the latches, then the gates in order. The net `paused` tells whether the program is
+/// still active after the instant.
 #[derive(Debug, Drop)]
 pub struct Net {
     pub name: Text,
@@ -50,36 +51,27 @@ pub struct Net {
     pub latches: Vec<Latch>,
     pub gates: Vec<Gate>,
 
-    // Each name is a letter followed by letters, digits and `_`.
-    ghost name_fits: { IsTrue (is_name name) },
-    ghost input_names_fit: { All (λ n. IsTrue (is_name n)) inputs.items },
-    ghost output_names_fit: { All (λ o. IsTrue (is_name o.name)) outputs.items },
-
-    // No two names of the interface are one.
-    ghost inputs_differ: { IsTrue (all_differ is_same_name inputs.items) },
-    ghost outputs_differ: { IsTrue (all_differ is_same_name (map (λ o. o.name) outputs.items)) },
-    ghost no_shared_name: { IsTrue (none_shared is_same_name inputs.items (map (λ o. o.name) outputs.items)) },
-
-    // Each number is that of a net, and a gate reads nets of lower numbers alone.
-    ghost numbered: { length inputs.items + length latches.items + length gates.items ≤ 2 ^ 32 },
-    ghost outputs_in_range: { All (λ o. o.net.0 < length inputs.items + length latches.items + length gates.items) outputs.items },
-    ghost paused_in_range: { paused.0 < length inputs.items + length latches.items + length gates.items },
-    ghost latches_in_range: { All (λ l. l.from.0 < length inputs.items + length latches.items + length gates.items) latches.items },
-    ghost reads_lower: { ReadsLower (length inputs.items + length latches.items) gates.items },
-
-    // No two gates carry the same wire.
-    ghost carries_once: { IsTrue (all_differ nat_eq (carried gates.items)) },
+    // What every net keeps.
+    ghost is_net: { IsNet (record {
+      name = name;
+      inputs = inputs.items;
+      outputs = outputs.items;
+      paused = paused.0;
+      latches = latches.items;
+      gates = gates.items;
+    }) },
 }
 
 impl Net {
-    ghost use Rattle.net_ir.specs.Runs.{netlist_of, first_gate, net_count};
+    ghost use Rattle.net_ir.specs.Runs.{netlist_of};
 
     /// Whether every gate's equation holds of these values, one for each net. It takes no memory.
     pub fn solves(&self, values: &[bool]) -> bool
         requires { length values.now ≡ net_count (netlist_of self.now) }
         ensures equations { IsTrue result ↔ Solves (first_gate (netlist_of self.now)) self.now.gates.items values.now }
         // The values of the inputs and of the latches settle the values of all nets.
-        ensures settled { IsTrue result ↔ (values.now ≡ gate_values (take (first_gate (netlist_of self.now)) values.now) self.now.gates.items) }
+        ensures settled { IsTrue result
+            ↔ (values.now ≡ gate_values (take (first_gate (netlist_of self.now)) values.now) self.now.gates.items) }
     {
         equations_hold(self.inputs.len() + self.latches.len(), &self.gates, values)
     }

@@ -1,9 +1,16 @@
--- Worked examples of the reading rules and of the words for languages, each by computing.
-use Rattle.std.proofs.Common.{◌≡◌, true, false, [], ◌∷◌, Some, None, Ok, Err, refl}
+-- Inner: worked examples of the reading rules and of the words for languages, each by computing.
+use Rattle.std.proofs.Common.{◌≡◌, true, false, [], ◌∷◌, Option, Some, None, Ok, Err, refl}
+use Rattle.read_rules.specs.declared.statements.Token.{Token}
 use Rattle.read_rules.specs.declared.statements.Token.TheVariants as kinds
 use Rattle.read_rules.specs.Readings.{both, lead, trail, the, optional, maybe, many, placed, whole}
-use Rattle.read_rules.specs.StatementGrammar.{Nothing, Pause, Group, Sequence, word, semicolon}
+use Rattle.read_rules.specs.StatementGrammar.{Plain, Nothing, Pause, Group, Sequence, NoPlains, More, semicolon}
 use Rattle.read_rules.specs.StatementReading.{statement}
+
+-- the tokens that are an item
+abbrev word : Token → Option Plain
+word kinds.Nothing = Some Nothing
+word kinds.Pause = Some Pause
+word _ = None
 
 one_token : the word (kinds.Pause ∷ kinds.Close ∷ []) ≡ Ok (Pause, kinds.Close ∷ [])
 one_token = refl
@@ -36,8 +43,8 @@ as_many_as_there_are = refl
 its_tokens : placed (λ tokens. tokens) (both (the word) (the semicolon)) (kinds.Pause ∷ kinds.Semicolon ∷ kinds.Close ∷ []) ≡ Ok (((Pause, tt), kinds.Pause ∷ kinds.Semicolon ∷ []), kinds.Close ∷ [])
 its_tokens = refl
 
-first_two_first : whole (statement 0) (kinds.Nothing ∷ kinds.Semicolon ∷ kinds.Pause ∷ kinds.Semicolon ∷ kinds.Nothing ∷ kinds.Semicolon ∷ []) ≡ Ok (Sequence (Sequence Nothing Pause) Nothing)
-first_two_first = refl
+one_list : whole (statement 0) (kinds.Nothing ∷ kinds.Semicolon ∷ kinds.Pause ∷ kinds.Semicolon ∷ kinds.Nothing ∷ kinds.Semicolon ∷ []) ≡ Ok (Sequence (More Nothing (More Pause (More Nothing NoPlains))))
+one_list = refl
 
 room_for_one : whole (statement 1) (kinds.Open ∷ kinds.Pause ∷ kinds.Close ∷ []) ≡ Ok (Group Pause)
 room_for_one = refl

@@ -1,12 +1,8 @@
 -- The first law of a rule that needs room, and its choice by the next token.
-use Rattle.std.proofs.Common.{◌≡◌, ℕ, zero, suc, ◌≤◌, Bool, true, false, IsTrue, List, [], ◌∷◌, ◌++◌, Option, Some, None, Ok, Err, refl, sym, ◌∙◌, ap, subst, arith}
-use Rattle.std.specs.Option.{option_map, option_map_or}
-use Rattle.read_rules.specs.Readings.{Read, Rule, next_of, fault_at, too_deep, ahead}
+use Rattle.std.proofs.Common.{◌≡◌, ℕ, zero, suc, ◌≤◌, Bool, false, IsTrue, List, [], ◌∷◌, ◌++◌, Ok, Err, arith}
+use Rattle.read_rules.specs.Readings.{Read, Rule, next_of, fault_at}
 use Rattle.read_rules.specs.Exact.{BeginsDeeper}
-use Rattle.read_rules.proofs.Next.{Refuses-alike, Takes-alike, ahead-refused, ahead-taken}
-use Rattle.read_rules.proofs.Laws.{Stopped, Answers, Runs}
-use Rattle.read_rules.proofs.Proper.{Proper}
-use Rattle.read_rules.proofs.Runs.{passed_on, ahead-runs}
+use Rattle.read_rules.proofs.Laws.{Answers, Runs}
 
 -- what needs room for one more
 abbrev pub Under : {T A : Type 0} → (ℕ → A → List T → Type 0) → ℕ → A → List T → Type 0
@@ -35,7 +31,7 @@ module _ {T A : Type 0} (p : ℕ → Rule T A) (L : ℕ → A → List T → Typ
   under_deeper front [] deeper = deeper
   under_deeper front (token ∷ rest) deeper = (suc deeper.0, deeper.1, deeper.2, deeper.3)
 
-  lifted_on : (tokens : List T) (answer : Read T A) → Answers (λ n. p (suc n)) L room tokens answer →
+  pub lifted_on : (tokens : List T) (answer : Read T A) → Answers (λ n. p (suc n)) L room tokens answer →
       Answers p (Under L) (suc room) tokens answer
   lifted_on tokens (Ok found) took = record {
     front = took.front;
@@ -55,42 +51,3 @@ module _ {T A : Type 0} (p : ℕ → Rule T A) (L : ℕ → A → List T → Typ
 
   pub lifted-runs : Runs (λ n. p (suc n)) L room → Runs p (Under L) (suc room)
   lifted-runs runs tokens = lifted_on tokens (p (suc room) tokens) (runs tokens)
-
--- A choice whose first side needs room: at room 0 it is the fault for depth, at the token that opens it.
-module _ {T X A : Type 0} (test : T → Option X) (p q : ℕ → Rule T A) (L M W : ℕ → A → List T → Type 0)
-    (deep : (tokens : List T) → p 0 tokens ≡ too_deep tokens)
-    (opens : (token : T) (x : X) → test token ≡ Some x → (n : ℕ) × (value : A) × (tail : List T) × L n value (token ∷ tail))
-    (widen : (n : ℕ) (value : A) (tokens : List T) → L n value tokens → W (suc n) value tokens)
-    (otherwise : (n : ℕ) (value : A) (tokens : List T) → M n value tokens → W n value tokens)
-    (proper_m : Proper M) where
-  deep_here : (token : T) (x : X) → test token ≡ Some x → (rest : List T) →
-      Stopped (λ n. ahead test (p n) (q n)) W 0 (token ∷ rest) (fault_at true (token ∷ rest))
-  deep_here token x is rest = record {
-    front = [];
-    rest = token ∷ rest;
-    cut = refl;
-    place = refl;
-    begins = (proper_m.value, proper_m.tokens, otherwise 0 proper_m.value proper_m.tokens proper_m.member);
-    steady = λ more other le fits same.
-        ap (λ n. ahead test (p n) (q n) other) (fits refl)
-        ∙ ahead-taken test (p 0) (q 0) other x (Takes-alike test x (token ∷ rest) other same is)
-        ∙ deep other;
-    deeper = λ d. let o = opens token x is in (suc o.0, o.1, o.2, widen o.0 o.1 (token ∷ o.2) o.3);
-  }
-
-  widen_under : (n : ℕ) (value : A) (tokens : List T) → Under L n value tokens → W n value tokens
-  widen_under zero value tokens member = absurd member
-  widen_under (suc n) value tokens member = widen n value tokens member
-
-  pub ahead-nested-runs : (room : ℕ) → Below (Runs (λ n. p (suc n)) L) room → Runs q M room →
-      Runs (λ n. ahead test (p n) (q n)) W room
-  ahead-nested-runs zero runs_p runs_q [] =
-      passed_on q (λ n. ahead test (p n) (q n)) M W 0 [] otherwise (λ more other le same. ahead-refused test (p more) (q more) other (Refuses-alike test [] other same tt)) (q 0 []) (runs_q [])
-  ahead-nested-runs zero runs_p runs_q (token ∷ rest) = go (test token) refl
-    where
-      go : (o : Option X) → test token ≡ o → Answers (λ n. ahead test (p n) (q n)) W 0 (token ∷ rest)
-          (option_map_or {T = X × List T} (λ _. p 0 (token ∷ rest)) (option_map (λ value. (value, rest)) o) (q 0 (token ∷ rest)))
-      go None is = passed_on q (λ n. ahead test (p n) (q n)) M W 0 (token ∷ rest) otherwise (λ more other le same. ahead-refused test (p more) (q more) other (Refuses-alike test (token ∷ rest) other same is)) (q 0 (token ∷ rest)) (runs_q (token ∷ rest))
-      go (Some x) is = subst (λ r. Answers (λ n. ahead test (p n) (q n)) W 0 (token ∷ rest) r) (sym (deep (token ∷ rest))) (deep_here token x is rest)
-  ahead-nested-runs (suc room) runs_p runs_q tokens =
-      ahead-runs test p q (Under L) M W (suc room) widen_under otherwise (lifted-runs p L room runs_p) runs_q tokens

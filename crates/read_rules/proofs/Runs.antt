@@ -184,7 +184,7 @@ lead-is {T} {A} {B} p q tokens = outer (p tokens)
     outer (Ok found) = inner found.0 (q found.1)
     outer (Err fault) = refl
 
-trail-is : {T A B : Type 0} (p : Rule T A) (q : Rule T B) (tokens : List T) →
+pub trail-is : {T A B : Type 0} (p : Rule T A) (q : Rule T B) (tokens : List T) →
     trail p q tokens ≡ mapped (λ v. v.0) (both p q) tokens
 trail-is {T} {A} {B} p q tokens = outer (p tokens)
   where
@@ -223,7 +223,7 @@ module _ {T A B : Type 0} (p : ℕ → Rule T A) (q : ℕ → Rule T B) (L : ℕ
 module _ {T A : Type 0} (p w : ℕ → Rule T A) (L W : ℕ → A → List T → Type 0) (room : ℕ) (token : T)
     (widen : (n : ℕ) (value : A) (tokens : List T) → L n value tokens → W n value (token ∷ tokens))
     (goes_on : (more : ℕ) (other : List T) → w more (token ∷ other) ≡ p more other) where
-  taken_on : (rest : List T) (answer : Read T A) → Answers p L room rest answer →
+  pub taken_on : (rest : List T) (answer : Read T A) → Answers p L room rest answer →
       Answers w W room (token ∷ rest) answer
   taken_on rest (Ok found) took = record {
     front = token ∷ took.front;
@@ -246,7 +246,7 @@ module _ {T A : Type 0} (p w : ℕ → Rule T A) (L W : ℕ → A → List T →
       behind front (next ∷ rest) deeper = (deeper.0, deeper.1, deeper.2, widen deeper.0 deeper.1 (front ++ next ∷ deeper.2) deeper.3)
 
 -- A rule that refuses the list at once.
-refused_here : {T A : Type 0} (w : ℕ → Rule T A) (W : ℕ → A → List T → Type 0) (room : ℕ)
+pub refused_here : {T A : Type 0} (w : ℕ → Rule T A) (W : ℕ → A → List T → Type 0) (room : ℕ)
     (tokens : List T) → Begins (W room) [] →
     ((more : ℕ) (other : List T) → next_of other ≡ next_of tokens → w more other ≡ refuse other) →
     Stopped w W room tokens (fault_at false tokens)

@@ -1,12 +1,11 @@
 -- The second law for each rule: L and M are the languages of the parts, W that of the whole; F, G and H say
 -- what may stand behind.
-use Rattle.std.proofs.Common.{◌≡◌, ◌⊎◌, inl, inr, ℕ, zero, suc, List, [], ◌∷◌, ◌++◌, length, Option, Some, None, Ok, refl, sym, ◌∙◌, ap}
+use Rattle.std.proofs.Common.{◌≡◌, ◌⊎◌, inl, inr, ℕ, List, [], ◌∷◌, ◌++◌, length, Option, Some, None, Ok, refl, sym, ◌∙◌, ap}
 use Rattle.std.proofs.lemmas.List.{append_assoc}
 use Rattle.read_rules.specs.Languages.{One, Then, Led, Both, Optional, Loop, Many, Placed}
 use Rattle.read_rules.specs.Readings.{Rule, refuse, give, follow, mapped, both, lead, trail, when, ahead, on, the, optional, maybe, turn, turns, loop, many, taken_of, placed}
 use Rattle.read_rules.proofs.Next.{Refuses, Takes, when-refused, when-taken, ahead-refused, ahead-taken}
 use Rattle.read_rules.proofs.Laws.{Totally}
-use Rattle.read_rules.proofs.Nesting.{Under, Below}
 use Rattle.read_rules.proofs.Parts.{taken_of-append}
 use Rattle.read_rules.proofs.Loops.{Advances, loop-unfolds}
 
@@ -103,16 +102,6 @@ ahead-total {T} {X} {A} test p q L M F G W H room narrow total_p total_q value f
     go (inl l) = ahead-taken test (p room) (q room) (front ++ rest) l.2 l.3 ∙ total_p value front rest l.0 l.1
     go (inr m) = ahead-refused test (p room) (q room) (front ++ rest) m.2 ∙ total_q value front rest m.0 m.1
 
--- the part with more room, where it reads at the room below
-pub lifted-total : {T A : Type 0} (p : ℕ → Rule T A) (L : ℕ → A → List T → Type 0) (F : A → List T → Type 0)
-    (room : ℕ) → Totally (λ n. p (suc n)) L F room → Totally p (Under L) F (suc room)
-lifted-total p L F room total value front rest member follows = total value front rest member follows
-
--- no member has no room
-pub no_room-total : {T A : Type 0} (p : ℕ → Rule T A) (L : ℕ → A → List T → Type 0)
-    (F : A → List T → Type 0) → Totally p (Under L) F 0
-no_room-total p L F value front rest member follows = absurd member
-
 -- the part, and what a function says of its tokens
 pub placed-total : {T A P : Type 0} (place : List T → P) (p : ℕ → Rule T A) (L : ℕ → A → List T → Type 0)
     (F : A → List T → Type 0) (room : ℕ) → Totally p L F room → Totally (λ n. placed place (p n))
@@ -155,18 +144,6 @@ maybe-total test p L F G room ends begins total_p (Some value) front rest member
     let b = begins value front rest member in
     ahead-taken test (mapped Some (p room)) (give None) (front ++ rest) b.0 b.1
     ∙ ap (λ r. follow r (λ v. give (Some v))) (total_p value front rest member follows)
-
--- a choice whose first side needs room
-pub ahead-nested-total : {T X A : Type 0} (test : T → Option X) (p q : ℕ → Rule T A)
-    (L M : ℕ → A → List T → Type 0) (F G : A → List T → Type 0) (W : ℕ → A → List T → Type 0)
-    (H : A → List T → Type 0) (room : ℕ) →
-    ((value : A) (tokens rest : List T) → W room value tokens → H value rest → (Under L room value tokens × F value rest × (x : X) × Takes test x (tokens ++ rest)) ⊎ (M room value tokens × G value rest × Refuses test (tokens ++ rest))) →
-    Below (Totally (λ n. p (suc n)) L F) room → Totally q M G room →
-    Totally (λ n. ahead test (p n) (q n)) W H room
-ahead-nested-total test p q L M F G W H zero narrow total_p total_q =
-    ahead-total test p q (Under L) M F G W H 0 narrow (no_room-total p L F) total_q
-ahead-nested-total test p q L M F G W H (suc room) narrow total_p total_q =
-    ahead-total test p q (Under L) M F G W H (suc room) narrow (lifted-total p L F room total_p) total_q
 
 -- a loop: what begins the steps behind a step, or stands behind them, may follow it
 module _ {T A : Type 0} (step : ℕ → Rule T (Option A)) (S : ℕ → Option A → List T → Type 0)

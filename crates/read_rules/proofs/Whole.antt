@@ -5,8 +5,8 @@ use Rattle.read_rules.specs.declared.faults.Fault.{Fault}
 use Rattle.read_rules.specs.declared.faults.ReadError.{ReadError}
 use Rattle.read_rules.specs.declared.faults.ReadError.TheVariants as errors
 use Rattle.read_rules.specs.Readings.{Read, Rule, next_of, fault_at, end_of, whole}
-use Rattle.read_rules.specs.Exact.{BeginsDeeper, Exactly}
-use Rattle.read_rules.specs.Found.{Gives, GivesExactly}
+use Rattle.read_rules.specs.Exact.{BeginsDeeper, Exactly, GivesExactly}
+use Rattle.read_rules.specs.Found.{Gives}
 use Rattle.read_rules.proofs.Laws.{Took, Answers, Runs, Totally}
 
 -- the two parts of an answer

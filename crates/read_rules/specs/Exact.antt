@@ -1,8 +1,10 @@
--- What it means that a whole list of tokens is read exactly. L room value tokens says that the list
+-- To believe: what it means that a whole list of tokens is read exactly. L room value tokens says that the list
 -- is written for the value and that the nesting is at most the room.
 use Rattle.std.specs.Prelude.{◌≡◌, ◌↔◌, ℕ, IsTrue, List, [], ◌∷◌, ◌++◌, length, Result, Ok, Err}
 use Rattle.read_rules.specs.declared.faults.Fault.{Fault}
-use Rattle.read_rules.specs.Readings.{next_of}
+use Rattle.read_rules.specs.declared.faults.ReadError.{ReadError}
+use Rattle.read_rules.specs.declared.faults.ReadError.TheVariants as errors
+use Rattle.read_rules.specs.Languages.{next_of}
 
 -- the front begins a member
 abbrev pub Begins : {T A : Type 0} → (A → List T → Type 0) → List T → Type 0
@@ -35,3 +37,10 @@ pub record IsOnly {T A : Type 0} (L : ℕ → A → List T → Type 0) (room : �
 abbrev pub Exactly : {T A : Type 0} → (ℕ → A → List T → Type 0) → ℕ → List T → Result A Fault → Type 0
 Exactly L room tokens (Ok value) = IsOnly L room tokens value
 Exactly L room tokens (Err fault) = IsLeastPlace L room tokens fault
+
+-- what code returned, seen by a view, is exact, unless memory ran out
+abbrev pub GivesExactly : {T X Y : Type 0} → (X → Y) → (ℕ → Y → List T → Type 0) → ℕ → List T →
+    Result X ReadError → Type 0
+GivesExactly view L room tokens (Ok found) = IsOnly L room tokens (view found)
+GivesExactly view L room tokens (Err (errors.Fault fault)) = IsLeastPlace L room tokens fault
+GivesExactly view L room tokens (Err errors.NoMemory) = Unit {0}

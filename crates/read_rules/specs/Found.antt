@@ -1,12 +1,11 @@
--- What code returned, held against a reading function or against the language.
-use Rattle.std.specs.Prelude.{◌≡◌, ℕ, List, Option, Result, Ok, Err}
+-- Inner: what code returned, held against a reading function.
+use Rattle.std.specs.Prelude.{◌≡◌, List, Option, Result, Ok, Err}
 use Rattle.std.specs.Option.{option_map}
 use Rattle.std.specs.Borrow.{Bor}
 use Rattle.read_rules.specs.declared.faults.Fault.{Fault}
 use Rattle.read_rules.specs.declared.faults.ReadError.{ReadError}
 use Rattle.read_rules.specs.declared.faults.ReadError.TheVariants as errors
 use Rattle.read_rules.specs.Readings.{Read, picked}
-use Rattle.read_rules.specs.Exact.{IsOnly, IsLeastPlace}
 
 -- what code returned, seen by a view, is what a function answers, unless memory ran out
 abbrev pub Gives : {X Y : Type 0} → (X → Y) → Result X ReadError → Result Y Fault → Type 0
@@ -21,10 +20,3 @@ Finds view result read = Gives (λ found. (view found.0, found.1.now)) result re
 -- code that looks whether a test takes the next token: the tokens behind it, or nothing
 abbrev pub Passes : {T : Type 0} → (T → Option (Unit {0})) → List T → Option (Bor (List T)) → Type 0
 Passes test tokens result = picked test tokens ≡ option_map (λ rest. (tt, rest.now)) result
-
--- what code returned, seen by a view, is exact, unless memory ran out
-abbrev pub GivesExactly : {T X Y : Type 0} → (X → Y) → (ℕ → Y → List T → Type 0) → ℕ → List T →
-    Result X ReadError → Type 0
-GivesExactly view L room tokens (Ok found) = IsOnly L room tokens (view found)
-GivesExactly view L room tokens (Err (errors.Fault fault)) = IsLeastPlace L room tokens fault
-GivesExactly view L room tokens (Err errors.NoMemory) = Unit {0}

@@ -1,6 +1,6 @@
--- Languages: the words in which a grammar is stated as a relation on whole lists of tokens.
+-- To believe: languages, the words in which a grammar is stated as a relation on whole lists of tokens.
 -- A production is one clause of such a relation, by recursion on the plain tree.
-use Rattle.std.specs.Prelude.{◌≡◌, ◌≤◌, ℕ, List, [], ◌∷◌, ◌++◌, Option, Some, None}
+use Rattle.std.specs.Prelude.{◌≡◌, ◌⊎◌, ◌≤◌, ℕ, List, [], ◌∷◌, ◌++◌, Option, Some, None}
 
 -- no token
 abbrev pub Empty : {T : Type 0} → List T → Type 0
@@ -38,6 +38,16 @@ abbrev pub Optional : {T A : Type 0} → (A → List T → Type 0) → Option A 
 Optional L None = Empty
 Optional L (Some value) = L value
 
+-- a token that may be left out
+abbrev pub Maybe : {T : Type 0} → (T → Option (Unit {0})) → List T → Type 0
+Maybe test tokens = Empty tokens ⊎ One test tt tokens
+
+-- what the token opens, or else what ends a list
+abbrev pub Parted : {T X A : Type 0} → (T → Option X) → (X → A → List T → Type 0) → (List T → Type 0) →
+    Option A → List T → Type 0
+Parted test L E None = E
+Parted test L E (Some value) = Led test (λ x. L x value)
+
 -- a step for each value, and the step that ends the list
 abbrev pub Loop : {T A : Type 0} → (Option A → List T → Type 0) → List A → List T → Type 0
 Loop S [] = S None
@@ -54,3 +64,8 @@ Placed place L value tokens = (value.1 ≡ place tokens) × L value.0 tokens
 -- the language with a bound on the nesting
 abbrev pub Within : {T A : Type 0} → (A → List T → Type 0) → (A → ℕ) → ℕ → A → List T → Type 0
 Within L nesting room value tokens = L value tokens × (nesting value ≤ room)
+
+-- the next token, if there is one
+abbrev pub next_of : {T : Type 0} → List T → Option T
+next_of [] = None
+next_of (token ∷ tokens) = Some token

@@ -1,7 +1,8 @@
--- Reading functions: from the left, with one token ahead, to a value and the tokens that are left.
+-- Inner: reading functions, from the left, with one token ahead, to a value and the tokens that are left.
 use Rattle.std.specs.Prelude.{ℕ, zero, suc, ◌-◌, Bool, true, false, List, [], ◌∷◌, length, take, Option, Some, None, Result, Ok, Err}
 use Rattle.std.specs.Option.{option_map, option_map_or}
 use Rattle.read_rules.specs.declared.faults.Fault.{Fault}
+pub use Rattle.read_rules.specs.Languages.{next_of}
 
 -- what reading answers: the value and the tokens behind it, or the first fault
 abbrev pub Read : Type 0 → Type 0 → Type 0
@@ -9,11 +10,6 @@ Read T A = Result (A × List T) Fault
 
 abbrev pub Rule : Type 0 → Type 0 → Type 0
 Rule T A = List T → Read T A
-
--- the next token, if there is one
-abbrev pub next_of : {T : Type 0} → List T → Option T
-next_of [] = None
-next_of (token ∷ tokens) = Some token
 
 -- the fault at the next token
 abbrev pub fault_at : {T : Type 0} → Bool → List T → Fault

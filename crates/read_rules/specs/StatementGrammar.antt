@@ -1,32 +1,43 @@
--- The worked example's grammar, as a relation on whole lists of tokens.
+-- To believe: the worked example's grammar, as a relation on whole lists of tokens.
 --   list = item { ";" item } [ ";" ]        item = "nothing" | "pause" | "[" list "]"
-use Rattle.std.specs.Prelude.{◌⊎◌, ℕ, suc, max, List, Option, Some, None}
+use Rattle.std.specs.Prelude.{ℕ, suc, max, List, Option, Some, None}
 use Rattle.read_rules.specs.declared.statements.Token.{Token}
 use Rattle.read_rules.specs.declared.statements.Token.TheVariants as kinds
-use Rattle.read_rules.specs.declared.statements.Statement.{Statement}
+use Rattle.read_rules.specs.declared.statements.Statement.{Statement, Row_of-Statement, end_of-Statement, more_of-Statement}
 use Rattle.read_rules.specs.declared.statements.Statement.TheVariants as code
-use Rattle.read_rules.specs.Languages.{Empty, One, Then, Led, Within}
+use Rattle.read_rules.specs.Languages.{One, Then, Led, Within, Maybe}
 
 -- a statement without where it lies in memory
-pub data Plain : Type 0 where
-  Nothing : Plain
-  Pause : Plain
-  Group : Plain → Plain
-  Sequence : Plain → Plain → Plain
+mutual
+  pub data Plain : Type 0 where
+    Nothing : Plain
+    Pause : Plain
+    Group : Plain → Plain
+    Sequence : Plains → Plain
 
-abbrev pub plain_of : Statement → Plain
-plain_of code.Nothing = Nothing
-plain_of code.Pause = Pause
-plain_of (code.Group' _ body) = Group (plain_of body)
-plain_of (code.Sequence' _ front _ back) = Sequence (plain_of front) (plain_of back)
+  pub data Plains : Type 0 where
+    NoPlains : Plains
+    More : Plain → Plains → Plains
 
--- an item of one token
-abbrev pub word : Token → Option Plain
-word kinds.Nothing = Some Nothing
-word kinds.Pause = Some Pause
-word kinds.Semicolon = None
-word kinds.Open = None
-word kinds.Close = None
+abbrev mutual
+  pub plain_of : Statement → Plain
+  plain_of code.Nothing = Nothing
+  plain_of code.Pause = Pause
+  plain_of (code.Group' _ body) = Group (plain_of body)
+  plain_of (code.Sequence' _ row) = Sequence (plains_of row)
+
+  pub plains_of : {n : _} → Row_of-Statement n → Plains
+  plains_of end_of-Statement = NoPlains
+  plains_of (more_of-Statement statement row) = More (plain_of statement) (plains_of row)
+
+-- a token that is one of a kind, and no other
+abbrev pub nothing : Token → Option (Unit {0})
+nothing kinds.Nothing = Some tt
+nothing _ = None
+
+abbrev pub pause : Token → Option (Unit {0})
+pause kinds.Pause = Some tt
+pause _ = None
 
 abbrev pub semicolon : Token → Option (Unit {0})
 semicolon kinds.Semicolon = Some tt
@@ -45,25 +56,46 @@ pub data Level : Type 0 where
   Item : Level
   Items : Level
 
--- a list of items, and maybe a last semicolon
-abbrev pub Closed : (List Token → Type 0) → List Token → Type 0
-Closed L = Then L (λ tokens. Empty tokens ⊎ One semicolon tt tokens)
+-- An item as a list is that one item, and maybe a last semicolon.
+abbrev pub Alone : Level → (List Token → Type 0) → List Token → Type 0
+Alone Item L = L
+Alone Items L = Then L (Maybe semicolon)
 
--- how a statement is written as an item, and as a list
-abbrev pub Spells : Level → Plain → List Token → Type 0
-Spells level Nothing = One word Nothing
-Spells level Pause = One word Pause
-Spells level (Group body) = Led open_bracket (λ _. Then (Closed (Spells Items body)) (One close_bracket tt))
-Spells Items (Sequence front back) = Then (Spells Items front) (Led semicolon (λ _. Spells Item back))
-Spells Item (Sequence front back) = λ _. ⊥
+abbrev mutual
+  -- how a statement is written as an item, and as a list
+  pub Spells : Level → Plain → List Token → Type 0
+  Spells level Nothing = Alone level (One nothing tt)
+  Spells level Pause = Alone level (One pause tt)
+  Spells level (Group body) = Alone level (Led open_bracket (λ _. Then (Spells Items body) (One close_bracket tt)))
+  Spells Items (Sequence parts) = SpellsFirst parts
+  Spells Item (Sequence parts) = λ _. ⊥
+
+  -- at least two items with semicolons between them
+  SpellsFirst : Plains → List Token → Type 0
+  SpellsFirst NoPlains = λ _. ⊥
+  SpellsFirst (More plain others) = Then (Spells Item plain) (SpellsSecond others)
+
+  SpellsSecond : Plains → List Token → Type 0
+  SpellsSecond NoPlains = λ _. ⊥
+  SpellsSecond (More plain others) = Then (Led semicolon (λ _. Spells Item plain)) (SpellsOthers others)
+
+  -- further items, and maybe a last semicolon
+  pub SpellsOthers : Plains → List Token → Type 0
+  SpellsOthers NoPlains = Maybe semicolon
+  SpellsOthers (More plain others) = Then (Led semicolon (λ _. Spells Item plain)) (SpellsOthers others)
 
 -- how many brackets are open at most at one place
-abbrev pub nesting : Plain → ℕ
-nesting Nothing = 0
-nesting Pause = 0
-nesting (Group body) = suc (nesting body)
-nesting (Sequence front back) = max (nesting front) (nesting back)
+abbrev mutual
+  pub nesting : Plain → ℕ
+  nesting Nothing = 0
+  nesting Pause = 0
+  nesting (Group body) = suc (nesting body)
+  nesting (Sequence parts) = deepest parts
+
+  pub deepest : Plains → ℕ
+  deepest NoPlains = 0
+  deepest (More plain others) = max (nesting plain) (deepest others)
 
 -- the tokens spell the statement, and its nesting is at most the room
 abbrev pub IsStatement : ℕ → Plain → List Token → Type 0
-IsStatement = Within (λ plain. Closed (Spells Items plain)) nesting
+IsStatement = Within (Spells Items) nesting

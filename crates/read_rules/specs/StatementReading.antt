@@ -1,41 +1,57 @@
--- The worked example's reading function.
-use Rattle.std.specs.Prelude.{ℕ, zero, suc, Bool, false, List, [], ◌∷◌, Option, Some, None, is_some}
+-- Inner: the worked example's reading function.
+use Rattle.std.specs.Prelude.{ℕ, zero, suc, Bool, true, false, List, [], ◌∷◌, Option, Some, None}
 use Rattle.read_rules.specs.declared.statements.Token.{Token}
 use Rattle.read_rules.specs.declared.statements.Token.TheVariants as kinds
-use Rattle.read_rules.specs.StatementGrammar.{Plain, Group, Sequence, word, semicolon, open_bracket, close_bracket}
-use Rattle.read_rules.specs.Readings.{Rule, too_deep, give, mapped, both, trail, when, ahead, on, the, maybe, loop}
+use Rattle.read_rules.specs.declared.statements.Opening.{Opening}
+use Rattle.read_rules.specs.declared.statements.Opening.TheVariants as openings
+use Rattle.read_rules.specs.StatementGrammar.{Plain, Nothing, Pause, Group, Sequence, Plains, NoPlains, More, semicolon, close_bracket}
+use Rattle.read_rules.specs.Readings.{Rule, refuse, give, mapped, both, trail, the, loop}
+use Rattle.read_rules.specs.Choice.{trailing, choose}
 
 -- the tokens that begin an item
-abbrev pub item_start : Token → Option (Unit {0})
-item_start kinds.Nothing = Some tt
-item_start kinds.Pause = Some tt
-item_start kinds.Open = Some tt
-item_start _ = None
+abbrev pub opening : Token → Option Opening
+opening kinds.Nothing = Some openings.Nothing
+opening kinds.Pause = Some openings.Pause
+opening kinds.Open = Some openings.Group
+opening _ = None
 
-abbrev pub begins_item : List Token → Bool
-begins_item [] = false
-begins_item (token ∷ rest) = is_some (item_start token)
+-- what takes room
+abbrev pub is_deep : Opening → Bool
+is_deep openings.Group = true
+is_deep _ = false
 
--- items one after the other, the first two together first
-abbrev pub joined : Plain → List Plain → Plain
-joined plain [] = plain
-joined plain (next ∷ others) = joined (Sequence plain next) others
+-- what stands behind the token that begins an item, where the list in a group is read by the rule given
+abbrev pub behind : Opening → Rule Token Plain → Rule Token Plain
+behind openings.Nothing list = give Nothing
+behind openings.Pause list = give Pause
+behind openings.Group list = mapped Group (trail list (the close_bracket))
 
--- an item, where the group is read by the rule given
-abbrev pub item : Rule Token Plain → Rule Token Plain
-item group = ahead open_bracket group (the word)
+abbrev pub plains : List Plain → Plains
+plains [] = NoPlains
+plains (plain ∷ others) = More plain (plains others)
 
--- what stands behind an item: a semicolon and maybe an item, or the end of the list
-abbrev pub step : Rule Token Plain → Rule Token (Option Plain)
-step group = when semicolon (λ _. maybe item_start (item group)) (give None)
+-- a list of one item is that item
+abbrev pub list_of : List Plain → Plain
+list_of [] = Sequence NoPlains
+list_of (plain ∷ []) = plain
+list_of (plain ∷ next ∷ others) = Sequence (More plain (More next (plains others)))
 
-abbrev pub items : Rule Token Plain → Rule Token Plain
-items group = mapped (λ found. joined found.0 found.1) (both (item group) (loop (step group)))
+-- the rules at a room, where those at one less are given
+abbrev pub item : ℕ → Rule Token Plain → Rule Token Plain
+item room inner = choose opening is_deep room (λ o. behind o inner)
 
--- a group, which takes one of the room
-abbrev pub bracketed : ℕ → Rule Token Plain
-bracketed zero = too_deep
-bracketed (suc room) = on open_bracket (λ _. mapped Group (trail (items (bracketed room)) (the close_bracket)))
+abbrev pub step : ℕ → Rule Token Plain → Rule Token (Option Plain)
+step room inner = trailing semicolon opening (item room inner)
 
-abbrev pub statement : ℕ → Rule Token Plain
-statement room = items (bracketed room)
+abbrev pub items : ℕ → Rule Token Plain → Rule Token Plain
+items room inner = mapped (λ found. list_of (found.0 ∷ found.1)) (both (item room inner) (loop (step room inner)))
+
+abbrev mutual
+  pub statement : ℕ → Rule Token Plain
+  statement zero = items zero refuse
+  statement (suc room) = items (suc room) (statement room)
+
+-- the rule at the room inside, which is never used where there is none
+abbrev pub inside : ℕ → Rule Token Plain
+inside zero = refuse
+inside (suc room) = statement room

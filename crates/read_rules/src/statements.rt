@@ -2,11 +2,13 @@
 //
 // list = item { ";" item } [ ";" ]        item = "nothing" | "pause" | "[" list "]"
 
-ghost use Rattle.std.specs.Prelude.{◌≡◌};
-ghost use Rattle.read_rules.specs.Found.{Finds, Gives, GivesExactly};
-ghost use Rattle.read_rules.specs.Readings.{whole};
-ghost use Rattle.read_rules.specs.StatementGrammar.{plain_of, IsStatement};
-ghost use Rattle.read_rules.specs.StatementReading.{item, bracketed, statement, begins_item};
+ghost use Rattle.std.specs.Prelude.{◌≡◌, ◌<◌, Some, None, is_some, map, vec_len, MatchOption};
+ghost use Rattle.read_rules.specs.Exact.{GivesExactly};
+ghost use Rattle.read_rules.specs.Found.{Finds, Gives};
+ghost use Rattle.read_rules.specs.Readings.{picked, whole};
+ghost use Rattle.read_rules.specs.StatementGrammar.{plain_of, semicolon, IsStatement};
+ghost use Rattle.read_rules.specs.StatementReading.{opening, item, list_of, statement};
+ghost use Rattle.read_rules.specs.StatementReading.{inside as inner};
 
 use crate::cursor::{ended, first, inside, refused};
 use crate::faults::ReadError;
@@ -21,53 +23,74 @@ enum Token {
     Close,
 }
 
+// What begins an item.
+#[derive(Clone, Copy, Debug, PartialEq, Eq)]
+enum Opening {
+    Nothing,
+    Pause,
+    Group,
+}
+
 #[derive(Debug, Drop)]
 enum Statement {
     Nothing,
     Pause,
     Group(Box<Statement>),
-    Sequence(Box<Statement>, Box<Statement>),
+    Sequence(Vec<Statement>),
+}
+
+// What begins an item with the next token, and the tokens behind it.
+fn past_opening(tokens: &[Token]) -> Option<(Opening, &[Token])>
+    ensures { MatchOption result
+        (picked opening tokens.now ≡ None)
+        (λ found. picked opening tokens.now ≡ Some (found.0, found.1.now)) }
+{
+    match first(tokens)? {
+        (Token::Nothing, rest) => Some((Opening::Nothing, rest)),
+        (Token::Pause, rest) => Some((Opening::Pause, rest)),
+        (Token::Open, rest) => Some((Opening::Group, rest)),
+        _ => None,
+    }
+}
+
+// The tokens behind a semicolon, where one stands next.
+fn past_semicolon(tokens: &[Token]) -> Option<&[Token]>
+    ensures { MatchOption result
+        (picked semicolon tokens.now ≡ None)
+        (λ rest. picked semicolon tokens.now ≡ Some (tt, rest.now)) }
+{
+    match first(tokens)? {
+        (Token::Semicolon, rest) => Some(rest),
+        _ => None,
+    }
 }
 
 // Whether an item begins here.
 fn is_item_next(tokens: &[Token]) -> bool
-    ensures { result ≡ begins_item tokens.now }
+    ensures { result ≡ is_some (picked opening tokens.now) }
 {
-    match first(tokens) {
-        Some((Token::Nothing | Token::Pause | Token::Open, _)) => true,
-        _ => false,
-    }
+    past_opening(tokens).is_some()
 }
 
 #[cycle(statement)]
 fn read_item(alloc: Global, tokens: &[Token], room: u32) -> Result<(Statement, &[Token]), ReadError>
-    ensures { Finds plain_of result (item (bracketed room) tokens.now) }
+    ensures { Finds plain_of result (item room (inner room) tokens.now) }
 {
-    match first(tokens) {
-        Some((Token::Nothing, rest)) => Ok((Statement::Nothing, rest)),
-        Some((Token::Pause, rest)) => Ok((Statement::Pause, rest)),
-        Some((Token::Open, _)) => read_bracketed(alloc, tokens, room),
-        _ => Err(ReadError::Fault(refused(tokens))),
-    }
-}
-
-#[cycle(statement)]
-fn read_bracketed(
-    alloc: Global,
-    tokens: &[Token],
-    room: u32,
-) -> Result<(Statement, &[Token]), ReadError>
-    ensures { Finds plain_of result (bracketed room tokens.now) }
-{
-    let room = inside(room, tokens)?;
-    let Some((Token::Open, rest)) = first(tokens) else {
+    let Some((opening, rest)) = past_opening(tokens) else {
         return Err(ReadError::Fault(refused(tokens)));
     };
-    let (body, rest) = read_statement(alloc, rest, room)?;
-    let Some((Token::Close, rest)) = first(rest) else {
-        return Err(ReadError::Fault(refused(rest)));
-    };
-    Ok((Statement::Group(Box::new(alloc, body)?), rest))
+    match opening {
+        Opening::Nothing => Ok((Statement::Nothing, rest)),
+        Opening::Pause => Ok((Statement::Pause, rest)),
+        Opening::Group => {
+            let room = inside(room, tokens)?;
+            let (body, rest) = read_statement(alloc, rest, room)?;
+            let Some((Token::Close, rest)) = first(rest) else {
+                return Err(ReadError::Fault(refused(rest)));
+            };
+            Ok((Statement::Group(Box::new(alloc, body)?), rest))
+        }
+    }
 }
 
 #[cycle(statement)]
@@ -78,16 +101,29 @@ fn read_statement(
 ) -> Result<(Statement, &[Token]), ReadError>
     ensures { Finds plain_of result (statement room tokens.now) }
 {
-    let (mut done, mut rest) = read_item(alloc, tokens, room)?;
-    while let Some((Token::Semicolon, behind)) = first(rest) {
+    let (item, mut rest) = read_item(alloc, tokens, room)?;
+    let mut items = Vec::new(alloc);
+    items.push(item)?;
+    while let Some(behind) = past_semicolon(rest) {
         if !is_item_next(behind) {
-            return Ok((done, behind));
+            return Ok((sequence_of(items), behind));
         }
-        let (next, behind) = read_item(alloc, behind, room)?;
-        done = Statement::Sequence(Box::new(alloc, done)?, Box::new(alloc, next)?);
+        let (item, behind) = read_item(alloc, behind, room)?;
+        items.push(item)?;
         rest = behind;
     }
-    Ok((done, rest))
+    Ok((sequence_of(items), rest))
+}
+
+// The list of these items, of which there is one at least. A list of one item is that item.
+fn sequence_of(mut items: Vec<Statement>) -> Statement
+    requires { 0 < vec_len items }
+    ensures { plain_of result ≡ list_of (map plain_of items.items) }
+{
+    if items.len() > 1 {
+        return Statement::Sequence(items);
+    }
+    items.pop().unwrap()
 }
 
 fn read_whole(alloc: Global, tokens: &[Token], room: u32) -> Result<Statement, ReadError>
@@ -137,9 +173,9 @@ mod tests {
         let read = [
             (".", 0, "Nothing"),
             ("p;", 0, "Pause"),
-            (".;p;.", 0, "Sequence(Sequence(Nothing, Pause), Nothing)"),
-            ("[p];.", 1, "Sequence(Group(Pause), Nothing)"),
-            ("[[.;];p]", 2, "Group(Sequence(Group(Nothing), Pause))"),
+            (".;p;.", 0, "Sequence([Nothing, Pause, Nothing])"),
+            ("[p];.", 1, "Sequence([Group(Pause), Nothing])"),
+            ("[[.;];p]", 2, "Group(Sequence([Group(Nothing), Pause]))"),
         ];
         for (text, room, want) in read {
             let found = answer(rt.alloc(), text.as_bytes(), room);

@@ -3,6 +3,7 @@
 ghost use Rattle.std.specs.Prelude.{◌≡◌, ◌<◌};
 
 use super::*;
+use crate::reader::read_blif;
 use est_base::WireId;
 use net_ir::Latch;
 use std::test::Fail;
@@ -77,7 +78,7 @@ fn closed_net(alloc: Global) -> Result<Net, NoMemory> {
 const CLOSED_TEXT: &[u8] =
     b".model closed_1\n.outputs X Y2 _paused\n.names _g0\n1\n.names _w12\n.names _g0 _g2\n1 1\n.names _w12 _w0\n0 1\n.names _g2 _w0 _g4\n11 1\n.names _g4 _w12 _g5\n1- 1\n-1 1\n.names _g5 X\n1 1\n.names _w12 Y2\n1 1\n.names _g4 _paused\n1 1\n.end\n";
 
-// Two inputs, two latches and no gate.
+// Two inputs, two latches and no gate. The output has the name of an input.
 fn gateless_net(alloc: Global) -> Result<Net, NoMemory> {
     Ok(Net {
         name: Text::from_bytes(alloc, b"L")?,
@@ -85,7 +86,12 @@ fn gateless_net(alloc: Global) -> Result<Net, NoMemory> {
             Text::from_bytes(alloc, b"a")?,
             Text::from_bytes(alloc, b"b")?,
         ]?,
-        outputs: Vec::new(alloc),
+        outputs: vec![in alloc;
+            NetOut {
+                name: Text::from_bytes(alloc, b"b")?,
+                net: NetId(2)
+            },
+        ]?,
         paused: NetId(3),
         latches: vec![in alloc;
             Latch {
@@ -102,7 +108,7 @@ fn gateless_net(alloc: Global) -> Result<Net, NoMemory> {
 }
 
 const GATELESS_TEXT: &[u8] =
-    b".model L\n.inputs a b\n.outputs _paused\n.latch _i0 _s0 1\n.latch _s0 _s1 0\n.names a _i0\n1 1\n.names b _i1\n1 1\n.names _s1 _paused\n1 1\n.end\n";
+    b".model L\n.inputs a b\n.outputs b.out _paused\n.latch _i0 _s0 1\n.latch _s0 _s1 0\n.names a _i0\n1 1\n.names b _i1\n1 1\n.names _s0 b.out\n1 1\n.names _s1 _paused\n1 1\n.end\n";
 
 #[test]
 fn texts_are_exact(rt: HostRuntime) -> Result<(), Fail> {
@@ -147,5 +153,14 @@ fn great_nets_are_written(rt: HostRuntime) -> Result<(), Fail> {
         let text = write_blif(rt.alloc(), &negations(rt.alloc(), count)?)?;
         assert_eq!(rt; text.len(), want);
     }
+    Ok(())
+}
+
+// A great text is read back as a circuit of as many tables: one for each gate, the input and `_paused`.
+#[test]
+fn a_great_text_is_read_back(rt: HostRuntime) -> Result<(), Fail> {
+    let text = write_blif(rt.alloc(), &negations(rt.alloc(), 1048576)?)?;
+    let blif = read_blif(rt.alloc(), &text)?;
+    assert_eq!(rt; blif.tables.len(), 1048578);
     Ok(())
 }

@@ -55,6 +55,7 @@ pub fn kernel_program(alloc: Global, source: &Source) -> Result<Option<KernelPro
         name: Text::from_bytes(alloc, source.name.bytes())?,
         signals: signals(alloc, names)?,
         inputs: inputs as u32,
+        both: 0,
         outputs: outputs as u32,
         relations: Vec::new(alloc),
         body,

@@ -8,6 +8,7 @@ use Rattle.blif_text.proofs.writer.put_gates.Given as goal
 -- what is written, and what is still to write, are the whole
 abbrev pub invariant-loop-k : goal.invariant-loop-k
 invariant-loop-k l = record {
-  text : l.text.items ++ text_of (flat_map table_statements (numbered (gate_table (netlist_of l.net)) l.k (drop l.k l.net.gates.items))) ≡ l.fn.text.items ++ text_of (flat_map table_statements (numbered (gate_table (netlist_of l.net)) 0 l.net.gates.items));
+  text : l.text.items ++ text_of (flat_map table_statements (numbered (gate_table (netlist_of l.net)) l.k (drop l.k l.net.gates.items))) ≡ l.fn.text.items ++
+      text_of (flat_map table_statements (numbered (gate_table (netlist_of l.net)) 0 l.net.gates.items));
   wires : All (λ g. IfSome g.wire (λ w. w.0 < 2 ^ 32)) (take l.k l.net.gates.items);
 }

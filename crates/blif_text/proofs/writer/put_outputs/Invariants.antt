@@ -6,6 +6,7 @@ use Rattle.blif_text.specs.Written.{output_table}
 use Rattle.blif_text.proofs.writer.put_outputs.Given as goal
 
 -- what is written, and what is still to write, are the whole
-abbrev pub invariant-loop-output : goal.invariant-loop-output
-invariant-loop-output l =
-    l.text.items ++ text_of (flat_map table_statements (map (output_table (netlist_of l.net)) (drop l.output-index l.net.outputs.items))) ≡ l.fn.text.items ++ text_of (flat_map table_statements (map (output_table (netlist_of l.net)) l.net.outputs.items))
+abbrev pub invariant-loop-k : goal.invariant-loop-k
+invariant-loop-k l =
+    l.text.items ++ text_of (flat_map table_statements (map (output_table (netlist_of l.net)) (drop l.k l.net.outputs.items))) ≡ l.fn.text.items ++ text_of
+    (flat_map table_statements (map (output_table (netlist_of l.net)) l.net.outputs.items))

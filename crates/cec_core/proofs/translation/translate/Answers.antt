@@ -1,7 +1,7 @@
 use Rattle.std.proofs.Common.{◌≡◌, ◌∙◌, ap, refl}
 use Rattle.est_kernel.specs.Plain.{program_of}
 use Rattle.cec_core.specs.Wiring.{named, latches_of, net_of}
-use Rattle.cec_core.proofs.NetFits.{net_from_parts, fits_from_parts, few_nets, netlist_from}
+use Rattle.cec_core.proofs.NetFits.{net_from_parts, fits_from_parts, netlist_from}
 use Rattle.cec_core.proofs.translation.translate.Goals as goal
 
 -- the parts are those of the program's net
@@ -14,22 +14,9 @@ the_net c =
     (c.in_ok-latches.ensures ∙ ap (latches_of c.in_ok-circuit.field-0.never) c.deref-2.ensures.value)
 
 pub invariant_of-result : goal.invariant_of-result
-invariant_of-result c =
-    let fits = fits_from_parts (program_of c.args.program.now) c.requires _ (the_net c) in
-    record {
-      name_fits = fits.name_fits;
-      input_names_fit = fits.input_names_fit;
-      output_names_fit = fits.output_names_fit;
-      inputs_differ = fits.inputs_differ;
-      outputs_differ = fits.outputs_differ;
-      no_shared_name = fits.no_shared_name;
-      numbered = few_nets (program_of c.args.program.now) c.requires _ (the_net c) c.in_ok-circuit.ensures.few;
-      outputs_in_range = fits.outputs_in_range;
-      paused_in_range = fits.paused_in_range;
-      latches_in_range = fits.latches_in_range;
-      reads_lower = fits.reads_lower;
-      carries_once = rw fits.carries_once refl;
-    }
+invariant_of-result c = record {
+  is_net = fits_from_parts (program_of c.args.program.now) c.requires _ (the_net c) c.in_ok-circuit.ensures.few;
+}
 
 pub returns : goal.returns
 returns c =

@@ -1,4 +1,4 @@
-use Rattle.std.proofs.Common.{◌≡◌, ◌≤◌, ◌<◌, refl, arith, ⊎_elim}
+use Rattle.std.proofs.Common.{arith, ⊎_elim}
 use Rattle.est_codes.proofs.places.lesser.Goals as goal
 use Rattle.est_codes.specs.Faults.{IsNotAfter}
 use Rattle.est_codes.proofs.LeastPlaces.{least_second}

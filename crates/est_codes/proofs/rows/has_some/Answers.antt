@@ -1,4 +1,4 @@
-use Rattle.std.proofs.Common.{arith, ◌≡◌, ◌≤◌, true, sym, ◌∙◌}
+use Rattle.std.proofs.Common.{arith, sym, ◌∙◌}
 use Rattle.est_kernel.proofs.Sets.{upto-in}
 use Rattle.est_base.specs.CodeSet.{members}
 use Rattle.est_codes.proofs.CodeSets.{upto-none}

@@ -1,4 +1,4 @@
-use Rattle.std.proofs.Common.{◌≡◌, ◌∙◌, sym}
+use Rattle.std.proofs.Common.{◌∙◌, sym}
 use Rattle.est_base.specs.CodeSet.{members}
 use Rattle.est_base.specs.Codes.{maxima}
 use Rattle.est_kernel.specs.StaticCodes.{has_code, branch_codes}

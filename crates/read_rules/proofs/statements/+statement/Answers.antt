@@ -1,18 +1,32 @@
-use Rattle.std.proofs.Common.{◌≡◌, true, ◌∙◌}
-use Rattle.read_rules.specs.StatementGrammar.{plain_of}
-use Rattle.read_rules.specs.StatementReading.{begins_item}
-use Rattle.read_rules.proofs.StatementLaws.{loop-next, rest-shorter}
+use Rattle.std.proofs.Common.{◌∷◌, sym, ◌∙◌, map, arith}
+use Rattle.std.proofs.lemmas.List.{map-append}
+use Rattle.read_rules.specs.StatementGrammar.{plain_of, semicolon}
+use Rattle.read_rules.specs.StatementReading.{opening, item, inside, list_of, step}
+use Rattle.read_rules.proofs.Loops.{loop-begun}
+use Rattle.read_rules.proofs.Steps.{trailing-some, loop-grown}
+use Rattle.read_rules.proofs.StatementLaws.{statement-is, step-advances}
 use Rattle.read_rules.proofs.statements.+statement.Goals as goal
+
+pub read_statement-loop-behind-init : goal.read_statement-loop-behind-init
+read_statement-loop-behind-init t c = record {
+  some = omega (arith, c.in_ok-push.ensures.len);
+  whole = rw (c.in_ok-push.ensures.items, c.new-items.ensures.items)
+      (loop-begun (item c.args.room (inside c.args.room)) (step c.args.room (inside c.args.room)) (λ value others. list_of (value ∷ others)) c.args.tokens.now (plain_of c.in_ok-item.item) c.in_ok-item.rest.now c.in_ok-item.ensures
+      ∙ sym (statement-is c.args.room c.args.tokens.now));
+}
 
 pub read_statement-loop-behind-smaller : goal.read_statement-loop-behind-smaller
 read_statement-loop-behind-smaller t c =
-    let arm = c.in-Some-Semicolon-default in
-    let begins : begins_item arm.behind.now ≡ true = cc in
-    rest-shorter _ _ _ _ _ _ arm.ensures arm.field-0-0-is begins c.in_ok-next.ensures
+    let arm = c.in-Some in
+    step-advances c.args.room _ _ _ (trailing-some semicolon opening (item c.args.room (inside c.args.room)) _ _ _ _ arm.ensures (sym c.is_item_next.ensures ∙ c.if-not-is_item_next.false) c.in_ok-item-2.ensures)
 
 pub read_statement-loop-behind-preserved : goal.read_statement-loop-behind-preserved
 read_statement-loop-behind-preserved t c =
-    let arm = c.in-Some-Semicolon-default in
-    let begins : begins_item arm.behind.now ≡ true = cc in
-    rw (c.in_ok-new.ensures.ok, c.in_ok-new-2.ensures.ok)
-    (loop-next _ _ _ _ _ _ arm.ensures arm.field-0-0-is begins c.in_ok-next.ensures (plain_of c.loop-behind.done) ∙ c.loop-behind.invariant)
+    let arm = c.in-Some in
+    record {
+      some = omega (arith, c.in_ok-push-2.ensures.len);
+      whole = rw (c.in_ok-push-2.ensures.items, map-append)
+          (loop-grown (step c.args.room (inside c.args.room)) (step-advances c.args.room) list_of (map plain_of c.loop-behind.items.items) _ _ _
+          (trailing-some semicolon opening (item c.args.room (inside c.args.room)) _ _ _ _ arm.ensures (sym c.is_item_next.ensures ∙ c.if-not-is_item_next.false) c.in_ok-item-2.ensures)
+          ∙ c.loop-behind.invariant.whole);
+    }

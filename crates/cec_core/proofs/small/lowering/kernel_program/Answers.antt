@@ -1,7 +1,8 @@
 use Rattle.std.proofs.Common.{◌≡◌, ◌≤◌, ◌++◌, ◌∙◌, true, length, map, take, drop, ap, sym, arith}
 use Rattle.std.proofs.Math.Seq.{take-append_seam, drop-append_seam}
 use Rattle.std.specs.Option.{option_map}
-use Rattle.est_kernel.specs.Plain.{term_of, relation_of}
+use Rattle.est_base.specs.Relations.{relation_of}
+use Rattle.est_kernel.specs.Plain.{term_of}
 use Rattle.est_base.specs.Distinct.{all_differ}
 use Rattle.est_base.specs.Names.{is_same_name}
 use Rattle.cec_core.specs.declared.small.trees.Side.TheVariants.{Input, Output}

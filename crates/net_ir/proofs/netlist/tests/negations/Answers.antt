@@ -17,5 +17,6 @@ loop-k-preserved c =
       count = grind (arith, common_steps);
       lower = ReadsLower-push 1 gates gate c.loop-k.invariant.lower (omega arith);
       once = rw wires (all_differ-rising (carried gates) k c.loop-k.invariant.once c.loop-k.invariant.below);
-      below = rw wires (All-push (λ w. w < k + 1) (carried gates) k (All-weaker (λ w. w < k) (λ w. w < k + 1) (λ w h. omega arith) (carried gates) c.loop-k.invariant.below) (omega arith));
+      below = rw wires (All-push (λ w. w < k + 1) (carried gates) k
+          (All-weaker (λ w. w < k) (λ w. w < k + 1) (λ w h. omega arith) (carried gates) c.loop-k.invariant.below) (omega arith));
     })

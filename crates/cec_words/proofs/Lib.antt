@@ -1,0 +1,3 @@
+mod DecimalValues
+mod Gathering
+mod WorkedWords

@@ -1,0 +1,5 @@
+pub mod Numbers
+pub mod Commands
+pub mod Spellings
+pub mod Readings
+pub mod Slots

@@ -1,0 +1,73 @@
+-- Inner: the files and options that the reader keeps.
+use Rattle.std.specs.Prelude.{◌≡◌, ℕ, List, [], ◌∷◌, ◌++◌, Option, Some, None, option_and_then}
+use Rattle.std.specs.Option.{option_to_list}
+use Rattle.cec_words.specs.declared.asked.Asked.{Asked}
+use Rattle.cec_words.specs.declared.given.Files.{Files}
+use Rattle.cec_words.specs.declared.given.Files.TheVariants as kept
+use Rattle.cec_words.specs.declared.given.Given.{Given}
+use Rattle.cec_words.specs.declared.steps.Command.{Command}
+use Rattle.cec_words.specs.declared.steps.Setting.{Setting}
+use Rattle.cec_words.specs.declared.steps.Part.{Part}
+use Rattle.cec_words.specs.declared.steps.Step.{Step}
+use Rattle.cec_words.specs.Readings.{Gathered, with_part, after_step, asked_once}
+
+abbrev pub files_list : Files → List ℕ
+files_list kept.None = []
+files_list (kept.One a) = a ∷ []
+files_list (kept.Two a b) = a ∷ b ∷ []
+
+abbrev pub only_file : Files → Option ℕ
+only_file (kept.One a) = Some a
+only_file others = None
+
+abbrev pub both_files : Files → Option (ℕ × ℕ)
+both_files (kept.Two a b) = Some (a, b)
+both_files others = None
+
+-- what is kept, and what comes behind it
+abbrev pub extended : Given → Gathered → Gathered
+extended g rest = record {
+  files = files_list g.files ++ rest.files;
+  vias = option_to_list g.via ++ rest.vias;
+  mains = option_to_list g.main ++ rest.mains;
+  picks = option_to_list g.pick ++ rest.picks;
+  starts = option_to_list g.start ++ rest.starts;
+  branches = option_to_list g.branches ++ rest.branches;
+  runs = option_to_list g.run ++ rest.runs;
+}
+
+abbrev pub slots : Given → Gathered
+slots g = record {
+  files = files_list g.files;
+  vias = option_to_list g.via;
+  mains = option_to_list g.main;
+  picks = option_to_list g.pick;
+  starts = option_to_list g.start;
+  branches = option_to_list g.branches;
+  runs = option_to_list g.run;
+}
+
+-- one part more is kept
+abbrev pub Fills : Given → Given → Part → Type 0
+Fills old new part = (rest : Gathered) → extended new rest ≡ extended old (with_part part rest)
+
+-- whatever comes, with this part the words have no meaning
+abbrev pub Overfills : Given → Part → Type 0
+Overfills old part = (command : Command) (rest : Gathered)
+    → asked_once command (extended old (with_part part rest)) ≡ None
+
+-- what is given and what the words that are left give ask for together
+abbrev pub asked_with : Command → Given → Option Gathered → Option Asked
+asked_with command given left = option_and_then (λ rest. asked_once command (extended given rest)) left
+
+-- after this step the words have no meaning, whatever is left
+abbrev pub HasNoMeaning : Given → Step → Type 0
+HasNoMeaning given step =
+    (command : Command) (rest : Option Setting → Option Gathered)
+    → asked_with command given (after_step rest (Some step)) ≡ None
+
+-- after this step this is given, and this option waits
+abbrev pub Takes : Given → Step → Given → Option Setting → Type 0
+Takes given step new waiting =
+    (command : Command) (rest : Option Setting → Option Gathered)
+    → asked_with command given (after_step rest (Some step)) ≡ asked_with command new (rest waiting)

@@ -1,0 +1,53 @@
+// What words ask for.
+
+/// Which text is run.
+#[derive(Clone, Copy, Debug, PartialEq, Eq)]
+pub enum Via {
+    Blif,
+    C,
+}
+
+/// Which of the wires that are ready is placed next in the order of evaluation.
+#[derive(Clone, Copy, Debug, PartialEq, Eq)]
+pub enum Pick {
+    First,
+    Last,
+    /// One that is drawn from this start number.
+    Drawn(u64),
+}
+
+/// The bytes of a word from a byte on, by the word's place among the words.
+#[derive(Clone, Copy, Debug, PartialEq, Eq)]
+pub struct Value {
+    pub word: usize,
+    pub start: usize,
+}
+
+/// A source to be compiled. The file is given by its word's place, the module by its name.
+#[derive(Clone, Copy, Debug, PartialEq, Eq)]
+pub struct Source {
+    pub file: usize,
+    pub main: Option<Value>,
+    pub pick: Pick,
+}
+
+/// What a list of words asks for. Files are given by the places of their words.
+#[derive(Clone, Copy, Debug, PartialEq, Eq)]
+pub enum Asked {
+    /// The list of the commands.
+    Help,
+    /// The BLIF text of a source.
+    Blif(Source),
+    /// The C text of a source.
+    C(Source),
+    /// The listing of a source's graph.
+    Grc(Source),
+    /// Whether a source compiles.
+    Check(Source),
+    /// A source's run over the trace.
+    Run(Via, Source, usize),
+    /// The run of a text over the trace.
+    Exec(Via, usize, usize),
+    /// A generated source: its start number, its branches, and how many instants it runs.
+    Gen(u64, u32, Option<u32>),
+}

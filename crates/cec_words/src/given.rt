@@ -1,0 +1,145 @@
+// The files and options that some words give.
+
+ghost use Rattle.std.specs.Prelude.{◌≡◌, MatchOption};
+ghost use Rattle.cec_words.specs.Readings.{nothing, asked_once, source};
+ghost use Rattle.cec_words.specs.Slots.{slots, only_file, both_files, Fills, Overfills};
+
+use crate::asked::{Asked, Pick, Source, Value, Via};
+use crate::steps::{Command, Part};
+
+// The files so far; no command has more than two.
+#[derive(Clone, Copy)]
+pub enum Files {
+    None,
+    One(usize),
+    Two(usize, usize),
+}
+
+#[derive(Clone, Copy)]
+pub struct Given {
+    pub files: Files,
+    pub via: Option<Via>,
+    pub main: Option<Value>,
+    pub pick: Option<Pick>,
+    pub start: Option<u64>,
+    pub branches: Option<u32>,
+    pub run: Option<u32>,
+}
+
+impl Given {
+    pub fn none() -> Given
+        ensures { slots result ≡ nothing }
+    {
+        Given {
+            files: Files::None,
+            via: None,
+            main: None,
+            pick: None,
+            start: None,
+            branches: None,
+            run: None,
+        }
+    }
+
+    // One part more, unless it is an option's second value or a third file.
+    pub fn with_part(self, part: Part) -> Option<Given>
+        ensures { MatchOption result (Overfills self part) (λ new. Fills self new part) }
+    {
+        match part {
+            Part::File(at) => self.with_file(at),
+            Part::Via(via) if self.via.is_none() => Some(Given {
+                via: Some(via),
+                ..self
+            }),
+            Part::Main(main) if self.main.is_none() => Some(Given {
+                main: Some(main),
+                ..self
+            }),
+            Part::Pick(pick) if self.pick.is_none() => Some(Given {
+                pick: Some(pick),
+                ..self
+            }),
+            Part::Start(start) if self.start.is_none() => Some(Given {
+                start: Some(start),
+                ..self
+            }),
+            Part::Branches(branches) if self.branches.is_none() => Some(Given {
+                branches: Some(branches),
+                ..self
+            }),
+            Part::Run(run) if self.run.is_none() => Some(Given {
+                run: Some(run),
+                ..self
+            }),
+            _ => None,
+        }
+    }
+
+    fn with_file(self, at: usize) -> Option<Given>
+        ensures { MatchOption result (Overfills self (Part.File at)) (λ new. Fills self new (Part.File at)) }
+    {
+        match self.files {
+            Files::None => Some(Given {
+                files: Files::One(at),
+                ..self
+            }),
+            Files::One(first) => Some(Given {
+                files: Files::Two(first, at),
+                ..self
+            }),
+            Files::Two(_, _) => None,
+        }
+    }
+
+    // What a command with these files and options asks for.
+    pub fn asked(self, command: Command) -> Option<Asked>
+        ensures { result ≡ asked_once command (slots self) }
+    {
+        match command {
+            Command::Blif => Some(Asked::Blif(self.source(self.one_file()?))),
+            Command::C => Some(Asked::C(self.source(self.one_file()?))),
+            Command::Grc => Some(Asked::Grc(self.source(self.one_file()?))),
+            Command::Check => Some(Asked::Check(self.source(self.one_file()?))),
+            Command::Run => {
+                let (file, trace) = self.two_files()?;
+                Some(Asked::Run(self.via?, self.source(file), trace))
+            }
+            Command::Exec => {
+                let (text, trace) = self.two_files()?;
+                Some(Asked::Exec(self.via?, text, trace))
+            }
+            Command::Gen => match self.files {
+                Files::None => Some(Asked::Gen(self.start?, self.branches?, self.run)),
+                Files::One(_) | Files::Two(_, _) => None,
+            },
+        }
+    }
+
+    fn one_file(self) -> Option<usize>
+        ensures { result ≡ only_file self.files }
+    {
+        match self.files {
+            Files::One(file) => Some(file),
+            Files::None | Files::Two(_, _) => None,
+        }
+    }
+
+    fn two_files(self) -> Option<(usize, usize)>
+        ensures { result ≡ both_files self.files }
+    {
+        match self.files {
+            Files::Two(first, second) => Some((first, second)),
+            Files::None | Files::One(_) => None,
+        }
+    }
+
+    fn source(self, file: usize) -> Source
+        ensures { result ≡ source (slots self) file }
+    {
+        Source {
+            file,
+            main: self.main,
+            pick: self.pick.unwrap_or(Pick::First),
+        }
+    }
+}

@@ -1,0 +1,15 @@
+//! The words of the command line of `cec`, and what they ask for.
+//!
+//! The first word is a command, or `--help` alone. The other words are read from the left: options, as
+//! `--name value` or `--name=value`, and files, in any order. `read_words` answers what the words ask
+//! for, with files and values by their places among the words. It takes no memory.
+#![tactic(auto)]
+
+mod asked;
+mod given;
+mod numbers;
+mod reading;
+mod steps;
+
+pub use asked::{Asked, Pick, Source, Value, Via};
+pub use reading::read_words;

@@ -1,0 +1,208 @@
+// What one word says.
+
+ghost use Rattle.std.specs.Prelude.{◌≡◌, IfSome};
+ghost use Rattle.cec_words.specs.Commands.{command_of, options, option_name, spelling_of, named, is_plain, via_of};
+ghost use Rattle.cec_words.specs.Commands.{pick_of, part_of, step_of};
+ghost use Rattle.cec_words.specs.Spellings.{IsWithin};
+
+use crate::asked::{Pick, Value, Via};
+use crate::numbers::number;
+
+// A command other than `--help`.
+#[derive(Clone, Copy)]
+pub enum Command {
+    Blif,
+    C,
+    Grc,
+    Check,
+    Run,
+    Exec,
+    Gen,
+}
+
+// An option of a command.
+#[derive(Clone, Copy)]
+pub enum Setting {
+    Via,
+    Main,
+    Pick,
+    Start,
+    Branches,
+    Run,
+}
+
+// How a word spells an option: bare, with the value in the next word, or with the value from this
+// byte on.
+#[derive(Clone, Copy)]
+pub enum Spelling {
+    Bare(Setting),
+    Valued(Setting, usize),
+}
+
+// A part of the words behind the command: a file, or an option with its value.
+#[derive(Clone, Copy)]
+pub enum Part {
+    File(usize),
+    Via(Via),
+    Main(Value),
+    Pick(Pick),
+    Start(u64),
+    Branches(u32),
+    Run(u32),
+}
+
+// What a word does: it makes an option wait for its value, or it ends a part.
+#[derive(Clone, Copy)]
+pub enum Step {
+    Waits(Setting),
+    Ends(Part),
+}
+
+const MOST_BRANCHES: u64 = 400;
+
+const MOST_INSTANTS: u64 = 100_000;
+
+pub fn command_of(word: &[u8]) -> Option<Command>
+    ensures { result ≡ command_of word.now }
+{
+    match word {
+        b"blif" => Some(Command::Blif),
+        b"c" => Some(Command::C),
+        b"grc" => Some(Command::Grc),
+        b"check" => Some(Command::Check),
+        b"run" => Some(Command::Run),
+        b"exec" => Some(Command::Exec),
+        b"gen" => Some(Command::Gen),
+        _ => None,
+    }
+}
+
+// The step of the word at this place, where `waiting` is an option without its value.
+pub fn step_of(command: Command, waiting: Option<Setting>, at: usize, word: &[u8]) -> Option<Step>
+    ensures { result ≡ step_of command waiting at word.now }
+{
+    if let Some(setting) = waiting {
+        if !is_plain(word) {
+            return None;
+        }
+        let part = part_of(setting, Value { word: at, start: 0 }, word)?;
+        return Some(Step::Ends(part));
+    }
+    if is_plain(word) {
+        return Some(Step::Ends(Part::File(at)));
+    }
+    match named(options(command), word)? {
+        Spelling::Bare(setting) => Some(Step::Waits(setting)),
+        Spelling::Valued(setting, start) => {
+            let part = part_of(setting, Value { word: at, start }, &word[start..])?;
+            Some(Step::Ends(part))
+        }
+    }
+}
+
+// Whether a word is a file or a value: it is not empty and does not begin with `-`.
+fn is_plain(word: &[u8]) -> bool
+    ensures { result ≡ is_plain word.now }
+{
+    match word.first() {
+        Some(byte) => *byte != b'-',
+        None => false,
+    }
+}
+
+// The options of a command.
+fn options(command: Command) -> &'static [Setting]
+    ensures { result.now ≡ options command }
+{
+    match command {
+        Command::Blif | Command::C => &[Setting::Main, Setting::Pick],
+        Command::Grc | Command::Check => &[Setting::Main],
+        Command::Run => &[Setting::Via, Setting::Main, Setting::Pick],
+        Command::Exec => &[Setting::Via],
+        Command::Gen => &[Setting::Start, Setting::Branches, Setting::Run],
+    }
+}
+
+// The name of an option.
+fn option_name(setting: Setting) -> &'static [u8]
+    ensures { result.now ≡ option_name setting }
+{
+    match setting {
+        Setting::Via => b"--via",
+        Setting::Main => b"--main",
+        Setting::Pick => b"--pick",
+        Setting::Start => b"--start",
+        Setting::Branches => b"--branches",
+        Setting::Run => b"--run",
+    }
+}
+
+// The first of the options that a word spells.
+fn named(options: &[Setting], word: &[u8]) -> Option<Spelling>
+    ensures spelling { result ≡ named options.now word.now }
+    ensures within { IfSome result (IsWithin word.now) }
+{
+    for setting in options {
+        if let Some(spelling) = spelling_of(*setting, word) {
+            return Some(spelling);
+        }
+    }
+    None
+}
+
+// How a word spells an option, if it does.
+fn spelling_of(setting: Setting, word: &[u8]) -> Option<Spelling>
+    ensures spelling { result ≡ spelling_of setting word.now }
+    ensures within { IfSome result (IsWithin word.now) }
+{
+    let name = option_name(setting);
+    let length = name.len();
+    if word == name {
+        return Some(Spelling::Bare(setting));
+    }
+    if word.len() > length + 1 && &word[..length] == name && word[length] == b'=' {
+        return Some(Spelling::Valued(setting, length + 1));
+    }
+    None
+}
+
+// The part that an option and its value make, if the value has a meaning.
+fn part_of(setting: Setting, value: Value, bytes: &[u8]) -> Option<Part>
+    ensures { result ≡ part_of setting value bytes.now }
+{
+    match setting {
+        Setting::Main => Some(Part::Main(value)),
+        Setting::Via => via_of(bytes).map(Part::Via),
+        Setting::Pick => pick_of(bytes).map(Part::Pick),
+        Setting::Start => number(bytes).map(Part::Start),
+        Setting::Branches => match number(bytes)? {
+            0 => None,
+            branches if branches <= MOST_BRANCHES => Some(Part::Branches(branches as u32)),
+            _ => None,
+        },
+        Setting::Run => match number(bytes)? {
+            instants if instants <= MOST_INSTANTS => Some(Part::Run(instants as u32)),
+            _ => None,
+        },
+    }
+}
+
+fn via_of(bytes: &[u8]) -> Option<Via>
+    ensures { result ≡ via_of bytes.now }
+{
+    match bytes {
+        b"blif" => Some(Via::Blif),
+        b"c" => Some(Via::C),
+        _ => None,
+    }
+}
+
+fn pick_of(bytes: &[u8]) -> Option<Pick>
+    ensures { result ≡ pick_of bytes.now }
+{
+    match bytes {
+        b"first" => Some(Pick::First),
+        b"last" => Some(Pick::Last),
+        _ => number(bytes).map(Pick::Drawn),
+    }
+}

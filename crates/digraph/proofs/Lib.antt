@@ -1,0 +1,5 @@
+mod Linking
+mod Searching
+mod Steps
+mod Ends
+pub mod Rising

@@ -1,0 +1,36 @@
+use Rattle.std.proofs.Common.{◌≡◌, ◌++◌, ◌+◌, ◌*◌, ◌<◌, length, map, vec_len}
+use Rattle.est_ast.specs.declared.tokens.Reserved.TheVariants as words
+use Rattle.est_ast.specs.Trees.{And, Or}
+use Rattle.est_ast.specs.Views.{expr_of}
+use Rattle.est_parse.specs.Parts.{expr_list}
+use Rattle.est_parse.specs.Reading.{neg, conj, expr, expr_step, exprs_inside}
+use Rattle.read_rules.specs.Readings.{mapped, loop}
+use Rattle.est_parse.proofs.expressions.+expressions.Given as goal
+
+abbrev pub decreases-read_neg : goal.decreases-read_neg
+decreases-read_neg l = l.room * 4
+
+abbrev pub decreases-read_conj : goal.decreases-read_conj
+decreases-read_conj l = l.room * 4 + 1
+
+abbrev pub decreases-read_expr : goal.decreases-read_expr
+decreases-read_expr l = l.room * 4 + 2
+
+-- What was read so far, in front of the steps on the rest, is the whole.
+abbrev pub invariant-read_expr-loop-behind : goal.invariant-read_expr-loop-behind
+invariant-read_expr-loop-behind l = record {
+  some : 0 < vec_len l.parts;
+  whole : mapped (λ others. expr_list Or (map expr_of l.parts.items ++ others)) (loop (expr_step words.Or (conj l.room (exprs_inside l.room)))) l.rest ≡ expr l.room l.tokens;
+}
+
+abbrev pub decreases-read_expr-loop-behind : goal.decreases-read_expr-loop-behind
+decreases-read_expr-loop-behind l = length l.rest
+
+abbrev pub invariant-read_conj-loop-behind : goal.invariant-read_conj-loop-behind
+invariant-read_conj-loop-behind l = record {
+  some : 0 < vec_len l.parts;
+  whole : mapped (λ others. expr_list And (map expr_of l.parts.items ++ others)) (loop (expr_step words.And (neg l.room (exprs_inside l.room)))) l.rest ≡ conj l.room (exprs_inside l.room) l.tokens;
+}
+
+abbrev pub decreases-read_conj-loop-behind : goal.decreases-read_conj-loop-behind
+decreases-read_conj-loop-behind l = length l.rest

@@ -1,0 +1,163 @@
+// What the next token begins.
+
+ghost use Rattle.std.specs.Prelude.{◌≡◌, Some, None, is_some, MatchOption};
+ghost use Rattle.est_parse.specs.Openings.{opening, factor, event_start, declaration, factor_of, event_of};
+ghost use Rattle.read_rules.specs.Readings.{picked};
+
+use est_ast::{Kind, Mark, Reserved, Token};
+use est_base::{Span, Text};
+use read_rules::first;
+
+// What begins an item. All but the flat ones have room for a statement or a case, or stand before a
+// word that has.
+#[derive(Clone, Copy, Debug, PartialEq, Eq)]
+pub enum Opening {
+    Flat(Flat),
+    Await,
+    Present,
+    Block(Block),
+}
+
+// What begins an item without a statement in it.
+#[derive(Clone, Copy, Debug, PartialEq, Eq)]
+pub enum Flat {
+    Nothing,
+    Pause,
+    Halt,
+    Emit,
+    Sustain,
+    Exit,
+    Run,
+}
+
+// What begins an item with a statement in it that stands always.
+#[derive(Clone, Copy, Debug, PartialEq, Eq)]
+pub enum Block {
+    Group,
+    Loop,
+    Every,
+    Repeat,
+    Positive,
+    Abort,
+    Weak,
+    Suspend,
+    Trap,
+    Signal,
+}
+
+// What begins a part of a test.
+#[derive(Clone, Copy, Debug, Drop)]
+pub enum Factor<'a> {
+    Not,
+    Round,
+    Square,
+    Tick(Span),
+    Name(&'a Text, Span),
+}
+
+// What begins an event.
+#[derive(Clone, Copy, Debug, Drop)]
+pub enum Event<'a> {
+    Square,
+    Tick(Span),
+    Name(&'a Text, Span),
+}
+
+// What begins a declaration.
+#[derive(Clone, Copy, Debug, PartialEq, Eq)]
+pub enum Declaration {
+    Input,
+    InputOutput,
+    Output,
+    Relation,
+}
+
+// What begins an item with the next token, and the tokens behind it.
+pub fn past_opening(tokens: &[Token]) -> Option<(Opening, &[Token])>
+    ensures { MatchOption result
+        (picked opening tokens.now ≡ None)
+        (λ found. picked opening tokens.now ≡ Some (found.0, found.1.now)) }
+{
+    let (token, rest) = first(tokens)?;
+    let opening = match token.kind {
+        Kind::Reserved(Reserved::Nothing) => Opening::Flat(Flat::Nothing),
+        Kind::Reserved(Reserved::Pause) => Opening::Flat(Flat::Pause),
+        Kind::Reserved(Reserved::Halt) => Opening::Flat(Flat::Halt),
+        Kind::Reserved(Reserved::Emit) => Opening::Flat(Flat::Emit),
+        Kind::Reserved(Reserved::Sustain) => Opening::Flat(Flat::Sustain),
+        Kind::Reserved(Reserved::Exit) => Opening::Flat(Flat::Exit),
+        Kind::Reserved(Reserved::Run) => Opening::Flat(Flat::Run),
+        Kind::Mark(Mark::LeftBracket) => Opening::Block(Block::Group),
+        Kind::Reserved(Reserved::Await) => Opening::Await,
+        Kind::Reserved(Reserved::Present) => Opening::Present,
+        Kind::Reserved(Reserved::Loop) => Opening::Block(Block::Loop),
+        Kind::Reserved(Reserved::Every) => Opening::Block(Block::Every),
+        Kind::Reserved(Reserved::Repeat) => Opening::Block(Block::Repeat),
+        Kind::Reserved(Reserved::Positive) => Opening::Block(Block::Positive),
+        Kind::Reserved(Reserved::Abort) => Opening::Block(Block::Abort),
+        Kind::Reserved(Reserved::Weak) => Opening::Block(Block::Weak),
+        Kind::Reserved(Reserved::Suspend) => Opening::Block(Block::Suspend),
+        Kind::Reserved(Reserved::Trap) => Opening::Block(Block::Trap),
+        Kind::Reserved(Reserved::Signal) => Opening::Block(Block::Signal),
+        _ => return None,
+    };
+    Some((opening, rest))
+}
+
+// Whether an item begins here.
+pub fn is_item_next(tokens: &[Token]) -> bool
+    ensures { result ≡ is_some (picked opening tokens.now) }
+{
+    past_opening(tokens).is_some()
+}
+
+// What begins a part of a test with the next token, and the tokens behind it.
+pub fn past_factor(tokens: &[Token]) -> Option<(Factor<'_>, &[Token])>
+    ensures { MatchOption result
+        (picked factor tokens.now ≡ None)
+        (λ found. picked factor tokens.now ≡ Some (factor_of found.0, found.1.now)) }
+{
+    let (token, rest) = first(tokens)?;
+    let factor = match &token.kind {
+        Kind::Reserved(Reserved::Not) => Factor::Not,
+        Kind::Mark(Mark::LeftParenthesis) => Factor::Round,
+        Kind::Mark(Mark::LeftBracket) => Factor::Square,
+        Kind::Reserved(Reserved::Tick) => Factor::Tick(token.span),
+        Kind::Ident(text) => Factor::Name(text, token.span),
+        _ => return None,
+    };
+    Some((factor, rest))
+}
+
+// What begins an event with the next token, and the tokens behind it.
+pub fn past_event(tokens: &[Token]) -> Option<(Event<'_>, &[Token])>
+    ensures { MatchOption result
+        (picked event_start tokens.now ≡ None)
+        (λ found. picked event_start tokens.now ≡ Some (event_of found.0, found.1.now)) }
+{
+    let (token, rest) = first(tokens)?;
+    let event = match &token.kind {
+        Kind::Mark(Mark::LeftBracket) => Event::Square,
+        Kind::Reserved(Reserved::Tick) => Event::Tick(token.span),
+        Kind::Ident(text) => Event::Name(text, token.span),
+        _ => return None,
+    };
+    Some((event, rest))
+}
+
+// What begins a declaration with the next token, and the tokens behind it.
+pub fn past_declaration(tokens: &[Token]) -> Option<(Declaration, &[Token])>
+    ensures { MatchOption result
+        (picked declaration tokens.now ≡ None)
+        (λ found. picked declaration tokens.now ≡ Some (found.0, found.1.now)) }
+{
+    let (token, rest) = first(tokens)?;
+    let declaration = match token.kind {
+        Kind::Reserved(Reserved::Input) => Declaration::Input,
+        Kind::Reserved(Reserved::InputOutput) => Declaration::InputOutput,
+        Kind::Reserved(Reserved::Output) => Declaration::Output,
+        Kind::Reserved(Reserved::Relation) => Declaration::Relation,
+        _ => return None,
+    };
+    Some((declaration, rest))
+}

@@ -1,0 +1,62 @@
+-- To believe: the plain form of a graph: its wires, nodes and formulas by name. A number of an instance or of a wire is
+-- read through the list of instances or of wires; a number that is out of range, which no graph has, is read as the
+-- body's resumed instance or its `go`.
+use Rattle.std.specs.Prelude.{ℕ, Bool, false, List, [], ◌∷◌, map, slice_index_or}
+use Rattle.est_kernel.specs.Plain.{Program, program_of, interface_of, interface_count}
+use Rattle.grc_graph.specs.declared.formulas.Formula.{Formula}
+use Rattle.grc_graph.specs.declared.formulas.Formula.TheVariants as formulas
+use Rattle.grc_graph.specs.declared.wires.Wire.{Wire}
+use Rattle.grc_graph.specs.declared.wires.Wire.TheVariants as wires
+use Rattle.grc_graph.specs.declared.wires.Node.{Node}
+use Rattle.grc_graph.specs.declared.wires.Node.TheVariants as nodes
+use Rattle.grc_graph.specs.Layers.{Resumed}
+use Rattle.grc_graph.specs.Instances.{Instance}
+use Rattle.grc_graph.specs.Wires as plain
+use Rattle.grc_graph.specs.Nodes as plain_nodes
+use Rattle.grc_graph.specs.Formulas as plain_formulas
+use Rattle.std.specs.Prelude.{Option, Some}
+
+-- the instance with a number
+abbrev pub instance_at : List Instance → ℕ → Instance
+instance_at insts i = slice_index_or insts i (record { path = 0; layer = Resumed })
+
+-- a wire by name
+abbrev pub wire_of : List Instance → Wire → plain.Wire
+wire_of insts (wires.Go i) = plain.Go (instance_at insts i.0).path (instance_at insts i.0).layer
+wire_of insts (wires.End i k) = plain.End (instance_at insts i.0).path (instance_at insts i.0).layer k
+wire_of insts (wires.Local i) = plain.StatusOf (instance_at insts i.0).path (instance_at insts i.0).layer
+wire_of insts (wires.Out s) = plain.Out s.0
+
+-- the wire with a number
+abbrev pub wire_at : List plain.Wire → ℕ → plain.Wire
+wire_at names w = slice_index_or names w (plain.Go 0 Resumed)
+
+-- a formula by names
+abbrev pub formula_of : List Instance → List plain.Wire → Formula → plain_formulas.Formula
+formula_of insts names (formulas.Const b) = plain_formulas.Const b
+formula_of insts names formulas.Boot = plain_formulas.Boot
+formula_of insts names (formulas.Input s) = plain_formulas.Input s.0
+formula_of insts names (formulas.Wire w) = plain_formulas.Value (wire_at names w.0)
+formula_of insts names (formulas.Selected p) = plain_formulas.Selected p.0
+formula_of insts names (formulas.Upto i k) = plain_formulas.Upto (instance_at insts i.0).path (instance_at insts i.0).layer k
+formula_of insts names (formulas.Kept i) = plain_formulas.Kept (instance_at insts i.0).path (instance_at insts i.0).layer
+formula_of insts names (formulas.Held i) = plain_formulas.Held (instance_at insts i.0).path (instance_at insts i.0).layer
+formula_of insts names (formulas.Not' _ a) = plain_formulas.Negation (formula_of insts names a)
+formula_of insts names (formulas.And' _ a _ b) = plain_formulas.Conjunction (formula_of insts names a) (formula_of insts names b)
+formula_of insts names (formulas.Or' _ a _ b) = plain_formulas.Disjunction (formula_of insts names a) (formula_of insts names b)
+formula_of insts names (formulas.AnyOf v) = plain_formulas.any_of (map (λ w. plain_formulas.Value (wire_at names w.0)) v.items)
+
+-- a node by names
+abbrev pub node_of : List Instance → List plain.Wire → Node → plain_nodes.Node
+node_of insts names (nodes.Fork i j) =
+    plain_nodes.Fork (instance_at insts i.0).path (instance_at insts j.0).path (instance_at insts i.0).layer
+node_of insts names (nodes.Sync i) = plain_nodes.Sync (instance_at insts i.0).path (instance_at insts i.0).layer
+node_of insts names (nodes.Switch i) = plain_nodes.Switch (instance_at insts i.0).path (instance_at insts i.0).layer
+node_of insts names (nodes.Test i) = plain_nodes.Tested (instance_at insts i.0).path (instance_at insts i.0).layer
+node_of insts names (nodes.Enter i) = plain_nodes.Enter (instance_at insts i.0).path (instance_at insts i.0).layer
+node_of insts names (nodes.Emit i w) =
+    plain_nodes.Emission (instance_at insts i.0).path (instance_at insts i.0).layer (Some (wire_at names w.0))
+node_of insts names (nodes.Define i w) =
+    plain_nodes.Definition (instance_at insts i.0).path (instance_at insts i.0).layer (wire_at names w.0)
+node_of insts names (nodes.Exit i k) = plain_nodes.Leave (instance_at insts i.0).path (instance_at insts i.0).layer k
+node_of insts names (nodes.Through i) = plain_nodes.Through (instance_at insts i.0).path (instance_at insts i.0).layer

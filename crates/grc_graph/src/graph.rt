@@ -1,0 +1,73 @@
+// The graph of a kernel program.
+
+ghost use Rattle.grc_graph.specs.GraphShapes.{IndicesFit};
+ghost use Rattle.std.specs.Prelude.{length};
+
+use crate::formulas::Formula;
+use crate::instances::Instances;
+use crate::wires::{Node, Wire};
+use est_base::{InstId, WireId};
+use est_kernel::KernelProgram;
+
+/// The graph of a kernel program: a node per live instance, an equation per wire, and a formula per
+/// leaf of the selection tree, which says whether the leaf is selected in the next instant. Each
+/// index in it is in range.
+#[derive(Debug, Drop)]
+pub struct Graph {
+    pub program: KernelProgram,
+    pub instances: Instances,
+    pub nodes: Vec<Node>,
+    pub wires: Vec<Wire>,
+    pub equations: Vec<Formula>,
+    pub next: Vec<Formula>,
+    ghost indices: { IndicesFit (length instances.list.items) wires.items nodes.items equations.items next.items },
+}
+
+impl Graph {
+    ghost use Rattle.std.specs.Prelude.{◌≡◌, ◌<◌, slice_get, Some};
+
+    /// The wires by number. It takes no memory.
+    pub fn wires(&self) -> &[Wire]
+        ensures { result.now ≡ self.now.wires.items }
+    {
+        self.wires.as_slice()
+    }
+
+    /// The program that the graph was built of. It takes no memory.
+    pub fn program(&self) -> &KernelProgram
+        ensures { result.now ≡ self.now.program }
+    {
+        &self.program
+    }
+
+    /// The live instances of the program's body. It takes no memory.
+    pub fn instances(&self) -> &Instances
+        ensures { result.now ≡ self.now.instances }
+    {
+        &self.instances
+    }
+
+    /// The node of an instance. It takes no memory.
+    pub fn node_of(&self, i: InstId) -> Node
+        requires { i.0 < length self.now.instances.list.items }
+        ensures { slice_get self.now.nodes.items i.0 ≡ Some result }
+    {
+        self.nodes[i.0 as usize]
+    }
+
+    /// The formula of a wire. It takes no memory.
+    pub fn equation(&self, w: WireId) -> &Formula
+        requires { w.0 < length self.now.wires.items }
+        ensures { slice_get self.now.equations.items w.0 ≡ Some result.now }
+    {
+        &self.equations[w.0 as usize]
+    }
+
+    /// The formula that says whether a leaf is selected in the next instant. It takes no memory.
+    pub fn next(&self, leaf: u32) -> &Formula
+        requires { leaf < length self.now.next.items }
+        ensures { slice_get self.now.next.items leaf ≡ Some result.now }
+    {
+        &self.next[leaf as usize]
+    }
+}

@@ -1,0 +1,24 @@
+// The laws of live instances and of states. Each call does nothing: its contract is the law.
+
+ghost use Rattle.grc_graph.specs.InstanceLaws.{InstancesAscend, EnclosingAreLive, LeavesAreResumedPauses, ResidualHasResumedCodes};
+
+/// Each live instance of a body stands once in its list, and they stand in order.
+pub fn instances_ascend()
+    ensures { InstancesAscend }
+{}
+
+/// The instance of each statement around a live instance, as seen from it, is live: so it is of every
+/// enclosing parallel, and of the binder of every visible local signal.
+pub fn enclosing_instances_are_live()
+    ensures { EnclosingAreLive }
+{}
+
+/// The leaves of a body's selection tree are the pauses whose resumed instance is live, in order.
+pub fn leaves_are_resumed_pauses()
+    ensures { LeavesAreResumedPauses }
+{}
+
+/// What is left of a body in a state can complete only with codes that the body has when it is resumed.
+pub fn residual_has_resumed_codes()
+    ensures { ResidualHasResumedCodes }
+{}

@@ -1,0 +1,97 @@
+// Wires placed one by one, each when all wires that have an edge to it are placed.
+
+ghost use Rattle.std.specs.Prelude.{◌≡◌, ℕ, ◌+◌, ◌<◌, [], length, slice_index, IfOk, OnOk};
+ghost use Rattle.grc_order.specs.Schedules.{IsScheduleOf, IsReadyOf, arrivals, edges_from};
+
+use crate::edge_runs::edges_from;
+use crate::picking::Picker;
+use est_base::{NoMemory, WireId};
+use grc_graph::Edges;
+use std::alloc::{AllocError, Global};
+
+#[derive(Drop)]
+pub struct Schedule {
+    // For each wire, how many edges lead to it from wires that are not placed.
+    pub waiting: Vec<usize>,
+    // The wires that are not placed and wait for none.
+    pub ready: Vec<WireId>,
+    pub placed: Vec<WireId>,
+}
+
+impl Schedule {
+    // A schedule in which no wire is placed.
+    pub fn new(alloc: Global, edges: &Edges) -> Result<Schedule, NoMemory>
+        ensures schedule { IfOk result (λ s. IsScheduleOf edges.now [] s) }
+        ensures empty { IfOk result (λ s. s.placed.items ≡ []) }
+    {
+        let waiting = arrival_counts(alloc, edges)?;
+        let ready = wires_that_wait_for_none(alloc, edges.count, &waiting)?;
+        let placed = Vec::with_capacity(alloc, edges.count as usize)?;
+        Ok(Schedule {
+            waiting,
+            ready,
+            placed,
+        })
+    }
+
+    // Places the ready wire that the picker chooses.
+    pub fn place_next<P: Picker>(&mut self, edges: &Edges, picker: &mut P) -> Result<(), AllocError>
+        requires schedule { IsScheduleOf edges.now [] self.old }
+        requires some_ready { 0 < length self.old.ready.items }
+        ensures schedule { OnOk result (IsScheduleOf edges.now [] self.new) }
+        ensures longer { OnOk result (length self.new.placed.items ≡ length self.old.placed.items + 1) }
+    {
+        let place = picker.pick(&self.ready) % self.ready.len();
+        let wire = self.ready.swap_remove(place);
+        self.placed.push(wire)?;
+        self.release(edges, wire)
+    }
+
+    // Takes the edges from a wire, which is placed, off those that other wires wait for.
+    fn release(&mut self, edges: &Edges, wire: WireId) -> Result<(), AllocError>
+        requires { IsScheduleOf edges.now (edges_from wire.0 edges.now.pairs.items) self.old }
+        ensures schedule { OnOk result (IsScheduleOf edges.now [] self.new) }
+        ensures placed { OnOk result (self.new.placed.items ≡ self.old.placed.items) }
+    {
+        for edge in edges_from(edges, wire) {
+            let to = edge.1;
+            let left = self.waiting[to.0 as usize] - 1;
+            self.waiting[to.0 as usize] = left;
+            if left == 0 {
+                self.ready.push(to)?;
+            }
+        }
+        Ok(())
+    }
+}
+
+// How many edges lead to each wire.
+fn arrival_counts(alloc: Global, edges: &Edges) -> Result<Vec<usize>, AllocError>
+    ensures each { IfOk result (λ counts. length counts.items ≡ edges.now.count) }
+    ensures counts { IfOk result (λ counts. (w : ℕ) → w < edges.now.count
+        → slice_index counts.items w ≡ arrivals edges.now.pairs.items w) }
+{
+    let mut counts = vec![in alloc; 0usize; edges.count as usize]?;
+    for edge in &edges.pairs {
+        counts[edge.1.0 as usize] += 1;
+    }
+    Ok(counts)
+}
+
+// The wires that wait for none.
+fn wires_that_wait_for_none(
+    alloc: Global,
+    count: u32,
+    waiting: &[usize],
+) -> Result<Vec<WireId>, AllocError>
+    requires { length waiting.now ≡ count }
+    ensures { IfOk result (λ ready. IsReadyOf waiting.now ready.items) }
+{
+    let mut ready = Vec::new(alloc);
+    for wire in 0..count {
+        if waiting[wire as usize] == 0 {
+            ready.push(WireId(wire))?;
+        }
+    }
+    Ok(ready)
+}

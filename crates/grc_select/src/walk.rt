@@ -1,0 +1,145 @@
+// The walk over a body that lists the nodes of its selection tree.
+
+ghost use Rattle.std.specs.Prelude.{◌≡◌, ◌+◌, ◌<◌, ◌≤◌, ◌^◌, ◌&&◌, ◌||◌, length, map, IfOk};
+ghost use Rattle.est_kernel.specs.CodeLists.{AreCodesOf};
+ghost use Rattle.est_kernel.specs.Plain.{term_of};
+ghost use Rattle.est_kernel.specs.Preorder.{statement_count};
+ghost use Rattle.est_kernel.specs.StaticCodes.{has_code};
+ghost use Rattle.est_kernel.specs.WellFormed.{KeepsLimits};
+ghost use Rattle.grc_graph.specs.CodeTables.{CodesFrom, set_at};
+ghost use Rattle.grc_graph.specs.SelectionTrees.{body_tree, body_leaves};
+ghost use Rattle.grc_graph.specs.TreeForms.{node_of};
+ghost use Rattle.grc_select.specs.Growing.{Grows};
+
+use crate::nodes::{Lists, Place, close_node, open_node, push_leaf};
+use est_base::NoMemory;
+use est_kernel::{Codes, Kernel};
+use grc_graph::{SelForm, SelTree, has_some_code, resumed_codes, started_codes};
+use std::alloc::Global;
+
+/// The selection tree of the body; `codes` are the body's static codes.
+pub fn select(alloc: Global, body: &Kernel, codes: &Codes) -> Result<SelTree, NoMemory>
+    requires limits { KeepsLimits (term_of body.now) }
+    requires codes { AreCodesOf codes.now (term_of body.now) }
+    ensures nodes { IfOk result (λ tree. map node_of tree.nodes.items ≡ body_tree (term_of body.now)) }
+    ensures leaves { IfOk result (λ tree. tree.leaves ≡ length (body_leaves (term_of body.now))) }
+{
+    let mut lists = Lists {
+        nodes: Vec::new(alloc),
+        leaves: 0,
+    };
+    let live = has_some_code(resumed_codes(codes, 0));
+    let _ = select_part(body, Place { path: 0, live }, codes, &mut lists)?;
+    Ok(SelTree {
+        nodes: lists.nodes,
+        leaves: lists.leaves,
+    })
+}
+
+// Appends the nodes of the statement and of all in it, and answers the number behind them.
+fn select_part(body: &Kernel, at: Place, codes: &Codes, lists: &mut Lists) -> Result<u32, NoMemory>
+    requires codes { CodesFrom codes.now (term_of body.now) at.path }
+    requires paths { at.path + statement_count (term_of body.now) < 2 ^ 32 }
+    requires places { length lists.old.nodes.items + statement_count (term_of body.now) < 2 ^ 32 }
+    requires leaves { lists.old.leaves + statement_count (term_of body.now) < 2 ^ 32 }
+    ensures after { IfOk result (λ after. after ≡ at.path + statement_count (term_of body.now)) }
+    ensures grown { IfOk result (λ after. Grows lists.old lists.new at.live (term_of body.now) at.path) }
+    ensures few { IfOk result (λ after. length lists.new.nodes.items
+        ≤ length lists.old.nodes.items + statement_count (term_of body.now)) }
+    ensures few_leaves { IfOk result (λ after. lists.new.leaves ≤ lists.old.leaves + statement_count (term_of body.now)) }
+    ensures kept { IfOk result (λ after. length lists.old.nodes.items ≤ length lists.new.nodes.items) }
+{
+    match body {
+        Kernel::Nothing => Ok(at.path + 1),
+        Kernel::Emit(_) => Ok(at.path + 1),
+        Kernel::Exit(_) => Ok(at.path + 1),
+        Kernel::Pause => {
+            push_leaf(lists, at)?;
+            Ok(at.path + 1)
+        }
+        Kernel::Present(_, yes, no) => {
+            let place = open_node(lists, at, SelForm::Excl)?;
+            let next = select_part(yes, part_place(at, at.path + 1, codes), codes, lists)?;
+            let after = select_part(no, part_place(at, next, codes), codes, lists)?;
+            close_node(lists, place, at, SelForm::Excl);
+            Ok(after)
+        }
+        Kernel::Suspend(_, part) => {
+            let place = open_node(lists, at, SelForm::Pass)?;
+            let after = select_part(part, part_place(at, at.path + 1, codes), codes, lists)?;
+            close_node(lists, place, at, SelForm::Pass);
+            Ok(after)
+        }
+        Kernel::Seq(first, second) => {
+            let place = open_node(lists, at, SelForm::Excl)?;
+            let next = select_part(first, part_place(at, at.path + 1, codes), codes, lists)?;
+            let after = select_part(second, second_place(at, next, codes), codes, lists)?;
+            close_node(lists, place, at, SelForm::Excl);
+            Ok(after)
+        }
+        Kernel::Loop(_, part) => {
+            let place = open_node(lists, at, SelForm::Pass)?;
+            let after = select_part(part, part_place(at, at.path + 1, codes), codes, lists)?;
+            close_node(lists, place, at, SelForm::Pass);
+            Ok(after)
+        }
+        Kernel::Par(left, right) => {
+            let first = can_pass(codes, at.path + 1);
+            let place = open_node(lists, at, SelForm::Par(false, false))?;
+            let next = select_part(left, part_place(at, at.path + 1, codes), codes, lists)?;
+            let after = select_part(right, part_place(at, next, codes), codes, lists)?;
+            close_node(lists, place, at, SelForm::Par(first, can_pass(codes, next)));
+            Ok(after)
+        }
+        Kernel::Trap(part) => {
+            let place = open_node(lists, at, SelForm::Pass)?;
+            let after = select_part(part, part_place(at, at.path + 1, codes), codes, lists)?;
+            close_node(lists, place, at, SelForm::Pass);
+            Ok(after)
+        }
+        Kernel::Local(_, part) => {
+            let place = open_node(lists, at, SelForm::Pass)?;
+            let after = select_part(part, part_place(at, at.path + 1, codes), codes, lists)?;
+            close_node(lists, place, at, SelForm::Pass);
+            Ok(after)
+        }
+    }
+}
+
+// Whether the statement with this number can ever terminate.
+fn can_pass(codes: &Codes, path: u32) -> bool
+    requires started { path < length codes.now.started.items }
+    requires resumed { path < length codes.now.resumed.items }
+    ensures { result ≡ (set_at codes.now.started.items path 0 || set_at codes.now.resumed.items path 0) }
+{
+    started_codes(codes, path)
+        .union(resumed_codes(codes, path))
+        .has(0)
+}
+
+// A part with this number.
+fn part_place(whole: Place, path: u32, codes: &Codes) -> Place
+    requires { path < length codes.now.resumed.items }
+    ensures path { result.path ≡ path }
+    ensures live { result.live ≡ (whole.live && has_code (set_at codes.now.resumed.items path)) }
+{
+    let live = whole.live && has_some_code(resumed_codes(codes, path));
+    Place { path, live }
+}
+
+// The second part of a sequence, with this number.
+fn second_place(whole: Place, path: u32, codes: &Codes) -> Place
+    requires fits { whole.path + 1 < 2 ^ 32 }
+    requires first_started { whole.path + 1 < length codes.now.started.items }
+    requires first_resumed { whole.path + 1 < length codes.now.resumed.items }
+    requires second_resumed { path < length codes.now.resumed.items }
+    ensures path { result.path ≡ path }
+    ensures live { result.live ≡ (whole.live
+        && ((set_at codes.now.started.items (whole.path + 1) 0 || set_at codes.now.resumed.items (whole.path + 1) 0)
+        && has_code (set_at codes.now.resumed.items path))) }
+{
+    let passes = can_pass(codes, whole.path + 1);
+    let resumes = has_some_code(resumed_codes(codes, path));
+    let live = whole.live && passes && resumes;
+    Place { path, live }
+}

@@ -1,3 +1,0 @@
-//! The theorems on reactions: a graph's solution is the walk of the program, and every reaction of a program
-//! whose dependency relation has no cycle is constructive.
-#![tactic(auto)]
