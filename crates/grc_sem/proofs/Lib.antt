@@ -24,4 +24,6 @@ mod Ways
 mod NextKept
 mod NextStates
 mod Scoped
+mod NextTop
+mod Runs
 mod GraphLaws
