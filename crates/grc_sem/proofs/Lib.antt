@@ -25,5 +25,6 @@ mod NextKept
 mod NextStates
 mod Scoped
 mod NextTop
+mod Premises
 mod Runs
 mod GraphLaws

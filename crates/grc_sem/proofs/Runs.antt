@@ -1,12 +1,13 @@
 -- A run of a graph from the first instant is the run of its program.
-use Rattle.std.proofs.Common.{◌≡◌, ℕ, ◌≤◌, Bool, true, false, ◌&&◌, ◌||◌, ◌==◌, cond, List, [], ◌∷◌, length, map, Option, Some, refl, sym, ap, ◌∙◌, subst, ⊎_elim, arith}
+use Rattle.std.proofs.Common.{◌≡◌, ℕ, ◌≤◌, Bool, true, false, ◌&&◌, ◌||◌, ◌==◌, cond, List, [], ◌∷◌, length, map, Option, Some, None, refl, sym, ap, ◌∙◌, subst, ⊎_elim, arith}
 use Rattle.std.proofs.lemmas.Bool.{and_parts, ne_eqb, cond_both, false≢true, cases_Bool}
 use Rattle.est_base.specs.Items.{Item, Event, Reset, EachEvent}
 use Rattle.est_kernel.specs.Terms.{Term, Nothing, Pause, Emit, Exit, Present, Suspend, Seq, Loop, Par, Trap, Local, Awake}
 use Rattle.est_kernel.specs.StaticCodes.{has_code, resumed_codes, NoInstantLoop}
 use Rattle.est_kernel.specs.Plain.{Program, interface_of, interface_count, outgoing_count, given_count}
-use Rattle.est_kernel.specs.Reactions.{Answer, is_given, react, before, goes_on, run_from}
+use Rattle.est_kernel.specs.Reactions.{Answer, Reaction, is_given, react, before, goes_on, run_from}
 use Rattle.est_kernel.specs.WellFormed.{IsWellFormed}
+use Rattle.est_kernel.specs.WellFormed as programs
 use Rattle.grc_graph.specs.Layers.{Resumed, Started}
 use Rattle.grc_graph.specs.Scopes.{program_scope}
 use Rattle.grc_graph.specs.Wires.{Wire, End}
@@ -18,14 +19,15 @@ use Rattle.grc_graph.specs.Walk.{Values, State, Initial, Selecting, ended, is_in
 use Rattle.grc_graph.specs.Selected.{IsKernel, IsSelected, IsState}
 use Rattle.grc_graph.specs.Readings.{Valuation}
 use Rattle.grc_graph.specs.Coherence.{statuses, StartedWalked, ResumedWalked}
-use Rattle.grc_graph.specs.GraphRuns.{graph_of, program_spots, Solves, shown, next_state, IsGraphRun}
+use Rattle.grc_graph.specs.GraphRuns.{graph_of, program_spots, Solves, Shown, shown, next_state, IsGraphRun}
 use Rattle.grc_sem.specs.GraphWalks.{selected_of, program_values, graph_walk, SelectsLeaves, shown_answer}
-use Rattle.grc_sem.specs.Laws.{NextStateIsKept, GraphRunsAreRuns}
+use Rattle.grc_sem.specs.Laws.{NextStateIsKept, GraphRunsAreRuns, SolutionsReact, SolutionsShowAlike}
 use Rattle.grc_sem.proofs.Residues.{some_has, resumed_live}
 use Rattle.grc_sem.proofs.Kept.{Same, holds_same, residual_same}
 use Rattle.grc_sem.proofs.Told.{started_at, resumed_at}
 use Rattle.grc_sem.proofs.Joint.{statement_at, dead_wire}
 use Rattle.grc_sem.proofs.ReactWalks.{react_held}
+use Rattle.grc_sem.proofs.Premises.{kernel_of, most_of, cap, cap_most, capped}
 use Rattle.grc_sem.proofs.Scoped.{fit_scope}
 use Rattle.grc_sem.proofs.Solutions.{nothing_held, state_reach, top_started, top_resumed, solution_of}
 use Rattle.grc_sem.proofs.NextKept.{one_flip}
@@ -177,6 +179,40 @@ module _ (p : Program) (rank : Wire → ℕ) (most : ℕ) (formed : IsWellFormed
       (one_instant V Vs (shown g V).outputs (graph_walk p q event V).code (run_from (interface_of p) p.body (resumption kept p.body) items) refl (paused_is p kernel nl q event V state leaves r.0) later)
   runs (Reset ∷ items) q Vs state leaves w r = runs items Initial Vs tt tt w r
 
+-- the premises of a program
+program_kernel : (p : Program) → IsWellFormed p → programs.IsKernel p.body → IsKernel p.body
+program_kernel p formed k =
+    kernel_of p.body 0 k formed.body.exits (omega (arith, formed.body.traps))
+
+rank_of : (p : Program) → (Wire → ℕ) → Wire → ℕ
+rank_of p rank = λ w. cap (most_of rank (edges (program_spots p))) (rank w)
+
+rank_up : (p : Program) (rank : Wire → ℕ) → GoUp rank (edges (program_spots p)) → GoUp (rank_of p rank) (edges (program_spots p))
+unfolding rank_of
+rank_up p rank up = capped rank (edges (program_spots p)) up
+
+rank_most : (p : Program) (rank : Wire → ℕ) (w : Wire) → rank_of p rank w ≤ most_of rank (edges (program_spots p))
+unfolding rank_of
+rank_most p rank w = cap_most (most_of rank (edges (program_spots p))) (rank w)
+
+pub solutions_react_lem : SolutionsReact
+solutions_react_lem p q event V rank formed k nl state up width s =
+    reacts p (rank_of p rank) (most_of rank (edges (program_spots p))) formed (program_kernel p formed k) nl (rank_up p rank up) (rank_most p rank) q event V state width s
+
+shown_of : Option Reaction → Shown
+shown_of None = record { outputs = []; paused = false }
+shown_of (Some x) = shown_answer x.answer
+
+pub solutions_show_alike_lem : SolutionsShowAlike
+unfolding shown_of
+solutions_show_alike_lem p q event V W rank formed k nl state leaves up width s t =
+    let kernel = program_kernel p formed k in
+    sym (one V s) ∙ ap shown_of (sym (solutions_react_lem p q event V rank formed k nl state up width s) ∙ solutions_react_lem p q event W rank formed k nl state up width t) ∙ one W t
+  where
+    one : (U : Valuation) → Solves (graph_of p) q event U → shown_answer (record { outputs = (shown (graph_of p) U).outputs; code = (graph_walk p q event U).code }) ≡ shown (graph_of p) U
+    one U u =
+        ap (λ b. record { outputs = (shown (graph_of p) U).outputs; paused = b }) (sym (paused_is p (program_kernel p formed k) nl q event U state leaves u))
+
 pub graph_runs_are_runs_lem : GraphRunsAreRuns
-graph_runs_are_runs_lem p rank most formed kernel nl up bound items w Vs r =
-    runs p rank most formed kernel nl up bound items Initial Vs tt tt w r
+graph_runs_are_runs_lem p rank formed k nl up items w Vs r =
+    runs p (rank_of p rank) (most_of rank (edges (program_spots p))) formed (program_kernel p formed k) nl (rank_up p rank up) (rank_most p rank) items Initial Vs tt tt w r

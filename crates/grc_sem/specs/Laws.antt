@@ -1,10 +1,11 @@
 -- Inner: the laws that tie the equations of a graph to the walk and to the reaction of its program.
-use Rattle.std.specs.Prelude.{◌≡◌, ℕ, ◌≤◌, Bool, true, ◌==◌, List, length, map, Some}
+use Rattle.std.specs.Prelude.{◌≡◌, ℕ, Bool, true, ◌==◌, List, length, map, Some}
 use Rattle.est_base.specs.Items.{Item, EachEvent}
 use Rattle.est_kernel.specs.Plain.{Program, interface_of, given_count}
 use Rattle.est_kernel.specs.Reactions.{Answer, react, run_of}
 use Rattle.est_kernel.specs.StaticCodes.{has_code, resumed_codes, NoInstantLoop}
 use Rattle.est_kernel.specs.WellFormed.{IsWellFormed}
+use Rattle.est_kernel.specs.WellFormed as programs
 use Rattle.grc_graph.specs.Layers.{Started}
 use Rattle.grc_graph.specs.Wires.{Wire}
 use Rattle.grc_graph.specs.Edges.{edges}
@@ -28,15 +29,14 @@ SolutionsAreWalks =
     × (has_code (resumed_codes p.body) ≡ true
     → ResumedWalked V (selected_of q) p.body 0 (program_values p event V) (holds (selected_of q) p.body 0))
 
--- Where further each edge between wires goes up in some rank that is bounded, what the state leaves of the program
--- reacts to the event: the reaction is constructive, the outgoing signals are present as their wires are true, and
--- what is left after it is what the pauses that the walk keeps leave of the body.
+-- Where further each edge between wires goes up in some rank, what the state leaves of the program reacts to the
+-- event: the reaction is constructive, the outgoing signals are present as their wires are true, and what is left
+-- after it is what the pauses that the walk keeps leave of the body.
 abbrev pub SolutionsReact : Type 0
 SolutionsReact =
-    (p : Program) (q : State) (event : List Bool) (V : Valuation) (rank : Wire → ℕ) (most : ℕ)
-    → IsWellFormed p → IsKernel p.body → NoInstantLoop p.body → IsState q p.body
-    → GoUp rank (edges (program_spots p)) → ((w : Wire) → rank w ≤ most)
-    → length event ≡ given_count p → Solves (graph_of p) q event V
+    (p : Program) (q : State) (event : List Bool) (V : Valuation) (rank : Wire → ℕ)
+    → IsWellFormed p → programs.IsKernel p.body → NoInstantLoop p.body → IsState q p.body
+    → GoUp rank (edges (program_spots p)) → length event ≡ given_count p → Solves (graph_of p) q event V
     → react (interface_of p) (remaining q p.body) event
     ≡ Some (record {
       answer = record { outputs = (shown (graph_of p) V).outputs; code = (graph_walk p q event V).code };
@@ -61,13 +61,21 @@ NextStateIsKept =
     × SelectsLeaves (next_state (graph_of p) q event V) p.body
     × ((shown (graph_of p) V).paused ≡ ((graph_walk p q event V).code == 1))
 
--- Where the edges of a program's graph go up in some bounded rank, a run of the graph from the first instant is the
--- run of the program: every reaction is constructive, and what is seen of the answers is what the graph shows.
+-- Where the edges of a program's graph go up in some rank, all solutions in a state and an event show the same.
+abbrev pub SolutionsShowAlike : Type 0
+SolutionsShowAlike =
+    (p : Program) (q : State) (event : List Bool) (V W : Valuation) (rank : Wire → ℕ)
+    → IsWellFormed p → programs.IsKernel p.body → NoInstantLoop p.body → IsState q p.body → SelectsLeaves q p.body
+    → GoUp rank (edges (program_spots p)) → length event ≡ given_count p
+    → Solves (graph_of p) q event V → Solves (graph_of p) q event W
+    → shown (graph_of p) V ≡ shown (graph_of p) W
+
+-- Where they do, a run of the graph from the first instant is the run of the program: every reaction is constructive,
+-- and what is seen of the answers is what the graph shows.
 abbrev pub GraphRunsAreRuns : Type 0
 GraphRunsAreRuns =
-    (p : Program) (rank : Wire → ℕ) (most : ℕ)
-    → IsWellFormed p → IsKernel p.body → NoInstantLoop p.body
-    → GoUp rank (edges (program_spots p)) → ((w : Wire) → rank w ≤ most)
+    (p : Program) (rank : Wire → ℕ)
+    → IsWellFormed p → programs.IsKernel p.body → NoInstantLoop p.body → GoUp rank (edges (program_spots p))
     → (items : List Item) → EachEvent (λ event. length event ≡ given_count p) items
     → (Vs : List Valuation) → IsGraphRun (graph_of p) Initial items Vs
     → (answers : List Answer)

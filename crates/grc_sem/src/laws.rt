@@ -1,6 +1,6 @@
 // The laws that tie the graph of a program to its meaning. Each call does nothing: its contract is the law.
 
-ghost use Rattle.grc_sem.specs.Laws.{GraphRunsAreRuns, NextStateIsKept, SolutionsAreWalks, SolutionsReact, WalksKeepStates};
+ghost use Rattle.grc_sem.specs.Laws.{GraphRunsAreRuns, NextStateIsKept, SolutionsAreWalks, SolutionsReact, SolutionsShowAlike, WalksKeepStates};
 
 /// A solution of a program's graph is the walk of the program's state, wire by wire.
 pub fn solutions_are_walks()
@@ -28,4 +28,9 @@ pub fn next_state_is_kept()
 /// the program, and every reaction in it is constructive.
 pub fn graph_runs_are_runs()
     ensures { GraphRunsAreRuns }
+{}
+
+/// Where the edges of a graph go up in rank, all its solutions in a state and an event show the same.
+pub fn solutions_show_alike()
+    ensures { SolutionsShowAlike }
 {}

@@ -6,5 +6,5 @@ mod laws;
 
 pub use laws::{
     graph_runs_are_runs, next_state_is_kept, solutions_are_walks, solutions_react,
-    walks_keep_states,
+    solutions_show_alike, walks_keep_states,
 };
