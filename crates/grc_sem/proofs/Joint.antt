@@ -1,0 +1,309 @@
+-- From a solution of a program's graph, and ranks that go up along each edge, to the walk.
+use Rattle.std.proofs.Common.{◌≡◌, ℕ, zero, suc, ◌+◌, ◌<◌, ◌≤◌, Bool, true, false, ◌&&◌, ◌||◌, ◌==◌, cond, ltb, List, [], ◌∷◌, ◌++◌, map, refl, sym, ap, ◌∙◌, subst, arith}
+use Rattle.std.specs.List.{list_any, flat_map, range_with_len, All}
+use Rattle.std.proofs.lemmas.List.Folds.{list_any-append}
+use Rattle.std.proofs.lemmas.Bool.{and_parts, eqb-true, eq-eqb, ne_eqb, cond_both, false≢true, cond-true, cond-false, lt-ltb, ltb-true}
+use Rattle.est_kernel.specs.Terms.{Term, Nothing, Pause, Emit, Exit, Present, Suspend, Seq, Loop, Par, Trap, Local, Awake}
+use Rattle.est_kernel.specs.Preorder.{statement_count}
+use Rattle.est_kernel.specs.Reactions.{is_given}
+use Rattle.grc_graph.specs.Layers.{Layer, Resumed, Started, same_layer, body_layers}
+use Rattle.grc_graph.specs.Scopes.{Scope, bind, program_scope}
+use Rattle.grc_graph.specs.Wires.{Wire, Go, StatusOf, End, same_wire, listed, codes_below, instance_codes}
+use Rattle.grc_graph.specs.Formulas.{Formula, Value}
+use Rattle.grc_graph.specs.Spots.{Spot, spots, spots_at, body_spots, body_entry}
+use Rattle.grc_graph.specs.Equations.{Equation, equations, end_formula, emits_on, emissions, instance_status, instance_equations, output_equation}
+use Rattle.grc_graph.specs.Walk.{Values, State}
+use Rattle.grc_graph.specs.Selected.{IsKernel}
+use Rattle.grc_graph.specs.Readings.{Valuation}
+use Rattle.grc_sem.proofs.Lists.{Every, every_right, every_map, every_flat_map, every_listed, every_from}
+use Rattle.grc_sem.proofs.Each.{spot}
+use Rattle.grc_sem.proofs.Decode.{started_below, resumed_below}
+use Rattle.grc_sem.proofs.Emissions.{emitted}
+use Rattle.grc_sem.proofs.EndForms.{val, any_meaning}
+use Rattle.grc_sem.proofs.Told.{Met}
+
+-- lists
+pub every_of_all : {A : Type 0} (P : A → Type 0) (xs : List A) → All P xs → Every P xs
+every_of_all P [] h = tt
+every_of_all P (x ∷ xs) h = (h 0 x (omega arith), every_of_all P xs (λ k d l. h (suc k) d (omega arith)))
+
+every_both : {A : Type 0} (P Q : A → Type 0) (xs : List A) → Every P xs → Every Q xs → Every (λ x. P x × Q x) xs
+every_both P Q [] h g = tt
+every_both P Q (x ∷ xs) h g = ((h.0, g.0), every_both P Q xs h.1 g.1)
+
+any_map_none : {A B : Type 0} (F : B → Bool) (g : A → B) (xs : List A) → ((x : A) → F (g x) ≡ false) → list_any F (map g xs) ≡ false
+any_map_none F g [] h = refl
+any_map_none F g (x ∷ xs) h = ap (λ b. b || list_any F (map g xs)) (h x) ∙ any_map_none F g xs h
+
+any_flat_none : {A B : Type 0} (F : B → Bool) (g : A → List B) (xs : List A) → Every (λ x. list_any F (g x) ≡ false) xs → list_any F (flat_map g xs) ≡ false
+any_flat_none F g [] h = refl
+any_flat_none F g (x ∷ xs) h =
+    list_any-append F (g x) (flat_map g xs) ∙ ap (λ b. b || list_any F (flat_map g xs)) h.0 ∙ any_flat_none F g xs h.1
+
+or_joined : (a b c : Bool) → (a || b) ≡ false → (b ≡ false → c ≡ false) → (a || c) ≡ false
+or_joined true b c e f = e
+or_joined false b c e f = f e
+
+any_joined : {B : Type 0} (F : B → Bool) (g : ℕ → B) (xs ys : List ℕ) → list_any F (map g xs) ≡ false → list_any F (map g ys) ≡ false → list_any F (map g (xs ++ ys)) ≡ false
+any_joined F g [] ys e f = f
+any_joined F g (x ∷ xs) ys e f = or_joined (F (g x)) (list_any F (map g xs)) (list_any F (map g (xs ++ ys))) e (λ i. any_joined F g xs ys i f)
+
+any_below_none : {B : Type 0} (F : B → Bool) (g : ℕ → B) (n : ℕ) (A : ℕ → Bool) → ((i : ℕ) → A i ≡ true → F (g i) ≡ false) → list_any F (map g (codes_below n A)) ≡ false
+unfolding codes_below
+any_below_none F g zero A h = refl
+any_below_none F g (suc n) A h =
+    any_joined F g (codes_below n A) (cond (A n) (n ∷ []) []) (any_below_none F g n A h)
+    (cond_both (A n) (n ∷ []) [] (λ l. list_any F (map g l) ≡ false) (λ e. ap (λ b. b || false) (h n e)) (λ e. refl))
+
+any_listed_none : {B : Type 0} (F : B → Bool) (g : ℕ → B) (A : ℕ → Bool) → ((i : ℕ) → A i ≡ true → F (g i) ≡ false) → list_any F (map g (listed A)) ≡ false
+unfolding listed
+any_listed_none F g A h = any_below_none F g 64 A h
+
+-- the statement with a number
+abbrev pub statement_at : Term → ℕ → ℕ → Term
+statement_at Nothing n m = Nothing
+statement_at Pause n m = Pause
+statement_at (Emit s) n m = Emit s
+statement_at (Exit k) n m = Exit k
+statement_at (Present e p q) n m =
+    cond (m == n) (Present e p q) (cond (ltb m (n + 1 + statement_count p)) (statement_at p (n + 1) m) (statement_at q (n + 1 + statement_count p) m))
+statement_at (Suspend e p) n m = cond (m == n) (Suspend e p) (statement_at p (n + 1) m)
+statement_at (Seq p q) n m =
+    cond (m == n) (Seq p q) (cond (ltb m (n + 1 + statement_count p)) (statement_at p (n + 1) m) (statement_at q (n + 1 + statement_count p) m))
+statement_at (Loop at p) n m = cond (m == n) (Loop at p) (statement_at p (n + 1) m)
+statement_at (Par p q) n m =
+    cond (m == n) (Par p q) (cond (ltb m (n + 1 + statement_count p)) (statement_at p (n + 1) m) (statement_at q (n + 1 + statement_count p) m))
+statement_at (Trap p) n m = cond (m == n) (Trap p) (statement_at p (n + 1) m)
+statement_at (Local s p) n m = cond (m == n) (Local s p) (statement_at p (n + 1) m)
+statement_at (Awake e p) n m = Awake e p
+
+-- a lookup g finds the statements of t
+record Contents (g : ℕ → Term) (t : Term) (n : ℕ) : Type 0 where
+  each : (m : ℕ) → n ≤ m → m < n + statement_count t → g m ≡ statement_at t n m
+
+lower : (a b : ℕ) → b ≤ a → ltb a b ≡ false
+lower a b h = cond_both (ltb a b) true false (λ x. ltb a b ≡ false) (λ e. let i = ltb-true a b e in absurd (omega arith)) (λ e. e)
+
+reads_only : (g : ℕ → Term) (t p : Term) (n : ℕ) → statement_count t ≡ 1 + statement_count p → ((m : ℕ) → statement_at t n m ≡ cond (m == n) t (statement_at p (n + 1) m)) → Contents g t n → Contents g p (n + 1)
+reads_only g t p n c f h =
+    record { each = λ m l u. h.each m (omega arith) (omega arith) ∙ f m ∙ cond-false (m == n) _ _ (ne_eqb m n (λ e. omega arith)) }
+
+reads_first : (g : ℕ → Term) (t p q : Term) (n : ℕ) → statement_count t ≡ 1 + statement_count p + statement_count q → ((m : ℕ) → statement_at t n m ≡ cond (m == n) t (cond (ltb m (n + 1 + statement_count p)) (statement_at p (n + 1) m) (statement_at q (n + 1 + statement_count p) m))) → Contents g t n → Contents g p (n + 1)
+reads_first g t p q n c f h =
+    record {
+      each = λ m l u.
+          h.each m (omega arith) (omega arith) ∙ f m ∙ cond-false (m == n) _ _ (ne_eqb m n (λ e. omega arith))
+          ∙ cond-true (ltb m (n + 1 + statement_count p)) _ _ (lt-ltb m (n + 1 + statement_count p) u);
+    }
+
+reads_second : (g : ℕ → Term) (t p q : Term) (n : ℕ) → statement_count t ≡ 1 + statement_count p + statement_count q → ((m : ℕ) → statement_at t n m ≡ cond (m == n) t (cond (ltb m (n + 1 + statement_count p)) (statement_at p (n + 1) m) (statement_at q (n + 1 + statement_count p) m))) → Contents g t n → Contents g q (n + 1 + statement_count p)
+reads_second g t p q n c f h =
+    record {
+      each = λ m l u.
+          h.each m (omega arith) (omega arith) ∙ f m ∙ cond-false (m == n) _ _ (ne_eqb m n (λ e. omega arith))
+          ∙ cond-false (ltb m (n + 1 + statement_count p)) _ _ (lower m (n + 1 + statement_count p) l);
+    }
+
+every_joined : {A : Type 0} (P : A → Type 0) (xs ys : List A) → Every P xs → Every P ys → Every P (xs ++ ys)
+every_joined P [] ys h g = g
+every_joined P (x ∷ xs) ys h g = (h.0, every_joined P xs ys h.1 g)
+
+module _ (L : ℕ → List Layer) (g : ℕ → Term) where
+  abbrev Looked : Spot → Type 0
+  Looked x = g x.path ≡ x.statement
+
+  looked_here : (B : Scope) (f : Layer → Formula) (t : Term) (n : ℕ) (ls : List Layer) → g n ≡ t → Every Looked (map (λ l. spot B f t n l) ls)
+  looked_here B f t n [] e = tt
+  looked_here B f t n (l ∷ ls) e = (e, looked_here B f t n ls e)
+
+  self : (t u : Term) (n : ℕ) → Contents g t n → 1 ≤ statement_count t → statement_at t n n ≡ cond (n == n) t u → g n ≡ t
+  self t u n r l e = r.each n (omega arith) (omega arith) ∙ e ∙ cond-true (n == n) t u (eq-eqb n n refl)
+
+  looked : (B : Scope) (f : Layer → Formula) (t : Term) (n : ℕ) → IsKernel t → Contents g t n → Every Looked (spots L B f t n)
+  looked B f Nothing n k r = looked_here B f Nothing n (L n) (r.each n (omega arith) (omega arith))
+  looked B f Pause n k r = looked_here B f Pause n (L n) (r.each n (omega arith) (omega arith))
+  looked B f (Emit s) n k r = looked_here B f (Emit s) n (L n) (r.each n (omega arith) (omega arith))
+  looked B f (Exit c) n k r = looked_here B f (Exit c) n (L n) (r.each n (omega arith) (omega arith))
+  looked B f (Present e p q) n k r =
+      every_joined Looked (spots_at L B f (Present e p q) n) _ (looked_here B f (Present e p q) n (L n) (self (Present e p q) _ n r (omega arith) refl))
+      (every_joined Looked (spots L B _ p (n + 1)) _
+      (looked B _ p (n + 1) k.0 (reads_first g (Present e p q) p q n refl (λ m. refl) r))
+      (looked B _ q (n + 1 + statement_count p) k.1 (reads_second g (Present e p q) p q n refl (λ m. refl) r)))
+  looked B f (Suspend e p) n k r =
+      every_joined Looked (spots_at L B f (Suspend e p) n) _ (looked_here B f (Suspend e p) n (L n) (self (Suspend e p) _ n r (omega arith) refl))
+      (looked B _ p (n + 1) k (reads_only g (Suspend e p) p n refl (λ m. refl) r))
+  looked B f (Seq p q) n k r =
+      every_joined Looked (spots_at L B f (Seq p q) n) _ (looked_here B f (Seq p q) n (L n) (self (Seq p q) _ n r (omega arith) refl))
+      (every_joined Looked (spots L B _ p (n + 1)) _
+      (looked B _ p (n + 1) k.0 (reads_first g (Seq p q) p q n refl (λ m. refl) r))
+      (looked B _ q (n + 1 + statement_count p) k.1 (reads_second g (Seq p q) p q n refl (λ m. refl) r)))
+  looked B f (Loop at p) n k r =
+      every_joined Looked (spots_at L B f (Loop at p) n) _ (looked_here B f (Loop at p) n (L n) (self (Loop at p) _ n r (omega arith) refl))
+      (looked B _ p (n + 1) k (reads_only g (Loop at p) p n refl (λ m. refl) r))
+  looked B f (Par p q) n k r =
+      every_joined Looked (spots_at L B f (Par p q) n) _ (looked_here B f (Par p q) n (L n) (self (Par p q) _ n r (omega arith) refl))
+      (every_joined Looked (spots L B _ p (n + 1)) _
+      (looked B _ p (n + 1) k.0 (reads_first g (Par p q) p q n refl (λ m. refl) r))
+      (looked B _ q (n + 1 + statement_count p) k.1 (reads_second g (Par p q) p q n refl (λ m. refl) r)))
+  looked B f (Trap p) n k r =
+      every_joined Looked (spots_at L B f (Trap p) n) _ (looked_here B f (Trap p) n (L n) (self (Trap p) _ n r (omega arith) refl))
+      (looked B _ p (n + 1) k (reads_only g (Trap p) p n refl (λ m. refl) r))
+  looked B f (Local s p) n k r =
+      every_joined Looked (spots_at L B f (Local s p) n) _ (looked_here B f (Local s p) n (L n) (self (Local s p) _ n r (omega arith) refl))
+      (looked (bind B s n) _ p (n + 1) k (reads_only g (Local s p) p n refl (λ m. refl) r))
+  looked B f (Awake e p) n k r = absurd k
+
+layers_same : (l j : Layer) → same_layer l j ≡ true → l ≡ j
+layers_same Resumed Resumed e = refl
+layers_same Resumed (Started r) e = absurd (false≢true e)
+layers_same (Started q) Resumed e = absurd (false≢true e)
+layers_same (Started q) (Started r) e = ap Started (eqb-true q r e)
+
+-- the emissions on a wire
+pub emissions_any : (B : Scope) (body : Term) (q : State) (given : Values) (V : Valuation) (w : Wire) (xs : List Spot) → list_any (val B body q given V) (emissions w xs) ≡ emitted V w xs
+emissions_any B body q given V w [] = refl
+emissions_any B body q given V w (x ∷ xs) =
+    go (emits_on w x.statement x.scope x.layer) (emissions_any B body q given V w xs)
+  where
+    go : (d : Bool) → list_any (val B body q given V) (emissions w xs) ≡ emitted V w xs → list_any (val B body q given V) (cond d (Value (Go x.path x.layer) ∷ emissions w xs) (emissions w xs)) ≡ ((d && V (Go x.path x.layer)) || emitted V w xs)
+    go true e = ap (λ b. V (Go x.path x.layer) || b) e
+    go false e = e
+
+-- the equations of an instance met, and its dead ends false
+module _ (B0 : Scope) (body : Term) (q : State) (given : Values) (V : Valuation) (all : List Spot) where
+  abbrev pub MetRow : Equation → Type 0
+  MetRow e = V e.wire ≡ val B0 body q given V e.formula
+
+  pub record Alive (x : Spot) : Type 0 where
+    pub rows : Every MetRow (instance_equations all x)
+    pub dead : (k : ℕ) → instance_codes x.statement x.layer k ≡ false → V (End x.path x.layer k) ≡ false
+
+  ends_met : (B : Scope) (t : Term) (n : ℕ) (l : Layer) → IsKernel t → Every MetRow (map (λ k. record { wire = End n l k; formula = end_formula B t n l k }) (listed (instance_codes t l))) → ((k : ℕ) → instance_codes t l k ≡ false → V (End n l k) ≡ false) → (k : ℕ) → V (End n l k) ≡ (instance_codes t l k && val B0 body q given V (end_formula B t n l k))
+  ends_met B t n l b h d k =
+      cond_both (instance_codes t l k) true false (λ c. V (End n l k) ≡ (instance_codes t l k && val B0 body q given V (end_formula B t n l k)))
+      (λ e.
+      every_listed (λ j. V (End n l j) ≡ val B0 body q given V (end_formula B t n l j)) (instance_codes t l)
+      (every_map MetRow (λ j. record { wire = End n l j; formula = end_formula B t n l j }) (listed (instance_codes t l)) h) k (below l e) e
+      ∙ ap (λ c. c && val B0 body q given V (end_formula B t n l k)) (sym e))
+      (λ e. d k e ∙ ap (λ c. c && val B0 body q given V (end_formula B t n l k)) (sym e))
+    where
+      below : (j : Layer) → instance_codes t j k ≡ true → k < 64
+      below Resumed e = resumed_below t b k e
+      below (Started r) e = started_below t b k e
+
+  pub met_at : (x : Spot) → IsKernel x.statement → Alive x → Met B0 body q given V all x
+  met_at x b a = go x.scope x.statement x.path x.layer b a.rows a.dead
+    where
+      go : (B : Scope) (t : Term) (n : ℕ) (l : Layer) → IsKernel t → Every MetRow (record { wire = Go n l; formula = x.entry } ∷ (instance_status all t n l ++ map (λ k. record { wire = End n l k; formula = end_formula B t n l k }) (listed (instance_codes t l)))) → ((k : ℕ) → instance_codes t l k ≡ false → V (End n l k) ≡ false) → Met B0 body q given V all (record { statement = t; path = n; layer = l; scope = B; entry = x.entry })
+      go B Nothing n l b h d = record { go = h.0; ends = ends_met B Nothing n l b h.1 d; status = tt }
+      go B Pause n l b h d = record { go = h.0; ends = ends_met B Pause n l b h.1 d; status = tt }
+      go B (Emit s) n l b h d = record { go = h.0; ends = ends_met B (Emit s) n l b h.1 d; status = tt }
+      go B (Exit c) n l b h d = record { go = h.0; ends = ends_met B (Exit c) n l b h.1 d; status = tt }
+      go B (Present e p p2) n l b h d = record { go = h.0; ends = ends_met B (Present e p p2) n l b h.1 d; status = tt }
+      go B (Suspend e p) n l b h d = record { go = h.0; ends = ends_met B (Suspend e p) n l b h.1 d; status = tt }
+      go B (Seq p p2) n l b h d = record { go = h.0; ends = ends_met B (Seq p p2) n l b h.1 d; status = tt }
+      go B (Loop at p) n l b h d = record { go = h.0; ends = ends_met B (Loop at p) n l b h.1 d; status = tt }
+      go B (Par p p2) n l b h d = record { go = h.0; ends = ends_met B (Par p p2) n l b h.1 d; status = tt }
+      go B (Trap p) n l b h d = record { go = h.0; ends = ends_met B (Trap p) n l b h.1 d; status = tt }
+      go B (Local s p) n l b h d =
+          let rest = h.1 in
+          record {
+            go = h.0;
+            ends = ends_met B (Local s p) n l b rest.1 d;
+            status = rest.0 ∙ any_meaning B0 body q given V (emissions (StatusOf n l) all) ∙ emissions_any B0 body q given V (StatusOf n l) all;
+          }
+      go B (Awake e p) n l b h d = absurd b
+
+-- a wire that an instance does not have is not listed
+dead_in : (all : List Spot) (n : ℕ) (l : Layer) (k : ℕ) (y : Spot) → (y.path ≡ n → y.layer ≡ l → instance_codes y.statement y.layer k ≡ false) → list_any (λ e. same_wire (End n l k) e.wire) (instance_equations all y) ≡ false
+dead_in all n l k y h = go y.statement (λ i j. h i j)
+  where
+    same : Equation → Bool
+    same e = same_wire (End n l k) e.wire
+
+    end_row : Term → ℕ → Equation
+    end_row t i = record { wire = End y.path y.layer i; formula = end_formula y.scope t y.path y.layer i }
+
+    end_rows : Term → List Equation
+    end_rows t = map (end_row t) (listed (instance_codes t y.layer))
+
+    own_rows : Term → List Equation
+    own_rows t = record { wire = Go y.path y.layer; formula = y.entry } ∷ (instance_status all t y.path y.layer ++ end_rows t)
+
+    status_none : (t : Term) → list_any (λ e. same_wire (End n l k) e.wire) (instance_status all t y.path y.layer) ≡ false
+    status_none Nothing = refl
+    status_none Pause = refl
+    status_none (Emit s) = refl
+    status_none (Exit c) = refl
+    status_none (Present e p q) = refl
+    status_none (Suspend e p) = refl
+    status_none (Seq p q) = refl
+    status_none (Loop at p) = refl
+    status_none (Par p q) = refl
+    status_none (Trap p) = refl
+    status_none (Local s p) = refl
+    status_none (Awake e p) = refl
+
+    three : (a b c d : Bool) → (a ≡ true → b ≡ true → c ≡ true → d ≡ true) → d ≡ false → (a && (b && c)) ≡ false
+    three true true true d f e = absurd (false≢true (sym e ∙ f refl refl refl))
+    three true true false d f e = refl
+    three true false c d f e = refl
+    three false b c d f e = refl
+
+    go : (t : Term) → (y.path ≡ n → y.layer ≡ l → instance_codes t y.layer k ≡ false) → list_any same (own_rows t) ≡ false
+    go t f =
+        list_any-append same (instance_status all t y.path y.layer) (end_rows t)
+        ∙ ap (λ b. b || list_any same (end_rows t)) (status_none t)
+        ∙ any_listed_none same (end_row t) (instance_codes t y.layer)
+        (λ i a.
+        cond_both (n == y.path && (same_layer l y.layer && k == i)) true false (λ c. (n == y.path && (same_layer l y.layer && k == i)) ≡ false)
+        (λ c.
+        let c1 = and_parts (n == y.path) (same_layer l y.layer && k == i) c in
+        let c2 = and_parts (same_layer l y.layer) (k == i) c1.1 in
+        let z = f (sym (eqb-true n y.path c1.0)) (sym (layers_same l y.layer c2.0)) in
+        absurd (false≢true (sym z ∙ subst (λ j. instance_codes t y.layer j ≡ true) (sym (eqb-true k i c2.1)) a)))
+        (λ c. c))
+
+-- what a solution of a program's graph tells
+module _ (inputs outs given_count : ℕ) (body : Term) (q : State) (event : List Bool) (V : Valuation) where
+  abbrev B0 : Scope
+  B0 = program_scope inputs (inputs + outs)
+
+  abbrev all : List Spot
+  all = body_spots (body_layers body) B0 body
+
+  abbrev rows : List Equation
+  rows = equations given_count (range_with_len inputs outs) all
+
+  abbrev value : Formula → Bool
+  value a = val B0 body q (is_given event) V a
+
+  looks : IsKernel body → Every (Looked (body_layers body) (statement_at body 0)) all
+  looks k = looked (body_layers body) (statement_at body 0) B0 body_entry body 0 k (record { each = λ m l u. refl })
+
+  -- a code that a statement does not have in a layer ends nothing
+  pub dead_wire : IsKernel body → ((w : Wire) → list_any (λ e. same_wire w e.wire) rows ≡ false → V w ≡ false) → (n : ℕ) (l : Layer) (k : ℕ) → instance_codes (statement_at body 0 n) l k ≡ false → V (End n l k) ≡ false
+  dead_wire b others n l k e =
+      others (End n l k)
+      (list_any-append (λ r. same_wire (End n l k) r.wire) (map (output_equation given_count all) (range_with_len inputs outs)) (flat_map (instance_equations all) all)
+      ∙ ap (λ c. c || list_any (λ r. same_wire (End n l k) r.wire) (flat_map (instance_equations all) all))
+      (any_map_none (λ r. same_wire (End n l k) r.wire) (output_equation given_count all) (range_with_len inputs outs) (λ o. refl))
+      ∙ any_flat_none (λ r. same_wire (End n l k) r.wire) (instance_equations all) all
+      (every_from _ _ all
+      (λ y h. dead_in all n l k y
+      (λ i j.
+      subst (λ x. instance_codes y.statement x k ≡ false) (sym j)
+      (subst (λ t. instance_codes t l k ≡ false) (ap (statement_at body 0) (sym i) ∙ h) e)))
+      (looks b)))
+
+  pub met_spots : (k : IsKernel body) → All (λ e. V e.wire ≡ value e.formula) rows → ((w : Wire) → list_any (λ e. same_wire w e.wire) rows ≡ false → V w ≡ false) → Every (Alive B0 body q (is_given event) V all) all
+  met_spots k met others =
+      let every = every_of_all (λ e. V e.wire ≡ value e.formula) rows met in
+      let rows2 = every_flat_map (λ e. V e.wire ≡ value e.formula) (instance_equations all) all (every_right (λ e. V e.wire ≡ value e.formula) (map (output_equation given_count all) (range_with_len inputs outs)) (flat_map (instance_equations all) all) every) in
+      every_from _ _ all
+      (λ x p.
+      record {
+        rows = p.0;
+        dead = λ j e. dead_wire k others x.path x.layer j (subst (λ t. instance_codes t x.layer j ≡ false) (sym p.1) e);
+      })
+      (every_both _ _ all rows2 (looks k))

@@ -1,0 +1,2 @@
+pub mod GraphWalks
+pub mod Laws
