@@ -1,3 +1,4 @@
 mod Shown
 mod Finding
+mod Scanning
 mod WorkedLines

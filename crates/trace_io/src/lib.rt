@@ -7,6 +7,7 @@
 
 mod lines;
 mod relations;
+mod scan;
 
 pub use lines::{Word, reaction_line};
 pub use relations::first_broken;
