@@ -1,4 +1,6 @@
 mod Shown
 mod Finding
 mod Scanning
+mod Positions
+mod Refusing
 mod WorkedLines

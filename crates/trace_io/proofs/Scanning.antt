@@ -39,7 +39,7 @@ fourth p q r t a b c d e no_p no_q no_r is_t = rw (no_p, no_q, no_r, is_t) refl
 
 -- one byte of a name
 tokens-byte : (text : List ℕ) (at : ℕ) → at < length text → is_trace_byte (slice_index text at) ≡ true
-  → tokens false at (drop at text) ≡ with_byte (slice_index text at) (begins_name (drop (at + 1) text)) (tokens false (at + 1) (drop (at + 1) text))
+    → tokens false at (drop at text) ≡ with_byte (slice_index text at) (begins_name (drop (at + 1) text)) (tokens false (at + 1) (drop (at + 1) text))
 tokens-byte text at low is =
     let of = IsOfName-byte (slice_index text at) is in
     ap (tokens false at) (drop_more text at 0 low) ∙ fourth (is_blank (slice_index text at)) (slice_index text at == 37) (slice_index text at == 59) (is_trace_byte (slice_index text at)) _ _ _ _ _ of.blank of.comment of.semicolon is
@@ -70,7 +70,11 @@ tokens-name text (suc n) at end e is =
     let more : at + 1 < length text = omega (arith, is.within) in
     let goes_on = begins_name-drop text (at + 1) more ∙ is.bytes (at + 1) (omega arith) (omega arith) in
     let rest : IsNameAt text (at + 1) end = record {
-        some = omega arith; within = is.within; bytes = λ k from to. is.bytes k (omega arith) to; stops = is.stops } in
+      some = omega arith;
+      within = is.within;
+      bytes = λ k from to. is.bytes k (omega arith) to;
+      stops = is.stops;
+    } in
     let name = tokens-name text n (at + 1) end (omega arith) rest in
     tokens-byte text at low byte ∙ ap (λ b. with_byte (slice_index text at) b (tokens false (at + 1) (drop (at + 1) text))) goes_on
     ∙ ap (with_byte (slice_index text at) true) name

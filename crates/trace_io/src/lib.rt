@@ -5,9 +5,15 @@
 //! each event (`first_broken`).
 #![tactic(auto)]
 
+mod faults;
+mod groups;
 mod lines;
+mod places;
+mod reader;
 mod relations;
 mod scan;
 
+pub use faults::{TraceError, TraceFault};
 pub use lines::{Word, reaction_line};
+pub use reader::{Event, Item, TraceReader};
 pub use relations::first_broken;
