@@ -4,3 +4,4 @@ mod Scanning
 mod Positions
 mod Refusing
 mod WorkedLines
+mod WorkedTraces
