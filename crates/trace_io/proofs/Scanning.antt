@@ -1,9 +1,9 @@
 -- The tokens of a trace, one byte or one name on.
-use Rattle.std.proofs.Common.{◌≡◌, ℕ, ◌+◌, ◌-◌, ◌<◌, ◌≤◌, zero, suc, Bool, true, false, not, ◌==◌, ◌&&◌, List, [], ◌∷◌, length, take, drop, slice_index}
-use Rattle.std.proofs.Common.{get_or, refl, ap, sym, ◌∙◌, arith, ⊎_elim, nat_le, if◌then◌else◌}
+use Rattle.std.proofs.Common.{◌≡◌, ℕ, ◌+◌, ◌-◌, ◌<◌, ◌≤◌, zero, suc, Bool, true, false, not, ◌==◌, ◌&&◌, List, ◌∷◌, length, take, drop, slice_index}
+use Rattle.std.proofs.Common.{refl, ap, sym, ◌∙◌, arith, ⊎_elim, nat_le, if◌then◌else◌}
 use Rattle.std.proofs.lemmas.Bool.{and_parts, leb-true, ne_eqb, not-true, cases_lt}
 use Rattle.std.proofs.lemmas.List.{drop_more, drop_all}
-use Rattle.trace_io.specs.Tokens.{Token, Semicolon, BadByte, Name, is_blank, is_trace_byte, begins_name, with_byte, tokens}
+use Rattle.trace_io.specs.Tokens.{Name, is_blank, is_trace_byte, begins_name, with_byte, tokens}
 use Rattle.trace_io.specs.Scans.{IsNameAt}
 
 -- a byte of a name is no blank, no `%` and no `;`

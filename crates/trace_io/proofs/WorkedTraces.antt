@@ -1,5 +1,5 @@
 -- Worked traces, with the groups that an implementation of the same rules in another language reads.
-use Rattle.std.proofs.Common.{◌≡◌, ℕ, Bool, true, false, List, [], ◌∷◌, codes, refl}
+use Rattle.std.proofs.Common.{◌≡◌, true, false, [], ◌∷◌, codes, refl}
 use Rattle.trace_io.specs.declared.faults.TraceFault.TheVariants as faults
 use Rattle.trace_io.specs.Traces.{End, Reset, Instant, Refused, group_from}
 

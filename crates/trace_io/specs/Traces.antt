@@ -1,7 +1,7 @@
 -- To believe: the groups of a trace. A group is any number of names, ended by `;`. A group whose only name is `!reset`
 -- is a reset; every other group is an instant, and its names are names of inputs. Where an input itself has the name
 -- `!reset`, there are no resets. The first fault in the order of the text is the fault of the trace.
-use Rattle.std.specs.Prelude.{ℕ, ◌+◌, Bool, true, false, not, ◌&&◌, List, [], ◌∷◌, length, drop, slice_index_or}
+use Rattle.std.specs.Prelude.{ℕ, Bool, true, false, not, ◌&&◌, List, [], ◌∷◌, length, drop, slice_index_or}
 use Rattle.std.specs.Prelude.{slice_set, replicate, codes, position, if◌then◌else◌, Option, Some, None}
 use Rattle.std.specs.List.{list_any}
 use Rattle.est_base.specs.Names.{is_same_name}
