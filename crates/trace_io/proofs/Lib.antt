@@ -1,3 +1,7 @@
 mod Shown
 mod Finding
+mod Scanning
+mod Positions
+mod Refusing
 mod WorkedLines
+mod WorkedTraces

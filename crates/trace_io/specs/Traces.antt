@@ -1,0 +1,92 @@
+-- To believe: the groups of a trace. A group is any number of names, ended by `;`. A group whose only name is `!reset`
+-- is a reset; every other group is an instant, and its names are names of inputs. Where an input itself has the name
+-- `!reset`, there are no resets. The first fault in the order of the text is the fault of the trace.
+use Rattle.std.specs.Prelude.{ℕ, Bool, true, false, not, ◌&&◌, List, [], ◌∷◌, length, drop, slice_index_or}
+use Rattle.std.specs.Prelude.{slice_set, replicate, codes, position, if◌then◌else◌, Option, Some, None}
+use Rattle.std.specs.List.{list_any}
+use Rattle.est_base.specs.Names.{is_same_name}
+use Rattle.est_base.specs.Relations.{Relation}
+use Rattle.trace_io.specs.declared.faults.TraceFault.{TraceFault}
+use Rattle.trace_io.specs.declared.faults.TraceFault.TheVariants as faults
+use Rattle.trace_io.specs.declared.groups.Stage.{Stage}
+use Rattle.trace_io.specs.declared.groups.Stage.TheVariants.{Fresh, Named, Resetting}
+use Rattle.trace_io.specs.Tokens.{Token, Semicolon, BadByte, Name, tokens}
+
+-- the name of a reset
+abbrev pub reset_name : List ℕ
+reset_name = codes "!reset"
+
+abbrev pub has_resets : List (List ℕ) → Bool
+has_resets inputs = not (list_any (is_same_name reset_name) inputs)
+
+-- what a name does: it is a fault, or the group goes on at this stage with these inputs present
+pub data Met : Type 0 where
+  Faulty : (fault : TraceFault) → Met
+  Goes : (stage : Stage) (event : List Bool) → Met
+
+-- a name behind a reset in its group, or a reset behind a name
+abbrev pub is_misplaced : Stage → List ℕ → Bool
+is_misplaced Fresh name = false
+is_misplaced Named name = is_same_name reset_name name
+is_misplaced Resetting name = true
+
+-- the name of the input at a place, if it is one
+abbrev pub met_input : ℕ → List Bool → List ℕ → Option ℕ → Met
+met_input instant event name None = Faulty (faults.UnknownInput instant name)
+met_input instant event name (Some place) =
+    if slice_index_or event place false then Faulty (faults.Repeated instant name)
+    else Goes Named (slice_set event place true)
+
+abbrev pub met_name : List (List ℕ) → ℕ → Stage → List Bool → List ℕ → Met
+met_name inputs instant stage event name =
+    if has_resets inputs && is_misplaced stage name then Faulty (faults.BadReset instant)
+    else if has_resets inputs && is_same_name reset_name name then Goes Resetting event
+    else met_input instant event name (position (is_same_name name) inputs)
+
+-- what the next group is: the end of the text, a reset or an instant with the place behind it, or a fault
+pub data Group : Type 0 where
+  End : Group
+  Reset : (behind : ℕ) → Group
+  Instant : (event : List Bool) (behind : ℕ) → Group
+  Refused : (fault : TraceFault) → Group
+
+-- a group that ends
+abbrev pub closed : Stage → List Bool → ℕ → Group
+closed Fresh event behind = Instant event behind
+closed Named event behind = Instant event behind
+closed Resetting event behind = Reset behind
+
+-- a text that ends: only between groups
+abbrev pub ended : ℕ → Stage → Group
+ended instant Fresh = End
+ended instant Named = Refused (faults.OpenInstant instant)
+ended instant Resetting = Refused (faults.OpenInstant instant)
+
+-- behind a name
+abbrev pub behind_name : (Stage → List Bool → Group) → Met → Group
+behind_name rest (Faulty fault) = Refused fault
+behind_name rest (Goes stage event) = rest stage event
+
+-- the group that the tokens are, by the names of the inputs, the number of the instant, and what stood before
+abbrev pub group : List (List ℕ) → ℕ → Stage → List Bool → List Token → Group
+group inputs instant stage event [] = ended instant stage
+group inputs instant stage event (BadByte place ∷ more) = Refused (faults.BadByte place)
+group inputs instant stage event (Semicolon behind ∷ more) = closed stage event behind
+group inputs instant stage event (Name name ∷ more) =
+    behind_name (λ s e. group inputs instant s e more) (met_name inputs instant stage event name)
+
+-- a trace that is read: the text, the place from which it is left, and the number of the next instant, from 1
+pub record Reading : Type 0 where
+  pub text : List ℕ
+  pub inputs : List (List ℕ)
+  pub relations : List Relation
+  pub at : ℕ
+  pub instant : ℕ
+
+-- the group from a place of a text on
+abbrev pub group_from : List (List ℕ) → ℕ → List ℕ → ℕ → Group
+group_from inputs instant text at =
+    group inputs instant Fresh (replicate (length inputs) false) (tokens false at (drop at text))
+
+abbrev pub next_group : Reading → Group
+next_group r = group_from r.inputs r.instant r.text r.at
