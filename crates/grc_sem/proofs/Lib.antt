@@ -24,4 +24,7 @@ mod Ways
 mod NextKept
 mod NextStates
 mod Scoped
+mod NextTop
+mod Premises
+mod Runs
 mod GraphLaws

@@ -91,7 +91,7 @@ par_bits v true true x y e f = ap (λ i. i && x) e ∙ sym (ap (λ i. x || i) f 
 par_bits v true false x y e f = ap (λ i. i && x) e
 par_bits v false o x y e f = ap (λ i. i && false) e
 
-one_flip : (c : ℕ) → (1 == c) ≡ (c == 1)
+pub one_flip : (c : ℕ) → (1 == c) ≡ (c == 1)
 one_flip c =
     ⊎_elim (λ e. e ∙ sym (eq-eqb c 1 (sym (eqb-true 1 c e)))) (λ e. e ∙ sym (ne_eqb c 1 (λ z. eqb-false 1 c e (sym z)))) (cases_Bool (1 == c))
 
@@ -216,7 +216,7 @@ module _ (V : Valuation) where
       ∙ started_kept p (n + 1) r _ b h (omega arith) nl k w.2
   started_kept (Awake e p) n r v b h l nl k w = absurd h
 
-guard_total : (l R s H b x : Bool) → (l ≡ true → (R || (s && H)) ≡ (b && x)) → (b ≡ true → l ≡ true) → (s ≡ true → l ≡ true) → ((l && R) || (s && H)) ≡ (b && x)
+pub guard_total : (l R s H b x : Bool) → (l ≡ true → (R || (s && H)) ≡ (b && x)) → (b ≡ true → l ≡ true) → (s ≡ true → l ≡ true) → ((l && R) || (s && H)) ≡ (b && x)
 guard_total true R s H b x f g h = f refl
 guard_total false R true H b x f g h = absurd (false≢true (h refl))
 guard_total false R false H true x f g h = absurd (false≢true (g refl))

@@ -381,7 +381,7 @@ among_first m xs ys e = list_any-append (λ x. m == x) xs ys ∙ or_left _ _ e
 among_second : (m : ℕ) (xs ys : List ℕ) → among m ys ≡ true → among m (xs ++ ys) ≡ true
 among_second m xs ys e = list_any-append (λ x. m == x) xs ys ∙ or_right (among m xs) _ e
 
-live_leaf : (b : Bool) (t : Term) (n m : ℕ) → b ≡ true → among m (leaf_paths true t n) ≡ true → among m (leaf_paths b t n) ≡ true
+pub live_leaf : (b : Bool) (t : Term) (n m : ℕ) → b ≡ true → among m (leaf_paths true t n) ≡ true → among m (leaf_paths b t n) ≡ true
 live_leaf b t n m e h = subst (λ c. among m (leaf_paths c t n) ≡ true) (sym e) h
 
 -- a selected pause of a well-formed selection is a leaf

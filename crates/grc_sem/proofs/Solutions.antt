@@ -77,7 +77,7 @@ state_finds : (q : State) (body : Term) → Finds (λ m. state_holds_at q body m
 state_finds Initial body = record { each = λ m l u. sym (nothing_at body 0 m) }
 state_finds (Selecting S) body = record { each = λ m l u. refl }
 
-state_reach : (q : State) (body : Term) → IsState q body → Reach (selected_of q) body 0 (holds (selected_of q) body 0)
+pub state_reach : (q : State) (body : Term) → IsState q body → Reach (selected_of q) body 0 (holds (selected_of q) body 0)
 state_reach Initial body s =
     record {
       held = λ e. e;

@@ -1,21 +1,23 @@
 -- Inner: the laws that tie the equations of a graph to the walk and to the reaction of its program.
-use Rattle.std.specs.Prelude.{◌≡◌, ℕ, ◌≤◌, Bool, true, List, length, Some}
+use Rattle.std.specs.Prelude.{◌≡◌, ℕ, Bool, true, ◌==◌, List, length, map, Some}
+use Rattle.est_base.specs.Items.{Item, EachEvent}
 use Rattle.est_kernel.specs.Plain.{Program, interface_of, given_count}
-use Rattle.est_kernel.specs.Reactions.{react}
+use Rattle.est_kernel.specs.Reactions.{Answer, react, run_of}
 use Rattle.est_kernel.specs.StaticCodes.{has_code, resumed_codes, NoInstantLoop}
 use Rattle.est_kernel.specs.WellFormed.{IsWellFormed}
+use Rattle.est_kernel.specs.WellFormed as programs
 use Rattle.grc_graph.specs.Layers.{Started}
 use Rattle.grc_graph.specs.Wires.{Wire}
 use Rattle.grc_graph.specs.Edges.{edges}
 use Rattle.grc_graph.specs.Orders.{GoUp}
 use Rattle.grc_graph.specs.Residuals.{holds, resumption}
-use Rattle.grc_graph.specs.Walk.{State, Selecting, remaining, is_initial, body_walk, Values}
+use Rattle.grc_graph.specs.Walk.{State, Initial, Selecting, remaining, is_initial, body_walk, Values}
 use Rattle.grc_graph.specs.Selected.{IsKernel, IsState}
 use Rattle.grc_graph.specs.Readings.{Valuation}
 use Rattle.grc_graph.specs.Coherence.{StartedWalked, ResumedWalked}
-use Rattle.grc_graph.specs.GraphRuns.{graph_of, program_spots, Solves, shown}
+use Rattle.grc_graph.specs.GraphRuns.{graph_of, program_spots, Solves, shown, next_state, IsGraphRun}
 use Rattle.grc_graph.specs.Layers.{Layer}
-use Rattle.grc_sem.specs.GraphWalks.{selected_of, program_values, graph_walk}
+use Rattle.grc_sem.specs.GraphWalks.{selected_of, program_values, graph_walk, SelectsLeaves, shown_answer}
 
 -- Where no loop is instantaneous, a solution of a program's graph in a state is its walk: each wire of each instance
 -- has the value that the walk gives it, in the layer of the first start and, where it is live, in the resumed one.
@@ -27,15 +29,14 @@ SolutionsAreWalks =
     × (has_code (resumed_codes p.body) ≡ true
     → ResumedWalked V (selected_of q) p.body 0 (program_values p event V) (holds (selected_of q) p.body 0))
 
--- Where further each edge between wires goes up in some rank that is bounded, what the state leaves of the program
--- reacts to the event: the reaction is constructive, the outgoing signals are present as their wires are true, and
--- what is left after it is what the pauses that the walk keeps leave of the body.
+-- Where further each edge between wires goes up in some rank, what the state leaves of the program reacts to the
+-- event: the reaction is constructive, the outgoing signals are present as their wires are true, and what is left
+-- after it is what the pauses that the walk keeps leave of the body.
 abbrev pub SolutionsReact : Type 0
 SolutionsReact =
-    (p : Program) (q : State) (event : List Bool) (V : Valuation) (rank : Wire → ℕ) (most : ℕ)
-    → IsWellFormed p → IsKernel p.body → NoInstantLoop p.body → IsState q p.body
-    → GoUp rank (edges (program_spots p)) → ((w : Wire) → rank w ≤ most)
-    → length event ≡ given_count p → Solves (graph_of p) q event V
+    (p : Program) (q : State) (event : List Bool) (V : Valuation) (rank : Wire → ℕ)
+    → IsWellFormed p → programs.IsKernel p.body → NoInstantLoop p.body → IsState q p.body
+    → GoUp rank (edges (program_spots p)) → length event ≡ given_count p → Solves (graph_of p) q event V
     → react (interface_of p) (remaining q p.body) event
     ≡ Some (record {
       answer = record { outputs = (shown (graph_of p) V).outputs; code = (graph_walk p q event V).code };
@@ -48,3 +49,35 @@ WalksKeepStates =
     (p : Program) (q : State) (Z : ℕ → Layer → Bool) (v : Values)
     → IsKernel p.body → NoInstantLoop p.body → IsState q p.body
     → IsState (Selecting (body_walk Z q p.body v).kept) p.body
+
+-- The next formulas of a solution select just the pauses that the walk keeps, and they are a state again, of leaves.
+-- The graph shows that the program pauses where the walk's code is 1.
+abbrev pub NextStateIsKept : Type 0
+NextStateIsKept =
+    (p : Program) (q : State) (event : List Bool) (V : Valuation)
+    → IsKernel p.body → NoInstantLoop p.body → IsState q p.body → SelectsLeaves q p.body → Solves (graph_of p) q event V
+    → ((m : ℕ) → selected_of (next_state (graph_of p) q event V) m ≡ (graph_walk p q event V).kept m)
+    × IsState (next_state (graph_of p) q event V) p.body
+    × SelectsLeaves (next_state (graph_of p) q event V) p.body
+    × ((shown (graph_of p) V).paused ≡ ((graph_walk p q event V).code == 1))
+
+-- Where the edges of a program's graph go up in some rank, all solutions in a state and an event show the same.
+abbrev pub SolutionsShowAlike : Type 0
+SolutionsShowAlike =
+    (p : Program) (q : State) (event : List Bool) (V W : Valuation) (rank : Wire → ℕ)
+    → IsWellFormed p → programs.IsKernel p.body → NoInstantLoop p.body → IsState q p.body → SelectsLeaves q p.body
+    → GoUp rank (edges (program_spots p)) → length event ≡ given_count p
+    → Solves (graph_of p) q event V → Solves (graph_of p) q event W
+    → shown (graph_of p) V ≡ shown (graph_of p) W
+
+-- Where they do, a run of the graph from the first instant is the run of the program: every reaction is constructive,
+-- and what is seen of the answers is what the graph shows.
+abbrev pub GraphRunsAreRuns : Type 0
+GraphRunsAreRuns =
+    (p : Program) (rank : Wire → ℕ)
+    → IsWellFormed p → programs.IsKernel p.body → NoInstantLoop p.body → GoUp rank (edges (program_spots p))
+    → (items : List Item) → EachEvent (λ event. length event ≡ given_count p) items
+    → (Vs : List Valuation) → IsGraphRun (graph_of p) Initial items Vs
+    → (answers : List Answer)
+    × (run_of p items ≡ Some answers)
+    × (map shown_answer answers ≡ map (λ V. shown (graph_of p) V) Vs)

@@ -1,6 +1,6 @@
 // The laws that tie the graph of a program to its meaning. Each call does nothing: its contract is the law.
 
-ghost use Rattle.grc_sem.specs.Laws.{SolutionsAreWalks, SolutionsReact, WalksKeepStates};
+ghost use Rattle.grc_sem.specs.Laws.{GraphRunsAreRuns, NextStateIsKept, SolutionsAreWalks, SolutionsReact, SolutionsShowAlike, WalksKeepStates};
 
 /// A solution of a program's graph is the walk of the program's state, wire by wire.
 pub fn solutions_are_walks()
@@ -16,4 +16,21 @@ pub fn solutions_react()
 /// The pauses that a walk of a state keeps are a state again.
 pub fn walks_keep_states()
     ensures { WalksKeepStates }
+{}
+
+/// The next formulas of a solution select the pauses that the walk keeps, they are a state of leaves
+/// again, and the graph shows whether the walk pauses.
+pub fn next_state_is_kept()
+    ensures { NextStateIsKept }
+{}
+
+/// Where the edges of a graph go up in rank, a run of the graph from the first instant is the run of
+/// the program, and every reaction in it is constructive.
+pub fn graph_runs_are_runs()
+    ensures { GraphRunsAreRuns }
+{}
+
+/// Where the edges of a graph go up in rank, all its solutions in a state and an event show the same.
+pub fn solutions_show_alike()
+    ensures { SolutionsShowAlike }
 {}

@@ -4,4 +4,7 @@
 
 mod laws;
 
-pub use laws::{solutions_are_walks, solutions_react, walks_keep_states};
+pub use laws::{
+    graph_runs_are_runs, next_state_is_kept, solutions_are_walks, solutions_react,
+    solutions_show_alike, walks_keep_states,
+};

@@ -1,4 +1,4 @@
-use Rattle.grc_sem.proofs.GraphLaws.{solutions_react_lem}
+use Rattle.grc_sem.proofs.Runs.{solutions_react_lem}
 use Rattle.grc_sem.proofs.laws.solutions_react.Goals as goal
 
 pub returns : goal.returns
