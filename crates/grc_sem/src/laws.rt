@@ -1,6 +1,7 @@
 // The laws that tie the graph of a program to its meaning. Each call does nothing: its contract is the law.
 
-ghost use Rattle.grc_sem.specs.Laws.{GraphRunsAreRuns, NextStateIsKept, SolutionsAreWalks, SolutionsReact, SolutionsShowAlike, WalksKeepStates};
+ghost use Rattle.grc_sem.specs.Laws.{GraphRunsAreRuns, NextStateIsKept, SolutionsAreWalks, SolutionsReact};
+ghost use Rattle.grc_sem.specs.Laws.{SolutionsShowAlike, WalksKeepStates};
 
 /// A solution of a program's graph is the walk of the program's state, wire by wire.
 pub fn solutions_are_walks()
