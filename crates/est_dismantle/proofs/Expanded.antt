@@ -1,0 +1,87 @@
+-- Inner: the kernel program of a flat program is well formed.
+use Rattle.std.proofs.Common.{◌≡◌, ◌+◌, ◌≤◌, Bool, true, false, nat_lt, cond, All, IsTrue, List, [], ◌∷◌, ◌++◌, length, refl, sym, ◌∙◌, ap, subst, arith, codes}
+use Rattle.std.specs.Prelude.{replicate}
+use Rattle.std.proofs.lemmas.List.{length-append, length-replicate, take-append-le}
+use Rattle.std.proofs.lemmas.Bool.{ltb-false}
+use Rattle.est_base.specs.declared.place.Span.{Span}
+use Rattle.est_base.specs.declared.bounds.TheConstants.Limits.{KERNEL_NODES, KERNEL_HEIGHT, TRAPS}
+use Rattle.est_base.specs.Names.{is_name, is_same_name}
+use Rattle.est_base.specs.Distinct.{all_differ}
+use Rattle.est_kernel.specs.Terms.{Term}
+use Rattle.est_kernel.specs.Plain.{Program}
+use Rattle.est_kernel.specs.Sizes.{size_of, height_of, trap_depth}
+use Rattle.est_kernel.specs.WellFormed.{SignalsFit, IsWellFormed, HasNames}
+use Rattle.est_ast.specs.FlatTrees.{Flat}
+use Rattle.est_dismantle.specs.Kernels.{new_in}
+use Rattle.est_dismantle.specs.Counts.{bad_in}
+use Rattle.est_dismantle.specs.Expansions.{Expanded, TooLarge, TooHigh, TooManyTraps, kernel_body, program_in, limited, counted, expansion}
+use Rattle.est_dismantle.specs.FlatPrograms.{seen_count, whole_scope, IsFlat}
+use Rattle.est_dismantle.proofs.Fitting.{Placed, placed}
+
+-- a body within the limits, and its program
+record Limited (flat : Flat) (body : Term) (p : Program) : Type 0 where
+  size : size_of body ≤ KERNEL_NODES
+  height : height_of body ≤ KERNEL_HEIGHT
+  traps : trap_depth body ≤ TRAPS
+  program : program_in flat body ≡ p
+
+within : (a b c : Bool) (q p : Program) → cond a TooLarge (cond b TooHigh (cond c TooManyTraps (Expanded q))) ≡ Expanded p → (a ≡ false) × (b ≡ false) × (c ≡ false) × (q ≡ p)
+within true b c q p h = cc
+within false true c q p h = cc
+within false false true q p h = cc
+within false false false q p h = (refl, refl, refl, cc)
+
+limited-inside : (flat : Flat) (body : Term) (p : Program) → limited flat body ≡ Expanded p → Limited flat body p
+limited-inside flat body p h =
+    let w = within (nat_lt KERNEL_NODES (size_of body)) (nat_lt KERNEL_HEIGHT (height_of body)) (nat_lt TRAPS (trap_depth body)) (program_in flat body) p h in
+    record {
+      size = ltb-false KERNEL_NODES (size_of body) w.0;
+      height = ltb-false KERNEL_HEIGHT (height_of body) w.1;
+      traps = ltb-false TRAPS (trap_depth body) w.2;
+      program = w.3;
+    }
+
+counted-inside : (flat : Flat) (bad : List Span) (p : Program) → counted flat bad ≡ Expanded p → Limited flat (kernel_body flat) p
+counted-inside flat [] p h = limited-inside flat (kernel_body flat) p h
+counted-inside flat (place ∷ places) p h = cc
+
+-- ---- the program
+
+signal_count : (flat : Flat) → length (flat.signals ++ replicate (new_in flat.body) (codes "x")) ≡ length flat.signals + new_in flat.body
+signal_count flat =
+    length-append flat.signals (replicate (new_in flat.body) (codes "x")) ∙ ap (λ k. length flat.signals + k) (length-replicate (new_in flat.body) (codes "x"))
+
+whole : (flat : Flat) → IsFlat flat → Placed flat.inputs (seen_count flat) (length flat.signals) (length flat.signals + new_in flat.body) 0 (λ s. nat_lt s (seen_count flat)) (kernel_body flat)
+whole flat h =
+    placed flat.inputs (seen_count flat) (length flat.signals) (length flat.signals + new_in flat.body) (whole_scope flat) [] (length flat.signals) flat.body
+    (record { traps = refl; given = omega (arith, h.interface); local = h.interface; room = omega arith; wide = omega arith }) h.body
+
+made : (flat : Flat) (p : Program) → IsFlat flat → Limited flat (kernel_body flat) p → IsWellFormed (program_in flat (kernel_body flat))
+made flat p h l =
+    let w = whole flat h in let n = signal_count flat in
+    record {
+      body = record { size = l.size; height = l.height; traps = l.traps; exits = w.exits };
+      at_most = omega (arith, n, h.room);
+      interface = omega (arith, n, h.interface);
+      signals = subst (λ k. SignalsFit flat.inputs (seen_count flat) k (λ s. nat_lt s (seen_count flat)) (kernel_body flat)) (sym n) w.signals;
+      relations = h.relations;
+    }
+
+-- the program that a flat program stands for is well formed
+pub expansion-well_formed : (flat : Flat) (p : Program) → IsFlat flat → expansion flat ≡ Expanded p → IsWellFormed p
+expansion-well_formed flat p h is =
+    let l = counted-inside flat (bad_in flat.body) p is in subst IsWellFormed l.program (made flat p h l)
+
+named : (flat : Flat) → IsFlat flat → HasNames (program_in flat (kernel_body flat))
+named flat h =
+    let same = take-append-le (seen_count flat) flat.signals (replicate (new_in flat.body) (codes "x")) h.interface in
+    record {
+      name = h.name;
+      interface = subst (λ l. All (λ n. IsTrue (is_name n)) l) (sym same) h.names;
+      differ = subst (λ l. IsTrue (all_differ is_same_name l)) (sym same) h.differ;
+    }
+
+-- and its names can be written and differ
+pub expansion-names : (flat : Flat) (p : Program) → IsFlat flat → expansion flat ≡ Expanded p → HasNames p
+expansion-names flat p h is =
+    let l = counted-inside flat (bad_in flat.body) p is in subst HasNames l.program (named flat h)

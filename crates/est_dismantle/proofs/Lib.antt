@@ -1,0 +1,4 @@
+mod Equations
+pub mod Expanded
+pub mod Fitting
+pub mod Measured

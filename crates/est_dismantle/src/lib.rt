@@ -1,0 +1,10 @@
+//! Kernel expansion: what the derived statements of a flat program stand for.
+//!
+//! The kernel is that of Berry, "The Constructive Semantics of Pure Esterel", and the derived statements are
+//! those of Esterel V5. `specs/Kernels.antt` has the expansion, one row a form, `specs/Counts.antt` the counts
+//! that are refused, and `specs/Expansions.antt` the order of the faults.
+#![tactic(auto)]
+
+mod laws;
+
+pub use laws::expansions_are_well_formed;
