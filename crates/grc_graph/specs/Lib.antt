@@ -20,6 +20,7 @@ pub mod PlainInstances
 pub mod WireOrders
 pub mod GraphRuns
 pub mod PlainGraphs
+pub mod Reads
 pub mod GraphShapes
 pub mod TreeForms
 pub mod TreeJudgements

@@ -1,7 +1,7 @@
 -- To believe: the plain form of a graph: its wires, nodes and formulas by name. A number of an instance or of a wire is
 -- read through the list of instances or of wires; a number that is out of range, which no graph has, is read as the
 -- body's resumed instance or its `go`.
-use Rattle.std.specs.Prelude.{ℕ, Bool, false, List, [], ◌∷◌, map, slice_index_or}
+use Rattle.std.specs.Prelude.{ℕ, Bool, false, List, [], ◌∷◌, map, zip, slice_index_or}
 use Rattle.est_kernel.specs.Plain.{Program, program_of, interface_of, interface_count}
 use Rattle.grc_graph.specs.declared.formulas.Formula.{Formula}
 use Rattle.grc_graph.specs.declared.formulas.Formula.TheVariants as formulas
@@ -15,6 +15,12 @@ use Rattle.grc_graph.specs.Wires as plain
 use Rattle.grc_graph.specs.Nodes as plain_nodes
 use Rattle.grc_graph.specs.Formulas as plain_formulas
 use Rattle.std.specs.Prelude.{Option, Some}
+use Rattle.grc_graph.specs.declared.graph.Graph.{Graph}
+use Rattle.grc_graph.specs.PlainInstances.{instance_of}
+use Rattle.grc_graph.specs.Scopes.{program_scope}
+use Rattle.grc_graph.specs.SelectionTrees.{body_leaves}
+use Rattle.grc_graph.specs.Equations.{Equation}
+use Rattle.grc_graph.specs.GraphRuns.{PlainGraph}
 
 -- the instance with a number
 abbrev pub instance_at : List Instance → ℕ → Instance
@@ -60,3 +66,26 @@ node_of insts names (nodes.Define i w) =
     plain_nodes.Definition (instance_at insts i.0).path (instance_at insts i.0).layer (wire_at names w.0)
 node_of insts names (nodes.Exit i k) = plain_nodes.Leave (instance_at insts i.0).path (instance_at insts i.0).layer k
 node_of insts names (nodes.Through i) = plain_nodes.Through (instance_at insts i.0).path (instance_at insts i.0).layer
+
+-- the instances and the wires of a graph by name, in order
+abbrev pub instances_of : Graph → List Instance
+instances_of g = map instance_of g.instances.list.items
+
+abbrev pub names_of : Graph → List plain.Wire
+names_of g = map (wire_of (instances_of g)) g.wires.items
+
+-- the equations of these wires with these formulas
+abbrev pub equations_of : List Instance → List plain.Wire → List Formula → List Equation
+equations_of insts names formulas =
+    map (λ e. record { wire = e.0; formula = formula_of insts names e.1 }) (zip names formulas)
+
+-- a graph by names, with the leaves of its program's body
+abbrev pub plain_graph : Graph → PlainGraph
+plain_graph g = record {
+  interface = interface_of (program_of g.program);
+  scope = program_scope (program_of g.program).inputs (interface_count (program_of g.program));
+  body = (program_of g.program).body;
+  equations = equations_of (instances_of g) (names_of g) g.equations.items;
+  leaves = body_leaves (program_of g.program).body;
+  next = map (formula_of (instances_of g) (names_of g)) g.next.items;
+}
