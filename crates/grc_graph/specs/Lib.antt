@@ -21,6 +21,7 @@ pub mod WireOrders
 pub mod GraphRuns
 pub mod PlainGraphs
 pub mod Reads
+pub mod NumberedEdges
 pub mod GraphShapes
 pub mod TreeForms
 pub mod TreeJudgements
