@@ -1,7 +1,5 @@
 mod Choices
 mod Places
-mod Rows
-mod Each
 mod Residues
 mod Ranks
 mod Constructive
@@ -10,8 +8,6 @@ mod Kept
 mod StepWalks
 mod Outputs
 mod ReactWalks
-mod Lists
-mod Decode
 mod Emissions
 mod Bridge
 mod WalkCodes

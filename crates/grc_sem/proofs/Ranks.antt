@@ -5,21 +5,12 @@ use Rattle.est_kernel.specs.Terms.{Expression, Tick, Sig, Not, And, Or, Term, No
 use Rattle.grc_graph.specs.Layers.{Layer, Resumed, Started, layer_above}
 use Rattle.grc_graph.specs.Scopes.{Binding, Entering, Outgoing, BoundAt, Unbound, Scope, bind}
 use Rattle.grc_graph.specs.Wires.{Wire, Out, StatusOf, status_wire}
-use Rattle.grc_graph.specs.Spots.{Spot}
 use Rattle.grc_sem.proofs.Places.{Tested, with_rank}
-use Rattle.grc_sem.proofs.Rows.{Between, Reads, FromStatus, ToStatus, StartedRow, ResumedRow}
+use Rattle.grc_solutions.proofs.Rows.{Between, Reads, FromStatus, ToStatus}
 
 -- up in rank
 abbrev pub Up : (Wire → ℕ) → Between
 Up R u w = R u < R w
-
--- the rows of an instance
-abbrev pub RowOf : Between → Scope → Term → ℕ → Layer → Type 0
-RowOf Q B t n Resumed = ResumedRow Q B t n
-RowOf Q B t n (Started r) = StartedRow Q B t n (Started r)
-
-abbrev pub RowAt : Between → Spot → Type 0
-RowAt Q x = RowOf Q x.scope x.statement x.path x.layer
 
 -- the rank of a signal with this binding, as a place in this layer sees it: 0 for what only enters; a signal out of
 -- scope has the rank N

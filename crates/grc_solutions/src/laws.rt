@@ -1,0 +1,8 @@
+// The laws of a graph's equations. Each call does nothing: its contract is the law.
+
+ghost use Rattle.grc_solutions.specs.Solutions.{OneSolution};
+
+/// Where the equations read from lower ranks to higher ones, they have one solution in each state and event.
+pub fn one_solution()
+    ensures { OneSolution }
+{}

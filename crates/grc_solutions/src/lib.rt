@@ -1,0 +1,10 @@
+//! What the equations of a graph read, and that they have one solution.
+//!
+//! A graph has one equation a wire, and its dependency relation has an edge from each wire that an equation reads.
+//! Where the edges go up in some rank, as they do unless some of them close a walk, the equations have one solution
+//! in each state and event.
+#![tactic(auto)]
+
+mod laws;
+
+pub use laws::one_solution;
