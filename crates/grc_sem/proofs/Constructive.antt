@@ -19,7 +19,8 @@ use Rattle.grc_sem.proofs.Places.{After, Place, no_loops-left, nothing_place, ex
 use Rattle.grc_solutions.proofs.Each.{EachStarted}
 use Rattle.grc_sem.proofs.Residues.{no_loops-right, loop_body, loop_code}
 use Rattle.grc_solutions.proofs.Rows.{RowAt}
-use Rattle.grc_sem.proofs.Ranks.{Up, Ranks, InScope, tested, emitted_rank, layer_above-started, ranks_more}
+use Rattle.grc_solutions.proofs.Binders.{layer_above-started}
+use Rattle.grc_sem.proofs.Ranks.{Up, Ranks, InScope, tested, emitted_rank, ranks_more}
 
 -- a test that is true or false under a flag that holds
 pub and_true : {b c : Bool} → b ≡ true → c ≡ true → (b && c) ≡ true

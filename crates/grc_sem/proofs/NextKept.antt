@@ -15,7 +15,7 @@ use Rattle.grc_graph.specs.Readings.{Valuation, seen_values, kept_at, held_at}
 use Rattle.grc_graph.specs.Coherence.{statuses, StartedWalked, ResumedWalked}
 use Rattle.grc_sem.proofs.Places.{no_loops-left}
 use Rattle.grc_sem.proofs.Residues.{no_loops-right, loop_body, or_other, resumed_live}
-use Rattle.grc_sem.proofs.Ranks.{layer_above-started}
+use Rattle.grc_solutions.proofs.Binders.{layer_above-started}
 use Rattle.grc_sem.proofs.Constructive.{and_true}
 use Rattle.grc_sem.proofs.Kept.{Keeps, kept_outside, trap_one, started_keeps, resumed_keeps, keeps_branch}
 use Rattle.grc_sem.proofs.WalkCodes.{started_code, resumed_code}

@@ -18,7 +18,8 @@ use Rattle.grc_sem.proofs.Places.{After, Place, Joins, no_loops-left, place_code
 use Rattle.grc_solutions.proofs.Each.{EachResumed}
 use Rattle.grc_sem.proofs.Residues.{no_loops-right, loop_body, or_other, resumed_live, residual_static, residual_codes}
 use Rattle.grc_solutions.proofs.Rows.{RowAt}
-use Rattle.grc_sem.proofs.Ranks.{Up, Ranks, Above, InScope, tested, ranks_more, ranks_root, above_more, above_bind}
+use Rattle.grc_solutions.proofs.Binders.{Above, above_more, above_bind}
+use Rattle.grc_sem.proofs.Ranks.{Up, Ranks, InScope, tested, ranks_more, ranks_root}
 use Rattle.grc_sem.proofs.Constructive.{and_true, not_false, flag_gone, started_after, started_place}
 
 -- a branch of a resumed parallel: what is left of it, or nothing

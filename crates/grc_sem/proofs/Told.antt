@@ -22,7 +22,7 @@ use Rattle.grc_graph.specs.Coherence.{statuses, InstanceWalked, StartedWalked, R
 use Rattle.grc_sem.proofs.Places.{no_loops-left}
 use Rattle.grc_solutions.proofs.Each.{spot, EachStarted, EachResumed}
 use Rattle.grc_sem.proofs.Residues.{no_loops-right, loop_body, loop_code, or_other, resumed_live, some_has}
-use Rattle.grc_sem.proofs.Ranks.{Above, above_more, above_bind, layer_above-started, layer_above-restarted}
+use Rattle.grc_solutions.proofs.Binders.{Above, above_more, above_bind, layer_above-started, layer_above-restarted}
 use Rattle.grc_sem.proofs.Constructive.{and_true, not_false}
 use Rattle.grc_solutions.proofs.Live.{Agrees, Root, only_agrees, first_agrees, second_agrees}
 use Rattle.grc_solutions.proofs.Decode.{resumed_below}

@@ -11,7 +11,7 @@ use Rattle.grc_graph.specs.Wires.{Go, End}
 use Rattle.grc_graph.specs.Residuals.{holds}
 use Rattle.grc_graph.specs.Readings.{Valuation, holds_at, kept_at}
 use Rattle.grc_solutions.proofs.Live.{Root}
-use Rattle.grc_sem.proofs.Ranks.{layer_above-restarted}
+use Rattle.grc_solutions.proofs.Binders.{layer_above-restarted}
 use Rattle.grc_sem.proofs.Bridge.{any_and, any_if, any_root, any_layers}
 
 -- the ways down a statement to its pauses

@@ -4,5 +4,8 @@ pub mod Rows
 pub mod Live
 pub mod Decode
 pub mod Looked
+pub mod Binders
 pub mod SameWires
 pub mod Solving
+pub mod Pairwise
+pub mod WireNames

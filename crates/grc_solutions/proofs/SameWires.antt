@@ -7,7 +7,7 @@ use Rattle.std.proofs.lemmas.List.Elements.{Contains-append_right}
 use Rattle.grc_graph.specs.Layers.{Layer, Resumed, Started, same_layer}
 use Rattle.grc_graph.specs.Wires.{Wire, Out, Go, StatusOf, End, same_wire}
 use Rattle.grc_graph.specs.Equations.{Equation}
-use Rattle.grc_solutions.specs.Solutions.{equation_wires}
+use Rattle.grc_solutions.specs.GraphWires.{equation_wires}
 use Rattle.grc_solutions.proofs.Looked.{layers_same}
 
 pub same_layer-self : (l : Layer) → same_layer l l ≡ true

@@ -1,1 +1,2 @@
+pub mod GraphWires
 pub mod Solutions

@@ -1,19 +1,12 @@
 -- To believe: when the equations of a graph have one solution.
-use Rattle.std.specs.Prelude.{◌≡◌, ◌≢◌, ℕ, ◌<◌, Bool, List, map, All, AllPairs, Contains}
+use Rattle.std.specs.Prelude.{◌≡◌, ℕ, ◌<◌, Bool, List, All, Contains}
 use Rattle.grc_graph.specs.Wires.{Wire}
 use Rattle.grc_graph.specs.Equations.{Equation}
 use Rattle.grc_graph.specs.Reads.{ReadsOnly}
 use Rattle.grc_graph.specs.Walk.{State}
 use Rattle.grc_graph.specs.Readings.{Valuation}
 use Rattle.grc_graph.specs.GraphRuns.{PlainGraph, Solves}
-
--- the wires of equations, in order
-abbrev pub equation_wires : List Equation → List Wire
-equation_wires es = map (λ e. e.wire) es
-
--- no wire stands twice
-abbrev pub Differ : List Wire → Type 0
-Differ ws = AllPairs (λ u w. u ≢ w) ws
+use Rattle.grc_solutions.specs.GraphWires.{equation_wires, Differ}
 
 -- Of the wires that an equation reads, each that has an equation has a lower rank than the equation's own wire.
 abbrev pub ReadUp : (Wire → ℕ) → List Equation → Type 0

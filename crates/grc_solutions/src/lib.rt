@@ -7,4 +7,4 @@
 
 mod laws;
 
-pub use laws::one_solution;
+pub use laws::{one_solution, wires_differ};
