@@ -1,5 +1,5 @@
 -- Where the binders of a scope stand, and in which layer a place sees them.
-use Rattle.std.proofs.Common.{◌≡◌, ℕ, ◌+◌, ◌<◌, ◌≤◌, Bool, true, false, ◌==◌, cond, refl, ◌∙◌, arith}
+use Rattle.std.proofs.Common.{◌≡◌, ℕ, ◌+◌, ◌<◌, ◌≤◌, Bool, true, false, ◌==◌, cond, refl, arith}
 use Rattle.std.proofs.lemmas.Bool.{cond_both, le-leb, leb-true, cond-true}
 use Rattle.grc_graph.specs.Layers.{Resumed, Started, layer_above}
 use Rattle.grc_graph.specs.Scopes.{Binding, BoundAt, Scope, bind}

@@ -9,3 +9,8 @@ pub mod SameWires
 pub mod Solving
 pub mod Pairwise
 pub mod WireNames
+pub mod Contexts
+pub mod EndReads
+pub mod EdgeJoins
+pub mod EachContext
+pub mod ProgramGraphs

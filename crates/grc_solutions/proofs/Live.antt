@@ -24,21 +24,30 @@ abbrev pub Root : ℕ → List ℕ → Type 0
 Root r [] = ⊥
 Root r (x ∷ xs) = (r ≡ x) ⊎ Root r xs
 
-root_left : (r : ℕ) (xs ys : List ℕ) → Root r xs → Root r (xs ++ ys)
+pub root_left : (r : ℕ) (xs ys : List ℕ) → Root r xs → Root r (xs ++ ys)
 root_left r [] ys h = absurd h
 root_left r (x ∷ xs) ys h = ⊎_elim (λ e. inl e) (λ i. inr (root_left r xs ys i)) h
 
-root_right : (r : ℕ) (xs ys : List ℕ) → Root r ys → Root r (xs ++ ys)
+pub root_right : (r : ℕ) (xs ys : List ℕ) → Root r ys → Root r (xs ++ ys)
 root_right r [] ys h = h
 root_right r (x ∷ xs) ys h = inr (root_right r xs ys h)
 
-root_given : (r : ℕ) (c : Bool) (xs : List ℕ) → c ≡ true → Root r xs → Root r (cond c xs [])
+pub root_given : (r : ℕ) (c : Bool) (xs : List ℕ) → c ≡ true → Root r xs → Root r (cond c xs [])
 root_given r true xs e h = h
 root_given r false xs e h = absurd (false≢true e)
 
-root_own : (m : ℕ) (c : Bool) → c ≡ true → Root m (root_if c m)
+pub root_own : (m : ℕ) (c : Bool) → c ≡ true → Root m (root_if c m)
 root_own m true e = inl refl
 root_own m false e = absurd (false≢true e)
+
+pub root_parts : (r : ℕ) (xs ys : List ℕ) → Root r (xs ++ ys) → Root r xs ⊎ Root r ys
+root_parts r [] ys h = inr h
+root_parts r (x ∷ xs) ys h =
+    ⊎_elim (λ e. inl (inl e)) (λ i. ⊎_elim (λ k. inl (inr k)) (λ k. inr k) (root_parts r xs ys i)) h
+
+pub root_if_parts : (r m : ℕ) (c : Bool) → Root r (root_if c m) → (r ≡ m) × (c ≡ true)
+root_if_parts r m true h = ⊎_elim (λ e. (e, refl)) (λ i. absurd i) h
+root_if_parts r m false h = absurd h
 
 -- the layers of the statement itself
 self_first : (a : Liveness) (b : Liveness) (n : ℕ) → cond (n == n) a b ≡ a

@@ -1,23 +1,23 @@
 -- The wires of a program's graph: one equation each, and all different.
-use Rattle.std.proofs.Common.{◌≡◌, ℕ, zero, suc, ◌+◌, ◌<◌, ◌≤◌, List, [], ◌∷◌, ◌++◌, map, refl, sym, ap, ◌∙◌, subst, ⊎_elim, arith}
-use Rattle.std.specs.Prelude.{◌≢◌, All}
+use Rattle.std.proofs.Common.{◌≡◌, ℕ, ◌+◌, ◌<◌, true, List, [], ◌∷◌, ◌++◌, map, refl, sym, ap, ◌∙◌, subst, ⊎_elim, arith}
+use Rattle.std.specs.Prelude.{◌≢◌}
 use Rattle.std.specs.List.{flat_map, range_with_len}
 use Rattle.std.proofs.lemmas.List.{map-append}
 use Rattle.std.proofs.lemmas.Simd.{map-map}
-use Rattle.est_kernel.specs.Plain.{Program, interface_of, interface_count, outgoing_count, given_count}
+use Rattle.est_kernel.specs.Plain.{interface_count, outgoing_count, given_count}
 use Rattle.est_kernel.specs.Terms.{Term, Nothing, Pause, Emit, Exit, Present, Suspend, Seq, Loop, Par, Trap, Local, Awake}
 use Rattle.est_kernel.specs.Preorder.{statement_count}
-use Rattle.grc_graph.specs.Layers.{Layer, Resumed, Started, Liveness, layers_of, body_liveness, body_layers, part_liveness, second_liveness, loop_liveness}
-use Rattle.grc_graph.specs.Instances.{Instance, instances, instances_at, body_instances, Before, Ascends, LayerBefore}
+use Rattle.grc_graph.specs.Layers.{Layer, Resumed, Started, Liveness, body_liveness, body_layers, part_liveness, second_liveness, loop_liveness}
+use Rattle.grc_graph.specs.Instances.{Instance, instances, instances_at, Before, Ascends, LayerBefore}
 use Rattle.grc_graph.specs.Scopes.{Scope, bind, program_scope}
 use Rattle.grc_graph.specs.Wires.{Wire, Out, Go, StatusOf, End, listed, instance_codes, own_status, instance_wires}
 use Rattle.grc_graph.specs.Formulas.{Formula}
-use Rattle.grc_graph.specs.Spots.{Spot, spots, spots_at, body_entry, body_spots}
+use Rattle.grc_graph.specs.Spots.{Spot, spots, spots_at, body_entry}
 use Rattle.grc_graph.specs.Equations.{Equation, output_equation, instance_equations, instance_status, end_formula, equations, wires}
 use Rattle.grc_graph.specs.Selected.{IsKernel}
-use Rattle.grc_graph.specs.GraphRuns.{program_spots, graph_of}
+use Rattle.grc_graph.specs.GraphRuns.{program_spots}
 use Rattle.grc_graph.proofs.LiveInstances.{instances_ascend_lem}
-use Rattle.grc_solutions.specs.GraphWires.{equation_wires, program_wires, Differ, WiresDiffer}
+use Rattle.grc_solutions.specs.GraphWires.{equation_wires, program_wires, WiresDiffer}
 use Rattle.grc_solutions.proofs.Lists.{Every, every_append, every_from, every_all, every_of_all}
 use Rattle.grc_solutions.proofs.Each.{spot}
 use Rattle.grc_solutions.proofs.Live.{Agrees, body_agrees, here_agrees, only_agrees, first_agrees, second_agrees}
@@ -173,30 +173,32 @@ statuses_differ (Local s p) n l = (tt, tt)
 statuses_differ (Awake e p) n l = tt
 
 -- what holds of each form of wire of an instance holds of its wires
-pub instance_every : (P : Wire → Type 0) (t : Term) (n : ℕ) (l : Layer) → P (Go n l) → P (StatusOf n l) → ((k : ℕ) → P (End n l k)) → Every P (instance_wires t n l)
-instance_every P t n l g s e =
-    (g, every_append P (own_status t n l) (map (λ k. End n l k) (listed (instance_codes t l))) (own_statuses P t n l s)
-    (every_mapped P (λ k. End n l k) (listed (instance_codes t l)) (every_all _ _ e)))
+pub instance_every : (P : Wire → Type 0) (t : Term) (n : ℕ) (l : Layer) → P (Go n l) → P (StatusOf n l) → ((k : ℕ) → k < 64 → instance_codes t l k ≡ true → P (End n l k)) → Every P (instance_wires t n l)
+instance_every P t n l g s e = (
+  g,
+  every_append P (own_status t n l) (map (λ k. End n l k) (listed (instance_codes t l))) (own_statuses P t n l s)
+      (every_mapped P (λ k. End n l k) (listed (instance_codes t l)) (listed_every _ (instance_codes t l) e)),
+)
 
 instance_differ : (t : Term) (n : ℕ) (l : Layer) → Pairwise Other (instance_wires t n l)
 instance_differ t n l =
     let ends = map (λ k. End n l k) (listed (instance_codes t l)) in (
       every_append (Other (Go n l)) (own_status t n l) ends
-      (own_statuses (Other (Go n l)) t n l (other_shape (Go n l) (StatusOf n l) (omega arith)))
-      (every_mapped (Other (Go n l)) (λ k. End n l k) (listed (instance_codes t l)) (every_all _ _ (λ k. other_shape (Go n l) (End n l k) (omega arith)))),
+          (own_statuses (Other (Go n l)) t n l (other_shape (Go n l) (StatusOf n l) (omega arith)))
+          (every_mapped (Other (Go n l)) (λ k. End n l k) (listed (instance_codes t l)) (every_all _ _ (λ k. other_shape (Go n l) (End n l k) (omega arith)))),
       pairwise_append Other (own_status t n l) ends (statuses_differ t n l)
-      (pairwise_map Other (λ k. End n l k) (listed (instance_codes t l))
-      (pairwise_from (λ i j. i < j) (λ i j. Other (End n l i) (End n l j)) (listed (instance_codes t l)) (λ i j h. other_number (End n l i) (End n l j) h) (listed_ascend (instance_codes t l))))
-      (own_statuses (λ u. Every (Other u) ends) t n l
-      (every_mapped (Other (StatusOf n l)) (λ k. End n l k) (listed (instance_codes t l)) (every_all _ _ (λ k. other_shape (StatusOf n l) (End n l k) (omega arith))))),
+          (pairwise_map Other (λ k. End n l k) (listed (instance_codes t l))
+          (pairwise_from (λ i j. i < j) (λ i j. Other (End n l i) (End n l j)) (listed (instance_codes t l)) (λ i j h. other_number (End n l i) (End n l j) h) (listed_ascend (instance_codes t l))))
+          (own_statuses (λ u. Every (Other u) ends) t n l
+          (every_mapped (Other (StatusOf n l)) (λ k. End n l k) (listed (instance_codes t l)) (every_all _ _ (λ k. other_shape (StatusOf n l) (End n l k) (omega arith))))),
     )
 
 two_instances : (x y : Spot) → Before (place x) (place y) → Every (λ u. Every (Other u) (instance_wires y.statement y.path y.layer)) (instance_wires x.statement x.path x.layer)
 two_instances x y b =
     every_from (λ u. owner u ≡ place x) (λ u. Every (Other u) (instance_wires y.statement y.path y.layer)) (instance_wires x.statement x.path x.layer)
     (λ u h. every_from (λ w. owner w ≡ place y) (Other u) (instance_wires y.statement y.path y.layer) (λ w g. other_owner u w (place x) (place y) b h g)
-    (instance_every (λ w. owner w ≡ place y) y.statement y.path y.layer refl refl (λ k. refl)))
-    (instance_every (λ u. owner u ≡ place x) x.statement x.path x.layer refl refl (λ k. refl))
+    (instance_every (λ w. owner w ≡ place y) y.statement y.path y.layer refl refl (λ k u e. refl)))
+    (instance_every (λ u. owner u ≡ place x) x.statement x.path x.layer refl refl (λ k u e. refl))
 
 ascend_pairwise : (xs : List Spot) → Ascends (map place xs) → Pairwise (λ x y. Before (place x) (place y)) xs
 ascend_pairwise [] h = tt
@@ -213,15 +215,15 @@ wires_differ_lem p kernel =
     let places = places_are (body_layers p.body) (body_liveness p.body) (program_scope p.inputs (interface_count p)) body_entry p.body 0 kernel (body_agrees p.body) in (
       equation_wires_are (given_count p) outgoing all,
       all_pairs Other (program_wires p)
-      (pairwise_append Other (map Out outgoing) (flat_map (λ x. instance_wires x.statement x.path x.layer) all)
-      (pairwise_map Other Out outgoing
-      (pairwise_from (λ i j. i < j) (λ i j. Other (Out i) (Out j)) outgoing (λ i j h. other_number (Out i) (Out j) h) (range_ascends p.inputs (outgoing_count p))))
-      (pairwise_flat (λ x y. Before (place x) (place y)) Other (λ x. instance_wires x.statement x.path x.layer) (λ x. instance_differ x.statement x.path x.layer) two_instances all
-      (ascend_pairwise all (subst Ascends (sym places) (instances_ascend_lem p.body))))
-      (every_mapped (λ u. Every (Other u) (flat_map (λ x. instance_wires x.statement x.path x.layer) all)) Out outgoing
-      (every_all _ outgoing
-      (λ s. every_flat (Other (Out s)) (λ x. instance_wires x.statement x.path x.layer) all
-      (every_all _ all
-      (λ x. instance_every (Other (Out s)) x.statement x.path x.layer (other_shape (Out s) (Go x.path x.layer) (omega arith)) (other_shape (Out s) (StatusOf x.path x.layer) (omega arith))
-      (λ k. other_shape (Out s) (End x.path x.layer k) (omega arith)))))))),
+          (pairwise_append Other (map Out outgoing) (flat_map (λ x. instance_wires x.statement x.path x.layer) all)
+          (pairwise_map Other Out outgoing
+          (pairwise_from (λ i j. i < j) (λ i j. Other (Out i) (Out j)) outgoing (λ i j h. other_number (Out i) (Out j) h) (range_ascends p.inputs (outgoing_count p))))
+          (pairwise_flat (λ x y. Before (place x) (place y)) Other (λ x. instance_wires x.statement x.path x.layer) (λ x. instance_differ x.statement x.path x.layer) two_instances all
+          (ascend_pairwise all (subst Ascends (sym places) (instances_ascend_lem p.body))))
+          (every_mapped (λ u. Every (Other u) (flat_map (λ x. instance_wires x.statement x.path x.layer) all)) Out outgoing
+          (every_all _ outgoing
+          (λ s. every_flat (Other (Out s)) (λ x. instance_wires x.statement x.path x.layer) all
+          (every_all _ all
+          (λ x. instance_every (Other (Out s)) x.statement x.path x.layer (other_shape (Out s) (Go x.path x.layer) (omega arith)) (other_shape (Out s) (StatusOf x.path x.layer) (omega arith))
+          (λ k u e. other_shape (Out s) (End x.path x.layer k) (omega arith)))))))),
     )

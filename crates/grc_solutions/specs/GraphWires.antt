@@ -1,7 +1,7 @@
 -- To believe: which wires the graph of a program has, which wires its edges join, and what its equations read.
 use Rattle.std.specs.Prelude.{◌≡◌, ◌≢◌, List, map, All, AllPairs, Contains}
 use Rattle.est_kernel.specs.Plain.{Program, interface_of}
-use Rattle.grc_graph.specs.Wires.{Wire, instance_wires}
+use Rattle.grc_graph.specs.Wires.{Wire}
 use Rattle.grc_graph.specs.Equations.{Equation, wires}
 use Rattle.grc_graph.specs.Edges.{Edge, edge, edges}
 use Rattle.grc_graph.specs.Selected.{IsKernel}

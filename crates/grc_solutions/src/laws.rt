@@ -1,14 +1,25 @@
 // The laws of a graph's equations. Each call does nothing: its contract is the law.
 
-ghost use Rattle.grc_solutions.specs.GraphWires.{WiresDiffer};
+ghost use Rattle.grc_solutions.specs.GraphWires.{EdgesJoinWires, ReadsAreEdges, WiresDiffer};
 ghost use Rattle.grc_solutions.specs.Solutions.{OneSolution};
-
-/// Where the equations read from lower ranks to higher ones, they have one solution in each state and event.
-pub fn one_solution()
-    ensures { OneSolution }
-{}
 
 /// The graph of a program has one equation for each of its wires, and no wire stands twice.
 pub fn wires_differ()
     ensures { WiresDiffer }
+{}
+
+/// Each edge of a program's graph joins two of its wires.
+pub fn edges_join_wires()
+    ensures { EdgesJoinWires }
+{}
+
+/// Each wire of a program's graph that an equation reads has an edge to the equation's wire.
+pub fn reads_are_edges()
+    ensures { ReadsAreEdges }
+{}
+
+/// Where the equations of a graph read from lower ranks to higher ones, they have one solution in each state
+/// and event.
+pub fn one_solution()
+    ensures { OneSolution }
 {}

@@ -7,4 +7,4 @@
 
 mod laws;
 
-pub use laws::{one_solution, wires_differ};
+pub use laws::{edges_join_wires, one_solution, reads_are_edges, wires_differ};
