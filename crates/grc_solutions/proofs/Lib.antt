@@ -14,3 +14,4 @@ pub mod EndReads
 pub mod EdgeJoins
 pub mod EachContext
 pub mod ProgramGraphs
+pub mod OneRun

@@ -1,7 +1,7 @@
 // The laws of a graph's equations. Each call does nothing: its contract is the law.
 
 ghost use Rattle.grc_solutions.specs.GraphWires.{EdgesJoinWires, ReadsAreEdges, WiresDiffer};
-ghost use Rattle.grc_solutions.specs.Solutions.{OneSolution};
+ghost use Rattle.grc_solutions.specs.Solutions.{GraphRunsExist, GraphsHaveOneSolution, GraphsReadUp, OneRun, OneSolution};
 
 /// The graph of a program has one equation for each of its wires, and no wire stands twice.
 pub fn wires_differ()
@@ -22,4 +22,25 @@ pub fn reads_are_edges()
 /// and event.
 pub fn one_solution()
     ensures { OneSolution }
+{}
+
+/// A graph whose equations have one solution in each state and event has one run over each list of items.
+pub fn one_run()
+    ensures { OneRun }
+{}
+
+/// Where the edges of a program's graph go up in some rank, its equations read up in it.
+pub fn graphs_read_up()
+    ensures { GraphsReadUp }
+{}
+
+/// Where the edges of a program's graph go up in some rank, its equations have one solution in each state and
+/// event.
+pub fn graphs_have_one_solution()
+    ensures { GraphsHaveOneSolution }
+{}
+
+/// Where the edges of a program's graph go up in some rank, the graph has one run over each list of items.
+pub fn graph_runs_exist()
+    ensures { GraphRunsExist }
 {}

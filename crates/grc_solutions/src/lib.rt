@@ -7,4 +7,5 @@
 
 mod laws;
 
-pub use laws::{edges_join_wires, one_solution, reads_are_edges, wires_differ};
+pub use laws::{edges_join_wires, reads_are_edges, wires_differ};
+pub use laws::{graph_runs_exist, graphs_have_one_solution, graphs_read_up, one_run, one_solution};
