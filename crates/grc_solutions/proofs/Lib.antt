@@ -15,3 +15,4 @@ pub mod EdgeJoins
 pub mod EachContext
 pub mod ProgramGraphs
 pub mod OneRun
+pub mod Numbers

@@ -1,23 +1,18 @@
 -- From one solution in each state and event to one run over each list of items.
-use Rattle.std.proofs.Common.{◌≡◌, ℕ, ◌<◌, Bool, List, [], ◌∷◌, refl, sym, ap, ◌∙◌, subst}
-use Rattle.std.specs.Prelude.{All, Contains}
+use Rattle.std.proofs.Common.{◌≡◌, ◌<◌, List, [], ◌∷◌, refl, sym, ap, ◌∙◌, subst}
+use Rattle.std.specs.Prelude.{Contains}
 use Rattle.std.proofs.Math.Path.{fun_ext}
 use Rattle.std.proofs.lemmas.List.Elements.{All-weaker}
 use Rattle.est_base.specs.Items.{Item, Event, Reset}
-use Rattle.est_kernel.specs.Plain.{Program}
-use Rattle.grc_graph.specs.Layers.{Layer}
 use Rattle.grc_graph.specs.Wires.{Wire, End}
 use Rattle.grc_graph.specs.Formulas.{Formula, Const, Boot, Input, Value, Selected, Upto, Kept, Held, Negation, Conjunction, Disjunction}
-use Rattle.grc_graph.specs.Equations.{Equation}
 use Rattle.grc_graph.specs.Edges.{edge}
-use Rattle.grc_graph.specs.Orders.{GoUp}
 use Rattle.grc_graph.specs.Reads.{ReadsOnly}
-use Rattle.grc_graph.specs.Selected.{IsKernel}
 use Rattle.grc_graph.specs.Walk.{State, Initial}
 use Rattle.grc_graph.specs.Readings.{Valuation}
-use Rattle.grc_graph.specs.GraphRuns.{PlainGraph, Solves, IsGraphRun, next_state, graph_of}
+use Rattle.grc_graph.specs.GraphRuns.{PlainGraph, IsGraphRun, next_state, graph_of}
 use Rattle.grc_solutions.specs.GraphWires.{Differ, equation_wires, program_wires, program_edges}
-use Rattle.grc_solutions.specs.Solutions.{ReadUp, HasOneSolution, HasOneRun, OneRun, GraphsReadUp, GraphsHaveOneSolution, GraphRunsExist}
+use Rattle.grc_solutions.specs.Solutions.{HasOneSolution, OneRun, GraphsReadUp, GraphsHaveOneSolution, GraphRunsExist}
 use Rattle.grc_solutions.proofs.WireNames.{wires_differ_lem}
 use Rattle.grc_solutions.proofs.ProgramGraphs.{reads_are_edges_lem}
 use Rattle.grc_solutions.proofs.Solving.{one_solution_lem}

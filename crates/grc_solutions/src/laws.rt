@@ -1,6 +1,8 @@
 // The laws of a graph's equations. Each call does nothing: its contract is the law.
 
 ghost use Rattle.grc_solutions.specs.GraphWires.{EdgesJoinWires, ReadsAreEdges, WiresDiffer};
+ghost use Rattle.grc_solutions.specs.NumberedGraphs.{ClosedWalksHaveNoRanks, ReadingOrdersReadUp};
+ghost use Rattle.grc_solutions.specs.NumberedGraphs.{WireOrdersAreReadingOrders, WireRanksGoUp};
 ghost use Rattle.grc_solutions.specs.Solutions.{GraphRunsExist, GraphsHaveOneSolution, GraphsReadUp, OneRun, OneSolution};
 
 /// The graph of a program has one equation for each of its wires, and no wire stands twice.
@@ -43,4 +45,24 @@ pub fn graphs_have_one_solution()
 /// Where the edges of a program's graph go up in some rank, the graph has one run over each list of items.
 pub fn graph_runs_exist()
     ensures { GraphRunsExist }
+{}
+
+/// An evaluation order along the edges of a program's graph, by number, is one along which its equations read.
+pub fn wire_orders_are_reading_orders()
+    ensures { WireOrdersAreReadingOrders }
+{}
+
+/// Ranks by number that grow along the edges of a program's graph are ranks of its wires.
+pub fn wire_ranks_go_up()
+    ensures { WireRanksGoUp }
+{}
+
+/// Edges along which some walk closes go up in no rank.
+pub fn closed_walks_have_no_ranks()
+    ensures { ClosedWalksHaveNoRanks }
+{}
+
+/// Equations that read along an order read up in some rank.
+pub fn reading_orders_read_up()
+    ensures { ReadingOrdersReadUp }
 {}
