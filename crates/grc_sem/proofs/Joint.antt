@@ -19,7 +19,7 @@ use Rattle.grc_solutions.proofs.Looked.{statement_at, Looked, looked, layers_sam
 use Rattle.grc_solutions.proofs.Decode.{started_below, resumed_below}
 use Rattle.grc_sem.proofs.Emissions.{emitted}
 use Rattle.grc_sem.proofs.EndForms.{val, any_meaning}
-use Rattle.grc_sem.proofs.Told.{Met}
+use Rattle.grc_sem.proofs.Meets.{Met}
 
 -- lists
 any_map_none : {A B : Type 0} (F : B → Bool) (g : A → B) (xs : List A) → ((x : A) → F (g x) ≡ false) → list_any F (map g xs) ≡ false

@@ -13,6 +13,8 @@ mod Bridge
 mod WalkCodes
 mod WalkEmits
 mod EndForms
+mod Meets
+mod WalkEnds
 mod Told
 mod Joint
 mod Solutions

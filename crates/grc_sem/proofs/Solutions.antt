@@ -34,7 +34,8 @@ use Rattle.grc_sem.proofs.Emissions.{emission, emitted, Whole}
 use Rattle.grc_sem.proofs.Bridge.{started_any, resumed_any, split}
 use Rattle.grc_sem.proofs.WalkEmits.{Fresh, Shows, Reach, started_emits, resumed_emits, guard_bits}
 use Rattle.grc_sem.proofs.EndForms.{val, any_meaning}
-use Rattle.grc_sem.proofs.Told.{Met, Finds, told_started, told_resumed, head_started, head_resumed, finds_self}
+use Rattle.grc_sem.proofs.Meets.{Met, Finds, head_started, head_resumed, finds_self}
+use Rattle.grc_sem.proofs.Told.{told_started, told_resumed}
 use Rattle.grc_sem.proofs.Joint.{emissions_any, Alive, met_at, met_spots}
 use Rattle.grc_sem.proofs.ReactWalks.{Solution, scope_part, InPart, enters, goes_out, unbound}
 
