@@ -16,9 +16,11 @@ use Rattle.grc_graph.specs.Selected.{IsKernel}
 use Rattle.grc_graph.specs.Readings.{Valuation}
 use Rattle.grc_graph.specs.Coherence.{statuses, StartedWalked}
 use Rattle.grc_sem.proofs.Places.{After, Place, no_loops-left, nothing_place, exit_place, pause_place, emit_place, later_place, later_after, suspend_after, suspend_place, loop_after, loop_place, present_after, present_place, seq_after, seq_place, place_code, par_after, par_place, trap_after, trap_place, local_after, local_place}
-use Rattle.grc_sem.proofs.Each.{EachStarted}
+use Rattle.grc_solutions.proofs.Each.{EachStarted}
 use Rattle.grc_sem.proofs.Residues.{no_loops-right, loop_body, loop_code}
-use Rattle.grc_sem.proofs.Ranks.{Up, RowAt, Ranks, InScope, tested, emitted_rank, layer_above-started, ranks_more}
+use Rattle.grc_solutions.proofs.Rows.{RowAt}
+use Rattle.grc_solutions.proofs.Binders.{layer_above-started}
+use Rattle.grc_sem.proofs.Ranks.{Up, Ranks, InScope, tested, emitted_rank, ranks_more}
 
 -- a test that is true or false under a flag that holds
 pub and_true : {b c : Bool} → b ≡ true → c ≡ true → (b && c) ≡ true

@@ -1,36 +1,27 @@
 -- From a solution of a program's graph, and ranks that go up along each edge, to the walk.
-use Rattle.std.proofs.Common.{◌≡◌, ℕ, zero, suc, ◌+◌, ◌<◌, ◌≤◌, Bool, true, false, ◌&&◌, ◌||◌, ◌==◌, cond, ltb, List, [], ◌∷◌, ◌++◌, map, refl, sym, ap, ◌∙◌, subst, arith}
+use Rattle.std.proofs.Common.{◌≡◌, ℕ, zero, suc, ◌+◌, ◌<◌, Bool, true, false, ◌&&◌, ◌||◌, ◌==◌, cond, List, [], ◌∷◌, ◌++◌, map, refl, sym, ap, ◌∙◌, subst}
 use Rattle.std.specs.List.{list_any, flat_map, range_with_len, All}
 use Rattle.std.proofs.lemmas.List.Folds.{list_any-append}
-use Rattle.std.proofs.lemmas.Bool.{and_parts, eqb-true, eq-eqb, ne_eqb, cond_both, false≢true, cond-true, cond-false, lt-ltb, ltb-true}
+use Rattle.std.proofs.lemmas.Bool.{and_parts, eqb-true, cond_both, false≢true}
 use Rattle.est_kernel.specs.Terms.{Term, Nothing, Pause, Emit, Exit, Present, Suspend, Seq, Loop, Par, Trap, Local, Awake}
-use Rattle.est_kernel.specs.Preorder.{statement_count}
 use Rattle.est_kernel.specs.Reactions.{is_given}
 use Rattle.grc_graph.specs.Layers.{Layer, Resumed, Started, same_layer, body_layers}
-use Rattle.grc_graph.specs.Scopes.{Scope, bind, program_scope}
+use Rattle.grc_graph.specs.Scopes.{Scope, program_scope}
 use Rattle.grc_graph.specs.Wires.{Wire, Go, StatusOf, End, same_wire, listed, codes_below, instance_codes}
 use Rattle.grc_graph.specs.Formulas.{Formula, Value}
-use Rattle.grc_graph.specs.Spots.{Spot, spots, spots_at, body_spots, body_entry}
+use Rattle.grc_graph.specs.Spots.{Spot, body_spots, body_entry}
 use Rattle.grc_graph.specs.Equations.{Equation, equations, end_formula, emits_on, emissions, instance_status, instance_equations, output_equation}
 use Rattle.grc_graph.specs.Walk.{Values, State}
 use Rattle.grc_graph.specs.Selected.{IsKernel}
 use Rattle.grc_graph.specs.Readings.{Valuation}
-use Rattle.grc_sem.proofs.Lists.{Every, every_right, every_map, every_flat_map, every_listed, every_from}
-use Rattle.grc_sem.proofs.Each.{spot}
-use Rattle.grc_sem.proofs.Decode.{started_below, resumed_below}
+use Rattle.grc_solutions.proofs.Lists.{Every, every_of_all, every_both, every_right, every_map, every_flat_map, every_listed, every_from}
+use Rattle.grc_solutions.proofs.Looked.{statement_at, Looked, looked, layers_same}
+use Rattle.grc_solutions.proofs.Decode.{started_below, resumed_below}
 use Rattle.grc_sem.proofs.Emissions.{emitted}
 use Rattle.grc_sem.proofs.EndForms.{val, any_meaning}
-use Rattle.grc_sem.proofs.Told.{Met}
+use Rattle.grc_sem.proofs.Meets.{Met}
 
 -- lists
-pub every_of_all : {A : Type 0} (P : A → Type 0) (xs : List A) → All P xs → Every P xs
-every_of_all P [] h = tt
-every_of_all P (x ∷ xs) h = (h 0 x (omega arith), every_of_all P xs (λ k d l. h (suc k) d (omega arith)))
-
-every_both : {A : Type 0} (P Q : A → Type 0) (xs : List A) → Every P xs → Every Q xs → Every (λ x. P x × Q x) xs
-every_both P Q [] h g = tt
-every_both P Q (x ∷ xs) h g = ((h.0, g.0), every_both P Q xs h.1 g.1)
-
 any_map_none : {A B : Type 0} (F : B → Bool) (g : A → B) (xs : List A) → ((x : A) → F (g x) ≡ false) → list_any F (map g xs) ≡ false
 any_map_none F g [] h = refl
 any_map_none F g (x ∷ xs) h = ap (λ b. b || list_any F (map g xs)) (h x) ∙ any_map_none F g xs h
@@ -58,106 +49,6 @@ any_below_none F g (suc n) A h =
 any_listed_none : {B : Type 0} (F : B → Bool) (g : ℕ → B) (A : ℕ → Bool) → ((i : ℕ) → A i ≡ true → F (g i) ≡ false) → list_any F (map g (listed A)) ≡ false
 unfolding listed
 any_listed_none F g A h = any_below_none F g 64 A h
-
--- the statement with a number
-abbrev pub statement_at : Term → ℕ → ℕ → Term
-statement_at Nothing n m = Nothing
-statement_at Pause n m = Pause
-statement_at (Emit s) n m = Emit s
-statement_at (Exit k) n m = Exit k
-statement_at (Present e p q) n m =
-    cond (m == n) (Present e p q) (cond (ltb m (n + 1 + statement_count p)) (statement_at p (n + 1) m) (statement_at q (n + 1 + statement_count p) m))
-statement_at (Suspend e p) n m = cond (m == n) (Suspend e p) (statement_at p (n + 1) m)
-statement_at (Seq p q) n m =
-    cond (m == n) (Seq p q) (cond (ltb m (n + 1 + statement_count p)) (statement_at p (n + 1) m) (statement_at q (n + 1 + statement_count p) m))
-statement_at (Loop at p) n m = cond (m == n) (Loop at p) (statement_at p (n + 1) m)
-statement_at (Par p q) n m =
-    cond (m == n) (Par p q) (cond (ltb m (n + 1 + statement_count p)) (statement_at p (n + 1) m) (statement_at q (n + 1 + statement_count p) m))
-statement_at (Trap p) n m = cond (m == n) (Trap p) (statement_at p (n + 1) m)
-statement_at (Local s p) n m = cond (m == n) (Local s p) (statement_at p (n + 1) m)
-statement_at (Awake e p) n m = Awake e p
-
--- a lookup g finds the statements of t
-record Contents (g : ℕ → Term) (t : Term) (n : ℕ) : Type 0 where
-  each : (m : ℕ) → n ≤ m → m < n + statement_count t → g m ≡ statement_at t n m
-
-lower : (a b : ℕ) → b ≤ a → ltb a b ≡ false
-lower a b h = cond_both (ltb a b) true false (λ x. ltb a b ≡ false) (λ e. let i = ltb-true a b e in absurd (omega arith)) (λ e. e)
-
-reads_only : (g : ℕ → Term) (t p : Term) (n : ℕ) → statement_count t ≡ 1 + statement_count p → ((m : ℕ) → statement_at t n m ≡ cond (m == n) t (statement_at p (n + 1) m)) → Contents g t n → Contents g p (n + 1)
-reads_only g t p n c f h =
-    record { each = λ m l u. h.each m (omega arith) (omega arith) ∙ f m ∙ cond-false (m == n) _ _ (ne_eqb m n (λ e. omega arith)) }
-
-reads_first : (g : ℕ → Term) (t p q : Term) (n : ℕ) → statement_count t ≡ 1 + statement_count p + statement_count q → ((m : ℕ) → statement_at t n m ≡ cond (m == n) t (cond (ltb m (n + 1 + statement_count p)) (statement_at p (n + 1) m) (statement_at q (n + 1 + statement_count p) m))) → Contents g t n → Contents g p (n + 1)
-reads_first g t p q n c f h =
-    record {
-      each = λ m l u.
-          h.each m (omega arith) (omega arith) ∙ f m ∙ cond-false (m == n) _ _ (ne_eqb m n (λ e. omega arith))
-          ∙ cond-true (ltb m (n + 1 + statement_count p)) _ _ (lt-ltb m (n + 1 + statement_count p) u);
-    }
-
-reads_second : (g : ℕ → Term) (t p q : Term) (n : ℕ) → statement_count t ≡ 1 + statement_count p + statement_count q → ((m : ℕ) → statement_at t n m ≡ cond (m == n) t (cond (ltb m (n + 1 + statement_count p)) (statement_at p (n + 1) m) (statement_at q (n + 1 + statement_count p) m))) → Contents g t n → Contents g q (n + 1 + statement_count p)
-reads_second g t p q n c f h =
-    record {
-      each = λ m l u.
-          h.each m (omega arith) (omega arith) ∙ f m ∙ cond-false (m == n) _ _ (ne_eqb m n (λ e. omega arith))
-          ∙ cond-false (ltb m (n + 1 + statement_count p)) _ _ (lower m (n + 1 + statement_count p) l);
-    }
-
-every_joined : {A : Type 0} (P : A → Type 0) (xs ys : List A) → Every P xs → Every P ys → Every P (xs ++ ys)
-every_joined P [] ys h g = g
-every_joined P (x ∷ xs) ys h g = (h.0, every_joined P xs ys h.1 g)
-
-module _ (L : ℕ → List Layer) (g : ℕ → Term) where
-  abbrev Looked : Spot → Type 0
-  Looked x = g x.path ≡ x.statement
-
-  looked_here : (B : Scope) (f : Layer → Formula) (t : Term) (n : ℕ) (ls : List Layer) → g n ≡ t → Every Looked (map (λ l. spot B f t n l) ls)
-  looked_here B f t n [] e = tt
-  looked_here B f t n (l ∷ ls) e = (e, looked_here B f t n ls e)
-
-  self : (t u : Term) (n : ℕ) → Contents g t n → 1 ≤ statement_count t → statement_at t n n ≡ cond (n == n) t u → g n ≡ t
-  self t u n r l e = r.each n (omega arith) (omega arith) ∙ e ∙ cond-true (n == n) t u (eq-eqb n n refl)
-
-  looked : (B : Scope) (f : Layer → Formula) (t : Term) (n : ℕ) → IsKernel t → Contents g t n → Every Looked (spots L B f t n)
-  looked B f Nothing n k r = looked_here B f Nothing n (L n) (r.each n (omega arith) (omega arith))
-  looked B f Pause n k r = looked_here B f Pause n (L n) (r.each n (omega arith) (omega arith))
-  looked B f (Emit s) n k r = looked_here B f (Emit s) n (L n) (r.each n (omega arith) (omega arith))
-  looked B f (Exit c) n k r = looked_here B f (Exit c) n (L n) (r.each n (omega arith) (omega arith))
-  looked B f (Present e p q) n k r =
-      every_joined Looked (spots_at L B f (Present e p q) n) _ (looked_here B f (Present e p q) n (L n) (self (Present e p q) _ n r (omega arith) refl))
-      (every_joined Looked (spots L B _ p (n + 1)) _
-      (looked B _ p (n + 1) k.0 (reads_first g (Present e p q) p q n refl (λ m. refl) r))
-      (looked B _ q (n + 1 + statement_count p) k.1 (reads_second g (Present e p q) p q n refl (λ m. refl) r)))
-  looked B f (Suspend e p) n k r =
-      every_joined Looked (spots_at L B f (Suspend e p) n) _ (looked_here B f (Suspend e p) n (L n) (self (Suspend e p) _ n r (omega arith) refl))
-      (looked B _ p (n + 1) k (reads_only g (Suspend e p) p n refl (λ m. refl) r))
-  looked B f (Seq p q) n k r =
-      every_joined Looked (spots_at L B f (Seq p q) n) _ (looked_here B f (Seq p q) n (L n) (self (Seq p q) _ n r (omega arith) refl))
-      (every_joined Looked (spots L B _ p (n + 1)) _
-      (looked B _ p (n + 1) k.0 (reads_first g (Seq p q) p q n refl (λ m. refl) r))
-      (looked B _ q (n + 1 + statement_count p) k.1 (reads_second g (Seq p q) p q n refl (λ m. refl) r)))
-  looked B f (Loop at p) n k r =
-      every_joined Looked (spots_at L B f (Loop at p) n) _ (looked_here B f (Loop at p) n (L n) (self (Loop at p) _ n r (omega arith) refl))
-      (looked B _ p (n + 1) k (reads_only g (Loop at p) p n refl (λ m. refl) r))
-  looked B f (Par p q) n k r =
-      every_joined Looked (spots_at L B f (Par p q) n) _ (looked_here B f (Par p q) n (L n) (self (Par p q) _ n r (omega arith) refl))
-      (every_joined Looked (spots L B _ p (n + 1)) _
-      (looked B _ p (n + 1) k.0 (reads_first g (Par p q) p q n refl (λ m. refl) r))
-      (looked B _ q (n + 1 + statement_count p) k.1 (reads_second g (Par p q) p q n refl (λ m. refl) r)))
-  looked B f (Trap p) n k r =
-      every_joined Looked (spots_at L B f (Trap p) n) _ (looked_here B f (Trap p) n (L n) (self (Trap p) _ n r (omega arith) refl))
-      (looked B _ p (n + 1) k (reads_only g (Trap p) p n refl (λ m. refl) r))
-  looked B f (Local s p) n k r =
-      every_joined Looked (spots_at L B f (Local s p) n) _ (looked_here B f (Local s p) n (L n) (self (Local s p) _ n r (omega arith) refl))
-      (looked (bind B s n) _ p (n + 1) k (reads_only g (Local s p) p n refl (λ m. refl) r))
-  looked B f (Awake e p) n k r = absurd k
-
-layers_same : (l j : Layer) → same_layer l j ≡ true → l ≡ j
-layers_same Resumed Resumed e = refl
-layers_same Resumed (Started r) e = absurd (false≢true e)
-layers_same (Started q) Resumed e = absurd (false≢true e)
-layers_same (Started q) (Started r) e = ap Started (eqb-true q r e)
 
 -- the emissions on a wire
 pub emissions_any : (B : Scope) (body : Term) (q : State) (given : Values) (V : Valuation) (w : Wire) (xs : List Spot) → list_any (val B body q given V) (emissions w xs) ≡ emitted V w xs

@@ -1,7 +1,5 @@
 mod Choices
 mod Places
-mod Rows
-mod Each
 mod Residues
 mod Ranks
 mod Constructive
@@ -10,13 +8,13 @@ mod Kept
 mod StepWalks
 mod Outputs
 mod ReactWalks
-mod Lists
-mod Decode
 mod Emissions
 mod Bridge
 mod WalkCodes
 mod WalkEmits
 mod EndForms
+mod Meets
+mod WalkEnds
 mod Told
 mod Joint
 mod Solutions

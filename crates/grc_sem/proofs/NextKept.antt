@@ -15,11 +15,11 @@ use Rattle.grc_graph.specs.Readings.{Valuation, seen_values, kept_at, held_at}
 use Rattle.grc_graph.specs.Coherence.{statuses, StartedWalked, ResumedWalked}
 use Rattle.grc_sem.proofs.Places.{no_loops-left}
 use Rattle.grc_sem.proofs.Residues.{no_loops-right, loop_body, or_other, resumed_live}
-use Rattle.grc_sem.proofs.Ranks.{layer_above-started}
+use Rattle.grc_solutions.proofs.Binders.{layer_above-started}
 use Rattle.grc_sem.proofs.Constructive.{and_true}
 use Rattle.grc_sem.proofs.Kept.{Keeps, kept_outside, trap_one, started_keeps, resumed_keeps, keeps_branch}
 use Rattle.grc_sem.proofs.WalkCodes.{started_code, resumed_code}
-use Rattle.grc_sem.proofs.Told.{Sees, sees_more}
+use Rattle.grc_sem.proofs.Meets.{Sees, sees_more}
 use Rattle.grc_sem.proofs.Ways.{Way, goal, inside, way_held, look_only, look_first, look_second, lower, way_starts, start_keeps, restart_keeps}
 
 -- a walk whose code is not 1 keeps no pause

@@ -9,7 +9,7 @@ use Rattle.grc_graph.specs.Wires.{Wire}
 use Rattle.grc_graph.specs.Edges.{Edge}
 use Rattle.grc_graph.specs.Orders.{GoUp}
 use Rattle.grc_graph.specs.Selected.{IsKernel}
-use Rattle.grc_sem.proofs.Lists.{Every, every_from, every_at}
+use Rattle.grc_solutions.proofs.Lists.{Every, every_from, every_at}
 
 pub kernel_of : (t : Term) (d : ℕ) → programs.IsKernel t → ExitsStandInTraps d t → d + trap_depth t ≤ 62 → IsKernel t
 kernel_of Nothing d k e l = tt

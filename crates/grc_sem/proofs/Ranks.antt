@@ -1,25 +1,17 @@
 -- Ranks of wires that go up along each edge, and the ranks of signals that they give to a place.
-use Rattle.std.proofs.Common.{◌≡◌, ℕ, ◌+◌, ◌<◌, ◌≤◌, Bool, true, false, ◌==◌, cond, refl, sym, ap, ◌∙◌, arith}
-use Rattle.std.proofs.lemmas.Bool.{cond_both, false≢true, le-leb, leb-true, cond-true}
+use Rattle.std.proofs.Common.{◌≡◌, ℕ, ◌<◌, Bool, true, false, ◌==◌, cond, refl, sym, ap, ◌∙◌, arith}
+use Rattle.std.proofs.lemmas.Bool.{false≢true}
 use Rattle.est_kernel.specs.Terms.{Expression, Tick, Sig, Not, And, Or, Term, Nothing, Pause, Emit, Exit, Present, Suspend, Seq, Loop, Par, Trap, Local, Awake}
 use Rattle.grc_graph.specs.Layers.{Layer, Resumed, Started, layer_above}
 use Rattle.grc_graph.specs.Scopes.{Binding, Entering, Outgoing, BoundAt, Unbound, Scope, bind}
 use Rattle.grc_graph.specs.Wires.{Wire, Out, StatusOf, status_wire}
-use Rattle.grc_graph.specs.Spots.{Spot}
 use Rattle.grc_sem.proofs.Places.{Tested, with_rank}
-use Rattle.grc_sem.proofs.Rows.{Between, Reads, FromStatus, ToStatus, StartedRow, ResumedRow}
+use Rattle.grc_solutions.proofs.Rows.{Between, Reads, FromStatus, ToStatus}
+use Rattle.grc_solutions.proofs.Binders.{Above, layer_above-restarted}
 
 -- up in rank
 abbrev pub Up : (Wire → ℕ) → Between
 Up R u w = R u < R w
-
--- the rows of an instance
-abbrev pub RowOf : Between → Scope → Term → ℕ → Layer → Type 0
-RowOf Q B t n Resumed = ResumedRow Q B t n
-RowOf Q B t n (Started r) = StartedRow Q B t n (Started r)
-
-abbrev pub RowAt : Between → Spot → Type 0
-RowAt Q x = RowOf Q x.scope x.statement x.path x.layer
 
 -- the rank of a signal with this binding, as a place in this layer sees it: 0 for what only enters; a signal out of
 -- scope has the rank N
@@ -31,10 +23,6 @@ binding_rank R N Unbound s l = N
 
 pub record Ranks (R : Wire → ℕ) (N : ℕ) (B : Scope) (l : Layer) (r : ℕ → ℕ) : Type 0 where
   pub each : (s : ℕ) → r s ≡ binding_rank R N (B s) s l
-
--- each binder stands above n
-pub record Above (B : Scope) (n : ℕ) : Type 0 where
-  pub each : (s b : ℕ) → B s ≡ BoundAt b → b < n
 
 -- what is tested has a value, and what is emitted a status wire
 abbrev pub has_value : Binding → Bool
@@ -90,13 +78,6 @@ emit_rank R N Unbound s l g h f = absurd (false≢true h)
 pub emitted_rank : (R : Wire → ℕ) (N : ℕ) (B : Scope) (s : ℕ) (l : Layer) (g : Wire) (r : ℕ → ℕ) → Ranks R N B l r → has_status (B s) ≡ true → ToStatus (Up R) g (status_wire (B s) s l) → R g < r s
 emitted_rank R N B s l g r k h f = let a = emit_rank R N (B s) s l g h f in omega (arith, k.each s)
 
-pub layer_above-started : (n q : ℕ) → q ≤ n → layer_above n (Started q) ≡ Started q
-layer_above-started n q l = cond-true _ (Started q) Resumed (le-leb q n l)
-
-pub layer_above-restarted : (b m : ℕ) → b < m → layer_above b (Started m) ≡ Resumed
-layer_above-restarted b m l =
-    cond_both _ (Started m) Resumed (λ x. x ≡ Resumed) (λ e. let i = leb-true m b e in absurd (omega arith)) (λ e. refl)
-
 bound_rank : (R : Wire → ℕ) (N : ℕ) (d : Bool) (n s : ℕ) (l : Layer) (b : Binding) (x : ℕ) → layer_above n l ≡ l → x ≡ binding_rank R N b s l → cond d (R (StatusOf n l)) x ≡ binding_rank R N (cond d (BoundAt n) b) s l
 bound_rank R N true n s l b x e h = ap (λ j. R (StatusOf n j)) (sym e)
 bound_rank R N false n s l b x e h = h
@@ -115,13 +96,3 @@ root_rank R N Unbound s m h = refl
 pub ranks_root : (R : Wire → ℕ) (N : ℕ) (B : Scope) (m : ℕ) (r : ℕ → ℕ) → Above B m → Ranks R N B Resumed r → Ranks R N B (Started m) r
 ranks_root R N B m r a k =
     record { each = λ s. k.each s ∙ root_rank R N (B s) s m (a.each s) }
-
-pub above_more : (B : Scope) (n m : ℕ) → n ≤ m → Above B n → Above B m
-above_more B n m l a = record { each = λ s b e. let i = a.each s b e in omega arith }
-
-pub bound_above : (d : Bool) (n b : ℕ) (x : Binding) → (x ≡ BoundAt b → b < n) → cond d (BoundAt n) x ≡ BoundAt b → b < n + 1
-bound_above true n b x h e = let f : n ≡ b = cc in omega arith
-bound_above false n b x h e = let i = h e in omega arith
-
-pub above_bind : (B : Scope) (n s : ℕ) → Above B n → Above (bind B s n) (n + 1)
-above_bind B n s a = record { each = λ t b e. bound_above (t == s) n b (B t) (a.each t b) e }

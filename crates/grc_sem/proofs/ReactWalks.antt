@@ -24,9 +24,11 @@ use Rattle.grc_graph.specs.Selected.{IsKernel, IsState}
 use Rattle.grc_graph.specs.Readings.{Valuation, seen_value, seen_values}
 use Rattle.grc_graph.specs.Coherence.{statuses, StartedWalked, ResumedWalked}
 use Rattle.grc_sem.proofs.Places.{Place, Knows, nothing_place}
-use Rattle.grc_sem.proofs.Each.{EachStarted, EachResumed}
+use Rattle.grc_solutions.proofs.Each.{EachStarted, EachResumed}
 use Rattle.grc_sem.proofs.Residues.{resumed_live, residual_static}
-use Rattle.grc_sem.proofs.Ranks.{Up, RowAt, Ranks, Above, InScope, binding_rank}
+use Rattle.grc_solutions.proofs.Rows.{RowAt}
+use Rattle.grc_solutions.proofs.Binders.{Above}
+use Rattle.grc_sem.proofs.Ranks.{Up, Ranks, InScope, binding_rank}
 use Rattle.grc_sem.proofs.Constructive.{started_place}
 use Rattle.grc_sem.proofs.Resumptions.{resumed_place}
 use Rattle.grc_sem.proofs.Kept.{holds_none}

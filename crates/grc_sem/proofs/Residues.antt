@@ -1,6 +1,6 @@
 -- What is left of a statement that holds a selected pause: its loops are not instantaneous, and its static codes are
 -- resumed codes of the statement.
-use Rattle.std.proofs.Common.{◌≡◌, ℕ, zero, suc, ◌+◌, ◌≤◌, Bool, true, false, ◌||◌, ◌==◌, cond, max, refl, sym, ap, ◌∙◌, subst, ⊎_elim, arith, List, [], ◌∷◌, ◌++◌}
+use Rattle.std.proofs.Common.{◌≡◌, ℕ, ◌+◌, ◌≤◌, Bool, true, false, ◌||◌, ◌==◌, cond, max, refl, sym, ap, ◌∙◌, subst, ⊎_elim, arith, List, [], ◌∷◌, ◌++◌}
 use Rattle.std.proofs.lemmas.Bool.{or_cases, or_left, or_right, and_from, eqb-true, eqb-false, eq-eqb, cond_both, false≢true, cases_Bool}
 use Rattle.est_base.specs.declared.place.Span.{Span}
 use Rattle.est_base.specs.Codes.{either, except}
@@ -13,6 +13,7 @@ use Rattle.grc_graph.specs.Layers.{can_pass}
 use Rattle.grc_graph.specs.Residuals.{holds, left_if, residual}
 use Rattle.grc_graph.specs.Selected.{IsKernel, IsSelected}
 use Rattle.grc_sem.proofs.Places.{no_loops-left}
+use Rattle.grc_solutions.proofs.Decode.{trap_code-le}
 
 pub no_loops-right : (xs ys : List Span) → xs ++ ys ≡ [] → ys ≡ []
 no_loops-right [] ys e = e
@@ -45,12 +46,6 @@ SomeCode A = (k : ℕ) × (k ≤ 63) × (A k ≡ true)
 
 pub some_has : (A : ℕ → Bool) → SomeCode A → has_code A ≡ true
 some_has A s = upto-in A s.0 63 s.2 s.1
-
-pub trap_code-le : (k : ℕ) → trap_code k ≤ k
-trap_code-le zero = omega arith
-trap_code-le (suc zero) = omega arith
-trap_code-le (suc (suc zero)) = omega arith
-trap_code-le (suc (suc (suc k))) = omega arith
 
 -- every statement has a code at its start
 pub started_some : (t : Term) → NoInstantLoop t → IsKernel t → SomeCode (started_codes t)

@@ -15,9 +15,11 @@ use Rattle.grc_graph.specs.Selected.{IsKernel, IsSelected}
 use Rattle.grc_graph.specs.Readings.{Valuation}
 use Rattle.grc_graph.specs.Coherence.{statuses, ResumedWalked}
 use Rattle.grc_sem.proofs.Places.{After, Place, Joins, no_loops-left, place_code, nothing_place, pause_place, later_place, later_after, loop_after, loop_place, present_after, present_place, awake_after, awake_place, seq_after, seq_place, par_after, par_place, trap_after, trap_place, local_after, local_place}
-use Rattle.grc_sem.proofs.Each.{EachResumed}
+use Rattle.grc_solutions.proofs.Each.{EachResumed}
 use Rattle.grc_sem.proofs.Residues.{no_loops-right, loop_body, or_other, resumed_live, residual_static, residual_codes}
-use Rattle.grc_sem.proofs.Ranks.{Up, RowAt, Ranks, Above, InScope, tested, ranks_more, ranks_root, above_more, above_bind}
+use Rattle.grc_solutions.proofs.Rows.{RowAt}
+use Rattle.grc_solutions.proofs.Binders.{Above, above_more, above_bind}
+use Rattle.grc_sem.proofs.Ranks.{Up, Ranks, InScope, tested, ranks_more, ranks_root}
 use Rattle.grc_sem.proofs.Constructive.{and_true, not_false, flag_gone, started_after, started_place}
 
 -- a branch of a resumed parallel: what is left of it, or nothing

@@ -24,8 +24,9 @@ use Rattle.grc_sem.specs.GraphWalks.{selected_of, program_values, graph_walk, Se
 use Rattle.grc_sem.specs.Laws.{NextStateIsKept, GraphRunsAreRuns, SolutionsReact, SolutionsShowAlike}
 use Rattle.grc_sem.proofs.Residues.{some_has, resumed_live}
 use Rattle.grc_sem.proofs.Kept.{Same, holds_same, residual_same}
-use Rattle.grc_sem.proofs.Told.{started_at, resumed_at}
-use Rattle.grc_sem.proofs.Joint.{statement_at, dead_wire}
+use Rattle.grc_sem.proofs.Meets.{started_at, resumed_at}
+use Rattle.grc_solutions.proofs.Looked.{statement_at}
+use Rattle.grc_sem.proofs.Joint.{dead_wire}
 use Rattle.grc_sem.proofs.ReactWalks.{react_held}
 use Rattle.grc_sem.proofs.Premises.{kernel_of, most_of, cap, cap_most, capped}
 use Rattle.grc_sem.proofs.Scoped.{fit_scope}

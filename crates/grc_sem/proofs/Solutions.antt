@@ -22,18 +22,22 @@ use Rattle.grc_graph.specs.Selected.{IsKernel, IsState}
 use Rattle.grc_graph.specs.Readings.{Valuation, seen_value, seen_values, holds_at, state_holds_at}
 use Rattle.grc_graph.specs.Coherence.{statuses, StartedWalked, ResumedWalked}
 use Rattle.grc_sem.specs.GraphWalks.{selected_of}
-use Rattle.grc_sem.proofs.Lists.{Every, every_left, every_flat_map, every_contained}
-use Rattle.grc_sem.proofs.Each.{EachStarted, EachResumed}
+use Rattle.grc_solutions.proofs.Lists.{Every, every_of_all, every_left, every_flat_map, every_contained}
+use Rattle.grc_solutions.proofs.Each.{EachStarted, EachResumed}
 use Rattle.grc_sem.proofs.Residues.{resumed_live}
-use Rattle.grc_sem.proofs.Ranks.{Up, RowAt, InScope, Above}
+use Rattle.grc_solutions.proofs.Rows.{RowAt}
+use Rattle.grc_solutions.proofs.Binders.{Above}
+use Rattle.grc_sem.proofs.Ranks.{Up, InScope}
 use Rattle.grc_graph.proofs.LiveLayers.{body_agrees}
-use Rattle.grc_sem.proofs.Decode.{layered, row_at}
+use Rattle.grc_solutions.proofs.Live.{layered}
+use Rattle.grc_solutions.proofs.Decode.{row_at}
 use Rattle.grc_sem.proofs.Emissions.{emission, emitted, Whole}
 use Rattle.grc_sem.proofs.Bridge.{started_any, resumed_any, split}
 use Rattle.grc_sem.proofs.WalkEmits.{Fresh, Shows, Reach, started_emits, resumed_emits, guard_bits}
 use Rattle.grc_sem.proofs.EndForms.{val, any_meaning}
-use Rattle.grc_sem.proofs.Told.{Met, Finds, told_started, told_resumed, head_started, head_resumed, finds_self}
-use Rattle.grc_sem.proofs.Joint.{every_of_all, emissions_any, Alive, met_at, met_spots}
+use Rattle.grc_sem.proofs.Meets.{Met, Finds, head_started, head_resumed, finds_self}
+use Rattle.grc_sem.proofs.Told.{told_started, told_resumed}
+use Rattle.grc_sem.proofs.Joint.{emissions_any, Alive, met_at, met_spots}
 use Rattle.grc_sem.proofs.ReactWalks.{Solution, scope_part, InPart, enters, goes_out, unbound}
 
 cond_none : (c : Bool) {x y : Bool} → x ≡ false → y ≡ false → cond c x y ≡ false

@@ -19,9 +19,11 @@ use Rattle.grc_graph.specs.Selected.{IsKernel, IsSelected}
 use Rattle.grc_graph.specs.Readings.{Valuation}
 use Rattle.grc_graph.specs.Coherence.{statuses, StartedWalked, ResumedWalked}
 use Rattle.grc_sem.proofs.Places.{Knows, with_settled, decision_is, with_rank, test_known, place_code, no_loops-left}
-use Rattle.grc_sem.proofs.Each.{EachStarted, EachResumed}
+use Rattle.grc_solutions.proofs.Each.{EachStarted, EachResumed}
 use Rattle.grc_sem.proofs.Residues.{no_loops-right, loop_body, loop_code, or_other, resumed_live, residual_static, residual_codes}
-use Rattle.grc_sem.proofs.Ranks.{Up, RowAt, Ranks, Above, InScope, tested, ranks_more, ranks_root, above_more, above_bind, layer_above-started}
+use Rattle.grc_solutions.proofs.Rows.{RowAt}
+use Rattle.grc_solutions.proofs.Binders.{Above, above_more, above_bind, layer_above-started}
+use Rattle.grc_sem.proofs.Ranks.{Up, Ranks, InScope, tested, ranks_more, ranks_root}
 use Rattle.grc_sem.proofs.Constructive.{and_true, not_false, flag_gone, started_place}
 use Rattle.grc_sem.proofs.Resumptions.{resumed_place}
 use Rattle.grc_sem.proofs.Kept.{Same, same_within, first_same, second_same, only_same, Keeps, holds_same, residual_same, second_none, first_none, both_first, both_second, selected_same, keeps_branch, started_keeps, resumed_keeps, holds_none}

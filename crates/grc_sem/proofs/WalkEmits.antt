@@ -16,7 +16,7 @@ use Rattle.grc_graph.specs.Readings.{Valuation}
 use Rattle.grc_graph.specs.Coherence.{statuses, StartedWalked, ResumedWalked}
 use Rattle.grc_sem.proofs.Places.{no_loops-left}
 use Rattle.grc_sem.proofs.Residues.{no_loops-right, loop_body, resumed_live}
-use Rattle.grc_sem.proofs.Ranks.{Above, above_more, above_bind, layer_above-restarted}
+use Rattle.grc_solutions.proofs.Binders.{Above, above_more, above_bind, layer_above-restarted}
 use Rattle.grc_sem.proofs.Constructive.{and_true}
 use Rattle.grc_sem.proofs.Emissions.{emission}
 use Rattle.grc_sem.proofs.Bridge.{started_any, resumed_any}

@@ -10,8 +10,8 @@ use Rattle.grc_graph.specs.Layers.{Layer, Resumed, Started, Liveness, layers_of,
 use Rattle.grc_graph.specs.Wires.{Go, End}
 use Rattle.grc_graph.specs.Residuals.{holds}
 use Rattle.grc_graph.specs.Readings.{Valuation, holds_at, kept_at}
-use Rattle.grc_sem.proofs.Decode.{Root}
-use Rattle.grc_sem.proofs.Ranks.{layer_above-restarted}
+use Rattle.grc_solutions.proofs.Live.{Root}
+use Rattle.grc_solutions.proofs.Binders.{layer_above-restarted}
 use Rattle.grc_sem.proofs.Bridge.{any_and, any_if, any_root, any_layers}
 
 -- the ways down a statement to its pauses

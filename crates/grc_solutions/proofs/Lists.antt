@@ -1,6 +1,6 @@
 -- Facts of each element of a list, as products.
 use Rattle.std.proofs.Common.{◌≡◌, ℕ, zero, suc, ◌<◌, Bool, true, false, cond, List, [], ◌∷◌, ◌++◌, length, map, filter, refl, sym, ◌∙◌, subst, ⊎_elim, arith}
-use Rattle.std.specs.List.{flat_map, Contains, slice_index_or}
+use Rattle.std.specs.List.{flat_map, All, Contains, slice_index_or}
 use Rattle.std.proofs.lemmas.Bool.{cond_both, cases_lt, false≢true}
 use Rattle.grc_graph.specs.Wires.{listed, codes_below}
 
@@ -77,3 +77,12 @@ every_at P (y ∷ xs) h x c = go c.0 c.1 c.2 (λ d. every_at P xs h.1 x d)
     go : (k : ℕ) → k < suc (length xs) → slice_index_or (y ∷ xs) k x ≡ x → (Contains xs x → P x) → P x
     go zero l e f = subst P e h.0
     go (suc k) l e f = f (k, omega arith, e)
+
+-- from the form with places
+pub every_of_all : {A : Type 0} (P : A → Type 0) (xs : List A) → All P xs → Every P xs
+every_of_all P [] h = tt
+every_of_all P (x ∷ xs) h = (h 0 x (omega arith), every_of_all P xs (λ k d l. h (suc k) d (omega arith)))
+
+pub every_both : {A : Type 0} (P Q : A → Type 0) (xs : List A) → Every P xs → Every Q xs → Every (λ x. P x × Q x) xs
+every_both P Q [] h g = tt
+every_both P Q (x ∷ xs) h g = ((h.0, g.0), every_both P Q xs h.1 g.1)

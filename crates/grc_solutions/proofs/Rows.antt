@@ -9,6 +9,7 @@ use Rattle.est_kernel.specs.StaticCodes.{codes_if, has_code, started_codes, resu
 use Rattle.grc_graph.specs.Layers.{Layer, Resumed, Started, can_pass}
 use Rattle.grc_graph.specs.Scopes.{Scope}
 use Rattle.grc_graph.specs.Wires.{Wire, Go, End, status_wire}
+use Rattle.grc_graph.specs.Spots.{Spot}
 
 -- a relation between wires
 abbrev pub Between : Type 1
@@ -115,3 +116,11 @@ ResumedRow Q B (Local s p) n =
     (has_code (resumed_codes p) ≡ true → Q (Go n Resumed) (Go (n + 1) Resumed))
     × Passes Q (resumed_codes p) (n + 1) Resumed n Resumed
 ResumedRow Q B (Awake e p) n = Unit {0}
+
+-- the rows of an instance
+abbrev pub RowOf : Between → Scope → Term → ℕ → Layer → Type 0
+RowOf Q B t n Resumed = ResumedRow Q B t n
+RowOf Q B t n (Started r) = StartedRow Q B t n (Started r)
+
+abbrev pub RowAt : Between → Spot → Type 0
+RowAt Q x = RowOf Q x.scope x.statement x.path x.layer

@@ -1,0 +1,282 @@
+-- What the wires of an instance meet, and what its place sees and finds.
+use Rattle.std.proofs.Common.{◌≡◌, ℕ, ◌+◌, ◌<◌, ◌≤◌, Bool, true, false, not, ◌&&◌, ◌||◌, ◌==◌, cond, ltb, List, [], ◌∷◌, ◌++◌, refl, sym, ap, ◌∙◌, subst, inl, inr, ⊎_elim, arith}
+use Rattle.std.specs.List.{list_any}
+use Rattle.std.proofs.lemmas.Bool.{or_cases, or_left, or_right, eqb-true, eqb-false, eq-eqb, ne_eqb, cond_both, false≢true, cases_Bool, cond-true, cond-false, lt-ltb, ltb-true}
+use Rattle.est_kernel.specs.Terms.{Term, Nothing, Pause, Emit, Exit, Present, Suspend, Seq, Loop, Par, Trap, Local, Awake}
+use Rattle.est_kernel.specs.Preorder.{statement_count}
+use Rattle.est_kernel.specs.StaticCodes.{has_code, resumed_codes}
+use Rattle.est_kernel.proofs.Sets.{same_tests}
+use Rattle.grc_graph.specs.Layers.{Layer, Resumed, Started, root_if, layer_above, same_layer}
+use Rattle.grc_graph.specs.Scopes.{Binding, Entering, Outgoing, BoundAt, Unbound, Scope, bind}
+use Rattle.grc_graph.specs.Wires.{Go, StatusOf, End, status_wire, instance_codes}
+use Rattle.grc_graph.specs.Formulas.{Formula}
+use Rattle.grc_graph.specs.Spots.{Spot}
+use Rattle.grc_graph.specs.Equations.{end_formula, is_wire}
+use Rattle.grc_graph.specs.Residuals.{holds}
+use Rattle.grc_graph.specs.Walk.{Walk, Values, State, with_value, then_walk, started_walk, resumed_walk}
+use Rattle.grc_graph.specs.Selected.{IsKernel}
+use Rattle.grc_graph.specs.Readings.{Valuation, seen_value, holds_at}
+use Rattle.grc_graph.specs.Coherence.{statuses, InstanceWalked, StartedWalked, ResumedWalked}
+use Rattle.grc_solutions.proofs.Each.{spot, EachStarted, EachResumed}
+use Rattle.grc_sem.proofs.Residues.{some_has}
+use Rattle.grc_solutions.proofs.Binders.{Above, layer_above-restarted}
+use Rattle.grc_solutions.proofs.Live.{Root}
+use Rattle.grc_solutions.proofs.Decode.{resumed_below}
+use Rattle.grc_sem.proofs.Emissions.{emitted, other_binding}
+use Rattle.grc_sem.proofs.WalkEmits.{Fresh, Shows}
+use Rattle.grc_sem.proofs.EndForms.{val}
+
+-- the status wire of a Local
+abbrev pub StatusMet : Valuation → List Spot → Term → ℕ → Layer → Type 0
+StatusMet V all (Local s p) n l = V (StatusOf n l) ≡ emitted V (StatusOf n l) all
+StatusMet V all t n l = Unit {0}
+
+-- the wires of an instance meet their equations
+pub record Met (B : Scope) (body : Term) (q : State) (given : Values) (V : Valuation) (all : List Spot) (x : Spot) : Type 0 where
+  pub go : V (Go x.path x.layer) ≡ val B body q given V x.entry
+  pub ends : (k : ℕ) → V (End x.path x.layer k) ≡ (instance_codes x.statement x.layer k && val B body q given V (end_formula x.scope x.statement x.path x.layer k))
+  pub status : StatusMet V all x.statement x.path x.layer
+
+pub eqb_flip : (a b : ℕ) → (a == b) ≡ (b == a)
+eqb_flip a b =
+    ⊎_elim (λ e. e ∙ sym (eq-eqb b a (sym (eqb-true a b e)))) (λ e. e ∙ sym (ne_eqb b a (λ z. eqb-false a b e (sym z)))) (cases_Bool (a == b))
+
+pub and_flip : (a b : Bool) → (a && b) ≡ (b && a)
+and_flip true true = refl
+and_flip true false = refl
+and_flip false true = refl
+and_flip false false = refl
+
+-- the facts at the statement itself
+pub head_started : (P : Spot → Type 0) (B : Scope) (f : Layer → Formula) (t : Term) (n : ℕ) (l : Layer) → IsKernel t → EachStarted P B f t n l → P (spot B f t n l)
+head_started P B f Nothing n l k e = e
+head_started P B f Pause n l k e = e
+head_started P B f (Emit s) n l k e = e
+head_started P B f (Exit c) n l k e = e
+head_started P B f (Present x p q) n l k e = e.0
+head_started P B f (Suspend x p) n l k e = e.0
+head_started P B f (Seq p q) n l k e = e.0
+head_started P B f (Loop at p) n l k e = e.0
+head_started P B f (Par p q) n l k e = e.0
+head_started P B f (Trap p) n l k e = e.0
+head_started P B f (Local s p) n l k e = e.0
+head_started P B f (Awake x p) n l k e = absurd k
+
+pub head_resumed : (P : Spot → Type 0) (B : Scope) (f : Layer → Formula) (t : Term) (n : ℕ) → IsKernel t → EachResumed P B f t n → P (spot B f t n Resumed)
+head_resumed P B f Nothing n k e = e
+head_resumed P B f Pause n k e = e
+head_resumed P B f (Emit s) n k e = e
+head_resumed P B f (Exit c) n k e = e
+head_resumed P B f (Present x p q) n k e = e.0
+head_resumed P B f (Suspend x p) n k e = e.0
+head_resumed P B f (Seq p q) n k e = e.0
+head_resumed P B f (Loop at p) n k e = e.0
+head_resumed P B f (Par p q) n k e = e.0
+head_resumed P B f (Trap p) n k e = e.0
+head_resumed P B f (Local s p) n k e = e.0
+head_resumed P B f (Awake x p) n k e = absurd k
+
+-- what a place sees
+pub record Sees (given : Values) (V : Valuation) (B : Scope) (l : Layer) (v : Values) : Type 0 where
+  pub each : (s : ℕ) → v s ≡ seen_value given V (B s) s l
+
+bound_sees : (given : Values) (V : Valuation) (d : Bool) (n s : ℕ) (l : Layer) (b : Binding) (x : Bool) → layer_above n l ≡ l → x ≡ seen_value given V b s l → cond d (V (StatusOf n l)) x ≡ seen_value given V (cond d (BoundAt n) b) s l
+bound_sees given V true n s l b x e h = ap (λ j. V (StatusOf n j)) (sym e)
+bound_sees given V false n s l b x e h = h
+
+pub sees_more : (given : Values) (V : Valuation) (B : Scope) (n s : ℕ) (l : Layer) (v : Values) → layer_above n l ≡ l → Sees given V B l v → Sees given V (bind B s n) l (with_value v s (V (StatusOf n l)))
+sees_more given V B n s l v e h = record { each = λ t. bound_sees given V (t == s) n t l (B t) (v t) e (h.each t) }
+
+root_sees : (given : Values) (V : Valuation) (b : Binding) (s m : ℕ) → ((c : ℕ) → b ≡ BoundAt c → c < m) → seen_value given V b s Resumed ≡ seen_value given V b s (Started m)
+root_sees given V Entering s m h = refl
+root_sees given V Outgoing s m h = refl
+root_sees given V (BoundAt b) s m h = ap (λ j. V (StatusOf b j)) (sym (layer_above-restarted b m (h b refl)))
+root_sees given V Unbound s m h = refl
+
+pub sees_root : (given : Values) (V : Valuation) (B : Scope) (m : ℕ) (v : Values) → Above B m → Sees given V B Resumed v → Sees given V B (Started m) v
+sees_root given V B m v a h = record { each = λ s. h.each s ∙ root_sees given V (B s) s m (a.each s) }
+
+-- one of a list of roots
+any_true : (f : ℕ → Bool) (r : ℕ) (rs : List ℕ) → Root r rs → f r ≡ true → list_any f rs ≡ true
+any_true f r [] i e = absurd i
+any_true f r (x ∷ xs) i e =
+    ⊎_elim (λ z. or_left (f x) _ (subst (λ j. f j ≡ true) z e)) (λ z. or_right (f x) _ (any_true f r xs z e)) i
+
+any_one : (f : ℕ → Bool) (r : ℕ) (rs : List ℕ) → ((x : ℕ) → (x ≡ r → ⊥) → f x ≡ false) → list_any f rs ≡ true → f r ≡ true
+any_one f r [] h e = absurd (false≢true e)
+any_one f r (x ∷ xs) h e =
+    ⊎_elim
+    (λ u. ⊎_elim (λ z. subst (λ j. f j ≡ true) (eqb-true x r z) u) (λ z. absurd (false≢true (sym (h x (eqb-false x r z)) ∙ u))) (cases_Bool (x == r)))
+    (λ u. any_one f r xs h u) (or_cases (f x) (list_any f xs) e)
+
+pub any_single : (f : ℕ → Bool) (r : ℕ) (rs : List ℕ) → Root r rs → ((x : ℕ) → (x ≡ r → ⊥) → f x ≡ false) → list_any f rs ≡ f r
+any_single f r rs i h = same_tests _ _ (any_one f r rs h) (any_true f r rs i)
+
+pub any_nothing : (f : ℕ → Bool) (rs : List ℕ) → ((x : ℕ) → Root x rs → f x ≡ false) → list_any f rs ≡ false
+any_nothing f [] h = refl
+any_nothing f (x ∷ xs) h = ap (λ b. b || list_any f xs) (h x (inl refl)) ∙ any_nothing f xs (λ y i. h y (inr i))
+
+-- the wire of a Local's own status
+pub own_fresh : (n : ℕ) (l : Layer) → Fresh (StatusOf n l) (n + 1)
+own_fresh n l = record { other = λ m j k. ap (λ b. b && same_layer j l) (ne_eqb m n (λ e. omega arith)) }
+
+pub same_self : (l : Layer) → same_layer l l ≡ true
+same_self Resumed = refl
+same_self (Started r) = eq-eqb r r refl
+
+own_bound : (d c : Bool) (n t : ℕ) (l i : Layer) (b : Binding) → same_layer (layer_above n l) i ≡ c → (b ≡ BoundAt n → ⊥) → is_wire (status_wire (cond d (BoundAt n) b) t l) (StatusOf n i) ≡ (c && d)
+own_bound true c n t l i b e h = ap (λ x. x && same_layer (layer_above n l) i) (eq-eqb n n refl) ∙ e ∙ sym (and_true_right c)
+  where
+    and_true_right : (c : Bool) → (c && true) ≡ c
+    and_true_right true = refl
+    and_true_right false = refl
+own_bound false c n t l i b e h = other_binding b t n l i h ∙ sym (and_false c)
+  where
+    and_false : (c : Bool) → (c && false) ≡ false
+    and_false true = refl
+    and_false false = refl
+
+pub own_shows : (B : Scope) (n s : ℕ) (l i : Layer) (c : Bool) → Above B n → same_layer (layer_above n l) i ≡ c → Shows (bind B s n) l (StatusOf n i) s c
+own_shows B n s l i c a e =
+    record { each = λ t. own_bound (t == s) c n t l i (B t) e (λ z. let k = a.each t n z in omega arith) }
+
+pub then_second : (x y : Walk) → (x.code == 0) ≡ true → (then_walk x y).code ≡ y.code
+then_second x y e = ap (λ d. (cond d (record { signals = λ t. x.signals t || y.signals t; code = y.code; kept = y.kept }) x).code) e
+
+pub then_first : (x y : Walk) → (x.code == 0) ≡ false → (then_walk x y).code ≡ x.code
+then_first x y e = ap (λ d. (cond d (record { signals = λ t. x.signals t || y.signals t; code = y.code; kept = y.kept }) x).code) e
+
+pub cond_first : (d : Bool) (x y : Walk) → d ≡ true → (cond d x y).code ≡ x.code
+cond_first d x y e = ap (λ c. (cond c x y).code) e
+
+pub cond_second : (d : Bool) (x y : Walk) → d ≡ false → (cond d x y).code ≡ y.code
+cond_second d x y e = ap (λ c. (cond c x y).code) e
+
+pub root_left : (r : ℕ) (c : Bool) (xs ys : List ℕ) → c ≡ true → Root r xs → Root r (cond c xs [] ++ ys)
+root_left r true xs ys e h = go xs h
+  where
+    go : (zs : List ℕ) → Root r zs → Root r (zs ++ ys)
+    go [] i = absurd i
+    go (z ∷ zs) i = ⊎_elim (λ u. inl u) (λ u. inr (go zs u)) i
+root_left r false xs ys e h = absurd (false≢true e)
+
+pub code_lives : (p : Term) → IsKernel p → (k : ℕ) → resumed_codes p k ≡ true → has_code (resumed_codes p) ≡ true
+code_lives p b k h = some_has (resumed_codes p) (k, omega (arith, resumed_below p b k h), h)
+
+pub not_both : (c d : Bool) → (c && d) ≡ false → d ≡ true → c ≡ false
+not_both true true e h = absurd (false≢true (sym e))
+not_both true false e h = absurd (false≢true h)
+not_both false d e h = refl
+
+pub not_back : (d : Bool) → not d ≡ true → d ≡ false
+not_back true e = absurd (false≢true e)
+not_back false e = refl
+
+-- the wires of a started statement itself
+pub started_at : (V : Valuation) (t : Term) (n : ℕ) (l : Layer) (v : Values) (b : Bool) → IsKernel t → StartedWalked V t n l v b → InstanceWalked V n l b (started_walk (statuses V) t n l v)
+started_at V Nothing n l v b k w = w
+started_at V Pause n l v b k w = w
+started_at V (Emit s) n l v b k w = w
+started_at V (Exit c) n l v b k w = w
+started_at V (Present e p q) n l v b k w = w.0
+started_at V (Suspend e p) n l v b k w = w.0
+started_at V (Seq p q) n l v b k w = w.0
+started_at V (Loop at p) n l v b k w = w.0
+started_at V (Par p q) n l v b k w = w.0
+started_at V (Trap p) n l v b k w = w.0
+started_at V (Local s p) n l v b k w = w.0
+started_at V (Awake e p) n l v b k w = absurd k
+
+pub resumed_at : (V : Valuation) (S : ℕ → Bool) (t : Term) (n : ℕ) (v : Values) (b : Bool) → IsKernel t → ResumedWalked V S t n v b → InstanceWalked V n Resumed b (resumed_walk (statuses V) S t n v)
+resumed_at V S Nothing n v b k w = w
+resumed_at V S Pause n v b k w = w
+resumed_at V S (Emit s) n v b k w = w
+resumed_at V S (Exit c) n v b k w = w
+resumed_at V S (Present e p q) n v b k w = w.0
+resumed_at V S (Suspend e p) n v b k w = w.0
+resumed_at V S (Seq p q) n v b k w = w.0
+resumed_at V S (Loop at p) n v b k w = w.0
+resumed_at V S (Par p q) n v b k w = w.0
+resumed_at V S (Trap p) n v b k w = w.0
+resumed_at V S (Local s p) n v b k w = w.0
+resumed_at V S (Awake e p) n v b k w = absurd k
+
+-- what a lookup of held pauses finds
+pub holds_self : (S : ℕ → Bool) (t : Term) (n : ℕ) → holds_at S t n n ≡ holds S t n
+holds_self S Nothing n = refl
+holds_self S Pause n = refl
+holds_self S (Emit s) n = refl
+holds_self S (Exit c) n = refl
+holds_self S (Present e p q) n = cond-true (n == n) _ _ (eq-eqb n n refl)
+holds_self S (Suspend e p) n = cond-true (n == n) _ _ (eq-eqb n n refl)
+holds_self S (Seq p q) n = cond-true (n == n) _ _ (eq-eqb n n refl)
+holds_self S (Loop at p) n = cond-true (n == n) _ _ (eq-eqb n n refl)
+holds_self S (Par p q) n = cond-true (n == n) _ _ (eq-eqb n n refl)
+holds_self S (Trap p) n = cond-true (n == n) _ _ (eq-eqb n n refl)
+holds_self S (Local s p) n = cond-true (n == n) _ _ (eq-eqb n n refl)
+holds_self S (Awake e p) n = refl
+
+-- the lookup g finds in the statement t, at n, what S selects
+pub record Finds (g : ℕ → Bool) (S : ℕ → Bool) (t : Term) (n : ℕ) : Type 0 where
+  pub each : (m : ℕ) → n ≤ m → m < n + statement_count t → g m ≡ holds_at S t n m
+
+pub finds_only : (g S : ℕ → Bool) (t p : Term) (n : ℕ) → statement_count t ≡ 1 + statement_count p → ((m : ℕ) → holds_at S t n m ≡ cond (m == n) (holds S t n) (holds_at S p (n + 1) m)) → Finds g S t n → Finds g S p (n + 1)
+finds_only g S t p n c f h =
+    record { each = λ m l u. h.each m (omega arith) (omega arith) ∙ f m ∙ cond-false (m == n) _ _ (ne_eqb m n (λ e. omega arith)) }
+
+lower : (a b : ℕ) → b ≤ a → ltb a b ≡ false
+lower a b h = cond_both (ltb a b) true false (λ x. ltb a b ≡ false) (λ e. let i = ltb-true a b e in absurd (omega arith)) (λ e. e)
+
+pub finds_first : (g S : ℕ → Bool) (t p q : Term) (n : ℕ) → statement_count t ≡ 1 + statement_count p + statement_count q → ((m : ℕ) → holds_at S t n m ≡ cond (m == n) (holds S t n) (cond (ltb m (n + 1 + statement_count p)) (holds_at S p (n + 1) m) (holds_at S q (n + 1 + statement_count p) m))) → Finds g S t n → Finds g S p (n + 1)
+finds_first g S t p q n c f h =
+    record {
+      each = λ m l u.
+          h.each m (omega arith) (omega arith) ∙ f m ∙ cond-false (m == n) _ _ (ne_eqb m n (λ e. omega arith))
+          ∙ cond-true (ltb m (n + 1 + statement_count p)) _ _ (lt-ltb m (n + 1 + statement_count p) u);
+    }
+
+pub finds_second : (g S : ℕ → Bool) (t p q : Term) (n : ℕ) → statement_count t ≡ 1 + statement_count p + statement_count q → ((m : ℕ) → holds_at S t n m ≡ cond (m == n) (holds S t n) (cond (ltb m (n + 1 + statement_count p)) (holds_at S p (n + 1) m) (holds_at S q (n + 1 + statement_count p) m))) → Finds g S t n → Finds g S q (n + 1 + statement_count p)
+finds_second g S t p q n c f h =
+    record {
+      each = λ m l u.
+          h.each m (omega arith) (omega arith) ∙ f m ∙ cond-false (m == n) _ _ (ne_eqb m n (λ e. omega arith))
+          ∙ cond-false (ltb m (n + 1 + statement_count p)) _ _ (lower m (n + 1 + statement_count p) l);
+    }
+
+count_some : (t : Term) → 1 ≤ statement_count t
+count_some Nothing = omega arith
+count_some Pause = omega arith
+count_some (Emit s) = omega arith
+count_some (Exit c) = omega arith
+count_some (Present e p q) = omega arith
+count_some (Suspend e p) = omega arith
+count_some (Seq p q) = omega arith
+count_some (Loop at p) = omega arith
+count_some (Par p q) = omega arith
+count_some (Trap p) = omega arith
+count_some (Local s p) = omega arith
+count_some (Awake e p) = omega arith
+
+pub finds_self : (g S : ℕ → Bool) (t : Term) (n : ℕ) → Finds g S t n → g n ≡ holds S t n
+finds_self g S t n h = h.each n (omega arith) (omega (arith, count_some t)) ∙ holds_self S t n
+
+-- roots at or above a statement
+pub low_second : (c d : Bool) (rs : List ℕ) (n m : ℕ) → n ≤ m → ((r : ℕ) → Root r rs → r ≤ n) → (r : ℕ) → Root r (cond c rs [] ++ root_if d m) → r ≤ m
+low_second c d rs n m l h r i = go (cond c rs []) (λ x j. first c x j) i
+  where
+    first : (c : Bool) (x : ℕ) → Root x (cond c rs []) → x ≤ m
+    first true x j = let k = h x j in omega arith
+    first false x j = absurd j
+
+    own : (d : Bool) (x : ℕ) → Root x (root_if d m) → x ≤ m
+    own true x j = ⊎_elim (λ e. omega arith) (λ e. absurd e) j
+    own false x j = absurd j
+
+    go : (xs : List ℕ) → ((x : ℕ) → Root x xs → x ≤ m) → Root r (xs ++ root_if d m) → r ≤ m
+    go [] f j = own d r j
+    go (x ∷ xs) f j = ⊎_elim (λ e. f r (inl e)) (λ e. go xs (λ y k. f y (inr k)) e) j
+
+pub root_own : (m : ℕ) (c : Bool) (xs : List ℕ) → c ≡ true → Root m (xs ++ root_if c m)
+root_own m true [] e = inl refl
+root_own m false [] e = absurd (false≢true e)
+root_own m c (x ∷ xs) e = inr (root_own m c xs e)

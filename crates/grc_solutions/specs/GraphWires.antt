@@ -1,0 +1,43 @@
+-- To believe: which wires the graph of a program has, which wires its edges join, and what its equations read.
+use Rattle.std.specs.Prelude.{◌≡◌, ◌≢◌, List, map, All, AllPairs, Contains}
+use Rattle.est_kernel.specs.Plain.{Program, interface_of}
+use Rattle.grc_graph.specs.Wires.{Wire}
+use Rattle.grc_graph.specs.Equations.{Equation, wires}
+use Rattle.grc_graph.specs.Edges.{Edge, edge, edges}
+use Rattle.grc_graph.specs.Selected.{IsKernel}
+use Rattle.grc_graph.specs.Reads.{ReadsOnly}
+use Rattle.grc_graph.specs.GraphRuns.{program_spots, graph_of}
+
+-- the wires and the edges of a program's graph, in order
+abbrev pub program_wires : Program → List Wire
+program_wires p = wires (interface_of p).outgoing (program_spots p)
+
+abbrev pub program_edges : Program → List Edge
+program_edges p = edges (program_spots p)
+
+-- the wires of equations, in order
+abbrev pub equation_wires : List Equation → List Wire
+equation_wires es = map (λ e. e.wire) es
+
+-- no wire stands twice
+abbrev pub Differ : List Wire → Type 0
+Differ ws = AllPairs (λ u w. u ≢ w) ws
+
+-- The graph of a program has one equation for each of its wires, in their order, and no wire stands twice.
+abbrev pub WiresDiffer : Type 0
+WiresDiffer =
+    (p : Program) → IsKernel p.body
+    → (equation_wires (graph_of p).equations ≡ program_wires p) × Differ (program_wires p)
+
+-- Each edge joins two wires of the graph.
+abbrev pub EdgesJoinWires : Type 0
+EdgesJoinWires =
+    (p : Program) → IsKernel p.body
+    → All (λ e. Contains (program_wires p) e.from × Contains (program_wires p) e.to) (program_edges p)
+
+-- Each wire of the graph that an equation reads has an edge to the equation's wire.
+abbrev pub ReadsAreEdges : Type 0
+ReadsAreEdges =
+    (p : Program) → IsKernel p.body
+    → All (λ e. ReadsOnly (λ u. Contains (program_wires p) u → Contains (program_edges p) (edge u e.wire)) e.formula)
+    (graph_of p).equations

@@ -1,0 +1,3 @@
+pub mod GraphWires
+pub mod Solutions
+pub mod NumberedGraphs

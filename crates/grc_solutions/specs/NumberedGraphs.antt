@@ -1,0 +1,61 @@
+-- To believe: the graph of a program by the numbers of its wires: evaluation orders, ranks, and walks that close.
+use Rattle.std.specs.Prelude.{◌≡◌, ℕ, ◌+◌, ◌-◌, ◌<◌, List, length, map, slice_index, Contains}
+use Rattle.est_base.specs.declared.indices.WireId.{WireId}
+use Rattle.est_kernel.specs.Plain.{Program}
+use Rattle.grc_graph.specs.Wires.{Wire}
+use Rattle.grc_graph.specs.Formulas.{Formula}
+use Rattle.grc_graph.specs.Equations.{Equation}
+use Rattle.grc_graph.specs.Edges.{Edge}
+use Rattle.grc_graph.specs.Orders.{GoUp}
+use Rattle.grc_graph.specs.Selected.{IsKernel}
+use Rattle.grc_graph.specs.WireOrders.{WireEdge, wire_at, AreRanks, IsWireOrder}
+use Rattle.grc_graph.specs.PlainGraphs as graphs
+use Rattle.grc_graph.specs.NumberedEdges.{AreEdgesOf}
+use Rattle.grc_graph.specs.Reads.{IsReadingOrder}
+use Rattle.grc_graph.specs.GraphRuns.{graph_of}
+use Rattle.grc_solutions.specs.GraphWires.{program_wires, program_edges, equation_wires, Differ}
+use Rattle.grc_solutions.specs.Solutions.{ReadUp}
+
+-- the formulas of equations, in order
+abbrev pub formulas_of : List Equation → List Formula
+formulas_of es = map (λ e. e.formula) es
+
+-- these pairs of numbers have this edge
+abbrev pub HasEdge : List WireEdge → (from to : ℕ) → Type 0
+HasEdge pairs from to = Contains pairs (record { 0 = from }, record { 0 = to })
+
+-- a walk of one edge or more that ends where it began: each wire of the list has an edge to the next, and the last one
+-- to the first
+pub record IsClosedWalk (pairs : List WireEdge) (walk : List WireId) : Type 0 where
+  pub some_wire : 0 < length walk
+  pub steps : (k : ℕ) → k + 1 < length walk → HasEdge pairs (wire_at walk k) (wire_at walk (k + 1))
+  pub closes : HasEdge pairs (wire_at walk (length walk - 1)) (wire_at walk 0)
+
+-- An evaluation order along the edges of a program's graph is one along which its equations read.
+abbrev pub WireOrdersAreReadingOrders : Type 0
+WireOrdersAreReadingOrders =
+    (p : Program) (pairs : List WireEdge) (order : List WireId) → IsKernel p.body
+    → AreEdgesOf (program_wires p) (program_edges p) pairs → IsWireOrder (length (program_wires p)) pairs order
+    → IsReadingOrder (program_wires p) (formulas_of (graph_of p).equations) order
+
+-- Ranks by number that grow along the edges of a program's graph are ranks of its wires in which each edge goes up.
+abbrev pub WireRanksGoUp : Type 0
+WireRanksGoUp =
+    (p : Program) (pairs : List WireEdge) (ranks : List ℕ) → IsKernel p.body
+    → AreEdgesOf (program_wires p) (program_edges p) pairs → AreRanks (length (program_wires p)) pairs ranks
+    → (rank : Wire → ℕ)
+    × GoUp rank (program_edges p)
+    × ((w : ℕ) → w < length (program_wires p) → rank (graphs.wire_at (program_wires p) w) ≡ slice_index ranks w)
+
+-- Where some walk along the edges closes, they go up in no rank.
+abbrev pub ClosedWalksHaveNoRanks : Type 0
+ClosedWalksHaveNoRanks =
+    (names : List Wire) (edges : List Edge) (pairs : List WireEdge) (walk : List WireId) (rank : Wire → ℕ)
+    → AreEdgesOf names edges pairs → IsClosedWalk pairs walk → GoUp rank edges → ⊥
+
+-- Equations that read along an order, no two of one wire, read up in some rank: so they have one solution.
+abbrev pub ReadingOrdersReadUp : Type 0
+ReadingOrdersReadUp =
+    (es : List Equation) (order : List WireId) → Differ (equation_wires es)
+    → IsReadingOrder (equation_wires es) (formulas_of es) order
+    → (rank : Wire → ℕ) × ReadUp rank es
