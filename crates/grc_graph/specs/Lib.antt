@@ -29,3 +29,5 @@ pub mod TreeReadings
 pub mod Statements
 pub mod StatementViews
 pub mod InstanceLaws
+pub mod WireNames
+pub mod PlainWireNames

@@ -16,6 +16,7 @@ mod laws;
 mod orders;
 mod statements;
 mod trees;
+mod wire_names;
 mod wires;
 
 pub use code_tables::{has_some_code, resumed_codes, started_codes};
@@ -29,4 +30,5 @@ pub use laws::{
 pub use orders::{Edges, Order, Ranks};
 pub use statements::{Entry, Statement, list_statements};
 pub use trees::{SelForm, SelNode, SelTree};
+pub use wire_names::{LayerName, Path, WireName};
 pub use wires::{Node, Wire};
