@@ -1,6 +1,6 @@
 -- To believe: the paths of the statements of a body, and the names of wires by paths. A number that is out of range,
 -- which no graph has, is read as the body's path, and as a signal with the empty name.
-use Rattle.std.specs.Prelude.{ℕ, List, [], ◌∷◌, ◌++◌, map, slice_index_or}
+use Rattle.std.specs.Prelude.{ℕ, List, [], ◌∷◌, ◌++◌, map, slice_index_or, Option, Some, None}
 use Rattle.est_kernel.specs.Terms.{Term, Nothing, Pause, Emit, Exit, Present, Suspend, Seq, Loop, Par, Trap, Local, Awake}
 use Rattle.est_kernel.specs.Preorder.{preorder}
 use Rattle.est_kernel.specs.Plain.{Program}
@@ -35,24 +35,29 @@ path_at body n = slice_index_or (paths body) n []
 abbrev pub signal_name : List (List ℕ) → ℕ → List ℕ
 signal_name signals s = slice_index_or signals s []
 
--- the name of the signal that a statement binds
-abbrev pub bound_name : List (List ℕ) → Term → List ℕ
-bound_name signals Nothing = []
-bound_name signals Pause = []
-bound_name signals (Emit s) = []
-bound_name signals (Exit k) = []
-bound_name signals (Present e p q) = []
-bound_name signals (Suspend e p) = []
-bound_name signals (Seq p q) = []
-bound_name signals (Loop at p) = []
-bound_name signals (Par p q) = []
-bound_name signals (Trap p) = []
-bound_name signals (Local s p) = signal_name signals s
-bound_name signals (Awake e p) = []
+-- the signal that a statement binds
+abbrev pub bound_signal : Term → Option ℕ
+bound_signal Nothing = None
+bound_signal Pause = None
+bound_signal (Emit s) = None
+bound_signal (Exit k) = None
+bound_signal (Present e p q) = None
+bound_signal (Suspend e p) = None
+bound_signal (Seq p q) = None
+bound_signal (Loop at p) = None
+bound_signal (Par p q) = None
+bound_signal (Trap p) = None
+bound_signal (Local s p) = Some s
+bound_signal (Awake e p) = None
 
--- the statement with a number
-abbrev pub statement_at : Term → ℕ → Term
-statement_at body n = slice_index_or (preorder body) n Nothing
+-- the name of a bound signal
+abbrev pub bound_name : List (List ℕ) → Option ℕ → List ℕ
+bound_name signals None = []
+bound_name signals (Some s) = signal_name signals s
+
+-- the signal that the statement with a number binds
+abbrev pub bound_at : Term → ℕ → Option ℕ
+bound_at body n = bound_signal (slice_index_or (preorder body) n Nothing)
 
 pub data LayerName : Type 0 where
   Resumed : LayerName
@@ -73,5 +78,5 @@ abbrev pub wire_name : Program → wires.Wire → WireName
 wire_name p (wires.Out s) = Out (signal_name p.signals s)
 wire_name p (wires.Go n l) = Go (path_at p.body n) (layer_name p.body l)
 wire_name p (wires.StatusOf n l) =
-    StatusOf (path_at p.body n) (layer_name p.body l) (bound_name p.signals (statement_at p.body n))
+    StatusOf (path_at p.body n) (layer_name p.body l) (bound_name p.signals (bound_at p.body n))
 wire_name p (wires.End n l k) = End (path_at p.body n) (layer_name p.body l) k
