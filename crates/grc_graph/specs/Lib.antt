@@ -32,3 +32,5 @@ pub mod InstanceLaws
 pub mod Rows
 pub mod WireTables
 pub mod Neighbouring
+pub mod WireNames
+pub mod PlainWireNames

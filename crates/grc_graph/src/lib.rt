@@ -17,6 +17,7 @@ mod neighbours;
 mod orders;
 mod statements;
 mod trees;
+mod wire_names;
 mod wires;
 
 pub use code_tables::{has_some_code, resumed_codes, started_codes};
@@ -31,4 +32,5 @@ pub use neighbours::{Neighbours, layer_above};
 pub use orders::{Edges, Order, Ranks};
 pub use statements::{Entry, Statement, list_statements};
 pub use trees::{SelForm, SelNode, SelTree};
+pub use wire_names::{LayerName, Path, WireName};
 pub use wires::{Node, Wire};
