@@ -8,3 +8,10 @@ pub mod LiveInstances
 pub mod ResidualCodes
 pub mod ResumedPauses
 mod InstanceExamples
+pub mod CodesBelow
+pub mod RowReads
+pub mod WireRuns
+pub mod WireFilling
+pub mod NeighbourReads
+pub mod LiveLayers
+pub mod RowSpots

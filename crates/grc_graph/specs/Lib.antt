@@ -31,3 +31,6 @@ pub mod StatementViews
 pub mod InstanceLaws
 pub mod WireNames
 pub mod PlainWireNames
+pub mod Rows
+pub mod WireTables
+pub mod Neighbouring
