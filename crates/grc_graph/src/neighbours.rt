@@ -145,6 +145,37 @@ impl Neighbours {
         self.find_wire(i, Wire::End(i, code))
     }
 
+    /// The `go` of a statement in a layer; None where it is not live there. It takes no memory.
+    pub fn find_go(&self, path: u32, layer: Layer) -> Option<WireId>
+        ensures { HasName (names_in self.now) result (Go path (layer_of layer)) }
+    {
+        match self.find_instance(path, layer) {
+            Some(i) => Some(self.go(i)),
+            None => None,
+        }
+    }
+
+    /// The status wire of a Local in a layer; None where there is none. It takes no memory.
+    pub fn find_status(&self, path: u32, layer: Layer) -> Option<WireId>
+        ensures { HasName (names_in self.now) result (StatusOf path (layer_of layer)) }
+    {
+        match self.find_instance(path, layer) {
+            Some(i) => self.status(i),
+            None => None,
+        }
+    }
+
+    /// The wire of a statement's end with this code in a layer; None where there is none. It takes no
+    /// memory.
+    pub fn find_end(&self, path: u32, layer: Layer, code: u8) -> Option<WireId>
+        ensures { HasName (names_in self.now) result (End path (layer_of layer) code) }
+    {
+        match self.find_instance(path, layer) {
+            Some(i) => self.end(i, code),
+            None => None,
+        }
+    }
+
     /// The wire of an outgoing signal; None where the signal does not go out. It takes no memory.
     pub fn out(&self, signal: SigId) -> Option<WireId>
         ensures { HasName (names_in self.now) result (Out signal.0) }
