@@ -29,6 +29,6 @@ pub use laws::{
 };
 pub use neighbours::{Neighbours, layer_above};
 pub use orders::{Edges, Order, Ranks};
-pub use statements::{Entry, Statement, list_statements};
+pub use statements::{Binding, Entry, Statement, list_statements};
 pub use trees::{SelForm, SelNode, SelTree};
 pub use wires::{Node, Wire};
