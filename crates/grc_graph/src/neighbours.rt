@@ -37,7 +37,7 @@ impl Neighbours {
     ghost use Rattle.grc_graph.specs.Neighbouring.{instances_in, names_in};
     ghost use Rattle.grc_graph.specs.PlainGraphs.{instance_at};
     ghost use Rattle.grc_graph.specs.PlainInstances.{instance_of, layer_of};
-    ghost use Rattle.grc_graph.specs.Statements.{body_listed};
+    ghost use Rattle.grc_graph.specs.Statements.{program_listed};
     ghost use Rattle.grc_graph.specs.StatementViews.{view_of};
     ghost use Rattle.grc_graph.specs.WireTables.{IsNumberOf, HasInstance, HasName};
     ghost use Rattle.grc_graph.specs.Wires.{Out, Go, StatusOf, End};
@@ -51,7 +51,7 @@ impl Neighbours {
         live: &Instances,
     ) -> Result<Neighbours, NoMemory>
         requires formed { IsWellFormed (program_of program.now) }
-        requires statements { map view_of statements.now ≡ body_listed (term_of program.now.body) }
+        requires statements { map view_of statements.now ≡ program_listed (program_of program.now) }
         requires codes { AreCodesOf codes.now (term_of program.now.body) }
         requires live { map instance_of live.now.list.items ≡ body_instances (term_of program.now.body) }
         requires few { length (program_wires (program_of program.now)) ≤ WIRES }
