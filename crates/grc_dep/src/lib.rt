@@ -4,6 +4,9 @@
 //! each edge show it, and the wires can be evaluated one by one; else a closed walk is shown.
 #![tactic(auto)]
 
+mod linking;
+mod lookups;
+mod names;
 mod ranking;
 
 pub use ranking::{Ranked, cycle_or_rank};

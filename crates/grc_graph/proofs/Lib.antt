@@ -9,8 +9,11 @@ pub mod ResidualCodes
 pub mod ResumedPauses
 mod InstanceExamples
 pub mod CodesBelow
+pub mod StatementLists
 pub mod RowReads
+pub mod RowFacts
 pub mod WireRuns
+pub mod WireNames
 pub mod WireFilling
 pub mod NeighbourReads
 pub mod LiveLayers

@@ -351,3 +351,57 @@ path_within body insts i x e l h =
     let same : instance_of x ≡ get_or (body_instances body) i (instance_of x)
     = ap instance_of h ∙ sym (name_at insts i x (instance_of x) l) ∙ ap (λ l. get_or l i (instance_of x)) e in
     omega (arith, a.1, ap (λ y. y.path) same)
+
+-- ---- wires of a statement in a layer
+
+abbrev NotLive : List Instance → ℕ → Layer → Type 0
+NotLive insts n l = Contains (map instance_of insts) (record { path = n; layer = l }) → ⊥
+
+-- the instance of a wire is live
+live_owner : (insts : List Instance) (j n : ℕ) (l : Layer) → j < length insts → instance_at (map instance_of insts) j ≡ record { path = n; layer = l }
+    → Contains (map instance_of insts) (record { path = n; layer = l })
+live_owner insts j n l h e =
+    (j, omega (arith, length-map insts instance_of), get_or_default (map instance_of insts) j _ _ (omega (arith, length-map insts instance_of)) ∙ e)
+
+pub no_end : (insts : List Instance) (raw : List Wire) (first : List ℕ) (inputs outgoing n k : ℕ) (l : Layer)
+    → AreNeighbours insts raw first inputs outgoing
+    → NotLive insts n l
+    → Contains (map (wire_of (map instance_of insts)) raw) (names.End n l k)
+    → ⊥
+no_end insts raw first inputs outgoing n k l t none c =
+    let list = map instance_of insts in
+    let inside : c.0 < length raw = omega (arith, c.1, length-map raw (wire_of list)) in
+    let f = end_from list (get_or raw c.0 first_wire) n l k (sym (get_or-map (wire_of list) raw c.0 first_wire (names.End n l k) inside) ∙ c.2) in
+    none (live_owner insts f.0 n l (t.runs.own_in c.0 f.0 first_wire inside (ap owner f.1)) f.2)
+
+pub no_status : (insts : List Instance) (raw : List Wire) (first : List ℕ) (inputs outgoing n : ℕ) (l : Layer)
+    → AreNeighbours insts raw first inputs outgoing
+    → NotLive insts n l
+    → Contains (map (wire_of (map instance_of insts)) raw) (names.StatusOf n l)
+    → ⊥
+no_status insts raw first inputs outgoing n l t none c =
+    let list = map instance_of insts in
+    let inside : c.0 < length raw = omega (arith, c.1, length-map raw (wire_of list)) in
+    let f = status_from list (get_or raw c.0 first_wire) n l (sym (get_or-map (wire_of list) raw c.0 first_wire (names.StatusOf n l) inside) ∙ c.2) in
+    none (live_owner insts f.0 n l (t.runs.own_in c.0 f.0 first_wire inside (ap owner f.1)) f.2)
+
+go_from : (list : List plain.Instance) (r : Wire) (n : ℕ) (l : Layer) → wire_of list r ≡ names.Go n l
+    → (j : ℕ) × (r ≡ wires.Go (record { 0 = j })) × (instance_at list j ≡ record { path = n; layer = l })
+go_from list (wires.Go i) n l e =
+    let p : (instance_at list i.0).path ≡ n = cc in
+    let q : (instance_at list i.0).layer ≡ l = cc in
+    (i.0, refl, λ t. record { path = p t; layer = q t })
+go_from list (wires.End i c) n l e = absurd (cc)
+go_from list (wires.Local i) n l e = absurd (cc)
+go_from list (wires.Out s) n l e = absurd (cc)
+
+pub no_go : (insts : List Instance) (raw : List Wire) (first : List ℕ) (inputs outgoing n : ℕ) (l : Layer)
+    → AreNeighbours insts raw first inputs outgoing
+    → NotLive insts n l
+    → Contains (map (wire_of (map instance_of insts)) raw) (names.Go n l)
+    → ⊥
+no_go insts raw first inputs outgoing n l t none c =
+    let list = map instance_of insts in
+    let inside : c.0 < length raw = omega (arith, c.1, length-map raw (wire_of list)) in
+    let f = go_from list (get_or raw c.0 first_wire) n l (sym (get_or-map (wire_of list) raw c.0 first_wire (names.Go n l) inside) ∙ c.2) in
+    none (live_owner insts f.0 n l (t.runs.own_in c.0 f.0 first_wire inside (ap owner f.1)) f.2)

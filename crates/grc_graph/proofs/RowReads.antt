@@ -14,43 +14,42 @@ use Rattle.grc_graph.specs.Layers.{Layer, Resumed, Started, Liveness, body_liven
 use Rattle.grc_graph.specs.Scopes.{Scope, bind, program_scope}
 use Rattle.grc_graph.specs.Wires.{instance_codes}
 use Rattle.grc_graph.specs.CodeTables.{set_at, codes_at}
-use Rattle.grc_graph.specs.Statements.{Entry, Body, Part, Branch, Then, Else, Suspended, Second, Looped, Listed, listed, body_listed}
+use Rattle.grc_graph.specs.Statements.{Entry, Body, Part, Branch, Then, Else, Suspended, Second, Looped, Listed, listed, program_listed}
 use Rattle.grc_graph.specs.declared.statements.Statement.{Statement}
 use Rattle.grc_graph.specs.StatementViews.{view_of}
-use Rattle.grc_graph.specs.Rows.{Row, rows, program_rows, row_at}
+use Rattle.grc_graph.specs.Rows.{Row, row, rows, listed_row, program_rows, row_at}
 use Rattle.grc_graph.proofs.RowSpots.{length-rows}
 
--- a statement and what lets it run
-record Head : Type 0 where
-  pub statement : Term
-  pub entry : Entry
+-- the list of statements is that of the rows
+list_one : (h : Listed) (xs : List Listed) (ys : List Row) → xs ≡ map listed_row ys → h ∷ xs ≡ h ∷ map listed_row ys
+list_one h xs ys e = ap (λ l. h ∷ l) e
 
-abbrev head_of_row : Row → Head
-head_of_row r = record { statement = r.statement; entry = r.entry }
+list_two : (h : Listed) (xs us : List Listed) (ys vs : List Row) → xs ≡ map listed_row ys → us ≡ map listed_row vs
+    → h ∷ (xs ++ us) ≡ h ∷ map listed_row (ys ++ vs)
+list_two h xs us ys vs e f = ap (λ l. h ∷ l) ((λ i. e i ++ f i) ∙ sym (map-append listed_row ys vs))
 
-abbrev head_of_listed : Listed → Head
-head_of_listed l = record { statement = l.statement; entry = l.entry }
+listed_rows : (a : Liveness) (B : Scope) (x : Entry) (t : Term) (n : ℕ) → listed B x t n ≡ map listed_row (rows a B x t n)
+listed_rows a B x Nothing n = refl
+listed_rows a B x Pause n = refl
+listed_rows a B x (Emit s) n = refl
+listed_rows a B x (Exit k) n = refl
+listed_rows a B x (Present e p q) n =
+    list_two _ _ _ _ _ (listed_rows (part_liveness a p) B (Then n e) p (n + 1))
+    (listed_rows (part_liveness a q) B (Else n e) q (n + 1 + statement_count p))
+listed_rows a B x (Suspend e p) n = list_one _ _ _ (listed_rows (part_liveness a p) B (Suspended n e) p (n + 1))
+listed_rows a B x (Seq p q) n =
+    list_two _ _ _ _ _ (listed_rows (part_liveness a p) B (Branch n) p (n + 1))
+    (listed_rows (second_liveness a p q (n + 1 + statement_count p)) B (Second n) q (n + 1 + statement_count p))
+listed_rows a B x (Loop at p) n = list_one _ _ _ (listed_rows (loop_liveness a p (n + 1)) B (Looped n) p (n + 1))
+listed_rows a B x (Par p q) n =
+    list_two _ _ _ _ _ (listed_rows (part_liveness a p) B (Branch n) p (n + 1))
+    (listed_rows (part_liveness a q) B (Branch n) q (n + 1 + statement_count p))
+listed_rows a B x (Trap p) n = list_one _ _ _ (listed_rows (part_liveness a p) B (Part n) p (n + 1))
+listed_rows a B x (Local s p) n = list_one _ _ _ (listed_rows (part_liveness a p) (bind B s n) (Part n) p (n + 1))
+listed_rows a B x (Awake e p) n = list_one _ _ _ (listed_rows (part_liveness a p) B (Part n) p (n + 1))
 
-only : (h : Head) (xs : List Listed) (ys : List Row) → map head_of_listed xs ≡ map head_of_row ys → h ∷ map head_of_listed xs ≡ h ∷ map head_of_row ys
-only h xs ys e = ap (λ l. h ∷ l) e
-
-both : (h : Head) (xs us : List Listed) (ys vs : List Row) → map head_of_listed xs ≡ map head_of_row ys → map head_of_listed us ≡ map head_of_row vs
-    → h ∷ map head_of_listed (xs ++ us) ≡ h ∷ map head_of_row (ys ++ vs)
-both h xs us ys vs e f = ap (λ l. h ∷ l) (map-append head_of_listed xs us ∙ (λ i. e i ++ f i) ∙ sym (map-append head_of_row ys vs))
-
-same_heads : (a : Liveness) (B : Scope) (x : Entry) (b : Option ℕ) (t : Term) (n : ℕ) → map head_of_listed (listed x b t n) ≡ map head_of_row (rows a B x t n)
-same_heads a B x b Nothing n = refl
-same_heads a B x b Pause n = refl
-same_heads a B x b (Emit s) n = refl
-same_heads a B x b (Exit k) n = refl
-same_heads a B x b (Present e p q) n = both _ _ _ _ _ (same_heads (part_liveness a p) B (Then n e) b p (n + 1)) (same_heads (part_liveness a q) B (Else n e) b q (n + 1 + statement_count p))
-same_heads a B x b (Suspend e p) n = only _ _ _ (same_heads (part_liveness a p) B (Suspended n e) b p (n + 1))
-same_heads a B x b (Seq p q) n = both _ _ _ _ _ (same_heads (part_liveness a p) B (Branch n) b p (n + 1)) (same_heads (second_liveness a p q (n + 1 + statement_count p)) B (Second n) b q (n + 1 + statement_count p))
-same_heads a B x b (Loop at p) n = only _ _ _ (same_heads (loop_liveness a p (n + 1)) B (Looped n) b p (n + 1))
-same_heads a B x b (Par p q) n = both _ _ _ _ _ (same_heads (part_liveness a p) B (Branch n) b p (n + 1)) (same_heads (part_liveness a q) B (Branch n) b q (n + 1 + statement_count p))
-same_heads a B x b (Trap p) n = only _ _ _ (same_heads (part_liveness a p) B (Part n) b p (n + 1))
-same_heads a B x b (Local s p) n = only _ _ _ (same_heads (part_liveness a p) (bind B s n) (Part n) (Some n) p (n + 1))
-same_heads a B x b (Awake e p) n = only _ _ _ (same_heads (part_liveness a p) B (Part n) b p (n + 1))
+pub program_listed_rows : (p : Program) → program_listed p ≡ map listed_row (program_rows p)
+program_listed_rows p = listed_rows (body_liveness p.body) (program_scope p.inputs (interface_count p)) Body p.body 0
 
 -- the statements of rows are those of the preorder
 abbrev term_of_row : Row → Term
@@ -79,29 +78,18 @@ rows_in_preorder a B x (Awake e p) n = rows_only _ _ _ (rows_in_preorder (part_l
 pub length-program_rows : (p : Program) → length (program_rows p) ≡ statement_count p.body
 length-program_rows p = length-rows (body_liveness p.body) (program_scope p.inputs (interface_count p)) Body p.body 0
 
-nothing_listed : Listed
-nothing_listed = record { statement = Nothing; entry = Body; binder = None }
+pub length-statements : (p : Program) (list : List Statement) → map view_of list ≡ program_listed p → length list ≡ statement_count p.body
+length-statements p list e =
+    sym (length-map list view_of) ∙ ap length (e ∙ program_listed_rows p) ∙ length-map (program_rows p) listed_row ∙ length-program_rows p
 
 -- what the list of statements has at a number
-pub record HeadRead (p : Program) (n : ℕ) (l : Listed) : Type 0 where
-  pub statement : l.statement ≡ (row_at (program_rows p) n).statement
-  pub entry : l.entry ≡ (row_at (program_rows p) n).entry
-
-pub length-listed : (p : Program) → length (body_listed p.body) ≡ statement_count p.body
-length-listed p =
-    sym (length-map (body_listed p.body) head_of_listed)
-    ∙ ap length (same_heads (body_liveness p.body) (program_scope p.inputs (interface_count p)) Body None p.body 0)
-    ∙ length-map (program_rows p) head_of_row ∙ length-program_rows p
-
-pub listed_read : (p : Program) (n : ℕ) (l : Listed) → n < statement_count p.body → get_or (body_listed p.body) n l ≡ l → HeadRead p n l
-listed_read p n l h e =
+pub statement_read : (p : Program) (list : List Statement) (n : ℕ) (s : Statement) → map view_of list ≡ program_listed p → n < statement_count p.body
+    → s ≡ get_or list n s → view_of s ≡ listed_row (row_at (program_rows p) n)
+statement_read p list n s e h g =
     let inside : n < length (program_rows p) = omega (arith, length-program_rows p) in
-    let here : n < length (body_listed p.body) = omega (arith, length-listed p) in
-    let same : head_of_listed l ≡ head_of_row (row_at (program_rows p) n)
-    = ap head_of_listed (sym e) ∙ sym (get_or-map head_of_listed (body_listed p.body) n l (head_of_listed l) here)
-    ∙ ap (λ hs. get_or hs n (head_of_listed l)) (same_heads (body_liveness p.body) (program_scope p.inputs (interface_count p)) Body None p.body 0)
-    ∙ get_or-map head_of_row (program_rows p) n _ (head_of_listed l) inside in
-    record { statement = ap (λ h. h.statement) same; entry = ap (λ h. h.entry) same }
+    let here : n < length list = omega (arith, length-statements p list e) in
+    ap view_of g ∙ sym (get_or-map view_of list n s (view_of s) here) ∙ ap (λ l. get_or l n (view_of s)) (e ∙ program_listed_rows p)
+    ∙ get_or-map listed_row (program_rows p) n _ (view_of s) inside
 
 -- what the lists of codes have at a number
 pub record CodesRead (c : Codes) (p : Program) (n : ℕ) : Type 0 where
@@ -133,14 +121,3 @@ codes_read c p n a h = record {
     layered : (l : Layer) → codes_at c n l ≡ instance_codes (row_at (program_rows p) n).statement l
     layered Resumed = set_read c.resumed.items resumed_codes p n h a.resumed
     layered (Started r) = set_read c.started.items started_codes p n h a.started
-
--- the same of a list of statements
-pub statement_read : (p : Program) (list : List Statement) (n : ℕ) (s : Statement) → map view_of list ≡ body_listed p.body → n < statement_count p.body → s ≡ get_or list n s
-    → HeadRead p n (view_of s)
-statement_read p list n s e h g =
-    let here : n < length list = omega (arith, length-map list view_of, ap length e, length-listed p) in
-    listed_read p n (view_of s) h
-    (ap (λ l. get_or l n (view_of s)) (sym e) ∙ get_or-map view_of list n s (view_of s) here ∙ ap view_of (sym g))
-
-pub length-statements : (p : Program) (list : List Statement) → map view_of list ≡ body_listed p.body → length list ≡ statement_count p.body
-length-statements p list e = sym (length-map list view_of) ∙ ap length e ∙ length-listed p

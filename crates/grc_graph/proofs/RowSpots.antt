@@ -12,7 +12,7 @@ use Rattle.grc_graph.specs.Scopes.{Scope, bind, program_scope}
 use Rattle.grc_graph.specs.Spots.{Spot, spots_at, spots}
 use Rattle.grc_graph.specs.GraphRuns.{program_spots}
 use Rattle.grc_graph.specs.Statements.{Entry, Body, Part, Branch, Then, Else, Suspended, Second, Looped}
-use Rattle.grc_graph.specs.Rows.{Row, row, rows, program_rows, row_at, entry_formula, spot_at}
+use Rattle.grc_graph.specs.Rows.{Row, row, rows, second_of, program_rows, row_at, entry_formula, spot_at}
 use Rattle.grc_graph.proofs.CodeReads.{StandsAt, stands_whole, stands_left, stands_right, stands_tail, stands_head}
 use Rattle.grc_graph.proofs.LiveLayers.{Agrees, body_agrees, here_agrees, only_agrees, first_agrees, second_agrees}
 use Rattle.grc_graph.proofs.LiveInstances.{at_layer}
@@ -28,14 +28,14 @@ length-rows a B x Nothing n = refl
 length-rows a B x Pause n = refl
 length-rows a B x (Emit s) n = refl
 length-rows a B x (Exit k) n = refl
-length-rows a B x (Present e p q) n = two (row a B x (Present e p q)) _ _ p q (length-rows (part_liveness a p) B (Then n e) p (n + 1)) (length-rows (part_liveness a q) B (Else n e) q (n + 1 + statement_count p))
-length-rows a B x (Suspend e p) n = one (row a B x (Suspend e p)) _ p (length-rows (part_liveness a p) B (Suspended n e) p (n + 1))
-length-rows a B x (Seq p q) n = two (row a B x (Seq p q)) _ _ p q (length-rows (part_liveness a p) B (Branch n) p (n + 1)) (length-rows (second_liveness a p q (n + 1 + statement_count p)) B (Second n) q (n + 1 + statement_count p))
-length-rows a B x (Loop at p) n = one (row a B x (Loop at p)) _ p (length-rows (loop_liveness a p (n + 1)) B (Looped n) p (n + 1))
-length-rows a B x (Par p q) n = two (row a B x (Par p q)) _ _ p q (length-rows (part_liveness a p) B (Branch n) p (n + 1)) (length-rows (part_liveness a q) B (Branch n) q (n + 1 + statement_count p))
-length-rows a B x (Trap p) n = one (row a B x (Trap p)) _ p (length-rows (part_liveness a p) B (Part n) p (n + 1))
-length-rows a B x (Local s p) n = one (row a B x (Local s p)) _ p (length-rows (part_liveness a p) (bind B s n) (Part n) p (n + 1))
-length-rows a B x (Awake e p) n = one (row a B x (Awake e p)) _ p (length-rows (part_liveness a p) B (Part n) p (n + 1))
+length-rows a B x (Present e p q) n = two (row a B x (Present e p q) (n + 1 + statement_count p)) _ _ p q (length-rows (part_liveness a p) B (Then n e) p (n + 1)) (length-rows (part_liveness a q) B (Else n e) q (n + 1 + statement_count p))
+length-rows a B x (Suspend e p) n = one (row a B x (Suspend e p) 0) _ p (length-rows (part_liveness a p) B (Suspended n e) p (n + 1))
+length-rows a B x (Seq p q) n = two (row a B x (Seq p q) (n + 1 + statement_count p)) _ _ p q (length-rows (part_liveness a p) B (Branch n) p (n + 1)) (length-rows (second_liveness a p q (n + 1 + statement_count p)) B (Second n) q (n + 1 + statement_count p))
+length-rows a B x (Loop at p) n = one (row a B x (Loop at p) 0) _ p (length-rows (loop_liveness a p (n + 1)) B (Looped n) p (n + 1))
+length-rows a B x (Par p q) n = two (row a B x (Par p q) (n + 1 + statement_count p)) _ _ p q (length-rows (part_liveness a p) B (Branch n) p (n + 1)) (length-rows (part_liveness a q) B (Branch n) q (n + 1 + statement_count p))
+length-rows a B x (Trap p) n = one (row a B x (Trap p) 0) _ p (length-rows (part_liveness a p) B (Part n) p (n + 1))
+length-rows a B x (Local s p) n = one (row a B x (Local s p) 0) _ p (length-rows (part_liveness a p) (bind B s n) (Part n) p (n + 1))
+length-rows a B x (Awake e p) n = one (row a B x (Awake e p) 0) _ p (length-rows (part_liveness a p) B (Part n) p (n + 1))
 
 -- the rows of a statement's parts stand behind its own
 pub stands_one : (W : List Row) (n : ℕ) (r : Row) (ps : List Row) → StandsAt W n (r ∷ ps) → StandsAt W (n + 1) ps
@@ -55,7 +55,7 @@ pub record Read (W : List Row) (n : ℕ) (r : Row) : Type 0 where
 read : (W : List Row) (n : ℕ) (r : Row) (rs : List Row) → StandsAt W n (r ∷ rs) → Read W n r
 read W n r rs h = record { within = omega (arith, h.within); same = stands_head W n r _ rs h }
 
-pub row_read : (W : List Row) (a : Liveness) (B : Scope) (x : Entry) (t : Term) (n : ℕ) → StandsAt W n (rows a B x t n) → Read W n (row a B x t)
+pub row_read : (W : List Row) (a : Liveness) (B : Scope) (x : Entry) (t : Term) (n : ℕ) → StandsAt W n (rows a B x t n) → Read W n (row a B x t (second_of t n))
 row_read W a B x Nothing n h = read W n _ _ h
 row_read W a B x Pause n h = read W n _ _ h
 row_read W a B x (Emit s) n h = read W n _ _ h
@@ -72,7 +72,7 @@ row_read W a B x (Awake e p) n h = read W n _ _ h
 -- the instances of one statement
 here_spots : (W : List Row) (L : ℕ → List Layer) (a : Liveness) (B : Scope) (x : Entry) (t : Term) (n : ℕ)
     → Agrees L a t n
-    → row_at W n ≡ row a B x t
+    → row_at W n ≡ row a B x t (second_of t n)
     → spots_at L B (entry_formula B x n) t n ≡ map (spot_at W) (instances_at a n)
 here_spots W L a B x t n g e =
     (λ i. map (λ l. record {

@@ -30,7 +30,7 @@ pub use laws::{
 };
 pub use neighbours::{Neighbours, layer_above};
 pub use orders::{Edges, Order, Ranks};
-pub use statements::{Entry, Statement, list_statements};
+pub use statements::{Binding, Entry, Statement, list_statements};
 pub use trees::{SelForm, SelNode, SelTree};
 pub use wire_names::{LayerName, Path, WireName};
 pub use wires::{Node, Wire};

@@ -37,7 +37,7 @@ impl Neighbours {
     ghost use Rattle.grc_graph.specs.Neighbouring.{instances_in, names_in};
     ghost use Rattle.grc_graph.specs.PlainGraphs.{instance_at};
     ghost use Rattle.grc_graph.specs.PlainInstances.{instance_of, layer_of};
-    ghost use Rattle.grc_graph.specs.Statements.{body_listed};
+    ghost use Rattle.grc_graph.specs.Statements.{program_listed};
     ghost use Rattle.grc_graph.specs.StatementViews.{view_of};
     ghost use Rattle.grc_graph.specs.WireTables.{IsNumberOf, HasInstance, HasName};
     ghost use Rattle.grc_graph.specs.Wires.{Out, Go, StatusOf, End};
@@ -51,7 +51,7 @@ impl Neighbours {
         live: &Instances,
     ) -> Result<Neighbours, NoMemory>
         requires formed { IsWellFormed (program_of program.now) }
-        requires statements { map view_of statements.now ≡ body_listed (term_of program.now.body) }
+        requires statements { map view_of statements.now ≡ program_listed (program_of program.now) }
         requires codes { AreCodesOf codes.now (term_of program.now.body) }
         requires live { map instance_of live.now.list.items ≡ body_instances (term_of program.now.body) }
         requires few { length (program_wires (program_of program.now)) ≤ WIRES }
@@ -143,6 +143,37 @@ impl Neighbours {
             (End (instance_at (instances_in self.now) i.0).path (instance_at (instances_in self.now) i.0).layer code) }
     {
         self.find_wire(i, Wire::End(i, code))
+    }
+
+    /// The `go` of a statement in a layer; None where it is not live there. It takes no memory.
+    pub fn find_go(&self, path: u32, layer: Layer) -> Option<WireId>
+        ensures { HasName (names_in self.now) result (Go path (layer_of layer)) }
+    {
+        match self.find_instance(path, layer) {
+            Some(i) => Some(self.go(i)),
+            None => None,
+        }
+    }
+
+    /// The status wire of a Local in a layer; None where there is none. It takes no memory.
+    pub fn find_status(&self, path: u32, layer: Layer) -> Option<WireId>
+        ensures { HasName (names_in self.now) result (StatusOf path (layer_of layer)) }
+    {
+        match self.find_instance(path, layer) {
+            Some(i) => self.status(i),
+            None => None,
+        }
+    }
+
+    /// The wire of a statement's end with this code in a layer; None where there is none. It takes no
+    /// memory.
+    pub fn find_end(&self, path: u32, layer: Layer, code: u8) -> Option<WireId>
+        ensures { HasName (names_in self.now) result (End path (layer_of layer) code) }
+    {
+        match self.find_instance(path, layer) {
+            Some(i) => self.end(i, code),
+            None => None,
+        }
     }
 
     /// The wire of an outgoing signal; None where the signal does not go out. It takes no memory.

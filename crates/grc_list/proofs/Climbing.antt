@@ -1,5 +1,6 @@
 -- From a statement's place the child numbers on the way up to the body are its path, from the last step to the first.
-use Rattle.std.proofs.Common.{◌≡◌, ℕ, zero, suc, ◌+◌, ◌-◌, ◌<◌, ◌≤◌, List, [], ◌∷◌, ◌++◌, map, length, get_or, refl, ap, sym, subst, ◌∙◌, arith, append_assoc, length-append, ⊎_elim}
+use Rattle.std.proofs.Common.{◌≡◌, ℕ, zero, suc, ◌+◌, ◌-◌, ◌<◌, ◌≤◌, List, [], ◌∷◌, ◌++◌, map, length, get_or, refl, ap, sym, subst, ◌∙◌, arith}
+use Rattle.std.proofs.Common.{append_assoc, length-append, ⊎_elim}
 use Rattle.std.specs.Prelude.{Option}
 use Rattle.std.proofs.lemmas.Bool.{cases_lt}
 use Rattle.std.proofs.lemmas.List.{get_or_append_left, get_or-append-add, get_or-map, get_or_past, length-map, map-append}
@@ -16,19 +17,30 @@ long_two x xs ys m k e f = omega (arith, length-append xs ys, e, f)
 long_one : {X : Type 0} (x : X) (xs : List X) (m : ℕ) → length xs ≡ m → length (x ∷ xs) ≡ 1 + m
 long_one x xs m e = omega (arith, e)
 
+one_place : (x : Place) (p : Term) (n : ℕ) → length (places n 0 p (n + 1)) ≡ statement_count p → length (x ∷ places n 0 p (n + 1)) ≡ 1 + statement_count p
+one_place x p n e = long_one x (places n 0 p (n + 1)) _ e
+
+two_places : (x : Place) (p q : Term) (n : ℕ) → length (places n 0 p (n + 1)) ≡ statement_count p
+    → length (places n 1 q (n + (1 + statement_count p))) ≡ statement_count q
+    → length (x ∷ (places n 0 p (n + 1) ++ places n 1 q (n + (1 + statement_count p)))) ≡ 1 + statement_count p + statement_count q
+two_places x p q n e f = long_two x (places n 0 p (n + 1)) (places n 1 q (n + (1 + statement_count p))) _ _ e f
+
 pub length-places : (a c : ℕ) (t : Term) (n : ℕ) → length (places a c t n) ≡ statement_count t
 length-places a c Nothing n = refl
 length-places a c Pause n = refl
 length-places a c (Emit s) n = refl
 length-places a c (Exit k) n = refl
-length-places a c (Present e p q) n = long_two (place a c (Present e p q)) (places n 0 p (n + 1)) (places n 1 q (n + (1 + statement_count p))) _ _ (length-places n 0 p (n + 1)) (length-places n 1 q (n + (1 + statement_count p)))
-length-places a c (Suspend e p) n = long_one (place a c (Suspend e p)) (places n 0 p (n + 1)) _ (length-places n 0 p (n + 1))
-length-places a c (Seq p q) n = long_two (place a c (Seq p q)) (places n 0 p (n + 1)) (places n 1 q (n + (1 + statement_count p))) _ _ (length-places n 0 p (n + 1)) (length-places n 1 q (n + (1 + statement_count p)))
-length-places a c (Loop at p) n = long_one (place a c (Loop at p)) (places n 0 p (n + 1)) _ (length-places n 0 p (n + 1))
-length-places a c (Par p q) n = long_two (place a c (Par p q)) (places n 0 p (n + 1)) (places n 1 q (n + (1 + statement_count p))) _ _ (length-places n 0 p (n + 1)) (length-places n 1 q (n + (1 + statement_count p)))
-length-places a c (Trap p) n = long_one (place a c (Trap p)) (places n 0 p (n + 1)) _ (length-places n 0 p (n + 1))
-length-places a c (Local s p) n = long_one (place a c (Local s p)) (places n 0 p (n + 1)) _ (length-places n 0 p (n + 1))
-length-places a c (Awake e p) n = long_one (place a c (Awake e p)) (places n 0 p (n + 1)) _ (length-places n 0 p (n + 1))
+length-places a c (Present e p q) n =
+    two_places (place a c (Present e p q)) p q n (length-places n 0 p (n + 1)) (length-places n 1 q (n + (1 + statement_count p)))
+length-places a c (Suspend e p) n = one_place (place a c (Suspend e p)) p n (length-places n 0 p (n + 1))
+length-places a c (Seq p q) n =
+    two_places (place a c (Seq p q)) p q n (length-places n 0 p (n + 1)) (length-places n 1 q (n + (1 + statement_count p)))
+length-places a c (Loop at p) n = one_place (place a c (Loop at p)) p n (length-places n 0 p (n + 1))
+length-places a c (Par p q) n =
+    two_places (place a c (Par p q)) p q n (length-places n 0 p (n + 1)) (length-places n 1 q (n + (1 + statement_count p)))
+length-places a c (Trap p) n = one_place (place a c (Trap p)) p n (length-places n 0 p (n + 1))
+length-places a c (Local s p) n = one_place (place a c (Local s p)) p n (length-places n 0 p (n + 1))
+length-places a c (Awake e p) n = one_place (place a c (Awake e p)) p n (length-places n 0 p (n + 1))
 
 long_below : (c : ℕ) (ps : List (List ℕ)) (m : ℕ) → length ps ≡ m → length (below c ps) ≡ m
 long_below c ps m e = length-map ps (λ path. c ∷ path) ∙ e
@@ -237,7 +249,8 @@ leads_up body j d h low =
 bound_two : (b : Option ℕ) (xs ys : List Place) (ps qs : List Term) → map (λ x. x.bound) xs ≡ map bound_signal ps → map (λ x. x.bound) ys ≡ map bound_signal qs
     → b ∷ map (λ x. x.bound) (xs ++ ys) ≡ b ∷ map bound_signal (ps ++ qs)
 bound_two b xs ys ps qs e f =
-    ap (λ l. b ∷ l) (map-append (λ (x : Place). x.bound) xs ys ∙ ap (λ l. l ++ map (λ x. x.bound) ys) e ∙ ap (λ l. map bound_signal ps ++ l) f ∙ sym (map-append bound_signal ps qs))
+    ap (λ l. b ∷ l) (map-append (λ (x : Place). x.bound) xs ys ∙ ap (λ l. l ++ map (λ x. x.bound) ys) e ∙ ap (λ l. map bound_signal ps ++ l) f
+    ∙ sym (map-append bound_signal ps qs))
 
 bounds : (a c : ℕ) (t : Term) (n : ℕ) → map (λ x. x.bound) (places a c t n) ≡ map bound_signal (preorder t)
 bounds a c Nothing n = refl
@@ -254,7 +267,8 @@ bounds a c (Local s p) n = ap (λ l. bound_signal (Local s p) ∷ l) (bounds n 0
 bounds a c (Awake e p) n = ap (λ l. bound_signal (Awake e p) ∷ l) (bounds n 0 p (n + 1))
 
 length-preorder : (t : Term) → length (preorder t) ≡ statement_count t
-length-preorder t = sym (length-map (preorder t) bound_signal) ∙ ap length (sym (bounds 0 0 t 0)) ∙ length-map (places 0 0 t 0) (λ x. x.bound) ∙ length-places 0 0 t 0
+length-preorder t =
+    sym (length-map (preorder t) bound_signal) ∙ ap length (sym (bounds 0 0 t 0)) ∙ length-map (places 0 0 t 0) (λ x. x.bound) ∙ length-places 0 0 t 0
 
 pub bound_at-place : (body : Term) (j : ℕ) (d : Place) → j < statement_count body → (get_or (body_places body) j d).bound ≡ bound_at body j
 bound_at-place body j d low =
@@ -289,6 +303,11 @@ pub length-body_places : {X : Type 0} (f : X → Place) (list : List X) (body : 
 length-body_places f list body e = sym (length-map list f) ∙ ap length e ∙ length-places 0 0 body 0
 
 -- a place of the list is that of the body
-pub place_in : {X : Type 0} (f : X → Place) (list : List X) (body : Term) (n : ℕ) (x : X) → map f list ≡ body_places body → n < length list → x ≡ get_or list n x
-    → f x ≡ get_or (body_places body) n (f x)
+pub place_in : {X : Type 0} (f : X → Place) (list : List X) (body : Term) (n : ℕ) (x : X) → map f list ≡ body_places body → n < length list
+    → x ≡ get_or list n x → f x ≡ get_or (body_places body) n (f x)
 place_in f list body n x e low at = ap f at ∙ sym (get_or-map f list n x (f x) low) ∙ ap (λ l. get_or l n (f x)) e
+
+pub place_leads_up : {X : Type 0} (f : X → Place) (list : List X) (body : Term) (n : ℕ) (x : X) → map f list ≡ body_places body → 0 < n → n < length list
+    → x ≡ get_or list n x → LeadsUp body n (f x)
+place_leads_up f list body n x e h low at =
+    subst (LeadsUp body n) (sym (place_in f list body n x e low at)) (leads_up body n (f x) h (omega (arith, low, length-body_places f list body e)))

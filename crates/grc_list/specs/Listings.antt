@@ -4,9 +4,11 @@
 use Rattle.std.specs.Prelude.{ℕ, ◌+◌, Bool, true, false, List, [], ◌∷◌, ◌++◌, flat_map, codes, decimal}
 use Rattle.std.specs.List.{concat}
 use Rattle.est_kernel.specs.Terms.{Term}
-use Rattle.est_kernel.specs.Plain.{Program}
+use Rattle.est_kernel.specs.Plain.{Program, interface_of}
 use Rattle.grc_graph.specs.Wires.{Wire}
-use Rattle.grc_graph.specs.SelectionTrees.{Form, Leaf, Exclusive, Parallel, Passing, TreeNode}
+use Rattle.grc_graph.specs.Equations.{wires}
+use Rattle.grc_graph.specs.GraphRuns.{program_spots}
+use Rattle.grc_graph.specs.SelectionTrees.{Form, Leaf, Exclusive, Parallel, Passing, TreeNode, body_tree}
 use Rattle.grc_graph.specs.WireNames.{LayerName, Resumed, Started, WireName, Out, Go, StatusOf, End, path_at, wire_name}
 
 -- a path: a full stop alone for that of the body, else a full stop and the child number for each step
@@ -55,3 +57,7 @@ wire_lines p number (w ∷ ws) = wire_line p number w ++ wire_lines p (number + 
 -- the listing of a program's graph with these wires and this selection tree
 abbrev pub listing : Program → List Wire → List TreeNode → List ℕ
 listing p wires tree = codes "grc 1\n" ++ (flat_map (node_line p.body) tree ++ wire_lines p 0 wires)
+
+-- the listing of a program's graph
+abbrev pub program_listing : Program → List ℕ
+program_listing p = listing p (wires (interface_of p).outgoing (program_spots p)) (body_tree p.body)

@@ -1,10 +1,13 @@
 // The listing of a graph.
 
 ghost use Rattle.std.specs.Prelude.{◌≡◌, ◌++◌, flat_map, map, IfOk, OnOk};
-ghost use Rattle.est_kernel.specs.Plain.{term_of, program_of};
+ghost use Rattle.est_kernel.specs.Plain.{term_of, program_of, interface_of};
+ghost use Rattle.grc_graph.specs.Equations.{wires};
+ghost use Rattle.grc_graph.specs.GraphRuns.{program_spots};
+ghost use Rattle.grc_graph.specs.SelectionTrees.{body_tree};
 ghost use Rattle.grc_graph.specs.TreeForms.{node_of};
 ghost use Rattle.grc_graph.specs.PlainGraphs.{names_of};
-ghost use Rattle.grc_list.specs.Listings.{node_line, wire_lines, listing};
+ghost use Rattle.grc_list.specs.Listings.{node_line, wire_lines, listing, program_listing};
 
 use crate::names::wire_name;
 use crate::places::Places;
@@ -16,8 +19,13 @@ use std::alloc::Global;
 /// The listing of a graph with the selection tree of its body: the line `grc 1`, a line for each node of the tree,
 /// and a line for each wire by its number. The time is linear in the body and in the text.
 pub fn list(alloc: Global, graph: &Graph, tree: &SelTree) -> Result<Vec<u8>, NoMemory>
-    ensures { IfOk result (λ text. text.items
+    ensures text { IfOk result (λ text. text.items
         ≡ listing (program_of graph.now.program) (names_of graph.now) (map node_of tree.now.nodes.items)) }
+    // Where the wires and the tree are those of the program, the text is the program's listing.
+    ensures program { IfOk result (λ text. names_of graph.now
+        ≡ wires (interface_of (program_of graph.now.program)).outgoing (program_spots (program_of graph.now.program))
+        → map node_of tree.now.nodes.items ≡ body_tree (term_of graph.now.program.body)
+        → text.items ≡ program_listing (program_of graph.now.program)) }
 {
     let places = Places::new(alloc, &graph.program.body)?;
     let mut text = Vec::new(alloc);

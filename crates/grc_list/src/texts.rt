@@ -48,8 +48,8 @@ fn put_instance(
     path: &Path,
     layer: &LayerName,
 ) -> Result<(), NoMemory>
-    ensures { OnOk result (text.new.items
-        ≡ text.old.items ++ (word.now ++ (path_text path.now.steps.items ++ (codes " " ++ layer_text (layer_name_of layer.now))))) }
+    ensures { OnOk result (text.new.items ≡ text.old.items
+        ++ (word.now ++ (path_text path.now.steps.items ++ (codes " " ++ layer_text (layer_name_of layer.now))))) }
 {
     put(text, word)?;
     put_path(text, path)?;
@@ -114,7 +114,8 @@ fn put_path(text: &mut Vec<u8>, path: &Path) -> Result<(), NoMemory>
 
 // A full stop and the child number for each step.
 fn put_steps(text: &mut Vec<u8>, steps: &[u8]) -> Result<(), NoMemory>
-    ensures { OnOk result (text.new.items ≡ text.old.items ++ flat_map (λ child. codes "." ++ decimal child) steps.now) }
+    ensures { OnOk result (text.new.items ≡ text.old.items
+        ++ flat_map (λ child. codes "." ++ decimal child) steps.now) }
 {
     for child in steps {
         put_number(text, b".", usize::from(*child))?;

@@ -8,5 +8,5 @@ use Rattle.grc_list.proofs.listing.put_nodes.Given as goal
 -- what is written, and what is still to write, are the whole
 abbrev pub invariant-loop-node : goal.invariant-loop-node
 invariant-loop-node l =
-    l.text.items ++ flat_map (node_line (term_of l.places.body.now)) (map node_of (drop l.node-index l.tree.nodes.items)) ≡ l.fn.text.items ++ flat_map
-    (node_line (term_of l.places.body.now)) (map node_of l.tree.nodes.items)
+    l.text.items ++ flat_map (node_line (term_of l.places.body.now)) (map node_of (drop l.node-index l.tree.nodes.items))
+    ≡ l.fn.text.items ++ flat_map (node_line (term_of l.places.body.now)) (map node_of l.tree.nodes.items)

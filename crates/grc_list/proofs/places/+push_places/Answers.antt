@@ -33,6 +33,7 @@ returns-in_ok-push_places-in-Present t c =
         | inr h ↦ simp (h, c.deref-in-Present.ensures, c.deref-in-Present-2.ensures)
       ]
     ] in
-    on_ok_weaker c.push_places-in-Present-2.result (λ last. two_behind (map place_of old) (map place_of l1) (map place_of l2) _ a child n (length l1) (length l2) whole p q
+    on_ok_weaker c.push_places-in-Present-2.result (λ last. two_behind (map place_of old) (map place_of l1) (map place_of l2) _ a child n
+    (length l1) (length l2) whole p q
     pushed (counted ∙ sym (length-map old place_of)) (sym (length-map l1 place_of)) (sym (length-map l2 place_of)) first last parts
     ∙ ap (λ k. map place_of old ++ places a child whole k) counted) c.push_places-in-Present-2.ensures

@@ -81,7 +81,7 @@ loop-i-preserved c =
     let same : y ≡ get_or raw i y = ap (λ l. get_or l i first_instance) c.deref-instance-items.ensures.value ∙ get_or_default raw i first_instance y inside in
     let within : y.path.0 < statement_count p.body = path_within p.body raw i y c.requires.live inside same in
     let named : instance_at insts i ≡ instance_of y = name_at raw i y _ inside ∙ ap instance_of (sym same) in
-    let statement = (statement_read p c.args.statements.now y.path.0 c.index-statements-path.result c.requires.statements within c.index-statements-path.is).statement in
+    let statement = ap (λ l. l.statement) (statement_read p c.args.statements.now y.path.0 c.index-statements-path.result c.requires.statements within c.index-statements-path.is) in
     let read = codes_read c.args.codes.now p y.path.0 c.requires.codes within in
     subst (λ l. Filled p insts (i + 1) c.push_run.new.wires.items l) (sym c.in_ok-push-2.ensures.items)
     (Filled-more p insts i c.loop-i.wires.items c.push_run.new.wires.items c.loop-i.first.items c.is_local-local.result (members c.instance_codes-set.result) c.len.result
@@ -101,7 +101,7 @@ overflow_cast-len c =
     let same : y ≡ get_or raw i y = ap (λ l. get_or l i first_instance) c.deref-instance-items.ensures.value ∙ get_or_default raw i first_instance y inside in
     let within : y.path.0 < statement_count p.body = path_within p.body raw i y c.requires.live inside same in
     let named : instance_at insts i ≡ instance_of y = name_at raw i y _ inside ∙ ap instance_of (sym same) in
-    let statement = (statement_read p c.args.statements.now y.path.0 c.index-statements-path.result c.requires.statements within c.index-statements-path.is).statement in
+    let statement = ap (λ l. l.statement) (statement_read p c.args.statements.now y.path.0 c.index-statements-path.result c.requires.statements within c.index-statements-path.is) in
     let read = codes_read c.args.codes.now p y.path.0 c.requires.codes within in
     let new : length c.push_run.new.wires.items ≤ WIRES
     = Filled-few p insts (i + 1) c.push_run.new.wires.items _ (trees_are_kernels_lem c.args.program.now.body) c.requires.live c.requires.few

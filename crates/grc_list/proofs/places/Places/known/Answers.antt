@@ -12,4 +12,5 @@ returns-else-at-len-clause-within c =
 pub returns-else-at-len-clause-path : goal.returns-else-at-len-clause-path
 returns-else-at-len-clause-path c =
     let places = c.args.self.now in
-    path_at-past (term_of places.body.now) c.args.number.0 (omega (arith, length-body_places place_of places.list.items (term_of places.body.now) places.listed))
+    path_at-past (term_of places.body.now) c.args.number.0
+    (omega (arith, length-body_places place_of places.list.items (term_of places.body.now) places.listed))
