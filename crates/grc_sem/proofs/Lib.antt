@@ -15,6 +15,7 @@ mod WalkEmits
 mod EndForms
 mod Meets
 mod WalkEnds
+mod OwnStatus
 mod Told
 mod Joint
 mod Solutions
