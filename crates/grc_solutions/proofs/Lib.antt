@@ -16,3 +16,4 @@ pub mod EachContext
 pub mod ProgramGraphs
 pub mod OneRun
 pub mod Numbers
+pub mod Gathered
