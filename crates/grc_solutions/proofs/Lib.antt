@@ -17,3 +17,4 @@ pub mod ProgramGraphs
 pub mod OneRun
 pub mod Numbers
 pub mod Gathered
+pub mod Evaluated
