@@ -43,6 +43,13 @@ value_off (u ∷ us) (b ∷ bs) w h =
     let p = or_parts (same_wire w u) (list_any (same_wire w) us) h in
     cond-false (same_wire w u) b (valuation_of us bs w) p.0 ∙ value_off us bs w p.1
 
+-- a wire with no equation is not among the wires of the equations
+pub unnamed : (es : List Equation) (w : Wire) → is_given es w ≡ false → list_any (same_wire w) (equation_wires es) ≡ false
+unnamed [] w h = refl
+unnamed (e ∷ es) w h =
+    let p = or_parts (same_wire w e.wire) (is_given es w) h in
+    or_from (same_wire w e.wire) (list_any (same_wire w) (equation_wires es)) p.0 (unnamed es w p.1)
+
 -- a write changes the value of its own wire alone
 pub value_kept : (names : List Wire) (values : List Bool) (v : ℕ) (b : Bool) (u : Wire) → (v < length names → graphs.wire_at names v ≡ u → ⊥) → valuation_of names (slice_set values v b) u ≡ valuation_of names values u
 value_kept [] values v b u h = refl
@@ -153,7 +160,3 @@ module _ (g : PlainGraph) (q : State) (event : List Bool) (order : List WireId) 
         ∙ ap (value_under g q event values) form;
     others = λ w h. value_off names values w (unnamed g.equations w h);
   }
-    where
-      unnamed : (es : List Equation) (w : Wire) → is_given es w ≡ false → list_any (same_wire w) (equation_wires es) ≡ false
-      unnamed [] w h = refl
-      unnamed (e ∷ es) w h = let p = or_parts (same_wire w e.wire) (is_given es w) h in or_from (same_wire w e.wire) (list_any (same_wire w) (equation_wires es)) p.0 (unnamed es w p.1)
