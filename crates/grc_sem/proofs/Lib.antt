@@ -15,8 +15,11 @@ mod WalkEmits
 mod EndForms
 mod Meets
 mod WalkEnds
+mod OwnStatus
 mod Told
+mod WalksMeet
 mod Joint
+mod Tops
 mod Solutions
 mod Ways
 mod NextKept
@@ -25,4 +28,5 @@ mod Scoped
 mod NextTop
 mod Premises
 mod Runs
+mod WalkSolves
 mod GraphLaws

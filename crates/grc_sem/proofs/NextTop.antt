@@ -22,7 +22,7 @@ use Rattle.grc_sem.proofs.Constructive.{and_true}
 use Rattle.grc_sem.proofs.Kept.{started_keeps, resumed_keeps}
 use Rattle.grc_sem.proofs.EndForms.{val, any_meaning}
 use Rattle.grc_sem.proofs.Meets.{Sees}
-use Rattle.grc_sem.proofs.Solutions.{nothing_held, state_reach}
+use Rattle.grc_sem.proofs.Tops.{nothing_held, state_reach}
 use Rattle.grc_sem.proofs.Ways.{Way, goal, way_held, holds_at_goal, start_keeps, restart_keeps, layer_keeps, parted}
 use Rattle.grc_sem.proofs.NextKept.{guard_total, started_kept, resumed_kept}
 use Rattle.grc_sem.proofs.NextStates.{started_selected, resumed_selected, IsWay, AllWays, started_ways, resumed_ways, among, leaf_way, way_leaf, live_leaf}

@@ -21,16 +21,18 @@ use Rattle.grc_graph.specs.Readings.{Valuation}
 use Rattle.grc_graph.specs.Coherence.{statuses, StartedWalked, ResumedWalked}
 use Rattle.grc_graph.specs.GraphRuns.{graph_of, program_spots, Solves, Shown, shown, next_state, IsGraphRun}
 use Rattle.grc_sem.specs.GraphWalks.{selected_of, program_values, graph_walk, SelectsLeaves, shown_answer}
-use Rattle.grc_sem.specs.Laws.{NextStateIsKept, GraphRunsAreRuns, SolutionsReact, SolutionsShowAlike}
+use Rattle.grc_sem.specs.Laws.{NextStateIsKept, GraphRunsAreRuns, SolutionsReact, SolutionsShowAlike, ProgramsRun}
 use Rattle.grc_sem.proofs.Residues.{some_has, resumed_live}
 use Rattle.grc_sem.proofs.Kept.{Same, holds_same, residual_same}
 use Rattle.grc_sem.proofs.Meets.{started_at, resumed_at}
 use Rattle.grc_solutions.proofs.Looked.{statement_at}
 use Rattle.grc_sem.proofs.Joint.{dead_wire}
 use Rattle.grc_sem.proofs.ReactWalks.{react_held}
+use Rattle.grc_solutions.proofs.OneRun.{graph_runs_exist_lem}
 use Rattle.grc_sem.proofs.Premises.{kernel_of, most_of, cap, cap_most, capped}
 use Rattle.grc_sem.proofs.Scoped.{fit_scope}
-use Rattle.grc_sem.proofs.Solutions.{nothing_held, state_reach, top_started, top_resumed, solution_of}
+use Rattle.grc_sem.proofs.Tops.{nothing_held, state_reach}
+use Rattle.grc_sem.proofs.Solutions.{top_started, top_resumed, solution_of}
 use Rattle.grc_sem.proofs.NextKept.{one_flip}
 use Rattle.grc_sem.proofs.NextStates.{selected_as, leaf_way}
 use Rattle.grc_sem.proofs.NextTop.{StatePauses, keeps_state, next_kept, next_selected}
@@ -181,7 +183,7 @@ module _ (p : Program) (rank : Wire → ℕ) (most : ℕ) (formed : IsWellFormed
   runs (Reset ∷ items) q Vs state leaves w r = runs items Initial Vs tt tt w r
 
 -- the premises of a program
-program_kernel : (p : Program) → IsWellFormed p → programs.IsKernel p.body → IsKernel p.body
+pub program_kernel : (p : Program) → IsWellFormed p → programs.IsKernel p.body → IsKernel p.body
 program_kernel p formed k =
     kernel_of p.body 0 k formed.body.exits (omega (arith, formed.body.traps))
 
@@ -217,3 +219,9 @@ solutions_show_alike_lem p q event V W rank formed k nl state leaves up width s 
 pub graph_runs_are_runs_lem : GraphRunsAreRuns
 graph_runs_are_runs_lem p rank formed k nl up items w Vs r =
     runs p (rank_of p rank) (most_of rank (edges (program_spots p))) formed (program_kernel p formed k) nl (rank_up p rank up) (rank_most p rank) items Initial Vs tt tt w r
+
+pub programs_run_lem : ProgramsRun
+programs_run_lem p rank formed k nl up items w =
+    let r = (graph_runs_exist_lem p rank (program_kernel p formed k) up Initial items).0 in
+    let a = graph_runs_are_runs_lem p rank formed k nl up items w r.0 r.1 in
+    (a.0, r.0, a.1, r.1, a.2)

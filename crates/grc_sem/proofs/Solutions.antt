@@ -1,94 +1,38 @@
 -- A solution of a program's graph is a walk, so what is left of the program reacts constructively.
-use Rattle.std.proofs.Common.{◌≡◌, ℕ, zero, suc, ◌+◌, ◌<◌, ◌≤◌, Bool, true, false, ◌&&◌, ◌||◌, ◌==◌, cond, ltb, List, [], ◌∷◌, ◌++◌, length, get_or, map, refl, sym, ap, ◌∙◌, subst, inl, ⊎_elim, arith}
+use Rattle.std.proofs.Common.{◌≡◌, ℕ, zero, suc, ◌+◌, ◌<◌, ◌≤◌, Bool, true, false, ◌||◌, List, [], ◌∷◌, length, get_or, map, refl, ap, ◌∙◌, subst, inl, ⊎_elim, arith}
 use Rattle.std.specs.List.{list_any, flat_map, range_with_len, All, Contains}
-use Rattle.std.proofs.lemmas.List.{get_or_past}
-use Rattle.std.proofs.lemmas.List.Folds.{list_any-append}
-use Rattle.std.proofs.lemmas.Bool.{ne_eqb, cond_both, false≢true, lt-ltb, cases_lt}
-use Rattle.est_kernel.specs.Terms.{Term, Nothing, Pause, Emit, Exit, Present, Suspend, Seq, Loop, Par, Trap, Local, Awake}
-use Rattle.est_kernel.specs.Preorder.{statement_count}
+use Rattle.est_kernel.specs.Terms.{Term}
 use Rattle.est_kernel.specs.StaticCodes.{has_code, resumed_codes, NoInstantLoop}
 use Rattle.est_kernel.specs.Reactions.{is_given}
-use Rattle.grc_graph.specs.Layers.{Layer, Resumed, Started, body_layers, body_liveness}
-use Rattle.grc_graph.specs.Scopes.{Binding, Entering, Outgoing, BoundAt, Unbound, Scope, program_scope}
-use Rattle.grc_graph.specs.Wires.{Wire, Out, same_wire, status_wire}
-use Rattle.grc_graph.specs.Formulas.{Input}
-use Rattle.grc_graph.specs.Spots.{Spot, body_spots, body_entry}
-use Rattle.grc_graph.specs.Equations.{equations, instance_equations, output_equation, emissions, is_wire}
+use Rattle.grc_graph.specs.Layers.{Resumed, Started, body_layers, body_liveness}
+use Rattle.grc_graph.specs.Scopes.{Scope}
+use Rattle.grc_graph.specs.Wires.{Wire, Out, same_wire}
+use Rattle.grc_graph.specs.Spots.{Spot, body_entry}
+use Rattle.grc_graph.specs.Equations.{equations, instance_equations, output_equation}
 use Rattle.grc_graph.specs.Edges.{edges, edges_at}
 use Rattle.grc_graph.specs.Orders.{GoUp}
 use Rattle.grc_graph.specs.Residuals.{holds}
-use Rattle.grc_graph.specs.Walk.{Values, State, Initial, Selecting, started_walk, resumed_walk, body_walk, ended, is_initial}
+use Rattle.grc_graph.specs.Walk.{Values, State, is_initial}
 use Rattle.grc_graph.specs.Selected.{IsKernel, IsState}
-use Rattle.grc_graph.specs.Readings.{Valuation, seen_value, seen_values, holds_at, state_holds_at}
-use Rattle.grc_graph.specs.Coherence.{statuses, StartedWalked, ResumedWalked}
+use Rattle.grc_graph.specs.Readings.{Valuation, seen_values, state_holds_at}
+use Rattle.grc_graph.specs.Coherence.{StartedWalked, ResumedWalked}
 use Rattle.grc_sem.specs.GraphWalks.{selected_of}
 use Rattle.grc_solutions.proofs.Lists.{Every, every_of_all, every_left, every_flat_map, every_contained}
 use Rattle.grc_solutions.proofs.Each.{EachStarted, EachResumed}
-use Rattle.grc_sem.proofs.Residues.{resumed_live}
 use Rattle.grc_solutions.proofs.Rows.{RowAt}
-use Rattle.grc_solutions.proofs.Binders.{Above}
 use Rattle.grc_sem.proofs.Ranks.{Up, InScope}
 use Rattle.grc_graph.proofs.LiveLayers.{body_agrees}
 use Rattle.grc_solutions.proofs.Live.{layered}
 use Rattle.grc_solutions.proofs.Decode.{row_at}
-use Rattle.grc_sem.proofs.Emissions.{emission, emitted, Whole}
-use Rattle.grc_sem.proofs.Bridge.{started_any, resumed_any, split}
-use Rattle.grc_sem.proofs.WalkEmits.{Fresh, Shows, Reach, started_emits, resumed_emits, guard_bits}
-use Rattle.grc_sem.proofs.EndForms.{val, any_meaning}
-use Rattle.grc_sem.proofs.Meets.{Met, Finds, head_started, head_resumed, finds_self}
+use Rattle.grc_sem.proofs.Emissions.{emitted, Whole}
+use Rattle.grc_sem.proofs.EndForms.{val}
+use Rattle.grc_sem.proofs.Meets.{Met, head_started, head_resumed, finds_self}
 use Rattle.grc_sem.proofs.Told.{told_started, told_resumed}
-use Rattle.grc_sem.proofs.Joint.{emissions_any, Alive, met_at, met_spots}
-use Rattle.grc_sem.proofs.ReactWalks.{Solution, scope_part, InPart, enters, goes_out, unbound}
-
-cond_none : (c : Bool) {x y : Bool} → x ≡ false → y ≡ false → cond c x y ≡ false
-cond_none true e f = e
-cond_none false e f = f
-
-or_none : {a b : Bool} → a ≡ false → b ≡ false → (a || b) ≡ false
-or_none {a} {b} e f = ap (λ x. x || b) e ∙ f
-
-pub nothing_held : (t : Term) (n : ℕ) → holds (λ m. false) t n ≡ false
-nothing_held Nothing n = refl
-nothing_held Pause n = refl
-nothing_held (Emit x) n = refl
-nothing_held (Exit k) n = refl
-nothing_held (Present e p q) n = or_none (nothing_held p (n + 1)) (nothing_held q (n + 1 + statement_count p))
-nothing_held (Suspend e p) n = nothing_held p (n + 1)
-nothing_held (Seq p q) n = or_none (nothing_held p (n + 1)) (nothing_held q (n + 1 + statement_count p))
-nothing_held (Loop at p) n = nothing_held p (n + 1)
-nothing_held (Par p q) n = or_none (nothing_held p (n + 1)) (nothing_held q (n + 1 + statement_count p))
-nothing_held (Trap p) n = nothing_held p (n + 1)
-nothing_held (Local x p) n = nothing_held p (n + 1)
-nothing_held (Awake e p) n = refl
-
-nothing_at : (t : Term) (n m : ℕ) → holds_at (λ i. false) t n m ≡ false
-nothing_at Nothing n m = refl
-nothing_at Pause n m = refl
-nothing_at (Emit x) n m = refl
-nothing_at (Exit k) n m = refl
-nothing_at (Present e p q) n m =
-    cond_none (m == n) (nothing_held (Present e p q) n) (cond_none (ltb m (n + 1 + statement_count p)) (nothing_at p (n + 1) m) (nothing_at q (n + 1 + statement_count p) m))
-nothing_at (Suspend e p) n m = cond_none (m == n) (nothing_held (Suspend e p) n) (nothing_at p (n + 1) m)
-nothing_at (Seq p q) n m =
-    cond_none (m == n) (nothing_held (Seq p q) n) (cond_none (ltb m (n + 1 + statement_count p)) (nothing_at p (n + 1) m) (nothing_at q (n + 1 + statement_count p) m))
-nothing_at (Loop at p) n m = cond_none (m == n) (nothing_held (Loop at p) n) (nothing_at p (n + 1) m)
-nothing_at (Par p q) n m =
-    cond_none (m == n) (nothing_held (Par p q) n) (cond_none (ltb m (n + 1 + statement_count p)) (nothing_at p (n + 1) m) (nothing_at q (n + 1 + statement_count p) m))
-nothing_at (Trap p) n m = cond_none (m == n) (nothing_held (Trap p) n) (nothing_at p (n + 1) m)
-nothing_at (Local x p) n m = cond_none (m == n) (nothing_held (Local x p) n) (nothing_at p (n + 1) m)
-nothing_at (Awake e p) n m = refl
-
-state_finds : (q : State) (body : Term) → Finds (λ m. state_holds_at q body m) (selected_of q) body 0
-state_finds Initial body = record { each = λ m l u. sym (nothing_at body 0 m) }
-state_finds (Selecting S) body = record { each = λ m l u. refl }
-
-pub state_reach : (q : State) (body : Term) → IsState q body → Reach (selected_of q) body 0 (holds (selected_of q) body 0)
-state_reach Initial body s =
-    record {
-      held = λ e. e;
-      selected = λ e. absurd (false≢true (sym (nothing_held body 0) ∙ e));
-    }
-state_reach (Selecting S) body s = record { held = λ e. e; selected = s }
+use Rattle.grc_sem.proofs.Joint.{Alive, met_at, met_spots}
+use Rattle.grc_sem.proofs.ReactWalks.{Solution}
+use Rattle.grc_solutions.proofs.ProgramGraphs.{range_has}
+use Rattle.grc_sem.proofs.Tops.{state_finds, state_reach}
+use Rattle.grc_sem.proofs.Tops as tops
 
 -- Edges that go up, instance by instance
 up_rows : (R : Wire → ℕ) (all : List Spot) → GoUp R (edges all) → Every (λ x. Every (λ e. R e.from < R e.to) (edges_at x.scope x.statement x.path x.layer)) all
@@ -98,38 +42,10 @@ up_rows R all h =
 
 module _ (inputs outs given_count : ℕ) (body : Term) where
   abbrev B0 : Scope
-  B0 = program_scope inputs (inputs + outs)
+  B0 = tops.B0 inputs outs body
 
-  abbrev pub body_all : List Spot
-  body_all = body_spots (body_layers body) B0 body
-
-  no_bound : (s b : ℕ) → B0 s ≡ BoundAt b → ⊥
-  no_bound s b e = go (scope_part inputs (inputs + outs) s (omega arith))
-    where
-      go : InPart inputs (inputs + outs) s (B0 s) → ⊥
-      go (enters l h) = let f : Entering ≡ BoundAt b = sym h ∙ e in cc
-      go (goes_out l k h) = let f : Outgoing ≡ BoundAt b = sym h ∙ e in cc
-      go (unbound l h) = let f : Unbound ≡ BoundAt b = sym h ∙ e in cc
-
-  seen_free : (given : Values) (V : Valuation) (b : Binding) (s : ℕ) → ((c : ℕ) → b ≡ BoundAt c → ⊥) → seen_value given V b s Resumed ≡ seen_value given V b s (Started 0)
-  seen_free given V Entering s h = refl
-  seen_free given V Outgoing s h = refl
-  seen_free given V (BoundAt c) s h = absurd (h c refl)
-  seen_free given V Unbound s h = refl
-
-  above_top : Above B0 0
-  above_top = record { each = λ s b e. absurd (no_bound s b e) }
-
-  out_shows : (o : ℕ) (l : Layer) → inputs ≤ o → o < inputs + outs → Shows B0 l (Out o) o true
-  out_shows o l i j = record { each = λ t. go t (B0 t) (scope_part inputs (inputs + outs) t (omega arith)) }
-    where
-      go : (t : ℕ) (b : Binding) → InPart inputs (inputs + outs) t b → is_wire (status_wire b t l) (Out o) ≡ (true && t == o)
-      go t b (enters k h) = ap (λ c. is_wire (status_wire c t l) (Out o)) h ∙ sym (ne_eqb t o (λ e. omega arith))
-      go t b (goes_out k m h) = ap (λ c. is_wire (status_wire c t l) (Out o)) h
-      go t b (unbound k h) = ap (λ c. is_wire (status_wire c t l) (Out o)) h ∙ sym (ne_eqb t o (λ e. omega arith))
-
-  out_fresh : (o : ℕ) → Fresh (Out o) 0
-  out_fresh o = record { other = λ m l k. refl }
+  abbrev body_all : List Spot
+  body_all = tops.body_all inputs outs body
 
   -- what a solution in a state and an event is worth
   module _ (q : State) (event : List Bool) (V : Valuation) (nl : NoInstantLoop body) (kernel : IsKernel body) (state : IsState q body) (met : All (λ e. V e.wire ≡ val B0 body q (is_given event) V e.formula) (equations given_count (range_with_len inputs outs) body_all)) (others : (w : Wire) → list_any (λ e. same_wire w e.wire) (equations given_count (range_with_len inputs outs) body_all) ≡ false → V w ≡ false) where
@@ -152,39 +68,16 @@ module _ (inputs outs given_count : ℕ) (body : Term) where
 
     pub top_started : StartedWalked V body 0 (Started 0) v (is_initial q)
     top_started =
-        told_started B0 body q (is_given event) V body_all (body_layers body) (body_liveness body) body B0 body_entry 0 0 v (is_initial q) (body_agrees body) (inl refl) (omega arith) nl kernel above_top whole each_met.1
-        (record { each = λ s. seen_free (is_given event) V (B0 s) s (no_bound s) })
+        told_started B0 body q (is_given event) V body_all (body_layers body) (body_liveness body) body B0 body_entry 0 0 v (is_initial q) (body_agrees body) (inl refl) (omega arith) nl kernel (tops.above_top inputs outs body) whole each_met.1
+        (record { each = λ s. tops.seen_free inputs outs body (is_given event) V (B0 s) s (tops.no_bound inputs outs body s) })
         (head_started (Met B0 body q (is_given event) V body_all) B0 body_entry body 0 (Started 0) kernel each_met.1).go
 
     pub top_resumed : has_code (resumed_codes body) ≡ true → ResumedWalked V S body 0 v (holds S body 0)
     top_resumed live =
         told_resumed B0 body q (is_given event) V body_all (body_layers body) S (body_liveness body) body B0 body_entry 0 v (holds S body 0) (body_agrees body) live
-        (λ r i. ⊎_elim (λ e. omega arith) (λ e. absurd e) i) nl kernel above_top whole (each_met.0 live)
+        (λ r i. ⊎_elim (λ e. omega arith) (λ e. absurd e) i) nl kernel (tops.above_top inputs outs body) whole (each_met.0 live)
         (record { each = λ s. refl }) (state_finds q body) (state_reach q body state)
         ((head_resumed (Met B0 body q (is_given event) V body_all) B0 body_entry body 0 kernel (each_met.0 live)).go ∙ finds_self (λ m. state_holds_at q body m) S body 0 (state_finds q body))
-
-    or_nothing : (x : Bool) → (x || false) ≡ x
-    or_nothing true = refl
-    or_nothing false = refl
-
-    -- what the program emits
-    emitted_is : (o : ℕ) → inputs ≤ o → o < inputs + outs → emitted V (Out o) body_all ≡ ((holds S body 0 && (resumed_walk (statuses V) S body 0 v).signals o) || (is_initial q && (started_walk (statuses V) body 0 (Started 0) v).signals o))
-    emitted_is o i j =
-        let F = emission V (Out o) in
-        split F (body_layers body) (body_liveness body) B0 body_entry body 0 kernel (body_agrees body)
-        ∙ ap (λ b. b || (started_any F B0 body_entry body 0 (Started 0) || false))
-        (guard_bits (has_code (resumed_codes body)) true (holds S body 0) ((resumed_walk (statuses V) S body 0 v).signals o) (resumed_any F B0 body_entry body 0)
-        (λ live. resumed_emits V S (Out o) o true body B0 body_entry 0 v (holds S body 0) nl kernel (state_reach q body state) (top_resumed live) (out_fresh o) above_top (out_shows o Resumed i j))
-        (λ h. resumed_live S body 0 nl kernel h ((state_reach q body state).selected h)))
-        ∙ ap (λ b. (holds S body 0 && (resumed_walk (statuses V) S body 0 v).signals o) || b)
-        (or_nothing (started_any F B0 body_entry body 0 (Started 0))
-        ∙ started_emits V (Out o) o true body B0 body_entry 0 (Started 0) v (is_initial q) nl kernel top_started (out_fresh o) (out_shows o (Started 0) i j))
-
-    given_only : (o : ℕ) → length event ≡ given_count → list_any (val B0 body q (is_given event) V) (cond (ltb o given_count) (Input o ∷ []) []) ≡ is_given event o
-    given_only o w =
-        cond_both (ltb o given_count) (Input o ∷ []) [] (λ l. list_any (val B0 body q (is_given event) V) l ≡ is_given event o)
-        (λ e. or_nothing (is_given event o))
-        (λ e. sym (get_or_past event o false (⊎_elim (λ l. absurd (false≢true (sym e ∙ lt-ltb o given_count l))) (λ l. omega arith) (cases_lt o given_count))))
 
     output_row : (os : List ℕ) → Every (λ e. V e.wire ≡ val B0 body q (is_given event) V e.formula) (map (output_equation given_count body_all) os) → (o : ℕ) → Contains os o → V (Out o) ≡ val B0 body q (is_given event) V (output_equation given_count body_all o).formula
     output_row os h o c = go os h c.0 c.1 c.2
@@ -194,35 +87,11 @@ module _ (inputs outs given_count : ℕ) (body : Term) where
         go (x ∷ xs) h zero l e = subst (λ y. V (Out y) ≡ val B0 body q (is_given event) V (output_equation given_count body_all y).formula) e h.0
         go (x ∷ xs) h (suc k) l e = go xs h.1 k (omega arith) e
 
-    range_has : (a k o : ℕ) → a ≤ o → o < a + k → Contains (range_with_len a k) o
-    range_has a zero o l u = absurd (omega arith)
-    range_has a (suc k) o l u =
-        ⊎_elim
-        (λ e. (0, omega arith, omega arith))
-        (λ e. let r = range_has (a + 1) k o e (omega arith) in (suc r.0, omega (arith, r.1), r.2))
-        (cases_lt o (a + 1))
-
-    output_value : length event ≡ given_count → (o : ℕ) → inputs ≤ o → o < inputs + outs → V (Out o) ≡ (is_given event o || emitted V (Out o) body_all)
+    pub output_value : length event ≡ given_count → (o : ℕ) → inputs ≤ o → o < inputs + outs → V (Out o) ≡ (is_given event o || emitted V (Out o) body_all)
     output_value w o i j =
         let every = every_of_all (λ e. V e.wire ≡ val B0 body q (is_given event) V e.formula) (equations given_count (range_with_len inputs outs) body_all) met in
         let rows = every_left (λ e. V e.wire ≡ val B0 body q (is_given event) V e.formula) (map (output_equation given_count body_all) (range_with_len inputs outs)) (flat_map (instance_equations body_all) body_all) every in
-        let own = cond (ltb o given_count) (Input o ∷ []) [] in
-        output_row (range_with_len inputs outs) rows o (range_has inputs outs o i j)
-        ∙ any_meaning B0 body q (is_given event) V (own ++ emissions (Out o) body_all)
-        ∙ list_any-append (val B0 body q (is_given event) V) own (emissions (Out o) body_all)
-        ∙ ap (λ b. b || list_any (val B0 body q (is_given event) V) (emissions (Out o) body_all)) (given_only o w)
-        ∙ ap (λ b. is_given event o || b) (emissions_any B0 body q (is_given event) V (Out o) body_all)
-
-    walk_signals : (o : ℕ) → ((holds S body 0 && (resumed_walk (statuses V) S body 0 v).signals o) || (is_initial q && (started_walk (statuses V) body 0 (Started 0) v).signals o)) ≡ (body_walk (statuses V) q body v).signals o
-    walk_signals o = go q v
-      where
-        go : (r : State) (u : Values) → ((holds (selected_of r) body 0 && (resumed_walk (statuses V) (selected_of r) body 0 u).signals o) || (is_initial r && (started_walk (statuses V) body 0 (Started 0) u).signals o)) ≡ (body_walk (statuses V) r body u).signals o
-        go Initial u = ap (λ b. (b && (resumed_walk (statuses V) (λ m. false) body 0 u).signals o) || (started_walk (statuses V) body 0 (Started 0) u).signals o) (nothing_held body 0)
-        go (Selecting T) u = held (holds T body 0)
-          where
-            held : (h : Bool) → ((h && (resumed_walk (statuses V) T body 0 u).signals o) || false) ≡ (cond h (resumed_walk (statuses V) T body 0 u) (ended 0)).signals o
-            held true = or_nothing _
-            held false = refl
+        output_row (range_with_len inputs outs) rows o (range_has inputs outs o i j) ∙ tops.output_means inputs outs body given_count q event V w o
 
     pub solution_of : (R : Wire → ℕ) (N : ℕ) → InScope B0 body → ((w : Wire) → R w ≤ N) → GoUp R (edges body_all) → length event ≡ given_count → inputs ≤ given_count → given_count ≤ inputs + outs → Solution inputs outs body R N q event V
     solution_of R N scope most up width low high =
@@ -240,5 +109,5 @@ module _ (inputs outs given_count : ℕ) (body : Term) where
           resumed_wires = λ T e live.
               let f : S ≡ T = ap selected_of e in
               subst (λ U. ResumedWalked V U body 0 v (holds U body 0)) f (top_resumed live);
-          outputs = λ o i j. output_value width o i j ∙ ap (λ b. is_given event o || b) (emitted_is o i j ∙ walk_signals o);
+          outputs = λ o i j. output_value width o i j ∙ ap (λ b. is_given event o || b) (tops.body_emits inputs outs body q event V nl kernel state top_started top_resumed o i j);
         }

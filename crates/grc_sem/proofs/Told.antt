@@ -1,24 +1,22 @@
 -- Equations met are the walk: where the wires of each instance meet their equations, they are those of the walk.
-use Rattle.std.proofs.Common.{◌≡◌, ℕ, ◌+◌, ◌<◌, ◌≤◌, Bool, true, false, not, ◌&&◌, ◌||◌, ◌==◌, cond, max, List, [], ◌∷◌, ◌++◌, map, refl, ap, ◌∙◌, arith}
-use Rattle.std.specs.List.{list_any}
-use Rattle.std.proofs.lemmas.List.Folds.{list_any-append}
-use Rattle.std.proofs.lemmas.Bool.{and_parts, eq-eqb, ne_eqb, cond_both, cond-true, cond-false}
+use Rattle.std.proofs.Common.{◌≡◌, ℕ, ◌+◌, ◌≤◌, Bool, true, false, not, ◌&&◌, ◌==◌, cond, max, List, [], refl, ap, ◌∙◌, arith}
+use Rattle.std.proofs.lemmas.Bool.{and_parts, eq-eqb, ne_eqb, cond-true, cond-false}
 use Rattle.est_kernel.specs.Terms.{Term, Nothing, Pause, Emit, Exit, Present, Suspend, Seq, Loop, Par, Trap, Local, Awake}
 use Rattle.est_kernel.specs.Preorder.{statement_count}
 use Rattle.est_kernel.specs.StaticCodes.{has_code, started_codes, resumed_codes, instant_loops, NoInstantLoop}
-use Rattle.grc_graph.specs.Layers.{Layer, Resumed, Started, Liveness, part_liveness, second_liveness, loop_liveness, layer_above, same_layer, can_pass}
+use Rattle.grc_graph.specs.Layers.{Layer, Resumed, Started, Liveness, part_liveness, second_liveness, loop_liveness, can_pass}
 use Rattle.grc_graph.specs.Scopes.{Scope, bind}
 use Rattle.grc_graph.specs.Wires.{Go, StatusOf, End}
 use Rattle.grc_graph.specs.Formulas.{Formula}
-use Rattle.grc_graph.specs.Spots.{Spot, spots, spots_at, test_formula, part_entry}
+use Rattle.grc_graph.specs.Spots.{Spot, test_formula}
 use Rattle.grc_graph.specs.Residuals.{holds}
 use Rattle.grc_graph.specs.Walk.{Walk, Values, State, with_value, truth, ended, then_walk, started_walk, resumed_walk, selected_in}
 use Rattle.grc_graph.specs.Selected.{IsKernel}
 use Rattle.grc_graph.specs.Readings.{Valuation}
 use Rattle.grc_graph.specs.Coherence.{statuses, StartedWalked, ResumedWalked}
 use Rattle.grc_sem.proofs.Places.{no_loops-left}
-use Rattle.grc_solutions.proofs.Each.{spot, EachStarted, EachResumed}
-use Rattle.grc_sem.proofs.Residues.{no_loops-right, loop_body, resumed_live}
+use Rattle.grc_solutions.proofs.Each.{EachStarted, EachResumed}
+use Rattle.grc_sem.proofs.Residues.{no_loops-right, loop_body}
 use Rattle.grc_solutions.proofs.Binders.{Above, above_more, above_bind, layer_above-started}
 use Rattle.grc_sem.proofs.Constructive.{and_true}
 use Rattle.grc_graph.proofs.LiveLayers.{Agrees, only_agrees, first_agrees, second_agrees}
@@ -26,56 +24,17 @@ use Rattle.grc_solutions.proofs.Live.{Root}
 use Rattle.grc_sem.proofs.Emissions.{emission, emitted, Whole, whole_only, whole_first, whole_second}
 use Rattle.grc_sem.proofs.Bridge.{started_any, resumed_any, split}
 use Rattle.grc_sem.proofs.WalkEmits.{Reach, reach_part, started_silent, resumed_silent, started_emits, resumed_emits, guard_bits}
+use Rattle.grc_solutions.proofs.Live.{Agrees, Root, only_agrees, first_agrees, second_agrees}
+use Rattle.grc_sem.proofs.Emissions.{Whole, whole_only, whole_first, whole_second}
+use Rattle.grc_sem.proofs.WalkEmits.{Reach, reach_part}
 use Rattle.grc_sem.proofs.EndForms.{val, test_meaning, branch_number, branch_is}
-use Rattle.grc_sem.proofs.Meets.{Met, eqb_flip, head_started, head_resumed, sees_more, sees_root, any_single, any_nothing, own_fresh, same_self, own_shows, root_left, code_lives, started_at, resumed_at, finds_only, finds_first, finds_second, finds_self, low_second, root_own, Sees, Finds}
+use Rattle.grc_sem.proofs.Meets.{Met, eqb_flip, head_started, head_resumed, sees_more, sees_root, root_left, code_lives, started_at, resumed_at, finds_only, finds_first, finds_second, finds_self, low_second, root_own, Sees, Finds}
 use Rattle.grc_sem.proofs.WalkEnds.{started_mean, resumed_mean, selects}
+use Rattle.grc_sem.proofs.OwnStatus.{local_started, local_resumed}
 
 module _ (B0 : Scope) (body : Term) (q : State) (given : Values) (V : Valuation) (all : List Spot) (L : ℕ → List Layer) where
   abbrev M : Spot → Type 0
   M = Met B0 body q given V all
-
-  -- the status wire of a Local has the emissions of its body in the layer that sees it
-  started_status : (a : Liveness) (s : ℕ) (p : Term) (B : Scope) (f : Layer → Formula) (n r : ℕ) → IsKernel p → Above B n → Agrees L a p (n + 1) → Root r a.roots → r ≤ n → Whole V L all (bind B s n) f p (n + 1) → V (StatusOf n (Started r)) ≡ emitted V (StatusOf n (Started r)) all → emitted V (StatusOf n (Started r)) all ≡ emitted V (StatusOf n (Started r)) (spots L (bind B s n) f p (n + 1)) → V (StatusOf n (Started r)) ≡ started_any (emission V (StatusOf n (Started r))) (bind B s n) f p (n + 1) (Started r)
-  started_status a s p B f n r k ab g i l w e o =
-      let W = StatusOf n (Started r) in
-      let F = emission V W in
-      e ∙ o ∙ split F L a (bind B s n) f p (n + 1) k g
-      ∙ ap (λ b. b || list_any (λ j. started_any F (bind B s n) f p (n + 1) (Started j)) a.roots)
-      (silent_and a.resumed (resumed_silent V W s p (bind B s n) f (n + 1) k (own_fresh n (Started r)) (above_bind B n s ab) (own_shows B n s Resumed (Started r) false ab refl)))
-      ∙ any_single (λ j. started_any F (bind B s n) f p (n + 1) (Started j)) r a.roots i
-      (λ j z. started_silent V W s p (bind B s n) f (n + 1) (Started j) k (own_fresh n (Started r)) (own_shows B n s (Started j) (Started r) false ab (differs j z)))
-    where
-      silent_and : (c : Bool) {x : Bool} → x ≡ false → (c && x) ≡ false
-      silent_and true e = e
-      silent_and false e = refl
-
-      differs : (j : ℕ) → (j ≡ r → ⊥) → same_layer (layer_above n (Started j)) (Started r) ≡ false
-      differs j z = cond_both _ (Started j) Resumed (λ y. same_layer y (Started r) ≡ false) (λ u. ne_eqb j r z) (λ u. refl)
-
-  resumed_status : (a : Liveness) (s : ℕ) (p : Term) (B : Scope) (f : Layer → Formula) (n : ℕ) → IsKernel p → Above B n → Agrees L a p (n + 1) → ((r : ℕ) → Root r a.roots → r ≤ n) → V (StatusOf n Resumed) ≡ emitted V (StatusOf n Resumed) all → emitted V (StatusOf n Resumed) all ≡ emitted V (StatusOf n Resumed) (spots L (bind B s n) f p (n + 1)) → V (StatusOf n Resumed) ≡ (a.resumed && resumed_any (emission V (StatusOf n Resumed)) (bind B s n) f p (n + 1))
-  resumed_status a s p B f n k ab g l e o =
-      let W = StatusOf n Resumed in
-      let F = emission V W in
-      e ∙ o ∙ split F L a (bind B s n) f p (n + 1) k g
-      ∙ ap (λ b. (a.resumed && resumed_any F (bind B s n) f p (n + 1)) || b)
-      (any_nothing (λ j. started_any F (bind B s n) f p (n + 1) (Started j)) a.roots
-      (λ j i. started_silent V W s p (bind B s n) f (n + 1) (Started j) k (own_fresh n Resumed)
-      (own_shows B n s (Started j) Resumed false ab (ap (λ y. same_layer y Resumed) (layer_above-started n j (l j i))))))
-      ∙ or_nothing _
-    where
-      or_nothing : (x : Bool) → (x || false) ≡ x
-      or_nothing true = refl
-      or_nothing false = refl
-
-  -- the emissions on a Local's own wire are in its body
-  local_own : (x : ℕ) (p : Term) (B : Scope) (f : Layer → Formula) (n : ℕ) (y : Layer) → emitted V (StatusOf n y) (spots L B f (Local x p) n) ≡ emitted V (StatusOf n y) (spots L (bind B x n) (part_entry n) p (n + 1))
-  local_own x p B f n y =
-      list_any-append (emission V (StatusOf n y)) (spots_at L B f (Local x p) n) (spots L (bind B x n) (part_entry n) p (n + 1))
-      ∙ ap (λ b. b || emitted V (StatusOf n y) (spots L (bind B x n) (part_entry n) p (n + 1))) (none (L n))
-    where
-      none : (ls : List Layer) → list_any (emission V (StatusOf n y)) (map (λ l. spot B f (Local x p) n l) ls) ≡ false
-      none [] = refl
-      none (l ∷ ls) = none ls
 
   pub told_started : (a : Liveness) (t : Term) (B : Scope) (f : Layer → Formula) (n r : ℕ) (v : Values) (b : Bool) → Agrees L a t n → Root r a.roots → r ≤ n → NoInstantLoop t → IsKernel t → Above B n → Whole V L all B f t n → EachStarted M B f t n (Started r) → Sees given V B (Started r) v → V (Go n (Started r)) ≡ b → StartedWalked V t n (Started r) v b
   told_started a Nothing B f n r v b g i l nl k ab w e s h =
@@ -204,9 +163,7 @@ module _ (B0 : Scope) (body : Term) (q : State) (given : Values) (V : Valuation)
           go = h;
           ends = λ j. e.0.ends j ∙ started_mean B0 body q given V t B n r v b nl k s h one j;
         },
-        started_status ap1 x p B _ n r k ab g1 i l own e.0.status
-            (w.own n y (omega arith) (omega arith) ∙ local_own x p B f n y)
-            ∙ started_emits V W x true p (bind B x n) _ (n + 1) y u b nl k one (own_fresh n y) (own_shows B n x y y true ab (ap (λ z. same_layer z y) (layer_above-started n r l) ∙ same_self y)),
+        e.0.status ∙ local_started V all L a x p B f n r v b g i l nl k ab w one,
         one,
       )
   told_started a (Awake x p) B f n r v b g i l nl k ab w e s h = absurd k
@@ -394,12 +351,7 @@ module _ (B0 : Scope) (body : Term) (q : State) (given : Values) (V : Valuation)
           go = h;
           ends = λ j. e.0.ends j ∙ resumed_mean B0 body q given V S t B n v b nl k s o u h one j;
         },
-        resumed_status ap1 x p B _ n k ab g1 l e.0.status
-            (w.own n Resumed (omega arith) (omega arith) ∙ local_own x p B f n Resumed)
-            ∙ ap (λ y. (y && has_code (resumed_codes p)) && resumed_any (emission V W) (bind B x n) (part_entry n) p (n + 1)) i
-            ∙ guard_bits (has_code (resumed_codes p)) true b (wp.signals x) _
-            (λ z. resumed_emits V S W x true p (bind B x n) _ (n + 1) v2 b nl k up (one z) (own_fresh n Resumed) (above_bind B n x ab) (own_shows B n x Resumed Resumed true ab refl))
-            (λ z. resumed_live S p (n + 1) nl k (u.held z) (u.selected z)),
+        e.0.status ∙ local_resumed V all L S a x p B f n v b g i l nl k ab w up one,
         one,
       )
   told_resumed S a (Awake x p) B f n v b g i l nl k ab w e s o u h = absurd k

@@ -1,5 +1,5 @@
 -- Inner: the laws that tie the equations of a graph to the walk and to the reaction of its program.
-use Rattle.std.specs.Prelude.{◌≡◌, ℕ, Bool, true, ◌==◌, List, length, map, Some}
+use Rattle.std.specs.Prelude.{◌≡◌, ◌↔◌, ℕ, Bool, true, ◌==◌, List, length, map, Some}
 use Rattle.est_base.specs.Items.{Item, EachEvent}
 use Rattle.est_kernel.specs.Plain.{Program, interface_of, given_count}
 use Rattle.est_kernel.specs.Reactions.{Answer, react, run_of}
@@ -17,7 +17,7 @@ use Rattle.grc_graph.specs.Readings.{Valuation}
 use Rattle.grc_graph.specs.Coherence.{StartedWalked, ResumedWalked}
 use Rattle.grc_graph.specs.GraphRuns.{graph_of, program_spots, Solves, shown, next_state, IsGraphRun}
 use Rattle.grc_graph.specs.Layers.{Layer}
-use Rattle.grc_sem.specs.GraphWalks.{selected_of, program_values, graph_walk, SelectsLeaves, shown_answer}
+use Rattle.grc_sem.specs.GraphWalks.{selected_of, program_values, graph_walk, IsWalkOf, SelectsLeaves, shown_answer}
 
 -- Where no loop is instantaneous, a solution of a program's graph in a state is its walk: each wire of each instance
 -- has the value that the walk gives it, in the layer of the first start and, where it is live, in the resumed one.
@@ -29,7 +29,15 @@ SolutionsAreWalks =
     × (has_code (resumed_codes p.body) ≡ true
     → ResumedWalked V (selected_of q) p.body 0 (program_values p event V) (holds (selected_of q) p.body 0))
 
--- Where further each edge between wires goes up in some rank, what the state leaves of the program reacts to the
+-- More than that, the valuations that solve the graph are just those of the walk, so that to solve the equations is to
+-- walk the state under coherent statuses. This asks for no rank.
+abbrev pub EquationsAreTheWalk : Type 0
+EquationsAreTheWalk =
+    (p : Program) (q : State) (event : List Bool) (V : Valuation)
+    → IsKernel p.body → NoInstantLoop p.body → IsState q p.body → length event ≡ given_count p
+    → Solves (graph_of p) q event V ↔ IsWalkOf p q event V
+
+-- Where each edge between wires goes up in some rank, what the state leaves of the program reacts to the
 -- event: the reaction is constructive, the outgoing signals are present as their wires are true, and what is left
 -- after it is what the pauses that the walk keeps leave of the body.
 abbrev pub SolutionsReact : Type 0
@@ -80,4 +88,15 @@ GraphRunsAreRuns =
     → (Vs : List Valuation) → IsGraphRun (graph_of p) Initial items Vs
     → (answers : List Answer)
     × (run_of p items ≡ Some answers)
+    × (map shown_answer answers ≡ map (λ V. shown (graph_of p) V) Vs)
+
+-- The graph has such a run over all items of the right width, so the program has one: every reaction is constructive.
+abbrev pub ProgramsRun : Type 0
+ProgramsRun =
+    (p : Program) (rank : Wire → ℕ)
+    → IsWellFormed p → programs.IsKernel p.body → NoInstantLoop p.body → GoUp rank (edges (program_spots p))
+    → (items : List Item) → EachEvent (λ event. length event ≡ given_count p) items
+    → (answers : List Answer) × (Vs : List Valuation)
+    × (run_of p items ≡ Some answers)
+    × IsGraphRun (graph_of p) Initial items Vs
     × (map shown_answer answers ≡ map (λ V. shown (graph_of p) V) Vs)

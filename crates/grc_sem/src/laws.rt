@@ -1,11 +1,17 @@
 // The laws that tie the graph of a program to its meaning. Each call does nothing: its contract is the law.
 
+ghost use Rattle.grc_sem.specs.Laws.{EquationsAreTheWalk, ProgramsRun};
 ghost use Rattle.grc_sem.specs.Laws.{GraphRunsAreRuns, NextStateIsKept, SolutionsAreWalks, SolutionsReact};
 ghost use Rattle.grc_sem.specs.Laws.{SolutionsShowAlike, WalksKeepStates};
 
 /// A solution of a program's graph is the walk of the program's state, wire by wire.
 pub fn solutions_are_walks()
     ensures { SolutionsAreWalks }
+{}
+
+/// The valuations that solve a program's graph are just those of the walk under coherent statuses.
+pub fn equations_are_the_walk()
+    ensures { EquationsAreTheWalk }
 {}
 
 /// Where the edges of a graph go up in rank, a solution in a state is a constructive reaction of what
@@ -34,4 +40,10 @@ pub fn graph_runs_are_runs()
 /// Where the edges of a graph go up in rank, all its solutions in a state and an event show the same.
 pub fn solutions_show_alike()
     ensures { SolutionsShowAlike }
+{}
+
+/// Where the edges of a graph go up in some rank, the program has a run over all items of the right width, and the
+/// graph has one that shows it.
+pub fn programs_run()
+    ensures { ProgramsRun }
 {}

@@ -5,6 +5,6 @@
 mod laws;
 
 pub use laws::{
-    graph_runs_are_runs, next_state_is_kept, solutions_are_walks, solutions_react,
-    solutions_show_alike, walks_keep_states,
+    equations_are_the_walk, graph_runs_are_runs, next_state_is_kept, programs_run,
+    solutions_are_walks, solutions_react, solutions_show_alike, walks_keep_states,
 };

@@ -15,7 +15,7 @@ use Rattle.grc_solutions.proofs.Live.{Root, root_right}
 use Rattle.grc_solutions.proofs.Contexts.{In, Told, Context, then_part, else_part, suspended_part, first_part, second_part, loop_part, left_part, right_part, trap_part, local_part}
 
 -- what holds of the instances in the layers of a statement
-over_layers : (D : Layer → Type 0) (a : Liveness) → ((l : Layer) → In a l → D l) → Every D (layers_of a)
+pub over_layers : (D : Layer → Type 0) (a : Liveness) → ((l : Layer) → In a l → D l) → Every D (layers_of a)
 over_layers D a f = every_append D (cond a.resumed (Resumed ∷ []) []) (map Started a.roots) (resumed a.resumed (λ e. f Resumed e)) (started a.roots (λ r i. f (Started r) i))
   where
     resumed : (b : Bool) → (b ≡ true → D Resumed) → Every D (cond b (Resumed ∷ []) [])
@@ -26,7 +26,7 @@ over_layers D a f = every_append D (cond a.resumed (Resumed ∷ []) []) (map Sta
     started [] g = tt
     started (r ∷ rs) g = (g r (inl refl), started rs (λ x i. g x (root_right x (r ∷ []) rs i)))
 
-over_spots : (D : Spot → Type 0) (B : Scope) (f : Layer → Formula) (t : Term) (n : ℕ) (ls : List Layer) → Every (λ l. D (spot B f t n l)) ls → Every D (map (λ l. spot B f t n l) ls)
+pub over_spots : (D : Spot → Type 0) (B : Scope) (f : Layer → Formula) (t : Term) (n : ℕ) (ls : List Layer) → Every (λ l. D (spot B f t n l)) ls → Every D (map (λ l. spot B f t n l) ls)
 over_spots D B f t n [] h = tt
 over_spots D B f t n (l ∷ ls) h = (h.0, over_spots D B f t n ls h.1)
 

@@ -16,3 +16,6 @@ pub mod EachContext
 pub mod ProgramGraphs
 pub mod OneRun
 pub mod Numbers
+pub mod Gathered
+pub mod Evaluated
+mod Examples

@@ -134,7 +134,7 @@ wire_ranks_go_up_lem p pairs ranks kernel are r = (
 -- ---- orders
 
 -- where a wire stands in an order in which it stands once
-stands_at : (order : List WireId) (w : ℕ) → times order w ≡ 1 → (i : ℕ) × (i < length order) × (wire_at order i ≡ w)
+pub stands_at : (order : List WireId) (w : ℕ) → times order w ≡ 1 → (i : ℕ) × (i < length order) × (wire_at order i ≡ w)
 stands_at order w e =
     let s = some_counted (λ v. v.0 == w) order (record { 0 = 0 }) (omega (arith, e)) in
     (s.0, s.1, eqb-true (wire_at order s.0) w s.2)

@@ -38,7 +38,7 @@ contains_flat_map f (z ∷ zs) x y c d = go c.0 c.1 c.2 (λ e. contains_flat_map
     go zero l e r = Contains-append_left (f z) (flat_map f zs) y (subst (λ w. Contains (f w) y) (sym e) d)
     go (suc k) l e r = Contains-append_right (f z) (flat_map f zs) y (r (k, omega arith, e))
 
-range_has : (a k o : ℕ) → a ≤ o → o < a + k → Contains (range_with_len a k) o
+pub range_has : (a k o : ℕ) → a ≤ o → o < a + k → Contains (range_with_len a k) o
 range_has a zero o l u = absurd (omega arith)
 range_has a (suc k) o l u =
     ⊎_elim

@@ -1,3 +1,5 @@
 pub mod GraphWires
 pub mod Solutions
 pub mod NumberedGraphs
+pub mod Evaluations
+pub mod Evaluating
