@@ -21,10 +21,6 @@ use Rattle.grc_solutions.proofs.Binders.{Above, above_more, above_bind, layer_ab
 use Rattle.grc_sem.proofs.Constructive.{and_true}
 use Rattle.grc_graph.proofs.LiveLayers.{Agrees, only_agrees, first_agrees, second_agrees}
 use Rattle.grc_solutions.proofs.Live.{Root}
-use Rattle.grc_sem.proofs.Emissions.{emission, emitted, Whole, whole_only, whole_first, whole_second}
-use Rattle.grc_sem.proofs.Bridge.{started_any, resumed_any, split}
-use Rattle.grc_sem.proofs.WalkEmits.{Reach, reach_part, started_silent, resumed_silent, started_emits, resumed_emits, guard_bits}
-use Rattle.grc_solutions.proofs.Live.{Agrees, Root, only_agrees, first_agrees, second_agrees}
 use Rattle.grc_sem.proofs.Emissions.{Whole, whole_only, whole_first, whole_second}
 use Rattle.grc_sem.proofs.WalkEmits.{Reach, reach_part}
 use Rattle.grc_sem.proofs.EndForms.{val, test_meaning, branch_number, branch_is}
