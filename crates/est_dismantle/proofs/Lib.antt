@@ -1,4 +1,7 @@
+pub mod BadCounts
 mod Equations
+pub mod Exits
 pub mod Expanded
 pub mod Fitting
+pub mod Lists
 pub mod Measured

@@ -5,3 +5,6 @@ pub mod FlatFits
 pub mod FlatPrograms
 pub mod Laws
 pub mod Measures
+pub mod Extents
+pub mod FlatNodes
+pub mod MarkLists

@@ -5,6 +5,11 @@
 //! that are refused, and `specs/Expansions.antt` the order of the faults.
 #![tactic(auto)]
 
+mod counts;
+mod extent;
 mod laws;
+mod marks;
+mod refusal;
 
 pub use laws::expansions_are_well_formed;
+pub use refusal::DismantleFault;

@@ -1,0 +1,47 @@
+-- Inner: the expansion at the nodes of the code. The definitions are closed, so that a proof sees one row at a time.
+use Rattle.std.specs.Prelude.{ℕ, ◌+◌, Bool, true, false, nat_le, if◌then◌else◌, List, [], ◌∷◌, map, Option, Some, None}
+use Rattle.std.specs.declared.alloc.Global.{Global}
+use Rattle.std.specs.declared.boxed.Box.{Box}
+use Rattle.est_base.specs.declared.place.Span.{Span}
+use Rattle.est_kernel.specs.Terms as terms
+use Rattle.est_kernel.specs.Terms.{Term, Expression}
+use Rattle.est_ast.specs.declared.flat.FlatCase.{FlatCase}
+use Rattle.est_ast.specs.declared.flat.FlatDelay.{FlatDelay}
+use Rattle.est_ast.specs.declared.flat.FlatExpr.{FlatExpr}
+use Rattle.est_ast.specs.declared.flat.FlatForm.{FlatForm}
+use Rattle.est_ast.specs.declared.flat.FlatStmt.{FlatStmt}
+use Rattle.est_ast.specs.FlatTrees.{Part, Missing, Written, Cases, NoCases, MoreCases, exprs, stmts, cases}
+use Rattle.est_ast.specs.FlatViews.{flat_expr_of, flat_delay_of, flat_form_of, flat_stmt_of, flat_case_of, flat_part_of, flat_event_of, flat_body_of}
+use Rattle.est_dismantle.specs.Kernels.{Marks, expression, expressions, any_event, new_by, new_in, new_in_form, new_in_part, new_in_stmts, new_in_cases, kernel, kernel_of_form, part, kernels}
+use Rattle.est_dismantle.specs.Counts.{bad_count, bad_in_delay, bad_in, bad_in_form, bad_in_part, bad_in_stmts, bad_in_cases}
+use Rattle.est_dismantle.specs.Measures.{Measures, test_measures, kernel_measures, form_measures, part_measures, stmts_measures, cases_measures}
+
+-- ---- the first bad count
+
+abbrev pub first_place : List Span → Option Span
+first_place [] = None
+first_place (place ∷ places) = Some place
+
+unfoldable pub bad_of_count : ℕ → Span → Option Span
+bad_of_count count span = first_place (bad_count count span)
+
+unfoldable pub bad_of_delay : FlatDelay → Option Span
+bad_of_delay delay = first_place (bad_in_delay (flat_delay_of delay))
+
+unfoldable pub bad_of_stmt : FlatStmt → Option Span
+bad_of_stmt p = first_place (bad_in (flat_stmt_of p))
+
+unfoldable pub bad_of_form : FlatForm → Option Span
+bad_of_form form = first_place (bad_in_form (flat_form_of form))
+
+unfoldable pub bad_of_part : Option (Box FlatStmt Global) → Option Span
+bad_of_part q = first_place (bad_in_part (flat_part_of q))
+
+unfoldable pub bad_of_stmts : List FlatStmt → Option Span
+bad_of_stmts parts = first_place (bad_in_stmts (stmts (map flat_stmt_of parts)))
+
+unfoldable pub bad_of_case : FlatCase → Option Span
+bad_of_case c = first_place (bad_in_part (flat_body_of c))
+
+unfoldable pub bad_of_cases : List FlatCase → Option Span
+bad_of_cases list = first_place (bad_in_cases (cases (map flat_case_of list)))
