@@ -5,3 +5,4 @@ pub mod Expanded
 pub mod Fitting
 pub mod Lists
 pub mod Measured
+pub mod MeasuredNodes

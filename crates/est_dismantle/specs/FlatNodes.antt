@@ -12,9 +12,9 @@ use Rattle.est_ast.specs.declared.flat.FlatForm.{FlatForm}
 use Rattle.est_ast.specs.declared.flat.FlatStmt.{FlatStmt}
 use Rattle.est_ast.specs.FlatTrees.{Part, Missing, Written, Cases, NoCases, MoreCases, exprs, stmts, cases}
 use Rattle.est_ast.specs.FlatViews.{flat_expr_of, flat_delay_of, flat_form_of, flat_stmt_of, flat_case_of, flat_part_of, flat_event_of, flat_body_of}
-use Rattle.est_dismantle.specs.Kernels.{Marks, expression, expressions, any_event, new_by, new_in, new_in_form, new_in_part, new_in_stmts, new_in_cases, kernel, kernel_of_form, part, kernels}
+use Rattle.est_dismantle.specs.Kernels.{Marks, nested, expression, expressions, any_event, new_by, new_in, new_in_form, new_in_part, new_in_stmts, new_in_cases, kernel, kernel_of_form, part, kernels}
 use Rattle.est_dismantle.specs.Counts.{bad_count, bad_in_delay, bad_in, bad_in_form, bad_in_part, bad_in_stmts, bad_in_cases}
-use Rattle.est_dismantle.specs.Measures.{Measures, test_measures, kernel_measures, form_measures, part_measures, stmts_measures, cases_measures}
+use Rattle.est_dismantle.specs.Measures.{Measures, test_measures, leaf, joined, kernel_measures, form_measures, part_measures, stmts_measures, cases_measures}
 
 -- ---- the first bad count
 
@@ -45,3 +45,32 @@ bad_of_case c = first_place (bad_in_part (flat_body_of c))
 
 unfoldable pub bad_of_cases : List FlatCase → Option Span
 bad_of_cases list = first_place (bad_in_cases (cases (map flat_case_of list)))
+
+-- ---- measures
+
+unfoldable pub event_measures : FlatExpr → Measures
+event_measures e = test_measures (expression (flat_expr_of e))
+
+unfoldable pub events_measures : List FlatExpr → Measures
+events_measures list = nested joined leaf (map event_measures list)
+
+unfoldable pub case_events_measures : List FlatCase → Measures
+case_events_measures list = test_measures (any_event (cases (map flat_case_of list)))
+
+unfoldable pub stmt_measures : FlatStmt → Measures
+stmt_measures p = kernel_measures (flat_stmt_of p)
+
+unfoldable pub node_measures : FlatForm → Measures
+node_measures form = form_measures (flat_form_of form)
+
+unfoldable pub part_node_measures : Option (Box FlatStmt Global) → Measures
+part_node_measures q = part_measures (flat_part_of q)
+
+unfoldable pub parts_measures : List FlatStmt → Measures
+parts_measures parts = nested joined leaf (stmts_measures (stmts (map flat_stmt_of parts)))
+
+unfoldable pub case_measures : FlatCase → Measures
+case_measures c = part_measures (flat_body_of c)
+
+unfoldable pub chosen_measures : List FlatCase → Measures → Measures
+chosen_measures list r = cases_measures (cases (map flat_case_of list)) r

@@ -15,7 +15,7 @@ pub(crate) struct Extent {
 
 impl Extent {
     /// That of a node without parts.
-    #[tactic(auto, unfolding(crate::specs::Measures::leaf))]
+    #[tactic(auto, unfolding(crate::specs::Extents::IsExtent, crate::specs::Measures::leaf))]
     pub(crate) fn leaf() -> Extent
         ensures { IsExtent result leaf }
     {
@@ -27,7 +27,7 @@ impl Extent {
     }
 
     /// That of a node over this part.
-    #[tactic(auto, unfolding(crate::specs::Measures::over))]
+    #[tactic(auto, unfolding(crate::specs::Extents::IsExtent, crate::specs::Measures::over))]
     pub(crate) fn over(self) -> Extent
         ensures { (p : Measures) → IsExtent self p → IsExtent result (over p) }
     {
@@ -39,7 +39,7 @@ impl Extent {
     }
 
     /// That of a trap around this part.
-    #[tactic(auto, unfolding(crate::specs::Measures::trapped))]
+    #[tactic(auto, unfolding(crate::specs::Extents::IsExtent, crate::specs::Measures::trapped))]
     pub(crate) fn trapped(self) -> Extent
         ensures { (p : Measures) → IsExtent self p → IsExtent result (trapped p) }
     {
@@ -51,7 +51,7 @@ impl Extent {
     }
 
     /// That of a node over these two parts.
-    #[tactic(auto, unfolding(crate::specs::Measures::joined))]
+    #[tactic(auto, unfolding(crate::specs::Extents::IsExtent, crate::specs::Measures::joined))]
     pub(crate) fn joined(self, other: Extent) -> Extent
         ensures { (p q : Measures) → IsExtent self p → IsExtent other q → IsExtent result (joined p q) }
     {
@@ -63,7 +63,7 @@ impl Extent {
     }
 
     /// That of this test between two parts.
-    #[tactic(auto, unfolding(crate::specs::Measures::tested))]
+    #[tactic(auto, unfolding(crate::specs::Extents::IsExtent, crate::specs::Measures::tested))]
     pub(crate) fn tested(self, yes: Extent, no: Extent) -> Extent
         ensures { (e p q : Measures) → IsExtent self e → IsExtent yes p → IsExtent no q
             → IsExtent result (tested e p q) }
@@ -77,7 +77,7 @@ impl Extent {
     }
 
     /// That of this test before a part.
-    #[tactic(auto, unfolding(crate::specs::Measures::suspended))]
+    #[tactic(auto, unfolding(crate::specs::Extents::IsExtent, crate::specs::Measures::suspended))]
     pub(crate) fn suspended(self, part: Extent) -> Extent
         ensures { (e p : Measures) → IsExtent self e → IsExtent part p → IsExtent result (suspended e p) }
     {
@@ -89,7 +89,7 @@ impl Extent {
     }
 
     /// That of so many copies of this part in one sequence.
-    #[tactic(auto, unfolding(crate::specs::Measures::copied, crate::specs::Measures::leaf))]
+    #[tactic(auto, unfolding(crate::specs::Extents::IsExtent, crate::specs::Measures::copied, crate::specs::Measures::leaf))]
     pub(crate) fn copied(self, count: u128) -> Extent
         ensures { (p : Measures) → IsExtent self p → IsExtent result (copied count p) }
     {
@@ -106,7 +106,7 @@ impl Extent {
     }
 
     /// That of so many nodes, one over another, over this part.
-    #[tactic(auto, unfolding(crate::specs::Measures::raised))]
+    #[tactic(auto, unfolding(crate::specs::Extents::IsExtent, crate::specs::Measures::raised))]
     pub(crate) fn raised(self, count: usize) -> Extent
         ensures { (p : Measures) → IsExtent self p → IsExtent result (raised count p) }
     {

@@ -9,6 +9,9 @@ mod counts;
 mod extent;
 mod laws;
 mod marks;
+mod measure;
+mod measured_events;
+mod measured_rows;
 mod refusal;
 
 pub use laws::expansions_are_well_formed;
