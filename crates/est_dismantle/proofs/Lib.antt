@@ -1,8 +1,10 @@
+pub mod Abortions
 pub mod BadCounts
 mod Equations
 pub mod Exits
 pub mod Expanded
 pub mod Fitting
+pub mod KernelNodes
 pub mod Lists
 pub mod Measured
 pub mod MeasuredNodes

@@ -74,3 +74,61 @@ case_measures c = part_measures (flat_body_of c)
 
 unfoldable pub chosen_measures : List FlatCase → Measures → Measures
 chosen_measures list r = cases_measures (cases (map flat_case_of list)) r
+
+-- ---- tests
+
+unfoldable pub event_test : FlatExpr → Expression
+event_test e = expression (flat_expr_of e)
+
+unfoldable pub events_tests : List FlatExpr → List Expression
+events_tests list = map event_test list
+
+unfoldable pub case_test : FlatCase → Expression
+case_test c = expression (flat_event_of c)
+
+unfoldable pub any_event_test : List FlatCase → Expression
+any_event_test list = any_event (cases (map flat_case_of list))
+
+-- ---- new signals
+
+unfoldable pub delay_new : FlatDelay → ℕ
+delay_new delay = new_by (flat_delay_of delay)
+
+unfoldable pub stmt_new : FlatStmt → ℕ
+stmt_new p = new_in (flat_stmt_of p)
+
+unfoldable pub node_new : FlatForm → ℕ
+node_new form = new_in_form (flat_form_of form)
+
+unfoldable pub part_new : Option (Box FlatStmt Global) → ℕ
+part_new q = new_in_part (flat_part_of q)
+
+unfoldable pub stmts_new : List FlatStmt → ℕ
+stmts_new parts = new_in_stmts (stmts (map flat_stmt_of parts))
+
+unfoldable pub case_new : FlatCase → ℕ
+case_new c = new_in_part (flat_body_of c)
+
+unfoldable pub cases_new : List FlatCase → ℕ
+cases_new list = new_in_cases (cases (map flat_case_of list))
+
+-- ---- kernel terms
+
+unfoldable pub stmt_kernel : Marks → ℕ → FlatStmt → Term
+stmt_kernel marks x p = kernel marks x (flat_stmt_of p)
+
+unfoldable pub node_kernel : Marks → ℕ → Span → FlatForm → Term
+node_kernel marks x at form = kernel_of_form marks x at (flat_form_of form)
+
+unfoldable pub part_kernel : Marks → ℕ → Option (Box FlatStmt Global) → Term
+part_kernel marks x q = part marks x (flat_part_of q)
+
+unfoldable pub stmts_kernels : Marks → ℕ → List FlatStmt → List Term
+stmts_kernels marks x parts = kernels marks x (stmts (map flat_stmt_of parts))
+
+unfoldable pub case_choice : Marks → ℕ → FlatCase → Expression × Term
+case_choice marks x c = (case_test c, part marks x (flat_body_of c))
+
+unfoldable pub choices : Marks → ℕ → List FlatCase → List (Expression × Term)
+choices marks x [] = []
+choices marks x (c ∷ others) = case_choice marks x c ∷ choices marks (x + case_new c) others

@@ -5,6 +5,8 @@ pub mod FlatFits
 pub mod FlatPrograms
 pub mod Laws
 pub mod Measures
+pub mod Abortions
+pub mod Choices
 pub mod Extents
 pub mod FlatNodes
 pub mod MarkLists

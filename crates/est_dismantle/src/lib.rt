@@ -5,7 +5,11 @@
 //! that are refused, and `specs/Expansions.antt` the order of the faults.
 #![tactic(auto)]
 
+mod choices;
 mod counts;
+mod derived;
+mod events;
+mod expansion;
 mod extent;
 mod laws;
 mod marks;
@@ -13,6 +17,7 @@ mod measure;
 mod measured_events;
 mod measured_rows;
 mod refusal;
+mod terms;
 
 pub use laws::expansions_are_well_formed;
 pub use refusal::DismantleFault;
