@@ -3,6 +3,7 @@ pub mod Counts
 pub mod Expansions
 pub mod FlatFits
 pub mod FlatPrograms
+pub mod Faults
 pub mod Laws
 pub mod Measures
 pub mod Abortions

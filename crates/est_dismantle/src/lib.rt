@@ -6,6 +6,7 @@
 #![tactic(auto)]
 
 mod choices;
+mod copies;
 mod counts;
 mod derived;
 mod events;
@@ -16,8 +17,10 @@ mod marks;
 mod measure;
 mod measured_events;
 mod measured_rows;
+mod programs;
 mod refusal;
 mod terms;
 
+pub use programs::dismantle;
 pub use laws::expansions_are_well_formed;
 pub use refusal::DismantleFault;
