@@ -1,5 +1,6 @@
 pub mod Abortions
 pub mod BadCounts
+pub mod DerivedLaws
 mod Equations
 pub mod Exits
 pub mod Expanded

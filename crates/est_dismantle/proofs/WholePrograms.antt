@@ -28,6 +28,6 @@ pub program-made : (flat : Flat) (name : List ℕ) (signals : List (List ℕ)) (
     → record { name = name; signals = signals; inputs = flat.inputs; both = flat.both; outputs = flat.outputs; relations = relations; body = body } ≡ program_in flat (kernel_body flat)
 program-made flat name signals relations body n s r b =
     let made : List ℕ → List (List ℕ) → List Relation → Term → Program =
-      λ (m : List ℕ). λ (t : List (List ℕ)). λ (q : List Relation). λ (k : Term). record { name = m; signals = t; inputs = flat.inputs; both = flat.both; outputs = flat.outputs; relations = q; body = k } in
+    λ (m : List ℕ). λ (t : List (List ℕ)). λ (q : List Relation). λ (k : Term). record { name = m; signals = t; inputs = flat.inputs; both = flat.both; outputs = flat.outputs; relations = q; body = k } in
     ap (λ m. made m signals relations body) n ∙ ap (λ t. made flat.name t relations body) s ∙ ap (λ q. made flat.name (flat.signals ++ replicate (new_in flat.body) (codes "x")) q body) r
     ∙ ap (made flat.name (flat.signals ++ replicate (new_in flat.body) (codes "x")) flat.relations) b

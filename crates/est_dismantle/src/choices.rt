@@ -17,11 +17,7 @@ pub(crate) struct Choice {
 }
 
 /// The first choice whose event is there, or else the last term.
-pub(crate) fn chosen(
-    alloc: Global,
-    choices: Vec<Choice>,
-    last: Kernel,
-) -> Result<Kernel, NoMemory>
+pub(crate) fn chosen(alloc: Global, choices: Vec<Choice>, last: Kernel) -> Result<Kernel, NoMemory>
     ensures { IfOk result (λ k. term_of k ≡ chosen_of (map choice_of choices.items) (term_of last)) }
 {
     let mut rest = choices;

@@ -7,10 +7,9 @@ ghost use Rattle.est_dismantle.specs.FlatNodes.{stmt_kernel, node_kernel, part_k
 ghost use Rattle.est_dismantle.specs.MarkLists.{marks_of};
 
 use crate::choices::{Choice, chosen};
-use crate::derived as rows;
 use crate::events::{any_event, test_of};
 use crate::marks::{Marks, code};
-use crate::terms;
+use crate::{derived as rows, terms};
 use est_ast::{FlatCase, FlatDelay, FlatForm, FlatStmt};
 use est_base::{NoMemory, SigId, Span};
 use est_kernel::Kernel;
@@ -29,13 +28,7 @@ pub(crate) fn expand(
     ensures term { IfOk result (λ k. term_of k ≡ stmt_kernel (marks_of marks.now) next.old statement.now) }
     ensures next { OnOk result (next.new ≡ next.old + stmt_new statement.now) }
 {
-    Ok(expand_form(
-        alloc,
-        &statement.form,
-        statement.span,
-        marks,
-        next,
-    )?)
+    Ok(expand_form(alloc, &statement.form, statement.span, marks, next)?)
 }
 
 #[cycle(expansion)]

@@ -20,7 +20,12 @@ mod measured_rows;
 mod programs;
 mod refusal;
 mod terms;
+#[cfg(test)]
+mod tests;
 
+pub use laws::{
+    expansions_are_well_formed, immediate_abortions_run_their_rest, immediate_awaits_end_at_once,
+    loops_each_start_anew, repetitions_are_sequences, sustained_signals_stay,
+};
 pub use programs::dismantle;
-pub use laws::expansions_are_well_formed;
 pub use refusal::DismantleFault;

@@ -31,8 +31,8 @@ expand_cases-loop-case-preserved t c =
     let i = c.loop-case.case-index in let l = c.args.cases.now in let x = c.case-item.result in
     record {
       choices = joined-on choice_of _ _ _ _ _ _ _ c.in_ok-push.ensures.items c.in_ok-expand_case.ensures.choice
-        (choices-at (marks_of c.args.marks.now) c.loop-case.next c.expand_case.new.next l i x (omega arith) c.case-item.is c.in_ok-expand_case.ensures.next)
-        c.loop-case.invariant.choices;
+          (choices-at (marks_of c.args.marks.now) c.loop-case.next c.expand_case.new.next l i x (omega arith) c.case-item.is c.in_ok-expand_case.ensures.next)
+          c.loop-case.invariant.choices;
       next = omega (arith, cases-new_at l i x (omega arith) c.case-item.is, c.in_ok-expand_case.ensures.next, c.loop-case.invariant.next);
     }
 
@@ -49,8 +49,8 @@ expand_parts-loop-part-preserved t c =
     let i = c.loop-part.part-index in let l = c.args.parts.now in let x = c.part-item.result in
     record {
       terms = joined-on term_of _ _ _ _ _ _ _ c.in_ok-push.ensures.items c.in_ok-expand.ensures.term
-        (stmts-at (marks_of c.args.marks.now) c.loop-part.next c.expand.new.next l i x (omega arith) c.part-item.is c.in_ok-expand.ensures.next)
-        c.loop-part.invariant.terms;
+          (stmts-at (marks_of c.args.marks.now) c.loop-part.next c.expand.new.next l i x (omega arith) c.part-item.is c.in_ok-expand.ensures.next)
+          c.loop-part.invariant.terms;
       next = omega (arith, stmts-new_at l i x (omega arith) c.part-item.is, c.in_ok-expand.ensures.next, c.loop-part.invariant.next);
     }
 
