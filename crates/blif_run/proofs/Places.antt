@@ -98,7 +98,7 @@ slots-split c =
     length-append c.inputs (map (λ l. l.target) c.latches ++ map (λ t. t.output) c.tables)
     ∙ ap (λ n. length c.inputs + n) (length-append (map (λ l. l.target) c.latches) (map (λ t. t.output) c.tables)
     ∙ ap (λ n. n + length (map (λ t. t.output) c.tables)) (length-map c.latches (λ l. l.target))
-        ∙ ap (λ n. length c.latches + n) (length-map c.tables (λ t. t.output)))
+    ∙ ap (λ n. length c.latches + n) (length-map c.tables (λ t. t.output)))
     ∙ omega arith
 
 module _ (c : Circuit) (differ : all_differ is_same_name (driven_names c) ≡ true) where

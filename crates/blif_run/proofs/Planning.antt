@@ -46,7 +46,7 @@ module _ (c : Circuit) (sound : IsSound c) where
       let same : get_or (map (slots_read c) c.tables) k d ≡ map (slot_of c) names = get_or-map (slots_read c) c.tables k no_table d (omega arith) in
       let lowj : j < length names = omega (arith, low, ap length same, length-map names (slot_of c)) in
       let is : get_or (get_or (map (slots_read c) c.tables) k d) j e ≡ slot_of c (get_or names j []) = ap (λ l. get_or l j e) same
-          ∙ get_or-map (slot_of c) names j [] e lowj in
+      ∙ get_or-map (slot_of c) names j [] e lowj in
       omega (arith, is, found-low (get_or names j []) (driven_names c) (input-driven c sound k j (omega arith) lowj), slots-split c)
 
   abbrev place_by : List ℕ → ℕ → ℕ
@@ -155,7 +155,7 @@ module _ (c : Circuit) (sound : IsSound c) where
           ∙ table-same u (λ x. w (slot_of c x)) table (λ j low. sym (of (get_or table.inputs j []) (input-driven c sound t j h low)))
           ∙ sym (gives-table w (slot_of c) table) ∙ ap (gives w table) (sym (reads-at c sound t h)) in
           let begins : (s : ℕ) → s < first → value_at values s ≡ w s = λ s h. sym (get_or-take first values s false h)
-              ∙ ap (λ l. get_or l s false) starts.given ∙ front-is u instant s h in
+          ∙ ap (λ l. get_or l s false) starts.given ∙ front-is u instant s h in
           let agree = all-agree c.tables first reads order place (in-order order is) w meets values wide begins in
           map-same u v names (λ k h. let slot = agree k (omega (arith, slots-split c)) in sym (ap (value_at after) (place-at names sound.differ k h) ∙ slot))
         where
@@ -180,9 +180,9 @@ module _ (c : Circuit) (sound : IsSound c) where
                     ap (λ m. get_or (inputs ++ latches) m false) i ∙ get_or-append-add inputs latches k false
                     ∙ ap (λ l. get_or l k false) (sym instant.latches_kept) ∙ get_or-map (λ l. u l.target) c.latches k d false low
                     ∙ ap u (sym (ap (λ m. get_or (driven_names c) m []) j ∙ get_or-append-add c.inputs (map (λ l. l.target) c.latches ++ map
-                        (λ t. t.output) c.tables) k []
+                    (λ t. t.output) c.tables) k []
                     ∙ get_or_append_left (map (λ l. l.target) c.latches) (map (λ t. t.output) c.tables) [] k (omega arith)
-                        ∙ get_or-map (λ l. l.target) c.latches k d [] low))
+                    ∙ get_or-map (λ l. l.target) c.latches k d [] low))
               ]
 
           table-same : (x y : List ℕ → Bool) (t : Table) → ((j : ℕ) → j < length t.inputs → x (get_or t.inputs j []) ≡ y (get_or t.inputs j []))

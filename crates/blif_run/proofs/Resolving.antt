@@ -32,7 +32,7 @@ pub parts-within : {V : Type 0} (items : V → List ℕ) (first : ℕ) (vs : Lis
 parts-within items first vs all =
     let n = length-map vs items in
     subst (λ m. All (λ v. All (λ slot. slot < first + m) (items v)) vs) n (all-parts (λ slots. All (λ slot. slot < first + length
-        (map items vs)) slots) items vs all)
+    (map items vs)) slots) items vs all)
 
 module _ (c : Circuit) (sound : IsSound c) (keys : List (List ℕ)) (first : ℕ) (reads : List (List ℕ)) (is : IsResolved c keys first reads) where
   abbrev own_edges : List (ℕ × ℕ)
@@ -50,7 +50,7 @@ module _ (c : Circuit) (sound : IsSound c) (keys : List (List ℕ)) (first : ℕ
       let many = ap length is.reads_are in
       let at : get_or reads k d ≡ get_or (map (slots_read c) c.tables) k d = ap (λ rs. get_or rs k d) is.reads_are in
       let inside : get_or (get_or (map (slots_read c) c.tables) k d) j e < first_slot c + length c.tables = reads-low c sound k d (omega arith) j e (omega
-          (arith, low, ap length at)) in
+      (arith, low, ap length at)) in
       omega (arith, inside, ap (λ l. get_or l j e) at, is.first_is)
 
   pub walk-fault : (e : RunError) → WalkFault (edges_from first 0 reads) c.tables e → LoopFault c e
@@ -67,7 +67,7 @@ module _ (c : Circuit) (sound : IsSound c) (keys : List (List ℕ)) (first : ℕ
       → IsPlan c steps sources shown
   planned order steps sources shown ordered made kept given =
       let own : IsEvaluationOrder (length (map (slots_read c) c.tables)) own_edges order = subst (λ n. IsEvaluationOrder n own_edges order)
-          (ap length is.reads_are)
+      (ap length is.reads_are)
       (subst (λ es. IsEvaluationOrder (length reads) es order) edges-are ordered) in
       let steps_are : steps ≡ map (step_at c.tables (first_slot c) (map (slots_read c) c.tables)) order =
       made ∙ ap (λ n. map (step_at c.tables n reads) order) is.first_is ∙ ap (λ rs. map (step_at c.tables (first_slot c) rs) order) is.reads_are in

@@ -22,7 +22,7 @@ settled-by step order P next (suc n) k all values p =
     let low : k < length order = omega arith in
     rw (drop-cons order k 0 low)
     (settled-by step order P next n (suc k) (omega arith) (set values (step (get_or order k 0)).output (step_value (step (get_or order k 0)) values))
-        (next k values low p))
+    (next k values low p))
 
 -- tables in an order, by the place of each
 pub record InOrder (tables : List Table) (first : ℕ) (reads : List (List ℕ)) (order : List ℕ) (place : ℕ → ℕ) : Type 0 where
@@ -63,7 +63,7 @@ module _ (tables : List Table) (first : ℕ) (reads : List (List ℕ)) (order : 
       let here : value_at new (first + t) ≡ b = get_or-set_same values (first + t) b false (omega (arith, s.len)) in
       -- what a table reads whose place is at most k is not changed by the step
       let keeps : (u : ℕ) → u < length tables → place u ≤ k → (j : ℕ) → j < length (slots u)
-          → value_at values (get_or (slots u) j 0) ≡ value_at new (get_or (slots u) j 0) =
+      → value_at values (get_or (slots u) j 0) ≡ value_at new (get_or (slots u) j 0) =
       λ u lowu at j lowj. elim (cases_eq (get_or (slots u) j 0) (first + t)) [
         | inl e ↦
             let earlier : place t < place u = is.behind u j t lowu lowj e in
@@ -130,7 +130,7 @@ module _ (tables : List Table) (first : ℕ) (reads : List (List ℕ)) (order : 
                     ] in
                     ap (λ x. value_at new (first + x)) e ∙ here ∙ step-gives (table t) (first + t) (slots t) values
                     ∙ ap (λ x. gives (value_at values) (table x) (slots x)) (sym e) ∙ gives-same (value_at values) w (table u) (slots u) same
-                        ∙ sym (meets u lowu)
+                    ∙ sym (meets u lowu)
                 | inr ne ↦
                     let apart : (place u ≡ k → ⊥) = λ p. ne (sym (is.stands u lowu) ∙ ap (λ m. get_or order m 0) p) in
                     let before : place u < k = omega arith in

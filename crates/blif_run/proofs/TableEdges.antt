@@ -165,7 +165,7 @@ module _ (c : Circuit) (sound : IsSound c) where
       let lowj : j < length (names_read r.table) = omega (arith, r.read.low, ap length same, length-map (names_read r.table) (slot_of c)) in
       let y = get_or (names_read r.table) j [] in
       let slot : slot_of c y ≡ first_slot c + b = sym (get_or-map (slot_of c) (names_read r.table) j [] 0 lowj) ∙ ap (λ l. get_or l j 0) (sym same)
-          ∙ r.read.is in
+      ∙ r.read.is in
       let driven = input-driven r.table j low lowj in
       let inside : b < length c.tables = omega (arith, found-low y (driven_names c) driven, slots-split c) in
       let is : y ≡ output_at c.tables b =

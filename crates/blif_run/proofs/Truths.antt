@@ -59,7 +59,7 @@ number-more values reads i w p low =
     let s : i + 1 ≡ suc i = omega arith in
     let n = number_of (map (value_at values) (drop (suc i) reads)) in
     rw (drop-cons reads i 0 low, s) (elim (value_at values (get_or reads i 0)) as (λ b. p + w * ((if b then 1 else 0) + 2 * n) ≡ p +
-        (if b then w else 0) + w * 2 * n)
+    (if b then w else 0) + w * 2 * n)
     [ true ↦ omega arith | false ↦ omega arith ])
 
 -- what a valuation of slots gives to the output of a table that reads these slots

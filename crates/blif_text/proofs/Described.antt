@@ -43,18 +43,19 @@ once-of : (before names : List (List ℕ)) → first_again before names ≡ None
 once-of before [] none = record { differ = refl; apart = λ x h. refl }
 once-of before (name ∷ names) none =
     let go : (b : Bool) → is_among name before ≡ b → (if b then Some name else first_again (name ∷ before) names) ≡ None → Once before (name ∷ names) =
-        λ b. elim b as (λ b. is_among name before ≡ b → (if b then Some name else first_again (name ∷ before) names) ≡ None → Once before (name ∷ names))
-        [ true ↦ λ e n. some-none name (Once before (name ∷ names)) n
-        | false ↦ λ e n.
-            let rest = once-of (name ∷ before) names n in
-            let new = rest.apart name (or_here (is_same_name name name) (is_among name before) (same-refl name)) in
-            record {
-              differ = rw (new, rest.differ) refl;
-              apart = λ x h. or_from (is_same_name x name) (is_among x names)
-                  (elim (is_same_name x name) as (λ s. is_same_name x name ≡ s → s ≡ false)
-                  [ true ↦ λ s. absurd (both_ways (is_among x before) (ap (λ y. is_among y before) (same-eq x name s) ∙ e) h) | false ↦ λ s. refl ] refl)
-                  (rest.apart x (or_there (is_same_name x name) (is_among x before) h));
-            } ] in
+    λ b. elim b as (λ b. is_among name before ≡ b → (if b then Some name else first_again (name ∷ before) names) ≡ None → Once before (name ∷ names)) [
+      | true ↦ λ e n. some-none name (Once before (name ∷ names)) n
+      | false ↦ λ e n.
+          let rest = once-of (name ∷ before) names n in
+          let new = rest.apart name (or_here (is_same_name name name) (is_among name before) (same-refl name)) in
+          record {
+            differ = rw (new, rest.differ) refl;
+            apart = λ x h. or_from (is_same_name x name) (is_among x names)
+                (elim (is_same_name x name) as (λ s. is_same_name x name ≡ s → s ≡ false)
+                [ true ↦ λ s. absurd (both_ways (is_among x before) (ap (λ y. is_among y before) (same-eq x name s) ∙ e) h) | false ↦ λ s. refl ] refl)
+                (rest.apart x (or_there (is_same_name x name) (is_among x before) h));
+          }
+    ] in
     go (is_among name before) refl none
 
 -- ---- the driven names in the order of the text and in that of the circuit
@@ -78,7 +79,7 @@ differ-middle y (z ∷ front) behind h =
     let inner = and_parts (not (is_among z (front ++ behind))) (all_differ is_same_name (front ++ behind)) outer.1 in
     let apart = or_parts (is_same_name y z) (is_among y (front ++ behind)) (not-true (is_among y (z ∷ front ++ behind)) outer.0) in
     let none : is_among z (front ++ y ∷ behind) ≡ false = among-middle z y front behind
-        ∙ or_from (is_same_name z y) (is_among z (front ++ behind)) (nat_list_eq_equiv.symm z y ∙ apart.0) (not-true (is_among z (front ++ behind)) inner.0) in
+    ∙ or_from (is_same_name z y) (is_among z (front ++ behind)) (nat_list_eq_equiv.symm z y ∙ apart.0) (not-true (is_among z (front ++ behind)) inner.0) in
     and_from (not (is_among z (front ++ y ∷ behind))) (all_differ is_same_name (front ++ y ∷ behind)) (not_from_false (is_among z (front ++ y ∷ behind)) none)
     (differ-middle y front behind (and_from (not (is_among y (front ++ behind))) (all_differ is_same_name (front ++ behind))
     (not_from_false (is_among y (front ++ behind)) apart.1) inner.1))
@@ -100,7 +101,7 @@ regroups-front names xs ys r = record {
   same = λ x. list_any-append (is_same_name x) names xs ∙ ap (λ b. is_among x names || b) (r.same x) ∙ sym (list_any-append (is_same_name x) names ys);
   differ = λ h.
       let whole : (all_differ is_same_name names && none_shared is_same_name names xs && all_differ is_same_name xs) ≡ true = sym
-          (all_differ-append is_same_name names xs) ∙ h in
+      (all_differ-append is_same_name names xs) ∙ h in
       let outer = and_parts (all_differ is_same_name names && none_shared is_same_name names xs) (all_differ is_same_name xs) whole in
       let inner = and_parts (all_differ is_same_name names) (none_shared is_same_name names xs) outer.0 in
       all_differ-append is_same_name names ys ∙ rw (inner.0, sym (none_shared-same names xs ys r.same) ∙ inner.1, r.differ outer.1) refl;
@@ -132,7 +133,7 @@ regroups (Inputs names ∷ ss) =
     (regroups-front names (flat_map driven_by ss) (grouped ss) (regroups ss))
 regroups (Latch source target init ∷ ss) =
     regroups-middle target (flat_map driven_by ss) (flat_map inputs_in ss) (map (λ l. l.target) (flat_map latches_in ss) ++ map (λ t. t.output)
-        (tables_of ss)) (regroups ss)
+    (tables_of ss)) (regroups ss)
 regroups (Names inputs output ∷ ss) =
     let ins = flat_map inputs_in ss in
     let latches = map (λ l. l.target) (flat_map latches_in ss) in
@@ -177,8 +178,8 @@ found-none : (p : List ℕ → Bool) (names : List (List ℕ)) → find (λ n. n
 found-none p [] none = tt
 found-none p (name ∷ names) none =
     let go : (b : Bool) → p name ≡ b → (if not b then Some name else find (λ n. not (p n)) names) ≡ None → AllByRecursion (λ n. p n ≡ true) (name ∷ names) =
-        λ b. elim b as (λ b. p name ≡ b → (if not b then Some name else find (λ n. not (p n)) names) ≡ None → AllByRecursion (λ n. p n ≡ true) (name ∷ names))
-        [ true ↦ λ e n. (e, found-none p names n) | false ↦ λ e n. some-none name (AllByRecursion (λ n. p n ≡ true) (name ∷ names)) n ] in
+    λ b. elim b as (λ b. p name ≡ b → (if not b then Some name else find (λ n. not (p n)) names) ≡ None → AllByRecursion (λ n. p n ≡ true) (name ∷ names))
+    [ true ↦ λ e n. (e, found-none p names n) | false ↦ λ e n. some-none name (AllByRecursion (λ n. p n ≡ true) (name ∷ names)) n ] in
     go (p name) refl none
 
 -- ---- no table has more than eight inputs
@@ -263,8 +264,8 @@ narrow-said : (said : List Said) → AllByRecursion (λ s. NarrowIfSome s.says) 
 narrow-said [] all = tt
 narrow-said (s ∷ said) all =
     let go : (o : Option Statement) → s.says ≡ o → NarrowIfSome o → AllByRecursion IsNarrow (filter_map (λ line. line.says) (s ∷ said)) =
-        λ o. elim o as (λ o. s.says ≡ o → NarrowIfSome o → AllByRecursion IsNarrow (filter_map (λ line. line.says) (s ∷ said)))
-        [ None ↦ λ e h. rw e (narrow-said said all.1) | Some t ↦ λ e h. rw e (h, narrow-said said all.1) ] in
+    λ o. elim o as (λ o. s.says ≡ o → NarrowIfSome o → AllByRecursion IsNarrow (filter_map (λ line. line.says) (s ∷ said)))
+    [ None ↦ λ e h. rw e (narrow-said said all.1) | Some t ↦ λ e h. rw e (h, narrow-said said all.1) ] in
     go s.says refl all.0
 
 narrow-by : (n : ℕ) (ws : List (List ℕ)) → AllByRecursion (λ s. NarrowIfSome s.says) (said_by n ws)

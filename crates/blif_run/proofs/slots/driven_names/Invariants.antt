@@ -13,4 +13,4 @@ abbrev pub invariant-loop-table : goal.invariant-loop-table
 invariant-loop-table l =
     map (λ w. w.now) l.names.items
     ≡ l.blif.inputs.items ++ (map (λ x. x.target) (map plain_latch l.blif.latches.items) ++ map (λ t. t.output) (map plain_table
-        (take l.table-index l.blif.tables.items)))
+    (take l.table-index l.blif.tables.items)))

@@ -15,5 +15,5 @@ loop-name-preserved c =
     let at : get_or names i [] ≡ key.now = get_or-map bytes c.args.names.now i (record { ref_ptr = (0, 0); now = [] }) [] (omega arith) in
     let new = new-at names c.requires i low in
     ap (map bytes) (c.in_ok-insert.ensures.keys ∙ key-new bytes key c.loop-name.slots.keys (ap (λ l. list_any (is_same_name key.now) l) c.loop-name.invariant
-        ∙ rw (sym at) new))
+    ∙ rw (sym at) new))
     ∙ map-append bytes c.loop-name.slots.keys (key ∷ []) ∙ rw (c.loop-name.invariant, sym at) (sym (take_more names i [] low))

@@ -31,7 +31,7 @@ returns c =
     let kept = c.self.invariant.each_latch ∙ sym (length-map c.self.inside.blif.now.latches.items plain_latch) in
     let given = c.requires ∙ ap (λ r. length r.circuit.inputs) (sym c.self.view_is) in
     let front = subst (λ l. take (length c.args.inputs.now + length l) c.put_first.new.values ≡ c.args.inputs.now ++ l) c.deref.ensures.value
-        c.put_first.ensures.given in
+    c.put_first.ensures.given in
     let starts = starts-by circuit latches c.args.inputs.now c.put_first.new.values wide kept given front in
     let after = c.settle.ensures ∙ ap (λ l. settled (map plain_step l) c.deref_mut-2.result.now) c.deref-2.ensures.value
     ∙ ap (λ v. settled (map plain_step plan.steps.items) v) (c.deref_mut-2.ensures.value ∙ begun) in
