@@ -2,3 +2,5 @@ pub mod NameSets
 pub mod FormLists
 pub mod FirstFaults
 pub mod GivenNames
+pub mod PlainTrees
+mod NameEquations

@@ -1,0 +1,6 @@
+pub mod TrapPlaces
+pub mod FoundLists
+pub mod ScopeTables
+pub mod FlatForms
+mod WorkedPrograms
+mod DrawnPrograms
