@@ -1,3 +1,4 @@
+pub mod RunSteps
 pub mod TrapPlaces
 pub mod FoundLists
 pub mod ScopeTables

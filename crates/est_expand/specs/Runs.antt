@@ -1,7 +1,6 @@
 -- To believe: what a `run` leads to, and what the names of the module that it runs mean there.
-use Rattle.std.specs.Prelude.{ℕ, Bool, not, ◌&&◌, if◌then◌else◌, List, [], ◌∷◌, ◌++◌, find, Option, Some, None, is_some, Result, Ok, Err}
+use Rattle.std.specs.Prelude.{ℕ, Bool, not, ◌&&◌, if◌then◌else◌, List, [], ◌∷◌, ◌++◌, map, find, Option, Some, None, is_some, Result, Ok, Err}
 use Rattle.std.specs.Option.{option_or}
-use Rattle.std.specs.List.{list_any}
 use Rattle.est_base.specs.declared.place.Span.{Span}
 use Rattle.est_base.specs.Names.{is_same_name}
 use Rattle.est_ast.specs.declared.trees.Name.{Name}
@@ -24,15 +23,14 @@ chain_with chain name =
     if is_among name.text chain then Err (Recursive name.span (chain ++ name.text ∷ []))
     else Ok (chain ++ name.text ∷ [])
 
--- the module shows a signal of this name
-abbrev pub is_formal : List ℕ → List Formal → Bool
-is_formal name formals = list_any (λ formal. is_same_name name formal.name) formals
+abbrev pub formal_names : List Formal → List (List ℕ)
+formal_names formals = map (λ formal. formal.name) formals
 
 -- The formals that are renamed, with what their actuals mean. A formal is one of the module's, and not renamed before.
 abbrev pub renamed : List Formal → Scope → Scope → List Rename → Result Scope Fault
 renamed formals scope given [] = Ok given
 renamed formals scope given (rename ∷ renames) =
-    if is_formal rename.formal.text formals && not (is_some (meaning given rename.formal.text))
+    if is_among rename.formal.text (formal_names formals) && not (is_some (meaning given rename.formal.text))
     then on_ok (signal_of scope rename.actual)
         (λ actual. renamed formals scope ((rename.formal.text, actual) ∷ given) renames)
     else Err (BadRename rename.formal.span)

@@ -9,7 +9,9 @@
 mod expressions;
 mod interface;
 mod met;
+mod place;
 mod refusal;
+mod runs;
 mod scope;
 mod traps;
 
