@@ -1,3 +1,5 @@
+pub mod RowForms
+pub mod WalkSteps
 pub mod RunSteps
 pub mod TrapPlaces
 pub mod FoundLists

@@ -58,7 +58,7 @@ meet_delay (Immediate event) = give tt
 meet_delay (Count count span event) = if nat_lt 1 count then meet_added else give tt
 
 -- as many numbers as there are names, from this one on
-abbrev pub numbers : {A : Type 0} → ℕ → List A → List ℕ
+abbrev pub numbers : ℕ → List (List ℕ) → List ℕ
 numbers next [] = []
 numbers next (name ∷ names) = next ∷ numbers (next + 1) names
 
@@ -144,7 +144,7 @@ module _ (modules : Program) (inputs : ℕ) where
   row inside around at (Exit name) = knowing (exit_of around.traps name) (λ k. give (flat.At at (flat.Exit k)))
   row inside around at (Signal names p) =
       after (meet_signals (texts names)) (λ next. after (inside (in_signals (texts names) next around) p) (λ p.
-      give (flat.At at (flat.Signal (numbers next names) p))))
+      give (flat.At at (flat.Signal (numbers next (texts names)) p))))
   row inside around at (Run name renames) = ran inside around name renames
   row inside around at (Seq parts) =
       after (each (inside around) parts) (λ parts. give (flat.At at (flat.Seq parts)))

@@ -14,5 +14,6 @@ mod refusal;
 mod runs;
 mod scope;
 mod traps;
+mod walk;
 
 pub use refusal::ExpandFault;

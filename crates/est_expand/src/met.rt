@@ -1,6 +1,6 @@
 // What a walk has met.
 
-ghost use Rattle.std.specs.Prelude.{◌≡◌, ◌+◌, ◌≤◌, ◌++◌, length, map, OnOk};
+ghost use Rattle.std.specs.Prelude.{◌≡◌, ◌+◌, ◌≤◌, ◌++◌, length, map, IfOk, OnOk};
 ghost use Rattle.est_ast.specs.Views.{delay_of};
 ghost use Rattle.est_expand.specs.Walks.{beginning, meet_statement, meet_signals, meet_added};
 ghost use Rattle.est_expand.specs.Flattening.{meet_delay};
@@ -46,7 +46,9 @@ impl Met {
 
     /// New signals of these names, and the number of the first.
     pub fn meet_signals(&mut self, alloc: Global, names: &[&[u8]]) -> Result<u32, ExpandFault>
-        ensures { Walks (λ first. first) result self.old self.new (meet_signals (map (λ name. name.now) names.now)) }
+        ensures walks { Walks (λ first. first) result self.old self.new
+            (meet_signals (map (λ name. name.now) names.now)) }
+        ensures few { IfOk result (λ first. first + length names.now ≤ 4096) }
     {
         let first = self.signals.len();
         let room = Limits::SIGNALS - self.added - first as u64;

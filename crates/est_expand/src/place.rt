@@ -10,12 +10,13 @@ use est_ast::Module;
 use est_names::{NameSet, Table};
 
 /// A program: its modules with their table, and the number of inputs of the main module, which have the
-/// first numbers.
+/// first numbers. So many more statements may stand one in another.
 #[derive(Clone, Copy)]
 pub struct Source<'a> {
     pub modules: &'a [Module],
     pub table: &'a Table<'a>,
     pub inputs: u32,
+    pub room: u32,
     ghost named: { table.now.names ≡ module_names (map module_of modules.now) },
 }
 
@@ -26,4 +27,23 @@ pub struct Around<'a> {
     pub scope: Scope<'a>,
     pub traps: Traps<'a>,
     pub chain: NameSet<'a>,
+}
+
+impl<'a> Source<'a> {
+    ghost use Rattle.std.specs.Prelude.{◌+◌, IfSome, IfNone};
+
+    /// The same inside of a statement, where one more may stand in another.
+    pub fn inside(self) -> Option<Source<'a>>
+        ensures some { IfSome result (λ inner. (inner.modules ≡ self.entry.modules) × (inner.table ≡ self.entry.table)
+            × (inner.inputs ≡ self.entry.inputs) × (self.entry.room ≡ inner.room + 1)) }
+        ensures none { IfNone result (self.entry.room ≡ 0) }
+    {
+        let room = self.room.checked_sub(1)?;
+        Some(Source {
+            modules: self.modules,
+            table: self.table,
+            inputs: self.inputs,
+            room,
+        })
+    }
 }
