@@ -177,12 +177,16 @@ relations_in (Relations relations) = relations
 abbrev pub around_main : Module → Around
 around_main main = record { scope = main_scope (main_interface main); traps = []; chain = main.name.text ∷ [] }
 
--- Its signals are counted before its body, which stands in no statement. A statement may stand in as many as the limit
--- on depths says, so a chain of them may have one more.
+-- Its body stands in no statement. A statement may stand in as many as the limit on depths says, so a chain of them may
+-- have one more.
+abbrev pub main_flattening : Program → Module → Walk flat.Stmt
+main_flattening modules main =
+    flattening modules (length (main_interface main).inputs) (DEPTH + 1) (around_main main) main.body
+
+-- its signals are counted before its body
 abbrev pub main_walk : Program → Module → Walk flat.Stmt
 main_walk modules main =
-    after (meet_signals (main_signals (main_interface main))) (λ _.
-    flattening modules (length (main_interface main).inputs) (DEPTH + 1) (around_main main) main.body)
+    after (meet_signals (main_signals (main_interface main))) (λ _. main_flattening modules main)
 
 -- the flat program of what the walk gives
 abbrev pub flat_program : Module → flat.Stmt → Met → flat.Flat

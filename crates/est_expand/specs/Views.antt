@@ -5,12 +5,13 @@ use Rattle.est_ast.specs.FlatTrees as flat
 use Rattle.est_ast.specs.Trees.{Expr, Stmt, Form, Part, Program}
 use Rattle.est_ast.specs.Views.{module_of}
 use Rattle.est_expand.specs.declared.interface.Formal.{Formal as CodeFormal}
+use Rattle.est_expand.specs.declared.interface.Shown.{Shown}
 use Rattle.est_expand.specs.declared.met.Met.{Met as CodeMet}
 use Rattle.est_expand.specs.declared.place.Around.{Around as CodeAround}
 use Rattle.est_expand.specs.declared.place.Source.{Source}
 use Rattle.est_expand.specs.declared.refusal.ExpandFault.{ExpandFault}
 use Rattle.est_expand.specs.Answers.{Answers}
-use Rattle.est_expand.specs.Scopes.{Scope, Formal}
+use Rattle.est_expand.specs.Scopes.{Scope, Formal, Interface}
 use Rattle.est_expand.specs.Walks.{Met, Walk, give, after, knowing}
 use Rattle.est_expand.specs.Tests.{test}
 use Rattle.est_expand.specs.Flattening.{Around, part, row, flattening}
@@ -20,6 +21,13 @@ met_of met = record {
   statements = met.statements;
   signals = map (λ s. s.name) met.signals.items;
   added = met.added;
+}
+
+abbrev pub interface_of : Shown → Interface
+interface_of shown = record {
+  inputs = map (λ name. name.now) shown.inputs.items;
+  both = map (λ name. name.now) shown.both.items;
+  outputs = map (λ name. name.now) shown.outputs.items;
 }
 
 abbrev pub around_of : CodeAround → Around

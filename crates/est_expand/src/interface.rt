@@ -4,7 +4,8 @@ ghost use Rattle.std.specs.Prelude.{◌≡◌, ◌++◌, map, flat_map, IfOk, On
 ghost use Rattle.est_ast.specs.Views.{decl_of, module_of};
 ghost use Rattle.est_names.specs.Names.{texts};
 ghost use Rattle.est_expand.specs.Scopes.{formals_of, interface, inputs_in, both_in, outputs_in};
-ghost use Rattle.est_expand.specs.Views.{formal_of};
+ghost use Rattle.est_expand.specs.Scopes.{main_interface, main_signals};
+ghost use Rattle.est_expand.specs.Views.{formal_of, interface_of};
 
 use est_ast::{Decl, Module, Name};
 use est_base::NoMemory;
@@ -68,8 +69,8 @@ fn push_texts<'a>(found: &mut Vec<&'a [u8]>, names: &'a [Name]) -> Result<(), No
     Ok(())
 }
 
-/// The names of the inputs.
-pub fn input_names<'a>(alloc: Global, decls: &'a [Decl]) -> Result<Vec<&'a [u8]>, NoMemory>
+// The names of the inputs.
+fn input_names<'a>(alloc: Global, decls: &'a [Decl]) -> Result<Vec<&'a [u8]>, NoMemory>
     ensures { IfOk result (λ found. map (λ name. name.now) found.items ≡ flat_map inputs_in (map decl_of decls.now)) }
 {
     let mut found = Vec::new(alloc);
@@ -81,8 +82,8 @@ pub fn input_names<'a>(alloc: Global, decls: &'a [Decl]) -> Result<Vec<&'a [u8]>
     Ok(found)
 }
 
-/// The names of the signals that are input and output.
-pub fn both_names<'a>(alloc: Global, decls: &'a [Decl]) -> Result<Vec<&'a [u8]>, NoMemory>
+// The names of the signals that are input and output.
+fn both_names<'a>(alloc: Global, decls: &'a [Decl]) -> Result<Vec<&'a [u8]>, NoMemory>
     ensures { IfOk result (λ found. map (λ name. name.now) found.items ≡ flat_map both_in (map decl_of decls.now)) }
 {
     let mut found = Vec::new(alloc);
@@ -94,8 +95,8 @@ pub fn both_names<'a>(alloc: Global, decls: &'a [Decl]) -> Result<Vec<&'a [u8]>,
     Ok(found)
 }
 
-/// The names of the outputs.
-pub fn output_names<'a>(alloc: Global, decls: &'a [Decl]) -> Result<Vec<&'a [u8]>, NoMemory>
+// The names of the outputs.
+fn output_names<'a>(alloc: Global, decls: &'a [Decl]) -> Result<Vec<&'a [u8]>, NoMemory>
     ensures { IfOk result (λ found. map (λ name. name.now) found.items ≡ flat_map outputs_in (map decl_of decls.now)) }
 {
     let mut found = Vec::new(alloc);
@@ -105,4 +106,33 @@ pub fn output_names<'a>(alloc: Global, decls: &'a [Decl]) -> Result<Vec<&'a [u8]
         }
     }
     Ok(found)
+}
+
+/// The names of the main module's signals.
+#[derive(Drop)]
+pub struct Shown<'a> {
+    pub inputs: Vec<&'a [u8]>,
+    pub both: Vec<&'a [u8]>,
+    pub outputs: Vec<&'a [u8]>,
+}
+
+/// Those that this module shows.
+pub fn main_interface<'a>(alloc: Global, main: &'a Module) -> Result<Shown<'a>, NoMemory>
+    ensures { IfOk result (λ shown. interface_of shown ≡ main_interface (module_of main.now)) }
+{
+    Ok(Shown {
+        inputs: input_names(alloc, &main.decls)?,
+        both: both_names(alloc, &main.decls)?,
+        outputs: output_names(alloc, &main.decls)?,
+    })
+}
+
+/// All of them, in the order of their numbers.
+pub fn main_names<'a>(alloc: Global, shown: &Shown<'a>) -> Result<Vec<&'a [u8]>, NoMemory>
+    ensures { IfOk result (λ names. map (λ name. name.now) names.items ≡ main_signals (interface_of shown.now)) }
+{
+    let mut names = Vec::from_slice(alloc, &shown.inputs)?;
+    names.extend_from_slice(&shown.both)?;
+    names.extend_from_slice(&shown.outputs)?;
+    Ok(names)
 }

@@ -6,6 +6,7 @@
 //! `specs/Flattening.antt` has the flat form, one row a statement.
 #![tactic(auto)]
 
+mod expansion;
 mod expressions;
 mod interface;
 mod met;
@@ -16,4 +17,5 @@ mod scope;
 mod traps;
 mod walk;
 
+pub use expansion::expand;
 pub use refusal::ExpandFault;

@@ -1,3 +1,4 @@
+pub mod MainPlaces
 pub mod NameSets
 pub mod FormLists
 pub mod FirstFaults
