@@ -1,4 +1,7 @@
+pub mod MainPlaces
 pub mod NameSets
 pub mod FormLists
 pub mod FirstFaults
 pub mod GivenNames
+pub mod PlainTrees
+mod NameEquations
