@@ -106,9 +106,9 @@ fn main_scope<'a>(alloc: Global, shown: &Shown<'a>) -> Result<Scope<'a>, NoMemor
     let mut scope = Scope::new(alloc);
     let both = shown.inputs.len();
     let outputs = both + shown.both.len();
-    scope.bind_all(&shown.inputs, 0, true)?;
-    scope.bind_all(&shown.both, both as u32, false)?;
     scope.bind_all(&shown.outputs, outputs as u32, false)?;
+    scope.bind_all(&shown.both, both as u32, false)?;
+    scope.bind_all(&shown.inputs, 0, true)?;
     Ok(scope)
 }
 
