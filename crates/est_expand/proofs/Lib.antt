@@ -1,3 +1,5 @@
+pub mod FlatLaws
+pub mod FlatFitting
 pub mod RowForms
 pub mod WalkSteps
 pub mod RunSteps

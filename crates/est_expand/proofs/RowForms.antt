@@ -1,5 +1,5 @@
 -- The rows of statements that hold a list.
-use Rattle.std.proofs.Common.{◌≡◌, ℕ, List, map, ap, ◌∙◌}
+use Rattle.std.proofs.Common.{◌≡◌, map, ap, ◌∙◌}
 use Rattle.std.specs.Prelude.{Option}
 use Rattle.std.specs.declared.alloc.Global.{Global}
 use Rattle.std.specs.declared.boxed.Box.{Box}
@@ -10,11 +10,11 @@ use Rattle.est_ast.specs.declared.trees.Form.{Form}
 use Rattle.est_ast.specs.declared.trees.Form.TheVariants as forms
 use Rattle.est_ast.specs.declared.trees.Stmt.{Stmt as CodeStmt}
 use Rattle.est_ast.specs.FlatTrees as flat
-use Rattle.est_ast.specs.Trees.{Stmt, stmts, cases}
+use Rattle.est_ast.specs.Trees.{stmts, cases}
 use Rattle.est_ast.specs.Views.{form_of, stmt_of, case_of, part_of}
 use Rattle.est_ast.proofs.Rows.{form-Seq, form-Par, form-AwaitCase, form-PresentCase, form-AbortCase}
-use Rattle.est_expand.specs.Walks.{Walk, give, after}
-use Rattle.est_expand.specs.Flattening.{Around, part, each, each_case, row}
+use Rattle.est_expand.specs.Walks.{give, after}
+use Rattle.est_expand.specs.Flattening.{Around, part, each, each_case}
 use Rattle.est_expand.specs.declared.place.Source.{Source}
 use Rattle.est_expand.specs.Views.{inside_of, row_of}
 

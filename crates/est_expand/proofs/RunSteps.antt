@@ -1,14 +1,12 @@
 -- Steps of what a `run` leads to.
-use Rattle.std.proofs.Common.{◌≡◌, ℕ, ◌+◌, ◌<◌, ◌≤◌, Bool, true, false, not, ◌&&◌, cond, List, [], ◌∷◌, map, length, get_or, drop, suc, refl, ap, sym, ◌∙◌, Option, Some, None, Result, Ok, Err, arith, drop-cons, is_some}
+use Rattle.std.proofs.Common.{◌≡◌, ℕ, ◌<◌, Bool, true, false, not, ◌&&◌, cond, List, ◌∷◌, length, get_or, drop, suc, refl, ap, sym, ◌∙◌, Some, None, Err, drop-cons, is_some}
 use Rattle.std.specs.Prelude.{if◌then◌else◌, find, position, slice_get, nat_lt}
 use Rattle.std.specs.List.{position_or_len}
-use Rattle.std.proofs.lemmas.List.{length-map}
 use Rattle.std.proofs.lemmas.List.Folds.{find_at}
 use Rattle.std.proofs.lemmas.List.Quantifiers.{position-Some}
 use Rattle.std.proofs.lemmas.Option.{slice_get-get_or, slice_get_past}
 use Rattle.std.proofs.lemmas.Bool.{ltb-false}
 use Rattle.est_base.specs.Names.{is_same_name}
-use Rattle.est_ast.specs.declared.trees.Name.{Name}
 use Rattle.est_ast.specs.declared.trees.Rename.{Rename}
 use Rattle.est_ast.specs.Trees.{Module, Program}
 use Rattle.est_names.specs.Names.{is_among, place_of}

@@ -1,14 +1,12 @@
 -- The table of a scope, where a name is bound and where its binder is taken away.
-use Rattle.std.proofs.Common.{◌≡◌, ℕ, Bool, true, false, cond, List, [], ◌∷◌, ◌++◌, map, reverse, refl, ap, sym, subst, ◌∙◌, Option, Some, None}
+use Rattle.std.proofs.Common.{◌≡◌, ℕ, Bool, true, false, cond, List, [], ◌∷◌, ◌++◌, reverse, refl, ap, sym, ◌∙◌, Option, Some}
 use Rattle.std.specs.Prelude.{if◌then◌else◌}
 use Rattle.std.specs.Cmp.Lexicographic.{nat_list_eq_equiv}
 use Rattle.std.proofs.lemmas.List.{reverse-append}
 use Rattle.std.proofs.lemmas.Slice.Eq.{bytes_eq-Decides}
 use Rattle.est_base.specs.Names.{is_same_name}
-use Rattle.est_expand.specs.declared.scope.Bound.{Bound}
 use Rattle.est_expand.specs.declared.scope.Meaning.{Meaning}
 use Rattle.est_expand.specs.Scopes.{Scope, meaning}
-use Rattle.est_expand.specs.Tables.{bound_name, Hides}
 
 pub reverse-push : {A : Type 0} (xs : List A) (x : A) → reverse (xs ++ x ∷ []) ≡ x ∷ reverse xs
 reverse-push xs x = reverse-append xs (x ∷ [])

@@ -1,5 +1,5 @@
 -- Steps of walks over lists, runs and statements.
-use Rattle.std.proofs.Common.{◌≡◌, ℕ, ◌+◌, zero, suc, List, [], ◌∷◌, ◌++◌, map, length, drop, refl, ap, sym, subst, ◌∙◌, Option, Some, None, Result, Ok, Err, Bool, true, false, take, ◌-◌, arith, add-one, length-append}
+use Rattle.std.proofs.Common.{◌≡◌, ℕ, ◌+◌, zero, suc, List, [], ◌∷◌, ◌++◌, length, drop, refl, ap, sym, ◌∙◌, Result, Ok, Err, Bool, true, false, take, ◌-◌, arith, add-one, length-append}
 use Rattle.std.specs.Prelude.{if◌then◌else◌}
 use Rattle.std.proofs.lemmas.List.{drop-drop, take-append-le}
 use Rattle.std.proofs.Math.Seq.{take-length}
@@ -9,12 +9,12 @@ use Rattle.est_base.specs.declared.place.Span.{Span}
 use Rattle.est_ast.specs.declared.trees.Name.{Name}
 use Rattle.est_ast.specs.declared.trees.Rename.{Rename}
 use Rattle.est_ast.specs.FlatTrees as flat
-use Rattle.est_ast.specs.Trees.{Expr, Stmt, At, Form, Part, Stmts, NoStmts, MoreStmts, Cases, NoCases, MoreCases, Module, Program}
+use Rattle.est_ast.specs.Trees.{Expr, Stmt, At, Form, Part, Stmts, MoreStmts, Cases, MoreCases, Module, Program}
 use Rattle.est_expand.specs.declared.refusal.ExpandFault.{ExpandFault}
-use Rattle.est_expand.specs.Answers.{fault_of, Answers}
+use Rattle.est_expand.specs.Answers.{Answers}
 use Rattle.est_expand.specs.Faults.{Fault, Recursive, TooDeep}
 use Rattle.est_expand.specs.Scopes.{Scope, binding, interface}
-use Rattle.est_expand.specs.Walks.{Met, Walk, on_ok, after, stop, meet_statement}
+use Rattle.est_expand.specs.Walks.{Met, Walk, on_ok, meet_statement}
 use Rattle.est_expand.specs.Tests.{test}
 use Rattle.est_expand.specs.Runs.{module_named, chain_with, renamed, opened}
 use Rattle.est_expand.specs.Flattening.{Around, part, each, each_case, ran, row, flattening}
@@ -156,7 +156,7 @@ module _ (modules : Program) (inputs : ℕ) where
   ran-inside inside around name renames m chain scope met the enters opens =
       value_passes (module_named modules name) _ m the ∙ value_passes (chain_with around.chain name) _ chain enters
       ∙ on_ok-on_ok (renamed (interface m) around.scope [] renames) (λ given. opened name.span around.scope given [] (interface m))
-        (λ scope. inside (record { scope = scope; traps = []; chain = chain }) m.body met)
+      (λ scope. inside (record { scope = scope; traps = []; chain = chain }) m.body met)
       ∙ value_passes _ _ scope opens
 
   -- ---- statements

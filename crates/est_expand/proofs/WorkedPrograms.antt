@@ -1,10 +1,10 @@
 -- Inner: equations between the flat form and an independent implementation of it in Python. Generated.
-use Rattle.std.proofs.Common.{◌≡◌, List, [], ◌∷◌, Ok, Err, codes, refl}
+use Rattle.std.proofs.Common.{◌≡◌, [], ◌∷◌, Ok, Err, codes, refl}
 use Rattle.est_base.specs.Relations as flat_relations
 use Rattle.est_ast.specs.FlatTrees as flat
 use Rattle.est_ast.specs.Trees.{Tick, Sig, Not, And, Or, Round, Square, NoExprs, MoreExprs, Plain, Immediate, Count, At, Nothing, Pause, Halt, Emit, Sustain, Await, AwaitCase, Present, PresentCase, Loop, LoopEach, Every, Repeat, Abort, AbortCase, WeakAbort, Suspend, Trap, Exit, Signal, Run, Seq, Par, Group, Missing, Written, NoHandler, Handled, NoStmts, MoreStmts, NoCases, MoreCases, Implies, Excludes, Input, InputOutput, Output, Relations}
 use Rattle.est_names.proofs.PlainTrees.{at, n, modul, as_}
-use Rattle.est_expand.specs.Faults.{UnknownModule, Recursive, BadRename, UnknownSignal, Unbound, UnknownTrap, EmitInput, TooManyStatements, TooDeep, TooManySignals}
+use Rattle.est_expand.specs.Faults.{UnknownModule, Recursive, BadRename, UnknownSignal, Unbound, UnknownTrap, EmitInput}
 use Rattle.est_expand.specs.Flattening.{flattening}
 use Rattle.est_expand.proofs.FlatForms.{made, flattened_at}
 

@@ -1,6 +1,5 @@
 -- Inner: traps that are numbered from the outermost.
-use Rattle.std.specs.Prelude.{◌≡◌, ℕ, List, [], ◌∷◌, length, ⊤}
-use Rattle.est_expand.specs.declared.scope.Meaning.{Meaning}
+use Rattle.std.specs.Prelude.{◌≡◌, ℕ, [], ◌∷◌, length, ⊤}
 use Rattle.est_expand.specs.Scopes.{Scope}
 
 -- each trap has the number of those around it

@@ -1,5 +1,5 @@
 -- To believe: what a `run` leads to, and what the names of the module that it runs mean there.
-use Rattle.std.specs.Prelude.{ℕ, Bool, not, ◌&&◌, if◌then◌else◌, List, [], ◌∷◌, ◌++◌, map, find, Option, Some, None, is_some, Result, Ok, Err}
+use Rattle.std.specs.Prelude.{ℕ, not, ◌&&◌, if◌then◌else◌, List, [], ◌∷◌, ◌++◌, map, find, is_some, Result, Ok, Err}
 use Rattle.std.specs.Option.{option_or}
 use Rattle.est_base.specs.declared.place.Span.{Span}
 use Rattle.est_base.specs.Names.{is_same_name}
@@ -32,7 +32,7 @@ renamed formals scope given [] = Ok given
 renamed formals scope given (rename ∷ renames) =
     if is_among rename.formal.text (formal_names formals) && not (is_some (meaning given rename.formal.text))
     then on_ok (signal_of scope rename.actual)
-        (λ actual. renamed formals scope ((rename.formal.text, actual) ∷ given) renames)
+    (λ actual. renamed formals scope ((rename.formal.text, actual) ∷ given) renames)
     else Err (BadRename rename.formal.span)
 
 -- The scope of a module's body. Each formal means its actual, or else the signal of the same name that is visible at the
@@ -42,4 +42,4 @@ opened place scope given inner [] = Ok inner
 opened place scope given inner (formal ∷ formals) =
     on_ok (found_or (Unbound place formal.name) (option_or (meaning given formal.name) (meaning scope formal.name)))
     (λ actual. opened place scope given
-        ((formal.name, record { signal = actual.signal; input = formal.input }) ∷ inner) formals)
+    ((formal.name, record { signal = actual.signal; input = formal.input }) ∷ inner) formals)

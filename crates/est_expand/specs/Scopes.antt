@@ -80,5 +80,5 @@ main_signals i = i.inputs ++ (i.both ++ i.outputs)
 
 abbrev pub main_scope : Interface → Scope
 main_scope i =
-    binding false i.outputs (length i.inputs + length i.both)
-    (binding false i.both (length i.inputs) (binding true i.inputs 0 []))
+    binding true i.inputs 0
+    (binding false i.both (length i.inputs) (binding false i.outputs (length i.inputs + length i.both) []))

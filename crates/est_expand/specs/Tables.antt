@@ -1,5 +1,5 @@
 -- Inner: the table that a scope is kept in.
-use Rattle.std.specs.Prelude.{◌≡◌, ℕ, List, [], ◌∷◌, map, reverse, Option, ⊤}
+use Rattle.std.specs.Prelude.{◌≡◌, ℕ, List, [], ◌∷◌, map, reverse, ⊤}
 use Rattle.std.specs.HashMap.{get_by}
 use Rattle.est_base.specs.Names.{is_same_name}
 use Rattle.est_expand.specs.declared.scope.Bound.{Bound}

@@ -1,5 +1,5 @@
 -- Inner: the plain forms of what the walk keeps.
-use Rattle.std.specs.Prelude.{ℕ, List, map, Result}
+use Rattle.std.specs.Prelude.{map, Result}
 use Rattle.est_base.specs.declared.place.Span.{Span}
 use Rattle.est_ast.specs.FlatTrees as flat
 use Rattle.est_ast.specs.Trees.{Expr, Stmt, Form, Part, Program}

@@ -8,6 +8,7 @@ ghost use Rattle.est_ast.specs.Views.{program_of, module_of, decl_of, relation_o
 ghost use Rattle.est_names.specs.NameFaults.{module_names};
 ghost use Rattle.est_names.specs.Tables.{IsTableOf};
 ghost use Rattle.est_expand.specs.Answers.{Answers};
+ghost use Rattle.est_expand.specs.FlatPrograms.{IsFlat};
 ghost use Rattle.est_expand.specs.Flattening.{related, relation_in, relations_in, main_flattening, flat_program, flattened};
 ghost use Rattle.est_expand.specs.Scopes.{main_interface, main_signals, main_scope};
 ghost use Rattle.est_expand.specs.Views.{interface_of, met_of, Walks};
@@ -41,8 +42,9 @@ pub fn expand<'a>(
     table: &'a Table<'a>,
 ) -> Result<Flat, ExpandFault>
     requires { IsTableOf (program_of program.now) table.now }
-    ensures { (main : PlainModule) → slice_get (program_of program.now) table.now.main ≡ Some main
+    ensures flattens { (main : PlainModule) → slice_get (program_of program.now) table.now.main ≡ Some main
         → Answers flat_of result (flattened (program_of program.now) main) }
+    ensures fits { IfOk result (λ flat. IsFlat (flat_of flat)) }
 {
     let main = &program.modules[table.main().0 as usize];
     flat_main(alloc, &program.modules, table, main)
@@ -106,9 +108,9 @@ fn main_scope<'a>(alloc: Global, shown: &Shown<'a>) -> Result<Scope<'a>, NoMemor
     let mut scope = Scope::new(alloc);
     let both = shown.inputs.len();
     let outputs = both + shown.both.len();
-    scope.bind_all(&shown.inputs, 0, true)?;
-    scope.bind_all(&shown.both, both as u32, false)?;
     scope.bind_all(&shown.outputs, outputs as u32, false)?;
+    scope.bind_all(&shown.both, both as u32, false)?;
+    scope.bind_all(&shown.inputs, 0, true)?;
     Ok(scope)
 }
 

@@ -51,11 +51,7 @@ pub fn flat_test(alloc: Global, scope: &Scope, e: &SigExpr) -> Result<FlatExpr, 
 
 // Tests in a list.
 #[cycle(tests)]
-fn flat_tests(
-    alloc: Global,
-    scope: &Scope,
-    parts: &[SigExpr],
-) -> Result<Vec<FlatExpr>, ExpandFault>
+fn flat_tests(alloc: Global, scope: &Scope, parts: &[SigExpr]) -> Result<Vec<FlatExpr>, ExpandFault>
     ensures { Answers (λ found. flat_exprs (map flat_expr_of found.items)) result
         (tests scope.now (exprs (map expr_of parts.now))) }
 {

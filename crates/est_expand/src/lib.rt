@@ -9,6 +9,7 @@
 mod expansion;
 mod expressions;
 mod interface;
+mod laws;
 mod met;
 mod place;
 mod refusal;
@@ -18,4 +19,5 @@ mod traps;
 mod walk;
 
 pub use expansion::expand;
+pub use laws::flat_forms_fit;
 pub use refusal::ExpandFault;

@@ -96,12 +96,7 @@ impl<'a> Scope<'a> {
     }
 
     /// Binds names to signals from this number on.
-    pub fn bind_all(
-        &mut self,
-        names: &[&'a [u8]],
-        first: u32,
-        input: bool,
-    ) -> Result<(), NoMemory>
+    pub fn bind_all(&mut self, names: &[&'a [u8]], first: u32, input: bool) -> Result<(), NoMemory>
         requires { first + length names.now < 2 ^ 32 }
         ensures { OnOk result (self.new ≡ binding input (map (λ name. name.now) names.now) first self.old) }
     {

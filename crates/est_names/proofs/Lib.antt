@@ -1,3 +1,4 @@
+pub mod FaultlessModules
 pub mod MainPlaces
 pub mod NameSets
 pub mod FormLists

@@ -43,8 +43,8 @@ flat_tests-loop-e-preserved t c =
     let e = flat_expr_of c.in_ok-flat_test.field-0 in
     let rest = tests c.args.scope.now (exprs (map expr_of (drop (suc i) parts))) in
     let left : tests c.args.scope.now (exprs (map expr_of (drop i parts))) ≡ on_ok rest (λ others. Ok (flat.MoreExprs e others)) =
-        ap (λ l. tests c.args.scope.now (exprs (map expr_of l))) (drop-cons parts i c.e-item.result (omega arith) ∙ ap (λ d. d ∷ drop (suc i) parts) (sym c.e-item.is))
-        ∙ value_passes _ (λ e. on_ok rest (λ others. Ok (flat.MoreExprs e others))) e c.in_ok-flat_test.ensures in
+    ap (λ l. tests c.args.scope.now (exprs (map expr_of l))) (drop-cons parts i c.e-item.result (omega arith) ∙ ap (λ d. d ∷ drop (suc i) parts) (sym c.e-item.is))
+    ∙ value_passes _ (λ e. on_ok rest (λ others. Ok (flat.MoreExprs e others))) e c.in_ok-flat_test.ensures in
     let items : map flat_expr_of c.push.new.self.items ≡ found ++ e ∷ [] = ap (map flat_expr_of) c.in_ok-push.ensures.items ∙ map-append _ _ _ in
     rw (add-one i) (ap (λ es. exprs_behind es rest) items ∙ sym (exprs_behind-step found e rest) ∙ sym (ap (exprs_behind found) left) ∙ c.loop-e.invariant)
 

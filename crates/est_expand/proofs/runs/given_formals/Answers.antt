@@ -2,7 +2,6 @@ use Rattle.std.proofs.Common.{◌≡◌, ℕ, List, Err, map, not, ◌&&◌, is_
 use Rattle.std.proofs.lemmas.Result.{err_from_is_err_and}
 use Rattle.est_names.specs.Names.{is_among}
 use Rattle.est_expand.specs.Faults.{BadRename}
-use Rattle.est_expand.specs.Runs.{formal_names}
 use Rattle.est_expand.specs.Scopes.{meaning}
 use Rattle.est_expand.specs.Views.{formal_of}
 use Rattle.est_expand.proofs.FoundLists.{fault_stays}
@@ -16,7 +15,7 @@ returns-then-not-is_free c = λ fault is.
     let rename = c.rename-item.result in
     let free = λ (n : List ℕ). is_among n c.in_ok-shown.shown && not (is_some (meaning given n)) in
     let refused = ap (λ b. b && not (is_some (meaning given rename.formal.text))) (sym (c.in_ok-shown.ensures rename.formal.text))
-        ∙ sym (ap free c.bytes-formal.ensures) ∙ sym c.is_free.ensures ∙ c.if-not-is_free.true in
+    ∙ sym (ap free c.bytes-formal.ensures) ∙ sym c.is_free.ensures ∙ c.if-not-is_free.true in
     let the : BadRename rename.formal.span ≡ fault = cc in
     sym c.loop-rename.invariant
     ∙ renamed-refused formals c.args.scope.now given c.args.renames.now c.loop-rename.rename-index rename (omega arith) c.rename-item.is refused ∙ ap Err the
@@ -29,7 +28,7 @@ returns-in_err-actual c =
     let rename = c.rename-item.result in
     let free = λ (n : List ℕ). is_among n c.in_ok-shown.shown && not (is_some (meaning given n)) in
     let allowed = ap (λ b. b && not (is_some (meaning given rename.formal.text))) (sym (c.in_ok-shown.ensures rename.formal.text))
-        ∙ sym (ap free c.bytes-formal.ensures) ∙ sym c.is_free.ensures ∙ c.if-not-is_free.false in
+    ∙ sym (ap free c.bytes-formal.ensures) ∙ sym c.is_free.ensures ∙ c.if-not-is_free.false in
     rw (p.1, p.2) (λ fault is. sym c.loop-rename.invariant
     ∙ renamed-allowed formals c.args.scope.now given c.args.renames.now c.loop-rename.rename-index rename (omega arith) c.rename-item.is allowed
     ∙ fault_stays _ _ fault (c.in_err-actual.ensures fault is))

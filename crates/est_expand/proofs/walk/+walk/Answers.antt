@@ -1,11 +1,11 @@
-use Rattle.std.proofs.Common.{◌≡◌, ◌∷◌, [], ◌++◌, map, drop, take, length, ◌-◌, ℕ, List, Bor, false, suc, sym, ap, subst, ◌∙◌, Ok, Err, arith, drop-cons, add-one}
+use Rattle.std.proofs.Common.{◌≡◌, ◌∷◌, [], ◌++◌, map, drop, take, length, ◌-◌, ℕ, List, Bor, false, suc, sym, ap, ◌∙◌, Ok, Err, arith, drop-cons, add-one}
 use Rattle.std.proofs.lemmas.Result.{err_from_is_err_and}
 use Rattle.std.proofs.lemmas.List.{map-append, drop_all, length-map}
 use Rattle.est_ast.specs.declared.trees.Name.{Name}
 use Rattle.est_ast.specs.declared.trees.Stmt.{Stmt as CodeStmt}
 use Rattle.est_ast.specs.FlatTrees as flat
-use Rattle.est_ast.specs.FlatViews.{flat_stmt_of, flat_part_of, flat_case_of}
-use Rattle.est_ast.specs.Trees.{stmts, cases, MoreStmts, MoreCases}
+use Rattle.est_ast.specs.FlatViews.{flat_stmt_of, flat_case_of}
+use Rattle.est_ast.specs.Trees.{stmts, cases}
 use Rattle.est_ast.specs.Views.{stmt_of, form_of, case_of, part_of, module_of}
 use Rattle.est_ast.proofs.FlatRows.{flat_form-Seq, flat_form-Par, flat_form-AwaitCase, flat_form-PresentCase, flat_form-AbortCase}
 use Rattle.est_names.specs.Names.{texts}
@@ -34,7 +34,7 @@ each-loop-p-preserved t c =
     let met' = met_of c.walk.new.met in
     let first = drop-cons parts i c.p-item.result (omega arith) ∙ ap (λ s. s ∷ drop (suc i) parts) (sym c.p-item.is) in
     let walked : inside (stmt_of c.p-item.result) met ≡ Ok (p, met') =
-        ap (λ a. inside_of source a (stmt_of c.p-item.result) met) (sym c.loop-p.invariant.kept) ∙ c.in_ok-walk.ensures.walks in
+    ap (λ a. inside_of source a (stmt_of c.p-item.result) met) (sym c.loop-p.invariant.kept) ∙ c.in_ok-walk.ensures.walks in
     let items : map flat_stmt_of c.push.new.self.items ≡ found ++ p ∷ [] = ap (map flat_stmt_of) c.in_ok-push.ensures.items ∙ map-append _ _ _ in
     record {
       kept = c.in_ok-walk.ensures.kept ∙ c.loop-p.invariant.kept;
@@ -66,7 +66,7 @@ each_case-loop-case-preserved t c =
     let met' = met_of c.flat_case.new.met in
     let first = drop-cons list i c.case-item.result (omega arith) ∙ ap (λ s. s ∷ drop (suc i) list) (sym c.case-item.is) in
     let walked : one_case scope inside (case_of c.case-item.result) met ≡ Ok (d, met') =
-        ap (λ a. one_case a.scope (inside_of source a) (case_of c.case-item.result) met) (sym c.loop-case.invariant.kept) ∙ c.in_ok-flat_case.ensures.walks in
+    ap (λ a. one_case a.scope (inside_of source a) (case_of c.case-item.result) met) (sym c.loop-case.invariant.kept) ∙ c.in_ok-flat_case.ensures.walks in
     let items : map flat_case_of c.push.new.self.items ≡ found ++ d ∷ [] = ap (map flat_case_of) c.in_ok-push.ensures.items ∙ map-append _ _ _ in
     record {
       kept = c.in_ok-flat_case.ensures.kept ∙ c.loop-case.invariant.kept;
@@ -205,7 +205,7 @@ row-returns-in-Signal-clause-walks t c =
     let around = around_of c.args.around.now in
     let met = met_of c.args.met.now in
     let bound = λ (names : List Name) (p : CodeStmt). after (meet_signals (texts names)) (λ next.
-        after (inside_of source (in_signals (texts names) next around) (stmt_of p)) (λ p. give (flat.At c.args.span (flat.Signal (numbers next (texts names)) p)))) met in
+    after (inside_of source (in_signals (texts names) next around) (stmt_of p)) (λ p. give (flat.At c.args.span (flat.Signal (numbers next (texts names)) p)))) met in
     answers_along (λ value. (flat_stmt_of value, met_of c.local.new.met)) c.local.result _ _
     (ap (λ f. row_of source around c.args.span (form_of f) met) c.in-Signal.is
     ∙ ap (λ names. bound names c.in-Signal.p.value) (sym c.deref-in-Signal.ensures.value)
@@ -219,8 +219,8 @@ local-returns-clause-kept t c =
     let kept = c.in_ok-p.ensures.kept in
     let count : c.len.result ≡ length names = omega (arith, c.len.ensures, c.deref-2.ensures.len, length-map c.deref-2.result.now (λ (n : Bor (List ℕ)). n.now)) in
     let back : c.unbind_all.new.self ≡ scope =
-        c.unbind_all.ensures ∙ ap (drop c.len.result) (ap (λ a. a.scope) kept ∙ c.in_ok-bind_all.ensures)
-        ∙ ap (λ n. drop n (binding false names c.in_ok-first.first scope)) count ∙ drop-binding false names c.in_ok-first.first scope in
+    c.unbind_all.ensures ∙ ap (drop c.len.result) (ap (λ a. a.scope) kept ∙ c.in_ok-bind_all.ensures)
+    ∙ ap (λ n. drop n (binding false names c.in_ok-first.first scope)) count ∙ drop-binding false names c.in_ok-first.first scope in
     λ i. record { scope = back i; traps = (kept i).traps; chain = (kept i).chain }
 
 -- ---- runs

@@ -1,4 +1,4 @@
-use Rattle.std.proofs.Common.{◌≡◌, ◌∷◌, [], ◌++◌, List, ℕ, reverse, map, sym, ap, subst, ◌∙◌, Option}
+use Rattle.std.proofs.Common.{◌≡◌, ◌∷◌, [], ◌++◌, reverse, map, sym, ap, subst, ◌∙◌}
 use Rattle.std.specs.HashMap.{get_by}
 use Rattle.est_base.specs.Names.{is_same_name}
 use Rattle.est_expand.specs.declared.scope.Bound.{Bound}
@@ -12,7 +12,7 @@ invariant_of-self-2 c =
     let bound : Bound = record { name = c.args.name; meaning = c.args.meaning; hidden = c.in_ok-hidden.hidden } in
     let old = c.self.inside in
     let behind : reverse c.push.new.self.items ≡ bound ∷ reverse old.bound.items =
-        ap reverse (c.in_ok-push.ensures.items ∙ ap (λ l. l ++ bound ∷ []) c.reserve.ensures.items) ∙ reverse-push old.bound.items bound in
+    ap reverse (c.in_ok-push.ensures.items ∙ ap (λ l. l ++ bound ∷ []) c.reserve.ensures.items) ∙ reverse-push old.bound.items bound in
     record {
       found = λ n. c.in_ok-hidden.ensures.updates.0 (record { ref_ptr = (0, 0); now = n })
           ∙ meaning-bound (λ n. get_by (λ k. is_same_name n k.now) old.latest) (names_of old) c.args.name.now c.args.meaning c.self.invariant.found n
