@@ -1,0 +1,74 @@
+-- Edges that are found, list by list.
+use Rattle.std.proofs.Common.{◌≡◌, ℕ, ◌+◌, Bool, true, false, List, [], ◌∷◌, ◌++◌, map, refl, ap, sym, ◌∙◌, append_assoc, add-one}
+use Rattle.std.specs.Prelude.{◌&&◌, flat_map, filter, nat_le, if◌then◌else◌, Option}
+use Rattle.std.proofs.lemmas.List.{append-nil, map-append}
+use Rattle.std.proofs.lemmas.List.Elements.{filter-append}
+use Rattle.std.proofs.lemmas.List.Concat.{flat_map-append}
+use Rattle.grc_graph.specs.Wires.{Wire, listed, codes_below}
+use Rattle.grc_graph.specs.Edges.{Edge, edge, edges_if}
+use Rattle.grc_graph.specs.WireOrders.{WireEdge}
+use Rattle.grc_graph.proofs.CodesBelow.{codes_below-none, codes_below-all}
+use Rattle.grc_dep.specs.Names.{number_of}
+use Rattle.grc_dep.specs.Found.{pair_of, found}
+
+pub found_append : (ws : List Wire) (es fs : List Edge) → found ws (es ++ fs) ≡ found ws es ++ found ws fs
+unfolding found
+found_append ws es fs = flat_map-append (λ (e : Edge). pair_of (number_of ws e.from) (number_of ws e.to)) es fs
+
+pub found_none : (ws : List Wire) → found ws [] ≡ []
+unfolding found
+found_none ws = refl
+
+pub found_edge : (ws : List Wire) (u v : Wire) (i j : Option ℕ) → number_of ws u ≡ i → number_of ws v ≡ j → found ws (edge u v ∷ []) ≡ pair_of i j
+unfolding found
+found_edge ws u v i j e f = append-nil (pair_of (number_of ws u) (number_of ws v)) ∙ λ k. pair_of (e k) (f k)
+
+pub nothing_found : (ws : List Wire) (xs : List WireEdge) (b : Bool) (es : List Edge) → b ≡ false → xs ≡ xs ++ found ws (edges_if b es)
+nothing_found ws xs b es e =
+    sym (ap (λ l. xs ++ l) (ap (λ c. found ws (edges_if c es)) e ∙ found_none ws) ∙ append-nil xs)
+
+-- ---- code by code
+
+-- the edges of a list of codes are those of its parts
+pub record Adds (F : List ℕ → List Edge) : Type 0 where
+  pub none : F [] ≡ []
+  pub both : (ks js : List ℕ) → F (ks ++ js) ≡ F ks ++ F js
+
+pub map_adds : (f : ℕ → Edge) → Adds (λ ks. map f ks)
+map_adds f = record { none = refl; both = λ ks js. map-append f ks js }
+
+pub flat_map_adds : (f : ℕ → List Edge) → Adds (λ ks. flat_map f ks)
+flat_map_adds f = record { none = refl; both = λ ks js. flat_map-append f ks js }
+
+pub filter_adds : (f : ℕ → Edge) (p : ℕ → Bool) → Adds (λ ks. map f (filter p ks))
+filter_adds f p = record { none = refl; both = λ ks js. ap (map f) (filter-append p ks js) ∙ map-append f (filter p ks) (filter p js) }
+
+below_more : (n : ℕ) (A : ℕ → Bool) (b : Bool) → A n ≡ b → codes_below (n + 1) A ≡ codes_below n A ++ (if b then n ∷ [] else [])
+unfolding codes_below
+below_more n A b e = ap (λ k. codes_below k A) (add-one n) ∙ ap (λ t. codes_below n A ++ (if t then n ∷ [] else [])) e
+
+if_one : (F : List ℕ → List Edge) (b : Bool) (n : ℕ) → F [] ≡ [] → F (if b then n ∷ [] else []) ≡ edges_if b (F (n ∷ []))
+if_one F true n e = refl
+if_one F false n e = e
+
+pub codes_begin : (ws : List Wire) (F : List ℕ → List Edge) (A : ℕ → Bool) (xs : List WireEdge) → Adds F → xs ≡ xs ++ found ws (F (codes_below 0 A))
+codes_begin ws F A xs h =
+    sym (ap (λ l. xs ++ l) (ap (λ ks. found ws (F ks)) (codes_below-none A) ∙ ap (found ws) h.none ∙ found_none ws) ∙ append-nil xs)
+
+pub codes_step : (ws : List Wire) (F : List ℕ → List Edge) (A : ℕ → Bool) (n : ℕ) (b : Bool) (xs pairs new : List WireEdge) → Adds F → b ≡ A n
+    → pairs ≡ xs ++ found ws (F (codes_below n A)) → new ≡ pairs ++ found ws (edges_if b (F (n ∷ []))) → new ≡ xs ++ found ws (F (codes_below (n + 1) A))
+codes_step ws F A n b xs pairs new h e so here =
+    here ∙ ap (λ l. l ++ found ws (edges_if b (F (n ∷ [])))) so ∙ append_assoc xs (found ws (F (codes_below n A))) (found ws (edges_if b (F (n ∷ []))))
+    ∙ ap (λ l. xs ++ l) (sym (found_append ws (F (codes_below n A)) (edges_if b (F (n ∷ []))))
+    ∙ ap (λ l. found ws (F (codes_below n A) ++ l)) (sym (if_one F b n h.none))
+    ∙ ap (found ws) (sym (h.both (codes_below n A) (if b then n ∷ [] else [])) ∙ ap F (sym (below_more n A b (sym e)))))
+
+pub codes_end : (ws : List Wire) (F : List ℕ → List Edge) (A : ℕ → Bool) (n : ℕ) (xs pairs : List WireEdge) → n ≡ 64
+    → pairs ≡ xs ++ found ws (F (codes_below n A)) → pairs ≡ xs ++ found ws (F (listed A))
+codes_end ws F A n xs pairs e so = so ∙ ap (λ ks. xs ++ found ws (F ks)) (codes_below-all n A e)
+
+pub two_tests : (f : ℕ → Edge) (n : ℕ) (q a : Bool) → edges_if (q && a) (f n ∷ []) ≡ edges_if a (map f (if q then n ∷ [] else []))
+two_tests f n true true = refl
+two_tests f n true false = refl
+two_tests f n false true = refl
+two_tests f n false false = refl
