@@ -27,6 +27,31 @@ pub nothing_found : (ws : List Wire) (xs : List WireEdge) (b : Bool) (es : List 
 nothing_found ws xs b es e =
     sym (ap (λ l. xs ++ l) (ap (λ c. found ws (edges_if c es)) e ∙ found_none ws) ∙ append-nil xs)
 
+-- ---- one list behind another
+
+pub pushed_2 : (ws : List Wire) (t t1 t2 : List WireEdge) (a b : List Edge) → t1 ≡ t ++ found ws a → t2 ≡ t1 ++ found ws b → t2 ≡ t ++ found ws (a ++ b)
+pushed_2 ws t t1 t2 a b e f =
+    f ∙ ap (λ l. l ++ found ws b) e ∙ append_assoc t (found ws a) (found ws b) ∙ ap (λ l. t ++ l) (sym (found_append ws a b))
+
+pub pushed_3 : (ws : List Wire) (t t1 t2 t3 : List WireEdge) (a b c : List Edge) → t1 ≡ t ++ found ws a → t2 ≡ t1 ++ found ws b → t3 ≡ t2 ++ found ws c
+    → t3 ≡ t ++ found ws (a ++ (b ++ c))
+pushed_3 ws t t1 t2 t3 a b c e f g = pushed_2 ws t t1 t3 a (b ++ c) e (pushed_2 ws t1 t2 t3 b c f g)
+
+pub pushed_4 : (ws : List Wire) (t t1 t2 t3 t4 : List WireEdge) (a b c d : List Edge) → t1 ≡ t ++ found ws a → t2 ≡ t1 ++ found ws b
+    → t3 ≡ t2 ++ found ws c → t4 ≡ t3 ++ found ws d → t4 ≡ t ++ found ws (a ++ (b ++ (c ++ d)))
+pushed_4 ws t t1 t2 t3 t4 a b c d e f g h = pushed_2 ws t t1 t4 a (b ++ (c ++ d)) e (pushed_3 ws t1 t2 t3 t4 b c d f g h)
+
+pub pushed_5 : (ws : List Wire) (t t1 t2 t3 t4 t5 : List WireEdge) (a b c d x : List Edge) → t1 ≡ t ++ found ws a → t2 ≡ t1 ++ found ws b
+    → t3 ≡ t2 ++ found ws c → t4 ≡ t3 ++ found ws d → t5 ≡ t4 ++ found ws x → t5 ≡ t ++ found ws (a ++ (b ++ (c ++ (d ++ x))))
+pushed_5 ws t t1 t2 t3 t4 t5 a b c d x e f g h i =
+    pushed_2 ws t t1 t5 a (b ++ (c ++ (d ++ x))) e (pushed_4 ws t1 t2 t3 t4 t5 b c d x f g h i)
+
+pub pushed_6 : (ws : List Wire) (t t1 t2 t3 t4 t5 t6 : List WireEdge) (a b c d x y : List Edge) → t1 ≡ t ++ found ws a → t2 ≡ t1 ++ found ws b
+    → t3 ≡ t2 ++ found ws c → t4 ≡ t3 ++ found ws d → t5 ≡ t4 ++ found ws x → t6 ≡ t5 ++ found ws y
+    → t6 ≡ t ++ found ws (a ++ (b ++ (c ++ (d ++ (x ++ y)))))
+pushed_6 ws t t1 t2 t3 t4 t5 t6 a b c d x y e f g h i j =
+    pushed_2 ws t t1 t6 a (b ++ (c ++ (d ++ (x ++ y)))) e (pushed_5 ws t1 t2 t3 t4 t5 t6 b c d x y f g h i j)
+
 -- ---- code by code
 
 -- the edges of a list of codes are those of its parts

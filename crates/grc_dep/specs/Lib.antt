@@ -2,3 +2,4 @@ pub mod Cycles
 pub mod Names
 pub mod Found
 pub mod Families
+pub mod PartCodes

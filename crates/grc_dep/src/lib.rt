@@ -4,9 +4,13 @@
 //! each edge show it, and the wires can be evaluated one by one; else a closed walk is shown.
 #![tactic(auto)]
 
+mod forms;
 mod linking;
 mod lookups;
 mod names;
+mod parts;
+mod passing;
 mod ranking;
+mod statuses;
 
 pub use ranking::{Ranked, cycle_or_rank};
