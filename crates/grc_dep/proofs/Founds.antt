@@ -4,8 +4,12 @@ use Rattle.std.specs.Prelude.{◌&&◌, flat_map, filter, nat_le, if◌then◌el
 use Rattle.std.proofs.lemmas.List.{append-nil, map-append}
 use Rattle.std.proofs.lemmas.List.Elements.{filter-append}
 use Rattle.std.proofs.lemmas.List.Concat.{flat_map-append}
-use Rattle.grc_graph.specs.Wires.{Wire, listed, codes_below}
-use Rattle.grc_graph.specs.Edges.{Edge, edge, edges_if}
+use Rattle.est_kernel.specs.Terms.{Expression, Tick, Sig, Not, And, Or}
+use Rattle.grc_graph.specs.Layers.{Layer}
+use Rattle.grc_graph.specs.Scopes.{Scope}
+use Rattle.grc_graph.specs.Statements.{signals_in}
+use Rattle.grc_graph.specs.Wires.{Wire, status_wire, listed, codes_below}
+use Rattle.grc_graph.specs.Edges.{Edge, edge, edges_if, status_to, test_to}
 use Rattle.grc_graph.specs.WireOrders.{WireEdge}
 use Rattle.grc_graph.proofs.CodesBelow.{codes_below-none, codes_below-all}
 use Rattle.grc_dep.specs.Names.{number_of}
@@ -97,3 +101,16 @@ two_tests f n true true = refl
 two_tests f n true false = refl
 two_tests f n false true = refl
 two_tests f n false false = refl
+
+-- ---- the status wires of a test
+
+pub test_to-signals : (B : Scope) (e : Expression) (l : Layer) (w : Wire) → test_to B e l w ≡ flat_map (λ s. status_to (status_wire (B s) s l) w) (signals_in e)
+test_to-signals B Tick l w = refl
+test_to-signals B (Sig s) l w = sym (append-nil (status_to (status_wire (B s) s l) w))
+test_to-signals B (Not a) l w = test_to-signals B a l w
+test_to-signals B (And a b) l w =
+    (λ i. test_to-signals B a l w i ++ test_to-signals B b l w i)
+    ∙ sym (flat_map-append (λ s. status_to (status_wire (B s) s l) w) (signals_in a) (signals_in b))
+test_to-signals B (Or a b) l w =
+    (λ i. test_to-signals B a l w i ++ test_to-signals B b l w i)
+    ∙ sym (flat_map-append (λ s. status_to (status_wire (B s) s l) w) (signals_in a) (signals_in b))

@@ -12,5 +12,6 @@ mod parts;
 mod passing;
 mod ranking;
 mod statuses;
+mod tested;
 
 pub use ranking::{Ranked, cycle_or_rank};

@@ -80,6 +80,13 @@ impl Part<'_> {
         self.codes_in(layer).has(0)
     }
 
+    // Whether it can pause in a layer.
+    pub fn pauses_in(&self, layer: Layer) -> bool
+        ensures { result ≡ instance_codes (term_of self.now.body.now) (layer_of layer) 1 }
+    {
+        self.codes_in(layer).has(1)
+    }
+
     // Whether it can ever terminate.
     pub fn can_pass(&self) -> bool
         ensures { result ≡ can_pass (term_of self.now.body.now) }

@@ -7,7 +7,7 @@ ghost use Rattle.grc_graph.specs.Scopes.{Scope};
 ghost use Rattle.grc_graph.specs.Statements.{signals_in};
 ghost use Rattle.grc_graph.specs.StatementViews.{binding_of};
 ghost use Rattle.grc_graph.specs.Wires.{status_wire};
-ghost use Rattle.grc_graph.specs.Edges.{status_to, to_status, test_to};
+ghost use Rattle.grc_graph.specs.Edges.{edges_if, status_to, to_status, test_to};
 ghost use Rattle.grc_dep.specs.Names.{wire_named};
 ghost use Rattle.grc_dep.specs.Found.{found_by};
 
@@ -49,10 +49,11 @@ pub fn push_emission(
     }
 }
 
-// From each status wire that a test reads. The bindings are those of its signals, in order.
-pub fn push_test(
+// From each status wire that a test reads, where a condition holds. The bindings are those of its signals, in order.
+pub fn push_test_if(
     alloc: Global,
     lookups: &Lookups,
+    holds: bool,
     test: &Test,
     bindings: &[Binding],
     layer: Layer,
@@ -61,9 +62,12 @@ pub fn push_test(
 ) -> Result<(), NoMemory>
     requires { length bindings.now ≡ length (signals_in (expression_of test.now)) }
     ensures { OnOk result ((B : Scope) → map binding_of bindings.now ≡ map B (signals_in (expression_of test.now))
-        → pairs.new.items ≡ pairs.old.items
-        ++ found_by lookups.now (test_to B (expression_of test.now) (layer_of layer) (wire_named to))) }
+        → pairs.new.items ≡ pairs.old.items ++ found_by lookups.now
+        (edges_if holds (test_to B (expression_of test.now) (layer_of layer) (wire_named to)))) }
 {
+    if !holds {
+        return Ok(());
+    }
     let mut signals = Vec::new(alloc);
     list_signals(test, &mut signals)?;
     push_statuses(lookups, &signals, bindings, layer, to, pairs)
