@@ -1,3 +1,4 @@
 mod Numbers
 pub mod WireNumbers
 pub mod Founds
+mod SortedEdges

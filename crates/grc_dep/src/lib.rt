@@ -11,6 +11,7 @@ mod names;
 mod parts;
 mod passing;
 mod ranking;
+mod sorting;
 mod statuses;
 mod tested;
 
