@@ -2,3 +2,4 @@ mod Numbers
 pub mod WireNumbers
 pub mod Founds
 mod SortedEdges
+mod PartReads

@@ -5,6 +5,7 @@
 #![tactic(auto)]
 
 mod forms;
+mod instance_edges;
 mod linking;
 mod lookups;
 mod names;
