@@ -1,6 +1,6 @@
 -- Edges that are found, list by list.
 use Rattle.std.proofs.Common.{◌≡◌, ℕ, ◌+◌, Bool, true, false, List, [], ◌∷◌, ◌++◌, map, refl, ap, sym, ◌∙◌, append_assoc, add-one}
-use Rattle.std.specs.Prelude.{◌&&◌, flat_map, filter, nat_le, if◌then◌else◌, Option}
+use Rattle.std.specs.Prelude.{◌&&◌, flat_map, filter, if◌then◌else◌, Option}
 use Rattle.std.proofs.lemmas.List.{append-nil, map-append}
 use Rattle.std.proofs.lemmas.List.Elements.{filter-append}
 use Rattle.std.proofs.lemmas.List.Concat.{flat_map-append}

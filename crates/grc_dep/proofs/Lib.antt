@@ -3,3 +3,5 @@ pub mod WireNumbers
 pub mod Founds
 mod SortedEdges
 mod PartReads
+mod WiresApart
+mod FoundPairs

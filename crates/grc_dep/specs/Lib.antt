@@ -3,3 +3,4 @@ pub mod Names
 pub mod Found
 pub mod Families
 pub mod PartCodes
+pub mod InstanceEdges

@@ -149,16 +149,39 @@ fn push_resumed_seq(
 {
     let layer = Layer::Resumed;
     let anew = Layer::Started(second.path);
-    let goes = Name::Go(Instance { path: whole.path, layer });
-    let resumes = Name::Go(Instance { path: second.path, layer });
-    let end = Name::End(Instance { path: first.path, layer }, 0);
-    let starts = Name::Go(Instance { path: second.path, layer: anew });
+    let goes = Name::Go(Instance {
+        path: whole.path,
+        layer,
+    });
+    let resumes = Name::Go(Instance {
+        path: second.path,
+        layer,
+    });
+    let end = Name::End(
+        Instance {
+            path: first.path,
+            layer,
+        },
+        0,
+    );
+    let starts = Name::Go(Instance {
+        path: second.path,
+        layer: anew,
+    });
     let hands_on = first.passes_in(layer);
     push_go_to_part(lookups, whole, first, layer, pairs)?;
     push_edge_if(lookups, second.resumes_after(first), goes, resumes, pairs)?;
     push_edge_if(lookups, hands_on, end, starts, pairs)?;
     push_later_ends_if(lookups, true, first, layer, whole, layer, pairs)?;
-    push_ends_if(lookups, first.can_pass(), second, layer, whole, layer, pairs)?;
+    push_ends_if(
+        lookups,
+        first.can_pass(),
+        second,
+        layer,
+        whole,
+        layer,
+        pairs,
+    )?;
     push_ends_if(lookups, hands_on, second, anew, whole, layer, pairs)
 }
 
@@ -178,8 +201,17 @@ fn push_started_seq(
         whole.now.path.0 (Started root.0))) }
 {
     let layer = Layer::Started(root);
-    let end = Name::End(Instance { path: first.path, layer }, 0);
-    let starts = Name::Go(Instance { path: second.path, layer });
+    let end = Name::End(
+        Instance {
+            path: first.path,
+            layer,
+        },
+        0,
+    );
+    let starts = Name::Go(Instance {
+        path: second.path,
+        layer,
+    });
     let hands_on = first.passes_in(layer);
     push_go_to_part(lookups, whole, first, layer, pairs)?;
     push_edge_if(lookups, hands_on, end, starts, pairs)?;

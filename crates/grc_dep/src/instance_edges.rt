@@ -52,7 +52,9 @@ pub fn push_edges_at(
         Kernel::Present(test, yes, no) => {
             let yes = part_at(codes, yes, next);
             let no = part_at(codes, no, second);
-            push_present(alloc, lookups, &whole, test, bindings, &yes, &no, layer, pairs)
+            push_present(
+                alloc, lookups, &whole, test, bindings, &yes, &no, layer, pairs,
+            )
         }
         Kernel::Suspend(test, part) => {
             let part = part_at(codes, part, next);

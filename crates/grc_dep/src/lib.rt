@@ -5,6 +5,7 @@
 #![tactic(auto)]
 
 mod forms;
+mod graph_edges;
 mod instance_edges;
 mod linking;
 mod lookups;
@@ -16,4 +17,5 @@ mod sorting;
 mod statuses;
 mod tested;
 
+pub use graph_edges::edges;
 pub use ranking::{Ranked, cycle_or_rank};

@@ -67,7 +67,13 @@ pub fn push_ends_if(
         whole.now.path.0 (layer_of layer))) }
 {
     let codes = where_given(holds, part.codes_in(own));
-    push_ends_to_ends(lookups, codes, part.in_layer(own), whole.in_layer(layer), pairs)
+    push_ends_to_ends(
+        lookups,
+        codes,
+        part.in_layer(own),
+        whole.in_layer(layer),
+        pairs,
+    )
 }
 
 // The same but for code 0.
@@ -86,7 +92,13 @@ pub fn push_later_ends_if(
         (layer_of own) whole.now.path.0 (layer_of layer))) }
 {
     let codes = where_given(holds, part.codes_in(own).without(0));
-    push_ends_to_ends(lookups, codes, part.in_layer(own), whole.in_layer(layer), pairs)
+    push_ends_to_ends(
+        lookups,
+        codes,
+        part.in_layer(own),
+        whole.in_layer(layer),
+        pairs,
+    )
 }
 
 // The set where the condition holds, else the empty set.

@@ -92,8 +92,14 @@ fn push_started_present(
         whole.now.path.0 (Started root.0))) }
 {
     let layer = Layer::Started(root);
-    let to_yes = Name::Go(Instance { path: yes.path, layer });
-    let to_no = Name::Go(Instance { path: no.path, layer });
+    let to_yes = Name::Go(Instance {
+        path: yes.path,
+        layer,
+    });
+    let to_no = Name::Go(Instance {
+        path: no.path,
+        layer,
+    });
     push_go_to_part(lookups, whole, yes, layer, pairs)?;
     push_go_to_part(lookups, whole, no, layer, pairs)?;
     push_test_if(alloc, lookups, true, test, bindings, layer, to_yes, pairs)?;
@@ -145,9 +151,15 @@ fn push_resumed_suspend(
         (edges_at B (Suspend (expression_of test.now) (term_of part.now.body.now)) whole.now.path.0 Resumed)) }
 {
     let layer = Layer::Resumed;
-    let at = Instance { path: whole.path, layer };
+    let at = Instance {
+        path: whole.path,
+        layer,
+    };
     let end = Name::End(at, 1);
-    let go = Name::Go(Instance { path: part.path, layer });
+    let go = Name::Go(Instance {
+        path: part.path,
+        layer,
+    });
     let pauses = whole.pauses_in(layer);
     let runs = part.runs_in(layer);
     push_go_to_part(lookups, whole, part, layer, pairs)?;

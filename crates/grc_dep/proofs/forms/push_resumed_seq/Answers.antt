@@ -1,4 +1,4 @@
-use Rattle.std.proofs.Common.{◌≡◌, ◌∙◌, ◌++◌, ◌∷◌, [], ap}
+use Rattle.std.proofs.Common.{◌∙◌, ◌++◌, ◌∷◌, [], ap}
 use Rattle.std.proofs.lemmas.Result.{on_ok_weaker}
 use Rattle.est_kernel.specs.Plain.{term_of}
 use Rattle.est_kernel.specs.StaticCodes.{codes_if, started_codes, resumed_codes}

@@ -1,8 +1,8 @@
-use Rattle.std.proofs.Common.{◌≡◌, ◌∙◌, ◌++◌, ◌∷◌, [], ap}
+use Rattle.std.proofs.Common.{◌∙◌, ◌++◌, ◌∷◌, [], ap}
 use Rattle.std.proofs.lemmas.Result.{on_ok_weaker}
 use Rattle.est_kernel.specs.Plain.{term_of}
 use Rattle.est_kernel.specs.StaticCodes.{codes_if, started_codes}
-use Rattle.grc_graph.specs.Layers.{Resumed, Started}
+use Rattle.grc_graph.specs.Layers.{Started}
 use Rattle.grc_graph.specs.Wires.{Go, End}
 use Rattle.grc_graph.specs.Edges.{edge, edges_if, ends_to_ends}
 use Rattle.grc_dep.specs.Found.{found_by}

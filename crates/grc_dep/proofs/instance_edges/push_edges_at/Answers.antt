@@ -1,7 +1,7 @@
-use Rattle.std.proofs.Common.{◌≡◌, ◌∙◌, ◌++◌, ap, sym}
+use Rattle.std.proofs.Common.{◌∙◌, ◌++◌, ap, sym}
 use Rattle.std.proofs.lemmas.Result.{on_ok_weaker}
 use Rattle.est_kernel.specs.Plain.{term_of}
-use Rattle.est_kernel.specs.Terms.{Term, Seq, Loop, Par, Trap, Local}
+use Rattle.est_kernel.specs.Terms.{Seq, Loop, Par, Trap, Local}
 use Rattle.grc_graph.specs.PlainInstances.{layer_of}
 use Rattle.grc_graph.specs.Edges.{edges_at}
 use Rattle.grc_dep.specs.Found.{found_by}

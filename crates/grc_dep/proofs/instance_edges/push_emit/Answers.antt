@@ -1,4 +1,4 @@
-use Rattle.std.proofs.Common.{◌≡◌, ◌∙◌, ◌++◌, ap}
+use Rattle.std.proofs.Common.{◌∙◌, ◌++◌, ap}
 use Rattle.std.proofs.lemmas.Result.{on_ok_weaker}
 use Rattle.grc_graph.specs.PlainInstances.{layer_of}
 use Rattle.grc_graph.specs.Wires.{Go, instance_codes, status_wire}

@@ -1,9 +1,9 @@
-use Rattle.std.proofs.Common.{◌≡◌, ℕ, ◌∙◌, ◌++◌, List, [], append_assoc, ap, sym, arith}
+use Rattle.std.proofs.Common.{ℕ, ◌∙◌, ◌++◌, List, ap, sym, arith}
 use Rattle.std.specs.Prelude.{flat_map}
 use Rattle.std.proofs.lemmas.List.{append-nil}
 use Rattle.est_base.specs.CodeSet.{members}
 use Rattle.grc_graph.specs.PlainInstances.{instance_of}
-use Rattle.grc_graph.specs.Wires.{Wire, End}
+use Rattle.grc_graph.specs.Wires.{End}
 use Rattle.grc_graph.specs.Edges.{Edge, edges_if}
 use Rattle.grc_dep.specs.Families.{to_ends_above}
 use Rattle.grc_dep.specs.Found.{found_by}

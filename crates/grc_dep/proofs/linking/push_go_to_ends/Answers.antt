@@ -1,9 +1,8 @@
 use Rattle.std.proofs.Common.{map, arith}
 use Rattle.est_base.specs.CodeSet.{members}
 use Rattle.grc_graph.specs.PlainInstances.{instance_of}
-use Rattle.grc_graph.specs.Neighbouring.{names_in}
-use Rattle.grc_graph.specs.Wires.{Wire, End, Go}
-use Rattle.grc_graph.specs.Edges.{Edge, edge}
+use Rattle.grc_graph.specs.Wires.{End, Go}
+use Rattle.grc_graph.specs.Edges.{edge}
 use Rattle.grc_dep.proofs.Founds.{codes_begin, codes_step, codes_end, map_adds}
 use Rattle.grc_dep.proofs.linking.push_go_to_ends.Goals as goal
 

@@ -1,8 +1,8 @@
-use Rattle.std.proofs.Common.{◌≡◌, ℕ, ◌∙◌, ◌++◌, ◌∷◌, [], List, map, ap, sym, arith}
+use Rattle.std.proofs.Common.{ℕ, ◌∙◌, ◌++◌, ◌∷◌, [], map, ap, sym, arith}
 use Rattle.std.specs.Prelude.{filter, nat_le}
 use Rattle.est_base.specs.CodeSet.{members}
 use Rattle.grc_graph.specs.PlainInstances.{instance_of}
-use Rattle.grc_graph.specs.Wires.{Wire, End}
+use Rattle.grc_graph.specs.Wires.{End}
 use Rattle.grc_graph.specs.Edges.{Edge, edge, edges_if}
 use Rattle.grc_dep.specs.Families.{to_ends_above}
 use Rattle.grc_dep.specs.Found.{found_by}

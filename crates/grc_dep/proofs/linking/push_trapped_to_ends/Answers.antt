@@ -2,9 +2,8 @@ use Rattle.std.proofs.Common.{map, arith, ◌∙◌, ◌++◌, ◌∷◌, []}
 use Rattle.est_base.specs.CodeSet.{members}
 use Rattle.grc_graph.specs.PlainInstances.{instance_of, layer_of}
 use Rattle.grc_dep.specs.Found.{found_by}
-use Rattle.grc_graph.specs.Neighbouring.{names_in}
-use Rattle.grc_graph.specs.Wires.{Wire, End}
-use Rattle.grc_graph.specs.Edges.{Edge, edge, edges_if}
+use Rattle.grc_graph.specs.Wires.{End}
+use Rattle.grc_graph.specs.Edges.{edge, edges_if}
 use Rattle.grc_dep.proofs.Founds.{codes_begin, codes_step, codes_end, map_adds}
 use Rattle.est_kernel.specs.Steps.{trap_code}
 use Rattle.grc_dep.proofs.linking.push_trapped_to_ends.Goals as goal

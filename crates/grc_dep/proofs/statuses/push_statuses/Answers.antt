@@ -1,7 +1,6 @@
-use Rattle.std.proofs.Common.{◌≡◌, ℕ, ◌+◌, ◌++◌, ◌<◌, List, [], ◌∷◌, map, take, length, get_or, ap, sym, ◌∙◌, arith}
+use Rattle.std.proofs.Common.{◌≡◌, ℕ, ◌+◌, ◌++◌, ◌<◌, List, [], map, take, length, get_or, ap, sym, ◌∙◌, arith}
 use Rattle.std.specs.Prelude.{flat_map}
 use Rattle.std.proofs.lemmas.List.{append-nil, map_more, flat_map_more, get_or-map, length-map}
-use Rattle.std.proofs.lemmas.List.Concat.{flat_map-append}
 use Rattle.est_base.specs.declared.indices.SigId.{SigId}
 use Rattle.grc_graph.specs.declared.statements.Binding.TheVariants as kinds
 use Rattle.grc_graph.specs.PlainInstances.{layer_of}
@@ -28,8 +27,8 @@ loop-k-preserved c = λ B e.
     let f : ℕ → List Edge = λ s. status_to (status_wire (B s) s l) (wire_named c.args.to) in
     let low : k < length signals = omega arith in
     let bound : binding_of (get_or bindings k kinds.Entering) ≡ B s =
-        sym (get_or-map binding_of bindings k kinds.Entering (B 0) (omega (arith, c.requires))) ∙ ap (λ l. get_or l k (B 0)) e
-        ∙ get_or-map B (map number signals) k 0 (B 0) (omega (arith, length-map signals number)) ∙ ap B (get_or-map number signals k none 0 low) in
+    sym (get_or-map binding_of bindings k kinds.Entering (B 0) (omega (arith, c.requires))) ∙ ap (λ l. get_or l k (B 0)) e
+    ∙ get_or-map B (map number signals) k 0 (B 0) (omega (arith, length-map signals number)) ∙ ap B (get_or-map number signals k none 0 low) in
     let here = c.in_ok-push_status.ensures ∙ ap (λ o. c.loop-k.pairs.items ++ found_by c.args.lookups.now (status_to o (wire_named c.args.to)))
     (c.status_name-from.ensures ∙ ap (λ b. status_wire b s l) bound) in
     let more : flat_map f (map number (take k signals)) ++ f s ≡ flat_map f (map number (take (k + 1) signals)) = flat_map_more f [] (map number (take k signals)) s ∙ ap (flat_map f) (sym (map_more number signals k none low)) in

@@ -1,4 +1,4 @@
-use Rattle.std.proofs.Common.{◌≡◌, ℕ, ◌∙◌, ◌++◌, [], map, length, sym, ap, arith}
+use Rattle.std.proofs.Common.{◌≡◌, ℕ, ◌∙◌, ◌++◌, map, length, sym, ap}
 use Rattle.std.specs.Prelude.{flat_map}
 use Rattle.std.proofs.lemmas.List.{length-map}
 use Rattle.std.proofs.lemmas.Result.{on_ok_weaker}
@@ -21,7 +21,7 @@ push_statuses-requires c =
     let number : SigId → ℕ = λ s. s.0 in
     let e = expression_of c.args.test.now in
     let listed : map number c.deref.result.now ≡ signals_in e =
-        ap (map number) c.deref.ensures.value ∙ c.in_ok-list_signals.ensures ∙ ap (λ l. map number l ++ signals_in e) c.new-signals.ensures.items in
+    ap (map number) c.deref.ensures.value ∙ c.in_ok-list_signals.ensures ∙ ap (λ l. map number l ++ signals_in e) c.new-signals.ensures.items in
     c.requires ∙ sym (ap length listed) ∙ length-map c.deref.result.now number
 
 pub returns : goal.returns
@@ -32,7 +32,7 @@ returns c =
     let to = wire_named c.args.to in
     let w = c.args.lookups.now in
     let listed : map number c.deref.result.now ≡ signals_in e =
-        ap (map number) c.deref.ensures.value ∙ c.in_ok-list_signals.ensures ∙ ap (λ l. map number l ++ signals_in e) c.new-signals.ensures.items in
+    ap (map number) c.deref.ensures.value ∙ c.in_ok-list_signals.ensures ∙ ap (λ l. map number l ++ signals_in e) c.new-signals.ensures.items in
     on_ok_weaker c.push_statuses.result (λ h B bound. h B (bound ∙ ap (map B) (sym listed))
     ∙ ap (λ ss. c.args.pairs.now.items ++ found_by w (flat_map (λ s. status_to (status_wire (B s) s l) to) ss)) listed
     ∙ ap (λ es. c.args.pairs.now.items ++ found_by w es) (sym (test_to-signals B e l to))

@@ -1,4 +1,3 @@
-use Rattle.std.proofs.Common.{◌≡◌}
 use Rattle.std.proofs.lemmas.Result.{on_ok_weaker}
 use Rattle.grc_dep.proofs.Founds.{pushed_2}
 use Rattle.grc_dep.proofs.tested.push_started_suspend.Goals as goal
