@@ -139,4 +139,5 @@ reads_row p c s n keeps are low e =
 
 pub spots_edges : (p : Program) → IsKernel p.body → edges (program_spots p) ≡ flat_map (instance_edges (program_rows p)) (body_instances p.body)
 spots_edges p k =
-    ap edges (program_spots_by_row p k) ∙ flat_map-map (λ (x : Spot). edges_at x.scope x.statement x.path x.layer) (spot_at (program_rows p)) (body_instances p.body)
+    ap edges (program_spots_by_row p k)
+    ∙ flat_map-map (λ (x : Spot). edges_at x.scope x.statement x.path x.layer) (spot_at (program_rows p)) (body_instances p.body)

@@ -1,10 +1,12 @@
 -- No two wires of a program's graph have one name.
-use Rattle.std.proofs.Common.{◌≡◌, ℕ, zero, suc, ◌+◌, ◌<◌, ◌≤◌, ◌⊎◌, Bool, true, false, List, [], ◌∷◌, ◌++◌, length, map, get_or, refl, ap, sym, subst, ◌∙◌, arith}
+use Rattle.std.proofs.Common.{◌≡◌, ℕ, zero, suc, ◌+◌, ◌<◌, ◌≤◌, ◌⊎◌, Bool, true, false, List, [], ◌∷◌, ◌++◌, length, map, get_or, refl, ap}
+use Rattle.std.proofs.Common.{sym, subst, ◌∙◌, arith}
 use Rattle.std.proofs.Common.{⊎_elim, inl, inr, Option, Some, None}
 use Rattle.std.specs.Prelude.{All, Contains, flat_map, if◌then◌else◌, ⊤}
 use Rattle.std.specs.List.{range_with_len}
 use Rattle.std.proofs.lemmas.List.{get_or_default}
-use Rattle.std.proofs.lemmas.List.Elements.{All-contains, All-cons, All-append, All-map, All-nil, Contains-append_cases, Contains-append_left, Contains-append_right}
+use Rattle.std.proofs.lemmas.List.Elements.{All-contains, All-cons, All-append, All-map, All-nil}
+use Rattle.std.proofs.lemmas.List.Elements.{Contains-append_cases, Contains-append_left, Contains-append_right}
 use Rattle.est_kernel.specs.Plain.{Program, outgoing_count}
 use Rattle.est_kernel.specs.Terms.{Term, Nothing, Pause, Emit, Exit, Present, Suspend, Seq, Loop, Par, Trap, Local, Awake}
 use Rattle.est_kernel.specs.WellFormed.{IsKernel}
@@ -50,7 +52,8 @@ once_map f (x ∷ xs) inj h = (
 
 pub in_flat_map : {X Y : Type 0} (f : X → List Y) (xs : List X) (y : Y) → Contains (flat_map f xs) y → (x : X) × Contains xs x × Contains (f x) y
 in_flat_map f [] y c = absurd (omega (arith, c.1))
-in_flat_map {X = X} {Y = Y} f (x ∷ xs) y c = ⊎_elim (λ e. (x, (0, omega arith, refl), e)) (λ k. later (in_flat_map f xs y k)) (Contains-append_cases (f x) (flat_map f xs) y c)
+in_flat_map {X = X} {Y = Y} f (x ∷ xs) y c =
+    ⊎_elim (λ e. (x, (0, omega arith, refl), e)) (λ k. later (in_flat_map f xs y k)) (Contains-append_cases (f x) (flat_map f xs) y c)
   where
     later : (z : X) × Contains xs z × Contains (f z) y → (z : X) × Contains (x ∷ xs) z × Contains (f z) y
     later h = (h.0, (suc h.1.0, omega (arith, h.1.1), h.1.2), h.2)
@@ -150,7 +153,8 @@ once_wires t n l =
       once_append (own_status t n l) ends (once_status t n l)
           (once_map (λ k. End n l k) (listed (instance_codes t l)) (λ j k e. cc) (once_listed (instance_codes t l)))
           (λ w c h. let no : is_end w ≡ false = All-contains (λ w. is_end w ≡ false) (own_status t n l) w (status_all (λ w. is_end w ≡ false) t n l refl) c in
-          let yes : is_end w ≡ true = All-contains (λ w. is_end w ≡ true) ends w (ends_all (λ w. is_end w ≡ true) n l (listed (instance_codes t l)) (λ k. refl)) h in
+          let yes : is_end w ≡ true = All-contains (λ w. is_end w ≡ true) ends w
+          (ends_all (λ w. is_end w ≡ true) n l (listed (instance_codes t l)) (λ k. refl)) h in
           cc),
     )
 
@@ -166,7 +170,8 @@ owned : (t : Term) (x : Instance) → All (λ w. owner w ≡ Some x) (instance_w
 owned t x =
     let P : Wire → Type 0 = λ w. owner w ≡ Some x in
     All-cons P (Go x.path x.layer) _ refl
-    (All-append P (own_status t x.path x.layer) _ (status_all P t x.path x.layer refl) (ends_all P x.path x.layer (listed (instance_codes t x.layer)) (λ k. refl)))
+    (All-append P (own_status t x.path x.layer) _ (status_all P t x.path x.layer refl)
+    (ends_all P x.path x.layer (listed (instance_codes t x.layer)) (λ k. refl)))
 
 layer_irrefl : (l : Layer) → ¬ LayerBefore l l
 layer_irrefl Resumed h = h

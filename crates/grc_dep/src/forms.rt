@@ -14,11 +14,11 @@ ghost use Rattle.grc_dep.specs.Found.{found_by};
 use crate::linking::push_edge_if;
 use crate::lookups::Lookups;
 use crate::names::Name;
-use crate::parts::Part;
-use crate::passing::{
+use crate::part_edges::{
     push_branch_ends, push_ends_if, push_go_to_part, push_later_ends_if, push_own_ends,
     push_trapped_ends,
 };
+use crate::parts::Part;
 use est_base::{NoMemory, PathId, WireId};
 use grc_graph::{Instance, Layer};
 

@@ -96,7 +96,8 @@ impl Part<'_> {
 
     // Whether it is resumed as the second part of a sequence after another.
     pub fn resumes_after(&self, first: &Part) -> bool
-        ensures { result ≡ (can_pass (term_of first.now.body.now) && has_code (resumed_codes (term_of self.now.body.now))) }
+        ensures { result
+            ≡ (can_pass (term_of first.now.body.now) && has_code (resumed_codes (term_of self.now.body.now))) }
     {
         first.can_pass() && has_some_code(self.resumed)
     }

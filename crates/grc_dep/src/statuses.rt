@@ -104,7 +104,8 @@ fn push_statuses(
     requires { length bindings.now ≡ length signals.now }
     ensures { OnOk result ((B : Scope) → map binding_of bindings.now ≡ map B (map (λ s. s.0) signals.now)
         → pairs.new.items ≡ pairs.old.items ++ found_by lookups.now
-        (flat_map (λ s. status_to (status_wire (B s) s (layer_of layer)) (wire_named to)) (map (λ s. s.0) signals.now))) }
+        (flat_map (λ s. status_to (status_wire (B s) s (layer_of layer)) (wire_named to))
+        (map (λ s. s.0) signals.now))) }
 {
     for (k, signal) in signals.iter().enumerate() {
         let from = status_name(bindings[k], *signal, layer);

@@ -22,8 +22,9 @@ invariant_of-lookups c =
     record { apart = rw c.in_ok-tables.ensures.wires (wires_apart p (trees_are_kernels_lem c.args.graph.now.program.body)) }
 
 -- what is found, sorted
-sorted : (names ws : List Wire) (es : List Edge) (none found_pairs pairs : List WireEdge) → names ≡ ws → Apart ws → none ≡ [] → found_pairs ≡ none ++ found ws es
-    → AllPairs (λ d e. IsTrue (edge_before d e)) pairs → ((x : WireEdge) → Contains pairs x ↔ Contains found_pairs x) → AreEdgesOf names es pairs
+sorted : (names ws : List Wire) (es : List Edge) (none found_pairs pairs : List WireEdge) → names ≡ ws → Apart ws → none ≡ []
+    → found_pairs ≡ none ++ found ws es → AllPairs (λ d e. IsTrue (edge_before d e)) pairs
+    → ((x : WireEdge) → Contains pairs x ↔ Contains found_pairs x) → AreEdgesOf names es pairs
 sorted names ws es none found_pairs pairs e apart empty is ascend same =
     subst (λ ws. AreEdgesOf ws es pairs) (sym e)
     (are_edges_of ws es pairs apart ascend (λ x. subst (λ ps. Contains pairs x ↔ Contains ps x) (is ∙ ap (λ l. l ++ found ws es) empty) (same x)))

@@ -14,7 +14,8 @@ returns-in-None c =
 pub returns-in-None-find : goal.returns-in-None-find
 returns-in-None-find c =
     let wires = names_in c.args.lookups.now.tables.now in
-    let none = found_edge wires (wire_named c.args.from) (wire_named c.args.to) (Some c.in-Some.from.0) None (sym c.in-Some.ensures) (sym c.in-None-find.ensures) in
+    let none = found_edge wires (wire_named c.args.from) (wire_named c.args.to) (Some c.in-Some.from.0) None (sym c.in-Some.ensures)
+    (sym c.in-None-find.ensures) in
     sym (ap (λ l. c.args.pairs.now.items ++ l) none ∙ append-nil c.args.pairs.now.items)
 
 pub returns-in_ok-push-in-Some-find : goal.returns-in_ok-push-in-Some-find

@@ -31,6 +31,7 @@ loop-k-preserved c = λ B e.
     ∙ get_or-map B (map number signals) k 0 (B 0) (omega (arith, length-map signals number)) ∙ ap B (get_or-map number signals k none 0 low) in
     let here = c.in_ok-push_status.ensures ∙ ap (λ o. c.loop-k.pairs.items ++ found_by c.args.lookups.now (status_to o (wire_named c.args.to)))
     (c.status_name-from.ensures ∙ ap (λ b. status_wire b s l) bound) in
-    let more : flat_map f (map number (take k signals)) ++ f s ≡ flat_map f (map number (take (k + 1) signals)) = flat_map_more f [] (map number (take k signals)) s ∙ ap (flat_map f) (sym (map_more number signals k none low)) in
+    let more : flat_map f (map number (take k signals)) ++ f s ≡ flat_map f (map number (take (k + 1) signals)) =
+    flat_map_more f [] (map number (take k signals)) s ∙ ap (flat_map f) (sym (map_more number signals k none low)) in
     pushed_2 _ _ _ _ (flat_map f (map number (take k signals))) (f s) (c.loop-k.invariant B e) here
     ∙ ap (λ es. c.args.pairs.now.items ++ found_by c.args.lookups.now es) more
