@@ -267,14 +267,14 @@ drawn_14 = refl
 
 -- drawn
 --     module M: input A, B; output O; inputoutput V, W; trap T in weak abort abort pause when A || loop [pause];
---     pause end loop || trap T2 in pause handle T2 do emit O end trap when 2 W end trap end module
+--     pause end loop || trap Tc in pause handle Tc do emit O end trap when 2 W end trap end module
 drawn_15 : flattened_at 0 ((modul (n (codes "M") 7 8) ((Input ((n (codes "A") 16 17) ∷ (n (codes "B") 19 20) ∷
     [])) ∷ (Output ((n (codes "O") 29 30) ∷ [])) ∷ (InputOutput ((n (codes "V") 44 45) ∷ (n (codes "W") 47 48) ∷
     [])) ∷ []) (At (at 50 188) (Trap (n (codes "T") 55 56) (At (at 60 179) (WeakAbort (At (at 71 170) (Par
     (MoreStmts (At (at 71 89) (Abort (At (at 77 82) Pause) (Plain (Sig (n (codes "A") 88 89))) Missing))
     (MoreStmts (At (at 93 121) (Loop (At (at 98 112) (Seq (MoreStmts (At (at 98 105) (Group (At (at 99 104)
-    Pause))) (MoreStmts (At (at 107 112) Pause) NoStmts)))))) (MoreStmts (At (at 125 170) (Trap (n (codes "T2")
-    130 132) (At (at 136 141) Pause) (Handled (n (codes "T2") 149 151) (At (at 155 161) (Emit (n (codes "O") 160
+    Pause))) (MoreStmts (At (at 107 112) Pause) NoStmts)))))) (MoreStmts (At (at 125 170) (Trap (n (codes "Tc")
+    130 132) (At (at 136 141) Pause) (Handled (n (codes "Tc") 149 151) (At (at 155 161) (Emit (n (codes "O") 160
     161)))))) NoStmts))))) (Count 2 (at 176 177) (Sig (n (codes "W") 178 179))))) NoHandler))) ∷ []) ≡ Ok (made
     (codes "M") ((codes "A") ∷ (codes "B") ∷ (codes "V") ∷ (codes "W") ∷ (codes "O") ∷ []) 2 2 1 ([]) (flat.At
     (at 50 188) (flat.Trap (flat.At (at 60 179) (flat.WeakAbort (flat.At (at 71 170) (flat.Par (flat.MoreStmts
@@ -452,7 +452,7 @@ drawn_23 = refl
 
 -- drawn
 --     module M: output O, P, Q; input A, B, C; every B do present case A and A or (tick) do pause end end; present
---     B else await 1 P do nothing end await end present end module module N0:  trap T1 in await tick end end module
+--     B else await 1 P do nothing end await end present end module module N0:  trap Tb in await tick end end module
 drawn_24 : flattened_at 0 ((modul (n (codes "M") 7 8) ((Output ((n (codes "O") 17 18) ∷ (n (codes "P") 20 21) ∷
     (n (codes "Q") 23 24) ∷ [])) ∷ (Input ((n (codes "A") 32 33) ∷ (n (codes "B") 35 36) ∷ (n (codes "C") 38 39)
     ∷ [])) ∷ []) (At (at 41 158) (Seq (MoreStmts (At (at 41 99) (Every (Plain (Sig (n (codes "B") 47 48))) (At
@@ -461,7 +461,7 @@ drawn_24 : flattened_at 0 ((modul (n (codes "M") 7 8) ((Output ((n (codes "O") 1
     91) Pause)) NoCases) Missing)))) (MoreStmts (At (at 101 158) (Present (Sig (n (codes "B") 109 110)) Missing
     (Written (At (at 116 146) (Await (Count 1 (at 122 123) (Sig (n (codes "P") 124 125))) (Written (At (at 129
     136) Nothing))))))) NoStmts))))) ∷ (modul (n (codes "N0") 177 179) ([]) (At (at 182 207) (Trap (n (codes
-    "T1") 187 189) (At (at 193 203) (Await (Plain (Tick (at 199 203))) Missing)) NoHandler))) ∷ []) ≡ Ok (made
+    "Tb") 187 189) (At (at 193 203) (Await (Plain (Tick (at 199 203))) Missing)) NoHandler))) ∷ []) ≡ Ok (made
     (codes "M") ((codes "A") ∷ (codes "B") ∷ (codes "C") ∷ (codes "O") ∷ (codes "P") ∷ (codes "Q") ∷ []) 3 0 3
     ([]) (flat.At (at 41 158) (flat.Seq (flat.MoreStmts (flat.At (at 41 99) (flat.Every (flat.Plain (flat.Sig
     1)) (flat.At (at 52 95) (flat.PresentCase (flat.MoreCases (flat.Or (flat.MoreExprs (flat.And (flat.MoreExprs
@@ -570,14 +570,14 @@ unfolding flattening
 drawn_30 = refl
 
 -- drawn
---     module M: input A, B; output O, P, Q; inputoutput V; relation B # V # A; trap T1 in weak abort emit P when
---     [O] handle T1 do pause end end module module N0: input A; nothing end module
+--     module M: input A, B; output O, P, Q; inputoutput V; relation B # V # A; trap Tb in weak abort emit P when
+--     [O] handle Tb do pause end end module module N0: input A; nothing end module
 drawn_31 : flattened_at 0 ((modul (n (codes "M") 7 8) ((Input ((n (codes "A") 16 17) ∷ (n (codes "B") 19 20) ∷
     [])) ∷ (Output ((n (codes "O") 29 30) ∷ (n (codes "P") 32 33) ∷ (n (codes "Q") 35 36) ∷ [])) ∷ (InputOutput
     ((n (codes "V") 50 51) ∷ [])) ∷ (Relations ((Excludes ((n (codes "B") 62 63) ∷ (n (codes "V") 66 67) ∷ (n
-    (codes "A") 70 71) ∷ [])) ∷ [])) ∷ []) (At (at 73 133) (Trap (n (codes "T1") 78 80) (At (at 84 110)
+    (codes "A") 70 71) ∷ [])) ∷ [])) ∷ []) (At (at 73 133) (Trap (n (codes "Tb") 78 80) (At (at 84 110)
     (WeakAbort (At (at 95 101) (Emit (n (codes "P") 100 101))) (Plain (Square (Sig (n (codes "O") 108 109))))))
-    (Handled (n (codes "T1") 118 120) (At (at 124 129) Pause))))) ∷ (modul (n (codes "N0") 152 154) ((Input ((n
+    (Handled (n (codes "Tb") 118 120) (At (at 124 129) Pause))))) ∷ (modul (n (codes "N0") 152 154) ((Input ((n
     (codes "A") 162 163) ∷ [])) ∷ []) (At (at 165 172) Nothing)) ∷ []) ≡ Ok (made (codes "M") ((codes "A") ∷
     (codes "B") ∷ (codes "V") ∷ (codes "O") ∷ (codes "P") ∷ (codes "Q") ∷ []) 2 1 3 ((flat_relations.Excludes (1
     ∷ 2 ∷ 0 ∷ [])) ∷ []) (flat.At (at 73 133) (flat.Trap (flat.At (at 84 110) (flat.WeakAbort (flat.At (at 95
@@ -1006,11 +1006,11 @@ unfolding flattening
 drawn_55 = refl
 
 -- drawn
---     module M: input A, B; output O; relation A => B, B # A; trap T1 in pause; pause; emit O end end module
+--     module M: input A, B; output O; relation A => B, B # A; trap Tb in pause; pause; emit O end end module
 drawn_56 : flattened_at 0 ((modul (n (codes "M") 7 8) ((Input ((n (codes "A") 16 17) ∷ (n (codes "B") 19 20) ∷
     [])) ∷ (Output ((n (codes "O") 29 30) ∷ [])) ∷ (Relations ((Implies (n (codes "A") 41 42) (n (codes "B") 46
     47)) ∷ (Excludes ((n (codes "B") 49 50) ∷ (n (codes "A") 53 54) ∷ [])) ∷ [])) ∷ []) (At (at 56 91) (Trap (n
-    (codes "T1") 61 63) (At (at 67 87) (Seq (MoreStmts (At (at 67 72) Pause) (MoreStmts (At (at 74 79) Pause)
+    (codes "Tb") 61 63) (At (at 67 87) (Seq (MoreStmts (At (at 67 72) Pause) (MoreStmts (At (at 74 79) Pause)
     (MoreStmts (At (at 81 87) (Emit (n (codes "O") 86 87))) NoStmts))))) NoHandler))) ∷ []) ≡ Ok (made (codes
     "M") ((codes "A") ∷ (codes "B") ∷ (codes "O") ∷ []) 2 0 1 ((flat_relations.Implies 0 1) ∷
     (flat_relations.Excludes (1 ∷ 0 ∷ [])) ∷ []) (flat.At (at 56 91) (flat.Trap (flat.At (at 67 87) (flat.Seq
@@ -1333,15 +1333,15 @@ unfolding flattening
 drawn_72 = refl
 
 -- drawn
---     module M: input A, B, C; output O, P, Q; relation B => C, A # B; present ZZ and P and O then trap T1 in pause
---     handle T1 do emit O end || abort nothing when A do emit C end end present end module
+--     module M: input A, B, C; output O, P, Q; relation B => C, A # B; present ZZ and P and O then trap Tb in pause
+--     handle Tb do emit O end || abort nothing when A do emit C end end present end module
 drawn_73 : flattened_at 0 ((modul (n (codes "M") 7 8) ((Input ((n (codes "A") 16 17) ∷ (n (codes "B") 19 20) ∷
     (n (codes "C") 22 23) ∷ [])) ∷ (Output ((n (codes "O") 32 33) ∷ (n (codes "P") 35 36) ∷ (n (codes "Q") 38
     39) ∷ [])) ∷ (Relations ((Implies (n (codes "B") 50 51) (n (codes "C") 55 56)) ∷ (Excludes ((n (codes "A")
     58 59) ∷ (n (codes "B") 62 63) ∷ [])) ∷ [])) ∷ []) (At (at 65 183) (Present (And (MoreExprs (Sig (n (codes
     "ZZ") 73 75)) (MoreExprs (Sig (n (codes "P") 80 81)) (MoreExprs (Sig (n (codes "O") 86 87)) NoExprs))))
-    (Written (At (at 93 171) (Par (MoreStmts (At (at 93 133) (Trap (n (codes "T1") 98 100) (At (at 104 109)
-    Pause) (Handled (n (codes "T1") 117 119) (At (at 123 129) (Emit (n (codes "O") 128 129)))))) (MoreStmts (At
+    (Written (At (at 93 171) (Par (MoreStmts (At (at 93 133) (Trap (n (codes "Tb") 98 100) (At (at 104 109)
+    Pause) (Handled (n (codes "Tb") 117 119) (At (at 123 129) (Emit (n (codes "O") 128 129)))))) (MoreStmts (At
     (at 137 171) (Abort (At (at 143 150) Nothing) (Plain (Sig (n (codes "A") 156 157))) (Written (At (at 161
     167) (Emit (n (codes "C") 166 167)))))) NoStmts))))) Missing))) ∷ []) ≡ Err (UnknownSignal (at 73 75))
 unfolding flattening
@@ -1361,15 +1361,15 @@ drawn_74 = refl
 
 -- drawn
 --     module M: input A, B; relation A # B; weak abort weak abort weak abort weak abort nothing when [(B) or not
---     (not B) or B] when A when [B] when A; trap T1 in suspend exit T1 when immediate A end trap end module
+--     (not B) or B] when A when [B] when A; trap Tb in suspend exit Tb when immediate A end trap end module
 drawn_75 : flattened_at 0 ((modul (n (codes "M") 7 8) ((Input ((n (codes "A") 16 17) ∷ (n (codes "B") 19 20) ∷
     [])) ∷ (Relations ((Excludes ((n (codes "A") 31 32) ∷ (n (codes "B") 35 36) ∷ [])) ∷ [])) ∷ []) (At (at 38
     197) (Seq (MoreStmts (At (at 38 143) (WeakAbort (At (at 49 136) (WeakAbort (At (at 60 127) (WeakAbort (At
     (at 71 120) (WeakAbort (At (at 82 89) Nothing) (Plain (Square (Or (MoreExprs (Round (Sig (n (codes "B") 97
     98))) (MoreExprs (Not (Round (Not (Sig (n (codes "B") 112 113))))) (MoreExprs (Sig (n (codes "B") 118 119))
     NoExprs)))))))) (Plain (Sig (n (codes "A") 126 127))))) (Plain (Square (Sig (n (codes "B") 134 135))))))
-    (Plain (Sig (n (codes "A") 142 143))))) (MoreStmts (At (at 145 197) (Trap (n (codes "T1") 150 152) (At (at
-    156 188) (Suspend (At (at 164 171) (Exit (n (codes "T1") 169 171))) (Immediate (Sig (n (codes "A") 187
+    (Plain (Sig (n (codes "A") 142 143))))) (MoreStmts (At (at 145 197) (Trap (n (codes "Tb") 150 152) (At (at
+    156 188) (Suspend (At (at 164 171) (Exit (n (codes "Tb") 169 171))) (Immediate (Sig (n (codes "A") 187
     188))))) NoHandler)) NoStmts))))) ∷ []) ≡ Ok (made (codes "M") ((codes "A") ∷ (codes "B") ∷ []) 2 0 0
     ((flat_relations.Excludes (0 ∷ 1 ∷ [])) ∷ []) (flat.At (at 38 197) (flat.Seq (flat.MoreStmts (flat.At (at 38
     143) (flat.WeakAbort (flat.At (at 49 136) (flat.WeakAbort (flat.At (at 60 127) (flat.WeakAbort (flat.At (at
@@ -1578,7 +1578,7 @@ drawn_85 = refl
 
 -- drawn
 --     module M: output O, P, Q; inputoutput V; input EE; trap U in weak abort signal X in signal S3, Y3 in trap T
---     in pause handle T do emit S3 end end end || trap T5 in abort emit Q; pause when [not (V)] do pause end end
+--     in pause handle T do emit S3 end end end || trap Tf in abort emit Q; pause when [not (V)] do pause end end
 --     when tick handle U do present O then nothing else pause end end end module
 drawn_86 : flattened_at 0 ((modul (n (codes "M") 7 8) ((Output ((n (codes "O") 17 18) ∷ (n (codes "P") 20 21) ∷
     (n (codes "Q") 23 24) ∷ [])) ∷ (InputOutput ((n (codes "V") 38 39) ∷ [])) ∷ (Input ((n (codes "EE") 47 49) ∷
@@ -1586,7 +1586,7 @@ drawn_86 : flattened_at 0 ((modul (n (codes "M") 7 8) ((Output ((n (codes "O") 1
     (MoreStmts (At (at 72 148) (Signal ((n (codes "X") 79 80) ∷ []) (At (at 84 144) (Signal ((n (codes "S3") 91
     93) ∷ (n (codes "Y3") 95 97) ∷ []) (At (at 101 140) (Trap (n (codes "T") 106 107) (At (at 111 116) Pause)
     (Handled (n (codes "T") 124 125) (At (at 129 136) (Emit (n (codes "S3") 134 136)))))))))) (MoreStmts (At (at
-    152 214) (Trap (n (codes "T5") 157 159) (At (at 163 210) (Abort (At (at 169 182) (Seq (MoreStmts (At (at 169
+    152 214) (Trap (n (codes "Tf") 157 159) (At (at 163 210) (Abort (At (at 169 182) (Seq (MoreStmts (At (at 169
     175) (Emit (n (codes "Q") 174 175))) (MoreStmts (At (at 177 182) Pause) NoStmts)))) (Plain (Square (Not
     (Round (Sig (n (codes "V") 194 195)))))) (Written (At (at 201 206) Pause)))) NoHandler)) NoStmts)))) (Plain
     (Tick (at 220 224))))) (Handled (n (codes "U") 232 233) (At (at 237 274) (Present (Sig (n (codes "O") 245
@@ -1878,20 +1878,20 @@ unfolding flattening
 drawn_100 = refl
 
 -- drawn
---     module M: input A, B, C; output O, P; inputoutput V, W; relation W => V, A # W; abort abort trap T1 in
---     suspend emit O when [B and A]; run N0 [signal P/V, O/Q]; abort exit T1 when [not (B and W) and O and not not
+--     module M: input A, B, C; output O, P; inputoutput V, W; relation W => V, A # W; abort abort trap Tb in
+--     suspend emit O when [B and A]; run N0 [signal P/V, O/Q]; abort exit Tb when [not (B and W) and O and not not
 --     [V]] end trap when tick when [O] end module module N0: input A, B; output O, P, Q; inputoutput V; loop pause;
 --     [pause] end loop end module module N1:  loop await tick do emit ZZ end each 2 tick end module
 drawn_101 : flattened_at 0 ((modul (n (codes "M") 7 8) ((Input ((n (codes "A") 16 17) ∷ (n (codes "B") 19 20) ∷
     (n (codes "C") 22 23) ∷ [])) ∷ (Output ((n (codes "O") 32 33) ∷ (n (codes "P") 35 36) ∷ [])) ∷ (InputOutput
     ((n (codes "V") 50 51) ∷ (n (codes "W") 53 54) ∷ [])) ∷ (Relations ((Implies (n (codes "W") 65 66) (n (codes
     "V") 70 71)) ∷ (Excludes ((n (codes "A") 73 74) ∷ (n (codes "W") 77 78) ∷ [])) ∷ [])) ∷ []) (At (at 80 244)
-    (Abort (At (at 86 235) (Abort (At (at 92 225) (Trap (n (codes "T1") 97 99) (At (at 103 216) (Seq (MoreStmts
+    (Abort (At (at 86 235) (Abort (At (at 92 225) (Trap (n (codes "Tb") 97 99) (At (at 103 216) (Seq (MoreStmts
     (At (at 103 132) (Suspend (At (at 111 117) (Emit (n (codes "O") 116 117))) (Plain (Square (And (MoreExprs
     (Sig (n (codes "B") 124 125)) (MoreExprs (Sig (n (codes "A") 130 131)) NoExprs))))))) (MoreStmts (At (at 134
     158) (Run (n (codes "N0") 138 140) ((as_ (n (codes "P") 149 150) (n (codes "V") 151 152)) ∷ (as_ (n (codes
     "O") 154 155) (n (codes "Q") 156 157)) ∷ []))) (MoreStmts (At (at 160 216) (Abort (At (at 166 173) (Exit (n
-    (codes "T1") 171 173))) (Plain (Square (And (MoreExprs (Not (Round (And (MoreExprs (Sig (n (codes "B") 185
+    (codes "Tb") 171 173))) (Plain (Square (And (MoreExprs (Not (Round (And (MoreExprs (Sig (n (codes "B") 185
     186)) (MoreExprs (Sig (n (codes "W") 191 192)) NoExprs))))) (MoreExprs (Sig (n (codes "O") 198 199))
     (MoreExprs (Not (Not (Square (Sig (n (codes "V") 213 214))))) NoExprs)))))) Missing)) NoStmts)))))
     NoHandler)) (Plain (Tick (at 231 235))) Missing)) (Plain (Square (Sig (n (codes "O") 242 243)))) Missing)))
@@ -2177,14 +2177,14 @@ unfolding flattening
 drawn_114 = refl
 
 -- drawn
---     module M: output O, P, A; inputoutput V; abort await P when P do pause end || trap T1 in pause end || signal
+--     module M: output O, P, A; inputoutput V; abort await P when P do pause end || trap Tb in pause end || signal
 --     S2 in pause end end module module N0: output O, P; present tick else pause end present end module module N1:
 --     inputoutput V, W; relation V # W; present W or V or W end present end module
 drawn_115 : flattened_at 0 ((modul (n (codes "M") 7 8) ((Output ((n (codes "O") 17 18) ∷ (n (codes "P") 20 21) ∷
     (n (codes "A") 23 24) ∷ [])) ∷ (InputOutput ((n (codes "V") 38 39) ∷ [])) ∷ []) (At (at 41 124) (Par
     (MoreStmts (At (at 41 74) (Abort (At (at 47 54) (Await (Plain (Sig (n (codes "P") 53 54))) Missing)) (Plain
     (Sig (n (codes "P") 60 61))) (Written (At (at 65 70) Pause)))) (MoreStmts (At (at 78 98) (Trap (n (codes
-    "T1") 83 85) (At (at 89 94) Pause) NoHandler)) (MoreStmts (At (at 102 124) (Signal ((n (codes "S2") 109 111)
+    "Tb") 83 85) (At (at 89 94) Pause) NoHandler)) (MoreStmts (At (at 102 124) (Signal ((n (codes "S2") 109 111)
     ∷ []) (At (at 115 120) Pause))) NoStmts)))))) ∷ (modul (n (codes "N0") 143 145) ((Output ((n (codes "O") 154
     155) ∷ (n (codes "P") 157 158) ∷ [])) ∷ []) (At (at 160 195) (Present (Tick (at 168 172)) Missing (Written
     (At (at 178 183) Pause))))) ∷ (modul (n (codes "N1") 214 216) ((InputOutput ((n (codes "V") 230 231) ∷ (n
@@ -2464,17 +2464,17 @@ unfolding flattening
 drawn_132 = refl
 
 -- drawn
---     module M: input A, B; output O, P, Q; relation A # B; trap T1 in present O or P or Q then run N0 [signal B/B,
---     Q/C] else pause; pause end handle T1 do nothing end end module module N0: input A, B, C; input EE; halt ||
+--     module M: input A, B; output O, P, Q; relation A # B; trap Tb in present O or P or Q then run N0 [signal B/B,
+--     Q/C] else pause; pause end handle Tb do nothing end end module module N0: input A, B, C; input EE; halt ||
 --     nothing . module N1: input A, B; output O, P; relation A => A; emit P || exit TT end module
 drawn_133 : flattened_at 0 ((modul (n (codes "M") 7 8) ((Input ((n (codes "A") 16 17) ∷ (n (codes "B") 19 20) ∷
     [])) ∷ (Output ((n (codes "O") 29 30) ∷ (n (codes "P") 32 33) ∷ (n (codes "Q") 35 36) ∷ [])) ∷ (Relations
     ((Excludes ((n (codes "A") 47 48) ∷ (n (codes "B") 51 52) ∷ [])) ∷ [])) ∷ []) (At (at 54 161) (Trap (n
-    (codes "T1") 59 61) (At (at 65 136) (Present (Or (MoreExprs (Sig (n (codes "O") 73 74)) (MoreExprs (Sig (n
+    (codes "Tb") 59 61) (At (at 65 136) (Present (Or (MoreExprs (Sig (n (codes "O") 73 74)) (MoreExprs (Sig (n
     (codes "P") 78 79)) (MoreExprs (Sig (n (codes "Q") 83 84)) NoExprs)))) (Written (At (at 90 114) (Run (n
     (codes "N0") 94 96) ((as_ (n (codes "B") 105 106) (n (codes "B") 107 108)) ∷ (as_ (n (codes "Q") 110 111) (n
     (codes "C") 112 113)) ∷ [])))) (Written (At (at 120 132) (Seq (MoreStmts (At (at 120 125) Pause) (MoreStmts
-    (At (at 127 132) Pause) NoStmts))))))) (Handled (n (codes "T1") 144 146) (At (at 150 157) Nothing))))) ∷
+    (At (at 127 132) Pause) NoStmts))))))) (Handled (n (codes "Tb") 144 146) (At (at 150 157) Nothing))))) ∷
     (modul (n (codes "N0") 180 182) ((Input ((n (codes "A") 190 191) ∷ (n (codes "B") 193 194) ∷ (n (codes "C")
     196 197) ∷ [])) ∷ (Input ((n (codes "EE") 205 207) ∷ [])) ∷ []) (At (at 209 224) (Par (MoreStmts (At (at 209
     213) Halt) (MoreStmts (At (at 217 224) Nothing) NoStmts))))) ∷ (modul (n (codes "N1") 234 236) ((Input ((n
@@ -2524,11 +2524,11 @@ unfolding flattening
 drawn_135 = refl
 
 -- drawn
---     module M: input A, B, C; relation A => A, A # C; trap T1 in weak abort nothing when 1 C; loop pause; [pause]
+--     module M: input A, B, C; relation A => A, A # C; trap Tb in weak abort nothing when 1 C; loop pause; [pause]
 --     end end trap end module
 drawn_136 : flattened_at 0 ((modul (n (codes "M") 7 8) ((Input ((n (codes "A") 16 17) ∷ (n (codes "B") 19 20) ∷
     (n (codes "C") 22 23) ∷ [])) ∷ (Relations ((Implies (n (codes "A") 34 35) (n (codes "A") 39 40)) ∷ (Excludes
-    ((n (codes "A") 42 43) ∷ (n (codes "C") 46 47) ∷ [])) ∷ [])) ∷ []) (At (at 49 121) (Trap (n (codes "T1") 54
+    ((n (codes "A") 42 43) ∷ (n (codes "C") 46 47) ∷ [])) ∷ [])) ∷ []) (At (at 49 121) (Trap (n (codes "Tb") 54
     56) (At (at 60 112) (Seq (MoreStmts (At (at 60 87) (WeakAbort (At (at 71 78) Nothing) (Count 1 (at 84 85)
     (Sig (n (codes "C") 86 87))))) (MoreStmts (At (at 89 112) (Loop (At (at 94 108) (Seq (MoreStmts (At (at 94
     99) Pause) (MoreStmts (At (at 101 108) (Group (At (at 102 107) Pause))) NoStmts)))))) NoStmts))))
@@ -2822,12 +2822,12 @@ unfolding flattening
 drawn_152 = refl
 
 -- drawn
---     module M: input A, B; output O, P, Q, R; relation B => B; trap T1 in pause; nothing; emit R end; every ZZ do
+--     module M: input A, B; output O, P, Q, R; relation B => B; trap Tb in pause; nothing; emit R end; every ZZ do
 --     loop pause; [emit Q] end end every end module
 drawn_153 : flattened_at 0 ((modul (n (codes "M") 7 8) ((Input ((n (codes "A") 16 17) ∷ (n (codes "B") 19 20) ∷
     [])) ∷ (Output ((n (codes "O") 29 30) ∷ (n (codes "P") 32 33) ∷ (n (codes "Q") 35 36) ∷ (n (codes "R") 38
     39) ∷ [])) ∷ (Relations ((Implies (n (codes "B") 50 51) (n (codes "B") 55 56)) ∷ [])) ∷ []) (At (at 58 143)
-    (Seq (MoreStmts (At (at 58 95) (Trap (n (codes "T1") 63 65) (At (at 69 91) (Seq (MoreStmts (At (at 69 74)
+    (Seq (MoreStmts (At (at 58 95) (Trap (n (codes "Tb") 63 65) (At (at 69 91) (Seq (MoreStmts (At (at 69 74)
     Pause) (MoreStmts (At (at 76 83) Nothing) (MoreStmts (At (at 85 91) (Emit (n (codes "R") 90 91)))
     NoStmts))))) NoHandler)) (MoreStmts (At (at 97 143) (Every (Plain (Sig (n (codes "ZZ") 103 105))) (At (at
     109 133) (Loop (At (at 114 129) (Seq (MoreStmts (At (at 114 119) Pause) (MoreStmts (At (at 121 129) (Group
