@@ -1,0 +1,5 @@
+pub mod Drawings
+pub mod Senses
+pub mod Readiness
+pub mod Costs
+pub mod Growing

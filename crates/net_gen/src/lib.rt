@@ -1,0 +1,5 @@
+//! From a graph to a netlist.
+#![tactic(auto)]
+
+mod circuit;
+mod formulas;
