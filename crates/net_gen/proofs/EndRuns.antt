@@ -12,12 +12,12 @@ use Rattle.grc_graph.specs.declared.wires.Wire.TheVariants as wires
 use Rattle.grc_words.specs.declared.table.Words.{Words}
 use Rattle.grc_words.specs.WordLaws.{any_from, is_end_upto, first_end, ends_upto}
 use Rattle.net_ir.specs.declared.netlist.Op.{Op}
-use Rattle.net_ir.specs.declared.netlist.Op.TheVariants.{Const, Copy, Or}
+use Rattle.net_ir.specs.declared.netlist.Op.TheVariants.{Copy, Or}
 use Rattle.net_gen.specs.Drawings.{Drawing, next_number, net_at, Placed, with_gate, with_run, noted_run, noted_number, NotedFits, with_run_once, run_number_once, RunFits}
 use Rattle.net_gen.specs.Growing.{Grew, Lowers, RunStands, spare, spent}
 use Rattle.net_gen.specs.Senses.{Instant, Sense, Sound, Stands, Table, ends_sense, end_instance, first_beside, run_sense, wire_sense, wire_value}
 use Rattle.net_gen.proofs.Growth.{grew-refl, grew-trans, grew-gate, stands-new}
-use Rattle.net_gen.proofs.Sensing.{op-const, op-copy, op-or, op-is, stands-is}
+use Rattle.net_gen.proofs.Sensing.{op-copy, op-or, op-is, stands-is}
 use Rattle.net_gen.proofs.Wording.{stands-wire}
 
 end-is_of : (i k : ℕ) (x : Wire) → is_end_upto i k x ≡ true → end_instance x ≡ i
@@ -95,6 +95,8 @@ grew-note g w d v a s h low = record {
     first = s.first;
     numbered = s.numbered;
     reads = s.reads;
+    no = same-stands g d v d.no.0 a _ s.no;
+    yes = same-stands g d v d.yes.0 a _ s.yes;
     wires = λ k n e. same-stands g d v n.0 a _ (s.wires k n e);
     ends = note-at g w d v a s h low;
     rows = λ k n e. same-stands g d v n.0 a _ (s.rows k n e);
@@ -179,7 +181,7 @@ run-step g w old now new so_far i k v n m low high here placed drawn number room
 
 -- the whole run
 pub run-some : (g : Graph) (w : Words) (old now : Drawing) (so_far : Option NetId) (n : NetId) (first count : ℕ) → RunMade g w old now so_far first count
-    → so_far ≡ Some n → Lowers g w old now (Copy n) (run_sense g first count) 1
+    → so_far ≡ Some n → Lowers g w old now (Copy n) (run_sense g first count) 0
 run-some g w old now None n first count m is = absurd (cc)
 run-some g w old now (Some x) n first count m is =
     let same : x ≡ n = cc in
@@ -190,10 +192,10 @@ run-some g w old now (Some x) n first count m is =
     }
 
 pub run-empty : (g : Graph) (w : Words) (old now : Drawing) (so_far : Option NetId) (first count : ℕ) → RunMade g w old now so_far first count
-    → so_far ≡ None → Lowers g w old now (Const false) (run_sense g first count) 1
+    → so_far ≡ None → Lowers g w old now (Copy now.no) (run_sense g first count) 0
 run-empty g w old now None first count m is = record {
   grew = m.grew;
-  stands = op-is g now (Const false) _ _ (run-none g first count m.run) (op-const g now false);
+  stands = op-is g now (Copy now.no) _ _ (run-none g first count m.run) (op-copy g now now.no _ m.grew.sound.no);
   within = omega (arith, m.within);
 }
 run-empty g w old now (Some x) first count m is = absurd (cc)

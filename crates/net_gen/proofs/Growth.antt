@@ -61,6 +61,8 @@ sound-gate g w d op s low room =
       first = s.first;
       numbered = omega arith;
       reads = ReadsLower-push d.first d.gates (record { op = op; wire = None }) s.reads low;
+      no = stands-more g d op None d.no.0 _ s.first s.no;
+      yes = stands-more g d op None d.yes.0 _ s.first s.yes;
       wires = λ k n e. stands-more g d op None n.0 _ s.first (s.wires k n e);
       ends = λ k n e. stands-more g d op None n.0 _ s.first (s.ends k n e);
       rows = λ k n e. stands-more g d op None n.0 _ s.first (s.rows k n e);

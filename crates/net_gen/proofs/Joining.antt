@@ -8,13 +8,13 @@ use Rattle.est_base.specs.declared.indices.WireId.{WireId}
 use Rattle.grc_graph.specs.declared.graph.Graph.{Graph}
 use Rattle.grc_words.specs.declared.table.Words.{Words}
 use Rattle.net_ir.specs.declared.netlist.Op.{Op}
-use Rattle.net_ir.specs.declared.netlist.Op.TheVariants.{Const, Copy, Or}
+use Rattle.net_ir.specs.declared.netlist.Op.TheVariants.{Copy, Or}
 use Rattle.net_gen.specs.Costs.{any_cost}
 use Rattle.net_gen.specs.Drawings.{Drawing, with_net, net_number, with_joined, joined_op, JoinFits}
 use Rattle.net_gen.specs.Growing.{Grew, Lowers, Places, Joins}
 use Rattle.net_gen.specs.Senses.{Instant, Sense, Sound, Stands, any_sense, wire_sense, wire_value}
 use Rattle.net_gen.proofs.Growth.{grew-refl, places-lowered}
-use Rattle.net_gen.proofs.Sensing.{op-const, op-copy, op-or, op-is, stands-is}
+use Rattle.net_gen.proofs.Sensing.{op-copy, op-or, op-is, stands-is}
 
 or-false : (b : Bool) → (b || false) ≡ b
 or-false true = refl
@@ -104,13 +104,13 @@ joins-some g w old now (Some o) op list j is =
     let same : o ≡ op = cc in subst (λ x. Lowers g w old now x (any_sense g list) (any_cost (length list))) same j.1
 
 pub joins-none : (g : Graph) (w : Words) (old now : Drawing) (so_far : Option Op) (list : List WireId) → Sound g w old → Joins g w old now so_far list
-    → so_far ≡ None → Lowers g w old now (Const false) (any_sense g list) (any_cost (length list))
+    → so_far ≡ None → Lowers g w old now (Copy now.no) (any_sense g list) (any_cost (length list))
 joins-none g w old now None list s j is =
-    let here : Lowers g w old old (Const false) (any_sense g []) 1 = record {
+    let here : Lowers g w old old (Copy old.no) (any_sense g []) 0 = record {
       grew = grew-refl g w old s;
-      stands = op-is g old (Const false) _ _ (any-none g) (op-const g old false);
+      stands = op-is g old (Copy old.no) _ _ (any-none g) (op-copy g old old.no _ s.no);
       within = omega arith;
     } in
-    subst (λ xs. Lowers g w old now (Const false) (any_sense g xs) (any_cost (length xs))) (sym j.0)
-    (subst (λ d. Lowers g w old d (Const false) (any_sense g []) 1) (sym j.1) here)
+    subst (λ xs. Lowers g w old now (Copy now.no) (any_sense g xs) (any_cost (length xs))) (sym j.0)
+    (subst (λ d. Lowers g w old d (Copy d.no) (any_sense g []) 0) (sym j.1) here)
 joins-none g w old now (Some o) list s j is = absurd (cc)

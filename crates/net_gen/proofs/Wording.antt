@@ -28,13 +28,13 @@ use Rattle.net_ir.specs.declared.netlist.Op.TheVariants.{Const, Copy, Not, And, 
 use Rattle.net_ir.specs.Gates.{value_in, gate_values}
 use Rattle.net_ir.proofs.Values.{value_in-gate_values}
 use Rattle.net_gen.specs.Costs.{cost_of}
-use Rattle.net_gen.specs.Drawings.{Drawing, next_number, net_at, Placed, input_op, gates_for}
+use Rattle.net_gen.specs.Drawings.{Drawing, next_number, net_at, Placed, constant_net, input_net, gates_for}
 use Rattle.net_gen.specs.Growing.{Grew, Lowers, Places, spent}
-use Rattle.net_gen.specs.Readiness.{SourceReady, source_op, kept_source, held_source}
+use Rattle.net_gen.specs.Readiness.{SourceReady, source_net, kept_source, held_source}
 use Rattle.net_gen.specs.Senses.{Instant, Sense, start_of, first_of, net_sense, op_sense, form_sense, wire_sense, any_sense, run_sense, source_sense, row_sense, wire_value, Sound, Stands, OpStands}
 use Rattle.net_gen.proofs.GraphValues.{false-off_wires}
 use Rattle.net_gen.proofs.Growth.{grew-refl, grew-trans}
-use Rattle.net_gen.proofs.Sensing.{length-start, op-copy, op-not, op-and, op-or, op-const, op-is, stands-is}
+use Rattle.net_gen.proofs.Sensing.{length-start, op-copy, op-not, op-and, op-or, op-is, stands-is}
 
 start-at : (g : Graph) (d : Drawing) (n : ℕ) → n < first_of g → (t : Occasion g)
     → value_in (gate_values (start_of g t) d.gates) n ≡ value_in (start_of g t) n
@@ -95,30 +95,33 @@ stands-row g w d r s p =
     let is = net_at-placed d.rows r p.0 p.1 in
     subst (λ (n : NetId). Stands g d n.0 (row_sense g w r)) (sym is) (s.rows r p.0 p.1)
 
--- a source as an operator
-pub op-source : (g : Graph) (w : Words) (d : Drawing) (x : Source) → Sound g w d → SourceReady d x → OpStands g d (source_op d x) (source_sense g w x)
-unfolding source_sense wire_sense row_sense
-op-source g w d (sources.Const b) s ready = op-const g d b
-op-source g w d (sources.Leaf k) s ready = op-copy g d (record { 0 = d.given + 1 + k }) _ (stands-leaf g w d (d.given + 1 + k) k s refl ready)
-op-source g w d (sources.Input x) s ready = op-copy g d (record { 0 = x.0 }) _ (stands-input g w d x.0 s ready)
-op-source g w d (sources.Wire v) s ready = op-copy g d (net_at d.wires v.0) _ (stands-wire g w d v.0 s ready)
-op-source g w d (sources.Row r) s ready = op-copy g d (net_at d.rows r) _ (stands-row g w d r s ready)
+-- the net of a constant
+pub stands-constant : (g : Graph) (w : Words) (d : Drawing) (b : Bool) → Sound g w d → Stands g d (constant_net d b).0 (λ t. b)
+stands-constant g w d true s = s.yes
+stands-constant g w d false s = s.no
 
-pub gates-source : (d : Drawing) (x : Source) → gates_for (source_op d x) ≤ 1
-gates-source d (sources.Const b) = omega arith
-gates-source d (sources.Leaf k) = omega arith
-gates-source d (sources.Input x) = omega arith
-gates-source d (sources.Wire v) = omega arith
-gates-source d (sources.Row r) = omega arith
+-- the net of a source
+pub stands-source : (g : Graph) (w : Words) (d : Drawing) (x : Source) → Sound g w d → SourceReady d x
+    → Stands g d (source_net d x).0 (source_sense g w x)
+unfolding source_sense wire_sense row_sense
+stands-source g w d (sources.Const b) s ready = stands-constant g w d b s
+stands-source g w d (sources.Leaf k) s ready = stands-leaf g w d (d.given + 1 + k) k s refl ready
+stands-source g w d (sources.Input x) s ready = stands-input g w d x.0 s ready
+stands-source g w d (sources.Wire v) s ready = stands-wire g w d v.0 s ready
+stands-source g w d (sources.Row r) s ready = stands-row g w d r s ready
 
 -- nothing is made for what is an operator already
 lowers-here : (g : Graph) (w : Words) (d : Drawing) (op : Op) (m : Sense g) (cost : ℕ) → Sound g w d → OpStands g d op m → gates_for op ≤ cost
     → Lowers g w d d op m cost
 lowers-here g w d op m cost s o few = record { grew = grew-refl g w d s; stands = o; within = omega arith }
 
-pub lowers-const : (g : Graph) (w : Words) (d : Drawing) (b : Bool) → Sound g w d → Lowers g w d d (Const b) (form_sense g (formulas.Const b)) 1
+-- nor for what is a net already
+lowers-net : (g : Graph) (w : Words) (d : Drawing) (n : NetId) (m : Sense g) → Sound g w d → Stands g d n.0 m → Lowers g w d d (Copy n) m 0
+lowers-net g w d n m s h = lowers-here g w d (Copy n) m 0 s (op-copy g d n m h) (omega arith)
+
+pub lowers-const : (g : Graph) (w : Words) (d : Drawing) (b : Bool) → Sound g w d → Lowers g w d d (Copy (constant_net d b)) (form_sense g (formulas.Const b)) 0
 unfolding form_sense
-lowers-const g w d b s = lowers-here g w d (Const b) _ 1 s (op-const g d b) (omega arith)
+lowers-const g w d b s = lowers-net g w d (constant_net d b) _ s (stands-constant g w d b s)
 
 pub lowers-boot : (g : Graph) (w : Words) (d : Drawing) → Sound g w d → Lowers g w d d (Copy (record { 0 = d.given })) (form_sense g formulas.Boot) 0
 lowers-boot g w d s = lowers-here g w d (Copy (record { 0 = d.given })) _ 0 s (op-copy g d (record { 0 = d.given }) _ (stands-boot g w d s)) (omega arith)
@@ -126,24 +129,20 @@ lowers-boot g w d s = lowers-here g w d (Copy (record { 0 = d.given })) _ 0 s (o
 absent-input : (g : Graph) (t : Occasion g) (n given : ℕ) → given ≤ n → given ≡ length t.event → false ≡ slice_index_or t.event n false
 absent-input g t n given low e = let out : length t.event ≤ n = omega arith in sym (get_or-eq_default t.event false out)
 
-op-input : (g : Graph) (w : Words) (d : Drawing) (x : SigId) → Sound g w d → OpStands g d (input_op d x.0) (form_sense g (formulas.Input x))
+stands-given : (g : Graph) (w : Words) (d : Drawing) (x : SigId) → Sound g w d → Stands g d (input_net d x.0).0 (form_sense g (formulas.Input x))
 unfolding form_sense
-op-input g w d x s = elim (cases_lt x.0 d.given) [
+stands-given g w d x s = elim (cases_lt x.0 d.given) [
     inl low ↦
       let is = lt-ltb x.0 d.given low in
-      rw is (op-copy g d (record { 0 = x.0 }) _ (stands-input g w d x.0 s low))
+      rw is (stands-input g w d x.0 s low)
   | inr high ↦
       let is = le-ltb x.0 d.given high in
-      rw is (op-is g d (Const false) (λ t. false) (form_sense g (formulas.Input x))
-        (λ i t. absent-input g t.occasion x.0 d.given high (omega (arith, s.given, t.occasion.one_per_given)) i) (op-const g d false))
+      rw is (stands-is g d d.no.0 (λ t. false) (form_sense g (formulas.Input x))
+        (λ i t. absent-input g t.occasion x.0 d.given high (omega (arith, s.given, t.occasion.one_per_given)) i) s.no)
   ]
 
-gates-if : (b : Bool) (n : NetId) → gates_for (if b then Copy n else Const false) ≤ 1
-gates-if true n = omega arith
-gates-if false n = omega arith
-
-pub lowers-input : (g : Graph) (w : Words) (d : Drawing) (x : SigId) → Sound g w d → Lowers g w d d (input_op d x.0) (form_sense g (formulas.Input x)) 1
-lowers-input g w d x s = lowers-here g w d (input_op d x.0) _ 1 s (op-input g w d x s) (gates-if (nat_lt x.0 d.given) (record { 0 = x.0 }))
+pub lowers-input : (g : Graph) (w : Words) (d : Drawing) (x : SigId) → Sound g w d → Lowers g w d d (Copy (input_net d x.0)) (form_sense g (formulas.Input x)) 0
+lowers-input g w d x s = lowers-net g w d (input_net d x.0) _ s (stands-given g w d x s)
 
 wire-form : (g : Graph) (v : WireId) → wire_sense g v.0 ≡ form_sense g (formulas.Wire v)
 unfolding form_sense wire_sense
@@ -155,16 +154,16 @@ lowers-wire g w d v n s e =
     lowers-here g w d (Copy n) _ 0 s (op-copy g d n _ (stands-is g d n.0 _ _ (wire-form g v) (s.wires v.0 n e))) (omega arith)
 
 lowers-source : (g : Graph) (w : Words) (d : Drawing) (x : Source) (m : Sense g) → Sound g w d → SourceReady d x → source_sense g w x ≡ m
-    → Lowers g w d d (source_op d x) m 1
+    → Lowers g w d d (Copy (source_net d x)) m 0
 lowers-source g w d x m s ready e =
-    lowers-here g w d (source_op d x) m 1 s (op-is g d (source_op d x) _ m e (op-source g w d x s ready)) (gates-source d x)
+    lowers-net g w d (source_net d x) m s (stands-is g d (source_net d x).0 _ m e (stands-source g w d x s ready))
 
 selected-form : (g : Graph) (w : Words) (p : PathId) → AreWordsOf g w → source_sense g w (selected_source w p.0) ≡ form_sense g (formulas.Selected p)
 unfolding form_sense source_sense
 selected-form g w p a = λ i t. a.selected t.occasion p.0 (false-off_wires g t) i
 
 pub lowers-selected : (g : Graph) (w : Words) (d : Drawing) (p : PathId) → AreWordsOf g w → Sound g w d → SourceReady d (selected_source w p.0)
-    → Lowers g w d d (source_op d (selected_source w p.0)) (form_sense g (formulas.Selected p)) 1
+    → Lowers g w d d (Copy (source_net d (selected_source w p.0))) (form_sense g (formulas.Selected p)) 0
 lowers-selected g w d p a s ready = lowers-source g w d (selected_source w p.0) _ s ready (selected-form g w p a)
 
 kept-form : (g : Graph) (w : Words) (x : InstId) → AreWordsOf g w → x.0 < length g.instances.list.items
@@ -174,9 +173,9 @@ kept-form g w x a h = λ i t. a.kept t.occasion x.0 (sources.Const false) (false
 
 pub lowers-kept : (g : Graph) (w : Words) (d : Drawing) (x : InstId) (k : Source) → AreWordsOf g w → Sound g w d
     → x.0 < length g.instances.list.items → SourceReady d (kept_source w x.0) → k ≡ kept_source w x.0
-    → Lowers g w d d (source_op d k) (form_sense g (formulas.Kept x)) 1
+    → Lowers g w d d (Copy (source_net d k)) (form_sense g (formulas.Kept x)) 0
 lowers-kept g w d x k a s h ready e =
-    subst (λ y. Lowers g w d d (source_op d y) (form_sense g (formulas.Kept x)) 1) (sym e)
+    subst (λ y. Lowers g w d d (Copy (source_net d y)) (form_sense g (formulas.Kept x)) 0) (sym e)
     (lowers-source g w d (kept_source w x.0) _ s ready (kept-form g w x a h))
 
 held-form : (g : Graph) (w : Words) (x : InstId) → AreWordsOf g w → x.0 < length g.instances.list.items
@@ -186,9 +185,9 @@ held-form g w x a h = λ i t. a.held t.occasion x.0 (sources.Const false) (false
 
 pub lowers-held : (g : Graph) (w : Words) (d : Drawing) (x : InstId) (k : Source) → AreWordsOf g w → Sound g w d
     → x.0 < length g.instances.list.items → SourceReady d (held_source w x.0) → k ≡ held_source w x.0
-    → Lowers g w d d (source_op d k) (form_sense g (formulas.Held x)) 1
+    → Lowers g w d d (Copy (source_net d k)) (form_sense g (formulas.Held x)) 0
 lowers-held g w d x k a s h ready e =
-    subst (λ y. Lowers g w d d (source_op d y) (form_sense g (formulas.Held x)) 1) (sym e)
+    subst (λ y. Lowers g w d d (Copy (source_net d y)) (form_sense g (formulas.Held x)) 0) (sym e)
     (lowers-source g w d (held_source w x.0) _ s ready (held-form g w x a h))
 
 upto-form : (g : Graph) (w : Words) (x : InstId) (k : ℕ) → AreWordsOf g w → x.0 < length g.instances.list.items
@@ -201,8 +200,8 @@ lowers-is : (g : Graph) (w : Words) (old new : Drawing) (op : Op) (m n : Sense g
 lowers-is g w old new op m n cost e l = record { grew = l.grew; stands = op-is g new op m n e l.stands; within = l.within }
 
 pub lowers-upto : (g : Graph) (w : Words) (old new : Drawing) (op : Op) (x : InstId) (k : ℕ) → AreWordsOf g w → x.0 < length g.instances.list.items
-    → Lowers g w old new op (run_sense g (first_end w x.0) (ends_upto g w x.0 k)) 1 → Lowers g w old new op (form_sense g (formulas.Upto x k)) 1
-lowers-upto g w old new op x k a h l = lowers-is g w old new op _ _ 1 (upto-form g w x k a h) l
+    → Lowers g w old new op (run_sense g (first_end w x.0) (ends_upto g w x.0 k)) 0 → Lowers g w old new op (form_sense g (formulas.Upto x k)) 0
+lowers-upto g w old new op x k a h l = lowers-is g w old new op _ _ 0 (upto-form g w x k a h) l
 
 pub lowers-not : (g : Graph) (w : Words) (old new : Drawing) (n : NetId) (f : Formula) (m : Sense g) (cost : ℕ) → (λ (t : Instant g). not (m t)) ≡ form_sense g f
     → Places g w old new n.0 m cost → Lowers g w old new (Not n) (form_sense g f) (cost + 1)

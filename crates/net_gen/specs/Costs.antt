@@ -1,8 +1,7 @@
 -- To believe: the greatest number of gates that a netlist needs.
 --
--- A word needs no gate, where it has a net already; a constant needs one, a negation one besides its part, a
--- conjunction or a disjunction one besides its parts. One more gate for each wire carries it, where its formula is a
--- word or a constant. What `Upto` reads needs at most one gate for each wire that is an end.
+-- A word or a constant has a net already. A negation needs one gate besides its part, and a conjunction or a
+-- disjunction one besides its parts.
 use Rattle.std.specs.Prelude.{ℕ, ◌+◌, ◌-◌, suc, zero, Option, Some, None, List, length, map, slice_index_or}
 use Rattle.std.specs.List.{sum_by}
 use Rattle.est_base.specs.declared.indices.NetId.{NetId}
@@ -15,19 +14,19 @@ use Rattle.net_gen.specs.Drawings.{Drawing}
 
 -- the or of so many wires
 abbrev pub any_cost : ℕ → ℕ
-any_cost zero = 1
+any_cost zero = 0
 any_cost (suc n) = n
 
 -- the greatest number of gates of a formula
 abbrev pub cost_of : Formula → ℕ
-cost_of (formulas.Const b) = 1
+cost_of (formulas.Const b) = 0
 cost_of formulas.Boot = 0
-cost_of (formulas.Input s) = 1
+cost_of (formulas.Input s) = 0
 cost_of (formulas.Wire v) = 0
-cost_of (formulas.Selected p) = 1
-cost_of (formulas.Upto i k) = 1
-cost_of (formulas.Kept i) = 1
-cost_of (formulas.Held i) = 1
+cost_of (formulas.Selected p) = 0
+cost_of (formulas.Upto i k) = 0
+cost_of (formulas.Kept i) = 0
+cost_of (formulas.Held i) = 0
 cost_of (formulas.Not' _ a) = cost_of a + 1
 cost_of (formulas.And' _ a _ b) = cost_of a + cost_of b + 1
 cost_of (formulas.Or' _ a _ b) = cost_of a + cost_of b + 1

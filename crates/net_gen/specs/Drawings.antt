@@ -1,5 +1,5 @@
 -- Inner: a circuit under construction, without where it lies in memory.
-use Rattle.std.specs.Prelude.{ℕ, ◌+◌, Option, Some, None, List, [], ◌∷◌, ◌++◌, length, slice_set, slice_index_or, unwrap_or, ◌≡◌, ◌<◌, ◌^◌, nat_lt, false, if◌then◌else◌, ⊤}
+use Rattle.std.specs.Prelude.{ℕ, ◌+◌, Option, Some, None, List, [], ◌∷◌, ◌++◌, length, slice_set, slice_index_or, unwrap_or, ◌≡◌, ◌<◌, ◌^◌, nat_lt, Bool, if◌then◌else◌, ⊤}
 use Rattle.est_base.specs.declared.indices.NetId.{NetId}
 use Rattle.est_base.specs.declared.indices.WireId.{WireId}
 use Rattle.net_ir.specs.declared.netlist.Gate.{Gate}
@@ -7,11 +7,13 @@ use Rattle.net_ir.specs.declared.netlist.Op.{Op}
 use Rattle.net_ir.specs.declared.netlist.Op.TheVariants.{Const, Copy, Not, And, Or}
 use Rattle.net_gen.specs.declared.circuit.Circuit.{Circuit}
 
--- The number of inputs, the number of the first gate, the gates, and which nets say what wires, runs of ends and rows
+-- The number of inputs, the number of the first gate, the nets that are never and always true, the gates, and which nets say what wires, runs of ends and rows
 -- say, as far as they were made.
 pub record Drawing : Type 0 where
   pub given : ℕ
   pub first : ℕ
+  pub no : NetId
+  pub yes : NetId
   pub gates : List Gate
   pub wires : List (Option NetId)
   pub ends : List (Option NetId)
@@ -21,6 +23,8 @@ abbrev pub drawing_of : Circuit → Drawing
 drawing_of c = record {
   given = c.given;
   first = c.first;
+  no = c.no;
+  yes = c.yes;
   gates = c.gates.items;
   wires = c.wires.items;
   ends = c.ends.items;
@@ -40,6 +44,13 @@ abbrev pub with_wire : Drawing → Op → WireId → Drawing
 with_wire d op v = record d {
   gates = d.gates ++ record { op = op; wire = Some v } ∷ [];
   wires = slice_set d.wires v.0 (Some (record { 0 = next_number d }));
+}
+
+-- one more gate for a row, which is noted
+abbrev pub with_row : Drawing → Op → ℕ → Drawing
+with_row d op r = record d {
+  gates = d.gates ++ record { op = op; wire = None } ∷ [];
+  rows = slice_set d.rows r (Some (record { 0 = next_number d }));
 }
 
 -- a net of this value: what only copies a net needs no gate
@@ -113,9 +124,13 @@ with_run_once d before v = noted_run d before v (slice_index_or d.ends v None)
 abbrev pub run_number_once : Drawing → Option NetId → ℕ → ℕ
 run_number_once d before v = noted_number d before v (slice_index_or d.ends v None)
 
--- what says that the event gives a signal
-abbrev pub input_op : Drawing → ℕ → Op
-input_op d s = if nat_lt s d.given then Copy (record { 0 = s }) else Const false
+-- the net of a constant
+abbrev pub constant_net : Drawing → Bool → NetId
+constant_net d b = if b then d.yes else d.no
+
+-- the net that says that the event gives a signal
+abbrev pub input_net : Drawing → ℕ → NetId
+input_net d s = if nat_lt s d.given then record { 0 = s } else d.no
 
 -- there is room for the gate of a run that is made now
 abbrev pub NotedFits : Drawing → Option NetId → Option NetId → Type 0

@@ -13,7 +13,7 @@ use Rattle.grc_words.specs.declared.table.Words.{Words}
 use Rattle.grc_words.specs.WordLaws.{selected_source, first_end, ends_upto}
 use Rattle.net_ir.specs.declared.netlist.Op.{Op}
 use Rattle.net_ir.specs.declared.netlist.Op.TheVariants as ops
-use Rattle.net_gen.specs.Drawings.{Drawing, Placed, net_at}
+use Rattle.net_gen.specs.Drawings.{Drawing, Placed, net_at, constant_net}
 
 abbrev pub SourceReady : Drawing → Source → Type 0
 SourceReady d (sources.Const b) = ⊤
@@ -27,13 +27,44 @@ RowReady d (rows.Not a) = SourceReady d a
 RowReady d (rows.And a b) = SourceReady d a × SourceReady d b
 RowReady d (rows.Or a b) = SourceReady d a × SourceReady d b
 
--- the operator that a source is
-abbrev pub source_op : Drawing → Source → Op
-source_op d (sources.Const b) = ops.Const b
-source_op d (sources.Leaf k) = ops.Copy (record { 0 = d.given + 1 + k })
-source_op d (sources.Input s) = ops.Copy (record { 0 = s.0 })
-source_op d (sources.Wire v) = ops.Copy (net_at d.wires v.0)
-source_op d (sources.Row r) = ops.Copy (net_at d.rows r)
+-- the net of a source
+abbrev pub source_net : Drawing → Source → NetId
+source_net d (sources.Const b) = constant_net d b
+source_net d (sources.Leaf k) = record { 0 = d.given + 1 + k }
+source_net d (sources.Input s) = record { 0 = s.0 }
+source_net d (sources.Wire v) = net_at d.wires v.0
+source_net d (sources.Row r) = net_at d.rows r
+
+-- a row as an operator
+abbrev pub row_op : Drawing → Row → Op
+row_op d (rows.Not a) = ops.Not (source_net d a)
+row_op d (rows.And a b) = ops.And (source_net d a) (source_net d b)
+row_op d (rows.Or a b) = ops.Or (source_net d a) (source_net d b)
+
+-- a source reads what there is, and rows below this one
+abbrev pub SourceReads : Drawing → ℕ → Source → Type 0
+SourceReads d below (sources.Const b) = ⊤
+SourceReads d below (sources.Leaf k) = d.given + 1 + k < d.first
+SourceReads d below (sources.Input s) = s.0 < d.given
+SourceReads d below (sources.Wire v) = Placed d.wires v.0
+SourceReads d below (sources.Row r) = r < below
+
+abbrev pub RowReads : Drawing → ℕ → Row → Type 0
+RowReads d below (rows.Not a) = SourceReads d below a
+RowReads d below (rows.And a b) = SourceReads d below a × SourceReads d below b
+RowReads d below (rows.Or a b) = SourceReads d below a × SourceReads d below b
+
+-- from one row up to another, each reads what there is, and rows below itself
+abbrev pub RowsReady : Words → Drawing → (from to : ℕ) → Type 0
+RowsReady w d from to = (k : ℕ) (x : Row) → from ≤ k → k < to → RowReads d k (slice_index_or w.rows.items k x)
+
+-- the rows below this one have their nets
+abbrev pub RowsPlaced : Drawing → ℕ → Type 0
+RowsPlaced d to = (k : ℕ) → k < to → Placed d.rows k
+
+-- all wires have their nets
+abbrev pub WiresPlaced : Drawing → ℕ → Type 0
+WiresPlaced d count = (v : ℕ) → v < count → Placed d.wires v
 
 -- the ends of an instance up to a code have their nets
 abbrev pub EndsReady : Graph → Words → Drawing → (i k : ℕ) → Type 0

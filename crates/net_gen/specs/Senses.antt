@@ -102,6 +102,8 @@ pub record Sound (g : Graph) (w : Words) (d : Drawing) : Type 0 where
   pub first : d.first ≡ first_of g
   pub numbered : next_number d ≤ 2 ^ 32
   pub reads : ReadsLower d.first d.gates
+  pub no : Stands g d d.no.0 (λ t. false)
+  pub yes : Stands g d d.yes.0 (λ t. true)
   pub wires : Table g d d.wires (wire_sense g)
   pub ends : Table g d d.ends (ends_sense g w)
   pub rows : Table g d d.rows (row_sense g w)

@@ -1,11 +1,11 @@
 // A circuit under construction.
 
 ghost use Rattle.std.specs.Prelude.{◌≡◌, ◌+◌, ◌<◌, ◌≤◌, ◌^◌, None, Some, length, slice_index_or, slice_set, IfOk, OnOk};
-ghost use Rattle.net_gen.specs.Drawings.{drawing_of, next_number, with_gate, with_wire, with_net, net_number, with_run_once, run_number_once, with_joined, joined_op, JoinFits, RunFits, input_op, Placed};
-ghost use Rattle.net_gen.specs.Readiness.{SourceReady, source_op};
+ghost use Rattle.net_gen.specs.Drawings.{drawing_of, next_number, with_gate, with_wire, with_net, net_number, with_run_once, run_number_once, with_joined, joined_op, JoinFits, RunFits, constant_net, input_net, with_row, Placed};
+ghost use Rattle.net_gen.specs.Readiness.{SourceReady, RowReady, source_net, row_op};
 
 use est_base::{NetId, NoMemory, SigId, WireId};
-use grc_words::Source;
+use grc_words::{Row, Source};
 use net_ir::{Gate, Op};
 
 /// The gates so far, and which nets say what the wires and the rows of the graph say, as far as they
@@ -16,6 +16,9 @@ pub(crate) struct Circuit {
     pub given: u32,
     /// The number of the first gate.
     pub first: u32,
+    /// The net that is never true, and the one that always is.
+    pub no: NetId,
+    pub yes: NetId,
     pub gates: Vec<Gate>,
     /// The net that carries a wire.
     pub wires: Vec<Option<NetId>>,
@@ -82,29 +85,60 @@ impl Circuit {
         Ok(())
     }
 
-    /// What says that the event gives a signal; it gives the inputs alone.
-    pub(crate) fn input(&self, signal: SigId) -> Op
-        ensures { result ≡ input_op (drawing_of self.now) signal.0 }
+    /// The net of a constant.
+    pub(crate) fn constant(&self, value: bool) -> NetId
+        ensures { result ≡ constant_net (drawing_of self.now) value }
+    {
+        if value { self.yes } else { self.no }
+    }
+
+    /// The net that says that the event gives a signal; it gives the inputs alone.
+    pub(crate) fn input(&self, signal: SigId) -> NetId
+        ensures { result ≡ input_net (drawing_of self.now) signal.0 }
     {
         if signal.0 < self.given {
-            Op::Copy(NetId(signal.0))
+            NetId(signal.0)
         } else {
-            Op::Const(false)
+            self.no
         }
     }
 
-    /// A source as an operator.
-    pub(crate) fn source(&self, source: Source) -> Op
+    /// The net of a source.
+    pub(crate) fn source(&self, source: Source) -> NetId
         requires { SourceReady (drawing_of self.now) source }
-        ensures { result ≡ source_op (drawing_of self.now) source }
+        ensures { result ≡ source_net (drawing_of self.now) source }
     {
         match source {
-            Source::Const(value) => Op::Const(value),
-            Source::Leaf(leaf) => Op::Copy(NetId(self.given + 1 + leaf)),
-            Source::Input(signal) => Op::Copy(NetId(signal.0)),
-            Source::Wire(wire) => Op::Copy(entry(&self.wires, wire.0 as usize)),
-            Source::Row(row) => Op::Copy(entry(&self.rows, row as usize)),
+            Source::Const(value) => self.constant(value),
+            Source::Leaf(leaf) => NetId(self.given + 1 + leaf),
+            Source::Input(signal) => NetId(signal.0),
+            Source::Wire(wire) => entry(&self.wires, wire.0 as usize),
+            Source::Row(row) => entry(&self.rows, row as usize),
         }
+    }
+
+    /// A row as an operator.
+    pub(crate) fn row(&self, row: Row) -> Op
+        requires { RowReady (drawing_of self.now) row }
+        ensures { result ≡ row_op (drawing_of self.now) row }
+    {
+        match row {
+            Row::Not(a) => Op::Not(self.source(a)),
+            Row::And(a, b) => Op::And(self.source(a), self.source(b)),
+            Row::Or(a, b) => Op::Or(self.source(a), self.source(b)),
+        }
+    }
+
+    /// One more gate, for a row.
+    pub(crate) fn add_row(&mut self, op: Op, row: usize) -> Result<(), NoMemory>
+        requires { row < length self.old.rows.items }
+        ensures drawn { OnOk result (drawing_of self.new ≡ with_row (drawing_of self.old) op row) }
+        ensures fits { OnOk result (next_number (drawing_of self.old) < 2 ^ 32) }
+    {
+        let net = self.push(op)?;
+        let rows = &mut self.rows;
+        rows[row] = Some(net);
+        Ok(())
     }
 
     /// The net of a run of ends up to this wire: the one that there is, or else the or of the net of

@@ -29,17 +29,17 @@ pub(crate) fn lower(
         op (form_sense graph.now formula.now) (cost_of formula.now)) }
 {
     match formula {
-        Formula::Const(value) => Ok(Op::Const(*value)),
+        Formula::Const(value) => Ok(Op::Copy(circuit.constant(*value))),
         Formula::Boot => Ok(Op::Copy(NetId(circuit.given))),
-        Formula::Input(signal) => Ok(circuit.input(*signal)),
+        Formula::Input(signal) => Ok(Op::Copy(circuit.input(*signal))),
         Formula::Wire(wire) => Ok(Op::Copy(entry(&circuit.wires, wire.0 as usize))),
-        Formula::Selected(path) => Ok(circuit.source(selected_source(words, *path))),
+        Formula::Selected(path) => Ok(Op::Copy(circuit.source(selected_source(words, *path)))),
         Formula::Upto(instance, code) => {
             let op = ends_op(circuit, graph, words, *instance, *code)?;
             Ok(op)
         }
-        Formula::Kept(instance) => Ok(circuit.source(words.kept[instance.0 as usize])),
-        Formula::Held(instance) => Ok(circuit.source(words.held[instance.0 as usize])),
+        Formula::Kept(instance) => Ok(Op::Copy(circuit.source(words.kept[instance.0 as usize]))),
+        Formula::Held(instance) => Ok(Op::Copy(circuit.source(words.held[instance.0 as usize]))),
         Formula::Not(part) => {
             let op = lower(circuit, graph, words, part)?;
             let net = circuit.net(op)?;
@@ -120,7 +120,7 @@ fn ends_op(
     requires instance { instance.0 < length graph.now.instances.list.items }
     requires ready { EndsReady graph.now words.now (drawing_of circuit.old) instance.0 code }
     ensures { IfOk result (λ op. Lowers graph.now words.now (drawing_of circuit.old) (drawing_of circuit.new)
-        op (run_sense graph.now (first_end words.now instance.0) (ends_upto graph.now words.now instance.0 code)) 1) }
+        op (run_sense graph.now (first_end words.now instance.0) (ends_upto graph.now words.now instance.0 code)) 0) }
 {
     let first = words.ends[instance.0 as usize].0 as usize;
     let count = ends_from(graph.wires(), first, instance, code);
@@ -131,7 +131,7 @@ fn ends_op(
     }
     match so_far {
         Some(net) => Ok(Op::Copy(net)),
-        None => Ok(Op::Const(false)),
+        None => Ok(Op::Copy(circuit.no)),
     }
 }
 
@@ -155,6 +155,6 @@ fn any_of(
     }
     match so_far {
         Some(op) => Ok(op),
-        None => Ok(Op::Const(false)),
+        None => Ok(Op::Copy(circuit.no)),
     }
 }

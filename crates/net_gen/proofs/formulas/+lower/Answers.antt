@@ -7,10 +7,11 @@ use Rattle.grc_graph.specs.Formulas.{Negation, Conjunction, Disjunction, any_of,
 use Rattle.grc_graph.specs.PlainGraphs.{formula_of, instances_of, names_of, wire_at}
 use Rattle.grc_words.specs.declared.table.Source.TheVariants.{Const}
 use Rattle.grc_words.specs.WordLaws.{selected_source}
+use Rattle.net_ir.specs.declared.netlist.Op.TheVariants.{Copy}
 use Rattle.net_gen.specs.Costs.{cost_of, any_cost}
 use Rattle.net_gen.specs.Drawings.{drawing_of, Placed}
 use Rattle.net_gen.specs.Growing.{Lowers}
-use Rattle.net_gen.specs.Readiness.{FormulaReady, kept_source, held_source, source_op}
+use Rattle.net_gen.specs.Readiness.{FormulaReady, kept_source, held_source, source_net}
 use Rattle.net_gen.specs.Senses.{form_sense, any_sense}
 use Rattle.net_gen.proofs.Lowering.{lowers-same, not-lowered, and-lowered, or-lowered, second-ready}
 use Rattle.net_gen.proofs.Wording.{lowers-const, lowers-boot, lowers-input, lowers-wire, lowers-selected, lowers-kept, lowers-held, lowers-upto, lowers-any}
@@ -57,8 +58,11 @@ any_of-requires-clause-ready t c =
 
 pub returns-in-Const : goal.returns-in-Const
 returns-in-Const t c =
-    lowers-same c.args.graph.now c.args.words.now _ _ _ _ _ c.in-Const.is
-    (lowers-const c.args.graph.now c.args.words.now (drawing_of c.args.circuit.now) c.in-Const.value c.requires.sound)
+    let g = c.args.graph.now in
+    let w = c.args.words.now in
+    let old = drawing_of c.args.circuit.now in
+    let lowered = lowers-same g w _ _ _ _ _ c.in-Const.is (lowers-const g w old c.in-Const.value c.requires.sound) in
+    subst (λ op. Lowers g w old old op (form_sense g c.args.formula.now) (cost_of c.args.formula.now)) (sym (ap Copy c.constant.ensures)) lowered
 
 pub returns-in-Boot : goal.returns-in-Boot
 returns-in-Boot t c =
@@ -71,7 +75,7 @@ returns-in-Input t c =
     let w = c.args.words.now in
     let old = drawing_of c.args.circuit.now in
     let lowered = lowers-same g w _ _ _ _ _ c.in-Input.is (lowers-input g w old c.in-Input.signal c.requires.sound) in
-    subst (λ op. Lowers g w old old op (form_sense g c.args.formula.now) (cost_of c.args.formula.now)) (sym c.input.ensures) lowered
+    subst (λ op. Lowers g w old old op (form_sense g c.args.formula.now) (cost_of c.args.formula.now)) (sym (ap Copy c.input.ensures)) lowered
 
 pub returns-in-Wire : goal.returns-in-Wire
 returns-in-Wire t c =
@@ -87,7 +91,7 @@ returns-in-Selected t c =
     let w = c.args.words.now in
     let old = drawing_of c.args.circuit.now in
     let ready = subst (FormulaReady g w old) c.in-Selected.is c.requires.ready in
-    let is = c.source.ensures ∙ ap (source_op old) c.selected_source.ensures in
+    let is = ap Copy (c.source.ensures ∙ ap (source_net old) c.selected_source.ensures) in
     let lowered = lowers-same g w _ _ _ _ _ c.in-Selected.is (lowers-selected g w old c.in-Selected.path c.requires.words c.requires.sound ready) in
     subst (λ op. Lowers g w old old op (form_sense g c.args.formula.now) (cost_of c.args.formula.now)) (sym is) lowered
 
@@ -110,7 +114,7 @@ returns-in-Kept t c =
         (omega (arith, c.requires.words.one_per_instance.0, ready.0)) in
     let lowered = lowers-same g w _ _ _ _ _ c.in-Kept.is (lowers-kept g w old c.in-Kept.instance c.index.result.now c.requires.words c.requires.sound
           ready.0 ready.1 is) in
-    subst (λ op. Lowers g w old old op (form_sense g c.args.formula.now) (cost_of c.args.formula.now)) (sym c.source-in-Kept.ensures) lowered
+    subst (λ op. Lowers g w old old op (form_sense g c.args.formula.now) (cost_of c.args.formula.now)) (sym (ap Copy c.source-in-Kept.ensures)) lowered
 
 pub returns-in-Held : goal.returns-in-Held
 returns-in-Held t c =
@@ -122,7 +126,7 @@ returns-in-Held t c =
         (omega (arith, c.requires.words.one_per_instance.1, ready.0)) in
     let lowered = lowers-same g w _ _ _ _ _ c.in-Held.is (lowers-held g w old c.in-Held.instance c.index-in-Held.result.now c.requires.words c.requires.sound
           ready.0 ready.1 is) in
-    subst (λ op. Lowers g w old old op (form_sense g c.args.formula.now) (cost_of c.args.formula.now)) (sym c.source-in-Held.ensures) lowered
+    subst (λ op. Lowers g w old old op (form_sense g c.args.formula.now) (cost_of c.args.formula.now)) (sym (ap Copy c.source-in-Held.ensures)) lowered
 
 pub returns-in_ok-net-in-Not : goal.returns-in_ok-net-in-Not
 returns-in_ok-net-in-Not t c =

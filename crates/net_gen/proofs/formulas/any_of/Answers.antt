@@ -2,7 +2,7 @@ use Rattle.std.proofs.Common.{◌≡◌, false, length, take, slice_index_or, So
 use Rattle.std.proofs.lemmas.List.{take_more, take_all}
 use Rattle.est_base.specs.declared.indices.WireId.{WireId}
 use Rattle.net_gen.specs.Drawings.{drawing_of}
-use Rattle.net_ir.specs.declared.netlist.Op.TheVariants.{Const}
+use Rattle.net_ir.specs.declared.netlist.Op.TheVariants.{Copy}
 use Rattle.net_gen.specs.Costs.{any_cost}
 use Rattle.net_gen.specs.Growing.{Joins, Lowers}
 use Rattle.net_gen.specs.Senses.{any_sense}
@@ -41,4 +41,4 @@ returns-in-None c =
     let whole = take_all at list c.loop-wire-test.false in
     let joined = joins-none g w (drawing_of c.args.circuit.now) (drawing_of c.loop-wire.circuit) c.loop-wire.so_far (take at list) c.requires.sound
         c.loop-wire.invariant c.in-None.is in
-    subst (λ xs. Lowers g w (drawing_of c.args.circuit.now) (drawing_of c.loop-wire.circuit) (Const false) (any_sense g xs) (any_cost (length xs))) whole joined
+    subst (λ xs. Lowers g w (drawing_of c.args.circuit.now) (drawing_of c.loop-wire.circuit) (Copy c.loop-wire.circuit.no) (any_sense g xs) (any_cost (length xs))) whole joined
