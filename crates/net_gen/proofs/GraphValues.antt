@@ -31,7 +31,7 @@ any-equations w insts all (n ∷ names) (f ∷ forms) len =
 pub length-names : (g : Graph) → length (names_of g) ≡ length g.wires.items
 length-names g = length-map g.wires.items (wire_of (instances_of g))
 
-equations-all : (g : Graph) → length g.equations.items ≡ length (names_of g)
+pub equations-all : (g : Graph) → length g.equations.items ≡ length (names_of g)
 equations-all g = omega (arith, g.indices.equations_all, length-names g)
 
 -- a solution is false off the wires

@@ -6,3 +6,7 @@ pub mod Wording
 pub mod Joining
 pub mod EndRuns
 pub mod Lowering
+pub mod Tables
+pub mod RowSteps
+pub mod Reading
+pub mod WireSteps

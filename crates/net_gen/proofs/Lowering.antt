@@ -23,7 +23,7 @@ use Rattle.net_gen.specs.Senses.{Instant, Sense, Sound, form_sense}
 use Rattle.net_gen.proofs.Growth.{places-lowered}
 use Rattle.net_gen.proofs.Wording.{lowers-not, lowers-and, lowers-or}
 
-placed-stays : (old new : List (Option NetId)) (k : ℕ) → new ≡ old → Placed old k → Placed new k
+pub placed-stays : (old new : List (Option NetId)) (k : ℕ) → new ≡ old → Placed old k → Placed new k
 placed-stays old new k e p = (p.0, ap (λ xs. slice_index_or xs k None) e ∙ p.1)
 
 -- what is ready stays so while a circuit grows

@@ -2,15 +2,11 @@
 --
 -- A word or a constant has a net already. A negation needs one gate besides its part, and a conjunction or a
 -- disjunction one besides its parts.
-use Rattle.std.specs.Prelude.{ℕ, ◌+◌, ◌-◌, suc, zero, Option, Some, None, List, length, map, slice_index_or}
-use Rattle.std.specs.List.{sum_by}
-use Rattle.est_base.specs.declared.indices.NetId.{NetId}
+use Rattle.std.specs.Prelude.{ℕ, ◌+◌, suc, zero, true, length, slice_index_or}
 use Rattle.est_base.specs.declared.indices.WireId.{WireId}
 use Rattle.grc_graph.specs.declared.formulas.Formula.{Formula}
 use Rattle.grc_graph.specs.declared.formulas.Formula.TheVariants as formulas
 use Rattle.grc_graph.specs.declared.graph.Graph.{Graph}
-use Rattle.grc_words.specs.declared.table.Words.{Words}
-use Rattle.net_gen.specs.Drawings.{Drawing}
 
 -- the or of so many wires
 abbrev pub any_cost : ℕ → ℕ
@@ -31,3 +27,7 @@ cost_of (formulas.Not' _ a) = cost_of a + 1
 cost_of (formulas.And' _ a _ b) = cost_of a + cost_of b + 1
 cost_of (formulas.Or' _ a _ b) = cost_of a + cost_of b + 1
 cost_of (formulas.AnyOf v) = any_cost (length v.items)
+
+-- a wire's formula, and the gate that carries the wire
+abbrev pub wire_cost : Graph → WireId → ℕ
+wire_cost g v = cost_of (slice_index_or g.equations.items v.0 (formulas.Const true)) + 1

@@ -3,3 +3,4 @@ pub mod Senses
 pub mod Readiness
 pub mod Costs
 pub mod Growing
+pub mod Making

@@ -1,0 +1,42 @@
+-- Inner: what the three loops over rows, wires and leaves make.
+use Rattle.std.specs.Prelude.{◌≡◌, ℕ, ◌+◌, ◌<◌, ◌≤◌, true, Option, Some, List, ◌++◌, length, map, take, slice_index_or}
+use Rattle.std.specs.List.{sum_by}
+use Rattle.est_base.specs.declared.indices.NetId.{NetId}
+use Rattle.est_base.specs.declared.indices.WireId.{WireId}
+use Rattle.grc_graph.specs.declared.formulas.Formula.{Formula}
+use Rattle.grc_graph.specs.declared.formulas.Formula.TheVariants as formulas
+use Rattle.grc_graph.specs.declared.graph.Graph.{Graph}
+use Rattle.grc_graph.specs.WireOrders.{wire_at}
+use Rattle.grc_words.specs.declared.table.Words.{Words}
+use Rattle.net_ir.specs.Gates.{carried}
+use Rattle.net_gen.specs.Costs.{cost_of, wire_cost}
+use Rattle.net_gen.specs.Drawings.{Drawing, Placed}
+use Rattle.net_gen.specs.Growing.{Grew, spent}
+use Rattle.net_gen.specs.Readiness.{RowsPlaced}
+use Rattle.net_gen.specs.Senses.{Sense, Sound, Stands, form_sense}
+
+-- the rows from one number up to another have their nets now
+pub record RowsMade (g : Graph) (w : Words) (old new : Drawing) (from to : ℕ) : Type 0 where
+  pub sound : Sound g w new
+  pub stays : (n : ℕ) (m : Sense g) → Stands g old n m → Stands g new n m
+  pub wires : new.wires ≡ old.wires
+  pub carries : carried new.gates ≡ carried old.gates
+  pub placed : RowsPlaced new to
+  pub within : spent new + from ≤ spent old + to
+
+-- so many wires of an order have their nets now, and the gates that carry them stand in that order
+pub record WiresMade (g : Graph) (w : Words) (old new : Drawing) (order : List WireId) (count : ℕ) : Type 0 where
+  pub sound : Sound g w new
+  pub stays : (n : ℕ) (m : Sense g) → Stands g old n m → Stands g new n m
+  pub rows : new.rows ≡ old.rows
+  pub carries : carried new.gates ≡ carried old.gates ++ map (λ v. v.0) (take count order)
+  pub placed : (j : ℕ) → j < count → Placed new.wires (wire_at order j)
+  pub within : spent new ≤ spent old + sum_by (wire_cost g) (take count order)
+
+-- the nets of the next values of so many leaves
+pub record NextMade (g : Graph) (w : Words) (old new : Drawing) (nets : List NetId) (count : ℕ) : Type 0 where
+  pub grew : Grew g w old new
+  pub many : length nets ≡ count
+  pub says : (k : ℕ) (n : NetId) (f : Formula) → k < count
+      → Stands g new (slice_index_or nets k n).0 (form_sense g (slice_index_or g.next.items k f))
+  pub within : spent new ≤ spent old + sum_by cost_of (take count g.next.items)
