@@ -2,7 +2,7 @@
 use Rattle.std.specs.Prelude.{◌≡◌, ℕ, ◌+◌, ◌-◌, ◌<◌, ◌≤◌, zero, suc, Bool, false, ◌==◌, ◌&&◌, ◌||◌, nat_le, min, [], length, map, drop, slice_index_or, All, IsTrue}
 use Rattle.std.specs.List.{prefix_len}
 use Rattle.est_base.specs.Codes.{upto}
-use Rattle.est_kernel.specs.Plain.{program_of, given_count}
+use Rattle.est_kernel.specs.Plain.{program_of, given_count, outgoing_count}
 use Rattle.est_kernel.specs.Reactions.{is_given}
 use Rattle.grc_graph.specs.declared.graph.Graph.{Graph}
 use Rattle.grc_graph.specs.declared.wires.Wire.{Wire}
@@ -75,6 +75,7 @@ pub record AreWordsOf (g : Graph) (w : Words) : Type 0 where
   pub fit : WordsFit g w
   pub one_per_instance : (length w.kept.items ≡ length g.instances.list.items)
       × (length w.held.items ≡ length g.instances.list.items) × (length w.ends.items ≡ length g.instances.list.items)
+  pub one_per_output : length w.outputs.items ≡ outgoing_count (program_of g.program)
   pub one_per_statement : 0 < length w.selected.items
   pub selected : (t : Occasion g) (n : ℕ) → FalseOffWires g t.valuation
       → value_of g w t (selected_source w n) ≡ state_holds_at (state_in g t) (plain_graph g).body n

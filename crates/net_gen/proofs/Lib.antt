@@ -10,3 +10,6 @@ pub mod Tables
 pub mod RowSteps
 pub mod Reading
 pub mod WireSteps
+pub mod Beginnings
+pub mod Standing
+pub mod Composition

@@ -4,3 +4,4 @@ pub mod Readiness
 pub mod Costs
 pub mod Growing
 pub mod Making
+pub mod Generated
