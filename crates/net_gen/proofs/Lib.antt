@@ -13,3 +13,4 @@ pub mod WireSteps
 pub mod Beginnings
 pub mod Standing
 pub mod Composition
+pub mod Naming

@@ -5,4 +5,5 @@ mod begin;
 mod circuit;
 mod formulas;
 mod making;
+mod names;
 mod whole;
