@@ -14,3 +14,5 @@ pub mod Beginnings
 pub mod Standing
 pub mod Composition
 pub mod Naming
+pub mod NetFacts
+pub mod NetRuns

@@ -5,3 +5,4 @@ pub mod Costs
 pub mod Growing
 pub mod Making
 pub mod Generated
+pub mod Assembled

@@ -1,6 +1,7 @@
 //! From a graph to a netlist.
 #![tactic(auto)]
 
+mod assembly;
 mod begin;
 mod circuit;
 mod formulas;
