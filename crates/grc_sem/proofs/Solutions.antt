@@ -26,7 +26,8 @@ use Rattle.grc_sem.proofs.Lists.{Every, every_left, every_flat_map, every_contai
 use Rattle.grc_sem.proofs.Each.{EachStarted, EachResumed}
 use Rattle.grc_sem.proofs.Residues.{resumed_live}
 use Rattle.grc_sem.proofs.Ranks.{Up, RowAt, InScope, Above}
-use Rattle.grc_sem.proofs.Decode.{body_agrees, layered, row_at}
+use Rattle.grc_graph.proofs.LiveLayers.{body_agrees}
+use Rattle.grc_sem.proofs.Decode.{layered, row_at}
 use Rattle.grc_sem.proofs.Emissions.{emission, emitted, Whole}
 use Rattle.grc_sem.proofs.Bridge.{started_any, resumed_any, split}
 use Rattle.grc_sem.proofs.WalkEmits.{Fresh, Shows, Reach, started_emits, resumed_emits, guard_bits}

@@ -24,7 +24,8 @@ use Rattle.grc_sem.proofs.Each.{spot, EachStarted, EachResumed}
 use Rattle.grc_sem.proofs.Residues.{no_loops-right, loop_body, loop_code, or_other, resumed_live, some_has}
 use Rattle.grc_sem.proofs.Ranks.{Above, above_more, above_bind, layer_above-started, layer_above-restarted}
 use Rattle.grc_sem.proofs.Constructive.{and_true, not_false}
-use Rattle.grc_sem.proofs.Decode.{Agrees, Root, only_agrees, first_agrees, second_agrees, resumed_below}
+use Rattle.grc_graph.proofs.LiveLayers.{Agrees, only_agrees, first_agrees, second_agrees}
+use Rattle.grc_sem.proofs.Decode.{Root, resumed_below}
 use Rattle.grc_sem.proofs.Emissions.{emission, emitted, other_binding, Whole, whole_only, whole_first, whole_second}
 use Rattle.grc_sem.proofs.Bridge.{started_any, resumed_any, split}
 use Rattle.grc_sem.proofs.WalkCodes.{started_code, resumed_code}
