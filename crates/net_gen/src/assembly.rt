@@ -20,7 +20,7 @@ use net_ir::{Latch, Net};
 use std::alloc::Global;
 
 /// The netlist of a graph, over the table of its words.
-pub(crate) fn net_over(
+pub fn net_over(
     alloc: Global,
     graph: &Graph,
     words: &Words,

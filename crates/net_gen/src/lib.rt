@@ -8,3 +8,5 @@ mod formulas;
 mod making;
 mod names;
 mod whole;
+
+pub use assembly::net_over;
