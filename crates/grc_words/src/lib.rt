@@ -6,6 +6,8 @@
 //! computes each row once.
 #![tactic(auto)]
 
+mod building;
+mod selected;
 mod table;
 
 pub use table::{Row, Source, Words};
