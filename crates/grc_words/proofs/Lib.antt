@@ -5,3 +5,4 @@ pub mod LeafPaths
 pub mod Holding
 pub mod LeafChoices
 pub mod PartSteps
+pub mod TestSteps

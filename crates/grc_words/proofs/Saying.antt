@@ -13,7 +13,7 @@ use Rattle.grc_words.specs.Occasions.{Occasion, FalseOffWires, surroundings}
 use Rattle.grc_words.specs.Rows.{Surroundings, Bounds, source_value, row_value, row_values, source_fits, row_fits}
 use Rattle.grc_words.proofs.RowValues.{length-row_values, row_values-append, value-stays, source_value-same}
 
-fits-more : (b : Bounds) (n m : ℕ) (s : Source) → n ≤ m → IsTrue (source_fits (rows_below b n) s) → IsTrue (source_fits (rows_below b m) s)
+pub fits-more : (b : Bounds) (n m : ℕ) (s : Source) → n ≤ m → IsTrue (source_fits (rows_below b n) s) → IsTrue (source_fits (rows_below b m) s)
 fits-more b n m (sources.Const c) h f = refl
 fits-more b n m (sources.Leaf k) h f = f
 fits-more b n m (sources.Input k) h f = f
@@ -164,3 +164,50 @@ makes-either g b rs x y m n f h k = elim (cases_Bool (is_constant false x)) [
         })
     ]
   ]
+
+-- ---- the same of tables alone
+
+-- a source that grew a table reads what there is
+pub record Grows (b : Bounds) (old new : List Row) (s : Source) : Type 0 where
+  pub extends : Extends b old new
+  pub fits : IsTrue (source_fits (rows_below b (length new)) s)
+
+grows-here : (b : Bounds) (rs : List Row) (x : Source) → RowsFit b rs → IsTrue (source_fits (rows_below b (length rs)) x) → Grows b rs rs x
+grows-here b rs x f h = record { extends = extends-refl b rs f; fits = h }
+
+grows-row : (b : Bounds) (rs : List Row) (r : Row) → RowsFit b rs → IsTrue (row_fits (rows_below b (length rs)) r) → Grows b rs (rs ++ r ∷ []) (new_source rs)
+grows-row b rs r f h = record {
+  extends = extends-push b rs r f h;
+  fits = lt-ltb (length rs) (length (rs ++ r ∷ [])) (omega (arith, length_push rs r));
+}
+
+pub grows-not : (b : Bounds) (rs : List Row) (x : Source) → RowsFit b rs → IsTrue (source_fits (rows_below b (length rs)) x)
+    → Grows b rs (rs ++ rows.Not x ∷ []) (new_source rs)
+grows-not b rs x f h = grows-row b rs (rows.Not x) f h
+
+pub grows-both : (b : Bounds) (rs : List Row) (x y : Source) → RowsFit b rs → IsTrue (source_fits (rows_below b (length rs)) x)
+    → IsTrue (source_fits (rows_below b (length rs)) y) → Grows b rs (with_both rs x y) (both_source rs x y)
+grows-both b rs x y f h k = elim (cases_Bool (is_constant true x)) [
+    inl one ↦ rw one (grows-here b rs y f k)
+  | inr not_one ↦ elim (cases_Bool (is_constant true y)) [
+      inl two ↦ rw (not_one, two) (grows-here b rs x f h)
+    | inr not_two ↦ elim (cases_Bool (is_constant false y)) [
+        inl three ↦ rw (not_one, not_two, three) (grows-here b rs y f k)
+      | inr not_three ↦ rw (not_one, not_two, not_three) (grows-row b rs (rows.And x y) f (and-fits _ _ h k))
+      ]
+    ]
+  ]
+
+pub grows-either : (b : Bounds) (rs : List Row) (x y : Source) → RowsFit b rs → IsTrue (source_fits (rows_below b (length rs)) x)
+    → IsTrue (source_fits (rows_below b (length rs)) y) → Grows b rs (with_either rs x y) (either_source rs x y)
+grows-either b rs x y f h k = elim (cases_Bool (is_constant false x)) [
+    inl one ↦ rw one (grows-here b rs y f k)
+  | inr not_one ↦ elim (cases_Bool (is_constant false y)) [
+      inl two ↦ rw (not_one, two) (grows-here b rs x f h)
+    | inr not_two ↦ rw (not_one, not_two) (grows-row b rs (rows.Or x y) f (and-fits _ _ h k))
+    ]
+  ]
+
+pub fits-grown : (b : Bounds) (old new : List Row) (s : Source) → Extends b old new → IsTrue (source_fits (rows_below b (length old)) s)
+    → IsTrue (source_fits (rows_below b (length new)) s)
+fits-grown b old new s x h = fits-more b (length old) (length new) s (omega (arith, ap length x.more.1, length-append old x.more.0)) h

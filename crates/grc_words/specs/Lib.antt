@@ -6,3 +6,4 @@ pub mod Building
 pub mod Choosing
 pub mod PartKinds
 pub mod LeafLists
+pub mod Testing

@@ -9,5 +9,6 @@
 mod building;
 mod selected;
 mod table;
+mod tests_of;
 
 pub use table::{Row, Source, Words};
