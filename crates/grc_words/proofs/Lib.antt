@@ -6,3 +6,5 @@ pub mod Holding
 pub mod LeafChoices
 pub mod PartSteps
 pub mod TestSteps
+pub mod Beside
+pub mod HoldingSteps

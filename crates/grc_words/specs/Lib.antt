@@ -7,3 +7,4 @@ pub mod Choosing
 pub mod PartKinds
 pub mod LeafLists
 pub mod Testing
+pub mod Holdings

@@ -7,6 +7,7 @@
 #![tactic(auto)]
 
 mod building;
+mod held;
 mod selected;
 mod table;
 mod tests_of;
