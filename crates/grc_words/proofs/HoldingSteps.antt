@@ -155,19 +155,19 @@ above-none g x rs f kernel low is =
 
 lasts-says : (g : Graph) (near : Neighbours) (s : Term) (n : ℕ) (l : Layer) (x : Source) (rs : List tables.Row) → names_in near ≡ names_of g
     → LastsSaid near s n l x → Says g (late_bounds g 0) rs x (λ t. lasts t.valuation s n l)
-lasts-says g near Nothing n l x rs e h = subst (λ y. Says g (late_bounds g 0) rs y (λ t. true)) (sym h) (constant-says g rs true _ (λ t. refl))
-lasts-says g near Pause n l x rs e h = subst (λ y. Says g (late_bounds g 0) rs y (λ t. true)) (sym h) (constant-says g rs true _ (λ t. refl))
-lasts-says g near (Emit s) n l x rs e h = subst (λ y. Says g (late_bounds g 0) rs y (λ t. true)) (sym h) (constant-says g rs true _ (λ t. refl))
-lasts-says g near (Exit k) n l x rs e h = subst (λ y. Says g (late_bounds g 0) rs y (λ t. true)) (sym h) (constant-says g rs true _ (λ t. refl))
-lasts-says g near (Present e p q) n l x rs e h = subst (λ y. Says g (late_bounds g 0) rs y (λ t. true)) (sym h) (constant-says g rs true _ (λ t. refl))
-lasts-says g near (Suspend e p) n l x rs e h = subst (λ y. Says g (late_bounds g 0) rs y (λ t. true)) (sym h) (constant-says g rs true _ (λ t. refl))
-lasts-says g near (Seq p q) n l x rs e h = subst (λ y. Says g (late_bounds g 0) rs y (λ t. true)) (sym h) (constant-says g rs true _ (λ t. refl))
-lasts-says g near (Loop at p) n l x rs e h = subst (λ y. Says g (late_bounds g 0) rs y (λ t. true)) (sym h) (constant-says g rs true _ (λ t. refl))
-lasts-says g near (Par p q) n l x rs e h =
-    subst (λ y. Says g (late_bounds g 0) rs y (λ t. t.valuation (End n l 1))) (sym h.2) (wire-says g near h.0 (End n l 1) rs e h.1)
-lasts-says g near (Trap p) n l x rs e h = subst (λ y. Says g (late_bounds g 0) rs y (λ t. true)) (sym h) (constant-says g rs true _ (λ t. refl))
-lasts-says g near (Local s p) n l x rs e h = subst (λ y. Says g (late_bounds g 0) rs y (λ t. true)) (sym h) (constant-says g rs true _ (λ t. refl))
-lasts-says g near (Awake d p) n l x rs e h = subst (λ y. Says g (late_bounds g 0) rs y (λ t. true)) (sym h) (constant-says g rs true _ (λ t. refl))
+lasts-says g near Nothing n l x rs names h = subst (λ y. Says g (late_bounds g 0) rs y (λ t. true)) (sym h) (constant-says g rs true _ (λ t. refl))
+lasts-says g near Pause n l x rs names h = subst (λ y. Says g (late_bounds g 0) rs y (λ t. true)) (sym h) (constant-says g rs true _ (λ t. refl))
+lasts-says g near (Emit s) n l x rs names h = subst (λ y. Says g (late_bounds g 0) rs y (λ t. true)) (sym h) (constant-says g rs true _ (λ t. refl))
+lasts-says g near (Exit k) n l x rs names h = subst (λ y. Says g (late_bounds g 0) rs y (λ t. true)) (sym h) (constant-says g rs true _ (λ t. refl))
+lasts-says g near (Present e p q) n l x rs names h = subst (λ y. Says g (late_bounds g 0) rs y (λ t. true)) (sym h) (constant-says g rs true _ (λ t. refl))
+lasts-says g near (Suspend e p) n l x rs names h = subst (λ y. Says g (late_bounds g 0) rs y (λ t. true)) (sym h) (constant-says g rs true _ (λ t. refl))
+lasts-says g near (Seq p q) n l x rs names h = subst (λ y. Says g (late_bounds g 0) rs y (λ t. true)) (sym h) (constant-says g rs true _ (λ t. refl))
+lasts-says g near (Loop at p) n l x rs names h = subst (λ y. Says g (late_bounds g 0) rs y (λ t. true)) (sym h) (constant-says g rs true _ (λ t. refl))
+lasts-says g near (Par p q) n l x rs names h =
+    subst (λ y. Says g (late_bounds g 0) rs y (λ t. t.valuation (End n l 1))) (sym h.2) (wire-says g near h.0 (End n l 1) rs names h.1)
+lasts-says g near (Trap p) n l x rs names h = subst (λ y. Says g (late_bounds g 0) rs y (λ t. true)) (sym h) (constant-says g rs true _ (λ t. refl))
+lasts-says g near (Local s p) n l x rs names h = subst (λ y. Says g (late_bounds g 0) rs y (λ t. true)) (sym h) (constant-says g rs true _ (λ t. refl))
+lasts-says g near (Awake d p) n l x rs names h = subst (λ y. Says g (late_bounds g 0) rs y (λ t. true)) (sym h) (constant-says g rs true _ (λ t. refl))
 
 pub above-some : (g : Graph) (near : Neighbours) (x : Instance) (rs new : List tables.Row) (n : ℕ) (i : ℕ) (kept held : List Source) (count : ℕ)
     (lasting own held_own d : Source) → IsKernel (program_of g.program).body → names_in near ≡ names_of g → x.path < statement_count (program_of g.program).body
@@ -240,11 +240,16 @@ holdings-step g x old r0 r1 r2 r3 r4 kept held i above_kept above_held own both_
     let held2 = says-more g b r1 r2 above_held _ o.extends a.held_says in
     let made3 = makes-both g b r2 above_kept own _ _ o.extends.fit kept2 o.says in
     let x3 = subst (λ z. Extends b r2 z) (sym g3) made3.extends in
-    let says3 = subst (λ z. Says g b z both_own _) (sym g3) (subst (λ s. Says g b (with_both r2 above_kept own) s _) (sym s3) made3.says) in
+    let H = λ (t : Occasion g). held_around (readings g t) (around (statement_row g x.path).entry) x.layer in
+    let K = λ (t : Occasion g). kept_of (readings g t) x.path x.layer in
+    let O = λ (t : Occasion g). suspends (is_given t.event) t.valuation (statement_row g x.path).scope (statement_row g x.path).statement x.path x.layer in
+    let says3 : Says g b r3 both_own (λ t. K t && O t) = subst (λ z. Says g b z both_own (λ t. K t && O t)) (sym g3)
+        (subst (λ s. Says g b (with_both r2 above_kept own) s (λ t. K t && O t)) (sym s3) made3.says) in
     let held3 = says-more g b r2 r3 above_held _ x3 held2 in
-    let made4 = makes-either g b r3 above_held both_own _ _ x3.fit held3 says3 in
+    let made4 = makes-either g b r3 above_held both_own H (λ t. K t && O t) x3.fit held3 says3 in
     let x4 = subst (λ z. Extends b r3 z) (sym g4) made4.extends in
-    let says4 = subst (λ z. Says g b z last _) (sym g4) (subst (λ s. Says g b (with_either r3 above_held both_own) s _) (sym s4) made4.says) in
+    let says4 : Says g b r4 last (λ t. H t || (K t && O t)) = subst (λ z. Says g b z last (λ t. H t || (K t && O t))) (sym g4)
+        (subst (λ s. Says g b (with_either r3 above_held both_own) s (λ t. H t || (K t && O t))) (sym s4) made4.says) in
     let x02 = extends-trans b r0 r1 r2 a.extends o.extends in
     let x24 = extends-trans b r2 r3 r4 x3 x4 in
     let x04 = extends-trans b r0 r2 r4 x02 x24 in
@@ -278,3 +283,13 @@ holdings-step g x old r0 r1 r2 r3 r4 kept held i above_kept above_held own both_
             (says-as g r4 last _ _ (λ t. held-follows g t x kernel low layer ∙ ap (λ (y : Instance). held_of (readings g t) y.path y.layer) (sym is)) says4)
         ];
     }
+
+-- from now on
+pub holdings-now : (g : Graph) (old rs : List tables.Row) (kept held : List Source) (i : ℕ) → HoldingsMade g old rs kept held i → HoldingsMade g rs rs kept held i
+holdings-now g old rs kept held i m = record {
+  extends = extends-refl (late_bounds g 0) rs m.extends.fit;
+  kept_all = m.kept_all;
+  held_all = m.held_all;
+  kept_says = m.kept_says;
+  held_says = m.held_says;
+}

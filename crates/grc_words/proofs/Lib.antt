@@ -8,3 +8,4 @@ pub mod PartSteps
 pub mod TestSteps
 pub mod Beside
 pub mod HoldingSteps
+pub mod Listing
