@@ -9,3 +9,7 @@ pub mod TestSteps
 pub mod Beside
 pub mod HoldingSteps
 pub mod Listing
+pub mod EndSteps
+pub mod EndPlaces
+pub mod EndCodes
+pub mod EndWords

@@ -38,7 +38,7 @@ layer-is (Started q) Resumed e = absurd (cc)
 layer-is (Started q) (Started r) e = ap Started (eqb-true q r e)
 
 -- wires of one name
-wire-is : (u w : Wire) → same_wire u w ≡ true → w ≡ u
+pub wire-is : (u w : Wire) → same_wire u w ≡ true → w ≡ u
 wire-is (Out s) (Out t) e = ap Out (sym (eqb-true s t e))
 wire-is (Out s) (Go n l) e = absurd (cc)
 wire-is (Out s) (StatusOf n l) e = absurd (cc)

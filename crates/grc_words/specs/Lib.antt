@@ -8,3 +8,4 @@ pub mod PartKinds
 pub mod LeafLists
 pub mod Testing
 pub mod Holdings
+pub mod EndLists

@@ -6,10 +6,12 @@
 //! computes each row once.
 #![tactic(auto)]
 
+mod assembly;
 mod building;
 mod held;
 mod selected;
 mod table;
 mod tests_of;
 
+pub use assembly::words;
 pub use table::{Row, Source, Words};
