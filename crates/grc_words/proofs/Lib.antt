@@ -13,3 +13,4 @@ pub mod EndSteps
 pub mod EndPlaces
 pub mod EndCodes
 pub mod EndWords
+pub mod Whole
