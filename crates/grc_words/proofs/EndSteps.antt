@@ -1,4 +1,4 @@
--- The first end of each instance, wire by wire from the last one on; and what an instant shows, as sources.
+-- What an instant shows, as sources.
 use Rattle.std.proofs.Common.{◌≡◌, ◌≢◌, ℕ, ◌+◌, ◌-◌, ◌<◌, ◌≤◌, Bool, true, false, not, ◌||◌, ◌==◌, List, [], ◌∷◌, ◌++◌, length, drop, replicate, slice_index_or, slice_set, refl, sym, ap, ◌∙◌, subst, arith, Option, inl, inr}
 use Rattle.std.specs.List.{prefix_len}
 use Rattle.std.proofs.lemmas.Bool.{cases_lt, cases_eq, eq-eqb, ne_eqb}
@@ -22,68 +22,9 @@ use Rattle.grc_words.specs.Building.{Says, RowsFit, with_either, either_source}
 use Rattle.grc_words.specs.EndLists.{EndsFound, OutputsSaid, PausedMade, is_no_end_of}
 use Rattle.grc_words.specs.Testing.{wire_source}
 use Rattle.grc_words.specs.WordLaws.{late_bounds}
+use Rattle.grc_words.proofs.RowCounts.{either-few}
 use Rattle.grc_words.proofs.Saying.{makes-either}
 use Rattle.grc_words.proofs.TestSteps.{wire-says}
-
--- ---- the first end of each instance
-
-pub ends-begun : (g : Graph) (ends : List WireId) (from : ℕ) (v : WireId) → from ≡ length g.wires.items → v.0 ≡ from
-    → ends ≡ replicate (length g.instances.list.items) v → EndsFound g from ends
-ends-begun g ends from v all is e =
-    let each : length ends ≡ length g.instances.list.items = ap length e ∙ length-replicate (length g.instances.list.items) v in
-    record {
-      each = each;
-      found = λ i d low.
-          let at : slice_index_or ends i d ≡ v =
-              ap (λ xs. slice_index_or xs i d) e ∙ get_or-replicate (length g.instances.list.items) i v d (omega arith) in
-          let none = prefix_len-drop_all (is_no_end_of i) g.wires.items from (omega arith) in
-          let number : (slice_index_or ends i d).0 ≡ v.0 = ap (λ (x : WireId). x.0) at in
-          omega arith;
-    }
-
--- a wire that ends an instance is the first from itself on
-pub ends-set : (g : Graph) (ends : List WireId) (w j c : ℕ) (i : InstId) (x : Wire) (v : WireId) → EndsFound g w ends → w ≡ j + 1 → j < length g.wires.items
-    → x ≡ slice_index_or g.wires.items j x → x ≡ wires.End i c → v.0 ≡ j → i.0 < length ends → EndsFound g j (slice_set ends i.0 v)
-ends-set g ends w j c i x v m e low read form is within =
-    let same_length = length-set ends i.0 v in
-    record {
-      each = same_length ∙ m.each;
-      found = λ n d h. elim (cases_eq n i.0) [
-          inl same ↦
-            let put : slice_index_or (slice_set ends i.0 v) n d ≡ v =
-                ap (λ k. slice_index_or (slice_set ends i.0 v) k d) same ∙ get_or-set_same ends i.0 v d within in
-            let number : (slice_index_or (slice_set ends i.0 v) n d).0 ≡ v.0 = ap (λ (y : WireId). y.0) put in
-            let stops : is_no_end_of n (slice_index_or g.wires.items j x) ≡ false =
-                ap (is_no_end_of n) (sym read ∙ form) ∙ ap not (eq-eqb i.0 n (sym same)) in
-            let none = prefix_len-drop_no (is_no_end_of n) g.wires.items j x low stops in
-            omega arith
-        | inr other ↦
-            let kept = get_or-set_other ends i.0 n v d other in
-            let number : (slice_index_or (slice_set ends i.0 v) n d).0 ≡ (slice_index_or ends n d).0 = ap (λ (y : WireId). y.0) kept in
-            let passes : is_no_end_of n (slice_index_or g.wires.items j x) ≡ true =
-                ap (is_no_end_of n) (sym read ∙ form) ∙ ap not (ne_eqb i.0 n (λ q. other (sym q))) in
-            let more = prefix_len-drop_yes (is_no_end_of n) g.wires.items j x low passes in
-            let old = m.found n d (omega arith) in
-            let next : prefix_len (is_no_end_of n) (drop w g.wires.items) ≡ prefix_len (is_no_end_of n) (drop (j + 1) g.wires.items) =
-                ap (λ k. prefix_len (is_no_end_of n) (drop k g.wires.items)) e in
-            omega arith
-        ];
-    }
-
-pub ends-skip : (g : Graph) (ends : List WireId) (w j : ℕ) (x : Wire) → EndsFound g w ends → w ≡ j + 1 → j < length g.wires.items
-    → x ≡ slice_index_or g.wires.items j x → ((n : ℕ) → is_no_end_of n x ≡ true) → EndsFound g j ends
-ends-skip g ends w j x m e low read none = record {
-  each = m.each;
-  found = λ n d h.
-      let passes : is_no_end_of n (slice_index_or g.wires.items j x) ≡ true = ap (is_no_end_of n) (sym read) ∙ none n in
-      let more = prefix_len-drop_yes (is_no_end_of n) g.wires.items j x low passes in
-      let next : prefix_len (is_no_end_of n) (drop w g.wires.items) ≡ prefix_len (is_no_end_of n) (drop (j + 1) g.wires.items) =
-          ap (λ k. prefix_len (is_no_end_of n) (drop k g.wires.items)) e in
-      let old = m.found n d h in
-      omega arith;
-}
-
--- ---- what an instant shows
 
 pub outputs-begun : (g : Graph) → OutputsSaid g 0 []
 outputs-begun g = record { each = refl; says = λ k d rs h. absurd (omega arith) }
@@ -117,5 +58,5 @@ paused-made g near q r a b paused old new names f h k at bt grown fresh =
         subst (λ s. Says g e old s (λ t. t.valuation (End 0 (Started 0) 1))) (sym bt) (wire-says g near r (End 0 (Started 0) 1) old names k) in
     let made = makes-either g e old a b (λ t. t.valuation (End 0 Resumed 1)) (λ t. t.valuation (End 0 (Started 0) 1)) f first second in
     let whole = with_either old a b in
-    let done : PausedMade g old whole (either_source old a b) = record { extends = made.extends; says = made.says } in
+    let done : PausedMade g old whole (either_source old a b) = record { extends = made.extends; few = either-few old a b; says = made.says } in
     subst (λ rs. PausedMade g old rs paused) (sym grown) (subst (λ s. PausedMade g old whole s) (sym fresh) done)

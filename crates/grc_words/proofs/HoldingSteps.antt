@@ -1,8 +1,10 @@
 -- One more instance whose sources say that it is kept and that it is held.
 use Rattle.std.proofs.Common.{◌≡◌, ℕ, ◌+◌, ◌-◌, ◌<◌, ◌≤◌, Bool, true, false, ◌&&◌, ◌||◌, List, [], ◌∷◌, ◌++◌, length, map, take, drop, slice_index_or, refl, sym, ap, ◌∙◌, subst, arith, Option, Some, None, IsTrue, inl, inr}
+use Rattle.std.specs.List.{sum_by}
+use Rattle.std.proofs.lemmas.List.Sums.{sum_by-append}
 use Rattle.std.specs.Prelude.{MatchOption, Contains}
 use Rattle.std.proofs.lemmas.Bool.{cases_lt, lt-ltb}
-use Rattle.std.proofs.lemmas.List.{get_or_append_left, get_or_push, length_push, length-map, take_all}
+use Rattle.std.proofs.lemmas.List.{get_or_append_left, get_or_push, length_push, length-map, take_all, take_more}
 use Rattle.est_base.specs.declared.indices.WireId.{WireId}
 use Rattle.est_kernel.specs.Plain.{Program, program_of, interface_count}
 use Rattle.est_kernel.specs.Preorder.{statement_count}
@@ -31,11 +33,13 @@ use Rattle.grc_words.specs.declared.table.Row as tables
 use Rattle.grc_words.specs.declared.tests_of.Tested.{Tested}
 use Rattle.grc_words.specs.Building.{Says, Extends, RowsFit, with_both, both_source, with_either, either_source}
 use Rattle.grc_words.specs.Enclosures.{Readings, around, kept_of, held_of, lasts, suspends, IsWithin, IsOutermost, FollowsAround}
-use Rattle.grc_words.specs.Holdings.{readings, statement_row, StatementRead, HoldingsMade, AboveMade, OwnMade, LastsSaid, held_around, test_of}
+use Rattle.grc_words.specs.Holdings.{readings, StatementRead, HoldingsMade, AboveMade, OwnMade, LastsSaid, held_around, OwnFew}
+use Rattle.grc_words.specs.Sizes.{statement_row, test_of, rows_by, instance_rows}
 use Rattle.grc_words.specs.Occasions.{Occasion, FalseOffWires}
 use Rattle.grc_words.specs.Testing.{TestMade, wire_source}
 use Rattle.grc_words.specs.WordLaws.{late_bounds}
 use Rattle.grc_words.proofs.Enclosed.{program_follows}
+use Rattle.grc_words.proofs.RowCounts.{both-few, either-few, both-none, either-none}
 use Rattle.grc_words.proofs.Saying.{says-more, extends-refl, extends-trans, makes-both, makes-either}
 use Rattle.grc_words.proofs.TestSteps.{wire-says}
 
@@ -52,7 +56,15 @@ constant-says g rs b m e = record { fits = refl; value = λ t off. e t }
 pub own-none : (g : Graph) (x : Instance) (rs : List tables.Row) → RowsFit (late_bounds g 0) rs
     → ((t : Occasion g) → false ≡ suspends (is_given t.event) t.valuation (statement_row g x.path).scope (statement_row g x.path).statement x.path x.layer)
     → OwnMade g x rs rs (sources.Const false)
-own-none g x rs f e = record { extends = extends-refl (late_bounds g 0) rs f; says = constant-says g rs false _ e }
+own-none g x rs f e = record {
+  extends = extends-refl (late_bounds g 0) rs f;
+  few = none-few (test_of (statement_row g x.path).statement);
+  says = constant-says g rs false _ e;
+}
+  where
+    none-few : (o : Option Expression) → OwnFew o rs rs (sources.Const false)
+    none-few None = (omega arith, refl)
+    none-few (Some e) = omega arith
 
 -- what a statement with this test suspends
 abbrev pub suspends_by : Values → Valuation → Scope → Option Expression → ℕ → Layer → Bool
@@ -128,6 +140,8 @@ own-suspends g near c e signals go old mid new tested own is listed names h m gr
     let x : Instance = record { path = c; layer = Resumed } in
     let done : OwnMade g x old last (both_source mid (sources.Wire go) tested.source) = record {
         extends = extends-trans b old mid last m.extends made.extends;
+        few = subst (λ o. OwnFew o old last (both_source mid (sources.Wire go) tested.source)) (sym is)
+            (omega (arith, m.few, both-few mid (sources.Wire go) tested.source));
         says = says-as g last (both_source mid (sources.Wire go) tested.source) _ _
             (λ t. sym (suspends-test (is_given t.event) t.valuation B (statement_row g c).statement c Resumed
               ∙ ap (λ o. suspends_by (is_given t.event) t.valuation B o c Resumed) is)) made.says;
@@ -149,6 +163,7 @@ above-none g x rs f kernel low is =
             (λ n. IsWithin (readings g t) (statement_row g n) (statement_row g x.path) n x.path)) is (follows-of g t x.path kernel low) in
     record {
       extends = extends-refl (late_bounds g 0) rs f;
+      few = omega arith;
       kept_says = constant-says g rs true _ (λ t. sym ((law t).kept x.layer));
       held_says = constant-says g rs false _ (λ t. ap (λ o. held_around (readings g t) o x.layer) (sym is));
     }
@@ -193,6 +208,7 @@ above-some g near x rs new n i kept held count lasting own held_own d kernel nam
           ∙ ap (λ o. held_around (readings g t) o x.layer) (sym is)) (m.held_says i d h) in
     let done : AboveMade g x rs whole (both_source rs k lasting) (slice_index_or held i d) = record {
         extends = made.extends;
+        few = both-few rs k lasting;
         kept_says = kept_here;
         held_says = says-more g b rs whole (slice_index_or held i d) _ made.extends held_there;
       } in
@@ -223,18 +239,40 @@ held-follows g t x kernel low own = by_entry (around (statement_row g x.path).en
 pub holdings-begun : (g : Graph) (rs : List tables.Row) → RowsFit (late_bounds g 0) rs → HoldingsMade g rs rs [] [] 0
 holdings-begun g rs f = record {
   extends = extends-refl (late_bounds g 0) rs f;
+  few = omega arith;
   kept_all = refl;
   held_all = refl;
   kept_says = λ i d h. absurd (omega arith);
   held_says = λ i d h. absurd (omega arith);
 }
 
+-- the rows of one more instance
+rows-of-one : (o : Option Expression) (r1 r2 r3 r4 : List tables.Row) (above_kept above_held own both_own : Source) → OwnFew o r1 r2 own
+    → r3 ≡ with_both r2 above_kept own → both_own ≡ both_source r2 above_kept own → r4 ≡ with_either r3 above_held both_own
+    → length r4 + 1 ≤ length r1 + rows_by o
+rows-of-one None r1 r2 r3 r4 above_kept above_held own both_own few g3 s3 g4 =
+    let third : r3 ≡ r2 = g3 ∙ ap (with_both r2 above_kept) few.1 ∙ (both-none r2 above_kept).0 in
+    let none : both_own ≡ sources.Const false = s3 ∙ ap (both_source r2 above_kept) few.1 ∙ (both-none r2 above_kept).1 in
+    let fourth : r4 ≡ r2 = g4 ∙ ap (with_either r3 above_held) none ∙ either-none r3 above_held ∙ third in
+    omega (arith, ap length fourth, few.0)
+rows-of-one (Some e) r1 r2 r3 r4 above_kept above_held own both_own few g3 s3 g4 =
+    omega (arith, few, ap length g3, both-few r2 above_kept own, ap length g4, either-few r3 above_held both_own)
+
+sum-more : (g : Graph) (i : ℕ) (x : Instance) → i < length (instances_of g) → instance_at (instances_of g) i ≡ x
+    → sum_by (instance_rows g) (take (i + 1) (instances_of g)) ≡ sum_by (instance_rows g) (take i (instances_of g)) + instance_rows g x
+sum-more g i x low here =
+    let y = instance_at (instances_of g) i in
+    let split = ap (sum_by (instance_rows g)) (take_more (instances_of g) i (record { path = 0; layer = Resumed }) low)
+        ∙ sum_by-append (instance_rows g) (take i (instances_of g)) (y ∷ []) in
+    let same : instance_rows g y ≡ instance_rows g x = ap (instance_rows g) here in
+    omega arith
+
 pub holdings-step : (g : Graph) (x : Instance) (old r0 r1 r2 r3 r4 : List tables.Row) (kept held : List Source) (i : ℕ) (above_kept above_held own both_own last : Source)
     → IsKernel (program_of g.program).body → x.path < statement_count (program_of g.program).body → layer_above x.path x.layer ≡ x.layer
-    → instance_at (instances_of g) i ≡ x → HoldingsMade g old r0 kept held i → AboveMade g x r0 r1 above_kept above_held → OwnMade g x r1 r2 own
+    → i < length (instances_of g) → instance_at (instances_of g) i ≡ x → HoldingsMade g old r0 kept held i → AboveMade g x r0 r1 above_kept above_held → OwnMade g x r1 r2 own
     → r3 ≡ with_both r2 above_kept own → both_own ≡ both_source r2 above_kept own → r4 ≡ with_either r3 above_held both_own
     → last ≡ either_source r3 above_held both_own → HoldingsMade g old r4 (kept ++ above_kept ∷ []) (held ++ last ∷ []) (i + 1)
-holdings-step g x old r0 r1 r2 r3 r4 kept held i above_kept above_held own both_own last kernel low layer here m a o g3 s3 g4 s4 =
+holdings-step g x old r0 r1 r2 r3 r4 kept held i above_kept above_held own both_own last kernel low layer within here m a o g3 s3 g4 s4 =
     let b = late_bounds g 0 in
     let kept2 = says-more g b r1 r2 above_kept _ o.extends a.kept_says in
     let held2 = says-more g b r1 r2 above_held _ o.extends a.held_says in
@@ -256,6 +294,8 @@ holdings-step g x old r0 r1 r2 r3 r4 kept held i above_kept above_held own both_
     let kept4 = says-more g b r2 r4 above_kept _ x24 kept2 in
     record {
       extends = extends-trans b old r0 r4 m.extends x04;
+      few = omega (arith, m.few, a.few, sum-more g i x within here,
+          rows-of-one (test_of (statement_row g x.path).statement) r1 r2 r3 r4 above_kept above_held own both_own o.few g3 s3 g4);
       kept_all = omega (arith, m.kept_all, length_push kept above_kept);
       held_all = omega (arith, m.held_all, length_push held last);
       kept_says = λ k d h. elim (cases_lt k i) [
@@ -288,6 +328,7 @@ holdings-step g x old r0 r1 r2 r3 r4 kept held i above_kept above_held own both_
 pub holdings-now : (g : Graph) (old rs : List tables.Row) (kept held : List Source) (i : ℕ) → HoldingsMade g old rs kept held i → HoldingsMade g rs rs kept held i
 holdings-now g old rs kept held i m = record {
   extends = extends-refl (late_bounds g 0) rs m.extends.fit;
+  few = omega arith;
   kept_all = m.kept_all;
   held_all = m.held_all;
   kept_says = m.kept_says;

@@ -1,6 +1,7 @@
 pub mod RowValues
 pub mod Enclosed
 pub mod Saying
+pub mod RowCounts
 pub mod LeafPaths
 pub mod Holding
 pub mod LeafChoices

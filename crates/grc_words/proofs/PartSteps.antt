@@ -25,6 +25,7 @@ use Rattle.grc_words.specs.Choosing.{LeavesChosen, SelectedMade, selection}
 use Rattle.grc_words.specs.Occasions.{Occasion}
 use Rattle.grc_words.specs.PartKinds.{kind_of}
 use Rattle.grc_words.specs.WordLaws.{early_bounds}
+use Rattle.grc_words.proofs.RowCounts.{either-few}
 use Rattle.grc_words.proofs.Saying.{says-more, extends-refl, Makes, makes-either}
 
 -- what a statement with this many parts holds
@@ -111,13 +112,14 @@ holding g n t = holds (selection g t) (row_at (program_rows (program_of g.progra
 
 -- a source for the statement before those that have one
 selected-more : (g : Graph) (old new : List tables.Row) (sources : List Source) (place j : ℕ) (s : Source) → SelectedMade g sources old place → place ≡ j + 1
-    → j < length sources → Extends (early_bounds g 0) old new → Says g (early_bounds g 0) new s (holding g j)
+    → j < length sources → Extends (early_bounds g 0) old new → length new ≤ length old + 1 → Says g (early_bounds g 0) new s (holding g j)
     → SelectedMade g (slice_set sources j s) new j
-selected-more g old new sources place j s m e low x h =
+selected-more g old new sources place j s m e low x more h =
     let many = length-set sources j s in
     record {
       fit = x.fit;
       many = many ∙ m.many;
+      few = omega (arith, m.few);
       made = λ n d from below. elim (cases_eq n j) [
           inl same ↦
             let put : slice_index_or (slice_set sources j s) n d ≡ s = ap (λ i. slice_index_or (slice_set sources j s) i d) same ∙ get_or-set_same sources j s d low in
@@ -153,14 +155,14 @@ pub select-itself : (g : Graph) (rs : List tables.Row) (sources : List Source) (
 select-itself g rs sources place j s d m e r is =
     let low : j < length sources = omega (arith, m.many, r.low) in
     let own = m.left j d (omega arith) low in
-    selected-more g rs rs sources place j s m e low (extends-refl (early_bounds g 0) rs m.fit)
+    selected-more g rs rs sources place j s m e low (extends-refl (early_bounds g 0) rs m.fit) (omega arith)
     (subst (λ y. Says g (early_bounds g 0) rs y (holding g j)) (sym is)
       (says-as g rs (slice_index_or sources j d) _ _ (λ t. sym (parts-read g j kinds.Itself r (selection g t))) own))
 
 pub select-none : (g : Graph) (rs : List tables.Row) (sources : List Source) (place j : ℕ) → SelectedMade g sources rs place → place ≡ j + 1
     → RowRead g j kinds.None → SelectedMade g (slice_set sources j (Const false)) rs j
 select-none g rs sources place j m e r =
-    selected-more g rs rs sources place j (Const false) m e (omega (arith, m.many, r.low)) (extends-refl (early_bounds g 0) rs m.fit)
+    selected-more g rs rs sources place j (Const false) m e (omega (arith, m.many, r.low)) (extends-refl (early_bounds g 0) rs m.fit) (omega arith)
     (record { fits = refl; value = λ t off. sym (parts-read g j kinds.None r (selection g t)) })
 
 pub select-one : (g : Graph) (rs : List tables.Row) (sources : List Source) (place j : ℕ) (s d : Source) → SelectedMade g sources rs place → place ≡ j + 1
@@ -169,7 +171,7 @@ select-one g rs sources place j s d m e r is =
     let parts = parts-read g j kinds.One r in
     let many = length-program_rows (program_of g.program) in
     let part = m.made (j + 1) d (omega arith) (omega (arith, m.many, parts.0)) in
-    selected-more g rs rs sources place j s m e (omega (arith, m.many, r.low)) (extends-refl (early_bounds g 0) rs m.fit)
+    selected-more g rs rs sources place j s m e (omega (arith, m.many, r.low)) (extends-refl (early_bounds g 0) rs m.fit) (omega arith)
     (subst (λ y. Says g (early_bounds g 0) rs y (holding g j)) (sym is)
       (says-as g rs (slice_index_or sources (j + 1) d) _ _ (λ t. sym (parts.1 (selection g t))) part))
 
@@ -183,7 +185,7 @@ select-two g rs new sources place j k s a b d m e r ea eb grown is =
     let other = subst (λ y. Says g (early_bounds g 0) rs y (holding g k)) (sym eb) (m.made k d (omega (arith, parts.1)) (omega (arith, m.many, parts.2))) in
     let made = makes-either g (early_bounds g 0) rs a b _ _ m.fit first other in
     let whole : SelectedMade g (slice_set sources j (either_source rs a b)) (with_either rs a b) j =
-        selected-more g rs (with_either rs a b) sources place j (either_source rs a b) m e (omega (arith, m.many, r.low)) made.extends
+        selected-more g rs (with_either rs a b) sources place j (either_source rs a b) m e (omega (arith, m.many, r.low)) made.extends (either-few rs a b)
         (says-as g (with_either rs a b) (either_source rs a b) _ _ (λ t. sym (parts.3 (selection g t))) made.says) in
     subst (λ x. SelectedMade g (slice_set sources j s) x j) (sym grown)
     (subst (λ x. SelectedMade g (slice_set sources j x) (with_either rs a b) j) (sym is) whole)
@@ -205,6 +207,7 @@ selected-begun g rs sources count place c none e at =
     record {
       fit = λ k d low. absurd (omega arith);
       many = c.many ∙ e;
+      few = omega (arith, c.many);
       made = λ n d from below. absurd (omega (arith, c.many));
       left = λ n d before below. subst (λ x. Says g (early_bounds g 0) x (slice_index_or sources n d) (λ t. selection g t n)) (sym empty) (c.says n d (omega arith));
     }

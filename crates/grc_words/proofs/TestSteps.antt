@@ -4,7 +4,7 @@ use Rattle.std.specs.List.{list_any}
 use Rattle.std.specs.Prelude.{MatchOption, Contains}
 use Rattle.std.proofs.lemmas.Bool.{lt-ltb, eqb-true, and_parts, cases_Bool}
 use Rattle.std.proofs.Common.{drop-cons}
-use Rattle.std.proofs.lemmas.List.{length-map, take-take, take-map, map-append, take_at, drop_at, drop-drop, drop-take, drop-map}
+use Rattle.std.proofs.lemmas.List.{length-map, length_push, take-take, take-map, map-append, take_at, drop_at, drop-drop, drop-take, drop-map}
 use Rattle.est_base.specs.declared.indices.WireId.{WireId}
 use Rattle.est_kernel.specs.Reactions.{is_given}
 use Rattle.est_kernel.specs.Terms.{Expression, Tick, Sig, Not, And, Or}
@@ -29,6 +29,7 @@ use Rattle.grc_words.specs.Building.{Says, Extends, RowsFit, new_source, with_bo
 use Rattle.grc_words.specs.Occasions.{Occasion, FalseOffWires}
 use Rattle.grc_words.specs.Testing.{TestMade, SignalSaid, wire_source}
 use Rattle.grc_words.specs.WordLaws.{late_bounds}
+use Rattle.grc_words.proofs.RowCounts.{both-few, either-few}
 use Rattle.grc_words.proofs.Saying.{says-more, extends-refl, extends-trans, makes-not, makes-both, makes-either, grows-not, grows-both, grows-either, fits-grown}
 
 layer-is : (j l : Layer) → same_layer j l ≡ true → j ≡ l
@@ -124,6 +125,7 @@ pub test-tick : (g : Graph) (signals : List bindings.Binding) (e : Expression) (
     → TestMade g signals e place rs rs (record { source = sources.Const true; after = place })
 test-tick g signals e place rs f is = subst (λ x. TestMade g signals x place rs rs (record { source = sources.Const true; after = place })) (sym is) (record {
   extends = extends-refl (late_bounds g 0) rs f;
+  few = omega arith;
   after = omega arith;
   fits = refl;
   says = λ B h. record { fits = refl; value = λ t off. refl };
@@ -136,6 +138,7 @@ test-signal g signals e s place d x rs f is room said =
     let low : place < length signals = omega (arith, ap (λ y. length (signals_in y)) is) in
     subst (λ y. TestMade g signals y place rs rs (record { source = x; after = place + 1 })) (sym is) (record {
       extends = extends-refl (late_bounds g 0) rs f;
+      few = omega arith;
       after = refl;
       fits = (said rs).fits;
       says = λ B h.
@@ -155,6 +158,7 @@ test-not g signals e a place old mid new made s is m grown fresh =
     let grows = grows-not b mid made.source m.extends.fit m.fits in
     let done : TestMade g signals (Not a) place old (mid ++ row ∷ []) (record { source = new_source mid; after = made.after }) = record {
         extends = extends-trans b old mid (mid ++ row ∷ []) m.extends grows.extends;
+        few = omega (arith, m.few, length_push mid row);
         after = m.after;
         fits = grows.fits;
         says = λ B h. (makes-not g b mid made.source _ m.extends.fit (m.says B h)).says;
@@ -175,6 +179,7 @@ test-and g signals e a b place old one two new x y s is m k grown fresh =
     let many = length-append (signals_in a) (signals_in b) in
     let done : TestMade g signals (And a b) place old last (record { source = both_source two x.source y.source; after = y.after }) = record {
         extends = extends-trans bounds old two last (extends-trans bounds old one two m.extends k.extends) grows.extends;
+        few = omega (arith, m.few, k.few, both-few two x.source y.source);
         after = omega (arith, m.after, k.after);
         fits = grows.fits;
         says = λ B h.
@@ -199,6 +204,7 @@ test-or g signals e a b place old one two new x y s is m k grown fresh =
     let many = length-append (signals_in a) (signals_in b) in
     let done : TestMade g signals (Or a b) place old last (record { source = either_source two x.source y.source; after = y.after }) = record {
         extends = extends-trans bounds old two last (extends-trans bounds old one two m.extends k.extends) grows.extends;
+        few = omega (arith, m.few, k.few, either-few two x.source y.source);
         after = omega (arith, m.after, k.after);
         fits = grows.fits;
         says = λ B h.

@@ -1,9 +1,9 @@
 -- A table that was made part by part is that of its graph.
 use Rattle.std.proofs.Common.{◌≡◌, ℕ, ◌+◌, ◌-◌, ◌<◌, ◌≤◌, zero, suc, Bool, true, false, ◌||◌, ◌&&◌, ◌==◌, nat_lt, min, List, [], ◌∷◌, ◌++◌, length, map, drop, slice_index_or, refl, sym, ap, ◌∙◌, subst, arith, length-append, IsTrue, inl, inr}
 use Rattle.std.specs.Prelude.{All, Contains, if◌then◌else◌}
-use Rattle.std.specs.List.{prefix_len, range_with_len}
+use Rattle.std.specs.List.{prefix_len, range_with_len, sum_by}
 use Rattle.std.proofs.lemmas.Bool.{cases_lt, cases_Bool, false≢true, lt-ltb, ltb-true, and_parts}
-use Rattle.std.proofs.lemmas.List.{length-map, get_or-map, get_or_append_left, ext_get_or}
+use Rattle.std.proofs.lemmas.List.{length-map, get_or-map, get_or_append_left, ext_get_or, take_all}
 use Rattle.std.proofs.lemmas.List.Elements.{All-head, All-tail}
 use Rattle.std.proofs.lemmas.List.FromFn.{get_or-map-range_with_len, length-map-range_with_len}
 use Rattle.std.proofs.lemmas.List.Sums.{prefix_len-le-length}
@@ -36,6 +36,7 @@ use Rattle.grc_words.specs.EndLists.{EndsFound, OutputsSaid, PausedMade, is_no_e
 use Rattle.grc_words.specs.Holdings.{HoldingsMade}
 use Rattle.grc_words.specs.Occasions.{Occasion, FalseOffWires, state_in}
 use Rattle.grc_words.specs.Rows.{source_fits, row_fits}
+use Rattle.grc_words.specs.Sizes.{instance_rows, rows_at_most}
 use Rattle.grc_words.specs.WordLaws.{WordsFit, AreWordsOf, early_bounds, late_bounds, value_of, selected_source, first_end, ends_upto, any_from}
 use Rattle.grc_words.proofs.EndWords.{upto-by-ends}
 use Rattle.grc_words.proofs.Holding.{holds_at-row, behind-last, holds-none}
@@ -200,3 +201,9 @@ words-are g w m =
       outputs = λ t off. outputs-of g w m t off;
       paused = λ t off. m.paused.says.value t off;
     }
+
+pub rows-few : (g : Graph) (w : Words) → Made g w → length w.rows.items ≤ rows_at_most g
+rows-few g w m =
+    let many = length-map g.instances.list.items instance_of in
+    let all = ap (sum_by (instance_rows g)) (take_all (length g.instances.list.items) (instances_of g) (omega arith)) in
+    omega (arith, m.selected.few, m.selected.many, m.holdings.few, m.paused.few)

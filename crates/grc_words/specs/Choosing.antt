@@ -1,5 +1,5 @@
 -- Inner: what is made for the words on selected pauses.
-use Rattle.std.specs.Prelude.{◌≡◌, ℕ, ◌<◌, ◌≤◌, false, List, length, slice_index_or, IsTrue}
+use Rattle.std.specs.Prelude.{◌≡◌, ℕ, ◌+◌, ◌<◌, ◌≤◌, false, List, length, slice_index_or, IsTrue}
 use Rattle.est_kernel.specs.Plain.{program_of}
 use Rattle.est_kernel.specs.Preorder.{statement_count}
 use Rattle.grc_graph.specs.declared.graph.Graph.{Graph}
@@ -27,6 +27,7 @@ pub record LeavesChosen (g : Graph) (count : ℕ) (sources : List Source) : Type
 pub record SelectedMade (g : Graph) (sources : List Source) (rows : List Row) (from : ℕ) : Type 0 where
   pub fit : RowsFit (early_bounds g 0) rows
   pub many : length sources ≡ statement_count (program_of g.program).body
+  pub few : length rows + from ≤ length sources
   pub made : (n : ℕ) (d : Source) → from ≤ n → n < length sources
       → Says g (early_bounds g 0) rows (slice_index_or sources n d)
       (λ t. holds (selection g t) (row_at (program_rows (program_of g.program)) n).statement n)

@@ -1,5 +1,5 @@
 -- Inner: where the ends of an instance stand among the wires, and what is said of what an instant shows.
-use Rattle.std.specs.Prelude.{◌≡◌, ℕ, ◌+◌, ◌<◌, ◌||◌, Bool, true, not, ◌==◌, List, length, drop, slice_index_or}
+use Rattle.std.specs.Prelude.{◌≡◌, ℕ, ◌+◌, ◌<◌, ◌≤◌, ◌||◌, Bool, true, not, ◌==◌, List, length, drop, slice_index_or}
 use Rattle.std.specs.List.{prefix_len}
 use Rattle.est_base.specs.declared.indices.WireId.{WireId}
 use Rattle.est_kernel.specs.Plain.{program_of}
@@ -35,4 +35,5 @@ pub record OutputsSaid (g : Graph) (count : ℕ) (outputs : List Source) : Type 
 -- a source says that the program pauses
 pub record PausedMade (g : Graph) (old new : List Row) (paused : Source) : Type 0 where
   pub extends : Extends (late_bounds g 0) old new
+  pub few : length new ≤ length old + 1
   pub says : Says g (late_bounds g 0) new paused (λ t. t.valuation (End 0 Resumed 1) || t.valuation (End 0 (Started 0) 1))

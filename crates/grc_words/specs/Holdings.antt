@@ -1,5 +1,6 @@
 -- Inner: what is made for the words on parallels and suspensions.
-use Rattle.std.specs.Prelude.{◌≡◌, ℕ, ◌<◌, ◌≤◌, Bool, true, false, Option, Some, None, List, length, map, slice_index_or, Contains}
+use Rattle.std.specs.Prelude.{◌≡◌, ℕ, ◌+◌, ◌<◌, ◌≤◌, Bool, true, false, Option, Some, None, List, length, map, take, slice_index_or, Contains}
+use Rattle.std.specs.List.{sum_by}
 use Rattle.est_base.specs.declared.indices.WireId.{WireId}
 use Rattle.est_kernel.specs.Plain.{program_of}
 use Rattle.est_kernel.specs.Preorder.{statement_count}
@@ -23,6 +24,7 @@ use Rattle.grc_words.specs.declared.table.Row.{Row}
 use Rattle.grc_words.specs.Building.{Says, Extends}
 use Rattle.grc_words.specs.Enclosures.{Readings, around, kept_of, held_of, suspends}
 use Rattle.grc_words.specs.Occasions.{Occasion}
+use Rattle.grc_words.specs.Sizes.{statement_row, test_of, operators, instance_rows}
 use Rattle.grc_words.specs.Testing.{wire_source}
 use Rattle.grc_words.specs.WordLaws.{late_bounds}
 use Rattle.grc_graph.specs.Scopes.{program_scope}
@@ -44,10 +46,6 @@ readings g t = record {
   body = (program_of g.program).body;
 }
 
--- a statement with its number
-abbrev pub statement_row : Graph → ℕ → listed_rows.Row
-statement_row g c = listed_rows.row_at (listed_rows.program_rows (program_of g.program)) c
-
 pub record StatementRead (g : Graph) (c : ℕ) (s : Listed) : Type 0 where
   pub low : c < statement_count (program_of g.program).body
   pub same : s ≡ listed_rows.listed_row (statement_row g c)
@@ -60,6 +58,7 @@ pub record IsLive (g : Graph) (i : ℕ) (x : Instance) : Type 0 where
 -- for each of so many instances the sources say that it is kept, and that it is held
 pub record HoldingsMade (g : Graph) (old new : List Row) (kept held : List Source) (count : ℕ) : Type 0 where
   pub extends : Extends (late_bounds g 0) old new
+  pub few : length new ≤ length old + sum_by (instance_rows g) (take count (instances_of g))
   pub kept_all : length kept ≡ count
   pub held_all : length held ≡ count
   pub kept_says : (i : ℕ) (d : Source) → i < count → Says g (late_bounds g 0) new (slice_index_or kept i d)
@@ -74,6 +73,7 @@ held_around r (Some n) l = held_of r n (layer_above n l)
 
 pub record AboveMade (g : Graph) (x : Instance) (old new : List Row) (kept held : Source) : Type 0 where
   pub extends : Extends (late_bounds g 0) old new
+  pub few : length new ≤ length old + 1
   pub kept_says : Says g (late_bounds g 0) new kept (λ t. kept_of (readings g t) x.path x.layer)
   pub held_says : Says g (late_bounds g 0) new held (λ t. held_around (readings g t) (around (statement_row g x.path).entry) x.layer)
 
@@ -92,22 +92,13 @@ LastsSaid near (Trap p) n l x = x ≡ sources.Const true
 LastsSaid near (Local s p) n l x = x ≡ sources.Const true
 LastsSaid near (Awake e p) n l x = x ≡ sources.Const true
 
+-- rows for a suspension, and none for other statements
+abbrev pub OwnFew : Option Expression → (old new : List Row) → Source → Type 0
+OwnFew None old new own = (length new ≤ length old) × (own ≡ sources.Const false)
+OwnFew (Some e) old new own = length new ≤ length old + operators e + 1
+
 pub record OwnMade (g : Graph) (x : Instance) (old new : List Row) (own : Source) : Type 0 where
   pub extends : Extends (late_bounds g 0) old new
+  pub few : OwnFew (test_of (statement_row g x.path).statement) old new own
   pub says : Says g (late_bounds g 0) new own
       (λ t. suspends (is_given t.event) t.valuation (statement_row g x.path).scope (statement_row g x.path).statement x.path x.layer)
-
--- the test of a suspension
-abbrev pub test_of : Term → Option Expression
-test_of Nothing = None
-test_of Pause = None
-test_of (Emit s) = None
-test_of (Exit k) = None
-test_of (Present e p q) = None
-test_of (Suspend e p) = Some e
-test_of (Seq p q) = None
-test_of (Loop at p) = None
-test_of (Par p q) = None
-test_of (Trap p) = None
-test_of (Local s p) = None
-test_of (Awake e p) = None

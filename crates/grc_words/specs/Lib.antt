@@ -7,5 +7,6 @@ pub mod Choosing
 pub mod PartKinds
 pub mod LeafLists
 pub mod Testing
+pub mod Sizes
 pub mod Holdings
 pub mod EndLists

@@ -1,5 +1,5 @@
 -- Inner: tests as sources.
-use Rattle.std.specs.Prelude.{◌≡◌, ℕ, ◌+◌, Bool, true, false, nat_lt, if◌then◌else◌, List, length, map, take, drop, Option, Some, None, IsTrue}
+use Rattle.std.specs.Prelude.{◌≡◌, ℕ, ◌+◌, ◌≤◌, Bool, true, false, nat_lt, if◌then◌else◌, List, length, map, take, drop, Option, Some, None, IsTrue}
 use Rattle.est_base.specs.declared.indices.SigId.{SigId}
 use Rattle.est_base.specs.declared.indices.WireId.{WireId}
 use Rattle.est_kernel.specs.Reactions.{is_given}
@@ -19,6 +19,7 @@ use Rattle.grc_words.specs.declared.tests_of.Tested.{Tested}
 use Rattle.grc_words.specs.Building.{Says, Extends, rows_below}
 use Rattle.grc_words.specs.Rows.{source_fits}
 use Rattle.grc_words.specs.Occasions.{Occasion}
+use Rattle.grc_words.specs.Sizes.{operators}
 use Rattle.grc_words.specs.WordLaws.{late_bounds}
 
 -- what says that the event gives a signal
@@ -39,6 +40,7 @@ SignalSaid g s b x = (rows : List Row)
 -- of its signals are of.
 pub record TestMade (g : Graph) (signals : List bindings.Binding) (e : Expression) (place : ℕ) (old new : List Row) (made : Tested) : Type 0 where
   pub extends : Extends (late_bounds g 0) old new
+  pub few : length new ≤ length old + operators e
   pub after : made.after ≡ place + length (signals_in e)
   pub fits : IsTrue (source_fits (rows_below (late_bounds g 0) (length new)) made.source)
   pub says : (B : Scope) → map binding_of (take (length (signals_in e)) (drop place signals)) ≡ map B (signals_in e)

@@ -13,6 +13,7 @@ ghost use Rattle.grc_graph.specs.SelectionTrees.{body_tree, body_leaves};
 ghost use Rattle.grc_graph.specs.TreeForms.{node_of};
 ghost use Rattle.grc_words.specs.Building.{RowsFit};
 ghost use Rattle.grc_words.specs.EndLists.{EndsFound, OutputsSaid, PausedMade};
+ghost use Rattle.grc_words.specs.Sizes.{rows_at_most};
 ghost use Rattle.grc_words.specs.WordLaws.{AreWordsOf, late_bounds};
 
 use crate::building::either;
@@ -36,7 +37,8 @@ pub fn words(alloc: Global, graph: &Graph, tree: &SelTree) -> Result<Words, NoMe
     requires few { length graph.now.wires.items ≤ WIRES }
     requires tree { map node_of tree.now.nodes.items ≡ body_tree (term_of graph.now.program.body) }
     requires leaves { length graph.now.next.items ≡ length (body_leaves (term_of graph.now.program.body)) }
-    ensures { IfOk result (λ words. AreWordsOf graph.now words) }
+    ensures words { IfOk result (λ words. AreWordsOf graph.now words) }
+    ensures size { IfOk result (λ words. length words.rows.items ≤ rows_at_most graph.now) }
 {
     let program = graph.program();
     let statements = list_statements(alloc, program)?;

@@ -10,7 +10,8 @@ ghost use Rattle.grc_graph.specs.Statements.{program_listed};
 ghost use Rattle.grc_graph.specs.StatementViews.{view_of, entry_view};
 ghost use Rattle.grc_words.specs.Building.{RowsFit};
 ghost use Rattle.grc_words.specs.Enclosures.{around};
-ghost use Rattle.grc_words.specs.Holdings.{AreListed, IsLive, AboveMade, LastsSaid, OwnMade, HoldingsMade, StatementRead, test_of};
+ghost use Rattle.grc_words.specs.Holdings.{AreListed, IsLive, AboveMade, LastsSaid, OwnMade, HoldingsMade, StatementRead};
+ghost use Rattle.grc_words.specs.Sizes.{test_of};
 ghost use Rattle.grc_words.specs.WordLaws.{late_bounds};
 
 use crate::building::{both, either};

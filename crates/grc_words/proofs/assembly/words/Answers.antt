@@ -8,7 +8,7 @@ use Rattle.grc_graph.specs.Statements.{program_listed}
 use Rattle.grc_graph.proofs.RowReads.{length-statements}
 use Rattle.grc_words.specs.Choosing.{SelectedMade}
 use Rattle.grc_words.specs.declared.table.Words.{Words}
-use Rattle.grc_words.proofs.Whole.{words-are}
+use Rattle.grc_words.proofs.Whole.{Made, words-are, rows-few}
 use Rattle.grc_words.proofs.assembly.words.Goals as goal
 
 pub leaf_sources-requires-clause-count : goal.leaf_sources-requires-clause-count
@@ -35,7 +35,7 @@ returns c =
         omega (arith, c.in_ok-select_parts.ensures.many, c.in_ok-selected.ensures.many, c.in_ok-selected.selected.ok.0, c.len.ensures,
           c.in_ok-statements.statements.ok.0, count) in
     let whole = with_items_is c.in_ok-selected.selected c.select_parts.new.sources many in
-    words-are g w (record {
+    let made : Made g w = record {
       kernel = trees_are_kernels_lem c.args.graph.now.program.body;
       instances = c.requires.instances;
       wires = c.requires.wires;
@@ -47,4 +47,5 @@ returns c =
       paused = c.in_ok-paused.ensures;
       ends = c.in_ok-ends.ensures;
       outputs = c.in_ok-outputs.ensures;
-    })
+    } in
+    record { words = words-are g w made; size = rows-few g w made }

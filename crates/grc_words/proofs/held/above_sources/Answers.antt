@@ -18,7 +18,8 @@ use Rattle.grc_graph.specs.StatementViews.{view_of, entry_view}
 use Rattle.grc_graph.proofs.RowReads.{length-statements}
 use Rattle.grc_words.specs.Building.{with_both, both_source}
 use Rattle.grc_words.specs.Enclosures.{around}
-use Rattle.grc_words.specs.Holdings.{AreListed, IsLive, statement_row, LastsSaid, StatementRead}
+use Rattle.grc_words.specs.Holdings.{AreListed, IsLive, LastsSaid, StatementRead}
+use Rattle.grc_words.specs.Sizes.{statement_row}
 use Rattle.grc_words.proofs.Beside.{LiveAround, row-around}
 use Rattle.grc_words.proofs.HoldingSteps.{above-none, above-some}
 use Rattle.grc_graph.specs.WireTables.{IsNumberOf}

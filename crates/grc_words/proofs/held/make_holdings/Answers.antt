@@ -1,5 +1,5 @@
 use Rattle.std.proofs.Common.{◌≡◌, ℕ, ◌+◌, ◌<◌, List, [], ◌∷◌, ◌++◌, length, map, slice_index_or, refl, sym, ap, ◌∙◌, subst, arith}
-use Rattle.std.proofs.lemmas.List.{get_or-map}
+use Rattle.std.proofs.lemmas.List.{get_or-map, length-map}
 use Rattle.est_kernel.specs.Plain.{program_of, term_of}
 use Rattle.est_kernel.specs.Preorder.{statement_count}
 use Rattle.est_kernel.proofs.ResidualLaws.{trees_are_kernels_lem}
@@ -71,7 +71,8 @@ loop-i-preserved c =
     let held = c.loop-i.made.held.items in
     let step = holdings-step g (instance_of x) old c.loop-i.rows.items c.above_sources.new.rows.items c.own_source.new.rows.items c.both.new.rows.items
         c.either.new.rows.items kept held i c.in_ok-above.above.kept c.in_ok-above.above.held c.in_ok-own.own c.in_ok-kept_own.kept_own c.in_ok-held.held
-        kernel live.within (own-layer (program_of g.program) (instance_of x).path (instance_of x).layer live) (reads g i x low c.index-instance.ensures)
+        kernel live.within (own-layer (program_of g.program) (instance_of x).path (instance_of x).layer live)
+        (omega (arith, low, length-map g.instances.list.items instance_of)) (reads g i x low c.index-instance.ensures)
         c.loop-i.invariant c.in_ok-above.ensures c.in_ok-own.ensures c.in_ok-kept_own.ensures.rows c.in_ok-kept_own.ensures.source
         c.in_ok-held.ensures.rows c.in_ok-held.ensures.source in
     subst (λ ks. HoldingsMade g old c.either.new.rows.items ks c.push-in-loop-i.new.self.items (i + 1)) (sym c.in_ok-push.ensures.items)
