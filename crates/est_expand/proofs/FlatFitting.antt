@@ -1,8 +1,9 @@
 -- Inner: what a walk gives keeps what a flat program keeps.
-use Rattle.std.proofs.Common.{◌≡◌, ℕ, zero, suc, ◌+◌, ◌-◌, ◌<◌, ◌≤◌, ◌==◌, ◌||◌, Bool, true, false, cond, nat_lt, nat_le, List, [], ◌∷◌, ◌++◌, map, length, refl, ap, sym, subst, ◌∙◌, Option, Some, None, Result, Ok, Err, IsTrue, arith, length-append, add-one}
+use Rattle.std.proofs.Common.{◌≡◌, ℕ, zero, suc, ◌+◌, ◌-◌, ◌<◌, ◌≤◌, ◌==◌, ◌||◌, Bool, true, false, cond, nat_lt, nat_le, List, [], ◌∷◌, ◌++◌, map, length, refl, ap, sym, subst, ◌∙◌, Option, Some, None, Result, Ok, Err, IsTrue, arith, length-append, append_assoc, add-one}
 use Rattle.std.specs.Prelude.{⊤, IfOk, if◌then◌else◌}
 use Rattle.std.specs.Option.{option_map, option_or}
 use Rattle.std.proofs.lemmas.Result.{IfOk-weaker}
+use Rattle.std.proofs.lemmas.List.{append-nil}
 use Rattle.std.proofs.lemmas.Bool.{eq-eqb, ltb-true, ltb-false, leb-true, leb-false}
 use Rattle.est_base.specs.declared.bounds.TheConstants.Limits.{STATEMENTS, SIGNALS}
 use Rattle.est_base.specs.declared.place.Span.{Span}
@@ -174,9 +175,14 @@ pub record Begun (seen : ℕ) (met : Met) : Type 0 where
   pub shown : seen ≤ length met.signals
   pub few : length met.signals + met.added ≤ SIGNALS
 
+-- the first list begins the second one
+abbrev pub Begins : List (List ℕ) → List (List ℕ) → Type 0
+Begins names all = (more : List (List ℕ)) × (all ≡ names ++ more)
+
 -- Between what was met before and after: signals are only added, so many are announced, and what is found is in its place
 -- in every program with at least the signals that have been met.
 pub record Kept (met met' : Met) (new : ℕ) (InPlace : ℕ → Type 0) : Type 0 where
+  pub begins : Begins met.signals met'.signals
   pub grows : length met.signals ≤ length met'.signals
   pub added : met'.added ≡ met.added + new
   pub few : length met'.signals + met'.added ≤ SIGNALS
@@ -186,10 +192,11 @@ begun_after : (seen : ℕ) (met met' : Met) (new : ℕ) (F : ℕ → Type 0) →
 begun_after seen met met' new F begun kept = record { shown = omega (arith, begun.shown, kept.grows); few = kept.few }
 
 nothing_met : (seen : ℕ) (met : Met) (F : ℕ → Type 0) → Begun seen met → ((all : ℕ) → F all) → Kept met met 0 F
-nothing_met seen met F begun is = record { grows = omega arith; added = omega arith; few = begun.few; in_place = λ all low. is all }
+nothing_met seen met F begun is = record { begins = ([], sym (append-nil met.signals)); grows = omega arith; added = omega arith; few = begun.few; in_place = λ all low. is all }
 
 both : (met met' met'' : Met) (n m : ℕ) (F G : ℕ → Type 0) → Kept met met' n F → Kept met' met'' m G → Kept met met'' (n + m) (λ all. F all × G all)
 both met met' met'' n m F G f g = record {
+  begins = (f.begins.0 ++ g.begins.0, g.begins.1 ∙ ap (λ l. l ++ g.begins.0) f.begins.1 ∙ append_assoc met.signals f.begins.0 g.begins.0);
   grows = omega (arith, f.grows, g.grows);
   added = omega (arith, f.added, g.added);
   few = g.few;
@@ -198,6 +205,7 @@ both met met' met'' n m F G f g = record {
 
 kept_as : (met met' : Met) (n m : ℕ) (F G : ℕ → Type 0) → Kept met met' n F → n ≡ m → ((all : ℕ) → F all → G all) → Kept met met' m G
 kept_as met met' n m F G f same as_ = record {
+  begins = f.begins;
   grows = f.grows;
   added = omega (arith, f.added, same);
   few = f.few;
@@ -209,7 +217,7 @@ meet_added-IfOk seen met begun =
     let r : Result (Unit {0} × Met) Fault = Ok (tt, record met { added = met.added + 1 }) in
     if-IfOk (nat_lt (length met.signals + met.added) SIGNALS) r TooManySignals (λ d. Kept met d.1 1 (λ all. ⊤)) (λ low.
     let few = ltb-true (length met.signals + met.added) SIGNALS low in
-    record { grows = omega arith; added = refl; few = omega (arith, few); in_place = λ all _. tt })
+    record { begins = ([], sym (append-nil met.signals)); grows = omega arith; added = refl; few = omega (arith, few); in_place = λ all _. tt })
 
 meet_delay-IfOk : (seen : ℕ) (met : Met) (delay : Delay) → Begun seen met → IfOk (meet_delay delay met) (λ d. Kept met d.1 (adds delay) (λ all. ⊤))
 meet_delay-IfOk seen met (Plain event) begun = nothing_met seen met (λ all. ⊤) begun (λ all. tt)
@@ -237,6 +245,7 @@ meet_signals-IfOk inputs seen met names begun =
     let few = leb-true (length met.signals + length names + met.added) SIGNALS low in
     let all_of = length-append met.signals names in
     record {
+      begins = (names, refl);
       grows = omega (arith, all_of);
       added = omega arith;
       few = omega (arith, few, all_of);
@@ -416,6 +425,7 @@ module _ (inputs seen : ℕ) where
       let begun' : Begun seen d.1 = record { shown = omega (arith, begun.shown, ap length same.0); few = omega (arith, begun.few, ap length same.0, same.1) } in
       IfOk-weaker (row modules inputs (flattening modules inputs room) around at form d.1) (RowFits modules (flattening modules inputs room) (flattening-IfOk modules room) place d.1) _
       (λ e kept. record {
+        begins = (kept.begins.0, kept.begins.1 ∙ ap (λ l. l ++ kept.begins.0) same.0);
         grows = omega (arith, kept.grows, ap length same.0);
         added = omega (arith, kept.added, same.1);
         few = kept.few;

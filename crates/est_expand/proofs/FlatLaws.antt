@@ -1,5 +1,5 @@
 -- Inner: the flat form of a program keeps what a flat program keeps.
-use Rattle.std.proofs.Common.{◌≡◌, ℕ, ◌+◌, ◌<◌, ◌≤◌, ◌||◌, ◌&&◌, Bool, true, false, nat_lt, List, [], ◌∷◌, ◌++◌, map, length, refl, ap, sym, subst, ◌∙◌, Option, Some, None, Result, Ok, Err, arith, length-append}
+use Rattle.std.proofs.Common.{◌≡◌, ℕ, ◌+◌, ◌<◌, ◌≤◌, ◌||◌, ◌&&◌, Bool, true, false, nat_lt, List, [], ◌∷◌, ◌++◌, map, length, refl, ap, sym, subst, ◌∙◌, Option, Some, None, Result, Ok, Err, arith, length-append, take, IsTrue}
 use Rattle.std.specs.Prelude.{All, IfOk, flat_map, nat_le, if◌then◌else◌}
 use Rattle.std.specs.Option.{option_map_or}
 use Rattle.std.proofs.lemmas.Bool.{lt-ltb, leb-true}
@@ -7,11 +7,13 @@ use Rattle.std.proofs.lemmas.Result.{IfOk-weaker, IfOk-at_ok}
 use Rattle.est_ast.specs.declared.flat.Flat.{Flat as CodeFlat}
 use Rattle.est_ast.specs.FlatTrees as flat
 use Rattle.est_ast.specs.FlatViews.{flat_of}
-use Rattle.std.proofs.lemmas.List.{map-append}
+use Rattle.std.proofs.Math.Seq.{take-length}
+use Rattle.std.proofs.lemmas.List.{map-append, take-append-le}
 use Rattle.std.proofs.lemmas.List.Elements.{All-append, All-nil, All-cons, All-map}
 use Rattle.std.proofs.lemmas.List.Folds.{list_any-append}
 use Rattle.est_base.specs.declared.bounds.TheConstants.Limits.{SIGNALS, DEPTH}
-use Rattle.est_base.specs.Names.{is_same_name}
+use Rattle.est_base.specs.Distinct.{all_differ}
+use Rattle.est_base.specs.Names.{is_name, is_same_name}
 use Rattle.est_base.specs.Relations as flat_relations
 use Rattle.est_ast.specs.declared.trees.Name.{Name}
 use Rattle.est_ast.specs.Trees.{Relation, Implies, Excludes, Decl, Input, InputOutput, Output, Relations, Module, Program}
@@ -28,7 +30,8 @@ use Rattle.est_expand.specs.Walks.{Met, beginning, meet_signals}
 use Rattle.est_expand.specs.Flattening.{around_main, related, relation_in, relations_in, main_flattening, main_walk, flat_program, flattened, flattening}
 use Rattle.est_expand.specs.FlatFits as fits
 use Rattle.est_expand.specs.NewSignals.{new_in}
-use Rattle.est_expand.specs.FlatPrograms.{seen_count, RelatesGiven, IsFlat}
+use Rattle.est_expand.specs.FlatPrograms.{seen_count, RelatesGiven, IsFlat, IsNamed, IsNamedModule}
+use Rattle.est_expand.proofs.DistinctNames.{interface-differs}
 use Rattle.est_expand.proofs.FlatFitting.{on_ok-IfOk, if-IfOk, SeesNames, sees_none, sees_more, Begun, Kept, Sees, flattening-IfOk}
 
 -- ---- the scope of the main module
@@ -244,6 +247,7 @@ module _ (main : Module) where
     interface : seen ≤ length done.1.signals
     room : length done.1.signals + new_in done.0 ≤ SIGNALS
     body : fits.Fits (length shown.inputs) seen (length done.1.signals) place done.0
+    names : take seen done.1.signals ≡ main_signals shown
 
   walked : (modules : Program) → IfOk (main_walk modules main beginning) Walked
   walked modules =
@@ -255,6 +259,9 @@ module _ (main : Module) where
         interface = omega (arith, kept.grows, all);
         room = omega (arith, kept.few, kept.added, met.added);
         body = kept.in_place (length e.1.signals) (omega arith);
+        names = ap (take seen) (kept.begins.1 ∙ ap (λ l. l ++ kept.begins.0) met.signals)
+            ∙ ap (λ n. take n (main_signals shown ++ kept.begins.0)) (sym length-shown) ∙ take-append-le (length (main_signals shown)) (main_signals shown) kept.begins.0 (omega arith)
+            ∙ take-length (main_signals shown);
       }) (flattening-IfOk (length shown.inputs) seen modules (DEPTH + 1) (around_main main) place main.body d.1 sees begun))
 
   pub flattened-fits : (modules : Program) → interface_faults main.decls ≡ [] → IfOk (flattened modules main) IsFlat
@@ -264,9 +271,22 @@ module _ (main : Module) where
         room = is.room;
         body = is.body;
         relations = relations-given (flat_map relations_in main.decls) (relations_among given [] main.decls faultless);
+        differ = ap (all_differ is_same_name) is.names ∙ interface-differs given main.decls faultless;
+      })
+
+  pub flattened-named : (modules : Program) → IsNamedModule main → IfOk (flattened modules main) IsNamed
+  flattened-named modules named =
+      on_ok-IfOk (main_walk modules main beginning) _ Walked IsNamed (walked modules) (λ done is. record {
+        name = named.name;
+        names = subst (All (λ n. IsTrue (is_name n))) (sym is.names) named.names;
       })
 
 -- so an answer that is the flat form keeps it too
+pub answer-named : (result : Result CodeFlat ExpandFault) (modules : Program) (main : Module) → IsNamedModule main
+    → Answers flat_of result (flattened modules main) → IfOk result (λ flat. IsNamed (flat_of flat))
+answer-named (Ok flat) modules main named is = IfOk-at_ok IsNamed is (flattened-named main modules named)
+answer-named (Err error) modules main named is = tt
+
 pub answer-fits : (result : Result CodeFlat ExpandFault) (modules : Program) (main : Module) → interface_faults main.decls ≡ []
     → Answers flat_of result (flattened modules main) → IfOk result (λ flat. IsFlat (flat_of flat))
 answer-fits (Ok flat) modules main faultless is = IfOk-at_ok IsFlat is (flattened-fits main modules faultless)

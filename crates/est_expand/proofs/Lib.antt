@@ -1,3 +1,4 @@
+pub mod DistinctNames
 pub mod FlatLaws
 pub mod FlatFitting
 pub mod RowForms

@@ -1,8 +1,12 @@
 -- To believe: what a flat program keeps.
-use Rattle.std.specs.Prelude.{ℕ, ◌+◌, ◌<◌, ◌≤◌, nat_lt, All, length}
+use Rattle.std.specs.Prelude.{ℕ, ◌+◌, ◌<◌, ◌≤◌, nat_lt, All, IsTrue, length, take}
 use Rattle.est_base.specs.declared.bounds.TheConstants.Limits.{SIGNALS}
+use Rattle.est_base.specs.Distinct.{all_differ}
+use Rattle.est_base.specs.Names.{is_name, is_same_name}
 use Rattle.est_base.specs.Relations.{Relation, Implies, Excludes}
 use Rattle.est_ast.specs.FlatTrees.{Flat}
+use Rattle.est_ast.specs.Trees.{Module}
+use Rattle.est_expand.specs.Scopes.{main_interface, main_signals}
 use Rattle.est_expand.specs.FlatFits.{Scope, Fits}
 use Rattle.est_expand.specs.NewSignals.{new_in}
 
@@ -20,9 +24,20 @@ RelatesGiven given (Implies a b) = (a < given) × (b < given)
 RelatesGiven given (Excludes list) = All (λ s. s < given) list
 
 -- The body's exits and signals are in their places, and its relations speak of given signals. With the new signals of
--- its expansion it has no more signals than a program may have.
+-- its expansion it has no more signals than a program may have. No two signals of the interface have one name.
 pub record IsFlat (flat : Flat) : Type 0 where
   pub interface : seen_count flat ≤ length flat.signals
   pub room : length flat.signals + new_in flat.body ≤ SIGNALS
   pub body : Fits flat.inputs (seen_count flat) (length flat.signals) (whole_scope flat) flat.body
   pub relations : All (RelatesGiven (flat.inputs + flat.both)) flat.relations
+  pub differ : IsTrue (all_differ is_same_name (take (seen_count flat) flat.signals))
+
+-- the names of the program and of its interface can be written
+pub record IsNamed (flat : Flat) : Type 0 where
+  pub name : IsTrue (is_name flat.name)
+  pub names : All (λ n. IsTrue (is_name n)) (take (seen_count flat) flat.signals)
+
+-- the names of a main module and of its interface can
+pub record IsNamedModule (main : Module) : Type 0 where
+  pub name : IsTrue (is_name main.name.text)
+  pub names : All (λ n. IsTrue (is_name n)) (main_signals (main_interface main))

@@ -8,7 +8,7 @@ ghost use Rattle.est_ast.specs.Views.{program_of, module_of, decl_of, relation_o
 ghost use Rattle.est_names.specs.NameFaults.{module_names};
 ghost use Rattle.est_names.specs.Tables.{IsTableOf};
 ghost use Rattle.est_expand.specs.Answers.{Answers};
-ghost use Rattle.est_expand.specs.FlatPrograms.{IsFlat};
+ghost use Rattle.est_expand.specs.FlatPrograms.{IsFlat, IsNamed, IsNamedModule};
 ghost use Rattle.est_expand.specs.Flattening.{related, relation_in, relations_in, main_flattening, flat_program, flattened};
 ghost use Rattle.est_expand.specs.Scopes.{main_interface, main_signals, main_scope};
 ghost use Rattle.est_expand.specs.Views.{interface_of, met_of, Walks};
@@ -45,6 +45,8 @@ pub fn expand<'a>(
     ensures flattens { (main : PlainModule) → slice_get (program_of program.now) table.now.main ≡ Some main
         → Answers flat_of result (flattened (program_of program.now) main) }
     ensures fits { IfOk result (λ flat. IsFlat (flat_of flat)) }
+    ensures named { (main : PlainModule) → slice_get (program_of program.now) table.now.main ≡ Some main
+        → IsNamedModule main → IfOk result (λ flat. IsNamed (flat_of flat)) }
 {
     let main = &program.modules[table.main().0 as usize];
     flat_main(alloc, &program.modules, table, main)

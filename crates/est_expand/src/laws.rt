@@ -1,8 +1,9 @@
 // The laws of flattening. Each call does nothing: its contract is the law.
 
-ghost use Rattle.est_expand.specs.Laws.{FlatFormsFit};
+ghost use Rattle.est_expand.specs.Laws.{FlatFormsFit, FlatFormsAreNamed};
 
 /// The flat form of a program keeps what a flat program keeps.
 pub fn flat_forms_fit()
-    ensures { FlatFormsFit }
+    ensures fit { FlatFormsFit }
+    ensures named { FlatFormsAreNamed }
 {}
