@@ -13,6 +13,8 @@ ghost use Rattle.grc_graph.specs.SelectionTrees.{body_tree, body_leaves};
 ghost use Rattle.grc_graph.specs.TreeForms.{node_of};
 ghost use Rattle.net_ir.specs.Gates.{carried};
 ghost use Rattle.net_ir.specs.Runs.{netlist_of};
+ghost use Rattle.grc_words.specs.Sizes.{rows_at_most};
+ghost use Rattle.net_gen.specs.Costs.{gates_at_most};
 ghost use Rattle.net_gen.specs.Generated.{HasInterfaceOf, FollowsInstants, FollowsRuns};
 
 use crate::assembly::net_over;
@@ -43,6 +45,8 @@ pub fn generate(
         (map (formula_of (instances_of graph.now) (names_of graph.now)) graph.now.equations.items) order.now.list.items }
     ensures interface { IfOk result (λ net. HasInterfaceOf graph.now (netlist_of net)) }
     ensures order { IfOk result (λ net. carried net.gates.items ≡ map (λ v. v.0) order.now.list.items) }
+    ensures size { IfOk result (λ net. length net.gates.items
+        ≤ gates_at_most graph.now (rows_at_most graph.now) order.now.list.items) }
     ensures instants { IfOk result (λ net. FollowsInstants graph.now (netlist_of net)) }
     ensures runs { IfOk result (λ net. FollowsRuns graph.now (netlist_of net)) }
 {
