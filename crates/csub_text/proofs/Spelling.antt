@@ -1,0 +1,376 @@
+-- The text of a program whose expressions have one operator at most: its tokens, and that the grammar has them.
+use Rattle.std.proofs.Common.{◌≡◌, ℕ, ◌+◌, ◌<◌, ◌≤◌, zero, suc, max, Bool, true, false, List, [], ◌∷◌, ◌++◌, length, map, get_or, All, refl, sym, ap, ◌∙◌}
+use Rattle.std.proofs.Common.{subst, arith, append_assoc, Option, Some, None, IsTrue}
+use Rattle.std.specs.Prelude.{flat_map, codes}
+use Rattle.std.proofs.lemmas.List.{append-nil}
+use Rattle.est_base.specs.Names.{is_name_byte}
+use Rattle.read_rules.specs.Languages.{Empty, One as Single, Then, Led, Loop, Optional, Many}
+use Rattle.csub_text.specs.Tokens.{Kind, Static, Int, Return, Void, React, LeftParenthesis, RightParenthesis, LeftBrace}
+use Rattle.csub_text.specs.Tokens.{RightBrace, Semicolon, Equals, Zero, One, Bar, Ampersand, Bang, Named, kinds}
+use Rattle.csub_text.specs.Trees.{Expr, Name, Const, Not, And, Or, Exprs, NoExprs, MoreExprs, State, Assign, Program}
+use Rattle.csub_text.specs.Grammar as grammar
+use Rattle.csub_text.specs.Grammar.{Written, Word, Bit, Writtens, NoneWritten, MoreWritten, WrittenAssign, WrittenProgram, meant, all_meant, written_nesting, Tier}
+use Rattle.csub_text.specs.Grammar.{Disjunction, Conjunction, Negation, SpellsExpr, SpellsState, SpellsGlobal, SpellsLocal, SpellsAssign, SpellsAnswer, SpellsText}
+use Rattle.csub_text.specs.Grammar.{IsText, text_nesting, body_nesting, assign_meant, program_meant, begins_global, global_name, own_name}
+use Rattle.csub_text.specs.Written.{expr_text, parts_text, others_text, bit_text, line_end, state_line, declaration, assign_line, head_line, last_lines, program_text}
+use Rattle.csub_text.proofs.Lexing.{Says, says-then, says-lines, says-name, IsVariable, says-int, says-static, says-end, says-equals, says-head, says-return}
+use Rattle.csub_text.proofs.Lexing.{says-last, says-zero, says-one, says-bang, says-and, says-or}
+
+-- a name, a constant, or one operator on names
+abbrev pub IsPlain : Expr → Type 0
+IsPlain (Name n) = IsVariable n
+IsPlain (Const value) = Unit {0}
+IsPlain (Not (Name n)) = IsVariable n
+IsPlain (And (MoreExprs (Name m) (MoreExprs (Name n) NoExprs))) = IsVariable m × IsVariable n
+IsPlain (Or (MoreExprs (Name m) (MoreExprs (Name n) NoExprs))) = IsVariable m × IsVariable n
+IsPlain others = ⊥
+
+-- ---- tokens
+
+abbrev pub bit_kind : Bool → Kind
+bit_kind false = Zero
+bit_kind true = One
+
+abbrev mutual
+  pub expr_kinds : Expr → List Kind
+  expr_kinds (Name n) = Named n ∷ []
+  expr_kinds (Const value) = bit_kind value ∷ []
+  expr_kinds (Not e) = Bang ∷ expr_kinds e
+  expr_kinds (And parts) = parts_kinds Ampersand parts
+  expr_kinds (Or parts) = parts_kinds Bar parts
+
+  pub parts_kinds : Kind → Exprs → List Kind
+  parts_kinds mark NoExprs = []
+  parts_kinds mark (MoreExprs e others) = expr_kinds e ++ others_kinds mark others
+
+  pub others_kinds : Kind → Exprs → List Kind
+  others_kinds mark NoExprs = []
+  others_kinds mark (MoreExprs e others) = mark ∷ (expr_kinds e ++ others_kinds mark others)
+
+says-bit : (value : Bool) → Says (bit_text value) (bit_kind value ∷ [])
+says-bit false = says-zero
+says-bit true = says-one
+
+pair-text : (m n mark : List ℕ) (d : ℕ) (ds : List ℕ) → (m ++ (mark ++ (n ++ []))) ++ d ∷ ds ≡ m ++ (mark ++ (n ++ d ∷ ds))
+pair-text m n mark d ds = ap (λ x. (m ++ (mark ++ x)) ++ d ∷ ds) (append-nil n) ∙ append_assoc m (mark ++ n) (d ∷ ds) ∙ ap (λ x. m ++ x) (append_assoc mark n (d ∷ ds))
+
+-- an expression in front of a byte that no name has
+says-expr : (e : Expr) (d : ℕ) (ds : List ℕ) (ks : List Kind) → IsPlain e → is_name_byte d ≡ false → Says (d ∷ ds) ks
+    → Says (expr_text e ++ d ∷ ds) (expr_kinds e ++ ks)
+says-expr (Name n) d ds ks plain stops says = says-name n d ds ks plain stops says
+says-expr (Const value) d ds ks plain stops says = says-then (bit_text value) (d ∷ ds) (bit_kind value ∷ []) ks (says-bit value) says
+says-expr (Not (Name n)) d ds ks plain stops says = says-then (codes "!") (n ++ d ∷ ds) (Bang ∷ []) (Named n ∷ ks) says-bang (says-name n d ds ks plain stops says)
+says-expr (And (MoreExprs (Name m) (MoreExprs (Name n) NoExprs))) d ds ks plain stops says =
+    subst (λ t. Says t (Named m ∷ Ampersand ∷ Named n ∷ ks)) (sym (pair-text m n (codes " & ") d ds))
+    (says-name m 32 (38 ∷ 32 ∷ (n ++ d ∷ ds)) (Ampersand ∷ Named n ∷ ks) plain.0 refl
+    (says-then (codes " & ") (n ++ d ∷ ds) (Ampersand ∷ []) (Named n ∷ ks) says-and (says-name n d ds ks plain.1 stops says)))
+says-expr (Or (MoreExprs (Name m) (MoreExprs (Name n) NoExprs))) d ds ks plain stops says =
+    subst (λ t. Says t (Named m ∷ Bar ∷ Named n ∷ ks)) (sym (pair-text m n (codes " | ") d ds))
+    (says-name m 32 (124 ∷ 32 ∷ (n ++ d ∷ ds)) (Bar ∷ Named n ∷ ks) plain.0 refl
+    (says-then (codes " | ") (n ++ d ∷ ds) (Bar ∷ []) (Named n ∷ ks) says-or (says-name n d ds ks plain.1 stops says)))
+says-expr others d ds ks plain stops says = absurd plain
+
+abbrev pub state_kinds : State → List Kind
+state_kinds s = Static ∷ Int ∷ Named s.name ∷ Equals ∷ bit_kind s.init ∷ Semicolon ∷ []
+
+abbrev pub declaration_kinds : List ℕ → List Kind
+declaration_kinds name = Int ∷ Named name ∷ Semicolon ∷ []
+
+abbrev pub assign_kinds : Assign → List Kind
+assign_kinds a = Named a.target ∷ Equals ∷ (expr_kinds a.value ++ Semicolon ∷ [])
+
+abbrev pub head_kinds : List Kind
+head_kinds = Int ∷ React ∷ LeftParenthesis ∷ Void ∷ RightParenthesis ∷ LeftBrace ∷ []
+
+abbrev pub last_kinds : Expr → List Kind
+last_kinds answer = Return ∷ (expr_kinds answer ++ Semicolon ∷ RightBrace ∷ [])
+
+abbrev pub program_kinds : Program → List Kind
+program_kinds p =
+    flat_map state_kinds p.states ++ (flat_map declaration_kinds p.globals ++ (head_kinds
+    ++ (flat_map declaration_kinds p.locals ++ (flat_map assign_kinds p.body ++ last_kinds p.answer))))
+
+says-state : (s : State) → IsVariable s.name → Says (state_line s) (state_kinds s)
+says-state s is =
+    let last = says-then (bit_text s.init) line_end (bit_kind s.init ∷ []) (Semicolon ∷ []) (says-bit s.init) says-end in
+    let equals = says-then (codes " = ") (bit_text s.init ++ line_end) (Equals ∷ []) (bit_kind s.init ∷ Semicolon ∷ []) says-equals last in
+    says-then (codes "static int ") (s.name ++ (codes " = " ++ (bit_text s.init ++ line_end))) (Static ∷ Int ∷ []) (Named s.name ∷ Equals ∷ bit_kind s.init ∷ Semicolon ∷ []) says-static
+    (says-name s.name 32 (61 ∷ 32 ∷ (bit_text s.init ++ line_end)) (Equals ∷ bit_kind s.init ∷ Semicolon ∷ []) is refl equals)
+
+says-declaration : (name : List ℕ) → IsVariable name → Says (declaration name) (declaration_kinds name)
+says-declaration name is =
+    says-then (codes "int ") (name ++ line_end) (Int ∷ []) (Named name ∷ Semicolon ∷ []) says-int (says-name name 59 (10 ∷ []) (Semicolon ∷ []) is refl says-end)
+
+says-assign : (a : Assign) → IsVariable a.target → IsPlain a.value → Says (assign_line a) (assign_kinds a)
+says-assign a is plain =
+    let value = says-expr a.value 59 (10 ∷ []) (Semicolon ∷ []) plain refl says-end in
+    says-name a.target 32 (61 ∷ 32 ∷ (expr_text a.value ++ line_end)) (Equals ∷ (expr_kinds a.value ++ Semicolon ∷ [])) is refl
+    (says-then (codes " = ") (expr_text a.value ++ line_end) (Equals ∷ []) (expr_kinds a.value ++ Semicolon ∷ []) says-equals value)
+
+-- what holds of a program whose text is read back
+pub record IsSpelled (p : Program) : Type 0 where
+  pub states : All (λ s. IsVariable s.name) p.states
+  pub globals : All IsVariable p.globals
+  pub locals : All IsVariable p.locals
+  pub targets : All (λ a. IsVariable a.target) p.body
+  pub values : All (λ a. IsPlain a.value) p.body
+  pub answer : IsPlain p.answer
+  pub states_own : All (λ s. begins_global s.name ≡ false) p.states
+  pub globals_long : All (λ n. global_name (Named n) ≡ Some n) p.globals
+  pub locals_own : All (λ n. begins_global n ≡ false) p.locals
+
+pub says-program : (p : Program) → IsSpelled p → Says (program_text p) (program_kinds p)
+says-program p is =
+    let a = says-lines state_line state_kinds p.states (λ k d h. says-state (get_or p.states k d) (is.states k d h)) in
+    let b = says-lines declaration declaration_kinds p.globals (λ k d h. says-declaration (get_or p.globals k d) (is.globals k d h)) in
+    let c = says-lines declaration declaration_kinds p.locals (λ k d h. says-declaration (get_or p.locals k d) (is.locals k d h)) in
+    let d = says-lines assign_line assign_kinds p.body (λ k d h. says-assign (get_or p.body k d) (is.targets k d h) (is.values k d h)) in
+    let e = says-then (codes "return ") (expr_text p.answer ++ (59 ∷ 10 ∷ 125 ∷ 10 ∷ [])) (Return ∷ []) (expr_kinds p.answer ++ Semicolon ∷ RightBrace ∷ [])
+        says-return (says-expr p.answer 59 (10 ∷ 125 ∷ 10 ∷ []) (Semicolon ∷ RightBrace ∷ []) is.answer refl says-last) in
+    let text1 = last_lines p.answer in
+    let kinds1 = last_kinds p.answer in
+    let text2 = flat_map assign_line p.body ++ text1 in
+    let kinds2 = flat_map assign_kinds p.body ++ kinds1 in
+    let text3 = flat_map declaration p.locals ++ text2 in
+    let kinds3 = flat_map declaration_kinds p.locals ++ kinds2 in
+    let text4 = flat_map declaration p.globals ++ (head_line ++ text3) in
+    let kinds4 = flat_map declaration_kinds p.globals ++ (head_kinds ++ kinds3) in
+    says-then (flat_map state_line p.states) text4 (flat_map state_kinds p.states) kinds4 a
+    (says-then (flat_map declaration p.globals) (head_line ++ text3) (flat_map declaration_kinds p.globals) (head_kinds ++ kinds3) b
+    (says-then head_line text3 head_kinds kinds3 says-head
+    (says-then (flat_map declaration p.locals) text2 (flat_map declaration_kinds p.locals) kinds2 c
+    (says-then (flat_map assign_line p.body) text1 (flat_map assign_kinds p.body) kinds1 d e))))
+
+-- ---- the grammar
+
+abbrev mutual
+  pub plain_written : Expr → Written
+  plain_written (Name n) = Word n
+  plain_written (Const value) = Bit value
+  plain_written (Not e) = grammar.Not (plain_written e)
+  plain_written (And parts) = grammar.And (all_written parts)
+  plain_written (Or parts) = grammar.Or (all_written parts)
+
+  all_written : Exprs → Writtens
+  all_written NoExprs = NoneWritten
+  all_written (MoreExprs e others) = MoreWritten (plain_written e) (all_written others)
+
+mutual
+  meant-plain : (e : Expr) → meant (plain_written e) ≡ e
+  meant-plain (Name n) = refl
+  meant-plain (Const value) = refl
+  meant-plain (Not e) = ap Not (meant-plain e)
+  meant-plain (And parts) = ap And (meant-all parts)
+  meant-plain (Or parts) = ap Or (meant-all parts)
+
+  meant-all : (parts : Exprs) → all_meant (all_written parts) ≡ parts
+  meant-all NoExprs = refl
+  meant-all (MoreExprs e others) = ap (λ x. MoreExprs x (all_meant (all_written others))) (meant-plain e) ∙ ap (MoreExprs e) (meant-all others)
+
+nesting-plain : (e : Expr) → IsPlain e → written_nesting (plain_written e) ≤ 1
+nesting-plain (Name n) plain = omega arith
+nesting-plain (Const value) plain = omega arith
+nesting-plain (Not (Name n)) plain = omega arith
+nesting-plain (And (MoreExprs (Name m) (MoreExprs (Name n) NoExprs))) plain = omega arith
+nesting-plain (Or (MoreExprs (Name m) (MoreExprs (Name n) NoExprs))) plain = omega arith
+nesting-plain others plain = absurd plain
+
+one-name : (tier : Tier) (n : List ℕ) → SpellsExpr tier (Word n) (Named n ∷ [])
+one-name tier n = record { token = Named n; only = refl; passes = refl }
+
+one-bit : (value : Bool) → Single grammar.bit value (bit_kind value ∷ [])
+one-bit false = record { token = Zero; only = refl; passes = refl }
+one-bit true = record { token = One; only = refl; passes = refl }
+
+spells-plain : (e : Expr) → IsPlain e → SpellsExpr Disjunction (plain_written e) (expr_kinds e)
+spells-plain (Name n) plain = one-name Disjunction n
+spells-plain (Const value) plain = one-bit value
+spells-plain (Not (Name n)) plain = record { token = Bang; value = tt; rest = Named n ∷ []; cut = refl; passes = refl; behind = one-name Negation n }
+spells-plain (And (MoreExprs (Name m) (MoreExprs (Name n) NoExprs))) plain = record {
+  front = Named m ∷ [];
+  back = Ampersand ∷ Named n ∷ [];
+  cut = refl;
+  first = one-name Negation m;
+  second = record {
+    front = Ampersand ∷ Named n ∷ [];
+    back = [];
+    cut = refl;
+    first = record { token = Ampersand; value = tt; rest = Named n ∷ []; cut = refl; passes = refl; behind = one-name Negation n };
+    second = refl;
+  };
+}
+spells-plain (Or (MoreExprs (Name m) (MoreExprs (Name n) NoExprs))) plain = record {
+  front = Named m ∷ [];
+  back = Bar ∷ Named n ∷ [];
+  cut = refl;
+  first = one-name Conjunction m;
+  second = record {
+    front = Bar ∷ Named n ∷ [];
+    back = [];
+    cut = refl;
+    first = record { token = Bar; value = tt; rest = Named n ∷ []; cut = refl; passes = refl; behind = one-name Conjunction n };
+    second = refl;
+  };
+}
+spells-plain others plain = absurd plain
+
+abbrev written_assign : Assign → WrittenAssign
+written_assign a = record { target = a.target; value = plain_written a.value }
+
+abbrev pub written_program : Program → WrittenProgram
+written_program p = record {
+  states = p.states;
+  globals = p.globals;
+  locals = p.locals;
+  body = map written_assign p.body;
+  answer = plain_written p.answer;
+}
+
+meant-body : (body : List Assign) → map assign_meant (map written_assign body) ≡ body
+meant-body [] = refl
+meant-body (a ∷ body) = ap (λ e. record { target = a.target; value = e } ∷ map assign_meant (map written_assign body)) (meant-plain a.value) ∙ ap (λ l. a ∷ l) (meant-body body)
+
+pub meant-written : (p : Program) → program_meant (written_program p) ≡ p
+meant-written p =
+    ap (λ b. record { states = p.states; globals = p.globals; locals = p.locals; body = b; answer = meant (plain_written p.answer) }) (meant-body p.body)
+    ∙ ap (λ e. record { states = p.states; globals = p.globals; locals = p.locals; body = p.body; answer = e }) (meant-plain p.answer)
+
+nesting-body : (body : List Assign) → All (λ a. IsPlain a.value) body → body_nesting (map written_assign body) ≤ 1
+nesting-body [] all = omega arith
+nesting-body (a ∷ body) all =
+    let here = nesting-plain a.value (all 0 a (omega arith)) in
+    let rest = nesting-body body (λ k d h. all (suc k) d (omega arith)) in omega arith
+
+own-passes : (n : List ℕ) → begins_global n ≡ false → own_name (Named n) ≡ Some n
+own-passes n own = rw own refl
+
+semicolon : Single (grammar.is Semicolon) tt (Semicolon ∷ [])
+semicolon = record { token = Semicolon; only = refl; passes = refl }
+
+spells-state : (s : State) → begins_global s.name ≡ false → SpellsState s (state_kinds s)
+spells-state s own = record {
+  token = Static; value = tt; rest = Int ∷ Named s.name ∷ Equals ∷ bit_kind s.init ∷ Semicolon ∷ []; cut = refl; passes = refl;
+  behind = record {
+    token = Int; value = tt; rest = Named s.name ∷ Equals ∷ bit_kind s.init ∷ Semicolon ∷ []; cut = refl; passes = refl;
+    behind = record {
+      front = Named s.name ∷ []; back = Equals ∷ bit_kind s.init ∷ Semicolon ∷ []; cut = refl;
+      first = record { token = Named s.name; only = refl; passes = own-passes s.name own };
+      second = record {
+        token = Equals; value = tt; rest = bit_kind s.init ∷ Semicolon ∷ []; cut = refl; passes = refl;
+        behind = record { front = bit_kind s.init ∷ []; back = Semicolon ∷ []; cut = refl; first = one-bit s.init; second = semicolon };
+      };
+    };
+  };
+}
+
+spells-global : (n : List ℕ) → global_name (Named n) ≡ Some n → SpellsGlobal (Some n) (declaration_kinds n)
+spells-global n long = record {
+  token = Int; value = tt; rest = Named n ∷ Semicolon ∷ []; cut = refl; passes = refl;
+  behind = record { front = Named n ∷ []; back = Semicolon ∷ []; cut = refl; first = record { token = Named n; only = refl; passes = long }; second = semicolon };
+}
+
+spells-local : (n : List ℕ) → begins_global n ≡ false → SpellsLocal n (declaration_kinds n)
+spells-local n own = record {
+  token = Int; value = tt; rest = Named n ∷ Semicolon ∷ []; cut = refl; passes = refl;
+  behind = record {
+    front = Named n ∷ []; back = Semicolon ∷ []; cut = refl;
+    first = record { token = Named n; only = refl; passes = own-passes n own };
+    second = semicolon;
+  };
+}
+
+spells-assign : (a : Assign) → IsPlain a.value → SpellsAssign (written_assign a) (assign_kinds a)
+spells-assign a plain = record {
+  front = Named a.target ∷ []; back = Equals ∷ (expr_kinds a.value ++ Semicolon ∷ []); cut = refl;
+  first = record { token = Named a.target; only = refl; passes = refl };
+  second = record {
+    token = Equals; value = tt; rest = expr_kinds a.value ++ Semicolon ∷ []; cut = refl; passes = refl;
+    behind = record { front = expr_kinds a.value; back = Semicolon ∷ []; cut = refl; first = spells-plain a.value plain; second = semicolon };
+  };
+}
+
+-- a step for each element
+spells-many : {X Y : Type 0} (L : Y → List Kind → Type 0) (f : X → Y) (ks : X → List Kind) (xs : List X) → All (λ x. L (f x) (ks x)) xs
+    → Many L (map f xs) (flat_map ks xs)
+spells-many L f ks [] all = refl
+spells-many L f ks (x ∷ xs) all = record {
+  front = ks x; back = flat_map ks xs; cut = refl;
+  first = all 0 x (omega arith);
+  second = spells-many L f ks xs (λ k d h. all (suc k) d (omega arith));
+}
+
+spells-globals : (names : List (List ℕ)) → All (λ n. global_name (Named n) ≡ Some n) names
+    → Loop SpellsGlobal names (flat_map declaration_kinds names ++ Int ∷ React ∷ [])
+spells-globals [] all = record { token = Int; value = tt; rest = React ∷ []; cut = refl; passes = refl; behind = record { token = React; only = refl; passes = refl } }
+spells-globals (n ∷ names) all = record {
+  front = declaration_kinds n; back = flat_map declaration_kinds names ++ Int ∷ React ∷ []; cut = refl;
+  first = spells-global n (all 0 n (omega arith));
+  second = spells-globals names (λ k d h. all (suc k) d (omega arith));
+}
+
+map-itself : {X : Type 0} (xs : List X) → map (λ x. x) xs ≡ xs
+map-itself [] = refl
+map-itself (x ∷ xs) = ap (λ l. x ∷ l) (map-itself xs)
+
+pub spells-program : (p : Program) → IsSpelled p → SpellsText (written_program p) (program_kinds p)
+spells-program p is =
+    let states = subst (λ l. Many SpellsState l (flat_map state_kinds p.states)) (map-itself p.states)
+        (spells-many SpellsState (λ s. s) state_kinds p.states (λ k d h. spells-state (get_or p.states k d) (is.states_own k d h))) in
+    let locals = subst (λ l. Many SpellsLocal l (flat_map declaration_kinds p.locals)) (map-itself p.locals)
+        (spells-many SpellsLocal (λ n. n) declaration_kinds p.locals (λ k d h. spells-local (get_or p.locals k d) (is.locals_own k d h))) in
+    let body = spells-many SpellsAssign written_assign assign_kinds p.body (λ k d h. spells-assign (get_or p.body k d) (is.values k d h)) in
+    let behind = flat_map declaration_kinds p.locals ++ (flat_map assign_kinds p.body ++ last_kinds p.answer) in
+    record {
+      front = flat_map state_kinds p.states;
+      back = flat_map declaration_kinds p.globals ++ (head_kinds ++ behind);
+      cut = refl;
+      first = states;
+      second = record {
+        front = flat_map declaration_kinds p.globals ++ Int ∷ React ∷ [];
+        back = LeftParenthesis ∷ Void ∷ RightParenthesis ∷ LeftBrace ∷ behind;
+        cut = sym (append_assoc (flat_map declaration_kinds p.globals) (Int ∷ React ∷ []) (LeftParenthesis ∷ Void ∷ RightParenthesis ∷ LeftBrace ∷ behind));
+        first = spells-globals p.globals is.globals_long;
+        second = record {
+          token = LeftParenthesis; value = tt; rest = Void ∷ RightParenthesis ∷ LeftBrace ∷ behind; cut = refl; passes = refl;
+          behind = record {
+            token = Void; value = tt; rest = RightParenthesis ∷ LeftBrace ∷ behind; cut = refl; passes = refl;
+            behind = record {
+              token = RightParenthesis; value = tt; rest = LeftBrace ∷ behind; cut = refl; passes = refl;
+              behind = record {
+                token = LeftBrace; value = tt; rest = behind; cut = refl; passes = refl;
+                behind = record {
+                  front = flat_map declaration_kinds p.locals;
+                  back = flat_map assign_kinds p.body ++ last_kinds p.answer;
+                  cut = refl;
+                  first = locals;
+                  second = record {
+                    front = flat_map assign_kinds p.body;
+                    back = last_kinds p.answer;
+                    cut = refl;
+                    first = body;
+                    second = record {
+                      token = Return; value = tt; rest = expr_kinds p.answer ++ Semicolon ∷ RightBrace ∷ []; cut = refl; passes = refl;
+                      behind = record {
+                        front = expr_kinds p.answer;
+                        back = Semicolon ∷ RightBrace ∷ [];
+                        cut = refl;
+                        first = spells-plain p.answer is.answer;
+                        second = record {
+                          token = Semicolon; value = tt; rest = RightBrace ∷ []; cut = refl; passes = refl;
+                          behind = record { token = RightBrace; only = refl; passes = refl };
+                        };
+                      };
+                    };
+                  };
+                };
+              };
+            };
+          };
+        };
+      };
+    }
+
+pub nesting-written : (p : Program) → IsSpelled p → text_nesting (written_program p) ≤ 1
+nesting-written p is =
+    let body = nesting-body p.body is.values in
+    let answer = nesting-plain p.answer is.answer in omega arith

@@ -1,0 +1,8 @@
+pub mod Trees
+pub mod Views
+pub mod Tokens
+pub mod Grammar
+pub mod Names
+pub mod Texts
+pub mod Machine
+pub mod Written

@@ -1,0 +1,71 @@
+-- To believe: the machine of a program, over items. A memory has a value for each variable.
+use Rattle.std.specs.Prelude.{ℕ, Bool, true, false, not, ◌&&◌, ◌||◌, List, [], ◌∷◌, map, if◌then◌else◌}
+use Rattle.est_base.specs.Items.{Item, Event, Reset}
+use Rattle.est_base.specs.Names.{is_same_name}
+use Rattle.csub_text.specs.Trees.{Expr, Name, Const, Not, And, Or, Exprs, NoExprs, MoreExprs, State, Assign, Program}
+use Rattle.csub_text.specs.Names.{inputs_of, outputs_of}
+
+abbrev pub Memory : Type 0
+Memory = List ℕ → Bool
+
+-- a variable gets a value
+abbrev pub with_value : List ℕ → Bool → Memory → Memory
+with_value name value memory = λ other. if is_same_name other name then value else memory other
+
+-- the value of an expression
+abbrev mutual
+  pub value_of : Memory → Expr → Bool
+  value_of memory (Name name) = memory name
+  value_of memory (Const value) = value
+  value_of memory (Not e) = not (value_of memory e)
+  value_of memory (And parts) = all_of memory parts
+  value_of memory (Or parts) = any_of memory parts
+
+  pub all_of : Memory → Exprs → Bool
+  all_of memory NoExprs = true
+  all_of memory (MoreExprs e others) = value_of memory e && all_of memory others
+
+  pub any_of : Memory → Exprs → Bool
+  any_of memory NoExprs = false
+  any_of memory (MoreExprs e others) = value_of memory e || any_of memory others
+
+-- the assignments, one after another
+abbrev pub run_body : List Assign → Memory → Memory
+run_body [] memory = memory
+run_body (a ∷ body) memory = run_body body (with_value a.target (value_of memory a.value) memory)
+
+-- each input gets its value
+abbrev pub with_inputs : List (List ℕ) → List Bool → Memory → Memory
+with_inputs (name ∷ names) (value ∷ values) memory = with_inputs names values (with_value name value memory)
+with_inputs others more memory = memory
+
+-- The memory before the first call and behind a reset: a state has its value as written, and an output 0. No input and
+-- no local is read before it gets a value.
+abbrev pub first_memory : List State → Memory
+first_memory [] = λ name. false
+first_memory (s ∷ states) = with_value s.name s.init (first_memory states)
+
+-- the memory behind a call with these inputs
+abbrev pub call : Program → List Bool → Memory → Memory
+call p inputs memory = run_body p.body (with_inputs (inputs_of p) inputs memory)
+
+-- the memory behind each call, from this one on; a reset puts it back and is no call
+abbrev pub memories_from : Program → Memory → List Item → List Memory
+memories_from p memory [] = []
+memories_from p memory (Event inputs ∷ items) = call p inputs memory ∷ memories_from p (call p inputs memory) items
+memories_from p memory (Reset ∷ items) = memories_from p (first_memory p.states) items
+
+abbrev pub memories : Program → List Item → List Memory
+memories p items = memories_from p (first_memory p.states) items
+
+-- what is seen of a call: the outputs in declared order, and the value returned
+pub record Seen : Type 0 where
+  pub outputs : List Bool
+  pub answer : Bool
+
+abbrev pub seen : Program → Memory → Seen
+seen p memory = record { outputs = map memory (outputs_of p); answer = value_of memory p.answer }
+
+-- what is seen of the calls
+abbrev pub run : Program → List Item → List Seen
+run p items = map (seen p) (memories p items)

@@ -1,0 +1,17 @@
+-- To believe: which program a text describes.
+use Rattle.std.specs.Prelude.{◌≡◌, ℕ, List, None}
+use Rattle.csub_text.specs.Trees.{Program}
+use Rattle.csub_text.specs.Tokens.{kinds}
+use Rattle.csub_text.specs.Grammar.{WrittenProgram, IsText, program_meant}
+use Rattle.csub_text.specs.Names.{name_fault}
+
+-- how many `!` and `(` may stand one in another
+abbrev pub nesting_limit : ℕ
+nesting_limit = 200
+
+-- The text has the grammar's tokens of something written that is this program and keeps the rules on names.
+pub record Describes (text : List ℕ) (program : Program) : Type 0 where
+  pub written : WrittenProgram
+  pub spelled : IsText nesting_limit written (kinds text)
+  pub means : program_meant written ≡ program
+  pub names_fit : name_fault program ≡ None

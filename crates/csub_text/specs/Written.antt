@@ -1,0 +1,194 @@
+-- To believe: the program that stands for a net, its text, and what the text means. Input J of the net is the local
+-- `iJ`, latch J the state `sJ`, and gate K the local `wN` where it carries wire N, else `gK`. The next value of latch J is
+-- computed into `tJ`, and whether the program is still active into `r`, which is returned.
+use Rattle.std.specs.Prelude.{◌≡◌, ℕ, ◌+◌, ◌-◌, Bool, true, false, if◌then◌else◌, nat_lt, List, [], ◌∷◌, ◌++◌, length}
+use Rattle.std.specs.Prelude.{map, flat_map, codes, decimal, drop, slice_get, Option, Some, None, option_and_then}
+use Rattle.est_base.specs.declared.indices.WireId.{WireId}
+use Rattle.est_base.specs.Items.{Item, EachEvent}
+use Rattle.net_ir.specs.declared.netlist.Op.{Op}
+use Rattle.net_ir.specs.declared.netlist.Op.TheVariants as ops
+use Rattle.net_ir.specs.declared.netlist.Gate.{Gate}
+use Rattle.net_ir.specs.declared.netlist.Latch.{Latch}
+use Rattle.net_ir.specs.declared.netlist.NetOut.{NetOut}
+use Rattle.net_ir.specs.Netlists.{Netlist, first_gate}
+use Rattle.net_ir.specs.Runs.{Shown, net_run, net_values_run}
+use Rattle.csub_text.specs.Trees.{Expr, Name, Const, Not, And, Or, Exprs, NoExprs, MoreExprs, State, Assign, Program}
+use Rattle.csub_text.specs.Names.{inputs_of, outputs_of}
+use Rattle.csub_text.specs.Texts.{Describes}
+use Rattle.csub_text.specs.Machine.{Seen, memories, run}
+
+-- ---- names
+
+abbrev pub input_name : ℕ → List ℕ
+input_name j = codes "i" ++ decimal j
+
+abbrev pub state_name : ℕ → List ℕ
+state_name j = codes "s" ++ decimal j
+
+abbrev pub gate_name : ℕ → Option WireId → List ℕ
+gate_name k None = codes "g" ++ decimal k
+gate_name k (Some wire) = codes "w" ++ decimal wire.0
+
+abbrev pub next_name : ℕ → List ℕ
+next_name j = codes "t" ++ decimal j
+
+abbrev pub answer_name : List ℕ
+answer_name = codes "r"
+
+-- the wire that a gate carries
+abbrev pub wire_at : List Gate → ℕ → Option WireId
+wire_at gates k = option_and_then (λ g. g.wire) (slice_get gates k)
+
+-- the name of a net, by its number
+abbrev pub net_name : Netlist → ℕ → List ℕ
+net_name net n =
+    if nat_lt n (length net.inputs) then input_name n
+    else (if nat_lt n (first_gate net) then state_name (n - length net.inputs)
+    else gate_name (n - first_gate net) (wire_at net.gates (n - first_gate net)))
+
+-- the variables of inputs and outputs
+abbrev pub input_variable : List ℕ → List ℕ
+input_variable name = codes "I_" ++ name
+
+abbrev pub output_variable : NetOut → List ℕ
+output_variable output = codes "O_" ++ output.name
+
+-- what f gives at each element and its number, where n is the number of the first one
+abbrev pub numbered : {X Y : Type 0} → (ℕ → X → Y) → ℕ → List X → List Y
+numbered f n [] = []
+numbered f n (x ∷ xs) = f n x ∷ numbered f (n + 1) xs
+
+-- ---- the program
+
+abbrev pub net_state : ℕ → Latch → State
+net_state j latch = record { name = state_name j; init = latch.init }
+
+abbrev pub pair : List ℕ → List ℕ → Exprs
+pair m n = MoreExprs (Name m) (MoreExprs (Name n) NoExprs)
+
+abbrev pub op_expr : (ℕ → List ℕ) → Op → Expr
+op_expr word (ops.Const value) = Const value
+op_expr word (ops.Copy n) = Name (word n.0)
+op_expr word (ops.Not n) = Not (Name (word n.0))
+op_expr word (ops.And m n) = And (pair (word m.0) (word n.0))
+op_expr word (ops.Or m n) = Or (pair (word m.0) (word n.0))
+
+-- each input is copied into its local
+abbrev pub input_assign : ℕ → List ℕ → Assign
+input_assign j name = record { target = input_name j; value = Name (input_variable name) }
+
+abbrev pub gate_assign : Netlist → ℕ → Gate → Assign
+gate_assign net k gate = record { target = gate_name k gate.wire; value = op_expr (net_name net) gate.op }
+
+abbrev pub next_assign : Netlist → ℕ → Latch → Assign
+next_assign net j latch = record { target = next_name j; value = Name (net_name net latch.from.0) }
+
+abbrev pub output_assign : Netlist → NetOut → Assign
+output_assign net output = record { target = output_variable output; value = Name (net_name net output.net.0) }
+
+abbrev pub answer_assign : Netlist → Assign
+answer_assign net = record { target = answer_name; value = Name (net_name net net.paused) }
+
+abbrev pub state_assign : ℕ → Latch → Assign
+state_assign j latch = record { target = state_name j; value = Name (next_name j) }
+
+-- the names of the gates
+abbrev pub gate_names : Netlist → List (List ℕ)
+gate_names net = numbered (λ k gate. gate_name k gate.wire) 0 net.gates
+
+abbrev pub net_globals : Netlist → List (List ℕ)
+net_globals net = map input_variable net.inputs ++ map output_variable net.outputs
+
+abbrev pub net_locals : Netlist → List (List ℕ)
+net_locals net =
+    numbered (λ j name. input_name j) 0 net.inputs ++ (gate_names net
+    ++ (numbered (λ j latch. next_name j) 0 net.latches ++ (answer_name ∷ [])))
+
+abbrev pub net_body : Netlist → List Assign
+net_body net =
+    numbered input_assign 0 net.inputs ++ (numbered (gate_assign net) 0 net.gates
+    ++ (numbered (next_assign net) 0 net.latches ++ (map (output_assign net) net.outputs
+    ++ ((answer_assign net ∷ []) ++ numbered state_assign 0 net.latches))))
+
+abbrev pub net_program : Netlist → Program
+net_program net = record {
+  states = numbered net_state 0 net.latches;
+  globals = net_globals net;
+  locals = net_locals net;
+  body = net_body net;
+  answer = Name answer_name;
+}
+
+-- ---- the text
+
+abbrev pub bit_text : Bool → List ℕ
+bit_text false = codes "0"
+bit_text true = codes "1"
+
+-- an expression without lists in lists
+abbrev mutual
+  pub expr_text : Expr → List ℕ
+  expr_text (Name name) = name
+  expr_text (Const value) = bit_text value
+  expr_text (Not e) = codes "!" ++ expr_text e
+  expr_text (And parts) = parts_text (codes " & ") parts
+  expr_text (Or parts) = parts_text (codes " | ") parts
+
+  pub parts_text : List ℕ → Exprs → List ℕ
+  parts_text mark NoExprs = []
+  parts_text mark (MoreExprs e others) = expr_text e ++ others_text mark others
+
+  pub others_text : List ℕ → Exprs → List ℕ
+  others_text mark NoExprs = []
+  others_text mark (MoreExprs e others) = mark ++ (expr_text e ++ others_text mark others)
+
+-- the end of a line
+abbrev pub line_end : List ℕ
+line_end = 59 ∷ 10 ∷ []
+
+abbrev pub state_line : State → List ℕ
+state_line s = codes "static int " ++ (s.name ++ (codes " = " ++ (bit_text s.init ++ line_end)))
+
+abbrev pub declaration : List ℕ → List ℕ
+declaration name = codes "int " ++ (name ++ line_end)
+
+abbrev pub assign_line : Assign → List ℕ
+assign_line a = a.target ++ (codes " = " ++ (expr_text a.value ++ line_end))
+
+abbrev pub head_line : List ℕ
+head_line = codes "int react(void) {" ++ 10 ∷ []
+
+abbrev pub last_lines : Expr → List ℕ
+last_lines answer = codes "return " ++ (expr_text answer ++ (line_end ++ 125 ∷ 10 ∷ []))
+
+-- one line for each declaration and each assignment
+abbrev pub program_text : Program → List ℕ
+program_text p =
+    flat_map state_line p.states ++ (flat_map declaration p.globals ++ (head_line
+    ++ (flat_map declaration p.locals ++ (flat_map assign_line p.body ++ last_lines p.answer))))
+
+-- the C text of a net
+abbrev pub written : Netlist → List ℕ
+written net = program_text (net_program net)
+
+-- ---- what the text means
+
+-- what a call shows where a net shows this
+abbrev pub shown_by_call : Shown → Seen
+shown_by_call s = record { outputs = s.outputs; answer = s.paused }
+
+-- A text means a net: it describes a program with the net's inputs, outputs and latches, which shows at each call what
+-- the net shows at the event.
+pub record Means (text : List ℕ) (net : Netlist) : Type 0 where
+  pub program : Program
+  pub describes : Describes text program
+  pub inputs : inputs_of program ≡ map input_variable net.inputs
+  pub outputs : outputs_of program ≡ map output_variable net.outputs
+  pub states : program.states ≡ numbered net_state 0 net.latches
+  -- over all items of the right width the machine answers what the net shows
+  pub shows : (items : List Item) → EachEvent (λ inputs. length inputs ≡ length net.inputs) items
+      → run program items ≡ map shown_by_call (net_run net items)
+  -- and behind each call every gate's name has the gate's value
+  pub nets : (items : List Item) → EachEvent (λ inputs. length inputs ≡ length net.inputs) items
+      → map (λ memory. map memory (gate_names net)) (memories program items)
+      ≡ map (drop (first_gate net)) (net_values_run net items)

@@ -1,0 +1,38 @@
+// Programs of the C subset as trees.
+
+use est_base::Text;
+
+/// An expression. `And` and `Or` have two parts or more: round brackets and a list of one part make no node.
+#[derive(Debug, Drop)]
+pub enum Expr {
+    Name(Text),
+    Const(bool),
+    Not(Box<Expr>),
+    And(Vec<Expr>),
+    Or(Vec<Expr>),
+}
+
+/// A variable that keeps its value from call to call, and its value before the first one.
+#[derive(Debug, Drop)]
+pub struct State {
+    pub name: Text,
+    pub init: bool,
+}
+
+/// The variable `to` gets the value of the expression.
+#[derive(Debug, Drop)]
+pub struct Assign {
+    pub to: Text,
+    pub value: Expr,
+}
+
+/// A program: states, inputs (`I_`) and outputs (`O_`) among the globals, locals, the assignments of `react` in
+/// order, and the expression that it returns. Names are in the order of their declarations.
+#[derive(Debug, Drop)]
+pub struct CProgram {
+    pub states: Vec<State>,
+    pub globals: Vec<Text>,
+    pub locals: Vec<Text>,
+    pub body: Vec<Assign>,
+    pub answer: Expr,
+}
