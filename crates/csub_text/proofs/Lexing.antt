@@ -76,19 +76,27 @@ front-name : (c : ℕ) (cs : List ℕ) → begins_name c ≡ true
     → front c cs ≡ Lexeme (prefix_len is_name_byte cs) (word_kind (c ∷ take (prefix_len is_name_byte cs) cs))
 front-name c cs begins =
     let high = begins_high c begins in
-    rw (ne_eqb c 32 (omega arith), ne_eqb c 9 (omega arith), ne_eqb c 10 (omega arith), ne_eqb c 12 (omega arith), ne_eqb c 13 (omega arith),
-    ne_eqb c 47 (omega arith), begins) refl
+    rw (
+      ne_eqb c 32 (omega arith),
+      ne_eqb c 9 (omega arith),
+      ne_eqb c 10 (omega arith),
+      ne_eqb c 12 (omega arith),
+      ne_eqb c 13 (omega arith),
+      ne_eqb c 47 (omega arith),
+      begins,
+    ) refl
 
 says-bytes : (c : ℕ) (xs : List ℕ) (d : ℕ) (ys : List ℕ) (at : ℕ) → begins_name c ≡ true → list_all is_name_byte xs ≡ true → is_name_byte d ≡ false
     → (b : ℕ) × (kinds_at at ((c ∷ xs) ++ d ∷ ys) ≡ word_kind (c ∷ xs) ∷ kinds_at b (d ∷ ys))
 says-bytes c xs d ys at begins all stops =
     let n = name-len xs ys d all stops in
-    let more = skipped xs (d ∷ ys) (at + 1) in
-    (more.0,
-    ap (λ f. map (λ t. t.kind) (token_of at f (λ m. tokens_behind m (at + 1) (xs ++ d ∷ ys)))) (front-name c (xs ++ d ∷ ys) begins)
-    ∙ ap (λ m. word_kind (c ∷ take m (xs ++ d ∷ ys)) ∷ map (λ t. t.kind) (tokens_behind m (at + 1) (xs ++ d ∷ ys))) n
-    ∙ ap (λ l. word_kind (c ∷ l) ∷ map (λ t. t.kind) (tokens_behind (length xs) (at + 1) (xs ++ d ∷ ys))) (take-front xs (d ∷ ys))
-    ∙ ap (λ ts. word_kind (c ∷ xs) ∷ map (λ t. t.kind) ts) more.1)
+    let more = skipped xs (d ∷ ys) (at + 1) in (
+      more.0,
+      ap (λ f. map (λ t. t.kind) (token_of at f (λ m. tokens_behind m (at + 1) (xs ++ d ∷ ys)))) (front-name c (xs ++ d ∷ ys) begins)
+          ∙ ap (λ m. word_kind (c ∷ take m (xs ++ d ∷ ys)) ∷ map (λ t. t.kind) (tokens_behind m (at + 1) (xs ++ d ∷ ys))) n
+          ∙ ap (λ l. word_kind (c ∷ l) ∷ map (λ t. t.kind) (tokens_behind (length xs) (at + 1) (xs ++ d ∷ ys))) (take-front xs (d ∷ ys))
+          ∙ ap (λ ts. word_kind (c ∷ xs) ∷ map (λ t. t.kind) ts) more.1,
+    )
 
 -- a variable in front of a byte that no name has
 pub says-name : (name : List ℕ) (d : ℕ) (ds : List ℕ) (ks : List Kind) → IsVariable name → is_name_byte d ≡ false → Says (d ∷ ds) ks
@@ -134,13 +142,21 @@ no-word ds word all none = false_from_ne_true (is_same_name ds word) (λ same. b
 
 pub variable-input : (j : ℕ) → j < 2 ^ 64 → IsVariable (codes "i" ++ decimal j)
 variable-input j small = record {
-  head = 105; rest = decimal j; is = refl; begins = refl; bytes = bytes-decimal j small;
+  head = 105;
+  rest = decimal j;
+  is = refl;
+  begins = refl;
+  bytes = bytes-decimal j small;
   free = rw (no-word (decimal j) (codes "nt") (digits-decimal j small) refl) refl;
 }
 
 pub variable-state : (j : ℕ) → j < 2 ^ 64 → IsVariable (codes "s" ++ decimal j)
 variable-state j small = record {
-  head = 115; rest = decimal j; is = refl; begins = refl; bytes = bytes-decimal j small;
+  head = 115;
+  rest = decimal j;
+  is = refl;
+  begins = refl;
+  bytes = bytes-decimal j small;
   free = rw (no-word (decimal j) (codes "tatic") (digits-decimal j small) refl) refl;
 }
 

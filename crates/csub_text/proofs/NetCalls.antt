@@ -110,14 +110,14 @@ gate-new net is n i low h =
     let wide = length-numbered (λ k (gate : Gate). gate_name k gate.wire) 0 net.gates in
     net_cases net i (omega arith)
     (λ input. ap (λ x. is_same_name x g) (net_name-input net i input)
-      ∙ ap (λ y. is_same_name (input_name i) y) (sym (gate-at net n low))
-      ∙ any-none (is_same_name (input_name i)) (gate_names net) (differ-marks (λ m. m == 105) (input_name i) (gate_names net) refl (marks-gates net (λ m. not (m == 105)) refl refl)) n (omega arith))
+    ∙ ap (λ y. is_same_name (input_name i) y) (sym (gate-at net n low))
+    ∙ any-none (is_same_name (input_name i)) (gate_names net) (differ-marks (λ m. m == 105) (input_name i) (gate_names net) refl (marks-gates net (λ m. not (m == 105)) refl refl)) n (omega arith))
     (λ j state e. ap (λ x. is_same_name x g) (ap (net_name net) e ∙ net_name-state net j state)
-      ∙ ap (λ y. is_same_name (state_name j) y) (sym (gate-at net n low))
-      ∙ any-none (is_same_name (state_name j)) (gate_names net) (differ-marks (λ m. m == 115) (state_name j) (gate_names net) refl (marks-gates net (λ m. not (m == 115)) refl refl)) n (omega arith))
+    ∙ ap (λ y. is_same_name (state_name j) y) (sym (gate-at net n low))
+    ∙ any-none (is_same_name (state_name j)) (gate_names net) (differ-marks (λ m. m == 115) (state_name j) (gate_names net) refl (marks-gates net (λ m. not (m == 115)) refl refl)) n (omega arith))
     (λ k gate e. ap (λ x. is_same_name x g) (ap (net_name net) e ∙ net_name-gate net k any_gate gate)
-      ∙ ap (λ x. is_same_name x g) (sym (gate-at net k gate)) ∙ ap (λ y. is_same_name (get_or (gate_names net) k []) y) (sym (gate-at net n low))
-      ∙ differ-at (gate_names net) (differ-gates net is) k n (omega arith) (omega arith))
+    ∙ ap (λ x. is_same_name x g) (sym (gate-at net k gate)) ∙ ap (λ y. is_same_name (get_or (gate_names net) k []) y) (sym (gate-at net n low))
+    ∙ differ-at (gate_names net) (differ-gates net is) k n (omega arith) (omega arith))
 
 -- ---- gates one after another
 
@@ -156,16 +156,17 @@ gates-run net is n (g ∷ gates) m values same all wide has i h =
     let is-v : value ≡ v = op-expr-value m (net_name net) g.op ∙ op_value-same (λ i. m (net_name net i)) (value_in values) g.op (first_gate net + n) reads has in
     let longer = length_push values v in
     let next : Has net (first_gate net + (n + 1)) (with_value target value m) (values ++ v ∷ []) = λ i h. elim (cases_lt i (first_gate net + n)) [
-          inl below ↦
-            let new : is_same_name (net_name net i) target ≡ false = ap (λ (g : Gate). is_same_name (net_name net i) (gate_name n g.wire)) here ∙ gate-new net is n i low below in
-            ap (λ b. if b then value else m (net_name net i)) new ∙ has i below ∙ sym (get_or_append_left values (v ∷ []) false i (omega arith))
-        | inr last ↦
-            let e : i ≡ first_gate net + n = omega arith in
-            let name : net_name net i ≡ target = ap (net_name net) e ∙ net_name-gate net n any_gate low ∙ ap (λ (g : Gate). gate_name n g.wire) (sym here) in
-            let it : is_same_name (net_name net i) target ≡ true = ap (λ x. is_same_name x target) name ∙ same-refl target in
-            ap (λ b. if b then value else m (net_name net i)) it ∙ is-v ∙ sym (get_or_push values v false i (wide ∙ sym e)) ] in
+      | inl below ↦
+          let new : is_same_name (net_name net i) target ≡ false = ap (λ (g : Gate). is_same_name (net_name net i) (gate_name n g.wire)) here ∙ gate-new net is n i low below in
+          ap (λ b. if b then value else m (net_name net i)) new ∙ has i below ∙ sym (get_or_append_left values (v ∷ []) false i (omega arith))
+      | inr last ↦
+          let e : i ≡ first_gate net + n = omega arith in
+          let name : net_name net i ≡ target = ap (net_name net) e ∙ net_name-gate net n any_gate low ∙ ap (λ (g : Gate). gate_name n g.wire) (sym here) in
+          let it : is_same_name (net_name net i) target ≡ true = ap (λ x. is_same_name x target) name ∙ same-refl target in
+          ap (λ b. if b then value else m (net_name net i)) it ∙ is-v ∙ sym (get_or_push values v false i (wide ∙ sym e))
+    ] in
     let rest = gates-run net is (n + 1) gates (with_value target value m) (values ++ v ∷ [])
-        (λ k h. let s : n + suc k ≡ n + 1 + k = omega arith in same (suc k) (omega arith) ∙ ap (λ j. get_or net.gates j any_gate) s) (omega arith) (omega arith) next in
+    (λ k h. let s : n + suc k ≡ n + 1 + k = omega arith in same (suc k) (omega arith) ∙ ap (λ j. get_or net.gates j any_gate) s) (omega arith) (omega arith) next in
     rest i (omega arith)
 
 -- ---- one call
@@ -229,8 +230,8 @@ call-leaves net is latches inputs m wide_l wide_i keeps =
     let m5 = run_body b5 m4 in
     let m6 = run_body b6 m5 in
     let whole : run_body (net_body net) m0 ≡ m6 =
-        run-append b1 (b2 ++ (b3 ++ (b4 ++ (b5 ++ b6)))) m0 ∙ run-append b2 (b3 ++ (b4 ++ (b5 ++ b6))) m1 ∙ run-append b3 (b4 ++ (b5 ++ b6)) m2
-        ∙ run-append b4 (b5 ++ b6) m3 ∙ run-append b5 b6 m4 in
+    run-append b1 (b2 ++ (b3 ++ (b4 ++ (b5 ++ b6)))) m0 ∙ run-append b2 (b3 ++ (b4 ++ (b5 ++ b6))) m1 ∙ run-append b3 (b4 ++ (b5 ++ b6)) m2
+    ∙ run-append b4 (b5 ++ b6) m3 ∙ run-append b5 b6 m4 in
     let n1 = length-numbered input_assign 0 net.inputs in
     let n3 = length-numbered (next_assign net) 0 net.latches in
     let n4 = length-map net.outputs (output_assign net) in
@@ -239,84 +240,86 @@ call-leaves net is latches inputs m wide_l wide_i keeps =
     let d = answer_assign net in
     -- the inputs and the states before the gates
     let has1 : Has net (first_gate net) m1 (inputs ++ latches) = λ i h. elim (cases_lt i (length net.inputs)) [
-          inl low ↦
-            let z : 0 + i ≡ i = omega arith in
-            let at : get_or b1 i d ≡ input_assign i (get_or net.inputs i []) = get_or-numbered input_assign 0 net.inputs i d [] low ∙ ap (λ k. input_assign k (get_or net.inputs i [])) z in
-            let given = input_variable (get_or net.inputs i []) in
-            let copied = run-copies b1 m0 (ap (all_differ is_same_name) t1 ∙ differ-inputs net is) i d given (omega arith) (ap (λ (a : Assign). a.value) at)
-                (not_target (λ c. c == 73) given b1 (input_names net) t1 refl (marks-inputs net (λ c. not (c == 73)) refl)) in
-            ap m1 (net_name-input net i low ∙ ap (λ (a : Assign). a.target) (sym at)) ∙ copied
-            ∙ ap m0 (sym (get_or-map input_variable net.inputs i [] [] low))
-            ∙ inputs-given (given_variables net) inputs m (differ-given net is) (omega arith) i [] (omega arith)
-            ∙ sym (get_or_append_left inputs latches false i (omega arith))
-        | inr high ↦
-            let j = i - length net.inputs in
-            let e : i ≡ length net.inputs + j = omega arith in
-            let f : i ≡ length inputs + j = omega arith in
-            ap m1 (ap (net_name net) e ∙ net_name-state net j (omega arith))
-            ∙ run-other b1 m0 (state_name j) (not_target (λ c. c == 115) (state_name j) b1 (input_names net) t1 refl (marks-inputs net (λ c. not (c == 115)) refl))
-            ∙ inputs-other (given_variables net) inputs m (state_name j) (differ-marks (λ c. c == 115) (state_name j) (given_variables net) refl (marks-given net (λ c. not (c == 115)) refl))
-            ∙ keeps j (omega arith) ∙ sym (get_or-append-add inputs latches j false) ∙ ap (λ k. get_or (inputs ++ latches) k false) (sym f) ] in
+      | inl low ↦
+          let z : 0 + i ≡ i = omega arith in
+          let at : get_or b1 i d ≡ input_assign i (get_or net.inputs i []) = get_or-numbered input_assign 0 net.inputs i d [] low ∙ ap (λ k. input_assign k (get_or net.inputs i [])) z in
+          let given = input_variable (get_or net.inputs i []) in
+          let copied = run-copies b1 m0 (ap (all_differ is_same_name) t1 ∙ differ-inputs net is) i d given (omega arith) (ap (λ (a : Assign). a.value) at)
+          (not_target (λ c. c == 73) given b1 (input_names net) t1 refl (marks-inputs net (λ c. not (c == 73)) refl)) in
+          ap m1 (net_name-input net i low ∙ ap (λ (a : Assign). a.target) (sym at)) ∙ copied
+          ∙ ap m0 (sym (get_or-map input_variable net.inputs i [] [] low))
+          ∙ inputs-given (given_variables net) inputs m (differ-given net is) (omega arith) i [] (omega arith)
+          ∙ sym (get_or_append_left inputs latches false i (omega arith))
+      | inr high ↦
+          let j = i - length net.inputs in
+          let e : i ≡ length net.inputs + j = omega arith in
+          let f : i ≡ length inputs + j = omega arith in
+          ap m1 (ap (net_name net) e ∙ net_name-state net j (omega arith))
+          ∙ run-other b1 m0 (state_name j) (not_target (λ c. c == 115) (state_name j) b1 (input_names net) t1 refl (marks-inputs net (λ c. not (c == 115)) refl))
+          ∙ inputs-other (given_variables net) inputs m (state_name j) (differ-marks (λ c. c == 115) (state_name j) (given_variables net) refl (marks-given net (λ c. not (c == 115)) refl))
+          ∙ keeps j (omega arith) ∙ sym (get_or-append-add inputs latches j false) ∙ ap (λ k. get_or (inputs ++ latches) k false) (sym f)
+    ] in
     let joined = length-append inputs latches in
     -- all nets behind the gates
     let has2 : Has net (net_count net) m2 values = λ i h.
-        gates-run net is 0 net.gates m1 (inputs ++ latches) (λ k low. let z : k ≡ 0 + k = omega arith in ap (λ n. get_or net.gates n any_gate) z) (omega arith) (omega arith)
-        (λ i low. has1 i (omega arith)) i (omega arith) in
+    gates-run net is 0 net.gates m1 (inputs ++ latches) (λ k low. let z : k ≡ 0 + k = omega arith in ap (λ n. get_or net.gates n any_gate) z) (omega arith) (omega arith)
+    (λ i low. has1 i (omega arith)) i (omega arith) in
     -- no net is a target of the last parts but a state
     let kept3 : (i : ℕ) → i < net_count net → m3 (net_name net i) ≡ value_in values i = λ i h.
-        run-other b3 m2 (net_name net i) (not_target (λ c. not (c == 116)) (net_name net i) b3 (next_names net) t3 (net-mark (λ c. not (c == 116)) net i h refl refl refl refl)
-          (marks-nexts net (λ c. not (not (c == 116))) refl)) ∙ has2 i h in
+    run-other b3 m2 (net_name net i) (not_target (λ c. not (c == 116)) (net_name net i) b3 (next_names net) t3 (net-mark (λ c. not (c == 116)) net i h refl refl refl refl)
+    (marks-nexts net (λ c. not (not (c == 116))) refl)) ∙ has2 i h in
     let kept4 : (i : ℕ) → i < net_count net → m4 (net_name net i) ≡ value_in values i = λ i h.
-        run-other b4 m3 (net_name net i) (not_target (λ c. not (c == 79)) (net_name net i) b4 (shown_variables net) t4 (net-mark (λ c. not (c == 79)) net i h refl refl refl refl)
-          (marks-shown net (λ c. not (not (c == 79))) refl)) ∙ kept3 i h in
+    run-other b4 m3 (net_name net i) (not_target (λ c. not (c == 79)) (net_name net i) b4 (shown_variables net) t4 (net-mark (λ c. not (c == 79)) net i h refl refl refl refl)
+    (marks-shown net (λ c. not (not (c == 79))) refl)) ∙ kept3 i h in
     let next3 : (j : ℕ) → j < length net.latches → m3 (next_name j) ≡ value_in values (get_or net.latches j any_latch).from.0 = λ j h.
-        let z : 0 + j ≡ j = omega arith in
-        let latch = get_or net.latches j any_latch in
-        let range = is.is_net.latches_in_range j any_latch h in
-        let at : get_or b3 j d ≡ next_assign net j latch = get_or-numbered (next_assign net) 0 net.latches j d any_latch h ∙ ap (λ k. next_assign net k latch) z in
-        ap m3 (ap (λ (a : Assign). a.target) (sym at))
-        ∙ run-copies b3 m2 (ap (all_differ is_same_name) t3 ∙ differ-nexts net is) j d (net_name net latch.from.0) (omega arith) (ap (λ (a : Assign). a.value) at)
-          (not_target (λ c. not (c == 116)) (net_name net latch.from.0) b3 (next_names net) t3 (net-mark (λ c. not (c == 116)) net latch.from.0 range refl refl refl refl)
-          (marks-nexts net (λ c. not (not (c == 116))) refl))
-        ∙ has2 latch.from.0 range in
+    let z : 0 + j ≡ j = omega arith in
+    let latch = get_or net.latches j any_latch in
+    let range = is.is_net.latches_in_range j any_latch h in
+    let at : get_or b3 j d ≡ next_assign net j latch = get_or-numbered (next_assign net) 0 net.latches j d any_latch h ∙ ap (λ k. next_assign net k latch) z in
+    ap m3 (ap (λ (a : Assign). a.target) (sym at))
+    ∙ run-copies b3 m2 (ap (all_differ is_same_name) t3 ∙ differ-nexts net is) j d (net_name net latch.from.0) (omega arith) (ap (λ (a : Assign). a.value) at)
+    (not_target (λ c. not (c == 116)) (net_name net latch.from.0) b3 (next_names net) t3 (net-mark (λ c. not (c == 116)) net latch.from.0 range refl refl refl refl)
+    (marks-nexts net (λ c. not (not (c == 116))) refl))
+    ∙ has2 latch.from.0 range in
     let output4 : (k : ℕ) → k < length net.outputs → m4 (output_variable (get_or net.outputs k any_output)) ≡ value_in values (get_or net.outputs k any_output).net.0 = λ k h.
-        let output = get_or net.outputs k any_output in
-        let range = is.is_net.outputs_in_range k any_output h in
-        let at : get_or b4 k d ≡ output_assign net output = get_or-map (output_assign net) net.outputs k any_output d h in
-        ap m4 (ap (λ (a : Assign). a.target) (sym at))
-        ∙ run-copies b4 m3 (ap (all_differ is_same_name) t4 ∙ differ-shown net is) k d (net_name net output.net.0) (omega arith) (ap (λ (a : Assign). a.value) at)
-          (not_target (λ c. not (c == 79)) (net_name net output.net.0) b4 (shown_variables net) t4 (net-mark (λ c. not (c == 79)) net output.net.0 range refl refl refl refl)
-          (marks-shown net (λ c. not (not (c == 79))) refl))
-        ∙ kept3 output.net.0 range in
+    let output = get_or net.outputs k any_output in
+    let range = is.is_net.outputs_in_range k any_output h in
+    let at : get_or b4 k d ≡ output_assign net output = get_or-map (output_assign net) net.outputs k any_output d h in
+    ap m4 (ap (λ (a : Assign). a.target) (sym at))
+    ∙ run-copies b4 m3 (ap (all_differ is_same_name) t4 ∙ differ-shown net is) k d (net_name net output.net.0) (omega arith) (ap (λ (a : Assign). a.value) at)
+    (not_target (λ c. not (c == 79)) (net_name net output.net.0) b4 (shown_variables net) t4 (net-mark (λ c. not (c == 79)) net output.net.0 range refl refl refl refl)
+    (marks-shown net (λ c. not (not (c == 79))) refl))
+    ∙ kept3 output.net.0 range in
     let own6 : (x : List ℕ) → (mark x == 115) ≡ false → m6 x ≡ m5 x = λ x h.
-        run-other b6 m5 x (not_target (λ c. not (c == 115)) x b6 (state_names net) t6 (ap not h) (marks-states net (λ c. not (not (c == 115))) refl)) in
+    run-other b6 m5 x (not_target (λ c. not (c == 115)) x b6 (state_names net) t6 (ap not h) (marks-states net (λ c. not (not (c == 115))) refl)) in
     record {
       gates = λ k h.
-        let name = gate_name k (get_or net.gates k any_gate).wire in
-        let own : (mark name == 115) ≡ false = gate-mark (get_or net.gates k any_gate).wire k in
-        ap (λ f. f name) whole ∙ own6 name own
-        ∙ run-other b5 m4 name (gate-no_answer (get_or net.gates k any_gate).wire k)
-        ∙ ap m4 (sym (net_name-gate net k any_gate h)) ∙ kept4 (first_gate net + k) (omega arith);
+          let name = gate_name k (get_or net.gates k any_gate).wire in
+          let own : (mark name == 115) ≡ false = gate-mark (get_or net.gates k any_gate).wire k in
+          ap (λ f. f name) whole ∙ own6 name own
+          ∙ run-other b5 m4 name (gate-no_answer (get_or net.gates k any_gate).wire k)
+          ∙ ap m4 (sym (net_name-gate net k any_gate h)) ∙ kept4 (first_gate net + k) (omega arith);
       states = λ j h.
-        let z : 0 + j ≡ j = omega arith in
-        let latch = get_or net.latches j any_latch in
-        let at : get_or b6 j d ≡ state_assign j latch = get_or-numbered state_assign 0 net.latches j d any_latch h ∙ ap (λ k. state_assign k latch) z in
-        ap (λ f. f (state_name j)) whole ∙ ap m6 (ap (λ (a : Assign). a.target) (sym at))
-        ∙ run-copies b6 m5 (ap (all_differ is_same_name) t6 ∙ differ-states net is) j d (next_name j) (omega arith) (ap (λ (a : Assign). a.value) at)
+          let z : 0 + j ≡ j = omega arith in
+          let latch = get_or net.latches j any_latch in
+          let at : get_or b6 j d ≡ state_assign j latch = get_or-numbered state_assign 0 net.latches j d any_latch h ∙ ap (λ k. state_assign k latch) z in
+          ap (λ f. f (state_name j)) whole ∙ ap m6 (ap (λ (a : Assign). a.target) (sym at))
+          ∙ run-copies b6 m5 (ap (all_differ is_same_name) t6 ∙ differ-states net is) j d (next_name j) (omega arith) (ap (λ (a : Assign). a.value) at)
           (not_target (λ c. c == 116) (next_name j) b6 (state_names net) t6 refl (marks-states net (λ c. not (c == 116)) refl))
-        ∙ run-other b5 m4 (next_name j) refl
-        ∙ run-other b4 m3 (next_name j) (not_target (λ c. c == 116) (next_name j) b4 (shown_variables net) t4 refl (marks-shown net (λ c. not (c == 116)) refl))
-        ∙ next3 j h;
+          ∙ run-other b5 m4 (next_name j) refl
+          ∙ run-other b4 m3 (next_name j) (not_target (λ c. c == 116) (next_name j) b4 (shown_variables net) t4 refl (marks-shown net (λ c. not (c == 116)) refl))
+          ∙ next3 j h;
       outputs = λ k h.
-        let name = output_variable (get_or net.outputs k any_output) in
-        ap (λ f. f name) whole ∙ own6 name refl ∙ run-other b5 m4 name refl ∙ output4 k h;
+          let name = output_variable (get_or net.outputs k any_output) in
+          ap (λ f. f name) whole ∙ own6 name refl ∙ run-other b5 m4 name refl ∙ output4 k h;
       answer =
-        ap (λ f. f answer_name) whole ∙ own6 answer_name refl ∙ kept4 net.paused is.is_net.paused_in_range;
+          ap (λ f. f answer_name) whole ∙ own6 answer_name refl ∙ kept4 net.paused is.is_net.paused_in_range;
     }
   where
     gate-mark : (wire : _) (k : ℕ) → (mark (gate_name k wire) == 115) ≡ false
     gate-mark None k = refl
     gate-mark (Some w) k = refl
+
     gate-no_answer : (wire : _) (k : ℕ) → is_among (gate_name k wire) (answer_name ∷ []) ≡ false
     gate-no_answer None k = refl
     gate-no_answer (Some w) k = refl

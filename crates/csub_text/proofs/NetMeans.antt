@@ -85,8 +85,8 @@ first-keeps n (l ∷ latches) differ (suc j) h =
     let wide = length-numbered (λ j (latch : Latch). state_name j) (n + 1) latches in
     let at : get_or names j [] ≡ state_name (n + 1 + j) = get_or-numbered (λ j latch. state_name j) (n + 1) latches j [] any_latch (omega arith) in
     let apart : is_same_name (state_name (n + 1 + j)) (state_name n) ≡ false =
-        ap (λ x. is_same_name x (state_name n)) (sym at) ∙ nat_list_eq_equiv.symm (get_or names j []) (state_name n)
-        ∙ any-none (is_same_name (state_name n)) names (not-true (is_among (state_name n) names) parts.0) j (omega arith) in
+    ap (λ x. is_same_name x (state_name n)) (sym at) ∙ nat_list_eq_equiv.symm (get_or names j []) (state_name n)
+    ∙ any-none (is_same_name (state_name n)) names (not-true (is_among (state_name n) names) parts.0) j (omega arith) in
     ap (λ k. first_memory (numbered net_state n (l ∷ latches)) (state_name k)) s ∙ rw apart (first-keeps (n + 1) latches parts.1 j (omega arith))
 
 begins-kept : (net : Netlist) → IsWritable net → Keeps net (first_memory (net_program net).states) (initial_latches net)
@@ -109,15 +109,15 @@ kept-next net values m leaves j h =
 seen-net : (net : Netlist) (values : List Bool) (m : Memory) → Leaves net values m → seen (net_program net) m ≡ shown_by_call (shown net values)
 seen-net net values m leaves =
     let outputs : map m (outputs_of (net_program net)) ≡ map (λ o. value_in values o.net.0) net.outputs =
-        ap (map m) (outputs-net net)
-        ∙ ext_get_or false (map m (map output_variable net.outputs)) (map (λ o. value_in values o.net.0) net.outputs)
-          (length-map (map output_variable net.outputs) m ∙ length-map net.outputs output_variable ∙ sym (length-map net.outputs (λ (o : NetOut). value_in values o.net.0)))
-          (λ k h.
-            let a = length-map (map output_variable net.outputs) m in
-            let b = length-map net.outputs output_variable in
-            get_or-map m (map output_variable net.outputs) k [] false (omega arith)
-            ∙ ap m (get_or-map output_variable net.outputs k any_output [] (omega arith)) ∙ leaves.outputs k (omega arith)
-            ∙ sym (get_or-map (λ (o : NetOut). value_in values o.net.0) net.outputs k any_output false (omega arith))) in
+    ap (map m) (outputs-net net)
+    ∙ ext_get_or false (map m (map output_variable net.outputs)) (map (λ o. value_in values o.net.0) net.outputs)
+    (length-map (map output_variable net.outputs) m ∙ length-map net.outputs output_variable ∙ sym (length-map net.outputs (λ (o : NetOut). value_in values o.net.0)))
+    (λ k h.
+    let a = length-map (map output_variable net.outputs) m in
+    let b = length-map net.outputs output_variable in
+    get_or-map m (map output_variable net.outputs) k [] false (omega arith)
+    ∙ ap m (get_or-map output_variable net.outputs k any_output [] (omega arith)) ∙ leaves.outputs k (omega arith)
+    ∙ sym (get_or-map (λ (o : NetOut). value_in values o.net.0) net.outputs k any_output false (omega arith))) in
     ap (λ o. record { outputs = o; answer = m answer_name }) outputs
     ∙ ap (λ a. record { outputs = map (λ (o : NetOut). value_in values o.net.0) net.outputs; answer = a }) leaves.answer
 
@@ -132,10 +132,10 @@ gates-net net latches inputs m wide_l wide_i leaves =
     let f = length-append inputs latches in
     ext_get_or false (map m (gate_names net)) (drop (first_gate net) values) (omega arith)
     (λ k h.
-      let z : 0 + k ≡ k = omega arith in
-      get_or-map m (gate_names net) k [] false (omega arith)
-      ∙ ap m (get_or-numbered (λ k gate. gate_name k gate.wire) 0 net.gates k [] any_gate (omega arith) ∙ ap (λ i. gate_name i (get_or net.gates k any_gate).wire) z)
-      ∙ leaves.gates k (omega arith) ∙ sym (get_or-drop (first_gate net) values k false))
+    let z : 0 + k ≡ k = omega arith in
+    get_or-map m (gate_names net) k [] false (omega arith)
+    ∙ ap m (get_or-numbered (λ k gate. gate_name k gate.wire) 0 net.gates k [] any_gate (omega arith) ∙ ap (λ i. gate_name i (get_or net.gates k any_gate).wire) z)
+    ∙ leaves.gates k (omega arith) ∙ sym (get_or-drop (first_gate net) values k false))
 
 length-next : (net : Netlist) (values : List Bool) → length (next_latches net values) ≡ length net.latches
 length-next net values = length-map net.latches (λ (l : Latch). value_in values l.from.0)
@@ -143,7 +143,7 @@ length-next net values = length-map net.latches (λ (l : Latch). value_in values
 -- what is so behind every call of the values of its nets is so of all calls
 runs-net : {X : Type 0} (net : Netlist) → IsWritable net → (f : Memory → X) (g : List Bool → X)
     → ((latches inputs : List Bool) (m : Memory) → length latches ≡ length net.latches → length inputs ≡ length net.inputs
-      → Leaves net (net_values net latches inputs) m → f m ≡ g (net_values net latches inputs))
+    → Leaves net (net_values net latches inputs) m → f m ≡ g (net_values net latches inputs))
     → (items : List Item) (latches : List Bool) (m : Memory) → length latches ≡ length net.latches → Keeps net m latches
     → EachEvent (λ inputs. length inputs ≡ length net.inputs) items
     → map f (memories_from (net_program net) m items) ≡ map g (values_from net latches items)
@@ -152,7 +152,7 @@ runs-net net is f g each (Event inputs ∷ items) latches m wide keeps widths =
     let values = net_values net latches inputs in
     let leaves = call-net net is latches inputs m wide widths.0 keeps in
     let later = runs-net net is f g each items (next_latches net values) (call (net_program net) inputs m) (length-next net values)
-        (kept-next net values (call (net_program net) inputs m) leaves) widths.1 in
+    (kept-next net values (call (net_program net) inputs m) leaves) widths.1 in
     ap (λ x. x ∷ map f (memories_from (net_program net) (call (net_program net) inputs m) items)) (each latches inputs (call (net_program net) inputs m) wide widths.0 leaves)
     ∙ ap (λ l. g values ∷ l) later
 runs-net net is f g each (Reset ∷ items) latches m wide keeps widths =
@@ -252,6 +252,7 @@ spelled-net net is =
     one : (P : List ℕ → Type 0) (x : List ℕ) → P x → All P (x ∷ [])
     one P x p zero d h = p
     one P x p (suc k) d h = absurd (omega arith)
+
     gates-variables : (net : Netlist) → IsWritable net → All IsVariable (gate_names net)
     gates-variables net is = All-numbered IsVariable (λ k gate. gate_name k gate.wire) 0 net.gates (λ k d h.
         let z : 0 + k ≡ k = omega arith in
@@ -263,8 +264,10 @@ describes-net net is =
     let spelled = spelled-net net is in
     record {
       written = written_program p;
-      spelled = (subst (λ ks. SpellsText (written_program p) ks) (sym (says-whole (written net) (program_kinds p) (says-program p spelled))) (spells-program p spelled),
-        omega (arith, nesting-written p spelled));
+      spelled = (
+        subst (λ ks. SpellsText (written_program p) ks) (sym (says-whole (written net) (program_kinds p) (says-program p spelled))) (spells-program p spelled),
+        omega (arith, nesting-written p spelled),
+      );
       means = meant-written p;
       names_fit = names-fit net is;
     }

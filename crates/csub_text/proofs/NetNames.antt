@@ -298,8 +298,8 @@ pub differ-locals : (net : Netlist) → IsWritable net → all_differ is_same_na
 differ-locals net is =
     let tails = in-front (λ m. m == 116) (next_names net) (answer_name ∷ []) (differ-nexts net is) (marks-nexts net (λ m. m == 116) refl) refl refl in
     let gates = in-front (λ m. m == 103 || m == 119) (gate_names net) (next_names net ++ (answer_name ∷ [])) (differ-gates net is)
-        (marks-gates net (λ m. m == 103 || m == 119) refl refl)
-        (all-both (λ x. not (mark x == 103 || mark x == 119)) (next_names net) (answer_name ∷ []) (marks-nexts net (λ m. not (m == 103 || m == 119)) refl) refl) tails in
+    (marks-gates net (λ m. m == 103 || m == 119) refl refl)
+    (all-both (λ x. not (mark x == 103 || mark x == 119)) (next_names net) (answer_name ∷ []) (marks-nexts net (λ m. not (m == 103 || m == 119)) refl) refl) tails in
     in-front (λ m. m == 105) (input_names net) (gate_names net ++ (next_names net ++ (answer_name ∷ []))) (differ-inputs net is) (marks-inputs net (λ m. m == 105) refl)
     (all-both (λ x. not (mark x == 105)) (gate_names net) (next_names net ++ (answer_name ∷ [])) (marks-gates net (λ m. not (m == 105)) refl refl)
     (all-both (λ x. not (mark x == 105)) (next_names net) (answer_name ∷ []) (marks-nexts net (λ m. not (m == 105)) refl) refl)) gates
@@ -307,9 +307,9 @@ differ-locals net is =
 pub differ-declared : (net : Netlist) → IsWritable net → all_differ is_same_name (state_names net ++ (net_globals net ++ net_locals net)) ≡ true
 differ-declared net is =
     let globals = in-front (λ m. m == 73 || m == 79) (net_globals net) (net_locals net) (differ-globals net is)
-        (all-both (λ x. mark x == 73 || mark x == 79) (given_variables net) (shown_variables net) (marks-given net (λ m. m == 73 || m == 79) refl)
-        (marks-shown net (λ m. m == 73 || m == 79) refl))
-        (marks-locals net (λ m. not (m == 73 || m == 79)) refl refl refl refl refl) (differ-locals net is) in
+    (all-both (λ x. mark x == 73 || mark x == 79) (given_variables net) (shown_variables net) (marks-given net (λ m. m == 73 || m == 79) refl)
+    (marks-shown net (λ m. m == 73 || m == 79) refl))
+    (marks-locals net (λ m. not (m == 73 || m == 79)) refl refl refl refl refl) (differ-locals net is) in
     in-front (λ m. m == 115) (state_names net) (net_globals net ++ net_locals net) (differ-states net is) (marks-states net (λ m. m == 115) refl)
     (all-both (λ x. not (mark x == 115)) (net_globals net) (net_locals net)
     (all-both (λ x. not (mark x == 115)) (given_variables net) (shown_variables net) (marks-given net (λ m. not (m == 115)) refl) (marks-shown net (λ m. not (m == 115)) refl))

@@ -144,9 +144,9 @@ net-declared net n h =
     net_cases net n h
     (λ low. ap (λ x. is_among x (all_declared net)) (net_name-input net n low) ∙ declared-local net (input_name n) (local-input net n [] low))
     (λ j low e. ap (λ x. is_among x (all_declared net)) (ap (net_name net) e ∙ net_name-state net j low)
-      ∙ among-left (state_name j) (state_names net) _ (among-numbered (λ j latch. state_name j) net.latches j any_latch low))
+    ∙ among-left (state_name j) (state_names net) _ (among-numbered (λ j latch. state_name j) net.latches j any_latch low))
     (λ k low e. ap (λ x. is_among x (all_declared net)) (ap (net_name net) e ∙ net_name-gate net k any_gate low)
-      ∙ declared-local net (gate_name k (get_or net.gates k any_gate).wire) (local-gate net k any_gate low))
+    ∙ declared-local net (gate_name k (get_or net.gates k any_gate).wire) (local-gate net k any_gate low))
 
 global-given : (net : Netlist) (j : ℕ) (d : List ℕ) → j < length net.inputs → is_among (input_variable (get_or net.inputs j d)) (net_globals net) ≡ true
 global-given net j d h =
@@ -244,6 +244,7 @@ each-assign P net each =
     mapped-assigns P net each k d h =
         let n = length-map net.outputs (output_assign net) in
         subst P (sym (get_or-map (output_assign net) net.outputs k any_output d (omega arith))) (each.outputs k (omega arith))
+
     one-assign : (P : Assign → Type 0) (net : Netlist) → EachAssign P net → All P (answer_assign net ∷ [])
     one-assign P net each zero d h = each.answer
     one-assign P net each (suc k) d h = absurd (omega arith)
@@ -259,12 +260,12 @@ assigns-fit net is = record {
     taken = (declared-global net (input_variable (get_or net.inputs j [])) (global-given net j [] h), tt);
   };
   gates = λ k h.
-    let g = get_or net.gates k any_gate in
-    record {
-      target = declared-local net (gate_name k g.wire) (local-gate net k any_gate h);
-      no_input = no_input-mark (gate_name k g.wire) (gate-mark (λ m. m == 73) k g refl refl);
-      taken = op-names (λ x. is_among x (all_declared net) ≡ true) (net_name net) g.op (net_count net) (omega (arith, gate-low net is k h)) (net-declared net);
-    };
+      let g = get_or net.gates k any_gate in
+      record {
+        target = declared-local net (gate_name k g.wire) (local-gate net k any_gate h);
+        no_input = no_input-mark (gate_name k g.wire) (gate-mark (λ m. m == 73) k g refl refl);
+        taken = op-names (λ x. is_among x (all_declared net) ≡ true) (net_name net) g.op (net_count net) (omega (arith, gate-low net is k h)) (net-declared net);
+      };
   nexts = λ j h. record {
     target = declared-local net (next_name j) (local-next net j any_latch h);
     no_input = refl;
@@ -292,10 +293,10 @@ undeclared_none net is =
     let names = declared (net_program net) in
     let body = each-assign (Fits (all_declared net)) net (assigns-fit net is) in
     let wrong : list_any (is_wrong (all_declared net)) (uses (net_program net)) ≡ false =
-        list_any-append (is_wrong (all_declared net)) (flat_map uses_in (net_body net)) (map Taken (answer_name ∷ []))
-        ∙ or_from (list_any (is_wrong (all_declared net)) (flat_map uses_in (net_body net))) (list_any (is_wrong (all_declared net)) (map Taken (answer_name ∷ [])))
-          (none-wrong (all_declared net) (net_body net) body)
-          (none-taken (all_declared net) (answer_name ∷ []) (declared-local net answer_name (local-answer net), tt)) in
+    list_any-append (is_wrong (all_declared net)) (flat_map uses_in (net_body net)) (map Taken (answer_name ∷ []))
+    ∙ or_from (list_any (is_wrong (all_declared net)) (flat_map uses_in (net_body net))) (list_any (is_wrong (all_declared net)) (map Taken (answer_name ∷ [])))
+    (none-wrong (all_declared net) (net_body net) body)
+    (none-taken (all_declared net) (answer_name ∷ []) (declared-local net answer_name (local-answer net), tt)) in
     ap name_found (ap (λ ns. find (is_wrong ns) (uses (net_program net))) (declared-net net) ∙ find-none (is_wrong (all_declared net)) (uses (net_program net)) wrong)
 
 -- ---- no local is read before it is assigned
@@ -309,21 +310,24 @@ among-filter t x [] = refl
 among-filter t x (n ∷ locals) =
     let more = among-filter t x locals in
     let go : (b : Bool) → is_same_name t n ≡ b → (s : Bool) → is_same_name x n ≡ s
-            → is_among x (if not b then n ∷ filter (λ n. not (is_same_name t n)) locals else filter (λ n. not (is_same_name t n)) locals)
-            ≡ ((s || is_among x locals) && not (is_same_name t x)) =
-        λ b. elim b as (λ b. is_same_name t n ≡ b → (s : Bool) → is_same_name x n ≡ s
-            → is_among x (if not b then n ∷ filter (λ n. not (is_same_name t n)) locals else filter (λ n. not (is_same_name t n)) locals)
-            ≡ ((s || is_among x locals) && not (is_same_name t x))) [
-          true ↦ λ tn s. elim s as (λ s. is_same_name x n ≡ s → is_among x (filter (λ n. not (is_same_name t n)) locals) ≡ ((s || is_among x locals) && not (is_same_name t x)))
-            [ true ↦ λ xn.
-                  let tx : is_same_name t x ≡ true = ap (is_same_name t) (same-eq x n xn) ∙ tn in
-                  more ∙ ap (λ b. is_among x locals && not b) tx ∙ and-none (is_among x locals) ∙ sym (ap not tx)
-            | false ↦ λ xn. more ]
-        | false ↦ λ tn s. elim s as (λ s. is_same_name x n ≡ s → (is_same_name x n || is_among x (filter (λ n. not (is_same_name t n)) locals)) ≡ ((s || is_among x locals) && not (is_same_name t x)))
-            [ true ↦ λ xn.
-                  let tx : is_same_name t x ≡ false = ap (is_same_name t) (same-eq x n xn) ∙ tn in
-                  ap (λ b. b || is_among x (filter (λ n. not (is_same_name t n)) locals)) xn ∙ sym (ap not tx)
-            | false ↦ λ xn. ap (λ b. b || is_among x (filter (λ n. not (is_same_name t n)) locals)) xn ∙ more ] ] in
+    → is_among x (if not b then n ∷ filter (λ n. not (is_same_name t n)) locals else filter (λ n. not (is_same_name t n)) locals)
+    ≡ ((s || is_among x locals) && not (is_same_name t x)) =
+    λ b. elim b as (λ b. is_same_name t n ≡ b → (s : Bool) → is_same_name x n ≡ s
+    → is_among x (if not b then n ∷ filter (λ n. not (is_same_name t n)) locals else filter (λ n. not (is_same_name t n)) locals)
+    ≡ ((s || is_among x locals) && not (is_same_name t x))) [
+      | true ↦ λ tn s. elim s as (λ s. is_same_name x n ≡ s → is_among x (filter (λ n. not (is_same_name t n)) locals) ≡ ((s || is_among x locals) && not (is_same_name t x))) [
+        | true ↦ λ xn.
+            let tx : is_same_name t x ≡ true = ap (is_same_name t) (same-eq x n xn) ∙ tn in
+            more ∙ ap (λ b. is_among x locals && not b) tx ∙ and-none (is_among x locals) ∙ sym (ap not tx)
+        | false ↦ λ xn. more
+      ]
+      | false ↦ λ tn s. elim s as (λ s. is_same_name x n ≡ s → (is_same_name x n || is_among x (filter (λ n. not (is_same_name t n)) locals)) ≡ ((s || is_among x locals) && not (is_same_name t x))) [
+        | true ↦ λ xn.
+            let tx : is_same_name t x ≡ false = ap (is_same_name t) (same-eq x n xn) ∙ tn in
+            ap (λ b. b || is_among x (filter (λ n. not (is_same_name t n)) locals)) xn ∙ sym (ap not tx)
+        | false ↦ λ xn. ap (λ b. b || is_among x (filter (λ n. not (is_same_name t n)) locals)) xn ∙ more
+      ]
+    ] in
     go (is_same_name t n) refl (is_same_name x n) refl
   where
     and-none : (b : Bool) → (b && false) ≡ false

@@ -126,7 +126,7 @@ says-program p is =
     let c = says-lines declaration declaration_kinds p.locals (λ k d h. says-declaration (get_or p.locals k d) (is.locals k d h)) in
     let d = says-lines assign_line assign_kinds p.body (λ k d h. says-assign (get_or p.body k d) (is.targets k d h) (is.values k d h)) in
     let e = says-then (codes "return ") (expr_text p.answer ++ (59 ∷ 10 ∷ 125 ∷ 10 ∷ [])) (Return ∷ []) (expr_kinds p.answer ++ Semicolon ∷ RightBrace ∷ [])
-        says-return (says-expr p.answer 59 (10 ∷ 125 ∷ 10 ∷ []) (Semicolon ∷ RightBrace ∷ []) is.answer refl says-last) in
+    says-return (says-expr p.answer 59 (10 ∷ 125 ∷ 10 ∷ []) (Semicolon ∷ RightBrace ∷ []) is.answer refl says-last) in
     let text1 = last_lines p.answer in
     let kinds1 = last_kinds p.answer in
     let text2 = flat_map assign_line p.body ++ text1 in
@@ -249,14 +249,28 @@ semicolon = record { token = Semicolon; only = refl; passes = refl }
 
 spells-state : (s : State) → begins_global s.name ≡ false → SpellsState s (state_kinds s)
 spells-state s own = record {
-  token = Static; value = tt; rest = Int ∷ Named s.name ∷ Equals ∷ bit_kind s.init ∷ Semicolon ∷ []; cut = refl; passes = refl;
+  token = Static;
+  value = tt;
+  rest = Int ∷ Named s.name ∷ Equals ∷ bit_kind s.init ∷ Semicolon ∷ [];
+  cut = refl;
+  passes = refl;
   behind = record {
-    token = Int; value = tt; rest = Named s.name ∷ Equals ∷ bit_kind s.init ∷ Semicolon ∷ []; cut = refl; passes = refl;
+    token = Int;
+    value = tt;
+    rest = Named s.name ∷ Equals ∷ bit_kind s.init ∷ Semicolon ∷ [];
+    cut = refl;
+    passes = refl;
     behind = record {
-      front = Named s.name ∷ []; back = Equals ∷ bit_kind s.init ∷ Semicolon ∷ []; cut = refl;
+      front = Named s.name ∷ [];
+      back = Equals ∷ bit_kind s.init ∷ Semicolon ∷ [];
+      cut = refl;
       first = record { token = Named s.name; only = refl; passes = own-passes s.name own };
       second = record {
-        token = Equals; value = tt; rest = bit_kind s.init ∷ Semicolon ∷ []; cut = refl; passes = refl;
+        token = Equals;
+        value = tt;
+        rest = bit_kind s.init ∷ Semicolon ∷ [];
+        cut = refl;
+        passes = refl;
         behind = record { front = bit_kind s.init ∷ []; back = Semicolon ∷ []; cut = refl; first = one-bit s.init; second = semicolon };
       };
     };
@@ -265,15 +279,25 @@ spells-state s own = record {
 
 spells-global : (n : List ℕ) → global_name (Named n) ≡ Some n → SpellsGlobal (Some n) (declaration_kinds n)
 spells-global n long = record {
-  token = Int; value = tt; rest = Named n ∷ Semicolon ∷ []; cut = refl; passes = refl;
+  token = Int;
+  value = tt;
+  rest = Named n ∷ Semicolon ∷ [];
+  cut = refl;
+  passes = refl;
   behind = record { front = Named n ∷ []; back = Semicolon ∷ []; cut = refl; first = record { token = Named n; only = refl; passes = long }; second = semicolon };
 }
 
 spells-local : (n : List ℕ) → begins_global n ≡ false → SpellsLocal n (declaration_kinds n)
 spells-local n own = record {
-  token = Int; value = tt; rest = Named n ∷ Semicolon ∷ []; cut = refl; passes = refl;
+  token = Int;
+  value = tt;
+  rest = Named n ∷ Semicolon ∷ [];
+  cut = refl;
+  passes = refl;
   behind = record {
-    front = Named n ∷ []; back = Semicolon ∷ []; cut = refl;
+    front = Named n ∷ [];
+    back = Semicolon ∷ [];
+    cut = refl;
     first = record { token = Named n; only = refl; passes = own-passes n own };
     second = semicolon;
   };
@@ -281,10 +305,16 @@ spells-local n own = record {
 
 spells-assign : (a : Assign) → IsPlain a.value → SpellsAssign (written_assign a) (assign_kinds a)
 spells-assign a plain = record {
-  front = Named a.target ∷ []; back = Equals ∷ (expr_kinds a.value ++ Semicolon ∷ []); cut = refl;
+  front = Named a.target ∷ [];
+  back = Equals ∷ (expr_kinds a.value ++ Semicolon ∷ []);
+  cut = refl;
   first = record { token = Named a.target; only = refl; passes = refl };
   second = record {
-    token = Equals; value = tt; rest = expr_kinds a.value ++ Semicolon ∷ []; cut = refl; passes = refl;
+    token = Equals;
+    value = tt;
+    rest = expr_kinds a.value ++ Semicolon ∷ [];
+    cut = refl;
+    passes = refl;
     behind = record { front = expr_kinds a.value; back = Semicolon ∷ []; cut = refl; first = spells-plain a.value plain; second = semicolon };
   };
 }
@@ -294,7 +324,9 @@ spells-many : {X Y : Type 0} (L : Y → List Kind → Type 0) (f : X → Y) (ks 
     → Many L (map f xs) (flat_map ks xs)
 spells-many L f ks [] all = refl
 spells-many L f ks (x ∷ xs) all = record {
-  front = ks x; back = flat_map ks xs; cut = refl;
+  front = ks x;
+  back = flat_map ks xs;
+  cut = refl;
   first = all 0 x (omega arith);
   second = spells-many L f ks xs (λ k d h. all (suc k) d (omega arith));
 }
@@ -303,7 +335,9 @@ spells-globals : (names : List (List ℕ)) → All (λ n. global_name (Named n) 
     → Loop SpellsGlobal names (flat_map declaration_kinds names ++ Int ∷ React ∷ [])
 spells-globals [] all = record { token = Int; value = tt; rest = React ∷ []; cut = refl; passes = refl; behind = record { token = React; only = refl; passes = refl } }
 spells-globals (n ∷ names) all = record {
-  front = declaration_kinds n; back = flat_map declaration_kinds names ++ Int ∷ React ∷ []; cut = refl;
+  front = declaration_kinds n;
+  back = flat_map declaration_kinds names ++ Int ∷ React ∷ [];
+  cut = refl;
   first = spells-global n (all 0 n (omega arith));
   second = spells-globals names (λ k d h. all (suc k) d (omega arith));
 }
@@ -315,9 +349,9 @@ map-itself (x ∷ xs) = ap (λ l. x ∷ l) (map-itself xs)
 pub spells-program : (p : Program) → IsSpelled p → SpellsText (written_program p) (program_kinds p)
 spells-program p is =
     let states = subst (λ l. Many SpellsState l (flat_map state_kinds p.states)) (map-itself p.states)
-        (spells-many SpellsState (λ s. s) state_kinds p.states (λ k d h. spells-state (get_or p.states k d) (is.states_own k d h))) in
+    (spells-many SpellsState (λ s. s) state_kinds p.states (λ k d h. spells-state (get_or p.states k d) (is.states_own k d h))) in
     let locals = subst (λ l. Many SpellsLocal l (flat_map declaration_kinds p.locals)) (map-itself p.locals)
-        (spells-many SpellsLocal (λ n. n) declaration_kinds p.locals (λ k d h. spells-local (get_or p.locals k d) (is.locals_own k d h))) in
+    (spells-many SpellsLocal (λ n. n) declaration_kinds p.locals (λ k d h. spells-local (get_or p.locals k d) (is.locals_own k d h))) in
     let body = spells-many SpellsAssign written_assign assign_kinds p.body (λ k d h. spells-assign (get_or p.body k d) (is.values k d h)) in
     let behind = flat_map declaration_kinds p.locals ++ (flat_map assign_kinds p.body ++ last_kinds p.answer) in
     record {
@@ -331,13 +365,29 @@ spells-program p is =
         cut = sym (append_assoc (flat_map declaration_kinds p.globals) (Int ∷ React ∷ []) (LeftParenthesis ∷ Void ∷ RightParenthesis ∷ LeftBrace ∷ behind));
         first = spells-globals p.globals is.globals_long;
         second = record {
-          token = LeftParenthesis; value = tt; rest = Void ∷ RightParenthesis ∷ LeftBrace ∷ behind; cut = refl; passes = refl;
+          token = LeftParenthesis;
+          value = tt;
+          rest = Void ∷ RightParenthesis ∷ LeftBrace ∷ behind;
+          cut = refl;
+          passes = refl;
           behind = record {
-            token = Void; value = tt; rest = RightParenthesis ∷ LeftBrace ∷ behind; cut = refl; passes = refl;
+            token = Void;
+            value = tt;
+            rest = RightParenthesis ∷ LeftBrace ∷ behind;
+            cut = refl;
+            passes = refl;
             behind = record {
-              token = RightParenthesis; value = tt; rest = LeftBrace ∷ behind; cut = refl; passes = refl;
+              token = RightParenthesis;
+              value = tt;
+              rest = LeftBrace ∷ behind;
+              cut = refl;
+              passes = refl;
               behind = record {
-                token = LeftBrace; value = tt; rest = behind; cut = refl; passes = refl;
+                token = LeftBrace;
+                value = tt;
+                rest = behind;
+                cut = refl;
+                passes = refl;
                 behind = record {
                   front = flat_map declaration_kinds p.locals;
                   back = flat_map assign_kinds p.body ++ last_kinds p.answer;
@@ -349,14 +399,22 @@ spells-program p is =
                     cut = refl;
                     first = body;
                     second = record {
-                      token = Return; value = tt; rest = expr_kinds p.answer ++ Semicolon ∷ RightBrace ∷ []; cut = refl; passes = refl;
+                      token = Return;
+                      value = tt;
+                      rest = expr_kinds p.answer ++ Semicolon ∷ RightBrace ∷ [];
+                      cut = refl;
+                      passes = refl;
                       behind = record {
                         front = expr_kinds p.answer;
                         back = Semicolon ∷ RightBrace ∷ [];
                         cut = refl;
                         first = spells-plain p.answer is.answer;
                         second = record {
-                          token = Semicolon; value = tt; rest = RightBrace ∷ []; cut = refl; passes = refl;
+                          token = Semicolon;
+                          value = tt;
+                          rest = RightBrace ∷ [];
+                          cut = refl;
+                          passes = refl;
                           behind = record { token = RightBrace; only = refl; passes = refl };
                         };
                       };

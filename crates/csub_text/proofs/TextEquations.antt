@@ -110,26 +110,26 @@ tokens_25 = refl
 
 tokens_worked : tokens (codes "static int s0 = 0;" ++ (10 ∷ []) ++ codes "int I_A;" ++ (10 ∷ []) ++ codes "int O_O;" ++
     (10 ∷ []) ++ codes "int react(void) {" ++ (10 ∷ []) ++ codes "int i0;" ++ (10 ∷ []) ++ codes "int g0;" ++ (10 ∷ []) ++ codes "int g1;" ++
-        (10 ∷ []) ++ codes "int t0;" ++ (10 ∷ []) ++ codes "int r;" ++ (10 ∷ []) ++ codes "i0 = I_A;" ++ (10 ∷ []) ++ codes "g0 = i0 & s0;" ++
-            (10 ∷ []) ++ codes "g1 = !g0;" ++ (10 ∷ []) ++ codes "t0 = g1;" ++ (10 ∷ []) ++ codes "O_O = g0;" ++ (10 ∷ []) ++ codes "r = s0;" ++
-                (10 ∷ []) ++ codes "s0 = t0;" ++ (10 ∷ []) ++ codes "return r;" ++ (10 ∷ []) ++ codes "}" ++ (10 ∷ [])) ≡ (tok Static 0 ∷ tok Int 7 ∷ tok
-                    (Named (codes "s0")) 11 ∷ tok Equals 14 ∷ tok Zero 16 ∷ tok Semicolon 17 ∷ tok Int 19 ∷ tok (Named
-                        (codes "I_A")) 23 ∷ tok Semicolon 26 ∷ tok Int 28 ∷ tok (Named
-                            (codes "O_O")) 32 ∷ tok Semicolon 35 ∷ tok Int 37 ∷ tok React 41 ∷ tok LeftParenthesis 46 ∷ tok Void 47 ∷ tok RightParenthesis 51 ∷
-                                tok LeftBrace 53 ∷ tok Int 55 ∷ tok (Named (codes "i0")) 59 ∷ tok Semicolon 61 ∷ tok Int 63 ∷ tok (Named
-                                    (codes "g0")) 67 ∷ tok Semicolon 69 ∷ tok Int 71 ∷ tok (Named (codes "g1")) 75 ∷ tok Semicolon 77 ∷ tok Int 79 ∷ tok
-                                        (Named (codes "t0")) 83 ∷ tok Semicolon 85 ∷ tok Int 87 ∷ tok (Named (codes "r")) 91 ∷ tok Semicolon 92 ∷ tok (Named
-                                            (codes "i0")) 94 ∷ tok Equals 97 ∷ tok (Named (codes "I_A")) 99 ∷ tok Semicolon 102 ∷ tok (Named
-                                                (codes "g0")) 104 ∷ tok Equals 107 ∷ tok (Named (codes "i0")) 109 ∷ tok Ampersand 112 ∷ tok (Named
-                                                    (codes "s0")) 114 ∷ tok Semicolon 116 ∷ tok (Named (codes "g1")) 118 ∷ tok Equals 121 ∷ tok Bang 123 ∷ tok
-                                                        (Named (codes "g0")) 124 ∷ tok Semicolon 126 ∷ tok (Named (codes "t0")) 128 ∷ tok Equals 131 ∷ tok
-                                                            (Named (codes "g1")) 133 ∷ tok Semicolon 135 ∷ tok (Named
-                                                                (codes "O_O")) 137 ∷ tok Equals 141 ∷ tok (Named (codes "g0")) 143 ∷ tok Semicolon 145 ∷ tok
-                                                                    (Named (codes "r")) 147 ∷ tok Equals 149 ∷ tok (Named
-                                                                        (codes "s0")) 151 ∷ tok Semicolon 153 ∷ tok (Named
-                                                                            (codes "s0")) 155 ∷ tok Equals 158 ∷ tok (Named
-                                                                                (codes "t0")) 160 ∷ tok Semicolon 162 ∷ tok Return 164 ∷ tok (Named
-                                                                                    (codes "r")) 171 ∷ tok Semicolon 172 ∷ tok RightBrace 174 ∷ [])
+    (10 ∷ []) ++ codes "int t0;" ++ (10 ∷ []) ++ codes "int r;" ++ (10 ∷ []) ++ codes "i0 = I_A;" ++ (10 ∷ []) ++ codes "g0 = i0 & s0;" ++
+    (10 ∷ []) ++ codes "g1 = !g0;" ++ (10 ∷ []) ++ codes "t0 = g1;" ++ (10 ∷ []) ++ codes "O_O = g0;" ++ (10 ∷ []) ++ codes "r = s0;" ++
+    (10 ∷ []) ++ codes "s0 = t0;" ++ (10 ∷ []) ++ codes "return r;" ++ (10 ∷ []) ++ codes "}" ++ (10 ∷ [])) ≡ (tok Static 0 ∷ tok Int 7 ∷ tok
+    (Named (codes "s0")) 11 ∷ tok Equals 14 ∷ tok Zero 16 ∷ tok Semicolon 17 ∷ tok Int 19 ∷ tok (Named
+    (codes "I_A")) 23 ∷ tok Semicolon 26 ∷ tok Int 28 ∷ tok (Named
+    (codes "O_O")) 32 ∷ tok Semicolon 35 ∷ tok Int 37 ∷ tok React 41 ∷ tok LeftParenthesis 46 ∷ tok Void 47 ∷ tok RightParenthesis 51 ∷
+    tok LeftBrace 53 ∷ tok Int 55 ∷ tok (Named (codes "i0")) 59 ∷ tok Semicolon 61 ∷ tok Int 63 ∷ tok (Named
+    (codes "g0")) 67 ∷ tok Semicolon 69 ∷ tok Int 71 ∷ tok (Named (codes "g1")) 75 ∷ tok Semicolon 77 ∷ tok Int 79 ∷ tok
+    (Named (codes "t0")) 83 ∷ tok Semicolon 85 ∷ tok Int 87 ∷ tok (Named (codes "r")) 91 ∷ tok Semicolon 92 ∷ tok (Named
+    (codes "i0")) 94 ∷ tok Equals 97 ∷ tok (Named (codes "I_A")) 99 ∷ tok Semicolon 102 ∷ tok (Named
+    (codes "g0")) 104 ∷ tok Equals 107 ∷ tok (Named (codes "i0")) 109 ∷ tok Ampersand 112 ∷ tok (Named
+    (codes "s0")) 114 ∷ tok Semicolon 116 ∷ tok (Named (codes "g1")) 118 ∷ tok Equals 121 ∷ tok Bang 123 ∷ tok
+    (Named (codes "g0")) 124 ∷ tok Semicolon 126 ∷ tok (Named (codes "t0")) 128 ∷ tok Equals 131 ∷ tok
+    (Named (codes "g1")) 133 ∷ tok Semicolon 135 ∷ tok (Named
+    (codes "O_O")) 137 ∷ tok Equals 141 ∷ tok (Named (codes "g0")) 143 ∷ tok Semicolon 145 ∷ tok
+    (Named (codes "r")) 147 ∷ tok Equals 149 ∷ tok (Named
+    (codes "s0")) 151 ∷ tok Semicolon 153 ∷ tok (Named
+    (codes "s0")) 155 ∷ tok Equals 158 ∷ tok (Named
+    (codes "t0")) 160 ∷ tok Semicolon 162 ∷ tok Return 164 ∷ tok (Named
+    (codes "r")) 171 ∷ tok Semicolon 172 ∷ tok RightBrace 174 ∷ [])
 tokens_worked = refl
 
 abbrev case_0_program : Program
@@ -139,7 +139,7 @@ case_0_program = record {
   locals = ((codes "i0") ∷ (codes "g0") ∷ (codes "g1") ∷ (codes "t0") ∷ (codes "r") ∷ []);
   body = (assign (codes "i0") (Name (codes "I_A")) ∷ assign (codes "g0") (And (MoreExprs (Name (codes "i0")) (MoreExprs (Name
       (codes "s0")) NoExprs))) ∷ assign (codes "g1") (Not (Name (codes "g0"))) ∷ assign (codes "t0") (Name (codes "g1")) ∷ assign (codes "O_O") (Name
-          (codes "g0")) ∷ assign (codes "r") (Name (codes "s0")) ∷ assign (codes "s0") (Name (codes "t0")) ∷ []);
+      (codes "g0")) ∷ assign (codes "r") (Name (codes "s0")) ∷ assign (codes "s0") (Name (codes "t0")) ∷ []);
   answer = (Name (codes "r"));
 }
 
@@ -157,7 +157,7 @@ case_1_program = record {
   locals = ((codes "i0") ∷ (codes "g0") ∷ (codes "g1") ∷ (codes "t0") ∷ (codes "r") ∷ []);
   body = (assign (codes "i0") (Name (codes "I_A")) ∷ assign (codes "g0") (And (MoreExprs (Name (codes "i0")) (MoreExprs (Name
       (codes "s0")) NoExprs))) ∷ assign (codes "g1") (Not (Name (codes "g0"))) ∷ assign (codes "O_O") (Name (codes "g0")) ∷ assign (codes "r") (Name
-          (codes "s0")) ∷ assign (codes "s0") (Name (codes "t0")) ∷ []);
+      (codes "s0")) ∷ assign (codes "s0") (Name (codes "t0")) ∷ []);
   answer = (Name (codes "r"));
 }
 
@@ -171,7 +171,7 @@ case_2_program = record {
   locals = ((codes "i0") ∷ (codes "g0") ∷ (codes "g0") ∷ (codes "g1") ∷ (codes "t0") ∷ (codes "r") ∷ []);
   body = (assign (codes "i0") (Name (codes "I_A")) ∷ assign (codes "g0") (And (MoreExprs (Name (codes "i0")) (MoreExprs (Name
       (codes "s0")) NoExprs))) ∷ assign (codes "g1") (Not (Name (codes "g0"))) ∷ assign (codes "t0") (Name (codes "g1")) ∷ assign (codes "O_O") (Name
-          (codes "g0")) ∷ assign (codes "r") (Name (codes "s0")) ∷ assign (codes "s0") (Name (codes "t0")) ∷ []);
+      (codes "g0")) ∷ assign (codes "r") (Name (codes "s0")) ∷ assign (codes "s0") (Name (codes "t0")) ∷ []);
   answer = (Name (codes "r"));
 }
 
@@ -185,7 +185,7 @@ case_3_program = record {
   locals = ((codes "i0") ∷ (codes "g0") ∷ (codes "t0") ∷ (codes "r") ∷ []);
   body = (assign (codes "i0") (Name (codes "I_A")) ∷ assign (codes "g0") (And (MoreExprs (Name (codes "i0")) (MoreExprs (Name
       (codes "s0")) NoExprs))) ∷ assign (codes "g1") (Not (Name (codes "g0"))) ∷ assign (codes "t0") (Name (codes "g1")) ∷ assign (codes "O_O") (Name
-          (codes "g0")) ∷ assign (codes "r") (Name (codes "s0")) ∷ assign (codes "s0") (Name (codes "t0")) ∷ []);
+      (codes "g0")) ∷ assign (codes "r") (Name (codes "s0")) ∷ assign (codes "s0") (Name (codes "t0")) ∷ []);
   answer = (Name (codes "r"));
 }
 
@@ -243,8 +243,8 @@ case_7_program = record {
   locals = ((codes "t") ∷ []);
   body = (assign (codes "O_x") (And (MoreExprs (Name (codes "s")) (MoreExprs (Or (MoreExprs (Name (codes "I_a")) (MoreExprs (Not (Name
       (codes "s"))) NoExprs))) NoExprs))) ∷ assign (codes "t") (Or (MoreExprs (Name (codes "O_x")) (MoreExprs (And (MoreExprs (Name (codes "O_y")) (MoreExprs
-          (Name (codes "I_a")) NoExprs))) NoExprs))) ∷ assign (codes "O_y") (Not (And (MoreExprs (Name (codes "t")) (MoreExprs (Name
-              (codes "s")) NoExprs)))) ∷ assign (codes "s") (Name (codes "t")) ∷ []);
+      (Name (codes "I_a")) NoExprs))) NoExprs))) ∷ assign (codes "O_y") (Not (And (MoreExprs (Name (codes "t")) (MoreExprs (Name
+      (codes "s")) NoExprs)))) ∷ assign (codes "s") (Name (codes "t")) ∷ []);
   answer = (Not (Name (codes "t")));
 }
 
@@ -327,7 +327,7 @@ case_13_program = record {
   locals = [];
   body = (assign (codes "O_c") (Or (MoreExprs (And (MoreExprs (Or (MoreExprs (Name (codes "p")) (MoreExprs (Name (codes "q")) NoExprs))) (MoreExprs (Name
       (codes "I_a")) NoExprs))) (MoreExprs (And (MoreExprs (Name (codes "I_b")) (MoreExprs (Not (Not (Name (codes "q")))) NoExprs))) NoExprs))) ∷ assign
-          (codes "p") (Or (MoreExprs (Name (codes "q")) (MoreExprs (Name (codes "I_a")) NoExprs))) ∷ assign (codes "q") (Not (Name (codes "p"))) ∷ []);
+      (codes "p") (Or (MoreExprs (Name (codes "q")) (MoreExprs (Name (codes "I_a")) NoExprs))) ∷ assign (codes "q") (Not (Name (codes "p"))) ∷ []);
   answer = (And (MoreExprs (Name (codes "O_c")) (MoreExprs (Name (codes "p")) NoExprs)));
 }
 
@@ -336,7 +336,7 @@ case_13_fault = refl
 
 case_13_run : run case_13_program (Event (true ∷ false ∷ []) ∷ Event (false ∷ false ∷ []) ∷ Event (false ∷ true ∷ []) ∷ Event (false ∷ true ∷ []) ∷ Event
     (true ∷ false ∷ []) ∷ Event (false ∷ false ∷ []) ∷ Event (false ∷ false ∷ []) ∷ []) ≡ (seen_as (true ∷ []) true ∷ seen_as (false ∷ []) false ∷ seen_as
-        (true ∷ []) true ∷ seen_as (false ∷ []) false ∷ seen_as (true ∷ []) true ∷ seen_as (false ∷ []) false ∷ seen_as (false ∷ []) false ∷ [])
+    (true ∷ []) true ∷ seen_as (false ∷ []) false ∷ seen_as (true ∷ []) true ∷ seen_as (false ∷ []) false ∷ seen_as (false ∷ []) false ∷ [])
 case_13_run = refl
 
 abbrev net_0 : Netlist
@@ -351,15 +351,15 @@ net_0 = record {
 
 net_0_text : written net_0 ≡ (codes "static int s0 = 0;" ++ (10 ∷ []) ++ codes "int I_X_1;" ++ (10 ∷ []) ++ codes "int I_B;" ++
     (10 ∷ []) ++ codes "int O_Q2;" ++ (10 ∷ []) ++ codes "int react(void) {" ++ (10 ∷ []) ++ codes "int i0;" ++ (10 ∷ []) ++ codes "int i1;" ++
-        (10 ∷ []) ++ codes "int g0;" ++ (10 ∷ []) ++ codes "int t0;" ++ (10 ∷ []) ++ codes "int r;" ++ (10 ∷ []) ++ codes "i0 = I_X_1;" ++
-            (10 ∷ []) ++ codes "i1 = I_B;" ++ (10 ∷ []) ++ codes "g0 = i0 | s0;" ++ (10 ∷ []) ++ codes "t0 = s0;" ++ (10 ∷ []) ++ codes "O_Q2 = g0;" ++
-                (10 ∷ []) ++ codes "r = i0;" ++ (10 ∷ []) ++ codes "s0 = t0;" ++ (10 ∷ []) ++ codes "return r;" ++ (10 ∷ []) ++ codes "}" ++ (10 ∷ []))
+    (10 ∷ []) ++ codes "int g0;" ++ (10 ∷ []) ++ codes "int t0;" ++ (10 ∷ []) ++ codes "int r;" ++ (10 ∷ []) ++ codes "i0 = I_X_1;" ++
+    (10 ∷ []) ++ codes "i1 = I_B;" ++ (10 ∷ []) ++ codes "g0 = i0 | s0;" ++ (10 ∷ []) ++ codes "t0 = s0;" ++ (10 ∷ []) ++ codes "O_Q2 = g0;" ++
+    (10 ∷ []) ++ codes "r = i0;" ++ (10 ∷ []) ++ codes "s0 = t0;" ++ (10 ∷ []) ++ codes "return r;" ++ (10 ∷ []) ++ codes "}" ++ (10 ∷ []))
 unfolding digits
 net_0_text = refl
 
 net_0_run : run (net_program net_0) (Event (true ∷ false ∷ []) ∷ Event (true ∷ true ∷ []) ∷ Event (true ∷ false ∷ []) ∷ Event (true ∷ true ∷ []) ∷ Event
     (true ∷ true ∷ []) ∷ []) ≡ (seen_as (true ∷ []) true ∷ seen_as (true ∷ []) true ∷ seen_as (true ∷ []) true ∷ seen_as (true ∷ []) true ∷ seen_as
-        (true ∷ []) true ∷ [])
+    (true ∷ []) true ∷ [])
 unfolding digits
 net_0_run = refl
 
@@ -370,18 +370,24 @@ net_1 = record {
   outputs = [];
   paused = 3;
   latches = (record { init = false; from = record { 0 = 4 } } ∷ []);
-  gates = (record { op = ops.Not (record { 0 = 0 }); wire = Some (record { 0 = 11 }) } ∷ record { op = ops.Or (record { 0 = 0 })
-      (record { 0 = 3 }); wire = Some (record { 0 = 12 }) } ∷ record { op = ops.And (record { 0 = 3 }) (record { 0 = 0 }); wire = Some
-          (record { 0 = 7 }) } ∷ record { op = ops.Or (record { 0 = 4 }) (record { 0 = 1 }); wire = Some (record { 0 = 4 }) } ∷ []);
+  gates = (record { op = ops.Not (record { 0 = 0 }); wire = Some (record { 0 = 11 }) } ∷ record {
+    op = ops.Or (record { 0 = 0 })
+        (record { 0 = 3 });
+    wire = Some (record { 0 = 12 });
+  } ∷ record {
+    op = ops.And (record { 0 = 3 }) (record { 0 = 0 });
+    wire = Some
+        (record { 0 = 7 });
+  } ∷ record { op = ops.Or (record { 0 = 4 }) (record { 0 = 1 }); wire = Some (record { 0 = 4 }) } ∷ []);
 }
 
 net_1_text : written net_1 ≡ (codes "static int s0 = 0;" ++ (10 ∷ []) ++ codes "int I_B;" ++ (10 ∷ []) ++ codes "int I_A;" ++
     (10 ∷ []) ++ codes "int react(void) {" ++ (10 ∷ []) ++ codes "int i0;" ++ (10 ∷ []) ++ codes "int i1;" ++ (10 ∷ []) ++ codes "int w11;" ++
-        (10 ∷ []) ++ codes "int w12;" ++ (10 ∷ []) ++ codes "int w7;" ++ (10 ∷ []) ++ codes "int w4;" ++ (10 ∷ []) ++ codes "int t0;" ++
-            (10 ∷ []) ++ codes "int r;" ++ (10 ∷ []) ++ codes "i0 = I_B;" ++ (10 ∷ []) ++ codes "i1 = I_A;" ++ (10 ∷ []) ++ codes "w11 = !i0;" ++
-                (10 ∷ []) ++ codes "w12 = i0 | w11;" ++ (10 ∷ []) ++ codes "w7 = w11 & i0;" ++ (10 ∷ []) ++ codes "w4 = w12 | i1;" ++
-                    (10 ∷ []) ++ codes "t0 = w12;" ++ (10 ∷ []) ++ codes "r = w11;" ++ (10 ∷ []) ++ codes "s0 = t0;" ++ (10 ∷ []) ++ codes "return r;" ++
-                        (10 ∷ []) ++ codes "}" ++ (10 ∷ []))
+    (10 ∷ []) ++ codes "int w12;" ++ (10 ∷ []) ++ codes "int w7;" ++ (10 ∷ []) ++ codes "int w4;" ++ (10 ∷ []) ++ codes "int t0;" ++
+    (10 ∷ []) ++ codes "int r;" ++ (10 ∷ []) ++ codes "i0 = I_B;" ++ (10 ∷ []) ++ codes "i1 = I_A;" ++ (10 ∷ []) ++ codes "w11 = !i0;" ++
+    (10 ∷ []) ++ codes "w12 = i0 | w11;" ++ (10 ∷ []) ++ codes "w7 = w11 & i0;" ++ (10 ∷ []) ++ codes "w4 = w12 | i1;" ++
+    (10 ∷ []) ++ codes "t0 = w12;" ++ (10 ∷ []) ++ codes "r = w11;" ++ (10 ∷ []) ++ codes "s0 = t0;" ++ (10 ∷ []) ++ codes "return r;" ++
+    (10 ∷ []) ++ codes "}" ++ (10 ∷ []))
 unfolding digits
 net_1_text = refl
 
@@ -397,17 +403,20 @@ net_2 = record {
   outputs = (record { name = (codes "A"); net = record { 0 = 2 } } ∷ record { name = (codes "Q2"); net = record { 0 = 3 } } ∷ []);
   paused = 3;
   latches = (record { init = true; from = record { 0 = 5 } } ∷ record { init = false; from = record { 0 = 2 } } ∷ []);
-  gates = (record { op = ops.Or (record { 0 = 2 }) (record { 0 = 0 }); wire = Some (record { 0 = 15 }) } ∷ record { op = ops.Or (record { 0 = 2 })
-      (record { 0 = 1 }); wire = None } ∷ record { op = ops.And (record { 0 = 1 }) (record { 0 = 1 }); wire = None } ∷ []);
+  gates = (record { op = ops.Or (record { 0 = 2 }) (record { 0 = 0 }); wire = Some (record { 0 = 15 }) } ∷ record {
+    op = ops.Or (record { 0 = 2 })
+        (record { 0 = 1 });
+    wire = None;
+  } ∷ record { op = ops.And (record { 0 = 1 }) (record { 0 = 1 }); wire = None } ∷ []);
 }
 
 net_2_text : written net_2 ≡ (codes "static int s0 = 1;" ++ (10 ∷ []) ++ codes "static int s1 = 0;" ++ (10 ∷ []) ++ codes "int I_B;" ++
     (10 ∷ []) ++ codes "int O_A;" ++ (10 ∷ []) ++ codes "int O_Q2;" ++ (10 ∷ []) ++ codes "int react(void) {" ++ (10 ∷ []) ++ codes "int i0;" ++
-        (10 ∷ []) ++ codes "int w15;" ++ (10 ∷ []) ++ codes "int g1;" ++ (10 ∷ []) ++ codes "int g2;" ++ (10 ∷ []) ++ codes "int t0;" ++
-            (10 ∷ []) ++ codes "int t1;" ++ (10 ∷ []) ++ codes "int r;" ++ (10 ∷ []) ++ codes "i0 = I_B;" ++ (10 ∷ []) ++ codes "w15 = s1 | i0;" ++
-                (10 ∷ []) ++ codes "g1 = s1 | s0;" ++ (10 ∷ []) ++ codes "g2 = s0 & s0;" ++ (10 ∷ []) ++ codes "t0 = g2;" ++ (10 ∷ []) ++ codes "t1 = s1;" ++
-                    (10 ∷ []) ++ codes "O_A = s1;" ++ (10 ∷ []) ++ codes "O_Q2 = w15;" ++ (10 ∷ []) ++ codes "r = w15;" ++ (10 ∷ []) ++ codes "s0 = t0;" ++
-                        (10 ∷ []) ++ codes "s1 = t1;" ++ (10 ∷ []) ++ codes "return r;" ++ (10 ∷ []) ++ codes "}" ++ (10 ∷ []))
+    (10 ∷ []) ++ codes "int w15;" ++ (10 ∷ []) ++ codes "int g1;" ++ (10 ∷ []) ++ codes "int g2;" ++ (10 ∷ []) ++ codes "int t0;" ++
+    (10 ∷ []) ++ codes "int t1;" ++ (10 ∷ []) ++ codes "int r;" ++ (10 ∷ []) ++ codes "i0 = I_B;" ++ (10 ∷ []) ++ codes "w15 = s1 | i0;" ++
+    (10 ∷ []) ++ codes "g1 = s1 | s0;" ++ (10 ∷ []) ++ codes "g2 = s0 & s0;" ++ (10 ∷ []) ++ codes "t0 = g2;" ++ (10 ∷ []) ++ codes "t1 = s1;" ++
+    (10 ∷ []) ++ codes "O_A = s1;" ++ (10 ∷ []) ++ codes "O_Q2 = w15;" ++ (10 ∷ []) ++ codes "r = w15;" ++ (10 ∷ []) ++ codes "s0 = t0;" ++
+    (10 ∷ []) ++ codes "s1 = t1;" ++ (10 ∷ []) ++ codes "return r;" ++ (10 ∷ []) ++ codes "}" ++ (10 ∷ []))
 unfolding digits
 net_2_text = refl
 
@@ -423,19 +432,25 @@ net_3 = record {
   outputs = (record { name = (codes "P"); net = record { 0 = 6 } } ∷ []);
   paused = 7;
   latches = (record { init = false; from = record { 0 = 0 } } ∷ record { init = false; from = record { 0 = 5 } } ∷ []);
-  gates = (record { op = ops.Copy (record { 0 = 2 }); wire = Some (record { 0 = 0 }) } ∷ record { op = ops.Not (record { 0 = 3 }); wire = Some
-      (record { 0 = 15 }) } ∷ record { op = ops.Not (record { 0 = 1 }); wire = None } ∷ record { op = ops.Not (record { 0 = 5 }); wire = Some
-          (record { 0 = 2 }) } ∷ record { op = ops.Or (record { 0 = 2 }) (record { 0 = 1 }); wire = None } ∷ []);
+  gates = (record { op = ops.Copy (record { 0 = 2 }); wire = Some (record { 0 = 0 }) } ∷ record {
+    op = ops.Not (record { 0 = 3 });
+    wire = Some
+        (record { 0 = 15 });
+  } ∷ record { op = ops.Not (record { 0 = 1 }); wire = None } ∷ record {
+    op = ops.Not (record { 0 = 5 });
+    wire = Some
+        (record { 0 = 2 });
+  } ∷ record { op = ops.Or (record { 0 = 2 }) (record { 0 = 1 }); wire = None } ∷ []);
 }
 
 net_3_text : written net_3 ≡ (codes "static int s0 = 0;" ++ (10 ∷ []) ++ codes "static int s1 = 0;" ++ (10 ∷ []) ++ codes "int I_X_1;" ++
     (10 ∷ []) ++ codes "int O_P;" ++ (10 ∷ []) ++ codes "int react(void) {" ++ (10 ∷ []) ++ codes "int i0;" ++ (10 ∷ []) ++ codes "int w0;" ++
-        (10 ∷ []) ++ codes "int w15;" ++ (10 ∷ []) ++ codes "int g2;" ++ (10 ∷ []) ++ codes "int w2;" ++ (10 ∷ []) ++ codes "int g4;" ++
-            (10 ∷ []) ++ codes "int t0;" ++ (10 ∷ []) ++ codes "int t1;" ++ (10 ∷ []) ++ codes "int r;" ++ (10 ∷ []) ++ codes "i0 = I_X_1;" ++
-                (10 ∷ []) ++ codes "w0 = s1;" ++ (10 ∷ []) ++ codes "w15 = !w0;" ++ (10 ∷ []) ++ codes "g2 = !s0;" ++ (10 ∷ []) ++ codes "w2 = !g2;" ++
-                    (10 ∷ []) ++ codes "g4 = s1 | s0;" ++ (10 ∷ []) ++ codes "t0 = i0;" ++ (10 ∷ []) ++ codes "t1 = g2;" ++ (10 ∷ []) ++ codes "O_P = w2;" ++
-                        (10 ∷ []) ++ codes "r = g4;" ++ (10 ∷ []) ++ codes "s0 = t0;" ++ (10 ∷ []) ++ codes "s1 = t1;" ++ (10 ∷ []) ++ codes "return r;" ++
-                            (10 ∷ []) ++ codes "}" ++ (10 ∷ []))
+    (10 ∷ []) ++ codes "int w15;" ++ (10 ∷ []) ++ codes "int g2;" ++ (10 ∷ []) ++ codes "int w2;" ++ (10 ∷ []) ++ codes "int g4;" ++
+    (10 ∷ []) ++ codes "int t0;" ++ (10 ∷ []) ++ codes "int t1;" ++ (10 ∷ []) ++ codes "int r;" ++ (10 ∷ []) ++ codes "i0 = I_X_1;" ++
+    (10 ∷ []) ++ codes "w0 = s1;" ++ (10 ∷ []) ++ codes "w15 = !w0;" ++ (10 ∷ []) ++ codes "g2 = !s0;" ++ (10 ∷ []) ++ codes "w2 = !g2;" ++
+    (10 ∷ []) ++ codes "g4 = s1 | s0;" ++ (10 ∷ []) ++ codes "t0 = i0;" ++ (10 ∷ []) ++ codes "t1 = g2;" ++ (10 ∷ []) ++ codes "O_P = w2;" ++
+    (10 ∷ []) ++ codes "r = g4;" ++ (10 ∷ []) ++ codes "s0 = t0;" ++ (10 ∷ []) ++ codes "s1 = t1;" ++ (10 ∷ []) ++ codes "return r;" ++
+    (10 ∷ []) ++ codes "}" ++ (10 ∷ []))
 unfolding digits
 net_3_text = refl
 
@@ -456,8 +471,8 @@ net_4 = record {
 
 net_4_text : written net_4 ≡ (codes "static int s0 = 1;" ++ (10 ∷ []) ++ codes "static int s1 = 0;" ++ (10 ∷ []) ++ codes "int react(void) {" ++
     (10 ∷ []) ++ codes "int w4;" ++ (10 ∷ []) ++ codes "int t0;" ++ (10 ∷ []) ++ codes "int t1;" ++ (10 ∷ []) ++ codes "int r;" ++
-        (10 ∷ []) ++ codes "w4 = s1 | s0;" ++ (10 ∷ []) ++ codes "t0 = s0;" ++ (10 ∷ []) ++ codes "t1 = w4;" ++ (10 ∷ []) ++ codes "r = s0;" ++
-            (10 ∷ []) ++ codes "s0 = t0;" ++ (10 ∷ []) ++ codes "s1 = t1;" ++ (10 ∷ []) ++ codes "return r;" ++ (10 ∷ []) ++ codes "}" ++ (10 ∷ []))
+    (10 ∷ []) ++ codes "w4 = s1 | s0;" ++ (10 ∷ []) ++ codes "t0 = s0;" ++ (10 ∷ []) ++ codes "t1 = w4;" ++ (10 ∷ []) ++ codes "r = s0;" ++
+    (10 ∷ []) ++ codes "s0 = t0;" ++ (10 ∷ []) ++ codes "s1 = t1;" ++ (10 ∷ []) ++ codes "return r;" ++ (10 ∷ []) ++ codes "}" ++ (10 ∷ []))
 unfolding digits
 net_4_text = refl
 
@@ -473,21 +488,24 @@ net_5 = record {
   outputs = (record { name = (codes "A"); net = record { 0 = 1 } } ∷ []);
   paused = 1;
   latches = [];
-  gates = (record { op = ops.Copy (record { 0 = 0 }); wire = Some (record { 0 = 14 }) } ∷ record { op = ops.Or (record { 0 = 0 })
-      (record { 0 = 2 }); wire = None } ∷ record { op = ops.And (record { 0 = 1 }) (record { 0 = 2 }); wire = None } ∷ []);
+  gates = (record { op = ops.Copy (record { 0 = 0 }); wire = Some (record { 0 = 14 }) } ∷ record {
+    op = ops.Or (record { 0 = 0 })
+        (record { 0 = 2 });
+    wire = None;
+  } ∷ record { op = ops.And (record { 0 = 1 }) (record { 0 = 2 }); wire = None } ∷ []);
 }
 
 net_5_text : written net_5 ≡ (codes "int I_A;" ++ (10 ∷ []) ++ codes "int I_B;" ++ (10 ∷ []) ++ codes "int O_A;" ++ (10 ∷ []) ++ codes "int react(void) {" ++
     (10 ∷ []) ++ codes "int i0;" ++ (10 ∷ []) ++ codes "int i1;" ++ (10 ∷ []) ++ codes "int w14;" ++ (10 ∷ []) ++ codes "int g1;" ++
-        (10 ∷ []) ++ codes "int g2;" ++ (10 ∷ []) ++ codes "int r;" ++ (10 ∷ []) ++ codes "i0 = I_A;" ++ (10 ∷ []) ++ codes "i1 = I_B;" ++
-            (10 ∷ []) ++ codes "w14 = i0;" ++ (10 ∷ []) ++ codes "g1 = i0 | w14;" ++ (10 ∷ []) ++ codes "g2 = i1 & w14;" ++ (10 ∷ []) ++ codes "O_A = i1;" ++
-                (10 ∷ []) ++ codes "r = i1;" ++ (10 ∷ []) ++ codes "return r;" ++ (10 ∷ []) ++ codes "}" ++ (10 ∷ []))
+    (10 ∷ []) ++ codes "int g2;" ++ (10 ∷ []) ++ codes "int r;" ++ (10 ∷ []) ++ codes "i0 = I_A;" ++ (10 ∷ []) ++ codes "i1 = I_B;" ++
+    (10 ∷ []) ++ codes "w14 = i0;" ++ (10 ∷ []) ++ codes "g1 = i0 | w14;" ++ (10 ∷ []) ++ codes "g2 = i1 & w14;" ++ (10 ∷ []) ++ codes "O_A = i1;" ++
+    (10 ∷ []) ++ codes "r = i1;" ++ (10 ∷ []) ++ codes "return r;" ++ (10 ∷ []) ++ codes "}" ++ (10 ∷ []))
 unfolding digits
 net_5_text = refl
 
 net_5_run : run (net_program net_5) (Event (false ∷ true ∷ []) ∷ Event (true ∷ true ∷ []) ∷ Event (true ∷ true ∷ []) ∷ Event (true ∷ false ∷ []) ∷ Event
     (false ∷ true ∷ []) ∷ []) ≡ (seen_as (true ∷ []) true ∷ seen_as (true ∷ []) true ∷ seen_as (true ∷ []) true ∷ seen_as (false ∷ []) false ∷ seen_as
-        (true ∷ []) true ∷ [])
+    (true ∷ []) true ∷ [])
 unfolding digits
 net_5_run = refl
 
@@ -518,20 +536,26 @@ net_7 = record {
   outputs = (record { name = (codes "P"); net = record { 0 = 0 } } ∷ []);
   paused = 7;
   latches = (record { init = false; from = record { 0 = 0 } } ∷ record { init = true; from = record { 0 = 3 } } ∷ []);
-  gates = (record { op = ops.Or (record { 0 = 0 }) (record { 0 = 0 }); wire = Some (record { 0 = 10 }) } ∷ record { op = ops.Or (record { 0 = 0 })
-      (record { 0 = 2 }); wire = Some (record { 0 = 2 }) } ∷ record { op = ops.Copy (record { 0 = 4 }); wire = None } ∷ record { op = ops.And
-          (record { 0 = 2 }) (record { 0 = 5 }); wire = Some (record { 0 = 1 }) } ∷ []);
+  gates = (record { op = ops.Or (record { 0 = 0 }) (record { 0 = 0 }); wire = Some (record { 0 = 10 }) } ∷ record {
+    op = ops.Or (record { 0 = 0 })
+        (record { 0 = 2 });
+    wire = Some (record { 0 = 2 });
+  } ∷ record { op = ops.Copy (record { 0 = 4 }); wire = None } ∷ record {
+    op = ops.And
+        (record { 0 = 2 }) (record { 0 = 5 });
+    wire = Some (record { 0 = 1 });
+  } ∷ []);
 }
 
 net_7_text : written net_7 ≡ (codes "static int s0 = 0;" ++ (10 ∷ []) ++ codes "static int s1 = 1;" ++ (10 ∷ []) ++ codes "int I_X_1;" ++
     (10 ∷ []) ++ codes "int I_A;" ++ (10 ∷ []) ++ codes "int O_P;" ++ (10 ∷ []) ++ codes "int react(void) {" ++ (10 ∷ []) ++ codes "int i0;" ++
-        (10 ∷ []) ++ codes "int i1;" ++ (10 ∷ []) ++ codes "int w10;" ++ (10 ∷ []) ++ codes "int w2;" ++ (10 ∷ []) ++ codes "int g2;" ++
-            (10 ∷ []) ++ codes "int w1;" ++ (10 ∷ []) ++ codes "int t0;" ++ (10 ∷ []) ++ codes "int t1;" ++ (10 ∷ []) ++ codes "int r;" ++
-                (10 ∷ []) ++ codes "i0 = I_X_1;" ++ (10 ∷ []) ++ codes "i1 = I_A;" ++ (10 ∷ []) ++ codes "w10 = i0 | i0;" ++
-                    (10 ∷ []) ++ codes "w2 = i0 | s0;" ++ (10 ∷ []) ++ codes "g2 = w10;" ++ (10 ∷ []) ++ codes "w1 = s0 & w2;" ++
-                        (10 ∷ []) ++ codes "t0 = i0;" ++ (10 ∷ []) ++ codes "t1 = s1;" ++ (10 ∷ []) ++ codes "O_P = i0;" ++ (10 ∷ []) ++ codes "r = w1;" ++
-                            (10 ∷ []) ++ codes "s0 = t0;" ++ (10 ∷ []) ++ codes "s1 = t1;" ++ (10 ∷ []) ++ codes "return r;" ++ (10 ∷ []) ++ codes "}" ++
-                                (10 ∷ []))
+    (10 ∷ []) ++ codes "int i1;" ++ (10 ∷ []) ++ codes "int w10;" ++ (10 ∷ []) ++ codes "int w2;" ++ (10 ∷ []) ++ codes "int g2;" ++
+    (10 ∷ []) ++ codes "int w1;" ++ (10 ∷ []) ++ codes "int t0;" ++ (10 ∷ []) ++ codes "int t1;" ++ (10 ∷ []) ++ codes "int r;" ++
+    (10 ∷ []) ++ codes "i0 = I_X_1;" ++ (10 ∷ []) ++ codes "i1 = I_A;" ++ (10 ∷ []) ++ codes "w10 = i0 | i0;" ++
+    (10 ∷ []) ++ codes "w2 = i0 | s0;" ++ (10 ∷ []) ++ codes "g2 = w10;" ++ (10 ∷ []) ++ codes "w1 = s0 & w2;" ++
+    (10 ∷ []) ++ codes "t0 = i0;" ++ (10 ∷ []) ++ codes "t1 = s1;" ++ (10 ∷ []) ++ codes "O_P = i0;" ++ (10 ∷ []) ++ codes "r = w1;" ++
+    (10 ∷ []) ++ codes "s0 = t0;" ++ (10 ∷ []) ++ codes "s1 = t1;" ++ (10 ∷ []) ++ codes "return r;" ++ (10 ∷ []) ++ codes "}" ++
+    (10 ∷ []))
 unfolding digits
 net_7_text = refl
 

@@ -107,6 +107,10 @@ copies-kinds name (Relations relations ∷ decls) = copies-kinds name decls
 pub interface-differs : (given : List (List ℕ)) (decls : List Decl) → decl_faults given [] decls ≡ []
     → all_differ is_same_name (flat_map inputs_in decls ++ (flat_map both_in decls ++ flat_map outputs_in decls)) ≡ true
 interface-differs given decls none =
-    all_differ-once (flat_map inputs_in decls ++ (flat_map both_in decls ++ flat_map outputs_in decls)) (λ name. omega (arith,
-    once_declared given [] decls none (λ n. omega arith) name, copies-kinds name decls,
-    copies-append name (flat_map inputs_in decls) (flat_map both_in decls ++ flat_map outputs_in decls), copies-append name (flat_map both_in decls) (flat_map outputs_in decls)))
+    all_differ-once (flat_map inputs_in decls ++ (flat_map both_in decls ++ flat_map outputs_in decls)) (λ name. omega (
+      arith,
+      once_declared given [] decls none (λ n. omega arith) name,
+      copies-kinds name decls,
+      copies-append name (flat_map inputs_in decls) (flat_map both_in decls ++ flat_map outputs_in decls),
+      copies-append name (flat_map both_in decls) (flat_map outputs_in decls),
+    ))

@@ -9,6 +9,6 @@ pub returns-clause-text : goal.returns-clause-text
 returns-clause-text c =
     let net = netlist_of c.args.net.now in
     let whole = body-parts _ _ _ _ _ _ (numbered input_assign 0 net.inputs) (numbered (gate_assign net) 0 net.gates) (numbered (next_assign net) 0 net.latches)
-        (map (output_assign net) net.outputs) (numbered state_assign 0 net.latches) (answer_assign net) c.in_ok-put_input_assigns.ensures
-        c.in_ok-put_gate_assigns.ensures.text c.in_ok-put_next_assigns.ensures c.in_ok-put_output_assigns.ensures c.in_ok-put_answer_assign.ensures in
+    (map (output_assign net) net.outputs) (numbered state_assign 0 net.latches) (answer_assign net) c.in_ok-put_input_assigns.ensures
+    c.in_ok-put_gate_assigns.ensures.text c.in_ok-put_next_assigns.ensures c.in_ok-put_output_assigns.ensures c.in_ok-put_answer_assign.ensures in
     on_ok_weaker c.put_state_assigns.result (λ last. last ∙ whole) c.put_state_assigns.ensures

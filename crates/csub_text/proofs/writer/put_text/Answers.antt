@@ -9,5 +9,5 @@ pub returns-clause-text : goal.returns-clause-text
 returns-clause-text c =
     let net = netlist_of c.args.net.now in
     let whole = text-parts (net_program net) (map input_variable net.inputs) (map output_variable net.outputs) _ _ _ _ _ _ refl c.in_ok-put_states.ensures
-        c.in_ok-put_globals.ensures c.in_ok-put.ensures c.in_ok-put_locals.ensures c.in_ok-put_body.ensures.text in
+    c.in_ok-put_globals.ensures c.in_ok-put.ensures c.in_ok-put_locals.ensures c.in_ok-put_body.ensures.text in
     on_ok_weaker c.put-2.result (λ last. last ∙ whole) c.put-2.ensures

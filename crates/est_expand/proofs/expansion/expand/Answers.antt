@@ -22,7 +22,7 @@ returns-clause-fits c =
     let in_program : k < length program = omega (arith, within, c.main.ensures, length-map program (λ (m : Module). m.name.text)) in
     let low : k < length modules = omega (arith, in_program, length-map modules module_of) in
     let faultless = subst (λ (m : Module). interface_faults m.decls ≡ []) (get_or-map module_of modules k m (module_of m) low ∙ ap module_of (sym c.index-main.ensures))
-        (faultless-interface c.requires.0 program k (module_of m) table.faultless in_program) in
+    (faultless-interface c.requires.0 program k (module_of m) table.faultless in_program) in
     answer-fits c.flat_main.result (map module_of c.deref.result.now) (module_of m) faultless c.flat_main.ensures
 
 pub returns-clause-named : goal.returns-clause-named
@@ -35,7 +35,7 @@ returns-clause-named c = λ main there written.
     let in_program : k < length program = omega (arith, within, c.main.ensures, length-map program (λ (m : Module). m.name.text)) in
     let low : k < length modules = omega (arith, in_program, length-map modules module_of) in
     let here = slice_get-get_or program k (module_of m) in_program
-        ∙ ap Some (get_or-map module_of modules k m (module_of m) low ∙ ap module_of (sym c.index-main.ensures)) in
+    ∙ ap Some (get_or-map module_of modules k m (module_of m) low ∙ ap module_of (sym c.index-main.ensures)) in
     let both : Some main ≡ Some (module_of m) = sym there ∙ ap (slice_get program) (sym c.main.ensures) ∙ here in
     let same : main ≡ module_of m = cc in
     answer-named c.flat_main.result (map module_of c.deref.result.now) (module_of m) (subst IsNamedModule same written) c.flat_main.ensures
