@@ -15,4 +15,4 @@ mod tests;
 mod walk;
 
 pub use refusal::CodeFault;
-pub use walk::codes;
+pub use walk::{code_sets, codes};

@@ -1,11 +1,12 @@
 // The walk over a body that lists the codes of its statements.
 
-ghost use Rattle.std.specs.Prelude.{◌≡◌, ◌<◌, IfOk, IfErr, slice_set, length};
+ghost use Rattle.std.specs.Prelude.{◌≡◌, ◌<◌, IfOk, IfErr, slice_set, length, []};
 ghost use Rattle.est_kernel.specs.CodeLists.{AreCodesOf};
 ghost use Rattle.est_kernel.specs.Plain.{term_of};
 ghost use Rattle.est_kernel.specs.StaticCodes.{instant_loops, NoInstantLoop};
 ghost use Rattle.est_kernel.specs.WellFormed.{KeepsLimits};
 ghost use Rattle.est_kernel.specs.Terms.{Term, Loop};
+ghost use Rattle.est_codes.specs.declared.walk.Found.{Found};
 ghost use Rattle.est_codes.specs.Entries.{ExitsFit, HasCodesOf, Lists};
 ghost use Rattle.est_codes.specs.Faults.{FaultHasCause, IsLeast};
 
@@ -28,9 +29,28 @@ pub fn codes(alloc: Global, body: &Kernel) -> Result<Codes, CodeFault>
     if let Some(place) = found.least {
         return Err(CodeFault::InstantLoop(place));
     }
+    Ok(entry_sets(alloc, &entries)?)
+}
+
+/// The static codes of each statement of the body, by its number in preorder, whether or not the body has an
+/// instantaneous loop.
+pub fn code_sets(alloc: Global, body: &Kernel) -> Result<Codes, NoMemory>
+    requires { KeepsLimits (term_of body.now) }
+    ensures { IfOk result (λ codes. AreCodesOf codes (term_of body.now)) }
+{
+    let mut entries = Vec::new(alloc);
+    list_entries(body, &mut entries)?;
+    entry_sets(alloc, &entries)
+}
+
+// The sets of the statements that have these entries.
+fn entry_sets(alloc: Global, entries: &[Entry]) -> Result<Codes, NoMemory>
+    ensures { IfOk result (λ codes. (found : Found) (body : Term) → Lists [] entries.now found body
+        → AreCodesOf codes body) }
+{
     Ok(Codes {
-        started: started_sets(alloc, entries.as_slice())?,
-        resumed: resumed_sets(alloc, entries.as_slice())?,
+        started: started_sets(alloc, entries)?,
+        resumed: resumed_sets(alloc, entries)?,
     })
 }
 

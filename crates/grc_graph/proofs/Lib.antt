@@ -8,3 +8,13 @@ pub mod LiveInstances
 pub mod ResidualCodes
 pub mod ResumedPauses
 mod InstanceExamples
+pub mod CodesBelow
+pub mod StatementLists
+pub mod RowReads
+pub mod RowFacts
+pub mod WireRuns
+pub mod WireNames
+pub mod WireFilling
+pub mod NeighbourReads
+pub mod LiveLayers
+pub mod RowSpots

@@ -18,7 +18,7 @@ abbrev Rises : List ℕ → Type 0
 Rises [] = Unit {0}
 Rises (x ∷ xs) = All (λ y. x < y) xs × Rises xs
 
-record RootsFit (n : ℕ) (roots : List ℕ) : Type 0 where
+pub record RootsFit (n : ℕ) (roots : List ℕ) : Type 0 where
   pub rises : Rises roots
   pub within : All (λ r. r ≤ n) roots
 
@@ -52,13 +52,13 @@ fewer_roots n false roots h = record { rises = tt; within = All-nil (λ r. r ≤
 same_roots : (n m : ℕ) (roots : List ℕ) → n ≤ m → RootsFit n roots → RootsFit m roots
 same_roots n m roots l h = record { rises = h.rises; within = All-weaker (λ r. r ≤ n) (λ r. r ≤ m) (λ r e. omega arith) roots h.within }
 
-part_fits : (a : Liveness) (p : Term) (n m : ℕ) → n ≤ m → RootsFit n a.roots → RootsFit m (part_liveness a p).roots
+pub part_fits : (a : Liveness) (p : Term) (n m : ℕ) → n ≤ m → RootsFit n a.roots → RootsFit m (part_liveness a p).roots
 part_fits a p n m l h = same_roots n m a.roots l h
 
-second_fits : (a : Liveness) (p q : Term) (n m : ℕ) → n < m → RootsFit n a.roots → RootsFit m (second_liveness a p q m).roots
+pub second_fits : (a : Liveness) (p q : Term) (n m : ℕ) → n < m → RootsFit n a.roots → RootsFit m (second_liveness a p q m).roots
 second_fits a p q n m l h = more_roots n m (a.resumed && resumed_codes p 0) _ l (fewer_roots n (started_codes p 0) a.roots h)
 
-loop_fits : (a : Liveness) (p : Term) (n m : ℕ) → n < m → RootsFit n a.roots → RootsFit m (loop_liveness a p m).roots
+pub loop_fits : (a : Liveness) (p : Term) (n m : ℕ) → n < m → RootsFit n a.roots → RootsFit m (loop_liveness a p m).roots
 loop_fits a p n m l h = more_roots n m (a.resumed && resumed_codes p 0) a.roots l h
 
 -- ---- in order
@@ -174,7 +174,7 @@ ascending a (Trap p) n h = one_ascends a _ p n h.rises (ascending (part_liveness
 ascending a (Local s p) n h = one_ascends a _ p n h.rises (ascending (part_liveness a p) p (n + 1) (part_fits a p n (n + 1) (omega arith) h))
 ascending a (Awake e p) n h = one_ascends a _ p n h.rises (ascending (part_liveness a p) p (n + 1) (part_fits a p n (n + 1) (omega arith) h))
 
-body_fits : (body : Term) → RootsFit 0 (body_liveness body).roots
+pub body_fits : (body : Term) → RootsFit 0 (body_liveness body).roots
 body_fits body = record {
   rises = (All-nil (λ y. 0 < y), tt);
   within = All-cons (λ r. r ≤ 0) 0 [] (omega arith) (All-nil (λ r. r ≤ 0));
@@ -186,13 +186,13 @@ instances_ascend_lem body = ascending (body_liveness body) body 0 (body_fits bod
 -- ---- the statements around a live instance
 
 -- a layer of a part, seen from its whole, is one of the whole's
-record Upwards (a : Liveness) (n : ℕ) (b : Liveness) : Type 0 where
+pub record Upwards (a : Liveness) (n : ℕ) (b : Liveness) : Type 0 where
   pub up : (l : Layer) → Contains (layers_of b) l → Contains (layers_of a) (layer_above n l)
 
-resumed_in : (a : Liveness) → a.resumed ≡ true → Contains (layers_of a) Resumed
+pub resumed_in : (a : Liveness) → a.resumed ≡ true → Contains (layers_of a) Resumed
 resumed_in a h = Contains-append_left (if a.resumed then Resumed ∷ [] else []) (map Started a.roots) Resumed (rw h (0, omega arith, refl))
 
-started_in : (a : Liveness) (r : ℕ) → Contains a.roots r → Contains (layers_of a) (Started r)
+pub started_in : (a : Liveness) (r : ℕ) → Contains a.roots r → Contains (layers_of a) (Started r)
 started_in a r h =
     Contains-append_right (if a.resumed then Resumed ∷ [] else []) (map Started a.roots) (Started r)
     (h.0, omega (arith, h.1, length-map a.roots Started), get_or-map Started a.roots h.0 r (Started r) h.1 ∙ ap Started h.2)
@@ -209,26 +209,26 @@ from_started P roots l h g =
     let inside : h.0 < length roots = omega (arith, h.1, length-map roots Started) in
     subst P (sym (get_or-map Started roots h.0 0 l inside) ∙ h.2) (g (get_or roots h.0 0) (Contains-get_or roots h.0 0 inside))
 
-cases_of : (P : Layer → Type 0) (a : Liveness) (l : Layer) → Contains (layers_of a) l
+pub cases_of : (P : Layer → Type 0) (a : Liveness) (l : Layer) → Contains (layers_of a) l
     → (a.resumed ≡ true → P Resumed) → ((r : ℕ) → Contains a.roots r → P (Started r)) → P l
 cases_of P a l h f g =
     ⊎_elim (λ u. from_resumed P a.resumed l u f) (λ u. from_started P a.roots l u g)
     (Contains-append_cases (if a.resumed then Resumed ∷ [] else []) (map Started a.roots) l h)
 
-above_within : (n r : ℕ) → r ≤ n → layer_above n (Started r) ≡ Started r
+pub above_within : (n r : ℕ) → r ≤ n → layer_above n (Started r) ≡ Started r
 above_within n r h = let e : nat_le r n ≡ true = le-leb r n h in rw e refl
 
-above_behind : (n r : ℕ) → n < r → layer_above n (Started r) ≡ Resumed
+pub above_behind : (n r : ℕ) → n < r → layer_above n (Started r) ≡ Resumed
 above_behind n r h = let e : nat_le r n ≡ false = lt-leb r n h in rw e refl
 
-above_above : (n c : ℕ) (l : Layer) → n ≤ c → layer_above n (layer_above c l) ≡ layer_above n l
+pub above_above : (n c : ℕ) (l : Layer) → n ≤ c → layer_above n (layer_above c l) ≡ layer_above n l
 above_above n c Resumed h = refl
 above_above n c (Started r) h =
     ⊎_elim (λ lt. ap (λ l. layer_above n l) (above_behind c r lt) ∙ sym (above_behind n r (omega arith)))
     (λ ge. ap (λ l. layer_above n l) (above_within c r ge)) (cases_lt c r)
 
 -- a layer of a statement is what it is from its own number
-above_itself : (a : Liveness) (n : ℕ) (l : Layer) → RootsFit n a.roots → Contains (layers_of a) l → layer_above n l ≡ l
+pub above_itself : (a : Liveness) (n : ℕ) (l : Layer) → RootsFit n a.roots → Contains (layers_of a) l → layer_above n l ≡ l
 above_itself a n l fit h =
     cases_of (λ l. layer_above n l ≡ l) a l h (λ e. refl)
     (λ r k. above_within n r (All-contains (λ r. r ≤ n) a.roots r fit.within k))
@@ -245,27 +245,27 @@ up_of a b n fit f g = record {
       (g r k));
 }
 
-part_up : (a : Liveness) (p : Term) (n : ℕ) → RootsFit n a.roots → Upwards a n (part_liveness a p)
+pub part_up : (a : Liveness) (p : Term) (n : ℕ) → RootsFit n a.roots → Upwards a n (part_liveness a p)
 part_up a p n fit = up_of a (part_liveness a p) n fit (λ e. (and_parts a.resumed _ e).0) (λ r k. inl k)
 
-own_root : (b : Bool) (m r : ℕ) → Contains (root_if b m) r → (b ≡ true) × (r ≡ m)
+pub own_root : (b : Bool) (m r : ℕ) → Contains (root_if b m) r → (b ≡ true) × (r ≡ m)
 own_root true m r h =
     let first : h.0 ≡ 0 = omega (arith, h.1) in
     (refl, sym ((λ i. get_or (m ∷ []) (sym first i) r) ∙ h.2))
 own_root false m r h = absurd (omega (arith, h.1))
 
-of_fewer : (b : Bool) (roots : List ℕ) (r : ℕ) → Contains (if b then roots else []) r → Contains roots r
+pub of_fewer : (b : Bool) (roots : List ℕ) (r : ℕ) → Contains (if b then roots else []) r → Contains roots r
 of_fewer true roots r h = h
 of_fewer false roots r h = absurd (omega (arith, h.1))
 
-second_up : (a : Liveness) (p q : Term) (n m : ℕ) → n < m → RootsFit n a.roots → Upwards a n (second_liveness a p q m)
+pub second_up : (a : Liveness) (p q : Term) (n m : ℕ) → n < m → RootsFit n a.roots → Upwards a n (second_liveness a p q m)
 second_up a p q n m lt fit =
     up_of a (second_liveness a p q m) n fit (λ e. (and_parts a.resumed _ e).0)
     (λ r k. ⊎_elim (λ u. inl (of_fewer (started_codes p 0) a.roots r u))
     (λ u. let o = own_root (a.resumed && resumed_codes p 0) m r u in inr (omega (arith, o.1, lt), (and_parts a.resumed _ o.0).0))
     (Contains-append_cases (if started_codes p 0 then a.roots else []) (root_if (a.resumed && resumed_codes p 0) m) r k))
 
-loop_up : (a : Liveness) (p : Term) (n m : ℕ) → n < m → RootsFit n a.roots → Upwards a n (loop_liveness a p m)
+pub loop_up : (a : Liveness) (p : Term) (n m : ℕ) → n < m → RootsFit n a.roots → Upwards a n (loop_liveness a p m)
 loop_up a p n m lt fit =
     up_of a (loop_liveness a p m) n fit (λ e. (and_parts a.resumed _ e).0)
     (λ r k. ⊎_elim (λ u. inl u)
@@ -278,10 +278,10 @@ record Around (a : Liveness) (n m : ℕ) (l : Layer) (live : List Instance) (bs 
   pub layer : Contains (layers_of a) (layer_above n l)
   pub around : All (λ b. Contains live (at_layer b (layer_above b l))) bs
 
-in_map : (n : ℕ) (ls : List Layer) (l : Layer) → Contains ls l → Contains (map (at_layer n) ls) (at_layer n l)
+pub in_map : (n : ℕ) (ls : List Layer) (l : Layer) → Contains ls l → Contains (map (at_layer n) ls) (at_layer n l)
 in_map n ls l h = (h.0, omega (arith, h.1, length-map ls (at_layer n)), get_or-map (at_layer n) ls h.0 l (at_layer n l) h.1 ∙ ap (at_layer n) h.2)
 
-from_map : (n m : ℕ) (ls : List Layer) (l : Layer) → Contains (map (at_layer n) ls) (at_layer m l) → (m ≡ n) × Contains ls l
+pub from_map : (n m : ℕ) (ls : List Layer) (l : Layer) → Contains (map (at_layer n) ls) (at_layer m l) → (m ≡ n) × Contains ls l
 from_map n m ls l h =
     let inside : h.0 < length ls = omega (arith, h.1, length-map ls (at_layer n)) in
     let e : at_layer n (get_or ls h.0 l) ≡ at_layer m l = sym (get_or-map (at_layer n) ls h.0 l (at_layer m l) inside) ∙ h.2 in

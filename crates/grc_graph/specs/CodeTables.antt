@@ -7,10 +7,20 @@ use Rattle.est_kernel.specs.declared.code_lists.Codes.{Codes}
 use Rattle.est_kernel.specs.Terms.{Term, Nothing, Pause, Emit, Exit, Present, Suspend, Seq, Loop, Par, Trap, Local, Awake}
 use Rattle.est_kernel.specs.Preorder.{statement_count}
 use Rattle.est_kernel.specs.StaticCodes.{started_codes, resumed_codes}
+use Rattle.grc_graph.specs.Layers.{Layer, Resumed, Started}
+use Rattle.grc_graph.specs.Instances.{Instance}
 
 -- the set at a place of a list of sets
 abbrev pub set_at : List CodeSet → ℕ → ℕ → Bool
 set_at sets n = slice_index_or (map members sets) n no_code
+
+-- the codes that the lists have for an instance
+abbrev pub codes_at : Codes → ℕ → Layer → ℕ → Bool
+codes_at codes n Resumed = set_at codes.resumed.items n
+codes_at codes n (Started r) = set_at codes.started.items n
+
+abbrev pub codes_of : Codes → Instance → ℕ → Bool
+codes_of codes x = codes_at codes x.path x.layer
 
 -- the lists have the codes of a statement at n
 pub record HasCodesAt (codes : Codes) (t : Term) (n : ℕ) : Type 0 where

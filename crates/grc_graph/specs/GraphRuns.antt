@@ -11,7 +11,8 @@ use Rattle.grc_graph.specs.Scopes.{Scope, program_scope}
 use Rattle.grc_graph.specs.Wires.{Wire, Out, End, same_wire}
 use Rattle.grc_graph.specs.Formulas.{Formula, meaning}
 use Rattle.grc_graph.specs.Spots.{Spot, body_spots}
-use Rattle.grc_graph.specs.Equations.{Equation, equations, next_formula}
+use Rattle.grc_graph.specs.Equations.{Equation, equations, next_formula, wires}
+use Rattle.grc_graph.specs.Edges.{Edge, edges}
 use Rattle.grc_graph.specs.SelectionTrees.{body_leaves, selecting}
 use Rattle.grc_graph.specs.Walk.{State, Initial, Selecting}
 use Rattle.grc_graph.specs.Readings.{Valuation, boolean_reading}
@@ -29,6 +30,13 @@ pub record PlainGraph : Type 0 where
 -- the live instances of a program
 abbrev pub program_spots : Program → List Spot
 program_spots p = body_spots (body_layers p.body) (program_scope p.inputs (interface_count p)) p.body
+
+-- the wires of a program's graph, in order, and its dependency edges
+abbrev pub program_wires : Program → List Wire
+program_wires p = wires (interface_of p).outgoing (program_spots p)
+
+abbrev pub program_edges : Program → List Edge
+program_edges p = edges (program_spots p)
 
 -- the graph of a program
 abbrev pub graph_of : Program → PlainGraph

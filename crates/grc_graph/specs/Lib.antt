@@ -29,3 +29,8 @@ pub mod TreeReadings
 pub mod Statements
 pub mod StatementViews
 pub mod InstanceLaws
+pub mod Rows
+pub mod WireTables
+pub mod Neighbouring
+pub mod WireNames
+pub mod PlainWireNames

@@ -13,9 +13,11 @@ mod graph;
 mod instances;
 mod judgements;
 mod laws;
+mod neighbours;
 mod orders;
 mod statements;
 mod trees;
+mod wire_names;
 mod wires;
 
 pub use code_tables::{has_some_code, resumed_codes, started_codes};
@@ -26,7 +28,9 @@ pub use laws::{
     enclosing_instances_are_live, instances_ascend, leaves_are_resumed_pauses,
     residual_has_resumed_codes,
 };
+pub use neighbours::{Neighbours, layer_above};
 pub use orders::{Edges, Order, Ranks};
-pub use statements::{Entry, Statement, list_statements};
+pub use statements::{Binding, Entry, Statement, list_statements};
 pub use trees::{SelForm, SelNode, SelTree};
+pub use wire_names::{LayerName, Path, WireName};
 pub use wires::{Node, Wire};

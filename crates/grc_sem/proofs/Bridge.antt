@@ -12,7 +12,7 @@ use Rattle.grc_graph.specs.Formulas.{Formula, Negation}
 use Rattle.grc_graph.specs.Spots.{Spot, spots, spots_at, test_formula, tested_entry, suspended_entry, branch_entry, second_entry, loop_entry, part_entry}
 use Rattle.grc_graph.specs.Selected.{IsKernel}
 use Rattle.grc_solutions.proofs.Each.{spot}
-use Rattle.grc_solutions.proofs.Live.{Agrees, here_agrees, only_agrees, first_agrees, second_agrees}
+use Rattle.grc_graph.proofs.LiveLayers.{Agrees, here_agrees, only_agrees, first_agrees, second_agrees}
 
 pub or_left_comm : (a b c : Bool) → (a || (b || c)) ≡ (b || (a || c))
 or_left_comm true true c = refl

@@ -17,7 +17,8 @@ use Rattle.grc_graph.specs.Coherence.{statuses, StartedWalked, ResumedWalked}
 use Rattle.grc_solutions.proofs.Each.{spot}
 use Rattle.grc_sem.proofs.Residues.{resumed_live}
 use Rattle.grc_solutions.proofs.Binders.{Above, above_bind, layer_above-started}
-use Rattle.grc_solutions.proofs.Live.{Agrees, Root, only_agrees}
+use Rattle.grc_graph.proofs.LiveLayers.{Agrees, only_agrees}
+use Rattle.grc_solutions.proofs.Live.{Root}
 use Rattle.grc_sem.proofs.Emissions.{emission, emitted, Whole}
 use Rattle.grc_sem.proofs.Bridge.{started_any, resumed_any, split}
 use Rattle.grc_sem.proofs.WalkEmits.{Reach, started_silent, resumed_silent, started_emits, resumed_emits, guard_bits}

@@ -21,7 +21,8 @@ use Rattle.grc_solutions.proofs.Lists.{Every, every_of_all, every_left, every_fl
 use Rattle.grc_solutions.proofs.Each.{EachStarted, EachResumed}
 use Rattle.grc_solutions.proofs.Rows.{RowAt}
 use Rattle.grc_sem.proofs.Ranks.{Up, InScope}
-use Rattle.grc_solutions.proofs.Live.{body_agrees, layered}
+use Rattle.grc_graph.proofs.LiveLayers.{body_agrees}
+use Rattle.grc_solutions.proofs.Live.{layered}
 use Rattle.grc_solutions.proofs.Decode.{row_at}
 use Rattle.grc_sem.proofs.Emissions.{emitted, Whole}
 use Rattle.grc_sem.proofs.EndForms.{val}

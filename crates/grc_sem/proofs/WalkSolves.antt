@@ -21,7 +21,7 @@ use Rattle.grc_graph.specs.GraphRuns.{Solves, graph_of, program_spots}
 use Rattle.grc_solutions.specs.GraphWires.{program_wires}
 use Rattle.grc_solutions.proofs.Lists.{Every, every_append, every_from, every_contained, every_at}
 use Rattle.grc_solutions.proofs.Each.{EachStarted, EachResumed}
-use Rattle.grc_solutions.proofs.Live.{body_agrees}
+use Rattle.grc_graph.proofs.LiveLayers.{body_agrees}
 use Rattle.grc_solutions.proofs.SameWires.{given_contained, given_at, equation_of}
 use Rattle.grc_solutions.proofs.WireNames.{equation_wires_are}
 use Rattle.grc_solutions.proofs.Pairwise.{all_of_every, every_mapped, every_flat, listed_every}

@@ -19,7 +19,8 @@ use Rattle.grc_solutions.proofs.Each.{spot, EachStarted, EachResumed}
 use Rattle.grc_sem.proofs.Residues.{no_loops-right, loop_body}
 use Rattle.grc_solutions.proofs.Binders.{Above, above_more, above_bind, layer_above-started}
 use Rattle.grc_sem.proofs.Constructive.{and_true}
-use Rattle.grc_solutions.proofs.Live.{Agrees, Root, only_agrees, first_agrees, second_agrees}
+use Rattle.grc_graph.proofs.LiveLayers.{Agrees, only_agrees, first_agrees, second_agrees}
+use Rattle.grc_solutions.proofs.Live.{Root}
 use Rattle.grc_sem.proofs.Emissions.{Whole, whole_only, whole_first, whole_second}
 use Rattle.grc_sem.proofs.WalkEmits.{Reach, reach_part}
 use Rattle.grc_sem.proofs.EndForms.{val, test_meaning}

@@ -20,7 +20,7 @@ use Rattle.grc_graph.specs.GraphRuns.{program_spots, graph_of}
 use Rattle.grc_solutions.specs.GraphWires.{program_wires, program_edges, EdgesJoinWires, ReadsAreEdges}
 use Rattle.grc_solutions.proofs.Lists.{Every, every_append, every_right, every_from, every_all, every_at, every_contained}
 use Rattle.grc_solutions.proofs.Rows.{Between}
-use Rattle.grc_solutions.proofs.Live.{body_agrees}
+use Rattle.grc_graph.proofs.LiveLayers.{body_agrees}
 use Rattle.grc_solutions.proofs.Looked.{Looked, looked, statement_at}
 use Rattle.grc_solutions.proofs.SameWires.{same_wire-true}
 use Rattle.grc_solutions.proofs.Pairwise.{all_of_every, every_mapped, every_flat, listed_every}

@@ -20,7 +20,7 @@ use Rattle.grc_graph.proofs.LiveInstances.{instances_ascend_lem}
 use Rattle.grc_solutions.specs.GraphWires.{equation_wires, program_wires, WiresDiffer}
 use Rattle.grc_solutions.proofs.Lists.{Every, every_append, every_from, every_all, every_of_all}
 use Rattle.grc_solutions.proofs.Each.{spot}
-use Rattle.grc_solutions.proofs.Live.{Agrees, body_agrees, here_agrees, only_agrees, first_agrees, second_agrees}
+use Rattle.grc_graph.proofs.LiveLayers.{Agrees, body_agrees, here_agrees, only_agrees, first_agrees, second_agrees}
 use Rattle.grc_solutions.proofs.Pairwise.{Pairwise, joined, all_pairs, pairwise_append, pairwise_from, pairwise_map, pairwise_flat, every_mapped, every_flat, listed_every, listed_ascend, range_ascends}
 
 -- ---- one equation a wire

@@ -1,19 +1,13 @@
 -- To believe: which wires the graph of a program has, which wires its edges join, and what its equations read.
 use Rattle.std.specs.Prelude.{◌≡◌, ◌≢◌, List, map, All, AllPairs, Contains}
-use Rattle.est_kernel.specs.Plain.{Program, interface_of}
+use Rattle.est_kernel.specs.Plain.{Program}
 use Rattle.grc_graph.specs.Wires.{Wire}
-use Rattle.grc_graph.specs.Equations.{Equation, wires}
-use Rattle.grc_graph.specs.Edges.{Edge, edge, edges}
+use Rattle.grc_graph.specs.Equations.{Equation}
+use Rattle.grc_graph.specs.Edges.{Edge, edge}
 use Rattle.grc_graph.specs.Selected.{IsKernel}
 use Rattle.grc_graph.specs.Reads.{ReadsOnly}
-use Rattle.grc_graph.specs.GraphRuns.{program_spots, graph_of}
-
--- the wires and the edges of a program's graph, in order
-abbrev pub program_wires : Program → List Wire
-program_wires p = wires (interface_of p).outgoing (program_spots p)
-
-abbrev pub program_edges : Program → List Edge
-program_edges p = edges (program_spots p)
+pub use Rattle.grc_graph.specs.GraphRuns.{program_wires, program_edges}
+use Rattle.grc_graph.specs.GraphRuns.{graph_of}
 
 -- the wires of equations, in order
 abbrev pub equation_wires : List Equation → List Wire

@@ -1,0 +1,4 @@
+pub mod NameSets
+pub mod FormLists
+pub mod FirstFaults
+pub mod GivenNames

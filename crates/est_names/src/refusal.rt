@@ -1,0 +1,52 @@
+// Why names are refused.
+
+ghost use Rattle.std.specs.Prelude.{◌≡◌};
+ghost use Rattle.est_names.specs.declared.refusal.NameFault.TheVariants.{NoMemory as lacks_memory};
+
+use est_base::Span;
+use std::alloc::{AllocError, AllocFailed};
+use thiserror::Error;
+
+/// Why `check_modules` gives no table.
+#[derive(Clone, Copy, Debug, PartialEq, Eq, Error)]
+pub enum NameFault {
+    /// The first module name in the text that an earlier module has.
+    #[error("the module at byte {} has the name of an earlier one", .0.start)]
+    DuplicateModule(Span),
+    /// No module has the name that is given for the main one.
+    #[error("no module has the name of the main one")]
+    NoMain,
+    /// A name that is declared a second time in one interface or behind one `signal`.
+    #[error("the signal at byte {} is declared a second time", .0.start)]
+    DuplicateSignal(Span),
+    /// A name in a relation that its module declares neither as an input nor as an inputoutput.
+    #[error("the name at byte {} is no input of its module", .0.start)]
+    RelationName(Span),
+    /// Want of memory.
+    #[error("no memory")]
+    NoMemory,
+}
+
+impl From<AllocError> for NameFault {
+    ghost from_gives = { λ _ error. error ≡ lacks_memory };
+
+    fn from(_error: AllocError) -> NameFault {
+        NameFault::NoMemory
+    }
+}
+
+impl<T: Drop> From<AllocFailed<T>> for NameFault {
+    ghost from_gives = { λ _ error. error ≡ lacks_memory };
+
+    fn from(_error: AllocFailed<T>) -> NameFault {
+        NameFault::NoMemory
+    }
+}
+
+impl From<est_base::NoMemory> for NameFault {
+    ghost from_gives = { λ _ error. error ≡ lacks_memory };
+
+    fn from(_error: est_base::NoMemory) -> NameFault {
+        NameFault::NoMemory
+    }
+}

@@ -1,0 +1,4 @@
+pub mod Cycles
+pub mod Names
+pub mod Found
+pub mod Families

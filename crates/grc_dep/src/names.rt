@@ -1,0 +1,17 @@
+// Wires by name.
+
+use est_base::SigId;
+use grc_graph::Instance;
+
+/// A wire by what it says, whether or not the graph has it.
+#[derive(Clone, Copy, Debug)]
+pub enum Name {
+    /// The outgoing signal is present.
+    Out(SigId),
+    /// The instance runs.
+    Go(Instance),
+    /// The signal of the Local is present, as this instance has it.
+    Status(Instance),
+    /// The instance ends with this completion code.
+    End(Instance, u8),
+}

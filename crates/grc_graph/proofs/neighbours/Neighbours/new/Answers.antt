@@ -1,0 +1,143 @@
+use Rattle.std.proofs.Common.{◌≡◌, ◌+◌, ◌<◌, ◌≤◌, ◌++◌, ◌∷◌, [], length, map, get_or, refl, sym, ap, ◌∙◌, subst, arith}
+use Rattle.std.proofs.lemmas.List.{length-map, get_or_default}
+use Rattle.est_base.specs.declared.bounds.TheConstants.Limits.{WIRES}
+use Rattle.est_base.specs.CodeSet.{members}
+use Rattle.est_kernel.specs.Plain.{program_of, term_of, outgoing_count}
+use Rattle.est_kernel.specs.Preorder.{statement_count}
+use Rattle.est_kernel.proofs.ResidualLaws.{trees_are_kernels_lem}
+use Rattle.grc_graph.specs.declared.wires.Wire.TheVariants.{Out}
+use Rattle.std.specs.List.{range_with_len}
+use Rattle.grc_graph.specs.PlainGraphs.{instance_at, wire_of}
+use Rattle.grc_graph.specs.PlainInstances.{instance_of}
+use Rattle.grc_graph.specs.Rows.{program_rows, row_at}
+use Rattle.grc_graph.specs.WireTables.{is_local, AreRuns}
+use Rattle.grc_graph.specs.Wires.{instance_codes}
+use Rattle.grc_graph.proofs.WireFilling.{Filled, Filled-none, Filled-more, Filled-all, Filled-few, few_instances}
+use Rattle.grc_graph.proofs.RowReads.{statement_read, codes_read, length-statements}
+use Rattle.grc_graph.proofs.NeighbourReads.{body_ascending, path_within, name_at, first_instance}
+use Rattle.grc_graph.proofs.neighbours.Neighbours.new.Goals as goal
+
+pub loop-i-init : goal.loop-i-init
+loop-i-init c =
+    Filled-none (program_of c.args.program.now) _ _ _ (c.in_ok-push_outgoing.ensures ∙ ap (λ l. l ++ map (λ s. Out (record { 0 = s })) (range_with_len c.args.program.now.inputs (outgoing_count (program_of c.args.program.now)))) c.new-wires.ensures.items)
+    (c.in_ok-push.ensures.items ∙ ap (λ l. l ++ outgoing_count (program_of c.args.program.now) ∷ []) c.new-first.ensures.items)
+
+pub instance_codes-set-requires-clause-started : goal.instance_codes-set-requires-clause-started
+instance_codes-set-requires-clause-started c =
+    let p = program_of c.args.program.now in
+    let raw = c.args.live.now.list.items in
+    let i = c.loop-i.i in
+    let y = get_or c.deref-instance-items.result.now i first_instance in
+    let inside : i < length raw = omega (arith, ap length c.deref-instance-items.ensures.value) in
+    let same : y ≡ get_or raw i y = ap (λ l. get_or l i first_instance) c.deref-instance-items.ensures.value ∙ get_or_default raw i first_instance y inside in
+    (codes_read c.args.codes.now p y.path.0 c.requires.codes (path_within p.body raw i y c.requires.live inside same)).started_in
+
+pub instance_codes-set-requires-clause-resumed : goal.instance_codes-set-requires-clause-resumed
+instance_codes-set-requires-clause-resumed c =
+    let p = program_of c.args.program.now in
+    let raw = c.args.live.now.list.items in
+    let i = c.loop-i.i in
+    let y = get_or c.deref-instance-items.result.now i first_instance in
+    let inside : i < length raw = omega (arith, ap length c.deref-instance-items.ensures.value) in
+    let same : y ≡ get_or raw i y = ap (λ l. get_or l i first_instance) c.deref-instance-items.ensures.value ∙ get_or_default raw i first_instance y inside in
+    (codes_read c.args.codes.now p y.path.0 c.requires.codes (path_within p.body raw i y c.requires.live inside same)).resumed_in
+
+pub bounds-statements-path : goal.bounds-statements-path
+bounds-statements-path c =
+    let p = program_of c.args.program.now in
+    let raw = c.args.live.now.list.items in
+    let i = c.loop-i.i in
+    let y = get_or c.deref-instance-items.result.now i first_instance in
+    let inside : i < length raw = omega (arith, ap length c.deref-instance-items.ensures.value) in
+    let same : y ≡ get_or raw i y = ap (λ l. get_or l i first_instance) c.deref-instance-items.ensures.value ∙ get_or_default raw i first_instance y inside in
+    omega (arith, path_within p.body raw i y c.requires.live inside same, length-statements p c.args.statements.now c.requires.statements)
+
+pub bounds-statements-path-in-loop-i : goal.bounds-statements-path-in-loop-i
+bounds-statements-path-in-loop-i c =
+    let p = program_of c.args.program.now in
+    let raw = c.args.live.now.list.items in
+    let i = c.loop-i.i in
+    let y = get_or c.deref-instance-items.result.now i first_instance in
+    let inside : i < length raw = omega (arith, ap length c.deref-instance-items.ensures.value) in
+    let same : y ≡ get_or raw i y = ap (λ l. get_or l i first_instance) c.deref-instance-items.ensures.value ∙ get_or_default raw i first_instance y inside in
+    omega (arith, path_within p.body raw i y c.requires.live inside same, length-statements p c.args.statements.now c.requires.statements)
+
+pub overflow_cast-i : goal.overflow_cast-i
+overflow_cast-i c =
+    let p = program_of c.args.program.now in
+    let few : length (map instance_of c.args.live.now.list.items) ≤ WIRES
+    = few_instances p (map instance_of c.args.live.now.list.items) (trees_are_kernels_lem c.args.program.now.body) c.requires.live c.requires.few in
+    let inside : c.loop-i.i < length c.args.live.now.list.items = omega (arith, ap length c.deref-instance-items.ensures.value) in
+    omega (arith, length-map c.args.live.now.list.items instance_of)
+
+pub loop-i-preserved : goal.loop-i-preserved
+loop-i-preserved c =
+    let p = program_of c.args.program.now in
+    let raw = c.args.live.now.list.items in
+    let insts = map instance_of raw in
+    let i = c.loop-i.i in
+    let y = get_or c.deref-instance-items.result.now i first_instance in
+    let inside : i < length raw = omega (arith, ap length c.deref-instance-items.ensures.value) in
+    let same : y ≡ get_or raw i y = ap (λ l. get_or l i first_instance) c.deref-instance-items.ensures.value ∙ get_or_default raw i first_instance y inside in
+    let within : y.path.0 < statement_count p.body = path_within p.body raw i y c.requires.live inside same in
+    let named : instance_at insts i ≡ instance_of y = name_at raw i y _ inside ∙ ap instance_of (sym same) in
+    let statement = ap (λ l. l.statement) (statement_read p c.args.statements.now y.path.0 c.index-statements-path.result c.requires.statements within c.index-statements-path.is) in
+    let read = codes_read c.args.codes.now p y.path.0 c.requires.codes within in
+    subst (λ l. Filled p insts (i + 1) c.push_run.new.wires.items l) (sym c.in_ok-push-2.ensures.items)
+    (Filled-more p insts i c.loop-i.wires.items c.push_run.new.wires.items c.loop-i.first.items c.is_local-local.result (members c.instance_codes-set.result) c.len.result
+    c.loop-i.invariant (omega (arith, length-map raw instance_of))
+    (c.is_local-local.ensures ∙ ap (λ s. is_local (term_of s.body.now)) (sym c.index-statements-path.is) ∙ ap is_local statement ∙ ap (λ x. is_local (row_at (program_rows p) x.path).statement) (sym named))
+    (c.instance_codes-set.ensures ∙ read.codes (instance_of y).layer ∙ ap (λ x. instance_codes (row_at (program_rows p) x.path).statement x.layer) (sym named))
+    c.in_ok-push_run.ensures (omega arith))
+
+pub overflow_cast-len : goal.overflow_cast-len
+overflow_cast-len c =
+    let p = program_of c.args.program.now in
+    let raw = c.args.live.now.list.items in
+    let insts = map instance_of raw in
+    let i = c.loop-i.i in
+    let y = get_or c.deref-instance-items.result.now i first_instance in
+    let inside : i < length raw = omega (arith, ap length c.deref-instance-items.ensures.value) in
+    let same : y ≡ get_or raw i y = ap (λ l. get_or l i first_instance) c.deref-instance-items.ensures.value ∙ get_or_default raw i first_instance y inside in
+    let within : y.path.0 < statement_count p.body = path_within p.body raw i y c.requires.live inside same in
+    let named : instance_at insts i ≡ instance_of y = name_at raw i y _ inside ∙ ap instance_of (sym same) in
+    let statement = ap (λ l. l.statement) (statement_read p c.args.statements.now y.path.0 c.index-statements-path.result c.requires.statements within c.index-statements-path.is) in
+    let read = codes_read c.args.codes.now p y.path.0 c.requires.codes within in
+    let new : length c.push_run.new.wires.items ≤ WIRES
+    = Filled-few p insts (i + 1) c.push_run.new.wires.items _ (trees_are_kernels_lem c.args.program.now.body) c.requires.live c.requires.few
+    (Filled-more p insts i c.loop-i.wires.items c.push_run.new.wires.items c.loop-i.first.items c.is_local-local.result (members c.instance_codes-set.result) (length c.push_run.new.wires.items)
+    c.loop-i.invariant (omega (arith, length-map raw instance_of))
+    (c.is_local-local.ensures ∙ ap (λ s. is_local (term_of s.body.now)) (sym c.index-statements-path.is) ∙ ap is_local statement ∙ ap (λ x. is_local (row_at (program_rows p) x.path).statement) (sym named))
+    (c.instance_codes-set.ensures ∙ read.codes (instance_of y).layer ∙ ap (λ x. instance_codes (row_at (program_rows p) x.path).statement x.layer) (sym named))
+    c.in_ok-push_run.ensures refl) in
+    omega arith
+
+pub invariant_of-result : goal.invariant_of-result
+invariant_of-result c =
+    let p = program_of c.args.program.now in
+    let raw = c.args.live.now.list.items in
+    let kernel = trees_are_kernels_lem c.args.program.now.body in
+    let few : length (map instance_of raw) ≤ WIRES = few_instances p (map instance_of raw) kernel c.requires.live c.requires.few in
+    let all : length c.loop-i.wires.items ≤ WIRES = Filled-few p (map instance_of raw) c.loop-i.i _ _ kernel c.requires.live c.requires.few c.loop-i.invariant in
+    let list : c.in_ok-from_slice.field-0.items ≡ raw = c.in_ok-from_slice.ensures.items ∙ c.as_slice.ensures.value in
+    let end : c.loop-i.i ≡ length raw = omega (arith, ap length c.deref-instance-items.ensures.value) in
+    let whole : c.loop-i.i ≡ length c.in_ok-from_slice.field-0.items = end ∙ ap length (sym list) in
+    record {
+      tables = record {
+        ascend = body_ascending p.body _ (ap (map instance_of) list ∙ c.requires.live);
+        few = omega arith;
+        few_instances = omega (arith, length-map raw instance_of);
+        interface = omega (arith, c.requires.formed.interface, c.requires.formed.at_most);
+        runs = subst (λ n. AreRuns n c.loop-i.wires.items c.loop-i.first.items) whole c.loop-i.invariant.runs;
+        outs = c.loop-i.invariant.outs;
+      };
+    }
+
+pub returns-clause-wires : goal.returns-clause-wires
+returns-clause-wires c =
+    let p = program_of c.args.program.now in
+    let raw = c.args.live.now.list.items in
+    let list : c.in_ok-from_slice.field-0.items ≡ raw = c.in_ok-from_slice.ensures.items ∙ c.as_slice.ensures.value in
+    let end : c.loop-i.i ≡ length (map instance_of raw) = omega (arith, ap length c.deref-instance-items.ensures.value, length-map raw instance_of) in
+    (λ j. map (wire_of (map instance_of (list j))) c.loop-i.wires.items)
+    ∙ Filled-all p (map instance_of raw) c.loop-i.i _ _ (trees_are_kernels_lem c.args.program.now.body) c.requires.live end c.loop-i.invariant

@@ -1,0 +1,2 @@
+pub mod Climbing
+mod WorkedListings

@@ -1,0 +1,7 @@
+-- Inner: the plain form of a place.
+use Rattle.std.specs.Prelude.{option_map}
+use Rattle.grc_list.specs.declared.places.Place as declared_places
+use Rattle.grc_list.specs.Places.{Place}
+
+abbrev pub place_of : declared_places.Place → Place
+place_of x = record { parent = x.parent; child = x.child; bound = option_map (λ s. s.0) x.bound }
