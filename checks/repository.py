@@ -62,11 +62,11 @@ def stands_alone():
 
 
 def crates_are_introduced():
-    """Each crate has a row in the README's map and a `//!` head in its root file."""
+    """Each crate has a row in the README's map, with a link to its page, and a `//!` head in its root file."""
     found = []
     readme = (TOP / "README.md").read_text()
     for name in crates():
-        if not re.search(rf"^\| `{name}` \|", readme, re.M):
+        if not re.search(rf"^\| \[`{name}`\]\(crates/{name}/README\.md\) \|", readme, re.M):
             found.append(f"README.md: no row for {name} in the map of the crates")
         folder = TOP / "crates" / name / "src"
         root = folder / "lib.rt" if (folder / "lib.rt").exists() else folder / "main.rt"

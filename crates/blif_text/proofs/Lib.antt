@@ -12,6 +12,7 @@ pub mod Reversals
 pub mod DriverSets
 pub mod TakenLines
 pub mod ReadBack
+pub mod Described
 pub mod TextParts
 pub mod RoundTrip
 pub mod NetNames

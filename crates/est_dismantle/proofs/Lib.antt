@@ -1,4 +1,13 @@
+pub mod Abortions
+pub mod BadCounts
+pub mod DerivedLaws
 mod Equations
+pub mod Exits
 pub mod Expanded
 pub mod Fitting
+pub mod KernelNodes
+pub mod Limits
+pub mod Lists
 pub mod Measured
+pub mod MeasuredNodes
+pub mod WholePrograms

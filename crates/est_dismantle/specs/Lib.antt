@@ -3,5 +3,11 @@ pub mod Counts
 pub mod Expansions
 pub mod FlatFits
 pub mod FlatPrograms
+pub mod Faults
 pub mod Laws
 pub mod Measures
+pub mod Abortions
+pub mod Choices
+pub mod Extents
+pub mod FlatNodes
+pub mod MarkLists

@@ -5,6 +5,27 @@
 //! that are refused, and `specs/Expansions.antt` the order of the faults.
 #![tactic(auto)]
 
+mod choices;
+mod copies;
+mod counts;
+mod derived;
+mod events;
+mod expansion;
+mod extent;
 mod laws;
+mod marks;
+mod measure;
+mod measured_events;
+mod measured_rows;
+mod programs;
+mod refusal;
+mod terms;
+#[cfg(test)]
+mod tests;
 
-pub use laws::expansions_are_well_formed;
+pub use laws::{
+    expansions_are_well_formed, immediate_abortions_run_their_rest, immediate_awaits_end_at_once,
+    loops_each_start_anew, repetitions_are_sequences, sustained_signals_stay,
+};
+pub use programs::dismantle;
+pub use refusal::DismantleFault;

@@ -47,3 +47,14 @@ pub is_among-push_same : (name new : List ℕ) (names others : List (List ℕ))
 is_among-push_same name new names others same =
     list_any-append (is_same_name name) names (new ∷ []) ∙ ap (λ b. b || (is_same_name name new || false)) same
     ∙ sym (list_any-append (is_same_name name) others (new ∷ []))
+
+-- A set after a name was put in, where the names so far are those before: the same names as those with the new one.
+pub is_among-put : (name new : List ℕ) (is_new : Bool) (old put before all : List (List ℕ))
+    → is_new ≡ not (is_among new old)
+    → put ≡ (if is_new then old ++ new ∷ [] else old)
+    → is_among name old ≡ is_among name before
+    → all ≡ before ++ new ∷ []
+    → is_among name put ≡ is_among name all
+is_among-put name new is_new old put before all is names same last =
+    ap (is_among name) (names ∙ ap (λ b. if b then old ++ new ∷ [] else old) is) ∙ is_among-insert name new old
+    ∙ is_among-push_same name new old before same ∙ sym (ap (is_among name) last)

@@ -8,8 +8,12 @@ pub record Modules : Type 0 where
   pub main : ℕ
   pub names : List (List ℕ)
 
--- the table of a program whose names have no fault
+-- the table of a program whose names have no fault, where its main module is asked for so
 pub record IsTable (main : Option (List ℕ)) (program : Program) (table : Modules) : Type 0 where
   pub faultless : name_faults main program ≡ []
   pub names : table.names ≡ module_names program
   pub main_place : main_place main (module_names program) ≡ Some table.main
+
+-- a table of the program
+abbrev pub IsTableOf : Program → Modules → Type 0
+IsTableOf program table = (main : Option (List ℕ)) × IsTable main program table

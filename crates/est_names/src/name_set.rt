@@ -1,9 +1,9 @@
 // Sets of names in the order of their insertion.
 
-ghost use Rattle.std.specs.Prelude.{◌≡◌, ◌<◌, ◌↔◌, [], ◌∷◌, ◌++◌, length, IfOk, IfSome, IsTrue, not, if◌then◌else◌};
+ghost use Rattle.std.specs.Prelude.{◌≡◌, ◌-◌, ◌<◌, ◌↔◌, [], ◌∷◌, ◌++◌, length, take, IfOk, IfSome, IsTrue, not, if◌then◌else◌};
 ghost use Rattle.est_names.specs.Names.{is_among, place_of};
 
-use est_base::NoMemory;
+use est_base::{NoMemory, Text};
 use indexmap::IndexSet;
 use std::alloc::Global;
 use std::marker::Model;
@@ -54,6 +54,24 @@ impl<'a> NameSet<'a> {
         ensures within { IfSome result (λ place. place < length self.now) }
     {
         self.names.get_index_of(name)
+    }
+
+    /// Takes the last name out, where there is one.
+    pub fn pop(&mut self)
+        ensures { self.new ≡ take (length self.old - 1) self.old }
+    {
+        let _ = self.names.pop();
+    }
+
+    /// The names in their order.
+    pub fn texts(&self, alloc: Global) -> Result<Vec<Text>, NoMemory>
+        ensures { IfOk result (λ texts. texts.items ≡ self.now) }
+    {
+        let mut texts = Vec::new(alloc);
+        for name in self.names.as_slice() {
+            texts.push(Text::from_bytes(alloc, name)?)?;
+        }
+        Ok(texts)
     }
 
     /// Whether there is none.

@@ -1,2 +1,7 @@
 mod Numbers
 pub mod WireNumbers
+pub mod Founds
+mod SortedEdges
+mod PartReads
+mod WiresApart
+mod FoundPairs

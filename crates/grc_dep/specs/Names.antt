@@ -1,5 +1,6 @@
 -- Inner: wires by name as the program writes them, and the numbers of named wires.
-use Rattle.std.specs.Prelude.{◌≡◌, ℕ, suc, ◌<◌, if◌then◌else◌, List, [], ◌∷◌, length, slice_index_or, Option, Some, None, option_map}
+use Rattle.std.specs.Prelude.{◌≡◌, ℕ, suc, ◌<◌, if◌then◌else◌, List, [], ◌∷◌, length, slice_index_or}
+use Rattle.std.specs.Prelude.{Option, Some, None, option_map}
 use Rattle.grc_dep.specs.declared.names.Name.{Name}
 use Rattle.grc_dep.specs.declared.names.Name.TheVariants as names
 use Rattle.grc_graph.specs.Wires.{Wire, Out, Go, StatusOf, End, same_wire}

@@ -4,9 +4,18 @@
 //! each edge show it, and the wires can be evaluated one by one; else a closed walk is shown.
 #![tactic(auto)]
 
+mod forms;
+mod graph_edges;
+mod instance_edges;
 mod linking;
 mod lookups;
 mod names;
+mod part_edges;
+mod parts;
 mod ranking;
+mod sorting;
+mod statuses;
+mod tested;
 
+pub use graph_edges::edges;
 pub use ranking::{Ranked, cycle_or_rank};

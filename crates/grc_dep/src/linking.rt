@@ -1,6 +1,6 @@
 // Edges that are appended by the numbers of their wires.
 
-ghost use Rattle.std.specs.Prelude.{◌≡◌, ◌∷◌, ◌++◌, [], OnOk};
+ghost use Rattle.std.specs.Prelude.{◌≡◌, ◌&&◌, ◌∷◌, ◌++◌, [], nat_le, OnOk};
 ghost use Rattle.est_base.specs.CodeSet.{members};
 ghost use Rattle.est_kernel.specs.Steps.{trap_code};
 ghost use Rattle.grc_graph.specs.PlainInstances.{instance_of};
@@ -25,12 +25,16 @@ pub fn push_edge(
     ensures { OnOk result (pairs.new.items ≡ pairs.old.items
         ++ found_by lookups.now (edge (wire_named from) (wire_named to) ∷ [])) }
 {
-    if let Some(from) = lookups.find(from) {
-        if let Some(to) = lookups.find(to) {
-            pairs.push((from, to))?;
-        }
+    match lookups.find(from) {
+        None => Ok(()),
+        Some(from) => match lookups.find(to) {
+            None => Ok(()),
+            Some(to) => {
+                pairs.push((from, to))?;
+                Ok(())
+            }
+        },
     }
-    Ok(())
 }
 
 // The edge between two wires, where a condition holds and the graph has both.
@@ -61,9 +65,8 @@ pub fn push_go_to_ends(
         ++ found_by lookups.now (go_to_ends (members codes) (instance_of at).path (instance_of at).layer)) }
 {
     for code in 0..64 {
-        if codes.has(code) {
-            push_edge(lookups, Name::Go(at), Name::End(at, code), pairs)?;
-        }
+        let holds = codes.has(code);
+        push_edge_if(lookups, holds, Name::Go(at), Name::End(at, code), pairs)?;
     }
     Ok(())
 }
@@ -81,14 +84,9 @@ pub fn push_ends_to_ends(
         (instance_of whole).path (instance_of whole).layer)) }
 {
     for code in 0..64 {
-        if codes.has(code) {
-            push_edge(
-                lookups,
-                Name::End(part, code),
-                Name::End(whole, code),
-                pairs,
-            )?;
-        }
+        let holds = codes.has(code);
+        let to = Name::End(whole, code);
+        push_edge_if(lookups, holds, Name::End(part, code), to, pairs)?;
     }
     Ok(())
 }
@@ -107,14 +105,9 @@ pub fn push_trapped_to_ends(
         (instance_of whole).layer)) }
 {
     for code in 0..64 {
-        if codes.has(code) {
-            push_edge(
-                lookups,
-                Name::End(part, code),
-                Name::End(whole, trap_code(code)),
-                pairs,
-            )?;
-        }
+        let holds = codes.has(code);
+        let to = Name::End(whole, trap_code(code));
+        push_edge_if(lookups, holds, Name::End(part, code), to, pairs)?;
     }
     Ok(())
 }
@@ -145,35 +138,40 @@ pub fn push_branch_to_ends(
         (instance_of whole).path (instance_of whole).layer)) }
 {
     for code in 0..64 {
-        if codes.has(code) {
-            push_to_ends_above(lookups, whole_codes, part, code, whole, pairs)?;
-        }
+        let holds = codes.has(code);
+        push_to_ends_above(lookups, holds, whole_codes, part, code, whole, pairs)?;
     }
     Ok(())
 }
 
-// From an end of a branch to each end of its parallel with a code that is no less.
+// From an end of a branch to each end of its parallel with a code that is no less, where a condition holds.
 fn push_to_ends_above(
     lookups: &Lookups,
+    holds: bool,
     whole_codes: CodeSet,
     part: Instance,
     code: u8,
     whole: Instance,
     pairs: &mut Vec<(WireId, WireId)>,
 ) -> Result<(), NoMemory>
-    ensures { OnOk result (pairs.new.items ≡ pairs.old.items
-        ++ found_by lookups.now (to_ends_above (members whole_codes) (wire_named (Name.End part code)) code
-        (instance_of whole).path (instance_of whole).layer)) }
+    ensures { OnOk result (pairs.new.items ≡ pairs.old.items ++ found_by lookups.now
+        (edges_if holds (to_ends_above (members whole_codes) (wire_named (Name.End part code)) code
+        (instance_of whole).path (instance_of whole).layer))) }
 {
+    if !holds {
+        return Ok(());
+    }
     for above in 0..64 {
-        if code <= above && whole_codes.has(above) {
-            push_edge(
-                lookups,
-                Name::End(part, code),
-                Name::End(whole, above),
-                pairs,
-            )?;
-        }
+        let holds = has_above(whole_codes, code, above);
+        let to = Name::End(whole, above);
+        push_edge_if(lookups, holds, Name::End(part, code), to, pairs)?;
     }
     Ok(())
+}
+
+// Whether a set has a code, which is no less than another.
+fn has_above(codes: CodeSet, least: u8, code: u8) -> bool
+    ensures { result ≡ (nat_le least code && members codes code) }
+{
+    least <= code && codes.has(code)
 }

@@ -1,0 +1,19 @@
+//! A runner of the circuits that BLIF texts describe.
+//!
+//! A circuit of tables and latches has a run over events and resets wherever no table needs its own output
+//! in the same instant. `NetRunner::new` looks for such a combinational cycle, and else puts the tables into
+//! an order in which each one stands behind those that it reads; `react` makes one reaction. What an instant
+//! and a run of a circuit are stands in `blif_text`, after Berkeley's BLIF.
+#![tactic(auto)]
+
+mod graph;
+mod laws;
+mod plan;
+mod refusal;
+mod runner;
+mod slots;
+mod step;
+
+pub use laws::answers_are_runs;
+pub use refusal::RunError;
+pub use runner::NetRunner;

@@ -1,0 +1,4 @@
+pub mod Written
+pub mod TokenCounts
+pub mod FlatFaults
+pub mod MainModules

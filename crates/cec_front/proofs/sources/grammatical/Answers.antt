@@ -1,0 +1,14 @@
+use Rattle.std.proofs.Common.{subst}
+use Rattle.est_base.specs.declared.bounds.TheConstants.Limits.{NESTING}
+use Rattle.est_parse.specs.Faults.{IsFirstFault}
+use Rattle.cec_front.proofs.sources.grammatical.Goals as goal
+
+pub returns-in-Syntax : goal.returns-in-Syntax
+returns-in-Syntax c = λ main. (
+  record {
+    tokens = c.args.tokens.now;
+    lexes = c.requires.tokens;
+    first = subst (IsFirstFault NESTING c.args.tokens.now) c.in-Syntax.is c.requires.first;
+  },
+  c.place_of-place.ensures,
+)

@@ -1,0 +1,4 @@
+pub mod Positions
+pub mod Sources
+pub mod Refusals
+pub mod Lines

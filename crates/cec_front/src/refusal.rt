@@ -1,0 +1,54 @@
+// Why a source is refused.
+
+use est_base::Span;
+use est_expand::ExpandFault;
+use est_names::NameFault;
+
+/// A static fault of a source, with its place. The variants of the inner faults that say that memory ran out or that a
+/// limit was passed do not occur: `Refusal` has its own.
+#[derive(Debug, Drop)]
+pub enum Fault {
+    /// At this byte no space, comment or token begins.
+    BadByte(u32),
+    /// At this byte stands `%{`, and no `}%` follows.
+    OpenComment(u32),
+    /// The digits from this byte on are a number above the greatest of 128 bits.
+    BigNumber(u32),
+    /// No program has this token where it stands: the token's number from 0, and the byte at which it begins. Where
+    /// every token can stand but the program has not ended, these are the number of tokens and the length of the source.
+    Syntax(u32, u32),
+    /// A name is declared twice, or is no input in a relation, or no module has the main one's.
+    Name(NameFault),
+    /// A name or a `run` has no meaning where it stands.
+    Expand(ExpandFault),
+    /// A count is 0 or above 255.
+    BadCount(Span),
+}
+
+/// What passes its limit; `est_base::Limits` has the numbers.
+#[derive(Clone, Copy, Debug, PartialEq, Eq)]
+pub enum Quantity {
+    /// The nesting of the source.
+    Nesting,
+    /// The statements that the expansion of `run` meets.
+    Statements,
+    /// The signals of the program.
+    Signals,
+    /// The nodes of the kernel body.
+    Kernel,
+    /// The height of the kernel body, or the statements that one statement stands in during the expansion.
+    Height,
+    /// The traps one in another.
+    Traps,
+}
+
+/// Why a source has no kernel program.
+#[derive(Debug, Drop)]
+pub enum Refusal {
+    /// The source's first static fault.
+    Static(Fault),
+    /// The quantity passes its limit.
+    Limit(Quantity),
+    /// Want of memory.
+    NoMemory,
+}

@@ -1,0 +1,134 @@
+-- Inner: the expansion at the nodes of the code. The definitions are closed, so that a proof sees one row at a time.
+use Rattle.std.specs.Prelude.{ℕ, ◌+◌, Bool, true, false, nat_le, if◌then◌else◌, List, [], ◌∷◌, map, Option, Some, None}
+use Rattle.std.specs.declared.alloc.Global.{Global}
+use Rattle.std.specs.declared.boxed.Box.{Box}
+use Rattle.est_base.specs.declared.place.Span.{Span}
+use Rattle.est_kernel.specs.Terms as terms
+use Rattle.est_kernel.specs.Terms.{Term, Expression}
+use Rattle.est_ast.specs.declared.flat.FlatCase.{FlatCase}
+use Rattle.est_ast.specs.declared.flat.FlatDelay.{FlatDelay}
+use Rattle.est_ast.specs.declared.flat.FlatExpr.{FlatExpr}
+use Rattle.est_ast.specs.declared.flat.FlatForm.{FlatForm}
+use Rattle.est_ast.specs.declared.flat.FlatStmt.{FlatStmt}
+use Rattle.est_ast.specs.FlatTrees.{Part, Missing, Written, Cases, NoCases, MoreCases, exprs, stmts, cases}
+use Rattle.est_ast.specs.FlatViews.{flat_expr_of, flat_delay_of, flat_form_of, flat_stmt_of, flat_case_of, flat_part_of, flat_event_of, flat_body_of}
+use Rattle.est_dismantle.specs.Kernels.{Marks, nested, expression, expressions, any_event, new_by, new_in, new_in_form, new_in_part, new_in_stmts, new_in_cases, kernel, kernel_of_form, part, kernels}
+use Rattle.est_dismantle.specs.Counts.{bad_count, bad_in_delay, bad_in, bad_in_form, bad_in_part, bad_in_stmts, bad_in_cases}
+use Rattle.est_dismantle.specs.Measures.{Measures, test_measures, leaf, joined, kernel_measures, form_measures, part_measures, stmts_measures, cases_measures}
+
+-- ---- the first bad count
+
+abbrev pub first_place : List Span → Option Span
+first_place [] = None
+first_place (place ∷ places) = Some place
+
+unfoldable pub bad_of_count : ℕ → Span → Option Span
+bad_of_count count span = first_place (bad_count count span)
+
+unfoldable pub bad_of_delay : FlatDelay → Option Span
+bad_of_delay delay = first_place (bad_in_delay (flat_delay_of delay))
+
+unfoldable pub bad_of_stmt : FlatStmt → Option Span
+bad_of_stmt p = first_place (bad_in (flat_stmt_of p))
+
+unfoldable pub bad_of_form : FlatForm → Option Span
+bad_of_form form = first_place (bad_in_form (flat_form_of form))
+
+unfoldable pub bad_of_part : Option (Box FlatStmt Global) → Option Span
+bad_of_part q = first_place (bad_in_part (flat_part_of q))
+
+unfoldable pub bad_of_stmts : List FlatStmt → Option Span
+bad_of_stmts parts = first_place (bad_in_stmts (stmts (map flat_stmt_of parts)))
+
+unfoldable pub bad_of_case : FlatCase → Option Span
+bad_of_case c = first_place (bad_in_part (flat_body_of c))
+
+unfoldable pub bad_of_cases : List FlatCase → Option Span
+bad_of_cases list = first_place (bad_in_cases (cases (map flat_case_of list)))
+
+-- ---- measures
+
+unfoldable pub event_measures : FlatExpr → Measures
+event_measures e = test_measures (expression (flat_expr_of e))
+
+unfoldable pub events_measures : List FlatExpr → Measures
+events_measures list = nested joined leaf (map event_measures list)
+
+unfoldable pub case_events_measures : List FlatCase → Measures
+case_events_measures list = test_measures (any_event (cases (map flat_case_of list)))
+
+unfoldable pub stmt_measures : FlatStmt → Measures
+stmt_measures p = kernel_measures (flat_stmt_of p)
+
+unfoldable pub node_measures : FlatForm → Measures
+node_measures form = form_measures (flat_form_of form)
+
+unfoldable pub part_node_measures : Option (Box FlatStmt Global) → Measures
+part_node_measures q = part_measures (flat_part_of q)
+
+unfoldable pub parts_measures : List FlatStmt → Measures
+parts_measures parts = nested joined leaf (stmts_measures (stmts (map flat_stmt_of parts)))
+
+unfoldable pub case_measures : FlatCase → Measures
+case_measures c = part_measures (flat_body_of c)
+
+unfoldable pub chosen_measures : List FlatCase → Measures → Measures
+chosen_measures list r = cases_measures (cases (map flat_case_of list)) r
+
+-- ---- tests
+
+unfoldable pub event_test : FlatExpr → Expression
+event_test e = expression (flat_expr_of e)
+
+unfoldable pub events_tests : List FlatExpr → List Expression
+events_tests list = map event_test list
+
+unfoldable pub case_test : FlatCase → Expression
+case_test c = expression (flat_event_of c)
+
+unfoldable pub any_event_test : List FlatCase → Expression
+any_event_test list = any_event (cases (map flat_case_of list))
+
+-- ---- new signals
+
+unfoldable pub delay_new : FlatDelay → ℕ
+delay_new delay = new_by (flat_delay_of delay)
+
+unfoldable pub stmt_new : FlatStmt → ℕ
+stmt_new p = new_in (flat_stmt_of p)
+
+unfoldable pub node_new : FlatForm → ℕ
+node_new form = new_in_form (flat_form_of form)
+
+unfoldable pub part_new : Option (Box FlatStmt Global) → ℕ
+part_new q = new_in_part (flat_part_of q)
+
+unfoldable pub stmts_new : List FlatStmt → ℕ
+stmts_new parts = new_in_stmts (stmts (map flat_stmt_of parts))
+
+unfoldable pub case_new : FlatCase → ℕ
+case_new c = new_in_part (flat_body_of c)
+
+unfoldable pub cases_new : List FlatCase → ℕ
+cases_new list = new_in_cases (cases (map flat_case_of list))
+
+-- ---- kernel terms
+
+unfoldable pub stmt_kernel : Marks → ℕ → FlatStmt → Term
+stmt_kernel marks x p = kernel marks x (flat_stmt_of p)
+
+unfoldable pub node_kernel : Marks → ℕ → Span → FlatForm → Term
+node_kernel marks x at form = kernel_of_form marks x at (flat_form_of form)
+
+unfoldable pub part_kernel : Marks → ℕ → Option (Box FlatStmt Global) → Term
+part_kernel marks x q = part marks x (flat_part_of q)
+
+unfoldable pub stmts_kernels : Marks → ℕ → List FlatStmt → List Term
+stmts_kernels marks x parts = kernels marks x (stmts (map flat_stmt_of parts))
+
+unfoldable pub case_choice : Marks → ℕ → FlatCase → Expression × Term
+case_choice marks x c = (case_test c, part marks x (flat_body_of c))
+
+unfoldable pub choices : Marks → ℕ → List FlatCase → List (Expression × Term)
+choices marks x [] = []
+choices marks x (c ∷ others) = case_choice marks x c ∷ choices marks (x + case_new c) others

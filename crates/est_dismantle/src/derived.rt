@@ -1,0 +1,336 @@
+// The rows of derived statements, over kernel terms.
+
+ghost use Rattle.std.specs.Prelude.{◌≡◌, IfOk, map};
+ghost use Rattle.est_ast.specs.FlatViews.{flat_delay_of};
+ghost use Rattle.est_kernel.specs.Plain.{expression_of, term_of};
+ghost use Rattle.est_kernel.specs.Terms.{Pause, Emit, Exit, Present, Seq, Loop, Trap};
+ghost use Rattle.est_dismantle.specs.Abortions.{aborting_later, tested_at_once};
+ghost use Rattle.est_dismantle.specs.Kernels.{halting as spec_halting, watching as spec_watching, awaiting as spec_awaiting, awaiting_immediately as spec_awaiting_immediately, awaiting_delay as spec_awaiting_delay, aborting as spec_aborting, aborting_counted as spec_aborting_counted, abortion as spec_abortion, aborting_handled as spec_aborting_handled, handled as spec_handled, looping_each as spec_looping_each, later_delay, aborting_weakly as spec_aborting_weakly, suspension as spec_suspension, locals as spec_locals};
+
+use crate::events::test_of;
+use crate::terms;
+use est_ast::FlatDelay;
+use est_base::{NoMemory, SigId, Span};
+use est_kernel::{Kernel, Test};
+use std::alloc::Global;
+
+/// `loop pause end`.
+pub(crate) fn halting(alloc: Global, at: Span) -> Result<Kernel, NoMemory>
+    ensures { IfOk result (λ k. term_of k ≡ spec_halting at) }
+{
+    terms::endless_loop(alloc, at, Kernel::Pause)
+}
+
+/// `loop emit s; pause end`.
+pub(crate) fn sustaining(alloc: Global, at: Span, signal: SigId) -> Result<Kernel, NoMemory>
+    ensures { IfOk result (λ k. term_of k ≡ Loop at (Seq (Emit signal.0) Pause)) }
+{
+    let part = terms::sequence(alloc, Kernel::Emit(signal), Kernel::Pause)?;
+    terms::endless_loop(alloc, at, part)
+}
+
+// `loop pause; present e then exit T end end`, with T the nearest trap.
+fn watching(alloc: Global, at: Span, event: Test) -> Result<Kernel, NoMemory>
+    ensures { IfOk result (λ k. term_of k ≡ spec_watching at (expression_of event)) }
+{
+    let leaving = terms::choice(alloc, event, Kernel::Exit(2), Kernel::Nothing)?;
+    let part = terms::sequence(alloc, Kernel::Pause, leaving)?;
+    terms::endless_loop(alloc, at, part)
+}
+
+/// `await e`.
+pub(crate) fn awaiting(alloc: Global, at: Span, event: Test) -> Result<Kernel, NoMemory>
+    ensures { IfOk result (λ k. term_of k ≡ spec_awaiting at (expression_of event)) }
+{
+    let part = watching(alloc, at, event)?;
+    terms::trap(alloc, part)
+}
+
+// `await immediate e`.
+fn awaiting_immediately(alloc: Global, at: Span, event: Test) -> Result<Kernel, NoMemory>
+    ensures { IfOk result (λ k. term_of k ≡ spec_awaiting_immediately at (expression_of event)) }
+{
+    let leaving = terms::choice(alloc, event, Kernel::Exit(2), Kernel::Nothing)?;
+    let part = terms::sequence(alloc, leaving, Kernel::Pause)?;
+    let waiting = terms::endless_loop(alloc, at, part)?;
+    terms::trap(alloc, waiting)
+}
+
+/// `await d`.
+#[tactic(auto, unfolding(crate::specs::FlatNodes::event_test))]
+pub(crate) fn awaiting_delay(alloc: Global, at: Span, delay: &FlatDelay) -> Result<Kernel, NoMemory>
+    ensures { IfOk result (λ k. term_of k ≡ spec_awaiting_delay at (flat_delay_of delay.now)) }
+{
+    match delay {
+        FlatDelay::Plain(event) => {
+            let event = test_of(alloc, event)?;
+            Ok(awaiting(alloc, at, event)?)
+        }
+        FlatDelay::Immediate(event) => {
+            let event = test_of(alloc, event)?;
+            Ok(awaiting_immediately(alloc, at, event)?)
+        }
+        FlatDelay::Count(count, _, event) => {
+            let event = test_of(alloc, event)?;
+            let one = awaiting(alloc, at, event)?;
+            Ok(terms::repeated(alloc, *count, one)?)
+        }
+    }
+}
+
+/// The body of an abortion beside what watches for the event.
+pub(crate) fn aborting(
+    alloc: Global,
+    at: Span,
+    event: Test,
+    code: u8,
+    body: Kernel,
+) -> Result<Kernel, NoMemory>
+    ensures { IfOk result (λ k. term_of k ≡ spec_aborting at (expression_of event) code (term_of body)) }
+{
+    let again = event.copy(alloc)?;
+    let body = terms::suspension(alloc, event, body)?;
+    let body = terms::sequence(alloc, body, Kernel::Exit(code))?;
+    let watching = watching(alloc, at, again)?;
+    Ok(terms::parallel(alloc, body, watching)?)
+}
+
+// An abortion by a count of 2 or more.
+#[derive(Drop)]
+struct Counted {
+    count: u128,
+    event: Test,
+    signal: SigId,
+}
+
+// The same for an abortion by a count of 2 or more, with a new signal.
+fn aborting_counted(
+    alloc: Global,
+    at: Span,
+    delay: Counted,
+    code: u8,
+    body: Kernel,
+) -> Result<Kernel, NoMemory>
+    ensures { IfOk result (λ k. term_of k
+        ≡ spec_aborting_counted at delay.count (expression_of delay.event) delay.signal.0 code (term_of body)) }
+{
+    let Counted {
+        count,
+        event,
+        signal,
+    } = delay;
+    let body = terms::suspension(alloc, Test::Sig(signal), body)?;
+    let body = terms::sequence(alloc, body, Kernel::Exit(code))?;
+    let one = awaiting(alloc, at, event)?;
+    let waits = terms::repeated(alloc, count, one)?;
+    let end = terms::sequence(alloc, Kernel::Emit(signal), Kernel::Exit(2))?;
+    let waits = terms::sequence(alloc, waits, end)?;
+    let both = terms::parallel(alloc, body, waits)?;
+    Ok(terms::local(alloc, signal, both)?)
+}
+
+// The same for an abortion by a delay, without the test at its start.
+#[tactic(auto, unfolding(crate::specs::FlatNodes::event_test))]
+fn aborting_by(
+    alloc: Global,
+    at: Span,
+    delay: &FlatDelay,
+    signal: SigId,
+    code: u8,
+    body: Kernel,
+) -> Result<Kernel, NoMemory>
+    ensures { IfOk result (λ k. term_of k
+        ≡ aborting_later at (flat_delay_of delay.now) signal.0 code (term_of body)) }
+{
+    match delay {
+        FlatDelay::Plain(event) => {
+            let event = test_of(alloc, event)?;
+            Ok(aborting(alloc, at, event, code, body)?)
+        }
+        FlatDelay::Immediate(event) => {
+            let event = test_of(alloc, event)?;
+            Ok(aborting(alloc, at, event, code, body)?)
+        }
+        FlatDelay::Count(count, _, event) => {
+            let count = *count;
+            let event = test_of(alloc, event)?;
+            if count <= 1 {
+                return Ok(aborting(alloc, at, event, code, body)?);
+            }
+            let delay = Counted {
+                count,
+                event,
+                signal,
+            };
+            Ok(aborting_counted(alloc, at, delay, code, body)?)
+        }
+    }
+}
+
+// The test at the start, of an immediate delay only.
+#[tactic(auto, unfolding(crate::specs::FlatNodes::event_test))]
+fn tested_first(
+    alloc: Global,
+    delay: &FlatDelay,
+    yes: Kernel,
+    no: Kernel,
+) -> Result<Kernel, NoMemory>
+    ensures { IfOk result (λ k. term_of k
+        ≡ tested_at_once (flat_delay_of delay.now) (term_of yes) (term_of no)) }
+{
+    match delay {
+        FlatDelay::Plain(_) => Ok(no),
+        FlatDelay::Immediate(event) => {
+            let event = test_of(alloc, event)?;
+            Ok(terms::choice(alloc, event, yes, no)?)
+        }
+        FlatDelay::Count(_, _, _) => Ok(no),
+    }
+}
+
+/// `abort p when d`, with the number of the next new signal.
+#[tactic(auto, using(crate::proofs::Abortions::abortion_rows))]
+pub(crate) fn abortion(
+    alloc: Global,
+    at: Span,
+    delay: &FlatDelay,
+    signal: SigId,
+    body: Kernel,
+) -> Result<Kernel, NoMemory>
+    ensures { IfOk result (λ k. term_of k
+        ≡ spec_abortion at (flat_delay_of delay.now) signal.0 (term_of body)) }
+{
+    let part = aborting_by(alloc, at, delay, signal, 2, body)?;
+    let part = terms::trap(alloc, part)?;
+    Ok(tested_first(alloc, delay, Kernel::Nothing, part)?)
+}
+
+/// What `abort p when d do q end` runs inside its two traps.
+#[tactic(auto, using(crate::proofs::Abortions::abortion_rows))]
+pub(crate) fn aborting_handled(
+    alloc: Global,
+    at: Span,
+    delay: &FlatDelay,
+    signal: SigId,
+    body: Kernel,
+) -> Result<Kernel, NoMemory>
+    ensures { IfOk result (λ k. term_of k
+        ≡ spec_aborting_handled at (flat_delay_of delay.now) signal.0 (term_of body)) }
+{
+    let part = aborting_by(alloc, at, delay, signal, 3, body)?;
+    Ok(tested_first(alloc, delay, Kernel::Exit(2), part)?)
+}
+
+/// `trap N in trap T in p end; q end`.
+pub(crate) fn handled(alloc: Global, body: Kernel, rest: Kernel) -> Result<Kernel, NoMemory>
+    ensures { IfOk result (λ k. term_of k ≡ spec_handled (term_of body) (term_of rest)) }
+{
+    let body = terms::trap(alloc, body)?;
+    let both = terms::sequence(alloc, body, rest)?;
+    terms::trap(alloc, both)
+}
+
+/// `loop p each d`.
+pub(crate) fn looping_each(
+    alloc: Global,
+    at: Span,
+    delay: &FlatDelay,
+    signal: SigId,
+    body: Kernel,
+) -> Result<Kernel, NoMemory>
+    ensures { IfOk result (λ k. term_of k
+        ≡ spec_looping_each at (flat_delay_of delay.now) signal.0 (term_of body)) }
+{
+    let halt = halting(alloc, at)?;
+    let body = terms::sequence(alloc, body, halt)?;
+    let part = abortion(alloc, at, delay, signal, body)?;
+    Ok(terms::endless_loop(alloc, at, part)?)
+}
+
+/// The loop of `every d do p end`, which does not test at its start.
+#[tactic(auto, using(crate::proofs::Abortions::abortion_rows))]
+pub(crate) fn looping_later(
+    alloc: Global,
+    at: Span,
+    delay: &FlatDelay,
+    signal: SigId,
+    body: Kernel,
+) -> Result<Kernel, NoMemory>
+    ensures { IfOk result (λ k. term_of k
+        ≡ spec_looping_each at (later_delay (flat_delay_of delay.now)) signal.0 (term_of body)) }
+{
+    let halt = halting(alloc, at)?;
+    let body = terms::sequence(alloc, body, halt)?;
+    let part = aborting_by(alloc, at, delay, signal, 2, body)?;
+    let part = terms::trap(alloc, part)?;
+    Ok(terms::endless_loop(alloc, at, part)?)
+}
+
+/// `weak abort p when d`.
+pub(crate) fn aborting_weakly(
+    alloc: Global,
+    at: Span,
+    delay: &FlatDelay,
+    body: Kernel,
+) -> Result<Kernel, NoMemory>
+    ensures { IfOk result (λ k. term_of k
+        ≡ spec_aborting_weakly at (flat_delay_of delay.now) (term_of body)) }
+{
+    let body = terms::sequence(alloc, body, Kernel::Exit(2))?;
+    let waits = awaiting_delay(alloc, at, delay)?;
+    let waits = terms::sequence(alloc, waits, Kernel::Exit(2))?;
+    let both = terms::parallel(alloc, body, waits)?;
+    Ok(terms::trap(alloc, both)?)
+}
+
+// `trap T in loop present e then pause else exit T end end end`.
+fn waiting_out(alloc: Global, at: Span, event: Test) -> Result<Kernel, NoMemory>
+    ensures { IfOk result (λ k. term_of k
+        ≡ Trap (Loop at (Present (expression_of event) Pause (Exit 2)))) }
+{
+    let part = terms::choice(alloc, event, Kernel::Pause, Kernel::Exit(2))?;
+    let part = terms::endless_loop(alloc, at, part)?;
+    terms::trap(alloc, part)
+}
+
+/// `suspend p when d`.
+#[tactic(auto, unfolding(crate::specs::FlatNodes::event_test))]
+pub(crate) fn suspension(
+    alloc: Global,
+    at: Span,
+    delay: &FlatDelay,
+    body: Kernel,
+) -> Result<Kernel, NoMemory>
+    ensures { IfOk result (λ k. term_of k
+        ≡ spec_suspension at (flat_delay_of delay.now) (term_of body)) }
+{
+    match delay {
+        FlatDelay::Plain(event) => {
+            let event = test_of(alloc, event)?;
+            Ok(terms::suspension(alloc, event, body)?)
+        }
+        FlatDelay::Immediate(event) => {
+            let event = test_of(alloc, event)?;
+            let again = event.copy(alloc)?;
+            let waiting = waiting_out(alloc, at, again)?;
+            let part = terms::suspension(alloc, event, body)?;
+            Ok(terms::sequence(alloc, waiting, part)?)
+        }
+        FlatDelay::Count(_, _, event) => {
+            let event = test_of(alloc, event)?;
+            Ok(terms::suspension(alloc, event, body)?)
+        }
+    }
+}
+
+/// Local signals, the first outermost.
+pub(crate) fn locals(alloc: Global, signals: &[SigId], body: Kernel) -> Result<Kernel, NoMemory>
+    ensures { IfOk result (λ k. term_of k ≡ spec_locals (map (λ s. s.0) signals.now) (term_of body)) }
+{
+    let count = signals.len();
+    let mut whole = body;
+    for behind in 0..count {
+        whole = terms::local(alloc, signals[count - 1 - behind], whole)?;
+    }
+    Ok(whole)
+}

@@ -1,0 +1,52 @@
+// Why a flat program has no kernel program.
+
+ghost use Rattle.std.specs.Prelude.{◌≡◌};
+ghost use Rattle.est_dismantle.specs.declared.refusal.DismantleFault.TheVariants.{NoMemory as lacks_memory};
+
+use est_base::{NoMemory, Span};
+use std::alloc::{AllocError, AllocFailed};
+use thiserror::Error;
+
+/// Why `dismantle` gives no kernel program.
+#[derive(Debug, PartialEq, Eq, Drop, Error)]
+pub enum DismantleFault {
+    /// The first count that is 0 or above 255, in the order in which they are written.
+    #[error("the count at byte {} is not from 1 to 255", .0.start)]
+    BadCount(Span),
+    /// The kernel body has more than 65,536 nodes.
+    #[error("the kernel has more than 65536 nodes")]
+    TooLarge,
+    /// Some way down the kernel body has more than 1,024 nodes.
+    #[error("the kernel is higher than 1024 nodes")]
+    TooHigh,
+    /// More than 60 traps stand one in another.
+    #[error("more than 60 traps stand one in another")]
+    TooManyTraps,
+    /// Want of memory.
+    #[error("no memory")]
+    NoMemory,
+}
+
+impl From<AllocError> for DismantleFault {
+    ghost from_gives = { λ _ error. error ≡ lacks_memory };
+
+    fn from(_error: AllocError) -> DismantleFault {
+        DismantleFault::NoMemory
+    }
+}
+
+impl<T: Drop> From<AllocFailed<T>> for DismantleFault {
+    ghost from_gives = { λ _ error. error ≡ lacks_memory };
+
+    fn from(_error: AllocFailed<T>) -> DismantleFault {
+        DismantleFault::NoMemory
+    }
+}
+
+impl From<NoMemory> for DismantleFault {
+    ghost from_gives = { λ _ error. error ≡ lacks_memory };
+
+    fn from(_error: NoMemory) -> DismantleFault {
+        DismantleFault::NoMemory
+    }
+}

@@ -1,0 +1,11 @@
+pub mod FlatLaws
+pub mod FlatFitting
+pub mod RowForms
+pub mod WalkSteps
+pub mod RunSteps
+pub mod TrapPlaces
+pub mod FoundLists
+pub mod ScopeTables
+pub mod FlatForms
+mod WorkedPrograms
+mod DrawnPrograms

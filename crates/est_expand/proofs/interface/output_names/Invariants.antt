@@ -1,0 +1,9 @@
+use Rattle.std.proofs.Common.{◌≡◌, map, take}
+use Rattle.std.specs.Prelude.{flat_map}
+use Rattle.est_ast.specs.Views.{decl_of}
+use Rattle.est_expand.specs.Scopes.{outputs_in}
+use Rattle.est_expand.proofs.interface.output_names.Given as goal
+
+abbrev pub invariant-loop-decl : goal.invariant-loop-decl
+invariant-loop-decl l =
+    map (λ name. name.now) l.found.items ≡ flat_map outputs_in (map decl_of (take l.decl-index l.decls))

@@ -1,0 +1,14 @@
+pub mod Scopes
+pub mod Faults
+pub mod Walks
+pub mod Tests
+pub mod Runs
+pub mod Flattening
+pub mod Answers
+pub mod Tables
+pub mod Counted
+pub mod Views
+pub mod FlatFits
+pub mod NewSignals
+pub mod FlatPrograms
+pub mod Laws

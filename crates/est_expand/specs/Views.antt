@@ -1,0 +1,57 @@
+-- Inner: the plain forms of what the walk keeps.
+use Rattle.std.specs.Prelude.{map, Result}
+use Rattle.est_base.specs.declared.place.Span.{Span}
+use Rattle.est_ast.specs.FlatTrees as flat
+use Rattle.est_ast.specs.Trees.{Expr, Stmt, Form, Part, Program}
+use Rattle.est_ast.specs.Views.{module_of}
+use Rattle.est_expand.specs.declared.interface.Formal.{Formal as CodeFormal}
+use Rattle.est_expand.specs.declared.interface.Shown.{Shown}
+use Rattle.est_expand.specs.declared.met.Met.{Met as CodeMet}
+use Rattle.est_expand.specs.declared.place.Around.{Around as CodeAround}
+use Rattle.est_expand.specs.declared.place.Source.{Source}
+use Rattle.est_expand.specs.declared.refusal.ExpandFault.{ExpandFault}
+use Rattle.est_expand.specs.Answers.{Answers}
+use Rattle.est_expand.specs.Scopes.{Scope, Formal, Interface}
+use Rattle.est_expand.specs.Walks.{Met, Walk, give, after, knowing}
+use Rattle.est_expand.specs.Tests.{test}
+use Rattle.est_expand.specs.Flattening.{Around, part, row, flattening}
+
+abbrev pub met_of : CodeMet → Met
+met_of met = record {
+  statements = met.statements;
+  signals = map (λ s. s.name) met.signals.items;
+  added = met.added;
+}
+
+abbrev pub interface_of : Shown → Interface
+interface_of shown = record {
+  inputs = map (λ name. name.now) shown.inputs.items;
+  both = map (λ name. name.now) shown.both.items;
+  outputs = map (λ name. name.now) shown.outputs.items;
+}
+
+abbrev pub around_of : CodeAround → Around
+around_of around = record { scope = around.scope; traps = around.traps; chain = around.chain }
+
+abbrev pub program_in : Source → Program
+program_in source = map module_of source.modules.now
+
+-- what a statement is, where a program is walked
+abbrev pub inside_of : Source → Around → Stmt → Walk flat.Stmt
+inside_of source = flattening (program_in source) source.inputs source.room
+
+-- what a statement is that has been counted
+abbrev pub row_of : Source → Around → Span → Form → Walk flat.Stmt
+row_of source = row (program_in source) source.inputs (inside_of source)
+
+-- one case, where it is known what a statement in it is
+abbrev pub one_case : Scope → (Stmt → Walk flat.Stmt) → Expr × Part → Walk (flat.Expr × flat.Part)
+one_case scope inside c =
+    knowing (test scope c.0) (λ event. after (part inside c.1) (λ body. give (event, body)))
+
+abbrev pub formal_of : CodeFormal → Formal
+formal_of formal = record { name = formal.name.now; input = formal.input }
+
+-- a call answers what a walk does from what was met before
+abbrev pub Walks : {A B : Type 0} → (A → B) → Result A ExpandFault → CodeMet → CodeMet → Walk B → Type 0
+Walks view result old new walk = Answers (λ value. (view value, met_of new)) result (walk (met_of old))

@@ -1,0 +1,49 @@
+// Where a walk is.
+
+ghost use Rattle.std.specs.Prelude.{◌≡◌, map};
+ghost use Rattle.est_ast.specs.Views.{module_of};
+ghost use Rattle.est_names.specs.NameFaults.{module_names};
+
+use crate::scope::Scope;
+use crate::traps::Traps;
+use est_ast::Module;
+use est_names::{NameSet, Table};
+
+/// A program: its modules with their table, and the number of inputs of the main module, which have the
+/// first numbers. So many more statements may stand one in another.
+#[derive(Clone, Copy)]
+pub struct Source<'a> {
+    pub modules: &'a [Module],
+    pub table: &'a Table<'a>,
+    pub inputs: u32,
+    pub room: u32,
+    ghost named: { table.now.names ≡ module_names (map module_of modules.now) },
+}
+
+/// What stands around a statement: what names mean there, the traps of its module, and the modules from the
+/// main one to its own.
+#[derive(Drop)]
+pub struct Around<'a> {
+    pub scope: Scope<'a>,
+    pub traps: Traps<'a>,
+    pub chain: NameSet<'a>,
+}
+
+impl<'a> Source<'a> {
+    ghost use Rattle.std.specs.Prelude.{◌+◌, IfSome, IfNone};
+
+    /// The same inside of a statement, where one more may stand in another.
+    pub fn inside(self) -> Option<Source<'a>>
+        ensures some { IfSome result (λ inner. (inner.modules ≡ self.entry.modules) × (inner.table ≡ self.entry.table)
+            × (inner.inputs ≡ self.entry.inputs) × (self.entry.room ≡ inner.room + 1)) }
+        ensures none { IfNone result (self.entry.room ≡ 0) }
+    {
+        let room = self.room.checked_sub(1)?;
+        Some(Source {
+            modules: self.modules,
+            table: self.table,
+            inputs: self.inputs,
+            room,
+        })
+    }
+}

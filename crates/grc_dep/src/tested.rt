@@ -1,0 +1,187 @@
+// The edges at statements that test signals.
+
+ghost use Rattle.std.specs.Prelude.{◌≡◌, ◌+◌, ◌++◌, length, map, OnOk};
+ghost use Rattle.est_kernel.specs.Plain.{expression_of, term_of};
+ghost use Rattle.est_kernel.specs.Preorder.{statement_count};
+ghost use Rattle.est_kernel.specs.Terms.{Expression, Present, Suspend};
+ghost use Rattle.grc_graph.specs.Layers.{Resumed, Started};
+ghost use Rattle.grc_graph.specs.PlainInstances.{layer_of};
+ghost use Rattle.grc_graph.specs.Scopes.{Scope};
+ghost use Rattle.grc_graph.specs.Statements.{signals_in};
+ghost use Rattle.grc_graph.specs.StatementViews.{binding_of};
+ghost use Rattle.grc_graph.specs.Edges.{edges_at};
+ghost use Rattle.grc_dep.specs.Found.{found_by};
+
+use crate::linking::push_edge_if;
+use crate::lookups::Lookups;
+use crate::names::Name;
+use crate::part_edges::{push_ends_if, push_go_to_part};
+use crate::parts::Part;
+use crate::statuses::push_test_if;
+use est_base::{NoMemory, PathId, WireId};
+use est_kernel::Test;
+use grc_graph::{Binding, Instance, Layer};
+use std::alloc::Global;
+
+// The edges at a test of signals.
+pub fn push_present(
+    alloc: Global,
+    lookups: &Lookups,
+    whole: &Part,
+    test: &Test,
+    bindings: &[Binding],
+    yes: &Part,
+    no: &Part,
+    layer: Layer,
+    pairs: &mut Vec<(WireId, WireId)>,
+) -> Result<(), NoMemory>
+    requires bindings { length bindings.now ≡ length (signals_in (expression_of test.now)) }
+    requires first { yes.now.path.0 ≡ whole.now.path.0 + 1 }
+    requires second { no.now.path.0 ≡ whole.now.path.0 + 1 + statement_count (term_of yes.now.body.now) }
+    ensures { OnOk result ((B : Scope) → map binding_of bindings.now ≡ map B (signals_in (expression_of test.now))
+        → pairs.new.items ≡ pairs.old.items ++ found_by lookups.now
+        (edges_at B (Present (expression_of test.now) (term_of yes.now.body.now) (term_of no.now.body.now))
+        whole.now.path.0 (layer_of layer))) }
+{
+    match layer {
+        Layer::Resumed => push_resumed_present(lookups, whole, yes, no, pairs),
+        Layer::Started(root) => {
+            push_started_present(alloc, lookups, whole, test, bindings, yes, no, root, pairs)
+        }
+    }
+}
+
+// The edges at a resumed test, whose branches do not depend on the signals any more.
+fn push_resumed_present(
+    lookups: &Lookups,
+    whole: &Part,
+    yes: &Part,
+    no: &Part,
+    pairs: &mut Vec<(WireId, WireId)>,
+) -> Result<(), NoMemory>
+    requires first { yes.now.path.0 ≡ whole.now.path.0 + 1 }
+    requires second { no.now.path.0 ≡ whole.now.path.0 + 1 + statement_count (term_of yes.now.body.now) }
+    ensures { OnOk result ((B : Scope) (e : Expression) → pairs.new.items ≡ pairs.old.items ++ found_by lookups.now
+        (edges_at B (Present e (term_of yes.now.body.now) (term_of no.now.body.now)) whole.now.path.0 Resumed)) }
+{
+    let layer = Layer::Resumed;
+    push_go_to_part(lookups, whole, yes, layer, pairs)?;
+    push_go_to_part(lookups, whole, no, layer, pairs)?;
+    push_ends_if(lookups, true, yes, layer, whole, layer, pairs)?;
+    push_ends_if(lookups, true, no, layer, whole, layer, pairs)
+}
+
+// The edges at a started test.
+fn push_started_present(
+    alloc: Global,
+    lookups: &Lookups,
+    whole: &Part,
+    test: &Test,
+    bindings: &[Binding],
+    yes: &Part,
+    no: &Part,
+    root: PathId,
+    pairs: &mut Vec<(WireId, WireId)>,
+) -> Result<(), NoMemory>
+    requires bindings { length bindings.now ≡ length (signals_in (expression_of test.now)) }
+    requires first { yes.now.path.0 ≡ whole.now.path.0 + 1 }
+    requires second { no.now.path.0 ≡ whole.now.path.0 + 1 + statement_count (term_of yes.now.body.now) }
+    ensures { OnOk result ((B : Scope) → map binding_of bindings.now ≡ map B (signals_in (expression_of test.now))
+        → pairs.new.items ≡ pairs.old.items ++ found_by lookups.now
+        (edges_at B (Present (expression_of test.now) (term_of yes.now.body.now) (term_of no.now.body.now))
+        whole.now.path.0 (Started root.0))) }
+{
+    let layer = Layer::Started(root);
+    let to_yes = Name::Go(Instance {
+        path: yes.path,
+        layer,
+    });
+    let to_no = Name::Go(Instance {
+        path: no.path,
+        layer,
+    });
+    push_go_to_part(lookups, whole, yes, layer, pairs)?;
+    push_go_to_part(lookups, whole, no, layer, pairs)?;
+    push_test_if(alloc, lookups, true, test, bindings, layer, to_yes, pairs)?;
+    push_test_if(alloc, lookups, true, test, bindings, layer, to_no, pairs)?;
+    push_ends_if(lookups, true, yes, layer, whole, layer, pairs)?;
+    push_ends_if(lookups, true, no, layer, whole, layer, pairs)
+}
+
+// The edges at a suspension.
+pub fn push_suspend(
+    alloc: Global,
+    lookups: &Lookups,
+    whole: &Part,
+    test: &Test,
+    bindings: &[Binding],
+    part: &Part,
+    layer: Layer,
+    pairs: &mut Vec<(WireId, WireId)>,
+) -> Result<(), NoMemory>
+    requires whole { term_of whole.now.body.now ≡ Suspend (expression_of test.now) (term_of part.now.body.now) }
+    requires bindings { length bindings.now ≡ length (signals_in (expression_of test.now)) }
+    requires first { part.now.path.0 ≡ whole.now.path.0 + 1 }
+    ensures { OnOk result ((B : Scope) → map binding_of bindings.now ≡ map B (signals_in (expression_of test.now))
+        → pairs.new.items ≡ pairs.old.items ++ found_by lookups.now
+        (edges_at B (Suspend (expression_of test.now) (term_of part.now.body.now)) whole.now.path.0
+        (layer_of layer))) }
+{
+    match layer {
+        Layer::Resumed => push_resumed_suspend(alloc, lookups, whole, test, bindings, part, pairs),
+        Layer::Started(root) => push_started_suspend(lookups, whole, part, root, pairs),
+    }
+}
+
+// The edges at a resumed suspension, whose test keeps its body from running.
+fn push_resumed_suspend(
+    alloc: Global,
+    lookups: &Lookups,
+    whole: &Part,
+    test: &Test,
+    bindings: &[Binding],
+    part: &Part,
+    pairs: &mut Vec<(WireId, WireId)>,
+) -> Result<(), NoMemory>
+    requires whole { term_of whole.now.body.now ≡ Suspend (expression_of test.now) (term_of part.now.body.now) }
+    requires bindings { length bindings.now ≡ length (signals_in (expression_of test.now)) }
+    requires first { part.now.path.0 ≡ whole.now.path.0 + 1 }
+    ensures { OnOk result ((B : Scope) → map binding_of bindings.now ≡ map B (signals_in (expression_of test.now))
+        → pairs.new.items ≡ pairs.old.items ++ found_by lookups.now
+        (edges_at B (Suspend (expression_of test.now) (term_of part.now.body.now)) whole.now.path.0 Resumed)) }
+{
+    let layer = Layer::Resumed;
+    let at = Instance {
+        path: whole.path,
+        layer,
+    };
+    let end = Name::End(at, 1);
+    let go = Name::Go(Instance {
+        path: part.path,
+        layer,
+    });
+    let pauses = whole.pauses_in(layer);
+    let runs = part.runs_in(layer);
+    push_go_to_part(lookups, whole, part, layer, pairs)?;
+    push_edge_if(lookups, pauses, Name::Go(at), end, pairs)?;
+    push_test_if(alloc, lookups, runs, test, bindings, layer, go, pairs)?;
+    push_test_if(alloc, lookups, pauses, test, bindings, layer, end, pairs)?;
+    push_ends_if(lookups, true, part, layer, whole, layer, pairs)
+}
+
+// The edges at a started suspension, whose test does not count.
+fn push_started_suspend(
+    lookups: &Lookups,
+    whole: &Part,
+    part: &Part,
+    root: PathId,
+    pairs: &mut Vec<(WireId, WireId)>,
+) -> Result<(), NoMemory>
+    requires { part.now.path.0 ≡ whole.now.path.0 + 1 }
+    ensures { OnOk result ((B : Scope) (e : Expression) → pairs.new.items ≡ pairs.old.items ++ found_by lookups.now
+        (edges_at B (Suspend e (term_of part.now.body.now)) whole.now.path.0 (Started root.0))) }
+{
+    let layer = Layer::Started(root);
+    push_go_to_part(lookups, whole, part, layer, pairs)?;
+    push_ends_if(lookups, true, part, layer, whole, layer, pairs)
+}

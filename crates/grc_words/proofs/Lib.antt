@@ -1,0 +1,17 @@
+pub mod RowValues
+pub mod Enclosed
+pub mod Saying
+pub mod RowCounts
+pub mod LeafPaths
+pub mod Holding
+pub mod LeafChoices
+pub mod PartSteps
+pub mod TestSteps
+pub mod Beside
+pub mod HoldingSteps
+pub mod Listing
+pub mod EndSteps
+pub mod EndPlaces
+pub mod EndCodes
+pub mod EndWords
+pub mod Whole

@@ -1,0 +1,12 @@
+pub mod Rows
+pub mod Occasions
+pub mod WordLaws
+pub mod Enclosures
+pub mod Building
+pub mod Choosing
+pub mod PartKinds
+pub mod LeafLists
+pub mod Testing
+pub mod Sizes
+pub mod Holdings
+pub mod EndLists

@@ -1,0 +1,51 @@
+-- To believe: the greatest number of rows of a table of words.
+use Rattle.std.specs.Prelude.{ℕ, ◌+◌, Option, Some, None, List}
+use Rattle.std.specs.List.{sum_by}
+use Rattle.est_kernel.specs.Plain.{program_of}
+use Rattle.est_kernel.specs.Preorder.{statement_count}
+use Rattle.est_kernel.specs.Terms.{Expression, Tick, Sig, Not, And, Or, Term, Nothing, Pause, Emit, Exit, Present, Suspend, Seq, Loop, Par, Trap, Local, Awake}
+use Rattle.grc_graph.specs.declared.graph.Graph.{Graph}
+use Rattle.grc_graph.specs.Instances.{Instance}
+use Rattle.grc_graph.specs.PlainGraphs.{instances_of}
+use Rattle.grc_graph.specs.Rows as listed_rows
+
+-- a statement with its number
+abbrev pub statement_row : Graph → ℕ → listed_rows.Row
+statement_row g c = listed_rows.row_at (listed_rows.program_rows (program_of g.program)) c
+
+-- the test of a suspension
+abbrev pub test_of : Term → Option Expression
+test_of Nothing = None
+test_of Pause = None
+test_of (Emit s) = None
+test_of (Exit k) = None
+test_of (Present e p q) = None
+test_of (Suspend e p) = Some e
+test_of (Seq p q) = None
+test_of (Loop at p) = None
+test_of (Par p q) = None
+test_of (Trap p) = None
+test_of (Local s p) = None
+test_of (Awake e p) = None
+
+-- how many operators a test has
+abbrev pub operators : Expression → ℕ
+operators Tick = 0
+operators (Sig s) = 0
+operators (Not a) = operators a + 1
+operators (And a b) = operators a + operators b + 1
+operators (Or a b) = operators a + operators b + 1
+
+-- An instance takes a row to say that it is kept. That of a suspension takes its test, and three more rows to say that
+-- it is held: that it runs, that it is kept, and what is held around.
+abbrev pub rows_by : Option Expression → ℕ
+rows_by None = 1
+rows_by (Some e) = operators e + 4
+
+abbrev pub instance_rows : Graph → Instance → ℕ
+instance_rows g x = rows_by (test_of (statement_row g x.path).statement)
+
+-- A row for each statement that says whether it holds a selected pause, those of the instances, and one to say that the
+-- program pauses.
+abbrev pub rows_at_most : Graph → ℕ
+rows_at_most g = statement_count (program_of g.program).body + sum_by (instance_rows g) (instances_of g) + 1

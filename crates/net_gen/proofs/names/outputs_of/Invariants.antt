@@ -1,0 +1,11 @@
+use Rattle.std.proofs.Common.{◌≡◌, map, take, drop}
+use Rattle.est_kernel.specs.Plain.{program_of}
+use Rattle.net_gen.specs.Drawings.{drawing_of}
+use Rattle.net_gen.specs.Readiness.{source_net}
+use Rattle.net_gen.proofs.names.outputs_of.Given as goal
+
+abbrev pub invariant-loop-place : goal.invariant-loop-place
+invariant-loop-place l = record {
+  names : map (λ o. o.name) l.outs.items ≡ take l.place (drop l.program.inputs (program_of l.program).signals);
+  nets : map (λ o. o.net) l.outs.items ≡ map (source_net (drawing_of l.circuit)) (take l.place l.sources);
+}

@@ -1,0 +1,79 @@
+// A circuit before its first gate.
+
+ghost use Rattle.std.specs.Prelude.{◌≡◌, ◌+◌, ◌<◌, ◌^◌, None, IfOk, replicate};
+ghost use Rattle.est_kernel.specs.Plain.{program_of, given_count};
+ghost use Rattle.net_gen.specs.Drawings.{drawing_of};
+ghost use Rattle.net_gen.specs.Making.{Begun};
+ghost use Rattle.net_gen.specs.Senses.{first_of};
+
+use crate::circuit::Circuit;
+use est_base::{NetId, NoMemory};
+use grc_graph::Graph;
+use grc_words::Words;
+use net_ir::{Gate, Op};
+use std::alloc::Global;
+
+/// How the nets before the gates are numbered.
+#[derive(Clone, Copy, Debug)]
+struct FirstNumbers {
+    /// The number of inputs, which is that of the boot latch.
+    given: u32,
+    /// The number of the first gate.
+    first: u32,
+}
+
+// The numbers of the inputs, of the latches and of two gates are u32, or else memory is said to be wanted.
+fn count_before_gates(graph: &Graph) -> Result<FirstNumbers, NoMemory>
+    ensures given { IfOk result (λ n. n.given ≡ given_count (program_of graph.now.program)) }
+    ensures first { IfOk result (λ n. n.first ≡ first_of graph.now) }
+    ensures fits { IfOk result (λ n. first_of graph.now + 2 < 2 ^ 32) }
+{
+    let program = graph.program();
+    let given = program.inputs as usize + program.both as usize;
+    let leaves = graph.next.len();
+    if leaves >= u32::MAX as usize {
+        return Err(NoMemory);
+    }
+    let first = given + 1 + leaves;
+    if first + 2 > u32::MAX as usize {
+        return Err(NoMemory);
+    }
+    Ok(FirstNumbers {
+        given: given as u32,
+        first: first as u32,
+    })
+}
+
+// A table without an entry.
+fn no_nets(alloc: Global, count: usize) -> Result<Vec<Option<NetId>>, NoMemory>
+    ensures { IfOk result (λ v. v.items ≡ replicate count None) }
+{
+    Ok(vec![in alloc; None; count]?)
+}
+
+fn constant_gate(value: bool) -> Gate
+    ensures { result ≡ record { op = Op.Const value; wire = None } }
+{
+    Gate {
+        op: Op::Const(value),
+        wire: None,
+    }
+}
+
+/// A circuit of two gates, the constants.
+pub(crate) fn begin(alloc: Global, graph: &Graph, words: &Words) -> Result<Circuit, NoMemory>
+    ensures { IfOk result (λ c. Begun graph.now words.now (drawing_of c)) }
+{
+    let numbers = count_before_gates(graph)?;
+    let wires = graph.wires().len();
+    Ok(Circuit {
+        given: numbers.given,
+        first: numbers.first,
+        no: NetId(numbers.first),
+        yes: NetId(numbers.first + 1),
+        gates: vec![in alloc; constant_gate(false), constant_gate(true)]?,
+        wires: no_nets(alloc, wires)?,
+        ends: no_nets(alloc, wires)?,
+        rows: no_nets(alloc, words.rows.len())?,
+    })
+}
