@@ -27,6 +27,8 @@ mod NextStates
 mod Scoped
 mod NextTop
 mod Premises
+mod FirstCodes
+mod Instants
 mod Runs
 mod WalkSolves
 mod GraphLaws

@@ -1,12 +1,12 @@
 -- To believe: the walk of a program's body that a valuation of the wires of its graph tells.
-use Rattle.std.specs.Prelude.{◌≡◌, ℕ, Bool, true, false, ◌==◌, ◌||◌, List, All, Contains, ⊤}
+use Rattle.std.specs.Prelude.{◌≡◌, ℕ, Bool, true, false, ◌==◌, ◌||◌, List, slice_index_or, All, Contains, ⊤}
 use Rattle.std.specs.List.{list_any}
 use Rattle.est_kernel.specs.Plain.{Program, interface_of, interface_count}
 use Rattle.est_kernel.specs.Terms.{Term}
 use Rattle.est_kernel.specs.Reactions.{Answer, is_given}
 use Rattle.est_kernel.specs.StaticCodes.{has_code, resumed_codes}
 use Rattle.grc_graph.specs.Layers.{Resumed, Started}
-use Rattle.grc_graph.specs.Wires.{Wire, Out}
+use Rattle.grc_graph.specs.Wires.{Wire, Out, End, listed}
 use Rattle.grc_graph.specs.Residuals.{holds}
 use Rattle.grc_graph.specs.Scopes.{program_scope}
 use Rattle.grc_graph.specs.Walk.{Walk, Values, State, Initial, Selecting, is_initial, body_walk}
@@ -45,6 +45,14 @@ pub record IsWalkOf (p : Program) (q : State) (event : List Bool) (V : Valuation
 abbrev pub SelectsLeaves : State → Term → Type 0
 SelectsLeaves Initial body = ⊤
 SelectsLeaves (Selecting S) body = (m : ℕ) → S m ≡ true → list_any (λ x. m == x) (body_leaves body) ≡ true
+
+-- whether the body ends with this code, in the layer that runs, and the code that this shows: the one with which it
+-- ends, or 0 where nothing runs
+abbrev pub ends_with : Valuation → ℕ → Bool
+ends_with V k = V (End 0 Resumed k) || V (End 0 (Started 0) k)
+
+abbrev pub shown_code : Valuation → ℕ
+shown_code V = slice_index_or (listed (ends_with V)) 0 0
 
 -- what is seen of an answer: its outputs, and whether its code is 1
 abbrev pub shown_answer : Answer → Shown

@@ -17,7 +17,7 @@ use Rattle.grc_graph.specs.Readings.{Valuation}
 use Rattle.grc_graph.specs.Coherence.{StartedWalked, ResumedWalked}
 use Rattle.grc_graph.specs.GraphRuns.{graph_of, program_spots, Solves, shown, next_state, IsGraphRun}
 use Rattle.grc_graph.specs.Layers.{Layer}
-use Rattle.grc_sem.specs.GraphWalks.{selected_of, program_values, graph_walk, IsWalkOf, SelectsLeaves, shown_answer}
+use Rattle.grc_sem.specs.GraphWalks.{selected_of, program_values, graph_walk, IsWalkOf, SelectsLeaves, shown_code, shown_answer}
 
 -- Where no loop is instantaneous, a solution of a program's graph in a state is its walk: each wire of each instance
 -- has the value that the walk gives it, in the layer of the first start and, where it is live, in the resumed one.
@@ -69,16 +69,7 @@ NextStateIsKept =
     × SelectsLeaves (next_state (graph_of p) q event V) p.body
     × ((shown (graph_of p) V).paused ≡ ((graph_walk p q event V).code == 1))
 
--- Where the edges of a program's graph go up in some rank, all solutions in a state and an event show the same.
-abbrev pub SolutionsShowAlike : Type 0
-SolutionsShowAlike =
-    (p : Program) (q : State) (event : List Bool) (V W : Valuation) (rank : Wire → ℕ)
-    → IsWellFormed p → programs.IsKernel p.body → NoInstantLoop p.body → IsState q p.body → SelectsLeaves q p.body
-    → GoUp rank (edges (program_spots p)) → length event ≡ given_count p
-    → Solves (graph_of p) q event V → Solves (graph_of p) q event W
-    → shown (graph_of p) V ≡ shown (graph_of p) W
-
--- Where they do, a run of the graph from the first instant is the run of the program: every reaction is constructive,
+-- Where each edge goes up in some rank, a run of the graph from the first instant is the run of the program: every reaction is constructive,
 -- and what is seen of the answers is what the graph shows.
 abbrev pub GraphRunsAreRuns : Type 0
 GraphRunsAreRuns =
@@ -100,3 +91,23 @@ ProgramsRun =
     × (run_of p items ≡ Some answers)
     × IsGraphRun (graph_of p) Initial items Vs
     × (map shown_answer answers ≡ map (λ V. shown (graph_of p) V) Vs)
+
+-- The code of the walk is the one that a solution shows.
+abbrev pub CodesAreShown : Type 0
+CodesAreShown =
+    (p : Program) (q : State) (event : List Bool) (V : Valuation)
+    → IsKernel p.body → NoInstantLoop p.body → IsState q p.body → Solves (graph_of p) q event V
+    → shown_code V ≡ (graph_walk p q event V).code
+
+-- So a reaction is read off a solution alone: what the state leaves of the program reacts constructively, with the
+-- outputs and the code that the solution shows, and leaves what the next state of the graph leaves of the body.
+abbrev pub SolutionsAreReactions : Type 0
+SolutionsAreReactions =
+    (p : Program) (q : State) (event : List Bool) (V : Valuation) (rank : Wire → ℕ)
+    → IsWellFormed p → programs.IsKernel p.body → NoInstantLoop p.body → IsState q p.body → SelectsLeaves q p.body
+    → GoUp rank (edges (program_spots p)) → length event ≡ given_count p → Solves (graph_of p) q event V
+    → react (interface_of p) (remaining q p.body) event
+    ≡ Some (record {
+      answer = record { outputs = (shown (graph_of p) V).outputs; code = shown_code V };
+      residual = remaining (next_state (graph_of p) q event V) p.body;
+    })

@@ -1,8 +1,8 @@
 // The laws that tie the graph of a program to its meaning. Each call does nothing: its contract is the law.
 
-ghost use Rattle.grc_sem.specs.Laws.{EquationsAreTheWalk, ProgramsRun};
+ghost use Rattle.grc_sem.specs.Laws.{CodesAreShown, EquationsAreTheWalk, ProgramsRun, SolutionsAreReactions};
 ghost use Rattle.grc_sem.specs.Laws.{GraphRunsAreRuns, NextStateIsKept, SolutionsAreWalks, SolutionsReact};
-ghost use Rattle.grc_sem.specs.Laws.{SolutionsShowAlike, WalksKeepStates};
+ghost use Rattle.grc_sem.specs.Laws.{WalksKeepStates};
 
 /// A solution of a program's graph is the walk of the program's state, wire by wire.
 pub fn solutions_are_walks()
@@ -20,6 +20,17 @@ pub fn solutions_react()
     ensures { SolutionsReact }
 {}
 
+/// The code of the walk is the one that a solution shows.
+pub fn codes_are_shown()
+    ensures { CodesAreShown }
+{}
+
+/// Where the edges of a graph go up in rank, a reaction of the program is read off a solution alone: its outputs,
+/// its code, and what it leaves of the program.
+pub fn solutions_are_reactions()
+    ensures { SolutionsAreReactions }
+{}
+
 /// The pauses that a walk of a state keeps are a state again.
 pub fn walks_keep_states()
     ensures { WalksKeepStates }
@@ -35,11 +46,6 @@ pub fn next_state_is_kept()
 /// the program, and every reaction in it is constructive.
 pub fn graph_runs_are_runs()
     ensures { GraphRunsAreRuns }
-{}
-
-/// Where the edges of a graph go up in rank, all its solutions in a state and an event show the same.
-pub fn solutions_show_alike()
-    ensures { SolutionsShowAlike }
 {}
 
 /// Where the edges of a graph go up in some rank, the program has a run over all items of the right width, and the

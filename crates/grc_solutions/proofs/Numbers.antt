@@ -4,8 +4,9 @@ use Rattle.std.specs.Prelude.{All, Contains, count_by, slice_index}
 use Rattle.std.specs.List.{position_or_len}
 use Rattle.std.proofs.lemmas.Bool.{cases_lt, cases_Bool, eqb-true, eq-eqb, false≢true}
 use Rattle.std.proofs.lemmas.List.{length-map, get_or-map, get_or_default}
-use Rattle.std.proofs.lemmas.List.Elements.{All-contains, Contains-get_or}
+use Rattle.std.proofs.lemmas.List.Elements.{All-contains, Contains-get_or, Contains-append_right}
 use Rattle.std.proofs.lemmas.List.Sums.{sum_by-cons, fails_before_first, passes_at_first}
+use Rattle.digraph.specs.Walks.{HasEdge, IsClosedWalk}
 use Rattle.est_base.specs.declared.indices.WireId.{WireId}
 use Rattle.grc_graph.specs.Layers.{Resumed}
 use Rattle.grc_graph.specs.Wires.{Wire, Go, same_wire}
@@ -19,7 +20,7 @@ use Rattle.grc_graph.specs.NumberedEdges.{AreEdgesOf, named_edge}
 use Rattle.grc_graph.specs.Reads.{ReadsOnly, StandsBefore, IsReadingOrder}
 use Rattle.grc_graph.specs.GraphRuns.{graph_of}
 use Rattle.grc_solutions.specs.GraphWires.{program_wires, program_edges, equation_wires, Differ}
-use Rattle.grc_solutions.specs.NumberedGraphs.{formulas_of, HasEdge, IsClosedWalk, WireOrdersAreReadingOrders, WireRanksGoUp, ClosedWalksHaveNoRanks, ReadingOrdersReadUp}
+use Rattle.grc_solutions.specs.NumberedGraphs.{formulas_of, plain_pairs, WireOrdersAreReadingOrders, WireRanksGoUp, ClosedWalksHaveNoRanks, ReadingOrdersReadUp}
 use Rattle.grc_solutions.proofs.SameWires.{same_wire-self, same_wire-true}
 use Rattle.grc_solutions.proofs.WireNames.{wires_differ_lem}
 use Rattle.grc_solutions.proofs.ProgramGraphs.{edges_join_wires_lem, reads_are_edges_lem}
@@ -84,24 +85,33 @@ module _ (names : List Wire) (edges : List Edge) (pairs : List WireEdge) (are : 
       let e : edge_at pairs h.0 ≡ (record { 0 = u }, record { 0 = w }) = get_or_default pairs h.0 _ _ h.1 ∙ h.2 in
       (h.0, h.1, ap (λ x. x.0.0) e, ap (λ x. x.1.0) e)
 
-  closed_walk : (walk : List WireId) (rank : Wire → ℕ) → IsClosedWalk pairs walk → GoUp rank edges → ⊥
+  -- an edge by plain numbers is one
+  plain_edge : (u w : ℕ) (xs : List WireEdge) → Contains (plain_pairs xs) (u, w) → Contains xs (record { 0 = u }, record { 0 = w })
+  plain_edge u w [] c = absurd (omega (arith, c.1))
+  plain_edge u w (x ∷ xs) c = go c.0 c.1 c.2 (plain_edge u w xs)
+    where
+      go : (k : ℕ) → k < suc (length (plain_pairs xs)) → get_or ((x.0.0, x.1.0) ∷ plain_pairs xs) k (u, w) ≡ (u, w) → (Contains (plain_pairs xs) (u, w) → Contains xs (record { 0 = u }, record { 0 = w })) → Contains (x ∷ xs) (record { 0 = u }, record { 0 = w })
+      go zero l e r = (0, omega arith, ap (λ y. (record { 0 = y.0 }, record { 0 = y.1 })) e)
+      go (suc k) l e r = Contains-append_right (x ∷ []) xs (record { 0 = u }, record { 0 = w }) (r (k, omega arith, e))
+
+  closed_walk : (walk : List ℕ) (rank : Wire → ℕ) → IsClosedWalk (plain_pairs pairs) walk → GoUp rank edges → ⊥
   closed_walk walk rank c up =
-      let last : rank (graphs.wire_at names (wire_at walk 0)) ≤ rank (graphs.wire_at names (wire_at walk (length walk - 1))) = rises (length walk - 1) (omega (arith, c.some_wire)) in
-      let back = step (wire_at walk (length walk - 1)) (wire_at walk 0) c.closes in
+      let last : at 0 ≤ at (length walk - 1) = rises (length walk - 1) (omega (arith, c.some_node)) in
+      let back = step (slice_index walk (length walk - 1)) (slice_index walk 0) c.closes in
       omega (arith, last, back)
     where
       at : ℕ → ℕ
-      at k = rank (graphs.wire_at names (wire_at walk k))
+      at k = rank (graphs.wire_at names (slice_index walk k))
 
-      step : (u w : ℕ) → HasEdge pairs u w → rank (graphs.wire_at names u) < rank (graphs.wire_at names w)
-      step u w h = up (named_edge names u w) (are.sound u w h)
+      step : (u w : ℕ) → HasEdge (plain_pairs pairs) u w → rank (graphs.wire_at names u) < rank (graphs.wire_at names w)
+      step u w h = up (named_edge names u w) (are.sound u w (plain_edge u w pairs h))
 
       rises : (k : ℕ) → k < length walk → at 0 ≤ at k
       rises zero l = omega arith
       rises (suc k) l =
           let e : k + 1 ≡ suc k = omega arith in
           let low = rises k (omega arith) in
-          let up = subst (λ j. at k < at j) e (step (wire_at walk k) (wire_at walk (k + 1)) (c.steps k (omega arith))) in
+          let up = subst (λ j. at k < at j) e (step (slice_index walk k) (slice_index walk (k + 1)) (c.steps k (omega arith))) in
           omega (arith, low, up)
 
 pub closed_walks_have_no_ranks_lem : ClosedWalksHaveNoRanks

@@ -3,7 +3,7 @@ use Rattle.std.specs.Prelude.{◌≡◌, ◌≢◌, List, map, All, AllPairs, Co
 use Rattle.est_kernel.specs.Plain.{Program}
 use Rattle.grc_graph.specs.Wires.{Wire}
 use Rattle.grc_graph.specs.Equations.{Equation}
-use Rattle.grc_graph.specs.Edges.{Edge, edge}
+use Rattle.grc_graph.specs.Edges.{edge}
 use Rattle.grc_graph.specs.Selected.{IsKernel}
 use Rattle.grc_graph.specs.Reads.{ReadsOnly}
 pub use Rattle.grc_graph.specs.GraphRuns.{program_wires, program_edges}

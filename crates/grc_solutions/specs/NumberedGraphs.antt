@@ -1,5 +1,6 @@
 -- To believe: the graph of a program by the numbers of its wires: evaluation orders, ranks, and walks that close.
-use Rattle.std.specs.Prelude.{◌≡◌, ℕ, ◌+◌, ◌-◌, ◌<◌, List, length, map, slice_index, Contains}
+use Rattle.std.specs.Prelude.{◌≡◌, ℕ, ◌<◌, List, length, map, slice_index}
+use Rattle.digraph.specs.Walks.{IsClosedWalk}
 use Rattle.est_base.specs.declared.indices.WireId.{WireId}
 use Rattle.est_kernel.specs.Plain.{Program}
 use Rattle.grc_graph.specs.Wires.{Wire}
@@ -8,7 +9,7 @@ use Rattle.grc_graph.specs.Equations.{Equation}
 use Rattle.grc_graph.specs.Edges.{Edge}
 use Rattle.grc_graph.specs.Orders.{GoUp}
 use Rattle.grc_graph.specs.Selected.{IsKernel}
-use Rattle.grc_graph.specs.WireOrders.{WireEdge, wire_at, AreRanks, IsWireOrder}
+use Rattle.grc_graph.specs.WireOrders.{WireEdge, AreRanks, IsWireOrder}
 use Rattle.grc_graph.specs.PlainGraphs as graphs
 use Rattle.grc_graph.specs.NumberedEdges.{AreEdgesOf}
 use Rattle.grc_graph.specs.Reads.{IsReadingOrder}
@@ -20,16 +21,9 @@ use Rattle.grc_solutions.specs.Solutions.{ReadUp}
 abbrev pub formulas_of : List Equation → List Formula
 formulas_of es = map (λ e. e.formula) es
 
--- these pairs of numbers have this edge
-abbrev pub HasEdge : List WireEdge → (from to : ℕ) → Type 0
-HasEdge pairs from to = Contains pairs (record { 0 = from }, record { 0 = to })
-
--- a walk of one edge or more that ends where it began: each wire of the list has an edge to the next, and the last one
--- to the first
-pub record IsClosedWalk (pairs : List WireEdge) (walk : List WireId) : Type 0 where
-  pub some_wire : 0 < length walk
-  pub steps : (k : ℕ) → k + 1 < length walk → HasEdge pairs (wire_at walk k) (wire_at walk (k + 1))
-  pub closes : HasEdge pairs (wire_at walk (length walk - 1)) (wire_at walk 0)
+-- edges by the numbers of their wires, as pairs of plain numbers
+abbrev pub plain_pairs : List WireEdge → List (ℕ × ℕ)
+plain_pairs pairs = map (λ e. (e.0.0, e.1.0)) pairs
 
 -- An evaluation order along the edges of a program's graph is one along which its equations read.
 abbrev pub WireOrdersAreReadingOrders : Type 0
@@ -50,8 +44,8 @@ WireRanksGoUp =
 -- Where some walk along the edges closes, they go up in no rank.
 abbrev pub ClosedWalksHaveNoRanks : Type 0
 ClosedWalksHaveNoRanks =
-    (names : List Wire) (edges : List Edge) (pairs : List WireEdge) (walk : List WireId) (rank : Wire → ℕ)
-    → AreEdgesOf names edges pairs → IsClosedWalk pairs walk → GoUp rank edges → ⊥
+    (names : List Wire) (edges : List Edge) (pairs : List WireEdge) (walk : List ℕ) (rank : Wire → ℕ)
+    → AreEdgesOf names edges pairs → IsClosedWalk (plain_pairs pairs) walk → GoUp rank edges → ⊥
 
 -- Equations that read along an order, no two of one wire, read up in some rank: so they have one solution.
 abbrev pub ReadingOrdersReadUp : Type 0

@@ -1,4 +1,4 @@
-use Rattle.grc_sem.proofs.Runs.{next_state_is_kept_lem}
+use Rattle.grc_sem.proofs.Instants.{next_state_is_kept_lem}
 use Rattle.grc_sem.proofs.laws.next_state_is_kept.Goals as goal
 
 pub returns : goal.returns
