@@ -1,12 +1,12 @@
 -- What is kept and held of each statement follows from what is of the statement around it.
-use Rattle.std.proofs.Common.{◌≡◌, ℕ, ◌+◌, ◌<◌, ◌≤◌, ◌⊎◌, Bool, true, false, ◌&&◌, ◌||◌, ◌==◌, nat_lt, cond, Option, Some, None, List, [], ◌∷◌, ◌++◌, length, refl, sym, ap, ◌∙◌, subst, ⊎_elim, arith, inl, inr}
+use Rattle.std.proofs.Common.{◌≡◌, ℕ, ◌+◌, ◌<◌, ◌≤◌, Bool, true, false, ◌&&◌, ◌||◌, ◌==◌, nat_lt, cond, Some, None, List, refl, sym, ap, ◌∙◌, subst, ⊎_elim, arith}
 use Rattle.std.specs.Prelude.{if◌then◌else◌, MatchOption}
 use Rattle.std.proofs.lemmas.Bool.{cases_lt, cases_eq, ne_eqb, eq-eqb, lt-ltb, le-ltb}
 use Rattle.est_base.specs.declared.place.Span.{Span}
 use Rattle.est_kernel.specs.Terms.{Expression, Term, Nothing, Pause, Emit, Exit, Present, Suspend, Seq, Loop, Par, Trap, Local, Awake}
 use Rattle.est_kernel.specs.Plain.{Program, interface_count}
 use Rattle.est_kernel.specs.Preorder.{statement_count}
-use Rattle.grc_graph.specs.Layers.{Layer, Resumed, Liveness, body_liveness, layer_above, same_layer, part_liveness, second_liveness, loop_liveness}
+use Rattle.grc_graph.specs.Layers.{Layer, Liveness, body_liveness, layer_above, part_liveness, second_liveness, loop_liveness}
 use Rattle.grc_graph.specs.Readings.{Valuation, kept_at, held_at}
 use Rattle.grc_graph.specs.Rows.{Row, row, rows, row_at, second_of, program_rows}
 use Rattle.grc_graph.specs.Scopes.{Scope, bind, program_scope}
@@ -93,7 +93,7 @@ held-here r G B t n some i l =
     i.held n (layer_above n l) (omega arith) (omega arith)
     ∙ ap (λ j. G j || (kept_of r n j && held_at r.given r.wires B t n n (layer_above n l))) twice
     ∙ ap (λ b. G (layer_above n l) || (kept_of r n (layer_above n l) && b))
-      (held-self r.given r.wires B t n (layer_above n l) ∙ ap (λ j. suspends r.given r.wires B t n j) twice)
+    (held-self r.given r.wires B t n (layer_above n l) ∙ ap (λ j. suspends r.given r.wires B t n j) twice)
 
 kept-there : (r : Readings) (G : Layer → Bool) (B C : Scope) (t p : Term) (n c : ℕ) → 0 < statement_count p → c + statement_count p ≤ n + statement_count t
     → Inside r G B t n → Through r B C t p n c → (l : Layer)
@@ -109,7 +109,7 @@ inside-part r G B C t p n c some within pos i th = record {
       let root = kept-there r G B C t p n c some within i th (layer_above c l) in
       let up = above_above n c l th.above in
       let at : kept_of r c (layer_above c l) ≡ (kept_of r n (layer_above n l) && (lasts r.wires t n (layer_above n l) && true)) =
-          root ∙ ap (λ j. kept_of r n j && (lasts r.wires t n j && true)) up in
+      root ∙ ap (λ j. kept_of r n j && (lasts r.wires t n j && true)) up in
       i.kept m l (omega (arith, th.above)) (omega arith) ∙ ap (λ b. kept_of r n (layer_above n l) && b) (th.kept m l low high)
       ∙ kept-steps (kept_of r n (layer_above n l)) (lasts r.wires t n (layer_above n l)) (kept_at r.wires p c m l)
       ∙ ap (λ b. b && kept_at r.wires p c m l) (sym at);
@@ -117,13 +117,13 @@ inside-part r G B C t p n c some within pos i th = record {
       let root = kept-there r G B C t p n c some within i th (layer_above c l) in
       let up = above_above n c l th.above in
       let at : kept_of r c (layer_above c l) ≡ (kept_of r n (layer_above n l) && (lasts r.wires t n (layer_above n l) && true)) =
-          root ∙ ap (λ j. kept_of r n j && (lasts r.wires t n j && true)) up in
+      root ∙ ap (λ j. kept_of r n j && (lasts r.wires t n j && true)) up in
       let here = held-here r G B t n pos i l in
       let x = held_at r.given r.wires C p c m l in
       i.held m l (omega (arith, th.above)) (omega arith)
       ∙ ap (λ b. G (layer_above n l) || (kept_of r n (layer_above n l) && b)) (th.held m l low high)
       ∙ held-steps (G (layer_above n l)) (kept_of r n (layer_above n l)) (suspends r.given r.wires B t n (layer_above n l))
-        (lasts r.wires t n (layer_above n l)) x
+      (lasts r.wires t n (layer_above n l)) x
       ∙ ap (λ b. b || ((kept_of r n (layer_above n l) && (lasts r.wires t n (layer_above n l) && true)) && x)) (sym here)
       ∙ ap (λ b. held_of r n (layer_above n l) || (b && x)) (sym at)
       ∙ ap (λ j. held_of r n j || (kept_of r c (layer_above c l) && x)) (sym up);
@@ -148,9 +148,9 @@ within-part r G B y x n c some within pos i th = record {
       let own = suspends r.given r.wires x.scope p c (layer_above c l) in
       i.held c l th.above (omega arith)
       ∙ ap (λ b. G (layer_above n l) || (kept_of r n (layer_above n l) && b)) (th.held c l (omega arith) (omega arith)
-        ∙ ap (λ b. suspends r.given r.wires B t n (layer_above n l) || (lasts r.wires t n (layer_above n l) && b)) (held-self r.given r.wires x.scope p c l))
+      ∙ ap (λ b. suspends r.given r.wires B t n (layer_above n l) || (lasts r.wires t n (layer_above n l) && b)) (held-self r.given r.wires x.scope p c l))
       ∙ held-steps (G (layer_above n l)) (kept_of r n (layer_above n l)) (suspends r.given r.wires B t n (layer_above n l))
-        (lasts r.wires t n (layer_above n l)) own
+      (lasts r.wires t n (layer_above n l)) own
       ∙ ap (λ b. b || ((kept_of r n (layer_above n l) && (lasts r.wires t n (layer_above n l) && true)) && own)) (sym here)
       ∙ ap (λ b. held_of r n (layer_above n l) || (b && own)) (sym there);
 }
@@ -278,7 +278,7 @@ part-stands r W G a b B C x y t p n c enters within s rows_in th =
     let there = row_read W b C y p c rows_in in
     let law = within-part r G B (row a B x t (second_of t n)) (row b C y p (second_of p c)) n c (some-statement p) within (some-statement t) s.inside th in
     let around_is : IsWithin r (row_at W n) (row_at W c) n c =
-        subst (λ z. IsWithin r z (row_at W c) n c) (sym here.same) (subst (λ z. IsWithin r (row a B x t (second_of t n)) z n c) (sym there.same) law) in
+    subst (λ z. IsWithin r z (row_at W c) n c) (sym here.same) (subst (λ z. IsWithin r (row a B x t (second_of t n)) z n c) (sym there.same) law) in
     let entry : around (row_at W c).entry ≡ Some n = ap (λ z. around z.entry) there.same ∙ enters in
     record {
       rows_in = rows_in;
@@ -367,17 +367,17 @@ program_follows p given V m kernel low =
     let stands = stands_whole W in
     let here = row_read W (body_liveness p.body) B Body p.body 0 stands in
     let outermost : IsOutermost r (row (body_liveness p.body) B Body p.body (second_of p.body 0)) 0 = record {
-        kept = λ l. kept-self V p.body 0 l;
-        held = λ l. held-self given V B p.body 0 l;
-      } in
+      kept = λ l. kept-self V p.body 0 l;
+      held = λ l. held-self given V B p.body 0 l;
+    } in
     let first : IsOutermost r (row_at W 0) 0 = subst (λ z. IsOutermost r z 0) (sym here.same) outermost in
     let entry : around (row_at W 0).entry ≡ None = ap (λ z. around z.entry) here.same in
     let s : Stands r W (λ l. false) (body_liveness p.body) B Body p.body 0 = record {
-        rows_in = stands;
-        inside = record {
-          kept = λ k l h g. ap (λ b. b && kept_at V p.body 0 k l) (sym (kept-self V p.body 0 (layer_above 0 l)));
-          held = λ k l h g. ap (λ b. b && held_at given V B p.body 0 k l) (sym (kept-self V p.body 0 (layer_above 0 l)));
-        };
-        follows = subst (λ o. MatchOption o (IsOutermost r (row_at W 0) 0) (λ n. IsWithin r (row_at W n) (row_at W 0) n 0)) (sym entry) first;
-      } in
+      rows_in = stands;
+      inside = record {
+        kept = λ k l h g. ap (λ b. b && kept_at V p.body 0 k l) (sym (kept-self V p.body 0 (layer_above 0 l)));
+        held = λ k l h g. ap (λ b. b && held_at given V B p.body 0 k l) (sym (kept-self V p.body 0 (layer_above 0 l)));
+      };
+      follows = subst (λ o. MatchOption o (IsOutermost r (row_at W 0) 0) (λ n. IsWithin r (row_at W n) (row_at W 0) n 0)) (sym entry) first;
+    } in
     follow r W (λ l. false) (body_liveness p.body) B Body p.body 0 kernel s m (omega arith) (omega arith)

@@ -1,10 +1,10 @@
 -- The wires of a graph by number: its instances' runs, one after another, and so where the ends of each stand.
-use Rattle.std.proofs.Common.{◌≡◌, ℕ, ◌+◌, ◌-◌, ◌<◌, ◌≤◌, zero, suc, Bool, true, false, not, ◌==◌, nat_lt, List, [], ◌∷◌, ◌++◌, length, map, slice_index_or, refl, sym, ap, ◌∙◌, subst, arith, append_assoc, inl, inr}
+use Rattle.std.proofs.Common.{◌≡◌, ℕ, ◌+◌, ◌-◌, ◌<◌, ◌≤◌, zero, suc, Bool, true, false, not, List, [], ◌∷◌, ◌++◌, length, map, refl, sym, ap, ◌∙◌, subst, arith, append_assoc}
 use Rattle.std.specs.Prelude.{All, IsTrue, Contains, if◌then◌else◌}
 use Rattle.std.specs.List.{range_with_len}
 use Rattle.std.proofs.lemmas.Bool.{ne_eqb, lt-ltb, ltb-true}
 use Rattle.std.proofs.lemmas.List.{length-map, append-nil}
-use Rattle.std.proofs.lemmas.List.Elements.{All-nil, All-cons, All-head, All-tail, All-append, All-map, All-from_get_or}
+use Rattle.std.proofs.lemmas.List.Elements.{All-nil, All-cons, All-head, All-tail, All-append, All-map}
 use Rattle.est_kernel.specs.Plain.{Program, program_of, outgoing_count}
 use Rattle.est_kernel.specs.WellFormed.{IsKernel}
 use Rattle.grc_graph.specs.declared.graph.Graph.{Graph}
@@ -46,7 +46,7 @@ filled p insts (suc i) h =
     let next : i + 1 ≡ suc i = omega arith in
     subst (λ k. Filled p insts k (wires_to p insts (suc i)) (first_to p insts (suc i))) next
     (Filled-more p insts i (wires_to p insts i) (wires_to p insts (suc i)) (first_to p insts i) (local_at p insts i) (codes_at p insts i)
-      (length (wires_to p insts (suc i))) (filled p insts i (omega arith)) (omega arith) refl refl refl refl)
+    (length (wires_to p insts (suc i))) (filled p insts i (omega arith)) (omega arith) refl refl refl refl)
 
 abbrev own_run : Bool → ℕ → List Wire
 own_run b i = if b then wires.Local (record { 0 = i }) ∷ [] else []
@@ -62,7 +62,7 @@ run-fits : (n : ℕ) (b : Bool) (A : ℕ → Bool) (i : ℕ) → i < n → All (
 run-fits n b A i h =
     All-cons (λ w. IsTrue (wire_fits n w)) (wires.Go (record { 0 = i })) (own_run b i ++ end_run A i) (lt-ltb i n h)
     (All-append (λ w. IsTrue (wire_fits n w)) (own_run b i) (end_run A i) (fits-if n b i h)
-      (All-map (λ w. IsTrue (wire_fits n w)) (λ k. wires.End (record { 0 = i }) k) (listed A) (λ k d low. lt-ltb i n h)))
+    (All-map (λ w. IsTrue (wire_fits n w)) (λ k. wires.End (record { 0 = i }) k) (listed A) (λ k d low. lt-ltb i n h)))
 
 all-fit : (p : Program) (insts : List plain.Instance) (n i : ℕ) → i ≤ n → All (λ w. IsTrue (wire_fits n w)) (wires_to p insts i)
 all-fit p insts n zero h =
@@ -151,7 +151,7 @@ none-run : (i : ℕ) (b : Bool) (A : ℕ → Bool) (k : ℕ) → (k ≡ i → �
 none-run i b A k other =
     All-cons (λ w. is_no_end_of i w ≡ true) (wires.Go (record { 0 = k })) (own_run b k ++ end_run A k) refl
     (All-append (λ w. is_no_end_of i w ≡ true) (own_run b k) (end_run A k) (none-if i b k)
-      (All-map (λ w. is_no_end_of i w ≡ true) (λ c. wires.End (record { 0 = k }) c) (listed A) (λ j d low. ap not (ne_eqb k i other))))
+    (All-map (λ w. is_no_end_of i w ≡ true) (λ c. wires.End (record { 0 = k }) c) (listed A) (λ j d low. ap not (ne_eqb k i other))))
 
 none-before : (p : Program) (insts : List plain.Instance) (i k : ℕ) → k ≤ i → NoEndsOf i (wires_to p insts k)
 none-before p insts i zero h =
@@ -218,6 +218,6 @@ pub end-among : (g : Graph) (i c : ℕ) (w : Wire) → instances_of g ≡ plain.
 end-among g i c w insts low there e =
     let many = length-map g.instances.list.items instance_of in
     let fit : IsTrue (wire_fits (length g.instances.list.items) w) =
-        subst (λ x. IsTrue (wire_fits (length g.instances.list.items) x)) there.2 (g.indices.wires_fit there.0 w there.1) in
+    subst (λ x. IsTrue (wire_fits (length g.instances.list.items) x)) there.2 (g.indices.wires_fit there.0 w there.1) in
     one-wire (instances_of g) (apart-of g insts) w (wires.End (record { 0 = i }) c)
     (subst (λ n. IsTrue (wire_fits n w)) (sym many) fit) (lt-ltb i (length (instances_of g)) low) e

@@ -1,16 +1,11 @@
 -- What an instant shows, as sources.
-use Rattle.std.proofs.Common.{◌≡◌, ◌≢◌, ℕ, ◌+◌, ◌-◌, ◌<◌, ◌≤◌, Bool, true, false, not, ◌||◌, ◌==◌, List, [], ◌∷◌, ◌++◌, length, drop, replicate, slice_index_or, slice_set, refl, sym, ap, ◌∙◌, subst, arith, Option, inl, inr}
-use Rattle.std.specs.List.{prefix_len}
-use Rattle.std.proofs.lemmas.Bool.{cases_lt, cases_eq, eq-eqb, ne_eqb}
-use Rattle.std.proofs.lemmas.List.{get_or_append_left, get_or_push, length_push, get_or-replicate, length-replicate, get_or-set_same, get_or-set_other, length-set}
-use Rattle.std.proofs.lemmas.List.Sums.{prefix_len-drop_yes, prefix_len-drop_no, prefix_len-drop_all}
-use Rattle.est_base.specs.declared.indices.InstId.{InstId}
+use Rattle.std.proofs.Common.{◌≡◌, ℕ, ◌+◌, List, [], ◌∷◌, ◌++◌, refl, sym, subst, arith, Option, inl, inr}
+use Rattle.std.proofs.lemmas.Bool.{cases_lt}
+use Rattle.std.proofs.lemmas.List.{get_or_append_left, get_or_push, length_push}
 use Rattle.est_base.specs.declared.indices.WireId.{WireId}
 use Rattle.est_kernel.specs.Plain.{program_of}
 use Rattle.grc_graph.specs.declared.graph.Graph.{Graph}
 use Rattle.grc_graph.specs.declared.neighbours.Neighbours.{Neighbours}
-use Rattle.grc_graph.specs.declared.wires.Wire.{Wire}
-use Rattle.grc_graph.specs.declared.wires.Wire.TheVariants as wires
 use Rattle.grc_graph.specs.Layers.{Resumed, Started}
 use Rattle.grc_graph.specs.Neighbouring.{names_in}
 use Rattle.grc_graph.specs.PlainGraphs.{names_of}
@@ -19,7 +14,7 @@ use Rattle.grc_graph.specs.Wires.{Out, End}
 use Rattle.grc_words.specs.declared.table.Source.{Source}
 use Rattle.grc_words.specs.declared.table.Row.{Row}
 use Rattle.grc_words.specs.Building.{Says, RowsFit, with_either, either_source}
-use Rattle.grc_words.specs.EndLists.{EndsFound, OutputsSaid, PausedMade, is_no_end_of}
+use Rattle.grc_words.specs.EndLists.{OutputsSaid, PausedMade}
 use Rattle.grc_words.specs.Testing.{wire_source}
 use Rattle.grc_words.specs.WordLaws.{late_bounds}
 use Rattle.grc_words.proofs.RowCounts.{either-few}
@@ -35,7 +30,7 @@ pub outputs-step : (g : Graph) (near : Neighbours) (count s : ℕ) (outputs : Li
 outputs-step g near count s outputs r x names m number found is = record {
   each = omega (arith, m.each, length_push outputs x);
   says = λ k d rs h. elim (cases_lt k count) [
-      inl less ↦
+    | inl less ↦
         subst (λ y. Says g (late_bounds g 0) rs y (λ t. t.valuation (Out ((program_of g.program).inputs + k))))
         (sym (get_or_append_left outputs (x ∷ []) d k (omega (arith, m.each)))) (m.says k d rs less)
     | inr more ↦
@@ -43,8 +38,8 @@ outputs-step g near count s outputs r x names m number found is = record {
         subst (λ y. Says g (late_bounds g 0) rs y (λ t. t.valuation (Out ((program_of g.program).inputs + k))))
         (sym (get_or_push outputs x d k (omega (arith, m.each))))
         (subst (λ y. Says g (late_bounds g 0) rs y (λ t. t.valuation (Out ((program_of g.program).inputs + k)))) (sym is)
-          (subst (λ n. Says g (late_bounds g 0) rs (wire_source r) (λ t. t.valuation (Out n))) same (wire-says g near r (Out s) rs names found)))
-    ];
+        (subst (λ n. Says g (late_bounds g 0) rs (wire_source r) (λ t. t.valuation (Out n))) same (wire-says g near r (Out s) rs names found)))
+  ];
 }
 
 pub paused-made : (g : Graph) (near : Neighbours) (q r : Option WireId) (a b paused : Source) (old new : List Row) → names_in near ≡ names_of g
@@ -53,9 +48,9 @@ pub paused-made : (g : Graph) (near : Neighbours) (q r : Option WireId) (a b pau
 paused-made g near q r a b paused old new names f h k at bt grown fresh =
     let e = late_bounds g 0 in
     let first : Says g e old a (λ t. t.valuation (End 0 Resumed 1)) =
-        subst (λ s. Says g e old s (λ t. t.valuation (End 0 Resumed 1))) (sym at) (wire-says g near q (End 0 Resumed 1) old names h) in
+    subst (λ s. Says g e old s (λ t. t.valuation (End 0 Resumed 1))) (sym at) (wire-says g near q (End 0 Resumed 1) old names h) in
     let second : Says g e old b (λ t. t.valuation (End 0 (Started 0) 1)) =
-        subst (λ s. Says g e old s (λ t. t.valuation (End 0 (Started 0) 1))) (sym bt) (wire-says g near r (End 0 (Started 0) 1) old names k) in
+    subst (λ s. Says g e old s (λ t. t.valuation (End 0 (Started 0) 1))) (sym bt) (wire-says g near r (End 0 (Started 0) 1) old names k) in
     let made = makes-either g e old a b (λ t. t.valuation (End 0 Resumed 1)) (λ t. t.valuation (End 0 (Started 0) 1)) f first second in
     let whole = with_either old a b in
     let done : PausedMade g old whole (either_source old a b) = record { extends = made.extends; few = either-few old a b; says = made.says } in

@@ -24,25 +24,25 @@ use Rattle.grc_graph.proofs.WireNames.{below_only}
 use Rattle.grc_words.specs.EndLists.{is_no_end_of}
 use Rattle.grc_words.specs.Occasions.{FalseOffWires}
 use Rattle.grc_words.specs.WordLaws.{any_from, is_end_upto}
-use Rattle.grc_words.proofs.EndCodes.{CodesFrom, Between, codes-from, codes-below, listed-is, front-passes, front-stops, any-below, any-taken, upto-far}
-use Rattle.grc_words.proofs.EndPlaces.{EndsAt, NoEndsOf, codes_at, end-among, ends-at}
+use Rattle.grc_words.proofs.EndCodes.{Between, codes-from, codes-below, listed-is, front-passes, front-stops, any-below, any-taken, upto-far}
+use Rattle.grc_words.proofs.EndPlaces.{EndsAt, codes_at, end-among, ends-at}
 use Rattle.grc_words.proofs.TestSteps.{wire-is}
 
 some-such : (u : names.Wire) (ws : List names.Wire) → list_any (same_wire u) ws ≡ true → Contains ws u
 some-such u [] h = absurd (false≢true h)
 some-such u (w ∷ ws) h = elim (cases_Bool (same_wire u w)) [
-    inl here ↦ (zero, omega arith, wire-is u w here)
+  | inl here ↦ (zero, omega arith, wire-is u w here)
   | inr other ↦
       let r = some-such u ws (ap (λ b. b || list_any (same_wire u) ws) (sym other) ∙ h) in
       (suc r.0, omega (arith, r.1), r.2)
-  ]
+]
 
 mapped : {X : Type 0} {Y : Type 0} (f : X → Y) (xs : List X) (y : Y) → Contains (map f xs) y → (x : X) × (Contains xs x) × (f x ≡ y)
 mapped f [] y h = absurd (omega (arith, h.1))
 mapped f (x ∷ xs) y h = elim (Contains-append_cases (f x ∷ []) (map f xs) y h) [
-    inl here ↦ let at : here.0 ≡ 0 = omega (arith, here.1) in (x, (zero, omega arith, refl), ap (λ n. slice_index_or (f x ∷ []) n y) (sym at) ∙ here.2)
+  | inl here ↦ let at : here.0 ≡ 0 = omega (arith, here.1) in (x, (zero, omega arith, refl), ap (λ n. slice_index_or (f x ∷ []) n y) (sym at) ∙ here.2)
   | inr there ↦ let r = mapped f xs y there in (r.0, (suc r.1.0, omega (arith, r.1.1), r.1.2), r.2)
-  ]
+]
 
 -- what is no end of an instance is none with a code of at most k
 not-upto : (i k : ℕ) (w : Wire) → is_no_end_of i w ≡ true → is_end_upto i k w ≡ false
@@ -78,24 +78,24 @@ only g V i c s e h =
     let u = name_at g i c in
     let ends = map (end_of i) (listed (codes_of g i)) in
     let named : Contains (names_of g) u = elim (cases_Bool (list_any (same_wire u) (names_of g))) [
-        inl some ↦ some-such u (names_of g) some
+      | inl some ↦ some-such u (names_of g) some
       | inr none ↦ absurd (false≢true (sym (s.off u none) ∙ h))
-      ] in
+    ] in
     let from = mapped (wire_of (instances_of g)) g.wires.items u named in
     let is : from.0 ≡ end_of i c = end-among g i c from.0 s.instances s.low from.1 from.2 in
     let there : Contains g.wires.items (end_of i c) = subst (Contains g.wires.items) is from.1 in
     let split : Contains (e.front ++ (ends ++ e.behind)) (end_of i c) = subst (λ ws. Contains ws (end_of i c)) e.whole there in
     let not_outside : is_no_end_of i (end_of i c) ≡ true → ⊥ = λ q. false≢true (sym (ap not (eq-eqb i i refl)) ∙ q) in
     elim (Contains-append_cases e.front (ends ++ e.behind) (end_of i c) split) [
-        inl before ↦ absurd (not_outside (All-contains (λ w. is_no_end_of i w ≡ true) e.front (end_of i c) e.none_before before))
+      | inl before ↦ absurd (not_outside (All-contains (λ w. is_no_end_of i w ≡ true) e.front (end_of i c) e.none_before before))
       | inr rest ↦ elim (Contains-append_cases ends e.behind (end_of i c) rest) [
-            inl here ↦
-              let r = mapped (end_of i) (listed (codes_of g i)) (end_of i c) here in
-              let code : r.0 ≡ c = code-of i r.0 c r.2 in
-              subst (Contains (listed (codes_of g i))) code r.1
-          | inr behind ↦ absurd (not_outside (All-contains (λ w. is_no_end_of i w ≡ true) e.behind (end_of i c) e.none_behind behind))
-          ]
+        | inl here ↦
+            let r = mapped (end_of i) (listed (codes_of g i)) (end_of i c) here in
+            let code : r.0 ≡ c = code-of i r.0 c r.2 in
+            subst (Contains (listed (codes_of g i))) code r.1
+        | inr behind ↦ absurd (not_outside (All-contains (λ w. is_no_end_of i w ≡ true) e.behind (end_of i c) e.none_behind behind))
       ]
+    ]
   where
     code-of : (i c d : ℕ) → end_of i c ≡ end_of i d → c ≡ d
     code-of i c d q = cc
@@ -103,9 +103,9 @@ only g V i c s e h =
 -- so what is no code of it is false
 absent : (g : Graph) (V : Valuation) (i c : ℕ) → Setting g V i → EndsAt g i → (Contains (listed (codes_of g i)) c → ⊥) → V (name_at g i c) ≡ false
 absent g V i c s e h = elim (cases_Bool (V (name_at g i c))) [
-    inl some ↦ absurd (h (only g V i c s e some))
+  | inl some ↦ absurd (h (only g V i c s e some))
   | inr none ↦ none
-  ]
+]
 
 upto-none : (f : ℕ → Bool) (k : ℕ) → ((c : ℕ) → f c ≡ false) → upto f k ≡ false
 upto-none f zero h = h 0
@@ -122,7 +122,7 @@ record Parted (A : ℕ → Bool) (k : ℕ) (f : ℕ → Bool) : Type 0 where
 
 parted : (A : ℕ → Bool) (k : ℕ) (f : ℕ → Bool) → ((c : ℕ) → (Contains (listed A) c → ⊥) → f c ≡ false) → Parted A k f
 parted A k f h = elim (cases_lt k 64) [
-    inl small ↦
+  | inl small ↦
       let r = codes-from A (suc k) (64 - suc k) 64 (omega arith) in
       record {
         low = codes_below (suc k) A;
@@ -134,7 +134,7 @@ parted A k f h = elim (cases_lt k 64) [
       }
   | inr big ↦
       let far : (n : ℕ) → 64 ≤ n → f n ≡ false =
-          λ n q. h n (λ there. absurd (omega (arith, q, All-contains (λ c. c < 64) (codes_below 64 A) n (codes-below A 64) (subst (λ l. Contains l n) (listed-is A) there)))) in
+      λ n q. h n (λ there. absurd (omega (arith, q, All-contains (λ c. c < 64) (codes_below 64 A) n (codes-below A 64) (subst (λ l. Contains l n) (listed-is A) there)))) in
       let at : 63 + (k - 63) ≡ k = omega arith in
       record {
         low = codes_below 64 A;
@@ -145,7 +145,7 @@ parted A k f h = elim (cases_lt k 64) [
         any = any-below f A 63 (λ n none. h n (λ there. false≢true (sym none ∙ in_set n there)))
             ∙ sym (upto-far f (k - 63) far) ∙ ap (upto f) at;
       }
-  ]
+]
   where
     in_set : (n : ℕ) → Contains (listed A) n → A n ≡ true
     in_set n there = below_only 64 A n (subst (λ l. Contains l n) (listed-is A) there)
@@ -159,10 +159,10 @@ value-at g V i front cs behind whole j d low =
     let many = length-map cs (end_of i) in
     let w = end_of i (slice_index_or cs j d) in
     let raw : slice_index_or g.wires.items (length front + j) w ≡ w =
-        ap (λ ws. slice_index_or ws (length front + j) w) whole ∙ get_or-append-add front (map (end_of i) cs ++ behind) j w
-        ∙ get_or_append_left (map (end_of i) cs) behind w j (omega arith) ∙ get_or-map (end_of i) cs j d w low in
+    ap (λ ws. slice_index_or ws (length front + j) w) whole ∙ get_or-append-add front (map (end_of i) cs ++ behind) j w
+    ∙ get_or_append_left (map (end_of i) cs) behind w j (omega arith) ∙ get_or-map (end_of i) cs j d w low in
     ap V (get_or-map (wire_of (instances_of g)) g.wires.items (length front + j) w (names.Go 0 Resumed) (omega arith)
-      ∙ ap (wire_of (instances_of g)) raw)
+    ∙ ap (wire_of (instances_of g)) raw)
 
 -- the ends of an instance that has some
 some-ends : (g : Graph) (V : Valuation) (i k first c : ℕ) (cs : List ℕ) → Setting g V i → (e : EndsAt g i) → listed (codes_of g i) ≡ c ∷ cs
@@ -175,31 +175,31 @@ some-ends g V i k first c cs s e some begins =
     let ends = map (end_of i) all in
     let whole : g.wires.items ≡ e.front ++ (ends ++ e.behind) = e.whole ∙ ap (λ l. e.front ++ (map (end_of i) l ++ e.behind)) some in
     let stop : prefix_len (is_no_end_of i) (ends ++ e.behind) ≡ 0 =
-        ap (λ b. if b then 1 + prefix_len (is_no_end_of i) (map (end_of i) cs ++ e.behind) else 0) (ap not (eq-eqb i i refl)) in
+    ap (λ b. if b then 1 + prefix_len (is_no_end_of i) (map (end_of i) cs ++ e.behind) else 0) (ap not (eq-eqb i i refl)) in
     let passed = ap (prefix_len (is_no_end_of i)) whole ∙ front-passes (is_no_end_of i) e.front (ends ++ e.behind) e.none_before in
     let at : first ≡ length e.front = omega arith in
     let rest : drop first g.wires.items ≡ ends ++ e.behind = (λ t. drop (at t) (whole t)) ∙ drop-append_seam e.front (ends ++ e.behind) in
     let p = parted A k f (λ n none. absent g V i n s e none) in
     let parts : all ≡ p.low ++ p.high = sym some ∙ p.whole in
     let split : ends ++ e.behind ≡ map (end_of i) p.low ++ (map (end_of i) p.high ++ e.behind) =
-        ap (λ l. map (end_of i) l ++ e.behind) parts ∙ ap (λ l. l ++ e.behind) (map-append (end_of i) p.low p.high)
-        ∙ append_assoc (map (end_of i) p.low) (map (end_of i) p.high) e.behind in
+    ap (λ l. map (end_of i) l ++ e.behind) parts ∙ ap (λ l. l ++ e.behind) (map-append (end_of i) p.low p.high)
+    ∙ append_assoc (map (end_of i) p.low) (map (end_of i) p.high) e.behind in
     let pass : All (λ w. is_end_upto i k w ≡ true) (map (end_of i) p.low) =
-        All-map (λ w. is_end_upto i k w ≡ true) (end_of i) p.low
-        (All-weaker (λ c. c ≤ k) (λ c. is_end_upto i k (end_of i c) ≡ true) (λ c h. (λ t. eq-eqb i i refl t && le-leb c k h t)) p.low p.below) in
+    All-map (λ w. is_end_upto i k w ≡ true) (end_of i) p.low
+    (All-weaker (λ c. c ≤ k) (λ c. is_end_upto i k (end_of i c) ≡ true) (λ c h. (λ t. eq-eqb i i refl t && le-leb c k h t)) p.low p.below) in
     let fail : All (λ w. is_end_upto i k w ≡ false) (map (end_of i) p.high ++ e.behind) =
-        All-append (λ w. is_end_upto i k w ≡ false) (map (end_of i) p.high) e.behind
-        (All-map (λ w. is_end_upto i k w ≡ false) (end_of i) p.high
-          (All-weaker (λ c. k < c) (λ c. is_end_upto i k (end_of i c) ≡ false) (λ c h. (λ t. eq-eqb i i refl t && lt-leb c k h t)) p.high p.above))
-        (All-weaker (λ w. is_no_end_of i w ≡ true) (λ w. is_end_upto i k w ≡ false) (not-upto i k) e.behind e.none_behind) in
+    All-append (λ w. is_end_upto i k w ≡ false) (map (end_of i) p.high) e.behind
+    (All-map (λ w. is_end_upto i k w ≡ false) (end_of i) p.high
+    (All-weaker (λ c. k < c) (λ c. is_end_upto i k (end_of i c) ≡ false) (λ c h. (λ t. eq-eqb i i refl t && lt-leb c k h t)) p.high p.above))
+    (All-weaker (λ w. is_no_end_of i w ≡ true) (λ w. is_end_upto i k w ≡ false) (not-upto i k) e.behind e.none_behind) in
     let count : prefix_len (is_end_upto i k) (drop first g.wires.items) ≡ length p.low =
-        ap (prefix_len (is_end_upto i k)) (rest ∙ split)
-        ∙ front-passes (is_end_upto i k) (map (end_of i) p.low) (map (end_of i) p.high ++ e.behind) pass
-        ∙ omega (arith, front-stops (is_end_upto i k) (map (end_of i) p.high ++ e.behind) fail, length-map p.low (end_of i)) in
+    ap (prefix_len (is_end_upto i k)) (rest ∙ split)
+    ∙ front-passes (is_end_upto i k) (map (end_of i) p.low) (map (end_of i) p.high ++ e.behind) pass
+    ∙ omega (arith, front-stops (is_end_upto i k) (map (end_of i) p.high ++ e.behind) fail, length-map p.low (end_of i)) in
     let many = ap length parts ∙ length-append p.low p.high in
     (λ t. any_from (λ v. V (wire_at (names_of g) v)) (at t) (count t))
     ∙ any-taken (λ v. V (wire_at (names_of g) v)) f (length e.front) all (length p.low) (omega arith)
-      (value-at g V i e.front all e.behind whole)
+    (value-at g V i e.front all e.behind whole)
     ∙ ap (list_any f) (ap (take (length p.low)) parts ∙ take-append_seam p.low p.high) ∙ p.any
 
 -- an instance without ends
@@ -214,7 +214,7 @@ no-ends g V i k first s e none begins =
     let behind = sym (ap (prefix_len (is_no_end_of i)) (append-nil e.behind)) ∙ front-passes (is_no_end_of i) e.behind [] e.none_behind in
     let count = prefix_len-drop_all (is_end_upto i k) g.wires.items first (omega arith) in
     let absent_all : (c : ℕ) → f c ≡ false =
-        λ c. absent g V i c s e (λ there. absurd (omega (arith, (subst (λ l. Contains l c) none there).1))) in
+    λ c. absent g V i c s e (λ there. absurd (omega (arith, (subst (λ l. Contains l c) none there).1))) in
     ap (any_from (λ v. V (wire_at (names_of g) v)) first) count ∙ sym (upto-none f k absent_all)
 
 pub upto-by-ends : (g : Graph) (V : Valuation) (i k first : ℕ) → Setting g V i → first ≡ prefix_len (is_no_end_of i) g.wires.items

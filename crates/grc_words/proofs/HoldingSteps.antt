@@ -1,12 +1,12 @@
 -- One more instance whose sources say that it is kept and that it is held.
-use Rattle.std.proofs.Common.{◌≡◌, ℕ, ◌+◌, ◌-◌, ◌<◌, ◌≤◌, Bool, true, false, ◌&&◌, ◌||◌, List, [], ◌∷◌, ◌++◌, length, map, take, drop, slice_index_or, refl, sym, ap, ◌∙◌, subst, arith, Option, Some, None, IsTrue, inl, inr}
+use Rattle.std.proofs.Common.{◌≡◌, ℕ, ◌+◌, ◌<◌, ◌≤◌, Bool, true, false, ◌&&◌, ◌||◌, List, [], ◌∷◌, ◌++◌, length, map, take, drop, slice_index_or, refl, sym, ap, ◌∙◌, subst, arith, Option, Some, None, inl, inr}
 use Rattle.std.specs.List.{sum_by}
 use Rattle.std.proofs.lemmas.List.Sums.{sum_by-append}
-use Rattle.std.specs.Prelude.{MatchOption, Contains}
-use Rattle.std.proofs.lemmas.Bool.{cases_lt, lt-ltb}
+use Rattle.std.specs.Prelude.{MatchOption}
+use Rattle.std.proofs.lemmas.Bool.{cases_lt}
 use Rattle.std.proofs.lemmas.List.{get_or_append_left, get_or_push, length_push, length-map, take_all, take_more}
 use Rattle.est_base.specs.declared.indices.WireId.{WireId}
-use Rattle.est_kernel.specs.Plain.{Program, program_of, interface_count}
+use Rattle.est_kernel.specs.Plain.{program_of}
 use Rattle.est_kernel.specs.Preorder.{statement_count}
 use Rattle.est_kernel.specs.Reactions.{is_given}
 use Rattle.est_kernel.specs.Terms.{Expression, Term, Nothing, Pause, Emit, Exit, Present, Suspend, Seq, Loop, Par, Trap, Local, Awake}
@@ -14,29 +14,27 @@ use Rattle.est_kernel.specs.WellFormed.{IsKernel}
 use Rattle.grc_graph.specs.declared.graph.Graph.{Graph}
 use Rattle.grc_graph.specs.declared.neighbours.Neighbours.{Neighbours}
 use Rattle.grc_graph.specs.declared.statements.Binding as bindings
-use Rattle.grc_graph.specs.declared.statements.Statement.{Statement}
 use Rattle.grc_graph.specs.Instances.{Instance}
-use Rattle.grc_graph.specs.Layers.{Layer, Resumed, Started, layer_above, same_layer}
+use Rattle.grc_graph.specs.Layers.{Layer, Resumed, layer_above, same_layer}
 use Rattle.grc_graph.specs.Neighbouring.{names_in}
 use Rattle.grc_graph.specs.PlainGraphs.{names_of, instances_of, instance_at}
 use Rattle.grc_graph.specs.Readings.{Valuation, seen_values}
-use Rattle.grc_graph.specs.Rows as listed_rows
 use Rattle.grc_graph.specs.Scopes.{Scope}
 use Rattle.grc_graph.specs.Statements.{signals_in, signals_of}
 use Rattle.grc_graph.specs.StatementViews.{binding_of}
 use Rattle.grc_graph.specs.Walk.{Values, truth}
-use Rattle.grc_graph.specs.WireTables.{HasName, IsNumberOf}
+use Rattle.grc_graph.specs.WireTables.{IsNumberOf}
 use Rattle.grc_graph.specs.Wires.{Wire, Go, End}
 use Rattle.grc_words.specs.declared.table.Source.{Source}
 use Rattle.grc_words.specs.declared.table.Source.TheVariants as sources
 use Rattle.grc_words.specs.declared.table.Row as tables
 use Rattle.grc_words.specs.declared.tests_of.Tested.{Tested}
 use Rattle.grc_words.specs.Building.{Says, Extends, RowsFit, with_both, both_source, with_either, either_source}
-use Rattle.grc_words.specs.Enclosures.{Readings, around, kept_of, held_of, lasts, suspends, IsWithin, IsOutermost, FollowsAround}
-use Rattle.grc_words.specs.Holdings.{readings, StatementRead, HoldingsMade, AboveMade, OwnMade, LastsSaid, held_around, OwnFew}
+use Rattle.grc_words.specs.Enclosures.{around, kept_of, held_of, lasts, suspends, IsWithin, IsOutermost}
+use Rattle.grc_words.specs.Holdings.{readings, HoldingsMade, AboveMade, OwnMade, LastsSaid, held_around, OwnFew}
 use Rattle.grc_words.specs.Sizes.{statement_row, test_of, rows_by, instance_rows}
-use Rattle.grc_words.specs.Occasions.{Occasion, FalseOffWires}
-use Rattle.grc_words.specs.Testing.{TestMade, wire_source}
+use Rattle.grc_words.specs.Occasions.{Occasion}
+use Rattle.grc_words.specs.Testing.{TestMade}
 use Rattle.grc_words.specs.WordLaws.{late_bounds}
 use Rattle.grc_words.proofs.Enclosed.{program_follows}
 use Rattle.grc_words.proofs.RowCounts.{both-few, either-few, both-none, either-none}
@@ -105,7 +103,7 @@ pub own-other : (g : Graph) (x : Instance) (rs : List tables.Row) (o : Option Ex
     → OwnMade g x rs rs (sources.Const false)
 own-other g x rs o f is e =
     own-none g x rs f (λ t. sym (suspends-test (is_given t.event) t.valuation (statement_row g x.path).scope (statement_row g x.path).statement x.path x.layer
-      ∙ ap (λ y. suspends_by (is_given t.event) t.valuation (statement_row g x.path).scope y x.path x.layer) is ∙ e t))
+    ∙ ap (λ y. suspends_by (is_given t.event) t.valuation (statement_row g x.path).scope y x.path x.layer) is ∙ e t))
 
 -- what the list of statements says of a suspension's signals
 suspension-signals : (g : Graph) (c : ℕ) (e : Expression) (signals : List bindings.Binding) → test_of (statement_row g c).statement ≡ Some e
@@ -139,20 +137,20 @@ own-suspends g near c e signals go old mid new tested own is listed names h m gr
     let last = with_both mid (sources.Wire go) tested.source in
     let x : Instance = record { path = c; layer = Resumed } in
     let done : OwnMade g x old last (both_source mid (sources.Wire go) tested.source) = record {
-        extends = extends-trans b old mid last m.extends made.extends;
-        few = subst (λ o. OwnFew o old last (both_source mid (sources.Wire go) tested.source)) (sym is)
-            (omega (arith, m.few, both-few mid (sources.Wire go) tested.source));
-        says = says-as g last (both_source mid (sources.Wire go) tested.source) _ _
-            (λ t. sym (suspends-test (is_given t.event) t.valuation B (statement_row g c).statement c Resumed
-              ∙ ap (λ o. suspends_by (is_given t.event) t.valuation B o c Resumed) is)) made.says;
-      } in
+      extends = extends-trans b old mid last m.extends made.extends;
+      few = subst (λ o. OwnFew o old last (both_source mid (sources.Wire go) tested.source)) (sym is)
+          (omega (arith, m.few, both-few mid (sources.Wire go) tested.source));
+      says = says-as g last (both_source mid (sources.Wire go) tested.source) _ _
+          (λ t. sym (suspends-test (is_given t.event) t.valuation B (statement_row g c).statement c Resumed
+          ∙ ap (λ o. suspends_by (is_given t.event) t.valuation B o c Resumed) is)) made.says;
+    } in
     subst (λ rs. OwnMade g x old rs own) (sym grown) (subst (λ s. OwnMade g x old last s) (sym fresh) done)
 
 -- ---- what is said from around
 
 follows-of : (g : Graph) (t : Occasion g) (c : ℕ) → IsKernel (program_of g.program).body → c < statement_count (program_of g.program).body
     → MatchOption (around (statement_row g c).entry) (IsOutermost (readings g t) (statement_row g c) c)
-      (λ n. IsWithin (readings g t) (statement_row g n) (statement_row g c) n c)
+    (λ n. IsWithin (readings g t) (statement_row g n) (statement_row g c) n c)
 follows-of g t c kernel low = program_follows (program_of g.program) (is_given t.event) t.valuation c kernel low
 
 pub above-none : (g : Graph) (x : Instance) (rs : List tables.Row) → RowsFit (late_bounds g 0) rs → IsKernel (program_of g.program).body
@@ -160,7 +158,7 @@ pub above-none : (g : Graph) (x : Instance) (rs : List tables.Row) → RowsFit (
     → AboveMade g x rs rs (sources.Const true) (sources.Const false)
 above-none g x rs f kernel low is =
     let law = λ (t : Occasion g). subst (λ o. MatchOption o (IsOutermost (readings g t) (statement_row g x.path) x.path)
-            (λ n. IsWithin (readings g t) (statement_row g n) (statement_row g x.path) n x.path)) is (follows-of g t x.path kernel low) in
+    (λ n. IsWithin (readings g t) (statement_row g n) (statement_row g x.path) n x.path)) is (follows-of g t x.path kernel low) in
     record {
       extends = extends-refl (late_bounds g 0) rs f;
       few = omega arith;
@@ -194,24 +192,24 @@ above-some g near x rs new n i kept held count lasting own held_own d kernel nam
     let b = late_bounds g 0 in
     let fit = m.extends.fit in
     let law = λ (t : Occasion g). subst (λ o. MatchOption o (IsOutermost (readings g t) (statement_row g x.path) x.path)
-            (λ k. IsWithin (readings g t) (statement_row g k) (statement_row g x.path) k x.path)) is (follows-of g t x.path kernel low) in
+    (λ k. IsWithin (readings g t) (statement_row g k) (statement_row g x.path) k x.path)) is (follows-of g t x.path kernel low) in
     let k = slice_index_or kept i d in
     let first : Says g b rs k (λ t. kept_of (readings g t) n (layer_above n x.layer)) =
-        says-as g rs k _ _ (λ t. ap (λ (y : Instance). kept_of (readings g t) y.path y.layer) here) (m.kept_says i d h) in
+    says-as g rs k _ _ (λ t. ap (λ (y : Instance). kept_of (readings g t) y.path y.layer) here) (m.kept_says i d h) in
     let last = lasts-says g near (statement_row g n).statement n (layer_above n x.layer) lasting rs names said in
     let made = makes-both g b rs k lasting _ _ fit first last in
     let whole = with_both rs k lasting in
     let kept_here : Says g b whole (both_source rs k lasting) (λ t. kept_of (readings g t) x.path x.layer) =
-        says-as g whole (both_source rs k lasting) _ _ (λ t. sym ((law t).kept x.layer)) made.says in
+    says-as g whole (both_source rs k lasting) _ _ (λ t. sym ((law t).kept x.layer)) made.says in
     let held_there : Says g b rs (slice_index_or held i d) (λ t. held_around (readings g t) (around (statement_row g x.path).entry) x.layer) =
-        says-as g rs (slice_index_or held i d) _ _ (λ t. ap (λ (y : Instance). held_of (readings g t) y.path y.layer) here
-          ∙ ap (λ o. held_around (readings g t) o x.layer) (sym is)) (m.held_says i d h) in
+    says-as g rs (slice_index_or held i d) _ _ (λ t. ap (λ (y : Instance). held_of (readings g t) y.path y.layer) here
+    ∙ ap (λ o. held_around (readings g t) o x.layer) (sym is)) (m.held_says i d h) in
     let done : AboveMade g x rs whole (both_source rs k lasting) (slice_index_or held i d) = record {
-        extends = made.extends;
-        few = both-few rs k lasting;
-        kept_says = kept_here;
-        held_says = says-more g b rs whole (slice_index_or held i d) _ made.extends held_there;
-      } in
+      extends = made.extends;
+      few = both-few rs k lasting;
+      kept_says = kept_here;
+      held_says = says-more g b rs whole (slice_index_or held i d) _ made.extends held_there;
+    } in
     subst (λ z. AboveMade g x rs z own held_own) (sym grown) (subst (λ z. AboveMade g x rs whole z held_own) (sym fresh)
     (subst (λ z. AboveMade g x rs whole (both_source rs k lasting) z) (sym read) done))
 
@@ -220,21 +218,21 @@ above-some g near x rs new n i kept held count lasting own held_own d kernel nam
 held-follows : (g : Graph) (t : Occasion g) (x : Instance) → IsKernel (program_of g.program).body → x.path < statement_count (program_of g.program).body
     → layer_above x.path x.layer ≡ x.layer
     → (held_around (readings g t) (around (statement_row g x.path).entry) x.layer || (kept_of (readings g t) x.path x.layer
-        && suspends (is_given t.event) t.valuation (statement_row g x.path).scope (statement_row g x.path).statement x.path x.layer))
-      ≡ held_of (readings g t) x.path x.layer
+    && suspends (is_given t.event) t.valuation (statement_row g x.path).scope (statement_row g x.path).statement x.path x.layer))
+    ≡ held_of (readings g t) x.path x.layer
 held-follows g t x kernel low own = by_entry (around (statement_row g x.path).entry) (follows-of g t x.path kernel low)
   where
     by_entry : (o : Option ℕ) → MatchOption o (IsOutermost (readings g t) (statement_row g x.path) x.path)
-          (λ n. IsWithin (readings g t) (statement_row g n) (statement_row g x.path) n x.path)
+        (λ n. IsWithin (readings g t) (statement_row g n) (statement_row g x.path) n x.path)
         → (held_around (readings g t) o x.layer || (kept_of (readings g t) x.path x.layer
-            && suspends (is_given t.event) t.valuation (statement_row g x.path).scope (statement_row g x.path).statement x.path x.layer))
-          ≡ held_of (readings g t) x.path x.layer
+        && suspends (is_given t.event) t.valuation (statement_row g x.path).scope (statement_row g x.path).statement x.path x.layer))
+        ≡ held_of (readings g t) x.path x.layer
     by_entry None law =
         ap (λ b. b && suspends (is_given t.event) t.valuation (statement_row g x.path).scope (statement_row g x.path).statement x.path x.layer) (law.kept x.layer)
         ∙ sym (law.held x.layer ∙ ap (λ l. suspends (is_given t.event) t.valuation (statement_row g x.path).scope (statement_row g x.path).statement x.path l) own)
     by_entry (Some n) law =
         sym (law.held x.layer ∙ ap (λ l. held_of (readings g t) n (layer_above n x.layer) || (kept_of (readings g t) x.path x.layer
-          && suspends (is_given t.event) t.valuation (statement_row g x.path).scope (statement_row g x.path).statement x.path l)) own)
+        && suspends (is_given t.event) t.valuation (statement_row g x.path).scope (statement_row g x.path).statement x.path l)) own)
 
 pub holdings-begun : (g : Graph) (rs : List tables.Row) → RowsFit (late_bounds g 0) rs → HoldingsMade g rs rs [] [] 0
 holdings-begun g rs f = record {
@@ -263,7 +261,7 @@ sum-more : (g : Graph) (i : ℕ) (x : Instance) → i < length (instances_of g) 
 sum-more g i x low here =
     let y = instance_at (instances_of g) i in
     let split = ap (sum_by (instance_rows g)) (take_more (instances_of g) i (record { path = 0; layer = Resumed }) low)
-        ∙ sum_by-append (instance_rows g) (take i (instances_of g)) (y ∷ []) in
+    ∙ sum_by-append (instance_rows g) (take i (instances_of g)) (y ∷ []) in
     let same : instance_rows g y ≡ instance_rows g x = ap (instance_rows g) here in
     omega arith
 
@@ -282,24 +280,29 @@ holdings-step g x old r0 r1 r2 r3 r4 kept held i above_kept above_held own both_
     let K = λ (t : Occasion g). kept_of (readings g t) x.path x.layer in
     let O = λ (t : Occasion g). suspends (is_given t.event) t.valuation (statement_row g x.path).scope (statement_row g x.path).statement x.path x.layer in
     let says3 : Says g b r3 both_own (λ t. K t && O t) = subst (λ z. Says g b z both_own (λ t. K t && O t)) (sym g3)
-        (subst (λ s. Says g b (with_both r2 above_kept own) s (λ t. K t && O t)) (sym s3) made3.says) in
+    (subst (λ s. Says g b (with_both r2 above_kept own) s (λ t. K t && O t)) (sym s3) made3.says) in
     let held3 = says-more g b r2 r3 above_held _ x3 held2 in
     let made4 = makes-either g b r3 above_held both_own H (λ t. K t && O t) x3.fit held3 says3 in
     let x4 = subst (λ z. Extends b r3 z) (sym g4) made4.extends in
     let says4 : Says g b r4 last (λ t. H t || (K t && O t)) = subst (λ z. Says g b z last (λ t. H t || (K t && O t))) (sym g4)
-        (subst (λ s. Says g b (with_either r3 above_held both_own) s (λ t. H t || (K t && O t))) (sym s4) made4.says) in
+    (subst (λ s. Says g b (with_either r3 above_held both_own) s (λ t. H t || (K t && O t))) (sym s4) made4.says) in
     let x02 = extends-trans b r0 r1 r2 a.extends o.extends in
     let x24 = extends-trans b r2 r3 r4 x3 x4 in
     let x04 = extends-trans b r0 r2 r4 x02 x24 in
     let kept4 = says-more g b r2 r4 above_kept _ x24 kept2 in
     record {
       extends = extends-trans b old r0 r4 m.extends x04;
-      few = omega (arith, m.few, a.few, sum-more g i x within here,
-          rows-of-one (test_of (statement_row g x.path).statement) r1 r2 r3 r4 above_kept above_held own both_own o.few g3 s3 g4);
+      few = omega (
+        arith,
+        m.few,
+        a.few,
+        sum-more g i x within here,
+        rows-of-one (test_of (statement_row g x.path).statement) r1 r2 r3 r4 above_kept above_held own both_own o.few g3 s3 g4,
+      );
       kept_all = omega (arith, m.kept_all, length_push kept above_kept);
       held_all = omega (arith, m.held_all, length_push held last);
       kept_says = λ k d h. elim (cases_lt k i) [
-          inl less ↦
+        | inl less ↦
             subst (λ s. Says g b r4 s (λ t. kept_of (readings g t) (instance_at (instances_of g) k).path (instance_at (instances_of g) k).layer))
             (sym (get_or_append_left kept (above_kept ∷ []) d k (omega (arith, m.kept_all))))
             (says-more g b r0 r4 (slice_index_or kept k d) _ x04 (m.kept_says k d less))
@@ -309,9 +312,9 @@ holdings-step g x old r0 r1 r2 r3 r4 kept held i above_kept above_held own both_
             subst (λ s. Says g b r4 s (λ t. kept_of (readings g t) (instance_at (instances_of g) k).path (instance_at (instances_of g) k).layer))
             (sym (get_or_push kept above_kept d k (omega (arith, m.kept_all))))
             (says-as g r4 above_kept _ _ (λ t. ap (λ (y : Instance). kept_of (readings g t) y.path y.layer) (sym is)) kept4)
-        ];
+      ];
       held_says = λ k d h. elim (cases_lt k i) [
-          inl less ↦
+        | inl less ↦
             subst (λ s. Says g b r4 s (λ t. held_of (readings g t) (instance_at (instances_of g) k).path (instance_at (instances_of g) k).layer))
             (sym (get_or_append_left held (last ∷ []) d k (omega (arith, m.held_all))))
             (says-more g b r0 r4 (slice_index_or held k d) _ x04 (m.held_says k d less))
@@ -321,7 +324,7 @@ holdings-step g x old r0 r1 r2 r3 r4 kept held i above_kept above_held own both_
             subst (λ s. Says g b r4 s (λ t. held_of (readings g t) (instance_at (instances_of g) k).path (instance_at (instances_of g) k).layer))
             (sym (get_or_push held last d k (omega (arith, m.held_all))))
             (says-as g r4 last _ _ (λ t. held-follows g t x kernel low layer ∙ ap (λ (y : Instance). held_of (readings g t) y.path y.layer) (sym is)) says4)
-        ];
+      ];
     }
 
 -- from now on

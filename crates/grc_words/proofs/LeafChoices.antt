@@ -1,5 +1,5 @@
 -- For each statement the leaf that it is: from the last node of the tree to the first.
-use Rattle.std.proofs.Common.{◌≡◌, ℕ, ◌+◌, ◌-◌, ◌<◌, ◌≤◌, suc, Bool, true, false, cond, count_by, ◌==◌, List, [], ◌∷◌, ◌++◌, length, map, take, drop, replicate, slice_index_or, slice_set, refl, sym, ap, ◌∙◌, subst, arith, IsTrue, inl, inr, drop-cons, length-append, length-set, get_or-set_same, get_or-set_other}
+use Rattle.std.proofs.Common.{◌≡◌, ℕ, ◌+◌, ◌<◌, ◌≤◌, suc, Bool, false, cond, count_by, ◌==◌, List, [], ◌∷◌, ◌++◌, length, map, take, drop, replicate, slice_index_or, slice_set, refl, sym, ap, ◌∙◌, subst, arith, IsTrue, inl, inr, drop-cons, length-append, length-set, get_or-set_same, get_or-set_other}
 use Rattle.std.specs.Prelude.{if◌then◌else◌}
 use Rattle.std.proofs.lemmas.Bool.{cases_eq, eq-eqb, ne_eqb, eqb-true, lt-ltb}
 use Rattle.std.proofs.lemmas.List.{get_or-replicate, length-replicate, drop_all}
@@ -8,7 +8,7 @@ use Rattle.grc_graph.specs.declared.graph.Graph.{Graph}
 use Rattle.grc_graph.specs.declared.trees.SelForm.{SelForm}
 use Rattle.grc_graph.specs.declared.trees.SelForm.TheVariants as forms
 use Rattle.grc_graph.specs.declared.trees.SelNode.{SelNode}
-use Rattle.grc_graph.specs.SelectionTrees.{TreeNode, selecting, body_tree, body_leaves, resumes}
+use Rattle.grc_graph.specs.SelectionTrees.{selecting, body_tree, body_leaves, resumes}
 use Rattle.grc_graph.proofs.TreeSelections.{leaves_among}
 use Rattle.est_kernel.specs.Terms.{Term}
 use Rattle.est_kernel.specs.Plain.{program_of}
@@ -62,10 +62,10 @@ chosen-other : (g : Graph) (nodes : List SelNode) (j : ℕ) (x : SelNode) (t : O
     → is_leaf x.form ≡ false → path_if_leaf (form_of x.form) x.path.0 ≡ [] → chosen_from g nodes j t n ≡ chosen_from g nodes (j + 1) t n
 chosen-other g nodes j x t n low read none empty =
     let paths = leaves-next nodes j x low
-        ∙ ap (λ (y : SelNode). path_if_leaf (node_of y).form y.path.0 ++ leaves_in (map node_of (drop (j + 1) nodes))) read
-        ∙ ap (λ l. l ++ leaves_in (map node_of (drop (j + 1) nodes))) empty in
+    ∙ ap (λ (y : SelNode). path_if_leaf (node_of y).form y.path.0 ++ leaves_in (map node_of (drop (j + 1) nodes))) read
+    ∙ ap (λ l. l ++ leaves_in (map node_of (drop (j + 1) nodes))) empty in
     let same : leaves_before nodes (j + 1) ≡ leaves_before nodes j =
-        count_by_more_no (λ (y : SelNode). is_leaf y.form) nodes j x low (ap (λ (y : SelNode). is_leaf y.form) read ∙ none) in
+    count_by_more_no (λ (y : SelNode). is_leaf y.form) nodes j x low (ap (λ (y : SelNode). is_leaf y.form) read ∙ none) in
     ap (λ l. selecting l (drop (leaves_before nodes j) t.bits) n) paths
     ∙ ap (λ k. selecting (leaves_in (map node_of (drop (j + 1) nodes))) (drop k t.bits) n) (sym same)
 
@@ -79,7 +79,7 @@ leaf-number : (nodes : List SelNode) (leaves j k : ℕ) (x : SelNode) → Leaves
 leaf-number nodes leaves j k x ascend at =
     let numbered = ascend.numbered j x at.low in
     let here : IsTrue (is_numbered (forms.Leaf k) (leaves_before nodes j)) =
-        subst (λ f. IsTrue (is_numbered f (leaves_before nodes j))) (ap (λ (y : SelNode). y.form) at.read ∙ at.form) numbered in
+    subst (λ f. IsTrue (is_numbered f (leaves_before nodes j))) (ap (λ (y : SelNode). y.form) at.read ∙ at.form) numbered in
     eqb-true k (leaves_before nodes j) here
 
 leaf-counted : (nodes : List SelNode) (j k : ℕ) (x : SelNode) → LeafAt nodes j k x → leaves_before nodes (j + 1) ≡ leaves_before nodes j + 1
@@ -89,8 +89,13 @@ leaf-counted nodes j k x at =
 leaf-below : (nodes : List SelNode) (leaves j k : ℕ) (x : SelNode) → LeavesAscend nodes leaves → LeafAt nodes j k x
     → k < length (leaves_in (map node_of nodes))
 leaf-below nodes leaves j k x ascend at =
-    omega (arith, leaf-number nodes leaves j k x ascend at, leaf-counted nodes j k x at, length-leaves_in nodes,
-      sum_by-take-le (λ (y : SelNode). cond (is_leaf y.form) 1 0) nodes (j + 1))
+    omega (
+      arith,
+      leaf-number nodes leaves j k x ascend at,
+      leaf-counted nodes j k x at,
+      length-leaves_in nodes,
+      sum_by-take-le (λ (y : SelNode). cond (is_leaf y.form) 1 0) nodes (j + 1),
+    )
 
 chosen-leaf : (g : Graph) (nodes : List SelNode) (leaves j k : ℕ) (x : SelNode) (t : Occasion g) (n : ℕ) → LeavesAscend nodes leaves → LeafAt nodes j k x
     → k < length t.bits
@@ -100,10 +105,10 @@ chosen-leaf g nodes leaves j k x t n ascend at low =
     let counted = leaf-counted nodes j k x at in
     let rest = leaves_in (map node_of (drop (j + 1) nodes)) in
     let paths = leaves-next nodes j x at.low ∙ ap (λ (y : SelNode). path_if_leaf (node_of y).form y.path.0 ++ rest) at.read
-        ∙ ap (λ f. path_if_leaf (form_of f) x.path.0 ++ rest) at.form in
+    ∙ ap (λ f. path_if_leaf (form_of f) x.path.0 ++ rest) at.form in
     let e : suc k ≡ leaves_before nodes (j + 1) = omega arith in
     let bits : drop (leaves_before nodes j) t.bits ≡ slice_index_or t.bits k false ∷ drop (leaves_before nodes (j + 1)) t.bits =
-        ap (λ i. drop i t.bits) (sym number) ∙ drop-cons t.bits k false low ∙ ap (λ i. slice_index_or t.bits k false ∷ drop i t.bits) e in
+    ap (λ i. drop i t.bits) (sym number) ∙ drop-cons t.bits k false low ∙ ap (λ i. slice_index_or t.bits k false ∷ drop i t.bits) e in
     ap (λ l. selecting l (drop (leaves_before nodes j) t.bits) n) paths ∙ ap (λ l. selecting (x.path.0 ∷ rest) l n) bits
 
 says-is : (g : Graph) (s : Source) (m n : Occasion g → Bool) → ((t : Occasion g) → m t ≡ n t) → Says g (early_bounds g 0) [] s m → Says g (early_bounds g 0) [] s n
@@ -147,19 +152,19 @@ chosen-set g nodes leaves count sources place j k x c e low read form ascend nex
     record {
       many = length-set sources x.path.0 (Leaf k) ∙ c.many;
       says = λ n d h. elim (cases_eq n x.path.0) [
-          inl same ↦
+        | inl same ↦
             let put : slice_index_or (slice_set sources x.path.0 (Leaf k)) n d ≡ Leaf k =
-                ap (λ i. slice_index_or (slice_set sources x.path.0 (Leaf k)) i d) same ∙ get_or-set_same sources x.path.0 (Leaf k) d (omega (arith, c.many)) in
+            ap (λ i. slice_index_or (slice_set sources x.path.0 (Leaf k)) i d) same ∙ get_or-set_same sources x.path.0 (Leaf k) d (omega (arith, c.many)) in
             subst (λ s. Says g (early_bounds g 0) [] s (λ t. chosen_from g nodes j t n)) (sym put)
             (says-is g (Leaf k) _ _ (λ t. sym (chosen-leaf g nodes leaves j k x t n ascend at (omega (arith, t.one_per_leaf))
-              ∙ ap (λ b. if b then slice_index_or t.bits k false else chosen_from g nodes (j + 1) t n) (eq-eqb n x.path.0 same))) (leaf-says g k (omega arith)))
+            ∙ ap (λ b. if b then slice_index_or t.bits k false else chosen_from g nodes (j + 1) t n) (eq-eqb n x.path.0 same))) (leaf-says g k (omega arith)))
         | inr other ↦
             let kept = get_or-set_other sources x.path.0 n (Leaf k) d other in
             subst (λ s. Says g (early_bounds g 0) [] s (λ t. chosen_from g nodes j t n)) (sym kept)
             (says-is g (slice_index_or sources n d) _ _ (λ t. ap (λ i. chosen_from g nodes i t n) e
-              ∙ sym (chosen-leaf g nodes leaves j k x t n ascend at (omega (arith, t.one_per_leaf))
-              ∙ ap (λ b. if b then slice_index_or t.bits k false else chosen_from g nodes (j + 1) t n) (ne_eqb n x.path.0 other))) (c.says n d h))
-        ];
+            ∙ sym (chosen-leaf g nodes leaves j k x t n ascend at (omega (arith, t.one_per_leaf))
+            ∙ ap (λ b. if b then slice_index_or t.bits k false else chosen_from g nodes (j + 1) t n) (ne_eqb n x.path.0 other))) (c.says n d h))
+      ];
     }
 
 -- a leaf's statement is one of the body's
@@ -169,17 +174,17 @@ leaf-within body nodes j k x tree low read form =
     let front = leaves_in (map node_of (take j nodes)) in
     let rest = leaves_in (map node_of (drop (j + 1) nodes)) in
     let paths : leaves_in (map node_of (drop j nodes)) ≡ x.path.0 ∷ rest =
-        leaves-next nodes j x low ∙ ap (λ (y : SelNode). path_if_leaf (node_of y).form y.path.0 ++ rest) (sym read)
-        ∙ ap (λ f. path_if_leaf (form_of f) x.path.0 ++ rest) form in
+    leaves-next nodes j x low ∙ ap (λ (y : SelNode). path_if_leaf (node_of y).form y.path.0 ++ rest) (sym read)
+    ∙ ap (λ f. path_if_leaf (form_of f) x.path.0 ++ rest) form in
     let split : body_leaves body ≡ front ++ x.path.0 ∷ rest =
-        sym (leaves-body_tree body) ∙ ap leaves_in (sym tree) ∙ ap (λ xs. leaves_in (map node_of xs)) (sym (take-append-drop j nodes))
-        ∙ ap leaves_in (map-append node_of (take j nodes) (drop j nodes))
-        ∙ leaves_in-append (map node_of (take j nodes)) (map node_of (drop j nodes)) ∙ ap (λ l. front ++ l) paths in
+    sym (leaves-body_tree body) ∙ ap leaves_in (sym tree) ∙ ap (λ xs. leaves_in (map node_of xs)) (sym (take-append-drop j nodes))
+    ∙ ap leaves_in (map-append node_of (take j nodes) (drop j nodes))
+    ∙ leaves_in-append (map node_of (take j nodes)) (map node_of (drop j nodes)) ∙ ap (λ l. front ++ l) paths in
     let many = ap length split ∙ length-append front (x.path.0 ∷ rest) in
     let all = leaves_among (resumes body) body 0 in
     let here = all (length front) 0 (omega arith) in
     let is : slice_index_or (body_leaves body) (length front) 0 ≡ x.path.0 =
-        ap (λ l. slice_index_or l (length front) 0) split ∙ get_or-append_seam front x.path.0 rest 0 in
+    ap (λ l. slice_index_or l (length front) 0) split ∙ get_or-append_seam front x.path.0 rest 0 in
     omega (arith, here.1, is)
 
 pub leaves-many : (body : Term) (nodes : List SelNode) → map node_of nodes ≡ body_tree body → length (leaves_in (map node_of nodes)) ≡ length (body_leaves body)

@@ -1,7 +1,7 @@
 -- What the lists of a program say of an instance, and of the one around it.
-use Rattle.std.proofs.Common.{◌≡◌, ℕ, ◌+◌, ◌<◌, ◌≤◌, Bool, true, false, ◌||◌, ◌&&◌, ◌==◌, nat_lt, List, length, map, slice_index_or, refl, sym, ap, ◌∙◌, subst, arith, inl, inr}
+use Rattle.std.proofs.Common.{◌≡◌, ℕ, ◌<◌, ◌≤◌, false, List, length, slice_index_or, refl, sym, ap, ◌∙◌, subst, arith, inl, inr}
 use Rattle.std.specs.Prelude.{Contains}
-use Rattle.std.proofs.lemmas.Bool.{cases_lt, ne_eqb, le-ltb, lt-ltb, false≢true}
+use Rattle.std.proofs.lemmas.Bool.{cases_lt, ne_eqb, le-ltb, false≢true}
 use Rattle.std.proofs.lemmas.List.{length-map, get_or_default}
 use Rattle.est_kernel.specs.Plain.{program_of}
 use Rattle.est_kernel.specs.Preorder.{statement_count}
@@ -10,14 +10,13 @@ use Rattle.grc_graph.specs.declared.instances.Instance as declared
 use Rattle.grc_graph.specs.declared.instances.Layer.TheVariants as layers
 use Rattle.grc_graph.specs.declared.neighbours.Neighbours.{Neighbours}
 use Rattle.grc_graph.specs.declared.statements.Statement.{Statement}
-use Rattle.grc_graph.specs.Instances.{Instance, body_instances}
-use Rattle.grc_graph.specs.Layers.{Layer, Resumed}
+use Rattle.grc_graph.specs.Instances.{Instance}
+use Rattle.grc_graph.specs.Layers.{Resumed}
 use Rattle.grc_graph.specs.PlainGraphs.{instances_of, instance_at}
 use Rattle.grc_graph.specs.PlainInstances.{instance_of}
-use Rattle.grc_graph.specs.Rows.{row_at, program_rows}
 use Rattle.grc_graph.specs.StatementViews.{view_of}
 use Rattle.grc_graph.specs.Neighbouring.{instances_in}
-use Rattle.grc_graph.specs.WireTables.{comes_before, layer_before, IsNumberOf}
+use Rattle.grc_graph.specs.WireTables.{comes_before, IsNumberOf}
 use Rattle.grc_graph.proofs.NeighbourReads.{body_ascending, name_at}
 use Rattle.grc_graph.proofs.RowReads.{statement_read}
 use Rattle.grc_graph.proofs.WireNames.{LiveAt, live_instance}
@@ -46,27 +45,27 @@ not-before x y h =
 pub instance-before : (g : Graph) (near : Neighbours) (list : List Statement) (i j : ℕ) (x y : Instance) → AreListed g near list → IsLive g i x
     → j < length g.instances.list.items → instance_at (instances_of g) j ≡ y → y.path < x.path → j < i
 instance-before g near list i j x y l live low is before = elim (cases_lt j i) [
-    inl less ↦ less
+  | inl less ↦ less
   | inr more ↦ absurd (not_more more)
-  ]
+]
   where
     first : declared.Instance
     first = record { path = record { 0 = 0 }; layer = layers.Resumed }
 
     not_more : i ≤ j → ⊥
     not_more more = elim (cases_lt i j) [
-        inl less ↦
+      | inl less ↦
           let ascends = body_ascending (program_of g.program).body g.instances.list.items l.body i j first less low in
           let a = sym (name_at g.instances.list.items i first (record { path = 0; layer = Resumed }) live.low) ∙ live.same in
           let b = sym (name_at g.instances.list.items j first (record { path = 0; layer = Resumed }) low) ∙ is in
           false≢true (sym (not-before x y before) ∙ ap (λ (z : Instance). comes_before z y) (sym a)
-            ∙ ap (comes_before (instance_of (slice_index_or g.instances.list.items i first))) (sym b) ∙ ascends)
+          ∙ ap (comes_before (instance_of (slice_index_or g.instances.list.items i first))) (sym b) ∙ ascends)
       | inr most ↦
           let same : i ≡ j = omega arith in
           let both : x ≡ y = sym live.same ∙ ap (instance_at (instances_of g)) same ∙ is in
           let paths = ap (λ (z : Instance). z.path) both in
           absurd (omega arith)
-      ]
+    ]
 
 -- a number that was found is that of an instance of the graph
 pub found-below : (g : Graph) (near : Neighbours) (list : List Statement) (j : ℕ) (y : Instance) → AreListed g near list → IsNumberOf (instances_in near) j y

@@ -1,18 +1,17 @@
 -- One more statement whose source says that it holds a selected pause.
-use Rattle.std.proofs.Common.{◌≡◌, ℕ, ◌+◌, ◌-◌, ◌<◌, ◌≤◌, Bool, true, false, ◌||◌, List, [], ◌∷◌, ◌++◌, length, slice_index_or, slice_set, refl, sym, ap, ◌∙◌, subst, arith, IsTrue, inl, inr, length-set, get_or-set_same, get_or-set_other}
-use Rattle.std.proofs.lemmas.Bool.{cases_eq, cases_lt}
+use Rattle.std.proofs.Common.{◌≡◌, ℕ, ◌+◌, ◌<◌, ◌≤◌, Bool, false, ◌||◌, List, [], ◌∷◌, length, slice_index_or, slice_set, refl, sym, ap, ◌∙◌, subst, arith, inl, inr, length-set, get_or-set_same, get_or-set_other}
+use Rattle.std.proofs.lemmas.Bool.{cases_eq}
 use Rattle.est_kernel.specs.Plain.{program_of, Program}
 use Rattle.est_kernel.specs.Preorder.{statement_count}
 use Rattle.est_kernel.specs.Terms.{Term, Nothing, Pause, Emit, Exit, Present, Suspend, Seq, Loop, Par, Trap, Local, Awake}
-use Rattle.est_kernel.specs.WellFormed.{IsKernel}
 use Rattle.grc_graph.specs.declared.graph.Graph.{Graph}
 use Rattle.grc_graph.specs.Layers.{Liveness, part_liveness, second_liveness, loop_liveness}
 use Rattle.grc_graph.specs.Residuals.{holds}
-use Rattle.grc_graph.specs.Rows.{Row, row, rows, row_at, second_of, program_rows, listed_row}
+use Rattle.grc_graph.specs.Rows.{Row, row, rows, row_at, second_of, program_rows}
 use Rattle.grc_graph.specs.Scopes.{Scope, bind}
 use Rattle.grc_graph.specs.Statements.{Entry, Part, Branch, Then, Else, Suspended, Second, Looped}
 use Rattle.grc_graph.proofs.CodeReads.{StandsAt}
-use Rattle.grc_graph.proofs.RowFacts.{Placed, program_placed}
+use Rattle.grc_graph.proofs.RowFacts.{program_placed}
 use Rattle.grc_graph.proofs.RowSpots.{length-rows, stands_one, stands_first, stands_second, row_read}
 use Rattle.grc_words.specs.declared.selected.Parts.{Parts}
 use Rattle.grc_words.specs.declared.selected.Parts.TheVariants as kinds
@@ -20,13 +19,13 @@ use Rattle.grc_words.specs.declared.table.Source.{Source}
 use Rattle.grc_words.specs.declared.table.Source.TheVariants.{Const}
 use Rattle.grc_words.specs.declared.table.Row as tables
 use Rattle.grc_graph.proofs.RowReads.{length-program_rows}
-use Rattle.grc_words.specs.Building.{Says, RowsFit, Extends, with_either, either_source}
+use Rattle.grc_words.specs.Building.{Says, Extends, with_either, either_source}
 use Rattle.grc_words.specs.Choosing.{LeavesChosen, SelectedMade, selection}
 use Rattle.grc_words.specs.Occasions.{Occasion}
 use Rattle.grc_words.specs.PartKinds.{kind_of}
 use Rattle.grc_words.specs.WordLaws.{early_bounds}
 use Rattle.grc_words.proofs.RowCounts.{either-few}
-use Rattle.grc_words.proofs.Saying.{says-more, extends-refl, Makes, makes-either}
+use Rattle.grc_words.proofs.Saying.{says-more, extends-refl, makes-either}
 
 -- what a statement with this many parts holds
 abbrev pub HoldsBy : List Row → Term → (n m : ℕ) → Parts → Type 0
@@ -46,12 +45,16 @@ one-holds W a B y t p n h e =
 two-hold : (W : List Row) (a b : Liveness) (B : Scope) (y z : Entry) (t p q : Term) (n c : ℕ) → n < c → StandsAt W (n + 1) (rows a B y p (n + 1))
     → StandsAt W c (rows b B z q c) → ((S : ℕ → Bool) → holds S t n ≡ (holds S p (n + 1) || holds S q c))
     → (n + 1 < length W) × (n < c) × (c < length W)
-      × ((S : ℕ → Bool) → holds S t n ≡ (holds S (row_at W (n + 1)).statement (n + 1) || holds S (row_at W c).statement c))
+    × ((S : ℕ → Bool) → holds S t n ≡ (holds S (row_at W (n + 1)).statement (n + 1) || holds S (row_at W c).statement c))
 two-hold W a b B y z t p q n c before h g e =
     let k = row_read W a B y p (n + 1) h in
-    let j = row_read W b B z q c g in
-    (k.within, before, j.within, λ S. e S ∙ ap (λ (r : Row). holds S r.statement (n + 1) || holds S q c) (sym k.same)
-      ∙ ap (λ (r : Row). holds S (row_at W (n + 1)).statement (n + 1) || holds S r.statement c) (sym j.same))
+    let j = row_read W b B z q c g in (
+      k.within,
+      before,
+      j.within,
+      λ S. e S ∙ ap (λ (r : Row). holds S r.statement (n + 1) || holds S q c) (sym k.same)
+          ∙ ap (λ (r : Row). holds S (row_at W (n + 1)).statement (n + 1) || holds S r.statement c) (sym j.same),
+    )
 
 by-kind : (W : List Row) (a : Liveness) (B : Scope) (x : Entry) (t : Term) (n : ℕ) → StandsAt W n (rows a B x t n)
     → HoldsBy W t n (second_of t n) (kind_of t (second_of t n))
@@ -97,7 +100,7 @@ by-kind W a B x (Awake e p) n h = λ S. refl
 -- each statement of a program, by what its row says
 pub program_parts : (p : Program) (n : ℕ) → n < statement_count p.body
     → HoldsBy (program_rows p) (row_at (program_rows p) n).statement n (row_at (program_rows p) n).second
-      (kind_of (row_at (program_rows p) n).statement (row_at (program_rows p) n).second)
+    (kind_of (row_at (program_rows p) n).statement (row_at (program_rows p) n).second)
 program_parts p n low =
     let W = program_rows p in
     let r = row_at W n in
@@ -121,13 +124,13 @@ selected-more g old new sources place j s m e low x more h =
       many = many ∙ m.many;
       few = omega (arith, m.few);
       made = λ n d from below. elim (cases_eq n j) [
-          inl same ↦
+        | inl same ↦
             let put : slice_index_or (slice_set sources j s) n d ≡ s = ap (λ i. slice_index_or (slice_set sources j s) i d) same ∙ get_or-set_same sources j s d low in
             subst (λ y. Says g (early_bounds g 0) new y (holding g n)) (sym put) (subst (λ i. Says g (early_bounds g 0) new s (holding g i)) (sym same) h)
         | inr other ↦
             subst (λ y. Says g (early_bounds g 0) new y (holding g n)) (sym (get_or-set_other sources j n s d other))
             (says-more g (early_bounds g 0) old new (slice_index_or sources n d) _ x (m.made n d (omega (arith, other)) (omega arith)))
-        ];
+      ];
       left = λ n d before below.
           let other : n ≡ j → ⊥ = λ q. absurd (omega arith) in
           subst (λ y. Says g (early_bounds g 0) new y (λ t. selection g t n)) (sym (get_or-set_other sources j n s d other))
@@ -145,10 +148,10 @@ pub record RowRead (g : Graph) (j : ℕ) (kind : Parts) : Type 0 where
 
 parts-read : (g : Graph) (j : ℕ) (kind : Parts) → RowRead g j kind
     → HoldsBy (program_rows (program_of g.program)) (row_at (program_rows (program_of g.program)) j).statement j
-      (row_at (program_rows (program_of g.program)) j).second kind
+    (row_at (program_rows (program_of g.program)) j).second kind
 parts-read g j kind r =
     subst (HoldsBy (program_rows (program_of g.program)) (row_at (program_rows (program_of g.program)) j).statement j
-      (row_at (program_rows (program_of g.program)) j).second) (sym r.kind_is) (program_parts (program_of g.program) j r.low)
+    (row_at (program_rows (program_of g.program)) j).second) (sym r.kind_is) (program_parts (program_of g.program) j r.low)
 
 pub select-itself : (g : Graph) (rs : List tables.Row) (sources : List Source) (place j : ℕ) (s d : Source) → SelectedMade g sources rs place → place ≡ j + 1
     → RowRead g j kinds.Itself → s ≡ slice_index_or sources j d → SelectedMade g (slice_set sources j s) rs j
@@ -157,7 +160,7 @@ select-itself g rs sources place j s d m e r is =
     let own = m.left j d (omega arith) low in
     selected-more g rs rs sources place j s m e low (extends-refl (early_bounds g 0) rs m.fit) (omega arith)
     (subst (λ y. Says g (early_bounds g 0) rs y (holding g j)) (sym is)
-      (says-as g rs (slice_index_or sources j d) _ _ (λ t. sym (parts-read g j kinds.Itself r (selection g t))) own))
+    (says-as g rs (slice_index_or sources j d) _ _ (λ t. sym (parts-read g j kinds.Itself r (selection g t))) own))
 
 pub select-none : (g : Graph) (rs : List tables.Row) (sources : List Source) (place j : ℕ) → SelectedMade g sources rs place → place ≡ j + 1
     → RowRead g j kinds.None → SelectedMade g (slice_set sources j (Const false)) rs j
@@ -173,7 +176,7 @@ select-one g rs sources place j s d m e r is =
     let part = m.made (j + 1) d (omega arith) (omega (arith, m.many, parts.0)) in
     selected-more g rs rs sources place j s m e (omega (arith, m.many, r.low)) (extends-refl (early_bounds g 0) rs m.fit) (omega arith)
     (subst (λ y. Says g (early_bounds g 0) rs y (holding g j)) (sym is)
-      (says-as g rs (slice_index_or sources (j + 1) d) _ _ (λ t. sym (parts.1 (selection g t))) part))
+    (says-as g rs (slice_index_or sources (j + 1) d) _ _ (λ t. sym (parts.1 (selection g t))) part))
 
 pub select-two : (g : Graph) (rs new : List tables.Row) (sources : List Source) (place j k : ℕ) (s a b d : Source) → SelectedMade g sources rs place → place ≡ j + 1
     → RowRead g j (kinds.Two k) → a ≡ slice_index_or sources (j + 1) d → b ≡ slice_index_or sources k d → new ≡ with_either rs a b → s ≡ either_source rs a b
@@ -185,8 +188,8 @@ select-two g rs new sources place j k s a b d m e r ea eb grown is =
     let other = subst (λ y. Says g (early_bounds g 0) rs y (holding g k)) (sym eb) (m.made k d (omega (arith, parts.1)) (omega (arith, m.many, parts.2))) in
     let made = makes-either g (early_bounds g 0) rs a b _ _ m.fit first other in
     let whole : SelectedMade g (slice_set sources j (either_source rs a b)) (with_either rs a b) j =
-        selected-more g rs (with_either rs a b) sources place j (either_source rs a b) m e (omega (arith, m.many, r.low)) made.extends (either-few rs a b)
-        (says-as g (with_either rs a b) (either_source rs a b) _ _ (λ t. sym (parts.3 (selection g t))) made.says) in
+    selected-more g rs (with_either rs a b) sources place j (either_source rs a b) m e (omega (arith, m.many, r.low)) made.extends (either-few rs a b)
+    (says-as g (with_either rs a b) (either_source rs a b) _ _ (λ t. sym (parts.3 (selection g t))) made.says) in
     subst (λ x. SelectedMade g (slice_set sources j s) x j) (sym grown)
     (subst (λ x. SelectedMade g (slice_set sources j x) (with_either rs a b) j) (sym is) whole)
 

@@ -1,5 +1,5 @@
 -- The values of rows, one after another, meet the rows' equations.
-use Rattle.std.proofs.Common.{◌≡◌, ℕ, ◌+◌, ◌<◌, ◌≤◌, zero, suc, Bool, true, false, not, ◌&&◌, ◌||◌, List, [], ◌∷◌, ◌++◌, length, slice_index_or, refl, sym, ap, ◌∙◌, subst, arith, IsTrue}
+use Rattle.std.proofs.Common.{◌≡◌, ℕ, ◌+◌, ◌<◌, zero, suc, Bool, false, not, List, [], ◌∷◌, ◌++◌, length, slice_index_or, refl, sym, ap, ◌∙◌, subst, arith, IsTrue}
 use Rattle.std.proofs.lemmas.Bool.{ltb-true, and_parts}
 use Rattle.std.proofs.lemmas.List.{get_or_append_left, get_or_push, length_push}
 use Rattle.grc_words.specs.declared.table.Source.{Source}
@@ -66,8 +66,8 @@ row-met t b values (r ∷ rs) zero d counts fits h =
     let e : length values + 0 ≡ length values = omega arith in
     let stays = value-stays t (values ++ v ∷ []) rs (length values) (omega arith) ∙ get_or_push values v false (length values) refl in
     let below = λ (n : ℕ) (low : n < (b (length values)).rows).
-        let lower : n < length values = omega (arith, counts (length values)) in
-        sym (value-stays t (values ++ v ∷ []) rs n (omega arith) ∙ get_or_append_left values (v ∷ []) false n lower) in
+    let lower : n < length values = omega (arith, counts (length values)) in
+    sym (value-stays t (values ++ v ∷ []) rs n (omega arith) ∙ get_or_append_left values (v ∷ []) false n lower) in
     let here : IsTrue (row_fits (b (length values)) r) = rw e at (fits zero (omega arith)) in
     ap (λ n. slice_index_or all n false) e ∙ stays ∙ row_value-same t (b (length values)) values all r here below
 row-met t b values (r ∷ rs) (suc k) d counts fits h =
@@ -76,8 +76,8 @@ row-met t b values (r ∷ rs) (suc k) d counts fits h =
     let e : length values + suc k ≡ length (values ++ v ∷ []) + k = omega arith in
     ap (λ n. slice_index_or (row_values t (values ++ v ∷ []) rs) n false) e
     ∙ row-met t b (values ++ v ∷ []) rs k d counts (λ j low.
-        let f : length values + suc j ≡ length (values ++ v ∷ []) + j = omega arith in
-        rw f at (fits (suc j) (omega arith))) (omega arith)
+    let f : length values + suc j ≡ length (values ++ v ∷ []) + j = omega arith in
+    rw f at (fits (suc j) (omega arith))) (omega arith)
 
 pub rows-met : (t : Surroundings) (b : ℕ → Bounds) (rs : List Row) (k : ℕ) (d : Row) → ((n : ℕ) → (b n).rows ≡ n)
     → ((j : ℕ) → j < length rs → IsTrue (row_fits (b j) (slice_index_or rs j d))) → k < length rs
@@ -85,5 +85,5 @@ pub rows-met : (t : Surroundings) (b : ℕ → Bounds) (rs : List Row) (k : ℕ)
 rows-met t b rs k d counts fits h =
     let e : 0 + k ≡ k = omega arith in
     ap (λ n. slice_index_or (row_values t [] rs) n false) (sym e)
-    ∙ row-met t b [] rs k d counts (λ j low. 
-        let f : j ≡ 0 + j = omega arith in subst (λ n. IsTrue (row_fits (b n) (slice_index_or rs j d))) f (fits j low)) h
+    ∙ row-met t b [] rs k d counts (λ j low.
+    let f : j ≡ 0 + j = omega arith in subst (λ n. IsTrue (row_fits (b n) (slice_index_or rs j d))) f (fits j low)) h

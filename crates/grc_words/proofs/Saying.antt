@@ -1,14 +1,14 @@
 -- What sources say while rows are added.
-use Rattle.std.proofs.Common.{◌≡◌, ℕ, ◌+◌, ◌<◌, ◌≤◌, Bool, true, false, not, ◌&&◌, ◌||◌, nat_lt, List, [], ◌∷◌, ◌++◌, length, slice_index_or, refl, sym, ap, ◌∙◌, subst, arith, IsTrue, if◌then◌else◌, ◌⊎◌, inl, inr}
+use Rattle.std.proofs.Common.{◌≡◌, ℕ, ◌≤◌, Bool, true, false, not, ◌&&◌, ◌||◌, List, [], ◌∷◌, ◌++◌, length, slice_index_or, refl, sym, ap, ◌∙◌, subst, arith, IsTrue, inl, inr}
 use Rattle.std.proofs.Common.{append_assoc, append-nil, length-append}
-use Rattle.std.proofs.lemmas.Bool.{cases_lt, cases_Bool, ltb-true, lt-ltb, and_parts, false≢true}
+use Rattle.std.proofs.lemmas.Bool.{cases_lt, cases_Bool, ltb-true, lt-ltb}
 use Rattle.std.proofs.lemmas.List.{get_or_append_left, get_or_push, length_push}
 use Rattle.grc_graph.specs.declared.graph.Graph.{Graph}
 use Rattle.grc_words.specs.declared.table.Source.{Source}
 use Rattle.grc_words.specs.declared.table.Source.TheVariants as sources
 use Rattle.grc_words.specs.declared.table.Row.{Row}
 use Rattle.grc_words.specs.declared.table.Row.TheVariants as rows
-use Rattle.grc_words.specs.Building.{is_constant, same_bool, new_source, with_both, both_source, with_either, either_source, rows_below, RowsFit, Says, Extends}
+use Rattle.grc_words.specs.Building.{is_constant, new_source, with_both, both_source, with_either, either_source, rows_below, RowsFit, Says, Extends}
 use Rattle.grc_words.specs.Occasions.{Occasion, FalseOffWires, surroundings}
 use Rattle.grc_words.specs.Rows.{Surroundings, Bounds, source_value, row_value, row_values, source_fits, row_fits}
 use Rattle.grc_words.proofs.RowValues.{length-row_values, row_values-append, value-stays, source_value-same}
@@ -49,11 +49,11 @@ extends-trans b x y z p q = record {
 pub extends-push : (b : Bounds) (rs : List Row) (r : Row) → RowsFit b rs → IsTrue (row_fits (rows_below b (length rs)) r) → Extends b rs (rs ++ r ∷ [])
 extends-push b rs r f h = record {
   fit = λ k d low. elim (cases_lt k (length rs)) [
-      inl less ↦ subst (λ x. IsTrue (row_fits (rows_below b k) x)) (sym (get_or_append_left rs (r ∷ []) d k less)) (f k d less)
+    | inl less ↦ subst (λ x. IsTrue (row_fits (rows_below b k) x)) (sym (get_or_append_left rs (r ∷ []) d k less)) (f k d less)
     | inr more ↦
-      let at : k ≡ length rs = omega (arith, length_push rs r) in
-      subst (λ x. IsTrue (row_fits (rows_below b k) x)) (sym (get_or_push rs r d k (sym at))) (subst (λ n. IsTrue (row_fits (rows_below b n) r)) (sym at) h)
-    ];
+        let at : k ≡ length rs = omega (arith, length_push rs r) in
+        subst (λ x. IsTrue (row_fits (rows_below b k) x)) (sym (get_or_push rs r d k (sym at))) (subst (λ n. IsTrue (row_fits (rows_below b n) r)) (sym at) h)
+  ];
   more = (r ∷ [], refl);
 }
 
@@ -134,11 +134,11 @@ or-false_right false y e = sym e
 pub makes-both : (g : Graph) (b : Bounds) (rs : List Row) (x y : Source) (m n : Occasion g → Bool) → RowsFit b rs → Says g b rs x m → Says g b rs y n
     → Makes g b rs (with_both rs x y) (both_source rs x y) (λ t. m t && n t)
 makes-both g b rs x y m n f h k = elim (cases_Bool (is_constant true x)) [
-    inl one ↦ rw one (makes-here g b rs y n _ f k (λ t off. and-true_left (m t) (n t) (constant-says g b rs true x m one h t off)))
+  | inl one ↦ rw one (makes-here g b rs y n _ f k (λ t off. and-true_left (m t) (n t) (constant-says g b rs true x m one h t off)))
   | inr not_one ↦ elim (cases_Bool (is_constant true y)) [
-      inl two ↦ rw (not_one, two) (makes-here g b rs x m _ f h (λ t off. and-true_right (m t) (n t) (constant-says g b rs true y n two k t off)))
+    | inl two ↦ rw (not_one, two) (makes-here g b rs x m _ f h (λ t off. and-true_right (m t) (n t) (constant-says g b rs true y n two k t off)))
     | inr not_two ↦ elim (cases_Bool (is_constant false y)) [
-        inl three ↦
+      | inl three ↦
           rw (not_one, not_two, three)
           (makes-here g b rs y n _ f k (λ t off. and-false_right (m t) (n t) (constant-says g b rs false y n three k t off)))
       | inr not_three ↦
@@ -146,24 +146,24 @@ makes-both g b rs x y m n f h k = elim (cases_Bool (is_constant true x)) [
             extends = extends-push b rs (rows.And x y) f (and-fits _ _ h.fits k.fits);
             says = says-new g b rs (rows.And x y) _ (λ t off. let p = h.value t off in let q = k.value t off in cc);
           })
-      ]
     ]
   ]
+]
 
 -- the or of two sources
 pub makes-either : (g : Graph) (b : Bounds) (rs : List Row) (x y : Source) (m n : Occasion g → Bool) → RowsFit b rs → Says g b rs x m → Says g b rs y n
     → Makes g b rs (with_either rs x y) (either_source rs x y) (λ t. m t || n t)
 makes-either g b rs x y m n f h k = elim (cases_Bool (is_constant false x)) [
-    inl one ↦ rw one (makes-here g b rs y n _ f k (λ t off. or-false_left (m t) (n t) (constant-says g b rs false x m one h t off)))
+  | inl one ↦ rw one (makes-here g b rs y n _ f k (λ t off. or-false_left (m t) (n t) (constant-says g b rs false x m one h t off)))
   | inr not_one ↦ elim (cases_Bool (is_constant false y)) [
-      inl two ↦ rw (not_one, two) (makes-here g b rs x m _ f h (λ t off. or-false_right (m t) (n t) (constant-says g b rs false y n two k t off)))
+    | inl two ↦ rw (not_one, two) (makes-here g b rs x m _ f h (λ t off. or-false_right (m t) (n t) (constant-says g b rs false y n two k t off)))
     | inr not_two ↦
         rw (not_one, not_two) (record {
           extends = extends-push b rs (rows.Or x y) f (and-fits _ _ h.fits k.fits);
           says = says-new g b rs (rows.Or x y) _ (λ t off. let p = h.value t off in let q = k.value t off in cc);
         })
-    ]
   ]
+]
 
 -- ---- the same of tables alone
 
@@ -188,25 +188,25 @@ grows-not b rs x f h = grows-row b rs (rows.Not x) f h
 pub grows-both : (b : Bounds) (rs : List Row) (x y : Source) → RowsFit b rs → IsTrue (source_fits (rows_below b (length rs)) x)
     → IsTrue (source_fits (rows_below b (length rs)) y) → Grows b rs (with_both rs x y) (both_source rs x y)
 grows-both b rs x y f h k = elim (cases_Bool (is_constant true x)) [
-    inl one ↦ rw one (grows-here b rs y f k)
+  | inl one ↦ rw one (grows-here b rs y f k)
   | inr not_one ↦ elim (cases_Bool (is_constant true y)) [
-      inl two ↦ rw (not_one, two) (grows-here b rs x f h)
+    | inl two ↦ rw (not_one, two) (grows-here b rs x f h)
     | inr not_two ↦ elim (cases_Bool (is_constant false y)) [
-        inl three ↦ rw (not_one, not_two, three) (grows-here b rs y f k)
+      | inl three ↦ rw (not_one, not_two, three) (grows-here b rs y f k)
       | inr not_three ↦ rw (not_one, not_two, not_three) (grows-row b rs (rows.And x y) f (and-fits _ _ h k))
-      ]
     ]
   ]
+]
 
 pub grows-either : (b : Bounds) (rs : List Row) (x y : Source) → RowsFit b rs → IsTrue (source_fits (rows_below b (length rs)) x)
     → IsTrue (source_fits (rows_below b (length rs)) y) → Grows b rs (with_either rs x y) (either_source rs x y)
 grows-either b rs x y f h k = elim (cases_Bool (is_constant false x)) [
-    inl one ↦ rw one (grows-here b rs y f k)
+  | inl one ↦ rw one (grows-here b rs y f k)
   | inr not_one ↦ elim (cases_Bool (is_constant false y)) [
-      inl two ↦ rw (not_one, two) (grows-here b rs x f h)
+    | inl two ↦ rw (not_one, two) (grows-here b rs x f h)
     | inr not_two ↦ rw (not_one, not_two) (grows-row b rs (rows.Or x y) f (and-fits _ _ h k))
-    ]
   ]
+]
 
 pub fits-grown : (b : Bounds) (old new : List Row) (s : Source) → Extends b old new → IsTrue (source_fits (rows_below b (length old)) s)
     → IsTrue (source_fits (rows_below b (length new)) s)

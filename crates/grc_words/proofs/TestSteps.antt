@@ -1,7 +1,7 @@
 -- Tests as sources, from their parts; and wires as sources.
-use Rattle.std.proofs.Common.{◌≡◌, ℕ, ◌+◌, ◌-◌, ◌<◌, ◌≤◌, zero, suc, Bool, true, false, not, ◌&&◌, ◌||◌, ◌==◌, nat_lt, List, [], ◌∷◌, ◌++◌, length, map, take, drop, slice_index_or, refl, sym, ap, ◌∙◌, subst, arith, Option, Some, None, IsTrue, length-append, length-drop, inl, inr}
+use Rattle.std.proofs.Common.{◌≡◌, ℕ, ◌+◌, ◌<◌, ◌≤◌, zero, suc, true, false, ◌&&◌, ◌==◌, List, [], ◌∷◌, ◌++◌, length, map, take, drop, slice_index_or, refl, sym, ap, ◌∙◌, subst, arith, Option, Some, None, length-append, inl, inr}
 use Rattle.std.specs.List.{list_any}
-use Rattle.std.specs.Prelude.{MatchOption, Contains}
+use Rattle.std.specs.Prelude.{Contains}
 use Rattle.std.proofs.lemmas.Bool.{lt-ltb, eqb-true, and_parts, cases_Bool}
 use Rattle.std.proofs.Common.{drop-cons}
 use Rattle.std.proofs.lemmas.List.{length-map, length_push, take-take, take-map, map-append, take_at, drop_at, drop-drop, drop-take, drop-map}
@@ -13,20 +13,18 @@ use Rattle.grc_graph.specs.declared.neighbours.Neighbours.{Neighbours}
 use Rattle.grc_graph.specs.declared.statements.Binding as bindings
 use Rattle.grc_graph.specs.Layers.{Layer, Resumed, Started, same_layer}
 use Rattle.grc_graph.specs.Neighbouring.{names_in}
-use Rattle.grc_graph.specs.PlainGraphs.{names_of, wire_of, instances_of, wire_at}
-use Rattle.grc_graph.specs.Readings.{seen_value, seen_values}
+use Rattle.grc_graph.specs.PlainGraphs.{names_of, wire_of, instances_of}
+use Rattle.grc_graph.specs.Readings.{seen_value}
 use Rattle.grc_graph.specs.Scopes.{Scope, Binding}
 use Rattle.grc_graph.specs.Statements.{signals_in}
 use Rattle.grc_graph.specs.StatementViews.{binding_of}
-use Rattle.grc_graph.specs.Walk.{truth}
-use Rattle.grc_graph.specs.WireTables.{HasName, IsNumberOf}
+use Rattle.grc_graph.specs.WireTables.{HasName}
 use Rattle.grc_graph.specs.Wires.{Wire, Out, Go, StatusOf, End, same_wire}
 use Rattle.grc_words.specs.declared.table.Source.{Source}
 use Rattle.grc_words.specs.declared.table.Source.TheVariants as sources
 use Rattle.grc_words.specs.declared.table.Row as tables
 use Rattle.grc_words.specs.declared.tests_of.Tested.{Tested}
-use Rattle.grc_words.specs.Building.{Says, Extends, RowsFit, new_source, with_both, both_source, with_either, either_source}
-use Rattle.grc_words.specs.Occasions.{Occasion, FalseOffWires}
+use Rattle.grc_words.specs.Building.{Says, RowsFit, new_source, with_both, both_source, with_either, either_source}
 use Rattle.grc_words.specs.Testing.{TestMade, SignalSaid, wire_source}
 use Rattle.grc_words.specs.WordLaws.{late_bounds}
 use Rattle.grc_words.proofs.RowCounts.{both-few, either-few}
@@ -71,9 +69,9 @@ contains-next w ws u c = (suc c.0, omega (arith, c.1), c.2)
 pub none-such : (u : Wire) (ws : List Wire) → (Contains ws u → ⊥) → list_any (same_wire u) ws ≡ false
 none-such u [] h = refl
 none-such u (w ∷ ws) h = elim (cases_Bool (same_wire u w)) [
-    inl here ↦ absurd (h (zero, omega arith, wire-is u w here))
+  | inl here ↦ absurd (h (zero, omega arith, wire-is u w here))
   | inr other ↦ rw (other, none-such u ws (λ c. h (contains-next w ws u c))) refl
-  ]
+]
 
 -- a wire that is looked up by name says its value
 pub wire-says : (g : Graph) (near : Neighbours) (r : Option WireId) (u : Wire) (rs : List tables.Row) → names_in near ≡ names_of g → HasName (names_in near) r u
@@ -157,12 +155,12 @@ test-not g signals e a place old mid new made s is m grown fresh =
     let row = tables.TheVariants.Not made.source in
     let grows = grows-not b mid made.source m.extends.fit m.fits in
     let done : TestMade g signals (Not a) place old (mid ++ row ∷ []) (record { source = new_source mid; after = made.after }) = record {
-        extends = extends-trans b old mid (mid ++ row ∷ []) m.extends grows.extends;
-        few = omega (arith, m.few, length_push mid row);
-        after = m.after;
-        fits = grows.fits;
-        says = λ B h. (makes-not g b mid made.source _ m.extends.fit (m.says B h)).says;
-      } in
+      extends = extends-trans b old mid (mid ++ row ∷ []) m.extends grows.extends;
+      few = omega (arith, m.few, length_push mid row);
+      after = m.after;
+      fits = grows.fits;
+      says = λ B h. (makes-not g b mid made.source _ m.extends.fit (m.says B h)).says;
+    } in
     subst (λ y. TestMade g signals y place old new (record { source = s; after = made.after })) (sym is)
     (subst (λ rs. TestMade g signals (Not a) place old rs (record { source = s; after = made.after })) (sym grown)
     (subst (λ x. TestMade g signals (Not a) place old (mid ++ row ∷ []) (record { source = x; after = made.after })) (sym fresh) done))
@@ -178,16 +176,16 @@ test-and g signals e a b place old one two new x y s is m k grown fresh =
     let grows = grows-both bounds two x.source y.source fit first k.fits in
     let many = length-append (signals_in a) (signals_in b) in
     let done : TestMade g signals (And a b) place old last (record { source = both_source two x.source y.source; after = y.after }) = record {
-        extends = extends-trans bounds old two last (extends-trans bounds old one two m.extends k.extends) grows.extends;
-        few = omega (arith, m.few, k.few, both-few two x.source y.source);
-        after = omega (arith, m.after, k.after);
-        fits = grows.fits;
-        says = λ B h.
-            let left = says-more g bounds one two x.source _ k.extends (m.says B (split-first signals B place (signals_in a) (signals_in b) h)) in
-            let at = split-second signals B place (signals_in a) (signals_in b) h in
-            let right = k.says B (ap (λ n. map binding_of (take (length (signals_in b)) (drop n signals))) m.after ∙ at) in
-            (makes-both g bounds two x.source y.source _ _ fit left right).says;
-      } in
+      extends = extends-trans bounds old two last (extends-trans bounds old one two m.extends k.extends) grows.extends;
+      few = omega (arith, m.few, k.few, both-few two x.source y.source);
+      after = omega (arith, m.after, k.after);
+      fits = grows.fits;
+      says = λ B h.
+          let left = says-more g bounds one two x.source _ k.extends (m.says B (split-first signals B place (signals_in a) (signals_in b) h)) in
+          let at = split-second signals B place (signals_in a) (signals_in b) h in
+          let right = k.says B (ap (λ n. map binding_of (take (length (signals_in b)) (drop n signals))) m.after ∙ at) in
+          (makes-both g bounds two x.source y.source _ _ fit left right).says;
+    } in
     subst (λ z. TestMade g signals z place old new (record { source = s; after = y.after })) (sym is)
     (subst (λ rs. TestMade g signals (And a b) place old rs (record { source = s; after = y.after })) (sym grown)
     (subst (λ z. TestMade g signals (And a b) place old last (record { source = z; after = y.after })) (sym fresh) done))
@@ -203,16 +201,16 @@ test-or g signals e a b place old one two new x y s is m k grown fresh =
     let grows = grows-either bounds two x.source y.source fit first k.fits in
     let many = length-append (signals_in a) (signals_in b) in
     let done : TestMade g signals (Or a b) place old last (record { source = either_source two x.source y.source; after = y.after }) = record {
-        extends = extends-trans bounds old two last (extends-trans bounds old one two m.extends k.extends) grows.extends;
-        few = omega (arith, m.few, k.few, either-few two x.source y.source);
-        after = omega (arith, m.after, k.after);
-        fits = grows.fits;
-        says = λ B h.
-            let left = says-more g bounds one two x.source _ k.extends (m.says B (split-first signals B place (signals_in a) (signals_in b) h)) in
-            let at = split-second signals B place (signals_in a) (signals_in b) h in
-            let right = k.says B (ap (λ n. map binding_of (take (length (signals_in b)) (drop n signals))) m.after ∙ at) in
-            (makes-either g bounds two x.source y.source _ _ fit left right).says;
-      } in
+      extends = extends-trans bounds old two last (extends-trans bounds old one two m.extends k.extends) grows.extends;
+      few = omega (arith, m.few, k.few, either-few two x.source y.source);
+      after = omega (arith, m.after, k.after);
+      fits = grows.fits;
+      says = λ B h.
+          let left = says-more g bounds one two x.source _ k.extends (m.says B (split-first signals B place (signals_in a) (signals_in b) h)) in
+          let at = split-second signals B place (signals_in a) (signals_in b) h in
+          let right = k.says B (ap (λ n. map binding_of (take (length (signals_in b)) (drop n signals))) m.after ∙ at) in
+          (makes-either g bounds two x.source y.source _ _ fit left right).says;
+    } in
     subst (λ z. TestMade g signals z place old new (record { source = s; after = y.after })) (sym is)
     (subst (λ rs. TestMade g signals (Or a b) place old rs (record { source = s; after = y.after })) (sym grown)
     (subst (λ z. TestMade g signals (Or a b) place old last (record { source = z; after = y.after })) (sym fresh) done))

@@ -1,14 +1,12 @@
 -- A table that was made part by part is that of its graph.
-use Rattle.std.proofs.Common.{◌≡◌, ℕ, ◌+◌, ◌-◌, ◌<◌, ◌≤◌, zero, suc, Bool, true, false, ◌||◌, ◌&&◌, ◌==◌, nat_lt, min, List, [], ◌∷◌, ◌++◌, length, map, drop, slice_index_or, refl, sym, ap, ◌∙◌, subst, arith, length-append, IsTrue, inl, inr}
-use Rattle.std.specs.Prelude.{All, Contains, if◌then◌else◌}
-use Rattle.std.specs.List.{prefix_len, range_with_len, sum_by}
-use Rattle.std.proofs.lemmas.Bool.{cases_lt, cases_Bool, false≢true, lt-ltb, ltb-true, and_parts}
+use Rattle.std.proofs.Common.{◌≡◌, ℕ, ◌+◌, ◌-◌, ◌<◌, ◌≤◌, Bool, true, false, ◌&&◌, ◌==◌, min, List, [], ◌∷◌, length, map, slice_index_or, refl, sym, ap, ◌∙◌, subst, arith, length-append, IsTrue, inl, inr}
+use Rattle.std.specs.Prelude.{All, if◌then◌else◌}
+use Rattle.std.specs.List.{range_with_len, sum_by}
+use Rattle.std.proofs.lemmas.Bool.{cases_lt, cases_Bool, ltb-true, and_parts}
 use Rattle.std.proofs.lemmas.List.{length-map, get_or-map, get_or_append_left, ext_get_or, take_all}
 use Rattle.std.proofs.lemmas.List.Elements.{All-head, All-tail}
 use Rattle.std.proofs.lemmas.List.FromFn.{get_or-map-range_with_len, length-map-range_with_len}
 use Rattle.std.proofs.lemmas.List.Sums.{prefix_len-le-length}
-use Rattle.est_base.specs.Codes.{upto}
-use Rattle.est_base.specs.declared.indices.WireId.{WireId}
 use Rattle.est_kernel.specs.Plain.{program_of, outgoing_count}
 use Rattle.est_kernel.specs.Preorder.{statement_count}
 use Rattle.est_kernel.specs.WellFormed.{IsKernel}
@@ -16,7 +14,7 @@ use Rattle.grc_graph.specs.declared.graph.Graph.{Graph}
 use Rattle.grc_graph.specs.GraphRuns.{shown}
 use Rattle.grc_graph.specs.Instances.{body_instances}
 use Rattle.grc_graph.specs.Neighbouring.{program_wires}
-use Rattle.grc_graph.specs.PlainGraphs.{instance_at, instances_of, names_of, plain_graph, wire_at}
+use Rattle.grc_graph.specs.PlainGraphs.{instances_of, names_of, plain_graph}
 use Rattle.grc_graph.specs.PlainInstances.{instance_of}
 use Rattle.grc_graph.specs.Readings.{holds_at, state_holds_at}
 use Rattle.grc_graph.specs.Residuals.{holds}
@@ -30,14 +28,14 @@ use Rattle.grc_words.specs.declared.table.Source.TheVariants as sources
 use Rattle.grc_words.specs.declared.table.Row.{Row}
 use Rattle.grc_words.specs.declared.table.Row.TheVariants as rows
 use Rattle.grc_words.specs.declared.table.Words.{Words}
-use Rattle.grc_words.specs.Building.{Says, Extends, RowsFit, rows_below}
+use Rattle.grc_words.specs.Building.{Says, Extends, RowsFit}
 use Rattle.grc_words.specs.Choosing.{SelectedMade, selection}
 use Rattle.grc_words.specs.EndLists.{EndsFound, OutputsSaid, PausedMade, is_no_end_of}
 use Rattle.grc_words.specs.Holdings.{HoldingsMade}
 use Rattle.grc_words.specs.Occasions.{Occasion, FalseOffWires, state_in}
 use Rattle.grc_words.specs.Rows.{source_fits, row_fits}
 use Rattle.grc_words.specs.Sizes.{instance_rows, rows_at_most}
-use Rattle.grc_words.specs.WordLaws.{WordsFit, AreWordsOf, early_bounds, late_bounds, value_of, selected_source, first_end, ends_upto, any_from}
+use Rattle.grc_words.specs.WordLaws.{WordsFit, AreWordsOf, early_bounds, late_bounds, value_of, first_end}
 use Rattle.grc_words.proofs.EndWords.{upto-by-ends}
 use Rattle.grc_words.proofs.Holding.{holds_at-row, behind-last, holds-none}
 use Rattle.grc_words.proofs.Saying.{says-more, fits-grown, extends-trans}
@@ -79,14 +77,14 @@ selecting-none (m ∷ ms) (b ∷ bits) n h =
 holds-in : (g : Graph) (t : Occasion g) (m : ℕ) → IsKernel (program_of g.program).body → m < statement_count (program_of g.program).body
     → holds (selection g t) (row_at (program_rows (program_of g.program)) m).statement m ≡ state_holds_at (state_in g t) (plain_graph g).body m
 holds-in g t m kernel low = elim (cases_Bool t.boot) [
-    inl first ↦
+  | inl first ↦
       holds-none (selection g t) (row_at (program_rows (program_of g.program)) m).statement m
       (λ n. selecting-none (body_leaves (program_of g.program).body) t.bits n (t.unselected first))
       ∙ sym (ap (λ b. state_holds_at (state_of_bit b) (program_of g.program).body m) first)
   | inr later ↦
       sym (holds_at-row (program_of g.program) (selection g t) m kernel low)
       ∙ sym (ap (λ b. state_holds_at (state_of_bit b) (program_of g.program).body m) later)
-  ]
+]
   where
     state_of_bit : Bool → State
     state_of_bit b = if b then Initial else Selecting (selecting (body_leaves (program_of g.program).body) t.bits)
@@ -102,11 +100,11 @@ holds-clamped g t n m e = by (state_in g t)
         let count = statement_count (program_of g.program).body in
         let some = statement_count-pos (program_of g.program).body in
         elim (cases_lt n count) [
-            inl less ↦ let same : m ≡ n = omega arith in ap (holds_at S (program_of g.program).body 0) same
+          | inl less ↦ let same : m ≡ n = omega arith in ap (holds_at S (program_of g.program).body 0) same
           | inr more ↦
               let last : m ≡ count - 1 = omega arith in
               ap (holds_at S (program_of g.program).body 0) last ∙ sym (behind-last S (program_of g.program).body n more)
-          ]
+        ]
 
 -- ---- the whole table
 
@@ -128,12 +126,12 @@ whole-extends g w m = extends-trans (late_bounds g 0) m.early_rows m.late_rows w
 
 selected-says : (g : Graph) (w : Words) (m : Made g w) (n : ℕ) (d : Source) → n < length w.selected.items
     → Says g (late_bounds g 0) w.rows.items (slice_index_or w.selected.items n d)
-      (λ t. holds (selection g t) (row_at (program_rows (program_of g.program)) n).statement n)
+    (λ t. holds (selection g t) (row_at (program_rows (program_of g.program)) n).statement n)
 selected-says g w m n d low =
     let s = slice_index_or w.selected.items n d in
     let h = m.selected.made n d (omega arith) low in
     let here : Says g (late_bounds g 0) m.early_rows s (λ t. holds (selection g t) (row_at (program_rows (program_of g.program)) n).statement n) =
-        record { fits = source-late g (length m.early_rows) s h.fits; value = h.value } in
+    record { fits = source-late g (length m.early_rows) s h.fits; value = h.value } in
     says-more g (late_bounds g 0) m.early_rows w.rows.items s _ (whole-extends g w m) here
 
 fit-of : (g : Graph) (w : Words) (m : Made g w) → WordsFit g w
@@ -169,11 +167,11 @@ outputs-of g w m t off =
     let right = length-map-range_with_len f p.inputs count in
     ext_get_or false (map (value_of g w t) w.outputs.items) (map f (range_with_len p.inputs count)) (omega (arith, m.outputs.each))
     (λ k low.
-      let d = sources.Const false in
-      let within : k < count = omega (arith, m.outputs.each) in
-      get_or-map (value_of g w t) w.outputs.items k d false (omega (arith, m.outputs.each))
-      ∙ (m.outputs.says k d w.rows.items within).value t off
-      ∙ sym (get_or-map-range_with_len f p.inputs count k (p.inputs + k) false within refl))
+    let d = sources.Const false in
+    let within : k < count = omega (arith, m.outputs.each) in
+    get_or-map (value_of g w t) w.outputs.items k d false (omega (arith, m.outputs.each))
+    ∙ (m.outputs.says k d w.rows.items within).value t off
+    ∙ sym (get_or-map-range_with_len f p.inputs count k (p.inputs + k) false within refl))
 
 pub words-are : (g : Graph) (w : Words) → Made g w → AreWordsOf g w
 words-are g w m =

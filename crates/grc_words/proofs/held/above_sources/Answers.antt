@@ -1,24 +1,21 @@
-use Rattle.std.proofs.Common.{◌≡◌, ℕ, ◌+◌, ◌<◌, ◌≤◌, List, Option, Some, None, length, map, slice_index_or, refl, sym, ap, ◌∙◌, subst, arith}
+use Rattle.std.proofs.Common.{◌≡◌, ℕ, ◌<◌, List, Option, Some, None, length, slice_index_or, sym, ap, ◌∙◌, subst, arith}
 use Rattle.std.specs.Prelude.{Contains}
-use Rattle.std.proofs.lemmas.List.{length-map, get_or_default}
+use Rattle.std.proofs.lemmas.List.{get_or_default}
 use Rattle.est_kernel.specs.Plain.{program_of, term_of}
-use Rattle.est_kernel.specs.Preorder.{statement_count}
 use Rattle.est_kernel.proofs.ResidualLaws.{trees_are_kernels_lem}
 use Rattle.grc_graph.specs.declared.graph.Graph.{Graph}
-use Rattle.grc_graph.specs.declared.instances.Instance as declared
 use Rattle.grc_graph.specs.declared.neighbours.Neighbours.{Neighbours}
 use Rattle.grc_graph.specs.declared.statements.Statement.{Statement}
-use Rattle.grc_graph.specs.Instances.{Instance, body_instances}
-use Rattle.grc_graph.specs.Layers.{Layer, layer_above}
+use Rattle.grc_graph.specs.Instances.{Instance}
+use Rattle.grc_graph.specs.Layers.{layer_above}
 use Rattle.grc_graph.specs.Neighbouring.{instances_in}
-use Rattle.grc_graph.specs.PlainGraphs.{instances_of, instance_at}
 use Rattle.grc_graph.specs.PlainInstances.{instance_of, layer_of}
 use Rattle.grc_graph.specs.Statements.{Listed}
-use Rattle.grc_graph.specs.StatementViews.{view_of, entry_view}
+use Rattle.grc_graph.specs.StatementViews.{entry_view}
 use Rattle.grc_graph.proofs.RowReads.{length-statements}
 use Rattle.grc_words.specs.Building.{with_both, both_source}
 use Rattle.grc_words.specs.Enclosures.{around}
-use Rattle.grc_words.specs.Holdings.{AreListed, IsLive, LastsSaid, StatementRead}
+use Rattle.grc_words.specs.Holdings.{AreListed, IsLive, LastsSaid}
 use Rattle.grc_words.specs.Sizes.{statement_row}
 use Rattle.grc_words.proofs.Beside.{LiveAround, row-around}
 use Rattle.grc_words.proofs.HoldingSteps.{above-none, above-some}
@@ -56,22 +53,22 @@ unreachable-requires c =
     let g = c.args.graph.now in
     let x = instance_of c.args.instance in
     let side = beside g c.args.near.now c.args.statements.now (length c.args.made.now.kept.items) c.in-Some.n x c.index-statements-path.result c.requires.listed
-        c.requires.live c.index-statements-path.is (ap (λ (z : Statement). around (entry_view z.control)) c.index-statements-path.is ∙ sym c.around.ensures ∙ c.in-Some.is) in
+    c.requires.live c.index-statements-path.is (ap (λ (z : Statement). around (entry_view z.control)) c.index-statements-path.is ∙ sym c.around.ensures ∙ c.in-Some.is) in
     c.in-None-find_above.ensures (subst (λ xs. Contains xs (record { path = c.in-Some.n; layer = layer_above c.in-Some.n x.layer }))
-      (sym (c.requires.listed.instances ∙ c.requires.listed.body)) side.live)
+    (sym (c.requires.listed.instances ∙ c.requires.listed.body)) side.live)
 
 pub bounds-statements-n : goal.bounds-statements-n
 bounds-statements-n c =
     let g = c.args.graph.now in
     let side = beside g c.args.near.now c.args.statements.now (length c.args.made.now.kept.items) c.in-Some.n (instance_of c.args.instance) c.index-statements-path.result
-        c.requires.listed c.requires.live c.index-statements-path.is (ap (λ (z : Statement). around (entry_view z.control)) c.index-statements-path.is ∙ sym c.around.ensures ∙ c.in-Some.is) in
+    c.requires.listed c.requires.live c.index-statements-path.is (ap (λ (z : Statement). around (entry_view z.control)) c.index-statements-path.is ∙ sym c.around.ensures ∙ c.in-Some.is) in
     omega (arith, side.within, length-statements (program_of g.program) c.args.statements.now c.requires.listed.statements)
 
 pub bounds-statements-n-in-Some-find_above : goal.bounds-statements-n-in-Some-find_above
 bounds-statements-n-in-Some-find_above c =
     let g = c.args.graph.now in
     let side = beside g c.args.near.now c.args.statements.now (length c.args.made.now.kept.items) c.in-Some.n (instance_of c.args.instance) c.index-statements-path.result
-        c.requires.listed c.requires.live c.index-statements-path.is (ap (λ (z : Statement). around (entry_view z.control)) c.index-statements-path.is ∙ sym c.around.ensures ∙ c.in-Some.is) in
+    c.requires.listed c.requires.live c.index-statements-path.is (ap (λ (z : Statement). around (entry_view z.control)) c.index-statements-path.is ∙ sym c.around.ensures ∙ c.in-Some.is) in
     omega (arith, side.within, length-statements (program_of g.program) c.args.statements.now c.requires.listed.statements)
 
 pub index-requires : goal.index-requires
@@ -82,12 +79,12 @@ index-requires c =
     let i = length c.args.made.now.kept.items in
     let x = instance_of c.args.instance in
     let side = beside g near list i c.in-Some.n x c.index-statements-path.result c.requires.listed c.requires.live c.index-statements-path.is
-        (ap (λ (z : Statement). around (entry_view z.control)) c.index-statements-path.is ∙ sym c.around.ensures ∙ c.in-Some.is) in
+    (ap (λ (z : Statement). around (entry_view z.control)) c.index-statements-path.is ∙ sym c.around.ensures ∙ c.in-Some.is) in
     let y : Instance = record { path = c.in-Some.n; layer = layer_above c.in-Some.n x.layer } in
     let found : IsNumberOf (instances_in near) c.in-Some-find_above.i.0 y = c.in-Some-find_above.ensures in
     let low = found-below g near list c.in-Some-find_above.i.0 y c.requires.listed found in
     let before = instance-before g near list i c.in-Some-find_above.i.0 x y c.requires.listed c.requires.live low
-        (found-at g near list c.in-Some-find_above.i.0 y c.requires.listed found) side.before in
+    (found-at g near list c.in-Some-find_above.i.0 y c.requires.listed found) side.before in
     omega (arith, before, c.args.made.now.kept.ok.0)
 
 pub index-requires-in-Some : goal.index-requires-in-Some
@@ -98,12 +95,12 @@ index-requires-in-Some c =
     let i = length c.args.made.now.kept.items in
     let x = instance_of c.args.instance in
     let side = beside g near list i c.in-Some.n x c.index-statements-path.result c.requires.listed c.requires.live c.index-statements-path.is
-        (ap (λ (z : Statement). around (entry_view z.control)) c.index-statements-path.is ∙ sym c.around.ensures ∙ c.in-Some.is) in
+    (ap (λ (z : Statement). around (entry_view z.control)) c.index-statements-path.is ∙ sym c.around.ensures ∙ c.in-Some.is) in
     let y : Instance = record { path = c.in-Some.n; layer = layer_above c.in-Some.n x.layer } in
     let found : IsNumberOf (instances_in near) c.in-Some-find_above.i.0 y = c.in-Some-find_above.ensures in
     let low = found-below g near list c.in-Some-find_above.i.0 y c.requires.listed found in
     let before = instance-before g near list i c.in-Some-find_above.i.0 x y c.requires.listed c.requires.live low
-        (found-at g near list c.in-Some-find_above.i.0 y c.requires.listed found) side.before in
+    (found-at g near list c.in-Some-find_above.i.0 y c.requires.listed found) side.before in
     omega (arith, before, c.args.made.now.held.ok.0, c.requires.made.held_all)
 
 pub returns-in-None : goal.returns-in-None
@@ -113,7 +110,7 @@ returns-in-None c =
     let i = length c.args.made.now.kept.items in
     let at = live-number g c.args.near.now c.args.statements.now i x c.requires.listed c.requires.live in
     let entry = entry-is g c.args.near.now c.args.statements.now i x c.index-statements-path.result None c.requires.listed c.requires.live
-        c.index-statements-path.is (ap (λ (z : Statement). around (entry_view z.control)) c.index-statements-path.is ∙ sym c.around.ensures ∙ c.in-None.is) in
+    c.index-statements-path.is (ap (λ (z : Statement). around (entry_view z.control)) c.index-statements-path.is ∙ sym c.around.ensures ∙ c.in-None.is) in
     above-none g x c.args.rows.now.items c.requires.made.extends.fit (trees_are_kernels_lem g.program.body) at.within entry
 
 pub returns-in_ok-kept-in-Some : goal.returns-in_ok-kept-in-Some
@@ -136,11 +133,11 @@ returns-in_ok-kept-in-Some c =
     let before = instance-before g near list i j x y c.requires.listed c.requires.live low here side.before in
     let row = statement-read g near list n c.index-statements-n.result c.requires.listed side.within c.index-statements-n.is in
     let body : term_of (slice_index_or list n c.index-statements-n.result).body.now ≡ (statement_row g n).statement =
-        ap (λ (z : Statement). term_of z.body.now) (sym c.index-statements-n.is) ∙ ap (λ (z : Listed). z.statement) row.same in
+    ap (λ (z : Statement). term_of z.body.now) (sym c.index-statements-n.is) ∙ ap (λ (z : Listed). z.statement) row.same in
     let told_lasts = c.lasts_source-lasts.ensures in
     let said : LastsSaid near (statement_row g n).statement n (layer_above n x.layer) c.lasts_source-lasts.result =
-        subst (λ l. LastsSaid near (statement_row g n).statement n l c.lasts_source-lasts.result) c.layer_above-layer.ensures
-        (subst (λ s. LastsSaid near s n (layer_of c.layer_above-layer.result) c.lasts_source-lasts.result) body told_lasts) in
+    subst (λ l. LastsSaid near (statement_row g n).statement n l c.lasts_source-lasts.result) c.layer_above-layer.ensures
+    (subst (λ s. LastsSaid near s n (layer_of c.layer_above-layer.result) c.lasts_source-lasts.result) body told_lasts) in
     let rows = c.args.rows.now.items in
     let kept = c.args.made.now.kept.items in
     let held = c.args.made.now.held.items in

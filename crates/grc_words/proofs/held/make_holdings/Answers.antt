@@ -1,7 +1,6 @@
-use Rattle.std.proofs.Common.{◌≡◌, ℕ, ◌+◌, ◌<◌, List, [], ◌∷◌, ◌++◌, length, map, slice_index_or, refl, sym, ap, ◌∙◌, subst, arith}
+use Rattle.std.proofs.Common.{◌≡◌, ℕ, ◌+◌, ◌<◌, List, [], ◌∷◌, ◌++◌, length, slice_index_or, sym, ap, ◌∙◌, subst, arith}
 use Rattle.std.proofs.lemmas.List.{get_or-map, length-map}
-use Rattle.est_kernel.specs.Plain.{program_of, term_of}
-use Rattle.est_kernel.specs.Preorder.{statement_count}
+use Rattle.est_kernel.specs.Plain.{program_of}
 use Rattle.est_kernel.proofs.ResidualLaws.{trees_are_kernels_lem}
 use Rattle.grc_graph.specs.declared.graph.Graph.{Graph}
 use Rattle.grc_graph.specs.declared.instances.Instance as declared
@@ -12,7 +11,7 @@ use Rattle.grc_graph.specs.PlainGraphs.{instances_of, instance_at}
 use Rattle.grc_graph.specs.PlainInstances.{instance_of}
 use Rattle.grc_graph.proofs.RowReads.{length-statements}
 use Rattle.grc_graph.proofs.WireNames.{LiveAt}
-use Rattle.grc_words.specs.Holdings.{AreListed, IsLive, HoldingsMade}
+use Rattle.grc_words.specs.Holdings.{AreListed, HoldingsMade}
 use Rattle.grc_words.proofs.Beside.{own-layer}
 use Rattle.grc_words.proofs.HoldingSteps.{holdings-begun, holdings-now, holdings-step}
 use Rattle.grc_words.proofs.Listing.{live-number, statement-read}
@@ -70,10 +69,10 @@ loop-i-preserved c =
     let kept = c.loop-i.made.kept.items in
     let held = c.loop-i.made.held.items in
     let step = holdings-step g (instance_of x) old c.loop-i.rows.items c.above_sources.new.rows.items c.own_source.new.rows.items c.both.new.rows.items
-        c.either.new.rows.items kept held i c.in_ok-above.above.kept c.in_ok-above.above.held c.in_ok-own.own c.in_ok-kept_own.kept_own c.in_ok-held.held
-        kernel live.within (own-layer (program_of g.program) (instance_of x).path (instance_of x).layer live)
-        (omega (arith, low, length-map g.instances.list.items instance_of)) (reads g i x low c.index-instance.ensures)
-        c.loop-i.invariant c.in_ok-above.ensures c.in_ok-own.ensures c.in_ok-kept_own.ensures.rows c.in_ok-kept_own.ensures.source
-        c.in_ok-held.ensures.rows c.in_ok-held.ensures.source in
+    c.either.new.rows.items kept held i c.in_ok-above.above.kept c.in_ok-above.above.held c.in_ok-own.own c.in_ok-kept_own.kept_own c.in_ok-held.held
+    kernel live.within (own-layer (program_of g.program) (instance_of x).path (instance_of x).layer live)
+    (omega (arith, low, length-map g.instances.list.items instance_of)) (reads g i x low c.index-instance.ensures)
+    c.loop-i.invariant c.in_ok-above.ensures c.in_ok-own.ensures c.in_ok-kept_own.ensures.rows c.in_ok-kept_own.ensures.source
+    c.in_ok-held.ensures.rows c.in_ok-held.ensures.source in
     subst (λ ks. HoldingsMade g old c.either.new.rows.items ks c.push-in-loop-i.new.self.items (i + 1)) (sym c.in_ok-push.ensures.items)
     (subst (λ hs. HoldingsMade g old c.either.new.rows.items (kept ++ c.in_ok-above.above.kept ∷ []) hs (i + 1)) (sym c.in_ok-push-2.ensures.items) step)

@@ -1,9 +1,7 @@
 use Rattle.std.proofs.Common.{◌≡◌, false, ℕ, List, ◌+◌, ◌-◌, ◌<◌, length, map, slice_index_or, slice_set, refl, sym, ap, ◌∙◌, subst, arith}
 use Rattle.est_kernel.specs.Plain.{program_of}
-use Rattle.est_kernel.specs.Preorder.{statement_count}
 use Rattle.grc_graph.specs.declared.graph.Graph.{Graph}
 use Rattle.grc_graph.specs.declared.statements.Statement.{Statement}
-use Rattle.grc_graph.specs.Rows.{row_at, program_rows}
 use Rattle.grc_graph.specs.Statements.{program_listed}
 use Rattle.grc_graph.specs.StatementViews.{view_of}
 use Rattle.grc_graph.proofs.RowReads.{statement_read, length-statements}
@@ -39,7 +37,7 @@ slice_copy_out-source c =
     let g = c.args.graph.now in
     let j = c.loop-place.place - 1 in
     let row = read-row g c.args.statements.now j c.index-statements-place.result kinds.One c.requires.statements (omega arith) c.index-statements-place.is
-        c.in-One.ensures in
+    c.in-One.ensures in
     omega (arith, one-within g j row, c.loop-place.invariant.many)
 
 pub slice_copy_out-first : goal.slice_copy_out-first
@@ -47,7 +45,7 @@ slice_copy_out-first c =
     let g = c.args.graph.now in
     let j = c.loop-place.place - 1 in
     let row = read-row g c.args.statements.now j c.index-statements-place.result (kinds.Two c.in-Two.second) c.requires.statements (omega arith)
-        c.index-statements-place.is c.in-Two.ensures in
+    c.index-statements-place.is c.in-Two.ensures in
     omega (arith, two-within g j c.in-Two.second row, c.loop-place.invariant.many)
 
 pub slice_copy_out-other : goal.slice_copy_out-other
@@ -55,7 +53,7 @@ slice_copy_out-other c =
     let g = c.args.graph.now in
     let j = c.loop-place.place - 1 in
     let row = read-row g c.args.statements.now j c.index-statements-place.result (kinds.Two c.in-Two.second) c.requires.statements (omega arith)
-        c.index-statements-place.is c.in-Two.ensures in
+    c.index-statements-place.is c.in-Two.ensures in
     omega (arith, two-within g j c.in-Two.second row, c.loop-place.invariant.many)
 
 pub loop-place-preserved : goal.loop-place-preserved
@@ -70,19 +68,19 @@ loop-place-preserved c =
     let row = λ (kind : Parts). read-row g c.args.statements.now j c.index-statements-place.result kind c.requires.statements low c.index-statements-place.is in
     let source = c.match-parts_of.source in
     elim c.match-parts_of.branch [
-      in-Itself w ↦
-        subst (λ (v : Vec tables.Row Global). SelectedMade g (slice_set sources j source) v.items j) (sym w.rows-is)
-        (select-itself g rows sources c.loop-place.place j source _ m at (row kinds.Itself w.in-Itself.ensures) w.source-is)
-    | in-None w ↦
-        subst (λ (v : Vec tables.Row Global). SelectedMade g (slice_set sources j source) v.items j) (sym w.rows-is)
-        (subst (λ x. SelectedMade g (slice_set sources j x) rows j) (sym w.source-is)
-        (select-none g rows sources c.loop-place.place j m at (row kinds.None w.in-None.ensures)))
-    | in-One w ↦
-        subst (λ (v : Vec tables.Row Global). SelectedMade g (slice_set sources j source) v.items j) (sym w.rows-is)
-        (select-one g rows sources c.loop-place.place j source _ m at (row kinds.One w.in-One.ensures) w.source-is)
-    | in-Two+in_ok-source-in-Two w ↦
-        subst (λ (v : Vec tables.Row Global). SelectedMade g (slice_set sources j source) v.items j) (sym w.rows-is)
-        (select-two g rows w.either.new.rows.items sources c.loop-place.place j w.in-Two.second source (slice_index_or sources (j + 1) (Const false))
-        (slice_index_or sources w.in-Two.second (Const false)) (Const false) m at (row (kinds.Two w.in-Two.second) w.in-Two.ensures) refl refl
-        w.in_ok-source-in-Two.ensures.rows (w.source-is ∙ w.in_ok-source-in-Two.ensures.source))
+      | in-Itself w ↦
+          subst (λ (v : Vec tables.Row Global). SelectedMade g (slice_set sources j source) v.items j) (sym w.rows-is)
+          (select-itself g rows sources c.loop-place.place j source _ m at (row kinds.Itself w.in-Itself.ensures) w.source-is)
+      | in-None w ↦
+          subst (λ (v : Vec tables.Row Global). SelectedMade g (slice_set sources j source) v.items j) (sym w.rows-is)
+          (subst (λ x. SelectedMade g (slice_set sources j x) rows j) (sym w.source-is)
+          (select-none g rows sources c.loop-place.place j m at (row kinds.None w.in-None.ensures)))
+      | in-One w ↦
+          subst (λ (v : Vec tables.Row Global). SelectedMade g (slice_set sources j source) v.items j) (sym w.rows-is)
+          (select-one g rows sources c.loop-place.place j source _ m at (row kinds.One w.in-One.ensures) w.source-is)
+      | in-Two+in_ok-source-in-Two w ↦
+          subst (λ (v : Vec tables.Row Global). SelectedMade g (slice_set sources j source) v.items j) (sym w.rows-is)
+          (select-two g rows w.either.new.rows.items sources c.loop-place.place j w.in-Two.second source (slice_index_or sources (j + 1) (Const false))
+          (slice_index_or sources w.in-Two.second (Const false)) (Const false) m at (row (kinds.Two w.in-Two.second) w.in-Two.ensures) refl refl
+          w.in_ok-source-in-Two.ensures.rows (w.source-is ∙ w.in_ok-source-in-Two.ensures.source))
     ]

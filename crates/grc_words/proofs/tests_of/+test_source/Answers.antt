@@ -1,4 +1,4 @@
-use Rattle.std.proofs.Common.{◌≡◌, sym, ap, ◌∙◌}
+use Rattle.std.proofs.Common.{sym, ap, ◌∙◌}
 use Rattle.est_kernel.specs.declared.signal_tests.Test.{Test}
 use Rattle.est_kernel.specs.Plain.{expression_of}
 use Rattle.est_kernel.specs.Terms.{Not, And, Or}
@@ -21,7 +21,7 @@ pub returns-in_ok-source-in-And : goal.returns-in_ok-source-in-And
 returns-in_ok-source-in-And t c =
     let a = c.deref-in-And.result.now in
     let parts = ap expression_of c.in-And.is ∙ ap (λ (x : Test). And (expression_of x) (expression_of c.in-And.right.value)) (sym c.deref-in-And.ensures)
-        ∙ ap (λ (y : Test). And (expression_of a) (expression_of y)) (sym c.deref-in-And-2.ensures) in
+    ∙ ap (λ (y : Test). And (expression_of a) (expression_of y)) (sym c.deref-in-And-2.ensures) in
     test-and c.args.graph.now c.args.signals.now (expression_of c.args.test.now) (expression_of a) (expression_of c.deref-in-And-2.result.now) c.args.place
     c.args.rows.now.items c.test_source-in-And.new.rows.items c.test_source-in-And-2.new.rows.items c.both.new.rows.items c.in_ok-first-in-And.first
     c.in_ok-second-in-And.second c.in_ok-source-in-And.source parts c.in_ok-first-in-And.ensures c.in_ok-second-in-And.ensures
@@ -31,7 +31,7 @@ pub returns-in_ok-source-in-Or : goal.returns-in_ok-source-in-Or
 returns-in_ok-source-in-Or t c =
     let a = c.deref-in-Or.result.now in
     let parts = ap expression_of c.in-Or.is ∙ ap (λ (x : Test). Or (expression_of x) (expression_of c.in-Or.right.value)) (sym c.deref-in-Or.ensures)
-        ∙ ap (λ (y : Test). Or (expression_of a) (expression_of y)) (sym c.deref-in-Or-2.ensures) in
+    ∙ ap (λ (y : Test). Or (expression_of a) (expression_of y)) (sym c.deref-in-Or-2.ensures) in
     test-or c.args.graph.now c.args.signals.now (expression_of c.args.test.now) (expression_of a) (expression_of c.deref-in-Or-2.result.now) c.args.place
     c.args.rows.now.items c.test_source-in-Or.new.rows.items c.test_source-in-Or-2.new.rows.items c.either.new.rows.items c.in_ok-first-in-Or.first
     c.in_ok-second-in-Or.second c.in_ok-source-in-Or.source parts c.in_ok-first-in-Or.ensures c.in_ok-second-in-Or.ensures
