@@ -1,17 +1,16 @@
 -- The instance around an instance: it is live, and stands before it.
-use Rattle.std.proofs.Common.{◌≡◌, ℕ, ◌+◌, ◌-◌, ◌<◌, ◌≤◌, Bool, true, false, ◌&&◌, ◌||◌, ◌==◌, nat_lt, List, [], ◌∷◌, length, map, slice_index_or, refl, sym, ap, ◌∙◌, subst, arith, Option, Some, None, inl, inr}
+use Rattle.std.proofs.Common.{◌≡◌, ℕ, ◌+◌, ◌<◌, sym, subst, arith, Some}
 use Rattle.std.specs.Prelude.{Contains}
-use Rattle.std.proofs.lemmas.Bool.{cases_lt, ne_eqb, le-ltb, false≢true}
-use Rattle.est_kernel.specs.Plain.{Program, program_of}
+use Rattle.est_kernel.specs.Plain.{Program}
 use Rattle.est_kernel.specs.Preorder.{statement_count}
-use Rattle.grc_graph.specs.Instances.{Instance, body_instances}
-use Rattle.grc_graph.specs.Layers.{Layer, layer_above, layers_of, part_liveness}
-use Rattle.grc_graph.specs.Rows.{Row, row_at, program_rows}
+use Rattle.grc_graph.specs.Instances.{body_instances}
+use Rattle.grc_graph.specs.Layers.{Layer, layer_above}
+use Rattle.grc_graph.specs.Rows.{row_at, program_rows}
 use Rattle.grc_graph.specs.Statements.{Entry, Body, Part, Branch, Then, Else, Suspended, Second, Looped}
-use Rattle.grc_graph.proofs.LiveInstances.{RootsFit, Upwards, part_up, second_up, loop_up, above_itself}
-use Rattle.grc_graph.proofs.RowFacts.{PartOf, Entered, Placed, program_placed}
+use Rattle.grc_graph.proofs.LiveInstances.{Upwards, part_up, second_up, loop_up, above_itself}
+use Rattle.grc_graph.proofs.RowFacts.{PartOf, Entered, program_placed}
 use Rattle.grc_graph.proofs.RowReads.{length-program_rows}
-use Rattle.grc_graph.proofs.WireNames.{LiveAt, live_instance, instance_live, in_layers, live_of}
+use Rattle.grc_graph.proofs.WireNames.{LiveAt, instance_live, in_layers, live_of}
 use Rattle.grc_words.specs.Enclosures.{around}
 
 -- the instance of the statement around, as seen from a live instance

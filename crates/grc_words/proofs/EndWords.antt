@@ -24,8 +24,8 @@ use Rattle.grc_graph.proofs.WireNames.{below_only}
 use Rattle.grc_words.specs.EndLists.{is_no_end_of}
 use Rattle.grc_words.specs.Occasions.{FalseOffWires}
 use Rattle.grc_words.specs.WordLaws.{any_from, is_end_upto}
-use Rattle.grc_words.proofs.EndCodes.{CodesFrom, Between, codes-from, codes-below, listed-is, front-passes, front-stops, any-below, any-taken, upto-far}
-use Rattle.grc_words.proofs.EndPlaces.{EndsAt, NoEndsOf, codes_at, end-among, ends-at}
+use Rattle.grc_words.proofs.EndCodes.{Between, codes-from, codes-below, listed-is, front-passes, front-stops, any-below, any-taken, upto-far}
+use Rattle.grc_words.proofs.EndPlaces.{EndsAt, codes_at, end-among, ends-at}
 use Rattle.grc_words.proofs.TestSteps.{wire-is}
 
 some-such : (u : names.Wire) (ws : List names.Wire) → list_any (same_wire u) ws ≡ true → Contains ws u

@@ -1,12 +1,12 @@
 -- One more instance whose sources say that it is kept and that it is held.
-use Rattle.std.proofs.Common.{◌≡◌, ℕ, ◌+◌, ◌-◌, ◌<◌, ◌≤◌, Bool, true, false, ◌&&◌, ◌||◌, List, [], ◌∷◌, ◌++◌, length, map, take, drop, slice_index_or, refl, sym, ap, ◌∙◌, subst, arith, Option, Some, None, IsTrue, inl, inr}
+use Rattle.std.proofs.Common.{◌≡◌, ℕ, ◌+◌, ◌<◌, ◌≤◌, Bool, true, false, ◌&&◌, ◌||◌, List, [], ◌∷◌, ◌++◌, length, map, take, drop, slice_index_or, refl, sym, ap, ◌∙◌, subst, arith, Option, Some, None, inl, inr}
 use Rattle.std.specs.List.{sum_by}
 use Rattle.std.proofs.lemmas.List.Sums.{sum_by-append}
-use Rattle.std.specs.Prelude.{MatchOption, Contains}
-use Rattle.std.proofs.lemmas.Bool.{cases_lt, lt-ltb}
+use Rattle.std.specs.Prelude.{MatchOption}
+use Rattle.std.proofs.lemmas.Bool.{cases_lt}
 use Rattle.std.proofs.lemmas.List.{get_or_append_left, get_or_push, length_push, length-map, take_all, take_more}
 use Rattle.est_base.specs.declared.indices.WireId.{WireId}
-use Rattle.est_kernel.specs.Plain.{Program, program_of, interface_count}
+use Rattle.est_kernel.specs.Plain.{program_of}
 use Rattle.est_kernel.specs.Preorder.{statement_count}
 use Rattle.est_kernel.specs.Reactions.{is_given}
 use Rattle.est_kernel.specs.Terms.{Expression, Term, Nothing, Pause, Emit, Exit, Present, Suspend, Seq, Loop, Par, Trap, Local, Awake}
@@ -14,29 +14,27 @@ use Rattle.est_kernel.specs.WellFormed.{IsKernel}
 use Rattle.grc_graph.specs.declared.graph.Graph.{Graph}
 use Rattle.grc_graph.specs.declared.neighbours.Neighbours.{Neighbours}
 use Rattle.grc_graph.specs.declared.statements.Binding as bindings
-use Rattle.grc_graph.specs.declared.statements.Statement.{Statement}
 use Rattle.grc_graph.specs.Instances.{Instance}
-use Rattle.grc_graph.specs.Layers.{Layer, Resumed, Started, layer_above, same_layer}
+use Rattle.grc_graph.specs.Layers.{Layer, Resumed, layer_above, same_layer}
 use Rattle.grc_graph.specs.Neighbouring.{names_in}
 use Rattle.grc_graph.specs.PlainGraphs.{names_of, instances_of, instance_at}
 use Rattle.grc_graph.specs.Readings.{Valuation, seen_values}
-use Rattle.grc_graph.specs.Rows as listed_rows
 use Rattle.grc_graph.specs.Scopes.{Scope}
 use Rattle.grc_graph.specs.Statements.{signals_in, signals_of}
 use Rattle.grc_graph.specs.StatementViews.{binding_of}
 use Rattle.grc_graph.specs.Walk.{Values, truth}
-use Rattle.grc_graph.specs.WireTables.{HasName, IsNumberOf}
+use Rattle.grc_graph.specs.WireTables.{IsNumberOf}
 use Rattle.grc_graph.specs.Wires.{Wire, Go, End}
 use Rattle.grc_words.specs.declared.table.Source.{Source}
 use Rattle.grc_words.specs.declared.table.Source.TheVariants as sources
 use Rattle.grc_words.specs.declared.table.Row as tables
 use Rattle.grc_words.specs.declared.tests_of.Tested.{Tested}
 use Rattle.grc_words.specs.Building.{Says, Extends, RowsFit, with_both, both_source, with_either, either_source}
-use Rattle.grc_words.specs.Enclosures.{Readings, around, kept_of, held_of, lasts, suspends, IsWithin, IsOutermost, FollowsAround}
-use Rattle.grc_words.specs.Holdings.{readings, StatementRead, HoldingsMade, AboveMade, OwnMade, LastsSaid, held_around, OwnFew}
+use Rattle.grc_words.specs.Enclosures.{around, kept_of, held_of, lasts, suspends, IsWithin, IsOutermost}
+use Rattle.grc_words.specs.Holdings.{readings, HoldingsMade, AboveMade, OwnMade, LastsSaid, held_around, OwnFew}
 use Rattle.grc_words.specs.Sizes.{statement_row, test_of, rows_by, instance_rows}
-use Rattle.grc_words.specs.Occasions.{Occasion, FalseOffWires}
-use Rattle.grc_words.specs.Testing.{TestMade, wire_source}
+use Rattle.grc_words.specs.Occasions.{Occasion}
+use Rattle.grc_words.specs.Testing.{TestMade}
 use Rattle.grc_words.specs.WordLaws.{late_bounds}
 use Rattle.grc_words.proofs.Enclosed.{program_follows}
 use Rattle.grc_words.proofs.RowCounts.{both-few, either-few, both-none, either-none}

@@ -1,5 +1,5 @@
 -- For each statement the leaf that it is: from the last node of the tree to the first.
-use Rattle.std.proofs.Common.{◌≡◌, ℕ, ◌+◌, ◌-◌, ◌<◌, ◌≤◌, suc, Bool, true, false, cond, count_by, ◌==◌, List, [], ◌∷◌, ◌++◌, length, map, take, drop, replicate, slice_index_or, slice_set, refl, sym, ap, ◌∙◌, subst, arith, IsTrue, inl, inr, drop-cons, length-append, length-set, get_or-set_same, get_or-set_other}
+use Rattle.std.proofs.Common.{◌≡◌, ℕ, ◌+◌, ◌<◌, ◌≤◌, suc, Bool, false, cond, count_by, ◌==◌, List, [], ◌∷◌, ◌++◌, length, map, take, drop, replicate, slice_index_or, slice_set, refl, sym, ap, ◌∙◌, subst, arith, IsTrue, inl, inr, drop-cons, length-append, length-set, get_or-set_same, get_or-set_other}
 use Rattle.std.specs.Prelude.{if◌then◌else◌}
 use Rattle.std.proofs.lemmas.Bool.{cases_eq, eq-eqb, ne_eqb, eqb-true, lt-ltb}
 use Rattle.std.proofs.lemmas.List.{get_or-replicate, length-replicate, drop_all}
@@ -8,7 +8,7 @@ use Rattle.grc_graph.specs.declared.graph.Graph.{Graph}
 use Rattle.grc_graph.specs.declared.trees.SelForm.{SelForm}
 use Rattle.grc_graph.specs.declared.trees.SelForm.TheVariants as forms
 use Rattle.grc_graph.specs.declared.trees.SelNode.{SelNode}
-use Rattle.grc_graph.specs.SelectionTrees.{TreeNode, selecting, body_tree, body_leaves, resumes}
+use Rattle.grc_graph.specs.SelectionTrees.{selecting, body_tree, body_leaves, resumes}
 use Rattle.grc_graph.proofs.TreeSelections.{leaves_among}
 use Rattle.est_kernel.specs.Terms.{Term}
 use Rattle.est_kernel.specs.Plain.{program_of}

@@ -1,7 +1,7 @@
 -- What the lists of a program say of an instance, and of the one around it.
-use Rattle.std.proofs.Common.{◌≡◌, ℕ, ◌+◌, ◌<◌, ◌≤◌, Bool, true, false, ◌||◌, ◌&&◌, ◌==◌, nat_lt, List, length, map, slice_index_or, refl, sym, ap, ◌∙◌, subst, arith, inl, inr}
+use Rattle.std.proofs.Common.{◌≡◌, ℕ, ◌<◌, ◌≤◌, false, List, length, slice_index_or, refl, sym, ap, ◌∙◌, subst, arith, inl, inr}
 use Rattle.std.specs.Prelude.{Contains}
-use Rattle.std.proofs.lemmas.Bool.{cases_lt, ne_eqb, le-ltb, lt-ltb, false≢true}
+use Rattle.std.proofs.lemmas.Bool.{cases_lt, ne_eqb, le-ltb, false≢true}
 use Rattle.std.proofs.lemmas.List.{length-map, get_or_default}
 use Rattle.est_kernel.specs.Plain.{program_of}
 use Rattle.est_kernel.specs.Preorder.{statement_count}
@@ -10,14 +10,13 @@ use Rattle.grc_graph.specs.declared.instances.Instance as declared
 use Rattle.grc_graph.specs.declared.instances.Layer.TheVariants as layers
 use Rattle.grc_graph.specs.declared.neighbours.Neighbours.{Neighbours}
 use Rattle.grc_graph.specs.declared.statements.Statement.{Statement}
-use Rattle.grc_graph.specs.Instances.{Instance, body_instances}
-use Rattle.grc_graph.specs.Layers.{Layer, Resumed}
+use Rattle.grc_graph.specs.Instances.{Instance}
+use Rattle.grc_graph.specs.Layers.{Resumed}
 use Rattle.grc_graph.specs.PlainGraphs.{instances_of, instance_at}
 use Rattle.grc_graph.specs.PlainInstances.{instance_of}
-use Rattle.grc_graph.specs.Rows.{row_at, program_rows}
 use Rattle.grc_graph.specs.StatementViews.{view_of}
 use Rattle.grc_graph.specs.Neighbouring.{instances_in}
-use Rattle.grc_graph.specs.WireTables.{comes_before, layer_before, IsNumberOf}
+use Rattle.grc_graph.specs.WireTables.{comes_before, IsNumberOf}
 use Rattle.grc_graph.proofs.NeighbourReads.{body_ascending, name_at}
 use Rattle.grc_graph.proofs.RowReads.{statement_read}
 use Rattle.grc_graph.proofs.WireNames.{LiveAt, live_instance}

@@ -1,18 +1,17 @@
 -- One more statement whose source says that it holds a selected pause.
-use Rattle.std.proofs.Common.{◌≡◌, ℕ, ◌+◌, ◌-◌, ◌<◌, ◌≤◌, Bool, true, false, ◌||◌, List, [], ◌∷◌, ◌++◌, length, slice_index_or, slice_set, refl, sym, ap, ◌∙◌, subst, arith, IsTrue, inl, inr, length-set, get_or-set_same, get_or-set_other}
-use Rattle.std.proofs.lemmas.Bool.{cases_eq, cases_lt}
+use Rattle.std.proofs.Common.{◌≡◌, ℕ, ◌+◌, ◌<◌, ◌≤◌, Bool, false, ◌||◌, List, [], ◌∷◌, length, slice_index_or, slice_set, refl, sym, ap, ◌∙◌, subst, arith, inl, inr, length-set, get_or-set_same, get_or-set_other}
+use Rattle.std.proofs.lemmas.Bool.{cases_eq}
 use Rattle.est_kernel.specs.Plain.{program_of, Program}
 use Rattle.est_kernel.specs.Preorder.{statement_count}
 use Rattle.est_kernel.specs.Terms.{Term, Nothing, Pause, Emit, Exit, Present, Suspend, Seq, Loop, Par, Trap, Local, Awake}
-use Rattle.est_kernel.specs.WellFormed.{IsKernel}
 use Rattle.grc_graph.specs.declared.graph.Graph.{Graph}
 use Rattle.grc_graph.specs.Layers.{Liveness, part_liveness, second_liveness, loop_liveness}
 use Rattle.grc_graph.specs.Residuals.{holds}
-use Rattle.grc_graph.specs.Rows.{Row, row, rows, row_at, second_of, program_rows, listed_row}
+use Rattle.grc_graph.specs.Rows.{Row, row, rows, row_at, second_of, program_rows}
 use Rattle.grc_graph.specs.Scopes.{Scope, bind}
 use Rattle.grc_graph.specs.Statements.{Entry, Part, Branch, Then, Else, Suspended, Second, Looped}
 use Rattle.grc_graph.proofs.CodeReads.{StandsAt}
-use Rattle.grc_graph.proofs.RowFacts.{Placed, program_placed}
+use Rattle.grc_graph.proofs.RowFacts.{program_placed}
 use Rattle.grc_graph.proofs.RowSpots.{length-rows, stands_one, stands_first, stands_second, row_read}
 use Rattle.grc_words.specs.declared.selected.Parts.{Parts}
 use Rattle.grc_words.specs.declared.selected.Parts.TheVariants as kinds
@@ -20,13 +19,13 @@ use Rattle.grc_words.specs.declared.table.Source.{Source}
 use Rattle.grc_words.specs.declared.table.Source.TheVariants.{Const}
 use Rattle.grc_words.specs.declared.table.Row as tables
 use Rattle.grc_graph.proofs.RowReads.{length-program_rows}
-use Rattle.grc_words.specs.Building.{Says, RowsFit, Extends, with_either, either_source}
+use Rattle.grc_words.specs.Building.{Says, Extends, with_either, either_source}
 use Rattle.grc_words.specs.Choosing.{LeavesChosen, SelectedMade, selection}
 use Rattle.grc_words.specs.Occasions.{Occasion}
 use Rattle.grc_words.specs.PartKinds.{kind_of}
 use Rattle.grc_words.specs.WordLaws.{early_bounds}
 use Rattle.grc_words.proofs.RowCounts.{either-few}
-use Rattle.grc_words.proofs.Saying.{says-more, extends-refl, Makes, makes-either}
+use Rattle.grc_words.proofs.Saying.{says-more, extends-refl, makes-either}
 
 -- what a statement with this many parts holds
 abbrev pub HoldsBy : List Row → Term → (n m : ℕ) → Parts → Type 0

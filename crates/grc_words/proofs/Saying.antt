@@ -1,14 +1,14 @@
 -- What sources say while rows are added.
-use Rattle.std.proofs.Common.{◌≡◌, ℕ, ◌+◌, ◌<◌, ◌≤◌, Bool, true, false, not, ◌&&◌, ◌||◌, nat_lt, List, [], ◌∷◌, ◌++◌, length, slice_index_or, refl, sym, ap, ◌∙◌, subst, arith, IsTrue, if◌then◌else◌, ◌⊎◌, inl, inr}
+use Rattle.std.proofs.Common.{◌≡◌, ℕ, ◌≤◌, Bool, true, false, not, ◌&&◌, ◌||◌, List, [], ◌∷◌, ◌++◌, length, slice_index_or, refl, sym, ap, ◌∙◌, subst, arith, IsTrue, inl, inr}
 use Rattle.std.proofs.Common.{append_assoc, append-nil, length-append}
-use Rattle.std.proofs.lemmas.Bool.{cases_lt, cases_Bool, ltb-true, lt-ltb, and_parts, false≢true}
+use Rattle.std.proofs.lemmas.Bool.{cases_lt, cases_Bool, ltb-true, lt-ltb}
 use Rattle.std.proofs.lemmas.List.{get_or_append_left, get_or_push, length_push}
 use Rattle.grc_graph.specs.declared.graph.Graph.{Graph}
 use Rattle.grc_words.specs.declared.table.Source.{Source}
 use Rattle.grc_words.specs.declared.table.Source.TheVariants as sources
 use Rattle.grc_words.specs.declared.table.Row.{Row}
 use Rattle.grc_words.specs.declared.table.Row.TheVariants as rows
-use Rattle.grc_words.specs.Building.{is_constant, same_bool, new_source, with_both, both_source, with_either, either_source, rows_below, RowsFit, Says, Extends}
+use Rattle.grc_words.specs.Building.{is_constant, new_source, with_both, both_source, with_either, either_source, rows_below, RowsFit, Says, Extends}
 use Rattle.grc_words.specs.Occasions.{Occasion, FalseOffWires, surroundings}
 use Rattle.grc_words.specs.Rows.{Surroundings, Bounds, source_value, row_value, row_values, source_fits, row_fits}
 use Rattle.grc_words.proofs.RowValues.{length-row_values, row_values-append, value-stays, source_value-same}

@@ -1,7 +1,7 @@
 -- Tests as sources, from their parts; and wires as sources.
-use Rattle.std.proofs.Common.{◌≡◌, ℕ, ◌+◌, ◌-◌, ◌<◌, ◌≤◌, zero, suc, Bool, true, false, not, ◌&&◌, ◌||◌, ◌==◌, nat_lt, List, [], ◌∷◌, ◌++◌, length, map, take, drop, slice_index_or, refl, sym, ap, ◌∙◌, subst, arith, Option, Some, None, IsTrue, length-append, length-drop, inl, inr}
+use Rattle.std.proofs.Common.{◌≡◌, ℕ, ◌+◌, ◌<◌, ◌≤◌, zero, suc, true, false, ◌&&◌, ◌==◌, List, [], ◌∷◌, ◌++◌, length, map, take, drop, slice_index_or, refl, sym, ap, ◌∙◌, subst, arith, Option, Some, None, length-append, inl, inr}
 use Rattle.std.specs.List.{list_any}
-use Rattle.std.specs.Prelude.{MatchOption, Contains}
+use Rattle.std.specs.Prelude.{Contains}
 use Rattle.std.proofs.lemmas.Bool.{lt-ltb, eqb-true, and_parts, cases_Bool}
 use Rattle.std.proofs.Common.{drop-cons}
 use Rattle.std.proofs.lemmas.List.{length-map, length_push, take-take, take-map, map-append, take_at, drop_at, drop-drop, drop-take, drop-map}
@@ -13,20 +13,18 @@ use Rattle.grc_graph.specs.declared.neighbours.Neighbours.{Neighbours}
 use Rattle.grc_graph.specs.declared.statements.Binding as bindings
 use Rattle.grc_graph.specs.Layers.{Layer, Resumed, Started, same_layer}
 use Rattle.grc_graph.specs.Neighbouring.{names_in}
-use Rattle.grc_graph.specs.PlainGraphs.{names_of, wire_of, instances_of, wire_at}
-use Rattle.grc_graph.specs.Readings.{seen_value, seen_values}
+use Rattle.grc_graph.specs.PlainGraphs.{names_of, wire_of, instances_of}
+use Rattle.grc_graph.specs.Readings.{seen_value}
 use Rattle.grc_graph.specs.Scopes.{Scope, Binding}
 use Rattle.grc_graph.specs.Statements.{signals_in}
 use Rattle.grc_graph.specs.StatementViews.{binding_of}
-use Rattle.grc_graph.specs.Walk.{truth}
-use Rattle.grc_graph.specs.WireTables.{HasName, IsNumberOf}
+use Rattle.grc_graph.specs.WireTables.{HasName}
 use Rattle.grc_graph.specs.Wires.{Wire, Out, Go, StatusOf, End, same_wire}
 use Rattle.grc_words.specs.declared.table.Source.{Source}
 use Rattle.grc_words.specs.declared.table.Source.TheVariants as sources
 use Rattle.grc_words.specs.declared.table.Row as tables
 use Rattle.grc_words.specs.declared.tests_of.Tested.{Tested}
-use Rattle.grc_words.specs.Building.{Says, Extends, RowsFit, new_source, with_both, both_source, with_either, either_source}
-use Rattle.grc_words.specs.Occasions.{Occasion, FalseOffWires}
+use Rattle.grc_words.specs.Building.{Says, RowsFit, new_source, with_both, both_source, with_either, either_source}
 use Rattle.grc_words.specs.Testing.{TestMade, SignalSaid, wire_source}
 use Rattle.grc_words.specs.WordLaws.{late_bounds}
 use Rattle.grc_words.proofs.RowCounts.{both-few, either-few}

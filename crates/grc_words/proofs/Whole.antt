@@ -1,14 +1,12 @@
 -- A table that was made part by part is that of its graph.
-use Rattle.std.proofs.Common.{◌≡◌, ℕ, ◌+◌, ◌-◌, ◌<◌, ◌≤◌, zero, suc, Bool, true, false, ◌||◌, ◌&&◌, ◌==◌, nat_lt, min, List, [], ◌∷◌, ◌++◌, length, map, drop, slice_index_or, refl, sym, ap, ◌∙◌, subst, arith, length-append, IsTrue, inl, inr}
-use Rattle.std.specs.Prelude.{All, Contains, if◌then◌else◌}
-use Rattle.std.specs.List.{prefix_len, range_with_len, sum_by}
-use Rattle.std.proofs.lemmas.Bool.{cases_lt, cases_Bool, false≢true, lt-ltb, ltb-true, and_parts}
+use Rattle.std.proofs.Common.{◌≡◌, ℕ, ◌+◌, ◌-◌, ◌<◌, ◌≤◌, Bool, true, false, ◌&&◌, ◌==◌, min, List, [], ◌∷◌, length, map, slice_index_or, refl, sym, ap, ◌∙◌, subst, arith, length-append, IsTrue, inl, inr}
+use Rattle.std.specs.Prelude.{All, if◌then◌else◌}
+use Rattle.std.specs.List.{range_with_len, sum_by}
+use Rattle.std.proofs.lemmas.Bool.{cases_lt, cases_Bool, ltb-true, and_parts}
 use Rattle.std.proofs.lemmas.List.{length-map, get_or-map, get_or_append_left, ext_get_or, take_all}
 use Rattle.std.proofs.lemmas.List.Elements.{All-head, All-tail}
 use Rattle.std.proofs.lemmas.List.FromFn.{get_or-map-range_with_len, length-map-range_with_len}
 use Rattle.std.proofs.lemmas.List.Sums.{prefix_len-le-length}
-use Rattle.est_base.specs.Codes.{upto}
-use Rattle.est_base.specs.declared.indices.WireId.{WireId}
 use Rattle.est_kernel.specs.Plain.{program_of, outgoing_count}
 use Rattle.est_kernel.specs.Preorder.{statement_count}
 use Rattle.est_kernel.specs.WellFormed.{IsKernel}
@@ -16,7 +14,7 @@ use Rattle.grc_graph.specs.declared.graph.Graph.{Graph}
 use Rattle.grc_graph.specs.GraphRuns.{shown}
 use Rattle.grc_graph.specs.Instances.{body_instances}
 use Rattle.grc_graph.specs.Neighbouring.{program_wires}
-use Rattle.grc_graph.specs.PlainGraphs.{instance_at, instances_of, names_of, plain_graph, wire_at}
+use Rattle.grc_graph.specs.PlainGraphs.{instances_of, names_of, plain_graph}
 use Rattle.grc_graph.specs.PlainInstances.{instance_of}
 use Rattle.grc_graph.specs.Readings.{holds_at, state_holds_at}
 use Rattle.grc_graph.specs.Residuals.{holds}
@@ -30,14 +28,14 @@ use Rattle.grc_words.specs.declared.table.Source.TheVariants as sources
 use Rattle.grc_words.specs.declared.table.Row.{Row}
 use Rattle.grc_words.specs.declared.table.Row.TheVariants as rows
 use Rattle.grc_words.specs.declared.table.Words.{Words}
-use Rattle.grc_words.specs.Building.{Says, Extends, RowsFit, rows_below}
+use Rattle.grc_words.specs.Building.{Says, Extends, RowsFit}
 use Rattle.grc_words.specs.Choosing.{SelectedMade, selection}
 use Rattle.grc_words.specs.EndLists.{EndsFound, OutputsSaid, PausedMade, is_no_end_of}
 use Rattle.grc_words.specs.Holdings.{HoldingsMade}
 use Rattle.grc_words.specs.Occasions.{Occasion, FalseOffWires, state_in}
 use Rattle.grc_words.specs.Rows.{source_fits, row_fits}
 use Rattle.grc_words.specs.Sizes.{instance_rows, rows_at_most}
-use Rattle.grc_words.specs.WordLaws.{WordsFit, AreWordsOf, early_bounds, late_bounds, value_of, selected_source, first_end, ends_upto, any_from}
+use Rattle.grc_words.specs.WordLaws.{WordsFit, AreWordsOf, early_bounds, late_bounds, value_of, first_end}
 use Rattle.grc_words.proofs.EndWords.{upto-by-ends}
 use Rattle.grc_words.proofs.Holding.{holds_at-row, behind-last, holds-none}
 use Rattle.grc_words.proofs.Saying.{says-more, fits-grown, extends-trans}

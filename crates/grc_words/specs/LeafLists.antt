@@ -1,5 +1,5 @@
 -- Inner: the leaves of a list of nodes of a selection tree.
-use Rattle.std.specs.Prelude.{ℕ, Bool, List, [], ◌∷◌, ◌++◌, drop}
+use Rattle.std.specs.Prelude.{ℕ, List, [], ◌∷◌, ◌++◌}
 use Rattle.grc_graph.specs.SelectionTrees.{Form, Leaf, Exclusive, Parallel, Passing, TreeNode}
 
 abbrev pub path_if_leaf : Form → ℕ → List ℕ

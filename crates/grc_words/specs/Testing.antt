@@ -1,5 +1,5 @@
 -- Inner: tests as sources.
-use Rattle.std.specs.Prelude.{◌≡◌, ℕ, ◌+◌, ◌≤◌, Bool, true, false, nat_lt, if◌then◌else◌, List, length, map, take, drop, Option, Some, None, IsTrue}
+use Rattle.std.specs.Prelude.{◌≡◌, ℕ, ◌+◌, ◌≤◌, false, nat_lt, if◌then◌else◌, List, length, map, take, drop, Option, Some, None, IsTrue}
 use Rattle.est_base.specs.declared.indices.SigId.{SigId}
 use Rattle.est_base.specs.declared.indices.WireId.{WireId}
 use Rattle.est_kernel.specs.Reactions.{is_given}
@@ -18,7 +18,6 @@ use Rattle.grc_words.specs.declared.table.Row.{Row}
 use Rattle.grc_words.specs.declared.tests_of.Tested.{Tested}
 use Rattle.grc_words.specs.Building.{Says, Extends, rows_below}
 use Rattle.grc_words.specs.Rows.{source_fits}
-use Rattle.grc_words.specs.Occasions.{Occasion}
 use Rattle.grc_words.specs.Sizes.{operators}
 use Rattle.grc_words.specs.WordLaws.{late_bounds}
 

@@ -1,4 +1,4 @@
-use Rattle.std.proofs.Common.{◌≡◌, ◌+◌, ◌∷◌, [], ◌++◌, sym, ap, subst}
+use Rattle.std.proofs.Common.{◌+◌, sym, ap, subst}
 use Rattle.est_kernel.specs.declared.programs.KernelProgram.{KernelProgram}
 use Rattle.grc_words.specs.EndLists.{OutputsSaid}
 use Rattle.grc_words.proofs.EndSteps.{outputs-step}

@@ -1,24 +1,21 @@
-use Rattle.std.proofs.Common.{◌≡◌, ℕ, ◌+◌, ◌<◌, ◌≤◌, List, Option, Some, None, length, map, slice_index_or, refl, sym, ap, ◌∙◌, subst, arith}
+use Rattle.std.proofs.Common.{◌≡◌, ℕ, ◌<◌, List, Option, Some, None, length, slice_index_or, sym, ap, ◌∙◌, subst, arith}
 use Rattle.std.specs.Prelude.{Contains}
-use Rattle.std.proofs.lemmas.List.{length-map, get_or_default}
+use Rattle.std.proofs.lemmas.List.{get_or_default}
 use Rattle.est_kernel.specs.Plain.{program_of, term_of}
-use Rattle.est_kernel.specs.Preorder.{statement_count}
 use Rattle.est_kernel.proofs.ResidualLaws.{trees_are_kernels_lem}
 use Rattle.grc_graph.specs.declared.graph.Graph.{Graph}
-use Rattle.grc_graph.specs.declared.instances.Instance as declared
 use Rattle.grc_graph.specs.declared.neighbours.Neighbours.{Neighbours}
 use Rattle.grc_graph.specs.declared.statements.Statement.{Statement}
-use Rattle.grc_graph.specs.Instances.{Instance, body_instances}
-use Rattle.grc_graph.specs.Layers.{Layer, layer_above}
+use Rattle.grc_graph.specs.Instances.{Instance}
+use Rattle.grc_graph.specs.Layers.{layer_above}
 use Rattle.grc_graph.specs.Neighbouring.{instances_in}
-use Rattle.grc_graph.specs.PlainGraphs.{instances_of, instance_at}
 use Rattle.grc_graph.specs.PlainInstances.{instance_of, layer_of}
 use Rattle.grc_graph.specs.Statements.{Listed}
-use Rattle.grc_graph.specs.StatementViews.{view_of, entry_view}
+use Rattle.grc_graph.specs.StatementViews.{entry_view}
 use Rattle.grc_graph.proofs.RowReads.{length-statements}
 use Rattle.grc_words.specs.Building.{with_both, both_source}
 use Rattle.grc_words.specs.Enclosures.{around}
-use Rattle.grc_words.specs.Holdings.{AreListed, IsLive, LastsSaid, StatementRead}
+use Rattle.grc_words.specs.Holdings.{AreListed, IsLive, LastsSaid}
 use Rattle.grc_words.specs.Sizes.{statement_row}
 use Rattle.grc_words.proofs.Beside.{LiveAround, row-around}
 use Rattle.grc_words.proofs.HoldingSteps.{above-none, above-some}

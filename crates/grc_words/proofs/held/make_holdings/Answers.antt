@@ -1,7 +1,6 @@
-use Rattle.std.proofs.Common.{◌≡◌, ℕ, ◌+◌, ◌<◌, List, [], ◌∷◌, ◌++◌, length, map, slice_index_or, refl, sym, ap, ◌∙◌, subst, arith}
+use Rattle.std.proofs.Common.{◌≡◌, ℕ, ◌+◌, ◌<◌, List, [], ◌∷◌, ◌++◌, length, slice_index_or, sym, ap, ◌∙◌, subst, arith}
 use Rattle.std.proofs.lemmas.List.{get_or-map, length-map}
-use Rattle.est_kernel.specs.Plain.{program_of, term_of}
-use Rattle.est_kernel.specs.Preorder.{statement_count}
+use Rattle.est_kernel.specs.Plain.{program_of}
 use Rattle.est_kernel.proofs.ResidualLaws.{trees_are_kernels_lem}
 use Rattle.grc_graph.specs.declared.graph.Graph.{Graph}
 use Rattle.grc_graph.specs.declared.instances.Instance as declared
@@ -12,7 +11,7 @@ use Rattle.grc_graph.specs.PlainGraphs.{instances_of, instance_at}
 use Rattle.grc_graph.specs.PlainInstances.{instance_of}
 use Rattle.grc_graph.proofs.RowReads.{length-statements}
 use Rattle.grc_graph.proofs.WireNames.{LiveAt}
-use Rattle.grc_words.specs.Holdings.{AreListed, IsLive, HoldingsMade}
+use Rattle.grc_words.specs.Holdings.{AreListed, HoldingsMade}
 use Rattle.grc_words.proofs.Beside.{own-layer}
 use Rattle.grc_words.proofs.HoldingSteps.{holdings-begun, holdings-now, holdings-step}
 use Rattle.grc_words.proofs.Listing.{live-number, statement-read}

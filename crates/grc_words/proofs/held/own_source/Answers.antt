@@ -1,11 +1,10 @@
-use Rattle.std.proofs.Common.{◌≡◌, ℕ, ◌+◌, ◌≤◌, false, Option, Some, None, length, map, option_map, refl, sym, ap, ◌∙◌, subst, arith, Bor}
+use Rattle.std.proofs.Common.{◌≡◌, Some, None, length, option_map, refl, sym, ap, ◌∙◌, subst, arith, Bor}
 use Rattle.grc_words.specs.Testing.{TestMade}
-use Rattle.est_kernel.specs.Plain.{term_of, expression_of}
+use Rattle.est_kernel.specs.Plain.{expression_of}
 use Rattle.est_kernel.specs.Reactions.{is_given}
 use Rattle.est_kernel.specs.declared.signal_tests.Test.{Test}
-use Rattle.est_kernel.specs.Terms.{Expression}
 use Rattle.grc_graph.specs.Instances.{Instance}
-use Rattle.grc_graph.specs.Layers.{Layer, Resumed, Started}
+use Rattle.grc_graph.specs.Layers.{Resumed}
 use Rattle.grc_graph.specs.Neighbouring.{names_in, instances_in}
 use Rattle.grc_graph.specs.PlainGraphs.{instance_at}
 use Rattle.grc_graph.specs.PlainInstances.{instance_of, layer_of}

@@ -1,4 +1,4 @@
-use Rattle.std.proofs.Common.{◌≡◌, ◌+◌, ◌-◌, ◌<◌, ◌≤◌, length, slice_index_or, refl, sym, ap, ◌∙◌, arith}
+use Rattle.std.proofs.Common.{◌-◌, ◌<◌, length, arith}
 use Rattle.est_kernel.specs.Plain.{term_of}
 use Rattle.grc_words.proofs.LeafChoices.{chosen-set, chosen-all, leaf-within, leaves-many}
 use Rattle.grc_words.proofs.selected.leaf_sources.Goals as goal

@@ -1,9 +1,7 @@
 use Rattle.std.proofs.Common.{◌≡◌, false, ℕ, List, ◌+◌, ◌-◌, ◌<◌, length, map, slice_index_or, slice_set, refl, sym, ap, ◌∙◌, subst, arith}
 use Rattle.est_kernel.specs.Plain.{program_of}
-use Rattle.est_kernel.specs.Preorder.{statement_count}
 use Rattle.grc_graph.specs.declared.graph.Graph.{Graph}
 use Rattle.grc_graph.specs.declared.statements.Statement.{Statement}
-use Rattle.grc_graph.specs.Rows.{row_at, program_rows}
 use Rattle.grc_graph.specs.Statements.{program_listed}
 use Rattle.grc_graph.specs.StatementViews.{view_of}
 use Rattle.grc_graph.proofs.RowReads.{statement_read, length-statements}

@@ -1,4 +1,4 @@
-use Rattle.std.proofs.Common.{◌≡◌, sym, ap, ◌∙◌}
+use Rattle.std.proofs.Common.{sym, ap, ◌∙◌}
 use Rattle.est_kernel.specs.declared.signal_tests.Test.{Test}
 use Rattle.est_kernel.specs.Plain.{expression_of}
 use Rattle.est_kernel.specs.Terms.{Not, And, Or}
