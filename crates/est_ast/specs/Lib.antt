@@ -8,3 +8,5 @@ pub mod Trees
 pub mod Views
 pub mod FlatTrees
 pub mod FlatViews
+pub mod FlatFits
+pub mod NewSignals

@@ -9,7 +9,8 @@ use Rattle.est_kernel.specs.Steps.{Step, ended, left_by, leaving, leaves, chosen
 use Rattle.est_kernel.specs.Terms as terms
 use Rattle.est_kernel.specs.Terms.{Term, Expression}
 use Rattle.est_ast.specs.FlatTrees.{Expr, Plain, Immediate, Stmt, At, Await, Abort, Repeat, Sustain, LoopEach, Seq, Missing, Written, NoStmts, MoreStmts}
-use Rattle.est_dismantle.specs.Kernels.{Marks, expression, new_by, new_in, halting, watching, aborting, kernel}
+use Rattle.est_dismantle.specs.Kernels.{Marks, expression, halting, watching, aborting, kernel}
+use Rattle.est_ast.specs.NewSignals.{new_by, new_in}
 use Rattle.est_dismantle.specs.Laws.{ImmediateAbortionsRunTheirRest, ImmediateAwaitsEndAtOnce, RepetitionsAreSequences, Sustains, SustainedSignalsStay, LoopsEachStartAnew}
 
 -- nothing was done before it

@@ -12,7 +12,7 @@ use Rattle.est_kernel.specs.Plain.{Program}
 use Rattle.est_kernel.specs.Sizes.{size_of, height_of, trap_depth}
 use Rattle.est_kernel.specs.WellFormed.{SignalsFit, IsWellFormed, HasNames}
 use Rattle.est_ast.specs.FlatTrees.{Flat}
-use Rattle.est_dismantle.specs.Kernels.{new_in}
+use Rattle.est_ast.specs.NewSignals.{new_in}
 use Rattle.est_dismantle.specs.Counts.{bad_in}
 use Rattle.est_dismantle.specs.Expansions.{Expanded, TooLarge, TooHigh, TooManyTraps, kernel_body, program_in, limited, counted, expansion}
 use Rattle.est_dismantle.specs.FlatPrograms.{seen_count, whole_scope, IsFlat}

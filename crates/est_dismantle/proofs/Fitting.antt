@@ -7,8 +7,9 @@ use Rattle.est_kernel.specs.Terms as terms
 use Rattle.est_kernel.specs.Terms.{Term, Expression}
 use Rattle.est_kernel.specs.WellFormed.{TestsVisible, ExitsStandInTraps, SignalsFit, with_signal}
 use Rattle.est_ast.specs.FlatTrees.{Expr, Tick, Sig, Not, And, Or, Round, Square, Exprs, NoExprs, MoreExprs, Delay, Plain, Immediate, Count, Stmt, At, Form, Nothing, Pause, Halt, Emit, Sustain, Await, AwaitCase, Present, PresentCase, Loop, LoopEach, Every, Repeat, Abort, AbortCase, WeakAbort, Suspend, Trap, Exit, Signal, Seq, Par, Part, Missing, Written, Stmts, NoStmts, MoreStmts, Cases, NoCases, MoreCases}
-use Rattle.est_dismantle.specs.FlatFits.{Scope, binding, in_signals, in_trap, TestFits, TestsFit, DelayFits, AreLocal, Fits, FormFits, PartFits, AllFit, CasesFit}
-use Rattle.est_dismantle.specs.Kernels.{nested, sequence, parallel, times, expression, expressions, events, any_event, Marks, exit_code, new_by, new_in, new_in_form, new_in_part, new_in_stmts, new_in_cases, halting, watching, awaiting, awaiting_immediately, awaiting_delay, aborting, aborting_counted, abortion, aborting_handled, handled, looping_each, later_delay, aborting_weakly, suspension, locals, kernel, kernel_of_form, part, kernels, chosen}
+use Rattle.est_ast.specs.FlatFits.{Scope, binding, in_signals, in_trap, TestFits, TestsFit, DelayFits, AreLocal, Fits, FormFits, PartFits, AllFit, CasesFit}
+use Rattle.est_dismantle.specs.Kernels.{nested, sequence, parallel, times, expression, expressions, events, any_event, Marks, exit_code, halting, watching, awaiting, awaiting_immediately, awaiting_delay, aborting, aborting_counted, abortion, aborting_handled, handled, looping_each, later_delay, aborting_weakly, suspension, locals, kernel, kernel_of_form, part, kernels, chosen}
+use Rattle.est_ast.specs.NewSignals.{new_by, new_in, new_in_form, new_in_part, new_in_stmts, new_in_cases}
 
 -- what is visible here is visible there
 abbrev Above : (ℕ → Bool) → (ℕ → Bool) → Type 0

@@ -22,7 +22,8 @@ use Rattle.est_ast.specs.FlatViews.{flat_expr_of, flat_delay_of, flat_stmt_of, f
 use Rattle.est_ast.proofs.FlatRows.{flat_expr-And, flat_expr-Or, flat_form-Seq, flat_form-Par, flat_form-AwaitCase, flat_form-PresentCase, flat_form-AbortCase}
 use Rattle.est_dismantle.specs.Choices.{chosen_of}
 use Rattle.est_dismantle.specs.FlatNodes.{event_test, events_tests, case_test, any_event_test, delay_new, stmt_new, node_new, part_new, stmts_new, case_new, cases_new, stmt_kernel, node_kernel, part_kernel, stmts_kernels, case_choice, choices}
-use Rattle.est_dismantle.specs.Kernels.{nested, sequence, parallel, times, expression, expressions, events, any_event, Marks, exit_code, new_by, new_in, new_in_form, new_in_part, new_in_stmts, new_in_cases, halting, awaiting, awaiting_delay, aborting, abortion, aborting_handled, handled, looping_each, later_delay, aborting_weakly, suspension, locals, kernel, kernel_of_form, part, kernels, chosen}
+use Rattle.est_dismantle.specs.Kernels.{nested, sequence, parallel, times, expression, expressions, events, any_event, Marks, exit_code, halting, awaiting, awaiting_delay, aborting, abortion, aborting_handled, handled, looping_each, later_delay, aborting_weakly, suspension, locals, kernel, kernel_of_form, part, kernels, chosen}
+use Rattle.est_ast.specs.NewSignals.{new_by, new_in, new_in_form, new_in_part, new_in_stmts, new_in_cases}
 use Rattle.est_dismantle.proofs.Exits.{marks-Whole, marks-Source, marks-New}
 use Rattle.est_dismantle.proofs.Lists.{drop-at}
 

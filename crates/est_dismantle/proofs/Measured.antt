@@ -5,7 +5,8 @@ use Rattle.est_kernel.specs.Terms as terms
 use Rattle.est_kernel.specs.Terms.{Term, Expression}
 use Rattle.est_kernel.specs.Sizes.{size_of, height_of, trap_depth}
 use Rattle.est_ast.specs.FlatTrees.{Delay, Plain, Immediate, Count, Stmt, At, Form, Nothing, Pause, Halt, Emit, Sustain, Await, AwaitCase, Present, PresentCase, Loop, LoopEach, Every, Repeat, Abort, AbortCase, WeakAbort, Suspend, Trap, Exit, Signal, Seq, Par, Part, Missing, Written, Stmts, NoStmts, MoreStmts, Cases, NoCases, MoreCases}
-use Rattle.est_dismantle.specs.Kernels.{nested, sequence, parallel, times, expression, any_event, Marks, exit_code, new_by, new_in, new_in_part, new_in_cases, halting, watching, awaiting, awaiting_delay, aborting, aborting_counted, abortion, aborting_handled, handled, looping_each, later_delay, aborting_weakly, suspension, locals, kernel, kernel_of_form, part, kernels, chosen}
+use Rattle.est_dismantle.specs.Kernels.{nested, sequence, parallel, times, expression, any_event, Marks, exit_code, halting, watching, awaiting, awaiting_delay, aborting, aborting_counted, abortion, aborting_handled, handled, looping_each, later_delay, aborting_weakly, suspension, locals, kernel, kernel_of_form, part, kernels, chosen}
+use Rattle.est_ast.specs.NewSignals.{new_by, new_in, new_in_part, new_in_cases}
 use Rattle.est_dismantle.specs.Measures.{Measures, measures_of, test_measures, leaf, over, trapped, joined, tested, suspended, copied, raised, watched, awaited, awaited_delay, aborted, aborted_counted, aborted_later, tested_first, abortion_measures, handled_measures, each_measures, each_later_measures, weakly_measures, suspension_measures, kernel_measures, form_measures, part_measures, stmts_measures, cases_measures}
 
 abbrev measures : ℕ → ℕ → ℕ → Measures

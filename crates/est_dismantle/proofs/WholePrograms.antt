@@ -10,7 +10,8 @@ use Rattle.est_ast.specs.FlatViews.{flat_stmt_of}
 use Rattle.est_ast.specs.declared.flat.FlatStmt.{FlatStmt}
 use Rattle.est_dismantle.specs.Expansions.{kernel_body, program_in}
 use Rattle.est_dismantle.specs.FlatNodes.{stmt_kernel, stmt_new}
-use Rattle.est_dismantle.specs.Kernels.{Marks, kernel, new_in}
+use Rattle.est_dismantle.specs.Kernels.{Marks, kernel}
+use Rattle.est_ast.specs.NewSignals.{new_in}
 
 pub body-made : (flat : Flat) (p : FlatStmt) (marks : Marks) (first : ℕ) (k : Term) → flat_stmt_of p ≡ flat.body → k ≡ stmt_kernel marks first p → marks ≡ [] → first ≡ length flat.signals → k ≡ kernel_body flat
 unfolding stmt_kernel

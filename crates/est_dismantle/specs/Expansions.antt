@@ -6,7 +6,8 @@ use Rattle.est_kernel.specs.Terms.{Term}
 use Rattle.est_kernel.specs.Plain.{Program}
 use Rattle.est_kernel.specs.Sizes.{size_of, height_of, trap_depth}
 use Rattle.est_ast.specs.FlatTrees.{Flat}
-use Rattle.est_dismantle.specs.Kernels.{kernel, new_in}
+use Rattle.est_dismantle.specs.Kernels.{kernel}
+use Rattle.est_ast.specs.NewSignals.{new_in}
 use Rattle.est_dismantle.specs.Counts.{bad_in}
 
 -- what a flat program stands for

@@ -5,8 +5,8 @@ use Rattle.est_base.specs.Names.{is_name, is_same_name}
 use Rattle.est_base.specs.Distinct.{all_differ}
 use Rattle.est_kernel.specs.WellFormed.{RelatesGiven}
 use Rattle.est_ast.specs.FlatTrees.{Flat}
-use Rattle.est_dismantle.specs.FlatFits.{Scope, Fits}
-use Rattle.est_dismantle.specs.Kernels.{new_in}
+use Rattle.est_ast.specs.FlatFits.{Scope, Fits}
+use Rattle.est_ast.specs.NewSignals.{new_in}
 
 -- how many signals the environment sees
 abbrev pub seen_count : Flat → ℕ

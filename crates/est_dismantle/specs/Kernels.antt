@@ -10,6 +10,7 @@ use Rattle.est_base.specs.declared.place.Span.{Span}
 use Rattle.est_kernel.specs.Terms as terms
 use Rattle.est_kernel.specs.Terms.{Term, Expression}
 use Rattle.est_ast.specs.FlatTrees.{Expr, Tick, Sig, Not, And, Or, Round, Square, Exprs, NoExprs, MoreExprs, Delay, Plain, Immediate, Count, Stmt, At, Form, Nothing, Pause, Halt, Emit, Sustain, Await, AwaitCase, Present, PresentCase, Loop, LoopEach, Every, Repeat, Abort, AbortCase, WeakAbort, Suspend, Trap, Exit, Signal, Seq, Par, Part, Missing, Written, Stmts, NoStmts, MoreStmts, Cases, NoCases, MoreCases}
+use Rattle.est_ast.specs.NewSignals.{new_by, new_in, new_in_part, new_in_cases}
 
 -- ---- lists and tests
 
@@ -55,7 +56,7 @@ events (MoreCases event body others) = expression event ∷ events others
 abbrev pub any_event : Cases → Expression
 any_event cases = nested terms.Or terms.Tick (events cases)
 
--- ---- traps and new signals
+-- ---- traps
 
 -- The traps around a statement, the nearest first: true for a trap of the source, false for one that an expansion puts
 -- there.
@@ -68,53 +69,6 @@ exit_code [] k = 2
 exit_code (true ∷ marks) zero = 2
 exit_code (true ∷ marks) (suc k) = suc (exit_code marks k)
 exit_code (false ∷ marks) k = suc (exit_code marks k)
-
--- one where a delay is a count of 2 or more: an abortion by such a delay has a new signal
-abbrev pub new_by : Delay → ℕ
-new_by (Plain event) = 0
-new_by (Immediate event) = 0
-new_by (Count count span event) = if nat_le count 1 then 0 else 1
-
--- How many new signals there are in a statement: one for each abortion by a count of 2 or more.
-abbrev mutual
-  pub new_in : Stmt → ℕ
-  new_in (At span form) = new_in_form form
-
-  pub new_in_form : Form → ℕ
-  new_in_form Nothing = 0
-  new_in_form Pause = 0
-  new_in_form Halt = 0
-  new_in_form (Emit s) = 0
-  new_in_form (Sustain s) = 0
-  new_in_form (Await delay q) = new_in_part q
-  new_in_form (AwaitCase cases) = new_in_cases cases
-  new_in_form (Present e p q) = new_in_part p + new_in_part q
-  new_in_form (PresentCase cases q) = new_in_cases cases + new_in_part q
-  new_in_form (Loop p) = new_in p
-  new_in_form (LoopEach p delay) = new_by delay + new_in p
-  new_in_form (Every delay p) = new_by delay + new_in p
-  new_in_form (Repeat count span p) = new_in p
-  new_in_form (Abort p delay q) = new_by delay + (new_in p + new_in_part q)
-  new_in_form (AbortCase p cases) = new_in p + new_in_cases cases
-  new_in_form (WeakAbort p delay) = new_in p
-  new_in_form (Suspend p delay) = new_in p
-  new_in_form (Trap p handler) = new_in p + new_in_part handler
-  new_in_form (Exit k) = 0
-  new_in_form (Signal signals p) = new_in p
-  new_in_form (Seq parts) = new_in_stmts parts
-  new_in_form (Par parts) = new_in_stmts parts
-
-  pub new_in_part : Part → ℕ
-  new_in_part Missing = 0
-  new_in_part (Written p) = new_in p
-
-  pub new_in_stmts : Stmts → ℕ
-  new_in_stmts NoStmts = 0
-  new_in_stmts (MoreStmts p others) = new_in p + new_in_stmts others
-
-  pub new_in_cases : Cases → ℕ
-  new_in_cases NoCases = 0
-  new_in_cases (MoreCases event body others) = new_in_part body + new_in_cases others
 
 -- ---- the rows of derived statements, over kernel terms
 

@@ -11,7 +11,8 @@ use Rattle.est_kernel.specs.WellFormed.{IsWellFormed, HasNames}
 use Rattle.est_ast.specs.FlatTrees.{Flat, Expr, Plain, Immediate, Stmt, At, Await, Abort, Repeat, Sustain, LoopEach, Seq, Missing, Written, NoStmts, MoreStmts}
 use Rattle.est_dismantle.specs.Expansions.{Expanded, expansion}
 use Rattle.est_dismantle.specs.FlatPrograms.{IsFlat}
-use Rattle.est_dismantle.specs.Kernels.{Marks, expression, new_by, new_in, kernel}
+use Rattle.est_dismantle.specs.Kernels.{Marks, expression, kernel}
+use Rattle.est_ast.specs.NewSignals.{new_by, new_in}
 
 -- The kernel program of a flat program keeps what a kernel program keeps: the limits, each exit in its trap, each
 -- signal in its scope, no input emitted.

@@ -1,7 +1,6 @@
 pub mod Kernels
 pub mod Counts
 pub mod Expansions
-pub mod FlatFits
 pub mod FlatPrograms
 pub mod Faults
 pub mod Laws

@@ -20,8 +20,8 @@ use Rattle.est_expand.specs.Walks.{Met, Walk, on_ok, give, stop, after, meet_sta
 use Rattle.est_expand.specs.Tests.{found_or, signal_of, test, tests, awaited}
 use Rattle.est_expand.specs.Runs.{module_named, chain_with, formal_names, renamed, opened}
 use Rattle.est_expand.specs.Flattening.{Around, in_signals, in_trap, part, each, each_case, numbers, meet_delay, traps_between, exit_of, handler, emitted, ran, row, flattening}
-use Rattle.est_expand.specs.FlatFits as fits
-use Rattle.est_expand.specs.NewSignals.{new_by, new_in, new_in_form, new_in_part, new_in_stmts, new_in_cases}
+use Rattle.est_ast.specs.FlatFits as fits
+use Rattle.est_ast.specs.NewSignals.{new_by, new_in, new_in_form, new_in_part, new_in_stmts, new_in_cases}
 
 -- ---- results
 

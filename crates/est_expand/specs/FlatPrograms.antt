@@ -7,8 +7,8 @@ use Rattle.est_base.specs.Relations.{Relation, Implies, Excludes}
 use Rattle.est_ast.specs.FlatTrees.{Flat}
 use Rattle.est_ast.specs.Trees.{Module}
 use Rattle.est_expand.specs.Scopes.{main_interface, main_signals}
-use Rattle.est_expand.specs.FlatFits.{Scope, Fits}
-use Rattle.est_expand.specs.NewSignals.{new_in}
+use Rattle.est_ast.specs.FlatFits.{Scope, Fits}
+use Rattle.est_ast.specs.NewSignals.{new_in}
 
 -- how many signals the environment sees
 abbrev pub seen_count : Flat → ℕ

@@ -8,7 +8,5 @@ pub mod Answers
 pub mod Tables
 pub mod Counted
 pub mod Views
-pub mod FlatFits
-pub mod NewSignals
 pub mod FlatPrograms
 pub mod Laws
