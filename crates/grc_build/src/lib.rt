@@ -11,6 +11,7 @@ mod ends;
 mod entries;
 mod equations;
 mod formulas;
+mod nodes;
 mod parallels;
 mod refusal;
 mod statuses;

@@ -18,3 +18,5 @@ pub mod WireFilling
 pub mod NeighbourReads
 pub mod LiveLayers
 pub mod RowSpots
+pub mod CodeBounds
+pub mod RowScopes
