@@ -8,3 +8,5 @@ pub mod EmissionLists
 pub mod TableSpots
 pub mod WireEquations
 pub mod NodeFacts
+pub mod GraphSizes
+pub mod GraphParts

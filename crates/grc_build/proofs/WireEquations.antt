@@ -40,7 +40,7 @@ use Rattle.grc_build.specs.Tabled.{program_in, row_in, AreTables, IsLive, IsTher
 use Rattle.grc_build.specs.WireFormulas.{wire_formula}
 use Rattle.grc_build.proofs.TableFacts.{kernel_of, only_there}
 
-abbrev equation_of : Program → Wire → Equation
+abbrev pub equation_of : Program → Wire → Equation
 equation_of p u = record { wire = u; formula = wire_formula p u }
 
 -- ---- by instances
@@ -88,9 +88,15 @@ equations_by_wire p k =
     (λ i. left i ++ right i) ∙ sym (map-append (equation_of p) (map Out outs) (flat_map F all))
 
 -- the equations of wires with formulas that mean theirs
+abbrev pub with_formula : (Wire → Formula) → Wire → Equation
+with_formula F u = record { wire = u; formula = F u }
+
+abbrev pub read_equation : List Instance → List Wire → Wire × stored_formulas.Formula → Equation
+read_equation insts all e = record { wire = e.0; formula = formula_of insts all e.1 }
+
 pub equations_zipped : (insts : List Instance) (all names : List Wire) (F : Wire → Formula) (fs : List stored_formulas.Formula)
     → map (formula_of insts all) fs ≡ map F names
-    → map (λ e. record { wire = e.0; formula = formula_of insts all e.1 }) (zip names fs) ≡ map (λ u. record { wire = u; formula = F u }) names
+    → map (read_equation insts all) (zip names fs) ≡ map (with_formula F) names
 equations_zipped insts all [] F [] e = refl
 equations_zipped insts all [] F (f ∷ fs) e = refl
 equations_zipped insts all (u ∷ us) F [] e = absurd (let z : length (map (formula_of insts all) []) ≡ length (map F (u ∷ us)) = ap length e in omega arith)

@@ -6,3 +6,5 @@ pub mod Ending
 pub mod Emitting
 pub mod WireFormulas
 pub mod Noding
+pub mod Rooms
+pub mod Parts

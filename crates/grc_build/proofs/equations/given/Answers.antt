@@ -3,8 +3,8 @@ use Rattle.std.proofs.lemmas.Bool.{lt-ltb, le-ltb}
 use Rattle.grc_build.specs.Tabled.{program_in}
 use Rattle.grc_build.proofs.equations.given.Goals as goal
 
-pub overflow_add : goal.overflow_add
-overflow_add c = omega (arith, c.requires.formed.interface, c.requires.formed.at_most)
+pub overflow_add-t : goal.overflow_add-t
+overflow_add-t c = omega (arith, c.requires.formed.interface, c.requires.formed.at_most)
 
 pub returns-then-signal-t : goal.returns-then-signal-t
 returns-then-signal-t c = (lt-ltb c.args.signal.0 _ c.if-signal-t.true, record { fits = refl; same = refl })

@@ -11,7 +11,11 @@ use Rattle.grc_build.proofs.TableSpots.{spots_in, one_more, all_spots}
 use Rattle.grc_build.proofs.nodes.nodes.Goals as goal
 
 pub loop-i-init : goal.loop-i-init
-loop-i-init c = (ap (map _) c.in_ok-list.ensures.items, subst (λ l. All _ l) (sym c.in_ok-list.ensures.items) (λ k d h. absurd (omega arith)))
+loop-i-init c =
+    let insts = instances_in c.args.t.now.wires in
+    let names = names_in c.args.t.now.wires in
+    (ap (map (node_of insts names)) c.in_ok-list.ensures.items,
+    subst (λ l. All (λ x. IsTrue (node_fits (length insts) (length names) x)) l) (sym c.in_ok-list.ensures.items) (λ k d h. absurd (omega arith)))
 
 pub node-requires-clause-within : goal.node-requires-clause-within
 node-requires-clause-within c = omega (arith, c.count-i-end.ensures)

@@ -34,8 +34,8 @@ returns-in-Resumed c =
     subst (λ j. IsNodeOf t (nodes.Sync c.args.i) (parallel_node x.path c.args.second j)) (sym layer)
     (subst (λ j. IsNodeOf t (nodes.Sync c.args.i) (plain.Sync x.path j)) layer (synced t c.args.i c.requires.within))
 
-pub overflow_add : goal.overflow_add
-overflow_add c =
+pub overflow_add-instance : goal.overflow_add-instance
+overflow_add-instance c =
     let t = c.args.t.now in
     let x = instance_at (instances_in t.wires) c.args.i.0 in
     let y = c.instance-instance.result in
