@@ -10,3 +10,5 @@ pub mod WireEquations
 pub mod NodeFacts
 pub mod GraphSizes
 pub mod GraphParts
+pub mod StatementRuns
+pub mod NextFacts

@@ -8,3 +8,4 @@ pub mod WireFormulas
 pub mod Noding
 pub mod Rooms
 pub mod Parts
+pub mod Nexts
