@@ -1,6 +1,6 @@
 -- The or of a list of formulas, one by one, and formulas of wires that are there.
 use Rattle.grc_graph.specs.Equations.{trapped_ends, part_end}
-use Rattle.std.proofs.Common.{◌≡◌, ℕ, zero, suc, ◌+◌, ◌<◌, ◌≤◌, Bool, true, false, List, [], ◌∷◌, ◌++◌, length, get_or, refl, sym, ap, ◌∙◌, subst, arith}
+use Rattle.std.proofs.Common.{◌≡◌, ℕ, zero, suc, ◌+◌, ◌<◌, ◌≤◌, Bool, true, false, List, [], ◌∷◌, ◌++◌, length, refl, sym, ap, subst, arith}
 use Rattle.std.specs.Prelude.{◌↔◌, Result, Ok, Err, IfOk}
 use Rattle.est_base.specs.declared.indices.InstId.{InstId}
 use Rattle.grc_graph.specs.Layers.{Layer, Resumed}
@@ -13,7 +13,6 @@ use Rattle.grc_graph.specs.Wires.{Wire}
 use Rattle.grc_graph.specs.Formulas as plain
 use Rattle.grc_graph.specs.Formulas.{Value, Upto, Disjunction, any_of}
 use Rattle.grc_graph.specs.WireTables.{IsNumberOf}
-use Rattle.grc_graph.specs.PlainGraphs.{formula_of}
 use Rattle.std.proofs.Common.{Option, Some, None}
 use Rattle.grc_build.specs.Meanings.{Means, MeansIf, MeansSome, MeansAny, formula_if}
 

@@ -1,6 +1,5 @@
 -- A test whose signals have the bindings of a scope is the test in that scope.
-use Rattle.std.proofs.Common.{◌≡◌, ℕ, ◌+◌, ◌<◌, ◌≤◌, ◌⊎◌, Bool, List, [], ◌∷◌, ◌++◌, length, map, get_or, refl, sym, ap, ◌∙◌, subst, ⊎_elim, inl, inr, arith, length-append, Option, Some, None}
-use Rattle.std.specs.Prelude.{Contains}
+use Rattle.std.proofs.Common.{◌≡◌, ℕ, ◌+◌, List, [], ◌++◌, length, map, refl, sym, ap, subst}
 use Rattle.std.proofs.lemmas.List.{length-map, map-append}
 use Rattle.est_kernel.specs.Terms.{Expression, Tick, Sig, Not, And, Or}
 use Rattle.grc_graph.specs.Layers.{Layer}
@@ -8,7 +7,7 @@ use Rattle.grc_graph.specs.Scopes.{Binding, Scope, Unbound}
 use Rattle.grc_graph.specs.Spots.{test_formula, status_formula}
 use Rattle.grc_graph.specs.Formulas.{Negation, Conjunction, Disjunction}
 use Rattle.grc_graph.specs.Statements.{signals_in}
-use Rattle.grc_graph.proofs.CodeReads.{StandsAt, stands_left, stands_right, stands_head, stands_whole}
+use Rattle.grc_graph.proofs.CodeReads.{StandsAt, stands_left, stands_right, stands_head}
 use Rattle.grc_build.specs.declared.tables.Tables.{Tables}
 use Rattle.grc_build.specs.Tabled.{bound_test, StatusIsThere, StatusesAreThere}
 

@@ -1,27 +1,27 @@
 -- The lists of emissions, instance by instance.
-use Rattle.std.proofs.Common.{◌≡◌, ℕ, ◌+◌, ◌-◌, ◌<◌, ◌≤◌, ◌⊎◌, inl, inr, Bool, true, false, ◌==◌, ◌&&◌, List, [], ◌∷◌, ◌++◌, length, map, get_or, set, refl, sym, ap, ◌∙◌, subst, ⊎_elim, arith, get_or-set_same, get_or-set_other, Option, Some, None}
+use Rattle.std.proofs.Common.{◌≡◌, ℕ, ◌+◌, ◌<◌, Bool, true, false, ◌==◌, List, [], ◌∷◌, ◌++◌, length, map, get_or, set, refl, sym, ap, ◌∙◌, subst, ⊎_elim, arith, get_or-set_same, get_or-set_other}
 use Rattle.std.specs.Prelude.{All, Vec, nat_lt, if◌then◌else◌}
 use Rattle.std.specs.List.{list_all}
 use Rattle.std.specs.declared.alloc.Global.{Global}
 use Rattle.grc_graph.specs.declared.formulas.Formula.TheVariants as formulas
 use Rattle.grc_build.specs.Meanings.{MeansSome}
-use Rattle.std.proofs.lemmas.Bool.{cases_eq, cases_Bool, eq-eqb, ne_eqb, eqb-true, and_parts, and_from, both_ways, false≢true, lt-ltb}
-use Rattle.std.proofs.lemmas.List.{length-map, map-append, length-set, append-nil}
+use Rattle.std.proofs.lemmas.Bool.{cases_eq, cases_Bool, eq-eqb, ne_eqb, eqb-true, and_parts, and_from, false≢true, lt-ltb}
+use Rattle.std.proofs.lemmas.List.{length-map, map-append, append-nil}
 use Rattle.std.proofs.lemmas.List.Elements.{All-push, All-head, All-tail}
 use Rattle.est_base.specs.declared.indices.WireId.{WireId}
 use Rattle.est_kernel.specs.Plain.{outgoing_count}
 use Rattle.est_kernel.specs.Terms.{Term, Nothing, Pause, Emit, Exit, Present, Suspend, Seq, Loop, Par, Trap, Local, Awake}
 use Rattle.grc_graph.specs.Equations.{emissions, emits_on, is_wire}
-use Rattle.grc_graph.specs.Formulas.{Formula, Value, any_of}
+use Rattle.grc_graph.specs.Formulas.{Value, any_of}
 use Rattle.grc_graph.specs.Instances.{Instance}
 use Rattle.grc_graph.specs.Layers.{Layer, Resumed, Started, layer_above, same_layer}
 use Rattle.grc_graph.specs.Neighbouring.{instances_in, names_in}
 use Rattle.grc_graph.specs.PlainGraphs.{instance_at, wire_at}
 use Rattle.grc_graph.specs.PlainInstances.{instance_of}
-use Rattle.grc_graph.specs.Scopes.{Binding, Scope, Entering, Outgoing, BoundAt, Unbound}
+use Rattle.grc_graph.specs.Scopes.{Binding, Scope, Outgoing, BoundAt}
 use Rattle.grc_graph.specs.Spots.{Spot}
 use Rattle.grc_graph.specs.WireTables.{IsNumberOf}
-use Rattle.grc_graph.specs.Wires.{Wire, Out, Go, StatusOf, End, same_wire, status_wire}
+use Rattle.grc_graph.specs.Wires.{Wire, Out, Go, StatusOf, same_wire, status_wire}
 use Rattle.grc_graph.proofs.NeighbourReads.{one_place}
 use Rattle.grc_build.specs.declared.emissions.Emitters.{Emitters}
 use Rattle.grc_build.specs.declared.tables.Tables.{Tables}

@@ -1,9 +1,8 @@
 -- Which ends of the parts of a live statement are there.
-use Rattle.std.proofs.Common.{◌≡◌, ℕ, ◌+◌, ◌<◌, ◌≤◌, ◌⊎◌, Bool, true, false, ◌==◌, ◌&&◌, ◌||◌, not, List, [], ◌∷◌, ◌++◌, length, refl, sym, ap, ◌∙◌, subst, ⊎_elim, arith, get_or, append_assoc}
-use Rattle.std.specs.Prelude.{◌↔◌}
-use Rattle.std.proofs.lemmas.Bool.{and_parts, and_from, cases_Bool, false≢true, and_right}
+use Rattle.std.proofs.Common.{◌≡◌, ℕ, ◌+◌, ◌<◌, Bool, true, false, ◌==◌, ◌&&◌, not, [], ◌∷◌, ◌++◌, refl, sym, ap, ◌∙◌, subst, arith, get_or, append_assoc}
+use Rattle.std.proofs.lemmas.Bool.{and_parts, and_from, false≢true, and_right}
 use Rattle.est_kernel.specs.Plain.{term_of}
-use Rattle.est_kernel.specs.Terms.{Expression, Term, Nothing, Pause, Emit, Exit, Present, Suspend, Seq, Loop, Par, Trap, Local, Awake}
+use Rattle.est_kernel.specs.Terms.{Expression, Term, Present, Suspend, Seq, Loop, Par, Trap, Local}
 use Rattle.est_kernel.specs.Preorder.{statement_count}
 use Rattle.est_kernel.specs.StaticCodes.{codes_if, has_code, started_codes, resumed_codes}
 use Rattle.est_kernel.proofs.Sets.{upto-in}
@@ -11,35 +10,34 @@ use Rattle.grc_graph.specs.declared.statements.Statement.{Statement}
 use Rattle.grc_graph.specs.Equations.{end_formula, branch_over}
 use Rattle.grc_graph.specs.Formulas.{Conjunction, any_of}
 use Rattle.grc_graph.specs.Layers.{Layer, Resumed, Started, Liveness, can_pass, part_liveness, second_liveness, loop_liveness}
-use Rattle.grc_graph.specs.Rows.{Row, row, rows, second_of, program_rows, row_at, live_in}
+use Rattle.grc_graph.specs.Rows.{row, rows, second_of, program_rows, live_in}
 use Rattle.grc_graph.specs.Scopes.{Scope, bind}
 use Rattle.grc_graph.specs.Spots.{test_formula}
 use Rattle.grc_graph.specs.Statements.{Entry, Part, Branch, Then, Else, Suspended, Second, Looped}
-use Rattle.grc_graph.specs.StatementViews.{view_of}
-use Rattle.grc_graph.specs.Wires.{Go, End, instance_codes}
+use Rattle.grc_graph.specs.Wires.{End, instance_codes}
 use Rattle.grc_graph.proofs.CodeBounds.{program_kernel, codes_below-kernel}
 use Rattle.grc_graph.proofs.CodeReads.{StandsAt}
-use Rattle.grc_graph.proofs.LiveInstances.{RootsFit}
 use Rattle.grc_graph.proofs.RowFacts.{Placed, program_placed}
 use Rattle.grc_graph.proofs.RowSpots.{length-rows, stands_one, stands_first, stands_second, row_read}
-use Rattle.grc_graph.proofs.WireNames.{IsEnd, LiveAt, live_instance}
+use Rattle.grc_graph.proofs.WireNames.{IsEnd}
 use Rattle.grc_build.specs.declared.tables.Tables.{Tables}
 use Rattle.grc_build.specs.Ending.{IsEnding, IsParallel, Tells, TellsLive, end_if, held_upto, held_end, suspension_ends, sequence_ends, loop_ends, parallel_formula}
 use Rattle.grc_build.specs.Meanings.{formula_if}
 use Rattle.est_base.specs.declared.place.Span.{Span}
-use Rattle.grc_build.specs.Tabled.{program_in, row_in, AreTables, IsLive, IsThere}
-use Rattle.grc_build.proofs.PartLiveness.{part_live, part_resumed, second_started, second_own, second_resumed, loop_started, loop_own, loop_resumed, loop_part_live, and_true}
+use Rattle.grc_build.specs.Tabled.{program_in, row_in, AreTables}
+use Rattle.grc_build.proofs.PartLiveness.{part_live, part_resumed, second_started, second_own, second_resumed, loop_own, loop_part_live, and_true}
 use Rattle.grc_build.proofs.TableFacts.{Here, here, is_live, go_there, end_there, only_there, within_rows, statement_row, kernel_of}
 
 -- ---- what is there, by the row
 
 pub tells_end : (t : Tables) (c k : ℕ) (l : Layer) → AreTables t → c < statement_count (program_in t).body
     → Tells t (End c l k) (live_in (row_in t c).live l && instance_codes (row_in t c).statement l k)
-tells_end t c k l h w =
-    (λ x. let o = only_there t (IsEnd k) c l h x in and_from _ _ o.live o.has,
-    λ e.
-    let o = and_parts (live_in (row_in t c).live l) (instance_codes (row_in t c).statement l k) e in
-    end_there t c k l h (codes_below-kernel (row_in t c).statement l k (program_kernel (program_in t) c (kernel_of t) h.formed.body w) o.1) w o.0 o.1)
+tells_end t c k l h w = (
+  λ x. let o = only_there t (IsEnd k) c l h x in and_from _ _ o.live o.has,
+  λ e.
+      let o = and_parts (live_in (row_in t c).live l) (instance_codes (row_in t c).statement l k) e in
+      end_there t c k l h (codes_below-kernel (row_in t c).statement l k (program_kernel (program_in t) c (kernel_of t) h.formed.body w) o.1) w o.0 o.1,
+)
 
 pub tells_live : (t : Tables) (c : ℕ) (l : Layer) → AreTables t → c < statement_count (program_in t).body → TellsLive t c l (live_in (row_in t c).live l)
 tells_live t c l h w = (λ x. (here t c l h x).live, λ e. is_live t c l h w e)
@@ -271,6 +269,7 @@ pub is_parallel : (t : Tables) (n : ℕ) (p q : Term) (l : Layer) → AreTables 
     → PartRow t (n + 1 + statement_count p) (part_liveness (row_in t n).live q) q
     → IsParallel t n (n + 1) (n + 1 + statement_count p) l
 is_parallel t n p q Resumed h i r s = go_there t n Resumed h i.within i.live
-is_parallel t n p q (Started v) h i r s =
-    (is_live t (n + 1) (Started v) h r.within (subst (λ a. live_in a (Started v) ≡ true) (sym r.live) i.live),
-    is_live t (n + 1 + statement_count p) (Started v) h s.within (subst (λ a. live_in a (Started v) ≡ true) (sym s.live) i.live))
+is_parallel t n p q (Started v) h i r s = (
+  is_live t (n + 1) (Started v) h r.within (subst (λ a. live_in a (Started v) ≡ true) (sym r.live) i.live),
+  is_live t (n + 1 + statement_count p) (Started v) h s.within (subst (λ a. live_in a (Started v) ≡ true) (sym s.live) i.live),
+)

@@ -1,20 +1,17 @@
 -- The parts of a graph, and the graph that they make.
-use Rattle.std.proofs.Common.{◌≡◌, ℕ, ◌+◌, ◌<◌, ◌≤◌, List, length, map, get_or, refl, sym, ap, ◌∙◌, subst, arith}
+use Rattle.std.proofs.Common.{◌≡◌, ◌≤◌, length, map, refl, sym, ap, ◌∙◌, subst}
 use Rattle.std.specs.Prelude.{All, IsTrue}
 use Rattle.std.proofs.lemmas.List.{length-map}
 use Rattle.est_base.specs.declared.bounds.TheConstants.Limits.{WIRES}
-use Rattle.est_kernel.specs.Plain.{Program, program_of, interface_of, interface_count}
+use Rattle.est_kernel.specs.Plain.{program_of, interface_of, interface_count}
 use Rattle.grc_graph.specs.declared.graph.Graph.{Graph}
-use Rattle.grc_graph.specs.declared.wires.Wire as stored_wires
-use Rattle.grc_graph.specs.declared.wires.Node as stored_nodes
-use Rattle.grc_graph.specs.declared.formulas.Formula as stored_formulas
 use Rattle.grc_graph.specs.BuiltGraphs.{IsGraphOf, graph_size}
 use Rattle.grc_graph.specs.GraphRuns.{graph_of, program_spots}
 use Rattle.grc_graph.specs.GraphShapes.{IndicesFit, formula_fits, node_fits, wire_fits}
 use Rattle.grc_graph.specs.Instances.{body_instances}
 use Rattle.grc_graph.specs.Neighbouring.{instances_in, names_in, program_wires}
 use Rattle.grc_graph.specs.Nodes as plain
-use Rattle.grc_graph.specs.PlainGraphs.{instances_of, names_of, wire_of, node_of, formula_of, equations_of, plain_graph}
+use Rattle.grc_graph.specs.PlainGraphs.{instances_of, names_of, wire_of, node_of, formula_of, equations_of}
 use Rattle.grc_graph.specs.PlainInstances.{instance_of}
 use Rattle.grc_graph.specs.Rows.{program_rows, spot_at}
 use Rattle.grc_graph.specs.Scopes.{program_scope}

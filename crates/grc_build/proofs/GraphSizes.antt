@@ -1,13 +1,14 @@
 -- The size of a program's graph, instance by instance.
-use Rattle.std.proofs.Common.{◌≡◌, ℕ, ◌+◌, ◌<◌, ◌≤◌, Bool, true, false, List, [], ◌∷◌, ◌++◌, length, map, refl, sym, ap, ◌∙◌, subst, arith, length-append}
+use Rattle.std.proofs.Common.{◌≡◌, ℕ, ◌+◌, ◌<◌, ◌≤◌, Bool, true, false, List, [], ◌∷◌, ◌++◌, length, map, take, get_or, refl, sym, ap, ◌∙◌, subst, arith, length-append}
 use Rattle.std.specs.Prelude.{sum_by, if◌then◌else◌}
 use Rattle.std.specs.List.{flat_map}
 use Rattle.std.proofs.lemmas.List.{length-map}
 use Rattle.std.proofs.lemmas.List.Concat.{length-flat_map}
-use Rattle.std.proofs.lemmas.List.Sums.{sum_by-cons}
+use Rattle.std.proofs.lemmas.List.Sums.{sum_by-cons, sum_by_more, sum_by_more_le}
 use Rattle.std.proofs.lemmas.List.FromFn.{length-map-range_with_len}
 use Rattle.est_kernel.specs.Plain.{Program, outgoing_count}
-use Rattle.est_kernel.specs.Terms.{Term, Nothing, Pause, Emit, Exit, Present, Suspend, Seq, Loop, Par, Trap, Local, Awake}
+use Rattle.est_kernel.specs.Sizes.{test_size}
+use Rattle.est_kernel.specs.Terms.{Expression, Tick, Sig, Not, And, Or, Term, Nothing, Pause, Emit, Exit, Present, Suspend, Seq, Loop, Par, Trap, Local, Awake}
 use Rattle.est_kernel.specs.WellFormed.{IsKernel}
 use Rattle.grc_graph.specs.BuiltGraphs.{graph_size, live_tests}
 use Rattle.grc_graph.specs.GraphRuns.{program_spots}
@@ -80,3 +81,26 @@ codes_counted n A false e =
     let f = λ (k : ℕ). k in
     let same : map f (codes_below (n + 1) A) ≡ map f (codes_below n A) = codes_below-lacks f [] n A e in
     omega (arith, length-map (codes_below (n + 1) A) f, length-map (codes_below n A) f, ap length same)
+
+pub one_at_most : (b : Bool) → (if b then 1 else 0) ≤ 1
+one_at_most true = omega arith
+one_at_most false = omega arith
+
+-- a test has a node
+pub test_size-some : (e : Expression) → 1 ≤ test_size e
+test_size-some Tick = omega arith
+test_size-some (Sig s) = omega arith
+test_size-some (Not a) = omega arith
+test_size-some (And a b) = omega arith
+test_size-some (Or a b) = omega arith
+
+-- the instances so far, and one more
+pub size_more : (p : Program) (insts : List Instance) (i : ℕ) (x : Instance) → i < length insts → get_or insts i x ≡ x
+    → sum_by (size_at p) (take (i + 1) insts) ≡ sum_by (size_at p) (take i insts) + size_at p x
+size_more p insts i x h e =
+    sum_by_more (size_at p) insts i x h ∙ ap (λ y. sum_by (size_at p) (take i insts) + size_at p y) e
+
+pub size_within : (p : Program) (insts : List Instance) (i : ℕ) (x : Instance) → i < length insts → get_or insts i x ≡ x
+    → sum_by (size_at p) (take i insts) + size_at p x ≤ sum_by (size_at p) insts
+size_within p insts i x h e =
+    subst (λ y. sum_by (size_at p) (take i insts) + size_at p y ≤ sum_by (size_at p) insts) e (sum_by_more_le (size_at p) insts i x h)

@@ -1,31 +1,27 @@
 -- Nodes by numbers are nodes by names.
-use Rattle.std.proofs.Common.{◌≡◌, ℕ, ◌+◌, ◌<◌, ◌≤◌, Bool, true, false, ◌&&◌, List, [], ◌∷◌, ◌++◌, length, map, refl, sym, ap, ◌∙◌, subst, arith, Option, Some, None, ⊎_elim}
-use Rattle.std.specs.Prelude.{IsTrue, Contains}
+use Rattle.std.proofs.Common.{◌≡◌, ℕ, ◌+◌, ◌<◌, true, length, refl, sym, ap, subst, Some, None, ⊎_elim}
 use Rattle.std.proofs.lemmas.Bool.{lt-ltb, and_from}
 use Rattle.est_base.specs.declared.indices.InstId.{InstId}
 use Rattle.est_base.specs.declared.indices.WireId.{WireId}
-use Rattle.est_kernel.specs.Plain.{term_of}
 use Rattle.est_kernel.specs.Preorder.{statement_count}
-use Rattle.est_kernel.specs.Terms.{Expression, Term, Nothing, Pause, Emit, Exit, Present, Suspend, Seq, Loop, Par, Trap, Local, Awake}
-use Rattle.grc_graph.specs.declared.statements.Statement.{Statement}
+use Rattle.est_kernel.specs.Terms.{Expression, Term, Pause, Present, Suspend, Seq, Par}
 use Rattle.grc_graph.specs.declared.wires.Node.{Node}
 use Rattle.grc_graph.specs.declared.wires.Node.TheVariants as nodes
-use Rattle.grc_graph.specs.GraphShapes.{node_fits}
 use Rattle.grc_graph.specs.Layers.{Layer, Resumed, Started, layer_above}
 use Rattle.grc_graph.specs.Rows.{live_in}
 use Rattle.grc_graph.specs.Neighbouring.{instances_in, names_in}
 use Rattle.grc_graph.specs.Nodes as plain
 use Rattle.grc_graph.specs.Nodes.{node_at}
-use Rattle.grc_graph.specs.PlainGraphs.{instance_at, wire_at, node_of}
+use Rattle.grc_graph.specs.PlainGraphs.{instance_at}
 use Rattle.grc_graph.specs.Scopes.{Scope, Binding, Outgoing, BoundAt}
 use Rattle.grc_graph.specs.WireTables.{IsNumberOf}
 use Rattle.grc_graph.specs.Wires.{Wire, Go, Out, StatusOf, status_wire}
 use Rattle.grc_graph.proofs.RowScopes.{HasStatus}
 use Rattle.grc_build.specs.declared.tables.Tables.{Tables}
-use Rattle.grc_build.specs.Emitting.{spot_in, status_at}
+use Rattle.grc_build.specs.Emitting.{spot_in}
 use Rattle.grc_build.specs.Noding.{IsNodeOf, IsNode, by_layer, parallel_node, AreBranches}
-use Rattle.grc_build.specs.Tabled.{AreTables, IsLive, IsThere, StatusIsThere, row_in, program_in}
-use Rattle.grc_build.proofs.EndFacts.{PartRow, par_first, par_second}
+use Rattle.grc_build.specs.Tabled.{AreTables, IsLive, IsThere, StatusIsThere, row_in}
+use Rattle.grc_build.proofs.EndFacts.{par_first, par_second}
 use Rattle.grc_build.proofs.TableFacts.{Here, number_fits, is_live}
 
 abbrev path_at : Tables → ℕ → ℕ

@@ -1,12 +1,12 @@
 -- In which layers the parts of a statement are live, and from which of its layers.
-use Rattle.std.proofs.Common.{◌≡◌, ℕ, ◌+◌, ◌<◌, ◌≤◌, ◌⊎◌, Bool, true, false, ◌==◌, ◌&&◌, ◌||◌, List, [], ◌∷◌, ◌++◌, length, refl, sym, ap, ◌∙◌, subst, ⊎_elim, arith}
+use Rattle.std.proofs.Common.{◌≡◌, ℕ, ◌<◌, ◌≤◌, Bool, true, false, ◌==◌, ◌&&◌, ◌||◌, List, [], ◌∷◌, refl, sym, ◌∙◌, ⊎_elim, arith}
 use Rattle.std.specs.Prelude.{All, if◌then◌else◌}
 use Rattle.std.specs.List.{list_any}
-use Rattle.std.proofs.lemmas.Bool.{and_parts, and_from, or_cases, eq-eqb, eqb-true, ne_eqb, false≢true, both_ways, cases_lt}
+use Rattle.std.proofs.lemmas.Bool.{and_parts, and_from, eq-eqb, ne_eqb, false≢true, both_ways, cases_lt}
 use Rattle.std.proofs.lemmas.List.Folds.{list_any-append}
 use Rattle.std.proofs.lemmas.List.Elements.{All-head, All-tail}
 use Rattle.est_kernel.specs.Terms.{Term}
-use Rattle.est_kernel.specs.StaticCodes.{codes_if, has_code, started_codes, resumed_codes}
+use Rattle.est_kernel.specs.StaticCodes.{has_code, started_codes, resumed_codes}
 use Rattle.est_kernel.proofs.Sets.{upto-in}
 use Rattle.grc_graph.specs.Layers.{Layer, Resumed, Started, Liveness, root_if, can_pass, part_liveness, second_liveness, loop_liveness}
 use Rattle.grc_graph.specs.Rows.{live_in}

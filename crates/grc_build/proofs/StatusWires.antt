@@ -12,23 +12,22 @@ use Rattle.est_kernel.specs.Plain.{outgoing_count, interface_count}
 use Rattle.grc_graph.specs.Neighbouring.{instances_in}
 use Rattle.grc_graph.specs.PlainGraphs.{instance_at}
 use Rattle.grc_build.specs.Emitting.{spot_in}
-use Rattle.std.proofs.Common.{◌≡◌, ℕ, ◌+◌, ◌-◌, ◌<◌, ◌≤◌, refl, sym, ap, ◌∙◌, subst, arith, List, map, length, get_or}
+use Rattle.std.proofs.Common.{◌≡◌, ℕ, ◌-◌, ◌<◌, ◌≤◌, refl, sym, ap, ◌∙◌, subst, arith, List, map, length, get_or}
 use Rattle.std.specs.Prelude.{Contains}
 use Rattle.std.proofs.lemmas.List.{length-map}
 use Rattle.est_kernel.specs.Terms.{Expression}
 use Rattle.grc_graph.specs.declared.statements.Statement.{Statement}
 use Rattle.grc_graph.specs.Layers.{Layer, layer_above}
-use Rattle.grc_graph.specs.Rows.{program_rows}
 use Rattle.grc_graph.specs.Scopes.{Binding, Entering, Outgoing, BoundAt, Unbound}
 use Rattle.grc_graph.specs.Spots.{test_formula}
 use Rattle.grc_graph.specs.Statements.{signals_in, signals_of}
 use Rattle.grc_graph.specs.StatementViews.{binding_of, view_of}
-use Rattle.grc_graph.specs.Wires.{Out, StatusOf}
+use Rattle.grc_graph.specs.Wires.{Out}
 use Rattle.grc_graph.proofs.CodeReads.{StandsAt, stands_whole}
 use Rattle.grc_graph.proofs.RowScopes.{program_fits, out_there}
 use Rattle.grc_graph.proofs.WireNames.{IsStatus, live_of, in_layers}
 use Rattle.grc_build.specs.declared.tables.Tables.{Tables}
-use Rattle.grc_build.specs.Tabled.{program_in, row_in, AreTables, IsLive, IsThere, StatusIsThere, StatusesAreThere, bound_test}
+use Rattle.grc_build.specs.Tabled.{program_in, row_in, AreTables, IsLive, StatusIsThere, StatusesAreThere, bound_test}
 use Rattle.grc_build.specs.Entering.{IsTestOf}
 use Rattle.grc_build.proofs.Bindings.{bound_by, there_by}
 use Rattle.grc_build.proofs.TableFacts.{Here, here, is_live, is_there, within_rows, statement_row, kernel_of}

@@ -1,27 +1,24 @@
 -- What the tables say of a live instance: its row, the rows around it, and the wires that are there.
-use Rattle.std.proofs.Common.{◌≡◌, ℕ, ◌+◌, ◌-◌, ◌<◌, ◌≤◌, ◌^◌, Bool, true, false, ◌==◌, ◌&&◌, List, [], ◌∷◌, ◌++◌, length, map, get_or, refl, sym, ap, ◌∙◌, subst, ⊎_elim, inl, inr, arith, Option, Some, None}
+use Rattle.std.proofs.Common.{◌≡◌, ℕ, ◌+◌, ◌<◌, ◌^◌, true, false, ◌==◌, length, get_or, sym, ap, ◌∙◌, subst, ⊎_elim, arith}
 use Rattle.std.specs.Prelude.{Contains, if◌then◌else◌}
 use Rattle.std.proofs.lemmas.Bool.{cases_Bool, eqb-true, and_parts}
-use Rattle.est_kernel.specs.Plain.{Program, program_of}
-use Rattle.est_kernel.specs.Terms.{Expression, Term}
+use Rattle.est_kernel.specs.Terms.{Expression}
 use Rattle.est_kernel.specs.WellFormed.{IsKernel}
 use Rattle.est_kernel.specs.Preorder.{statement_count}
-use Rattle.est_kernel.specs.StaticCodes.{started_codes, resumed_codes}
 use Rattle.est_kernel.proofs.ResidualLaws.{trees_are_kernels_lem}
 use Rattle.grc_graph.specs.declared.statements.Statement.{Statement}
 use Rattle.grc_graph.specs.Layers.{Layer, Resumed, Started, second_liveness, loop_liveness}
-use Rattle.grc_graph.specs.Instances.{body_instances}
-use Rattle.grc_graph.specs.Rows.{Row, program_rows, row_at, listed_row, entry_formula, live_in}
-use Rattle.grc_graph.specs.Statements.{Entry, Body, Part, Branch, Then, Else, Suspended, Second, Looped, signals_of, signals_in}
+use Rattle.grc_graph.specs.Rows.{program_rows, listed_row, entry_formula, live_in}
+use Rattle.grc_graph.specs.Statements.{Entry, Part, Branch, Then, Else, Suspended, Second, Looped}
 use Rattle.grc_graph.specs.StatementViews.{view_of, entry_view}
-use Rattle.grc_graph.specs.Wires.{Wire, Go, End, StatusOf, instance_codes}
+use Rattle.grc_graph.specs.Wires.{Go, End, instance_codes}
 use Rattle.grc_graph.proofs.CodeReads.{statement_count-le}
-use Rattle.grc_graph.proofs.LiveInstances.{at_layer, RootsFit}
+use Rattle.grc_graph.proofs.LiveInstances.{at_layer}
 use Rattle.grc_graph.proofs.RowFacts.{PartOf, TestedPart, SecondPart, LoopedPart, Entered, Placed, program_placed}
 use Rattle.grc_graph.proofs.RowReads.{statement_read, length-statements, length-program_rows}
-use Rattle.grc_graph.proofs.WireNames.{Kind, IsGo, IsStatus, IsEnd, Below, Has, WireAt, wire_named, wire_only, wire_there, live_instance, instance_live}
+use Rattle.grc_graph.proofs.WireNames.{Kind, IsGo, IsEnd, Below, WireAt, wire_named, wire_only, wire_there, live_instance, instance_live}
 use Rattle.grc_build.specs.declared.tables.Tables.{Tables}
-use Rattle.grc_build.specs.Tabled.{program_in, row_in, AreTables, IsLive, IsThere, MeansIn}
+use Rattle.grc_build.specs.Tabled.{program_in, row_in, AreTables, IsLive, IsThere}
 use Rattle.grc_build.specs.Entering.{tested_by, suspended_by, IsTestOf, first_end, FirstEnd, loop_start, LoopStart}
 use Rattle.grc_build.proofs.PartLiveness.{part_above, second_above, second_above_own, loop_above, loop_above_own, part_live, loop_part_live}
 

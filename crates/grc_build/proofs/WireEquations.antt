@@ -1,9 +1,9 @@
 -- The equations of a program's graph, wire by wire.
-use Rattle.std.proofs.Common.{◌≡◌, ℕ, ◌+◌, ◌-◌, ◌<◌, ◌≤◌, Bool, true, false, List, [], ◌∷◌, ◌++◌, length, map, take, get_or, refl, sym, ap, ◌∙◌, subst, arith}
-use Rattle.std.specs.Prelude.{All, IsTrue, Contains, zip, nat_lt, if◌then◌else◌}
-use Rattle.std.specs.List.{flat_map, range_with_len}
-use Rattle.std.proofs.lemmas.Bool.{lt-ltb, le-ltb, ltb-true}
-use Rattle.std.proofs.lemmas.List.{map-append, length-map, get_or-map, take_more, take_all, get_or_default}
+use Rattle.std.proofs.Common.{◌≡◌, ℕ, ◌-◌, ◌<◌, ◌≤◌, List, [], ◌∷◌, ◌++◌, length, map, get_or, refl, sym, ap, ◌∙◌, subst, arith}
+use Rattle.std.specs.Prelude.{IsTrue, Contains, zip}
+use Rattle.std.specs.List.{flat_map}
+use Rattle.std.proofs.lemmas.Bool.{ltb-true}
+use Rattle.std.proofs.lemmas.List.{map-append, length-map, get_or-map}
 use Rattle.std.proofs.lemmas.List.Folds.{flat_map-map}
 use Rattle.std.proofs.lemmas.Simd.{map-map}
 use Rattle.est_kernel.specs.Plain.{Program, given_count, interface_of, interface_count, outgoing_count}
@@ -13,19 +13,19 @@ use Rattle.grc_graph.specs.declared.instances.Instance as stored
 use Rattle.grc_graph.specs.declared.formulas.Formula as stored_formulas
 use Rattle.grc_graph.specs.declared.wires.Wire as stored_wires
 use Rattle.grc_graph.specs.declared.wires.Wire.TheVariants as wires
-use Rattle.grc_graph.specs.Equations.{Equation, equations, output_equation, instance_equations, instance_status, end_formula}
+use Rattle.grc_graph.specs.Equations.{Equation, equations, output_equation, instance_equations, instance_status}
 use Rattle.grc_graph.specs.Formulas.{Formula}
 use Rattle.grc_graph.specs.GraphRuns.{program_spots}
 use Rattle.grc_graph.specs.GraphShapes.{wire_fits}
 use Rattle.grc_graph.specs.Instances.{Instance, body_instances}
 use Rattle.grc_graph.specs.Layers.{Layer}
-use Rattle.grc_graph.specs.Neighbouring.{instances_in, names_in, program_wires}
-use Rattle.grc_graph.specs.PlainGraphs.{wire_of, formula_of, instance_at, equations_of}
+use Rattle.grc_graph.specs.Neighbouring.{instances_in, program_wires}
+use Rattle.grc_graph.specs.PlainGraphs.{wire_of, formula_of, instance_at}
 use Rattle.grc_graph.specs.PlainInstances.{instance_of}
 use Rattle.grc_graph.specs.Rows.{program_rows, spot_at}
 use Rattle.grc_graph.specs.Spots.{Spot}
 use Rattle.grc_graph.specs.WireTables.{IsNumberOf}
-use Rattle.grc_graph.specs.Wires.{Wire, Out, Go, StatusOf, End, listed, instance_codes, own_status, instance_wires}
+use Rattle.grc_graph.specs.Wires.{Wire, Out, Go, End, listed, instance_codes, own_status, instance_wires}
 use Rattle.grc_graph.proofs.CodeBounds.{program_kernel, codes_below-kernel}
 use Rattle.grc_graph.proofs.NeighbourReads.{wires_fit}
 use Rattle.grc_graph.proofs.RowSpots.{program_spots_by_row}
@@ -115,8 +115,11 @@ equations_zipped insts all (u ∷ us) F (f ∷ fs) e =
 
 pub wire_in : (t : Tables) (k : ℕ) (w : stored_wires.Wire) → k < length t.wires.wires.items → w ≡ get_or t.wires.wires.items k w → IsWireIn t w
 wire_in t k w h e = record {
-  there = (k, omega (arith, length-map t.wires.wires.items (wire_of (instances_in t.wires))),
-      get_or-map (wire_of (instances_in t.wires)) t.wires.wires.items k w _ h ∙ ap (wire_of (instances_in t.wires)) (sym e));
+  there = (
+    k,
+    omega (arith, length-map t.wires.wires.items (wire_of (instances_in t.wires))),
+    get_or-map (wire_of (instances_in t.wires)) t.wires.wires.items k w _ h ∙ ap (wire_of (instances_in t.wires)) (sym e),
+  );
   within = of_tables w (subst (λ v. IsTrue (wire_fits (length (instances_in t.wires)) v)) (sym e)
       (wires_fit t.wires.list.items t.wires.wires.items t.wires.first.items t.wires.inputs t.wires.outgoing t.wires.tables k w h));
 }

@@ -1,14 +1,11 @@
 -- Inner: what is read where the end of a statement is made.
-use Rattle.std.specs.Prelude.{◌≡◌, ◌↔◌, ℕ, ◌+◌, ◌<◌, ◌^◌, Bool, true, not, ◌==◌, ◌&&◌, if◌then◌else◌, List, [], ◌∷◌, ◌++◌, Option}
-use Rattle.est_kernel.specs.Terms.{Expression}
+use Rattle.std.specs.Prelude.{◌≡◌, ◌↔◌, ℕ, ◌<◌, Bool, true, not, ◌==◌, ◌&&◌, List, [], ◌∷◌, ◌++◌, Option}
 use Rattle.grc_graph.specs.declared.formulas.Formula.{Formula}
 use Rattle.grc_graph.specs.Equations.{branch_over}
 use Rattle.grc_graph.specs.Formulas as plain
 use Rattle.grc_graph.specs.Formulas.{Value, Selected, Upto, Conjunction, any_of}
 use Rattle.grc_graph.specs.Layers.{Layer, Resumed, Started}
 use Rattle.grc_graph.specs.Neighbouring.{instances_in, names_in}
-use Rattle.grc_graph.specs.Scopes.{Scope}
-use Rattle.grc_graph.specs.Spots.{test_formula}
 use Rattle.grc_graph.specs.Wires.{Wire, Go, End}
 use Rattle.grc_build.specs.declared.tables.Tables.{Tables}
 use Rattle.grc_build.specs.Meanings.{MeansIf, formula_if}

@@ -1,6 +1,5 @@
 -- Inner: the room that the limit on the size of graphs leaves.
-use Rattle.std.specs.Prelude.{◌≡◌, ℕ, ◌+◌, ◌<◌, ◌≤◌, if◌then◌else◌, length, map, Option, MatchOption}
-use Rattle.est_kernel.specs.CodeLists.{AreCodesOf}
+use Rattle.std.specs.Prelude.{◌≡◌, ℕ, ◌+◌, ◌<◌, if◌then◌else◌, length, Option, MatchOption}
 use Rattle.est_kernel.specs.Plain.{Program}
 use Rattle.est_kernel.specs.Terms.{Term}
 use Rattle.grc_graph.specs.BuiltGraphs.{live_tests}

@@ -1,12 +1,12 @@
 -- Inner: the tables over which a graph is built.
-use Rattle.std.specs.Prelude.{◌≡◌, ℕ, ◌+◌, ◌<◌, true, List, length, map, slice_index_or, Option, Some, None, Contains, ⊤, MatchOption}
+use Rattle.std.specs.Prelude.{◌≡◌, ℕ, ◌+◌, true, List, length, map, slice_index_or, Option, Contains, ⊤, MatchOption}
 use Rattle.est_kernel.specs.Plain.{Program, program_of}
 use Rattle.est_kernel.specs.Terms.{Expression, Tick, Sig, Not, And, Or}
 use Rattle.est_kernel.specs.WellFormed.{IsWellFormed}
 use Rattle.grc_graph.specs.declared.formulas.Formula.{Formula}
 use Rattle.grc_graph.specs.Formulas as plain
 use Rattle.grc_graph.specs.Formulas.{Const, Negation, Conjunction, Disjunction}
-use Rattle.grc_graph.specs.Instances.{Instance, body_instances}
+use Rattle.grc_graph.specs.Instances.{body_instances}
 use Rattle.grc_graph.specs.Layers.{Layer}
 use Rattle.grc_graph.specs.Neighbouring.{instances_in, names_in, program_wires}
 use Rattle.grc_graph.specs.Rows.{Row, program_rows, row_at}
@@ -16,7 +16,7 @@ use Rattle.grc_graph.specs.Statements.{program_listed, signals_in}
 use Rattle.grc_graph.specs.StatementViews.{view_of}
 use Rattle.grc_graph.specs.Wires.{Wire, status_wire}
 use Rattle.grc_build.specs.declared.tables.Tables.{Tables}
-use Rattle.grc_build.specs.Meanings.{Means, MeansIf, MeansAny}
+use Rattle.grc_build.specs.Meanings.{Means, MeansAny}
 
 abbrev pub program_in : Tables → Program
 program_in t = program_of t.program.now

@@ -1,10 +1,10 @@
 -- Inner: the formula of each wire of a program's graph, by its name.
-use Rattle.std.specs.Prelude.{ℕ, nat_lt, if◌then◌else◌, List, [], ◌∷◌, ◌++◌}
+use Rattle.std.specs.Prelude.{nat_lt, ◌++◌}
 use Rattle.est_kernel.specs.Plain.{Program, given_count}
 use Rattle.grc_graph.specs.Equations.{emissions, end_formula}
 use Rattle.grc_graph.specs.Formulas.{Formula, Input, any_of}
 use Rattle.grc_graph.specs.GraphRuns.{program_spots}
-use Rattle.grc_graph.specs.Rows.{Row, program_rows, row_at, entry_formula}
+use Rattle.grc_graph.specs.Rows.{program_rows, row_at, entry_formula}
 use Rattle.grc_graph.specs.Wires.{Wire, Out, Go, StatusOf, End}
 use Rattle.grc_build.specs.Meanings.{formula_if}
 

@@ -23,7 +23,11 @@ use grc_graph::{Formula, Wire};
 use std::alloc::Global;
 
 /// The equations of all wires, in order.
-pub(crate) fn equations(alloc: Global, t: &Tables<'_>, m: &Emitters) -> Result<Vec<Formula>, NoMemory>
+pub(crate) fn equations(
+    alloc: Global,
+    t: &Tables<'_>,
+    m: &Emitters,
+) -> Result<Vec<Formula>, NoMemory>
     requires tables { AreTables t.now }
     requires emitters { AreEmitters t.now m.now (program_spots (program_in t.now)) }
     ensures same { IfOk result (λ v. map (formula_of (instances_in t.now.wires) (names_in t.now.wires)) v.items

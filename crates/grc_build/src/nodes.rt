@@ -75,7 +75,7 @@ fn emission(t: &Tables<'_>, i: InstId, signal: SigId, binding: Binding) -> Node
         → status_wire (binding_of binding) signal.0 (instance_at (instances_in t.now.wires) i.0).layer ≡ Some u
         → IsThere t.now u
         → IsNodeOf t.now result (Emission (instance_at (instances_in t.now.wires) i.0).path
-            (instance_at (instances_in t.now.wires) i.0).layer (Some u)) }
+        (instance_at (instances_in t.now.wires) i.0).layer (Some u)) }
 {
     match status_number(t, i, signal, binding) {
         Some(w) => Node::Emit(i, w),

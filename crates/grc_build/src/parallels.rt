@@ -95,12 +95,7 @@ fn resumed_ends(
 }
 
 // A branch ends with at most the code, or has ended before.
-fn branch_upto(
-    alloc: Global,
-    t: &Tables<'_>,
-    path: u32,
-    e: Ending,
-) -> Result<Formula, NoMemory>
+fn branch_upto(alloc: Global, t: &Tables<'_>, path: u32, e: Ending) -> Result<Formula, NoMemory>
     requires { IsThere t.now (Go e.path Resumed) }
     ensures { (b : Bool) → TellsLive t.now path Resumed b → IfOk result (λ f. MeansIn t.now f
         (any_of (formula_if b (held_upto path e.code) ++ branch_over e.path path ∷ []))) }
@@ -123,19 +118,18 @@ fn held_upto(
     match t.wires.find_instance(path, Layer::Resumed) {
         None => Ok(None),
         Some(i) => {
-            let f = both(alloc, Formula::Selected(PathId(path)), Formula::Upto(i, code))?;
+            let f = both(
+                alloc,
+                Formula::Selected(PathId(path)),
+                Formula::Upto(i, code),
+            )?;
             Ok(Some(f))
         }
     }
 }
 
 // A branch that holds a selected pause ends with the code.
-fn held_end(
-    alloc: Global,
-    t: &Tables<'_>,
-    path: u32,
-    code: u8,
-) -> Result<Option<Formula>, NoMemory>
+fn held_end(alloc: Global, t: &Tables<'_>, path: u32, code: u8) -> Result<Option<Formula>, NoMemory>
     ensures { (b : Bool) → Tells t.now (End path Resumed code) b
         → IfOk result (λ r. MeansIfIn t.now r b (held_end path code)) }
 {
@@ -167,12 +161,7 @@ fn over_end(
 }
 
 // A branch of a resumed parallel holds no selected pause.
-fn branch_over(
-    alloc: Global,
-    t: &Tables<'_>,
-    path: u32,
-    whole: u32,
-) -> Result<Formula, NoMemory>
+fn branch_over(alloc: Global, t: &Tables<'_>, path: u32, whole: u32) -> Result<Formula, NoMemory>
     requires { IsThere t.now (Go whole Resumed) }
     ensures { IfOk result (λ f. MeansIn t.now f (branch_over whole path)) }
 {

@@ -60,7 +60,14 @@ fn after_instance(body: &Kernel, layer: Layer, codes: CodeSet, room: u64) -> Opt
 fn status_count(body: &Kernel) -> u64
     ensures { result ≡ (if is_local (term_of body.now) then 1 else 0) }
 {
-    u64::from(matches!(body, Kernel::Local(_, _)))
+    one_if(matches!(body, Kernel::Local(_, _)))
+}
+
+// 1 where the condition holds, else 0.
+fn one_if(holds: bool) -> u64
+    ensures { result ≡ (if holds then 1 else 0) }
+{
+    if holds { 1 } else { 0 }
 }
 
 // The number of codes in a set.
@@ -69,7 +76,7 @@ fn code_count(codes: CodeSet) -> u64
 {
     let mut count = 0;
     for code in 0..64 {
-        count += u64::from(codes.has(code));
+        count += one_if(codes.has(code));
     }
     count
 }

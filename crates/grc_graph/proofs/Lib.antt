@@ -20,3 +20,4 @@ pub mod LiveLayers
 pub mod RowSpots
 pub mod CodeBounds
 pub mod RowScopes
+pub mod BuiltReads

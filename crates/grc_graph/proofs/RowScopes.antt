@@ -144,6 +144,8 @@ out_there p k s le lt =
     let e : p.inputs + (s - p.inputs) ≡ s = omega arith in
     let inside : s - p.inputs < outgoing_count p = omega arith in
     subst (λ ws. Contains ws (Out s)) (sym (program_wires_by_row p k))
-    (Contains-append_left (outs_of p) _ (Out s)
-    (s - p.inputs, omega (arith, length-map-range_with_len Out p.inputs (outgoing_count p)),
-    get_or-map-range_with_len Out p.inputs (outgoing_count p) (s - p.inputs) s (Out s) inside e))
+    (Contains-append_left (outs_of p) _ (Out s) (
+      s - p.inputs,
+      omega (arith, length-map-range_with_len Out p.inputs (outgoing_count p)),
+      get_or-map-range_with_len Out p.inputs (outgoing_count p) (s - p.inputs) s (Out s) inside e,
+    ))

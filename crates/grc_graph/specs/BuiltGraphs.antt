@@ -5,10 +5,9 @@ use Rattle.est_kernel.specs.Plain.{Program, program_of}
 use Rattle.est_kernel.specs.Sizes.{test_size}
 use Rattle.est_kernel.specs.Terms.{Term, Nothing, Pause, Emit, Exit, Present, Suspend, Seq, Loop, Par, Trap, Local, Awake}
 use Rattle.grc_graph.specs.declared.graph.Graph.{Graph}
-use Rattle.grc_graph.specs.GraphRuns.{graph_of, program_spots}
+use Rattle.grc_graph.specs.GraphRuns.{graph_of, program_spots, program_wires}
 use Rattle.grc_graph.specs.Instances.{body_instances}
 use Rattle.grc_graph.specs.Layers.{Layer, Resumed, Started}
-use Rattle.grc_graph.specs.Neighbouring.{program_wires}
 use Rattle.grc_graph.specs.Nodes as plain
 use Rattle.grc_graph.specs.PlainGraphs.{instances_of, names_of, node_of, plain_graph}
 use Rattle.grc_graph.specs.Spots.{Spot}

@@ -1,4 +1,4 @@
-use Rattle.std.proofs.Common.{◌≡◌, ℕ, ap, refl}
+use Rattle.std.proofs.Common.{ap, refl}
 use Rattle.est_kernel.specs.Plain.{term_of}
 use Rattle.grc_build.proofs.EmissionLists.{not_emit}
 use Rattle.grc_build.proofs.emissions.emitted_signal.Goals as goal

@@ -1,12 +1,8 @@
-use Rattle.std.proofs.Common.{◌≡◌, ◌∙◌, ◌<◌, ◌+◌, ◌++◌, ◌∷◌, [], length, map, take, ap, sym, refl, subst, arith}
-use Rattle.std.specs.Prelude.{IfOk}
-use Rattle.grc_graph.specs.GraphRuns.{program_spots}
+use Rattle.std.proofs.Common.{◌∙◌, ◌<◌, length, sym, subst, arith}
 use Rattle.grc_graph.specs.Neighbouring.{instances_in}
-use Rattle.grc_graph.specs.Rows.{program_rows, spot_at}
 use Rattle.grc_build.specs.Emitting.{AreEmitters}
-use Rattle.grc_build.specs.Tabled.{program_in}
 use Rattle.grc_build.proofs.EmissionLists.{none_yet}
-use Rattle.grc_build.proofs.TableSpots.{spots_in, one_more, all_spots}
+use Rattle.grc_build.proofs.TableSpots.{one_more, all_spots}
 use Rattle.grc_build.proofs.emissions.gather_emissions.Goals as goal
 
 pub loop-i-init : goal.loop-i-init

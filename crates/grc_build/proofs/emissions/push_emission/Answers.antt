@@ -1,15 +1,5 @@
-use Rattle.std.proofs.Common.{◌≡◌, ◌∙◌, ◌<◌, ◌++◌, ◌∷◌, [], length, map, get_or, ap, sym, false, refl, subst, arith}
-use Rattle.std.proofs.lemmas.List.{length-map, get_or-map}
-use Rattle.est_kernel.specs.Plain.{term_of}
-use Rattle.est_kernel.specs.Terms.{Emit}
-use Rattle.grc_graph.specs.Scopes.{Unbound}
-use Rattle.grc_graph.specs.StatementViews.{binding_of}
-use Rattle.grc_graph.specs.Statements.{signals_of}
-use Rattle.grc_graph.specs.PlainGraphs.{instance_at}
-use Rattle.grc_graph.specs.PlainInstances.{instance_of}
-use Rattle.grc_graph.specs.Neighbouring.{instances_in}
+use Rattle.std.proofs.Common.{◌∙◌, ap, arith}
 use Rattle.grc_build.specs.Emitting.{spot_in}
-use Rattle.grc_build.specs.Tabled.{row_in}
 use Rattle.grc_build.proofs.EmissionLists.{none_emitted, no_emission}
 use Rattle.grc_build.proofs.StatusWires.{own_statement, own_signal, instance_here, read_number}
 use Rattle.grc_build.proofs.TableFacts.{statements_within}

@@ -1,15 +1,12 @@
-use Rattle.std.proofs.Common.{◌≡◌, ◌∙◌, ◌+◌, ◌-◌, ◌<◌, ◌≤◌, ◌++◌, ◌∷◌, [], length, ap, sym, false, refl, subst, arith}
+use Rattle.std.proofs.Common.{◌≡◌, ◌∙◌, ◌+◌, ◌-◌, ◌++◌, ◌∷◌, [], ap, arith}
 use Rattle.grc_build.proofs.AnyOf.{if_ok}
-use Rattle.est_kernel.specs.Plain.{outgoing_count, interface_count}
 use Rattle.grc_graph.specs.Layers.{layer_above}
-use Rattle.grc_graph.specs.Scopes.{Outgoing, BoundAt, Entering, Unbound}
+use Rattle.grc_graph.specs.Scopes.{Entering, Unbound}
 use Rattle.grc_graph.specs.StatementViews.{binding_of}
-use Rattle.grc_graph.specs.PlainGraphs.{instance_at}
-use Rattle.grc_graph.specs.Neighbouring.{instances_in}
 use Rattle.grc_build.specs.Emitting.{spot_in, AreEmitters, PutsGo, PutsLocal}
-use Rattle.grc_build.specs.Tabled.{program_in, IsLive}
+use Rattle.grc_build.specs.Tabled.{program_in}
 use Rattle.grc_build.proofs.EmissionLists.{none_emitted, emits_by, out_emitted, local_emitted}
-use Rattle.grc_build.proofs.StatusWires.{OutSignal, out_signal, binder_live}
+use Rattle.grc_build.proofs.StatusWires.{out_signal, binder_live}
 use Rattle.grc_build.proofs.emissions.push_emitter.Goals as goal
 
 pub push_out-requires-clause-from : goal.push_out-requires-clause-from

@@ -1,24 +1,23 @@
-use Rattle.std.proofs.Common.{◌≡◌, ℕ, ◌+◌, ◌<◌, ◌≤◌, ◌==◌, ◌&&◌, not, true, false, Bool, ◌∷◌, [], ◌++◌, refl, sym, ap, ◌∙◌, subst, arith, Option, Some, None}
+use Rattle.std.proofs.Common.{◌≡◌, ◌+◌, ◌&&◌, ◌++◌, refl, sym, ap, ◌∙◌, subst, arith}
 use Rattle.std.specs.Prelude.{IfOk}
 use Rattle.est_kernel.specs.Plain.{expression_of, term_of}
 use Rattle.est_kernel.specs.Preorder.{statement_count}
 use Rattle.est_kernel.specs.StaticCodes.{started_codes, resumed_codes}
-use Rattle.est_kernel.specs.Terms.{Term, Nothing, Pause, Emit, Exit, Present, Suspend, Seq, Loop, Par, Trap, Local}
-use Rattle.grc_graph.specs.Equations.{end_formula, part_end}
+use Rattle.est_kernel.specs.Terms.{Nothing, Pause, Emit, Exit, Present, Suspend, Seq, Loop, Par, Trap, Local}
+use Rattle.grc_graph.specs.Equations.{end_formula}
 use Rattle.grc_graph.specs.Formulas.{any_of, Value}
-use Rattle.grc_graph.specs.Layers.{Layer, Resumed, Started}
+use Rattle.grc_graph.specs.Layers.{Resumed, Started}
 use Rattle.grc_graph.specs.Neighbouring.{instances_in, names_in}
 use Rattle.grc_graph.specs.PlainInstances.{layer_of}
 use Rattle.grc_graph.specs.Rows.{live_in}
 use Rattle.grc_graph.specs.Layers.{part_liveness}
 use Rattle.grc_graph.specs.Statements.{signals_of}
 use Rattle.grc_graph.specs.Wires.{Go, End, instance_codes}
-use Rattle.grc_build.specs.Ending.{Tells, end_if, IsParallel, sequence_ends, parallel_formula}
-use Rattle.grc_build.specs.Entering.{IsTestOf}
+use Rattle.grc_build.specs.Ending.{Tells, end_if, IsParallel, sequence_ends}
 use Rattle.grc_build.specs.Tabled.{MeansIn, row_in}
 use Rattle.grc_build.proofs.AnyOf.{if_any}
 use Rattle.grc_build.proofs.TableFacts.{Here, go_there, is_live, number_fits, statements_within}
-use Rattle.grc_build.proofs.EndFacts.{PartRow, is_parallel, FormAt, form_at, ending_here, present_first, present_second, seq_first, seq_second, par_first, par_second, suspend_part, loop_part, trap_part, local_part, part_tells, loop_tells, second_tells, own_tells, restart_tells, tells_live, second_code, sequence_same, loop_same, suspension_same, parallel_same}
+use Rattle.grc_build.proofs.EndFacts.{PartRow, is_parallel, form_at, ending_here, present_first, present_second, seq_first, seq_second, par_first, par_second, suspend_part, loop_part, trap_part, local_part, part_tells, loop_tells, second_tells, own_tells, restart_tells, tells_live, second_code, sequence_same, loop_same, suspension_same, parallel_same}
 use Rattle.grc_build.proofs.ends.end_formula.Goals as goal
 
 pub index-statement-requires : goal.index-statement-requires

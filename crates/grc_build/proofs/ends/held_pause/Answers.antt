@@ -1,18 +1,11 @@
-use Rattle.std.proofs.Common.{◌≡◌, ℕ, ◌+◌, ◌<◌, ◌≤◌, ◌==◌, ◌&&◌, not, true, false, Bool, ◌∷◌, [], ◌++◌, refl, sym, ap, ◌∙◌, subst, arith, Option, Some, None}
 use Rattle.std.proofs.lemmas.Bool.{eq-eqb, ne_eqb}
-use Rattle.std.specs.Prelude.{IfOk, if◌then◌else◌}
 use Rattle.est_kernel.specs.Plain.{expression_of}
-use Rattle.grc_graph.specs.Equations.{trapped_ends, branch_over, part_end}
-use Rattle.grc_graph.specs.Formulas.{Value, Selected, Upto, Negation, Conjunction, any_of}
-use Rattle.grc_graph.specs.Layers.{Resumed, Started}
+use Rattle.grc_graph.specs.Formulas.{Value}
 use Rattle.grc_graph.specs.Neighbouring.{instances_in, names_in}
 use Rattle.grc_graph.specs.PlainInstances.{layer_of}
 use Rattle.grc_graph.specs.Spots.{test_formula}
-use Rattle.grc_graph.specs.Wires.{Go, End}
-use Rattle.grc_build.specs.Ending.{Tells, TellsLive, MeansIfIn, end_if, held_upto, held_end}
-use Rattle.grc_build.specs.Meanings.{formula_if}
-use Rattle.grc_build.specs.Tabled.{MeansIn, row_in}
-use Rattle.grc_build.proofs.AnyOf.{if_any, some_any}
+use Rattle.grc_graph.specs.Wires.{Go}
+use Rattle.grc_build.specs.Tabled.{row_in}
 use Rattle.grc_build.proofs.ends.held_pause.Goals as goal
 
 pub returns-in_ok-f : goal.returns-in_ok-f
@@ -22,9 +15,10 @@ returns-in_ok-f c =
     let names = names_in t.wires in
     let l = layer_of c.args.e.layer in
     let k = c.args.e.code in
-    let x = test_formula (row_in t c.args.e.path).scope (expression_of c.args.test.now) l in
-    (eq-eqb k 1 c.if-e-eq1.true,
-    c.in_ok-f.ensures insts names (Value (Go c.args.e.path l)) x (c.wire.ensures insts names (Go c.args.e.path l) c.find_go.ensures c.requires.go) c.in_ok-holds.ensures)
+    let x = test_formula (row_in t c.args.e.path).scope (expression_of c.args.test.now) l in (
+      eq-eqb k 1 c.if-e-eq1.true,
+      c.in_ok-f.ensures insts names (Value (Go c.args.e.path l)) x (c.wire.ensures insts names (Go c.args.e.path l) c.find_go.ensures c.requires.go) c.in_ok-holds.ensures,
+    )
 
 pub returns-else-e-eq1 : goal.returns-else-e-eq1
 returns-else-e-eq1 c = ne_eqb c.args.e.code 1 c.if-e-eq1.false

@@ -1,18 +1,14 @@
-use Rattle.std.proofs.Common.{◌≡◌, ℕ, ◌+◌, ◌<◌, ◌≤◌, ◌==◌, ◌&&◌, not, true, false, Bool, ◌∷◌, [], ◌++◌, refl, sym, ap, ◌∙◌, subst, arith, Option, Some, None}
-use Rattle.std.proofs.lemmas.Bool.{eq-eqb, ne_eqb}
-use Rattle.std.specs.Prelude.{IfOk, if◌then◌else◌}
+use Rattle.std.proofs.Common.{◌==◌, ◌++◌}
 use Rattle.est_kernel.specs.Plain.{expression_of}
-use Rattle.grc_graph.specs.Equations.{trapped_ends, branch_over, part_end}
-use Rattle.grc_graph.specs.Formulas.{Value, Selected, Upto, Negation, Conjunction, any_of}
-use Rattle.grc_graph.specs.Layers.{Resumed, Started}
+use Rattle.grc_graph.specs.Formulas.{Value, Conjunction}
 use Rattle.grc_graph.specs.Neighbouring.{instances_in, names_in}
 use Rattle.grc_graph.specs.PlainInstances.{layer_of}
 use Rattle.grc_graph.specs.Spots.{test_formula}
 use Rattle.grc_graph.specs.Wires.{Go, End}
-use Rattle.grc_build.specs.Ending.{Tells, TellsLive, MeansIfIn, end_if, held_upto, held_end}
+use Rattle.grc_build.specs.Ending.{end_if}
 use Rattle.grc_build.specs.Meanings.{formula_if}
-use Rattle.grc_build.specs.Tabled.{MeansIn, row_in}
-use Rattle.grc_build.proofs.AnyOf.{if_any, some_any}
+use Rattle.grc_build.specs.Tabled.{row_in}
+use Rattle.grc_build.proofs.AnyOf.{if_any}
 use Rattle.grc_build.proofs.ends.suspension_end.Goals as goal
 
 pub returns-in_ok-found-in-Resumed : goal.returns-in_ok-found-in-Resumed

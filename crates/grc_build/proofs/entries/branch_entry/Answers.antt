@@ -1,6 +1,5 @@
 use Rattle.grc_graph.specs.Neighbouring.{instances_in, names_in}
 use Rattle.grc_graph.specs.PlainInstances.{layer_of}
-use Rattle.grc_graph.specs.Layers.{Started}
 use Rattle.grc_graph.specs.Wires.{Go}
 use Rattle.grc_build.proofs.entries.branch_entry.Goals as goal
 

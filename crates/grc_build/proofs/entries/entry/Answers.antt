@@ -1,4 +1,4 @@
-use Rattle.std.proofs.Common.{◌≡◌, ap, false, true, subst, arith}
+use Rattle.std.proofs.Common.{ap, subst, arith}
 use Rattle.std.specs.Prelude.{IfOk}
 use Rattle.est_kernel.specs.Plain.{expression_of}
 use Rattle.grc_graph.specs.Neighbouring.{instances_in, names_in}
@@ -7,7 +7,7 @@ use Rattle.grc_graph.specs.Statements.{Body, Part, Branch, Then, Else, Suspended
 use Rattle.grc_graph.specs.StatementViews.{entry_view}
 use Rattle.grc_graph.specs.Wires.{Go}
 use Rattle.grc_build.specs.Tabled.{MeansIn}
-use Rattle.grc_build.proofs.TableFacts.{EntryAt, entry_at, here, statements_within, part_entered, branch_entered, then_entered, else_entered, suspended_entered, second_entered, looped_entered, tested_same, negated_same, suspended_same, entry_same}
+use Rattle.grc_build.proofs.TableFacts.{entry_at, here, statements_within, part_entered, branch_entered, then_entered, else_entered, suspended_entered, second_entered, looped_entered, tested_same, negated_same, suspended_same, entry_same}
 use Rattle.grc_build.proofs.entries.entry.Goals as goal
 
 pub index-requires : goal.index-requires

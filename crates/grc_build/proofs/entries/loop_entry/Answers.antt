@@ -4,7 +4,6 @@ use Rattle.std.proofs.lemmas.Bool.{eq-eqb, ne_eqb}
 use Rattle.grc_graph.specs.Layers.{Resumed, Started}
 use Rattle.grc_graph.specs.Neighbouring.{instances_in, names_in}
 use Rattle.grc_graph.specs.Formulas.{Value}
-use Rattle.grc_graph.specs.PlainInstances.{layer_of}
 use Rattle.grc_graph.specs.Wires.{Go, End}
 use Rattle.grc_build.specs.Tabled.{IsThere, MeansIn}
 use Rattle.grc_build.specs.Entering.{loop_start}

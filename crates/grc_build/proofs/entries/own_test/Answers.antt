@@ -1,11 +1,11 @@
-use Rattle.std.proofs.Common.{◌≡◌, ◌≤◌, ◌∙◌, length, map, get_or, ap, sym, subst, arith}
+use Rattle.std.proofs.Common.{◌∙◌, length, map, ap, sym, subst, arith}
 use Rattle.std.specs.Prelude.{IfOk}
 use Rattle.std.proofs.lemmas.List.{length-map}
 use Rattle.est_kernel.specs.Plain.{expression_of}
 use Rattle.grc_graph.specs.PlainInstances.{layer_of}
 use Rattle.grc_graph.specs.StatementViews.{binding_of}
 use Rattle.grc_build.specs.Tabled.{MeansIn, StatusesAreThere, bound_test}
-use Rattle.grc_build.proofs.StatusWires.{OwnTest, own_test_of}
+use Rattle.grc_build.proofs.StatusWires.{own_test_of}
 use Rattle.grc_build.proofs.TableFacts.{here, statements_within}
 use Rattle.grc_build.proofs.entries.own_test.Goals as goal
 

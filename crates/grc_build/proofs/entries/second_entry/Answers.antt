@@ -1,4 +1,4 @@
-use Rattle.std.proofs.Common.{◌≡◌, ◌+◌, ◌==◌, true, false, sym, ap, ◌∙◌, subst}
+use Rattle.std.proofs.Common.{◌≡◌, ◌+◌, ◌==◌, sym, ap, ◌∙◌, subst}
 use Rattle.std.specs.Prelude.{if◌then◌else◌}
 use Rattle.std.proofs.lemmas.Bool.{eq-eqb, ne_eqb}
 use Rattle.grc_graph.specs.Layers.{Resumed, Started}
@@ -20,7 +20,7 @@ returns-after-root-path c =
     let there : IsThere t (first_end n m (Started r)) = rw c.in-Started.is at c.requires.there in
     let from : layer_of c.if-root-path.from ≡ (if r == m then Resumed else Started r)
     = elim c.if-root-path.branch [
-      then-root-path w ↦ ap layer_of w.from-is ∙ λ i. if sym (eq-eqb r m w.if-root-path.true) i then Resumed else Started r
+      | then-root-path w ↦ ap layer_of w.from-is ∙ λ i. if sym (eq-eqb r m w.if-root-path.true) i then Resumed else Started r
       | else-root-path w ↦ ap layer_of w.from-is ∙ λ i. if sym (ne_eqb r m w.if-root-path.false) i then Resumed else Started r
     ] in
     let found : HasName (names_in t.wires) c.find_end.result (first_end n m (Started r))

@@ -1,6 +1,5 @@
 use Rattle.grc_graph.specs.Formulas.{Value, Negation}
 use Rattle.est_kernel.specs.Plain.{expression_of}
-use Rattle.grc_graph.specs.Layers.{Resumed, Started}
 use Rattle.grc_graph.specs.Neighbouring.{instances_in, names_in}
 use Rattle.grc_graph.specs.PlainInstances.{layer_of}
 use Rattle.grc_graph.specs.Spots.{test_formula}

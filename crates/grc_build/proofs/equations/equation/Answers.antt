@@ -1,12 +1,11 @@
-use Rattle.std.proofs.Common.{◌≡◌, ◌∙◌, ◌<◌, length, map, ap, sym, refl, subst, arith}
+use Rattle.std.proofs.Common.{◌≡◌, ◌∙◌, ◌<◌, length, ap, sym, subst, arith}
 use Rattle.std.specs.Prelude.{All, IfOk}
-use Rattle.grc_graph.specs.Equations.{emissions, end_formula}
+use Rattle.grc_graph.specs.Equations.{emissions}
 use Rattle.grc_graph.specs.GraphRuns.{program_spots}
-use Rattle.grc_graph.specs.Formulas.{any_of}
 use Rattle.grc_graph.specs.Neighbouring.{instances_in, names_in}
 use Rattle.grc_graph.specs.PlainGraphs.{instance_at}
 use Rattle.grc_graph.specs.PlainInstances.{instance_of}
-use Rattle.grc_graph.specs.Wires.{Go, StatusOf, End}
+use Rattle.grc_graph.specs.Wires.{Go, End}
 use Rattle.grc_build.specs.Emitting.{Gathers, IsWireIn, list_at, status_at, values}
 use Rattle.grc_build.specs.Tabled.{program_in, MeansIn, MeansAnyIn}
 use Rattle.grc_build.specs.WireFormulas.{wire_formula}

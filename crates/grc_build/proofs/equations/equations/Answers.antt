@@ -1,4 +1,4 @@
-use Rattle.std.proofs.Common.{◌≡◌, ◌<◌, ◌+◌, ◌++◌, ◌∷◌, [], length, map, take, get_or, sym, ap, ◌∙◌, subst, arith}
+use Rattle.std.proofs.Common.{◌≡◌, ◌<◌, ◌++◌, ◌∷◌, [], length, map, take, get_or, sym, ap, ◌∙◌, subst, arith}
 use Rattle.std.specs.Prelude.{All, IsTrue}
 use Rattle.std.proofs.lemmas.List.{map-append, length-map, take_more, get_or-map, get_or_default}
 use Rattle.std.proofs.lemmas.List.Elements.{All-push}
@@ -35,11 +35,12 @@ loop-w-preserved c =
     let named : get_or names k (wire_of insts w) ≡ wire_of insts w
     = get_or-map (wire_of insts) raw k first_wire (wire_of insts w) inside ∙ ap (λ l. wire_of insts (get_or l k first_wire)) (sym list) in
     let f = c.in_ok-equation.field-0 in
-    let items = c.in_ok-push.ensures.items in
-    (ap (map (formula_of insts names)) items ∙ map-append (formula_of insts names) c.loop-w.list.items (f ∷ [])
-    ∙ (λ j. c.loop-w.invariant.0 j ++ c.in_ok-equation.ensures.same j ∷ [])
-    ∙ (λ j. map (wire_formula p) (take k names) ++ wire_formula p (sym named j) ∷ [])
-    ∙ sym (map-append (wire_formula p) (take k names) (get_or names k (wire_of insts w) ∷ []))
-    ∙ ap (map (wire_formula p)) (sym (take_more names k (wire_of insts w) (omega (arith, length-map raw (wire_of insts))))),
-    subst (λ l. All (λ v. IsTrue (formula_fits (length insts) (length names) v)) l) (sym items)
-    (All-push (λ v. IsTrue (formula_fits (length insts) (length names) v)) c.loop-w.list.items f c.loop-w.invariant.1 c.in_ok-equation.ensures.fits))
+    let items = c.in_ok-push.ensures.items in (
+      ap (map (formula_of insts names)) items ∙ map-append (formula_of insts names) c.loop-w.list.items (f ∷ [])
+          ∙ (λ j. c.loop-w.invariant.0 j ++ c.in_ok-equation.ensures.same j ∷ [])
+          ∙ (λ j. map (wire_formula p) (take k names) ++ wire_formula p (sym named j) ∷ [])
+          ∙ sym (map-append (wire_formula p) (take k names) (get_or names k (wire_of insts w) ∷ []))
+          ∙ ap (map (wire_formula p)) (sym (take_more names k (wire_of insts w) (omega (arith, length-map raw (wire_of insts))))),
+      subst (λ l. All (λ v. IsTrue (formula_fits (length insts) (length names) v)) l) (sym items)
+          (All-push (λ v. IsTrue (formula_fits (length insts) (length names) v)) c.loop-w.list.items f c.loop-w.invariant.1 c.in_ok-equation.ensures.fits),
+    )

@@ -1,6 +1,5 @@
-use Rattle.std.proofs.Common.{◌+◌, refl, arith}
+use Rattle.std.proofs.Common.{refl, arith}
 use Rattle.std.proofs.lemmas.Bool.{lt-ltb, le-ltb}
-use Rattle.grc_build.specs.Tabled.{program_in}
 use Rattle.grc_build.proofs.equations.given.Goals as goal
 
 pub overflow_add-t : goal.overflow_add-t

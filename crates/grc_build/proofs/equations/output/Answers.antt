@@ -1,16 +1,15 @@
-use Rattle.std.proofs.Common.{◌≡◌, ◌∙◌, ◌+◌, ◌-◌, ◌<◌, ◌≤◌, ◌++◌, length, map, get_or, ap, sym, refl, subst, arith}
+use Rattle.std.proofs.Common.{◌≡◌, ◌∙◌, ◌+◌, ◌-◌, ◌<◌, ◌++◌, length, ap, sym, subst, arith}
 use Rattle.std.specs.Prelude.{All, nat_lt}
-use Rattle.std.proofs.lemmas.List.{length-map, get_or-map}
-use Rattle.est_kernel.specs.Plain.{given_count, outgoing_count, interface_count}
+use Rattle.est_kernel.specs.Plain.{given_count}
 use Rattle.grc_graph.specs.Equations.{emissions}
-use Rattle.grc_graph.specs.Formulas.{Input, any_of}
+use Rattle.grc_graph.specs.Formulas.{Input}
 use Rattle.grc_graph.specs.GraphRuns.{program_spots}
 use Rattle.grc_graph.specs.Neighbouring.{instances_in, names_in}
 use Rattle.grc_graph.specs.Wires.{Out}
 use Rattle.grc_build.specs.Emitting.{Gathers, list_at, values}
 use Rattle.grc_build.specs.Meanings.{formula_if}
 use Rattle.grc_build.specs.Tabled.{program_in, MeansAnyIn}
-use Rattle.grc_build.proofs.WireEquations.{OutAt, out_at, list_read}
+use Rattle.grc_build.proofs.WireEquations.{out_at, list_read}
 use Rattle.grc_build.proofs.equations.output.Goals as goal
 
 pub overflow_sub-place : goal.overflow_sub-place

@@ -1,5 +1,3 @@
-use Rattle.std.proofs.Common.{◌≡◌, true}
-use Rattle.grc_build.specs.Meanings.{Means, MeansSome}
 use Rattle.grc_graph.specs.Formulas.{any_of}
 use Rattle.grc_build.proofs.AnyOf.{some_more}
 use Rattle.grc_build.proofs.formulas.any_more.Goals as goal

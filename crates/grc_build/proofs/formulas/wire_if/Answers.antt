@@ -1,5 +1,4 @@
-use Rattle.std.proofs.Common.{length}
-use Rattle.grc_graph.specs.WireTables.{IsNumberOf, HasName}
+use Rattle.grc_graph.specs.WireTables.{IsNumberOf}
 use Rattle.grc_build.proofs.AnyOf.{wire_means}
 use Rattle.grc_build.proofs.formulas.wire_if.Goals as goal
 
