@@ -18,3 +18,6 @@ pub mod WireFilling
 pub mod NeighbourReads
 pub mod LiveLayers
 pub mod RowSpots
+pub mod CodeBounds
+pub mod RowScopes
+pub mod BuiltReads

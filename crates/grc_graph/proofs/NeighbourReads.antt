@@ -1,6 +1,6 @@
 -- Reads of tables of instances and wires: what a search finds, and that what it does not find is not there.
 use Rattle.std.proofs.Common.{◌≡◌, ℕ, zero, suc, ◌+◌, ◌-◌, ◌<◌, ◌≤◌, ◌⊎◌, inl, inr, Bool, true, false, ◌==◌, ◌&&◌, List, [], ◌∷◌, length, map, get_or, refl, sym, ap, ◌∙◌, subst, ⊎_elim, arith, Option, Some, None}
-use Rattle.std.specs.Prelude.{nat_lt, slice_index, Contains, MatchOption}
+use Rattle.std.specs.Prelude.{nat_lt, slice_index, Contains, MatchOption, IsTrue}
 use Rattle.std.specs.List.Sorted.{IsPartitionedBy}
 use Rattle.std.proofs.lemmas.Bool.{cases_lt, and_parts, eq-eqb, eqb-true, lt-ltb, le-ltb, ltb-true, ltb-false, or_cases, false≢true, both_ways, cases_order}
 use Rattle.std.proofs.lemmas.List.{length-map, get_or-map, get_or_default}
@@ -19,6 +19,7 @@ use Rattle.grc_graph.proofs.LiveInstances.{instances_ascend_lem, instances_among
 use Rattle.grc_graph.specs.PlainInstances.{instance_of}
 use Rattle.grc_graph.specs.PlainGraphs.{wire_of, instance_at}
 use Rattle.grc_graph.specs.Wires as names
+use Rattle.grc_graph.specs.GraphShapes.{wire_fits}
 use Rattle.grc_graph.specs.WireTables.{IsNumberOf, HasName, layer_before, comes_before, owner, AreNeighbours, Ascending, SplitsAt}
 
 -- ---- the order of instances
@@ -405,3 +406,19 @@ no_go insts raw first inputs outgoing n l t none c =
     let inside : c.0 < length raw = omega (arith, c.1, length-map raw (wire_of list)) in
     let f = go_from list (get_or raw c.0 first_wire) n l (sym (get_or-map (wire_of list) raw c.0 first_wire (names.Go n l) inside) ∙ c.2) in
     none (live_owner insts f.0 n l (t.runs.own_in c.0 f.0 first_wire inside (ap owner f.1)) f.2)
+
+-- the instances of the wires are there
+pub wires_fit : (insts : List Instance) (raw : List Wire) (first : List ℕ) (inputs outgoing : ℕ)
+    → AreNeighbours insts raw first inputs outgoing
+    → (k : ℕ) (w : Wire) → k < length raw
+    → IsTrue (wire_fits (length (map instance_of insts)) (get_or raw k w))
+wires_fit insts raw first inputs outgoing t k w h = by_wire (get_or raw k w) refl
+  where
+    among : (v : Wire) (i : ℕ) → get_or raw k w ≡ v → owner v ≡ Some i → nat_lt i (length (map instance_of insts)) ≡ true
+    among v i e o = lt-ltb i (length (map instance_of insts)) (omega (arith, t.runs.own_in k i w h (ap owner e ∙ o), length-map insts instance_of))
+
+    by_wire : (v : Wire) → get_or raw k w ≡ v → IsTrue (wire_fits (length (map instance_of insts)) v)
+    by_wire (wires.Go i) e = among (wires.Go i) i.0 e refl
+    by_wire (wires.End i c) e = among (wires.End i c) i.0 e refl
+    by_wire (wires.Local i) e = among (wires.Local i) i.0 e refl
+    by_wire (wires.Out s) e = refl

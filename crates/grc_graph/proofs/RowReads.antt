@@ -78,6 +78,13 @@ rows_in_preorder a B x (Awake e p) n = rows_only _ _ _ (rows_in_preorder (part_l
 pub length-program_rows : (p : Program) → length (program_rows p) ≡ statement_count p.body
 length-program_rows p = length-rows (body_liveness p.body) (program_scope p.inputs (interface_count p)) Body p.body 0
 
+-- the statement with a number
+pub preorder_read : (p : Program) (n : ℕ) → n < statement_count p.body → get_or (preorder p.body) n Nothing ≡ (row_at (program_rows p) n).statement
+preorder_read p n h =
+    let inside : n < length (program_rows p) = omega (arith, length-program_rows p) in
+    ap (λ l. get_or l n Nothing) (sym (rows_in_preorder (body_liveness p.body) (program_scope p.inputs (interface_count p)) Body p.body 0))
+    ∙ get_or-map term_of_row (program_rows p) n _ Nothing inside
+
 pub length-statements : (p : Program) (list : List Statement) → map view_of list ≡ program_listed p → length list ≡ statement_count p.body
 length-statements p list e =
     sym (length-map list view_of) ∙ ap length (e ∙ program_listed_rows p) ∙ length-map (program_rows p) listed_row ∙ length-program_rows p

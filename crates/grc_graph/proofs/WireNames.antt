@@ -1,12 +1,13 @@
 -- Which instances and wires a program has, by the rows of its statements.
 use Rattle.std.proofs.Common.{◌≡◌, ℕ, zero, suc, ◌+◌, ◌-◌, ◌<◌, ◌≤◌, ◌⊎◌, inl, inr, Bool, true, false, ◌==◌, ◌&&◌, List, [], ◌∷◌, ◌++◌, length, map, get_or, refl, sym, ap, ◌∙◌, subst, ⊎_elim, arith, length-append, append_assoc}
 use Rattle.std.specs.Prelude.{Contains, if◌then◌else◌}
-use Rattle.std.specs.List.{flat_map, list_any}
+use Rattle.std.specs.List.{flat_map, list_any, range_with_len}
 use Rattle.std.proofs.lemmas.Bool.{cases_lt, cases_Bool, eq-eqb, eqb-true, or_cases, or_left, false≢true}
 use Rattle.std.specs.Prelude.{◌||◌}
 use Rattle.std.proofs.lemmas.List.{length-map, map-append, get_or-map, append-nil}
+use Rattle.std.proofs.lemmas.List.FromFn.{get_or-map-range_with_len, length-map-range_with_len}
 use Rattle.std.proofs.lemmas.List.Elements.{Contains-append_left, Contains-append_right, Contains-append_cases, Contains-get_or}
-use Rattle.est_kernel.specs.Plain.{Program, interface_count}
+use Rattle.est_kernel.specs.Plain.{Program, interface_count, outgoing_count}
 use Rattle.est_kernel.specs.WellFormed.{IsKernel}
 use Rattle.est_kernel.specs.Terms.{Term, Nothing, Pause, Emit, Exit, Present, Suspend, Seq, Loop, Par, Trap, Local, Awake}
 use Rattle.est_kernel.specs.Preorder.{statement_count}
@@ -30,7 +31,7 @@ abbrev pub row_instances : List Row → ℕ → List Instance
 row_instances [] n = []
 row_instances (r ∷ rs) n = instances_at r.live n ++ row_instances rs (n + 1)
 
-row_instances-append : (rs qs : List Row) (n m : ℕ) → n + length rs ≡ m → row_instances (rs ++ qs) n ≡ row_instances rs n ++ row_instances qs m
+pub row_instances-append : (rs qs : List Row) (n m : ℕ) → n + length rs ≡ m → row_instances (rs ++ qs) n ≡ row_instances rs n ++ row_instances qs m
 row_instances-append [] qs n m e = ap (row_instances qs) (let z : n ≡ m = omega (arith, e) in z)
 row_instances-append (r ∷ rs) qs n m e =
     ap (λ l. instances_at r.live n ++ l) (row_instances-append rs qs (n + 1) m (omega arith))
@@ -64,7 +65,7 @@ instances_by_row a B x (Trap p) n = ap (λ l. instances_at a n ++ l) (instances_
 instances_by_row a B x (Local s p) n = ap (λ l. instances_at a n ++ l) (instances_by_row (part_liveness a p) (bind B s n) (Part n) p (n + 1))
 instances_by_row a B x (Awake e p) n = ap (λ l. instances_at a n ++ l) (instances_by_row (part_liveness a p) B (Part n) p (n + 1))
 
-body_by_row : (p : Program) → body_instances p.body ≡ row_instances (program_rows p) 0
+pub body_by_row : (p : Program) → body_instances p.body ≡ row_instances (program_rows p) 0
 body_by_row p = instances_by_row (body_liveness p.body) (program_scope p.inputs (interface_count p)) Body p.body 0
 
 -- whether a layer is one of those of a statement
@@ -366,7 +367,7 @@ wire_only p kernel c n l h =
     (Contains-append_cases (outs_of p) (flat_map (row_wires W) (body_instances p.body)) (wire_named c n l)
     (subst (λ ws. Contains ws (wire_named c n l)) (program_wires_by_row p kernel) h))
 
-abbrev Below : Kind → Type 0
+abbrev pub Below : Kind → Type 0
 Below IsGo = Unit {0}
 Below IsStatus = Unit {0}
 Below (IsEnd k) = k < 64
@@ -387,3 +388,32 @@ wire_there p kernel c n l b h =
     (Contains-append_right (outs_of p) (flat_map (row_wires W) (body_instances p.body)) (wire_named c n l)
     (contains_flat_map (row_wires W) (body_instances p.body) (at_layer n l) (wire_named c n l)
     (instance_live p n l h.within h.live) (has_inside (row_at W n).statement c n l b h.has)))
+
+-- an outgoing signal that has a wire
+pub out_only : (p : Program) → IsKernel p.body → (s : ℕ) → Contains (program_wires p) (Out s) → (p.inputs ≤ s) × (s < interface_count p)
+out_only p kernel s h =
+    let W = program_rows p in
+    ⊎_elim
+    (λ k.
+    let few : k.0 < outgoing_count p = omega (arith, k.1, length-map-range_with_len Out p.inputs (outgoing_count p)) in
+    let same : p.inputs + k.0 ≡ s = number (p.inputs + k.0) (sym (get_or-map-range_with_len Out p.inputs (outgoing_count p) k.0 (p.inputs + k.0) (Out s) few refl) ∙ k.2) in
+    (omega (arith, same), omega (arith, same, few)))
+    (λ k.
+    let r = from_flat_map (row_wires W) (body_instances p.body) (Out s) k in
+    let x = r.0 in
+    absurd (⊎_elim (go x.path x.layer) (λ u. ⊎_elim (λ v. status x.path x.layer v.1) (λ v. end x.path x.layer v.0 v.2) u)
+    (inside (row_at W x.path).statement (Out s) x.path x.layer r.2)))
+    (Contains-append_cases (outs_of p) (flat_map (row_wires W) (body_instances p.body)) (Out s)
+    (subst (λ ws. Contains ws (Out s)) (program_wires_by_row p kernel) h))
+  where
+    number : (q : ℕ) → Out q ≡ Out s → q ≡ s
+    number q e = cc
+
+    go : (n : ℕ) (l : Layer) → Go n l ≡ Out s → ⊥
+    go n l e = cc
+
+    status : (n : ℕ) (l : Layer) → StatusOf n l ≡ Out s → ⊥
+    status n l e = cc
+
+    end : (n : ℕ) (l : Layer) (k : ℕ) → End n l k ≡ Out s → ⊥
+    end n l k e = cc

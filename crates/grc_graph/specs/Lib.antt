@@ -34,3 +34,4 @@ pub mod WireTables
 pub mod Neighbouring
 pub mod WireNames
 pub mod PlainWireNames
+pub mod BuiltGraphs

@@ -28,7 +28,7 @@ pub use laws::{
     enclosing_instances_are_live, instances_ascend, leaves_are_resumed_pauses,
     residual_has_resumed_codes,
 };
-pub use neighbours::{Neighbours, layer_above};
+pub use neighbours::{Neighbours, instance_codes, layer_above};
 pub use orders::{Edges, Order, Ranks};
 pub use statements::{Binding, Entry, Statement, list_statements};
 pub use trees::{SelForm, SelNode, SelTree};

@@ -280,8 +280,8 @@ fn push_ends(wires: &mut Vec<Wire>, i: InstId, codes: CodeSet) -> Result<(), NoM
     Ok(())
 }
 
-// The codes of an instance.
-fn instance_codes(codes: &Codes, instance: Instance) -> CodeSet
+/// The static codes of an instance. It takes no memory.
+pub fn instance_codes(codes: &Codes, instance: Instance) -> CodeSet
     requires started { instance.path.0 < length codes.now.started.items }
     requires resumed { instance.path.0 < length codes.now.resumed.items }
     ensures { members result ≡ codes_of codes.now (instance_of instance) }

@@ -1,0 +1,14 @@
+pub mod AnyOf
+pub mod PartLiveness
+pub mod TableFacts
+pub mod Bindings
+pub mod StatusWires
+pub mod EndFacts
+pub mod EmissionLists
+pub mod TableSpots
+pub mod WireEquations
+pub mod NodeFacts
+pub mod GraphSizes
+pub mod GraphParts
+pub mod StatementRuns
+pub mod NextFacts

@@ -1,0 +1,18 @@
+use Rattle.std.proofs.Common.{ap, ◌∙◌, arith}
+use Rattle.grc_graph.specs.PlainInstances.{layer_of}
+use Rattle.grc_build.proofs.NextFacts.{pause_read}
+use Rattle.grc_build.proofs.StatusWires.{instance_here, read_number}
+use Rattle.grc_build.proofs.TableFacts.{statements_within}
+use Rattle.grc_build.proofs.next.is_leaf.Goals as goal
+
+pub index-requires : goal.index-requires
+index-requires c =
+    let t = c.args.t.now in
+    let k = instance_here t c.args.i.0 c.requires.tables c.requires.within in
+    omega (arith, statements_within t _ c.requires.tables k.within, ap (λ x. x.path) (read_number t c.args.i.0 c.instance-instance.result c.instance-instance.ensures))
+
+pub returns-in-Resumed : goal.returns-in-Resumed
+returns-in-Resumed c =
+    c.is_pause.ensures
+    ∙ pause_read c.args.t.now c.args.i.0 c.index.result.now c.instance-instance.result c.requires.tables c.requires.within c.instance-instance.ensures c.index.ensures
+    (ap layer_of c.in-Resumed.is)

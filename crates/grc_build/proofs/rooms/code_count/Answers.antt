@@ -1,0 +1,22 @@
+use Rattle.std.proofs.Common.{ap, sym, ◌∙◌, length, ◌+◌, arith}
+use Rattle.est_base.specs.CodeSet.{members}
+use Rattle.grc_graph.specs.Wires.{codes_below}
+use Rattle.grc_graph.proofs.CodesBelow.{codes_below-none, codes_below-all}
+use Rattle.grc_build.proofs.GraphSizes.{codes_counted, one_at_most}
+use Rattle.grc_build.proofs.rooms.code_count.Goals as goal
+
+pub loop-code-init : goal.loop-code-init
+loop-code-init c = (sym (ap length (codes_below-none (members c.args.codes))), omega arith)
+
+pub overflow_add-count : goal.overflow_add-count
+overflow_add-count c = omega (arith, c.loop-code.invariant.1, c.one_if-count.ensures, one_at_most c.has.result)
+
+pub loop-code-preserved : goal.loop-code-preserved
+loop-code-preserved c = (
+  ap (λ n. n + c.one_if-count.result) c.loop-code.invariant.0 ∙ ap (λ n. length (codes_below c.loop-code.code (members c.args.codes)) + n) c.one_if-count.ensures
+      ∙ sym (codes_counted c.loop-code.code (members c.args.codes) c.has.result (sym c.has.ensures)),
+  omega (arith, c.loop-code.invariant.1, c.one_if-count.ensures, one_at_most c.has.result),
+)
+
+pub returns : goal.returns
+returns c = c.loop-code.invariant.0 ∙ ap length (codes_below-all c.loop-code.code (members c.args.codes) (omega arith))

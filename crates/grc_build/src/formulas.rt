@@ -1,0 +1,95 @@
+// Formulas made of formulas.
+
+ghost use Rattle.std.specs.Prelude.{◌≡◌, ◌↔◌, true, [], ◌∷◌, ◌++◌, List, Bool, Contains, IfOk};
+ghost use Rattle.grc_graph.specs.Instances.{Instance};
+ghost use Rattle.grc_graph.specs.Wires.{Wire};
+ghost use Rattle.grc_graph.specs.Formulas.{Formula as plain_formula, Value, Negation, Conjunction, Disjunction, any_of};
+ghost use Rattle.grc_graph.specs.WireTables.{HasName};
+ghost use Rattle.grc_build.specs.Meanings.{Means, MeansIf, MeansAny, formula_if};
+
+use est_base::{NoMemory, WireId};
+use grc_graph::Formula;
+use std::alloc::Global;
+
+/// Both of two formulas.
+pub(crate) fn both(alloc: Global, a: Formula, b: Formula) -> Result<Formula, NoMemory>
+    ensures { (insts : List Instance) (names : List Wire) (x y : plain_formula) → Means insts names a x
+        → Means insts names b y → IfOk result (λ f. Means insts names f (Conjunction x y)) }
+{
+    let a = Box::new(alloc, a)?;
+    let b = Box::new(alloc, b)?;
+    Ok(Formula::And(a, b))
+}
+
+/// Either of two formulas.
+pub(crate) fn either(alloc: Global, a: Formula, b: Formula) -> Result<Formula, NoMemory>
+    ensures { (insts : List Instance) (names : List Wire) (x y : plain_formula) → Means insts names a x
+        → Means insts names b y → IfOk result (λ f. Means insts names f (Disjunction x y)) }
+{
+    let a = Box::new(alloc, a)?;
+    let b = Box::new(alloc, b)?;
+    Ok(Formula::Or(a, b))
+}
+
+/// The negation of a formula.
+pub(crate) fn negated(alloc: Global, a: Formula) -> Result<Formula, NoMemory>
+    ensures { (insts : List Instance) (names : List Wire) (x : plain_formula) → Means insts names a x
+        → IfOk result (λ f. Means insts names f (Negation x)) }
+{
+    Ok(Formula::Not(Box::new(alloc, a)?))
+}
+
+/// The or of a formula that may be missing and of others; none where all are missing.
+pub(crate) fn any_more(
+    alloc: Global,
+    first: Option<Formula>,
+    rest: Option<Formula>,
+) -> Result<Option<Formula>, NoMemory>
+    ensures { (insts : List Instance) (names : List Wire) (b : Bool) (x : plain_formula) (xs : List plain_formula)
+        → MeansIf insts names first b x → MeansAny insts names rest xs
+        → IfOk result (λ r. MeansAny insts names r (formula_if b x ++ xs)) }
+{
+    match first {
+        None => Ok(rest),
+        Some(a) => match rest {
+            None => Ok(Some(a)),
+            Some(b) => {
+                let f = either(alloc, a, b)?;
+                Ok(Some(f))
+            }
+        },
+    }
+}
+
+/// A formula, or the one that is false where it is missing.
+pub(crate) fn or_false(found: Option<Formula>) -> Formula
+    ensures { (insts : List Instance) (names : List Wire) (xs : List plain_formula)
+        → MeansAny insts names found xs → Means insts names result (any_of xs) }
+{
+    match found {
+        Some(f) => f,
+        None => Formula::Const(false),
+    }
+}
+
+/// The formula of a wire that is there.
+pub(crate) fn wire(found: Option<WireId>) -> Formula
+    ensures { (insts : List Instance) (names : List Wire) (u : Wire) → HasName names found u → Contains names u
+        → Means insts names result (Value u) }
+{
+    match found {
+        Some(w) => Formula::Wire(w),
+        None => Formula::Const(false),
+    }
+}
+
+/// The formula of a wire that may be there.
+pub(crate) fn wire_if(found: Option<WireId>) -> Option<Formula>
+    ensures { (insts : List Instance) (names : List Wire) (u : Wire) (b : Bool) → HasName names found u
+        → (Contains names u ↔ (b ≡ true)) → MeansIf insts names result b (Value u) }
+{
+    match found {
+        Some(w) => Some(Formula::Wire(w)),
+        None => None,
+    }
+}

@@ -1,0 +1,52 @@
+-- What the passes above read of a program's graph.
+use Rattle.std.proofs.Common.{◌≡◌, ℕ, ◌+◌, ◌≤◌, List, [], ◌∷◌, length, map, refl, sym, ap, ◌∙◌, arith}
+use Rattle.std.specs.Prelude.{zip, sum_by}
+use Rattle.std.proofs.lemmas.List.{length-map}
+use Rattle.est_base.specs.declared.bounds.TheConstants.Limits.{WIRES}
+use Rattle.est_kernel.specs.Plain.{Program, given_count, interface_of}
+use Rattle.grc_graph.specs.declared.formulas.Formula as stored
+use Rattle.grc_graph.specs.declared.graph.Graph.{Graph}
+use Rattle.grc_graph.specs.BuiltGraphs.{IsGraphOf, live_tests}
+use Rattle.grc_graph.specs.Equations.{Equation, equations, next_formula}
+use Rattle.grc_graph.specs.Formulas.{Formula}
+use Rattle.grc_graph.specs.GraphRuns.{program_spots, program_wires}
+use Rattle.grc_graph.specs.Instances.{Instance}
+use Rattle.grc_graph.specs.Layers.{body_layers}
+use Rattle.grc_graph.specs.PlainGraphs.{equations_of, formula_of, instances_of, names_of, wire_of}
+use Rattle.grc_graph.specs.SelectionTrees.{body_leaves}
+use Rattle.grc_graph.specs.Wires.{Wire}
+
+-- its wires keep the limit
+pub wires_few : (g : Graph) (p : Program) → IsGraphOf g p → length g.wires.items ≤ WIRES
+wires_few g p h =
+    let few : length (program_wires p) + sum_by (λ x. live_tests x.statement x.layer) (program_spots p) ≤ WIRES = h.few in
+    omega (arith, few, length-map g.wires.items (wire_of (instances_of g)), ap length h.wires)
+
+-- it has a formula of the next state for each leaf
+pub next_each : (g : Graph) (p : Program) → IsGraphOf g p → length g.next.items ≡ length (body_leaves p.body)
+next_each g p h =
+    sym (length-map g.next.items (formula_of (instances_of g) (names_of g))) ∙ ap (λ x. length x.next) h.graph
+    ∙ length-map (body_leaves p.body) (λ n. next_formula n (body_layers p.body n))
+
+abbrev pub formula_in : Equation → Formula
+formula_in e = e.formula
+
+abbrev equation_in : List Instance → List Wire → Wire × stored.Formula → Equation
+equation_in insts all e = record { wire = e.0; formula = formula_of insts all e.1 }
+
+formulas_read : (insts : List Instance) (all names : List Wire) (fs : List stored.Formula) → length fs ≡ length names
+    → map formula_in (map (equation_in insts all) (zip names fs)) ≡ map (formula_of insts all) fs
+formulas_read insts all [] [] e = refl
+formulas_read insts all [] (f ∷ fs) e = absurd (omega (arith, e))
+formulas_read insts all (u ∷ us) [] e = refl
+formulas_read insts all (u ∷ us) (f ∷ fs) e = ap (λ l. formula_of insts all f ∷ l) (formulas_read insts all us fs (omega (arith, e)))
+
+-- its formulas are those of the program's equations
+pub formulas_each : (g : Graph) (p : Program) → IsGraphOf g p
+    → map (formula_of (instances_of g) (names_of g)) g.equations.items
+    ≡ map formula_in (equations (given_count p) (interface_of p).outgoing (program_spots p))
+formulas_each g p h =
+    let insts = instances_of g in
+    let names = names_of g in
+    let each : length g.equations.items ≡ length names = g.indices.equations_all ∙ sym (length-map g.wires.items (wire_of insts)) in
+    sym (formulas_read insts names names g.equations.items each) ∙ ap (λ x. map formula_in x.equations) h.graph
