@@ -2,7 +2,7 @@
 use Rattle.std.proofs.Common.{◌≡◌, ℕ, ◌+◌, ◌<◌, ◌≤◌, Bool, true, false, List, [], ◌∷◌, ◌++◌, length, map, take, get_or, refl, sym, ap, ◌∙◌, subst, arith, length-append}
 use Rattle.std.specs.Prelude.{sum_by, if◌then◌else◌}
 use Rattle.std.specs.List.{flat_map}
-use Rattle.std.proofs.lemmas.List.{length-map}
+use Rattle.std.proofs.lemmas.List.{length-map, get_or_default}
 use Rattle.std.proofs.lemmas.List.Concat.{length-flat_map}
 use Rattle.std.proofs.lemmas.List.Sums.{sum_by-cons, sum_by_more, sum_by_more_le}
 use Rattle.std.proofs.lemmas.List.FromFn.{length-map-range_with_len}
@@ -10,16 +10,20 @@ use Rattle.est_kernel.specs.Plain.{Program, outgoing_count}
 use Rattle.est_kernel.specs.Sizes.{test_size}
 use Rattle.est_kernel.specs.Terms.{Expression, Tick, Sig, Not, And, Or, Term, Nothing, Pause, Emit, Exit, Present, Suspend, Seq, Loop, Par, Trap, Local, Awake}
 use Rattle.est_kernel.specs.WellFormed.{IsKernel}
+use Rattle.est_kernel.specs.Preorder.{statement_count}
+use Rattle.grc_graph.specs.declared.instances.Instance as stored
 use Rattle.grc_graph.specs.BuiltGraphs.{graph_size, live_tests}
 use Rattle.grc_graph.specs.GraphRuns.{program_spots}
 use Rattle.grc_graph.specs.Instances.{Instance, body_instances}
 use Rattle.grc_graph.specs.Layers.{Layer}
 use Rattle.grc_graph.specs.Neighbouring.{program_wires}
+use Rattle.grc_graph.specs.PlainInstances.{instance_of}
 use Rattle.grc_graph.specs.Rows.{program_rows, row_at, spot_at}
 use Rattle.grc_graph.specs.Spots.{Spot}
 use Rattle.grc_graph.specs.Wires.{Out, End, codes_below, listed, instance_codes, own_status, instance_wires}
 use Rattle.grc_graph.specs.WireTables.{is_local}
 use Rattle.grc_graph.proofs.CodesBelow.{codes_below-has, codes_below-lacks}
+use Rattle.grc_graph.proofs.NeighbourReads.{path_within, name_at, first_instance}
 use Rattle.grc_graph.proofs.RowSpots.{program_spots_by_row}
 use Rattle.grc_graph.proofs.WireFilling.{row_wires, outs_of, program_wires_by_row}
 use Rattle.grc_build.specs.Rooms.{instance_size, size_at}
@@ -104,3 +108,21 @@ pub size_within : (p : Program) (insts : List Instance) (i : ℕ) (x : Instance)
     → sum_by (size_at p) (take i insts) + size_at p x ≤ sum_by (size_at p) insts
 size_within p insts i x h e =
     subst (λ y. sum_by (size_at p) (take i insts) + size_at p y ≤ sum_by (size_at p) insts) e (sum_by_more_le (size_at p) insts i x h)
+
+-- a live instance that was read
+pub record LiveRead (p : Program) (raw : List stored.Instance) (i : ℕ) (y : stored.Instance) : Type 0 where
+  pub here : i < length (map instance_of raw)
+  pub within : y.path.0 < statement_count p.body
+  pub named : get_or (map instance_of raw) i (instance_of y) ≡ instance_of y
+
+pub live_read : (p : Program) (raw list : List stored.Instance) (i : ℕ) → map instance_of raw ≡ body_instances p.body → list ≡ raw → i < length list
+    → LiveRead p raw i (get_or list i first_instance)
+live_read p raw list i live e h =
+    let y = get_or list i first_instance in
+    let inside : i < length raw = omega (arith, ap length e) in
+    let same : y ≡ get_or raw i y = ap (λ l. get_or l i first_instance) e ∙ get_or_default raw i first_instance y inside in
+    record {
+      here = omega (arith, length-map raw instance_of);
+      within = path_within p.body raw i y live inside same;
+      named = name_at raw i y (instance_of y) inside ∙ ap instance_of (sym same);
+    }

@@ -1,17 +1,21 @@
 -- Nodes by numbers are nodes by names.
-use Rattle.std.proofs.Common.{◌≡◌, ℕ, ◌+◌, ◌<◌, true, length, refl, sym, ap, subst, Some, None, ⊎_elim}
+use Rattle.std.proofs.Common.{◌≡◌, ℕ, ◌+◌, ◌<◌, true, length, get_or, refl, sym, ap, ◌∙◌, subst, Some, None, ⊎_elim}
 use Rattle.std.proofs.lemmas.Bool.{lt-ltb, and_from}
 use Rattle.est_base.specs.declared.indices.InstId.{InstId}
 use Rattle.est_base.specs.declared.indices.WireId.{WireId}
+use Rattle.est_kernel.specs.Plain.{term_of}
 use Rattle.est_kernel.specs.Preorder.{statement_count}
 use Rattle.est_kernel.specs.Terms.{Expression, Term, Pause, Present, Suspend, Seq, Par}
+use Rattle.grc_graph.specs.declared.instances.Instance as stored
+use Rattle.grc_graph.specs.declared.statements.Statement.{Statement}
 use Rattle.grc_graph.specs.declared.wires.Node.{Node}
 use Rattle.grc_graph.specs.declared.wires.Node.TheVariants as nodes
 use Rattle.grc_graph.specs.Layers.{Layer, Resumed, Started, layer_above}
-use Rattle.grc_graph.specs.Rows.{live_in}
+use Rattle.grc_graph.specs.Rows.{live_in, second_of}
 use Rattle.grc_graph.specs.Neighbouring.{instances_in, names_in}
 use Rattle.grc_graph.specs.Nodes as plain
 use Rattle.grc_graph.specs.Nodes.{node_at}
+use Rattle.grc_graph.specs.PlainInstances.{instance_of}
 use Rattle.grc_graph.specs.PlainGraphs.{instance_at}
 use Rattle.grc_graph.specs.Scopes.{Scope, Binding, Outgoing, BoundAt}
 use Rattle.grc_graph.specs.WireTables.{IsNumberOf}
@@ -22,12 +26,13 @@ use Rattle.grc_build.specs.Emitting.{spot_in}
 use Rattle.grc_build.specs.Noding.{IsNodeOf, IsNode, by_layer, parallel_node, AreBranches}
 use Rattle.grc_build.specs.Tabled.{AreTables, IsLive, IsThere, StatusIsThere, row_in}
 use Rattle.grc_build.proofs.EndFacts.{par_first, par_second}
+use Rattle.grc_build.proofs.StatusWires.{instance_here, own_row, own_statement, read_number}
 use Rattle.grc_build.proofs.TableFacts.{Here, number_fits, is_live}
 
-abbrev path_at : Tables → ℕ → ℕ
+abbrev pub path_at : Tables → ℕ → ℕ
 path_at t i = (instance_at (instances_in t.wires) i).path
 
-abbrev layer_at : Tables → ℕ → Layer
+abbrev pub layer_at : Tables → ℕ → Layer
 layer_at t i = (instance_at (instances_in t.wires) i).layer
 
 -- ---- one node
@@ -109,6 +114,41 @@ par_node B p q n m (Started r) e = ap (λ k. plain.Fork (n + 1) k (Started r)) e
 pub node_by : (t : Tables) (i : ℕ) (x : Node) (f : Term) → (spot_in t i).statement ≡ f
     → IsNodeOf t x (node_at (row_in t (path_at t i)).scope f (path_at t i) (layer_at t i)) → IsNode t x i
 node_by t i x f e h = subst (λ g. IsNodeOf t x (node_at (row_in t (path_at t i)).scope g (path_at t i) (layer_at t i))) (sym e) h
+
+-- an instance that was read, with its statement, which has this form
+pub record ReadForm (t : Tables) (i : InstId) (y : stored.Instance) (s : Statement) (f : Term) : Type 0 where
+  pub here : Here t (path_at t i.0) (layer_at t i.0)
+  pub layer : (instance_of y).layer ≡ layer_at t i.0
+  pub form : (spot_in t i.0).statement ≡ f
+  pub second : s.second ≡ second_of f (path_at t i.0)
+
+pub read_form : (t : Tables) (i : InstId) (y : stored.Instance) (s : Statement) (f : Term) → AreTables t → i.0 < length (instances_in t.wires)
+    → IsNumberOf (instances_in t.wires) i.0 (instance_of y)
+    → s ≡ get_or t.statements.items y.path.0 s
+    → term_of s.body.now ≡ f
+    → ReadForm t i y s f
+read_form t i y s f h l n e g =
+    let k = instance_here t i.0 h l in
+    let form : (spot_in t i.0).statement ≡ f = sym (own_statement t i.0 s y h l n e) ∙ g in
+    record {
+      here = k;
+      layer = ap (λ x. x.layer) (sym (read_number t i.0 y n));
+      form = form;
+      second = ap (λ v. v.second) (own_row t i.0 s y h l n e) ∙ k.placed.second ∙ ap (λ v. second_of v (path_at t i.0)) form;
+    }
+
+-- one node of a resumed instance, and another of a started one
+pub layered_node : (t : Tables) (i : InstId) (y : stored.Instance) (s : Statement) (f : Term) (x a b : Node) (p q : plain.Node)
+    → ReadForm t i y s f
+    → x ≡ by_layer (instance_of y).layer a b
+    → IsNodeOf t a p
+    → IsNodeOf t b q
+    → plain_by_layer (layer_at t i.0) p q ≡ node_at (row_in t (path_at t i.0)).scope f (path_at t i.0) (layer_at t i.0)
+    → IsNode t x i.0
+layered_node t i y s f x a b p q r e h g same =
+    let own : x ≡ by_layer (layer_at t i.0) a b = e ∙ ap (λ l. by_layer l a b) r.layer in
+    node_by t i.0 x f r.form (subst (λ v. IsNodeOf t v (node_at (row_in t (path_at t i.0)).scope f (path_at t i.0) (layer_at t i.0))) (sym own)
+    (subst (IsNodeOf t (by_layer (layer_at t i.0) a b)) same (layered t (layer_at t i.0) a b p q h g)))
 
 pub are_branches : (t : Tables) (n m : ℕ) (l : Layer) (p q : Term) → AreTables t → Here t n l → (row_in t n).statement ≡ Par p q → m ≡ n + 1 + statement_count p
     → AreBranches t n m l
