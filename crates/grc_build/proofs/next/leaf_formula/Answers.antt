@@ -41,9 +41,10 @@ loop-j-preserved c =
     (kept_means insts names (record { 0 = j }) within) in
     let found = subst (λ k. MeansIn t c.loop-j.found (any_of (selected_from insts n k))) same c.loop-j.invariant.1 in
     let whole = c.in_ok-found-2.ensures insts names (Conjunction go kept) (any_of (selected_from insts n (j + 1))) start found in
-    let behind : i < j = omega (arith, c.loop-j-test.true) in
-    (behind,
-    start_more insts names i j c.run_end-j.result c.in_ok-found-2.found (instances_ascend t c.requires.tables) c.run_end-j.ensures behind below whole)
+    let behind : i < j = omega (arith, c.loop-j-test.true) in (
+      behind,
+      start_more insts names i j c.run_end-j.result c.in_ok-found-2.found (instances_ascend t c.requires.tables) c.run_end-j.ensures behind below whole,
+    )
 
 pub returns : goal.returns
 returns c =
