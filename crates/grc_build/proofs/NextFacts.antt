@@ -89,7 +89,8 @@ leaf_whole t i h l e =
     let n = (instance_at insts i).path in
     let k = instance_here t i h l in
     let layers : body_layers body n ≡ Resumed ∷ layers_from insts n (i + 1)
-    = sym (layers_of_statement body n (kernel_of t) k.within) ∙ ap (λ xs. layers_from xs n 0) (sym h.instances) ∙ resumed_first insts i (instances_ascend t h) l e in
+    = sym (layers_of_statement body n (kernel_of t) k.within) ∙ ap (λ xs. layers_from xs n 0) (sym h.instances)
+    ∙ resumed_first insts i (instances_ascend t h) l e in
     sym (ap (next_formula n) layers)
 
 -- from the end of its run on there is but that it is held

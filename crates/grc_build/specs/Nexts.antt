@@ -1,5 +1,6 @@
 -- Inner: the instances of one statement among those of a body, and what they say of the next state.
-use Rattle.std.specs.Prelude.{◌≡◌, ℕ, ◌<◌, ◌≤◌, Bool, ◌==◌, List, [], ◌∷◌, ◌++◌, length, map, filter, take, drop, flat_map}
+use Rattle.std.specs.Prelude.{◌≡◌, ℕ, ◌<◌, ◌≤◌, Bool, ◌==◌}
+use Rattle.std.specs.Prelude.{List, [], ◌∷◌, ◌++◌, length, map, filter, take, drop, flat_map}
 use Rattle.est_kernel.specs.Terms.{Term}
 use Rattle.grc_graph.specs.Equations.{kept_start, next_formula}
 use Rattle.grc_graph.specs.Formulas.{Formula, Selected, Held, Conjunction}
