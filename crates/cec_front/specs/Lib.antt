@@ -2,3 +2,4 @@ pub mod Positions
 pub mod Sources
 pub mod Refusals
 pub mod Lines
+pub mod Laws

@@ -44,6 +44,7 @@ fault_text source main (faults.Syntax token place) = placed source place (codes 
 fault_text source main (faults.Name fault) = name_text source main fault
 fault_text source main (faults.Expand fault) = expand_text source fault
 fault_text source main (faults.BadCount at) = placed source at.start (codes "bad count")
+fault_text source main (faults.InstantLoop at) = placed source at.start (codes "instantaneous loop")
 
 abbrev pub quantity_word : Quantity → List ℕ
 quantity_word quantities.Nesting = codes "nesting"

@@ -1,8 +1,9 @@
 -- To believe: why a source has no kernel program. Each refusal is the first fault of the passes in their order: the
--- tokens, the tree, the names, the flat form, the counts, and the limits of the kernel program. Want of memory has no
--- cause in the source.
+-- tokens, the tree, the names, the flat form, the counts, the limits of the kernel program, and its instantaneous loops.
+-- Want of memory has no cause in the source.
 use Rattle.std.specs.Prelude.{◌≡◌, ◌⊎◌, ℕ, ⊤, List, length, slice_index_or, Option, Some, nat_lt, if◌then◌else◌, Err}
 use Rattle.est_base.specs.declared.bounds.TheConstants.Limits.{NESTING}
+use Rattle.est_base.specs.declared.place.Span.{Span}
 use Rattle.est_ast.specs.declared.tokens.Token.{Token}
 use Rattle.est_ast.specs.declared.tokens.Kind.TheVariants as kinds
 use Rattle.est_ast.specs.Lexing.{LexesAs, Tokens}
@@ -20,6 +21,9 @@ use Rattle.est_expand.specs.Answers.{fault_of}
 use Rattle.est_expand.specs.Flattening.{flattened}
 use Rattle.est_expand.specs.declared.refusal.ExpandFault.{ExpandFault}
 use Rattle.est_expand.specs.declared.refusal.ExpandFault.TheVariants as expanding
+use Rattle.est_kernel.specs.Plain.{Program}
+use Rattle.est_kernel.specs.StaticCodes.{instant_loops}
+use Rattle.est_codes.specs.Faults.{IsLeast}
 use Rattle.est_dismantle.specs.Expansions.{expansion}
 use Rattle.est_dismantle.specs.Expansions as expansions
 use Rattle.cec_front.specs.declared.refusal.Fault.{Fault}
@@ -27,7 +31,7 @@ use Rattle.cec_front.specs.declared.refusal.Fault.TheVariants as faults
 use Rattle.cec_front.specs.declared.refusal.Quantity.TheVariants as quantities
 use Rattle.cec_front.specs.declared.refusal.Refusal.{Refusal}
 use Rattle.cec_front.specs.declared.refusal.Refusal.TheVariants.{Static, Limit, NoMemory}
-use Rattle.cec_front.specs.Sources.{ReadsAs, Declares, Flattens, main_module}
+use Rattle.cec_front.specs.Sources.{ReadsAs, Declares, Flattens, Expands, main_module}
 
 -- ---- the tokens, the tree and the names
 
@@ -82,6 +86,14 @@ pub record Unexpanded (text : List ℕ) (main : Option (List ℕ)) (answer : exp
   pub flattens : Flattens text main flat
   pub ends : expansion flat ≡ answer
 
+-- The bytes have an expansion in which some loops are instantaneous: the body of each can terminate in the instant in
+-- which it starts. Of these loops this is the place of the one that starts first in the source, and among those that
+-- start there of the one that ends first.
+pub record LoopsAtOnce (text : List ℕ) (main : Option (List ℕ)) (place : Span) : Type 0 where
+  pub program : Program
+  pub expands : Expands text main program
+  pub least : IsLeast (Some place) (instant_loops program.body)
+
 -- ---- refusals
 
 abbrev pub HasFault : List ℕ → Option (List ℕ) → Fault → Type 0
@@ -93,6 +105,7 @@ HasFault text main (faults.Syntax token place) =
 HasFault text main (faults.Name fault) = HasNameFault text main fault
 HasFault text main (faults.Expand fault) = HasExpandFault text main fault
 HasFault text main (faults.BadCount place) = Unexpanded text main (expansions.BadCount place)
+HasFault text main (faults.InstantLoop place) = LoopsAtOnce text main place
 
 abbrev pub IsRefused : List ℕ → Option (List ℕ) → Refusal → Type 0
 IsRefused text main (Static fault) = HasFault text main fault

@@ -7,6 +7,7 @@ use Rattle.est_ast.specs.Nesting.{IsProgram}
 use Rattle.est_ast.specs.Trees as source
 use Rattle.est_ast.specs.FlatTrees.{Flat}
 use Rattle.est_kernel.specs.Plain.{Program}
+use Rattle.est_kernel.specs.StaticCodes.{NoInstantLoop}
 use Rattle.est_names.specs.NameFaults.{module_names, main_place, name_faults}
 use Rattle.est_expand.specs.Flattening.{flattened}
 use Rattle.est_dismantle.specs.Expansions.{Expanded, expansion}
@@ -34,8 +35,14 @@ pub record Flattens (text : List ℕ) (main : Option (List ℕ)) (flat : Flat) :
   pub is_main : main_module main tree ≡ Some main_one
   pub flat_form : flattened tree main_one ≡ Ok flat
 
--- Each statement is expanded into kernel statements, and this is the kernel program.
+-- Each statement is expanded into kernel statements, and this is the program of them.
 pub record Expands (text : List ℕ) (main : Option (List ℕ)) (p : Program) : Type 0 where
   pub flat : Flat
   pub flattens : Flattens text main flat
   pub expands : expansion flat ≡ Expanded p
+
+-- The bytes stand for this kernel program: it is their expansion, and none of its loops is instantaneous. A loop is so
+-- where its body can terminate in the instant in which it starts.
+pub record StandsFor (text : List ℕ) (main : Option (List ℕ)) (p : Program) : Type 0 where
+  pub expands : Expands text main p
+  pub no_instant_loop : NoInstantLoop p.body

@@ -72,6 +72,13 @@ fn put_fault<E: Sink>(err: &mut E, subject: Subject<'_>, fault: &Fault) -> Resul
         Fault::Name(fault) => put_name_fault(err, subject, *fault),
         Fault::Expand(fault) => put_expand_fault(err, subject.source, fault),
         Fault::BadCount(at) => put_placed(err, subject.source, at.start, b"bad count", b""),
+        Fault::InstantLoop(at) => put_placed(
+            err,
+            subject.source,
+            at.start,
+            b"instantaneous loop",
+            b"",
+        ),
     }
 }
 

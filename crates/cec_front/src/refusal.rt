@@ -23,6 +23,9 @@ pub enum Fault {
     Expand(ExpandFault),
     /// A count is 0 or above 255.
     BadCount(Span),
+    /// The body of this loop can terminate in the instant in which it starts. Of all such loops this is the one whose
+    /// place starts first, and of those that start there the one that ends first.
+    InstantLoop(Span),
 }
 
 /// What passes its limit; `est_base::Limits` has the numbers.

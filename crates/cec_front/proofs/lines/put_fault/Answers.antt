@@ -5,3 +5,6 @@ returns-in-BigNumber g c = rw c.in-BigNumber.is c.put_placed-in-BigNumber.ensure
 
 pub returns-in-BadCount : goal.returns-in-BadCount
 returns-in-BadCount g c = rw c.in-BadCount.is c.put_placed-in-BadCount.ensures
+
+pub returns-in-InstantLoop : goal.returns-in-InstantLoop
+returns-in-InstantLoop g c = rw c.in-InstantLoop.is c.put_placed-in-InstantLoop.ensures

@@ -1,4 +1,4 @@
-// From the bytes of a source to its flat program, and to its kernel program.
+// From the bytes of a source to its flat program, and to the kernel program that this is expanded into.
 
 ghost use Rattle.std.specs.Prelude.{◌≡◌, ◌≤◌, ℕ, List, Option, Some, length, slice_get, IfOk, IfErr, option_map};
 ghost use Rattle.est_ast.specs.FlatViews.{flat_of};
@@ -26,9 +26,9 @@ use est_kernel::KernelProgram;
 use est_names::{NameFault, Table, check_modules};
 use std::alloc::Global;
 
-/// The kernel program of a source. `main` is the name of the main module; without it that is the first one. A source is
-/// refused for its first fault: of its tokens, its tree, its names, its flat form, its counts, and for what passes its
-/// limit.
+/// The kernel program that a source is expanded into, whether or not it has an instantaneous loop. `main` is the name of
+/// the main module; without it that is the first one. A source is refused for its first fault: of its tokens, its tree,
+/// its names, its flat form, its counts, and for what passes its limit.
 pub fn kernel_program(
     alloc: Global,
     text: &[u8],

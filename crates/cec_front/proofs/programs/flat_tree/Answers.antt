@@ -1,6 +1,6 @@
 use Rattle.est_ast.specs.Views.{program_of}
 use Rattle.cec_front.proofs.MainModules.{main_there}
-use Rattle.cec_front.proofs.front.flat_tree.Goals as goal
+use Rattle.cec_front.proofs.programs.flat_tree.Goals as goal
 
 pub returns-in-Err-clause-refusal : goal.returns-in-Err-clause-refusal
 returns-in-Err-clause-refusal c = λ text reads. c.misnamed.ensures text _ (program_of c.args.tree.now) reads c.in-Err.ensures.fault
