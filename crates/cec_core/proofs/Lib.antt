@@ -1,20 +1,4 @@
-pub mod Resting
-pub mod KnownInputs
-pub mod FlowSteps
-pub mod FlowRuns
-pub mod Wirings
-pub mod Flows
-pub mod NetFlows
-pub mod NetFits
+pub mod GraphFacts
 pub mod Keeping
-pub mod Refusals
-pub mod SmallFronts
-pub mod SmallTokens
-pub mod SmallSteps
-pub mod SmallMembers
-pub mod SmallTotals
-pub mod SmallKernels
-pub mod SmallNames
-pub mod SmallPrograms
-pub mod SmallDirect
-mod WorkedText
+pub mod Commands
+pub mod Joined

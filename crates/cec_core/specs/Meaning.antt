@@ -1,5 +1,5 @@
 -- To believe: what it means that a netlist, or a written BLIF text, does what a kernel program means.
-use Rattle.std.specs.Prelude.{◌≡◌, ℕ, Bool, List, [], ◌∷◌, ◌++◌, ◌==◌, map, length, Some, Ok}
+use Rattle.std.specs.Prelude.{◌≡◌, ℕ, Bool, List, [], ◌∷◌, ◌++◌, ◌==◌, map, length, Some, Ok, codes}
 use Rattle.est_base.specs.Items.{Item, EachEvent}
 use Rattle.est_base.specs.Relations.{MeetsAll}
 use Rattle.est_kernel.specs.Plain.{Program, given_count, given_names, outgoing_names}
@@ -9,6 +9,11 @@ use Rattle.net_ir.specs.Runs.{Shown, net_run}
 use Rattle.blif_text.specs.Circuits.{Circuit, reading}
 use Rattle.blif_text.specs.Runs.{IsRun, driven_names}
 use Rattle.blif_text.specs.Written.{output_word, paused_word}
+use Rattle.csub_text.specs.Machine.{Seen, run}
+use Rattle.csub_text.specs.Names.{inputs_of, outputs_of}
+use Rattle.csub_text.specs.Texts.{Describes}
+use Rattle.csub_text.specs.Trees.{Program as Machine}
+use Rattle.csub_text.specs.Written.{input_variable}
 
 -- an event of a program: one truth value per given signal, and it meets the program's relations
 pub record IsEvent (p : Program) (event : List Bool) : Type 0 where
@@ -56,3 +61,26 @@ pub record TextKeeps (text : List ℕ) (p : Program) : Type 0 where
   pub inputs : circuit.inputs ≡ given_names p
   pub outputs : circuit.outputs ≡ map (output_word (given_names p)) (outgoing_names p) ++ paused_word ∷ []
   pub runs : (items : List Item) → AreItems p items → RunsAlike circuit p items
+
+-- ---- the C text
+
+-- what is seen of an answer: the outgoing signals, and the value returned, which is true exactly where the code is 1
+abbrev pub call_of : Answer → Seen
+call_of a = record { outputs = a.outputs; answer = a.code == 1 }
+
+-- The compiler-correctness theorem for one list of items: the run of the semantics is constructive in each instant, and
+-- the machine's outputs and answer at each call are those of the run.
+pub record CallsAlike (machine : Machine) (p : Program) (items : List Item) : Type 0 where
+  pub answers : List Answer
+  pub constructive : run_of p items ≡ Some answers
+  pub alike : run machine items ≡ map call_of answers
+
+-- The compiler-correctness theorem for a C text: it describes a program of the C subset with one variable for each given
+-- and each outgoing signal, in declared order, and over every list of items its machine shows what the program's
+-- reactions do.
+pub record CTextKeeps (text : List ℕ) (p : Program) : Type 0 where
+  pub machine : Machine
+  pub describes : Describes text machine
+  pub inputs : inputs_of machine ≡ map input_variable (given_names p)
+  pub outputs : outputs_of machine ≡ map (λ name. codes "O_" ++ name) (outgoing_names p)
+  pub calls : (items : List Item) → AreItems p items → CallsAlike machine p items

@@ -1,13 +1,22 @@
--- To believe: the status that the program ends with.
+-- To believe: the status that the program ends with, and the outcome that a refusal is.
 use Rattle.std.specs.Prelude.{ℕ}
 use Rattle.cec_core.specs.declared.outcome.Outcome.{Outcome}
-use Rattle.cec_core.specs.declared.outcome.Outcome.TheVariants.{Done, Usage, FileFault, Limit, NotYet, WriteFault, NoMemory}
+use Rattle.cec_core.specs.declared.outcome.Outcome.TheVariants.{Done, Usage, FileFault, Static, Cyclic, Limit, WriteFault, NoMemory}
+use Rattle.cec_core.specs.declared.refusal.Refusal.{Refusal}
+use Rattle.cec_core.specs.declared.refusal.Refusal.TheVariants as refusals
 
 abbrev pub status_of : Outcome → ℕ
 status_of Done = 0
 status_of Usage = 2
 status_of (FileFault file) = 3
+status_of (Static fault) = 4
+status_of (Cyclic cycle) = 5
 status_of (Limit quantity) = 8
 status_of WriteFault = 9
 status_of NoMemory = 10
-status_of (NotYet place) = 11
+
+abbrev pub outcome_of : Refusal → Outcome
+outcome_of (refusals.Static fault) = Static fault
+outcome_of (refusals.Cyclic cycle) = Cyclic cycle
+outcome_of (refusals.Limit quantity) = Limit quantity
+outcome_of refusals.NoMemory = NoMemory

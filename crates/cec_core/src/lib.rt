@@ -1,24 +1,22 @@
-//! The passes joined: the top call that the program makes, with the theorem on its contract.
+//! The passes joined: the compiler from bytes to bytes, and the top call that the program makes.
 //!
-//! `cec` reads the words of a command line, reads the source, compiles it and writes the text. For now
-//! it compiles a small language to BLIF: one module of `nothing`, `pause`, `emit`, sequences and
-//! `present` on inputs, each statement of which is a few gates. The contract of `cec` says that the
-//! written text, by the meaning of BLIF (Berkeley), does in every run what the constructive semantics
-//! (Berry, "The Constructive Semantics of Pure Esterel") says of the source.
+//! `blif_of` takes the bytes of a Pure Esterel source to a BLIF text (Berkeley), and `c_of` to a text in a subset of C.
+//! Their contracts say that the text, by the meaning of BLIF or by the machine of the subset, does in every run what the
+//! constructive semantics (Berry, "The Constructive Semantics of Pure Esterel") says of the source. `cec` reads the words of a command line, reads the source, compiles it and writes the
+//! text.
 #![tactic(auto)]
 
-mod circuit;
+mod answers;
 mod command;
-mod laws;
+mod compiler;
+mod cycles;
+mod jobs;
+mod lines;
 mod outcome;
-mod small;
-mod steady;
-mod translation;
+mod refusal;
 
 pub use command::cec;
-pub use laws::a_text_has_one_program;
-pub use outcome::{LimitPassed, Outcome, Which};
-pub use steady::cec_steadily;
-
-#[cfg(test)]
-mod tests;
+pub use compiler::{Compiled, Graphed, blif_of, c_of, compile, source_graph};
+pub use cycles::Cycle;
+pub use outcome::{Outcome, Which};
+pub use refusal::{Limit, Refusal};

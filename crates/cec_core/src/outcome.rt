@@ -1,23 +1,27 @@
 // How a command ended.
 
 ghost use Rattle.std.specs.Prelude.{◌≡◌};
-ghost use Rattle.cec_core.specs.Statuses.{status_of};
+ghost use Rattle.cec_core.specs.Statuses.{outcome_of, status_of};
+
+use crate::cycles::Cycle;
+use crate::refusal::{Limit, Refusal};
+use cec_front::Fault;
 
 /// How a command ended, with the cause of each refusal.
-#[derive(Clone, Copy, Debug, PartialEq, Eq)]
+#[derive(Debug, Drop)]
 pub enum Outcome {
     /// All was written.
     Done,
     /// The words have no meaning.
     Usage,
-    /// A file was not read: the count of faults of the files rose, and the name that failed last is
-    /// that of this file.
+    /// A file was not read: the count of faults of the files rose, and the name that failed last is that of this file.
     FileFault(Which),
-    /// A quantity passes its limit.
-    Limit(LimitPassed),
-    /// The source has a form that is not built. The number is the byte place of the first such form;
-    /// for now the whole source counts as one form.
-    NotYet(u32),
+    /// The source's first static fault.
+    Static(Fault),
+    /// The dependency relation of the source's program has this cycle.
+    Cyclic(Cycle),
+    /// The quantity passes its limit.
+    Limit(Limit),
     /// The output was not taken: its count of faults rose.
     WriteFault,
     /// Want of memory.
@@ -31,11 +35,17 @@ pub enum Which {
     First,
 }
 
-/// What passes its limit.
-#[derive(Clone, Copy, Debug, PartialEq, Eq)]
-pub enum LimitPassed {
-    /// The bytes of the source.
-    Source,
+impl From<Refusal> for Outcome {
+    ghost from_gives = { λ refusal outcome. outcome ≡ outcome_of refusal };
+
+    fn from(refusal: Refusal) -> Outcome {
+        match refusal {
+            Refusal::Static(fault) => Outcome::Static(fault),
+            Refusal::Cyclic(cycle) => Outcome::Cyclic(cycle),
+            Refusal::Limit(limit) => Outcome::Limit(limit),
+            Refusal::NoMemory => Outcome::NoMemory,
+        }
+    }
 }
 
 impl Outcome {
@@ -47,10 +57,11 @@ impl Outcome {
             Outcome::Done => 0,
             Outcome::Usage => 2,
             Outcome::FileFault(_) => 3,
+            Outcome::Static(_) => 4,
+            Outcome::Cyclic(_) => 5,
             Outcome::Limit(_) => 8,
             Outcome::WriteFault => 9,
             Outcome::NoMemory => 10,
-            Outcome::NotYet(_) => 11,
         }
     }
 }

@@ -52,8 +52,9 @@ fn word_of(quantity: Quantity) -> &'static [u8]
     }
 }
 
-// The line of a static fault.
-fn put_fault<E: Sink>(err: &mut E, subject: Subject<'_>, fault: &Fault) -> Result<(), SinkFault>
+/// The line of a static fault: its place, by line and column, and what is wrong there. Writing it takes no memory; a
+/// prefix of the line was appended where the sink failed.
+pub fn put_fault<E: Sink>(err: &mut E, subject: Subject<'_>, fault: &Fault) -> Result<(), SinkFault>
     requires { length subject.source.now ≤ Limits.SOURCE_BYTES }
     ensures { Wrote (E.told err.old) (E.told err.new) (E.faults err.old) (E.faults err.new)
         (codes "cec: " ++ (fault_text subject.entry.source.now subject.entry.main.now fault.now ++ codes "\n")) result }

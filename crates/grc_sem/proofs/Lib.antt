@@ -29,6 +29,6 @@ mod NextTop
 mod Premises
 mod FirstCodes
 mod Instants
-mod Runs
+pub mod Runs
 mod WalkSolves
 mod GraphLaws

@@ -1,4 +1,4 @@
-use Rattle.cec_core.proofs.Refusals.{whole_or_front}
+use Rattle.cec_core.proofs.Commands.{whole_or_front}
 use Rattle.cec_core.proofs.command.report.Goals as goal
 
 pub returns : goal.returns

@@ -1,0 +1,191 @@
+-- What the passes joined give.
+use Rattle.std.proofs.Common.{◌≡◌, ℕ, ◌+◌, ◌-◌, ◌^◌, ◌<◌, ◌≤◌, List, [], ◌∷◌, ◌++◌, length, map, get_or, Option, refl, sym, ap, ◌∙◌, subst, ⊎_elim, arith}
+use Rattle.std.specs.Prelude.{codes, decimal, min, All, Contains, slice_index}
+use Rattle.std.proofs.lemmas.Bool.{cases_lt}
+use Rattle.std.proofs.lemmas.List.Elements.{All-contains, All-map}
+use Rattle.std.proofs.lemmas.List.{length-map, get_or-map}
+use Rattle.digraph.specs.Walks.{IsClosedWalk}
+use Rattle.est_base.specs.declared.indices.WireId.{WireId}
+use Rattle.est_kernel.specs.Plain.{Program, program_of, given_count, interface_of}
+use Rattle.est_kernel.specs.Sizes.{size_of}
+use Rattle.est_kernel.specs.WellFormed as programs
+use Rattle.est_kernel.proofs.ResidualLaws.{trees_are_kernels_lem}
+use Rattle.blif_text.specs.Written.{Means}
+use Rattle.csub_text.specs.Written as c_meant
+use Rattle.grc_copies.specs.Faults as copying
+use Rattle.grc_copies.specs.declared.refusal.CopyFault.{CopyFault}
+use Rattle.grc_copies.specs.declared.refusal.CopyFault.TheVariants as copy_faults
+use Rattle.grc_graph.specs.declared.graph.Graph.{Graph}
+use Rattle.grc_graph.specs.declared.orders.Order.{Order}
+use Rattle.grc_graph.specs.BuiltGraphs.{IsGraphOf}
+use Rattle.grc_graph.specs.GraphRuns.{program_edges, program_spots, program_wires}
+use Rattle.grc_dep.specs.Cycles.{numbered, numbers_of}
+use Rattle.grc_graph.specs.Edges.{Edge}
+use Rattle.grc_graph.specs.Equations.{wires}
+use Rattle.grc_graph.specs.NumberedEdges.{AreEdgesOf}
+use Rattle.grc_graph.specs.Instances.{body_instances}
+use Rattle.grc_graph.specs.PlainGraphs.{formula_of, instances_of, names_of, wire_of}
+use Rattle.grc_graph.specs.PlainInstances.{instance_of}
+use Rattle.grc_graph.specs.Reads.{IsReadingOrder}
+use Rattle.grc_graph.specs.SelectionTrees.{body_leaves, body_tree}
+use Rattle.grc_graph.specs.TreeForms.{node_of}
+use Rattle.grc_graph.specs.WireOrders.{WireEdge, IsWireOrder}
+use Rattle.grc_list.specs.Listings.{program_listing}
+use Rattle.grc_sem.proofs.Runs.{program_kernel}
+use Rattle.grc_words.specs.Sizes.{rows_at_most}
+use Rattle.net_gen.specs.Costs.{gates_at_most}
+use Rattle.net_gen.specs.Generated.{HasInterfaceOf, FollowsInstants, FollowsRuns}
+use Rattle.net_ir.specs.declared.netlist.Net.{Net}
+use Rattle.net_ir.specs.Gates.{carried}
+use Rattle.net_ir.specs.Runs.{netlist_of}
+use Rattle.cec_front.specs.Sources.{StandsFor}
+use Rattle.cec_core.specs.declared.compiler.Compiled.{Compiled}
+use Rattle.cec_core.specs.declared.compiler.Graphed.{Graphed}
+use Rattle.cec_core.specs.Answers.{StandsForListing, StandsForCounts, counts_line}
+use Rattle.cec_core.specs.Compiling.{IsGraphed, IsCompiled, StandsForGraph, StandsForNet, StandsForText, StandsForC}
+use Rattle.cec_core.specs.Limits.{copying_refusal}
+use Rattle.cec_core.specs.Refusals.{Compiles, HasNoText}
+use Rattle.cec_core.proofs.GraphFacts.{acyclic, reading_order}
+use Rattle.cec_core.proofs.Keeping.{net_keeps, text_keeps, c_text_keeps}
+
+-- ---- graphs
+
+kernel_of : (g : Graph) (p : Program) → IsGraphOf g p → programs.IsKernel p.body
+kernel_of g p is = subst (λ q. programs.IsKernel q.body) is.program (trees_are_kernels_lem g.program.body)
+
+-- a graph is that of the program that it has
+pub own_graph : (g : Graphed) (p : Program) → IsGraphed g p → IsGraphed g (program_of g.graph.program)
+own_graph g p h = subst (IsGraphed g) (sym h.graph.program) h
+
+pub graph_compiles : (g : Graphed) (p : Program) → IsGraphed g p → Compiles p
+graph_compiles g p h = record {
+  limits = record { few_instances = h.few; few_wires = h.graph.few };
+  acyclic = acyclic g.graph p g.edges.count g.edges.pairs.items g.ranks.of.items h.graph (program_kernel p h.formed (kernel_of g.graph p h.graph)) h.count h.edges h.ranks;
+}
+
+pub graph_order : (g : Graphed) (p : Program) (order : List WireId) → IsGraphed g p → IsWireOrder g.edges.count g.edges.pairs.items order
+    → IsReadingOrder (names_of g.graph) (map (formula_of (instances_of g.graph) (names_of g.graph)) g.graph.equations.items) order
+graph_order g p order h along =
+    reading_order g.graph p g.edges.count g.edges.pairs.items order h.graph (program_kernel p h.formed (kernel_of g.graph p h.graph)) h.count h.edges along
+
+pub copy_refused : (p : Program) (fault : CopyFault) → copying.FaultHasCause p.body fault → HasNoText p (copying_refusal fault)
+copy_refused p copy_faults.TooManyInstances h = h
+copy_refused p copy_faults.NoMemory h = tt
+
+-- ---- nets and texts
+
+pub net_stands : (text : List ℕ) (main : Option (List ℕ)) (g : Graphed) (order : Order) (net : Net) → StandsForGraph text main g
+    → HasInterfaceOf g.graph (netlist_of net) → carried net.gates.items ≡ map (λ v. v.0) order.list.items
+    → length net.gates.items ≤ gates_at_most g.graph (rows_at_most g.graph) order.list.items
+    → FollowsInstants g.graph (netlist_of net) → FollowsRuns g.graph (netlist_of net)
+    → StandsForNet text main (record { graph = g.graph; tree = g.tree; order = order; net = net })
+net_stands text main g order net s interface carries size instants runs =
+    let p = s.program in
+    let h = s.graphed in
+    let compiles = graph_compiles g p h in
+    record {
+      program = p;
+      source = s.source;
+      compiled = record {
+        formed = h.formed;
+        compiles = compiles;
+        graph = h.graph;
+        tree = h.tree;
+        carried = carries;
+        size = size;
+        interface = interface;
+        instants = instants;
+        runs = runs;
+        keeps = net_keeps g.graph p (netlist_of net) h.formed (kernel_of g.graph p h.graph) h.no_loop h.graph compiles.acyclic interface runs;
+      };
+    }
+
+given-few : (p : Program) → programs.IsWellFormed p → given_count p ≤ length p.signals
+given-few p h = omega (arith, h.interface)
+
+pub text_stands : (text : List ℕ) (main : Option (List ℕ)) (c : Compiled) (written : List ℕ) → StandsForNet text main c → Means written (netlist_of c.net) → StandsForText text main written
+text_stands text main c written s means = record {
+  program = s.program;
+  source = s.source;
+  compiles = s.compiled.compiles;
+  keeps = text_keeps written (netlist_of c.net) s.program (given-few s.program s.compiled.formed) s.compiled.keeps means;
+}
+
+pub c_text_stands : (text : List ℕ) (main : Option (List ℕ)) (c : Compiled) (written : List ℕ) → StandsForNet text main c → c_meant.Means written (netlist_of c.net) → StandsForC text main written
+c_text_stands text main c written s means = record {
+  program = s.program;
+  source = s.source;
+  compiles = s.compiled.compiles;
+  keeps = c_text_keeps written (netlist_of c.net) s.program (given-few s.program s.compiled.formed) s.compiled.keeps means;
+}
+
+-- ---- listings and counts
+
+own_source : (text : List ℕ) (main : Option (List ℕ)) (g : Graphed) → (s : StandsForGraph text main g) → StandsFor text main (program_of g.graph.program)
+own_source text main g s = subst (StandsFor text main) (sym s.graphed.graph.program) s.source
+
+pub listing_stands : (bytes : List ℕ) (main : Option (List ℕ)) (g : Graphed) (text : List ℕ) → StandsForGraph bytes main g
+    → (names_of g.graph ≡ wires (interface_of (program_of g.graph.program)).outgoing (program_spots (program_of g.graph.program))
+    → map node_of g.tree.nodes.items ≡ body_tree (program_of g.graph.program).body → text ≡ program_listing (program_of g.graph.program))
+    → StandsForListing bytes main text
+listing_stands bytes main g text s told =
+    let own = own_graph g s.program s.graphed in
+    record {
+      program = program_of g.graph.program;
+      source = own_source bytes main g s;
+      compiles = graph_compiles g (program_of g.graph.program) own;
+      listing = told own.graph.wires own.tree;
+    }
+
+pub counts_stand : (bytes : List ℕ) (main : Option (List ℕ)) (g : Graphed) (text : List ℕ) → StandsForGraph bytes main g
+    → text ≡ counts_line (program_of g.graph.program) → StandsForCounts bytes main text
+counts_stand bytes main g text s told = record {
+  program = program_of g.graph.program;
+  source = own_source bytes main g s;
+  compiles = graph_compiles g (program_of g.graph.program) (own_graph g s.program s.graphed);
+  counts = told;
+}
+
+-- the counts of a graph are those of its program
+pub size_counted : (g : Graphed) → IsGraphed g (program_of g.graph.program) → (n : ℕ) → n ≡ min (size_of (program_of g.graph.program).body) (2 ^ 64 - 1)
+    → n ≡ size_of (program_of g.graph.program).body
+size_counted g h n e = omega (arith, e, h.formed.body.size)
+
+pub instances_counted : (g : Graphed) → IsGraphed g (program_of g.graph.program) → length g.graph.instances.list.items ≡ length (body_instances (program_of g.graph.program).body)
+instances_counted g h = sym (length-map g.graph.instances.list.items instance_of) ∙ ap length h.graph.instances
+
+pub counts_pieces : (p : Program) (name nodes pauses instances count : List ℕ) → name ≡ p.name → nodes ≡ decimal (size_of p.body) → pauses ≡ decimal (length (body_leaves p.body))
+    → instances ≡ decimal (length (body_instances p.body)) → count ≡ decimal (length (program_wires p))
+    → name ++ (codes ": " ++ (nodes ++ (codes " nodes, " ++ (pauses ++ (codes " pauses, " ++ (instances ++ (codes " instances, " ++ (count ++ (codes " wires\n" ++ [])))))))))
+    ≡ counts_line p
+counts_pieces p name nodes pauses instances count a b c d e = λ i.
+    a i ++ (codes ": " ++ (b i ++ (codes " nodes, " ++ (c i ++ (codes " pauses, " ++ (d i ++ (codes " instances, " ++ (e i ++ (codes " wires\n" ++ [])))))))))
+
+-- ---- walks
+
+-- the wires of a closed walk are ends of edges
+pub walk_within : (pairs : List (ℕ × ℕ)) (walk : List ℕ) (count : ℕ) → IsClosedWalk pairs walk → All (λ e. (e.0 < count) × (e.1 < count)) pairs
+    → (k : ℕ) → k < length walk → slice_index walk k < count
+walk_within pairs walk count closed join k l = ⊎_elim inner last (cases_lt (k + 1) (length walk))
+  where
+    from : (u w : ℕ) → Contains pairs (u, w) → u < count
+    from u w c = (All-contains (λ e. (e.0 < count) × (e.1 < count)) pairs (u, w) join c).0
+
+    inner : k + 1 < length walk → slice_index walk k < count
+    inner h = from (slice_index walk k) (slice_index walk (k + 1)) (closed.steps k h)
+
+    last : length walk ≤ k + 1 → slice_index walk k < count
+    last h =
+        let e : length walk - 1 ≡ k = omega (arith, h, l) in
+        subst (λ j. slice_index walk j < count) e (from (slice_index walk (length walk - 1)) (slice_index walk 0) closed.closes)
+
+abbrev plain_edge : WireEdge → ℕ × ℕ
+plain_edge e = (e.0.0, e.1.0)
+
+pub walk_fits : (g : Graph) (edges : List Edge) (pairs : List WireEdge) (walk : List WireId) → AreEdgesOf (names_of g) edges pairs
+    → IsClosedWalk (numbered pairs) (numbers_of walk) → All (λ w. w.0 < length g.wires.items) walk
+walk_fits g edges pairs walk are closed k d l =
+    let n = length (names_of g) in
+    let join : All (λ e. (e.0 < n) × (e.1 < n)) (numbered pairs) = All-map (λ e. (e.0 < n) × (e.1 < n)) plain_edge pairs are.ascending.join in
+    let low : slice_index (numbers_of walk) k < n = walk_within (numbered pairs) (numbers_of walk) n closed join k (omega (arith, l, length-map walk (λ (w : WireId). w.0))) in
+    subst (λ m. (get_or walk k d).0 < m) (length-map g.wires.items (wire_of (instances_of g))) (subst (λ x. x < n) (get_or-map (λ (w : WireId). w.0) walk k d 0 l) low)

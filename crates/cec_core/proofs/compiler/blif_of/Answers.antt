@@ -1,0 +1,6 @@
+use Rattle.cec_core.proofs.Joined.{text_stands}
+use Rattle.cec_core.proofs.compiler.blif_of.Goals as goal
+
+pub returns-clause-compiles : goal.returns-clause-compiles
+returns-clause-compiles g c =
+    text_stands _ _ c.in_ok-compiled.compiled c.in_ok-written.written.items c.in_ok-compiled.ensures.compiles c.in_ok-written.ensures.means

@@ -1,0 +1,20 @@
+use Rattle.est_kernel.specs.Plain.{program_of}
+use Rattle.grc_graph.proofs.BuiltReads.{next_each}
+use Rattle.cec_core.proofs.Joined.{own_graph, graph_order, net_stands}
+use Rattle.cec_core.proofs.compiler.compile.Goals as goal
+
+pub generate-requires-clause-leaves : goal.generate-requires-clause-leaves
+generate-requires-clause-leaves g c =
+    let found = c.in_ok-graph.field-0 in
+    let s = c.in_ok-graph.ensures.compiles in
+    next_each found.graph (program_of found.graph.program) (own_graph found s.program s.graphed).graph
+
+pub generate-requires-clause-order : goal.generate-requires-clause-order
+generate-requires-clause-order g c =
+    let s = c.in_ok-graph.ensures.compiles in
+    graph_order c.in_ok-graph.field-0 s.program c.in_ok-order.order.list.items s.graphed c.in_ok-order.ensures
+
+pub returns-clause-compiles : goal.returns-clause-compiles
+returns-clause-compiles g c =
+    let e = c.in_ok-net.ensures in
+    net_stands _ _ c.in_ok-graph.field-0 c.in_ok-order.order c.in_ok-net.net c.in_ok-graph.ensures.compiles e.interface e.order e.size e.instants e.runs

@@ -1,0 +1,46 @@
+-- To believe: what a command on a source writes.
+use Rattle.std.specs.Prelude.{◌≡◌, ℕ, List, [], ◌∷◌, length, Option, codes, decimal}
+use Rattle.std.specs.List.{concat}
+use Rattle.est_kernel.specs.Plain.{Program}
+use Rattle.est_kernel.specs.Sizes.{size_of}
+use Rattle.grc_graph.specs.GraphRuns.{program_wires}
+use Rattle.grc_graph.specs.Instances.{body_instances}
+use Rattle.grc_graph.specs.SelectionTrees.{body_leaves}
+use Rattle.grc_list.specs.Listings.{program_listing}
+use Rattle.cec_front.specs.Sources.{StandsFor}
+use Rattle.cec_core.specs.Compiling.{StandsForText, StandsForC}
+use Rattle.cec_core.specs.Jobs.{Job}
+use Rattle.cec_core.specs.Refusals.{Compiles}
+use Rattle.cec_core.specs.declared.jobs.Task.{Task}
+use Rattle.cec_core.specs.declared.jobs.Task.TheVariants.{Blif, C, Grc, Check}
+
+-- The name of a program, and how many nodes its kernel body, leaves its selection tree, live instances and wires its
+-- graph has.
+abbrev pub counts_line : Program → List ℕ
+counts_line p = concat (p.name ∷ codes ": " ∷ decimal (size_of p.body) ∷ codes " nodes, "
+    ∷ decimal (length (body_leaves p.body)) ∷ codes " pauses, "
+    ∷ decimal (length (body_instances p.body)) ∷ codes " instances, "
+    ∷ decimal (length (program_wires p)) ∷ codes " wires\n" ∷ [])
+
+-- The bytes stand for a program that compiles, and this is its listing, or its line of counts.
+pub record StandsForListing (bytes : List ℕ) (main : Option (List ℕ)) (text : List ℕ) : Type 0 where
+  pub program : Program
+  pub source : StandsFor bytes main program
+  pub compiles : Compiles program
+  pub listing : text ≡ program_listing program
+
+pub record StandsForCounts (bytes : List ℕ) (main : Option (List ℕ)) (text : List ℕ) : Type 0 where
+  pub program : Program
+  pub source : StandsFor bytes main program
+  pub compiles : Compiles program
+  pub counts : text ≡ counts_line program
+
+abbrev pub IsAnswerOf : Task → List ℕ → Option (List ℕ) → List ℕ → Type 0
+IsAnswerOf Blif source main text = StandsForText source main text
+IsAnswerOf C source main text = StandsForC source main text
+IsAnswerOf Grc source main text = StandsForListing source main text
+IsAnswerOf Check source main text = StandsForCounts source main text
+
+-- what a job writes, where its file holds these bytes
+abbrev pub IsAnswer : Job → List ℕ → List ℕ → Type 0
+IsAnswer job source text = IsAnswerOf job.task source job.main text

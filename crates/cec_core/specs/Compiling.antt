@@ -1,0 +1,75 @@
+-- To believe: what the passes make of a source: each field says what its pass keeps.
+use Rattle.std.specs.Prelude.{◌≡◌, ◌≤◌, ℕ, List, length, map, Option}
+use Rattle.est_base.specs.declared.bounds.TheConstants.Limits.{INSTANCES}
+use Rattle.est_kernel.specs.Plain.{Program, program_of}
+use Rattle.est_kernel.specs.StaticCodes.{NoInstantLoop}
+use Rattle.est_kernel.specs.WellFormed.{IsWellFormed, HasNames}
+use Rattle.grc_graph.specs.BuiltGraphs.{IsGraphOf}
+use Rattle.grc_graph.specs.GraphRuns.{program_edges}
+use Rattle.grc_graph.specs.Instances.{body_instances}
+use Rattle.grc_graph.specs.NumberedEdges.{AreEdgesOf}
+use Rattle.grc_graph.specs.PlainGraphs.{names_of}
+use Rattle.grc_graph.specs.SelectionTrees.{body_leaves, body_tree}
+use Rattle.grc_graph.specs.TreeForms.{node_of}
+use Rattle.grc_graph.specs.WireOrders.{AreRanks, IsWireOrder}
+use Rattle.net_gen.specs.Costs.{gates_at_most}
+use Rattle.grc_words.specs.Sizes.{rows_at_most}
+use Rattle.net_gen.specs.Generated.{HasInterfaceOf, FollowsInstants, FollowsRuns}
+use Rattle.net_ir.specs.Gates.{carried}
+use Rattle.net_ir.specs.Runs.{netlist_of}
+use Rattle.cec_front.specs.Sources.{StandsFor}
+use Rattle.cec_core.specs.Meaning.{NetKeeps, TextKeeps, CTextKeeps}
+use Rattle.cec_core.specs.Refusals.{Compiles}
+use Rattle.cec_core.specs.declared.compiler.Compiled.{Compiled}
+use Rattle.cec_core.specs.declared.compiler.Graphed.{Graphed}
+
+-- The graph is the program's, and so are the tree and the edges; no edge lies on a cycle.
+pub record IsGraphed (g : Graphed) (p : Program) : Type 0 where
+  pub formed : IsWellFormed p
+  pub names : HasNames p
+  pub no_loop : NoInstantLoop p.body
+  pub few : length (body_instances p.body) ≤ INSTANCES
+  pub graph : IsGraphOf g.graph p
+  pub tree : map node_of g.tree.nodes.items ≡ body_tree p.body
+  pub leaves : g.tree.leaves ≡ length (body_leaves p.body)
+  pub count : g.edges.count ≡ length g.graph.wires.items
+  pub edges : AreEdgesOf (names_of g.graph) (program_edges p) g.edges.pairs.items
+  pub ranks : AreRanks g.edges.count g.edges.pairs.items g.ranks.of.items
+
+-- The same graph, an evaluation order along its edges, and its netlist: the netlist has at most so many gates, one of
+-- them for each wire, in that order, and keeps what the program means.
+pub record IsCompiled (c : Compiled) (p : Program) : Type 0 where
+  pub formed : IsWellFormed p
+  pub compiles : Compiles p
+  pub graph : IsGraphOf c.graph p
+  pub tree : map node_of c.tree.nodes.items ≡ body_tree p.body
+  pub carried : carried c.net.gates.items ≡ map (λ v. v.0) c.order.list.items
+  pub size : length c.net.gates.items ≤ gates_at_most c.graph (rows_at_most c.graph) c.order.list.items
+  pub interface : HasInterfaceOf c.graph (netlist_of c.net)
+  pub instants : FollowsInstants c.graph (netlist_of c.net)
+  pub runs : FollowsRuns c.graph (netlist_of c.net)
+  pub keeps : NetKeeps (netlist_of c.net) p
+
+-- The bytes stand for the program of the graph, of the netlist, or of the text.
+
+pub record StandsForGraph (text : List ℕ) (main : Option (List ℕ)) (g : Graphed) : Type 0 where
+  pub program : Program
+  pub source : StandsFor text main program
+  pub graphed : IsGraphed g program
+
+pub record StandsForNet (text : List ℕ) (main : Option (List ℕ)) (c : Compiled) : Type 0 where
+  pub program : Program
+  pub source : StandsFor text main program
+  pub compiled : IsCompiled c program
+
+pub record StandsForText (text : List ℕ) (main : Option (List ℕ)) (written : List ℕ) : Type 0 where
+  pub program : Program
+  pub source : StandsFor text main program
+  pub compiles : Compiles program
+  pub keeps : TextKeeps written program
+
+pub record StandsForC (text : List ℕ) (main : Option (List ℕ)) (written : List ℕ) : Type 0 where
+  pub program : Program
+  pub source : StandsFor text main program
+  pub compiles : Compiles program
+  pub keeps : CTextKeeps written program

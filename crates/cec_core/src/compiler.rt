@@ -1,0 +1,149 @@
+// The compiler: its passes, in their order.
+
+ghost use Rattle.std.specs.Prelude.{◌≡◌, ◌≤◌, ℕ, List, Option, length, IfOk, IfErr, option_map};
+ghost use Rattle.est_kernel.specs.CodeLists.{AreCodesOf};
+ghost use Rattle.est_kernel.specs.Plain.{program_of, term_of};
+ghost use Rattle.est_kernel.specs.StaticCodes.{NoInstantLoop};
+ghost use Rattle.est_kernel.specs.WellFormed.{IsWellFormed, HasNames};
+ghost use Rattle.cec_core.specs.Compiling.{IsGraphed, IsCompiled, StandsForGraph, StandsForNet, StandsForText, StandsForC};
+ghost use Rattle.cec_core.specs.Refusals.{HasNoText, IsRefused};
+
+use crate::cycles::cycle_of;
+use crate::refusal::Refusal;
+use blif_text::write_blif;
+use cec_front::{Analysed, analyse};
+use csub_text::write_c;
+use est_base::Limits;
+use grc_build::build;
+use grc_copies::copies;
+use grc_dep::{Ranked, cycle_or_rank, edges};
+use grc_graph::{Edges, Graph, Order, Ranks, SelTree};
+use grc_order::{Picker, order};
+use grc_select::select;
+use net_gen::generate;
+use net_ir::Net;
+use std::alloc::Global;
+
+/// The graph of a program, its selection tree, its dependency edges, and ranks that grow along them.
+#[derive(Debug, Drop)]
+pub struct Graphed {
+    pub graph: Graph,
+    pub tree: SelTree,
+    pub edges: Edges,
+    pub ranks: Ranks,
+}
+
+/// A compiled program: its graph, which has the kernel program and the live instances, its selection tree, an
+/// evaluation order of its wires, and its netlist.
+#[derive(Debug, Drop)]
+pub struct Compiled {
+    pub graph: Graph,
+    pub tree: SelTree,
+    pub order: Order,
+    pub net: Net,
+}
+
+/// The BLIF text of a source: the compiler, from bytes to bytes. `main` is the name of the main module; without it
+/// that is the first one. The picker chooses the evaluation order, and no answer depends on it.
+///
+/// The compiler-correctness theorem holds of the text (`TextKeeps`): it has a reading by the BLIF profile, and over
+/// every list of events that meet the source's relations each reaction of the source is constructive, the text has a
+/// run, any two runs agree, and the outputs and `_paused` are those of the reactions. A source is refused as cyclic
+/// exactly where its dependency relation has a cycle, and one is shown.
+pub fn blif_of<P: Picker>(
+    alloc: Global,
+    text: &[u8],
+    main: Option<&[u8]>,
+    picker: &mut P,
+) -> Result<Vec<u8>, Refusal>
+    requires { length text.now ≤ Limits.SOURCE_BYTES }
+    ensures compiles { IfOk result (λ written. StandsForText text.now (option_map (λ m. m.now) main.entry) written.items) }
+    ensures refuses { IfErr result (IsRefused text.now (option_map (λ m. m.now) main.entry)) }
+{
+    let compiled = compile(alloc, text, main, picker)?;
+    let written = write_blif(alloc, &compiled.net)?;
+    Ok(written)
+}
+
+/// The C text of a source, likewise: the text is in the C subset, with one variable for each given and each outgoing
+/// signal, and over every list of events that meet the source's relations each reaction of the source is constructive,
+/// and the machine's outputs and the value that it returns are those of the reactions (`CTextKeeps`).
+pub fn c_of<P: Picker>(
+    alloc: Global,
+    text: &[u8],
+    main: Option<&[u8]>,
+    picker: &mut P,
+) -> Result<Vec<u8>, Refusal>
+    requires { length text.now ≤ Limits.SOURCE_BYTES }
+    ensures compiles { IfOk result (λ written. StandsForC text.now (option_map (λ m. m.now) main.entry) written.items) }
+    ensures refuses { IfErr result (IsRefused text.now (option_map (λ m. m.now) main.entry)) }
+{
+    let compiled = compile(alloc, text, main, picker)?;
+    let written = write_c(alloc, &compiled.net)?;
+    Ok(written)
+}
+
+/// A source compiled: its graph, an evaluation order, and its netlist.
+pub fn compile<P: Picker>(
+    alloc: Global,
+    text: &[u8],
+    main: Option<&[u8]>,
+    picker: &mut P,
+) -> Result<Compiled, Refusal>
+    requires { length text.now ≤ Limits.SOURCE_BYTES }
+    ensures compiles { IfOk result (StandsForNet text.now (option_map (λ m. m.now) main.entry)) }
+    ensures refuses { IfErr result (IsRefused text.now (option_map (λ m. m.now) main.entry)) }
+{
+    let Graphed {
+        graph,
+        tree,
+        edges,
+        ranks,
+    } = source_graph(alloc, text, main)?;
+    let order = order(alloc, &edges, &ranks, picker)?;
+    let net = generate(alloc, &graph, &tree, &order)?;
+    Ok(Compiled {
+        graph,
+        tree,
+        order,
+        net,
+    })
+}
+
+/// The graph of a source, whose dependencies have no cycle.
+pub fn source_graph(alloc: Global, text: &[u8], main: Option<&[u8]>) -> Result<Graphed, Refusal>
+    requires { length text.now ≤ Limits.SOURCE_BYTES }
+    ensures compiles { IfOk result (StandsForGraph text.now (option_map (λ m. m.now) main.entry)) }
+    ensures refuses { IfErr result (IsRefused text.now (option_map (λ m. m.now) main.entry)) }
+{
+    let analysed = analyse(alloc, text, main)?;
+    program_graph(alloc, analysed)
+}
+
+// The graph of a kernel program, whose dependencies have no cycle.
+fn program_graph(alloc: Global, analysed: Analysed) -> Result<Graphed, Refusal>
+    requires formed { IsWellFormed (program_of analysed.program) }
+    requires names { HasNames (program_of analysed.program) }
+    requires no_loop { NoInstantLoop (term_of analysed.program.body) }
+    requires codes { AreCodesOf analysed.codes (term_of analysed.program.body) }
+    ensures graphed { IfOk result (λ g. IsGraphed g (program_of analysed.program)) }
+    ensures refuses { IfErr result (HasNoText (program_of analysed.program)) }
+{
+    let Analysed { program, codes } = analysed;
+    let live = copies(alloc, &program.body, &codes)?;
+    let tree = select(alloc, &program.body, &codes)?;
+    let graph = build(alloc, program, &codes, live)?;
+    let edges = edges(alloc, &graph)?;
+    match cycle_or_rank(alloc, &edges)? {
+        Ranked::Acyclic(ranks) => Ok(Graphed {
+            graph,
+            tree,
+            edges,
+            ranks,
+        }),
+        Ranked::Cycle(walk) => {
+            let cycle = cycle_of(alloc, &graph, &edges, &walk)?;
+            Err(Refusal::Cyclic(cycle))
+        }
+    }
+}

@@ -1,0 +1,87 @@
+// What the words of a command line ask to be done with a source.
+
+ghost use Rattle.std.specs.Prelude.{◌≡◌, drop, map, slice_index_or, option_map, []};
+ghost use Rattle.std.specs.String.{string_bytes};
+ghost use Rattle.cec_core.specs.Jobs.{source_job, job_by, value_in};
+ghost use Rattle.cec_core.specs.JobViews.{plain_job};
+
+use cec_words::{Asked, Pick, Source, Value, read_words};
+
+/// What is made of a source.
+#[derive(Clone, Copy, Debug, PartialEq, Eq)]
+pub(crate) enum Task {
+    /// Its BLIF text.
+    Blif,
+    /// Its C text.
+    C,
+    /// The listing of its graph.
+    Grc,
+    /// A line of counts.
+    Check,
+}
+
+/// A task, the file with the source, the main module's name, and how the evaluation order is chosen.
+#[derive(Clone, Copy)]
+pub(crate) struct Job<'a> {
+    pub task: Task,
+    pub name: &'a str,
+    pub main: Option<&'a [u8]>,
+    pub pick: Pick,
+}
+
+/// What the words ask for; `None` where they have no meaning.
+pub(crate) fn job_by(words: &[String]) -> Option<Job<'_>>
+    ensures { option_map plain_job result ≡ job_by (map string_bytes words.now) }
+{
+    match read_words(words)? {
+        Asked::Blif(source) => Some(source_job(words, Task::Blif, source)),
+        Asked::C(source) => Some(source_job(words, Task::C, source)),
+        Asked::Grc(source) => Some(source_job(words, Task::Grc, source)),
+        Asked::Check(source) => Some(source_job(words, Task::Check, source)),
+        Asked::Help | Asked::Run(_, _, _) | Asked::Exec(_, _, _) | Asked::Gen(_, _, _) => None,
+    }
+}
+
+// A task on a source.
+fn source_job(words: &[String], task: Task, source: Source) -> Job<'_>
+    ensures { plain_job result ≡ source_job (map string_bytes words.now) task source }
+{
+    Job {
+        task,
+        name: word_at(words, source.file),
+        main: main_in(words, source.main),
+        pick: source.pick,
+    }
+}
+
+// The main module's name, where the words give one.
+fn main_in(words: &[String], main: Option<Value>) -> Option<&[u8]>
+    ensures { option_map (λ m. m.now) result ≡ option_map (value_in (map string_bytes words.now)) main }
+{
+    match main {
+        Some(value) => Some(value_in(words, value)),
+        None => None,
+    }
+}
+
+// The value of an option, which may stand in a word behind its name.
+fn value_in(words: &[String], value: Value) -> &[u8]
+    ensures { result.now ≡ value_in (map string_bytes words.now) value }
+{
+    let bytes = word_at(words, value.word).as_bytes();
+    if value.start <= bytes.len() {
+        &bytes[value.start..]
+    } else {
+        b""
+    }
+}
+
+// The word at a place.
+fn word_at(words: &[String], at: usize) -> &str
+    ensures { result.now ≡ slice_index_or (map string_bytes words.now) at [] }
+{
+    match words.get(at) {
+        Some(word) => word.as_str(),
+        None => "",
+    }
+}
