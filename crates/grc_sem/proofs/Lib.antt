@@ -28,7 +28,7 @@ mod Scoped
 mod NextTop
 mod Premises
 mod FirstCodes
-mod Instants
-mod Runs
-mod WalkSolves
+pub mod Instants
+pub mod Runs
+pub mod WalkSolves
 mod GraphLaws
