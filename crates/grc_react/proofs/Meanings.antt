@@ -1,14 +1,13 @@
 -- What the formulas of a graph mean at a stage of an evaluation.
-use Rattle.std.proofs.Common.{◌≡◌, ℕ, ◌+◌, ◌-◌, ◌<◌, ◌≤◌, zero, suc, Bool, true, false, ◌||◌, min, List, [], ◌∷◌, length, map, drop, slice_index_or, refl, sym, ap, ◌∙◌, arith, IsTrue, All}
-use Rattle.std.specs.List.{list_any, prefix_len}
+use Rattle.std.proofs.Common.{◌≡◌, ℕ, ◌+◌, ◌-◌, ◌<◌, ◌≤◌, zero, suc, Bool, true, false, ◌||◌, min, List, [], ◌∷◌, length, map, drop, slice_index_or, refl, sym, ◌∙◌, arith, IsTrue, All}
+use Rattle.std.specs.List.{list_any}
 use Rattle.std.proofs.Common.{length-drop}
-use Rattle.std.proofs.lemmas.Bool.{ltb-true}
 use Rattle.std.proofs.lemmas.List.Elements.{All-head, All-tail}
 use Rattle.std.proofs.lemmas.List.Sums.{prefix_len-le-length}
 use Rattle.est_base.specs.declared.indices.WireId.{WireId}
 use Rattle.grc_graph.specs.declared.graph.Graph.{Graph}
 use Rattle.grc_graph.specs.Formulas as plain
-use Rattle.grc_graph.specs.PlainGraphs.{instances_of, instance_at, names_of, plain_graph, wire_at}
+use Rattle.grc_graph.specs.PlainGraphs.{instances_of, instance_at, names_of, wire_at}
 use Rattle.grc_graph.specs.Walk.{is_initial}
 use Rattle.grc_solutions.specs.Evaluations.{valuation_of}
 use Rattle.grc_words.specs.declared.table.Source.{Source}

@@ -1,35 +1,33 @@
 -- What a reaction is worth: it is the one solution, and for a program's graph the walk and the constructive reaction.
-use Rattle.std.proofs.Common.{◌≡◌, ℕ, ◌==◌, ◌&&◌, ◌<◌, ◌≤◌, Bool, true, false, ◌||◌, List, [], ◌∷◌, length, map, refl, sym, ap, ◌∙◌, subst, inl, inr, All, Some}
+use Rattle.std.proofs.Common.{◌≡◌, ℕ, ◌==◌, Bool, true, false, ◌||◌, List, [], ◌∷◌, length, map, sym, ap, ◌∙◌, subst, inl, inr, Some}
 use Rattle.std.specs.List.{list_any}
-use Rattle.std.proofs.lemmas.Bool.{cases_Bool, cond-true, cond-false, or_left, or_right, false≢true}
+use Rattle.std.proofs.lemmas.Bool.{cases_Bool, cond-false, or_left, or_right, false≢true}
 use Rattle.est_base.specs.declared.indices.WireId.{WireId}
 use Rattle.est_kernel.specs.Plain.{Program, program_of, interface_of, given_count}
-use Rattle.est_kernel.specs.Reactions.{is_given, react}
+use Rattle.est_kernel.specs.Reactions.{is_given}
 use Rattle.est_kernel.specs.StaticCodes.{NoInstantLoop}
 use Rattle.est_kernel.specs.Terms.{Term}
 use Rattle.est_kernel.specs.WellFormed.{IsWellFormed}
 use Rattle.est_kernel.specs.WellFormed as programs
 use Rattle.grc_graph.specs.declared.graph.Graph.{Graph}
-use Rattle.grc_graph.specs.GraphRuns.{PlainGraph, graph_of, program_edges, Solves, shown, formula_value}
-use Rattle.grc_graph.specs.Orders.{GoUp}
+use Rattle.grc_graph.specs.GraphRuns.{PlainGraph, graph_of, Solves, shown, formula_value}
 use Rattle.grc_graph.specs.PlainGraphs.{names_of, plain_graph}
 use Rattle.grc_graph.specs.Readings.{Valuation}
-use Rattle.grc_graph.specs.Selected.{IsKernel, IsState}
+use Rattle.grc_graph.specs.Selected.{IsState}
 use Rattle.grc_graph.specs.SelectionTrees.{body_leaves, selecting}
-use Rattle.grc_graph.specs.Walk.{State, Initial, Selecting, remaining}
+use Rattle.grc_graph.specs.Walk.{State, remaining}
 use Rattle.grc_graph.specs.Wires.{Wire, Out}
 use Rattle.grc_sem.specs.GraphWalks.{SelectsLeaves, IsWalkOf, graph_walk, shown_code}
 use Rattle.grc_sem.proofs.Instants.{next_state_is_kept_lem, codes_are_shown_lem}
 use Rattle.grc_sem.proofs.Runs.{program_kernel, solutions_are_reactions_lem}
 use Rattle.grc_sem.proofs.WalkSolves.{equations_are_the_walk_lem}
-use Rattle.grc_solutions.specs.Evaluations.{valuation_of}
-use Rattle.grc_solutions.specs.GraphWires.{Differ, equation_wires}
+use Rattle.grc_solutions.specs.GraphWires.{Differ}
 use Rattle.grc_solutions.proofs.Numbers.{reading_orders_read_up_lem}
 use Rattle.grc_solutions.proofs.Solving.{one_solution_lem}
 use Rattle.grc_words.specs.Occasions.{state_of}
 use Rattle.grc_react.specs.Reactions.{IsProgramGraph, IsWalked, IsConstructive, state_after}
 use Rattle.grc_react.proofs.Agreement.{maps-agree}
-use Rattle.grc_react.proofs.Steps.{ReadsAlong, plain-wires, plain-order, plain-differ}
+use Rattle.grc_react.proofs.Steps.{ReadsAlong, plain-order, plain-differ}
 
 -- two solutions agree in every wire
 pub alone : (g : Graph) (q : State) (event : List Bool) (V W : Valuation) (order : List WireId) → Differ (names_of g) → ReadsAlong g order

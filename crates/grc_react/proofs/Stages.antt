@@ -1,6 +1,5 @@
 -- What a stage of an evaluation says of the sources of the table of words.
-use Rattle.std.proofs.Common.{◌≡◌, ℕ, ◌+◌, ◌<◌, ◌≤◌, Bool, false, List, [], ◌∷◌, ◌++◌, length, take, drop, slice_index_or, slice_set, refl, sym, ap, ◌∙◌, arith, IsTrue}
-use Rattle.std.specs.List.{list_any}
+use Rattle.std.proofs.Common.{◌≡◌, ℕ, ◌<◌, ◌≤◌, Bool, false, List, [], length, take, drop, slice_index_or, slice_set, refl, sym, ap, ◌∙◌, arith, IsTrue}
 use Rattle.std.proofs.lemmas.Bool.{ltb-true, lt-ltb}
 use Rattle.std.proofs.lemmas.List.{length-map, length-set, length-take, get_or-take, take-append-drop}
 use Rattle.grc_graph.specs.declared.graph.Graph.{Graph}
@@ -12,7 +11,7 @@ use Rattle.grc_words.specs.declared.table.Source.{Source}
 use Rattle.grc_words.specs.declared.table.Source.TheVariants as sources
 use Rattle.grc_words.specs.declared.table.Words.{Words}
 use Rattle.grc_words.specs.Occasions.{Occasion, FalseOffWires, surroundings}
-use Rattle.grc_words.specs.Rows.{Bounds, Surroundings, source_value, row_values, source_fits, row_fits}
+use Rattle.grc_words.specs.Rows.{source_value, row_values, source_fits, row_fits}
 use Rattle.grc_words.specs.WordLaws.{early_bounds, late_bounds, value_of}
 use Rattle.grc_words.proofs.RowValues.{row_values-append, value-stays, source_value-same}
 use Rattle.grc_react.specs.declared.rows.Start.{Start}

@@ -1,5 +1,5 @@
 -- One more wire of an evaluation.
-use Rattle.std.proofs.Common.{◌≡◌, ℕ, ◌+◌, ◌<◌, ◌≤◌, Bool, true, List, [], ◌∷◌, length, map, slice_index_or, slice_set, refl, sym, ap, ◌∙◌, subst, arith, IsTrue}
+use Rattle.std.proofs.Common.{◌≡◌, ℕ, ◌+◌, ◌<◌, ◌≤◌, Bool, true, List, [], ◌∷◌, length, map, slice_index_or, slice_set, refl, sym, ap, ◌∙◌, subst, arith}
 use Rattle.std.specs.List.{zip}
 use Rattle.std.proofs.lemmas.List.{length-map, get_or-map}
 use Rattle.est_base.specs.declared.indices.WireId.{WireId}
@@ -9,7 +9,6 @@ use Rattle.grc_graph.specs.declared.graph.Graph.{Graph}
 use Rattle.grc_graph.specs.Equations.{Equation}
 use Rattle.grc_graph.specs.Formulas as plain
 use Rattle.grc_graph.specs.GraphRuns.{Solves, formula_value}
-use Rattle.grc_graph.specs.GraphShapes.{formula_fits}
 use Rattle.grc_graph.specs.Instances.{Instance}
 use Rattle.grc_graph.specs.PlainGraphs.{formula_of, instances_of, names_of, equations_of, plain_graph}
 use Rattle.grc_graph.specs.Reads.{ReadsOnly, IsReadingOrder, StandsBefore}

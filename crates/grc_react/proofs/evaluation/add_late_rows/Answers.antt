@@ -1,4 +1,4 @@
-use Rattle.std.proofs.Common.{◌≡◌, ◌-◌, ap, ◌∙◌, length, take, drop}
+use Rattle.std.proofs.Common.{◌-◌, ap, ◌∙◌, length, take, drop}
 use Rattle.grc_words.specs.Rows.{row_values}
 use Rattle.grc_react.specs.Evaluations.{surroundings_of}
 use Rattle.grc_react.proofs.Wholes.{ended}

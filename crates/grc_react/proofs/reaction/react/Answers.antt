@@ -1,4 +1,4 @@
-use Rattle.std.proofs.Common.{◌≡◌, sym, subst}
+use Rattle.std.proofs.Common.{sym, subst}
 use Rattle.est_kernel.specs.Plain.{program_of}
 use Rattle.est_kernel.proofs.ResidualLaws.{trees_are_kernels_lem}
 use Rattle.grc_graph.specs.SelectionTrees.{body_leaves}
@@ -8,7 +8,6 @@ use Rattle.grc_solutions.specs.Evaluations.{valuation_of}
 use Rattle.grc_solutions.specs.GraphWires.{Differ}
 use Rattle.grc_solutions.proofs.WireNames.{wires_differ_lem}
 use Rattle.grc_words.specs.Occasions.{state_of}
-use Rattle.grc_react.specs.Reactions.{IsProgramGraph}
 use Rattle.grc_react.proofs.Results.{Premises, start-leaves, walked, constructive}
 use Rattle.grc_react.proofs.reaction.react.Goals as goal
 

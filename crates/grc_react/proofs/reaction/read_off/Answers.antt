@@ -1,4 +1,4 @@
-use Rattle.std.proofs.Common.{◌≡◌, map, ap, ◌∙◌}
+use Rattle.std.proofs.Common.{map, ap, ◌∙◌}
 use Rattle.grc_words.specs.Rows.{source_value}
 use Rattle.grc_react.specs.Evaluations.{surroundings_of}
 use Rattle.grc_react.proofs.Wholes.{outputs-mean}
