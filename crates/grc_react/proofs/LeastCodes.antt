@@ -95,7 +95,8 @@ code_in : Wire → ℕ
 code_in (End n l k) = k
 code_in u = 0
 
-code-at : (p : ℕ) (l : Layer) (k c : ℕ) → c < 64 → IsBodyEnd (End p l k) c → ((k ≡ c) × ((ltb k 64 && (p == 0 && (same_layer l Resumed || same_layer l (Started 0)))) ≡ true))
+code-at : (p : ℕ) (l : Layer) (k c : ℕ) → c < 64 → IsBodyEnd (End p l k) c
+    → ((k ≡ c) × ((ltb k 64 && (p == 0 && (same_layer l Resumed || same_layer l (Started 0)))) ≡ true))
 unfolding IsBodyEnd path_in layer_in code_in
 code-at p l k c low (inl e) =
     let path : p ≡ 0 = ap path_in e in

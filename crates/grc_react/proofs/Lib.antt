@@ -4,5 +4,6 @@ pub mod Meanings
 pub mod Ends
 pub mod Steps
 pub mod LeastCodes
+pub mod States
 pub mod Results
 pub mod Wholes

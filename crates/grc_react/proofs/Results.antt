@@ -25,7 +25,9 @@ use Rattle.grc_solutions.specs.GraphWires.{Differ}
 use Rattle.grc_solutions.proofs.Numbers.{reading_orders_read_up_lem}
 use Rattle.grc_solutions.proofs.Solving.{one_solution_lem}
 use Rattle.grc_words.specs.Occasions.{state_of}
-use Rattle.grc_react.specs.Reactions.{IsProgramGraph, IsWalked, IsConstructive, state_after}
+use Rattle.grc_react.specs.declared.reaction.Reaction.{Reaction}
+use Rattle.grc_react.specs.Reactions.{IsProgramGraph, BeginsWell, IsWalked, IsConstructive, state_after, valued}
+use Rattle.grc_react.proofs.States.{state-formed, formed-state}
 use Rattle.grc_react.proofs.Agreement.{maps-agree}
 use Rattle.grc_react.proofs.Steps.{ReadsAlong, plain-order, plain-differ}
 
@@ -59,7 +61,7 @@ outputs-are p q event V walk =
     maps-agree (λ s. V (Out s)) (λ s. is_given event s || (graph_walk p q event V).signals s) (interface_of p).outgoing walk.outputs
 
 -- a reaction of a graph that is its program's
-pub record Premises (g : Graph) (q : State) (event emitted next : List Bool) (code : ℕ) (V : Valuation) : Type 0 where
+pub record Premises (g : Graph) (q : State) (event : List Bool) (r : Reaction) : Type 0 where
   pub formed : IsWellFormed (program_of g.program)
   pub kernel : programs.IsKernel (program_of g.program).body
   pub no_loop : NoInstantLoop (program_of g.program).body
@@ -67,46 +69,54 @@ pub record Premises (g : Graph) (q : State) (event emitted next : List Bool) (co
   pub graph : IsProgramGraph g
   pub state : IsState q (program_of g.program).body
   pub leaves : SelectsLeaves q (program_of g.program).body
-  pub solves : Solves (plain_graph g) q event V
-  pub emitted_is : emitted ≡ (shown (plain_graph g) V).outputs
-  pub code_is : code ≡ shown_code V
-  pub next_is : next ≡ map (formula_value (plain_graph g) q event V) (plain_graph g).next
+  pub solves : Solves (plain_graph g) q event (valued g r.wires)
+  pub emitted_is : r.emitted ≡ (shown (plain_graph g) (valued g r.wires)).outputs
+  pub code_is : r.code ≡ shown_code (valued g r.wires)
+  pub next_is : r.next ≡ map (formula_value (plain_graph g) q event (valued g r.wires)) (plain_graph g).next
 
-next-bits : (g : Graph) (q : State) (event emitted next : List Bool) (code : ℕ) (V : Valuation) → Premises g q event emitted next code V
-    → next ≡ map (formula_value (graph_of (program_of g.program)) q event V) (graph_of (program_of g.program)).next
-next-bits g q event emitted next code V m = m.next_is ∙ ap (λ P. map (formula_value P q event V) P.next) m.graph
+next-bits : (g : Graph) (q : State) (event : List Bool) (r : Reaction) → Premises g q event r
+    → r.next
+    ≡ map (formula_value (graph_of (program_of g.program)) q event (valued g r.wires)) (graph_of (program_of g.program)).next
+next-bits g q event r m = m.next_is ∙ ap (λ P. map (formula_value P q event (valued g r.wires)) P.next) m.graph
 
-solved : (g : Graph) (q : State) (event emitted next : List Bool) (code : ℕ) (V : Valuation) → Premises g q event emitted next code V
-    → Solves (graph_of (program_of g.program)) q event V
-solved g q event emitted next code V m = subst (λ P. Solves P q event V) m.graph m.solves
+solved : (g : Graph) (q : State) (event : List Bool) (r : Reaction) → Premises g q event r
+    → Solves (graph_of (program_of g.program)) q event (valued g r.wires)
+solved g q event r m = subst (λ P. Solves P q event (valued g r.wires)) m.graph m.solves
 
 -- it is the walk of the state
-pub walked : (g : Graph) (q : State) (event emitted next : List Bool) (code : ℕ) (V : Valuation) → Premises g q event emitted next code V
-    → IsWalked (program_of g.program) q event V emitted code next
-walked g q event emitted next code V m =
+pub walked : (g : Graph) (q : State) (event : List Bool) (r : Reaction) → Premises g q event r → IsWalked g q event r
+walked g q event r m =
     let p = program_of g.program in
+    let V = valued g r.wires in
     let kernel = program_kernel p m.formed m.kernel in
-    let solves = solved g q event emitted next code V m in
-    let bits = next-bits g q event emitted next code V m in
+    let solves = solved g q event r m in
+    let bits = next-bits g q event r m in
     let walk = (equations_are_the_walk_lem p q event V kernel m.no_loop m.state m.width).0 solves in
     let kept = next_state_is_kept_lem p q event V kernel m.no_loop m.state m.leaves solves in
+    let state = subst (λ xs. IsState (state_after p xs) p.body) (sym bits) kept.1 in
     record {
       walk = walk;
       outputs = m.emitted_is ∙ ap (λ (P : PlainGraph). (shown P V).outputs) m.graph ∙ outputs-are p q event V walk;
       ends = m.code_is ∙ codes_are_shown_lem p q event V kernel m.no_loop m.state solves;
       keeps = λ n. ap (λ xs. selecting (body_leaves p.body) xs n) bits ∙ kept.0 n;
-      state = subst (λ xs. IsState (state_after p xs) p.body) (sym bits) kept.1;
+      formed = state-formed (selecting (body_leaves p.body) r.next) p.body state;
+      state = state;
     }
 
 -- and, where the edges go up, it is constructive
-pub constructive : (g : Graph) (q : State) (event emitted next : List Bool) (code : ℕ) (V : Valuation) → Premises g q event emitted next code V
-    → IsConstructive (program_of g.program) q event emitted code next
-constructive g q event emitted next code V m = λ rank up.
+pub constructive : (g : Graph) (q : State) (event : List Bool) (r : Reaction) → Premises g q event r → IsConstructive g q event r
+constructive g q event r m = λ rank up.
     let p = program_of g.program in
-    let bits = next-bits g q event emitted next code V m in
+    let V = valued g r.wires in
+    let bits = next-bits g q event r m in
     let told = m.emitted_is ∙ ap (λ (P : PlainGraph). (shown P V).outputs) m.graph in
-    solutions_are_reactions_lem p q event V rank m.formed m.kernel m.no_loop m.state m.leaves up m.width (solved g q event emitted next code V m)
+    solutions_are_reactions_lem p q event V rank m.formed m.kernel m.no_loop m.state m.leaves up m.width (solved g q event r m)
     ∙ (λ i. Some (record {
       answer = record { outputs = sym told i; code = sym m.code_is i };
       residual = remaining (state_after p (sym bits i)) p.body;
     }))
+
+-- what an instant that begins well begins with is a state
+pub begun-state : (body : Term) (boot : Bool) (bits : List Bool) → BeginsWell body boot bits → IsState (state_of (body_leaves body) boot bits) body
+begun-state body true bits h = tt
+begun-state body false bits h = formed-state (selecting (body_leaves body) bits) body (start-leaves body false bits) h

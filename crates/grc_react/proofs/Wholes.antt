@@ -1,21 +1,19 @@
 -- The stages of a reaction: before its first wire, and once all wires and rows are made.
-use Rattle.std.proofs.Common.{◌≡◌, ℕ, ◌+◌, ◌-◌, ◌<◌, Bool, List, [], length, map, take, drop, slice_index_or, sym, ap, ◌∙◌, subst, arith, IsTrue}
-use Rattle.std.proofs.lemmas.List.{length-take-le, take-append-drop, take_rest, take_all, get_or-drop}
-use Rattle.std.proofs.Common.{length-drop}
+use Rattle.std.proofs.Common.{◌≡◌, ◌-◌, Bool, List, [], length, map, take, drop, slice_index_or, sym, ap, ◌∙◌, subst, arith, IsTrue}
+use Rattle.std.proofs.lemmas.List.{length-take-le, take-append-drop, take_rest, take_all}
 use Rattle.grc_graph.specs.declared.graph.Graph.{Graph}
 use Rattle.grc_graph.specs.GraphRuns.{shown}
 use Rattle.grc_graph.specs.PlainGraphs.{names_of, plain_graph}
 use Rattle.grc_solutions.specs.Evaluations.{valuation_of}
 use Rattle.grc_words.specs.declared.table.Row.{Row}
-use Rattle.grc_words.specs.declared.table.Source.{Source}
 use Rattle.grc_words.specs.declared.table.Words.{Words}
-use Rattle.grc_words.specs.Rows.{source_value, row_values, source_fits, row_fits}
+use Rattle.grc_words.specs.Rows.{source_value, row_values, source_fits}
 use Rattle.grc_words.specs.WordLaws.{late_bounds, value_of}
 use Rattle.grc_words.proofs.RowValues.{length-row_values, row_values-append}
 use Rattle.grc_react.specs.declared.rows.Start.{Start}
-use Rattle.grc_react.specs.Evaluations.{Begins, Early, Late, surroundings_of, bounds_of}
+use Rattle.grc_react.specs.Evaluations.{Begins, Early, Late, surroundings_of}
 use Rattle.grc_react.proofs.Agreement.{maps-agree}
-use Rattle.grc_react.proofs.Stages.{occasion, false-off, source-known, bounds-are}
+use Rattle.grc_react.proofs.Stages.{occasion, false-off, source-known}
 
 pub begun : (g : Graph) (w : Words) (s : Start) (wires old new : List Bool) (table : List Row) → Begins g w s → length wires ≡ length g.wires.items
     → old ≡ [] → table ≡ w.rows.items → new ≡ row_values (surroundings_of s wires) old (take w.early table) → Early g w s wires new

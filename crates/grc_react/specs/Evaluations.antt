@@ -25,7 +25,12 @@ abbrev pub surroundings_of : Start → List Bool → Surroundings
 surroundings_of s wires = record { leaves = s.selected.now; event = s.inputs.now; wires = value_at wires }
 
 abbrev pub bounds_of : Start → List Bool → ℕ → Bounds
-bounds_of s wires n = record { leaves = length s.selected.now; given = length s.inputs.now; wires = length wires; rows = n }
+bounds_of s wires n = record {
+  leaves = length s.selected.now;
+  given = length s.inputs.now;
+  wires = length wires;
+  rows = n;
+}
 
 -- the state in which the instant begins
 abbrev pub start_state : Graph → Start → State
@@ -33,14 +38,15 @@ start_state g s = state_of (plain_graph g).leaves s.boot s.selected.now
 
 -- the value of a formula, where the wires have these values
 abbrev pub formula_under : Graph → Start → List Bool → Formula → Bool
-formula_under g s wires a = formula_value (plain_graph g) (start_state g s) s.inputs.now (valuation_of (names_of g) wires) a
+formula_under g s wires a =
+    formula_value (plain_graph g) (start_state g s) s.inputs.now (valuation_of (names_of g) wires) a
 
 -- the wires solve the equations
 abbrev pub IsSolved : Graph → Start → List Bool → Type 0
 IsSolved g s wires = Solves (plain_graph g) (start_state g s) s.inputs.now (valuation_of (names_of g) wires)
 
--- An instant of a graph whose wires have these values, and the values of the rows at the front of the table, among which
--- are all that read no wire.
+-- An instant of a graph whose wires have these values, and the values of the rows at the front of the table, among
+-- which are all that read no wire.
 pub record Stage (g : Graph) (w : Words) (s : Start) (wires rows : List Bool) : Type 0 where
   pub words : AreWordsOf g w
   pub differ : Differ (names_of g)

@@ -41,7 +41,8 @@ pub(crate) fn settle(
 ) -> Result<Values, NoMemory>
     requires begins { Begins graph.now words.now start.now }
     requires order { IsReadingOrder (names_of graph.now)
-        (map (formula_of (instances_of graph.now) (names_of graph.now)) graph.now.equations.items) order.now.list.items }
+        (map (formula_of (instances_of graph.now) (names_of graph.now)) graph.now.equations.items)
+        order.now.list.items }
     ensures late { IfOk result (λ v. Late graph.now words.now start.now v.wires.items v.rows.items) }
     ensures solved { IfOk result (λ v. IsSolved graph.now start.now v.wires.items) }
 {
@@ -67,7 +68,8 @@ fn begin(alloc: Global, graph: &Graph, words: &Words, start: &Start<'_>) -> Resu
 fn solve(graph: &Graph, words: &Words, order: &Order, start: &Start<'_>, values: &mut Values)
     requires early { Early graph.now words.now start.now values.old.wires.items values.old.rows.items }
     requires order { IsReadingOrder (names_of graph.now)
-        (map (formula_of (instances_of graph.now) (names_of graph.now)) graph.now.equations.items) order.now.list.items }
+        (map (formula_of (instances_of graph.now) (names_of graph.now)) graph.now.equations.items)
+        order.now.list.items }
     ensures early { Early graph.now words.now start.now values.new.wires.items values.new.rows.items }
     ensures solved { IsSolved graph.now start.now values.new.wires.items }
 {

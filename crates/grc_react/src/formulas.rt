@@ -22,9 +22,11 @@ pub(crate) fn evaluate(
     formula: &Formula,
 ) -> bool
     requires stage { Stage graph.now words.now start.now wires.now rows.now }
-    requires fits { IsTrue (formula_fits (length graph.now.instances.list.items) (length graph.now.wires.items) formula.now) }
+    requires fits { IsTrue (formula_fits (length graph.now.instances.list.items)
+        (length graph.now.wires.items) formula.now) }
     requires known { IsKnown (length rows.now ≡ length words.now.rows.items) formula.now }
-    ensures { result ≡ formula_under graph.now start.now wires.now (formula_of (instances_of graph.now) (names_of graph.now) formula.now) }
+    ensures { result ≡ formula_under graph.now start.now wires.now
+        (formula_of (instances_of graph.now) (names_of graph.now) formula.now) }
 {
     match formula {
         Formula::Const(value) => *value,
@@ -91,7 +93,8 @@ fn ends_by(graph: &Graph, words: &Words, wires: &[bool], instance: InstId, code:
     requires words { AreWordsOf graph.now words.now }
     requires wires { length wires.now ≡ length graph.now.wires.items }
     requires instance { instance.0 < length graph.now.instances.list.items }
-    ensures { result ≡ any_from (value_at wires.now) (first_end words.now instance.0) (ends_upto graph.now words.now instance.0 code) }
+    ensures { result ≡ any_from (value_at wires.now) (first_end words.now instance.0)
+        (ends_upto graph.now words.now instance.0 code) }
 {
     let first = words.ends[instance.0 as usize].0 as usize;
     for wire in first..graph.wires.len() {

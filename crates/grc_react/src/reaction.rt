@@ -11,17 +11,14 @@ ghost use Rattle.grc_graph.specs.Neighbouring.{program_wires};
 ghost use Rattle.grc_graph.specs.PlainGraphs.{formula_of, instances_of, names_of, plain_graph};
 ghost use Rattle.grc_graph.specs.Readings.{Valuation};
 ghost use Rattle.grc_graph.specs.Reads.{IsReadingOrder};
-ghost use Rattle.grc_graph.specs.Selected.{IsState};
 ghost use Rattle.grc_graph.specs.SelectionTrees.{body_tree, body_leaves};
 ghost use Rattle.grc_graph.specs.TreeForms.{node_of};
 ghost use Rattle.grc_graph.specs.Wires.{Wire};
 ghost use Rattle.grc_sem.specs.GraphWalks.{shown_code};
-ghost use Rattle.grc_solutions.specs.Evaluations.{valuation_of};
 ghost use Rattle.grc_solutions.specs.GraphWires.{Differ};
-ghost use Rattle.grc_words.specs.Occasions.{state_of};
 ghost use Rattle.grc_words.specs.WordLaws.{AreWordsOf};
 ghost use Rattle.grc_react.specs.Evaluations.{Late, formula_under};
-ghost use Rattle.grc_react.specs.Reactions.{IsProgramGraph, IsWalked, IsConstructive};
+ghost use Rattle.grc_react.specs.Reactions.{IsProgramGraph, BeginsWell, IsWalked, IsConstructive, state_begun, valued};
 
 use crate::bits::Bits;
 use crate::codes::shown_code;
@@ -64,30 +61,28 @@ pub fn react(
     requires tree { map node_of tree.now.nodes.items ≡ body_tree (term_of graph.now.program.body) }
     requires leaves { length graph.now.next.items ≡ length (body_leaves (term_of graph.now.program.body)) }
     requires order { IsReadingOrder (names_of graph.now)
-        (map (formula_of (instances_of graph.now) (names_of graph.now)) graph.now.equations.items) order.now.list.items }
+        (map (formula_of (instances_of graph.now) (names_of graph.now)) graph.now.equations.items)
+        order.now.list.items }
     requires selected { length selected.now ≡ length graph.now.next.items }
     requires first { IsTrue boot → All (λ b. b ≡ false) selected.now }
     requires inputs { length inputs.now ≡ given_count (program_of graph.now.program) }
     ensures wires { IfOk result (λ r. length r.wires ≡ length graph.now.wires.items) }
-    ensures solution { IfOk result (λ r. Solves (plain_graph graph.now) (state_of (plain_graph graph.now).leaves boot selected.now)
-        inputs.now (valuation_of (names_of graph.now) r.wires)) }
+    ensures solution { IfOk result (λ r. Solves (plain_graph graph.now) (state_begun graph.now boot selected.now)
+        inputs.now (valued graph.now r.wires)) }
     ensures alone { IfOk result (λ r. (V : Valuation)
-        → Solves (plain_graph graph.now) (state_of (plain_graph graph.now).leaves boot selected.now) inputs.now V
-        → (w : Wire) → V w ≡ valuation_of (names_of graph.now) r.wires w) }
+        → Solves (plain_graph graph.now) (state_begun graph.now boot selected.now) inputs.now V
+        → (w : Wire) → V w ≡ valued graph.now r.wires w) }
     ensures emitted { IfOk result (λ r. r.emitted
-        ≡ (shown (plain_graph graph.now) (valuation_of (names_of graph.now) r.wires)).outputs) }
-    ensures code { IfOk result (λ r. r.code ≡ shown_code (valuation_of (names_of graph.now) r.wires)) }
-    ensures next { IfOk result (λ r. r.next
-        ≡ map (formula_value (plain_graph graph.now) (state_of (plain_graph graph.now).leaves boot selected.now) inputs.now
-        (valuation_of (names_of graph.now) r.wires)) (plain_graph graph.now).next) }
+        ≡ (shown (plain_graph graph.now) (valued graph.now r.wires)).outputs) }
+    ensures code { IfOk result (λ r. r.code ≡ shown_code (valued graph.now r.wires)) }
+    ensures next { IfOk result (λ r. r.next ≡ map (formula_value (plain_graph graph.now)
+        (state_begun graph.now boot selected.now) inputs.now (valued graph.now r.wires)) (plain_graph graph.now).next) }
     ensures walk { IfOk result (λ r. IsProgramGraph graph.now
-        → IsState (state_of (plain_graph graph.now).leaves boot selected.now) (term_of graph.now.program.body)
-        → IsWalked (program_of graph.now.program) (state_of (plain_graph graph.now).leaves boot selected.now) inputs.now
-        (valuation_of (names_of graph.now) r.wires) r.emitted r.code r.next) }
+        → BeginsWell (term_of graph.now.program.body) boot selected.now
+        → IsWalked graph.now (state_begun graph.now boot selected.now) inputs.now r) }
     ensures constructive { IfOk result (λ r. IsProgramGraph graph.now
-        → IsState (state_of (plain_graph graph.now).leaves boot selected.now) (term_of graph.now.program.body)
-        → IsConstructive (program_of graph.now.program) (state_of (plain_graph graph.now).leaves boot selected.now) inputs.now
-        r.emitted r.code r.next) }
+        → BeginsWell (term_of graph.now.program.body) boot selected.now
+        → IsConstructive graph.now (state_begun graph.now boot selected.now) inputs.now r) }
 {
     let words = words(alloc, graph, tree)?;
     let reaction = react_over(alloc, graph, &words, order, boot, selected, inputs)?;
@@ -107,22 +102,22 @@ pub fn react_over(
     requires words { AreWordsOf graph.now words.now }
     requires differ { Differ (names_of graph.now) }
     requires order { IsReadingOrder (names_of graph.now)
-        (map (formula_of (instances_of graph.now) (names_of graph.now)) graph.now.equations.items) order.now.list.items }
+        (map (formula_of (instances_of graph.now) (names_of graph.now)) graph.now.equations.items)
+        order.now.list.items }
     requires selected { length selected.now ≡ length graph.now.next.items }
     requires first { IsTrue boot → All (λ b. b ≡ false) selected.now }
     requires inputs { length inputs.now ≡ given_count (program_of graph.now.program) }
     ensures wires { IfOk result (λ r. length r.wires ≡ length graph.now.wires.items) }
-    ensures solution { IfOk result (λ r. Solves (plain_graph graph.now) (state_of (plain_graph graph.now).leaves boot selected.now)
-        inputs.now (valuation_of (names_of graph.now) r.wires)) }
+    ensures solution { IfOk result (λ r. Solves (plain_graph graph.now) (state_begun graph.now boot selected.now)
+        inputs.now (valued graph.now r.wires)) }
     ensures alone { IfOk result (λ r. (V : Valuation)
-        → Solves (plain_graph graph.now) (state_of (plain_graph graph.now).leaves boot selected.now) inputs.now V
-        → (w : Wire) → V w ≡ valuation_of (names_of graph.now) r.wires w) }
+        → Solves (plain_graph graph.now) (state_begun graph.now boot selected.now) inputs.now V
+        → (w : Wire) → V w ≡ valued graph.now r.wires w) }
     ensures emitted { IfOk result (λ r. r.emitted
-        ≡ (shown (plain_graph graph.now) (valuation_of (names_of graph.now) r.wires)).outputs) }
-    ensures code { IfOk result (λ r. r.code ≡ shown_code (valuation_of (names_of graph.now) r.wires)) }
-    ensures next { IfOk result (λ r. r.next
-        ≡ map (formula_value (plain_graph graph.now) (state_of (plain_graph graph.now).leaves boot selected.now) inputs.now
-        (valuation_of (names_of graph.now) r.wires)) (plain_graph graph.now).next) }
+        ≡ (shown (plain_graph graph.now) (valued graph.now r.wires)).outputs) }
+    ensures code { IfOk result (λ r. r.code ≡ shown_code (valued graph.now r.wires)) }
+    ensures next { IfOk result (λ r. r.next ≡ map (formula_value (plain_graph graph.now)
+        (state_begun graph.now boot selected.now) inputs.now (valued graph.now r.wires)) (plain_graph graph.now).next) }
 {
     let start = Start {
         boot,
@@ -145,9 +140,10 @@ fn read_off(
     requires { Late graph.now words.now start.now values.wires.items values.rows.items }
     ensures wires { IfOk result (λ r. r.wires ≡ values.wires.items) }
     ensures emitted { IfOk result (λ r. r.emitted
-        ≡ (shown (plain_graph graph.now) (valuation_of (names_of graph.now) values.wires.items)).outputs) }
-    ensures code { IfOk result (λ r. r.code ≡ shown_code (valuation_of (names_of graph.now) values.wires.items)) }
-    ensures next { IfOk result (λ r. r.next ≡ map (formula_under graph.now start.now values.wires.items) (plain_graph graph.now).next) }
+        ≡ (shown (plain_graph graph.now) (valued graph.now values.wires.items)).outputs) }
+    ensures code { IfOk result (λ r. r.code ≡ shown_code (valued graph.now values.wires.items)) }
+    ensures next { IfOk result (λ r. r.next
+        ≡ map (formula_under graph.now start.now values.wires.items) (plain_graph graph.now).next) }
 {
     let Values { wires, rows } = values;
     let emitted = source_values(alloc, start, &wires, &rows, &words.outputs)?;
@@ -171,7 +167,8 @@ fn next_values(
     rows: &[bool],
 ) -> Result<Vec<bool>, NoMemory>
     requires { Late graph.now words.now start.now wires.now rows.now }
-    ensures { IfOk result (λ values. values.items ≡ map (formula_under graph.now start.now wires.now) (plain_graph graph.now).next) }
+    ensures { IfOk result (λ values. values.items
+        ≡ map (formula_under graph.now start.now wires.now) (plain_graph graph.now).next) }
 {
     let mut values = Vec::new(alloc);
     for formula in graph.next.as_slice() {

@@ -5,4 +5,6 @@ use Rattle.grc_react.proofs.reaction.next_values.Given as goal
 
 abbrev pub invariant-loop-formula : goal.invariant-loop-formula
 invariant-loop-formula l =
-    l.values.items ≡ map (λ f. formula_under l.graph l.start l.wires (formula_of (instances_of l.graph) (names_of l.graph) f)) (take l.formula-index l.graph.next.items)
+    l.values.items
+    ≡ map (λ f. formula_under l.graph l.start l.wires (formula_of (instances_of l.graph) (names_of l.graph) f))
+    (take l.formula-index l.graph.next.items)

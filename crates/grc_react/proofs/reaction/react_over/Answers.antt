@@ -21,4 +21,5 @@ returns-clause-next c =
     let g = c.args.graph.now in
     let q = state_of (body_leaves (term_of g.program.body)) c.args.boot c.args.selected.now in
     c.in_ok-reaction.ensures.next
-    ∙ ap (λ xs. map (formula_value (plain_graph g) q c.args.inputs.now (valuation_of (names_of g) xs)) (plain_graph g).next) (sym c.in_ok-reaction.ensures.wires)
+    ∙ ap (λ xs. map (formula_value (plain_graph g) q c.args.inputs.now (valuation_of (names_of g) xs)) (plain_graph g).next)
+    (sym c.in_ok-reaction.ensures.wires)
