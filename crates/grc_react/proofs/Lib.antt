@@ -5,5 +5,6 @@ pub mod Ends
 pub mod Steps
 pub mod LeastCodes
 pub mod States
+pub mod OrderRanks
 pub mod Results
 pub mod Wholes

@@ -10,7 +10,8 @@ use Rattle.est_kernel.specs.Terms.{Term}
 use Rattle.est_kernel.specs.WellFormed.{IsWellFormed}
 use Rattle.est_kernel.specs.WellFormed as programs
 use Rattle.grc_graph.specs.declared.graph.Graph.{Graph}
-use Rattle.grc_graph.specs.GraphRuns.{PlainGraph, graph_of, Solves, shown, formula_value}
+use Rattle.grc_graph.specs.GraphRuns.{PlainGraph, graph_of, program_edges, Solves, shown, formula_value}
+use Rattle.grc_graph.specs.Orders.{GoUp}
 use Rattle.grc_graph.specs.PlainGraphs.{names_of, plain_graph}
 use Rattle.grc_graph.specs.Readings.{Valuation}
 use Rattle.grc_graph.specs.Selected.{IsState}
@@ -104,8 +105,9 @@ walked g q event r m =
     }
 
 -- and, where the edges go up, it is constructive
-pub constructive : (g : Graph) (q : State) (event : List Bool) (r : Reaction) → Premises g q event r → IsConstructive g q event r
-constructive g q event r m = λ rank up.
+pub constructive : (g : Graph) (q : State) (event : List Bool) (r : Reaction) (rank : Wire → ℕ) → Premises g q event r
+    → GoUp rank (program_edges (program_of g.program)) → IsConstructive g q event r
+constructive g q event r rank m up =
     let p = program_of g.program in
     let V = valued g r.wires in
     let bits = next-bits g q event r m in

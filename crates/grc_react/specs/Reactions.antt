@@ -1,18 +1,19 @@
 -- To believe: what a reaction of a graph is, and what it means for the program where the graph is the program's.
-use Rattle.std.specs.Prelude.{◌≡◌, ℕ, Bool, true, false, ◌||◌, List, map, Some, ⊤}
+use Rattle.std.specs.Prelude.{◌≡◌, ℕ, Bool, true, false, ◌||◌, List, length, map, Some, ⊤}
+use Rattle.est_base.specs.declared.indices.WireId.{WireId}
 use Rattle.est_kernel.specs.Plain.{Program, program_of, interface_of}
 use Rattle.est_kernel.specs.Reactions.{react, is_given}
 use Rattle.est_kernel.specs.Terms.{Term}
 use Rattle.grc_graph.specs.declared.graph.Graph.{Graph}
-use Rattle.grc_graph.specs.GraphRuns.{graph_of, program_edges}
-use Rattle.grc_graph.specs.Orders.{GoUp}
+use Rattle.grc_graph.specs.GraphRuns.{graph_of, program_edges, program_wires}
+use Rattle.grc_graph.specs.NumberedEdges.{AreEdgesOf}
 use Rattle.grc_graph.specs.PlainGraphs.{names_of, plain_graph}
 use Rattle.grc_graph.specs.Readings.{Valuation}
 use Rattle.grc_graph.specs.Selected.{IsState}
 use Rattle.grc_graph.specs.Selections.{well_formed}
 use Rattle.grc_graph.specs.SelectionTrees.{body_leaves, selecting}
 use Rattle.grc_graph.specs.Walk.{Walk, State, Selecting, remaining}
-use Rattle.grc_graph.specs.Wires.{Wire}
+use Rattle.grc_graph.specs.WireOrders.{WireEdge, IsWireOrder}
 use Rattle.grc_sem.specs.GraphWalks.{IsWalkOf, graph_walk}
 use Rattle.grc_solutions.specs.Evaluations.{valuation_of}
 use Rattle.grc_words.specs.Occasions.{state_of}
@@ -56,13 +57,18 @@ pub record IsWalked (g : Graph) (q : State) (event : List Bool) (r : Reaction) :
   pub formed : BeginsWell (program_of g.program).body false r.next
   pub state : IsState (state_after (program_of g.program) r.next) (program_of g.program).body
 
--- Where the edges of the program's graph go up in some rank, what the state leaves of the program reacts so: the
--- reaction is constructive, and leaves what the next state leaves of the body.
+-- What the state leaves of the program reacts so: the reaction is constructive, and leaves what the next state leaves
+-- of the body.
 abbrev pub IsConstructive : Graph → State → List Bool → Reaction → Type 0
 IsConstructive g q event r =
-    (rank : Wire → ℕ) → GoUp rank (program_edges (program_of g.program))
-    → react (interface_of (program_of g.program)) (remaining q (program_of g.program).body) event
+    react (interface_of (program_of g.program)) (remaining q (program_of g.program).body) event
     ≡ Some (record {
       answer = record { outputs = r.emitted; code = r.code };
       residual = remaining (state_after (program_of g.program) r.next) (program_of g.program).body;
     })
+
+-- an order of the wires of a program's graph along its dependency edges
+pub record IsDependencyOrder (p : Program) (order : List WireId) : Type 0 where
+  pub pairs : List WireEdge
+  pub are_edges : AreEdgesOf (program_wires p) (program_edges p) pairs
+  pub ordered : IsWireOrder (length (program_wires p)) pairs order

@@ -1,13 +1,14 @@
 // A reaction of a graph.
 
-ghost use Rattle.std.specs.Prelude.{◌≡◌, ◌≤◌, length, map, false, All, IsTrue, IfOk};
+ghost use Rattle.std.specs.Prelude.{◌≡◌, ℕ, ◌≤◌, length, map, false, All, IsTrue, IfOk};
 ghost use Rattle.est_base.specs.declared.bounds.TheConstants.Limits.{WIRES};
 ghost use Rattle.est_kernel.specs.Plain.{program_of, term_of, given_count};
 ghost use Rattle.est_kernel.specs.StaticCodes.{NoInstantLoop};
 ghost use Rattle.est_kernel.specs.WellFormed.{IsWellFormed};
-ghost use Rattle.grc_graph.specs.GraphRuns.{Solves, formula_value, shown};
+ghost use Rattle.grc_graph.specs.GraphRuns.{Solves, formula_value, program_edges, shown};
 ghost use Rattle.grc_graph.specs.Instances.{body_instances};
 ghost use Rattle.grc_graph.specs.Neighbouring.{program_wires};
+ghost use Rattle.grc_graph.specs.Orders.{GoUp};
 ghost use Rattle.grc_graph.specs.PlainGraphs.{formula_of, instances_of, names_of, plain_graph};
 ghost use Rattle.grc_graph.specs.Readings.{Valuation};
 ghost use Rattle.grc_graph.specs.Reads.{IsReadingOrder};
@@ -18,7 +19,8 @@ ghost use Rattle.grc_sem.specs.GraphWalks.{shown_code};
 ghost use Rattle.grc_solutions.specs.GraphWires.{Differ};
 ghost use Rattle.grc_words.specs.WordLaws.{AreWordsOf};
 ghost use Rattle.grc_react.specs.Evaluations.{Late, formula_under};
-ghost use Rattle.grc_react.specs.Reactions.{IsProgramGraph, BeginsWell, IsWalked, IsConstructive, state_begun, valued};
+ghost use Rattle.grc_react.specs.Reactions.{IsProgramGraph, BeginsWell, IsWalked, IsConstructive};
+ghost use Rattle.grc_react.specs.Reactions.{IsDependencyOrder, state_begun, valued};
 
 use crate::bits::Bits;
 use crate::codes::shown_code;
@@ -82,6 +84,11 @@ pub fn react(
         → IsWalked graph.now (state_begun graph.now boot selected.now) inputs.now r) }
     ensures constructive { IfOk result (λ r. IsProgramGraph graph.now
         → BeginsWell (term_of graph.now.program.body) boot selected.now
+        → (rank : Wire → ℕ) → GoUp rank (program_edges (program_of graph.now.program))
+        → IsConstructive graph.now (state_begun graph.now boot selected.now) inputs.now r) }
+    ensures ordered { IfOk result (λ r. IsProgramGraph graph.now
+        → BeginsWell (term_of graph.now.program.body) boot selected.now
+        → IsDependencyOrder (program_of graph.now.program) order.now.list.items
         → IsConstructive graph.now (state_begun graph.now boot selected.now) inputs.now r) }
 {
     let words = words(alloc, graph, tree)?;

@@ -6,6 +6,7 @@ use Rattle.grc_sem.proofs.Runs.{program_kernel}
 use Rattle.grc_solutions.specs.GraphWires.{Differ}
 use Rattle.grc_solutions.proofs.WireNames.{wires_differ_lem}
 use Rattle.grc_words.specs.Occasions.{state_of}
+use Rattle.grc_react.proofs.OrderRanks.{edges-up}
 use Rattle.grc_react.proofs.Results.{Premises, start-leaves, begun-state, walked, constructive}
 use Rattle.grc_react.proofs.reaction.react.Goals as goal
 
@@ -37,7 +38,7 @@ returns-clause-walk c = λ graph begins.
     walked g q c.args.inputs.now r m
 
 pub returns-clause-constructive : goal.returns-clause-constructive
-returns-clause-constructive c = λ graph begins.
+returns-clause-constructive c = λ graph begins rank up.
     let g = c.args.graph.now in
     let body = term_of g.program.body in
     let r = c.in_ok-reaction.reaction in
@@ -55,4 +56,27 @@ returns-clause-constructive c = λ graph begins.
       code_is = c.in_ok-reaction.ensures.code;
       next_is = c.in_ok-reaction.ensures.next;
     } in
-    constructive g q c.args.inputs.now r m
+    constructive g q c.args.inputs.now r rank m up
+
+pub returns-clause-ordered : goal.returns-clause-ordered
+returns-clause-ordered c = λ graph begins order.
+    let g = c.args.graph.now in
+    let body = term_of g.program.body in
+    let r = c.in_ok-reaction.reaction in
+    let q = state_of (body_leaves body) c.args.boot c.args.selected.now in
+    let m : Premises g q c.args.inputs.now r = record {
+      formed = c.requires.formed;
+      kernel = trees_are_kernels_lem g.program.body;
+      no_loop = c.requires.no_loop;
+      width = c.requires.inputs;
+      graph = graph;
+      state = begun-state body c.args.boot c.args.selected.now begins;
+      leaves = start-leaves body c.args.boot c.args.selected.now;
+      solves = c.in_ok-reaction.ensures.solution;
+      emitted_is = c.in_ok-reaction.ensures.emitted;
+      code_is = c.in_ok-reaction.ensures.code;
+      next_is = c.in_ok-reaction.ensures.next;
+    } in
+    let kernel = program_kernel (program_of g.program) c.requires.formed (trees_are_kernels_lem g.program.body) in
+    let up = edges-up (program_of g.program) order.pairs c.args.order.now.list.items kernel order.are_edges order.ordered in
+    constructive g q c.args.inputs.now r up.0 m up.1
