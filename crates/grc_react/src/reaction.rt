@@ -45,7 +45,10 @@ pub struct Reaction {
     pub next: Bits,
 }
 
-/// One reaction of a graph along an order along which its equations read.
+/// One reaction of a graph, along an order along which its equations read: in the first instant where
+/// `boot` holds, else with these leaves of `tree`, its body's selection tree, selected. `inputs` is the
+/// event. The graph's instances and wires are those of its program; its equations and `next` formulas
+/// are any.
 pub fn react(
     alloc: Global,
     graph: &Graph,
@@ -96,7 +99,8 @@ pub fn react(
     Ok(reaction)
 }
 
-/// One reaction of a graph over the table of its words, which is the same in every instant.
+/// One reaction of a graph over the table of its words, which is the same in every instant. No two of
+/// its wires are the same.
 pub fn react_over(
     alloc: Global,
     graph: &Graph,
