@@ -28,7 +28,7 @@ mod Scoped
 mod NextTop
 mod Premises
 mod FirstCodes
-mod Instants
+pub mod Instants
 pub mod Runs
-mod WalkSolves
+pub mod WalkSolves
 mod GraphLaws

@@ -1,0 +1,10 @@
+pub mod Agreement
+pub mod Stages
+pub mod Meanings
+pub mod Ends
+pub mod Steps
+pub mod LeastCodes
+pub mod States
+pub mod OrderRanks
+pub mod Results
+pub mod Wholes

@@ -1,0 +1,76 @@
+-- The stages of a reaction: before its first wire, and once all wires and rows are made.
+use Rattle.std.proofs.Common.{◌≡◌, ◌-◌, Bool, List, [], length, map, take, drop, slice_index_or, sym, ap, ◌∙◌, subst, arith, IsTrue}
+use Rattle.std.proofs.lemmas.List.{length-take-le, take-append-drop, take_rest, take_all}
+use Rattle.grc_graph.specs.declared.graph.Graph.{Graph}
+use Rattle.grc_graph.specs.GraphRuns.{shown}
+use Rattle.grc_graph.specs.PlainGraphs.{names_of, plain_graph}
+use Rattle.grc_solutions.specs.Evaluations.{valuation_of}
+use Rattle.grc_words.specs.declared.table.Row.{Row}
+use Rattle.grc_words.specs.declared.table.Words.{Words}
+use Rattle.grc_words.specs.Rows.{source_value, row_values, source_fits}
+use Rattle.grc_words.specs.WordLaws.{late_bounds, value_of}
+use Rattle.grc_words.proofs.RowValues.{length-row_values, row_values-append}
+use Rattle.grc_react.specs.declared.rows.Start.{Start}
+use Rattle.grc_react.specs.Evaluations.{Begins, Early, Late, surroundings_of}
+use Rattle.grc_react.proofs.Agreement.{maps-agree}
+use Rattle.grc_react.proofs.Stages.{occasion, false-off, source-known}
+
+pub begun : (g : Graph) (w : Words) (s : Start) (wires old new : List Bool) (table : List Row) → Begins g w s → length wires ≡ length g.wires.items
+    → old ≡ [] → table ≡ w.rows.items → new ≡ row_values (surroundings_of s wires) old (take w.early table) → Early g w s wires new
+begun g w s wires old new table m all none is made =
+    let S = surroundings_of s wires in
+    let rows = made ∙ ap (λ xs. row_values S xs (take w.early table)) none ∙ ap (λ xs. row_values S [] (take w.early xs)) is in
+    let few = m.words.fit.early in
+    let many : length new ≡ w.early =
+    omega (arith, ap length rows, length-row_values S [] (take w.early w.rows.items), length-take-le w.early w.rows.items few) in
+    record {
+      stage = record {
+        words = m.words;
+        differ = m.differ;
+        leaves = m.leaves;
+        given = m.given;
+        first = m.first;
+        each_wire = all;
+        early = omega arith;
+        known = rows ∙ ap (λ n. row_values S [] (take n w.rows.items)) (sym many);
+      };
+      early = many;
+    }
+
+-- the rest of the table
+rest-is : (w : Words) (table : List Row) → table ≡ w.rows.items → take (length table - w.early) (drop w.early table) ≡ drop w.early w.rows.items
+rest-is w table is = take_rest table w.early ∙ ap (drop w.early) is
+
+pub ended : (g : Graph) (w : Words) (s : Start) (wires rows new : List Bool) (table : List Row) → Early g w s wires rows → table ≡ w.rows.items
+    → new ≡ row_values (surroundings_of s wires) rows (take (length table - w.early) (drop w.early table)) → Late g w s wires new
+ended g w s wires rows new table m is made =
+    let S = surroundings_of s wires in
+    let st = m.stage in
+    let all = w.rows.items in
+    let front = st.known ∙ ap (λ n. row_values S [] (take n all)) m.early in
+    let whole = made ∙ ap (row_values S rows) (rest-is w table is) ∙ ap (λ xs. row_values S xs (drop w.early all)) front
+    ∙ sym (row_values-append S [] (take w.early all) (drop w.early all)) ∙ ap (row_values S []) (take-append-drop w.early all) in
+    let many : length new ≡ length all = omega (arith, ap length whole, length-row_values S [] all) in
+    record {
+      stage = record {
+        words = st.words;
+        differ = st.differ;
+        leaves = st.leaves;
+        given = st.given;
+        first = st.first;
+        each_wire = st.each_wire;
+        early = omega (arith, st.words.fit.early);
+        known = whole ∙ ap (row_values S []) (sym (take_all (length new) all (omega arith)));
+      };
+      all = many;
+    }
+
+-- what is shown of the outgoing signals
+pub outputs-mean : (g : Graph) (w : Words) (s : Start) (wires rows : List Bool) → Late g w s wires rows
+    → map (source_value (surroundings_of s wires) rows) w.outputs.items ≡ (shown (plain_graph g) (valuation_of (names_of g) wires)).outputs
+outputs-mean g w s wires rows m =
+    let t = occasion g w s wires rows m.stage in
+    maps-agree (source_value (surroundings_of s wires) rows) (value_of g w t) w.outputs.items
+    (λ k d low. source-known g w s wires rows (slice_index_or w.outputs.items k d) m.stage
+    (subst (λ n. IsTrue (source_fits (late_bounds g n) (slice_index_or w.outputs.items k d))) (sym m.all) (m.stage.words.fit.outputs k d low)))
+    ∙ m.stage.words.outputs t (false-off g wires)
