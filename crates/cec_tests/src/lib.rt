@@ -1,0 +1,19 @@
+//! Tests of the whole compiler, from the words of a command line to what the sinks have.
+//!
+//! Worked sources of the field go through `cec_core::cec` over files and sinks in memory; the BLIF text that it writes
+//! is read by `blif_text` and run by `blif_run`. The expected values come from published examples and from another
+//! implementation of the language.
+#![tactic(auto)]
+
+#[cfg(test)]
+mod calls;
+#[cfg(test)]
+mod cycles;
+#[cfg(test)]
+mod limits;
+#[cfg(test)]
+mod listings;
+#[cfg(test)]
+mod reactions;
+#[cfg(test)]
+mod refusals;
