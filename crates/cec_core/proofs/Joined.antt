@@ -3,7 +3,7 @@ use Rattle.std.proofs.Common.{◌≡◌, ℕ, ◌+◌, ◌-◌, ◌^◌, ◌<◌
 use Rattle.std.specs.Prelude.{codes, decimal, min, All, Contains, slice_index}
 use Rattle.std.proofs.lemmas.Bool.{cases_lt}
 use Rattle.std.proofs.lemmas.List.Elements.{All-contains, All-map}
-use Rattle.std.proofs.lemmas.List.{length-map, get_or-map}
+use Rattle.std.proofs.lemmas.List.{length-map, length-take, get_or-map}
 use Rattle.digraph.specs.Walks.{IsClosedWalk}
 use Rattle.est_base.specs.declared.indices.WireId.{WireId}
 use Rattle.est_kernel.specs.Plain.{Program, program_of, given_count, interface_of}
@@ -29,7 +29,7 @@ use Rattle.grc_graph.specs.PlainInstances.{instance_of}
 use Rattle.grc_graph.specs.Reads.{IsReadingOrder}
 use Rattle.grc_graph.specs.SelectionTrees.{body_leaves, body_tree}
 use Rattle.grc_graph.specs.TreeForms.{node_of}
-use Rattle.grc_graph.specs.WireOrders.{WireEdge, IsWireOrder}
+use Rattle.grc_graph.specs.WireOrders.{WireEdge, IsWireOrder, times}
 use Rattle.grc_list.specs.Listings.{program_listing}
 use Rattle.grc_sem.proofs.Runs.{program_kernel}
 use Rattle.grc_words.specs.Sizes.{rows_at_most}
@@ -46,6 +46,8 @@ use Rattle.cec_core.specs.Compiling.{IsGraphed, IsCompiled, StandsForGraph, Stan
 use Rattle.cec_core.specs.Limits.{copying_refusal}
 use Rattle.cec_core.specs.Refusals.{Compiles, HasNoText}
 use Rattle.cec_core.proofs.GraphFacts.{acyclic, reading_order}
+use Rattle.cec_core.proofs.WireWords.{order_carried, names_wires}
+use Rattle.cec_core.specs.Meaning.{NamesWires}
 use Rattle.cec_core.proofs.Keeping.{net_keeps, text_keeps, c_text_keeps}
 
 -- ---- graphs
@@ -75,11 +77,12 @@ copy_refused p copy_faults.NoMemory h = tt
 -- ---- nets and texts
 
 pub net_stands : (text : List ℕ) (main : Option (List ℕ)) (g : Graphed) (order : Order) (net : Net) → StandsForGraph text main g
+    → IsWireOrder g.edges.count g.edges.pairs.items order.list.items
     → HasInterfaceOf g.graph (netlist_of net) → carried net.gates.items ≡ map (λ v. v.0) order.list.items
     → length net.gates.items ≤ gates_at_most g.graph (rows_at_most g.graph) order.list.items
     → FollowsInstants g.graph (netlist_of net) → FollowsRuns g.graph (netlist_of net)
     → StandsForNet text main (record { graph = g.graph; tree = g.tree; order = order; net = net })
-net_stands text main g order net s interface carries size instants runs =
+net_stands text main g order net s along interface carries size instants runs =
     let p = s.program in
     let h = s.graphed in
     let compiles = graph_compiles g p h in
@@ -91,6 +94,8 @@ net_stands text main g order net s interface carries size instants runs =
         compiles = compiles;
         graph = h.graph;
         tree = h.tree;
+        order = graph_order g p order.list.items h along;
+        along = record { pairs = g.edges.pairs.items; edges = h.edges; order = subst (λ n. IsWireOrder n g.edges.pairs.items order.list.items) h.count along };
         carried = carries;
         size = size;
         interface = interface;
@@ -103,12 +108,23 @@ net_stands text main g order net s interface carries size instants runs =
 given-few : (p : Program) → programs.IsWellFormed p → given_count p ≤ length p.signals
 given-few p h = omega (arith, h.interface)
 
+-- the text of a compiled program names its wires
+net_wires : (c : Compiled) (p : Program) → IsCompiled c p → (written : List ℕ) → (means : Means written (netlist_of c.net)) → NamesWires means.circuit p
+net_wires c p h written means =
+    let kernel = program_kernel p h.formed (kernel_of c.graph p h.graph) in
+    let inputs = h.keeps.inputs in
+    let wide : given_count p ≡ length (netlist_of c.net).inputs = sym (ap length inputs ∙ omega (arith, length-take (given_count p) p.signals, given-few p h.formed)) in
+    names_wires c.graph p (netlist_of c.net) h.graph (carriers h.order.each_once) kernel h.compiles.acyclic h.interface h.runs written means inputs wide
+  where
+    carriers : ((w : ℕ) → w < length (names_of c.graph) → times c.order.list.items w ≡ 1) → (n : ℕ) → n < length (program_wires p) → Contains (carried c.net.gates.items) n
+    carriers once n l = order_carried c.order.list.items c.net.gates.items n h.carried (once n (subst (λ ws. n < length ws) (sym h.graph.wires) l))
+
 pub text_stands : (text : List ℕ) (main : Option (List ℕ)) (c : Compiled) (written : List ℕ) → StandsForNet text main c → Means written (netlist_of c.net) → StandsForText text main written
 text_stands text main c written s means = record {
   program = s.program;
   source = s.source;
   compiles = s.compiled.compiles;
-  keeps = text_keeps written (netlist_of c.net) s.program (given-few s.program s.compiled.formed) s.compiled.keeps means;
+  keeps = text_keeps written (netlist_of c.net) s.program (given-few s.program s.compiled.formed) s.compiled.keeps means (net_wires c s.program s.compiled written means);
 }
 
 pub c_text_stands : (text : List ℕ) (main : Option (List ℕ)) (c : Compiled) (written : List ℕ) → StandsForNet text main c → c_meant.Means written (netlist_of c.net) → StandsForC text main written

@@ -23,10 +23,10 @@ use Rattle.csub_text.specs.Written as meant
 use Rattle.csub_text.specs.Written.{input_variable, output_variable, shown_by_call}
 use Rattle.std.specs.Prelude.{codes}
 use Rattle.cec_core.specs.Cycles.{IsAcyclic}
-use Rattle.cec_core.specs.Meaning.{IsEvent, AreItems, seen_of, NetKeeps, row_of, TextKeeps, call_of, CTextKeeps}
+use Rattle.cec_core.specs.Meaning.{IsEvent, AreItems, seen_of, NetKeeps, NamesWires, row_of, TextKeeps, call_of, CTextKeeps}
 
 -- each event has a truth value per given signal
-widths : (p : Program) (n : ℕ) → given_count p ≡ n → (items : List Item) → AreItems p items → EachEvent (λ event. length event ≡ n) items
+pub widths : (p : Program) (n : ℕ) → given_count p ≡ n → (items : List Item) → AreItems p items → EachEvent (λ event. length event ≡ n) items
 widths p n is [] fits = tt
 widths p n is (Event event ∷ items) fits = (fits.0.wide ∙ is, widths p n is items fits.1)
 widths p n is (Reset ∷ items) fits = widths p n is items fits
@@ -73,8 +73,8 @@ map-words inputs [] = refl
 map-words inputs (o ∷ outputs) = ap (λ l. output_word inputs o.name ∷ l) (map-words inputs outputs)
 
 -- a text that means a net which keeps what a program means keeps it too
-pub text_keeps : (text : List ℕ) (net : Netlist) (p : Program) → given_count p ≤ length p.signals → NetKeeps net p → Means text net → TextKeeps text p
-text_keeps text net p few keeps means = record {
+pub text_keeps : (text : List ℕ) (net : Netlist) (p : Program) → given_count p ≤ length p.signals → NetKeeps net p → (means : Means text net) → NamesWires means.circuit p → TextKeeps text p
+text_keeps text net p few keeps means wires = record {
   circuit = means.circuit;
   reads = means.reads;
   name = means.name ∙ keeps.name;
@@ -91,6 +91,7 @@ text_keeps text net p few keeps means = record {
         one_run = means.one_run items;
         alike = λ valuations is_run. means.shows items valuations is_run ∙ ap (map row_of) found.2 ∙ map-row found.0;
       };
+  wires = wires;
 }
 
 -- ---- the C text

@@ -1,4 +1,5 @@
 pub mod GraphFacts
 pub mod Keeping
 pub mod Commands
+pub mod WireWords
 pub mod Joined

@@ -8,10 +8,11 @@ use Rattle.grc_graph.specs.BuiltGraphs.{IsGraphOf}
 use Rattle.grc_graph.specs.GraphRuns.{program_edges}
 use Rattle.grc_graph.specs.Instances.{body_instances}
 use Rattle.grc_graph.specs.NumberedEdges.{AreEdgesOf}
-use Rattle.grc_graph.specs.PlainGraphs.{names_of}
+use Rattle.grc_graph.specs.PlainGraphs.{formula_of, instances_of, names_of}
+use Rattle.grc_graph.specs.Reads.{IsReadingOrder}
 use Rattle.grc_graph.specs.SelectionTrees.{body_leaves, body_tree}
 use Rattle.grc_graph.specs.TreeForms.{node_of}
-use Rattle.grc_graph.specs.WireOrders.{AreRanks, IsWireOrder}
+use Rattle.grc_graph.specs.WireOrders.{WireEdge, AreRanks, IsWireOrder}
 use Rattle.net_gen.specs.Costs.{gates_at_most}
 use Rattle.grc_words.specs.Sizes.{rows_at_most}
 use Rattle.net_gen.specs.Generated.{HasInterfaceOf, FollowsInstants, FollowsRuns}
@@ -36,6 +37,12 @@ pub record IsGraphed (g : Graphed) (p : Program) : Type 0 where
   pub edges : AreEdgesOf (names_of g.graph) (program_edges p) g.edges.pairs.items
   pub ranks : AreRanks g.edges.count g.edges.pairs.items g.ranks.of.items
 
+-- The order of a compiled program is one along the dependency edges: no wire stands before one that has an edge to it.
+pub record FollowsEdges (c : Compiled) (p : Program) : Type 0 where
+  pub pairs : List WireEdge
+  pub edges : AreEdgesOf (names_of c.graph) (program_edges p) pairs
+  pub order : IsWireOrder (length c.graph.wires.items) pairs c.order.list.items
+
 -- The same graph, an evaluation order along its edges, and its netlist: the netlist has at most so many gates, one of
 -- them for each wire, in that order, and keeps what the program means.
 pub record IsCompiled (c : Compiled) (p : Program) : Type 0 where
@@ -43,6 +50,9 @@ pub record IsCompiled (c : Compiled) (p : Program) : Type 0 where
   pub compiles : Compiles p
   pub graph : IsGraphOf c.graph p
   pub tree : map node_of c.tree.nodes.items ≡ body_tree p.body
+  pub order : IsReadingOrder (names_of c.graph) (map (formula_of (instances_of c.graph) (names_of c.graph)) c.graph.equations.items)
+      c.order.list.items
+  pub along : FollowsEdges c p
   pub carried : carried c.net.gates.items ≡ map (λ v. v.0) c.order.list.items
   pub size : length c.net.gates.items ≤ gates_at_most c.graph (rows_at_most c.graph) c.order.list.items
   pub interface : HasInterfaceOf c.graph (netlist_of c.net)

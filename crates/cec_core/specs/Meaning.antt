@@ -1,9 +1,15 @@
 -- To believe: what it means that a netlist, or a written BLIF text, does what a kernel program means.
-use Rattle.std.specs.Prelude.{◌≡◌, ℕ, Bool, List, [], ◌∷◌, ◌++◌, ◌==◌, map, length, Some, Ok, codes}
+use Rattle.std.specs.Prelude.{◌≡◌, ℕ, Bool, List, [], ◌∷◌, ◌++◌, ◌==◌, map, length, Some, Ok, codes, decimal, ◌+◌, ◌<◌}
+use Rattle.std.specs.List.{AllZip}
 use Rattle.est_base.specs.Items.{Item, EachEvent}
 use Rattle.est_base.specs.Relations.{MeetsAll}
 use Rattle.est_kernel.specs.Plain.{Program, given_count, given_names, outgoing_names}
 use Rattle.est_kernel.specs.Reactions.{Answer, run_of}
+use Rattle.grc_graph.specs.GraphRuns.{IsGraphRun, graph_of, program_wires}
+use Rattle.grc_graph.specs.PlainGraphs.{wire_at}
+use Rattle.grc_graph.specs.Readings.{Valuation}
+use Rattle.grc_graph.specs.SelectionTrees.{body_leaves}
+use Rattle.grc_graph.specs.Walk.{Initial}
 use Rattle.net_ir.specs.Netlists.{Netlist, output_names}
 use Rattle.net_ir.specs.Runs.{Shown, net_run}
 use Rattle.blif_text.specs.Circuits.{Circuit, reading}
@@ -51,9 +57,32 @@ pub record RunsAlike (circuit : Circuit) (p : Program) (items : List Item) : Typ
   pub one_run : (us vs : List (List ℕ → Bool)) → IsRun circuit items us → IsRun circuit items vs → map (λ u. map u (driven_names circuit)) us ≡ map (λ v. map v (driven_names circuit)) vs
   pub alike : (valuations : List (List ℕ → Bool)) → IsRun circuit items valuations → map (λ v. map v circuit.outputs) valuations ≡ map (λ a. row_of (seen_of a)) answers
 
+-- ---- wires by name
+
+-- the name of the wire with this number
+abbrev pub wire_word : ℕ → List ℕ
+wire_word n = codes "_w" ++ decimal n
+
+-- in an instant the name of each wire of the program's graph has the wire's value
+abbrev pub TellsWires : Program → (List ℕ → Bool) → Valuation → Type 0
+TellsWires p v V = (n : ℕ) → n < length (program_wires p) → v (wire_word n) ≡ V (wire_at (program_wires p) n)
+
+-- The graph of the program has a run over the items, from instant to instant the solution of its equations, which is the
+-- walk of the state that is reached; and in each instant the names tell its wires.
+pub record WiresTold (p : Program) (items : List Item) (valuations : List (List ℕ → Bool)) : Type 0 where
+  pub run : List Valuation
+  pub is_run : IsGraphRun (graph_of p) Initial items run
+  pub told : AllZip (TellsWires p) valuations run
+
+-- A circuit has one latch for the first instant and one for each leaf of the selection tree, and names the wires of the
+-- program's graph by their numbers.
+pub record NamesWires (circuit : Circuit) (p : Program) : Type 0 where
+  pub latches : length circuit.latches ≡ length (body_leaves p.body) + 1
+  pub wires : (items : List Item) → AreItems p items → (valuations : List (List ℕ → Bool)) → IsRun circuit items valuations → WiresTold p items valuations
+
 -- The compiler-correctness theorem: a text has a reading by the BLIF profile with the program's name and
 -- given signals, and its outgoing signals and then `_paused`, in declared order, and runs alike over every
--- list of items. An outgoing signal that is given too is marked as an output.
+-- list of items. An outgoing signal that is given too is marked as an output. It names the wires of the program's graph.
 pub record TextKeeps (text : List ℕ) (p : Program) : Type 0 where
   pub circuit : Circuit
   pub reads : reading text ≡ Ok circuit
@@ -61,6 +90,7 @@ pub record TextKeeps (text : List ℕ) (p : Program) : Type 0 where
   pub inputs : circuit.inputs ≡ given_names p
   pub outputs : circuit.outputs ≡ map (output_word (given_names p)) (outgoing_names p) ++ paused_word ∷ []
   pub runs : (items : List Item) → AreItems p items → RunsAlike circuit p items
+  pub wires : NamesWires circuit p
 
 -- ---- the C text
 

@@ -1,0 +1,135 @@
+-- The names of wires in a written text have the values of the wires.
+use Rattle.std.proofs.Common.{◌≡◌, ℕ, zero, suc, ◌+◌, ◌-◌, ◌<◌, ◌≤◌, Bool, true, false, List, [], ◌∷◌, ◌++◌, length, map, get_or, Option, Some, None, refl, sym, ap, ◌∙◌, subst, cond, arith}
+use Rattle.std.specs.Prelude.{codes, decimal, nat_lt, option_map, option_and_then, slice_get, Contains, if◌then◌else◌}
+use Rattle.std.specs.List.{AllZip, range_with_len, cons_option}
+use Rattle.std.proofs.lemmas.Bool.{le-ltb}
+use Rattle.std.proofs.lemmas.List.{length-map, get_or-map, get_or_default}
+use Rattle.std.proofs.lemmas.List.FromFn.{get_or-map-range_with_len}
+use Rattle.std.proofs.lemmas.Option.{slice_get-get_or}
+use Rattle.est_base.specs.declared.indices.WireId.{WireId}
+use Rattle.est_base.specs.Items.{Item, EachEvent}
+use Rattle.est_kernel.specs.Plain.{Program, program_of, given_count, given_names}
+use Rattle.blif_text.specs.Written.{Means, net_word, net_latch, gate_word}
+use Rattle.blif_text.specs.Written as written
+use Rattle.blif_text.specs.Runs.{IsRun}
+use Rattle.blif_text.proofs.Numbered.{length-numbered}
+use Rattle.grc_graph.specs.declared.graph.Graph.{Graph}
+use Rattle.grc_graph.specs.BuiltGraphs.{IsGraphOf}
+use Rattle.grc_graph.proofs.BuiltReads.{next_each}
+use Rattle.grc_graph.specs.GraphRuns.{IsGraphRun, graph_of, program_wires}
+use Rattle.grc_graph.specs.PlainGraphs.{names_of, plain_graph}
+use Rattle.grc_graph.specs.PlainGraphs as graphs
+use Rattle.grc_graph.specs.Readings.{Valuation}
+use Rattle.grc_graph.specs.Walk.{Initial}
+use Rattle.grc_graph.specs.WireOrders.{times}
+use Rattle.grc_graph.specs.WireOrders as orders
+use Rattle.grc_solutions.proofs.Numbers.{stands_at}
+use Rattle.grc_solutions.proofs.OneRun.{graph_runs_exist_lem}
+use Rattle.grc_graph.specs.Selected.{IsKernel}
+use Rattle.grc_graph.specs.SelectionTrees.{body_leaves}
+use Rattle.net_gen.specs.Generated.{HasInterfaceOf, Carries, EachInstant, FollowsRuns}
+use Rattle.net_ir.specs.declared.netlist.Gate.{Gate}
+use Rattle.net_ir.specs.Gates.{carried, value_in}
+use Rattle.net_ir.specs.Netlists.{Netlist, first_gate, net_count}
+use Rattle.cec_core.specs.Cycles.{IsAcyclic}
+use Rattle.cec_core.specs.Meaning.{AreItems, wire_word, TellsWires, WiresTold, NamesWires}
+use Rattle.cec_core.proofs.Keeping.{widths}
+
+-- ---- the gate of a wire
+
+-- a gate that carries this wire
+record Carrier (gates : List Gate) (n : ℕ) : Type 0 where
+  place : ℕ
+  within : place < length gates
+  is : (x : Gate) → (get_or gates place x).wire ≡ Some (record { 0 = n })
+
+later : (g : Gate) (gates : List Gate) (n : ℕ) → Carrier gates n → Carrier (g ∷ gates) n
+later g gates n c = record { place = suc c.place; within = omega (arith, c.within); is = c.is }
+
+carrier : (gates : List Gate) (n : ℕ) → Contains (carried gates) n → Carrier gates n
+carrier [] n c = absurd (omega (arith, c.1))
+carrier (g ∷ gates) n c = by_wire (carrier gates n) g.wire refl c
+  where
+    at_place : (Contains (carried gates) n → Carrier gates n) → (w : WireId) → g.wire ≡ Some w → Contains (w.0 ∷ carried gates) n → Carrier (g ∷ gates) n
+    at_place rest w e (zero, l, s) = record { place = 0; within = omega arith; is = λ x. e ∙ ap (λ k. Some (record { 0 = k })) s }
+    at_place rest w e (suc k, l, s) = later g gates n (rest (k, omega (arith, l), s))
+
+    by_wire : (Contains (carried gates) n → Carrier gates n) → (o : Option WireId) → g.wire ≡ o → Contains (cons_option (option_map (λ w. w.0) g.wire) (carried gates)) n
+        → Carrier (g ∷ gates) n
+    by_wire rest None e c = later g gates n (rest (subst (λ o. Contains (cons_option (option_map (λ w. w.0) o) (carried gates)) n) e c))
+    by_wire rest (Some w) e c = at_place rest w e (subst (λ o. Contains (cons_option (option_map (λ w. w.0) o) (carried gates)) n) e c)
+
+-- a wire of an order is carried
+pub order_carried : (order : List WireId) (gates : List Gate) (n : ℕ) → carried gates ≡ map (λ v. v.0) order → times order n ≡ 1 → Contains (carried gates) n
+order_carried order gates n e once =
+    let at = stands_at order n once in
+    subst (λ l. Contains l n) (sym e)
+    (at.0, omega (arith, at.1, length-map order (λ (v : WireId). v.0)), get_or-map (λ (v : WireId). v.0) order at.0 (record { 0 = 0 }) n at.1 ∙ at.2)
+
+-- some gate, where there is a place
+any_in : (gates : List Gate) (k : ℕ) → k < length gates → Gate
+any_in [] k l = absurd (omega (arith, l))
+any_in (g ∷ gates) k l = g
+
+-- ---- its name
+
+word_of : (net : Netlist) (n : ℕ) → (c : Carrier net.gates n) → net_word net (first_gate net + c.place) ≡ wire_word n
+word_of net n c =
+    let i = first_gate net + c.place in
+    let no_input : nat_lt i (length net.inputs) ≡ false = le-ltb i (length net.inputs) (omega arith) in
+    let no_latch : nat_lt i (first_gate net) ≡ false = le-ltb i (first_gate net) (omega arith) in
+    let back : i - first_gate net ≡ c.place = omega arith in
+    let x = any_in net.gates c.place c.within in
+    let there : written.wire_at net.gates c.place ≡ Some (record { 0 = n })
+    = ap (λ o. option_and_then (λ h. h.wire) o) (slice_get-get_or net.gates c.place x c.within) ∙ c.is x in
+    ap (λ b. if b then written.input_word i else (if nat_lt i (first_gate net) then written.latch_word (i - length net.inputs)
+    else gate_word (i - first_gate net) (written.wire_at net.gates (i - first_gate net)))) no_input
+    ∙ ap (λ b. if b then written.latch_word (i - length net.inputs) else gate_word (i - first_gate net) (written.wire_at net.gates (i - first_gate net))) no_latch
+    ∙ ap (λ k. gate_word k (written.wire_at net.gates k)) back ∙ ap (gate_word c.place) there
+
+-- ---- instants
+
+-- the values of all nets, by their names
+abbrev by_name : Netlist → (List ℕ → Bool) → List Bool
+by_name net v = map (λ n. v (net_word net n)) (range_with_len 0 (net_count net))
+
+module _ (g : Graph) (p : Program) (net : Netlist) (is : IsGraphOf g p) (carriers : (n : ℕ) → n < length (program_wires p) → Contains (carried net.gates) n) where
+  told-once : (v : List ℕ → Bool) (V : Valuation) → Carries g net (by_name net v) V → TellsWires p v V
+  told-once v V c n l = by_carrier (carrier net.gates n (carriers n l))
+    where
+      by_carrier : Carrier net.gates n → v (wire_word n) ≡ V (graphs.wire_at (program_wires p) n)
+      by_carrier k =
+          let i = first_gate net + k.place in
+          let inside : i < net_count net = omega (arith, k.within) in
+          let value : value_in (by_name net v) i ≡ v (net_word net i) = get_or-map-range_with_len (λ m. v (net_word net m)) 0 (net_count net) i i false inside (omega arith) in
+          let x = any_in net.gates k.place k.within in
+          let carried_value : value_in (by_name net v) i ≡ V (graphs.wire_at (names_of g) n) = c k.place x (record { 0 = n }) k.within (k.is x) in
+          sym (ap v (word_of net n k)) ∙ sym value ∙ carried_value ∙ ap (λ names. V (graphs.wire_at names n)) is.wires
+
+  told-all : (valuations : List (List ℕ → Bool)) (Vs : List Valuation) → EachInstant (Carries g net) (map (by_name net) valuations) Vs → AllZip (TellsWires p) valuations Vs
+  told-all [] [] h = tt
+  told-all [] (V ∷ Vs) h = absurd h
+  told-all (v ∷ valuations) [] h = absurd h
+  told-all (v ∷ valuations) (V ∷ Vs) h = (told-once v V h.0, told-all valuations Vs h.1)
+
+  pub names_wires : IsKernel p.body → IsAcyclic p → HasInterfaceOf g net → FollowsRuns g net → (text : List ℕ) → (means : Means text net) → net.inputs ≡ given_names p
+      → given_count p ≡ length net.inputs → NamesWires means.circuit p
+  names_wires kernel acyclic interface follows text means inputs wide = record {
+    latches =
+        ap length means.latches ∙ length-numbered (net_latch net) 0 net.latches ∙ latch_count;
+    wires = λ items fits valuations is_run.
+        let events = widths p (given_count p) refl items fits in
+        let one = graph_runs_exist_lem p acyclic.rank kernel acyclic.up Initial items in
+        let run = one.0.1 in
+        let followed =
+        follows items one.0.0 (subst (λ q. EachEvent (λ event. length event ≡ given_count q) items) (sym is.program) events)
+        (subst (λ h. IsGraphRun h Initial items one.0.0) (sym is.graph) run) in
+        record {
+          run = one.0.0;
+          is_run = run;
+          told = told-all valuations one.0.0 (subst (λ values. EachInstant (Carries g net) values one.0.0) (sym (means.nets items valuations is_run)) followed.carries);
+        };
+  }
+    where
+      latch_count : length net.latches ≡ length (body_leaves p.body) + 1
+      latch_count = omega (arith, sym (length-map net.latches (λ l. l.init)) ∙ ap length interface.latches, length-map g.next.items (λ f. false), next_each g p is)
