@@ -10,10 +10,4 @@ mod calls;
 #[cfg(test)]
 mod cycles;
 #[cfg(test)]
-mod limits;
-#[cfg(test)]
-mod listings;
-#[cfg(test)]
 mod reactions;
-#[cfg(test)]
-mod refusals;
