@@ -1,0 +1,4 @@
+pub mod Rows
+pub mod NameLists
+pub mod Machines
+pub mod RunnerRuns

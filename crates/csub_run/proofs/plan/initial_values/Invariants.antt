@@ -1,0 +1,14 @@
+use Rattle.std.proofs.Common.{◌≡◌, ◌++◌, false, map, take}
+use Rattle.csub_text.specs.Views.{state_of}
+use Rattle.csub_run.proofs.plan.initial_values.Given as goal
+
+abbrev pub invariant-loop-state : goal.invariant-loop-state
+invariant-loop-state l = l.values.items ≡ map (λ s. s.init) (map state_of (take l.state-index l.program.states.items))
+
+abbrev pub invariant-loop : goal.invariant-loop
+invariant-loop l = l.values.items ≡ map (λ s. s.init) (map state_of l.program.states.items) ++ map (λ _. false) (take l.index l.program.globals.items)
+
+abbrev pub invariant-loop-2 : goal.invariant-loop-2
+invariant-loop-2 l =
+    l.values.items
+    ≡ (map (λ s. s.init) (map state_of l.program.states.items) ++ map (λ _. false) l.program.globals.items) ++ map (λ _. false) (take l.index l.program.locals.items)

@@ -1,0 +1,10 @@
+use Rattle.std.proofs.Common.{◌≡◌, ◌++◌, map, drop}
+use Rattle.std.specs.Prelude.{filter}
+use Rattle.csub_text.specs.Grammar.{begins_input}
+use Rattle.csub_run.specs.Runners.{slot_in}
+use Rattle.csub_run.proofs.plan.input_slots.Given as goal
+
+abbrev pub invariant-loop-name : goal.invariant-loop-name
+invariant-loop-name l =
+    map (slot_in (map (λ k. k.now) l.slots.keys)) (filter begins_input l.globals)
+    ≡ l.found.items ++ map (slot_in (map (λ k. k.now) l.slots.keys)) (filter begins_input (drop l.name-index l.globals))

@@ -1,0 +1,4 @@
+pub mod Runners
+pub mod Slots
+pub mod Insides
+pub mod Laws

@@ -1,0 +1,64 @@
+-- To believe: what the machine of a program is from call to call.
+use Rattle.std.specs.Prelude.{◌≡◌, ℕ, Bool, false, List, [], ◌∷◌, map, slice_index_or, None}
+use Rattle.std.specs.List.{position_or_len}
+use Rattle.est_base.specs.Names.{is_same_name}
+use Rattle.est_base.specs.Items.{Item, Event, Reset}
+use Rattle.csub_text.specs.declared.trees.CProgram.{CProgram}
+use Rattle.csub_text.specs.Trees.{Program}
+use Rattle.csub_text.specs.Views.{program_of}
+use Rattle.csub_text.specs.Names.{declared, outputs_of, name_fault}
+use Rattle.csub_text.specs.Machine.{Memory, value_of, first_memory, call, Seen}
+
+-- a program that keeps the rules on names, as each one does that some text describes
+abbrev pub KeepsNames : Program → Type 0
+KeepsNames p = name_fault p ≡ None
+
+-- a machine: its program as it lies in memory, and the values of the declared variables, in declared order
+pub record Runner : Type 0 where
+  pub code : CProgram
+  pub values : List Bool
+
+abbrev pub program_in : Runner → Program
+program_in r = program_of r.code
+
+-- the place of a name among some, or their number where it is none of them
+abbrev pub slot_in : List (List ℕ) → List ℕ → ℕ
+slot_in names name = position_or_len (is_same_name name) names
+
+-- the value at a place; where none is, 0
+abbrev pub value_at : List Bool → ℕ → Bool
+value_at values k = slice_index_or values k false
+
+-- the memory that the values make
+abbrev pub memory_in : List (List ℕ) → List Bool → Memory
+memory_in names values name = value_at values (slot_in names name)
+
+abbrev pub memory_of : Runner → Memory
+memory_of r = memory_in (declared (program_in r)) r.values
+
+-- before the first call and behind a reset the memory is the first one
+abbrev pub IsFresh : Runner → Type 0
+IsFresh r = (name : List ℕ) → memory_of r name ≡ first_memory (program_in r).states name
+
+-- one call of the machine, and the value that it returns
+pub record Reacts (old : Runner) (inputs : List Bool) (answer : Bool) (new : Runner) : Type 0 where
+  pub same : new.code ≡ old.code
+  pub memory : (name : List ℕ) → memory_of new name ≡ call (program_in old) inputs (memory_of old) name
+  pub returned : answer ≡ value_of (memory_of new) (program_in old).answer
+
+-- a reset puts the machine back to its beginning
+pub record Resets (old new : Runner) : Type 0 where
+  pub same : new.code ≡ old.code
+  pub fresh : IsFresh new
+
+abbrev pub outputs_shown : Runner → List Bool
+outputs_shown r = map (memory_of r) (outputs_of (program_in r))
+
+-- The items drive the machine one after another, and these are the outputs and the returned value of each call.
+abbrev pub Drives : Runner → List Item → List Seen → Type 0
+Drives r [] [] = Unit {0}
+Drives r [] (seen ∷ others) = ⊥
+Drives r (Event inputs ∷ items) (seen ∷ others) =
+    (next : Runner) × Reacts r inputs seen.answer next × (seen.outputs ≡ outputs_shown next) × Drives next items others
+Drives r (Event inputs ∷ items) [] = ⊥
+Drives r (Reset ∷ items) others = (next : Runner) × Resets r next × Drives next items others

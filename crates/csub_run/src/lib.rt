@@ -1,0 +1,15 @@
+//! The machine of the C subset.
+//!
+//! `CRunner` runs a program over calls and resets as csub_text defines its machine: its names are resolved once,
+//! and a call neither hashes nor allocates.
+#![tactic(auto)]
+
+mod laws;
+mod names;
+mod plan;
+mod runner;
+mod signs;
+mod slots;
+
+pub use laws::answers_are_runs;
+pub use runner::CRunner;

@@ -1,0 +1,139 @@
+// What a machine does at a call, with the names resolved.
+
+ghost use Rattle.std.specs.Prelude.{◌≡◌, [], None, map, filter, length, IfOk};
+ghost use Rattle.csub_text.specs.Grammar.{begins_input, begins_output};
+ghost use Rattle.csub_text.specs.Names.{first_again};
+ghost use Rattle.csub_text.specs.Views.{assign_of, program_of};
+ghost use Rattle.csub_run.specs.Runners.{KeepsNames, slot_in};
+ghost use Rattle.csub_run.specs.Slots.{IsPlan, plain_step, step_of, first_values};
+
+use crate::names::declared_names;
+use crate::signs::{begins_input, begins_output};
+use crate::slots::{SlotExpr, resolved, slot_of};
+use csub_text::{Assign, CProgram};
+use est_base::{NoMemory, Text};
+use indexmap::IndexSet;
+use std::alloc::Global;
+
+/// The slot gets the value of the expression.
+#[derive(Debug, Drop)]
+pub struct Step {
+    pub slot: usize,
+    pub value: SlotExpr,
+}
+
+/// The variables have the slots that their places among the declared names are: states, globals, locals.
+#[derive(Debug, Drop)]
+pub struct Plan {
+    pub inputs: Vec<usize>,
+    pub outputs: Vec<usize>,
+    pub steps: Vec<Step>,
+    pub answer: SlotExpr,
+    // The values before the first call.
+    pub initial: Vec<bool>,
+}
+
+// The plan of a program.
+pub fn plan_of(alloc: Global, program: &CProgram) -> Result<Plan, NoMemory>
+    requires { KeepsNames (program_of program.now) }
+    ensures { IfOk result (IsPlan (program_of program.now)) }
+{
+    let names = declared_names(alloc, program)?;
+    let slots = slot_table(alloc, &names)?;
+    Ok(Plan {
+        inputs: input_slots(alloc, &slots, &program.globals)?,
+        outputs: output_slots(alloc, &slots, &program.globals)?,
+        steps: steps(alloc, &slots, &program.body)?,
+        answer: resolved(alloc, &slots, &program.answer)?,
+        initial: initial_values(alloc, program)?,
+    })
+}
+
+// The values that the variables have before the first call: those of the states as they are declared, and 0.
+fn initial_values(alloc: Global, program: &CProgram) -> Result<Vec<bool>, NoMemory>
+    ensures { IfOk result (λ v. v.items ≡ first_values (program_of program.now)) }
+{
+    let mut values = Vec::new(alloc);
+    for state in &program.states {
+        values.push(state.init)?;
+    }
+    for _ in &program.globals {
+        values.push(false)?;
+    }
+    for _ in &program.locals {
+        values.push(false)?;
+    }
+    Ok(values)
+}
+
+// The table of some names, where none stands twice.
+fn slot_table<'a>(alloc: Global, names: &[&'a [u8]]) -> Result<IndexSet<&'a [u8]>, NoMemory>
+    requires { first_again [] (map (λ w. w.now) names.now) ≡ None }
+    ensures { IfOk result (λ s. map (λ k. k.now) s.keys ≡ map (λ w. w.now) names.now) }
+{
+    let mut slots = IndexSet::new(alloc);
+    for name in names {
+        slots.insert(*name)?;
+    }
+    Ok(slots)
+}
+
+// The slots of the inputs among the globals.
+fn input_slots(
+    alloc: Global,
+    slots: &IndexSet<&[u8]>,
+    globals: &[Text],
+) -> Result<Vec<usize>, NoMemory>
+    ensures { IfOk result
+        (λ v. v.items ≡ map (slot_in (map (λ k. k.now) slots.now.keys)) (filter begins_input globals.now)) }
+{
+    let mut found = Vec::new(alloc);
+    for name in globals {
+        if begins_input(name.bytes()) {
+            found.push(slot_of(slots, name.bytes()))?;
+        }
+    }
+    Ok(found)
+}
+
+// The slots of the outputs among the globals.
+fn output_slots(
+    alloc: Global,
+    slots: &IndexSet<&[u8]>,
+    globals: &[Text],
+) -> Result<Vec<usize>, NoMemory>
+    ensures { IfOk result
+        (λ v. v.items ≡ map (slot_in (map (λ k. k.now) slots.now.keys)) (filter begins_output globals.now)) }
+{
+    let mut found = Vec::new(alloc);
+    for name in globals {
+        if begins_output(name.bytes()) {
+            found.push(slot_of(slots, name.bytes()))?;
+        }
+    }
+    Ok(found)
+}
+
+// The steps of the assignments.
+fn steps(alloc: Global, slots: &IndexSet<&[u8]>, body: &[Assign]) -> Result<Vec<Step>, NoMemory>
+    ensures { IfOk result
+        (λ v. map plain_step v.items
+        ≡ map (step_of (map (λ k. k.now) slots.now.keys)) (map assign_of body.now)) }
+{
+    let mut steps = Vec::with_capacity(alloc, body.len())?;
+    for assign in body {
+        steps.push(resolved_step(alloc, slots, assign)?)?;
+    }
+    Ok(steps)
+}
+
+#[tactic(auto, using(crate::proofs::Rows::step_rows))]
+fn resolved_step(alloc: Global, slots: &IndexSet<&[u8]>, assign: &Assign) -> Result<Step, NoMemory>
+    ensures { IfOk result
+        (λ s. plain_step s ≡ step_of (map (λ k. k.now) slots.now.keys) (assign_of assign.now)) }
+{
+    Ok(Step {
+        slot: slot_of(slots, assign.to.bytes()),
+        value: resolved(alloc, slots, &assign.value)?,
+    })
+}
