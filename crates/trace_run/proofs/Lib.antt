@@ -1,0 +1,5 @@
+mod Groups
+mod Leading
+mod Stepping
+mod Telling
+mod Nets
