@@ -3,3 +3,5 @@ mod Leading
 mod Stepping
 mod Telling
 mod Nets
+mod NoLoops
+mod NetLoops

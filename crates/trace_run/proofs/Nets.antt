@@ -3,6 +3,7 @@ use Rattle.std.proofs.Common.{◌≡◌, ℕ, ◌-◌, Bool, true, false, if◌t
 use Rattle.std.proofs.Common.{refl, sym, ap, ◌∙◌, subst, arith}
 use Rattle.std.proofs.lemmas.List.{length-append, length-map}
 use Rattle.std.proofs.Math.Seq.{take-append_seam, get_or-append_seam}
+use Rattle.est_base.specs.Items.{Item}
 use Rattle.est_base.specs.Names.{is_same_name}
 use Rattle.net_ir.specs.declared.netlist.NetOut.{NetOut}
 use Rattle.net_ir.specs.Netlists.{Netlist}
@@ -12,8 +13,12 @@ use Rattle.blif_text.specs.Circuits.{Circuit}
 use Rattle.blif_text.specs.Runs.{IsRun}
 use Rattle.blif_text.specs.Written.{output_word, paused_word}
 use Rattle.blif_run.proofs.RunnerRuns.{answers-are-runs}
+use Rattle.blif_run.specs.Runners.{Runner, IsFresh, Resets}
+use Rattle.trace_run.specs.Machines.{Brings, answer_lines}
+use Rattle.trace_run.specs.BlifRunners.{Answers}
 use Rattle.trace_run.specs.BlifAnswers.{tells_pause, listed_count, answer_of}
-use Rattle.trace_run.specs.Laws.{shown_answer, NetsAreRun}
+use Rattle.trace_run.specs.Laws.{NetsAreRun}
+use Rattle.trace_run.specs.NetRuns.{shown_answer, ShowsNet, IsCircuitOf}
 use Rattle.trace_run.proofs.Telling.{told-by}
 
 -- names with `_paused` at their end
@@ -70,3 +75,10 @@ nets-are-run text net circuit means reads =
           told.are ∙ ap (λ o. map (answer_of o) told.rows) outputs ∙ ap (map (answer_of (names ++ paused_word ∷ []))) rows
           ∙ answers-run net names (net_values_run net items) count,
     )
+
+-- a fresh runner of a net's circuit shows the net
+pub shows-net : (net : Netlist) (old new : Runner) → IsCircuitOf net old.circuit → IsFresh old → (names : List (List ℕ)) (items : List Item) (text : List ℕ)
+    → Brings Answers Resets names old new items text → ShowsNet names net items text
+shows-net net old new of fresh names items text brings =
+    let law = nets-are-run of.text net old.circuit of.means of.reads in
+    brings.2 ∙ ap (answer_lines names) (law.2 old new items brings.0 refl fresh brings.1)

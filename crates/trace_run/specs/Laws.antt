@@ -2,17 +2,14 @@
 use Rattle.std.specs.Prelude.{◌≡◌, ℕ, List, length, map, Ok}
 use Rattle.est_base.specs.Items.{Item}
 use Rattle.net_ir.specs.Netlists.{Netlist}
-use Rattle.net_ir.specs.Runs.{Shown, net_run}
+use Rattle.net_ir.specs.Runs.{net_run}
 use Rattle.blif_text.specs.Circuits.{Circuit, reading}
 use Rattle.blif_text.specs.Written.{Means}
 use Rattle.blif_run.specs.Runners.{Runner, IsFresh, Resets}
 use Rattle.trace_run.specs.Machines.{Answer, Drives}
-use Rattle.trace_run.specs.BlifAnswers.{word_of, listed_count}
+use Rattle.trace_run.specs.BlifAnswers.{listed_count}
+use Rattle.trace_run.specs.NetRuns.{shown_answer}
 use Rattle.trace_run.specs.BlifRunners.{Answers}
-
--- what a net shows in an instant, as an answer
-abbrev pub shown_answer : Shown → Answer
-shown_answer shown = record { present = shown.outputs; word = word_of shown.paused }
 
 -- The circuit of a text that means a net has the net's inputs, and lists as many outputs as the net has. A fresh runner
 -- of it, driven by items, answers what the net shows over these items.

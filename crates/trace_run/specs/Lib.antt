@@ -4,4 +4,5 @@ pub mod Steps
 pub mod BlifAnswers
 pub mod BlifRunners
 pub mod Executing
+pub mod NetRuns
 pub mod Laws

@@ -10,12 +10,14 @@ mod blif_runner;
 mod executing;
 mod laws;
 mod machine;
+mod net_runs;
 mod running;
 
 pub use blif_runner::{BlifRunner, run_blif};
 pub use executing::{ExecFault, TextFault, exec_blif};
 pub use laws::nets_are_run;
 pub use machine::Runner;
+pub use net_runs::run_net;
 pub use running::{Interface, RunFault, run_trace};
 
 #[cfg(test)]
