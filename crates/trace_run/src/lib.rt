@@ -17,7 +17,7 @@ pub use blif_runner::{BlifRunner, run_blif};
 pub use executing::{ExecFault, TextFault, exec_blif};
 pub use laws::nets_are_run;
 pub use machine::Runner;
-pub use net_runs::run_net;
+pub use net_runs::run_written;
 pub use running::{Interface, RunFault, run_trace};
 
 #[cfg(test)]

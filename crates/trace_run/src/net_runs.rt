@@ -4,7 +4,7 @@ ghost use Rattle.std.specs.Prelude.{◌≡◌, ◌<◌, ◌≤◌, ◌^◌, leng
 ghost use Rattle.est_base.specs.Relations.{relation_of};
 ghost use Rattle.net_ir.specs.Runs.{netlist_of};
 ghost use Rattle.blif_text.specs.Plain.{plain_circuit};
-ghost use Rattle.blif_text.specs.Written.{written};
+ghost use Rattle.blif_text.specs.Written.{written, Means};
 ghost use Rattle.blif_run.specs.Loops.{IsDescribed, HasNoLoop};
 ghost use Rattle.blif_run.specs.Runners.{IsFresh};
 ghost use Rattle.trace_io.specs.Answers.{beginning};
@@ -14,23 +14,27 @@ ghost use Rattle.trace_run.specs.NetRuns.{ShowsNet, IsCircuitOf};
 use crate::blif_runner::BlifRunner;
 use crate::running::{Interface, RunFault, run_trace};
 use blif_run::RunError;
-use blif_text::{Blif, BlifError, read_blif, write_blif};
+use blif_text::{Blif, BlifError, read_blif};
 use est_base::{Limits, NoMemory, Sink};
 use net_ir::{Gate, Net};
 use std::alloc::Global;
 
-/// Writes the BLIF text of a net into memory, reads it again and runs it over a trace, with these names in its lines.
-pub fn run_net<O: Sink>(
+/// Reads the BLIF text that was written of a net, and runs it over a trace, with these names in its lines. What is written
+/// is what the net shows.
+pub fn run_written<O: Sink>(
     alloc: Global,
     net: &Net,
+    text: &[u8],
     interface: Interface,
     trace: Vec<u8>,
     out: &mut O,
 ) -> Result<(), RunFault>
+    requires spelled { text.now ≡ written (netlist_of net.now) }
+    requires means { Means text.now (netlist_of net.now) }
+    requires fits { length text.now ≤ Limits.TEXT_BYTES }
     requires given { interface.given.items ≡ net.now.inputs.items }
     requires outgoing { length interface.outgoing.items ≡ length net.now.outputs.items }
     requires countable { length interface.relations.items < 2 ^ 32 }
-    requires fits { length (written (netlist_of net.now)) ≤ Limits.TEXT_BYTES }
     requires short { length trace.items ≤ 2 ^ 24 }
     ensures { RunsTrace (ShowsNet interface.outgoing.items (netlist_of net.now))
         (beginning trace.items interface.given.items (map relation_of interface.relations.items))
@@ -42,7 +46,7 @@ pub fn run_net<O: Sink>(
         })
         result }
 {
-    let blif = match written_circuit(alloc, net) {
+    let blif = match written_circuit(alloc, net, text) {
         Ok(blif) => blif,
         Err(NoMemory) => return Err(RunFault::NoMemory),
     };
@@ -53,14 +57,15 @@ pub fn run_net<O: Sink>(
     run_trace(alloc, &mut runner, interface, trace, out)
 }
 
-// The circuit of the text that is written of a net.
-fn written_circuit(alloc: Global, net: &Net) -> Result<Blif, NoMemory>
-    requires { length (written (netlist_of net.now)) ≤ Limits.TEXT_BYTES }
+// The circuit of the text that was written of a net.
+fn written_circuit(alloc: Global, net: &Net, text: &[u8]) -> Result<Blif, NoMemory>
+    requires spelled { text.now ≡ written (netlist_of net.now) }
+    requires means { Means text.now (netlist_of net.now) }
+    requires fits { length text.now ≤ Limits.TEXT_BYTES }
     ensures { IfOk result (λ blif. IsCircuitOf (netlist_of net.now) (plain_circuit blif)) }
 {
     look_at_wires(net);
-    let text = write_blif(alloc, net)?;
-    match read_blif(alloc, &text) {
+    match read_blif(alloc, text) {
         Ok(blif) => Ok(blif),
         Err(error) => Err(lack_of_reader(error)),
     }

@@ -3,7 +3,7 @@ use Rattle.net_ir.specs.Runs.{netlist_of}
 use Rattle.trace_run.specs.NetRuns.{IsCircuitOf}
 use Rattle.trace_run.proofs.Stepping.{runs-so}
 use Rattle.trace_run.proofs.Nets.{shows-net}
-use Rattle.trace_run.proofs.net_runs.run_net.Goals as goal
+use Rattle.trace_run.proofs.net_runs.run_written.Goals as goal
 
 pub returns : goal.returns
 returns g c =
