@@ -5,3 +5,4 @@ mod Telling
 mod Nets
 mod NoLoops
 mod NetLoops
+mod Fronts

@@ -1,8 +1,14 @@
-// The law that ties the runner of a net's text to the net. The call does nothing: its contract is the law.
+// Laws for callers. The calls do nothing: their contracts are the laws.
 
-ghost use Rattle.trace_run.specs.Laws.{NetsAreRun};
+ghost use Rattle.trace_run.specs.Laws.{NetsAreRun, NetsAreWritten, TextsAreWritten};
 
 /// A fresh runner of a text that means a net answers to items what the net shows.
 pub fn nets_are_run()
     ensures { NetsAreRun }
+{}
+
+/// A run that is cut off leaves a prefix of the text of the whole trace, and one that is not leaves all of it.
+pub fn runs_are_written()
+    ensures nets { NetsAreWritten }
+    ensures texts { TextsAreWritten }
 {}
