@@ -1,11 +1,11 @@
 -- The first items of a trace are those of each run over it: what came of them is a prefix of what comes of all.
-use Rattle.std.proofs.Common.{◌≡◌, ℕ, ◌+◌, ◌-◌, ◌<◌, ◌≤◌, min, Bool, List, [], ◌∷◌, ◌++◌, length, map, take, Option, Some, None, Result, Ok, Err}
+use Rattle.std.proofs.Common.{◌≡◌, ℕ, ◌+◌, ◌≤◌, min, Bool, List, [], ◌∷◌, ◌++◌, length, map, take, Option, Some, None, Result, Ok, Err}
 use Rattle.std.proofs.Common.{refl, sym, ap, ◌∙◌, subst, append-nil, arith}
 use Rattle.std.proofs.lemmas.List.{length-append, map-append, take_min, take-append-le}
 use Rattle.std.proofs.lemmas.Grind.{flat_map-append}
 use Rattle.est_base.specs.Items.{Item, Event, Reset}
 use Rattle.est_base.specs.Relations.{Relation, Implies, MeetsAll}
-use Rattle.est_base.specs.Writing.{Gains, GainsFront, Stops, Appends}
+use Rattle.est_base.specs.Writing.{Gains, GainsFront, Appends}
 use Rattle.net_ir.specs.Netlists.{Netlist}
 use Rattle.net_ir.specs.Runs.{shown, net_values, next_latches, initial_latches, values_from}
 use Rattle.trace_io.specs.declared.faults.TraceFault.{TraceFault}

@@ -11,9 +11,8 @@ use Rattle.net_ir.specs.declared.netlist.Gate.{Gate}
 use Rattle.net_ir.specs.declared.netlist.NetOut.{NetOut}
 use Rattle.net_ir.specs.declared.netlist.Latch.{Latch}
 use Rattle.net_ir.specs.Gates.{operand_end}
-use Rattle.net_ir.specs.Netlists.{Netlist, first_gate, net_count}
+use Rattle.net_ir.specs.Netlists.{Netlist, first_gate}
 use Rattle.blif_text.specs.Circuits.{Circuit, CircuitLatch, Table}
-use Rattle.blif_text.specs.Runs.{driven_names}
 use Rattle.blif_text.specs.Written.{input_word, output_word, latch_word, gate_word, net_word, paused_word, operands, numbered, net_latch, copy_table, input_table}
 use Rattle.blif_text.specs.Written.{gate_table, output_table, net_tables, net_circuit}
 use Rattle.blif_text.proofs.Numbered.{length-numbered, get_or-numbered}
