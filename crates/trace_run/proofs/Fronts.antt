@@ -173,7 +173,7 @@ nets-are-written names net r s result items end runs t =
         ap (map shown_answer) (map-append (shown net) first values.0) ∙ map-append shown_answer (map (shown net) first) (map (shown net) values.0) in (
           answer_lines names (answers values.0),
           b ∙ ap (λ l. answer_lines names (answers l)) values.1 ∙ ap (answer_lines names) split ∙ lines-of names (answers first) (answers values.0)
-          ∙ ap (λ x. x ++ answer_lines names (answers values.0)) (sym a),
+              ∙ ap (λ x. x ++ answer_lines names (answers values.0)) (sym a),
         )
 
 -- a run over the first items, and the rest

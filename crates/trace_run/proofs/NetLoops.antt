@@ -231,25 +231,25 @@ each-reads net is =
     let igo = length-append (inputs ++ gates) outputs in
     let all = length net.gates in
     let on_inputs = each-from (ReadsBelow net) 0 inputs (λ k d h.
-        let low : k < length net.inputs = omega arith in
-        let e : k ≡ 0 + k = omega arith in
-        subst (λ t. ReadsBelow net (0 + k) t) (sym (get_or-numbered input_table 0 net.inputs k d [] low))
-        (subst (λ m. ReadsBelow net m (input_table m (get_or net.inputs k []))) e (reads-input net k [] low)))
+    let low : k < length net.inputs = omega arith in
+    let e : k ≡ 0 + k = omega arith in
+    subst (λ t. ReadsBelow net (0 + k) t) (sym (get_or-numbered input_table 0 net.inputs k d [] low))
+    (subst (λ m. ReadsBelow net m (input_table m (get_or net.inputs k []))) e (reads-input net k [] low)))
     in
     let on_gates = each-from (ReadsBelow net) (length net.inputs) gates (λ k d h.
-        let low : k < length net.gates = omega arith in
-        let any : Gate = record { op = Const true; wire = None } in
-        let e : k ≡ 0 + k = omega arith in
-        subst (λ t. ReadsBelow net (length net.inputs + k) t) (sym (get_or-numbered (gate_table net) 0 net.gates k d any low))
-        (subst (λ m. ReadsBelow net (length net.inputs + k) (gate_table net m (get_or net.gates k any))) e (reads-gate net is k any low)))
+    let low : k < length net.gates = omega arith in
+    let any : Gate = record { op = Const true; wire = None } in
+    let e : k ≡ 0 + k = omega arith in
+    subst (λ t. ReadsBelow net (length net.inputs + k) t) (sym (get_or-numbered (gate_table net) 0 net.gates k d any low))
+    (subst (λ m. ReadsBelow net (length net.inputs + k) (gate_table net m (get_or net.gates k any))) e (reads-gate net is k any low)))
     in
     let on_outputs = each-from (ReadsBelow net) (length net.inputs + all) outputs (λ k d h.
-        let low : k < length net.outputs = omega arith in
-        let any : NetOut = record { name = []; net = record { 0 = 0 } } in
-        let out = get_or net.outputs k any in
-        subst (λ t. ReadsBelow net (length net.inputs + all + k) t) (sym (get_or-map (output_table net) net.outputs k any d low))
-        (reads-word net out.net.0 all (length net.inputs + all + k) (output_word net.inputs out.name) (omega arith)
-        (is.is_net.outputs_in_range k any low) (omega arith)))
+    let low : k < length net.outputs = omega arith in
+    let any : NetOut = record { name = []; net = record { 0 = 0 } } in
+    let out = get_or net.outputs k any in
+    subst (λ t. ReadsBelow net (length net.inputs + all + k) t) (sym (get_or-map (output_table net) net.outputs k any d low))
+    (reads-word net out.net.0 all (length net.inputs + all + k) (output_word net.inputs out.name) (omega arith)
+    (is.is_net.outputs_in_range k any low) (omega arith)))
     in
     let on_paused = reads-word net net.paused all (length net.inputs + all + length net.outputs) paused_word (omega arith) is.is_net.paused_in_range (omega arith) in
     each-both (ReadsBelow net) 0 (length net.inputs + all + length net.outputs) (inputs ++ gates ++ outputs) (paused ∷ []) (omega arith)

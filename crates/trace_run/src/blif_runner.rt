@@ -134,7 +134,8 @@ fn word_of(paused: bool) -> Word
     if paused { Word::Paused } else { Word::Ended }
 }
 
-fn copied_names(alloc: Global, names: &[Text]) -> Result<Vec<Text>, NoMemory>
+// Names, copied.
+pub fn copied_names(alloc: Global, names: &[Text]) -> Result<Vec<Text>, NoMemory>
     ensures { IfOk result (λ copied. copied.items ≡ names.now) }
 {
     let mut copied = Vec::with_capacity(alloc, names.len())?;

@@ -1,7 +1,13 @@
 // BLIF texts run over traces. The lines are those of another implementation.
 
+ghost use Rattle.std.specs.Prelude.{◌≡◌, length, IfOk};
+
 use super::*;
-use est_base::{Sink, SteadySink};
+use crate::blif_runner::copied_names;
+use blif_text::write_blif;
+use est_base::{NetId, NoMemory, SteadySink, Text};
+use net_ir::{Gate, Latch, Net, NetOut, Op};
+use std::alloc::Global;
 use std::test::Fail;
 use trace_io::TraceFault;
 
@@ -77,6 +83,62 @@ fn texts_run_over_traces(rt: HostRuntime) -> Result<(), Fail> {
             assert_eq!(rt; ending(&outcome), end);
             assert_eq!(rt; out.bytes(), lines);
         }
+    }
+    Ok(())
+}
+
+const NET_LINES: &[u8] = b"- | ended\nOUT | paused\n- | ended\n- | paused\n";
+
+// The net of one latch and two gates whose text is `WORKED`, but for names.
+fn worked_net(alloc: Global) -> Result<Net, NoMemory>
+    ensures inputs { IfOk result (λ net. length net.inputs.items ≡ 1) }
+    ensures outputs { IfOk result (λ net. length net.outputs.items ≡ 1) }
+{
+    let and = Gate {
+        op: Op::And(NetId(0), NetId(1)),
+        wire: None,
+    };
+    let not = Gate {
+        op: Op::Not(NetId(2)),
+        wire: None,
+    };
+    Ok(Net {
+        name: Text::from_bytes(alloc, b"T")?,
+        inputs: vec![in alloc; Text::from_bytes(alloc, b"A")?]?,
+        outputs: vec![in alloc;
+            NetOut {
+                name: Text::from_bytes(alloc, b"O")?,
+                net: NetId(2)
+            },
+        ]?,
+        paused: NetId(1),
+        latches: vec![in alloc;
+            Latch {
+                init: false,
+                from: NetId(3)
+            },
+        ]?,
+        gates: vec![in alloc; and, not]?,
+    })
+}
+
+#[test]
+fn a_net_runs_by_its_text(rt: HostRuntime) -> Result<(), Fail> {
+    let net = worked_net(rt.alloc())?;
+    let text = write_blif(rt.alloc(), &net)?;
+    let interface = Interface {
+        given: copied_names(rt.alloc(), &net.inputs)?,
+        outgoing: vec![in rt.alloc(); Text::from_bytes(rt.alloc(), b"OUT")?]?,
+        relations: Vec::new(rt.alloc()),
+    };
+    let trace = Vec::from_slice(rt.alloc(), b"A; A; !reset; A;; B;")?;
+    let mut out = SteadySink::new(rt.alloc(), 100)?;
+    if text.len() < 1000 && trace.len() < 100 {
+        match run_written(rt.alloc(), &net, &text, interface, trace, &mut out) {
+            Err(RunFault::Trace(TraceFault::UnknownInput(5, _))) => {}
+            _ => assert!(rt; false),
+        }
+        assert_eq!(rt; out.bytes(), NET_LINES);
     }
     Ok(())
 }
