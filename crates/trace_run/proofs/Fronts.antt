@@ -58,7 +58,8 @@ fault-kind r (faults.Breaks instant number) is = omega (arith, ap kind is.3)
 -- an instant that meets every relation is no fault
 no-fault : (r : Reading) (event : List Bool) (behind : ℕ) (fault : TraceFault) → next_group r ≡ Instant event behind → MeetsAll r.relations event
     → IsFault r fault → ⊥
-no-fault r event behind (faults.BadByte place) g meets is = let e : 2 ≡ 3 = differ (next_group r) (Instant event behind) (Refused (faults.BadByte place)) g is in omega (arith, e)
+no-fault r event behind (faults.BadByte place) g meets is =
+    let e : 2 ≡ 3 = differ (next_group r) (Instant event behind) (Refused (faults.BadByte place)) g is in omega (arith, e)
 no-fault r event behind (faults.UnknownInput instant name) g meets is =
     let e : 2 ≡ 3 = differ (next_group r) (Instant event behind) (Refused (faults.UnknownInput instant name)) g is in omega (arith, e)
 no-fault r event behind (faults.Repeated instant name) g meets is =

@@ -13,7 +13,8 @@ use Rattle.net_ir.specs.declared.netlist.Latch.{Latch}
 use Rattle.net_ir.specs.Gates.{operand_end}
 use Rattle.net_ir.specs.Netlists.{Netlist, first_gate}
 use Rattle.blif_text.specs.Circuits.{Circuit, CircuitLatch, Table}
-use Rattle.blif_text.specs.Written.{input_word, output_word, latch_word, gate_word, net_word, paused_word, operands, numbered, net_latch, copy_table, input_table}
+use Rattle.blif_text.specs.Written.{input_word, output_word, latch_word, gate_word, net_word, paused_word, operands, numbered}
+use Rattle.blif_text.specs.Written.{net_latch, copy_table, input_table}
 use Rattle.blif_text.specs.Written.{gate_table, output_table, net_tables, net_circuit}
 use Rattle.blif_text.proofs.Numbered.{length-numbered, get_or-numbered}
 use Rattle.blif_text.proofs.NetNames.{IsWritable, shown_words, input_words, latch_words, gate_words, net_words, net_cases, net_word-at}
@@ -28,7 +29,7 @@ use Rattle.blif_text.proofs.NetSpelling.{reading-written}
 use Rattle.blif_run.specs.declared.refusal.RunError.{RunError}
 use Rattle.blif_run.specs.declared.refusal.RunError.TheVariants as errors
 use Rattle.blif_run.specs.Loops.{HasNoLoop, LoopFault}
-use Rattle.trace_run.specs.NetRuns.{IsCircuitOf}
+use Rattle.trace_run.specs.Insides.{IsCircuitOf}
 use Rattle.blif_run.proofs.Places.{place-at}
 use Rattle.trace_run.proofs.NoLoops.{IsRising, rising-no_loop}
 
@@ -251,7 +252,8 @@ each-reads net is =
     (reads-word net out.net.0 all (length net.inputs + all + k) (output_word net.inputs out.name) (omega arith)
     (is.is_net.outputs_in_range k any low) (omega arith)))
     in
-    let on_paused = reads-word net net.paused all (length net.inputs + all + length net.outputs) paused_word (omega arith) is.is_net.paused_in_range (omega arith) in
+    let on_paused = reads-word net net.paused all (length net.inputs + all + length net.outputs) paused_word (omega arith)
+    is.is_net.paused_in_range (omega arith) in
     each-both (ReadsBelow net) 0 (length net.inputs + all + length net.outputs) (inputs ++ gates ++ outputs) (paused ∷ []) (omega arith)
     (each-both (ReadsBelow net) 0 (length net.inputs + all) (inputs ++ gates) outputs (omega arith)
     (each-both (ReadsBelow net) 0 (length net.inputs) inputs gates (omega arith) on_inputs on_gates) on_outputs) (on_paused, tt)

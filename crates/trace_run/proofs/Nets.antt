@@ -18,7 +18,8 @@ use Rattle.trace_run.specs.Machines.{Brings, answer_lines}
 use Rattle.trace_run.specs.BlifRunners.{Answers}
 use Rattle.trace_run.specs.BlifAnswers.{tells_pause, listed_count, answer_of}
 use Rattle.trace_run.specs.Laws.{NetsAreRun}
-use Rattle.trace_run.specs.NetRuns.{shown_answer, ShowsNet, IsCircuitOf}
+use Rattle.trace_run.specs.Insides.{IsCircuitOf}
+use Rattle.trace_run.specs.NetRuns.{shown_answer, ShowsNet}
 use Rattle.trace_run.proofs.Telling.{told-by}
 
 -- names with `_paused` at their end

@@ -72,6 +72,7 @@ rising-no_loop c rising names loop = ⊎_elim one more (cases_lt 1 (length names
         let end = falls c d names begins.0 rising loop begins.1 (length names - 2) (omega (arith, h)) in
         let last : length names - 2 + 1 ≡ length names - 1 = omega (arith, h) in
         let there = subst (λ k. ReadsAt c.tables d (name_at names (length names - 2)) (name_at names k) end.0) last end.1 in
-        let low = lower c.tables d (name_at names (length names - 2)) (name_at names (length names - 1)) (name_at names 0) end.0 closing.0 rising there closing.1 in
+        let low = lower c.tables d (name_at names (length names - 2)) (name_at names (length names - 1)) (name_at names 0) end.0 closing.0 rising there
+        closing.1 in
         let back = lower c.tables d (name_at names (length names - 1)) (name_at names 0) (name_at names 1) closing.0 begins.0 rising closing.1 begins.1 in
         omega (arith, low, back, end.2)

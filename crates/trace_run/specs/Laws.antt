@@ -39,7 +39,8 @@ Leaves s text (Err NoMemory) = (s.faults_now ≡ s.faults_before) × GainsFront 
 abbrev pub NetsAreWritten : Type 0
 NetsAreWritten =
     (names : List (List ℕ)) (net : Netlist) (trace : Reading) (s : Sinks) (result : Result (Unit {0}) RunFault)
-    → (items : List Item) (end : Option TraceFault) → RunsTrace (ShowsNet names net) trace s result → IsTrace trace items end
+    → (items : List Item) (end : Option TraceFault) → RunsTrace (ShowsNet names net) trace s result
+    → IsTrace trace items end
     → Leaves s (answer_lines names (map shown_answer (net_run net items))) result
 
 -- of a circuit, where this is a run over the items of the whole trace

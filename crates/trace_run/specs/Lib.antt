@@ -5,4 +5,5 @@ pub mod BlifAnswers
 pub mod BlifRunners
 pub mod Executing
 pub mod NetRuns
+pub mod Insides
 pub mod Laws

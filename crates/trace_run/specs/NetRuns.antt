@@ -1,11 +1,8 @@
 -- To believe: the text of a run of a net.
-use Rattle.std.specs.Prelude.{◌≡◌, ℕ, List, map, Ok}
+use Rattle.std.specs.Prelude.{◌≡◌, ℕ, List, map}
 use Rattle.est_base.specs.Items.{Item}
 use Rattle.net_ir.specs.Netlists.{Netlist}
 use Rattle.net_ir.specs.Runs.{Shown, net_run}
-use Rattle.blif_text.specs.Circuits.{Circuit, reading}
-use Rattle.blif_text.specs.Written.{Means}
-use Rattle.blif_run.specs.Loops.{HasNoLoop}
 use Rattle.trace_run.specs.Machines.{Answer, answer_lines}
 use Rattle.trace_run.specs.BlifAnswers.{word_of}
 
@@ -16,10 +13,3 @@ shown_answer shown = record { present = shown.outputs; word = word_of shown.paus
 -- the text is the lines of what the net shows over the items
 abbrev pub ShowsNet : List (List ℕ) → Netlist → List Item → List ℕ → Type 0
 ShowsNet names net items text = text ≡ answer_lines names (map shown_answer (net_run net items))
-
--- a text that means the net describes this circuit, which has no combinational cycle
-pub record IsCircuitOf (net : Netlist) (circuit : Circuit) : Type 0 where
-  pub text : List ℕ
-  pub means : Means text net
-  pub reads : reading text ≡ Ok circuit
-  pub acyclic : HasNoLoop circuit

@@ -1,6 +1,6 @@
 // The runner of a BLIF text's circuit, as a machine.
 
-ghost use Rattle.std.specs.Prelude.{◌≡◌, ◌≤◌, ◌^◌, [], length, map, IfOk, IfErr, OnOk};
+ghost use Rattle.std.specs.Prelude.{◌≡◌, ◌≤◌, ◌^◌, [], length, IfOk, IfErr, OnOk};
 ghost use Rattle.blif_text.specs.Plain.{plain_circuit};
 ghost use Rattle.blif_run.specs.Loops.{IsDescribed, LoopFault, HasNoLoop};
 ghost use Rattle.blif_run.specs.Runners.{IsFresh};
@@ -31,7 +31,7 @@ impl<'a> Model for BlifRunner<'a> {
 
     ghost Value = { Runner };
 
-    ghost use Rattle.trace_run.specs.BlifRunners.{KeepsCircuit};
+    ghost use Rattle.trace_run.specs.Insides.{KeepsCircuit};
 
     ghost view = { λ r. r.runner };
 

@@ -9,7 +9,8 @@ ghost use Rattle.blif_run.specs.Loops.{IsDescribed, HasNoLoop};
 ghost use Rattle.blif_run.specs.Runners.{IsFresh};
 ghost use Rattle.trace_io.specs.Answers.{beginning};
 ghost use Rattle.trace_run.specs.Running.{RunsTrace};
-ghost use Rattle.trace_run.specs.NetRuns.{ShowsNet, IsCircuitOf};
+ghost use Rattle.trace_run.specs.Insides.{IsCircuitOf};
+ghost use Rattle.trace_run.specs.NetRuns.{ShowsNet};
 
 use crate::blif_runner::BlifRunner;
 use crate::running::{Interface, RunFault, run_trace};
@@ -19,8 +20,8 @@ use est_base::{Limits, NoMemory, Sink};
 use net_ir::{Gate, Net};
 use std::alloc::Global;
 
-/// Reads the BLIF text that was written of a net, and runs it over a trace, with these names in its lines. What is written
-/// is what the net shows.
+/// Reads the BLIF text that was written of a net, and runs it over a trace, with these names in its lines. What is
+/// written is what the net shows.
 pub fn run_written<O: Sink>(
     alloc: Global,
     net: &Net,

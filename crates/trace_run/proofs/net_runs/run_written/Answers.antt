@@ -1,6 +1,6 @@
 use Rattle.std.proofs.Common.{sym, subst}
 use Rattle.net_ir.specs.Runs.{netlist_of}
-use Rattle.trace_run.specs.NetRuns.{IsCircuitOf}
+use Rattle.trace_run.specs.Insides.{IsCircuitOf}
 use Rattle.trace_run.proofs.Stepping.{runs-so}
 use Rattle.trace_run.proofs.Nets.{shows-net}
 use Rattle.trace_run.proofs.net_runs.run_written.Goals as goal
