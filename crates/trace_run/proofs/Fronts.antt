@@ -99,7 +99,7 @@ front-of r (Event event ∷ front) (Event other ∷ items) end f t =
     let more = front-of (record r { at = f.0; instant = r.instant + 1 }) front items end f.3 rest in
     (more.0, ap (λ e. Event e ∷ items) alike ∙ ap (λ l. Event event ∷ l) more.1)
 
-front-whole : (r : Reading) (items : List Item) (end : Option TraceFault) → IsTrace r items end → IsFront r items
+pub front-whole : (r : Reading) (items : List Item) (end : Option TraceFault) → IsTrace r items end → IsFront r items
 front-whole r [] end t = tt
 front-whole r (Reset ∷ items) end t = (t.0, t.1, front-whole (record r { at = t.0 }) items end t.2)
 front-whole r (Event event ∷ items) end t =

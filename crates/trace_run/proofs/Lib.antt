@@ -1,8 +1,9 @@
-mod Groups
-mod Leading
-mod Stepping
-mod Telling
-mod Nets
-mod NoLoops
-mod NetLoops
-mod Fronts
+pub mod Groups
+pub mod Leading
+pub mod Stepping
+pub mod Telling
+pub mod Nets
+pub mod NoLoops
+pub mod NetLoops
+pub mod Fronts
+pub mod Events

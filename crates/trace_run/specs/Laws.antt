@@ -1,6 +1,7 @@
 -- To believe: what the runner of a net's text answers, and that a run which is cut off leaves a prefix.
 use Rattle.std.specs.Prelude.{◌≡◌, ℕ, Bool, List, length, map, Option, Result, Ok, Err}
-use Rattle.est_base.specs.Items.{Item}
+use Rattle.est_base.specs.Items.{Item, EachEvent}
+use Rattle.est_base.specs.Relations.{Relation, MeetsAll}
 use Rattle.est_base.specs.Writing.{Appends, Stops, GainsFront}
 use Rattle.net_ir.specs.Netlists.{Netlist}
 use Rattle.net_ir.specs.Runs.{net_run}
@@ -10,11 +11,11 @@ use Rattle.blif_text.specs.Written.{Means}
 use Rattle.blif_run.specs.Runners.{Runner, IsFresh, Resets}
 use Rattle.trace_io.specs.declared.faults.TraceFault.{TraceFault}
 use Rattle.trace_io.specs.Traces.{Reading}
-use Rattle.trace_io.specs.Answers.{IsTrace}
+use Rattle.trace_io.specs.Answers.{IsTrace, beginning}
 use Rattle.trace_run.specs.declared.running.RunFault.{RunFault}
 use Rattle.trace_run.specs.declared.running.RunFault.TheVariants.{Trace, Write, NoMemory}
 use Rattle.trace_run.specs.Machines.{Answer, Drives, answer_lines}
-use Rattle.trace_run.specs.Running.{Sinks, RunsTrace}
+use Rattle.trace_run.specs.Running.{Sinks, IsFront, RunsTrace}
 use Rattle.trace_run.specs.BlifAnswers.{listed_count, run_lines, ShowsText}
 use Rattle.trace_run.specs.NetRuns.{shown_answer, ShowsNet}
 use Rattle.trace_run.specs.BlifRunners.{Answers}
@@ -49,3 +50,14 @@ TextsAreWritten =
     (circuit : Circuit) (trace : Reading) (s : Sinks) (result : Result (Unit {0}) RunFault) (items : List Item)
     → (end : Option TraceFault) (valuations : List (List ℕ → Bool)) → RunsTrace (ShowsText circuit) trace s result
     → IsTrace trace items end → IsRun circuit items valuations → Leaves s (run_lines circuit valuations) result
+
+-- the items of a whole trace are its first items
+abbrev pub TracesBegin : Type 0
+TracesBegin = (trace : Reading) (items : List Item) (end : Option TraceFault) → IsTrace trace items end → IsFront trace items
+
+-- each event among the first items of a trace has a value for each input, and meets every relation
+abbrev pub EventsFit : Type 0
+EventsFit =
+    (text : List ℕ) (inputs : List (List ℕ)) (relations : List Relation) (items : List Item)
+    → IsFront (beginning text inputs relations) items
+    → EachEvent (λ event. (length event ≡ length inputs) × MeetsAll relations event) items

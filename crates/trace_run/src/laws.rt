@@ -1,6 +1,6 @@
 // Laws for callers. The calls do nothing: their contracts are the laws.
 
-ghost use Rattle.trace_run.specs.Laws.{NetsAreRun, NetsAreWritten, TextsAreWritten};
+ghost use Rattle.trace_run.specs.Laws.{NetsAreRun, NetsAreWritten, TextsAreWritten, TracesBegin, EventsFit};
 
 /// A fresh runner of a text that means a net answers to items what the net shows.
 pub fn nets_are_run()
@@ -11,4 +11,10 @@ pub fn nets_are_run()
 pub fn runs_are_written()
     ensures nets { NetsAreWritten }
     ensures texts { TextsAreWritten }
+{}
+
+/// The items of a trace, all or the first ones: each event has a value for each input and meets every relation.
+pub fn events_fit()
+    ensures whole { TracesBegin }
+    ensures each { EventsFit }
 {}
