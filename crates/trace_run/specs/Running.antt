@@ -1,0 +1,44 @@
+-- To believe: what a run over a trace writes, and how it ends.
+use Rattle.std.specs.Prelude.{◌≡◌, ℕ, ◌+◌, ⊤, List, [], ◌∷◌, Option, Some, None, Result, Ok, Err}
+use Rattle.est_base.specs.Items.{Item, Event, Reset}
+use Rattle.est_base.specs.Relations.{MeetsAll}
+use Rattle.est_base.specs.Writing.{Appends, Stops, GainsFront}
+use Rattle.trace_io.specs.Traces.{Reading, next_group}
+use Rattle.trace_io.specs.Traces as groups
+use Rattle.trace_io.specs.Answers.{IsTrace}
+use Rattle.trace_run.specs.declared.running.RunFault.{RunFault}
+use Rattle.trace_run.specs.declared.running.RunFault.TheVariants.{Trace, Write, NoMemory}
+
+-- the first items of a trace from a reading on
+abbrev pub IsFront : Reading → List Item → Type 0
+IsFront r [] = ⊤
+IsFront r (Reset ∷ more) =
+    (behind : ℕ) × (next_group r ≡ groups.Reset behind) × IsFront (record r { at = behind }) more
+IsFront r (Event event ∷ more) =
+    (behind : ℕ) × (next_group r ≡ groups.Instant event behind) × MeetsAll r.relations event
+    × IsFront (record r { at = behind; instant = r.instant + 1 }) more
+
+-- what a sink tells before and after a call, and its count of faults
+pub record Sinks : Type 0 where
+  pub before : Option (List ℕ)
+  pub after : Option (List ℕ)
+  pub faults_before : ℕ
+  pub faults_now : ℕ
+
+-- How a run over a trace ends, where `Writes` says which text some items bring about. Done: the sink gained the text of
+-- all items of the trace. A fault of the trace: it gained the text of the items before the first fault. A failed write:
+-- the count of faults rose, and the sink gained a prefix of the text of the first items. Want of memory may come at any
+-- moment, and then too the sink gained such a prefix.
+abbrev pub RunsTrace : (List Item → List ℕ → Type 0) → Reading → Sinks → Result (Unit {0}) RunFault → Type 0
+RunsTrace Writes trace s (Ok done) =
+    (items : List Item) × (text : List ℕ) × IsTrace trace items None × Writes items text
+    × Appends s.before s.after s.faults_before s.faults_now text
+RunsTrace Writes trace s (Err (Trace fault)) =
+    (items : List Item) × (text : List ℕ) × IsTrace trace items (Some fault) × Writes items text
+    × Appends s.before s.after s.faults_before s.faults_now text
+RunsTrace Writes trace s (Err Write) =
+    (items : List Item) × (text : List ℕ) × IsFront trace items × Writes items text
+    × Stops s.before s.after s.faults_before s.faults_now text
+RunsTrace Writes trace s (Err NoMemory) =
+    (items : List Item) × (text : List ℕ) × IsFront trace items × Writes items text
+    × (s.faults_now ≡ s.faults_before) × GainsFront s.before s.after text
