@@ -2,3 +2,4 @@ pub mod GraphFacts
 pub mod Keeping
 pub mod Commands
 pub mod Joined
+pub mod Unrefused
