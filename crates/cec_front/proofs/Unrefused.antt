@@ -37,7 +37,8 @@ use Rattle.cec_front.proofs.OneProgram.{one_tree, one_flat}
 -- ---- tokens and trees
 
 -- tokens that spell a program have no place that no program passes
-no_place : (tokens : List Token) (tree : source.Program) (fault : reading.Fault) → IsProgram NESTING tree tokens → IsLeastPlace IsProgram NESTING tokens fault → ⊥
+no_place : (tokens : List Token) (tree : source.Program) (fault : reading.Fault) → IsProgram NESTING tree tokens
+    → IsLeastPlace IsProgram NESTING tokens fault → ⊥
 no_place tokens tree fault spells least = least.stuck tree least.rest refl (subst (λ ts. IsProgram NESTING tree ts) least.cut spells)
 
 -- a text that is read has tokens, and these alone
@@ -86,7 +87,8 @@ all_named : (text : List ℕ) (main : Option (List ℕ)) (tree other : source.Pr
 all_named text main tree other fault d r is =
     none_first (name_faults main other) fault (subst (λ t. name_faults main t ≡ []) (one_tree text tree other d.reads r) d.names) is
 
-no_name_fault : (text : List ℕ) (main : Option (List ℕ)) (tree : source.Program) (fault : NameFault) → Declares text main tree → HasNameFault text main fault → ⊥
+no_name_fault : (text : List ℕ) (main : Option (List ℕ)) (tree : source.Program) (fault : NameFault) → Declares text main tree
+    → HasNameFault text main fault → ⊥
 no_name_fault text main tree (naming.DuplicateModule at) d m = all_named text main tree m.tree (naming.DuplicateModule at) d m.reads m.first
 no_name_fault text main tree naming.NoMain d m = all_named text main tree m.tree naming.NoMain d m.reads m.first
 no_name_fault text main tree (naming.DuplicateSignal at) d m = all_named text main tree m.tree (naming.DuplicateSignal at) d m.reads m.first
@@ -125,7 +127,8 @@ one_expansion : (text : List ℕ) (main : Option (List ℕ)) (p : Program) (answ
     → expansions.Expanded p ≡ answer
 one_expansion text main p answer e u = sym e.expands ∙ (ap expansion (one_flat text main e.flat u.flat e.flattens u.flattens) ∙ u.ends)
 
-no_bad_count : (text : List ℕ) (main : Option (List ℕ)) (p : Program) (place : Span) → Expands text main p → Unexpanded text main (expansions.BadCount place) → ⊥
+no_bad_count : (text : List ℕ) (main : Option (List ℕ)) (p : Program) (place : Span) → Expands text main p
+    → Unexpanded text main (expansions.BadCount place) → ⊥
 no_bad_count text main p place e u =
     let same = one_expansion text main p (expansions.BadCount place) e u in
     cc
@@ -173,7 +176,8 @@ no_fault text main p (faults.BadCount place) s h = no_bad_count text main p plac
 no_fault text main p (faults.InstantLoop place) s h = no_loop text main p place s h
 
 -- a text that stands for a program is refused for want of memory alone
-pub unrefused : (text : List ℕ) (main : Option (List ℕ)) (p : Program) (refusal : Refusal) → StandsFor text main p → IsRefused text main refusal → refusal ≡ NoMemory
+pub unrefused : (text : List ℕ) (main : Option (List ℕ)) (p : Program) (refusal : Refusal) → StandsFor text main p → IsRefused text main refusal
+    → refusal ≡ NoMemory
 unrefused text main p (Static fault) s r = absurd (no_fault text main p fault s r)
 unrefused text main p (Limit quantities.Nesting) s r = absurd (no_nesting text s.expands.flattens.tree r.0 s.expands.flattens.declares.reads r.1)
 unrefused text main p (Limit quantities.Statements) s r =
