@@ -3,3 +3,4 @@ pub mod Keeping
 pub mod Commands
 pub mod WireWords
 pub mod Joined
+pub mod Unrefused

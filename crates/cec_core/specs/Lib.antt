@@ -9,3 +9,4 @@ pub mod JobViews
 pub mod Answers
 pub mod Outcomes
 pub mod Subjects
+pub mod Laws

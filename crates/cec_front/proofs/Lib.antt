@@ -5,3 +5,4 @@ pub mod MainModules
 pub mod Named
 pub mod FormedPrograms
 pub mod OneProgram
+pub mod Unrefused

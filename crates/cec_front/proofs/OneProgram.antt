@@ -37,12 +37,12 @@ one_spelled tokens one other first second = go (whole (program NESTING) tokens) 
     go (Err fault) exact = absurd (exact.stuck one exact.rest refl (subst (λ ts. IsProgram NESTING one ts) exact.cut first))
 
 -- a text has one tree
-one_tree : (text : List ℕ) (one other : source.Program) → ReadsAs text one → ReadsAs text other → one ≡ other
+pub one_tree : (text : List ℕ) (one other : source.Program) → ReadsAs text one → ReadsAs text other → one ≡ other
 one_tree text one other first second =
     let same = ap tokens_of (at_most_one text (Tokens first.tokens) (Tokens second.tokens) first.lexes second.lexes) in
     one_spelled second.tokens one other (subst (λ ts. IsProgram NESTING one ts) same first.spells) second.spells
 
-one_flat : (text : List ℕ) (main : Option (List ℕ)) (one other : Flat) → Flattens text main one → Flattens text main other → one ≡ other
+pub one_flat : (text : List ℕ) (main : Option (List ℕ)) (one other : Flat) → Flattens text main one → Flattens text main other → one ≡ other
 one_flat text main one other first second =
     let tree = one_tree text first.tree second.tree first.declares.reads second.declares.reads in
     let module_is = some_same (sym first.is_main ∙ (ap (main_module main) tree ∙ second.is_main)) in

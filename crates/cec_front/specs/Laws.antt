@@ -2,6 +2,9 @@
 use Rattle.std.specs.Prelude.{◌≡◌, ℕ, List, Option}
 use Rattle.est_kernel.specs.Plain.{Program}
 use Rattle.est_kernel.specs.WellFormed.{IsWellFormed, HasNames}
+use Rattle.cec_front.specs.declared.refusal.Refusal.{Refusal}
+use Rattle.cec_front.specs.declared.refusal.Refusal.TheVariants.{NoMemory}
+use Rattle.cec_front.specs.Refusals.{IsRefused}
 use Rattle.cec_front.specs.Sources.{Expands, StandsFor}
 
 -- A text stands for at most one kernel program, for each main module.
@@ -20,3 +23,9 @@ ExpandedTextsAreWellFormed =
 abbrev pub ExpandedTextsHaveNames : Type 0
 ExpandedTextsHaveNames =
     (text : List ℕ) (main : Option (List ℕ)) (p : Program) → Expands text main p → HasNames p
+
+-- A text that stands for a program has no cause of a refusal; want of memory needs none.
+abbrev pub StandingTextsAreNotRefused : Type 0
+StandingTextsAreNotRefused =
+    (text : List ℕ) (main : Option (List ℕ)) (p : Program) (refusal : Refusal) →
+    StandsFor text main p → IsRefused text main refusal → refusal ≡ NoMemory

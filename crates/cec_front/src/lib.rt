@@ -17,7 +17,9 @@ mod refusal;
 mod sources;
 
 pub use analysis::{Analysed, analyse, front};
-pub use laws::{expanded_texts_are_well_formed, texts_stand_for_one_program};
+pub use laws::{
+    expanded_texts_are_well_formed, standing_texts_are_not_refused, texts_stand_for_one_program,
+};
 pub use lines::{Subject, put_fault, put_refusal};
 pub use position::{Position, position_of};
 pub use programs::{flat_program, kernel_program};

@@ -1,0 +1,34 @@
+// The top call where nothing outside can fail.
+
+ghost use Rattle.std.specs.Prelude.{◌≡◌, ◌⊎◌, Some, map};
+ghost use Rattle.std.specs.String.{string_bytes};
+ghost use Rattle.est_base.specs.FileEntry.{held};
+ghost use Rattle.est_base.specs.SinkState.{told_of};
+ghost use Rattle.cec_core.specs.Jobs.{Job, job_by};
+ghost use Rattle.cec_core.specs.Outcomes.{IsSource, Agrees, GainsOut, GainsErr};
+
+use crate::command::cec;
+use crate::outcome::Outcome;
+use est_base::{Sink, SteadyFiles, SteadySink};
+use std::alloc::Global;
+
+/// `cec` over files and a sink in memory that never fail. Where the words ask for a job on a file that holds a source
+/// that compiles, it is done, and `out` gains the text of which the theorem speaks, unless memory runs out.
+pub fn cec_steadily<E: Sink>(
+    alloc: Global,
+    words: &[String],
+    files: &mut SteadyFiles,
+    out: &mut SteadySink,
+    err: &mut E,
+) -> Outcome
+    ensures ends { (job : Job) → job_by (map string_bytes words.now) ≡ Some job →
+        IsSource job.main (held files.old job.name) → (result ≡ Outcome.Done) ⊎ (result ≡ Outcome.NoMemory) }
+    ensures agrees { Agrees (job_by (map string_bytes words.now)) (Some (held files.old)) result }
+    ensures files_stay { held files.new ≡ held files.old }
+    ensures out { GainsOut (job_by (map string_bytes words.now)) (Some (held files.old)) result
+        (told_of out.old) (told_of out.new) 0 0 }
+    ensures err { GainsErr (job_by (map string_bytes words.now)) (Some (held files.old)) result
+        (E.told err.old) (E.told err.new) (E.faults err.old) (E.faults err.new) }
+{
+    cec(alloc, words, files, out, err)
+}
