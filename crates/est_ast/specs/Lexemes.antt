@@ -1,4 +1,4 @@
--- The parts that a program text is made of: spaces, comments, words, numerals and marks.
+-- To believe: the parts that a program text is made of: spaces, comments, words, numerals and marks.
 -- A part is told by the text from its first byte on and by its length, since what a comment is
 -- depends on the bytes behind it.
 use Rattle.std.specs.Prelude.{◌≡◌, ℕ, ◌+◌, ◌<◌, ◌≤◌, ◌≢◌, ◌⊎◌, List, length, take, slice_index}

@@ -1,4 +1,4 @@
--- Which tokens a program text has, or which fault comes first in it.
+-- To believe: which tokens a program text has, or which fault comes first in it.
 use Rattle.std.specs.Prelude.{◌≡◌, ℕ, ◌+◌, ◌-◌, ◌*◌, ◌^◌, ◌<◌, ◌≤◌, ◌≢◌, ⊤, List, [], ◌∷◌, ◌++◌, length, take, drop, Option, Some, None}
 use Rattle.std.specs.List.{fold}
 use Rattle.est_ast.specs.declared.tokens.Kind.{Kind}

@@ -1,4 +1,4 @@
--- How the reserved words and the marks are written.
+-- To believe: how the reserved words and the marks are written.
 use Rattle.std.specs.Prelude.{ℕ, List, codes}
 use Rattle.est_ast.specs.declared.tokens.Reserved.{Reserved}
 use Rattle.est_ast.specs.declared.tokens.Reserved.TheVariants.{Abort, And, Await, Case, Do, Each, Else, Emit, End, Every, Exit, Halt, Handle, Immediate, In, Input, InputOutput, Loop, Module, Not, Nothing, Or, Output, Pause, Positive, Present, Relation, Repeat, Run, Signal, Suspend, Sustain, Then, Tick, Times, Trap, Weak, When}

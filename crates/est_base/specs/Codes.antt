@@ -1,4 +1,4 @@
--- Sets of completion codes, as tests: what the set has, the test answers with true.
+-- To believe: sets of completion codes, as tests: what the set has, the test answers with true.
 -- 0 is termination, 1 a pause, and k of at least 2 leaves the trap that is k - 2 traps further out
 -- (Berry, "The Constructive Semantics of Pure Esterel").
 use Rattle.std.specs.Prelude.{ℕ, zero, suc, Bool, false, not, ◌==◌, ◌&&◌, ◌||◌}

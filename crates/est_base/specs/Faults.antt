@@ -1,4 +1,4 @@
--- Counts of faults, as the outside keeps them.
+-- To believe: counts of faults, as the outside keeps them.
 use Rattle.std.specs.Prelude.{ℕ, ◌+◌, ◌-◌, ◌^◌, ◌≤◌, min}
 
 -- one more, but for a count that stands at the greatest u64, which stays there

@@ -1,4 +1,4 @@
--- Files in memory: a list of entries, where of two entries of one name the first counts.
+-- Inner: files in memory: a list of entries, where of two entries of one name the first counts.
 use Rattle.std.specs.Prelude.{◌≡◌, ℕ, ◌<◌, ◌≤◌, ◌⊎◌, if◌then◌else◌, List, [], ◌∷◌, length, Option, None, Some, IsNone, unwrap_or, Contains, Result, Ok, Err, Vec, nat_eq}
 use Rattle.std.specs.Cmp.Lexicographic.{pointwise}
 use Rattle.std.specs.declared.alloc.Global.{Global}

@@ -1,4 +1,4 @@
--- What a read of a file answers, against the content that the files tell.
+-- To believe: what a read of a file answers, against the content that the files tell.
 use Rattle.std.specs.Prelude.{◌≡◌, ℕ, ◌<◌, ◌≤◌, List, length, Option, None, Some, Result, Ok, Err, Vec}
 use Rattle.std.specs.declared.alloc.Global.{Global}
 use Rattle.est_base.specs.Faults.{Rose}

@@ -1,4 +1,4 @@
--- Sinks in memory: what such a sink keeps, and what it tells.
+-- Inner: sinks in memory: what such a sink keeps, and what it tells.
 use Rattle.std.specs.Prelude.{◌≡◌, ℕ, ◌+◌, ◌-◌, ◌^◌, ◌<◌, ◌≤◌, min, if◌then◌else◌, ◌==◌, List, ◌++◌, length, take, Option, None, Some, Contains, Result, Ok, Err}
 use Rattle.est_base.specs.Faults.{one_more}
 use Rattle.est_base.specs.declared.writing.SinkFault.{SinkFault}

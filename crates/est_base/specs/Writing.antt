@@ -1,4 +1,4 @@
--- What a write to a sink appends, against the bytes that the sink tells.
+-- To believe: what a write to a sink appends, against the bytes that the sink tells.
 use Rattle.std.specs.Prelude.{◌≡◌, ℕ, List, [], ◌++◌, take, Option, None, Some, Result, Ok, Err}
 use Rattle.std.specs.Io.KnownBytes as known
 use Rattle.est_base.specs.Faults.{Rose}

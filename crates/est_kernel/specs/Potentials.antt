@@ -1,4 +1,4 @@
--- What a term must do and what it can do in an environment, after Berry, "The Constructive Semantics
+-- To believe: what a term must do and what it can do in an environment, after Berry, "The Constructive Semantics
 -- of Pure Esterel". The tables of this file are the project's own text: one row per form, for three
 -- kinds of potential at once.
 use Rattle.std.specs.Prelude.{ℕ, Bool, false, not, ◌==◌, ◌&&◌, ◌||◌, if◌then◌else◌}

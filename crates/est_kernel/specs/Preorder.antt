@@ -1,4 +1,4 @@
--- Statements by their numbers in preorder: a statement comes before its parts, and a part before the
+-- To believe: statements by their numbers in preorder: a statement comes before its parts, and a part before the
 -- part after it. The body has number 0; under a statement with number n the first part has n + 1, and
 -- the second n + 1 plus the number of statements in the first.
 use Rattle.std.specs.Prelude.{ℕ, ◌+◌, List, [], ◌∷◌, ◌++◌}

@@ -1,4 +1,4 @@
--- The size and the height of a statement.
+-- To believe: the size and the height of a statement.
 use Rattle.std.specs.Prelude.{ℕ, ◌+◌, max}
 use Rattle.est_kernel.specs.Terms.{Expression, Tick, Sig, Not, And, Or, Term, Nothing, Pause, Emit, Exit, Present, Suspend, Seq, Loop, Par, Trap, Local, Awake}
 

@@ -1,4 +1,4 @@
--- The constructive step: what a term does in one instant, and what is left of it, after Berry, "The
+-- To believe: the constructive step: what a term does in one instant, and what is left of it, after Berry, "The
 -- Constructive Semantics of Pure Esterel". It rewrites terms: it has no state bits, copies, wires or
 -- order. The environment knows every free signal of the term.
 use Rattle.std.specs.Prelude.{ℕ, zero, suc, Bool, false, not, ◌==◌, ◌&&◌, ◌||◌, if◌then◌else◌, max, Option, Some, None}

@@ -1,4 +1,4 @@
--- Kernel terms as plain trees.
+-- To believe: kernel terms as plain trees.
 use Rattle.std.specs.Prelude.{ℕ}
 use Rattle.est_base.specs.declared.place.Span.{Span}
 

@@ -1,5 +1,5 @@
--- Inner: the statements of a body by number, each with what a graph says of it: in which layers it is live, the scope,
--- and what lets it run. So the live instances, their wires and their equations are read from one flat list.
+-- To believe: the statements of a body by number, each with what a graph says of it: in which layers it is live, the
+-- scope, and what lets it run. So the live instances, their wires and their equations are read from one flat list.
 use Rattle.std.specs.Prelude.{ℕ, ◌+◌, Bool, false, ◌==◌, List, [], ◌∷◌, ◌++◌, map, slice_index_or}
 use Rattle.std.specs.List.{list_any}
 use Rattle.est_kernel.specs.Terms.{Term, Nothing, Pause, Emit, Exit, Present, Suspend, Seq, Loop, Par, Trap, Local, Awake}
