@@ -18,6 +18,8 @@ use Rattle.grc_words.specs.Sizes.{rows_at_most}
 use Rattle.net_gen.specs.Generated.{HasInterfaceOf, FollowsInstants, FollowsRuns}
 use Rattle.net_ir.specs.Gates.{carried}
 use Rattle.net_ir.specs.Runs.{netlist_of}
+use Rattle.blif_text.specs.Written as blif_texts
+use Rattle.csub_text.specs.Written as c_texts
 use Rattle.cec_front.specs.Sources.{StandsFor}
 use Rattle.cec_core.specs.Meaning.{NetKeeps, TextKeeps, CTextKeeps}
 use Rattle.cec_core.specs.Refusals.{Compiles}
@@ -83,3 +85,15 @@ pub record StandsForC (text : List ℕ) (main : Option (List ℕ)) (written : Li
   pub source : StandsFor text main program
   pub compiles : Compiles program
   pub keeps : CTextKeeps written program
+
+-- The text is that of a compiled program's netlist, from the same bytes: it has a table for each gate, in the order of the
+-- gates, and a gate that carries a wire is named by it.
+pub record IsBlifOf (bytes : List ℕ) (main : Option (List ℕ)) (written : List ℕ) : Type 0 where
+  pub made : Compiled
+  pub compiled : StandsForNet bytes main made
+  pub text : written ≡ blif_texts.written (netlist_of made.net)
+
+pub record IsCOf (bytes : List ℕ) (main : Option (List ℕ)) (written : List ℕ) : Type 0 where
+  pub made : Compiled
+  pub compiled : StandsForNet bytes main made
+  pub text : written ≡ c_texts.written (netlist_of made.net)

@@ -5,7 +5,7 @@ ghost use Rattle.est_kernel.specs.CodeLists.{AreCodesOf};
 ghost use Rattle.est_kernel.specs.Plain.{program_of, term_of};
 ghost use Rattle.est_kernel.specs.StaticCodes.{NoInstantLoop};
 ghost use Rattle.est_kernel.specs.WellFormed.{IsWellFormed, HasNames};
-ghost use Rattle.cec_core.specs.Compiling.{IsGraphed, IsCompiled, StandsForGraph, StandsForNet, StandsForText, StandsForC};
+ghost use Rattle.cec_core.specs.Compiling.{IsGraphed, IsCompiled, StandsForGraph, StandsForNet, StandsForText, StandsForC, IsBlifOf, IsCOf};
 ghost use Rattle.cec_core.specs.Refusals.{HasNoText, IsRefused};
 
 use crate::cycles::cycle_of;
@@ -58,6 +58,7 @@ pub fn blif_of<P: Picker>(
 ) -> Result<Vec<u8>, Refusal>
     requires { length text.now ≤ Limits.SOURCE_BYTES }
     ensures compiles { IfOk result (λ written. StandsForText text.now (option_map (λ m. m.now) main.entry) written.items) }
+    ensures made { IfOk result (λ written. IsBlifOf text.now (option_map (λ m. m.now) main.entry) written.items) }
     ensures refuses { IfErr result (IsRefused text.now (option_map (λ m. m.now) main.entry)) }
 {
     let compiled = compile(alloc, text, main, picker)?;
@@ -76,6 +77,7 @@ pub fn c_of<P: Picker>(
 ) -> Result<Vec<u8>, Refusal>
     requires { length text.now ≤ Limits.SOURCE_BYTES }
     ensures compiles { IfOk result (λ written. StandsForC text.now (option_map (λ m. m.now) main.entry) written.items) }
+    ensures made { IfOk result (λ written. IsCOf text.now (option_map (λ m. m.now) main.entry) written.items) }
     ensures refuses { IfErr result (IsRefused text.now (option_map (λ m. m.now) main.entry)) }
 {
     let compiled = compile(alloc, text, main, picker)?;
