@@ -1,4 +1,4 @@
--- The written text of a direct program's net keeps what the program means.
+-- The netlist of a program's graph keeps what the program means, and so do the texts that are written of it.
 use Rattle.std.proofs.Common.{◌≡◌, ℕ, ◌+◌, ◌≤◌, Bool, List, [], ◌∷◌, ◌++◌, map, length, take, drop, refl, sym, ap, ap₂, ◌∙◌, subst, arith}
 use Rattle.std.proofs.lemmas.List.{length-take, length-drop, length-replicate}
 use Rattle.est_base.specs.Items.{Item, Event, Reset, EachEvent}
