@@ -52,8 +52,8 @@ pub record IsCompiled (c : Compiled) (p : Program) : Type 0 where
   pub compiles : Compiles p
   pub graph : IsGraphOf c.graph p
   pub tree : map node_of c.tree.nodes.items ≡ body_tree p.body
-  pub order : IsReadingOrder (names_of c.graph) (map (formula_of (instances_of c.graph) (names_of c.graph)) c.graph.equations.items)
-      c.order.list.items
+  pub order : IsReadingOrder (names_of c.graph)
+      (map (formula_of (instances_of c.graph) (names_of c.graph)) c.graph.equations.items) c.order.list.items
   pub along : FollowsEdges c p
   pub carried : carried c.net.gates.items ≡ map (λ v. v.0) c.order.list.items
   pub size : length c.net.gates.items ≤ gates_at_most c.graph (rows_at_most c.graph) c.order.list.items
@@ -86,8 +86,8 @@ pub record StandsForC (text : List ℕ) (main : Option (List ℕ)) (written : Li
   pub compiles : Compiles program
   pub keeps : CTextKeeps written program
 
--- The text is that of a compiled program's netlist, from the same bytes: it has a table for each gate, in the order of the
--- gates, and a gate that carries a wire is named by it.
+-- The text is that of a compiled program's netlist, from the same bytes: it has a table for each gate, in the order of
+-- the gates, and a gate that carries a wire is named by it.
 pub record IsBlifOf (bytes : List ℕ) (main : Option (List ℕ)) (written : List ℕ) : Type 0 where
   pub made : Compiled
   pub compiled : StandsForNet bytes main made

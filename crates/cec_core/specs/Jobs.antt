@@ -22,7 +22,12 @@ value_in words v = drop v.start (slice_index_or words v.word [])
 
 abbrev pub source_job : List (List ℕ) → Task → Source → Job
 source_job words task s =
-    record { task = task; name = slice_index_or words s.file []; main = option_map (value_in words) s.main; pick = s.pick }
+    record {
+      task = task;
+      name = slice_index_or words s.file [];
+      main = option_map (value_in words) s.main;
+      pick = s.pick;
+    }
 
 -- The commands on a source that are built; the words of all others have no meaning.
 abbrev pub job_asked : List (List ℕ) → Asked → Option Job

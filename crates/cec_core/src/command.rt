@@ -20,8 +20,8 @@ use std::alloc::Global;
 /// Does what the words after the program's name ask for, and says how it ended.
 ///
 /// `blif FILE` reads the source under that name and writes its BLIF text to `out`, `c FILE` its C text, `grc FILE` the
-/// listing of its graph, and `check FILE` a line of counts. `--main M` names the main module, `--pick first`, `--pick last` or `--pick N` says
-/// how the evaluation order of a text is chosen. Every other list of words is `Usage`. For every outcome but `Done` one
+/// listing of its graph, and `check FILE` a line of counts. `--main M` names the main module, `--pick first`,
+/// `--pick last` or `--pick N` says how the evaluation order of a text is chosen. Every other list of words is `Usage`. For every outcome but `Done` one
 /// line goes to `err`; a write to `err` that fails changes no outcome.
 ///
 /// For `Done` of `blif` the compiler-correctness theorem holds of the text that `out` gained (`TextKeeps`): it has a

@@ -1,9 +1,9 @@
 //! The passes joined: the compiler from bytes to bytes, and the top call that the program makes.
 //!
 //! `blif_of` takes the bytes of a Pure Esterel source to a BLIF text (Berkeley), and `c_of` to a text in a subset of C.
-//! Their contracts say that the text, by the meaning of BLIF or by the machine of the subset, does in every run what the
-//! constructive semantics (Berry, "The Constructive Semantics of Pure Esterel") says of the source. `cec` reads the words of
-//! a command line, reads the source, compiles it and writes the text.
+//! Their contracts say that the text, by the meaning of BLIF or by the machine of the subset, does in every run what
+//! the constructive semantics (Berry, "The Constructive Semantics of Pure Esterel") says of the source. `cec` reads the
+//! words of a command line, reads the source, compiles it and writes the text.
 #![tactic(auto)]
 
 mod answers;
