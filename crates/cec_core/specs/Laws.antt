@@ -2,8 +2,8 @@
 use Rattle.std.specs.Prelude.{◌≡◌, ℕ, List, Option}
 use Rattle.cec_core.specs.declared.refusal.Refusal.{Refusal}
 use Rattle.cec_core.specs.declared.refusal.Refusal.TheVariants.{NoMemory}
-use Rattle.cec_core.specs.Outcomes.{IsSource}
 use Rattle.cec_core.specs.Refusals.{IsRefused}
+use Rattle.cec_core.specs.Sources.{IsSource}
 
 -- A source that compiles has no cause of a refusal; want of memory needs none.
 abbrev pub CompilingSourcesAreNotRefused : Type 0

@@ -7,6 +7,11 @@ pub mod Statuses
 pub mod Jobs
 pub mod JobViews
 pub mod Answers
+pub mod Contents
+pub mod Sources
+pub mod Runs
+pub mod HelpTexts
 pub mod Outcomes
+pub mod Lines
 pub mod Subjects
 pub mod Laws

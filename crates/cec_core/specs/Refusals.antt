@@ -50,4 +50,6 @@ IsRefused text main (Limit limits.Height) = front.IsRefused text main (fronts.Li
 IsRefused text main (Limit limits.Traps) = front.IsRefused text main (fronts.Limit quantities.Traps)
 IsRefused text main (Limit limits.Instances) = StandsForNone text main (Limit limits.Instances)
 IsRefused text main (Limit limits.Wires) = StandsForNone text main (Limit limits.Wires)
+IsRefused text main (Limit limits.Trace) = ⊥
+IsRefused text main (Limit limits.Text) = ⊥
 IsRefused text main NoMemory = ⊤

@@ -1,7 +1,7 @@
 -- To believe: the status that the program ends with, and the outcome that a refusal is.
 use Rattle.std.specs.Prelude.{ℕ}
 use Rattle.cec_core.specs.declared.outcome.Outcome.{Outcome}
-use Rattle.cec_core.specs.declared.outcome.Outcome.TheVariants.{Done, Usage, FileFault, Static, Cyclic, Limit, WriteFault, NoMemory}
+use Rattle.cec_core.specs.declared.outcome.Outcome.TheVariants.{Done, Usage, FileFault, Static, Cyclic, Trace, BadText, Limit, WriteFault, NoMemory}
 use Rattle.cec_core.specs.declared.refusal.Refusal.{Refusal}
 use Rattle.cec_core.specs.declared.refusal.Refusal.TheVariants as refusals
 
@@ -11,6 +11,8 @@ status_of Usage = 2
 status_of (FileFault file) = 3
 status_of (Static fault) = 4
 status_of (Cyclic cycle) = 5
+status_of (Trace fault) = 6
+status_of (BadText fault) = 7
 status_of (Limit quantity) = 8
 status_of WriteFault = 9
 status_of NoMemory = 10

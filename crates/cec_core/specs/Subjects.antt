@@ -1,28 +1,56 @@
--- Inner: the plain form of what a line may speak of, and what a job does with a source that was read.
-use Rattle.std.specs.Prelude.{◌≡◌, ℕ, List, [], Option}
-use Rattle.est_base.specs.Writing.{Appends, Stops}
+-- Inner: the plain form of what a line may speak of, the outcome where a file is not read, and what a trace's file tells.
+use Rattle.std.specs.Prelude.{◌≡◌, ℕ, ⊤, List}
+use Rattle.est_base.specs.Faults.{Rose}
 use Rattle.est_base.specs.declared.reading.FileFault.{FileFault}
 use Rattle.est_base.specs.declared.reading.FileFault.TheVariants as reading
+use Rattle.trace_run.specs.declared.running.RunFault.{RunFault}
+use Rattle.trace_run.specs.declared.running.RunFault.TheVariants as runs
+use Rattle.blif_text.specs.declared.refusal.BlifError.{BlifError}
+use Rattle.blif_text.specs.declared.refusal.BlifError.TheVariants as blifs
+use Rattle.trace_run.specs.declared.executing.TextFault.TheVariants as texts
 use Rattle.cec_core.specs.declared.lines.Subject as lines
 use Rattle.cec_core.specs.declared.outcome.Outcome.{Outcome}
-use Rattle.cec_core.specs.declared.outcome.Outcome.TheVariants.{Done, FileFault as Unread, Limit, WriteFault, NoMemory}
-use Rattle.cec_core.specs.declared.outcome.Which.TheVariants.{First}
+use Rattle.cec_core.specs.declared.outcome.Outcome.TheVariants.{Done, FileFault as Unread, Trace, BadText, Limit, WriteFault, NoMemory}
+use Rattle.cec_core.specs.declared.outcome.Which.{Which}
+use Rattle.cec_core.specs.declared.outcome.Which.TheVariants.{First, Second}
+use Rattle.cec_core.specs.declared.refusal.Limit as bounds
 use Rattle.cec_core.specs.declared.refusal.Limit.TheVariants as limits
-use Rattle.cec_core.specs.Answers.{IsAnswer}
-use Rattle.cec_core.specs.Jobs.{Job}
-use Rattle.cec_core.specs.Outcomes.{Subject}
+use Rattle.cec_core.specs.Contents.{Content, Holds}
+use Rattle.cec_core.specs.Lines.{Subject}
+use Rattle.cec_core.specs.Outcomes.{IsLongTrace}
+use Rattle.std.specs.Prelude.{Result, Ok, Err}
 
 abbrev pub plain_subject : lines.Subject → Subject
-plain_subject x = record { name = x.name.now; main = x.main.now; source = x.source.now }
-
--- what `out` gained over these bytes
-abbrev pub Writes : Job → List ℕ → Outcome → Option (List ℕ) → Option (List ℕ) → ℕ → ℕ → Type 0
-Writes job source Done old new before now = (text : List ℕ) × IsAnswer job source text × Appends old new before now text
-Writes job source WriteFault old new before now = (text : List ℕ) × IsAnswer job source text × Stops old new before now text
-Writes job source others old new before now = Appends old new before now []
+plain_subject x = record { name = x.name.now; trace = x.trace.now; main = x.main.now; source = x.source.now }
 
 -- the outcome where a file was not read
-abbrev pub unread_outcome : FileFault → Outcome
-unread_outcome reading.Failed = Unread First
-unread_outcome reading.TooLong = Limit limits.Source
-unread_outcome reading.NoMemory = NoMemory
+abbrev pub unread_outcome : Which → bounds.Limit → FileFault → Outcome
+unread_outcome file limit reading.Failed = Unread file
+unread_outcome file limit reading.TooLong = Limit limit
+unread_outcome file limit reading.NoMemory = NoMemory
+
+-- the outcome of a run over a trace
+abbrev pub run_outcome : Result (Unit {0}) RunFault → Outcome
+run_outcome (Ok done) = Done
+run_outcome (Err (runs.Trace fault)) = Trace fault
+run_outcome (Err runs.Write) = WriteFault
+run_outcome (Err runs.NoMemory) = NoMemory
+
+-- the outcome where a text is not read
+abbrev pub text_outcome : BlifError → Outcome
+text_outcome blifs.TooLong = Limit limits.Text
+text_outcome (blifs.Line number) = BadText (texts.Line number)
+text_outcome (blifs.TwoDrivers name) = BadText (texts.TwoDrivers name)
+text_outcome (blifs.NoDriver name) = BadText (texts.NoDriver name)
+text_outcome blifs.NoMemory = NoMemory
+
+-- a read of the trace is the only one that may have failed
+abbrev pub CountsTrace : List ℕ → Outcome → ℕ → ℕ → List ℕ → List ℕ → Type 0
+CountsTrace trace (Unread First) before now failed_before failed_now = ⊥
+CountsTrace trace (Unread Second) before now failed_before failed_now = Rose before now × (failed_now ≡ trace)
+CountsTrace trace others before now failed_before failed_now = (now ≡ before) × (failed_now ≡ failed_before)
+
+-- a trace that is said to be too long is
+abbrev pub LongTrace : Content → List ℕ → Outcome → Type 0
+LongTrace content trace (Limit limits.Trace) = Holds content trace IsLongTrace
+LongTrace content trace others = ⊤

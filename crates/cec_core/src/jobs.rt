@@ -1,11 +1,11 @@
-// What the words of a command line ask to be done with a source.
+// What the words of a command line ask for.
 
-ghost use Rattle.std.specs.Prelude.{◌≡◌, drop, map, slice_index_or, option_map, []};
+ghost use Rattle.std.specs.Prelude.{◌≡◌, drop, map, option_map, []};
 ghost use Rattle.std.specs.String.{string_bytes};
-ghost use Rattle.cec_core.specs.Jobs.{source_job, job_by, value_in};
-ghost use Rattle.cec_core.specs.JobViews.{plain_job};
+ghost use Rattle.cec_core.specs.Jobs.{source_job, request_by, value_in, word_at};
+ghost use Rattle.cec_core.specs.JobViews.{plain_job, plain_request};
 
-use cec_words::{Asked, Pick, Source, Value, read_words};
+use cec_words::{Asked, Pick, Source, Value, Via, read_words};
 
 /// What is made of a source.
 #[derive(Clone, Copy, Debug, PartialEq, Eq)]
@@ -29,16 +29,41 @@ pub(crate) struct Job<'a> {
     pub pick: Pick,
 }
 
+/// What is asked for.
+#[derive(Clone, Copy)]
+pub(crate) enum Request<'a> {
+    /// The list of the commands.
+    Help,
+    /// What a task makes of a source.
+    Make(Job<'a>),
+    /// The text that a task makes of a source, run over the trace in this file.
+    Run(Job<'a>, &'a str),
+    /// The BLIF text in the one file, run over the trace in the other.
+    Exec(&'a str, &'a str),
+    /// A generated source, by its start number and its number of branches.
+    Generate(u64, u32),
+}
+
 /// What the words ask for; `None` where they have no meaning.
-pub(crate) fn job_by(words: &[String]) -> Option<Job<'_>>
-    ensures { option_map plain_job result ≡ job_by (map string_bytes words.now) }
+pub(crate) fn request_by(words: &[String]) -> Option<Request<'_>>
+    ensures { option_map plain_request result ≡ request_by (map string_bytes words.now) }
 {
     match read_words(words)? {
-        Asked::Blif(source) => Some(source_job(words, Task::Blif, source)),
-        Asked::C(source) => Some(source_job(words, Task::C, source)),
-        Asked::Grc(source) => Some(source_job(words, Task::Grc, source)),
-        Asked::Check(source) => Some(source_job(words, Task::Check, source)),
-        Asked::Help | Asked::Run(_, _, _) | Asked::Exec(_, _, _) | Asked::Gen(_, _, _) => None,
+        Asked::Help => Some(Request::Help),
+        Asked::Blif(source) => Some(Request::Make(source_job(words, Task::Blif, source))),
+        Asked::C(source) => Some(Request::Make(source_job(words, Task::C, source))),
+        Asked::Grc(source) => Some(Request::Make(source_job(words, Task::Grc, source))),
+        Asked::Check(source) => Some(Request::Make(source_job(words, Task::Check, source))),
+        Asked::Run(Via::Blif, source, trace) => Some(Request::Run(
+            source_job(words, Task::Blif, source),
+            word_at(words, trace),
+        )),
+        Asked::Exec(Via::Blif, text, trace) => Some(Request::Exec(
+            word_at(words, text),
+            word_at(words, trace),
+        )),
+        Asked::Gen(start, branches, None) => Some(Request::Generate(start, branches)),
+        Asked::Run(Via::C, _, _) | Asked::Exec(Via::C, _, _) | Asked::Gen(_, _, Some(_)) => None,
     }
 }
 
@@ -78,7 +103,7 @@ fn value_in(words: &[String], value: Value) -> &[u8]
 
 // The word at a place.
 fn word_at(words: &[String], at: usize) -> &str
-    ensures { result.now ≡ slice_index_or (map string_bytes words.now) at [] }
+    ensures { result.now ≡ word_at (map string_bytes words.now) at }
 {
     match words.get(at) {
         Some(word) => word.as_str(),

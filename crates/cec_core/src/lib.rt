@@ -3,13 +3,15 @@
 //! `blif_of` takes the bytes of a Pure Esterel source to a BLIF text (Berkeley), and `c_of` to a text in a subset of C.
 //! Their contracts say that the text, by the meaning of BLIF or by the machine of the subset, does in every run what
 //! the constructive semantics (Berry, "The Constructive Semantics of Pure Esterel") says of the source. `cec` reads the
-//! words of a command line, reads the source, compiles it and writes the text.
+//! words of a command line, reads the source, compiles it, and writes the text or runs it over a trace.
 #![tactic(auto)]
 
 mod answers;
 mod command;
+mod commands;
 mod compiler;
 mod cycles;
+mod fault_lines;
 mod jobs;
 mod laws;
 mod lines;

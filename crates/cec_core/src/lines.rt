@@ -1,26 +1,49 @@
 // The line about an outcome.
 
-ghost use Rattle.std.specs.Prelude.{◌≡◌, ◌≤◌, length};
-ghost use Rattle.est_base.specs.Writing.{Wrote};
-ghost use Rattle.cec_core.specs.Outcomes.{limit_word, line_of};
+ghost use Rattle.std.specs.Prelude.{◌≡◌, ◌≤◌, ◌⊎◌, length};
+ghost use Rattle.est_base.specs.Writing.{Appends, Stops, Wrote};
+ghost use Rattle.cec_core.specs.Lines.{limit_word, line_of};
 ghost use Rattle.cec_core.specs.Subjects.{plain_subject};
 
-use crate::outcome::Outcome;
+use crate::fault_lines::{put_text_fault, put_trace_fault};
+use crate::outcome::{Outcome, Which};
 use crate::refusal::Limit;
 use cec_front::put_fault;
 use est_base::{Limits, Sink, SinkFault, write_pieces};
 
-/// What a line may speak of: the file's name, the name that was asked for the main module, and the source.
+/// What a line may speak of: the names of the two files, the name that was asked for the main module, and the source.
 #[derive(Clone, Copy)]
 pub(crate) struct Subject<'a> {
     pub name: &'a str,
+    pub trace: &'a str,
     pub main: &'a [u8],
     pub source: &'a [u8],
 }
 
-/// The line of an outcome, none for `Done`. Writing it takes no memory; a prefix of the line was appended where the
-/// sink failed.
-pub(crate) fn put_line<E: Sink>(
+/// The subject of a line that speaks of no file.
+pub(crate) fn subject_of_none() -> Subject<'static>
+    ensures { length result.source.now ≡ 0 }
+{
+    Subject {
+        name: "",
+        trace: "",
+        main: b"",
+        source: b"",
+    }
+}
+
+/// Writes the line of an outcome; a sink that fails changes nothing.
+pub(crate) fn report<E: Sink>(err: &mut E, subject: Subject<'_>, outcome: &Outcome)
+    requires { length subject.source.now ≤ Limits.SOURCE_BYTES }
+    ensures { Appends (E.told err.old) (E.told err.new) (E.faults err.old) (E.faults err.new) (line_of (plain_subject subject.entry) outcome.now)
+        ⊎ Stops (E.told err.old) (E.told err.new) (E.faults err.old) (E.faults err.new) (line_of (plain_subject subject.entry) outcome.now) }
+{
+    let _ = put_line(err, subject, outcome);
+}
+
+// The line of an outcome, none for `Done`. Writing it takes no memory; a prefix of the line was appended where the
+// sink failed.
+fn put_line<E: Sink>(
     err: &mut E,
     subject: Subject<'_>,
     outcome: &Outcome,
@@ -32,9 +55,13 @@ pub(crate) fn put_line<E: Sink>(
     match outcome {
         Outcome::Done => Ok(()),
         Outcome::Usage => write_pieces(err, &[b"cec: ", b"usage, see cec --help", b"\n"]),
-        Outcome::FileFault(_) => write_pieces(
+        Outcome::FileFault(Which::First) => write_pieces(
             err,
             &[b"cec: ", b"cannot read ", subject.name.as_bytes(), b"\n"],
+        ),
+        Outcome::FileFault(Which::Second) => write_pieces(
+            err,
+            &[b"cec: ", b"cannot read ", subject.trace.as_bytes(), b"\n"],
         ),
         Outcome::Static(fault) => {
             let subject = cec_front::Subject {
@@ -46,6 +73,8 @@ pub(crate) fn put_line<E: Sink>(
         Outcome::Cyclic(cycle) => {
             write_pieces(err, &[b"cec: ", b"cyclic: ", cycle.text.as_slice(), b"\n"])
         }
+        Outcome::Trace(fault) => put_trace_fault(err, fault),
+        Outcome::BadText(fault) => put_text_fault(err, fault),
         Outcome::Limit(limit) => {
             write_pieces(err, &[b"cec: ", b"limit: ", limit_word(*limit), b"\n"])
         }
@@ -60,6 +89,8 @@ fn limit_word(limit: Limit) -> &'static [u8]
 {
     match limit {
         Limit::Source => b"source",
+        Limit::Trace => b"trace",
+        Limit::Text => b"text",
         Limit::Nesting => b"nesting",
         Limit::Statements => b"statements",
         Limit::Signals => b"signals",

@@ -6,6 +6,8 @@ ghost use Rattle.cec_core.specs.Statuses.{outcome_of, status_of};
 use crate::cycles::Cycle;
 use crate::refusal::{Limit, Refusal};
 use cec_front::Fault;
+use trace_io::TraceFault;
+use trace_run::TextFault;
 
 /// How a command ended, with the cause of each refusal.
 #[derive(Debug, Drop)]
@@ -20,6 +22,10 @@ pub enum Outcome {
     Static(Fault),
     /// The dependency relation of the source's program has this cycle.
     Cyclic(Cycle),
+    /// The trace's first fault. The lines of the instants before it were written.
+    Trace(TraceFault),
+    /// The first fault of the text that is to be run.
+    BadText(TextFault),
     /// The quantity passes its limit.
     Limit(Limit),
     /// The output was not taken: its count of faults rose.
@@ -33,6 +39,8 @@ pub enum Outcome {
 pub enum Which {
     /// The first file of the command.
     First,
+    /// The second file of the command, a trace.
+    Second,
 }
 
 impl From<Refusal> for Outcome {
@@ -59,6 +67,8 @@ impl Outcome {
             Outcome::FileFault(_) => 3,
             Outcome::Static(_) => 4,
             Outcome::Cyclic(_) => 5,
+            Outcome::Trace(_) => 6,
+            Outcome::BadText(_) => 7,
             Outcome::Limit(_) => 8,
             Outcome::WriteFault => 9,
             Outcome::NoMemory => 10,

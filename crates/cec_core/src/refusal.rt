@@ -16,6 +16,10 @@ use std::alloc::AllocError;
 pub enum Limit {
     /// The bytes of the source.
     Source,
+    /// The bytes of the trace.
+    Trace,
+    /// The bytes of a text that is read.
+    Text,
     /// The nesting of the source.
     Nesting,
     /// The statements that the expansion of `run` meets.

@@ -4,8 +4,10 @@ ghost use Rattle.std.specs.Prelude.{◌≡◌, ◌⊎◌, Some, map};
 ghost use Rattle.std.specs.String.{string_bytes};
 ghost use Rattle.est_base.specs.FileEntry.{held};
 ghost use Rattle.est_base.specs.SinkState.{told_of};
-ghost use Rattle.cec_core.specs.Jobs.{Job, job_by};
-ghost use Rattle.cec_core.specs.Outcomes.{IsSource, Agrees, GainsOut, GainsErr};
+ghost use Rattle.cec_core.specs.Jobs.{Job, Make, request_by};
+ghost use Rattle.cec_core.specs.Lines.{GainsErr};
+ghost use Rattle.cec_core.specs.Outcomes.{Agrees, GainsOut};
+ghost use Rattle.cec_core.specs.Sources.{IsSource};
 
 use crate::command::cec;
 use crate::outcome::Outcome;
@@ -21,13 +23,13 @@ pub fn cec_steadily<E: Sink>(
     out: &mut SteadySink,
     err: &mut E,
 ) -> Outcome
-    ensures ends { (job : Job) → job_by (map string_bytes words.now) ≡ Some job →
+    ensures ends { (job : Job) → request_by (map string_bytes words.now) ≡ Some (Make job) →
         IsSource job.main (held files.old job.name) → (result ≡ Outcome.Done) ⊎ (result ≡ Outcome.NoMemory) }
-    ensures agrees { Agrees (job_by (map string_bytes words.now)) (Some (held files.old)) result }
+    ensures agrees { Agrees (request_by (map string_bytes words.now)) (Some (held files.old)) result }
     ensures files_stay { held files.new ≡ held files.old }
-    ensures out { GainsOut (job_by (map string_bytes words.now)) (Some (held files.old)) result
-        (told_of out.old) (told_of out.new) 0 0 }
-    ensures err { GainsErr (job_by (map string_bytes words.now)) (Some (held files.old)) result
+    ensures out { GainsOut (request_by (map string_bytes words.now)) (Some (held files.old)) result
+        (record { before = told_of out.old; after = told_of out.new; faults_before = 0; faults_now = 0 }) }
+    ensures err { GainsErr (request_by (map string_bytes words.now)) (Some (held files.old)) result
         (E.told err.old) (E.told err.new) (E.faults err.old) (E.faults err.new) }
 {
     cec(alloc, words, files, out, err)

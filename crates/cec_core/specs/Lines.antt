@@ -1,0 +1,100 @@
+-- To believe: the line that is written about an outcome.
+use Rattle.std.specs.Prelude.{◌≡◌, ℕ, ◌⊎◌, ⊤, List, [], ◌∷◌, ◌++◌, flat_map, Option, Some, None, codes, decimal, map, unwrap_or}
+use Rattle.est_base.specs.Writing.{Appends, Stops}
+use Rattle.grc_graph.specs.PlainWireNames.{wire_name_of}
+use Rattle.trace_io.specs.declared.faults.TraceFault.{TraceFault}
+use Rattle.trace_io.specs.declared.faults.TraceFault.TheVariants as traces
+use Rattle.trace_run.specs.declared.executing.TextFault.{TextFault}
+use Rattle.trace_run.specs.declared.executing.TextFault.TheVariants as texts
+use Rattle.cec_front.specs.Lines.{fault_text}
+use Rattle.cec_core.specs.declared.outcome.Outcome.{Outcome}
+use Rattle.cec_core.specs.declared.outcome.Outcome.TheVariants.{Done, Usage, FileFault, Static, Cyclic, Trace, BadText, Limit, WriteFault, NoMemory}
+use Rattle.cec_core.specs.declared.outcome.Which.{Which}
+use Rattle.cec_core.specs.declared.outcome.Which.TheVariants.{First, Second}
+use Rattle.cec_core.specs.declared.refusal.Limit as bounds
+use Rattle.cec_core.specs.declared.refusal.Limit.TheVariants as limits
+use Rattle.cec_core.specs.Contents.{Content, IsHeld}
+use Rattle.cec_core.specs.Cycles.{cycle_text}
+use Rattle.cec_core.specs.Jobs.{Job, Request, Help, Make, Run, Exec, Generate}
+
+-- what a line may speak of: the names of the two files, the main module's name, and the source
+pub record Subject : Type 0 where
+  pub name : List ℕ
+  pub trace : List ℕ
+  pub main : List ℕ
+  pub source : List ℕ
+
+abbrev pub file_name : Subject → Which → List ℕ
+file_name x First = x.name
+file_name x Second = x.trace
+
+abbrev pub limit_word : bounds.Limit → List ℕ
+limit_word limits.Source = codes "source"
+limit_word limits.Trace = codes "trace"
+limit_word limits.Text = codes "text"
+limit_word limits.Nesting = codes "nesting"
+limit_word limits.Statements = codes "statements"
+limit_word limits.Signals = codes "signals"
+limit_word limits.Kernel = codes "kernel"
+limit_word limits.Height = codes "height"
+limit_word limits.Traps = codes "traps"
+limit_word limits.Instances = codes "instances"
+limit_word limits.Wires = codes "wires"
+
+-- a text about an instant of a trace
+abbrev pub in_instant : ℕ → List ℕ → List ℕ
+in_instant instant text = codes "instant " ++ (decimal instant ++ text)
+
+abbrev pub trace_text : TraceFault → List ℕ
+trace_text (traces.BadByte place) = codes "byte " ++ (decimal place ++ codes ": bad byte")
+trace_text (traces.UnknownInput instant name) = in_instant instant (codes ": unknown input " ++ name)
+trace_text (traces.Repeated instant name) = in_instant instant (codes ": repeated " ++ name)
+trace_text (traces.BadReset instant) = in_instant instant (codes ": bad reset")
+trace_text (traces.OpenInstant instant) = in_instant instant (codes ": open")
+trace_text (traces.Breaks instant relation) = in_instant instant (codes ": breaks relation " ++ decimal relation)
+
+-- names, joined by ` -> `
+abbrev pub joined_names : List (List ℕ) → List ℕ
+joined_names [] = []
+joined_names (name ∷ names) = name ++ flat_map (λ n. codes " -> " ++ n) names
+
+abbrev pub text_fault_text : TextFault → List ℕ
+text_fault_text (texts.Line number) = codes "line " ++ (decimal number ++ codes ": not in the profile")
+text_fault_text (texts.TwoDrivers name) = codes "two drivers: " ++ name
+text_fault_text (texts.NoDriver name) = codes "no driver: " ++ name
+text_fault_text (texts.Loop names) = codes "loop: " ++ joined_names names.items
+
+-- what is said of an outcome
+abbrev pub said_of : Subject → Outcome → List ℕ
+said_of x Done = []
+said_of x Usage = codes "usage, see cec --help"
+said_of x (FileFault file) = codes "cannot read " ++ file_name x file
+said_of x (Static fault) = fault_text x.source x.main fault
+said_of x (Cyclic cycle) = codes "cyclic: " ++ cycle_text (map wire_name_of cycle.wires.items)
+said_of x (Trace fault) = trace_text fault
+said_of x (BadText fault) = text_fault_text fault
+said_of x (Limit quantity) = codes "limit: " ++ limit_word quantity
+said_of x WriteFault = codes "cannot write"
+said_of x NoMemory = codes "out of memory"
+
+-- the line of an outcome; none for Done
+abbrev pub line_of : Subject → Outcome → List ℕ
+line_of x Done = []
+line_of x others = codes "cec: " ++ (said_of x others ++ codes "\n")
+
+-- the subject of a command on a source: where no main module is named, no line names one; the source is the one that the
+-- file holds
+abbrev pub IsSourceSubject : Job → Content → Subject → Type 0
+IsSourceSubject job content x = (x.name ≡ job.name) × (x.main ≡ unwrap_or job.main []) × IsHeld content job.name x.source
+
+abbrev pub IsSubjectOf : Option Request → Content → Subject → Type 0
+IsSubjectOf (Some (Make job)) content x = IsSourceSubject job content x
+IsSubjectOf (Some (Run job trace)) content x = IsSourceSubject job content x × (x.trace ≡ trace)
+IsSubjectOf (Some (Exec text trace)) content x = (x.name ≡ text) × (x.trace ≡ trace)
+IsSubjectOf others content x = ⊤
+
+-- What `err` gained: the whole line, or a prefix of it where its count of faults rose.
+pub record GainsErr (asked : Option Request) (content : Content) (outcome : Outcome) (old new : Option (List ℕ)) (before now : ℕ) : Type 0 where
+  pub subject : Subject
+  pub is_subject : IsSubjectOf asked content subject
+  pub gains : Appends old new before now (line_of subject outcome) ⊎ Stops old new before now (line_of subject outcome)

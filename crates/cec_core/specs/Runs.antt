@@ -1,0 +1,46 @@
+-- To believe: what `run` and `exec` leave in `out`.
+use Rattle.std.specs.Prelude.{◌≡◌, ℕ, ◌≤◌, ◌==◌, ◌⊎◌, List, map, length, Option, Some, Result, Ok, Err}
+use Rattle.est_base.specs.declared.bounds.TheConstants.Limits.{SOURCE_BYTES}
+use Rattle.est_base.specs.Items.{Item}
+use Rattle.est_kernel.specs.Plain.{Program, given_names, outgoing_names}
+use Rattle.est_kernel.specs.Reactions.{Answer, run_of}
+use Rattle.trace_io.specs.Answers.{beginning}
+use Rattle.trace_run.specs.declared.running.RunFault.{RunFault}
+use Rattle.trace_run.specs.declared.running.RunFault.TheVariants as runs
+use Rattle.trace_run.specs.BlifAnswers.{word_of}
+use Rattle.trace_run.specs.Executing.{IsUntouched}
+use Rattle.trace_run.specs.Machines as machines
+use Rattle.trace_run.specs.Running.{Sinks, RunsTrace}
+use Rattle.cec_front.specs.Sources.{StandsFor}
+use Rattle.cec_core.specs.declared.outcome.Outcome.{Outcome}
+use Rattle.cec_core.specs.declared.outcome.Outcome.TheVariants.{Done, Trace, WriteFault, NoMemory}
+use Rattle.cec_core.specs.Refusals.{Compiles}
+
+-- what a line shows of an answer of the semantics: code 1 is a pause
+abbrev pub line_answer : Answer → machines.Answer
+line_answer a = record { present = a.outputs; word = word_of (a.code == 1) }
+
+-- The run of the program over the items is constructive in each instant, and the text is the lines of its answers.
+pub record ShowsRun (p : Program) (items : List Item) (text : List ℕ) : Type 0 where
+  pub answers : List Answer
+  pub constructive : run_of p items ≡ Some answers
+  pub lines : text ≡ machines.answer_lines (outgoing_names p) (map line_answer answers)
+
+-- The compiler-correctness theorem for `run`: the bytes stand for a program that compiles, and what the trace brings about
+-- is the lines of the program's run over its items.
+pub record RunsSource (main : Option (List ℕ)) (bytes trace : List ℕ) (s : Sinks) (result : Result (Unit {0}) RunFault) : Type 0 where
+  pub program : Program
+  pub short : length bytes ≤ SOURCE_BYTES
+  pub source : StandsFor bytes main program
+  pub compiles : Compiles program
+  pub ran : RunsTrace (ShowsRun program) (beginning trace (given_names program) program.relations) s result
+
+-- What a run over a trace leaves in `out`, by how it ended, where `Ran` says what is left by each end: the text of all items
+-- of the trace; after its first fault, that of the items before; after a failed write or for want of memory a prefix.
+-- Where nothing was run, `out` is as it was.
+abbrev pub LeavesRun : (Result (Unit {0}) RunFault → Type 0) → Sinks → Outcome → Type 0
+LeavesRun Ran s Done = Ran (Ok tt)
+LeavesRun Ran s (Trace fault) = Ran (Err (runs.Trace fault))
+LeavesRun Ran s WriteFault = Ran (Err runs.Write)
+LeavesRun Ran s NoMemory = IsUntouched s ⊎ Ran (Err runs.NoMemory)
+LeavesRun Ran s others = IsUntouched s

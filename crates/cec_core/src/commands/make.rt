@@ -1,0 +1,101 @@
+// The commands that make a text of a source.
+
+ghost use Rattle.std.specs.Prelude.{◌≡◌, ◌≤◌, length, Some, unwrap_or, []};
+ghost use Rattle.cec_core.specs.Answers.{IsAnswer};
+ghost use Rattle.cec_core.specs.Jobs.{Make};
+ghost use Rattle.cec_core.specs.JobViews.{plain_job};
+ghost use Rattle.cec_core.specs.Lines.{GainsErr};
+ghost use Rattle.cec_core.specs.Outcomes.{Agrees, CountsFiles, GainsOut, LeavesText, MakesOn};
+ghost use Rattle.cec_core.specs.Subjects.{plain_subject, unread_outcome};
+
+use crate::answers::answer;
+use crate::jobs::Job;
+use crate::lines::{Subject, report};
+use crate::outcome::{Outcome, Which};
+use crate::refusal::Limit;
+use est_base::{FileFault, Files, Limits, Sink, write_text};
+use std::alloc::Global;
+
+/// Does a task on the source in a file, and says how it ended.
+pub(crate) fn make_text<F: Files, O: Sink, E: Sink>(
+    alloc: Global,
+    job: Job<'_>,
+    files: &mut F,
+    out: &mut O,
+    err: &mut E,
+) -> Outcome
+    ensures agrees { Agrees (Some (Make (plain_job job.entry))) (F.content files.old) result }
+    ensures files_counted { CountsFiles (Some (Make (plain_job job.entry))) result
+        (F.faults files.old) (F.faults files.new) (F.last_failed files.old) (F.last_failed files.new) }
+    ensures files_stay { F.content files.new ≡ F.content files.old }
+    ensures out { GainsOut (Some (Make (plain_job job.entry))) (F.content files.old) result
+        (record {
+          before = O.told out.old;
+          after = O.told out.new;
+          faults_before = O.faults out.old;
+          faults_now = O.faults out.new;
+        }) }
+    ensures err { GainsErr (Some (Make (plain_job job.entry))) (F.content files.old) result
+        (E.told err.old) (E.told err.new) (E.faults err.old) (E.faults err.new) }
+{
+    match files.read(alloc, job.name, Limits::SOURCE_BYTES) {
+        Ok(source) => {
+            let outcome = written(alloc, job, &source, out);
+            report(err, subject_of(job, "", &source), &outcome);
+            outcome
+        }
+        Err(fault) => {
+            let outcome = unread(Which::First, Limit::Source, fault);
+            report(err, subject_of(job, "", b""), &outcome);
+            outcome
+        }
+    }
+}
+
+/// What a line about a command on a source, and maybe a trace, may speak of.
+pub(crate) fn subject_of<'a>(job: Job<'a>, trace: &'a str, source: &'a [u8]) -> Subject<'a>
+    ensures name { (plain_subject result).name ≡ (plain_job job.entry).name }
+    ensures trace { (plain_subject result).trace ≡ trace.now }
+    ensures main { (plain_subject result).main ≡ unwrap_or (plain_job job.entry).main [] }
+    ensures source { (plain_subject result).source ≡ source.now }
+{
+    Subject {
+        name: job.name,
+        trace,
+        main: job.main.unwrap_or(b""),
+        source,
+    }
+}
+
+/// The outcome where a file was not read.
+pub(crate) fn unread(file: Which, limit: Limit, fault: FileFault) -> Outcome
+    ensures { result ≡ unread_outcome file limit fault }
+{
+    match fault {
+        FileFault::Failed => Outcome::FileFault(file),
+        FileFault::TooLong => Outcome::Limit(limit),
+        FileFault::NoMemory => Outcome::NoMemory,
+    }
+}
+
+// The text that a job asks for, made of a source and written to `out`.
+fn written<O: Sink>(alloc: Global, job: Job<'_>, source: &[u8], out: &mut O) -> Outcome
+    requires { length source.now ≤ Limits.SOURCE_BYTES }
+    ensures agrees { MakesOn (plain_job job.entry) result source.now }
+    ensures out { LeavesText (IsAnswer (plain_job job.entry) source.now)
+        (record {
+          before = O.told out.old;
+          after = O.told out.new;
+          faults_before = O.faults out.old;
+          faults_now = O.faults out.new;
+        })
+        result }
+{
+    match answer(alloc, job, source) {
+        Ok(text) => match write_text(out, &text) {
+            Ok(()) => Outcome::Done,
+            Err(_) => Outcome::WriteFault,
+        },
+        Err(refusal) => Outcome::from(refusal),
+    }
+}

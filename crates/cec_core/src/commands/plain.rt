@@ -1,0 +1,65 @@
+// The commands that read no file.
+
+ghost use Rattle.std.specs.Prelude.{◌≡◌, ◌≤◌};
+ghost use Rattle.est_gen.specs.Sources.{source_text};
+ghost use Rattle.cec_core.specs.HelpTexts.{help_text};
+ghost use Rattle.cec_core.specs.Outcomes.{IsWriting, LeavesText};
+
+use crate::outcome::Outcome;
+use est_base::{Sink, write_text};
+use est_gen::generate_source;
+use std::alloc::Global;
+
+const HELP: &[u8] = b"cec blif [--main M] [--pick P] FILE
+cec c [--main M] [--pick P] FILE
+cec grc [--main M] FILE
+cec check [--main M] FILE
+cec run --via blif|c [--main M] [--pick P] FILE TRACE
+cec exec --via blif|c TEXT TRACE
+cec gen --start N --branches N [--run N]
+";
+
+/// Writes the list of the commands.
+pub(crate) fn write_help<O: Sink>(out: &mut O) -> Outcome
+    ensures agrees { IsWriting result }
+    ensures out { LeavesText (λ text. text ≡ help_text)
+        (record {
+          before = O.told out.old;
+          after = O.told out.new;
+          faults_before = O.faults out.old;
+          faults_now = O.faults out.new;
+        })
+        result }
+{
+    match write_text(out, HELP) {
+        Ok(()) => Outcome::Done,
+        Err(_) => Outcome::WriteFault,
+    }
+}
+
+/// Writes a generated source.
+pub(crate) fn write_generated<O: Sink>(
+    alloc: Global,
+    start: u64,
+    branches: u32,
+    out: &mut O,
+) -> Outcome
+    ensures agrees { IsWriting result }
+    ensures out { LeavesText (λ text. text ≡ source_text start branches)
+        (record {
+          before = O.told out.old;
+          after = O.told out.new;
+          faults_before = O.faults out.old;
+          faults_now = O.faults out.new;
+        })
+        result }
+{
+    // The words give a number of branches for which there is a source.
+    let Ok(generated) = generate_source(alloc, start, branches) else {
+        return Outcome::NoMemory;
+    };
+    match write_text(out, &generated.source) {
+        Ok(()) => Outcome::Done,
+        Err(_) => Outcome::WriteFault,
+    }
+}

@@ -1,0 +1,123 @@
+// The lines about faults of traces and texts.
+
+ghost use Rattle.std.specs.Prelude.{◌++◌, codes, decimal, flat_map};
+ghost use Rattle.est_base.specs.Writing.{Wrote};
+ghost use Rattle.cec_core.specs.Lines.{joined_names, text_fault_text, trace_text};
+
+use est_base::{Sink, SinkFault, Text, write_pieces};
+use itoa::Buffer;
+use trace_io::TraceFault;
+use trace_run::TextFault;
+
+/// The line of a fault of a trace.
+pub(crate) fn put_trace_fault<E: Sink>(err: &mut E, fault: &TraceFault) -> Result<(), SinkFault>
+    ensures { Wrote (E.told err.old) (E.told err.new) (E.faults err.old) (E.faults err.new)
+        (codes "cec: " ++ (trace_text fault.now ++ codes "\n")) result }
+{
+    match fault {
+        TraceFault::BadByte(place) => put_numbered(err, b"byte ", *place, b": bad byte", b""),
+        TraceFault::UnknownInput(instant, name) => put_numbered(
+            err,
+            b"instant ",
+            *instant,
+            b": unknown input ",
+            name.bytes(),
+        ),
+        TraceFault::Repeated(instant, name) => put_numbered(
+            err,
+            b"instant ",
+            *instant,
+            b": repeated ",
+            name.bytes(),
+        ),
+        TraceFault::BadReset(instant) => put_numbered(err, b"instant ", *instant, b": bad reset", b""),
+        TraceFault::OpenInstant(instant) => put_numbered(err, b"instant ", *instant, b": open", b""),
+        TraceFault::Breaks(instant, relation) => {
+            let mut number = Buffer::new();
+            let number = number.format(*relation).as_bytes();
+            put_numbered(err, b"instant ", *instant, b": breaks relation ", number)
+        }
+    }
+}
+
+// A line with a number behind its first word.
+fn put_numbered<E: Sink>(
+    err: &mut E,
+    word: &[u8],
+    number: u32,
+    text: &[u8],
+    rest: &[u8],
+) -> Result<(), SinkFault>
+    ensures { Wrote (E.told err.old) (E.told err.new) (E.faults err.old) (E.faults err.new)
+        (codes "cec: " ++ ((word.now ++ (decimal number ++ (text.now ++ rest.now))) ++ codes "\n")) result }
+{
+    let mut shown = Buffer::new();
+    let shown = shown.format(number).as_bytes();
+    write_pieces(err, &[b"cec: ", word, shown, text, rest, b"\n"])
+}
+
+/// The line of a fault of a text.
+pub(crate) fn put_text_fault<E: Sink>(err: &mut E, fault: &TextFault) -> Result<(), SinkFault>
+    ensures { Wrote (E.told err.old) (E.told err.new) (E.faults err.old) (E.faults err.new)
+        (codes "cec: " ++ (text_fault_text fault.now ++ codes "\n")) result }
+{
+    match fault {
+        TextFault::Line(number) => {
+            put_numbered(err, b"line ", *number, b": not in the profile", b"")
+        }
+        TextFault::TwoDrivers(name) => {
+            write_pieces(err, &[b"cec: ", b"two drivers: ", name.bytes(), b"\n"])
+        }
+        TextFault::NoDriver(name) => {
+            write_pieces(err, &[b"cec: ", b"no driver: ", name.bytes(), b"\n"])
+        }
+        TextFault::Loop(names) => put_loop(err, names),
+    }
+}
+
+// The line of a combinational cycle.
+fn put_loop<E: Sink>(err: &mut E, names: &[Text]) -> Result<(), SinkFault>
+    ensures { Wrote (E.told err.old) (E.told err.new) (E.faults err.old) (E.faults err.new)
+        (codes "cec: " ++ ((codes "loop: " ++ joined_names names.now) ++ codes "\n")) result }
+{
+    if let Err(fault) = write_pieces(err, &[b"cec: ", b"loop: "]) {
+        return Err(fault);
+    }
+    if let Err(fault) = put_joined(err, names) {
+        return Err(fault);
+    }
+    write_pieces(err, &[b"\n"])
+}
+
+// Names, joined by ` -> `.
+fn put_joined<E: Sink>(err: &mut E, names: &[Text]) -> Result<(), SinkFault>
+    ensures { Wrote (E.told err.old) (E.told err.new) (E.faults err.old) (E.faults err.new) (joined_names names.now) result }
+{
+    let Some((first, others)) = names.split_first() else {
+        return Ok(());
+    };
+    if let Err(fault) = write_pieces(err, &[first.bytes()]) {
+        return Err(fault);
+    }
+    put_others(err, others)
+}
+
+// More names, each behind ` -> `.
+fn put_others<E: Sink>(err: &mut E, names: &[Text]) -> Result<(), SinkFault>
+    ensures { Wrote (E.told err.old) (E.told err.new) (E.faults err.old) (E.faults err.new)
+        (flat_map (λ name. codes " -> " ++ name) names.now) result }
+{
+    for name in names {
+        if let Err(fault) = put_other(err, name) {
+            return Err(fault);
+        }
+    }
+    Ok(())
+}
+
+// A name behind ` -> `.
+fn put_other<E: Sink>(err: &mut E, name: &Text) -> Result<(), SinkFault>
+    ensures { Wrote (E.told err.old) (E.told err.new) (E.faults err.old) (E.faults err.new) (codes " -> " ++ name.now) result }
+{
+    write_pieces(err, &[b" -> ", name.bytes()])
+}
