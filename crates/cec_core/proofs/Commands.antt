@@ -3,9 +3,9 @@ use Rattle.std.proofs.Common.{◌≡◌, ℕ, ◌<◌, ◌≤◌, ◌⊎◌, Lis
 use Rattle.std.specs.Prelude.{codes, unwrap_or}
 use Rattle.std.specs.declared.alloc.Global.{Global}
 use Rattle.est_base.specs.declared.bounds.TheConstants.Limits.{SOURCE_BYTES}
-use Rattle.est_base.specs.declared.reading.FileFault.{FileFault}
-use Rattle.est_base.specs.declared.reading.FileFault.TheVariants as reading
-use Rattle.est_base.specs.declared.writing.SinkFault.{SinkFault}
+use Rattle.est_base.specs.declared.files.reading.FileFault.{FileFault}
+use Rattle.est_base.specs.declared.files.reading.FileFault.TheVariants as reading
+use Rattle.est_base.specs.declared.sinks.writing.SinkFault.{SinkFault}
 use Rattle.est_base.specs.Reading.{Reads, Counts, Keeps}
 use Rattle.est_base.specs.Writing.{Appends, Stops, Wrote}
 use Rattle.cec_core.specs.declared.outcome.Outcome.{Outcome}

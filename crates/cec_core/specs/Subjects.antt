@@ -1,8 +1,8 @@
 -- Inner: the plain form of what a line may speak of, and what a job does with a source that was read.
 use Rattle.std.specs.Prelude.{◌≡◌, ℕ, List, [], Option}
 use Rattle.est_base.specs.Writing.{Appends, Stops}
-use Rattle.est_base.specs.declared.reading.FileFault.{FileFault}
-use Rattle.est_base.specs.declared.reading.FileFault.TheVariants as reading
+use Rattle.est_base.specs.declared.files.reading.FileFault.{FileFault}
+use Rattle.est_base.specs.declared.files.reading.FileFault.TheVariants as reading
 use Rattle.cec_core.specs.declared.lines.Subject as lines
 use Rattle.cec_core.specs.declared.outcome.Outcome.{Outcome}
 use Rattle.cec_core.specs.declared.outcome.Outcome.TheVariants.{Done, FileFault as Unread, Limit, WriteFault, NoMemory}

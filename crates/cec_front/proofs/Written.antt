@@ -1,7 +1,7 @@
 -- What several writes of a line appended, together.
 use Rattle.std.proofs.Common.{◌≡◌, ℕ, List, ◌++◌, Option, Result, Ok, Err, subst, ap, ◌∙◌, append-nil, [], codes, arith}
 use Rattle.std.proofs.lemmas.Grind.{common_steps}
-use Rattle.est_base.specs.declared.writing.SinkFault.{SinkFault}
+use Rattle.est_base.specs.declared.sinks.writing.SinkFault.{SinkFault}
 use Rattle.est_base.specs.Writing.{Wrote, Stops, Appends}
 use Rattle.cec_front.specs.Lines.{placed}
 use Rattle.est_base.proofs.Gains.{stops-behind, appends-twice, appends-nothing}

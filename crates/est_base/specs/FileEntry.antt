@@ -3,9 +3,9 @@ use Rattle.std.specs.Prelude.{◌≡◌, ℕ, ◌<◌, ◌≤◌, ◌⊎◌, if�
 use Rattle.std.specs.Cmp.Lexicographic.{pointwise}
 use Rattle.std.specs.declared.alloc.Global.{Global}
 use Rattle.est_base.specs.Faults.{one_more}
-use Rattle.est_base.specs.declared.file_entry.FileEntry.{FileEntry}
-use Rattle.est_base.specs.declared.reading.FileFault.{FileFault}
-use Rattle.est_base.specs.declared.reading.FileFault.TheVariants.{Failed, TooLong, NoMemory}
+use Rattle.est_base.specs.declared.files.entry.FileEntry.{FileEntry}
+use Rattle.est_base.specs.declared.files.reading.FileFault.{FileFault}
+use Rattle.est_base.specs.declared.files.reading.FileFault.TheVariants.{Failed, TooLong, NoMemory}
 
 -- the bytes of the first file of this name
 abbrev pub bytes_under : List FileEntry → List ℕ → Option (List ℕ)
