@@ -68,12 +68,14 @@ map-row : (answers : List Answer) → map row_of (map seen_of answers) ≡ map (
 map-row [] = refl
 map-row (a ∷ answers) = ap (λ l. row_of (seen_of a) ∷ l) (map-row answers)
 
-map-words : (inputs : List (List ℕ)) (outputs : List NetOut) → map (λ o. output_word inputs o.name) outputs ≡ map (output_word inputs) (map (λ o. o.name) outputs)
+map-words : (inputs : List (List ℕ)) (outputs : List NetOut) → map (λ o. output_word inputs o.name) outputs ≡
+    map (output_word inputs) (map (λ o. o.name) outputs)
 map-words inputs [] = refl
 map-words inputs (o ∷ outputs) = ap (λ l. output_word inputs o.name ∷ l) (map-words inputs outputs)
 
 -- a text that means a net which keeps what a program means keeps it too
-pub text_keeps : (text : List ℕ) (net : Netlist) (p : Program) → given_count p ≤ length p.signals → NetKeeps net p → (means : Means text net) → NamesWires means.circuit p → TextKeeps text p
+pub text_keeps : (text : List ℕ) (net : Netlist) (p : Program) → given_count p ≤ length p.signals → NetKeeps net p → (means : Means text net) →
+    NamesWires means.circuit p → TextKeeps text p
 text_keeps text net p few keeps means wires = record {
   circuit = means.circuit;
   reads = means.reads;

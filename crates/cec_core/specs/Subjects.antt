@@ -18,7 +18,8 @@ plain_subject x = record { name = x.name.now; main = x.main.now; source = x.sour
 -- what `out` gained over these bytes
 abbrev pub Writes : Job → List ℕ → Outcome → Option (List ℕ) → Option (List ℕ) → ℕ → ℕ → Type 0
 Writes job source Done old new before now = (text : List ℕ) × IsAnswer job source text × Appends old new before now text
-Writes job source WriteFault old new before now = (text : List ℕ) × IsAnswer job source text × Stops old new before now text
+Writes job source WriteFault old new before now = (text : List ℕ) × IsAnswer job source text
+    × Stops old new before now text
 Writes job source others old new before now = Appends old new before now []
 
 -- the outcome where a file was not read

@@ -10,5 +10,6 @@ pub loop-start-preserved : goal.loop-start-preserved
 loop-start-preserved g c =
     record {
       within = omega arith;
-      so_far = rw (take_piece c.loop-start.start c.min.result c.args.text.now) (appends-twice _ _ _ _ _ _ _ _ c.loop-start.invariant.so_far c.in_default.ensures);
+      so_far = rw (take_piece c.loop-start.start c.min.result c.args.text.now)
+          (appends-twice _ _ _ _ _ _ _ _ c.loop-start.invariant.so_far c.in_default.ensures);
     }
