@@ -44,8 +44,8 @@ pub record NetKeeps (net : Netlist) (p : Program) : Type 0 where
       (answers : List Answer) × (run_of p items ≡ Some answers) × (net_run net items ≡ map seen_of answers)
 
 -- the values of an instant's outputs, and then of `_paused`
-abbrev pub row_of : Shown → List Bool
-row_of s = s.outputs ++ s.paused ∷ []
+abbrev pub shown_values : Shown → List Bool
+shown_values s = s.outputs ++ s.paused ∷ []
 
 -- The compiler-correctness theorem for one list of items: the run of the semantics is constructive in each
 -- instant; the text has a run by BLIF's meaning, and any two runs agree on every driven name; in each
@@ -58,7 +58,7 @@ pub record RunsAlike (circuit : Circuit) (p : Program) (items : List Item) : Typ
   pub one_run : (us vs : List (List ℕ → Bool)) → IsRun circuit items us → IsRun circuit items vs →
       map (λ u. map u (driven_names circuit)) us ≡ map (λ v. map v (driven_names circuit)) vs
   pub alike : (valuations : List (List ℕ → Bool)) → IsRun circuit items valuations →
-      map (λ v. map v circuit.outputs) valuations ≡ map (λ a. row_of (seen_of a)) answers
+      map (λ v. map v circuit.outputs) valuations ≡ map (λ a. shown_values (seen_of a)) answers
 
 -- ---- wires by name
 

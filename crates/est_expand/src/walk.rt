@@ -11,7 +11,7 @@ ghost use Rattle.est_expand.specs.Answers.{Answers};
 ghost use Rattle.est_expand.specs.Flattening.{in_signals, in_trap, numbers, part as part_walk, each as each_walk};
 ghost use Rattle.est_expand.specs.Flattening.{each_case as each_case_walk, handler as handler_walk, exit_of, emitted};
 ghost use Rattle.est_expand.specs.Flattening.{ran};
-ghost use Rattle.est_expand.specs.Views.{around_of, program_in, inside_of, row_of, one_case, Walks};
+ghost use Rattle.est_expand.specs.Views.{around_of, program_in, inside_of, form_walk, one_case, Walks};
 ghost use Rattle.est_expand.specs.Walks.{give, after, meet_signals};
 
 use crate::expressions::{flat_delay, flat_test, signal};
@@ -59,7 +59,7 @@ fn row<'a>(
     form: &'a Form,
 ) -> Result<FlatStmt, ExpandFault>
     ensures walks { Walks flat_stmt_of result met.old met.new
-        (row_of source.entry (around_of around.old) span (form_of form.now)) }
+        (form_walk source.entry (around_of around.old) span (form_of form.now)) }
     ensures kept { OnOk result (around_of around.new ≡ around_of around.old) }
 {
     match form {

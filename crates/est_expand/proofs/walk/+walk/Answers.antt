@@ -13,7 +13,7 @@ use Rattle.est_expand.specs.Faults.{TooDeep}
 use Rattle.est_expand.specs.Scopes.{binding}
 use Rattle.est_expand.specs.Walks.{give, after, meet_signals}
 use Rattle.est_expand.specs.Flattening.{in_signals, numbers, each, each_case, part, row, flattening}
-use Rattle.est_expand.specs.Views.{around_of, program_in, inside_of, row_of, met_of, one_case}
+use Rattle.est_expand.specs.Views.{around_of, program_in, inside_of, form_walk, met_of, one_case}
 use Rattle.est_expand.proofs.FoundLists.{fault_stays, value_passes}
 use Rattle.est_expand.proofs.WalkSteps.{answers_along, stmts_behind, each-step, before_stmts-all, cases_behind, each_case-step, before_cases-all, drop-binding}
 use Rattle.est_expand.proofs.WalkSteps.{chain_with-Ok, take-push, ran-inside, flattening-in, flattening-deep, flattening-uncounted}
@@ -229,7 +229,7 @@ row-returns-in-Signal-clause-walks t c =
     after (inside_of source (in_signals (texts names) next around) (stmt_of p)) (λ p. give (flat.At c.args.span (flat.Signal (numbers next (texts names)) p))))
     met in
     answers_along (λ value. (flat_stmt_of value, met_of c.local.new.met)) c.local.result _ _
-    (ap (λ f. row_of source around c.args.span (form_of f) met) c.in-Signal.is
+    (ap (λ f. form_walk source around c.args.span (form_of f) met) c.in-Signal.is
     ∙ ap (λ names. bound names c.in-Signal.p.value) (sym c.deref-in-Signal.ensures.value)
     ∙ ap (bound c.deref-in-Signal.result.now) (sym c.deref-in-Signal-2.ensures))
     c.local.ensures.walks
