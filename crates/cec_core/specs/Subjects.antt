@@ -1,8 +1,8 @@
 -- Inner: the plain form of what a line may speak of, the outcome where a file is not read, and what a trace's file tells.
 use Rattle.std.specs.Prelude.{◌≡◌, ℕ, ⊤, List}
 use Rattle.est_base.specs.Faults.{Rose}
-use Rattle.est_base.specs.declared.reading.FileFault.{FileFault}
-use Rattle.est_base.specs.declared.reading.FileFault.TheVariants as reading
+use Rattle.est_base.specs.declared.files.reading.FileFault.{FileFault}
+use Rattle.est_base.specs.declared.files.reading.FileFault.TheVariants as reading
 use Rattle.trace_run.specs.declared.running.RunFault.{RunFault}
 use Rattle.trace_run.specs.declared.running.RunFault.TheVariants as runs
 use Rattle.blif_text.specs.declared.refusal.BlifError.{BlifError}
