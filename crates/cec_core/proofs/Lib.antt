@@ -1,6 +1,9 @@
 pub mod GraphFacts
 pub mod Keeping
-pub mod Commands
+pub mod OneFile
+pub mod TwoFiles
+pub mod RunLines
+pub mod DrawnRuns
 pub mod WireWords
 pub mod Joined
 pub mod Unrefused

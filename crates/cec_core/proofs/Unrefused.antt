@@ -1,5 +1,5 @@
 -- A source that compiles has no cause of a refusal.
-use Rattle.std.proofs.Common.{◌≡◌, ℕ, ◌<◌, ◌≤◌, ◌⊎◌, List, [], ◌∷◌, length, Option, None, Some, inl, inr, refl, sym, subst, arith}
+use Rattle.std.proofs.Common.{◌≡◌, ℕ, ◌<◌, ◌≤◌, ◌⊎◌, List, [], ◌∷◌, length, Option, Some, inl, inr, refl, sym, subst, arith}
 use Rattle.est_base.specs.declared.bounds.TheConstants.Limits.{SOURCE_BYTES, INSTANCES, WIRES}
 use Rattle.est_base.specs.Faults.{Rose}
 use Rattle.est_kernel.specs.Plain.{Program}
@@ -17,15 +17,18 @@ use Rattle.cec_front.specs.declared.refusal.Refusal.TheVariants as fronts
 use Rattle.cec_front.specs.Refusals as front_refusals
 use Rattle.cec_front.specs.Sources.{StandsFor}
 use Rattle.cec_core.specs.declared.outcome.Outcome.{Outcome}
-use Rattle.cec_core.specs.declared.outcome.Outcome.TheVariants.{Done, Usage, FileFault, Static, Cyclic, Limit, WriteFault, NoMemory}
+use Rattle.cec_core.specs.declared.outcome.Outcome.TheVariants.{Done, Usage, FileFault, Static, Cyclic, Trace, BadText, Limit, WriteFault, NoMemory}
+use Rattle.cec_core.specs.declared.outcome.Which.TheVariants.{First, Second}
 use Rattle.cec_core.specs.declared.refusal.Limit as bounds
 use Rattle.cec_core.specs.declared.refusal.Limit.TheVariants as limits
 use Rattle.cec_core.specs.declared.refusal.Refusal.{Refusal}
 use Rattle.cec_core.specs.declared.refusal.Refusal.TheVariants as refusals
 use Rattle.cec_core.specs.Cycles.{LeadsBack, IsCycle, ShowsCycle, IsAcyclic}
-use Rattle.cec_core.specs.Jobs.{Job}
-use Rattle.cec_core.specs.Outcomes.{IsSource, AgreesOn, Agrees, CountsFiles, GainsOut}
+use Rattle.cec_core.specs.Jobs.{Job, Request, Help, Make, Run, Exec, Generate, Load}
+use Rattle.cec_core.specs.Outcomes.{MakesOn, Agrees, CountsFiles, GainsOut}
 use Rattle.cec_core.specs.Refusals.{Compiles, IsRefused}
+use Rattle.cec_core.specs.Sources.{IsSource}
+use Rattle.trace_run.specs.Running.{Sinks}
 
 -- ---- cycles
 
@@ -76,6 +79,8 @@ short_enough main bytes s long =
 
 within_limits : (main : Option (List ℕ)) (bytes : List ℕ) (quantity : bounds.Limit) → IsSource main bytes → IsRefused bytes main (refusals.Limit quantity) → ⊥
 within_limits main bytes limits.Source s r = short_enough main bytes s r
+within_limits main bytes limits.Trace s r = r
+within_limits main bytes limits.Text s r = r
 within_limits main bytes limits.Nesting s r = not_fronted main bytes quantities.Nesting s r
 within_limits main bytes limits.Statements s r = not_fronted main bytes quantities.Statements s r
 within_limits main bytes limits.Signals s r = not_fronted main bytes quantities.Signals s r
@@ -95,8 +100,10 @@ unrefused main bytes refusals.NoMemory s r = refl
 -- ---- where nothing outside fails
 
 -- a limit that a file passes
-passes_limit : (job : Job) (bytes : List ℕ) (quantity : bounds.Limit) → IsSource job.main bytes → AgreesOn job (Limit quantity) bytes → ⊥
+passes_limit : (job : Job) (bytes : List ℕ) (quantity : bounds.Limit) → IsSource job.main bytes → MakesOn job (Limit quantity) bytes → ⊥
 passes_limit job bytes limits.Source s a = within_limits job.main bytes limits.Source s a
+passes_limit job bytes limits.Trace s a = within_limits job.main bytes limits.Trace s a.refused
+passes_limit job bytes limits.Text s a = within_limits job.main bytes limits.Text s a.refused
 passes_limit job bytes limits.Nesting s a = within_limits job.main bytes limits.Nesting s a.refused
 passes_limit job bytes limits.Statements s a = within_limits job.main bytes limits.Statements s a.refused
 passes_limit job bytes limits.Signals s a = within_limits job.main bytes limits.Signals s a.refused
@@ -110,25 +117,33 @@ passes_limit job bytes limits.Wires s a = within_limits job.main bytes limits.Wi
 never_rose : Rose 0 0 → ⊥
 never_rose rose = absurd (omega (arith, rose.more))
 
+-- sinks that count no fault
+abbrev pub steadily : Option (List ℕ) → Option (List ℕ) → Sinks
+steadily old new = record { before = old; after = new; faults_before = 0; faults_now = 0 }
+
 job_end : (job : Job) (held : List ℕ → List ℕ) (outcome : Outcome) (old new : Option (List ℕ)) → IsSource job.main (held job.name)
-    → Agrees (Some job) (Some held) outcome → CountsFiles (Some job) outcome 0 0 [] [] → GainsOut (Some job) (Some held) outcome old new 0 0
-    → (outcome ≡ Done) ⊎ (outcome ≡ NoMemory)
+    → Agrees (Some (Make job)) (Some held) outcome → CountsFiles (Some (Make job)) outcome 0 0 [] []
+    → GainsOut (Some (Make job)) (Some held) outcome (steadily old new) → (outcome ≡ Done) ⊎ (outcome ≡ NoMemory)
 job_end job held Done old new s agrees counts gains = inl refl
-job_end job held Usage old new s agrees counts gains = absurd agrees
+job_end job held Usage old new s agrees counts gains = absurd agrees.2
 job_end job held (FileFault file) old new s agrees counts gains = absurd (never_rose counts.0)
-job_end job held (Static fault) old new s agrees counts gains = absurd (front.no_fault (held job.name) job.main s.program fault s.source agrees.refused)
+job_end job held (Static fault) old new s agrees counts gains =
+    let same = subst (IsSource job.main) (sym agrees.1) s in
+    absurd (front.no_fault agrees.0 job.main same.program fault same.source agrees.2.refused)
 job_end job held (Cyclic c) old new s agrees counts gains =
-    let same = unrefused job.main (held job.name) (refusals.Cyclic c) s agrees.refused in
+    let same = unrefused job.main agrees.0 (refusals.Cyclic c) (subst (IsSource job.main) (sym agrees.1) s) agrees.2.refused in
     cc
-job_end job held (Limit quantity) old new s agrees counts gains = absurd (passes_limit job (held job.name) quantity s agrees)
+job_end job held (Trace fault) old new s agrees counts gains = absurd agrees.2
+job_end job held (BadText fault) old new s agrees counts gains = absurd agrees.2
+job_end job held (Limit quantity) old new s agrees counts gains =
+    absurd (passes_limit job agrees.0 quantity (subst (IsSource job.main) (sym agrees.1) s) agrees.2)
 job_end job held WriteFault old new s agrees counts gains = absurd (never_rose gains.2.faults)
 job_end job held NoMemory old new s agrees counts gains = inr refl
 
 -- Where no count rises, a source that compiles is done, unless memory runs out.
-pub steady_end : (asks : Option Job) (job : Job) (held : List ℕ → List ℕ) (outcome : Outcome) (old new : Option (List ℕ)) → asks ≡ Some job
-    → IsSource job.main (held job.name) → Agrees asks (Some held) outcome → CountsFiles asks outcome 0 0 [] [] → GainsOut asks (Some held) outcome old new 0 0
-    → (outcome ≡ Done) ⊎ (outcome ≡ NoMemory)
-steady_end None job held outcome old new asks s agrees counts gains = cc
-steady_end (Some other) job held outcome old new asks s agrees counts gains =
-    let same : other ≡ job = cc in
-    job_end other held outcome old new (subst (λ j. IsSource j.main (held j.name)) (sym same) s) agrees counts gains
+pub steady_end : (asks : Option Request) (job : Job) (held : List ℕ → List ℕ) (outcome : Outcome) (old new : Option (List ℕ)) → asks ≡ Some (Make job)
+    → IsSource job.main (held job.name) → Agrees asks (Some held) outcome → CountsFiles asks outcome 0 0 [] []
+    → GainsOut asks (Some held) outcome (steadily old new) → (outcome ≡ Done) ⊎ (outcome ≡ NoMemory)
+steady_end asks job held outcome old new is s agrees counts gains =
+    job_end job held outcome old new s (subst (λ a. Agrees a (Some held) outcome) is agrees) (subst (λ a. CountsFiles a outcome 0 0 [] []) is counts)
+    (subst (λ a. GainsOut a (Some held) outcome (steadily old new)) is gains)

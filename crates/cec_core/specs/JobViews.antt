@@ -3,7 +3,7 @@ use Rattle.std.specs.Prelude.{option_map}
 use Rattle.cec_core.specs.declared.jobs.Job as jobs
 use Rattle.cec_core.specs.declared.jobs.Request as requests
 use Rattle.cec_core.specs.declared.jobs.Request.TheVariants as asks
-use Rattle.cec_core.specs.Jobs.{Job, Request, Help, Make, Run, Exec, Generate}
+use Rattle.cec_core.specs.Jobs.{Job, Request, Help, Make, Run, Exec, Generate, Load}
 
 abbrev pub plain_job : jobs.Job → Job
 plain_job j = record { task = j.task; name = j.name.now; main = option_map (λ m. m.now) j.main; pick = j.pick }
@@ -14,3 +14,4 @@ plain_request (asks.Make job) = Make (plain_job job)
 plain_request (asks.Run job trace) = Run (plain_job job) trace.now
 plain_request (asks.Exec text trace) = Exec text.now trace.now
 plain_request (asks.Generate start branches) = Generate start branches
+plain_request (asks.Load start branches instants) = Load start branches instants

@@ -29,6 +29,8 @@ pub data Request : Type 0 where
   Exec : (text trace : List ℕ) → Request
   -- a generated source, by its start number and its number of branches
   Generate : (start branches : ℕ) → Request
+  -- the numbers of its run over so many drawn instants
+  Load : (start branches instants : ℕ) → Request
 
 -- the word at a place
 abbrev pub word_at : List (List ℕ) → ℕ → List ℕ
@@ -59,7 +61,7 @@ request_asked words (asks.Run vias.C s trace) = None
 request_asked words (asks.Exec vias.Blif text trace) = Some (Exec (word_at words text) (word_at words trace))
 request_asked words (asks.Exec vias.C text trace) = None
 request_asked words (asks.Gen start branches None) = Some (Generate start branches)
-request_asked words (asks.Gen start branches (Some instants)) = None
+request_asked words (asks.Gen start branches (Some instants)) = Some (Load start branches instants)
 
 abbrev pub request_by : List (List ℕ) → Option Request
 request_by words = option_and_then (request_asked words) (asked_by words)

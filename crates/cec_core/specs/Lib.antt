@@ -11,6 +11,8 @@ pub mod Contents
 pub mod Sources
 pub mod Runs
 pub mod HelpTexts
+pub mod Loads
+pub mod Loading
 pub mod Outcomes
 pub mod Lines
 pub mod Subjects

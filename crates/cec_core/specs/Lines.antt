@@ -1,6 +1,7 @@
 -- To believe: the line that is written about an outcome.
 use Rattle.std.specs.Prelude.{◌≡◌, ℕ, ◌⊎◌, ⊤, List, [], ◌∷◌, ◌++◌, flat_map, Option, Some, None, codes, decimal, map, unwrap_or}
 use Rattle.est_base.specs.Writing.{Appends, Stops}
+use Rattle.est_gen.specs.Sources.{source_text}
 use Rattle.grc_graph.specs.PlainWireNames.{wire_name_of}
 use Rattle.trace_io.specs.declared.faults.TraceFault.{TraceFault}
 use Rattle.trace_io.specs.declared.faults.TraceFault.TheVariants as traces
@@ -15,7 +16,7 @@ use Rattle.cec_core.specs.declared.refusal.Limit as bounds
 use Rattle.cec_core.specs.declared.refusal.Limit.TheVariants as limits
 use Rattle.cec_core.specs.Contents.{Content, IsHeld}
 use Rattle.cec_core.specs.Cycles.{cycle_text}
-use Rattle.cec_core.specs.Jobs.{Job, Request, Help, Make, Run, Exec, Generate}
+use Rattle.cec_core.specs.Jobs.{Job, Request, Help, Make, Run, Exec, Generate, Load}
 
 -- what a line may speak of: the names of the two files, the main module's name, and the source
 pub record Subject : Type 0 where
@@ -91,6 +92,7 @@ abbrev pub IsSubjectOf : Option Request → Content → Subject → Type 0
 IsSubjectOf (Some (Make job)) content x = IsSourceSubject job content x
 IsSubjectOf (Some (Run job trace)) content x = IsSourceSubject job content x × (x.trace ≡ trace)
 IsSubjectOf (Some (Exec text trace)) content x = (x.name ≡ text) × (x.trace ≡ trace)
+IsSubjectOf (Some (Load start branches instants)) content x = (x.main ≡ []) × (x.source ≡ source_text start branches)
 IsSubjectOf others content x = ⊤
 
 -- What `err` gained: the whole line, or a prefix of it where its count of faults rose.

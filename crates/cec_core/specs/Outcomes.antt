@@ -18,30 +18,31 @@ use Rattle.cec_core.specs.declared.refusal.Refusal.TheVariants as refusals
 use Rattle.cec_core.specs.Answers.{IsAnswer}
 use Rattle.cec_core.specs.Contents.{Content, IsHeld, Holds}
 use Rattle.cec_core.specs.HelpTexts.{help_text}
-use Rattle.cec_core.specs.Jobs.{Job, Request, Help, Make, Run, Exec, Generate}
+use Rattle.cec_core.specs.Jobs.{Job, Request, Help, Make, Run, Exec, Generate, Load}
+use Rattle.cec_core.specs.Loads.{IsSummary, state_behind}
 use Rattle.cec_core.specs.Runs.{RunsSource, LeavesRun}
 use Rattle.cec_core.specs.Sources.{IsSource, IsRefusedSource, WritesLongText}
 
 -- ---- causes
 
--- what the outcome of a task on a source that was read says of its bytes
-abbrev pub MakesOn : Job → Outcome → List ℕ → Type 0
-MakesOn job Done bytes = IsSource job.main bytes
-MakesOn job (Static fault) bytes = IsRefusedSource job.main (refusals.Static fault) bytes
-MakesOn job (Cyclic cycle) bytes = IsRefusedSource job.main (refusals.Cyclic cycle) bytes
-MakesOn job (Limit limits.Source) bytes = SOURCE_BYTES < length bytes
-MakesOn job (Limit quantity) bytes = IsRefusedSource job.main (refusals.Limit quantity) bytes
-MakesOn job WriteFault bytes = IsSource job.main bytes
-MakesOn job NoMemory bytes = ⊤
-MakesOn job others bytes = ⊥
+-- what the outcome of a task on a source that was read says of its bytes, by the main module's name where there is one
+abbrev pub MakesOn : Option (List ℕ) → Outcome → List ℕ → Type 0
+MakesOn main Done bytes = IsSource main bytes
+MakesOn main (Static fault) bytes = IsRefusedSource main (refusals.Static fault) bytes
+MakesOn main (Cyclic cycle) bytes = IsRefusedSource main (refusals.Cyclic cycle) bytes
+MakesOn main (Limit limits.Source) bytes = SOURCE_BYTES < length bytes
+MakesOn main (Limit quantity) bytes = IsRefusedSource main (refusals.Limit quantity) bytes
+MakesOn main WriteFault bytes = IsSource main bytes
+MakesOn main NoMemory bytes = ⊤
+MakesOn main others bytes = ⊥
 
 -- the same for a source that is run over a trace: what comes of the trace says that the source compiles
-abbrev pub RunsOn : Job → Outcome → List ℕ → Type 0
-RunsOn job (FileFault Second) bytes = IsSource job.main bytes
-RunsOn job (Trace fault) bytes = IsSource job.main bytes
-RunsOn job (Limit limits.Trace) bytes = IsSource job.main bytes
-RunsOn job (Limit limits.Text) bytes = WritesLongText job.main bytes
-RunsOn job others bytes = MakesOn job others bytes
+abbrev pub RunsOn : Option (List ℕ) → Outcome → List ℕ → Type 0
+RunsOn main (FileFault Second) bytes = IsSource main bytes
+RunsOn main (Trace fault) bytes = IsSource main bytes
+RunsOn main (Limit limits.Trace) bytes = IsSource main bytes
+RunsOn main (Limit limits.Text) bytes = WritesLongText main bytes
+RunsOn main others bytes = MakesOn main others bytes
 
 -- the bytes describe a circuit without a combinational cycle
 pub record IsRunnable (bytes : List ℕ) : Type 0 where
@@ -88,10 +89,11 @@ IsWriting others = ⊥
 abbrev pub Agrees : Option Request → Content → Outcome → Type 0
 Agrees None content outcome = outcome ≡ Usage
 Agrees (Some Help) content outcome = IsWriting outcome
-Agrees (Some (Make job)) content outcome = AgreesOnFile content job.name (MakesOn job) outcome
-Agrees (Some (Run job trace)) content outcome = AgreesOnTwo content job.name trace (RunsOn job) outcome
+Agrees (Some (Make job)) content outcome = AgreesOnFile content job.name (MakesOn job.main) outcome
+Agrees (Some (Run job trace)) content outcome = AgreesOnTwo content job.name trace (RunsOn job.main) outcome
 Agrees (Some (Exec text trace)) content outcome = AgreesOnTwo content text trace ExecutesOn outcome
 Agrees (Some (Generate start branches)) content outcome = IsWriting outcome
+Agrees (Some (Load start branches instants)) content outcome = MakesOn None outcome (source_text start branches)
 
 -- ---- the files
 
@@ -133,3 +135,5 @@ GainsOut (Some (Run job trace)) content outcome s =
 GainsOut (Some (Exec text trace)) content outcome s =
     LeavesRun (λ result. Holds content text (λ bytes. Holds content trace (λ items. RunsText bytes items s result))) s outcome
 GainsOut (Some (Generate start branches)) content outcome s = LeavesText (λ text. text ≡ source_text start branches) s outcome
+GainsOut (Some (Load start branches instants)) content outcome s =
+    LeavesText (IsSummary (source_text start branches) (state_behind start branches) instants) s outcome

@@ -121,8 +121,8 @@ fn counts_line(alloc: Global, found: &Graphed) -> Result<Vec<u8>, NoMemory>
     Ok(text)
 }
 
-// The pieces, one after another.
-fn joined(alloc: Global, pieces: &[&[u8]]) -> Result<Vec<u8>, NoMemory>
+/// The pieces, one after another.
+pub(crate) fn joined(alloc: Global, pieces: &[&[u8]]) -> Result<Vec<u8>, NoMemory>
     ensures { IfOk result (λ text. text.items ≡ flat_map (λ piece. piece.now) pieces.now) }
 {
     let mut text = Vec::new(alloc);

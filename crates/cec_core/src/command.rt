@@ -8,6 +8,7 @@ ghost use Rattle.cec_core.specs.Lines.{GainsErr};
 ghost use Rattle.cec_core.specs.Outcomes.{Agrees, CountsFiles, GainsOut};
 
 use crate::commands::exec::exec_text;
+use crate::commands::load::write_load;
 use crate::commands::make::make_text;
 use crate::commands::plain::{write_generated, write_help};
 use crate::commands::run::run_file;
@@ -23,7 +24,7 @@ use std::alloc::Global;
 /// listing of its graph, and `check FILE` a line of counts. `run --via blif FILE TRACE` compiles the source, writes its
 /// text into memory, reads it again and runs it over the trace: one line for each instant, right behind its reaction.
 /// `exec --via blif TEXT TRACE` runs a text by its own meaning. `gen --start N --branches N` writes a generated source,
-/// and `--help` the list of the commands. `--main M` names the main module, `--pick first`, `--pick last` or `--pick N`
+/// with `--run N` the numbers of its run over so many drawn events, and `--help` the list of the commands. `--main M` names the main module, `--pick first`, `--pick last` or `--pick N`
 /// says how the evaluation order of a text is chosen. Every other list of words is `Usage`. For every outcome but `Done`
 /// one line goes to `err`; a write to `err` that fails changes no outcome.
 ///
@@ -100,6 +101,9 @@ fn answered<F: Files, O: Sink, E: Sink>(
             let outcome = write_generated(alloc, start, branches, out);
             report(err, subject_of_none(), &outcome);
             outcome
+        }
+        Request::Load(start, branches, instants) => {
+            write_load(alloc, start, branches, instants, out, err)
         }
     }
 }

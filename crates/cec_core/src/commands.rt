@@ -1,6 +1,7 @@
-// The commands, one module each for those that read no file, make a text, run a source, or run a text.
+// The commands, one module each for those that read no file, make a text, run a source, run a text, or run a generated source.
 
 pub(crate) mod exec;
+pub(crate) mod load;
 pub(crate) mod make;
 pub(crate) mod plain;
 pub(crate) mod run;

@@ -30,8 +30,20 @@ pub(crate) fn put_trace_fault<E: Sink>(err: &mut E, fault: &TraceFault) -> Resul
             b": repeated ",
             name.bytes(),
         ),
-        TraceFault::BadReset(instant) => put_numbered(err, b"instant ", *instant, b": bad reset", b""),
-        TraceFault::OpenInstant(instant) => put_numbered(err, b"instant ", *instant, b": open", b""),
+        TraceFault::BadReset(instant) => put_numbered(
+            err,
+            b"instant ",
+            *instant,
+            b": bad reset",
+            b"",
+        ),
+        TraceFault::OpenInstant(instant) => put_numbered(
+            err,
+            b"instant ",
+            *instant,
+            b": open",
+            b"",
+        ),
         TraceFault::Breaks(instant, relation) => {
             let mut number = Buffer::new();
             let number = number.format(*relation).as_bytes();
@@ -43,9 +55,9 @@ pub(crate) fn put_trace_fault<E: Sink>(err: &mut E, fault: &TraceFault) -> Resul
 // A line with a number behind its first word.
 fn put_numbered<E: Sink>(
     err: &mut E,
-    word: &[u8],
+    word: &'static [u8],
     number: u32,
-    text: &[u8],
+    text: &'static [u8],
     rest: &[u8],
 ) -> Result<(), SinkFault>
     ensures { Wrote (E.told err.old) (E.told err.new) (E.faults err.old) (E.faults err.new)
@@ -96,7 +108,7 @@ fn put_joined<E: Sink>(err: &mut E, names: &[Text]) -> Result<(), SinkFault>
     let Some((first, others)) = names.split_first() else {
         return Ok(());
     };
-    if let Err(fault) = write_pieces(err, &[first.bytes()]) {
+    if let Err(fault) = err.write(first.bytes()) {
         return Err(fault);
     }
     put_others(err, others)

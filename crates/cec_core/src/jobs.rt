@@ -42,6 +42,8 @@ pub(crate) enum Request<'a> {
     Exec(&'a str, &'a str),
     /// A generated source, by its start number and its number of branches.
     Generate(u64, u32),
+    /// The numbers of its run over so many drawn instants.
+    Load(u64, u32, u32),
 }
 
 /// What the words ask for; `None` where they have no meaning.
@@ -63,7 +65,10 @@ pub(crate) fn request_by(words: &[String]) -> Option<Request<'_>>
             word_at(words, trace),
         )),
         Asked::Gen(start, branches, None) => Some(Request::Generate(start, branches)),
-        Asked::Run(Via::C, _, _) | Asked::Exec(Via::C, _, _) | Asked::Gen(_, _, Some(_)) => None,
+        Asked::Gen(start, branches, Some(instants)) => {
+            Some(Request::Load(start, branches, instants))
+        }
+        Asked::Run(Via::C, _, _) | Asked::Exec(Via::C, _, _) => None,
     }
 }
 

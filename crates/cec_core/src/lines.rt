@@ -43,11 +43,7 @@ pub(crate) fn report<E: Sink>(err: &mut E, subject: Subject<'_>, outcome: &Outco
 
 // The line of an outcome, none for `Done`. Writing it takes no memory; a prefix of the line was appended where the
 // sink failed.
-fn put_line<E: Sink>(
-    err: &mut E,
-    subject: Subject<'_>,
-    outcome: &Outcome,
-) -> Result<(), SinkFault>
+fn put_line<E: Sink>(err: &mut E, subject: Subject<'_>, outcome: &Outcome) -> Result<(), SinkFault>
     requires { length subject.source.now ≤ Limits.SOURCE_BYTES }
     ensures { Wrote (E.told err.old) (E.told err.new) (E.faults err.old) (E.faults err.new)
         (line_of (plain_subject subject.entry) outcome.now) result }

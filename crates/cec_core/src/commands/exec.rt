@@ -138,10 +138,10 @@ fn text_outcome(error: BlifError) -> Outcome
 }
 
 /// The outcome of a run over a trace.
-pub(crate) fn run_outcome(result: Result<(), RunFault>) -> Outcome
-    ensures { result ≡ run_outcome result.entry }
+pub(crate) fn run_outcome(ended: Result<(), RunFault>) -> Outcome
+    ensures { result ≡ run_outcome ended }
 {
-    match result {
+    match ended {
         Ok(()) => Outcome::Done,
         Err(RunFault::Trace(fault)) => Outcome::Trace(fault),
         Err(RunFault::Write) => Outcome::WriteFault,

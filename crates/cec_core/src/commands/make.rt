@@ -81,7 +81,7 @@ pub(crate) fn unread(file: Which, limit: Limit, fault: FileFault) -> Outcome
 // The text that a job asks for, made of a source and written to `out`.
 fn written<O: Sink>(alloc: Global, job: Job<'_>, source: &[u8], out: &mut O) -> Outcome
     requires { length source.now ≤ Limits.SOURCE_BYTES }
-    ensures agrees { MakesOn (plain_job job.entry) result source.now }
+    ensures agrees { MakesOn (plain_job job.entry).main result source.now }
     ensures out { LeavesText (IsAnswer (plain_job job.entry) source.now)
         (record {
           before = O.told out.old;

@@ -79,7 +79,7 @@ fn source_run<F: Files, O: Sink>(
     out: &mut O,
 ) -> Outcome
     requires { length source.now ≤ Limits.SOURCE_BYTES }
-    ensures agrees { RunsOn (plain_job job.entry) result source.now }
+    ensures agrees { RunsOn (plain_job job.entry).main result source.now }
     ensures long_trace { LongTrace (F.content files.old) trace.now result }
     ensures files_counted { CountsTrace trace.now result
         (F.faults files.old) (F.faults files.new) (F.last_failed files.old) (F.last_failed files.new) }
@@ -114,8 +114,8 @@ fn source_run<F: Files, O: Sink>(
     }
 }
 
-// A source compiled, and its BLIF text.
-fn compiled_text(
+/// A source compiled, and its BLIF text.
+pub(crate) fn compiled_text(
     alloc: Global,
     source: &[u8],
     main: Option<&[u8]>,
@@ -173,7 +173,8 @@ fn run_compiled<O: Sink>(
         result }
 {
     let Compiled { graph, net, .. } = compiled;
-    let relations = graph.program.relations;
+    let program = graph.program;
+    let relations = program.relations;
     // So many relations find no room, but the number of one that is broken has 32 bits.
     if relations.len() as u64 > u64::from(u32::MAX) {
         return Err(RunFault::NoMemory);

@@ -1,0 +1,130 @@
+-- Runs over drawn events, and what is counted of them.
+use Rattle.std.proofs.Common.{◌≡◌, ℕ, zero, suc, ◌+◌, ◌*◌, ◌<◌, ◌≤◌, Bool, true, false, if◌then◌else◌, List, [], ◌∷◌, ◌++◌, length, map, Option, Some, None, refl, sym, ap, ap₂, ◌∙◌, subst, arith}
+use Rattle.std.specs.Prelude.{◌==◌, count_by, codes, decimal}
+use Rattle.std.proofs.lemmas.List.{length-take}
+use Rattle.est_base.specs.Items.{Item, Event, Reset}
+use Rattle.est_base.specs.Relations.{Relation, MeetsAll}
+use Rattle.est_gen.specs.Draws.{drawn, next_state, state_after, event_from}
+use Rattle.est_kernel.specs.Plain.{Program, given_count, given_names}
+use Rattle.est_kernel.specs.Reactions as semantics
+use Rattle.net_ir.specs.Netlists.{Netlist}
+use Rattle.net_ir.specs.Runs.{net_run}
+use Rattle.trace_io.specs.declared.lines.Word.{Word}
+use Rattle.trace_io.specs.declared.lines.Word.TheVariants.{Paused, Ended, Bare}
+use Rattle.trace_run.specs.BlifAnswers.{word_of}
+use Rattle.trace_run.specs.Machines.{Answer, Drives}
+use Rattle.trace_run.specs.NetRuns.{shown_answer}
+use Rattle.trace_run.proofs.Leading.{drives-more}
+use Rattle.cec_core.specs.declared.commands.load.Counts.{Counts}
+use Rattle.cec_core.specs.Loads.{drawn_items, emitted_count, paused_count, summary_text}
+use Rattle.cec_core.specs.Loading.{present_count, pause_of, pause_count, drawn_state, counted_text, CountsOf, CountsMachine, CountsNet}
+use Rattle.cec_core.specs.Meaning.{IsEvent, AreItems, seen_of, NetKeeps}
+use Rattle.cec_core.specs.Runs.{line_answer}
+
+-- one instant more
+pub drawn-more : (n x : ℕ) → drawn_items (n + 1) x ≡ drawn_items n x ++ Event (event_from 8 (drawn_state n x)) ∷ []
+drawn-more zero x = refl
+drawn-more (suc n) x =
+    let e : suc n + 1 ≡ suc (n + 1) = omega arith in
+    ap (λ k. drawn_items k x) e ∙ ap (λ l. Event (event_from 8 x) ∷ l) (drawn-more n (state_after 8 x))
+
+pub state-more : (n x : ℕ) → drawn_state (n + 1) x ≡ state_after 8 (drawn_state n x)
+state-more zero x = refl
+state-more (suc n) x =
+    let e : suc n + 1 ≡ suc (n + 1) = omega arith in
+    ap (λ k. drawn_state k x) e ∙ state-more n (state_after 8 x)
+
+present-append : (xs bs : List Answer) → present_count (xs ++ bs) ≡ present_count xs + present_count bs
+present-append [] bs = omega arith
+present-append (a ∷ xs) bs =
+    let rest = present-append xs bs in
+    omega (arith, rest)
+
+pause-append : (xs bs : List Answer) → pause_count (xs ++ bs) ≡ pause_count xs + pause_count bs
+pause-append [] bs = omega arith
+pause-append (a ∷ xs) bs =
+    let rest = pause-append xs bs in
+    omega (arith, rest)
+
+-- a run over the first drawn events
+pub record DrawnSoFar {S : Type 0} (reacts : S → List Bool → Answer → S → Type 0) (resets : S → S → Type 0) (old new : S) (x y n emitted paused : ℕ) : Type 0 where
+  pub answers : List Answer
+  pub drives : Drives reacts resets old (drawn_items n x) answers new
+  pub state : y ≡ drawn_state n x
+  pub present : emitted ≡ present_count answers
+  pub pauses : paused ≡ pause_count answers
+  pub few : emitted ≤ 8 * n
+  pub each : paused ≤ n
+
+pub drawn-nothing : {S : Type 0} (reacts : S → List Bool → Answer → S → Type 0) (resets : S → S → Type 0) (old : S) (x : ℕ)
+    → DrawnSoFar reacts resets old old x x 0 0 0
+drawn-nothing reacts resets old x = record { answers = []; drives = refl; state = refl; present = refl; pauses = refl; few = omega arith; each = omega arith }
+
+pub drawn-once : {S : Type 0} (reacts : S → List Bool → Answer → S → Type 0) (resets : S → S → Type 0) (old mid new : S) (x y z n emitted paused : ℕ)
+    (event : List Bool) (answer : Answer) (count pause : ℕ) → DrawnSoFar reacts resets old mid x y n emitted paused → event ≡ event_from 8 y
+    → z ≡ state_after 8 y → reacts mid event answer new → count ≡ count_by (λ b. b) answer.present → count ≤ 8 → pause ≡ pause_of answer.word → pause ≤ 1
+    → DrawnSoFar reacts resets old new x z (n + 1) (emitted + count) (paused + pause)
+drawn-once reacts resets old mid new x y z n emitted paused event answer count pause so is behind react counted few paused_is one =
+    let step : Drives reacts resets mid (Event (event_from 8 (drawn_state n x)) ∷ []) (answer ∷ []) new =
+    (new, subst (λ e. reacts mid e answer new) (is ∙ ap (event_from 8) so.state) react, refl) in
+    let here = so.few in
+    let there = so.each in
+    let p = so.present in
+    let q = so.pauses in
+    let shown = present-append so.answers (answer ∷ []) in
+    let paused_all = pause-append so.answers (answer ∷ []) in
+    record {
+      answers = so.answers ++ answer ∷ [];
+      drives = subst (λ items. Drives reacts resets old items (so.answers ++ answer ∷ []) new) (sym (drawn-more n x))
+          (drives-more reacts resets old mid new (drawn_items n x) so.answers (Event (event_from 8 (drawn_state n x)) ∷ []) (answer ∷ []) so.drives step);
+      state = behind ∙ ap (state_after 8) so.state ∙ sym (state-more n x);
+      present = omega (arith, p, shown, counted);
+      pauses = omega (arith, q, paused_all, paused_is);
+      few = omega (arith, here, few);
+      each = omega (arith, there, one);
+    }
+
+pub drawn-all : {S : Type 0} (reacts : S → List Bool → Answer → S → Type 0) (resets : S → S → Type 0) (old new : S) (x y n emitted paused : ℕ)
+    → DrawnSoFar reacts resets old new x y n emitted paused
+    → CountsMachine reacts resets old new (drawn_items n x) (record { emitted = emitted; paused = paused })
+drawn-all reacts resets old new x y n emitted paused so = (so.answers, so.drives, record { emitted = so.present; paused = so.pauses })
+
+pub pause-small : (w : Word) → pause_of w ≤ 1
+pause-small Paused = omega arith
+pause-small Ended = omega arith
+pause-small Bare = omega arith
+
+-- ---- the numbers of a program's run
+
+event-wide : (n x : ℕ) → length (event_from n x) ≡ n
+event-wide zero x = refl
+event-wide (suc n) x = ap suc (event-wide n (next_state x))
+
+-- the drawn events are events of a program with eight given signals and no relations
+pub drawn-fits : (p : Program) → given_count p ≡ 8 → p.relations ≡ [] → (n x : ℕ) → AreItems p (drawn_items n x)
+drawn-fits p wide free zero x = tt
+drawn-fits p wide free (suc n) x = (
+  record { wide = event-wide 8 x ∙ sym wide; meets = subst (λ r. MeetsAll r (event_from 8 x)) (sym free) (λ k d l. absurd (omega (arith, l))) },
+  drawn-fits p wide free n (state_after 8 x),
+)
+
+emitted-seen : (answers : List semantics.Answer) → present_count (map shown_answer (map seen_of answers)) ≡ emitted_count answers
+emitted-seen [] = refl
+emitted-seen (a ∷ answers) = ap (λ k. count_by (λ b. b) a.outputs + k) (emitted-seen answers)
+
+pause-word : (b : Bool) → pause_of (word_of b) ≡ (if b then 1 else 0)
+pause-word true = refl
+pause-word false = refl
+
+paused-seen : (answers : List semantics.Answer) → pause_count (map shown_answer (map seen_of answers)) ≡ paused_count answers
+paused-seen [] = refl
+paused-seen (a ∷ answers) = ap₂ (λ i j. i + j) (pause-word (a.code == 1)) (paused-seen answers)
+
+-- the counts of a net's answers are those of the program's run
+pub counts-seen : (answers : List semantics.Answer) (net : Netlist) (items : List Item) (instants : ℕ) (c : Counts)
+    → net_run net items ≡ map seen_of answers → CountsNet net items c
+    → counted_text instants c.emitted c.paused ≡ summary_text instants answers
+counts-seen answers net items instants c same counts =
+    let first : c.emitted ≡ emitted_count answers = counts.emitted ∙ ap (λ l. present_count (map shown_answer l)) same ∙ emitted-seen answers in
+    let second : c.paused ≡ paused_count answers = counts.paused ∙ ap (λ l. pause_count (map shown_answer l)) same ∙ paused-seen answers in
+    ap₂ (counted_text instants) first second

@@ -1,0 +1,223 @@
+-- What the answers of the steps say of the whole call.
+use Rattle.std.proofs.Common.{◌≡◌, ℕ, ◌+◌, ◌<◌, ◌≤◌, ◌⊎◌, List, [], ◌++◌, length, Option, None, Some, Result, Ok, Err, Vec, inl, inr, refl, sym, ap, subst, arith}
+use Rattle.std.proofs.Common.{◌∙◌}
+use Rattle.std.proofs.lemmas.List.{length-replicate}
+use Rattle.std.specs.Prelude.{⊤, codes, replicate, unwrap_or}
+use Rattle.std.specs.declared.alloc.Global.{Global}
+use Rattle.est_base.specs.declared.bounds.TheConstants.Limits.{SOURCE_BYTES, TRACE_BYTES, TEXT_BYTES}
+use Rattle.est_base.specs.declared.files.reading.FileFault.{FileFault}
+use Rattle.est_base.specs.declared.files.reading.FileFault.TheVariants as reading
+use Rattle.est_base.specs.declared.sinks.writing.SinkFault.{SinkFault}
+use Rattle.est_base.specs.Faults.{Rose}
+use Rattle.est_base.specs.Reading.{Reads, Counts, Keeps}
+use Rattle.est_base.specs.Writing.{Appends, Stops, Wrote}
+use Rattle.trace_run.specs.Running.{Sinks}
+use Rattle.cec_core.specs.declared.jobs.Task.{Task}
+use Rattle.cec_core.specs.declared.jobs.Task.TheVariants.{Blif, C, Grc, Check}
+use Rattle.cec_core.specs.declared.outcome.Outcome.{Outcome}
+use Rattle.cec_core.specs.declared.outcome.Outcome.TheVariants.{Done, Usage, FileFault as Unread, Static, Cyclic, Trace, BadText, Limit, WriteFault, NoMemory}
+use Rattle.cec_core.specs.declared.outcome.Which.TheVariants.{First, Second}
+use Rattle.cec_core.specs.declared.refusal.Limit as bounds
+use Rattle.cec_core.specs.declared.refusal.Limit.TheVariants as limits
+use Rattle.cec_core.specs.declared.refusal.Refusal as refused
+use Rattle.cec_core.specs.declared.refusal.Refusal.TheVariants as refusals
+use Rattle.cec_core.specs.Answers.{IsAnswer, IsAnswerOf}
+use Rattle.cec_core.specs.Contents.{Content, IsHeld, Holds}
+use Rattle.cec_core.specs.Jobs.{Job, Request, Help, Make, Run, Exec, Generate, Load}
+use Rattle.cec_core.specs.Lines.{Subject, line_of, IsSourceSubject, IsSubjectOf, GainsErr}
+use Rattle.cec_core.specs.Outcomes.{MakesOn, AgreesOnFile, Agrees, IsFileOf, CountsFiles, LeavesText, IsTextOf, GainsOut}
+use Rattle.cec_core.specs.Refusals.{IsRefused}
+use Rattle.cec_core.specs.Sources.{IsSource}
+use Rattle.cec_core.specs.Statuses.{outcome_of}
+use Rattle.cec_core.specs.Subjects.{unread_outcome}
+
+-- what was written of a line: the whole, or a prefix after a fault
+pub whole_or_front : (old new : Option (List ℕ)) (before now : ℕ) (line : List ℕ) (answer : Result (Unit {0}) SinkFault) → Wrote old new before now line answer
+    → Appends old new before now line ⊎ Stops old new before now line
+whole_or_front old new before now line (Ok done) h = inl h
+whole_or_front old new before now line (Err fault) h = inr h
+
+-- ---- bytes under a name
+
+-- the bytes that were read are those that the file holds
+pub held_read : (content : Content) (name : List ℕ) (limit : ℕ) (bytes : Vec ℕ Global) → Reads content name limit (Ok bytes)
+    → IsHeld content name bytes.items
+held_read None name limit bytes read = tt
+held_read (Some held) name limit bytes read = read.0
+
+-- and they are within the limit
+pub short_read : (content : Content) (name : List ℕ) (limit : ℕ) (bytes : Vec ℕ Global) → Reads content name limit (Ok bytes)
+    → length bytes.items ≤ limit
+short_read None name limit bytes read = read
+short_read (Some held) name limit bytes read = subst (λ (b : List ℕ). length b ≤ limit) (sym read.0) read.1
+
+some_long : (limit : ℕ) → (bytes : List ℕ) × (limit < length bytes)
+some_long limit = (replicate (limit + 1) 0, omega (arith, length-replicate {A = ℕ} (limit + 1) 0))
+
+-- where a file is too long, more than the limit stand there
+pub long_unread : (content : Content) (name : List ℕ) (limit : ℕ) → Reads content name limit (Err reading.TooLong)
+    → Holds content name (λ bytes. limit < length bytes)
+long_unread None name limit read = let long = some_long limit in (long.0, tt, long.1)
+long_unread (Some held) name limit read = (held name, refl, read)
+
+pub some_bytes : (content : Content) (name : List ℕ) → Holds content name (λ bytes. ⊤)
+some_bytes None name = ([], tt, tt)
+some_bytes (Some held) name = (held name, refl, tt)
+
+-- ---- a source that was read
+
+pub make_agrees : (content : Content) (job : Job) (outcome : Outcome) (bytes : List ℕ) → IsHeld content job.name bytes → MakesOn job.main outcome bytes
+    → Agrees (Some (Make job)) content outcome
+make_agrees content job Done bytes held m = (bytes, held, m)
+make_agrees content job Usage bytes held m = absurd m
+make_agrees content job (Unread file) bytes held m = absurd m
+make_agrees content job (Static fault) bytes held m = (bytes, held, m)
+make_agrees content job (Cyclic cycle) bytes held m = (bytes, held, m)
+make_agrees content job (Trace fault) bytes held m = absurd m
+make_agrees content job (BadText fault) bytes held m = absurd m
+make_agrees content job (Limit quantity) bytes held m = (bytes, held, m)
+make_agrees content job WriteFault bytes held m = (bytes, held, m)
+make_agrees content job NoMemory bytes held m = (bytes, held, m)
+
+pub make_counts : (job : Job) (outcome : Outcome) (bytes : List ℕ) (before now : ℕ) (failed_before failed_now : List ℕ) → MakesOn job.main outcome bytes
+    → Keeps before now failed_before failed_now → CountsFiles (Some (Make job)) outcome before now failed_before failed_now
+make_counts job Done bytes before now failed_before failed_now m k = (k.faults, k.failed)
+make_counts job Usage bytes before now failed_before failed_now m k = absurd m
+make_counts job (Unread file) bytes before now failed_before failed_now m k = absurd m
+make_counts job (Static fault) bytes before now failed_before failed_now m k = (k.faults, k.failed)
+make_counts job (Cyclic cycle) bytes before now failed_before failed_now m k = (k.faults, k.failed)
+make_counts job (Trace fault) bytes before now failed_before failed_now m k = absurd m
+make_counts job (BadText fault) bytes before now failed_before failed_now m k = absurd m
+make_counts job (Limit quantity) bytes before now failed_before failed_now m k = (k.faults, k.failed)
+make_counts job WriteFault bytes before now failed_before failed_now m k = (k.faults, k.failed)
+make_counts job NoMemory bytes before now failed_before failed_now m k = (k.faults, k.failed)
+
+pub make_out : (content : Content) (job : Job) (outcome : Outcome) (bytes : List ℕ) (s : Sinks) → IsHeld content job.name bytes
+    → LeavesText (IsAnswer job bytes) s outcome → GainsOut (Some (Make job)) content outcome s
+make_out content job Done bytes s held l = (l.0, (bytes, held, l.1), l.2)
+make_out content job Usage bytes s held l = l
+make_out content job (Unread file) bytes s held l = l
+make_out content job (Static fault) bytes s held l = l
+make_out content job (Cyclic cycle) bytes s held l = l
+make_out content job (Trace fault) bytes s held l = l
+make_out content job (BadText fault) bytes s held l = l
+make_out content job (Limit quantity) bytes s held l = l
+make_out content job WriteFault bytes s held l = (l.0, (bytes, held, l.1), l.2)
+make_out content job NoMemory bytes s held l = l
+
+-- what a line speaks of where the source was read
+pub source_subject : (content : Content) (job : Job) (bytes : List ℕ) (x : Subject) → IsHeld content job.name bytes → x.name ≡ job.name
+    → x.main ≡ unwrap_or job.main [] → x.source ≡ bytes → IsSourceSubject job content x
+source_subject content job bytes x held name main source = (name, main, subst (IsHeld content job.name) (sym source) held)
+
+-- ---- a source that was not read
+
+pub make_agrees_unread : (content : Content) (job : Job) (fault : FileFault) → Reads content job.name SOURCE_BYTES (Err fault)
+    → Agrees (Some (Make job)) content (unread_outcome First limits.Source fault)
+make_agrees_unread content job reading.Failed read = tt
+make_agrees_unread content job reading.TooLong read = long_unread content job.name SOURCE_BYTES read
+make_agrees_unread content job reading.NoMemory read = some_bytes content job.name
+
+-- of any command whose first file this is
+pub counts_unread : (request : Request) (name : List ℕ) (limit : bounds.Limit) (fault : FileFault) (before now : ℕ) (failed_before failed_now : List ℕ)
+    → ((n : List ℕ) → n ≡ name → IsFileOf request First n)
+    → Counts before now failed_before failed_now name (Err fault)
+    → CountsFiles (Some request) (unread_outcome First limit fault) before now failed_before failed_now
+counts_unread request name limit reading.Failed before now failed_before failed_now is k = (k.faults, is failed_now k.failed)
+counts_unread request name limit reading.TooLong before now failed_before failed_now is k = (k.faults, k.failed)
+counts_unread request name limit reading.NoMemory before now failed_before failed_now is k = (k.faults, k.failed)
+
+pub make_out_unread : (content : Content) (job : Job) (fault : FileFault) (s : Sinks) → Appends s.before s.after s.faults_before s.faults_now []
+    → GainsOut (Some (Make job)) content (unread_outcome First limits.Source fault) s
+make_out_unread content job reading.Failed s a = a
+make_out_unread content job reading.TooLong s a = a
+make_out_unread content job reading.NoMemory s a = a
+
+-- the bytes that a file holds, where that is told
+held_by : Content → List ℕ → List ℕ
+held_by None name = []
+held_by (Some held) name = held name
+
+held_told : (content : Content) (name : List ℕ) → IsHeld content name (held_by content name)
+unfolding held_by
+held_told None name = tt
+held_told (Some held) name = refl
+
+-- the line speaks of the file's name alone
+same_line : (fault : FileFault) (x y : Subject) → x.name ≡ y.name → line_of x (unread_outcome First limits.Source fault) ≡ line_of y (unread_outcome First limits.Source fault)
+same_line reading.Failed x y e = ap (λ name. codes "cec: " ++ ((codes "cannot read " ++ name) ++ codes "\n")) e
+same_line reading.TooLong x y e = refl
+same_line reading.NoMemory x y e = refl
+
+-- the subject that speaks of a source that was not read
+abbrev unread_subject : Content → Job → List ℕ → Subject
+unread_subject content job trace = record { name = job.name; trace = trace; main = unwrap_or job.main []; source = held_by content job.name }
+
+pub err_unread : (request : Request) (content : Content) (job : Job) (trace : List ℕ) (fault : FileFault) (x : Subject) (old new : Option (List ℕ)) (before now : ℕ)
+    → ((y : Subject) → IsSourceSubject job content y → y.trace ≡ trace → IsSubjectOf (Some request) content y)
+    → x.name ≡ job.name
+    → Appends old new before now (line_of x (unread_outcome First limits.Source fault)) ⊎ Stops old new before now (line_of x (unread_outcome First limits.Source fault))
+    → GainsErr (Some request) content (unread_outcome First limits.Source fault) old new before now
+err_unread request content job trace fault x old new before now is name gains =
+    let y = unread_subject content job trace in
+    record {
+      subject = y;
+      is_subject = is y (refl, refl, held_told content job.name) refl;
+      gains = subst (λ line. Appends old new before now line ⊎ Stops old new before now line) (same_line fault x y name) gains;
+    }
+
+-- ---- what is made of a source
+
+-- a job that has an answer has a source
+pub answer_source : (job : Job) (source text : List ℕ) → length source ≤ SOURCE_BYTES → IsAnswer job source text → IsSource job.main source
+answer_source job source text short a = by_task job.task a
+  where
+    by_task : (task : Task) → IsAnswerOf task source job.main text → IsSource job.main source
+    by_task Blif b = record { program = b.program; short = short; source = b.source; compiles = b.compiles }
+    by_task C b = record { program = b.program; short = short; source = b.source; compiles = b.compiles }
+    by_task Grc b = record { program = b.program; short = short; source = b.source; compiles = b.compiles }
+    by_task Check b = record { program = b.program; short = short; source = b.source; compiles = b.compiles }
+
+pub refused_makes : (job : Job) (refusal : refused.Refusal) (source : List ℕ) → length source ≤ SOURCE_BYTES → IsRefused source job.main refusal
+    → MakesOn job.main (outcome_of refusal) source
+refused_makes job (refusals.Static fault) source short r = record { short = short; refused = r }
+refused_makes job (refusals.Cyclic cycle) source short r = record { short = short; refused = r }
+refused_makes job (refusals.Limit limits.Source) source short r = r
+refused_makes job (refusals.Limit limits.Trace) source short r = absurd r
+refused_makes job (refusals.Limit limits.Text) source short r = absurd r
+refused_makes job (refusals.Limit limits.Nesting) source short r = record { short = short; refused = r }
+refused_makes job (refusals.Limit limits.Statements) source short r = record { short = short; refused = r }
+refused_makes job (refusals.Limit limits.Signals) source short r = record { short = short; refused = r }
+refused_makes job (refusals.Limit limits.Kernel) source short r = record { short = short; refused = r }
+refused_makes job (refusals.Limit limits.Height) source short r = record { short = short; refused = r }
+refused_makes job (refusals.Limit limits.Traps) source short r = record { short = short; refused = r }
+refused_makes job (refusals.Limit limits.Instances) source short r = record { short = short; refused = r }
+refused_makes job (refusals.Limit limits.Wires) source short r = record { short = short; refused = r }
+refused_makes job refusals.NoMemory source short r = tt
+
+pub refused_leaves : (Is : List ℕ → Type 0) (refusal : refused.Refusal) (s : Sinks) → Appends s.before s.after s.faults_before s.faults_now []
+    → LeavesText Is s (outcome_of refusal)
+refused_leaves Is (refusals.Static fault) s a = a
+refused_leaves Is (refusals.Cyclic cycle) s a = a
+refused_leaves Is (refusals.Limit quantity) s a = a
+refused_leaves Is refusals.NoMemory s a = a
+
+-- ---- commands that speak of no source
+
+pub err_alone : (asked : Option Request) (content : Content) (outcome : Outcome) (x : Subject) (old new : Option (List ℕ)) (before now : ℕ)
+    → IsSubjectOf asked content x
+    → Appends old new before now (line_of x outcome) ⊎ Stops old new before now (line_of x outcome) → GainsErr asked content outcome old new before now
+err_alone asked content outcome x old new before now is gains = record { subject = x; is_subject = is; gains = gains }
+
+pub err_usage : (asked : Option Request) (content : Content) (x : Subject) (old new : Option (List ℕ)) (before now : ℕ) → None ≡ asked
+    → Appends old new before now (line_of x Usage) ⊎ Stops old new before now (line_of x Usage) → GainsErr asked content Usage old new before now
+err_usage asked content x old new before now e gains = record { subject = x; is_subject = subst (λ a. IsSubjectOf a content x) e tt; gains = gains }
+
+-- no request ends as words without a meaning do
+pub no_usage : (request : Request) (content : Content) → Agrees (Some request) content Usage → ⊥
+no_usage Help content a = a
+no_usage (Make job) content a = a.2
+no_usage (Run job trace) content a = a.2
+no_usage (Exec text trace) content a = a.2
+no_usage (Generate start branches) content a = a
+no_usage (Load start branches instants) content a = a

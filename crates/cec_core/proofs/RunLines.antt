@@ -1,0 +1,70 @@
+-- The lines of a compiled program's netlist over a trace are those of the program's own run.
+use Rattle.std.proofs.Common.{◌≡◌, ℕ, List, [], ◌∷◌, length, map, Result, Ok, Err, Option, refl, sym, ap, ◌∙◌, subst, arith, Some, None}
+use Rattle.std.proofs.lemmas.List.{length-take}
+use Rattle.est_base.specs.Items.{Item, Event, Reset, EachEvent}
+use Rattle.est_base.specs.Relations.{Relation, MeetsAll}
+use Rattle.est_kernel.specs.Plain.{Program, given_count, given_names, outgoing_names}
+use Rattle.est_kernel.specs.Reactions.{Answer}
+use Rattle.est_kernel.specs.WellFormed.{IsWellFormed}
+use Rattle.net_ir.specs.Netlists.{Netlist, output_names}
+use Rattle.trace_io.specs.Traces.{Reading}
+use Rattle.trace_io.specs.Answers.{beginning}
+use Rattle.trace_run.specs.declared.running.RunFault.{RunFault}
+use Rattle.trace_run.specs.declared.running.RunFault.TheVariants.{Trace, Write, NoMemory}
+use Rattle.trace_run.specs.Machines.{answer_lines}
+use Rattle.trace_run.specs.NetRuns.{shown_answer, ShowsNet}
+use Rattle.trace_run.specs.Running.{Sinks, IsFront, RunsTrace}
+use Rattle.trace_run.proofs.Events.{traces-begin, events-fit}
+use Rattle.cec_core.specs.Meaning.{IsEvent, AreItems, seen_of, NetKeeps}
+use Rattle.cec_core.specs.Runs.{line_answer, ShowsRun}
+
+-- what brings one text about brings the other, over the first items of the trace
+runs_along : (W V : List Item → List ℕ → Type 0) (r : Reading) (s : Sinks) (result : Result (Unit {0}) RunFault)
+    → ((items : List Item) (text : List ℕ) → IsFront r items → W items text → V items text) → RunsTrace W r s result → RunsTrace V r s result
+runs_along W V r s (Ok done) f x = (x.0, x.1, x.2, f x.0 x.1 (traces-begin r x.0 None x.2) x.3, x.4)
+runs_along W V r s (Err (Trace fault)) f x = (x.0, x.1, x.2, f x.0 x.1 (traces-begin r x.0 (Some fault) x.2) x.3, x.4)
+runs_along W V r s (Err Write) f x = (x.0, x.1, x.2, f x.0 x.1 x.2 x.3, x.4)
+runs_along W V r s (Err NoMemory) f x = (x.0, x.1, x.2, f x.0 x.1 x.2 x.3, x.4, x.5)
+
+-- the events of a trace are events of the program
+are_items : (p : Program) (n : ℕ) → n ≡ given_count p → (items : List Item) → EachEvent (λ event. (length event ≡ n) × MeetsAll p.relations event) items
+    → AreItems p items
+are_items p n is [] fits = tt
+are_items p n is (Event event ∷ items) fits = (record { wide = fits.0.0 ∙ is; meets = fits.0.1 }, are_items p n is items fits.1)
+are_items p n is (Reset ∷ items) fits = are_items p n is items fits
+
+-- the answers of a run, as a netlist shows them and as a line does
+lines_seen : (answers : List Answer) → map shown_answer (map seen_of answers) ≡ map line_answer answers
+lines_seen [] = refl
+lines_seen (a ∷ answers) = ap (λ l. line_answer a ∷ l) (lines_seen answers)
+
+shows_run : (net : Netlist) (p : Program) → NetKeeps net p → (items : List Item) (text : List ℕ) → AreItems p items
+    → ShowsNet (outgoing_names p) net items text → ShowsRun p items text
+shows_run net p keeps items text fits shows =
+    let found = keeps.runs items fits in
+    record {
+      answers = found.0;
+      constructive = found.1;
+      lines = shows ∙ ap (λ l. answer_lines (outgoing_names p) (map shown_answer l)) found.2
+          ∙ ap (answer_lines (outgoing_names p)) (lines_seen found.0);
+    }
+
+-- What a netlist that keeps what a program means shows over a trace is the program's own run.
+pub runs_program : (net : Netlist) (p : Program) → given_count p ≡ length (given_names p) → NetKeeps net p → (trace : List ℕ) (relations : List Relation)
+    (s : Sinks) (result : Result (Unit {0}) RunFault) → relations ≡ p.relations
+    → RunsTrace (ShowsNet (output_names net) net) (beginning trace net.inputs relations) s result
+    → RunsTrace (ShowsRun p) (beginning trace (given_names p) p.relations) s result
+runs_program net p wide keeps trace relations s result same runs =
+    let by_name = subst (λ names. RunsTrace (ShowsNet names net) (beginning trace net.inputs relations) s result) keeps.outputs runs in
+    let by_input = subst (λ given. RunsTrace (ShowsNet (outgoing_names p) net) (beginning trace given relations) s result) keeps.inputs by_name in
+    let by_relation = subst (λ r. RunsTrace (ShowsNet (outgoing_names p) net) (beginning trace (given_names p) r) s result) same by_input in
+    runs_along (ShowsNet (outgoing_names p) net) (ShowsRun p) (beginning trace (given_names p) p.relations) s result
+    (λ items text front shows.
+    shows_run net p keeps items text
+    (are_items p (length (given_names p)) (sym wide) items (events-fit trace (given_names p) p.relations items front)) shows) by_relation
+
+-- a program has as many names of given signals as given signals
+pub given_wide : (p : Program) → IsWellFormed p → given_count p ≡ length (given_names p)
+given_wide p formed =
+    let fits = formed.interface in
+    omega (arith, fits, length-take (given_count p) p.signals)

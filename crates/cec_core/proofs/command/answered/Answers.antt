@@ -1,0 +1,7 @@
+use Rattle.cec_core.proofs.command.answered.Goals as goal
+
+pub returns-in-Generate-clause-out : goal.returns-in-Generate-clause-out
+returns-in-Generate-clause-out g c = rw c.in-Generate.is c.write_generated-outcome.ensures.out
+
+pub returns-in-Load-clause-out : goal.returns-in-Load-clause-out
+returns-in-Load-clause-out g c = rw c.in-Load.is c.write_load.ensures.out

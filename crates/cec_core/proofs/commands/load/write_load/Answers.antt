@@ -1,0 +1,33 @@
+use Rattle.std.proofs.Common.{[], refl, subst, ◌∙◌}
+use Rattle.est_gen.specs.Sources.{source_text}
+use Rattle.trace_run.specs.Running.{Sinks}
+use Rattle.cec_core.specs.declared.outcome.Outcome.TheVariants as outcomes
+use Rattle.cec_core.specs.declared.refusal.Limit.TheVariants as limits
+use Rattle.cec_core.specs.Lines.{Subject}
+use Rattle.cec_core.specs.Loads.{IsSummary, state_behind}
+use Rattle.cec_core.specs.Outcomes.{LeavesText}
+use Rattle.cec_core.proofs.OneFile.{err_alone}
+use Rattle.cec_core.proofs.commands.load.write_load.Goals as goal
+
+pub returns-in_default-clause-err : goal.returns-in_default-clause-err
+returns-in_default-clause-err g c = λ content.
+    let x : Subject = record { name = []; trace = []; main = []; source = source_text c.args.start c.args.branches } in
+    err_alone _ content outcomes.NoMemory x _ _ _ _ (refl, refl) c.report.ensures
+
+pub returns-then-len-gt-SOURCE_BYTES-clause-err : goal.returns-then-len-gt-SOURCE_BYTES-clause-err
+returns-then-len-gt-SOURCE_BYTES-clause-err g c = λ content.
+    let x : Subject = record { name = []; trace = []; main = []; source = source_text c.args.start c.args.branches } in
+    err_alone _ content (outcomes.Limit limits.Source) x _ _ _ _ (refl, refl) c.report-then-len-gt-SOURCE_BYTES.ensures
+
+pub returns-clause-out : goal.returns-clause-out
+returns-clause-out g c =
+    let s : Sinks = record {
+      before = g.O.Sink.told c.args.out.now;
+      after = g.O.Sink.told c.written-outcome.new.out;
+      faults_before = g.O.Sink.faults c.args.out.now;
+      faults_now = g.O.Sink.faults c.written-outcome.new.out;
+    } in
+    let made = c.in-Ok.ensures in
+    subst (λ x. LeavesText (IsSummary (source_text c.args.start c.args.branches) x c.args.instants) s c.written-outcome.result) made.rest
+    (subst (λ b. LeavesText (IsSummary b c.in-Ok.generated.rest c.args.instants) s c.written-outcome.result) (c.deref.ensures.value ∙ made.source)
+    c.written-outcome.ensures.out)

@@ -1,0 +1,66 @@
+use Rattle.std.proofs.Common.{refl, subst, sym, ◌∙◌}
+use Rattle.est_base.specs.declared.bounds.TheConstants.Limits.{SOURCE_BYTES}
+use Rattle.trace_run.specs.Running.{Sinks}
+use Rattle.cec_core.specs.Answers.{IsAnswer}
+use Rattle.cec_core.specs.declared.refusal.Limit.TheVariants as limits
+use Rattle.cec_core.specs.Jobs.{Make}
+use Rattle.cec_core.specs.JobViews.{plain_job}
+use Rattle.cec_core.specs.Outcomes.{MakesOn, LeavesText}
+use Rattle.cec_core.specs.Subjects.{plain_subject}
+use Rattle.cec_core.proofs.OneFile.{held_read, make_agrees, make_counts, make_out, source_subject, err_alone}
+use Rattle.cec_core.proofs.OneFile.{make_agrees_unread, counts_unread, make_out_unread, err_unread}
+use Rattle.cec_core.proofs.commands.make.make_text.Goals as goal
+
+pub returns-in-Ok-clause-agrees : goal.returns-in-Ok-clause-agrees
+returns-in-Ok-clause-agrees g c =
+    let job = plain_job c.args.job in
+    let content = g.F.Files.content c.args.files.now in
+    make_agrees content job c.written-outcome.result c.in-Ok.source.items (held_read content job.name SOURCE_BYTES c.in-Ok.source c.in-Ok.ensures.bytes)
+    (subst (MakesOn job.main c.written-outcome.result) c.deref.ensures.value c.written-outcome.ensures.agrees)
+
+pub returns-in-Ok-clause-files_counted : goal.returns-in-Ok-clause-files_counted
+returns-in-Ok-clause-files_counted g c =
+    let job = plain_job c.args.job in
+    make_counts job c.written-outcome.result c.deref.result.now _ _ _ _ c.written-outcome.ensures.agrees c.in-Ok.ensures.counts
+
+pub returns-in-Ok-clause-out : goal.returns-in-Ok-clause-out
+returns-in-Ok-clause-out g c =
+    let job = plain_job c.args.job in
+    let content = g.F.Files.content c.args.files.now in
+    let s : Sinks = record {
+      before = g.O.Sink.told c.args.out.now;
+      after = g.O.Sink.told c.written-outcome.new.out;
+      faults_before = g.O.Sink.faults c.args.out.now;
+      faults_now = g.O.Sink.faults c.written-outcome.new.out;
+    } in
+    make_out content job c.written-outcome.result c.in-Ok.source.items s (held_read content job.name SOURCE_BYTES c.in-Ok.source c.in-Ok.ensures.bytes)
+    (subst (λ bytes. LeavesText (IsAnswer job bytes) s c.written-outcome.result) c.deref.ensures.value c.written-outcome.ensures.out)
+
+pub returns-in-Ok-clause-err : goal.returns-in-Ok-clause-err
+returns-in-Ok-clause-err g c =
+    let job = plain_job c.args.job in
+    let content = g.F.Files.content c.args.files.now in
+    let subject = c.subject_of.ensures in
+    err_alone _ content c.written-outcome.result (plain_subject c.subject_of.result) _ _ _ _
+    (source_subject content job c.in-Ok.source.items (plain_subject c.subject_of.result)
+    (held_read content job.name SOURCE_BYTES c.in-Ok.source c.in-Ok.ensures.bytes) subject.name subject.main (subject.source ∙ c.deref-in-Ok.ensures.value))
+    c.report.ensures
+
+pub returns-in-Err-clause-agrees : goal.returns-in-Err-clause-agrees
+returns-in-Err-clause-agrees g c =
+    rw c.unread-outcome.ensures
+    (make_agrees_unread (g.F.Files.content c.args.files.now) (plain_job c.args.job) c.in-Err.fault c.in-Err.ensures.bytes)
+
+pub returns-in-Err-clause-files_counted : goal.returns-in-Err-clause-files_counted
+returns-in-Err-clause-files_counted g c =
+    let job = plain_job c.args.job in
+    rw c.unread-outcome.ensures
+    (counts_unread (Make job) job.name limits.Source c.in-Err.fault _ _ _ _ (λ n is. is) c.in-Err.ensures.counts)
+
+pub returns-in-Err-clause-err : goal.returns-in-Err-clause-err
+returns-in-Err-clause-err g c =
+    let job = plain_job c.args.job in
+    rw c.unread-outcome.ensures
+    (err_unread (Make job) (g.F.Files.content c.args.files.now) job (plain_subject c.subject_of-in-Err.result).trace c.in-Err.fault
+    (plain_subject c.subject_of-in-Err.result) _ _ _ _ (λ y is same. is) c.subject_of-in-Err.ensures.name
+    (rw (← c.unread-outcome.ensures) c.report-in-Err.ensures))

@@ -1,0 +1,44 @@
+use Rattle.std.proofs.Common.{rules, ◌<◌, length, map, ap}
+use Rattle.est_base.specs.declared.bounds.TheConstants.Limits.{TRACE_BYTES, TEXT_BYTES}
+use Rattle.est_base.specs.Relations.{relation_of}
+use Rattle.est_kernel.specs.Plain.{Program}
+use Rattle.net_ir.specs.Runs.{netlist_of}
+use Rattle.cec_core.specs.JobViews.{plain_job}
+use Rattle.cec_core.proofs.OneFile.{held_read}
+use Rattle.cec_core.proofs.RunLines.{given_wide, runs_program}
+use Rattle.cec_core.proofs.TwoFiles.{run_left, long_trace_unread}
+use Rattle.cec_core.proofs.commands.run.source_run.Goals as goal
+
+pub returns-then-len-gt-TEXT_BYTES-clause-agrees : goal.returns-then-len-gt-TEXT_BYTES-clause-agrees
+returns-then-len-gt-TEXT_BYTES-clause-agrees g c =
+    let made = c.in-Ok.made in
+    let long : TEXT_BYTES < length made.1.items = search rules in
+    record {
+      short = c.requires;
+      text = made.1.items;
+      written = record { made = made.0; compiled = c.in-Ok.ensures.compiles; text = c.in-Ok.ensures.text };
+      long = long;
+    }
+
+pub returns-in-Ok-read-clause-out : goal.returns-in-Ok-read-clause-out
+returns-in-Ok-read-clause-out g c =
+    let content = g.F.Files.content c.args.files.now in
+    let s = c.in-Ok.ensures.compiles in
+    let made = c.in-Ok.made.0 in
+    let p = s.program in
+    rw c.run_outcome.ensures
+    (run_left content c.args.trace.now (plain_job c.args.job).main c.args.source.now _ c.run_compiled.result c.in-Ok-read.items.items
+    (held_read content c.args.trace.now TRACE_BYTES c.in-Ok-read.items c.in-Ok-read.ensures.bytes)
+    (record {
+      program = p;
+      short = c.requires;
+      source = s.source;
+      compiles = s.compiled.compiles;
+      ran = runs_program (netlist_of made.net) p (given_wide p s.compiled.formed) s.compiled.keeps c.in-Ok-read.items.items
+          (map relation_of made.graph.program.relations.items) _ c.run_compiled.result (ap (λ (q : Program). q.relations) s.compiled.graph.program)
+          c.run_compiled.ensures;
+    }))
+
+pub returns-in-Err-read-clause-long_trace : goal.returns-in-Err-read-clause-long_trace
+returns-in-Err-read-clause-long_trace g c =
+    rw c.unread.ensures (long_trace_unread (g.F.Files.content c.args.files.now) c.args.trace.now c.in-Err-read.fault c.in-Err-read.ensures.bytes)

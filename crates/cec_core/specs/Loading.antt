@@ -1,0 +1,50 @@
+-- Inner: what is counted of a machine's answers.
+use Rattle.std.specs.Prelude.{◌≡◌, ℕ, zero, suc, ◌+◌, Bool, List, [], ◌∷◌, map, count_by, codes, decimal}
+use Rattle.std.specs.List.{concat}
+use Rattle.est_gen.specs.Draws.{state_after}
+use Rattle.est_base.specs.Items.{Item}
+use Rattle.net_ir.specs.Netlists.{Netlist}
+use Rattle.net_ir.specs.Runs.{net_run}
+use Rattle.trace_io.specs.declared.lines.Word.{Word}
+use Rattle.trace_io.specs.declared.lines.Word.TheVariants.{Paused, Ended, Bare}
+use Rattle.trace_run.specs.Machines.{Answer, Drives}
+use Rattle.trace_run.specs.NetRuns.{shown_answer}
+use Rattle.cec_core.specs.declared.commands.load.Counts.{Counts}
+
+-- how many outgoing signals are present in some instants
+abbrev pub present_count : List Answer → ℕ
+present_count [] = 0
+present_count (a ∷ answers) = count_by (λ b. b) a.present + present_count answers
+
+-- one for a program that is paused
+abbrev pub pause_of : Word → ℕ
+pause_of Paused = 1
+pause_of Ended = 0
+pause_of Bare = 0
+
+abbrev pub pause_count : List Answer → ℕ
+pause_count [] = 0
+pause_count (a ∷ answers) = pause_of a.word + pause_count answers
+
+-- the counts are those of these answers
+pub record CountsOf (answers : List Answer) (c : Counts) : Type 0 where
+  pub emitted : c.emitted ≡ present_count answers
+  pub paused : c.paused ≡ pause_count answers
+
+-- the counts are those of what a machine answers to items, from one state to another
+abbrev pub CountsMachine : {S : Type 0} → (S → List Bool → Answer → S → Type 0) → (S → S → Type 0) → S → S → List Item → Counts → Type 0
+CountsMachine reacts resets old new items c = (answers : List Answer) × Drives reacts resets old items answers new × CountsOf answers c
+
+-- the counts are those of what a net shows over items
+abbrev pub CountsNet : Netlist → List Item → Counts → Type 0
+CountsNet net items c = CountsOf (map shown_answer (net_run net items)) c
+
+-- the state behind some drawn events
+abbrev pub drawn_state : ℕ → ℕ → ℕ
+drawn_state zero x = x
+drawn_state (suc n) x = drawn_state n (state_after 8 x)
+
+-- the three lines, by their numbers
+abbrev pub counted_text : ℕ → ℕ → ℕ → List ℕ
+counted_text instants emitted paused =
+    concat (codes "instants " ∷ decimal instants ∷ codes "\nemitted " ∷ decimal emitted ∷ codes "\npaused " ∷ decimal paused ∷ codes "\n" ∷ [])

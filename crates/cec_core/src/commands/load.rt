@@ -1,0 +1,205 @@
+// The command that runs a generated source over drawn events.
+
+ghost use Rattle.std.specs.Prelude.{◌≡◌, ◌+◌, ◌≤◌, [], length, count_by, Some, None, IfOk, IfErr, OnOk};
+ghost use Rattle.est_gen.specs.Sources.{source_text};
+ghost use Rattle.net_ir.specs.Runs.{netlist_of};
+ghost use Rattle.blif_text.specs.Written.{Means};
+ghost use Rattle.cec_core.specs.Contents.{Content};
+ghost use Rattle.cec_core.specs.Jobs.{Load};
+ghost use Rattle.cec_core.specs.Lines.{GainsErr};
+ghost use Rattle.cec_core.specs.Loads.{IsSummary, drawn_items, state_behind};
+ghost use Rattle.cec_core.specs.Loading.{CountsMachine, CountsNet, counted_text, pause_of};
+ghost use Rattle.cec_core.specs.Outcomes.{LeavesText, MakesOn};
+ghost use Rattle.cec_core.specs.Refusals.{IsRefused};
+
+use crate::answers::joined;
+use crate::commands::run::compiled_text;
+use crate::compiler::Compiled;
+use crate::lines::{Subject, report, subject_of_none};
+use crate::outcome::Outcome;
+use crate::refusal::{Limit, Refusal};
+use blif_text::read_blif;
+use cec_words::Pick;
+use est_base::{Limits, NoMemory, Sink, write_text};
+use est_gen::{Draw, generate_source, next_event};
+use itoa::Buffer;
+use std::alloc::Global;
+use trace_io::Word;
+use trace_run::{BlifRunner, Runner};
+
+/// How many outgoing signals were present in all instants, and how many of the instants ended paused.
+#[derive(Clone, Copy)]
+pub(crate) struct Counts {
+    pub emitted: u64,
+    pub paused: u64,
+}
+
+/// Runs a generated source over so many drawn events, and writes the numbers of the run.
+pub(crate) fn write_load<O: Sink, E: Sink>(
+    alloc: Global,
+    start: u64,
+    branches: u32,
+    instants: u32,
+    out: &mut O,
+    err: &mut E,
+) -> Outcome
+    ensures agrees { MakesOn None result (source_text start branches) }
+    ensures out { LeavesText (IsSummary (source_text start branches) (state_behind start branches) instants)
+        (record {
+          before = O.told out.old;
+          after = O.told out.new;
+          faults_before = O.faults out.old;
+          faults_now = O.faults out.new;
+        })
+        result }
+    ensures err { (content : Content) → GainsErr (Some (Load start branches instants)) content result
+        (E.told err.old) (E.told err.new) (E.faults err.old) (E.faults err.new) }
+{
+    // The words give a number of branches for which there is a source.
+    let Ok(generated) = generate_source(alloc, start, branches) else {
+        report(err, subject_of_none(), &Outcome::NoMemory);
+        return Outcome::NoMemory;
+    };
+    let source = generated.source;
+    if source.len() as u64 > Limits::SOURCE_BYTES {
+        report(err, subject_of_none(), &Outcome::Limit(Limit::Source));
+        return Outcome::Limit(Limit::Source);
+    }
+    let outcome = written(alloc, &source, generated.rest, instants, out);
+    let subject = Subject {
+        name: "",
+        trace: "",
+        main: b"",
+        source: &source,
+    };
+    report(err, subject, &outcome);
+    outcome
+}
+
+// Runs a source over drawn events, and writes the numbers of the run.
+fn written<O: Sink>(alloc: Global, source: &[u8], draw: Draw, instants: u32, out: &mut O) -> Outcome
+    requires { length source.now ≤ Limits.SOURCE_BYTES }
+    ensures agrees { MakesOn None result source.now }
+    ensures out { LeavesText (IsSummary source.now draw instants)
+        (record {
+          before = O.told out.old;
+          after = O.told out.new;
+          faults_before = O.faults out.old;
+          faults_now = O.faults out.new;
+        })
+        result }
+{
+    match summary(alloc, source, draw, instants) {
+        Ok(text) => match write_text(out, &text) {
+            Ok(()) => Outcome::Done,
+            Err(_) => Outcome::WriteFault,
+        },
+        Err(refusal) => Outcome::from(refusal),
+    }
+}
+
+// The numbers of a source's run over drawn events.
+fn summary(alloc: Global, source: &[u8], draw: Draw, instants: u32) -> Result<Vec<u8>, Refusal>
+    requires { length source.now ≤ Limits.SOURCE_BYTES }
+    ensures text { IfOk result (λ text. IsSummary source.now draw instants text.items) }
+    ensures refuses { IfErr result (IsRefused source.now None) }
+{
+    let (compiled, text) = compiled_text(alloc, source, None, Pick::First)?;
+    let counts = drawn_counts(alloc, &compiled, &text, draw, instants)?;
+    let text = summary_text(alloc, instants, counts)?;
+    Ok(text)
+}
+
+// The three lines.
+fn summary_text(alloc: Global, instants: u32, counts: Counts) -> Result<Vec<u8>, NoMemory>
+    ensures { IfOk result (λ text. text.items ≡ counted_text instants counts.emitted counts.paused) }
+{
+    let mut shown = Buffer::new();
+    let mut emitted = Buffer::new();
+    let mut paused = Buffer::new();
+    let text = joined(
+        alloc,
+        &[
+            b"instants ",
+            shown.format(instants).as_bytes(),
+            b"\nemitted ",
+            emitted.format(counts.emitted).as_bytes(),
+            b"\npaused ",
+            paused.format(counts.paused).as_bytes(),
+            b"\n",
+        ],
+    )?;
+    Ok(text)
+}
+
+// What the text of a compiled source shows over drawn events. A generated source has eight inputs and outputs, and no
+// relations.
+fn drawn_counts(
+    alloc: Global,
+    compiled: &Compiled,
+    text: &[u8],
+    draw: Draw,
+    instants: u32,
+) -> Result<Counts, NoMemory>
+    requires { Means text.now (netlist_of compiled.now.net) }
+    ensures inputs { OnOk result (length compiled.now.net.inputs.items ≡ 8) }
+    ensures relations { OnOk result (compiled.now.graph.program.relations.items ≡ []) }
+    ensures counts { IfOk result (CountsNet (netlist_of compiled.now.net) (drawn_items instants draw)) }
+{
+    let net = &compiled.net;
+    if net.inputs.len() != 8
+        || net.outputs.len() != 8
+        || !compiled.graph.program.relations.is_empty()
+    {
+        return Err(NoMemory);
+    }
+    let Ok(blif) = read_blif(alloc, text) else {
+        return Err(NoMemory);
+    };
+    let Ok(mut runner) = BlifRunner::new(alloc, &blif) else {
+        return Err(NoMemory);
+    };
+    let mut draw = draw;
+    Ok(run_drawn(&mut runner, &mut draw, instants))
+}
+
+// Runs a machine over drawn events.
+fn run_drawn<R: Runner>(runner: &mut R, draw: &mut Draw, instants: u32) -> Counts
+    requires each_input { R.input_count runner.old ≡ 8 }
+    requires each_output { R.output_count runner.old ≡ 8 }
+    ensures { CountsMachine R.reacts R.resets runner.old runner.new (drawn_items instants draw.old) result }
+{
+    let mut emitted = 0;
+    let mut paused = 0;
+    for instant in 0..instants {
+        let event = next_event(draw);
+        let word = runner.react(&event);
+        emitted += present_count(runner.outputs());
+        paused += pause_of(word);
+    }
+    Counts { emitted, paused }
+}
+
+// How many signals are present.
+fn present_count(present: &[bool]) -> u64
+    ensures count { result ≡ count_by (λ b. b) present.now }
+    ensures within { result ≤ length present.now }
+{
+    let mut count = 0;
+    for signal in present {
+        if *signal {
+            count += 1;
+        }
+    }
+    count
+}
+
+// One for a program that is paused.
+fn pause_of(word: Word) -> u64
+    ensures { result ≡ pause_of word }
+{
+    match word {
+        Word::Paused => 1,
+        Word::Ended | Word::Bare => 0,
+    }
+}
