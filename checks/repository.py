@@ -92,11 +92,53 @@ def handles_are_none():
     return [] if (TOP / "HANDLES").read_text() == line else ["HANDLES: not its one line"]
 
 
+def columns(name):
+    """The columns that a line of this file may have; none where that is not said."""
+    if name.endswith(".rt") and "/src/" in name:
+        return 120
+    if name.endswith(".antt") and "/specs/" in name:
+        return 120
+    if name.endswith(".antt") and "/proofs/" in name:
+        return 160
+    return None
+
+
+TEXT = re.compile(r'^\s*(b"|#\[tactic|.*codes ".*\\n.*")')
+
+
+def lines_are_short():
+    """No line is longer than its file's columns, but for a written text in quotes, and the forms of an attribute."""
+    found = []
+    for path in tracked():
+        name = path.relative_to(TOP).as_posix()
+        limit = columns(name)
+        if limit is None or not path.is_file():
+            continue
+        for number, line in enumerate(path.read_text().splitlines(), 1):
+            if len(line) > limit and not TEXT.match(line):
+                found.append(f"{name}:{number}: {len(line)} columns")
+    return found
+
+
+def pages_are_whole():
+    """Each crate's page says what is proved, what is tested, and what is neither."""
+    found = []
+    for name in crates():
+        page = TOP / "crates" / name / "README.md"
+        text = page.read_text() if page.exists() else ""
+        for head in ("Proved", "Tested", "Neither"):
+            if f"\n## {head}\n" not in text:
+                found.append(f"crates/{name}/README.md: no part `{head}`")
+    return found
+
+
 CHECKS = [
     ("the repository stands alone", stands_alone, "git"),
     ("every crate is introduced", crates_are_introduced, None),
     ("every edit is named in words", edits_are_named, None),
     ("no handle is allowed", handles_are_none, None),
+    ("lines are short", lines_are_short, "git"),
+    ("every page is whole", pages_are_whole, None),
 ]
 
 

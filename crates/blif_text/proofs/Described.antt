@@ -12,7 +12,7 @@ use Rattle.est_base.specs.Distinct.{all_differ, none_shared}
 use Rattle.net_ir.proofs.Building.{all_differ-append}
 use Rattle.blif_text.specs.Lines.{Line, is_clean, words, read_lines}
 use Rattle.blif_text.specs.Statements.{Statement, Model, Inputs, Outputs, Latch, Names, Row, End, Said, said, said_in, said_by, statement_of}
-use Rattle.blif_text.specs.Statements.{model_of, latch_of, names_of, name_before, table_of, end_of, row_of, bit_of, cells_of}
+use Rattle.blif_text.specs.Statements.{model_of, latch_of, names_of, name_before, table_of, end_of, table_row, bit_of, cells_of}
 use Rattle.blif_text.specs.Circuits.{Circuit, CircuitLatch, Table, circuit_of, inputs_in, outputs_in, latches_in, tables_of, driven_by, used_by, is_among}
 use Rattle.blif_text.specs.Circuits.{first_again, driven_again, not_driven, reading, statements, unless, Fault}
 use Rattle.blif_text.specs.Runs.{driven_names}
@@ -212,7 +212,7 @@ narrow-end : (ws : List (List ℕ)) → NarrowIfSome (end_of ws)
 narrow-end [] = tt
 narrow-end (w ∷ ws) = tt
 
-narrow-row : (w : List ℕ) (ws : List (List ℕ)) → NarrowIfSome (row_of w ws)
+narrow-row : (w : List ℕ) (ws : List (List ℕ)) → NarrowIfSome (table_row w ws)
 narrow-row w [] = narrow-if (is_same_name w (codes "1")) (Some (Row [])) None tt tt
 narrow-row w (v ∷ []) = narrow-if (is_same_name v (codes "1")) (option_map Row (cells_of w)) None
     (elim (cells_of w) as (λ o. NarrowIfSome (option_map Row o)) [ None ↦ tt | Some cells ↦ tt ]) tt

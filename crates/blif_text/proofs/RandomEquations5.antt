@@ -47,7 +47,8 @@ random_103_circuit = circuit (codes "m") (codes "a" ∷ []) (codes "s0" ∷ code
 random_103 : reading (codes ".model " ++ (92 ∷ []) ++ (10 ∷ []) ++ codes "m" ++ (13 ∷ []) ++ (10 ∷ []) ++ codes "# c" ++ (10 ∷ []) ++ codes ".inputs  a"
     ++ (10 ∷ []) ++ codes ".names a g0#c " ++ (92 ∷ []) ++ (10 ∷ []) ++ codes " " ++ (10 ∷ []) ++ codes "1 1" ++ (10 ∷ []) ++ codes ".names  g1 " ++
     (10 ∷ []) ++ codes ".names " ++ (92 ∷ []) ++ (10 ∷ []) ++ codes "g2 # c" ++ (13 ∷ []) ++ (10 ∷ []) ++ codes "1 # c" ++ (10 ∷ []) ++ codes ".latch a s1 0"
-    ++ (10 ∷ []) ++ codes ".outputs " ++ (92 ∷ []) ++ (10 ∷ []) ++ codes "s0 " ++ (92 ∷ []) ++ (10 ∷ []) ++ codes "s1 " ++ (10 ∷ []) ++ codes ".latch  g1  s0  1"
+    ++ (10 ∷ []) ++ codes ".outputs " ++ (92 ∷ []) ++ (10 ∷ []) ++ codes "s0 " ++ (92 ∷ []) ++ (10 ∷ []) ++ codes "s1 " ++ (10 ∷ [])
+    ++ codes ".latch  g1  s0  1"
     ++ (10 ∷ []) ++ codes ".end" ++ (10 ∷ [])) ≡ Ok random_103_circuit
 random_103 = refl
 

@@ -151,7 +151,8 @@ random_183 : reading (codes ".model " ++ (10 ∷ []) ++ codes " " ++ (10 ∷ [])
     ++ (10 ∷ []) ++ codes "s0 " ++ (92 ∷ []) ++ (10 ∷ []) ++ codes "g0" ++ (10 ∷ []) ++ codes "-1" ++ (9 ∷ []) ++ codes "1" ++ (10 ∷ []) ++ codes "0-  1 "
     ++ (10 ∷ []) ++ codes ".inputs a" ++ (13 ∷ []) ++ (10 ∷ []) ++ codes ".inputs " ++ (92 ∷ []) ++ (10 ∷ []) ++ codes "b " ++ (92 ∷ []) ++ (10 ∷ [])
     ++ codes "c # c" ++ (13 ∷ []) ++ (10 ∷ []) ++ codes ".names a s1 g1" ++ (10 ∷ []) ++ codes "01 1" ++ (10 ∷ []) ++ codes "0-" ++ (9 ∷ []) ++ codes
-    "1 # c" ++ (10 ∷ []) ++ codes ".latch" ++ (9 ∷ []) ++ codes "c" ++ (9 ∷ []) ++ codes "s0" ++ (9 ∷ []) ++ codes "1" ++ (10 ∷ []) ++ codes ".latch  a  s1  1 # c"
+    "1 # c" ++ (10 ∷ []) ++ codes ".latch" ++ (9 ∷ []) ++ codes "c" ++ (9 ∷ []) ++ codes "s0" ++ (9 ∷ []) ++ codes "1" ++ (10 ∷ [])
+    ++ codes ".latch  a  s1  1 # c"
     ++ (10 ∷ []) ++ codes ".outputs  b  c " ++ (13 ∷ []) ++ (10 ∷ []) ++ codes "# c" ++ (10 ∷ []) ++ codes ".end" ++ (13 ∷ []) ++ (10 ∷ [])) ≡ Ok
     random_183_circuit
 random_183 = refl

@@ -93,7 +93,8 @@ net_3 : written (record {
   } ∷ []);
 }) ≡ (codes ".model T" ++ (10 ∷ []) ++ codes ".inputs X B A" ++ (10 ∷ []) ++ codes
     ".outputs A.out _paused" ++ (10 ∷ []) ++ codes ".latch _w19 _s0 1" ++ (10 ∷ []) ++ codes ".names X _i0" ++ (10 ∷ []) ++ codes "1 1" ++ (10 ∷ [])
-    ++ codes ".names B _i1" ++ (10 ∷ []) ++ codes "1 1" ++ (10 ∷ []) ++ codes ".names A _i2" ++ (10 ∷ []) ++ codes "1 1" ++ (10 ∷ []) ++ codes ".names _s0 _i1 _w19"
+    ++ codes ".names B _i1" ++ (10 ∷ []) ++ codes "1 1" ++ (10 ∷ []) ++ codes ".names A _i2" ++ (10 ∷ []) ++ codes "1 1" ++ (10 ∷ [])
+    ++ codes ".names _s0 _i1 _w19"
     ++ (10 ∷ []) ++ codes "11 1" ++ (10 ∷ []) ++ codes ".names _w19 A.out" ++ (10 ∷ []) ++ codes "1 1" ++ (10 ∷ []) ++ codes ".names _w19 _paused" ++
     (10 ∷ []) ++ codes "1 1" ++ (10 ∷ []) ++ codes ".end" ++ (10 ∷ []))
 unfolding digits
@@ -121,7 +122,8 @@ net_4 : written (record {
   } ∷ record { op = Or (record { 0 = 4 }) (record { 0 = 4 }); wire = None } ∷ []);
 }) ≡ (codes
     ".model T" ++ (10 ∷ []) ++ codes ".inputs X B" ++ (10 ∷ []) ++ codes ".outputs P2 A _paused" ++ (10 ∷ []) ++ codes ".latch _w0 _s0 0" ++ (10 ∷ [])
-    ++ codes ".names X _i0" ++ (10 ∷ []) ++ codes "1 1" ++ (10 ∷ []) ++ codes ".names B _i1" ++ (10 ∷ []) ++ codes "1 1" ++ (10 ∷ []) ++ codes ".names _s0 _i0 _w38"
+    ++ codes ".names X _i0" ++ (10 ∷ []) ++ codes "1 1" ++ (10 ∷ []) ++ codes ".names B _i1" ++ (10 ∷ []) ++ codes "1 1" ++ (10 ∷ [])
+    ++ codes ".names _s0 _i0 _w38"
     ++ (10 ∷ []) ++ codes "1- 1" ++ (10 ∷ []) ++ codes "-1 1" ++ (10 ∷ []) ++ codes ".names _w0" ++ (10 ∷ []) ++ codes "1" ++ (10 ∷ []) ++ codes
     ".names _i1 _w0 _w24" ++ (10 ∷ []) ++ codes "1- 1" ++ (10 ∷ []) ++ codes "-1 1" ++ (10 ∷ []) ++ codes ".names _s0 _w38 _w32" ++ (10 ∷ []) ++ codes
     "1- 1" ++ (10 ∷ []) ++ codes "-1 1" ++ (10 ∷ []) ++ codes ".names _w0 _w0 _g4" ++ (10 ∷ []) ++ codes "1- 1" ++ (10 ∷ []) ++ codes "-1 1" ++ (10 ∷

@@ -66,10 +66,10 @@ cells_of (c ∷ cs) = cell_before (cell_of c) (cells_of cs)
 
 -- the row of a table with inputs is a word of cells and the word `1`; that of a table without inputs
 -- is the word `1`
-abbrev pub row_of : List ℕ → List (List ℕ) → Option Statement
-row_of word [] = if is_same_name word (codes "1") then Some (Row []) else None
-row_of word (value ∷ []) = if is_same_name value (codes "1") then option_map Row (cells_of word) else None
-row_of word (value ∷ other ∷ more) = None
+abbrev pub table_row : List ℕ → List (List ℕ) → Option Statement
+table_row word [] = if is_same_name word (codes "1") then Some (Row []) else None
+table_row word (value ∷ []) = if is_same_name value (codes "1") then option_map Row (cells_of word) else None
+table_row word (value ∷ other ∷ more) = None
 
 -- what the words of a line say, whatever stands before it
 abbrev pub statement_of : List (List ℕ) → Option Statement
@@ -81,7 +81,7 @@ statement_of (word ∷ rest) =
     else (if is_same_name word (codes ".latch") then latch_of rest
     else (if is_same_name word (codes ".names") then names_of rest
     else (if is_same_name word (codes ".end") then end_of rest
-    else row_of word rest)))))
+    else table_row word rest)))))
 
 -- a line with words, or with a byte that no line may have: its number, and what it says
 pub record Said : Type 0 where

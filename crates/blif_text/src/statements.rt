@@ -2,7 +2,7 @@
 
 ghost use Rattle.std.specs.Prelude.{◌≡◌, ◌<◌, ◌≤◌, ◌∷◌, length, map, IfOk};
 ghost use Rattle.std.specs.Option.{option_map};
-ghost use Rattle.blif_text.specs.Statements.{cell_of, cells_of, bit_of, model_of, latch_of, names_of, row_of};
+ghost use Rattle.blif_text.specs.Statements.{cell_of, cells_of, bit_of, model_of, latch_of, names_of, table_row};
 ghost use Rattle.blif_text.specs.Statements.{statement_of};
 ghost use Rattle.blif_text.specs.PlainStatements.{plain_statement};
 
@@ -106,7 +106,7 @@ fn names(alloc: Global, words: &[&[u8]]) -> Result<Option<Statement>, NoMemory>
 
 // The words of a row: its cells and `1`, or `1` alone.
 fn row(alloc: Global, word: &[u8], words: &[&[u8]]) -> Result<Option<Statement>, NoMemory>
-    ensures { IfOk result (λ s. option_map plain_statement s ≡ row_of word.now (map (λ w. w.now) words.now)) }
+    ensures { IfOk result (λ s. option_map plain_statement s ≡ table_row word.now (map (λ w. w.now) words.now)) }
 {
     match words {
         [] if is(word, b"1") => Ok(Some(Statement::Row(Row {

@@ -1,11 +1,12 @@
 -- What the answers of the steps say of the whole call.
-use Rattle.std.proofs.Common.{◌≡◌, ℕ, ◌<◌, ◌≤◌, ◌⊎◌, List, [], ◌++◌, length, Option, None, Some, Result, Ok, Err, Vec, inl, inr, refl, sym, ap, subst, arith, ⊎_elim}
+use Rattle.std.proofs.Common.{◌≡◌, ℕ, ◌<◌, ◌≤◌, ◌⊎◌, List, [], ◌++◌, length, Option, None, Some, Result, Ok, Err, Vec, inl, inr, refl, sym, ap, subst, arith}
+use Rattle.std.proofs.Common.{⊎_elim}
 use Rattle.std.specs.Prelude.{codes, unwrap_or}
 use Rattle.std.specs.declared.alloc.Global.{Global}
 use Rattle.est_base.specs.declared.bounds.TheConstants.Limits.{SOURCE_BYTES}
-use Rattle.est_base.specs.declared.reading.FileFault.{FileFault}
-use Rattle.est_base.specs.declared.reading.FileFault.TheVariants as reading
-use Rattle.est_base.specs.declared.writing.SinkFault.{SinkFault}
+use Rattle.est_base.specs.declared.files.reading.FileFault.{FileFault}
+use Rattle.est_base.specs.declared.files.reading.FileFault.TheVariants as reading
+use Rattle.est_base.specs.declared.sinks.writing.SinkFault.{SinkFault}
 use Rattle.est_base.specs.Reading.{Reads, Counts, Keeps}
 use Rattle.est_base.specs.Writing.{Appends, Stops, Wrote}
 use Rattle.cec_core.specs.declared.outcome.Outcome.{Outcome}
@@ -31,7 +32,8 @@ whole_or_front old new before now line (Err fault) h = inr h
 -- ---- a file that was read
 
 -- a fact about the bytes that were read is one about those that the file holds
-pub of_bytes : (content : Content) (name : List ℕ) (fact : List ℕ → Type 0) (bytes : Vec ℕ Global) → Reads content name SOURCE_BYTES (Ok bytes) → fact bytes.items
+pub of_bytes : (content : Content) (name : List ℕ) (fact : List ℕ → Type 0) (bytes : Vec ℕ Global) → Reads content name SOURCE_BYTES (Ok bytes) →
+    fact bytes.items
     → OfBytes content name fact
 of_bytes None name fact bytes read f = tt
 of_bytes (Some held) name fact bytes read f = subst fact read.0 f
@@ -82,14 +84,16 @@ err_read content job outcome bytes x old new before now read name main source ga
 
 -- ---- a file that was not read
 
-pub agrees_unread : (content : Content) (job : Job) (fault : FileFault) → Reads content job.name SOURCE_BYTES (Err fault) → Agrees (Some job) content (unread_outcome fault)
+pub agrees_unread : (content : Content) (job : Job) (fault : FileFault) → Reads content job.name SOURCE_BYTES (Err fault) →
+    Agrees (Some job) content (unread_outcome fault)
 agrees_unread content job reading.Failed read = tt
 agrees_unread None job reading.TooLong read = tt
 agrees_unread (Some held) job reading.TooLong read = read
 agrees_unread None job reading.NoMemory read = tt
 agrees_unread (Some held) job reading.NoMemory read = tt
 
-pub counts_unread : (job : Job) (fault : FileFault) (before now : ℕ) (failed_before failed_now : List ℕ) → Counts before now failed_before failed_now job.name (Err fault)
+pub counts_unread : (job : Job) (fault : FileFault) (before now : ℕ) (failed_before failed_now : List ℕ) →
+    Counts before now failed_before failed_now job.name (Err fault)
     → CountsFiles (Some job) (unread_outcome fault) before now failed_before failed_now
 counts_unread job reading.Failed before now failed_before failed_now k = (k.faults, k.failed)
 counts_unread job reading.TooLong before now failed_before failed_now k = (k.faults, k.failed)

@@ -80,7 +80,8 @@ leads_back edges F first last (w ∷ ws) steps closes = (
       closes,
 )
 
-pub shows_cycle : (p : Program) (names : List Wire) (pairs : List WireEdge) (walk : List WireId) (shown : List WireName) → AreEdgesOf names (program_edges p) pairs
+pub shows_cycle : (p : Program) (names : List Wire) (pairs : List WireEdge) (walk : List WireId) (shown : List WireName) →
+    AreEdgesOf names (program_edges p) pairs
     → IsClosedWalk (numbered pairs) (numbers_of walk) → shown ≡ map (λ w. wire_name p (wire_at names w.0)) walk → ShowsCycle p shown
 shows_cycle p names pairs walk shown are closed named = record {
   walk = map (wire_at names) (numbers_of walk);

@@ -62,7 +62,8 @@ own_graph g p h = subst (IsGraphed g) (sym h.graph.program) h
 pub graph_compiles : (g : Graphed) (p : Program) → IsGraphed g p → Compiles p
 graph_compiles g p h = record {
   limits = record { few_instances = h.few; few_wires = h.graph.few };
-  acyclic = acyclic g.graph p g.edges.count g.edges.pairs.items g.ranks.of.items h.graph (program_kernel p h.formed (kernel_of g.graph p h.graph)) h.count h.edges h.ranks;
+  acyclic = acyclic g.graph p g.edges.count g.edges.pairs.items g.ranks.of.items h.graph
+      (program_kernel p h.formed (kernel_of g.graph p h.graph)) h.count h.edges h.ranks;
 }
 
 pub graph_order : (g : Graphed) (p : Program) (order : List WireId) → IsGraphed g p → IsWireOrder g.edges.count g.edges.pairs.items order
@@ -113,21 +114,26 @@ net_wires : (c : Compiled) (p : Program) → IsCompiled c p → (written : List 
 net_wires c p h written means =
     let kernel = program_kernel p h.formed (kernel_of c.graph p h.graph) in
     let inputs = h.keeps.inputs in
-    let wide : given_count p ≡ length (netlist_of c.net).inputs = sym (ap length inputs ∙ omega (arith, length-take (given_count p) p.signals, given-few p h.formed)) in
+    let wide : given_count p ≡ length (netlist_of c.net).inputs = sym
+    (ap length inputs ∙ omega (arith, length-take (given_count p) p.signals, given-few p h.formed)) in
     names_wires c.graph p (netlist_of c.net) h.graph (carriers h.order.each_once) kernel h.compiles.acyclic h.interface h.runs written means inputs wide
   where
-    carriers : ((w : ℕ) → w < length (names_of c.graph) → times c.order.list.items w ≡ 1) → (n : ℕ) → n < length (program_wires p) → Contains (carried c.net.gates.items) n
+    carriers : ((w : ℕ) → w < length (names_of c.graph) → times c.order.list.items w ≡ 1) → (n : ℕ) → n < length (program_wires p) →
+        Contains (carried c.net.gates.items) n
     carriers once n l = order_carried c.order.list.items c.net.gates.items n h.carried (once n (subst (λ ws. n < length ws) (sym h.graph.wires) l))
 
-pub text_stands : (text : List ℕ) (main : Option (List ℕ)) (c : Compiled) (written : List ℕ) → StandsForNet text main c → Means written (netlist_of c.net) → StandsForText text main written
+pub text_stands : (text : List ℕ) (main : Option (List ℕ)) (c : Compiled) (written : List ℕ) → StandsForNet text main c → Means written (netlist_of c.net) →
+    StandsForText text main written
 text_stands text main c written s means = record {
   program = s.program;
   source = s.source;
   compiles = s.compiled.compiles;
-  keeps = text_keeps written (netlist_of c.net) s.program (given-few s.program s.compiled.formed) s.compiled.keeps means (net_wires c s.program s.compiled written means);
+  keeps = text_keeps written (netlist_of c.net) s.program (given-few s.program s.compiled.formed) s.compiled.keeps means
+      (net_wires c s.program s.compiled written means);
 }
 
-pub c_text_stands : (text : List ℕ) (main : Option (List ℕ)) (c : Compiled) (written : List ℕ) → StandsForNet text main c → c_meant.Means written (netlist_of c.net) → StandsForC text main written
+pub c_text_stands : (text : List ℕ) (main : Option (List ℕ)) (c : Compiled) (written : List ℕ) → StandsForNet text main c →
+    c_meant.Means written (netlist_of c.net) → StandsForC text main written
 c_text_stands text main c written s means = record {
   program = s.program;
   source = s.source;
@@ -167,12 +173,15 @@ pub size_counted : (g : Graphed) → IsGraphed g (program_of g.graph.program) �
     → n ≡ size_of (program_of g.graph.program).body
 size_counted g h n e = omega (arith, e, h.formed.body.size)
 
-pub instances_counted : (g : Graphed) → IsGraphed g (program_of g.graph.program) → length g.graph.instances.list.items ≡ length (body_instances (program_of g.graph.program).body)
+pub instances_counted : (g : Graphed) → IsGraphed g (program_of g.graph.program) →
+    length g.graph.instances.list.items ≡ length (body_instances (program_of g.graph.program).body)
 instances_counted g h = sym (length-map g.graph.instances.list.items instance_of) ∙ ap length h.graph.instances
 
-pub counts_pieces : (p : Program) (name nodes pauses instances count : List ℕ) → name ≡ p.name → nodes ≡ decimal (size_of p.body) → pauses ≡ decimal (length (body_leaves p.body))
+pub counts_pieces : (p : Program) (name nodes pauses instances count : List ℕ) → name ≡ p.name → nodes ≡ decimal (size_of p.body) →
+    pauses ≡ decimal (length (body_leaves p.body))
     → instances ≡ decimal (length (body_instances p.body)) → count ≡ decimal (length (program_wires p))
-    → name ++ (codes ": " ++ (nodes ++ (codes " nodes, " ++ (pauses ++ (codes " pauses, " ++ (instances ++ (codes " instances, " ++ (count ++ (codes " wires\n" ++ [])))))))))
+    → name ++ (codes ": " ++ (nodes ++ (codes " nodes, " ++ (pauses
+    ++ (codes " pauses, " ++ (instances ++ (codes " instances, " ++ (count ++ (codes " wires\n" ++ [])))))))))
     ≡ counts_line p
 counts_pieces p name nodes pauses instances count a b c d e = λ i.
     a i ++ (codes ": " ++ (b i ++ (codes " nodes, " ++ (c i ++ (codes " pauses, " ++ (d i ++ (codes " instances, " ++ (e i ++ (codes " wires\n" ++ [])))))))))
@@ -203,5 +212,7 @@ pub walk_fits : (g : Graph) (edges : List Edge) (pairs : List WireEdge) (walk : 
 walk_fits g edges pairs walk are closed k d l =
     let n = length (names_of g) in
     let join : All (λ e. (e.0 < n) × (e.1 < n)) (numbered pairs) = All-map (λ e. (e.0 < n) × (e.1 < n)) plain_edge pairs are.ascending.join in
-    let low : slice_index (numbers_of walk) k < n = walk_within (numbered pairs) (numbers_of walk) n closed join k (omega (arith, l, length-map walk (λ (w : WireId). w.0))) in
-    subst (λ m. (get_or walk k d).0 < m) (length-map g.wires.items (wire_of (instances_of g))) (subst (λ x. x < n) (get_or-map (λ (w : WireId). w.0) walk k d 0 l) low)
+    let low : slice_index (numbers_of walk) k < n = walk_within (numbered pairs) (numbers_of walk) n closed join k
+    (omega (arith, l, length-map walk (λ (w : WireId). w.0))) in
+    subst (λ m. (get_or walk k d).0 < m) (length-map g.wires.items (wire_of (instances_of g)))
+    (subst (λ x. x < n) (get_or-map (λ (w : WireId). w.0) walk k d 0 l) low)

@@ -23,7 +23,7 @@ use Rattle.csub_text.specs.Written as meant
 use Rattle.csub_text.specs.Written.{input_variable, output_variable, shown_by_call}
 use Rattle.std.specs.Prelude.{codes}
 use Rattle.cec_core.specs.Cycles.{IsAcyclic}
-use Rattle.cec_core.specs.Meaning.{IsEvent, AreItems, seen_of, NetKeeps, NamesWires, row_of, TextKeeps, call_of, CTextKeeps}
+use Rattle.cec_core.specs.Meaning.{IsEvent, AreItems, seen_of, NetKeeps, NamesWires, shown_values, TextKeeps, call_of, CTextKeeps}
 
 -- each event has a truth value per given signal
 pub widths : (p : Program) (n : ℕ) → given_count p ≡ n → (items : List Item) → AreItems p items → EachEvent (λ event. length event ≡ n) items
@@ -64,16 +64,18 @@ net_keeps g p net formed kernel no_loop graph acyclic interface follows = record
 }
 
 -- the rows of what is seen, one after another
-map-row : (answers : List Answer) → map row_of (map seen_of answers) ≡ map (λ a. row_of (seen_of a)) answers
+map-row : (answers : List Answer) → map shown_values (map seen_of answers) ≡ map (λ a. shown_values (seen_of a)) answers
 map-row [] = refl
-map-row (a ∷ answers) = ap (λ l. row_of (seen_of a) ∷ l) (map-row answers)
+map-row (a ∷ answers) = ap (λ l. shown_values (seen_of a) ∷ l) (map-row answers)
 
-map-words : (inputs : List (List ℕ)) (outputs : List NetOut) → map (λ o. output_word inputs o.name) outputs ≡ map (output_word inputs) (map (λ o. o.name) outputs)
+map-words : (inputs : List (List ℕ)) (outputs : List NetOut) → map (λ o. output_word inputs o.name) outputs ≡
+    map (output_word inputs) (map (λ o. o.name) outputs)
 map-words inputs [] = refl
 map-words inputs (o ∷ outputs) = ap (λ l. output_word inputs o.name ∷ l) (map-words inputs outputs)
 
 -- a text that means a net which keeps what a program means keeps it too
-pub text_keeps : (text : List ℕ) (net : Netlist) (p : Program) → given_count p ≤ length p.signals → NetKeeps net p → (means : Means text net) → NamesWires means.circuit p → TextKeeps text p
+pub text_keeps : (text : List ℕ) (net : Netlist) (p : Program) → given_count p ≤ length p.signals → NetKeeps net p → (means : Means text net) →
+    NamesWires means.circuit p → TextKeeps text p
 text_keeps text net p few keeps means wires = record {
   circuit = means.circuit;
   reads = means.reads;
@@ -89,7 +91,7 @@ text_keeps text net p few keeps means wires = record {
         constructive = found.1;
         some_run = means.runs items (widths p (length net.inputs) wide items fits);
         one_run = means.one_run items;
-        alike = λ valuations is_run. means.shows items valuations is_run ∙ ap (map row_of) found.2 ∙ map-row found.0;
+        alike = λ valuations is_run. means.shows items valuations is_run ∙ ap (map shown_values) found.2 ∙ map-row found.0;
       };
   wires = wires;
 }

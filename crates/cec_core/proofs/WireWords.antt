@@ -1,5 +1,6 @@
 -- The names of wires in a written text have the values of the wires.
-use Rattle.std.proofs.Common.{◌≡◌, ℕ, zero, suc, ◌+◌, ◌-◌, ◌<◌, ◌≤◌, Bool, true, false, List, [], ◌∷◌, ◌++◌, length, map, get_or, Option, Some, None, refl, sym, ap, ◌∙◌, subst, cond, arith}
+use Rattle.std.proofs.Common.{◌≡◌, ℕ, zero, suc, ◌+◌, ◌-◌, ◌<◌, ◌≤◌, Bool, true, false, List, [], ◌∷◌, ◌++◌, length, map, get_or, Option, Some, None, refl, sym}
+use Rattle.std.proofs.Common.{ap, ◌∙◌, subst, cond, arith}
 use Rattle.std.specs.Prelude.{codes, decimal, nat_lt, option_map, option_and_then, slice_get, Contains, if◌then◌else◌}
 use Rattle.std.specs.List.{AllZip, range_with_len, cons_option}
 use Rattle.std.proofs.lemmas.Bool.{le-ltb}
@@ -54,7 +55,8 @@ carrier (g ∷ gates) n c = by_wire (carrier gates n) g.wire refl c
     at_place rest w e (zero, l, s) = record { place = 0; within = omega arith; is = λ x. e ∙ ap (λ k. Some (record { 0 = k })) s }
     at_place rest w e (suc k, l, s) = later g gates n (rest (k, omega (arith, l), s))
 
-    by_wire : (Contains (carried gates) n → Carrier gates n) → (o : Option WireId) → g.wire ≡ o → Contains (cons_option (option_map (λ w. w.0) g.wire) (carried gates)) n
+    by_wire : (Contains (carried gates) n → Carrier gates n) → (o : Option WireId) → g.wire ≡ o →
+        Contains (cons_option (option_map (λ w. w.0) g.wire) (carried gates)) n
         → Carrier (g ∷ gates) n
     by_wire rest None e c = later g gates n (rest (subst (λ o. Contains (cons_option (option_map (λ w. w.0) o) (carried gates)) n) e c))
     by_wire rest (Some w) e c = at_place rest w e (subst (λ o. Contains (cons_option (option_map (λ w. w.0) o) (carried gates)) n) e c)
@@ -84,7 +86,8 @@ word_of net n c =
     = ap (λ o. option_and_then (λ h. h.wire) o) (slice_get-get_or net.gates c.place x c.within) ∙ c.is x in
     ap (λ b. if b then written.input_word i else (if nat_lt i (first_gate net) then written.latch_word (i - length net.inputs)
     else gate_word (i - first_gate net) (written.wire_at net.gates (i - first_gate net)))) no_input
-    ∙ ap (λ b. if b then written.latch_word (i - length net.inputs) else gate_word (i - first_gate net) (written.wire_at net.gates (i - first_gate net))) no_latch
+    ∙ ap (λ b. if b then written.latch_word (i - length net.inputs) else gate_word (i - first_gate net) (written.wire_at net.gates (i - first_gate net)))
+    no_latch
     ∙ ap (λ k. gate_word k (written.wire_at net.gates k)) back ∙ ap (gate_word c.place) there
 
 -- ---- instants
@@ -93,7 +96,8 @@ word_of net n c =
 abbrev by_name : Netlist → (List ℕ → Bool) → List Bool
 by_name net v = map (λ n. v (net_word net n)) (range_with_len 0 (net_count net))
 
-module _ (g : Graph) (p : Program) (net : Netlist) (is : IsGraphOf g p) (carriers : (n : ℕ) → n < length (program_wires p) → Contains (carried net.gates) n) where
+module _ (g : Graph) (p : Program) (net : Netlist) (is : IsGraphOf g p)
+    (carriers : (n : ℕ) → n < length (program_wires p) → Contains (carried net.gates) n) where
   told-once : (v : List ℕ → Bool) (V : Valuation) → Carries g net (by_name net v) V → TellsWires p v V
   told-once v V c n l = by_carrier (carrier net.gates n (carriers n l))
     where
@@ -101,18 +105,21 @@ module _ (g : Graph) (p : Program) (net : Netlist) (is : IsGraphOf g p) (carrier
       by_carrier k =
           let i = first_gate net + k.place in
           let inside : i < net_count net = omega (arith, k.within) in
-          let value : value_in (by_name net v) i ≡ v (net_word net i) = get_or-map-range_with_len (λ m. v (net_word net m)) 0 (net_count net) i i false inside (omega arith) in
+          let value : value_in (by_name net v) i ≡ v (net_word net i) =
+          get_or-map-range_with_len (λ m. v (net_word net m)) 0 (net_count net) i i false inside (omega arith) in
           let x = any_in net.gates k.place k.within in
           let carried_value : value_in (by_name net v) i ≡ V (graphs.wire_at (names_of g) n) = c k.place x (record { 0 = n }) k.within (k.is x) in
           sym (ap v (word_of net n k)) ∙ sym value ∙ carried_value ∙ ap (λ names. V (graphs.wire_at names n)) is.wires
 
-  told-all : (valuations : List (List ℕ → Bool)) (Vs : List Valuation) → EachInstant (Carries g net) (map (by_name net) valuations) Vs → AllZip (TellsWires p) valuations Vs
+  told-all : (valuations : List (List ℕ → Bool)) (Vs : List Valuation) → EachInstant (Carries g net) (map (by_name net) valuations) Vs →
+      AllZip (TellsWires p) valuations Vs
   told-all [] [] h = tt
   told-all [] (V ∷ Vs) h = absurd h
   told-all (v ∷ valuations) [] h = absurd h
   told-all (v ∷ valuations) (V ∷ Vs) h = (told-once v V h.0, told-all valuations Vs h.1)
 
-  pub names_wires : IsKernel p.body → IsAcyclic p → HasInterfaceOf g net → FollowsRuns g net → (text : List ℕ) → (means : Means text net) → net.inputs ≡ given_names p
+  pub names_wires : IsKernel p.body → IsAcyclic p → HasInterfaceOf g net → FollowsRuns g net → (text : List ℕ) → (means : Means text net) →
+      net.inputs ≡ given_names p
       → given_count p ≡ length net.inputs → NamesWires means.circuit p
   names_wires kernel acyclic interface follows text means inputs wide = record {
     latches =
@@ -127,9 +134,16 @@ module _ (g : Graph) (p : Program) (net : Netlist) (is : IsGraphOf g p) (carrier
         record {
           run = one.0.0;
           is_run = run;
-          told = told-all valuations one.0.0 (subst (λ values. EachInstant (Carries g net) values one.0.0) (sym (means.nets items valuations is_run)) followed.carries);
+          told = told-all valuations one.0.0 (subst (λ values. EachInstant (Carries g net) values one.0.0)
+              (sym (means.nets items valuations is_run)) followed.carries);
         };
   }
     where
       latch_count : length net.latches ≡ length (body_leaves p.body) + 1
-      latch_count = omega (arith, sym (length-map net.latches (λ l. l.init)) ∙ ap length interface.latches, length-map g.next.items (λ f. false), next_each g p is)
+      latch_count = omega (
+        arith,
+        sym (length-map net.latches (λ l. l.init))
+            ∙ ap length interface.latches,
+        length-map g.next.items (λ f. false),
+        next_each g p is,
+      )

@@ -40,11 +40,12 @@ pub record NetKeeps (net : Netlist) (p : Program) : Type 0 where
   pub name : net.name ≡ p.name
   pub inputs : net.inputs ≡ given_names p
   pub outputs : output_names net ≡ outgoing_names p
-  pub runs : (items : List Item) → AreItems p items → (answers : List Answer) × (run_of p items ≡ Some answers) × (net_run net items ≡ map seen_of answers)
+  pub runs : (items : List Item) → AreItems p items →
+      (answers : List Answer) × (run_of p items ≡ Some answers) × (net_run net items ≡ map seen_of answers)
 
 -- the values of an instant's outputs, and then of `_paused`
-abbrev pub row_of : Shown → List Bool
-row_of s = s.outputs ++ s.paused ∷ []
+abbrev pub shown_values : Shown → List Bool
+shown_values s = s.outputs ++ s.paused ∷ []
 
 -- The compiler-correctness theorem for one list of items: the run of the semantics is constructive in each
 -- instant; the text has a run by BLIF's meaning, and any two runs agree on every driven name; in each
@@ -54,8 +55,10 @@ pub record RunsAlike (circuit : Circuit) (p : Program) (items : List Item) : Typ
   pub answers : List Answer
   pub constructive : run_of p items ≡ Some answers
   pub some_run : (valuations : List (List ℕ → Bool)) × IsRun circuit items valuations
-  pub one_run : (us vs : List (List ℕ → Bool)) → IsRun circuit items us → IsRun circuit items vs → map (λ u. map u (driven_names circuit)) us ≡ map (λ v. map v (driven_names circuit)) vs
-  pub alike : (valuations : List (List ℕ → Bool)) → IsRun circuit items valuations → map (λ v. map v circuit.outputs) valuations ≡ map (λ a. row_of (seen_of a)) answers
+  pub one_run : (us vs : List (List ℕ → Bool)) → IsRun circuit items us → IsRun circuit items vs →
+      map (λ u. map u (driven_names circuit)) us ≡ map (λ v. map v (driven_names circuit)) vs
+  pub alike : (valuations : List (List ℕ → Bool)) → IsRun circuit items valuations →
+      map (λ v. map v circuit.outputs) valuations ≡ map (λ a. shown_values (seen_of a)) answers
 
 -- ---- wires by name
 
@@ -67,7 +70,8 @@ wire_word n = codes "_w" ++ decimal n
 abbrev pub TellsWires : Program → (List ℕ → Bool) → Valuation → Type 0
 TellsWires p v V = (n : ℕ) → n < length (program_wires p) → v (wire_word n) ≡ V (wire_at (program_wires p) n)
 
--- The graph of the program has a run over the items, from instant to instant the solution of its equations, which is the
+-- The graph of the program has a run over the items, from instant to instant the solution of its equations, which is
+-- the
 -- walk of the state that is reached; and in each instant the names tell its wires.
 pub record WiresTold (p : Program) (items : List Item) (valuations : List (List ℕ → Bool)) : Type 0 where
   pub run : List Valuation
@@ -78,11 +82,13 @@ pub record WiresTold (p : Program) (items : List Item) (valuations : List (List 
 -- program's graph by their numbers.
 pub record NamesWires (circuit : Circuit) (p : Program) : Type 0 where
   pub latches : length circuit.latches ≡ length (body_leaves p.body) + 1
-  pub wires : (items : List Item) → AreItems p items → (valuations : List (List ℕ → Bool)) → IsRun circuit items valuations → WiresTold p items valuations
+  pub wires : (items : List Item) → AreItems p items → (valuations : List (List ℕ → Bool)) →
+      IsRun circuit items valuations → WiresTold p items valuations
 
 -- The compiler-correctness theorem: a text has a reading by the BLIF profile with the program's name and
 -- given signals, and its outgoing signals and then `_paused`, in declared order, and runs alike over every
--- list of items. An outgoing signal that is given too is marked as an output. It names the wires of the program's graph.
+-- list of items. An outgoing signal that is given too is marked as an output. It names the wires of the program's
+-- graph.
 pub record TextKeeps (text : List ℕ) (p : Program) : Type 0 where
   pub circuit : Circuit
   pub reads : reading text ≡ Ok circuit
@@ -105,7 +111,8 @@ pub record CallsAlike (machine : Machine) (p : Program) (items : List Item) : Ty
   pub constructive : run_of p items ≡ Some answers
   pub alike : run machine items ≡ map call_of answers
 
--- The compiler-correctness theorem for a C text: it describes a program of the C subset with one variable for each given
+-- The compiler-correctness theorem for a C text: it describes a program of the C subset with one variable for each
+-- given
 -- and each outgoing signal, in declared order, and over every list of items its machine shows what the program's
 -- reactions do.
 pub record CTextKeeps (text : List ℕ) (p : Program) : Type 0 where

@@ -1,5 +1,6 @@
 -- To believe: what each outcome of the top call says.
-use Rattle.std.specs.Prelude.{◌≡◌, ℕ, ◌≤◌, ◌⊎◌, List, [], ◌++◌, length, Option, Some, None, codes, map, unwrap_or, ◌<◌, ⊤}
+use Rattle.std.specs.Prelude.{◌≡◌, ℕ, ◌≤◌, ◌⊎◌, List, [], ◌++◌, length, Option, Some, None, codes, map, unwrap_or, ◌<◌}
+use Rattle.std.specs.Prelude.{⊤}
 use Rattle.est_base.specs.declared.bounds.TheConstants.Limits.{SOURCE_BYTES}
 use Rattle.est_base.specs.Faults.{Rose}
 use Rattle.est_base.specs.Writing.{Appends, Stops}
@@ -8,7 +9,8 @@ use Rattle.grc_graph.specs.PlainWireNames.{wire_name_of}
 use Rattle.cec_front.specs.Lines.{fault_text}
 use Rattle.cec_front.specs.Sources.{StandsFor}
 use Rattle.cec_core.specs.declared.outcome.Outcome.{Outcome}
-use Rattle.cec_core.specs.declared.outcome.Outcome.TheVariants.{Done, Usage, FileFault, Static, Cyclic, Limit, WriteFault, NoMemory}
+use Rattle.cec_core.specs.declared.outcome.Outcome.TheVariants.{Done, Usage, FileFault, Static, Cyclic, Limit}
+use Rattle.cec_core.specs.declared.outcome.Outcome.TheVariants.{WriteFault, NoMemory}
 use Rattle.cec_core.specs.declared.refusal.Limit as bounds
 use Rattle.cec_core.specs.declared.refusal.Refusal as refused
 use Rattle.cec_core.specs.declared.refusal.Limit.TheVariants as limits
@@ -73,8 +75,10 @@ IsText job content text = OfBytes content job.name (λ bytes. IsAnswer job bytes
 -- What `out` gained: the whole text, with no fault; a prefix of it, after a fault or where memory ran
 -- out; after every other outcome nothing.
 abbrev pub GainsOut : Option Job → Content → Outcome → Option (List ℕ) → Option (List ℕ) → ℕ → ℕ → Type 0
-GainsOut (Some job) content Done old new before now = (text : List ℕ) × IsText job content text × Appends old new before now text
-GainsOut (Some job) content WriteFault old new before now = (text : List ℕ) × IsText job content text × Stops old new before now text
+GainsOut (Some job) content Done old new before now = (text : List ℕ) × IsText job content text
+    × Appends old new before now text
+GainsOut (Some job) content WriteFault old new before now = (text : List ℕ) × IsText job content text
+    × Stops old new before now text
 GainsOut job content others old new before now = Appends old new before now []
 
 -- ---- the line on `err`
@@ -119,7 +123,8 @@ IsSubjectOf (Some job) content x =
     (x.name ≡ job.name) × (x.main ≡ unwrap_or job.main []) × OfBytes content job.name (λ bytes. x.source ≡ bytes)
 
 -- What `err` gained: the whole line, or a prefix of it where its count of faults rose.
-pub record GainsErr (asked : Option Job) (content : Content) (outcome : Outcome) (old new : Option (List ℕ)) (before now : ℕ) : Type 0 where
+pub record GainsErr (asked : Option Job) (content : Content) (outcome : Outcome) (old new : Option (List ℕ))
+    (before now : ℕ) : Type 0 where
   pub subject : Subject
   pub is_subject : IsSubjectOf asked content subject
   pub gains : Appends old new before now (line_of subject outcome) ⊎ Stops old new before now (line_of subject outcome)

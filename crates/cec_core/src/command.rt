@@ -21,7 +21,8 @@ use std::alloc::Global;
 ///
 /// `blif FILE` reads the source under that name and writes its BLIF text to `out`, `c FILE` its C text, `grc FILE` the
 /// listing of its graph, and `check FILE` a line of counts. `--main M` names the main module, `--pick first`,
-/// `--pick last` or `--pick N` says how the evaluation order of a text is chosen. Every other list of words is `Usage`. For every outcome but `Done` one
+/// `--pick last` or `--pick N` says how the evaluation order of a text is chosen. Every other list of words is `Usage`.
+/// For every outcome but `Done` one
 /// line goes to `err`; a write to `err` that fails changes no outcome.
 ///
 /// For `Done` of `blif` the compiler-correctness theorem holds of the text that `out` gained (`TextKeeps`): it has a
@@ -39,7 +40,8 @@ pub fn cec<F: Files, O: Sink, E: Sink>(
 ) -> Outcome
     ensures usage { (result ≡ Outcome.Usage) ↔ (job_by (map string_bytes words.now) ≡ None) }
     ensures agrees { Agrees (job_by (map string_bytes words.now)) (F.content files.old) result }
-    ensures files_counted { CountsFiles (job_by (map string_bytes words.now)) result (F.faults files.old) (F.faults files.new)
+    ensures files_counted { CountsFiles (job_by (map string_bytes words.now)) result (F.faults files.old)
+        (F.faults files.new)
         (F.last_failed files.old) (F.last_failed files.new) }
     ensures files_stay { F.content files.new ≡ F.content files.old }
     ensures out { GainsOut (job_by (map string_bytes words.now)) (F.content files.old) result
@@ -135,8 +137,10 @@ fn written<O: Sink>(alloc: Global, job: Job<'_>, source: &[u8], out: &mut O) -> 
 // The line of an outcome; a sink that fails changes nothing.
 fn report<E: Sink>(err: &mut E, subject: Subject<'_>, outcome: &Outcome)
     requires { length subject.source.now ≤ Limits.SOURCE_BYTES }
-    ensures { Appends (E.told err.old) (E.told err.new) (E.faults err.old) (E.faults err.new) (line_of (plain_subject subject.entry) outcome.now)
-        ⊎ Stops (E.told err.old) (E.told err.new) (E.faults err.old) (E.faults err.new) (line_of (plain_subject subject.entry) outcome.now) }
+    ensures { Appends (E.told err.old) (E.told err.new) (E.faults err.old) (E.faults err.new)
+        (line_of (plain_subject subject.entry) outcome.now)
+        ⊎ Stops (E.told err.old) (E.told err.new) (E.faults err.old) (E.faults err.new)
+        (line_of (plain_subject subject.entry) outcome.now) }
 {
     let _ = put_line(err, subject, outcome);
 }

@@ -5,7 +5,8 @@ ghost use Rattle.est_kernel.specs.CodeLists.{AreCodesOf};
 ghost use Rattle.est_kernel.specs.Plain.{program_of, term_of};
 ghost use Rattle.est_kernel.specs.StaticCodes.{NoInstantLoop};
 ghost use Rattle.est_kernel.specs.WellFormed.{IsWellFormed, HasNames};
-ghost use Rattle.cec_core.specs.Compiling.{IsGraphed, IsCompiled, StandsForGraph, StandsForNet, StandsForText, StandsForC, IsBlifOf, IsCOf};
+ghost use Rattle.cec_core.specs.Compiling.{IsGraphed, IsCompiled, StandsForGraph, StandsForNet, StandsForText};
+ghost use Rattle.cec_core.specs.Compiling.{StandsForC, IsBlifOf, IsCOf};
 ghost use Rattle.cec_core.specs.Refusals.{HasNoText, IsRefused};
 
 use crate::cycles::cycle_of;
@@ -57,7 +58,8 @@ pub fn blif_of<P: Picker>(
     picker: &mut P,
 ) -> Result<Vec<u8>, Refusal>
     requires { length text.now ≤ Limits.SOURCE_BYTES }
-    ensures compiles { IfOk result (λ written. StandsForText text.now (option_map (λ m. m.now) main.entry) written.items) }
+    ensures compiles { IfOk result (λ written. StandsForText text.now
+        (option_map (λ m. m.now) main.entry) written.items) }
     ensures made { IfOk result (λ written. IsBlifOf text.now (option_map (λ m. m.now) main.entry) written.items) }
     ensures refuses { IfErr result (IsRefused text.now (option_map (λ m. m.now) main.entry)) }
 {

@@ -35,7 +35,8 @@ pub(crate) fn cycle_of(
 ) -> Result<Cycle, NoMemory>
     requires wires { names_of graph.now ≡ program_wires (program_of graph.now.program) }
     requires count { edges.now.count ≡ length graph.now.wires.items }
-    requires edges { AreEdgesOf (names_of graph.now) (program_edges (program_of graph.now.program)) edges.now.pairs.items }
+    requires edges { AreEdgesOf (names_of graph.now)
+        (program_edges (program_of graph.now.program)) edges.now.pairs.items }
     requires closed { IsClosedWalk (numbered edges.now.pairs.items) (numbers_of walk.now) }
     ensures { IfOk result (λ c. ShowsCycle (program_of graph.now.program) (map wire_name_of c.wires.items)) }
 {

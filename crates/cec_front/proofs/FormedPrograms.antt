@@ -20,7 +20,8 @@ use Rattle.cec_front.specs.Sources.{main_module, Flattens, Expands}
 use Rattle.cec_front.proofs.Named.{modules_named}
 
 -- the main module stands among the modules
-main_stands : (main : Option (List ℕ)) (tree : source.Program) (m : source.Module) → main_module main tree ≡ Some m → (place : ℕ) × (slice_get tree place ≡ Some m)
+main_stands : (main : Option (List ℕ)) (tree : source.Program) (m : source.Module) → main_module main tree ≡ Some m →
+    (place : ℕ) × (slice_get tree place ≡ Some m)
 main_stands main tree m is = go (main_place main (module_names tree)) is
   where
     go : (found : Option ℕ) → option_and_then (λ place. slice_get tree place) found ≡ Some m → (place : ℕ) × (slice_get tree place ≡ Some m)
@@ -42,15 +43,18 @@ pub flattens-flat : (text : List ℕ) (main : Option (List ℕ)) (flat : Flat) �
 flattens-flat text main flat f =
     let m = f.main_one in
     let tree = f.tree in
-    let faultless : interface_faults m.decls ≡ [] = of_main (λ m. interface_faults m.decls ≡ []) main tree m f.is_main (λ k d low. faultless-interface main tree k d f.declares.names low) in
-    let written : expanding.IsNamedModule m = of_main expanding.IsNamedModule main tree m f.is_main (λ k d low. All-get_or expanding.IsNamedModule tree k d low (modules_named text tree f.declares.reads)) in
+    let faultless : interface_faults m.decls ≡ [] = of_main (λ m. interface_faults m.decls ≡ []) main tree m f.is_main
+    (λ k d low. faultless-interface main tree k d f.declares.names low) in
+    let written : expanding.IsNamedModule m = of_main expanding.IsNamedModule main tree m f.is_main
+    (λ k d low. All-get_or expanding.IsNamedModule tree k d low (modules_named text tree f.declares.reads)) in
     let fits = IfOk-at_ok expanding.IsFlat f.flat_form (flattened-fits m tree faultless) in
     let named = IfOk-at_ok expanding.IsNamed f.flat_form (flattened-named m tree written) in
     record {
       interface = fits.interface;
       room = fits.room;
       body = fits.body;
-      relations = All-weaker (expanding.RelatesGiven (flat.inputs + flat.both)) (kernel.RelatesGiven (flat.inputs + flat.both)) (relates_given (flat.inputs + flat.both)) flat.relations fits.relations;
+      relations = All-weaker (expanding.RelatesGiven (flat.inputs + flat.both)) (kernel.RelatesGiven (flat.inputs + flat.both))
+          (relates_given (flat.inputs + flat.both)) flat.relations fits.relations;
       name = named.name;
       names = named.names;
       differ = fits.differ;

@@ -16,6 +16,7 @@ get_there (m ∷ program) (suc place) within = get_there program place (omega ar
 pub main_there : (main : Option (List ℕ)) (program : Program) (place : ℕ) → main_place main (module_names program) ≡ Some place
     → (m : Module) × (slice_get program place ≡ Some m) × (main_module main program ≡ Some m)
 main_there main program place is =
-    let within : place < length program = subst (λ n. place < n) (length-map program (λ m. m.name.text)) (main_place-within main (module_names program) place is) in
+    let within : place < length program = subst (λ n. place < n) (length-map program (λ m. m.name.text))
+    (main_place-within main (module_names program) place is) in
     let found = get_there program place within in
     (found.0, found.1, ap (option_and_then (λ k. slice_get program k)) is ∙ found.1)

@@ -1,5 +1,6 @@
 -- The names of a source's modules and of their interfaces are names: a letter, and then letters, digits and `_`.
-use Rattle.std.proofs.Common.{◌≡◌, ℕ, zero, suc, ◌+◌, ◌<◌, ◌≤◌, Bool, true, ◌&&◌, List, [], ◌∷◌, ◌++◌, length, take, drop, get_or, Option, Some, None, refl, ◌∙◌, ap, subst, arith}
+use Rattle.std.proofs.Common.{◌≡◌, ℕ, zero, suc, ◌+◌, ◌<◌, ◌≤◌, Bool, true, ◌&&◌, List, [], ◌∷◌, ◌++◌, length, take, drop, get_or, Option, Some, None, refl}
+use Rattle.std.proofs.Common.{◌∙◌, ap, subst, arith}
 use Rattle.std.specs.Prelude.{⊤, IsTrue, flat_map}
 use Rattle.std.proofs.lemmas.Bool.Decides.{nat_tests}
 use Rattle.std.proofs.lemmas.List.Elements.{All-nil, All-cons, All-head, All-tail, All-rest, All-same, All-append, All-take, All-drop, All-map}
@@ -51,7 +52,8 @@ word_is_name (byte ∷ text) (suc n) word =
     and_true (is_letter byte) (list_all is_name_byte (take n text)) (letter_is byte word.letter)
     (name_bytes_are text n (omega (arith, word.within)) (λ k below. word.name_bytes (suc k) (omega arith)))
 
-made_name : (part : Part) (text : List ℕ) (width : ℕ) (n : List ℕ) → Begins part text width → Makes part (take width text) (Some (kinds.Ident n)) → IsTrue (is_name n)
+made_name : (part : Part) (text : List ℕ) (width : ℕ) (n : List ℕ) → Begins part text width → Makes part (take width text) (Some (kinds.Ident n)) →
+    IsTrue (is_name n)
 made_name Word text width n begins makes = ap is_name makes.0 ∙ word_is_name text width begins
 made_name Space text width n begins makes = absurd makes
 made_name LineComment text width n begins makes = absurd makes
@@ -63,7 +65,8 @@ abbrev text_in : Option Name → List ℕ
 text_in None = []
 text_in (Some n) = n.text
 
-kind_named : (text : List ℕ) (width : ℕ) (span : Span) (kind : Kind) (n : Name) → IsFront text width (Some kind) → name_at span kind ≡ Some n → IsTrue (is_name n.text)
+kind_named : (text : List ℕ) (width : ℕ) (span : Span) (kind : Kind) (n : Name) → IsFront text width (Some kind) → name_at span kind ≡ Some n →
+    IsTrue (is_name n.text)
 kind_named text width span (kinds.Ident bytes) n front is =
     subst (λ t. IsTrue (is_name t)) (ap text_in is) (made_name front.part text width bytes front.longest.begins front.makes)
 kind_named text width span (kinds.Reserved other) n front is = absurd (cc)
@@ -116,7 +119,8 @@ led_given : {X : Type 0} (test : Token → Option X) (L : X → List Token → T
 led_given test L Q behind tokens named led =
     behind led.value led.rest (All-rest IsNamed led.token led.rest tokens led.cut named) led.behind
 
-steps_given : {A : Type 0} (S : Option A → List Token → Type 0) (Q : A → Type 0) → ((a : A) → Gives (S (Some a)) (Q a)) → (list : List A) → Gives (Steps S list) (All Q list)
+steps_given : {A : Type 0} (S : Option A → List Token → Type 0) (Q : A → Type 0) → ((a : A) → Gives (S (Some a)) (Q a)) → (list : List A) →
+    Gives (Steps S list) (All Q list)
 steps_given S Q each [] tokens named spelled = All-nil Q
 steps_given S Q each (a ∷ others) tokens named spelled =
     let both = both_given (S (Some a)) (Steps S others) (Q a) (All Q others) (each a) (steps_given S Q each others) tokens named spelled in
@@ -178,7 +182,8 @@ named_module m name_is decls = record {
 module_given : (m : Module) → Gives (SpellsModule m) (IsNamedModule m)
 module_given m tokens named spelled =
     let Behind : List Token → Type 0 = Then (Many SpellsDecl m.decls) (Then (Spells Whole m.body) EndsModule) in
-    let parts = led_given (word words.Module) (λ _. Then (One name m.name) (Led (mark marks.Colon) (λ _. Behind))) (IsNameThere m.name × (All DeclaresNames m.decls × ⊤))
+    let parts = led_given (word words.Module) (λ _. Then (One name m.name) (Led (mark marks.Colon) (λ _. Behind)))
+    (IsNameThere m.name × (All DeclaresNames m.decls × ⊤))
     (λ _. both_given (One name m.name) (Led (mark marks.Colon) (λ _. Behind)) (IsNameThere m.name) (All DeclaresNames m.decls × ⊤) (name_given m.name)
     (led_given (mark marks.Colon) (λ _. Behind) (All DeclaresNames m.decls × ⊤)
     (λ _. both_given (Many SpellsDecl m.decls) (Then (Spells Whole m.body) EndsModule) (All DeclaresNames m.decls) ⊤

@@ -15,7 +15,15 @@ few_from [] text rest start cut = omega arith
 few_from (piece ∷ pieces) text rest start cut =
     let fits = front_fits text piece.width piece.token cut.0 in
     let behind = few_from pieces (drop piece.width text) rest (start + piece.width) cut.1 in
-    omega (arith, fits.0, fits.1, behind, length-drop piece.width text, at_most_one start piece.width piece.token, length-append (token_at start piece.width piece.token) (tokens_from (start + piece.width) pieces))
+    omega (
+      arith,
+      fits.0,
+      fits.1,
+      behind,
+      length-drop piece.width text,
+      at_most_one start piece.width piece.token,
+      length-append (token_at start piece.width piece.token) (tokens_from (start + piece.width) pieces),
+    )
 
 pub few_tokens : (text : List ℕ) (tokens : List Token) → LexesAs text (Tokens tokens) → length tokens ≤ length text
 few_tokens text tokens lexes = subst (λ ts. length ts ≤ length text) (sym lexes.comes_to.1) (few_from lexes.pieces text lexes.rest 0 lexes.cut)

@@ -15,7 +15,8 @@ use Rattle.cec_front.specs.Positions.{position}
 -- a text about a place of a source
 abbrev pub placed : List ℕ → ℕ → List ℕ → List ℕ
 placed source place text =
-    decimal (position source place).line ++ (codes ":" ++ (decimal (position source place).column ++ (codes ": " ++ text)))
+    decimal (position source place).line ++ (codes ":"
+    ++ (decimal (position source place).column ++ (codes ": " ++ text)))
 
 -- a text about the names of a source, where the main module has this name
 abbrev pub name_text : List ℕ → List ℕ → NameFault → List ℕ

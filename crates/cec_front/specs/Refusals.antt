@@ -1,5 +1,6 @@
 -- To believe: why a source has no kernel program. Each refusal is the first fault of the passes in their order: the
--- tokens, the tree, the names, the flat form, the counts, the limits of the kernel program, and its instantaneous loops.
+-- tokens, the tree, the names, the flat form, the counts, the limits of the kernel program, and its instantaneous
+-- loops.
 -- Want of memory has no cause in the source.
 use Rattle.std.specs.Prelude.{◌≡◌, ◌⊎◌, ℕ, ⊤, List, length, slice_index_or, Option, Some, nat_lt, if◌then◌else◌, Err}
 use Rattle.est_base.specs.declared.bounds.TheConstants.Limits.{NESTING}
@@ -41,7 +42,8 @@ no_token = record { kind = kinds.Number 0; span = record { start = 0; end = 0 } 
 
 -- the byte at which a token begins, or the length of the text where no such token is there
 abbrev pub token_place : List ℕ → List Token → ℕ → ℕ
-token_place text tokens n = if nat_lt n (length tokens) then (slice_index_or tokens n no_token).span.start else length text
+token_place text tokens n = if nat_lt n (length tokens) then
+    (slice_index_or tokens n no_token).span.start else length text
 
 -- The text has tokens, but they spell no program of the greatest nesting: this is the first fault.
 pub record Misspells (text : List ℕ) (fault : ParseError) : Type 0 where
@@ -76,7 +78,8 @@ HasExpandFault text main expanding.TooManyStatements = ⊥
 HasExpandFault text main expanding.TooDeep = ⊥
 HasExpandFault text main expanding.TooManySignals = ⊥
 HasExpandFault text main expanding.NoMemory = ⊥
-HasExpandFault text main others = (fault : flattening.Fault) × (fault_of others ≡ Some fault) × Unflattened text main fault
+HasExpandFault text main others = (fault : flattening.Fault) × (fault_of others ≡ Some fault)
+    × Unflattened text main fault
 
 -- ---- the kernel program
 

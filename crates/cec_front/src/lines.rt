@@ -18,7 +18,8 @@ pub struct Subject<'a> {
     pub source: &'a [u8],
 }
 
-/// The line about a refusal: for a static fault its place, by line and column, and what is wrong there. Writing it takes
+/// The line about a refusal: for a static fault its place, by line and column, and what is wrong there. Writing it
+/// takes
 /// no memory; a prefix of the line was appended where the sink failed.
 pub fn put_refusal<E: Sink>(
     err: &mut E,
@@ -183,7 +184,8 @@ fn put_recursive<E: Sink>(
 ) -> Result<(), SinkFault>
     requires { length source.now ≤ Limits.SOURCE_BYTES }
     ensures { Wrote (E.told err.old) (E.told err.new) (E.faults err.old) (E.faults err.new)
-        (codes "cec: " ++ (placed source.now place (codes "recursive run" ++ flat_map (λ name. codes " " ++ name) names.now)
+        (codes "cec: " ++ (placed source.now place (codes "recursive run"
+        ++ flat_map (λ name. codes " " ++ name) names.now)
         ++ codes "\n")) result }
 {
     if let Err(fault) = put_front(err, source, place, b"recursive run") {
@@ -224,7 +226,8 @@ fn put_names<E: Sink>(err: &mut E, names: &[Text]) -> Result<(), SinkFault>
 
 // A space and a name.
 fn put_name<E: Sink>(err: &mut E, name: &Text) -> Result<(), SinkFault>
-    ensures { Wrote (E.told err.old) (E.told err.new) (E.faults err.old) (E.faults err.new) (codes " " ++ name.now) result }
+    ensures { Wrote (E.told err.old) (E.told err.new) (E.faults err.old) (E.faults err.new)
+        (codes " " ++ name.now) result }
 {
     write_pieces(err, &[b" ", name.bytes()])
 }

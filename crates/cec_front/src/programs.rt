@@ -26,7 +26,8 @@ use est_kernel::KernelProgram;
 use est_names::{NameFault, Table, check_modules};
 use std::alloc::Global;
 
-/// The kernel program that a source is expanded into, whether or not it has an instantaneous loop. `main` is the name of
+/// The kernel program that a source is expanded into, whether or not it has an instantaneous loop. `main` is the name
+/// of
 /// the main module; without it that is the first one. A source is refused for its first fault: of its tokens, its tree,
 /// its names, its flat form, its counts, and for what passes its limit.
 pub fn kernel_program(

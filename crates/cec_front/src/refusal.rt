@@ -15,7 +15,8 @@ pub enum Fault {
     /// The digits from this byte on are a number above the greatest of 128 bits.
     BigNumber(u32),
     /// No program has this token where it stands: the token's number from 0, and the byte at which it begins. Where
-    /// every token can stand but the program has not ended, these are the number of tokens and the length of the source.
+    /// every token can stand but the program has not ended, these are the number of tokens and the length of the
+    /// source.
     Syntax(u32, u32),
     /// A name is declared twice, or is no input in a relation, or no module has the main one's.
     Name(NameFault),

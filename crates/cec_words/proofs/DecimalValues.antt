@@ -1,5 +1,6 @@
 -- Numbers that are read digit by digit.
-use Rattle.std.proofs.Common.{◌≡◌, ℕ, ◌+◌, ◌-◌, ◌*◌, ◌^◌, ◌<◌, ◌≤◌, true, false, not, ◌&&◌, nat_lt, List, [], ◌∷◌, length, take, drop, get_or, fold, refl, ap, sym, ◌∙◌, arith, Some, None}
+use Rattle.std.proofs.Common.{◌≡◌, ℕ, ◌+◌, ◌-◌, ◌*◌, ◌^◌, ◌<◌, ◌≤◌, true, false, not, ◌&&◌, nat_lt, List, [], ◌∷◌, length, take, drop, get_or, fold, refl, ap}
+use Rattle.std.proofs.Common.{sym, ◌∙◌, arith, Some, None}
 use Rattle.std.specs.List.{list_all}
 use Rattle.std.proofs.lemmas.Bool.{le-ltb, lt-ltb, and_right}
 use Rattle.std.proofs.lemmas.List.{take-append-drop}
@@ -15,7 +16,8 @@ fold-le n (c ∷ digits) = let more = fold-le (n * 10 + (c - 48)) digits in omeg
 decimal_value-take-le : (digits : List ℕ) (i : ℕ) → decimal_value (take i digits) ≤ decimal_value digits
 decimal_value-take-le digits i =
     let f = λ (m c : ℕ). m * 10 + (c - 48) in
-    let e : decimal_value digits ≡ fold f (decimal_value (take i digits)) (drop i digits) = ap decimal_value (sym (take-append-drop i digits)) ∙ fold-append f 0 (take i digits) (drop i digits) in
+    let e : decimal_value digits ≡ fold f (decimal_value (take i digits)) (drop i digits) = ap decimal_value (sym (take-append-drop i digits))
+    ∙ fold-append f 0 (take i digits) (drop i digits) in
     let more = fold-le (decimal_value (take i digits)) (drop i digits) in
     omega arith
 
@@ -32,7 +34,8 @@ not_empty [] some = absurd (omega arith)
 not_empty (c ∷ bytes) some = refl
 
 -- digits all, and not too great
-pub number-whole : (bytes : List ℕ) (value : ℕ) → 0 < length bytes → value ≡ decimal_value bytes → list_all is_digit bytes ≡ true → value < 2 ^ 64 → Some value ≡ number bytes
+pub number-whole : (bytes : List ℕ) (value : ℕ) → 0 < length bytes → value ≡ decimal_value bytes → list_all is_digit bytes ≡ true → value < 2 ^ 64 →
+    Some value ≡ number bytes
 number-whole bytes value some is digits low =
     let yes = lt-ltb value (2 ^ 64) low in
     rw (← is, not_empty bytes some, digits, yes) refl

@@ -12,12 +12,14 @@ use Rattle.cec_words.specs.Commands.{step_of}
 use Rattle.cec_words.specs.Readings.{Gathered, with_part, after_step, gathered, asked_once}
 use Rattle.cec_words.specs.Slots.{Fills, Overfills, asked_with, HasNoMeaning, Takes}
 
-gathered-cons : (command : Command) (waiting : Option Setting) (at : ℕ) (word : List ℕ) (words : List (List ℕ)) → gathered command waiting at (word ∷ words) ≡ after_step (λ w. gathered command w (at + 1) words) (step_of command waiting at word)
+gathered-cons : (command : Command) (waiting : Option Setting) (at : ℕ) (word : List ℕ) (words : List (List ℕ)) →
+    gathered command waiting at (word ∷ words) ≡ after_step (λ w. gathered command w (at + 1) words) (step_of command waiting at word)
 gathered-cons command None at word words = refl
 gathered-cons command (Some setting) at word words = refl
 
 -- the next word
-gathered-drop : (command : Command) (waiting : Option Setting) (at : ℕ) (words : List (List ℕ)) (k : ℕ) (word : List ℕ) → k < length words → word ≡ get_or words k []
+gathered-drop : (command : Command) (waiting : Option Setting) (at : ℕ) (words : List (List ℕ)) (k : ℕ) (word : List ℕ) → k < length words →
+    word ≡ get_or words k []
     → gathered command waiting at (drop k words) ≡ after_step (λ w. gathered command w (at + 1) (drop (k + 1) words)) (step_of command waiting at word)
 gathered-drop command waiting at words k word low is =
     ap (gathered command waiting at) (drop_more words k [] low) ∙ gathered-cons command waiting at (get_or words k []) (drop (k + 1) words)
@@ -37,17 +39,20 @@ HasNoMeaning-ends old part none command rest = go (rest None)
     go None = refl
     go (Some g) = none command g
 
-module _ (command : Command) (given : Given) (waiting : Option Setting) (at : ℕ) (words : List (List ℕ)) (k : ℕ) (word : List ℕ) (low : k < length words) (is : word ≡ get_or words k []) where
+module _ (command : Command) (given : Given) (waiting : Option Setting) (at : ℕ) (words : List (List ℕ)) (k : ℕ) (word : List ℕ) (low : k < length words)
+    (is : word ≡ get_or words k []) where
   abbrev rest : Option Setting → Option Gathered
   rest w = gathered command w (at + 1) (drop (k + 1) words)
 
-  next : (step : Option Step) → step_of command waiting at word ≡ step → asked_with command given (gathered command waiting at (drop k words)) ≡ asked_with command given (after_step rest step)
+  next : (step : Option Step) → step_of command waiting at word ≡ step →
+      asked_with command given (gathered command waiting at (drop k words)) ≡ asked_with command given (after_step rest step)
   next step e = ap (asked_with command given) (gathered-drop command waiting at words k word low is ∙ ap (after_step rest) e)
 
   pub next-none : step_of command waiting at word ≡ None → asked_with command given (gathered command waiting at (drop k words)) ≡ None
   next-none e = next None e
 
-  pub next-no_meaning : (step : Step) → step_of command waiting at word ≡ Some step → HasNoMeaning given step → asked_with command given (gathered command waiting at (drop k words)) ≡ None
+  pub next-no_meaning : (step : Step) → step_of command waiting at word ≡ Some step → HasNoMeaning given step →
+      asked_with command given (gathered command waiting at (drop k words)) ≡ None
   next-no_meaning step e none = next (Some step) e ∙ none command rest
 
   pub next-takes : (step : Step) (new : Given) (waits : Option Setting) → step_of command waiting at word ≡ Some step → Takes given step new waits

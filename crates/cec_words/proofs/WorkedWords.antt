@@ -32,13 +32,16 @@ words_7 = refl
 words_8 : asked_by (codes "blif" ∷ codes "--main" ∷ codes "-x" ∷ codes "a" ∷ []) ≡ None
 words_8 = refl
 
-words_9 : asked_by (codes "blif" ∷ codes "--main" ∷ codes "x" ∷ codes "a" ∷ []) ≡ Some (asks.Blif (record { file = 3; main = Some (record { word = 2; start = 0 }); pick = First }))
+words_9 : asked_by (codes "blif" ∷ codes "--main" ∷ codes "x" ∷ codes "a" ∷ []) ≡
+    Some (asks.Blif (record { file = 3; main = Some (record { word = 2; start = 0 }); pick = First }))
 words_9 = refl
 
-words_10 : asked_by (codes "blif" ∷ codes "a" ∷ codes "--main" ∷ codes "x" ∷ []) ≡ Some (asks.Blif (record { file = 1; main = Some (record { word = 3; start = 0 }); pick = First }))
+words_10 : asked_by (codes "blif" ∷ codes "a" ∷ codes "--main" ∷ codes "x" ∷ []) ≡
+    Some (asks.Blif (record { file = 1; main = Some (record { word = 3; start = 0 }); pick = First }))
 words_10 = refl
 
-words_11 : asked_by (codes "blif" ∷ codes "--main=x" ∷ codes "a" ∷ []) ≡ Some (asks.Blif (record { file = 2; main = Some (record { word = 1; start = 7 }); pick = First }))
+words_11 : asked_by (codes "blif" ∷ codes "--main=x" ∷ codes "a" ∷ []) ≡
+    Some (asks.Blif (record { file = 2; main = Some (record { word = 1; start = 7 }); pick = First }))
 words_11 = refl
 
 words_12 : asked_by (codes "blif" ∷ codes "--main=" ∷ codes "a" ∷ []) ≡ None
@@ -47,7 +50,8 @@ words_12 = refl
 words_13 : asked_by (codes "blif" ∷ codes "--main=x" ∷ codes "--main" ∷ codes "y" ∷ codes "a" ∷ []) ≡ None
 words_13 = refl
 
-words_14 : asked_by (codes "blif" ∷ codes "--main=-x" ∷ codes "a" ∷ []) ≡ Some (asks.Blif (record { file = 2; main = Some (record { word = 1; start = 7 }); pick = First }))
+words_14 : asked_by (codes "blif" ∷ codes "--main=-x" ∷ codes "a" ∷ []) ≡
+    Some (asks.Blif (record { file = 2; main = Some (record { word = 1; start = 7 }); pick = First }))
 words_14 = refl
 
 words_15 : asked_by (codes "blif" ∷ codes "--pick" ∷ codes "first" ∷ codes "a" ∷ []) ≡ Some (asks.Blif (record { file = 3; main = None; pick = First }))
@@ -56,7 +60,8 @@ words_15 = refl
 words_16 : asked_by (codes "blif" ∷ codes "--pick" ∷ codes "last" ∷ codes "a" ∷ []) ≡ Some (asks.Blif (record { file = 3; main = None; pick = Last }))
 words_16 = refl
 
-words_17 : asked_by (codes "blif" ∷ codes "--pick" ∷ codes "18446744073709551615" ∷ codes "a" ∷ []) ≡ Some (asks.Blif (record { file = 3; main = None; pick = (Drawn 18446744073709551615) }))
+words_17 : asked_by (codes "blif" ∷ codes "--pick" ∷ codes "18446744073709551615" ∷ codes "a" ∷ []) ≡
+    Some (asks.Blif (record { file = 3; main = None; pick = (Drawn 18446744073709551615) }))
 words_17 = refl
 
 words_18 : asked_by (codes "blif" ∷ codes "--pick" ∷ codes "18446744073709551616" ∷ codes "a" ∷ []) ≡ None
@@ -74,7 +79,8 @@ words_21 = refl
 words_22 : asked_by (codes "c" ∷ codes "a" ∷ []) ≡ Some (asks.C (record { file = 1; main = None; pick = First }))
 words_22 = refl
 
-words_23 : asked_by (codes "grc" ∷ codes "--main" ∷ codes "m" ∷ codes "a" ∷ []) ≡ Some (asks.Grc (record { file = 3; main = Some (record { word = 2; start = 0 }); pick = First }))
+words_23 : asked_by (codes "grc" ∷ codes "--main" ∷ codes "m" ∷ codes "a" ∷ []) ≡
+    Some (asks.Grc (record { file = 3; main = Some (record { word = 2; start = 0 }); pick = First }))
 words_23 = refl
 
 words_24 : asked_by (codes "grc" ∷ codes "--pick" ∷ codes "first" ∷ codes "a" ∷ []) ≡ None
@@ -86,7 +92,8 @@ words_25 = refl
 words_26 : asked_by (codes "check" ∷ codes "--main" ∷ codes "m" ∷ codes "--main=n" ∷ codes "a" ∷ []) ≡ None
 words_26 = refl
 
-words_27 : asked_by (codes "run" ∷ codes "--via" ∷ codes "blif" ∷ codes "a" ∷ codes "b" ∷ []) ≡ Some (asks.Run vias.Blif (record { file = 3; main = None; pick = First }) 4)
+words_27 : asked_by (codes "run" ∷ codes "--via" ∷ codes "blif" ∷ codes "a" ∷ codes "b" ∷ []) ≡
+    Some (asks.Run vias.Blif (record { file = 3; main = None; pick = First }) 4)
 words_27 = refl
 
 words_28 : asked_by (codes "run" ∷ codes "a" ∷ codes "b" ∷ []) ≡ None
@@ -95,7 +102,8 @@ words_28 = refl
 words_29 : asked_by (codes "run" ∷ codes "--via" ∷ codes "c" ∷ codes "a" ∷ []) ≡ None
 words_29 = refl
 
-words_30 : asked_by (codes "run" ∷ codes "a" ∷ codes "--via=c" ∷ codes "b" ∷ codes "--pick" ∷ codes "last" ∷ codes "--main" ∷ codes "m" ∷ []) ≡ Some (asks.Run vias.C (record { file = 1; main = Some (record { word = 7; start = 0 }); pick = Last }) 3)
+words_30 : asked_by (codes "run" ∷ codes "a" ∷ codes "--via=c" ∷ codes "b" ∷ codes "--pick" ∷ codes "last" ∷ codes "--main" ∷ codes "m" ∷ []) ≡
+    Some (asks.Run vias.C (record { file = 1; main = Some (record { word = 7; start = 0 }); pick = Last }) 3)
 words_30 = refl
 
 words_31 : asked_by (codes "run" ∷ codes "--via" ∷ codes "grc" ∷ codes "a" ∷ codes "b" ∷ []) ≡ None
@@ -119,7 +127,8 @@ words_36 = refl
 words_37 : asked_by (codes "gen" ∷ codes "--start" ∷ codes "7" ∷ codes "--branches" ∷ codes "401" ∷ []) ≡ None
 words_37 = refl
 
-words_38 : asked_by (codes "gen" ∷ codes "--branches" ∷ codes "400" ∷ codes "--start=7" ∷ codes "--run" ∷ codes "100000" ∷ []) ≡ Some (asks.Gen 7 400 (Some 100000))
+words_38 : asked_by (codes "gen" ∷ codes "--branches" ∷ codes "400" ∷ codes "--start=7" ∷ codes "--run" ∷ codes "100000" ∷ []) ≡
+    Some (asks.Gen 7 400 (Some 100000))
 words_38 = refl
 
 words_39 : asked_by (codes "gen" ∷ codes "--start" ∷ codes "7" ∷ codes "--branches" ∷ codes "1" ∷ codes "--run" ∷ codes "100001" ∷ []) ≡ None

@@ -1,5 +1,6 @@
 -- Inner: the values of slots are the memory of the machine.
-use Rattle.std.proofs.Common.{◌≡◌, ℕ, ◌+◌, ◌<◌, zero, suc, Bool, true, false, not, cond, ◌||◌, ◌&&◌, List, [], ◌∷◌, ◌++◌, length, map, refl, sym, ap, ◌∙◌, subst, arith, Option, Some, None}
+use Rattle.std.proofs.Common.{◌≡◌, ℕ, ◌+◌, ◌<◌, zero, suc, Bool, true, false, not, cond, ◌||◌, ◌&&◌, List, [], ◌∷◌, ◌++◌, length, map, refl, sym, ap, ◌∙◌}
+use Rattle.std.proofs.Common.{subst, arith, Option, Some, None}
 use Rattle.std.proofs.Math.ListN.{set}
 use Rattle.std.specs.Prelude.{slice_set, find, filter, flat_map, if◌then◌else◌}
 use Rattle.std.specs.List.{AllByRecursion}
@@ -11,7 +12,8 @@ use Rattle.std.proofs.lemmas.List.{length-map, length-append, get_or-set_same, g
 use Rattle.est_base.specs.Names.{is_same_name}
 use Rattle.csub_text.specs.Trees.{Expr, Exprs, NoExprs, MoreExprs, State, Assign, Program}
 use Rattle.csub_text.specs.Trees as trees
-use Rattle.csub_text.specs.Names.{is_among, names_in, declared, inputs_of, outputs_of, Use, Assigned, Taken, uses_in, uses, is_wrong, name_found, undeclared, declared_twice, unset, first_again, fault_by, NameFault, Twice, Undeclared, Unset}
+use Rattle.csub_text.specs.Names.{is_among, names_in, declared, inputs_of, outputs_of, Use, Assigned, Taken, uses_in, uses, is_wrong, name_found, undeclared}
+use Rattle.csub_text.specs.Names.{declared_twice, unset, first_again, fault_by, NameFault, Twice, Undeclared, Unset}
 use Rattle.csub_text.specs.Machine.{Memory, with_value, value_of, all_of, any_of, run_body, with_inputs, first_memory, call}
 use Rattle.csub_text.proofs.NetNames.{same-refl, same-eq}
 use Rattle.std.proofs.Common.{All}
@@ -83,12 +85,14 @@ mutual
   all-slots : (names : List (List ℕ)) (values : List Bool) (es : Exprs) → all_values values (all_slotted names es) ≡ all_of (memory_in names values) es
   all-slots names values NoExprs = refl
   all-slots names values (MoreExprs e others) =
-      ap (λ b. b && all_values values (all_slotted names others)) (value-slots names values e) ∙ ap (λ b. value_of (memory_in names values) e && b) (all-slots names values others)
+      ap (λ b. b && all_values values (all_slotted names others)) (value-slots names values e)
+      ∙ ap (λ b. value_of (memory_in names values) e && b) (all-slots names values others)
 
   any-slots : (names : List (List ℕ)) (values : List Bool) (es : Exprs) → any_value values (all_slotted names es) ≡ any_of (memory_in names values) es
   any-slots names values NoExprs = refl
   any-slots names values (MoreExprs e others) =
-      ap (λ b. b || any_value values (all_slotted names others)) (value-slots names values e) ∙ ap (λ b. value_of (memory_in names values) e || b) (any-slots names values others)
+      ap (λ b. b || any_value values (all_slotted names others)) (value-slots names values e)
+      ∙ ap (λ b. value_of (memory_in names values) e || b) (any-slots names values others)
 
 -- a slot that gets a value is a variable that does
 pub set-slot : (names : List (List ℕ)) (values : List Bool) → length values ≡ length names → (x : List ℕ) → is_among x names ≡ true → (v : Bool) →
@@ -96,7 +100,8 @@ pub set-slot : (names : List (List ℕ)) (values : List Bool) → length values 
 set-slot names values wide x among v name =
     let low = slot-low x names among in
     let k = slot_in names x in
-    elim (is_same_name name x) as (λ b. is_same_name name x ≡ b → value_at (slice_set values k v) (slot_in names name) ≡ (if b then v else value_at values (slot_in names name))) [
+    elim (is_same_name name x) as (λ b. is_same_name name x ≡ b → value_at (slice_set values k v) (slot_in names name) ≡
+    (if b then v else value_at values (slot_in names name))) [
       | true ↦ λ e. ap (λ n. value_at (slice_set values k v) (slot_in names n)) (same-eq name x e) ∙ get_or-set_same values k v false (omega (arith, low, wide))
       | false ↦ λ e. get_or-set_other values k (slot_in names name) v false (λ same. let own = sym (slot-own names x name low same) ∙ e in cc)
     ] refl
@@ -116,7 +121,8 @@ put-inputs names [] given values wide all name = refl
 put-inputs names (x ∷ xs) [] values wide all name = refl
 put-inputs names (x ∷ xs) (v ∷ given) values wide all name =
     put-inputs names xs given (slice_set values (slot_in names x) v) (length-set values (slot_in names x) v ∙ wide) all.1 name
-    ∙ inputs-agree xs given (memory_in names (slice_set values (slot_in names x) v)) (with_value x v (memory_in names values)) (set-slot names values wide x all.0 v) name
+    ∙ inputs-agree xs given (memory_in names (slice_set values (slot_in names x) v)) (with_value x v (memory_in names values))
+    (set-slot names values wide x all.0 v) name
 
 abbrev Targets : List (List ℕ) → List Assign → Type 0
 Targets names [] = Unit {0}
@@ -124,7 +130,8 @@ Targets names (a ∷ body) = (is_among a.target names ≡ true) × Targets names
 
 wide-settled : (steps : List PlainStep) (values : List Bool) → length (settled steps values) ≡ length values
 wide-settled [] values = refl
-wide-settled (s ∷ steps) values = wide-settled steps (slice_set values s.slot (slot_value values s.value)) ∙ length-set values s.slot (slot_value values s.value)
+wide-settled (s ∷ steps) values = wide-settled steps (slice_set values s.slot (slot_value values s.value))
+    ∙ length-set values s.slot (slot_value values s.value)
 
 pub settled-body : (names : List (List ℕ)) (body : List Assign) (values : List Bool) → length values ≡ length names → Targets names body →
     Agree (memory_in names (settled (map (step_of names) body) values)) (run_body body (memory_in names values))
@@ -135,7 +142,8 @@ settled-body names (a ∷ body) values wide all name =
     let next = slice_set values (slot_in names a.target) v in
     settled-body names body next (length-set values (slot_in names a.target) v ∙ wide) all.1 name
     ∙ run-agree body (memory_in names next) (with_value a.target (value_of m a.value) m)
-    (λ other. set-slot names values wide a.target all.0 v other ∙ with-agree m m (λ n. refl) a.target v (value_of m a.value) (value-slots names values a.value) other) name
+    (λ other. set-slot names values wide a.target all.0 v other ∙ with-agree m m (λ n. refl) a.target v (value_of m a.value)
+    (value-slots names values a.value) other) name
 
 -- ---- what the rules on names say
 
@@ -193,7 +201,8 @@ targets-among names (a ∷ body) none =
     let known = not-false (is_among a.target names) (or_parts (begins_input a.target) (not (is_among a.target names)) first.0).1 in
     (known, targets-among names body (find-parts (is_wrong names) (map Taken (names_in a.value)) (flat_map uses_in body) first.1).1)
 
-fault-none : (fault : List ℕ → NameFault) (found : Option (List ℕ)) (later : Option NameFault) → fault_by fault found later ≡ None → (found ≡ None) × (later ≡ None)
+fault-none : (fault : List ℕ → NameFault) (found : Option (List ℕ)) (later : Option NameFault) → fault_by fault found later ≡ None →
+    (found ≡ None) × (later ≡ None)
 fault-none fault None later is = (refl, is)
 fault-none fault (Some name) later is = cc
 
@@ -208,7 +217,8 @@ pub targets-declared : (p : Program) → KeepsNames p → Targets (declared p) p
 targets-declared p fits =
     let later = (fault-none Twice (declared_twice p) (fault_by Undeclared (undeclared p) (fault_by Unset (unset p) None)) fits).1 in
     let none = (fault-none Undeclared (undeclared p) (fault_by Unset (unset p) None) later).0 in
-    targets-among (declared p) p.body (find-parts (is_wrong (declared p)) (flat_map uses_in p.body) (map Taken (names_in p.answer)) (found-none (find (is_wrong (declared p)) (uses p)) none)).0
+    targets-among (declared p) p.body (find-parts (is_wrong (declared p)) (flat_map uses_in p.body) (map Taken (names_in p.answer))
+    (found-none (find (is_wrong (declared p)) (uses p)) none)).0
 
 -- ---- slots are in range
 
@@ -238,7 +248,8 @@ called-memory p fits inputs values wide name =
     let slots = map (slot_in names) (inputs_of p) in
     let begun = put_all slots inputs values in
     settled-body names p.body begun (wide-put slots inputs values ∙ wide) (targets-declared p fits) name
-    ∙ run-agree p.body (memory_in names begun) (with_inputs (inputs_of p) inputs (memory_in names values)) (put-inputs names (inputs_of p) inputs values wide (inputs-among p)) name
+    ∙ run-agree p.body (memory_in names begun) (with_inputs (inputs_of p) inputs (memory_in names values))
+    (put-inputs names (inputs_of p) inputs values wide (inputs-among p)) name
 
 -- ---- the first values
 
@@ -250,13 +261,18 @@ false-at (x ∷ xs) ys zero = refl
 false-at (x ∷ xs) ys (suc k) = false-at xs ys k
 
 states-first : (states : List State) (globals locals : List (List ℕ)) →
-    Agree (memory_in ((map (λ s. s.name) states ++ globals) ++ locals) ((map (λ s. s.init) states ++ map (λ _. false) globals) ++ map (λ _. false) locals)) (first_memory states)
+    Agree (memory_in ((map (λ s. s.name) states ++ globals) ++ locals) ((map (λ s. s.init) states ++ map (λ _. false) globals) ++ map (λ _. false) locals))
+    (first_memory states)
 states-first [] globals locals name = false-at globals locals (slot_in (globals ++ locals) name)
 states-first (s ∷ states) globals locals name =
     let names = (map (λ s. s.name) states ++ globals) ++ locals in
     let values = (map (λ s. s.init) states ++ map (λ _. false) globals) ++ map (λ _. false) locals in
-    elim (is_same_name name s.name) as (λ b. value_at (s.init ∷ values) (cond (not b) (1 + slot_in names name) 0) ≡ (if b then s.init else first_memory states name))
-    [ true ↦ refl | false ↦ ap (value_at (s.init ∷ values)) (let e : 1 + slot_in names name ≡ suc (slot_in names name) = omega arith in e) ∙ states-first states globals locals name ]
+    elim (is_same_name name s.name) as (λ b. value_at (s.init ∷ values) (cond (not b) (1 + slot_in names name) 0) ≡
+    (if b then s.init else first_memory states name)) [
+      | true ↦ refl
+      | false ↦ ap (value_at (s.init ∷ values)) (let e : 1 + slot_in names name ≡ suc (slot_in names name) = omega arith in e)
+          ∙ states-first states globals locals name
+    ]
 
 pub first-fresh : (p : Program) → Agree (memory_in (declared p) (first_values p)) (first_memory p.states)
 first-fresh p = states-first p.states p.globals p.locals
@@ -274,7 +290,8 @@ wide-first p =
     omega (arith, a, b, c, d, e, f, g, h)
 
 -- the outputs are those of the memory
-pub through : (names : List (List ℕ)) (values : List Bool) (xs : List (List ℕ)) → map (value_at values) (map (slot_in names) xs) ≡ map (memory_in names values) xs
+pub through : (names : List (List ℕ)) (values : List Bool) (xs : List (List ℕ)) →
+    map (value_at values) (map (slot_in names) xs) ≡ map (memory_in names values) xs
 through names values [] = refl
 through names values (x ∷ xs) = ap (λ l. value_at values (slot_in names x) ∷ l) (through names values xs)
 
@@ -286,12 +303,15 @@ all-parts P f xs all k d h =
     subst P (get_or-map f xs k d (f d) h) (all k (f d) (omega arith))
 
 pub inputs-low : (p : Program) → All (λ k. k < length (declared p)) (map (slot_in (declared p)) (inputs_of p))
-inputs-low p = All-from_recursion (λ k. k < length (declared p)) (map (slot_in (declared p)) (inputs_of p)) (slots-below (declared p) (inputs_of p) (inputs-among p))
+inputs-low p = All-from_recursion (λ k. k < length (declared p)) (map (slot_in (declared p)) (inputs_of p))
+    (slots-below (declared p) (inputs_of p) (inputs-among p))
 
 pub steps-low : (p : Program) → KeepsNames p → All (λ s. s.slot < length (declared p)) (map (step_of (declared p)) p.body)
-steps-low p fits = All-from_recursion (λ s. s.slot < length (declared p)) (map (step_of (declared p)) p.body) (steps-below (declared p) p.body (targets-declared p fits))
+steps-low p fits = All-from_recursion (λ s. s.slot < length (declared p)) (map (step_of (declared p)) p.body)
+    (steps-below (declared p) p.body (targets-declared p fits))
 
-pub reacts-by : (code : CProgram) → KeepsNames (program_of code) → (values inputs after : List Bool) (answer : Bool) → length values ≡ length (declared (program_of code))
+pub reacts-by : (code : CProgram) → KeepsNames (program_of code) → (values inputs after : List Bool) (answer : Bool) →
+    length values ≡ length (declared (program_of code))
     → after ≡ called (program_of code) inputs values → answer ≡ slot_value after (slotted (declared (program_of code)) (program_of code).answer)
     → Reacts (record { code = code; values = values }) inputs answer (record { code = code; values = after })
 reacts-by code fits values inputs after answer wide is returned =
@@ -306,7 +326,8 @@ pub fresh-by : (code : CProgram) (values : List Bool) → values ≡ first_value
 fresh-by code values is name = ap (λ v. memory_in (declared (program_of code)) v name) is ∙ first-fresh (program_of code) name
 
 pub keeps-by : (inside : Inside) → KeepsNames (program_of inside.program.now) → IsPlan (program_of inside.program.now) inside.plan
-    → length inside.values.items ≡ length (declared (program_of inside.program.now)) → inside.outputs.items ≡ map (value_at inside.values.items) inside.plan.outputs.items
+    → length inside.values.items ≡ length (declared (program_of inside.program.now)) →
+    inside.outputs.items ≡ map (value_at inside.values.items) inside.plan.outputs.items
     → KeepsPlan inside
 keeps-by inside fits plan wide shown =
     let p = program_of inside.program.now in

@@ -1,5 +1,6 @@
 -- Inner: names that stand a second time, names among others, and the places of names.
-use Rattle.std.proofs.Common.{◌≡◌, ℕ, ◌+◌, ◌<◌, ◌≤◌, zero, suc, Bool, true, false, not, cond, ◌||◌, List, [], ◌∷◌, ◌++◌, length, map, get_or, take, drop, refl, sym, ap, ◌∙◌, arith, Some, None, inl, inr, nat_lt}
+use Rattle.std.proofs.Common.{◌≡◌, ℕ, ◌+◌, ◌<◌, ◌≤◌, zero, suc, Bool, true, false, not, cond, ◌||◌, List, [], ◌∷◌, ◌++◌, length, map, get_or, take, drop, refl}
+use Rattle.std.proofs.Common.{sym, ap, ◌∙◌, arith, Some, None, inl, inr, nat_lt}
 use Rattle.std.specs.Prelude.{position, unwrap_or, if◌then◌else◌}
 use Rattle.std.specs.List.{list_any, position_or_len, prefix_len}
 use Rattle.std.specs.Cmp.Lexicographic.{nat_list_eq_equiv}
@@ -77,7 +78,8 @@ none-from names once (suc i) low =
     let inside : i < length names = omega (arith, low) in
     let before = none-from names once i (omega (arith, low)) in
     ap (λ m. first_again (take m names) (drop m names)) (sym n)
-    ∙ elim (is_among (get_or names i []) (take i names)) as (λ b. is_among (get_or names i []) (take i names) ≡ b → first_again (take (i + 1) names) (drop (i + 1) names) ≡ None)
+    ∙ elim (is_among (get_or names i []) (take i names)) as (λ b. is_among (get_or names i []) (take i names) ≡ b →
+    first_again (take (i + 1) names) (drop (i + 1) names) ≡ None)
     [ true ↦ λ e. let s = sym (first_again-found names i [] inside e) ∙ before in cc | false ↦ λ e. sym (first_again-step names i [] inside e) ∙ before ] refl
 
 pub new-at : (names : List (List ℕ)) → first_again [] names ≡ None → (i : ℕ) → i < length names → is_among (get_or names i []) (take i names) ≡ false

@@ -9,12 +9,14 @@ use Rattle.csub_text.specs.declared.trees.Expr.TheBlock.{hidden-the_row-Expr-0}
 use Rattle.csub_text.specs.declared.trees.Expr.TheVariants as exprs
 use Rattle.csub_text.specs.Trees.{And, Or, MoreExprs}
 use Rattle.csub_text.specs.Views.{expr_of, exprs_of}
-use Rattle.csub_run.specs.declared.slots.SlotExpr.{SlotExpr, Row_of-SlotExpr, end_of-SlotExpr, more_of-SlotExpr, items-the_row-SlotExpr, items_hidden-the_row-SlotExpr-0}
+use Rattle.csub_run.specs.declared.slots.SlotExpr.{SlotExpr, Row_of-SlotExpr, end_of-SlotExpr, more_of-SlotExpr, items-the_row-SlotExpr}
+use Rattle.csub_run.specs.declared.slots.SlotExpr.{items_hidden-the_row-SlotExpr-0}
 use Rattle.csub_run.specs.declared.slots.SlotExpr.TheBlock.{hidden-the_row-SlotExpr-0}
 use Rattle.csub_run.specs.declared.slots.SlotExpr.TheVariants as nodes
 use Rattle.csub_run.specs.Slots.{exprs as exprs_in}
 use Rattle.csub_run.specs.Runners.{slot_in, value_at}
-use Rattle.csub_run.specs.Slots.{Slotted, Slot, Const, Not, Slotteds, MoreSlotteds, slotted_of, slotteds_of, slotteds, slotted, all_slotted, slot_value, all_values, any_value, slotted_at, plain_slotted, value_in}
+use Rattle.csub_run.specs.Slots.{Slotted, Slot, Const, Not, Slotteds, MoreSlotteds, slotted_of, slotteds_of, slotteds, slotted, all_slotted, slot_value}
+use Rattle.csub_run.specs.Slots.{all_values, any_value, slotted_at, plain_slotted, value_in}
 use Rattle.csub_run.specs.Slots as slots
 
 -- ---- expressions of the program

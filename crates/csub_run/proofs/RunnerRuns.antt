@@ -33,7 +33,8 @@ run-from c r is m same (Reset ∷ items) others d =
     let next = d.0 in
     let resets = d.1 in
     let code = resets.same ∙ is in
-    run-from c next code (first_memory p.states) (λ name. resets.fresh name ∙ ap (λ (k : CProgram). first_memory (program_of k).states name) code) items others d.2
+    run-from c next code (first_memory p.states) (λ name. resets.fresh name ∙ ap (λ (k : CProgram). first_memory (program_of k).states name) code) items others
+    d.2
 
 pub answers-are-runs : AnswersAreRuns
 answers-are-runs r items shown fresh d = run-from r.code r refl (first_memory (program_in r).states) fresh items shown d

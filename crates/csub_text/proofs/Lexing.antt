@@ -31,7 +31,8 @@ pub says-whole : (text : List ℕ) (ks : List Kind) → Says text ks → kinds t
 says-whole text ks says =
     let s = says 0 [] in ap kinds (sym (append-nil text)) ∙ s.1 ∙ append-nil ks
 
-pub says-lines : {X : Type 0} (line : X → List ℕ) (ks : X → List Kind) (xs : List X) → All (λ x. Says (line x) (ks x)) xs → Says (flat_map line xs) (flat_map ks xs)
+pub says-lines : {X : Type 0} (line : X → List ℕ) (ks : X → List Kind) (xs : List X) → All (λ x. Says (line x) (ks x)) xs →
+    Says (flat_map line xs) (flat_map ks xs)
 says-lines line ks [] all at rest = (at, refl)
 says-lines line ks (x ∷ xs) all at rest =
     says-then (line x) (flat_map line xs) (ks x) (flat_map ks xs) (all 0 x (omega arith)) (says-lines line ks xs (λ k d h. all (suc k) d (omega arith))) at rest
@@ -133,7 +134,8 @@ bytes-decimal n small = weaker is_digit is_name_byte (decimal n) digit-name_byte
 pub bytes-name : (name : List ℕ) → is_name name ≡ true → list_all is_name_byte name ≡ true
 bytes-name [] fits = refl
 bytes-name (c ∷ cs) fits =
-    let parts = and_parts (is_letter c) (list_all is_name_byte cs) fits in and_from (is_name_byte c) (list_all is_name_byte cs) (letter-name_byte c parts.0) parts.1
+    let parts = and_parts (is_letter c) (list_all is_name_byte cs) fits in
+    and_from (is_name_byte c) (list_all is_name_byte cs) (letter-name_byte c parts.0) parts.1
 
 -- digits are no word of letters
 no-word : (ds word : List ℕ) → list_all is_digit ds ≡ true → list_all is_digit word ≡ false → is_same_name ds word ≡ false

@@ -1,10 +1,12 @@
 -- What a call of a net's program leaves in the memory: the values of the nets.
-use Rattle.std.proofs.Common.{◌≡◌, ◌≢◌, ℕ, ◌+◌, ◌-◌, ◌<◌, ◌≤◌, ◌==◌, zero, suc, Bool, true, false, not, ◌&&◌, ◌||◌, List, [], ◌∷◌, ◌++◌, length, map, get_or, drop}
+use Rattle.std.proofs.Common.{◌≡◌, ◌≢◌, ℕ, ◌+◌, ◌-◌, ◌<◌, ◌≤◌, ◌==◌, zero, suc, Bool, true, false, not, ◌&&◌, ◌||◌, List, [], ◌∷◌, ◌++◌, length, map, get_or}
+use Rattle.std.proofs.Common.{drop}
 use Rattle.std.proofs.Common.{All, refl, sym, ap, ◌∙◌, subst, arith, Option, Some, None, ◌⊎◌, inl, inr}
 use Rattle.std.specs.Prelude.{filter, if◌then◌else◌}
 use Rattle.std.specs.List.{list_any, list_all}
 use Rattle.std.proofs.lemmas.Bool.{and_parts, or_parts, not-true, cases_lt}
-use Rattle.std.proofs.lemmas.List.{length-map, get_or-map, get_or_default, map-append, length-append, get_or_append_left, get_or-append-add, get_or_push, length_push, ext_get_or, get_or-drop, length-drop}
+use Rattle.std.proofs.lemmas.List.{length-map, get_or-map, get_or_default, map-append, length-append, get_or_append_left, get_or-append-add, get_or_push}
+use Rattle.std.proofs.lemmas.List.{length_push, ext_get_or, get_or-drop, length-drop}
 use Rattle.std.specs.Cmp.Lexicographic.{nat_list_eq_equiv}
 use Rattle.est_base.specs.Names.{is_same_name}
 use Rattle.est_base.specs.Distinct.{all_differ}
@@ -22,10 +24,14 @@ use Rattle.csub_text.specs.Trees.{Expr, Name, Const, Not, And, Or, Exprs, NoExpr
 use Rattle.csub_text.specs.Grammar.{begins_input, begins_output}
 use Rattle.csub_text.specs.Names.{inputs_of, outputs_of, is_among}
 use Rattle.csub_text.specs.Machine.{Memory, with_value, value_of, run_body, with_inputs, first_memory, call, memories_from, seen}
-use Rattle.csub_text.specs.Written.{input_name, state_name, gate_name, next_name, answer_name, net_name, input_variable, output_variable, numbered, net_state, gate_names}
-use Rattle.csub_text.specs.Written.{op_expr, input_assign, gate_assign, next_assign, output_assign, answer_assign, state_assign, net_body, net_program, shown_by_call}
-use Rattle.csub_text.proofs.NetNames.{IsWritable, same-refl, same-eq, mark, differ-marks, length-numbered, get_or-numbered, map-numbered, input_names, state_names}
-use Rattle.csub_text.proofs.NetNames.{next_names, given_variables, shown_variables, marks-inputs, marks-states, marks-nexts, marks-gates, marks-given, marks-shown}
+use Rattle.csub_text.specs.Written.{input_name, state_name, gate_name, next_name, answer_name, net_name, input_variable, output_variable, numbered, net_state}
+use Rattle.csub_text.specs.Written.{gate_names}
+use Rattle.csub_text.specs.Written.{op_expr, input_assign, gate_assign, next_assign, output_assign, answer_assign, state_assign, net_body, net_program}
+use Rattle.csub_text.specs.Written.{shown_by_call}
+use Rattle.csub_text.proofs.NetNames.{IsWritable, same-refl, same-eq, mark, differ-marks, length-numbered, get_or-numbered, map-numbered, input_names}
+use Rattle.csub_text.proofs.NetNames.{state_names}
+use Rattle.csub_text.proofs.NetNames.{next_names, given_variables, shown_variables, marks-inputs, marks-states, marks-nexts, marks-gates, marks-given}
+use Rattle.csub_text.proofs.NetNames.{marks-shown}
 use Rattle.csub_text.proofs.NetNames.{differ-inputs, differ-states, differ-nexts, differ-gates, differ-given, differ-shown}
 use Rattle.csub_text.proofs.NetRules.{net_cases, net_name-input, net_name-state, net_name-gate, any_gate, any_latch, any_output, gate-low}
 
@@ -111,10 +117,12 @@ gate-new net is n i low h =
     net_cases net i (omega arith)
     (λ input. ap (λ x. is_same_name x g) (net_name-input net i input)
     ∙ ap (λ y. is_same_name (input_name i) y) (sym (gate-at net n low))
-    ∙ any-none (is_same_name (input_name i)) (gate_names net) (differ-marks (λ m. m == 105) (input_name i) (gate_names net) refl (marks-gates net (λ m. not (m == 105)) refl refl)) n (omega arith))
+    ∙ any-none (is_same_name (input_name i)) (gate_names net) (differ-marks (λ m. m == 105) (input_name i) (gate_names net) refl
+    (marks-gates net (λ m. not (m == 105)) refl refl)) n (omega arith))
     (λ j state e. ap (λ x. is_same_name x g) (ap (net_name net) e ∙ net_name-state net j state)
     ∙ ap (λ y. is_same_name (state_name j) y) (sym (gate-at net n low))
-    ∙ any-none (is_same_name (state_name j)) (gate_names net) (differ-marks (λ m. m == 115) (state_name j) (gate_names net) refl (marks-gates net (λ m. not (m == 115)) refl refl)) n (omega arith))
+    ∙ any-none (is_same_name (state_name j)) (gate_names net) (differ-marks (λ m. m == 115) (state_name j) (gate_names net) refl
+    (marks-gates net (λ m. not (m == 115)) refl refl)) n (omega arith))
     (λ k gate e. ap (λ x. is_same_name x g) (ap (net_name net) e ∙ net_name-gate net k any_gate gate)
     ∙ ap (λ x. is_same_name x g) (sym (gate-at net k gate)) ∙ ap (λ y. is_same_name (get_or (gate_names net) k []) y) (sym (gate-at net n low))
     ∙ differ-at (gate_names net) (differ-gates net is) k n (omega arith) (omega arith))
@@ -153,11 +161,13 @@ gates-run net is n (g ∷ gates) m values same all wide has i h =
     let value = value_of m (op_expr (net_name net) g.op) in
     let v = op_value (value_in values) g.op in
     let reads : operand_end g.op ≤ first_gate net + n = subst (λ (g : Gate). operand_end g.op ≤ first_gate net + n) (sym here) (gate-low net is n low) in
-    let is-v : value ≡ v = op-expr-value m (net_name net) g.op ∙ op_value-same (λ i. m (net_name net i)) (value_in values) g.op (first_gate net + n) reads has in
+    let is-v : value ≡ v = op-expr-value m (net_name net) g.op ∙ op_value-same (λ i. m (net_name net i)) (value_in values) g.op
+    (first_gate net + n) reads has in
     let longer = length_push values v in
     let next : Has net (first_gate net + (n + 1)) (with_value target value m) (values ++ v ∷ []) = λ i h. elim (cases_lt i (first_gate net + n)) [
       | inl below ↦
-          let new : is_same_name (net_name net i) target ≡ false = ap (λ (g : Gate). is_same_name (net_name net i) (gate_name n g.wire)) here ∙ gate-new net is n i low below in
+          let new : is_same_name (net_name net i) target ≡ false = ap (λ (g : Gate). is_same_name (net_name net i) (gate_name n g.wire)) here
+          ∙ gate-new net is n i low below in
           ap (λ b. if b then value else m (net_name net i)) new ∙ has i below ∙ sym (get_or_append_left values (v ∷ []) false i (omega arith))
       | inr last ↦
           let e : i ≡ first_gate net + n = omega arith in
@@ -166,7 +176,8 @@ gates-run net is n (g ∷ gates) m values same all wide has i h =
           ap (λ b. if b then value else m (net_name net i)) it ∙ is-v ∙ sym (get_or_push values v false i (wide ∙ sym e))
     ] in
     let rest = gates-run net is (n + 1) gates (with_value target value m) (values ++ v ∷ [])
-    (λ k h. let s : n + suc k ≡ n + 1 + k = omega arith in same (suc k) (omega arith) ∙ ap (λ j. get_or net.gates j any_gate) s) (omega arith) (omega arith) next in
+    (λ k h. let s : n + suc k ≡ n + 1 + k = omega arith in same (suc k) (omega arith) ∙ ap (λ j. get_or net.gates j any_gate) s) (omega arith)
+    (omega arith) next in
     rest i (omega arith)
 
 -- ---- one call
@@ -178,7 +189,8 @@ Keeps net m latches = (j : ℕ) → j < length net.latches → m (state_name j) 
 pub record Leaves (net : Netlist) (values : List Bool) (m : Memory) : Type 0 where
   pub gates : (k : ℕ) → k < length net.gates → m (gate_name k (get_or net.gates k any_gate).wire) ≡ value_in values (first_gate net + k)
   pub states : (j : ℕ) → j < length net.latches → m (state_name j) ≡ value_in values (get_or net.latches j any_latch).from.0
-  pub outputs : (k : ℕ) → k < length net.outputs → m (output_variable (get_or net.outputs k any_output)) ≡ value_in values (get_or net.outputs k any_output).net.0
+  pub outputs : (k : ℕ) → k < length net.outputs → m (output_variable (get_or net.outputs k any_output)) ≡
+      value_in values (get_or net.outputs k any_output).net.0
   pub answer : m answer_name ≡ value_in values net.paused
 
 targets-numbered : {X : Type 0} (f : ℕ → X → Assign) (g : ℕ → X → List ℕ) (n : ℕ) (xs : List X) → ((k : ℕ) (x : X) → (f k x).target ≡ g k x)
@@ -195,7 +207,8 @@ not_target : (p : ℕ → Bool) (x : List ℕ) (body : List Assign) (names : Lis
     → list_all (λ y. not (p (mark y))) names ≡ true → is_among x (targets body) ≡ false
 not_target p x body names same here others = ap (is_among x) same ∙ differ-marks p x names here others
 
-net-mark : (p : ℕ → Bool) (net : Netlist) (n : ℕ) → n < net_count net → p 105 ≡ true → p 115 ≡ true → p 103 ≡ true → p 119 ≡ true → p (mark (net_name net n)) ≡ true
+net-mark : (p : ℕ → Bool) (net : Netlist) (n : ℕ) → n < net_count net → p 105 ≡ true → p 115 ≡ true → p 103 ≡ true → p 119 ≡ true →
+    p (mark (net_name net n)) ≡ true
 net-mark p net n h i s g w =
     net_cases net n h
     (λ low. ap (λ x. p (mark x)) (net_name-input net n low) ∙ i)
@@ -242,7 +255,8 @@ call-leaves net is latches inputs m wide_l wide_i keeps =
     let has1 : Has net (first_gate net) m1 (inputs ++ latches) = λ i h. elim (cases_lt i (length net.inputs)) [
       | inl low ↦
           let z : 0 + i ≡ i = omega arith in
-          let at : get_or b1 i d ≡ input_assign i (get_or net.inputs i []) = get_or-numbered input_assign 0 net.inputs i d [] low ∙ ap (λ k. input_assign k (get_or net.inputs i [])) z in
+          let at : get_or b1 i d ≡ input_assign i (get_or net.inputs i []) = get_or-numbered input_assign 0 net.inputs i d [] low
+          ∙ ap (λ k. input_assign k (get_or net.inputs i [])) z in
           let given = input_variable (get_or net.inputs i []) in
           let copied = run-copies b1 m0 (ap (all_differ is_same_name) t1 ∙ differ-inputs net is) i d given (omega arith) (ap (λ (a : Assign). a.value) at)
           (not_target (λ c. c == 73) given b1 (input_names net) t1 refl (marks-inputs net (λ c. not (c == 73)) refl)) in
@@ -255,21 +269,26 @@ call-leaves net is latches inputs m wide_l wide_i keeps =
           let e : i ≡ length net.inputs + j = omega arith in
           let f : i ≡ length inputs + j = omega arith in
           ap m1 (ap (net_name net) e ∙ net_name-state net j (omega arith))
-          ∙ run-other b1 m0 (state_name j) (not_target (λ c. c == 115) (state_name j) b1 (input_names net) t1 refl (marks-inputs net (λ c. not (c == 115)) refl))
-          ∙ inputs-other (given_variables net) inputs m (state_name j) (differ-marks (λ c. c == 115) (state_name j) (given_variables net) refl (marks-given net (λ c. not (c == 115)) refl))
+          ∙ run-other b1 m0 (state_name j) (not_target (λ c. c == 115) (state_name j) b1 (input_names net) t1 refl
+          (marks-inputs net (λ c. not (c == 115)) refl))
+          ∙ inputs-other (given_variables net) inputs m (state_name j)
+          (differ-marks (λ c. c == 115) (state_name j) (given_variables net) refl (marks-given net (λ c. not (c == 115)) refl))
           ∙ keeps j (omega arith) ∙ sym (get_or-append-add inputs latches j false) ∙ ap (λ k. get_or (inputs ++ latches) k false) (sym f)
     ] in
     let joined = length-append inputs latches in
     -- all nets behind the gates
     let has2 : Has net (net_count net) m2 values = λ i h.
-    gates-run net is 0 net.gates m1 (inputs ++ latches) (λ k low. let z : k ≡ 0 + k = omega arith in ap (λ n. get_or net.gates n any_gate) z) (omega arith) (omega arith)
+    gates-run net is 0 net.gates m1 (inputs ++ latches) (λ k low. let z : k ≡ 0 + k = omega arith in ap (λ n. get_or net.gates n any_gate) z) (omega arith)
+    (omega arith)
     (λ i low. has1 i (omega arith)) i (omega arith) in
     -- no net is a target of the last parts but a state
     let kept3 : (i : ℕ) → i < net_count net → m3 (net_name net i) ≡ value_in values i = λ i h.
-    run-other b3 m2 (net_name net i) (not_target (λ c. not (c == 116)) (net_name net i) b3 (next_names net) t3 (net-mark (λ c. not (c == 116)) net i h refl refl refl refl)
+    run-other b3 m2 (net_name net i) (not_target (λ c. not (c == 116)) (net_name net i) b3 (next_names net) t3
+    (net-mark (λ c. not (c == 116)) net i h refl refl refl refl)
     (marks-nexts net (λ c. not (not (c == 116))) refl)) ∙ has2 i h in
     let kept4 : (i : ℕ) → i < net_count net → m4 (net_name net i) ≡ value_in values i = λ i h.
-    run-other b4 m3 (net_name net i) (not_target (λ c. not (c == 79)) (net_name net i) b4 (shown_variables net) t4 (net-mark (λ c. not (c == 79)) net i h refl refl refl refl)
+    run-other b4 m3 (net_name net i) (not_target (λ c. not (c == 79)) (net_name net i) b4 (shown_variables net) t4
+    (net-mark (λ c. not (c == 79)) net i h refl refl refl refl)
     (marks-shown net (λ c. not (not (c == 79))) refl)) ∙ kept3 i h in
     let next3 : (j : ℕ) → j < length net.latches → m3 (next_name j) ≡ value_in values (get_or net.latches j any_latch).from.0 = λ j h.
     let z : 0 + j ≡ j = omega arith in
@@ -278,16 +297,19 @@ call-leaves net is latches inputs m wide_l wide_i keeps =
     let at : get_or b3 j d ≡ next_assign net j latch = get_or-numbered (next_assign net) 0 net.latches j d any_latch h ∙ ap (λ k. next_assign net k latch) z in
     ap m3 (ap (λ (a : Assign). a.target) (sym at))
     ∙ run-copies b3 m2 (ap (all_differ is_same_name) t3 ∙ differ-nexts net is) j d (net_name net latch.from.0) (omega arith) (ap (λ (a : Assign). a.value) at)
-    (not_target (λ c. not (c == 116)) (net_name net latch.from.0) b3 (next_names net) t3 (net-mark (λ c. not (c == 116)) net latch.from.0 range refl refl refl refl)
+    (not_target (λ c. not (c == 116)) (net_name net latch.from.0) b3 (next_names net) t3
+    (net-mark (λ c. not (c == 116)) net latch.from.0 range refl refl refl refl)
     (marks-nexts net (λ c. not (not (c == 116))) refl))
     ∙ has2 latch.from.0 range in
-    let output4 : (k : ℕ) → k < length net.outputs → m4 (output_variable (get_or net.outputs k any_output)) ≡ value_in values (get_or net.outputs k any_output).net.0 = λ k h.
+    let output4 : (k : ℕ) → k < length net.outputs → m4 (output_variable (get_or net.outputs k any_output)) ≡
+    value_in values (get_or net.outputs k any_output).net.0 = λ k h.
     let output = get_or net.outputs k any_output in
     let range = is.is_net.outputs_in_range k any_output h in
     let at : get_or b4 k d ≡ output_assign net output = get_or-map (output_assign net) net.outputs k any_output d h in
     ap m4 (ap (λ (a : Assign). a.target) (sym at))
     ∙ run-copies b4 m3 (ap (all_differ is_same_name) t4 ∙ differ-shown net is) k d (net_name net output.net.0) (omega arith) (ap (λ (a : Assign). a.value) at)
-    (not_target (λ c. not (c == 79)) (net_name net output.net.0) b4 (shown_variables net) t4 (net-mark (λ c. not (c == 79)) net output.net.0 range refl refl refl refl)
+    (not_target (λ c. not (c == 79)) (net_name net output.net.0) b4 (shown_variables net) t4
+    (net-mark (λ c. not (c == 79)) net output.net.0 range refl refl refl refl)
     (marks-shown net (λ c. not (not (c == 79))) refl))
     ∙ kept3 output.net.0 range in
     let own6 : (x : List ℕ) → (mark x == 115) ≡ false → m6 x ≡ m5 x = λ x h.
@@ -307,7 +329,8 @@ call-leaves net is latches inputs m wide_l wide_i keeps =
           ∙ run-copies b6 m5 (ap (all_differ is_same_name) t6 ∙ differ-states net is) j d (next_name j) (omega arith) (ap (λ (a : Assign). a.value) at)
           (not_target (λ c. c == 116) (next_name j) b6 (state_names net) t6 refl (marks-states net (λ c. not (c == 116)) refl))
           ∙ run-other b5 m4 (next_name j) refl
-          ∙ run-other b4 m3 (next_name j) (not_target (λ c. c == 116) (next_name j) b4 (shown_variables net) t4 refl (marks-shown net (λ c. not (c == 116)) refl))
+          ∙ run-other b4 m3 (next_name j) (not_target (λ c. c == 116) (next_name j) b4 (shown_variables net) t4 refl
+          (marks-shown net (λ c. not (c == 116)) refl))
           ∙ next3 j h;
       outputs = λ k h.
           let name = output_variable (get_or net.outputs k any_output) in

@@ -1,5 +1,6 @@
 -- The text of a net means the net.
-use Rattle.std.proofs.Common.{◌≡◌, ℕ, ◌+◌, ◌<◌, ◌≤◌, ◌^◌, ◌==◌, zero, suc, Bool, true, false, not, ◌&&◌, ◌||◌, List, [], ◌∷◌, ◌++◌, length, map, get_or, drop, All}
+use Rattle.std.proofs.Common.{◌≡◌, ℕ, ◌+◌, ◌<◌, ◌≤◌, ◌^◌, ◌==◌, zero, suc, Bool, true, false, not, ◌&&◌, ◌||◌, List, [], ◌∷◌, ◌++◌, length, map, get_or, drop}
+use Rattle.std.proofs.Common.{All}
 use Rattle.std.proofs.Common.{refl, sym, ap, ◌∙◌, subst, arith, Option, Some, None, IsTrue}
 use Rattle.std.specs.Prelude.{filter, IfSome, decimal, codes, nat_lt}
 use Rattle.std.specs.List.{list_all}
@@ -26,20 +27,25 @@ use Rattle.csub_text.specs.Grammar.{begins_input, begins_output, begins_global, 
 use Rattle.csub_text.specs.Names.{inputs_of, outputs_of, is_among}
 use Rattle.csub_text.specs.Texts.{Describes, nesting_limit}
 use Rattle.csub_text.specs.Machine.{Memory, Seen, with_value, with_inputs, first_memory, run_body, call, memories_from, memories, seen, run}
-use Rattle.csub_text.specs.Written.{input_name, state_name, gate_name, next_name, answer_name, net_name, input_variable, output_variable, numbered, net_state, gate_names}
-use Rattle.csub_text.specs.Written.{net_body, net_program, net_globals, net_locals, op_expr, shown_by_call, written, Means, input_assign, gate_assign, next_assign, output_assign}
+use Rattle.csub_text.specs.Written.{input_name, state_name, gate_name, next_name, answer_name, net_name, input_variable, output_variable, numbered, net_state}
+use Rattle.csub_text.specs.Written.{gate_names}
+use Rattle.csub_text.specs.Written.{net_body, net_program, net_globals, net_locals, op_expr, shown_by_call, written, Means, input_assign, gate_assign}
+use Rattle.csub_text.specs.Written.{next_assign, output_assign}
 use Rattle.csub_text.proofs.Lexing.{IsVariable, says-whole, variable-input, variable-state, variable-gate, variable-wire, variable-next, variable-answer}
 use Rattle.csub_text.proofs.Lexing.{variable-given, variable-shown}
 use Rattle.csub_text.proofs.Spelling.{IsPlain, IsSpelled, program_kinds, says-program, spells-program, written_program, meant-written, nesting-written}
-use Rattle.csub_text.proofs.NetNames.{IsWritable, same-refl, mark, differ-marks, length-numbered, get_or-numbered, All-numbered, map-numbered, list_all-from_All}
+use Rattle.csub_text.proofs.NetNames.{IsWritable, same-refl, mark, differ-marks, length-numbered, get_or-numbered, All-numbered, map-numbered}
+use Rattle.csub_text.proofs.NetNames.{list_all-from_All}
 use Rattle.csub_text.proofs.NetNames.{given_variables, shown_variables, state_names, differ-states, input_names, next_names, marks-states}
-use Rattle.csub_text.proofs.NetRules.{EachAssign, each-assign, op-names, net_cases, net_name-input, net_name-state, net_name-gate, any_gate, any_latch, any_output, gate-low}
+use Rattle.csub_text.proofs.NetRules.{EachAssign, each-assign, op-names, net_cases, net_name-input, net_name-state, net_name-gate, any_gate, any_latch}
+use Rattle.csub_text.proofs.NetRules.{any_output, gate-low}
 use Rattle.csub_text.proofs.NetSets.{names-fit}
 use Rattle.csub_text.proofs.NetCalls.{Leaves, call-leaves, any-none}
 
 -- ---- inputs and outputs
 
-inputs-given : (xs : List (List ℕ)) (ys : List (List ℕ)) → filter begins_input ys ≡ [] → filter begins_input (map input_variable xs ++ ys) ≡ map input_variable xs
+inputs-given : (xs : List (List ℕ)) (ys : List (List ℕ)) → filter begins_input ys ≡ [] →
+    filter begins_input (map input_variable xs ++ ys) ≡ map input_variable xs
 inputs-given [] ys none = none
 inputs-given (x ∷ xs) ys none = ap (λ l. input_variable x ∷ l) (inputs-given xs ys none)
 
@@ -66,7 +72,8 @@ outputs-net net = outputs-given net.inputs (map output_variable net.outputs) ∙
 abbrev Keeps : Netlist → Memory → List Bool → Type 0
 Keeps net m latches = (j : ℕ) → j < length net.latches → m (state_name j) ≡ get_or latches j false
 
-first-other : (n : ℕ) (latches : List Latch) (x : List ℕ) → is_among x (numbered (λ j latch. state_name j) n latches) ≡ false → first_memory (numbered net_state n latches) x ≡ false
+first-other : (n : ℕ) (latches : List Latch) (x : List ℕ) → is_among x (numbered (λ j latch. state_name j) n latches) ≡ false →
+    first_memory (numbered net_state n latches) x ≡ false
 first-other n [] x none = refl
 first-other n (l ∷ latches) x none =
     let parts = or_parts (is_same_name x (state_name n)) (is_among x (numbered (λ j latch. state_name j) (n + 1) latches)) none in
@@ -111,7 +118,8 @@ seen-net net values m leaves =
     let outputs : map m (outputs_of (net_program net)) ≡ map (λ o. value_in values o.net.0) net.outputs =
     ap (map m) (outputs-net net)
     ∙ ext_get_or false (map m (map output_variable net.outputs)) (map (λ o. value_in values o.net.0) net.outputs)
-    (length-map (map output_variable net.outputs) m ∙ length-map net.outputs output_variable ∙ sym (length-map net.outputs (λ (o : NetOut). value_in values o.net.0)))
+    (length-map (map output_variable net.outputs) m ∙ length-map net.outputs output_variable
+    ∙ sym (length-map net.outputs (λ (o : NetOut). value_in values o.net.0)))
     (λ k h.
     let a = length-map (map output_variable net.outputs) m in
     let b = length-map net.outputs output_variable in
@@ -134,7 +142,8 @@ gates-net net latches inputs m wide_l wide_i leaves =
     (λ k h.
     let z : 0 + k ≡ k = omega arith in
     get_or-map m (gate_names net) k [] false (omega arith)
-    ∙ ap m (get_or-numbered (λ k gate. gate_name k gate.wire) 0 net.gates k [] any_gate (omega arith) ∙ ap (λ i. gate_name i (get_or net.gates k any_gate).wire) z)
+    ∙ ap m (get_or-numbered (λ k gate. gate_name k gate.wire) 0 net.gates k [] any_gate (omega arith)
+    ∙ ap (λ i. gate_name i (get_or net.gates k any_gate).wire) z)
     ∙ leaves.gates k (omega arith) ∙ sym (get_or-drop (first_gate net) values k false))
 
 length-next : (net : Netlist) (values : List Bool) → length (next_latches net values) ≡ length net.latches
@@ -153,10 +162,12 @@ runs-net net is f g each (Event inputs ∷ items) latches m wide keeps widths =
     let leaves = call-net net is latches inputs m wide widths.0 keeps in
     let later = runs-net net is f g each items (next_latches net values) (call (net_program net) inputs m) (length-next net values)
     (kept-next net values (call (net_program net) inputs m) leaves) widths.1 in
-    ap (λ x. x ∷ map f (memories_from (net_program net) (call (net_program net) inputs m) items)) (each latches inputs (call (net_program net) inputs m) wide widths.0 leaves)
+    ap (λ x. x ∷ map f (memories_from (net_program net) (call (net_program net) inputs m) items))
+    (each latches inputs (call (net_program net) inputs m) wide widths.0 leaves)
     ∙ ap (λ l. g values ∷ l) later
 runs-net net is f g each (Reset ∷ items) latches m wide keeps widths =
-    runs-net net is f g each items (initial_latches net) (first_memory (net_program net).states) (length-map net.latches (λ (l : Latch). l.init)) (begins-kept net is) widths
+    runs-net net is f g each items (initial_latches net) (first_memory (net_program net).states) (length-map net.latches (λ (l : Latch). l.init))
+    (begins-kept net is) widths
 
 -- ---- the text describes the program
 
@@ -166,7 +177,8 @@ net-variable net is n h =
     net_cases net n h
     (λ low. subst IsVariable (sym (net_name-input net n low)) (variable-input n (omega arith)))
     (λ j low e. subst IsVariable (sym (ap (net_name net) e ∙ net_name-state net j low)) (variable-state j (omega arith)))
-    (λ k low e. subst IsVariable (sym (ap (net_name net) e ∙ net_name-gate net k any_gate low)) (gate-variable k (get_or net.gates k any_gate).wire (omega arith) (is.wires_fit k any_gate low)))
+    (λ k low e. subst IsVariable (sym (ap (net_name net) e ∙ net_name-gate net k any_gate low))
+    (gate-variable k (get_or net.gates k any_gate).wire (omega arith) (is.wires_fit k any_gate low)))
   where
     gate-variable : (k : ℕ) (wire : Option WireId) → k < 2 ^ 64 → IfSome wire (λ w. w.0 < 2 ^ 32) → IsVariable (gate_name k wire)
     gate-variable k None small fits = variable-gate k small
@@ -192,7 +204,10 @@ assigns-readable net is =
         target = subst IsVariable (net_name-gate net k any_gate h) (net-variable net is (first_gate net + k) (omega arith));
         value = plain-op (net_name net) (get_or net.gates k any_gate).op (net_count net) (omega (arith, gate-low net is k h)) (net-variable net is);
       };
-      nexts = λ j h. record { target = variable-next j (omega arith); value = net-variable net is (get_or net.latches j any_latch).from.0 (is.is_net.latches_in_range j any_latch h) };
+      nexts = λ j h. record {
+        target = variable-next j (omega arith);
+        value = net-variable net is (get_or net.latches j any_latch).from.0 (is.is_net.latches_in_range j any_latch h);
+      };
       outputs = λ j h. record {
         target = variable-shown (get_or net.outputs j any_output).name (is.is_net.output_names_fit j any_output h);
         value = net-variable net is (get_or net.outputs j any_output).net.0 (is.is_net.outputs_in_range j any_output h);
@@ -229,17 +244,21 @@ spelled-net net is =
       globals = All-append IsVariable (map input_variable net.inputs) (map output_variable net.outputs)
           (All-map IsVariable input_variable net.inputs (λ k d h. variable-given (get_or net.inputs k d) (is.is_net.input_names_fit k d h)))
           (All-map IsVariable output_variable net.outputs (λ k d h. variable-shown (get_or net.outputs k d).name (is.is_net.output_names_fit k d h)));
-      locals = All-append IsVariable (input_names net) _ (All-numbered IsVariable (λ j name. input_name j) 0 net.inputs (λ k d h. variable-input (0 + k) (omega arith)))
+      locals = All-append IsVariable (input_names net) _ (All-numbered IsVariable (λ j name. input_name j) 0 net.inputs
+          (λ k d h. variable-input (0 + k) (omega arith)))
           (All-append IsVariable (gate_names net) _ (gates-variables net is)
           (All-append IsVariable (next_names net) (answer_name ∷ [])
-          (All-numbered IsVariable (λ j latch. next_name j) 0 net.latches (λ k d h. variable-next (0 + k) (omega arith))) (one IsVariable answer_name variable-answer)));
+          (All-numbered IsVariable (λ j latch. next_name j) 0 net.latches (λ k d h. variable-next (0 + k) (omega arith)))
+          (one IsVariable answer_name variable-answer)));
       targets = λ k d h. (all k d h).target;
       values = λ k d h. (all k d h).value;
       answer = variable-answer;
       states_own = All-numbered (λ s. begins_global s.name ≡ false) net_state 0 net.latches (λ k d h. no_global (state_name (0 + k)) refl refl);
       globals_long = All-append (λ n. global_name (Named n) ≡ Some n) (map input_variable net.inputs) (map output_variable net.outputs)
-          (All-map (λ n. global_name (Named n) ≡ Some n) input_variable net.inputs (λ k d h. global-input (get_or net.inputs k d) (is.is_net.input_names_fit k d h)))
-          (All-map (λ n. global_name (Named n) ≡ Some n) output_variable net.outputs (λ k d h. global-output (get_or net.outputs k d) (is.is_net.output_names_fit k d h)));
+          (All-map (λ n. global_name (Named n) ≡ Some n) input_variable net.inputs
+          (λ k d h. global-input (get_or net.inputs k d) (is.is_net.input_names_fit k d h)))
+          (All-map (λ n. global_name (Named n) ≡ Some n) output_variable net.outputs
+          (λ k d h. global-output (get_or net.outputs k d) (is.is_net.output_names_fit k d h)));
       locals_own = All-append (λ n. begins_global n ≡ false) (input_names net) _
           (All-numbered (λ n. begins_global n ≡ false) (λ j name. input_name j) 0 net.inputs (λ k d h. no_global (input_name (0 + k)) refl refl))
           (All-append (λ n. begins_global n ≡ false) (gate_names net) _
@@ -256,7 +275,8 @@ spelled-net net is =
     gates-variables : (net : Netlist) → IsWritable net → All IsVariable (gate_names net)
     gates-variables net is = All-numbered IsVariable (λ k gate. gate_name k gate.wire) 0 net.gates (λ k d h.
         let z : 0 + k ≡ k = omega arith in
-        subst IsVariable (net_name-gate net k d h ∙ ap (λ i. gate_name i (get_or net.gates k d).wire) (sym z)) (net-variable net is (first_gate net + k) (omega arith)))
+        subst IsVariable (net_name-gate net k d h ∙ ap (λ i. gate_name i (get_or net.gates k d).wire) (sym z))
+        (net-variable net is (first_gate net + k) (omega arith)))
 
 describes-net : (net : Netlist) → IsWritable net → Describes (written net) (net_program net)
 describes-net net is =
@@ -286,10 +306,12 @@ Means-written net is =
       outputs = outputs-net net;
       states = refl;
       shows = λ items widths.
-          runs-net net is (seen (net_program net)) (λ values. shown_by_call (shown net values)) (λ latches inputs m wl wi leaves. seen-net net (net_values net latches inputs) m leaves)
+          runs-net net is (seen (net_program net)) (λ values. shown_by_call (shown net values))
+          (λ latches inputs m wl wi leaves. seen-net net (net_values net latches inputs) m leaves)
           items (initial_latches net) (first_memory (net_program net).states) wide (begins-kept net is) widths
           ∙ map-map shown_by_call (shown net) (net_values_run net items);
       nets = λ items widths.
-          runs-net net is (λ memory. map memory (gate_names net)) (drop (first_gate net)) (λ latches inputs m wl wi leaves. gates-net net latches inputs m wl wi leaves)
+          runs-net net is (λ memory. map memory (gate_names net)) (drop (first_gate net))
+          (λ latches inputs m wl wi leaves. gates-net net latches inputs m wl wi leaves)
           items (initial_latches net) (first_memory (net_program net).states) wide (begins-kept net is) widths;
     }

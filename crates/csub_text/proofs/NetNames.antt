@@ -127,7 +127,8 @@ given_variables net = map input_variable net.inputs
 abbrev pub shown_variables : Netlist → List (List ℕ)
 shown_variables net = map output_variable net.outputs
 
-all-numbered : {X : Type 0} (p : List ℕ → Bool) (f : ℕ → X → List ℕ) (n : ℕ) (xs : List X) → ((k : ℕ) (x : X) → p (f k x) ≡ true) → list_all p (numbered f n xs) ≡ true
+all-numbered : {X : Type 0} (p : List ℕ → Bool) (f : ℕ → X → List ℕ) (n : ℕ) (xs : List X) → ((k : ℕ) (x : X) → p (f k x) ≡ true) →
+    list_all p (numbered f n xs) ≡ true
 all-numbered p f n [] each = refl
 all-numbered p f n (x ∷ xs) each = and_from (p (f n x)) (list_all p (numbered f (n + 1) xs)) (each n x) (all-numbered p f (n + 1) xs each)
 
@@ -279,7 +280,8 @@ differ-globals net is = joined-differ (given_variables net) (shown_variables net
     (differ-shown net is)
 
 -- names of one kind in front of those of others
-in-front : (p : ℕ → Bool) (xs ys : List (List ℕ)) → all_differ is_same_name xs ≡ true → list_all (λ x. p (mark x)) xs ≡ true → list_all (λ y. not (p (mark y))) ys ≡ true
+in-front : (p : ℕ → Bool) (xs ys : List (List ℕ)) → all_differ is_same_name xs ≡ true → list_all (λ x. p (mark x)) xs ≡ true →
+    list_all (λ y. not (p (mark y))) ys ≡ true
     → all_differ is_same_name ys ≡ true → all_differ is_same_name (xs ++ ys) ≡ true
 in-front p xs ys a here others b = joined-differ xs ys a (apart-marks p xs ys here others) b
 
@@ -299,8 +301,10 @@ differ-locals net is =
     let tails = in-front (λ m. m == 116) (next_names net) (answer_name ∷ []) (differ-nexts net is) (marks-nexts net (λ m. m == 116) refl) refl refl in
     let gates = in-front (λ m. m == 103 || m == 119) (gate_names net) (next_names net ++ (answer_name ∷ [])) (differ-gates net is)
     (marks-gates net (λ m. m == 103 || m == 119) refl refl)
-    (all-both (λ x. not (mark x == 103 || mark x == 119)) (next_names net) (answer_name ∷ []) (marks-nexts net (λ m. not (m == 103 || m == 119)) refl) refl) tails in
-    in-front (λ m. m == 105) (input_names net) (gate_names net ++ (next_names net ++ (answer_name ∷ []))) (differ-inputs net is) (marks-inputs net (λ m. m == 105) refl)
+    (all-both (λ x. not (mark x == 103 || mark x == 119)) (next_names net) (answer_name ∷ []) (marks-nexts net (λ m. not (m == 103 || m == 119)) refl) refl)
+    tails in
+    in-front (λ m. m == 105) (input_names net) (gate_names net ++ (next_names net ++ (answer_name ∷ []))) (differ-inputs net is)
+    (marks-inputs net (λ m. m == 105) refl)
     (all-both (λ x. not (mark x == 105)) (gate_names net) (next_names net ++ (answer_name ∷ [])) (marks-gates net (λ m. not (m == 105)) refl refl)
     (all-both (λ x. not (mark x == 105)) (next_names net) (answer_name ∷ []) (marks-nexts net (λ m. not (m == 105)) refl) refl)) gates
 
@@ -312,5 +316,6 @@ differ-declared net is =
     (marks-locals net (λ m. not (m == 73 || m == 79)) refl refl refl refl refl) (differ-locals net is) in
     in-front (λ m. m == 115) (state_names net) (net_globals net ++ net_locals net) (differ-states net is) (marks-states net (λ m. m == 115) refl)
     (all-both (λ x. not (mark x == 115)) (net_globals net) (net_locals net)
-    (all-both (λ x. not (mark x == 115)) (given_variables net) (shown_variables net) (marks-given net (λ m. not (m == 115)) refl) (marks-shown net (λ m. not (m == 115)) refl))
+    (all-both (λ x. not (mark x == 115)) (given_variables net) (shown_variables net) (marks-given net (λ m. not (m == 115)) refl)
+    (marks-shown net (λ m. not (m == 115)) refl))
     (marks-locals net (λ m. not (m == 115)) refl refl refl refl refl)) globals

@@ -5,7 +5,8 @@ use Rattle.std.specs.Prelude.{flat_map, filter, find, IfSome, nat_lt, if◌then�
 use Rattle.std.specs.List.{list_all, list_any, AllByRecursion}
 use Rattle.std.specs.Cmp.Lexicographic.{nat_list_eq_equiv}
 use Rattle.std.proofs.lemmas.List.Folds.{list_any-append, list_any_at}
-use Rattle.std.proofs.lemmas.Bool.{both_ways, and_parts, or_parts, and_from, or_from, not-true, not_from_false, not_from_true, cases_lt, lt-ltb, le-ltb, or_left, or_right}
+use Rattle.std.proofs.lemmas.Bool.{both_ways, and_parts, or_parts, and_from, or_from, not-true, not_from_false, not_from_true, cases_lt, lt-ltb, le-ltb}
+use Rattle.std.proofs.lemmas.Bool.{or_left, or_right}
 use Rattle.std.proofs.lemmas.List.{length-map, get_or-map, get_or_default}
 use Rattle.std.proofs.lemmas.Option.{slice_get-get_or}
 use Rattle.std.proofs.lemmas.List.Elements.{All-from_recursion, recursion_from_All, All-append}
@@ -26,7 +27,8 @@ use Rattle.csub_text.specs.Names.{name_found, undeclared, or_else, unset_from, u
 use Rattle.csub_text.specs.Written.{input_name, state_name, gate_name, next_name, answer_name, net_name, wire_at, input_variable, output_variable, numbered}
 use Rattle.csub_text.specs.Written.{net_state, net_globals, net_locals, gate_names, op_expr, pair, input_assign, gate_assign, next_assign, output_assign}
 use Rattle.csub_text.specs.Written.{answer_assign, state_assign, net_body, net_program}
-use Rattle.csub_text.proofs.NetNames.{IsWritable, same-refl, same-eq, mark, differ-marks, input_names, state_names, next_names, given_variables, shown_variables}
+use Rattle.csub_text.proofs.NetNames.{IsWritable, same-refl, same-eq, mark, differ-marks, input_names, state_names, next_names, given_variables}
+use Rattle.csub_text.proofs.NetNames.{shown_variables}
 use Rattle.csub_text.proofs.NetNames.{marks-inputs, marks-states, marks-nexts, marks-gates, marks-given, marks-shown, marks-locals, differ-declared, all-both}
 use Rattle.csub_text.proofs.NetNames.{length-numbered, get_or-numbered, map-numbered}
 
@@ -61,7 +63,8 @@ declared-net net =
 pub declared_once : (net : Netlist) → IsWritable net → declared_twice (net_program net) ≡ None
 declared_once net is =
     ap (first_again []) (declared-net net)
-    ∙ first_again-none [] (state_names net ++ (net_globals net ++ net_locals net)) (none_shared-nil (state_names net ++ (net_globals net ++ net_locals net))) (differ-declared net is)
+    ∙ first_again-none [] (state_names net ++ (net_globals net ++ net_locals net)) (none_shared-nil (state_names net ++ (net_globals net ++ net_locals net)))
+    (differ-declared net is)
 
 -- ---- the name of a net
 
@@ -98,7 +101,8 @@ among-numbered f xs k d h =
     let n = length-numbered f 0 xs in
     let z : 0 + k ≡ k = omega arith in
     let at : get_or (numbered f 0 xs) k [] ≡ f k (get_or xs k d) = get_or-numbered f 0 xs k [] d h ∙ ap (λ m. f m (get_or xs k d)) z in
-    list_any_at (is_same_name (f k (get_or xs k d))) (numbered f 0 xs) k [] (omega arith) (ap (is_same_name (f k (get_or xs k d))) at ∙ same-refl (f k (get_or xs k d)))
+    list_any_at (is_same_name (f k (get_or xs k d))) (numbered f 0 xs) k [] (omega arith)
+    (ap (is_same_name (f k (get_or xs k d))) at ∙ same-refl (f k (get_or xs k d)))
 
 pub among-left : (x : List ℕ) (xs ys : List (List ℕ)) → is_among x xs ≡ true → is_among x (xs ++ ys) ≡ true
 among-left x xs ys h = list_any-append (is_same_name x) xs ys ∙ or_left (is_among x xs) (is_among x ys) h
@@ -176,7 +180,8 @@ find-none p (x ∷ xs) none = let parts = or_parts (p x) (list_any p xs) none in
 
 none-taken : (names xs : List (List ℕ)) → AllByRecursion (λ x. is_among x names ≡ true) xs → list_any (is_wrong names) (map Taken xs) ≡ false
 none-taken names [] all = refl
-none-taken names (x ∷ xs) all = or_from (not (is_among x names)) (list_any (is_wrong names) (map Taken xs)) (not_from_true (is_among x names) all.0) (none-taken names xs all.1)
+none-taken names (x ∷ xs) all = or_from (not (is_among x names)) (list_any (is_wrong names) (map Taken xs)) (not_from_true (is_among x names) all.0)
+    (none-taken names xs all.1)
 
 none-wrong : (names : List (List ℕ)) (body : List Assign) → All (Fits names) body → list_any (is_wrong names) (flat_map uses_in body) ≡ false
 none-wrong names [] all = refl
@@ -264,7 +269,8 @@ assigns-fit net is = record {
       record {
         target = declared-local net (gate_name k g.wire) (local-gate net k any_gate h);
         no_input = no_input-mark (gate_name k g.wire) (gate-mark (λ m. m == 73) k g refl refl);
-        taken = op-names (λ x. is_among x (all_declared net) ≡ true) (net_name net) g.op (net_count net) (omega (arith, gate-low net is k h)) (net-declared net);
+        taken = op-names (λ x. is_among x (all_declared net) ≡ true) (net_name net) g.op (net_count net) (omega (arith, gate-low net is k h))
+            (net-declared net);
       };
   nexts = λ j h. record {
     target = declared-local net (next_name j) (local-next net j any_latch h);
@@ -297,7 +303,8 @@ undeclared_none net is =
     ∙ or_from (list_any (is_wrong (all_declared net)) (flat_map uses_in (net_body net))) (list_any (is_wrong (all_declared net)) (map Taken (answer_name ∷ [])))
     (none-wrong (all_declared net) (net_body net) body)
     (none-taken (all_declared net) (answer_name ∷ []) (declared-local net answer_name (local-answer net), tt)) in
-    ap name_found (ap (λ ns. find (is_wrong ns) (uses (net_program net))) (declared-net net) ∙ find-none (is_wrong (all_declared net)) (uses (net_program net)) wrong)
+    ap name_found (ap (λ ns. find (is_wrong ns) (uses (net_program net))) (declared-net net)
+    ∙ find-none (is_wrong (all_declared net)) (uses (net_program net)) wrong)
 
 -- ---- no local is read before it is assigned
 
@@ -305,7 +312,8 @@ undeclared_none net is =
 abbrev Ready : List (List ℕ) → List ℕ → Type 0
 Ready locals x = is_among x locals ≡ false
 
-among-filter : (t x : List ℕ) (locals : List (List ℕ)) → is_among x (filter (λ n. not (is_same_name t n)) locals) ≡ (is_among x locals && not (is_same_name t x))
+among-filter : (t x : List ℕ) (locals : List (List ℕ)) → is_among x (filter (λ n. not (is_same_name t n)) locals) ≡
+    (is_among x locals && not (is_same_name t x))
 among-filter t x [] = refl
 among-filter t x (n ∷ locals) =
     let more = among-filter t x locals in
@@ -315,18 +323,20 @@ among-filter t x (n ∷ locals) =
     λ b. elim b as (λ b. is_same_name t n ≡ b → (s : Bool) → is_same_name x n ≡ s
     → is_among x (if not b then n ∷ filter (λ n. not (is_same_name t n)) locals else filter (λ n. not (is_same_name t n)) locals)
     ≡ ((s || is_among x locals) && not (is_same_name t x))) [
-      | true ↦ λ tn s. elim s as (λ s. is_same_name x n ≡ s → is_among x (filter (λ n. not (is_same_name t n)) locals) ≡ ((s || is_among x locals) && not (is_same_name t x))) [
-        | true ↦ λ xn.
-            let tx : is_same_name t x ≡ true = ap (is_same_name t) (same-eq x n xn) ∙ tn in
-            more ∙ ap (λ b. is_among x locals && not b) tx ∙ and-none (is_among x locals) ∙ sym (ap not tx)
-        | false ↦ λ xn. more
-      ]
-      | false ↦ λ tn s. elim s as (λ s. is_same_name x n ≡ s → (is_same_name x n || is_among x (filter (λ n. not (is_same_name t n)) locals)) ≡ ((s || is_among x locals) && not (is_same_name t x))) [
-        | true ↦ λ xn.
-            let tx : is_same_name t x ≡ false = ap (is_same_name t) (same-eq x n xn) ∙ tn in
-            ap (λ b. b || is_among x (filter (λ n. not (is_same_name t n)) locals)) xn ∙ sym (ap not tx)
-        | false ↦ λ xn. ap (λ b. b || is_among x (filter (λ n. not (is_same_name t n)) locals)) xn ∙ more
-      ]
+      | true ↦ λ tn s. elim s as (λ s. is_same_name x n ≡ s → is_among x (filter (λ n. not (is_same_name t n)) locals) ≡
+          ((s || is_among x locals) && not (is_same_name t x))) [
+            | true ↦ λ xn.
+                let tx : is_same_name t x ≡ true = ap (is_same_name t) (same-eq x n xn) ∙ tn in
+                more ∙ ap (λ b. is_among x locals && not b) tx ∙ and-none (is_among x locals) ∙ sym (ap not tx)
+            | false ↦ λ xn. more
+          ]
+      | false ↦ λ tn s. elim s as (λ s. is_same_name x n ≡ s → (is_same_name x n || is_among x (filter (λ n. not (is_same_name t n)) locals)) ≡
+          ((s || is_among x locals) && not (is_same_name t x))) [
+            | true ↦ λ xn.
+                let tx : is_same_name t x ≡ false = ap (is_same_name t) (same-eq x n xn) ∙ tn in
+                ap (λ b. b || is_among x (filter (λ n. not (is_same_name t n)) locals)) xn ∙ sym (ap not tx)
+            | false ↦ λ xn. ap (λ b. b || is_among x (filter (λ n. not (is_same_name t n)) locals)) xn ∙ more
+          ]
     ] in
     go (is_same_name t n) refl (is_same_name x n) refl
   where
@@ -378,4 +388,5 @@ pub unset-covered : (locals before left : List (List ℕ)) → Left locals befor
 unset-covered locals before left l [] answer covered = none-found locals before left l (names_in answer) covered
 unset-covered locals before left l (a ∷ body) answer covered =
     rw (none-found locals before left l (names_in a.value) covered.0)
-    (unset-covered locals (a.target ∷ before) (filter (λ n. not (is_same_name a.target n)) left) (left-more locals before left a.target l) body answer covered.1)
+    (unset-covered locals (a.target ∷ before) (filter (λ n. not (is_same_name a.target n)) left)
+    (left-more locals before left a.target l) body answer covered.1)

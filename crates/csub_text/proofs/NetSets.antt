@@ -1,5 +1,6 @@
 -- No local of a net's program is read before it is assigned; so the program keeps all rules on names.
-use Rattle.std.proofs.Common.{◌≡◌, ℕ, ◌+◌, ◌-◌, ◌<◌, ◌≤◌, ◌==◌, zero, suc, Bool, true, false, not, ◌&&◌, ◌||◌, List, [], ◌∷◌, ◌++◌, length, map, get_or, All, refl, sym, ap, ◌∙◌}
+use Rattle.std.proofs.Common.{◌≡◌, ℕ, ◌+◌, ◌-◌, ◌<◌, ◌≤◌, ◌==◌, zero, suc, Bool, true, false, not, ◌&&◌, ◌||◌, List, [], ◌∷◌, ◌++◌, length, map, get_or, All}
+use Rattle.std.proofs.Common.{refl, sym, ap, ◌∙◌}
 use Rattle.std.proofs.Common.{subst, arith, Option, None, ◌⊎◌, inl, inr}
 use Rattle.std.specs.List.{AllByRecursion}
 use Rattle.std.proofs.lemmas.Bool.{or_left, or_right, cases_lt}
@@ -14,7 +15,8 @@ use Rattle.net_ir.specs.Netlists.{Netlist, first_gate, net_count}
 use Rattle.std.proofs.lemmas.List.{length-map, get_or-map, append-nil}
 use Rattle.csub_text.specs.Trees.{Expr, Name, Assign, Program}
 use Rattle.csub_text.specs.Names.{names_in, is_among, unset, name_fault}
-use Rattle.csub_text.specs.Written.{input_name, state_name, gate_name, next_name, answer_name, net_name, input_variable, numbered, net_locals, gate_names, op_expr}
+use Rattle.csub_text.specs.Written.{input_name, state_name, gate_name, next_name, answer_name, net_name, input_variable, numbered, net_locals, gate_names}
+use Rattle.csub_text.specs.Written.{op_expr}
 use Rattle.csub_text.specs.Written.{input_assign, gate_assign, next_assign, output_assign, answer_assign, state_assign, net_body, net_program}
 use Rattle.csub_text.proofs.NetNames.{IsWritable, same-refl, mark, differ-marks, marks-locals, length-numbered, get_or-numbered}
 use Rattle.csub_text.proofs.NetRules.{Known, Covered, unset-covered, op-names, net_cases, net_name-input, net_name-state, net_name-gate}
@@ -31,7 +33,8 @@ known-more : (locals before : List (List ℕ)) (t x : List ℕ) → Known locals
 known-more locals before t x (inl none) = inl none
 known-more locals before t x (inr old) = inr (or_right (is_same_name x t) (is_among x before) old)
 
-all-more : (locals before : List (List ℕ)) (t : List ℕ) (xs : List (List ℕ)) → AllByRecursion (Known locals before) xs → AllByRecursion (Known locals (t ∷ before)) xs
+all-more : (locals before : List (List ℕ)) (t : List ℕ) (xs : List (List ℕ)) → AllByRecursion (Known locals before) xs →
+    AllByRecursion (Known locals (t ∷ before)) xs
 all-more locals before t [] all = tt
 all-more locals before t (x ∷ xs) all = (known-more locals before t x all.0, all-more locals before t xs all.1)
 
@@ -45,7 +48,8 @@ unfolding targets-behind
 among-behind before [] x old = old
 among-behind before (a ∷ body) x old = among-behind (a.target ∷ before) body x (or_right (is_same_name x a.target) (is_among x before) old)
 
-target-behind : (before : List (List ℕ)) (body : List Assign) (k : ℕ) (d : Assign) → k < length body → is_among (get_or body k d).target (targets-behind before body) ≡ true
+target-behind : (before : List (List ℕ)) (body : List Assign) (k : ℕ) (d : Assign) → k < length body →
+    is_among (get_or body k d).target (targets-behind before body) ≡ true
 unfolding targets-behind
 target-behind before [] k d h = absurd (omega arith)
 target-behind before (a ∷ body) zero d h =
@@ -88,7 +92,8 @@ covered-gates net before n (g ∷ gates) rest answer named low known go =
             | inl below ↦ known-more (net_locals net) before target (net_name net m) (known m below)
             | inr last ↦
                 let e : m ≡ first_gate net + n = omega arith in
-                inr (ap (λ x. is_among x (target ∷ before)) (ap (net_name net) e ∙ here) ∙ or_left (is_same_name target target) (is_among target before) (same-refl target))
+                inr (ap (λ x. is_among x (target ∷ before)) (ap (net_name net) e ∙ here)
+                ∙ or_left (is_same_name target target) (is_among target before) (same-refl target))
           ])
           (λ all. go (λ m h. all m (omega arith))),
     )
@@ -99,7 +104,8 @@ no_local-state : (net : Netlist) (j : ℕ) → is_among (state_name j) (net_loca
 no_local-state net j = differ-marks (λ m. m == 115) (state_name j) (net_locals net) refl (marks-locals net (λ m. not (m == 115)) refl refl refl refl refl)
 
 no_local-given : (net : Netlist) (name : List ℕ) → is_among (input_variable name) (net_locals net) ≡ false
-no_local-given net name = differ-marks (λ m. m == 73) (input_variable name) (net_locals net) refl (marks-locals net (λ m. not (m == 73)) refl refl refl refl refl)
+no_local-given net name = differ-marks (λ m. m == 73) (input_variable name) (net_locals net) refl
+    (marks-locals net (λ m. not (m == 73)) refl refl refl refl refl)
 
 covered-net : (net : Netlist) → IsWritable net → Covered (net_locals net) [] (net_body net) (Name answer_name)
 covered-net net is =
@@ -127,9 +133,11 @@ covered-net net is =
           inl (ap (λ x. is_among x locals) (ap (net_name net) e ∙ net_name-state net j (omega arith)) ∙ no_local-state net j)
     ] in
     covered-block locals [] inputs _ (Name answer_name)
-    (numbered-assigns (λ a. AllByRecursion (Known locals []) (names_in a.value)) input_assign net.inputs [] (λ j h. (inl (no_local-given net (get_or net.inputs j [])), tt)))
+    (numbered-assigns (λ a. AllByRecursion (Known locals []) (names_in a.value)) input_assign net.inputs []
+    (λ j h. (inl (no_local-given net (get_or net.inputs j [])), tt)))
     (covered-gates net b1 0 net.gates _ (Name answer_name)
-    (λ k h. let z : 0 + k ≡ k = omega arith in subst (λ m. net_name net (first_gate net + m) ≡ gate_name m (get_or net.gates k any_gate).wire) (sym z) (net_name-gate net k any_gate h))
+    (λ k h. let z : 0 + k ≡ k = omega arith in subst (λ m. net_name net (first_gate net + m) ≡ gate_name m (get_or net.gates k any_gate).wire) (sym z)
+    (net_name-gate net k any_gate h))
     (λ k h. let low = gate-low net is k h in omega arith)
     first
     (λ known.
@@ -139,13 +147,15 @@ covered-net net is =
     (λ j h. (nets (get_or net.latches j any_latch).from.0 (is.is_net.latches_in_range j any_latch h), tt)))
     (covered-block locals b3 outputs _ (Name answer_name)
     (λ k d h. let n = length-map net.outputs (output_assign net) in
-    subst (λ (a : Assign). AllByRecursion (Known locals b3) (names_in a.value)) (sym (get_or-map (output_assign net) net.outputs k any_output d (omega arith))) (
+    subst (λ (a : Assign). AllByRecursion (Known locals b3) (names_in a.value))
+    (sym (get_or-map (output_assign net) net.outputs k any_output d (omega arith))) (
       known-behind locals b2 nexts (net_name net (get_or net.outputs k any_output).net.0)
           (nets (get_or net.outputs k any_output).net.0 (is.is_net.outputs_in_range k any_output (omega arith))),
       tt,
     ))
     (covered-block locals b4 (answer_assign net ∷ []) states (Name answer_name) (one-known net is b2 nexts outputs nets)
-    (states-covered net b2 b5 (λ x. answer-last net b2 nexts outputs x) (λ x old. among-behind b4 (answer_assign net ∷ []) x (among-behind b3 outputs x old)))))))
+    (states-covered net b2 b5 (λ x. answer-last net b2 nexts outputs x)
+    (λ x old. among-behind b4 (answer_assign net ∷ []) x (among-behind b3 outputs x old)))))))
   where
     one-known : (net : Netlist) → IsWritable net → (b2 : List (List ℕ)) (nexts outputs : List Assign)
         → ((m : ℕ) → m < net_count net → Known (net_locals net) b2 (net_name net m))
@@ -159,7 +169,8 @@ covered-net net is =
 
     answer-last : (net : Netlist) (b2 : List (List ℕ)) (nexts outputs : List Assign) → Unit {0}
         → is_among answer_name (targets-behind (targets-behind (targets-behind b2 nexts) outputs) (answer_assign net ∷ [])) ≡ true
-    answer-last net b2 nexts outputs x = target-behind (targets-behind (targets-behind b2 nexts) outputs) (answer_assign net ∷ []) 0 (answer_assign net) (omega arith)
+    answer-last net b2 nexts outputs x = target-behind (targets-behind (targets-behind b2 nexts) outputs) (answer_assign net ∷ []) 0 (answer_assign net)
+        (omega arith)
 
     states-covered : (net : Netlist) (b2 b5 : List (List ℕ)) → (Unit {0} → is_among answer_name b5 ≡ true)
         → ((x : List ℕ) → is_among x (targets-behind b2 (numbered (next_assign net) 0 net.latches)) ≡ true → is_among x b5 ≡ true)
@@ -170,8 +181,10 @@ covered-net net is =
         let next : (j : ℕ) → j < length net.latches → is_among (next_name j) b5 ≡ true = λ j h.
         let n = length-numbered (next_assign net) 0 net.latches in
         let z : 0 + j ≡ j = omega arith in
-        let at = get_or-numbered (next_assign net) 0 net.latches j (answer_assign net) any_latch h ∙ ap (λ i. next_assign net i (get_or net.latches j any_latch)) z in
-        later (next_name j) (ap (λ x. is_among x (targets-behind b2 nexts)) (ap (λ (a : Assign). a.target) (sym at)) ∙ target-behind b2 nexts j (answer_assign net) (omega arith)) in
+        let at = get_or-numbered (next_assign net) 0 net.latches j (answer_assign net) any_latch h
+        ∙ ap (λ i. next_assign net i (get_or net.latches j any_latch)) z in
+        later (next_name j) (ap (λ x. is_among x (targets-behind b2 nexts)) (ap (λ (a : Assign). a.target) (sym at))
+        ∙ target-behind b2 nexts j (answer_assign net) (omega arith)) in
         subst (λ body. Covered (net_locals net) b5 body (Name answer_name)) (append-nil states)
         (covered-block (net_locals net) b5 states [] (Name answer_name)
         (numbered-assigns (λ a. AllByRecursion (Known (net_locals net) b5) (names_in a.value)) state_assign net.latches any_latch (λ j h. (inr (next j h), tt)))
@@ -179,7 +192,8 @@ covered-net net is =
 
 pub names-fit : (net : Netlist) → IsWritable net → name_fault (net_program net) ≡ None
 names-fit net is =
-    let set : unset (net_program net) ≡ None = unset-covered (net_locals net) [] (net_locals net) (record { are = λ x. sym (and-true (is_among x (net_locals net))) })
+    let set : unset (net_program net) ≡ None = unset-covered (net_locals net) [] (net_locals net)
+    (record { are = λ x. sym (and-true (is_among x (net_locals net))) })
     (net_body net) (Name answer_name) (covered-net net is) in
     rw (declared_once net is, undeclared_none net is, set) refl
   where

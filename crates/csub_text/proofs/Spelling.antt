@@ -9,10 +9,13 @@ use Rattle.csub_text.specs.Tokens.{Kind, Static, Int, Return, Void, React, LeftP
 use Rattle.csub_text.specs.Tokens.{RightBrace, Semicolon, Equals, Zero, One, Bar, Ampersand, Bang, Named, kinds}
 use Rattle.csub_text.specs.Trees.{Expr, Name, Const, Not, And, Or, Exprs, NoExprs, MoreExprs, State, Assign, Program}
 use Rattle.csub_text.specs.Grammar as grammar
-use Rattle.csub_text.specs.Grammar.{Written, Word, Bit, Writtens, NoneWritten, MoreWritten, WrittenAssign, WrittenProgram, meant, all_meant, written_nesting, Tier}
-use Rattle.csub_text.specs.Grammar.{Disjunction, Conjunction, Negation, SpellsExpr, SpellsState, SpellsGlobal, SpellsLocal, SpellsAssign, SpellsAnswer, SpellsText}
+use Rattle.csub_text.specs.Grammar.{Written, Word, Bit, Writtens, NoneWritten, MoreWritten, WrittenAssign, WrittenProgram, meant, all_meant, written_nesting}
+use Rattle.csub_text.specs.Grammar.{Tier}
+use Rattle.csub_text.specs.Grammar.{Disjunction, Conjunction, Negation, SpellsExpr, SpellsState, SpellsGlobal, SpellsLocal, SpellsAssign, SpellsAnswer}
+use Rattle.csub_text.specs.Grammar.{SpellsText}
 use Rattle.csub_text.specs.Grammar.{IsText, text_nesting, body_nesting, assign_meant, program_meant, begins_global, global_name, own_name}
-use Rattle.csub_text.specs.Written.{expr_text, parts_text, others_text, bit_text, line_end, state_line, declaration, assign_line, head_line, last_lines, program_text}
+use Rattle.csub_text.specs.Written.{expr_text, parts_text, others_text, bit_text, line_end, state_line, declaration, assign_line, head_line, last_lines}
+use Rattle.csub_text.specs.Written.{program_text}
 use Rattle.csub_text.proofs.Lexing.{Says, says-then, says-lines, says-name, IsVariable, says-int, says-static, says-end, says-equals, says-head, says-return}
 use Rattle.csub_text.proofs.Lexing.{says-last, says-zero, says-one, says-bang, says-and, says-or}
 
@@ -52,14 +55,16 @@ says-bit false = says-zero
 says-bit true = says-one
 
 pair-text : (m n mark : List ℕ) (d : ℕ) (ds : List ℕ) → (m ++ (mark ++ (n ++ []))) ++ d ∷ ds ≡ m ++ (mark ++ (n ++ d ∷ ds))
-pair-text m n mark d ds = ap (λ x. (m ++ (mark ++ x)) ++ d ∷ ds) (append-nil n) ∙ append_assoc m (mark ++ n) (d ∷ ds) ∙ ap (λ x. m ++ x) (append_assoc mark n (d ∷ ds))
+pair-text m n mark d ds = ap (λ x. (m ++ (mark ++ x)) ++ d ∷ ds) (append-nil n) ∙ append_assoc m (mark ++ n) (d ∷ ds)
+    ∙ ap (λ x. m ++ x) (append_assoc mark n (d ∷ ds))
 
 -- an expression in front of a byte that no name has
 says-expr : (e : Expr) (d : ℕ) (ds : List ℕ) (ks : List Kind) → IsPlain e → is_name_byte d ≡ false → Says (d ∷ ds) ks
     → Says (expr_text e ++ d ∷ ds) (expr_kinds e ++ ks)
 says-expr (Name n) d ds ks plain stops says = says-name n d ds ks plain stops says
 says-expr (Const value) d ds ks plain stops says = says-then (bit_text value) (d ∷ ds) (bit_kind value ∷ []) ks (says-bit value) says
-says-expr (Not (Name n)) d ds ks plain stops says = says-then (codes "!") (n ++ d ∷ ds) (Bang ∷ []) (Named n ∷ ks) says-bang (says-name n d ds ks plain stops says)
+says-expr (Not (Name n)) d ds ks plain stops says = says-then (codes "!") (n ++ d ∷ ds) (Bang ∷ []) (Named n ∷ ks) says-bang
+    (says-name n d ds ks plain stops says)
 says-expr (And (MoreExprs (Name m) (MoreExprs (Name n) NoExprs))) d ds ks plain stops says =
     subst (λ t. Says t (Named m ∷ Ampersand ∷ Named n ∷ ks)) (sym (pair-text m n (codes " & ") d ds))
     (says-name m 32 (38 ∷ 32 ∷ (n ++ d ∷ ds)) (Ampersand ∷ Named n ∷ ks) plain.0 refl
@@ -94,12 +99,14 @@ says-state : (s : State) → IsVariable s.name → Says (state_line s) (state_ki
 says-state s is =
     let last = says-then (bit_text s.init) line_end (bit_kind s.init ∷ []) (Semicolon ∷ []) (says-bit s.init) says-end in
     let equals = says-then (codes " = ") (bit_text s.init ++ line_end) (Equals ∷ []) (bit_kind s.init ∷ Semicolon ∷ []) says-equals last in
-    says-then (codes "static int ") (s.name ++ (codes " = " ++ (bit_text s.init ++ line_end))) (Static ∷ Int ∷ []) (Named s.name ∷ Equals ∷ bit_kind s.init ∷ Semicolon ∷ []) says-static
+    says-then (codes "static int ") (s.name ++ (codes " = " ++ (bit_text s.init ++ line_end))) (Static ∷ Int ∷ [])
+    (Named s.name ∷ Equals ∷ bit_kind s.init ∷ Semicolon ∷ []) says-static
     (says-name s.name 32 (61 ∷ 32 ∷ (bit_text s.init ++ line_end)) (Equals ∷ bit_kind s.init ∷ Semicolon ∷ []) is refl equals)
 
 says-declaration : (name : List ℕ) → IsVariable name → Says (declaration name) (declaration_kinds name)
 says-declaration name is =
-    says-then (codes "int ") (name ++ line_end) (Int ∷ []) (Named name ∷ Semicolon ∷ []) says-int (says-name name 59 (10 ∷ []) (Semicolon ∷ []) is refl says-end)
+    says-then (codes "int ") (name ++ line_end) (Int ∷ []) (Named name ∷ Semicolon ∷ []) says-int
+    (says-name name 59 (10 ∷ []) (Semicolon ∷ []) is refl says-end)
 
 says-assign : (a : Assign) → IsVariable a.target → IsPlain a.value → Says (assign_line a) (assign_kinds a)
 says-assign a is plain =
@@ -228,7 +235,8 @@ written_program p = record {
 
 meant-body : (body : List Assign) → map assign_meant (map written_assign body) ≡ body
 meant-body [] = refl
-meant-body (a ∷ body) = ap (λ e. record { target = a.target; value = e } ∷ map assign_meant (map written_assign body)) (meant-plain a.value) ∙ ap (λ l. a ∷ l) (meant-body body)
+meant-body (a ∷ body) = ap (λ e. record { target = a.target; value = e } ∷ map assign_meant (map written_assign body)) (meant-plain a.value)
+    ∙ ap (λ l. a ∷ l) (meant-body body)
 
 pub meant-written : (p : Program) → program_meant (written_program p) ≡ p
 meant-written p =
@@ -284,7 +292,13 @@ spells-global n long = record {
   rest = Named n ∷ Semicolon ∷ [];
   cut = refl;
   passes = refl;
-  behind = record { front = Named n ∷ []; back = Semicolon ∷ []; cut = refl; first = record { token = Named n; only = refl; passes = long }; second = semicolon };
+  behind = record {
+    front = Named n ∷ [];
+    back = Semicolon ∷ [];
+    cut = refl;
+    first = record { token = Named n; only = refl; passes = long };
+    second = semicolon;
+  };
 }
 
 spells-local : (n : List ℕ) → begins_global n ≡ false → SpellsLocal n (declaration_kinds n)
@@ -333,7 +347,14 @@ spells-many L f ks (x ∷ xs) all = record {
 
 spells-globals : (names : List (List ℕ)) → All (λ n. global_name (Named n) ≡ Some n) names
     → Loop SpellsGlobal names (flat_map declaration_kinds names ++ Int ∷ React ∷ [])
-spells-globals [] all = record { token = Int; value = tt; rest = React ∷ []; cut = refl; passes = refl; behind = record { token = React; only = refl; passes = refl } }
+spells-globals [] all = record {
+  token = Int;
+  value = tt;
+  rest = React ∷ [];
+  cut = refl;
+  passes = refl;
+  behind = record { token = React; only = refl; passes = refl };
+}
 spells-globals (n ∷ names) all = record {
   front = declaration_kinds n;
   back = flat_map declaration_kinds names ++ Int ∷ React ∷ [];

@@ -1,5 +1,6 @@
 -- To believe: the tokens of a text, each as long as it can be. Spaces and comments are none.
-use Rattle.std.specs.Prelude.{ℕ, ◌+◌, ◌-◌, ◌==◌, zero, suc, Bool, true, false, ◌&&◌, ◌||◌, List, [], ◌∷◌, length, take, codes}
+use Rattle.std.specs.Prelude.{ℕ, ◌+◌, ◌-◌, ◌==◌, zero, suc, Bool, true, false, ◌&&◌, ◌||◌, List, [], ◌∷◌, length, take}
+use Rattle.std.specs.Prelude.{codes}
 use Rattle.std.specs.Prelude.{Option, Some, None, if◌then◌else◌, map}
 use Rattle.std.specs.List.{prefix_len}
 use Rattle.est_base.specs.Names.{is_letter, is_name_byte, is_same_name}
@@ -98,7 +99,8 @@ abbrev pub front : ℕ → List ℕ → Front
 front c cs =
     if is_space c then Gap 0
     else (if c == 47 then slash_front cs
-    else (if begins_name c then Lexeme (prefix_len is_name_byte cs) (word_kind (c ∷ take (prefix_len is_name_byte cs) cs))
+    else (if begins_name c then Lexeme (prefix_len is_name_byte cs)
+    (word_kind (c ∷ take (prefix_len is_name_byte cs) cs))
     else mark_front (mark_kind c)))
 
 abbrev pub token_of : ℕ → Front → (ℕ → List Token) → List Token

@@ -1,5 +1,6 @@
 -- The last edge into a node, one edge on.
-use Rattle.std.proofs.Common.{◌≡◌, ◌≢◌, ℕ, ◌+◌, ◌-◌, ◌<◌, List, [], ◌∷◌, ◌++◌, length, slice_index, set, ap, sym, ◌∙◌, arith, ⊎_elim, get_or-set_same, get_or-set_other}
+use Rattle.std.proofs.Common.{◌≡◌, ◌≢◌, ℕ, ◌+◌, ◌-◌, ◌<◌, List, [], ◌∷◌, ◌++◌, length, slice_index, set, ap, sym, ◌∙◌, arith, ⊎_elim, get_or-set_same}
+use Rattle.std.proofs.Common.{get_or-set_other}
 use Rattle.std.proofs.lemmas.Bool.{cases_eq}
 use Rattle.std.proofs.lemmas.List.{get_or_push, get_or_append_left}
 use Rattle.digraph.specs.Searches.{edge_at, IsLastInto}
@@ -24,7 +25,8 @@ IsLastInto-other edges node k last other before = record {
 }
 
 -- so one more edge changes what is last into its own node alone
-pub IsLastInto-more : (edges : List (ℕ × ℕ)) (last : List ℕ) (k : ℕ) → (edge_at edges k).1 < length last → ((node : ℕ) → node < length last → IsLastInto edges node k (slice_index last node))
+pub IsLastInto-more : (edges : List (ℕ × ℕ)) (last : List ℕ) (k : ℕ) → (edge_at edges k).1 < length last →
+    ((node : ℕ) → node < length last → IsLastInto edges node k (slice_index last node))
     → (node : ℕ) → node < length last → IsLastInto edges node (k + 1) (slice_index (set last (edge_at edges k).1 (k + 1)) node)
 IsLastInto-more edges last k here before node low = ⊎_elim
     (λ (same : node ≡ (edge_at edges k).1).
@@ -44,7 +46,8 @@ IsLastInto-none edges node = record {
 }
 
 -- one more edge, with the last one before it into its node
-pub AreEarlier-more : (edges : List (ℕ × ℕ)) (earlier : List ℕ) (k x : ℕ) → length earlier ≡ k → IsLastInto edges (edge_at edges k).1 k x → ((j : ℕ) → j < k → IsLastInto edges (edge_at edges j).1 j (slice_index earlier j))
+pub AreEarlier-more : (edges : List (ℕ × ℕ)) (earlier : List ℕ) (k x : ℕ) → length earlier ≡ k → IsLastInto edges (edge_at edges k).1 k x →
+    ((j : ℕ) → j < k → IsLastInto edges (edge_at edges j).1 j (slice_index earlier j))
     → (j : ℕ) → j < k + 1 → IsLastInto edges (edge_at edges j).1 j (slice_index (earlier ++ x ∷ []) j)
 AreEarlier-more edges earlier k x len here before j low = ⊎_elim
     (λ (same : j ≡ k). let at : slice_index (earlier ++ x ∷ []) k ≡ x = get_or_push earlier x 0 k len in rw (same, at) here)

@@ -8,7 +8,8 @@ module _ (count : ℕ) (edges : List (ℕ × ℕ)) (ranks : List ℕ) (are : Are
   rank-edge from to edge = rw edge.2 at (are.grow edge.0 (from, to) edge.1)
 
   -- so no node of a walk has a lower rank than its first
-  rank-walk : (walk : List ℕ) → IsClosedWalk edges walk → (k : ℕ) → k < length walk → slice_index ranks (slice_index walk 0) ≤ slice_index ranks (slice_index walk k)
+  rank-walk : (walk : List ℕ) → IsClosedWalk edges walk → (k : ℕ) → k < length walk →
+      slice_index ranks (slice_index walk 0) ≤ slice_index ranks (slice_index walk k)
   rank-walk walk closed zero h = omega arith
   rank-walk walk closed (suc k) h =
       let low : k + 1 < length walk = omega arith in

@@ -1,7 +1,9 @@
 -- What the steps of a search keep.
-use Rattle.std.proofs.Common.{◌≡◌, ℕ, ◌+◌, ◌-◌, ◌<◌, ◌≤◌, ◌⊎◌, false, List, [], ◌∷◌, ◌++◌, length, take, drop, reverse, slice_index, set, refl, ap, sym, ◌∙◌, arith, inl, inr, ⊎_elim, get_or-set_same, get_or-set_other, IsTrue, count_by, cond}
+use Rattle.std.proofs.Common.{◌≡◌, ℕ, ◌+◌, ◌-◌, ◌<◌, ◌≤◌, ◌⊎◌, false, List, [], ◌∷◌, ◌++◌, length, take, drop, reverse, slice_index, set, refl, ap, sym, ◌∙◌}
+use Rattle.std.proofs.Common.{arith, inl, inr, ⊎_elim, get_or-set_same, get_or-set_other, IsTrue, count_by, cond}
 use Rattle.std.proofs.lemmas.Bool.{cases_eq, cases_lt, false≢true}
-use Rattle.std.proofs.lemmas.List.{get_or_push, get_or_append_left, length_push, length-set, get_or-take, get_or-drop, get_or-reverse, get_or_default, length-take-le, length-drop, length-reverse}
+use Rattle.std.proofs.lemmas.List.{get_or_push, get_or_append_left, length_push, length-set, get_or-take, get_or-drop, get_or-reverse, get_or_default}
+use Rattle.std.proofs.lemmas.List.{length-take-le, length-drop, length-reverse}
 use Rattle.std.proofs.lemmas.List.Sums.{sum_by-set}
 use Rattle.digraph.specs.declared.search.State.{State}
 use Rattle.digraph.specs.declared.search.State.TheVariants.{New, OnPath, Ranked}
@@ -9,22 +11,26 @@ use Rattle.digraph.specs.Walks.{HasEdge, JoinsNodes, IsClosedWalk}
 use Rattle.digraph.specs.Searches.{edge_at, IsLastInto, state_of, is_new, is_ranked, rank_in, IsSearch, StaysMet}
 
 -- one state is written: it stands there, and the others stay
-state_of-set : (states : List State) (node m : ℕ) (s : State) → node < length states → ((m ≡ node) × (state_of (set states node s) m ≡ s)) ⊎ ((m ≡ node → ⊥) × (state_of (set states node s) m ≡ state_of states m))
+state_of-set : (states : List State) (node m : ℕ) (s : State) → node < length states →
+    ((m ≡ node) × (state_of (set states node s) m ≡ s)) ⊎ ((m ≡ node → ⊥) × (state_of (set states node s) m ≡ state_of states m))
 state_of-set states node m s low = ⊎_elim
     (λ (same : m ≡ node). inl (same, ap (state_of (set states node s)) same ∙ get_or-set_same states node s New low))
     (λ (apart : m ≡ node → ⊥). inr (apart, get_or-set_other states node m s New apart))
     (cases_eq m node)
 
 -- how many nodes are new, where one state is written
-new_count-set : (states : List State) (node : ℕ) (s : State) → node < length states → count_by is_new (set states node s) + cond (is_new (state_of states node)) 1 0 ≡ count_by is_new states + cond (is_new s) 1 0
+new_count-set : (states : List State) (node : ℕ) (s : State) → node < length states →
+    count_by is_new (set states node s) + cond (is_new (state_of states node)) 1 0 ≡ count_by is_new states + cond (is_new s) 1 0
 new_count-set states node s low = sum_by-set (λ x. cond (is_new x) 1 0) states node s New low
 
 -- one new node less
-pub new_count-met : (states : List State) (node : ℕ) (s : State) → node < length states → state_of states node ≡ New → is_new s ≡ false → count_by is_new (set states node s) + 1 ≡ count_by is_new states
+pub new_count-met : (states : List State) (node : ℕ) (s : State) → node < length states → state_of states node ≡ New → is_new s ≡ false →
+    count_by is_new (set states node s) + 1 ≡ count_by is_new states
 new_count-met states node s low new met = omega (arith, rw (new, met) at (new_count-set states node s low))
 
 -- a node that was met
-pub new_count-same : (states : List State) (node : ℕ) (s : State) → node < length states → is_new (state_of states node) ≡ false → is_new s ≡ false → count_by is_new (set states node s) ≡ count_by is_new states
+pub new_count-same : (states : List State) (node : ℕ) (s : State) → node < length states → is_new (state_of states node) ≡ false → is_new s ≡ false →
+    count_by is_new (set states node s) ≡ count_by is_new states
 new_count-same states node s low was met = omega (arith, rw (was, met) at (new_count-set states node s low))
 
 -- nodes that were met stay met, where one state is written that is met
@@ -34,7 +40,8 @@ StaysMet-set states node s low met = record {
 }
 
 -- an element of a list that has one more
-slice_index-push : (xs : List ℕ) (x k : ℕ) → k < length (xs ++ x ∷ []) → ((k ≡ length xs) × (slice_index (xs ++ x ∷ []) k ≡ x)) ⊎ ((k < length xs) × (slice_index (xs ++ x ∷ []) k ≡ slice_index xs k))
+slice_index-push : (xs : List ℕ) (x k : ℕ) → k < length (xs ++ x ∷ []) →
+    ((k ≡ length xs) × (slice_index (xs ++ x ∷ []) k ≡ x)) ⊎ ((k < length xs) × (slice_index (xs ++ x ∷ []) k ≡ slice_index xs k))
 slice_index-push xs x k low = ⊎_elim
     (λ (same : k ≡ length xs). inl (same, get_or_push xs x 0 k (sym same)))
     (λ (apart : k ≡ length xs → ⊥).
@@ -54,7 +61,8 @@ OnPath-same e = cc
 
 module _ (count : ℕ) (edges : List (ℕ × ℕ)) (states : List State) (rest path order : List ℕ) (search : IsSearch count edges states rest path order) where
   -- a new node is put at the end of the path
-  module _ (node : ℕ) (low : node < count) (new : state_of states node ≡ New) (joined : 0 < length path → HasEdge edges node (slice_index path (length path - 1))) where
+  module _ (node : ℕ) (low : node < count) (new : state_of states node ≡ New)
+      (joined : 0 < length path → HasEdge edges node (slice_index path (length path - 1))) where
     in_states : node < length states
     in_states = omega (arith, search.state_each)
 
@@ -90,7 +98,11 @@ module _ (count : ℕ) (edges : List (ℕ × ℕ)) (states : List State) (rest p
           (λ here. rw (here.1) (low, get_or-set_same states node (OnPath (length path)) New in_states ∙ ap OnPath (sym here.0)))
           (λ before.
           let old = search.path_nodes k before.0 in
-          rw before.1 (old.0, ⊎_elim (λ here. absurd (not_new _ _ (sym old.1) (ap (state_of states) here.0 ∙ new))) (λ other. other.1 ∙ old.1) (entered-cases (slice_index path k))))
+          rw before.1 (
+            old.0,
+            ⊎_elim (λ here. absurd (not_new _ _ (sym old.1) (ap (state_of states) here.0 ∙ new))) (λ other. other.1 ∙ old.1)
+                (entered-cases (slice_index path k)),
+          ))
           (slice_index-push path node k h);
       path_places = λ m k h at. ⊎_elim
           (λ here.
@@ -117,7 +129,8 @@ module _ (count : ℕ) (edges : List (ℕ × ℕ)) (states : List State) (rest p
     }
 
   -- the last node of the path is taken from there and ranked: no edge into it is left
-  module _ (node : ℕ) (some : 0 < length path) (last : slice_index path (length path - 1) ≡ node) (done : slice_index rest node ≡ 0) (joins : JoinsNodes count edges) where
+  module _ (node : ℕ) (some : 0 < length path) (last : slice_index path (length path - 1) ≡ node) (done : slice_index rest node ≡ 0)
+      (joins : JoinsNodes count edges) where
     last_node : (node < count) × (state_of states node ≡ OnPath (length path - 1))
     last_node = rw last at (search.path_nodes (length path - 1) (omega arith))
 
@@ -139,7 +152,8 @@ module _ (count : ℕ) (edges : List (ℕ × ℕ)) (states : List State) (rest p
     path_length : length (take (length path - 1) path) ≡ length path - 1
     path_length = length-take-le (length path - 1) path (omega arith)
 
-    left-grows : (k : ℕ) → k < length edges → IsTrue (is_ranked (state_of left (edge_at edges k).1)) → IsTrue (is_ranked (state_of left (edge_at edges k).0)) × (rank_in (state_of left (edge_at edges k).0) < rank_in (state_of left (edge_at edges k).1))
+    left-grows : (k : ℕ) → k < length edges → IsTrue (is_ranked (state_of left (edge_at edges k).1)) →
+        IsTrue (is_ranked (state_of left (edge_at edges k).0)) × (rank_in (state_of left (edge_at edges k).0) < rank_in (state_of left (edge_at edges k).1))
     left-grows k h ranked = ⊎_elim
         (λ here.
         let none_left : slice_index rest (edge_at edges k).1 ≡ 0 = ap (slice_index rest) here.0 ∙ done in
@@ -153,7 +167,8 @@ module _ (count : ℕ) (edges : List (ℕ × ℕ)) (states : List State) (rest p
         rw (f, other.1) old)
         (left-cases (edge_at edges k).1)
 
-    left-placed : (m : ℕ) → m < count → IsTrue (is_ranked (state_of left m)) → (rank_in (state_of left m) < length (order ++ node ∷ [])) × (slice_index (order ++ node ∷ []) (rank_in (state_of left m)) ≡ m)
+    left-placed : (m : ℕ) → m < count → IsTrue (is_ranked (state_of left m)) →
+        (rank_in (state_of left m) < length (order ++ node ∷ [])) × (slice_index (order ++ node ∷ []) (rank_in (state_of left m)) ≡ m)
     left-placed m h ranked =
         let longer = length_push order node in
         ⊎_elim
@@ -202,9 +217,11 @@ module _ (count : ℕ) (edges : List (ℕ × ℕ)) (states : List State) (rest p
     }
 
   -- the last edge into a node that may not come from a ranked node comes from one
-  module _ (node earlier : ℕ) (low : node < count) (some : 0 < slice_index rest node) (ranked : IsTrue (is_ranked (state_of states (edge_at edges (slice_index rest node - 1)).0)))
+  module _ (node earlier : ℕ) (low : node < count) (some : 0 < slice_index rest node)
+      (ranked : IsTrue (is_ranked (state_of states (edge_at edges (slice_index rest node - 1)).0)))
       (before : IsLastInto edges (edge_at edges (slice_index rest node - 1)).1 (slice_index rest node - 1) earlier) where
-    rest-cases : (m : ℕ) → ((m ≡ node) × (slice_index (set rest node earlier) m ≡ earlier)) ⊎ ((m ≡ node → ⊥) × (slice_index (set rest node earlier) m ≡ slice_index rest m))
+    rest-cases : (m : ℕ) → ((m ≡ node) × (slice_index (set rest node earlier) m ≡ earlier))
+        ⊎ ((m ≡ node → ⊥) × (slice_index (set rest node earlier) m ≡ slice_index rest m))
     rest-cases m = ⊎_elim
         (λ (same : m ≡ node). inl (same, ap (slice_index (set rest node earlier)) same ∙ get_or-set_same rest node earlier 0 (omega (arith, search.rest_each))))
         (λ (apart : m ≡ node → ⊥). inr (apart, get_or-set_other rest node m earlier 0 apart))
@@ -219,7 +236,8 @@ module _ (count : ℕ) (edges : List (ℕ × ℕ)) (states : List State) (rest p
         (λ (same : k ≡ slice_index rest node - 1). rw (sym same) at ranked)
         (λ (apart : k ≡ slice_index rest node - 1 → ⊥). ⊎_elim
         (λ (below : k < slice_index rest node). absurd (before.none_between k from (omega arith) (to_node ∙ sym leads)))
-        (λ (above : slice_index rest node ≤ k). let e : slice_index rest (edge_at edges k).1 ≡ slice_index rest node = ap (slice_index rest) to_node in search.seen k h (omega arith))
+        (λ (above : slice_index rest node ≤ k). let e : slice_index rest (edge_at edges k).1 ≡ slice_index rest node = ap (slice_index rest) to_node in
+        search.seen k h (omega arith))
         (cases_lt k (slice_index rest node)))
         (cases_eq k (slice_index rest node - 1))
 
@@ -248,7 +266,8 @@ module _ (count : ℕ) (edges : List (ℕ × ℕ)) (states : List State) (rest p
     }
 
   -- an edge into the last node of the path, from a node of the path, closes a walk
-  module _ (node place : ℕ) (some : 0 < length path) (last : slice_index path (length path - 1) ≡ node) (positive : 0 < slice_index rest node) (joins : JoinsNodes count edges)
+  module _ (node place : ℕ) (some : 0 < length path) (last : slice_index path (length path - 1) ≡ node) (positive : 0 < slice_index rest node)
+      (joins : JoinsNodes count edges)
       (on_path : state_of states (edge_at edges (slice_index rest node - 1)).0 ≡ OnPath place) where
     abbrev source : ℕ
     source = (edge_at edges (slice_index rest node - 1)).0

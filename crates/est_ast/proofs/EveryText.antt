@@ -1,5 +1,6 @@
 -- Every text is cut into pieces up to its end or up to a fault.
-use Rattle.std.proofs.Common.{◌≡◌, ℕ, zero, suc, ◌+◌, ◌<◌, ◌≤◌, ◌≢◌, ◌⊎◌, ◌^◌, Bool, true, false, not, ◌&&◌, eqb, ltb, List, [], ◌∷◌, length, get_or, take, drop, Option, None, refl, sym, ◌∙◌, ap, inl, inr, ⊎_elim, arith}
+use Rattle.std.proofs.Common.{◌≡◌, ℕ, zero, suc, ◌+◌, ◌<◌, ◌≤◌, ◌≢◌, ◌⊎◌, ◌^◌, Bool, true, false, not, ◌&&◌, eqb, ltb, List, [], ◌∷◌, length, get_or, take}
+use Rattle.std.proofs.Common.{drop, Option, None, refl, sym, ◌∙◌, ap, inl, inr, ⊎_elim, arith}
 use Rattle.std.specs.Str.{bytes_eq}
 use Rattle.std.specs.List.{prefix_len}
 use Rattle.std.proofs.lemmas.List.{length-drop}
@@ -11,7 +12,8 @@ use Rattle.est_ast.specs.declared.tokens.Kind.{Kind}
 use Rattle.est_ast.specs.declared.tokens.Reserved.{Reserved as ReservedWord}
 use Rattle.est_ast.specs.Spelling.{spelling, sign}
 use Rattle.est_ast.specs.Lexemes.{IsLetter, IsDigit, IsNameByte, HasByte, OpensComment, ClosesComment, BeginsWithMark}
-use Rattle.est_ast.specs.Lexing.{number_of, IsFront, Piece, Cuts, width_of, tokens_from, BeginsWithBadByte, BeginsWithOpenComment, BeginsWithBigNumber, Lexing, Tokens, BadByte, OpenComment, BigNumber, LexesAs}
+use Rattle.est_ast.specs.Lexing.{number_of, IsFront, Piece, Cuts, width_of, tokens_from, BeginsWithBadByte, BeginsWithOpenComment, BeginsWithBigNumber, Lexing}
+use Rattle.est_ast.specs.Lexing.{Tokens, BadByte, OpenComment, BigNumber, LexesAs}
 use Rattle.est_ast.proofs.Classes.{space_test, letter_test, digit_test, name_test, space_told, letter_told, digit_told, name_told, run_of}
 use Rattle.est_ast.proofs.Heads.{mark_head, within}
 use Rattle.est_ast.proofs.OneToken.{read_word, read-spelling, mark_of, mark_of-head}
@@ -68,20 +70,23 @@ no_mark text apart n begins =
 mark_stands : (text : List ℕ) → 0 < length text → IsOther (get_or text 0 0) → Stands text
 mark_stands text some other =
     let mark = mark_of (get_or text 0 0) in
-    ⊎_elim (λ (same : take (length (sign mark)) text ≡ sign mark). let begins : BeginsWithMark text (length (sign mark)) = record { mark = mark; length_is = refl; written = same } in piece (length (sign mark)) _ (mark_front text (length (sign mark)) begins))
+    ⊎_elim (λ (same : take (length (sign mark)) text ≡ sign mark). let begins : BeginsWithMark text (length (sign mark)) =
+    record { mark = mark; length_is = refl; written = same } in piece (length (sign mark)) _ (mark_front text (length (sign mark)) begins))
     (λ (apart : take (length (sign mark)) text ≢ sign mark). bad_byte (bad_front text some other (no_mark text apart)))
     (same_or_not (take (length (sign mark)) text) (sign mark))
 
 -- comments
 
 -- the first place from here on, before an end, that passes a test, or that none does
-first_place : (test : ℕ → Bool) (from count : ℕ) → ((k : ℕ) × (from ≤ k) × (test k ≡ true) × ((j : ℕ) → from ≤ j → j < k → test j ≡ false)) ⊎ ((j : ℕ) → from ≤ j → j < from + count → test j ≡ false)
+first_place : (test : ℕ → Bool) (from count : ℕ) → ((k : ℕ) × (from ≤ k) × (test k ≡ true) × ((j : ℕ) → from ≤ j → j < k → test j ≡ false))
+    ⊎ ((j : ℕ) → from ≤ j → j < from + count → test j ≡ false)
 first_place test from zero = inr (λ j low high. absurd (omega arith))
 first_place test from (suc count) =
     ⊎_elim (λ (found : (k : ℕ) × (from ≤ k) × (test k ≡ true) × ((j : ℕ) → from ≤ j → j < k → test j ≡ false)). inl found)
     (λ (none : (j : ℕ) → from ≤ j → j < from + count → test j ≡ false).
     ⊎_elim (λ (yes : test (from + count) ≡ true). inl (from + count, omega arith, yes, none))
-    (λ (no : test (from + count) ≡ false). inr (λ j low high. ⊎_elim (λ (below : j < from + count). none j low below) (λ (at : from + count ≤ j). let here : j ≡ from + count = omega arith in rw here no) (cases_lt j (from + count))))
+    (λ (no : test (from + count) ≡ false). inr (λ j low high. ⊎_elim (λ (below : j < from + count). none j low below)
+    (λ (at : from + count ≤ j). let here : j ≡ from + count = omega arith in rw here no) (cases_lt j (from + count))))
     (either_way (test (from + count))))
     (first_place test from count)
 
@@ -182,10 +187,22 @@ cut_of (suc room) (byte ∷ text) fits = go (cut_of room) (text_stands (byte ∷
 pub some_lexing : (text : List ℕ) → (lexing : Lexing) × LexesAs text lexing
 some_lexing text =
     let found = cut_of (length text) text (omega arith) in
-    ⊎_elim (λ (ends : found.rest ≡ []). (Tokens (tokens_from 0 found.pieces), record { pieces = found.pieces; rest = found.rest; cut = found.cut; comes_to = (ends, refl) }))
+    ⊎_elim (λ (ends : found.rest ≡ []). (
+      Tokens (tokens_from 0 found.pieces),
+      record { pieces = found.pieces; rest = found.rest; cut = found.cut; comes_to = (ends, refl) },
+    ))
     (λ (fault : BeginsWithBadByte found.rest ⊎ (BeginsWithOpenComment found.rest ⊎ BeginsWithBigNumber found.rest)).
-    ⊎_elim (λ (bad : BeginsWithBadByte found.rest). (BadByte (width_of found.pieces), record { pieces = found.pieces; rest = found.rest; cut = found.cut; comes_to = (bad, refl) }))
-    (⊎_elim (λ (opened : BeginsWithOpenComment found.rest). (OpenComment (width_of found.pieces), record { pieces = found.pieces; rest = found.rest; cut = found.cut; comes_to = (opened, refl) }))
-    (λ (big : BeginsWithBigNumber found.rest). (BigNumber (width_of found.pieces), record { pieces = found.pieces; rest = found.rest; cut = found.cut; comes_to = (big, refl) })))
+    ⊎_elim (λ (bad : BeginsWithBadByte found.rest). (
+      BadByte (width_of found.pieces),
+      record { pieces = found.pieces; rest = found.rest; cut = found.cut; comes_to = (bad, refl) },
+    ))
+    (⊎_elim (λ (opened : BeginsWithOpenComment found.rest). (
+      OpenComment (width_of found.pieces),
+      record { pieces = found.pieces; rest = found.rest; cut = found.cut; comes_to = (opened, refl) },
+    ))
+    (λ (big : BeginsWithBigNumber found.rest). (
+      BigNumber (width_of found.pieces),
+      record { pieces = found.pieces; rest = found.rest; cut = found.cut; comes_to = (big, refl) },
+    )))
     fault)
     found.ends

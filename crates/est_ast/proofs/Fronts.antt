@@ -4,7 +4,8 @@ use Rattle.est_ast.specs.declared.tokens.Kind.{Kind}
 use Rattle.est_ast.specs.declared.tokens.Kind.TheVariants.{Reserved, Mark, Ident, Number}
 use Rattle.est_ast.specs.declared.tokens.Reserved.{Reserved as ReservedWord}
 use Rattle.est_ast.specs.Spelling.{spelling}
-use Rattle.est_ast.specs.Lexemes.{IsSpace, IsLetter, IsDigit, IsNameByte, BeginsWithLineComment, BeginsWithBlockComment, BeginsWithMark, Part, Space, LineComment, BlockComment, Word, Numeral, Sign, Begins, BeginsLongest}
+use Rattle.est_ast.specs.Lexemes.{IsSpace, IsLetter, IsDigit, IsNameByte, BeginsWithLineComment, BeginsWithBlockComment, BeginsWithMark, Part, Space}
+use Rattle.est_ast.specs.Lexemes.{LineComment, BlockComment, Word, Numeral, Sign, Begins, BeginsLongest}
 use Rattle.est_ast.specs.Lexing.{number_of, IsFront, BeginsWithBadByte, BeginsWithBigNumber}
 use Rattle.est_ast.specs.Runs.{IsRun}
 use Rattle.est_ast.proofs.Heads.{opens, within}
@@ -34,22 +35,27 @@ run_some P text (suc n) some head run = omega arith
 
 word_longest : (text : List ℕ) (n : ℕ) → 0 < length text → IsLetter (get_or text 0 0) → IsRun IsNameByte text n → BeginsLongest Word text n
 word_longest text n some letter run =
-    longest_word text n (record { some = run_some IsNameByte text n some (inl letter) run; within = run.within; letter = letter; name_bytes = run.passes }) run.stops
+    longest_word text n (record { some = run_some IsNameByte text n some (inl letter) run; within = run.within; letter = letter; name_bytes = run.passes })
+    run.stops
 
-pub reserved_front : (text : List ℕ) (n : ℕ) (word : ReservedWord) → 0 < length text → IsLetter (get_or text 0 0) → IsRun IsNameByte text n → take n text ≡ spelling word → IsFront text n (Some (Reserved word))
+pub reserved_front : (text : List ℕ) (n : ℕ) (word : ReservedWord) → 0 < length text → IsLetter (get_or text 0 0) → IsRun IsNameByte text n →
+    take n text ≡ spelling word → IsFront text n (Some (Reserved word))
 reserved_front text n word some letter run written = record { part = Word; longest = word_longest text n some letter run; makes = written }
 
-pub ident_front : (text : List ℕ) (n : ℕ) → 0 < length text → IsLetter (get_or text 0 0) → IsRun IsNameByte text n → ((word : ReservedWord) → take n text ≢ spelling word) → IsFront text n (Some (Ident (take n text)))
+pub ident_front : (text : List ℕ) (n : ℕ) → 0 < length text → IsLetter (get_or text 0 0) → IsRun IsNameByte text n →
+    ((word : ReservedWord) → take n text ≢ spelling word) → IsFront text n (Some (Ident (take n text)))
 ident_front text n some letter run other = record { part = Word; longest = word_longest text n some letter run; makes = (refl, other) }
 
 numeral_longest : (text : List ℕ) (n : ℕ) → 0 < length text → IsDigit (get_or text 0 0) → IsRun IsDigit text n → BeginsLongest Numeral text n
 numeral_longest text n some digit run =
     longest_numeral text n (record { some = run_some IsDigit text n some digit run; within = run.within; digits = run.passes }) run.stops
 
-pub number_front : (text : List ℕ) (n : ℕ) → 0 < length text → IsDigit (get_or text 0 0) → IsRun IsDigit text n → number_of (take n text) < 2 ^ 128 → IsFront text n (Some (Number (number_of (take n text))))
+pub number_front : (text : List ℕ) (n : ℕ) → 0 < length text → IsDigit (get_or text 0 0) → IsRun IsDigit text n → number_of (take n text) < 2 ^ 128 →
+    IsFront text n (Some (Number (number_of (take n text))))
 number_front text n some digit run fits = record { part = Numeral; longest = numeral_longest text n some digit run; makes = (refl, fits) }
 
-pub big_front : (text : List ℕ) (n : ℕ) → 0 < length text → IsDigit (get_or text 0 0) → IsRun IsDigit text n → 2 ^ 128 ≤ number_of (take n text) → BeginsWithBigNumber text
+pub big_front : (text : List ℕ) (n : ℕ) → 0 < length text → IsDigit (get_or text 0 0) → IsRun IsDigit text n → 2 ^ 128 ≤ number_of (take n text) →
+    BeginsWithBigNumber text
 big_front text n some digit run big = record { width = n; longest = numeral_longest text n some digit run; big = big }
 
 pub mark_front : (text : List ℕ) (n : ℕ) (begins : BeginsWithMark text n) → IsFront text n (Some (Mark begins.mark))

@@ -4,7 +4,8 @@ use Rattle.std.proofs.lemmas.List.{get_or-take, length-take}
 use Rattle.est_ast.specs.declared.tokens.Mark.{Mark}
 use Rattle.est_ast.specs.declared.tokens.Mark.TheVariants.{Semicolon}
 use Rattle.est_ast.specs.Spelling.{sign}
-use Rattle.est_ast.specs.Lexemes.{IsSpace, IsLetter, IsDigit, HasByte, OpensComment, BeginsWithLineComment, BeginsWithMark, Part, Space, LineComment, BlockComment, Word, Numeral, Sign, Begins}
+use Rattle.est_ast.specs.Lexemes.{IsSpace, IsLetter, IsDigit, HasByte, OpensComment, BeginsWithLineComment, BeginsWithMark, Part, Space, LineComment}
+use Rattle.est_ast.specs.Lexemes.{BlockComment, Word, Numeral, Sign, Begins}
 
 -- a byte that begins a mark begins nothing else
 pub record IsMarkByte (byte : ℕ) : Type 0 where

@@ -2,7 +2,8 @@
 use Rattle.std.proofs.Common.{◌≡◌, ℕ, ◌<◌, ◌≤◌, List, length, get_or, sym, ◌∙◌, ap, subst, ⊎_elim, arith}
 use Rattle.std.proofs.lemmas.Bool.{cases_lt}
 use Rattle.est_ast.specs.Spelling.{sign}
-use Rattle.est_ast.specs.Lexemes.{IsNameByte, IsDigit, BeginsWithSpace, BeginsWithLineComment, BeginsWithBlockComment, BeginsWithWord, BeginsWithNumeral, BeginsWithMark, Part, Space, LineComment, BlockComment, Word, Numeral, Sign, Begins, BeginsLongest}
+use Rattle.est_ast.specs.Lexemes.{IsNameByte, IsDigit, BeginsWithSpace, BeginsWithLineComment, BeginsWithBlockComment, BeginsWithWord, BeginsWithNumeral}
+use Rattle.est_ast.specs.Lexemes.{BeginsWithMark, Part, Space, LineComment, BlockComment, Word, Numeral, Sign, Begins, BeginsLongest}
 use Rattle.est_ast.proofs.Heads.{opens, one_part, mark_head}
 use Rattle.est_ast.proofs.OneToken.{mark_of, mark_of-head}
 
@@ -19,11 +20,13 @@ longest_space text n begins = longest_of_kind Space text n begins (λ m other. o
 
 pub longest_line : (text : List ℕ) (n : ℕ) → BeginsWithLineComment text n → BeginsLongest LineComment text n
 longest_line text n begins = longest_of_kind LineComment text n begins
-    (λ m other. ⊎_elim (λ (more : n < m). absurd (other.one_line n more (begins.up_to_end (omega (arith, other.within))))) (λ (fits : m ≤ n). fits) (cases_lt n m))
+    (λ m other. ⊎_elim (λ (more : n < m). absurd (other.one_line n more (begins.up_to_end (omega (arith, other.within))))) (λ (fits : m ≤ n). fits)
+    (cases_lt n m))
 
 pub longest_block : (text : List ℕ) (n : ℕ) → BeginsWithBlockComment text n → BeginsLongest BlockComment text n
 longest_block text n begins = longest_of_kind BlockComment text n begins
-    (λ m other. ⊎_elim (λ (more : begins.close < other.close). absurd (other.next begins.close begins.behind more begins.closes)) (λ (fits : other.close ≤ begins.close). omega (arith, fits, other.length_is, begins.length_is)) (cases_lt begins.close other.close))
+    (λ m other. ⊎_elim (λ (more : begins.close < other.close). absurd (other.next begins.close begins.behind more begins.closes))
+    (λ (fits : other.close ≤ begins.close). omega (arith, fits, other.length_is, begins.length_is)) (cases_lt begins.close other.close))
 
 -- a word, where no byte of a name follows
 pub longest_word : (text : List ℕ) (n : ℕ) → BeginsWithWord text n → (n < length text → ¬ IsNameByte (get_or text n 0)) → BeginsLongest Word text n

@@ -2,7 +2,8 @@
 use Rattle.std.proofs.Common.{◌≡◌, ℕ, List, [], ◌∷◌, length, take, drop, Option, refl, sym, ◌∙◌, ap, subst, arith}
 use Rattle.est_ast.specs.declared.tokens.Kind.{Kind}
 use Rattle.est_ast.specs.Lexemes.{Part, BlockComment, Numeral, OpensComment, Begins, BeginsLongest}
-use Rattle.est_ast.specs.Lexing.{Makes, IsFront, Piece, Cuts, BeginsWithOpenComment, BeginsWithBigNumber, Lexing, Tokens, BadByte, OpenComment, BigNumber, ComesTo, LexesAs}
+use Rattle.est_ast.specs.Lexing.{Makes, IsFront, Piece, Cuts, BeginsWithOpenComment, BeginsWithBigNumber, Lexing, Tokens, BadByte, OpenComment, BigNumber}
+use Rattle.est_ast.specs.Lexing.{ComesTo, LexesAs}
 use Rattle.est_ast.proofs.Heads.{opens, one_part, within}
 use Rattle.est_ast.proofs.OneToken.{one_token, numeral_fits}
 
@@ -15,7 +16,8 @@ same_width : (part other : Part) (text : List ℕ) (n m : ℕ) → BeginsLongest
 same_width part other text n m a b = omega (arith, a.longest other m b.begins, b.longest part n a.begins)
 
 -- one piece stands at the front of a text
-one_front : (text : List ℕ) (width width' : ℕ) (token token' : Option Kind) → IsFront text width token → IsFront text width' token' → (width ≡ width') × (token ≡ token')
+one_front : (text : List ℕ) (width width' : ℕ) (token token' : Option Kind) → IsFront text width token → IsFront text width' token' →
+    (width ≡ width') × (token ≡ token')
 one_front text width width' token token' a b =
     let wide : width ≡ width' = same_width a.part b.part text width width' a.longest b.longest in
     let kind : a.part ≡ b.part = same_kind a.part b.part text width width' a.longest.begins b.longest.begins in
@@ -34,10 +36,13 @@ one_piece text piece other a b =
 abbrev IsStuck : List ℕ → Type 0
 IsStuck rest = (width : ℕ) (token : Option Kind) → ¬ IsFront rest width token
 
-one_cut : (pieces others : List Piece) (text rest rest' : List ℕ) → Cuts pieces text rest → Cuts others text rest' → IsStuck rest → IsStuck rest' → (pieces ≡ others) × (rest ≡ rest')
+one_cut : (pieces others : List Piece) (text rest rest' : List ℕ) → Cuts pieces text rest → Cuts others text rest' → IsStuck rest → IsStuck rest' →
+    (pieces ≡ others) × (rest ≡ rest')
 one_cut [] [] text rest rest' a b stuck stuck' = (refl, sym a ∙ b)
-one_cut [] (other ∷ others) text rest rest' a b stuck stuck' = absurd (stuck other.width other.token (subst (λ (t : List ℕ). IsFront t other.width other.token) a b.0))
-one_cut (piece ∷ pieces) [] text rest rest' a b stuck stuck' = absurd (stuck' piece.width piece.token (subst (λ (t : List ℕ). IsFront t piece.width piece.token) b a.0))
+one_cut [] (other ∷ others) text rest rest' a b stuck stuck' = absurd
+    (stuck other.width other.token (subst (λ (t : List ℕ). IsFront t other.width other.token) a b.0))
+one_cut (piece ∷ pieces) [] text rest rest' a b stuck stuck' = absurd
+    (stuck' piece.width piece.token (subst (λ (t : List ℕ). IsFront t piece.width piece.token) b a.0))
 one_cut (piece ∷ pieces) (other ∷ others) text rest rest' a b stuck stuck' =
     let same : piece ≡ other = one_piece text piece other a.0 b.0 in
     let cut : Cuts others (drop piece.width text) rest' = rw same b.1 in

@@ -6,8 +6,11 @@ use Rattle.est_ast.specs.declared.tokens.Kind.{Kind}
 use Rattle.est_ast.specs.declared.tokens.Kind.TheVariants.{Reserved, Mark, Ident, Number}
 use Rattle.est_ast.specs.declared.tokens.Reserved.{Reserved as ReservedWord}
 use Rattle.est_ast.specs.declared.tokens.Mark.{Mark as MarkSign}
-use Rattle.est_ast.specs.declared.tokens.Reserved.TheVariants.{Abort, And, Await, Case, Do, Each, Else, Emit, End, Every, Exit, Halt, Handle, Immediate, In, Input, InputOutput, Loop, Module, Not, Nothing, Or, Output, Pause, Positive, Present, Relation, Repeat, Run, Signal, Suspend, Sustain, Then, Tick, Times, Trap, Weak, When}
-use Rattle.est_ast.specs.declared.tokens.Mark.TheVariants.{Semicolon, DoubleBar, LeftBracket, RightBracket, LeftParenthesis, RightParenthesis, Comma, Slash, Colon, Hash, Arrow, Period}
+use Rattle.est_ast.specs.declared.tokens.Reserved.TheVariants.{Abort, And, Await, Case, Do, Each, Else, Emit, End, Every, Exit, Halt, Handle, Immediate, In}
+use Rattle.est_ast.specs.declared.tokens.Reserved.TheVariants.{Input, InputOutput, Loop, Module, Not, Nothing, Or, Output, Pause, Positive, Present, Relation}
+use Rattle.est_ast.specs.declared.tokens.Reserved.TheVariants.{Repeat, Run, Signal, Suspend, Sustain, Then, Tick, Times, Trap, Weak, When}
+use Rattle.est_ast.specs.declared.tokens.Mark.TheVariants.{Semicolon, DoubleBar, LeftBracket, RightBracket, LeftParenthesis, RightParenthesis, Comma, Slash}
+use Rattle.est_ast.specs.declared.tokens.Mark.TheVariants.{Colon, Hash, Arrow, Period}
 use Rattle.est_ast.specs.Spelling.{spelling, sign}
 use Rattle.est_ast.specs.Lexemes.{Part, Space, LineComment, BlockComment, Word, Numeral, Sign}
 use Rattle.est_ast.specs.Lexing.{Makes, number_of}

@@ -5,10 +5,12 @@ use Rattle.std.specs.declared.vec.Vec.{Vec}
 use Rattle.std.specs.declared.boxed.Box.{Box}
 use Rattle.std.specs.Prelude.{Option}
 use Rattle.est_ast.specs.declared.trees.Case.{Case}
-use Rattle.est_ast.specs.declared.trees.Form.{Row_of-Case, end_of-Case, more_of-Case, items-the_row-Case, items_hidden-the_row-Case-0, Row_of-Stmt, end_of-Stmt, more_of-Stmt, items-the_row-Stmt, items_hidden-the_row-Stmt-1}
+use Rattle.est_ast.specs.declared.trees.Form.{Row_of-Case, end_of-Case, more_of-Case, items-the_row-Case, items_hidden-the_row-Case-0, Row_of-Stmt, end_of-Stmt}
+use Rattle.est_ast.specs.declared.trees.Form.{more_of-Stmt, items-the_row-Stmt, items_hidden-the_row-Stmt-1}
 use Rattle.est_ast.specs.declared.trees.Form.TheBlock.{hidden-the_row-Case-0, hidden-the_row-Stmt-1}
 use Rattle.est_ast.specs.declared.trees.Form.TheVariants as forms
-use Rattle.est_ast.specs.declared.trees.SigExpr.{SigExpr, Row_of-SigExpr, end_of-SigExpr, more_of-SigExpr, items-the_row-SigExpr, items_hidden-the_row-SigExpr-0}
+use Rattle.est_ast.specs.declared.trees.SigExpr.{SigExpr, Row_of-SigExpr, end_of-SigExpr, more_of-SigExpr, items-the_row-SigExpr}
+use Rattle.est_ast.specs.declared.trees.SigExpr.{items_hidden-the_row-SigExpr-0}
 use Rattle.est_ast.specs.declared.trees.SigExpr.TheBlock.{hidden-the_row-SigExpr-0}
 use Rattle.est_ast.specs.declared.trees.SigExpr.TheVariants as nodes
 use Rattle.est_ast.specs.declared.trees.Stmt.{Stmt}
@@ -45,7 +47,8 @@ hidden-cases v = row-cases (hidden-the_row-Case-0 v) ∙ ap (λ l. cases (map ca
 pub form-AwaitCase : (v : Vec Case Global) → form_of (forms.AwaitCase v) ≡ AwaitCase (cases (map case_of v.items))
 form-AwaitCase v = ap AwaitCase (hidden-cases v)
 
-pub form-PresentCase : (v : Vec Case Global) (q : Option (Box Stmt Global)) → form_of (forms.PresentCase v q) ≡ PresentCase (cases (map case_of v.items)) (part_of q)
+pub form-PresentCase : (v : Vec Case Global) (q : Option (Box Stmt Global)) →
+    form_of (forms.PresentCase v q) ≡ PresentCase (cases (map case_of v.items)) (part_of q)
 form-PresentCase v q = ap (λ found. PresentCase found (part_of q)) (hidden-cases v)
 
 pub form-AbortCase : (p : Box Stmt Global) (v : Vec Case Global) → form_of (forms.AbortCase p v) ≡ AbortCase (stmt_of p.value) (cases (map case_of v.items))

@@ -4,15 +4,23 @@ use Rattle.std.specs.declared.alloc.Global.{Global}
 use Rattle.std.specs.declared.boxed.Box.{Box}
 use Rattle.est_base.specs.Relations.{relation_of}
 use Rattle.est_ast.specs.declared.flat.Flat.{Flat as CodeFlat}
-use Rattle.est_ast.specs.declared.flat.FlatCase.{FlatCase, FlatCase', Held-FlatCase-body, FlatCase-body-None', FlatCase-body-Some'}
+use Rattle.est_ast.specs.declared.flat.FlatCase.{FlatCase, FlatCase', Held-FlatCase-body, FlatCase-body-None'}
+use Rattle.est_ast.specs.declared.flat.FlatCase.{FlatCase-body-Some'}
 use Rattle.est_ast.specs.declared.flat.FlatDelay.{FlatDelay}
 use Rattle.est_ast.specs.declared.flat.FlatDelay.TheVariants as delays
 use Rattle.est_ast.specs.declared.flat.FlatExpr.{FlatExpr, Row_of-FlatExpr, end_of-FlatExpr, more_of-FlatExpr}
 use Rattle.est_ast.specs.declared.flat.FlatExpr.TheVariants as exprs
-use Rattle.est_ast.specs.declared.flat.FlatForm.{FlatForm, Held-FlatForm-Await-1, FlatForm-Await-1-None', FlatForm-Await-1-Some', back-FlatForm-Await-1, Row_of-FlatCase, end_of-FlatCase, more_of-FlatCase, Row_of-FlatStmt, end_of-FlatStmt, more_of-FlatStmt}
+use Rattle.est_ast.specs.declared.flat.FlatForm.{FlatForm, Held-FlatForm-Await-1, FlatForm-Await-1-None'}
+use Rattle.est_ast.specs.declared.flat.FlatForm.{FlatForm-Await-1-Some', back-FlatForm-Await-1, Row_of-FlatCase}
+use Rattle.est_ast.specs.declared.flat.FlatForm.{end_of-FlatCase, more_of-FlatCase, Row_of-FlatStmt, end_of-FlatStmt}
+use Rattle.est_ast.specs.declared.flat.FlatForm.{more_of-FlatStmt}
 use Rattle.est_ast.specs.declared.flat.FlatForm.TheVariants as forms
 use Rattle.est_ast.specs.declared.flat.FlatStmt.{FlatStmt}
-use Rattle.est_ast.specs.FlatTrees.{Expr, Tick, Sig, Not, And, Or, Round, Square, Exprs, NoExprs, MoreExprs, Delay, Plain, Immediate, Count, Stmt, At, Form, Nothing, Pause, Halt, Emit, Sustain, Await, AwaitCase, Present, PresentCase, Loop, LoopEach, Every, Repeat, Abort, AbortCase, WeakAbort, Suspend, Trap, Exit, Signal, Seq, Par, Part, Missing, Written, Stmts, NoStmts, MoreStmts, Cases, NoCases, MoreCases, Flat}
+use Rattle.est_ast.specs.FlatTrees.{Expr, Tick, Sig, Not, And, Or, Round, Square, Exprs, NoExprs, MoreExprs, Delay}
+use Rattle.est_ast.specs.FlatTrees.{Plain, Immediate, Count, Stmt, At, Form, Nothing, Pause, Halt, Emit, Sustain, Await}
+use Rattle.est_ast.specs.FlatTrees.{AwaitCase, Present, PresentCase, Loop, LoopEach, Every, Repeat, Abort, AbortCase}
+use Rattle.est_ast.specs.FlatTrees.{WeakAbort, Suspend, Trap, Exit, Signal, Seq, Par, Part, Missing, Written, Stmts}
+use Rattle.est_ast.specs.FlatTrees.{NoStmts, MoreStmts, Cases, NoCases, MoreCases, Flat}
 
 abbrev mutual
   pub flat_expr_of : FlatExpr → Expr

@@ -31,7 +31,12 @@ use Rattle.est_ast.specs.declared.tokens.Mark.TheVariants as marks
 use Rattle.est_ast.specs.declared.trees.Name.{Name}
 use Rattle.est_ast.specs.declared.trees.Rename.{Rename}
 use Rattle.est_ast.specs.Spelling.{spelling, sign}
-use Rattle.est_ast.specs.Trees.{Expr, Tick, Sig, Not, And, Or, Round, Square, Exprs, NoExprs, MoreExprs, Delay, Plain, Immediate, Count, Stmt, At, Form, Nothing, Pause, Halt, Emit, Sustain, Await, AwaitCase, Present, PresentCase, Loop, LoopEach, Every, Repeat, Abort, AbortCase, WeakAbort, Suspend, Trap, Exit, Signal, Run, Seq, Par, Group, Part, Missing, Written, Handler, NoHandler, Handled, Stmts, NoStmts, MoreStmts, Cases, NoCases, MoreCases, Relation, Implies, Excludes, Decl, Input, InputOutput, Output, Relations, Module, Program}
+use Rattle.est_ast.specs.Trees.{Expr, Tick, Sig, Not, And, Or, Round, Square, Exprs, NoExprs, MoreExprs, Delay, Plain}
+use Rattle.est_ast.specs.Trees.{Immediate, Count, Stmt, At, Form, Nothing, Pause, Halt, Emit, Sustain, Await, AwaitCase}
+use Rattle.est_ast.specs.Trees.{Present, PresentCase, Loop, LoopEach, Every, Repeat, Abort, AbortCase, WeakAbort}
+use Rattle.est_ast.specs.Trees.{Suspend, Trap, Exit, Signal, Run, Seq, Par, Group, Part, Missing, Written, Handler}
+use Rattle.est_ast.specs.Trees.{NoHandler, Handled, Stmts, NoStmts, MoreStmts, Cases, NoCases, MoreCases, Relation}
+use Rattle.est_ast.specs.Trees.{Implies, Excludes, Decl, Input, InputOutput, Output, Relations, Module, Program}
 use Rattle.read_rules.specs.Languages.{Empty, One, Then, Led, Maybe, Parted, Many}
 use Rattle.read_rules.specs.Languages.{Loop as Steps}
 
@@ -89,7 +94,8 @@ abbrev pub Over : Span → (List Token → Type 0) → List Token → Type 0
 Over span L tokens = (span ≡ span_of tokens) × L tokens
 
 -- one or more, with separators between them
-abbrev pub Listed : {A : Type 0} → (Token → Option (Unit {0})) → (A → List Token → Type 0) → List A → List Token → Type 0
+abbrev pub Listed : {A : Type 0} → (Token → Option (Unit {0})) → (A → List Token → Type 0) → List A → List Token →
+    Type 0
 Listed separator L [] = λ _. ⊥
 Listed separator L (first ∷ others) = Then (L first) (Steps (Parted separator (λ _. L) Empty) others)
 
@@ -133,11 +139,13 @@ abbrev mutual
 
   pub SpellsNextExprs : Reserved → Tier → Exprs → List Token → Type 0
   SpellsNextExprs w tier NoExprs = λ _. ⊥
-  SpellsNextExprs w tier (MoreExprs e others) = Then (Led (word w) (λ _. SpellsExpr tier e)) (SpellsOtherExprs w tier others)
+  SpellsNextExprs w tier (MoreExprs e others) = Then (Led (word w) (λ _. SpellsExpr tier e))
+      (SpellsOtherExprs w tier others)
 
   pub SpellsOtherExprs : Reserved → Tier → Exprs → List Token → Type 0
   SpellsOtherExprs w tier NoExprs = Empty
-  SpellsOtherExprs w tier (MoreExprs e others) = Then (Led (word w) (λ _. SpellsExpr tier e)) (SpellsOtherExprs w tier others)
+  SpellsOtherExprs w tier (MoreExprs e others) = Then (Led (word w) (λ _. SpellsExpr tier e))
+      (SpellsOtherExprs w tier others)
 
 -- event = NAME | "tick" | "[" expr "]"
 abbrev pub SpellsEvent : Expr → List Token → Type 0
@@ -189,7 +197,8 @@ abbrev mutual
   pub Spells : Level → Stmt → List Token → Type 0
   Spells Item (At span form) = Over span (SpellsItem form)
   Spells Line (At span form) = OnLine span (SpellsItem form) (SpellsSeq form)
-  Spells Whole (At span form) = λ tokens. OnLine span (SpellsItem form) (SpellsSeq form) tokens ⊎ Over span (SpellsPar form) tokens
+  Spells Whole (At span form) = λ tokens. OnLine span (SpellsItem form) (SpellsSeq form) tokens
+      ⊎ Over span (SpellsPar form) tokens
 
   -- item ";" item { ";" item } [ ";" ]
   pub SpellsSeq : Form → List Token → Type 0
@@ -208,11 +217,13 @@ abbrev mutual
 
   pub SpellsNextStmts : Mark → Level → (List Token → Type 0) → Stmts → List Token → Type 0
   SpellsNextStmts m level last NoStmts = λ _. ⊥
-  SpellsNextStmts m level last (MoreStmts p others) = Then (Led (mark m) (λ _. Spells level p)) (SpellsOtherStmts m level last others)
+  SpellsNextStmts m level last (MoreStmts p others) =
+      Then (Led (mark m) (λ _. Spells level p)) (SpellsOtherStmts m level last others)
 
   pub SpellsOtherStmts : Mark → Level → (List Token → Type 0) → Stmts → List Token → Type 0
   SpellsOtherStmts m level last NoStmts = last
-  SpellsOtherStmts m level last (MoreStmts p others) = Then (Led (mark m) (λ _. Spells level p)) (SpellsOtherStmts m level last others)
+  SpellsOtherStmts m level last (MoreStmts p others) =
+      Then (Led (mark m) (λ _. Spells level p)) (SpellsOtherStmts m level last others)
 
   pub SpellsItem : Form → List Token → Type 0
   -- "nothing"
@@ -247,20 +258,24 @@ abbrev mutual
       Led (word words.Loop) (λ _. Then (Spells Whole p) (Led (word words.Each) (λ _. SpellsCount delay)))
   -- "every" delay "do" stmt "end" [ "every" ]
   SpellsItem (Every delay p) =
-      Led (word words.Every) (λ _. Then (SpellsDelay delay) (Led (word words.Do) (λ _. Then (Spells Whole p) (Ends words.Every))))
+      Led (word words.Every) (λ _. Then (SpellsDelay delay)
+      (Led (word words.Do) (λ _. Then (Spells Whole p) (Ends words.Every))))
   -- [ "positive" ] "repeat" NUMBER "times" stmt "end" [ "repeat" ]
   SpellsItem (Repeat count span p) =
       Then (Maybe (word words.Positive)) (Led (word words.Repeat) (λ _. Then (One number (count, span))
       (Led (word words.Times) (λ _. Then (Spells Whole p) (Ends words.Repeat)))))
   -- "abort" stmt "when" delay [ "do" stmt "end" [ "abort" ] ]
   SpellsItem (Abort p delay q) =
-      Led (word words.Abort) (λ _. Then (Spells Whole p) (Led (word words.When) (λ _. Then (SpellsDelay delay) (SpellsDo words.Abort q))))
+      Led (word words.Abort) (λ _. Then (Spells Whole p)
+      (Led (word words.When) (λ _. Then (SpellsDelay delay) (SpellsDo words.Abort q))))
   -- "abort" stmt "when" case { case } "end" [ "abort" ]
   SpellsItem (AbortCase p cases) =
-      Led (word words.Abort) (λ _. Then (Spells Whole p) (Led (word words.When) (λ _. Then (SpellsCases cases) (Ends words.Abort))))
+      Led (word words.Abort) (λ _. Then (Spells Whole p)
+      (Led (word words.When) (λ _. Then (SpellsCases cases) (Ends words.Abort))))
   -- "weak" "abort" stmt "when" delay
   SpellsItem (WeakAbort p delay) =
-      Led (word words.Weak) (λ _. Led (word words.Abort) (λ _. Then (Spells Whole p) (Led (word words.When) (λ _. SpellsDelay delay))))
+      Led (word words.Weak) (λ _. Led (word words.Abort)
+      (λ _. Then (Spells Whole p) (Led (word words.When) (λ _. SpellsDelay delay))))
   -- "suspend" stmt "when" [ "immediate" ] event
   SpellsItem (Suspend p delay) =
       Led (word words.Suspend) (λ _. Then (Spells Whole p) (Led (word words.When) (λ _. SpellsTest delay)))
@@ -291,18 +306,21 @@ abbrev mutual
   -- [ "handle" NAME "do" stmt ]
   pub SpellsHandler : Handler → List Token → Type 0
   SpellsHandler NoHandler = Empty
-  SpellsHandler (Handled n p) = Led (word words.Handle) (λ _. Then (One name n) (Led (word words.Do) (λ _. Spells Whole p)))
+  SpellsHandler (Handled n p) = Led (word words.Handle)
+      (λ _. Then (One name n) (Led (word words.Do) (λ _. Spells Whole p)))
 
   -- case { case }, where case = "case" expr [ "do" stmt ]
   pub SpellsCases : Cases → List Token → Type 0
   SpellsCases NoCases = λ _. ⊥
   SpellsCases (MoreCases event body others) =
-      Then (Led (word words.Case) (λ _. Then (SpellsExpr Disjunction event) (SpellsPart words.Do body))) (SpellsOtherCases others)
+      Then (Led (word words.Case) (λ _. Then (SpellsExpr Disjunction event) (SpellsPart words.Do body)))
+      (SpellsOtherCases others)
 
   pub SpellsOtherCases : Cases → List Token → Type 0
   SpellsOtherCases NoCases = Empty
   SpellsOtherCases (MoreCases event body others) =
-      Then (Led (word words.Case) (λ _. Then (SpellsExpr Disjunction event) (SpellsPart words.Do body))) (SpellsOtherCases others)
+      Then (Led (word words.Case) (λ _. Then (SpellsExpr Disjunction event) (SpellsPart words.Do body)))
+      (SpellsOtherCases others)
 
 -- rel = NAME "=>" NAME | NAME "#" NAME { "#" NAME }
 abbrev pub SpellsRelation : Relation → List Token → Type 0
@@ -313,7 +331,8 @@ SpellsRelation (Excludes (first ∷ others)) =
 
 -- decl = ( "input" | "output" | "inputoutput" ) NAME { "," NAME } ";" | "relation" rel { "," rel } ";"
 abbrev pub SpellsDeclared : {A : Type 0} → Reserved → (A → List Token → Type 0) → List A → List Token → Type 0
-SpellsDeclared w L values = Led (word w) (λ _. Then (Listed (mark marks.Comma) L values) (One (mark marks.Semicolon) tt))
+SpellsDeclared w L values = Led (word w) (λ _. Then (Listed (mark marks.Comma) L values)
+    (One (mark marks.Semicolon) tt))
 
 abbrev pub SpellsDecl : Decl → List Token → Type 0
 SpellsDecl (Input names) = SpellsDeclared words.Input (One name) names

@@ -1,12 +1,14 @@
 -- To believe: which tokens a program text has, or which fault comes first in it.
-use Rattle.std.specs.Prelude.{◌≡◌, ℕ, ◌+◌, ◌-◌, ◌*◌, ◌^◌, ◌<◌, ◌≤◌, ◌≢◌, ⊤, List, [], ◌∷◌, ◌++◌, length, take, drop, Option, Some, None}
+use Rattle.std.specs.Prelude.{◌≡◌, ℕ, ◌+◌, ◌-◌, ◌*◌, ◌^◌, ◌<◌, ◌≤◌, ◌≢◌, ⊤, List, [], ◌∷◌, ◌++◌, length, take, drop}
+use Rattle.std.specs.Prelude.{Option, Some, None}
 use Rattle.std.specs.List.{fold}
 use Rattle.est_ast.specs.declared.tokens.Kind.{Kind}
 use Rattle.est_ast.specs.declared.tokens.Kind.TheVariants.{Reserved, Mark, Ident, Number}
 use Rattle.est_ast.specs.declared.tokens.Reserved.{Reserved as ReservedWord}
 use Rattle.est_ast.specs.declared.tokens.Token.{Token}
 use Rattle.est_ast.specs.Spelling.{spelling, sign}
-use Rattle.est_ast.specs.Lexemes.{Part, Space, LineComment, BlockComment, Word, Numeral, Sign, OpensComment, ClosesComment, Begins, BeginsLongest}
+use Rattle.est_ast.specs.Lexemes.{Part, Space, LineComment, BlockComment, Word, Numeral, Sign, OpensComment}
+use Rattle.est_ast.specs.Lexemes.{ClosesComment, Begins, BeginsLongest}
 
 -- the number that decimal digits stand for
 abbrev pub number_of : List ℕ → ℕ

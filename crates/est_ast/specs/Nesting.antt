@@ -3,7 +3,12 @@
 -- nothing. Each node that counts is opened by a token of its own.
 use Rattle.std.specs.Prelude.{ℕ, suc, max, List, [], ◌∷◌}
 use Rattle.est_ast.specs.declared.tokens.Token.{Token}
-use Rattle.est_ast.specs.Trees.{Expr, Tick, Sig, Not, And, Or, Round, Square, Exprs, NoExprs, MoreExprs, Delay, Plain, Immediate, Count, Stmt, At, Form, Nothing, Pause, Halt, Emit, Sustain, Await, AwaitCase, Present, PresentCase, Loop, LoopEach, Every, Repeat, Abort, AbortCase, WeakAbort, Suspend, Trap, Exit, Signal, Run, Seq, Par, Group, Part, Missing, Written, Handler, NoHandler, Handled, Stmts, NoStmts, MoreStmts, Cases, NoCases, MoreCases, Module, Program}
+use Rattle.est_ast.specs.Trees.{Expr, Tick, Sig, Not, And, Or, Round, Square, Exprs, NoExprs, MoreExprs, Delay, Plain}
+use Rattle.est_ast.specs.Trees.{Immediate, Count, Stmt, At, Form, Nothing, Pause, Halt, Emit, Sustain, Await, AwaitCase}
+use Rattle.est_ast.specs.Trees.{Present, PresentCase, Loop, LoopEach, Every, Repeat, Abort, AbortCase, WeakAbort}
+use Rattle.est_ast.specs.Trees.{Suspend, Trap, Exit, Signal, Run, Seq, Par, Group, Part, Missing, Written, Handler}
+use Rattle.est_ast.specs.Trees.{NoHandler, Handled, Stmts, NoStmts, MoreStmts, Cases, NoCases, MoreCases, Module}
+use Rattle.est_ast.specs.Trees.{Program}
 use Rattle.est_ast.specs.Grammar.{SpellsProgram}
 use Rattle.read_rules.specs.Languages.{Within}
 
@@ -70,7 +75,8 @@ abbrev mutual
 
   pub cases_nesting : Cases → ℕ
   cases_nesting NoCases = 0
-  cases_nesting (MoreCases event body others) = max (max (expr_nesting event) (part_nesting body)) (cases_nesting others)
+  cases_nesting (MoreCases event body others) = max (max (expr_nesting event) (part_nesting body))
+      (cases_nesting others)
 
 abbrev pub program_nesting : Program → ℕ
 program_nesting [] = 0

@@ -1,6 +1,9 @@
 -- To believe: how many signals the expansion of a flat statement will need.
 use Rattle.std.specs.Prelude.{ℕ, ◌+◌, nat_le, if◌then◌else◌}
-use Rattle.est_ast.specs.FlatTrees.{Delay, Plain, Immediate, Count, Stmt, At, Form, Nothing, Pause, Halt, Emit, Sustain, Await, AwaitCase, Present, PresentCase, Loop, LoopEach, Every, Repeat, Abort, AbortCase, WeakAbort, Suspend, Trap, Exit, Signal, Seq, Par, Part, Missing, Written, Stmts, NoStmts, MoreStmts, Cases, NoCases, MoreCases}
+use Rattle.est_ast.specs.FlatTrees.{Delay, Plain, Immediate, Count, Stmt, At, Form, Nothing, Pause, Halt, Emit, Sustain}
+use Rattle.est_ast.specs.FlatTrees.{Await, AwaitCase, Present, PresentCase, Loop, LoopEach, Every, Repeat, Abort}
+use Rattle.est_ast.specs.FlatTrees.{AbortCase, WeakAbort, Suspend, Trap, Exit, Signal, Seq, Par, Part, Missing, Written}
+use Rattle.est_ast.specs.FlatTrees.{Stmts, NoStmts, MoreStmts, Cases, NoCases, MoreCases}
 
 -- one where a delay is a count of 2 or more: an abortion by such a delay has a new signal
 abbrev pub new_by : Delay → ℕ

@@ -1,9 +1,15 @@
 -- To believe: how the reserved words and the marks are written.
 use Rattle.std.specs.Prelude.{ℕ, List, codes}
 use Rattle.est_ast.specs.declared.tokens.Reserved.{Reserved}
-use Rattle.est_ast.specs.declared.tokens.Reserved.TheVariants.{Abort, And, Await, Case, Do, Each, Else, Emit, End, Every, Exit, Halt, Handle, Immediate, In, Input, InputOutput, Loop, Module, Not, Nothing, Or, Output, Pause, Positive, Present, Relation, Repeat, Run, Signal, Suspend, Sustain, Then, Tick, Times, Trap, Weak, When}
+use Rattle.est_ast.specs.declared.tokens.Reserved.TheVariants.{Abort, And, Await, Case, Do, Each, Else, Emit, End}
+use Rattle.est_ast.specs.declared.tokens.Reserved.TheVariants.{Every, Exit, Halt, Handle, Immediate, In, Input}
+use Rattle.est_ast.specs.declared.tokens.Reserved.TheVariants.{InputOutput, Loop, Module, Not, Nothing, Or, Output}
+use Rattle.est_ast.specs.declared.tokens.Reserved.TheVariants.{Pause, Positive, Present, Relation, Repeat, Run, Signal}
+use Rattle.est_ast.specs.declared.tokens.Reserved.TheVariants.{Suspend, Sustain, Then, Tick, Times, Trap, Weak, When}
 use Rattle.est_ast.specs.declared.tokens.Mark.{Mark}
-use Rattle.est_ast.specs.declared.tokens.Mark.TheVariants.{Semicolon, DoubleBar, LeftBracket, RightBracket, LeftParenthesis, RightParenthesis, Comma, Slash, Colon, Hash, Arrow, Period}
+use Rattle.est_ast.specs.declared.tokens.Mark.TheVariants.{Semicolon, DoubleBar, LeftBracket, RightBracket}
+use Rattle.est_ast.specs.declared.tokens.Mark.TheVariants.{LeftParenthesis, RightParenthesis, Comma, Slash, Colon, Hash}
+use Rattle.est_ast.specs.declared.tokens.Mark.TheVariants.{Arrow, Period}
 
 -- the bytes of a reserved word
 abbrev pub spelling : Reserved → List ℕ

@@ -7,7 +7,10 @@ use Rattle.est_ast.specs.declared.trees.Decl.{Decl as CodeDecl}
 use Rattle.est_ast.specs.declared.trees.Decl.TheVariants as decls
 use Rattle.est_ast.specs.declared.trees.Delay.{Delay as CodeDelay}
 use Rattle.est_ast.specs.declared.trees.Delay.TheVariants as delays
-use Rattle.est_ast.specs.declared.trees.Form.{Form as CodeForm, Held-Form-Await-1, Form-Await-1-None', Form-Await-1-Some', back-Form-Await-1, Row_of-Case, end_of-Case, more_of-Case, Held-Form-Trap-2, Form-Trap-2-None', Form-Trap-2-Some', back-Form-Trap-2, Row_of-Stmt, end_of-Stmt, more_of-Stmt}
+use Rattle.est_ast.specs.declared.trees.Form.{Form as CodeForm, Held-Form-Await-1, Form-Await-1-None'}
+use Rattle.est_ast.specs.declared.trees.Form.{Form-Await-1-Some', back-Form-Await-1, Row_of-Case, end_of-Case}
+use Rattle.est_ast.specs.declared.trees.Form.{more_of-Case, Held-Form-Trap-2, Form-Trap-2-None', Form-Trap-2-Some'}
+use Rattle.est_ast.specs.declared.trees.Form.{back-Form-Trap-2, Row_of-Stmt, end_of-Stmt, more_of-Stmt}
 use Rattle.est_ast.specs.declared.trees.Form.TheVariants as forms
 use Rattle.est_ast.specs.declared.trees.Handle.{Handle, Handle'}
 use Rattle.est_ast.specs.declared.trees.Module.{Module as CodeModule}
@@ -17,7 +20,12 @@ use Rattle.est_ast.specs.declared.trees.Relation.TheVariants as relations
 use Rattle.est_ast.specs.declared.trees.SigExpr.{SigExpr, Row_of-SigExpr, end_of-SigExpr, more_of-SigExpr}
 use Rattle.est_ast.specs.declared.trees.SigExpr.TheVariants as exprs
 use Rattle.est_ast.specs.declared.trees.Stmt.{Stmt as CodeStmt}
-use Rattle.est_ast.specs.Trees.{Expr, Tick, Sig, Not, And, Or, Round, Square, Exprs, NoExprs, MoreExprs, Delay, Plain, Immediate, Count, Stmt, At, Form, Nothing, Pause, Halt, Emit, Sustain, Await, AwaitCase, Present, PresentCase, Loop, LoopEach, Every, Repeat, Abort, AbortCase, WeakAbort, Suspend, Trap, Exit, Signal, Run, Seq, Par, Group, Part, Missing, Written, Handler, NoHandler, Handled, Stmts, NoStmts, MoreStmts, Cases, NoCases, MoreCases, Relation, Implies, Excludes, Decl, Input, InputOutput, Output, Relations, Module, Program}
+use Rattle.est_ast.specs.Trees.{Expr, Tick, Sig, Not, And, Or, Round, Square, Exprs, NoExprs, MoreExprs, Delay, Plain}
+use Rattle.est_ast.specs.Trees.{Immediate, Count, Stmt, At, Form, Nothing, Pause, Halt, Emit, Sustain, Await, AwaitCase}
+use Rattle.est_ast.specs.Trees.{Present, PresentCase, Loop, LoopEach, Every, Repeat, Abort, AbortCase, WeakAbort}
+use Rattle.est_ast.specs.Trees.{Suspend, Trap, Exit, Signal, Run, Seq, Par, Group, Part, Missing, Written, Handler}
+use Rattle.est_ast.specs.Trees.{NoHandler, Handled, Stmts, NoStmts, MoreStmts, Cases, NoCases, MoreCases, Relation}
+use Rattle.est_ast.specs.Trees.{Implies, Excludes, Decl, Input, InputOutput, Output, Relations, Module, Program}
 
 abbrev mutual
   pub expr_of : SigExpr → Expr

@@ -1,5 +1,6 @@
 -- Numbers of 64 bits as sets: a number has what its 1 bits number.
-use Rattle.std.proofs.Common.{◌≡◌, ℕ, zero, suc, ◌-◌, ◌*◌, ◌/◌, ◌%◌, ◌^◌, ◌<◌, ◌≤◌, min, max, Bool, true, false, ◌==◌, ◌&&◌, ◌||◌, refl, sym, ap, ◌∙◌, arith, lit<}
+use Rattle.std.proofs.Common.{◌≡◌, ℕ, zero, suc, ◌-◌, ◌*◌, ◌/◌, ◌%◌, ◌^◌, ◌<◌, ◌≤◌, min, max, Bool, true, false, ◌==◌, ◌&&◌, ◌||◌, refl, sym, ap, ◌∙◌, arith}
+use Rattle.std.proofs.Common.{lit<}
 use Rattle.std.proofs.lemmas.Bool.Decides.{eqb_tells, leb_tells}
 use Rattle.std.proofs.lemmas.Nat.{one_shl, shr-shr}
 use Rattle.std.proofs.Common.{◌⊎◌, inl, inr}
@@ -8,7 +9,9 @@ use Rattle.est_base.specs.CodeSet.{bit}
 use Rattle.est_base.specs.Codes.{only, except, upto, maxima, lowered}
 use Rattle.std.specs.Int.{bit_at, trailing_zeros, w64}
 use Rattle.std.specs.Prelude.{bit_and, bit_or}
-use Rattle.std.proofs.lemmas.Nat.Bits.{bit_at-lt, bit_at_and, bit_at_or, bit_at-zero, bit_at-suc, bit_at_above, bit_at-pow_same, bit_at-pow_other, bit_at_mask_inside, bit_at_mask_below, shr_and_one, bit_at_clear_same, bit_at_clear_other, bit_at-trailing_zeros, ones_shl}
+use Rattle.std.proofs.lemmas.Nat.Bits.{bit_at-lt, bit_at_and, bit_at_or, bit_at-zero, bit_at-suc, bit_at_above, bit_at-pow_same, bit_at-pow_other}
+use Rattle.std.proofs.lemmas.Nat.Bits.{bit_at_mask_inside, bit_at_mask_below, shr_and_one, bit_at_clear_same, bit_at_clear_other, bit_at-trailing_zeros}
+use Rattle.std.proofs.lemmas.Nat.Bits.{ones_shl}
 
 pub max_is_one : (x y : ℕ) → x < 2 → y < 2 → (max x y == 1) ≡ ((x == 1) || (y == 1))
 max_is_one zero zero p q = refl
@@ -114,11 +117,14 @@ bit-from_least n some fits k below =
     let least = bit_at-trailing_zeros w64 n some fits in
     let none : (i : ℕ) → i < trailing_zeros w64 n → bit n i ≡ false = λ i before. ap (λ m. m == 1) (least.2 i before) in
     rw (ones_shl 64 (trailing_zeros w64 n) (omega (arith, least.0))) (elim (le_or_lt (trailing_zeros w64 n) k) [
-      | inl from ↦ ap (λ m. m == 1) (bit_at_mask_inside (trailing_zeros w64 n) 64 k from below) ∙ sym (upto-from (bit n) (trailing_zeros w64 n) (ap (λ m. m == 1) least.1) k from)
-      | inr before ↦ ap (λ m. m == 1) (bit_at_mask_below (trailing_zeros w64 n) 64 k before) ∙ sym (upto-below_least (bit n) (trailing_zeros w64 n) none k before)
+      | inl from ↦ ap (λ m. m == 1) (bit_at_mask_inside (trailing_zeros w64 n) 64 k from below)
+          ∙ sym (upto-from (bit n) (trailing_zeros w64 n) (ap (λ m. m == 1) least.1) k from)
+      | inr before ↦ ap (λ m. m == 1) (bit_at_mask_below (trailing_zeros w64 n) 64 k before)
+          ∙ sym (upto-below_least (bit n) (trailing_zeros w64 n) none k before)
     ])
 
-pub bit-maxima : (a b x y : ℕ) → a < 2 ^ 64 → b < 2 ^ 64 → ((k : ℕ) → k < 64 → bit x k ≡ upto (bit a) k) → ((k : ℕ) → k < 64 → bit y k ≡ upto (bit b) k) → (k : ℕ) → bit (bit_or (bit_and a y) (bit_and b x)) k ≡ maxima (bit a) (bit b) k
+pub bit-maxima : (a b x y : ℕ) → a < 2 ^ 64 → b < 2 ^ 64 → ((k : ℕ) → k < 64 → bit x k ≡ upto (bit a) k) → ((k : ℕ) → k < 64 → bit y k ≡ upto (bit b) k) →
+    (k : ℕ) → bit (bit_or (bit_and a y) (bit_and b x)) k ≡ maxima (bit a) (bit b) k
 bit-maxima a b x y fits_a fits_b up_a up_b k =
     bit-or (bit_and a y) (bit_and b x) k ∙ both (λ p q. p || q) (bit-and a y k) (bit-and b x k) ∙ elim (le_or_lt 64 k) [
       | inl above ↦ rw (bit-above a k fits_a above, bit-above b k fits_b above) refl
@@ -128,7 +134,8 @@ bit-maxima a b x y fits_a fits_b up_a up_b k =
 -- ---- the trap rule
 
 -- the three parts of the lowered set, bit by bit
-bits_lowered : (n : ℕ) → n < 2 ^ 64 → (k : ℕ) → (((bit n k && bit 3 k) || (bit (n / 4) k && bit 1 k)) || (bit (n / 2) k && bit (2 ^ 64 - 2 ^ 2) k)) ≡ lowered (bit n) k
+bits_lowered : (n : ℕ) → n < 2 ^ 64 → (k : ℕ) → (((bit n k && bit 3 k) || (bit (n / 4) k && bit 1 k)) || (bit (n / 2) k && bit (2 ^ 64 - 2 ^ 2) k)) ≡
+    lowered (bit n) k
 bits_lowered n fits zero = rw (bit-quarter n 0) (simp (and-true, and-false, or-false))
 bits_lowered n fits (suc zero) = simp (and-true, and-false, or-false)
 bits_lowered n fits (suc (suc k)) =
@@ -139,5 +146,7 @@ bits_lowered n fits (suc (suc k)) =
       | inr within ↦ rw (ap (λ m. m == 1) (bit_at_mask_inside 2 64 (suc (suc k)) (omega arith) within)) (simp (and-true, and-false))
     ])
 
-pub bit-lowered : (n : ℕ) → n < 2 ^ 64 → (k : ℕ) → bit (bit_or (bit_or (bit_and n 3) (bit_and (n / 4) 1)) (bit_and (n / 2) (2 ^ 64 - 2 ^ 2))) k ≡ lowered (bit n) k
-bit-lowered n fits k = bit-or _ _ k ∙ both (λ p q. p || q) (bit-or _ _ k ∙ both (λ p q. p || q) (bit-and n 3 k) (bit-and (n / 4) 1 k)) (bit-and (n / 2) (2 ^ 64 - 2 ^ 2) k) ∙ bits_lowered n fits k
+pub bit-lowered : (n : ℕ) → n < 2 ^ 64 → (k : ℕ) → bit (bit_or (bit_or (bit_and n 3) (bit_and (n / 4) 1)) (bit_and (n / 2) (2 ^ 64 - 2 ^ 2))) k ≡
+    lowered (bit n) k
+bit-lowered n fits k = bit-or _ _ k ∙ both (λ p q. p || q) (bit-or _ _ k ∙ both (λ p q. p || q) (bit-and n 3 k) (bit-and (n / 4) 1 k))
+    (bit-and (n / 2) (2 ^ 64 - 2 ^ 2) k) ∙ bits_lowered n fits k

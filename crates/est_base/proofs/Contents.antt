@@ -1,5 +1,6 @@
 -- What a writer holds after several writes, where it tells that.
-use Rattle.std.proofs.Common.{◌≡◌, ℕ, ◌-◌, ◌≤◌, ◌<◌, List, [], ◌++◌, length, take, drop, Option, None, Some, IfSome, Vec, sym, ap, ◌∙◌, subst, append_assoc, append-nil, arith}
+use Rattle.std.proofs.Common.{◌≡◌, ℕ, ◌-◌, ◌≤◌, ◌<◌, List, [], ◌++◌, length, take, drop, Option, None, Some, IfSome, Vec, sym, ap, ◌∙◌, subst, append_assoc}
+use Rattle.std.proofs.Common.{append-nil, arith}
 use Rattle.std.proofs.lemmas.List.{take_all, length-take, length-drop, take-append-drop}
 use Rattle.std.proofs.Math.Seq.{take-append_seam}
 use Rattle.std.specs.Option.{option_map}
@@ -31,9 +32,11 @@ rest_is : (n : ℕ) (list : List ℕ) → n ≤ length list → take (length lis
 rest_is n list h = take_all (length list - n) (drop n list) (omega (arith, length-drop n list))
 
 -- more was taken of a piece
-pub more_held : (a b c : Option (List ℕ)) (piece rest : List ℕ) (n : ℕ) → HeldSoFar a b piece rest → n ≤ length rest → Appends b c (take n rest) → HeldSoFar a c piece (take (length rest - n) (drop n rest))
+pub more_held : (a b c : Option (List ℕ)) (piece rest : List ℕ) (n : ℕ) → HeldSoFar a b piece rest → n ≤ length rest → Appends b c (take n rest) →
+    HeldSoFar a c piece (take (length rest - n) (drop n rest))
 more_held a b c piece rest n h l p =
-    let cut : rest ≡ take n rest ++ take (length rest - n) (drop n rest) = sym (take-append-drop n rest) ∙ ap (λ t. take n rest ++ t) (sym (rest_is n rest l)) in
+    let cut : rest ≡ take n rest ++ take (length rest - n) (drop n rest) = sym (take-append-drop n rest)
+    ∙ ap (λ t. take n rest ++ t) (sym (rest_is n rest l)) in
     (h.0 ++ take n rest, h.1 ∙ ap (λ t. h.0 ++ t) cut ∙ sym (append_assoc h.0 (take n rest) _), holds-twice a b c h.0 (take n rest) h.2 p)
 
 -- where a write fails, a front of the piece was taken
@@ -43,7 +46,9 @@ front_held a b c piece rest h p =
     (length h.0, subst (λ t. Appends a c t) (sym (ap (take (length h.0)) h.1 ∙ take-append_seam h.0 rest)) all)
 
 -- a read to the end through a limit that it did not reach gave all that was left
-pub all_read : {R : Type 0} (remaining : R → Option (List ℕ)) (reader inner : R) (limit cut : ℕ) (old : List ℕ) (bytes : Vec ℕ Global) → inner ≡ reader → old ≡ [] → IfSome (option_map (take cut) (remaining inner)) (λ xs. bytes.items ≡ old ++ xs) → length bytes.items < cut → ReadsWhole (remaining reader) limit (Some bytes)
+pub all_read : {R : Type 0} (remaining : R → Option (List ℕ)) (reader inner : R) (limit cut : ℕ) (old : List ℕ) (bytes : Vec ℕ Global) → inner ≡ reader →
+    old ≡ [] → IfSome (option_map (take cut) (remaining inner)) (λ xs. bytes.items ≡ old ++ xs) → length bytes.items < cut →
+    ReadsWhole (remaining reader) limit (Some bytes)
 all_read remaining reader inner limit cut old bytes is empty h l =
     subst (λ r. ReadsWhole (remaining r) limit (Some bytes)) is (of_left (remaining inner) h)
   where

@@ -1,5 +1,6 @@
 -- Writes one after another: what several writes appended, together.
-use Rattle.std.proofs.Common.{◌≡◌, ℕ, suc, ◌+◌, ◌-◌, ◌<◌, min, List, [], ◌∷◌, ◌++◌, length, get_or, take, drop, Option, None, Some, refl, sym, ap, ◌∙◌, subst, append_assoc, append-nil, arith}
+use Rattle.std.proofs.Common.{◌≡◌, ℕ, suc, ◌+◌, ◌-◌, ◌<◌, min, List, [], ◌∷◌, ◌++◌, length, get_or, take, drop, Option, None, Some, refl, sym, ap, ◌∙◌, subst}
+use Rattle.std.proofs.Common.{append_assoc, append-nil, arith}
 use Rattle.std.proofs.Math.Seq.{take-append-add, take-add, drop-cons}
 use Rattle.std.proofs.lemmas.Grind.{flat_map-append}
 use Rattle.std.proofs.lemmas.List.{take_min, take-append-le, take-append-drop}
@@ -47,10 +48,12 @@ text_at start len text =
     rw (same, take-append-drop len (drop start text)) (take-append-drop start text)
 
 -- the pieces from a place on: the piece there, and the others
-pub pieces_at : {X : Type 0} (f : X → List ℕ) (i : ℕ) (xs : List X) (d : X) → i < length xs → flat_map f (take i xs) ++ (f (get_or xs i d) ++ flat_map f (drop (suc i) xs)) ≡ flat_map f xs
+pub pieces_at : {X : Type 0} (f : X → List ℕ) (i : ℕ) (xs : List X) (d : X) → i < length xs →
+    flat_map f (take i xs) ++ (f (get_or xs i d) ++ flat_map f (drop (suc i) xs)) ≡ flat_map f xs
 pieces_at f i xs d within =
     let here : drop i xs ≡ get_or xs i d ∷ drop (suc i) xs = drop-cons xs i d within in
-    ap (λ t. flat_map f (take i xs) ++ t) (sym (ap (flat_map f) here)) ∙ sym (flat_map-append f (take i xs) (drop i xs)) ∙ ap (flat_map f) (take-append-drop i xs)
+    ap (λ t. flat_map f (take i xs) ++ t) (sym (ap (flat_map f) here)) ∙ sym (flat_map-append f (take i xs) (drop i xs))
+    ∙ ap (flat_map f) (take-append-drop i xs)
 
 -- a text up to the end of a piece: what stands before the piece, and the piece
 pub take_piece : (start len : ℕ) (text : List ℕ) → take (start + len) text ≡ take start text ++ take (start + len - start) (drop start text)

@@ -5,10 +5,12 @@ use Rattle.std.proofs.lemmas.List.{take_min}
 use Rattle.est_base.specs.SinkState.{Kept}
 
 -- what of a piece finds room behind the bytes is what the room takes of both
-pub take-append-room : (bytes piece : List ℕ) (room : ℕ) → length bytes ≤ room → bytes ++ take (min (room - length bytes) (length piece)) piece ≡ take room (bytes ++ piece)
+pub take-append-room : (bytes piece : List ℕ) (room : ℕ) → length bytes ≤ room →
+    bytes ++ take (min (room - length bytes) (length piece)) piece ≡ take room (bytes ++ piece)
 take-append-room bytes piece room within =
     let whole : length bytes + (room - length bytes) ≡ room = omega arith in
-    ap (λ p. bytes ++ p) (take_min (room - length bytes) piece) ∙ sym (take-append-add bytes piece (room - length bytes)) ∙ ap (λ n. take n (bytes ++ piece)) whole
+    ap (λ p. bytes ++ p) (take_min (room - length bytes) piece) ∙ sym (take-append-add bytes piece (room - length bytes))
+    ∙ ap (λ n. take n (bytes ++ piece)) whole
 
 -- and the rest of the piece is what came beyond the room
 pub beyond_room : (len piece room : ℕ) → len ≤ room → piece - min (room - len) piece ≡ len + piece - room

@@ -36,7 +36,8 @@ names_told : is_name (65 ∷ 57 ∷ 95 ∷ 122 ∷ []) ∷ is_name (57 ∷ 65 �
 names_told = refl
 
 -- the first and the last letters and digits, and the bytes beside them
-bounds_told : is_name (64 ∷ []) ∷ is_name (65 ∷ []) ∷ is_name (90 ∷ []) ∷ is_name (91 ∷ []) ∷ is_name (96 ∷ []) ∷ is_name (97 ∷ []) ∷ is_name (122 ∷ []) ∷ is_name (123 ∷ [])
+bounds_told : is_name (64 ∷ []) ∷ is_name (65 ∷ []) ∷ is_name (90 ∷ []) ∷ is_name (91 ∷ []) ∷ is_name (96 ∷ []) ∷ is_name (97 ∷ []) ∷ is_name (122 ∷ []) ∷
+    is_name (123 ∷ [])
     ∷ is_name (65 ∷ 47 ∷ []) ∷ is_name (65 ∷ 48 ∷ []) ∷ is_name (65 ∷ 57 ∷ []) ∷ is_name (65 ∷ 58 ∷ []) ∷ []
     ≡ false ∷ true ∷ true ∷ false ∷ false ∷ true ∷ true ∷ false ∷ false ∷ true ∷ true ∷ false ∷ []
 bounds_told = refl

@@ -1,11 +1,12 @@
 -- Inner: files in memory: a list of entries, where of two entries of one name the first counts.
-use Rattle.std.specs.Prelude.{◌≡◌, ℕ, ◌<◌, ◌≤◌, ◌⊎◌, if◌then◌else◌, List, [], ◌∷◌, length, Option, None, Some, IsNone, unwrap_or, Contains, Result, Ok, Err, Vec, nat_eq}
+use Rattle.std.specs.Prelude.{◌≡◌, ℕ, ◌<◌, ◌≤◌, ◌⊎◌, if◌then◌else◌, List, [], ◌∷◌, length, Option, None, Some, IsNone}
+use Rattle.std.specs.Prelude.{unwrap_or, Contains, Result, Ok, Err, Vec, nat_eq}
 use Rattle.std.specs.Cmp.Lexicographic.{pointwise}
 use Rattle.std.specs.declared.alloc.Global.{Global}
 use Rattle.est_base.specs.Faults.{one_more}
-use Rattle.est_base.specs.declared.file_entry.FileEntry.{FileEntry}
-use Rattle.est_base.specs.declared.reading.FileFault.{FileFault}
-use Rattle.est_base.specs.declared.reading.FileFault.TheVariants.{Failed, TooLong, NoMemory}
+use Rattle.est_base.specs.declared.files.entry.FileEntry.{FileEntry}
+use Rattle.est_base.specs.declared.files.reading.FileFault.{FileFault}
+use Rattle.est_base.specs.declared.files.reading.FileFault.TheVariants.{Failed, TooLong, NoMemory}
 
 -- the bytes of the first file of this name
 abbrev pub bytes_under : List FileEntry → List ℕ → Option (List ℕ)
@@ -38,7 +39,8 @@ NextFails m name = Contains m.failing (one_more m.calls) ⊎ IsNone (bytes_under
 
 -- the answer of the next call
 abbrev pub AnswersNext : MapState → List ℕ → ℕ → Result (Vec ℕ Global) FileFault → Type 0
-AnswersNext m name limit (Ok bytes) = ¬ NextFails m name × (bytes.items ≡ held m.entries name) × (length (held m.entries name) ≤ limit)
+AnswersNext m name limit (Ok bytes) = ¬ NextFails m name × (bytes.items ≡ held m.entries name)
+    × (length (held m.entries name) ≤ limit)
 AnswersNext m name limit (Err TooLong) = ¬ NextFails m name × (limit < length (held m.entries name))
 AnswersNext m name limit (Err Failed) = NextFails m name
 AnswersNext m name limit (Err NoMemory) = Unit {0}

@@ -2,8 +2,8 @@
 use Rattle.std.specs.Prelude.{◌≡◌, ℕ, ◌<◌, ◌≤◌, List, length, Option, None, Some, Result, Ok, Err, Vec}
 use Rattle.std.specs.declared.alloc.Global.{Global}
 use Rattle.est_base.specs.Faults.{Rose}
-use Rattle.est_base.specs.declared.reading.FileFault.{FileFault}
-use Rattle.est_base.specs.declared.reading.FileFault.TheVariants.{Failed, TooLong, NoMemory}
+use Rattle.est_base.specs.declared.files.reading.FileFault.{FileFault}
+use Rattle.est_base.specs.declared.files.reading.FileFault.TheVariants.{Failed, TooLong, NoMemory}
 
 -- An answer of bytes is within the limit. Where the content is told, it is what the file holds, and the
 -- answer "too long" comes only where more than the limit stands there.

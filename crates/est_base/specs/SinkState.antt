@@ -1,8 +1,9 @@
 -- Inner: sinks in memory: what such a sink keeps, and what it tells.
-use Rattle.std.specs.Prelude.{◌≡◌, ℕ, ◌+◌, ◌-◌, ◌^◌, ◌<◌, ◌≤◌, min, if◌then◌else◌, ◌==◌, List, ◌++◌, length, take, Option, None, Some, Contains, Result, Ok, Err}
+use Rattle.std.specs.Prelude.{◌≡◌, ℕ, ◌+◌, ◌-◌, ◌^◌, ◌<◌, ◌≤◌, min, if◌then◌else◌, ◌==◌, List, ◌++◌, length, take}
+use Rattle.std.specs.Prelude.{Option, None, Some, Contains, Result, Ok, Err}
 use Rattle.est_base.specs.Faults.{one_more}
-use Rattle.est_base.specs.declared.writing.SinkFault.{SinkFault}
-use Rattle.est_base.specs.declared.writing.SinkFault.TheVariants.{Failed}
+use Rattle.est_base.specs.declared.sinks.writing.SinkFault.{SinkFault}
+use Rattle.est_base.specs.declared.sinks.writing.SinkFault.TheVariants.{Failed}
 
 -- the first `room` bytes of all that came, and how many came beyond the room, a count that stays
 -- at the greatest u64

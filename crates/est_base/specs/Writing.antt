@@ -2,7 +2,7 @@
 use Rattle.std.specs.Prelude.{◌≡◌, ℕ, List, [], ◌++◌, take, Option, None, Some, Result, Ok, Err}
 use Rattle.std.specs.Io.KnownBytes as known
 use Rattle.est_base.specs.Faults.{Rose}
-use Rattle.est_base.specs.declared.writing.SinkFault.{SinkFault}
+use Rattle.est_base.specs.declared.sinks.writing.SinkFault.{SinkFault}
 
 -- the text was appended, where the bytes are told before and after; what was not told stays untold
 abbrev pub Gains : Option (List ℕ) → Option (List ℕ) → List ℕ → Type 0

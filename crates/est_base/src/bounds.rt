@@ -1,7 +1,10 @@
 // The stated limits. A limit is passed at the first number above it.
 
 ghost use Rattle.std.specs.Prelude.{◌≡◌};
-ghost use Rattle.est_base.specs.declared.bounds.TheConstants.Limits.{SOURCE_BYTES, TRACE_BYTES, TEXT_BYTES, NESTING, STATEMENTS, DEPTH, SIGNALS, KERNEL_NODES, KERNEL_HEIGHT, TRAPS, INSTANCES, WIRES, LEAST_COUNT, GREATEST_COUNT};
+ghost use Rattle.est_base.specs.declared.bounds.TheConstants.Limits.{SOURCE_BYTES, TRACE_BYTES, TEXT_BYTES, NESTING};
+ghost use Rattle.est_base.specs.declared.bounds.TheConstants.Limits.{STATEMENTS, DEPTH, SIGNALS, KERNEL_NODES};
+ghost use Rattle.est_base.specs.declared.bounds.TheConstants.Limits.{KERNEL_HEIGHT, TRAPS, INSTANCES, WIRES};
+ghost use Rattle.est_base.specs.declared.bounds.TheConstants.Limits.{LEAST_COUNT, GREATEST_COUNT};
 
 /// The limits of the compiler and of its runners. A quantity may be as great as its number here.
 #[derive(Clone, Copy, Debug)]

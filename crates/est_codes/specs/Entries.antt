@@ -1,7 +1,8 @@
 -- Inner: what the walk over a body keeps.
 use Rattle.std.specs.Prelude.{◌≡◌, ◌<◌, List, ◌++◌, map, ⊤}
 use Rattle.est_base.specs.CodeSet.{members}
-use Rattle.est_kernel.specs.Terms.{Term, Nothing, Pause, Emit, Exit, Present, Suspend, Seq, Loop, Par, Trap, Local, Awake}
+use Rattle.est_kernel.specs.Terms.{Term, Nothing, Pause, Emit, Exit, Present, Suspend, Seq, Loop, Par, Trap, Local}
+use Rattle.est_kernel.specs.Terms.{Awake}
 use Rattle.est_kernel.specs.StaticCodes.{started_codes, resumed_codes, instant_loops}
 use Rattle.est_kernel.specs.Preorder.{preorder}
 use Rattle.est_codes.specs.declared.entries.Entry.{Entry}

@@ -17,7 +17,8 @@ use Rattle.est_ast.specs.FlatViews.{flat_delay_of, flat_stmt_of, flat_case_of, f
 use Rattle.est_ast.proofs.FlatRows.{flat_form-Seq, flat_form-Par, flat_form-AwaitCase, flat_form-PresentCase, flat_form-AbortCase}
 use Rattle.est_dismantle.proofs.Lists.{drop-at}
 use Rattle.est_dismantle.specs.Counts.{bad_count, bad_in_delay, bad_in, bad_in_form, bad_in_part, bad_in_stmts, bad_in_cases}
-use Rattle.est_dismantle.specs.FlatNodes.{first_place, bad_of_count, bad_of_delay, bad_of_stmt, bad_of_form, bad_of_part, bad_of_stmts, bad_of_cases, bad_of_case}
+use Rattle.est_dismantle.specs.FlatNodes.{first_place, bad_of_count, bad_of_delay, bad_of_stmt, bad_of_form, bad_of_part, bad_of_stmts, bad_of_cases}
+use Rattle.est_dismantle.specs.FlatNodes.{bad_of_case}
 
 pub first-append : (a b : List Span) → first_place (a ++ b) ≡ option_or (first_place a) (first_place b)
 first-append [] b = refl
@@ -71,7 +72,8 @@ pub bad-Present : (e : FlatExpr) (p q : Option (Box FlatStmt Global)) → bad_of
 unfolding bad_of_form bad_of_part
 bad-Present e p q = first-append (bad_in_part (flat_part_of p)) (bad_in_part (flat_part_of q))
 
-pub bad-PresentCase : (v : Vec FlatCase Global) (q : Option (Box FlatStmt Global)) → bad_of_form (forms.PresentCase v q) ≡ option_or (bad_of_cases v.items) (bad_of_part q)
+pub bad-PresentCase : (v : Vec FlatCase Global) (q : Option (Box FlatStmt Global)) →
+    bad_of_form (forms.PresentCase v q) ≡ option_or (bad_of_cases v.items) (bad_of_part q)
 unfolding bad_of_form bad_of_cases bad_of_part
 bad-PresentCase v q = ap (λ form. first_place (bad_in_form form)) (flat_form-PresentCase v q) ∙ first-append _ (bad_in_part (flat_part_of q))
 
@@ -87,17 +89,20 @@ pub bad-Every : (d : FlatDelay) (p : Box FlatStmt Global) → bad_of_form (forms
 unfolding bad_of_form bad_of_stmt bad_of_delay
 bad-Every d p = first-append (bad_in_delay (flat_delay_of d)) (bad_in (flat_stmt_of p.value))
 
-pub bad-Repeat : (count : ℕ) (span : Span) (p : Box FlatStmt Global) → bad_of_form (forms.Repeat count span p) ≡ option_or (bad_of_count count span) (bad_of_stmt p.value)
+pub bad-Repeat : (count : ℕ) (span : Span) (p : Box FlatStmt Global) →
+    bad_of_form (forms.Repeat count span p) ≡ option_or (bad_of_count count span) (bad_of_stmt p.value)
 unfolding bad_of_form bad_of_stmt bad_of_count
 bad-Repeat count span p = first-append (bad_count count span) (bad_in (flat_stmt_of p.value))
 
-pub bad-Abort : (p : Box FlatStmt Global) (d : FlatDelay) (q : Option (Box FlatStmt Global)) → bad_of_form (forms.Abort p d q) ≡ option_or (bad_of_stmt p.value) (option_or (bad_of_delay d) (bad_of_part q))
+pub bad-Abort : (p : Box FlatStmt Global) (d : FlatDelay) (q : Option (Box FlatStmt Global)) →
+    bad_of_form (forms.Abort p d q) ≡ option_or (bad_of_stmt p.value) (option_or (bad_of_delay d) (bad_of_part q))
 unfolding bad_of_form bad_of_stmt bad_of_delay bad_of_part
 bad-Abort p d q =
     first-append (bad_in (flat_stmt_of p.value)) (bad_in_delay (flat_delay_of d) ++ bad_in_part (flat_part_of q))
     ∙ ap (option_or (first_place (bad_in (flat_stmt_of p.value)))) (first-append (bad_in_delay (flat_delay_of d)) (bad_in_part (flat_part_of q)))
 
-pub bad-AbortCase : (p : Box FlatStmt Global) (v : Vec FlatCase Global) → bad_of_form (forms.AbortCase p v) ≡ option_or (bad_of_stmt p.value) (bad_of_cases v.items)
+pub bad-AbortCase : (p : Box FlatStmt Global) (v : Vec FlatCase Global) →
+    bad_of_form (forms.AbortCase p v) ≡ option_or (bad_of_stmt p.value) (bad_of_cases v.items)
 unfolding bad_of_form bad_of_stmt bad_of_cases
 bad-AbortCase p v = ap (λ form. first_place (bad_in_form form)) (flat_form-AbortCase p v) ∙ first-append (bad_in (flat_stmt_of p.value)) _
 
@@ -178,10 +183,12 @@ bad-case_written (FlatCase' event FlatCase-body-None') p h = absurd (none-some p
 bad-case_written (FlatCase' event (FlatCase-body-Some' span form)) p h =
     ap (λ q. first_place (bad_in (flat_stmt_of q))) (some-same (record { span = span; form = form }) p h)
 
-pub bad-stmts_at : (l : List FlatStmt) (i : ℕ) (p : FlatStmt) → i < length l → p ≡ get_or l i p → bad_of_stmts (drop i l) ≡ option_or (bad_of_stmt p) (bad_of_stmts (drop (i + 1) l))
+pub bad-stmts_at : (l : List FlatStmt) (i : ℕ) (p : FlatStmt) → i < length l → p ≡ get_or l i p →
+    bad_of_stmts (drop i l) ≡ option_or (bad_of_stmt p) (bad_of_stmts (drop (i + 1) l))
 bad-stmts_at l i p h is = ap bad_of_stmts (drop-at l i p h is) ∙ bad-stmts_more p (drop (i + 1) l)
 
-pub bad-cases_at : (l : List FlatCase) (i : ℕ) (c : FlatCase) → i < length l → c ≡ get_or l i c → bad_of_cases (drop i l) ≡ option_or (bad_of_case c) (bad_of_cases (drop (i + 1) l))
+pub bad-cases_at : (l : List FlatCase) (i : ℕ) (c : FlatCase) → i < length l → c ≡ get_or l i c →
+    bad_of_cases (drop i l) ≡ option_or (bad_of_case c) (bad_of_cases (drop (i + 1) l))
 bad-cases_at l i c h is = ap bad_of_cases (drop-at l i c h is) ∙ bad-cases_more c (drop (i + 1) l)
 
 pub bad-stmts_past : (l : List FlatStmt) (i : ℕ) → length l ≤ i → bad_of_stmts (drop i l) ≡ None
@@ -191,4 +198,39 @@ pub bad-cases_past : (l : List FlatCase) (i : ℕ) → length l ≤ i → bad_of
 bad-cases_past l i h = ap bad_of_cases (drop_of_length-le l h) ∙ bad-cases_end
 
 -- all of them
-pub ruleset bad_rows = (or-none, or-assoc, bad-stmt, bad-Nothing, bad-Pause, bad-Halt, bad-Emit, bad-Sustain, bad-Exit, bad-Await, bad-AwaitCase, bad-Present, bad-PresentCase, bad-Loop, bad-LoopEach, bad-Every, bad-Repeat, bad-Abort, bad-AbortCase, bad-WeakAbort, bad-Suspend, bad-Trap, bad-Signal, bad-Seq, bad-Par, bad-missing, bad-written, bad-stmts_end, bad-stmts_more, bad-cases_end, bad-cases_more, bad-Plain, bad-Immediate, bad-Count)
+pub ruleset bad_rows = (
+  or-none,
+  or-assoc,
+  bad-stmt,
+  bad-Nothing,
+  bad-Pause,
+  bad-Halt,
+  bad-Emit,
+  bad-Sustain,
+  bad-Exit,
+  bad-Await,
+  bad-AwaitCase,
+  bad-Present,
+  bad-PresentCase,
+  bad-Loop,
+  bad-LoopEach,
+  bad-Every,
+  bad-Repeat,
+  bad-Abort,
+  bad-AbortCase,
+  bad-WeakAbort,
+  bad-Suspend,
+  bad-Trap,
+  bad-Signal,
+  bad-Seq,
+  bad-Par,
+  bad-missing,
+  bad-written,
+  bad-stmts_end,
+  bad-stmts_more,
+  bad-cases_end,
+  bad-cases_more,
+  bad-Plain,
+  bad-Immediate,
+  bad-Count,
+)

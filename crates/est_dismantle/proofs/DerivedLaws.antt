@@ -1,17 +1,20 @@
 -- Inner: what some derived statements do, on steps.
-use Rattle.std.proofs.Common.{◌≡◌, ◌⊎◌, inl, inr, ℕ, zero, suc, ◌+◌, ◌<◌, ◌≤◌, ◌==◌, ◌||◌, max, Bool, true, false, cond, List, [], ◌∷◌, Option, Some, None, refl, sym, ◌∙◌, ap, subst, arith}
+use Rattle.std.proofs.Common.{◌≡◌, ◌⊎◌, inl, inr, ℕ, zero, suc, ◌+◌, ◌<◌, ◌≤◌, ◌==◌, ◌||◌, max, Bool, true, false, cond, List, [], ◌∷◌, Option, Some, None}
+use Rattle.std.proofs.Common.{refl, sym, ◌∙◌, ap, subst, arith}
 use Rattle.std.proofs.lemmas.Bool.{eqb-true, eqb-false}
 use Rattle.std.specs.Prelude.{option_and_then}
 use Rattle.est_base.specs.declared.place.Span.{Span}
 use Rattle.est_kernel.specs.Laws.{left_by_step, left_after}
 use Rattle.est_kernel.specs.Statuses.{Status, Plus, Minus, Unknown, Environment, value}
-use Rattle.est_kernel.specs.Steps.{Step, ended, left_by, leaving, leaves, chosen_step, then_step, sequence_step, loop_step, parallel_step, trap_code, trap_step, step}
+use Rattle.est_kernel.specs.Steps.{Step, ended, left_by, leaving, leaves, chosen_step, then_step, sequence_step, loop_step, parallel_step, trap_code, trap_step}
+use Rattle.est_kernel.specs.Steps.{step}
 use Rattle.est_kernel.specs.Terms as terms
 use Rattle.est_kernel.specs.Terms.{Term, Expression}
 use Rattle.est_ast.specs.FlatTrees.{Expr, Plain, Immediate, Stmt, At, Await, Abort, Repeat, Sustain, LoopEach, Seq, Missing, Written, NoStmts, MoreStmts}
 use Rattle.est_dismantle.specs.Kernels.{Marks, expression, halting, watching, aborting, kernel}
 use Rattle.est_ast.specs.NewSignals.{new_by, new_in}
-use Rattle.est_dismantle.specs.Laws.{ImmediateAbortionsRunTheirRest, ImmediateAwaitsEndAtOnce, RepetitionsAreSequences, Sustains, SustainedSignalsStay, LoopsEachStartAnew}
+use Rattle.est_dismantle.specs.Laws.{ImmediateAbortionsRunTheirRest, ImmediateAwaitsEndAtOnce, RepetitionsAreSequences, Sustains, SustainedSignalsStay}
+use Rattle.est_dismantle.specs.Laws.{LoopsEachStartAnew}
 
 -- nothing was done before it
 then-none : (o : Option Step) → then_step (record { emitted = λ t. false; code = 0; residual = terms.Nothing }) o ≡ o
@@ -33,14 +36,16 @@ immediate-abortion marks x at p q e E h =
 
 -- ---- await immediate e
 
-immediate-end : (whole last : Term) (v : Status) (b : Option Step) → v ≡ Plus → trap_step (loop_step whole (sequence_step last (chosen_step v (Some (ended 2)) (Some (ended 0))) b)) ≡ Some (ended 0)
+immediate-end : (whole last : Term) (v : Status) (b : Option Step) → v ≡ Plus →
+    trap_step (loop_step whole (sequence_step last (chosen_step v (Some (ended 2)) (Some (ended 0))) b)) ≡ Some (ended 0)
 immediate-end whole last Plus b h = refl
 immediate-end whole last Minus b h = cc
 immediate-end whole last Unknown b h = cc
 
 pub immediate-await : ImmediateAwaitsEndAtOnce
 immediate-await marks x at e E h =
-    immediate-end (terms.Loop at (terms.Seq (terms.Present (expression e) (terms.Exit 2) terms.Nothing) terms.Pause)) terms.Pause (value (expression e) E) (Some (ended 1)) h
+    immediate-end (terms.Loop at (terms.Seq (terms.Present (expression e) (terms.Exit 2) terms.Nothing) terms.Pause)) terms.Pause (value (expression e) E)
+    (Some (ended 1)) h
 
 -- ---- repeat 2 times p end
 
@@ -128,7 +133,13 @@ trap-paused None a h one = absurd (no-step a h)
 trap-paused (Some b) a h one =
     let same = same-step (record { emitted = b.emitted; code = trap_code b.code; residual = left_by (trap_code b.code) (terms.Trap b.residual) }) a h in
     let code : trap_code b.code ≡ 1 = ap (λ (s : Step). s.code) same ∙ one in
-    record { part = b; is = refl; code = trap-one b.code code; residual = sym (ap (λ (s : Step). s.residual) same) ∙ left-one (trap_code b.code) (terms.Trap b.residual) code }
+    record {
+      part = b;
+      is = refl;
+      code = trap-one b.code code;
+      residual = sym (ap (λ (s : Step). s.residual) same)
+          ∙ left-one (trap_code b.code) (terms.Trap b.residual) code;
+    }
 
 leaves-paused : (f : Term → Term) (o : Option Step) (a : Step) → leaves f o ≡ Some a → a.code ≡ 1 → Paused f o a
 leaves-paused f None a h one = absurd (no-step a h)
@@ -150,7 +161,11 @@ parallel-paused : (o q : Option Step) (a : Step) → parallel_step o q ≡ Some 
 parallel-paused None q a h one = absurd (no-step a h)
 parallel-paused (Some b) None a h one = absurd (no-step a h)
 parallel-paused (Some b) (Some c) a h one =
-    let same = same-step (record { emitted = λ t. b.emitted t || c.emitted t; code = max b.code c.code; residual = left_by (max b.code c.code) (terms.Par b.residual c.residual) }) a h in
+    let same = same-step (record {
+      emitted = λ t. b.emitted t || c.emitted t;
+      code = max b.code c.code;
+      residual = left_by (max b.code c.code) (terms.Par b.residual c.residual);
+    }) a h in
     let code : max b.code c.code ≡ 1 = ap (λ (s : Step). s.code) same ∙ one in
     record {
       left = b;
@@ -163,7 +178,8 @@ parallel-paused (Some b) (Some c) a h one =
     }
 
 -- before an exit: the first part paused
-exit-paused : (o : Option Step) (a : Step) → sequence_step (terms.Exit 2) o (Some (ended 2)) ≡ Some a → a.code ≤ 1 → Paused (λ r. terms.Seq r (terms.Exit 2)) o a
+exit-paused : (o : Option Step) (a : Step) → sequence_step (terms.Exit 2) o (Some (ended 2)) ≡ Some a → a.code ≤ 1 →
+    Paused (λ r. terms.Seq r (terms.Exit 2)) o a
 exit-paused None a h low = absurd (no-step a h)
 exit-paused (Some b) a h low = go (b.code == 0) refl where
   go : (t : Bool) → (b.code == 0) ≡ t → Paused (λ r. terms.Seq r (terms.Exit 2)) (Some b) a
@@ -177,7 +193,13 @@ exit-paused (Some b) a h low = go (b.code == 0) refl where
       let below : b.code ≡ a.code = ap (λ (s : Step). s.code) same in
       let some : b.code ≡ 0 → ⊥ = eqb-false b.code 0 e in
       let code : b.code ≡ 1 = omega (arith, below, low, some) in
-      record { part = b; is = refl; code = code; residual = sym (ap (λ (s : Step). s.residual) same) ∙ left-one b.code (terms.Seq b.residual (terms.Exit 2)) code }
+      record {
+        part = b;
+        is = refl;
+        code = code;
+        residual = sym (ap (λ (s : Step). s.residual) same)
+            ∙ left-one b.code (terms.Seq b.residual (terms.Exit 2)) code;
+      }
 
 -- a sequence: the first part paused, or it ended and the second part paused
 record WentOn (s : Option Step) (a : Step) : Type 0 where
@@ -220,11 +242,13 @@ abbrev watched : Span → Expression → Step
 watched at e = record { emitted = λ t. false; code = 1; residual = watching_on at e }
 
 put-together : (at : Span) (e : Expression) (whole : Term) (a b c d : Step) (left right p : Term)
-    → a.residual ≡ terms.Seq b.residual whole → b.residual ≡ terms.Trap c.residual → c.residual ≡ terms.Par left right → left ≡ terms.Seq d.residual (terms.Exit 2)
+    → a.residual ≡ terms.Seq b.residual whole → b.residual ≡ terms.Trap c.residual → c.residual ≡ terms.Par left right →
+    left ≡ terms.Seq d.residual (terms.Exit 2)
     → d.residual ≡ terms.Awake e p → right ≡ watching_on at e → a.residual ≡ resumed at e whole p
 put-together at e whole a b c d left right p h1 h2 h3 h4 h5 h6 = cc
 
-first-left : (at : Span) (e : Expression) (p : Term) (E : Environment) (a : Step) → step (each at e p) E ≡ Some a → a.code ≡ 1 → Left at e (each at e p) a.residual
+first-left : (at : Span) (e : Expression) (p : Term) (E : Environment) (a : Step) → step (each at e p) E ≡ Some a → a.code ≡ 1 →
+    Left at e (each at e p) a.residual
 first-left at e p E a h one =
     let whole = each at e p in
     let body = sequence_step (terms.Exit 2) (leaves (λ r. terms.Awake e r) (step p E)) (Some (ended 2)) in
@@ -235,20 +259,24 @@ first-left at e p E a h one =
     let k = leaves-paused (λ r. terms.Awake e r) (step p E) d.part d.is d.code in
     record {
       body = k.part.residual;
-      is = put-together at e whole a l.part t.part d.part b.left.residual b.right.residual k.part.residual l.residual t.residual b.residual d.residual k.residual
+      is = put-together at e whole a l.part t.part d.part b.left.residual b.right.residual k.part.residual l.residual t.residual b.residual d.residual
+          k.residual
           (sym (ap (λ (s : Step). s.residual) (same-step (watched at e) b.right b.is_right)));
     }
 
 -- the two branches later, by the event's value
 abbrev branches : Span → Expression → Term → Option Step → Status → Option Step
 branches at e p o v =
-    parallel_step (sequence_step (terms.Exit 2) (chosen_step v (Some (record { emitted = λ t. false; code = 1; residual = terms.Awake e p })) (leaves (λ r. terms.Awake e r) o)) (Some (ended 2)))
-    (sequence_step (watching at e) (sequence_step (terms.Present e (terms.Exit 2) terms.Nothing) (Some (ended 0)) (chosen_step v (Some (ended 2)) (Some (ended 0)))) (Some (watched at e)))
+    parallel_step (sequence_step (terms.Exit 2) (chosen_step v (Some (record { emitted = λ t. false; code = 1; residual = terms.Awake e p }))
+    (leaves (λ r. terms.Awake e r) o)) (Some (ended 2)))
+    (sequence_step (watching at e) (sequence_step (terms.Present e (terms.Exit 2) terms.Nothing) (Some (ended 0))
+    (chosen_step v (Some (ended 2)) (Some (ended 0)))) (Some (watched at e)))
 
 branches-left : (at : Span) (e : Expression) (whole p : Term) (o : Option Step) (v : Status) (a b c : Step) → branches at e p o v ≡ Some c → c.code ≡ 1
     → a.residual ≡ terms.Seq b.residual whole → b.residual ≡ terms.Trap c.residual → Left at e whole a.residual
 branches-left at e whole p o Plus a b c h one outer trap =
-    let k = parallel-paused (Some (record { emitted = λ t. false; code = 1; residual = terms.Seq (terms.Awake e p) (terms.Exit 2) })) (Some (ended 2)) c h one in
+    let k = parallel-paused (Some (record { emitted = λ t. false; code = 1; residual = terms.Seq (terms.Awake e p) (terms.Exit 2) }))
+    (Some (ended 2)) c h one in
     let two : 2 ≡ k.right.code = ap (λ (s : Step). s.code) (same-step (ended 2) k.right k.is_right) in absurd (omega (arith, two, k.right_code))
 branches-left at e whole p o Unknown a b c h one outer trap = absurd (no-step c h)
 branches-left at e whole p o Minus a b c h one outer trap =
@@ -262,9 +290,11 @@ branches-left at e whole p o Minus a b c h one outer trap =
           (sym (ap (λ (s : Step). s.residual) (same-step (watched at e) k.right k.is_right)));
     }
 
-later-left : (at : Span) (e : Expression) (p q : Term) (E : Environment) (a : Step) → step (resumed at e (each at e p) q) E ≡ Some a → a.code ≡ 1 → Left at e (each at e p) a.residual
+later-left : (at : Span) (e : Expression) (p q : Term) (E : Environment) (a : Step) → step (resumed at e (each at e p) q) E ≡ Some a → a.code ≡ 1 →
+    Left at e (each at e p) a.residual
 later-left at e p q E a h one = go (sequence-paused (each at e p) (trap_step (branches at e q (step q E) (value e E))) (step (each at e p) E) a h one) where
-  go : Paused (λ r. terms.Seq r (each at e p)) (trap_step (branches at e q (step q E) (value e E))) a ⊎ WentOn (step (each at e p) E) a → Left at e (each at e p) a.residual
+  go : Paused (λ r. terms.Seq r (each at e p)) (trap_step (branches at e q (step q E) (value e E))) a ⊎ WentOn (step (each at e p) E) a →
+      Left at e (each at e p) a.residual
   go (inl k) =
       let t = trap-paused (branches at e q (step q E) (value e E)) k.part k.is k.code in
       branches-left at e (each at e p) q (step q E) (value e E) a k.part t.part t.is t.code k.residual t.residual
@@ -283,10 +313,17 @@ goes-on None rest q h = absurd (no-term q h)
 goes-on (Some a) rest q h = go (a.code == 1) refl where
   go : (t : Bool) → (a.code == 1) ≡ t → GoesOn (Some a) rest q
   go true e =
-      record { at = a; is = refl; code = eqb-true a.code 1 e; later = ap (λ u. option_and_then (λ r. left_after r rest) (cond u (Some a.residual) None)) (sym e) ∙ h }
+      record {
+        at = a;
+        is = refl;
+        code = eqb-true a.code 1 e;
+        later = ap (λ u. option_and_then (λ r. left_after r rest) (cond u (Some a.residual) None)) (sym e)
+            ∙ h;
+      }
   go false e = absurd (no-term q (ap (λ u. option_and_then (λ r. left_after r rest) (cond u (Some a.residual) None)) (sym e) ∙ h))
 
-each-left : (at : Span) (e : Expression) (p r q : Term) (rest : List Environment) → Left at e (each at e p) r → left_after r rest ≡ Some q → Left at e (each at e p) q
+each-left : (at : Span) (e : Expression) (p r q : Term) (rest : List Environment) → Left at e (each at e p) r → left_after r rest ≡ Some q →
+    Left at e (each at e p) q
 each-left at e p r q [] l h = record { body = l.body; is = same-term q r (sym h) ∙ l.is }
 each-left at e p r q (E ∷ rest) l h =
     let k = goes-on (step r E) rest q h in
@@ -302,4 +339,5 @@ loops-each marks x at p e first instants r E left h =
     let body = terms.Seq (kernel (false ∷ marks) (x + new_by (Plain e)) p) (halting at) in
     let k = goes-on (step (each at (expression e) body) first) instants r left in
     let l = each-left at (expression e) body k.at.residual r instants (first-left at (expression e) body first k.at k.is k.code) k.later in
-    ap (λ t. step t E) l.is ∙ anew at (expression e) (each at (expression e) body) l.body (step l.body E) (step (each at (expression e) body) E) (value (expression e) E) h
+    ap (λ t. step t E) l.is ∙ anew at (expression e) (each at (expression e) body) l.body (step l.body E) (step (each at (expression e) body) E)
+    (value (expression e) E) h

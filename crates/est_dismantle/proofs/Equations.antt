@@ -5,7 +5,9 @@ use Rattle.std.specs.Prelude.{◌≡◌, ℕ, List, [], ◌∷◌}
 use Rattle.std.proofs.Common.{refl}
 use Rattle.est_base.specs.declared.place.Span.{Span}
 use Rattle.est_kernel.specs.Terms as terms
-use Rattle.est_ast.specs.FlatTrees.{Tick, Sig, Not, And, Or, Round, Square, NoExprs, MoreExprs, Plain, Immediate, Count, Stmt, At, Nothing, Pause, Halt, Emit, Sustain, Await, AwaitCase, Present, PresentCase, Loop, LoopEach, Every, Repeat, Abort, AbortCase, WeakAbort, Suspend, Trap, Exit, Signal, Seq, Par, Missing, Written, NoStmts, MoreStmts, NoCases, MoreCases}
+use Rattle.est_ast.specs.FlatTrees.{Tick, Sig, Not, And, Or, Round, Square, NoExprs, MoreExprs, Plain, Immediate, Count, Stmt, At, Nothing, Pause, Halt, Emit}
+use Rattle.est_ast.specs.FlatTrees.{Sustain, Await, AwaitCase, Present, PresentCase, Loop, LoopEach, Every, Repeat, Abort, AbortCase, WeakAbort, Suspend, Trap}
+use Rattle.est_ast.specs.FlatTrees.{Exit, Signal, Seq, Par, Missing, Written, NoStmts, MoreStmts, NoCases, MoreCases}
 use Rattle.est_dismantle.specs.Kernels.{kernel}
 use Rattle.est_ast.specs.NewSignals.{new_in}
 use Rattle.est_dismantle.specs.Counts.{bad_in}

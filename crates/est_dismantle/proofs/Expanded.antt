@@ -25,7 +25,8 @@ record Limited (flat : Flat) (body : Term) (p : Program) : Type 0 where
   traps : trap_depth body ≤ TRAPS
   program : program_in flat body ≡ p
 
-within : (a b c : Bool) (q p : Program) → cond a TooLarge (cond b TooHigh (cond c TooManyTraps (Expanded q))) ≡ Expanded p → (a ≡ false) × (b ≡ false) × (c ≡ false) × (q ≡ p)
+within : (a b c : Bool) (q p : Program) → cond a TooLarge (cond b TooHigh (cond c TooManyTraps (Expanded q))) ≡ Expanded p →
+    (a ≡ false) × (b ≡ false) × (c ≡ false) × (q ≡ p)
 within true b c q p h = cc
 within false true c q p h = cc
 within false false true q p h = cc
@@ -51,7 +52,8 @@ signal_count : (flat : Flat) → length (flat.signals ++ replicate (new_in flat.
 signal_count flat =
     length-append flat.signals (replicate (new_in flat.body) (codes "x")) ∙ ap (λ k. length flat.signals + k) (length-replicate (new_in flat.body) (codes "x"))
 
-whole : (flat : Flat) → IsFlat flat → Placed flat.inputs (seen_count flat) (length flat.signals) (length flat.signals + new_in flat.body) 0 (λ s. nat_lt s (seen_count flat)) (kernel_body flat)
+whole : (flat : Flat) → IsFlat flat → Placed flat.inputs (seen_count flat) (length flat.signals) (length flat.signals + new_in flat.body) 0
+    (λ s. nat_lt s (seen_count flat)) (kernel_body flat)
 whole flat h =
     placed flat.inputs (seen_count flat) (length flat.signals) (length flat.signals + new_in flat.body) (whole_scope flat) [] (length flat.signals) flat.body
     (record { traps = refl; given = omega (arith, h.interface); local = h.interface; room = omega arith; wide = omega arith }) h.body

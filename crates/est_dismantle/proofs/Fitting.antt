@@ -1,14 +1,20 @@
 -- Inner: the kernel of a statement that fits keeps its exits in their traps and its signals in their scopes.
-use Rattle.std.proofs.Common.{◌≡◌, ℕ, zero, suc, ◌+◌, ◌<◌, ◌≤◌, ◌==◌, ◌||◌, Bool, true, false, nat_le, cond, List, [], ◌∷◌, length, refl, ap, subst, arith, IsTrue}
+use Rattle.std.proofs.Common.{◌≡◌, ℕ, zero, suc, ◌+◌, ◌<◌, ◌≤◌, ◌==◌, ◌||◌, Bool, true, false, nat_le, cond, List, [], ◌∷◌, length, refl, ap, subst, arith}
+use Rattle.std.proofs.Common.{IsTrue}
 use Rattle.std.proofs.lemmas.Bool.{eq-eqb}
 use Rattle.std.specs.Prelude.{⊤}
 use Rattle.est_base.specs.declared.place.Span.{Span}
 use Rattle.est_kernel.specs.Terms as terms
 use Rattle.est_kernel.specs.Terms.{Term, Expression}
 use Rattle.est_kernel.specs.WellFormed.{TestsVisible, ExitsStandInTraps, SignalsFit, with_signal}
-use Rattle.est_ast.specs.FlatTrees.{Expr, Tick, Sig, Not, And, Or, Round, Square, Exprs, NoExprs, MoreExprs, Delay, Plain, Immediate, Count, Stmt, At, Form, Nothing, Pause, Halt, Emit, Sustain, Await, AwaitCase, Present, PresentCase, Loop, LoopEach, Every, Repeat, Abort, AbortCase, WeakAbort, Suspend, Trap, Exit, Signal, Seq, Par, Part, Missing, Written, Stmts, NoStmts, MoreStmts, Cases, NoCases, MoreCases}
+use Rattle.est_ast.specs.FlatTrees.{Expr, Tick, Sig, Not, And, Or, Round, Square, Exprs, NoExprs, MoreExprs, Delay, Plain, Immediate, Count, Stmt, At, Form}
+use Rattle.est_ast.specs.FlatTrees.{Nothing, Pause, Halt, Emit, Sustain, Await, AwaitCase, Present, PresentCase, Loop, LoopEach, Every, Repeat, Abort}
+use Rattle.est_ast.specs.FlatTrees.{AbortCase, WeakAbort, Suspend, Trap, Exit, Signal, Seq, Par, Part, Missing, Written, Stmts, NoStmts, MoreStmts, Cases}
+use Rattle.est_ast.specs.FlatTrees.{NoCases, MoreCases}
 use Rattle.est_ast.specs.FlatFits.{Scope, binding, in_signals, in_trap, TestFits, TestsFit, DelayFits, AreLocal, Fits, FormFits, PartFits, AllFit, CasesFit}
-use Rattle.est_dismantle.specs.Kernels.{nested, sequence, parallel, times, expression, expressions, events, any_event, Marks, exit_code, halting, watching, awaiting, awaiting_immediately, awaiting_delay, aborting, aborting_counted, abortion, aborting_handled, handled, looping_each, later_delay, aborting_weakly, suspension, locals, kernel, kernel_of_form, part, kernels, chosen}
+use Rattle.est_dismantle.specs.Kernels.{nested, sequence, parallel, times, expression, expressions, events, any_event, Marks, exit_code, halting, watching}
+use Rattle.est_dismantle.specs.Kernels.{awaiting, awaiting_immediately, awaiting_delay, aborting, aborting_counted, abortion, aborting_handled, handled}
+use Rattle.est_dismantle.specs.Kernels.{looping_each, later_delay, aborting_weakly, suspension, locals, kernel, kernel_of_form, part, kernels, chosen}
 use Rattle.est_ast.specs.NewSignals.{new_by, new_in, new_in_form, new_in_part, new_in_stmts, new_in_cases}
 
 -- what is visible here is visible there
@@ -176,7 +182,8 @@ module _ (inputs interface bound all : ℕ) where
 
   -- leaves the nearest trap where the event is there
   placed-leaving : (n : ℕ) (v : ℕ → Bool) (e : Expression) → TestsVisible v e → Placed (n + 1) v (terms.Present e (terms.Exit 2) terms.Nothing)
-  placed-leaving n v e t = placed-Present (n + 1) v e (terms.Exit 2) terms.Nothing t (placed-Exit (n + 1) v 2 (omega arith) (omega arith)) (placed-Nothing (n + 1) v)
+  placed-leaving n v e t = placed-Present (n + 1) v e (terms.Exit 2) terms.Nothing t (placed-Exit (n + 1) v 2 (omega arith) (omega arith))
+      (placed-Nothing (n + 1) v)
 
   placed-watching : (n : ℕ) (v : ℕ → Bool) (at : Span) (e : Expression) → TestsVisible v e → Placed (n + 1) v (watching at e)
   placed-watching n v at e t =
@@ -198,13 +205,15 @@ module _ (inputs interface bound all : ℕ) where
   placed-delay n v at (Count count span event) h =
       placed-times n v count (awaiting at (expression event)) (placed-awaiting n v at (expression event) (test_visible v event h))
 
-  placed-aborting : (n : ℕ) (v : ℕ → Bool) (at : Span) (e : Expression) (code : ℕ) (p : Term) → 2 ≤ code → code < n + 1 + 2 → TestsVisible v e → Placed (n + 1) v p → Placed (n + 1) v (aborting at e code p)
+  placed-aborting : (n : ℕ) (v : ℕ → Bool) (at : Span) (e : Expression) (code : ℕ) (p : Term) → 2 ≤ code → code < n + 1 + 2 → TestsVisible v e →
+      Placed (n + 1) v p → Placed (n + 1) v (aborting at e code p)
   placed-aborting n v at e code p low high t h =
       placed-Par (n + 1) v (terms.Seq (terms.Suspend e p) (terms.Exit code)) (watching at e)
       (placed-Seq (n + 1) v (terms.Suspend e p) (terms.Exit code) (placed-Suspend (n + 1) v e p t h) (placed-Exit (n + 1) v code low high))
       (placed-watching n v at e t)
 
-  placed-counted : (n : ℕ) (v : ℕ → Bool) (at : Span) (count : ℕ) (e : Expression) (x code : ℕ) (p : Term) → 2 ≤ code → code < n + 1 + 2 → inputs ≤ x → interface ≤ x → x < all → TestsVisible v e → Placed (n + 1) v p → Placed (n + 1) v (aborting_counted at count e x code p)
+  placed-counted : (n : ℕ) (v : ℕ → Bool) (at : Span) (count : ℕ) (e : Expression) (x code : ℕ) (p : Term) → 2 ≤ code → code < n + 1 + 2 → inputs ≤ x →
+      interface ≤ x → x < all → TestsVisible v e → Placed (n + 1) v p → Placed (n + 1) v (aborting_counted at count e x code p)
   placed-counted n v at count e x code p low high given local bound t h =
       let w = with_signal x v in
       let body = terms.Seq (terms.Suspend (terms.Sig x) p) (terms.Exit code) in
@@ -214,7 +223,8 @@ module _ (inputs interface bound all : ℕ) where
       (placed-Seq (n + 1) w (terms.Suspend (terms.Sig x) p) (terms.Exit code)
       (placed-Suspend (n + 1) w (terms.Sig x) p (with-self x v) (above (n + 1) v w p (above-with x v) h)) (placed-Exit (n + 1) w code low high))
       (placed-Seq (n + 1) w waits end (placed-times (n + 1) w count (awaiting at e) (placed-awaiting (n + 1) w at e (tests_above v w e (above-with x v) t)))
-      (placed-Seq (n + 1) w (terms.Emit x) (terms.Exit 2) (placed-Emit (n + 1) w x (with-self x v) given) (placed-Exit (n + 1) w 2 (omega arith) (omega arith)))))
+      (placed-Seq (n + 1) w (terms.Emit x) (terms.Exit 2) (placed-Emit (n + 1) w x (with-self x v) given)
+      (placed-Exit (n + 1) w 2 (omega arith) (omega arith)))))
 
   -- the new signal of an abortion: none, or a local one
   abbrev Numbered : ℕ → Delay → Type 0
@@ -228,20 +238,26 @@ module _ (inputs interface bound all : ℕ) where
   counted_bound : (x count : ℕ) → x + cond (nat_le count 1) 0 1 ≤ all → nat_le count 1 ≡ false → x < all
   counted_bound x count h is = omega (arith, ap (λ b. x + cond b 0 1) is, h)
 
-  placed-abortion : (n : ℕ) (v : ℕ → Bool) (at : Span) (d : Delay) (x : ℕ) (p : Term) → Numbered x d → DelayFits v d → Placed (n + 1) v p → Placed n v (abortion at d x p)
+  placed-abortion : (n : ℕ) (v : ℕ → Bool) (at : Span) (d : Delay) (x : ℕ) (p : Term) → Numbered x d → DelayFits v d → Placed (n + 1) v p →
+      Placed n v (abortion at d x p)
   placed-abortion n v at (Plain event) x p new t h =
       placed-Trap n v _ (placed-aborting n v at (expression event) 2 p (omega arith) (omega arith) (test_visible v event t) h)
   placed-abortion n v at (Immediate event) x p new t h =
       placed-Present n v (expression event) terms.Nothing (terms.Trap (aborting at (expression event) 2 p)) (test_visible v event t) (placed-Nothing n v)
-      (placed-Trap n v (aborting at (expression event) 2 p) (placed-aborting n v at (expression event) 2 p (omega arith) (omega arith) (test_visible v event t) h))
+      (placed-Trap n v (aborting at (expression event) 2 p) (placed-aborting n v at (expression event) 2 p (omega arith) (omega arith)
+      (test_visible v event t) h))
   placed-abortion n v at (Count count span event) x p new t h =
       placed-if n v (nat_le count 1) (terms.Trap (aborting at (expression event) 2 p)) (terms.Trap (aborting_counted at count (expression event) x 2 p))
-      (λ is. placed-Trap n v (aborting at (expression event) 2 p) (placed-aborting n v at (expression event) 2 p (omega arith) (omega arith) (test_visible v event t) h))
+      (λ is. placed-Trap n v (aborting at (expression event) 2 p) (placed-aborting n v at (expression event) 2 p (omega arith) (omega arith)
+      (test_visible v event t) h))
       (λ is. placed-Trap n v (aborting_counted at count (expression event) x 2 p)
-      (placed-counted n v at count (expression event) x 2 p (omega arith) (omega arith) new.0 new.1 (counted_bound x count new.2 is) (test_visible v event t) h))
+      (placed-counted n v at count (expression event) x 2 p (omega arith) (omega arith) new.0 new.1 (counted_bound x count new.2 is)
+      (test_visible v event t) h))
 
-  placed-aborting_handled : (n : ℕ) (v : ℕ → Bool) (at : Span) (d : Delay) (x : ℕ) (p : Term) → Numbered x d → DelayFits v d → Placed (n + 1 + 1) v p → Placed (n + 1 + 1) v (aborting_handled at d x p)
-  placed-aborting_handled n v at (Plain event) x p new t h = placed-aborting (n + 1) v at (expression event) 3 p (omega arith) (omega arith) (test_visible v event t) h
+  placed-aborting_handled : (n : ℕ) (v : ℕ → Bool) (at : Span) (d : Delay) (x : ℕ) (p : Term) → Numbered x d → DelayFits v d → Placed (n + 1 + 1) v p →
+      Placed (n + 1 + 1) v (aborting_handled at d x p)
+  placed-aborting_handled n v at (Plain event) x p new t h = placed-aborting (n + 1) v at (expression event) 3 p (omega arith) (omega arith)
+      (test_visible v event t) h
   placed-aborting_handled n v at (Immediate event) x p new t h =
       placed-Present (n + 1 + 1) v (expression event) (terms.Exit 2) (aborting at (expression event) 3 p) (test_visible v event t)
       (placed-Exit (n + 1 + 1) v 2 (omega arith) (omega arith))
@@ -249,12 +265,14 @@ module _ (inputs interface bound all : ℕ) where
   placed-aborting_handled n v at (Count count span event) x p new t h =
       placed-if (n + 1 + 1) v (nat_le count 1) (aborting at (expression event) 3 p) (aborting_counted at count (expression event) x 3 p)
       (λ is. placed-aborting (n + 1) v at (expression event) 3 p (omega arith) (omega arith) (test_visible v event t) h)
-      (λ is. placed-counted (n + 1) v at count (expression event) x 3 p (omega arith) (omega arith) new.0 new.1 (counted_bound x count new.2 is) (test_visible v event t) h)
+      (λ is. placed-counted (n + 1) v at count (expression event) x 3 p (omega arith) (omega arith) new.0 new.1 (counted_bound x count new.2 is)
+      (test_visible v event t) h)
 
   placed-handled : (n : ℕ) (v : ℕ → Bool) (p q : Term) → Placed (n + 1 + 1) v p → Placed (n + 1) v q → Placed n v (handled p q)
   placed-handled n v p q h g = placed-Trap n v (terms.Seq (terms.Trap p) q) (placed-Seq (n + 1) v (terms.Trap p) q (placed-Trap (n + 1) v p h) g)
 
-  placed-each : (n : ℕ) (v : ℕ → Bool) (at : Span) (d : Delay) (x : ℕ) (p : Term) → Numbered x d → DelayFits v d → Placed (n + 1) v p → Placed n v (looping_each at d x p)
+  placed-each : (n : ℕ) (v : ℕ → Bool) (at : Span) (d : Delay) (x : ℕ) (p : Term) → Numbered x d → DelayFits v d → Placed (n + 1) v p →
+      Placed n v (looping_each at d x p)
   placed-each n v at d x p new t h =
       placed-Loop n v at (abortion at d x (terms.Seq p (halting at)))
       (placed-abortion n v at d x (terms.Seq p (halting at)) new t (placed-Seq (n + 1) v p (halting at) h (placed-halting (n + 1) v at)))
@@ -282,11 +300,13 @@ module _ (inputs interface bound all : ℕ) where
       let e = expression event in let wait = terms.Present e terms.Pause (terms.Exit 2) in
       placed-Seq n v (terms.Trap (terms.Loop at wait)) (terms.Suspend e p)
       (placed-Trap n v (terms.Loop at wait) (placed-Loop (n + 1) v at wait
-      (placed-Present (n + 1) v e terms.Pause (terms.Exit 2) (test_visible v event t) (placed-Pause (n + 1) v) (placed-Exit (n + 1) v 2 (omega arith) (omega arith)))))
+      (placed-Present (n + 1) v e terms.Pause (terms.Exit 2) (test_visible v event t) (placed-Pause (n + 1) v)
+      (placed-Exit (n + 1) v 2 (omega arith) (omega arith)))))
       (placed-Suspend n v e p (test_visible v event t) h)
   placed-suspension n v at (Count count span event) p t h = placed-Suspend n v (expression event) p (test_visible v event t) h
 
-  placed-locals : (n : ℕ) (v : ℕ → Bool) (signals : List ℕ) (p : Term) → bound ≤ all → AreLocal inputs interface bound signals → Placed n (binding signals v) p → Placed n v (locals signals p)
+  placed-locals : (n : ℕ) (v : ℕ → Bool) (signals : List ℕ) (p : Term) → bound ≤ all → AreLocal inputs interface bound signals →
+      Placed n (binding signals v) p → Placed n v (locals signals p)
   placed-locals n v [] p wide h g = g
   placed-locals n v (s ∷ signals) p wide h g =
       placed-Local n v s (locals signals p) h.0 (omega (arith, h.1, wide)) (placed-locals n (with_signal s v) signals p wide h.2 g)
@@ -337,10 +357,12 @@ module _ (inputs interface bound all : ℕ) where
   events_visible scope (MoreCases event body others) h = (test_visible scope.visible event h.0, events_visible scope others h.2)
 
   mutual
-    pub placed : (scope : Scope) (marks : Marks) (x : ℕ) (p : Stmt) → Around scope marks x (new_in p) → Fits inputs interface bound scope p → Placed (length marks) scope.visible (kernel marks x p)
+    pub placed : (scope : Scope) (marks : Marks) (x : ℕ) (p : Stmt) → Around scope marks x (new_in p) → Fits inputs interface bound scope p →
+        Placed (length marks) scope.visible (kernel marks x p)
     placed scope marks x (At at form) h fits = placed-form scope marks x at form h fits
 
-    placed-form : (scope : Scope) (marks : Marks) (x : ℕ) (at : Span) (form : Form) → Around scope marks x (new_in_form form) → FormFits inputs interface bound scope form → Placed (length marks) scope.visible (kernel_of_form marks x at form)
+    placed-form : (scope : Scope) (marks : Marks) (x : ℕ) (at : Span) (form : Form) → Around scope marks x (new_in_form form) →
+        FormFits inputs interface bound scope form → Placed (length marks) scope.visible (kernel_of_form marks x at form)
     placed-form scope marks x at Nothing h fits = placed-Nothing (length marks) scope.visible
     placed-form scope marks x at Pause h fits = placed-Pause (length marks) scope.visible
     placed-form scope marks x at Halt h fits = placed-halting (length marks) scope.visible at
@@ -350,7 +372,8 @@ module _ (inputs interface bound all : ℕ) where
         (placed-Emit (length marks) scope.visible s fits.0 fits.1) (placed-Pause (length marks) scope.visible))
     placed-form scope marks x at (Await d Missing) h fits = placed-delay (length marks) scope.visible at d fits.0
     placed-form scope marks x at (Await d (Written q)) h fits =
-        placed-Seq (length marks) scope.visible (awaiting_delay at d) (kernel marks x q) (placed-delay (length marks) scope.visible at d fits.0) (placed scope marks x q h fits.1)
+        placed-Seq (length marks) scope.visible (awaiting_delay at d) (kernel marks x q) (placed-delay (length marks) scope.visible at d fits.0)
+        (placed scope marks x q h fits.1)
     placed-form scope marks x at (AwaitCase list) h fits =
         placed-Seq (length marks) scope.visible (awaiting at (any_event list)) (chosen marks x list terms.Nothing)
         (placed-awaiting (length marks) scope.visible at (any_event list) (or_visible scope.visible (events list) (events_visible scope list fits)))
@@ -369,29 +392,45 @@ module _ (inputs interface bound all : ℕ) where
     placed-form scope marks x at (LoopEach p d) h fits =
         let n = new_by d + new_in p in
         placed-each (length marks) scope.visible at d x (kernel (false ∷ marks) (x + new_by d) p) (numbered scope marks x n d h (omega arith)) fits.1
-        (one_trap marks false scope.visible (kernel (false ∷ marks) (x + new_by d) p) (placed scope (false ∷ marks) (x + new_by d) p (around_new scope marks (x + new_by d) (new_in p) (around scope marks x (n) (x + new_by d) (new_in p) h (omega arith) (omega arith))) fits.0))
+        (one_trap marks false scope.visible (kernel (false ∷ marks) (x + new_by d) p)
+        (placed scope (false ∷ marks) (x + new_by d) p (around_new scope marks (x + new_by d) (new_in p)
+        (around scope marks x (n) (x + new_by d) (new_in p) h (omega arith) (omega arith))) fits.0))
     placed-form scope marks x at (Every d p) h fits =
         let n = new_by d + new_in p in let body = kernel (false ∷ marks) (x + new_by d) p in
-        placed-Seq (length marks) scope.visible (awaiting_delay at d) (looping_each at (later_delay d) x body) (placed-delay (length marks) scope.visible at d fits.0)
-        (placed-each (length marks) scope.visible at (later_delay d) x body (later_numbered x d (numbered scope marks x n d h (omega arith))) (later_fits scope.visible d fits.0)
-        (one_trap marks false scope.visible (kernel (false ∷ marks) (x + new_by d) p) (placed scope (false ∷ marks) (x + new_by d) p (around_new scope marks (x + new_by d) (new_in p) (around scope marks x (n) (x + new_by d) (new_in p) h (omega arith) (omega arith))) fits.1)))
+        placed-Seq (length marks) scope.visible (awaiting_delay at d) (looping_each at (later_delay d) x body)
+        (placed-delay (length marks) scope.visible at d fits.0)
+        (placed-each (length marks) scope.visible at (later_delay d) x body (later_numbered x d (numbered scope marks x n d h (omega arith)))
+        (later_fits scope.visible d fits.0)
+        (one_trap marks false scope.visible (kernel (false ∷ marks) (x + new_by d) p)
+        (placed scope (false ∷ marks) (x + new_by d) p (around_new scope marks (x + new_by d) (new_in p)
+        (around scope marks x (n) (x + new_by d) (new_in p) h (omega arith) (omega arith))) fits.1)))
     placed-form scope marks x at (Repeat count span p) h fits =
         placed-times (length marks) scope.visible count (kernel marks x p) (placed scope marks x p h fits)
     placed-form scope marks x at (Abort p d Missing) h fits =
         let n = new_by d + (new_in p + 0) in
         placed-abortion (length marks) scope.visible at d x (kernel (false ∷ marks) (x + new_by d) p) (numbered scope marks x n d h (omega arith)) fits.1
-        (one_trap marks false scope.visible (kernel (false ∷ marks) (x + new_by d) p) (placed scope (false ∷ marks) (x + new_by d) p (around_new scope marks (x + new_by d) (new_in p) (around scope marks x (n) (x + new_by d) (new_in p) h (omega arith) (omega arith))) fits.0))
+        (one_trap marks false scope.visible (kernel (false ∷ marks) (x + new_by d) p)
+        (placed scope (false ∷ marks) (x + new_by d) p (around_new scope marks (x + new_by d) (new_in p)
+        (around scope marks x (n) (x + new_by d) (new_in p) h (omega arith) (omega arith))) fits.0))
     placed-form scope marks x at (Abort p d (Written q)) h fits =
         let n = new_by d + (new_in p + new_in q) in let y = x + new_by d + new_in p in
         placed-handled (length marks) scope.visible (aborting_handled at d x (kernel (false ∷ (false ∷ marks)) (x + new_by d) p)) (kernel (false ∷ marks) y q)
-        (placed-aborting_handled (length marks) scope.visible at d x (kernel (false ∷ (false ∷ marks)) (x + new_by d) p) (numbered scope marks x n d h (omega arith)) fits.1
-        (two_traps marks false scope.visible (kernel (false ∷ (false ∷ marks)) (x + new_by d) p) (placed scope (false ∷ (false ∷ marks)) (x + new_by d) p (around_new scope (false ∷ marks) (x + new_by d) (new_in p) (around_new scope marks (x + new_by d) (new_in p) (around scope marks x (n) (x + new_by d) (new_in p) h (omega arith) (omega arith)))) fits.0)))
-        (one_trap marks false scope.visible (kernel (false ∷ marks) (y) q) (placed scope (false ∷ marks) (y) q (around_new scope marks (y) (new_in q) (around scope marks x (n) (y) (new_in q) h (omega arith) (omega arith))) fits.2))
+        (placed-aborting_handled (length marks) scope.visible at d x (kernel (false ∷ (false ∷ marks)) (x + new_by d) p)
+        (numbered scope marks x n d h (omega arith)) fits.1
+        (two_traps marks false scope.visible (kernel (false ∷ (false ∷ marks)) (x + new_by d) p)
+        (placed scope (false ∷ (false ∷ marks)) (x + new_by d) p (around_new scope (false ∷ marks) (x + new_by d) (new_in p)
+        (around_new scope marks (x + new_by d) (new_in p) (around scope marks x (n) (x + new_by d) (new_in p) h (omega arith) (omega arith)))) fits.0)))
+        (one_trap marks false scope.visible (kernel (false ∷ marks) (y) q)
+        (placed scope (false ∷ marks) (y) q (around_new scope marks (y) (new_in q) (around scope marks x (n) (y) (new_in q) h (omega arith) (omega arith)))
+        fits.2))
     placed-form scope marks x at (AbortCase p list) h fits =
         let n = new_in p + new_in_cases list in let y = x + new_in p in let body = kernel (false ∷ (false ∷ marks)) x p in
         placed-handled (length marks) scope.visible (aborting at (any_event list) 3 body) (chosen (false ∷ marks) y list terms.Nothing)
-        (placed-aborting (length marks + 1) scope.visible at (any_event list) 3 body (omega arith) (omega arith) (or_visible scope.visible (events list) (events_visible scope list fits.1))
-        (two_traps marks false scope.visible (kernel (false ∷ (false ∷ marks)) (x) p) (placed scope (false ∷ (false ∷ marks)) (x) p (around_new scope (false ∷ marks) (x) (new_in p) (around_new scope marks (x) (new_in p) (around scope marks x (n) (x) (new_in p) h (omega arith) (omega arith)))) fits.0)))
+        (placed-aborting (length marks + 1) scope.visible at (any_event list) 3 body (omega arith) (omega arith)
+        (or_visible scope.visible (events list) (events_visible scope list fits.1))
+        (two_traps marks false scope.visible (kernel (false ∷ (false ∷ marks)) (x) p)
+        (placed scope (false ∷ (false ∷ marks)) (x) p (around_new scope (false ∷ marks) (x) (new_in p)
+        (around_new scope marks (x) (new_in p) (around scope marks x (n) (x) (new_in p) h (omega arith) (omega arith)))) fits.0)))
         (one_trap marks false scope.visible (chosen (false ∷ marks) y list terms.Nothing) (placed-chosen scope (false ∷ marks) y list terms.Nothing
         (around_new scope marks y (new_in_cases list) (around scope marks x n y (new_in_cases list) h (omega arith) (omega arith))) fits.1
         (placed-Nothing (length (false ∷ marks)) scope.visible)))
@@ -402,7 +441,8 @@ module _ (inputs interface bound all : ℕ) where
         placed-suspension (length marks) scope.visible at d (kernel marks x p) fits.1 (placed scope marks x p h fits.0)
     placed-form scope marks x at (Trap p Missing) h fits =
         placed-Trap (length marks) scope.visible (kernel (true ∷ marks) x p) (one_trap marks true scope.visible (kernel (true ∷ marks) x p)
-        (placed (in_trap scope) (true ∷ marks) x p (around_source scope marks x (new_in p) (around scope marks x (new_in p + 0) x (new_in p) h (omega arith) (omega arith))) fits.0))
+        (placed (in_trap scope) (true ∷ marks) x p (around_source scope marks x (new_in p)
+        (around scope marks x (new_in p + 0) x (new_in p) h (omega arith) (omega arith))) fits.0))
     placed-form scope marks x at (Trap p (Written q)) h fits =
         let n = new_in p + new_in q in let y = x + new_in p in let body = kernel (true ∷ (false ∷ marks)) x p in
         placed-handled (length marks) scope.visible (terms.Seq body (terms.Exit 3)) (kernel (false ∷ marks) y q)
@@ -410,7 +450,9 @@ module _ (inputs interface bound all : ℕ) where
         (placed (in_trap scope) (true ∷ (false ∷ marks)) x p (around_source scope (false ∷ marks) x (new_in p) (around_new scope marks x (new_in p)
         (around scope marks x n x (new_in p) h (omega arith) (omega arith)))) fits.0))
         (placed-Exit (length marks + 1 + 1) scope.visible 3 (omega arith) (omega arith)))
-        (one_trap marks false scope.visible (kernel (false ∷ marks) (y) q) (placed scope (false ∷ marks) (y) q (around_new scope marks (y) (new_in q) (around scope marks x (n) (y) (new_in q) h (omega arith) (omega arith))) fits.1))
+        (one_trap marks false scope.visible (kernel (false ∷ marks) (y) q)
+        (placed scope (false ∷ marks) (y) q (around_new scope marks (y) (new_in q) (around scope marks x (n) (y) (new_in q) h (omega arith) (omega arith)))
+        fits.1))
     placed-form scope marks x at (Exit k) h fits =
         let g = exit_placed marks k (omega (arith, fits, h.traps)) in placed-Exit (length marks) scope.visible (exit_code marks k) g.0 g.1
     placed-form scope marks x at (Signal signals p) h fits =
@@ -421,11 +463,13 @@ module _ (inputs interface bound all : ℕ) where
     placed-form scope marks x at (Par parts) h fits =
         placed-parallel (length marks) scope.visible (kernels marks x parts) (placed-all scope marks x parts h fits)
 
-    placed-part : (scope : Scope) (marks : Marks) (x : ℕ) (p : Part) → Around scope marks x (new_in_part p) → PartFits inputs interface bound scope p → Placed (length marks) scope.visible (part marks x p)
+    placed-part : (scope : Scope) (marks : Marks) (x : ℕ) (p : Part) → Around scope marks x (new_in_part p) → PartFits inputs interface bound scope p →
+        Placed (length marks) scope.visible (part marks x p)
     placed-part scope marks x Missing h fits = placed-Nothing (length marks) scope.visible
     placed-part scope marks x (Written p) h fits = placed scope marks x p h fits
 
-    placed-all : (scope : Scope) (marks : Marks) (x : ℕ) (ps : Stmts) → Around scope marks x (new_in_stmts ps) → AllFit inputs interface bound scope ps → AllPlaced (length marks) scope.visible (kernels marks x ps)
+    placed-all : (scope : Scope) (marks : Marks) (x : ℕ) (ps : Stmts) → Around scope marks x (new_in_stmts ps) → AllFit inputs interface bound scope ps →
+        AllPlaced (length marks) scope.visible (kernels marks x ps)
     placed-all scope marks x NoStmts h fits = tt
     placed-all scope marks x (MoreStmts p others) h fits =
         let n = new_in p + new_in_stmts others in (
@@ -433,7 +477,8 @@ module _ (inputs interface bound all : ℕ) where
           placed-all scope marks (x + new_in p) others (around scope marks x n (x + new_in p) (new_in_stmts others) h (omega arith) (omega arith)) fits.1,
         )
 
-    placed-chosen : (scope : Scope) (marks : Marks) (x : ℕ) (list : Cases) (r : Term) → Around scope marks x (new_in_cases list) → CasesFit inputs interface bound scope list → Placed (length marks) scope.visible r → Placed (length marks) scope.visible (chosen marks x list r)
+    placed-chosen : (scope : Scope) (marks : Marks) (x : ℕ) (list : Cases) (r : Term) → Around scope marks x (new_in_cases list) →
+        CasesFit inputs interface bound scope list → Placed (length marks) scope.visible r → Placed (length marks) scope.visible (chosen marks x list r)
     placed-chosen scope marks x NoCases r h fits g = g
     placed-chosen scope marks x (MoreCases event body others) r h fits g =
         let n = new_in_part body + new_in_cases others in let y = x + new_in_part body in

@@ -1,5 +1,6 @@
 -- Inner: the kernel term of each node of the code, and the number of its new signals.
-use Rattle.std.proofs.Common.{◌≡◌, ℕ, zero, suc, ◌+◌, ◌<◌, ◌≤◌, Bool, true, false, nat_le, cond, List, [], ◌∷◌, ◌++◌, length, map, take, drop, get_or, Option, Some, None, refl, sym, ◌∙◌, ap, subst, arith}
+use Rattle.std.proofs.Common.{◌≡◌, ℕ, zero, suc, ◌+◌, ◌<◌, ◌≤◌, Bool, true, false, nat_le, cond, List, [], ◌∷◌, ◌++◌, length, map, take, drop, get_or, Option}
+use Rattle.std.proofs.Common.{Some, None, refl, sym, ◌∙◌, ap, subst, arith}
 use Rattle.std.proofs.Math.ListN.{drop_of_length-le}
 use Rattle.std.proofs.lemmas.Bool.{le-leb, lt-leb}
 use Rattle.std.specs.declared.alloc.Global.{Global}
@@ -21,8 +22,11 @@ use Rattle.est_ast.specs.FlatTrees.{exprs, stmts, cases}
 use Rattle.est_ast.specs.FlatViews.{flat_expr_of, flat_delay_of, flat_stmt_of, flat_case_of, flat_part_of, flat_event_of, flat_body_of}
 use Rattle.est_ast.proofs.FlatRows.{flat_expr-And, flat_expr-Or, flat_form-Seq, flat_form-Par, flat_form-AwaitCase, flat_form-PresentCase, flat_form-AbortCase}
 use Rattle.est_dismantle.specs.Choices.{chosen_of}
-use Rattle.est_dismantle.specs.FlatNodes.{event_test, events_tests, case_test, any_event_test, delay_new, stmt_new, node_new, part_new, stmts_new, case_new, cases_new, stmt_kernel, node_kernel, part_kernel, stmts_kernels, case_choice, choices}
-use Rattle.est_dismantle.specs.Kernels.{nested, sequence, parallel, times, expression, expressions, events, any_event, Marks, exit_code, halting, awaiting, awaiting_delay, aborting, abortion, aborting_handled, handled, looping_each, later_delay, aborting_weakly, suspension, locals, kernel, kernel_of_form, part, kernels, chosen}
+use Rattle.est_dismantle.specs.FlatNodes.{event_test, events_tests, case_test, any_event_test, delay_new, stmt_new, node_new, part_new, stmts_new, case_new}
+use Rattle.est_dismantle.specs.FlatNodes.{cases_new, stmt_kernel, node_kernel, part_kernel, stmts_kernels, case_choice, choices}
+use Rattle.est_dismantle.specs.Kernels.{nested, sequence, parallel, times, expression, expressions, events, any_event, Marks, exit_code, halting, awaiting}
+use Rattle.est_dismantle.specs.Kernels.{awaiting_delay, aborting, abortion, aborting_handled, handled, looping_each, later_delay, aborting_weakly, suspension}
+use Rattle.est_dismantle.specs.Kernels.{locals, kernel, kernel_of_form, part, kernels, chosen}
 use Rattle.est_ast.specs.NewSignals.{new_by, new_in, new_in_form, new_in_part, new_in_stmts, new_in_cases}
 use Rattle.est_dismantle.proofs.Exits.{marks-Whole, marks-Source, marks-New}
 use Rattle.est_dismantle.proofs.Lists.{drop-at}
@@ -175,7 +179,8 @@ pub new-Abort_missing : (p : Box FlatStmt Global) (d : FlatDelay) → node_new (
 unfolding node_new stmt_new delay_new
 new-Abort_missing p d = refl
 
-pub new-Abort_written : (p : Box FlatStmt Global) (d : FlatDelay) (r : Box FlatStmt Global) → node_new (forms.Abort p d (Some r)) ≡ delay_new d + (stmt_new p.value + stmt_new r.value)
+pub new-Abort_written : (p : Box FlatStmt Global) (d : FlatDelay) (r : Box FlatStmt Global) →
+    node_new (forms.Abort p d (Some r)) ≡ delay_new d + (stmt_new p.value + stmt_new r.value)
 unfolding node_new stmt_new delay_new
 new-Abort_written p d r = refl
 
@@ -241,15 +246,18 @@ pub kernel-Emit : (marks : Marks) (x : ℕ) (at : Span) (s : SigId) → node_ker
 unfolding node_kernel
 kernel-Emit marks x at s = refl
 
-pub kernel-Sustain : (marks : Marks) (x : ℕ) (at : Span) (s : SigId) → node_kernel marks x at (forms.Sustain s) ≡ terms.Loop at (terms.Seq (terms.Emit s.0) terms.Pause)
+pub kernel-Sustain : (marks : Marks) (x : ℕ) (at : Span) (s : SigId) →
+    node_kernel marks x at (forms.Sustain s) ≡ terms.Loop at (terms.Seq (terms.Emit s.0) terms.Pause)
 unfolding node_kernel
 kernel-Sustain marks x at s = refl
 
-pub kernel-Await_missing : (marks : Marks) (x : ℕ) (at : Span) (d : FlatDelay) → node_kernel marks x at (forms.Await d None) ≡ awaiting_delay at (flat_delay_of d)
+pub kernel-Await_missing : (marks : Marks) (x : ℕ) (at : Span) (d : FlatDelay) →
+    node_kernel marks x at (forms.Await d None) ≡ awaiting_delay at (flat_delay_of d)
 unfolding node_kernel
 kernel-Await_missing marks x at d = refl
 
-pub kernel-Await_written : (marks : Marks) (x : ℕ) (at : Span) (d : FlatDelay) (r : Box FlatStmt Global) → node_kernel marks x at (forms.Await d (Some r)) ≡ terms.Seq (awaiting_delay at (flat_delay_of d)) (stmt_kernel marks x r.value)
+pub kernel-Await_written : (marks : Marks) (x : ℕ) (at : Span) (d : FlatDelay) (r : Box FlatStmt Global) →
+    node_kernel marks x at (forms.Await d (Some r)) ≡ terms.Seq (awaiting_delay at (flat_delay_of d)) (stmt_kernel marks x r.value)
 unfolding node_kernel stmt_kernel
 kernel-Await_written marks x at d r = refl
 
@@ -259,59 +267,81 @@ chosen-choices marks x [] r = refl
 chosen-choices marks x (c ∷ l) r =
     ap (terms.Present (expression (flat_event_of c)) (part marks x (flat_body_of c))) (chosen-choices marks (x + new_in_part (flat_body_of c)) l r)
 
-pub kernel-AwaitCase : (marks : Marks) (x : ℕ) (at : Span) (v : Vec FlatCase Global) → node_kernel marks x at (forms.AwaitCase v) ≡ terms.Seq (awaiting at (any_event_test v.items)) (chosen_of (choices marks x v.items) terms.Nothing)
+pub kernel-AwaitCase : (marks : Marks) (x : ℕ) (at : Span) (v : Vec FlatCase Global) →
+    node_kernel marks x at (forms.AwaitCase v) ≡ terms.Seq (awaiting at (any_event_test v.items)) (chosen_of (choices marks x v.items) terms.Nothing)
 unfolding node_kernel any_event_test
-kernel-AwaitCase marks x at v = ap (kernel_of_form marks x at) (flat_form-AwaitCase v) ∙ ap (terms.Seq (awaiting at (any_event (cases (map flat_case_of v.items))))) (chosen-choices marks x v.items terms.Nothing)
+kernel-AwaitCase marks x at v = ap (kernel_of_form marks x at) (flat_form-AwaitCase v)
+    ∙ ap (terms.Seq (awaiting at (any_event (cases (map flat_case_of v.items))))) (chosen-choices marks x v.items terms.Nothing)
 
-pub kernel-Present : (marks : Marks) (x : ℕ) (at : Span) (e : FlatExpr) (p q : Option (Box FlatStmt Global)) → node_kernel marks x at (forms.Present e p q) ≡ terms.Present (event_test e) (part_kernel marks x p) (part_kernel marks (x + part_new p) q)
+pub kernel-Present : (marks : Marks) (x : ℕ) (at : Span) (e : FlatExpr) (p q : Option (Box FlatStmt Global)) →
+    node_kernel marks x at (forms.Present e p q) ≡ terms.Present (event_test e) (part_kernel marks x p) (part_kernel marks (x + part_new p) q)
 unfolding node_kernel event_test part_kernel part_new
 kernel-Present marks x at e p q = refl
 
-pub kernel-PresentCase : (marks : Marks) (x : ℕ) (at : Span) (v : Vec FlatCase Global) (q : Option (Box FlatStmt Global)) → node_kernel marks x at (forms.PresentCase v q) ≡ chosen_of (choices marks x v.items) (part_kernel marks (x + cases_new v.items) q)
+pub kernel-PresentCase : (marks : Marks) (x : ℕ) (at : Span) (v : Vec FlatCase Global) (q : Option (Box FlatStmt Global)) →
+    node_kernel marks x at (forms.PresentCase v q) ≡ chosen_of (choices marks x v.items) (part_kernel marks (x + cases_new v.items) q)
 unfolding node_kernel part_kernel cases_new
-kernel-PresentCase marks x at v q = ap (kernel_of_form marks x at) (flat_form-PresentCase v q) ∙ chosen-choices marks x v.items (part marks (x + new_in_cases (cases (map flat_case_of v.items))) (flat_part_of q))
+kernel-PresentCase marks x at v q = ap (kernel_of_form marks x at) (flat_form-PresentCase v q)
+    ∙ chosen-choices marks x v.items (part marks (x + new_in_cases (cases (map flat_case_of v.items))) (flat_part_of q))
 
-pub kernel-Loop : (marks : Marks) (x : ℕ) (at : Span) (p : Box FlatStmt Global) → node_kernel marks x at (forms.Loop p) ≡ terms.Loop at (stmt_kernel marks x p.value)
+pub kernel-Loop : (marks : Marks) (x : ℕ) (at : Span) (p : Box FlatStmt Global) →
+    node_kernel marks x at (forms.Loop p) ≡ terms.Loop at (stmt_kernel marks x p.value)
 unfolding node_kernel stmt_kernel
 kernel-Loop marks x at p = refl
 
-pub kernel-LoopEach : (marks : Marks) (x : ℕ) (at : Span) (p : Box FlatStmt Global) (d : FlatDelay) → node_kernel marks x at (forms.LoopEach p d) ≡ looping_each at (flat_delay_of d) x (stmt_kernel (false ∷ marks) (x + delay_new d) p.value)
+pub kernel-LoopEach : (marks : Marks) (x : ℕ) (at : Span) (p : Box FlatStmt Global) (d : FlatDelay) →
+    node_kernel marks x at (forms.LoopEach p d) ≡ looping_each at (flat_delay_of d) x (stmt_kernel (false ∷ marks) (x + delay_new d) p.value)
 unfolding node_kernel stmt_kernel delay_new
 kernel-LoopEach marks x at p d = refl
 
-pub kernel-Every : (marks : Marks) (x : ℕ) (at : Span) (d : FlatDelay) (p : Box FlatStmt Global) → node_kernel marks x at (forms.Every d p) ≡ terms.Seq (awaiting_delay at (flat_delay_of d)) (looping_each at (later_delay (flat_delay_of d)) x (stmt_kernel (false ∷ marks) (x + delay_new d) p.value))
+pub kernel-Every : (marks : Marks) (x : ℕ) (at : Span) (d : FlatDelay) (p : Box FlatStmt Global) →
+    node_kernel marks x at (forms.Every d p) ≡ terms.Seq (awaiting_delay at (flat_delay_of d))
+    (looping_each at (later_delay (flat_delay_of d)) x (stmt_kernel (false ∷ marks) (x + delay_new d) p.value))
 unfolding node_kernel stmt_kernel delay_new
 kernel-Every marks x at d p = refl
 
-pub kernel-Repeat : (marks : Marks) (x : ℕ) (at : Span) (count : ℕ) (span : Span) (p : Box FlatStmt Global) → node_kernel marks x at (forms.Repeat count span p) ≡ sequence (times count (stmt_kernel marks x p.value))
+pub kernel-Repeat : (marks : Marks) (x : ℕ) (at : Span) (count : ℕ) (span : Span) (p : Box FlatStmt Global) →
+    node_kernel marks x at (forms.Repeat count span p) ≡ sequence (times count (stmt_kernel marks x p.value))
 unfolding node_kernel stmt_kernel
 kernel-Repeat marks x at count span p = refl
 
-pub kernel-Abort_missing : (marks : Marks) (x : ℕ) (at : Span) (p : Box FlatStmt Global) (d : FlatDelay) → node_kernel marks x at (forms.Abort p d None) ≡ abortion at (flat_delay_of d) x (stmt_kernel (false ∷ marks) (x + delay_new d) p.value)
+pub kernel-Abort_missing : (marks : Marks) (x : ℕ) (at : Span) (p : Box FlatStmt Global) (d : FlatDelay) →
+    node_kernel marks x at (forms.Abort p d None) ≡ abortion at (flat_delay_of d) x (stmt_kernel (false ∷ marks) (x + delay_new d) p.value)
 unfolding node_kernel stmt_kernel delay_new
 kernel-Abort_missing marks x at p d = refl
 
-pub kernel-Abort_written : (marks : Marks) (x : ℕ) (at : Span) (p : Box FlatStmt Global) (d : FlatDelay) (r : Box FlatStmt Global) → node_kernel marks x at (forms.Abort p d (Some r)) ≡ handled (aborting_handled at (flat_delay_of d) x (stmt_kernel (false ∷ (false ∷ marks)) (x + delay_new d) p.value)) (stmt_kernel (false ∷ marks) (x + delay_new d + stmt_new p.value) r.value)
+pub kernel-Abort_written : (marks : Marks) (x : ℕ) (at : Span) (p : Box FlatStmt Global) (d : FlatDelay) (r : Box FlatStmt Global) →
+    node_kernel marks x at (forms.Abort p d (Some r)) ≡ handled (aborting_handled at (flat_delay_of d) x
+    (stmt_kernel (false ∷ (false ∷ marks)) (x + delay_new d) p.value)) (stmt_kernel (false ∷ marks) (x + delay_new d + stmt_new p.value) r.value)
 unfolding node_kernel stmt_kernel delay_new stmt_new
 kernel-Abort_written marks x at p d r = refl
 
-pub kernel-AbortCase : (marks : Marks) (x : ℕ) (at : Span) (p : Box FlatStmt Global) (v : Vec FlatCase Global) → node_kernel marks x at (forms.AbortCase p v) ≡ handled (aborting at (any_event_test v.items) 3 (stmt_kernel (false ∷ (false ∷ marks)) x p.value)) (chosen_of (choices (false ∷ marks) (x + stmt_new p.value) v.items) terms.Nothing)
+pub kernel-AbortCase : (marks : Marks) (x : ℕ) (at : Span) (p : Box FlatStmt Global) (v : Vec FlatCase Global) →
+    node_kernel marks x at (forms.AbortCase p v) ≡ handled (aborting at (any_event_test v.items) 3 (stmt_kernel (false ∷ (false ∷ marks)) x p.value))
+    (chosen_of (choices (false ∷ marks) (x + stmt_new p.value) v.items) terms.Nothing)
 unfolding node_kernel stmt_kernel any_event_test stmt_new
-kernel-AbortCase marks x at p v = ap (kernel_of_form marks x at) (flat_form-AbortCase p v) ∙ ap (handled (aborting at (any_event (cases (map flat_case_of v.items))) 3 (kernel (false ∷ (false ∷ marks)) x (flat_stmt_of p.value)))) (chosen-choices (false ∷ marks) (x + new_in (flat_stmt_of p.value)) v.items terms.Nothing)
+kernel-AbortCase marks x at p v = ap (kernel_of_form marks x at) (flat_form-AbortCase p v)
+    ∙ ap (handled (aborting at (any_event (cases (map flat_case_of v.items))) 3 (kernel (false ∷ (false ∷ marks)) x (flat_stmt_of p.value))))
+    (chosen-choices (false ∷ marks) (x + new_in (flat_stmt_of p.value)) v.items terms.Nothing)
 
-pub kernel-WeakAbort : (marks : Marks) (x : ℕ) (at : Span) (p : Box FlatStmt Global) (d : FlatDelay) → node_kernel marks x at (forms.WeakAbort p d) ≡ aborting_weakly at (flat_delay_of d) (stmt_kernel (false ∷ marks) x p.value)
+pub kernel-WeakAbort : (marks : Marks) (x : ℕ) (at : Span) (p : Box FlatStmt Global) (d : FlatDelay) →
+    node_kernel marks x at (forms.WeakAbort p d) ≡ aborting_weakly at (flat_delay_of d) (stmt_kernel (false ∷ marks) x p.value)
 unfolding node_kernel stmt_kernel
 kernel-WeakAbort marks x at p d = refl
 
-pub kernel-Suspend : (marks : Marks) (x : ℕ) (at : Span) (p : Box FlatStmt Global) (d : FlatDelay) → node_kernel marks x at (forms.Suspend p d) ≡ suspension at (flat_delay_of d) (stmt_kernel marks x p.value)
+pub kernel-Suspend : (marks : Marks) (x : ℕ) (at : Span) (p : Box FlatStmt Global) (d : FlatDelay) →
+    node_kernel marks x at (forms.Suspend p d) ≡ suspension at (flat_delay_of d) (stmt_kernel marks x p.value)
 unfolding node_kernel stmt_kernel
 kernel-Suspend marks x at p d = refl
 
-pub kernel-Trap_missing : (marks : Marks) (x : ℕ) (at : Span) (p : Box FlatStmt Global) → node_kernel marks x at (forms.Trap p None) ≡ terms.Trap (stmt_kernel (true ∷ marks) x p.value)
+pub kernel-Trap_missing : (marks : Marks) (x : ℕ) (at : Span) (p : Box FlatStmt Global) →
+    node_kernel marks x at (forms.Trap p None) ≡ terms.Trap (stmt_kernel (true ∷ marks) x p.value)
 unfolding node_kernel stmt_kernel
 kernel-Trap_missing marks x at p = refl
 
-pub kernel-Trap_written : (marks : Marks) (x : ℕ) (at : Span) (p : Box FlatStmt Global) (r : Box FlatStmt Global) → node_kernel marks x at (forms.Trap p (Some r)) ≡ handled (terms.Seq (stmt_kernel (true ∷ (false ∷ marks)) x p.value) (terms.Exit 3)) (stmt_kernel (false ∷ marks) (x + stmt_new p.value) r.value)
+pub kernel-Trap_written : (marks : Marks) (x : ℕ) (at : Span) (p : Box FlatStmt Global) (r : Box FlatStmt Global) →
+    node_kernel marks x at (forms.Trap p (Some r)) ≡ handled (terms.Seq (stmt_kernel (true ∷ (false ∷ marks)) x p.value) (terms.Exit 3))
+    (stmt_kernel (false ∷ marks) (x + stmt_new p.value) r.value)
 unfolding node_kernel stmt_kernel stmt_new
 kernel-Trap_written marks x at p r = refl
 
@@ -319,7 +349,8 @@ pub kernel-Exit : (marks : Marks) (x : ℕ) (at : Span) (k : ℕ) → node_kerne
 unfolding node_kernel
 kernel-Exit marks x at k = refl
 
-pub kernel-Signal : (marks : Marks) (x : ℕ) (at : Span) (v : Vec SigId Global) (p : Box FlatStmt Global) → node_kernel marks x at (forms.Signal v p) ≡ locals (map (λ s. s.0) v.items) (stmt_kernel marks x p.value)
+pub kernel-Signal : (marks : Marks) (x : ℕ) (at : Span) (v : Vec SigId Global) (p : Box FlatStmt Global) →
+    node_kernel marks x at (forms.Signal v p) ≡ locals (map (λ s. s.0) v.items) (stmt_kernel marks x p.value)
 unfolding node_kernel stmt_kernel
 kernel-Signal marks x at v p = refl
 
@@ -343,7 +374,8 @@ pub stmts-none : (marks : Marks) (x : ℕ) → stmts_kernels marks x [] ≡ []
 unfolding stmts_kernels
 stmts-none marks x = refl
 
-pub stmts-more : (marks : Marks) (x : ℕ) (p : FlatStmt) (l : List FlatStmt) → stmts_kernels marks x (p ∷ l) ≡ stmt_kernel marks x p ∷ stmts_kernels marks (x + stmt_new p) l
+pub stmts-more : (marks : Marks) (x : ℕ) (p : FlatStmt) (l : List FlatStmt) →
+    stmts_kernels marks x (p ∷ l) ≡ stmt_kernel marks x p ∷ stmts_kernels marks (x + stmt_new p) l
 unfolding stmts_kernels stmt_kernel stmt_new
 stmts-more marks x p l = refl
 
@@ -359,7 +391,8 @@ pub choices-none : (marks : Marks) (x : ℕ) → choices marks x [] ≡ []
 unfolding choices
 choices-none marks x = refl
 
-pub choices-more : (marks : Marks) (x : ℕ) (c : FlatCase) (l : List FlatCase) → choices marks x (c ∷ l) ≡ case_choice marks x c ∷ choices marks (x + case_new c) l
+pub choices-more : (marks : Marks) (x : ℕ) (c : FlatCase) (l : List FlatCase) →
+    choices marks x (c ∷ l) ≡ case_choice marks x c ∷ choices marks (x + case_new c) l
 unfolding choices
 choices-more marks x c l = refl
 
@@ -377,12 +410,14 @@ none-some p h = cc
 some-same : (p q : FlatStmt) → Some p ≡ Some q → p ≡ q
 some-same p q h = cc
 
-pub case-missing : (marks : Marks) (x : ℕ) (c : FlatCase) → (out-FlatCase c).body ≡ None → case_choice marks x c ≡ (event_test (out-FlatCase c).event, terms.Nothing)
+pub case-missing : (marks : Marks) (x : ℕ) (c : FlatCase) → (out-FlatCase c).body ≡ None →
+    case_choice marks x c ≡ (event_test (out-FlatCase c).event, terms.Nothing)
 unfolding case_choice case_test event_test out-FlatCase denote.Hole.Carrier.out
 case-missing marks x (FlatCase' event FlatCase-body-None') h = refl
 case-missing marks x (FlatCase' event (FlatCase-body-Some' span form)) h = absurd (none-some (record { span = span; form = form }) (sym h))
 
-pub case-written : (marks : Marks) (x : ℕ) (c : FlatCase) (p : FlatStmt) → (out-FlatCase c).body ≡ Some p → case_choice marks x c ≡ (event_test (out-FlatCase c).event, stmt_kernel marks x p)
+pub case-written : (marks : Marks) (x : ℕ) (c : FlatCase) (p : FlatStmt) → (out-FlatCase c).body ≡ Some p →
+    case_choice marks x c ≡ (event_test (out-FlatCase c).event, stmt_kernel marks x p)
 unfolding case_choice case_test event_test stmt_kernel out-FlatCase denote.Hole.Carrier.out
 case-written marks x (FlatCase' event FlatCase-body-None') p h = absurd (none-some p h)
 case-written marks x (FlatCase' event (FlatCase-body-Some' span form)) p h =
@@ -401,24 +436,29 @@ case-new_written (FlatCase' event (FlatCase-body-Some' span form)) p h = ap (λ 
 -- ---- rows put together
 
 pub put-Present : (marks : Marks) (x y : ℕ) (at : Span) (form : FlatForm) (e : FlatExpr) (p q : Option (Box FlatStmt Global)) (t : Expression) (a b k : Term)
-    → form ≡ forms.Present e p q → t ≡ event_test e → a ≡ part_kernel marks x p → y ≡ x + part_new p → b ≡ part_kernel marks y q → k ≡ terms.Present t a b → k ≡ node_kernel marks x at form
+    → form ≡ forms.Present e p q → t ≡ event_test e → a ≡ part_kernel marks x p → y ≡ x + part_new p → b ≡ part_kernel marks y q → k ≡ terms.Present t a b →
+    k ≡ node_kernel marks x at form
 put-Present marks x y at form e p q t a b k is test a_is next b_is whole = let row = kernel-Present marks x at e p q in cc
 
-pub put-Abort : (marks outer inner : Marks) (x y z : ℕ) (at : Span) (form : FlatForm) (p r : Box FlatStmt Global) (d : FlatDelay) (rest : Option (Box FlatStmt Global)) (s u : FlatStmt) (n : ℕ) (a b c k : Term)
+pub put-Abort : (marks outer inner : Marks) (x y z : ℕ) (at : Span) (form : FlatForm) (p r : Box FlatStmt Global) (d : FlatDelay)
+    (rest : Option (Box FlatStmt Global)) (s u : FlatStmt) (n : ℕ) (a b c k : Term)
     → a ≡ stmt_kernel inner y s → b ≡ stmt_kernel outer z u → c ≡ aborting_handled at (flat_delay_of d) n a → k ≡ handled c b
     → outer ≡ false ∷ marks → inner ≡ false ∷ outer
-    → form ≡ forms.Abort p d rest → rest ≡ Some r → s ≡ p.value → u ≡ r.value → n ≡ x → y ≡ x + delay_new d → z ≡ y + stmt_new s → k ≡ node_kernel marks x at form
+    → form ≡ forms.Abort p d rest → rest ≡ Some r → s ≡ p.value → u ≡ r.value → n ≡ x → y ≡ x + delay_new d → z ≡ y + stmt_new s →
+    k ≡ node_kernel marks x at form
 put-Abort marks outer inner x y z at form p r d rest s u n a b c k a_is b_is c_is whole around within is written body box number first next =
     let row = kernel-Abort_written marks x at p d r in cc
 
-pub put-AbortCase : (marks outer inner : Marks) (x y : ℕ) (at : Span) (form : FlatForm) (p : Box FlatStmt Global) (v : Vec FlatCase Global) (s : FlatStmt) (l m : List FlatCase) (ch : List (Expression × Term)) (t : Expression) (a b c k : Term)
+pub put-AbortCase : (marks outer inner : Marks) (x y : ℕ) (at : Span) (form : FlatForm) (p : Box FlatStmt Global) (v : Vec FlatCase Global) (s : FlatStmt)
+    (l m : List FlatCase) (ch : List (Expression × Term)) (t : Expression) (a b c k : Term)
     → a ≡ stmt_kernel inner x s → ch ≡ choices outer y l → b ≡ chosen_of ch terms.Nothing → t ≡ any_event_test m → c ≡ aborting at t 3 a → k ≡ handled c b
     → outer ≡ false ∷ marks → inner ≡ false ∷ outer
     → form ≡ forms.AbortCase p v → s ≡ p.value → l ≡ v.items → m ≡ v.items → y ≡ x + stmt_new s → k ≡ node_kernel marks x at form
 put-AbortCase marks outer inner x y at form p v s l m ch t a b c k a_is ch_is b_is any c_is whole around within is body list same next =
     let row = kernel-AbortCase marks x at p v in cc
 
-pub put-Trap : (marks outer inner : Marks) (x y : ℕ) (at : Span) (form : FlatForm) (p r : Box FlatStmt Global) (rest : Option (Box FlatStmt Global)) (s u : FlatStmt) (a b c k : Term)
+pub put-Trap : (marks outer inner : Marks) (x y : ℕ) (at : Span) (form : FlatForm) (p r : Box FlatStmt Global) (rest : Option (Box FlatStmt Global))
+    (s u : FlatStmt) (a b c k : Term)
     → a ≡ stmt_kernel inner x s → b ≡ stmt_kernel outer y u → c ≡ terms.Seq a (terms.Exit 3) → k ≡ handled c b
     → outer ≡ false ∷ marks → inner ≡ true ∷ outer
     → form ≡ forms.Trap p rest → rest ≡ Some r → s ≡ p.value → u ≡ r.value → y ≡ x + stmt_new s → k ≡ node_kernel marks x at form
@@ -427,9 +467,11 @@ put-Trap marks outer inner x y at form p r rest s u a b c k a_is b_is c_is whole
 
 -- ---- lists
 
-pub stmts-at : (marks : Marks) (x y : ℕ) (l : List FlatStmt) (i : ℕ) (p : FlatStmt) → i < length l → p ≡ get_or l i p → y ≡ x + stmt_new p → stmts_kernels marks x (drop i l) ≡ stmt_kernel marks x p ∷ stmts_kernels marks y (drop (i + 1) l)
+pub stmts-at : (marks : Marks) (x y : ℕ) (l : List FlatStmt) (i : ℕ) (p : FlatStmt) → i < length l → p ≡ get_or l i p → y ≡ x + stmt_new p →
+    stmts_kernels marks x (drop i l) ≡ stmt_kernel marks x p ∷ stmts_kernels marks y (drop (i + 1) l)
 stmts-at marks x y l i p h is next =
-    ap (stmts_kernels marks x) (drop-at l i p h is) ∙ stmts-more marks x p (drop (i + 1) l) ∙ ap (λ z. stmt_kernel marks x p ∷ stmts_kernels marks z (drop (i + 1) l)) (sym next)
+    ap (stmts_kernels marks x) (drop-at l i p h is) ∙ stmts-more marks x p (drop (i + 1) l)
+    ∙ ap (λ z. stmt_kernel marks x p ∷ stmts_kernels marks z (drop (i + 1) l)) (sym next)
 
 pub stmts-new_at : (l : List FlatStmt) (i : ℕ) (p : FlatStmt) → i < length l → p ≡ get_or l i p → stmts_new (drop i l) ≡ stmt_new p + stmts_new (drop (i + 1) l)
 stmts-new_at l i p h is = ap stmts_new (drop-at l i p h is) ∙ stmts-new_more p (drop (i + 1) l)
@@ -440,9 +482,11 @@ stmts-past marks x l i h = ap (stmts_kernels marks x) (drop_of_length-le l h) �
 pub stmts-new_past : (l : List FlatStmt) (i : ℕ) → length l ≤ i → stmts_new (drop i l) ≡ 0
 stmts-new_past l i h = ap stmts_new (drop_of_length-le l h) ∙ stmts-new_none
 
-pub choices-at : (marks : Marks) (x y : ℕ) (l : List FlatCase) (i : ℕ) (c : FlatCase) → i < length l → c ≡ get_or l i c → y ≡ x + case_new c → choices marks x (drop i l) ≡ case_choice marks x c ∷ choices marks y (drop (i + 1) l)
+pub choices-at : (marks : Marks) (x y : ℕ) (l : List FlatCase) (i : ℕ) (c : FlatCase) → i < length l → c ≡ get_or l i c → y ≡ x + case_new c →
+    choices marks x (drop i l) ≡ case_choice marks x c ∷ choices marks y (drop (i + 1) l)
 choices-at marks x y l i c h is next =
-    ap (choices marks x) (drop-at l i c h is) ∙ choices-more marks x c (drop (i + 1) l) ∙ ap (λ z. case_choice marks x c ∷ choices marks z (drop (i + 1) l)) (sym next)
+    ap (choices marks x) (drop-at l i c h is) ∙ choices-more marks x c (drop (i + 1) l)
+    ∙ ap (λ z. case_choice marks x c ∷ choices marks z (drop (i + 1) l)) (sym next)
 
 pub cases-new_at : (l : List FlatCase) (i : ℕ) (c : FlatCase) → i < length l → c ≡ get_or l i c → cases_new (drop i l) ≡ case_new c + cases_new (drop (i + 1) l)
 cases-new_at l i c h is = ap cases_new (drop-at l i c h is) ∙ cases-new_more c (drop (i + 1) l)
@@ -454,4 +498,64 @@ pub cases-new_past : (l : List FlatCase) (i : ℕ) → length l ≤ i → cases_
 cases-new_past l i h = ap cases_new (drop_of_length-le l h) ∙ cases-new_none
 
 -- all of them
-pub ruleset kernel_rows = (marks-Whole, marks-Source, marks-New, new-stmt, new-Nothing, new-Pause, new-Halt, new-Emit, new-Sustain, new-Exit, new-Await_missing, new-Await_written, new-AwaitCase, new-Present, new-PresentCase, new-Loop, new-LoopEach, new-Every, new-Repeat, new-Abort_missing, new-Abort_written, new-AbortCase, new-WeakAbort, new-Suspend, new-Trap_missing, new-Trap_written, new-Signal, new-Seq, new-Par, new-part_missing, new-part_written, kernel-stmt, kernel-Nothing, kernel-Pause, kernel-Halt, kernel-Emit, kernel-Sustain, kernel-Await_missing, kernel-Await_written, kernel-AwaitCase, kernel-Present, kernel-PresentCase, kernel-Loop, kernel-LoopEach, kernel-Every, kernel-Repeat, kernel-Abort_missing, kernel-Abort_written, kernel-AbortCase, kernel-WeakAbort, kernel-Suspend, kernel-Trap_missing, kernel-Trap_written, kernel-Exit, kernel-Signal, kernel-Seq, kernel-Par, kernel-part_missing, kernel-part_written)
+pub ruleset kernel_rows = (
+  marks-Whole,
+  marks-Source,
+  marks-New,
+  new-stmt,
+  new-Nothing,
+  new-Pause,
+  new-Halt,
+  new-Emit,
+  new-Sustain,
+  new-Exit,
+  new-Await_missing,
+  new-Await_written,
+  new-AwaitCase,
+  new-Present,
+  new-PresentCase,
+  new-Loop,
+  new-LoopEach,
+  new-Every,
+  new-Repeat,
+  new-Abort_missing,
+  new-Abort_written,
+  new-AbortCase,
+  new-WeakAbort,
+  new-Suspend,
+  new-Trap_missing,
+  new-Trap_written,
+  new-Signal,
+  new-Seq,
+  new-Par,
+  new-part_missing,
+  new-part_written,
+  kernel-stmt,
+  kernel-Nothing,
+  kernel-Pause,
+  kernel-Halt,
+  kernel-Emit,
+  kernel-Sustain,
+  kernel-Await_missing,
+  kernel-Await_written,
+  kernel-AwaitCase,
+  kernel-Present,
+  kernel-PresentCase,
+  kernel-Loop,
+  kernel-LoopEach,
+  kernel-Every,
+  kernel-Repeat,
+  kernel-Abort_missing,
+  kernel-Abort_written,
+  kernel-AbortCase,
+  kernel-WeakAbort,
+  kernel-Suspend,
+  kernel-Trap_missing,
+  kernel-Trap_written,
+  kernel-Exit,
+  kernel-Signal,
+  kernel-Seq,
+  kernel-Par,
+  kernel-part_missing,
+  kernel-part_written,
+)

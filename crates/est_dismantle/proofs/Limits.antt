@@ -1,5 +1,6 @@
 -- Inner: which fault a flat program has, by its first bad count and the measures of its body.
-use Rattle.std.proofs.Common.{◌≡◌, ℕ, ◌+◌, ◌-◌, ◌^◌, ◌<◌, ◌≤◌, min, Bool, true, false, nat_lt, cond, List, [], ◌∷◌, length, Some, None, refl, sym, ◌∙◌, ap, subst, arith}
+use Rattle.std.proofs.Common.{◌≡◌, ℕ, ◌+◌, ◌-◌, ◌^◌, ◌<◌, ◌≤◌, min, Bool, true, false, nat_lt, cond, List, [], ◌∷◌, length, Some, None, refl, sym, ◌∙◌, ap}
+use Rattle.std.proofs.Common.{subst, arith}
 use Rattle.std.proofs.lemmas.Bool.{lt-ltb, le-ltb}
 use Rattle.est_base.specs.declared.place.Span.{Span}
 use Rattle.est_base.specs.declared.bounds.TheConstants.Limits.{KERNEL_NODES, KERNEL_HEIGHT, TRAPS}
@@ -25,10 +26,12 @@ counted-none : (flat : Flat) (places : List Span) → first_place places ≡ Non
 counted-none flat [] h = refl
 counted-none flat (p ∷ places) h = cc
 
-limited-by : (flat : Flat) (body : Term) (a b c : Bool) → nat_lt KERNEL_NODES (size_of body) ≡ a → nat_lt KERNEL_HEIGHT (height_of body) ≡ b → nat_lt TRAPS (trap_depth body) ≡ c
+limited-by : (flat : Flat) (body : Term) (a b c : Bool) → nat_lt KERNEL_NODES (size_of body) ≡ a → nat_lt KERNEL_HEIGHT (height_of body) ≡ b →
+    nat_lt TRAPS (trap_depth body) ≡ c
     → limited flat body ≡ cond a TooLarge (cond b TooHigh (cond c TooManyTraps (Expanded (program_in flat body))))
 limited-by flat body a b c p q r =
-    ap (λ t. cond t TooLarge (cond (nat_lt KERNEL_HEIGHT (height_of body)) TooHigh (cond (nat_lt TRAPS (trap_depth body)) TooManyTraps (Expanded (program_in flat body))))) p
+    ap (λ t. cond t TooLarge (cond (nat_lt KERNEL_HEIGHT (height_of body)) TooHigh
+    (cond (nat_lt TRAPS (trap_depth body)) TooManyTraps (Expanded (program_in flat body))))) p
     ∙ ap (λ t. cond a TooLarge (cond t TooHigh (cond (nat_lt TRAPS (trap_depth body)) TooManyTraps (Expanded (program_in flat body))))) q
     ∙ ap (λ t. cond a TooLarge (cond b TooHigh (cond t TooManyTraps (Expanded (program_in flat body))))) r
 
@@ -53,7 +56,8 @@ module _ (flat : Flat) (p : FlatStmt) (is : flat_stmt_of p ≡ flat.body) where
     sized : (x.size ≤ KERNEL_NODES → size_of (kernel_body flat) ≤ KERNEL_NODES) × (KERNEL_NODES < x.size → KERNEL_NODES < size_of (kernel_body flat))
     sized = let c = capped-body x of in (λ h. omega (arith, c.size, h), λ h. omega (arith, c.size, h))
 
-    raised : (x.height ≤ KERNEL_HEIGHT → height_of (kernel_body flat) ≤ KERNEL_HEIGHT) × (KERNEL_HEIGHT < x.height → KERNEL_HEIGHT < height_of (kernel_body flat))
+    raised : (x.height ≤ KERNEL_HEIGHT → height_of (kernel_body flat) ≤ KERNEL_HEIGHT)
+        × (KERNEL_HEIGHT < x.height → KERNEL_HEIGHT < height_of (kernel_body flat))
     raised = let c = capped-body x of in (λ h. omega (arith, c.height, h), λ h. omega (arith, c.height, h))
 
     trapped : (x.traps ≤ TRAPS → trap_depth (kernel_body flat) ≤ TRAPS) × (TRAPS < x.traps → TRAPS < trap_depth (kernel_body flat))

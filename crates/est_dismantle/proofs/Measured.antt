@@ -4,10 +4,17 @@ use Rattle.est_base.specs.declared.place.Span.{Span}
 use Rattle.est_kernel.specs.Terms as terms
 use Rattle.est_kernel.specs.Terms.{Term, Expression}
 use Rattle.est_kernel.specs.Sizes.{size_of, height_of, trap_depth}
-use Rattle.est_ast.specs.FlatTrees.{Delay, Plain, Immediate, Count, Stmt, At, Form, Nothing, Pause, Halt, Emit, Sustain, Await, AwaitCase, Present, PresentCase, Loop, LoopEach, Every, Repeat, Abort, AbortCase, WeakAbort, Suspend, Trap, Exit, Signal, Seq, Par, Part, Missing, Written, Stmts, NoStmts, MoreStmts, Cases, NoCases, MoreCases}
-use Rattle.est_dismantle.specs.Kernels.{nested, sequence, parallel, times, expression, any_event, Marks, exit_code, halting, watching, awaiting, awaiting_delay, aborting, aborting_counted, abortion, aborting_handled, handled, looping_each, later_delay, aborting_weakly, suspension, locals, kernel, kernel_of_form, part, kernels, chosen}
+use Rattle.est_ast.specs.FlatTrees.{Delay, Plain, Immediate, Count, Stmt, At, Form, Nothing, Pause, Halt, Emit, Sustain, Await, AwaitCase, Present, PresentCase}
+use Rattle.est_ast.specs.FlatTrees.{Loop, LoopEach, Every, Repeat, Abort, AbortCase, WeakAbort, Suspend, Trap, Exit, Signal, Seq, Par, Part, Missing, Written}
+use Rattle.est_ast.specs.FlatTrees.{Stmts, NoStmts, MoreStmts, Cases, NoCases, MoreCases}
+use Rattle.est_dismantle.specs.Kernels.{nested, sequence, parallel, times, expression, any_event, Marks, exit_code, halting, watching, awaiting, awaiting_delay}
+use Rattle.est_dismantle.specs.Kernels.{aborting, aborting_counted, abortion, aborting_handled, handled, looping_each, later_delay, aborting_weakly, suspension}
+use Rattle.est_dismantle.specs.Kernels.{locals, kernel, kernel_of_form, part, kernels, chosen}
 use Rattle.est_ast.specs.NewSignals.{new_by, new_in, new_in_part, new_in_cases}
-use Rattle.est_dismantle.specs.Measures.{Measures, measures_of, test_measures, leaf, over, trapped, joined, tested, suspended, copied, raised, watched, awaited, awaited_delay, aborted, aborted_counted, aborted_later, tested_first, abortion_measures, handled_measures, each_measures, each_later_measures, weakly_measures, suspension_measures, kernel_measures, form_measures, part_measures, stmts_measures, cases_measures}
+use Rattle.est_dismantle.specs.Measures.{Measures, measures_of, test_measures, leaf, over, trapped, joined, tested, suspended, copied, raised, watched, awaited}
+use Rattle.est_dismantle.specs.Measures.{awaited_delay, aborted, aborted_counted, aborted_later, tested_first, abortion_measures, handled_measures}
+use Rattle.est_dismantle.specs.Measures.{each_measures, each_later_measures, weakly_measures, suspension_measures, kernel_measures, form_measures}
+use Rattle.est_dismantle.specs.Measures.{part_measures, stmts_measures, cases_measures}
 
 abbrev measures : ℕ → ℕ → ℕ → Measures
 measures s h t = record { size = s; height = h; traps = t }
@@ -75,7 +82,8 @@ m-parallel [] = m-Nothing
 m-parallel (p ∷ []) = refl
 m-parallel (p ∷ (q ∷ ps)) = m-Par p (parallel (q ∷ ps)) ∙ ap (joined (measures_of p)) (m-parallel (q ∷ ps))
 
-times-measures : (n : ℕ) (p : Term) → (size_of (sequence (times (suc n) p)) ≡ suc n * size_of p + n) × (height_of (sequence (times (suc n) p)) ≡ n + height_of p) × (trap_depth (sequence (times (suc n) p)) ≡ trap_depth p)
+times-measures : (n : ℕ) (p : Term) → (size_of (sequence (times (suc n) p)) ≡ suc n * size_of p + n)
+    × (height_of (sequence (times (suc n) p)) ≡ n + height_of p) × (trap_depth (sequence (times (suc n) p)) ≡ trap_depth p)
 times-measures zero p = (omega arith, omega arith, refl)
 times-measures (suc n) p =
     let h = times-measures n p in
@@ -94,7 +102,8 @@ unfolding raised
 m-locals [] p = same_measures _ _ _ _ _ _ (omega arith) (omega arith) refl
 m-locals (s ∷ signals) p =
     let h = m-locals signals p in
-    same_measures _ _ _ _ _ _ (omega (arith, ap (λ (m : Measures). m.size) h)) (omega (arith, ap (λ (m : Measures). m.height) h)) (ap (λ (m : Measures). m.traps) h)
+    same_measures _ _ _ _ _ _ (omega (arith, ap (λ (m : Measures). m.size) h)) (omega (arith, ap (λ (m : Measures). m.height) h))
+    (ap (λ (m : Measures). m.traps) h)
 
 -- ---- derived statements; a leaf that is no `nothing` has the measures of `nothing`
 
@@ -132,7 +141,8 @@ trapped-if : (b : Bool) (m n : Measures) → cond b (trapped m) (trapped n) ≡ 
 trapped-if true m n = refl
 trapped-if false m n = refl
 
-m-counted : (at : Span) (count : ℕ) (e : Expression) (x code : ℕ) (p : Term) → measures_of (aborting_counted at count e x code p) ≡ aborted_counted count (test_measures e) (measures_of p)
+m-counted : (at : Span) (count : ℕ) (e : Expression) (x code : ℕ) (p : Term) →
+    measures_of (aborting_counted at count e x code p) ≡ aborted_counted count (test_measures e) (measures_of p)
 m-counted at count e x code p =
     let body = terms.Seq (terms.Suspend (terms.Sig x) p) (terms.Exit code) in
     let waits = sequence (times count (awaiting at e)) in let end = terms.Seq (terms.Emit x) (terms.Exit 2) in
@@ -212,7 +222,8 @@ mutual
   m-form marks x at (Sustain s) = m-sustaining at s
   m-form marks x at (Await d Missing) = m-delay at d
   m-form marks x at (Await d (Written q)) =
-      m-Seq (awaiting_delay at d) (kernel marks x q) ∙ ap (λ m. joined m (measures_of (kernel marks x q))) (m-delay at d) ∙ ap (joined (awaited_delay d)) (m-kernel marks x q)
+      m-Seq (awaiting_delay at d) (kernel marks x q) ∙ ap (λ m. joined m (measures_of (kernel marks x q))) (m-delay at d)
+      ∙ ap (joined (awaited_delay d)) (m-kernel marks x q)
   m-form marks x at (AwaitCase list) =
       m-Seq (awaiting at (any_event list)) (chosen marks x list terms.Nothing)
       ∙ ap (λ m. joined m (measures_of (chosen marks x list terms.Nothing))) (m-awaiting at (any_event list))
@@ -230,7 +241,8 @@ mutual
       let body = kernel (false ∷ marks) (x + new_by d) p in
       m-Seq (awaiting_delay at d) (looping_each at (later_delay d) x body)
       ∙ ap (λ m. joined m (measures_of (looping_each at (later_delay d) x body))) (m-delay at d)
-      ∙ ap (joined (awaited_delay d)) (m-each at (later_delay d) x body ∙ later-same d (measures_of body) ∙ ap (each_later_measures d) (m-kernel (false ∷ marks) (x + new_by d) p))
+      ∙ ap (joined (awaited_delay d)) (m-each at (later_delay d) x body ∙ later-same d (measures_of body)
+      ∙ ap (each_later_measures d) (m-kernel (false ∷ marks) (x + new_by d) p))
   m-form marks x at (Repeat count span p) = m-times count (kernel marks x p) ∙ ap (copied count) (m-kernel marks x p)
   m-form marks x at (Abort p d Missing) =
       m-abortion at d x (kernel (false ∷ marks) (x + new_by d) p) ∙ ap (abortion_measures d) (m-kernel (false ∷ marks) (x + new_by d) p)
@@ -245,7 +257,8 @@ mutual
       m-handled (aborting at (any_event list) 3 body) (chosen (false ∷ marks) y list terms.Nothing)
       ∙ ap (λ m. handled_measures m (measures_of (chosen (false ∷ marks) y list terms.Nothing)))
       (m-aborting at (any_event list) 3 body ∙ ap (aborted (test_measures (any_event list))) (m-kernel (false ∷ (false ∷ marks)) x p))
-      ∙ ap (handled_measures (aborted (test_measures (any_event list)) (kernel_measures p))) (m-chosen (false ∷ marks) y list terms.Nothing ∙ ap (cases_measures list) m-Nothing)
+      ∙ ap (handled_measures (aborted (test_measures (any_event list)) (kernel_measures p)))
+      (m-chosen (false ∷ marks) y list terms.Nothing ∙ ap (cases_measures list) m-Nothing)
   m-form marks x at (WeakAbort p d) = m-weakly at d (kernel (false ∷ marks) x p) ∙ ap (weakly_measures d) (m-kernel (false ∷ marks) x p)
   m-form marks x at (Suspend p d) = m-suspension at d (kernel marks x p) ∙ ap (suspension_measures d) (m-kernel marks x p)
   m-form marks x at (Trap p Missing) = m-Trap (kernel (true ∷ marks) x p) ∙ ap trapped (m-kernel (true ∷ marks) x p)
@@ -253,7 +266,8 @@ mutual
       let body = kernel (true ∷ (false ∷ marks)) x p in let y = x + new_in p in
       m-handled (terms.Seq body (terms.Exit 3)) (kernel (false ∷ marks) y q)
       ∙ ap (λ m. handled_measures m (measures_of (kernel (false ∷ marks) y q)))
-      (m-Seq body (terms.Exit 3) ∙ ap (λ m. joined m (measures_of (terms.Exit 3))) (m-kernel (true ∷ (false ∷ marks)) x p) ∙ ap (joined (kernel_measures p)) (m-Exit 3))
+      (m-Seq body (terms.Exit 3) ∙ ap (λ m. joined m (measures_of (terms.Exit 3))) (m-kernel (true ∷ (false ∷ marks)) x p)
+      ∙ ap (joined (kernel_measures p)) (m-Exit 3))
       ∙ ap (handled_measures (joined (kernel_measures p) leaf)) (m-kernel (false ∷ marks) y q)
   m-form marks x at (Exit k) = m-Exit (exit_code marks k)
   m-form marks x at (Signal signals p) = m-locals signals (kernel marks x p) ∙ ap (raised (length signals)) (m-kernel marks x p)
@@ -267,7 +281,8 @@ mutual
   m-kernels : (marks : Marks) (x : ℕ) (ps : Stmts) → map measures_of (kernels marks x ps) ≡ stmts_measures ps
   m-kernels marks x NoStmts = refl
   m-kernels marks x (MoreStmts p others) =
-      ap (λ m. m ∷ map measures_of (kernels marks (x + new_in p) others)) (m-kernel marks x p) ∙ ap (λ l. kernel_measures p ∷ l) (m-kernels marks (x + new_in p) others)
+      ap (λ m. m ∷ map measures_of (kernels marks (x + new_in p) others)) (m-kernel marks x p)
+      ∙ ap (λ l. kernel_measures p ∷ l) (m-kernels marks (x + new_in p) others)
 
   m-chosen : (marks : Marks) (x : ℕ) (list : Cases) (r : Term) → measures_of (chosen marks x list r) ≡ cases_measures list (measures_of r)
   m-chosen marks x NoCases r = refl

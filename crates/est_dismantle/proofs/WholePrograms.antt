@@ -13,12 +13,14 @@ use Rattle.est_dismantle.specs.FlatNodes.{stmt_kernel, stmt_new}
 use Rattle.est_dismantle.specs.Kernels.{Marks, kernel}
 use Rattle.est_ast.specs.NewSignals.{new_in}
 
-pub body-made : (flat : Flat) (p : FlatStmt) (marks : Marks) (first : ℕ) (k : Term) → flat_stmt_of p ≡ flat.body → k ≡ stmt_kernel marks first p → marks ≡ [] → first ≡ length flat.signals → k ≡ kernel_body flat
+pub body-made : (flat : Flat) (p : FlatStmt) (marks : Marks) (first : ℕ) (k : Term) → flat_stmt_of p ≡ flat.body → k ≡ stmt_kernel marks first p → marks ≡ [] →
+    first ≡ length flat.signals → k ≡ kernel_body flat
 unfolding stmt_kernel
 body-made flat p marks first k is made none same =
     made ∙ ap (λ m. kernel m first (flat_stmt_of p)) none ∙ ap (λ n. kernel [] n (flat_stmt_of p)) same ∙ ap (kernel [] (length flat.signals)) is
 
-pub signals-made : (flat : Flat) (p : FlatStmt) (all : List (List ℕ)) (first next : ℕ) → flat_stmt_of p ≡ flat.body → next ≡ first + stmt_new p → all ≡ flat.signals ++ replicate (next - first) (codes "x") → all ≡ flat.signals ++ replicate (new_in flat.body) (codes "x")
+pub signals-made : (flat : Flat) (p : FlatStmt) (all : List (List ℕ)) (first next : ℕ) → flat_stmt_of p ≡ flat.body → next ≡ first + stmt_new p →
+    all ≡ flat.signals ++ replicate (next - first) (codes "x") → all ≡ flat.signals ++ replicate (new_in flat.body) (codes "x")
 unfolding stmt_new
 signals-made flat p all first next is numbered made =
     let count : next - first ≡ new_in (flat_stmt_of p) = omega arith in
@@ -26,9 +28,12 @@ signals-made flat p all first next is numbered made =
 
 pub program-made : (flat : Flat) (name : List ℕ) (signals : List (List ℕ)) (relations : List Relation) (body : Term)
     → name ≡ flat.name → signals ≡ flat.signals ++ replicate (new_in flat.body) (codes "x") → relations ≡ flat.relations → body ≡ kernel_body flat
-    → record { name = name; signals = signals; inputs = flat.inputs; both = flat.both; outputs = flat.outputs; relations = relations; body = body } ≡ program_in flat (kernel_body flat)
+    → record { name = name; signals = signals; inputs = flat.inputs; both = flat.both; outputs = flat.outputs; relations = relations; body = body } ≡
+    program_in flat (kernel_body flat)
 program-made flat name signals relations body n s r b =
     let made : List ℕ → List (List ℕ) → List Relation → Term → Program =
-    λ (m : List ℕ). λ (t : List (List ℕ)). λ (q : List Relation). λ (k : Term). record { name = m; signals = t; inputs = flat.inputs; both = flat.both; outputs = flat.outputs; relations = q; body = k } in
-    ap (λ m. made m signals relations body) n ∙ ap (λ t. made flat.name t relations body) s ∙ ap (λ q. made flat.name (flat.signals ++ replicate (new_in flat.body) (codes "x")) q body) r
+    λ (m : List ℕ). λ (t : List (List ℕ)). λ (q : List Relation). λ (k : Term).
+    record { name = m; signals = t; inputs = flat.inputs; both = flat.both; outputs = flat.outputs; relations = q; body = k } in
+    ap (λ m. made m signals relations body) n ∙ ap (λ t. made flat.name t relations body) s
+    ∙ ap (λ q. made flat.name (flat.signals ++ replicate (new_in flat.body) (codes "x")) q body) r
     ∙ ap (made flat.name (flat.signals ++ replicate (new_in flat.body) (codes "x")) flat.relations) b

@@ -11,11 +11,15 @@ use Rattle.est_ast.specs.declared.flat.FlatExpr.{FlatExpr}
 use Rattle.est_ast.specs.declared.flat.FlatForm.{FlatForm}
 use Rattle.est_ast.specs.declared.flat.FlatStmt.{FlatStmt}
 use Rattle.est_ast.specs.FlatTrees.{Part, Missing, Written, Cases, NoCases, MoreCases, exprs, stmts, cases}
-use Rattle.est_ast.specs.FlatViews.{flat_expr_of, flat_delay_of, flat_form_of, flat_stmt_of, flat_case_of, flat_part_of, flat_event_of, flat_body_of}
-use Rattle.est_dismantle.specs.Kernels.{Marks, nested, expression, expressions, any_event, kernel, kernel_of_form, part, kernels}
+use Rattle.est_ast.specs.FlatViews.{flat_expr_of, flat_delay_of, flat_form_of, flat_stmt_of, flat_case_of, flat_part_of}
+use Rattle.est_ast.specs.FlatViews.{flat_event_of, flat_body_of}
+use Rattle.est_dismantle.specs.Kernels.{Marks, nested, expression, expressions, any_event, kernel, kernel_of_form, part}
+use Rattle.est_dismantle.specs.Kernels.{kernels}
 use Rattle.est_ast.specs.NewSignals.{new_by, new_in, new_in_form, new_in_part, new_in_stmts, new_in_cases}
-use Rattle.est_dismantle.specs.Counts.{bad_count, bad_in_delay, bad_in, bad_in_form, bad_in_part, bad_in_stmts, bad_in_cases}
-use Rattle.est_dismantle.specs.Measures.{Measures, test_measures, leaf, joined, kernel_measures, form_measures, part_measures, stmts_measures, cases_measures}
+use Rattle.est_dismantle.specs.Counts.{bad_count, bad_in_delay, bad_in, bad_in_form, bad_in_part, bad_in_stmts}
+use Rattle.est_dismantle.specs.Counts.{bad_in_cases}
+use Rattle.est_dismantle.specs.Measures.{Measures, test_measures, leaf, joined, kernel_measures, form_measures}
+use Rattle.est_dismantle.specs.Measures.{part_measures, stmts_measures, cases_measures}
 
 -- ---- the first bad count
 

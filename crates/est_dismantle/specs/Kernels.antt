@@ -9,7 +9,11 @@ use Rattle.std.specs.Prelude.{ℕ, zero, suc, ◌+◌, Bool, true, false, nat_le
 use Rattle.est_base.specs.declared.place.Span.{Span}
 use Rattle.est_kernel.specs.Terms as terms
 use Rattle.est_kernel.specs.Terms.{Term, Expression}
-use Rattle.est_ast.specs.FlatTrees.{Expr, Tick, Sig, Not, And, Or, Round, Square, Exprs, NoExprs, MoreExprs, Delay, Plain, Immediate, Count, Stmt, At, Form, Nothing, Pause, Halt, Emit, Sustain, Await, AwaitCase, Present, PresentCase, Loop, LoopEach, Every, Repeat, Abort, AbortCase, WeakAbort, Suspend, Trap, Exit, Signal, Seq, Par, Part, Missing, Written, Stmts, NoStmts, MoreStmts, Cases, NoCases, MoreCases}
+use Rattle.est_ast.specs.FlatTrees.{Expr, Tick, Sig, Not, And, Or, Round, Square, Exprs, NoExprs, MoreExprs, Delay}
+use Rattle.est_ast.specs.FlatTrees.{Plain, Immediate, Count, Stmt, At, Form, Nothing, Pause, Halt, Emit, Sustain, Await}
+use Rattle.est_ast.specs.FlatTrees.{AwaitCase, Present, PresentCase, Loop, LoopEach, Every, Repeat, Abort, AbortCase}
+use Rattle.est_ast.specs.FlatTrees.{WeakAbort, Suspend, Trap, Exit, Signal, Seq, Par, Part, Missing, Written, Stmts}
+use Rattle.est_ast.specs.FlatTrees.{NoStmts, MoreStmts, Cases, NoCases, MoreCases}
 use Rattle.est_ast.specs.NewSignals.{new_by, new_in, new_in_part, new_in_cases}
 
 -- ---- lists and tests
@@ -106,9 +110,11 @@ aborting_counted at count e x code p =
     (terms.Seq (sequence (times count (awaiting at e))) (terms.Seq (terms.Emit x) (terms.Exit 2))))
 
 -- An abortion without `do`, by a delay, with the number of the next new signal:
---   abort p when e                trap T in [suspend p when e; exit T] || [loop pause; present e then exit T end end] end
+--   abort p when e                trap T in [suspend p when e; exit T] || [loop pause; present e then exit T end end]
+--   end
 --   abort p when immediate e      present e else abort p when e end
---   abort p when n e              trap T in signal x in [suspend p when x; exit T] || [await n e; emit x; exit T] end end
+--   abort p when n e              trap T in signal x in [suspend p when x; exit T] || [await n e; emit x; exit T] end
+--   end
 -- A count of 1 is as no count.
 abbrev pub abortion : Span → Delay → ℕ → Term → Term
 abortion at (Plain event) x p = terms.Trap (aborting at (expression event) 2 p)

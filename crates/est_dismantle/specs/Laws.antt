@@ -8,7 +8,8 @@ use Rattle.est_kernel.specs.Steps.{Step, ended, step}
 use Rattle.est_kernel.specs.Terms as terms
 use Rattle.est_kernel.specs.Terms.{Term}
 use Rattle.est_kernel.specs.WellFormed.{IsWellFormed, HasNames}
-use Rattle.est_ast.specs.FlatTrees.{Flat, Expr, Plain, Immediate, Stmt, At, Await, Abort, Repeat, Sustain, LoopEach, Seq, Missing, Written, NoStmts, MoreStmts}
+use Rattle.est_ast.specs.FlatTrees.{Flat, Expr, Plain, Immediate, Stmt, At, Await, Abort, Repeat, Sustain, LoopEach}
+use Rattle.est_ast.specs.FlatTrees.{Seq, Missing, Written, NoStmts, MoreStmts}
 use Rattle.est_dismantle.specs.Expansions.{Expanded, expansion}
 use Rattle.est_dismantle.specs.FlatPrograms.{IsFlat}
 use Rattle.est_dismantle.specs.Kernels.{Marks, expression, kernel}

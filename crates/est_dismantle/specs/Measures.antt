@@ -2,7 +2,10 @@
 use Rattle.std.specs.Prelude.{ℕ, zero, suc, ◌+◌, ◌-◌, ◌*◌, ◌^◌, min, max, nat_le, if◌then◌else◌, List, [], ◌∷◌, length}
 use Rattle.est_kernel.specs.Terms.{Term, Expression}
 use Rattle.est_kernel.specs.Sizes.{test_size, test_height, size_of, height_of, trap_depth}
-use Rattle.est_ast.specs.FlatTrees.{Delay, Plain, Immediate, Count, Stmt, At, Form, Nothing, Pause, Halt, Emit, Sustain, Await, AwaitCase, Present, PresentCase, Loop, LoopEach, Every, Repeat, Abort, AbortCase, WeakAbort, Suspend, Trap, Exit, Signal, Seq, Par, Part, Missing, Written, Stmts, NoStmts, MoreStmts, Cases, NoCases, MoreCases}
+use Rattle.est_ast.specs.FlatTrees.{Delay, Plain, Immediate, Count, Stmt, At, Form, Nothing, Pause, Halt, Emit, Sustain}
+use Rattle.est_ast.specs.FlatTrees.{Await, AwaitCase, Present, PresentCase, Loop, LoopEach, Every, Repeat, Abort}
+use Rattle.est_ast.specs.FlatTrees.{AbortCase, WeakAbort, Suspend, Trap, Exit, Signal, Seq, Par, Part, Missing, Written}
+use Rattle.est_ast.specs.FlatTrees.{Stmts, NoStmts, MoreStmts, Cases, NoCases, MoreCases}
 use Rattle.est_dismantle.specs.Kernels.{nested, expression, any_event}
 
 -- the nodes, those on the longest way down, and the traps one in another
@@ -20,7 +23,11 @@ test_measures e = record { size = test_size e; height = test_height e; traps = 0
 
 -- each number at most the greatest u64
 unfoldable pub capped : Measures → Measures
-capped m = record { size = min m.size (2 ^ 64 - 1); height = min m.height (2 ^ 64 - 1); traps = min m.traps (2 ^ 64 - 1) }
+capped m = record {
+  size = min m.size (2 ^ 64 - 1);
+  height = min m.height (2 ^ 64 - 1);
+  traps = min m.traps (2 ^ 64 - 1);
+}
 
 -- ---- kernel statements
 

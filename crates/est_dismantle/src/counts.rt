@@ -1,7 +1,8 @@
 // The first bad count of a statement.
 
 ghost use Rattle.std.specs.Prelude.{◌≡◌};
-ghost use Rattle.est_dismantle.specs.FlatNodes.{bad_of_stmt, bad_of_form, bad_of_part, bad_of_delay, bad_of_count, bad_of_stmts, bad_of_cases, bad_of_case};
+ghost use Rattle.est_dismantle.specs.FlatNodes.{bad_of_stmt, bad_of_form, bad_of_part, bad_of_delay, bad_of_count};
+ghost use Rattle.est_dismantle.specs.FlatNodes.{bad_of_stmts, bad_of_cases, bad_of_case};
 
 use est_ast::{FlatCase, FlatDelay, FlatForm, FlatStmt};
 use est_base::{Limits, Span};

@@ -5,7 +5,15 @@ ghost use Rattle.est_ast.specs.FlatViews.{flat_delay_of};
 ghost use Rattle.est_kernel.specs.Plain.{expression_of, term_of};
 ghost use Rattle.est_kernel.specs.Terms.{Pause, Emit, Exit, Present, Seq, Loop, Trap};
 ghost use Rattle.est_dismantle.specs.Abortions.{aborting_later, tested_at_once};
-ghost use Rattle.est_dismantle.specs.Kernels.{halting as spec_halting, watching as spec_watching, awaiting as spec_awaiting, awaiting_immediately as spec_awaiting_immediately, awaiting_delay as spec_awaiting_delay, aborting as spec_aborting, aborting_counted as spec_aborting_counted, abortion as spec_abortion, aborting_handled as spec_aborting_handled, handled as spec_handled, looping_each as spec_looping_each, later_delay, aborting_weakly as spec_aborting_weakly, suspension as spec_suspension, locals as spec_locals};
+ghost use Rattle.est_dismantle.specs.Kernels.{halting as spec_halting, watching as spec_watching};
+ghost use Rattle.est_dismantle.specs.Kernels.{awaiting as spec_awaiting};
+ghost use Rattle.est_dismantle.specs.Kernels.{awaiting_immediately as spec_awaiting_immediately};
+ghost use Rattle.est_dismantle.specs.Kernels.{awaiting_delay as spec_awaiting_delay, aborting as spec_aborting};
+ghost use Rattle.est_dismantle.specs.Kernels.{aborting_counted as spec_aborting_counted, abortion as spec_abortion};
+ghost use Rattle.est_dismantle.specs.Kernels.{aborting_handled as spec_aborting_handled, handled as spec_handled};
+ghost use Rattle.est_dismantle.specs.Kernels.{looping_each as spec_looping_each, later_delay};
+ghost use Rattle.est_dismantle.specs.Kernels.{aborting_weakly as spec_aborting_weakly, suspension as spec_suspension};
+ghost use Rattle.est_dismantle.specs.Kernels.{locals as spec_locals};
 
 use crate::events::test_of;
 use crate::terms;

@@ -3,7 +3,9 @@
 ghost use Rattle.std.specs.Prelude.{◌≡◌, ◌+◌, IfOk, OnOk, map};
 ghost use Rattle.est_kernel.specs.Plain.{term_of};
 ghost use Rattle.est_dismantle.specs.Choices.{choice_of};
-ghost use Rattle.est_dismantle.specs.FlatNodes.{stmt_kernel, node_kernel, part_kernel, stmts_kernels, choices, case_choice, stmt_new, node_new, part_new, stmts_new, cases_new, case_new, delay_new};
+ghost use Rattle.est_dismantle.specs.FlatNodes.{stmt_kernel, node_kernel, part_kernel, stmts_kernels, choices};
+ghost use Rattle.est_dismantle.specs.FlatNodes.{case_choice, stmt_new, node_new, part_new, stmts_new, cases_new};
+ghost use Rattle.est_dismantle.specs.FlatNodes.{case_new, delay_new};
 ghost use Rattle.est_dismantle.specs.MarkLists.{marks_of};
 
 use crate::choices::{Choice, chosen};

@@ -2,7 +2,8 @@
 
 ghost use Rattle.std.specs.Prelude.{◌≡◌, ◌-◌, ◌^◌, min};
 ghost use Rattle.est_dismantle.specs.Extents.{IsExtent};
-ghost use Rattle.est_dismantle.specs.Measures.{Measures, leaf, over, trapped, joined, tested, suspended, copied, raised};
+ghost use Rattle.est_dismantle.specs.Measures.{Measures, leaf, over, trapped, joined, tested, suspended, copied};
+ghost use Rattle.est_dismantle.specs.Measures.{raised};
 
 /// The nodes of a term, those on the longest way down, and the traps one in another; a number that does not fit
 /// is the greatest u64.

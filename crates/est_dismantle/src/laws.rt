@@ -1,6 +1,7 @@
 // The laws of kernel expansion. Each call does nothing: its contract is the law.
 
-ghost use Rattle.est_dismantle.specs.Laws.{ExpansionsAreWellFormed, ExpansionsHaveNames, ImmediateAbortionsRunTheirRest};
+ghost use Rattle.est_dismantle.specs.Laws.{ExpansionsAreWellFormed, ExpansionsHaveNames};
+ghost use Rattle.est_dismantle.specs.Laws.{ImmediateAbortionsRunTheirRest};
 ghost use Rattle.est_dismantle.specs.Laws.{ImmediateAwaitsEndAtOnce, RepetitionsAreSequences, SustainedSignalsStay};
 ghost use Rattle.est_dismantle.specs.Laws.{LoopsEachStartAnew};
 

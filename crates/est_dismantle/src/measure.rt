@@ -1,7 +1,8 @@
 // The extent of an expansion, before the expansion is made.
 
 ghost use Rattle.est_dismantle.specs.Extents.{IsExtent};
-ghost use Rattle.est_dismantle.specs.FlatNodes.{stmt_measures, node_measures, part_node_measures, parts_measures, chosen_measures, case_measures};
+ghost use Rattle.est_dismantle.specs.FlatNodes.{stmt_measures, node_measures, part_node_measures, parts_measures};
+ghost use Rattle.est_dismantle.specs.FlatNodes.{chosen_measures, case_measures};
 ghost use Rattle.est_dismantle.specs.Measures.{Measures};
 
 use crate::extent::Extent;

@@ -2,7 +2,10 @@
 
 ghost use Rattle.est_ast.specs.FlatViews.{flat_delay_of};
 ghost use Rattle.est_dismantle.specs.Extents.{IsExtent};
-ghost use Rattle.est_dismantle.specs.Measures.{Measures, watched, awaited, awaited_delay, aborted, aborted_counted, aborted_later, tested_first, abortion_measures, handled_measures, each_measures, each_later_measures, weakly_measures, suspension_measures};
+ghost use Rattle.est_dismantle.specs.Measures.{Measures, watched, awaited, awaited_delay, aborted, aborted_counted};
+ghost use Rattle.est_dismantle.specs.Measures.{aborted_later, tested_first, abortion_measures, handled_measures};
+ghost use Rattle.est_dismantle.specs.Measures.{each_measures, each_later_measures, weakly_measures};
+ghost use Rattle.est_dismantle.specs.Measures.{suspension_measures};
 
 use crate::extent::Extent;
 use crate::measured_events::event_extent;

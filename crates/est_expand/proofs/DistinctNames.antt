@@ -1,5 +1,6 @@
 -- Inner: names that are declared once, kind by kind.
-use Rattle.std.proofs.Common.{◌≡◌, ℕ, zero, suc, ◌+◌, ◌≤◌, ◌||◌, ◌&&◌, not, Bool, true, false, cond, List, [], ◌∷◌, ◌++◌, map, refl, ap, sym, ◌∙◌, arith, append_assoc}
+use Rattle.std.proofs.Common.{◌≡◌, ℕ, zero, suc, ◌+◌, ◌≤◌, ◌||◌, ◌&&◌, not, Bool, true, false, cond, List, [], ◌∷◌, ◌++◌, map, refl, ap, sym, ◌∙◌, arith}
+use Rattle.std.proofs.Common.{append_assoc}
 use Rattle.std.specs.Prelude.{flat_map, if◌then◌else◌}
 use Rattle.std.specs.Cmp.Lexicographic.{nat_list_eq_equiv}
 use Rattle.std.proofs.lemmas.List.{map-append, append-nil}
@@ -71,7 +72,8 @@ once_more before new out once name = by (is_same_name name new) refl
 once_again : (before : List (List ℕ)) (names : List Name) → again DuplicateSignal before names ≡ [] → AtMostOnce before → AtMostOnce (before ++ texts names)
 once_again before [] none once = λ name. omega (arith, ap (copies name) (append-nil before), once name)
 once_again before (n ∷ names) none once =
-    let parts = nothing_before (if is_among n.text before then DuplicateSignal n.span ∷ [] else []) (again DuplicateSignal (before ++ n.text ∷ []) names) none in
+    let parts = nothing_before (if is_among n.text before then DuplicateSignal n.span ∷ [] else [])
+    (again DuplicateSignal (before ++ n.text ∷ []) names) none in
     let others = once_again (before ++ n.text ∷ []) names parts.1 (once_more before n.text (by (is_among n.text before) parts.0) once) in
     λ name. omega (arith, others name, ap (copies name) (append_assoc before (n.text ∷ []) (texts names)))
   where
@@ -83,17 +85,20 @@ once_again before (n ∷ names) none once =
 abbrev all_declared : List Decl → List (List ℕ)
 all_declared decls = flat_map (λ d. texts (declared_in d)) decls
 
-once_declared : (given before : List (List ℕ)) (decls : List Decl) → decl_faults given before decls ≡ [] → AtMostOnce before → AtMostOnce (before ++ all_declared decls)
+once_declared : (given before : List (List ℕ)) (decls : List Decl) → decl_faults given before decls ≡ [] → AtMostOnce before →
+    AtMostOnce (before ++ all_declared decls)
 once_declared given before [] none once = λ name. omega (arith, ap (copies name) (append-nil before), once name)
 once_declared given before (d ∷ decls) none once =
-    let parts = nothing_before (again DuplicateSignal before (declared_in d)) (not_given given (related_in d) ++ decl_faults given (before ++ texts (declared_in d)) decls) none in
+    let parts = nothing_before (again DuplicateSignal before (declared_in d))
+    (not_given given (related_in d) ++ decl_faults given (before ++ texts (declared_in d)) decls) none in
     let behind = nothing_before (not_given given (related_in d)) (decl_faults given (before ++ texts (declared_in d)) decls) parts.1 in
     let others = once_declared given (before ++ texts (declared_in d)) decls behind.1 (once_again before (declared_in d) parts.0 once) in
     λ name. omega (arith, others name, ap (copies name) (append_assoc before (texts (declared_in d)) (all_declared decls)))
 
 -- kind by kind there are as many copies
 copies-kinds : (name : List ℕ) (decls : List Decl)
-    → copies name (all_declared decls) ≡ copies name (flat_map inputs_in decls) + (copies name (flat_map both_in decls) + copies name (flat_map outputs_in decls))
+    → copies name (all_declared decls) ≡ copies name (flat_map inputs_in decls)
+    + (copies name (flat_map both_in decls) + copies name (flat_map outputs_in decls))
 copies-kinds name [] = refl
 copies-kinds name (Input names ∷ decls) =
     omega (arith, copies-append name (texts names) (all_declared decls), copies-append name (texts names) (flat_map inputs_in decls), copies-kinds name decls)

@@ -2,7 +2,10 @@
 use Rattle.std.proofs.Common.{◌≡◌, [], ◌∷◌, Ok, Err, codes, refl}
 use Rattle.est_base.specs.Relations as flat_relations
 use Rattle.est_ast.specs.FlatTrees as flat
-use Rattle.est_ast.specs.Trees.{Tick, Sig, Not, And, Or, Round, Square, NoExprs, MoreExprs, Plain, Immediate, Count, At, Nothing, Pause, Halt, Emit, Sustain, Await, AwaitCase, Present, PresentCase, Loop, LoopEach, Every, Repeat, Abort, AbortCase, WeakAbort, Suspend, Trap, Exit, Signal, Run, Seq, Par, Group, Missing, Written, NoHandler, Handled, NoStmts, MoreStmts, NoCases, MoreCases, Implies, Excludes, Input, InputOutput, Output, Relations}
+use Rattle.est_ast.specs.Trees.{Tick, Sig, Not, And, Or, Round, Square, NoExprs, MoreExprs, Plain, Immediate, Count, At, Nothing, Pause, Halt, Emit, Sustain}
+use Rattle.est_ast.specs.Trees.{Await, AwaitCase, Present, PresentCase, Loop, LoopEach, Every, Repeat, Abort, AbortCase, WeakAbort, Suspend, Trap, Exit, Signal}
+use Rattle.est_ast.specs.Trees.{Run, Seq, Par, Group, Missing, Written, NoHandler, Handled, NoStmts, MoreStmts, NoCases, MoreCases, Implies, Excludes, Input}
+use Rattle.est_ast.specs.Trees.{InputOutput, Output, Relations}
 use Rattle.est_names.proofs.PlainTrees.{at, n, modul, as_}
 use Rattle.est_expand.specs.Faults.{UnknownModule, UnknownSignal, Unbound, UnknownTrap, EmitInput}
 use Rattle.est_expand.specs.Flattening.{flattening}

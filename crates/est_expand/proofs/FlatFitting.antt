@@ -1,5 +1,6 @@
 -- Inner: what a walk gives keeps what a flat program keeps.
-use Rattle.std.proofs.Common.{◌≡◌, ℕ, zero, suc, ◌+◌, ◌-◌, ◌<◌, ◌≤◌, ◌==◌, ◌||◌, Bool, true, false, cond, nat_lt, nat_le, List, [], ◌∷◌, ◌++◌, map, length, refl, ap, sym, subst, ◌∙◌, Option, Some, None, Result, Ok, Err, IsTrue, arith, length-append, append_assoc, add-one}
+use Rattle.std.proofs.Common.{◌≡◌, ℕ, zero, suc, ◌+◌, ◌-◌, ◌<◌, ◌≤◌, ◌==◌, ◌||◌, Bool, true, false, cond, nat_lt, nat_le, List, [], ◌∷◌, ◌++◌, map, length}
+use Rattle.std.proofs.Common.{refl, ap, sym, subst, ◌∙◌, Option, Some, None, Result, Ok, Err, IsTrue, arith, length-append, append_assoc, add-one}
 use Rattle.std.specs.Prelude.{⊤, IfOk, if◌then◌else◌}
 use Rattle.std.specs.Option.{option_map, option_or}
 use Rattle.std.proofs.lemmas.Result.{IfOk-weaker}
@@ -11,7 +12,10 @@ use Rattle.est_base.specs.Names.{is_same_name}
 use Rattle.est_ast.specs.declared.trees.Name.{Name}
 use Rattle.est_ast.specs.declared.trees.Rename.{Rename}
 use Rattle.est_ast.specs.FlatTrees as flat
-use Rattle.est_ast.specs.Trees.{Expr, Tick, Sig, Not, And, Or, Round, Square, Exprs, NoExprs, MoreExprs, Delay, Plain, Immediate, Count, Stmt, At, Form, Nothing, Pause, Halt, Emit, Sustain, Await, AwaitCase, Present, PresentCase, Loop, LoopEach, Every, Repeat, Abort, AbortCase, WeakAbort, Suspend, Trap, Exit, Signal, Run, Seq, Par, Group, Part, Missing, Written, Handler, NoHandler, Handled, Stmts, NoStmts, MoreStmts, Cases, NoCases, MoreCases, Module, Program}
+use Rattle.est_ast.specs.Trees.{Expr, Tick, Sig, Not, And, Or, Round, Square, Exprs, NoExprs, MoreExprs, Delay, Plain, Immediate, Count, Stmt, At, Form}
+use Rattle.est_ast.specs.Trees.{Nothing, Pause, Halt, Emit, Sustain, Await, AwaitCase, Present, PresentCase, Loop, LoopEach, Every, Repeat, Abort, AbortCase}
+use Rattle.est_ast.specs.Trees.{WeakAbort, Suspend, Trap, Exit, Signal, Run, Seq, Par, Group, Part, Missing, Written, Handler, NoHandler, Handled, Stmts}
+use Rattle.est_ast.specs.Trees.{NoStmts, MoreStmts, Cases, NoCases, MoreCases, Module, Program}
 use Rattle.est_names.specs.Names.{texts}
 use Rattle.est_expand.specs.declared.scope.Meaning.{Meaning}
 use Rattle.est_expand.specs.Faults.{Fault, EmitInput, Unbound, UnknownTrap, TooManySignals, TooManyStatements}
@@ -19,7 +23,8 @@ use Rattle.est_expand.specs.Scopes.{Scope, meaning, binding, Formal, interface}
 use Rattle.est_expand.specs.Walks.{Met, Walk, on_ok, give, stop, after, meet_statement, meet_signals, meet_added}
 use Rattle.est_expand.specs.Tests.{found_or, signal_of, test, tests, awaited}
 use Rattle.est_expand.specs.Runs.{module_named, chain_with, formal_names, renamed, opened}
-use Rattle.est_expand.specs.Flattening.{Around, in_signals, in_trap, part, each, each_case, numbers, meet_delay, traps_between, exit_of, handler, emitted, ran, row, flattening}
+use Rattle.est_expand.specs.Flattening.{Around, in_signals, in_trap, part, each, each_case, numbers, meet_delay, traps_between, exit_of, handler, emitted, ran}
+use Rattle.est_expand.specs.Flattening.{row, flattening}
 use Rattle.est_ast.specs.FlatFits as fits
 use Rattle.est_ast.specs.NewSignals.{new_by, new_in, new_in_form, new_in_part, new_in_stmts, new_in_cases}
 
@@ -53,7 +58,8 @@ or_true true = refl
 or_true false = refl
 
 -- a name more, of a signal that is visible
-pub sees_more : (scope : Scope) (visible : ℕ → Bool) (name : List ℕ) (m : Meaning) → SeesNames scope visible → visible m.signal ≡ true → SeesNames ((name, m) ∷ scope) visible
+pub sees_more : (scope : Scope) (visible : ℕ → Bool) (name : List ℕ) (m : Meaning) → SeesNames scope visible → visible m.signal ≡ true →
+    SeesNames ((name, m) ∷ scope) visible
 sees_more scope visible name m sees shown n k is = by (is_same_name n name) is
   where
     by : (b : Bool) → (if b then Some m else meaning scope n) ≡ Some k → visible k.signal ≡ true
@@ -106,9 +112,12 @@ adds (Count count span event) = if nat_le count 1 then 0 else 1
 
 awaited-IfOk : (scope : Scope) (visible : ℕ → Bool) (delay : Delay) → SeesNames scope visible
     → IfOk (awaited scope delay) (λ d. fits.DelayFits visible d × (new_by d ≡ adds delay))
-awaited-IfOk scope visible (Plain event) sees = on_ok-IfOk (test scope event) _ (fits.TestFits visible) _ (test-IfOk scope visible event sees) (λ f is. (is, refl))
-awaited-IfOk scope visible (Immediate event) sees = on_ok-IfOk (test scope event) _ (fits.TestFits visible) _ (test-IfOk scope visible event sees) (λ f is. (is, refl))
-awaited-IfOk scope visible (Count count span event) sees = on_ok-IfOk (test scope event) _ (fits.TestFits visible) _ (test-IfOk scope visible event sees) (λ f is. (is, refl))
+awaited-IfOk scope visible (Plain event) sees = on_ok-IfOk (test scope event) _ (fits.TestFits visible) _ (test-IfOk scope visible event sees)
+    (λ f is. (is, refl))
+awaited-IfOk scope visible (Immediate event) sees = on_ok-IfOk (test scope event) _ (fits.TestFits visible) _ (test-IfOk scope visible event sees)
+    (λ f is. (is, refl))
+awaited-IfOk scope visible (Count count span event) sees = on_ok-IfOk (test scope event) _ (fits.TestFits visible) _ (test-IfOk scope visible event sees)
+    (λ f is. (is, refl))
 
 -- ---- traps and what is emitted
 
@@ -131,7 +140,8 @@ exit_of-IfOk traps name = found_or-IfOk _ (traps_between name.text traps) (λ k.
 emitted-IfOk : (inputs : ℕ) (scope : Scope) (visible : ℕ → Bool) (name : Name) → SeesNames scope visible
     → IfOk (emitted inputs scope name) (λ s. (visible s ≡ true) × (inputs ≤ s))
 emitted-IfOk inputs scope visible name sees =
-    on_ok-IfOk (signal_of scope name) _ (λ m. visible m.signal ≡ true) _ (signal_of-IfOk scope visible name sees) (λ m is. by m is m.input (nat_lt m.signal inputs) refl)
+    on_ok-IfOk (signal_of scope name) _ (λ m. visible m.signal ≡ true) _ (signal_of-IfOk scope visible name sees)
+    (λ m is. by m is m.input (nat_lt m.signal inputs) refl)
   where
     by : (m : Meaning) → visible m.signal ≡ true → (b c : Bool) → nat_lt m.signal inputs ≡ c
         → IfOk (if b || c then Err (EmitInput name.span) else Ok m.signal) (λ s. (visible s ≡ true) × (inputs ≤ s))
@@ -146,19 +156,23 @@ renamed-IfOk : (formals : List Formal) (scope given : Scope) (visible : ℕ → 
 renamed-IfOk formals scope given visible [] sees shows = shows
 renamed-IfOk formals scope given visible (rename ∷ renames) sees shows =
     if-IfOk _ _ _ (λ given. SeesNames given visible) (λ _.
-    on_ok-IfOk (signal_of scope rename.actual) _ (λ m. visible m.signal ≡ true) (λ given. SeesNames given visible) (signal_of-IfOk scope visible rename.actual sees) (λ m is.
+    on_ok-IfOk (signal_of scope rename.actual) _ (λ m. visible m.signal ≡ true) (λ given. SeesNames given visible)
+    (signal_of-IfOk scope visible rename.actual sees) (λ m is.
     renamed-IfOk formals scope ((rename.formal.text, m) ∷ given) visible renames sees (sees_more given visible rename.formal.text m shows is)))
 
-either_seen : (given here : Option Meaning) (visible : ℕ → Bool) → ((m : Meaning) → given ≡ Some m → visible m.signal ≡ true) → ((m : Meaning) → here ≡ Some m → visible m.signal ≡ true)
+either_seen : (given here : Option Meaning) (visible : ℕ → Bool) → ((m : Meaning) → given ≡ Some m → visible m.signal ≡ true) →
+    ((m : Meaning) → here ≡ Some m → visible m.signal ≡ true)
     → (m : Meaning) → option_or given here ≡ Some m → visible m.signal ≡ true
 either_seen (Some k) here visible shows sees m is = shows m is
 either_seen None here visible shows sees m is = sees m is
 
-opened-IfOk : (place : Span) (scope given inner : Scope) (visible : ℕ → Bool) (formals : List Formal) → SeesNames scope visible → SeesNames given visible → SeesNames inner visible
+opened-IfOk : (place : Span) (scope given inner : Scope) (visible : ℕ → Bool) (formals : List Formal) → SeesNames scope visible → SeesNames given visible →
+    SeesNames inner visible
     → IfOk (opened place scope given inner formals) (λ inner. SeesNames inner visible)
 opened-IfOk place scope given inner visible [] sees shows holds = holds
 opened-IfOk place scope given inner visible (formal ∷ formals) sees shows holds =
-    on_ok-IfOk (found_or (Unbound place formal.name) (option_or (meaning given formal.name) (meaning scope formal.name))) _ (λ m. visible m.signal ≡ true) (λ inner. SeesNames inner visible)
+    on_ok-IfOk (found_or (Unbound place formal.name) (option_or (meaning given formal.name) (meaning scope formal.name))) _ (λ m. visible m.signal ≡ true)
+    (λ inner. SeesNames inner visible)
     (found_or-IfOk _ (option_or (meaning given formal.name) (meaning scope formal.name)) (λ m. visible m.signal ≡ true)
     (either_seen (meaning given formal.name) (meaning scope formal.name) visible (shows formal.name) (sees formal.name))) (λ m is.
     opened-IfOk place scope given ((formal.name, record { signal = m.signal; input = formal.input }) ∷ inner) visible formals sees shows
@@ -192,7 +206,13 @@ begun_after : (seen : ℕ) (met met' : Met) (new : ℕ) (F : ℕ → Type 0) →
 begun_after seen met met' new F begun kept = record { shown = omega (arith, begun.shown, kept.grows); few = kept.few }
 
 nothing_met : (seen : ℕ) (met : Met) (F : ℕ → Type 0) → Begun seen met → ((all : ℕ) → F all) → Kept met met 0 F
-nothing_met seen met F begun is = record { begins = ([], sym (append-nil met.signals)); grows = omega arith; added = omega arith; few = begun.few; in_place = λ all low. is all }
+nothing_met seen met F begun is = record {
+  begins = ([], sym (append-nil met.signals));
+  grows = omega arith;
+  added = omega arith;
+  few = begun.few;
+  in_place = λ all low. is all;
+}
 
 both : (met met' met'' : Met) (n m : ℕ) (F G : ℕ → Type 0) → Kept met met' n F → Kept met' met'' m G → Kept met met'' (n + m) (λ all. F all × G all)
 both met met' met'' n m F G f g = record {
@@ -231,7 +251,8 @@ meet_delay-IfOk seen met (Count count span event) begun = by (nat_lt 1 count) (n
     by false true more less = nothing_met seen met (λ all. ⊤) begun (λ all. tt)
     by false false more less = absurd (omega (arith, ltb-false 1 count more, leb-false count 1 less))
 
-numbers_local : (inputs seen all next : ℕ) (names : List (List ℕ)) → seen ≤ next → next + length names ≤ all → fits.AreLocal inputs seen all (numbers next names)
+numbers_local : (inputs seen all next : ℕ) (names : List (List ℕ)) → seen ≤ next → next + length names ≤ all →
+    fits.AreLocal inputs seen all (numbers next names)
 numbers_local inputs seen all next [] low high = tt
 numbers_local inputs seen all next (name ∷ names) low high =
     let more : next + 1 + length names ≤ all = omega (arith, high) in
@@ -241,7 +262,8 @@ meet_signals-IfOk : (inputs seen : ℕ) (met : Met) (names : List (List ℕ)) �
     → IfOk (meet_signals names met) (λ d. Kept met d.1 0 (λ all. fits.AreLocal inputs seen all (numbers d.0 names)))
 meet_signals-IfOk inputs seen met names begun =
     let r : Result (ℕ × Met) Fault = Ok (length met.signals, record met { signals = met.signals ++ names }) in
-    if-IfOk (nat_le (length met.signals + length names + met.added) SIGNALS) r TooManySignals (λ d. Kept met d.1 0 (λ all. fits.AreLocal inputs seen all (numbers d.0 names))) (λ low.
+    if-IfOk (nat_le (length met.signals + length names + met.added) SIGNALS) r TooManySignals
+    (λ d. Kept met d.1 0 (λ all. fits.AreLocal inputs seen all (numbers d.0 names))) (λ low.
     let few = leb-true (length met.signals + length names + met.added) SIGNALS low in
     let all_of = length-append met.signals names in
     record {
@@ -278,15 +300,19 @@ module _ (inputs seen : ℕ) where
       → IfOk (inside around p met) (λ d. Kept met d.1 (new_in d.0) (λ all. fits.Fits inputs seen all place d.0))
 
   module _ (inside : Around → Stmt → Walk flat.Stmt) (keeps : InsideFits inside) (around : Around) (place : fits.Scope) (sees : Sees around place) where
-    part-IfOk : (q : Part) (met : Met) → Begun seen met → IfOk (part (inside around) q met) (λ d. Kept met d.1 (new_in_part d.0) (λ all. fits.PartFits inputs seen all place d.0))
+    part-IfOk : (q : Part) (met : Met) → Begun seen met → IfOk (part (inside around) q met)
+        (λ d. Kept met d.1 (new_in_part d.0) (λ all. fits.PartFits inputs seen all place d.0))
     part-IfOk Missing met begun = nothing_met seen met (λ all. ⊤) begun (λ all. tt)
     part-IfOk (Written p) met begun =
-        on_ok-IfOk (inside around p met) _ (λ d. Kept met d.1 (new_in d.0) (λ all. fits.Fits inputs seen all place d.0)) _ (keeps around place p met sees begun) (λ d is. is)
+        on_ok-IfOk (inside around p met) _ (λ d. Kept met d.1 (new_in d.0) (λ all. fits.Fits inputs seen all place d.0)) _ (keeps around place p met sees begun)
+        (λ d is. is)
 
-    each-IfOk : (ps : Stmts) (met : Met) → Begun seen met → IfOk (each (inside around) ps met) (λ d. Kept met d.1 (new_in_stmts d.0) (λ all. fits.AllFit inputs seen all place d.0))
+    each-IfOk : (ps : Stmts) (met : Met) → Begun seen met → IfOk (each (inside around) ps met)
+        (λ d. Kept met d.1 (new_in_stmts d.0) (λ all. fits.AllFit inputs seen all place d.0))
     each-IfOk NoStmts met begun = nothing_met seen met (λ all. ⊤) begun (λ all. tt)
     each-IfOk (MoreStmts p others) met begun =
-        on_ok-IfOk (inside around p met) _ (λ d. Kept met d.1 (new_in d.0) (λ all. fits.Fits inputs seen all place d.0)) _ (keeps around place p met sees begun) (λ d is.
+        on_ok-IfOk (inside around p met) _ (λ d. Kept met d.1 (new_in d.0) (λ all. fits.Fits inputs seen all place d.0)) _ (keeps around place p met sees begun)
+        (λ d is.
         on_ok-IfOk (each (inside around) others d.1) _ (λ e. Kept d.1 e.1 (new_in_stmts e.0) (λ all. fits.AllFit inputs seen all place e.0)) _
         (each-IfOk others d.1 (begun_after seen met d.1 _ _ begun is)) (λ e are. both met d.1 e.1 _ _ _ _ is are))
 
@@ -295,8 +321,10 @@ module _ (inputs seen : ℕ) where
     cases-IfOk NoCases met begun = nothing_met seen met (λ all. ⊤) begun (λ all. tt)
     cases-IfOk (MoreCases event body others) met begun =
         on_ok-IfOk (test around.scope event) _ (fits.TestFits place.visible) _ (test-IfOk around.scope place.visible event sees.names) (λ f there.
-        on_ok-IfOk (part (inside around) body met) _ (λ d. Kept met d.1 (new_in_part d.0) (λ all. fits.PartFits inputs seen all place d.0)) _ (part-IfOk body met begun) (λ d is.
-        on_ok-IfOk (each_case around.scope (inside around) others d.1) _ (λ e. Kept d.1 e.1 (new_in_cases e.0) (λ all. fits.CasesFit inputs seen all place e.0)) _
+        on_ok-IfOk (part (inside around) body met) _ (λ d. Kept met d.1 (new_in_part d.0) (λ all. fits.PartFits inputs seen all place d.0)) _
+        (part-IfOk body met begun) (λ d is.
+        on_ok-IfOk (each_case around.scope (inside around) others d.1) _
+        (λ e. Kept d.1 e.1 (new_in_cases e.0) (λ all. fits.CasesFit inputs seen all place e.0)) _
         (cases-IfOk others d.1 (begun_after seen met d.1 _ _ begun is))
         (λ e are. kept_as met e.1 _ _ _ _ (both met d.1 e.1 _ _ _ _ is are) refl (λ all h. (there, h.0, h.1)))))
 
@@ -308,7 +336,8 @@ module _ (inputs seen : ℕ) where
         by : (b : Bool) → IfOk ((if b then after (inside around p) (λ p. give (flat.Written p)) else stop (UnknownTrap handled.span)) met)
             (λ d. Kept met d.1 (new_in_part d.0) (λ all. fits.PartFits inputs seen all place d.0))
         by true =
-            on_ok-IfOk (inside around p met) _ (λ d. Kept met d.1 (new_in d.0) (λ all. fits.Fits inputs seen all place d.0)) _ (keeps around place p met sees begun) (λ d is. is)
+            on_ok-IfOk (inside around p met) _ (λ d. Kept met d.1 (new_in d.0) (λ all. fits.Fits inputs seen all place d.0)) _
+            (keeps around place p met sees begun) (λ d is. is)
         by false = tt
 
   module _ (modules : Program) (inside : Around → Stmt → Walk flat.Stmt) (keeps : InsideFits inside) where
@@ -333,26 +362,33 @@ module _ (inputs seen : ℕ) where
     row-IfOk around place at Pause met sees begun = nothing_met seen met (λ all. ⊤) begun (λ all. tt)
     row-IfOk around place at Halt met sees begun = nothing_met seen met (λ all. ⊤) begun (λ all. tt)
     row-IfOk around place at (Emit name) met sees begun =
-        on_ok-IfOk (emitted inputs around.scope name) _ (λ s. (place.visible s ≡ true) × (inputs ≤ s)) _ (emitted-IfOk inputs around.scope place.visible name sees.names)
+        on_ok-IfOk (emitted inputs around.scope name) _ (λ s. (place.visible s ≡ true) × (inputs ≤ s)) _
+        (emitted-IfOk inputs around.scope place.visible name sees.names)
         (λ s is. nothing_met seen met _ begun (λ all. is))
     row-IfOk around place at (Sustain name) met sees begun =
-        on_ok-IfOk (emitted inputs around.scope name) _ (λ s. (place.visible s ≡ true) × (inputs ≤ s)) _ (emitted-IfOk inputs around.scope place.visible name sees.names)
+        on_ok-IfOk (emitted inputs around.scope name) _ (λ s. (place.visible s ≡ true) × (inputs ≤ s)) _
+        (emitted-IfOk inputs around.scope place.visible name sees.names)
         (λ s is. nothing_met seen met _ begun (λ all. is))
     row-IfOk around place at (Await delay q) met sees begun =
-        on_ok-IfOk (awaited around.scope delay) _ (λ d. fits.DelayFits place.visible d × (new_by d ≡ adds delay)) _ (awaited-IfOk around.scope place.visible delay sees.names) (λ d there.
-        on_ok-IfOk (part (inside around) q met) _ (λ e. Kept met e.1 (new_in_part e.0) (λ all. fits.PartFits inputs seen all place e.0)) _ (part-IfOk inside keeps around place sees q met begun)
+        on_ok-IfOk (awaited around.scope delay) _ (λ d. fits.DelayFits place.visible d × (new_by d ≡ adds delay)) _
+        (awaited-IfOk around.scope place.visible delay sees.names) (λ d there.
+        on_ok-IfOk (part (inside around) q met) _ (λ e. Kept met e.1 (new_in_part e.0) (λ all. fits.PartFits inputs seen all place e.0)) _
+        (part-IfOk inside keeps around place sees q met begun)
         (λ e is. kept_as met e.1 _ _ _ _ is refl (λ all h. (there.0, h))))
     row-IfOk around place at (AwaitCase cases) met sees begun =
-        on_ok-IfOk (each_case around.scope (inside around) cases met) _ (λ d. Kept met d.1 (new_in_cases d.0) (λ all. fits.CasesFit inputs seen all place d.0)) _
+        on_ok-IfOk (each_case around.scope (inside around) cases met) _
+        (λ d. Kept met d.1 (new_in_cases d.0) (λ all. fits.CasesFit inputs seen all place d.0)) _
         (cases-IfOk inside keeps around place sees cases met begun) (λ d is. is)
     row-IfOk around place at (Present e p q) met sees begun =
         on_ok-IfOk (test around.scope e) _ (fits.TestFits place.visible) _ (test-IfOk around.scope place.visible e sees.names) (λ f there.
-        on_ok-IfOk (part (inside around) p met) _ (λ d. Kept met d.1 (new_in_part d.0) (λ all. fits.PartFits inputs seen all place d.0)) _ (part-IfOk inside keeps around place sees p met begun) (λ d is.
+        on_ok-IfOk (part (inside around) p met) _ (λ d. Kept met d.1 (new_in_part d.0) (λ all. fits.PartFits inputs seen all place d.0)) _
+        (part-IfOk inside keeps around place sees p met begun) (λ d is.
         on_ok-IfOk (part (inside around) q d.1) _ (λ e. Kept d.1 e.1 (new_in_part e.0) (λ all. fits.PartFits inputs seen all place e.0)) _
         (part-IfOk inside keeps around place sees q d.1 (begun_after seen met d.1 _ _ begun is))
         (λ e are. kept_as met e.1 _ _ _ _ (both met d.1 e.1 _ _ _ _ is are) refl (λ all h. (there, h.0, h.1)))))
     row-IfOk around place at (PresentCase cases q) met sees begun =
-        on_ok-IfOk (each_case around.scope (inside around) cases met) _ (λ d. Kept met d.1 (new_in_cases d.0) (λ all. fits.CasesFit inputs seen all place d.0)) _
+        on_ok-IfOk (each_case around.scope (inside around) cases met) _
+        (λ d. Kept met d.1 (new_in_cases d.0) (λ all. fits.CasesFit inputs seen all place d.0)) _
         (cases-IfOk inside keeps around place sees cases met begun) (λ d is.
         on_ok-IfOk (part (inside around) q d.1) _ (λ e. Kept d.1 e.1 (new_in_part e.0) (λ all. fits.PartFits inputs seen all place e.0)) _
         (part-IfOk inside keeps around place sees q d.1 (begun_after seen met d.1 _ _ begun is)) (λ e are. both met d.1 e.1 _ _ _ _ is are))
@@ -361,11 +397,13 @@ module _ (inputs seen : ℕ) where
     row-IfOk around place at (LoopEach p delay) met sees begun =
         on_ok-IfOk (meet_delay delay met) _ (λ d. Kept met d.1 (adds delay) (λ all. ⊤)) _ (meet_delay-IfOk seen met delay begun) (λ u counted.
         on_ok-IfOk (inside around p u.1) _ (RowFits place u.1) _ (keeps around place p u.1 sees (begun_after seen met u.1 _ _ begun counted)) (λ d is.
-        on_ok-IfOk (awaited around.scope delay) _ (λ d. fits.DelayFits place.visible d × (new_by d ≡ adds delay)) _ (awaited-IfOk around.scope place.visible delay sees.names) (λ e there.
+        on_ok-IfOk (awaited around.scope delay) _ (λ d. fits.DelayFits place.visible d × (new_by d ≡ adds delay)) _
+        (awaited-IfOk around.scope place.visible delay sees.names) (λ e there.
         kept_as met d.1 _ _ _ _ (both met u.1 d.1 _ _ _ _ counted is) (ap (λ n. n + new_in d.0) (sym there.1)) (λ all h. (h.1, there.0)))))
     row-IfOk around place at (Every delay p) met sees begun =
         on_ok-IfOk (meet_delay delay met) _ (λ d. Kept met d.1 (adds delay) (λ all. ⊤)) _ (meet_delay-IfOk seen met delay begun) (λ u counted.
-        on_ok-IfOk (awaited around.scope delay) _ (λ d. fits.DelayFits place.visible d × (new_by d ≡ adds delay)) _ (awaited-IfOk around.scope place.visible delay sees.names) (λ e there.
+        on_ok-IfOk (awaited around.scope delay) _ (λ d. fits.DelayFits place.visible d × (new_by d ≡ adds delay)) _
+        (awaited-IfOk around.scope place.visible delay sees.names) (λ e there.
         on_ok-IfOk (inside around p u.1) _ (RowFits place u.1) _ (keeps around place p u.1 sees (begun_after seen met u.1 _ _ begun counted)) (λ d is.
         kept_as met d.1 _ _ _ _ (both met u.1 d.1 _ _ _ _ counted is) (ap (λ n. n + new_in d.0) (sym there.1)) (λ all h. (there.0, h.1)))))
     row-IfOk around place at (Repeat count span p) met sees begun =
@@ -374,22 +412,27 @@ module _ (inputs seen : ℕ) where
         on_ok-IfOk (meet_delay delay met) _ (λ d. Kept met d.1 (adds delay) (λ all. ⊤)) _ (meet_delay-IfOk seen met delay begun) (λ u counted.
         let begun_p = begun_after seen met u.1 _ _ begun counted in
         on_ok-IfOk (inside around p u.1) _ (RowFits place u.1) _ (keeps around place p u.1 sees begun_p) (λ d is.
-        on_ok-IfOk (awaited around.scope delay) _ (λ d. fits.DelayFits place.visible d × (new_by d ≡ adds delay)) _ (awaited-IfOk around.scope place.visible delay sees.names) (λ e there.
+        on_ok-IfOk (awaited around.scope delay) _ (λ d. fits.DelayFits place.visible d × (new_by d ≡ adds delay)) _
+        (awaited-IfOk around.scope place.visible delay sees.names) (λ e there.
         on_ok-IfOk (part (inside around) q d.1) _ (λ e. Kept d.1 e.1 (new_in_part e.0) (λ all. fits.PartFits inputs seen all place e.0)) _
         (part-IfOk inside keeps around place sees q d.1 (begun_after seen u.1 d.1 _ _ begun_p is)) (λ f are.
-        kept_as met f.1 _ _ _ _ (both met u.1 f.1 _ _ _ _ counted (both u.1 d.1 f.1 _ _ _ _ is are)) (ap (λ n. n + (new_in d.0 + new_in_part f.0)) (sym there.1))
+        kept_as met f.1 _ _ _ _ (both met u.1 f.1 _ _ _ _ counted (both u.1 d.1 f.1 _ _ _ _ is are))
+        (ap (λ n. n + (new_in d.0 + new_in_part f.0)) (sym there.1))
         (λ all h. (h.1.0, there.0, h.1.1))))))
     row-IfOk around place at (AbortCase p cases) met sees begun =
         on_ok-IfOk (inside around p met) _ (RowFits place met) _ (keeps around place p met sees begun) (λ d is.
-        on_ok-IfOk (each_case around.scope (inside around) cases d.1) _ (λ e. Kept d.1 e.1 (new_in_cases e.0) (λ all. fits.CasesFit inputs seen all place e.0)) _
+        on_ok-IfOk (each_case around.scope (inside around) cases d.1) _
+        (λ e. Kept d.1 e.1 (new_in_cases e.0) (λ all. fits.CasesFit inputs seen all place e.0)) _
         (cases-IfOk inside keeps around place sees cases d.1 (begun_after seen met d.1 _ _ begun is)) (λ e are. both met d.1 e.1 _ _ _ _ is are))
     row-IfOk around place at (WeakAbort p delay) met sees begun =
         on_ok-IfOk (inside around p met) _ (RowFits place met) _ (keeps around place p met sees begun) (λ d is.
-        on_ok-IfOk (awaited around.scope delay) _ (λ d. fits.DelayFits place.visible d × (new_by d ≡ adds delay)) _ (awaited-IfOk around.scope place.visible delay sees.names) (λ e there.
+        on_ok-IfOk (awaited around.scope delay) _ (λ d. fits.DelayFits place.visible d × (new_by d ≡ adds delay)) _
+        (awaited-IfOk around.scope place.visible delay sees.names) (λ e there.
         kept_as met d.1 _ _ _ _ is refl (λ all h. (h, there.0))))
     row-IfOk around place at (Suspend p delay) met sees begun =
         on_ok-IfOk (inside around p met) _ (RowFits place met) _ (keeps around place p met sees begun) (λ d is.
-        on_ok-IfOk (awaited around.scope delay) _ (λ d. fits.DelayFits place.visible d × (new_by d ≡ adds delay)) _ (awaited-IfOk around.scope place.visible delay sees.names) (λ e there.
+        on_ok-IfOk (awaited around.scope delay) _ (λ d. fits.DelayFits place.visible d × (new_by d ≡ adds delay)) _
+        (awaited-IfOk around.scope place.visible delay sees.names) (λ e there.
         kept_as met d.1 _ _ _ _ is refl (λ all h. (h, there.0))))
     row-IfOk around place at (Trap name p handled) met sees begun =
         on_ok-IfOk (inside (in_trap name.text around) p met) _ (RowFits (fits.in_trap place) met) _
@@ -423,7 +466,8 @@ module _ (inputs seen : ℕ) where
   flattening-IfOk modules (suc room) around place (At at form) met sees begun =
       on_ok-IfOk (meet_statement met) _ (λ d. (d.1.signals ≡ met.signals) × (d.1.added ≡ met.added)) _ (meet_statement-IfOk met) (λ d same.
       let begun' : Begun seen d.1 = record { shown = omega (arith, begun.shown, ap length same.0); few = omega (arith, begun.few, ap length same.0, same.1) } in
-      IfOk-weaker (row modules inputs (flattening modules inputs room) around at form d.1) (RowFits modules (flattening modules inputs room) (flattening-IfOk modules room) place d.1) _
+      IfOk-weaker (row modules inputs (flattening modules inputs room) around at form d.1)
+      (RowFits modules (flattening modules inputs room) (flattening-IfOk modules room) place d.1) _
       (λ e kept. record {
         begins = (kept.begins.0, kept.begins.1 ∙ ap (λ l. l ++ kept.begins.0) same.0);
         grows = omega (arith, kept.grows, ap length same.0);

@@ -1,5 +1,6 @@
 -- Inner: the flat form of a program keeps what a flat program keeps.
-use Rattle.std.proofs.Common.{◌≡◌, ℕ, ◌+◌, ◌<◌, ◌≤◌, ◌||◌, ◌&&◌, Bool, true, false, nat_lt, List, [], ◌∷◌, ◌++◌, map, length, refl, ap, sym, subst, ◌∙◌, Option, Some, None, Result, Ok, Err, arith, length-append, take, IsTrue}
+use Rattle.std.proofs.Common.{◌≡◌, ℕ, ◌+◌, ◌<◌, ◌≤◌, ◌||◌, ◌&&◌, Bool, true, false, nat_lt, List, [], ◌∷◌, ◌++◌, map, length, refl, ap, sym, subst, ◌∙◌, Option}
+use Rattle.std.proofs.Common.{Some, None, Result, Ok, Err, arith, length-append, take, IsTrue}
 use Rattle.std.specs.Prelude.{All, IfOk, flat_map, nat_le, if◌then◌else◌}
 use Rattle.std.specs.Option.{option_map_or}
 use Rattle.std.proofs.lemmas.Bool.{lt-ltb, leb-true}
@@ -73,16 +74,19 @@ binding-found : (input : Bool) (names : List (List ℕ)) (next : ℕ) (scope : S
     → IsBelow (meaning (binding input names next scope) name) (next + length names)
 binding-found input [] next scope name there = absurd (cc)
 binding-found input (n ∷ names) next scope name there =
-    by (is_among name names) (is_same_name name n) refl refl there (binding-found input names (next + 1) ((n, record { signal = next; input = input }) ∷ scope) name)
+    by (is_among name names) (is_same_name name n) refl refl there (binding-found input names (next + 1)
+    ((n, record { signal = next; input = input }) ∷ scope) name)
   where
     by : (b a : Bool) → is_among name names ≡ b → is_same_name name n ≡ a → (is_same_name name n || is_among name names) ≡ true
-        → (is_among name names ≡ true → IsBelow (meaning (binding input names (next + 1) ((n, record { signal = next; input = input }) ∷ scope)) name) (next + 1 + length names))
+        → (is_among name names ≡ true → IsBelow (meaning (binding input names (next + 1) ((n, record { signal = next; input = input }) ∷ scope)) name)
+        (next + 1 + length names))
         → IsBelow (meaning (binding input (n ∷ names) next scope) name) (next + length (n ∷ names))
     by true a among same there others = let (m, is, low) = others among in (m, is, omega (arith, low))
     by false true among same there others =
         let m : Meaning = record { signal = next; input = input } in
         (m, binding-passes input names (next + 1) ((n, m) ∷ scope) name among ∙ ap (λ b. if b then Some m else meaning scope name) same, omega arith)
-    by false false among same there others = let no : (false || false) ≡ true = ap (λ b. b || false) (sym same) ∙ ap (λ b. is_same_name name n || b) (sym among) ∙ there in absurd (cc)
+    by false false among same there others = let no : (false || false) ≡ true = ap (λ b. b || false) (sym same) ∙ ap (λ b. is_same_name name n || b) (sym among)
+        ∙ there in absurd (cc)
 
 -- ---- given names
 
@@ -95,7 +99,8 @@ or_second true true b = refl
 or_second true false b = refl
 or_second false i b = refl
 
-among_texts : (name : List ℕ) (names others : List Name) → is_among name (texts (names ++ others)) ≡ (is_among name (texts names) || is_among name (texts others))
+among_texts : (name : List ℕ) (names others : List Name) → is_among name (texts (names ++ others)) ≡
+    (is_among name (texts names) || is_among name (texts others))
 among_texts name names others = ap (is_among name) (map-append (λ n. n.text) names others) ∙ list_any-append (is_same_name name) (texts names) (texts others)
 
 -- a given name is that of an input or of an inputoutput
@@ -124,11 +129,17 @@ main_scope-given i name there = by (is_among name i.inputs) refl there
     by : (b : Bool) → is_among name i.inputs ≡ b → (is_among name i.inputs || is_among name i.both) ≡ true
         → IsBelow (meaning (main_scope i) name) (length i.inputs + length i.both)
     by true among there =
-        let (m, is, low) = binding-found true i.inputs 0 (binding false i.both (length i.inputs) (binding false i.outputs (length i.inputs + length i.both) [])) name among in
+        let (m, is, low) = binding-found true i.inputs 0 (binding false i.both (length i.inputs) (binding false i.outputs (length i.inputs + length i.both) []))
+        name among in
         (m, is, omega (arith, low))
     by false out there =
-        let (m, is, low) = binding-found false i.both (length i.inputs) (binding false i.outputs (length i.inputs + length i.both) []) name (ap (λ b. b || is_among name i.both) (sym out) ∙ there) in
-        (m, binding-passes true i.inputs 0 (binding false i.both (length i.inputs) (binding false i.outputs (length i.inputs + length i.both) [])) name out ∙ is, low)
+        let (m, is, low) = binding-found false i.both (length i.inputs) (binding false i.outputs (length i.inputs + length i.both) []) name
+        (ap (λ b. b || is_among name i.both) (sym out) ∙ there) in (
+          m,
+          binding-passes true i.inputs 0 (binding false i.both (length i.inputs) (binding false i.outputs (length i.inputs + length i.both) [])) name out
+              ∙ is,
+          low,
+        )
 
 -- ---- relations
 
@@ -174,14 +185,17 @@ each_relation given (r ∷ rs) each =
     let (here, others) = each-split (Among given) (names_of_relation r) (flat_map names_of_relation rs) each in
     (here, each_relation given rs others)
 
-relations_among : (given before : List (List ℕ)) (decls : List Decl) → decl_faults given before decls ≡ [] → Each (NamesAmong given) (flat_map relations_in decls)
+relations_among : (given before : List (List ℕ)) (decls : List Decl) → decl_faults given before decls ≡ [] →
+    Each (NamesAmong given) (flat_map relations_in decls)
 relations_among given before [] none = tt
 relations_among given before (decl ∷ decls) none =
-    let (_, behind) = nothing_before (again DuplicateSignal before (declared_in decl)) (not_given given (related_in decl) ++ decl_faults given (before ++ texts (declared_in decl)) decls) none in
+    let (_, behind) = nothing_before (again DuplicateSignal before (declared_in decl))
+    (not_given given (related_in decl) ++ decl_faults given (before ++ texts (declared_in decl)) decls) none in
     let (here, others) = nothing_before (not_given given (related_in decl)) (decl_faults given (before ++ texts (declared_in decl)) decls) behind in
     by decl here (relations_among given (before ++ texts (declared_in decl)) decls others)
   where
-    by : (d : Decl) → not_given given (related_in d) ≡ [] → Each (NamesAmong given) (flat_map relations_in decls) → Each (NamesAmong given) (relations_in d ++ flat_map relations_in decls)
+    by : (d : Decl) → not_given given (related_in d) ≡ [] → Each (NamesAmong given) (flat_map relations_in decls) →
+        Each (NamesAmong given) (relations_in d ++ flat_map relations_in decls)
     by (Input names) none others = others
     by (InputOutput names) none others = others
     by (Output names) none others = others
@@ -215,7 +229,8 @@ module _ (main : Module) where
   relations-given : (rs : List Relation) → Each (NamesAmong given) rs → All (RelatesGiven bound) (map (relation_in (main_scope shown)) rs)
   relations-given [] each = All-nil (RelatesGiven bound)
   relations-given (r ∷ rs) each =
-      All-cons (RelatesGiven bound) (relation_in (main_scope shown) r) (map (relation_in (main_scope shown)) rs) (relation-given r each.0) (relations-given rs each.1)
+      All-cons (RelatesGiven bound) (relation_in (main_scope shown) r) (map (relation_in (main_scope shown)) rs) (relation-given r each.0)
+      (relations-given rs each.1)
 
   -- ---- the program
 
@@ -255,12 +270,14 @@ module _ (main : Module) where
       let all : length d.1.signals ≡ seen = ap length met.signals ∙ length-shown in
       let begun : Begun seen d.1 = record { shown = omega (arith, all); few = omega (arith, all, length-shown, met.few, met.added) } in
       let sees : Sees (length shown.inputs) seen (around_main main) place = record { names = sees_main shown; traps = omega arith } in
-      IfOk-weaker (main_flattening modules main d.1) (λ e. Kept d.1 e.1 (new_in e.0) (λ all. fits.Fits (length shown.inputs) seen all place e.0)) Walked (λ e kept. record {
+      IfOk-weaker (main_flattening modules main d.1) (λ e. Kept d.1 e.1 (new_in e.0) (λ all. fits.Fits (length shown.inputs) seen all place e.0)) Walked
+      (λ e kept. record {
         interface = omega (arith, kept.grows, all);
         room = omega (arith, kept.few, kept.added, met.added);
         body = kept.in_place (length e.1.signals) (omega arith);
         names = ap (take seen) (kept.begins.1 ∙ ap (λ l. l ++ kept.begins.0) met.signals)
-            ∙ ap (λ n. take n (main_signals shown ++ kept.begins.0)) (sym length-shown) ∙ take-append-le (length (main_signals shown)) (main_signals shown) kept.begins.0 (omega arith)
+            ∙ ap (λ n. take n (main_signals shown ++ kept.begins.0)) (sym length-shown)
+            ∙ take-append-le (length (main_signals shown)) (main_signals shown) kept.begins.0 (omega arith)
             ∙ take-length (main_signals shown);
       }) (flattening-IfOk (length shown.inputs) seen modules (DEPTH + 1) (around_main main) place main.body d.1 sees begun))
 

@@ -28,7 +28,8 @@ before_exprs (e ∷ es) others = flat.MoreExprs e (before_exprs es others)
 abbrev pub exprs_behind : List flat.Expr → Result flat.Exprs Fault → Result flat.Exprs Fault
 exprs_behind es found = on_ok found (λ others. Ok (before_exprs es others))
 
-pub before_exprs-push : (es : List flat.Expr) (e : flat.Expr) (others : flat.Exprs) → before_exprs (es ++ e ∷ []) others ≡ before_exprs es (flat.MoreExprs e others)
+pub before_exprs-push : (es : List flat.Expr) (e : flat.Expr) (others : flat.Exprs) →
+    before_exprs (es ++ e ∷ []) others ≡ before_exprs es (flat.MoreExprs e others)
 before_exprs-push [] e others = refl
 before_exprs-push (d ∷ es) e others = ap (flat.MoreExprs d) (before_exprs-push es e others)
 

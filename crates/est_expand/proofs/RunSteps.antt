@@ -1,5 +1,6 @@
 -- Steps of what a `run` leads to.
-use Rattle.std.proofs.Common.{◌≡◌, ℕ, ◌<◌, Bool, true, false, not, ◌&&◌, cond, List, ◌∷◌, length, get_or, drop, suc, refl, ap, sym, ◌∙◌, Some, None, Err, drop-cons, is_some}
+use Rattle.std.proofs.Common.{◌≡◌, ℕ, ◌<◌, Bool, true, false, not, ◌&&◌, cond, List, ◌∷◌, length, get_or, drop, suc, refl, ap, sym, ◌∙◌, Some, None, Err}
+use Rattle.std.proofs.Common.{drop-cons, is_some}
 use Rattle.std.specs.Prelude.{if◌then◌else◌, find, position, slice_get, nat_lt}
 use Rattle.std.specs.List.{position_or_len}
 use Rattle.std.proofs.lemmas.List.Folds.{find_at}
@@ -27,7 +28,8 @@ pub renamed-refused : (formals : List Formal) (scope given : Scope) (renames : L
     → renamed formals scope given (drop i renames) ≡ Err (BadRename rename.formal.span)
 renamed-refused formals scope given renames i rename low is refused =
     ap (renamed formals scope given) (drop-cons renames i rename low ∙ ap (λ r. r ∷ drop (suc i) renames) (sym is))
-    ∙ ap (λ b. if b then on_ok (signal_of scope rename.actual) (λ actual. renamed formals scope ((rename.formal.text, actual) ∷ given) (drop (suc i) renames)) else Err (BadRename rename.formal.span)) refused
+    ∙ ap (λ b. if b then on_ok (signal_of scope rename.actual) (λ actual. renamed formals scope ((rename.formal.text, actual) ∷ given) (drop (suc i) renames))
+    else Err (BadRename rename.formal.span)) refused
 
 pub renamed-allowed : (formals : List Formal) (scope given : Scope) (renames : List Rename) (i : ℕ) (rename : Rename)
     → i < length renames
@@ -37,7 +39,8 @@ pub renamed-allowed : (formals : List Formal) (scope given : Scope) (renames : L
     ≡ on_ok (signal_of scope rename.actual) (λ actual. renamed formals scope ((rename.formal.text, actual) ∷ given) (drop (suc i) renames))
 renamed-allowed formals scope given renames i rename low is allowed =
     ap (renamed formals scope given) (drop-cons renames i rename low ∙ ap (λ r. r ∷ drop (suc i) renames) (sym is))
-    ∙ ap (λ b. if b then on_ok (signal_of scope rename.actual) (λ actual. renamed formals scope ((rename.formal.text, actual) ∷ given) (drop (suc i) renames)) else Err (BadRename rename.formal.span)) allowed
+    ∙ ap (λ b. if b then on_ok (signal_of scope rename.actual) (λ actual. renamed formals scope ((rename.formal.text, actual) ∷ given) (drop (suc i) renames))
+    else Err (BadRename rename.formal.span)) allowed
 
 -- ---- modules by their names
 

@@ -19,12 +19,14 @@ later (Some m) n between (low, is) =
     let e : n - 1 - m.signal + 1 ≡ n + 1 - 1 - m.signal = omega arith in
     (omega arith, ap (option_map (λ k. k + 1)) is ∙ ap Some e)
 
-pub traps_between-numbered : (traps : Scope) (name : List ℕ) → Numbered traps → IsBetween (meaning traps name) (length traps) (traps_between name (map (λ b. b.0) traps))
+pub traps_between-numbered : (traps : Scope) (name : List ℕ) → Numbered traps →
+    IsBetween (meaning traps name) (length traps) (traps_between name (map (λ b. b.0) traps))
 traps_between-numbered [] name numbered = refl
 traps_between-numbered (trap ∷ traps) name (number, numbered) = by (is_same_name name trap.0) (traps_between-numbered traps name numbered)
   where
     by : (b : Bool) → IsBetween (meaning traps name) (length traps) (traps_between name (map (λ b. b.0) traps))
-        → IsBetween (if b then Some trap.1 else meaning traps name) (length (trap ∷ traps)) (if b then Some 0 else option_map (λ k. k + 1) (traps_between name (map (λ b. b.0) traps)))
+        → IsBetween (if b then Some trap.1 else meaning traps name) (length (trap ∷ traps))
+        (if b then Some 0 else option_map (λ k. k + 1) (traps_between name (map (λ b. b.0) traps)))
     by true others =
         let e : 0 ≡ length traps + 1 - 1 - trap.1.signal = omega arith in
         let n : length (trap ∷ traps) ≡ length traps + 1 = omega arith in

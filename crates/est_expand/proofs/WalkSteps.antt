@@ -1,5 +1,6 @@
 -- Steps of walks over lists, runs and statements.
-use Rattle.std.proofs.Common.{◌≡◌, ℕ, ◌+◌, zero, suc, List, [], ◌∷◌, ◌++◌, length, drop, refl, ap, sym, ◌∙◌, Result, Ok, Err, Bool, true, false, take, ◌-◌, arith, add-one, length-append}
+use Rattle.std.proofs.Common.{◌≡◌, ℕ, ◌+◌, zero, suc, List, [], ◌∷◌, ◌++◌, length, drop, refl, ap, sym, ◌∙◌, Result, Ok, Err, Bool, true, false, take, ◌-◌}
+use Rattle.std.proofs.Common.{arith, add-one, length-append}
 use Rattle.std.specs.Prelude.{if◌then◌else◌}
 use Rattle.std.proofs.lemmas.List.{drop-drop, take-append-le}
 use Rattle.std.proofs.Math.Seq.{take-length}
@@ -70,7 +71,8 @@ before_cases (c ∷ cs) others = flat.MoreCases c.0 c.1 (before_cases cs others)
 abbrev pub cases_behind : List (flat.Expr × flat.Part) → Result (flat.Cases × Met) Fault → Result (flat.Cases × Met) Fault
 cases_behind cs found = on_ok found (λ done. Ok (before_cases cs done.0, done.1))
 
-before_cases-push : (cs : List (flat.Expr × flat.Part)) (c : flat.Expr × flat.Part) (others : flat.Cases) → before_cases (cs ++ c ∷ []) others ≡ before_cases cs (flat.MoreCases c.0 c.1 others)
+before_cases-push : (cs : List (flat.Expr × flat.Part)) (c : flat.Expr × flat.Part) (others : flat.Cases) →
+    before_cases (cs ++ c ∷ []) others ≡ before_cases cs (flat.MoreCases c.0 c.1 others)
 before_cases-push [] c others = refl
 before_cases-push (d ∷ cs) c others = ap (flat.MoreCases d.0 d.1) (before_cases-push cs c others)
 
@@ -96,7 +98,8 @@ module _ (scope : Scope) (inside : Stmt → Walk flat.Stmt) where
   body_first others event (Err fault) = refl
 
   event_first : (others : Cases) (body : Part) (met : Met) (found : Result flat.Expr Fault)
-      → on_ok found (λ event. on_ok (part inside body met) (λ body. on_ok (each_case scope inside others body.1) (λ more. Ok (flat.MoreCases event body.0 more.0, more.1))))
+      → on_ok found (λ event. on_ok (part inside body met) (λ body. on_ok (each_case scope inside others body.1)
+      (λ more. Ok (flat.MoreCases event body.0 more.0, more.1))))
       ≡ and_others others (on_ok found (λ event. on_ok (part inside body met) (λ body. Ok ((event, body.0), body.1))))
   event_first others body met (Ok event) = body_first others event (part inside body met)
   event_first others body met (Err fault) = refl
@@ -106,13 +109,15 @@ module _ (scope : Scope) (inside : Stmt → Walk flat.Stmt) where
   each_case-first c others met = event_first others c.1 met (test scope c.0)
 
   -- one more case was found
-  pub each_case-step : (cs : List (flat.Expr × flat.Part)) (c : Expr × Part) (others : Cases) (met met' : Met) (d : flat.Expr × flat.Part) → one_case scope inside c met ≡ Ok (d, met')
+  pub each_case-step : (cs : List (flat.Expr × flat.Part)) (c : Expr × Part) (others : Cases) (met met' : Met) (d : flat.Expr × flat.Part) →
+      one_case scope inside c met ≡ Ok (d, met')
       → cases_behind cs (each_case scope inside (MoreCases c.0 c.1 others) met) ≡ cases_behind (cs ++ d ∷ []) (each_case scope inside others met')
   each_case-step cs c others met met' d is =
       ap (cases_behind cs) (each_case-first c others met ∙ ap (and_others others) is) ∙ cases_behind-step cs d (each_case scope inside others met')
 
   -- a fault in a list
-  pub each_case-fault : (cs : List (flat.Expr × flat.Part)) (c : Expr × Part) (others : Cases) (met : Met) (fault : Fault) → one_case scope inside c met ≡ Err fault
+  pub each_case-fault : (cs : List (flat.Expr × flat.Part)) (c : Expr × Part) (others : Cases) (met : Met) (fault : Fault) →
+      one_case scope inside c met ≡ Err fault
       → cases_behind cs (each_case scope inside (MoreCases c.0 c.1 others) met) ≡ Err fault
   each_case-fault cs c others met fault is = ap (cases_behind cs) (each_case-first c others met ∙ ap (and_others others) is)
 
@@ -148,7 +153,8 @@ on_ok-on_ok (Err fault) f g = refl
 
 module _ (modules : Program) (inputs : ℕ) where
   -- a `run` is the body of its module in the scope that it opens
-  pub ran-inside : (inside : Around → Stmt → Walk flat.Stmt) (around : Around) (name : Name) (renames : List Rename) (m : Module) (chain : List (List ℕ)) (scope : Scope) (met : Met)
+  pub ran-inside : (inside : Around → Stmt → Walk flat.Stmt) (around : Around) (name : Name) (renames : List Rename) (m : Module) (chain : List (List ℕ))
+      (scope : Scope) (met : Met)
       → module_named modules name ≡ Ok m
       → chain_with around.chain name ≡ Ok chain
       → on_ok (renamed (interface m) around.scope [] renames) (λ given. opened name.span around.scope given [] (interface m)) ≡ Ok scope

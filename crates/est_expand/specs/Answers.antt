@@ -2,7 +2,8 @@
 use Rattle.std.specs.Prelude.{◌≡◌, Option, Some, None, Result, Ok, Err}
 use Rattle.est_expand.specs.declared.refusal.ExpandFault.{ExpandFault}
 use Rattle.est_expand.specs.declared.refusal.ExpandFault.TheVariants as code
-use Rattle.est_expand.specs.Faults.{Fault, UnknownModule, Recursive, BadRename, UnknownSignal, Unbound, UnknownTrap, EmitInput, TooManyStatements, TooDeep, TooManySignals}
+use Rattle.est_expand.specs.Faults.{Fault, UnknownModule, Recursive, BadRename, UnknownSignal, Unbound, UnknownTrap}
+use Rattle.est_expand.specs.Faults.{EmitInput, TooManyStatements, TooDeep, TooManySignals}
 
 abbrev pub fault_of : ExpandFault → Option Fault
 fault_of (code.UnknownModule place) = Some (UnknownModule place)

@@ -1,7 +1,8 @@
 -- To believe: the flat form of a program, in which the body of a module stands for each `run` of it, or the first fault
 -- of the walk. The walk begins at the body of the main module, takes parts in the order in which they are written, and
 -- goes into the body of a module at its `run`. The language is Esterel V5, as docs/language.md states it.
-use Rattle.std.specs.Prelude.{ℕ, zero, suc, ◌+◌, false, ◌||◌, nat_lt, if◌then◌else◌, List, [], ◌∷◌, map, flat_map, length, Option, Some, None, Result, Ok, Err}
+use Rattle.std.specs.Prelude.{ℕ, zero, suc, ◌+◌, false, ◌||◌, nat_lt, if◌then◌else◌, List, [], ◌∷◌, map, flat_map}
+use Rattle.std.specs.Prelude.{length, Option, Some, None, Result, Ok, Err}
 use Rattle.std.specs.Option.{option_map, option_map_or}
 use Rattle.est_base.specs.declared.place.Span.{Span}
 use Rattle.est_base.specs.declared.bounds.TheConstants.Limits.{DEPTH}
@@ -10,11 +11,17 @@ use Rattle.est_base.specs.Relations as flat_relations
 use Rattle.est_ast.specs.declared.trees.Name.{Name}
 use Rattle.est_ast.specs.declared.trees.Rename.{Rename}
 use Rattle.est_ast.specs.FlatTrees as flat
-use Rattle.est_ast.specs.Trees.{Delay, Plain, Immediate, Count, Stmt, At, Form, Nothing, Pause, Halt, Emit, Sustain, Await, AwaitCase, Present, PresentCase, Loop, LoopEach, Every, Repeat, Abort, AbortCase, WeakAbort, Suspend, Trap, Exit, Signal, Run, Seq, Par, Group, Part, Missing, Written, Handler, NoHandler, Handled, Stmts, NoStmts, MoreStmts, Cases, NoCases, MoreCases, Relation, Implies, Excludes, Decl, Input, InputOutput, Output, Relations, Module, Program}
+use Rattle.est_ast.specs.Trees.{Delay, Plain, Immediate, Count, Stmt, At, Form, Nothing, Pause, Halt, Emit, Sustain}
+use Rattle.est_ast.specs.Trees.{Await, AwaitCase, Present, PresentCase, Loop, LoopEach, Every, Repeat, Abort, AbortCase}
+use Rattle.est_ast.specs.Trees.{WeakAbort, Suspend, Trap, Exit, Signal, Run, Seq, Par, Group, Part, Missing, Written}
+use Rattle.est_ast.specs.Trees.{Handler, NoHandler, Handled, Stmts, NoStmts, MoreStmts, Cases, NoCases, MoreCases}
+use Rattle.est_ast.specs.Trees.{Relation, Implies, Excludes, Decl, Input, InputOutput, Output, Relations, Module}
+use Rattle.est_ast.specs.Trees.{Program}
 use Rattle.est_names.specs.Names.{texts}
 use Rattle.est_expand.specs.Faults.{Fault, UnknownTrap, EmitInput, TooDeep}
 use Rattle.est_expand.specs.Scopes.{Scope, meaning, binding, interface, main_interface, main_signals, main_scope}
-use Rattle.est_expand.specs.Walks.{Met, beginning, Walk, on_ok, give, stop, after, knowing, meet_statement, meet_signals, meet_added}
+use Rattle.est_expand.specs.Walks.{Met, beginning, Walk, on_ok, give, stop, after, knowing, meet_statement}
+use Rattle.est_expand.specs.Walks.{meet_signals, meet_added}
 use Rattle.est_expand.specs.Tests.{found_or, signal_of, test, awaited}
 use Rattle.est_expand.specs.Runs.{module_named, chain_with, renamed, opened}
 

@@ -35,7 +35,8 @@ renamed formals scope given (rename ∷ renames) =
     (λ actual. renamed formals scope ((rename.formal.text, actual) ∷ given) renames)
     else Err (BadRename rename.formal.span)
 
--- The scope of a module's body. Each formal means its actual, or else the signal of the same name that is visible at the
+-- The scope of a module's body. Each formal means its actual, or else the signal of the same name that is visible at
+-- the
 -- `run`, whose module name is at this place.
 abbrev pub opened : Span → Scope → Scope → Scope → List Formal → Result Scope Fault
 opened place scope given inner [] = Ok inner

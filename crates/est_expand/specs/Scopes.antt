@@ -1,5 +1,6 @@
 -- To believe: what the names of signals mean at a place, and which signals a module shows.
-use Rattle.std.specs.Prelude.{ℕ, ◌+◌, Bool, true, false, List, [], ◌∷◌, ◌++◌, map, flat_map, length, Option, Some, None, if◌then◌else◌}
+use Rattle.std.specs.Prelude.{ℕ, ◌+◌, Bool, true, false, List, [], ◌∷◌, ◌++◌, map, flat_map, length, Option, Some, None}
+use Rattle.std.specs.Prelude.{if◌then◌else◌}
 use Rattle.est_base.specs.Names.{is_same_name}
 use Rattle.est_ast.specs.Trees.{Decl, Input, InputOutput, Output, Relations, Module}
 use Rattle.est_names.specs.Names.{texts}

@@ -2,7 +2,8 @@
 use Rattle.std.specs.Prelude.{Option, Some, None, Result, Ok, Err}
 use Rattle.est_ast.specs.declared.trees.Name.{Name}
 use Rattle.est_ast.specs.FlatTrees as flat
-use Rattle.est_ast.specs.Trees.{Expr, Tick, Sig, Not, And, Or, Round, Square, Exprs, NoExprs, MoreExprs, Delay, Plain, Immediate, Count}
+use Rattle.est_ast.specs.Trees.{Expr, Tick, Sig, Not, And, Or, Round, Square, Exprs, NoExprs, MoreExprs, Delay, Plain}
+use Rattle.est_ast.specs.Trees.{Immediate, Count}
 use Rattle.est_expand.specs.declared.scope.Meaning.{Meaning}
 use Rattle.est_expand.specs.Faults.{Fault, UnknownSignal}
 use Rattle.est_expand.specs.Scopes.{Scope, meaning}

@@ -41,8 +41,8 @@ abbrev pub inside_of : Source → Around → Stmt → Walk flat.Stmt
 inside_of source = flattening (program_in source) source.inputs source.room
 
 -- what a statement is that has been counted
-abbrev pub row_of : Source → Around → Span → Form → Walk flat.Stmt
-row_of source = row (program_in source) source.inputs (inside_of source)
+abbrev pub form_walk : Source → Around → Span → Form → Walk flat.Stmt
+form_walk source = row (program_in source) source.inputs (inside_of source)
 
 -- one case, where it is known what a statement in it is
 abbrev pub one_case : Scope → (Stmt → Walk flat.Stmt) → Expr × Part → Walk (flat.Expr × flat.Part)

@@ -9,7 +9,8 @@ ghost use Rattle.est_names.specs.NameFaults.{module_names};
 ghost use Rattle.est_names.specs.Tables.{IsTableOf};
 ghost use Rattle.est_expand.specs.Answers.{Answers};
 ghost use Rattle.est_expand.specs.FlatPrograms.{IsFlat, IsNamed, IsNamedModule};
-ghost use Rattle.est_expand.specs.Flattening.{related, relation_in, relations_in, main_flattening, flat_program, flattened};
+ghost use Rattle.est_expand.specs.Flattening.{related, relation_in, relations_in, main_flattening, flat_program};
+ghost use Rattle.est_expand.specs.Flattening.{flattened};
 ghost use Rattle.est_expand.specs.Scopes.{main_interface, main_signals, main_scope};
 ghost use Rattle.est_expand.specs.Views.{interface_of, met_of, Walks};
 

@@ -1,15 +1,17 @@
 // The walk over statements.
 
 ghost use Rattle.std.specs.Prelude.{◌≡◌, ◌+◌, ◌<◌, ◌^◌, map, length, IfOk, OnOk};
-ghost use Rattle.est_ast.specs.FlatTrees.{stmts as flat_stmts, cases as flat_cases, At as flat_at, Signal as flat_signal};
+ghost use Rattle.est_ast.specs.FlatTrees.{stmts as flat_stmts, cases as flat_cases, At as flat_at};
+ghost use Rattle.est_ast.specs.FlatTrees.{Signal as flat_signal};
 ghost use Rattle.est_ast.specs.FlatViews.{flat_stmt_of, flat_part_of, flat_case_of};
 ghost use Rattle.est_ast.specs.Trees.{stmts, cases as case_list};
 ghost use Rattle.est_ast.specs.Views.{stmt_of, form_of, part_of, handle_of, case_of};
 ghost use Rattle.est_names.specs.Names.{texts};
 ghost use Rattle.est_expand.specs.Answers.{Answers};
 ghost use Rattle.est_expand.specs.Flattening.{in_signals, in_trap, numbers, part as part_walk, each as each_walk};
-ghost use Rattle.est_expand.specs.Flattening.{each_case as each_case_walk, handler as handler_walk, exit_of, emitted, ran};
-ghost use Rattle.est_expand.specs.Views.{around_of, program_in, inside_of, row_of, one_case, Walks};
+ghost use Rattle.est_expand.specs.Flattening.{each_case as each_case_walk, handler as handler_walk, exit_of, emitted};
+ghost use Rattle.est_expand.specs.Flattening.{ran};
+ghost use Rattle.est_expand.specs.Views.{around_of, program_in, inside_of, form_walk, one_case, Walks};
 ghost use Rattle.est_expand.specs.Walks.{give, after, meet_signals};
 
 use crate::expressions::{flat_delay, flat_test, signal};
@@ -57,7 +59,7 @@ fn row<'a>(
     form: &'a Form,
 ) -> Result<FlatStmt, ExpandFault>
     ensures walks { Walks flat_stmt_of result met.old met.new
-        (row_of source.entry (around_of around.old) span (form_of form.now)) }
+        (form_walk source.entry (around_of around.old) span (form_of form.now)) }
     ensures kept { OnOk result (around_of around.new ≡ around_of around.old) }
 {
     match form {
@@ -375,7 +377,8 @@ fn run<'a>(
     renames: &'a [Rename],
 ) -> Result<FlatStmt, ExpandFault>
     ensures walks { Walks flat_stmt_of result met.old met.new
-        (ran (program_in source.entry) source.entry.inputs (inside_of source.entry) (around_of around.old) name.now renames.now) }
+        (ran (program_in source.entry) source.entry.inputs (inside_of source.entry)
+        (around_of around.old) name.now renames.now) }
     ensures kept { OnOk result (around_of around.new ≡ around_of around.old) }
 {
     let module = module_named(source, name)?;

@@ -5,7 +5,8 @@ use Rattle.std.specs.Fmt.{digits}
 use Rattle.est_gen.specs.Draws.{first_state, state_after, event_from}
 use Rattle.est_gen.specs.Sources.{source_text}
 
-first_draws : (state_after 1 (first_state 0) / 65536) ∷ (state_after 2 (first_state 0) / 65536) ∷ (state_after 3 (first_state 0) / 65536) ∷ [] ≡ 0 ∷ 21468 ∷ 9988 ∷ []
+first_draws : (state_after 1 (first_state 0) / 65536) ∷ (state_after 2 (first_state 0) / 65536) ∷ (state_after 3 (first_state 0) / 65536) ∷ [] ≡
+    0 ∷ 21468 ∷ 9988 ∷ []
 first_draws = refl
 
 the_lowest_31_bits_of_a_start_count : first_state 1099511627781 ≡ 5

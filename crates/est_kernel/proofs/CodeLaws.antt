@@ -1,13 +1,15 @@
 -- The static codes: where no loop is instantaneous, what a term may do completes with one of them, and
 -- so does each step.
-use Rattle.std.proofs.Common.{◌≡◌, ℕ, suc, ◌+◌, Bool, true, false, ◌==◌, cond, List, [], ◌∷◌, ◌++◌, length, Option, Some, None, refl, subst, ⊎_elim, arith, length-append}
+use Rattle.std.proofs.Common.{◌≡◌, ℕ, suc, ◌+◌, Bool, true, false, ◌==◌, cond, List, [], ◌∷◌, ◌++◌, length, Option, Some, None, refl, subst, ⊎_elim, arith}
+use Rattle.std.proofs.Common.{length-append}
 use Rattle.std.proofs.lemmas.Bool.{or_cases, or_left, or_right, eqb-true, eqb-false, eq-eqb, cond_both, both_ways}
 use Rattle.est_base.specs.declared.place.Span.{Span}
 use Rattle.est_base.specs.Codes.{only, either, except, maxima, lowered}
 use Rattle.est_kernel.specs.Terms.{Term, Nothing, Pause, Emit, Exit, Present, Suspend, Seq, Loop, Par, Trap, Local, Awake}
 use Rattle.est_kernel.specs.Statuses.{Status, Plus, Minus, Unknown, Environment, with_status, value}
 use Rattle.est_kernel.specs.Potentials.{May, Potentials, completes, chosen, sequence, decided, local_status, potential}
-use Rattle.est_kernel.specs.Steps.{Step, step, leaving, leaves, chosen_step, then_step, sequence_step, loop_step, parallel_step, trap_step, local_step, where_known}
+use Rattle.est_kernel.specs.Steps.{Step, step, leaving, leaves, chosen_step, then_step, sequence_step, loop_step, parallel_step, trap_step, local_step}
+use Rattle.est_kernel.specs.Steps.{where_known}
 use Rattle.est_kernel.specs.StaticCodes.{started_codes, instant_loops}
 use Rattle.est_kernel.specs.Laws.{IsSubset, MayKeepsStaticCodes, StepKeepsStaticCodes, PreorderHasEachStatement}
 use Rattle.est_kernel.proofs.Sets.{except-in, maxima-in, maxima-subset, lowered-in, lowered-subset}
@@ -34,14 +36,16 @@ static_second A B k z h =
     (λ e. absurd (both_ways (A 0) e z))
 
 -- what may be done in a choice completes with a code of either branch
-chosen_may : (v : Status) (a b : Potentials) (A B : ℕ → Bool) → IsSubset (a May).codes A → IsSubset (b May).codes B → IsSubset (chosen v a b May).codes (either A B)
+chosen_may : (v : Status) (a b : Potentials) (A B : ℕ → Bool) → IsSubset (a May).codes A → IsSubset (b May).codes B →
+    IsSubset (chosen v a b May).codes (either A B)
 chosen_may Plus a b A B f g k h = or_left (A k) (B k) (f k h)
 chosen_may Minus a b A B f g k h = or_right (A k) (B k) (g k h)
 chosen_may Unknown a b A B f g k h =
     ⊎_elim (λ x. or_left (A k) (B k) (f k x)) (λ y. or_right (A k) (B k) (g k y))
     (or_cases ((a May).codes k) ((b May).codes k) h)
 
-sequence_may : (a b : Potentials) (A B : ℕ → Bool) → IsSubset (a May).codes A → IsSubset (b May).codes B → IsSubset (sequence May (a May) (b May)).codes (static_sequence A B)
+sequence_may : (a b : Potentials) (A B : ℕ → Bool) → IsSubset (a May).codes A → IsSubset (b May).codes B →
+    IsSubset (sequence May (a May) (b May)).codes (static_sequence A B)
 sequence_may a b A B f g k h =
     ⊎_elim
     (λ x. static_first A B k (f k x.0) x.1)

@@ -148,7 +148,8 @@ part_that_may_run = refl
 
 -- after a part that must terminate T is present, so S cannot be emitted
 -- output O, P; signal S in emit P; signal T in emit T; present T else emit S end end; present S then emit O end end
-part_that_must_run : runs 0 (0 ∷ 1 ∷ []) (Local 2 (Seq (Emit 1) (Seq (Local 3 (Seq (Emit 3) (Present (Sig 3) Nothing (Emit 2)))) (Present (Sig 2) (Emit 0) Nothing)))) ([] ∷ [])
+part_that_must_run : runs 0 (0 ∷ 1 ∷ []) (Local 2 (Seq (Emit 1) (Seq (Local 3 (Seq (Emit 3) (Present (Sig 3) Nothing (Emit 2))))
+    (Present (Sig 2) (Emit 0) Nothing)))) ([] ∷ [])
     ≡ Some (ended (false ∷ true ∷ []) ∷ [])
 part_that_must_run = refl
 
@@ -243,7 +244,8 @@ given_or_emitted = refl
 emits_itself_where_absent : run (record { inputs = 0; outgoing = 0 ∷ [] }) (Present (Sig 0) Nothing (Emit 0)) (Event (one false) ∷ []) ≡ None
 emits_itself_where_absent = refl
 
-emits_itself_where_given : run (record { inputs = 0; outgoing = 0 ∷ [] }) (Present (Sig 0) Nothing (Emit 0)) (Event (one true) ∷ []) ≡ Some (ended (one true) ∷ [])
+emits_itself_where_given : run (record { inputs = 0; outgoing = 0 ∷ [] }) (Present (Sig 0) Nothing (Emit 0)) (Event (one true) ∷ []) ≡
+    Some (ended (one true) ∷ [])
 emits_itself_where_given = refl
 
 -- a given inputoutput is passed over: were it decided with the rest, it would be absent here

@@ -5,7 +5,8 @@ use Rattle.std.proofs.lemmas.Bool.{cond_both}
 use Rattle.est_kernel.specs.Terms.{Term, Nothing, Pause, Emit, Exit, Present, Suspend, Seq, Loop, Par, Trap, Local, Awake}
 use Rattle.est_kernel.specs.Statuses.{Status, Plus, Minus, Unknown, Environment, with_status, value}
 use Rattle.est_kernel.specs.Potentials.{decided}
-use Rattle.est_kernel.specs.Steps.{Step, step, ended, left_by, leaving, leaves, chosen_step, then_step, sequence_step, loop_step, parallel_step, trap_code, trap_step, local_step, where_known}
+use Rattle.est_kernel.specs.Steps.{Step, step, ended, left_by, leaving, leaves, chosen_step, then_step, sequence_step, loop_step, parallel_step, trap_code}
+use Rattle.est_kernel.specs.Steps.{trap_step, local_step, where_known}
 use Rattle.est_kernel.specs.Sizes.{trap_depth}
 use Rattle.est_kernel.specs.WellFormed.{ExitsStandInTraps}
 use Rattle.est_kernel.specs.Laws.{StepKeepsExits}
@@ -41,7 +42,8 @@ deeper : (n c d : ℕ) (o : Option Step) → c ≤ d → AllFit n c o → AllFit
 deeper n c d None l h = tt
 deeper n c d (Some x) l h = record { code = h.code; residual = h.residual; depth = omega (arith, h.depth) }
 
-leaves_fit : (n c d : ℕ) (f : Term → Term) (o : Option Step) → ((r : Term) → ExitsStandInTraps n r → trap_depth r ≤ c → ExitsStandInTraps n (f r) × (trap_depth (f r) ≤ d)) → AllFit n c o → AllFit n d (leaves f o)
+leaves_fit : (n c d : ℕ) (f : Term → Term) (o : Option Step) → ((r : Term) → ExitsStandInTraps n r → trap_depth r ≤ c →
+    ExitsStandInTraps n (f r) × (trap_depth (f r) ≤ d)) → AllFit n c o → AllFit n d (leaves f o)
 leaves_fit n c d f None g h = tt
 leaves_fit n c d f (Some x) g h =
     let k = g x.residual h.residual h.depth in
@@ -56,7 +58,8 @@ then_fit : (n d : ℕ) (x : Step) (b : Option Step) → AllFit n d b → AllFit 
 then_fit n d x None g = tt
 then_fit n d x (Some y) g = record { code = g.code; residual = g.residual; depth = g.depth }
 
-sequence_fit : (n c d : ℕ) (q : Term) (a b : Option Step) → ExitsStandInTraps n q → c ≤ d → trap_depth q ≤ d → AllFit n c a → AllFit n d b → AllFit n d (sequence_step q a b)
+sequence_fit : (n c d : ℕ) (q : Term) (a b : Option Step) → ExitsStandInTraps n q → c ≤ d → trap_depth q ≤ d → AllFit n c a → AllFit n d b →
+    AllFit n d (sequence_step q a b)
 sequence_fit n c d q None b w l m h g = tt
 sequence_fit n c d q (Some x) b w l m h g =
     cond_both (x.code == 0) (then_step x b) (Some (leaving (λ r. Seq r q) x)) (λ s. AllFit n d s)
@@ -74,7 +77,8 @@ parallel_fit : (n c d m : ℕ) (a b : Option Step) → c ≤ m → d ≤ m → A
 parallel_fit n c d m None b l k h g = tt
 parallel_fit n c d m (Some x) None l k h g = tt
 parallel_fit n c d m (Some x) (Some y) l k h g =
-    left_fits n m _ (max x.code y.code) (Par x.residual y.residual) refl refl (omega (arith, h.code, g.code)) (h.residual, g.residual) (omega (arith, h.depth, g.depth))
+    left_fits n m _ (max x.code y.code) (Par x.residual y.residual) refl refl (omega (arith, h.code, g.code)) (h.residual, g.residual)
+    (omega (arith, h.depth, g.depth))
 
 trap_below : (n c : ℕ) → c < n + 1 + 2 → trap_code c < n + 2
 trap_below n zero h = omega arith

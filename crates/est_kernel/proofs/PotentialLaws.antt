@@ -5,7 +5,8 @@ use Rattle.std.proofs.lemmas.Bool.{or_cases, or_left, or_right, and_parts, and_f
 use Rattle.est_base.specs.Codes.{either}
 use Rattle.est_kernel.specs.Terms.{Expression, Tick, Sig, Not, And, Or, Term, Nothing, Pause, Emit, Exit, Present, Suspend, Seq, Loop, Par, Trap, Local, Awake}
 use Rattle.est_kernel.specs.Statuses.{Status, Plus, Minus, Unknown, Environment, with_status, opposite, conjunction, disjunction, value}
-use Rattle.est_kernel.specs.Potentials.{Kind, Must, Can, May, Potential, Potentials, idle, completes, emits, union, chosen, second_kind, codes_kept, sequence, in_turn, together, trapped, hidden, local_status, potential}
+use Rattle.est_kernel.specs.Potentials.{Kind, Must, Can, May, Potential, Potentials, idle, completes, emits, union, chosen, second_kind, codes_kept, sequence}
+use Rattle.est_kernel.specs.Potentials.{in_turn, together, trapped, hidden, local_status, potential}
 use Rattle.est_kernel.specs.Steps.{trap_code}
 use Rattle.est_kernel.specs.Laws.{IsWithin, IsBelow, KnowsMore, MustGrows, CanShrinks, MayShrinks, MustLiesInCan, CanLiesInMay, MustHasOneCode}
 use Rattle.est_kernel.proofs.Sets.{except-in, except-parts, maxima-parts, maxima-subset, lowered-subset, lowered-parts, either-subset}
@@ -126,7 +127,8 @@ module _ (k : Kind) (a b : Potential) where
       (λ e. or_right (codes_kept k a.codes j) (b.codes j) h)
       (λ e. absurd (false≢true (sym e ∙ z)))
 
-sequence_within : (k l : Kind) (a b c d : Potential) → KeepsOthers l c → IsWithin a c → (a.codes 0 ≡ true → IsWithin b d) → IsWithin (sequence k a b) (sequence l c d)
+sequence_within : (k l : Kind) (a b c d : Potential) → KeepsOthers l c → IsWithin a c → (a.codes 0 ≡ true → IsWithin b d) →
+    IsWithin (sequence k a b) (sequence l c d)
 sequence_within k l a b c d keep f g =
     record {
       signals = λ t h.
@@ -256,8 +258,10 @@ in_turn_nests : {a b : Potentials} → Nests a → Nests b → Nests (in_turn a 
 in_turn_nests {a} {b} f g =
     let test : Bool = (a Must).codes 0 in
     record {
-      must_in_can = sequence_within Must Can (a Must) (b Must) (a Can) (b (second_kind Can a)) (keeps_can (a Can)) f.must_in_can (must_in_second ((a Must).codes 0) b g);
-      can_in_may = sequence_within Can May (a Can) (b (second_kind Can a)) (a May) (b May) (keeps_may (a May)) f.can_in_may (λ e. second_in_may ((a Must).codes 0) b g);
+      must_in_can = sequence_within Must Can (a Must) (b Must) (a Can) (b (second_kind Can a)) (keeps_can (a Can)) f.must_in_can
+          (must_in_second ((a Must).codes 0) b g);
+      can_in_may = sequence_within Can May (a Can) (b (second_kind Can a)) (a May) (b May) (keeps_may (a May)) f.can_in_may
+          (λ e. second_in_may ((a Must).codes 0) b g);
       one_code = sequence_has_one_code (a Must) (b Must) f.one_code g.one_code;
     }
 
@@ -267,7 +271,8 @@ in_turn_refines {a} {a'} {b} {b'} f g =
       low = in_turn_nests f.low g.low;
       high = in_turn_nests f.high g.high;
       grows = sequence_within Must Must (a Must) (b Must) (a' Must) (b' Must) (keeps_must f.high.one_code) f.grows (λ e. g.grows);
-      can_shrinks = sequence_within Can Can (a' Can) (b' (second_kind Can a')) (a Can) (b (second_kind Can a)) (keeps_can (a Can)) f.can_shrinks (λ e. second_shrinks ((a Must).codes 0) ((a' Must).codes 0) g (f.grows.codes 0));
+      can_shrinks = sequence_within Can Can (a' Can) (b' (second_kind Can a')) (a Can) (b (second_kind Can a)) (keeps_can (a Can)) f.can_shrinks
+          (λ e. second_shrinks ((a Must).codes 0) ((a' Must).codes 0) g (f.grows.codes 0));
       may_shrinks = sequence_within May May (a' May) (b' May) (a May) (b May) (keeps_may (a May)) f.may_shrinks (λ e. g.may_shrinks);
     }
 
@@ -365,7 +370,8 @@ value_below (Or a b) E F m =
     disjunction_below (value a E) (value a F) (value b E) (value b F) (value_below a E F m) (value_below b E F m)
 
 -- the status that Must and Can give to a local signal, from what must and what can be emitted
-decided_below : (m c m' c' : Bool) → (m ≡ true → m' ≡ true) → (c' ≡ true → c ≡ true) → (m' ≡ true → c' ≡ true) → IsBelow (cond m Plus (cond c Unknown Minus)) (cond m' Plus (cond c' Unknown Minus))
+decided_below : (m c m' c' : Bool) → (m ≡ true → m' ≡ true) → (c' ≡ true → c ≡ true) → (m' ≡ true → c' ≡ true) →
+    IsBelow (cond m Plus (cond c Unknown Minus)) (cond m' Plus (cond c' Unknown Minus))
 decided_below true c true c' f g h = refl
 decided_below true c false c' f g h = absurd (false≢true (f refl))
 decided_below false true m' c' f g h = tt

@@ -35,7 +35,8 @@ within_within {a} {b} {c} {m} {n} f g = record {
 }
 
 -- parts that stand in the middle stand in the whole
-stand_within : {whole middle : List Term} {start : ℕ} → Within whole middle start → (ps : List Term) (n : ℕ) → StandAt middle ps n → StandAt whole ps (start + n)
+stand_within : {whole middle : List Term} {start : ℕ} → Within whole middle start → (ps : List Term) (n : ℕ) → StandAt middle ps n →
+    StandAt whole ps (start + n)
 stand_within w [] n h = tt
 stand_within {whole} {middle} {start} w (p ∷ ps) n h =
     let e : start + (n + statement_count p) ≡ start + n + statement_count p = omega arith in
@@ -87,7 +88,8 @@ joined a b f g = record {
     get_in_left (x ∷ a) b (suc n) h = get_in_left a b n (omega (arith, h))
 
 -- a statement in front of the statements of its parts
-under : (p : Term) (list : List Term) → StandAt (p ∷ list) (parts p) 1 → Later list → (t : Term) (n : ℕ) → slice_get (p ∷ list) n ≡ Some t → StandAt (p ∷ list) (parts t) (n + 1)
+under : (p : Term) (list : List Term) → StandAt (p ∷ list) (parts p) 1 → Later list → (t : Term) (n : ℕ) → slice_get (p ∷ list) n ≡ Some t →
+    StandAt (p ∷ list) (parts t) (n + 1)
 under p list h f t zero e = subst (λ u. StandAt (p ∷ list) (parts u) 1) (some_is p t e) h
   where
     some_is : (a b : Term) → Some a ≡ Some b → a ≡ b
@@ -102,7 +104,8 @@ one_part t p = (whole_first p, tt)
 two_parts : (t p q : Term) → StandAt (t ∷ (preorder p ++ preorder q)) (p ∷ q ∷ []) 1
 two_parts t p q =
     let k : length (preorder p) + 0 ≡ statement_count p = omega (arith, length-preorder p) in
-    let second : slice_get (preorder p ++ preorder q) (statement_count p) ≡ Some q = sym (ap (slice_get (preorder p ++ preorder q)) k) ∙ get_right (preorder p) (preorder q) 0 ∙ whole_first q in
+    let second : slice_get (preorder p ++ preorder q) (statement_count p) ≡ Some q = sym (ap (slice_get (preorder p ++ preorder q)) k)
+    ∙ get_right (preorder p) (preorder q) 0 ∙ whole_first q in
     (get_left (preorder p) (preorder q) 0 p (whole_first p), ((within_tail t (preorder p ++ preorder q)).at (statement_count p) q second, tt))
 
 behind : (p : Term) → Behind p
@@ -110,11 +113,14 @@ behind Nothing = under Nothing [] tt (record { at = λ t n e. cc })
 behind Pause = under Pause [] tt (record { at = λ t n e. cc })
 behind (Emit s) = under (Emit s) [] tt (record { at = λ t n e. cc })
 behind (Exit k) = under (Exit k) [] tt (record { at = λ t n e. cc })
-behind (Present e p q) = under (Present e p q) (preorder p ++ preorder q) (two_parts (Present e p q) p q) (joined (preorder p) (preorder q) (later_of p (behind p)) (later_of q (behind q)))
+behind (Present e p q) = under (Present e p q) (preorder p ++ preorder q) (two_parts (Present e p q) p q)
+    (joined (preorder p) (preorder q) (later_of p (behind p)) (later_of q (behind q)))
 behind (Suspend e p) = under (Suspend e p) (preorder p) (one_part (Suspend e p) p) (later_of p (behind p))
-behind (Seq p q) = under (Seq p q) (preorder p ++ preorder q) (two_parts (Seq p q) p q) (joined (preorder p) (preorder q) (later_of p (behind p)) (later_of q (behind q)))
+behind (Seq p q) = under (Seq p q) (preorder p ++ preorder q) (two_parts (Seq p q) p q)
+    (joined (preorder p) (preorder q) (later_of p (behind p)) (later_of q (behind q)))
 behind (Loop at p) = under (Loop at p) (preorder p) (one_part (Loop at p) p) (later_of p (behind p))
-behind (Par p q) = under (Par p q) (preorder p ++ preorder q) (two_parts (Par p q) p q) (joined (preorder p) (preorder q) (later_of p (behind p)) (later_of q (behind q)))
+behind (Par p q) = under (Par p q) (preorder p ++ preorder q) (two_parts (Par p q) p q)
+    (joined (preorder p) (preorder q) (later_of p (behind p)) (later_of q (behind q)))
 behind (Trap p) = under (Trap p) (preorder p) (one_part (Trap p) p) (later_of p (behind p))
 behind (Local s p) = under (Local s p) (preorder p) (one_part (Local s p) p) (later_of p (behind p))
 behind (Awake e p) = under (Awake e p) (preorder p) (one_part (Awake e p) p) (later_of p (behind p))

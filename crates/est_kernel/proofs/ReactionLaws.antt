@@ -1,6 +1,7 @@
 -- A term whose step is the same under every status of the outputs reacts with that step: each output is
 -- decided as the step emits it. So does every term that tests no output and no local signal.
-use Rattle.std.proofs.Common.{◌≡◌, ℕ, zero, suc, ◌+◌, ◌<◌, ◌≤◌, Bool, true, false, not, ◌&&◌, ◌==◌, cond, List, [], ◌∷◌, Option, Some, filter, refl, ap, ◌∙◌, arith}
+use Rattle.std.proofs.Common.{◌≡◌, ℕ, zero, suc, ◌+◌, ◌<◌, ◌≤◌, Bool, true, false, not, ◌&&◌, ◌==◌, cond, List, [], ◌∷◌, Option, Some, filter, refl, ap, ◌∙◌}
+use Rattle.std.proofs.Common.{arith}
 use Rattle.std.specs.List.{range_with_len}
 use Rattle.std.proofs.lemmas.Bool.{ne_eqb, cond-false, cond_both}
 use Rattle.est_kernel.specs.Terms.{Term}
@@ -72,13 +73,15 @@ same_with_status {n} {E} {F} o v h same =
     record { at = λ s lt. cond-false (s == o) v (F s) (ne_eqb s o (λ e. omega arith)) ∙ same.at s lt }
 
 module _ (n : ℕ) (E : Environment) (r : Term) (x : Step) (steps : (F : Environment) → SameBelow n E F → step r F ≡ Some x) where
-  bound_must : (os : List ℕ) → AreOutputs n os → (F : Environment) → SameBelow n E F → (t : ℕ) → NotAmong t os → (potential (bound os r) F Must).signals t ≡ x.emitted t
+  bound_must : (os : List ℕ) → AreOutputs n os → (F : Environment) → SameBelow n E F → (t : ℕ) → NotAmong t os →
+      (potential (bound os r) F Must).signals t ≡ x.emitted t
   bound_must [] h F same t m = (step_is_what_must_be_done_lem r F x (steps F same)).0.signals t
   bound_must (o ∷ os) h F same t m =
       let v = decided (bound os r) F o in
       seen _ _ t o (bound_must os h.2 (with_status F o v) (same_with_status o v h.0 same) t m.1) m.0
 
-  bound_can : (os : List ℕ) → AreOutputs n os → (F : Environment) → SameBelow n E F → (t : ℕ) → NotAmong t os → (potential (bound os r) F Can).signals t ≡ x.emitted t
+  bound_can : (os : List ℕ) → AreOutputs n os → (F : Environment) → SameBelow n E F → (t : ℕ) → NotAmong t os →
+      (potential (bound os r) F Can).signals t ≡ x.emitted t
   bound_can [] h F same t m = (step_is_what_must_be_done_lem r F x (steps F same)).1.signals t
   bound_can (o ∷ os) h F same t m =
       let v = decided (bound os r) F o in
@@ -104,9 +107,12 @@ module _ (n : ℕ) (E : Environment) (r : Term) (x : Step) (steps : (F : Environ
 
 -- The reaction of a term whose step is the same whatever is known of the outgoing signals, which have
 -- numbers of their own, at least the number of inputs.
-pub react_of_step : (interface : Interface) (r : Term) (event : List Bool) (x : Step) → AreOutputs interface.inputs interface.outgoing → ((F : Environment) → SameBelow interface.inputs (environment_of interface.inputs event) F → step r F ≡ Some x) → react interface r event ≡ reaction_of interface event (Some x)
+pub react_of_step : (interface : Interface) (r : Term) (event : List Bool) (x : Step) → AreOutputs interface.inputs interface.outgoing →
+    ((F : Environment) → SameBelow interface.inputs (environment_of interface.inputs event) F → step r F ≡ Some x) →
+    react interface r event ≡ reaction_of interface event (Some x)
 react_of_step interface r event x outgoing steps =
     let E = environment_of interface.inputs event in
     let outs = open_signals event interface.outgoing in
-    let s = settles interface.inputs E r x steps outs (kept_are_outputs (λ o. not (is_given event o)) interface.inputs interface.outgoing outgoing) E (record { at = λ o h. refl }) in
+    let s = settles interface.inputs E r x steps outs (kept_are_outputs (λ o. not (is_given event o)) interface.inputs interface.outgoing outgoing) E
+    (record { at = λ o h. refl }) in
     ap (λ o. reaction_of interface event (step_in r o)) s.1 ∙ ap (λ o. reaction_of interface event o) (steps s.0 s.2)

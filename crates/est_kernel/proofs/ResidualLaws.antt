@@ -1,6 +1,7 @@
 -- What is left of a kernel statement that has paused, by its form; what it completes with are resumed codes
 -- of the statement.
-use Rattle.std.proofs.Common.{◌≡◌, ℕ, zero, suc, ◌+◌, ◌<◌, ◌≤◌, Bool, true, false, ◌==◌, ◌||◌, cond, max, List, [], ◌∷◌, ◌++◌, Option, Some, None, ◌⊎◌, inl, inr, refl, sym, ◌∙◌, subst, ⊎_elim, arith}
+use Rattle.std.proofs.Common.{◌≡◌, ℕ, zero, suc, ◌+◌, ◌<◌, ◌≤◌, Bool, true, false, ◌==◌, ◌||◌, cond, max, List, [], ◌∷◌, ◌++◌, Option, Some, None, ◌⊎◌, inl}
+use Rattle.std.proofs.Common.{inr, refl, sym, ◌∙◌, subst, ⊎_elim, arith}
 use Rattle.std.specs.Prelude.{option_and_then}
 use Rattle.std.proofs.lemmas.Bool.{or_cases, or_left, or_right, and_from, eqb-true, eqb-false, eq-eqb, ne_eqb, cond_both, cond-true, cond-false, both_ways}
 use Rattle.est_base.specs.declared.place.Span.{Span}
@@ -8,7 +9,8 @@ use Rattle.est_base.specs.Codes.{only, either, except, maxima, lowered}
 use Rattle.est_kernel.specs.Terms.{Term, Nothing, Pause, Emit, Exit, Present, Suspend, Seq, Loop, Par, Trap, Local, Awake}
 use Rattle.est_kernel.specs.Statuses.{Status, Plus, Minus, Unknown, Environment, with_status, value}
 use Rattle.est_kernel.specs.Potentials.{decided}
-use Rattle.est_kernel.specs.Steps.{Step, step, left_by, leaving, leaves, chosen_step, then_step, sequence_step, loop_step, parallel_step, trap_code, trap_step, local_step, where_known}
+use Rattle.est_kernel.specs.Steps.{Step, step, left_by, leaving, leaves, chosen_step, then_step, sequence_step, loop_step, parallel_step, trap_code, trap_step}
+use Rattle.est_kernel.specs.Steps.{local_step, where_known}
 use Rattle.est_kernel.specs.StaticCodes.{codes_if, has_code, started_codes, branch_codes, resumed_codes, instant_loops, NoInstantLoop}
 use Rattle.est_kernel.specs.Sizes.{trap_depth}
 use Rattle.est_kernel.specs.WellFormed.{IsKernel, ExitsStandInTraps}
@@ -38,7 +40,8 @@ pub record Bounded (n : ℕ) (p : Term) : Type 0 where
   pub loops : NoInstantLoop p
 
 -- two parts of a statement
-bounded_parts : (n : ℕ) (p q : Term) → ExitsStandInTraps n p × ExitsStandInTraps n q → n + max (trap_depth p) (trap_depth q) ≤ 60 → instant_loops p ++ instant_loops q ≡ [] → Bounded n p × Bounded n q
+bounded_parts : (n : ℕ) (p q : Term) → ExitsStandInTraps n p × ExitsStandInTraps n q → n + max (trap_depth p) (trap_depth q) ≤ 60 →
+    instant_loops p ++ instant_loops q ≡ [] → Bounded n p × Bounded n q
 bounded_parts n p q exits depth loops =
     let l = append-nil (instant_loops p) (instant_loops q) loops in
     (record { exits = exits.0; depth = omega arith; loops = l.0 }, record { exits = exits.1; depth = omega arith; loops = l.1 })
@@ -71,7 +74,12 @@ instead_of_zero A B s zero_in =
   where
     go : (b : Bool) → (s.code == 0) ≡ b → Inhabited (either (except 0 A) B)
     go true e = inhabited_more (λ k h. or_right (except 0 A k) (B k) h) (zero_in (subst (λ k. A k ≡ true) (eqb-true s.code 0 e) s.member))
-    go false e = record { code = s.code; below = s.below; member = or_left (except 0 A s.code) (B s.code) (except-in A 0 s.code s.member (eqb-false s.code 0 e)) }
+    go false e = record {
+      code = s.code;
+      below = s.below;
+      member = or_left (except 0 A s.code) (B s.code)
+          (except-in A 0 s.code s.member (eqb-false s.code 0 e));
+    }
 
 pub started_inhabited : (n : ℕ) (p : Term) → Bounded n p → Inhabited (started_codes p)
 started_inhabited n Nothing b = record { code = 0; below = omega arith; member = refl }
@@ -92,7 +100,12 @@ started_inhabited n (Seq p q) b =
 started_inhabited n (Loop at p) b =
     let body = bounded_body n at p b in
     let s = started_inhabited n p body.0 in
-    record { code = s.code; below = s.below; member = except-in (started_codes p) 0 s.code s.member (λ e. both_ways (started_codes p 0) body.1 (subst (λ k. started_codes p k ≡ true) e s.member)) }
+    record {
+      code = s.code;
+      below = s.below;
+      member = except-in (started_codes p) 0 s.code s.member
+          (λ e. both_ways (started_codes p 0) body.1 (subst (λ k. started_codes p k ≡ true) e s.member));
+    }
 started_inhabited n (Par p q) b =
     let parts = bounded_parts n p q b.exits b.depth b.loops in
     maxima_inhabited _ _ (started_inhabited n p parts.0) (started_inhabited n q parts.1)
@@ -130,12 +143,20 @@ goes_on_branch : (t : Term) → Inhabited (resumed_codes t) → Inhabited (branc
 goes_on_branch t s = inhabited_more (λ k m. or_left (resumed_codes t k) _ m) s
 
 ended_branch : (t : Term) → Marked t → Inhabited (branch_codes (started_codes t) (resumed_codes t))
-ended_branch t m = record { code = 0; below = omega arith; member = or_right (resumed_codes t 0) _ (and_from (started_codes t 0 || resumed_codes t 0) _ m refl) }
+ended_branch t m = record {
+  code = 0;
+  below = omega arith;
+  member =
+      or_right (resumed_codes t 0) _ (and_from (started_codes t 0 || resumed_codes t 0) _ m refl);
+}
 
-either_branch : (p q : Term) → (has_code (resumed_codes p) || has_code (resumed_codes q)) ≡ true → Inhabited (branch_codes (started_codes p) (resumed_codes p)) → Inhabited (branch_codes (started_codes q) (resumed_codes q)) → Inhabited (resumed_codes (Par p q))
+either_branch : (p q : Term) → (has_code (resumed_codes p) || has_code (resumed_codes q)) ≡ true →
+    Inhabited (branch_codes (started_codes p) (resumed_codes p)) → Inhabited (branch_codes (started_codes q) (resumed_codes q)) →
+    Inhabited (resumed_codes (Par p q))
 either_branch p q some s t = inhabited_more (λ k m. and_from (has_code (resumed_codes p) || has_code (resumed_codes q)) _ some m) (maxima_inhabited _ _ s t)
 
-branches_inhabited : (p q a b : Term) → (LeftOf p a → Inhabited (resumed_codes p)) → (LeftOf q b → Inhabited (resumed_codes q)) → Branches (LeftOf p a) ((a ≡ Nothing) × Marked p) (LeftOf q b) ((b ≡ Nothing) × Marked q) → Inhabited (resumed_codes (Par p q))
+branches_inhabited : (p q a b : Term) → (LeftOf p a → Inhabited (resumed_codes p)) → (LeftOf q b → Inhabited (resumed_codes q)) →
+    Branches (LeftOf p a) ((a ≡ Nothing) × Marked p) (LeftOf q b) ((b ≡ Nothing) × Marked q) → Inhabited (resumed_codes (Par p q))
 branches_inhabited p q a b f g (inl x) =
     either_branch p q (or_left (has_code (resumed_codes p)) _ (inhabited-has_code _ (f x.0))) (goes_on_branch p (f x.0)) (goes_on_branch q (g x.1))
 branches_inhabited p q a b f g (inr (inl x)) =
@@ -162,8 +183,11 @@ left_inhabited n (Seq p q) r b h =
     let second = either (codes_if (resumed_codes p 0) (started_codes q)) (codes_if (started_codes p 0 || resumed_codes p 0) (resumed_codes q)) in
     ⊎_elim
     (λ x. instead_of_zero (resumed_codes p) second (left_inhabited n p x.0 parts.0 x.2)
-    (λ z. inhabited_more (λ k m. or_left (codes_if (resumed_codes p 0) (started_codes q) k) _ (and_from (resumed_codes p 0) _ z m)) (started_inhabited n q parts.1)))
-    (λ y. inhabited_more (λ k m. or_right (except 0 (resumed_codes p) k) (second k) (or_right (codes_if (resumed_codes p 0) (started_codes q) k) _ (and_from (started_codes p 0 || resumed_codes p 0) _ y.0 m))) (left_inhabited n q r parts.1 y.1))
+    (λ z. inhabited_more (λ k m. or_left (codes_if (resumed_codes p 0) (started_codes q) k) _ (and_from (resumed_codes p 0) _ z m))
+    (started_inhabited n q parts.1)))
+    (λ y. inhabited_more (λ k m. or_right (except 0 (resumed_codes p) k) (second k)
+    (or_right (codes_if (resumed_codes p 0) (started_codes q) k) _ (and_from (started_codes p 0 || resumed_codes p 0) _ y.0 m)))
+    (left_inhabited n q r parts.1 y.1))
     h
 left_inhabited n (Loop at p) r b h =
     let body = bounded_body n at p b in
@@ -197,12 +221,15 @@ ended_subset p a is m k h =
     let z : only 0 k ≡ true = subst (λ t. started_codes t k ≡ true) is h in
     or_right (resumed_codes p k) _ (and_from (started_codes p 0 || resumed_codes p 0) _ m z)
 
-branches_subset : (p q a b : Term) → (LeftOf p a → IsSubset (started_codes a) (resumed_codes p)) → (LeftOf q b → IsSubset (started_codes b) (resumed_codes q)) → Branches (LeftOf p a) ((a ≡ Nothing) × Marked p) (LeftOf q b) ((b ≡ Nothing) × Marked q) → IsSubset (started_codes (Par a b)) (maxima (branch_codes (started_codes p) (resumed_codes p)) (branch_codes (started_codes q) (resumed_codes q)))
+branches_subset : (p q a b : Term) → (LeftOf p a → IsSubset (started_codes a) (resumed_codes p)) → (LeftOf q b → IsSubset (started_codes b) (resumed_codes q)) →
+    Branches (LeftOf p a) ((a ≡ Nothing) × Marked p) (LeftOf q b) ((b ≡ Nothing) × Marked q) →
+    IsSubset (started_codes (Par a b)) (maxima (branch_codes (started_codes p) (resumed_codes p)) (branch_codes (started_codes q) (resumed_codes q)))
 branches_subset p q a b f g (inl x) = maxima-subset _ _ _ _ (branch_subset p a (f x.0)) (branch_subset q b (g x.1))
 branches_subset p q a b f g (inr (inl x)) = maxima-subset _ _ _ _ (branch_subset p a (f x.0)) (ended_subset q b x.1.0 x.1.1)
 branches_subset p q a b f g (inr (inr x)) = maxima-subset _ _ _ _ (ended_subset p a x.0.0 x.0.1) (branch_subset q b (g x.1))
 
-branches_some : (p q a b : Term) → (LeftOf p a → Inhabited (resumed_codes p)) → (LeftOf q b → Inhabited (resumed_codes q)) → Branches (LeftOf p a) ((a ≡ Nothing) × Marked p) (LeftOf q b) ((b ≡ Nothing) × Marked q) → (has_code (resumed_codes p) || has_code (resumed_codes q)) ≡ true
+branches_some : (p q a b : Term) → (LeftOf p a → Inhabited (resumed_codes p)) → (LeftOf q b → Inhabited (resumed_codes q)) →
+    Branches (LeftOf p a) ((a ≡ Nothing) × Marked p) (LeftOf q b) ((b ≡ Nothing) × Marked q) → (has_code (resumed_codes p) || has_code (resumed_codes q)) ≡ true
 branches_some p q a b f g (inl x) = or_left (has_code (resumed_codes p)) _ (inhabited-has_code _ (f x.0))
 branches_some p q a b f g (inr (inl x)) = or_left (has_code (resumed_codes p)) _ (inhabited-has_code _ (f x.0))
 branches_some p q a b f g (inr (inr x)) = or_right (has_code (resumed_codes p)) _ (inhabited-has_code _ (g x.1))
@@ -236,8 +263,10 @@ left_codes n (Seq p q) r b h =
     let f = left_codes n p x.0 parts.0 x.2 in
     subset_of _ x.1 (sequence_subset (started_codes x.0) (started_codes q) _
     (λ k m. let e = except-parts (started_codes x.0) 0 k m in or_left (except 0 (resumed_codes p) k) (second k) (except-in (resumed_codes p) 0 k (f k e.0) e.1))
-    (λ z k m. or_right (except 0 (resumed_codes p) k) (second k) (or_left (codes_if (resumed_codes p 0) (started_codes q) k) _ (and_from (resumed_codes p 0) _ (f 0 z) m)))))
-    (λ y k m. or_right (except 0 (resumed_codes p) k) (second k) (or_right (codes_if (resumed_codes p 0) (started_codes q) k) _ (and_from (started_codes p 0 || resumed_codes p 0) _ y.0 (left_codes n q r parts.1 y.1 k m))))
+    (λ z k m. or_right (except 0 (resumed_codes p) k) (second k) (or_left (codes_if (resumed_codes p 0) (started_codes q) k) _
+    (and_from (resumed_codes p 0) _ (f 0 z) m)))))
+    (λ y k m. or_right (except 0 (resumed_codes p) k) (second k) (or_right (codes_if (resumed_codes p 0) (started_codes q) k) _
+    (and_from (started_codes p 0 || resumed_codes p 0) _ y.0 (left_codes n q r parts.1 y.1 k m))))
     h
 left_codes n (Loop at p) r b h =
     let body = bounded_body n at p b in
@@ -247,8 +276,10 @@ left_codes n (Loop at p) r b h =
     (λ z k m. or_right (except 0 (resumed_codes p) k) _ (and_from (resumed_codes p 0) _ (f 0 z) m)))
 left_codes n (Par p q) r b h =
     let parts = bounded_parts n p q b.exits b.depth b.loops in
-    let some : (has_code (resumed_codes p) || has_code (resumed_codes q)) ≡ true = branches_some p q h.0 h.1 (λ l. left_inhabited n p h.0 parts.0 l) (λ l. left_inhabited n q h.1 parts.1 l) h.3 in
-    subset_of _ h.2 (λ k m. and_from (has_code (resumed_codes p) || has_code (resumed_codes q)) _ some (branches_subset p q h.0 h.1 (λ l. left_codes n p h.0 parts.0 l) (λ l. left_codes n q h.1 parts.1 l) h.3 k m))
+    let some : (has_code (resumed_codes p) || has_code (resumed_codes q)) ≡ true =
+    branches_some p q h.0 h.1 (λ l. left_inhabited n p h.0 parts.0 l) (λ l. left_inhabited n q h.1 parts.1 l) h.3 in
+    subset_of _ h.2 (λ k m. and_from (has_code (resumed_codes p) || has_code (resumed_codes q)) _ some
+    (branches_subset p q h.0 h.1 (λ l. left_codes n p h.0 parts.0 l) (λ l. left_codes n q h.1 parts.1 l) h.3 k m))
 left_codes n (Trap p) r b h = subset_of _ h.1 (lowered-subset _ _ (left_codes (n + 1) p h.0 (bounded_trap n p b) h.2))
 left_codes n (Local s p) r b h = subset_of _ h.1 (left_codes n p h.0 (record { exits = b.exits; depth = b.depth; loops = b.loops }) h.2)
 left_codes n (Awake e p) r b h = absurd h
@@ -348,7 +379,8 @@ then_of t x None g = tt
 then_of t x (Some y) g = g
 
 -- a sequence: what the first part leaves before q, or what the second part leaves
-sequence_of : (p q t : Term) (a b : Option Step) → ((r : Term) → LeftOf p r → LeftOf t (Seq r q)) → LeavesOf p a → ((x : Step) → a ≡ Some x → x.code ≡ 0 → LeavesOf t b) → LeavesOf t (sequence_step q a b)
+sequence_of : (p q t : Term) (a b : Option Step) → ((r : Term) → LeftOf p r → LeftOf t (Seq r q)) → LeavesOf p a →
+    ((x : Step) → a ≡ Some x → x.code ≡ 0 → LeavesOf t b) → LeavesOf t (sequence_step q a b)
 sequence_of p q t None b f h g = tt
 sequence_of p q t (Some x) b f h g =
     cond_both (x.code == 0) (then_step x b) (Some (leaving (λ r. Seq r q) x)) (λ s. LeavesOf t s)
@@ -374,7 +406,8 @@ parallel_of p q (Some x) (Some y) f g = λ e.
     subst (λ r. LeftOf (Par p q) r) (sym (left_whole (max x.code y.code) (Par x.residual y.residual) e))
     (x.residual, y.residual, refl, branches (x.code == 0) refl (y.code == 0) refl e)
   where
-    branches : (c : Bool) → (x.code == 0) ≡ c → (d : Bool) → (y.code == 0) ≡ d → max x.code y.code ≡ 1 → Branches (LeftOf p x.residual) ((x.residual ≡ Nothing) × Marked p) (LeftOf q y.residual) ((y.residual ≡ Nothing) × Marked q)
+    branches : (c : Bool) → (x.code == 0) ≡ c → (d : Bool) → (y.code == 0) ≡ d → max x.code y.code ≡ 1 →
+        Branches (LeftOf p x.residual) ((x.residual ≡ Nothing) × Marked p) (LeftOf q y.residual) ((y.residual ≡ Nothing) × Marked q)
     branches true i true j e = let z = eqb-true x.code 0 i in let w = eqb-true y.code 0 j in absurd (omega arith)
     branches true i false j e = let z = eqb-true x.code 0 i in inr (inr (f.1 z, g.0 (omega (arith, z))))
     branches false i true j e = let w = eqb-true y.code 0 j in inr (inl (f.0 (omega (arith, w)), g.1 w))
@@ -403,7 +436,8 @@ ended_of : (p a : Term) (E : Environment) → a ≡ Nothing → Marked p → Bra
 ended_of p a E is m = subst (λ t. Branch p (step t E)) (sym is) ((λ e. absurd (omega (arith, e))), (λ z. (refl, m)))
 
 -- both branches of a parallel
-both_of : (p q a b : Term) (E : Environment) → (LeftOf p a → Branch p (step a E)) → (LeftOf q b → Branch q (step b E)) → Branches (LeftOf p a) ((a ≡ Nothing) × Marked p) (LeftOf q b) ((b ≡ Nothing) × Marked q) → LeavesOf (Par p q) (parallel_step (step a E) (step b E))
+both_of : (p q a b : Term) (E : Environment) → (LeftOf p a → Branch p (step a E)) → (LeftOf q b → Branch q (step b E)) →
+    Branches (LeftOf p a) ((a ≡ Nothing) × Marked p) (LeftOf q b) ((b ≡ Nothing) × Marked q) → LeavesOf (Par p q) (parallel_step (step a E) (step b E))
 both_of p q a b E f g (inl x) = parallel_of p q (step a E) (step b E) (f x.0) (g x.1)
 both_of p q a b E f g (inr (inl x)) = parallel_of p q (step a E) (step b E) (f x.0) (ended_of q b E x.1.0 x.1.1)
 both_of p q a b E f g (inr (inr x)) = parallel_of p q (step a E) (step b E) (ended_of p a E x.0.0 x.0.1) (g x.1)
@@ -434,7 +468,11 @@ first_left n (Present e p q) E h k =
 first_left n (Suspend e p) E h k = leaving_of p (Suspend e p) (λ r. Awake e r) (step p E) (λ a l. (a, refl, l)) (first_left n p E h k)
 first_left n (Seq p q) E h k =
     sequence_of p q (Seq p q) (step p E) (step q E) (λ r l. inl (r, refl, l)) (first_left n p E h.0 k.0)
-    (λ x is z. more_of q (Seq p q) (step q E) (λ a l. inr (or_left (started_codes p 0) (resumed_codes p 0) (subst (λ c. started_codes p c ≡ true) z (step_keeps_static_codes_lem p E x is)), l)) (first_left n q E h.1 k.1))
+    (λ x is z. more_of q (Seq p q) (step q E) (λ a l. inr (
+      or_left (started_codes p 0) (resumed_codes p 0)
+          (subst (λ c. started_codes p c ≡ true) z (step_keeps_static_codes_lem p E x is)),
+      l,
+    )) (first_left n q E h.1 k.1))
 first_left n (Loop at p) E h k = loop_of p (Loop at p) (Loop at p) (step p E) (λ r l. (r, refl, l)) (first_left n p E h k)
 first_left n (Par p q) E h k =
     parallel_of p q (step p E) (step q E)
@@ -467,7 +505,11 @@ next_left n (Seq p q) r E b k h =
     (λ x. subst (λ t. LeavesOf (Seq p q) (step t E)) (sym x.1)
     (sequence_of p q (Seq p q) (step x.0 E) (step q E) (λ a l. inl (a, refl, l)) (next_left n p x.0 E parts.0 k.0 x.2)
     (λ y is z. more_of q (Seq p q) (step q E)
-    (λ a l. inr (or_right (started_codes p 0) (resumed_codes p 0) (left_codes n p x.0 parts.0 x.2 0 (subst (λ c. started_codes x.0 c ≡ true) z (step_keeps_static_codes_lem x.0 E y is))), l))
+    (λ a l. inr (
+      or_right (started_codes p 0) (resumed_codes p 0) (left_codes n p x.0 parts.0 x.2 0
+          (subst (λ c. started_codes x.0 c ≡ true) z (step_keeps_static_codes_lem x.0 E y is))),
+      l,
+    ))
     (first_left n q E parts.1.exits k.1))))
     (λ y. more_of q (Seq p q) (step r E) (λ a l. inr (y.0, l)) (next_left n q r E parts.1 k.1 y.1))
     h
@@ -492,7 +534,8 @@ next_left n (Local s p) r E b k h =
 next_left n (Awake e p) r E b k h = absurd h
 
 -- what is left by a step and the steps after it
-step_left : (p r : Term) (rest : List Environment) (o : Option Step) → LeavesOf p o → option_and_then (λ t. left_after t rest) (left_by_step o) ≡ Some r → ((t : Term) → LeftOf p t → left_after t rest ≡ Some r → LeftOf p r) → LeftOf p r
+step_left : (p r : Term) (rest : List Environment) (o : Option Step) → LeavesOf p o → option_and_then (λ t. left_after t rest) (left_by_step o) ≡ Some r →
+    ((t : Term) → LeftOf p t → left_after t rest ≡ Some r → LeftOf p r) → LeftOf p r
 step_left p r rest None l f later = cc
 step_left p r rest (Some x) l f later = with_code (x.code == 1) refl f
   where

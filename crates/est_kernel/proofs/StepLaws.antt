@@ -5,8 +5,10 @@ use Rattle.std.proofs.lemmas.Bool.{eqb-true, eqb-false, eq-eqb, ne_eqb, cond-tru
 use Rattle.est_base.specs.Codes.{except, maxima, lowered}
 use Rattle.est_kernel.specs.Terms.{Term, Nothing, Pause, Emit, Exit, Present, Suspend, Seq, Loop, Par, Trap, Local, Awake}
 use Rattle.est_kernel.specs.Statuses.{Status, Plus, Minus, Unknown, Environment, with_status, value}
-use Rattle.est_kernel.specs.Potentials.{Kind, Must, Can, May, Potential, Potentials, completes, chosen, second_kind, codes_kept, sequence, in_turn, together, trapped, hidden, decided, potential}
-use Rattle.est_kernel.specs.Steps.{Step, step, ended, leaving, leaves, chosen_step, then_step, sequence_step, loop_step, parallel_step, trap_code, trap_step, local_step, where_known}
+use Rattle.est_kernel.specs.Potentials.{Kind, Must, Can, May, Potential, Potentials, completes, chosen, second_kind, codes_kept, sequence, in_turn, together}
+use Rattle.est_kernel.specs.Potentials.{trapped, hidden, decided, potential}
+use Rattle.est_kernel.specs.Steps.{Step, step, ended, leaving, leaves, chosen_step, then_step, sequence_step, loop_step, parallel_step, trap_code, trap_step}
+use Rattle.est_kernel.specs.Steps.{local_step, where_known}
 use Rattle.est_kernel.specs.Laws.{IsJust, StepIsWhatMustBeDone}
 use Rattle.est_kernel.proofs.Sets.{same_tests, maxima-in, maxima-parts, lowered-in, lowered-parts}
 
@@ -23,7 +25,8 @@ leaves_agree : (f : Term → Term) (a b : Potential) (o : Option Step) → Agree
 leaves_agree f a b None h = tt
 leaves_agree f a b (Some x) h = (just_leaving a x f h.0, just_leaving b x f h.1)
 
-chosen_agree : (v : Status) (a b : Potentials) (o n : Option Step) → Agree (a Must) (a Can) o → Agree (b Must) (b Can) n → Agree (chosen v a b Must) (chosen v a b Can) (chosen_step v o n)
+chosen_agree : (v : Status) (a b : Potentials) (o n : Option Step) → Agree (a Must) (a Can) o → Agree (b Must) (b Can) n →
+    Agree (chosen v a b Must) (chosen v a b Can) (chosen_step v o n)
 chosen_agree Plus a b o n h g = h
 chosen_agree Minus a b o n h g = g
 chosen_agree Unknown a b o n h g = tt
@@ -51,7 +54,8 @@ or_equal : {a b c d : Bool} → a ≡ c → b ≡ d → (a || b) ≡ (c || d)
 or_equal {a} {b} {c} {d} e f = ap (λ x. x || b) e ∙ ap (λ x. c || x) f
 
 -- a sequence whose first part terminates
-sequence_both : (k : Kind) (a b : Potential) (x y z : Step) → IsJust a x → x.code ≡ 0 → IsJust b y → ((t : ℕ) → z.emitted t ≡ (x.emitted t || y.emitted t)) → z.code ≡ y.code → IsJust (sequence k a b) z
+sequence_both : (k : Kind) (a b : Potential) (x y z : Step) → IsJust a x → x.code ≡ 0 → IsJust b y → ((t : ℕ) → z.emitted t ≡ (x.emitted t || y.emitted t)) →
+    z.code ≡ y.code → IsJust (sequence k a b) z
 sequence_both k a b x y z f zero_code g signals code =
     let e : a.codes 0 ≡ true = f.codes 0 ∙ eq-eqb 0 x.code (sym zero_code) in
     let just_zero : (j : ℕ) → a.codes j ≡ (j == 0) = λ j. f.codes j ∙ ap (λ n. j == n) zero_code in
@@ -65,7 +69,8 @@ just_second : (c : Bool) (b : Potentials) (y : Step) → c ≡ true → IsJust (
 just_second true b y e j = j
 just_second false b y e j = absurd (false≢true e)
 
-then_agree : (a b : Potentials) (x : Step) (n : Option Step) → x.code ≡ 0 → IsJust (a Must) x × IsJust (a Can) x → Agree (b Must) (b Can) n → Agree (in_turn a b Must) (in_turn a b Can) (then_step x n)
+then_agree : (a b : Potentials) (x : Step) (n : Option Step) → x.code ≡ 0 → IsJust (a Must) x × IsJust (a Can) x → Agree (b Must) (b Can) n →
+    Agree (in_turn a b Must) (in_turn a b Can) (then_step x n)
 then_agree a b x None z h g = tt
 then_agree a b x (Some y) z h g =
     let e : (a Must).codes 0 ≡ true = h.0.codes 0 ∙ eq-eqb 0 x.code (sym z) in (
@@ -73,7 +78,8 @@ then_agree a b x (Some y) z h g =
       sequence_both Can (a Can) (b (second_kind Can a)) x y _ h.1 z (just_second ((a Must).codes 0) b y e g.1) (λ t. refl) refl,
     )
 
-in_turn_agree : (q : Term) (a b : Potentials) (o n : Option Step) → Agree (a Must) (a Can) o → Agree (b Must) (b Can) n → Agree (in_turn a b Must) (in_turn a b Can) (sequence_step q o n)
+in_turn_agree : (q : Term) (a b : Potentials) (o n : Option Step) → Agree (a Must) (a Can) o → Agree (b Must) (b Can) n →
+    Agree (in_turn a b Must) (in_turn a b Can) (sequence_step q o n)
 in_turn_agree q a b None n h g = tt
 in_turn_agree q a b (Some x) n h g =
     cond_both (x.code == 0) (then_step x n) (Some (leaving (λ r. Seq r q) x))
@@ -104,7 +110,8 @@ maxima_just A B i j f g k =
     subst (λ n. maxima A B n ≡ true) (sym (eqb-true k (max i j) h))
     (maxima-in A B i j (f i ∙ eq-eqb i i refl) (g j ∙ eq-eqb j j refl)))
 
-together_just : (a b : Potential) (x y z : Step) → IsJust a x → IsJust b y → ((t : ℕ) → z.emitted t ≡ (x.emitted t || y.emitted t)) → z.code ≡ max x.code y.code → IsJust (together a b) z
+together_just : (a b : Potential) (x y z : Step) → IsJust a x → IsJust b y → ((t : ℕ) → z.emitted t ≡ (x.emitted t || y.emitted t)) →
+    z.code ≡ max x.code y.code → IsJust (together a b) z
 together_just a b x y z f g signals code =
     record {
       signals = λ t. or_equal (f.signals t) (g.signals t) ∙ sym (signals t);

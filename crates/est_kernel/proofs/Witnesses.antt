@@ -15,7 +15,8 @@ use Rattle.est_kernel.specs.declared.programs.KernelProgram.{KernelProgram}
 use Rattle.est_kernel.specs.declared.signal_tests.Test.TheVariants as tests
 use Rattle.est_kernel.specs.declared.statements.Kernel.TheVariants as kernels
 use Rattle.est_kernel.specs.Terms.{Tick, Sig, Not, And, Or, Term, Nothing, Pause, Emit, Exit, Present, Suspend, Seq, Loop, Par, Trap, Local, Awake}
-use Rattle.est_kernel.specs.Plain.{expression_of, term_of, Program, program_of, given_count, outgoing_count, interface_count, interface_of, given_names, outgoing_names}
+use Rattle.est_kernel.specs.Plain.{expression_of, term_of, Program, program_of, given_count, outgoing_count, interface_count, interface_of, given_names}
+use Rattle.est_kernel.specs.Plain.{outgoing_names}
 use Rattle.est_kernel.specs.CodeLists.{AreCodesOf}
 use Rattle.est_kernel.specs.Sizes.{size_of, height_of, trap_depth}
 use Rattle.est_kernel.specs.WellFormed.{IsKernel, ExitsStandInTraps, KeepsLimits, TestsVisible, SignalsFit, RelatesGiven, IsWellFormed, HasNames}
@@ -66,7 +67,15 @@ implication_plain : relation_of (relations_of_inputs.Implies (record { 0 = 3 }) 
 implication_plain = refl
 
 program_plain : (p : KernelProgram) → program_of p
-    ≡ record { name = p.name; signals = map (λ s. s.name) p.signals.items; inputs = p.inputs; both = p.both; outputs = p.outputs; relations = map relation_of p.relations.items; body = term_of p.body }
+    ≡ record {
+      name = p.name;
+      signals = map (λ s. s.name) p.signals.items;
+      inputs = p.inputs;
+      both = p.both;
+      outputs = p.outputs;
+      relations = map relation_of p.relations.items;
+      body = term_of p.body;
+    }
 program_plain p = refl
 
 -- two elements that are both such

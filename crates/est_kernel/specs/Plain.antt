@@ -7,7 +7,8 @@ use Rattle.est_kernel.specs.declared.signal_tests.Test.TheVariants as tests
 use Rattle.est_kernel.specs.declared.statements.Kernel.{Kernel}
 use Rattle.est_kernel.specs.declared.statements.Kernel.TheVariants as kernels
 use Rattle.est_kernel.specs.declared.programs.KernelProgram.{KernelProgram}
-use Rattle.est_kernel.specs.Terms.{Expression, Tick, Sig, Not, And, Or, Term, Nothing, Pause, Emit, Exit, Present, Suspend, Seq, Loop, Par, Trap, Local}
+use Rattle.est_kernel.specs.Terms.{Expression, Tick, Sig, Not, And, Or, Term, Nothing, Pause, Emit, Exit, Present}
+use Rattle.est_kernel.specs.Terms.{Suspend, Seq, Loop, Par, Trap, Local}
 use Rattle.est_base.specs.Relations.{Relation, relation_of}
 
 -- a test as a tree

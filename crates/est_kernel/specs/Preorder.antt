@@ -2,7 +2,8 @@
 -- part after it. The body has number 0; under a statement with number n the first part has n + 1, and
 -- the second n + 1 plus the number of statements in the first.
 use Rattle.std.specs.Prelude.{ℕ, ◌+◌, List, [], ◌∷◌, ◌++◌}
-use Rattle.est_kernel.specs.Terms.{Term, Nothing, Pause, Emit, Exit, Present, Suspend, Seq, Loop, Par, Trap, Local, Awake}
+use Rattle.est_kernel.specs.Terms.{Term, Nothing, Pause, Emit, Exit, Present, Suspend, Seq, Loop, Par, Trap, Local}
+use Rattle.est_kernel.specs.Terms.{Awake}
 
 -- the parts of a statement, in the order of its form; their places are the child numbers of a path
 abbrev pub parts : Term → List Term

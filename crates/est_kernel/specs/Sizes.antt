@@ -1,6 +1,7 @@
 -- To believe: the size and the height of a statement.
 use Rattle.std.specs.Prelude.{ℕ, ◌+◌, max}
-use Rattle.est_kernel.specs.Terms.{Expression, Tick, Sig, Not, And, Or, Term, Nothing, Pause, Emit, Exit, Present, Suspend, Seq, Loop, Par, Trap, Local, Awake}
+use Rattle.est_kernel.specs.Terms.{Expression, Tick, Sig, Not, And, Or, Term, Nothing, Pause, Emit, Exit, Present}
+use Rattle.est_kernel.specs.Terms.{Suspend, Seq, Loop, Par, Trap, Local, Awake}
 
 -- the number of nodes of a test
 abbrev pub test_size : Expression → ℕ

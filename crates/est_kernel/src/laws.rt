@@ -1,7 +1,11 @@
 // The laws that tie the tables of potentials, steps and static codes to one another. Each call does
 // nothing: its contract is the law.
 
-ghost use Rattle.est_kernel.specs.Laws.{MustGrows, CanShrinks, MayShrinks, MustLiesInCan, CanLiesInMay, MustHasOneCode, MayKeepsStaticCodes, StepIsWhatMustBeDone, StepKeepsStaticCodes, PreorderHasEachStatement, PreorderPlaces, StepKeepsExits, RunPausesOrEnds, RunsWhereEachReacts, RunAnswersEachEvent, PrefixHasPrefixOfAnswers, LeftCompletesAsResumed, TreesAreKernels};
+ghost use Rattle.est_kernel.specs.Laws.{MustGrows, CanShrinks, MayShrinks, MustLiesInCan, CanLiesInMay, MustHasOneCode};
+ghost use Rattle.est_kernel.specs.Laws.{MayKeepsStaticCodes, StepIsWhatMustBeDone, StepKeepsStaticCodes};
+ghost use Rattle.est_kernel.specs.Laws.{PreorderHasEachStatement, PreorderPlaces, StepKeepsExits, RunPausesOrEnds};
+ghost use Rattle.est_kernel.specs.Laws.{RunsWhereEachReacts, RunAnswersEachEvent, PrefixHasPrefixOfAnswers};
+ghost use Rattle.est_kernel.specs.Laws.{LeftCompletesAsResumed, TreesAreKernels};
 
 /// Must, and both kinds of Can, are monotone in what is known of the signals: Must grows, and each
 /// Can shrinks.

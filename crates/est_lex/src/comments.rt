@@ -1,7 +1,8 @@
 // Comments.
 
 ghost use Rattle.std.specs.Prelude.{◌≡◌, ◌≤◌, ℕ, ◌<◌, MatchOption};
-ghost use Rattle.est_ast.specs.Lexemes.{HasByte, OpensComment, ClosesComment, BeginsWithLineComment, BeginsWithBlockComment};
+ghost use Rattle.est_ast.specs.Lexemes.{HasByte, OpensComment, ClosesComment, BeginsWithLineComment};
+ghost use Rattle.est_ast.specs.Lexemes.{BeginsWithBlockComment};
 
 /// The length of the line comment that begins the text.
 pub fn line_comment(text: &[u8]) -> usize

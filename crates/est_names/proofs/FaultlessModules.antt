@@ -20,6 +20,7 @@ pub faultless-interface : (main : Option (List ℕ)) (program : Program) (k : �
     → interface_faults (get_or program k d).decls ≡ []
 faultless-interface main program k d none low =
     let m = get_or program k d in
-    let modules = nothing_before (again DuplicateModule [] (map (λ m. m.name) program)) (main_faults (main_place main (module_names program)) ++ flat_map module_faults program) none in
+    let modules = nothing_before (again DuplicateModule [] (map (λ m. m.name) program))
+    (main_faults (main_place main (module_names program)) ++ flat_map module_faults program) none in
     let bodies = nothing_before (main_faults (main_place main (module_names program))) (flat_map module_faults program) modules.1 in
     (nothing_before (interface_faults m.decls) (body_faults m.body) (faultless-at program k d bodies.1 low)).0

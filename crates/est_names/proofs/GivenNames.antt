@@ -13,7 +13,8 @@ SameNames given other = (name : List ℕ) → is_among name given ≡ is_among n
 pub not_given-same : (given other : List (List ℕ)) (names : List Name) → SameNames given other → not_given given names ≡ not_given other names
 not_given-same given other names same i = flat_map (λ name. if same name.text i then [] else RelationName name.span ∷ []) names
 
-pub decl_faults-same : (given other before : List (List ℕ)) (decls : List Decl) → SameNames given other → decl_faults given before decls ≡ decl_faults other before decls
+pub decl_faults-same : (given other before : List (List ℕ)) (decls : List Decl) → SameNames given other →
+    decl_faults given before decls ≡ decl_faults other before decls
 decl_faults-same given other before [] same = refl
 decl_faults-same given other before (decl ∷ decls) same = λ i.
     again DuplicateSignal before (declared_in decl)

@@ -1,6 +1,9 @@
 -- Inner: equations between the faults of names and an independent implementation of them in Python. Generated.
 use Rattle.std.proofs.Common.{◌≡◌, [], ◌∷◌, Some, None, codes, refl}
-use Rattle.est_ast.specs.Trees.{Tick, Sig, Not, And, Or, Round, Square, NoExprs, MoreExprs, Plain, Immediate, Count, At, Nothing, Pause, Halt, Emit, Sustain, Await, AwaitCase, Present, Loop, LoopEach, Every, Repeat, Abort, AbortCase, WeakAbort, Suspend, Trap, Exit, Signal, Run, Seq, Par, Group, Missing, Written, NoHandler, Handled, NoStmts, MoreStmts, NoCases, MoreCases, Implies, Excludes, Input, InputOutput, Output, Relations}
+use Rattle.est_ast.specs.Trees.{Tick, Sig, Not, And, Or, Round, Square, NoExprs, MoreExprs, Plain, Immediate, Count, At, Nothing, Pause, Halt, Emit, Sustain}
+use Rattle.est_ast.specs.Trees.{Await, AwaitCase, Present, Loop, LoopEach, Every, Repeat, Abort, AbortCase, WeakAbort, Suspend, Trap, Exit, Signal, Run, Seq}
+use Rattle.est_ast.specs.Trees.{Par, Group, Missing, Written, NoHandler, Handled, NoStmts, MoreStmts, NoCases, MoreCases, Implies, Excludes, Input, InputOutput}
+use Rattle.est_ast.specs.Trees.{Output, Relations}
 use Rattle.est_names.specs.declared.refusal.NameFault.TheVariants.{DuplicateModule, NoMain, DuplicateSignal, RelationName}
 use Rattle.est_names.specs.NameFaults.{first, name_faults}
 use Rattle.est_names.proofs.PlainTrees.{at, n, modul, as_}

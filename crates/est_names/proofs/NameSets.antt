@@ -32,11 +32,13 @@ is_among-insert name new names = there (is_among new names) refl
     same : (b : Bool) → is_same_name name new ≡ b → is_among new names ≡ true → is_among name names ≡ is_among name (names ++ new ∷ [])
     same true is old =
         list_any_congr nat_list_eq_equiv name new names is ∙ old
-        ∙ sym (list_any-append (is_same_name name) names (new ∷ []) ∙ ap (λ b. b || (is_same_name name new || false)) (list_any_congr nat_list_eq_equiv name new names is ∙ old))
+        ∙ sym (list_any-append (is_same_name name) names (new ∷ []) ∙ ap (λ b. b || (is_same_name name new || false))
+        (list_any_congr nat_list_eq_equiv name new names is ∙ old))
     same false is old =
         sym (list_any-append (is_same_name name) names (new ∷ []) ∙ ap (λ b. is_among name names || (b || false)) is ∙ or_false (is_among name names))
 
-    there : (b : Bool) → is_among new names ≡ b → is_among name (if not (is_among new names) then names ++ new ∷ [] else names) ≡ is_among name (names ++ new ∷ [])
+    there : (b : Bool) → is_among new names ≡ b → is_among name (if not (is_among new names) then names ++ new ∷ [] else names) ≡
+        is_among name (names ++ new ∷ [])
     there true old = ap (λ b. is_among name (if not b then names ++ new ∷ [] else names)) old ∙ same (is_same_name name new) refl old
     there false old = ap (λ b. is_among name (if not b then names ++ new ∷ [] else names)) old
 

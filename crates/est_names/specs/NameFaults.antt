@@ -2,9 +2,14 @@
 use Rattle.std.specs.Prelude.{◌≡◌, ℕ, List, [], ◌∷◌, ◌++◌, map, flat_map, Option, Some, None, if◌then◌else◌, ⊤}
 use Rattle.est_base.specs.declared.place.Span.{Span}
 use Rattle.est_ast.specs.declared.trees.Name.{Name}
-use Rattle.est_ast.specs.Trees.{Stmt, At, Form, Nothing, Pause, Halt, Emit, Sustain, Await, AwaitCase, Present, PresentCase, Loop, LoopEach, Every, Repeat, Abort, AbortCase, WeakAbort, Suspend, Trap, Exit, Signal, Run, Seq, Par, Group, Part, Missing, Written, Handler, NoHandler, Handled, Stmts, NoStmts, MoreStmts, Cases, NoCases, MoreCases, Relation, Implies, Excludes, Decl, Input, InputOutput, Output, Relations, Module, Program}
+use Rattle.est_ast.specs.Trees.{Stmt, At, Form, Nothing, Pause, Halt, Emit, Sustain, Await, AwaitCase, Present}
+use Rattle.est_ast.specs.Trees.{PresentCase, Loop, LoopEach, Every, Repeat, Abort, AbortCase, WeakAbort, Suspend, Trap}
+use Rattle.est_ast.specs.Trees.{Exit, Signal, Run, Seq, Par, Group, Part, Missing, Written, Handler, NoHandler, Handled}
+use Rattle.est_ast.specs.Trees.{Stmts, NoStmts, MoreStmts, Cases, NoCases, MoreCases, Relation, Implies, Excludes, Decl}
+use Rattle.est_ast.specs.Trees.{Input, InputOutput, Output, Relations, Module, Program}
 use Rattle.est_names.specs.declared.refusal.NameFault.{NameFault}
-use Rattle.est_names.specs.declared.refusal.NameFault.TheVariants.{DuplicateModule, NoMain, DuplicateSignal, RelationName, NoMemory}
+use Rattle.est_names.specs.declared.refusal.NameFault.TheVariants.{DuplicateModule, NoMain, DuplicateSignal}
+use Rattle.est_names.specs.declared.refusal.NameFault.TheVariants.{RelationName, NoMemory}
 use Rattle.est_names.specs.Names.{texts, is_among, place_of}
 
 -- a fault at each name that stands before it already

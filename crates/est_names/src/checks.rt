@@ -1,12 +1,14 @@
 // The checks of the names of a program, in the order in which they answer.
 
-ghost use Rattle.std.specs.Prelude.{◌≡◌, ℕ, ◌<◌, ◌≤◌, List, [], ◌∷◌, ◌++◌, map, flat_map, length, IfOk, OnOk, IfErr, IfSome};
+ghost use Rattle.std.specs.Prelude.{◌≡◌, ℕ, ◌<◌, ◌≤◌, List, [], ◌∷◌, ◌++◌, map, flat_map, length, IfOk, OnOk, IfErr};
+ghost use Rattle.std.specs.Prelude.{IfSome};
 ghost use Rattle.std.specs.Option.{option_map};
 ghost use Rattle.est_ast.specs.Views.{program_of, module_of, decl_of, relation_of, stmt_of};
 ghost use Rattle.est_names.specs.declared.refusal.NameFault.TheVariants as faults;
 ghost use Rattle.est_names.specs.Names.{texts, is_among};
 ghost use Rattle.est_names.specs.NameFaults.{again, given_in, names_of_relation, not_given, decl_faults};
-ghost use Rattle.est_names.specs.NameFaults.{interface_faults, body_faults, module_faults, module_names, main_place, main_faults, name_faults, IsFirst};
+ghost use Rattle.est_names.specs.NameFaults.{interface_faults, body_faults, module_faults, module_names, main_place};
+ghost use Rattle.est_names.specs.NameFaults.{main_faults, name_faults, IsFirst};
 ghost use Rattle.est_names.specs.Tables.{IsTable};
 
 use crate::name_set::NameSet;
@@ -50,7 +52,8 @@ const MODULES: usize = 4_294_967_296;
 // The names of the modules, none of which has the name of another.
 fn module_name_set<'a>(alloc: Global, modules: &'a [Module]) -> Result<NameSet<'a>, NameFault>
     ensures names { IfOk result (λ names. names ≡ module_names (map module_of modules.now)) }
-    ensures differ { OnOk result (again faults.DuplicateModule [] (map (λ m. m.name) (map module_of modules.now)) ≡ []) }
+    ensures differ { OnOk result
+        (again faults.DuplicateModule [] (map (λ m. m.name) (map module_of modules.now)) ≡ []) }
     ensures fault { IfErr result
         (IsFirst (again faults.DuplicateModule [] (map (λ m. m.name) (map module_of modules.now)))) }
 {

@@ -1,6 +1,7 @@
 // Sets of names in the order of their insertion.
 
-ghost use Rattle.std.specs.Prelude.{◌≡◌, ◌-◌, ◌<◌, ◌↔◌, [], ◌∷◌, ◌++◌, length, take, IfOk, IfSome, IsTrue, not, if◌then◌else◌};
+ghost use Rattle.std.specs.Prelude.{◌≡◌, ◌-◌, ◌<◌, ◌↔◌, [], ◌∷◌, ◌++◌, length, take, IfOk, IfSome, IsTrue, not};
+ghost use Rattle.std.specs.Prelude.{if◌then◌else◌};
 ghost use Rattle.est_names.specs.Names.{is_among, place_of};
 
 use est_base::{NoMemory, Text};

@@ -11,20 +11,25 @@ use Rattle.est_ast.specs.declared.tokens.Reserved.TheVariants as words
 use Rattle.est_ast.specs.declared.tokens.Mark.TheVariants as marks
 use Rattle.est_ast.specs.declared.trees.Name.{Name}
 use Rattle.est_ast.specs.Trees.{Expr, Tick, Sig, Not, And, Or, Round, Square, Exprs, NoExprs, MoreExprs, Delay, Plain, Immediate, Count, exprs}
-use Rattle.est_ast.specs.Grammar.{word, mark, name_at, name, number, tick_at, tick, Tier, Disjunction, Conjunction, Negation, SpellsExpr, SpellsExprs, SpellsNextExprs, SpellsOtherExprs, SpellsEvent, SpellsDelay, SpellsCount, SpellsTest}
+use Rattle.est_ast.specs.Grammar.{word, mark, name_at, name, number, tick_at, tick, Tier, Disjunction, Conjunction, Negation, SpellsExpr, SpellsExprs}
+use Rattle.est_ast.specs.Grammar.{SpellsNextExprs, SpellsOtherExprs, SpellsEvent, SpellsDelay, SpellsCount, SpellsTest}
 use Rattle.est_ast.specs.Nesting.{expr_nesting, exprs_nesting, delay_nesting}
 use Rattle.read_rules.specs.Languages.{Empty, One, Then, Led, Both, Loop, Parted}
 use Rattle.read_rules.specs.Choice.{Made, Only, adds, fits}
 use Rattle.read_rules.specs.Readings.{Rule, loop}
 use Rattle.read_rules.proofs.Nesting.{Below, by_room}
 use Rattle.read_rules.proofs.Loops.{Advances}
-use Rattle.read_rules.proofs.Readers.{Shape, one_shape, led_shape, Lang, Reads, the-reads, give-reads, both-reads, led-reads, trail-reads, ahead-reads, mapped-reads, told-reads, made-reads, same-reads, shape-reads}
+use Rattle.read_rules.proofs.Readers.{Shape, one_shape, led_shape, Lang, Reads, the-reads, give-reads, both-reads, led-reads, trail-reads, ahead-reads}
+use Rattle.read_rules.proofs.Readers.{mapped-reads, told-reads, made-reads, same-reads, shape-reads}
 use Rattle.read_rules.proofs.Steps.{Turn, list_depth, Steps, or-steps, loop-reads, Advances-step}
 use Rattle.read_rules.proofs.Choices.{Arm, arm, choose-lang, choose-reads}
-use Rattle.est_parse.specs.Openings.{Factor, NotFactor, RoundFactor, SquareFactor, TickFactor, NameFactor, factor_at, factor, is_deep_factor, Event, SquareEvent, TickEvent, NameEvent, event_at, event_start, is_deep_event}
+use Rattle.est_parse.specs.Openings.{Factor, NotFactor, RoundFactor, SquareFactor, TickFactor, NameFactor, factor_at, factor, is_deep_factor, Event}
+use Rattle.est_parse.specs.Openings.{SquareEvent, TickEvent, NameEvent, event_at, event_start, is_deep_event}
 use Rattle.est_parse.specs.Parts.{expr_list, count_of}
-use Rattle.est_parse.specs.Reading.{ExprRules, factor_behind, neg, expr_step, conj, disj, expr_rules, exprs_at, exprs_inside, expr, event_behind, event, immediate, count, delay, test}
-use Rattle.est_parse.proofs.TokenKinds.{word_class, class, word-kind, mark-kind, word-test, mark-test, number-test, factor_set, factor-test, event_set, event-test}
+use Rattle.est_parse.specs.Reading.{ExprRules, factor_behind, neg, expr_step, conj, disj, expr_rules, exprs_at, exprs_inside, expr, event_behind, event}
+use Rattle.est_parse.specs.Reading.{immediate, count, delay, test}
+use Rattle.est_parse.proofs.TokenKinds.{word_class, class, word-kind, mark-kind, word-test, mark-test, number-test, factor_set, factor-test, event_set}
+use Rattle.est_parse.proofs.TokenKinds.{event-test}
 
 -- Parts of tests.
 
@@ -49,11 +54,19 @@ factor-behind span (kinds.Mark marks.LeftBracket) rest SquareFactor takes v made
 factor-behind span (kinds.Reserved words.Tick) rest (TickFactor other) takes v made =
     let same : span ≡ other = cc in
     subst (λ v. SpellsExpr Negation v (record { kind = kinds.Reserved words.Tick; span = span } ∷ rest)) made.1
-    (record { token = record { kind = kinds.Reserved words.Tick; span = span }; only = ap (λ r. record { kind = kinds.Reserved words.Tick; span = span } ∷ r) made.2; passes = ap Some same })
+    (record {
+      token = record { kind = kinds.Reserved words.Tick; span = span };
+      only = ap (λ r. record { kind = kinds.Reserved words.Tick; span = span } ∷ r) made.2;
+      passes = ap Some same;
+    })
 factor-behind span (kinds.Ident text) rest (NameFactor n) takes v made =
     let same : record { text = text; span = span } ≡ n = cc in
     subst (λ v. SpellsExpr Negation v (record { kind = kinds.Ident text; span = span } ∷ rest)) made.1
-    (record { token = record { kind = kinds.Ident text; span = span }; only = ap (λ r. record { kind = kinds.Ident text; span = span } ∷ r) made.2; passes = ap Some same })
+    (record {
+      token = record { kind = kinds.Ident text; span = span };
+      only = ap (λ r. record { kind = kinds.Ident text; span = span } ∷ r) made.2;
+      passes = ap Some same;
+    })
 factor-behind span _ rest _ takes v made = cc
 
 neg-to : (v : Expr) (tokens : List Token) → Led factor (λ f. FactorBehind f v) tokens → SpellsExpr Negation v tokens
@@ -72,15 +85,50 @@ name-factor span (kinds.Number value) n is = cc
 
 neg-from : (v : Expr) (tokens : List Token) → SpellsExpr Negation v tokens → Led factor (λ f. FactorBehind f v) tokens
 neg-from (Tick span) tokens one =
-    record { token = one.token; value = TickFactor span; rest = []; cut = one.only; passes = tick-factor one.token.span one.token.kind span one.passes; behind = (tt, refl, refl) }
+    record {
+      token = one.token;
+      value = TickFactor span;
+      rest = [];
+      cut = one.only;
+      passes = tick-factor one.token.span one.token.kind span one.passes;
+      behind = (tt, refl, refl);
+    }
 neg-from (Sig n) tokens one =
-    record { token = one.token; value = NameFactor n; rest = []; cut = one.only; passes = name-factor one.token.span one.token.kind n one.passes; behind = (tt, refl, refl) }
+    record {
+      token = one.token;
+      value = NameFactor n;
+      rest = [];
+      cut = one.only;
+      passes = name-factor one.token.span one.token.kind n one.passes;
+      behind = (tt, refl, refl);
+    }
 neg-from (Not e) tokens led =
-    record { token = led.token; value = NotFactor; rest = led.rest; cut = led.cut; passes = ap (factor_at led.token.span) (word-kind words.Not led.token.kind tt led.passes); behind = (e, refl, led.behind) }
+    record {
+      token = led.token;
+      value = NotFactor;
+      rest = led.rest;
+      cut = led.cut;
+      passes = ap (factor_at led.token.span) (word-kind words.Not led.token.kind tt led.passes);
+      behind = (e, refl, led.behind);
+    }
 neg-from (Round e) tokens led =
-    record { token = led.token; value = RoundFactor; rest = led.rest; cut = led.cut; passes = ap (factor_at led.token.span) (mark-kind marks.LeftParenthesis led.token.kind tt led.passes); behind = (e, refl, led.behind) }
+    record {
+      token = led.token;
+      value = RoundFactor;
+      rest = led.rest;
+      cut = led.cut;
+      passes = ap (factor_at led.token.span) (mark-kind marks.LeftParenthesis led.token.kind tt led.passes);
+      behind = (e, refl, led.behind);
+    }
 neg-from (Square e) tokens led =
-    record { token = led.token; value = SquareFactor; rest = led.rest; cut = led.cut; passes = ap (factor_at led.token.span) (mark-kind marks.LeftBracket led.token.kind tt led.passes); behind = (e, refl, led.behind) }
+    record {
+      token = led.token;
+      value = SquareFactor;
+      rest = led.rest;
+      cut = led.cut;
+      passes = ap (factor_at led.token.span) (mark-kind marks.LeftBracket led.token.kind tt led.passes);
+      behind = (e, refl, led.behind);
+    }
 neg-from (And parts) tokens member = absurd member
 neg-from (Or parts) tokens member = absurd member
 
@@ -102,13 +150,27 @@ exprs-nesting (e ∷ others) = ap (max (expr_nesting e)) (exprs-nesting others)
 abbrev Step : Reserved → Tier → Option Expr → List Token → Type 0
 Step w tier = Parted (word w) (λ _. SpellsExpr tier) Empty
 
-others-to : (w : Reserved) (tier : Tier) (others : List Expr) (tokens : List Token) → Loop (Step w tier) others tokens → SpellsOtherExprs w tier (exprs others) tokens
+others-to : (w : Reserved) (tier : Tier) (others : List Expr) (tokens : List Token) → Loop (Step w tier) others tokens →
+    SpellsOtherExprs w tier (exprs others) tokens
 others-to w tier [] tokens member = member
-others-to w tier (e ∷ others) tokens member = record { front = member.front; back = member.back; cut = member.cut; first = member.first; second = others-to w tier others member.back member.second }
+others-to w tier (e ∷ others) tokens member = record {
+  front = member.front;
+  back = member.back;
+  cut = member.cut;
+  first = member.first;
+  second = others-to w tier others member.back member.second;
+}
 
-others-from : (w : Reserved) (tier : Tier) (others : Exprs) (tokens : List Token) → SpellsOtherExprs w tier others tokens → Loop (Step w tier) (exprs_of others) tokens
+others-from : (w : Reserved) (tier : Tier) (others : Exprs) (tokens : List Token) → SpellsOtherExprs w tier others tokens →
+    Loop (Step w tier) (exprs_of others) tokens
 others-from w tier NoExprs tokens member = member
-others-from w tier (MoreExprs e others) tokens member = record { front = member.front; back = member.back; cut = member.cut; first = member.first; second = others-from w tier others member.back member.second }
+others-from w tier (MoreExprs e others) tokens member = record {
+  front = member.front;
+  back = member.back;
+  cut = member.cut;
+  first = member.first;
+  second = others-from w tier others member.back member.second;
+}
 
 -- a list of two parts or more
 parts-to : (w : Reserved) (tier : Tier) (e next : Expr) (others : List Expr) (tokens : List Token) →
@@ -120,7 +182,13 @@ parts-to w tier e next others tokens member =
       back = member.back;
       cut = member.cut;
       first = member.first;
-      second = record { front = behind.front; back = behind.back; cut = behind.cut; first = behind.first; second = others-to w tier others behind.back behind.second };
+      second = record {
+        front = behind.front;
+        back = behind.back;
+        cut = behind.cut;
+        first = behind.first;
+        second = others-to w tier others behind.back behind.second;
+      };
     }
 
 parts-from : (w : Reserved) (tier : Tier) (node : Exprs → Expr) (parts : Exprs) (tokens : List Token) → SpellsExprs w tier parts tokens →
@@ -134,7 +202,13 @@ parts-from w tier node (MoreExprs e (MoreExprs next others)) tokens member =
         back = member.back;
         cut = member.cut;
         first = member.first;
-        second = record { front = behind.front; back = behind.back; cut = behind.cut; first = behind.first; second = others-from w tier others behind.back behind.second };
+        second = record {
+          front = behind.front;
+          back = behind.back;
+          cut = behind.cut;
+          first = behind.first;
+          second = others-from w tier others behind.back behind.second;
+        };
       },
     )
 parts-from w tier node (MoreExprs e NoExprs) tokens member = absurd member.second
@@ -145,13 +219,16 @@ alone-from : (w : Reserved) (tier : Tier) (node : Exprs → Expr) (e : Expr) (to
     Made {A = Expr × List Expr} (λ found. expr_list node (found.0 ∷ found.1)) (Both (SpellsExpr tier) (Loop (Step w tier))) e tokens
 alone-from w tier node e tokens member = ((e, []), refl, record { front = tokens; back = []; cut = sym (append-nil tokens); first = member; second = refl })
 
-alone-to : (w : Reserved) (tier up : Tier) (e : Expr) (tokens : List Token) → Both (SpellsExpr tier) (Loop (Step w tier)) (e, []) tokens → SpellsExpr tier e tokens
-alone-to w tier up e tokens member = subst (λ ts. SpellsExpr tier e ts) (sym (member.cut ∙ ap (λ b. member.front ++ b) member.second ∙ append-nil member.front)) member.first
+alone-to : (w : Reserved) (tier up : Tier) (e : Expr) (tokens : List Token) → Both (SpellsExpr tier) (Loop (Step w tier)) (e, []) tokens →
+    SpellsExpr tier e tokens
+alone-to w tier up e tokens member = subst (λ ts. SpellsExpr tier e ts)
+    (sym (member.cut ∙ ap (λ b. member.front ++ b) member.second ∙ append-nil member.front)) member.first
 
 list-nesting : (node : Exprs → Expr) → ((parts : Exprs) → expr_nesting (node parts) ≡ exprs_nesting parts) → (found : Expr × List Expr) →
     expr_nesting (expr_list node (found.0 ∷ found.1)) ≡ max (expr_nesting found.0) (list_depth expr_nesting found.1)
 list-nesting node flat (e, []) = omega arith
-list-nesting node flat (e, next ∷ others) = flat (MoreExprs e (MoreExprs next (exprs others))) ∙ ap (λ n. max (expr_nesting e) (max (expr_nesting next) n)) (exprs-nesting others)
+list-nesting node flat (e, next ∷ others) = flat (MoreExprs e (MoreExprs next (exprs others)))
+    ∙ ap (λ n. max (expr_nesting e) (max (expr_nesting next) n)) (exprs-nesting others)
 
 neg_conj : (e : Expr) (tokens : List Token) → SpellsExpr Negation e tokens → SpellsExpr Conjunction e tokens
 neg_conj (Tick span) tokens member = member
@@ -167,7 +244,8 @@ conj_disj (Or parts) tokens member = absurd member
 conj_disj (Tick span) tokens member = member
 conj_disj _ tokens member = member
 
-conj-to : (found : Expr × List Expr) (tokens : List Token) → Both (SpellsExpr Negation) (Loop (Step words.And Negation)) found tokens → SpellsExpr Conjunction (expr_list And (found.0 ∷ found.1)) tokens
+conj-to : (found : Expr × List Expr) (tokens : List Token) → Both (SpellsExpr Negation) (Loop (Step words.And Negation)) found tokens →
+    SpellsExpr Conjunction (expr_list And (found.0 ∷ found.1)) tokens
 conj-to (e, []) tokens member = neg_conj e tokens (alone-to words.And Negation Conjunction e tokens member)
 conj-to (e, next ∷ others) tokens member = parts-to words.And Negation e next others tokens member
 
@@ -181,7 +259,8 @@ conj-from (Not e) tokens member = alone-from words.And Negation And (Not e) toke
 conj-from (Round e) tokens member = alone-from words.And Negation And (Round e) tokens member
 conj-from (Square e) tokens member = alone-from words.And Negation And (Square e) tokens member
 
-disj-to : (found : Expr × List Expr) (tokens : List Token) → Both (SpellsExpr Conjunction) (Loop (Step words.Or Conjunction)) found tokens → SpellsExpr Disjunction (expr_list Or (found.0 ∷ found.1)) tokens
+disj-to : (found : Expr × List Expr) (tokens : List Token) → Both (SpellsExpr Conjunction) (Loop (Step words.Or Conjunction)) found tokens →
+    SpellsExpr Disjunction (expr_list Or (found.0 ∷ found.1)) tokens
 disj-to (e, []) tokens member = conj_disj e tokens (alone-to words.Or Conjunction Disjunction e tokens member)
 disj-to (e, next ∷ others) tokens member = parts-to words.Or Conjunction e next others tokens member
 
@@ -230,7 +309,8 @@ abbrev nowhere : Span
 nowhere = record { start = 0; end = 0 }
 
 factor-lang : Lang class (λ v. Led factor (λ f. FactorBehind f v)) expr_nesting neg_shape
-factor-lang = choose-lang FactorBehind factor-test (record { kind = kinds.Reserved words.Tick; span = nowhere }) (TickFactor nowhere) refl (tick-arm {room = None} nowhere)
+factor-lang = choose-lang FactorBehind factor-test (record { kind = kinds.Reserved words.Tick; span = nowhere }) (TickFactor nowhere) refl
+    (tick-arm {room = None} nowhere)
 
 neg-reads : (room : ℕ) → KnownExprs (fits true room) → Reads class (λ n. neg n (exprs_inside n)) (SpellsExpr Negation) expr_nesting neg_shape (Some room)
 neg-reads room k = told-reads (SpellsExpr Negation) (choose-reads factor_rule factor-lang room (factor-arms room k)) neg-to neg-from
@@ -300,11 +380,19 @@ event-behind span (kinds.Mark marks.LeftBracket) rest SquareEvent takes v made =
 event-behind span (kinds.Reserved words.Tick) rest (TickEvent other) takes v made =
     let same : span ≡ other = cc in
     subst (λ v. SpellsEvent v (record { kind = kinds.Reserved words.Tick; span = span } ∷ rest)) made.1
-    (record { token = record { kind = kinds.Reserved words.Tick; span = span }; only = ap (λ r. record { kind = kinds.Reserved words.Tick; span = span } ∷ r) made.2; passes = ap Some same })
+    (record {
+      token = record { kind = kinds.Reserved words.Tick; span = span };
+      only = ap (λ r. record { kind = kinds.Reserved words.Tick; span = span } ∷ r) made.2;
+      passes = ap Some same;
+    })
 event-behind span (kinds.Ident text) rest (NameEvent n) takes v made =
     let same : record { text = text; span = span } ≡ n = cc in
     subst (λ v. SpellsEvent v (record { kind = kinds.Ident text; span = span } ∷ rest)) made.1
-    (record { token = record { kind = kinds.Ident text; span = span }; only = ap (λ r. record { kind = kinds.Ident text; span = span } ∷ r) made.2; passes = ap Some same })
+    (record {
+      token = record { kind = kinds.Ident text; span = span };
+      only = ap (λ r. record { kind = kinds.Ident text; span = span } ∷ r) made.2;
+      passes = ap Some same;
+    })
 event-behind span _ rest _ takes v made = cc
 
 event-to : (v : Expr) (tokens : List Token) → Led event_start (λ o. EventBehind o v) tokens → SpellsEvent v tokens
@@ -322,11 +410,32 @@ name-event span (kinds.Number value) n is = cc
 
 event-from : (v : Expr) (tokens : List Token) → SpellsEvent v tokens → Led event_start (λ o. EventBehind o v) tokens
 event-from (Tick span) tokens one =
-    record { token = one.token; value = TickEvent span; rest = []; cut = one.only; passes = tick-event one.token.span one.token.kind span one.passes; behind = (tt, refl, refl) }
+    record {
+      token = one.token;
+      value = TickEvent span;
+      rest = [];
+      cut = one.only;
+      passes = tick-event one.token.span one.token.kind span one.passes;
+      behind = (tt, refl, refl);
+    }
 event-from (Sig n) tokens one =
-    record { token = one.token; value = NameEvent n; rest = []; cut = one.only; passes = name-event one.token.span one.token.kind n one.passes; behind = (tt, refl, refl) }
+    record {
+      token = one.token;
+      value = NameEvent n;
+      rest = [];
+      cut = one.only;
+      passes = name-event one.token.span one.token.kind n one.passes;
+      behind = (tt, refl, refl);
+    }
 event-from (Square e) tokens led =
-    record { token = led.token; value = SquareEvent; rest = led.rest; cut = led.cut; passes = ap (event_at led.token.span) (mark-kind marks.LeftBracket led.token.kind tt led.passes); behind = (e, refl, led.behind) }
+    record {
+      token = led.token;
+      value = SquareEvent;
+      rest = led.rest;
+      cut = led.cut;
+      passes = ap (event_at led.token.span) (mark-kind marks.LeftBracket led.token.kind tt led.passes);
+      behind = (e, refl, led.behind);
+    }
 event-from (Not e) tokens member = absurd member
 event-from (Round e) tokens member = absurd member
 event-from (And parts) tokens member = absurd member
@@ -348,7 +457,8 @@ event-arms room (TickEvent span) = event_tick-arm span
 event-arms room (NameEvent n) = arm (λ _. Sig n) give-reads (λ _. refl) refl
 
 event-lang : Lang class (λ v. Led event_start (λ o. EventBehind o v)) expr_nesting event_shape
-event-lang = choose-lang EventBehind event-test (record { kind = kinds.Reserved words.Tick; span = nowhere }) (TickEvent nowhere) refl (event_tick-arm {room = None} nowhere)
+event-lang = choose-lang EventBehind event-test (record { kind = kinds.Reserved words.Tick; span = nowhere }) (TickEvent nowhere) refl
+    (event_tick-arm {room = None} nowhere)
 
 pub event_known : (room : Option ℕ) → Reads class event SpellsEvent expr_nesting event_shape room
 event_known None = told-reads SpellsEvent (record { lang = event-lang; laws = tt }) event-to event-from
@@ -411,16 +521,19 @@ pub count-reads : {p : ℕ → Rule Token Expr} {room : Option ℕ} → Reads cl
     Reads class (λ n. count (p n)) SpellsCount delay_nesting count_shape room
 count-reads k =
     shape-reads count_shape (told-reads SpellsCount (ahead-reads number-test
-    (mapped-reads count_of delay_nesting (both-reads (the-reads number-test) k refl) (λ _. omega arith)) (mapped-reads Plain delay_nesting k (λ _. refl)) refl refl refl refl)
+    (mapped-reads count_of delay_nesting (both-reads (the-reads number-test) k refl) (λ _. omega arith))
+    (mapped-reads Plain delay_nesting k (λ _. refl)) refl refl refl refl)
     count_to count_from) refl refl refl
 
 pub delay-reads : {p : ℕ → Rule Token Expr} {room : Option ℕ} → Reads class p SpellsEvent expr_nesting event_shape room →
     Reads class (λ n. delay (p n)) SpellsDelay delay_nesting delay_shape room
 delay-reads k =
-    shape-reads delay_shape (told-reads SpellsDelay (ahead-reads (word-test words.Immediate) (immediate-reads k) (count-reads k) refl refl refl refl) delay_to delay_from) refl refl refl
+    shape-reads delay_shape (told-reads SpellsDelay (ahead-reads (word-test words.Immediate) (immediate-reads k) (count-reads k) refl refl refl refl) delay_to
+    delay_from) refl refl refl
 
 pub test-reads : {p : ℕ → Rule Token Expr} {room : Option ℕ} → Reads class p SpellsEvent expr_nesting event_shape room →
     Reads class (λ n. test (p n)) SpellsTest delay_nesting test_shape room
 test-reads k =
-    shape-reads test_shape (told-reads SpellsTest (ahead-reads (word-test words.Immediate) (immediate-reads k) (mapped-reads Plain delay_nesting k (λ _. refl)) refl refl refl refl)
+    shape-reads test_shape (told-reads SpellsTest (ahead-reads (word-test words.Immediate) (immediate-reads k)
+    (mapped-reads Plain delay_nesting k (λ _. refl)) refl refl refl refl)
     test_to test_from) refl refl refl

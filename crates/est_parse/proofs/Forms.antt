@@ -13,5 +13,6 @@ pub form-opened : (o : Opening) (tokens rest : List Token) (room less : ℕ) →
     form room (inside room) tokens ≡ item_behind o (rules less) rest
 form-opened o tokens rest room less next deep is =
     ap (λ n. form n (inside n) tokens) is
-    ∙ ap (λ x. option_map_or {T = Opening × List Token} (λ found. entered (fits (is_deep found.0) (suc less)) (item_behind found.0 (rules less)) tokens found.1) x (refuse tokens)) next
+    ∙ ap (λ x. option_map_or {T = Opening × List Token} (λ found. entered (fits (is_deep found.0) (suc less)) (item_behind found.0 (rules less)) tokens found.1)
+    x (refuse tokens)) next
     ∙ ap (λ b. entered (fits b (suc less)) (item_behind o (rules less)) tokens rest) deep

@@ -1,5 +1,6 @@
 -- Inner: judgements on what the whole grammar uses: words, names, and lists with separators.
-use Rattle.std.proofs.Common.{◌≡◌, inl, inr, ℕ, max, false, true, IsTrue, List, [], ◌∷◌, ◌++◌, ◌<◌, length, Option, Some, None, Ok, Err, refl, sym, ◌∙◌, ap, subst, arith}
+use Rattle.std.proofs.Common.{◌≡◌, inl, inr, ℕ, max, false, true, IsTrue, List, [], ◌∷◌, ◌++◌, ◌<◌, length, Option, Some, None, Ok, Err, refl, sym, ◌∙◌, ap}
+use Rattle.std.proofs.Common.{subst, arith}
 use Rattle.est_ast.specs.declared.tokens.Token.{Token}
 use Rattle.est_ast.specs.declared.tokens.Reserved.{Reserved}
 use Rattle.est_ast.specs.declared.tokens.Reserved.TheVariants as words
@@ -36,7 +37,8 @@ abbrev pub listed_shape : Mark → Shape → Shape
 listed_shape m s = then_shape s (step_shape (or_turn (mark_class m ∷ []) s no_shape))
 
 pub listed-reads : {A : Type 0} {p : ℕ → Rule Token A} {L : A → List Token → Type 0} {d : A → ℕ} {s : Shape} {room : Option ℕ} →
-    (m : Mark) → Reads class p L d s room → IsTrue (apart s.after (mark_class m ∷ [])) → Reads class (λ n. listed m (p n)) (Listed (mark m) L) (list_depth d) (listed_shape m s) room
+    (m : Mark) → Reads class p L d s room → IsTrue (apart s.after (mark_class m ∷ [])) →
+    Reads class (λ n. listed m (p n)) (Listed (mark m) L) (list_depth d) (listed_shape m s) room
 listed-reads {A} {p} {L} {d} {s} {room} m r away =
     made-reads {A = A × List A} (λ found. found.0 ∷ found.1) (Listed (mark m) L) (list_depth d)
     (both-reads r (loop-reads (or-steps (mark-test m) r give-reads refl) away) away) (λ found. refl) (λ found tokens member. member) from
@@ -66,7 +68,8 @@ on-read {X} {A} test p tokens x behind read next is = ap (λ o. option_map_or {T
 
 after-begun : (node : Stmts → Form) (step : Rule Token (Option Stmt)) (tokens : List Token) (p : Stmt) (r : Read Token (List Stmt)) →
     finished (λ others. stmt_list node (p ∷ others)) tokens r
-    ≡ follow {B = Stmt} (follow {B = (Stmt × List Stmt) × Span} (follow {B = Stmt × List Stmt} r (λ other. give (p, other))) (λ value rest. Ok ((value, span_of (taken_of tokens rest)), rest)))
+    ≡ follow {B = Stmt} (follow {B = (Stmt × List Stmt) × Span} (follow {B = Stmt × List Stmt} r (λ other. give (p, other)))
+    (λ value rest. Ok ((value, span_of (taken_of tokens rest)), rest)))
     (λ found. give (stmt_list node (found.0.0 ∷ found.0.1) found.1))
 after-begun node step tokens p (Ok found) = refl
 after-begun node step tokens p (Err fault) = refl
@@ -76,17 +79,22 @@ pub finished-begun : (node : Stmts → Form) (part : Rule Token Stmt) (step : Ru
     part tokens ≡ Ok (p, rest) → finished (λ others. stmt_list node (p ∷ others)) tokens (loop step rest) ≡ stmt_parts node part step tokens
 finished-begun node part step tokens p rest is =
     after-begun node step tokens p (loop step rest)
-    ∙ sym (ap (λ r. follow {B = Stmt} (follow {B = (Stmt × List Stmt) × Span} (follow {B = Stmt × List Stmt} r (λ value. mapped (λ other. (value, other)) (loop step))) (λ value rest. Ok ((value, span_of (taken_of tokens rest)), rest)))
+    ∙ sym (ap (λ r. follow {B = Stmt} (follow {B = (Stmt × List Stmt) × Span}
+    (follow {B = Stmt × List Stmt} r (λ value. mapped (λ other. (value, other)) (loop step)))
+    (λ value rest. Ok ((value, span_of (taken_of tokens rest)), rest)))
     (λ found. give (stmt_list node (found.0.0 ∷ found.0.1) found.1))) is)
 
 -- one more part is read
-pub finished-grown : (step : Rule Token (Option Stmt)) → Advances step → (f : List Stmt → Span → Stmt) (front : List Stmt) (tokens from : List Token) (p : Stmt) (rest : List Token) →
+pub finished-grown : (step : Rule Token (Option Stmt)) → Advances step →
+    (f : List Stmt → Span → Stmt) (front : List Stmt) (tokens from : List Token) (p : Stmt) (rest : List Token) →
     step from ≡ Ok (Some p, rest) →
     finished (λ others. f ((front ++ p ∷ []) ++ others)) tokens (loop step rest) ≡ finished (λ others. f (front ++ others)) tokens (loop step from)
 finished-grown step advances f front tokens from p rest is =
-    sym (ap (finished (λ others. f (front ++ others)) tokens) (loop-unfolds step advances from ∙ ap (λ r. follow r (turn (loop step))) is) ∙ go (loop step rest))
+    sym (ap (finished (λ others. f (front ++ others)) tokens) (loop-unfolds step advances from ∙ ap (λ r. follow r (turn (loop step))) is)
+    ∙ go (loop step rest))
   where
-    go : (r : Read Token (List Stmt)) → finished (λ others. f (front ++ others)) tokens (follow r (λ others. give (p ∷ others))) ≡ finished (λ others. f ((front ++ p ∷ []) ++ others)) tokens r
+    go : (r : Read Token (List Stmt)) → finished (λ others. f (front ++ others)) tokens (follow r (λ others. give (p ∷ others))) ≡
+        finished (λ others. f ((front ++ p ∷ []) ++ others)) tokens r
     go (Ok found) = ap (λ parts. Ok (f parts (span_of (taken_of tokens found.1)), found.1)) (sym (append_assoc front (p ∷ []) found.0))
     go (Err fault) = refl
 

@@ -15,14 +15,16 @@ use Rattle.read_rules.specs.Languages.{Empty, One, Then, Led, Both, Loop, Option
 use Rattle.read_rules.specs.Choice.{Made, adds, fits}
 use Rattle.read_rules.specs.Readings.{Rule, both, on, the, trail, loop, whole}
 use Rattle.read_rules.proofs.Loops.{Advances}
-use Rattle.read_rules.proofs.Readers.{Shape, one_shape, Lang, Reads, the-reads, both-reads, led-reads, trail-reads, ahead-reads, mapped-reads, told-reads, made-reads, shape-reads}
+use Rattle.read_rules.proofs.Readers.{Shape, one_shape, Lang, Reads, the-reads, both-reads, led-reads, trail-reads, ahead-reads, mapped-reads, told-reads}
+use Rattle.read_rules.proofs.Readers.{made-reads, shape-reads}
 use Rattle.read_rules.proofs.Steps.{Turn, list_depth, Steps, look-steps, loop-reads, Advances-step}
 use Rattle.read_rules.proofs.Choices.{Arm, arm, choose-lang, choose-reads}
 use Rattle.read_rules.proofs.Choices.{whole-reads as exact-reads}
 use Rattle.est_parse.specs.declared.openings.Declaration.{Declaration}
 use Rattle.est_parse.specs.declared.openings.Declaration.TheVariants as declarations
 use Rattle.est_parse.specs.Openings.{declaration_of, declaration}
-use Rattle.est_parse.specs.Reading.{Related, Effect, Others, relation_of, relation, list_step, listed, declared, declaration_behind, is_deep_declaration, decl, decl_step, ends_module, statement, module_rule, module_step, program}
+use Rattle.est_parse.specs.Reading.{Related, Effect, Others, relation_of, relation, list_step, listed, declared, declaration_behind, is_deep_declaration, decl}
+use Rattle.est_parse.specs.Reading.{decl_step, ends_module, statement, module_rule, module_step, program}
 use Rattle.est_parse.proofs.TokenKinds.{word_class, mark_class, class, word-kind, word-test, mark-test, declaration_set, declaration-test}
 use Rattle.est_parse.proofs.Lists.{name-reads, listed-reads, list-advances}
 use Rattle.est_parse.proofs.StmtLaws.{statement-reads, names_depth}
@@ -34,7 +36,8 @@ Relates (Effect effect) = Led (mark marks.Arrow) (λ _. One name effect)
 Relates (Others others) = Led (mark marks.Hash) (λ _. Listed (mark marks.Hash) (One name) others)
 
 abbrev EitherRelated : Related → List Token → Type 0
-EitherRelated v tokens = Made Effect (λ n. Led (mark marks.Arrow) (λ _. One name n)) v tokens ⊎ Made Others (λ ns. Led (mark marks.Hash) (λ _. Listed (mark marks.Hash) (One name) ns)) v tokens
+EitherRelated v tokens = Made Effect (λ n. Led (mark marks.Arrow) (λ _. One name n)) v tokens
+    ⊎ Made Others (λ ns. Led (mark marks.Hash) (λ _. Listed (mark marks.Hash) (One name) ns)) v tokens
 
 related_to : (v : Related) (tokens : List Token) → EitherRelated v tokens → Relates v tokens
 related_to v tokens (inl made) = subst (λ v. Relates v tokens) made.1 made.2
@@ -59,8 +62,10 @@ relation_shape = record { starts = 60 ∷ []; empty = false; after = mark_class 
 relation-reads : {room : Option ℕ} → Reads class (λ _. relation) SpellsRelation (λ _. 0) relation_shape room
 relation-reads =
     shape-reads relation_shape (made-reads relation_of SpellsRelation (λ _. 0)
-    (both-reads name-reads (told-reads Relates (ahead-reads (mark-test marks.Arrow) (mapped-reads Effect (λ _. 0) (led-reads (mark-test marks.Arrow) name-reads) (λ _. refl))
-    (mapped-reads Others (λ _. 0) (led-reads (mark-test marks.Hash) (listed-reads marks.Hash name-reads refl)) (λ names. sym (names_depth names))) refl refl refl refl)
+    (both-reads name-reads (told-reads Relates (ahead-reads (mark-test marks.Arrow)
+    (mapped-reads Effect (λ _. 0) (led-reads (mark-test marks.Arrow) name-reads) (λ _. refl))
+    (mapped-reads Others (λ _. 0) (led-reads (mark-test marks.Hash) (listed-reads marks.Hash name-reads refl)) (λ names. sym (names_depth names))) refl refl
+    refl refl)
     related_to related_from) refl) (λ _. refl) relation_to relation_from) refl refl refl
 
 -- Declarations.
@@ -87,34 +92,93 @@ declaration-kind (kinds.Reserved words.Output) declarations.Output is = refl
 declaration-kind (kinds.Reserved words.Relation) declarations.Relation is = refl
 declaration-kind _ _ is = cc
 
-decl-behind : (token : Token) (rest : List Token) (d : Declaration) → token.kind ≡ kinds.Reserved (decl_word d) → (v : Decl) → DeclBehind d v rest → SpellsDecl v (token ∷ rest)
+decl-behind : (token : Token) (rest : List Token) (d : Declaration) → token.kind ≡ kinds.Reserved (decl_word d) → (v : Decl) → DeclBehind d v rest →
+    SpellsDecl v (token ∷ rest)
 decl-behind token rest declarations.Input is v made =
-    subst (λ v. SpellsDecl v (token ∷ rest)) made.1 (record { token = token; value = tt; rest = rest; cut = refl; passes = ap (is_word words.Input) is; behind = made.2 })
+    subst (λ v. SpellsDecl v (token ∷ rest)) made.1 (record {
+      token = token;
+      value = tt;
+      rest = rest;
+      cut = refl;
+      passes = ap (is_word words.Input) is;
+      behind = made.2;
+    })
 decl-behind token rest declarations.InputOutput is v made =
-    subst (λ v. SpellsDecl v (token ∷ rest)) made.1 (record { token = token; value = tt; rest = rest; cut = refl; passes = ap (is_word words.InputOutput) is; behind = made.2 })
+    subst (λ v. SpellsDecl v (token ∷ rest)) made.1 (record {
+      token = token;
+      value = tt;
+      rest = rest;
+      cut = refl;
+      passes = ap (is_word words.InputOutput) is;
+      behind = made.2;
+    })
 decl-behind token rest declarations.Output is v made =
-    subst (λ v. SpellsDecl v (token ∷ rest)) made.1 (record { token = token; value = tt; rest = rest; cut = refl; passes = ap (is_word words.Output) is; behind = made.2 })
+    subst (λ v. SpellsDecl v (token ∷ rest)) made.1 (record {
+      token = token;
+      value = tt;
+      rest = rest;
+      cut = refl;
+      passes = ap (is_word words.Output) is;
+      behind = made.2;
+    })
 decl-behind token rest declarations.Relation is v made =
-    subst (λ v. SpellsDecl v (token ∷ rest)) made.1 (record { token = token; value = tt; rest = rest; cut = refl; passes = ap (is_word words.Relation) is; behind = made.2 })
+    subst (λ v. SpellsDecl v (token ∷ rest)) made.1 (record {
+      token = token;
+      value = tt;
+      rest = rest;
+      cut = refl;
+      passes = ap (is_word words.Relation) is;
+      behind = made.2;
+    })
 
 decl_to : (v : Decl) (tokens : List Token) → Led declaration (λ d. DeclBehind d v) tokens → SpellsDecl v tokens
-decl_to v tokens led = subst (λ ts. SpellsDecl v ts) (sym led.cut) (decl-behind led.token led.rest led.value (declaration-kind led.token.kind led.value led.passes) v led.behind)
+decl_to v tokens led = subst (λ ts. SpellsDecl v ts) (sym led.cut)
+    (decl-behind led.token led.rest led.value (declaration-kind led.token.kind led.value led.passes) v led.behind)
 
 decl_from : (v : Decl) (tokens : List Token) → SpellsDecl v tokens → Led declaration (λ d. DeclBehind d v) tokens
 decl_from (Input names) tokens led =
-    record { token = led.token; value = declarations.Input; rest = led.rest; cut = led.cut; passes = ap declaration_of (word-kind words.Input led.token.kind tt led.passes); behind = (names, refl, led.behind) }
+    record {
+      token = led.token;
+      value = declarations.Input;
+      rest = led.rest;
+      cut = led.cut;
+      passes = ap declaration_of (word-kind words.Input led.token.kind tt led.passes);
+      behind = (names, refl, led.behind);
+    }
 decl_from (InputOutput names) tokens led =
-    record { token = led.token; value = declarations.InputOutput; rest = led.rest; cut = led.cut; passes = ap declaration_of (word-kind words.InputOutput led.token.kind tt led.passes); behind = (names, refl, led.behind) }
+    record {
+      token = led.token;
+      value = declarations.InputOutput;
+      rest = led.rest;
+      cut = led.cut;
+      passes = ap declaration_of (word-kind words.InputOutput led.token.kind tt led.passes);
+      behind = (names, refl, led.behind);
+    }
 decl_from (Output names) tokens led =
-    record { token = led.token; value = declarations.Output; rest = led.rest; cut = led.cut; passes = ap declaration_of (word-kind words.Output led.token.kind tt led.passes); behind = (names, refl, led.behind) }
+    record {
+      token = led.token;
+      value = declarations.Output;
+      rest = led.rest;
+      cut = led.cut;
+      passes = ap declaration_of (word-kind words.Output led.token.kind tt led.passes);
+      behind = (names, refl, led.behind);
+    }
 decl_from (Relations relations) tokens led =
-    record { token = led.token; value = declarations.Relation; rest = led.rest; cut = led.cut; passes = ap declaration_of (word-kind words.Relation led.token.kind tt led.passes); behind = (relations, refl, led.behind) }
+    record {
+      token = led.token;
+      value = declarations.Relation;
+      rest = led.rest;
+      cut = led.cut;
+      passes = ap declaration_of (word-kind words.Relation led.token.kind tt led.passes);
+      behind = (relations, refl, led.behind);
+    }
 
 flat : {A : Type 0} (values : List A) → list_depth (λ _. 0) values ≡ 0
 flat [] = refl
 flat (v ∷ others) = omega (arith, flat others)
 
-names-declared : {room : Option ℕ} → Reads class (λ _. declared (the name)) (Declares (One name)) (list_depth (λ _. 0)) (record { starts = 60 ∷ []; empty = false; after = [] }) room
+names-declared : {room : Option ℕ} → Reads class (λ _. declared (the name)) (Declares (One name)) (list_depth (λ _. 0))
+    (record { starts = 60 ∷ []; empty = false; after = [] }) room
 names-declared = trail-reads (listed-reads marks.Comma name-reads refl) (the-reads (mark-test marks.Semicolon)) refl
 
 abbrev decl_rule : Declaration → ℕ → Rule Token Decl
@@ -128,10 +192,12 @@ decl-arms room declarations.Input = arm Input names-declared (λ names. sym (fla
 decl-arms room declarations.InputOutput = arm InputOutput names-declared (λ names. sym (flat names)) refl
 decl-arms room declarations.Output = arm Output names-declared (λ names. sym (flat names)) refl
 decl-arms room declarations.Relation =
-    arm Relations (trail-reads (listed-reads marks.Comma relation-reads refl) (the-reads (mark-test marks.Semicolon)) refl) (λ relations. sym (flat relations)) refl
+    arm Relations (trail-reads (listed-reads marks.Comma relation-reads refl) (the-reads (mark-test marks.Semicolon)) refl)
+    (λ relations. sym (flat relations)) refl
 
 decl-lang : Lang class (λ v. Led declaration (λ d. DeclBehind d v)) (λ _. 0) decl_shape
-decl-lang = choose-lang DeclBehind declaration-test (record { kind = kinds.Reserved words.Input; span = record { start = 0; end = 0 } }) declarations.Input refl (decl-arms None declarations.Input)
+decl-lang = choose-lang DeclBehind declaration-test (record { kind = kinds.Reserved words.Input; span = record { start = 0; end = 0 } }) declarations.Input refl
+    (decl-arms None declarations.Input)
 
 decl-reads : (room : Option ℕ) → Reads class decl SpellsDecl (λ _. 0) decl_shape room
 decl-reads None = told-reads SpellsDecl (record { lang = decl-lang; laws = tt }) decl_to decl_from
@@ -145,8 +211,10 @@ decl-steps room = look-steps declaration-test (decl-reads room) refl refl
 
 -- Modules.
 
-ends-module-reads : {room : Option ℕ} → Reads class (λ _. ends_module) (λ _. EndsModule) (λ _. 0) (one_shape (mark_class marks.Period ∷ word_class words.End ∷ [])) room
-ends-module-reads = ahead-reads (mark-test marks.Period) (the-reads (mark-test marks.Period)) (led-reads (word-test words.End) (the-reads (word-test words.Module))) refl refl refl refl
+ends-module-reads : {room : Option ℕ} → Reads class (λ _. ends_module) (λ _. EndsModule) (λ _. 0)
+    (one_shape (mark_class marks.Period ∷ word_class words.End ∷ [])) room
+ends-module-reads = ahead-reads (mark-test marks.Period) (the-reads (mark-test marks.Period))
+    (led-reads (word-test words.End) (the-reads (word-test words.Module))) refl refl refl refl
 
 abbrev ModuleBehind : Module → List Token → Type 0
 ModuleBehind m =
@@ -161,7 +229,8 @@ module_shape = one_shape (word_class words.Module ∷ [])
 module-reads : (room : Option ℕ) → Reads class module_rule SpellsModule module_depth module_shape room
 module-reads room =
     led-reads (word-test words.Module) (made-reads (λ found. record { name = found.0; decls = found.1.0; body = found.1.1 }) ModuleBehind module_depth
-    (both-reads name-reads (led-reads (mark-test marks.Colon) (both-reads (loop-reads (decl-steps room) refl) (trail-reads (statement-reads room) ends-module-reads refl) refl)) refl)
+    (both-reads name-reads (led-reads (mark-test marks.Colon) (both-reads (loop-reads (decl-steps room) refl)
+    (trail-reads (statement-reads room) ends-module-reads refl) refl)) refl)
     (λ found. omega (arith, flat found.1.0)) (λ found tokens member. member) (λ m tokens member. ((m.name, (m.decls, m.body)), refl, member)))
 
 abbrev module_turn : Turn
@@ -182,7 +251,8 @@ program-reads room =
     made-reads (λ found. found.0 ∷ found.1) SpellsProgram program_nesting (both-reads (module-reads room) (loop-reads (module-steps room) refl) refl)
     (λ found. ap (max (nesting found.0.body)) (modules_depth found.1)) (λ found tokens member. member) from
   where
-    from : (v : Program) (tokens : List Token) → SpellsProgram v tokens → Made {A = Module × List Module} (λ found. found.0 ∷ found.1) (Both SpellsModule (Many SpellsModule)) v tokens
+    from : (v : Program) (tokens : List Token) → SpellsProgram v tokens →
+        Made {A = Module × List Module} (λ found. found.0 ∷ found.1) (Both SpellsModule (Many SpellsModule)) v tokens
     from [] tokens member = absurd member
     from (m ∷ others) tokens member = ((m, others), refl, member)
 

@@ -1,5 +1,6 @@
 -- Inner: judgements on statements.
-use Rattle.std.proofs.Common.{◌≡◌, ◌⊎◌, inl, inr, ℕ, zero, suc, max, true, false, List, [], ◌∷◌, ◌++◌, Bool, Option, Some, None, Ok, Err, refl, sym, ◌∙◌, ap, subst, arith}
+use Rattle.std.proofs.Common.{◌≡◌, ◌⊎◌, inl, inr, ℕ, zero, suc, max, true, false, List, [], ◌∷◌, ◌++◌, Bool, Option, Some, None, Ok, Err, refl, sym, ◌∙◌, ap}
+use Rattle.std.proofs.Common.{subst, arith}
 use Rattle.std.proofs.lemmas.List.{append-nil}
 use Rattle.est_base.specs.declared.place.Span.{Span}
 use Rattle.est_ast.specs.declared.tokens.Token.{Token}
@@ -10,9 +11,13 @@ use Rattle.est_ast.specs.declared.tokens.Mark.{Mark}
 use Rattle.est_ast.specs.declared.tokens.Mark.TheVariants as marks
 use Rattle.est_ast.specs.declared.trees.Name.{Name}
 use Rattle.est_ast.specs.declared.trees.Rename.{Rename}
-use Rattle.est_ast.specs.Trees.{Expr, Delay, Stmt, At, Form, Nothing, Pause, Halt, Emit, Sustain, Await, AwaitCase, Present, PresentCase, Every, Repeat, Abort, AbortCase, WeakAbort, Suspend, Trap, Exit, Signal, Run, Seq, Par, Group, Part, Missing, Written, Handler, NoHandler, Handled, Stmts, NoStmts, MoreStmts, Cases, NoCases, MoreCases, stmts, cases}
+use Rattle.est_ast.specs.Trees.{Expr, Delay, Stmt, At, Form, Nothing, Pause, Halt, Emit, Sustain, Await, AwaitCase, Present, PresentCase, Every, Repeat, Abort}
+use Rattle.est_ast.specs.Trees.{AbortCase, WeakAbort, Suspend, Trap, Exit, Signal, Run, Seq, Par, Group, Part, Missing, Written, Handler, NoHandler, Handled}
+use Rattle.est_ast.specs.Trees.{Stmts, NoStmts, MoreStmts, Cases, NoCases, MoreCases, stmts, cases}
 use Rattle.est_ast.specs.Trees.{Loop as LoopForm, LoopEach}
-use Rattle.est_ast.specs.Grammar.{word, mark, name, number, span_of, Over, Listed, Ends, Disjunction, SpellsExpr, SpellsEvent, SpellsDelay, SpellsCount, SpellsTest, SpellsRename, SpellsRenames, Level, Whole, Line, Item, OnLine, Spells, SpellsSeq, SpellsPar, SpellsStmts, SpellsOtherStmts, SpellsItem, SpellsPart, SpellsDo, SpellsHandler, SpellsCases, SpellsOtherCases}
+use Rattle.est_ast.specs.Grammar.{word, mark, name, number, span_of, Over, Listed, Ends, Disjunction, SpellsExpr, SpellsEvent, SpellsDelay, SpellsCount}
+use Rattle.est_ast.specs.Grammar.{SpellsTest, SpellsRename, SpellsRenames, Level, Whole, Line, Item, OnLine, Spells, SpellsSeq, SpellsPar, SpellsStmts}
+use Rattle.est_ast.specs.Grammar.{SpellsOtherStmts, SpellsItem, SpellsPart, SpellsDo, SpellsHandler, SpellsCases, SpellsOtherCases}
 use Rattle.est_ast.specs.Nesting.{expr_nesting, delay_nesting, nesting, form_nesting, part_nesting, handler_nesting, stmts_nesting, cases_nesting}
 use Rattle.read_rules.specs.Languages.{Empty, One, Then, Led, Both, Loop, Maybe, Parted, Placed}
 use Rattle.read_rules.specs.Choice.{Made, Only, adds, fits}
@@ -20,7 +25,8 @@ use Rattle.std.specs.Option.{option_map_or}
 use Rattle.read_rules.specs.Readings.{Read, Rule, picked, refuse, give, follow, mapped, both, on, the, trail, loop}
 use Rattle.read_rules.proofs.Nesting.{Below, by_room}
 use Rattle.read_rules.proofs.Loops.{Advances}
-use Rattle.read_rules.proofs.Readers.{Shape, one_shape, no_shape, then_shape, either_shape, Lang, Reads, the-reads, give-reads, both-reads, led-reads, trail-reads, ahead-reads, mapped-reads, told-reads, made-reads, placed-reads, same-reads, shape-reads}
+use Rattle.read_rules.proofs.Readers.{Shape, one_shape, no_shape, then_shape, either_shape, Lang, Reads, the-reads, give-reads, both-reads, led-reads}
+use Rattle.read_rules.proofs.Readers.{trail-reads, ahead-reads, mapped-reads, told-reads, made-reads, placed-reads, same-reads, shape-reads}
 use Rattle.read_rules.proofs.Steps.{Turn, or_turn, step_shape, step_depth, list_depth, Steps, or-steps, trailing-steps, step-reads, loop-reads, Advances-step}
 use Rattle.read_rules.proofs.Choices.{Arm, arm, choose-lang, choose-reads}
 use Rattle.est_parse.specs.declared.openings.Opening.{Opening}
@@ -29,15 +35,21 @@ use Rattle.est_parse.specs.declared.openings.Flat.TheVariants as flats
 use Rattle.est_parse.specs.declared.openings.Block.TheVariants as blocks
 use Rattle.est_parse.specs.declared.openings.Block.{Block}
 use Rattle.est_parse.specs.Openings.{kind_of, opening, is_deep}
-use Rattle.est_parse.specs.Parts.{stmt_list, part_of, handler_of, renames_of, Tail, CaseTail, DelayTail, await_of, abort_of, Choice, CaseChoice, TestChoice, present_of, loop_of, repeat_of, Head, EveryHead, RepeatHead, WeakHead, TrapHead, SignalHead}
-use Rattle.est_parse.specs.Reading.{list_step, listed, ends, delay, test, head, closing, blocked, expr, Rules, part, do_part, case_behind, case_step, case_list, tail, choice, loop_tail, repeat_parts, handler, rename, renames, item_behind, form, item, line_step, line, whole_step, whole, rules_of, rules, inside, statement}
-use Rattle.est_parse.proofs.TokenKinds.{word_class, mark_class, class, word-test, mark-test, number-test, name-test, factor_set, opening_set, opening-test, kind_test, opened-kind, kind-opens}
+use Rattle.est_parse.specs.Parts.{stmt_list, part_of, handler_of, renames_of, Tail, CaseTail, DelayTail, await_of, abort_of, Choice, CaseChoice, TestChoice}
+use Rattle.est_parse.specs.Parts.{present_of, loop_of, repeat_of, Head, EveryHead, RepeatHead, WeakHead, TrapHead, SignalHead}
+use Rattle.est_parse.specs.Reading.{list_step, listed, ends, delay, test, head, closing, blocked, expr, Rules, part, do_part, case_behind, case_step, case_list}
+use Rattle.est_parse.specs.Reading.{tail, choice, loop_tail, repeat_parts, handler, rename, renames, item_behind, form, item, line_step, line, whole_step}
+use Rattle.est_parse.specs.Reading.{whole, rules_of, rules, inside, statement}
+use Rattle.est_parse.proofs.TokenKinds.{word_class, mark_class, class, word-test, mark-test, number-test, name-test, factor_set, opening_set, opening-test}
+use Rattle.est_parse.proofs.TokenKinds.{kind_test, opened-kind, kind-opens}
 use Rattle.est_parse.proofs.Lists.{name-reads, ends_shape, ends-reads, listed-reads, list-advances}
-use Rattle.est_parse.proofs.ExprLaws.{expr_shape, event_shape, delay_shape, count_shape, test_shape, KnownExprs, exprs_alone, exprs_known, event_known, delay-reads, count-reads, test-reads}
+use Rattle.est_parse.proofs.ExprLaws.{expr_shape, event_shape, delay_shape, count_shape, test_shape, KnownExprs, exprs_alone, exprs_known, event_known}
+use Rattle.est_parse.proofs.ExprLaws.{delay-reads, count-reads, test-reads}
 
 -- what must not stand behind an item, and behind a list of items
 abbrev pub item_after : List ℕ
-item_after = mark_class marks.LeftBracket ∷ word_class words.Do ∷ word_class words.Await ∷ word_class words.Present ∷ word_class words.Loop ∷ word_class words.Every ∷ word_class words.Repeat ∷ word_class words.Abort ∷ word_class words.Trap ∷ word_class words.Signal ∷ []
+item_after = mark_class marks.LeftBracket ∷ word_class words.Do ∷ word_class words.Await ∷ word_class words.Present ∷ word_class words.Loop ∷
+    word_class words.Every ∷ word_class words.Repeat ∷ word_class words.Abort ∷ word_class words.Trap ∷ word_class words.Signal ∷ []
 
 abbrev item_shape : Shape
 item_shape = record { starts = opening_set; empty = false; after = item_after }
@@ -110,7 +122,13 @@ case_depth v = max (expr_nesting v.0) (part_nesting v.1)
 
 other_cases_to : (others : List (Expr × Part)) (tokens : List Token) → Loop OtherCase others tokens → SpellsOtherCases (cases others) tokens
 other_cases_to [] tokens member = member
-other_cases_to (c ∷ others) tokens member = record { front = member.front; back = member.back; cut = member.cut; first = member.first; second = other_cases_to others member.back member.second }
+other_cases_to (c ∷ others) tokens member = record {
+  front = member.front;
+  back = member.back;
+  cut = member.cut;
+  first = member.first;
+  second = other_cases_to others member.back member.second;
+}
 
 abbrev cases_of : Cases → List (Expr × Part)
 cases_of NoCases = []
@@ -122,10 +140,23 @@ cases-of (MoreCases event body others) = ap (MoreCases event body) (cases-of oth
 
 other_cases_from : (others : Cases) (tokens : List Token) → SpellsOtherCases others tokens → Loop OtherCase (cases_of others) tokens
 other_cases_from NoCases tokens member = member
-other_cases_from (MoreCases event body others) tokens member = record { front = member.front; back = member.back; cut = member.cut; first = member.first; second = other_cases_from others member.back member.second }
+other_cases_from (MoreCases event body others) tokens member = record {
+  front = member.front;
+  back = member.back;
+  cut = member.cut;
+  first = member.first;
+  second = other_cases_from others member.back member.second;
+}
 
-cases_to : (found : (Expr × Part) × List (Expr × Part)) (tokens : List Token) → Both FirstCase (Loop OtherCase) found tokens → SpellsCases (cases (found.0 ∷ found.1)) tokens
-cases_to found tokens member = record { front = member.front; back = member.back; cut = member.cut; first = member.first; second = other_cases_to found.1 member.back member.second }
+cases_to : (found : (Expr × Part) × List (Expr × Part)) (tokens : List Token) → Both FirstCase (Loop OtherCase) found tokens →
+    SpellsCases (cases (found.0 ∷ found.1)) tokens
+cases_to found tokens member = record {
+  front = member.front;
+  back = member.back;
+  cut = member.cut;
+  first = member.first;
+  second = other_cases_to found.1 member.back member.second;
+}
 
 cases_from : (v : Cases) (tokens : List Token) → SpellsCases v tokens →
     Made {A = (Expr × Part) × List (Expr × Part)} (λ found. cases (found.0 ∷ found.1)) (Both FirstCase (Loop OtherCase)) v tokens
@@ -198,13 +229,15 @@ choice_from (CaseChoice found q) tokens member = inl ((found, q), refl, member)
 choice_from (TestChoice e p q) tokens member = inr ((e, (p, q)), refl, member)
 
 renames_to : (o : Option (List Rename)) (tokens : List Token) →
-    Parted (mark marks.LeftBracket) (λ _ v. Led (word words.Signal) (λ _. Then (Listed (mark marks.Comma) SpellsRename v) (One (mark marks.RightBracket) tt))) Empty o tokens → SpellsRenames (renames_of o) tokens
+    Parted (mark marks.LeftBracket) (λ _ v. Led (word words.Signal) (λ _. Then (Listed (mark marks.Comma) SpellsRename v) (One (mark marks.RightBracket) tt)))
+    Empty o tokens → SpellsRenames (renames_of o) tokens
 renames_to None tokens member = member
 renames_to (Some []) tokens member = absurd member.behind.behind.first
 renames_to (Some (r ∷ others)) tokens member = member
 
 renames_from : (v : List Rename) (tokens : List Token) → SpellsRenames v tokens →
-    Made renames_of (Parted (mark marks.LeftBracket) (λ _ v. Led (word words.Signal) (λ _. Then (Listed (mark marks.Comma) SpellsRename v) (One (mark marks.RightBracket) tt))) Empty) v tokens
+    Made renames_of (Parted (mark marks.LeftBracket) (λ _ v. Led (word words.Signal)
+    (λ _. Then (Listed (mark marks.Comma) SpellsRename v) (One (mark marks.RightBracket) tt))) Empty) v tokens
 renames_from [] tokens member = (None, refl, member)
 renames_from (r ∷ others) tokens member = (Some (r ∷ others), refl, member)
 
@@ -215,7 +248,8 @@ rename_shape = one_shape (60 ∷ [])
 
 rename-reads : {room : Option ℕ} → Reads class (λ _. rename) SpellsRename (λ _. 0) rename_shape room
 rename-reads =
-    made-reads (λ found. record { actual = found.0; formal = found.1 }) SpellsRename (λ _. 0) (both-reads name-reads (led-reads (mark-test marks.Slash) name-reads) refl)
+    made-reads (λ found. record { actual = found.0; formal = found.1 }) SpellsRename (λ _. 0)
+    (both-reads name-reads (led-reads (mark-test marks.Slash) name-reads) refl)
     (λ _. refl) (λ found tokens member. member) (λ v tokens member. ((v.actual, v.formal), refl, member))
 
 abbrev renames_shape : Shape
@@ -228,7 +262,8 @@ rename_list_depth (v ∷ others) = omega (arith, rename_list_depth others)
 renames-reads : {room : Option ℕ} → Reads class (λ _. renames) SpellsRenames (λ _. 0) renames_shape room
 renames-reads =
     shape-reads renames_shape (made-reads renames_of SpellsRenames (λ _. 0)
-    (step-reads (or-steps (mark-test marks.LeftBracket) (led-reads (word-test words.Signal) (trail-reads (listed-reads marks.Comma rename-reads refl) (the-reads (mark-test marks.RightBracket)) refl)) give-reads refl))
+    (step-reads (or-steps (mark-test marks.LeftBracket) (led-reads (word-test words.Signal)
+    (trail-reads (listed-reads marks.Comma rename-reads refl) (the-reads (mark-test marks.RightBracket)) refl)) give-reads refl))
     flat renames_to renames_from) refl refl refl
   where
     flat : (o : Option (List Rename)) → 0 ≡ step_depth (list_depth (λ _. 0)) o
@@ -236,7 +271,11 @@ renames-reads =
     flat (Some v) = sym (rename_list_depth v)
 
 abbrev cases_shape : Shape
-cases_shape = record { starts = word_class words.Case ∷ []; empty = false; after = word_class words.Case ∷ word_class words.Do ∷ word_class words.And ∷ word_class words.Or ∷ whole_shape.after }
+cases_shape = record {
+  starts = word_class words.Case ∷ [];
+  empty = false;
+  after = word_class words.Case ∷ word_class words.Do ∷ word_class words.And ∷ word_class words.Or ∷ whole_shape.after;
+}
 
 abbrev else_shape : Shape
 else_shape = record { starts = word_class words.Else ∷ word_class words.End ∷ []; empty = false; after = word_class words.Present ∷ [] }
@@ -258,29 +297,39 @@ Repeated = Both (One number) (λ p. Led (word words.Times) (λ _. DoBody words.R
 
 -- where all at the room is known
 module _ (r : ℕ → Rules) (room : Option ℕ) (k : Reads class (λ n. (r n).expr) (SpellsExpr Disjunction) expr_nesting expr_shape room)
-    (j : Reads class (λ n. (r n).event) SpellsEvent expr_nesting event_shape room) (h : Reads class (λ n. (r n).whole) (Spells Whole) nesting whole_shape room) where
-  part-reads : (w : Reserved) → Reads class (λ n. part w (r n).whole) (SpellsPart w) part_nesting (step_shape (or_turn (word_class w ∷ []) whole_shape no_shape)) room
+    (j : Reads class (λ n. (r n).event) SpellsEvent expr_nesting event_shape room)
+    (h : Reads class (λ n. (r n).whole) (Spells Whole) nesting whole_shape room) where
+  part-reads : (w : Reserved) → Reads class (λ n. part w (r n).whole) (SpellsPart w) part_nesting
+      (step_shape (or_turn (word_class w ∷ []) whole_shape no_shape)) room
   part-reads w = made-reads part_of (SpellsPart w) part_nesting (step-reads (or-steps (word-test w) h give-reads refl)) part_depth (part_to w) (part_from w)
 
-  do-reads : (w : Reserved) → Reads class (λ n. do_part w (r n).whole) (SpellsDo w) part_nesting (step_shape (or_turn (word_class words.Do ∷ []) (then_shape whole_shape (ends_shape w)) no_shape)) room
+  do-reads : (w : Reserved) → Reads class (λ n. do_part w (r n).whole) (SpellsDo w) part_nesting
+      (step_shape (or_turn (word_class words.Do ∷ []) (then_shape whole_shape (ends_shape w)) no_shape)) room
   do-reads w =
-      made-reads part_of (SpellsDo w) part_nesting (step-reads (or-steps (word-test words.Do) (trail-reads h (ends-reads w) refl) give-reads refl)) part_depth (do_to w) (do_from w)
+      made-reads part_of (SpellsDo w) part_nesting (step-reads (or-steps (word-test words.Do) (trail-reads h (ends-reads w) refl) give-reads refl)) part_depth
+      (do_to w) (do_from w)
 
-  case-reads : Reads class (λ n. case_behind (r n)) Case case_depth (then_shape expr_shape (step_shape (or_turn (word_class words.Do ∷ []) whole_shape no_shape))) room
+  case-reads : Reads class (λ n. case_behind (r n)) Case case_depth
+      (then_shape expr_shape (step_shape (or_turn (word_class words.Do ∷ []) whole_shape no_shape))) room
   case-reads = both-reads k (part-reads words.Do) refl
 
-  case-steps : Steps class (λ n. case_step (r n)) OtherCase case_depth (or_turn (word_class words.Case ∷ []) (then_shape expr_shape (step_shape (or_turn (word_class words.Do ∷ []) whole_shape no_shape))) no_shape) room
+  case-steps : Steps class (λ n. case_step (r n)) OtherCase case_depth
+      (or_turn (word_class words.Case ∷ []) (then_shape expr_shape (step_shape (or_turn (word_class words.Do ∷ []) whole_shape no_shape))) no_shape) room
   case-steps = or-steps (word-test words.Case) case-reads give-reads refl
 
   cases-reads : Reads class (λ n. case_list (r n)) SpellsCases cases_nesting cases_shape room
   cases-reads =
       shape-reads cases_shape (made-reads (λ found. cases (found.0 ∷ found.1)) SpellsCases cases_nesting
-      (both-reads (led-reads (word-test words.Case) case-reads) (loop-reads case-steps refl) refl) (λ found. cases_depth (found.0 ∷ found.1)) cases_to cases_from) refl refl refl
+      (both-reads (led-reads (word-test words.Case) case-reads) (loop-reads case-steps refl) refl)
+      (λ found. cases_depth (found.0 ∷ found.1)) cases_to cases_from) refl refl refl
 
-  tail-reads : (w : Reserved) → Reads class (λ n. tail w (r n)) (Tailed w) tail_nesting (either_shape (then_shape cases_shape (ends_shape w)) (then_shape delay_shape (step_shape (or_turn (word_class words.Do ∷ []) (then_shape whole_shape (ends_shape w)) no_shape)))) room
+  tail-reads : (w : Reserved) → Reads class (λ n. tail w (r n)) (Tailed w) tail_nesting
+      (either_shape (then_shape cases_shape (ends_shape w)) (then_shape delay_shape
+      (step_shape (or_turn (word_class words.Do ∷ []) (then_shape whole_shape (ends_shape w)) no_shape)))) room
   tail-reads w =
       told-reads (Tailed w) (ahead-reads (word-test words.Case) (mapped-reads CaseTail tail_nesting (trail-reads cases-reads (ends-reads w) refl) (λ _. refl))
-      (mapped-reads (λ found. DelayTail found.0 found.1) tail_nesting (both-reads (delay-reads j) (do-reads w) refl) (λ _. refl)) refl refl refl refl) (tail_to w) (tail_from w)
+      (mapped-reads (λ found. DelayTail found.0 found.1) tail_nesting (both-reads (delay-reads j) (do-reads w) refl) (λ _. refl)) refl refl refl refl)
+      (tail_to w) (tail_from w)
 
   else-reads : Reads class (λ n. trail (part words.Else (r n).whole) (ends words.Present)) ElseEnd part_nesting else_shape room
   else-reads = shape-reads else_shape (trail-reads (part-reads words.Else) (ends-reads words.Present) refl) refl refl refl
@@ -289,15 +338,18 @@ module _ (r : ℕ → Rules) (room : Option ℕ) (k : Reads class (λ n. (r n).e
   choice-reads =
       shape-reads choice_shape (told-reads Chosen (ahead-reads (word-test words.Case)
       (mapped-reads (λ found. CaseChoice found.0 found.1) choice_nesting (both-reads cases-reads else-reads refl) (λ _. refl))
-      (mapped-reads (λ found. TestChoice found.0 found.1.0 found.1.1) choice_nesting (both-reads k (both-reads (part-reads words.Then) else-reads refl) refl) (λ _. refl))
+      (mapped-reads (λ found. TestChoice found.0 found.1.0 found.1.1) choice_nesting (both-reads k (both-reads (part-reads words.Then) else-reads refl) refl)
+      (λ _. refl))
       refl refl refl refl) choice_to choice_from) refl refl refl
 
   handler-reads : Reads class (λ n. handler (r n)) SpellsHandler handler_nesting handler_shape room
   handler-reads =
       shape-reads handler_shape (made-reads handler_of SpellsHandler handler_nesting
-      (step-reads (or-steps (word-test words.Handle) (both-reads name-reads (led-reads (word-test words.Do) h) refl) give-reads refl)) handler_depth handler_to handler_from) refl refl refl
+      (step-reads (or-steps (word-test words.Handle) (both-reads name-reads (led-reads (word-test words.Do) h) refl) give-reads refl)) handler_depth handler_to
+      handler_from) refl refl refl
 
-  loop-tail-reads : Reads class (λ n. loop_tail (r n)) (Parted (word words.Each) (λ _. SpellsCount) (Ends words.Loop)) (step_depth delay_nesting) loop_tail_shape room
+  loop-tail-reads : Reads class (λ n. loop_tail (r n)) (Parted (word words.Each) (λ _. SpellsCount) (Ends words.Loop))
+      (step_depth delay_nesting) loop_tail_shape room
   loop-tail-reads = shape-reads loop_tail_shape (step-reads (or-steps (word-test words.Each) (count-reads j) (ends-reads words.Loop) refl)) refl refl refl
 
   body-reads : (w : Reserved) → Reads class (λ n. trail (r n).whole (ends w)) (DoBody w) nesting (then_shape whole_shape (ends_shape w)) room
@@ -320,7 +372,8 @@ Behind (openings.Block blocks.Group) = Made Group (λ p. Then (Spells Whole p) (
 Behind openings.Await = Made await_of (Tailed words.Await)
 Behind openings.Present = Made present_of Chosen
 Behind (openings.Block blocks.Loop) = Made loop_of (Both (Spells Whole) (Parted (word words.Each) (λ _. SpellsCount) (Ends words.Loop)))
-Behind (openings.Block blocks.Every) = Made {A = Delay × Stmt} (λ found. Every found.0 found.1) (Both SpellsDelay (λ p. Led (word words.Do) (λ _. DoBody words.Every p)))
+Behind (openings.Block blocks.Every) = Made {A = Delay × Stmt} (λ found. Every found.0 found.1)
+    (Both SpellsDelay (λ p. Led (word words.Do) (λ _. DoBody words.Every p)))
 Behind (openings.Block blocks.Repeat) = Made repeat_of Repeated
 Behind (openings.Block blocks.Positive) = Made repeat_of (λ found. Led (word words.Repeat) (λ _. Repeated found))
 Behind (openings.Block blocks.Abort) = Made abort_of (Both (Spells Whole) (λ t. Led (word words.When) (λ _. Tailed words.Abort t)))
@@ -340,7 +393,8 @@ Behind (openings.Block blocks.Signal) =
 alone : {test : Token → Option (Unit {0})} (token : Token) (rest : List Token) → test token ≡ Some tt → Empty rest → One test tt (token ∷ rest)
 alone token rest takes none = record { token = token; only = ap (λ r. token ∷ r) none; passes = takes }
 
-leads : {test : Token → Option (Unit {0})} {M : List Token → Type 0} (token : Token) (rest : List Token) → test token ≡ Some tt → M rest → Led test (λ _. M) (token ∷ rest)
+leads : {test : Token → Option (Unit {0})} {M : List Token → Type 0} (token : Token) (rest : List Token) → test token ≡ Some tt → M rest →
+    Led test (λ _. M) (token ∷ rest)
 leads token rest takes member = record { token = token; value = tt; rest = rest; cut = refl; passes = takes; behind = member }
 
 module _ (token : Token) (rest : List Token) where
@@ -357,7 +411,8 @@ module _ (token : Token) (rest : List Token) where
   loop-item (p, None) takes member = leads token rest takes member
   loop-item (p, Some d) takes member = leads token rest takes member
 
-  abort-item : (t : Stmt × Tail) → word words.Abort token ≡ Some tt → Both (Spells Whole) (λ t. Led (word words.When) (λ _. Tailed words.Abort t)) t rest → SpellsItem (abort_of t) (token ∷ rest)
+  abort-item : (t : Stmt × Tail) → word words.Abort token ≡ Some tt → Both (Spells Whole) (λ t. Led (word words.When) (λ _. Tailed words.Abort t)) t rest →
+      SpellsItem (abort_of t) (token ∷ rest)
   abort-item (p, CaseTail found) takes member = leads token rest takes member
   abort-item (p, DelayTail d q) takes member = leads token rest takes member
 
@@ -370,9 +425,21 @@ module _ (token : Token) (rest : List Token) where
   behind-item (openings.Block blocks.Loop) v takes made = subst (λ v. SpellsItem v (token ∷ rest)) made.1 (loop-item made.0 takes made.2)
   behind-item (openings.Block blocks.Abort) v takes made = subst (λ v. SpellsItem v (token ∷ rest)) made.1 (abort-item made.0 takes made.2)
   behind-item (openings.Block blocks.Repeat) v takes made =
-      subst (λ v. SpellsItem v (token ∷ rest)) made.1 (record { front = []; back = token ∷ rest; cut = refl; first = inl refl; second = leads token rest takes made.2 })
+      subst (λ v. SpellsItem v (token ∷ rest)) made.1 (record {
+        front = [];
+        back = token ∷ rest;
+        cut = refl;
+        first = inl refl;
+        second = leads token rest takes made.2;
+      })
   behind-item (openings.Block blocks.Positive) v takes made =
-      subst (λ v. SpellsItem v (token ∷ rest)) made.1 (record { front = token ∷ []; back = rest; cut = refl; first = inr (alone token [] takes refl); second = made.2 })
+      subst (λ v. SpellsItem v (token ∷ rest)) made.1 (record {
+        front = token ∷ [];
+        back = rest;
+        cut = refl;
+        first = inr (alone token [] takes refl);
+        second = made.2;
+      })
   behind-item (openings.Flat flats.Emit) v takes made = subst (λ v. SpellsItem v (token ∷ rest)) made.1 (leads token rest takes made.2)
   behind-item (openings.Flat flats.Sustain) v takes made = subst (λ v. SpellsItem v (token ∷ rest)) made.1 (leads token rest takes made.2)
   behind-item (openings.Flat flats.Exit) v takes made = subst (λ v. SpellsItem v (token ∷ rest)) made.1 (leads token rest takes made.2)
@@ -385,14 +452,29 @@ module _ (token : Token) (rest : List Token) where
   behind-item (openings.Block blocks.Signal) v takes made = subst (λ v. SpellsItem v (token ∷ rest)) made.1 (leads token rest takes made.2)
 
 form_to : (v : Form) (tokens : List Token) → Led opening (λ o. Behind o v) tokens → SpellsItem v tokens
-form_to v tokens led = subst (λ ts. SpellsItem v ts) (sym led.cut) (behind-item led.token led.rest led.value v (opened-kind led.value led.token led.passes) led.behind)
+form_to v tokens led = subst (λ ts. SpellsItem v ts) (sym led.cut)
+    (behind-item led.token led.rest led.value v (opened-kind led.value led.token led.passes) led.behind)
 
 opens : (o : Opening) (v : Form) (tokens : List Token) {M : List Token → Type 0} → (led : Led (kind_test (kind_of o)) (λ _. M) tokens) → Behind o v led.rest →
     Led opening (λ o. Behind o v) tokens
-opens o v tokens led behind = record { token = led.token; value = o; rest = led.rest; cut = led.cut; passes = kind-opens o led.token led.passes; behind = behind }
+opens o v tokens led behind = record {
+  token = led.token;
+  value = o;
+  rest = led.rest;
+  cut = led.cut;
+  passes = kind-opens o led.token led.passes;
+  behind = behind;
+}
 
 opens_alone : (o : Opening) (v : Form) (tokens : List Token) → One (kind_test (kind_of o)) tt tokens → Behind o v [] → Led opening (λ o. Behind o v) tokens
-opens_alone o v tokens one behind = record { token = one.token; value = o; rest = []; cut = one.only; passes = kind-opens o one.token one.passes; behind = behind }
+opens_alone o v tokens one behind = record {
+  token = one.token;
+  value = o;
+  rest = [];
+  cut = one.only;
+  passes = kind-opens o one.token one.passes;
+  behind = behind;
+}
 
 form_from : (v : Form) (tokens : List Token) → SpellsItem v tokens → Led opening (λ o. Behind o v) tokens
 form_from Nothing tokens one = opens_alone (openings.Flat flats.Nothing) Nothing tokens one (tt, refl, refl)
@@ -461,7 +543,8 @@ mapped-both {A} {B} {C} f p q tokens = outer (p tokens)
     inner v (Ok found) = refl
     inner v (Err fault) = refl
 
-    outer : (r : Read Token A) → follow {B = C} (follow {B = A × B} r (λ v. mapped (λ w. (v, w)) q)) (λ found. give (f found)) ≡ follow r (λ v. mapped (λ w. f (v, w)) q)
+    outer : (r : Read Token A) → follow {B = C} (follow {B = A × B} r (λ v. mapped (λ w. (v, w)) q)) (λ found. give (f found)) ≡
+        follow r (λ v. mapped (λ w. f (v, w)) q)
     outer (Ok found) = inner found.0 (q found.1)
     outer (Err fault) = refl
 
@@ -486,16 +569,19 @@ head-word : {A X : Type 0} (w : Reserved) (h : A → Head) (p : Rule Token A) (f
     ((v : A) (rest : List Token) → follow (r.whole rest) (closing r (h v)) ≡ mapped (λ x. f (v, x)) s rest) →
     blocked r (mapped h (trail p (the (word w)))) tokens ≡ mapped f (both p (on (word w) (λ _. s))) tokens
 head-word {A} {X} w h p f r s tokens same =
-    ap (λ x. follow x (λ h rest. follow (r.whole rest) (closing r h))) (mapped-trail h p (the (word w)) tokens) ∙ outer (p tokens) ∙ sym (mapped-both f p (on (word w) (λ _. s)) tokens)
+    ap (λ x. follow x (λ h rest. follow (r.whole rest) (closing r h))) (mapped-trail h p (the (word w)) tokens) ∙ outer (p tokens)
+    ∙ sym (mapped-both f p (on (word w) (λ _. s)) tokens)
   where
     inner : (v : A) (t : List Token) (o : Option (Unit {0} × List Token)) →
-        follow (follow (option_map_or {T = Unit {0} × List Token} (λ found. give found.0 found.1) o (refuse t)) (λ _. give (h v))) (λ h rest. follow (r.whole rest) (closing r h))
+        follow (follow (option_map_or {T = Unit {0} × List Token} (λ found. give found.0 found.1) o (refuse t)) (λ _. give (h v)))
+        (λ h rest. follow (r.whole rest) (closing r h))
         ≡ follow (option_map_or {T = Unit {0} × List Token} (λ found. s found.1) o (refuse t)) (λ y. give (f (v, y)))
     inner v t None = refl
     inner v t (Some found) = same v found.1
 
     outer : (x : Read Token A) →
-        follow (follow x (λ v. mapped (λ _. h v) (the (word w)))) (λ h rest. follow (r.whole rest) (closing r h)) ≡ follow x (λ v. mapped (λ y. f (v, y)) (on (word w) (λ _. s)))
+        follow (follow x (λ v. mapped (λ _. h v) (the (word w)))) (λ h rest. follow (r.whole rest) (closing r h)) ≡
+        follow x (λ v. mapped (λ y. f (v, y)) (on (word w) (λ _. s)))
     outer (Ok found) = inner found.0 found.1 (picked (word w) found.1)
     outer (Err fault) = refl
 
@@ -510,7 +596,8 @@ word-head w p r {X} f s tokens same = go (picked (word w) tokens)
     go None = refl
     go (Some found) = same found.1
 
-repeat-is : (r : Rules) (tokens : List Token) → blocked r (mapped (λ found. RepeatHead found.0 found.1) (trail (the number) (the (word words.Times)))) tokens ≡ mapped repeat_of (repeat_parts r) tokens
+repeat-is : (r : Rules) (tokens : List Token) → blocked r (mapped (λ found. RepeatHead found.0 found.1) (trail (the number) (the (word words.Times)))) tokens ≡
+    mapped repeat_of (repeat_parts r) tokens
 repeat-is r tokens =
     head-word words.Times (λ found. RepeatHead found.0 found.1) (the number) repeat_of r (trail r.whole (ends words.Repeat)) tokens
     (λ v rest. sym (mapped-trail (λ p. Repeat v.0 v.1 p) r.whole (ends words.Repeat) rest))
@@ -523,7 +610,8 @@ block-is blocks.Every r tokens =
     (λ v rest. sym (mapped-trail (λ p. Every v p) r.whole (ends words.Every) rest))
 block-is blocks.Repeat r tokens = repeat-is r tokens
 block-is blocks.Positive r tokens =
-    word-head words.Repeat (mapped (λ found. RepeatHead found.0 found.1) (trail (the number) (the (word words.Times)))) r repeat_of (repeat_parts r) tokens (repeat-is r)
+    word-head words.Repeat (mapped (λ found. RepeatHead found.0 found.1) (trail (the number) (the (word words.Times)))) r repeat_of (repeat_parts r) tokens
+    (repeat-is r)
 block-is blocks.Abort r tokens = sym (mapped-both abort_of r.whole (on (word words.When) (λ _. tail words.Abort r)) tokens)
 block-is blocks.Weak r tokens =
     word-head words.Abort (give WeakHead) r (λ found. WeakAbort found.0 found.1) (both r.whole (on (word words.When) (λ _. delay r.event))) tokens
@@ -539,7 +627,8 @@ block-is blocks.Signal r tokens =
 abbrev form_rule : Opening → ℕ → Rule Token Form
 form_rule o n = item_behind o (inside n)
 
-nothing-arm : {room : Option ℕ} → Arm class form_nesting false item_after (λ n. form_rule (openings.Flat flats.Nothing) n) (Behind (openings.Flat flats.Nothing)) room
+nothing-arm : {room : Option ℕ} → Arm class form_nesting false item_after (λ n. form_rule (openings.Flat flats.Nothing) n)
+    (Behind (openings.Flat flats.Nothing)) room
 nothing-arm = arm (λ _. Nothing) give-reads (λ _. refl) refl
 
 await_depth : (t : Tail) → form_nesting (await_of t) ≡ suc (tail_nesting t)
@@ -563,7 +652,8 @@ names_depth [] = refl
 names_depth (n ∷ others) = omega (arith, names_depth others)
 
 -- an equal rule
-same-arm : {A : Type 0} {D : A → ℕ} {deep : Bool} {after : List ℕ} {p : ℕ → Rule Token A} {L : A → List Token → Type 0} {room : Option ℕ} (w : ℕ → Rule Token A) →
+same-arm : {A : Type 0} {D : A → ℕ} {deep : Bool} {after : List ℕ} {p : ℕ → Rule Token A} {L : A → List Token → Type 0} {room : Option ℕ}
+    (w : ℕ → Rule Token A) →
     Arm class D deep after p L room → ((n : ℕ) (tokens : List Token) → w n tokens ≡ p n tokens) → Arm class D deep after w L room
 same-arm w a same = record { d = a.d; shape = a.shape; reads = same-reads w a.reads same; below = a.below; deepens = a.deepens }
 
@@ -572,21 +662,27 @@ module _ (room : ℕ) (k : Known (fits true room)) where
   block-arms blocks.Group = arm Group (trail-reads k.whole (the-reads (mark-test marks.RightBracket)) refl) (λ _. refl) refl
   block-arms blocks.Loop = arm loop_of (both-reads k.whole (loop-tail-reads rules (fits true room) k.expr k.event k.whole) refl) loop_depth refl
   block-arms blocks.Every =
-      arm (λ found. Every found.0 found.1) (both-reads (delay-reads k.event) (led-reads (word-test words.Do) (body-reads rules (fits true room) k.expr k.event k.whole words.Every)) refl) (λ _. refl) refl
+      arm (λ found. Every found.0 found.1) (both-reads (delay-reads k.event)
+      (led-reads (word-test words.Do) (body-reads rules (fits true room) k.expr k.event k.whole words.Every)) refl) (λ _. refl) refl
   block-arms blocks.Repeat = arm repeat_of (repeat-reads rules (fits true room) k.expr k.event k.whole) (λ _. omega arith) refl
-  block-arms blocks.Positive = arm repeat_of (led-reads (word-test words.Repeat) (repeat-reads rules (fits true room) k.expr k.event k.whole)) (λ _. omega arith) refl
+  block-arms blocks.Positive = arm repeat_of (led-reads (word-test words.Repeat) (repeat-reads rules (fits true room) k.expr k.event k.whole))
+      (λ _. omega arith) refl
   block-arms blocks.Abort =
-      arm abort_of (both-reads k.whole (led-reads (word-test words.When) (tail-reads rules (fits true room) k.expr k.event k.whole words.Abort)) refl) abort_depth refl
+      arm abort_of (both-reads k.whole (led-reads (word-test words.When) (tail-reads rules (fits true room) k.expr k.event k.whole words.Abort)) refl)
+      abort_depth refl
   block-arms blocks.Weak =
-      arm (λ found. WeakAbort found.0 found.1) (led-reads (word-test words.Abort) (both-reads k.whole (led-reads (word-test words.When) (delay-reads k.event)) refl)) (λ _. refl) refl
-  block-arms blocks.Suspend = arm (λ found. Suspend found.0 found.1) (both-reads k.whole (led-reads (word-test words.When) (test-reads k.event)) refl) (λ _. refl) refl
+      arm (λ found. WeakAbort found.0 found.1) (led-reads (word-test words.Abort)
+      (both-reads k.whole (led-reads (word-test words.When) (delay-reads k.event)) refl)) (λ _. refl) refl
+  block-arms blocks.Suspend = arm (λ found. Suspend found.0 found.1) (both-reads k.whole (led-reads (word-test words.When) (test-reads k.event)) refl)
+      (λ _. refl) refl
   block-arms blocks.Trap =
       arm (λ found. Trap found.0 found.1.0 found.1.1)
       (both-reads name-reads (led-reads (word-test words.In) (both-reads k.whole
       (trail-reads (handler-reads rules (fits true room) k.expr k.event k.whole) (ends-reads words.Trap) refl) refl)) refl) (λ _. omega arith) refl
   block-arms blocks.Signal =
       arm (λ found. Signal found.0 found.1)
-      (both-reads (listed-reads marks.Comma name-reads refl) (led-reads (word-test words.In) (body-reads rules (fits true room) k.expr k.event k.whole words.Signal)) refl)
+      (both-reads (listed-reads marks.Comma name-reads refl) (led-reads (word-test words.In)
+      (body-reads rules (fits true room) k.expr k.event k.whole words.Signal)) refl)
       (λ found. omega (arith, names_depth found.0)) refl
 
   form-arms : (o : Opening) → Arm class form_nesting (is_deep o) item_after (λ n. form_rule o (adds (is_deep o) n)) (Behind o) (fits (is_deep o) room)
@@ -602,7 +698,8 @@ module _ (room : ℕ) (k : Known (fits true room)) where
   form-arms (openings.Block b) = same-arm (λ n. form_rule (openings.Block b) (suc n)) (block-arms b) (λ n tokens. block-is b (inside (suc n)) tokens)
 
 form-lang : Lang class (λ v. Led opening (λ o. Behind o v)) form_nesting item_shape
-form-lang = choose-lang Behind opening-test (record { kind = kinds.Reserved words.Nothing; span = record { start = 0; end = 0 } }) (openings.Flat flats.Nothing) refl (nothing-arm {room = None})
+form-lang = choose-lang Behind opening-test (record { kind = kinds.Reserved words.Nothing; span = record { start = 0; end = 0 } })
+    (openings.Flat flats.Nothing) refl (nothing-arm {room = None})
 
 -- Statements with their places.
 
@@ -639,11 +736,23 @@ module _ (m : Mark) (level : Level) (last : List Token → Type 0) where
 
   others_to : (others : List Stmt) (tokens : List Token) → Loop Step others tokens → SpellsOtherStmts m level last (stmts others) tokens
   others_to [] tokens member = member
-  others_to (p ∷ others) tokens member = record { front = member.front; back = member.back; cut = member.cut; first = member.first; second = others_to others member.back member.second }
+  others_to (p ∷ others) tokens member = record {
+    front = member.front;
+    back = member.back;
+    cut = member.cut;
+    first = member.first;
+    second = others_to others member.back member.second;
+  }
 
   others_from : (others : Stmts) (tokens : List Token) → SpellsOtherStmts m level last others tokens → Loop Step (stmts_of others) tokens
   others_from NoStmts tokens member = member
-  others_from (MoreStmts p others) tokens member = record { front = member.front; back = member.back; cut = member.cut; first = member.first; second = others_from others member.back member.second }
+  others_from (MoreStmts p others) tokens member = record {
+    front = member.front;
+    back = member.back;
+    cut = member.cut;
+    first = member.first;
+    second = others_from others member.back member.second;
+  }
 
   parts_to : (p next : Stmt) (others : List Stmt) (tokens : List Token) → Both (Spells level) (Loop Step) (p, next ∷ others) tokens →
       SpellsStmts m level last (MoreStmts p (MoreStmts next (stmts others))) tokens
@@ -653,7 +762,13 @@ module _ (m : Mark) (level : Level) (last : List Token → Type 0) where
         back = member.back;
         cut = member.cut;
         first = member.first;
-        second = record { front = behind.front; back = behind.back; cut = behind.cut; first = behind.first; second = others_to others behind.back behind.second };
+        second = record {
+          front = behind.front;
+          back = behind.back;
+          cut = behind.cut;
+          first = behind.first;
+          second = others_to others behind.back behind.second;
+        };
       }
 
   parts_from : (p next : Stmt) (others : Stmts) (tokens : List Token) → SpellsStmts m level last (MoreStmts p (MoreStmts next others)) tokens →
@@ -664,7 +779,13 @@ module _ (m : Mark) (level : Level) (last : List Token → Type 0) where
         back = member.back;
         cut = member.cut;
         first = member.first;
-        second = record { front = behind.front; back = behind.back; cut = behind.cut; first = behind.first; second = others_from others behind.back behind.second };
+        second = record {
+          front = behind.front;
+          back = behind.back;
+          cut = behind.cut;
+          first = behind.first;
+          second = others_from others behind.back behind.second;
+        };
       }
 
 abbrev LineStep : Option Stmt → List Token → Type 0
@@ -708,7 +829,8 @@ whole_to : (found : (Stmt × List Stmt) × Span) (tokens : List Token) → Whole
 whole_to ((At at form, []), span) tokens member =
     let both = member.1 in
     inl (subst (λ ts. Spells Line (At at form) ts) (sym (both.cut ∙ ap (λ b. both.front ++ b) both.second ∙ append-nil both.front)) both.first)
-whole_to ((p, next ∷ others), span) tokens member = whole_at (MoreStmts p (MoreStmts next (stmts others))) (member.0, parts_to marks.DoubleBar Line Empty p next others tokens member.1)
+whole_to ((p, next ∷ others), span) tokens member = whole_at (MoreStmts p (MoreStmts next (stmts others)))
+    (member.0, parts_to marks.DoubleBar Line Empty p next others tokens member.1)
   where
     whole_at : (parts : Stmts) → Over span (SpellsPar (Par parts)) tokens → Spells Whole (At span (Par parts)) tokens
     whole_at parts member = inr member
@@ -739,7 +861,8 @@ line-steps k = trailing-steps (mark-test marks.Semicolon) opening-test k refl re
 line-reads : {room : Option ℕ} → Reads class (λ n. item n (inside n)) (Spells Item) nesting item_shape room →
     Reads class (λ n. line n (inside n)) (Spells Line) nesting line_shape room
 line-reads k =
-    shape-reads line_shape (made-reads line_of (Spells Line) nesting (placed-reads span_of (both-reads k (loop-reads (line-steps k) refl) refl)) (list_depth-is Seq (λ _. refl)) line_to line_from)
+    shape-reads line_shape (made-reads line_of (Spells Line) nesting (placed-reads span_of (both-reads k (loop-reads (line-steps k) refl) refl))
+    (list_depth-is Seq (λ _. refl)) line_to line_from)
     refl refl refl
 
 abbrev whole_turn : Turn
@@ -752,7 +875,8 @@ whole-steps k = or-steps (mark-test marks.DoubleBar) k give-reads refl
 whole-reads : {room : Option ℕ} → Reads class (λ n. line n (inside n)) (Spells Line) nesting line_shape room →
     Reads class (λ n. whole n (inside n)) (Spells Whole) nesting whole_shape room
 whole-reads k =
-    shape-reads whole_shape (made-reads whole_of (Spells Whole) nesting (placed-reads span_of (both-reads k (loop-reads (whole-steps k) refl) refl)) (list_depth-is Par (λ _. refl)) whole_to whole_from)
+    shape-reads whole_shape (made-reads whole_of (Spells Whole) nesting (placed-reads span_of (both-reads k (loop-reads (whole-steps k) refl) refl))
+    (list_depth-is Par (λ _. refl)) whole_to whole_from)
     refl refl refl
 
 known_from : {room : Option ℕ} → Reads class (λ n. form n (inside n)) (λ v. Led opening (λ o. Behind o v)) form_nesting item_shape room →

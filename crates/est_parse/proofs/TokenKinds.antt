@@ -1,5 +1,6 @@
 -- Inner: the kinds of tokens as numbers, and what the tests of single tokens take.
-use Rattle.std.proofs.Common.{◌≡◌, ℕ, Bool, true, false, IsTrue, cond, eqb, ltb, eq-eqb, List, [], ◌∷◌, get_or, Option, Some, None, is_some, refl, sym, ◌∙◌, ap, subst}
+use Rattle.std.proofs.Common.{◌≡◌, ℕ, Bool, true, false, IsTrue, cond, eqb, ltb, eq-eqb, List, [], ◌∷◌, get_or, Option, Some, None, is_some, refl, sym, ◌∙◌, ap}
+use Rattle.std.proofs.Common.{subst}
 use Rattle.std.specs.Str.{bytes_eq}
 use Rattle.std.proofs.lemmas.Bool.{eqb-true}
 use Rattle.std.proofs.lemmas.Slice.Eq.{bytes_eq-Decides}
@@ -21,7 +22,8 @@ use Rattle.est_parse.specs.declared.openings.Flat.TheVariants as flats
 use Rattle.est_parse.specs.declared.openings.Block.TheVariants as blocks
 use Rattle.est_parse.specs.declared.openings.Declaration.{Declaration}
 use Rattle.est_parse.specs.declared.openings.Declaration.TheVariants as declarations
-use Rattle.est_parse.specs.Openings.{kind_of, opening_of, opening, Factor, NotFactor, factor_at, factor, Event, SquareEvent, event_at, event_start, declaration_of, declaration}
+use Rattle.est_parse.specs.Openings.{kind_of, opening_of, opening, Factor, NotFactor, factor_at, factor, Event, SquareEvent, event_at, event_start}
+use Rattle.est_parse.specs.Openings.{declaration_of, declaration}
 
 abbrev pub word_class : Reserved → ℕ
 word_class words.Abort = 0
@@ -87,10 +89,16 @@ abbrev pub class : Token → ℕ
 class token = kind_class token.kind
 
 abbrev all_words : List (ℕ × Reserved)
-all_words = (0, words.Abort) ∷ (1, words.And) ∷ (2, words.Await) ∷ (3, words.Case) ∷ (4, words.Do) ∷ (5, words.Each) ∷ (6, words.Else) ∷ (7, words.Emit) ∷ (8, words.End) ∷ (9, words.Every) ∷ (10, words.Exit) ∷ (11, words.Halt) ∷ (12, words.Handle) ∷ (13, words.Immediate) ∷ (14, words.In) ∷ (15, words.Input) ∷ (16, words.InputOutput) ∷ (17, words.Loop) ∷ (18, words.Module) ∷ (19, words.Not) ∷ (20, words.Nothing) ∷ (21, words.Or) ∷ (22, words.Output) ∷ (23, words.Pause) ∷ (24, words.Positive) ∷ (25, words.Present) ∷ (26, words.Relation) ∷ (27, words.Repeat) ∷ (28, words.Run) ∷ (29, words.Signal) ∷ (30, words.Suspend) ∷ (31, words.Sustain) ∷ (32, words.Then) ∷ (33, words.Tick) ∷ (34, words.Times) ∷ (35, words.Trap) ∷ (36, words.Weak) ∷ (37, words.When) ∷ []
+all_words = (0, words.Abort) ∷ (1, words.And) ∷ (2, words.Await) ∷ (3, words.Case) ∷ (4, words.Do) ∷ (5, words.Each) ∷ (6, words.Else) ∷ (7, words.Emit) ∷
+    (8, words.End) ∷ (9, words.Every) ∷ (10, words.Exit) ∷ (11, words.Halt) ∷ (12, words.Handle) ∷ (13, words.Immediate) ∷ (14, words.In) ∷ (15, words.Input) ∷
+    (16, words.InputOutput) ∷ (17, words.Loop) ∷ (18, words.Module) ∷ (19, words.Not) ∷ (20, words.Nothing) ∷ (21, words.Or) ∷ (22, words.Output) ∷
+    (23, words.Pause) ∷ (24, words.Positive) ∷ (25, words.Present) ∷ (26, words.Relation) ∷ (27, words.Repeat) ∷ (28, words.Run) ∷ (29, words.Signal) ∷
+    (30, words.Suspend) ∷ (31, words.Sustain) ∷ (32, words.Then) ∷ (33, words.Tick) ∷ (34, words.Times) ∷ (35, words.Trap) ∷ (36, words.Weak) ∷ (37, words.When)
+    ∷ []
 
 abbrev all_marks : List (ℕ × Mark)
-all_marks = (40, marks.Semicolon) ∷ (41, marks.DoubleBar) ∷ (42, marks.LeftBracket) ∷ (43, marks.RightBracket) ∷ (44, marks.LeftParenthesis) ∷ (45, marks.RightParenthesis) ∷ (46, marks.Comma) ∷ (47, marks.Slash) ∷ (48, marks.Colon) ∷ (49, marks.Hash) ∷ (50, marks.Arrow) ∷ (51, marks.Period) ∷ []
+all_marks = (40, marks.Semicolon) ∷ (41, marks.DoubleBar) ∷ (42, marks.LeftBracket) ∷ (43, marks.RightBracket) ∷ (44, marks.LeftParenthesis) ∷
+    (45, marks.RightParenthesis) ∷ (46, marks.Comma) ∷ (47, marks.Slash) ∷ (48, marks.Colon) ∷ (49, marks.Hash) ∷ (50, marks.Arrow) ∷ (51, marks.Period) ∷ []
 
 abbrev of_number : {A : Type 0} → A → List (ℕ × A) → ℕ → A
 of_number other [] k = other
@@ -138,7 +146,8 @@ pub mark-kind : (m : Mark) (kind : Kind) (x : Unit {0}) → is_mark m kind ≡ S
 mark-kind m (kinds.Mark o) x is = go (bytes_eq (sign o) (sign m)) refl is
   where
     go : (b : Bool) → bytes_eq (sign o) (sign m) ≡ b → cond b (Some tt) None ≡ Some x → kinds.Mark o ≡ kinds.Mark m
-    go true same is = ap kinds.Mark (sym (mark_of-head o) ∙ ap (λ bytes. mark_of (get_or bytes 0 0)) ((bytes_eq-Decides (sign o) (sign m)).0 same) ∙ mark_of-head m)
+    go true same is = ap kinds.Mark (sym (mark_of-head o) ∙ ap (λ bytes. mark_of (get_or bytes 0 0)) ((bytes_eq-Decides (sign o) (sign m)).0 same)
+        ∙ mark_of-head m)
     go false same is = cc
 mark-kind m (kinds.Reserved w) x is = cc
 mark-kind m (kinds.Ident n) x is = cc
@@ -198,7 +207,8 @@ mark-test m = record {
 }
 
 pub name-test : Test class name (60 ∷ [])
-name-test = test-of (60 ∷ []) (λ token. agrees token.span token.kind) (at_kind (kinds.Ident [])) (record { text = []; span = record { start = 0; end = 0 } }) refl
+name-test = test-of (60 ∷ []) (λ token. agrees token.span token.kind) (at_kind (kinds.Ident []))
+    (record { text = []; span = record { start = 0; end = 0 } }) refl
   where
     agrees : (span : Span) (kind : Kind) → is_some (name_at span kind) ≡ has (60 ∷ []) (kind_class kind)
     agrees span (kinds.Ident text) = refl

@@ -2,7 +2,8 @@
 use Rattle.est_ast.specs.Views.{delay_of}
 use Rattle.est_parse.specs.declared.heads.Head.{Head as CodeHead}
 use Rattle.est_parse.specs.declared.heads.Head.TheVariants as heads
-use Rattle.est_parse.specs.Parts.{Head, GroupHead, LoopHead, EveryHead, RepeatHead, AbortHead, WeakHead, SuspendHead, TrapHead, SignalHead}
+use Rattle.est_parse.specs.Parts.{Head, GroupHead, LoopHead, EveryHead, RepeatHead, AbortHead, WeakHead, SuspendHead}
+use Rattle.est_parse.specs.Parts.{TrapHead, SignalHead}
 
 abbrev pub head_of : CodeHead → Head
 head_of heads.Group = GroupHead

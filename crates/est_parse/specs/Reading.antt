@@ -8,7 +8,10 @@ use Rattle.est_ast.specs.declared.tokens.Mark.{Mark}
 use Rattle.est_ast.specs.declared.tokens.Mark.TheVariants as marks
 use Rattle.est_ast.specs.declared.trees.Name.{Name}
 use Rattle.est_ast.specs.declared.trees.Rename.{Rename}
-use Rattle.est_ast.specs.Trees.{Expr, Tick, Sig, Not, And, Or, Round, Square, Exprs, Delay, Plain, Immediate, Stmt, At, Form, Nothing, Pause, Halt, Emit, Sustain, Every, Repeat, WeakAbort, Suspend, Trap, Exit, Signal, Run, Seq, Par, Group, Part, Handler, Stmts, Cases, cases, Relation, Implies, Excludes, Decl, Input, InputOutput, Output, Relations, Module, Program}
+use Rattle.est_ast.specs.Trees.{Expr, Tick, Sig, Not, And, Or, Round, Square, Exprs, Delay, Plain, Immediate, Stmt, At}
+use Rattle.est_ast.specs.Trees.{Form, Nothing, Pause, Halt, Emit, Sustain, Every, Repeat, WeakAbort, Suspend, Trap}
+use Rattle.est_ast.specs.Trees.{Exit, Signal, Run, Seq, Par, Group, Part, Handler, Stmts, Cases, cases, Relation}
+use Rattle.est_ast.specs.Trees.{Implies, Excludes, Decl, Input, InputOutput, Output, Relations, Module, Program}
 use Rattle.est_ast.specs.Grammar.{word, mark, name, number, span_of}
 use Rattle.est_parse.specs.declared.openings.Opening.{Opening}
 use Rattle.est_parse.specs.declared.openings.Opening.TheVariants as openings
@@ -18,9 +21,15 @@ use Rattle.est_parse.specs.declared.openings.Flat.TheVariants as flats
 use Rattle.est_parse.specs.declared.openings.Block.TheVariants as blocks
 use Rattle.est_parse.specs.declared.openings.Declaration.{Declaration}
 use Rattle.est_parse.specs.declared.openings.Declaration.TheVariants as declarations
-use Rattle.est_parse.specs.Openings.{opening, is_deep, Factor, NotFactor, RoundFactor, SquareFactor, TickFactor, NameFactor, factor, is_deep_factor, Event, SquareEvent, TickEvent, NameEvent, event_start, is_deep_event, declaration}
-use Rattle.est_parse.specs.Parts.{expr_list, stmt_list, part_of, handler_of, renames_of, count_of, Tail, CaseTail, DelayTail, await_of, abort_of, Choice, CaseChoice, TestChoice, present_of, loop_of, repeat_of, Head, GroupHead, LoopHead, EveryHead, RepeatHead, AbortHead, WeakHead, SuspendHead, TrapHead, SignalHead}
-use Rattle.read_rules.specs.Readings.{Read, Rule, follow, taken_of, refuse, give, mapped, both, trail, ahead, on, the, maybe, loop, placed}
+use Rattle.est_parse.specs.Openings.{opening, is_deep, Factor, NotFactor, RoundFactor, SquareFactor, TickFactor}
+use Rattle.est_parse.specs.Openings.{NameFactor, factor, is_deep_factor, Event, SquareEvent, TickEvent, NameEvent}
+use Rattle.est_parse.specs.Openings.{event_start, is_deep_event, declaration}
+use Rattle.est_parse.specs.Parts.{expr_list, stmt_list, part_of, handler_of, renames_of, count_of, Tail, CaseTail}
+use Rattle.est_parse.specs.Parts.{DelayTail, await_of, abort_of, Choice, CaseChoice, TestChoice, present_of, loop_of}
+use Rattle.est_parse.specs.Parts.{repeat_of, Head, GroupHead, LoopHead, EveryHead, RepeatHead, AbortHead, WeakHead}
+use Rattle.est_parse.specs.Parts.{SuspendHead, TrapHead, SignalHead}
+use Rattle.read_rules.specs.Readings.{Read, Rule, follow, taken_of, refuse, give, mapped, both, trail, ahead, on, the}
+use Rattle.read_rules.specs.Readings.{maybe, loop, placed}
 use Rattle.read_rules.specs.Choice.{optional_or, may, trailing, choose}
 
 -- one or more with separators between them
@@ -123,7 +132,8 @@ abbrev pub case_step : Rules → Rule Token (Option (Expr × Part))
 case_step r = optional_or (word words.Case) (λ _. case_behind r) (give tt)
 
 abbrev pub case_list : Rules → Rule Token Cases
-case_list r = mapped (λ found. cases (found.0 ∷ found.1)) (both (on (word words.Case) (λ _. case_behind r)) (loop (case_step r)))
+case_list r = mapped (λ found. cases (found.0 ∷ found.1))
+    (both (on (word words.Case) (λ _. case_behind r)) (loop (case_step r)))
 
 abbrev pub tail : Reserved → Rules → Rule Token Tail
 tail w r =
@@ -133,7 +143,8 @@ tail w r =
 abbrev pub choice : Rules → Rule Token Choice
 choice r =
     ahead (word words.Case)
-    (mapped (λ found. CaseChoice found.0 found.1) (both (case_list r) (trail (part words.Else r.whole) (ends words.Present))))
+    (mapped (λ found. CaseChoice found.0 found.1) (both (case_list r)
+    (trail (part words.Else r.whole) (ends words.Present))))
     (mapped (λ found. TestChoice found.0 found.1.0 found.1.1)
     (both r.expr (both (part words.Then r.whole) (trail (part words.Else r.whole) (ends words.Present)))))
 
@@ -144,10 +155,12 @@ abbrev pub repeat_parts : Rules → Rule Token ((ℕ × Span) × Stmt)
 repeat_parts r = both (the number) (on (word words.Times) (λ _. trail r.whole (ends words.Repeat)))
 
 abbrev pub handler : Rules → Rule Token Handler
-handler r = mapped handler_of (optional_or (word words.Handle) (λ _. both (the name) (on (word words.Do) (λ _. r.whole))) (give tt))
+handler r = mapped handler_of (optional_or (word words.Handle)
+    (λ _. both (the name) (on (word words.Do) (λ _. r.whole))) (give tt))
 
 abbrev pub rename : Rule Token Rename
-rename = mapped (λ found. record { actual = found.0; formal = found.1 }) (both (the name) (on (mark marks.Slash) (λ _. the name)))
+rename = mapped (λ found. record { actual = found.0; formal = found.1 })
+    (both (the name) (on (mark marks.Slash) (λ _. the name)))
 
 abbrev pub renames : Rule Token (List Rename)
 renames =
@@ -171,7 +184,8 @@ head blocks.Loop event = give LoopHead
 head blocks.Every event = mapped EveryHead (trail (delay event) (the (word words.Do)))
 head blocks.Repeat event = mapped (λ found. RepeatHead found.0 found.1) (trail (the number) (the (word words.Times)))
 head blocks.Positive event =
-    on (word words.Repeat) (λ _. mapped (λ found. RepeatHead found.0 found.1) (trail (the number) (the (word words.Times))))
+    on (word words.Repeat) (λ _. mapped (λ found. RepeatHead found.0 found.1)
+    (trail (the number) (the (word words.Times))))
 head blocks.Abort event = give AbortHead
 head blocks.Weak event = on (word words.Abort) (λ _. give WeakHead)
 head blocks.Suspend event = give SuspendHead

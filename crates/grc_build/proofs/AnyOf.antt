@@ -37,7 +37,8 @@ pub wire_means : (insts : List Instance) (names : List Wire) (w : WireId) (u : W
 wire_means insts names w u h = record { fits = lt-ltb w.0 (length names) h.within; same = ap Value (h.same _) }
 
 -- a formula that may be missing is the or of at most one
-pub if_any : (insts : List Instance) (names : List Wire) (r : Option Formula) (b : Bool) (a : plain.Formula) → MeansIf insts names r b a → MeansAny insts names r (formula_if b a)
+pub if_any : (insts : List Instance) (names : List Wire) (r : Option Formula) (b : Bool) (a : plain.Formula) → MeansIf insts names r b a →
+    MeansAny insts names r (formula_if b a)
 if_any insts names None true a h = absurd (cc)
 if_any insts names None false a h = refl
 if_any insts names (Some f) true a h = record { some = omega arith; means = h.1 }

@@ -1,5 +1,6 @@
 -- The lists of emissions, instance by instance.
-use Rattle.std.proofs.Common.{◌≡◌, ℕ, ◌+◌, ◌<◌, Bool, true, false, ◌==◌, List, [], ◌∷◌, ◌++◌, length, map, get_or, set, refl, sym, ap, ◌∙◌, subst, ⊎_elim, arith, get_or-set_same, get_or-set_other}
+use Rattle.std.proofs.Common.{◌≡◌, ℕ, ◌+◌, ◌<◌, Bool, true, false, ◌==◌, List, [], ◌∷◌, ◌++◌, length, map, get_or, set, refl, sym, ap, ◌∙◌, subst, ⊎_elim}
+use Rattle.std.proofs.Common.{arith, get_or-set_same, get_or-set_other}
 use Rattle.std.specs.Prelude.{All, Vec, nat_lt, if◌then◌else◌}
 use Rattle.std.specs.List.{list_all}
 use Rattle.std.specs.declared.alloc.Global.{Global}
@@ -33,7 +34,8 @@ use Rattle.grc_build.specs.Tabled.{program_in}
 abbrev pub emits : Wire → Spot → Bool
 emits w x = emits_on w x.statement x.scope x.layer
 
-emissions-push : (w : Wire) (xs : List Spot) (x : Spot) → emissions w (xs ++ x ∷ []) ≡ emissions w xs ++ (if emits w x then Value (Go x.path x.layer) ∷ [] else [])
+emissions-push : (w : Wire) (xs : List Spot) (x : Spot) → emissions w (xs ++ x ∷ []) ≡
+    emissions w xs ++ (if emits w x then Value (Go x.path x.layer) ∷ [] else [])
 emissions-push w [] x = refl
 emissions-push w (y ∷ ys) x = by_test (emits w y) (emissions-push w ys x)
   where
@@ -44,10 +46,12 @@ emissions-push w (y ∷ ys) x = by_test (emits w y) (emissions-push w ys x)
     by_test true h = ap (λ l. Value (Go y.path y.layer) ∷ l) h
     by_test false h = h
 
-gathers_same : (names : List Wire) (list : List WireId) (w : Wire) (xs : List Spot) (x : Spot) → emits w x ≡ false → Gathers names list w xs → Gathers names list w (xs ++ x ∷ [])
+gathers_same : (names : List Wire) (list : List WireId) (w : Wire) (xs : List Spot) (x : Spot) → emits w x ≡ false → Gathers names list w xs →
+    Gathers names list w (xs ++ x ∷ [])
 gathers_same names list w xs x e g = record {
   fits = g.fits;
-  same = g.same ∙ sym (append-nil (emissions w xs)) ∙ (λ i. emissions w xs ++ (if sym e i then Value (Go x.path x.layer) ∷ [] else [])) ∙ sym (emissions-push w xs x);
+  same = g.same ∙ sym (append-nil (emissions w xs)) ∙ (λ i. emissions w xs ++ (if sym e i then Value (Go x.path x.layer) ∷ [] else []))
+      ∙ sym (emissions-push w xs x);
 }
 
 gathers_more : (names : List Wire) (list : List WireId) (w : Wire) (xs : List Spot) (x : Spot) (v : WireId) → emits w x ≡ true
@@ -90,7 +94,8 @@ same_layer-true (Started q) (Started r) h = ap Started (eqb-true q r h)
 
 -- ---- the lists
 
-pub none_emitted : (t : Tables) (m : Emitters) (xs : List Spot) (x : Spot) → ((w : Wire) → emits w x ≡ false) → AreEmitters t m xs → AreEmitters t m (xs ++ x ∷ [])
+pub none_emitted : (t : Tables) (m : Emitters) (xs : List Spot) (x : Spot) → ((w : Wire) → emits w x ≡ false) → AreEmitters t m xs →
+    AreEmitters t m (xs ++ x ∷ [])
 none_emitted t m xs x e h = record {
   each_local = h.each_local;
   each_out = h.each_out;
@@ -98,7 +103,8 @@ none_emitted t m xs x e h = record {
   outs = λ k l. gathers_same (names_in t.wires) (list_at m.outs.items k) (Out ((program_in t).inputs + k)) xs x (e _) (h.outs k l);
 }
 
-read_set : (lists : List (List WireId)) (new : List (List WireId)) (j i : ℕ) (v : List WireId) → new ≡ set lists j v → j < length lists → (i ≡ j → ⊥) → get_or new i [] ≡ get_or lists i []
+read_set : (lists : List (List WireId)) (new : List (List WireId)) (j i : ℕ) (v : List WireId) → new ≡ set lists j v → j < length lists → (i ≡ j → ⊥) →
+    get_or new i [] ≡ get_or lists i []
 read_set lists new j i v e l d = ap (λ y. get_or y i []) e ∙ get_or-set_other lists j i v [] d
 
 read_own : (lists : List (List WireId)) (new : List (List WireId)) (j : ℕ) (v : List WireId) → new ≡ set lists j v → j < length lists → get_or new j [] ≡ v
@@ -133,7 +139,8 @@ out_emitted t m new xs x s k v e b z lt n o len loc h =
           (λ d.
           let w = Out ((program_in t).inputs + i) in
           subst (λ q. Gathers names q w (xs ++ x ∷ [])) (sym (read_set (map (λ y. y.items) m.outs.items) (map (λ y. y.items) new.outs.items) k i _ o inside d))
-          (gathers_same names (list_at m.outs.items i) w xs x (emits_by w x s Outgoing e b ∙ ne_eqb s _ (λ y. d (let q : i ≡ k = omega (arith, y, z) in q))) (h.outs i l)))
+          (gathers_same names (list_at m.outs.items i) w xs x (emits_by w x s Outgoing e b ∙ ne_eqb s _ (λ y. d (let q : i ≡ k = omega (arith, y, z) in q)))
+          (h.outs i l)))
           (cases_eq i k);
     }
 
@@ -153,20 +160,24 @@ local_emitted t m new xs x s b j v e f y n o len out h =
     let at : instance_at insts j ≡ record { path = b; layer = layer_above b x.layer } = y.same _ in
     let inside : j < length (map (λ y. y.items) m.locals.items) = omega (arith, length-map m.locals.items (λ y. y.items), h.each_local, y.within) in
     let own : same_wire (StatusOf b (layer_above b x.layer)) (status_at t j) ≡ true
-    = (λ i. same_wire (StatusOf b (layer_above b x.layer)) (StatusOf (at i).path (at i).layer)) ∙ and_from (b == b) _ (eq-eqb b b refl) (same_layer-self (layer_above b x.layer)) in
+    = (λ i. same_wire (StatusOf b (layer_above b x.layer)) (StatusOf (at i).path (at i).layer))
+    ∙ and_from (b == b) _ (eq-eqb b b refl) (same_layer-self (layer_above b x.layer)) in
     record {
       each_local = len ∙ h.each_local;
       each_out = ap length out ∙ h.each_out;
       outs = λ k l.
           subst (λ q. Gathers names (list_at q k) (Out ((program_in t).inputs + k)) (xs ++ x ∷ [])) (sym out)
-          (gathers_same names (list_at m.outs.items k) (Out ((program_in t).inputs + k)) xs x (emits_by (Out ((program_in t).inputs + k)) x s (BoundAt b) e f) (h.outs k l));
+          (gathers_same names (list_at m.outs.items k) (Out ((program_in t).inputs + k)) xs x (emits_by (Out ((program_in t).inputs + k)) x s (BoundAt b) e f)
+          (h.outs k l));
       locals = λ i l. ⊎_elim
           (λ z.
           subst (λ q. Gathers names (list_at new.locals.items q) (status_at t q) (xs ++ x ∷ [])) (sym z)
-          (subst (λ q. Gathers names q (status_at t j) (xs ++ x ∷ [])) (sym (read_own (map (λ y. y.items) m.locals.items) (map (λ y. y.items) new.locals.items) j _ o inside))
+          (subst (λ q. Gathers names q (status_at t j) (xs ++ x ∷ []))
+          (sym (read_own (map (λ y. y.items) m.locals.items) (map (λ y. y.items) new.locals.items) j _ o inside))
           (gathers_more names (list_at m.locals.items j) (status_at t j) xs x v (emits_by (status_at t j) x s (BoundAt b) e f ∙ own) n (h.locals j y.within))))
           (λ d.
-          subst (λ q. Gathers names q (status_at t i) (xs ++ x ∷ [])) (sym (read_set (map (λ y. y.items) m.locals.items) (map (λ y. y.items) new.locals.items) j i _ o inside d))
+          subst (λ q. Gathers names q (status_at t i) (xs ++ x ∷ [])) (sym
+          (read_set (map (λ y. y.items) m.locals.items) (map (λ y. y.items) new.locals.items) j i _ o inside d))
           (gathers_same names (list_at m.locals.items i) (status_at t i) xs x (emits_by (status_at t i) x s (BoundAt b) e f ∙ other i l d) (h.locals i l)))
           (cases_eq i j);
     }
@@ -214,7 +225,8 @@ any_of_wires insts names list copy e some h = record {
   where
     all_fit : (l : List WireId) → All (λ w. w.0 < length names) l → list_all (λ w. nat_lt w.0 (length names)) l ≡ true
     all_fit [] g = refl
-    all_fit (w ∷ ws) g = and_from _ _ (lt-ltb w.0 (length names) (All-head (λ w. w.0 < length names) w ws g)) (all_fit ws (All-tail (λ w. w.0 < length names) w ws g))
+    all_fit (w ∷ ws) g = and_from _ _ (lt-ltb w.0 (length names) (All-head (λ w. w.0 < length names) w ws g))
+        (all_fit ws (All-tail (λ w. w.0 < length names) w ws g))
 
 abbrev pub is_emit : Term → Bool
 is_emit Nothing = false

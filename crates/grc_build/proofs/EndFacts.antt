@@ -21,7 +21,8 @@ use Rattle.grc_graph.proofs.RowFacts.{Placed, program_placed}
 use Rattle.grc_graph.proofs.RowSpots.{length-rows, stands_one, stands_first, stands_second, row_read}
 use Rattle.grc_graph.proofs.WireNames.{IsEnd}
 use Rattle.grc_build.specs.declared.tables.Tables.{Tables}
-use Rattle.grc_build.specs.Ending.{IsEnding, IsParallel, Tells, TellsLive, end_if, held_upto, held_end, suspension_ends, sequence_ends, loop_ends, parallel_formula}
+use Rattle.grc_build.specs.Ending.{IsEnding, IsParallel, Tells, TellsLive, end_if, held_upto, held_end, suspension_ends, sequence_ends, loop_ends}
+use Rattle.grc_build.specs.Ending.{parallel_formula}
 use Rattle.grc_build.specs.Meanings.{formula_if}
 use Rattle.est_base.specs.declared.place.Span.{Span}
 use Rattle.grc_build.specs.Tabled.{program_in, row_in, AreTables}
@@ -49,7 +50,8 @@ pub record PartRow (t : Tables) (c : ℕ) (a : Liveness) (q : Term) : Type 0 whe
   pub live : (row_in t c).live ≡ a
   pub statement : (row_in t c).statement ≡ q
 
-part_row : (t : Tables) (c k : ℕ) (a : Liveness) (B : Scope) (x : Entry) (q : Term) → StandsAt (program_rows (program_in t)) c (rows a B x q c) → PartRow t c a q
+part_row : (t : Tables) (c k : ℕ) (a : Liveness) (B : Scope) (x : Entry) (q : Term) → StandsAt (program_rows (program_in t)) c (rows a B x q c) →
+    PartRow t c a q
 part_row t c k a B x q h =
     let r = row_read (program_rows (program_in t)) a B x q c h in
     record { within = within_rows t c r.within; live = ap (λ y. y.live) r.same; statement = ap (λ y. y.statement) r.same }
@@ -59,64 +61,85 @@ stands_as : (t : Tables) (n : ℕ) (s : Term) → Placed (program_rows (program_
     → StandsAt (program_rows (program_in t)) n (rows (row_in t n).live (row_in t n).scope (row_in t n).entry s n)
 stands_as t n s p e = subst (λ v. StandsAt (program_rows (program_in t)) n (rows (row_in t n).live (row_in t n).scope (row_in t n).entry v n)) e p.stands
 
-pub present_first : (t : Tables) (n : ℕ) (e : Expression) (p q : Term) → Placed (program_rows (program_in t)) n → (row_in t n).statement ≡ Present e p q → PartRow t (n + 1) (part_liveness (row_in t n).live p) p
+pub present_first : (t : Tables) (n : ℕ) (e : Expression) (p q : Term) → Placed (program_rows (program_in t)) n → (row_in t n).statement ≡ Present e p q →
+    PartRow t (n + 1) (part_liveness (row_in t n).live p) p
 present_first t n e p q h s =
     part_row t (n + 1) 0 (part_liveness (row_in t n).live p) (row_in t n).scope (Then n e) p
-    (stands_first (program_rows (program_in t)) n (row (row_in t n).live (row_in t n).scope (row_in t n).entry (Present e p q) (n + 1 + statement_count p)) (rows (part_liveness (row_in t n).live p) (row_in t n).scope (Then n e) p (n + 1))
+    (stands_first (program_rows (program_in t)) n (row (row_in t n).live (row_in t n).scope (row_in t n).entry (Present e p q) (n + 1 + statement_count p))
+    (rows (part_liveness (row_in t n).live p) (row_in t n).scope (Then n e) p (n + 1))
     (rows (part_liveness (row_in t n).live q) (row_in t n).scope (Else n e) q (n + 1 + statement_count p)) (stands_as t n (Present e p q) h s))
 
 pub present_second : (t : Tables) (n : ℕ) (e : Expression) (p q : Term) → Placed (program_rows (program_in t)) n → (row_in t n).statement ≡ Present e p q
     → PartRow t (n + 1 + statement_count p) (part_liveness (row_in t n).live q) q
 present_second t n e p q h s =
     part_row t (n + 1 + statement_count p) 0 (part_liveness (row_in t n).live q) (row_in t n).scope (Else n e) q
-    (stands_second (program_rows (program_in t)) n (row (row_in t n).live (row_in t n).scope (row_in t n).entry (Present e p q) (n + 1 + statement_count p)) p (rows (part_liveness (row_in t n).live p) (row_in t n).scope (Then n e) p (n + 1))
-    (rows (part_liveness (row_in t n).live q) (row_in t n).scope (Else n e) q (n + 1 + statement_count p)) (length-rows (part_liveness (row_in t n).live p) (row_in t n).scope (Then n e) p (n + 1)) (stands_as t n (Present e p q) h s))
+    (stands_second (program_rows (program_in t)) n (row (row_in t n).live (row_in t n).scope (row_in t n).entry (Present e p q) (n + 1 + statement_count p)) p
+    (rows (part_liveness (row_in t n).live p) (row_in t n).scope (Then n e) p (n + 1))
+    (rows (part_liveness (row_in t n).live q) (row_in t n).scope (Else n e) q (n + 1 + statement_count p))
+    (length-rows (part_liveness (row_in t n).live p) (row_in t n).scope (Then n e) p (n + 1)) (stands_as t n (Present e p q) h s))
 
-pub seq_first : (t : Tables) (n : ℕ) (p q : Term) → Placed (program_rows (program_in t)) n → (row_in t n).statement ≡ Seq p q → PartRow t (n + 1) (part_liveness (row_in t n).live p) p
+pub seq_first : (t : Tables) (n : ℕ) (p q : Term) → Placed (program_rows (program_in t)) n → (row_in t n).statement ≡ Seq p q →
+    PartRow t (n + 1) (part_liveness (row_in t n).live p) p
 seq_first t n p q h s =
     part_row t (n + 1) 0 (part_liveness (row_in t n).live p) (row_in t n).scope (Branch n) p
-    (stands_first (program_rows (program_in t)) n (row (row_in t n).live (row_in t n).scope (row_in t n).entry (Seq p q) (n + 1 + statement_count p)) (rows (part_liveness (row_in t n).live p) (row_in t n).scope (Branch n) p (n + 1))
-    (rows (second_liveness (row_in t n).live p q (n + 1 + statement_count p)) (row_in t n).scope (Second n) q (n + 1 + statement_count p)) (stands_as t n (Seq p q) h s))
+    (stands_first (program_rows (program_in t)) n (row (row_in t n).live (row_in t n).scope (row_in t n).entry (Seq p q) (n + 1 + statement_count p))
+    (rows (part_liveness (row_in t n).live p) (row_in t n).scope (Branch n) p (n + 1))
+    (rows (second_liveness (row_in t n).live p q (n + 1 + statement_count p)) (row_in t n).scope (Second n) q (n + 1 + statement_count p))
+    (stands_as t n (Seq p q) h s))
 
 pub seq_second : (t : Tables) (n : ℕ) (p q : Term) → Placed (program_rows (program_in t)) n → (row_in t n).statement ≡ Seq p q
     → PartRow t (n + 1 + statement_count p) (second_liveness (row_in t n).live p q (n + 1 + statement_count p)) q
 seq_second t n p q h s =
     part_row t (n + 1 + statement_count p) 0 (second_liveness (row_in t n).live p q (n + 1 + statement_count p)) (row_in t n).scope (Second n) q
-    (stands_second (program_rows (program_in t)) n (row (row_in t n).live (row_in t n).scope (row_in t n).entry (Seq p q) (n + 1 + statement_count p)) p (rows (part_liveness (row_in t n).live p) (row_in t n).scope (Branch n) p (n + 1))
-    (rows (second_liveness (row_in t n).live p q (n + 1 + statement_count p)) (row_in t n).scope (Second n) q (n + 1 + statement_count p)) (length-rows (part_liveness (row_in t n).live p) (row_in t n).scope (Branch n) p (n + 1)) (stands_as t n (Seq p q) h s))
+    (stands_second (program_rows (program_in t)) n (row (row_in t n).live (row_in t n).scope (row_in t n).entry (Seq p q) (n + 1 + statement_count p)) p
+    (rows (part_liveness (row_in t n).live p) (row_in t n).scope (Branch n) p (n + 1))
+    (rows (second_liveness (row_in t n).live p q (n + 1 + statement_count p)) (row_in t n).scope (Second n) q (n + 1 + statement_count p))
+    (length-rows (part_liveness (row_in t n).live p) (row_in t n).scope (Branch n) p (n + 1)) (stands_as t n (Seq p q) h s))
 
-pub par_first : (t : Tables) (n : ℕ) (p q : Term) → Placed (program_rows (program_in t)) n → (row_in t n).statement ≡ Par p q → PartRow t (n + 1) (part_liveness (row_in t n).live p) p
+pub par_first : (t : Tables) (n : ℕ) (p q : Term) → Placed (program_rows (program_in t)) n → (row_in t n).statement ≡ Par p q →
+    PartRow t (n + 1) (part_liveness (row_in t n).live p) p
 par_first t n p q h s =
     part_row t (n + 1) 0 (part_liveness (row_in t n).live p) (row_in t n).scope (Branch n) p
-    (stands_first (program_rows (program_in t)) n (row (row_in t n).live (row_in t n).scope (row_in t n).entry (Par p q) (n + 1 + statement_count p)) (rows (part_liveness (row_in t n).live p) (row_in t n).scope (Branch n) p (n + 1))
+    (stands_first (program_rows (program_in t)) n (row (row_in t n).live (row_in t n).scope (row_in t n).entry (Par p q) (n + 1 + statement_count p))
+    (rows (part_liveness (row_in t n).live p) (row_in t n).scope (Branch n) p (n + 1))
     (rows (part_liveness (row_in t n).live q) (row_in t n).scope (Branch n) q (n + 1 + statement_count p)) (stands_as t n (Par p q) h s))
 
 pub par_second : (t : Tables) (n : ℕ) (p q : Term) → Placed (program_rows (program_in t)) n → (row_in t n).statement ≡ Par p q
     → PartRow t (n + 1 + statement_count p) (part_liveness (row_in t n).live q) q
 par_second t n p q h s =
     part_row t (n + 1 + statement_count p) 0 (part_liveness (row_in t n).live q) (row_in t n).scope (Branch n) q
-    (stands_second (program_rows (program_in t)) n (row (row_in t n).live (row_in t n).scope (row_in t n).entry (Par p q) (n + 1 + statement_count p)) p (rows (part_liveness (row_in t n).live p) (row_in t n).scope (Branch n) p (n + 1))
-    (rows (part_liveness (row_in t n).live q) (row_in t n).scope (Branch n) q (n + 1 + statement_count p)) (length-rows (part_liveness (row_in t n).live p) (row_in t n).scope (Branch n) p (n + 1)) (stands_as t n (Par p q) h s))
+    (stands_second (program_rows (program_in t)) n (row (row_in t n).live (row_in t n).scope (row_in t n).entry (Par p q) (n + 1 + statement_count p)) p
+    (rows (part_liveness (row_in t n).live p) (row_in t n).scope (Branch n) p (n + 1))
+    (rows (part_liveness (row_in t n).live q) (row_in t n).scope (Branch n) q (n + 1 + statement_count p))
+    (length-rows (part_liveness (row_in t n).live p) (row_in t n).scope (Branch n) p (n + 1)) (stands_as t n (Par p q) h s))
 
-pub suspend_part : (t : Tables) (n : ℕ) (e : Expression) (p : Term) → Placed (program_rows (program_in t)) n → (row_in t n).statement ≡ Suspend e p → PartRow t (n + 1) (part_liveness (row_in t n).live p) p
+pub suspend_part : (t : Tables) (n : ℕ) (e : Expression) (p : Term) → Placed (program_rows (program_in t)) n → (row_in t n).statement ≡ Suspend e p →
+    PartRow t (n + 1) (part_liveness (row_in t n).live p) p
 suspend_part t n e p h e' =
     part_row t (n + 1) 0 (part_liveness (row_in t n).live p) (row_in t n).scope (Suspended n e) p
-    (stands_one (program_rows (program_in t)) n (row (row_in t n).live (row_in t n).scope (row_in t n).entry (Suspend e p) 0) (rows (part_liveness (row_in t n).live p) (row_in t n).scope (Suspended n e) p (n + 1)) (stands_as t n (Suspend e p) h e'))
+    (stands_one (program_rows (program_in t)) n (row (row_in t n).live (row_in t n).scope (row_in t n).entry (Suspend e p) 0)
+    (rows (part_liveness (row_in t n).live p) (row_in t n).scope (Suspended n e) p (n + 1)) (stands_as t n (Suspend e p) h e'))
 
-pub loop_part : (t : Tables) (n : ℕ) (at : Span) (p : Term) → Placed (program_rows (program_in t)) n → (row_in t n).statement ≡ Loop at p → PartRow t (n + 1) (loop_liveness (row_in t n).live p (n + 1)) p
+pub loop_part : (t : Tables) (n : ℕ) (at : Span) (p : Term) → Placed (program_rows (program_in t)) n → (row_in t n).statement ≡ Loop at p →
+    PartRow t (n + 1) (loop_liveness (row_in t n).live p (n + 1)) p
 loop_part t n at p h e' =
     part_row t (n + 1) 0 (loop_liveness (row_in t n).live p (n + 1)) (row_in t n).scope (Looped n) p
-    (stands_one (program_rows (program_in t)) n (row (row_in t n).live (row_in t n).scope (row_in t n).entry (Loop at p) 0) (rows (loop_liveness (row_in t n).live p (n + 1)) (row_in t n).scope (Looped n) p (n + 1)) (stands_as t n (Loop at p) h e'))
+    (stands_one (program_rows (program_in t)) n (row (row_in t n).live (row_in t n).scope (row_in t n).entry (Loop at p) 0)
+    (rows (loop_liveness (row_in t n).live p (n + 1)) (row_in t n).scope (Looped n) p (n + 1)) (stands_as t n (Loop at p) h e'))
 
-pub trap_part : (t : Tables) (n : ℕ) (p : Term) → Placed (program_rows (program_in t)) n → (row_in t n).statement ≡ Trap p → PartRow t (n + 1) (part_liveness (row_in t n).live p) p
+pub trap_part : (t : Tables) (n : ℕ) (p : Term) → Placed (program_rows (program_in t)) n → (row_in t n).statement ≡ Trap p →
+    PartRow t (n + 1) (part_liveness (row_in t n).live p) p
 trap_part t n p h e' =
     part_row t (n + 1) 0 (part_liveness (row_in t n).live p) (row_in t n).scope (Part n) p
-    (stands_one (program_rows (program_in t)) n (row (row_in t n).live (row_in t n).scope (row_in t n).entry (Trap p) 0) (rows (part_liveness (row_in t n).live p) (row_in t n).scope (Part n) p (n + 1)) (stands_as t n (Trap p) h e'))
+    (stands_one (program_rows (program_in t)) n (row (row_in t n).live (row_in t n).scope (row_in t n).entry (Trap p) 0)
+    (rows (part_liveness (row_in t n).live p) (row_in t n).scope (Part n) p (n + 1)) (stands_as t n (Trap p) h e'))
 
-pub local_part : (t : Tables) (n : ℕ) (s : ℕ) (p : Term) → Placed (program_rows (program_in t)) n → (row_in t n).statement ≡ Local s p → PartRow t (n + 1) (part_liveness (row_in t n).live p) p
+pub local_part : (t : Tables) (n : ℕ) (s : ℕ) (p : Term) → Placed (program_rows (program_in t)) n → (row_in t n).statement ≡ Local s p →
+    PartRow t (n + 1) (part_liveness (row_in t n).live p) p
 local_part t n s p h e' =
     part_row t (n + 1) 0 (part_liveness (row_in t n).live p) (bind (row_in t n).scope s n) (Part n) p
-    (stands_one (program_rows (program_in t)) n (row (row_in t n).live (row_in t n).scope (row_in t n).entry (Local s p) 0) (rows (part_liveness (row_in t n).live p) (bind (row_in t n).scope s n) (Part n) p (n + 1)) (stands_as t n (Local s p) h e'))
+    (stands_one (program_rows (program_in t)) n (row (row_in t n).live (row_in t n).scope (row_in t n).entry (Local s p) 0)
+    (rows (part_liveness (row_in t n).live p) (bind (row_in t n).scope s n) (Part n) p (n + 1)) (stands_as t n (Local s p) h e'))
 
 -- ---- conditions
 
@@ -158,7 +181,8 @@ bounded t c q a l k h r e =
     codes_below-kernel (row_in t c).statement l k (program_kernel (program_in t) c (kernel_of t) h.formed.body r.within)
     (subst (λ v. instance_codes v l k ≡ true) (sym r.statement) e)
 
-by_row : (t : Tables) (c k : ℕ) (l : Layer) (a : Liveness) (q : Term) (b : Bool) → AreTables t → PartRow t c a q → (live_in a l && instance_codes q l k) ≡ b → Tells t (End c l k) b
+by_row : (t : Tables) (c k : ℕ) (l : Layer) (a : Liveness) (q : Term) (b : Bool) → AreTables t → PartRow t c a q → (live_in a l && instance_codes q l k) ≡ b →
+    Tells t (End c l k) b
 by_row t c k l a q b h r e =
     subst (Tells t (End c l k)) ((λ i. live_in (r.live i) l && instance_codes (r.statement i) l k) ∙ e) (tells_end t c k l h r.within)
 
@@ -168,7 +192,8 @@ part_tells t n c k l q h i r = by_row t c k l (part_liveness (row_in t n).live q
 
 pub loop_tells : (t : Tables) (n c k : ℕ) (l : Layer) (q : Term) → AreTables t → Here t n l → PartRow t c (loop_liveness (row_in t n).live q c) q
     → Tells t (End c l k) (instance_codes q l k)
-loop_tells t n c k l q h i r = by_row t c k l (loop_liveness (row_in t n).live q c) q _ h r (loop_bool (row_in t n).live q c l k (bounded t c q _ l k h r) i.live)
+loop_tells t n c k l q h i r = by_row t c k l (loop_liveness (row_in t n).live q c) q _ h r
+    (loop_bool (row_in t n).live q c l k (bounded t c q _ l k h r) i.live)
 
 -- where the second part of a sequence has a code, in a layer of the sequence
 abbrev pub second_code : Term → Term → Layer → ℕ → Bool
@@ -229,7 +254,8 @@ regroup : (a i b x : Bool) (n c d k : ℕ)
 regroup a i b x n c d k =
     λ j. Conjunction (any_of (formula_if a (held_upto c k) ++ branch_over n c ∷ []))
     (Conjunction (any_of (formula_if i (held_upto d k) ++ branch_over n d ∷ []))
-    (any_of (sym (append_assoc (formula_if b (held_end c k)) (formula_if (k == 0) (branch_over n c)) (formula_if x (held_end d k) ++ formula_if (k == 0) (branch_over n d))) j)))
+    (any_of (sym (append_assoc (formula_if b (held_end c k)) (formula_if (k == 0) (branch_over n c))
+    (formula_if x (held_end d k) ++ formula_if (k == 0) (branch_over n d))) j)))
 
 pub parallel_same : (t : Tables) (B : Scope) (p q : Term) (n c d : ℕ) (l : Layer) (k : ℕ) → c ≡ n + 1 → d ≡ n + 1 + statement_count p
     → Here t n l
@@ -244,7 +270,8 @@ parallel_same t B p q n c d Resumed k e f h r s =
     (resumed_codes p k) (resumed_codes q k) n (e i) (f i) Resumed k)
     ∙ regroup (has_code (resumed_codes p)) (has_code (resumed_codes q)) (resumed_codes p k) (resumed_codes q k) n (n + 1) (n + 1 + statement_count p) k
 parallel_same t B p q n c d (Started v) k e f h r s =
-    λ i. parallel_formula (live_in (row_in t c).live Resumed) (live_in (row_in t d).live Resumed) (started_codes p k) (started_codes q k) n (e i) (f i) (Started v) k
+    λ i. parallel_formula (live_in (row_in t c).live Resumed) (live_in (row_in t d).live Resumed) (started_codes p k) (started_codes q k) n (e i) (f i)
+    (Started v) k
 
 -- ---- a statement whose end is made
 
@@ -258,7 +285,8 @@ pub record FormAt (t : Tables) (n : ℕ) (s : Statement) (f : Term) : Type 0 whe
   pub statement : (row_in t n).statement ≡ f
   pub second : s.second ≡ second_of f n
 
-pub form_at : (t : Tables) (n : ℕ) (l : Layer) (s : Statement) (f : Term) → AreTables t → Here t n l → s ≡ get_or t.statements.items n s → term_of s.body.now ≡ f → FormAt t n s f
+pub form_at : (t : Tables) (n : ℕ) (l : Layer) (s : Statement) (f : Term) → AreTables t → Here t n l → s ≡ get_or t.statements.items n s →
+    term_of s.body.now ≡ f → FormAt t n s f
 form_at t n l s f h i e g =
     let v = statement_row t n s h i.within e in
     let same : (row_in t n).statement ≡ f = sym (ap (λ y. y.statement) v) ∙ g in

@@ -52,7 +52,8 @@ tested t i h = record { fits = lt-ltb i.0 _ h; same = refl }
 pub synced : (t : Tables) (i : InstId) → i.0 < length (instances_in t.wires) → IsNodeOf t (nodes.Sync i) (plain.Sync (path_at t i.0) (layer_at t i.0))
 synced t i h = record { fits = lt-ltb i.0 _ h; same = refl }
 
-pub left : (t : Tables) (i : InstId) (k : ℕ) → i.0 < length (instances_in t.wires) → IsNodeOf t (nodes.Exit i k) (plain.Leave (path_at t i.0) (layer_at t i.0) k)
+pub left : (t : Tables) (i : InstId) (k : ℕ) → i.0 < length (instances_in t.wires) →
+    IsNodeOf t (nodes.Exit i k) (plain.Leave (path_at t i.0) (layer_at t i.0) k)
 left t i k h = record { fits = lt-ltb i.0 _ h; same = refl }
 
 pub emitted : (t : Tables) (i : InstId) (w : WireId) (u : Wire) → i.0 < length (instances_in t.wires) → IsNumberOf (names_in t.wires) w.0 u
@@ -93,11 +94,13 @@ pub pause_node : (B : Scope) (n : ℕ) (l : Layer) → plain_by_layer l (plain.T
 pause_node B n Resumed = refl
 pause_node B n (Started r) = refl
 
-pub present_node : (B : Scope) (e : Expression) (p q : Term) (n : ℕ) (l : Layer) → plain_by_layer l (plain.Switch n l) (plain.Tested n l) ≡ node_at B (Present e p q) n l
+pub present_node : (B : Scope) (e : Expression) (p q : Term) (n : ℕ) (l : Layer) →
+    plain_by_layer l (plain.Switch n l) (plain.Tested n l) ≡ node_at B (Present e p q) n l
 present_node B e p q n Resumed = refl
 present_node B e p q n (Started r) = refl
 
-pub suspend_node : (B : Scope) (e : Expression) (p : Term) (n : ℕ) (l : Layer) → plain_by_layer l (plain.Tested n l) (plain.Through n l) ≡ node_at B (Suspend e p) n l
+pub suspend_node : (B : Scope) (e : Expression) (p : Term) (n : ℕ) (l : Layer) →
+    plain_by_layer l (plain.Tested n l) (plain.Through n l) ≡ node_at B (Suspend e p) n l
 suspend_node B e p n Resumed = refl
 suspend_node B e p n (Started r) = refl
 

@@ -117,7 +117,8 @@ pub second_above : (a : Liveness) (p q : Term) (m r : ℕ) → (r == m) ≡ fals
 second_above a p q m r d h =
     let far : (m == r) ≡ false = ne_eqb m r (λ e. both_ways (r == m) d (eq-eqb r m (sym e))) in
     and_parts (started_codes p 0) (Any r a.roots)
-    (sym (tidy (started_codes p 0 && Any r a.roots) (a.resumed && resumed_codes p 0)) ∙ (λ i. (started_codes p 0 && Any r a.roots) || ((a.resumed && resumed_codes p 0) && sym far i))
+    (sym (tidy (started_codes p 0 && Any r a.roots) (a.resumed && resumed_codes p 0))
+    ∙ (λ i. (started_codes p 0 && Any r a.roots) || ((a.resumed && resumed_codes p 0) && sym far i))
     ∙ sym (second_any a p q m r) ∙ h)
   where
     tidy : (x y : Bool) → (x || (y && false)) ≡ x
@@ -132,7 +133,8 @@ second_above_own a p q n m fit lt h =
     let far : Any m a.roots ≡ false = not_above n m a.roots fit lt in
     let same : (m == m) ≡ true = eq-eqb m m refl in
     and_parts a.resumed (resumed_codes p 0)
-    (sym (tidy (started_codes p 0) (a.resumed && resumed_codes p 0)) ∙ (λ i. (started_codes p 0 && sym far i) || ((a.resumed && resumed_codes p 0) && sym same i))
+    (sym (tidy (started_codes p 0) (a.resumed && resumed_codes p 0))
+    ∙ (λ i. (started_codes p 0 && sym far i) || ((a.resumed && resumed_codes p 0) && sym same i))
     ∙ sym (second_any a p q m m) ∙ h)
   where
     tidy : (x y : Bool) → ((x && false) || (y && true)) ≡ y
@@ -150,7 +152,8 @@ loop_any a p m r =
 pub loop_started : (a : Liveness) (p : Term) (m r : ℕ) → live_in a (Started r) ≡ true → live_in (loop_liveness a p m) (Started r) ≡ true
 loop_started a p m r h = loop_any a p m r ∙ λ i. h i || ((a.resumed && resumed_codes p 0) && m == r)
 
-pub loop_own : (a : Liveness) (p : Term) (n m : ℕ) → RootsFit n a.roots → n < m → a.resumed ≡ true → live_in (loop_liveness a p m) (Started m) ≡ resumed_codes p 0
+pub loop_own : (a : Liveness) (p : Term) (n m : ℕ) → RootsFit n a.roots → n < m → a.resumed ≡ true →
+    live_in (loop_liveness a p m) (Started m) ≡ resumed_codes p 0
 loop_own a p n m fit lt h =
     let far : Any m a.roots ≡ false = not_above n m a.roots fit lt in
     let same : (m == m) ≡ true = eq-eqb m m refl in
@@ -166,7 +169,8 @@ loop_resumed a p m h = and_true a.resumed (has_code (resumed_codes p)) h
 pub loop_above : (a : Liveness) (p : Term) (m r : ℕ) → (r == m) ≡ false → live_in (loop_liveness a p m) (Started r) ≡ true → live_in a (Started r) ≡ true
 loop_above a p m r d h =
     let far : (m == r) ≡ false = ne_eqb m r (λ e. both_ways (r == m) d (eq-eqb r m (sym e))) in
-    sym (tidy (Any r a.roots) (a.resumed && resumed_codes p 0)) ∙ (λ i. Any r a.roots || ((a.resumed && resumed_codes p 0) && sym far i)) ∙ sym (loop_any a p m r) ∙ h
+    sym (tidy (Any r a.roots) (a.resumed && resumed_codes p 0)) ∙ (λ i. Any r a.roots || ((a.resumed && resumed_codes p 0) && sym far i))
+    ∙ sym (loop_any a p m r) ∙ h
   where
     tidy : (x y : Bool) → (x || (y && false)) ≡ x
     tidy true true = refl

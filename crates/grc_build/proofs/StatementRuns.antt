@@ -1,5 +1,6 @@
 -- The instances of a statement stand one behind another among those of a body, the resumed one first.
-use Rattle.std.proofs.Common.{◌≡◌, ℕ, ◌+◌, ◌-◌, ◌<◌, ◌≤◌, ◌⊎◌, inl, inr, Bool, true, false, ◌==◌, List, [], ◌∷◌, ◌++◌, length, map, take, drop, get_or, refl, sym, ap, ◌∙◌, subst, ⊎_elim, arith}
+use Rattle.std.proofs.Common.{◌≡◌, ℕ, ◌+◌, ◌-◌, ◌<◌, ◌≤◌, ◌⊎◌, inl, inr, Bool, true, false, ◌==◌, List, [], ◌∷◌, ◌++◌, length, map, take, drop, get_or, refl}
+use Rattle.std.proofs.Common.{sym, ap, ◌∙◌, subst, ⊎_elim, arith}
 use Rattle.std.specs.Prelude.{All, filter, nat_lt, if◌then◌else◌}
 use Rattle.std.proofs.lemmas.Bool.{cases_lt, cases_eq, eq-eqb, ne_eqb, lt-ltb, le-ltb, cond-true, cond-false}
 use Rattle.std.proofs.lemmas.List.{append-nil, map-id, take-append-drop, drop_more, drop_all, get_or-drop, get_or_default, length-drop}
@@ -9,7 +10,8 @@ use Rattle.est_kernel.specs.Terms.{Term, Nothing, Pause, Emit, Exit, Present, Su
 use Rattle.est_kernel.specs.Preorder.{statement_count}
 use Rattle.est_kernel.specs.WellFormed.{IsKernel}
 use Rattle.grc_graph.specs.Instances.{Instance, instances_at, instances, body_instances, LayerBefore, Before, Ascends}
-use Rattle.grc_graph.specs.Layers.{Layer, Resumed, Started, Liveness, layers_of, liveness_at, body_liveness, body_layers, part_liveness, second_liveness, loop_liveness}
+use Rattle.grc_graph.specs.Layers.{Layer, Resumed, Started, Liveness, layers_of, liveness_at, body_liveness, body_layers, part_liveness, second_liveness}
+use Rattle.grc_graph.specs.Layers.{loop_liveness}
 use Rattle.grc_graph.specs.PlainGraphs.{instance_at}
 use Rattle.grc_graph.proofs.LiveInstances.{at_layer, instances_among}
 use Rattle.grc_build.specs.Nexts.{is_of, layers_from, IsRun}

@@ -106,7 +106,8 @@ binder_live t i s b h l e =
     (live_of (row_in t b).live (layer_above b x.layer) (y.live x.layer (in_layers (row_in t x.path).live x.layer k.live)))
 
 -- an instance that was read by its number, and its statement
-pub read_number : (t : Tables) (i : ℕ) (y : stored.Instance) → IsNumberOf (instances_in t.wires) i (instance_of y) → instance_at (instances_in t.wires) i ≡ instance_of y
+pub read_number : (t : Tables) (i : ℕ) (y : stored.Instance) → IsNumberOf (instances_in t.wires) i (instance_of y) →
+    instance_at (instances_in t.wires) i ≡ instance_of y
 read_number t i y h = h.same _
 
 pub own_row : (t : Tables) (i : ℕ) (s : Statement) (y : stored.Instance) → AreTables t → i < length (instances_in t.wires)

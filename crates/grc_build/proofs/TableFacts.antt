@@ -46,7 +46,8 @@ is_there t c n l h b w = subst (λ ws. Contains ws (wire_named c n l)) (sym h.wi
 pub only_there : (t : Tables) (c : Kind) (n : ℕ) (l : Layer) → AreTables t → IsThere t (wire_named c n l) → WireAt (program_in t) c n l
 only_there t c n l h k = wire_only (program_in t) (kernel_of t) c n l (subst (λ ws. Contains ws (wire_named c n l)) h.wires k)
 
-pub go_there : (t : Tables) (n : ℕ) (l : Layer) → AreTables t → n < statement_count (program_in t).body → live_in (row_in t n).live l ≡ true → IsThere t (Go n l)
+pub go_there : (t : Tables) (n : ℕ) (l : Layer) → AreTables t → n < statement_count (program_in t).body → live_in (row_in t n).live l ≡ true →
+    IsThere t (Go n l)
 go_there t n l h w v = is_there t IsGo n l h tt (record { within = w; live = v; has = tt })
 
 pub end_there : (t : Tables) (n k : ℕ) (l : Layer) → AreTables t → k < 64 → n < statement_count (program_in t).body → live_in (row_in t n).live l ≡ true
@@ -85,7 +86,8 @@ pub record EntryAt (t : Tables) (c : ℕ) (l : Layer) (x : Entry) : Type 0 where
   pub entry : (row_in t c).entry ≡ x
   pub entered : Entered (program_rows (program_in t)) c x
 
-pub entry_at : (t : Tables) (c : ℕ) (l : Layer) (s : Statement) (x : Entry) → AreTables t → IsLive t c l → s ≡ get_or t.statements.items c s → entry_view s.control ≡ x
+pub entry_at : (t : Tables) (c : ℕ) (l : Layer) (s : Statement) (x : Entry) → AreTables t → IsLive t c l → s ≡ get_or t.statements.items c s →
+    entry_view s.control ≡ x
     → EntryAt t c l x
 entry_at t c l s x h k e v =
     let i = here t c l h k in
@@ -98,7 +100,8 @@ part_entered t c n l h x = part_go t c n l h x.at x.entered
 pub branch_entered : (t : Tables) (c n : ℕ) (l : Layer) → AreTables t → EntryAt t c l (Branch n) → IsThere t (Go n l)
 branch_entered t c n l h x = part_go t c n l h x.at x.entered
 
-test_entered : (t : Tables) (c n : ℕ) (e : Expression) (l : Layer) → AreTables t → Here t c l → TestedPart (program_rows (program_in t)) c n e → IsTestOf t n e l
+test_entered : (t : Tables) (c n : ℕ) (e : Expression) (l : Layer) → AreTables t → Here t c l → TestedPart (program_rows (program_in t)) c n e →
+    IsTestOf t n e l
 test_entered t c n e l h k p = record {
   tables = h;
   live = part_is_live t c n l h k p.part;

@@ -23,4 +23,5 @@ one_more t i h =
 
 pub all_spots : (t : Tables) (i : ℕ) → AreTables t → length (instances_in t.wires) ≤ i → spots_in t i ≡ program_spots (program_in t)
 all_spots t i h l =
-    ap (map (spot_at (program_rows (program_in t)))) (take_all i (instances_in t.wires) l ∙ h.instances) ∙ sym (program_spots_by_row (program_in t) (kernel_of t))
+    ap (map (spot_at (program_rows (program_in t)))) (take_all i (instances_in t.wires) l ∙ h.instances)
+    ∙ sym (program_spots_by_row (program_in t) (kernel_of t))

@@ -1,5 +1,6 @@
 -- Inner: the emissions on each status wire, as they are gathered.
-use Rattle.std.specs.Prelude.{◌≡◌, ℕ, ◌+◌, ◌<◌, List, [], ◌∷◌, ◌++◌, length, map, slice_index_or, slice_set, All, Vec, Contains, ⊤}
+use Rattle.std.specs.Prelude.{◌≡◌, ℕ, ◌+◌, ◌<◌, List, [], ◌∷◌, ◌++◌, length, map, slice_index_or, slice_set, All, Vec}
+use Rattle.std.specs.Prelude.{Contains, ⊤}
 use Rattle.std.specs.declared.alloc.Global.{Global}
 use Rattle.est_base.specs.declared.indices.WireId.{WireId}
 use Rattle.est_kernel.specs.Plain.{outgoing_count}
@@ -61,7 +62,8 @@ spot_in t i = spot_at (program_rows (program_in t)) (instance_at (instances_in t
 -- the `go` of instance i is appended to the list at a place, and nothing else changes
 pub record PutsGo (t : Tables) (i place : ℕ) (old new : List (Vec WireId Global)) : Type 0 where
   pub wire : WireId
-  pub go : IsNumberOf (names_in t.wires) wire.0 (Go (instance_at (instances_in t.wires) i).path (instance_at (instances_in t.wires) i).layer)
+  pub go : IsNumberOf (names_in t.wires) wire.0 (Go (instance_at (instances_in t.wires) i).path
+      (instance_at (instances_in t.wires) i).layer)
   pub lists : map (λ v. v.items) new ≡ slice_set (map (λ v. v.items) old) place (list_at old place ++ wire ∷ [])
 
 -- the same at the place that is the number of an instance

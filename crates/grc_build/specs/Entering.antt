@@ -12,7 +12,8 @@ use Rattle.grc_build.specs.Tabled.{AreTables, IsLive, IsThere, row_in}
 
 -- a branch of a test, or of its negation
 abbrev pub tested_by : Scope → Expression → Bool → ℕ → ℕ → Layer → Formula
-tested_by B e negates n c l = tested_entry n c (λ j. if negates then Negation (test_formula B e j) else test_formula B e j) l
+tested_by B e negates n c l = tested_entry n c (λ j.
+    if negates then Negation (test_formula B e j) else test_formula B e j) l
 
 abbrev pub suspended_by : Scope → Expression → ℕ → Layer → Formula
 suspended_by B e n l = suspended_entry n (test_formula B e) l

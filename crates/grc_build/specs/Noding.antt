@@ -17,7 +17,8 @@ pub record IsNodeOf (t : Tables) (x : Node) (y : plain.Node) : Type 0 where
 
 -- the node of the instance with this number
 abbrev pub IsNode : Tables → Node → ℕ → Type 0
-IsNode t x i = IsNodeOf t x (plain.node_of (spot_at (program_rows (program_in t)) (instance_at (instances_in t.wires) i)))
+IsNode t x i = IsNodeOf t x (plain.node_of (spot_at (program_rows (program_in t))
+    (instance_at (instances_in t.wires) i)))
 
 abbrev pub by_layer : Layer → Node → Node → Node
 by_layer Resumed x y = x

@@ -63,5 +63,6 @@ abbrev pub StatusesAreThere : Tables → List Binding → ℕ → Expression →
 StatusesAreThere t bs k Tick l = ⊤
 StatusesAreThere t bs k (Sig s) l = StatusIsThere t (slice_index_or bs k Unbound) s l
 StatusesAreThere t bs k (Not a) l = StatusesAreThere t bs k a l
-StatusesAreThere t bs k (And a b) l = StatusesAreThere t bs k a l × StatusesAreThere t bs (k + length (signals_in a)) b l
+StatusesAreThere t bs k (And a b) l = StatusesAreThere t bs k a l
+    × StatusesAreThere t bs (k + length (signals_in a)) b l
 StatusesAreThere t bs k (Or a b) l = StatusesAreThere t bs k a l × StatusesAreThere t bs (k + length (signals_in a)) b l

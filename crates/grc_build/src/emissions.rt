@@ -124,7 +124,8 @@ fn push_out(t: &Tables<'_>, i: InstId, signal: SigId, m: &mut Emitters) -> Resul
     requires below { signal.0 - (program_in t.now).inputs < length m.old.outs.items }
     ensures locals { m.new.locals.items ≡ m.old.locals.items }
     ensures length { length m.new.outs.items ≡ length m.old.outs.items }
-    ensures outs { IfOk result (λ u. PutsGo t.now i.0 (signal.0 - (program_in t.now).inputs) m.old.outs.items m.new.outs.items) }
+    ensures outs { IfOk result (λ u. PutsGo t.now i.0
+        (signal.0 - (program_in t.now).inputs) m.old.outs.items m.new.outs.items) }
 {
     let place = signal.0 - t.program.inputs;
     push_wire(&mut m.outs, place as usize, t.wires.go(i))
@@ -151,7 +152,8 @@ fn push_local(t: &Tables<'_>, i: InstId, path: u32, m: &mut Emitters) -> Result<
 fn push_wire(lists: &mut Vec<Vec<WireId>>, place: usize, w: WireId) -> Result<(), NoMemory>
     requires { place < length lists.old.items }
     ensures length { length lists.new.items ≡ length lists.old.items }
-    ensures lists { IfOk result (λ u. map (λ v. v.items) lists.new.items ≡ slice_set (map (λ v. v.items) lists.old.items)
+    ensures lists { IfOk result (λ u. map (λ v. v.items) lists.new.items ≡
+        slice_set (map (λ v. v.items) lists.old.items)
         place (slice_index_or (map (λ v. v.items) lists.old.items) place [] ++ w ∷ [])) }
 {
     let list = &mut lists[place];

@@ -8,7 +8,8 @@ ghost use Rattle.grc_graph.specs.Layers.{Resumed, Started};
 ghost use Rattle.grc_graph.specs.PlainInstances.{layer_of};
 ghost use Rattle.grc_graph.specs.Spots.{test_formula};
 ghost use Rattle.grc_graph.specs.Wires.{Go, End};
-ghost use Rattle.grc_build.specs.Ending.{IsEnding, IsParallel, Tells, TellsLive, MeansIfIn, end_if, suspension_ends, sequence_ends, loop_ends, parallel_formula};
+ghost use Rattle.grc_build.specs.Ending.{IsEnding, IsParallel, Tells, TellsLive, MeansIfIn, end_if, suspension_ends};
+ghost use Rattle.grc_build.specs.Ending.{sequence_ends, loop_ends, parallel_formula};
 ghost use Rattle.grc_build.specs.Entering.{IsTestOf};
 ghost use Rattle.grc_build.specs.Tabled.{MeansIn, row_in};
 

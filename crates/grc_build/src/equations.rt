@@ -47,7 +47,8 @@ fn equation(alloc: Global, t: &Tables<'_>, m: &Emitters, w: Wire) -> Result<Form
     requires tables { AreTables t.now }
     requires emitters { AreEmitters t.now m.now (program_spots (program_in t.now)) }
     requires wire { IsWireIn t.now w }
-    ensures { IfOk result (λ f. MeansIn t.now f (wire_formula (program_in t.now) (wire_of (instances_in t.now.wires) w))) }
+    ensures { IfOk result (λ f. MeansIn t.now f (wire_formula (program_in t.now)
+        (wire_of (instances_in t.now.wires) w))) }
 {
     match w {
         Wire::Out(signal) => output(alloc, t, m, signal),

@@ -113,7 +113,8 @@ fn held_upto(
     path: u32,
     code: u8,
 ) -> Result<Option<Formula>, NoMemory>
-    ensures { (b : Bool) → TellsLive t.now path Resumed b → IfOk result (λ r. MeansIfIn t.now r b (held_upto path code)) }
+    ensures { (b : Bool) → TellsLive t.now path Resumed b →
+        IfOk result (λ r. MeansIfIn t.now r b (held_upto path code)) }
 {
     match t.wires.find_instance(path, Layer::Resumed) {
         None => Ok(None),

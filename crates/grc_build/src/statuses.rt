@@ -39,7 +39,8 @@ pub(crate) fn test_formula(
     layer: Layer,
 ) -> Result<Formula, NoMemory>
     requires within { at.old + length (signals_in (expression_of test.now)) ≤ length bindings.now }
-    requires there { StatusesAreThere t.now (map binding_of bindings.now) at.old (expression_of test.now) (layer_of layer) }
+    requires there { StatusesAreThere t.now (map binding_of bindings.now) at.old (expression_of test.now)
+        (layer_of layer) }
     ensures at { IfOk result (λ f. at.new ≡ at.old + length (signals_in (expression_of test.now))) }
     ensures means { IfOk result (λ f. MeansIn t.now f
         (bound_test (map binding_of bindings.now) at.old (expression_of test.now) (layer_of layer))) }

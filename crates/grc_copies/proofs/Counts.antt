@@ -18,7 +18,8 @@ pub length-gained : (old new : List Instance) (xs : List plain.Instance) → Gai
 length-gained old new xs g =
     omega (arith, length-map new instance_of, length-map old instance_of, ap length g.list, length-append (map instance_of old) xs)
 
-pub IsTooMany-after : (old new : List Instance) (xs ys : List plain.Instance) (e : CopyFault) → Gains old new xs → IsTooMany new ys e → IsTooMany old (xs ++ ys) e
+pub IsTooMany-after : (old new : List Instance) (xs ys : List plain.Instance) (e : CopyFault) → Gains old new xs → IsTooMany new ys e →
+    IsTooMany old (xs ++ ys) e
 IsTooMany-after old new xs ys TooManyInstances g h = omega (arith, length-append xs ys, length-gained old new xs g)
 IsTooMany-after old new xs ys NoMemory g h = tt
 
@@ -39,5 +40,12 @@ Reaches-more old mid new all x rest r g = record {
 pub IsTooMany-reached : (old mid : List Instance) (all : List plain.Instance) (x : plain.Instance) (rest : List plain.Instance) (e : CopyFault)
     → Reaches old mid all (x ∷ rest) → IsTooMany mid (x ∷ []) e → IsTooMany old all e
 IsTooMany-reached old mid all x rest TooManyInstances r h =
-    omega (arith, ap length r.list, length-append (map instance_of mid) (x ∷ rest), length-append (map instance_of old) all, length-map mid instance_of, length-map old instance_of)
+    omega (
+      arith,
+      ap length r.list,
+      length-append (map instance_of mid) (x ∷ rest),
+      length-append (map instance_of old) all,
+      length-map mid instance_of,
+      length-map old instance_of,
+    )
 IsTooMany-reached old mid all x rest NoMemory r h = tt

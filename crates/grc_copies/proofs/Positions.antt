@@ -22,7 +22,8 @@ use Rattle.grc_copies.specs.Copying.{liveness_of, starts, resumed_instances, Gai
 use Rattle.grc_copies.proofs.Counts.{IsTooMany-append}
 
 -- a statement's own instances come first
-pub too_many_at_first : (old : List Instance) (a : Liveness) (t : Term) (n : ℕ) (e : CopyFault) → IsTooMany old (instances_at a n) e → IsTooMany old (instances a t n) e
+pub too_many_at_first : (old : List Instance) (a : Liveness) (t : Term) (n : ℕ) (e : CopyFault) → IsTooMany old (instances_at a n) e →
+    IsTooMany old (instances a t n) e
 too_many_at_first old a Nothing n e h = h
 too_many_at_first old a Pause n e h = h
 too_many_at_first old a (Emit s) n e h = h

@@ -1,5 +1,6 @@
 -- The codes of a kernel are below 64: its exits are, since there are at most 60 traps one in another.
-use Rattle.std.proofs.Common.{◌≡◌, ℕ, zero, suc, ◌+◌, ◌<◌, ◌≤◌, ◌⊎◌, Bool, true, false, ◌&&◌, ◌||◌, cond, List, [], ◌∷◌, ◌++◌, length, map, refl, sym, ap, ◌∙◌, subst, ⊎_elim, arith}
+use Rattle.std.proofs.Common.{◌≡◌, ℕ, zero, suc, ◌+◌, ◌<◌, ◌≤◌, ◌⊎◌, Bool, true, false, ◌&&◌, ◌||◌, cond, List, [], ◌∷◌, ◌++◌, length, map, refl, sym, ap, ◌∙◌}
+use Rattle.std.proofs.Common.{subst, ⊎_elim, arith}
 use Rattle.std.specs.Prelude.{All}
 use Rattle.std.proofs.lemmas.Bool.{or_cases, and_parts, eqb-true, cond_both, false≢true}
 use Rattle.std.proofs.lemmas.List.Elements.{All-cons, All-nil, All-append, All-get_or}
@@ -112,20 +113,24 @@ kernel_rows a B x (Emit s) n h = All-cons Kernels _ [] h (All-nil Kernels)
 kernel_rows a B x (Exit k) n h = All-cons Kernels _ [] h (All-nil Kernels)
 kernel_rows a B x (Present e p q) n h =
     All-cons Kernels _ _ h
-    (All-append Kernels _ _ (kernel_rows (part_liveness a p) B (Then n e) p (n + 1) h.0) (kernel_rows (part_liveness a q) B (Else n e) q (n + 1 + statement_count p) h.1))
+    (All-append Kernels _ _ (kernel_rows (part_liveness a p) B (Then n e) p (n + 1) h.0)
+    (kernel_rows (part_liveness a q) B (Else n e) q (n + 1 + statement_count p) h.1))
 kernel_rows a B x (Seq p q) n h =
     All-cons Kernels _ _ h
-    (All-append Kernels _ _ (kernel_rows (part_liveness a p) B (Branch n) p (n + 1) h.0) (kernel_rows (second_liveness a p q (n + 1 + statement_count p)) B (Second n) q (n + 1 + statement_count p) h.1))
+    (All-append Kernels _ _ (kernel_rows (part_liveness a p) B (Branch n) p (n + 1) h.0)
+    (kernel_rows (second_liveness a p q (n + 1 + statement_count p)) B (Second n) q (n + 1 + statement_count p) h.1))
 kernel_rows a B x (Par p q) n h =
     All-cons Kernels _ _ h
-    (All-append Kernels _ _ (kernel_rows (part_liveness a p) B (Branch n) p (n + 1) h.0) (kernel_rows (part_liveness a q) B (Branch n) q (n + 1 + statement_count p) h.1))
+    (All-append Kernels _ _ (kernel_rows (part_liveness a p) B (Branch n) p (n + 1) h.0)
+    (kernel_rows (part_liveness a q) B (Branch n) q (n + 1 + statement_count p) h.1))
 kernel_rows a B x (Suspend e p) n h = All-cons Kernels _ _ h (kernel_rows (part_liveness a p) B (Suspended n e) p (n + 1) h)
 kernel_rows a B x (Loop at p) n h = All-cons Kernels _ _ h (kernel_rows (loop_liveness a p (n + 1)) B (Looped n) p (n + 1) h)
 kernel_rows a B x (Trap p) n h = All-cons Kernels _ _ h (kernel_rows (part_liveness a p) B (Part n) p (n + 1) h)
 kernel_rows a B x (Local s p) n h = All-cons Kernels _ _ h (kernel_rows (part_liveness a p) (bind B s n) (Part n) p (n + 1) h)
 kernel_rows a B x (Awake e p) n h = absurd h
 
-pub program_kernel : (p : Program) (n : ℕ) → formed.IsKernel p.body → KeepsLimits p.body → n < statement_count p.body → IsKernel (row_at (program_rows p) n).statement
+pub program_kernel : (p : Program) (n : ℕ) → formed.IsKernel p.body → KeepsLimits p.body → n < statement_count p.body →
+    IsKernel (row_at (program_rows p) n).statement
 program_kernel p n k h l =
     All-get_or Kernels (program_rows p) n _ (omega (arith, length-program_rows p))
     (kernel_rows (body_liveness p.body) (program_scope p.inputs (interface_count p)) Body p.body 0

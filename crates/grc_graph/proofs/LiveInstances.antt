@@ -1,14 +1,17 @@
 -- The live instances of a body stand once and in order, and with each those of the statements around it.
-use Rattle.std.proofs.Common.{◌≡◌, ℕ, ◌+◌, ◌<◌, ◌≤◌, ◌⊎◌, inl, inr, Bool, true, false, ◌==◌, ◌&&◌, List, [], ◌∷◌, ◌++◌, length, map, get_or, refl, sym, ap, ◌∙◌, subst, ⊎_elim, arith}
+use Rattle.std.proofs.Common.{◌≡◌, ℕ, ◌+◌, ◌<◌, ◌≤◌, ◌⊎◌, inl, inr, Bool, true, false, ◌==◌, ◌&&◌, List, [], ◌∷◌, ◌++◌, length, map, get_or, refl, sym, ap, ◌∙◌}
+use Rattle.std.proofs.Common.{subst, ⊎_elim, arith}
 use Rattle.std.specs.Prelude.{nat_lt, nat_le, if◌then◌else◌, All, Contains}
 use Rattle.std.proofs.lemmas.Bool.{cases_lt, and_parts, eq-eqb, ne_eqb, lt-ltb, le-ltb, le-leb, lt-leb}
 use Rattle.std.proofs.lemmas.List.{map-append, length-map, get_or-map}
 use Rattle.std.proofs.lemmas.Simd.{map-map}
-use Rattle.std.proofs.lemmas.List.Elements.{All-append, All-nil, All-cons, All-weaker, All-head, All-tail, All-map, Contains-append_left, Contains-append_right, Contains-append_cases, Contains-get_or, All-contains}
+use Rattle.std.proofs.lemmas.List.Elements.{All-append, All-nil, All-cons, All-weaker, All-head, All-tail, All-map, Contains-append_left, Contains-append_right}
+use Rattle.std.proofs.lemmas.List.Elements.{Contains-append_cases, Contains-get_or, All-contains}
 use Rattle.est_kernel.specs.Terms.{Term, Nothing, Pause, Emit, Exit, Present, Suspend, Seq, Loop, Par, Trap, Local, Awake}
 use Rattle.est_kernel.specs.Preorder.{statement_count}
 use Rattle.est_kernel.specs.StaticCodes.{started_codes, resumed_codes}
-use Rattle.grc_graph.specs.Layers.{Layer, Resumed, Started, Liveness, layer_above, layers_of, root_if, part_liveness, second_liveness, loop_liveness, body_liveness}
+use Rattle.grc_graph.specs.Layers.{Layer, Resumed, Started, Liveness, layer_above, layers_of, root_if, part_liveness, second_liveness, loop_liveness}
+use Rattle.grc_graph.specs.Layers.{body_liveness}
 use Rattle.grc_graph.specs.Instances.{Instance, instances_at, instances, body_instances, LayerBefore, Before, Ascends, enclosing}
 use Rattle.grc_graph.specs.InstanceLaws.{InstancesAscend, EnclosingAreLive}
 
@@ -78,7 +81,8 @@ resumed_first : (n : ℕ) (roots : List ℕ) → All (Before (at_layer n Resumed
 resumed_first n roots =
     All-map (Before (at_layer n Resumed)) (λ r. at_layer n (Started r)) roots (λ k d h. inr (refl, tt))
 
-pub split_layers : (a : Liveness) (n : ℕ) → map (at_layer n) (if a.resumed then Resumed ∷ [] else []) ++ map (λ r. at_layer n (Started r)) a.roots ≡ instances_at a n
+pub split_layers : (a : Liveness) (n : ℕ) → map (at_layer n) (if a.resumed then Resumed ∷ [] else []) ++ map (λ r. at_layer n (Started r)) a.roots ≡
+    instances_at a n
 split_layers a n =
     ap (λ l. map (at_layer n) (if a.resumed then Resumed ∷ [] else []) ++ l) (sym (map-map (at_layer n) Started a.roots))
     ∙ sym (map-append (at_layer n) (if a.resumed then Resumed ∷ [] else []) (map Started a.roots))
@@ -111,7 +115,8 @@ instances_among a (Emit s) n = here_among a n _ (omega arith)
 instances_among a (Exit k) n = here_among a n _ (omega arith)
 instances_among a (Present e p q) n = both_among n _ _ _ (here_among a n _ (omega arith)) (both_among n _ _ _
     (wider (n + 1) (n + 1 + statement_count p) n _ _ (omega arith) (omega arith) (instances_among (part_liveness a p) p (n + 1)))
-    (wider (n + 1 + statement_count p) (n + 1 + statement_count p + statement_count q) n _ _ (omega arith) (omega arith) (instances_among (part_liveness a q) q (n + 1 + statement_count p))))
+    (wider (n + 1 + statement_count p) (n + 1 + statement_count p + statement_count q) n _ _ (omega arith) (omega arith)
+    (instances_among (part_liveness a q) q (n + 1 + statement_count p))))
 instances_among a (Suspend e p) n = both_among n _ _ _ (here_among a n _ (omega arith))
     (wider (n + 1) (n + 1 + statement_count p) n _ _ (omega arith) (omega arith) (instances_among (part_liveness a p) p (n + 1)))
 instances_among a (Seq p q) n = both_among n _ _ _ (here_among a n _ (omega arith)) (both_among n _ _ _
@@ -122,7 +127,8 @@ instances_among a (Loop at p) n = both_among n _ _ _ (here_among a n _ (omega ar
     (wider (n + 1) (n + 1 + statement_count p) n _ _ (omega arith) (omega arith) (instances_among (loop_liveness a p (n + 1)) p (n + 1)))
 instances_among a (Par p q) n = both_among n _ _ _ (here_among a n _ (omega arith)) (both_among n _ _ _
     (wider (n + 1) (n + 1 + statement_count p) n _ _ (omega arith) (omega arith) (instances_among (part_liveness a p) p (n + 1)))
-    (wider (n + 1 + statement_count p) (n + 1 + statement_count p + statement_count q) n _ _ (omega arith) (omega arith) (instances_among (part_liveness a q) q (n + 1 + statement_count p))))
+    (wider (n + 1 + statement_count p) (n + 1 + statement_count p + statement_count q) n _ _ (omega arith) (omega arith)
+    (instances_among (part_liveness a q) q (n + 1 + statement_count p))))
 instances_among a (Trap p) n = both_among n _ _ _ (here_among a n _ (omega arith))
     (wider (n + 1) (n + 1 + statement_count p) n _ _ (omega arith) (omega arith) (instances_among (part_liveness a p) p (n + 1)))
 instances_among a (Local s p) n = both_among n _ _ _ (here_among a n _ (omega arith))
@@ -152,7 +158,8 @@ two_ascend a b c p q n h g k =
     (here_among a n (n + 1) (omega arith))
     (both_among (n + 1) (n + 1 + statement_count p + statement_count q) _ _
     (wider (n + 1) (n + 1 + statement_count p) (n + 1) _ _ (omega arith) (omega arith) (instances_among b p (n + 1)))
-    (wider (n + 1 + statement_count p) (n + 1 + statement_count p + statement_count q) (n + 1) _ _ (omega arith) (omega arith) (instances_among c q (n + 1 + statement_count p))))
+    (wider (n + 1 + statement_count p) (n + 1 + statement_count p + statement_count q) (n + 1) _ _ (omega arith) (omega arith)
+    (instances_among c q (n + 1 + statement_count p))))
 
 ascending : (a : Liveness) (t : Term) (n : ℕ) → RootsFit n a.roots → Ascends (instances a t n)
 ascending a Nothing n h = here_ascends a n h.rises
@@ -165,7 +172,8 @@ ascending a (Present e p q) n h = two_ascend a _ _ p q n h.rises
 ascending a (Suspend e p) n h = one_ascends a _ p n h.rises (ascending (part_liveness a p) p (n + 1) (part_fits a p n (n + 1) (omega arith) h))
 ascending a (Seq p q) n h = two_ascend a _ _ p q n h.rises
     (ascending (part_liveness a p) p (n + 1) (part_fits a p n (n + 1) (omega arith) h))
-    (ascending (second_liveness a p q (n + 1 + statement_count p)) q (n + 1 + statement_count p) (second_fits a p q n (n + 1 + statement_count p) (omega arith) h))
+    (ascending (second_liveness a p q (n + 1 + statement_count p)) q (n + 1 + statement_count p)
+    (second_fits a p q n (n + 1 + statement_count p) (omega arith) h))
 ascending a (Loop at p) n h = one_ascends a _ p n h.rises (ascending (loop_liveness a p (n + 1)) p (n + 1) (loop_fits a p n (n + 1) (omega arith) h))
 ascending a (Par p q) n h = two_ascend a _ _ p q n h.rises
     (ascending (part_liveness a p) p (n + 1) (part_fits a p n (n + 1) (omega arith) h))
@@ -322,7 +330,8 @@ part_around a b n c m l part live bs rest lt f g u e k =
     here_around a n m l live rest f
     (subst (λ x. Contains (layers_of a) x) (above_above n c l (omega arith)) (u.up (layer_above c l) k.layer))
     (subst (λ bs. All (λ b. Contains live (at_layer b (layer_above b l))) bs) (sym e)
-    (All-weaker (λ b. Contains part (at_layer b (layer_above b l))) (λ b. Contains live (at_layer b (layer_above b l))) (λ b h. g (at_layer b (layer_above b l)) h) bs k.around))
+    (All-weaker (λ b. Contains part (at_layer b (layer_above b l))) (λ b. Contains live (at_layer b (layer_above b l)))
+    (λ b h. g (at_layer b (layer_above b l)) h) bs k.around))
 
 path_among : (n c m : ℕ) (l : Layer) (xs : List Instance) → Among n c xs → Contains xs (at_layer m l) → (n ≤ m) × (m < c)
 path_among n c m l xs h k = All-contains (λ x. (n ≤ x.path) × (x.path < c)) xs (at_layer m l) h k
@@ -372,13 +381,15 @@ two_around a b c p q n m l fit u v f g h =
     (Contains-append_cases P Q (at_layer m l) k))
     (Contains-append_cases (instances_at a n) (P ++ Q) (at_layer m l) h)
 
-leaf_around : (a : Liveness) (n m : ℕ) (l : Layer) → RootsFit n a.roots → Contains (instances_at a n) (at_layer m l) → Around a n m l (instances_at a n) (n ∷ [])
+leaf_around : (a : Liveness) (n m : ℕ) (l : Layer) → RootsFit n a.roots → Contains (instances_at a n) (at_layer m l) →
+    Around a n m l (instances_at a n) (n ∷ [])
 leaf_around a n m l fit h =
     let k = from_map n m (layers_of a) l h in
     here_around a n m l (instances_at a n) [] (λ x i. i) (subst (λ x. Contains (layers_of a) x) (sym (above_itself a n l fit k.1)) k.1)
     (All-nil (λ b. Contains (instances_at a n) (at_layer b (layer_above b l))))
 
-around : (a : Liveness) (t : Term) (n m : ℕ) (l : Layer) → RootsFit n a.roots → Contains (instances a t n) (at_layer m l) → Around a n m l (instances a t n) (enclosing t n m)
+around : (a : Liveness) (t : Term) (n m : ℕ) (l : Layer) → RootsFit n a.roots → Contains (instances a t n) (at_layer m l) →
+    Around a n m l (instances a t n) (enclosing t n m)
 around a Nothing n m l h k = leaf_around a n m l h k
 around a Pause n m l h k = leaf_around a n m l h k
 around a (Emit s) n m l h k = leaf_around a n m l h k
@@ -391,7 +402,8 @@ around a (Suspend e p) n m l h k = one_around a (part_liveness a p) p n m l h (p
 around a (Seq p q) n m l h k = two_around a (part_liveness a p) (second_liveness a p q (n + 1 + statement_count p)) p q n m l h (part_up a p n h)
     (second_up a p q n (n + 1 + statement_count p) (omega arith) h)
     (around (part_liveness a p) p (n + 1) m l (part_fits a p n (n + 1) (omega arith) h))
-    (around (second_liveness a p q (n + 1 + statement_count p)) q (n + 1 + statement_count p) m l (second_fits a p q n (n + 1 + statement_count p) (omega arith) h)) k
+    (around (second_liveness a p q (n + 1 + statement_count p)) q (n + 1 + statement_count p) m l
+    (second_fits a p q n (n + 1 + statement_count p) (omega arith) h)) k
 around a (Loop at p) n m l h k = one_around a (loop_liveness a p (n + 1)) p n m l h (loop_up a p n (n + 1) (omega arith) h)
     (around (loop_liveness a p (n + 1)) p (n + 1) m l (loop_fits a p n (n + 1) (omega arith) h)) k
 around a (Par p q) n m l h k = two_around a (part_liveness a p) (part_liveness a q) p q n m l h (part_up a p n h) (part_up a q n h)

@@ -36,14 +36,17 @@ not_self a b n m l = cond-false (m == n) a b (ne_eqb m n (λ e. omega arith))
 not_below : (a b : ℕ) → b ≤ a → ltb a b ≡ false
 not_below a b h = cond_both (ltb a b) true false (λ x. ltb a b ≡ false) (λ e. let i = ltb-true a b e in absurd (omega arith)) (λ e. e)
 
-pub only_agrees : (L : ℕ → List Layer) (a b : Liveness) (t p : Term) (n : ℕ) → statement_count t ≡ 1 + statement_count p → ((m : ℕ) → liveness_at a t n m ≡ cond (m == n) a (liveness_at b p (n + 1) m)) → Agrees L a t n → Agrees L b p (n + 1)
+pub only_agrees : (L : ℕ → List Layer) (a b : Liveness) (t p : Term) (n : ℕ) → statement_count t ≡ 1 + statement_count p →
+    ((m : ℕ) → liveness_at a t n m ≡ cond (m == n) a (liveness_at b p (n + 1) m)) → Agrees L a t n → Agrees L b p (n + 1)
 only_agrees L a b t p n c f g =
     record {
       each = λ m l u.
           g.each m (omega arith) (omega arith) ∙ ap layers_of (f m ∙ not_self a _ n m (omega arith));
     }
 
-pub first_agrees : (L : ℕ → List Layer) (a b c : Liveness) (t p q : Term) (n : ℕ) → statement_count t ≡ 1 + statement_count p + statement_count q → ((m : ℕ) → liveness_at a t n m ≡ cond (m == n) a (cond (ltb m (n + 1 + statement_count p)) (liveness_at b p (n + 1) m) (liveness_at c q (n + 1 + statement_count p) m))) → Agrees L a t n → Agrees L b p (n + 1)
+pub first_agrees : (L : ℕ → List Layer) (a b c : Liveness) (t p q : Term) (n : ℕ) → statement_count t ≡ 1 + statement_count p + statement_count q →
+    ((m : ℕ) → liveness_at a t n m ≡ cond (m == n) a (cond (ltb m (n + 1 + statement_count p)) (liveness_at b p (n + 1) m)
+    (liveness_at c q (n + 1 + statement_count p) m))) → Agrees L a t n → Agrees L b p (n + 1)
 first_agrees L a b c t p q n k f g =
     record {
       each = λ m l u.
@@ -51,7 +54,9 @@ first_agrees L a b c t p q n k f g =
           ∙ ap layers_of (f m ∙ not_self a _ n m (omega arith) ∙ cond-true _ (liveness_at b p (n + 1) m) _ (lt-ltb m (n + 1 + statement_count p) u));
     }
 
-pub second_agrees : (L : ℕ → List Layer) (a b c : Liveness) (t p q : Term) (n : ℕ) → statement_count t ≡ 1 + statement_count p + statement_count q → ((m : ℕ) → liveness_at a t n m ≡ cond (m == n) a (cond (ltb m (n + 1 + statement_count p)) (liveness_at b p (n + 1) m) (liveness_at c q (n + 1 + statement_count p) m))) → Agrees L a t n → Agrees L c q (n + 1 + statement_count p)
+pub second_agrees : (L : ℕ → List Layer) (a b c : Liveness) (t p q : Term) (n : ℕ) → statement_count t ≡ 1 + statement_count p + statement_count q →
+    ((m : ℕ) → liveness_at a t n m ≡ cond (m == n) a (cond (ltb m (n + 1 + statement_count p)) (liveness_at b p (n + 1) m)
+    (liveness_at c q (n + 1 + statement_count p) m))) → Agrees L a t n → Agrees L c q (n + 1 + statement_count p)
 second_agrees L a b c t p q n k f g =
     record {
       each = λ m l u.

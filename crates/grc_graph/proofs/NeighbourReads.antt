@@ -1,5 +1,6 @@
 -- Reads of tables of instances and wires: what a search finds, and that what it does not find is not there.
-use Rattle.std.proofs.Common.{◌≡◌, ℕ, zero, suc, ◌+◌, ◌-◌, ◌<◌, ◌≤◌, ◌⊎◌, inl, inr, Bool, true, false, ◌==◌, ◌&&◌, List, [], ◌∷◌, length, map, get_or, refl, sym, ap, ◌∙◌, subst, ⊎_elim, arith, Option, Some, None}
+use Rattle.std.proofs.Common.{◌≡◌, ℕ, zero, suc, ◌+◌, ◌-◌, ◌<◌, ◌≤◌, ◌⊎◌, inl, inr, Bool, true, false, ◌==◌, ◌&&◌, List, [], ◌∷◌, length, map, get_or, refl}
+use Rattle.std.proofs.Common.{sym, ap, ◌∙◌, subst, ⊎_elim, arith, Option, Some, None}
 use Rattle.std.specs.Prelude.{nat_lt, slice_index, Contains, MatchOption, IsTrue}
 use Rattle.std.specs.List.Sorted.{IsPartitionedBy}
 use Rattle.std.proofs.lemmas.Bool.{cases_lt, and_parts, eq-eqb, eqb-true, lt-ltb, le-ltb, ltb-true, ltb-false, or_cases, false≢true, both_ways, cases_order}
@@ -96,7 +97,8 @@ comes_before-same x y h g = ⊎_elim
 
 -- ---- instances that ascend
 
-pub name_at : (insts : List Instance) (i : ℕ) (d : Instance) (e : plain.Instance) → i < length insts → get_or (map instance_of insts) i e ≡ instance_of (get_or insts i d)
+pub name_at : (insts : List Instance) (i : ℕ) (d : Instance) (e : plain.Instance) → i < length insts →
+    get_or (map instance_of insts) i e ≡ instance_of (get_or insts i d)
 name_at insts i d e h = get_or-map instance_of insts i d e h
 
 pub partitioned : (insts : List Instance) (x : plain.Instance) → Ascending insts → IsPartitionedBy (λ y. comes_before (instance_of y) x) insts
@@ -127,7 +129,8 @@ absent_instance insts x p up h g c =
     let k = c.0 in
     let inside : k < length insts = omega (arith, c.1, length-map insts instance_of) in
     let same : instance_of (get_or insts k first_instance) ≡ x = sym (name_at insts k first_instance x inside) ∙ c.2 in
-    let not_self = λ (y : plain.Instance) (e : y ≡ x) (b : comes_before y x ≡ true). both_ways (comes_before x x) (comes_before-self x) (subst (λ z. comes_before z x ≡ true) e b) in
+    let not_self = λ (y : plain.Instance) (e : y ≡ x) (b : comes_before y x ≡ true). both_ways (comes_before x x) (comes_before-self x)
+    (subst (λ z. comes_before z x ≡ true) e b) in
     ⊎_elim (λ lt. not_self _ same (h.0 k first_instance (omega arith) lt))
     (λ ge.
     let here : p < length insts = omega arith in
@@ -150,8 +153,10 @@ one_place insts i j up li lj e =
     = sym (name_at insts i first_instance _ li) ∙ e ∙ name_at insts j first_instance _ lj in
     ⊎_elim (λ q. q)
     (λ d. ⊎_elim
-    (λ l. absurd (both_ways _ (comes_before-self (instance_of (get_or insts j first_instance))) (subst (λ z. comes_before z (instance_of (get_or insts j first_instance)) ≡ true) same (up i j first_instance l lj))))
-    (λ l. absurd (both_ways _ (comes_before-self (instance_of (get_or insts j first_instance))) (subst (λ z. comes_before (instance_of (get_or insts j first_instance)) z ≡ true) same (up j i first_instance l li)))) d)
+    (λ l. absurd (both_ways _ (comes_before-self (instance_of (get_or insts j first_instance)))
+    (subst (λ z. comes_before z (instance_of (get_or insts j first_instance)) ≡ true) same (up i j first_instance l lj))))
+    (λ l. absurd (both_ways _ (comes_before-self (instance_of (get_or insts j first_instance)))
+    (subst (λ z. comes_before (instance_of (get_or insts j first_instance)) z ≡ true) same (up j i first_instance l li)))) d)
     (cases_order i j)
 
 -- ---- wires by name
@@ -216,7 +221,8 @@ pub absent_end : (insts : List Instance) (raw : List Wire) (first : List ℕ) (i
     → AreNeighbours insts raw first inputs outgoing
     → i < length insts
     → NotAmong raw first i (wires.End (record { 0 = i }) k)
-    → Contains (map (wire_of (map instance_of insts)) raw) (names.End (instance_at (map instance_of insts) i).path (instance_at (map instance_of insts) i).layer k)
+    → Contains (map (wire_of (map instance_of insts)) raw) (names.End (instance_at (map instance_of insts) i).path
+    (instance_at (map instance_of insts) i).layer k)
     → ⊥
 absent_end insts raw first inputs outgoing i k t li none c =
     let list = map instance_of insts in
@@ -233,7 +239,8 @@ pub absent_status : (insts : List Instance) (raw : List Wire) (first : List ℕ)
     → AreNeighbours insts raw first inputs outgoing
     → i < length insts
     → NotAmong raw first i (wires.Local (record { 0 = i }))
-    → Contains (map (wire_of (map instance_of insts)) raw) (names.StatusOf (instance_at (map instance_of insts) i).path (instance_at (map instance_of insts) i).layer)
+    → Contains (map (wire_of (map instance_of insts)) raw) (names.StatusOf (instance_at (map instance_of insts) i).path
+    (instance_at (map instance_of insts) i).layer)
     → ⊥
 absent_status insts raw first inputs outgoing i t li none c =
     let list = map instance_of insts in
@@ -344,7 +351,8 @@ body_ascending body insts e i j d l g =
     second : instance_of (get_or insts j d) ≡ get_or (body_instances body) j (instance_of d)
     second = sym (name_at insts j d (instance_of d) g) ∙ ap (λ l. get_or l j (instance_of d)) e
 
-pub path_within : (body : Term) (insts : List Instance) (i : ℕ) (x : Instance) → map instance_of insts ≡ body_instances body → i < length insts → x ≡ get_or insts i x
+pub path_within : (body : Term) (insts : List Instance) (i : ℕ) (x : Instance) → map instance_of insts ≡ body_instances body → i < length insts →
+    x ≡ get_or insts i x
     → x.path.0 < statement_count body
 path_within body insts i x e l h =
     let m : i < length (body_instances body) = omega (arith, ap length (sym e), length-map insts instance_of) in

@@ -35,7 +35,8 @@ resumed_found : (body : Term) (b : Bool) (n : ℕ) → filter (is_resumed_pause 
 resumed_found body true n = refl
 resumed_found body false n = refl
 
-path_if : (b c : Bool) (n : ℕ) → map (λ x. x.path) (if b then (if c then at_layer n Resumed ∷ [] else []) else []) ≡ (if b then (if c then n ∷ [] else []) else [])
+path_if : (b c : Bool) (n : ℕ) → map (λ x. x.path) (if b then (if c then at_layer n Resumed ∷ [] else []) else []) ≡
+    (if b then (if c then n ∷ [] else []) else [])
 path_if true true n = refl
 path_if true false n = refl
 path_if false c n = refl
@@ -116,21 +117,28 @@ none_if : (b : Bool) → ◌≡◌ {A = List ℕ} [] (if b then [] else [])
 none_if true = refl
 none_if false = refl
 
-found : (body : Term) (a : Liveness) (t : Term) (n : ℕ) → IsKernel t → StandsAt (preorder body) n (preorder t) → leaf_paths a.resumed t n ≡ pauses body (instances a t n)
+found : (body : Term) (a : Liveness) (t : Term) (n : ℕ) → IsKernel t → StandsAt (preorder body) n (preorder t) →
+    leaf_paths a.resumed t n ≡ pauses body (instances a t n)
 found body a Nothing n k h = leaf_found body a Nothing n h (none_if a.resumed)
 found body a Pause n k h = leaf_found body a Pause n h refl
 found body a (Emit s) n k h = leaf_found body a (Emit s) n h (none_if a.resumed)
 found body a (Exit c) n k h = leaf_found body a (Exit c) n h (none_if a.resumed)
-found body a (Present e p q) n k h = two_found body a (part_liveness a p) (part_liveness a q) (Present e p q) p q n (resumes p) (resumes q) refl h refl refl refl refl refl
+found body a (Present e p q) n k h = two_found body a (part_liveness a p) (part_liveness a q) (Present e p q) p q n (resumes p)
+    (resumes q) refl h refl refl refl refl refl
     (found body (part_liveness a p) p (n + 1) k.0) (found body (part_liveness a q) q (n + 1 + statement_count p) k.1)
-found body a (Suspend e p) n k h = one_found body a (part_liveness a p) (Suspend e p) p n (resumes p) refl h refl refl refl refl (found body (part_liveness a p) p (n + 1) k)
-found body a (Seq p q) n k h = two_found body a (part_liveness a p) (second_liveness a p q (n + 1 + statement_count p)) (Seq p q) p q n (resumes p) (second_resumes p q) refl h refl refl refl refl refl
+found body a (Suspend e p) n k h = one_found body a (part_liveness a p) (Suspend e p) p n (resumes p) refl h refl refl refl refl
+    (found body (part_liveness a p) p (n + 1) k)
+found body a (Seq p q) n k h = two_found body a (part_liveness a p) (second_liveness a p q (n + 1 + statement_count p)) (Seq p q) p q n (resumes p)
+    (second_resumes p q) refl h refl refl refl refl refl
     (found body (part_liveness a p) p (n + 1) k.0) (found body (second_liveness a p q (n + 1 + statement_count p)) q (n + 1 + statement_count p) k.1)
-found body a (Loop at p) n k h = one_found body a (loop_liveness a p (n + 1)) (Loop at p) p n (resumes p) refl h refl refl refl refl (found body (loop_liveness a p (n + 1)) p (n + 1) k)
+found body a (Loop at p) n k h = one_found body a (loop_liveness a p (n + 1)) (Loop at p) p n (resumes p) refl h refl refl refl refl
+    (found body (loop_liveness a p (n + 1)) p (n + 1) k)
 found body a (Par p q) n k h = two_found body a (part_liveness a p) (part_liveness a q) (Par p q) p q n (resumes p) (resumes q) refl h refl refl refl refl refl
     (found body (part_liveness a p) p (n + 1) k.0) (found body (part_liveness a q) q (n + 1 + statement_count p) k.1)
-found body a (Trap p) n k h = one_found body a (part_liveness a p) (Trap p) p n (resumes p) refl h refl refl refl refl (found body (part_liveness a p) p (n + 1) k)
-found body a (Local s p) n k h = one_found body a (part_liveness a p) (Local s p) p n (resumes p) refl h refl refl refl refl (found body (part_liveness a p) p (n + 1) k)
+found body a (Trap p) n k h = one_found body a (part_liveness a p) (Trap p) p n (resumes p) refl h refl refl refl refl
+    (found body (part_liveness a p) p (n + 1) k)
+found body a (Local s p) n k h = one_found body a (part_liveness a p) (Local s p) p n (resumes p) refl h refl refl refl refl
+    (found body (part_liveness a p) p (n + 1) k)
 found body a (Awake e p) n k h = absurd k
 
 pub leaves_are_resumed_pauses_lem : LeavesAreResumedPauses

@@ -74,7 +74,8 @@ binders_below W n c B a b le u h s k e =
       live = λ l g. subst (λ j. Contains (layers_of (row_at W k).live) j) (above_above k n l x.around) (x.live (layer_above n l) (u.up l g));
     }
 
-local_binds : (W : List Row) (n c : ℕ) (a b : Liveness) (r : Row) → n < length W → n ≤ c → row_at W n ≡ r → is_local r.statement ≡ true → r.live ≡ a → Upwards a n b → Binder W n c b
+local_binds : (W : List Row) (n c : ℕ) (a b : Liveness) (r : Row) → n < length W → n ≤ c → row_at W n ≡ r → is_local r.statement ≡ true → r.live ≡ a →
+    Upwards a n b → Binder W n c b
 local_binds W n c a b r w le e k g u = record {
   within = w;
   around = le;
@@ -186,7 +187,8 @@ placed W a B x (Present e p q) n h r en b m le lt =
     let c = n + 1 + statement_count p in
     let k = row_read W a B x t n h in
     let hp = stands_first W n (row a B x t c) (rows (part_liveness a p) B (Then n e) p (n + 1)) (rows (part_liveness a q) B (Else n e) q c) h in
-    let hq = stands_second W n (row a B x t c) p (rows (part_liveness a p) B (Then n e) p (n + 1)) (rows (part_liveness a q) B (Else n e) q c) (length-rows (part_liveness a p) B (Then n e) p (n + 1)) h in
+    let hq = stands_second W n (row a B x t c) p (rows (part_liveness a p) B (Then n e) p (n + 1)) (rows (part_liveness a q) B (Else n e) q c)
+    (length-rows (part_liveness a p) B (Then n e) p (n + 1)) h in
     let kp = row_read W (part_liveness a p) B (Then n e) p (n + 1) hp in
     let kq = row_read W (part_liveness a q) B (Else n e) q c hq in
     let pp = part_of W a B B x (Then n e) t p c (second_of p (n + 1)) n (n + 1) k.within (omega arith) k.same kp.same in
@@ -203,8 +205,10 @@ placed W a B x (Seq p q) n h r en b m le lt =
     let t = Seq p q in
     let c = n + 1 + statement_count p in
     let k = row_read W a B x t n h in
-    let hp = stands_first W n (row a B x t c) (rows (part_liveness a p) B (Branch n) p (n + 1)) (rows (second_liveness a p q (n + 1 + statement_count p)) B (Second n) q c) h in
-    let hq = stands_second W n (row a B x t c) p (rows (part_liveness a p) B (Branch n) p (n + 1)) (rows (second_liveness a p q (n + 1 + statement_count p)) B (Second n) q c) (length-rows (part_liveness a p) B (Branch n) p (n + 1)) h in
+    let hp = stands_first W n (row a B x t c) (rows (part_liveness a p) B (Branch n) p (n + 1))
+    (rows (second_liveness a p q (n + 1 + statement_count p)) B (Second n) q c) h in
+    let hq = stands_second W n (row a B x t c) p (rows (part_liveness a p) B (Branch n) p (n + 1))
+    (rows (second_liveness a p q (n + 1 + statement_count p)) B (Second n) q c) (length-rows (part_liveness a p) B (Branch n) p (n + 1)) h in
     let kp = row_read W (part_liveness a p) B (Branch n) p (n + 1) hp in
     let kq = row_read W (second_liveness a p q (n + 1 + statement_count p)) B (Second n) q c hq in
     let pp = part_of W a B B x (Branch n) t p c (second_of p (n + 1)) n (n + 1) k.within (omega arith) k.same kp.same in
@@ -225,7 +229,8 @@ placed W a B x (Par p q) n h r en b m le lt =
     let c = n + 1 + statement_count p in
     let k = row_read W a B x t n h in
     let hp = stands_first W n (row a B x t c) (rows (part_liveness a p) B (Branch n) p (n + 1)) (rows (part_liveness a q) B (Branch n) q c) h in
-    let hq = stands_second W n (row a B x t c) p (rows (part_liveness a p) B (Branch n) p (n + 1)) (rows (part_liveness a q) B (Branch n) q c) (length-rows (part_liveness a p) B (Branch n) p (n + 1)) h in
+    let hq = stands_second W n (row a B x t c) p (rows (part_liveness a p) B (Branch n) p (n + 1)) (rows (part_liveness a q) B (Branch n) q c)
+    (length-rows (part_liveness a p) B (Branch n) p (n + 1)) h in
     let kp = row_read W (part_liveness a p) B (Branch n) p (n + 1) hp in
     let kq = row_read W (part_liveness a q) B (Branch n) q c hq in
     let pp = part_of W a B B x (Branch n) t p c (second_of p (n + 1)) n (n + 1) k.within (omega arith) k.same kp.same in

@@ -58,7 +58,8 @@ term_of_row r = r.statement
 rows_only : (t : Term) (ps : List Row) (xs : List Term) → map term_of_row ps ≡ xs → t ∷ map term_of_row ps ≡ t ∷ xs
 rows_only t ps xs e = ap (λ l. t ∷ l) e
 
-rows_both : (t : Term) (ps qs : List Row) (xs ys : List Term) → map term_of_row ps ≡ xs → map term_of_row qs ≡ ys → t ∷ map term_of_row (ps ++ qs) ≡ t ∷ (xs ++ ys)
+rows_both : (t : Term) (ps qs : List Row) (xs ys : List Term) → map term_of_row ps ≡ xs → map term_of_row qs ≡ ys →
+    t ∷ map term_of_row (ps ++ qs) ≡ t ∷ (xs ++ ys)
 rows_both t ps qs xs ys e f = ap (λ l. t ∷ l) (map-append term_of_row ps qs ∙ (λ i. e i ++ f i))
 
 rows_in_preorder : (a : Liveness) (B : Scope) (x : Entry) (t : Term) (n : ℕ) → map term_of_row (rows a B x t n) ≡ preorder t
@@ -66,11 +67,14 @@ rows_in_preorder a B x Nothing n = refl
 rows_in_preorder a B x Pause n = refl
 rows_in_preorder a B x (Emit s) n = refl
 rows_in_preorder a B x (Exit k) n = refl
-rows_in_preorder a B x (Present e p q) n = rows_both _ _ _ _ _ (rows_in_preorder (part_liveness a p) B (Then n e) p (n + 1)) (rows_in_preorder (part_liveness a q) B (Else n e) q (n + 1 + statement_count p))
+rows_in_preorder a B x (Present e p q) n = rows_both _ _ _ _ _ (rows_in_preorder (part_liveness a p) B (Then n e) p (n + 1))
+    (rows_in_preorder (part_liveness a q) B (Else n e) q (n + 1 + statement_count p))
 rows_in_preorder a B x (Suspend e p) n = rows_only _ _ _ (rows_in_preorder (part_liveness a p) B (Suspended n e) p (n + 1))
-rows_in_preorder a B x (Seq p q) n = rows_both _ _ _ _ _ (rows_in_preorder (part_liveness a p) B (Branch n) p (n + 1)) (rows_in_preorder (second_liveness a p q (n + 1 + statement_count p)) B (Second n) q (n + 1 + statement_count p))
+rows_in_preorder a B x (Seq p q) n = rows_both _ _ _ _ _ (rows_in_preorder (part_liveness a p) B (Branch n) p (n + 1))
+    (rows_in_preorder (second_liveness a p q (n + 1 + statement_count p)) B (Second n) q (n + 1 + statement_count p))
 rows_in_preorder a B x (Loop at p) n = rows_only _ _ _ (rows_in_preorder (loop_liveness a p (n + 1)) B (Looped n) p (n + 1))
-rows_in_preorder a B x (Par p q) n = rows_both _ _ _ _ _ (rows_in_preorder (part_liveness a p) B (Branch n) p (n + 1)) (rows_in_preorder (part_liveness a q) B (Branch n) q (n + 1 + statement_count p))
+rows_in_preorder a B x (Par p q) n = rows_both _ _ _ _ _ (rows_in_preorder (part_liveness a p) B (Branch n) p (n + 1))
+    (rows_in_preorder (part_liveness a q) B (Branch n) q (n + 1 + statement_count p))
 rows_in_preorder a B x (Trap p) n = rows_only _ _ _ (rows_in_preorder (part_liveness a p) B (Part n) p (n + 1))
 rows_in_preorder a B x (Local s p) n = rows_only _ _ _ (rows_in_preorder (part_liveness a p) (bind B s n) (Part n) p (n + 1))
 rows_in_preorder a B x (Awake e p) n = rows_only _ _ _ (rows_in_preorder (part_liveness a p) B (Part n) p (n + 1))
@@ -108,7 +112,8 @@ set_read : (c : List CodeSet) (f : Term → ℕ → Bool) (p : Program) (n : ℕ
     → set_at c n ≡ f (row_at (program_rows p) n).statement
 set_read c f p n h e =
     let inside : n < length (program_rows p) = omega (arith, length-program_rows p) in
-    ap (λ l. get_or l n no_code) (e ∙ ap (λ l. map f l) (sym (rows_in_preorder (body_liveness p.body) (program_scope p.inputs (interface_count p)) Body p.body 0)))
+    ap (λ l. get_or l n no_code) (e ∙ ap (λ l. map f l) (sym (rows_in_preorder (body_liveness p.body)
+    (program_scope p.inputs (interface_count p)) Body p.body 0)))
     ∙ get_or-map f (map term_of_row (program_rows p)) n Nothing no_code (omega (arith, length-map (program_rows p) term_of_row))
     ∙ ap f (get_or-map term_of_row (program_rows p) n _ Nothing inside)
 

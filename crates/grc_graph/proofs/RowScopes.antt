@@ -1,6 +1,7 @@
 -- In the scope of each statement of a program, what is outgoing is an outgoing signal, and what is emitted has a status
 -- wire.
-use Rattle.std.proofs.Common.{◌≡◌, ℕ, ◌+◌, ◌-◌, ◌<◌, ◌≤◌, ◌⊎◌, inl, inr, Bool, true, false, ◌==◌, ◌||◌, List, [], ◌∷◌, ◌++◌, length, map, refl, sym, ap, ◌∙◌, subst, ⊎_elim, arith}
+use Rattle.std.proofs.Common.{◌≡◌, ℕ, ◌+◌, ◌-◌, ◌<◌, ◌≤◌, ◌⊎◌, inl, inr, Bool, true, false, ◌==◌, ◌||◌, List, [], ◌∷◌, ◌++◌, length, map, refl, sym, ap, ◌∙◌}
+use Rattle.std.proofs.Common.{subst, ⊎_elim, arith}
 use Rattle.std.specs.Prelude.{nat_lt, All, Contains, if◌then◌else◌, ⊤}
 use Rattle.std.specs.List.{range_with_len}
 use Rattle.std.proofs.lemmas.Bool.{cases_Bool, eqb-true, ltb-true, ltb-false, lt-ltb, le-ltb, or_cases}
@@ -92,7 +93,8 @@ first_fits inputs interface = record {
     below s false true h e = ltb-true s interface h
     below s false false h e = absurd (cc)
 
-own_fits : (inputs interface : ℕ) (visible : ℕ → Bool) (B : Scope) (a : Liveness) (x : Entry) (t : Term) (k : ℕ) → ScopeFits inputs interface visible B → EmitShown t B
+own_fits : (inputs interface : ℕ) (visible : ℕ → Bool) (B : Scope) (a : Liveness) (x : Entry) (t : Term) (k : ℕ) → ScopeFits inputs interface visible B →
+    EmitShown t B
     → RowFits inputs interface (row a B x t k)
 own_fits inputs interface visible B a x t k h e = record { outs_from = h.outs_from; outs_below = h.outs_below; emits = e }
 
@@ -100,10 +102,14 @@ rows_fit : (inputs interface all : ℕ) (visible : ℕ → Bool) (B : Scope) (a 
     → ScopeFits inputs interface visible B
     → SignalsFit inputs interface all visible t
     → All (RowFits inputs interface) (rows a B x t n)
-rows_fit inputs interface all visible B a x Nothing n h g = All-cons (RowFits inputs interface) _ [] (own_fits inputs interface visible B a x Nothing 0 h tt) (All-nil (RowFits inputs interface))
-rows_fit inputs interface all visible B a x Pause n h g = All-cons (RowFits inputs interface) _ [] (own_fits inputs interface visible B a x Pause 0 h tt) (All-nil (RowFits inputs interface))
-rows_fit inputs interface all visible B a x (Emit s) n h g = All-cons (RowFits inputs interface) _ [] (own_fits inputs interface visible B a x (Emit s) 0 h (h.shown s g.0 g.1)) (All-nil (RowFits inputs interface))
-rows_fit inputs interface all visible B a x (Exit k) n h g = All-cons (RowFits inputs interface) _ [] (own_fits inputs interface visible B a x (Exit k) 0 h tt) (All-nil (RowFits inputs interface))
+rows_fit inputs interface all visible B a x Nothing n h g = All-cons (RowFits inputs interface) _ [] (own_fits inputs interface visible B a x Nothing 0 h tt)
+    (All-nil (RowFits inputs interface))
+rows_fit inputs interface all visible B a x Pause n h g = All-cons (RowFits inputs interface) _ [] (own_fits inputs interface visible B a x Pause 0 h tt)
+    (All-nil (RowFits inputs interface))
+rows_fit inputs interface all visible B a x (Emit s) n h g = All-cons (RowFits inputs interface) _ []
+    (own_fits inputs interface visible B a x (Emit s) 0 h (h.shown s g.0 g.1)) (All-nil (RowFits inputs interface))
+rows_fit inputs interface all visible B a x (Exit k) n h g = All-cons (RowFits inputs interface) _ [] (own_fits inputs interface visible B a x (Exit k) 0 h tt)
+    (All-nil (RowFits inputs interface))
 rows_fit inputs interface all visible B a x (Present e p q) n h g =
     All-cons (RowFits inputs interface) _ _ (own_fits inputs interface visible B a x (Present e p q) (n + 1 + statement_count p) h tt)
     (All-append (RowFits inputs interface) _ _ (rows_fit inputs interface all visible B (part_liveness a p) (Then n e) p (n + 1) h g.1)

@@ -20,7 +20,8 @@ use Rattle.grc_graph.proofs.LiveInstances.{at_layer}
 one : (r : Row) (xs : List Row) (p : Term) → length xs ≡ statement_count p → length (r ∷ xs) ≡ 1 + statement_count p
 one r xs p h = omega arith
 
-two : (r : Row) (xs ys : List Row) (p q : Term) → length xs ≡ statement_count p → length ys ≡ statement_count q → length (r ∷ (xs ++ ys)) ≡ 1 + statement_count p + statement_count q
+two : (r : Row) (xs ys : List Row) (p q : Term) → length xs ≡ statement_count p → length ys ≡ statement_count q →
+    length (r ∷ (xs ++ ys)) ≡ 1 + statement_count p + statement_count q
 two r xs ys p q h g = omega (arith, length-append xs ys)
 
 pub length-rows : (a : Liveness) (B : Scope) (x : Entry) (t : Term) (n : ℕ) → length (rows a B x t n) ≡ statement_count t
@@ -28,11 +29,14 @@ length-rows a B x Nothing n = refl
 length-rows a B x Pause n = refl
 length-rows a B x (Emit s) n = refl
 length-rows a B x (Exit k) n = refl
-length-rows a B x (Present e p q) n = two (row a B x (Present e p q) (n + 1 + statement_count p)) _ _ p q (length-rows (part_liveness a p) B (Then n e) p (n + 1)) (length-rows (part_liveness a q) B (Else n e) q (n + 1 + statement_count p))
+length-rows a B x (Present e p q) n = two (row a B x (Present e p q) (n + 1 + statement_count p)) _ _ p q
+    (length-rows (part_liveness a p) B (Then n e) p (n + 1)) (length-rows (part_liveness a q) B (Else n e) q (n + 1 + statement_count p))
 length-rows a B x (Suspend e p) n = one (row a B x (Suspend e p) 0) _ p (length-rows (part_liveness a p) B (Suspended n e) p (n + 1))
-length-rows a B x (Seq p q) n = two (row a B x (Seq p q) (n + 1 + statement_count p)) _ _ p q (length-rows (part_liveness a p) B (Branch n) p (n + 1)) (length-rows (second_liveness a p q (n + 1 + statement_count p)) B (Second n) q (n + 1 + statement_count p))
+length-rows a B x (Seq p q) n = two (row a B x (Seq p q) (n + 1 + statement_count p)) _ _ p q (length-rows (part_liveness a p) B (Branch n) p (n + 1))
+    (length-rows (second_liveness a p q (n + 1 + statement_count p)) B (Second n) q (n + 1 + statement_count p))
 length-rows a B x (Loop at p) n = one (row a B x (Loop at p) 0) _ p (length-rows (loop_liveness a p (n + 1)) B (Looped n) p (n + 1))
-length-rows a B x (Par p q) n = two (row a B x (Par p q) (n + 1 + statement_count p)) _ _ p q (length-rows (part_liveness a p) B (Branch n) p (n + 1)) (length-rows (part_liveness a q) B (Branch n) q (n + 1 + statement_count p))
+length-rows a B x (Par p q) n = two (row a B x (Par p q) (n + 1 + statement_count p)) _ _ p q (length-rows (part_liveness a p) B (Branch n) p (n + 1))
+    (length-rows (part_liveness a q) B (Branch n) q (n + 1 + statement_count p))
 length-rows a B x (Trap p) n = one (row a B x (Trap p) 0) _ p (length-rows (part_liveness a p) B (Part n) p (n + 1))
 length-rows a B x (Local s p) n = one (row a B x (Local s p) 0) _ p (length-rows (part_liveness a p) (bind B s n) (Part n) p (n + 1))
 length-rows a B x (Awake e p) n = one (row a B x (Awake e p) 0) _ p (length-rows (part_liveness a p) B (Part n) p (n + 1))
@@ -44,7 +48,8 @@ stands_one W n r ps h = stands_tail W n r ps h
 pub stands_first : (W : List Row) (n : ℕ) (r : Row) (ps qs : List Row) → StandsAt W n (r ∷ (ps ++ qs)) → StandsAt W (n + 1) ps
 stands_first W n r ps qs h = stands_left W (n + 1) ps qs (stands_tail W n r (ps ++ qs) h)
 
-pub stands_second : (W : List Row) (n : ℕ) (r : Row) (p : Term) (ps qs : List Row) → length ps ≡ statement_count p → StandsAt W n (r ∷ (ps ++ qs)) → StandsAt W (n + 1 + statement_count p) qs
+pub stands_second : (W : List Row) (n : ℕ) (r : Row) (p : Term) (ps qs : List Row) → length ps ≡ statement_count p → StandsAt W n (r ∷ (ps ++ qs)) →
+    StandsAt W (n + 1 + statement_count p) qs
 stands_second W n r p ps qs e h = stands_right W (n + 1) (n + 1 + statement_count p) ps qs (ap (λ k. n + 1 + k) e) (stands_tail W n r (ps ++ qs) h)
 
 -- the row of the statement itself
@@ -84,7 +89,8 @@ here_spots W L a B x t n g e =
     }) (here_agrees L a t n g i))
     ∙ sym (map-map (spot_at W) (at_layer n) (layers_of a))
 
-here_and : (W : List Row) (ss ps : List Spot) (xs ys : List Instance) → ss ≡ map (spot_at W) xs → ps ≡ map (spot_at W) ys → ss ++ ps ≡ map (spot_at W) (xs ++ ys)
+here_and : (W : List Row) (ss ps : List Spot) (xs ys : List Instance) → ss ≡ map (spot_at W) xs → ps ≡ map (spot_at W) ys →
+    ss ++ ps ≡ map (spot_at W) (xs ++ ys)
 here_and W ss ps xs ys h g = (λ i. h i ++ g i) ∙ sym (map-append (spot_at W) xs ys)
 
 pub spots_by_row : (W : List Row) (L : ℕ → List Layer) (a : Liveness) (B : Scope) (x : Entry) (t : Term) (n : ℕ)
@@ -114,12 +120,14 @@ spots_by_row W L a B x (Seq p q) n k g h =
     here_and W _ _ _ _ (here_spots W L a B x t n g (row_read W a B x t n h).same) (here_and W _ _ _ _
     (spots_by_row W L (part_liveness a p) B (Branch n) p (n + 1) k.0 (first_agrees L a (part_liveness a p) (second_liveness a p q m) t p q n refl (λ j. refl) g)
     (stands_first W n _ _ _ h))
-    (spots_by_row W L (second_liveness a p q m) B (Second n) q m k.1 (second_agrees L a (part_liveness a p) (second_liveness a p q m) t p q n refl (λ j. refl) g)
+    (spots_by_row W L (second_liveness a p q m) B (Second n) q m k.1
+    (second_agrees L a (part_liveness a p) (second_liveness a p q m) t p q n refl (λ j. refl) g)
     (stands_second W n _ p _ _ (length-rows (part_liveness a p) B (Branch n) p (n + 1)) h)))
 spots_by_row W L a B x (Loop at p) n k g h =
     let t = Loop at p in
     here_and W _ _ _ _ (here_spots W L a B x t n g (row_read W a B x t n h).same)
-    (spots_by_row W L (loop_liveness a p (n + 1)) B (Looped n) p (n + 1) k (only_agrees L a (loop_liveness a p (n + 1)) t p n refl (λ j. refl) g) (stands_one W n _ _ h))
+    (spots_by_row W L (loop_liveness a p (n + 1)) B (Looped n) p (n + 1) k (only_agrees L a (loop_liveness a p (n + 1)) t p n refl (λ j. refl) g)
+    (stands_one W n _ _ h))
 spots_by_row W L a B x (Par p q) n k g h =
     let m = n + 1 + statement_count p in
     let t = Par p q in
@@ -135,7 +143,8 @@ spots_by_row W L a B x (Trap p) n k g h =
 spots_by_row W L a B x (Local s p) n k g h =
     let t = Local s p in
     here_and W _ _ _ _ (here_spots W L a B x t n g (row_read W a B x t n h).same)
-    (spots_by_row W L (part_liveness a p) (bind B s n) (Part n) p (n + 1) k (only_agrees L a (part_liveness a p) t p n refl (λ j. refl) g) (stands_one W n _ _ h))
+    (spots_by_row W L (part_liveness a p) (bind B s n) (Part n) p (n + 1) k (only_agrees L a (part_liveness a p) t p n refl (λ j. refl) g)
+    (stands_one W n _ _ h))
 spots_by_row W L a B x (Awake e p) n k g h = absurd k
 
 pub program_spots_by_row : (p : Program) → IsKernel p.body → program_spots p ≡ map (spot_at (program_rows p)) (body_instances p.body)

@@ -1,5 +1,6 @@
 -- The list of a body's statements, as it grows, and the table of its scopes.
-use Rattle.std.proofs.Common.{◌≡◌, ℕ, ◌+◌, ◌<◌, ◌≤◌, ◌⊎◌, Bool, true, false, ◌==◌, List, [], ◌∷◌, ◌++◌, length, map, get_or, set, refl, sym, ap, ◌∙◌, subst, ⊎_elim, arith, length-append, append_assoc, get_or-set_same, get_or-set_other, set-set}
+use Rattle.std.proofs.Common.{◌≡◌, ℕ, ◌+◌, ◌<◌, ◌≤◌, ◌⊎◌, Bool, true, false, ◌==◌, List, [], ◌∷◌, ◌++◌, length, map, get_or, set, refl, sym, ap, ◌∙◌, subst}
+use Rattle.std.proofs.Common.{⊎_elim, arith, length-append, append_assoc, get_or-set_same, get_or-set_other, set-set}
 use Rattle.std.specs.Prelude.{slice_index_or, slice_set, if◌then◌else◌, nat_lt}
 use Rattle.std.specs.List.{range_with_len}
 use Rattle.std.proofs.lemmas.Bool.{cases_lt, cases_eq, eq-eqb, ne_eqb, lt-ltb, le-ltb}
@@ -49,7 +50,8 @@ pub patched : (old ps mid new : List Listed) (x : Listed) (place m : ℕ)
     → new ≡ old ++ (record x { second = m }) ∷ ps
 patched old ps mid new x place m e h f =
     let whole : mid ≡ old ++ x ∷ ps = h ∙ append_assoc old (x ∷ []) ps in
-    let here : get_or mid place x ≡ x = (λ i. get_or (whole i) (e i) x) ∙ ap (λ k. get_or (old ++ x ∷ ps) k x) (let z : length old ≡ length old + 0 = omega arith in z) ∙ get_or-append-add old (x ∷ ps) 0 x in
+    let here : get_or mid place x ≡ x = (λ i. get_or (whole i) (e i) x)
+    ∙ ap (λ k. get_or (old ++ x ∷ ps) k x) (let z : length old ≡ length old + 0 = omega arith in z) ∙ get_or-append-add old (x ∷ ps) 0 x in
     f x ∙ (λ i. set (whole i) (e i) (record (here i) { second = m })) ∙ set_at old x ps (record x { second = m }) (length old) refl
 
 -- what is appended in turn
@@ -61,7 +63,8 @@ parts_behind old ps qs mid new x e f = f ∙ ap (λ l. l ++ qs) e ∙ append_ass
 
 -- ---- the scope of a program's body
 
-pub first_scope : (table : List bindings.Binding) (inputs interface all : ℕ) → inputs ≤ interface → interface ≤ all → map binding_of table ≡ map (program_scope inputs interface) (range_with_len 0 all)
+pub first_scope : (table : List bindings.Binding) (inputs interface all : ℕ) → inputs ≤ interface → interface ≤ all →
+    map binding_of table ≡ map (program_scope inputs interface) (range_with_len 0 all)
     → scope_of table ≡ program_scope inputs interface
 first_scope table inputs interface all lo le e = λ i s. each s i
   where
@@ -72,7 +75,8 @@ first_scope table inputs interface all lo le e = λ i s. each s i
         (λ g.
         let a : nat_lt s interface ≡ false = le-ltb s interface (omega arith) in
         let b : nat_lt s inputs ≡ false = le-ltb s inputs (omega arith) in
-        get_or-eq_default (map (program_scope inputs interface) (range_with_len 0 all)) Unbound (omega (arith, length-map-range_with_len (program_scope inputs interface) 0 all))
+        get_or-eq_default (map (program_scope inputs interface) (range_with_len 0 all)) Unbound
+        (omega (arith, length-map-range_with_len (program_scope inputs interface) 0 all))
         ∙ λ i. if sym b i then Entering else if sym a i then Outgoing else Unbound)
         (cases_lt s all)
 

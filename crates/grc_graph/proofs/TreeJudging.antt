@@ -1,5 +1,6 @@
 -- The judgement of a subtree by its places is that of its statement.
-use Rattle.std.proofs.Common.{◌≡◌, ℕ, zero, suc, ◌+◌, ◌-◌, ◌<◌, ◌≤◌, ◌⊎◌, Bool, true, false, ◌==◌, ◌&&◌, List, [], ◌∷◌, ◌++◌, length, map, get_or, refl, sym, ap, ◌∙◌, subst, ⊎_elim, arith, append_assoc, length-append}
+use Rattle.std.proofs.Common.{◌≡◌, ℕ, zero, suc, ◌+◌, ◌-◌, ◌<◌, ◌≤◌, ◌⊎◌, Bool, true, false, ◌==◌, ◌&&◌, List, [], ◌∷◌, ◌++◌, length, map, get_or, refl, sym}
+use Rattle.std.proofs.Common.{ap, ◌∙◌, subst, ⊎_elim, arith, append_assoc, length-append}
 use Rattle.std.specs.Prelude.{nat_lt, if◌then◌else◌}
 use Rattle.std.proofs.lemmas.List.{append-nil, get_or-append-add, length-map, get_or-map, get_or_append_left, get_or_default}
 use Rattle.std.proofs.lemmas.Bool.{false≢true, eq-eqb, ne_eqb, lt-ltb, le-ltb, cases_lt, and_from}
@@ -23,7 +24,11 @@ heads_nil : (n i : ℕ) → Heads [] n i
 heads_nil n i = record { path = λ d h. absurd (omega arith); after = λ d h. absurd (omega arith) }
 
 heads_if : (b : Bool) (n i : ℕ) (f : Form) (xs : List TreeNode) → Heads (subtree_if b n i f xs) n i
-heads_if true n i f xs = record { path = λ d h. refl; after = λ d h. (let e : i + 1 + length xs ≡ i + length (record { path = n; after = i + 1 + length xs; form = f } ∷ xs) = omega arith in e) }
+heads_if true n i f xs = record {
+  path = λ d h. refl;
+  after = λ d h.
+      (let e : i + 1 + length xs ≡ i + length (record { path = n; after = i + 1 + length xs; form = f } ∷ xs) = omega arith in e);
+}
 heads_if false n i f xs = heads_nil n i
 
 pub heads_tree : (b : Bool) (t : Term) (n i k : ℕ) → Heads (tree_nodes b t n i k) n i
@@ -112,7 +117,8 @@ count_some (Awake e p) = omega arith
 
 row_two : (bits : List Bool) (t p q : Term) (other : Bool) (f : Form) (n i k : ℕ)
     → tree_nodes true t n i k ≡ subtree_if true n i f (tree_nodes (resumes p) p (n + 1) (i + 1) k
-    ++ tree_nodes other q (n + 1 + statement_count p) (i + 1 + length (tree_nodes (resumes p) p (n + 1) (i + 1) k)) (k + length (leaf_paths (resumes p) p (n + 1))))
+    ++ tree_nodes other q (n + 1 + statement_count p) (i + 1 + length (tree_nodes (resumes p) p (n + 1) (i + 1) k))
+    (k + length (leaf_paths (resumes p) p (n + 1))))
     → judgement bits true t n k ≡ combined bits f (judgement bits (resumes p) p (n + 1) k)
     (judgement bits other q (n + 1 + statement_count p) (k + length (leaf_paths (resumes p) p (n + 1))))
     → Row bits t n i k
@@ -203,7 +209,8 @@ middle_of nodes nest i n m d pre A B post f e at a b lt =
     (λ (none : length A < 1).
     ⊎_elim
     (λ (empty : length B < 1).
-    left_out test _ _ (ap (λ v. v && (get_or nodes (i + 1) d).path.0 == (get_or nodes i d).path.0 + 1) (le-ltb (i + 1) (end_of nodes i d) (omega (arith, end, both))))
+    left_out test _ _ (ap (λ v. v && (get_or nodes (i + 1) d).path.0 == (get_or nodes i d).path.0 + 1)
+    (le-ltb (i + 1) (end_of nodes i d) (omega (arith, end, both))))
     ∙ (let r : i + 1 ≡ i + 1 + length A = omega arith in r))
     (λ (some : 1 ≤ length B).
     let next : node_of (get_or nodes (i + 1) d) ≡ get_or (A ++ B) 0 (node_of d)

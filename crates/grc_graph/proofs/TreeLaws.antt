@@ -1,5 +1,6 @@
 -- The list of nodes of a body's selection tree: its subtrees nest, and its leaves are numbered in order.
-use Rattle.std.proofs.Common.{◌≡◌, ℕ, zero, suc, ◌+◌, ◌<◌, ◌≤◌, ◌⊎◌, inl, inr, Bool, true, false, List, [], ◌∷◌, ◌++◌, length, map, take, get_or, fold, cond, refl, sym, ap, ◌∙◌, subst, ⊎_elim, arith, length-append}
+use Rattle.std.proofs.Common.{◌≡◌, ℕ, zero, suc, ◌+◌, ◌<◌, ◌≤◌, ◌⊎◌, inl, inr, Bool, true, false, List, [], ◌∷◌, ◌++◌, length, map, take, get_or, fold, cond}
+use Rattle.std.proofs.Common.{refl, sym, ap, ◌∙◌, subst, ⊎_elim, arith, length-append}
 use Rattle.std.specs.Prelude.{IsTrue, count_by, if◌then◌else◌}
 use Rattle.std.proofs.lemmas.List.{length-map, get_or_append_left, get_or-append-add}
 use Rattle.std.proofs.lemmas.Bool.{cases_lt, eq-eqb}
@@ -9,7 +10,8 @@ use Rattle.est_kernel.specs.Preorder.{statement_count}
 use Rattle.grc_graph.specs.declared.trees.SelForm.{SelForm}
 use Rattle.grc_graph.specs.declared.trees.SelForm.TheVariants as forms
 use Rattle.grc_graph.specs.declared.trees.SelNode.{SelNode}
-use Rattle.grc_graph.specs.SelectionTrees.{Form, Leaf, Exclusive, Parallel, Passing, TreeNode, tree_nodes, leaf_paths, subtree_if, resumes, second_resumes, body_tree, body_leaves}
+use Rattle.grc_graph.specs.SelectionTrees.{Form, Leaf, Exclusive, Parallel, Passing, TreeNode, tree_nodes, leaf_paths, subtree_if, resumes, second_resumes}
+use Rattle.grc_graph.specs.SelectionTrees.{body_tree, body_leaves}
 use Rattle.grc_graph.specs.TreeForms.{form_of, node_of, is_leaf, end_of, is_numbered, leaves_before, SubtreesNest, LeavesAscend}
 
 -- where the resumed instance is not live there are no nodes
@@ -213,7 +215,8 @@ leaf_count-tree b (Trap p) n i k = leaves_if b n i Passing _ _ refl (leaf_count-
 leaf_count-tree b (Local s p) n i k = leaves_if b n i Passing _ _ refl (leaf_count-tree (resumes p) p (n + 1) (i + 1) k)
 leaf_count-tree b (Awake e p) n i k = refl
 
-numbered_if : (b : Bool) (n i k : ℕ) (f : Form) (xs : List TreeNode) → HasNumber f k → leaf_in f ≡ 0 → NumberedFrom k xs → NumberedFrom k (subtree_if b n i f xs)
+numbered_if : (b : Bool) (n i k : ℕ) (f : Form) (xs : List TreeNode) → HasNumber f k → leaf_in f ≡ 0 → NumberedFrom k xs →
+    NumberedFrom k (subtree_if b n i f xs)
 numbered_if true n i k f xs h e g = (h, subst (λ m. NumberedFrom m xs) (let r : k ≡ k + leaf_in f = omega (arith, e) in r) g)
 numbered_if false n i k f xs h e g = tt
 
@@ -285,7 +288,8 @@ numbers_nodes (x ∷ xs) k (suc i) d h l =
 pub tree_nests : (nodes : List SelNode) (body : Term) → map node_of nodes ≡ body_tree body → SubtreesNest nodes
 tree_nests nodes body e = nest_nodes nodes (subst (λ l. NestFrom 0 l) (sym e) (nest_tree (resumes body) body 0 0 0))
 
-pub tree_numbers : (nodes : List SelNode) (leaves : ℕ) (body : Term) → map node_of nodes ≡ body_tree body → leaves ≡ length (body_leaves body) → LeavesAscend nodes leaves
+pub tree_numbers : (nodes : List SelNode) (leaves : ℕ) (body : Term) → map node_of nodes ≡ body_tree body → leaves ≡ length (body_leaves body) →
+    LeavesAscend nodes leaves
 tree_numbers nodes leaves body e l = record {
   numbered = λ i d h. subst (λ m. IsTrue (is_numbered (get_or nodes i d).form m)) (let z : 0 + leaves_before nodes i ≡ leaves_before nodes i = omega arith in z)
       (numbers_nodes nodes 0 i d (subst (λ l. NumberedFrom 0 l) (sym e) (numbered_tree (resumes body) body 0 0 0)) h);

@@ -1,5 +1,6 @@
 -- The judgement of a tree by the numbers of its leaves is that of the body by the pauses that they select.
-use Rattle.std.proofs.Common.{◌≡◌, ℕ, zero, suc, ◌+◌, ◌<◌, ◌≤◌, Bool, true, false, not, ◌==◌, ◌&&◌, ◌||◌, List, [], ◌∷◌, ◌++◌, length, get_or, refl, sym, ap, ◌∙◌, subst, arith, append_assoc, length-append}
+use Rattle.std.proofs.Common.{◌≡◌, ℕ, zero, suc, ◌+◌, ◌<◌, ◌≤◌, Bool, true, false, not, ◌==◌, ◌&&◌, ◌||◌, List, [], ◌∷◌, ◌++◌, length, get_or, refl, sym, ap}
+use Rattle.std.proofs.Common.{◌∙◌, subst, arith, append_assoc, length-append}
 use Rattle.std.specs.Prelude.{if◌then◌else◌, All}
 use Rattle.std.proofs.lemmas.List.{append-nil}
 use Rattle.std.proofs.lemmas.List.Elements.{All-append, All-nil, All-cons, All-weaker, All-head, All-tail}
@@ -63,7 +64,8 @@ judged_nothing S bits (Trap p) n k h = judged_nothing S bits p (n + 1) k h
 judged_nothing S bits (Local s p) n k h = judged_nothing S bits p (n + 1) k h
 judged_nothing S bits (Awake e p) n k h = refl
 
-judged_selection : (S : ℕ → Bool) (bits : List Bool) (b : Bool) (t : Term) (n k : ℕ) → Agrees S bits b t n k → judgement bits b t n k ≡ selection_judgement S t n
+judged_selection : (S : ℕ → Bool) (bits : List Bool) (b : Bool) (t : Term) (n k : ℕ) → Agrees S bits b t n k →
+    judgement bits b t n k ≡ selection_judgement S t n
 judged_selection S bits false Nothing n k h = refl
 judged_selection S bits false Pause n k h = sym (judged_nothing S bits Pause n k h)
 judged_selection S bits false (Emit s) n k h = refl
@@ -142,22 +144,29 @@ among_if false n m us h = All-nil (λ u. (n ≤ u) × (u < m))
 
 pub leaves_among : (b : Bool) (t : Term) (n : ℕ) → Among n (n + statement_count t) (leaf_paths b t n)
 leaves_among b Nothing n = All-nil (λ u. (n ≤ u) × (u < n + 1))
-leaves_among b Pause n = among_if b n (n + 1) (n ∷ []) (All-cons (λ u. (n ≤ u) × (u < n + 1)) n [] (omega arith, omega arith) (All-nil (λ u. (n ≤ u) × (u < n + 1))))
+leaves_among b Pause n = among_if b n (n + 1) (n ∷ []) (All-cons (λ u. (n ≤ u) × (u < n + 1)) n [] (omega arith, omega arith)
+    (All-nil (λ u. (n ≤ u) × (u < n + 1))))
 leaves_among b (Emit s) n = All-nil (λ u. (n ≤ u) × (u < n + 1))
 leaves_among b (Exit c) n = All-nil (λ u. (n ≤ u) × (u < n + 1))
 leaves_among b (Present e p q) n = among_if b n _ _ (All-append (λ u. (n ≤ u) × (u < n + (1 + statement_count p + statement_count q))) _ _
     (wider (n + 1) (n + 1 + statement_count p) n _ _ (omega arith) (omega arith) (leaves_among (resumes p) p (n + 1)))
-    (wider (n + 1 + statement_count p) (n + 1 + statement_count p + statement_count q) n _ _ (omega arith) (omega arith) (leaves_among (resumes q) q (n + 1 + statement_count p))))
-leaves_among b (Suspend e p) n = among_if b n _ _ (wider (n + 1) (n + 1 + statement_count p) n _ _ (omega arith) (omega arith) (leaves_among (resumes p) p (n + 1)))
+    (wider (n + 1 + statement_count p) (n + 1 + statement_count p + statement_count q) n _ _ (omega arith) (omega arith)
+    (leaves_among (resumes q) q (n + 1 + statement_count p))))
+leaves_among b (Suspend e p) n = among_if b n _ _ (wider (n + 1) (n + 1 + statement_count p) n _ _ (omega arith) (omega arith)
+    (leaves_among (resumes p) p (n + 1)))
 leaves_among b (Seq p q) n = among_if b n _ _ (All-append (λ u. (n ≤ u) × (u < n + (1 + statement_count p + statement_count q))) _ _
     (wider (n + 1) (n + 1 + statement_count p) n _ _ (omega arith) (omega arith) (leaves_among (resumes p) p (n + 1)))
-    (wider (n + 1 + statement_count p) (n + 1 + statement_count p + statement_count q) n _ _ (omega arith) (omega arith) (leaves_among (second_resumes p q) q (n + 1 + statement_count p))))
-leaves_among b (Loop at p) n = among_if b n _ _ (wider (n + 1) (n + 1 + statement_count p) n _ _ (omega arith) (omega arith) (leaves_among (resumes p) p (n + 1)))
+    (wider (n + 1 + statement_count p) (n + 1 + statement_count p + statement_count q) n _ _ (omega arith) (omega arith)
+    (leaves_among (second_resumes p q) q (n + 1 + statement_count p))))
+leaves_among b (Loop at p) n = among_if b n _ _ (wider (n + 1) (n + 1 + statement_count p) n _ _ (omega arith) (omega arith)
+    (leaves_among (resumes p) p (n + 1)))
 leaves_among b (Par p q) n = among_if b n _ _ (All-append (λ u. (n ≤ u) × (u < n + (1 + statement_count p + statement_count q))) _ _
     (wider (n + 1) (n + 1 + statement_count p) n _ _ (omega arith) (omega arith) (leaves_among (resumes p) p (n + 1)))
-    (wider (n + 1 + statement_count p) (n + 1 + statement_count p + statement_count q) n _ _ (omega arith) (omega arith) (leaves_among (resumes q) q (n + 1 + statement_count p))))
+    (wider (n + 1 + statement_count p) (n + 1 + statement_count p + statement_count q) n _ _ (omega arith) (omega arith)
+    (leaves_among (resumes q) q (n + 1 + statement_count p))))
 leaves_among b (Trap p) n = among_if b n _ _ (wider (n + 1) (n + 1 + statement_count p) n _ _ (omega arith) (omega arith) (leaves_among (resumes p) p (n + 1)))
-leaves_among b (Local s p) n = among_if b n _ _ (wider (n + 1) (n + 1 + statement_count p) n _ _ (omega arith) (omega arith) (leaves_among (resumes p) p (n + 1)))
+leaves_among b (Local s p) n = among_if b n _ _ (wider (n + 1) (n + 1 + statement_count p) n _ _ (omega arith) (omega arith)
+    (leaves_among (resumes p) p (n + 1)))
 leaves_among b (Awake e p) n = All-nil (λ u. (n ≤ u) × (u < n + (1 + statement_count p)))
 
 -- where the resumed instance is not live there are no leaves
@@ -189,19 +198,23 @@ pub first_placed : (us : List ℕ) (b r s : Bool) (t p q : Term) (n k : ℕ) (pr
     → Placed us b t n k pre post
     → Placed us (b && r) p (n + 1) k pre (leaf_paths (b && s) q (n + 1 + statement_count p) ++ post)
 first_placed us true r s t p q n k pre post e c h = record {
-  whole = h.whole ∙ ap (λ l. pre ++ (l ++ post)) e ∙ ap (λ l. pre ++ l) (append_assoc (leaf_paths r p (n + 1)) (leaf_paths s q (n + 1 + statement_count p)) post);
+  whole = h.whole ∙ ap (λ l. pre ++ (l ++ post)) e ∙ ap (λ l. pre ++ l)
+      (append_assoc (leaf_paths r p (n + 1)) (leaf_paths s q (n + 1 + statement_count p)) post);
   place = λ y. h.place refl;
   below = All-weaker (λ m. m < n) (λ m. m < n + 1) (λ m l. omega arith) pre h.below;
   above = All-append (λ m. n + 1 + statement_count p ≤ m) _ post
-      (All-weaker (λ u. (n + 1 + statement_count p ≤ u) × (u < n + 1 + statement_count p + statement_count q)) (λ m. n + 1 + statement_count p ≤ m) (λ m l. l.0) _ (leaves_among s q (n + 1 + statement_count p)))
+      (All-weaker (λ u. (n + 1 + statement_count p ≤ u) × (u < n + 1 + statement_count p + statement_count q)) (λ m. n + 1 + statement_count p ≤ m)
+      (λ m l. l.0) _ (leaves_among s q (n + 1 + statement_count p)))
       (All-weaker (λ m. n + statement_count t ≤ m) (λ m. n + 1 + statement_count p ≤ m) (λ m l. omega (arith, c, l)) post h.above);
 }
 first_placed us false r s t p q n k pre post e c h = record {
-  whole = h.whole ∙ ap (λ l. pre ++ (l ++ post)) e ∙ (λ i. pre ++ (sym (leaves_none p (n + 1)) i ++ (sym (leaves_none q (n + 1 + statement_count p)) i ++ post)));
+  whole = h.whole ∙ ap (λ l. pre ++ (l ++ post)) e ∙ (λ i. pre ++ (sym (leaves_none p (n + 1)) i
+      ++ (sym (leaves_none q (n + 1 + statement_count p)) i ++ post)));
   place = λ y. absurd (false≢true y);
   below = All-weaker (λ m. m < n) (λ m. m < n + 1) (λ m l. omega arith) pre h.below;
   above = All-append (λ m. n + 1 + statement_count p ≤ m) _ post
-      (All-weaker (λ u. (n + 1 + statement_count p ≤ u) × (u < n + 1 + statement_count p + statement_count q)) (λ m. n + 1 + statement_count p ≤ m) (λ m l. l.0) _ (leaves_among false q (n + 1 + statement_count p)))
+      (All-weaker (λ u. (n + 1 + statement_count p ≤ u) × (u < n + 1 + statement_count p + statement_count q)) (λ m. n + 1 + statement_count p ≤ m)
+      (λ m l. l.0) _ (leaves_among false q (n + 1 + statement_count p)))
       (All-weaker (λ m. n + statement_count t ≤ m) (λ m. n + 1 + statement_count p ≤ m) (λ m l. omega (arith, c, l)) post h.above);
 }
 
@@ -257,26 +270,30 @@ pause_agrees us bits true n k pre post h =
 pause_agrees us bits false n k pre post h =
     ap (λ l. selecting l bits n) h.whole ∙ selecting-absent pre post bits n h.below h.above
 
-agrees : (us : List ℕ) (bits : List Bool) (b : Bool) (t : Term) (n k : ℕ) (pre post : List ℕ) → Placed us b t n k pre post → Agrees (selecting us bits) bits b t n k
+agrees : (us : List ℕ) (bits : List Bool) (b : Bool) (t : Term) (n k : ℕ) (pre post : List ℕ) → Placed us b t n k pre post →
+    Agrees (selecting us bits) bits b t n k
 agrees us bits b Nothing n k pre post h = tt
 agrees us bits b Pause n k pre post h = pause_agrees us bits b n k pre post h
 agrees us bits b (Emit s) n k pre post h = tt
 agrees us bits b (Exit c) n k pre post h = tt
 agrees us bits b (Present e p q) n k pre post h = (
   agrees us bits (b && resumes p) p (n + 1) k _ _ (first_placed us b (resumes p) (resumes q) (Present e p q) p q n k pre post refl refl h),
-  agrees us bits (b && resumes q) q (n + 1 + statement_count p) (k + length (leaf_paths (resumes p) p (n + 1))) _ _ (second_placed us b (resumes p) (resumes q) (Present e p q) p q n k pre post refl refl h),
+  agrees us bits (b && resumes q) q (n + 1 + statement_count p) (k + length (leaf_paths (resumes p) p (n + 1))) _ _
+      (second_placed us b (resumes p) (resumes q) (Present e p q) p q n k pre post refl refl h),
 )
 agrees us bits b (Suspend e p) n k pre post h =
     agrees us bits (b && resumes p) p (n + 1) k _ _ (part_placed us b (resumes p) (Suspend e p) p n k pre post refl refl h)
 agrees us bits b (Seq p q) n k pre post h = (
   agrees us bits (b && resumes p) p (n + 1) k _ _ (first_placed us b (resumes p) (second_resumes p q) (Seq p q) p q n k pre post refl refl h),
-  agrees us bits (b && second_resumes p q) q (n + 1 + statement_count p) (k + length (leaf_paths (resumes p) p (n + 1))) _ _ (second_placed us b (resumes p) (second_resumes p q) (Seq p q) p q n k pre post refl refl h),
+  agrees us bits (b && second_resumes p q) q (n + 1 + statement_count p) (k + length (leaf_paths (resumes p) p (n + 1))) _ _
+      (second_placed us b (resumes p) (second_resumes p q) (Seq p q) p q n k pre post refl refl h),
 )
 agrees us bits b (Loop at p) n k pre post h =
     agrees us bits (b && resumes p) p (n + 1) k _ _ (part_placed us b (resumes p) (Loop at p) p n k pre post refl refl h)
 agrees us bits b (Par p q) n k pre post h = (
   agrees us bits (b && resumes p) p (n + 1) k _ _ (first_placed us b (resumes p) (resumes q) (Par p q) p q n k pre post refl refl h),
-  agrees us bits (b && resumes q) q (n + 1 + statement_count p) (k + length (leaf_paths (resumes p) p (n + 1))) _ _ (second_placed us b (resumes p) (resumes q) (Par p q) p q n k pre post refl refl h),
+  agrees us bits (b && resumes q) q (n + 1 + statement_count p) (k + length (leaf_paths (resumes p) p (n + 1))) _ _
+      (second_placed us b (resumes p) (resumes q) (Par p q) p q n k pre post refl refl h),
 )
 agrees us bits b (Trap p) n k pre post h =
     agrees us bits (b && resumes p) p (n + 1) k _ _ (part_placed us b (resumes p) (Trap p) p n k pre post refl refl h)

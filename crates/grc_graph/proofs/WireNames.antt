@@ -1,5 +1,6 @@
 -- Which instances and wires a program has, by the rows of its statements.
-use Rattle.std.proofs.Common.{◌≡◌, ℕ, zero, suc, ◌+◌, ◌-◌, ◌<◌, ◌≤◌, ◌⊎◌, inl, inr, Bool, true, false, ◌==◌, ◌&&◌, List, [], ◌∷◌, ◌++◌, length, map, get_or, refl, sym, ap, ◌∙◌, subst, ⊎_elim, arith, length-append, append_assoc}
+use Rattle.std.proofs.Common.{◌≡◌, ℕ, zero, suc, ◌+◌, ◌-◌, ◌<◌, ◌≤◌, ◌⊎◌, inl, inr, Bool, true, false, ◌==◌, ◌&&◌, List, [], ◌∷◌, ◌++◌, length, map, get_or}
+use Rattle.std.proofs.Common.{refl, sym, ap, ◌∙◌, subst, ⊎_elim, arith, length-append, append_assoc}
 use Rattle.std.specs.Prelude.{Contains, if◌then◌else◌}
 use Rattle.std.specs.List.{flat_map, list_any, range_with_len}
 use Rattle.std.proofs.lemmas.Bool.{cases_lt, cases_Bool, eq-eqb, eqb-true, or_cases, or_left, false≢true}
@@ -124,14 +125,16 @@ in_rows (r ∷ rs) n m l h =
     })
     (Contains-append_cases (instances_at r.live n) (row_instances rs (n + 1)) (at_layer m l) h)
 
-from_rows : (rs : List Row) (n k : ℕ) (l : Layer) (d : Row) → k < length rs → Contains (layers_of (get_or rs k d).live) l → Contains (row_instances rs n) (at_layer (n + k) l)
+from_rows : (rs : List Row) (n k : ℕ) (l : Layer) (d : Row) → k < length rs → Contains (layers_of (get_or rs k d).live) l →
+    Contains (row_instances rs n) (at_layer (n + k) l)
 from_rows [] n k l d h g = absurd (omega arith)
 from_rows (r ∷ rs) n zero l d h g =
     Contains-append_left (instances_at r.live n) (row_instances rs (n + 1)) (at_layer (n + 0) l)
     (subst (λ m. Contains (instances_at r.live n) (at_layer m l)) (let z : n ≡ n + 0 = omega arith in z) (in_map n (layers_of r.live) l g))
 from_rows (r ∷ rs) n (suc k) l d h g =
     Contains-append_right (instances_at r.live n) (row_instances rs (n + 1)) (at_layer (n + suc k) l)
-    (subst (λ m. Contains (row_instances rs (n + 1)) (at_layer m l)) (let z : n + 1 + k ≡ n + suc k = omega arith in z) (from_rows rs (n + 1) k l d (omega arith) g))
+    (subst (λ m. Contains (row_instances rs (n + 1)) (at_layer m l)) (let z : n + 1 + k ≡ n + suc k = omega arith in z)
+    (from_rows rs (n + 1) k l d (omega arith) g))
 
 pub record LiveAt (p : Program) (n : ℕ) (l : Layer) : Type 0 where
   pub within : n < statement_count p.body
@@ -146,7 +149,8 @@ live_instance p n l h =
       live = live_of _ l (subst (λ k. Contains (layers_of (row_at (program_rows p) k).live) l) z (x.live _));
     }
 
-pub instance_live : (p : Program) (n : ℕ) (l : Layer) → n < statement_count p.body → live_in (row_at (program_rows p) n).live l ≡ true → Contains (body_instances p.body) (at_layer n l)
+pub instance_live : (p : Program) (n : ℕ) (l : Layer) → n < statement_count p.body → live_in (row_at (program_rows p) n).live l ≡ true →
+    Contains (body_instances p.body) (at_layer n l)
 instance_live p n l h g =
     let z : 0 + n ≡ n = omega arith in
     subst (λ xs. Contains xs (at_layer n l)) (sym (body_by_row p))
@@ -313,7 +317,8 @@ kind_inside t IsStatus n m l j h = ⊎_elim (λ e. absurd (clash e)) (λ u. ⊎_
 
     clash_end : (k : ℕ) → End n l k ≡ StatusOf m j → ⊥
     clash_end k e = cc
-kind_inside t (IsEnd c) n m l j h = ⊎_elim (λ e. absurd (clash e)) (λ u. ⊎_elim (λ v. absurd (clash_status v.1)) (λ v. (path v.0 v.2, layer v.0 v.2, subst (λ k. instance_codes t l k ≡ true) (code v.0 v.2) v.1)) u) h
+kind_inside t (IsEnd c) n m l j h = ⊎_elim (λ e. absurd (clash e))
+    (λ u. ⊎_elim (λ v. absurd (clash_status v.1)) (λ v. (path v.0 v.2, layer v.0 v.2, subst (λ k. instance_codes t l k ≡ true) (code v.0 v.2) v.1)) u) h
   where
     path : (k : ℕ) → End n l k ≡ End m j c → n ≡ m
     path k e = cc
@@ -378,7 +383,8 @@ has_inside t IsStatus n l b h =
     Contains-append_right (Go n l ∷ []) _ (StatusOf n l) (Contains-append_left (own_status t n l) _ (StatusOf n l) (status_in t n l h))
 has_inside t (IsEnd k) n l b h =
     Contains-append_right (Go n l ∷ []) _ (End n l k)
-    (Contains-append_right (own_status t n l) _ (End n l k) (contains_map (λ k. End n l k) (listed (instance_codes t l)) k (listed_has (instance_codes t l) k b h)))
+    (Contains-append_right (own_status t n l) _ (End n l k) (contains_map (λ k. End n l k) (listed (instance_codes t l)) k
+    (listed_has (instance_codes t l) k b h)))
 
 -- the wires that the program has
 pub wire_there : (p : Program) → IsKernel p.body → (c : Kind) (n : ℕ) (l : Layer) → Below c → WireAt p c n l → Contains (program_wires p) (wire_named c n l)
@@ -396,7 +402,8 @@ out_only p kernel s h =
     ⊎_elim
     (λ k.
     let few : k.0 < outgoing_count p = omega (arith, k.1, length-map-range_with_len Out p.inputs (outgoing_count p)) in
-    let same : p.inputs + k.0 ≡ s = number (p.inputs + k.0) (sym (get_or-map-range_with_len Out p.inputs (outgoing_count p) k.0 (p.inputs + k.0) (Out s) few refl) ∙ k.2) in
+    let same : p.inputs + k.0 ≡ s = number (p.inputs + k.0) (sym (get_or-map-range_with_len Out p.inputs (outgoing_count p) k.0 (p.inputs + k.0)
+    (Out s) few refl) ∙ k.2) in
     (omega (arith, same), omega (arith, same, few)))
     (λ k.
     let r = from_flat_map (row_wires W) (body_instances p.body) (Out s) k in

@@ -1,5 +1,6 @@
 -- Wires that are appended instance by instance.
-use Rattle.std.proofs.Common.{◌≡◌, ℕ, ◌+◌, ◌-◌, ◌<◌, ◌≤◌, Bool, true, false, List, [], ◌∷◌, ◌++◌, length, map, get_or, refl, sym, ap, ◌∙◌, subst, ⊎_elim, arith, length-append, Option, Some, None}
+use Rattle.std.proofs.Common.{◌≡◌, ℕ, ◌+◌, ◌-◌, ◌<◌, ◌≤◌, Bool, true, false, List, [], ◌∷◌, ◌++◌, length, map, get_or, refl, sym, ap, ◌∙◌, subst, ⊎_elim, arith}
+use Rattle.std.proofs.Common.{length-append, Option, Some, None}
 use Rattle.std.specs.Prelude.{slice_index, if◌then◌else◌, All}
 use Rattle.std.specs.List.{flat_map, range_with_len}
 use Rattle.std.proofs.lemmas.Bool.{cases_lt}
@@ -20,7 +21,8 @@ use Rattle.grc_graph.specs.WireTables.{owner, AreRuns, AreOutgoing, wire_run, is
 run_owned : (b : Bool) (A : ℕ → Bool) (i : ℕ) → All (λ w. owner w ≡ Some i) (wire_run b A i)
 run_owned b A i =
     All-cons (λ w. owner w ≡ Some i) _ _ refl
-    (All-append (λ w. owner w ≡ Some i) _ _ (status_owned b) (All-map (λ w. owner w ≡ Some i) (λ k. wires.End (record { 0 = i }) k) (names.listed A) (λ k d h. refl)))
+    (All-append (λ w. owner w ≡ Some i) _ _ (status_owned b) (All-map (λ w. owner w ≡ Some i) (λ k. wires.End (record { 0 = i }) k) (names.listed A)
+    (λ k d h. refl)))
   where
     status_owned : (b : Bool) → All (λ w. owner w ≡ Some i) (if b then wires.Local (record { 0 = i }) ∷ [] else [])
     status_owned true = All-cons (λ w. owner w ≡ Some i) (wires.Local (record { 0 = i })) [] refl (All-nil (λ w. owner w ≡ Some i))
@@ -69,7 +71,8 @@ AreRuns-more i list first b A end r e =
       last = here ∙ e;
       runs = λ j h. ⊎_elim
           (λ l. omega (arith, kept j (omega arith), kept (j + 1) (omega arith), r.runs j l))
-          (λ l. let q : j ≡ i = omega arith in subst (λ k. slice_index (first ++ end ∷ []) k < slice_index (first ++ end ∷ []) (k + 1)) (sym q) (omega (arith, here, last)))
+          (λ l. let q : j ≡ i = omega arith in subst (λ k. slice_index (first ++ end ∷ []) k < slice_index (first ++ end ∷ []) (k + 1)) (sym q)
+          (omega (arith, here, last)))
           (cases_lt j i);
       within = λ j h. ⊎_elim
           (λ l. omega (arith, kept (j + 1) (omega arith), r.within j l, length-append list run))
@@ -81,7 +84,8 @@ AreRuns-more i list first b A end r e =
           ∙ get_or_append_left list run d (slice_index first j) (omega (arith, r.runs j l, r.within j l)) ∙ r.go j d l)
           (λ l.
           let q : j ≡ i = omega arith in
-          let z : slice_index (first ++ end ∷ []) j ≡ length list + 0 = ap (λ k. slice_index (first ++ end ∷ []) k) q ∙ last ∙ (let z : length list ≡ length list + 0 = omega arith in z) in
+          let z : slice_index (first ++ end ∷ []) j ≡ length list + 0 = ap (λ k. slice_index (first ++ end ∷ []) k) q ∙ last
+          ∙ (let z : length list ≡ length list + 0 = omega arith in z) in
           ap (λ w. get_or (list ++ run) w d) z ∙ get_or-append-add list run 0 d ∙ λ t. wires.Go (record { 0 = sym q t }))
           (cases_lt j i);
       own_in = λ w j d h. in_two (λ u. owner u ≡ Some j → j < i + 1) list run w d h
@@ -169,7 +173,8 @@ run_names insts i x t b A e h g =
     let tail : map (wire_of insts) (map f (names.listed A)) ≡ map (λ k. names.End n l k) (names.listed (names.instance_codes t l))
     = map-map (wire_of insts) f (names.listed A) ∙ (λ j. map (λ k. names.End (e j).path (e j).layer k) (names.listed (g j))) in
     (λ j. head j ∷ map (wire_of insts) ((if b then wires.Local (record { 0 = i }) ∷ [] else []) ++ map f (names.listed A)))
-    ∙ ap (λ r. names.Go n l ∷ r) (map-append (wire_of insts) (if b then wires.Local (record { 0 = i }) ∷ [] else []) (map f (names.listed A)) ∙ λ j. middle j ++ tail j)
+    ∙ ap (λ r. names.Go n l ∷ r) (map-append (wire_of insts) (if b then wires.Local (record { 0 = i }) ∷ [] else []) (map f (names.listed A))
+    ∙ λ j. middle j ++ tail j)
 
 pub length-flat_map_nonempty : {X A : Type 0} (f : X → List A) → ((x : X) → 0 < length (f x)) → (xs : List X) → length xs ≤ length (flat_map f xs)
 length-flat_map_nonempty f h [] = omega arith

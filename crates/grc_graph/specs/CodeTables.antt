@@ -4,7 +4,8 @@ use Rattle.est_base.specs.declared.code_set.CodeSet.{CodeSet}
 use Rattle.est_base.specs.CodeSet.{members}
 use Rattle.est_base.specs.Codes.{no_code}
 use Rattle.est_kernel.specs.declared.code_lists.Codes.{Codes}
-use Rattle.est_kernel.specs.Terms.{Term, Nothing, Pause, Emit, Exit, Present, Suspend, Seq, Loop, Par, Trap, Local, Awake}
+use Rattle.est_kernel.specs.Terms.{Term, Nothing, Pause, Emit, Exit, Present, Suspend, Seq, Loop, Par, Trap, Local}
+use Rattle.est_kernel.specs.Terms.{Awake}
 use Rattle.est_kernel.specs.Preorder.{statement_count}
 use Rattle.est_kernel.specs.StaticCodes.{started_codes, resumed_codes}
 use Rattle.grc_graph.specs.Layers.{Layer, Resumed, Started}

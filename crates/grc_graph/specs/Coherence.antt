@@ -4,7 +4,8 @@
 -- of a Local where the walk of its body, in the same instance, emits the signal: so each status is coherent with what
 -- is emitted. The walk goes under the statuses that the status wires themselves have.
 use Rattle.std.specs.Prelude.{◌≡◌, ℕ, ◌+◌, Bool, true, not, ◌==◌, ◌&&◌}
-use Rattle.est_kernel.specs.Terms.{Term, Nothing, Pause, Emit, Exit, Present, Suspend, Seq, Loop, Par, Trap, Local, Awake}
+use Rattle.est_kernel.specs.Terms.{Term, Nothing, Pause, Emit, Exit, Present, Suspend, Seq, Loop, Par, Trap, Local}
+use Rattle.est_kernel.specs.Terms.{Awake}
 use Rattle.est_kernel.specs.Preorder.{statement_count}
 use Rattle.est_kernel.specs.StaticCodes.{has_code, started_codes, resumed_codes}
 use Rattle.grc_graph.specs.Layers.{Layer, Resumed, Started, can_pass}

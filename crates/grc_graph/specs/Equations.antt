@@ -2,15 +2,18 @@
 --
 -- They are Berry's circuit of the program ("The Constructive Semantics of Pure Esterel"), with an instance of its own
 -- for each layer in which a statement is live. A wire that does not exist counts as false.
-use Rattle.std.specs.Prelude.{ℕ, zero, suc, ◌+◌, Bool, false, ◌==◌, nat_lt, if◌then◌else◌, List, [], ◌∷◌, ◌++◌, map, Option, Some, None}
+use Rattle.std.specs.Prelude.{ℕ, zero, suc, ◌+◌, Bool, false, ◌==◌, nat_lt, if◌then◌else◌, List, [], ◌∷◌, ◌++◌, map}
+use Rattle.std.specs.Prelude.{Option, Some, None}
 use Rattle.std.specs.List.{flat_map}
 use Rattle.est_base.specs.Codes.{except}
-use Rattle.est_kernel.specs.Terms.{Term, Nothing, Pause, Emit, Exit, Present, Suspend, Seq, Loop, Par, Trap, Local, Awake}
+use Rattle.est_kernel.specs.Terms.{Term, Nothing, Pause, Emit, Exit, Present, Suspend, Seq, Loop, Par, Trap, Local}
+use Rattle.est_kernel.specs.Terms.{Awake}
 use Rattle.est_kernel.specs.Preorder.{statement_count}
 use Rattle.est_kernel.specs.StaticCodes.{codes_if, has_code, started_codes, resumed_codes}
 use Rattle.grc_graph.specs.Layers.{Layer, Resumed, Started, can_pass}
 use Rattle.grc_graph.specs.Scopes.{Scope}
-use Rattle.grc_graph.specs.Wires.{Wire, Out, Go, StatusOf, End, same_wire, listed, instance_codes, instance_wires, status_wire}
+use Rattle.grc_graph.specs.Wires.{Wire, Out, Go, StatusOf, End, same_wire, listed, instance_codes, instance_wires}
+use Rattle.grc_graph.specs.Wires.{status_wire}
 use Rattle.grc_graph.specs.Formulas.{Formula, Input, Value, Selected, Upto, Kept, Held, Negation, Conjunction, any_of}
 use Rattle.grc_graph.specs.Spots.{Spot, test_formula}
 
@@ -47,7 +50,8 @@ branch_end A n c k =
 
 abbrev pub resumed_parallel : (A C : ℕ → Bool) (n c d k : ℕ) → Formula
 resumed_parallel A C n c d k =
-    Conjunction (branch_upto A n c k) (Conjunction (branch_upto C n d k) (any_of (branch_end A n c k ++ branch_end C n d k)))
+    Conjunction (branch_upto A n c k) (Conjunction (branch_upto C n d k)
+    (any_of (branch_end A n c k ++ branch_end C n d k)))
 
 -- The formula of `end k` of a statement at n in a layer, for each of its codes k.
 abbrev pub end_formula : Scope → Term → ℕ → Layer → ℕ → Formula
@@ -105,7 +109,8 @@ emissions w (x ∷ xs) =
 -- The equations of an instance, in the order of its wires. A Local's status wire is true where one of the emissions
 -- on it, among all instances, is.
 abbrev pub instance_status : List Spot → Term → ℕ → Layer → List Equation
-instance_status all (Local s p) n l = record { wire = StatusOf n l; formula = any_of (emissions (StatusOf n l) all) } ∷ []
+instance_status all (Local s p) n l = record { wire = StatusOf n l; formula = any_of (emissions (StatusOf n l) all) } ∷
+    []
 instance_status all t n l = []
 
 abbrev pub instance_equations : List Spot → Spot → List Equation

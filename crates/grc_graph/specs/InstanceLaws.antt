@@ -1,6 +1,7 @@
 -- Inner: what the live instances and the selection tree of a body are to be.
 use Rattle.std.specs.Prelude.{◌≡◌, ℕ, Bool, true, false, ◌&&◌, List, map, filter, All, Contains, slice_index_or}
-use Rattle.est_kernel.specs.Terms.{Term, Nothing, Pause, Emit, Exit, Present, Suspend, Seq, Loop, Par, Trap, Local, Awake}
+use Rattle.est_kernel.specs.Terms.{Term, Nothing, Pause, Emit, Exit, Present, Suspend, Seq, Loop, Par, Trap, Local}
+use Rattle.est_kernel.specs.Terms.{Awake}
 use Rattle.est_kernel.specs.Laws.{IsSubset}
 use Rattle.est_kernel.specs.Preorder.{preorder}
 use Rattle.est_kernel.specs.StaticCodes.{started_codes, resumed_codes}

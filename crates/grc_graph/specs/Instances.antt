@@ -1,9 +1,11 @@
 -- To believe: the live instances of a body, in the order of the graph: statements in preorder, and at one statement
 -- resumed first, then started by ascending roots.
 use Rattle.std.specs.Prelude.{◌≡◌, ℕ, ◌+◌, ◌<◌, ◌==◌, ◌⊎◌, nat_lt, if◌then◌else◌, List, [], ◌∷◌, ◌++◌, map, All, ⊤}
-use Rattle.est_kernel.specs.Terms.{Term, Nothing, Pause, Emit, Exit, Present, Suspend, Seq, Loop, Par, Trap, Local, Awake}
+use Rattle.est_kernel.specs.Terms.{Term, Nothing, Pause, Emit, Exit, Present, Suspend, Seq, Loop, Par, Trap, Local}
+use Rattle.est_kernel.specs.Terms.{Awake}
 use Rattle.est_kernel.specs.Preorder.{statement_count}
-use Rattle.grc_graph.specs.Layers.{Layer, Resumed, Started, Liveness, layers_of, body_liveness, part_liveness, second_liveness, loop_liveness}
+use Rattle.grc_graph.specs.Layers.{Layer, Resumed, Started, Liveness, layers_of, body_liveness, part_liveness}
+use Rattle.grc_graph.specs.Layers.{second_liveness, loop_liveness}
 
 -- a statement, by its number, in a layer
 pub record Instance : Type 0 where

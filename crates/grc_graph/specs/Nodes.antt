@@ -1,7 +1,8 @@
 -- To believe: the nodes of the control-flow graph, one per live instance (Potop-Butucaru, Edwards and Berry,
 -- "Compiling Esterel").
 use Rattle.std.specs.Prelude.{ℕ, ◌+◌, Option}
-use Rattle.est_kernel.specs.Terms.{Term, Nothing, Pause, Emit, Exit, Present, Suspend, Seq, Loop, Par, Trap, Local, Awake}
+use Rattle.est_kernel.specs.Terms.{Term, Nothing, Pause, Emit, Exit, Present, Suspend, Seq, Loop, Par, Trap, Local}
+use Rattle.est_kernel.specs.Terms.{Awake}
 use Rattle.est_kernel.specs.Preorder.{statement_count}
 use Rattle.grc_graph.specs.Layers.{Layer, Resumed, Started}
 use Rattle.grc_graph.specs.Scopes.{Scope}

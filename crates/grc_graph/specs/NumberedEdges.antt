@@ -13,6 +13,7 @@ named_edge names from to = edge (wire_at names from) (wire_at names to)
 -- the wires has its pair. The pairs ascend, so none stands twice.
 pub record AreEdgesOf (names : List Wire) (edges : List Edge) (pairs : List WireEdge) : Type 0 where
   pub ascending : AreEdges (length names) pairs
-  pub sound : (from to : ℕ) → Contains pairs (record { 0 = from }, record { 0 = to }) → Contains edges (named_edge names from to)
+  pub sound : (from to : ℕ) → Contains pairs (record { 0 = from }, record { 0 = to }) →
+      Contains edges (named_edge names from to)
   pub whole : (from to : ℕ) → from < length names → to < length names
       → Contains edges (named_edge names from to) → Contains pairs (record { 0 = from }, record { 0 = to })

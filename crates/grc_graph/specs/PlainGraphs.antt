@@ -44,13 +44,19 @@ formula_of insts names formulas.Boot = plain_formulas.Boot
 formula_of insts names (formulas.Input s) = plain_formulas.Input s.0
 formula_of insts names (formulas.Wire w) = plain_formulas.Value (wire_at names w.0)
 formula_of insts names (formulas.Selected p) = plain_formulas.Selected p.0
-formula_of insts names (formulas.Upto i k) = plain_formulas.Upto (instance_at insts i.0).path (instance_at insts i.0).layer k
-formula_of insts names (formulas.Kept i) = plain_formulas.Kept (instance_at insts i.0).path (instance_at insts i.0).layer
-formula_of insts names (formulas.Held i) = plain_formulas.Held (instance_at insts i.0).path (instance_at insts i.0).layer
+formula_of insts names (formulas.Upto i k) = plain_formulas.Upto (instance_at insts i.0).path
+    (instance_at insts i.0).layer k
+formula_of insts names (formulas.Kept i) = plain_formulas.Kept (instance_at insts i.0).path
+    (instance_at insts i.0).layer
+formula_of insts names (formulas.Held i) = plain_formulas.Held (instance_at insts i.0).path
+    (instance_at insts i.0).layer
 formula_of insts names (formulas.Not' _ a) = plain_formulas.Negation (formula_of insts names a)
-formula_of insts names (formulas.And' _ a _ b) = plain_formulas.Conjunction (formula_of insts names a) (formula_of insts names b)
-formula_of insts names (formulas.Or' _ a _ b) = plain_formulas.Disjunction (formula_of insts names a) (formula_of insts names b)
-formula_of insts names (formulas.AnyOf v) = plain_formulas.any_of (map (λ w. plain_formulas.Value (wire_at names w.0)) v.items)
+formula_of insts names (formulas.And' _ a _ b) =
+    plain_formulas.Conjunction (formula_of insts names a) (formula_of insts names b)
+formula_of insts names (formulas.Or' _ a _ b) = plain_formulas.Disjunction (formula_of insts names a)
+    (formula_of insts names b)
+formula_of insts names (formulas.AnyOf v) = plain_formulas.any_of
+    (map (λ w. plain_formulas.Value (wire_at names w.0)) v.items)
 
 -- a node by names
 abbrev pub node_of : List Instance → List plain.Wire → Node → plain_nodes.Node

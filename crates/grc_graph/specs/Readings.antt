@@ -1,7 +1,8 @@
 -- To believe: what formulas mean in a state and an event, over Boolean values of the wires.
 use Rattle.std.specs.Prelude.{ℕ, ◌+◌, Bool, true, false, not, ◌==◌, ◌&&◌, ◌||◌, nat_lt, if◌then◌else◌}
 use Rattle.est_base.specs.Codes.{upto}
-use Rattle.est_kernel.specs.Terms.{Term, Nothing, Pause, Emit, Exit, Present, Suspend, Seq, Loop, Par, Trap, Local, Awake}
+use Rattle.est_kernel.specs.Terms.{Term, Nothing, Pause, Emit, Exit, Present, Suspend, Seq, Loop, Par, Trap, Local}
+use Rattle.est_kernel.specs.Terms.{Awake}
 use Rattle.est_kernel.specs.Preorder.{statement_count}
 use Rattle.grc_graph.specs.Layers.{Layer, Resumed, layer_above, same_layer}
 use Rattle.grc_graph.specs.Scopes.{Binding, Entering, Outgoing, BoundAt, Unbound, Scope, bind}
@@ -34,15 +35,18 @@ holds_at S (Emit s) n m = false
 holds_at S (Exit k) n m = false
 holds_at S (Present e p q) n m =
     if m == n then holds S (Present e p q) n
-    else if nat_lt m (n + 1 + statement_count p) then holds_at S p (n + 1) m else holds_at S q (n + 1 + statement_count p) m
+    else if nat_lt m (n + 1 + statement_count p) then holds_at S p (n + 1) m else holds_at S q
+    (n + 1 + statement_count p) m
 holds_at S (Suspend e p) n m = if m == n then holds S (Suspend e p) n else holds_at S p (n + 1) m
 holds_at S (Seq p q) n m =
     if m == n then holds S (Seq p q) n
-    else if nat_lt m (n + 1 + statement_count p) then holds_at S p (n + 1) m else holds_at S q (n + 1 + statement_count p) m
+    else if nat_lt m (n + 1 + statement_count p) then holds_at S p (n + 1) m else holds_at S q
+    (n + 1 + statement_count p) m
 holds_at S (Loop at p) n m = if m == n then holds S (Loop at p) n else holds_at S p (n + 1) m
 holds_at S (Par p q) n m =
     if m == n then holds S (Par p q) n
-    else if nat_lt m (n + 1 + statement_count p) then holds_at S p (n + 1) m else holds_at S q (n + 1 + statement_count p) m
+    else if nat_lt m (n + 1 + statement_count p) then holds_at S p (n + 1) m else holds_at S q
+    (n + 1 + statement_count p) m
 holds_at S (Trap p) n m = if m == n then holds S (Trap p) n else holds_at S p (n + 1) m
 holds_at S (Local s p) n m = if m == n then holds S (Local s p) n else holds_at S p (n + 1) m
 holds_at S (Awake e p) n m = false
@@ -61,16 +65,19 @@ kept_at V (Emit s) n m l = true
 kept_at V (Exit k) n m l = true
 kept_at V (Present e p q) n m l =
     if m == n then true
-    else if nat_lt m (n + 1 + statement_count p) then kept_at V p (n + 1) m l else kept_at V q (n + 1 + statement_count p) m l
+    else if nat_lt m (n + 1 + statement_count p) then kept_at V p (n + 1) m l else kept_at V q
+    (n + 1 + statement_count p) m l
 kept_at V (Suspend e p) n m l = if m == n then true else kept_at V p (n + 1) m l
 kept_at V (Seq p q) n m l =
     if m == n then true
-    else if nat_lt m (n + 1 + statement_count p) then kept_at V p (n + 1) m l else kept_at V q (n + 1 + statement_count p) m l
+    else if nat_lt m (n + 1 + statement_count p) then kept_at V p (n + 1) m l else kept_at V q
+    (n + 1 + statement_count p) m l
 kept_at V (Loop at p) n m l = if m == n then true else kept_at V p (n + 1) m l
 kept_at V (Par p q) n m l =
     if m == n then true
     else V (End n (layer_above n l) 1)
-    && (if nat_lt m (n + 1 + statement_count p) then kept_at V p (n + 1) m l else kept_at V q (n + 1 + statement_count p) m l)
+    && (if nat_lt m (n + 1 + statement_count p) then kept_at V p (n + 1) m l else kept_at V q
+    (n + 1 + statement_count p) m l)
 kept_at V (Trap p) n m l = if m == n then true else kept_at V p (n + 1) m l
 kept_at V (Local s p) n m l = if m == n then true else kept_at V p (n + 1) m l
 kept_at V (Awake e p) n m l = true

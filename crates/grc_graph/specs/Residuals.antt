@@ -1,7 +1,8 @@
 -- To believe: what is left of a body in a state. A state after the first instant is a set of selected pauses, by
 -- their numbers in preorder: control rests at them.
 use Rattle.std.specs.Prelude.{ℕ, ◌+◌, Bool, false, ◌||◌, if◌then◌else◌}
-use Rattle.est_kernel.specs.Terms.{Term, Nothing, Pause, Emit, Exit, Present, Suspend, Seq, Loop, Par, Trap, Local, Awake}
+use Rattle.est_kernel.specs.Terms.{Term, Nothing, Pause, Emit, Exit, Present, Suspend, Seq, Loop, Par, Trap, Local}
+use Rattle.est_kernel.specs.Terms.{Awake}
 use Rattle.est_kernel.specs.Preorder.{statement_count}
 
 -- whether a statement at n holds a selected pause

@@ -2,15 +2,19 @@
 -- scope, and what lets it run. So the live instances, their wires and their equations are read from one flat list.
 use Rattle.std.specs.Prelude.{ℕ, ◌+◌, Bool, false, ◌==◌, List, [], ◌∷◌, ◌++◌, map, slice_index_or}
 use Rattle.std.specs.List.{list_any}
-use Rattle.est_kernel.specs.Terms.{Term, Nothing, Pause, Emit, Exit, Present, Suspend, Seq, Loop, Par, Trap, Local, Awake}
+use Rattle.est_kernel.specs.Terms.{Term, Nothing, Pause, Emit, Exit, Present, Suspend, Seq, Loop, Par, Trap, Local}
+use Rattle.est_kernel.specs.Terms.{Awake}
 use Rattle.est_kernel.specs.Plain.{Program, interface_count}
 use Rattle.est_kernel.specs.Preorder.{statement_count}
-use Rattle.grc_graph.specs.Layers.{Layer, Resumed, Started, Liveness, body_liveness, part_liveness, second_liveness, loop_liveness}
+use Rattle.grc_graph.specs.Layers.{Layer, Resumed, Started, Liveness, body_liveness, part_liveness, second_liveness}
+use Rattle.grc_graph.specs.Layers.{loop_liveness}
 use Rattle.grc_graph.specs.Instances.{Instance}
 use Rattle.grc_graph.specs.Scopes.{Scope, bind, program_scope, Unbound}
 use Rattle.grc_graph.specs.Formulas.{Formula, Negation}
-use Rattle.grc_graph.specs.Spots.{Spot, test_formula, body_entry, part_entry, branch_entry, tested_entry, suspended_entry, second_entry, loop_entry}
-use Rattle.grc_graph.specs.Statements.{Entry, Body, Part, Branch, Then, Else, Suspended, Second, Looped, Listed, signals_of}
+use Rattle.grc_graph.specs.Spots.{Spot, test_formula, body_entry, part_entry, branch_entry, tested_entry}
+use Rattle.grc_graph.specs.Spots.{suspended_entry, second_entry, loop_entry}
+use Rattle.grc_graph.specs.Statements.{Entry, Body, Part, Branch, Then, Else, Suspended, Second, Looped, Listed}
+use Rattle.grc_graph.specs.Statements.{signals_of}
 
 pub record Row : Type 0 where
   pub statement : Term
@@ -40,7 +44,12 @@ second_of (Awake e p) n = 0
 
 -- what the list of statements has of it
 abbrev pub listed_row : Row → Listed
-listed_row r = record { statement = r.statement; entry = r.entry; second = r.second; signals = map r.scope (signals_of r.statement) }
+listed_row r = record {
+  statement = r.statement;
+  entry = r.entry;
+  second = r.second;
+  signals = map r.scope (signals_of r.statement);
+}
 
 -- a statement at n and all in it, in preorder
 abbrev pub rows : Liveness → Scope → Entry → Term → ℕ → List Row

@@ -19,4 +19,5 @@ bind B s n = λ t. if t == s then BoundAt n else B t
 
 -- the scope of a program's body: signals are numbered inputs first, then the outgoing ones, then the local ones
 abbrev pub program_scope : (inputs interface : ℕ) → Scope
-program_scope inputs interface = λ s. if nat_lt s inputs then Entering else if nat_lt s interface then Outgoing else Unbound
+program_scope inputs interface = λ s. if nat_lt s inputs then Entering else if nat_lt s interface then Outgoing else
+    Unbound

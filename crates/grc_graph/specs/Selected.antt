@@ -1,6 +1,7 @@
 -- To believe: which bodies are kernels of programs, and which selections are well formed.
 use Rattle.std.specs.Prelude.{◌≡◌, ℕ, ◌+◌, ◌≤◌, ◌<◌, Bool, true, false, ◌&&◌, ◌||◌, ⊤}
-use Rattle.est_kernel.specs.Terms.{Term, Nothing, Pause, Emit, Exit, Present, Suspend, Seq, Loop, Par, Trap, Local, Awake}
+use Rattle.est_kernel.specs.Terms.{Term, Nothing, Pause, Emit, Exit, Present, Suspend, Seq, Loop, Par, Trap, Local}
+use Rattle.est_kernel.specs.Terms.{Awake}
 use Rattle.est_kernel.specs.Preorder.{statement_count}
 use Rattle.grc_graph.specs.Layers.{can_pass}
 use Rattle.grc_graph.specs.Residuals.{holds}

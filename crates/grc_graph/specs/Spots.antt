@@ -3,7 +3,8 @@
 -- Instances stand in the preorder of their statements, and at one statement resumed first, then started by ascending
 -- roots. The layers of each statement are a function L of its number.
 use Rattle.std.specs.Prelude.{ℕ, ◌+◌, true, false, ◌==◌, if◌then◌else◌, List, ◌++◌, map}
-use Rattle.est_kernel.specs.Terms.{Expression, Tick, Sig, Not, And, Or, Term, Nothing, Pause, Emit, Exit, Present, Suspend, Seq, Loop, Par, Trap, Local, Awake}
+use Rattle.est_kernel.specs.Terms.{Expression, Tick, Sig, Not, And, Or, Term, Nothing, Pause, Emit, Exit, Present}
+use Rattle.est_kernel.specs.Terms.{Suspend, Seq, Loop, Par, Trap, Local, Awake}
 use Rattle.est_kernel.specs.Preorder.{statement_count}
 use Rattle.grc_graph.specs.Layers.{Layer, Resumed, Started, layer_above}
 use Rattle.grc_graph.specs.Scopes.{Binding, Entering, Outgoing, BoundAt, Unbound, Scope, bind}
@@ -83,7 +84,8 @@ spots L B entry (Exit k) n = spots_at L B entry (Exit k) n
 spots L B entry (Present e p q) n =
     spots_at L B entry (Present e p q) n
     ++ (spots L B (tested_entry n (n + 1) (test_formula B e)) p (n + 1)
-    ++ spots L B (tested_entry n (n + 1 + statement_count p) (λ l. Negation (test_formula B e l))) q (n + 1 + statement_count p))
+    ++ spots L B (tested_entry n (n + 1 + statement_count p) (λ l. Negation (test_formula B e l))) q
+    (n + 1 + statement_count p))
 spots L B entry (Suspend e p) n =
     spots_at L B entry (Suspend e p) n ++ spots L B (suspended_entry n (test_formula B e)) p (n + 1)
 spots L B entry (Seq p q) n =

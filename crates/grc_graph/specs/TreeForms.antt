@@ -1,5 +1,6 @@
 -- To believe: the plain form of a selection tree, and what its list of nodes keeps.
-use Rattle.std.specs.Prelude.{◌≡◌, ℕ, ◌<◌, ◌≤◌, Bool, true, false, ◌==◌, IsTrue, List, length, map, take, slice_index_or, count_by}
+use Rattle.std.specs.Prelude.{◌≡◌, ℕ, ◌<◌, ◌≤◌, Bool, true, false, ◌==◌, IsTrue, List, length, map, take}
+use Rattle.std.specs.Prelude.{slice_index_or, count_by}
 use Rattle.grc_graph.specs.declared.trees.SelForm.{SelForm}
 use Rattle.grc_graph.specs.declared.trees.SelForm.TheVariants as forms
 use Rattle.grc_graph.specs.declared.trees.SelNode.{SelNode}
@@ -28,7 +29,8 @@ end_of nodes i d = (slice_index_or nodes i d).after
 pub record SubtreesNest (nodes : List SelNode) : Type 0 where
   pub begun : (i : ℕ) (d : SelNode) → i < length nodes → i < end_of nodes i d
   pub ended : (i : ℕ) (d : SelNode) → i < length nodes → end_of nodes i d ≤ length nodes
-  pub whole : (i j : ℕ) (d : SelNode) → j < length nodes → i < j → j < end_of nodes i d → end_of nodes j d ≤ end_of nodes i d
+  pub whole : (i j : ℕ) (d : SelNode) → j < length nodes → i < j → j < end_of nodes i d →
+      end_of nodes j d ≤ end_of nodes i d
 
 -- the leaves in front of a place
 abbrev pub leaves_before : List SelNode → ℕ → ℕ
@@ -43,7 +45,8 @@ is_numbered forms.Pass before = true
 
 -- the leaves are numbered in order, and there are so many
 pub record LeavesAscend (nodes : List SelNode) (leaves : ℕ) : Type 0 where
-  pub numbered : (i : ℕ) (d : SelNode) → i < length nodes → IsTrue (is_numbered (slice_index_or nodes i d).form (leaves_before nodes i))
+  pub numbered : (i : ℕ) (d : SelNode) → i < length nodes →
+      IsTrue (is_numbered (slice_index_or nodes i d).form (leaves_before nodes i))
   pub counted : leaves ≡ count_by (λ x. is_leaf x.form) nodes
 
 -- the number of a leaf is below this one

@@ -1,5 +1,6 @@
 -- Inner: a selection tree's list of nodes, read from a place on.
-use Rattle.std.specs.Prelude.{◌≡◌, ℕ, ◌+◌, ◌==◌, ◌&&◌, nat_lt, Bool, if◌then◌else◌, List, ◌++◌, length, map, slice_index_or}
+use Rattle.std.specs.Prelude.{◌≡◌, ℕ, ◌+◌, ◌==◌, ◌&&◌, nat_lt, Bool, if◌then◌else◌, List, ◌++◌, length, map}
+use Rattle.std.specs.Prelude.{slice_index_or}
 use Rattle.est_kernel.specs.Terms.{Term}
 use Rattle.grc_graph.specs.declared.judgements.Judged.{Judged}
 use Rattle.grc_graph.specs.declared.trees.SelNode.{SelNode}
@@ -11,7 +12,8 @@ abbrev pub judgement_of : Judged → Judgement
 judgement_of j = record { holds = j.holds; formed = j.formed }
 
 -- the nodes from one place up to another are those of a statement
-pub record StandsBetween (nodes : List SelNode) (from to : ℕ) (b : Bool) (t : Term) (n k : ℕ) (pre post : List TreeNode) : Type 0 where
+pub record StandsBetween (nodes : List SelNode) (from to : ℕ) (b : Bool) (t : Term) (n k : ℕ)
+    (pre post : List TreeNode) : Type 0 where
   pub nodes_all : map node_of nodes ≡ pre ++ (tree_nodes b t n (length pre) k ++ post)
   pub begins : from ≡ length pre
   pub ends : to ≡ length pre + length (tree_nodes b t n (length pre) k)
@@ -27,5 +29,6 @@ Judges nodes from to bits j =
 -- the next number and so is there.
 abbrev pub second_place : List SelNode → ℕ → SelNode → ℕ
 second_place nodes i d =
-    if nat_lt (i + 1) (end_of nodes i d) && (slice_index_or nodes (i + 1) d).path.0 == (slice_index_or nodes i d).path.0 + 1
+    if nat_lt (i + 1) (end_of nodes i d) && (slice_index_or nodes (i + 1) d).path.0
+    == (slice_index_or nodes i d).path.0 + 1
     then end_of nodes (i + 1) d else i + 1

@@ -1,7 +1,8 @@
 -- To believe: the paths of the statements of a body, and the names of wires by paths. A number that is out of range,
 -- which no graph has, is read as the body's path, and as a signal with the empty name.
 use Rattle.std.specs.Prelude.{ℕ, List, [], ◌∷◌, ◌++◌, map, slice_index_or, Option, Some, None}
-use Rattle.est_kernel.specs.Terms.{Term, Nothing, Pause, Emit, Exit, Present, Suspend, Seq, Loop, Par, Trap, Local, Awake}
+use Rattle.est_kernel.specs.Terms.{Term, Nothing, Pause, Emit, Exit, Present, Suspend, Seq, Loop, Par, Trap, Local}
+use Rattle.est_kernel.specs.Terms.{Awake}
 use Rattle.est_kernel.specs.Preorder.{preorder}
 use Rattle.est_kernel.specs.Plain.{Program}
 use Rattle.grc_graph.specs.Layers as layers

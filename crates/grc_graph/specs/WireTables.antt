@@ -1,9 +1,12 @@
 -- Inner: tables of live instances and of wires, which are read by name.
-use Rattle.std.specs.Prelude.{◌≡◌, ℕ, ◌+◌, ◌<◌, ◌≤◌, ◌^◌, Bool, true, false, ◌==◌, ◌&&◌, ◌||◌, nat_lt, if◌then◌else◌, List, [], ◌∷◌, ◌++◌, length, map, slice_index, slice_index_or, Option, Some, None, MatchOption, Contains}
+use Rattle.std.specs.Prelude.{◌≡◌, ℕ, ◌+◌, ◌<◌, ◌≤◌, ◌^◌, Bool, true, false, ◌==◌, ◌&&◌, ◌||◌, nat_lt, if◌then◌else◌}
+use Rattle.std.specs.Prelude.{List, [], ◌∷◌, ◌++◌, length, map, slice_index, slice_index_or, Option, Some, None}
+use Rattle.std.specs.Prelude.{MatchOption, Contains}
 use Rattle.std.specs.List.Sorted.{IsPartitionPoint}
 use Rattle.est_base.specs.declared.indices.InstId.{InstId}
 use Rattle.est_base.specs.declared.indices.WireId.{WireId}
-use Rattle.est_kernel.specs.Terms.{Term, Nothing, Pause, Emit, Exit, Present, Suspend, Seq, Loop, Par, Trap, Local, Awake}
+use Rattle.est_kernel.specs.Terms.{Term, Nothing, Pause, Emit, Exit, Present, Suspend, Seq, Loop, Par, Trap, Local}
+use Rattle.est_kernel.specs.Terms.{Awake}
 use Rattle.grc_graph.specs.declared.instances.Instance.{Instance}
 use Rattle.grc_graph.specs.declared.wires.Wire.{Wire}
 use Rattle.grc_graph.specs.declared.wires.Wire.TheVariants as wires

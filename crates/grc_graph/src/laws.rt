@@ -1,6 +1,7 @@
 // The laws of live instances and of states. Each call does nothing: its contract is the law.
 
-ghost use Rattle.grc_graph.specs.InstanceLaws.{InstancesAscend, EnclosingAreLive, LeavesAreResumedPauses, ResidualHasResumedCodes};
+ghost use Rattle.grc_graph.specs.InstanceLaws.{InstancesAscend, EnclosingAreLive, LeavesAreResumedPauses};
+ghost use Rattle.grc_graph.specs.InstanceLaws.{ResidualHasResumedCodes};
 
 /// Each live instance of a body stands once in its list, and they stand in order.
 pub fn instances_ascend()

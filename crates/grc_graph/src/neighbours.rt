@@ -25,7 +25,8 @@ pub struct Neighbours {
 }
 
 impl Neighbours {
-    ghost use Rattle.std.specs.Prelude.{◌≡◌, ℕ, ◌+◌, ◌<◌, ◌≤◌, length, map, slice_index, slice_index_or, IfOk, MatchOption, Contains};
+    ghost use Rattle.std.specs.Prelude.{◌≡◌, ℕ, ◌+◌, ◌<◌, ◌≤◌, length, map, slice_index, slice_index_or, IfOk};
+    ghost use Rattle.std.specs.Prelude.{MatchOption, Contains};
     ghost use Rattle.est_base.specs.declared.bounds.TheConstants.Limits.{WIRES};
     ghost use Rattle.est_kernel.specs.CodeLists.{AreCodesOf};
     ghost use Rattle.est_kernel.specs.Plain.{program_of};

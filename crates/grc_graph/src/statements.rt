@@ -1,11 +1,13 @@
 // The statements of a body by number, each with what lets it run and what its signals stand for.
 
-ghost use Rattle.std.specs.Prelude.{◌≡◌, ◌+◌, ◌<◌, ◌≤◌, ◌^◌, [], ◌∷◌, ◌++◌, length, map, slice_index_or, slice_set, IfOk};
+ghost use Rattle.std.specs.Prelude.{◌≡◌, ◌+◌, ◌<◌, ◌≤◌, ◌^◌, [], ◌∷◌, ◌++◌, length, map, slice_index_or, slice_set};
+ghost use Rattle.std.specs.Prelude.{IfOk};
 ghost use Rattle.est_kernel.specs.Plain.{term_of, expression_of, program_of, interface_count};
 ghost use Rattle.est_kernel.specs.Preorder.{statement_count};
 ghost use Rattle.est_kernel.specs.WellFormed.{IsWellFormed};
 ghost use Rattle.grc_graph.specs.Scopes.{program_scope};
-ghost use Rattle.grc_graph.specs.Statements.{Listed, listed, listed_one, program_listed, signals_in, signals_of, LocalsFit};
+ghost use Rattle.grc_graph.specs.Statements.{Listed, listed, listed_one, program_listed, signals_in, signals_of};
+ghost use Rattle.grc_graph.specs.Statements.{LocalsFit};
 ghost use Rattle.grc_graph.specs.StatementViews.{view_of, entry_view, binding_of, scope_of};
 
 use est_base::{NoMemory, SigId};

@@ -1,5 +1,6 @@
 -- Sources and rows have the same values in surroundings that agree in what they read.
-use Rattle.std.proofs.Common.{◌≡◌, ℕ, ◌<◌, zero, suc, Bool, false, not, ◌&&◌, ◌||◌, List, [], ◌∷◌, ◌++◌, length, slice_index_or, map, refl, ap, ◌∙◌, arith, IsTrue, All}
+use Rattle.std.proofs.Common.{◌≡◌, ℕ, ◌<◌, zero, suc, Bool, false, not, ◌&&◌, ◌||◌, List, [], ◌∷◌, ◌++◌, length, slice_index_or, map, refl, ap, ◌∙◌, arith}
+use Rattle.std.proofs.Common.{IsTrue, All}
 use Rattle.std.proofs.lemmas.Bool.{ltb-true, and_parts}
 use Rattle.std.proofs.lemmas.List.Elements.{All-head, All-tail}
 use Rattle.grc_words.specs.declared.table.Source.{Source}

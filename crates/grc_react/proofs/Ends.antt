@@ -1,5 +1,6 @@
 -- The ends of an instance, looked through one after another.
-use Rattle.std.proofs.Common.{◌≡◌, ℕ, ◌+◌, ◌-◌, ◌<◌, ◌≤◌, zero, suc, Bool, true, false, ◌||◌, List, length, drop, slice_index_or, sym, ap, ◌∙◌, arith, inl, inr, length-drop}
+use Rattle.std.proofs.Common.{◌≡◌, ℕ, ◌+◌, ◌-◌, ◌<◌, ◌≤◌, zero, suc, Bool, true, false, ◌||◌, List, length, drop, slice_index_or, sym, ap, ◌∙◌, arith, inl, inr}
+use Rattle.std.proofs.Common.{length-drop}
 use Rattle.std.specs.List.{prefix_len}
 use Rattle.std.proofs.lemmas.Bool.{cases_lt, or_left, or_right, false≢true}
 use Rattle.std.proofs.lemmas.List.{get_or-drop}

@@ -1,5 +1,6 @@
 -- What the formulas of a graph mean at a stage of an evaluation.
-use Rattle.std.proofs.Common.{◌≡◌, ℕ, ◌+◌, ◌-◌, ◌<◌, ◌≤◌, zero, suc, Bool, true, false, ◌||◌, min, List, [], ◌∷◌, length, map, drop, slice_index_or, refl, sym, ◌∙◌, arith, IsTrue, All}
+use Rattle.std.proofs.Common.{◌≡◌, ℕ, ◌+◌, ◌-◌, ◌<◌, ◌≤◌, zero, suc, Bool, true, false, ◌||◌, min, List, [], ◌∷◌, length, map, drop, slice_index_or, refl, sym}
+use Rattle.std.proofs.Common.{◌∙◌, arith, IsTrue, All}
 use Rattle.std.specs.List.{list_any}
 use Rattle.std.proofs.Common.{length-drop}
 use Rattle.std.proofs.lemmas.List.Elements.{All-head, All-tail}

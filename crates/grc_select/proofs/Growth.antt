@@ -1,5 +1,6 @@
 -- How the nodes of a statement stand behind its own, and how many they are.
-use Rattle.std.proofs.Common.{◌≡◌, ℕ, ◌+◌, ◌≤◌, Bool, true, false, ◌&&◌, List, [], ◌∷◌, ◌++◌, length, map, refl, sym, ap, ◌∙◌, subst, arith, append_assoc, length-append}
+use Rattle.std.proofs.Common.{◌≡◌, ℕ, ◌+◌, ◌≤◌, Bool, true, false, ◌&&◌, List, [], ◌∷◌, ◌++◌, length, map, refl, sym, ap, ◌∙◌, subst, arith, append_assoc}
+use Rattle.std.proofs.Common.{length-append}
 use Rattle.std.proofs.Common.{◌<◌}
 use Rattle.std.specs.Prelude.{if◌then◌else◌}
 use Rattle.std.proofs.lemmas.Bool.{false≢true}
@@ -44,7 +45,8 @@ subtree_at_most b n i f xs m h = if_at_most b (record { path = n; after = i + 1 
 two_at_most : {A : Type 0} (xs ys : List A) (k m : ℕ) → length xs ≤ k → length ys ≤ m → length (xs ++ ys) ≤ k + m
 two_at_most xs ys k m h g = omega (arith, length-append xs ys)
 
-both_parts : (b : Bool) (n i : ℕ) (f : Form) (xs ys : List TreeNode) (k m : ℕ) → length xs ≤ k → length ys ≤ m → length (subtree_if b n i f (xs ++ ys)) ≤ 1 + k + m
+both_parts : (b : Bool) (n i : ℕ) (f : Form) (xs ys : List TreeNode) (k m : ℕ) → length xs ≤ k → length ys ≤ m →
+    length (subtree_if b n i f (xs ++ ys)) ≤ 1 + k + m
 both_parts b n i f xs ys k m h g =
     let l = subtree_at_most b n i f (xs ++ ys) (k + m) (two_at_most xs ys k m h g) in
     omega (arith, l)
@@ -75,18 +77,31 @@ length-leaf_paths b Pause n = if_at_most b (n ∷ []) 1 (omega arith)
 length-leaf_paths b (Emit s) n = omega arith
 length-leaf_paths b (Exit c) n = omega arith
 length-leaf_paths b (Present e p q) n =
-    if_at_most b _ _ (omega (arith, two_at_most _ _ _ _ (length-leaf_paths (resumes p) p (n + 1)) (length-leaf_paths (resumes q) q (n + 1 + statement_count p))))
+    if_at_most b _ _ (omega (
+      arith,
+      two_at_most _ _ _ _ (length-leaf_paths (resumes p) p (n + 1))
+          (length-leaf_paths (resumes q) q (n + 1 + statement_count p)),
+    ))
 length-leaf_paths b (Suspend e p) n = if_at_most b _ _ (more _ _ (length-leaf_paths (resumes p) p (n + 1)))
 length-leaf_paths b (Seq p q) n =
-    if_at_most b _ _ (omega (arith, two_at_most _ _ _ _ (length-leaf_paths (resumes p) p (n + 1)) (length-leaf_paths (second_resumes p q) q (n + 1 + statement_count p))))
+    if_at_most b _ _ (omega (
+      arith,
+      two_at_most _ _ _ _ (length-leaf_paths (resumes p) p (n + 1))
+          (length-leaf_paths (second_resumes p q) q (n + 1 + statement_count p)),
+    ))
 length-leaf_paths b (Loop at p) n = if_at_most b _ _ (more _ _ (length-leaf_paths (resumes p) p (n + 1)))
 length-leaf_paths b (Par p q) n =
-    if_at_most b _ _ (omega (arith, two_at_most _ _ _ _ (length-leaf_paths (resumes p) p (n + 1)) (length-leaf_paths (resumes q) q (n + 1 + statement_count p))))
+    if_at_most b _ _ (omega (
+      arith,
+      two_at_most _ _ _ _ (length-leaf_paths (resumes p) p (n + 1))
+          (length-leaf_paths (resumes q) q (n + 1 + statement_count p)),
+    ))
 length-leaf_paths b (Trap p) n = if_at_most b _ _ (more _ _ (length-leaf_paths (resumes p) p (n + 1)))
 length-leaf_paths b (Local s p) n = if_at_most b _ _ (more _ _ (length-leaf_paths (resumes p) p (n + 1)))
 length-leaf_paths b (Awake e p) n = omega arith
 
-pub length-grown : (old new : Lists) (b : Bool) (t : Term) (n : ℕ) → Grows old new b t n → length new.nodes.items ≡ length old.nodes.items + length (tree_nodes b t n (length old.nodes.items) old.leaves)
+pub length-grown : (old new : Lists) (b : Bool) (t : Term) (n : ℕ) → Grows old new b t n →
+    length new.nodes.items ≡ length old.nodes.items + length (tree_nodes b t n (length old.nodes.items) old.leaves)
 length-grown old new b t n g =
     omega (
       arith,
@@ -288,5 +303,6 @@ pub body_grown : (old new : Lists) (live : Bool) (body : Term)
     → IsTreeOf new body
 body_grown old new live body e z l g = record {
   nodes = g.nodes ∙ λ i. map node_of (e i) ++ tree_nodes (l i) body 0 (length (e i)) (z i);
-  leaves = g.leaves ∙ (λ i. z i + length (leaf_paths (l i) body 0)) ∙ (let s : 0 + length (leaf_paths (resumes body) body 0) ≡ length (leaf_paths (resumes body) body 0) = omega arith in s);
+  leaves = g.leaves ∙ (λ i. z i + length (leaf_paths (l i) body 0))
+      ∙ (let s : 0 + length (leaf_paths (resumes body) body 0) ≡ length (leaf_paths (resumes body) body 0) = omega arith in s);
 }

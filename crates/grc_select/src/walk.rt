@@ -46,7 +46,8 @@ fn select_part(body: &Kernel, at: Place, codes: &Codes, lists: &mut Lists) -> Re
     ensures grown { IfOk result (λ after. Grows lists.old lists.new at.live (term_of body.now) at.path) }
     ensures few { IfOk result (λ after. length lists.new.nodes.items
         ≤ length lists.old.nodes.items + statement_count (term_of body.now)) }
-    ensures few_leaves { IfOk result (λ after. lists.new.leaves ≤ lists.old.leaves + statement_count (term_of body.now)) }
+    ensures few_leaves { IfOk result (λ after.
+        lists.new.leaves ≤ lists.old.leaves + statement_count (term_of body.now)) }
     ensures kept { IfOk result (λ after. length lists.old.nodes.items ≤ length lists.new.nodes.items) }
 {
     match body {

@@ -51,7 +51,8 @@ any_started : (G : Layer → Bool) (rs : List ℕ) → list_any G (map Started r
 any_started G [] = refl
 any_started G (r ∷ rs) = ap (λ b. G (Started r) || b) (any_started G rs)
 
-pub any_layers : (G : Layer → Bool) (res : Bool) (rs : List ℕ) → list_any G (cond res (Resumed ∷ []) [] ++ map Started rs) ≡ ((res && G Resumed) || list_any (λ r. G (Started r)) rs)
+pub any_layers : (G : Layer → Bool) (res : Bool) (rs : List ℕ) →
+    list_any G (cond res (Resumed ∷ []) [] ++ map Started rs) ≡ ((res && G Resumed) || list_any (λ r. G (Started r)) rs)
 any_layers G true rs = ap (λ b. G Resumed || b) (any_started G rs)
 any_layers G false rs = any_started G rs
 
@@ -120,18 +121,22 @@ one_part : (res h l x : Bool) (a b : Bool) → (((res && h) || a) || (((res && l
 one_part true h l x a b = four h a (l && x) b
 one_part false h l x a b = refl
 
-two_parts : (res h l x k y : Bool) (a b c : Bool) → (((res && h) || a) || ((((res && l) && x) || b) || (((res && k) && y) || c))) ≡ ((res && (h || ((l && x) || (k && y)))) || (a || (b || c)))
+two_parts : (res h l x k y : Bool) (a b c : Bool) → (((res && h) || a) || ((((res && l) && x) || b) || (((res && k) && y) || c))) ≡
+    ((res && (h || ((l && x) || (k && y)))) || (a || (b || c)))
 two_parts true h l x k y a b c = ap (λ i. (h || a) || i) (four (l && x) b (k && y) c) ∙ four h a ((l && x) || (k && y)) (b || c)
 two_parts false h l x k y a b c = refl
 
-seq_parts : (res h l x k y z u w : Bool) (a b c : Bool) → (((res && h) || a) || ((((res && l) && x) || b) || (((res && k) && y) || ((w && c) || ((res && z) && u))))) ≡ ((res && (h || ((l && x) || ((k && y) || (z && u))))) || (a || (b || (w && c))))
+seq_parts : (res h l x k y z u w : Bool) (a b c : Bool) → (((res && h) || a)
+    || ((((res && l) && x) || b) || (((res && k) && y) || ((w && c) || ((res && z) && u))))) ≡
+    ((res && (h || ((l && x) || ((k && y) || (z && u))))) || (a || (b || (w && c))))
 seq_parts true h l x k y z u w a b c =
     ap (λ i. (h || a) || (((l && x) || b) || i)) (swap (k && y) (w && c) (z && u))
     ∙ ap (λ i. (h || a) || i) (four (l && x) b ((k && y) || (z && u)) (w && c))
     ∙ four h a ((l && x) || ((k && y) || (z && u))) (b || (w && c))
 seq_parts false h l x k y z u w a b c = ap (λ i. a || (b || i)) (or-false (w && c))
 
-loop_parts : (res h l x z u : Bool) (a b : Bool) → (((res && h) || a) || (((res && l) && x) || (b || ((res && z) && u)))) ≡ ((res && (h || ((l && x) || (z && u)))) || (a || b))
+loop_parts : (res h l x z u : Bool) (a b : Bool) → (((res && h) || a) || (((res && l) && x) || (b || ((res && z) && u)))) ≡
+    ((res && (h || ((l && x) || (z && u)))) || (a || b))
 loop_parts true h l x z u a b = ap (λ i. (h || a) || i) (swap (l && x) b (z && u)) ∙ four h a ((l && x) || (z && u)) b
 loop_parts false h l x z u a b = ap (λ i. a || i) (or-false b)
 
@@ -140,7 +145,8 @@ module _ (F : Spot → Bool) (L : ℕ → List Layer) where
   Split a B f t n =
       list_any F (spots L B f t n) ≡ ((a.resumed && resumed_any F B f t n) || list_any (λ r. started_any F B f t n (Started r)) a.roots)
 
-  here_any : (a : Liveness) (B : Scope) (f : Layer → Formula) (t : Term) (n : ℕ) → Agrees L a t n → list_any F (spots_at L B f t n) ≡ ((a.resumed && F (spot B f t n Resumed)) || list_any (λ r. F (spot B f t n (Started r))) a.roots)
+  here_any : (a : Liveness) (B : Scope) (f : Layer → Formula) (t : Term) (n : ℕ) → Agrees L a t n →
+      list_any F (spots_at L B f t n) ≡ ((a.resumed && F (spot B f t n Resumed)) || list_any (λ r. F (spot B f t n (Started r))) a.roots)
   here_any a B f t n g =
       any_map F (λ l. spot B f t n l) (L n) ∙ ap (list_any (λ l. F (spot B f t n l))) (here_agrees L a t n g)
       ∙ any_layers (λ l. F (spot B f t n l)) a.resumed a.roots
@@ -189,7 +195,8 @@ module _ (F : Spot → Bool) (L : ℕ → List Layer) where
       let y = split b B fq q m k.1 (second_agrees L a (part_liveness a p) b t p q n refl (λ j. refl) g) in
       let roots : list_any S (old ++ own) ≡ ((started_codes p 0 && list_any S a.roots) || ((a.resumed && resumed_codes p 0) && S m)) =
       list_any-append S old own ∙ or_parts (any_if (started_codes p 0) S a.roots) (any_root (a.resumed && resumed_codes p 0) S m) in
-      join_two (spots_at L B f t n) (spots L B fp p (n + 1)) (spots L B fq q m) (here_any a B f t n g) x (y ∙ ap (λ c. (b.resumed && resumed_any F B fq q m) || c) roots)
+      join_two (spots_at L B f t n) (spots L B fp p (n + 1)) (spots L B fq q m) (here_any a B f t n g) x
+      (y ∙ ap (λ c. (b.resumed && resumed_any F B fq q m) || c) roots)
       ∙ seq_parts a.resumed (F (spot B f t n Resumed)) (has_code (resumed_codes p)) (resumed_any F B fp p (n + 1)) (can_pass p && has_code (resumed_codes q))
       (resumed_any F B fq q m) (resumed_codes p 0) (S m) (started_codes p 0) (list_any (λ r. F (spot B f t n (Started r))) a.roots)
       (list_any (λ r. started_any F B fp p (n + 1) (Started r)) a.roots) (list_any S a.roots)

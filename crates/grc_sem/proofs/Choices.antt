@@ -3,7 +3,8 @@ use Rattle.std.proofs.Common.{◌≡◌, ℕ, ◌<◌, ◌≤◌, ◌⊎◌, Boo
 use Rattle.std.proofs.lemmas.Bool.{or_cases, or_left, or_right, eqb-true, eqb-false, eq-eqb, cond_both, false≢true}
 use Rattle.est_base.specs.Codes.{either, except}
 use Rattle.est_kernel.specs.Statuses.{Status, Plus, Minus, Unknown, known}
-use Rattle.est_kernel.specs.Potentials.{Kind, Must, Can, May, Potential, Potentials, completes, chosen, second_kind, codes_kept, sequence, in_turn, together, trapped}
+use Rattle.est_kernel.specs.Potentials.{Kind, Must, Can, May, Potential, Potentials, completes, chosen, second_kind, codes_kept, sequence, in_turn, together}
+use Rattle.est_kernel.specs.Potentials.{trapped}
 use Rattle.est_kernel.specs.Steps.{trap_code}
 use Rattle.est_kernel.specs.Laws.{IsWithin, IsBelow}
 use Rattle.est_kernel.proofs.Sets.{except-in, maxima-in, maxima-parts, lowered-in, lowered-parts}
@@ -29,7 +30,8 @@ abbrev pub InMay : Potentials → Type 0
 InMay a = IsWithin (a Can) (a May)
 
 -- later ranks of the codes decide no more
-pub decides_later : {a : Potentials} {w : Walk} (n : ℕ) (r rp re : ℕ → ℕ) → Sound a w → ((k : ℕ) → (a Can).codes k ≡ true → rp k ≤ re k) → Decides a w n r rp → Decides a w n r re
+pub decides_later : {a : Potentials} {w : Walk} (n : ℕ) (r rp re : ℕ → ℕ) → Sound a w → ((k : ℕ) → (a Can).codes k ≡ true → rp k ≤ re k) → Decides a w n r rp →
+    Decides a w n r re
 decides_later {a} {w} n r rp re s lead d =
     record {
       code_decided = λ h. let l = lead w.code s.can_code in d.code_decided (omega arith);
@@ -39,7 +41,8 @@ decides_later {a} {w} n r rp re s lead d =
     }
 
 -- nothing of a rank below g is done, so below g there is nothing to decide
-pub decides_from : {a : Potentials} {w : Walk} (n g : ℕ) (r re : ℕ → ℕ) → Sound a w → ((k : ℕ) → (a Can).codes k ≡ true → g ≤ re k) → ((s : ℕ) → (a Can).signals s ≡ true → g ≤ r s) → n < g → Decides a w n r re
+pub decides_from : {a : Potentials} {w : Walk} (n g : ℕ) (r re : ℕ → ℕ) → Sound a w → ((k : ℕ) → (a Can).codes k ≡ true → g ≤ re k) →
+    ((s : ℕ) → (a Can).signals s ≡ true → g ≤ r s) → n < g → Decides a w n r re
 decides_from {a} {w} n g r re s code signal below =
     record {
       code_decided = λ h. let l = code w.code s.can_code in absurd (omega arith);
@@ -68,7 +71,8 @@ completes_decides c n r re =
     }
 
 -- a choice
-pub chosen_sound : (x : Status) (c : Bool) {a b : Potentials} {w : Walk} → IsBelow x (known c) → InMay a → InMay b → (c ≡ true → Sound a w) → (c ≡ false → Sound b w) → Sound (chosen x a b) w
+pub chosen_sound : (x : Status) (c : Bool) {a b : Potentials} {w : Walk} → IsBelow x (known c) → InMay a → InMay b → (c ≡ true → Sound a w) →
+    (c ≡ false → Sound b w) → Sound (chosen x a b) w
 chosen_sound Plus true h i j f g =
     let s = f refl in
     record { must_code = s.must_code; must_signal = s.must_signal; can_code = s.can_code; can_signal = s.can_signal }
@@ -94,7 +98,8 @@ chosen_sound Unknown false h i j f g =
       can_signal = λ t e. or_right _ _ (j.signals t (s.can_signal t e));
     }
 
-pub chosen_decides : (c : Bool) {a b : Potentials} {w : Walk} (n : ℕ) (r re : ℕ → ℕ) → (c ≡ true → Decides a w n r re) → (c ≡ false → Decides b w n r re) → Decides (chosen (known c) a b) w n r re
+pub chosen_decides : (c : Bool) {a b : Potentials} {w : Walk} (n : ℕ) (r re : ℕ → ℕ) → (c ≡ true → Decides a w n r re) → (c ≡ false → Decides b w n r re) →
+    Decides (chosen (known c) a b) w n r re
 chosen_decides true n r re f g =
     let d = f refl in
     record {
@@ -218,7 +223,8 @@ at_can : (c : Bool) (P : Kind → Type 0) → c ≡ true → P (cond c Can May) 
 at_can true P e h = h
 at_can false P e h = absurd (false≢true e)
 
-pub turn_decides : {a b : Potentials} {x y : Walk} (n : ℕ) (r ra rb re : ℕ → ℕ) → InMay b → TurnRanks a b r ra rb re → Sound a x → (x.code ≡ 0 → Sound b y) → Decides a x n r ra → (x.code ≡ 0 → Decides b y n r rb) → Decides (in_turn a b) (then_walk x y) n r re
+pub turn_decides : {a b : Potentials} {x y : Walk} (n : ℕ) (r ra rb re : ℕ → ℕ) → InMay b → TurnRanks a b r ra rb re → Sound a x → (x.code ≡ 0 → Sound b y) →
+    Decides a x n r ra → (x.code ≡ 0 → Decides b y n r rb) → Decides (in_turn a b) (then_walk x y) n r re
 turn_decides {a} {b} {x} {y} n r ra rb re i k f g d d2 =
     cond_both (x.code == 0) (record { signals = λ t. x.signals t || y.signals t; code = y.code; kept = y.kept }) x
     (λ w. Decides (in_turn a b) w n r re)
@@ -307,7 +313,8 @@ abbrev pub BothRanks : (a b : Potentials) (ra rb re : ℕ → ℕ) → Type 0
 BothRanks a b ra rb re =
     (i j : ℕ) → (a Can).codes i ≡ true → (b Can).codes j ≡ true → (ra i ≤ re (max i j)) × (rb j ≤ re (max i j))
 
-pub both_decides : {a b : Potentials} {x y : Walk} (n : ℕ) (r ra rb re : ℕ → ℕ) → BothRanks a b ra rb re → Sound a x → Sound b y → Decides a x n r ra → Decides b y n r rb → Decides (λ k. together (a k) (b k)) (both_walks x y) n r re
+pub both_decides : {a b : Potentials} {x y : Walk} (n : ℕ) (r ra rb re : ℕ → ℕ) → BothRanks a b ra rb re → Sound a x → Sound b y → Decides a x n r ra →
+    Decides b y n r rb → Decides (λ k. together (a k) (b k)) (both_walks x y) n r re
 both_decides {a} {b} {x} {y} n r ra rb re k f g d e =
     record {
       code_decided = λ l.
@@ -341,7 +348,8 @@ trapped_sound {a} {x} f =
       can_signal = f.can_signal;
     }
 
-pub trapped_decides : {a : Potentials} {x : Walk} (n : ℕ) (r ra re : ℕ → ℕ) → ((j : ℕ) → (a Can).codes j ≡ true → ra j ≤ re (trap_code j)) → Sound a x → Decides a x n r ra → Decides (λ k. trapped (a k)) (trapped_walk x) n r re
+pub trapped_decides : {a : Potentials} {x : Walk} (n : ℕ) (r ra re : ℕ → ℕ) → ((j : ℕ) → (a Can).codes j ≡ true → ra j ≤ re (trap_code j)) → Sound a x →
+    Decides a x n r ra → Decides (λ k. trapped (a k)) (trapped_walk x) n r re
 trapped_decides {a} {x} n r ra re k f d =
     record {
       code_decided = λ l.

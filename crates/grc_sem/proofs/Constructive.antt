@@ -15,7 +15,9 @@ use Rattle.grc_graph.specs.Walk.{Values, started_walk}
 use Rattle.grc_graph.specs.Selected.{IsKernel}
 use Rattle.grc_graph.specs.Readings.{Valuation}
 use Rattle.grc_graph.specs.Coherence.{statuses, StartedWalked}
-use Rattle.grc_sem.proofs.Places.{After, Place, no_loops-left, nothing_place, exit_place, pause_place, emit_place, later_place, later_after, suspend_after, suspend_place, loop_after, loop_place, present_after, present_place, seq_after, seq_place, place_code, par_after, par_place, trap_after, trap_place, local_after, local_place}
+use Rattle.grc_sem.proofs.Places.{After, Place, no_loops-left, nothing_place, exit_place, pause_place, emit_place, later_place, later_after, suspend_after}
+use Rattle.grc_sem.proofs.Places.{suspend_place, loop_after, loop_place, present_after, present_place, seq_after, seq_place, place_code, par_after, par_place}
+use Rattle.grc_sem.proofs.Places.{trap_after, trap_place, local_after, local_place}
 use Rattle.grc_solutions.proofs.Each.{EachStarted}
 use Rattle.grc_sem.proofs.Residues.{no_loops-right, loop_body, loop_code}
 use Rattle.grc_solutions.proofs.Rows.{RowAt}
@@ -36,7 +38,8 @@ module _ (R : Wire → ℕ) (N : ℕ) where
   abbrev pub ends : ℕ → Layer → ℕ → ℕ
   ends n l = λ k. R (End n l k)
 
-  pub started_after : (t : Term) (B : Scope) (f : Layer → Formula) (n q : ℕ) (r : ℕ → ℕ) → q ≤ n → NoInstantLoop t → IsKernel t → InScope B t → EachStarted (RowAt (Up R)) B f t n (Started q) → Ranks R N B (Started q) r → After t r (R (Go n (Started q))) (ends n (Started q))
+  pub started_after : (t : Term) (B : Scope) (f : Layer → Formula) (n q : ℕ) (r : ℕ → ℕ) → q ≤ n → NoInstantLoop t → IsKernel t → InScope B t →
+      EachStarted (RowAt (Up R)) B f t n (Started q) → Ranks R N B (Started q) r → After t r (R (Go n (Started q))) (ends n (Started q))
   started_after Nothing B f n q r l nl b i e k =
       record { codes = λ c h. let x = e c h in omega arith; signals = λ E s h. absurd (false≢true h) }
   started_after Pause B f n q r l nl b i e k =
@@ -93,7 +96,9 @@ module _ (R : Wire → ℕ) (N : ℕ) where
       (ranks_more R N B n s (Started q) r (layer_above-started n q l) k))
   started_after (Awake x p) B f n q r l nl b i e k = absurd b
 
-  pub started_place : (V : Valuation) (t : Term) (B : Scope) (f : Layer → Formula) (n q : ℕ) (r : ℕ → ℕ) (v : Values) (b : Bool) → q ≤ n → NoInstantLoop t → IsKernel t → InScope B t → EachStarted (RowAt (Up R)) B f t n (Started q) → Ranks R N B (Started q) r → StartedWalked V t n (Started q) v b → b ≡ true → Place t v r (started_walk (statuses V) t n (Started q) v) (R (Go n (Started q))) (ends n (Started q))
+  pub started_place : (V : Valuation) (t : Term) (B : Scope) (f : Layer → Formula) (n q : ℕ) (r : ℕ → ℕ) (v : Values) (b : Bool) → q ≤ n → NoInstantLoop t →
+      IsKernel t → InScope B t → EachStarted (RowAt (Up R)) B f t n (Started q) → Ranks R N B (Started q) r → StartedWalked V t n (Started q) v b → b ≡ true →
+      Place t v r (started_walk (statuses V) t n (Started q) v) (R (Go n (Started q))) (ends n (Started q))
   started_place V Nothing B f n q r v b l nl kn i e k w h = nothing_place (omega (arith, e 0 refl))
   started_place V Pause B f n q r v b l nl kn i e k w h = pause_place (λ m. m == n) (omega (arith, e 1 refl))
   started_place V (Emit s) B f n q r v b l nl kn i e k w h =

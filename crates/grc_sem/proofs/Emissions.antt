@@ -55,7 +55,8 @@ bound_other false n j b h g e = g e
 
 module _ (V : Valuation) (L : ℕ → List Layer) where
   -- a statement that does not bind j and whose scope does not either emits nothing on a status wire of j
-  pub emitted_none : (j : ℕ) (i : Layer) (t : Term) (B : Scope) (f : Layer → Formula) (n : ℕ) → (n ≤ j → j < n + statement_count t → ⊥) → ((s : ℕ) → B s ≡ BoundAt j → ⊥) → emitted V (StatusOf j i) (spots L B f t n) ≡ false
+  pub emitted_none : (j : ℕ) (i : Layer) (t : Term) (B : Scope) (f : Layer → Formula) (n : ℕ) → (n ≤ j → j < n + statement_count t → ⊥) →
+      ((s : ℕ) → B s ≡ BoundAt j → ⊥) → emitted V (StatusOf j i) (spots L B f t n) ≡ false
   emitted_none j i Nothing B f n o h = any_none _ (λ l. spot B f Nothing n l) (L n) (λ l. refl)
   emitted_none j i Pause B f n o h = any_none _ (λ l. spot B f Pause n l) (L n) (λ l. refl)
   emitted_none j i (Emit s) B f n o h =
@@ -109,7 +110,9 @@ module _ (V : Valuation) (L : ℕ → List Layer) where
   not_bound : (B : Scope) (n j : ℕ) → Above B n → n ≤ j → (s : ℕ) → B s ≡ BoundAt j → ⊥
   not_bound B n j a l s e = let i = a.each s j e in omega arith
 
-  pub whole_only : (all : List Spot) (B C : Scope) (f g : Layer → Formula) (t p : Term) (n : ℕ) → statement_count t ≡ 1 + statement_count p → spots L B f t n ≡ spots_at L B f t n ++ spots L C g p (n + 1) → ((j : ℕ) (i l : Layer) → emits_on (StatusOf j i) t B l ≡ false) → Whole all B f t n → Whole all C g p (n + 1)
+  pub whole_only : (all : List Spot) (B C : Scope) (f g : Layer → Formula) (t p : Term) (n : ℕ) → statement_count t ≡ 1 + statement_count p →
+      spots L B f t n ≡ spots_at L B f t n ++ spots L C g p (n + 1) → ((j : ℕ) (i l : Layer) → emits_on (StatusOf j i) t B l ≡ false) → Whole all B f t n →
+      Whole all C g p (n + 1)
   whole_only all B C f g t p n c e k w =
       record {
         own = λ j i l u.
@@ -118,7 +121,10 @@ module _ (V : Valuation) (L : ℕ → List Layer) where
             (any_none _ (λ l. spot B f t n l) (L n) (λ l. ap (λ b. b && V (Go n l)) (k j i l)));
       }
 
-  pub whole_first : (all : List Spot) (B : Scope) (f g h : Layer → Formula) (t p q : Term) (n : ℕ) → Above B n → statement_count t ≡ 1 + statement_count p + statement_count q → spots L B f t n ≡ spots_at L B f t n ++ (spots L B g p (n + 1) ++ spots L B h q (n + 1 + statement_count p)) → ((j : ℕ) (i l : Layer) → emits_on (StatusOf j i) t B l ≡ false) → Whole all B f t n → Whole all B g p (n + 1)
+  pub whole_first : (all : List Spot) (B : Scope) (f g h : Layer → Formula) (t p q : Term) (n : ℕ) → Above B n →
+      statement_count t ≡ 1 + statement_count p + statement_count q →
+      spots L B f t n ≡ spots_at L B f t n ++ (spots L B g p (n + 1) ++ spots L B h q (n + 1 + statement_count p)) →
+      ((j : ℕ) (i l : Layer) → emits_on (StatusOf j i) t B l ≡ false) → Whole all B f t n → Whole all B g p (n + 1)
   whole_first all B f g h t p q n a c e k w =
       record {
         own = λ j i l u.
@@ -128,7 +134,10 @@ module _ (V : Valuation) (L : ℕ → List Layer) where
             (emitted_none j i q B h (n + 1 + statement_count p) (λ x y. omega arith) (not_bound B n j a (omega arith)));
       }
 
-  pub whole_second : (all : List Spot) (B : Scope) (f g h : Layer → Formula) (t p q : Term) (n : ℕ) → Above B n → statement_count t ≡ 1 + statement_count p + statement_count q → spots L B f t n ≡ spots_at L B f t n ++ (spots L B g p (n + 1) ++ spots L B h q (n + 1 + statement_count p)) → ((j : ℕ) (i l : Layer) → emits_on (StatusOf j i) t B l ≡ false) → Whole all B f t n → Whole all B h q (n + 1 + statement_count p)
+  pub whole_second : (all : List Spot) (B : Scope) (f g h : Layer → Formula) (t p q : Term) (n : ℕ) → Above B n →
+      statement_count t ≡ 1 + statement_count p + statement_count q →
+      spots L B f t n ≡ spots_at L B f t n ++ (spots L B g p (n + 1) ++ spots L B h q (n + 1 + statement_count p)) →
+      ((j : ℕ) (i l : Layer) → emits_on (StatusOf j i) t B l ≡ false) → Whole all B f t n → Whole all B h q (n + 1 + statement_count p)
   whole_second all B f g h t p q n a c e k w =
       record {
         own = λ j i l u.

@@ -1,5 +1,6 @@
 -- What the formulas of `end k` mean, where the parts end as their walks do: one lemma per form.
-use Rattle.std.proofs.Common.{◌≡◌, ℕ, zero, suc, ◌≤◌, Bool, true, false, not, ◌&&◌, ◌||◌, ◌==◌, cond, max, List, [], ◌∷◌, ◌++◌, refl, sym, ap, ◌∙◌, subst, inl, inr, ◌⊎◌, ⊎_elim, arith}
+use Rattle.std.proofs.Common.{◌≡◌, ℕ, zero, suc, ◌≤◌, Bool, true, false, not, ◌&&◌, ◌||◌, ◌==◌, cond, max, List, [], ◌∷◌, ◌++◌, refl, sym, ap, ◌∙◌, subst, inl}
+use Rattle.std.proofs.Common.{inr, ◌⊎◌, ⊎_elim, arith}
 use Rattle.std.specs.List.{list_any}
 use Rattle.std.proofs.lemmas.List.Folds.{list_any-append}
 use Rattle.std.proofs.lemmas.Bool.{or_cases, or_left, or_right, and_parts, eqb-true, eq-eqb, false≢true, cases_Bool, cases_lt}
@@ -55,7 +56,8 @@ module _ (B : Scope) (body : Term) (q : State) (given : Values) (V : Valuation) 
   status_meaning Unbound s l = refl
 
   -- a test means its truth under the values that the place sees
-  pub test_meaning : (C : Scope) (e : Expression) (l : Layer) (v : Values) → ((s : ℕ) → v s ≡ seen_value given V (C s) s l) → val (test_formula C e l) ≡ truth e v
+  pub test_meaning : (C : Scope) (e : Expression) (l : Layer) (v : Values) → ((s : ℕ) → v s ≡ seen_value given V (C s) s l) →
+      val (test_formula C e l) ≡ truth e v
   test_meaning C Tick l v h = refl
   test_meaning C (Sig s) l v h = status_meaning (C s) s l ∙ sym (h s)
   test_meaning C (Not a) l v h = ap not (test_meaning C a l v h)
@@ -68,17 +70,20 @@ module _ (B : Scope) (body : Term) (q : State) (given : Values) (V : Valuation) 
   abbrev pub Ends : ℕ → Layer → Bool → ℕ → Type 0
   Ends c l g code = (k : ℕ) → V (End c l k) ≡ (g && k == code)
 
-  says : (A : ℕ → Bool) (c : ℕ) (l : Layer) (g : Bool) (code k : ℕ) → (A k ≡ true → V (End c l k) ≡ (g && k == code)) → list_any val (part_end A c l k) ≡ true → (A k ≡ true) × (g ≡ true) × (k ≡ code)
+  says : (A : ℕ → Bool) (c : ℕ) (l : Layer) (g : Bool) (code k : ℕ) → (A k ≡ true → V (End c l k) ≡ (g && k == code)) → list_any val (part_end A c l k) ≡ true →
+      (A k ≡ true) × (g ≡ true) × (k ≡ code)
   says A c l g code k e h =
       let i = and_parts (A k) (V (End c l k)) (sym (part_meaning A c l k) ∙ h) in
       let j = and_parts g (k == code) (sym (e i.0) ∙ i.1) in
       (i.0, j.0, eqb-true k code j.1)
 
-  is_end : (A : ℕ → Bool) (c : ℕ) (l : Layer) (g : Bool) (code k : ℕ) → (A k ≡ true → V (End c l k) ≡ (g && k == code)) → A k ≡ true → g ≡ true → k ≡ code → list_any val (part_end A c l k) ≡ true
+  is_end : (A : ℕ → Bool) (c : ℕ) (l : Layer) (g : Bool) (code k : ℕ) → (A k ≡ true → V (End c l k) ≡ (g && k == code)) → A k ≡ true → g ≡ true → k ≡ code →
+      list_any val (part_end A c l k) ≡ true
   is_end A c l g code k e a h z = part_meaning A c l k ∙ and_true a (e a ∙ and_true h (eq-eqb k code z))
 
   -- one part with all its codes
-  pub only_ends_live : (A : ℕ → Bool) (c : ℕ) (l : Layer) (g : Bool) (code : ℕ) → ((k : ℕ) → A k ≡ true → V (End c l k) ≡ (g && k == code)) → (g ≡ true → A code ≡ true) → (k : ℕ) → (A k && val (any_of (part_end A c l k))) ≡ (g && k == code)
+  pub only_ends_live : (A : ℕ → Bool) (c : ℕ) (l : Layer) (g : Bool) (code : ℕ) → ((k : ℕ) → A k ≡ true → V (End c l k) ≡ (g && k == code)) →
+      (g ≡ true → A code ≡ true) → (k : ℕ) → (A k && val (any_of (part_end A c l k))) ≡ (g && k == code)
   only_ends_live A c l g code e a k =
       ends_by (A k) _ g k code
       (λ h. let i = says A c l g code k (e k) (sym (any_meaning (part_end A c l k)) ∙ h) in (i.1, i.2))
@@ -86,14 +91,19 @@ module _ (B : Scope) (body : Term) (q : State) (given : Values) (V : Valuation) 
       let i : A k ≡ true = subst (λ j. A j ≡ true) (sym z) (a h) in
       (i, any_meaning (part_end A c l k) ∙ is_end A c l g code k (e k) i h z))
 
-  pub only_ends : (A : ℕ → Bool) (c : ℕ) (l : Layer) (g : Bool) (code : ℕ) → Ends c l g code → (g ≡ true → A code ≡ true) → (k : ℕ) → (A k && val (any_of (part_end A c l k))) ≡ (g && k == code)
+  pub only_ends : (A : ℕ → Bool) (c : ℕ) (l : Layer) (g : Bool) (code : ℕ) → Ends c l g code → (g ≡ true → A code ≡ true) → (k : ℕ) →
+      (A k && val (any_of (part_end A c l k))) ≡ (g && k == code)
   only_ends A c l g code e a k = only_ends_live A c l g code (λ j z. e j) a k
 
   two_any : (xs ys : List Formula) → val (any_of (xs ++ ys)) ≡ (list_any val xs || list_any val ys)
   two_any xs ys = any_meaning (xs ++ ys) ∙ list_any-append val xs ys
 
   -- a choice of two parts, of which one is reached
-  pub choice_ends : (A C W : ℕ → Bool) (c d : ℕ) (l j : Layer) (g h b : Bool) (x y code : ℕ) → ((k : ℕ) → A k ≡ true → V (End c l k) ≡ (g && k == x)) → ((k : ℕ) → C k ≡ true → V (End d j k) ≡ (h && k == y)) → (g ≡ true → (k : ℕ) → A k ≡ true → k ≡ x → (b ≡ true) × (code ≡ x)) → (h ≡ true → (b ≡ true) × (code ≡ y)) → (b ≡ true → W code ≡ true) → (b ≡ true → ((g ≡ true) × (code ≡ x) × (A x ≡ true)) ⊎ ((h ≡ true) × (code ≡ y) × (C y ≡ true))) → (k : ℕ) → (W k && val (any_of (part_end A c l k ++ part_end C d j k))) ≡ (b && k == code)
+  pub choice_ends : (A C W : ℕ → Bool) (c d : ℕ) (l j : Layer) (g h b : Bool) (x y code : ℕ) → ((k : ℕ) → A k ≡ true → V (End c l k) ≡ (g && k == x)) →
+      ((k : ℕ) → C k ≡ true → V (End d j k) ≡ (h && k == y)) → (g ≡ true → (k : ℕ) → A k ≡ true → k ≡ x → (b ≡ true) × (code ≡ x)) →
+      (h ≡ true → (b ≡ true) × (code ≡ y)) → (b ≡ true → W code ≡ true) →
+      (b ≡ true → ((g ≡ true) × (code ≡ x) × (A x ≡ true)) ⊎ ((h ≡ true) × (code ≡ y) × (C y ≡ true))) → (k : ℕ) →
+      (W k && val (any_of (part_end A c l k ++ part_end C d j k))) ≡ (b && k == code)
   choice_ends A C W c d l j g h b x y code e f p r a o k =
       ends_by (W k) _ b k code
       (λ i.
@@ -111,7 +121,12 @@ module _ (B : Scope) (body : Term) (q : State) (given : Values) (V : Valuation) 
       ))
 
   -- a choice of three
-  pub three_ends : (A C D W : ℕ → Bool) (c d e : ℕ) (l j i : Layer) (g h u b : Bool) (x y z code : ℕ) → ((k : ℕ) → A k ≡ true → V (End c l k) ≡ (g && k == x)) → ((k : ℕ) → C k ≡ true → V (End d j k) ≡ (h && k == y)) → ((k : ℕ) → D k ≡ true → V (End e i k) ≡ (u && k == z)) → (g ≡ true → (k : ℕ) → A k ≡ true → k ≡ x → (b ≡ true) × (code ≡ x)) → (h ≡ true → (b ≡ true) × (code ≡ y)) → (u ≡ true → (b ≡ true) × (code ≡ z)) → (b ≡ true → W code ≡ true) → (b ≡ true → ((g ≡ true) × (code ≡ x) × (A x ≡ true)) ⊎ (((h ≡ true) × (code ≡ y) × (C y ≡ true)) ⊎ ((u ≡ true) × (code ≡ z) × (D z ≡ true)))) → (k : ℕ) → (W k && val (any_of (part_end A c l k ++ (part_end C d j k ++ part_end D e i k)))) ≡ (b && k == code)
+  pub three_ends : (A C D W : ℕ → Bool) (c d e : ℕ) (l j i : Layer) (g h u b : Bool) (x y z code : ℕ) → ((k : ℕ) → A k ≡ true → V (End c l k) ≡ (g && k == x)) →
+      ((k : ℕ) → C k ≡ true → V (End d j k) ≡ (h && k == y)) → ((k : ℕ) → D k ≡ true → V (End e i k) ≡ (u && k == z)) →
+      (g ≡ true → (k : ℕ) → A k ≡ true → k ≡ x → (b ≡ true) × (code ≡ x)) → (h ≡ true → (b ≡ true) × (code ≡ y)) → (u ≡ true → (b ≡ true) × (code ≡ z)) →
+      (b ≡ true → W code ≡ true) → (b ≡ true → ((g ≡ true) × (code ≡ x) × (A x ≡ true))
+      ⊎ (((h ≡ true) × (code ≡ y) × (C y ≡ true)) ⊎ ((u ≡ true) × (code ≡ z) × (D z ≡ true)))) → (k : ℕ) →
+      (W k && val (any_of (part_end A c l k ++ (part_end C d j k ++ part_end D e i k)))) ≡ (b && k == code)
   three_ends A C D W c d e l j i g h u b x y z code ea ec ed p r s a o k =
       let xs = part_end A c l k in
       let ys = part_end C d j k in
@@ -142,7 +157,8 @@ module _ (B : Scope) (body : Term) (q : State) (given : Values) (V : Valuation) 
       ))
 
   -- a trap
-  trapped_says : (A : ℕ → Bool) (c : ℕ) (l : Layer) (g : Bool) (x k : ℕ) → ((k : ℕ) → A k ≡ true → V (End c l k) ≡ (g && k == x)) → list_any val (trapped_ends A c l k) ≡ true → (g ≡ true) × (k ≡ trap_code x)
+  trapped_says : (A : ℕ → Bool) (c : ℕ) (l : Layer) (g : Bool) (x k : ℕ) → ((k : ℕ) → A k ≡ true → V (End c l k) ≡ (g && k == x)) →
+      list_any val (trapped_ends A c l k) ≡ true → (g ≡ true) × (k ≡ trap_code x)
   trapped_says A c l g x zero e h =
       ⊎_elim
       (λ i. let s = says A c l g x 0 (e 0) i in (s.1, ap trap_code s.2))
@@ -152,7 +168,8 @@ module _ (B : Scope) (body : Term) (q : State) (given : Values) (V : Valuation) 
   trapped_says A c l g x (suc (suc k)) e h =
       let s = says A c l g x (suc (suc (suc k))) (e (suc (suc (suc k)))) h in (s.1, ap trap_code s.2)
 
-  trapped_is : (A : ℕ → Bool) (c : ℕ) (l : Layer) (g : Bool) (x y : ℕ) → ((k : ℕ) → A k ≡ true → V (End c l k) ≡ (g && k == y)) → A x ≡ true → g ≡ true → x ≡ y → list_any val (trapped_ends A c l (trap_code x)) ≡ true
+  trapped_is : (A : ℕ → Bool) (c : ℕ) (l : Layer) (g : Bool) (x y : ℕ) → ((k : ℕ) → A k ≡ true → V (End c l k) ≡ (g && k == y)) → A x ≡ true → g ≡ true →
+      x ≡ y → list_any val (trapped_ends A c l (trap_code x)) ≡ true
   trapped_is A c l g zero y e a h z =
       list_any-append val (part_end A c l 0) (part_end A c l 2) ∙ or_left _ _ (is_end A c l g y 0 (e 0) a h z)
   trapped_is A c l g (suc zero) y e a h z = is_end A c l g y 1 (e 1) a h z
@@ -160,7 +177,8 @@ module _ (B : Scope) (body : Term) (q : State) (given : Values) (V : Valuation) 
       list_any-append val (part_end A c l 0) (part_end A c l 2) ∙ or_right (list_any val (part_end A c l 0)) _ (is_end A c l g y 2 (e 2) a h z)
   trapped_is A c l g (suc (suc (suc x))) y e a h z = is_end A c l g y (suc (suc (suc x))) (e (suc (suc (suc x)))) a h z
 
-  pub trap_ends_live : (A W : ℕ → Bool) (c : ℕ) (l : Layer) (g : Bool) (x : ℕ) → ((k : ℕ) → A k ≡ true → V (End c l k) ≡ (g && k == x)) → (g ≡ true → A x ≡ true) → (g ≡ true → W (trap_code x) ≡ true) → (k : ℕ) → (W k && val (any_of (trapped_ends A c l k))) ≡ (g && k == trap_code x)
+  pub trap_ends_live : (A W : ℕ → Bool) (c : ℕ) (l : Layer) (g : Bool) (x : ℕ) → ((k : ℕ) → A k ≡ true → V (End c l k) ≡ (g && k == x)) →
+      (g ≡ true → A x ≡ true) → (g ≡ true → W (trap_code x) ≡ true) → (k : ℕ) → (W k && val (any_of (trapped_ends A c l k))) ≡ (g && k == trap_code x)
   trap_ends_live A W c l g x e a w k =
       ends_by (W k) _ g k (trap_code x)
       (λ h. trapped_says A c l g x k e (sym (any_meaning (trapped_ends A c l k)) ∙ h))
@@ -170,7 +188,8 @@ module _ (B : Scope) (body : Term) (q : State) (given : Values) (V : Valuation) 
             ∙ subst (λ j. list_any val (trapped_ends A c l j) ≡ true) (sym z) (trapped_is A c l g x x e (a h) h refl),
       ))
 
-  pub trap_ends : (A W : ℕ → Bool) (c : ℕ) (l : Layer) (g : Bool) (x : ℕ) → Ends c l g x → (g ≡ true → A x ≡ true) → (g ≡ true → W (trap_code x) ≡ true) → (k : ℕ) → (W k && val (any_of (trapped_ends A c l k))) ≡ (g && k == trap_code x)
+  pub trap_ends : (A W : ℕ → Bool) (c : ℕ) (l : Layer) (g : Bool) (x : ℕ) → Ends c l g x → (g ≡ true → A x ≡ true) → (g ≡ true → W (trap_code x) ≡ true) →
+      (k : ℕ) → (W k && val (any_of (trapped_ends A c l k))) ≡ (g && k == trap_code x)
   trap_ends A W c l g x e a w k = trap_ends_live A W c l g x (λ j z. e j) a w k
 
   -- a parallel at its start
@@ -184,7 +203,8 @@ module _ (B : Scope) (body : Term) (q : State) (given : Values) (V : Valuation) 
   upto_is : (c : ℕ) (l : Layer) (g : Bool) (x k : ℕ) → Ends c l g x → g ≡ true → x ≤ k → upto (λ j. V (End c l j)) k ≡ true
   upto_is c l g x k e h l2 = upto-in (λ j. V (End c l j)) x k (e x ∙ and_true h (eq-eqb x x refl)) l2
 
-  pub parallel_ends : (A C W : ℕ → Bool) (c d : ℕ) (l : Layer) (b : Bool) (x y : ℕ) → Ends c l b x → Ends d l b y → (b ≡ true → A x ≡ true) → (b ≡ true → C y ≡ true) → (b ≡ true → W (max x y) ≡ true) → (k : ℕ) → (W k && val (started_parallel A C c d l k)) ≡ (b && k == max x y)
+  pub parallel_ends : (A C W : ℕ → Bool) (c d : ℕ) (l : Layer) (b : Bool) (x y : ℕ) → Ends c l b x → Ends d l b y → (b ≡ true → A x ≡ true) →
+      (b ≡ true → C y ≡ true) → (b ≡ true → W (max x y) ≡ true) → (k : ℕ) → (W k && val (started_parallel A C c d l k)) ≡ (b && k == max x y)
   parallel_ends A C W c d l b x y e f a g w k =
       ends_by (W k) _ b k (max x y)
       (λ h.
@@ -205,7 +225,8 @@ module _ (B : Scope) (body : Term) (q : State) (given : Values) (V : Valuation) 
             (two_any (part_end A c l k) (part_end C d l k)
             ∙ ⊎_elim
             (λ m. let same : k ≡ x = omega arith in or_left _ _ (is_end A c l b x k (λ n. e k) (subst (λ j. A j ≡ true) (sym same) (a h)) h same))
-            (λ m. let same : k ≡ y = omega arith in or_right (list_any val (part_end A c l k)) _ (is_end C d l b y k (λ n. f k) (subst (λ j. C j ≡ true) (sym same) (g h)) h same))
+            (λ m. let same : k ≡ y = omega arith in or_right (list_any val (part_end A c l k)) _
+            (is_end C d l b y k (λ n. f k) (subst (λ j. C j ≡ true) (sym same) (g h)) h same))
             (greater x y))),
       ))
     where
@@ -217,12 +238,14 @@ module _ (B : Scope) (body : Term) (q : State) (given : Values) (V : Valuation) 
   if_any true f = or-false (val f)
   if_any false f = refl
 
-  branch_end-meaning : (A : ℕ → Bool) (n c k : ℕ) → list_any val (branch_end A n c k) ≡ ((A k && (val (Selected c) && V (End c Resumed k))) || ((k == 0) && (not (val (Selected c)) && V (Go n Resumed))))
+  branch_end-meaning : (A : ℕ → Bool) (n c k : ℕ) → list_any val (branch_end A n c k) ≡
+      ((A k && (val (Selected c) && V (End c Resumed k))) || ((k == 0) && (not (val (Selected c)) && V (Go n Resumed))))
   branch_end-meaning A n c k =
       list_any-append val (cond (A k) (Conjunction (Selected c) (Value (End c Resumed k)) ∷ []) []) (cond (k == 0) (branch_over n c ∷ []) [])
       ∙ or_same (if_any (A k) (Conjunction (Selected c) (Value (End c Resumed k)))) (if_any (k == 0) (branch_over n c))
 
-  branch_upto-meaning : (A : ℕ → Bool) (n c k : ℕ) → val (branch_upto A n c k) ≡ ((has_code A && (val (Selected c) && upto (λ j. V (End c Resumed j)) k)) || (not (val (Selected c)) && V (Go n Resumed)))
+  branch_upto-meaning : (A : ℕ → Bool) (n c k : ℕ) → val (branch_upto A n c k) ≡
+      ((has_code A && (val (Selected c) && upto (λ j. V (End c Resumed j)) k)) || (not (val (Selected c)) && V (Go n Resumed)))
   branch_upto-meaning A n c k =
       any_meaning (cond (has_code A) (Conjunction (Selected c) (Upto c Resumed k) ∷ []) [] ++ (branch_over n c ∷ []))
       ∙ list_any-append val (cond (has_code A) (Conjunction (Selected c) (Upto c Resumed k) ∷ []) []) (branch_over n c ∷ [])
@@ -252,7 +275,8 @@ module _ (B : Scope) (body : Term) (q : State) (given : Values) (V : Valuation) 
   not_true true e = absurd (false≢true e)
   not_true false e = refl
 
-  end_says : (A : ℕ → Bool) (n c : ℕ) (b h : Bool) (x k : ℕ) → V (Go n Resumed) ≡ b → val (Selected c) ≡ h → (A k ≡ true → V (End c Resumed k) ≡ ((b && h) && k == x)) → list_any val (branch_end A n c k) ≡ true → (b ≡ true) × (k ≡ branch_number h x)
+  end_says : (A : ℕ → Bool) (n c : ℕ) (b h : Bool) (x k : ℕ) → V (Go n Resumed) ≡ b → val (Selected c) ≡ h →
+      (A k ≡ true → V (End c Resumed k) ≡ ((b && h) && k == x)) → list_any val (branch_end A n c k) ≡ true → (b ≡ true) × (k ≡ branch_number h x)
   end_says A n c b h x k go sel e i =
       ⊎_elim
       (λ u.
@@ -267,7 +291,9 @@ module _ (B : Scope) (body : Term) (q : State) (given : Values) (V : Valuation) 
       (sym go ∙ s2.1, eqb-true k 0 s.0 ∙ sym (pass_over h x (sym sel ∙ not_true _ s2.0))))
       (or_cases (A k && (val (Selected c) && V (End c Resumed k))) _ (sym (branch_end-meaning A n c k) ∙ i))
 
-  end_is : (A : ℕ → Bool) (n c : ℕ) (b h : Bool) (x k : ℕ) → V (Go n Resumed) ≡ b → val (Selected c) ≡ h → (A k ≡ true → V (End c Resumed k) ≡ ((b && h) && k == x)) → (b ≡ true → h ≡ true → A x ≡ true) → b ≡ true → k ≡ branch_number h x → list_any val (branch_end A n c k) ≡ true
+  end_is : (A : ℕ → Bool) (n c : ℕ) (b h : Bool) (x k : ℕ) → V (Go n Resumed) ≡ b → val (Selected c) ≡ h →
+      (A k ≡ true → V (End c Resumed k) ≡ ((b && h) && k == x)) → (b ≡ true → h ≡ true → A x ≡ true) → b ≡ true → k ≡ branch_number h x →
+      list_any val (branch_end A n c k) ≡ true
   end_is A n c b h x k go sel e a i z =
       branch_end-meaning A n c k
       ∙ ⊎_elim
@@ -280,7 +306,8 @@ module _ (B : Scope) (body : Term) (q : State) (given : Values) (V : Valuation) 
       (and_true (eq-eqb k 0 (z ∙ pass_over h x u)) (and_true (ap not (sel ∙ u)) (go ∙ i))))
       (cases_Bool h)
 
-  upto_over : (A : ℕ → Bool) (n c : ℕ) (b h : Bool) (x k : ℕ) → V (Go n Resumed) ≡ b → val (Selected c) ≡ h → (has_code A ≡ true → Ends c Resumed (b && h) x) → val (branch_upto A n c k) ≡ true → branch_number h x ≤ k
+  upto_over : (A : ℕ → Bool) (n c : ℕ) (b h : Bool) (x k : ℕ) → V (Go n Resumed) ≡ b → val (Selected c) ≡ h → (has_code A ≡ true → Ends c Resumed (b && h) x) →
+      val (branch_upto A n c k) ≡ true → branch_number h x ≤ k
   upto_over A n c b h x k go sel e i =
       ⊎_elim
       (λ u.
@@ -293,7 +320,8 @@ module _ (B : Scope) (body : Term) (q : State) (given : Values) (V : Valuation) 
       omega (arith, pass_over h x (sym sel ∙ not_true _ s.0)))
       (or_cases (has_code A && (val (Selected c) && upto (λ j. V (End c Resumed j)) k)) _ (sym (branch_upto-meaning A n c k) ∙ i))
 
-  upto_held : (A : ℕ → Bool) (n c : ℕ) (b h : Bool) (x k : ℕ) → V (Go n Resumed) ≡ b → val (Selected c) ≡ h → (has_code A ≡ true → Ends c Resumed (b && h) x) → (b ≡ true → h ≡ true → has_code A ≡ true) → b ≡ true → branch_number h x ≤ k → val (branch_upto A n c k) ≡ true
+  upto_held : (A : ℕ → Bool) (n c : ℕ) (b h : Bool) (x k : ℕ) → V (Go n Resumed) ≡ b → val (Selected c) ≡ h → (has_code A ≡ true → Ends c Resumed (b && h) x) →
+      (b ≡ true → h ≡ true → has_code A ≡ true) → b ≡ true → branch_number h x ≤ k → val (branch_upto A n c k) ≡ true
   upto_held A n c b h x k go sel e a i l =
       branch_upto-meaning A n c k
       ∙ ⊎_elim
@@ -303,7 +331,11 @@ module _ (B : Scope) (body : Term) (q : State) (given : Values) (V : Valuation) 
       (λ u. or_right (has_code A && (val (Selected c) && upto (λ j. V (End c Resumed j)) k)) _ (and_true (ap not (sel ∙ u)) (go ∙ i)))
       (cases_Bool h)
 
-  pub resumed_ends : (A C W : ℕ → Bool) (n c d : ℕ) (b h i : Bool) (x y : ℕ) → V (Go n Resumed) ≡ b → val (Selected c) ≡ h → val (Selected d) ≡ i → (has_code A ≡ true → Ends c Resumed (b && h) x) → (has_code C ≡ true → Ends d Resumed (b && i) y) → ((k : ℕ) → A k ≡ true → has_code A ≡ true) → ((k : ℕ) → C k ≡ true → has_code C ≡ true) → (b ≡ true → h ≡ true → A x ≡ true) → (b ≡ true → i ≡ true → C y ≡ true) → (b ≡ true → W (max (branch_number h x) (branch_number i y)) ≡ true) → (k : ℕ) → (W k && val (resumed_parallel A C n c d k)) ≡ (b && k == max (branch_number h x) (branch_number i y))
+  pub resumed_ends : (A C W : ℕ → Bool) (n c d : ℕ) (b h i : Bool) (x y : ℕ) → V (Go n Resumed) ≡ b → val (Selected c) ≡ h → val (Selected d) ≡ i →
+      (has_code A ≡ true → Ends c Resumed (b && h) x) → (has_code C ≡ true → Ends d Resumed (b && i) y) → ((k : ℕ) → A k ≡ true → has_code A ≡ true) →
+      ((k : ℕ) → C k ≡ true → has_code C ≡ true) → (b ≡ true → h ≡ true → A x ≡ true) → (b ≡ true → i ≡ true → C y ≡ true) →
+      (b ≡ true → W (max (branch_number h x) (branch_number i y)) ≡ true) → (k : ℕ) →
+      (W k && val (resumed_parallel A C n c d k)) ≡ (b && k == max (branch_number h x) (branch_number i y))
   resumed_ends A C W n c d b h i x y go sc sd ea ec la lc a g w k =
       let one = λ (s : A k ≡ true). ea (la k s) k in
       let two = λ (s : C k ≡ true). ec (lc k s) k in
@@ -332,7 +364,10 @@ module _ (B : Scope) (body : Term) (q : State) (given : Values) (V : Valuation) 
       greater_of x y = ⊎_elim (λ l. inr (omega arith)) (λ l. inl l) (cases_lt x y)
 
   -- a suspension that goes on
-  pub awake_ends : (A W : ℕ → Bool) (C : Scope) (e : Expression) (n c : ℕ) (b d : Bool) (x code : ℕ) → V (Go n Resumed) ≡ b → val (test_formula C e Resumed) ≡ d → ((k : ℕ) → A k ≡ true → V (End c Resumed k) ≡ ((b && not d) && k == x)) → (d ≡ true → code ≡ 1) → (d ≡ false → code ≡ x) → (b ≡ true → d ≡ false → A x ≡ true) → (b ≡ true → W code ≡ true) → (k : ℕ) → (W k && val (any_of (part_end A c Resumed k ++ cond (k == 1) (Conjunction (Value (Go n Resumed)) (test_formula C e Resumed) ∷ []) []))) ≡ (b && k == code)
+  pub awake_ends : (A W : ℕ → Bool) (C : Scope) (e : Expression) (n c : ℕ) (b d : Bool) (x code : ℕ) → V (Go n Resumed) ≡ b →
+      val (test_formula C e Resumed) ≡ d → ((k : ℕ) → A k ≡ true → V (End c Resumed k) ≡ ((b && not d) && k == x)) → (d ≡ true → code ≡ 1) →
+      (d ≡ false → code ≡ x) → (b ≡ true → d ≡ false → A x ≡ true) → (b ≡ true → W code ≡ true) → (k : ℕ) →
+      (W k && val (any_of (part_end A c Resumed k ++ cond (k == 1) (Conjunction (Value (Go n Resumed)) (test_formula C e Resumed) ∷ []) []))) ≡ (b && k == code)
   awake_ends A W C e n c b d x code go test ends one other a w k =
       let own = Conjunction (Value (Go n Resumed)) (test_formula C e Resumed) in
       let all = two_any (part_end A c Resumed k) (cond (k == 1) (own ∷ []) []) in

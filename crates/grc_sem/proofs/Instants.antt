@@ -50,8 +50,10 @@ no_code t k b e =
     cond_both (resumed_codes t k) true false (λ c. resumed_codes t k ≡ false)
     (λ h. absurd (false≢true (sym e ∙ some_has (resumed_codes t) (k, omega (arith, resumed_below t b k h), h)))) (λ h. h)
 
-not_held : (S : ℕ → Bool) (t : Term) → NoInstantLoop t → IsKernel t → (holds S t 0 ≡ true → IsSelected S t 0) → has_code (resumed_codes t) ≡ false → holds S t 0 ≡ false
-not_held S t nl k s e = cond_both (holds S t 0) true false (λ b. holds S t 0 ≡ false) (λ h. absurd (false≢true (sym e ∙ resumed_live S t 0 nl k h (s h)))) (λ h. h)
+not_held : (S : ℕ → Bool) (t : Term) → NoInstantLoop t → IsKernel t → (holds S t 0 ≡ true → IsSelected S t 0) → has_code (resumed_codes t) ≡ false →
+    holds S t 0 ≡ false
+not_held S t nl k s e = cond_both (holds S t 0) true false (λ b. holds S t 0 ≡ false) (λ h. absurd (false≢true (sym e ∙ resumed_live S t 0 nl k h (s h))))
+    (λ h. h)
 
 or_same : {a b c d : Bool} → a ≡ c → b ≡ d → (a || b) ≡ (c || d)
 or_same {a} {b} {c} {d} e f = ap (λ x. x || b) e ∙ ap (λ x. c || x) f
@@ -68,7 +70,9 @@ pauses_of (Selecting S) body h = λ m e. leaf_way (resumes body) body 0 m (h m e
 runs_in : State → Term → Bool
 runs_in q body = holds (selected_of q) body 0 || is_initial q
 
-code_is : (Z : _) (body : Term) (q : State) (v : Values) (k : ℕ) → ((holds (selected_of q) body 0 && (k == (resumed_walk Z (selected_of q) body 0 v).code)) || (is_initial q && (k == (started_walk Z body 0 (Started 0) v).code))) ≡ (runs_in q body && (k == (body_walk Z q body v).code))
+code_is : (Z : _) (body : Term) (q : State) (v : Values) (k : ℕ) →
+    ((holds (selected_of q) body 0 && (k == (resumed_walk Z (selected_of q) body 0 v).code))
+    || (is_initial q && (k == (started_walk Z body 0 (Started 0) v).code))) ≡ (runs_in q body && (k == (body_walk Z q body v).code))
 unfolding runs_in
 code_is Z body Initial v k =
     ap (λ b. (b && (k == (resumed_walk Z (λ m. false) body 0 v).code)) || (k == (started_walk Z body 0 (Started 0) v).code)) (nothing_held body 0)
@@ -86,7 +90,8 @@ rests_with Z body Initial v e = absurd (false≢true (sym (or_parts (holds (λ m
 rests_with Z body (Selecting S) v e = ap (λ h. (cond h (resumed_walk Z S body 0 v) (ended 0)).code) (or_parts (holds S body 0) false e).0
 
 -- one instant
-module _ (p : Program) (kernel : IsKernel p.body) (nl : NoInstantLoop p.body) (q : State) (event : List Bool) (V : Valuation) (state : IsState q p.body) (s : Solves (graph_of p) q event V) where
+module _ (p : Program) (kernel : IsKernel p.body) (nl : NoInstantLoop p.body) (q : State) (event : List Bool) (V : Valuation) (state : IsState q p.body)
+    (s : Solves (graph_of p) q event V) where
   abbrev S : ℕ → Bool
   S = selected_of q
 
@@ -115,7 +120,8 @@ module _ (p : Program) (kernel : IsKernel p.body) (nl : NoInstantLoop p.body) (q
   code_below : (graph_walk p q event V).code < 64
   code_below = below q v (state_reach q p.body state).selected
     where
-      below : (r : State) (u : Values) → (holds (selected_of r) p.body 0 ≡ true → IsSelected (selected_of r) p.body 0) → (body_walk (statuses V) r p.body u).code < 64
+      below : (r : State) (u : Values) → (holds (selected_of r) p.body 0 ≡ true → IsSelected (selected_of r) p.body 0) →
+          (body_walk (statuses V) r p.body u).code < 64
       below Initial u h = started_below p.body kernel _ (started_code (statuses V) p.body 0 (Started 0) u nl kernel)
       below (Selecting R) u h =
           cond_both (holds R p.body 0) (resumed_walk (statuses V) R p.body 0 u) (ended 0) (λ w. w.code < 64)
@@ -132,7 +138,8 @@ module _ (p : Program) (kernel : IsKernel p.body) (nl : NoInstantLoop p.body) (q
   paused_is =
       ⊎_elim
       (λ e. ends_are 1 ∙ ap (λ b. b && (1 == (graph_walk p q event V).code)) e ∙ one_flip (graph_walk p q event V).code)
-      (λ e. ends_are 1 ∙ ap (λ b. b && (1 == (graph_walk p q event V).code)) e ∙ sym (ne_eqb (graph_walk p q event V).code 1 (λ z. let o = rests_with (statuses V) p.body q v e in omega (arith, z, o))))
+      (λ e. ends_are 1 ∙ ap (λ b. b && (1 == (graph_walk p q event V).code)) e
+      ∙ sym (ne_eqb (graph_walk p q event V).code 1 (λ z. let o = rests_with (statuses V) p.body q v e in omega (arith, z, o))))
       (cases_Bool (runs_in q p.body))
 
   -- the next state, where leaves are selected
@@ -158,7 +165,8 @@ module _ (p : Program) (kernel : IsKernel p.body) (nl : NoInstantLoop p.body) (q
 
     pub next_leaves : SelectsLeaves (next_state (graph_of p) q event V) p.body
     next_leaves = λ m e.
-        (and_parts _ _ (sym (next_selected (is_given event) V (program_scope p.inputs (interface_count p)) p.body q v nl kernel state (record { each = λ i. refl }) started resumed m) ∙ e)).0
+        (and_parts _ _ (sym (next_selected (is_given event) V (program_scope p.inputs (interface_count p)) p.body q v nl kernel state
+        (record { each = λ i. refl }) started resumed m) ∙ e)).0
 
     pub next_residual : resumption K p.body ≡ remaining (next_state (graph_of p) q event V) p.body
     next_residual =

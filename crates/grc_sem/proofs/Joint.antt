@@ -35,11 +35,13 @@ or_joined : (a b c : Bool) → (a || b) ≡ false → (b ≡ false → c ≡ fal
 or_joined true b c e f = e
 or_joined false b c e f = f e
 
-any_joined : {B : Type 0} (F : B → Bool) (g : ℕ → B) (xs ys : List ℕ) → list_any F (map g xs) ≡ false → list_any F (map g ys) ≡ false → list_any F (map g (xs ++ ys)) ≡ false
+any_joined : {B : Type 0} (F : B → Bool) (g : ℕ → B) (xs ys : List ℕ) → list_any F (map g xs) ≡ false → list_any F (map g ys) ≡ false →
+    list_any F (map g (xs ++ ys)) ≡ false
 any_joined F g [] ys e f = f
 any_joined F g (x ∷ xs) ys e f = or_joined (F (g x)) (list_any F (map g xs)) (list_any F (map g (xs ++ ys))) e (λ i. any_joined F g xs ys i f)
 
-any_below_none : {B : Type 0} (F : B → Bool) (g : ℕ → B) (n : ℕ) (A : ℕ → Bool) → ((i : ℕ) → A i ≡ true → F (g i) ≡ false) → list_any F (map g (codes_below n A)) ≡ false
+any_below_none : {B : Type 0} (F : B → Bool) (g : ℕ → B) (n : ℕ) (A : ℕ → Bool) → ((i : ℕ) → A i ≡ true → F (g i) ≡ false) →
+    list_any F (map g (codes_below n A)) ≡ false
 unfolding codes_below
 any_below_none F g zero A h = refl
 any_below_none F g (suc n) A h =
@@ -51,12 +53,15 @@ unfolding listed
 any_listed_none F g A h = any_below_none F g 64 A h
 
 -- the emissions on a wire
-pub emissions_any : (B : Scope) (body : Term) (q : State) (given : Values) (V : Valuation) (w : Wire) (xs : List Spot) → list_any (val B body q given V) (emissions w xs) ≡ emitted V w xs
+pub emissions_any : (B : Scope) (body : Term) (q : State) (given : Values) (V : Valuation) (w : Wire) (xs : List Spot) →
+    list_any (val B body q given V) (emissions w xs) ≡ emitted V w xs
 emissions_any B body q given V w [] = refl
 emissions_any B body q given V w (x ∷ xs) =
     go (emits_on w x.statement x.scope x.layer) (emissions_any B body q given V w xs)
   where
-    go : (d : Bool) → list_any (val B body q given V) (emissions w xs) ≡ emitted V w xs → list_any (val B body q given V) (cond d (Value (Go x.path x.layer) ∷ emissions w xs) (emissions w xs)) ≡ ((d && V (Go x.path x.layer)) || emitted V w xs)
+    go : (d : Bool) → list_any (val B body q given V) (emissions w xs) ≡ emitted V w xs →
+        list_any (val B body q given V) (cond d (Value (Go x.path x.layer) ∷ emissions w xs) (emissions w xs)) ≡
+        ((d && V (Go x.path x.layer)) || emitted V w xs)
     go true e = ap (λ b. V (Go x.path x.layer) || b) e
     go false e = e
 
@@ -69,7 +74,10 @@ module _ (B0 : Scope) (body : Term) (q : State) (given : Values) (V : Valuation)
     pub rows : Every MetRow (instance_equations all x)
     pub dead : (k : ℕ) → instance_codes x.statement x.layer k ≡ false → V (End x.path x.layer k) ≡ false
 
-  ends_met : (B : Scope) (t : Term) (n : ℕ) (l : Layer) → IsKernel t → Every MetRow (map (λ k. record { wire = End n l k; formula = end_formula B t n l k }) (listed (instance_codes t l))) → ((k : ℕ) → instance_codes t l k ≡ false → V (End n l k) ≡ false) → (k : ℕ) → V (End n l k) ≡ (instance_codes t l k && val B0 body q given V (end_formula B t n l k))
+  ends_met : (B : Scope) (t : Term) (n : ℕ) (l : Layer) → IsKernel t →
+      Every MetRow (map (λ k. record { wire = End n l k; formula = end_formula B t n l k }) (listed (instance_codes t l))) →
+      ((k : ℕ) → instance_codes t l k ≡ false → V (End n l k) ≡ false) → (k : ℕ) →
+      V (End n l k) ≡ (instance_codes t l k && val B0 body q given V (end_formula B t n l k))
   ends_met B t n l b h d k =
       cond_both (instance_codes t l k) true false (λ c. V (End n l k) ≡ (instance_codes t l k && val B0 body q given V (end_formula B t n l k)))
       (λ e.
@@ -85,7 +93,11 @@ module _ (B0 : Scope) (body : Term) (q : State) (given : Values) (V : Valuation)
   pub met_at : (x : Spot) → IsKernel x.statement → Alive x → Met B0 body q given V all x
   met_at x b a = go x.scope x.statement x.path x.layer b a.rows a.dead
     where
-      go : (B : Scope) (t : Term) (n : ℕ) (l : Layer) → IsKernel t → Every MetRow (record { wire = Go n l; formula = x.entry } ∷ (instance_status all t n l ++ map (λ k. record { wire = End n l k; formula = end_formula B t n l k }) (listed (instance_codes t l)))) → ((k : ℕ) → instance_codes t l k ≡ false → V (End n l k) ≡ false) → Met B0 body q given V all (record { statement = t; path = n; layer = l; scope = B; entry = x.entry })
+      go : (B : Scope) (t : Term) (n : ℕ) (l : Layer) → IsKernel t →
+          Every MetRow (record { wire = Go n l; formula = x.entry } ∷ (instance_status all t n l
+          ++ map (λ k. record { wire = End n l k; formula = end_formula B t n l k }) (listed (instance_codes t l)))) →
+          ((k : ℕ) → instance_codes t l k ≡ false → V (End n l k) ≡ false) →
+          Met B0 body q given V all (record { statement = t; path = n; layer = l; scope = B; entry = x.entry })
       go B Nothing n l b h d = record { go = h.0; ends = ends_met B Nothing n l b h.1 d; status = tt }
       go B Pause n l b h d = record { go = h.0; ends = ends_met B Pause n l b h.1 d; status = tt }
       go B (Emit s) n l b h d = record { go = h.0; ends = ends_met B (Emit s) n l b h.1 d; status = tt }
@@ -106,7 +118,8 @@ module _ (B0 : Scope) (body : Term) (q : State) (given : Values) (V : Valuation)
       go B (Awake e p) n l b h d = absurd b
 
 -- a wire that an instance does not have is not listed
-dead_in : (all : List Spot) (n : ℕ) (l : Layer) (k : ℕ) (y : Spot) → (y.path ≡ n → y.layer ≡ l → instance_codes y.statement y.layer k ≡ false) → list_any (λ e. same_wire (End n l k) e.wire) (instance_equations all y) ≡ false
+dead_in : (all : List Spot) (n : ℕ) (l : Layer) (k : ℕ) (y : Spot) → (y.path ≡ n → y.layer ≡ l → instance_codes y.statement y.layer k ≡ false) →
+    list_any (λ e. same_wire (End n l k) e.wire) (instance_equations all y) ≡ false
 dead_in all n l k y h = go y.statement (λ i j. h i j)
   where
     same : Equation → Bool
@@ -173,10 +186,12 @@ module _ (inputs outs given_count : ℕ) (body : Term) (q : State) (event : List
   looks k = looked (body_layers body) (statement_at body 0) B0 body_entry body 0 k (record { each = λ m l u. refl })
 
   -- a code that a statement does not have in a layer ends nothing
-  pub dead_wire : IsKernel body → ((w : Wire) → list_any (λ e. same_wire w e.wire) rows ≡ false → V w ≡ false) → (n : ℕ) (l : Layer) (k : ℕ) → instance_codes (statement_at body 0 n) l k ≡ false → V (End n l k) ≡ false
+  pub dead_wire : IsKernel body → ((w : Wire) → list_any (λ e. same_wire w e.wire) rows ≡ false → V w ≡ false) → (n : ℕ) (l : Layer) (k : ℕ) →
+      instance_codes (statement_at body 0 n) l k ≡ false → V (End n l k) ≡ false
   dead_wire b others n l k e =
       others (End n l k)
-      (list_any-append (λ r. same_wire (End n l k) r.wire) (map (output_equation given_count all) (range_with_len inputs outs)) (flat_map (instance_equations all) all)
+      (list_any-append (λ r. same_wire (End n l k) r.wire) (map (output_equation given_count all) (range_with_len inputs outs))
+      (flat_map (instance_equations all) all)
       ∙ ap (λ c. c || list_any (λ r. same_wire (End n l k) r.wire) (flat_map (instance_equations all) all))
       (any_map_none (λ r. same_wire (End n l k) r.wire) (output_equation given_count all) (range_with_len inputs outs) (λ o. refl))
       ∙ any_flat_none (λ r. same_wire (End n l k) r.wire) (instance_equations all) all
@@ -187,10 +202,13 @@ module _ (inputs outs given_count : ℕ) (body : Term) (q : State) (event : List
       (subst (λ t. instance_codes t l k ≡ false) (ap (statement_at body 0) (sym i) ∙ h) e)))
       (looks b)))
 
-  pub met_spots : (k : IsKernel body) → All (λ e. V e.wire ≡ value e.formula) rows → ((w : Wire) → list_any (λ e. same_wire w e.wire) rows ≡ false → V w ≡ false) → Every (Alive B0 body q (is_given event) V all) all
+  pub met_spots : (k : IsKernel body) → All (λ e. V e.wire ≡ value e.formula) rows →
+      ((w : Wire) → list_any (λ e. same_wire w e.wire) rows ≡ false → V w ≡ false) → Every (Alive B0 body q (is_given event) V all) all
   met_spots k met others =
       let every = every_of_all (λ e. V e.wire ≡ value e.formula) rows met in
-      let rows2 = every_flat_map (λ e. V e.wire ≡ value e.formula) (instance_equations all) all (every_right (λ e. V e.wire ≡ value e.formula) (map (output_equation given_count all) (range_with_len inputs outs)) (flat_map (instance_equations all) all) every) in
+      let rows2 = every_flat_map (λ e. V e.wire ≡ value e.formula) (instance_equations all) all
+      (every_right (λ e. V e.wire ≡ value e.formula) (map (output_equation given_count all) (range_with_len inputs outs))
+      (flat_map (instance_equations all) all) every) in
       every_from _ _ all
       (λ x p.
       record {

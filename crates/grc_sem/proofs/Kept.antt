@@ -1,7 +1,8 @@
 -- What a walk keeps lies in its statement, and is something exactly where the code is 1; what is held and left depends
 -- on the pauses of the statement alone.
 use Rattle.std.proofs.Common.{◌≡◌, ℕ, zero, suc, ◌+◌, ◌<◌, ◌≤◌, Bool, true, false, ◌&&◌, ◌||◌, ◌==◌, cond, max, refl, sym, ap, ◌∙◌, subst, ⊎_elim, arith}
-use Rattle.std.proofs.lemmas.Bool.{or_cases, or_left, or_right, and_parts, and_from, eqb-true, eqb-false, eq-eqb, ne_eqb, cond_both, false≢true, cases_Bool, le-leb, lt-ltb, leb-true, ltb-true}
+use Rattle.std.proofs.lemmas.Bool.{or_cases, or_left, or_right, and_parts, and_from, eqb-true, eqb-false, eq-eqb, ne_eqb, cond_both, false≢true, cases_Bool}
+use Rattle.std.proofs.lemmas.Bool.{le-leb, lt-ltb, leb-true, ltb-true}
 use Rattle.est_kernel.specs.Terms.{Term, Nothing, Pause, Emit, Exit, Present, Suspend, Seq, Loop, Par, Trap, Local, Awake}
 use Rattle.est_kernel.specs.Preorder.{statement_count}
 use Rattle.est_kernel.specs.Steps.{trap_code}
@@ -118,7 +119,8 @@ keeps_none c t n e =
       held = λ T s. holds_none T t n (λ m l u. s.at m l u) ∙ sym e;
     }
 
-keeps_only : {w : Walk} {p : Term} (t : Term) (n : ℕ) → statement_count t ≡ 1 + statement_count p → ((T : ℕ → Bool) → holds T t n ≡ holds T p (n + 1)) → Keeps w p (n + 1) → Keeps w t n
+keeps_only : {w : Walk} {p : Term} (t : Term) (n : ℕ) → statement_count t ≡ 1 + statement_count p → ((T : ℕ → Bool) → holds T t n ≡ holds T p (n + 1)) →
+    Keeps w p (n + 1) → Keeps w t n
 keeps_only {w} {p} t n c h k =
     record {
       inside = λ m x. let i = k.inside m x in (omega (arith, i.0), omega (arith, i.1));
@@ -127,12 +129,14 @@ keeps_only {w} {p} t n c h k =
     }
 
 -- where a walk of the first part is that of the whole, the second part holds nothing
-pub second_none : {w : Walk} {p : Term} (q : Term) (n : ℕ) (T : ℕ → Bool) → Keeps w p (n + 1) → Same T w.kept n (n + (1 + statement_count p + statement_count q)) → holds T q (n + 1 + statement_count p) ≡ false
+pub second_none : {w : Walk} {p : Term} (q : Term) (n : ℕ) (T : ℕ → Bool) → Keeps w p (n + 1) →
+    Same T w.kept n (n + (1 + statement_count p + statement_count q)) → holds T q (n + 1 + statement_count p) ≡ false
 second_none {w} {p} q n T k s =
     holds_none T q (n + 1 + statement_count p)
     (λ m l u. s.at m (omega arith) (omega arith) ∙ kept_outside k m (λ i. omega (arith, i.0, i.1)))
 
-pub first_none : {w : Walk} (p : Term) {q : Term} (n : ℕ) (T : ℕ → Bool) → Keeps w q (n + 1 + statement_count p) → Same T w.kept n (n + (1 + statement_count p + statement_count q)) → holds T p (n + 1) ≡ false
+pub first_none : {w : Walk} (p : Term) {q : Term} (n : ℕ) (T : ℕ → Bool) → Keeps w q (n + 1 + statement_count p) →
+    Same T w.kept n (n + (1 + statement_count p + statement_count q)) → holds T p (n + 1) ≡ false
 first_none {w} p {q} n T k s =
     holds_none T p (n + 1)
     (λ m l u. s.at m (omega arith) (omega arith) ∙ kept_outside k m (λ i. omega (arith, i.0, i.1)))
@@ -142,7 +146,8 @@ or_false true b e = refl
 or_false false b e = e
 
 -- the whole holds what the first part holds
-keeps_first : {w : Walk} {p : Term} (q t : Term) (n : ℕ) → statement_count t ≡ 1 + statement_count p + statement_count q → ((T : ℕ → Bool) → holds T t n ≡ (holds T p (n + 1) || holds T q (n + 1 + statement_count p))) → Keeps w p (n + 1) → Keeps w t n
+keeps_first : {w : Walk} {p : Term} (q t : Term) (n : ℕ) → statement_count t ≡ 1 + statement_count p + statement_count q →
+    ((T : ℕ → Bool) → holds T t n ≡ (holds T p (n + 1) || holds T q (n + 1 + statement_count p))) → Keeps w p (n + 1) → Keeps w t n
 keeps_first {w} {p} q t n c h k =
     record {
       inside = λ m x. let i = k.inside m x in (omega (arith, i.0), omega (arith, i.1));
@@ -151,7 +156,8 @@ keeps_first {w} {p} q t n c h k =
           h T ∙ or_false _ _ (second_none q n T k u) ∙ k.held T (first_same n (statement_count p) (statement_count q) u);
     }
 
-keeps_second : {w : Walk} (p : Term) {q : Term} (t : Term) (n : ℕ) → statement_count t ≡ 1 + statement_count p + statement_count q → ((T : ℕ → Bool) → holds T t n ≡ (holds T p (n + 1) || holds T q (n + 1 + statement_count p))) → Keeps w q (n + 1 + statement_count p) → Keeps w t n
+keeps_second : {w : Walk} (p : Term) {q : Term} (t : Term) (n : ℕ) → statement_count t ≡ 1 + statement_count p + statement_count q →
+    ((T : ℕ → Bool) → holds T t n ≡ (holds T p (n + 1) || holds T q (n + 1 + statement_count p))) → Keeps w q (n + 1 + statement_count p) → Keeps w t n
 keeps_second {w} p {q} t n c h k =
     record {
       inside = λ m x. let i = k.inside m x in (omega (arith, i.0), omega (arith, i.1));
@@ -162,7 +168,8 @@ keeps_second {w} p {q} t n c h k =
     }
 
 -- a sequence of two walks
-keeps_turn : {x : Walk} (y : Walk) {t : Term} {n : ℕ} → Keeps x t n → Keeps (record { signals = λ s. x.signals s || y.signals s; code = y.code; kept = y.kept }) t n → Keeps (then_walk x y) t n
+keeps_turn : {x : Walk} (y : Walk) {t : Term} {n : ℕ} → Keeps x t n →
+    Keeps (record { signals = λ s. x.signals s || y.signals s; code = y.code; kept = y.kept }) t n → Keeps (then_walk x y) t n
 keeps_turn {x} y {t} {n} k j =
     cond_both (x.code == 0) (record { signals = λ s. x.signals s || y.signals s; code = y.code; kept = y.kept }) x
     (λ w. Keeps w t n) (λ e. j) (λ e. k)
@@ -185,7 +192,8 @@ pub kept_other : (c : ℕ) (A B : ℕ → Bool) (m : ℕ) → (c == 1) ≡ true 
 kept_other c A B m e f = ap (λ b. b && (A m || B m)) e ∙ ap (λ b. b || B m) f
 
 -- the pauses of the branches of a parallel that ends with code 1
-pub both_first : (x : Walk) {y : Walk} (p : Term) {q : Term} (n : ℕ) (T : ℕ → Bool) → Keeps y q (n + 1 + statement_count p) → (max x.code y.code == 1) ≡ true → Same T (both_walks x y).kept n (n + (1 + statement_count p + statement_count q)) → Same T x.kept (n + 1) (n + 1 + statement_count p)
+pub both_first : (x : Walk) {y : Walk} (p : Term) {q : Term} (n : ℕ) (T : ℕ → Bool) → Keeps y q (n + 1 + statement_count p) → (max x.code y.code == 1) ≡ true →
+    Same T (both_walks x y).kept n (n + (1 + statement_count p + statement_count q)) → Same T x.kept (n + 1) (n + 1 + statement_count p)
 both_first x {y} p {q} n T k e s =
     record {
       at = λ m l u.
@@ -193,7 +201,9 @@ both_first x {y} p {q} n T k e s =
           ∙ kept_both (max x.code y.code) x.kept y.kept m e (kept_outside k m (λ i. omega (arith, i.0, i.1)));
     }
 
-pub both_second : {x : Walk} (y : Walk) {p : Term} (q : Term) (n : ℕ) (T : ℕ → Bool) → Keeps x p (n + 1) → (max x.code y.code == 1) ≡ true → Same T (both_walks x y).kept n (n + (1 + statement_count p + statement_count q)) → Same T y.kept (n + 1 + statement_count p) (n + 1 + statement_count p + statement_count q)
+pub both_second : {x : Walk} (y : Walk) {p : Term} (q : Term) (n : ℕ) (T : ℕ → Bool) → Keeps x p (n + 1) → (max x.code y.code == 1) ≡ true →
+    Same T (both_walks x y).kept n (n + (1 + statement_count p + statement_count q)) →
+    Same T y.kept (n + 1 + statement_count p) (n + 1 + statement_count p + statement_count q)
 both_second {x} y {p} q n T k e s =
     record {
       at = λ m l u.

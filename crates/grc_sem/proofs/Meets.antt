@@ -1,7 +1,9 @@
 -- What the wires of an instance meet, and what its place sees and finds.
-use Rattle.std.proofs.Common.{◌≡◌, ℕ, ◌+◌, ◌<◌, ◌≤◌, Bool, true, false, not, ◌&&◌, ◌||◌, ◌==◌, cond, ltb, List, [], ◌∷◌, ◌++◌, refl, sym, ap, ◌∙◌, subst, inl, inr, ⊎_elim, arith}
+use Rattle.std.proofs.Common.{◌≡◌, ℕ, ◌+◌, ◌<◌, ◌≤◌, Bool, true, false, not, ◌&&◌, ◌||◌, ◌==◌, cond, ltb, List, [], ◌∷◌, ◌++◌, refl, sym, ap, ◌∙◌, subst, inl}
+use Rattle.std.proofs.Common.{inr, ⊎_elim, arith}
 use Rattle.std.specs.List.{list_any}
-use Rattle.std.proofs.lemmas.Bool.{or_cases, or_left, or_right, eqb-true, eqb-false, eq-eqb, ne_eqb, cond_both, false≢true, cases_Bool, cond-true, cond-false, lt-ltb, ltb-true}
+use Rattle.std.proofs.lemmas.Bool.{or_cases, or_left, or_right, eqb-true, eqb-false, eq-eqb, ne_eqb, cond_both, false≢true, cases_Bool, cond-true, cond-false}
+use Rattle.std.proofs.lemmas.Bool.{lt-ltb, ltb-true}
 use Rattle.est_kernel.specs.Terms.{Term, Nothing, Pause, Emit, Exit, Present, Suspend, Seq, Loop, Par, Trap, Local, Awake}
 use Rattle.est_kernel.specs.Preorder.{statement_count}
 use Rattle.est_kernel.specs.StaticCodes.{has_code, resumed_codes}
@@ -34,7 +36,8 @@ StatusMet V all t n l = Unit {0}
 -- the wires of an instance meet their equations
 pub record Met (B : Scope) (body : Term) (q : State) (given : Values) (V : Valuation) (all : List Spot) (x : Spot) : Type 0 where
   pub go : V (Go x.path x.layer) ≡ val B body q given V x.entry
-  pub ends : (k : ℕ) → V (End x.path x.layer k) ≡ (instance_codes x.statement x.layer k && val B body q given V (end_formula x.scope x.statement x.path x.layer k))
+  pub ends : (k : ℕ) → V (End x.path x.layer k) ≡ (instance_codes x.statement x.layer k
+      && val B body q given V (end_formula x.scope x.statement x.path x.layer k))
   pub status : StatusMet V all x.statement x.path x.layer
 
 pub eqb_flip : (a b : ℕ) → (a == b) ≡ (b == a)
@@ -48,7 +51,8 @@ and_flip false true = refl
 and_flip false false = refl
 
 -- the facts at the statement itself
-pub head_started : (P : Spot → Type 0) (B : Scope) (f : Layer → Formula) (t : Term) (n : ℕ) (l : Layer) → IsKernel t → EachStarted P B f t n l → P (spot B f t n l)
+pub head_started : (P : Spot → Type 0) (B : Scope) (f : Layer → Formula) (t : Term) (n : ℕ) (l : Layer) → IsKernel t → EachStarted P B f t n l →
+    P (spot B f t n l)
 head_started P B f Nothing n l k e = e
 head_started P B f Pause n l k e = e
 head_started P B f (Emit s) n l k e = e
@@ -80,14 +84,17 @@ head_resumed P B f (Awake x p) n k e = absurd k
 pub record Sees (given : Values) (V : Valuation) (B : Scope) (l : Layer) (v : Values) : Type 0 where
   pub each : (s : ℕ) → v s ≡ seen_value given V (B s) s l
 
-bound_sees : (given : Values) (V : Valuation) (d : Bool) (n s : ℕ) (l : Layer) (b : Binding) (x : Bool) → layer_above n l ≡ l → x ≡ seen_value given V b s l → cond d (V (StatusOf n l)) x ≡ seen_value given V (cond d (BoundAt n) b) s l
+bound_sees : (given : Values) (V : Valuation) (d : Bool) (n s : ℕ) (l : Layer) (b : Binding) (x : Bool) → layer_above n l ≡ l → x ≡ seen_value given V b s l →
+    cond d (V (StatusOf n l)) x ≡ seen_value given V (cond d (BoundAt n) b) s l
 bound_sees given V true n s l b x e h = ap (λ j. V (StatusOf n j)) (sym e)
 bound_sees given V false n s l b x e h = h
 
-pub sees_more : (given : Values) (V : Valuation) (B : Scope) (n s : ℕ) (l : Layer) (v : Values) → layer_above n l ≡ l → Sees given V B l v → Sees given V (bind B s n) l (with_value v s (V (StatusOf n l)))
+pub sees_more : (given : Values) (V : Valuation) (B : Scope) (n s : ℕ) (l : Layer) (v : Values) → layer_above n l ≡ l → Sees given V B l v →
+    Sees given V (bind B s n) l (with_value v s (V (StatusOf n l)))
 sees_more given V B n s l v e h = record { each = λ t. bound_sees given V (t == s) n t l (B t) (v t) e (h.each t) }
 
-root_sees : (given : Values) (V : Valuation) (b : Binding) (s m : ℕ) → ((c : ℕ) → b ≡ BoundAt c → c < m) → seen_value given V b s Resumed ≡ seen_value given V b s (Started m)
+root_sees : (given : Values) (V : Valuation) (b : Binding) (s m : ℕ) → ((c : ℕ) → b ≡ BoundAt c → c < m) →
+    seen_value given V b s Resumed ≡ seen_value given V b s (Started m)
 root_sees given V Entering s m h = refl
 root_sees given V Outgoing s m h = refl
 root_sees given V (BoundAt b) s m h = ap (λ j. V (StatusOf b j)) (sym (layer_above-restarted b m (h b refl)))
@@ -124,7 +131,8 @@ pub same_self : (l : Layer) → same_layer l l ≡ true
 same_self Resumed = refl
 same_self (Started r) = eq-eqb r r refl
 
-own_bound : (d c : Bool) (n t : ℕ) (l i : Layer) (b : Binding) → same_layer (layer_above n l) i ≡ c → (b ≡ BoundAt n → ⊥) → is_wire (status_wire (cond d (BoundAt n) b) t l) (StatusOf n i) ≡ (c && d)
+own_bound : (d c : Bool) (n t : ℕ) (l i : Layer) (b : Binding) → same_layer (layer_above n l) i ≡ c → (b ≡ BoundAt n → ⊥) →
+    is_wire (status_wire (cond d (BoundAt n) b) t l) (StatusOf n i) ≡ (c && d)
 own_bound true c n t l i b e h = ap (λ x. x && same_layer (layer_above n l) i) (eq-eqb n n refl) ∙ e ∙ sym (and_true_right c)
   where
     and_true_right : (c : Bool) → (c && true) ≡ c
@@ -173,7 +181,8 @@ not_back true e = absurd (false≢true e)
 not_back false e = refl
 
 -- the wires of a started statement itself
-pub started_at : (V : Valuation) (t : Term) (n : ℕ) (l : Layer) (v : Values) (b : Bool) → IsKernel t → StartedWalked V t n l v b → InstanceWalked V n l b (started_walk (statuses V) t n l v)
+pub started_at : (V : Valuation) (t : Term) (n : ℕ) (l : Layer) (v : Values) (b : Bool) → IsKernel t → StartedWalked V t n l v b →
+    InstanceWalked V n l b (started_walk (statuses V) t n l v)
 started_at V Nothing n l v b k w = w
 started_at V Pause n l v b k w = w
 started_at V (Emit s) n l v b k w = w
@@ -187,7 +196,8 @@ started_at V (Trap p) n l v b k w = w.0
 started_at V (Local s p) n l v b k w = w.0
 started_at V (Awake e p) n l v b k w = absurd k
 
-pub resumed_at : (V : Valuation) (S : ℕ → Bool) (t : Term) (n : ℕ) (v : Values) (b : Bool) → IsKernel t → ResumedWalked V S t n v b → InstanceWalked V n Resumed b (resumed_walk (statuses V) S t n v)
+pub resumed_at : (V : Valuation) (S : ℕ → Bool) (t : Term) (n : ℕ) (v : Values) (b : Bool) → IsKernel t → ResumedWalked V S t n v b →
+    InstanceWalked V n Resumed b (resumed_walk (statuses V) S t n v)
 resumed_at V S Nothing n v b k w = w
 resumed_at V S Pause n v b k w = w
 resumed_at V S (Emit s) n v b k w = w
@@ -220,14 +230,17 @@ holds_self S (Awake e p) n = refl
 pub record Finds (g : ℕ → Bool) (S : ℕ → Bool) (t : Term) (n : ℕ) : Type 0 where
   pub each : (m : ℕ) → n ≤ m → m < n + statement_count t → g m ≡ holds_at S t n m
 
-pub finds_only : (g S : ℕ → Bool) (t p : Term) (n : ℕ) → statement_count t ≡ 1 + statement_count p → ((m : ℕ) → holds_at S t n m ≡ cond (m == n) (holds S t n) (holds_at S p (n + 1) m)) → Finds g S t n → Finds g S p (n + 1)
+pub finds_only : (g S : ℕ → Bool) (t p : Term) (n : ℕ) → statement_count t ≡ 1 + statement_count p →
+    ((m : ℕ) → holds_at S t n m ≡ cond (m == n) (holds S t n) (holds_at S p (n + 1) m)) → Finds g S t n → Finds g S p (n + 1)
 finds_only g S t p n c f h =
     record { each = λ m l u. h.each m (omega arith) (omega arith) ∙ f m ∙ cond-false (m == n) _ _ (ne_eqb m n (λ e. omega arith)) }
 
 lower : (a b : ℕ) → b ≤ a → ltb a b ≡ false
 lower a b h = cond_both (ltb a b) true false (λ x. ltb a b ≡ false) (λ e. let i = ltb-true a b e in absurd (omega arith)) (λ e. e)
 
-pub finds_first : (g S : ℕ → Bool) (t p q : Term) (n : ℕ) → statement_count t ≡ 1 + statement_count p + statement_count q → ((m : ℕ) → holds_at S t n m ≡ cond (m == n) (holds S t n) (cond (ltb m (n + 1 + statement_count p)) (holds_at S p (n + 1) m) (holds_at S q (n + 1 + statement_count p) m))) → Finds g S t n → Finds g S p (n + 1)
+pub finds_first : (g S : ℕ → Bool) (t p q : Term) (n : ℕ) → statement_count t ≡ 1 + statement_count p + statement_count q →
+    ((m : ℕ) → holds_at S t n m ≡ cond (m == n) (holds S t n) (cond (ltb m (n + 1 + statement_count p)) (holds_at S p (n + 1) m)
+    (holds_at S q (n + 1 + statement_count p) m))) → Finds g S t n → Finds g S p (n + 1)
 finds_first g S t p q n c f h =
     record {
       each = λ m l u.
@@ -235,7 +248,9 @@ finds_first g S t p q n c f h =
           ∙ cond-true (ltb m (n + 1 + statement_count p)) _ _ (lt-ltb m (n + 1 + statement_count p) u);
     }
 
-pub finds_second : (g S : ℕ → Bool) (t p q : Term) (n : ℕ) → statement_count t ≡ 1 + statement_count p + statement_count q → ((m : ℕ) → holds_at S t n m ≡ cond (m == n) (holds S t n) (cond (ltb m (n + 1 + statement_count p)) (holds_at S p (n + 1) m) (holds_at S q (n + 1 + statement_count p) m))) → Finds g S t n → Finds g S q (n + 1 + statement_count p)
+pub finds_second : (g S : ℕ → Bool) (t p q : Term) (n : ℕ) → statement_count t ≡ 1 + statement_count p + statement_count q →
+    ((m : ℕ) → holds_at S t n m ≡ cond (m == n) (holds S t n) (cond (ltb m (n + 1 + statement_count p)) (holds_at S p (n + 1) m)
+    (holds_at S q (n + 1 + statement_count p) m))) → Finds g S t n → Finds g S q (n + 1 + statement_count p)
 finds_second g S t p q n c f h =
     record {
       each = λ m l u.

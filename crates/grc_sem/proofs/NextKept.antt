@@ -1,6 +1,7 @@
 -- The next formula of a pause is true exactly where the walk keeps the pause.
 use Rattle.std.proofs.Common.{◌≡◌, ℕ, ◌+◌, ◌≤◌, Bool, true, false, not, ◌&&◌, ◌||◌, ◌==◌, cond, ltb, max, refl, sym, ap, ◌∙◌, subst, inl, inr, ⊎_elim, arith}
-use Rattle.std.proofs.lemmas.Bool.{or_left, or_right, and_parts, eqb-true, eqb-false, eq-eqb, ne_eqb, cond_both, false≢true, cases_Bool, cond-true, cond-false, lt-ltb, le-leb}
+use Rattle.std.proofs.lemmas.Bool.{or_left, or_right, and_parts, eqb-true, eqb-false, eq-eqb, ne_eqb, cond_both, false≢true, cases_Bool, cond-true, cond-false}
+use Rattle.std.proofs.lemmas.Bool.{lt-ltb, le-leb}
 use Rattle.est_kernel.specs.Terms.{Expression, Tick, Sig, Not, And, Or, Term, Nothing, Pause, Emit, Exit, Present, Suspend, Seq, Loop, Par, Trap, Local, Awake}
 use Rattle.est_kernel.specs.Preorder.{statement_count}
 use Rattle.est_kernel.specs.Steps.{trap_code}
@@ -32,7 +33,8 @@ not_first : {w : Walk} (p : Term) {q : Term} (n : ℕ) (x : Way p) → Keeps w q
 not_first {w} p {q} n x k = let i = inside p (n + 1) x in kept_outside k (goal p (n + 1) x) (λ j. omega (arith, i.1, j.0))
 
 not_second : {w : Walk} {p : Term} (q : Term) (n : ℕ) (y : Way q) → Keeps w p (n + 1) → w.kept (goal q (n + 1 + statement_count p) y) ≡ false
-not_second {w} {p} q n y k = let i = inside q (n + 1 + statement_count p) y in kept_outside k (goal q (n + 1 + statement_count p) y) (λ j. omega (arith, i.0, j.1))
+not_second {w} {p} q n y k = let i = inside q (n + 1 + statement_count p) y in
+    kept_outside k (goal q (n + 1 + statement_count p) y) (λ j. omega (arith, i.0, j.1))
 
 and_same : {a b c d : Bool} → a ≡ c → b ≡ d → (a && b) ≡ (c && d)
 and_same {a} {b} {c} {d} e f = ap (λ x. x && b) e ∙ ap (λ x. c && x) f
@@ -107,7 +109,8 @@ module _ (V : Valuation) where
   par_keep false g true k = refl
   par_keep false g false k = refl
 
-  pub started_kept : (t : Term) (n r : ℕ) (v : Values) (b : Bool) (h : Way t) → r ≤ n → NoInstantLoop t → IsKernel t → StartedWalked V t n (Started r) v b → start_keeps V t n h r ≡ (b && (started_walk (statuses V) t n (Started r) v).kept (goal t n h))
+  pub started_kept : (t : Term) (n r : ℕ) (v : Values) (b : Bool) (h : Way t) → r ≤ n → NoInstantLoop t → IsKernel t → StartedWalked V t n (Started r) v b →
+      start_keeps V t n h r ≡ (b && (started_walk (statuses V) t n (Started r) v).kept (goal t n h))
   started_kept Nothing n r v b h l nl k w = absurd h
   started_kept Pause n r v b h l nl k w = ap (λ x. x && true) w.go ∙ ap (λ x. b && x) (sym (eq-eqb n n refl))
   started_kept (Emit s) n r v b h l nl k w = absurd h
@@ -128,13 +131,15 @@ module _ (V : Valuation) where
       let i = inside q m y in
       let wp = started_walk (statuses V) p (n + 1) (Started r) v in
       let wq = started_walk (statuses V) q m (Started r) v in
-      ap (λ z. way_starts q y && (V (Go g (Started r)) && z)) (look_second g n (statement_count p) true (kept_at V p (n + 1) g (Started r)) (kept_at V q m g (Started r)) i.0)
+      ap (λ z. way_starts q y && (V (Go g (Started r)) && z)) (look_second g n (statement_count p) true (kept_at V p (n + 1) g (Started r))
+      (kept_at V q m g (Started r)) i.0)
       ∙ started_kept q m r v (b && not (truth e v)) y (omega arith) (no_loops-right (instant_loops p) (instant_loops q) nl) k.1 w.2
       ∙ second_bits b (truth e v) (wp.kept g) (wq.kept g) (not_second q n y (started_keeps (statuses V) p (n + 1) (Started r) v k.0))
       ∙ ap (λ z. b && z) (cond_kept (truth e v) wp wq g)
   started_kept (Suspend e p) n r v b h l nl k w =
       let i = inside p (n + 1) h in
-      ap (λ z. way_starts p h && (V (Go (goal p (n + 1) h) (Started r)) && z)) (look_only (goal p (n + 1) h) n true (kept_at V p (n + 1) (goal p (n + 1) h) (Started r)) i.0)
+      ap (λ z. way_starts p h && (V (Go (goal p (n + 1) h) (Started r)) && z))
+      (look_only (goal p (n + 1) h) n true (kept_at V p (n + 1) (goal p (n + 1) h) (Started r)) i.0)
       ∙ started_kept p (n + 1) r v b h (omega arith) nl k w.1
   started_kept (Seq p q) n r v b (inl x) l nl k w =
       let m = n + 1 + statement_count p in
@@ -154,7 +159,8 @@ module _ (V : Valuation) where
       let np = no_loops-left (instant_loops p) (instant_loops q) nl in
       let wp = started_walk (statuses V) p (n + 1) (Started r) v in
       let wq = started_walk (statuses V) q m (Started r) v in
-      ap (λ z. (started_codes p 0 && way_starts q y) && (V (Go g (Started r)) && z)) (look_second g n (statement_count p) true (kept_at V p (n + 1) g (Started r)) (kept_at V q m g (Started r)) i.0)
+      ap (λ z. (started_codes p 0 && way_starts q y) && (V (Go g (Started r)) && z))
+      (look_second g n (statement_count p) true (kept_at V p (n + 1) g (Started r)) (kept_at V q m g (Started r)) i.0)
       ∙ assoc (started_codes p 0) (way_starts q y) (V (Go g (Started r)) && kept_at V q m g (Started r))
       ∙ guarded (started_codes p 0) (b && wp.code == 0) (wq.kept g) (start_keeps V q m y r)
       (λ z. started_kept q m r v (b && wp.code == 0) y (omega arith) (no_loops-right (instant_loops p) (instant_loops q) nl) k.1 (w.2 z))
@@ -167,7 +173,8 @@ module _ (V : Valuation) where
       assoc false b c = refl
   started_kept (Loop at p) n r v b h l nl k w =
       let i = inside p (n + 1) h in
-      ap (λ z. way_starts p h && (V (Go (goal p (n + 1) h) (Started r)) && z)) (look_only (goal p (n + 1) h) n true (kept_at V p (n + 1) (goal p (n + 1) h) (Started r)) i.0)
+      ap (λ z. way_starts p h && (V (Go (goal p (n + 1) h) (Started r)) && z))
+      (look_only (goal p (n + 1) h) n true (kept_at V p (n + 1) (goal p (n + 1) h) (Started r)) i.0)
       ∙ started_kept p (n + 1) r v b h (omega arith) (loop_body at p nl).1 k w.1
   started_kept (Par p q) n r v b (inl x) l nl k w =
       let m = n + 1 + statement_count p in
@@ -177,7 +184,8 @@ module _ (V : Valuation) where
       let wp = started_walk (statuses V) p (n + 1) y v in
       let wq = started_walk (statuses V) q m y v in
       ap (λ z. way_starts p x && (V (Go g y) && z))
-      (look_only g n true _ i.0 ∙ and_same (ap (λ j. V (End n j 1)) (layer_above-started n r l)) (cond-true (ltb g m) (kept_at V p (n + 1) g y) _ (lt-ltb g m i.1)))
+      (look_only g n true _ i.0 ∙ and_same (ap (λ j. V (End n j 1)) (layer_above-started n r l))
+      (cond-true (ltb g m) (kept_at V p (n + 1) g y) _ (lt-ltb g m i.1)))
       ∙ par_keep (way_starts p x) (V (Go g y)) (V (End n y 1)) (kept_at V p (n + 1) g y)
       ∙ ap (λ z. V (End n y 1) && z) (started_kept p (n + 1) r v b x (omega arith) (no_loops-left (instant_loops p) (instant_loops q) nl) k.0 w.1)
       ∙ par_bits (V (End n y 1)) b (max wp.code wq.code == 1) (wp.kept g) (wq.kept g) (w.0.ends 1 ∙ ap (λ z. b && z) (one_flip (max wp.code wq.code)))
@@ -191,7 +199,8 @@ module _ (V : Valuation) where
       let wq = started_walk (statuses V) q m y v in
       let j : n + 1 ≤ g = omega (arith, i.0) in
       ap (λ z. way_starts q x && (V (Go g y) && z))
-      (look_only g n true _ j ∙ and_same (ap (λ z. V (End n z 1)) (layer_above-started n r l)) (cond-false (ltb g m) (kept_at V p (n + 1) g y) (kept_at V q m g y) (lower g m i.0)))
+      (look_only g n true _ j ∙ and_same (ap (λ z. V (End n z 1)) (layer_above-started n r l))
+      (cond-false (ltb g m) (kept_at V p (n + 1) g y) (kept_at V q m g y) (lower g m i.0)))
       ∙ par_keep (way_starts q x) (V (Go g y)) (V (End n y 1)) (kept_at V q m g y)
       ∙ ap (λ z. V (End n y 1) && z) (started_kept q m r v b x (omega arith) (no_loops-right (instant_loops p) (instant_loops q) nl) k.1 w.2)
       ∙ par_bits (V (End n y 1)) b (max wp.code wq.code == 1) (wq.kept g) (wp.kept g) (w.0.ends 1 ∙ ap (λ z. b && z) (one_flip (max wp.code wq.code)))
@@ -206,17 +215,20 @@ module _ (V : Valuation) where
   started_kept (Trap p) n r v b h l nl k w =
       let i = inside p (n + 1) h in
       let wp = started_walk (statuses V) p (n + 1) (Started r) v in
-      ap (λ z. way_starts p h && (V (Go (goal p (n + 1) h) (Started r)) && z)) (look_only (goal p (n + 1) h) n true (kept_at V p (n + 1) (goal p (n + 1) h) (Started r)) i.0)
+      ap (λ z. way_starts p h && (V (Go (goal p (n + 1) h) (Started r)) && z))
+      (look_only (goal p (n + 1) h) n true (kept_at V p (n + 1) (goal p (n + 1) h) (Started r)) i.0)
       ∙ started_kept p (n + 1) r v b h (omega arith) nl k w.1
       ∙ trap_bits b (trap_code wp.code == 1) (wp.code == 1) (wp.kept (goal p (n + 1) h)) (trap_one wp.code)
       (λ z. kept_code (started_keeps (statuses V) p (n + 1) (Started r) v k) h z)
   started_kept (Local s p) n r v b h l nl k w =
       let i = inside p (n + 1) h in
-      ap (λ z. way_starts p h && (V (Go (goal p (n + 1) h) (Started r)) && z)) (look_only (goal p (n + 1) h) n true (kept_at V p (n + 1) (goal p (n + 1) h) (Started r)) i.0)
+      ap (λ z. way_starts p h && (V (Go (goal p (n + 1) h) (Started r)) && z))
+      (look_only (goal p (n + 1) h) n true (kept_at V p (n + 1) (goal p (n + 1) h) (Started r)) i.0)
       ∙ started_kept p (n + 1) r _ b h (omega arith) nl k w.2
   started_kept (Awake e p) n r v b h l nl k w = absurd h
 
-pub guard_total : (l R s H b x : Bool) → (l ≡ true → (R || (s && H)) ≡ (b && x)) → (b ≡ true → l ≡ true) → (s ≡ true → l ≡ true) → ((l && R) || (s && H)) ≡ (b && x)
+pub guard_total : (l R s H b x : Bool) → (l ≡ true → (R || (s && H)) ≡ (b && x)) → (b ≡ true → l ≡ true) → (s ≡ true → l ≡ true) →
+    ((l && R) || (s && H)) ≡ (b && x)
 guard_total true R s H b x f g h = f refl
 guard_total false R true H b x f g h = absurd (false≢true (h refl))
 guard_total false R false H true x f g h = absurd (false≢true (g refl))
@@ -247,13 +259,15 @@ held_second true false true x y f g e = refl
 held_second true false false x y f g e = absurd (false≢true (g refl))
 held_second false h k x y f g e = refl
 
-seq_first_bits : (b h z x u y : Bool) → (b ≡ true → h ≡ false → y ≡ false) → u ≡ false → (h ≡ true → z ≡ true → x ≡ false) → ((b && h) && x) ≡ (b && cond h (cond z u x) y)
+seq_first_bits : (b h z x u y : Bool) → (b ≡ true → h ≡ false → y ≡ false) → u ≡ false → (h ≡ true → z ≡ true → x ≡ false) →
+    ((b && h) && x) ≡ (b && cond h (cond z u x) y)
 seq_first_bits true true true x u y f e g = g refl refl ∙ sym e
 seq_first_bits true true false x u y f e g = refl
 seq_first_bits true false z x u y f e g = sym (f refl refl)
 seq_first_bits false h z x u y f e g = refl
 
-seq_second_bits : (b h k z x u y : Bool) → (b ≡ true → (h && k) ≡ false) → (b ≡ true → (h || k) ≡ true) → (h ≡ true → x ≡ false) → (((b && k) && y) || (((b && h) && z) && u)) ≡ (b && cond h (cond z u x) y)
+seq_second_bits : (b h k z x u y : Bool) → (b ≡ true → (h && k) ≡ false) → (b ≡ true → (h || k) ≡ true) → (h ≡ true → x ≡ false) →
+    (((b && k) && y) || (((b && h) && z) && u)) ≡ (b && cond h (cond z u x) y)
 seq_second_bits true true true z x u y f g e = absurd (false≢true (sym (f refl)))
 seq_second_bits true true false true x u y f g e = refl
 seq_second_bits true true false false x u y f g e = sym (e refl)
@@ -302,7 +316,9 @@ module _ (V : Valuation) (S : ℕ → Bool) (given : Values) where
   abbrev Total : Scope → (t : Term) (n : ℕ) → Way t → Bool
   Total B t n h = restart_keeps V t n h || (S (goal t n h) && held_at given V B t n (goal t n h) Resumed)
 
-  pub resumed_kept : (t : Term) (B : Scope) (n : ℕ) (v : Values) (b : Bool) (h : Way t) → NoInstantLoop t → IsKernel t → (holds S t n ≡ true → IsSelected S t n) → (b ≡ true → holds S t n ≡ true) → Sees given V B Resumed v → ResumedWalked V S t n v b → Total B t n h ≡ (b && (resumed_walk (statuses V) S t n v).kept (goal t n h))
+  pub resumed_kept : (t : Term) (B : Scope) (n : ℕ) (v : Values) (b : Bool) (h : Way t) → NoInstantLoop t → IsKernel t →
+      (holds S t n ≡ true → IsSelected S t n) → (b ≡ true → holds S t n ≡ true) → Sees given V B Resumed v → ResumedWalked V S t n v b →
+      Total B t n h ≡ (b && (resumed_walk (statuses V) S t n v).kept (goal t n h))
   resumed_kept Nothing B n v b h nl k s r e w = absurd h
   resumed_kept Pause B n v b h nl k s r e w = none (S n) ∙ sym (none b)
     where
@@ -320,7 +336,8 @@ module _ (V : Valuation) (S : ℕ → Bool) (given : Values) where
       let wp = resumed_walk (statuses V) S p (n + 1) v in
       let wq = resumed_walk (statuses V) S q m v in
       let sp : hp ≡ true → IsSelected S p (n + 1) = λ z. (s (or_left hp _ z)).1 z in
-      ap (λ z. (has_code (resumed_codes p) && restart_keeps V p (n + 1) x) || (S g && z)) (look_first g n (statement_count p) false (held_at given V B p (n + 1) g Resumed) _ i.0 i.1)
+      ap (λ z. (has_code (resumed_codes p) && restart_keeps V p (n + 1) x) || (S g && z))
+      (look_first g n (statement_count p) false (held_at given V B p (n + 1) g Resumed) _ i.0 i.1)
       ∙ guard_total (has_code (resumed_codes p)) (restart_keeps V p (n + 1) x) (S g) (held_at given V B p (n + 1) g Resumed) (b && hp) (wp.kept g)
       (λ z. resumed_kept p B (n + 1) v (b && hp) x np k.0 sp (λ y. (and_parts b hp y).1) e (w.1 z))
       (λ z. let y = (and_parts b hp z).1 in resumed_live S p (n + 1) np k.0 y (sp y))
@@ -337,7 +354,8 @@ module _ (V : Valuation) (S : ℕ → Bool) (given : Values) where
       let wp = resumed_walk (statuses V) S p (n + 1) v in
       let wq = resumed_walk (statuses V) S q m v in
       let sq : hq ≡ true → IsSelected S q m = λ z. (s (or_right hp hq z)).2 z in
-      ap (λ z. (has_code (resumed_codes q) && restart_keeps V q m x) || (S g && z)) (look_second g n (statement_count p) false (held_at given V B p (n + 1) g Resumed) (held_at given V B q m g Resumed) i.0)
+      ap (λ z. (has_code (resumed_codes q) && restart_keeps V q m x) || (S g && z))
+      (look_second g n (statement_count p) false (held_at given V B p (n + 1) g Resumed) (held_at given V B q m g Resumed) i.0)
       ∙ guard_total (has_code (resumed_codes q)) (restart_keeps V q m x) (S g) (held_at given V B q m g Resumed) (b && hq) (wq.kept g)
       (λ z. resumed_kept q B m v (b && hq) x nq k.1 sq (λ y. (and_parts b hq y).1) e (w.2 z))
       (λ z. let y = (and_parts b hq z).1 in resumed_live S q m nq k.1 y (sq y))
@@ -354,7 +372,8 @@ module _ (V : Valuation) (S : ℕ → Bool) (given : Values) where
       and_same w.0.go (truth_same c (seen_values given V B Resumed) v (λ z. sym (e.each z))) in
       let kept : selected_in S p (n + 1) g ≡ S g =
       ap (λ z. S g && z) (and_true (le-leb (n + 1) g i.0) (lt-ltb g (n + 1 + statement_count p) i.1)) ∙ keep (S g) in
-      ap (λ z. (has_code (resumed_codes p) && restart_keeps V p (n + 1) h) || (S g && z)) (or_same own (look_only g n false (held_at given V B p (n + 1) g Resumed) i.0))
+      ap (λ z. (has_code (resumed_codes p) && restart_keeps V p (n + 1) h) || (S g && z))
+      (or_same own (look_only g n false (held_at given V B p (n + 1) g Resumed) i.0))
       ∙ suspend_bits (has_code (resumed_codes p) && restart_keeps V p (n + 1) h) (S g) (held_at given V B p (n + 1) g Resumed) b d (wp.kept g)
       (guard_total (has_code (resumed_codes p)) (restart_keeps V p (n + 1) h) (S g) (held_at given V B p (n + 1) g Resumed) (b && not d) (wp.kept g)
       (λ z. resumed_kept p B (n + 1) v (b && not d) h nl k s (λ y. r (and_parts b _ y).0) e (w.1 z))
@@ -375,7 +394,8 @@ module _ (V : Valuation) (S : ℕ → Bool) (given : Values) where
       let wq = resumed_walk (statuses V) S q m v in
       let wr = started_walk (statuses V) q m (Started m) v in
       let sp : hp ≡ true → IsSelected S p (n + 1) = λ z. (s (or_left hp _ z)).1 z in
-      ap (λ z. (has_code (resumed_codes p) && restart_keeps V p (n + 1) x) || (S g && z)) (look_first g n (statement_count p) false (held_at given V B p (n + 1) g Resumed) _ i.0 i.1)
+      ap (λ z. (has_code (resumed_codes p) && restart_keeps V p (n + 1) x) || (S g && z))
+      (look_first g n (statement_count p) false (held_at given V B p (n + 1) g Resumed) _ i.0 i.1)
       ∙ guard_total (has_code (resumed_codes p)) (restart_keeps V p (n + 1) x) (S g) (held_at given V B p (n + 1) g Resumed) (b && hp) (wp.kept g)
       (λ z. resumed_kept p B (n + 1) v (b && hp) x np k.0 sp (λ y. (and_parts b hp y).1) e (w.1 z))
       (λ z. let y = (and_parts b hp z).1 in resumed_live S p (n + 1) np k.0 y (sp y))
@@ -506,7 +526,8 @@ module _ (V : Valuation) (S : ℕ → Bool) (given : Values) where
       (λ z. resumed_kept p B (n + 1) v b h nl k s r e (w.1 z))
       (λ z. resumed_live S p (n + 1) nl k (r z) (s (r z)))
       (λ z. let y = way_held S p (n + 1) h z in resumed_live S p (n + 1) nl k y (s y))
-      ∙ trap_when b (trap_code wp.code == 1) (wp.code == 1) (wp.kept g) (trap_one wp.code) (λ z y. kept_code (resumed_keeps (statuses V) S p (n + 1) v k (r z)) h y)
+      ∙ trap_when b (trap_code wp.code == 1) (wp.code == 1) (wp.kept g) (trap_one wp.code)
+      (λ z y. kept_code (resumed_keeps (statuses V) S p (n + 1) v k (r z)) h y)
     where
       trap_when : (b o p x : Bool) → o ≡ p → (b ≡ true → p ≡ false → x ≡ false) → (b && x) ≡ (b && (o && x))
       trap_when true o p x e f = trap_bits true o p x e (f refl)
@@ -516,7 +537,8 @@ module _ (V : Valuation) (S : ℕ → Bool) (given : Values) where
       let i = inside p (n + 1) h in
       let v2 = with_value v c (V (StatusOf n Resumed)) in
       let wp = resumed_walk (statuses V) S p (n + 1) v2 in
-      ap (λ z. (has_code (resumed_codes p) && restart_keeps V p (n + 1) h) || (S g && z)) (look_only g n false (held_at given V (bind B c n) p (n + 1) g Resumed) i.0)
+      ap (λ z. (has_code (resumed_codes p) && restart_keeps V p (n + 1) h) || (S g && z))
+      (look_only g n false (held_at given V (bind B c n) p (n + 1) g Resumed) i.0)
       ∙ guard_total (has_code (resumed_codes p)) (restart_keeps V p (n + 1) h) (S g) (held_at given V (bind B c n) p (n + 1) g Resumed) b (wp.kept g)
       (λ z. resumed_kept p (bind B c n) (n + 1) v2 b h nl k s r (sees_more given V B n c Resumed v refl e) (w.2 z))
       (λ z. resumed_live S p (n + 1) nl k (r z) (s (r z)))

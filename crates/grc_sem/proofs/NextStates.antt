@@ -1,5 +1,6 @@
 -- The pauses that a walk keeps with code 1 are a state again: they are well formed, and they are leaves.
-use Rattle.std.proofs.Common.{◌≡◌, ℕ, zero, suc, ◌+◌, ◌<◌, ◌≤◌, ◌⊎◌, Bool, true, false, ◌&&◌, ◌||◌, ◌==◌, cond, max, List, [], ◌∷◌, ◌++◌, refl, sym, ap, ◌∙◌, subst, inl, inr, ⊎_elim, arith}
+use Rattle.std.proofs.Common.{◌≡◌, ℕ, zero, suc, ◌+◌, ◌<◌, ◌≤◌, ◌⊎◌, Bool, true, false, ◌&&◌, ◌||◌, ◌==◌, cond, max, List, [], ◌∷◌, ◌++◌, refl, sym, ap, ◌∙◌}
+use Rattle.std.proofs.Common.{subst, inl, inr, ⊎_elim, arith}
 use Rattle.std.specs.List.{list_any}
 use Rattle.std.proofs.lemmas.List.Folds.{list_any-append}
 use Rattle.std.proofs.lemmas.Bool.{or_cases, or_left, or_right, and_parts, eqb-true, eqb-false, eq-eqb, cond_both, false≢true, cases_Bool, leb-true, ltb-true}
@@ -15,7 +16,8 @@ use Rattle.grc_graph.specs.Selected.{IsKernel, IsSelected}
 use Rattle.grc_sem.proofs.Places.{no_loops-left}
 use Rattle.grc_sem.proofs.Residues.{no_loops-right, loop_body, or_other, resumed_live}
 use Rattle.grc_sem.proofs.Constructive.{and_true}
-use Rattle.grc_sem.proofs.Kept.{Same, first_same, second_same, only_same, holds_same, Keeps, second_none, first_none, both_first, both_second, selected_same, keeps_branch, started_keeps, resumed_keeps}
+use Rattle.grc_sem.proofs.Kept.{Same, first_same, second_same, only_same, holds_same, Keeps, second_none, first_none, both_first, both_second, selected_same}
+use Rattle.grc_sem.proofs.Kept.{keeps_branch, started_keeps, resumed_keeps}
 use Rattle.grc_sem.proofs.WalkCodes.{started_code, resumed_code}
 use Rattle.grc_sem.proofs.Ways.{Way, goal, inside, way_held}
 
@@ -76,12 +78,16 @@ trap_back (suc (suc zero)) e = absurd (omega arith)
 trap_back (suc (suc (suc c))) e = absurd (omega arith)
 
 -- a first part alone, and a second part alone
-first_only : {w : Walk} (p q : Term) (n : ℕ) (T : ℕ → Bool) {P Q : Type 0} → Keeps w p (n + 1) → Same T w.kept n (n + (1 + statement_count p + statement_count q)) → P → ((holds T p (n + 1) && holds T q (n + 1 + statement_count p)) ≡ false) × (holds T p (n + 1) ≡ true → P) × (holds T q (n + 1 + statement_count p) ≡ true → Q)
+first_only : {w : Walk} (p q : Term) (n : ℕ) (T : ℕ → Bool) {P Q : Type 0} → Keeps w p (n + 1) →
+    Same T w.kept n (n + (1 + statement_count p + statement_count q)) → P →
+    ((holds T p (n + 1) && holds T q (n + 1 + statement_count p)) ≡ false) × (holds T p (n + 1) ≡ true → P) × (holds T q (n + 1 + statement_count p) ≡ true → Q)
 first_only p q n T k s h =
     let none = second_none q n T k s in
     (and_none _ _ none, (λ c. h), (λ c. absurd (false≢true (sym none ∙ c))))
 
-second_only : {w : Walk} (p q : Term) (n : ℕ) (T : ℕ → Bool) {P Q : Type 0} → Keeps w q (n + 1 + statement_count p) → Same T w.kept n (n + (1 + statement_count p + statement_count q)) → Q → ((holds T p (n + 1) && holds T q (n + 1 + statement_count p)) ≡ false) × (holds T p (n + 1) ≡ true → P) × (holds T q (n + 1 + statement_count p) ≡ true → Q)
+second_only : {w : Walk} (p q : Term) (n : ℕ) (T : ℕ → Bool) {P Q : Type 0} → Keeps w q (n + 1 + statement_count p) →
+    Same T w.kept n (n + (1 + statement_count p + statement_count q)) → Q →
+    ((holds T p (n + 1) && holds T q (n + 1 + statement_count p)) ≡ false) × (holds T p (n + 1) ≡ true → P) × (holds T q (n + 1 + statement_count p) ≡ true → Q)
 second_only p q n T k s h =
     let none = first_none p n T k s in
     (ap (λ b. b && holds T q (n + 1 + statement_count p)) none, (λ c. absurd (false≢true (sym none ∙ c))), (λ c. h))
@@ -94,7 +100,8 @@ over_or_held p c n h l e f =
     (λ z. or_right h _ (f (let i = eqb-false c 1 z in omega arith)))
     (cases_Bool (c == 1))
 
-pub started_selected : (Z : ℕ → Layer → Bool) (t : Term) (n : ℕ) (l : Layer) (v : Values) → NoInstantLoop t → IsKernel t → (started_walk Z t n l v).code ≡ 1 → (T : ℕ → Bool) → Same T (started_walk Z t n l v).kept n (n + statement_count t) → IsSelected T t n
+pub started_selected : (Z : ℕ → Layer → Bool) (t : Term) (n : ℕ) (l : Layer) (v : Values) → NoInstantLoop t → IsKernel t → (started_walk Z t n l v).code ≡ 1 →
+    (T : ℕ → Bool) → Same T (started_walk Z t n l v).kept n (n + statement_count t) → IsSelected T t n
 started_selected Z Nothing n l v nl k = λ c T s. tt
 started_selected Z Pause n l v nl k = λ c T s. tt
 started_selected Z (Emit x) n l v nl k = λ c T s. tt
@@ -105,8 +112,10 @@ started_selected Z (Present e p q) n l v nl k =
     let nq = no_loops-right (instant_loops p) (instant_loops q) nl in
     cond_both (truth e v) (started_walk Z p (n + 1) l v) (started_walk Z q m l v)
     (λ w. w.code ≡ 1 → (T : ℕ → Bool) → Same T w.kept n (n + (1 + statement_count p + statement_count q)) → IsSelected T (Present e p q) n)
-    (λ d c T s. first_only p q n T (started_keeps Z p (n + 1) l v k.0) s (started_selected Z p (n + 1) l v np k.0 c T (first_same n (statement_count p) (statement_count q) s)))
-    (λ d c T s. second_only p q n T (started_keeps Z q m l v k.1) s (started_selected Z q m l v nq k.1 c T (second_same n (statement_count p) (statement_count q) s)))
+    (λ d c T s. first_only p q n T (started_keeps Z p (n + 1) l v k.0) s
+    (started_selected Z p (n + 1) l v np k.0 c T (first_same n (statement_count p) (statement_count q) s)))
+    (λ d c T s. second_only p q n T (started_keeps Z q m l v k.1) s
+    (started_selected Z q m l v nq k.1 c T (second_same n (statement_count p) (statement_count q) s)))
 started_selected Z (Suspend e p) n l v nl k = λ c T s. started_selected Z p (n + 1) l v nl k c T (only_same n (statement_count p) s)
 started_selected Z (Seq p q) n l v nl k =
     let m = n + 1 + statement_count p in
@@ -120,7 +129,8 @@ started_selected Z (Seq p q) n l v nl k =
       or_left _ _ (subst (λ j. started_codes p j ≡ true) (eqb-true x.code 0 d) (started_code Z p (n + 1) l v np k.0)),
       started_selected Z q m l v nq k.1 c T (second_same n (statement_count p) (statement_count q) s),
     ))
-    (λ d c T s. first_only p q n T (started_keeps Z p (n + 1) l v k.0) s (started_selected Z p (n + 1) l v np k.0 c T (first_same n (statement_count p) (statement_count q) s)))
+    (λ d c T s. first_only p q n T (started_keeps Z p (n + 1) l v k.0) s
+    (started_selected Z p (n + 1) l v np k.0 c T (first_same n (statement_count p) (statement_count q) s)))
 started_selected Z (Loop at p) n l v nl k = λ c T s.
     started_selected Z p (n + 1) l v (loop_body at p nl).1 k c T (only_same n (statement_count p) s)
 started_selected Z (Par p q) n l v nl k = λ c T s.
@@ -150,15 +160,18 @@ started_selected Z (Local x p) n l v nl k = λ c T s.
     started_selected Z p (n + 1) l (with_value v x (Z n l)) nl k c T (record { at = λ m a b. s.at m (omega arith) (omega arith) })
 started_selected Z (Awake e p) n l v nl k = λ c T s. tt
 
-branch_over : (d : Bool) (p : Term) (x : Walk) → (d || can_pass p) ≡ true → (d ≡ true → resumed_codes p x.code ≡ true) → (cond d x (ended 0)).code ≡ 0 → can_pass p ≡ true
+branch_over : (d : Bool) (p : Term) (x : Walk) → (d || can_pass p) ≡ true → (d ≡ true → resumed_codes p x.code ≡ true) → (cond d x (ended 0)).code ≡ 0 →
+    can_pass p ≡ true
 branch_over true p x o f z = or_right (started_codes p 0) _ (subst (λ j. resumed_codes p j ≡ true) z (f refl))
 branch_over false p x o f z = o
 
-branch_selected : (d : Bool) (x : Walk) (T : ℕ → Bool) {a b : ℕ} {P : Type 0} → (cond d x (ended 0)).code ≡ 1 → Same T (cond d x (ended 0)).kept a b → (d ≡ true → x.code ≡ 1 → Same T x.kept a b → P) → P
+branch_selected : (d : Bool) (x : Walk) (T : ℕ → Bool) {a b : ℕ} {P : Type 0} → (cond d x (ended 0)).code ≡ 1 → Same T (cond d x (ended 0)).kept a b →
+    (d ≡ true → x.code ≡ 1 → Same T x.kept a b → P) → P
 branch_selected true x T c s f = f refl c s
 branch_selected false x T c s f = absurd (omega arith)
 
-pub resumed_selected : (Z : ℕ → Layer → Bool) (S : ℕ → Bool) (t : Term) (n : ℕ) (v : Values) → NoInstantLoop t → IsKernel t → holds S t n ≡ true → IsSelected S t n → (resumed_walk Z S t n v).code ≡ 1 → (T : ℕ → Bool) → Same T (resumed_walk Z S t n v).kept n (n + statement_count t) → IsSelected T t n
+pub resumed_selected : (Z : ℕ → Layer → Bool) (S : ℕ → Bool) (t : Term) (n : ℕ) (v : Values) → NoInstantLoop t → IsKernel t → holds S t n ≡ true →
+    IsSelected S t n → (resumed_walk Z S t n v).code ≡ 1 → (T : ℕ → Bool) → Same T (resumed_walk Z S t n v).kept n (n + statement_count t) → IsSelected T t n
 resumed_selected Z S Nothing n v nl k h i = λ c T s. tt
 resumed_selected Z S Pause n v nl k h i = λ c T s. tt
 resumed_selected Z S (Emit x) n v nl k h i = λ c T s. tt
@@ -169,10 +182,12 @@ resumed_selected Z S (Present e p q) n v nl k h i =
     let nq = no_loops-right (instant_loops p) (instant_loops q) nl in
     cond_both (holds S p (n + 1)) (resumed_walk Z S p (n + 1) v) (resumed_walk Z S q m v)
     (λ w. w.code ≡ 1 → (T : ℕ → Bool) → Same T w.kept n (n + (1 + statement_count p + statement_count q)) → IsSelected T (Present e p q) n)
-    (λ d c T s. first_only p q n T (resumed_keeps Z S p (n + 1) v k.0 d) s (resumed_selected Z S p (n + 1) v np k.0 d (i.1 d) c T (first_same n (statement_count p) (statement_count q) s)))
+    (λ d c T s. first_only p q n T (resumed_keeps Z S p (n + 1) v k.0 d) s
+    (resumed_selected Z S p (n + 1) v np k.0 d (i.1 d) c T (first_same n (statement_count p) (statement_count q) s)))
     (λ d c T s.
     let d2 = or_other _ _ d h in
-    second_only p q n T (resumed_keeps Z S q m v k.1 d2) s (resumed_selected Z S q m v nq k.1 d2 (i.2 d2) c T (second_same n (statement_count p) (statement_count q) s)))
+    second_only p q n T (resumed_keeps Z S q m v k.1 d2) s (resumed_selected Z S q m v nq k.1 d2 (i.2 d2) c T
+    (second_same n (statement_count p) (statement_count q) s)))
 resumed_selected Z S (Suspend e p) n v nl k h i =
     cond_both (truth e v) (record { signals = λ t. false; code = 1; kept = selected_in S p (n + 1) }) (resumed_walk Z S p (n + 1) v)
     (λ w. w.code ≡ 1 → (T : ℕ → Bool) → Same T w.kept n (n + (1 + statement_count p)) → IsSelected T (Suspend e p) n)
@@ -193,11 +208,16 @@ resumed_selected Z S (Seq p q) n v nl k h i =
       or_right (started_codes p 0) _ (subst (λ j. resumed_codes p j ≡ true) (eqb-true x.code 0 z) (resumed_code Z S p (n + 1) v np k.0 d (i.1 d))),
       started_selected Z q m (Started m) v nq k.1 c T (second_same n (statement_count p) (statement_count q) s),
     ))
-    (λ z c T s. first_only p q n T (resumed_keeps Z S p (n + 1) v k.0 d) s (resumed_selected Z S p (n + 1) v np k.0 d (i.1 d) c T (first_same n (statement_count p) (statement_count q) s))))
+    (λ z c T s. first_only p q n T (resumed_keeps Z S p (n + 1) v k.0 d) s
+    (resumed_selected Z S p (n + 1) v np k.0 d (i.1 d) c T (first_same n (statement_count p) (statement_count q) s))))
     (λ d c T s.
     let d2 = or_other _ _ d h in
     let j = i.2 d2 in
-    second_only p q n T (resumed_keeps Z S q m v k.1 d2) s (j.0, resumed_selected Z S q m v nq k.1 d2 j.1 c T (second_same n (statement_count p) (statement_count q) s)))
+    second_only p q n T (resumed_keeps Z S q m v k.1 d2) s (
+      j.0,
+      resumed_selected Z S q m v nq k.1 d2 j.1 c T
+          (second_same n (statement_count p) (statement_count q) s),
+    ))
 resumed_selected Z S (Loop at p) n v nl k h i =
     let x = resumed_walk Z S p (n + 1) v in
     let y = started_walk Z p (n + 1) (Started (n + 1)) v in
@@ -219,10 +239,14 @@ resumed_selected Z S (Par p q) n v nl k h i = λ c T s.
     let sq = both_second y q n T kx one s in
     let hp = kx.held T sp in
     let hq = ky.held T sq in (
-      over_or_held p x.code n _ (omega arith) hp (λ z. branch_over (holds S p (n + 1)) p (resumed_walk Z S p (n + 1) v) i.0 (λ d. resumed_code Z S p (n + 1) v np k.0 d (i.2 d)) z),
-      over_or_held q y.code n _ (omega arith) hq (λ z. branch_over (holds S q m) q (resumed_walk Z S q m v) i.1 (λ d. resumed_code Z S q m v nq k.1 d (i.3 d)) z),
-      (λ e. branch_selected (holds S p (n + 1)) (resumed_walk Z S p (n + 1) v) T (eqb-true x.code 1 (sym hp ∙ e)) sp (λ d c2 s2. resumed_selected Z S p (n + 1) v np k.0 d (i.2 d) c2 T s2)),
-      (λ e. branch_selected (holds S q m) (resumed_walk Z S q m v) T (eqb-true y.code 1 (sym hq ∙ e)) sq (λ d c2 s2. resumed_selected Z S q m v nq k.1 d (i.3 d) c2 T s2)),
+      over_or_held p x.code n _ (omega arith) hp (λ z. branch_over (holds S p (n + 1)) p (resumed_walk Z S p (n + 1) v) i.0
+          (λ d. resumed_code Z S p (n + 1) v np k.0 d (i.2 d)) z),
+      over_or_held q y.code n _ (omega arith) hq (λ z. branch_over (holds S q m) q (resumed_walk Z S q m v) i.1
+          (λ d. resumed_code Z S q m v nq k.1 d (i.3 d)) z),
+      (λ e. branch_selected (holds S p (n + 1)) (resumed_walk Z S p (n + 1) v) T (eqb-true x.code 1 (sym hp ∙ e)) sp
+          (λ d c2 s2. resumed_selected Z S p (n + 1) v np k.0 d (i.2 d) c2 T s2)),
+      (λ e. branch_selected (holds S q m) (resumed_walk Z S q m v) T (eqb-true y.code 1 (sym hq ∙ e)) sq
+          (λ d c2 s2. resumed_selected Z S q m v nq k.1 d (i.3 d) c2 T s2)),
     )
 resumed_selected Z S (Trap p) n v nl k h i = λ c T s.
     let x = resumed_walk Z S p (n + 1) v in
@@ -240,7 +264,8 @@ pub record Pauses (S : ℕ → Bool) (t : Term) (n : ℕ) : Type 0 where
 abbrev pub IsWay : Term → ℕ → ℕ → Type 0
 IsWay t n m = (h : Way t) × (goal t n h ≡ m)
 
-pauses_first : (S : ℕ → Bool) (p q : Term) (n : ℕ) → ((m : ℕ) → S m ≡ true → n ≤ m → m < n + (1 + statement_count p + statement_count q) → IsWay (Seq p q) n m) → Pauses S p (n + 1)
+pauses_first : (S : ℕ → Bool) (p q : Term) (n : ℕ) → ((m : ℕ) → S m ≡ true → n ≤ m → m < n + (1 + statement_count p + statement_count q) → IsWay (Seq p q) n m)
+    → Pauses S p (n + 1)
 pauses_first S p q n f = record { each = λ m e l u. go m (f m e (omega arith) (omega arith)) l u }
   where
     go : (m : ℕ) → IsWay (Seq p q) n m → n + 1 ≤ m → m < n + 1 + statement_count p → IsWay p (n + 1) m
@@ -250,13 +275,16 @@ pauses_first S p q n f = record { each = λ m e l u. go m (f m e (omega arith) (
         at m (inl x) e l u = (x, e)
         at m (inr y) e l u = let i = inside q (n + 1 + statement_count p) y in absurd (omega (arith, i.0))
 
-pauses_second : (S : ℕ → Bool) (p q : Term) (n : ℕ) → ((m : ℕ) → S m ≡ true → n ≤ m → m < n + (1 + statement_count p + statement_count q) → IsWay (Seq p q) n m) → Pauses S q (n + 1 + statement_count p)
+pauses_second : (S : ℕ → Bool) (p q : Term) (n : ℕ) → ((m : ℕ) → S m ≡ true → n ≤ m → m < n + (1 + statement_count p + statement_count q) → IsWay (Seq p q) n m)
+    → Pauses S q (n + 1 + statement_count p)
 pauses_second S p q n f = record { each = λ m e l u. go m (f m e (omega arith) (omega arith)) l u }
   where
-    go : (m : ℕ) → IsWay (Seq p q) n m → n + 1 + statement_count p ≤ m → m < n + 1 + statement_count p + statement_count q → IsWay q (n + 1 + statement_count p) m
+    go : (m : ℕ) → IsWay (Seq p q) n m → n + 1 + statement_count p ≤ m → m < n + 1 + statement_count p + statement_count q →
+        IsWay q (n + 1 + statement_count p) m
     go m w l u = at m w.0 w.1 l u
       where
-        at : (m : ℕ) (h : Way p ⊎ Way q) → goal (Seq p q) n h ≡ m → n + 1 + statement_count p ≤ m → m < n + 1 + statement_count p + statement_count q → IsWay q (n + 1 + statement_count p) m
+        at : (m : ℕ) (h : Way p ⊎ Way q) → goal (Seq p q) n h ≡ m → n + 1 + statement_count p ≤ m → m < n + 1 + statement_count p + statement_count q →
+            IsWay q (n + 1 + statement_count p) m
         at m (inl x) e l u = let i = inside p (n + 1) x in absurd (omega (arith, i.1))
         at m (inr y) e l u = (y, e)
 
@@ -304,7 +332,8 @@ started_ways Z (Awake c p) n l v k = absurd k
 ended_ways : (c : ℕ) (t : Term) (n : ℕ) → AllWays (ended c).kept t n
 ended_ways c t n m e = absurd (false≢true e)
 
-pauses_only : (S : ℕ → Bool) (t p : Term) (n : ℕ) → statement_count t ≡ 1 + statement_count p → ((m : ℕ) → IsWay t n m → IsWay p (n + 1) m) → Pauses S t n → Pauses S p (n + 1)
+pauses_only : (S : ℕ → Bool) (t p : Term) (n : ℕ) → statement_count t ≡ 1 + statement_count p → ((m : ℕ) → IsWay t n m → IsWay p (n + 1) m) → Pauses S t n →
+    Pauses S p (n + 1)
 pauses_only S t p n c f h = record { each = λ m e l u. f m (h.each m e (omega arith) (omega arith)) }
 
 pub resumed_ways : (Z : ℕ → Layer → Bool) (S : ℕ → Bool) (t : Term) (n : ℕ) (v : Values) → IsKernel t → Pauses S t n → AllWays (resumed_walk Z S t n v).kept t n
@@ -337,8 +366,10 @@ resumed_ways Z S (Loop at p) n v k h =
 resumed_ways Z S (Par p q) n v k h =
     let m2 = n + 1 + statement_count p in
     both_ways (cond (holds S p (n + 1)) (resumed_walk Z S p (n + 1) v) (ended 0)) (cond (holds S q m2) (resumed_walk Z S q m2 v) (ended 0)) (Par p q) n
-    (cond_ways (holds S p (n + 1)) (resumed_walk Z S p (n + 1) v) (ended 0) (Par p q) n (λ m e. by_first p q n m (resumed_ways Z S p (n + 1) v k.0 (pauses_first S p q n h.each) m e)) (ended_ways 0 (Par p q) n))
-    (cond_ways (holds S q m2) (resumed_walk Z S q m2 v) (ended 0) (Par p q) n (λ m e. by_second p q n m (resumed_ways Z S q m2 v k.1 (pauses_second S p q n h.each) m e)) (ended_ways 0 (Par p q) n))
+    (cond_ways (holds S p (n + 1)) (resumed_walk Z S p (n + 1) v) (ended 0) (Par p q) n
+    (λ m e. by_first p q n m (resumed_ways Z S p (n + 1) v k.0 (pauses_first S p q n h.each) m e)) (ended_ways 0 (Par p q) n))
+    (cond_ways (holds S q m2) (resumed_walk Z S q m2 v) (ended 0) (Par p q) n
+    (λ m e. by_second p q n m (resumed_ways Z S q m2 v k.1 (pauses_second S p q n h.each) m e)) (ended_ways 0 (Par p q) n))
 resumed_ways Z S (Trap p) n v k h = λ m e. resumed_ways Z S p (n + 1) v k (pauses_only S (Trap p) p n refl (λ i w. w) h) m (and_parts _ _ e).1
 resumed_ways Z S (Local x p) n v k h = resumed_ways Z S p (n + 1) (with_value v x (Z n Resumed)) k (pauses_only S (Local x p) p n refl (λ i w. w) h)
 resumed_ways Z S (Awake c p) n v k h = absurd k
@@ -365,7 +396,8 @@ leaf_way b (Present c p q) n m e =
     (among_cases m (leaf_paths (resumes p) p (n + 1)) _ (leaves_if b m _ e))
 leaf_way b (Suspend c p) n m e = leaf_way (resumes p) p (n + 1) m (leaves_if b m _ e)
 leaf_way b (Seq p q) n m e =
-    ⊎_elim (λ i. by_first p q n m (leaf_way (resumes p) p (n + 1) m i)) (λ i. by_second p q n m (leaf_way (second_resumes p q) q (n + 1 + statement_count p) m i))
+    ⊎_elim (λ i. by_first p q n m (leaf_way (resumes p) p (n + 1) m i))
+    (λ i. by_second p q n m (leaf_way (second_resumes p q) q (n + 1 + statement_count p) m i))
     (among_cases m (leaf_paths (resumes p) p (n + 1)) _ (leaves_if b m _ e))
 leaf_way b (Loop at p) n m e = leaf_way (resumes p) p (n + 1) m (leaves_if b m _ e)
 leaf_way b (Par p q) n m e =
@@ -385,7 +417,8 @@ pub live_leaf : (b : Bool) (t : Term) (n m : ℕ) → b ≡ true → among m (le
 live_leaf b t n m e h = subst (λ c. among m (leaf_paths c t n) ≡ true) (sym e) h
 
 -- a selected pause of a well-formed selection is a leaf
-pub way_leaf : (S : ℕ → Bool) (t : Term) (n : ℕ) (h : Way t) → NoInstantLoop t → IsKernel t → IsSelected S t n → S (goal t n h) ≡ true → among (goal t n h) (leaf_paths true t n) ≡ true
+pub way_leaf : (S : ℕ → Bool) (t : Term) (n : ℕ) (h : Way t) → NoInstantLoop t → IsKernel t → IsSelected S t n → S (goal t n h) ≡ true →
+    among (goal t n h) (leaf_paths true t n) ≡ true
 way_leaf S Nothing n h nl k i e = absurd h
 way_leaf S Pause n h nl k i e = or_left _ _ (eq-eqb n n refl)
 way_leaf S (Emit x) n h nl k i e = absurd h
@@ -393,7 +426,8 @@ way_leaf S (Exit x) n h nl k i e = absurd h
 way_leaf S (Present c p q) n (inl x) nl k i e =
     let np = no_loops-left (instant_loops p) (instant_loops q) nl in
     let y = way_held S p (n + 1) x e in
-    among_first _ (leaf_paths (resumes p) p (n + 1)) _ (live_leaf (resumes p) p (n + 1) _ (resumed_live S p (n + 1) np k.0 y (i.1 y)) (way_leaf S p (n + 1) x np k.0 (i.1 y) e))
+    among_first _ (leaf_paths (resumes p) p (n + 1)) _ (live_leaf (resumes p) p (n + 1) _ (resumed_live S p (n + 1) np k.0 y (i.1 y))
+    (way_leaf S p (n + 1) x np k.0 (i.1 y) e))
 way_leaf S (Present c p q) n (inr x) nl k i e =
     let m = n + 1 + statement_count p in
     let nq = no_loops-right (instant_loops p) (instant_loops q) nl in
@@ -404,20 +438,23 @@ way_leaf S (Suspend c p) n h nl k i e =
 way_leaf S (Seq p q) n (inl x) nl k i e =
     let np = no_loops-left (instant_loops p) (instant_loops q) nl in
     let y = way_held S p (n + 1) x e in
-    among_first _ (leaf_paths (resumes p) p (n + 1)) _ (live_leaf (resumes p) p (n + 1) _ (resumed_live S p (n + 1) np k.0 y (i.1 y)) (way_leaf S p (n + 1) x np k.0 (i.1 y) e))
+    among_first _ (leaf_paths (resumes p) p (n + 1)) _ (live_leaf (resumes p) p (n + 1) _ (resumed_live S p (n + 1) np k.0 y (i.1 y))
+    (way_leaf S p (n + 1) x np k.0 (i.1 y) e))
 way_leaf S (Seq p q) n (inr x) nl k i e =
     let m = n + 1 + statement_count p in
     let nq = no_loops-right (instant_loops p) (instant_loops q) nl in
     let y = way_held S q m x e in
     let j = i.2 y in
-    among_second _ (leaf_paths (resumes p) p (n + 1)) _ (live_leaf (second_resumes p q) q m _ (and_true j.0 (resumed_live S q m nq k.1 y j.1)) (way_leaf S q m x nq k.1 j.1 e))
+    among_second _ (leaf_paths (resumes p) p (n + 1)) _ (live_leaf (second_resumes p q) q m _ (and_true j.0 (resumed_live S q m nq k.1 y j.1))
+    (way_leaf S q m x nq k.1 j.1 e))
 way_leaf S (Loop at p) n h nl k i e =
     let np = (loop_body at p nl).1 in
     let y = way_held S p (n + 1) h e in live_leaf (resumes p) p (n + 1) _ (resumed_live S p (n + 1) np k y i) (way_leaf S p (n + 1) h np k i e)
 way_leaf S (Par p q) n (inl x) nl k i e =
     let np = no_loops-left (instant_loops p) (instant_loops q) nl in
     let y = way_held S p (n + 1) x e in
-    among_first _ (leaf_paths (resumes p) p (n + 1)) _ (live_leaf (resumes p) p (n + 1) _ (resumed_live S p (n + 1) np k.0 y (i.2 y)) (way_leaf S p (n + 1) x np k.0 (i.2 y) e))
+    among_first _ (leaf_paths (resumes p) p (n + 1)) _ (live_leaf (resumes p) p (n + 1) _ (resumed_live S p (n + 1) np k.0 y (i.2 y))
+    (way_leaf S p (n + 1) x np k.0 (i.2 y) e))
 way_leaf S (Par p q) n (inr x) nl k i e =
     let m = n + 1 + statement_count p in
     let nq = no_loops-right (instant_loops p) (instant_loops q) nl in

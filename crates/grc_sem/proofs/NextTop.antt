@@ -28,7 +28,8 @@ use Rattle.grc_sem.proofs.NextKept.{guard_total, started_kept, resumed_kept}
 use Rattle.grc_sem.proofs.NextStates.{started_selected, resumed_selected, IsWay, AllWays, started_ways, resumed_ways, among, leaf_way, way_leaf, live_leaf}
 
 -- what a walk of a state keeps is a state
-pub keeps_state : (Z : ℕ → Layer → Bool) (q : State) (body : Term) (v : Values) → IsKernel body → NoInstantLoop body → IsState q body → holds (body_walk Z q body v).kept body 0 ≡ true → IsSelected (body_walk Z q body v).kept body 0
+pub keeps_state : (Z : ℕ → Layer → Bool) (q : State) (body : Term) (v : Values) → IsKernel body → NoInstantLoop body → IsState q body →
+    holds (body_walk Z q body v).kept body 0 ≡ true → IsSelected (body_walk Z q body v).kept body 0
 keeps_state Z Initial body v kernel nl state = λ h.
     let w = started_walk Z body 0 (Started 0) v in
     started_selected Z body 0 (Started 0) v nl kernel
@@ -90,7 +91,9 @@ map_twice : {A B C : Type 0} (f : B → C) (g : A → B) (xs : List A) → map f
 map_twice f g [] = refl
 map_twice f g (x ∷ xs) = ap (λ l. f (g x) ∷ l) (map_twice f g xs)
 
-module _ (given : Values) (V : Valuation) (B : Scope) (body : Term) (q : State) (v : Values) (nl : NoInstantLoop body) (kernel : IsKernel body) (state : IsState q body) (sees : Sees given V B Resumed v) (started : StartedWalked V body 0 (Started 0) v (is_initial q)) (resumed : has_code (resumed_codes body) ≡ true → ResumedWalked V (selected_of q) body 0 v (holds (selected_of q) body 0)) where
+module _ (given : Values) (V : Valuation) (B : Scope) (body : Term) (q : State) (v : Values) (nl : NoInstantLoop body) (kernel : IsKernel body)
+    (state : IsState q body) (sees : Sees given V B Resumed v) (started : StartedWalked V body 0 (Started 0) v (is_initial q))
+    (resumed : has_code (resumed_codes body) ≡ true → ResumedWalked V (selected_of q) body 0 v (holds (selected_of q) body 0)) where
   abbrev S : ℕ → Bool
   S = selected_of q
 
@@ -99,7 +102,8 @@ module _ (given : Values) (V : Valuation) (B : Scope) (body : Term) (q : State) 
   starts_any n (Resumed ∷ ls) = starts_any n ls
   starts_any n (Started r ∷ ls) = ap (λ b. (V (Go n (Started r)) && kept_at V body 0 n (Started r)) || b) (starts_any n ls)
 
-  next_value : (n : ℕ) (ls : List Layer) → val B body q given V (next_formula n ls) ≡ (list_any (layer_keeps V (λ l. true) body 0 n) ls || (state_holds_at q body n && held_at given V B body 0 n Resumed))
+  next_value : (n : ℕ) (ls : List Layer) → val B body q given V (next_formula n ls) ≡
+      (list_any (layer_keeps V (λ l. true) body 0 n) ls || (state_holds_at q body n && held_at given V B body 0 n Resumed))
   next_value n ls =
       let own = Conjunction (Selected n) (Held n Resumed) ∷ [] in
       any_meaning B body q given V (flat_map (kept_start n) ls ++ own)
@@ -113,11 +117,14 @@ module _ (given : Values) (V : Valuation) (B : Scope) (body : Term) (q : State) 
       go Initial = refl
       go (Selecting T) = holds_at_goal T body 0 h
 
-  walk_kept : (m : ℕ) → ((holds S body 0 && (resumed_walk (statuses V) S body 0 v).kept m) || (is_initial q && (started_walk (statuses V) body 0 (Started 0) v).kept m)) ≡ (body_walk (statuses V) q body v).kept m
+  walk_kept : (m : ℕ) → ((holds S body 0 && (resumed_walk (statuses V) S body 0 v).kept m)
+      || (is_initial q && (started_walk (statuses V) body 0 (Started 0) v).kept m)) ≡ (body_walk (statuses V) q body v).kept m
   walk_kept m = go q v
     where
-      go : (r : State) (u : Values) → ((holds (selected_of r) body 0 && (resumed_walk (statuses V) (selected_of r) body 0 u).kept m) || (is_initial r && (started_walk (statuses V) body 0 (Started 0) u).kept m)) ≡ (body_walk (statuses V) r body u).kept m
-      go Initial u = ap (λ b. (b && (resumed_walk (statuses V) (λ i. false) body 0 u).kept m) || (started_walk (statuses V) body 0 (Started 0) u).kept m) (nothing_held body 0)
+      go : (r : State) (u : Values) → ((holds (selected_of r) body 0 && (resumed_walk (statuses V) (selected_of r) body 0 u).kept m)
+          || (is_initial r && (started_walk (statuses V) body 0 (Started 0) u).kept m)) ≡ (body_walk (statuses V) r body u).kept m
+      go Initial u = ap (λ b. (b && (resumed_walk (statuses V) (λ i. false) body 0 u).kept m) || (started_walk (statuses V) body 0 (Started 0) u).kept m)
+          (nothing_held body 0)
       go (Selecting T) u = held (holds T body 0)
         where
           held : (h : Bool) → ((h && (resumed_walk (statuses V) T body 0 u).kept m) || false) ≡ (cond h (resumed_walk (statuses V) T body 0 u) (ended 0)).kept m
@@ -125,7 +132,8 @@ module _ (given : Values) (V : Valuation) (B : Scope) (body : Term) (q : State) 
           held false = refl
 
   -- the next formula of a pause
-  pub next_way : (h : Way body) → val B body q given V (next_formula (goal body 0 h) (body_layers body (goal body 0 h))) ≡ (body_walk (statuses V) q body v).kept (goal body 0 h)
+  pub next_way : (h : Way body) → val B body q given V (next_formula (goal body 0 h) (body_layers body (goal body 0 h))) ≡
+      (body_walk (statuses V) q body v).kept (goal body 0 h)
   next_way h =
       let m = goal body 0 h in
       let X = S m && held_at given V B body 0 m Resumed in
@@ -149,13 +157,15 @@ module _ (given : Values) (V : Valuation) (B : Scope) (body : Term) (q : State) 
   abbrev next_bit : ℕ → Bool
   next_bit n = val B body q given V (next_formula n (body_layers body n))
 
-  pub next_selected : (m : ℕ) → selecting (body_leaves body) (map (λ a. val B body q given V a) (map (λ n. next_formula n (body_layers body n)) (body_leaves body))) m ≡ (among m (body_leaves body) && next_bit m)
+  pub next_selected : (m : ℕ) → selecting (body_leaves body) (map (λ a. val B body q given V a)
+      (map (λ n. next_formula n (body_layers body n)) (body_leaves body))) m ≡ (among m (body_leaves body) && next_bit m)
   next_selected m =
       ap (λ bits. selecting (body_leaves body) bits m) (map_twice (λ a. val B body q given V a) (λ n. next_formula n (body_layers body n)) (body_leaves body))
       ∙ selecting_is next_bit (body_leaves body) m
 
   -- the state that the next formulas tell
-  pub next_kept : StatePauses q body → (m : ℕ) → selecting (body_leaves body) (map (λ a. val B body q given V a) (map (λ n. next_formula n (body_layers body n)) (body_leaves body))) m ≡ (body_walk (statuses V) q body v).kept m
+  pub next_kept : StatePauses q body → (m : ℕ) → selecting (body_leaves body)
+      (map (λ a. val B body q given V a) (map (λ n. next_formula n (body_layers body n)) (body_leaves body))) m ≡ (body_walk (statuses V) q body v).kept m
   next_kept pauses m =
       let K = (body_walk (statuses V) q body v).kept in
       next_selected m

@@ -68,12 +68,14 @@ below_raised N (o ∷ os) r t l = go (t == o) refl l (λ h. below_raised N os r 
     go true e h f = absurd (omega arith)
     go false e h f = (eqb-false t o e, f h)
 
-body_place : {t : Term} {v : Values} {r re : ℕ → ℕ} {w : Walk} {g : ℕ} (o N : ℕ) → Place t v r w g re → Place t (with_value v o (v o)) (with_rank (with_rank r o N) o (r o)) w g re
+body_place : {t : Term} {v : Values} {r re : ℕ → ℕ} {w : Walk} {g : ℕ} (o N : ℕ) → Place t v r w g re →
+    Place t (with_value v o (v o)) (with_rank (with_rank r o N) o (r o)) w g re
 body_place {t} {v} {r} {re} {w} {g} o N p =
     subst (λ u. Place t u (with_rank (with_rank r o N) o (r o)) w g re) (sym (with_own v o))
     (subst (λ s. Place t v s w g re) (sym (rank_own r o N)) p)
 
-pub bound_place : {t : Term} {v : Values} {r re : ℕ → ℕ} {w : Walk} {g : ℕ} (N : ℕ) (os : List ℕ) → NoInstantLoop t → Differ os → Emitted v w r N os → Place t v r w g re → Place (bound os t) v (raised N os r) (hide_all os w) g re
+pub bound_place : {t : Term} {v : Values} {r re : ℕ → ℕ} {w : Walk} {g : ℕ} (N : ℕ) (os : List ℕ) → NoInstantLoop t → Differ os → Emitted v w r N os →
+    Place t v r w g re → Place (bound os t) v (raised N os r) (hide_all os w) g re
 bound_place N [] nl d e p = p
 bound_place {t} {v} {r} {re} {w} {g} N (o ∷ os) nl d e p =
     let body = bound_place {g = g} N os nl d.1 e.2 p in
@@ -96,7 +98,9 @@ known_below true = refl
 known_below false = refl
 
 -- the signals settle as the walk emits them; then all statuses of a rank below N are known
-pub settled : {t : Term} {v : Values} {r re : ℕ → ℕ} {w : Walk} {g : ℕ} (N : ℕ) (os : List ℕ) (E : Environment) → NoInstantLoop t → Differ os → Emitted v w r N os → Place t v r w g re → Below E v → ((s : ℕ) → NotAmong s os → r s < N → E s ≡ known (v s)) → (F : Environment) × (settle os t E ≡ Some F) × Knows F v N r
+pub settled : {t : Term} {v : Values} {r re : ℕ → ℕ} {w : Walk} {g : ℕ} (N : ℕ) (os : List ℕ) (E : Environment) → NoInstantLoop t → Differ os →
+    Emitted v w r N os → Place t v r w g re → Below E v → ((s : ℕ) → NotAmong s os → r s < N → E s ≡ known (v s)) →
+    (F : Environment) × (settle os t E ≡ Some F) × Knows F v N r
 settled N [] E nl d e p b f = (E, refl, record { below = b; settled = λ s l. f s tt l })
 settled {t} {v} {r} {re} {w} {g} N (o ∷ os) E nl d e p b f =
     let body = body_place {g = g} o N (bound_place {g = g} N os nl d.1 e.2 p) in

@@ -25,15 +25,19 @@ use Rattle.grc_sem.proofs.WalkEmits.{Reach, started_silent, resumed_silent, star
 use Rattle.grc_sem.proofs.Meets.{any_single, any_nothing, own_fresh, same_self, own_shows}
 
 module _ (V : Valuation) (all : List Spot) (L : ℕ → List Layer) where
-  started_emissions : (a : Liveness) (s : ℕ) (p : Term) (B : Scope) (f : Layer → Formula) (n r : ℕ) → IsKernel p → Above B n → Agrees L a p (n + 1) → Root r a.roots → emitted V (StatusOf n (Started r)) (spots L (bind B s n) f p (n + 1)) ≡ started_any (emission V (StatusOf n (Started r))) (bind B s n) f p (n + 1) (Started r)
+  started_emissions : (a : Liveness) (s : ℕ) (p : Term) (B : Scope) (f : Layer → Formula) (n r : ℕ) → IsKernel p → Above B n → Agrees L a p (n + 1) →
+      Root r a.roots → emitted V (StatusOf n (Started r)) (spots L (bind B s n) f p (n + 1)) ≡
+      started_any (emission V (StatusOf n (Started r))) (bind B s n) f p (n + 1) (Started r)
   started_emissions a s p B f n r k ab g i =
       let W = StatusOf n (Started r) in
       let F = emission V W in
       split F L a (bind B s n) f p (n + 1) k g
       ∙ ap (λ b. b || list_any (λ j. started_any F (bind B s n) f p (n + 1) (Started j)) a.roots)
-      (silent_and a.resumed (resumed_silent V W s p (bind B s n) f (n + 1) k (own_fresh n (Started r)) (above_bind B n s ab) (own_shows B n s Resumed (Started r) false ab refl)))
+      (silent_and a.resumed (resumed_silent V W s p (bind B s n) f (n + 1) k (own_fresh n (Started r)) (above_bind B n s ab)
+      (own_shows B n s Resumed (Started r) false ab refl)))
       ∙ any_single (λ j. started_any F (bind B s n) f p (n + 1) (Started j)) r a.roots i
-      (λ j z. started_silent V W s p (bind B s n) f (n + 1) (Started j) k (own_fresh n (Started r)) (own_shows B n s (Started j) (Started r) false ab (differs j z)))
+      (λ j z. started_silent V W s p (bind B s n) f (n + 1) (Started j) k (own_fresh n (Started r))
+      (own_shows B n s (Started j) (Started r) false ab (differs j z)))
     where
       silent_and : (c : Bool) {x : Bool} → x ≡ false → (c && x) ≡ false
       silent_and true e = e
@@ -42,7 +46,9 @@ module _ (V : Valuation) (all : List Spot) (L : ℕ → List Layer) where
       differs : (j : ℕ) → (j ≡ r → ⊥) → same_layer (layer_above n (Started j)) (Started r) ≡ false
       differs j z = cond_both _ (Started j) Resumed (λ y. same_layer y (Started r) ≡ false) (λ u. ne_eqb j r z) (λ u. refl)
 
-  resumed_emissions : (a : Liveness) (s : ℕ) (p : Term) (B : Scope) (f : Layer → Formula) (n : ℕ) → IsKernel p → Above B n → Agrees L a p (n + 1) → ((r : ℕ) → Root r a.roots → r ≤ n) → emitted V (StatusOf n Resumed) (spots L (bind B s n) f p (n + 1)) ≡ (a.resumed && resumed_any (emission V (StatusOf n Resumed)) (bind B s n) f p (n + 1))
+  resumed_emissions : (a : Liveness) (s : ℕ) (p : Term) (B : Scope) (f : Layer → Formula) (n : ℕ) → IsKernel p → Above B n → Agrees L a p (n + 1) →
+      ((r : ℕ) → Root r a.roots → r ≤ n) → emitted V (StatusOf n Resumed) (spots L (bind B s n) f p (n + 1)) ≡
+      (a.resumed && resumed_any (emission V (StatusOf n Resumed)) (bind B s n) f p (n + 1))
   resumed_emissions a s p B f n k ab g l =
       let W = StatusOf n Resumed in
       let F = emission V W in
@@ -58,7 +64,8 @@ module _ (V : Valuation) (all : List Spot) (L : ℕ → List Layer) where
       or_nothing false = refl
 
   -- the emissions of the whole list on a Local's own wire are in its body
-  local_own : (x : ℕ) (p : Term) (B : Scope) (f : Layer → Formula) (n : ℕ) (y : Layer) → Whole V L all B f (Local x p) n → emitted V (StatusOf n y) all ≡ emitted V (StatusOf n y) (spots L (bind B x n) (part_entry n) p (n + 1))
+  local_own : (x : ℕ) (p : Term) (B : Scope) (f : Layer → Formula) (n : ℕ) (y : Layer) → Whole V L all B f (Local x p) n →
+      emitted V (StatusOf n y) all ≡ emitted V (StatusOf n y) (spots L (bind B x n) (part_entry n) p (n + 1))
   local_own x p B f n y w =
       w.own n y (omega arith) (omega arith)
       ∙ list_any-append (emission V (StatusOf n y)) (spots_at L B f (Local x p) n) (spots L (bind B x n) (part_entry n) p (n + 1))
@@ -69,16 +76,24 @@ module _ (V : Valuation) (all : List Spot) (L : ℕ → List Layer) where
       none (l ∷ ls) = none ls
 
   -- where its body is walked, they are the walk's
-  pub local_started : (a : Liveness) (x : ℕ) (p : Term) (B : Scope) (f : Layer → Formula) (n r : ℕ) (v : Values) (b : Bool) → Agrees L a (Local x p) n → Root r a.roots → r ≤ n → NoInstantLoop p → IsKernel p → Above B n → Whole V L all B f (Local x p) n → StartedWalked V p (n + 1) (Started r) (with_value v x (V (StatusOf n (Started r)))) b → emitted V (StatusOf n (Started r)) all ≡ (b && (started_walk (statuses V) p (n + 1) (Started r) (with_value v x (V (StatusOf n (Started r))))).signals x)
+  pub local_started : (a : Liveness) (x : ℕ) (p : Term) (B : Scope) (f : Layer → Formula) (n r : ℕ) (v : Values) (b : Bool) → Agrees L a (Local x p) n →
+      Root r a.roots → r ≤ n → NoInstantLoop p → IsKernel p → Above B n → Whole V L all B f (Local x p) n →
+      StartedWalked V p (n + 1) (Started r) (with_value v x (V (StatusOf n (Started r)))) b →
+      emitted V (StatusOf n (Started r)) all ≡ (b && (started_walk (statuses V) p (n + 1) (Started r) (with_value v x (V (StatusOf n (Started r))))).signals x)
   local_started a x p B f n r v b g i l nl k ab w one =
       let y = Started r in
       let W = StatusOf n y in
       let ap1 = part_liveness a p in
       local_own x p B f n y w
       ∙ started_emissions ap1 x p B _ n r k ab (only_agrees L a ap1 (Local x p) p n refl (λ j. refl) g) i
-      ∙ started_emits V W x true p (bind B x n) _ (n + 1) y (with_value v x (V W)) b nl k one (own_fresh n y) (own_shows B n x y y true ab (ap (λ z. same_layer z y) (layer_above-started n r l) ∙ same_self y))
+      ∙ started_emits V W x true p (bind B x n) _ (n + 1) y (with_value v x (V W)) b nl k one (own_fresh n y)
+      (own_shows B n x y y true ab (ap (λ z. same_layer z y) (layer_above-started n r l) ∙ same_self y))
 
-  pub local_resumed : (S : ℕ → Bool) (a : Liveness) (x : ℕ) (p : Term) (B : Scope) (f : Layer → Formula) (n : ℕ) (v : Values) (b : Bool) → Agrees L a (Local x p) n → a.resumed ≡ true → ((r : ℕ) → Root r a.roots → r ≤ n) → NoInstantLoop p → IsKernel p → Above B n → Whole V L all B f (Local x p) n → Reach S p (n + 1) b → (has_code (resumed_codes p) ≡ true → ResumedWalked V S p (n + 1) (with_value v x (V (StatusOf n Resumed))) b) → emitted V (StatusOf n Resumed) all ≡ (b && (resumed_walk (statuses V) S p (n + 1) (with_value v x (V (StatusOf n Resumed)))).signals x)
+  pub local_resumed : (S : ℕ → Bool) (a : Liveness) (x : ℕ) (p : Term) (B : Scope) (f : Layer → Formula) (n : ℕ) (v : Values) (b : Bool) →
+      Agrees L a (Local x p) n → a.resumed ≡ true → ((r : ℕ) → Root r a.roots → r ≤ n) → NoInstantLoop p → IsKernel p → Above B n →
+      Whole V L all B f (Local x p) n → Reach S p (n + 1) b → (has_code (resumed_codes p) ≡ true →
+      ResumedWalked V S p (n + 1) (with_value v x (V (StatusOf n Resumed))) b) →
+      emitted V (StatusOf n Resumed) all ≡ (b && (resumed_walk (statuses V) S p (n + 1) (with_value v x (V (StatusOf n Resumed)))).signals x)
   local_resumed S a x p B f n v b g i l nl k ab w up one =
       let W = StatusOf n Resumed in
       let ap1 = part_liveness a p in
@@ -88,5 +103,6 @@ module _ (V : Valuation) (all : List Spot) (L : ℕ → List Layer) where
       ∙ resumed_emissions ap1 x p B _ n k ab (only_agrees L a ap1 (Local x p) p n refl (λ j. refl) g) l
       ∙ ap (λ y. (y && has_code (resumed_codes p)) && resumed_any (emission V W) (bind B x n) (part_entry n) p (n + 1)) i
       ∙ guard_bits (has_code (resumed_codes p)) true b (wp.signals x) _
-      (λ z. resumed_emits V S W x true p (bind B x n) _ (n + 1) v2 b nl k up (one z) (own_fresh n Resumed) (above_bind B n x ab) (own_shows B n x Resumed Resumed true ab refl))
+      (λ z. resumed_emits V S W x true p (bind B x n) _ (n + 1) v2 b nl k up (one z) (own_fresh n Resumed) (above_bind B n x ab)
+      (own_shows B n x Resumed Resumed true ab refl))
       (λ z. resumed_live S p (n + 1) nl k (up.held z) (up.selected z))

@@ -1,6 +1,7 @@
 -- What the potentials of a term say of the walk of its place: one lemma per form. Ranks of signals and of completion
 -- codes say what is decided where the signals below a rank are known.
-use Rattle.std.proofs.Common.{◌≡◌, ℕ, ◌+◌, ◌<◌, ◌≤◌, if◌then◌else◌, ◌⊎◌, Bool, true, false, not, ◌&&◌, ◌||◌, ◌==◌, cond, max, refl, sym, ap, ◌∙◌, subst, inl, inr, ⊎_elim, arith, List, [], ◌∷◌, ◌++◌}
+use Rattle.std.proofs.Common.{◌≡◌, ℕ, ◌+◌, ◌<◌, ◌≤◌, if◌then◌else◌, ◌⊎◌, Bool, true, false, not, ◌&&◌, ◌||◌, ◌==◌, cond, max, refl, sym, ap, ◌∙◌, subst, inl}
+use Rattle.std.proofs.Common.{inr, ⊎_elim, arith, List, [], ◌∷◌, ◌++◌}
 use Rattle.std.proofs.lemmas.Bool.{or_cases, and_parts, and_from, eqb-true, eq-eqb, cond_both, false≢true, cases_lt, not-true}
 use Rattle.est_base.specs.declared.place.Span.{Span}
 use Rattle.est_kernel.specs.Terms.{Expression, Tick, Sig, Not, And, Or, Term, Nothing, Pause, Emit, Exit, Present, Suspend, Seq, Loop, Par, Trap, Local, Awake}
@@ -13,7 +14,8 @@ use Rattle.est_kernel.proofs.Sets.{except-parts, maxima-in, maxima-parts, lowere
 use Rattle.est_kernel.proofs.PotentialLaws.{can_lies_in_may_lem}
 use Rattle.est_kernel.proofs.CodeLaws.{may_keeps_static_codes_lem}
 use Rattle.grc_graph.specs.Walk.{Walk, Values, with_value, truth, ended, then_walk, both_walks, trapped_walk, hidden_walk}
-use Rattle.grc_sem.proofs.Choices.{Sound, Decides, InMay, decides_later, decides_from, completes_sound, completes_decides, chosen_sound, chosen_decides, sequence_signals-parts, turn_sound, turn_decides, both_sound, both_decides, trapped_sound, trapped_decides}
+use Rattle.grc_sem.proofs.Choices.{Sound, Decides, InMay, decides_later, decides_from, completes_sound, completes_decides, chosen_sound, chosen_decides}
+use Rattle.grc_sem.proofs.Choices.{sequence_signals-parts, turn_sound, turn_decides, both_sound, both_decides, trapped_sound, trapped_decides}
 
 -- what is known of the signals is their value
 pub record Below (E : Environment) (v : Values) : Type 0 where
@@ -133,7 +135,8 @@ place_code {t} {v} {r} {re} {w} {g} nl p =
     static_code t nl (λ s. Unknown) w.code (p.sound (λ s. Unknown) (unknown_below v)).can_code
 
 -- leaves
-pub leaf_after : (c : ℕ) {t : Term} {r re : ℕ → ℕ} {g : ℕ} → ((E : Environment) (s : ℕ) → (may t E).signals s ≡ true → g ≤ r s) → ((k : ℕ) → started_codes t k ≡ true → g ≤ re k) → After t r g re
+pub leaf_after : (c : ℕ) {t : Term} {r re : ℕ → ℕ} {g : ℕ} → ((E : Environment) (s : ℕ) → (may t E).signals s ≡ true → g ≤ r s) →
+    ((k : ℕ) → started_codes t k ≡ true → g ≤ re k) → After t r g re
 leaf_after c f h = record { codes = h; signals = f }
 
 pub nothing_place : {v : Values} {r re : ℕ → ℕ} {g : ℕ} → g ≤ re 0 → Place Nothing v r (ended 0) g re
@@ -158,7 +161,8 @@ exit_place c {v} {r} {re} {g} h =
       decides = λ n E b. completes_decides c n r re;
     }
 
-pub pause_place : (kept : ℕ → Bool) {v : Values} {r re : ℕ → ℕ} {g : ℕ} → g ≤ re 1 → Place Pause v r (record { signals = λ t. false; code = 1; kept = kept }) g re
+pub pause_place : (kept : ℕ → Bool) {v : Values} {r re : ℕ → ℕ} {g : ℕ} → g ≤ re 1 →
+    Place Pause v r (record { signals = λ t. false; code = 1; kept = kept }) g re
 pause_place kept {v} {r} {re} {g} h =
     record {
       after = record {
@@ -178,7 +182,8 @@ pause_place kept {v} {r} {re} {g} h =
           };
     }
 
-pub emit_place : (s : ℕ) {v : Values} {r re : ℕ → ℕ} {g : ℕ} → g ≤ re 0 → g ≤ r s → Place (Emit s) v r (record { signals = λ t. t == s; code = 0; kept = λ m. false }) g re
+pub emit_place : (s : ℕ) {v : Values} {r re : ℕ → ℕ} {g : ℕ} → g ≤ re 0 → g ≤ r s →
+    Place (Emit s) v r (record { signals = λ t. t == s; code = 0; kept = λ m. false }) g re
 emit_place s {v} {r} {re} {g} h f =
     record {
       after = record {
@@ -197,7 +202,8 @@ emit_place s {v} {r} {re} {g} h f =
     }
 
 -- the same potentials under another rank of the start and later ranks of the ends
-pub later_place : {t : Term} {v : Values} {r rp re : ℕ → ℕ} {w : Walk} {g gp : ℕ} → NoInstantLoop t → g ≤ gp → Leads (started_codes t) rp re → Place t v r w gp rp → Place t v r w g re
+pub later_place : {t : Term} {v : Values} {r rp re : ℕ → ℕ} {w : Walk} {g gp : ℕ} → NoInstantLoop t → g ≤ gp → Leads (started_codes t) rp re →
+    Place t v r w gp rp → Place t v r w g re
 later_place {t} {v} {r} {rp} {re} {w} {g} {gp} nl l k p =
     record {
       after = record {
@@ -237,7 +243,8 @@ chosen_signals Plus a b s h = inl h
 chosen_signals Minus a b s h = inr h
 chosen_signals Unknown a b s h = or_cases ((a May).signals s) ((b May).signals s) h
 
-pub present_after : (e : Expression) {p q : Term} {r rp rq re : ℕ → ℕ} {g gp gq : ℕ} → g ≤ gp → g ≤ gq → Leads (started_codes p) rp re → Leads (started_codes q) rq re → After p r gp rp → After q r gq rq → After (Present e p q) r g re
+pub present_after : (e : Expression) {p q : Term} {r rp rq re : ℕ → ℕ} {g gp gq : ℕ} → g ≤ gp → g ≤ gq → Leads (started_codes p) rp re →
+    Leads (started_codes q) rq re → After p r gp rp → After q r gq rq → After (Present e p q) r g re
 present_after e {p} {q} {r} {rp} {rq} {re} {g} {gp} {gq} l m j k a b =
     record {
       codes = λ c h.
@@ -252,17 +259,21 @@ present_after e {p} {q} {r} {rp} {rq} {re} {g} {gp} {gq} l m j k a b =
           (chosen_signals (value e E) (potential p E) (potential q E) s h);
     }
 
-choice_codes : (x : Status) (a b : Potentials) (k : ℕ) → InMay a → InMay b → (chosen x a b Can).codes k ≡ true → ((a May).codes k ≡ true) ⊎ ((b May).codes k ≡ true)
+choice_codes : (x : Status) (a b : Potentials) (k : ℕ) → InMay a → InMay b → (chosen x a b Can).codes k ≡ true →
+    ((a May).codes k ≡ true) ⊎ ((b May).codes k ≡ true)
 choice_codes Plus a b k i j h = inl (i.codes k h)
 choice_codes Minus a b k i j h = inr (j.codes k h)
 choice_codes Unknown a b k i j h = or_cases ((a May).codes k) ((b May).codes k) h
 
-choice_signals : (x : Status) (a b : Potentials) (s : ℕ) → InMay a → InMay b → (chosen x a b Can).signals s ≡ true → ((a May).signals s ≡ true) ⊎ ((b May).signals s ≡ true)
+choice_signals : (x : Status) (a b : Potentials) (s : ℕ) → InMay a → InMay b → (chosen x a b Can).signals s ≡ true →
+    ((a May).signals s ≡ true) ⊎ ((b May).signals s ≡ true)
 choice_signals Plus a b s i j h = inl (i.signals s h)
 choice_signals Minus a b s i j h = inr (j.signals s h)
 choice_signals Unknown a b s i j h = or_cases ((a May).signals s) ((b May).signals s) h
 
-pub present_place : (e : Expression) {p q : Term} {v : Values} {r rp rq re : ℕ → ℕ} {w : Walk} {g gp gq : ℕ} → NoInstantLoop p → NoInstantLoop q → g ≤ gp → g ≤ gq → Tested e r gp → Tested e r gq → Leads (started_codes p) rp re → Leads (started_codes q) rq re → After p r gp rp → After q r gq rq → (truth e v ≡ true → Place p v r w gp rp) → (truth e v ≡ false → Place q v r w gq rq) → Place (Present e p q) v r w g re
+pub present_place : (e : Expression) {p q : Term} {v : Values} {r rp rq re : ℕ → ℕ} {w : Walk} {g gp gq : ℕ} → NoInstantLoop p → NoInstantLoop q → g ≤ gp →
+    g ≤ gq → Tested e r gp → Tested e r gq → Leads (started_codes p) rp re → Leads (started_codes q) rq re → After p r gp rp → After q r gq rq →
+    (truth e v ≡ true → Place p v r w gp rp) → (truth e v ≡ false → Place q v r w gq rq) → Place (Present e p q) v r w g re
 present_place e {p} {q} {v} {r} {rp} {rq} {re} {w} {g} {gp} {gq} np nq l m tp tq j k a b f h =
     record {
       after = present_after e l m j k a b;
@@ -302,7 +313,8 @@ present_place e {p} {q} {v} {r} {rp} {rq} {re} {w} {g} {gp} {gq} np nq l m tp tq
 pub awake_after : (e : Expression) {p : Term} {r re : ℕ → ℕ} {g : ℕ} → After (Present e Pause p) r g re → After (Awake e p) r g re
 awake_after e a = record { codes = a.codes; signals = a.signals }
 
-pub awake_place : (e : Expression) {p : Term} {v : Values} {r re : ℕ → ℕ} {w : Walk} {g : ℕ} → Place (Present e Pause p) v r w g re → Place (Awake e p) v r w g re
+pub awake_place : (e : Expression) {p : Term} {v : Values} {r re : ℕ → ℕ} {w : Walk} {g : ℕ} → Place (Present e Pause p) v r w g re →
+    Place (Awake e p) v r w g re
 awake_place e p = record { after = awake_after e p.after; sound = p.sound; decides = p.decides }
 
 -- a sequence; its second part counts where the first can terminate
@@ -311,7 +323,8 @@ pub record Second (p q : Term) (r rp rq re : ℕ → ℕ) (gq : ℕ) : Type 0 wh
   pub ends : Leads (started_codes q) rq re
   pub after : After q r gq rq
 
-pub seq_after : {p q : Term} {r rp rq re : ℕ → ℕ} {g gp gq : ℕ} → NoInstantLoop p → g ≤ gp → ((k : ℕ) → started_codes p k ≡ true → (k ≡ 0 → ⊥) → rp k ≤ re k) → After p r gp rp → (started_codes p 0 ≡ true → Second p q r rp rq re gq) → After (Seq p q) r g re
+pub seq_after : {p q : Term} {r rp rq re : ℕ → ℕ} {g gp gq : ℕ} → NoInstantLoop p → g ≤ gp → ((k : ℕ) → started_codes p k ≡ true → (k ≡ 0 → ⊥) → rp k ≤ re k) →
+    After p r gp rp → (started_codes p 0 ≡ true → Second p q r rp rq re gq) → After (Seq p q) r g re
 seq_after {p} {q} {r} {rp} {rq} {re} {g} {gp} {gq} np l j a f =
     record {
       codes = λ c.
@@ -335,7 +348,9 @@ seq_after {p} {q} {r} {rp} {rq} {re} {g} {gp} {gq} np l j a f =
           (sequence_signals-parts May (may p E) (may q E) s h);
     }
 
-pub seq_place : {p q : Term} {v : Values} {r rp rq re : ℕ → ℕ} {x y : Walk} {g gp gq : ℕ} → NoInstantLoop p → NoInstantLoop q → g ≤ gp → ((k : ℕ) → started_codes p k ≡ true → (k ≡ 0 → ⊥) → rp k ≤ re k) → Place p v r x gp rp → (started_codes p 0 ≡ true → Second p q r rp rq re gq) → (x.code ≡ 0 → Place q v r y gq rq) → Place (Seq p q) v r (then_walk x y) g re
+pub seq_place : {p q : Term} {v : Values} {r rp rq re : ℕ → ℕ} {x y : Walk} {g gp gq : ℕ} → NoInstantLoop p → NoInstantLoop q → g ≤ gp →
+    ((k : ℕ) → started_codes p k ≡ true → (k ≡ 0 → ⊥) → rp k ≤ re k) → Place p v r x gp rp → (started_codes p 0 ≡ true → Second p q r rp rq re gq) →
+    (x.code ≡ 0 → Place q v r y gq rq) → Place (Seq p q) v r (then_walk x y) g re
 seq_place {p} {q} {v} {r} {rp} {rq} {re} {x} {y} {g} {gp} {gq} np nq l j a f h =
     record {
       after = seq_after np l j a.after f;
@@ -358,7 +373,8 @@ seq_place {p} {q} {v} {r} {rp} {rq} {re} {x} {y} {g} {gp} {gq} np nq l j a f h =
 abbrev pub Joins : (A C : ℕ → Bool) (rp re : ℕ → ℕ) → Type 0
 Joins A C rp re = (i k : ℕ) → A i ≡ true → C k ≡ true → i ≤ k → rp i ≤ re k
 
-pub par_after : {p q : Term} {r rp rq re : ℕ → ℕ} {g gp gq : ℕ} → g ≤ gp → g ≤ gq → Joins (started_codes p) (started_codes (Par p q)) rp re → After p r gp rp → After q r gq rq → After (Par p q) r g re
+pub par_after : {p q : Term} {r rp rq re : ℕ → ℕ} {g gp gq : ℕ} → g ≤ gp → g ≤ gq → Joins (started_codes p) (started_codes (Par p q)) rp re → After p r gp rp →
+    After q r gq rq → After (Par p q) r g re
 par_after {p} {q} {r} {rp} {rq} {re} {g} {gp} {gq} l m j a b =
     record {
       codes = λ c h.
@@ -370,7 +386,9 @@ par_after {p} {q} {r} {rp} {rq} {re} {g} {gp} {gq} l m j a b =
           (or_cases ((may p E).signals s) ((may q E).signals s) h);
     }
 
-pub par_place : {p q : Term} {v : Values} {r rp rq re : ℕ → ℕ} {x y : Walk} {g gp gq : ℕ} → NoInstantLoop p → NoInstantLoop q → g ≤ gp → g ≤ gq → Joins (started_codes p) (started_codes (Par p q)) rp re → Joins (started_codes q) (started_codes (Par p q)) rq re → Place p v r x gp rp → Place q v r y gq rq → Place (Par p q) v r (both_walks x y) g re
+pub par_place : {p q : Term} {v : Values} {r rp rq re : ℕ → ℕ} {x y : Walk} {g gp gq : ℕ} → NoInstantLoop p → NoInstantLoop q → g ≤ gp → g ≤ gq →
+    Joins (started_codes p) (started_codes (Par p q)) rp re → Joins (started_codes q) (started_codes (Par p q)) rq re → Place p v r x gp rp →
+    Place q v r y gq rq → Place (Par p q) v r (both_walks x y) g re
 par_place {p} {q} {v} {r} {rp} {rq} {re} {x} {y} {g} {gp} {gq} np nq l m j k a b =
     record {
       after = par_after l m j a.after b.after;
@@ -398,7 +416,8 @@ trap_after {p} {r} {rp} {re} {g} {gp} l j a =
       signals = λ E s h. omega (arith, a.signals E s h);
     }
 
-pub trap_place : {p : Term} {v : Values} {r rp re : ℕ → ℕ} {x : Walk} {g gp : ℕ} → NoInstantLoop p → g ≤ gp → LeadsTrapped (started_codes p) rp re → Place p v r x gp rp → Place (Trap p) v r (trapped_walk x) g re
+pub trap_place : {p : Term} {v : Values} {r rp re : ℕ → ℕ} {x : Walk} {g gp : ℕ} → NoInstantLoop p → g ≤ gp → LeadsTrapped (started_codes p) rp re →
+    Place p v r x gp rp → Place (Trap p) v r (trapped_walk x) g re
 trap_place {p} {v} {r} {rp} {re} {x} {g} {gp} np l j a =
     record {
       after = trap_after l j a.after;
@@ -415,7 +434,8 @@ status_below false true b f g = tt
 status_below false false true f g = absurd (false≢true (g refl))
 status_below false false false f g = refl
 
-status_known : (m c b : Bool) → (b ≡ true → m ≡ true) → (m ≡ true → b ≡ true) → (c ≡ true → b ≡ true) → (b ≡ true → c ≡ true) → cond m Plus (cond c Unknown Minus) ≡ known b
+status_known : (m c b : Bool) → (b ≡ true → m ≡ true) → (m ≡ true → b ≡ true) → (c ≡ true → b ≡ true) → (b ≡ true → c ≡ true) →
+    cond m Plus (cond c Unknown Minus) ≡ known b
 status_known true c true f g h i = refl
 status_known true c false f g h i = absurd (false≢true (g refl))
 status_known false c true f g h i = absurd (false≢true (f refl))
@@ -429,11 +449,13 @@ below_both false x y b c h g = g
 pub with_below : {E : Environment} {v : Values} (s : ℕ) (x : Status) (b : Bool) → Below E v → IsBelow x (known b) → Below (with_status E s x) (with_value v s b)
 with_below {E} {v} s x b h g = record { statuses = λ t. below_both (t == s) x (E t) b (v t) g (h.statuses t) }
 
-settled_both : (d : Bool) (x y : Status) (b c : Bool) (m i k : ℕ) → (m < k → x ≡ known b) → (i < k → y ≡ known c) → cond d m i < k → cond d x y ≡ known (cond d b c)
+settled_both : (d : Bool) (x y : Status) (b c : Bool) (m i k : ℕ) → (m < k → x ≡ known b) → (i < k → y ≡ known c) → cond d m i < k →
+    cond d x y ≡ known (cond d b c)
 settled_both true x y b c m i k f g h = f h
 settled_both false x y b c m i k f g h = g h
 
-pub with_settled : {E : Environment} {v : Values} {r : ℕ → ℕ} (s : ℕ) (x : Status) (b : Bool) (m n k : ℕ) → k ≤ n → Knows E v n r → (m < k → x ≡ known b) → IsBelow x (known b) → Knows (with_status E s x) (with_value v s b) k (with_rank r s m)
+pub with_settled : {E : Environment} {v : Values} {r : ℕ → ℕ} (s : ℕ) (x : Status) (b : Bool) (m n k : ℕ) → k ≤ n → Knows E v n r → (m < k → x ≡ known b) →
+    IsBelow x (known b) → Knows (with_status E s x) (with_value v s b) k (with_rank r s m)
 with_settled {E} {v} {r} s x b m n k l h f g =
     record {
       below = with_below s x b h.below g;
@@ -441,7 +463,8 @@ with_settled {E} {v} {r} s x b m n k l h f g =
     }
 
 -- the status that the potentials of the body give to the signal, from its place
-pub decision_below : (r : ℕ → ℕ) {p : Term} {v : Values} {rp : ℕ → ℕ} {x : Walk} {gp : ℕ} (s m : ℕ) (b : Bool) → b ≡ x.signals s → Place p (with_value v s b) (with_rank r s m) x gp rp → (E : Environment) → Below E v → IsBelow (decided p E s) (known b)
+pub decision_below : (r : ℕ → ℕ) {p : Term} {v : Values} {rp : ℕ → ℕ} {x : Walk} {gp : ℕ} (s m : ℕ) (b : Bool) → b ≡ x.signals s →
+    Place p (with_value v s b) (with_rank r s m) x gp rp → (E : Environment) → Below E v → IsBelow (decided p E s) (known b)
 decision_below r {p} {v} {rp} {x} {gp} s m b e a E h =
     let d = a.sound (with_status E s Unknown) (with_below s Unknown b h tt) in
     status_below _ _ b (λ c. e ∙ d.must_signal s c) (λ c. d.can_signal s (sym e ∙ c))
@@ -449,7 +472,8 @@ decision_below r {p} {v} {rp} {x} {gp} s m b e a E h =
 own_rank : (r : ℕ → ℕ) (s m : ℕ) → with_rank r s m s ≤ m
 own_rank r s m = cond_both (s == s) m (r s) (λ i. i ≤ m) (λ c. omega arith) (λ c. absurd (false≢true (sym c ∙ eq-eqb s s refl)))
 
-pub decision_is : {p : Term} {v : Values} {r rp : ℕ → ℕ} {x : Walk} {gp : ℕ} (s m : ℕ) (b : Bool) → b ≡ x.signals s → Place p (with_value v s b) (with_rank r s m) x gp rp → (E : Environment) (n : ℕ) → m ≤ n → Knows E v n r → decided p E s ≡ known b
+pub decision_is : {p : Term} {v : Values} {r rp : ℕ → ℕ} {x : Walk} {gp : ℕ} (s m : ℕ) (b : Bool) → b ≡ x.signals s →
+    Place p (with_value v s b) (with_rank r s m) x gp rp → (E : Environment) (n : ℕ) → m ≤ n → Knows E v n r → decided p E s ≡ known b
 decision_is {p} {v} {r} {rp} {x} {gp} s m b e a E n l h =
     let k = with_settled s Unknown b m n m l h (λ c. absurd (omega arith)) tt in
     let d = a.decides m (with_status E s Unknown) k in
@@ -463,7 +487,8 @@ without r s m t h P =
     cond_both (t == s) m (r t) (λ i. P i → P (r t)) (λ c. absurd (false≢true (sym (not-true _ (sym (ap not c) ∙ h)) ∙ refl)))
     (λ c i. i)
 
-pub local_after : (s m : ℕ) {p : Term} {r rp re : ℕ → ℕ} {g gp : ℕ} → g ≤ gp → Leads (started_codes p) rp re → After p (with_rank r s m) gp rp → After (Local s p) r g re
+pub local_after : (s m : ℕ) {p : Term} {r rp re : ℕ → ℕ} {g gp : ℕ} → g ≤ gp → Leads (started_codes p) rp re → After p (with_rank r s m) gp rp →
+    After (Local s p) r g re
 local_after s m {p} {r} {rp} {re} {g} {gp} l j a =
     record {
       codes = λ c h. omega (arith, a.codes c h, j c h);
@@ -473,7 +498,8 @@ local_after s m {p} {r} {rp} {re} {g} {gp} l j a =
           omega arith;
     }
 
-pub local_place : (s m : ℕ) (b : Bool) {p : Term} {v : Values} {r rp re : ℕ → ℕ} {x : Walk} {g gp : ℕ} → NoInstantLoop p → b ≡ x.signals s → g ≤ gp → Leads (started_codes p) rp re → Place p (with_value v s b) (with_rank r s m) x gp rp → Place (Local s p) v r (hidden_walk s x) g re
+pub local_place : (s m : ℕ) (b : Bool) {p : Term} {v : Values} {r rp re : ℕ → ℕ} {x : Walk} {g gp : ℕ} → NoInstantLoop p → b ≡ x.signals s → g ≤ gp →
+    Leads (started_codes p) rp re → Place p (with_value v s b) (with_rank r s m) x gp rp → Place (Local s p) v r (hidden_walk s x) g re
 local_place s m b {p} {v} {r} {rp} {re} {x} {g} {gp} np e l j a =
     record {
       after = local_after s m l j a.after;

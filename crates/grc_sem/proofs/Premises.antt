@@ -33,8 +33,11 @@ most_of rank (e ∷ es) = max (rank e.to) (most_of rank es)
 below_most : (rank : Wire → ℕ) (es : List Edge) → Every (λ e. rank e.to ≤ most_of rank es) es
 unfolding most_of
 below_most rank [] = tt
-below_most rank (e ∷ es) =
-    (omega arith, every_from (λ x. rank x.to ≤ most_of rank es) (λ x. rank x.to ≤ max (rank e.to) (most_of rank es)) es (λ x h. omega (arith, h)) (below_most rank es))
+below_most rank (e ∷ es) = (
+  omega arith,
+  every_from (λ x. rank x.to ≤ most_of rank es) (λ x. rank x.to ≤ max (rank e.to) (most_of rank es)) es (λ x h. omega (arith, h))
+      (below_most rank es),
+)
 
 -- a rank, and at most this
 pub cap : ℕ → ℕ → ℕ

@@ -56,33 +56,39 @@ InScope B (Trap p) = InScope B p
 InScope B (Local s p) = (m : ℕ) → InScope (bind B s m) p
 InScope B (Awake e p) = Unit {0}
 
-read_rank : (R : Wire → ℕ) (N : ℕ) (b : Binding) (s : ℕ) (l : Layer) (w : Wire) → has_value b ≡ true → FromStatus (Up R) (status_wire b s l) w → 0 < R w → binding_rank R N b s l < R w
+read_rank : (R : Wire → ℕ) (N : ℕ) (b : Binding) (s : ℕ) (l : Layer) (w : Wire) → has_value b ≡ true → FromStatus (Up R) (status_wire b s l) w → 0 < R w →
+    binding_rank R N b s l < R w
 read_rank R N Entering s l w h f z = z
 read_rank R N Outgoing s l w h f z = f
 read_rank R N (BoundAt b) s l w h f z = f
 read_rank R N Unbound s l w h f z = absurd (false≢true h)
 
-pub tested : (R : Wire → ℕ) (N : ℕ) (B : Scope) (e : Expression) (l : Layer) (w : Wire) (r : ℕ → ℕ) → Ranks R N B l r → TestInScope B e → Reads (Up R) B e l w → 0 < R w → Tested e r (R w)
+pub tested : (R : Wire → ℕ) (N : ℕ) (B : Scope) (e : Expression) (l : Layer) (w : Wire) (r : ℕ → ℕ) → Ranks R N B l r → TestInScope B e → Reads (Up R) B e l w →
+    0 < R w → Tested e r (R w)
 tested R N B Tick l w r k h f z = tt
 tested R N B (Sig s) l w r k h f z = let a = read_rank R N (B s) s l w h f z in omega (arith, k.each s)
 tested R N B (Not a) l w r k h f z = tested R N B a l w r k h f z
 tested R N B (And a b) l w r k h f z = (tested R N B a l w r k h.0 f.0 z, tested R N B b l w r k h.1 f.1 z)
 tested R N B (Or a b) l w r k h f z = (tested R N B a l w r k h.0 f.0 z, tested R N B b l w r k h.1 f.1 z)
 
-emit_rank : (R : Wire → ℕ) (N : ℕ) (b : Binding) (s : ℕ) (l : Layer) (g : Wire) → has_status b ≡ true → ToStatus (Up R) g (status_wire b s l) → R g < binding_rank R N b s l
+emit_rank : (R : Wire → ℕ) (N : ℕ) (b : Binding) (s : ℕ) (l : Layer) (g : Wire) → has_status b ≡ true → ToStatus (Up R) g (status_wire b s l) →
+    R g < binding_rank R N b s l
 emit_rank R N Entering s l g h f = absurd (false≢true h)
 emit_rank R N Outgoing s l g h f = f
 emit_rank R N (BoundAt b) s l g h f = f
 emit_rank R N Unbound s l g h f = absurd (false≢true h)
 
-pub emitted_rank : (R : Wire → ℕ) (N : ℕ) (B : Scope) (s : ℕ) (l : Layer) (g : Wire) (r : ℕ → ℕ) → Ranks R N B l r → has_status (B s) ≡ true → ToStatus (Up R) g (status_wire (B s) s l) → R g < r s
+pub emitted_rank : (R : Wire → ℕ) (N : ℕ) (B : Scope) (s : ℕ) (l : Layer) (g : Wire) (r : ℕ → ℕ) → Ranks R N B l r → has_status (B s) ≡ true →
+    ToStatus (Up R) g (status_wire (B s) s l) → R g < r s
 emitted_rank R N B s l g r k h f = let a = emit_rank R N (B s) s l g h f in omega (arith, k.each s)
 
-bound_rank : (R : Wire → ℕ) (N : ℕ) (d : Bool) (n s : ℕ) (l : Layer) (b : Binding) (x : ℕ) → layer_above n l ≡ l → x ≡ binding_rank R N b s l → cond d (R (StatusOf n l)) x ≡ binding_rank R N (cond d (BoundAt n) b) s l
+bound_rank : (R : Wire → ℕ) (N : ℕ) (d : Bool) (n s : ℕ) (l : Layer) (b : Binding) (x : ℕ) → layer_above n l ≡ l → x ≡ binding_rank R N b s l →
+    cond d (R (StatusOf n l)) x ≡ binding_rank R N (cond d (BoundAt n) b) s l
 bound_rank R N true n s l b x e h = ap (λ j. R (StatusOf n j)) (sym e)
 bound_rank R N false n s l b x e h = h
 
-pub ranks_more : (R : Wire → ℕ) (N : ℕ) (B : Scope) (n s : ℕ) (l : Layer) (r : ℕ → ℕ) → layer_above n l ≡ l → Ranks R N B l r → Ranks R N (bind B s n) l (with_rank r s (R (StatusOf n l)))
+pub ranks_more : (R : Wire → ℕ) (N : ℕ) (B : Scope) (n s : ℕ) (l : Layer) (r : ℕ → ℕ) → layer_above n l ≡ l → Ranks R N B l r →
+    Ranks R N (bind B s n) l (with_rank r s (R (StatusOf n l)))
 ranks_more R N B n s l r e k =
     record { each = λ t. bound_rank R N (t == s) n t l (B t) (r t) e (k.each t) }
 

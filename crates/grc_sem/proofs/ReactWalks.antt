@@ -1,6 +1,7 @@
 -- One reaction: where the wires are those of the walk and ranks go up along each edge, what is left of the body reacts
 -- constructively, with the answer of the walk, and leaves what the kept pauses leave.
-use Rattle.std.proofs.Common.{◌≡◌, ℕ, zero, suc, ◌+◌, ◌<◌, ◌≤◌, Bool, true, false, not, ◌||◌, cond, ltb, List, [], ◌∷◌, length, map, filter, Option, Some, None, refl, sym, ap, ◌∙◌, subst, ⊎_elim, arith}
+use Rattle.std.proofs.Common.{◌≡◌, ℕ, zero, suc, ◌+◌, ◌<◌, ◌≤◌, Bool, true, false, not, ◌||◌, cond, ltb, List, [], ◌∷◌, length, map, filter, Option, Some, None}
+use Rattle.std.proofs.Common.{refl, sym, ap, ◌∙◌, subst, ⊎_elim, arith}
 use Rattle.std.specs.List.{range_with_len, slice_get}
 use Rattle.std.proofs.lemmas.Bool.{or_left, cond_both, false≢true, cond-true, cond-false, ltb-true, lt-ltb, cases_lt}
 use Rattle.std.proofs.lemmas.List.{get_or_past}
@@ -129,7 +130,8 @@ range_differ keep a (suc k) =
     (λ e. range_differ keep (a + 1) k)
 
 -- the signals that are kept are emitted as their values say
-emitted_kept : (keep : ℕ → Bool) (v : Values) (w : Walk) (r : ℕ → ℕ) (N : ℕ) (os : List ℕ) → EachOne (λ o. (keep o ≡ true → v o ≡ w.signals o) × (r o ≤ N)) os → Emitted v w r N (filter keep os)
+emitted_kept : (keep : ℕ → Bool) (v : Values) (w : Walk) (r : ℕ → ℕ) (N : ℕ) (os : List ℕ) → EachOne (λ o. (keep o ≡ true → v o ≡ w.signals o) × (r o ≤ N)) os →
+    Emitted v w r N (filter keep os)
 emitted_kept keep v w r N [] f = tt
 emitted_kept keep v w r N (o ∷ os) f =
     cond_both (keep o) (o ∷ filter keep os) (filter keep os) (λ l. Emitted v w r N l)
@@ -154,8 +156,10 @@ pub record Solution (inputs outs : ℕ) (body : Term) (R : Wire → ℕ) (N : �
   pub state : IsState q body
   pub width : (inputs ≤ length event) × (length event ≤ inputs + outs)
   pub started_wires : q ≡ Initial → StartedWalked V body 0 (Started 0) (seen_values (is_given event) V (program_scope inputs (inputs + outs)) Resumed) true
-  pub resumed_wires : (S : ℕ → Bool) → q ≡ Selecting S → has_code (resumed_codes body) ≡ true → ResumedWalked V S body 0 (seen_values (is_given event) V (program_scope inputs (inputs + outs)) Resumed) (holds S body 0)
-  pub outputs : (o : ℕ) → inputs ≤ o → o < inputs + outs → V (Out o) ≡ (is_given event o || (body_walk (statuses V) q body (seen_values (is_given event) V (program_scope inputs (inputs + outs)) Resumed)).signals o)
+  pub resumed_wires : (S : ℕ → Bool) → q ≡ Selecting S → has_code (resumed_codes body) ≡ true →
+      ResumedWalked V S body 0 (seen_values (is_given event) V (program_scope inputs (inputs + outs)) Resumed) (holds S body 0)
+  pub outputs : (o : ℕ) → inputs ≤ o → o < inputs + outs → V (Out o) ≡
+      (is_given event o || (body_walk (statuses V) q body (seen_values (is_given event) V (program_scope inputs (inputs + outs)) Resumed)).signals o)
 
 -- a term t that is left of a body, in its walk
 record Left (body : Term) (N : ℕ) (t : Term) (v : Values) (r : ℕ → ℕ) (w : Walk) : Type 0 where
@@ -169,7 +173,8 @@ nothing_left : (body : Term) → Nothing ≡ resumption (λ m. false) body
 nothing_left body =
     ap (λ b. left_if b (residual (λ m. false) body 0)) (sym (holds_none (λ m. false) body 0 (λ m l u. refl)))
 
-left_held : (body : Term) (N : ℕ) (c : Bool) (t : Term) (v : Values) (r : ℕ → ℕ) (w : Walk) → (c ≡ true → Left body N t v r w) → Left body N (left_if c t) v r (cond c w (ended 0))
+left_held : (body : Term) (N : ℕ) (c : Bool) (t : Term) (v : Values) (r : ℕ → ℕ) (w : Walk) → (c ≡ true → Left body N t v r w) →
+    Left body N (left_if c t) v r (cond c w (ended 0))
 left_held body N true t v r w f = f refl
 left_held body N false t v r w f =
     let least : 0 ≤ 0 = omega arith in
@@ -202,7 +207,9 @@ module _ (inputs outs : ℕ) (body : Term) (R : Wire → ℕ) (N : ℕ) where
   layer_free (BoundAt c) s h = absurd (h c refl)
   layer_free Unbound s h = refl
 
-  left_of : (event : List Bool) (V : Valuation) (q : State) → Solution inputs outs body R N q event V → Left body N (remaining q body) (seen_values (is_given event) V B Resumed) ranks_of (body_walk (statuses V) q body (seen_values (is_given event) V B Resumed))
+  left_of : (event : List Bool) (V : Valuation) (q : State) → Solution inputs outs body R N q event V →
+      Left body N (remaining q body) (seen_values (is_given event) V B Resumed) ranks_of
+      (body_walk (statuses V) q body (seen_values (is_given event) V B Resumed))
   left_of event V Initial s =
       let v = seen_values (is_given event) V B Resumed in
       let ranks : Ranks R N B (Started 0) ranks_of =
@@ -214,7 +221,8 @@ module _ (inputs outs : ℕ) (body : Term) (R : Wire → ℕ) (N : ℕ) where
         re = _;
         place = started_place R N V body B body_entry 0 0 ranks_of v true zero_least s.loops s.kernel s.scope s.started_rows ranks (s.started_wires refl) refl;
         steps = λ E k.
-            let x = started_step R N s.most V body B body_entry 0 0 ranks_of v true E zero_least s.loops s.kernel s.scope s.started_rows ranks (s.started_wires refl) refl k in
+            let x = started_step R N s.most V body B body_entry 0 0 ranks_of v true E zero_least s.loops s.kernel s.scope s.started_rows ranks
+            (s.started_wires refl) refl k in
             (x.done, x.is, x.code, x.left _ (record { at = λ m l u. refl }));
       }
   left_of event V (Selecting S) s =
@@ -226,14 +234,16 @@ module _ (inputs outs : ℕ) (body : Term) (R : Wire → ℕ) (N : ℕ) where
       let sel = s.state h in
       let live = resumed_live S body 0 s.loops s.kernel h sel in
       let wires = s.resumed_wires S refl live in
-      let place = resumed_place R N S V body B body_entry 0 ranks_of v (holds S body 0) s.loops s.kernel s.scope above h sel (s.resumed_rows live) ranks wires h in
+      let place = resumed_place R N S V body B body_entry 0 ranks_of v (holds S body 0) s.loops s.kernel s.scope above h sel
+      (s.resumed_rows live) ranks wires h in
       record {
         loops = residual_static S body 0 s.loops;
         g = _;
         re = _;
         place = place;
         steps = λ E k.
-            let x = resumed_step R N s.most S V body B body_entry 0 ranks_of v (holds S body 0) E s.loops s.kernel s.scope above h sel (s.resumed_rows live) ranks wires h k in
+            let x = resumed_step R N s.most S V body B body_entry 0 ranks_of v (holds S body 0) E s.loops s.kernel s.scope above h sel
+            (s.resumed_rows live) ranks wires h k in
             (x.done, x.is, x.code, x.left _ (record { at = λ m l u. refl }));
       })
 
@@ -261,7 +271,8 @@ module _ (inputs outs : ℕ) (body : Term) (R : Wire → ℕ) (N : ℕ) where
   not_enters o l = cond_both (ltb o inputs) true false (λ x. ltb o inputs ≡ false) (λ e. let i = ltb-true o inputs e in absurd (omega arith)) (λ e. e)
 
   -- what the event says at the start
-  start_below : (event : List Bool) (V : Valuation) (q : State) → Solution inputs outs body R N q event V → (o : ℕ) → InPart inputs (inputs + outs) o (B o) → IsBelow (environment_of inputs event o) (known (seen_values (is_given event) V B Resumed o))
+  start_below : (event : List Bool) (V : Valuation) (q : State) → Solution inputs outs body R N q event V → (o : ℕ) → InPart inputs (inputs + outs) o (B o) →
+      IsBelow (environment_of inputs event o) (known (seen_values (is_given event) V B Resumed o))
   start_below event V q s o (enters l h) =
       known_below _ _
       (cond-true (ltb o inputs) _ _ (lt-ltb o inputs l) ∙ input_known _ _ (given_value event o (omega (arith, s.width.0)))
@@ -275,7 +286,9 @@ module _ (inputs outs : ℕ) (body : Term) (R : Wire → ℕ) (N : ℕ) where
       subst (λ x. IsBelow x (known (seen_values (is_given event) V B Resumed o)))
       (sym (cond-false (ltb o inputs) _ _ (not_enters o (omega arith)) ∙ ap status_of_other (slice_get_past event o (omega (arith, s.width.1))))) tt
 
-  start_known : (event : List Bool) (V : Valuation) (q : State) → Solution inputs outs body R N q event V → (o : ℕ) → NotAmong o (filter (λ i. not (is_given event i)) (range_with_len inputs outs)) → ranks_of o < N → InPart inputs (inputs + outs) o (B o) → environment_of inputs event o ≡ known (seen_values (is_given event) V B Resumed o)
+  start_known : (event : List Bool) (V : Valuation) (q : State) → Solution inputs outs body R N q event V → (o : ℕ) →
+      NotAmong o (filter (λ i. not (is_given event i)) (range_with_len inputs outs)) → ranks_of o < N → InPart inputs (inputs + outs) o (B o) →
+      environment_of inputs event o ≡ known (seen_values (is_given event) V B Resumed o)
   start_known event V q s o n r (enters l h) =
       cond-true (ltb o inputs) _ _ (lt-ltb o inputs l) ∙ input_known _ _ (given_value event o (omega (arith, s.width.0)))
       ∙ ap (λ b. known (seen_value (is_given event) V b o Resumed)) (sym h)
@@ -289,7 +302,8 @@ module _ (inputs outs : ℕ) (body : Term) (R : Wire → ℕ) (N : ℕ) where
   start_known event V q s o n r (unbound l h) =
       let e : ranks_of o ≡ N = ap (λ b. binding_rank R N b o Resumed) h in absurd (omega arith)
 
-  pub react_held : (event : List Bool) (V : Valuation) (q : State) → Solution inputs outs body R N q event V → react (record { inputs = inputs; outgoing = range_with_len inputs outs }) (remaining q body) event
+  pub react_held : (event : List Bool) (V : Valuation) (q : State) → Solution inputs outs body R N q event V →
+      react (record { inputs = inputs; outgoing = range_with_len inputs outs }) (remaining q body) event
       ≡ Some (record {
         answer = record {
           outputs = map (λ s. V (Out s)) (range_with_len inputs outs);

@@ -94,7 +94,9 @@ branch_over : (p : Term) → can_pass p ≡ true → branch_codes (started_codes
 branch_over p h = or_right (resumed_codes p 0) _ (and_from _ _ h refl)
 
 -- the static codes of a sequence
-turn_codes : (p q r t : Term) (k : ℕ) → ((i : ℕ) → started_codes r i ≡ true → resumed_codes p i ≡ true) → (resumed_codes p k ≡ true → (k ≡ 0 → ⊥) → resumed_codes t k ≡ true) → (resumed_codes p 0 ≡ true → started_codes q k ≡ true → resumed_codes t k ≡ true) → started_codes (Seq r q) k ≡ true → resumed_codes t k ≡ true
+turn_codes : (p q r t : Term) (k : ℕ) → ((i : ℕ) → started_codes r i ≡ true → resumed_codes p i ≡ true) →
+    (resumed_codes p k ≡ true → (k ≡ 0 → ⊥) → resumed_codes t k ≡ true) → (resumed_codes p 0 ≡ true → started_codes q k ≡ true → resumed_codes t k ≡ true) →
+    started_codes (Seq r q) k ≡ true → resumed_codes t k ≡ true
 turn_codes p q r t k f first second =
     cond_both (started_codes r 0) (either (except 0 (started_codes r)) (started_codes q)) (started_codes r)
     (λ A. A k ≡ true → resumed_codes t k ≡ true)
@@ -110,7 +112,8 @@ CodesFrom r t k = started_codes r k ≡ true → resumed_codes t k ≡ true
 
 module _ (S : ℕ → Bool) where
   -- the codes of a branch of a parallel that holds or can be over
-  branch_some : (p : Term) (n : ℕ) → (holds S p n || can_pass p) ≡ true → (holds S p n ≡ true → SomeCode (resumed_codes p)) → SomeCode (branch_codes (started_codes p) (resumed_codes p))
+  branch_some : (p : Term) (n : ℕ) → (holds S p n || can_pass p) ≡ true → (holds S p n ≡ true → SomeCode (resumed_codes p)) →
+      SomeCode (branch_codes (started_codes p) (resumed_codes p))
   branch_some p n h f =
       ⊎_elim (λ e. let r = f e in (r.0, r.1, branch_held p r.0 r.2)) (λ e. (0, omega arith, branch_over p e))
       (or_cases (holds S p n) (can_pass p) h)
@@ -164,8 +167,12 @@ module _ (S : ℕ → Bool) where
       let y = branch_some q (n + 1 + statement_count p) s.1 (λ c. g c (s.3 c)) in
       let live : (has_code (resumed_codes p) || has_code (resumed_codes q)) ≡ true =
       ⊎_elim (λ c. or_left _ _ (some_has (resumed_codes p) (f c (s.2 c)))) (λ c. or_right _ _ (some_has (resumed_codes q) (g c (s.3 c))))
-      (or_cases (holds S p (n + 1)) (holds S q (n + 1 + statement_count p)) h) in
-      (max x.0 y.0, omega (arith, x.1, y.1), and_from _ _ live (maxima-in (branch_codes (started_codes p) (resumed_codes p)) (branch_codes (started_codes q) (resumed_codes q)) x.0 y.0 x.2 y.2))
+      (or_cases (holds S p (n + 1)) (holds S q (n + 1 + statement_count p)) h) in (
+        max x.0 y.0,
+        omega (arith, x.1, y.1),
+        and_from _ _ live (maxima-in (branch_codes (started_codes p) (resumed_codes p))
+            (branch_codes (started_codes q) (resumed_codes q)) x.0 y.0 x.2 y.2),
+      )
   resumed_some (Trap p) n nl b h s =
       let r = resumed_some p (n + 1) nl b h s in
       (trap_code r.0, omega (arith, r.1, trap_code-le r.0), lowered-in (resumed_codes p) r.0 r.2)
@@ -209,7 +216,8 @@ module _ (S : ℕ → Bool) where
   residual_static (Awake e p) n nl = refl
 
   -- the static codes of what is left
-  left_codes : (b : Bool) (r p : Term) → (b || can_pass p) ≡ true → (b ≡ true → (k : ℕ) → started_codes r k ≡ true → resumed_codes p k ≡ true) → (k : ℕ) → started_codes (left_if b r) k ≡ true → branch_codes (started_codes p) (resumed_codes p) k ≡ true
+  left_codes : (b : Bool) (r p : Term) → (b || can_pass p) ≡ true → (b ≡ true → (k : ℕ) → started_codes r k ≡ true → resumed_codes p k ≡ true) → (k : ℕ) →
+      started_codes (left_if b r) k ≡ true → branch_codes (started_codes p) (resumed_codes p) k ≡ true
   left_codes true r p o h k e = branch_held p k (h refl k e)
   left_codes false r p o h k e =
       subst (λ i. branch_codes (started_codes p) (resumed_codes p) i ≡ true) (sym (eqb-true k 0 e)) (branch_over p o)

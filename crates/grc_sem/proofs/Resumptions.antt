@@ -14,7 +14,9 @@ use Rattle.grc_graph.specs.Walk.{Walk, Values, ended, then_walk, started_walk, r
 use Rattle.grc_graph.specs.Selected.{IsKernel, IsSelected}
 use Rattle.grc_graph.specs.Readings.{Valuation}
 use Rattle.grc_graph.specs.Coherence.{statuses, ResumedWalked}
-use Rattle.grc_sem.proofs.Places.{After, Place, Joins, no_loops-left, place_code, nothing_place, pause_place, later_place, later_after, loop_after, loop_place, present_after, present_place, awake_after, awake_place, seq_after, seq_place, par_after, par_place, trap_after, trap_place, local_after, local_place}
+use Rattle.grc_sem.proofs.Places.{After, Place, Joins, no_loops-left, place_code, nothing_place, pause_place, later_place, later_after, loop_after, loop_place}
+use Rattle.grc_sem.proofs.Places.{present_after, present_place, awake_after, awake_place, seq_after, seq_place, par_after, par_place, trap_after, trap_place}
+use Rattle.grc_sem.proofs.Places.{local_after, local_place}
 use Rattle.grc_solutions.proofs.Each.{EachResumed}
 use Rattle.grc_sem.proofs.Residues.{no_loops-right, loop_body, or_other, resumed_live, residual_static, residual_codes}
 use Rattle.grc_solutions.proofs.Rows.{RowAt}
@@ -37,7 +39,8 @@ record BranchPlace (t : Term) (C : ℕ → Bool) (v : Values) (r re : ℕ → �
   joins : Joins (started_codes t) C rp re
   place : Place t v r w gp rp
 
-left_after : (c : Bool) (t : Term) (C : ℕ → Bool) (r re : ℕ → ℕ) (g : ℕ) → ((k : ℕ) → C k ≡ true → g ≤ re k) → (c ≡ true → BranchAfter t C r re g) → BranchAfter (left_if c t) C r re g
+left_after : (c : Bool) (t : Term) (C : ℕ → Bool) (r re : ℕ → ℕ) (g : ℕ) → ((k : ℕ) → C k ≡ true → g ≤ re k) → (c ≡ true → BranchAfter t C r re g) →
+    BranchAfter (left_if c t) C r re g
 left_after true t C r re g e f = f refl
 left_after false t C r re g e f =
     record {
@@ -48,7 +51,8 @@ left_after false t C r re g e f =
       after = record { codes = λ k h. omega arith; signals = λ E s h. absurd (false≢true h) };
     }
 
-left_place : (c : Bool) (t : Term) (C : ℕ → Bool) (v : Values) (r re : ℕ → ℕ) (w : Walk) (g : ℕ) → ((k : ℕ) → C k ≡ true → g ≤ re k) → (c ≡ true → BranchPlace t C v r re w g) → BranchPlace (left_if c t) C v r re (cond c w (ended 0)) g
+left_place : (c : Bool) (t : Term) (C : ℕ → Bool) (v : Values) (r re : ℕ → ℕ) (w : Walk) (g : ℕ) → ((k : ℕ) → C k ≡ true → g ≤ re k) →
+    (c ≡ true → BranchPlace t C v r re w g) → BranchPlace (left_if c t) C v r re (cond c w (ended 0)) g
 left_place true t C v r re w g e f = f refl
 left_place false t C v r re w g e f =
     record {
@@ -60,7 +64,8 @@ left_place false t C v r re w g e f =
     }
 
 -- the term and the walk of the part that holds the selected pause
-cases_held : (c : Bool) (t u : Term) (x y : Walk) (v : Values) (r : ℕ → ℕ) (g : ℕ) (re : ℕ → ℕ) → (c ≡ true → Place t v r x g re) → (c ≡ false → Place u v r y g re) → Place (cond c t u) v r (cond c x y) g re
+cases_held : (c : Bool) (t u : Term) (x y : Walk) (v : Values) (r : ℕ → ℕ) (g : ℕ) (re : ℕ → ℕ) → (c ≡ true → Place t v r x g re) →
+    (c ≡ false → Place u v r y g re) → Place (cond c t u) v r (cond c x y) g re
 cases_held true t u x y v r g re f h = f refl
 cases_held false t u x y v r g re f h = h refl
 
@@ -75,7 +80,8 @@ module _ (R : Wire → ℕ) (N : ℕ) (S : ℕ → Bool) where
   abbrev stops : ℕ → ℕ → ℕ
   stops n = λ k. R (End n Resumed k)
 
-  pub resumed_after : (t : Term) (B : Scope) (f : Layer → Formula) (n : ℕ) (r : ℕ → ℕ) → NoInstantLoop t → IsKernel t → InScope B t → Above B n → holds S t n ≡ true → IsSelected S t n → EachResumed (RowAt (Up R)) B f t n → Ranks R N B Resumed r → After (residual S t n) r (start n) (stops n)
+  pub resumed_after : (t : Term) (B : Scope) (f : Layer → Formula) (n : ℕ) (r : ℕ → ℕ) → NoInstantLoop t → IsKernel t → InScope B t → Above B n →
+      holds S t n ≡ true → IsSelected S t n → EachResumed (RowAt (Up R)) B f t n → Ranks R N B Resumed r → After (residual S t n) r (start n) (stops n)
   resumed_after Nothing B f n r nl b i a h s e k = absurd (false≢true h)
   resumed_after Pause B f n r nl b i a h s e k =
       record { codes = λ c y. let x = e c y in omega arith; signals = λ E t y. absurd (false≢true y) }
@@ -144,7 +150,8 @@ module _ (R : Wire → ℕ) (N : ℕ) (S : ℕ → Bool) where
       (λ z. record {
         starts = row.1 (codes 0 z);
         ends = λ j y. omega (arith, row.3 j (and_true (codes 0 z) y));
-        after = loop_after at (started_after R N p B _ (n + 1) (n + 1) r (omega arith) parts.1 b i (e.2 (codes 0 z)) (ranks_root R N B (n + 1) r (above_more B n (n + 1) (omega arith) a) k));
+        after = loop_after at (started_after R N p B _ (n + 1) (n + 1) r (omega arith) parts.1 b i (e.2 (codes 0 z))
+            (ranks_root R N B (n + 1) r (above_more B n (n + 1) (omega arith) a) k));
       })
   resumed_after (Par p q) B f n r nl b i a h s e k =
       let m = n + 1 + statement_count p in
@@ -190,7 +197,9 @@ module _ (R : Wire → ℕ) (N : ℕ) (S : ℕ → Bool) where
       (resumed_after p (bind B x n) _ (n + 1) _ nl b (i n) (above_bind B n x a) h s (e.1 live) (ranks_more R N B n x Resumed r refl k))
   resumed_after (Awake x p) B f n r nl b i a h s e k = absurd b
 
-  pub resumed_place : (V : Valuation) (t : Term) (B : Scope) (f : Layer → Formula) (n : ℕ) (r : ℕ → ℕ) (v : Values) (g : Bool) → NoInstantLoop t → IsKernel t → InScope B t → Above B n → holds S t n ≡ true → IsSelected S t n → EachResumed (RowAt (Up R)) B f t n → Ranks R N B Resumed r → ResumedWalked V S t n v g → g ≡ true → Place (residual S t n) v r (resumed_walk (statuses V) S t n v) (start n) (stops n)
+  pub resumed_place : (V : Valuation) (t : Term) (B : Scope) (f : Layer → Formula) (n : ℕ) (r : ℕ → ℕ) (v : Values) (g : Bool) → NoInstantLoop t → IsKernel t →
+      InScope B t → Above B n → holds S t n ≡ true → IsSelected S t n → EachResumed (RowAt (Up R)) B f t n → Ranks R N B Resumed r → ResumedWalked V S t n v g →
+      g ≡ true → Place (residual S t n) v r (resumed_walk (statuses V) S t n v) (start n) (stops n)
   resumed_place V Nothing B f n r v g nl b i a h s e k w o = absurd (false≢true h)
   resumed_place V Pause B f n r v g nl b i a h s e k w o = nothing_place (omega (arith, e 0 refl))
   resumed_place V (Emit x) B f n r v g nl b i a h s e k w o = absurd (false≢true h)

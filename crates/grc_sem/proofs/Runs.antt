@@ -27,14 +27,20 @@ use Rattle.grc_sem.proofs.Instants.{next_is_state, next_leaves, next_residual, p
 abbrev Agrees : Program → Option (List Answer) → List Valuation → Type 0
 Agrees p o Vs = (answers : List Answer) × (o ≡ Some answers) × (map shown_answer answers ≡ map (λ V. shown (graph_of p) V) Vs)
 
-module _ (p : Program) (rank : Wire → ℕ) (most : ℕ) (formed : IsWellFormed p) (kernel : IsKernel p.body) (nl : NoInstantLoop p.body) (up : GoUp rank (edges (program_spots p))) (bound : (w : Wire) → rank w ≤ most) where
-  reacts : (q : State) (event : List Bool) (V : Valuation) → IsState q p.body → length event ≡ given_count p → Solves (graph_of p) q event V → react (interface_of p) (remaining q p.body) event ≡ Some (record { answer = record { outputs = (shown (graph_of p) V).outputs; code = (graph_walk p q event V).code }; residual = resumption (graph_walk p q event V).kept p.body })
+module _ (p : Program) (rank : Wire → ℕ) (most : ℕ) (formed : IsWellFormed p) (kernel : IsKernel p.body) (nl : NoInstantLoop p.body)
+    (up : GoUp rank (edges (program_spots p))) (bound : (w : Wire) → rank w ≤ most) where
+  reacts : (q : State) (event : List Bool) (V : Valuation) → IsState q p.body → length event ≡ given_count p → Solves (graph_of p) q event V →
+      react (interface_of p) (remaining q p.body) event ≡ Some (record {
+        answer = record { outputs = (shown (graph_of p) V).outputs; code = (graph_walk p q event V).code };
+        residual = resumption (graph_walk p q event V).kept p.body;
+      })
   reacts q event V state width s =
       react_held p.inputs (outgoing_count p) p.body rank most event V q
       (solution_of p.inputs (outgoing_count p) (given_count p) p.body q event V nl kernel state s.met s.others rank most
       (fit_scope p.inputs (interface_count p) _ p.body (omega arith) formed.signals) bound up width (omega arith) (omega arith))
 
-  one_instant : (V : Valuation) (Vs : List Valuation) (outputs : List Bool) (code : ℕ) (o : Option (List Answer)) → outputs ≡ (shown (graph_of p) V).outputs → (shown (graph_of p) V).paused ≡ (code == 1) → Agrees p o Vs → Agrees p (before (record { outputs = outputs; code = code }) o) (V ∷ Vs)
+  one_instant : (V : Valuation) (Vs : List Valuation) (outputs : List Bool) (code : ℕ) (o : Option (List Answer)) → outputs ≡ (shown (graph_of p) V).outputs →
+      (shown (graph_of p) V).paused ≡ (code == 1) → Agrees p o Vs → Agrees p (before (record { outputs = outputs; code = code }) o) (V ∷ Vs)
   one_instant V Vs outputs code o e f h =
       let a : Answer = record { outputs = outputs; code = code } in
       let one : shown_answer a ≡ shown (graph_of p) V =
@@ -44,7 +50,9 @@ module _ (p : Program) (rank : Wire → ℕ) (most : ℕ) (formed : IsWellFormed
         ap (λ x. x ∷ map shown_answer h.0) one ∙ ap (λ l. shown (graph_of p) V ∷ l) h.2,
       )
 
-  runs : (items : List Item) (q : State) (Vs : List Valuation) → IsState q p.body → SelectsLeaves q p.body → EachEvent (λ event. length event ≡ given_count p) items → IsGraphRun (graph_of p) q items Vs → Agrees p (run_from (interface_of p) p.body (remaining q p.body) items) Vs
+  runs : (items : List Item) (q : State) (Vs : List Valuation) → IsState q p.body → SelectsLeaves q p.body →
+      EachEvent (λ event. length event ≡ given_count p) items → IsGraphRun (graph_of p) q items Vs →
+      Agrees p (run_from (interface_of p) p.body (remaining q p.body) items) Vs
   runs [] q [] state leaves w r = ([], refl, refl)
   runs [] q (V ∷ Vs) state leaves w r = absurd r
   runs (Event event ∷ items) q [] state leaves w r = absurd r
@@ -56,7 +64,8 @@ module _ (p : Program) (rank : Wire → ℕ) (most : ℕ) (formed : IsWellFormed
       let later : Agrees p (run_from (interface_of p) p.body (resumption kept p.body) items) Vs =
       subst (λ t. Agrees p (run_from (interface_of p) p.body t items) Vs) (sym (next_residual p kernel nl q event V state r.0 leaves)) rest in
       subst (λ x. Agrees p (goes_on x (λ t. run_from (interface_of p) p.body t items)) (V ∷ Vs)) (sym (reacts q event V state w.0 r.0))
-      (one_instant V Vs (shown g V).outputs (graph_walk p q event V).code (run_from (interface_of p) p.body (resumption kept p.body) items) refl (paused_is p kernel nl q event V state r.0) later)
+      (one_instant V Vs (shown g V).outputs (graph_walk p q event V).code (run_from (interface_of p) p.body (resumption kept p.body) items) refl
+      (paused_is p kernel nl q event V state r.0) later)
   runs (Reset ∷ items) q Vs state leaves w r = runs items Initial Vs tt tt w r
 
 -- the premises of a program
@@ -77,11 +86,13 @@ rank_most p rank w = cap_most (most_of rank (edges (program_spots p))) (rank w)
 
 pub solutions_react_lem : SolutionsReact
 solutions_react_lem p q event V rank formed k nl state up width s =
-    reacts p (rank_of p rank) (most_of rank (edges (program_spots p))) formed (program_kernel p formed k) nl (rank_up p rank up) (rank_most p rank) q event V state width s
+    reacts p (rank_of p rank) (most_of rank (edges (program_spots p))) formed (program_kernel p formed k) nl (rank_up p rank up)
+    (rank_most p rank) q event V state width s
 
 pub graph_runs_are_runs_lem : GraphRunsAreRuns
 graph_runs_are_runs_lem p rank formed k nl up items w Vs r =
-    runs p (rank_of p rank) (most_of rank (edges (program_spots p))) formed (program_kernel p formed k) nl (rank_up p rank up) (rank_most p rank) items Initial Vs tt tt w r
+    runs p (rank_of p rank) (most_of rank (edges (program_spots p))) formed (program_kernel p formed k) nl (rank_up p rank up)
+    (rank_most p rank) items Initial Vs tt tt w r
 
 pub programs_run_lem : ProgramsRun
 programs_run_lem p rank formed k nl up items w =
@@ -93,5 +104,9 @@ pub solutions_are_reactions_lem : SolutionsAreReactions
 solutions_are_reactions_lem p q event V rank formed k nl state leaves up width s =
     let kernel = program_kernel p formed k in
     solutions_react_lem p q event V rank formed k nl state up width s
-    ∙ ap (λ c. Some (record { answer = record { outputs = (shown (graph_of p) V).outputs; code = c }; residual = resumption (graph_walk p q event V).kept p.body })) (sym (code_shown p kernel nl q event V state s))
-    ∙ ap (λ r. Some (record { answer = record { outputs = (shown (graph_of p) V).outputs; code = shown_code V }; residual = r })) (next_residual p kernel nl q event V state s leaves)
+    ∙ ap (λ c. Some (record {
+      answer = record { outputs = (shown (graph_of p) V).outputs; code = c };
+      residual = resumption (graph_walk p q event V).kept p.body;
+    })) (sym (code_shown p kernel nl q event V state s))
+    ∙ ap (λ r. Some (record { answer = record { outputs = (shown (graph_of p) V).outputs; code = shown_code V }; residual = r }))
+    (next_residual p kernel nl q event V state s leaves)

@@ -29,7 +29,8 @@ test_scope (Not a) k h = test_scope a k h
 test_scope (And a b) k h = (test_scope a k h.0, test_scope b k h.1)
 test_scope (Or a b) k h = (test_scope a k h.0, test_scope b k h.1)
 
-term_scope : (inputs interface all : ℕ) (t : Term) (B : Scope) (visible : ℕ → Bool) → Sighted inputs B visible → SignalsFit inputs interface all visible t → InScope B t
+term_scope : (inputs interface all : ℕ) (t : Term) (B : Scope) (visible : ℕ → Bool) → Sighted inputs B visible → SignalsFit inputs interface all visible t →
+    InScope B t
 term_scope n i a Nothing B u k h = tt
 term_scope n i a Pause B u k h = tt
 term_scope n i a (Emit s) B u k h = k.status s h.0 h.1
@@ -55,10 +56,13 @@ sighted_top inputs interface u =
     value s h (goes_out l k e) = ap has_value e
     value s h (unbound l e) = absurd (omega arith)
 
-    status : (s : ℕ) → s < interface → inputs ≤ s → InPart inputs interface s (program_scope inputs interface s) → has_status (program_scope inputs interface s) ≡ true
+    status : (s : ℕ) → s < interface → inputs ≤ s → InPart inputs interface s (program_scope inputs interface s) →
+        has_status (program_scope inputs interface s) ≡ true
     status s h i (enters l e) = absurd (omega arith)
     status s h i (goes_out l k e) = ap has_status e
     status s h i (unbound l e) = absurd (omega arith)
 
-pub fit_scope : (inputs interface all : ℕ) (t : Term) → inputs ≤ interface → SignalsFit inputs interface all (λ s. ltb s interface) t → InScope (program_scope inputs interface) t
-fit_scope inputs interface all t u h = term_scope inputs interface all t (program_scope inputs interface) (λ s. ltb s interface) (sighted_top inputs interface u) h
+pub fit_scope : (inputs interface all : ℕ) (t : Term) → inputs ≤ interface → SignalsFit inputs interface all (λ s. ltb s interface) t →
+    InScope (program_scope inputs interface) t
+fit_scope inputs interface all t u h = term_scope inputs interface all t (program_scope inputs interface) (λ s. ltb s interface)
+    (sighted_top inputs interface u) h

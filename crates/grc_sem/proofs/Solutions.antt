@@ -1,5 +1,6 @@
 -- A solution of a program's graph is a walk, so what is left of the program reacts constructively.
-use Rattle.std.proofs.Common.{◌≡◌, ℕ, zero, suc, ◌+◌, ◌<◌, ◌≤◌, Bool, true, false, ◌||◌, List, [], ◌∷◌, length, get_or, map, refl, ap, ◌∙◌, subst, inl, ⊎_elim, arith}
+use Rattle.std.proofs.Common.{◌≡◌, ℕ, zero, suc, ◌+◌, ◌<◌, ◌≤◌, Bool, true, false, ◌||◌, List, [], ◌∷◌, length, get_or, map, refl, ap, ◌∙◌, subst, inl, ⊎_elim}
+use Rattle.std.proofs.Common.{arith}
 use Rattle.std.specs.List.{list_any, flat_map, range_with_len, All, Contains}
 use Rattle.est_kernel.specs.Terms.{Term}
 use Rattle.est_kernel.specs.StaticCodes.{has_code, resumed_codes, NoInstantLoop}
@@ -48,7 +49,9 @@ module _ (inputs outs given_count : ℕ) (body : Term) where
   body_all = tops.body_all inputs outs body
 
   -- what a solution in a state and an event is worth
-  module _ (q : State) (event : List Bool) (V : Valuation) (nl : NoInstantLoop body) (kernel : IsKernel body) (state : IsState q body) (met : All (λ e. V e.wire ≡ val B0 body q (is_given event) V e.formula) (equations given_count (range_with_len inputs outs) body_all)) (others : (w : Wire) → list_any (λ e. same_wire w e.wire) (equations given_count (range_with_len inputs outs) body_all) ≡ false → V w ≡ false) where
+  module _ (q : State) (event : List Bool) (V : Valuation) (nl : NoInstantLoop body) (kernel : IsKernel body) (state : IsState q body)
+      (met : All (λ e. V e.wire ≡ val B0 body q (is_given event) V e.formula) (equations given_count (range_with_len inputs outs) body_all))
+      (others : (w : Wire) → list_any (λ e. same_wire w e.wire) (equations given_count (range_with_len inputs outs) body_all) ≡ false → V w ≡ false) where
     abbrev v : Values
     v = seen_values (is_given event) V B0 Resumed
 
@@ -58,9 +61,11 @@ module _ (inputs outs given_count : ℕ) (body : Term) where
     spots_met : Every (Alive B0 body q (is_given event) V body_all) body_all
     spots_met = met_spots inputs outs given_count body q event V kernel met others
 
-    each_met : ((has_code (resumed_codes body) ≡ true) → EachResumed (Met B0 body q (is_given event) V body_all) B0 body_entry body 0) × EachStarted (Met B0 body q (is_given event) V body_all) B0 body_entry body 0 (Started 0)
+    each_met : ((has_code (resumed_codes body) ≡ true) → EachResumed (Met B0 body q (is_given event) V body_all) B0 body_entry body 0)
+        × EachStarted (Met B0 body q (is_given event) V body_all) B0 body_entry body 0 (Started 0)
     each_met =
-        let l = layered (body_layers body) (Alive B0 body q (is_given event) V body_all) (Met B0 body q (is_given event) V body_all) (met_at B0 body q (is_given event) V body_all) (body_liveness body) B0 body_entry body 0 kernel (body_agrees body) spots_met in
+        let l = layered (body_layers body) (Alive B0 body q (is_given event) V body_all) (Met B0 body q (is_given event) V body_all)
+        (met_at B0 body q (is_given event) V body_all) (body_liveness body) B0 body_entry body 0 kernel (body_agrees body) spots_met in
         (l.0, l.1 0 (inl refl))
 
     whole : Whole V (body_layers body) body_all B0 body_entry body 0
@@ -68,34 +73,43 @@ module _ (inputs outs given_count : ℕ) (body : Term) where
 
     pub top_started : StartedWalked V body 0 (Started 0) v (is_initial q)
     top_started =
-        told_started B0 body q (is_given event) V body_all (body_layers body) (body_liveness body) body B0 body_entry 0 0 v (is_initial q) (body_agrees body) (inl refl) (omega arith) nl kernel (tops.above_top inputs outs body) whole each_met.1
+        told_started B0 body q (is_given event) V body_all (body_layers body) (body_liveness body) body B0 body_entry 0 0 v (is_initial q) (body_agrees body)
+        (inl refl) (omega arith) nl kernel (tops.above_top inputs outs body) whole each_met.1
         (record { each = λ s. tops.seen_free inputs outs body (is_given event) V (B0 s) s (tops.no_bound inputs outs body s) })
         (head_started (Met B0 body q (is_given event) V body_all) B0 body_entry body 0 (Started 0) kernel each_met.1).go
 
     pub top_resumed : has_code (resumed_codes body) ≡ true → ResumedWalked V S body 0 v (holds S body 0)
     top_resumed live =
-        told_resumed B0 body q (is_given event) V body_all (body_layers body) S (body_liveness body) body B0 body_entry 0 v (holds S body 0) (body_agrees body) live
+        told_resumed B0 body q (is_given event) V body_all (body_layers body) S (body_liveness body) body B0 body_entry 0 v (holds S body 0)
+        (body_agrees body) live
         (λ r i. ⊎_elim (λ e. omega arith) (λ e. absurd e) i) nl kernel (tops.above_top inputs outs body) whole (each_met.0 live)
         (record { each = λ s. refl }) (state_finds q body) (state_reach q body state)
-        ((head_resumed (Met B0 body q (is_given event) V body_all) B0 body_entry body 0 kernel (each_met.0 live)).go ∙ finds_self (λ m. state_holds_at q body m) S body 0 (state_finds q body))
+        ((head_resumed (Met B0 body q (is_given event) V body_all) B0 body_entry body 0 kernel (each_met.0 live)).go
+        ∙ finds_self (λ m. state_holds_at q body m) S body 0 (state_finds q body))
 
-    output_row : (os : List ℕ) → Every (λ e. V e.wire ≡ val B0 body q (is_given event) V e.formula) (map (output_equation given_count body_all) os) → (o : ℕ) → Contains os o → V (Out o) ≡ val B0 body q (is_given event) V (output_equation given_count body_all o).formula
+    output_row : (os : List ℕ) → Every (λ e. V e.wire ≡ val B0 body q (is_given event) V e.formula) (map (output_equation given_count body_all) os) → (o : ℕ) →
+        Contains os o → V (Out o) ≡ val B0 body q (is_given event) V (output_equation given_count body_all o).formula
     output_row os h o c = go os h c.0 c.1 c.2
       where
-        go : (xs : List ℕ) → Every (λ e. V e.wire ≡ val B0 body q (is_given event) V e.formula) (map (output_equation given_count body_all) xs) → (k : ℕ) → k < length xs → get_or xs k o ≡ o → V (Out o) ≡ val B0 body q (is_given event) V (output_equation given_count body_all o).formula
+        go : (xs : List ℕ) → Every (λ e. V e.wire ≡ val B0 body q (is_given event) V e.formula) (map (output_equation given_count body_all) xs) → (k : ℕ) →
+            k < length xs → get_or xs k o ≡ o → V (Out o) ≡ val B0 body q (is_given event) V (output_equation given_count body_all o).formula
         go [] h k l e = absurd (omega arith)
         go (x ∷ xs) h zero l e = subst (λ y. V (Out y) ≡ val B0 body q (is_given event) V (output_equation given_count body_all y).formula) e h.0
         go (x ∷ xs) h (suc k) l e = go xs h.1 k (omega arith) e
 
     pub output_value : length event ≡ given_count → (o : ℕ) → inputs ≤ o → o < inputs + outs → V (Out o) ≡ (is_given event o || emitted V (Out o) body_all)
     output_value w o i j =
-        let every = every_of_all (λ e. V e.wire ≡ val B0 body q (is_given event) V e.formula) (equations given_count (range_with_len inputs outs) body_all) met in
-        let rows = every_left (λ e. V e.wire ≡ val B0 body q (is_given event) V e.formula) (map (output_equation given_count body_all) (range_with_len inputs outs)) (flat_map (instance_equations body_all) body_all) every in
+        let every = every_of_all (λ e. V e.wire ≡ val B0 body q (is_given event) V e.formula)
+        (equations given_count (range_with_len inputs outs) body_all) met in
+        let rows = every_left (λ e. V e.wire ≡ val B0 body q (is_given event) V e.formula)
+        (map (output_equation given_count body_all) (range_with_len inputs outs)) (flat_map (instance_equations body_all) body_all) every in
         output_row (range_with_len inputs outs) rows o (range_has inputs outs o i j) ∙ tops.output_means inputs outs body given_count q event V w o
 
-    pub solution_of : (R : Wire → ℕ) (N : ℕ) → InScope B0 body → ((w : Wire) → R w ≤ N) → GoUp R (edges body_all) → length event ≡ given_count → inputs ≤ given_count → given_count ≤ inputs + outs → Solution inputs outs body R N q event V
+    pub solution_of : (R : Wire → ℕ) (N : ℕ) → InScope B0 body → ((w : Wire) → R w ≤ N) → GoUp R (edges body_all) → length event ≡ given_count →
+        inputs ≤ given_count → given_count ≤ inputs + outs → Solution inputs outs body R N q event V
     solution_of R N scope most up width low high =
-        let l = layered (body_layers body) (λ x. Every (λ e. R e.from < R e.to) (edges_at x.scope x.statement x.path x.layer)) (RowAt (Up R)) (row_at (Up R)) (body_liveness body) B0 body_entry body 0 kernel (body_agrees body) (up_rows R body_all up) in
+        let l = layered (body_layers body) (λ x. Every (λ e. R e.from < R e.to) (edges_at x.scope x.statement x.path x.layer)) (RowAt (Up R)) (row_at (Up R))
+        (body_liveness body) B0 body_entry body 0 kernel (body_agrees body) (up_rows R body_all up) in
         record {
           loops = nl;
           kernel = kernel;
@@ -109,5 +123,6 @@ module _ (inputs outs given_count : ℕ) (body : Term) where
           resumed_wires = λ T e live.
               let f : S ≡ T = ap selected_of e in
               subst (λ U. ResumedWalked V U body 0 v (holds U body 0)) f (top_resumed live);
-          outputs = λ o i j. output_value width o i j ∙ ap (λ b. is_given event o || b) (tops.body_emits inputs outs body q event V nl kernel state top_started top_resumed o i j);
+          outputs = λ o i j. output_value width o i j ∙ ap (λ b. is_given event o || b)
+              (tops.body_emits inputs outs body q event V nl kernel state top_started top_resumed o i j);
         }

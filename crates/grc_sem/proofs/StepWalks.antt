@@ -1,12 +1,14 @@
 -- A step of what is left does what the walk does, where every status below the greatest rank is known: it completes
 -- with the walk's code, and leaves what the kept pauses leave.
-use Rattle.std.proofs.Common.{◌≡◌, ℕ, ◌+◌, ◌≤◌, Bool, true, false, not, ◌&&◌, ◌||◌, ◌==◌, cond, max, Option, Some, None, refl, sym, ap, ◌∙◌, subst, ⊎_elim, arith}
+use Rattle.std.proofs.Common.{◌≡◌, ℕ, ◌+◌, ◌≤◌, Bool, true, false, not, ◌&&◌, ◌||◌, ◌==◌, cond, max, Option, Some, None, refl, sym, ap, ◌∙◌, subst, ⊎_elim}
+use Rattle.std.proofs.Common.{arith}
 use Rattle.std.proofs.lemmas.Bool.{eqb-true, eqb-false, eq-eqb, ne_eqb, cond_both, false≢true, cases_Bool, cond-false}
 use Rattle.est_kernel.specs.Terms.{Expression, Term, Nothing, Pause, Emit, Exit, Present, Suspend, Seq, Loop, Par, Trap, Local, Awake}
 use Rattle.est_kernel.specs.Statuses.{Environment, with_status, known, value}
 use Rattle.est_kernel.specs.Potentials.{decided}
 use Rattle.est_kernel.specs.Preorder.{statement_count}
-use Rattle.est_kernel.specs.Steps.{Step, step, left_by, leaving, leaves, chosen_step, then_step, sequence_step, loop_step, parallel_step, trap_step, local_step, where_known, trap_code}
+use Rattle.est_kernel.specs.Steps.{Step, step, left_by, leaving, leaves, chosen_step, then_step, sequence_step, loop_step, parallel_step, trap_step, local_step}
+use Rattle.est_kernel.specs.Steps.{where_known, trap_code}
 use Rattle.est_kernel.specs.StaticCodes.{started_codes, resumed_codes, instant_loops, NoInstantLoop}
 use Rattle.est_kernel.specs.Laws.{IsBelow}
 use Rattle.grc_graph.specs.Layers.{Layer, Resumed, Started}
@@ -14,7 +16,8 @@ use Rattle.grc_graph.specs.Scopes.{Scope, bind}
 use Rattle.grc_graph.specs.Wires.{Wire, Go, StatusOf}
 use Rattle.grc_graph.specs.Formulas.{Formula}
 use Rattle.grc_graph.specs.Residuals.{holds, left_if, residual}
-use Rattle.grc_graph.specs.Walk.{Walk, Values, with_value, truth, ended, then_walk, both_walks, trapped_walk, hidden_walk, started_walk, resumed_walk, selected_in}
+use Rattle.grc_graph.specs.Walk.{Walk, Values, with_value, truth, ended, then_walk, both_walks, trapped_walk, hidden_walk, started_walk, resumed_walk}
+use Rattle.grc_graph.specs.Walk.{selected_in}
 use Rattle.grc_graph.specs.Selected.{IsKernel, IsSelected}
 use Rattle.grc_graph.specs.Readings.{Valuation}
 use Rattle.grc_graph.specs.Coherence.{statuses, StartedWalked, ResumedWalked}
@@ -26,7 +29,8 @@ use Rattle.grc_solutions.proofs.Binders.{Above, above_more, above_bind, layer_ab
 use Rattle.grc_sem.proofs.Ranks.{Up, Ranks, InScope, tested, ranks_more, ranks_root}
 use Rattle.grc_sem.proofs.Constructive.{and_true, not_false, flag_gone, started_place}
 use Rattle.grc_sem.proofs.Resumptions.{resumed_place}
-use Rattle.grc_sem.proofs.Kept.{Same, same_within, first_same, second_same, only_same, Keeps, holds_same, residual_same, second_none, first_none, both_first, both_second, selected_same, keeps_branch, started_keeps, resumed_keeps, holds_none}
+use Rattle.grc_sem.proofs.Kept.{Same, same_within, first_same, second_same, only_same, Keeps, holds_same, residual_same, second_none, first_none, both_first}
+use Rattle.grc_sem.proofs.Kept.{both_second, selected_same, keeps_branch, started_keeps, resumed_keeps, holds_none}
 
 -- the step of the term t, which is what is left of the statement p at n, or p at its start
 pub record Stepped (t : Term) (E : Environment) (w : Walk) (p : Term) (n : ℕ) : Type 0 where
@@ -67,7 +71,10 @@ below_known true = refl
 below_known false = refl
 
 -- a part alone
-stepped_only : {E : Environment} {w : Walk} {p : Term} (F : Term → Term) (u whole : Term) (n : ℕ) (x : Step) → statement_count whole ≡ 1 + statement_count p → ((T : ℕ → Bool) → holds T whole n ≡ holds T p (n + 1)) → ((T : ℕ → Bool) → residual T whole n ≡ F (residual T p (n + 1))) → step u E ≡ Some (leaving F x) → x.code ≡ w.code → ((T : ℕ → Bool) → Same T w.kept (n + 1) (n + 1 + statement_count p) → x.residual ≡ left_if (holds T p (n + 1)) (residual T p (n + 1))) → Keeps w p (n + 1) → Stepped u E w whole n
+stepped_only : {E : Environment} {w : Walk} {p : Term} (F : Term → Term) (u whole : Term) (n : ℕ) (x : Step) → statement_count whole ≡ 1 + statement_count p →
+    ((T : ℕ → Bool) → holds T whole n ≡ holds T p (n + 1)) → ((T : ℕ → Bool) → residual T whole n ≡ F (residual T p (n + 1))) → step u E ≡ Some (leaving F x) →
+    x.code ≡ w.code → ((T : ℕ → Bool) → Same T w.kept (n + 1) (n + 1 + statement_count p) → x.residual ≡ left_if (holds T p (n + 1)) (residual T p (n + 1))) →
+    Keeps w p (n + 1) → Stepped u E w whole n
 stepped_only {E} {w} {p} F u whole n x c h r e k l keeps =
     record {
       done = leaving F x;
@@ -89,13 +96,16 @@ module _ (p q whole : Term) (n : ℕ) (F : Term → Term) where
     holding : (T : ℕ → Bool) → holds T whole n ≡ (holds T p (n + 1) || holds T q m)
     leaving_is : (T : ℕ → Bool) → residual T whole n ≡ cond (holds T p (n + 1)) (F (residual T p (n + 1))) (residual T q m)
 
-  whole_left : Two → (T : ℕ → Bool) → left_if (holds T p (n + 1) || holds T q m) (cond (holds T p (n + 1)) (F (residual T p (n + 1))) (residual T q m)) ≡ left_if (holds T whole n) (residual T whole n)
+  whole_left : Two → (T : ℕ → Bool) → left_if (holds T p (n + 1) || holds T q m) (cond (holds T p (n + 1)) (F (residual T p (n + 1))) (residual T q m)) ≡
+      left_if (holds T whole n) (residual T whole n)
   whole_left two T =
       ap (λ b. left_if b (cond (holds T p (n + 1)) (F (residual T p (n + 1))) (residual T q m))) (sym (two.holding T))
       ∙ ap (λ y. left_if (holds T whole n) y) (sym (two.leaving_is T))
 
   -- the first part alone goes on
-  first_left : {w : Walk} (x : Step) → Two → x.code ≡ w.code → ((T : ℕ → Bool) → Same T w.kept (n + 1) (n + 1 + statement_count p) → x.residual ≡ left_if (holds T p (n + 1)) (residual T p (n + 1))) → Keeps w p (n + 1) → (T : ℕ → Bool) → Same T w.kept n (n + statement_count whole) → left_by x.code (F x.residual) ≡ left_if (holds T whole n) (residual T whole n)
+  first_left : {w : Walk} (x : Step) → Two → x.code ≡ w.code → ((T : ℕ → Bool) → Same T w.kept (n + 1) (n + 1 + statement_count p) →
+      x.residual ≡ left_if (holds T p (n + 1)) (residual T p (n + 1))) → Keeps w p (n + 1) → (T : ℕ → Bool) → Same T w.kept n (n + statement_count whole) →
+      left_by x.code (F x.residual) ≡ left_if (holds T whole n) (residual T whole n)
   first_left {w} x two c l keeps T s =
       let u = subst (λ j. Same T w.kept n (n + j)) two.count s in
       let i = first_same n (statement_count p) (statement_count q) u in
@@ -104,7 +114,8 @@ module _ (p q whole : Term) (n : ℕ) (F : Term → Term) where
       ∙ whole_left two T
 
   -- the second part goes on
-  second_left : {w : Walk} (x : Term) → Two → ((T : ℕ → Bool) → Same T w.kept m (m + statement_count q) → x ≡ left_if (holds T q m) (residual T q m)) → Keeps w q m → (T : ℕ → Bool) → Same T w.kept n (n + statement_count whole) → x ≡ left_if (holds T whole n) (residual T whole n)
+  second_left : {w : Walk} (x : Term) → Two → ((T : ℕ → Bool) → Same T w.kept m (m + statement_count q) → x ≡ left_if (holds T q m) (residual T q m)) →
+      Keeps w q m → (T : ℕ → Bool) → Same T w.kept n (n + statement_count whole) → x ≡ left_if (holds T whole n) (residual T whole n)
   second_left {w} x two l keeps T s =
       let u = subst (λ j. Same T w.kept n (n + j)) two.count s in
       let i = second_same n (statement_count p) (statement_count q) u in
@@ -112,7 +123,9 @@ module _ (p q whole : Term) (n : ℕ) (F : Term → Term) where
       ∙ whole_left two T
 
 -- a sequence of two terms t and q': the parts
-turn_step : (t u q' : Term) (E : Environment) (x : Walk) (y : Walk) (a : Step) → step t E ≡ Some a → a.code ≡ x.code → (P : Option Step → Walk → Type 0) → ((x.code ≡ 0) → P (then_step a (step u E)) (record { signals = λ s. x.signals s || y.signals s; code = y.code; kept = y.kept })) → ((x.code ≡ 0 → ⊥) → P (Some (leaving (λ r. Seq r q') a)) x) → P (sequence_step q' (step t E) (step u E)) (then_walk x y)
+turn_step : (t u q' : Term) (E : Environment) (x : Walk) (y : Walk) (a : Step) → step t E ≡ Some a → a.code ≡ x.code → (P : Option Step → Walk → Type 0) →
+    ((x.code ≡ 0) → P (then_step a (step u E)) (record { signals = λ s. x.signals s || y.signals s; code = y.code; kept = y.kept })) →
+    ((x.code ≡ 0 → ⊥) → P (Some (leaving (λ r. Seq r q') a)) x) → P (sequence_step q' (step t E) (step u E)) (then_walk x y)
 turn_step t u q' E x y a e c P f g =
     subst (λ o. P (sequence_step q' o (step u E)) (then_walk x y)) (sym e)
     (⊎_elim
@@ -138,7 +151,9 @@ from_leaves : {t : Term} {E : Environment} {w : Walk} {p : Term} {n : ℕ} → L
 from_leaves l = record { done = l.0; is = l.1; code = l.2; left = l.3 }
 
 -- a test
-present_step : (c : Bool) (e : Expression) (p q : Term) (n : ℕ) {E : Environment} {x y : Walk} → value e E ≡ known c → Keeps x p (n + 1) → Keeps y q (n + 1 + statement_count p) → (c ≡ true → Stepped p E x p (n + 1)) → (c ≡ false → Stepped q E y q (n + 1 + statement_count p)) → Stepped (Present e p q) E (cond c x y) (Present e p q) n
+present_step : (c : Bool) (e : Expression) (p q : Term) (n : ℕ) {E : Environment} {x y : Walk} → value e E ≡ known c → Keeps x p (n + 1) →
+    Keeps y q (n + 1 + statement_count p) → (c ≡ true → Stepped p E x p (n + 1)) → (c ≡ false → Stepped q E y q (n + 1 + statement_count p)) →
+    Stepped (Present e p q) E (cond c x y) (Present e p q) n
 present_step true e p q n {E} {x} {y} v kx ky f g =
     let s = f refl in
     record {
@@ -161,7 +176,8 @@ present_step false e p q n {E} {x} {y} v kx ky f g =
     }
 
 -- a parallel
-both_left : (c : ℕ) (d h k : Bool) (x y u v : Term) → (c == 1) ≡ d → (d ≡ true → (x ≡ left_if h u) × (y ≡ left_if k v) × ((h || k) ≡ true)) → (d ≡ false → (h || k) ≡ false) → left_by c (Par x y) ≡ left_if (h || k) (Par (left_if h u) (left_if k v))
+both_left : (c : ℕ) (d h k : Bool) (x y u v : Term) → (c == 1) ≡ d → (d ≡ true → (x ≡ left_if h u) × (y ≡ left_if k v) × ((h || k) ≡ true)) →
+    (d ≡ false → (h || k) ≡ false) → left_by c (Par x y) ≡ left_if (h || k) (Par (left_if h u) (left_if k v))
 both_left c true h k x y u v e f g =
     let i = f refl in
     ap (λ b. cond b (Par x y) Nothing) e ∙ ap (λ z. Par z y) i.0 ∙ ap (λ z. Par (left_if h u) z) i.1
@@ -169,7 +185,9 @@ both_left c true h k x y u v e f g =
 both_left c false h k x y u v e f g =
     ap (λ b. cond b (Par x y) Nothing) e ∙ ap (λ b. left_if b (Par (left_if h u) (left_if k v))) (sym (g refl))
 
-par_step : (t u p q : Term) (n : ℕ) {E : Environment} {x y : Walk} → Keeps x p (n + 1) → Keeps y q (n + 1 + statement_count p) → Keeps (both_walks x y) (Par p q) n → Stepped t E x p (n + 1) → Stepped u E y q (n + 1 + statement_count p) → Stepped (Par t u) E (both_walks x y) (Par p q) n
+par_step : (t u p q : Term) (n : ℕ) {E : Environment} {x y : Walk} → Keeps x p (n + 1) → Keeps y q (n + 1 + statement_count p) →
+    Keeps (both_walks x y) (Par p q) n → Stepped t E x p (n + 1) → Stepped u E y q (n + 1 + statement_count p) →
+    Stepped (Par t u) E (both_walks x y) (Par p q) n
 par_step t u p q n {E} {x} {y} kx ky kb s r =
     let a = s.done in
     let b = r.done in
@@ -190,7 +208,8 @@ par_step t u p q n {E} {x} {y} kx ky kb s r =
           (λ d. kb.held T h ∙ d);
     }
 
-trap_left : (t p : Term) (n : ℕ) {E : Environment} {x : Walk} → Keeps x p (n + 1) → Keeps (trapped_walk x) (Trap p) n → Stepped t E x p (n + 1) → Stepped (Trap t) E (trapped_walk x) (Trap p) n
+trap_left : (t p : Term) (n : ℕ) {E : Environment} {x : Walk} → Keeps x p (n + 1) → Keeps (trapped_walk x) (Trap p) n → Stepped t E x p (n + 1) →
+    Stepped (Trap t) E (trapped_walk x) (Trap p) n
 trap_left t p n {E} {x} k kt s =
     let a = s.done in
     record {
@@ -211,7 +230,8 @@ trap_left t p n {E} {x} k kt s =
           (cases_Bool (trap_code x.code == 1));
     }
 
-local_left : (s : ℕ) (t p : Term) (n : ℕ) (b : Bool) {E : Environment} {x : Walk} → decided t E s ≡ known b → Keeps x p (n + 1) → Stepped t (with_status E s (known b)) x p (n + 1) → Stepped (Local s t) E (hidden_walk s x) (Local s p) n
+local_left : (s : ℕ) (t p : Term) (n : ℕ) (b : Bool) {E : Environment} {x : Walk} → decided t E s ≡ known b → Keeps x p (n + 1) →
+    Stepped t (with_status E s (known b)) x p (n + 1) → Stepped (Local s t) E (hidden_walk s x) (Local s p) n
 local_left s t p n b {E} {x} d k h =
     let a = h.done in
     record {
@@ -226,7 +246,9 @@ local_left s t p n b {E} {x} d k h =
           (k.held T j ∙ ap (λ c. c == 1) (sym h.code)) (h.left T j);
     }
 
-awake_step : (c : Bool) (e : Expression) (t p : Term) (S : ℕ → Bool) (n : ℕ) {E : Environment} {x : Walk} → value e E ≡ known c → holds S p (n + 1) ≡ true → t ≡ residual S p (n + 1) → Keeps x p (n + 1) → (c ≡ false → Stepped t E x p (n + 1)) → Stepped (Awake e t) E (cond c (record { signals = λ i. false; code = 1; kept = selected_in S p (n + 1) }) x) (Suspend e p) n
+awake_step : (c : Bool) (e : Expression) (t p : Term) (S : ℕ → Bool) (n : ℕ) {E : Environment} {x : Walk} → value e E ≡ known c → holds S p (n + 1) ≡ true →
+    t ≡ residual S p (n + 1) → Keeps x p (n + 1) → (c ≡ false → Stepped t E x p (n + 1)) →
+    Stepped (Awake e t) E (cond c (record { signals = λ i. false; code = 1; kept = selected_in S p (n + 1) }) x) (Suspend e p) n
 awake_step true e t p S n {E} {x} v h i k f =
     record {
       done = record { emitted = λ j. false; code = 1; residual = Awake e t };
@@ -245,7 +267,10 @@ awake_step false e t p S n {E} {x} v h i k f =
     s.code s.left k
 
 -- a sequence whose second term is u; the whole is the statement that is left or started
-seq_step : (t u whole p : Term) (n c : ℕ) {E : Environment} {x : Walk} (y : Walk) → (s : Stepped t E x p c) → ((x.code ≡ 0 → ⊥) → (T : ℕ → Bool) → Same T x.kept n (n + statement_count whole) → left_by s.done.code (Seq s.done.residual u) ≡ left_if (holds T whole n) (residual T whole n)) → (x.code ≡ 0 → Leaves (step u E) y whole n) → Stepped (Seq t u) E (then_walk x y) whole n
+seq_step : (t u whole p : Term) (n c : ℕ) {E : Environment} {x : Walk} (y : Walk) → (s : Stepped t E x p c) →
+    ((x.code ≡ 0 → ⊥) → (T : ℕ → Bool) → Same T x.kept n (n + statement_count whole) →
+    left_by s.done.code (Seq s.done.residual u) ≡ left_if (holds T whole n) (residual T whole n)) → (x.code ≡ 0 → Leaves (step u E) y whole n) →
+    Stepped (Seq t u) E (then_walk x y) whole n
 seq_step t u whole p n c {E} {x} y s f g =
     from_leaves {t = Seq t u} {E = E}
     (turn_step t u u E x y s.done s.is s.code (λ o w. Leaves o w whole n)
@@ -260,7 +285,9 @@ seq_step t u whole p n c {E} {x} y s f g =
     (λ z. (leaving (λ r. Seq r u) s.done, refl, s.code, f z)))
 
 module _ (R : Wire → ℕ) (N : ℕ) (most : (w : Wire) → R w ≤ N) where
-  pub started_step : (V : Valuation) (t : Term) (B : Scope) (f : Layer → Formula) (n q : ℕ) (r : ℕ → ℕ) (v : Values) (b : Bool) (E : Environment) → q ≤ n → NoInstantLoop t → IsKernel t → InScope B t → EachStarted (RowAt (Up R)) B f t n (Started q) → Ranks R N B (Started q) r → StartedWalked V t n (Started q) v b → b ≡ true → Knows E v N r → Stepped t E (started_walk (statuses V) t n (Started q) v) t n
+  pub started_step : (V : Valuation) (t : Term) (B : Scope) (f : Layer → Formula) (n q : ℕ) (r : ℕ → ℕ) (v : Values) (b : Bool) (E : Environment) → q ≤ n →
+      NoInstantLoop t → IsKernel t → InScope B t → EachStarted (RowAt (Up R)) B f t n (Started q) → Ranks R N B (Started q) r →
+      StartedWalked V t n (Started q) v b → b ≡ true → Knows E v N r → Stepped t E (started_walk (statuses V) t n (Started q) v) t n
   started_step V Nothing B f n q r v b E l nl kn i e k w h o =
       record { done = _; is = refl; code = refl; left = λ T s. refl }
   started_step V Pause B f n q r v b E l nl kn i e k w h o =
@@ -334,7 +361,8 @@ module _ (R : Wire → ℕ) (N : ℕ) (most : (w : Wire) → R w ≤ N) where
       (with_settled s (known c) c m N N (omega arith) o (λ z. refl) (below_known c)))
   started_step V (Awake x p) B f n q r v b E l nl kn i e k w h o = absurd kn
 
-  held_step : (S : ℕ → Bool) (c : Bool) (t u whole : Term) (n : ℕ) {E : Environment} {x y : Walk} → (c ≡ true → Stepped t E x whole n) → (c ≡ false → Stepped u E y whole n) → Stepped (cond c t u) E (cond c x y) whole n
+  held_step : (S : ℕ → Bool) (c : Bool) (t u whole : Term) (n : ℕ) {E : Environment} {x y : Walk} → (c ≡ true → Stepped t E x whole n) →
+      (c ≡ false → Stepped u E y whole n) → Stepped (cond c t u) E (cond c x y) whole n
   held_step S true t u whole n f g = f refl
   held_step S false t u whole n f g = g refl
 
@@ -349,7 +377,8 @@ module _ (R : Wire → ℕ) (N : ℕ) (most : (w : Wire) → R w ≤ N) where
       }
 
   -- the part of a statement with two parts that alone holds a selected pause
-  held_first : (p q whole : Term) (n : ℕ) (t : Term) {E : Environment} {x : Walk} → Two p q whole n (λ z. z) → Keeps x p (n + 1) → Stepped t E x p (n + 1) → Stepped t E x whole n
+  held_first : (p q whole : Term) (n : ℕ) (t : Term) {E : Environment} {x : Walk} → Two p q whole n (λ z. z) → Keeps x p (n + 1) → Stepped t E x p (n + 1) →
+      Stepped t E x whole n
   held_first p q whole n t {E} {x} two k s =
       record {
         done = s.done;
@@ -362,7 +391,8 @@ module _ (R : Wire → ℕ) (N : ℕ) (most : (w : Wire) → R w ≤ N) where
             ∙ whole_left p q whole n (λ z. z) two T;
       }
 
-  held_second : (p q whole : Term) (n : ℕ) (F : Term → Term) (t : Term) {E : Environment} {x : Walk} → Two p q whole n F → Keeps x q (n + 1 + statement_count p) → Stepped t E x q (n + 1 + statement_count p) → Stepped t E x whole n
+  held_second : (p q whole : Term) (n : ℕ) (F : Term → Term) (t : Term) {E : Environment} {x : Walk} → Two p q whole n F →
+      Keeps x q (n + 1 + statement_count p) → Stepped t E x q (n + 1 + statement_count p) → Stepped t E x whole n
   held_second p q whole n F t {E} {x} two k s =
       record {
         done = s.done;
@@ -371,7 +401,9 @@ module _ (R : Wire → ℕ) (N : ℕ) (most : (w : Wire) → R w ≤ N) where
         left = second_left p q whole n F s.done.residual two s.left k;
       }
 
-  pub resumed_step : (S : ℕ → Bool) (V : Valuation) (t : Term) (B : Scope) (f : Layer → Formula) (n : ℕ) (r : ℕ → ℕ) (v : Values) (g : Bool) (E : Environment) → NoInstantLoop t → IsKernel t → InScope B t → Above B n → holds S t n ≡ true → IsSelected S t n → EachResumed (RowAt (Up R)) B f t n → Ranks R N B Resumed r → ResumedWalked V S t n v g → g ≡ true → Knows E v N r → Stepped (residual S t n) E (resumed_walk (statuses V) S t n v) t n
+  pub resumed_step : (S : ℕ → Bool) (V : Valuation) (t : Term) (B : Scope) (f : Layer → Formula) (n : ℕ) (r : ℕ → ℕ) (v : Values) (g : Bool) (E : Environment) →
+      NoInstantLoop t → IsKernel t → InScope B t → Above B n → holds S t n ≡ true → IsSelected S t n → EachResumed (RowAt (Up R)) B f t n →
+      Ranks R N B Resumed r → ResumedWalked V S t n v g → g ≡ true → Knows E v N r → Stepped (residual S t n) E (resumed_walk (statuses V) S t n v) t n
   resumed_step S V Nothing B f n r v g E nl b i a h s e k w o y = absurd (false≢true h)
   resumed_step S V Pause B f n r v g E nl b i a h s e k w o y =
       record { done = _; is = refl; code = refl; left = λ T z. cond_both (T n) Nothing Nothing (λ u. Nothing ≡ u) (λ c. refl) (λ c. refl) }
@@ -410,12 +442,14 @@ module _ (R : Wire → ℕ) (N : ℕ) (most : (w : Wire) → R w ≤ N) where
       let live = resumed_live S p (n + 1) np b.0 c (s.1 c) in
       let codes = residual_codes S p (n + 1) np b.0 c (s.1 c) in
       let root = ranks_root R N B m r (above_more B n m (omega arith) a) k in
-      let first = resumed_place R N S V p B _ (n + 1) r v _ np b.0 i.0 (above_more B n (n + 1) (omega arith) a) c (s.1 c) (e.1 live) k (w.1 live) (and_true o c) in
+      let first = resumed_place R N S V p B _ (n + 1) r v _ np b.0 i.0 (above_more B n (n + 1) (omega arith) a) c (s.1 c) (e.1 live) k (w.1 live)
+      (and_true o c) in
       let st = resumed_step S V p B _ (n + 1) r v _ E np b.0 i.0 (above_more B n (n + 1) (omega arith) a) c (s.1 c) (e.1 live) k (w.1 live) (and_true o c) y in
       seq_step (residual S p (n + 1)) q (Seq p q) p n (n + 1) (started_walk (statuses V) q m (Started m) v) st
       (λ z. first_left p q (Seq p q) n (λ u. Seq u q) st.done two st.code st.left (resumed_keeps (statuses V) S p (n + 1) v b.0 c))
       (λ z.
-      let d : resumed_codes p 0 ≡ true = codes 0 (subst (λ j. started_codes (residual S p (n + 1)) j ≡ true) z (place_code (residual_static S p (n + 1) np) first)) in
+      let d : resumed_codes p 0 ≡ true = codes 0 (subst (λ j. started_codes (residual S p (n + 1)) j ≡ true) z
+      (place_code (residual_static S p (n + 1) np) first)) in
       let u = started_step V q B _ m m r v _ E (omega arith) nq b.1 i.1 (e.3 d) root (w.3 d) (and_true (and_true o c) (eq-eqb _ 0 z)) y in (
         u.done,
         u.is,
@@ -441,7 +475,8 @@ module _ (R : Wire → ℕ) (N : ℕ) (most : (w : Wire) → R w ≤ N) where
       lifted st.done.code (holds T p (n + 1)) (λ x. Seq x (Loop at p)) st.done.residual (residual T p (n + 1))
       ((resumed_keeps (statuses V) S p (n + 1) v b h).held T j ∙ ap (λ c. c == 1) (sym st.code)) (st.left T j))
       (λ z.
-      let d : resumed_codes p 0 ≡ true = codes 0 (subst (λ j. started_codes (residual S p (n + 1)) j ≡ true) z (place_code (residual_static S p (n + 1) parts.1) first)) in
+      let d : resumed_codes p 0 ≡ true = codes 0 (subst (λ j. started_codes (residual S p (n + 1)) j ≡ true) z
+      (place_code (residual_static S p (n + 1) parts.1) first)) in
       let again = started_place R N V p B _ (n + 1) (n + 1) r v _ (omega arith) parts.1 b i (e.2 d) root (w.2 d) (and_true o (eq-eqb _ 0 z)) in
       let u = started_step V p B _ (n + 1) (n + 1) r v _ E (omega arith) parts.1 b i (e.2 d) root (w.2 d) (and_true o (eq-eqb _ 0 z)) y in
       let never : (u.done.code == 0) ≡ false =
@@ -475,9 +510,11 @@ module _ (R : Wire → ℕ) (N : ℕ) (most : (w : Wire) → R w ≤ N) where
       let c = V (StatusOf n Resumed) in
       let live = resumed_live S p (n + 1) nl b h s in
       let more = ranks_more R N B n x Resumed r refl k in
-      let body = resumed_place R N S V p (bind B x n) _ (n + 1) (with_rank r x m) (with_value v x c) g nl b (i n) (above_bind B n x a) h s (e.1 live) more (w.2 live) o in
+      let body = resumed_place R N S V p (bind B x n) _ (n + 1) (with_rank r x m) (with_value v x c) g nl b (i n) (above_bind B n x a) h s (e.1 live) more
+      (w.2 live) o in
       local_left x (residual S p (n + 1)) p n c (decision_is x m c (flag_gone o w.1) body E N (most _) y)
       (resumed_keeps (statuses V) S p (n + 1) (with_value v x c) b h)
-      (resumed_step S V p (bind B x n) _ (n + 1) (with_rank r x m) (with_value v x c) g (with_status E x (known c)) nl b (i n) (above_bind B n x a) h s (e.1 live) more (w.2 live) o
+      (resumed_step S V p (bind B x n) _ (n + 1) (with_rank r x m) (with_value v x c) g (with_status E x (known c)) nl b (i n) (above_bind B n x a) h s
+      (e.1 live) more (w.2 live) o
       (with_settled x (known c) c m N N (omega arith) y (λ z. refl) (below_known c)))
   resumed_step S V (Awake x p) B f n r v g E nl b i a h s e k w o y = absurd b

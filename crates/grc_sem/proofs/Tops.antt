@@ -1,5 +1,6 @@
 -- What the body of a program sees, selects and emits, and what the equation of an outgoing signal means.
-use Rattle.std.proofs.Common.{◌≡◌, ℕ, ◌+◌, ◌<◌, ◌≤◌, Bool, true, false, ◌&&◌, ◌||◌, ◌==◌, cond, ltb, List, [], ◌∷◌, ◌++◌, length, refl, sym, ap, ◌∙◌, ⊎_elim, arith}
+use Rattle.std.proofs.Common.{◌≡◌, ℕ, ◌+◌, ◌<◌, ◌≤◌, Bool, true, false, ◌&&◌, ◌||◌, ◌==◌, cond, ltb, List, [], ◌∷◌, ◌++◌, length, refl, sym, ap, ◌∙◌, ⊎_elim}
+use Rattle.std.proofs.Common.{arith}
 use Rattle.std.specs.List.{list_any}
 use Rattle.std.proofs.lemmas.List.{get_or_past}
 use Rattle.std.proofs.lemmas.List.Folds.{list_any-append}
@@ -58,13 +59,16 @@ nothing_at Pause n m = refl
 nothing_at (Emit x) n m = refl
 nothing_at (Exit k) n m = refl
 nothing_at (Present e p q) n m =
-    cond_none (m == n) (nothing_held (Present e p q) n) (cond_none (ltb m (n + 1 + statement_count p)) (nothing_at p (n + 1) m) (nothing_at q (n + 1 + statement_count p) m))
+    cond_none (m == n) (nothing_held (Present e p q) n) (cond_none (ltb m (n + 1 + statement_count p)) (nothing_at p (n + 1) m)
+    (nothing_at q (n + 1 + statement_count p) m))
 nothing_at (Suspend e p) n m = cond_none (m == n) (nothing_held (Suspend e p) n) (nothing_at p (n + 1) m)
 nothing_at (Seq p q) n m =
-    cond_none (m == n) (nothing_held (Seq p q) n) (cond_none (ltb m (n + 1 + statement_count p)) (nothing_at p (n + 1) m) (nothing_at q (n + 1 + statement_count p) m))
+    cond_none (m == n) (nothing_held (Seq p q) n) (cond_none (ltb m (n + 1 + statement_count p)) (nothing_at p (n + 1) m)
+    (nothing_at q (n + 1 + statement_count p) m))
 nothing_at (Loop at p) n m = cond_none (m == n) (nothing_held (Loop at p) n) (nothing_at p (n + 1) m)
 nothing_at (Par p q) n m =
-    cond_none (m == n) (nothing_held (Par p q) n) (cond_none (ltb m (n + 1 + statement_count p)) (nothing_at p (n + 1) m) (nothing_at q (n + 1 + statement_count p) m))
+    cond_none (m == n) (nothing_held (Par p q) n) (cond_none (ltb m (n + 1 + statement_count p)) (nothing_at p (n + 1) m)
+    (nothing_at q (n + 1 + statement_count p) m))
 nothing_at (Trap p) n m = cond_none (m == n) (nothing_held (Trap p) n) (nothing_at p (n + 1) m)
 nothing_at (Local x p) n m = cond_none (m == n) (nothing_held (Local x p) n) (nothing_at p (n + 1) m)
 nothing_at (Awake e p) n m = refl
@@ -96,7 +100,8 @@ module _ (inputs outs : ℕ) (body : Term) where
       go (goes_out l k h) = let f : Outgoing ≡ BoundAt b = sym h ∙ e in cc
       go (unbound l h) = let f : Unbound ≡ BoundAt b = sym h ∙ e in cc
 
-  pub seen_free : (given : Values) (V : Valuation) (b : Binding) (s : ℕ) → ((c : ℕ) → b ≡ BoundAt c → ⊥) → seen_value given V b s Resumed ≡ seen_value given V b s (Started 0)
+  pub seen_free : (given : Values) (V : Valuation) (b : Binding) (s : ℕ) → ((c : ℕ) → b ≡ BoundAt c → ⊥) →
+      seen_value given V b s Resumed ≡ seen_value given V b s (Started 0)
   seen_free given V Entering s h = refl
   seen_free given V Outgoing s h = refl
   seen_free given V (BoundAt c) s h = absurd (h c refl)
@@ -121,33 +126,43 @@ module _ (inputs outs : ℕ) (body : Term) where
   or_nothing false = refl
 
   -- what the program emits, where its wires are those of the walk
-  module _ (q : State) (event : List Bool) (V : Valuation) (nl : NoInstantLoop body) (kernel : IsKernel body) (state : IsState q body) (started : StartedWalked V body 0 (Started 0) (seen_values (is_given event) V B0 Resumed) (is_initial q)) (resumed : has_code (resumed_codes body) ≡ true → ResumedWalked V (selected_of q) body 0 (seen_values (is_given event) V B0 Resumed) (holds (selected_of q) body 0)) where
+  module _ (q : State) (event : List Bool) (V : Valuation) (nl : NoInstantLoop body) (kernel : IsKernel body) (state : IsState q body)
+      (started : StartedWalked V body 0 (Started 0) (seen_values (is_given event) V B0 Resumed) (is_initial q))
+      (resumed : has_code (resumed_codes body) ≡ true → ResumedWalked V (selected_of q) body 0 (seen_values (is_given event) V B0 Resumed)
+      (holds (selected_of q) body 0)) where
     abbrev v : Values
     v = seen_values (is_given event) V B0 Resumed
 
     abbrev S : ℕ → Bool
     S = selected_of q
 
-    emitted_is : (o : ℕ) → inputs ≤ o → o < inputs + outs → emitted V (Out o) body_all ≡ ((holds S body 0 && (resumed_walk (statuses V) S body 0 v).signals o) || (is_initial q && (started_walk (statuses V) body 0 (Started 0) v).signals o))
+    emitted_is : (o : ℕ) → inputs ≤ o → o < inputs + outs → emitted V (Out o) body_all ≡
+        ((holds S body 0 && (resumed_walk (statuses V) S body 0 v).signals o) || (is_initial q && (started_walk (statuses V) body 0 (Started 0) v).signals o))
     emitted_is o i j =
         let F = emission V (Out o) in
         split F (body_layers body) (body_liveness body) B0 body_entry body 0 kernel (body_agrees body)
         ∙ ap (λ b. b || (started_any F B0 body_entry body 0 (Started 0) || false))
-        (guard_bits (has_code (resumed_codes body)) true (holds S body 0) ((resumed_walk (statuses V) S body 0 v).signals o) (resumed_any F B0 body_entry body 0)
-        (λ live. resumed_emits V S (Out o) o true body B0 body_entry 0 v (holds S body 0) nl kernel (state_reach q body state) (resumed live) (out_fresh o) above_top (out_shows o Resumed i j))
+        (guard_bits (has_code (resumed_codes body)) true (holds S body 0) ((resumed_walk (statuses V) S body 0 v).signals o)
+        (resumed_any F B0 body_entry body 0)
+        (λ live. resumed_emits V S (Out o) o true body B0 body_entry 0 v (holds S body 0) nl kernel (state_reach q body state) (resumed live)
+        (out_fresh o) above_top (out_shows o Resumed i j))
         (λ h. resumed_live S body 0 nl kernel h ((state_reach q body state).selected h)))
         ∙ ap (λ b. (holds S body 0 && (resumed_walk (statuses V) S body 0 v).signals o) || b)
         (or_nothing (started_any F B0 body_entry body 0 (Started 0))
         ∙ started_emits V (Out o) o true body B0 body_entry 0 (Started 0) v (is_initial q) nl kernel started (out_fresh o) (out_shows o (Started 0) i j))
 
-    walk_signals : (o : ℕ) → ((holds S body 0 && (resumed_walk (statuses V) S body 0 v).signals o) || (is_initial q && (started_walk (statuses V) body 0 (Started 0) v).signals o)) ≡ (body_walk (statuses V) q body v).signals o
+    walk_signals : (o : ℕ) → ((holds S body 0 && (resumed_walk (statuses V) S body 0 v).signals o)
+        || (is_initial q && (started_walk (statuses V) body 0 (Started 0) v).signals o)) ≡ (body_walk (statuses V) q body v).signals o
     walk_signals o = go q v
       where
-        go : (r : State) (u : Values) → ((holds (selected_of r) body 0 && (resumed_walk (statuses V) (selected_of r) body 0 u).signals o) || (is_initial r && (started_walk (statuses V) body 0 (Started 0) u).signals o)) ≡ (body_walk (statuses V) r body u).signals o
-        go Initial u = ap (λ b. (b && (resumed_walk (statuses V) (λ m. false) body 0 u).signals o) || (started_walk (statuses V) body 0 (Started 0) u).signals o) (nothing_held body 0)
+        go : (r : State) (u : Values) → ((holds (selected_of r) body 0 && (resumed_walk (statuses V) (selected_of r) body 0 u).signals o)
+            || (is_initial r && (started_walk (statuses V) body 0 (Started 0) u).signals o)) ≡ (body_walk (statuses V) r body u).signals o
+        go Initial u = ap (λ b. (b && (resumed_walk (statuses V) (λ m. false) body 0 u).signals o)
+            || (started_walk (statuses V) body 0 (Started 0) u).signals o) (nothing_held body 0)
         go (Selecting T) u = held (holds T body 0)
           where
-            held : (h : Bool) → ((h && (resumed_walk (statuses V) T body 0 u).signals o) || false) ≡ (cond h (resumed_walk (statuses V) T body 0 u) (ended 0)).signals o
+            held : (h : Bool) → ((h && (resumed_walk (statuses V) T body 0 u).signals o) || false) ≡
+                (cond h (resumed_walk (statuses V) T body 0 u) (ended 0)).signals o
             held true = or_nothing _
             held false = refl
 
@@ -156,13 +171,15 @@ module _ (inputs outs : ℕ) (body : Term) where
 
   -- an outgoing signal is present where it is given or emitted
   module _ (given_count : ℕ) (q : State) (event : List Bool) (V : Valuation) where
-    given_only : (o : ℕ) → length event ≡ given_count → list_any (val B0 body q (is_given event) V) (cond (ltb o given_count) (Input o ∷ []) []) ≡ is_given event o
+    given_only : (o : ℕ) → length event ≡ given_count → list_any (val B0 body q (is_given event) V) (cond (ltb o given_count) (Input o ∷ []) []) ≡
+        is_given event o
     given_only o w =
         cond_both (ltb o given_count) (Input o ∷ []) [] (λ l. list_any (val B0 body q (is_given event) V) l ≡ is_given event o)
         (λ e. or_nothing (is_given event o))
         (λ e. sym (get_or_past event o false (⊎_elim (λ l. absurd (false≢true (sym e ∙ lt-ltb o given_count l))) (λ l. omega arith) (cases_lt o given_count))))
 
-    pub output_means : length event ≡ given_count → (o : ℕ) → val B0 body q (is_given event) V (output_equation given_count body_all o).formula ≡ (is_given event o || emitted V (Out o) body_all)
+    pub output_means : length event ≡ given_count → (o : ℕ) → val B0 body q (is_given event) V (output_equation given_count body_all o).formula ≡
+        (is_given event o || emitted V (Out o) body_all)
     output_means w o =
         let own = cond (ltb o given_count) (Input o ∷ []) [] in
         any_meaning B0 body q (is_given event) V (own ++ emissions (Out o) body_all)

@@ -22,7 +22,8 @@ choice_code : (P : ℕ → Type 0) (c : Bool) (x y : Walk) → (c ≡ true → P
 choice_code P true x y f g = f refl
 choice_code P false x y f g = g refl
 
-pub started_code : (Z : ℕ → Layer → Bool) (t : Term) (n : ℕ) (l : Layer) (v : Values) → NoInstantLoop t → IsKernel t → started_codes t (started_walk Z t n l v).code ≡ true
+pub started_code : (Z : ℕ → Layer → Bool) (t : Term) (n : ℕ) (l : Layer) (v : Values) → NoInstantLoop t → IsKernel t →
+    started_codes t (started_walk Z t n l v).code ≡ true
 started_code Z Nothing n l v nl k = refl
 started_code Z Pause n l v nl k = refl
 started_code Z (Emit s) n l v nl k = refl
@@ -41,7 +42,8 @@ started_code Z (Seq p q) n l v nl k =
   where
     in_second : (p q : Term) (c : ℕ) → started_codes p 0 ≡ true → started_codes q c ≡ true → started_codes (Seq p q) c ≡ true
     in_second p q c z h =
-        subst (λ A. A c ≡ true) (sym (cond-true (started_codes p 0) (either (except 0 (started_codes p)) (started_codes q)) (started_codes p) z)) (or_right _ _ h)
+        subst (λ A. A c ≡ true) (sym (cond-true (started_codes p 0) (either (except 0 (started_codes p)) (started_codes q)) (started_codes p) z))
+        (or_right _ _ h)
 
     in_first : (p q : Term) (c : ℕ) → started_codes p c ≡ true → (c ≡ 0 → ⊥) → started_codes (Seq p q) c ≡ true
     in_first p q c h z =
@@ -59,11 +61,13 @@ started_code Z (Trap p) n l v nl k = lowered-in (started_codes p) _ (started_cod
 started_code Z (Local s p) n l v nl k = started_code Z p (n + 1) l (with_value v s (Z n l)) nl k
 started_code Z (Awake e p) n l v nl k = absurd k
 
-branch_code : (c : Bool) (p : Term) (x : Walk) → (c || can_pass p) ≡ true → (c ≡ true → resumed_codes p x.code ≡ true) → branch_codes (started_codes p) (resumed_codes p) (cond c x (ended 0)).code ≡ true
+branch_code : (c : Bool) (p : Term) (x : Walk) → (c || can_pass p) ≡ true → (c ≡ true → resumed_codes p x.code ≡ true) →
+    branch_codes (started_codes p) (resumed_codes p) (cond c x (ended 0)).code ≡ true
 branch_code true p x o f = or_left _ _ (f refl)
 branch_code false p x o f = or_right (resumed_codes p 0) _ (and_from _ _ o refl)
 
-pub resumed_code : (Z : ℕ → Layer → Bool) (S : ℕ → Bool) (t : Term) (n : ℕ) (v : Values) → NoInstantLoop t → IsKernel t → holds S t n ≡ true → IsSelected S t n → resumed_codes t (resumed_walk Z S t n v).code ≡ true
+pub resumed_code : (Z : ℕ → Layer → Bool) (S : ℕ → Bool) (t : Term) (n : ℕ) (v : Values) → NoInstantLoop t → IsKernel t → holds S t n ≡ true →
+    IsSelected S t n → resumed_codes t (resumed_walk Z S t n v).code ≡ true
 resumed_code Z S Nothing n v nl k h s = absurd (false≢true h)
 resumed_code Z S Pause n v nl k h s = refl
 resumed_code Z S (Emit x) n v nl k h s = absurd (false≢true h)

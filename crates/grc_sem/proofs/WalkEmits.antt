@@ -37,7 +37,8 @@ eqb_flip : (a b : ℕ) → (a == b) ≡ (b == a)
 eqb_flip a b =
     ⊎_elim (λ e. e ∙ sym (eq-eqb b a (sym (eqb-true a b e)))) (λ e. e ∙ sym (ne_eqb b a (λ z. eqb-false a b e (sym z)))) (cases_Bool (a == b))
 
-bind_shows : (d : Bool) (n x s t : ℕ) (b : Binding) (l : Layer) (w : Wire) (c : Bool) → (t == x) ≡ d → same_wire (StatusOf n (layer_above n l)) w ≡ false → is_wire (status_wire b t l) w ≡ (c && t == s) → is_wire (status_wire (cond d (BoundAt n) b) t l) w ≡ ((c && not (x == s)) && t == s)
+bind_shows : (d : Bool) (n x s t : ℕ) (b : Binding) (l : Layer) (w : Wire) (c : Bool) → (t == x) ≡ d → same_wire (StatusOf n (layer_above n l)) w ≡ false →
+    is_wire (status_wire b t l) w ≡ (c && t == s) → is_wire (status_wire (cond d (BoundAt n) b) t l) w ≡ ((c && not (x == s)) && t == s)
 bind_shows true n x s t b l w c d f e =
     f ∙ sym (gone c (x == s) (t == s) (ap (λ i. i == s) (sym (eqb-true t x d))))
   where
@@ -97,7 +98,8 @@ cond_signals false x y s = refl
 then_signals : (x y : Walk) (s : ℕ) → cond (x.code == 0) (x.signals s || y.signals s) (x.signals s) ≡ (then_walk x y).signals s
 then_signals x y s = go (x.code == 0)
   where
-    go : (d : Bool) → cond d (x.signals s || y.signals s) (x.signals s) ≡ (cond d (record { signals = λ t. x.signals t || y.signals t; code = y.code; kept = y.kept }) x).signals s
+    go : (d : Bool) → cond d (x.signals s || y.signals s) (x.signals s) ≡
+        (cond d (record { signals = λ t. x.signals t || y.signals t; code = y.code; kept = y.kept }) x).signals s
     go true = refl
     go false = refl
 
@@ -134,7 +136,8 @@ guard_bits false false false x P f h = refl
 
 module _ (V : Valuation) where
   -- a statement none of whose signals has the wire
-  pub started_silent : (w : Wire) (s : ℕ) (t : Term) (B : Scope) (f : Layer → Formula) (n : ℕ) (l : Layer) → IsKernel t → Fresh w n → Shows B l w s false → started_any (emission V w) B f t n l ≡ false
+  pub started_silent : (w : Wire) (s : ℕ) (t : Term) (B : Scope) (f : Layer → Formula) (n : ℕ) (l : Layer) → IsKernel t → Fresh w n → Shows B l w s false →
+      started_any (emission V w) B f t n l ≡ false
   started_silent w s Nothing B f n l k r h = refl
   started_silent w s Pause B f n l k r h = refl
   started_silent w s (Emit x) B f n l k r h = ap (λ b. b && V (Go n l)) (h.each x)
@@ -145,7 +148,8 @@ module _ (V : Valuation) where
   started_silent w s (Suspend e p) B f n l k r h = started_silent w s p B _ (n + 1) l k (fresh_more n (n + 1) (omega arith) r) h
   started_silent w s (Seq p q) B f n l k r h =
       or_same (started_silent w s p B _ (n + 1) l k.0 (fresh_more n (n + 1) (omega arith) r) h)
-      (ap (λ b. started_codes p 0 && b) (started_silent w s q B _ (n + 1 + statement_count p) l k.1 (fresh_more n (n + 1 + statement_count p) (omega arith) r) h)
+      (ap (λ b. started_codes p 0 && b) (started_silent w s q B _ (n + 1 + statement_count p) l k.1
+      (fresh_more n (n + 1 + statement_count p) (omega arith) r) h)
       ∙ and_nothing (started_codes p 0))
     where
       and_nothing : (a : Bool) → (a && false) ≡ false
@@ -164,39 +168,48 @@ module _ (V : Valuation) where
   and_none true e = e
   and_none false e = refl
 
-  pub resumed_silent : (w : Wire) (s : ℕ) (t : Term) (B : Scope) (f : Layer → Formula) (n : ℕ) → IsKernel t → Fresh w n → Above B n → Shows B Resumed w s false → resumed_any (emission V w) B f t n ≡ false
+  pub resumed_silent : (w : Wire) (s : ℕ) (t : Term) (B : Scope) (f : Layer → Formula) (n : ℕ) → IsKernel t → Fresh w n → Above B n →
+      Shows B Resumed w s false → resumed_any (emission V w) B f t n ≡ false
   resumed_silent w s Nothing B f n k r a h = refl
   resumed_silent w s Pause B f n k r a h = refl
   resumed_silent w s (Emit x) B f n k r a h = ap (λ b. b && V (Go n Resumed)) (h.each x)
   resumed_silent w s (Exit c) B f n k r a h = refl
   resumed_silent w s (Present e p q) B f n k r a h =
       let m = n + 1 + statement_count p in
-      or_same (and_none (has_code (resumed_codes p)) (resumed_silent w s p B _ (n + 1) k.0 (fresh_more n (n + 1) (omega arith) r) (above_more B n (n + 1) (omega arith) a) h))
+      or_same (and_none (has_code (resumed_codes p)) (resumed_silent w s p B _ (n + 1) k.0 (fresh_more n (n + 1) (omega arith) r)
+      (above_more B n (n + 1) (omega arith) a) h))
       (and_none (has_code (resumed_codes q)) (resumed_silent w s q B _ m k.1 (fresh_more n m (omega arith) r) (above_more B n m (omega arith) a) h))
   resumed_silent w s (Suspend e p) B f n k r a h =
-      and_none (has_code (resumed_codes p)) (resumed_silent w s p B _ (n + 1) k (fresh_more n (n + 1) (omega arith) r) (above_more B n (n + 1) (omega arith) a) h)
+      and_none (has_code (resumed_codes p)) (resumed_silent w s p B _ (n + 1) k (fresh_more n (n + 1) (omega arith) r)
+      (above_more B n (n + 1) (omega arith) a) h)
   resumed_silent w s (Seq p q) B f n k r a h =
       let m = n + 1 + statement_count p in
       let am = above_more B n m (omega arith) a in
-      or_same (and_none (has_code (resumed_codes p)) (resumed_silent w s p B _ (n + 1) k.0 (fresh_more n (n + 1) (omega arith) r) (above_more B n (n + 1) (omega arith) a) h))
+      or_same (and_none (has_code (resumed_codes p)) (resumed_silent w s p B _ (n + 1) k.0 (fresh_more n (n + 1) (omega arith) r)
+      (above_more B n (n + 1) (omega arith) a) h))
       (or_same (and_none (can_pass p && has_code (resumed_codes q)) (resumed_silent w s q B _ m k.1 (fresh_more n m (omega arith) r) am h))
       (and_none (resumed_codes p 0) (started_silent w s q B _ m (Started m) k.1 (fresh_more n m (omega arith) r) (shows_root B m s w false am h))))
   resumed_silent w s (Loop at p) B f n k r a h =
       let am = above_more B n (n + 1) (omega arith) a in
       or_same (and_none (has_code (resumed_codes p)) (resumed_silent w s p B _ (n + 1) k (fresh_more n (n + 1) (omega arith) r) am h))
-      (and_none (resumed_codes p 0) (started_silent w s p B _ (n + 1) (Started (n + 1)) k (fresh_more n (n + 1) (omega arith) r) (shows_root B (n + 1) s w false am h)))
+      (and_none (resumed_codes p 0) (started_silent w s p B _ (n + 1) (Started (n + 1)) k (fresh_more n (n + 1) (omega arith) r)
+      (shows_root B (n + 1) s w false am h)))
   resumed_silent w s (Par p q) B f n k r a h =
       let m = n + 1 + statement_count p in
-      or_same (and_none (has_code (resumed_codes p)) (resumed_silent w s p B _ (n + 1) k.0 (fresh_more n (n + 1) (omega arith) r) (above_more B n (n + 1) (omega arith) a) h))
+      or_same (and_none (has_code (resumed_codes p)) (resumed_silent w s p B _ (n + 1) k.0 (fresh_more n (n + 1) (omega arith) r)
+      (above_more B n (n + 1) (omega arith) a) h))
       (and_none (has_code (resumed_codes q)) (resumed_silent w s q B _ m k.1 (fresh_more n m (omega arith) r) (above_more B n m (omega arith) a) h))
   resumed_silent w s (Trap p) B f n k r a h =
-      and_none (has_code (resumed_codes p)) (resumed_silent w s p B _ (n + 1) k (fresh_more n (n + 1) (omega arith) r) (above_more B n (n + 1) (omega arith) a) h)
+      and_none (has_code (resumed_codes p)) (resumed_silent w s p B _ (n + 1) k (fresh_more n (n + 1) (omega arith) r)
+      (above_more B n (n + 1) (omega arith) a) h)
   resumed_silent w s (Local x p) B f n k r a h =
       and_none (has_code (resumed_codes p))
       (resumed_silent w s p (bind B x n) _ (n + 1) k (fresh_more n (n + 1) (omega arith) r) (above_bind B n x a) (shows_bind B n x s Resumed w false r h))
   resumed_silent w s (Awake e p) B f n k r a h = absurd k
 
-  pub started_emits : (w : Wire) (s : ℕ) (c : Bool) (t : Term) (B : Scope) (f : Layer → Formula) (n : ℕ) (l : Layer) (v : Values) (b : Bool) → NoInstantLoop t → IsKernel t → StartedWalked V t n l v b → Fresh w n → Shows B l w s c → started_any (emission V w) B f t n l ≡ (c && (b && (started_walk (statuses V) t n l v).signals s))
+  pub started_emits : (w : Wire) (s : ℕ) (c : Bool) (t : Term) (B : Scope) (f : Layer → Formula) (n : ℕ) (l : Layer) (v : Values) (b : Bool) → NoInstantLoop t →
+      IsKernel t → StartedWalked V t n l v b → Fresh w n → Shows B l w s c →
+      started_any (emission V w) B f t n l ≡ (c && (b && (started_walk (statuses V) t n l v).signals s))
   started_emits w s c Nothing B f n l v b nl k h r e = sym (none c b)
     where
       none : (c b : Bool) → (c && (b && false)) ≡ false
@@ -259,7 +272,8 @@ pub record Reach (S : ℕ → Bool) (t : Term) (n : ℕ) (b : Bool) : Type 0 whe
   pub held : b ≡ true → holds S t n ≡ true
   pub selected : b ≡ true → IsSelected S t n
 
-held_bits : (c b h k x y : Bool) → (b ≡ true → (h && k) ≡ false) → (b ≡ true → (h || k) ≡ true) → ((c && ((b && h) && x)) || (c && ((b && k) && y))) ≡ (c && (b && cond h x y))
+held_bits : (c b h k x y : Bool) → (b ≡ true → (h && k) ≡ false) → (b ≡ true → (h || k) ≡ true) →
+    ((c && ((b && h) && x)) || (c && ((b && k) && y))) ≡ (c && (b && cond h x y))
 held_bits true true true true x y f g = absurd (false≢true (sym (f refl)))
 held_bits true true true false x y f g = or-false x
 held_bits true true false true x y f g = refl
@@ -273,7 +287,8 @@ awake_bits true true false x = refl
 awake_bits true false d x = refl
 awake_bits false b d x = refl
 
-seq_bits : (c b h k z x y u : Bool) → (b ≡ true → (h && k) ≡ false) → (b ≡ true → (h || k) ≡ true) → ((c && ((b && h) && x)) || ((c && ((b && k) && y)) || (c && (((b && h) && z) && u)))) ≡ (c && (b && cond h (cond z (x || u) x) y))
+seq_bits : (c b h k z x y u : Bool) → (b ≡ true → (h && k) ≡ false) → (b ≡ true → (h || k) ≡ true) →
+    ((c && ((b && h) && x)) || ((c && ((b && k) && y)) || (c && (((b && h) && z) && u)))) ≡ (c && (b && cond h (cond z (x || u) x) y))
 seq_bits true true true true z x y u f g = absurd (false≢true (sym (f refl)))
 seq_bits true true true false true x y u f g = refl
 seq_bits true true true false false x y u f g = or-false x
@@ -302,16 +317,19 @@ branch_signals : (h : Bool) (x : Walk) (s : ℕ) → cond h (x.signals s) false 
 branch_signals true x s = refl
 branch_signals false x s = refl
 
-awake_signals : (d : Bool) (x : Walk) (K : ℕ → Bool) (s : ℕ) → cond d false (x.signals s) ≡ (cond d (record { signals = λ t. false; code = 1; kept = K }) x).signals s
+awake_signals : (d : Bool) (x : Walk) (K : ℕ → Bool) (s : ℕ) → cond d false (x.signals s) ≡
+    (cond d (record { signals = λ t. false; code = 1; kept = K }) x).signals s
 awake_signals true x K s = refl
 awake_signals false x K s = refl
 
-held_turn : (h z : Bool) (x u y : Walk) (s : ℕ) → (x.code == 0) ≡ z → cond h (cond z (x.signals s || u.signals s) (x.signals s)) (y.signals s) ≡ (cond h (then_walk x u) y).signals s
+held_turn : (h z : Bool) (x u y : Walk) (s : ℕ) → (x.code == 0) ≡ z →
+    cond h (cond z (x.signals s || u.signals s) (x.signals s)) (y.signals s) ≡ (cond h (then_walk x u) y).signals s
 held_turn true z x u y s e = ap (λ d. cond d (x.signals s || u.signals s) (x.signals s)) (sym e) ∙ then_signals x u s
 held_turn false z x u y s e = refl
 
 -- the facts of a part that a reached statement holds
-pub reach_part : {S : ℕ → Bool} {t p : Term} {n m : ℕ} (b : Bool) → Reach S t n b → (IsSelected S t n → holds S p m ≡ true → IsSelected S p m) → Reach S p m (b && holds S p m)
+pub reach_part : {S : ℕ → Bool} {t p : Term} {n m : ℕ} (b : Bool) → Reach S t n b → (IsSelected S t n → holds S p m ≡ true → IsSelected S p m) →
+    Reach S p m (b && holds S p m)
 reach_part {S} {t} {p} {n} {m} b r f =
     record {
       held = λ e. (and_parts b (holds S p m) e).1;
@@ -322,7 +340,9 @@ module _ (V : Valuation) (S : ℕ → Bool) where
   live_of : (p : Term) (m : ℕ) (b : Bool) → NoInstantLoop p → IsKernel p → Reach S p m b → b ≡ true → has_code (resumed_codes p) ≡ true
   live_of p m b nl k r e = resumed_live S p m nl k (r.held e) (r.selected e)
 
-  pub resumed_emits : (w : Wire) (s : ℕ) (c : Bool) (t : Term) (B : Scope) (f : Layer → Formula) (n : ℕ) (v : Values) (b : Bool) → NoInstantLoop t → IsKernel t → Reach S t n b → ResumedWalked V S t n v b → Fresh w n → Above B n → Shows B Resumed w s c → resumed_any (emission V w) B f t n ≡ (c && (b && (resumed_walk (statuses V) S t n v).signals s))
+  pub resumed_emits : (w : Wire) (s : ℕ) (c : Bool) (t : Term) (B : Scope) (f : Layer → Formula) (n : ℕ) (v : Values) (b : Bool) → NoInstantLoop t →
+      IsKernel t → Reach S t n b → ResumedWalked V S t n v b → Fresh w n → Above B n → Shows B Resumed w s c →
+      resumed_any (emission V w) B f t n ≡ (c && (b && (resumed_walk (statuses V) S t n v).signals s))
   resumed_emits w s c Nothing B f n v b nl k q h r a e = sym (none_bits c b)
   resumed_emits w s c Pause B f n v b nl k q h r a e = sym (none_bits c b)
   resumed_emits w s c (Emit x) B f n v b nl k q h r a e =
@@ -433,7 +453,8 @@ module _ (V : Valuation) (S : ℕ → Bool) where
   resumed_emits w s c (Local x p) B f n v b nl k q h r a e =
       let one : Reach S p (n + 1) b = record { held = q.held; selected = q.selected } in
       guard_bits (has_code (resumed_codes p)) (c && not (x == s)) b _ _
-      (λ z. resumed_emits w s (c && not (x == s)) p (bind B x n) _ (n + 1) _ b nl k one (h.2 z) (fresh_more n (n + 1) (omega arith) r) (above_bind B n x a) (shows_bind B n x s Resumed w c r e))
+      (λ z. resumed_emits w s (c && not (x == s)) p (bind B x n) _ (n + 1) _ b nl k one (h.2 z) (fresh_more n (n + 1) (omega arith) r) (above_bind B n x a)
+      (shows_bind B n x s Resumed w c r e))
       (live_of p (n + 1) b nl k one)
       ∙ hide_bits c (x == s) b _
       ∙ ap (λ i. c && (b && ((resumed_walk (statuses V) S p (n + 1) (with_value v x (V (StatusOf n Resumed)))).signals s && not i))) (eqb_flip x s)

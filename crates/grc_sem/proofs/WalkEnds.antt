@@ -21,8 +21,10 @@ use Rattle.grc_sem.proofs.Residues.{no_loops-right, loop_body, loop_code, or_oth
 use Rattle.grc_sem.proofs.Constructive.{and_true, not_false}
 use Rattle.grc_sem.proofs.WalkCodes.{started_code, resumed_code}
 use Rattle.grc_sem.proofs.WalkEmits.{Reach}
-use Rattle.grc_sem.proofs.EndForms.{val, test_meaning, only_ends, choice_ends, three_ends, trap_ends, trap_ends_live, only_ends_live, parallel_ends, resumed_ends, awake_ends, branch_number, branch_is}
-use Rattle.grc_sem.proofs.Meets.{and_flip, then_second, then_first, cond_first, cond_second, code_lives, not_both, not_back, started_at, resumed_at, finds_first, finds_second, finds_self, Sees, Finds}
+use Rattle.grc_sem.proofs.EndForms.{val, test_meaning, only_ends, choice_ends, three_ends, trap_ends, trap_ends_live, only_ends_live, parallel_ends}
+use Rattle.grc_sem.proofs.EndForms.{resumed_ends, awake_ends, branch_number, branch_is}
+use Rattle.grc_sem.proofs.Meets.{and_flip, then_second, then_first, cond_first, cond_second, code_lives, not_both, not_back, started_at, resumed_at}
+use Rattle.grc_sem.proofs.Meets.{finds_first, finds_second, finds_self, Sees, Finds}
 
 -- the wires of the parts of a started statement
 abbrev pub StartedParts : Valuation → Term → ℕ → Layer → Values → Bool → Type 0
@@ -86,7 +88,9 @@ module _ (B0 : Scope) (body : Term) (q : State) (given : Values) (V : Valuation)
   abbrev pub resumed_end : Scope → Term → ℕ → ℕ → Bool
   resumed_end B t n j = resumed_codes t j && val B0 body q given V (end_formula B t n Resumed j)
 
-  pub started_mean : (t : Term) (B : Scope) (n r : ℕ) (v : Values) (b : Bool) → NoInstantLoop t → IsKernel t → Sees given V B (Started r) v → V (Go n (Started r)) ≡ b → StartedParts V t n (Started r) v b → (j : ℕ) → started_end B t n r j ≡ (b && j == (started_walk (statuses V) t n (Started r) v).code)
+  pub started_mean : (t : Term) (B : Scope) (n r : ℕ) (v : Values) (b : Bool) → NoInstantLoop t → IsKernel t → Sees given V B (Started r) v →
+      V (Go n (Started r)) ≡ b → StartedParts V t n (Started r) v b → (j : ℕ) →
+      started_end B t n r j ≡ (b && j == (started_walk (statuses V) t n (Started r) v).code)
   started_mean Nothing B n r v b nl k s h w j = ap (λ x. (j == 0) && x) h ∙ and_flip (j == 0) b
   started_mean Pause B n r v b nl k s h w j = ap (λ x. (j == 1) && x) h ∙ and_flip (j == 1) b
   started_mean (Emit x) B n r v b nl k s h w j = ap (λ x. (j == 0) && x) h ∙ and_flip (j == 0) b
@@ -102,7 +106,8 @@ module _ (B0 : Scope) (body : Term) (q : State) (given : Values) (V : Valuation)
       let wq = started_walk (statuses V) p2 m y v in
       let i1 = started_at V p (n + 1) y v (b && d) k.0 w.0 in
       let i2 = started_at V p2 m y v (b && not d) k.1 w.1 in
-      choice_ends B0 body q given V (started_codes p) (started_codes p2) (started_codes t) (n + 1) m y y (b && d) (b && not d) b wp.code wq.code (cond d wp wq).code
+      choice_ends B0 body q given V (started_codes p) (started_codes p2) (started_codes t) (n + 1) m y y (b && d) (b && not d) b wp.code wq.code
+      (cond d wp wq).code
       (λ o z. i1.ends o) (λ o z. i2.ends o)
       (λ z o u u2. let c = and_parts b d z in (c.0, cond_first d wp wq c.1))
       (λ z. let c = and_parts b (not d) z in (c.0, cond_second d wp wq (not_back d c.1)))
@@ -125,7 +130,8 @@ module _ (B0 : Scope) (body : Term) (q : State) (given : Values) (V : Valuation)
       let wp = started_walk (statuses V) p (n + 1) y v in
       let wq = started_walk (statuses V) p2 m y v in
       let i1 = started_at V p (n + 1) y v b k.0 w.0 in
-      choice_ends B0 body q given V (except 0 (started_codes p)) (codes_if (started_codes p 0) (started_codes p2)) (started_codes t) (n + 1) m y y b (b && wp.code == 0) b wp.code wq.code (then_walk wp wq).code
+      choice_ends B0 body q given V (except 0 (started_codes p)) (codes_if (started_codes p 0) (started_codes p2)) (started_codes t) (n + 1) m y y b
+      (b && wp.code == 0) b wp.code wq.code (then_walk wp wq).code
       (λ o z. i1.ends o) (λ o z. (started_at V p2 m y v _ k.1 (w.1 (and_parts _ _ z).0)).ends o)
       (λ z o u u2. (z, then_first wp wq (ne_eqb wp.code 0 (λ u3. (except-parts (started_codes p) 0 o u).1 (u2 ∙ u3)))))
       (λ z. let c = and_parts b _ z in (c.0, then_second wp wq c.1))
@@ -133,13 +139,19 @@ module _ (B0 : Scope) (body : Term) (q : State) (given : Values) (V : Valuation)
       (λ z.
       let f1 = started_code (statuses V) p (n + 1) y v np k.0 in
       ⊎_elim
-      (λ c. inr (and_true z c, then_second wp wq c, and_true (subst (λ u. started_codes p u ≡ true) (eqb-true wp.code 0 c) f1) (started_code (statuses V) p2 m y v nq k.1)))
+      (λ c. inr (
+        and_true z c,
+        then_second wp wq c,
+        and_true (subst (λ u. started_codes p u ≡ true) (eqb-true wp.code 0 c) f1)
+            (started_code (statuses V) p2 m y v nq k.1),
+      ))
       (λ c. inl (z, then_first wp wq c, except-in (started_codes p) 0 wp.code f1 (eqb-false wp.code 0 c)))
       (cases_Bool (wp.code == 0)))
       j
   started_mean (Loop at p) B n r v b nl k s h w j =
       let y = Started r in
-      only_ends B0 body q given V (except 0 (started_codes p)) (n + 1) y b _ (started_at V p (n + 1) y v b k w).ends (λ z. started_code (statuses V) (Loop at p) n y v nl k) j
+      only_ends B0 body q given V (except 0 (started_codes p)) (n + 1) y b _ (started_at V p (n + 1) y v b k w).ends
+      (λ z. started_code (statuses V) (Loop at p) n y v nl k) j
   started_mean (Par p p2) B n r v b nl k s h w j =
       let m = n + 1 + statement_count p in
       let t = Par p p2 in
@@ -163,7 +175,9 @@ module _ (B0 : Scope) (body : Term) (q : State) (given : Values) (V : Valuation)
   abbrev pub selects : ℕ → Bool
   selects = λ m. state_holds_at q body m
 
-  pub resumed_mean : (S : ℕ → Bool) (t : Term) (B : Scope) (n : ℕ) (v : Values) (b : Bool) → NoInstantLoop t → IsKernel t → Sees given V B Resumed v → Finds selects S t n → Reach S t n b → V (Go n Resumed) ≡ b → ResumedParts V S t n v b → (j : ℕ) → resumed_end B t n j ≡ (b && j == (resumed_walk (statuses V) S t n v).code)
+  pub resumed_mean : (S : ℕ → Bool) (t : Term) (B : Scope) (n : ℕ) (v : Values) (b : Bool) → NoInstantLoop t → IsKernel t → Sees given V B Resumed v →
+      Finds selects S t n → Reach S t n b → V (Go n Resumed) ≡ b → ResumedParts V S t n v b → (j : ℕ) →
+      resumed_end B t n j ≡ (b && j == (resumed_walk (statuses V) S t n v).code)
   resumed_mean S Nothing B n v b nl k s o u h w j = never b (j == 0) (λ z. u.held z)
   resumed_mean S Pause B n v b nl k s o u h w j = ap (λ x. (j == 0) && x) h ∙ and_flip (j == 0) b
   resumed_mean S (Emit x) B n v b nl k s o u h w j = never b (j == 0) (λ z. u.held z)
@@ -177,7 +191,8 @@ module _ (B0 : Scope) (body : Term) (q : State) (given : Values) (V : Valuation)
       let d = holds S p2 m in
       let wp = resumed_walk (statuses V) S p (n + 1) v in
       let wq = resumed_walk (statuses V) S p2 m v in
-      choice_ends B0 body q given V (resumed_codes p) (resumed_codes p2) (resumed_codes t) (n + 1) m Resumed Resumed (b && c) (b && d) b wp.code wq.code (cond c wp wq).code
+      choice_ends B0 body q given V (resumed_codes p) (resumed_codes p2) (resumed_codes t) (n + 1) m Resumed Resumed (b && c) (b && d) b wp.code wq.code
+      (cond c wp wq).code
       (λ y z. (resumed_at V S p (n + 1) v _ k.0 (w.0 (code_lives p k.0 y z))).ends y)
       (λ y z. (resumed_at V S p2 m v _ k.1 (w.1 (code_lives p2 k.1 y z))).ends y)
       (λ z y y2 y3. let z2 = and_parts b c z in (z2.0, cond_first c wp wq z2.1))
@@ -196,7 +211,8 @@ module _ (B0 : Scope) (body : Term) (q : State) (given : Values) (V : Valuation)
       let d = truth x v in
       let wp = resumed_walk (statuses V) S p (n + 1) v in
       let paused : Walk = record { signals = λ y. false; code = 1; kept = selected_in S p (n + 1) } in
-      awake_ends B0 body q given V (resumed_codes p) (resumed_codes t) B x n (n + 1) b d wp.code (cond d paused wp).code h (test_meaning B0 body q given V B x Resumed v s.each)
+      awake_ends B0 body q given V (resumed_codes p) (resumed_codes t) B x n (n + 1) b d wp.code (cond d paused wp).code h
+      (test_meaning B0 body q given V B x Resumed v s.each)
       (λ y z. (resumed_at V S p (n + 1) v _ k (w (code_lives p k y z))).ends y)
       (λ z. cond_first d paused wp z) (λ z. cond_second d paused wp z)
       (λ z y. resumed_code (statuses V) S p (n + 1) v nl k (u.held z) (u.selected z))
@@ -212,7 +228,8 @@ module _ (B0 : Scope) (body : Term) (q : State) (given : Values) (V : Valuation)
       let wq = resumed_walk (statuses V) S p2 m v in
       let wr = started_walk (statuses V) p2 m (Started m) v in
       let T = then_walk wp wr in
-      three_ends B0 body q given V (except 0 (resumed_codes p)) (codes_if (can_pass p) (resumed_codes p2)) (codes_if (resumed_codes p 0) (started_codes p2)) (resumed_codes t)
+      three_ends B0 body q given V (except 0 (resumed_codes p)) (codes_if (can_pass p) (resumed_codes p2)) (codes_if (resumed_codes p 0) (started_codes p2))
+      (resumed_codes t)
       (n + 1) m m Resumed Resumed (Started m) (b && c) (b && d) ((b && c) && wp.code == 0) b wp.code wq.code wr.code (cond c T wq).code
       (λ y z. (resumed_at V S p (n + 1) v _ k.0 (w.0 (code_lives p k.0 y (except-parts (resumed_codes p) 0 y z).0))).ends y)
       (λ y z. let z2 = and_parts (can_pass p) (resumed_codes p2 y) z in (resumed_at V S p2 m v _ k.1 (w.1 (and_true z2.0 (code_lives p2 k.1 y z2.1)))).ends y)
@@ -228,7 +245,13 @@ module _ (B0 : Scope) (body : Term) (q : State) (given : Values) (V : Valuation)
       (λ y.
       let f1 = resumed_code (statuses V) S p (n + 1) v np k.0 y ((u.selected z).1 y) in
       ⊎_elim
-      (λ r. inr (inr (and_true (and_true z y) r, cond_first c T wq y ∙ then_second wp wr r, and_true (subst (λ r2. resumed_codes p r2 ≡ true) (eqb-true wp.code 0 r) f1) (started_code (statuses V) p2 m (Started m) v nq k.1))))
+      (λ r. inr (inr (
+        and_true (and_true z y) r,
+        cond_first c T wq y
+            ∙ then_second wp wr r,
+        and_true (subst (λ r2. resumed_codes p r2 ≡ true) (eqb-true wp.code 0 r) f1)
+            (started_code (statuses V) p2 m (Started m) v nq k.1),
+      )))
       (λ r. inl (and_true z y, cond_first c T wq y ∙ then_first wp wr r, except-in (resumed_codes p) 0 wp.code f1 (eqb-false wp.code 0 r)))
       (cases_Bool (wp.code == 0)))
       (λ y.
@@ -243,7 +266,8 @@ module _ (B0 : Scope) (body : Term) (q : State) (given : Values) (V : Valuation)
       let np = parts.1 in
       let wp = resumed_walk (statuses V) S p (n + 1) v in
       let wr = started_walk (statuses V) p (n + 1) (Started (n + 1)) v in
-      choice_ends B0 body q given V (except 0 (resumed_codes p)) (codes_if (resumed_codes p 0) (except 0 (started_codes p))) (resumed_codes t) (n + 1) (n + 1) Resumed (Started (n + 1)) b (b && wp.code == 0) b wp.code wr.code (then_walk wp wr).code
+      choice_ends B0 body q given V (except 0 (resumed_codes p)) (codes_if (resumed_codes p 0) (except 0 (started_codes p))) (resumed_codes t) (n + 1)
+      (n + 1) Resumed (Started (n + 1)) b (b && wp.code == 0) b wp.code wr.code (then_walk wp wr).code
       (λ y z. (resumed_at V S p (n + 1) v _ k (w.0 (code_lives p k y (except-parts (resumed_codes p) 0 y z).0))).ends y)
       (λ y z. let z2 = and_parts (resumed_codes p 0) (except 0 (started_codes p) y) z in (started_at V p (n + 1) (Started (n + 1)) v _ k (w.1 z2.0)).ends y)
       (λ z y y2 y3. (z, then_first wp wr (ne_eqb wp.code 0 (λ r. (except-parts (resumed_codes p) 0 y y2).1 (y3 ∙ r)))))
@@ -253,7 +277,12 @@ module _ (B0 : Scope) (body : Term) (q : State) (given : Values) (V : Valuation)
       let f1 = resumed_code (statuses V) S p (n + 1) v np k (u.held z) (u.selected z) in
       let f2 = started_code (statuses V) p (n + 1) (Started (n + 1)) v np k in
       ⊎_elim
-      (λ r. inr (and_true z r, then_second wp wr r, and_true (subst (λ r2. resumed_codes p r2 ≡ true) (eqb-true wp.code 0 r) f1) (except-in (started_codes p) 0 wr.code f2 (loop_code p wr.code parts.0 f2))))
+      (λ r. inr (
+        and_true z r,
+        then_second wp wr r,
+        and_true (subst (λ r2. resumed_codes p r2 ≡ true) (eqb-true wp.code 0 r) f1)
+            (except-in (started_codes p) 0 wr.code f2 (loop_code p wr.code parts.0 f2)),
+      ))
       (λ r. inl (z, then_first wp wr r, except-in (resumed_codes p) 0 wp.code f1 (eqb-false wp.code 0 r)))
       (cases_Bool (wp.code == 0)))
       j
@@ -268,8 +297,10 @@ module _ (B0 : Scope) (body : Term) (q : State) (given : Values) (V : Valuation)
       let sq : selects m ≡ d = finds_self selects S p2 m (finds_second selects S t p p2 n refl (λ i. refl) o) in
       let wp = resumed_walk (statuses V) S p (n + 1) v in
       let wq = resumed_walk (statuses V) S p2 m v in
-      let code : max (branch_number B0 body q given V c wp.code) (branch_number B0 body q given V d wq.code) ≡ max (cond c wp (ended 0)).code (cond d wq (ended 0)).code =
-      ap (λ y. max y (branch_number B0 body q given V d wq.code)) (branch_is B0 body q given V c wp) ∙ ap (λ y. max (cond c wp (ended 0)).code y) (branch_is B0 body q given V d wq) in
+      let code : max (branch_number B0 body q given V c wp.code) (branch_number B0 body q given V d wq.code) ≡
+      max (cond c wp (ended 0)).code (cond d wq (ended 0)).code =
+      ap (λ y. max y (branch_number B0 body q given V d wq.code)) (branch_is B0 body q given V c wp)
+      ∙ ap (λ y. max (cond c wp (ended 0)).code y) (branch_is B0 body q given V d wq) in
       resumed_ends B0 body q given V (resumed_codes p) (resumed_codes p2) (resumed_codes t) n (n + 1) m b c d wp.code wq.code h sp sq
       (λ z. (resumed_at V S p (n + 1) v _ k.0 (w.0 z)).ends) (λ z. (resumed_at V S p2 m v _ k.1 (w.1 z)).ends)
       (code_lives p k.0) (code_lives p2 k.1)

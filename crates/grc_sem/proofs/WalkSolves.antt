@@ -41,7 +41,8 @@ range_bounds : (a k : ℕ) → Every (λ o. (a ≤ o) × (o < a + k)) (range_wit
 range_bounds a zero = tt
 range_bounds a (suc k) = (
   (omega arith, omega arith),
-  every_from (λ o. (a + 1 ≤ o) × (o < a + 1 + k)) (λ o. (a ≤ o) × (o < a + suc k)) (range_with_len (a + 1) k) (λ o h. (omega (arith, h.0), omega (arith, h.1))) (range_bounds (a + 1) k),
+  every_from (λ o. (a + 1 ≤ o) × (o < a + 1 + k)) (λ o. (a ≤ o) × (o < a + suc k)) (range_with_len (a + 1) k) (λ o h. (omega (arith, h.0), omega (arith, h.1)))
+      (range_bounds (a + 1) k),
 )
 
 -- an instance that meets its equations, equation by equation
@@ -68,12 +69,14 @@ module _ (B0 : Scope) (body : Term) (q : State) (event : List Bool) (V : Valuati
   rows_met x m = (
     m.go,
     every_append Row (instance_status all x.statement x.path x.layer) _ (status_row x.statement x.path x.layer m.status)
-        (every_mapped Row (λ k. record { wire = End x.path x.layer k; formula = end_formula x.scope x.statement x.path x.layer k }) (listed (instance_codes x.statement x.layer))
+        (every_mapped Row (λ k. record { wire = End x.path x.layer k; formula = end_formula x.scope x.statement x.path x.layer k })
+        (listed (instance_codes x.statement x.layer))
         (listed_every _ (instance_codes x.statement x.layer)
         (λ k u e. m.ends k ∙ ap (λ c. c && val B0 body q (is_given event) V (end_formula x.scope x.statement x.path x.layer k)) e))),
   )
 
-module _ (p : Program) (q : State) (event : List Bool) (V : Valuation) (kernel : IsKernel p.body) (nl : NoInstantLoop p.body) (state : IsState q p.body) (width : length event ≡ given_count p) where
+module _ (p : Program) (q : State) (event : List Bool) (V : Valuation) (kernel : IsKernel p.body) (nl : NoInstantLoop p.body) (state : IsState q p.body)
+    (width : length event ≡ given_count p) where
   abbrev outs : ℕ
   outs = outgoing_count p
 
@@ -101,7 +104,8 @@ module _ (p : Program) (q : State) (event : List Bool) (V : Valuation) (kernel :
   shown s o i j =
       output_value p.inputs outs (given_count p) p.body q event V nl kernel state s.met s.others width o i j
       ∙ ap (λ b. is_given event o || b)
-      (tops.body_emits p.inputs outs p.body q event V nl kernel state (top_started p.inputs outs (given_count p) p.body q event V nl kernel state s.met s.others)
+      (tops.body_emits p.inputs outs p.body q event V nl kernel state
+      (top_started p.inputs outs (given_count p) p.body q event V nl kernel state s.met s.others)
       (λ live. top_resumed p.inputs outs (given_count p) p.body q event V nl kernel state s.met s.others live) o i j)
 
   forward : Solves (graph_of p) q event V → IsWalkOf p q event V
@@ -110,7 +114,8 @@ module _ (p : Program) (q : State) (event : List Bool) (V : Valuation) (kernel :
     resumed = λ live. top_resumed p.inputs outs (given_count p) p.body q event V nl kernel state s.met s.others live;
     outputs =
         all_of_every (λ o. V (Out o) ≡ (is_given event o || (graph_walk p q event V).signals o)) (range_with_len p.inputs outs)
-        (every_from (λ o. (p.inputs ≤ o) × (o < p.inputs + outs)) (λ o. V (Out o) ≡ (is_given event o || (graph_walk p q event V).signals o)) (range_with_len p.inputs outs)
+        (every_from (λ o. (p.inputs ≤ o) × (o < p.inputs + outs)) (λ o. V (Out o) ≡ (is_given event o || (graph_walk p q event V).signals o))
+        (range_with_len p.inputs outs)
         (λ o h. shown s o h.0 h.1) (range_bounds p.inputs outs));
     others = λ w c.
         s.others w
@@ -125,12 +130,14 @@ module _ (p : Program) (q : State) (event : List Bool) (V : Valuation) (kernel :
 
   started_met : IsWalkOf p q event V → EachStarted M B0 body_entry p.body 0 (Started 0)
   started_met h =
-      meets_started B0 p.body q (is_given event) V all (body_layers p.body) (body_liveness p.body) p.body B0 body_entry 0 0 v (is_initial q) (body_agrees p.body) (inl refl) (omega arith) nl kernel (tops.above_top p.inputs outs p.body) whole
+      meets_started B0 p.body q (is_given event) V all (body_layers p.body) (body_liveness p.body) p.body B0 body_entry 0 0 v (is_initial q)
+      (body_agrees p.body) (inl refl) (omega arith) nl kernel (tops.above_top p.inputs outs p.body) whole
       (record { each = λ s. tops.seen_free p.inputs outs p.body (is_given event) V (B0 s) s (tops.no_bound p.inputs outs p.body s) }) refl h.started
 
   resumed_met : IsWalkOf p q event V → has_code (resumed_codes p.body) ≡ true → EachResumed M B0 body_entry p.body 0
   resumed_met h live =
-      meets_resumed B0 p.body q (is_given event) V all (body_layers p.body) S (body_liveness p.body) p.body B0 body_entry 0 v (holds S p.body 0) (body_agrees p.body) live
+      meets_resumed B0 p.body q (is_given event) V all (body_layers p.body) S (body_liveness p.body) p.body B0 body_entry 0 v (holds S p.body 0)
+      (body_agrees p.body) live
       (λ r i. ⊎_elim (λ e. omega arith) (λ e. absurd e) i) nl kernel (tops.above_top p.inputs outs p.body) whole
       (record { each = λ s. refl }) (state_finds q p.body) (state_reach q p.body state)
       (finds_self (λ m. state_holds_at q p.body m) S p.body 0 (state_finds q p.body)) (h.resumed live)
@@ -140,10 +147,12 @@ module _ (p : Program) (q : State) (event : List Bool) (V : Valuation) (kernel :
       gathered (body_layers p.body) M (body_liveness p.body) B0 body_entry p.body 0 kernel (body_agrees p.body) (resumed_met h)
       (λ r i. ⊎_elim (λ e. subst (λ j. EachStarted M B0 body_entry p.body 0 (Started j)) (sym e) (started_met h)) (λ e. absurd e) i)
 
-  output_met : IsWalkOf p q event V → (o : ℕ) → Contains (range_with_len p.inputs outs) o → p.inputs ≤ o → o < p.inputs + outs → Row B0 p.body q event V all (output_equation (given_count p) all o)
+  output_met : IsWalkOf p q event V → (o : ℕ) → Contains (range_with_len p.inputs outs) o → p.inputs ≤ o → o < p.inputs + outs →
+      Row B0 p.body q event V all (output_equation (given_count p) all o)
   output_met h o c i j =
       All-contains (λ s. V (Out s) ≡ (is_given event s || (graph_walk p q event V).signals s)) (range_with_len p.inputs outs) o h.outputs c
-      ∙ sym (tops.output_means p.inputs outs p.body (given_count p) q event V width o ∙ ap (λ b. is_given event o || b) (tops.body_emits p.inputs outs p.body q event V nl kernel state h.started h.resumed o i j))
+      ∙ sym (tops.output_means p.inputs outs p.body (given_count p) q event V width o
+      ∙ ap (λ b. is_given event o || b) (tops.body_emits p.inputs outs p.body q event V nl kernel state h.started h.resumed o i j))
 
   outputs_met : IsWalkOf p q event V → Every (Row B0 p.body q event V all) (map (output_equation (given_count p) all) (range_with_len p.inputs outs))
   outputs_met h =
@@ -157,7 +166,8 @@ module _ (p : Program) (q : State) (event : List Bool) (V : Valuation) (kernel :
   backward h = record {
     met =
         all_of_every (Row B0 p.body q event V all) rows
-        (every_append (Row B0 p.body q event V all) (map (output_equation (given_count p) all) (range_with_len p.inputs outs)) (flat_map (instance_equations all) all)
+        (every_append (Row B0 p.body q event V all) (map (output_equation (given_count p) all) (range_with_len p.inputs outs))
+        (flat_map (instance_equations all) all)
         (outputs_met h)
         (every_flat (Row B0 p.body q event V all) (instance_equations all) all
         (every_from M (λ x. Every (Row B0 p.body q event V all) (instance_equations all x)) all (rows_met B0 p.body q event V all) (instances_met h))));

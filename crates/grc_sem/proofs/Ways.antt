@@ -6,7 +6,8 @@ use Rattle.std.proofs.lemmas.List.Folds.{list_any-append}
 use Rattle.est_kernel.specs.Terms.{Term, Nothing, Pause, Emit, Exit, Present, Suspend, Seq, Loop, Par, Trap, Local, Awake}
 use Rattle.est_kernel.specs.Preorder.{statement_count}
 use Rattle.est_kernel.specs.StaticCodes.{has_code, started_codes, resumed_codes}
-use Rattle.grc_graph.specs.Layers.{Layer, Resumed, Started, Liveness, layers_of, root_if, part_liveness, second_liveness, loop_liveness, liveness_at, layer_above, can_pass}
+use Rattle.grc_graph.specs.Layers.{Layer, Resumed, Started, Liveness, layers_of, root_if, part_liveness, second_liveness, loop_liveness, liveness_at}
+use Rattle.grc_graph.specs.Layers.{layer_above, can_pass}
 use Rattle.grc_graph.specs.Wires.{Go, End}
 use Rattle.grc_graph.specs.Residuals.{holds}
 use Rattle.grc_graph.specs.Readings.{Valuation, holds_at, kept_at}
@@ -101,13 +102,16 @@ holds_at_goal S Pause n h = refl
 holds_at_goal S (Emit s) n h = absurd h
 holds_at_goal S (Exit k) n h = absurd h
 holds_at_goal S (Present e p q) n (inl x) = let i = inside p (n + 1) x in look_first _ n (statement_count p) _ _ _ i.0 i.1 ∙ holds_at_goal S p (n + 1) x
-holds_at_goal S (Present e p q) n (inr y) = let i = inside q (n + 1 + statement_count p) y in look_second _ n (statement_count p) _ _ _ i.0 ∙ holds_at_goal S q (n + 1 + statement_count p) y
+holds_at_goal S (Present e p q) n (inr y) = let i = inside q (n + 1 + statement_count p) y in
+    look_second _ n (statement_count p) _ _ _ i.0 ∙ holds_at_goal S q (n + 1 + statement_count p) y
 holds_at_goal S (Suspend e p) n h = let i = inside p (n + 1) h in look_only _ n _ _ i.0 ∙ holds_at_goal S p (n + 1) h
 holds_at_goal S (Seq p q) n (inl x) = let i = inside p (n + 1) x in look_first _ n (statement_count p) _ _ _ i.0 i.1 ∙ holds_at_goal S p (n + 1) x
-holds_at_goal S (Seq p q) n (inr y) = let i = inside q (n + 1 + statement_count p) y in look_second _ n (statement_count p) _ _ _ i.0 ∙ holds_at_goal S q (n + 1 + statement_count p) y
+holds_at_goal S (Seq p q) n (inr y) = let i = inside q (n + 1 + statement_count p) y in
+    look_second _ n (statement_count p) _ _ _ i.0 ∙ holds_at_goal S q (n + 1 + statement_count p) y
 holds_at_goal S (Loop at p) n h = let i = inside p (n + 1) h in look_only _ n _ _ i.0 ∙ holds_at_goal S p (n + 1) h
 holds_at_goal S (Par p q) n (inl x) = let i = inside p (n + 1) x in look_first _ n (statement_count p) _ _ _ i.0 i.1 ∙ holds_at_goal S p (n + 1) x
-holds_at_goal S (Par p q) n (inr y) = let i = inside q (n + 1 + statement_count p) y in look_second _ n (statement_count p) _ _ _ i.0 ∙ holds_at_goal S q (n + 1 + statement_count p) y
+holds_at_goal S (Par p q) n (inr y) = let i = inside q (n + 1 + statement_count p) y in
+    look_second _ n (statement_count p) _ _ _ i.0 ∙ holds_at_goal S q (n + 1 + statement_count p) y
 holds_at_goal S (Trap p) n h = let i = inside p (n + 1) h in look_only _ n _ _ i.0 ∙ holds_at_goal S p (n + 1) h
 holds_at_goal S (Local s p) n h = let i = inside p (n + 1) h in look_only _ n _ _ i.0 ∙ holds_at_goal S p (n + 1) h
 holds_at_goal S (Awake e p) n h = absurd h
@@ -195,7 +199,8 @@ module _ (V : Valuation) where
   any_same G H [] e = refl
   any_same G H (l ∷ ls) e = ap (λ b. b || list_any G ls) (e l) ∙ ap (λ b. H l || b) (any_same G H ls e)
 
-  keeps_as : (F : Layer → Bool) (t p : Term) (n c m : ℕ) (ls : List Layer) → ((l : Layer) → kept_at V t n m l ≡ kept_at V p c m l) → list_any (layer_keeps F t n m) ls ≡ list_any (layer_keeps F p c m) ls
+  keeps_as : (F : Layer → Bool) (t p : Term) (n c m : ℕ) (ls : List Layer) → ((l : Layer) → kept_at V t n m l ≡ kept_at V p c m l) →
+      list_any (layer_keeps F t n m) ls ≡ list_any (layer_keeps F p c m) ls
   keeps_as F t p n c m ls e = any_same _ _ ls go
     where
       go : (l : Layer) → layer_keeps F t n m l ≡ layer_keeps F p c m l
@@ -203,7 +208,9 @@ module _ (V : Valuation) where
       go (Started r) = ap (λ b. F (Started r) && (V (Go m (Started r)) && b)) (e (Started r))
 
   -- a parallel adds its end to the factor
-  keeps_par : (F : Layer → Bool) (t p : Term) (n c m : ℕ) (ls : List Layer) → ((l : Layer) → kept_at V t n m l ≡ (V (End n (layer_above n l) 1) && kept_at V p c m l)) → list_any (layer_keeps F t n m) ls ≡ list_any (layer_keeps (λ l. F l && V (End n (layer_above n l) 1)) p c m) ls
+  keeps_par : (F : Layer → Bool) (t p : Term) (n c m : ℕ) (ls : List Layer) →
+      ((l : Layer) → kept_at V t n m l ≡ (V (End n (layer_above n l) 1) && kept_at V p c m l)) →
+      list_any (layer_keeps F t n m) ls ≡ list_any (layer_keeps (λ l. F l && V (End n (layer_above n l) 1)) p c m) ls
   keeps_par F t p n c m ls e = any_same _ _ ls go
     where
       four : (a b c d : Bool) → (a && (b && (c && d))) ≡ ((a && c) && (b && d))
@@ -227,7 +234,10 @@ module _ (V : Valuation) where
 
   even_par : (F : Layer → Bool) (n : ℕ) → Even F n → Even (λ l. F l && V (End n (layer_above n l) 1)) n
   even_par F n e =
-      record { same = λ r u. ap (λ b. b && V (End n (layer_above n (Started r)) 1)) (e.same r u) ∙ ap (λ l. F Resumed && V (End n l 1)) (layer_above-restarted n r u) }
+      record {
+        same = λ r u. ap (λ b. b && V (End n (layer_above n (Started r)) 1)) (e.same r u)
+            ∙ ap (λ l. F Resumed && V (End n l 1)) (layer_above-restarted n r u);
+      }
 
   assoc : (a b c : Bool) → ((a && b) && c) ≡ (a && (b && c))
   assoc true b c = refl
@@ -278,7 +288,10 @@ module _ (V : Valuation) where
   none_here false f = refl
 
   -- one part, with the roots of the whole
-  part_parted : (F : Layer → Bool) (a : Liveness) (t p : Term) (n c : ℕ) (h : Way t) (x : Way p) → goal t n h ≡ goal p c x → liveness_at a t n (goal t n h) ≡ liveness_at (part_liveness a p) p c (goal p c x) → ((l : Layer) → kept_at V t n (goal t n h) l ≡ kept_at V p c (goal p c x) l) → way_starts t h ≡ way_starts p x → restart_keeps t n h ≡ (has_code (resumed_codes p) && restart_keeps p c x) → Parted F (part_liveness a p) p c x → Parted F a t n h
+  part_parted : (F : Layer → Bool) (a : Liveness) (t p : Term) (n c : ℕ) (h : Way t) (x : Way p) → goal t n h ≡ goal p c x →
+      liveness_at a t n (goal t n h) ≡ liveness_at (part_liveness a p) p c (goal p c x) →
+      ((l : Layer) → kept_at V t n (goal t n h) l ≡ kept_at V p c (goal p c x) l) → way_starts t h ≡ way_starts p x →
+      restart_keeps t n h ≡ (has_code (resumed_codes p) && restart_keeps p c x) → Parted F (part_liveness a p) p c x → Parted F a t n h
   part_parted F a t p n c h x g e k w r ih =
       ap (λ j. list_any (layer_keeps F t n (goal t n h)) (layers_of j)) e
       ∙ any_same _ _ (layers_of (liveness_at (part_liveness a p) p c (goal p c x))) kept ∙ ih
@@ -299,7 +312,11 @@ module _ (V : Valuation) where
           ∙ ap (λ m. way_starts p x && (V (Go m (Started i)) && kept_at V p c (goal p c x) (Started i))) g
 
   -- a branch of a parallel
-  par_parted : (F : Layer → Bool) (a : Liveness) (t p : Term) (n c : ℕ) (h : Way t) (x : Way p) → goal t n h ≡ goal p c x → liveness_at a t n (goal t n h) ≡ liveness_at (part_liveness a p) p c (goal p c x) → ((l : Layer) → kept_at V t n (goal t n h) l ≡ (V (End n (layer_above n l) 1) && kept_at V p c (goal p c x) l)) → way_starts t h ≡ way_starts p x → restart_keeps t n h ≡ (V (End n Resumed 1) && (has_code (resumed_codes p) && restart_keeps p c x)) → Parted (λ l. F l && V (End n (layer_above n l) 1)) (part_liveness a p) p c x → Parted F a t n h
+  par_parted : (F : Layer → Bool) (a : Liveness) (t p : Term) (n c : ℕ) (h : Way t) (x : Way p) → goal t n h ≡ goal p c x →
+      liveness_at a t n (goal t n h) ≡ liveness_at (part_liveness a p) p c (goal p c x) →
+      ((l : Layer) → kept_at V t n (goal t n h) l ≡ (V (End n (layer_above n l) 1) && kept_at V p c (goal p c x) l)) → way_starts t h ≡ way_starts p x →
+      restart_keeps t n h ≡ (V (End n Resumed 1) && (has_code (resumed_codes p) && restart_keeps p c x)) →
+      Parted (λ l. F l && V (End n (layer_above n l) 1)) (part_liveness a p) p c x → Parted F a t n h
   par_parted F a t p n c h x g e k w r ih =
       ap (λ j. list_any (layer_keeps F t n (goal t n h)) (layers_of j)) e
       ∙ any_same _ _ (layers_of (liveness_at (part_liveness a p) p c (goal p c x))) kept ∙ ih
@@ -337,9 +354,12 @@ module _ (V : Valuation) where
 
       starts : (i : ℕ) → ((F (Started i) && V (End n (layer_above n (Started i)) 1)) && start_keeps p c x i) ≡ (F (Started i) && start_keeps t n h i)
       starts i =
-          spread5 (F (Started i)) (V (End n (layer_above n (Started i)) 1)) (way_starts p x) (V (Go (goal p c x) (Started i))) (kept_at V p c (goal p c x) (Started i))
-          ∙ ap (λ b. F (Started i) && (b && (V (Go (goal p c x) (Started i)) && (V (End n (layer_above n (Started i)) 1) && kept_at V p c (goal p c x) (Started i))))) (sym w)
-          ∙ ap (λ m. F (Started i) && (way_starts t h && (V (Go m (Started i)) && (V (End n (layer_above n (Started i)) 1) && kept_at V p c (goal p c x) (Started i))))) (sym g)
+          spread5 (F (Started i)) (V (End n (layer_above n (Started i)) 1)) (way_starts p x) (V (Go (goal p c x) (Started i)))
+          (kept_at V p c (goal p c x) (Started i))
+          ∙ ap (λ b. F (Started i) && (b && (V (Go (goal p c x) (Started i))
+          && (V (End n (layer_above n (Started i)) 1) && kept_at V p c (goal p c x) (Started i))))) (sym w)
+          ∙ ap (λ m. F (Started i) && (way_starts t h && (V (Go m (Started i))
+          && (V (End n (layer_above n (Started i)) 1) && kept_at V p c (goal p c x) (Started i))))) (sym g)
           ∙ ap (λ b. F (Started i) && (way_starts t h && (V (Go (goal t n h) (Started i)) && b))) (sym (k (Started i)))
 
   pub parted : (F : Layer → Bool) (a : Liveness) (t : Term) (n : ℕ) (h : Way t) → Even F n → Parted F a t n h
@@ -350,12 +370,14 @@ module _ (V : Valuation) where
   parted F a (Exit k) n h e = absurd h
   parted F a (Present c p q) n (inl x) e =
       let i = inside p (n + 1) x in
-      part_parted F a (Present c p q) p n (n + 1) (inl x) x refl (look_first _ n (statement_count p) _ _ _ i.0 i.1) (λ l. look_first _ n (statement_count p) _ _ _ i.0 i.1) refl refl
+      part_parted F a (Present c p q) p n (n + 1) (inl x) x refl (look_first _ n (statement_count p) _ _ _ i.0 i.1)
+      (λ l. look_first _ n (statement_count p) _ _ _ i.0 i.1) refl refl
       (parted F (part_liveness a p) p (n + 1) x (even_more F n (n + 1) (omega arith) e))
   parted F a (Present c p q) n (inr y) e =
       let m = n + 1 + statement_count p in
       let i = inside q m y in
-      part_parted F a (Present c p q) q n m (inr y) y refl (look_second _ n (statement_count p) _ _ _ i.0) (λ l. look_second _ n (statement_count p) _ _ _ i.0) refl refl
+      part_parted F a (Present c p q) q n m (inr y) y refl (look_second _ n (statement_count p) _ _ _ i.0)
+      (λ l. look_second _ n (statement_count p) _ _ _ i.0) refl refl
       (parted F (part_liveness a q) q m y (even_more F n m (omega arith) e))
   parted F a (Suspend c p) n h e =
       let i = inside p (n + 1) h in
@@ -363,7 +385,8 @@ module _ (V : Valuation) where
       (parted F (part_liveness a p) p (n + 1) h (even_more F n (n + 1) (omega arith) e))
   parted F a (Seq p q) n (inl x) e =
       let i = inside p (n + 1) x in
-      part_parted F a (Seq p q) p n (n + 1) (inl x) x refl (look_first _ n (statement_count p) _ _ _ i.0 i.1) (λ l. look_first _ n (statement_count p) _ _ _ i.0 i.1) refl refl
+      part_parted F a (Seq p q) p n (n + 1) (inl x) x refl (look_first _ n (statement_count p) _ _ _ i.0 i.1)
+      (λ l. look_first _ n (statement_count p) _ _ _ i.0 i.1) refl refl
       (parted F (part_liveness a p) p (n + 1) x (even_more F n (n + 1) (omega arith) e))
   parted F a (Seq p q) n (inr y) e =
       let m = n + 1 + statement_count p in
@@ -374,11 +397,13 @@ module _ (V : Valuation) where
       let old = cond (started_codes p 0) a.roots [] in
       let own = root_if (a.resumed && resumed_codes p 0) m in
       let kept : (l : Layer) → kept_at V t n (goal q m y) l ≡ kept_at V q m (goal q m y) l = λ l. look_second _ n (statement_count p) _ _ _ i.0 in
-      ap (λ j. list_any (layer_keeps F t n (goal q m y)) (layers_of j)) (look_second _ n (statement_count p) _ (liveness_at (part_liveness a p) p (n + 1) (goal q m y)) _ i.0)
+      ap (λ j. list_any (layer_keeps F t n (goal q m y)) (layers_of j))
+      (look_second _ n (statement_count p) _ (liveness_at (part_liveness a p) p (n + 1) (goal q m y)) _ i.0)
       ∙ keeps_as F t q n m (goal q m y) (layers_of (liveness_at b q m (goal q m y))) kept
       ∙ parted F b q m y (even_more F n m (omega arith) e)
       ∙ or_same refl (list_any-append G old own ∙ or_same (any_if (started_codes p 0) G a.roots) (any_root (a.resumed && resumed_codes p 0) G m))
-      ∙ seq_bits a.resumed (can_pass p && has_code (resumed_codes q)) (F Resumed) (F (Started m)) (restart_keeps q m y) (resumed_codes p 0) (start_keeps q m y m) (started_codes p 0 && list_any G a.roots) (sym (e.same m (omega arith)))
+      ∙ seq_bits a.resumed (can_pass p && has_code (resumed_codes q)) (F Resumed) (F (Started m)) (restart_keeps q m y) (resumed_codes p 0)
+      (start_keeps q m y m) (started_codes p 0 && list_any G a.roots) (sym (e.same m (omega arith)))
       ∙ or_same refl
       (sym (any_and (started_codes p 0) G a.roots)
       ∙ any_equal _ _ a.roots
@@ -397,7 +422,8 @@ module _ (V : Valuation) where
       ∙ keeps_as F t p n m (goal p m h) (layers_of (liveness_at b p m (goal p m h))) kept
       ∙ parted F b p m h (even_more F n m (omega arith) e)
       ∙ or_same refl (list_any-append G a.roots own ∙ or_same refl (any_root (a.resumed && resumed_codes p 0) G m))
-      ∙ seq_bits a.resumed (has_code (resumed_codes p)) (F Resumed) (F (Started m)) (restart_keeps p m h) (resumed_codes p 0) (start_keeps p m h m) (list_any G a.roots) (sym (e.same m (omega arith)))
+      ∙ seq_bits a.resumed (has_code (resumed_codes p)) (F Resumed) (F (Started m)) (restart_keeps p m h) (resumed_codes p 0) (start_keeps p m h m)
+      (list_any G a.roots) (sym (e.same m (omega arith)))
       ∙ or_same refl
       (any_equal _ _ a.roots
       (λ r j. ap (λ z. F (Started r) && (way_starts p h && (V (Go (goal p m h) (Started r)) && z))) (sym (kept (Started r)))))
@@ -405,13 +431,15 @@ module _ (V : Valuation) where
       let i = inside p (n + 1) x in
       par_parted F a (Par p q) p n (n + 1) (inl x) x refl (look_first _ n (statement_count p) _ _ _ i.0 i.1)
       (λ l. look_only _ n _ _ i.0 ∙ ap (λ z. V (End n (layer_above n l) 1) && z) (cond-true _ _ _ (lt-ltb _ _ i.1))) refl refl
-      (parted (λ l. F l && V (End n (layer_above n l) 1)) (part_liveness a p) p (n + 1) x (even_more (λ l. F l && V (End n (layer_above n l) 1)) n (n + 1) (omega arith) (even_par F n e)))
+      (parted (λ l. F l && V (End n (layer_above n l) 1)) (part_liveness a p) p (n + 1) x
+      (even_more (λ l. F l && V (End n (layer_above n l) 1)) n (n + 1) (omega arith) (even_par F n e)))
   parted F a (Par p q) n (inr y) e =
       let m = n + 1 + statement_count p in
       let i = inside q m y in
       par_parted F a (Par p q) q n m (inr y) y refl (look_second _ n (statement_count p) _ _ _ i.0)
       (λ l. look_only _ n _ _ (omega (arith, i.0)) ∙ ap (λ z. V (End n (layer_above n l) 1) && z) (cond-false _ _ _ (lower _ _ i.0))) refl refl
-      (parted (λ l. F l && V (End n (layer_above n l) 1)) (part_liveness a q) q m y (even_more (λ l. F l && V (End n (layer_above n l) 1)) n m (omega arith) (even_par F n e)))
+      (parted (λ l. F l && V (End n (layer_above n l) 1)) (part_liveness a q) q m y
+      (even_more (λ l. F l && V (End n (layer_above n l) 1)) n m (omega arith) (even_par F n e)))
   parted F a (Trap p) n h e =
       let i = inside p (n + 1) h in
       part_parted F a (Trap p) p n (n + 1) h h refl (look_only _ n _ _ i.0) (λ l. look_only _ n _ _ i.0) refl refl

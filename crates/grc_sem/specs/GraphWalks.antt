@@ -31,14 +31,16 @@ abbrev pub graph_walk : Program → State → List Bool → Valuation → Walk
 graph_walk p q event V = body_walk (statuses V) q p.body (program_values p event V)
 
 -- A valuation is that of the walk of a state in an event. Each wire of each live instance has the value that the walk
--- under the statuses of the valuation gives it, and these are coherent: the status of a Local's instance is what the walk
+-- under the statuses of the valuation gives it, and these are coherent: the status of a Local's instance is what the
+-- walk
 -- of its body emits, an outgoing signal is present where the event gives it or the walk emits it. What is no wire of
 -- the graph is false.
 pub record IsWalkOf (p : Program) (q : State) (event : List Bool) (V : Valuation) : Type 0 where
   pub started : StartedWalked V p.body 0 (Started 0) (program_values p event V) (is_initial q)
   pub resumed : has_code (resumed_codes p.body) ≡ true
       → ResumedWalked V (selected_of q) p.body 0 (program_values p event V) (holds (selected_of q) p.body 0)
-  pub outputs : All (λ s. V (Out s) ≡ (is_given event s || (graph_walk p q event V).signals s)) (interface_of p).outgoing
+  pub outputs : All (λ s. V (Out s) ≡ (is_given event s || (graph_walk p q event V).signals s))
+      (interface_of p).outgoing
   pub others : (w : Wire) → (Contains (program_wires p) w → ⊥) → V w ≡ false
 
 -- the selected pauses of a state are leaves of the body's selection tree

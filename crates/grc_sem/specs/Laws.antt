@@ -17,7 +17,8 @@ use Rattle.grc_graph.specs.Readings.{Valuation}
 use Rattle.grc_graph.specs.Coherence.{StartedWalked, ResumedWalked}
 use Rattle.grc_graph.specs.GraphRuns.{graph_of, program_spots, Solves, shown, next_state, IsGraphRun}
 use Rattle.grc_graph.specs.Layers.{Layer}
-use Rattle.grc_sem.specs.GraphWalks.{selected_of, program_values, graph_walk, IsWalkOf, SelectsLeaves, shown_code, shown_answer}
+use Rattle.grc_sem.specs.GraphWalks.{selected_of, program_values, graph_walk, IsWalkOf, SelectsLeaves, shown_code}
+use Rattle.grc_sem.specs.GraphWalks.{shown_answer}
 
 -- Where no loop is instantaneous, a solution of a program's graph in a state is its walk: each wire of each instance
 -- has the value that the walk gives it, in the layer of the first start and, where it is live, in the resumed one.
@@ -69,7 +70,8 @@ NextStateIsKept =
     × SelectsLeaves (next_state (graph_of p) q event V) p.body
     × ((shown (graph_of p) V).paused ≡ ((graph_walk p q event V).code == 1))
 
--- Where each edge goes up in some rank, a run of the graph from the first instant is the run of the program: every reaction is constructive,
+-- Where each edge goes up in some rank, a run of the graph from the first instant is the run of the program: every
+-- reaction is constructive,
 -- and what is seen of the answers is what the graph shows.
 abbrev pub GraphRunsAreRuns : Type 0
 GraphRunsAreRuns =

@@ -1,6 +1,7 @@
 -- Where a live instance stands: its statement with the number and the layers, its scope, and what lets it run. Each part
 -- of a statement has such a context where the statement has one.
-use Rattle.std.proofs.Common.{◌≡◌, ℕ, zero, suc, ◌+◌, ◌<◌, ◌≤◌, ◌⊎◌, Bool, true, false, ◌&&◌, ◌==◌, cond, List, [], ◌∷◌, length, map, get_or, refl, sym, ap, ◌∙◌, subst, inl, inr, ⊎_elim, arith}
+use Rattle.std.proofs.Common.{◌≡◌, ℕ, zero, suc, ◌+◌, ◌<◌, ◌≤◌, ◌⊎◌, Bool, true, false, ◌&&◌, ◌==◌, cond, List, [], ◌∷◌, length, map, get_or, refl, sym, ap}
+use Rattle.std.proofs.Common.{◌∙◌, subst, inl, inr, ⊎_elim, arith}
 use Rattle.std.specs.Prelude.{Contains}
 use Rattle.std.proofs.lemmas.Bool.{and_parts, cond_both, eqb-true, eq-eqb, cond-true, false≢true}
 use Rattle.std.proofs.lemmas.List.Elements.{Contains-append_left, Contains-append_right}
@@ -12,7 +13,8 @@ use Rattle.grc_graph.specs.Layers.{Layer, Resumed, Started, Liveness, layers_of,
 use Rattle.grc_graph.specs.Scopes.{Binding, Entering, Outgoing, BoundAt, Unbound, Scope, bind}
 use Rattle.grc_graph.specs.Wires.{Wire, Out, Go, StatusOf, End, status_wire, listed, instance_codes, own_status, instance_wires}
 use Rattle.grc_graph.specs.Formulas.{Formula, Negation}
-use Rattle.grc_graph.specs.Spots.{Spot, spots, spots_at, status_formula, test_formula, tested_entry, suspended_entry, branch_entry, second_entry, loop_entry, part_entry}
+use Rattle.grc_graph.specs.Spots.{Spot, spots, spots_at, status_formula, test_formula, tested_entry, suspended_entry, branch_entry, second_entry, loop_entry}
+use Rattle.grc_graph.specs.Spots.{part_entry}
 use Rattle.grc_graph.specs.Edges.{Edge, edges_at}
 use Rattle.grc_graph.specs.Reads.{ReadsOnly}
 use Rattle.grc_graph.specs.Selected.{IsKernel}
@@ -51,7 +53,8 @@ in_layers a (Started r) h =
     Contains-append_right (cond a.resumed (Resumed ∷ []) []) (map Started a.roots) (Started r)
     (contains_map Started a.roots r (root_contains r a.roots h))
 
-own_first : (L : ℕ → List Layer) (B : Scope) (f : Layer → Formula) (t : Term) (n : ℕ) (y : Spot) → Contains (spots_at L B f t n) y → Contains (spots L B f t n) y
+own_first : (L : ℕ → List Layer) (B : Scope) (f : Layer → Formula) (t : Term) (n : ℕ) (y : Spot) → Contains (spots_at L B f t n) y →
+    Contains (spots L B f t n) y
 own_first L B f Nothing n y c = c
 own_first L B f Pause n y c = c
 own_first L B f (Emit s) n y c = c
@@ -178,7 +181,8 @@ module _ (L : ℕ → List Layer) (g : ℕ → Term) (all : List Spot) (W : Wire
   pub go_wire : {a : Liveness} {B : Scope} {f : Layer → Formula} {t : Term} {n : ℕ} → Context a B f t n → (l : Layer) → In a l → W (Go n l)
   go_wire {a} {B} {f} {t} {n} c l i = (told.wires (spot B f t n l) (own c l i)).0
 
-  pub end_wire : {a : Liveness} {B : Scope} {f : Layer → Formula} {t : Term} {n : ℕ} → Context a B f t n → (l : Layer) → In a l → (k : ℕ) → instance_codes t l k ≡ true → W (End n l k)
+  pub end_wire : {a : Liveness} {B : Scope} {f : Layer → Formula} {t : Term} {n : ℕ} → Context a B f t n → (l : Layer) → In a l → (k : ℕ) →
+      instance_codes t l k ≡ true → W (End n l k)
   end_wire {a} {B} {f} {t} {n} c l i k h =
       every_listed (λ j. W (End n l j)) (instance_codes t l)
       (every_map W (λ j. End n l j) (listed (instance_codes t l))
@@ -191,14 +195,16 @@ module _ (L : ℕ → List Layer) (g : ℕ → Term) (all : List Spot) (W : Wire
 
   -- ---- the context of a part
 
-  part_low : {a : Liveness} {B : Scope} {f : Layer → Formula} {t : Term} {n : ℕ} (b : Liveness) (m : ℕ) → n < m → Context a B f t n → Enters a b m → (r : ℕ) → Root r b.roots → r ≤ m
+  part_low : {a : Liveness} {B : Scope} {f : Layer → Formula} {t : Term} {n : ℕ} (b : Liveness) (m : ℕ) → n < m → Context a B f t n → Enters a b m → (r : ℕ) →
+      Root r b.roots → r ≤ m
   part_low {a} {B} {f} {t} {n} b m l c e r i =
       ⊎_elim (λ h. omega (arith, c.low r h)) (λ h. let s : r ≡ m = started_same r m h.0 in omega arith) (e (Started r) i)
     where
       started_same : (x y : ℕ) → Started x ≡ Started y → x ≡ y
       started_same x y h = cc
 
-  part_bound : {a : Liveness} {B : Scope} {f : Layer → Formula} {t : Term} {n : ℕ} (b : Liveness) (m : ℕ) → n < m → Context a B f t n → Enters a b m → (s d : ℕ) (l : Layer) → B s ≡ BoundAt d → In b l → W (StatusOf d (layer_above d l))
+  part_bound : {a : Liveness} {B : Scope} {f : Layer → Formula} {t : Term} {n : ℕ} (b : Liveness) (m : ℕ) → n < m → Context a B f t n → Enters a b m →
+      (s d : ℕ) (l : Layer) → B s ≡ BoundAt d → In b l → W (StatusOf d (layer_above d l))
   part_bound {a} {B} {f} {t} {n} b m u c e s d l h i =
       ⊎_elim (λ k. c.bound s d l h k)
       (λ k.
@@ -206,7 +212,9 @@ module _ (L : ℕ → List Layer) (g : ℕ → Term) (all : List Spot) (W : Wire
       subst (λ j. W (StatusOf d j)) (sym (ap (layer_above d) k.0 ∙ layer_above-restarted d m (omega arith))) (c.bound s d Resumed h k.1))
       (e l i)
 
-  part : {a : Liveness} {B : Scope} {f : Layer → Formula} {t : Term} {n : ℕ} (b : Liveness) (h : Layer → Formula) (p : Term) (m : ℕ) → n < m → Context a B f t n → IsKernel p → Agrees L b p m → Contents g p m → ((y : Spot) → Contains (spots L B h p m) y → Contains (spots L B f t n) y) → Enters a b m → ((l : Layer) → In b l → ReadsOnly (λ u. Asked W E u (Go m l)) (h l)) → Context b B h p m
+  part : {a : Liveness} {B : Scope} {f : Layer → Formula} {t : Term} {n : ℕ} (b : Liveness) (h : Layer → Formula) (p : Term) (m : ℕ) → n < m →
+      Context a B f t n → IsKernel p → Agrees L b p m → Contents g p m → ((y : Spot) → Contains (spots L B h p m) y → Contains (spots L B f t n) y) →
+      Enters a b m → ((l : Layer) → In b l → ReadsOnly (λ u. Asked W E u (Go m l)) (h l)) → Context b B h p m
   part {a} {B} {f} {t} {n} b h p m u c k s r w e x = record {
     kernel = k;
     agrees = s;
@@ -219,12 +227,14 @@ module _ (L : ℕ → List Layer) (g : ℕ → Term) (all : List Spot) (W : Wire
     entry = x;
   }
 
-  pub then_part : {a : Liveness} {B : Scope} {f : Layer → Formula} {e : Expression} {p q : Term} {n : ℕ} → Context a B f (Present e p q) n → Context (part_liveness a p) B (tested_entry n (n + 1) (test_formula B e)) p (n + 1)
+  pub then_part : {a : Liveness} {B : Scope} {f : Layer → Formula} {e : Expression} {p q : Term} {n : ℕ} → Context a B f (Present e p q) n →
+      Context (part_liveness a p) B (tested_entry n (n + 1) (test_formula B e)) p (n + 1)
   then_part {a} {B} {f} {e} {p} {q} {n} c =
       part (part_liveness a p) (tested_entry n (n + 1) (test_formula B e)) p (n + 1) (omega arith) c c.kernel.0
       (first_agrees L a (part_liveness a p) (part_liveness a q) (Present e p q) p q n refl (λ j. refl) c.agrees)
       (reads_first g (Present e p q) p q n refl (λ m. refl) c.found)
-      (λ y i. Contains-append_right (spots_at L B f (Present e p q) n) _ y (Contains-append_left (spots L B (tested_entry n (n + 1) (test_formula B e)) p (n + 1)) _ y i))
+      (λ y i. Contains-append_right (spots_at L B f (Present e p q) n) _ y
+      (Contains-append_left (spots L B (tested_entry n (n + 1) (test_formula B e)) p (n + 1)) _ y i))
       (part_enters a p (n + 1)) reads
     where
       reads : (l : Layer) → In (part_liveness a p) l → ReadsOnly (λ u. Asked W E u (Go (n + 1) l)) (tested_entry n (n + 1) (test_formula B e) l)
@@ -232,21 +242,26 @@ module _ (L : ℕ → List Layer) (g : ℕ → Term) (all : List Spot) (W : Wire
       reads (Started r) i =
           let h = row c (Started r) i in (h.0, test_reads (Asked W E) B e (Started r) (Go (n + 1) (Started r)) h.2)
 
-  pub else_part : {a : Liveness} {B : Scope} {f : Layer → Formula} {e : Expression} {p q : Term} {n : ℕ} → Context a B f (Present e p q) n → Context (part_liveness a q) B (tested_entry n (n + 1 + statement_count p) (λ l. Negation (test_formula B e l))) q (n + 1 + statement_count p)
+  pub else_part : {a : Liveness} {B : Scope} {f : Layer → Formula} {e : Expression} {p q : Term} {n : ℕ} → Context a B f (Present e p q) n →
+      Context (part_liveness a q) B (tested_entry n (n + 1 + statement_count p) (λ l. Negation (test_formula B e l))) q (n + 1 + statement_count p)
   else_part {a} {B} {f} {e} {p} {q} {n} c =
-      part (part_liveness a q) (tested_entry n (n + 1 + statement_count p) (λ l. Negation (test_formula B e l))) q (n + 1 + statement_count p) (omega arith) c c.kernel.1
+      part (part_liveness a q) (tested_entry n (n + 1 + statement_count p) (λ l. Negation (test_formula B e l))) q (n + 1 + statement_count p)
+      (omega arith) c c.kernel.1
       (second_agrees L a (part_liveness a p) (part_liveness a q) (Present e p q) p q n refl (λ j. refl) c.agrees)
       (reads_second g (Present e p q) p q n refl (λ m. refl) c.found)
-      (λ y i. Contains-append_right (spots_at L B f (Present e p q) n) _ y (Contains-append_right (spots L B (tested_entry n (n + 1) (test_formula B e)) p (n + 1)) _ y i))
+      (λ y i. Contains-append_right (spots_at L B f (Present e p q) n) _ y
+      (Contains-append_right (spots L B (tested_entry n (n + 1) (test_formula B e)) p (n + 1)) _ y i))
       (part_enters a q (n + 1 + statement_count p)) reads
     where
-      reads : (l : Layer) → In (part_liveness a q) l → ReadsOnly (λ u. Asked W E u (Go (n + 1 + statement_count p) l)) (tested_entry n (n + 1 + statement_count p) (λ j. Negation (test_formula B e j)) l)
+      reads : (l : Layer) → In (part_liveness a q) l → ReadsOnly (λ u. Asked W E u (Go (n + 1 + statement_count p) l))
+          (tested_entry n (n + 1 + statement_count p) (λ j. Negation (test_formula B e j)) l)
       reads Resumed i = let h = and_parts a.resumed (has_code (resumed_codes q)) i in ((row c Resumed h.0).1 h.1, tt)
       reads (Started r) i =
           let h = row c (Started r) i in
           (h.1, test_reads (Asked W E) B e (Started r) (Go (n + 1 + statement_count p) (Started r)) h.3)
 
-  pub suspended_part : {a : Liveness} {B : Scope} {f : Layer → Formula} {e : Expression} {p : Term} {n : ℕ} → Context a B f (Suspend e p) n → Context (part_liveness a p) B (suspended_entry n (test_formula B e)) p (n + 1)
+  pub suspended_part : {a : Liveness} {B : Scope} {f : Layer → Formula} {e : Expression} {p : Term} {n : ℕ} → Context a B f (Suspend e p) n →
+      Context (part_liveness a p) B (suspended_entry n (test_formula B e)) p (n + 1)
   suspended_part {a} {B} {f} {e} {p} {n} c =
       part (part_liveness a p) (suspended_entry n (test_formula B e)) p (n + 1) (omega arith) c c.kernel
       (only_agrees L a (part_liveness a p) (Suspend e p) p n refl (λ j. refl) c.agrees)
@@ -261,7 +276,8 @@ module _ (L : ℕ → List Layer) (g : ℕ → Term) (all : List Spot) (W : Wire
           (w.0 h.1, test_reads (Asked W E) B e Resumed (Go (n + 1) Resumed) (w.2 h.1))
       reads (Started r) i = (row c (Started r) i).0
 
-  pub first_part : {a : Liveness} {B : Scope} {f : Layer → Formula} {p q : Term} {n : ℕ} → Context a B f (Seq p q) n → Context (part_liveness a p) B (branch_entry n (n + 1)) p (n + 1)
+  pub first_part : {a : Liveness} {B : Scope} {f : Layer → Formula} {p q : Term} {n : ℕ} → Context a B f (Seq p q) n →
+      Context (part_liveness a p) B (branch_entry n (n + 1)) p (n + 1)
   first_part {a} {B} {f} {p} {q} {n} c =
       part (part_liveness a p) (branch_entry n (n + 1)) p (n + 1) (omega arith) c c.kernel.0
       (first_agrees L a (part_liveness a p) (second_liveness a p q (n + 1 + statement_count p)) (Seq p q) p q n refl (λ j. refl) c.agrees)
@@ -274,9 +290,11 @@ module _ (L : ℕ → List Layer) (g : ℕ → Term) (all : List Spot) (W : Wire
       reads (Started r) i = (row c (Started r) i).0
 
   -- a second part starts with the whole, or at its own root
-  pub second_part : {a : Liveness} {B : Scope} {f : Layer → Formula} {p q : Term} {n : ℕ} → Context a B f (Seq p q) n → Context (second_liveness a p q (n + 1 + statement_count p)) B (second_entry n (n + 1 + statement_count p)) q (n + 1 + statement_count p)
+  pub second_part : {a : Liveness} {B : Scope} {f : Layer → Formula} {p q : Term} {n : ℕ} → Context a B f (Seq p q) n →
+      Context (second_liveness a p q (n + 1 + statement_count p)) B (second_entry n (n + 1 + statement_count p)) q (n + 1 + statement_count p)
   second_part {a} {B} {f} {p} {q} {n} c =
-      part (second_liveness a p q (n + 1 + statement_count p)) (second_entry n (n + 1 + statement_count p)) q (n + 1 + statement_count p) (omega arith) c c.kernel.1
+      part (second_liveness a p q (n + 1 + statement_count p)) (second_entry n (n + 1 + statement_count p)) q (n + 1 + statement_count p)
+      (omega arith) c c.kernel.1
       (second_agrees L a (part_liveness a p) (second_liveness a p q (n + 1 + statement_count p)) (Seq p q) p q n refl (λ j. refl) c.agrees)
       (reads_second g (Seq p q) p q n refl (λ j. refl) c.found)
       (λ y i. Contains-append_right (spots_at L B f (Seq p q) n) _ y (Contains-append_right (spots L B (branch_entry n (n + 1)) p (n + 1)) _ y i))
@@ -286,7 +304,8 @@ module _ (L : ℕ → List Layer) (g : ℕ → Term) (all : List Spot) (W : Wire
       given r true i = (i, refl)
       given r false i = absurd i
 
-      started : (r : ℕ) → Root r (second_liveness a p q (n + 1 + statement_count p)).roots → Asked W E (End (n + 1) (cond (r == (n + 1 + statement_count p)) Resumed (Started r)) 0) (Go (n + 1 + statement_count p) (Started r))
+      started : (r : ℕ) → Root r (second_liveness a p q (n + 1 + statement_count p)).roots →
+          Asked W E (End (n + 1) (cond (r == (n + 1 + statement_count p)) Resumed (Started r)) 0) (Go (n + 1 + statement_count p) (Started r))
       started r i =
           cond_both (r == (n + 1 + statement_count p)) Resumed (Started r) (λ l. Asked W E (End (n + 1) l 0) (Go (n + 1 + statement_count p) (Started r)))
           (λ e.
@@ -300,16 +319,19 @@ module _ (L : ℕ → List Layer) (g : ℕ → Term) (all : List Spot) (W : Wire
           (λ e.
           ⊎_elim
           (λ h. let k = given r (started_codes p 0) h in (row c (Started r) k.0).1 k.1)
-          (λ h. absurd (false≢true (sym e ∙ eq-eqb r (n + 1 + statement_count p) (root_if_parts r (n + 1 + statement_count p) (a.resumed && resumed_codes p 0) h).0)))
+          (λ h. absurd (false≢true (sym e ∙ eq-eqb r (n + 1 + statement_count p)
+          (root_if_parts r (n + 1 + statement_count p) (a.resumed && resumed_codes p 0) h).0)))
           (root_parts r (cond (started_codes p 0) a.roots []) (root_if (a.resumed && resumed_codes p 0) (n + 1 + statement_count p)) i))
 
-      reads : (l : Layer) → In (second_liveness a p q (n + 1 + statement_count p)) l → ReadsOnly (λ u. Asked W E u (Go (n + 1 + statement_count p) l)) (second_entry n (n + 1 + statement_count p) l)
+      reads : (l : Layer) → In (second_liveness a p q (n + 1 + statement_count p)) l →
+          ReadsOnly (λ u. Asked W E u (Go (n + 1 + statement_count p) l)) (second_entry n (n + 1 + statement_count p) l)
       reads Resumed i =
           let h = and_parts a.resumed (can_pass p && has_code (resumed_codes q)) i in ((row c Resumed h.0).1 h.1, tt)
       reads (Started r) i = started r i
 
   -- a loop's body starts with the whole, or at its own root
-  pub loop_part : {a : Liveness} {B : Scope} {f : Layer → Formula} {at : Span} {p : Term} {n : ℕ} → Context a B f (Loop at p) n → Context (loop_liveness a p (n + 1)) B (loop_entry n) p (n + 1)
+  pub loop_part : {a : Liveness} {B : Scope} {f : Layer → Formula} {at : Span} {p : Term} {n : ℕ} → Context a B f (Loop at p) n →
+      Context (loop_liveness a p (n + 1)) B (loop_entry n) p (n + 1)
   loop_part {a} {B} {f} {at} {p} {n} c =
       part (loop_liveness a p (n + 1)) (loop_entry n) p (n + 1) (omega arith) c c.kernel
       (only_agrees L a (loop_liveness a p (n + 1)) (Loop at p) p n refl (λ j. refl) c.agrees)
@@ -317,7 +339,8 @@ module _ (L : ℕ → List Layer) (g : ℕ → Term) (all : List Spot) (W : Wire
       (λ y i. Contains-append_right (spots_at L B f (Loop at p) n) _ y i)
       (loop_enters a p (n + 1)) reads
     where
-      started : (r : ℕ) → Root r (loop_liveness a p (n + 1)).roots → Asked W E (cond (r == n + 1) (End (n + 1) Resumed 0) (Go n (Started r))) (Go (n + 1) (Started r))
+      started : (r : ℕ) → Root r (loop_liveness a p (n + 1)).roots →
+          Asked W E (cond (r == n + 1) (End (n + 1) Resumed 0) (Go n (Started r))) (Go (n + 1) (Started r))
       started r i =
           cond_both (r == n + 1) (End (n + 1) Resumed 0) (Go n (Started r)) (λ u. Asked W E u (Go (n + 1) (Started r)))
           (λ e.
@@ -338,7 +361,8 @@ module _ (L : ℕ → List Layer) (g : ℕ → Term) (all : List Spot) (W : Wire
       reads Resumed i = let h = and_parts a.resumed (has_code (resumed_codes p)) i in (row c Resumed h.0).0 h.1
       reads (Started r) i = started r i
 
-  pub left_part : {a : Liveness} {B : Scope} {f : Layer → Formula} {p q : Term} {n : ℕ} → Context a B f (Par p q) n → Context (part_liveness a p) B (branch_entry n (n + 1)) p (n + 1)
+  pub left_part : {a : Liveness} {B : Scope} {f : Layer → Formula} {p q : Term} {n : ℕ} → Context a B f (Par p q) n →
+      Context (part_liveness a p) B (branch_entry n (n + 1)) p (n + 1)
   left_part {a} {B} {f} {p} {q} {n} c =
       part (part_liveness a p) (branch_entry n (n + 1)) p (n + 1) (omega arith) c c.kernel.0
       (first_agrees L a (part_liveness a p) (part_liveness a q) (Par p q) p q n refl (λ j. refl) c.agrees)
@@ -350,7 +374,8 @@ module _ (L : ℕ → List Layer) (g : ℕ → Term) (all : List Spot) (W : Wire
       reads Resumed i = let h = and_parts a.resumed (has_code (resumed_codes p)) i in ((row c Resumed h.0).0 h.1, tt)
       reads (Started r) i = (row c (Started r) i).0
 
-  pub right_part : {a : Liveness} {B : Scope} {f : Layer → Formula} {p q : Term} {n : ℕ} → Context a B f (Par p q) n → Context (part_liveness a q) B (branch_entry n (n + 1 + statement_count p)) q (n + 1 + statement_count p)
+  pub right_part : {a : Liveness} {B : Scope} {f : Layer → Formula} {p q : Term} {n : ℕ} → Context a B f (Par p q) n →
+      Context (part_liveness a q) B (branch_entry n (n + 1 + statement_count p)) q (n + 1 + statement_count p)
   right_part {a} {B} {f} {p} {q} {n} c =
       part (part_liveness a q) (branch_entry n (n + 1 + statement_count p)) q (n + 1 + statement_count p) (omega arith) c c.kernel.1
       (second_agrees L a (part_liveness a p) (part_liveness a q) (Par p q) p q n refl (λ j. refl) c.agrees)
@@ -358,11 +383,13 @@ module _ (L : ℕ → List Layer) (g : ℕ → Term) (all : List Spot) (W : Wire
       (λ y i. Contains-append_right (spots_at L B f (Par p q) n) _ y (Contains-append_right (spots L B (branch_entry n (n + 1)) p (n + 1)) _ y i))
       (part_enters a q (n + 1 + statement_count p)) reads
     where
-      reads : (l : Layer) → In (part_liveness a q) l → ReadsOnly (λ u. Asked W E u (Go (n + 1 + statement_count p) l)) (branch_entry n (n + 1 + statement_count p) l)
+      reads : (l : Layer) → In (part_liveness a q) l → ReadsOnly (λ u. Asked W E u (Go (n + 1 + statement_count p) l))
+          (branch_entry n (n + 1 + statement_count p) l)
       reads Resumed i = let h = and_parts a.resumed (has_code (resumed_codes q)) i in ((row c Resumed h.0).1 h.1, tt)
       reads (Started r) i = (row c (Started r) i).1
 
-  pub trap_part : {a : Liveness} {B : Scope} {f : Layer → Formula} {p : Term} {n : ℕ} → Context a B f (Trap p) n → Context (part_liveness a p) B (part_entry n) p (n + 1)
+  pub trap_part : {a : Liveness} {B : Scope} {f : Layer → Formula} {p : Term} {n : ℕ} → Context a B f (Trap p) n →
+      Context (part_liveness a p) B (part_entry n) p (n + 1)
   trap_part {a} {B} {f} {p} {n} c =
       part (part_liveness a p) (part_entry n) p (n + 1) (omega arith) c c.kernel
       (only_agrees L a (part_liveness a p) (Trap p) p n refl (λ j. refl) c.agrees)
@@ -375,7 +402,8 @@ module _ (L : ℕ → List Layer) (g : ℕ → Term) (all : List Spot) (W : Wire
       reads (Started r) i = (row c (Started r) i).0
 
   -- the body of a Local sees one more binder, whose own instance is live where the body's is
-  pub local_part : {a : Liveness} {B : Scope} {f : Layer → Formula} {s : ℕ} {p : Term} {n : ℕ} → Context a B f (Local s p) n → Context (part_liveness a p) (bind B s n) (part_entry n) p (n + 1)
+  pub local_part : {a : Liveness} {B : Scope} {f : Layer → Formula} {s : ℕ} {p : Term} {n : ℕ} → Context a B f (Local s p) n →
+      Context (part_liveness a p) (bind B s n) (part_entry n) p (n + 1)
   local_part {a} {B} {f} {s} {p} {n} c = record {
     kernel = c.kernel;
     agrees = only_agrees L a (part_liveness a p) (Local s p) p n refl (λ j. refl) c.agrees;

@@ -1,5 +1,6 @@
 -- From facts of each edge of an instance to its rows.
-use Rattle.std.proofs.Common.{◌≡◌, ℕ, zero, suc, ◌+◌, ◌<◌, ◌≤◌, Bool, true, ◌&&◌, ◌||◌, leb, List, [], ◌∷◌, ◌++◌, map, filter, Option, Some, None, ⊎_elim, arith}
+use Rattle.std.proofs.Common.{◌≡◌, ℕ, zero, suc, ◌+◌, ◌<◌, ◌≤◌, Bool, true, ◌&&◌, ◌||◌, leb, List, [], ◌∷◌, ◌++◌, map, filter, Option, Some, None, ⊎_elim}
+use Rattle.std.proofs.Common.{arith}
 use Rattle.std.proofs.lemmas.Bool.{or_cases, and_parts, eqb-true, cond_both, false≢true, le-leb}
 use Rattle.est_base.specs.Codes.{either, except, maxima}
 use Rattle.est_kernel.specs.Terms.{Expression, Tick, Sig, Not, And, Or, Term, Nothing, Pause, Emit, Exit, Present, Suspend, Seq, Loop, Par, Trap, Local, Awake}
@@ -11,7 +12,8 @@ use Rattle.grc_graph.specs.Layers.{Layer, Resumed, Started, can_pass}
 use Rattle.grc_graph.specs.Scopes.{Scope}
 use Rattle.grc_graph.specs.Wires.{Wire, Go, End, status_wire, listed}
 use Rattle.grc_graph.specs.Spots.{Spot}
-use Rattle.grc_graph.specs.Edges.{Edge, edge, edges_if, edges_at, test_to, status_to, to_status, go_to_part, go_to_ends, ends_to_ends, branch_to_ends, trapped_to_ends}
+use Rattle.grc_graph.specs.Edges.{Edge, edge, edges_if, edges_at, test_to, status_to, to_status, go_to_part, go_to_ends, ends_to_ends, branch_to_ends}
+use Rattle.grc_graph.specs.Edges.{trapped_to_ends}
 use Rattle.grc_graph.specs.Selected.{IsKernel}
 use Rattle.grc_solutions.proofs.Lists.{Every, every_left, every_right, every_map, every_flat_map, every_filter, every_if, every_listed}
 use Rattle.grc_solutions.proofs.Rows.{RowOf, RowAt, Between, Passes, ToEnds, Branches, Trapped, FromStatus, ToStatus, Reads, StartedRow, ResumedRow}
@@ -87,7 +89,8 @@ module _ (Q : Between) where
   abbrev OnEdge : Edge → Type 0
   OnEdge e = Q e.from e.to
 
-  row_passes : (A : ℕ → Bool) (c : ℕ) (j : Layer) (n : ℕ) (l : Layer) → ((k : ℕ) → A k ≡ true → k < 64) → Every OnEdge (ends_to_ends A c j n l) → Passes Q A c j n l
+  row_passes : (A : ℕ → Bool) (c : ℕ) (j : Layer) (n : ℕ) (l : Layer) → ((k : ℕ) → A k ≡ true → k < 64) → Every OnEdge (ends_to_ends A c j n l) →
+      Passes Q A c j n l
   row_passes A c j n l b h k e =
       every_listed (λ i. Q (End c j i) (End n l i)) A (every_map OnEdge (λ i. edge (End c j i) (End n l i)) (listed A) h) k (b k e) e
 
@@ -95,7 +98,8 @@ module _ (Q : Between) where
   row_ends A n l b h k e =
       every_listed (λ i. Q (Go n l) (End n l i)) A (every_map OnEdge (λ i. edge (Go n l) (End n l i)) (listed A) h) k (b k e) e
 
-  row_branches : (A C : ℕ → Bool) (c n : ℕ) (l : Layer) → ((k : ℕ) → A k ≡ true → k < 64) → ((k : ℕ) → C k ≡ true → k < 64) → Every OnEdge (branch_to_ends A C c n l) → Branches Q A C c n l
+  row_branches : (A C : ℕ → Bool) (c n : ℕ) (l : Layer) → ((k : ℕ) → A k ≡ true → k < 64) → ((k : ℕ) → C k ≡ true → k < 64) →
+      Every OnEdge (branch_to_ends A C c n l) → Branches Q A C c n l
   row_branches A C c n l a b h i k x y o =
       let g = λ (j : ℕ). map (λ m. edge (End c l j) (End n l m)) (filter (λ m. leb j m) (listed C)) in
       let one = every_listed (λ j. Every OnEdge (g j)) A (every_flat_map OnEdge g (listed A) h) i (a i x) x in
@@ -204,7 +208,8 @@ module _ (Q : Between) where
   started_row B (Awake e p) n r b h = absurd b
 
   -- `go` of a resumed part
-  row_go : (p : Term) (n c : ℕ) (es : List Edge) → Every OnEdge (go_to_part p n c Resumed ++ es) → has_code (resumed_codes p) ≡ true → Q (Go n Resumed) (Go c Resumed)
+  row_go : (p : Term) (n c : ℕ) (es : List Edge) → Every OnEdge (go_to_part p n c Resumed ++ es) → has_code (resumed_codes p) ≡ true →
+      Q (Go n Resumed) (Go c Resumed)
   row_go p n c es h e =
       (row_if (has_code (resumed_codes p)) (edge (Go n Resumed) (Go c Resumed) ∷ []) (first (go_to_part p n c Resumed) es h) e).0
 

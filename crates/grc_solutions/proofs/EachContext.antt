@@ -12,11 +12,13 @@ use Rattle.grc_solutions.proofs.Each.{spot}
 use Rattle.grc_solutions.proofs.Rows.{Between}
 use Rattle.grc_graph.proofs.LiveLayers.{here_agrees}
 use Rattle.grc_solutions.proofs.Live.{Root, root_right}
-use Rattle.grc_solutions.proofs.Contexts.{In, Told, Context, then_part, else_part, suspended_part, first_part, second_part, loop_part, left_part, right_part, trap_part, local_part}
+use Rattle.grc_solutions.proofs.Contexts.{In, Told, Context, then_part, else_part, suspended_part, first_part, second_part, loop_part, left_part, right_part}
+use Rattle.grc_solutions.proofs.Contexts.{trap_part, local_part}
 
 -- what holds of the instances in the layers of a statement
 pub over_layers : (D : Layer → Type 0) (a : Liveness) → ((l : Layer) → In a l → D l) → Every D (layers_of a)
-over_layers D a f = every_append D (cond a.resumed (Resumed ∷ []) []) (map Started a.roots) (resumed a.resumed (λ e. f Resumed e)) (started a.roots (λ r i. f (Started r) i))
+over_layers D a f = every_append D (cond a.resumed (Resumed ∷ []) []) (map Started a.roots) (resumed a.resumed (λ e. f Resumed e))
+    (started a.roots (λ r i. f (Started r) i))
   where
     resumed : (b : Bool) → (b ≡ true → D Resumed) → Every D (cond b (Resumed ∷ []) [])
     resumed true g = (g refl, tt)
@@ -26,7 +28,8 @@ over_layers D a f = every_append D (cond a.resumed (Resumed ∷ []) []) (map Sta
     started [] g = tt
     started (r ∷ rs) g = (g r (inl refl), started rs (λ x i. g x (root_right x (r ∷ []) rs i)))
 
-pub over_spots : (D : Spot → Type 0) (B : Scope) (f : Layer → Formula) (t : Term) (n : ℕ) (ls : List Layer) → Every (λ l. D (spot B f t n l)) ls → Every D (map (λ l. spot B f t n l) ls)
+pub over_spots : (D : Spot → Type 0) (B : Scope) (f : Layer → Formula) (t : Term) (n : ℕ) (ls : List Layer) → Every (λ l. D (spot B f t n l)) ls →
+    Every D (map (λ l. spot B f t n l) ls)
 over_spots D B f t n [] h = tt
 over_spots D B f t n (l ∷ ls) h = (h.0, over_spots D B f t n ls h.1)
 
@@ -34,10 +37,12 @@ module _ (L : ℕ → List Layer) (g : ℕ → Term) (all : List Spot) (W : Wire
   abbrev At : Liveness → Scope → (Layer → Formula) → Term → ℕ → Type 0
   At a B f t n = Context L g all W E told a B f t n
 
-  module _ (D : Spot → Type 0) (here : (a : Liveness) (B : Scope) (f : Layer → Formula) (t : Term) (n : ℕ) → At a B f t n → (l : Layer) → In a l → D (spot B f t n l)) where
+  module _ (D : Spot → Type 0) (here : (a : Liveness) (B : Scope) (f : Layer → Formula) (t : Term) (n : ℕ) → At a B f t n → (l : Layer) → In a l →
+      D (spot B f t n l)) where
     self : (a : Liveness) (B : Scope) (f : Layer → Formula) (t : Term) (n : ℕ) → At a B f t n → Every D (spots_at L B f t n)
     self a B f t n c =
-        over_spots D B f t n (L n) (subst (λ ls. Every (λ l. D (spot B f t n l)) ls) (sym (here_agrees L a t n c.agrees)) (over_layers (λ l. D (spot B f t n l)) a (here a B f t n c)))
+        over_spots D B f t n (L n) (subst (λ ls. Every (λ l. D (spot B f t n l)) ls) (sym (here_agrees L a t n c.agrees))
+        (over_layers (λ l. D (spot B f t n l)) a (here a B f t n c)))
 
     one : (a : Liveness) (B : Scope) (f : Layer → Formula) (t : Term) (n : ℕ) (ps : List Spot) → At a B f t n → Every D ps → Every D (spots_at L B f t n ++ ps)
     one a B f t n ps c h = every_append D (spots_at L B f t n) ps (self a B f t n c) h

@@ -1,5 +1,6 @@
 -- An evaluation along an order along which the equations read ends with a solution.
-use Rattle.std.proofs.Common.{◌≡◌, ℕ, zero, suc, ◌+◌, ◌<◌, ◌≤◌, Bool, true, false, ◌==◌, cond, List, [], ◌∷◌, length, get_or, refl, sym, ap, ◌∙◌, subst, ⊎_elim, arith}
+use Rattle.std.proofs.Common.{◌≡◌, ℕ, zero, suc, ◌+◌, ◌<◌, ◌≤◌, Bool, true, false, ◌==◌, cond, List, [], ◌∷◌, length, get_or, refl, sym, ap, ◌∙◌, subst, ⊎_elim}
+use Rattle.std.proofs.Common.{arith}
 use Rattle.std.specs.Prelude.{slice_set, count_by}
 use Rattle.std.specs.List.{list_any}
 use Rattle.std.proofs.lemmas.Bool.{cases_lt, eq-eqb, or_from, cond-true, cond-false, cond_both, or_parts}
@@ -26,7 +27,8 @@ use Rattle.grc_solutions.proofs.Numbers.{stands_at}
 -- ---- the valuation of a list of values
 
 -- where no wire stands twice, each wire has its value
-pub value_there : (names : List Wire) (values : List Bool) → Differ names → (v : ℕ) → v < length names → v < length values → valuation_of names values (graphs.wire_at names v) ≡ get_or values v false
+pub value_there : (names : List Wire) (values : List Bool) → Differ names → (v : ℕ) → v < length names → v < length values →
+    valuation_of names values (graphs.wire_at names v) ≡ get_or values v false
 value_there [] values d v l m = absurd (omega arith)
 value_there (u ∷ us) [] d v l m = absurd (omega arith)
 value_there (u ∷ us) (b ∷ bs) d zero l m = cond-true (same_wire u u) b (valuation_of us bs u) (same_wire-self u)
@@ -51,7 +53,8 @@ unnamed (e ∷ es) w h =
     or_from (same_wire w e.wire) (list_any (same_wire w) (equation_wires es)) p.0 (unnamed es w p.1)
 
 -- a write changes the value of its own wire alone
-pub value_kept : (names : List Wire) (values : List Bool) (v : ℕ) (b : Bool) (u : Wire) → (v < length names → graphs.wire_at names v ≡ u → ⊥) → valuation_of names (slice_set values v b) u ≡ valuation_of names values u
+pub value_kept : (names : List Wire) (values : List Bool) (v : ℕ) (b : Bool) (u : Wire) → (v < length names → graphs.wire_at names v ≡ u → ⊥) →
+    valuation_of names (slice_set values v b) u ≡ valuation_of names values u
 value_kept [] values v b u h = refl
 value_kept (w ∷ ws) [] v b u h = refl
 value_kept (w ∷ ws) (c ∷ cs) zero b u h =
@@ -75,7 +78,8 @@ one_counted p [] i d l e = absurd (omega arith)
 one_counted p (x ∷ xs) zero d l e = let c = counted p x xs e in omega (arith, c)
 one_counted p (x ∷ xs) (suc i) d l e = let c = one_counted p xs i d (omega arith) e in let m = counts_more p x xs in omega (arith, c, m)
 
-two_counted : {A : Type 0} (p : A → Bool) (xs : List A) (i j : ℕ) (d : A) → i < j → j < length xs → p (get_or xs i d) ≡ true → p (get_or xs j d) ≡ true → 2 ≤ count_by p xs
+two_counted : {A : Type 0} (p : A → Bool) (xs : List A) (i j : ℕ) (d : A) → i < j → j < length xs → p (get_or xs i d) ≡ true → p (get_or xs j d) ≡ true →
+    2 ≤ count_by p xs
 two_counted p [] i j d l m e h = absurd (omega arith)
 two_counted p (x ∷ xs) i zero d l m e h = absurd (omega arith)
 two_counted p (x ∷ xs) zero (suc j) d l m e h =
@@ -91,7 +95,8 @@ stands_once order w e i j l m h k =
 
 -- ---- one step along an order
 
-module _ (g : PlainGraph) (q : State) (event : List Bool) (order : List WireId) (differ : Differ (equation_wires g.equations)) (reading : IsReadingOrder (equation_wires g.equations) (formulas_of g.equations) order) where
+module _ (g : PlainGraph) (q : State) (event : List Bool) (order : List WireId) (differ : Differ (equation_wires g.equations))
+    (reading : IsReadingOrder (equation_wires g.equations) (formulas_of g.equations) order) where
   abbrev names : List Wire
   names = equation_wires g.equations
 
@@ -102,7 +107,9 @@ module _ (g : PlainGraph) (q : State) (event : List Bool) (order : List WireId) 
   in_order i l = reading.in_range i (record { 0 = 0 }) l
 
   -- a formula reads only what stands before it, so a write behind it changes nothing
-  formula_kept : (i j : ℕ) (d : Formula) (values : List Bool) (b : Bool) → i < length order → j < length order → i ≤ j → value_under g q event (slice_set values (wire_at order j) b) (get_or (formulas_of g.equations) (wire_at order i) d) ≡ value_under g q event values (get_or (formulas_of g.equations) (wire_at order i) d)
+  formula_kept : (i j : ℕ) (d : Formula) (values : List Bool) (b : Bool) → i < length order → j < length order → i ≤ j →
+      value_under g q event (slice_set values (wire_at order j) b) (get_or (formulas_of g.equations) (wire_at order i) d) ≡
+      value_under g q event values (get_or (formulas_of g.equations) (wire_at order i) d)
   formula_kept i j d values b l m o =
       agree g q event (λ u. (v : ℕ) → v < length names → graphs.wire_at names v ≡ u → StandsBefore order v i)
       (valuation_of names (slice_set values (wire_at order j) b)) (valuation_of names values)
@@ -118,7 +125,9 @@ module _ (g : PlainGraph) (q : State) (event : List Bool) (order : List WireId) 
   solved_at_start values e = record { each_wire = e; met = λ i d l m. absurd (omega arith) }
 
   -- the next wire gets the value of its formula
-  pub solved_one_more : (place : ℕ) (values : List Bool) (d : Formula) (b : Bool) → place < length order → IsSolvedUpTo g q event order place values → b ≡ value_under g q event values (get_or (formulas_of g.equations) (wire_at order place) d) → IsSolvedUpTo g q event order (place + 1) (slice_set values (wire_at order place) b)
+  pub solved_one_more : (place : ℕ) (values : List Bool) (d : Formula) (b : Bool) → place < length order → IsSolvedUpTo g q event order place values →
+      b ≡ value_under g q event values (get_or (formulas_of g.equations) (wire_at order place) d) →
+      IsSolvedUpTo g q event order (place + 1) (slice_set values (wire_at order place) b)
   solved_one_more place values d b l s e = record {
     each_wire = length-set values (wire_at order place) b ∙ s.each_wire;
     met = λ i x h m. ⊎_elim (λ k. earlier i x k m) (λ k. let same : i ≡ place = omega arith in own i x same) (cases_lt i place);
@@ -131,14 +140,18 @@ module _ (g : PlainGraph) (q : State) (event : List Bool) (order : List WireId) 
       other i k h =
           stands_once order (wire_at order place) (reading.each_once (wire_at order place) (in_order place l)) i place k l h refl
 
-      earlier : (i : ℕ) (x : Formula) → i < place → i < length order → get_or (slice_set values (wire_at order place) b) (wire_at order i) false ≡ value_under g q event (slice_set values (wire_at order place) b) (get_or (formulas_of g.equations) (wire_at order i) x)
+      earlier : (i : ℕ) (x : Formula) → i < place → i < length order →
+          get_or (slice_set values (wire_at order place) b) (wire_at order i) false ≡
+          value_under g q event (slice_set values (wire_at order place) b) (get_or (formulas_of g.equations) (wire_at order i) x)
       earlier i x k m =
           get_or-set_other values (wire_at order place) (wire_at order i) b false (other i k) ∙ s.met i x k m
           ∙ sym (formula_kept i place x values b m l (omega arith))
 
-      own : (i : ℕ) (x : Formula) → i ≡ place → get_or (slice_set values (wire_at order place) b) (wire_at order i) false ≡ value_under g q event (slice_set values (wire_at order place) b) (get_or (formulas_of g.equations) (wire_at order i) x)
+      own : (i : ℕ) (x : Formula) → i ≡ place → get_or (slice_set values (wire_at order place) b) (wire_at order i) false ≡
+          value_under g q event (slice_set values (wire_at order place) b) (get_or (formulas_of g.equations) (wire_at order i) x)
       own i x h =
-          subst (λ j. get_or (slice_set values (wire_at order place) b) (wire_at order j) false ≡ value_under g q event (slice_set values (wire_at order place) b) (get_or (formulas_of g.equations) (wire_at order j) x)) (sym h)
+          subst (λ j. get_or (slice_set values (wire_at order place) b) (wire_at order j) false ≡
+          value_under g q event (slice_set values (wire_at order place) b) (get_or (formulas_of g.equations) (wire_at order j) x)) (sym h)
           (get_or-set_same values (wire_at order place) b false high ∙ e
           ∙ ap (value_under g q event values) (get_or_default (formulas_of g.equations) (wire_at order place) d x formula_there)
           ∙ sym (formula_kept place place x values b l l (omega arith)))
@@ -147,7 +160,8 @@ module _ (g : PlainGraph) (q : State) (event : List Bool) (order : List WireId) 
           formula_there = let k = few (wire_at order place) (in_order place l) in omega (arith, k, length-map g.equations (λ (y : Equation). y.formula))
 
   -- behind the last one all equations are met
-  pub solved_at_end : (place : ℕ) (values : List Bool) → length order ≤ place → IsSolvedUpTo g q event order place values → Solves g q event (valuation_of names values)
+  pub solved_at_end : (place : ℕ) (values : List Bool) → length order ≤ place → IsSolvedUpTo g q event order place values →
+      Solves g q event (valuation_of names values)
   solved_at_end place values l s = record {
     met = λ k x h.
         let low : k < length names = omega (arith, h, length-map g.equations (λ (e : Equation). e.wire)) in
@@ -156,7 +170,8 @@ module _ (g : PlainGraph) (q : State) (event : List Bool) (order : List WireId) 
         let named : graphs.wire_at names k ≡ e.wire = get_or-map (λ (y : Equation). y.wire) g.equations k x (Go 0 Resumed) h in
         let form : get_or (formulas_of g.equations) k x.formula ≡ e.formula = get_or-map (λ (y : Equation). y.formula) g.equations k x x.formula h in
         subst (λ u. valuation_of names values u ≡ get_or values k false) named (value_there names values differ k low (omega (arith, h, s.each_wire)))
-        ∙ subst (λ j. get_or values j false ≡ value_under g q event values (get_or (formulas_of g.equations) j x.formula)) at.2 (s.met at.0 x.formula (omega (arith, at.1, l)) at.1)
+        ∙ subst (λ j. get_or values j false ≡ value_under g q event values (get_or (formulas_of g.equations) j x.formula)) at.2
+        (s.met at.0 x.formula (omega (arith, at.1, l)) at.1)
         ∙ ap (value_under g q event values) form;
     others = λ w h. value_off names values w (unnamed g.equations w h);
   }

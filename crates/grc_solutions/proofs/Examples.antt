@@ -61,7 +61,9 @@ two_statuses = program 0 (Local 0 (Present (Sig 0) (Emit 0) Nothing))
 abbrev pub by_values : Program → List Bool → Valuation
 by_values p values = valuation_of (equation_wires (graph_of p).equations) values
 
-pub solved_by : (p : Program) (q : State) (event values : List Bool) → Every (λ e. by_values p values e.wire ≡ formula_value (graph_of p) q event (by_values p values) e.formula) (graph_of p).equations → Solves (graph_of p) q event (by_values p values)
+pub solved_by : (p : Program) (q : State) (event values : List Bool)
+    → Every (λ e. by_values p values e.wire ≡ formula_value (graph_of p) q event (by_values p values) e.formula) (graph_of p).equations
+    → Solves (graph_of p) q event (by_values p values)
 solved_by p q event values h = record {
   met = all_of_every (λ e. by_values p values e.wire ≡ formula_value (graph_of p) q event (by_values p values) e.formula) (graph_of p).equations h;
   others = λ w e. value_off (equation_wires (graph_of p).equations) values w (unnamed (graph_of p).equations w e);

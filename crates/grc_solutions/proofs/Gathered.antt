@@ -22,7 +22,8 @@ root_if_given r true rs i = (i, refl)
 root_if_given r false rs i = absurd i
 
 module _ (L : ℕ → List Layer) (P : Spot → Type 0) where
-  self : (a : Liveness) (B : Scope) (f : Layer → Formula) (t : Term) (n : ℕ) → Agrees L a t n → (a.resumed ≡ true → P (spot B f t n Resumed)) → ((r : ℕ) → Root r a.roots → P (spot B f t n (Started r))) → Every P (spots_at L B f t n)
+  self : (a : Liveness) (B : Scope) (f : Layer → Formula) (t : Term) (n : ℕ) → Agrees L a t n → (a.resumed ≡ true → P (spot B f t n Resumed)) →
+      ((r : ℕ) → Root r a.roots → P (spot B f t n (Started r))) → Every P (spots_at L B f t n)
   self a B f t n g e h =
       over_spots P B f t n (L n) (subst (λ ls. Every (λ l. P (spot B f t n l)) ls) (sym (here_agrees L a t n g)) (over_layers (λ l. P (spot B f t n l)) a at))
     where
@@ -30,17 +31,21 @@ module _ (L : ℕ → List Layer) (P : Spot → Type 0) where
       at Resumed i = e i
       at (Started r) i = h r i
 
-  one : (a : Liveness) (B : Scope) (f : Layer → Formula) (t : Term) (n : ℕ) (ps : List Spot) → Agrees L a t n → (a.resumed ≡ true → P (spot B f t n Resumed)) → ((r : ℕ) → Root r a.roots → P (spot B f t n (Started r))) → Every P ps → Every P (spots_at L B f t n ++ ps)
+  one : (a : Liveness) (B : Scope) (f : Layer → Formula) (t : Term) (n : ℕ) (ps : List Spot) → Agrees L a t n → (a.resumed ≡ true → P (spot B f t n Resumed)) →
+      ((r : ℕ) → Root r a.roots → P (spot B f t n (Started r))) → Every P ps → Every P (spots_at L B f t n ++ ps)
   one a B f t n ps g e h k = every_append P (spots_at L B f t n) ps (self a B f t n g e h) k
 
-  two : (a : Liveness) (B : Scope) (f : Layer → Formula) (t : Term) (n : ℕ) (ps qs : List Spot) → Agrees L a t n → (a.resumed ≡ true → P (spot B f t n Resumed)) → ((r : ℕ) → Root r a.roots → P (spot B f t n (Started r))) → Every P ps → Every P qs → Every P (spots_at L B f t n ++ (ps ++ qs))
+  two : (a : Liveness) (B : Scope) (f : Layer → Formula) (t : Term) (n : ℕ) (ps qs : List Spot) → Agrees L a t n →
+      (a.resumed ≡ true → P (spot B f t n Resumed)) → ((r : ℕ) → Root r a.roots → P (spot B f t n (Started r))) → Every P ps → Every P qs →
+      Every P (spots_at L B f t n ++ (ps ++ qs))
   two a B f t n ps qs g e h k j = one a B f t n (ps ++ qs) g e h (every_append P ps qs k j)
 
   -- the conditions of a part that is resumed with the whole
   live : {A : Type 0} (a : Liveness) (x : Bool) → (a.resumed ≡ true → x ≡ true → A) → (a.resumed && x) ≡ true → A
   live a x f e = let h = and_parts a.resumed x e in f h.0 h.1
 
-  pub gathered : (a : Liveness) (B : Scope) (f : Layer → Formula) (t : Term) (n : ℕ) → IsKernel t → Agrees L a t n → (a.resumed ≡ true → EachResumed P B f t n) → ((r : ℕ) → Root r a.roots → EachStarted P B f t n (Started r)) → Every P (spots L B f t n)
+  pub gathered : (a : Liveness) (B : Scope) (f : Layer → Formula) (t : Term) (n : ℕ) → IsKernel t → Agrees L a t n →
+      (a.resumed ≡ true → EachResumed P B f t n) → ((r : ℕ) → Root r a.roots → EachStarted P B f t n (Started r)) → Every P (spots L B f t n)
   gathered a B f Nothing n k g e h = self a B f Nothing n g e h
   gathered a B f Pause n k g e h = self a B f Pause n g e h
   gathered a B f (Emit s) n k g e h = self a B f (Emit s) n g e h
@@ -49,12 +54,15 @@ module _ (L : ℕ → List Layer) (P : Spot → Type 0) where
       let ap1 = part_liveness a p in
       let aq = part_liveness a q in
       two a B f (Present x p q) n (spots L B (tested_entry n (n + 1) (test_formula B x)) p (n + 1)) _ g (λ i. (e i).0) (λ r i. (h r i).0)
-      (gathered ap1 B _ p (n + 1) k.0 (first_agrees L a ap1 aq (Present x p q) p q n refl (λ j. refl) g) (live a (has_code (resumed_codes p)) (λ i z. (e i).1 z)) (λ r i. (h r i).1))
-      (gathered aq B _ q (n + 1 + statement_count p) k.1 (second_agrees L a ap1 aq (Present x p q) p q n refl (λ j. refl) g) (live a (has_code (resumed_codes q)) (λ i z. (e i).2 z)) (λ r i. (h r i).2))
+      (gathered ap1 B _ p (n + 1) k.0 (first_agrees L a ap1 aq (Present x p q) p q n refl (λ j. refl) g)
+      (live a (has_code (resumed_codes p)) (λ i z. (e i).1 z)) (λ r i. (h r i).1))
+      (gathered aq B _ q (n + 1 + statement_count p) k.1 (second_agrees L a ap1 aq (Present x p q) p q n refl (λ j. refl) g)
+      (live a (has_code (resumed_codes q)) (λ i z. (e i).2 z)) (λ r i. (h r i).2))
   gathered a B f (Suspend x p) n k g e h =
       let ap1 = part_liveness a p in
       one a B f (Suspend x p) n _ g (λ i. (e i).0) (λ r i. (h r i).0)
-      (gathered ap1 B _ p (n + 1) k (only_agrees L a ap1 (Suspend x p) p n refl (λ j. refl) g) (live a (has_code (resumed_codes p)) (λ i z. (e i).1 z)) (λ r i. (h r i).1))
+      (gathered ap1 B _ p (n + 1) k (only_agrees L a ap1 (Suspend x p) p n refl (λ j. refl) g) (live a (has_code (resumed_codes p)) (λ i z. (e i).1 z))
+      (λ r i. (h r i).1))
   gathered a B f (Seq p q) n k g e h =
       let m = n + 1 + statement_count p in
       let ap1 = part_liveness a p in
@@ -62,8 +70,10 @@ module _ (L : ℕ → List Layer) (P : Spot → Type 0) where
       let old = cond (started_codes p 0) a.roots [] in
       let new = root_if (a.resumed && resumed_codes p 0) m in
       two a B f (Seq p q) n (spots L B (branch_entry n (n + 1)) p (n + 1)) _ g (λ i. (e i).0) (λ r i. (h r i).0)
-      (gathered ap1 B _ p (n + 1) k.0 (first_agrees L a ap1 aq (Seq p q) p q n refl (λ j. refl) g) (live a (has_code (resumed_codes p)) (λ i z. (e i).1 z)) (λ r i. (h r i).1))
-      (gathered aq B _ q m k.1 (second_agrees L a ap1 aq (Seq p q) p q n refl (λ j. refl) g) (live a (can_pass p && has_code (resumed_codes q)) (λ i z. (e i).2 z))
+      (gathered ap1 B _ p (n + 1) k.0 (first_agrees L a ap1 aq (Seq p q) p q n refl (λ j. refl) g) (live a (has_code (resumed_codes p)) (λ i z. (e i).1 z))
+      (λ r i. (h r i).1))
+      (gathered aq B _ q m k.1 (second_agrees L a ap1 aq (Seq p q) p q n refl (λ j. refl) g)
+      (live a (can_pass p && has_code (resumed_codes q)) (λ i z. (e i).2 z))
       (λ r i.
       ⊎_elim
       (λ u. let z = root_if_given r (started_codes p 0) a.roots u in (h r z.0).2 z.1)
@@ -86,14 +96,18 @@ module _ (L : ℕ → List Layer) (P : Spot → Type 0) where
       let ap1 = part_liveness a p in
       let aq = part_liveness a q in
       two a B f (Par p q) n (spots L B (branch_entry n (n + 1)) p (n + 1)) _ g (λ i. (e i).0) (λ r i. (h r i).0)
-      (gathered ap1 B _ p (n + 1) k.0 (first_agrees L a ap1 aq (Par p q) p q n refl (λ j. refl) g) (live a (has_code (resumed_codes p)) (λ i z. (e i).1 z)) (λ r i. (h r i).1))
-      (gathered aq B _ q (n + 1 + statement_count p) k.1 (second_agrees L a ap1 aq (Par p q) p q n refl (λ j. refl) g) (live a (has_code (resumed_codes q)) (λ i z. (e i).2 z)) (λ r i. (h r i).2))
+      (gathered ap1 B _ p (n + 1) k.0 (first_agrees L a ap1 aq (Par p q) p q n refl (λ j. refl) g) (live a (has_code (resumed_codes p)) (λ i z. (e i).1 z))
+      (λ r i. (h r i).1))
+      (gathered aq B _ q (n + 1 + statement_count p) k.1 (second_agrees L a ap1 aq (Par p q) p q n refl (λ j. refl) g)
+      (live a (has_code (resumed_codes q)) (λ i z. (e i).2 z)) (λ r i. (h r i).2))
   gathered a B f (Trap p) n k g e h =
       let ap1 = part_liveness a p in
       one a B f (Trap p) n _ g (λ i. (e i).0) (λ r i. (h r i).0)
-      (gathered ap1 B _ p (n + 1) k (only_agrees L a ap1 (Trap p) p n refl (λ j. refl) g) (live a (has_code (resumed_codes p)) (λ i z. (e i).1 z)) (λ r i. (h r i).1))
+      (gathered ap1 B _ p (n + 1) k (only_agrees L a ap1 (Trap p) p n refl (λ j. refl) g) (live a (has_code (resumed_codes p)) (λ i z. (e i).1 z))
+      (λ r i. (h r i).1))
   gathered a B f (Local s p) n k g e h =
       let ap1 = part_liveness a p in
       one a B f (Local s p) n _ g (λ i. (e i).0) (λ r i. (h r i).0)
-      (gathered ap1 (bind B s n) _ p (n + 1) k (only_agrees L a ap1 (Local s p) p n refl (λ j. refl) g) (live a (has_code (resumed_codes p)) (λ i z. (e i).1 z)) (λ r i. (h r i).1))
+      (gathered ap1 (bind B s n) _ p (n + 1) k (only_agrees L a ap1 (Local s p) p n refl (λ j. refl) g) (live a (has_code (resumed_codes p)) (λ i z. (e i).1 z))
+      (λ r i. (h r i).1))
   gathered a B f (Awake x p) n k g e h = absurd k

@@ -44,7 +44,8 @@ root_if_parts r m true h = ⊎_elim (λ e. (e, refl)) (λ i. absurd i) h
 root_if_parts r m false h = absurd h
 
 -- what holds of the instances of one statement
-here_each : (P : Spot → Type 0) (B : Scope) (f : Layer → Formula) (t : Term) (n : ℕ) (a : Liveness) (ls : List Layer) → ls ≡ layers_of a → Every P (map (λ l. spot B f t n l) ls) → (a.resumed ≡ true → P (spot B f t n Resumed)) × ((r : ℕ) → Root r a.roots → P (spot B f t n (Started r)))
+here_each : (P : Spot → Type 0) (B : Scope) (f : Layer → Formula) (t : Term) (n : ℕ) (a : Liveness) (ls : List Layer) → ls ≡ layers_of a →
+    Every P (map (λ l. spot B f t n l) ls) → (a.resumed ≡ true → P (spot B f t n Resumed)) × ((r : ℕ) → Root r a.roots → P (spot B f t n (Started r)))
 here_each P B f t n a ls e h =
     let k = subst (λ l. Every P (map (λ x. spot B f t n x) l)) e h in
     (λ c. resumed a.resumed (map Started a.roots) c k, λ r i. started a.roots (after a.resumed a.roots k) r i)
@@ -53,7 +54,8 @@ here_each P B f t n a ls e h =
     resumed true rs x y = y.0
     resumed false rs x y = absurd (false≢true x)
 
-    after : (c : Bool) (rs : List ℕ) → Every P (map (λ x. spot B f t n x) (cond c (Resumed ∷ []) [] ++ map Started rs)) → Every P (map (λ x. spot B f t n x) (map Started rs))
+    after : (c : Bool) (rs : List ℕ) → Every P (map (λ x. spot B f t n x) (cond c (Resumed ∷ []) [] ++ map Started rs)) →
+        Every P (map (λ x. spot B f t n x) (map Started rs))
     after true rs y = y.1
     after false rs y = y
 
@@ -66,17 +68,20 @@ module _ (L : ℕ → List Layer) (P Q : Spot → Type 0) (conv : (x : Spot) →
   Layered a B f t n =
       (a.resumed ≡ true → EachResumed Q B f t n) × ((r : ℕ) → Root r a.roots → EachStarted Q B f t n (Started r))
 
-  here : (B : Scope) (f : Layer → Formula) (t : Term) (n : ℕ) (a : Liveness) (ss : List Spot) → IsKernel t → Agrees L a t n → Every P (spots_at L B f t n ++ ss) → (a.resumed ≡ true → Q (spot B f t n Resumed)) × ((r : ℕ) → Root r a.roots → Q (spot B f t n (Started r)))
+  here : (B : Scope) (f : Layer → Formula) (t : Term) (n : ℕ) (a : Liveness) (ss : List Spot) → IsKernel t → Agrees L a t n →
+      Every P (spots_at L B f t n ++ ss) → (a.resumed ≡ true → Q (spot B f t n Resumed)) × ((r : ℕ) → Root r a.roots → Q (spot B f t n (Started r)))
   here B f t n a ss k g h =
       let e = here_each P B f t n a (L n) (here_agrees L a t n g) (every_left P (spots_at L B f t n) ss h) in
       (λ c. conv _ k (e.0 c), λ r i. conv _ k (e.1 r i))
 
-  alone : (B : Scope) (f : Layer → Formula) (t : Term) (n : ℕ) (a : Liveness) → IsKernel t → Agrees L a t n → Every P (spots_at L B f t n) → (a.resumed ≡ true → Q (spot B f t n Resumed)) × ((r : ℕ) → Root r a.roots → Q (spot B f t n (Started r)))
+  alone : (B : Scope) (f : Layer → Formula) (t : Term) (n : ℕ) (a : Liveness) → IsKernel t → Agrees L a t n → Every P (spots_at L B f t n) →
+      (a.resumed ≡ true → Q (spot B f t n Resumed)) × ((r : ℕ) → Root r a.roots → Q (spot B f t n (Started r)))
   alone B f t n a k g h =
       let e = here_each P B f t n a (L n) (here_agrees L a t n g) h in
       (λ c. conv _ k (e.0 c), λ r i. conv _ k (e.1 r i))
 
-  pub layered : (a : Liveness) (B : Scope) (f : Layer → Formula) (t : Term) (n : ℕ) → IsKernel t → Agrees L a t n → Every P (spots L B f t n) → Layered a B f t n
+  pub layered : (a : Liveness) (B : Scope) (f : Layer → Formula) (t : Term) (n : ℕ) → IsKernel t → Agrees L a t n → Every P (spots L B f t n) →
+      Layered a B f t n
   layered a B f Nothing n k g h = alone B f Nothing n a k g h
   layered a B f Pause n k g h = alone B f Pause n a k g h
   layered a B f (Emit s) n k g h = alone B f (Emit s) n a k g h
@@ -88,14 +93,17 @@ module _ (L : ℕ → List Layer) (P Q : Spot → Type 0) (conv : (x : Spot) →
       let qs = spots L B (tested_entry n m (λ l. Negation (test_formula B e l))) q m in
       let rest = every_right P (spots_at L B f t n) (ps ++ qs) h in
       let i = here B f t n a (ps ++ qs) k g h in
-      let x = layered (part_liveness a p) B _ p (n + 1) k.0 (first_agrees L a (part_liveness a p) (part_liveness a q) t p q n refl (λ j. refl) g) (every_left P ps qs rest) in
-      let y = layered (part_liveness a q) B _ q m k.1 (second_agrees L a (part_liveness a p) (part_liveness a q) t p q n refl (λ j. refl) g) (every_right P ps qs rest) in
+      let x = layered (part_liveness a p) B _ p (n + 1) k.0 (first_agrees L a (part_liveness a p) (part_liveness a q) t p q n refl (λ j. refl) g)
+      (every_left P ps qs rest) in
+      let y = layered (part_liveness a q) B _ q m k.1 (second_agrees L a (part_liveness a p) (part_liveness a q) t p q n refl (λ j. refl) g)
+      (every_right P ps qs rest) in
       ((λ c. (i.0 c, (λ d. x.0 (and_from _ _ c d)), (λ d. y.0 (and_from _ _ c d)))), λ r o. (i.1 r o, x.1 r o, y.1 r o))
   layered a B f (Suspend e p) n k g h =
       let t = Suspend e p in
       let ps = spots L B (suspended_entry n (test_formula B e)) p (n + 1) in
       let i = here B f t n a ps k g h in
-      let x = layered (part_liveness a p) B _ p (n + 1) k (only_agrees L a (part_liveness a p) t p n refl (λ j. refl) g) (every_right P (spots_at L B f t n) ps h) in
+      let x = layered (part_liveness a p) B _ p (n + 1) k (only_agrees L a (part_liveness a p) t p n refl (λ j. refl) g)
+      (every_right P (spots_at L B f t n) ps h) in
       ((λ c. (i.0 c, λ d. x.0 (and_from _ _ c d))), λ r o. (i.1 r o, x.1 r o))
   layered a B f (Seq p q) n k g h =
       let m = n + 1 + statement_count p in
@@ -129,7 +137,8 @@ module _ (L : ℕ → List Layer) (P Q : Spot → Type 0) (conv : (x : Spot) →
         (λ c. (
           i.0 c,
           (λ d. x.0 (and_from _ _ c d)),
-          λ d. x.1 (n + 1) (root_right (n + 1) a.roots (root_if (a.resumed && resumed_codes p 0) (n + 1)) (root_own (n + 1) (a.resumed && resumed_codes p 0) (and_from _ _ c d))),
+          λ d. x.1 (n + 1) (root_right (n + 1) a.roots (root_if (a.resumed && resumed_codes p 0) (n + 1))
+              (root_own (n + 1) (a.resumed && resumed_codes p 0) (and_from _ _ c d))),
         )),
         λ r o. (i.1 r o, x.1 r (root_left r a.roots (root_if (a.resumed && resumed_codes p 0) (n + 1)) o)),
       )
@@ -140,19 +149,23 @@ module _ (L : ℕ → List Layer) (P Q : Spot → Type 0) (conv : (x : Spot) →
       let qs = spots L B (branch_entry n m) q m in
       let rest = every_right P (spots_at L B f t n) (ps ++ qs) h in
       let i = here B f t n a (ps ++ qs) k g h in
-      let x = layered (part_liveness a p) B _ p (n + 1) k.0 (first_agrees L a (part_liveness a p) (part_liveness a q) t p q n refl (λ j. refl) g) (every_left P ps qs rest) in
-      let y = layered (part_liveness a q) B _ q m k.1 (second_agrees L a (part_liveness a p) (part_liveness a q) t p q n refl (λ j. refl) g) (every_right P ps qs rest) in
+      let x = layered (part_liveness a p) B _ p (n + 1) k.0 (first_agrees L a (part_liveness a p) (part_liveness a q) t p q n refl (λ j. refl) g)
+      (every_left P ps qs rest) in
+      let y = layered (part_liveness a q) B _ q m k.1 (second_agrees L a (part_liveness a p) (part_liveness a q) t p q n refl (λ j. refl) g)
+      (every_right P ps qs rest) in
       ((λ c. (i.0 c, (λ d. x.0 (and_from _ _ c d)), (λ d. y.0 (and_from _ _ c d)))), λ r o. (i.1 r o, x.1 r o, y.1 r o))
   layered a B f (Trap p) n k g h =
       let t = Trap p in
       let ps = spots L B (part_entry n) p (n + 1) in
       let i = here B f t n a ps k g h in
-      let x = layered (part_liveness a p) B _ p (n + 1) k (only_agrees L a (part_liveness a p) t p n refl (λ j. refl) g) (every_right P (spots_at L B f t n) ps h) in
+      let x = layered (part_liveness a p) B _ p (n + 1) k (only_agrees L a (part_liveness a p) t p n refl (λ j. refl) g)
+      (every_right P (spots_at L B f t n) ps h) in
       ((λ c. (i.0 c, λ d. x.0 (and_from _ _ c d))), λ r o. (i.1 r o, x.1 r o))
   layered a B f (Local s p) n k g h =
       let t = Local s p in
       let ps = spots L (bind B s n) (part_entry n) p (n + 1) in
       let i = here B f t n a ps k g h in
-      let x = layered (part_liveness a p) (bind B s n) _ p (n + 1) k (only_agrees L a (part_liveness a p) t p n refl (λ j. refl) g) (every_right P (spots_at L B f t n) ps h) in
+      let x = layered (part_liveness a p) (bind B s n) _ p (n + 1) k (only_agrees L a (part_liveness a p) t p n refl (λ j. refl) g)
+      (every_right P (spots_at L B f t n) ps h) in
       ((λ c. (i.0 c, λ d. x.0 (and_from _ _ c d))), λ r o. (i.1 r o, x.1 r o))
   layered a B f (Awake e p) n k g h = absurd k

@@ -36,11 +36,14 @@ pub record Contents (g : ℕ → Term) (t : Term) (n : ℕ) : Type 0 where
 lower : (a b : ℕ) → b ≤ a → ltb a b ≡ false
 lower a b h = cond_both (ltb a b) true false (λ x. ltb a b ≡ false) (λ e. let i = ltb-true a b e in absurd (omega arith)) (λ e. e)
 
-pub reads_only : (g : ℕ → Term) (t p : Term) (n : ℕ) → statement_count t ≡ 1 + statement_count p → ((m : ℕ) → statement_at t n m ≡ cond (m == n) t (statement_at p (n + 1) m)) → Contents g t n → Contents g p (n + 1)
+pub reads_only : (g : ℕ → Term) (t p : Term) (n : ℕ) → statement_count t ≡ 1 + statement_count p →
+    ((m : ℕ) → statement_at t n m ≡ cond (m == n) t (statement_at p (n + 1) m)) → Contents g t n → Contents g p (n + 1)
 reads_only g t p n c f h =
     record { each = λ m l u. h.each m (omega arith) (omega arith) ∙ f m ∙ cond-false (m == n) _ _ (ne_eqb m n (λ e. omega arith)) }
 
-pub reads_first : (g : ℕ → Term) (t p q : Term) (n : ℕ) → statement_count t ≡ 1 + statement_count p + statement_count q → ((m : ℕ) → statement_at t n m ≡ cond (m == n) t (cond (ltb m (n + 1 + statement_count p)) (statement_at p (n + 1) m) (statement_at q (n + 1 + statement_count p) m))) → Contents g t n → Contents g p (n + 1)
+pub reads_first : (g : ℕ → Term) (t p q : Term) (n : ℕ) → statement_count t ≡ 1 + statement_count p + statement_count q →
+    ((m : ℕ) → statement_at t n m ≡ cond (m == n) t (cond (ltb m (n + 1 + statement_count p)) (statement_at p (n + 1) m)
+    (statement_at q (n + 1 + statement_count p) m))) → Contents g t n → Contents g p (n + 1)
 reads_first g t p q n c f h =
     record {
       each = λ m l u.
@@ -48,7 +51,9 @@ reads_first g t p q n c f h =
           ∙ cond-true (ltb m (n + 1 + statement_count p)) _ _ (lt-ltb m (n + 1 + statement_count p) u);
     }
 
-pub reads_second : (g : ℕ → Term) (t p q : Term) (n : ℕ) → statement_count t ≡ 1 + statement_count p + statement_count q → ((m : ℕ) → statement_at t n m ≡ cond (m == n) t (cond (ltb m (n + 1 + statement_count p)) (statement_at p (n + 1) m) (statement_at q (n + 1 + statement_count p) m))) → Contents g t n → Contents g q (n + 1 + statement_count p)
+pub reads_second : (g : ℕ → Term) (t p q : Term) (n : ℕ) → statement_count t ≡ 1 + statement_count p + statement_count q →
+    ((m : ℕ) → statement_at t n m ≡ cond (m == n) t (cond (ltb m (n + 1 + statement_count p)) (statement_at p (n + 1) m)
+    (statement_at q (n + 1 + statement_count p) m))) → Contents g t n → Contents g q (n + 1 + statement_count p)
 reads_second g t p q n c f h =
     record {
       each = λ m l u.

@@ -62,7 +62,8 @@ graphs_read_up_lem p rank kernel up =
     let same = (wires_differ_lem p kernel).0 in
     All-weaker (λ e. ReadsOnly (λ u. Contains (program_wires p) u → Contains (program_edges p) (edge u e.wire)) e.formula)
     (λ e. ReadsOnly (λ u. Contains (equation_wires es) u → rank u < rank e.wire) e.formula)
-    (λ e. reads_weaker (λ u. Contains (program_wires p) u → Contains (program_edges p) (edge u e.wire)) (λ u. Contains (equation_wires es) u → rank u < rank e.wire)
+    (λ e. reads_weaker (λ u. Contains (program_wires p) u → Contains (program_edges p) (edge u e.wire))
+    (λ u. Contains (equation_wires es) u → rank u < rank e.wire)
     (λ u h c. up (edge u e.wire) (h (subst (λ ws. Contains ws u) same c))) e.formula)
     es (reads_are_edges_lem p kernel)
 

@@ -22,7 +22,8 @@ pub all_pairs : {A : Type 0} (R : A → A → Type 0) (xs : List A) → Pairwise
 all_pairs R [] h = λ i j d l m. absurd (omega arith)
 all_pairs R (x ∷ xs) h = AllPairs-cons R x xs (all_of_every (R x) xs h.0) (all_pairs R xs h.1)
 
-pub pairwise_append : {A : Type 0} (R : A → A → Type 0) (xs ys : List A) → Pairwise R xs → Pairwise R ys → Every (λ x. Every (R x) ys) xs → Pairwise R (xs ++ ys)
+pub pairwise_append : {A : Type 0} (R : A → A → Type 0) (xs ys : List A) → Pairwise R xs → Pairwise R ys → Every (λ x. Every (R x) ys) xs →
+    Pairwise R (xs ++ ys)
 pairwise_append R [] ys h g c = g
 pairwise_append R (x ∷ xs) ys h g c = (every_append (R x) xs ys h.0 c.0, pairwise_append R xs ys h.1 g c.1)
 
@@ -51,7 +52,8 @@ every_swap R xs (y ∷ ys) h = pair xs h.0 (every_swap R xs ys h.1)
     pair (z ∷ zs) g k = ((g.0, k.0), pair zs g.1 k.1)
 
 -- blocks of which each is pairwise, and two of them are in each element
-pub pairwise_flat : {A B : Type 0} (S : A → A → Type 0) (R : B → B → Type 0) (f : A → List B) → ((x : A) → Pairwise R (f x)) → ((x y : A) → S x y → Every (λ u. Every (R u) (f y)) (f x)) → (xs : List A) → Pairwise S xs → Pairwise R (flat_map f xs)
+pub pairwise_flat : {A B : Type 0} (S : A → A → Type 0) (R : B → B → Type 0) (f : A → List B) → ((x : A) → Pairwise R (f x)) →
+    ((x y : A) → S x y → Every (λ u. Every (R u) (f y)) (f x)) → (xs : List A) → Pairwise S xs → Pairwise R (flat_map f xs)
 pairwise_flat S R f own two [] h = tt
 pairwise_flat S R f own two (x ∷ xs) h =
     pairwise_append R (f x) (flat_map f xs) (own x) (pairwise_flat S R f own two xs h.1)

@@ -1,5 +1,6 @@
 -- The graph of a program: its edges join its wires, and its equations read along them.
-use Rattle.std.proofs.Common.{◌≡◌, ℕ, zero, suc, ◌+◌, ◌<◌, ◌≤◌, Bool, true, cond, ltb, List, [], ◌∷◌, ◌++◌, length, map, get_or, Option, Some, None, refl, sym, subst, ⊎_elim, arith}
+use Rattle.std.proofs.Common.{◌≡◌, ℕ, zero, suc, ◌+◌, ◌<◌, ◌≤◌, Bool, true, cond, ltb, List, [], ◌∷◌, ◌++◌, length, map, get_or, Option, Some, None, refl, sym}
+use Rattle.std.proofs.Common.{subst, ⊎_elim, arith}
 use Rattle.std.specs.Prelude.{Contains}
 use Rattle.std.specs.List.{flat_map, range_with_len}
 use Rattle.std.proofs.lemmas.Bool.{cases_lt, cond_both, ltb-true, ltb-false, false≢true}
@@ -128,13 +129,15 @@ module _ (p : Program) (kernel : IsKernel p.body) where
 
       outgoing : (s : ℕ) → B0 s ≡ Outgoing → W (Out s)
       outgoing s =
-          cond_both (ltb s p.inputs) Entering (cond (ltb s (interface_count p)) Outgoing Unbound) (λ x. x ≡ Outgoing → W (Out s)) (λ h e. absurd (let i : ⊥ = cc in i))
+          cond_both (ltb s p.inputs) Entering (cond (ltb s (interface_count p)) Outgoing Unbound) (λ x. x ≡ Outgoing → W (Out s))
+          (λ h e. absurd (let i : ⊥ = cc in i))
           (λ h.
           cond_both (ltb s (interface_count p)) Outgoing Unbound (λ x. x ≡ Outgoing → W (Out s))
           (λ i e.
           let low = ltb-false s p.inputs h in
           let high = ltb-true s (interface_count p) i in
-          Contains-append_left (map Out (interface_of p).outgoing) _ (Out s) (contains_map Out (interface_of p).outgoing s (range_has p.inputs (outgoing_count p) s low (omega (arith, high)))))
+          Contains-append_left (map Out (interface_of p).outgoing) _ (Out s)
+          (contains_map Out (interface_of p).outgoing s (range_has p.inputs (outgoing_count p) s low (omega (arith, high)))))
           (λ i e. absurd (let j : ⊥ = cc in j)))
 
       entered : (l : Layer) → In (body_liveness p.body) l → ReadsOnly (λ u. Asked W E u (Go 0 l)) (body_entry l)
@@ -153,7 +156,8 @@ module _ (p : Program) (kernel : IsKernel p.body) where
 
   pub record ReadsAt (x : Spot) : Type 0 where
     pub entry : ReadsOnly (λ u. Asked W E u (Go x.path x.layer)) x.entry
-    pub ends : (k : ℕ) → instance_codes x.statement x.layer k ≡ true → ReadsOnly (λ u. Asked W E u (End x.path x.layer k)) (end_formula x.scope x.statement x.path x.layer k)
+    pub ends : (k : ℕ) → instance_codes x.statement x.layer k ≡ true →
+        ReadsOnly (λ u. Asked W E u (End x.path x.layer k)) (end_formula x.scope x.statement x.path x.layer k)
 
   branch_codes : {a : Liveness} {B : Scope} {f : Layer → Formula} {t : Term} {n : ℕ} → Context L g all W E told a B f t n → (l : Layer) → BranchCodes W E t n l
   branch_codes {a} {B} {f} {t} {n} c l = go t c
@@ -189,7 +193,8 @@ module _ (p : Program) (kernel : IsKernel p.body) where
   emission_edge w B Nothing n l e h = absurd (false≢true e)
   emission_edge w B Pause n l e h = absurd (false≢true e)
   emission_edge w B (Emit s) n l e h =
-      go (status_wire (B s) s l) e (every_right (λ x. E x.from x.to) (go_to_ends (instance_codes (Emit s) l) n l) (to_status (Go n l) (status_wire (B s) s l)) h)
+      go (status_wire (B s) s l) e (every_right (λ x. E x.from x.to) (go_to_ends (instance_codes (Emit s) l) n l)
+      (to_status (Go n l) (status_wire (B s) s l)) h)
     where
       go : (o : Option Wire) → is_wire o w ≡ true → Every (λ x. E x.from x.to) (to_status (Go n l) o) → E (Go n l) w
       go None i k = absurd (false≢true i)
@@ -204,10 +209,12 @@ module _ (p : Program) (kernel : IsKernel p.body) where
   emission_edge w B (Local s y) n l e h = absurd (false≢true e)
   emission_edge w B (Awake x y) n l e h = absurd (false≢true e)
 
-  emission_reads : (w : Wire) (xs : List Spot) → Every (λ x. Every (λ e. E e.from e.to) (edges_at x.scope x.statement x.path x.layer)) xs → Every (ReadsOnly (λ u. Asked W E u w)) (emissions w xs)
+  emission_reads : (w : Wire) (xs : List Spot) → Every (λ x. Every (λ e. E e.from e.to) (edges_at x.scope x.statement x.path x.layer)) xs →
+      Every (ReadsOnly (λ u. Asked W E u w)) (emissions w xs)
   emission_reads w [] h = tt
   emission_reads w (x ∷ xs) h =
-      cond_both (emits_on w x.statement x.scope x.layer) (Value (Go x.path x.layer) ∷ emissions w xs) (emissions w xs) (λ fs. Every (ReadsOnly (λ u. Asked W E u w)) fs)
+      cond_both (emits_on w x.statement x.scope x.layer) (Value (Go x.path x.layer) ∷ emissions w xs) (emissions w xs)
+      (λ fs. Every (ReadsOnly (λ u. Asked W E u w)) fs)
       (λ e. ((λ i. emission_edge w x.scope x.statement x.path x.layer e h.0), emission_reads w xs h.1))
       (λ e. emission_reads w xs h.1)
 
@@ -235,7 +242,8 @@ module _ (p : Program) (kernel : IsKernel p.body) where
   instance_reads x h = (
     h.entry,
     every_append Read (instance_status all x.statement x.path x.layer) _ (status_reads x.statement x.path x.layer)
-        (every_mapped Read (λ k. record { wire = End x.path x.layer k; formula = end_formula x.scope x.statement x.path x.layer k }) (listed (instance_codes x.statement x.layer))
+        (every_mapped Read (λ k. record { wire = End x.path x.layer k; formula = end_formula x.scope x.statement x.path x.layer k })
+        (listed (instance_codes x.statement x.layer))
         (listed_every _ (instance_codes x.statement x.layer) (λ k u e. h.ends k e))),
   )
 

@@ -72,6 +72,7 @@ pub equation_of : (es : List Equation) (w : Wire) → Contains (equation_wires e
 equation_of [] w c = absurd (omega (arith, c.1))
 equation_of (f ∷ es) w c = go c.0 c.1 c.2 (equation_of es w)
   where
-    go : (k : ℕ) → k < suc (length (equation_wires es)) → get_or (f.wire ∷ equation_wires es) k w ≡ w → (Contains (equation_wires es) w → (e : Equation) × Contains es e × (e.wire ≡ w)) → (e : Equation) × Contains (f ∷ es) e × (e.wire ≡ w)
+    go : (k : ℕ) → k < suc (length (equation_wires es)) → get_or (f.wire ∷ equation_wires es) k w ≡ w →
+        (Contains (equation_wires es) w → (e : Equation) × Contains es e × (e.wire ≡ w)) → (e : Equation) × Contains (f ∷ es) e × (e.wire ≡ w)
     go zero l h r = (f, (0, omega arith, refl), h)
     go (suc k) l h r = let i = r (k, omega arith, h) in (i.0, contains_more f i.0 es i.1, i.2)

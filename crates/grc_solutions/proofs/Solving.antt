@@ -1,5 +1,6 @@
 -- Equations that read up in rank have one solution: it is reached in as many turns as there are ranks.
-use Rattle.std.proofs.Common.{◌≡◌, ℕ, zero, suc, ◌<◌, ◌≤◌, Bool, false, not, ◌&&◌, ◌||◌, cond, max, List, [], ◌∷◌, length, get_or, refl, sym, ap, ◌∙◌, subst, ⊎_elim, arith}
+use Rattle.std.proofs.Common.{◌≡◌, ℕ, zero, suc, ◌<◌, ◌≤◌, Bool, false, not, ◌&&◌, ◌||◌, cond, max, List, [], ◌∷◌, length, get_or, refl, sym, ap, ◌∙◌, subst}
+use Rattle.std.proofs.Common.{⊎_elim, arith}
 use Rattle.std.specs.Prelude.{Contains}
 use Rattle.std.proofs.lemmas.Bool.{cond_both, cases_Bool, cond-true, cond-false, or_parts}
 use Rattle.std.proofs.lemmas.List.{length-map, get_or-map}
@@ -53,7 +54,8 @@ module _ (g : PlainGraph) (q : State) (event : List Bool) where
       let p = or_parts (same_wire w e.wire) (is_given es w) h in
       cond-false (same_wire w e.wire) (value V e.formula) (step V es w) p.0 ∙ step_off V es w p.1
 
-  step_agree : (V W : Valuation) (es : List Equation) (w : Wire) → ((e : Equation) → Contains es e → w ≡ e.wire → value V e.formula ≡ value W e.formula) → step V es w ≡ step W es w
+  step_agree : (V W : Valuation) (es : List Equation) (w : Wire) → ((e : Equation) → Contains es e → w ≡ e.wire → value V e.formula ≡ value W e.formula) →
+      step V es w ≡ step W es w
   unfolding step
   step_agree V W [] w f = refl
   step_agree V W (e ∷ es) w f =
@@ -78,7 +80,8 @@ module _ (g : PlainGraph) (q : State) (event : List Bool) where
           d 0 (suc k) f.wire (omega arith) (omega (arith, l, length-map es (λ (x : Equation). x.wire)))
           (sym s ∙ sym (get_or-map (λ (x : Equation). x.wire) es k e f.wire l ∙ ap (λ x. x.wire) h))
 
-      go : (k : ℕ) → k < suc (length es) → get_or (f ∷ es) k e ≡ e → (Contains es e → step V es e.wire ≡ value V e.formula) → step V (f ∷ es) e.wire ≡ value V e.formula
+      go : (k : ℕ) → k < suc (length es) → get_or (f ∷ es) k e ≡ e → (Contains es e → step V es e.wire ≡ value V e.formula) →
+          step V (f ∷ es) e.wire ≡ value V e.formula
       go zero l h i = here e h
       go (suc k) l h i =
           cond_both (same_wire e.wire f.wire) (value V f.formula) (step V es e.wire) (λ x. x ≡ value V e.formula)
@@ -86,7 +89,8 @@ module _ (g : PlainGraph) (q : State) (event : List Bool) where
           (λ s. i (k, omega arith, h))
 
   -- what a wire agrees in, of two valuations that are false off the wires
-  agree_on : (V W : Valuation) (es : List Equation) → ((w : Wire) → is_given es w ≡ false → V w ≡ false) → ((w : Wire) → is_given es w ≡ false → W w ≡ false) → (u : Wire) → (Contains (equation_wires es) u → V u ≡ W u) → V u ≡ W u
+  agree_on : (V W : Valuation) (es : List Equation) → ((w : Wire) → is_given es w ≡ false → V w ≡ false) → ((w : Wire) → is_given es w ≡ false → W w ≡ false) →
+      (u : Wire) → (Contains (equation_wires es) u → V u ≡ W u) → V u ≡ W u
   agree_on V W es f h u i =
       ⊎_elim (λ e. i (given_contained es u e)) (λ e. f u e ∙ sym (h u e)) (cases_Bool (is_given es u))
 
@@ -102,7 +106,9 @@ module _ (g : PlainGraph) (q : State) (event : List Bool) where
     turns_off (suc i) w h = step_off (turns i) g.equations w h
 
     -- a formula of a wire below a rank, under two valuations that agree below
-    formula_agrees : (V W : Valuation) (i : ℕ) → ((w : Wire) → is_given g.equations w ≡ false → V w ≡ false) → ((w : Wire) → is_given g.equations w ≡ false → W w ≡ false) → ((u : Wire) → rank u < i → V u ≡ W u) → (e : Equation) → Contains g.equations e → rank e.wire < suc i → value V e.formula ≡ value W e.formula
+    formula_agrees : (V W : Valuation) (i : ℕ) → ((w : Wire) → is_given g.equations w ≡ false → V w ≡ false) →
+        ((w : Wire) → is_given g.equations w ≡ false → W w ≡ false) → ((u : Wire) → rank u < i → V u ≡ W u) → (e : Equation) → Contains g.equations e →
+        rank e.wire < suc i → value V e.formula ≡ value W e.formula
     formula_agrees V W i f h below e c l =
         agree (λ u. Contains (equation_wires g.equations) u → rank u < rank e.wire) V W
         (λ u r. agree_on V W g.equations f h u (λ k. below u (omega (arith, r k, l))))
@@ -115,7 +121,8 @@ module _ (g : PlainGraph) (q : State) (event : List Bool) where
         step_agree (turns (suc i)) (turns i) g.equations w
         (λ e c s. formula_agrees (turns (suc i)) (turns i) i (turns_off (suc i)) (turns_off i) (stable i) e c (subst (λ x. rank x < suc i) s l))
 
-    same_next : (V W : Valuation) → Solves g q event V → Solves g q event W → (i : ℕ) → ((u : Wire) → rank u < i → V u ≡ W u) → (w : Wire) → rank w < suc i → V w ≡ W w
+    same_next : (V W : Valuation) → Solves g q event V → Solves g q event W → (i : ℕ) → ((u : Wire) → rank u < i → V u ≡ W u) → (w : Wire) → rank w < suc i →
+        V w ≡ W w
     same_next V W s r i below w l = agree_on V W g.equations s.others r.others w (λ c. at (equation_of g.equations w c))
       where
         met : (U : Valuation) → Solves g q event U → (e : Equation) → Contains g.equations e → U e.wire ≡ value U e.formula

@@ -21,7 +21,8 @@ use Rattle.grc_solutions.specs.GraphWires.{equation_wires, program_wires, WiresD
 use Rattle.grc_solutions.proofs.Lists.{Every, every_append, every_from, every_all, every_of_all}
 use Rattle.grc_solutions.proofs.Each.{spot}
 use Rattle.grc_graph.proofs.LiveLayers.{Agrees, body_agrees, here_agrees, only_agrees, first_agrees, second_agrees}
-use Rattle.grc_solutions.proofs.Pairwise.{Pairwise, joined, all_pairs, pairwise_append, pairwise_from, pairwise_map, pairwise_flat, every_mapped, every_flat, listed_every, listed_ascend, range_ascends}
+use Rattle.grc_solutions.proofs.Pairwise.{Pairwise, joined, all_pairs, pairwise_append, pairwise_from, pairwise_map, pairwise_flat, every_mapped, every_flat}
+use Rattle.grc_solutions.proofs.Pairwise.{listed_every, listed_ascend, range_ascends}
 
 -- ---- one equation a wire
 
@@ -44,9 +45,11 @@ own_wires all x =
     ap (λ ws. Go x.path x.layer ∷ ws)
     (map-append (λ (e : Equation). e.wire) (instance_status all x.statement x.path x.layer) _
     ∙ joined (status_wires all x.statement x.path x.layer)
-    (map-map (λ (e : Equation). e.wire) (λ k. record { wire = End x.path x.layer k; formula = end_formula x.scope x.statement x.path x.layer k }) (listed (instance_codes x.statement x.layer))))
+    (map-map (λ (e : Equation). e.wire) (λ k. record { wire = End x.path x.layer k; formula = end_formula x.scope x.statement x.path x.layer k })
+    (listed (instance_codes x.statement x.layer))))
 
-map_flat : {A B C : Type 0} (f : B → C) (g : A → List B) (h : A → List C) → ((x : A) → map f (g x) ≡ h x) → (xs : List A) → map f (flat_map g xs) ≡ flat_map h xs
+map_flat : {A B C : Type 0} (f : B → C) (g : A → List B) (h : A → List C) → ((x : A) → map f (g x) ≡ h x) → (xs : List A) →
+    map f (flat_map g xs) ≡ flat_map h xs
 map_flat f g h e [] = refl
 map_flat f g h e (x ∷ xs) = map-append f (g x) (flat_map g xs) ∙ joined (e x) (map_flat f g h e xs)
 
@@ -65,16 +68,22 @@ module _ (L : ℕ → List Layer) where
   here : (a : Liveness) (B : Scope) (f : Layer → Formula) (t : Term) (n : ℕ) → Agrees L a t n → map place (spots_at L B f t n) ≡ instances_at a n
   here a B f t n g = map-map place (λ l. spot B f t n l) (L n) ∙ ap (map (λ l. record { path = n; layer = l })) (here_agrees L a t n g)
 
-  one : (a b : Liveness) (B C : Scope) (f h : Layer → Formula) (t p : Term) (n : ℕ) → Agrees L a t n → map place (spots L C h p (n + 1)) ≡ instances b p (n + 1) → map place (spots_at L B f t n ++ spots L C h p (n + 1)) ≡ instances_at a n ++ instances b p (n + 1)
+  one : (a b : Liveness) (B C : Scope) (f h : Layer → Formula) (t p : Term) (n : ℕ) → Agrees L a t n →
+      map place (spots L C h p (n + 1)) ≡ instances b p (n + 1) → map place (spots_at L B f t n ++ spots L C h p (n + 1)) ≡
+      instances_at a n ++ instances b p (n + 1)
   one a b B C f h t p n g e =
       map-append place (spots_at L B f t n) (spots L C h p (n + 1)) ∙ joined (here a B f t n g) e
 
-  two : (a b c : Liveness) (B : Scope) (f h k : Layer → Formula) (t p q : Term) (n : ℕ) → Agrees L a t n → map place (spots L B h p (n + 1)) ≡ instances b p (n + 1) → map place (spots L B k q (n + 1 + statement_count p)) ≡ instances c q (n + 1 + statement_count p) → map place (spots_at L B f t n ++ (spots L B h p (n + 1) ++ spots L B k q (n + 1 + statement_count p))) ≡ instances_at a n ++ (instances b p (n + 1) ++ instances c q (n + 1 + statement_count p))
+  two : (a b c : Liveness) (B : Scope) (f h k : Layer → Formula) (t p q : Term) (n : ℕ) → Agrees L a t n →
+      map place (spots L B h p (n + 1)) ≡ instances b p (n + 1) → map place (spots L B k q (n + 1 + statement_count p)) ≡
+      instances c q (n + 1 + statement_count p) → map place (spots_at L B f t n ++ (spots L B h p (n + 1) ++ spots L B k q (n + 1 + statement_count p))) ≡
+      instances_at a n ++ (instances b p (n + 1) ++ instances c q (n + 1 + statement_count p))
   two a b c B f h k t p q n g d e =
       map-append place (spots_at L B f t n) (spots L B h p (n + 1) ++ spots L B k q (n + 1 + statement_count p))
       ∙ joined (here a B f t n g) (map-append place (spots L B h p (n + 1)) (spots L B k q (n + 1 + statement_count p)) ∙ joined d e)
 
-  pub places_are : (a : Liveness) (B : Scope) (f : Layer → Formula) (t : Term) (n : ℕ) → IsKernel t → Agrees L a t n → map place (spots L B f t n) ≡ instances a t n
+  pub places_are : (a : Liveness) (B : Scope) (f : Layer → Formula) (t : Term) (n : ℕ) → IsKernel t → Agrees L a t n →
+      map place (spots L B f t n) ≡ instances a t n
   places_are a B f Nothing n k g = here a B f Nothing n g
   places_are a B f Pause n k g = here a B f Pause n g
   places_are a B f (Emit s) n k g = here a B f (Emit s) n g
@@ -82,24 +91,30 @@ module _ (L : ℕ → List Layer) where
   places_are a B f (Present e p q) n k g =
       two a (part_liveness a p) (part_liveness a q) B f _ _ (Present e p q) p q n g
       (places_are (part_liveness a p) B _ p (n + 1) k.0 (first_agrees L a (part_liveness a p) (part_liveness a q) (Present e p q) p q n refl (λ j. refl) g))
-      (places_are (part_liveness a q) B _ q (n + 1 + statement_count p) k.1 (second_agrees L a (part_liveness a p) (part_liveness a q) (Present e p q) p q n refl (λ j. refl) g))
+      (places_are (part_liveness a q) B _ q (n + 1 + statement_count p) k.1
+      (second_agrees L a (part_liveness a p) (part_liveness a q) (Present e p q) p q n refl (λ j. refl) g))
   places_are a B f (Suspend e p) n k g =
-      one a (part_liveness a p) B B f _ (Suspend e p) p n g (places_are (part_liveness a p) B _ p (n + 1) k (only_agrees L a (part_liveness a p) (Suspend e p) p n refl (λ j. refl) g))
+      one a (part_liveness a p) B B f _ (Suspend e p) p n g (places_are (part_liveness a p) B _ p (n + 1) k
+      (only_agrees L a (part_liveness a p) (Suspend e p) p n refl (λ j. refl) g))
   places_are a B f (Seq p q) n k g =
       let b = second_liveness a p q (n + 1 + statement_count p) in
       two a (part_liveness a p) b B f _ _ (Seq p q) p q n g
       (places_are (part_liveness a p) B _ p (n + 1) k.0 (first_agrees L a (part_liveness a p) b (Seq p q) p q n refl (λ j. refl) g))
       (places_are b B _ q (n + 1 + statement_count p) k.1 (second_agrees L a (part_liveness a p) b (Seq p q) p q n refl (λ j. refl) g))
   places_are a B f (Loop at p) n k g =
-      one a (loop_liveness a p (n + 1)) B B f _ (Loop at p) p n g (places_are (loop_liveness a p (n + 1)) B _ p (n + 1) k (only_agrees L a (loop_liveness a p (n + 1)) (Loop at p) p n refl (λ j. refl) g))
+      one a (loop_liveness a p (n + 1)) B B f _ (Loop at p) p n g (places_are (loop_liveness a p (n + 1)) B _ p (n + 1) k
+      (only_agrees L a (loop_liveness a p (n + 1)) (Loop at p) p n refl (λ j. refl) g))
   places_are a B f (Par p q) n k g =
       two a (part_liveness a p) (part_liveness a q) B f _ _ (Par p q) p q n g
       (places_are (part_liveness a p) B _ p (n + 1) k.0 (first_agrees L a (part_liveness a p) (part_liveness a q) (Par p q) p q n refl (λ j. refl) g))
-      (places_are (part_liveness a q) B _ q (n + 1 + statement_count p) k.1 (second_agrees L a (part_liveness a p) (part_liveness a q) (Par p q) p q n refl (λ j. refl) g))
+      (places_are (part_liveness a q) B _ q (n + 1 + statement_count p) k.1
+      (second_agrees L a (part_liveness a p) (part_liveness a q) (Par p q) p q n refl (λ j. refl) g))
   places_are a B f (Trap p) n k g =
-      one a (part_liveness a p) B B f _ (Trap p) p n g (places_are (part_liveness a p) B _ p (n + 1) k (only_agrees L a (part_liveness a p) (Trap p) p n refl (λ j. refl) g))
+      one a (part_liveness a p) B B f _ (Trap p) p n g (places_are (part_liveness a p) B _ p (n + 1) k
+      (only_agrees L a (part_liveness a p) (Trap p) p n refl (λ j. refl) g))
   places_are a B f (Local s p) n k g =
-      one a (part_liveness a p) B (bind B s n) f _ (Local s p) p n g (places_are (part_liveness a p) (bind B s n) _ p (n + 1) k (only_agrees L a (part_liveness a p) (Local s p) p n refl (λ j. refl) g))
+      one a (part_liveness a p) B (bind B s n) f _ (Local s p) p n g
+      (places_are (part_liveness a p) (bind B s n) _ p (n + 1) k (only_agrees L a (part_liveness a p) (Local s p) p n refl (λ j. refl) g))
   places_are a B f (Awake e p) n k g = absurd k
 
 -- ---- all different
@@ -173,7 +188,8 @@ statuses_differ (Local s p) n l = (tt, tt)
 statuses_differ (Awake e p) n l = tt
 
 -- what holds of each form of wire of an instance holds of its wires
-pub instance_every : (P : Wire → Type 0) (t : Term) (n : ℕ) (l : Layer) → P (Go n l) → P (StatusOf n l) → ((k : ℕ) → k < 64 → instance_codes t l k ≡ true → P (End n l k)) → Every P (instance_wires t n l)
+pub instance_every : (P : Wire → Type 0) (t : Term) (n : ℕ) (l : Layer) → P (Go n l) → P (StatusOf n l) →
+    ((k : ℕ) → k < 64 → instance_codes t l k ≡ true → P (End n l k)) → Every P (instance_wires t n l)
 instance_every P t n l g s e = (
   g,
   every_append P (own_status t n l) (map (λ k. End n l k) (listed (instance_codes t l))) (own_statuses P t n l s)
@@ -188,12 +204,15 @@ instance_differ t n l =
           (every_mapped (Other (Go n l)) (λ k. End n l k) (listed (instance_codes t l)) (every_all _ _ (λ k. other_shape (Go n l) (End n l k) (omega arith)))),
       pairwise_append Other (own_status t n l) ends (statuses_differ t n l)
           (pairwise_map Other (λ k. End n l k) (listed (instance_codes t l))
-          (pairwise_from (λ i j. i < j) (λ i j. Other (End n l i) (End n l j)) (listed (instance_codes t l)) (λ i j h. other_number (End n l i) (End n l j) h) (listed_ascend (instance_codes t l))))
+          (pairwise_from (λ i j. i < j) (λ i j. Other (End n l i) (End n l j)) (listed (instance_codes t l)) (λ i j h. other_number (End n l i) (End n l j) h)
+          (listed_ascend (instance_codes t l))))
           (own_statuses (λ u. Every (Other u) ends) t n l
-          (every_mapped (Other (StatusOf n l)) (λ k. End n l k) (listed (instance_codes t l)) (every_all _ _ (λ k. other_shape (StatusOf n l) (End n l k) (omega arith))))),
+          (every_mapped (Other (StatusOf n l)) (λ k. End n l k) (listed (instance_codes t l))
+          (every_all _ _ (λ k. other_shape (StatusOf n l) (End n l k) (omega arith))))),
     )
 
-two_instances : (x y : Spot) → Before (place x) (place y) → Every (λ u. Every (Other u) (instance_wires y.statement y.path y.layer)) (instance_wires x.statement x.path x.layer)
+two_instances : (x y : Spot) → Before (place x) (place y) → Every (λ u. Every (Other u) (instance_wires y.statement y.path y.layer))
+    (instance_wires x.statement x.path x.layer)
 two_instances x y b =
     every_from (λ u. owner u ≡ place x) (λ u. Every (Other u) (instance_wires y.statement y.path y.layer)) (instance_wires x.statement x.path x.layer)
     (λ u h. every_from (λ w. owner w ≡ place y) (Other u) (instance_wires y.statement y.path y.layer) (λ w g. other_owner u w (place x) (place y) b h g)
@@ -212,18 +231,22 @@ pub wires_differ_lem : WiresDiffer
 wires_differ_lem p kernel =
     let all = program_spots p in
     let outgoing = range_with_len p.inputs (outgoing_count p) in
-    let places = places_are (body_layers p.body) (body_liveness p.body) (program_scope p.inputs (interface_count p)) body_entry p.body 0 kernel (body_agrees p.body) in (
+    let places = places_are (body_layers p.body) (body_liveness p.body) (program_scope p.inputs (interface_count p)) body_entry p.body 0 kernel
+    (body_agrees p.body) in (
       equation_wires_are (given_count p) outgoing all,
       all_pairs Other (program_wires p)
           (pairwise_append Other (map Out outgoing) (flat_map (λ x. instance_wires x.statement x.path x.layer) all)
           (pairwise_map Other Out outgoing
-          (pairwise_from (λ i j. i < j) (λ i j. Other (Out i) (Out j)) outgoing (λ i j h. other_number (Out i) (Out j) h) (range_ascends p.inputs (outgoing_count p))))
-          (pairwise_flat (λ x y. Before (place x) (place y)) Other (λ x. instance_wires x.statement x.path x.layer) (λ x. instance_differ x.statement x.path x.layer) two_instances all
+          (pairwise_from (λ i j. i < j) (λ i j. Other (Out i) (Out j)) outgoing (λ i j h. other_number (Out i) (Out j) h)
+          (range_ascends p.inputs (outgoing_count p))))
+          (pairwise_flat (λ x y. Before (place x) (place y)) Other (λ x. instance_wires x.statement x.path x.layer)
+          (λ x. instance_differ x.statement x.path x.layer) two_instances all
           (ascend_pairwise all (subst Ascends (sym places) (instances_ascend_lem p.body))))
           (every_mapped (λ u. Every (Other u) (flat_map (λ x. instance_wires x.statement x.path x.layer) all)) Out outgoing
           (every_all _ outgoing
           (λ s. every_flat (Other (Out s)) (λ x. instance_wires x.statement x.path x.layer) all
           (every_all _ all
-          (λ x. instance_every (Other (Out s)) x.statement x.path x.layer (other_shape (Out s) (Go x.path x.layer) (omega arith)) (other_shape (Out s) (StatusOf x.path x.layer) (omega arith))
+          (λ x. instance_every (Other (Out s)) x.statement x.path x.layer (other_shape (Out s) (Go x.path x.layer) (omega arith))
+          (other_shape (Out s) (StatusOf x.path x.layer) (omega arith))
           (λ k u e. other_shape (Out s) (End x.path x.layer k) (omega arith)))))))),
     )

@@ -3,7 +3,8 @@
 ghost use Rattle.grc_solutions.specs.GraphWires.{EdgesJoinWires, ReadsAreEdges, WiresDiffer};
 ghost use Rattle.grc_solutions.specs.NumberedGraphs.{ClosedWalksHaveNoRanks, ReadingOrdersReadUp};
 ghost use Rattle.grc_solutions.specs.NumberedGraphs.{WireOrdersAreReadingOrders, WireRanksGoUp};
-ghost use Rattle.grc_solutions.specs.Solutions.{GraphRunsExist, GraphsHaveOneSolution, GraphsReadUp, OneRun, OneSolution};
+ghost use Rattle.grc_solutions.specs.Solutions.{GraphRunsExist, GraphsHaveOneSolution, GraphsReadUp, OneRun};
+ghost use Rattle.grc_solutions.specs.Solutions.{OneSolution};
 
 /// The graph of a program has one equation for each of its wires, and no wire stands twice.
 pub fn wires_differ()

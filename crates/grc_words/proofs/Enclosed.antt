@@ -1,5 +1,6 @@
 -- What is kept and held of each statement follows from what is of the statement around it.
-use Rattle.std.proofs.Common.{◌≡◌, ℕ, ◌+◌, ◌<◌, ◌≤◌, Bool, true, false, ◌&&◌, ◌||◌, ◌==◌, nat_lt, cond, Some, None, List, refl, sym, ap, ◌∙◌, subst, ⊎_elim, arith}
+use Rattle.std.proofs.Common.{◌≡◌, ℕ, ◌+◌, ◌<◌, ◌≤◌, Bool, true, false, ◌&&◌, ◌||◌, ◌==◌, nat_lt, cond, Some, None, List, refl, sym, ap, ◌∙◌, subst, ⊎_elim}
+use Rattle.std.proofs.Common.{arith}
 use Rattle.std.specs.Prelude.{if◌then◌else◌, MatchOption}
 use Rattle.std.proofs.lemmas.Bool.{cases_lt, cases_eq, ne_eqb, eq-eqb, lt-ltb, le-ltb}
 use Rattle.est_base.specs.declared.place.Span.{Span}
@@ -318,7 +319,8 @@ follow r W G a B x (Seq p q) n kernel s m le lt =
     let hp = stands_first W n (row a B x t c) ps qs s.rows_in in
     let hq = stands_second W n (row a B x t c) p ps qs (length-rows (part_liveness a p) B (Branch n) p (n + 1)) s.rows_in in
     let first = part-stands r W G a (part_liveness a p) B B x (Branch n) t p n (n + 1) refl (omega arith) s hp (through-seq_first r B p q n) in
-    let other = part-stands r W G a (second_liveness a p q (n + 1 + statement_count p)) B B x (Second n) t q n c refl (omega arith) s hq (through-seq_second r B p q n) in
+    let other = part-stands r W G a (second_liveness a p q (n + 1 + statement_count p)) B B x (Second n) t q n c refl (omega arith) s hq
+    (through-seq_second r B p q n) in
     two_places (FollowsAround r W) n (statement_count p) (statement_count q) m s.follows
     (follow r W (λ l. held_of r n (layer_above n l)) (part_liveness a p) B (Branch n) p (n + 1) kernel.0 first)
     (follow r W (λ l. held_of r n (layer_above n l)) (second_liveness a p q (n + 1 + statement_count p)) B (Second n) q c kernel.1 other) le lt

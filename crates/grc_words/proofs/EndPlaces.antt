@@ -1,5 +1,6 @@
 -- The wires of a graph by number: its instances' runs, one after another, and so where the ends of each stand.
-use Rattle.std.proofs.Common.{◌≡◌, ℕ, ◌+◌, ◌-◌, ◌<◌, ◌≤◌, zero, suc, Bool, true, false, not, List, [], ◌∷◌, ◌++◌, length, map, refl, sym, ap, ◌∙◌, subst, arith, append_assoc}
+use Rattle.std.proofs.Common.{◌≡◌, ℕ, ◌+◌, ◌-◌, ◌<◌, ◌≤◌, zero, suc, Bool, true, false, not, List, [], ◌∷◌, ◌++◌, length, map, refl, sym, ap, ◌∙◌, subst, arith}
+use Rattle.std.proofs.Common.{append_assoc}
 use Rattle.std.specs.Prelude.{All, IsTrue, Contains, if◌then◌else◌}
 use Rattle.std.specs.List.{range_with_len}
 use Rattle.std.proofs.lemmas.Bool.{ne_eqb, lt-ltb, ltb-true}
@@ -157,7 +158,8 @@ none-before : (p : Program) (insts : List plain.Instance) (i k : ℕ) → k ≤ 
 none-before p insts i zero h =
     All-map (λ w. is_no_end_of i w ≡ true) (λ s. wires.Out (record { 0 = s })) (range_with_len p.inputs (outgoing_count p)) (λ k d low. refl)
 none-before p insts i (suc k) h =
-    All-append (λ w. is_no_end_of i w ≡ true) (wires_to p insts k) (wire_run (local_at p insts k) (codes_at p insts k) k) (none-before p insts i k (omega arith))
+    All-append (λ w. is_no_end_of i w ≡ true) (wires_to p insts k) (wire_run (local_at p insts k) (codes_at p insts k) k)
+    (none-before p insts i k (omega arith))
     (none-run i (local_at p insts k) (codes_at p insts k) k (λ e. absurd (omega arith)))
 
 -- the wires of later instances

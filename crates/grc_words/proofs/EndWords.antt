@@ -1,5 +1,6 @@
 -- Whether an instance ends with a code of at most k, from its ends by number.
-use Rattle.std.proofs.Common.{◌≡◌, ℕ, ◌+◌, ◌-◌, ◌<◌, ◌≤◌, zero, suc, Bool, true, false, not, ◌==◌, ◌&&◌, ◌||◌, nat_le, List, [], ◌∷◌, ◌++◌, length, map, take, drop, slice_index_or, refl, sym, ap, ◌∙◌, subst, arith, append_assoc, length-append, inl, inr}
+use Rattle.std.proofs.Common.{◌≡◌, ℕ, ◌+◌, ◌-◌, ◌<◌, ◌≤◌, zero, suc, Bool, true, false, not, ◌==◌, ◌&&◌, ◌||◌, nat_le, List, [], ◌∷◌, ◌++◌, length, map, take}
+use Rattle.std.proofs.Common.{drop, slice_index_or, refl, sym, ap, ◌∙◌, subst, arith, append_assoc, length-append, inl, inr}
 use Rattle.std.specs.Prelude.{All, Contains, if◌then◌else◌}
 use Rattle.std.specs.List.{prefix_len, list_any}
 use Rattle.std.proofs.lemmas.Bool.{cases_lt, cases_Bool, eq-eqb, le-leb, lt-leb, false≢true}
@@ -134,7 +135,12 @@ parted A k f h = elim (cases_lt k 64) [
       }
   | inr big ↦
       let far : (n : ℕ) → 64 ≤ n → f n ≡ false =
-      λ n q. h n (λ there. absurd (omega (arith, q, All-contains (λ c. c < 64) (codes_below 64 A) n (codes-below A 64) (subst (λ l. Contains l n) (listed-is A) there)))) in
+      λ n q. h n (λ there. absurd (omega (
+        arith,
+        q,
+        All-contains (λ c. c < 64) (codes_below 64 A) n (codes-below A 64)
+            (subst (λ l. Contains l n) (listed-is A) there),
+      ))) in
       let at : 63 + (k - 63) ≡ k = omega arith in
       record {
         low = codes_below 64 A;

@@ -71,7 +71,8 @@ there S W a B x (Seq p q) n kernel h m le lt =
     let hq = stands_second W n (row a B x t c) p ps qs (length-rows (part_liveness a p) B (Branch n) p (n + 1)) h in
     two_places (HoldsThere S W t n) n (statement_count p) (statement_count q) m (here-holds S W a B x t n h)
     (λ k low high. chosen-first k n c _ _ _ low high ∙ there S W (part_liveness a p) B (Branch n) p (n + 1) kernel.0 hp k low high)
-    (λ k low high. chosen-second k n c _ _ _ (omega arith) low ∙ there S W (second_liveness a p q (n + 1 + statement_count p)) B (Second n) q c kernel.1 hq k low high) le lt
+    (λ k low high. chosen-second k n c _ _ _ (omega arith) low ∙ there S W (second_liveness a p q (n + 1 + statement_count p)) B
+    (Second n) q c kernel.1 hq k low high) le lt
 there S W a B x (Loop at p) n kernel h m le lt =
     let t = Loop at p in
     let hp = stands_one W n (row a B x t 0) (rows (loop_liveness a p (n + 1)) (B) (Looped n) p (n + 1)) h in
@@ -100,7 +101,8 @@ there S W a B x (Local v p) n kernel h m le lt =
 there S W a B x (Awake e p) n kernel h m le lt = absurd kernel
 
 -- each statement of a program
-pub holds_at-row : (p : Program) (S : ℕ → Bool) (m : ℕ) → IsKernel p.body → m < statement_count p.body → holds_at S p.body 0 m ≡ holds S (row_at (program_rows p) m).statement m
+pub holds_at-row : (p : Program) (S : ℕ → Bool) (m : ℕ) → IsKernel p.body → m < statement_count p.body →
+    holds_at S p.body 0 m ≡ holds S (row_at (program_rows p) m).statement m
 holds_at-row p S m kernel low =
     there S (program_rows p) (body_liveness p.body) (program_scope p.inputs (interface_count p)) Body p.body 0 kernel (stands_whole (program_rows p)) m
     (omega arith) (omega arith)

@@ -1,5 +1,6 @@
 -- One more instance whose sources say that it is kept and that it is held.
-use Rattle.std.proofs.Common.{◌≡◌, ℕ, ◌+◌, ◌<◌, ◌≤◌, Bool, true, false, ◌&&◌, ◌||◌, List, [], ◌∷◌, ◌++◌, length, map, take, drop, slice_index_or, refl, sym, ap, ◌∙◌, subst, arith, Option, Some, None, inl, inr}
+use Rattle.std.proofs.Common.{◌≡◌, ℕ, ◌+◌, ◌<◌, ◌≤◌, Bool, true, false, ◌&&◌, ◌||◌, List, [], ◌∷◌, ◌++◌, length, map, take, drop, slice_index_or, refl, sym, ap}
+use Rattle.std.proofs.Common.{◌∙◌, subst, arith, Option, Some, None, inl, inr}
 use Rattle.std.specs.List.{sum_by}
 use Rattle.std.proofs.lemmas.List.Sums.{sum_by-append}
 use Rattle.std.specs.Prelude.{MatchOption}
@@ -69,7 +70,8 @@ abbrev pub suspends_by : Values → Valuation → Scope → Option Expression �
 suspends_by given V B None n l = false
 suspends_by given V B (Some e) n l = same_layer l Resumed && (V (Go n Resumed) && truth e (seen_values given V B Resumed))
 
-pub suspends-test : (given : Values) (V : Valuation) (B : Scope) (t : Term) (n : ℕ) (l : Layer) → suspends given V B t n l ≡ suspends_by given V B (test_of t) n l
+pub suspends-test : (given : Values) (V : Valuation) (B : Scope) (t : Term) (n : ℕ) (l : Layer) →
+    suspends given V B t n l ≡ suspends_by given V B (test_of t) n l
 suspends-test given V B Nothing n l = refl
 suspends-test given V B Pause n l = refl
 suspends-test given V B (Emit s) n l = refl
@@ -228,8 +230,10 @@ held-follows g t x kernel low own = by_entry (around (statement_row g x.path).en
         && suspends (is_given t.event) t.valuation (statement_row g x.path).scope (statement_row g x.path).statement x.path x.layer))
         ≡ held_of (readings g t) x.path x.layer
     by_entry None law =
-        ap (λ b. b && suspends (is_given t.event) t.valuation (statement_row g x.path).scope (statement_row g x.path).statement x.path x.layer) (law.kept x.layer)
-        ∙ sym (law.held x.layer ∙ ap (λ l. suspends (is_given t.event) t.valuation (statement_row g x.path).scope (statement_row g x.path).statement x.path l) own)
+        ap (λ b. b && suspends (is_given t.event) t.valuation (statement_row g x.path).scope (statement_row g x.path).statement x.path x.layer)
+        (law.kept x.layer)
+        ∙ sym (law.held x.layer ∙ ap (λ l. suspends (is_given t.event) t.valuation (statement_row g x.path).scope (statement_row g x.path).statement x.path l)
+        own)
     by_entry (Some n) law =
         sym (law.held x.layer ∙ ap (λ l. held_of (readings g t) n (layer_above n x.layer) || (kept_of (readings g t) x.path x.layer
         && suspends (is_given t.event) t.valuation (statement_row g x.path).scope (statement_row g x.path).statement x.path l)) own)
@@ -265,9 +269,11 @@ sum-more g i x low here =
     let same : instance_rows g y ≡ instance_rows g x = ap (instance_rows g) here in
     omega arith
 
-pub holdings-step : (g : Graph) (x : Instance) (old r0 r1 r2 r3 r4 : List tables.Row) (kept held : List Source) (i : ℕ) (above_kept above_held own both_own last : Source)
+pub holdings-step : (g : Graph) (x : Instance) (old r0 r1 r2 r3 r4 : List tables.Row) (kept held : List Source) (i : ℕ)
+    (above_kept above_held own both_own last : Source)
     → IsKernel (program_of g.program).body → x.path < statement_count (program_of g.program).body → layer_above x.path x.layer ≡ x.layer
-    → i < length (instances_of g) → instance_at (instances_of g) i ≡ x → HoldingsMade g old r0 kept held i → AboveMade g x r0 r1 above_kept above_held → OwnMade g x r1 r2 own
+    → i < length (instances_of g) → instance_at (instances_of g) i ≡ x → HoldingsMade g old r0 kept held i → AboveMade g x r0 r1 above_kept above_held →
+    OwnMade g x r1 r2 own
     → r3 ≡ with_both r2 above_kept own → both_own ≡ both_source r2 above_kept own → r4 ≡ with_either r3 above_held both_own
     → last ≡ either_source r3 above_held both_own → HoldingsMade g old r4 (kept ++ above_kept ∷ []) (held ++ last ∷ []) (i + 1)
 holdings-step g x old r0 r1 r2 r3 r4 kept held i above_kept above_held own both_own last kernel low layer within here m a o g3 s3 g4 s4 =
@@ -328,7 +334,8 @@ holdings-step g x old r0 r1 r2 r3 r4 kept held i above_kept above_held own both_
     }
 
 -- from now on
-pub holdings-now : (g : Graph) (old rs : List tables.Row) (kept held : List Source) (i : ℕ) → HoldingsMade g old rs kept held i → HoldingsMade g rs rs kept held i
+pub holdings-now : (g : Graph) (old rs : List tables.Row) (kept held : List Source) (i : ℕ) → HoldingsMade g old rs kept held i →
+    HoldingsMade g rs rs kept held i
 holdings-now g old rs kept held i m = record {
   extends = extends-refl (late_bounds g 0) rs m.extends.fit;
   few = omega arith;

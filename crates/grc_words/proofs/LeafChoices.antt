@@ -1,5 +1,7 @@
 -- For each statement the leaf that it is: from the last node of the tree to the first.
-use Rattle.std.proofs.Common.{◌≡◌, ℕ, ◌+◌, ◌<◌, ◌≤◌, suc, Bool, false, cond, count_by, ◌==◌, List, [], ◌∷◌, ◌++◌, length, map, take, drop, replicate, slice_index_or, slice_set, refl, sym, ap, ◌∙◌, subst, arith, IsTrue, inl, inr, drop-cons, length-append, length-set, get_or-set_same, get_or-set_other}
+use Rattle.std.proofs.Common.{◌≡◌, ℕ, ◌+◌, ◌<◌, ◌≤◌, suc, Bool, false, cond, count_by, ◌==◌, List, [], ◌∷◌, ◌++◌, length, map, take, drop, replicate}
+use Rattle.std.proofs.Common.{slice_index_or, slice_set, refl, sym, ap, ◌∙◌, subst, arith, IsTrue, inl, inr, drop-cons, length-append, length-set}
+use Rattle.std.proofs.Common.{get_or-set_same, get_or-set_other}
 use Rattle.std.specs.Prelude.{if◌then◌else◌}
 use Rattle.std.proofs.lemmas.Bool.{cases_eq, eq-eqb, ne_eqb, eqb-true, lt-ltb}
 use Rattle.std.proofs.lemmas.List.{get_or-replicate, length-replicate, drop_all}
@@ -111,14 +113,16 @@ chosen-leaf g nodes leaves j k x t n ascend at low =
     ap (λ i. drop i t.bits) (sym number) ∙ drop-cons t.bits k false low ∙ ap (λ i. slice_index_or t.bits k false ∷ drop i t.bits) e in
     ap (λ l. selecting l (drop (leaves_before nodes j) t.bits) n) paths ∙ ap (λ l. selecting (x.path.0 ∷ rest) l n) bits
 
-says-is : (g : Graph) (s : Source) (m n : Occasion g → Bool) → ((t : Occasion g) → m t ≡ n t) → Says g (early_bounds g 0) [] s m → Says g (early_bounds g 0) [] s n
+says-is : (g : Graph) (s : Source) (m n : Occasion g → Bool) → ((t : Occasion g) → m t ≡ n t) → Says g (early_bounds g 0) [] s m →
+    Says g (early_bounds g 0) [] s n
 says-is g s m n e h = record { fits = h.fits; value = λ t off. h.value t off ∙ e t }
 
 leaf-says : (g : Graph) (k : ℕ) → k < length g.next.items → Says g (early_bounds g 0) [] (Leaf k) (λ t. slice_index_or t.bits k false)
 leaf-says g k low = record { fits = lt-ltb k (length g.next.items) low; value = λ t off. refl }
 
 -- before any node no statement is chosen
-pub chosen-none : (g : Graph) (nodes : List SelNode) (count : ℕ) (sources : List Source) (place : ℕ) → length nodes ≤ place → sources ≡ replicate count (Const false)
+pub chosen-none : (g : Graph) (nodes : List SelNode) (count : ℕ) (sources : List Source) (place : ℕ) → length nodes ≤ place →
+    sources ≡ replicate count (Const false)
     → ChosenFrom g nodes count sources place
 chosen-none g nodes count sources place end e =
     let many : length sources ≡ count = ap length e ∙ length-replicate count (Const false) in
@@ -142,7 +146,8 @@ chosen-skip g nodes count sources place j x c e low read none empty = record {
       ap (λ i. chosen_from g nodes i t n) e ∙ sym (chosen-other g nodes j x t n low (sym read) none empty)) (c.says n d h);
 }
 
-pub chosen-set : (g : Graph) (nodes : List SelNode) (leaves count : ℕ) (sources : List Source) (place j k : ℕ) (x : SelNode) → ChosenFrom g nodes count sources place
+pub chosen-set : (g : Graph) (nodes : List SelNode) (leaves count : ℕ) (sources : List Source) (place j k : ℕ) (x : SelNode) →
+    ChosenFrom g nodes count sources place
     → place ≡ j + 1 → j < length nodes → x ≡ slice_index_or nodes j x → x.form ≡ forms.Leaf k → LeavesAscend nodes leaves
     → length g.next.items ≡ length (leaves_in (map node_of nodes)) → x.path.0 < count
     → ChosenFrom g nodes count (slice_set sources x.path.0 (Leaf k)) j

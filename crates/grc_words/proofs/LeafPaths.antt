@@ -4,7 +4,8 @@ use Rattle.std.specs.Prelude.{if◌then◌else◌}
 use Rattle.est_kernel.specs.Terms.{Term, Nothing, Pause, Emit, Exit, Present, Suspend, Seq, Loop, Par, Trap, Local, Awake}
 use Rattle.est_kernel.specs.Preorder.{statement_count}
 use Rattle.grc_graph.specs.Layers.{can_pass}
-use Rattle.grc_graph.specs.SelectionTrees.{Form, Leaf, Exclusive, Parallel, Passing, TreeNode, tree_nodes, subtree_if, leaf_paths, resumes, second_resumes, body_tree, body_leaves}
+use Rattle.grc_graph.specs.SelectionTrees.{Form, Leaf, Exclusive, Parallel, Passing, TreeNode, tree_nodes, subtree_if, leaf_paths, resumes, second_resumes}
+use Rattle.grc_graph.specs.SelectionTrees.{body_tree, body_leaves}
 use Rattle.grc_words.specs.LeafLists.{path_if_leaf, leaves_in}
 
 pub leaves_in-append : (xs ys : List TreeNode) → leaves_in (xs ++ ys) ≡ leaves_in xs ++ leaves_in ys

@@ -1,5 +1,6 @@
 -- One more statement whose source says that it holds a selected pause.
-use Rattle.std.proofs.Common.{◌≡◌, ℕ, ◌+◌, ◌<◌, ◌≤◌, Bool, false, ◌||◌, List, [], ◌∷◌, length, slice_index_or, slice_set, refl, sym, ap, ◌∙◌, subst, arith, inl, inr, length-set, get_or-set_same, get_or-set_other}
+use Rattle.std.proofs.Common.{◌≡◌, ℕ, ◌+◌, ◌<◌, ◌≤◌, Bool, false, ◌||◌, List, [], ◌∷◌, length, slice_index_or, slice_set, refl, sym, ap, ◌∙◌, subst, arith, inl}
+use Rattle.std.proofs.Common.{inr, length-set, get_or-set_same, get_or-set_other}
 use Rattle.std.proofs.lemmas.Bool.{cases_eq}
 use Rattle.est_kernel.specs.Plain.{program_of, Program}
 use Rattle.est_kernel.specs.Preorder.{statement_count}
@@ -125,7 +126,8 @@ selected-more g old new sources place j s m e low x more h =
       few = omega (arith, m.few);
       made = λ n d from below. elim (cases_eq n j) [
         | inl same ↦
-            let put : slice_index_or (slice_set sources j s) n d ≡ s = ap (λ i. slice_index_or (slice_set sources j s) i d) same ∙ get_or-set_same sources j s d low in
+            let put : slice_index_or (slice_set sources j s) n d ≡ s = ap (λ i. slice_index_or (slice_set sources j s) i d) same
+            ∙ get_or-set_same sources j s d low in
             subst (λ y. Says g (early_bounds g 0) new y (holding g n)) (sym put) (subst (λ i. Says g (early_bounds g 0) new s (holding g i)) (sym same) h)
         | inr other ↦
             subst (λ y. Says g (early_bounds g 0) new y (holding g n)) (sym (get_or-set_other sources j n s d other))
@@ -178,7 +180,8 @@ select-one g rs sources place j s d m e r is =
     (subst (λ y. Says g (early_bounds g 0) rs y (holding g j)) (sym is)
     (says-as g rs (slice_index_or sources (j + 1) d) _ _ (λ t. sym (parts.1 (selection g t))) part))
 
-pub select-two : (g : Graph) (rs new : List tables.Row) (sources : List Source) (place j k : ℕ) (s a b d : Source) → SelectedMade g sources rs place → place ≡ j + 1
+pub select-two : (g : Graph) (rs new : List tables.Row) (sources : List Source) (place j k : ℕ) (s a b d : Source) → SelectedMade g sources rs place →
+    place ≡ j + 1
     → RowRead g j (kinds.Two k) → a ≡ slice_index_or sources (j + 1) d → b ≡ slice_index_or sources k d → new ≡ with_either rs a b → s ≡ either_source rs a b
     → SelectedMade g (slice_set sources j s) new j
 select-two g rs new sources place j k s a b d m e r ea eb grown is =
@@ -194,7 +197,8 @@ select-two g rs new sources place j k s a b d m e r ea eb grown is =
     (subst (λ x. SelectedMade g (slice_set sources j x) (with_either rs a b) j) (sym is) whole)
 
 -- what the parts of a two-part statement are, for whoever reads their sources
-pub two-within : (g : Graph) (j k : ℕ) → RowRead g j (kinds.Two k) → (j + 1 < statement_count (program_of g.program).body) × (k < statement_count (program_of g.program).body)
+pub two-within : (g : Graph) (j k : ℕ) → RowRead g j (kinds.Two k) →
+    (j + 1 < statement_count (program_of g.program).body) × (k < statement_count (program_of g.program).body)
 two-within g j k r =
     let parts = parts-read g j (kinds.Two k) r in
     let many = length-program_rows (program_of g.program) in
@@ -212,7 +216,8 @@ selected-begun g rs sources count place c none e at =
       many = c.many ∙ e;
       few = omega (arith, c.many);
       made = λ n d from below. absurd (omega (arith, c.many));
-      left = λ n d before below. subst (λ x. Says g (early_bounds g 0) x (slice_index_or sources n d) (λ t. selection g t n)) (sym empty) (c.says n d (omega arith));
+      left = λ n d before below. subst (λ x. Says g (early_bounds g 0) x (slice_index_or sources n d) (λ t. selection g t n)) (sym empty)
+          (c.says n d (omega arith));
     }
   where
     no-rows : (xs : List tables.Row) → length xs ≡ 0 → xs ≡ []

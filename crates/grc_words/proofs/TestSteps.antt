@@ -1,5 +1,6 @@
 -- Tests as sources, from their parts; and wires as sources.
-use Rattle.std.proofs.Common.{◌≡◌, ℕ, ◌+◌, ◌<◌, ◌≤◌, zero, suc, true, false, ◌&&◌, ◌==◌, List, [], ◌∷◌, ◌++◌, length, map, take, drop, slice_index_or, refl, sym, ap, ◌∙◌, subst, arith, Option, Some, None, length-append, inl, inr}
+use Rattle.std.proofs.Common.{◌≡◌, ℕ, ◌+◌, ◌<◌, ◌≤◌, zero, suc, true, false, ◌&&◌, ◌==◌, List, [], ◌∷◌, ◌++◌, length, map, take, drop, slice_index_or, refl}
+use Rattle.std.proofs.Common.{sym, ap, ◌∙◌, subst, arith, Option, Some, None, length-append, inl, inr}
 use Rattle.std.specs.List.{list_any}
 use Rattle.std.specs.Prelude.{Contains}
 use Rattle.std.proofs.lemmas.Bool.{lt-ltb, eqb-true, and_parts, cases_Bool}
@@ -28,7 +29,8 @@ use Rattle.grc_words.specs.Building.{Says, RowsFit, new_source, with_both, both_
 use Rattle.grc_words.specs.Testing.{TestMade, SignalSaid, wire_source}
 use Rattle.grc_words.specs.WordLaws.{late_bounds}
 use Rattle.grc_words.proofs.RowCounts.{both-few, either-few}
-use Rattle.grc_words.proofs.Saying.{says-more, extends-refl, extends-trans, makes-not, makes-both, makes-either, grows-not, grows-both, grows-either, fits-grown}
+use Rattle.grc_words.proofs.Saying.{says-more, extends-refl, extends-trans, makes-not, makes-both, makes-either, grows-not, grows-both, grows-either}
+use Rattle.grc_words.proofs.Saying.{fits-grown}
 
 layer-is : (j l : Layer) → same_layer j l ≡ true → j ≡ l
 layer-is Resumed Resumed e = refl
@@ -147,7 +149,8 @@ test-signal g signals e s place d x rs f is room said =
           };
     })
 
-pub test-not : (g : Graph) (signals : List bindings.Binding) (e a : Expression) (place : ℕ) (old mid new : List tables.Row) (made : Tested) (s : Source) → e ≡ Not a
+pub test-not : (g : Graph) (signals : List bindings.Binding) (e a : Expression) (place : ℕ) (old mid new : List tables.Row) (made : Tested) (s : Source) →
+    e ≡ Not a
     → TestMade g signals a place old mid made → new ≡ mid ++ tables.TheVariants.Not made.source ∷ [] → s ≡ new_source mid
     → TestMade g signals e place old new (record { source = s; after = made.after })
 test-not g signals e a place old mid new made s is m grown fresh =

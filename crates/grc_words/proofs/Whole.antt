@@ -1,5 +1,6 @@
 -- A table that was made part by part is that of its graph.
-use Rattle.std.proofs.Common.{◌≡◌, ℕ, ◌+◌, ◌-◌, ◌<◌, ◌≤◌, Bool, true, false, ◌&&◌, ◌==◌, min, List, [], ◌∷◌, length, map, slice_index_or, refl, sym, ap, ◌∙◌, subst, arith, length-append, IsTrue, inl, inr}
+use Rattle.std.proofs.Common.{◌≡◌, ℕ, ◌+◌, ◌-◌, ◌<◌, ◌≤◌, Bool, true, false, ◌&&◌, ◌==◌, min, List, [], ◌∷◌, length, map, slice_index_or, refl, sym, ap, ◌∙◌}
+use Rattle.std.proofs.Common.{subst, arith, length-append, IsTrue, inl, inr}
 use Rattle.std.specs.Prelude.{All, if◌then◌else◌}
 use Rattle.std.specs.List.{range_with_len, sum_by}
 use Rattle.std.proofs.lemmas.Bool.{cases_lt, cases_Bool, ltb-true, and_parts}
@@ -190,9 +191,11 @@ words-are g w m =
           ∙ holds-in g t at m.kernel (omega (arith, m.selected.many))
           ∙ holds-clamped g t n at (ap (λ c. min n (c - 1)) m.selected.many);
       kept = λ t i d off low.
-          (says-more g (late_bounds g 0) m.late_rows w.rows.items (slice_index_or w.kept.items i d) _ m.paused.extends (m.holdings.kept_says i d low)).value t off;
+          (says-more g (late_bounds g 0) m.late_rows w.rows.items (slice_index_or w.kept.items i d) _ m.paused.extends (m.holdings.kept_says i d low)).value t
+          off;
       held = λ t i d off low.
-          (says-more g (late_bounds g 0) m.late_rows w.rows.items (slice_index_or w.held.items i d) _ m.paused.extends (m.holdings.held_says i d low)).value t off;
+          (says-more g (late_bounds g 0) m.late_rows w.rows.items (slice_index_or w.held.items i d) _ m.paused.extends (m.holdings.held_says i d low)).value t
+          off;
       upto = λ t i k off low.
           upto-by-ends g t.valuation i k (first_end w i) (record { kernel = m.kernel; instances = m.instances; wires = m.wires; low = omega arith; off = off })
           (m.ends.found i (record { 0 = 0 }) (omega (arith, m.ends.each)) ∙ omega arith);

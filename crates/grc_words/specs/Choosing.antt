@@ -20,7 +20,8 @@ selection g t = selecting (body_leaves (program_of g.program).body) t.bits
 -- for each of so many statements, a source that says that it is a selected pause
 pub record LeavesChosen (g : Graph) (count : ℕ) (sources : List Source) : Type 0 where
   pub many : length sources ≡ count
-  pub says : (n : ℕ) (d : Source) → n < count → Says g (early_bounds g 0) [] (slice_index_or sources n d) (λ t. selection g t n)
+  pub says : (n : ℕ) (d : Source) → n < count → Says g (early_bounds g 0) [] (slice_index_or sources n d)
+      (λ t. selection g t n)
 
 -- from this statement on each has a source that says that it holds a selected pause; each before says whether it is one
 pub record SelectedMade (g : Graph) (sources : List Source) (rows : List Row) (from : ℕ) : Type 0 where

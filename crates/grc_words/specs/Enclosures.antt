@@ -1,6 +1,7 @@
 -- Inner: what is kept and held of a statement, from what is kept and held of the statement around it.
 use Rattle.std.specs.Prelude.{◌≡◌, ℕ, Bool, true, false, ◌&&◌, ◌||◌, Option, Some, None, MatchOption, List}
-use Rattle.est_kernel.specs.Terms.{Term, Nothing, Pause, Emit, Exit, Present, Suspend, Seq, Loop, Par, Trap, Local, Awake}
+use Rattle.est_kernel.specs.Terms.{Term, Nothing, Pause, Emit, Exit, Present, Suspend, Seq, Loop, Par, Trap, Local}
+use Rattle.est_kernel.specs.Terms.{Awake}
 use Rattle.grc_graph.specs.Layers.{Layer, Resumed, layer_above, same_layer}
 use Rattle.grc_graph.specs.Readings.{Valuation, seen_values, kept_at, held_at}
 use Rattle.grc_graph.specs.Rows.{Row, row_at}
@@ -42,7 +43,8 @@ suspends given V B Pause n l = false
 suspends given V B (Emit s) n l = false
 suspends given V B (Exit k) n l = false
 suspends given V B (Present e p q) n l = false
-suspends given V B (Suspend e p) n l = same_layer l Resumed && (V (Go n Resumed) && truth e (seen_values given V B Resumed))
+suspends given V B (Suspend e p) n l = same_layer l Resumed
+    && (V (Go n Resumed) && truth e (seen_values given V B Resumed))
 suspends given V B (Seq p q) n l = false
 suspends given V B (Loop at p) n l = false
 suspends given V B (Par p q) n l = false
@@ -69,10 +71,13 @@ pub record IsOutermost (r : Readings) (x : Row) (c : ℕ) : Type 0 where
   pub held : (l : Layer) → held_of r c l ≡ suspends r.given r.wires x.scope x.statement c (layer_above c l)
 
 pub record IsWithin (r : Readings) (around x : Row) (n c : ℕ) : Type 0 where
-  pub kept : (l : Layer) → kept_of r c l ≡ (kept_of r n (layer_above n l) && lasts r.wires around.statement n (layer_above n l))
+  pub kept : (l : Layer) → kept_of r c l ≡ (kept_of r n (layer_above n l)
+      && lasts r.wires around.statement n (layer_above n l))
   pub held : (l : Layer) → held_of r c l
-      ≡ (held_of r n (layer_above n l) || (kept_of r c l && suspends r.given r.wires x.scope x.statement c (layer_above c l)))
+      ≡ (held_of r n (layer_above n l) || (kept_of r c l
+      && suspends r.given r.wires x.scope x.statement c (layer_above c l)))
 
 abbrev pub FollowsAround : Readings → List Row → ℕ → Type 0
 FollowsAround r W c =
-    MatchOption (around (row_at W c).entry) (IsOutermost r (row_at W c) c) (λ n. IsWithin r (row_at W n) (row_at W c) n c)
+    MatchOption (around (row_at W c).entry) (IsOutermost r (row_at W c) c)
+    (λ n. IsWithin r (row_at W n) (row_at W c) n c)

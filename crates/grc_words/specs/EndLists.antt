@@ -30,10 +30,12 @@ pub record EndsFound (g : Graph) (from : ℕ) (ends : List WireId) : Type 0 wher
 pub record OutputsSaid (g : Graph) (count : ℕ) (outputs : List Source) : Type 0 where
   pub each : length outputs ≡ count
   pub says : (k : ℕ) (d : Source) (rs : List Row) → k < count
-      → Says g (late_bounds g 0) rs (slice_index_or outputs k d) (λ t. t.valuation (Out ((program_of g.program).inputs + k)))
+      → Says g (late_bounds g 0) rs (slice_index_or outputs k d)
+      (λ t. t.valuation (Out ((program_of g.program).inputs + k)))
 
 -- a source says that the program pauses
 pub record PausedMade (g : Graph) (old new : List Row) (paused : Source) : Type 0 where
   pub extends : Extends (late_bounds g 0) old new
   pub few : length new ≤ length old + 1
-  pub says : Says g (late_bounds g 0) new paused (λ t. t.valuation (End 0 Resumed 1) || t.valuation (End 0 (Started 0) 1))
+  pub says : Says g (late_bounds g 0) new paused (λ t.
+      t.valuation (End 0 Resumed 1) || t.valuation (End 0 (Started 0) 1))

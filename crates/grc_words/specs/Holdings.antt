@@ -1,11 +1,13 @@
 -- Inner: what is made for the words on parallels and suspensions.
-use Rattle.std.specs.Prelude.{◌≡◌, ℕ, ◌+◌, ◌<◌, ◌≤◌, Bool, true, false, Option, Some, None, List, length, map, take, slice_index_or}
+use Rattle.std.specs.Prelude.{◌≡◌, ℕ, ◌+◌, ◌<◌, ◌≤◌, Bool, true, false, Option, Some, None, List, length, map, take}
+use Rattle.std.specs.Prelude.{slice_index_or}
 use Rattle.std.specs.List.{sum_by}
 use Rattle.est_base.specs.declared.indices.WireId.{WireId}
 use Rattle.est_kernel.specs.Plain.{program_of}
 use Rattle.est_kernel.specs.Preorder.{statement_count}
 use Rattle.est_kernel.specs.Reactions.{is_given}
-use Rattle.est_kernel.specs.Terms.{Expression, Term, Nothing, Pause, Emit, Exit, Present, Suspend, Seq, Loop, Par, Trap, Local, Awake}
+use Rattle.est_kernel.specs.Terms.{Expression, Term, Nothing, Pause, Emit, Exit, Present, Suspend, Seq, Loop, Par, Trap}
+use Rattle.est_kernel.specs.Terms.{Local, Awake}
 use Rattle.grc_graph.specs.declared.graph.Graph.{Graph}
 use Rattle.grc_graph.specs.declared.neighbours.Neighbours.{Neighbours}
 use Rattle.grc_graph.specs.declared.statements.Statement.{Statement}
@@ -75,7 +77,8 @@ pub record AboveMade (g : Graph) (x : Instance) (old new : List Row) (kept held 
   pub extends : Extends (late_bounds g 0) old new
   pub few : length new ≤ length old + 1
   pub kept_says : Says g (late_bounds g 0) new kept (λ t. kept_of (readings g t) x.path x.layer)
-  pub held_says : Says g (late_bounds g 0) new held (λ t. held_around (readings g t) (around (statement_row g x.path).entry) x.layer)
+  pub held_says : Says g (late_bounds g 0) new held
+      (λ t. held_around (readings g t) (around (statement_row g x.path).entry) x.layer)
 
 -- the source of a parallel's end with code 1, if it has one; of other statements nothing is asked
 abbrev pub LastsSaid : Neighbours → Term → ℕ → Layer → Source → Type 0
@@ -101,4 +104,5 @@ pub record OwnMade (g : Graph) (x : Instance) (old new : List Row) (own : Source
   pub extends : Extends (late_bounds g 0) old new
   pub few : OwnFew (test_of (statement_row g x.path).statement) old new own
   pub says : Says g (late_bounds g 0) new own
-      (λ t. suspends (is_given t.event) t.valuation (statement_row g x.path).scope (statement_row g x.path).statement x.path x.layer)
+      (λ t. suspends (is_given t.event) t.valuation (statement_row g x.path).scope
+      (statement_row g x.path).statement x.path x.layer)

@@ -1,6 +1,7 @@
 -- Inner: which parts of a statement may hold a selected pause.
 use Rattle.std.specs.Prelude.{ℕ}
-use Rattle.est_kernel.specs.Terms.{Term, Nothing, Pause, Emit, Exit, Present, Suspend, Seq, Loop, Par, Trap, Local, Awake}
+use Rattle.est_kernel.specs.Terms.{Term, Nothing, Pause, Emit, Exit, Present, Suspend, Seq, Loop, Par, Trap, Local}
+use Rattle.est_kernel.specs.Terms.{Awake}
 use Rattle.grc_graph.specs.Statements.{Listed}
 use Rattle.grc_words.specs.declared.selected.Parts.{Parts}
 use Rattle.grc_words.specs.declared.selected.Parts.TheVariants as kinds

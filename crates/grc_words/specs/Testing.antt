@@ -1,5 +1,6 @@
 -- Inner: tests as sources.
-use Rattle.std.specs.Prelude.{◌≡◌, ℕ, ◌+◌, ◌≤◌, false, nat_lt, if◌then◌else◌, List, length, map, take, drop, Option, Some, None, IsTrue}
+use Rattle.std.specs.Prelude.{◌≡◌, ℕ, ◌+◌, ◌≤◌, false, nat_lt, if◌then◌else◌, List, length, map, take, drop, Option}
+use Rattle.std.specs.Prelude.{Some, None, IsTrue}
 use Rattle.est_base.specs.declared.indices.SigId.{SigId}
 use Rattle.est_base.specs.declared.indices.WireId.{WireId}
 use Rattle.est_kernel.specs.Reactions.{is_given}
@@ -37,7 +38,8 @@ SignalSaid g s b x = (rows : List Row)
 
 -- A test was made from a place of the list of bindings on. It says that the test is true, whatever scope the bindings
 -- of its signals are of.
-pub record TestMade (g : Graph) (signals : List bindings.Binding) (e : Expression) (place : ℕ) (old new : List Row) (made : Tested) : Type 0 where
+pub record TestMade (g : Graph) (signals : List bindings.Binding) (e : Expression) (place : ℕ) (old new : List Row)
+    (made : Tested) : Type 0 where
   pub extends : Extends (late_bounds g 0) old new
   pub few : length new ≤ length old + operators e
   pub after : made.after ≡ place + length (signals_in e)

@@ -1,5 +1,6 @@
 -- To believe: that a table of words is that of a graph.
-use Rattle.std.specs.Prelude.{◌≡◌, ℕ, ◌+◌, ◌-◌, ◌<◌, ◌≤◌, zero, suc, Bool, false, ◌==◌, ◌&&◌, ◌||◌, nat_le, min, [], length, map, drop, slice_index_or, All, IsTrue}
+use Rattle.std.specs.Prelude.{◌≡◌, ℕ, ◌+◌, ◌-◌, ◌<◌, ◌≤◌, zero, suc, Bool, false, ◌==◌, ◌&&◌, ◌||◌, nat_le, min, []}
+use Rattle.std.specs.Prelude.{length, map, drop, slice_index_or, All, IsTrue}
 use Rattle.std.specs.List.{prefix_len}
 use Rattle.est_base.specs.Codes.{upto}
 use Rattle.est_kernel.specs.Plain.{program_of, given_count, outgoing_count}
@@ -33,8 +34,10 @@ late_bounds g rows = record {
 -- each source and row reads what there is
 pub record WordsFit (g : Graph) (w : Words) : Type 0 where
   pub early : w.early ≤ length w.rows.items
-  pub early_rows : (k : ℕ) (d : Row) → k < w.early → IsTrue (row_fits (early_bounds g k) (slice_index_or w.rows.items k d))
-  pub rows : (k : ℕ) (d : Row) → k < length w.rows.items → IsTrue (row_fits (late_bounds g k) (slice_index_or w.rows.items k d))
+  pub early_rows : (k : ℕ) (d : Row) → k < w.early →
+      IsTrue (row_fits (early_bounds g k) (slice_index_or w.rows.items k d))
+  pub rows : (k : ℕ) (d : Row) → k < length w.rows.items →
+      IsTrue (row_fits (late_bounds g k) (slice_index_or w.rows.items k d))
   pub selected : All (λ s. IsTrue (source_fits (early_bounds g w.early) s)) w.selected.items
   pub kept : All (λ s. IsTrue (source_fits (late_bounds g (length w.rows.items)) s)) w.kept.items
   pub held : All (λ s. IsTrue (source_fits (late_bounds g (length w.rows.items)) s)) w.held.items
@@ -81,14 +84,16 @@ pub record AreWordsOf (g : Graph) (w : Words) : Type 0 where
       → value_of g w t (selected_source w n) ≡ state_holds_at (state_in g t) (plain_graph g).body n
   pub kept : (t : Occasion g) (i : ℕ) (d : Source) → FalseOffWires g t.valuation → i < length g.instances.list.items
       → value_of g w t (slice_index_or w.kept.items i d)
-      ≡ kept_at t.valuation (plain_graph g).body 0 (instance_at (instances_of g) i).path (instance_at (instances_of g) i).layer
+      ≡ kept_at t.valuation (plain_graph g).body 0 (instance_at (instances_of g) i).path
+      (instance_at (instances_of g) i).layer
   pub held : (t : Occasion g) (i : ℕ) (d : Source) → FalseOffWires g t.valuation → i < length g.instances.list.items
       → value_of g w t (slice_index_or w.held.items i d)
       ≡ held_at (is_given t.event) t.valuation (plain_graph g).scope (plain_graph g).body 0
       (instance_at (instances_of g) i).path (instance_at (instances_of g) i).layer
   pub upto : (t : Occasion g) (i k : ℕ) → FalseOffWires g t.valuation → i < length g.instances.list.items
       → any_from (λ v. t.valuation (wire_at (names_of g) v)) (first_end w i) (ends_upto g w i k)
-      ≡ upto (λ j. t.valuation (plain.End (instance_at (instances_of g) i).path (instance_at (instances_of g) i).layer j)) k
+      ≡ upto (λ j. t.valuation (plain.End (instance_at (instances_of g) i).path
+      (instance_at (instances_of g) i).layer j)) k
   pub outputs : (t : Occasion g) → FalseOffWires g t.valuation
       → map (value_of g w t) w.outputs.items ≡ (shown (plain_graph g) t.valuation).outputs
   pub paused : (t : Occasion g) → FalseOffWires g t.valuation

@@ -103,7 +103,8 @@ fn paused_source(graph: &Graph, near: &Neighbours, rows: &mut Vec<Row>) -> Resul
 fn output_sources(alloc: Global, graph: &Graph, near: &Neighbours) -> Result<Vec<Source>, NoMemory>
     requires names { names_in near.now ≡ names_of graph.now }
     requires few { interface_count (program_of graph.now.program) < 2 ^ 32 }
-    ensures { IfOk result (λ outputs. OutputsSaid graph.now (outgoing_count (program_of graph.now.program)) outputs.items) }
+    ensures { IfOk result (λ outputs. OutputsSaid graph.now
+        (outgoing_count (program_of graph.now.program)) outputs.items) }
 {
     let program = graph.program();
     let count = program.both + program.outputs;

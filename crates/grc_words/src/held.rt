@@ -10,7 +10,8 @@ ghost use Rattle.grc_graph.specs.Statements.{program_listed};
 ghost use Rattle.grc_graph.specs.StatementViews.{view_of, entry_view};
 ghost use Rattle.grc_words.specs.Building.{RowsFit};
 ghost use Rattle.grc_words.specs.Enclosures.{around};
-ghost use Rattle.grc_words.specs.Holdings.{AreListed, IsLive, AboveMade, LastsSaid, OwnMade, HoldingsMade, StatementRead};
+ghost use Rattle.grc_words.specs.Holdings.{AreListed, IsLive, AboveMade, LastsSaid, OwnMade, HoldingsMade};
+ghost use Rattle.grc_words.specs.Holdings.{StatementRead};
 ghost use Rattle.grc_words.specs.Sizes.{test_of};
 ghost use Rattle.grc_words.specs.WordLaws.{late_bounds};
 
@@ -98,7 +99,8 @@ fn above_sources(
     requires live { IsLive graph.now (length made.now.kept.items) (instance_of instance) }
     requires made { HoldingsMade graph.now rows.old.items rows.old.items made.now.kept.items made.now.held.items
         (length made.now.kept.items) }
-    ensures { IfOk result (λ above. AboveMade graph.now (instance_of instance) rows.old.items rows.new.items above.kept above.held) }
+    ensures { IfOk result (λ above. AboveMade graph.now
+        (instance_of instance) rows.old.items rows.new.items above.kept above.held) }
 {
     let path = instance.path.0;
     match around(statements[path as usize].control) {

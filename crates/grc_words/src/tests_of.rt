@@ -36,7 +36,8 @@ pub(crate) fn test_source(
     requires wires { names_in near.now ≡ names_of graph.now }
     requires fit { RowsFit (late_bounds graph.now 0) rows.old.items }
     requires place { place + length (signals_in (expression_of test.now)) ≤ length signals.now }
-    ensures { IfOk result (λ made. TestMade graph.now signals.now (expression_of test.now) place rows.old.items rows.new.items made) }
+    ensures { IfOk result (λ made. TestMade graph.now signals.now
+        (expression_of test.now) place rows.old.items rows.new.items made) }
 {
     match test {
         Test::Tick => Ok(Tested {

@@ -33,7 +33,8 @@ pub early-stay : (g : Graph) (w : Words) (one two : Drawing) (order : List WireI
     → RowsPlaced two early
 early-stay g w one two order count early p m = λ k h. placed-stays one.rows two.rows k m.rows (p k h)
 
-pub wires-stay : (g : Graph) (w : Words) (two three : Drawing) (from to count : ℕ) → WiresPlaced two count → RowsMade g w two three from to → WiresPlaced three count
+pub wires-stay : (g : Graph) (w : Words) (two three : Drawing) (from to count : ℕ) → WiresPlaced two count → RowsMade g w two three from to →
+    WiresPlaced three count
 wires-stay g w two three from to count p m = λ v h. placed-stays two.wires three.wires v m.wires (p v h)
 
 pub circuit-made : (g : Graph) (w : Words) (d0 d1 d2 d3 d4 : Drawing) (forms : List Formula) (order : List WireId) (nets : List NetId)

@@ -1,5 +1,6 @@
 -- Runs of ends: the or of the ends of an instance up to a code, noted at each of them.
-use Rattle.std.proofs.Common.{◌≡◌, ◌≢◌, ℕ, ◌+◌, ◌-◌, ◌<◌, ◌≤◌, ◌^◌, zero, suc, Bool, true, false, ◌||◌, ◌&&◌, ◌==◌, nat_le, List, [], ◌∷◌, ◌++◌, length, drop, slice_index_or, slice_set, refl, sym, ap, ◌∙◌, subst, arith, Option, Some, None, inl, inr}
+use Rattle.std.proofs.Common.{◌≡◌, ◌≢◌, ℕ, ◌+◌, ◌-◌, ◌<◌, ◌≤◌, ◌^◌, zero, suc, Bool, true, false, ◌||◌, ◌&&◌, ◌==◌, nat_le, List, [], ◌∷◌, ◌++◌, length, drop}
+use Rattle.std.proofs.Common.{slice_index_or, slice_set, refl, sym, ap, ◌∙◌, subst, arith, Option, Some, None, inl, inr}
 use Rattle.std.specs.List.{prefix_len, sum_by}
 use Rattle.std.proofs.lemmas.Bool.{and_parts, eqb-true, cases_lt}
 use Rattle.std.proofs.lemmas.List.{get_or-set_same, get_or-set_other, get_or-drop, length-set, length_push}
@@ -13,7 +14,8 @@ use Rattle.grc_words.specs.declared.table.Words.{Words}
 use Rattle.grc_words.specs.WordLaws.{any_from, is_end_upto, first_end, ends_upto}
 use Rattle.net_ir.specs.declared.netlist.Op.{Op}
 use Rattle.net_ir.specs.declared.netlist.Op.TheVariants.{Copy, Or}
-use Rattle.net_gen.specs.Drawings.{Drawing, next_number, net_at, Placed, with_gate, with_run, noted_run, noted_number, NotedFits, with_run_once, run_number_once, RunFits}
+use Rattle.net_gen.specs.Drawings.{Drawing, next_number, net_at, Placed, with_gate, with_run, noted_run, noted_number, NotedFits, with_run_once}
+use Rattle.net_gen.specs.Drawings.{run_number_once, RunFits}
 use Rattle.net_gen.specs.Growing.{Grew, Lowers, RunStands, spare, spent}
 use Rattle.net_gen.specs.Senses.{Instant, Sense, Sound, Stands, Table, ends_sense, end_instance, first_beside, run_sense, wire_sense, wire_value}
 use Rattle.net_gen.proofs.Growth.{grew-refl, grew-trans, grew-gate, stands-new}
@@ -139,7 +141,8 @@ made-note g w old mid first v a q low beside here none few h =
       run = (omega arith, same-stands g mid v a.0 a _ h);
     }
 
-run-made : (g : Graph) (w : Words) (old now new : Drawing) (so_far entry : Option NetId) (first v : ℕ) (n : NetId) → RunMade g w old now so_far first (v - first)
+run-made : (g : Graph) (w : Words) (old now new : Drawing) (so_far entry : Option NetId) (first v : ℕ) (n : NetId) →
+    RunMade g w old now so_far first (v - first)
     → first ≤ v → first_beside g w v ≡ first → v < length now.ends → Placed now.wires v → slice_index_or now.ends v None ≡ entry
     → new ≡ noted_run now so_far v entry → n.0 ≡ noted_number now so_far v entry → NotedFits now so_far entry
     → RunMade g w old new (Some n) first (v + 1 - first)

@@ -1,5 +1,6 @@
 -- A netlist around a whole circuit: that it is a net, and what its values are on an occasion.
-use Rattle.std.proofs.Common.{◌≡◌, ℕ, ◌+◌, ◌<◌, ◌≤◌, ◌^◌, zero, suc, Bool, true, false, ◌&&◌, ◌==◌, List, [], ◌∷◌, ◌++◌, length, map, take, drop, slice_index_or, refl, sym, ap, ◌∙◌, subst, arith, Option, Some, None, IsTrue, All, nat_eq}
+use Rattle.std.proofs.Common.{◌≡◌, ℕ, ◌+◌, ◌<◌, ◌≤◌, ◌^◌, zero, suc, Bool, true, false, ◌&&◌, ◌==◌, List, [], ◌∷◌, ◌++◌, length, map, take, drop}
+use Rattle.std.proofs.Common.{slice_index_or, refl, sym, ap, ◌∙◌, subst, arith, Option, Some, None, IsTrue, All, nat_eq}
 use Rattle.std.proofs.lemmas.Bool.{and_parts}
 use Rattle.std.proofs.lemmas.List.{length-map, get_or-map, get_or_default, take-append-drop, take-take, drop-take, length-take-le}
 use Rattle.std.proofs.lemmas.List.Elements.{All-take, All-drop}
@@ -83,7 +84,8 @@ differ-take : (n : ℕ) (names : List (List ℕ)) → IsTrue (all_differ is_same
 differ-take n names e =
     let split = all_differ-append is_same_name (take n names) (drop n names) in
     let whole = ap (all_differ is_same_name) (take-append-drop n names) in
-    let all : (all_differ is_same_name (take n names) && none_shared is_same_name (take n names) (drop n names) && all_differ is_same_name (drop n names)) ≡ true =
+    let all : (all_differ is_same_name (take n names) && none_shared is_same_name (take n names) (drop n names) && all_differ is_same_name (drop n names)) ≡
+    true =
     sym split ∙ whole ∙ e in
     (and_parts _ _ (and_parts _ _ all).0).0
 
@@ -91,7 +93,8 @@ differ-drop : (n : ℕ) (names : List (List ℕ)) → IsTrue (all_differ is_same
 differ-drop n names e =
     let split = all_differ-append is_same_name (take n names) (drop n names) in
     let whole = ap (all_differ is_same_name) (take-append-drop n names) in
-    let all : (all_differ is_same_name (take n names) && none_shared is_same_name (take n names) (drop n names) && all_differ is_same_name (drop n names)) ≡ true =
+    let all : (all_differ is_same_name (take n names) && none_shared is_same_name (take n names) (drop n names) && all_differ is_same_name (drop n names)) ≡
+    true =
     sym split ∙ whole ∙ e in
     (and_parts _ _ all).1
 
@@ -156,8 +159,10 @@ is-net g w forms order d nets net h names o a m r =
     let F = λ (n : List ℕ). IsTrue (is_name n) in
     let inputs_fit = subst (All F) (given-names p) (All-take F (given_count p) (take (interface_count p) p.signals) names.interface) in
     let outputs_fit = subst (All F) (outgoing-of p) (All-drop F p.inputs (take (interface_count p) p.signals) names.interface) in
-    let inputs_differ = subst (λ xs. IsTrue (all_differ is_same_name xs)) (given-names p) (differ-take (given_count p) (take (interface_count p) p.signals) names.differ) in
-    let outputs_differ = subst (λ xs. IsTrue (all_differ is_same_name xs)) (outgoing-of p) (differ-drop p.inputs (take (interface_count p) p.signals) names.differ) in
+    let inputs_differ = subst (λ xs. IsTrue (all_differ is_same_name xs)) (given-names p)
+    (differ-take (given_count p) (take (interface_count p) p.signals) names.differ) in
+    let outputs_differ = subst (λ xs. IsTrue (all_differ is_same_name xs)) (outgoing-of p)
+    (differ-drop p.inputs (take (interface_count p) p.signals) names.differ) in
     let paused = stands-source g w d w.paused m.sound (paused-ready g w order d nets a m) in
     record {
       name_fits = subst F (sym r.name) names.name;

@@ -40,7 +40,8 @@ follows-event g net t items Vs r f = record { shows = λ i. r.shows i ∷ f.show
 next-many : (g : Graph) (fv : plain.Formula → Bool) → length (map fv (plain_graph g).next) ≡ length g.next.items
 next-many g fv = length-map (plain_graph g).next fv ∙ length-map g.next.items (formula_of (instances_of g) (names_of g))
 
-follows-from : (g : Graph) (net : Netlist) → HasInterfaceOf g net → FollowsInstants g net → (items : List Item) (Vs : List Valuation) (boot : Bool) (bits : List Bool)
+follows-from : (g : Graph) (net : Netlist) → HasInterfaceOf g net → FollowsInstants g net →
+    (items : List Item) (Vs : List Valuation) (boot : Bool) (bits : List Bool)
     → length bits ≡ length g.next.items → (IsTrue boot → All (λ b. b ≡ false) bits)
     → EachEvent (λ event. length event ≡ given_count (program_of g.program)) items
     → IsGraphRun (plain_graph g) (state_of (plain_graph g).leaves boot bits) items Vs → Follows g net (boot ∷ bits) items Vs

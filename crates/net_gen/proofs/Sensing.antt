@@ -1,5 +1,6 @@
 -- What nets and operators say while gates are added.
-use Rattle.std.proofs.Common.{◌≡◌, ℕ, ◌+◌, ◌-◌, ◌<◌, ◌≤◌, Bool, true, false, not, ◌&&◌, ◌||◌, List, [], ◌∷◌, ◌++◌, length, slice_index_or, refl, sym, ap, ◌∙◌, subst, arith}
+use Rattle.std.proofs.Common.{◌≡◌, ℕ, ◌+◌, ◌-◌, ◌<◌, ◌≤◌, Bool, true, false, not, ◌&&◌, ◌||◌, List, [], ◌∷◌, ◌++◌, length, slice_index_or, refl, sym, ap, ◌∙◌}
+use Rattle.std.proofs.Common.{subst, arith}
 use Rattle.std.proofs.Common.{length-append, add_assoc}
 use Rattle.std.proofs.lemmas.List.{get_or_append_left, get_or_push, length_push}
 use Rattle.est_base.specs.declared.indices.NetId.{NetId}
@@ -38,7 +39,8 @@ op_value-old g gates others op low t =
     op_value-same _ _ op (first_of g + length gates) low (λ n h. value-old g gates others n h t)
 
 -- so does an operator
-pub op_sense-old : (g : Graph) (gates others : List Gate) (op : Op) → operand_end op ≤ first_of g + length gates → op_sense g (gates ++ others) op ≡ op_sense g gates op
+pub op_sense-old : (g : Graph) (gates others : List Gate) (op : Op) → operand_end op ≤ first_of g + length gates →
+    op_sense g (gates ++ others) op ≡ op_sense g gates op
 unfolding op_sense
 op_sense-old g gates others op low = λ i t. op_value-old g gates others op low t.occasion i
 

@@ -1,5 +1,6 @@
 -- One more wire, and one more leaf.
-use Rattle.std.proofs.Common.{◌≡◌, ℕ, ◌+◌, ◌<◌, ◌≤◌, ◌^◌, true, List, [], ◌∷◌, ◌++◌, length, map, take, slice_index_or, slice_set, refl, sym, ap, ◌∙◌, subst, arith, Option, Some, None, inl, inr, IsTrue}
+use Rattle.std.proofs.Common.{◌≡◌, ℕ, ◌+◌, ◌<◌, ◌≤◌, ◌^◌, true, List, [], ◌∷◌, ◌++◌, length, map, take, slice_index_or, slice_set, refl, sym, ap, ◌∙◌, subst}
+use Rattle.std.proofs.Common.{arith, Option, Some, None, inl, inr, IsTrue}
 use Rattle.std.proofs.Common.{append_assoc, append-nil}
 use Rattle.std.specs.List.{sum_by}
 use Rattle.std.proofs.lemmas.Bool.{cases_lt}
@@ -84,7 +85,8 @@ sound-wire g w d op v s o low room =
       rows_all = s.rows_all;
     }
 
-sum-more : {X : Type 0} (f : X → ℕ) (xs : List X) (j : ℕ) (d : X) → j < length xs → sum_by f (take (j + 1) xs) ≡ sum_by f (take j xs) + f (slice_index_or xs j d)
+sum-more : {X : Type 0} (f : X → ℕ) (xs : List X) (j : ℕ) (d : X) → j < length xs →
+    sum_by f (take (j + 1) xs) ≡ sum_by f (take j xs) + f (slice_index_or xs j d)
 sum-more f xs j d low =
     let x = slice_index_or xs j d in
     let one : sum_by f (x ∷ []) ≡ f x = omega arith in

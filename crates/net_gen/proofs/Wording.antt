@@ -1,5 +1,6 @@
 -- The words of formulas as nets, and the formulas made of them.
-use Rattle.std.proofs.Common.{◌≡◌, ℕ, ◌+◌, ◌-◌, ◌<◌, ◌≤◌, ◌^◌, zero, suc, Bool, true, false, not, ◌&&◌, ◌||◌, nat_lt, if◌then◌else◌, List, [], ◌∷◌, ◌++◌, length, map, slice_index_or, refl, sym, ap, ◌∙◌, subst, arith, Option, Some, None, unwrap_or, inl, inr, IsTrue}
+use Rattle.std.proofs.Common.{◌≡◌, ℕ, ◌+◌, ◌-◌, ◌<◌, ◌≤◌, ◌^◌, zero, suc, Bool, true, false, not, ◌&&◌, ◌||◌, nat_lt, if◌then◌else◌, List, [], ◌∷◌, ◌++◌}
+use Rattle.std.proofs.Common.{length, map, slice_index_or, refl, sym, ap, ◌∙◌, subst, arith, Option, Some, None, unwrap_or, inl, inr, IsTrue}
 use Rattle.std.specs.List.{list_any}
 use Rattle.std.proofs.lemmas.Bool.{cases_lt, lt-ltb, le-ltb}
 use Rattle.std.proofs.lemmas.List.{get_or_append_left, get_or-append-add}
@@ -31,7 +32,8 @@ use Rattle.net_gen.specs.Costs.{cost_of}
 use Rattle.net_gen.specs.Drawings.{Drawing, next_number, net_at, Placed, constant_net, input_net, gates_for}
 use Rattle.net_gen.specs.Growing.{Grew, Lowers, Places, spent}
 use Rattle.net_gen.specs.Readiness.{SourceReady, source_net, kept_source, held_source}
-use Rattle.net_gen.specs.Senses.{Instant, Sense, start_of, first_of, net_sense, op_sense, form_sense, wire_sense, any_sense, run_sense, source_sense, row_sense, wire_value, Sound, Stands, OpStands}
+use Rattle.net_gen.specs.Senses.{Instant, Sense, start_of, first_of, net_sense, op_sense, form_sense, wire_sense, any_sense, run_sense, source_sense, row_sense}
+use Rattle.net_gen.specs.Senses.{wire_value, Sound, Stands, OpStands}
 use Rattle.net_gen.proofs.GraphValues.{false-off_wires}
 use Rattle.net_gen.proofs.Growth.{grew-refl, grew-trans}
 use Rattle.net_gen.proofs.Sensing.{length-start, op-copy, op-not, op-and, op-or, op-is, stands-is}
@@ -203,7 +205,8 @@ pub lowers-upto : (g : Graph) (w : Words) (old new : Drawing) (op : Op) (x : Ins
     → Lowers g w old new op (run_sense g (first_end w x.0) (ends_upto g w x.0 k)) 0 → Lowers g w old new op (form_sense g (formulas.Upto x k)) 0
 lowers-upto g w old new op x k a h l = lowers-is g w old new op _ _ 0 (upto-form g w x k a h) l
 
-pub lowers-not : (g : Graph) (w : Words) (old new : Drawing) (n : NetId) (f : Formula) (m : Sense g) (cost : ℕ) → (λ (t : Instant g). not (m t)) ≡ form_sense g f
+pub lowers-not : (g : Graph) (w : Words) (old new : Drawing) (n : NetId) (f : Formula) (m : Sense g) (cost : ℕ) →
+    (λ (t : Instant g). not (m t)) ≡ form_sense g f
     → Places g w old new n.0 m cost → Lowers g w old new (Not n) (form_sense g f) (cost + 1)
 lowers-not g w old new n f m cost e p = record {
   grew = p.grew;
@@ -244,7 +247,8 @@ any-values g t (v ∷ []) = or-false (wire_value g t.occasion v.0) where
   or-false false = refl
 any-values g t (v ∷ (u ∷ list)) = ap (λ b. wire_value g t.occasion v.0 || b) (any-values g t (u ∷ list))
 
-pub any-form : (g : Graph) (f : Formula) (list : List WireId) → formula_of (instances_of g) (names_of g) f ≡ plain.any_of (map (λ (v : WireId). plain.Value (wire_at (names_of g) v.0)) list)
+pub any-form : (g : Graph) (f : Formula) (list : List WireId) → formula_of (instances_of g) (names_of g) f ≡
+    plain.any_of (map (λ (v : WireId). plain.Value (wire_at (names_of g) v.0)) list)
     → any_sense g list ≡ form_sense g f
 unfolding form_sense any_sense
 any-form g f list e = λ i t. (any-values g t list ∙ ap (formula_value (plain_graph g) (state_in g t.occasion) t.occasion.event t.occasion.valuation) (sym e)) i

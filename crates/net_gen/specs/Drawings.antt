@@ -1,5 +1,6 @@
 -- Inner: a circuit under construction, without where it lies in memory.
-use Rattle.std.specs.Prelude.{ℕ, ◌+◌, Option, Some, None, List, [], ◌∷◌, ◌++◌, length, slice_set, slice_index_or, unwrap_or, ◌≡◌, ◌<◌, ◌^◌, nat_lt, Bool, if◌then◌else◌, ⊤}
+use Rattle.std.specs.Prelude.{ℕ, ◌+◌, Option, Some, None, List, [], ◌∷◌, ◌++◌, length, slice_set, slice_index_or}
+use Rattle.std.specs.Prelude.{unwrap_or, ◌≡◌, ◌<◌, ◌^◌, nat_lt, Bool, if◌then◌else◌, ⊤}
 use Rattle.est_base.specs.declared.indices.NetId.{NetId}
 use Rattle.est_base.specs.declared.indices.WireId.{WireId}
 use Rattle.net_ir.specs.declared.netlist.Gate.{Gate}
@@ -7,7 +8,8 @@ use Rattle.net_ir.specs.declared.netlist.Op.{Op}
 use Rattle.net_ir.specs.declared.netlist.Op.TheVariants.{Const, Copy, Not, And, Or}
 use Rattle.net_gen.specs.declared.circuit.Circuit.{Circuit}
 
--- The number of inputs, the number of the first gate, the nets that are never and always true, the gates, and which nets say what wires, runs of ends and rows
+-- The number of inputs, the number of the first gate, the nets that are never and always true, the gates, and which
+-- nets say what wires, runs of ends and rows
 -- say, as far as they were made.
 pub record Drawing : Type 0 where
   pub given : ℕ

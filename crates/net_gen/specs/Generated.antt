@@ -25,7 +25,8 @@ pub record HasInterfaceOf (g : Graph) (net : Netlist) : Type 0 where
 
 -- each gate that carries a wire has the wire's value
 abbrev pub Carries : Graph → Netlist → List Bool → Valuation → Type 0
-Carries g net values V = (k : ℕ) (x : Gate) (v : WireId) → k < length net.gates → (slice_index_or net.gates k x).wire ≡ Some v
+Carries g net values V = (k : ℕ) (x : Gate) (v : WireId) → k < length net.gates →
+    (slice_index_or net.gates k x).wire ≡ Some v
     → value_in values (first_gate net + k) ≡ V (wire_at (names_of g) v.0)
 
 -- what a net shows where a graph shows this
@@ -59,5 +60,6 @@ pub record FollowsRun (g : Graph) (net : Netlist) (items : List Item) (Vs : List
   pub carries : EachInstant (Carries g net) (net_values_run net items) Vs
 
 abbrev pub FollowsRuns : Graph → Netlist → Type 0
-FollowsRuns g net = (items : List Item) (Vs : List Valuation) → EachEvent (λ event. length event ≡ given_count (program_of g.program)) items
+FollowsRuns g net = (items : List Item) (Vs : List Valuation) →
+    EachEvent (λ event. length event ≡ given_count (program_of g.program)) items
     → IsGraphRun (plain_graph g) Initial items Vs → FollowsRun g net items Vs

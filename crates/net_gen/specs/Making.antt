@@ -1,5 +1,6 @@
 -- Inner: what the three loops over rows, wires and leaves make.
-use Rattle.std.specs.Prelude.{◌≡◌, ℕ, ◌+◌, ◌<◌, ◌≤◌, true, Option, Some, List, [], ◌++◌, length, map, take, slice_index_or}
+use Rattle.std.specs.Prelude.{◌≡◌, ℕ, ◌+◌, ◌<◌, ◌≤◌, true, Option, Some, List, [], ◌++◌, length, map, take}
+use Rattle.std.specs.Prelude.{slice_index_or}
 use Rattle.std.specs.List.{sum_by}
 use Rattle.est_base.specs.declared.indices.NetId.{NetId}
 use Rattle.est_base.specs.declared.indices.WireId.{WireId}

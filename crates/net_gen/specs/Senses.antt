@@ -1,6 +1,7 @@
 -- Inner: what nets, operators, formulas, wires, rows and sources say: their values as functions of the instant. That a
 -- net says what a formula means is one equation between two such functions.
-use Rattle.std.specs.Prelude.{◌≡◌, ℕ, ◌+◌, ◌-◌, ◌<◌, ◌≤◌, ◌^◌, Bool, true, false, ◌||◌, Option, Some, None, List, [], ◌∷◌, ◌++◌, length, slice_index_or}
+use Rattle.std.specs.Prelude.{◌≡◌, ℕ, ◌+◌, ◌-◌, ◌<◌, ◌≤◌, ◌^◌, Bool, true, false, ◌||◌, Option, Some, None, List, []}
+use Rattle.std.specs.Prelude.{◌∷◌, ◌++◌, length, slice_index_or}
 use Rattle.std.specs.List.{list_any}
 use Rattle.est_base.specs.declared.indices.NetId.{NetId}
 use Rattle.est_base.specs.declared.indices.WireId.{WireId}
@@ -63,7 +64,8 @@ unfoldable pub run_sense : (g : Graph) (first count : ℕ) → Sense g
 run_sense g first count = λ t. any_from (wire_value g t.occasion) first count
 
 unfoldable pub source_sense : (g : Graph) → Words → Source → Sense g
-source_sense g w s = λ t. source_value (surroundings g t.occasion) (row_values (surroundings g t.occasion) [] w.rows.items) s
+source_sense g w s = λ t. source_value (surroundings g t.occasion)
+    (row_values (surroundings g t.occasion) [] w.rows.items) s
 
 unfoldable pub row_sense : (g : Graph) → Words → ℕ → Sense g
 row_sense g w r = λ t. slice_index_or (row_values (surroundings g t.occasion) [] w.rows.items) r false

@@ -23,7 +23,8 @@ use std::alloc::Global;
 pub fn net_over(alloc: Global, graph: &Graph, words: &Words, order: &Order) -> Result<Net, NoMemory>
     requires words { AreWordsOf graph.now words.now }
     requires order { IsReadingOrder (names_of graph.now)
-        (map (formula_of (instances_of graph.now) (names_of graph.now)) graph.now.equations.items) order.now.list.items }
+        (map (formula_of (instances_of graph.now) (names_of graph.now)) graph.now.equations.items)
+        order.now.list.items }
     requires signals { interface_count (program_of graph.now.program) ≤ length graph.now.program.signals.items }
     requires names { HasNames (program_of graph.now.program) }
     ensures graph { IfOk result (λ net. IsNetOf graph.now (netlist_of net)) }

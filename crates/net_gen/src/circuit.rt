@@ -1,7 +1,9 @@
 // A circuit under construction.
 
 ghost use Rattle.std.specs.Prelude.{◌≡◌, ◌+◌, ◌<◌, ◌≤◌, ◌^◌, None, Some, length, slice_index_or, slice_set, IfOk, OnOk};
-ghost use Rattle.net_gen.specs.Drawings.{drawing_of, next_number, with_gate, with_wire, with_net, net_number, with_run_once, run_number_once, with_joined, joined_op, JoinFits, RunFits, constant_net, input_net, with_row, Placed};
+ghost use Rattle.net_gen.specs.Drawings.{drawing_of, next_number, with_gate, with_wire, with_net, net_number};
+ghost use Rattle.net_gen.specs.Drawings.{with_run_once, run_number_once, with_joined, joined_op, JoinFits, RunFits};
+ghost use Rattle.net_gen.specs.Drawings.{constant_net, input_net, with_row, Placed};
 ghost use Rattle.net_gen.specs.Readiness.{SourceReady, RowReady, source_net, row_op};
 
 use est_base::{NetId, NoMemory, SigId, WireId};

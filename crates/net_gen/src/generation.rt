@@ -42,7 +42,8 @@ pub fn generate(
     requires tree { map node_of tree.now.nodes.items ≡ body_tree (term_of graph.now.program.body) }
     requires leaves { length graph.now.next.items ≡ length (body_leaves (term_of graph.now.program.body)) }
     requires order { IsReadingOrder (names_of graph.now)
-        (map (formula_of (instances_of graph.now) (names_of graph.now)) graph.now.equations.items) order.now.list.items }
+        (map (formula_of (instances_of graph.now) (names_of graph.now)) graph.now.equations.items)
+        order.now.list.items }
     ensures interface { IfOk result (λ net. HasInterfaceOf graph.now (netlist_of net)) }
     ensures order { IfOk result (λ net. carried net.gates.items ≡ map (λ v. v.0) order.now.list.items) }
     ensures size { IfOk result (λ net. length net.gates.items

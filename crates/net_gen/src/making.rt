@@ -50,7 +50,8 @@ pub(crate) fn make_wires(
     requires sound { Sound graph.now words.now (drawing_of circuit.old) }
     requires placed { RowsPlaced (drawing_of circuit.old) words.now.early }
     requires order { IsReadingOrder (names_of graph.now)
-        (map (formula_of (instances_of graph.now) (names_of graph.now)) graph.now.equations.items) order.now.list.items }
+        (map (formula_of (instances_of graph.now) (names_of graph.now)) graph.now.equations.items)
+        order.now.list.items }
     ensures { OnOk result (WiresMade graph.now words.now (drawing_of circuit.old) (drawing_of circuit.new)
         order.now.list.items (length order.now.list.items)) }
 {

@@ -47,7 +47,8 @@ pub(crate) fn outputs_of(
     requires one_each { length sources.now ≡ outgoing_count (program_of program.now) }
     requires ready { All (λ s. SourceReady (drawing_of circuit.now) s) sources.now }
     ensures names { IfOk result (λ outs. map (λ o. o.name) outs.items ≡ outgoing_names (program_of program.now)) }
-    ensures nets { IfOk result (λ outs. map (λ o. o.net) outs.items ≡ map (source_net (drawing_of circuit.now)) sources.now) }
+    ensures nets { IfOk result (λ outs. map (λ o. o.net) outs.items ≡
+        map (source_net (drawing_of circuit.now)) sources.now) }
 {
     let first = program.inputs as usize;
     let mut outs = Vec::new(alloc);

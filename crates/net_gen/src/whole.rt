@@ -32,7 +32,8 @@ pub(crate) fn make_circuit(
 ) -> Result<Whole, NoMemory>
     requires words { AreWordsOf graph.now words.now }
     requires order { IsReadingOrder (names_of graph.now)
-        (map (formula_of (instances_of graph.now) (names_of graph.now)) graph.now.equations.items) order.now.list.items }
+        (map (formula_of (instances_of graph.now) (names_of graph.now)) graph.now.equations.items)
+        order.now.list.items }
     ensures { IfOk result (λ whole. CircuitMade graph.now words.now order.now.list.items
         (drawing_of whole.circuit) whole.next.items) }
 {

@@ -37,13 +37,16 @@ opened = refl
 not_taken : maybe word (the word) (kinds.Pause ∷ []) ≡ Ok (Some Pause, [])
 not_taken = refl
 
-as_many_as_there_are : many semicolon (λ _. the word) (kinds.Semicolon ∷ kinds.Pause ∷ kinds.Semicolon ∷ kinds.Nothing ∷ kinds.Close ∷ []) ≡ Ok (Pause ∷ Nothing ∷ [], kinds.Close ∷ [])
+as_many_as_there_are : many semicolon (λ _. the word) (kinds.Semicolon ∷ kinds.Pause ∷ kinds.Semicolon ∷ kinds.Nothing ∷ kinds.Close ∷ []) ≡
+    Ok (Pause ∷ Nothing ∷ [], kinds.Close ∷ [])
 as_many_as_there_are = refl
 
-its_tokens : placed (λ tokens. tokens) (both (the word) (the semicolon)) (kinds.Pause ∷ kinds.Semicolon ∷ kinds.Close ∷ []) ≡ Ok (((Pause, tt), kinds.Pause ∷ kinds.Semicolon ∷ []), kinds.Close ∷ [])
+its_tokens : placed (λ tokens. tokens) (both (the word) (the semicolon)) (kinds.Pause ∷ kinds.Semicolon ∷ kinds.Close ∷ []) ≡
+    Ok (((Pause, tt), kinds.Pause ∷ kinds.Semicolon ∷ []), kinds.Close ∷ [])
 its_tokens = refl
 
-one_list : whole (statement 0) (kinds.Nothing ∷ kinds.Semicolon ∷ kinds.Pause ∷ kinds.Semicolon ∷ kinds.Nothing ∷ kinds.Semicolon ∷ []) ≡ Ok (Sequence (More Nothing (More Pause (More Nothing NoPlains))))
+one_list : whole (statement 0) (kinds.Nothing ∷ kinds.Semicolon ∷ kinds.Pause ∷ kinds.Semicolon ∷ kinds.Nothing ∷ kinds.Semicolon ∷ []) ≡
+    Ok (Sequence (More Nothing (More Pause (More Nothing NoPlains))))
 one_list = refl
 
 room_for_one : whole (statement 1) (kinds.Open ∷ kinds.Pause ∷ kinds.Close ∷ []) ≡ Ok (Group Pause)

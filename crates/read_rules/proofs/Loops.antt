@@ -1,5 +1,6 @@
 -- The first law of a loop, and the loop as one step and the loop.
-use Rattle.std.proofs.Common.{◌≡◌, ℕ, zero, suc, ◌+◌, ◌-◌, ◌<◌, ◌≤◌, List, [], ◌∷◌, ◌++◌, length, Option, Some, None, Ok, Err, refl, sym, ◌∙◌, ap, subst, arith, length-append}
+use Rattle.std.proofs.Common.{◌≡◌, ℕ, zero, suc, ◌+◌, ◌-◌, ◌<◌, ◌≤◌, List, [], ◌∷◌, ◌++◌, length, Option, Some, None, Ok, Err, refl, sym, ◌∙◌, ap, subst, arith}
+use Rattle.std.proofs.Common.{length-append}
 use Rattle.std.proofs.lemmas.List.{append_assoc, append-nil}
 use Rattle.std.specs.Option.{option_map_or}
 use Rattle.read_rules.specs.declared.faults.Fault.{Fault}
@@ -83,7 +84,17 @@ module _ {T A : Type 0} (step : ℕ → Rule T (Option A)) (S : ℕ → Option A
   begun : (n : ℕ) (value : Option A) (tokens : List T) → S n value tokens →
       (values : List A) × (tail : List T) × Loop (S n) values (tokens ++ tail)
   begun n None tokens member = ([], [], subst (λ ts. S n None ts) (sym (append-nil tokens)) member)
-  begun n (Some value) tokens member = (value ∷ [], last, record { front = tokens; back = last; cut = refl; first = member; second = grows 0 n None last (omega arith) ends })
+  begun n (Some value) tokens member = (
+    value ∷ [],
+    last,
+    record {
+      front = tokens;
+      back = last;
+      cut = refl;
+      first = member;
+      second = grows 0 n None last (omega arith) ends;
+    },
+  )
 
   begun_deeper : (front rest : List T) → BeginsDeeper S front rest → BeginsDeeper (λ n. Loop (S n)) front rest
   begun_deeper front [] deeper = deeper
@@ -105,7 +116,8 @@ module _ {T A : Type 0} (step : ℕ → Rule T (Option A)) (S : ℕ → Option A
         member = record { front = took.front; back = took'.front; cut = refl; first = took.member; second = took'.member };
         steady = λ more other le same.
             ap (surplus step spare more) (append_assoc took.front took'.front other)
-            ∙ after_step spare more value took.front (took'.front ++ other) longer (took.steady more (took'.front ++ other) le (next_of-append_cut rest took'.front other found.1 took'.cut same))
+            ∙ after_step spare more value took.front (took'.front ++ other) longer
+            (took.steady more (took'.front ++ other) le (next_of-append_cut rest took'.front other found.1 took'.cut same))
             ∙ ap (λ n. mapped (λ others. value ∷ others) (surplus step n more) (took'.front ++ other)) (sym (count took.front took.cut))
             ∙ ap (λ r. follow r (λ others. give (value ∷ others))) (took'.steady more other le same);
       }
@@ -116,11 +128,21 @@ module _ {T A : Type 0} (step : ℕ → Rule T (Option A)) (S : ℕ → Option A
         rest = stopped.rest;
         cut = took.cut ∙ ap (λ r. took.front ++ r) stopped.cut ∙ sym (append_assoc took.front stopped.front stopped.rest);
         place = stopped.place;
-        begins = let b : Begins (Loop (S room)) stopped.front = stopped.begins in
-            (value ∷ b.0, b.1, record { front = took.front; back = stopped.front ++ b.1; cut = append_assoc took.front stopped.front b.1; first = took.member; second = b.2 });
+        begins = let b : Begins (Loop (S room)) stopped.front = stopped.begins in (
+          value ∷ b.0,
+          b.1,
+          record {
+            front = took.front;
+            back = stopped.front ++ b.1;
+            cut = append_assoc took.front stopped.front b.1;
+            first = took.member;
+            second = b.2;
+          },
+        );
         steady = λ more other le fits same.
             ap (surplus step spare more) (append_assoc took.front stopped.front other)
-            ∙ after_step spare more value took.front (stopped.front ++ other) longer (took.steady more (stopped.front ++ other) le (next_of-append_cut rest stopped.front other stopped.rest stopped.cut same))
+            ∙ after_step spare more value took.front (stopped.front ++ other) longer
+            (took.steady more (stopped.front ++ other) le (next_of-append_cut rest stopped.front other stopped.rest stopped.cut same))
             ∙ ap (λ n. mapped (λ others. value ∷ others) (surplus step n more) (stopped.front ++ other)) (sym (count took.front took.cut))
             ∙ ap (λ r. follow r (λ others. give (value ∷ others))) (stopped.steady more other le fits same);
         deeper = λ deep. behind_step value took.front took.member stopped.front stopped.rest (stopped.deeper deep);
@@ -142,7 +164,8 @@ module _ {T A : Type 0} (step : ℕ → Rule T (Option A)) (S : ℕ → Option A
       let spare' : ℕ = length took.front - 1 + spare in
       let count : suc (length rest + spare') ≡ length tokens + spare = omega arith in
       subst (λ n. Answers (surplus step spare) (λ n. Loop (S n)) room tokens (mapped (λ others. value ∷ others) (turns n (step room)) rest)) count
-      (more_on spare tokens value rest took spare' (λ front cut. let e : length tokens ≡ length front + length rest = ap length cut ∙ length-append front rest in omega arith)
+      (more_on spare tokens value rest took spare' (λ front cut. let e : length tokens ≡ length front + length rest = ap length cut
+      ∙ length-append front rest in omega arith)
       (surplus step spare' room rest) (others spare' rest (omega arith)))
   step_on spare tokens others (Err fault) stopped = record {
     front = stopped.front;
@@ -152,7 +175,8 @@ module _ {T A : Type 0} (step : ℕ → Rule T (Option A)) (S : ℕ → Option A
     begins = let b : Begins (S room) stopped.front = stopped.begins in
         let c = begun room b.0 (stopped.front ++ b.1) b.2 in
         (c.0, b.1 ++ c.1, subst (λ ts. Loop (S room) c.0 ts) (append_assoc stopped.front b.1 c.1) c.2);
-    steady = λ more other le fits same. ap (λ r. follow r (turn (turns (length (stopped.front ++ other) + spare) (step more)))) (stopped.steady more other le fits same);
+    steady = λ more other le fits same. ap (λ r. follow r (turn (turns (length (stopped.front ++ other) + spare) (step more))))
+        (stopped.steady more other le fits same);
     deeper = λ deep. begun_deeper stopped.front stopped.rest (stopped.deeper deep);
   }
 
@@ -227,7 +251,8 @@ module _ {T X A : Type 0} (test : T → Option X) (p : ℕ → X → Rule T A) (
 
   pub Advances-many : Advances (optional test (p room))
   Advances-many =
-      Advances-runs (λ n. optional test (p n)) (λ n. Optional (λ value. Led test (λ x. L n x value))) room (λ value front led. led_not_empty room value front led)
+      Advances-runs (λ n. optional test (p n)) (λ n. Optional (λ value. Led test (λ x. L n x value))) room
+      (λ value front led. led_not_empty room value front led)
       (optional-runs test p L room runs)
 
 -- A part and a loop behind it, once the part is read.
@@ -258,7 +283,8 @@ pub loop-push : {T A : Type 0} (step : Rule T (Option A)) → Advances step → 
     mapped (λ others. (front ++ value ∷ []) ++ others) (loop step) rest ≡ mapped (λ others. front ++ others)
     (loop step) tokens
 loop-push step advances front tokens value rest is =
-    mapped-same (λ others. (front ++ value ∷ []) ++ others) (λ others. front ++ value ∷ others) (λ others. append_assoc front (value ∷ []) others) (loop step rest)
+    mapped-same (λ others. (front ++ value ∷ []) ++ others) (λ others. front ++ value ∷ others) (λ others. append_assoc front (value ∷ []) others)
+    (loop step rest)
     ∙ sym (loop-more step advances (λ others. front ++ others) tokens value rest is)
 
 -- the step of a repeated part, once code has looked at the next token and read what it opens

@@ -37,7 +37,8 @@ module _ {T A : Type 0} (p : ℕ → Rule T A) (L : ℕ → A → List T → Typ
     front = took.front;
     cut = took.cut;
     member = took.member;
-    steady = λ more other le same. lifted_steady false took.front found.1 (λ other. Ok (found.0, other)) (λ more other le fits same. took.steady more other le same) more other le (λ d. cc) same;
+    steady = λ more other le same. lifted_steady false took.front found.1 (λ other. Ok (found.0, other))
+        (λ more other le fits same. took.steady more other le same) more other le (λ d. cc) same;
   }
   lifted_on tokens (Err fault) stopped = record {
     front = stopped.front;
@@ -45,7 +46,8 @@ module _ {T A : Type 0} (p : ℕ → Rule T A) (L : ℕ → A → List T → Typ
     cut = stopped.cut;
     place = stopped.place;
     begins = stopped.begins;
-    steady = λ more other le fits same. lifted_steady fault.deep stopped.front stopped.rest (λ other. Err (fault_at fault.deep other)) stopped.steady more other le fits same;
+    steady = λ more other le fits same. lifted_steady fault.deep stopped.front stopped.rest
+        (λ other. Err (fault_at fault.deep other)) stopped.steady more other le fits same;
     deeper = λ deep. under_deeper stopped.front stopped.rest (stopped.deeper deep);
   }
 

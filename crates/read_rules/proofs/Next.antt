@@ -64,12 +64,14 @@ ahead-refused test p q tokens refuses = ap (λ o. option_map_or (λ _. p tokens)
 -- and on one that it takes
 pub when-taken : {T X A : Type 0} (test : T → Option X) (p : X → Rule T A) (q : Rule T A) (token : T)
     (rest : List T) (value : X) → test token ≡ Some value → when test p q (token ∷ rest) ≡ p value rest
-when-taken test p q token rest value takes = ap (λ o. option_map_or (λ found. p found.0 found.1) o (q (token ∷ rest))) (picked-taken test token rest value takes)
+when-taken test p q token rest value takes = ap (λ o. option_map_or (λ found. p found.0 found.1) o (q (token ∷ rest)))
+    (picked-taken test token rest value takes)
 
 pub ahead-taken : {T X A : Type 0} (test : T → Option X) (p q : Rule T A) (tokens : List T) (value : X) →
     Takes test value tokens → ahead test p q tokens ≡ p tokens
 ahead-taken test p q [] value takes = absurd takes
-ahead-taken test p q (token ∷ rest) value takes = ap (λ o. option_map_or (λ _. p (token ∷ rest)) o (q (token ∷ rest))) (picked-taken test token rest value takes)
+ahead-taken test p q (token ∷ rest) value takes = ap (λ o. option_map_or (λ _. p (token ∷ rest)) o (q (token ∷ rest)))
+    (picked-taken test token rest value takes)
 
 pub Takes-alike : {T X : Type 0} (test : T → Option X) (value : X) (tokens other : List T) →
     next_of other ≡ next_of tokens → Takes test value tokens → Takes test value other
@@ -103,10 +105,12 @@ pub Then-refuses : {T X : Type 0} (test : T → Option X) (L M : List T → Type
     ((tokens rest : List T) → L tokens → Refuses test (tokens ++ rest)) → (tokens rest : List T) →
     Then L M tokens → Refuses test (tokens ++ rest)
 Then-refuses test L M refuses tokens rest member =
-    subst (λ ts. Refuses test ts) (sym (ap (λ ts. ts ++ rest) member.cut ∙ append_assoc member.front member.back rest)) (refuses member.front (member.back ++ rest) member.first)
+    subst (λ ts. Refuses test ts) (sym (ap (λ ts. ts ++ rest) member.cut ∙ append_assoc member.front member.back rest))
+    (refuses member.front (member.back ++ rest) member.first)
 
 pub Then-takes : {T X : Type 0} (test : T → Option X) (x : X) (L M : List T → Type 0) →
     ((tokens rest : List T) → L tokens → Takes test x (tokens ++ rest)) → (tokens rest : List T) →
     Then L M tokens → Takes test x (tokens ++ rest)
 Then-takes test x L M takes tokens rest member =
-    subst (λ ts. Takes test x ts) (sym (ap (λ ts. ts ++ rest) member.cut ∙ append_assoc member.front member.back rest)) (takes member.front (member.back ++ rest) member.first)
+    subst (λ ts. Takes test x ts) (sym (ap (λ ts. ts ++ rest) member.cut ∙ append_assoc member.front member.back rest))
+    (takes member.front (member.back ++ rest) member.first)

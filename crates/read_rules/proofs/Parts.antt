@@ -43,7 +43,8 @@ module _ {T A P : Type 0} (place : List T → P) (p : ℕ → Rule T A) (L : ℕ
     cut = stopped.cut;
     place = stopped.place;
     begins = let b : Begins (L room) stopped.front = stopped.begins in ((b.0, place (stopped.front ++ b.1)), b.1, (refl, b.2));
-    steady = λ more other le fits same. ap (λ r. follow r (λ value rest. Ok ((value, place (taken_of (stopped.front ++ other) rest)), rest))) (stopped.steady more other le fits same);
+    steady = λ more other le fits same. ap (λ r. follow r (λ value rest. Ok ((value, place (taken_of (stopped.front ++ other) rest)), rest)))
+        (stopped.steady more other le fits same);
     deeper = λ deep. placed_deeper stopped.front stopped.rest (stopped.deeper deep);
   }
 

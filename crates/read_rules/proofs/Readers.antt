@@ -1,7 +1,8 @@
 -- Inner: one judgement on a rule. It says that the rule reads a language exactly, with a nesting of its values, and
 -- by kinds of tokens what begins a member, whether one is empty, and what must not stand behind one. Each combinator
 -- leads from judgements on the parts to one on the whole.
-use Rattle.std.proofs.Common.{◌≡◌, ◌⊎◌, inl, inr, ℕ, ◌≤◌, max, Bool, true, false, ◌&&◌, IsTrue, List, [], ◌∷◌, ◌++◌, Option, Some, None, refl, sym, ◌∙◌, ap, subst, arith}
+use Rattle.std.proofs.Common.{◌≡◌, ◌⊎◌, inl, inr, ℕ, ◌≤◌, max, Bool, true, false, ◌&&◌, IsTrue, List, [], ◌∷◌, ◌++◌, Option, Some, None, refl, sym, ◌∙◌, ap}
+use Rattle.std.proofs.Common.{subst, arith}
 use Rattle.read_rules.specs.Languages.{Empty, One, Then, Led, Both, Placed, Within, Maybe}
 use Rattle.read_rules.specs.Choice.{Made, may}
 use Rattle.read_rules.specs.Readings.{Rule, give, mapped, both, trail, ahead, on, the, placed}
@@ -182,15 +183,27 @@ both-reads {T} {A} {B} {class} {p} {L} {d} {s} {q} {M} {e} {t} {room} r k away =
     go None first second = tt
     go (Some n) first second = (
       same-runs (λ n. both (p n) (q n)) (λ n. both (p n) (q n)) (λ n. Both (Within L d n) (Within M e n)) (Within (Both L M) (λ v. max (d v.0) (e v.1))) n
-          (λ more value tokens member. (record { front = member.front; back = member.back; cut = member.cut; first = member.first.0; second = member.second.0 }, omega (arith, member.first.1, member.second.1)))
+          (λ more value tokens member. (
+            record { front = member.front; back = member.back; cut = member.cut; first = member.first.0; second = member.second.0 },
+            omega (arith, member.first.1, member.second.1),
+          ))
           (λ _ _. refl)
           (both-runs p q (Within L d) (Within M e) (proper-lang r.lang) (proper-lang k.lang) n first.0 second.0),
       same-total (λ n. both (p n) (q n)) (λ n. Both (Within L d n) (Within M e n)) (λ _. Stops class (t.after ++ those t.empty s.after))
           (Within (Both L M) (λ v. max (d v.0) (e v.1))) (λ _. Stops class (t.after ++ those t.empty s.after)) n
-          (λ value tokens rest member stops.
-          (record { front = member.0.front; back = member.0.back; cut = member.0.cut; first = (member.0.first, omega (arith, member.1)); second = (member.0.second, omega (arith, member.1)) }, stops))
+          (λ value tokens rest member stops. (
+            record {
+              front = member.0.front;
+              back = member.0.back;
+              cut = member.0.cut;
+              first = (member.0.first, omega (arith, member.1));
+              second = (member.0.second, omega (arith, member.1));
+            },
+            stops,
+          ))
           (both-total p q (Within L d) (Within M e) (λ _. Stops class s.after) (λ _. Stops class (t.after ++ those t.empty s.after)) n
-          (λ value other middle rest member stops. stops-before class s.after t middle rest away (k.lang.begins other middle member.0) (stops-back class t.after (those t.empty s.after) rest stops))
+          (λ value other middle rest member stops. stops-before class s.after t middle rest away (k.lang.begins other middle member.0)
+          (stops-back class t.after (those t.empty s.after) rest stops))
           first.1
           (same-total q (Within M e) (λ _. Stops class t.after) (Within M e) (λ _. Stops class (t.after ++ those t.empty s.after)) n
           (λ value tokens rest member stops. (member, stops-front class t.after (those t.empty s.after) rest stops)) second.1)),
@@ -216,10 +229,27 @@ led-reads {T} {X} {A} {class} {test} {set} {p} {L} {d} {s} {room} t r = record {
     go None laws = tt
     go (Some n) laws = (
       on-runs test (λ n _. p n) (λ n _. Within L d n) (Within (λ v. Led test (λ _. L v)) d) n
-          (λ more value tokens led. (record { token = led.token; value = led.value; rest = led.rest; cut = led.cut; passes = led.passes; behind = led.behind.0 }, led.behind.1))
+          (λ more value tokens led. (
+            record {
+              token = led.token;
+              value = led.value;
+              rest = led.rest;
+              cut = led.cut;
+              passes = led.passes;
+              behind = led.behind.0;
+            },
+            led.behind.1,
+          ))
           t.token t.value t.takes (proper-lang r.lang) (λ _. laws.0),
       on-total test (λ n _. p n) (λ n _. Within L d n) (λ _. Stops class s.after) n (λ _. laws.1) (Within (λ v. Led test (λ _. L v)) d)
-          (λ value tokens member. record { token = member.0.token; value = member.0.value; rest = member.0.rest; cut = member.0.cut; passes = member.0.passes; behind = (member.0.behind, member.1) }),
+          (λ value tokens member. record {
+            token = member.0.token;
+            value = member.0.value;
+            rest = member.0.rest;
+            cut = member.0.cut;
+            passes = member.0.passes;
+            behind = (member.0.behind, member.1);
+          }),
     )
 
 -- a function of the value
@@ -349,16 +379,29 @@ may-reads {T} {class} {test} {set} {room} t = record {
     parts : (n : ℕ) (value : Unit {0}) (tokens rest : List T) → Within (λ _. Maybe test) (λ _. 0) n value tokens → Stops class set rest →
         (Led test (λ _. Empty) tokens × Unit {0}) ⊎ (Empty tokens × Unit {0} × Refuses test (tokens ++ rest))
     parts n value tokens rest (inl none, le) stops = inr (none, tt, subst (λ ts. Refuses test (ts ++ rest)) (sym none) (stops-refuse t rest stops))
-    parts n value tokens rest (inr one, le) stops = inl (record { token = one.token; value = tt; rest = []; cut = one.only; passes = one.passes; behind = refl }, tt)
+    parts n value tokens rest (inr one, le) stops = inl (
+      record {
+        token = one.token;
+        value = tt;
+        rest = [];
+        cut = one.only;
+        passes = one.passes;
+        behind = refl;
+      },
+      tt,
+    )
 
     go : (room : Option ℕ) → Laws class (λ _. may test) (λ _. Maybe test) (λ _. 0) (maybe_shape set) room
     go None = tt
     go (Some n) = (
       when-runs test (λ _. give) (λ _ _ _. Empty) (Within (λ _. Maybe test) (λ _. 0)) n
           (λ more value tokens led. (inr (record { token = led.token; only = led.cut ∙ ap (λ r. led.token ∷ r) led.behind; passes = led.passes }), omega arith))
-          (λ _. give tt) (λ _ _. Empty) (λ more value tokens none. (inl none, omega arith)) (λ x. give-runs x (λ _ _. Empty) n refl) (give-runs tt (λ _ _. Empty) n refl),
-      when-total test (λ _. give) (λ _ _ _. Empty) (λ _ _. Unit {0}) n (λ x. give-total x (λ _ _. Empty) (λ _ _. Unit {0}) n (λ other tokens none. (refl, none)))
-          (λ _. give tt) (λ _ _. Empty) (λ _ _. Unit {0}) (Within (λ _. Maybe test) (λ _. 0)) (λ _. Stops class set) (λ value tokens rest member stops. parts n value tokens rest member stops)
+          (λ _. give tt) (λ _ _. Empty) (λ more value tokens none. (inl none, omega arith)) (λ x. give-runs x (λ _ _. Empty) n refl)
+          (give-runs tt (λ _ _. Empty) n refl),
+      when-total test (λ _. give) (λ _ _ _. Empty) (λ _ _. Unit {0}) n
+          (λ x. give-total x (λ _ _. Empty) (λ _ _. Unit {0}) n (λ other tokens none. (refl, none)))
+          (λ _. give tt) (λ _ _. Empty) (λ _ _. Unit {0}) (Within (λ _. Maybe test) (λ _. 0)) (λ _. Stops class set)
+          (λ value tokens rest member stops. parts n value tokens rest member stops)
           (give-total tt (λ _ _. Empty) (λ _ _. Unit {0}) n (λ other tokens none. (refl, none))),
     )
 
@@ -381,8 +424,10 @@ placed-reads {T} {A} {P} {class} {p} {L} {d} {s} {room} place r = record {
     go (Some n) laws = (
       same-runs (λ n. placed place (p n)) (λ n. placed place (p n)) (λ n. Placed place (Within L d n)) (Within (Placed place L) (λ v. d v.0)) n
           (λ more value tokens member. ((member.0, member.1.0), member.1.1)) (λ _ _. refl) (placed-runs place p (Within L d) n laws.0),
-      same-total (λ n. placed place (p n)) (λ n. Placed place (Within L d n)) (λ _. Stops class s.after) (Within (Placed place L) (λ v. d v.0)) (λ _. Stops class s.after) n
-          (λ value tokens rest member stops. ((member.0.0, (member.0.1, member.1)), stops)) (placed-total place p (Within L d) (λ _. Stops class s.after) n laws.1),
+      same-total (λ n. placed place (p n)) (λ n. Placed place (Within L d n)) (λ _. Stops class s.after) (Within (Placed place L) (λ v. d v.0))
+          (λ _. Stops class s.after) n
+          (λ value tokens rest member stops. ((member.0.0, (member.0.1, member.1)), stops))
+          (placed-total place p (Within L d) (λ _. Stops class s.after) n laws.1),
     )
 
 -- what stands next chooses between two, and is not taken
@@ -420,7 +465,8 @@ ahead-reads {T} {X} {A} {class} {test} {set} {p} {L} {d} {s} {q} {M} {t} {room} 
     refused (token ∷ tokens) rest starts = missed k token (out-apart set t.starts (class token) away starts)
 
     parts : (n : ℕ) (value : A) (tokens rest : List T) → Within (λ v ts. L v ts ⊎ M v ts) d n value tokens → Stops class (s.after ++ t.after) rest →
-        (Within L d n value tokens × Stops class s.after rest × (x : X) × Takes test x (tokens ++ rest)) ⊎ (Within M d n value tokens × Stops class t.after rest × Refuses test (tokens ++ rest))
+        (Within L d n value tokens × Stops class s.after rest × (x : X) × Takes test x (tokens ++ rest))
+        ⊎ (Within M d n value tokens × Stops class t.after rest × Refuses test (tokens ++ rest))
     parts n value tokens rest (inl member, le) stops =
         let x = starts-take k tokens rest s inside some (r.lang.begins value tokens member) in
         inl ((member, le), stops-front class s.after t.after rest stops, x.0, x.1)
@@ -433,6 +479,7 @@ ahead-reads {T} {X} {A} {class} {test} {set} {p} {L} {d} {s} {q} {M} {t} {room} 
     go (Some n) laws laws' = (
       ahead-runs test p q (Within L d) (Within M d) (Within (λ v ts. L v ts ⊎ M v ts) d) n
           (λ more value tokens member. (inl member.0, member.1)) (λ more value tokens member. (inr member.0, member.1)) laws.0 laws'.0,
-      ahead-total test p q (Within L d) (Within M d) (λ _. Stops class s.after) (λ _. Stops class t.after) (Within (λ v ts. L v ts ⊎ M v ts) d) (λ _. Stops class (s.after ++ t.after)) n
+      ahead-total test p q (Within L d) (Within M d) (λ _. Stops class s.after) (λ _. Stops class t.after) (Within (λ v ts. L v ts ⊎ M v ts) d)
+          (λ _. Stops class (s.after ++ t.after)) n
           (λ value tokens rest member stops. parts n value tokens rest member stops) laws.1 laws'.1,
     )

@@ -21,7 +21,8 @@ give-runs value W room member tokens = record {
 
 -- the next token does not change from the fault's place on, whatever the language in which it is deeper
 deeper-into : {T A B : Type 0} (L : ℕ → A → List T → Type 0) (W : ℕ → B → List T → Type 0) (into : A → B)
-    (widen : (n : ℕ) (value : A) (tokens : List T) → L n value tokens → W n (into value) tokens) (front rest : List T) → BeginsDeeper L front rest → BeginsDeeper W front rest
+    (widen : (n : ℕ) (value : A) (tokens : List T) → L n value tokens → W n (into value) tokens) (front rest : List T) → BeginsDeeper L front rest →
+    BeginsDeeper W front rest
 deeper-into L W into widen front [] deeper = deeper
 deeper-into L W into widen front (token ∷ rest) deeper =
     (deeper.0, into deeper.1, deeper.2, widen deeper.0 deeper.1 (front ++ token ∷ deeper.2) deeper.3)
@@ -35,7 +36,8 @@ module _ {T A : Type 0} (p w : ℕ → Rule T A) (L W : ℕ → A → List T →
     front = took.front;
     cut = took.cut;
     member = widen room found.0 took.front took.member;
-    steady = λ more other le same. same_rule more (took.front ++ other) le (next_of-append_cut tokens took.front other found.1 took.cut same) ∙ took.steady more other le same;
+    steady = λ more other le same. same_rule more (took.front ++ other) le (next_of-append_cut tokens took.front other found.1 took.cut same)
+        ∙ took.steady more other le same;
   }
   passed_on (Err fault) stopped = record {
     front = stopped.front;
@@ -43,7 +45,8 @@ module _ {T A : Type 0} (p w : ℕ → Rule T A) (L W : ℕ → A → List T →
     cut = stopped.cut;
     place = stopped.place;
     begins = let b : Begins (L room) stopped.front = stopped.begins in (b.0, b.1, widen room b.0 (stopped.front ++ b.1) b.2);
-    steady = λ more other le fits same. same_rule more (stopped.front ++ other) le (next_of-append_cut tokens stopped.front other stopped.rest stopped.cut same) ∙ stopped.steady more other le fits same;
+    steady = λ more other le fits same. same_rule more (stopped.front ++ other) le (next_of-append_cut tokens stopped.front other stopped.rest stopped.cut same)
+        ∙ stopped.steady more other le fits same;
     deeper = λ deep. deeper-into L W (λ value. value) widen stopped.front stopped.rest (stopped.deeper deep);
   }
 
@@ -52,7 +55,8 @@ pub same-runs : {T A : Type 0} (p w : ℕ → Rule T A) (L W : ℕ → A → Lis
     ((n : ℕ) (value : A) (tokens : List T) → L n value tokens → W n value tokens) →
     ((n : ℕ) (tokens : List T) → w n tokens ≡ p n tokens) → Runs p L room → Runs w W room
 same-runs p w L W room widen same runs tokens =
-    subst (λ r. Answers w W room tokens r) (sym (same room tokens)) (passed_on p w L W room tokens widen (λ more other le alike. same more other) (p room tokens) (runs tokens))
+    subst (λ r. Answers w W room tokens r) (sym (same room tokens))
+    (passed_on p w L W room tokens widen (λ more other le alike. same more other) (p room tokens) (runs tokens))
 
 -- a function of the value
 module _ {T A B : Type 0} (f : A → B) (p : ℕ → Rule T A) (L : ℕ → A → List T → Type 0)
@@ -126,7 +130,8 @@ module _ {T A B : Type 0} (p : ℕ → Rule T A) (q : ℕ → Rule T B) (L : ℕ
     member = record { front = took.front; back = took'.front; cut = refl; first = took.member; second = took'.member };
     steady = λ more other le same.
         ap (both (p more) (q more)) (append_assoc took.front took'.front other)
-        ∙ ap (λ r. follow r (λ v. mapped (λ o. (v, o)) (q more))) (took.steady more (took'.front ++ other) le (next_of-append_cut rest took'.front other found.1 took'.cut same))
+        ∙ ap (λ r. follow r (λ v. mapped (λ o. (v, o)) (q more))) (took.steady more (took'.front ++ other) le
+        (next_of-append_cut rest took'.front other found.1 took'.cut same))
         ∙ ap (λ r. follow r (λ o. give (value, o))) (took'.steady more other le same);
   }
   second_on tokens value rest took (Err fault) stopped = record {
@@ -134,11 +139,21 @@ module _ {T A B : Type 0} (p : ℕ → Rule T A) (q : ℕ → Rule T B) (L : ℕ
     rest = stopped.rest;
     cut = took.cut ∙ ap (λ r. took.front ++ r) stopped.cut ∙ sym (append_assoc took.front stopped.front stopped.rest);
     place = stopped.place;
-    begins = let b : Begins (M room) stopped.front = stopped.begins in
-        ((value, b.0), b.1, record { front = took.front; back = stopped.front ++ b.1; cut = append_assoc took.front stopped.front b.1; first = took.member; second = b.2 });
+    begins = let b : Begins (M room) stopped.front = stopped.begins in (
+      (value, b.0),
+      b.1,
+      record {
+        front = took.front;
+        back = stopped.front ++ b.1;
+        cut = append_assoc took.front stopped.front b.1;
+        first = took.member;
+        second = b.2;
+      },
+    );
     steady = λ more other le fits same.
         ap (both (p more) (q more)) (append_assoc took.front stopped.front other)
-        ∙ ap (λ r. follow r (λ v. mapped (λ o. (v, o)) (q more))) (took.steady more (stopped.front ++ other) le (next_of-append_cut rest stopped.front other stopped.rest stopped.cut same))
+        ∙ ap (λ r. follow r (λ v. mapped (λ o. (v, o)) (q more))) (took.steady more (stopped.front ++ other) le
+        (next_of-append_cut rest stopped.front other stopped.rest stopped.cut same))
         ∙ ap (λ r. follow r (λ o. give (value, o))) (stopped.steady more other le fits same);
     deeper = λ deep. deeper-second L M proper_l proper_m room value took.front took.member stopped.front stopped.rest (stopped.deeper deep);
   }
@@ -207,7 +222,8 @@ module _ {T A B : Type 0} (p : ℕ → Rule T A) (q : ℕ → Rule T B) (L : ℕ
       ((n : ℕ) (value : A) (other : B) (tokens : List T) → Then (L n value) (M n other) tokens → W n other tokens) →
       Runs (λ n. lead (p n) (q n)) W room
   lead-runs W widen =
-      same-runs (λ n. mapped (λ v. v.1) (both (p n) (q n))) (λ n. lead (p n) (q n)) W W room (λ n value tokens member. member) (λ n tokens. lead-is (p n) (q n) tokens)
+      same-runs (λ n. mapped (λ v. v.1) (both (p n) (q n))) (λ n. lead (p n) (q n)) W W room (λ n value tokens member. member)
+      (λ n tokens. lead-is (p n) (q n) tokens)
       (mapped-runs (λ v. v.1) (λ n. both (p n) (q n)) (λ n. Both (L n) (M n)) W room (λ n value tokens member. widen n value.0 value.1 tokens member)
       (both-runs p q L M proper_l proper_m room runs_p runs_q))
 
@@ -215,7 +231,8 @@ module _ {T A B : Type 0} (p : ℕ → Rule T A) (q : ℕ → Rule T B) (L : ℕ
       ((n : ℕ) (value : A) (other : B) (tokens : List T) → Then (L n value) (M n other) tokens → W n value tokens) →
       Runs (λ n. trail (p n) (q n)) W room
   trail-runs W widen =
-      same-runs (λ n. mapped (λ v. v.0) (both (p n) (q n))) (λ n. trail (p n) (q n)) W W room (λ n value tokens member. member) (λ n tokens. trail-is (p n) (q n) tokens)
+      same-runs (λ n. mapped (λ v. v.0) (both (p n) (q n))) (λ n. trail (p n) (q n)) W W room (λ n value tokens member. member)
+      (λ n tokens. trail-is (p n) (q n) tokens)
       (mapped-runs (λ v. v.0) (λ n. both (p n) (q n)) (λ n. Both (L n) (M n)) W room (λ n value tokens member. widen n value.0 value.1 tokens member)
       (both-runs p q L M proper_l proper_m room runs_p runs_q))
 
@@ -269,7 +286,8 @@ module _ {T X A : Type 0} (test : T → Option X) (p : ℕ → X → Rule T A) (
       Answers (λ n. when test (p n) (q n)) W room (token ∷ rest) (p room x rest)
   led_on q token x takes rest =
       taken_on (λ n. p n x) (λ n. when test (p n) (q n)) (λ n. L n x) W room token
-      (λ n value tokens member. widen n value (token ∷ tokens) (record { token = token; value = x; rest = tokens; cut = refl; passes = takes; behind = member }))
+      (λ n value tokens member. widen n value (token ∷ tokens) (record
+      { token = token; value = x; rest = tokens; cut = refl; passes = takes; behind = member }))
       (λ more other. when-taken test (p more) (q more) token other x takes)
       rest (p room x rest)
 
@@ -278,12 +296,15 @@ module _ {T X A : Type 0} (test : T → Option X) (p : ℕ → X → Rule T A) (
       ((x : X) → Runs (λ n. p n x) (λ n. L n x) room) → Runs q M room →
       Runs (λ n. when test (p n) (q n)) W room
   when-runs q M otherwise runs_p runs_q [] =
-      passed_on q (λ n. when test (p n) (q n)) M W room [] otherwise (λ more other le same. when-refused test (p more) (q more) other (Refuses-alike test [] other same tt)) (q room []) (runs_q [])
+      passed_on q (λ n. when test (p n) (q n)) M W room [] otherwise
+      (λ more other le same. when-refused test (p more) (q more) other (Refuses-alike test [] other same tt)) (q room []) (runs_q [])
   when-runs q M otherwise runs_p runs_q (token ∷ rest) = go (test token) refl
     where
       go : (o : Option X) → test token ≡ o → Answers (λ n. when test (p n) (q n)) W room (token ∷ rest)
           (option_map_or {T = X × List T} (λ found. p room found.0 found.1) (option_map (λ value. (value, rest)) o) (q room (token ∷ rest)))
-      go None is = passed_on q (λ n. when test (p n) (q n)) M W room (token ∷ rest) otherwise (λ more other le same. when-refused test (p more) (q more) other (Refuses-alike test (token ∷ rest) other same is)) (q room (token ∷ rest)) (runs_q (token ∷ rest))
+      go None is = passed_on q (λ n. when test (p n) (q n)) M W room (token ∷ rest) otherwise
+          (λ more other le same. when-refused test (p more) (q more) other (Refuses-alike test (token ∷ rest) other same is)) (q room (token ∷ rest))
+          (runs_q (token ∷ rest))
       go (Some x) is = led_on q token x is rest (runs_p x rest)
 
   pub on-runs : (token : T) (x : X) → test token ≡ Some x → Proper (λ n. L n x) →
@@ -307,11 +328,13 @@ module _ {T X A : Type 0} (test : T → Option X) (p : ℕ → X → Rule T A) (
       at : (token : T) (rest : List T) (o : Option X) → test token ≡ o →
           Answers (λ n. on test (p n)) W room (token ∷ rest)
           (option_map_or {T = X × List T} (λ found. p room found.0 found.1) (option_map (λ value. (value, rest)) o) (refuse (token ∷ rest)))
-      at token rest None is = refused_here (λ n. on test (p n)) W room (token ∷ rest) begins (λ more other same. when-refused test (p more) refuse other (Refuses-alike test (token ∷ rest) other same is))
+      at token rest None is = refused_here (λ n. on test (p n)) W room (token ∷ rest) begins
+          (λ more other same. when-refused test (p more) refuse other (Refuses-alike test (token ∷ rest) other same is))
       at token rest (Some x) is = led_on (λ _. refuse) token x is rest (runs_p x rest)
 
       go : (tokens : List T) → Answers (λ n. on test (p n)) W room tokens (on test (p room) tokens)
-      go [] = refused_here (λ n. on test (p n)) W room [] begins (λ more other same. when-refused test (p more) refuse other (Refuses-alike test [] other same tt))
+      go [] = refused_here (λ n. on test (p n)) W room [] begins (λ more other same.
+          when-refused test (p more) refuse other (Refuses-alike test [] other same tt))
       go (token ∷ rest) = at token rest (test token) refl
 
 -- a choice by the next token, which is not taken
@@ -321,13 +344,18 @@ pub ahead-runs : {T X A : Type 0} (test : T → Option X) (p q : ℕ → Rule T 
     ((n : ℕ) (value : A) (tokens : List T) → M n value tokens → W n value tokens) → Runs p L room →
     Runs q M room → Runs (λ n. ahead test (p n) (q n)) W room
 ahead-runs test p q L M W room widen otherwise runs_p runs_q [] =
-    passed_on q (λ n. ahead test (p n) (q n)) M W room [] otherwise (λ more other le same. ahead-refused test (p more) (q more) other (Refuses-alike test [] other same tt)) (q room []) (runs_q [])
+    passed_on q (λ n. ahead test (p n) (q n)) M W room [] otherwise
+    (λ more other le same. ahead-refused test (p more) (q more) other (Refuses-alike test [] other same tt)) (q room []) (runs_q [])
 ahead-runs {T} {X} {A} test p q L M W room widen otherwise runs_p runs_q (token ∷ rest) = go (test token) refl
   where
     go : (o : Option X) → test token ≡ o → Answers (λ n. ahead test (p n) (q n)) W room (token ∷ rest)
         (option_map_or {T = X × List T} (λ _. p room (token ∷ rest)) (option_map (λ value. (value, rest)) o) (q room (token ∷ rest)))
-    go None is = passed_on q (λ n. ahead test (p n) (q n)) M W room (token ∷ rest) otherwise (λ more other le same. ahead-refused test (p more) (q more) other (Refuses-alike test (token ∷ rest) other same is)) (q room (token ∷ rest)) (runs_q (token ∷ rest))
-    go (Some x) is = passed_on p (λ n. ahead test (p n) (q n)) L W room (token ∷ rest) widen (λ more other le same. ahead-taken test (p more) (q more) other x (Takes-alike test x (token ∷ rest) other same is)) (p room (token ∷ rest)) (runs_p (token ∷ rest))
+    go None is = passed_on q (λ n. ahead test (p n) (q n)) M W room (token ∷ rest) otherwise
+        (λ more other le same. ahead-refused test (p more) (q more) other (Refuses-alike test (token ∷ rest) other same is)) (q room (token ∷ rest))
+        (runs_q (token ∷ rest))
+    go (Some x) is = passed_on p (λ n. ahead test (p n) (q n)) L W room (token ∷ rest) widen
+        (λ more other le same. ahead-taken test (p more) (q more) other x (Takes-alike test x (token ∷ rest) other same is)) (p room (token ∷ rest))
+        (runs_p (token ∷ rest))
 
 -- one value, with no token
 abbrev pub OnlyValue : {T A : Type 0} → A → A → List T → Type 0

@@ -92,7 +92,8 @@ pub has-within : (js ks : List ℕ) (k : ℕ) → IsTrue (within js ks) → has 
 has-within [] ks k inside is = cc
 has-within (j ∷ js) ks k inside is = go (λ h e. has-within js ks k h e) (has ks j) refl inside (eqb j k) refl is
   where
-    go : (IsTrue (within js ks) → has js k ≡ true → has ks k ≡ true) → (b : Bool) → has ks j ≡ b → IsTrue (cond b (within js ks) false) → (c : Bool) → eqb j k ≡ c → cond c true (has js k) ≡ true → has ks k ≡ true
+    go : (IsTrue (within js ks) → has js k ≡ true → has ks k ≡ true) → (b : Bool) → has ks j ≡ b → IsTrue (cond b (within js ks) false) → (c : Bool) →
+        eqb j k ≡ c → cond c true (has js k) ≡ true → has ks k ≡ true
     go others true at inside true same is = ap (has ks) (sym (eqb-true j k same)) ∙ at
     go others true at inside false same is = others inside is
     go others false at inside c same is = cc
@@ -109,7 +110,8 @@ pub out-apart : (js ks : List ℕ) (k : ℕ) → IsTrue (apart js ks) → has ks
 out-apart [] ks k away is = refl
 out-apart (j ∷ js) ks k away is = go (λ h. out-apart js ks k h is) (has ks j) refl away (eqb j k) refl
   where
-    go : (IsTrue (apart js ks) → has js k ≡ false) → (b : Bool) → has ks j ≡ b → IsTrue (cond b false (apart js ks)) → (c : Bool) → eqb j k ≡ c → cond c true (has js k) ≡ false
+    go : (IsTrue (apart js ks) → has js k ≡ false) → (b : Bool) → has ks j ≡ b → IsTrue (cond b false (apart js ks)) → (c : Bool) → eqb j k ≡ c →
+        cond c true (has js k) ≡ false
     go others true at away c same = cc
     go others false at away true same = let e = ap (has ks) (eqb-true j k same) in cc
     go others false at away false same = others away

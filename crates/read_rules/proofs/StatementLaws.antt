@@ -8,7 +8,8 @@ use Rattle.read_rules.specs.Languages.{Empty, One, Then, Led, Both, Loop, Maybe,
 use Rattle.read_rules.specs.Choice.{Made, Only, adds, fits}
 use Rattle.read_rules.specs.Readings.{Rule, whole}
 use Rattle.read_rules.specs.Exact.{Exactly}
-use Rattle.read_rules.specs.StatementGrammar.{Plain, Nothing, Pause, Group, Sequence, Plains, NoPlains, More, nothing, pause, semicolon, open_bracket, close_bracket, Item, Items, Spells, SpellsOthers, nesting, deepest, IsStatement}
+use Rattle.read_rules.specs.StatementGrammar.{Plain, Nothing, Pause, Group, Sequence, Plains, NoPlains, More, nothing, pause, semicolon, open_bracket}
+use Rattle.read_rules.specs.StatementGrammar.{close_bracket, Item, Items, Spells, SpellsOthers, nesting, deepest, IsStatement}
 use Rattle.read_rules.specs.StatementReading.{opening, is_deep, behind, plains, list_of, item, step, items, statement, inside}
 use Rattle.read_rules.proofs.Sets.{has, Test, test-of}
 use Rattle.read_rules.proofs.Nesting.{Below, by_room}
@@ -57,9 +58,12 @@ Behind openings.Group = Made Group (λ body. Then (Spells Items body) (One close
 one-led : {X : Type 0} {test : Token → Option X} (token : Token) (x : X) (rest : List Token) → test token ≡ Some x → Empty rest → One test x (token ∷ rest)
 one-led token x rest takes none = record { token = token; only = ap (λ r. token ∷ r) none; passes = takes }
 
-behind-item : (token : Token) (rest : List Token) (o : Opening) → opening token ≡ Some o → (value : Plain) → Behind o value rest → Spells Item value (token ∷ rest)
-behind-item kinds.Nothing rest openings.Nothing takes value made = subst (λ v. Spells Item v (kinds.Nothing ∷ rest)) made.1 (one-led {test = nothing} kinds.Nothing tt rest refl made.2)
-behind-item kinds.Pause rest openings.Pause takes value made = subst (λ v. Spells Item v (kinds.Pause ∷ rest)) made.1 (one-led {test = pause} kinds.Pause tt rest refl made.2)
+behind-item : (token : Token) (rest : List Token) (o : Opening) → opening token ≡ Some o → (value : Plain) → Behind o value rest →
+    Spells Item value (token ∷ rest)
+behind-item kinds.Nothing rest openings.Nothing takes value made =
+    subst (λ v. Spells Item v (kinds.Nothing ∷ rest)) made.1 (one-led {test = nothing} kinds.Nothing tt rest refl made.2)
+behind-item kinds.Pause rest openings.Pause takes value made = subst (λ v. Spells Item v (kinds.Pause ∷ rest)) made.1
+    (one-led {test = pause} kinds.Pause tt rest refl made.2)
 behind-item kinds.Open rest openings.Group takes value made =
     subst (λ v. Spells Item v (kinds.Open ∷ rest)) made.1 (record { token = kinds.Open; value = tt; rest = rest; cut = refl; passes = refl; behind = made.2 })
 behind-item _ rest _ takes value made = cc
@@ -80,9 +84,30 @@ opens_group kinds.Open is = refl
 opens_group _ is = cc
 
 item-from : (value : Plain) (tokens : List Token) → Spells Item value tokens → Led opening (λ o. Behind o value) tokens
-item-from Nothing tokens one = record { token = one.token; value = openings.Nothing; rest = []; cut = one.only; passes = opens_nothing one.token one.passes; behind = (tt, refl, refl) }
-item-from Pause tokens one = record { token = one.token; value = openings.Pause; rest = []; cut = one.only; passes = opens_pause one.token one.passes; behind = (tt, refl, refl) }
-item-from (Group body) tokens led = record { token = led.token; value = openings.Group; rest = led.rest; cut = led.cut; passes = opens_group led.token led.passes; behind = (body, refl, led.behind) }
+item-from Nothing tokens one = record {
+  token = one.token;
+  value = openings.Nothing;
+  rest = [];
+  cut = one.only;
+  passes = opens_nothing one.token one.passes;
+  behind = (tt, refl, refl);
+}
+item-from Pause tokens one = record {
+  token = one.token;
+  value = openings.Pause;
+  rest = [];
+  cut = one.only;
+  passes = opens_pause one.token one.passes;
+  behind = (tt, refl, refl);
+}
+item-from (Group body) tokens led = record {
+  token = led.token;
+  value = openings.Group;
+  rest = led.rest;
+  cut = led.cut;
+  passes = opens_group led.token led.passes;
+  behind = (body, refl, led.behind);
+}
 item-from (Sequence parts) tokens member = absurd member
 
 -- A list is its items.
@@ -109,11 +134,23 @@ list-nesting (plain, next ∷ others) = ap (λ n. max (nesting plain) (max (nest
 
 others-to : (others : List Plain) (tokens : List Token) → Loop Step others tokens → SpellsOthers (plains others) tokens
 others-to [] tokens member = member
-others-to (plain ∷ others) tokens member = record { front = member.front; back = member.back; cut = member.cut; first = member.first; second = others-to others member.back member.second }
+others-to (plain ∷ others) tokens member = record {
+  front = member.front;
+  back = member.back;
+  cut = member.cut;
+  first = member.first;
+  second = others-to others member.back member.second;
+}
 
 others-from : (others : Plains) (tokens : List Token) → SpellsOthers others tokens → Loop Step (items_of others) tokens
 others-from NoPlains tokens member = member
-others-from (More plain others) tokens member = record { front = member.front; back = member.back; cut = member.cut; first = member.first; second = others-from others member.back member.second }
+others-from (More plain others) tokens member = record {
+  front = member.front;
+  back = member.back;
+  cut = member.cut;
+  first = member.first;
+  second = others-from others member.back member.second;
+}
 
 alone : (value : Plain) (tokens : List Token) → Then (Spells Item value) (Maybe semicolon) tokens → Spells Items value tokens
 alone (Sequence parts) tokens member = absurd member.first
@@ -143,7 +180,13 @@ list-from (Sequence (More plain (More next others))) tokens member =
         back = member.back;
         cut = member.cut;
         first = member.first;
-        second = record { front = behind.front; back = behind.back; cut = behind.cut; first = behind.first; second = others-from others behind.back behind.second };
+        second = record {
+          front = behind.front;
+          back = behind.back;
+          cut = behind.cut;
+          first = behind.first;
+          second = others-from others behind.back behind.second;
+        };
       },
     )
 list-from (Sequence (More plain NoPlains)) tokens member = absurd member.second
@@ -173,7 +216,8 @@ statement-is (suc n) tokens = refl
 nothing-arm : {room : Option ℕ} → Arm class nesting false [] (λ n. rule openings.Nothing n) (Behind openings.Nothing) room
 nothing-arm = arm (λ _. Nothing) give-reads (λ _. refl) refl
 
-arms : (room : ℕ) → IsRead (fits true room) → (o : Opening) → Arm class nesting (is_deep o) [] (λ n. rule o (adds (is_deep o) n)) (Behind o) (fits (is_deep o) room)
+arms : (room : ℕ) → IsRead (fits true room) → (o : Opening) → Arm class nesting (is_deep o) [] (λ n. rule o (adds (is_deep o) n)) (Behind o)
+    (fits (is_deep o) room)
 arms room k openings.Nothing = nothing-arm
 arms room k openings.Pause = arm (λ _. Pause) give-reads (λ _. refl) refl
 arms room k openings.Group = arm Group (trail-reads k (the-reads close_bracket-test) refl) (λ _. refl) refl
@@ -191,7 +235,8 @@ steps k = trailing-steps semicolon-test opening-test k refl refl
 items-reads : {room : Option ℕ} → Reads class (λ n. item n (inside n)) (Spells Item) nesting item_shape room → IsRead room
 items-reads k =
     same-reads statement
-    (shape-reads list_shape (made-reads (λ value. list_of (value.0 ∷ value.1)) (Spells Items) nesting (both-reads k (loop-reads (steps k) refl) refl) list-nesting list-to list-from) refl refl refl)
+    (shape-reads list_shape (made-reads (λ value. list_of (value.0 ∷ value.1)) (Spells Items) nesting
+    (both-reads k (loop-reads (steps k) refl) refl) list-nesting list-to list-from) refl refl refl)
     statement-is
 
 alone-reads : IsRead None

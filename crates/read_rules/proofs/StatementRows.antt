@@ -2,7 +2,8 @@
 use Rattle.std.proofs.Common.{◌≡◌, ◌<◌, List, [], ◌∷◌, length, map, refl, ◌∙◌, ap, arith}
 use Rattle.std.specs.declared.alloc.Global.{Global}
 use Rattle.std.specs.declared.vec.Vec.{Vec}
-use Rattle.read_rules.specs.declared.statements.Statement.{Statement, Row_of-Statement, end_of-Statement, more_of-Statement, items-the_row-Statement, items_hidden-the_row-Statement-0}
+use Rattle.read_rules.specs.declared.statements.Statement.{Statement, Row_of-Statement, end_of-Statement, more_of-Statement, items-the_row-Statement}
+use Rattle.read_rules.specs.declared.statements.Statement.{items_hidden-the_row-Statement-0}
 use Rattle.read_rules.specs.declared.statements.Statement.TheBlock.{hidden-the_row-Statement-0}
 use Rattle.read_rules.specs.declared.statements.Statement.TheVariants as code
 use Rattle.read_rules.specs.StatementGrammar.{Plain, Sequence, plain_of, plains_of, More}

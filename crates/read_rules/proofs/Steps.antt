@@ -1,5 +1,6 @@
 -- Inner: judgements on the steps of lists, on lists, and on parts that may be left out.
-use Rattle.std.proofs.Common.{◌≡◌, ◌⊎◌, inl, inr, ℕ, ◌<◌, ◌≤◌, max, Bool, true, false, IsTrue, List, [], ◌∷◌, ◌++◌, length, Option, Some, None, Ok, is_some, refl, sym, ◌∙◌, ap, subst, arith}
+use Rattle.std.proofs.Common.{◌≡◌, ◌⊎◌, inl, inr, ℕ, ◌<◌, ◌≤◌, max, Bool, true, false, IsTrue, List, [], ◌∷◌, ◌++◌, length, Option, Some, None, Ok, is_some}
+use Rattle.std.proofs.Common.{refl, sym, ◌∙◌, ap, subst, arith}
 use Rattle.std.proofs.lemmas.List.{append_assoc}
 use Rattle.read_rules.specs.Languages.{Led, Optional, Loop, Within, Maybe, Parted}
 use Rattle.read_rules.specs.Choice.{Made, optional_or, trailing}
@@ -13,7 +14,8 @@ use Rattle.read_rules.proofs.Runs.{give-runs, mapped-runs, same-runs, when-runs}
 use Rattle.read_rules.proofs.Parts.{OnlyNone, maybe-runs}
 use Rattle.read_rules.proofs.Loops.{Advances, loop-runs, Advances-runs, loop-more, mapped-same}
 use Rattle.read_rules.proofs.Totals.{AfterOptional, give-total, mapped-total, when-total, maybe-total, loop-total}
-use Rattle.read_rules.proofs.Readers.{Shape, one_shape, maybe_shape, Starts, Stops, Laws, Reads, stops-front, stops-back, stops-before, stops-refuse, starts-take, same-total}
+use Rattle.read_rules.proofs.Readers.{Shape, one_shape, maybe_shape, Starts, Stops, Laws, Reads, stops-front, stops-back, stops-before, stops-refuse}
+use Rattle.read_rules.proofs.Readers.{starts-take, same-total}
 
 -- What begins a step, whether the end of a list may be empty, what must not stand behind a step, and what not behind
 -- the end.
@@ -40,7 +42,8 @@ StepLaws class p S d t None = Unit {0}
 StepLaws class p S d t (Some room) = Runs p (Within S (step_depth d)) room × Totally p (Within S (step_depth d)) (AfterStep class t) room
 
 -- the judgement on a step
-pub record Steps {T A : Type 0} (class : T → ℕ) (p : ℕ → Rule T (Option A)) (S : Option A → List T → Type 0) (d : A → ℕ) (t : Turn) (room : Option ℕ) : Type 0 where
+pub record Steps {T A : Type 0} (class : T → ℕ) (p : ℕ → Rule T (Option A)) (S : Option A → List T → Type 0) (d : A → ℕ) (t : Turn)
+    (room : Option ℕ) : Type 0 where
   pub opens : (value : A) (tokens : List T) → S (Some value) tokens → Starts class (one_shape t.starts) tokens
   pub closes : (tokens : List T) → S None tokens → Starts class (record { starts = t.starts; empty = t.empty; after = [] }) tokens
   pub end : List T
@@ -56,7 +59,8 @@ module _ {T X A : Type 0} (class : T → ℕ) (test : T → Option X) (set : Lis
     (away : IsTrue (apart set t.starts)) where
   or_opens : (r : Option ℕ) → Reads class p L d s r → Reads class q E (λ _. 0) t r → (value : A) (tokens : List T) →
       Led test (λ _. L value) tokens → Starts class (one_shape (set ++ t.starts)) tokens
-  or_opens r first other value tokens led = subst (Starts class (one_shape (set ++ t.starts))) (sym led.cut) (has-front set t.starts (class led.token) (k.hit led.token led.value led.passes))
+  or_opens r first other value tokens led = subst (Starts class (one_shape (set ++ t.starts))) (sym led.cut)
+      (has-front set t.starts (class led.token) (k.hit led.token led.value led.passes))
 
   or_closes : (tokens : List T) → Starts class t tokens → Starts class (record { starts = set ++ t.starts; empty = t.empty; after = [] }) tokens
   or_closes [] starts = starts
@@ -78,12 +82,16 @@ module _ {T X A : Type 0} (class : T → ℕ) (test : T → Option X) (set : Lis
       ⊎ (Made {A = Unit {0}} (λ _. None) (λ _. Within E (λ _. 0) n tt) value tokens × Stops class t.after rest × Refuses test (tokens ++ rest))
   or_parts r other n (Some value) tokens rest member stops =
       let led = member.0 in
-      inl (record { token = led.token; value = led.value; rest = led.rest; cut = led.cut; passes = led.passes; behind = (value, refl, (led.behind, member.1)) }, stops)
+      inl (
+        record { token = led.token; value = led.value; rest = led.rest; cut = led.cut; passes = led.passes; behind = (value, refl, (led.behind, member.1)) },
+        stops,
+      )
   or_parts r other n None tokens rest member stops =
       inr (
         (tt, refl, (member.0, omega arith)),
         stops-front class t.after (those t.empty set) rest stops,
-        stops-refuse k (tokens ++ rest) (stops-before class set t tokens rest away (other.lang.begins tt tokens member.0) (stops-back class t.after (those t.empty set) rest stops)),
+        stops-refuse k (tokens ++ rest) (stops-before class set t tokens rest away (other.lang.begins tt tokens member.0)
+            (stops-back class t.after (those t.empty set) rest stops)),
       )
 
   or_laws : (room : Option ℕ) → Reads class p L d s room → Reads class q E (λ _. 0) t room → Laws class p L d s room → Laws class q E (λ _. 0) t room →
@@ -93,13 +101,16 @@ module _ {T X A : Type 0} (class : T → ℕ) (test : T → Option X) (set : Lis
     when-runs test (λ n _. mapped Some (p n)) (λ n _. Made Some (Within L d n)) (Within (Parted test (λ _. L) (E tt)) (step_depth d)) n or_widen
         (λ n. mapped (λ _. None) (q n)) (λ n. Made {A = Unit {0}} (λ _. None) (λ _. Within E (λ _. 0) n tt)) or_end
         (λ _. mapped-runs Some p (Within L d) (λ n. Made Some (Within L d n)) n (λ n value tokens member. (value, refl, member)) laws.0)
-        (mapped-runs {A = Unit {0}} (λ _. None) q (Within E (λ _. 0)) (λ n. Made {A = Unit {0}} (λ _. None) (λ _. Within E (λ _. 0) n tt)) n (λ n value tokens member. (tt, refl, member)) laws'.0),
+        (mapped-runs {A = Unit {0}} (λ _. None) q (Within E (λ _. 0)) (λ n. Made {A = Unit {0}} (λ _. None) (λ _. Within E (λ _. 0) n tt)) n
+        (λ n value tokens member. (tt, refl, member)) laws'.0),
     when-total test (λ n _. mapped Some (p n)) (λ n _. Made Some (Within L d n)) (AfterStep class (or_turn set s t)) n
         (λ _. mapped-total Some p (Within L d) (λ _. Stops class s.after) (λ n. Made Some (Within L d n)) (AfterStep class (or_turn set s t)) n
         (λ value tokens rest member stops. (member.0, member.1, member.2, subst (λ o. AfterStep class (or_turn set s t) o rest) (sym member.1) stops)) laws.1)
         (λ n. mapped (λ _. None) (q n)) (λ n. Made {A = Unit {0}} (λ _. None) (λ _. Within E (λ _. 0) n tt)) (λ _. Stops class t.after)
-        (Within (Parted test (λ _. L) (E tt)) (step_depth d)) (AfterStep class (or_turn set s t)) (λ value tokens rest member stops. or_parts (Some n) other n value tokens rest member stops)
-        (mapped-total {A = Unit {0}} (λ _. None) q (Within E (λ _. 0)) (λ _. Stops class t.after) (λ n. Made {A = Unit {0}} (λ _. None) (λ _. Within E (λ _. 0) n tt)) (λ _. Stops class t.after) n
+        (Within (Parted test (λ _. L) (E tt)) (step_depth d)) (AfterStep class (or_turn set s t))
+        (λ value tokens rest member stops. or_parts (Some n) other n value tokens rest member stops)
+        (mapped-total {A = Unit {0}} (λ _. None) q (Within E (λ _. 0)) (λ _. Stops class t.after)
+        (λ n. Made {A = Unit {0}} (λ _. None) (λ _. Within E (λ _. 0) n tt)) (λ _. Stops class t.after) n
         (λ value tokens rest member stops. (tt, member.1, member.2, stops)) laws'.1),
   )
 
@@ -129,12 +140,14 @@ module _ {T X A : Type 0} (class : T → ℕ) (start : T → Option X) (set : Li
   look_to n None tokens member = (member, omega arith)
   look_to n (Some value) tokens member = member
 
-  look_from : (n : ℕ) (value : Option A) (tokens rest : List T) → Within (Optional L) (step_depth d) n value tokens → AfterStep class (look_turn set s) value rest →
+  look_from : (n : ℕ) (value : Option A) (tokens rest : List T) → Within (Optional L) (step_depth d) n value tokens →
+      AfterStep class (look_turn set s) value rest →
       Optional (Within L d n) value tokens × AfterOptional (Stops class set) (λ _. Stops class s.after) value rest
   look_from n None tokens rest member stops = (member.0, stops)
   look_from n (Some value) tokens rest member stops = (member, stops)
 
-  look_total : (n : ℕ) → Reads class p L d s (Some n) → Totally (λ n. maybe start (p n)) (λ n. Optional (Within L d n)) (AfterOptional (Stops class set) (λ _. Stops class s.after)) n
+  look_total : (n : ℕ) → Reads class p L d s (Some n) → Totally (λ n. maybe start (p n)) (λ n. Optional (Within L d n))
+      (AfterOptional (Stops class set) (λ _. Stops class s.after)) n
   look_total n r =
       maybe-total start p (Within L d) (λ _. Stops class s.after) (Stops class set) n (λ rest stops. stops-refuse k rest stops)
       (λ value tokens rest member. starts-take k tokens rest s inside some (r.lang.begins value tokens member.0)) r.laws.1
@@ -145,7 +158,8 @@ module _ {T X A : Type 0} (class : T → ℕ) (start : T → Option X) (set : Li
     same-runs (λ n. maybe start (p n)) (λ n. maybe start (p n)) (λ n. Optional (Within L d n)) (Within (Optional L) (step_depth d)) n look_to (λ _ _. refl)
         (maybe-runs start p (Within L d) n r.laws.0),
     same-total (λ n. maybe start (p n)) (λ n. Optional (Within L d n)) (AfterOptional (Stops class set) (λ _. Stops class s.after))
-        (Within (Optional L) (step_depth d)) (AfterStep class (look_turn set s)) n (λ value tokens rest member stops. look_from n value tokens rest member stops) (look_total n r),
+        (Within (Optional L) (step_depth d)) (AfterStep class (look_turn set s)) n
+        (λ value tokens rest member stops. look_from n value tokens rest member stops) (look_total n r),
   )
 
 pub look-steps : {T X A : Type 0} {class : T → ℕ} {start : T → Option X} {set : List ℕ} {p : ℕ → Rule T A} {L : A → List T → Type 0}
@@ -172,7 +186,8 @@ module _ {T X A : Type 0} (class : T → ℕ) (separator : T → Option (Unit {0
   trailing_to n (Some value) tokens led =
       (record { token = led.token; value = led.value; rest = led.rest; cut = led.cut; passes = led.passes; behind = led.behind.0 }, led.behind.1)
 
-  trailing_end : (n : ℕ) (value : Option A) (tokens : List T) → OnlyNone value tokens → Within (Parted separator (λ _. L) (Maybe separator)) (step_depth d) n value tokens
+  trailing_end : (n : ℕ) (value : Option A) (tokens : List T) → OnlyNone value tokens →
+      Within (Parted separator (λ _. L) (Maybe separator)) (step_depth d) n value tokens
   trailing_end n None tokens none = (inl none, omega arith)
   trailing_end n (Some value) tokens none = absurd none
 
@@ -191,11 +206,13 @@ module _ {T X A : Type 0} (class : T → ℕ) (separator : T → Option (Unit {0
       StepLaws class (λ n. trailing separator start (p n)) (Parted separator (λ _. L) (Maybe separator)) d (trailing_turn separators set s) room
   trailing_laws None r = tt
   trailing_laws (Some n) r = (
-    when-runs separator (λ n _. maybe start (p n)) (λ n _. Optional (Within L d n)) (Within (Parted separator (λ _. L) (Maybe separator)) (step_depth d)) n trailing_to
+    when-runs separator (λ n _. maybe start (p n)) (λ n _. Optional (Within L d n))
+        (Within (Parted separator (λ _. L) (Maybe separator)) (step_depth d)) n trailing_to
         (λ _. give None) (λ _. OnlyNone) trailing_end (λ _. maybe-runs start p (Within L d) n r.laws.0) (give-runs None (λ _. OnlyNone) n refl),
     when-total separator (λ n _. maybe start (p n)) (λ n _. Optional (Within L d n)) (AfterOptional (Stops class set) (λ _. Stops class s.after)) n
         (λ _. look_total class start set p L d s k inside some n r)
-        (λ _. give None) (λ _. OnlyNone) (λ _ _. Unit {0}) (Within (Parted separator (λ _. L) (Maybe separator)) (step_depth d)) (AfterStep class (trailing_turn separators set s))
+        (λ _. give None) (λ _. OnlyNone) (λ _ _. Unit {0}) (Within (Parted separator (λ _. L) (Maybe separator)) (step_depth d))
+        (AfterStep class (trailing_turn separators set s))
         (λ value tokens rest member stops. trailing_parts n value tokens rest member stops)
         (give-total None (λ _. OnlyNone) (λ _ _. Unit {0}) n only_none),
   )
@@ -261,9 +278,11 @@ module _ {T A : Type 0} (class : T → ℕ) (p : ℕ → Rule T (Option A)) (S :
   loop_begins : (values : List A) (tokens : List T) → Loop S values tokens → Starts class (record { starts = t.starts; empty = t.empty; after = [] }) tokens
   loop_begins [] tokens member = k.closes tokens member
   loop_begins (value ∷ others) tokens member =
-      subst (Starts class (record { starts = t.starts; empty = t.empty; after = [] })) (sym member.cut) (go member.front member.back (k.opens value member.front member.first))
+      subst (Starts class (record { starts = t.starts; empty = t.empty; after = [] })) (sym member.cut)
+      (go member.front member.back (k.opens value member.front member.first))
     where
-      go : (front back : List T) → Starts class (one_shape t.starts) front → Starts class (record { starts = t.starts; empty = t.empty; after = [] }) (front ++ back)
+      go : (front back : List T) → Starts class (one_shape t.starts) front →
+          Starts class (record { starts = t.starts; empty = t.empty; after = [] }) (front ++ back)
       go [] back starts = cc
       go (token ∷ front) back starts = starts
 
@@ -276,7 +295,13 @@ module _ {T A : Type 0} (class : T → ℕ) (p : ℕ → Rule T (Option A)) (S :
   loop_from : (n : ℕ) (values : List A) (tokens : List T) → Loop S values tokens → list_depth d values ≤ n → Loop (Within S (step_depth d) n) values tokens
   loop_from n [] tokens member le = (member, omega arith)
   loop_from n (value ∷ others) tokens member le =
-      record { front = member.front; back = member.back; cut = member.cut; first = (member.first, omega (arith, le)); second = loop_from n others member.back member.second (omega (arith, le)) }
+      record {
+        front = member.front;
+        back = member.back;
+        cut = member.cut;
+        first = (member.first, omega (arith, le));
+        second = loop_from n others member.back member.second (omega (arith, le));
+      }
 
   step_not_empty : (n : ℕ) (value : A) (front : List T) → Within S (step_depth d) n (Some value) front → 0 < length front
   step_not_empty n value front member = go front (k.opens value front member.0)
@@ -293,9 +318,11 @@ module _ {T A : Type 0} (class : T → ℕ) (p : ℕ → Rule T (Option A)) (S :
   any_stops None rest after = stops-back class t.more t.last rest after
   any_stops (Some value) rest after = after
 
-  loop_joins : (n : ℕ) (value : A) (others : List A) (middle rest : List T) → Loop (Within S (step_depth d) n) others middle → AfterAny None rest → AfterAny (Some value) (middle ++ rest)
+  loop_joins : (n : ℕ) (value : A) (others : List A) (middle rest : List T) → Loop (Within S (step_depth d) n) others middle → AfterAny None rest →
+      AfterAny (Some value) (middle ++ rest)
   loop_joins n value others middle rest member stops =
-      stops-before class t.more (record { starts = t.starts; empty = t.empty; after = [] }) middle rest away (loop_begins others middle (loop_to n others middle member).0) (thin t.empty rest stops)
+      stops-before class t.more (record { starts = t.starts; empty = t.empty; after = [] }) middle rest away
+      (loop_begins others middle (loop_to n others middle member).0) (thin t.empty rest stops)
     where
       thin : (b : Bool) (rest : List T) → Stops class (t.more ++ t.last) rest → Stops class (those b t.more) rest
       thin true rest stops = stops-front class t.more t.last rest stops
@@ -310,16 +337,25 @@ module _ {T A : Type 0} (class : T → ℕ) (p : ℕ → Rule T (Option A)) (S :
   loop_laws (Some n) laws = (
     same-runs (λ n. loop (p n)) (λ n. loop (p n)) (λ n. Loop (Within S (step_depth d) n)) (Within (Loop S) (list_depth d)) n loop_to (λ _ _. refl)
         (loop-runs p (Within S (step_depth d)) n (Within-grows S (step_depth d)) k.end (k.ends, omega arith) step_not_empty laws.0),
-    same-total (λ n. loop (p n)) (λ n. Loop (Within S (step_depth d) n)) (λ _. AfterAny None) (Within (Loop S) (list_depth d)) (λ _. Stops class (t.more ++ t.last)) n
+    same-total (λ n. loop (p n)) (λ n. Loop (Within S (step_depth d) n)) (λ _. AfterAny None) (Within (Loop S) (list_depth d))
+        (λ _. Stops class (t.more ++ t.last)) n
         (λ values tokens rest member stops. (loop_from n values tokens member.0 member.1, stops))
-        (loop-total p (Within S (step_depth d)) AfterAny n (λ value others middle rest member stops. loop_joins n value others middle rest member stops) (advances-steps n laws)
-        (same-total p (Within S (step_depth d)) (AfterStep class t) (Within S (step_depth d)) AfterAny n (λ value tokens rest member after. (member, any_stops value rest after)) laws.1)),
+        (loop-total p (Within S (step_depth d)) AfterAny n (λ value others middle rest member stops. loop_joins n value others middle rest member stops)
+        (advances-steps n laws)
+        (same-total p (Within S (step_depth d)) (AfterStep class t) (Within S (step_depth d)) AfterAny n
+        (λ value tokens rest member after. (member, any_stops value rest after)) laws.1)),
   )
 
 pub loop-reads : {T A : Type 0} {class : T → ℕ} {p : ℕ → Rule T (Option A)} {S : Option A → List T → Type 0} {d : A → ℕ} {t : Turn} {room : Option ℕ} →
     Steps class p S d t room → IsTrue (apart t.more t.starts) → Reads class (λ n. loop (p n)) (Loop S) (list_depth d) (step_shape t) room
 loop-reads {T} {A} {class} {p} {S} {d} {t} {room} k away = record {
-  lang = record { begins = λ values tokens member. wide tokens (loop_begins class p S d t room k away values tokens member); value = []; tokens = k.end; member = k.ends; flat = omega arith };
+  lang = record {
+    begins = λ values tokens member. wide tokens (loop_begins class p S d t room k away values tokens member);
+    value = [];
+    tokens = k.end;
+    member = k.ends;
+    flat = omega arith;
+  };
   laws = loop_laws class p S d t room k away room k.laws;
 }
   where
@@ -335,7 +371,8 @@ Advances-step {T} {A} {class} {p} {S} {d} {t} {n} k away = advances-steps class 
 -- What code knows of a list that it reads.
 
 -- a separator and a part behind it
-pub trailing-some : {T X A : Type 0} (separator : T → Option (Unit {0})) (start : T → Option X) (p : Rule T A) (tokens behind : List T) (value : A) (rest : List T) →
+pub trailing-some : {T X A : Type 0} (separator : T → Option (Unit {0})) (start : T → Option X) (p : Rule T A) (tokens behind : List T) (value : A)
+    (rest : List T) →
     picked separator tokens ≡ Some (tt, behind) → is_some (picked start behind) ≡ true → p behind ≡ Ok (value, rest) →
     trailing separator start p tokens ≡ Ok (Some value, rest)
 trailing-some {T} {X} {A} separator start p tokens behind value rest next begins read =
@@ -346,7 +383,8 @@ trailing-some {T} {X} {A} separator start p tokens behind value rest next begins
     go (Some found) begins = ap (λ r. follow r (λ v. give (Some v))) read
 
 -- a token and the part behind it
-pub optional_or-some : {T X A : Type 0} (test : T → Option X) (p : X → Rule T A) (q : Rule T (Unit {0})) (tokens : List T) (x : X) (behind : List T) (value : A) (rest : List T) →
+pub optional_or-some : {T X A : Type 0} (test : T → Option X) (p : X → Rule T A) (q : Rule T (Unit {0})) (tokens : List T) (x : X) (behind : List T) (value : A)
+    (rest : List T) →
     picked test tokens ≡ Some (x, behind) → p x behind ≡ Ok (value, rest) → optional_or test p q tokens ≡ Ok (Some value, rest)
 optional_or-some {T} {X} {A} test p q tokens x behind value rest next read =
     ap (λ o. option_map_or {T = X × List T} (λ found. mapped Some (p found.0) found.1) o (mapped (λ _. None) q tokens)) next
@@ -364,5 +402,6 @@ pub loop-grown : {T A B : Type 0} (step : Rule T (Option A)) → Advances step �
     step tokens ≡ Ok (Some value, rest) →
     mapped (λ others. f ((front ++ value ∷ []) ++ others)) (loop step) rest ≡ mapped (λ others. f (front ++ others)) (loop step) tokens
 loop-grown step advances f front tokens value rest is =
-    mapped-same (λ others. f ((front ++ value ∷ []) ++ others)) (λ others. f (front ++ value ∷ others)) (λ others. ap f (append_assoc front (value ∷ []) others)) (loop step rest)
+    mapped-same (λ others. f ((front ++ value ∷ []) ++ others)) (λ others. f (front ++ value ∷ others))
+    (λ others. ap f (append_assoc front (value ∷ []) others)) (loop step rest)
     ∙ sym (loop-more step advances (λ others. f (front ++ others)) tokens value rest is)

@@ -3,7 +3,8 @@
 use Rattle.std.proofs.Common.{◌≡◌, ◌⊎◌, inl, inr, ℕ, List, [], ◌∷◌, ◌++◌, length, Option, Some, None, Ok, refl, sym, ◌∙◌, ap}
 use Rattle.std.proofs.lemmas.List.{append_assoc}
 use Rattle.read_rules.specs.Languages.{One, Then, Led, Both, Optional, Loop, Many, Placed}
-use Rattle.read_rules.specs.Readings.{Rule, refuse, give, follow, mapped, both, lead, trail, when, ahead, on, the, optional, maybe, turn, turns, loop, many, taken_of, placed}
+use Rattle.read_rules.specs.Readings.{Rule, refuse, give, follow, mapped, both, lead, trail, when, ahead, on, the, optional, maybe, turn, turns, loop, many}
+use Rattle.read_rules.specs.Readings.{taken_of, placed}
 use Rattle.read_rules.proofs.Next.{Refuses, Takes, when-refused, when-taken, ahead-refused, ahead-taken}
 use Rattle.read_rules.proofs.Laws.{Totally}
 use Rattle.read_rules.proofs.Parts.{taken_of-append}
@@ -78,7 +79,8 @@ module _ {T X A : Type 0} (test : T → Option X) (p : ℕ → X → Rule T A) (
   -- the other side, where the test refuses what begins it
   pub when-total : (q : ℕ → Rule T A) (M : ℕ → A → List T → Type 0) (G : A → List T → Type 0)
       (W : ℕ → A → List T → Type 0) (H : A → List T → Type 0) →
-      ((value : A) (tokens rest : List T) → W room value tokens → H value rest → (Led test (λ x. L room x value) tokens × F value rest) ⊎ (M room value tokens × G value rest × Refuses test (tokens ++ rest))) →
+      ((value : A) (tokens rest : List T) → W room value tokens → H value rest →
+      (Led test (λ x. L room x value) tokens × F value rest) ⊎ (M room value tokens × G value rest × Refuses test (tokens ++ rest))) →
       Totally q M G room → Totally (λ n. when test (p n) (q n)) W H room
   when-total q M G W H narrow total_q value front rest member follows = go (narrow value front rest member follows)
     where
@@ -92,7 +94,8 @@ module _ {T X A : Type 0} (test : T → Option X) (p : ℕ → X → Rule T A) (
 pub ahead-total : {T X A : Type 0} (test : T → Option X) (p q : ℕ → Rule T A)
     (L M : ℕ → A → List T → Type 0) (F G : A → List T → Type 0) (W : ℕ → A → List T → Type 0)
     (H : A → List T → Type 0) (room : ℕ) →
-    ((value : A) (tokens rest : List T) → W room value tokens → H value rest → (L room value tokens × F value rest × (x : X) × Takes test x (tokens ++ rest)) ⊎ (M room value tokens × G value rest × Refuses test (tokens ++ rest))) →
+    ((value : A) (tokens rest : List T) → W room value tokens → H value rest →
+    (L room value tokens × F value rest × (x : X) × Takes test x (tokens ++ rest)) ⊎ (M room value tokens × G value rest × Refuses test (tokens ++ rest))) →
     Totally p L F room → Totally q M G room → Totally (λ n. ahead test (p n) (q n)) W H room
 ahead-total {T} {X} {A} test p q L M F G W H room narrow total_p total_q value front rest member follows = go (narrow value front rest member follows)
   where
@@ -157,7 +160,8 @@ module _ {T A : Type 0} (step : ℕ → Rule T (Option A)) (S : ℕ → Option A
       loop-unfolds (step room) advances (front ++ rest)
       ∙ ap (λ ts. follow (step room (ts ++ rest)) (turn (loop (step room)))) member.cut
       ∙ ap (λ ts. follow (step room ts) (turn (loop (step room)))) (append_assoc member.front member.back rest)
-      ∙ ap (λ r. follow r (turn (loop (step room)))) (total (Some value) member.front (member.back ++ rest) member.first (joins value others member.back rest member.second follows))
+      ∙ ap (λ r. follow r (turn (loop (step room)))) (total (Some value) member.front (member.back ++ rest) member.first
+      (joins value others member.back rest member.second follows))
       ∙ ap (λ r. follow r (λ v. give (value ∷ v))) (loop-total others member.back rest member.second follows)
 
 -- anything may stand behind
@@ -180,4 +184,5 @@ pub many-total : {T X A : Type 0} (test : T → Option X) (p : ℕ → X → Rul
     Advances (optional test (p room)) → ((x : X) → Totally (λ n. p n x) (λ n. L n x) F room) →
     Totally (λ n. many test (p n)) (λ n. Many (λ value. Led test (λ x. L n x value))) (λ _. G) room
 many-total test p L F G room ends joins advances total_p =
-    loop-total (λ n. optional test (p n)) (λ n. Optional (λ value. Led test (λ x. L n x value))) (AfterOptional G F) room joins advances (optional-total test p L F G room ends total_p)
+    loop-total (λ n. optional test (p n)) (λ n. Optional (λ value. Led test (λ x. L n x value))) (AfterOptional G F) room joins advances
+    (optional-total test p L F G room ends total_p)

@@ -53,20 +53,23 @@ module _ {T A : Type 0} (p : ℕ → Rule T A) (L : ℕ → A → List T → Typ
     deep = (
       λ d. cc,
       λ deeper. absurd
-          (stuck_behind (room + deeper.0) took.front value token (token ∷ deeper.2) refl (took.steady (room + deeper.0) (token ∷ deeper.2) (omega arith) refl) deeper.1
+          (stuck_behind (room + deeper.0) took.front value token (token ∷ deeper.2) refl
+          (took.steady (room + deeper.0) (token ∷ deeper.2) (omega arith) refl) deeper.1
           (grows deeper.0 (room + deeper.0) deeper.1 (took.front ++ token ∷ deeper.2) (omega arith) deeper.3)),
     );
   }
 
   -- a fault that is not for depth is one at any room
   depth_of : (deep : Bool) (front rest : List T) →
-      ((more : ℕ) (other : List T) → room ≤ more → (IsTrue deep → more ≡ room) → next_of other ≡ next_of rest → p more (front ++ other) ≡ Err (fault_at deep other)) →
+      ((more : ℕ) (other : List T) → room ≤ more → (IsTrue deep → more ≡ room) → next_of other ≡ next_of rest →
+      p more (front ++ other) ≡ Err (fault_at deep other)) →
       BeginsDeeper L front rest → IsTrue deep
   depth_of true front rest steady deeper = refl
   depth_of false front [] steady deeper = absurd deeper
   depth_of false front (token ∷ rest) steady deeper =
       let err = steady (room + deeper.0) (token ∷ deeper.2) (omega arith) (λ d. cc) refl in
-      let ok = alone (room + deeper.0) deeper.1 (front ++ token ∷ deeper.2) (grows deeper.0 (room + deeper.0) deeper.1 (front ++ token ∷ deeper.2) (omega arith) deeper.3) in
+      let ok = alone (room + deeper.0) deeper.1 (front ++ token ∷ deeper.2)
+      (grows deeper.0 (room + deeper.0) deeper.1 (front ++ token ∷ deeper.2) (omega arith) deeper.3) in
       cc
 
   exact_on : (tokens : List T) (answer : Read T A) → p room tokens ≡ answer →
@@ -78,7 +81,8 @@ module _ {T A : Type 0} (p : ℕ → Rule T A) (L : ℕ → A → List T → Typ
     cut = stopped.cut;
     place = stopped.place;
     begins = stopped.begins;
-    stuck = λ value other same member. not_ok (stopped.front ++ other) value (fault_at fault.deep other) (alone room value (stopped.front ++ other) member) (stopped.steady room other (omega arith) (λ d. refl) same);
+    stuck = λ value other same member. not_ok (stopped.front ++ other) value (fault_at fault.deep other) (alone room value (stopped.front ++ other) member)
+        (stopped.steady room other (omega arith) (λ d. refl) same);
     deep = (stopped.deeper, depth_of fault.deep stopped.front stopped.rest stopped.steady);
   }
 

@@ -44,4 +44,5 @@ entered (Some room) p tokens rest = p rest
 -- value takes room and there is none, the token is the place of the fault.
 abbrev pub choose : {T X A : Type 0} → (T → Option X) → (X → Bool) → ℕ → (X → Rule T A) → Rule T A
 choose test deep room p tokens =
-    option_map_or (λ found. entered (fits (deep found.0) room) (p found.0) tokens found.1) (picked test tokens) (refuse tokens)
+    option_map_or (λ found. entered (fits (deep found.0) room) (p found.0) tokens found.1) (picked test tokens)
+    (refuse tokens)

@@ -19,7 +19,8 @@ BeginsDeeper {T} {A} L front (token ∷ rest) =
 -- The fault is at the least place that no member passes: what stands before it begins a member, and with
 -- the token at it nothing does. At the end of the list the list itself is no member. The fault is for
 -- depth exactly where with that token a member of greater nesting begins.
-pub record IsLeastPlace {T A : Type 0} (L : ℕ → A → List T → Type 0) (room : ℕ) (tokens : List T) (fault : Fault) : Type 0 where
+pub record IsLeastPlace {T A : Type 0} (L : ℕ → A → List T → Type 0) (room : ℕ) (tokens : List T)
+    (fault : Fault) : Type 0 where
   pub front : List T
   pub rest : List T
   pub cut : tokens ≡ front ++ rest

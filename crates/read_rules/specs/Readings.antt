@@ -1,5 +1,6 @@
 -- Inner: reading functions, from the left, with one token ahead, to a value and the tokens that are left.
-use Rattle.std.specs.Prelude.{ℕ, zero, suc, ◌-◌, Bool, true, false, List, [], ◌∷◌, length, take, Option, Some, None, Result, Ok, Err}
+use Rattle.std.specs.Prelude.{ℕ, zero, suc, ◌-◌, Bool, true, false, List, [], ◌∷◌, length, take, Option, Some, None}
+use Rattle.std.specs.Prelude.{Result, Ok, Err}
 use Rattle.std.specs.Option.{option_map, option_map_or}
 use Rattle.read_rules.specs.declared.faults.Fault.{Fault}
 pub use Rattle.read_rules.specs.Languages.{next_of}

@@ -3,7 +3,8 @@
 use Rattle.std.specs.Prelude.{ℕ, suc, max, List, Option, Some, None}
 use Rattle.read_rules.specs.declared.statements.Token.{Token}
 use Rattle.read_rules.specs.declared.statements.Token.TheVariants as kinds
-use Rattle.read_rules.specs.declared.statements.Statement.{Statement, Row_of-Statement, end_of-Statement, more_of-Statement}
+use Rattle.read_rules.specs.declared.statements.Statement.{Statement, Row_of-Statement, end_of-Statement}
+use Rattle.read_rules.specs.declared.statements.Statement.{more_of-Statement}
 use Rattle.read_rules.specs.declared.statements.Statement.TheVariants as code
 use Rattle.read_rules.specs.Languages.{One, Then, Led, Within, Maybe}
 

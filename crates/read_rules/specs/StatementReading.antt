@@ -4,7 +4,8 @@ use Rattle.read_rules.specs.declared.statements.Token.{Token}
 use Rattle.read_rules.specs.declared.statements.Token.TheVariants as kinds
 use Rattle.read_rules.specs.declared.statements.Opening.{Opening}
 use Rattle.read_rules.specs.declared.statements.Opening.TheVariants as openings
-use Rattle.read_rules.specs.StatementGrammar.{Plain, Nothing, Pause, Group, Sequence, Plains, NoPlains, More, semicolon, close_bracket}
+use Rattle.read_rules.specs.StatementGrammar.{Plain, Nothing, Pause, Group, Sequence, Plains, NoPlains, More, semicolon}
+use Rattle.read_rules.specs.StatementGrammar.{close_bracket}
 use Rattle.read_rules.specs.Readings.{Rule, refuse, give, mapped, both, trail, the, loop}
 use Rattle.read_rules.specs.Choice.{trailing, choose}
 

@@ -1,6 +1,7 @@
 // The steps of a reader on the tokens that are left.
 
-ghost use Rattle.std.specs.Prelude.{◌≡◌, ℕ, suc, true, false, ◌∷◌, ◌-◌, ◌≤◌, [], length, take, MatchOption, MatchResult};
+ghost use Rattle.std.specs.Prelude.{◌≡◌, ℕ, suc, true, false, ◌∷◌, ◌-◌, ◌≤◌, [], length, take, MatchOption};
+ghost use Rattle.std.specs.Prelude.{MatchResult};
 ghost use Rattle.read_rules.specs.Readings.{fault_at, ended};
 
 use crate::faults::Fault;

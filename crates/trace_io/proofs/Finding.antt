@@ -32,7 +32,8 @@ module _ (event : List Bool) (signals : List ℕ) (i : ℕ) (signal : SigId) (lo
   here-contained = subst (Contains signals) is (Contains-at signals i low)
 
   -- the first that is present, or the same again
-  IsFound-present : ((j : ℕ) → j < i → IsPresent event (slice_index signals j) → slice_index signals j ≡ signal.0) → IsPresent event signal.0 → IsFound event signals (i + 1) (Some signal)
+  IsFound-present : ((j : ℕ) → j < i → IsPresent event (slice_index signals j) → slice_index signals j ≡ signal.0) → IsPresent event signal.0 →
+      IsFound event signals (i + 1) (Some signal)
   IsFound-present before present = (
     here-contained,
     present,
@@ -43,7 +44,8 @@ module _ (event : List Bool) (signals : List ℕ) (i : ℕ) (signal : SigId) (lo
   )
 
   -- one signal on, as `found_after` answers
-  pub IsFound-more : (found next : Option SigId) (present : Bool) → IsFound event signals i found → (IsTrue present → IsPresent event signal.0) → (IsPresent event signal.0 → IsTrue present)
+  pub IsFound-more : (found next : Option SigId) (present : Bool) → IsFound event signals i found → (IsTrue present → IsPresent event signal.0) →
+      (IsPresent event signal.0 → IsTrue present)
       → found_after found signal present ≡ Some next → IsFound event signals (i + 1) next
   IsFound-more found next false before shows hides e =
       let same : found ≡ next = cc in
@@ -60,16 +62,19 @@ module _ (event : List Bool) (signals : List ℕ) (i : ℕ) (signal : SigId) (lo
       (cases_Bool (other.0 == signal.0))
 
   -- two that differ
-  pub two_present : (found : Option SigId) (present : Bool) → IsFound event signals i found → (IsTrue present → IsPresent event signal.0) → found_after found signal present ≡ None → Meets event (Excludes signals) → ⊥
+  pub two_present : (found : Option SigId) (present : Bool) → IsFound event signals i found → (IsTrue present → IsPresent event signal.0) →
+      found_after found signal present ≡ None → Meets event (Excludes signals) → ⊥
   two_present found false before shows e = let none : Some found ≡ None = e in cc
   two_present None true before shows e = let none : Some (Some signal) ≡ None = e in cc
   two_present (Some other) true before shows e = ⊎_elim
       (λ (equal : (other.0 == signal.0) ≡ true). let none : Some (Some signal) ≡ None = rw equal at e in cc)
-      (λ (apart : (other.0 == signal.0) ≡ false). λ meets. meets other.0 signal.0 before.0 here-contained (eqb-false other.0 signal.0 apart) before.1 (shows refl))
+      (λ (apart : (other.0 == signal.0) ≡ false). λ meets. meets other.0 signal.0 before.0 here-contained (eqb-false other.0 signal.0 apart) before.1
+      (shows refl))
       (cases_Bool (other.0 == signal.0))
 
 -- only the found one is present among all
-pub Meets-found : (event : List Bool) (signals : List ℕ) (found : Option SigId) (count : ℕ) → length signals ≤ count → IsFound event signals count found → Meets event (Excludes signals)
+pub Meets-found : (event : List Bool) (signals : List ℕ) (found : Option SigId) (count : ℕ) → length signals ≤ count → IsFound event signals count found →
+    Meets event (Excludes signals)
 Meets-found event signals None count all none a b in_a in_b apart here there =
     none in_a.0 (omega (arith, in_a.1)) (subst (IsPresent event) (sym (get_or_default signals in_a.0 0 a in_a.1 ∙ in_a.2)) here)
 Meets-found event signals (Some found) count all only a b in_a in_b apart here there =

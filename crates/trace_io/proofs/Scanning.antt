@@ -35,7 +35,8 @@ begins_name-drop text at low = ap begins_name (drop_more text at 0 low)
 begins_name-end : (text : List ℕ) (at : ℕ) → length text ≤ at → begins_name (drop at text) ≡ false
 begins_name-end text at past = ap begins_name (drop_all at text past)
 
-fourth : {X : Type 0} (p q r t : Bool) (a b c d e : X) → p ≡ false → q ≡ false → r ≡ false → t ≡ true → (if p then a else if q then b else if r then c else if t then d else e) ≡ d
+fourth : {X : Type 0} (p q r t : Bool) (a b c d e : X) → p ≡ false → q ≡ false → r ≡ false → t ≡ true →
+    (if p then a else if q then b else if r then c else if t then d else e) ≡ d
 fourth p q r t a b c d e no_p no_q no_r is_t = rw (no_p, no_q, no_r, is_t) refl
 
 -- one byte of a name
@@ -43,7 +44,8 @@ tokens-byte : (text : List ℕ) (at : ℕ) → at < length text → is_trace_byt
     → tokens false at (drop at text) ≡ with_byte (slice_index text at) (begins_name (drop (at + 1) text)) (tokens false (at + 1) (drop (at + 1) text))
 tokens-byte text at low is =
     let of = IsOfName-byte (slice_index text at) is in
-    ap (tokens false at) (drop_more text at 0 low) ∙ fourth (is_blank (slice_index text at)) (slice_index text at == 37) (slice_index text at == 59) (is_trace_byte (slice_index text at)) _ _ _ _ _ of.blank of.comment of.semicolon is
+    ap (tokens false at) (drop_more text at 0 low) ∙ fourth (is_blank (slice_index text at)) (slice_index text at == 37) (slice_index text at == 59)
+    (is_trace_byte (slice_index text at)) _ _ _ _ _ of.blank of.comment of.semicolon is
 
 take_drop : (text : List ℕ) (at n : ℕ) → at < length text → take (suc n) (drop at text) ≡ slice_index text at ∷ take n (drop (at + 1) text)
 take_drop text at n low = ap (take (suc n)) (drop_more text at 0 low)
@@ -56,7 +58,8 @@ begins_name-stop text end stops = ⊎_elim
     (cases_lt end (length text))
 
 -- a name, by the number of its bytes behind the first
-pub tokens-name : (text : List ℕ) (n at end : ℕ) → end ≡ at + suc n → IsNameAt text at end → tokens false at (drop at text) ≡ Name (take (suc n) (drop at text)) ∷ tokens false end (drop end text)
+pub tokens-name : (text : List ℕ) (n at end : ℕ) → end ≡ at + suc n → IsNameAt text at end →
+    tokens false at (drop at text) ≡ Name (take (suc n) (drop at text)) ∷ tokens false end (drop end text)
 tokens-name text zero at end e is =
     let low : at < length text = omega (arith, is.within) in
     let byte = is.bytes at (omega arith) (omega arith) in
@@ -82,7 +85,8 @@ tokens-name text (suc n) at end e is =
     ∙ ap (λ bytes. Name bytes ∷ tokens false end (drop end text)) (sym (take_drop text at (suc n) low))
 
 -- a name that stands from one place to another
-pub tokens-from_name : (text : List ℕ) (at end : ℕ) → IsNameAt text at end → tokens false at (drop at text) ≡ Name (take (end - at) (drop at text)) ∷ tokens false end (drop end text)
+pub tokens-from_name : (text : List ℕ) (at end : ℕ) → IsNameAt text at end →
+    tokens false at (drop at text) ≡ Name (take (end - at) (drop at text)) ∷ tokens false end (drop end text)
 tokens-from_name text at end is =
     let some = is.some in
     let e : end - at ≡ suc (end - at - 1) = omega arith in

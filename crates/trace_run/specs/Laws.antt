@@ -53,7 +53,8 @@ TextsAreWritten =
 
 -- the items of a whole trace are its first items
 abbrev pub TracesBegin : Type 0
-TracesBegin = (trace : Reading) (items : List Item) (end : Option TraceFault) → IsTrace trace items end → IsFront trace items
+TracesBegin = (trace : Reading) (items : List Item) (end : Option TraceFault) → IsTrace trace items end →
+    IsFront trace items
 
 -- each event among the first items of a trace has a value for each input, and meets every relation
 abbrev pub EventsFit : Type 0

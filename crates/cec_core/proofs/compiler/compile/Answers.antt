@@ -17,4 +17,5 @@ generate-requires-clause-order g c =
 pub returns-clause-compiles : goal.returns-clause-compiles
 returns-clause-compiles g c =
     let e = c.in_ok-net.ensures in
-    net_stands _ _ c.in_ok-graph.field-0 c.in_ok-order.order c.in_ok-net.net c.in_ok-graph.ensures.compiles c.in_ok-order.ensures e.interface e.order e.size e.instants e.runs
+    net_stands _ _ c.in_ok-graph.field-0 c.in_ok-order.order c.in_ok-net.net c.in_ok-graph.ensures.compiles c.in_ok-order.ensures e.interface e.order e.size
+    e.instants e.runs

@@ -3,4 +3,5 @@ use Rattle.cec_front.proofs.programs.unflattened.Goals as goal
 
 pub returns-in_default : goal.returns-in_default
 returns-in_default c = λ text main ends.
-    static_fault text main c.args.fault c.in_default.not-TooManyStatements c.in_default.not-TooDeep c.in_default.not-TooManySignals c.in_default.not-NoMemory ends
+    static_fault text main c.args.fault c.in_default.not-TooManyStatements c.in_default.not-TooDeep c.in_default.not-TooManySignals c.in_default.not-NoMemory
+    ends

@@ -15,7 +15,8 @@ returns-in_err-checked_mul c =
 pub returns-in_err-value : goal.returns-in_err-value
 returns-in_err-value c =
     let inv = c.loop-byte.invariant in
-    c.from_residual-in_err-value.ensures ∙ number-over c.args.bytes.now c.loop-byte.byte-index (omega arith) (omega (arith, c.in_err-value.ensures, c.in_ok-checked_mul.ensures))
+    c.from_residual-in_err-value.ensures ∙ number-over c.args.bytes.now c.loop-byte.byte-index (omega arith)
+    (omega (arith, c.in_err-value.ensures, c.in_ok-checked_mul.ensures))
 
 pub returns : goal.returns
 returns c =

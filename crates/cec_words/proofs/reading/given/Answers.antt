@@ -13,8 +13,10 @@ returns-in_err-step c =
     let k = c.loop-k.k in
     let word = c.as_bytes.result.now in
     let low : k < length words = omega (arith, length-map c.args.words.now string_bytes) in
-    let is : word ≡ get_or words k [] = c.as_bytes.ensures.value ∙ ap string_bytes c.index-words-k.is ∙ sym (get_or-map string_bytes c.args.words.now k _ [] (omega arith)) in
-    c.loop-k.invariant ∙ next-none c.args.command c.loop-k.reader.given c.loop-k.reader.waiting (k + 1) words k word low is (sym c.step_of.ensures ∙ c.in_err-step.was)
+    let is : word ≡ get_or words k [] = c.as_bytes.ensures.value ∙ ap string_bytes c.index-words-k.is
+    ∙ sym (get_or-map string_bytes c.args.words.now k _ [] (omega arith)) in
+    c.loop-k.invariant ∙ next-none c.args.command c.loop-k.reader.given c.loop-k.reader.waiting (k + 1) words k word low is
+    (sym c.step_of.ensures ∙ c.in_err-step.was)
     ∙ ap (option_and_then (λ g. asked_once c.args.command (slots g))) (sym c.from_residual.ensures)
 
 pub returns-in_err-reader : goal.returns-in_err-reader
@@ -23,8 +25,10 @@ returns-in_err-reader c =
     let k = c.loop-k.k in
     let word = c.as_bytes.result.now in
     let low : k < length words = omega (arith, length-map c.args.words.now string_bytes) in
-    let is : word ≡ get_or words k [] = c.as_bytes.ensures.value ∙ ap string_bytes c.index-words-k.is ∙ sym (get_or-map string_bytes c.args.words.now k _ [] (omega arith)) in
-    c.loop-k.invariant ∙ next-no_meaning c.args.command c.loop-k.reader.given c.loop-k.reader.waiting (k + 1) words k word low is c.in_ok-step.step (sym c.step_of.ensures ∙ c.in_ok-step.was) c.in_err-reader.ensures
+    let is : word ≡ get_or words k [] = c.as_bytes.ensures.value ∙ ap string_bytes c.index-words-k.is
+    ∙ sym (get_or-map string_bytes c.args.words.now k _ [] (omega arith)) in
+    c.loop-k.invariant ∙ next-no_meaning c.args.command c.loop-k.reader.given c.loop-k.reader.waiting (k + 1) words k word low is c.in_ok-step.step
+    (sym c.step_of.ensures ∙ c.in_ok-step.was) c.in_err-reader.ensures
     ∙ ap (option_and_then (λ g. asked_once c.args.command (slots g))) (sym c.from_residual-in_err-reader.ensures)
 
 pub loop-k-preserved : goal.loop-k-preserved
@@ -33,5 +37,8 @@ loop-k-preserved c =
     let k = c.loop-k.k in
     let word = c.as_bytes.result.now in
     let low : k < length words = omega (arith, length-map c.args.words.now string_bytes) in
-    let is : word ≡ get_or words k [] = c.as_bytes.ensures.value ∙ ap string_bytes c.index-words-k.is ∙ sym (get_or-map string_bytes c.args.words.now k _ [] (omega arith)) in
-    c.loop-k.invariant ∙ next-takes c.args.command c.loop-k.reader.given c.loop-k.reader.waiting (k + 1) words k word low is c.in_ok-step.step c.in_ok-reader.reader.given c.in_ok-reader.reader.waiting (sym c.step_of.ensures ∙ c.in_ok-step.was) c.in_ok-reader.ensures
+    let is : word ≡ get_or words k [] = c.as_bytes.ensures.value ∙ ap string_bytes c.index-words-k.is
+    ∙ sym (get_or-map string_bytes c.args.words.now k _ [] (omega arith)) in
+    c.loop-k.invariant ∙ next-takes c.args.command c.loop-k.reader.given c.loop-k.reader.waiting
+    (k + 1) words k word low is c.in_ok-step.step c.in_ok-reader.reader.given c.in_ok-reader.reader.waiting
+    (sym c.step_of.ensures ∙ c.in_ok-step.was) c.in_ok-reader.ensures

@@ -8,4 +8,6 @@ use Rattle.cec_words.proofs.reading.given.Given as goal
 -- the words ask for what is given so far and the words that are left ask for together
 abbrev pub invariant-loop-k : goal.invariant-loop-k
 invariant-loop-k l =
-    option_and_then (asked_once l.command) (gathered l.command None 1 (map string_bytes l.words)) ≡ option_and_then (λ rest. asked_once l.command (extended l.reader.given rest)) (gathered l.command l.reader.waiting (l.k + 1) (drop l.k (map string_bytes l.words)))
+    option_and_then (asked_once l.command) (gathered l.command None 1 (map string_bytes l.words)) ≡
+    option_and_then (λ rest. asked_once l.command (extended l.reader.given rest))
+    (gathered l.command l.reader.waiting (l.k + 1) (drop l.k (map string_bytes l.words)))

@@ -11,4 +11,5 @@ invariant-loop l = l.values.items ≡ map (λ s. s.init) (map state_of l.program
 abbrev pub invariant-loop-2 : goal.invariant-loop-2
 invariant-loop-2 l =
     l.values.items
-    ≡ (map (λ s. s.init) (map state_of l.program.states.items) ++ map (λ _. false) l.program.globals.items) ++ map (λ _. false) (take l.index l.program.locals.items)
+    ≡ (map (λ s. s.init) (map state_of l.program.states.items) ++ map (λ _. false) l.program.globals.items)
+    ++ map (λ _. false) (take l.index l.program.locals.items)

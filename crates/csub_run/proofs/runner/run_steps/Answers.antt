@@ -10,5 +10,6 @@ loop-step-preserved c =
     let k = c.loop-step.step-index in
     let item = c.step-item.result in
     let steps = c.args.steps.now in
-    ap (λ v. settled (map plain_step (drop (k + 1) steps)) (slice_set c.loop-step.values item.slot v)) (c.value_of-value.ensures ∙ value-is c.loop-step.values item.value)
+    ap (λ v. settled (map plain_step (drop (k + 1) steps)) (slice_set c.loop-step.values item.slot v))
+    (c.value_of-value.ensures ∙ value-is c.loop-step.values item.value)
     ∙ ap (λ l. settled (map plain_step l) c.loop-step.values) (sym (drop-at steps k item (omega arith) c.step-item.is)) ∙ c.loop-step.invariant

@@ -7,4 +7,5 @@ use Rattle.csub_text.proofs.writer.put_output_assigns.Given as goal
 -- what is written, and what is still to write, are the whole
 abbrev pub invariant-loop-output : goal.invariant-loop-output
 invariant-loop-output l =
-    l.text.items ++ flat_map assign_line (map (output_assign (netlist_of l.net)) (drop l.output-index l.net.outputs.items)) ≡ l.initial.text.items ++ flat_map assign_line (map (output_assign (netlist_of l.net)) l.net.outputs.items)
+    l.text.items ++ flat_map assign_line (map (output_assign (netlist_of l.net)) (drop l.output-index l.net.outputs.items)) ≡
+    l.initial.text.items ++ flat_map assign_line (map (output_assign (netlist_of l.net)) l.net.outputs.items)

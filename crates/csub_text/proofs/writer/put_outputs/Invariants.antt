@@ -6,4 +6,5 @@ use Rattle.csub_text.proofs.writer.put_outputs.Given as goal
 -- what is written, and what is still to write, are the whole
 abbrev pub invariant-loop-output : goal.invariant-loop-output
 invariant-loop-output l =
-    l.text.items ++ flat_map declaration (map output_variable (drop l.output-index l.outputs)) ≡ l.initial.text.items ++ flat_map declaration (map output_variable l.outputs)
+    l.text.items ++ flat_map declaration (map output_variable (drop l.output-index l.outputs)) ≡
+    l.initial.text.items ++ flat_map declaration (map output_variable l.outputs)

@@ -10,7 +10,8 @@ ranks_of-requires c =
     let s = c.loop-root.search in
     let inv = c.loop-root.invariant in
     let ended : IsSearch c.args.count c.args.edges.now s.states.items s.rest.items [] s.order.items = rw inv.between at inv.search in
-    rw c.deref-2.ensures.value (All-ranked c.args.count c.args.edges.now s.states.items s.rest.items s.order.items ended c.requires (λ node low. inv.met node (omega arith)))
+    rw c.deref-2.ensures.value (All-ranked c.args.count c.args.edges.now s.states.items s.rest.items s.order.items ended c.requires
+    (λ node low. inv.met node (omega arith)))
 
 pub returns-clause-found : goal.returns-clause-found
 returns-clause-found c =
@@ -18,8 +19,10 @@ returns-clause-found c =
     let inv = c.loop-root.invariant in
     let ended : IsSearch c.args.count c.args.edges.now s.states.items s.rest.items [] s.order.items = rw inv.between at inv.search in
     let met = λ (node : ℕ) (low : node < c.args.count). inv.met node (omega arith) in
-    rw (c.in_ok-ranks_of.ensures, c.deref-2.ensures.value)
-    (AreRanks-ended c.args.count c.args.edges.now s.states.items s.rest.items s.order.items ended c.requires met, IsOrderOf-ended c.args.count c.args.edges.now s.states.items s.rest.items s.order.items ended c.requires met)
+    rw (c.in_ok-ranks_of.ensures, c.deref-2.ensures.value) (
+      AreRanks-ended c.args.count c.args.edges.now s.states.items s.rest.items s.order.items ended c.requires met,
+      IsOrderOf-ended c.args.count c.args.edges.now s.states.items s.rest.items s.order.items ended c.requires met,
+    )
 
 pub returns-clause-cyclic : goal.returns-clause-cyclic
 returns-clause-cyclic c =

@@ -88,7 +88,8 @@ returns-in_ok-part-in-Local t c =
     rw c.in-Local.is (listed_one _ c.push.new.self.items c.list_entries-in-Local.new.entries.items c.put-in-Local.new.entries.items
     c.empty.result c.in_ok-part-in-Local.part c.put-in-Local.result (term_of c.in-Local.part.value) _
     c.in_ok-push.ensures.items part refl
-    (entry_put _ c.list_entries-in-Local.new.entries.items _ c.len-at.result c.in_ok-part-in-Local.part.entry c.in_ok-part-in-Local.part.least c.put-in-Local.result _
+    (entry_put _ c.list_entries-in-Local.new.entries.items _ c.len-at.result c.in_ok-part-in-Local.part.entry c.in_ok-part-in-Local.part.least
+    c.put-in-Local.result _
     (omega arith) c.put-in-Local.ensures.list c.put-in-Local.ensures.entry c.put-in-Local.ensures.least
     (record { started = part.entry.started; resumed = part.entry.resumed })
     part.least))

@@ -11,4 +11,5 @@ pub returns-clause-codes : goal.returns-clause-codes
 returns-clause-codes c =
     let lists = c.in_ok-found.ensures in
     c.in_ok-entry_sets.ensures c.in_ok-found.found (term_of c.args.body.now)
-    (rw c.deref.ensures.value (subst (λ old. Lists old c.list_entries.new.entries.items c.in_ok-found.found (term_of c.args.body.now)) c.new-entries.ensures.items lists))
+    (rw c.deref.ensures.value (subst (λ old. Lists old c.list_entries.new.entries.items c.in_ok-found.found (term_of c.args.body.now))
+    c.new-entries.ensures.items lists))

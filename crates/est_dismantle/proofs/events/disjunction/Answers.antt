@@ -8,5 +8,6 @@ use Rattle.est_dismantle.proofs.events.disjunction.Goals as goal
 pub loop-part-preserved : goal.loop-part-preserved
 loop-part-preserved c =
     ap (λ t. nested Or Tick (map expression_of c.pop-in-loop-part.new.self.items ++ t ∷ [])) c.in_ok-whole.ensures
-    ∙ nested-pop expression_of Or Tick c.loop-part.rest.items c.pop-in-loop-part.new.self.items c.in-Some-pop.part (expression_of c.loop-part.whole) c.in-Some-pop.ensures.items
+    ∙ nested-pop expression_of Or Tick c.loop-part.rest.items c.pop-in-loop-part.new.self.items c.in-Some-pop.part
+    (expression_of c.loop-part.whole) c.in-Some-pop.ensures.items
     ∙ c.loop-part.invariant

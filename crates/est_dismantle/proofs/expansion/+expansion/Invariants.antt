@@ -7,7 +7,8 @@ use Rattle.est_dismantle.proofs.expansion.+expansion.Given as goal
 
 abbrev pub invariant-expand_parts-loop-part : goal.invariant-expand_parts-loop-part
 invariant-expand_parts-loop-part l = record {
-  terms : map term_of l.kernels.items ++ stmts_kernels (marks_of l.marks) l.next (drop l.part-index l.parts) ≡ stmts_kernels (marks_of l.marks) l.initial.next l.parts;
+  terms : map term_of l.kernels.items ++ stmts_kernels (marks_of l.marks) l.next (drop l.part-index l.parts) ≡
+      stmts_kernels (marks_of l.marks) l.initial.next l.parts;
   next : l.next + stmts_new (drop l.part-index l.parts) ≡ l.initial.next + stmts_new l.parts;
 }
 

@@ -1,5 +1,7 @@
 use Rattle.std.proofs.Common.{◌+◌, ◌-◌, length, arith, drop, sym}
-use Rattle.est_dismantle.proofs.MeasuredNodes.{along, node-Await_written, node-Present, node-Every, node-Repeat, node-Abort_written, node-AbortCase, node-Trap_written, parts-none, parts-last, parts-step, boxed, events_in, chosen_in, chosen-past, chosen-step, case-missing, case-written}
+use Rattle.est_dismantle.proofs.MeasuredNodes.{along, node-Await_written, node-Present, node-Every, node-Repeat, node-Abort_written, node-AbortCase}
+use Rattle.est_dismantle.proofs.MeasuredNodes.{node-Trap_written, parts-none, parts-last, parts-step, boxed, events_in, chosen_in, chosen-past, chosen-step}
+use Rattle.est_dismantle.proofs.MeasuredNodes.{case-missing, case-written}
 use Rattle.est_dismantle.proofs.measure.+measuring.Goals as goal
 
 pub measure_form-returns-in-Present : goal.measure_form-returns-in-Present
@@ -36,13 +38,15 @@ measure_parts-returns-then-count-eq0 t c = along _ _ _ (parts-none c.args.parts.
 pub measure_parts-loop-behind-init : goal.measure_parts-loop-behind-init
 measure_parts-loop-behind-init t c =
     let n = length c.args.parts.now in
-    along _ _ _ (parts-last c.args.parts.now (n - 1) (n - 1) c.index-parts-count.result (omega arith) (omega arith) c.index-parts-count.is) c.measure-whole.ensures
+    along _ _ _ (parts-last c.args.parts.now (n - 1) (n - 1) c.index-parts-count.result (omega arith) (omega arith) c.index-parts-count.is)
+    c.measure-whole.ensures
 
 pub measure_parts-loop-behind-preserved : goal.measure_parts-loop-behind-preserved
 measure_parts-loop-behind-preserved t c =
     let n = length c.args.parts.now in let behind = c.loop-behind.behind in let x = c.index-parts-count-in-loop-behind.result in
     along _ _ _
-    (parts-step c.args.parts.now (n - 1 - behind) (n - (behind + 1)) (n - behind) x (omega arith) (omega arith) (omega arith) c.index-parts-count-in-loop-behind.is)
+    (parts-step c.args.parts.now (n - 1 - behind) (n - (behind + 1)) (n - behind) x (omega arith) (omega arith)
+    (omega arith) c.index-parts-count-in-loop-behind.is)
     (c.joined-whole.ensures _ _ c.measure.ensures c.loop-behind.invariant)
 
 pub measure_cases-loop-behind-init : goal.measure_cases-loop-behind-init
@@ -53,7 +57,8 @@ pub measure_cases-loop-behind-preserved : goal.measure_cases-loop-behind-preserv
 measure_cases-loop-behind-preserved t c r h =
     let n = length c.args.cases.now in let behind = c.loop-behind.behind in
     along _ _ _
-    (chosen-step c.args.cases.now (n - 1 - behind) (n - (behind + 1)) (n - behind) c.index-cases-count.result r (omega arith) (omega arith) (omega arith) c.index-cases-count.is)
+    (chosen-step c.args.cases.now (n - 1 - behind) (n - (behind + 1)) (n - behind) c.index-cases-count.result r (omega arith) (omega arith)
+    (omega arith) c.index-cases-count.is)
     (c.tested-whole.ensures _ _ _ c.event_extent.ensures c.measure_case.ensures (c.loop-behind.invariant r h))
 
 pub measure_form-returns-in-Some : goal.measure_form-returns-in-Some
@@ -63,13 +68,15 @@ measure_form-returns-in-Some t c =
 
 pub measure_form-returns-in-Some-rest : goal.measure_form-returns-in-Some-rest
 measure_form-returns-in-Some-rest t c =
-    node-Abort_written c.handled_abortion.result c.args.form.now c.in-Abort.body c.in-Abort.delay c.in-Abort.rest c.in-Some-rest.rest c.in-Abort.is c.in-Some-rest.is
+    node-Abort_written c.handled_abortion.result c.args.form.now c.in-Abort.body c.in-Abort.delay c.in-Abort.rest c.in-Some-rest.rest c.in-Abort.is
+    c.in-Some-rest.is
     (c.handled_abortion.ensures _ _ (boxed _ _ _ c.deref-in-Some-rest.ensures c.measure-in-Some-rest.ensures)
     (boxed _ _ _ c.deref-in-Some-rest-2.ensures c.measure-in-Some-rest-2.ensures))
 
 pub measure_form-returns-in-Some-handler : goal.measure_form-returns-in-Some-handler
 measure_form-returns-in-Some-handler t c =
-    node-Trap_written c.handled-in-Some-handler.result c.args.form.now c.in-Trap.body c.in-Trap.handler c.in-Some-handler.handler c.in-Trap.is c.in-Some-handler.is
+    node-Trap_written c.handled-in-Some-handler.result c.args.form.now c.in-Trap.body c.in-Trap.handler c.in-Some-handler.handler c.in-Trap.is
+    c.in-Some-handler.is
     (c.handled-in-Some-handler.ensures _ _
     (c.joined-in-Some-handler.ensures _ _ (boxed _ _ _ c.deref-in-Some-handler.ensures c.measure-in-Some-handler.ensures) c.leaf-in-Some-handler.ensures)
     (boxed _ _ _ c.deref-in-Some-handler-2.ensures c.measure-in-Some-handler-2.ensures))

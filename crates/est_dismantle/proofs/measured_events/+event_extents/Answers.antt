@@ -15,5 +15,6 @@ pub events_extent-loop-behind-preserved : goal.events_extent-loop-behind-preserv
 events_extent-loop-behind-preserved t c =
     let n = length c.args.parts.now in let behind = c.loop-behind.behind in let x = c.index-parts-count-in-loop-behind.result in
     along _ _ _
-    (events-step c.args.parts.now (n - 1 - behind) (n - (behind + 1)) (n - behind) x (omega arith) (omega arith) (omega arith) c.index-parts-count-in-loop-behind.is)
+    (events-step c.args.parts.now (n - 1 - behind) (n - (behind + 1)) (n - behind) x (omega arith) (omega arith)
+    (omega arith) c.index-parts-count-in-loop-behind.is)
     (c.joined-whole.ensures _ _ c.event_extent.ensures c.loop-behind.invariant)

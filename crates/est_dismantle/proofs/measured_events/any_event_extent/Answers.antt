@@ -15,5 +15,6 @@ pub loop-behind-preserved : goal.loop-behind-preserved
 loop-behind-preserved c =
     let n = length c.args.cases.now in let behind = c.loop-behind.behind in let x = c.index-cases-count-in-loop-behind.result in
     along _ _ _
-    (case_events-step c.args.cases.now (n - 1 - behind) (n - (behind + 1)) (n - behind) x (omega arith) (omega arith) (omega arith) c.index-cases-count-in-loop-behind.is)
+    (case_events-step c.args.cases.now (n - 1 - behind) (n - (behind + 1)) (n - behind) x (omega arith) (omega arith)
+    (omega arith) c.index-cases-count-in-loop-behind.is)
     (c.joined-whole.ensures _ _ (event_of _ _ _ (sym c.index-cases-count-in-loop-behind.is) c.event_extent.ensures) c.loop-behind.invariant)

@@ -6,7 +6,8 @@ use Rattle.est_dismantle.proofs.terms.parallel_of.Given as goal
 
 abbrev pub invariant-loop-part : goal.invariant-loop-part
 invariant-loop-part l =
-    nested Par Nothing (map term_of l.rest.items ++ term_of l.whole ∷ []) ≡ nested Par Nothing (map term_of l.initial.rest.items ++ term_of l.initial.whole ∷ [])
+    nested Par Nothing (map term_of l.rest.items ++ term_of l.whole ∷ []) ≡
+    nested Par Nothing (map term_of l.initial.rest.items ++ term_of l.initial.whole ∷ [])
 
 abbrev pub decreases-loop-part : goal.decreases-loop-part
 decreases-loop-part l = vec_len l.rest

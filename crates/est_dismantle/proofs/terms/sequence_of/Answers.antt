@@ -8,5 +8,6 @@ use Rattle.est_dismantle.proofs.terms.sequence_of.Goals as goal
 pub loop-part-preserved : goal.loop-part-preserved
 loop-part-preserved c =
     ap (λ t. nested Seq Nothing (map term_of c.pop-in-loop-part.new.self.items ++ t ∷ [])) c.in_ok-whole.ensures
-    ∙ nested-pop term_of Seq Nothing c.loop-part.rest.items c.pop-in-loop-part.new.self.items c.in-Some-pop.part (term_of c.loop-part.whole) c.in-Some-pop.ensures.items
+    ∙ nested-pop term_of Seq Nothing c.loop-part.rest.items c.pop-in-loop-part.new.self.items c.in-Some-pop.part
+    (term_of c.loop-part.whole) c.in-Some-pop.ensures.items
     ∙ c.loop-part.invariant

@@ -21,7 +21,8 @@ returns-clause-fits c =
     let within = main_place-within c.requires.0 (module_names program) c.args.table.now.main table.main_place in
     let in_program : k < length program = omega (arith, within, c.main.ensures, length-map program (λ (m : Module). m.name.text)) in
     let low : k < length modules = omega (arith, in_program, length-map modules module_of) in
-    let faultless = subst (λ (m : Module). interface_faults m.decls ≡ []) (get_or-map module_of modules k m (module_of m) low ∙ ap module_of (sym c.index-main.ensures))
+    let faultless = subst (λ (m : Module). interface_faults m.decls ≡ [])
+    (get_or-map module_of modules k m (module_of m) low ∙ ap module_of (sym c.index-main.ensures))
     (faultless-interface c.requires.0 program k (module_of m) table.faultless in_program) in
     answer-fits c.flat_main.result (map module_of c.deref.result.now) (module_of m) faultless c.flat_main.ensures
 

@@ -15,7 +15,8 @@ returns c =
     let bytes = λ (name : Bor (List ℕ)). name.now in
     let inputs : c.len.result ≡ length (interface_of shown).inputs = omega (arith, c.len.ensures, shown.inputs.ok, length-map shown.inputs.items bytes) in
     let both : c.len-2.result ≡ length (interface_of shown).both = omega (arith, c.len-2.ensures, shown.both.ok, length-map shown.both.items bytes) in
-    let outputs : c.len-3.result ≡ length (interface_of shown).outputs = omega (arith, c.len-3.ensures, shown.outputs.ok, length-map shown.outputs.items bytes) in
+    let outputs : c.len-3.result ≡ length (interface_of shown).outputs =
+    omega (arith, c.len-3.ensures, shown.outputs.ok, length-map shown.outputs.items bytes) in
     let same = c.requires.shown in
     let relations = c.in_ok-relations.ensures
     ∙ ap (λ ds. map (relation_in c.in_ok-scope.scope) (flat_map relations_in (map decl_of ds))) c.deref.ensures.value

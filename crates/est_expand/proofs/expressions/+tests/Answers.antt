@@ -15,18 +15,21 @@ pub flat_test-returns-in_err-flat_tests-in-And : goal.flat_test-returns-in_err-f
 flat_test-returns-in_err-flat_tests-in-And t c =
     let p = err_from_is_err_and c.from_residual-in_err-flat_tests-in-And.result c.from_residual-in_err-flat_tests-in-And.ensures.1 in
     rw (p.1, p.2) (λ fault is. test-And c.args.scope.now c.args.e.now c.in-And.parts c.in-And.is
-    ∙ fault_stays _ _ fault (ap (λ parts. tests c.args.scope.now (exprs (map expr_of parts))) (sym c.deref-in-And.ensures.value) ∙ c.in_err-flat_tests-in-And.ensures fault is))
+    ∙ fault_stays _ _ fault (ap (λ parts. tests c.args.scope.now (exprs (map expr_of parts))) (sym c.deref-in-And.ensures.value)
+    ∙ c.in_err-flat_tests-in-And.ensures fault is))
 
 pub flat_test-returns-in_err-flat_tests-in-Or : goal.flat_test-returns-in_err-flat_tests-in-Or
 flat_test-returns-in_err-flat_tests-in-Or t c =
     let p = err_from_is_err_and c.from_residual-in_err-flat_tests-in-Or.result c.from_residual-in_err-flat_tests-in-Or.ensures.1 in
     rw (p.1, p.2) (λ fault is. test-Or c.args.scope.now c.args.e.now c.in-Or.parts c.in-Or.is
-    ∙ fault_stays _ _ fault (ap (λ parts. tests c.args.scope.now (exprs (map expr_of parts))) (sym c.deref-in-Or.ensures.value) ∙ c.in_err-flat_tests-in-Or.ensures fault is))
+    ∙ fault_stays _ _ fault (ap (λ parts. tests c.args.scope.now (exprs (map expr_of parts))) (sym c.deref-in-Or.ensures.value)
+    ∙ c.in_err-flat_tests-in-Or.ensures fault is))
 
 pub flat_test-returns-in_ok-flat_tests-in-And : goal.flat_test-returns-in_ok-flat_tests-in-And
 flat_test-returns-in_ok-flat_tests-in-And t c =
     test-And c.args.scope.now c.args.e.now c.in-And.parts c.in-And.is
-    ∙ value_passes _ _ _ (ap (λ parts. tests c.args.scope.now (exprs (map expr_of parts))) (sym c.deref-in-And.ensures.value) ∙ c.in_ok-flat_tests-in-And.ensures)
+    ∙ value_passes _ _ _ (ap (λ parts. tests c.args.scope.now (exprs (map expr_of parts))) (sym c.deref-in-And.ensures.value)
+    ∙ c.in_ok-flat_tests-in-And.ensures)
     ∙ ap Ok (sym (flat_expr-And c.in_ok-flat_tests-in-And.field-0))
 
 pub flat_test-returns-in_ok-flat_tests-in-Or : goal.flat_test-returns-in_ok-flat_tests-in-Or
@@ -43,7 +46,8 @@ flat_tests-loop-e-preserved t c =
     let e = flat_expr_of c.in_ok-flat_test.field-0 in
     let rest = tests c.args.scope.now (exprs (map expr_of (drop (suc i) parts))) in
     let left : tests c.args.scope.now (exprs (map expr_of (drop i parts))) ≡ on_ok rest (λ others. Ok (flat.MoreExprs e others)) =
-    ap (λ l. tests c.args.scope.now (exprs (map expr_of l))) (drop-cons parts i c.e-item.result (omega arith) ∙ ap (λ d. d ∷ drop (suc i) parts) (sym c.e-item.is))
+    ap (λ l. tests c.args.scope.now (exprs (map expr_of l))) (drop-cons parts i c.e-item.result (omega arith)
+    ∙ ap (λ d. d ∷ drop (suc i) parts) (sym c.e-item.is))
     ∙ value_passes _ (λ e. on_ok rest (λ others. Ok (flat.MoreExprs e others))) e c.in_ok-flat_test.ensures in
     let items : map flat_expr_of c.push.new.self.items ≡ found ++ e ∷ [] = ap (map flat_expr_of) c.in_ok-push.ensures.items ∙ map-append _ _ _ in
     rw (add-one i) (ap (λ es. exprs_behind es rest) items ∙ sym (exprs_behind-step found e rest) ∙ sym (ap (exprs_behind found) left) ∙ c.loop-e.invariant)

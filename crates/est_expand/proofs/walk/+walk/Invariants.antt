@@ -43,7 +43,8 @@ decreases-flat_case l = l.source.room * 4 + 1
 abbrev pub invariant-each-loop-p : goal.invariant-each-loop-p
 invariant-each-loop-p l = record {
   kept : around_of l.around ≡ around_of l.fn.around;
-  left : stmts_behind (map flat_stmt_of l.found.items) (each (inside_of l.source (around_of l.fn.around)) (stmts (map stmt_of (drop l.p-index l.parts))) (met_of l.met))
+  left : stmts_behind (map flat_stmt_of l.found.items) (each (inside_of l.source (around_of l.fn.around)) (stmts (map stmt_of (drop l.p-index l.parts)))
+      (met_of l.met))
       ≡ each (inside_of l.source (around_of l.fn.around)) (stmts (map stmt_of l.parts)) (met_of l.fn.met);
 }
 

@@ -13,7 +13,8 @@ loop-present-preserved c =
     let state = c.next.ensures.state in
     let rest = event_from (n - (i + 1)) (next_state x) in
     record {
-      event = ap (λ y. take (i + 1) (set event i (c.next.result == 0)) ++ event_from (n - (i + 1)) y) state ∙ event-more event i c.next.result rest (omega arith)
+      event = ap (λ y. take (i + 1) (set event i (c.next.result == 0)) ++ event_from (n - (i + 1)) y) state
+          ∙ event-more event i c.next.result rest (omega arith)
           ∙ ap (λ y. take i event ++ ((y == 0) ∷ rest)) (c.next.ensures.draw ∙ ap (λ s. drawn s 4) state)
           ∙ ap (λ y. take i event ++ y) (sym (event_from-more i n x low)) ∙ c.loop-present.invariant.event;
       state = ap (state_after (n - (i + 1))) state ∙ sym (state_after-more i n x low) ∙ c.loop-present.invariant.state;

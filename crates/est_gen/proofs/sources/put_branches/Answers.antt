@@ -22,7 +22,8 @@ loop-number-preserved c =
 pub returns-clause-text : goal.returns-clause-text
 returns-clause-text c =
     let e : c.args.branches - c.loop-number.number ≡ 0 = omega arith in
-    sym (append-nil c.loop-number.text.items) ∙ ap (λ n. c.loop-number.text.items ++ branches_text c.loop-number.number n c.loop-number.draw) (sym e) ∙ c.loop-number.invariant.text
+    sym (append-nil c.loop-number.text.items) ∙ ap (λ n. c.loop-number.text.items ++ branches_text c.loop-number.number n c.loop-number.draw) (sym e)
+    ∙ c.loop-number.invariant.text
 
 pub returns-clause-state : goal.returns-clause-state
 returns-clause-state c =

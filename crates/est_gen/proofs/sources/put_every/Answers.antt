@@ -4,4 +4,5 @@ use Rattle.est_gen.proofs.Written.{written-4}
 use Rattle.est_gen.proofs.sources.put_every.Goals as goal
 
 pub returns : goal.returns
-returns c = on_ok_weaker c.put.result (λ last. last ∙ written-4 _ _ _ _ _ _ _ _ c.in_ok-put_number.ensures c.in_ok-put_number-2.ensures c.in_ok-put_number-3.ensures) c.put.ensures
+returns c = on_ok_weaker c.put.result (λ last. last ∙ written-4 _ _ _ _ _ _ _ _ c.in_ok-put_number.ensures c.in_ok-put_number-2.ensures
+    c.in_ok-put_number-3.ensures) c.put.ensures

@@ -6,5 +6,6 @@ pub returns : goal.returns
 returns c =
     elim c.match-reserved.branch [
       | in-Some w ↦ rw w.kind-is (reserved_front _ _ _ c.requires.some c.requires.letter c.name_len-width.ensures (w.in-Some.ensures))
-      | in-None+in_ok-from_bytes-in-None w ↦ rw (w.kind-is, w.in_ok-from_bytes-in-None.ensures) (ident_front _ _ c.requires.some c.requires.letter c.name_len-width.ensures (w.in-None.ensures))
+      | in-None+in_ok-from_bytes-in-None w ↦ rw (w.kind-is, w.in_ok-from_bytes-in-None.ensures)
+          (ident_front _ _ c.requires.some c.requires.letter c.name_len-width.ensures (w.in-None.ensures))
     ]

@@ -20,7 +20,11 @@ loop-at-smaller-in-Continue-branch-2 c =
 pub loop-at-preserved-in-Continue-branch-2 : goal.loop-at-preserved-in-Continue-branch-2
 loop-at-preserved-in-Continue-branch-2 c =
     let fits = piece_fits _ _ _ _ c.loop-at.invariant.within (c.in_ok-width.ensures).ok in
-    record { within = fits.1; cut = rw c.in_ok-push.ensures.items (cut_token _ _ _ _ _ c.in-Some.kind c.in-Some.is c.loop-at.invariant.cut c.in_ok-width.ensures.ok) }
+    record {
+      within = fits.1;
+      cut = rw c.in_ok-push.ensures.items (cut_token _ _ _ _ _ c.in-Some.kind c.in-Some.is c.loop-at.invariant.cut
+          c.in_ok-width.ensures.ok);
+    }
 
 pub loop-at-smaller : goal.loop-at-smaller
 loop-at-smaller c =

@@ -10,4 +10,5 @@ returns-in_err-check_body-clause-fault c =
     let p = err_from_is_err_and c.from_residual-in_err-check_body.result c.from_residual-in_err-check_body.ensures.1 in
     let m = c.args.module.now in
     rw (p.1, p.2) (IsFirst-behind _ (interface_faults (map decl_of m.decls.items)) (body_faults (stmt_of m.body))
-    (ap (λ decls. interface_faults (map decl_of decls)) (sym c.deref.ensures.value) ∙ c.in_ok-check_interface.ensures.faultless) c.in_err-check_body.ensures.fault)
+    (ap (λ decls. interface_faults (map decl_of decls)) (sym c.deref.ensures.value) ∙ c.in_ok-check_interface.ensures.faultless)
+    c.in_err-check_body.ensures.fault)

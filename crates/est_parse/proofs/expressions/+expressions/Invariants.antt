@@ -20,7 +20,8 @@ decreases-read_expr l = l.room * 4 + 2
 abbrev pub invariant-read_expr-loop-behind : goal.invariant-read_expr-loop-behind
 invariant-read_expr-loop-behind l = record {
   some : 0 < vec_len l.parts;
-  whole : mapped (λ others. expr_list Or (map expr_of l.parts.items ++ others)) (loop (expr_step words.Or (conj l.room (exprs_inside l.room)))) l.rest ≡ expr l.room l.tokens;
+  whole : mapped (λ others. expr_list Or (map expr_of l.parts.items ++ others)) (loop (expr_step words.Or (conj l.room (exprs_inside l.room)))) l.rest ≡
+      expr l.room l.tokens;
 }
 
 abbrev pub decreases-read_expr-loop-behind : goal.decreases-read_expr-loop-behind
@@ -29,7 +30,8 @@ decreases-read_expr-loop-behind l = length l.rest
 abbrev pub invariant-read_conj-loop-behind : goal.invariant-read_conj-loop-behind
 invariant-read_conj-loop-behind l = record {
   some : 0 < vec_len l.parts;
-  whole : mapped (λ others. expr_list And (map expr_of l.parts.items ++ others)) (loop (expr_step words.And (neg l.room (exprs_inside l.room)))) l.rest ≡ conj l.room (exprs_inside l.room) l.tokens;
+  whole : mapped (λ others. expr_list And (map expr_of l.parts.items ++ others)) (loop (expr_step words.And (neg l.room (exprs_inside l.room)))) l.rest ≡
+      conj l.room (exprs_inside l.room) l.tokens;
 }
 
 abbrev pub decreases-read_conj-loop-behind : goal.decreases-read_conj-loop-behind

@@ -48,7 +48,8 @@ decreases-read_block l = l.room * 16 + 9
 abbrev pub invariant-read_statement-loop-behind : goal.invariant-read_statement-loop-behind
 invariant-read_statement-loop-behind l = record {
   some : 0 < vec_len l.parts;
-  whole : finished (λ others. stmt_list Par (map stmt_of l.parts.items ++ others)) l.tokens (loop (whole_step l.room (inside l.room)) l.rest) ≡ statement l.room l.tokens;
+  whole : finished (λ others. stmt_list Par (map stmt_of l.parts.items ++ others)) l.tokens (loop (whole_step l.room (inside l.room)) l.rest) ≡
+      statement l.room l.tokens;
 }
 
 abbrev pub decreases-read_statement-loop-behind : goal.decreases-read_statement-loop-behind
@@ -58,7 +59,8 @@ decreases-read_statement-loop-behind l = length l.rest
 abbrev pub invariant-read_line-loop-behind : goal.invariant-read_line-loop-behind
 invariant-read_line-loop-behind l = record {
   some : 0 < vec_len l.parts;
-  whole : finished (λ others. stmt_list Seq (map stmt_of l.parts.items ++ others)) l.tokens (loop (line_step l.room (inside l.room)) l.rest) ≡ line l.room (inside l.room) l.tokens;
+  whole : finished (λ others. stmt_list Seq (map stmt_of l.parts.items ++ others)) l.tokens (loop (line_step l.room (inside l.room)) l.rest) ≡
+      line l.room (inside l.room) l.tokens;
 }
 
 abbrev pub decreases-read_line-loop-behind : goal.decreases-read_line-loop-behind

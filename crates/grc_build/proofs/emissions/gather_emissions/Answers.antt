@@ -8,7 +8,8 @@ use Rattle.grc_build.proofs.emissions.gather_emissions.Goals as goal
 pub loop-i-init : goal.loop-i-init
 loop-i-init c =
     let t = c.args.t.now in
-    none_yet t _ (c.in_ok-empty_lists.ensures.length ∙ c.count.ensures) c.in_ok-empty_lists-2.ensures.length c.in_ok-empty_lists.ensures.empty c.in_ok-empty_lists-2.ensures.empty
+    none_yet t _ (c.in_ok-empty_lists.ensures.length ∙ c.count.ensures) c.in_ok-empty_lists-2.ensures.length c.in_ok-empty_lists.ensures.empty
+    c.in_ok-empty_lists-2.ensures.empty
 
 pub push_emission-requires-clause-within : goal.push_emission-requires-clause-within
 push_emission-requires-clause-within c = omega (arith, c.count-i-end.ensures)

@@ -9,7 +9,11 @@ pub index-statement-requires : goal.index-statement-requires
 index-statement-requires c =
     let t = c.args.t.now in
     let k = instance_here t c.args.i.0 c.requires.tables c.requires.within in
-    omega (arith, statements_within t _ c.requires.tables k.within, ap (λ x. x.path) (read_number t c.args.i.0 c.instance-instance.result c.instance-instance.ensures))
+    omega (
+      arith,
+      statements_within t _ c.requires.tables k.within,
+      ap (λ x. x.path) (read_number t c.args.i.0 c.instance-instance.result c.instance-instance.ensures),
+    )
 
 pub index-requires : goal.index-requires
 index-requires c =

@@ -37,7 +37,8 @@ returns-in-Outgoing c xs h =
     let k = s - (program_in t).inputs in
     if_ok c.push_out.result (PutsGo t c.args.i.0 k c.args.m.now.outs.items c.push_out.new.m.outs.items)
     (AreEmitters t c.push_out.new.m (xs ++ x ∷ []))
-    (λ p. out_emitted t c.args.m.now c.push_out.new.m xs x s k p.wire c.requires.emit b (let z : s ≡ (program_in t).inputs + k = omega (arith, o.from) in z) o.below p.go p.lists
+    (λ p. out_emitted t c.args.m.now c.push_out.new.m xs x s k p.wire c.requires.emit b
+    (let z : s ≡ (program_in t).inputs + k = omega (arith, o.from) in z) o.below p.go p.lists
     c.push_out.ensures.length c.push_out.ensures.locals h)
     c.push_out.ensures.outs
 
@@ -48,7 +49,8 @@ returns-in-Bound c xs h =
     let x = spot_in t c.args.i.0 in
     let b = c.requires.binding ∙ ap binding_of c.in-Bound.is in
     let n = c.in-Bound.path in
-    if_ok c.push_local.result (PutsLocal t c.args.i.0 (record { path = n; layer = layer_above n x.layer }) c.args.m.now.locals.items c.push_local.new.m.locals.items)
+    if_ok c.push_local.result (PutsLocal t c.args.i.0 (record { path = n; layer = layer_above n x.layer }) c.args.m.now.locals.items
+    c.push_local.new.m.locals.items)
     (AreEmitters t c.push_local.new.m (xs ++ x ∷ []))
     (λ p. local_emitted t c.args.m.now c.push_local.new.m xs x s n p.place p.puts.wire c.requires.emit b p.number p.puts.go p.puts.lists
     c.push_local.ensures.length c.push_local.ensures.outs h)

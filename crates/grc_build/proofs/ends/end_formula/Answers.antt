@@ -17,7 +17,9 @@ use Rattle.grc_build.specs.Ending.{Tells, end_if, IsParallel, sequence_ends}
 use Rattle.grc_build.specs.Tabled.{MeansIn, row_in}
 use Rattle.grc_build.proofs.AnyOf.{if_any}
 use Rattle.grc_build.proofs.TableFacts.{Here, go_there, is_live, number_fits, statements_within}
-use Rattle.grc_build.proofs.EndFacts.{PartRow, is_parallel, form_at, ending_here, present_first, present_second, seq_first, seq_second, par_first, par_second, suspend_part, loop_part, trap_part, local_part, part_tells, loop_tells, second_tells, own_tells, restart_tells, tells_live, second_code, sequence_same, loop_same, suspension_same, parallel_same}
+use Rattle.grc_build.proofs.EndFacts.{PartRow, is_parallel, form_at, ending_here, present_first, present_second, seq_first, seq_second, par_first, par_second}
+use Rattle.grc_build.proofs.EndFacts.{suspend_part, loop_part, trap_part, local_part, part_tells, loop_tells, second_tells, own_tells, restart_tells}
+use Rattle.grc_build.proofs.EndFacts.{tells_live, second_code, sequence_same, loop_same, suspension_same, parallel_same}
 use Rattle.grc_build.proofs.ends.end_formula.Goals as goal
 
 pub index-statement-requires : goal.index-statement-requires
@@ -98,13 +100,15 @@ returns-in-Present c =
     let k = c.args.e.code in
     let h = c.requires.tables in
     let i = ending_here t n l k c.requires in
-    let f = form_at t n l c.index-statement.result.now (Present (expression_of c.in-Present.field-0) (term_of c.in-Present.field-1.value) (term_of c.in-Present.field-2.value)) h i c.index-statement.ensures (ap term_of c.in-Present.is) in
+    let f = form_at t n l c.index-statement.result.now (Present (expression_of c.in-Present.field-0) (term_of c.in-Present.field-1.value)
+    (term_of c.in-Present.field-2.value)) h i c.index-statement.ensures (ap term_of c.in-Present.is) in
     let r = present_first t n (expression_of c.in-Present.field-0) p q i.placed f.statement in
     let s = present_second t n (expression_of c.in-Present.field-0) p q i.placed f.statement in
     let second : Tells t (End c.index-statement.result.now.second l k) (instance_codes q l k)
     = subst (λ m. Tells t (End m l k) (instance_codes q l k)) (sym f.second) (part_tells t n (n + 1 + statement_count p) k l q h i s) in
     subst (λ v. IfOk c.branch_ends.result (λ x. MeansIn t x (end_formula (row_in t n).scope v n l k))) (sym f.statement)
-    (subst (λ m. IfOk c.branch_ends.result (λ x. MeansIn t x (any_of (end_if (instance_codes p l k) (n + 1) l k ++ end_if (instance_codes q l k) m l k)))) f.second
+    (subst (λ m. IfOk c.branch_ends.result (λ x. MeansIn t x (any_of (end_if (instance_codes p l k) (n + 1) l k ++ end_if (instance_codes q l k) m l k))))
+    f.second
     (c.branch_ends.ensures (instance_codes p l k) (instance_codes q l k) (part_tells t n (n + 1) k l p h i r) second))
 
 pub suspension_end-requires : goal.suspension_end-requires
@@ -115,7 +119,8 @@ suspension_end-requires c =
     let k = c.args.e.code in
     let h = c.requires.tables in
     let i = ending_here t n l k c.requires in
-    let f = form_at t n l c.index-statement.result.now (Suspend (expression_of c.in-Suspend.test) (term_of c.in-Suspend.field-1.value)) h i c.index-statement.ensures (ap term_of c.in-Suspend.is) in
+    let f = form_at t n l c.index-statement.result.now (Suspend (expression_of c.in-Suspend.test) (term_of c.in-Suspend.field-1.value)) h i
+    c.index-statement.ensures (ap term_of c.in-Suspend.is) in
     record {
       tables = h;
       live = is_live t n l h i.within i.live;
@@ -132,7 +137,8 @@ returns-in-Suspend c =
     let k = c.args.e.code in
     let h = c.requires.tables in
     let i = ending_here t n l k c.requires in
-    let f = form_at t n l c.index-statement.result.now (Suspend (expression_of c.in-Suspend.test) (term_of c.in-Suspend.field-1.value)) h i c.index-statement.ensures (ap term_of c.in-Suspend.is) in
+    let f = form_at t n l c.index-statement.result.now (Suspend (expression_of c.in-Suspend.test) (term_of c.in-Suspend.field-1.value)) h i
+    c.index-statement.ensures (ap term_of c.in-Suspend.is) in
     let r = suspend_part t n (expression_of c.in-Suspend.test) p i.placed f.statement in
     subst (λ v. IfOk c.suspension_end.result (λ x. MeansIn t x v))
     (suspension_same (row_in t n).scope (expression_of c.in-Suspend.test) p n l k ∙ ap (λ v. end_formula (row_in t n).scope v n l k) (sym f.statement))
@@ -148,7 +154,8 @@ returns-in-Seq c =
     let k = c.args.e.code in
     let h = c.requires.tables in
     let i = ending_here t n l k c.requires in
-    let f = form_at t n l c.index-statement.result.now (Seq (term_of c.in-Seq.field-0.value) (term_of c.in-Seq.field-1.value)) h i c.index-statement.ensures (ap term_of c.in-Seq.is) in
+    let f = form_at t n l c.index-statement.result.now (Seq (term_of c.in-Seq.field-0.value) (term_of c.in-Seq.field-1.value)) h i c.index-statement.ensures
+    (ap term_of c.in-Seq.is) in
     let m = n + 1 + statement_count p in
     let r = seq_first t n p q i.placed f.statement in
     let s = seq_second t n p q i.placed f.statement in
@@ -160,7 +167,8 @@ returns-in-Seq c =
     let own : l ≡ Resumed → Tells t (End c.index-statement.result.now.second (Started c.index-statement.result.now.second) k) y
     = λ e. subst (λ v. Tells t (End v (Started v) k) y) (sym f.second) (own_tells t n m k p q (omega arith) h (subst (Here t n) e i) s) in
     subst (λ v. IfOk c.sequence_end.result (λ z. MeansIn t z v))
-    ((λ j. any_of (sequence_ends b x y (n + 1) (f.second j) l k)) ∙ sequence_same (row_in t n).scope p q n l k ∙ ap (λ v. end_formula (row_in t n).scope v n l k) (sym f.statement))
+    ((λ j. any_of (sequence_ends b x y (n + 1) (f.second j) l k)) ∙ sequence_same (row_in t n).scope p q n l k
+    ∙ ap (λ v. end_formula (row_in t n).scope v n l k) (sym f.statement))
     (c.sequence_end.ensures b x y (part_tells t n (n + 1) k l p h i r) second own)
 
 pub returns-in-Loop : goal.returns-in-Loop
@@ -172,7 +180,8 @@ returns-in-Loop c =
     let k = c.args.e.code in
     let h = c.requires.tables in
     let i = ending_here t n l k c.requires in
-    let f = form_at t n l c.index-statement.result.now (Loop c.in-Loop.field-0 (term_of c.in-Loop.field-1.value)) h i c.index-statement.ensures (ap term_of c.in-Loop.is) in
+    let f = form_at t n l c.index-statement.result.now (Loop c.in-Loop.field-0 (term_of c.in-Loop.field-1.value)) h i c.index-statement.ensures
+    (ap term_of c.in-Loop.is) in
     let r = loop_part t n c.in-Loop.field-0 p i.placed f.statement in
     let b = instance_codes p l k in
     let x = resumed_codes p 0 && started_codes p k in
@@ -192,7 +201,8 @@ parallel_end-requires c =
     let k = c.args.e.code in
     let h = c.requires.tables in
     let i = ending_here t n l k c.requires in
-    let f = form_at t n l c.index-statement.result.now (Par (term_of c.in-Par.field-0.value) (term_of c.in-Par.field-1.value)) h i c.index-statement.ensures (ap term_of c.in-Par.is) in
+    let f = form_at t n l c.index-statement.result.now (Par (term_of c.in-Par.field-0.value) (term_of c.in-Par.field-1.value)) h i c.index-statement.ensures
+    (ap term_of c.in-Par.is) in
     let r = par_first t n p q i.placed f.statement in
     let s = par_second t n p q i.placed f.statement in
     subst (λ m. IsParallel t n (n + 1) m l) (sym f.second) (is_parallel t n p q l h i r s)
@@ -207,7 +217,8 @@ returns-in-Par c =
     let k = c.args.e.code in
     let h = c.requires.tables in
     let i = ending_here t n l k c.requires in
-    let f = form_at t n l c.index-statement.result.now (Par (term_of c.in-Par.field-0.value) (term_of c.in-Par.field-1.value)) h i c.index-statement.ensures (ap term_of c.in-Par.is) in
+    let f = form_at t n l c.index-statement.result.now (Par (term_of c.in-Par.field-0.value) (term_of c.in-Par.field-1.value)) h i c.index-statement.ensures
+    (ap term_of c.in-Par.is) in
     let d = c.index-statement.result.now.second in
     let r = par_first t n p q i.placed f.statement in
     let s = subst (λ m. PartRow t m (part_liveness (row_in t n).live q) q) (sym f.second) (par_second t n p q i.placed f.statement) in
@@ -244,9 +255,11 @@ returns-in-Local c =
     let k = c.args.e.code in
     let h = c.requires.tables in
     let i = ending_here t n l k c.requires in
-    let f = form_at t n l c.index-statement.result.now (Local c.in-Local.field-0.0 (term_of c.in-Local.field-1.value)) h i c.index-statement.ensures (ap term_of c.in-Local.is) in
+    let f = form_at t n l c.index-statement.result.now (Local c.in-Local.field-0.0 (term_of c.in-Local.field-1.value)) h i c.index-statement.ensures
+    (ap term_of c.in-Local.is) in
     let r = local_part t n c.in-Local.field-0.0 p i.placed f.statement in
     let b = instance_codes p l k in
     subst (λ v. MeansIn t c.or_false.result (end_formula (row_in t n).scope v n l k)) (sym f.statement)
     (c.or_false.ensures (instances_in t.wires) (names_in t.wires) (end_if b (n + 1) l k)
-    (if_any (instances_in t.wires) (names_in t.wires) c.part_end.result b (Value (End (n + 1) l k)) (c.part_end.ensures b (part_tells t n (n + 1) k l p h i r))))
+    (if_any (instances_in t.wires) (names_in t.wires) c.part_end.result b (Value (End (n + 1) l k))
+    (c.part_end.ensures b (part_tells t n (n + 1) k l p h i r))))

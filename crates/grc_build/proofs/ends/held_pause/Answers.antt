@@ -17,7 +17,8 @@ returns-in_ok-f c =
     let k = c.args.e.code in
     let x = test_formula (row_in t c.args.e.path).scope (expression_of c.args.test.now) l in (
       eq-eqb k 1 c.if-e-eq1.true,
-      c.in_ok-f.ensures insts names (Value (Go c.args.e.path l)) x (c.wire.ensures insts names (Go c.args.e.path l) c.find_go.ensures c.requires.go) c.in_ok-holds.ensures,
+      c.in_ok-f.ensures insts names (Value (Go c.args.e.path l)) x (c.wire.ensures insts names (Go c.args.e.path l) c.find_go.ensures c.requires.go)
+          c.in_ok-holds.ensures,
     )
 
 pub returns-else-e-eq1 : goal.returns-else-e-eq1

@@ -20,7 +20,8 @@ returns-in_ok-found-in-Resumed c b x h f =
     let z = x && not (k == 0) in
     let m = c.args.part in
     let at : (b : Bool) → Tells t (End m (Started m) k) b → MeansIfIn t c.first_end-others.result (b && not (k == 0)) (Value (End m (Started m) k))
-    = subst (λ v. (b : Bool) → Tells t (End m (Started m) v) b → MeansIfIn t c.first_end-others.result (b && not (v == 0)) (Value (End m (Started m) v))) c.at_own_root.ensures.code
+    = subst (λ v. (b : Bool) → Tells t (End m (Started m) v) b → MeansIfIn t c.first_end-others.result (b && not (v == 0)) (Value (End m (Started m) v)))
+    c.at_own_root.ensures.code
     (subst (λ v. (b : Bool) → Tells t (End m v c.at_own_root.result.code) b
     → MeansIfIn t c.first_end-others.result (b && not (c.at_own_root.result.code == 0)) (Value (End m v c.at_own_root.result.code)))
     c.at_own_root.ensures.layer c.first_end-others.ensures) in
@@ -39,4 +40,5 @@ returns-in-Started c b x h f =
     let p = c.args.part in
     let y = b && not (k == 0) in
     rw c.in-Started.is
-    (rw c.in-Started.is at (c.or_false-in-Started.ensures insts names (end_if y p l k) (if_any insts names c.first_end-in-Started.result y (Value (End p l k)) (c.first_end-in-Started.ensures b h))))
+    (rw c.in-Started.is at (c.or_false-in-Started.ensures insts names (end_if y p l k)
+    (if_any insts names c.first_end-in-Started.result y (Value (End p l k)) (c.first_end-in-Started.ensures b h))))

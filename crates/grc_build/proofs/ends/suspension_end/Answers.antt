@@ -35,4 +35,5 @@ returns-in-Started c b h =
     let k = c.args.e.code in
     let p = c.args.part in
     rw c.in-Started.is
-    (rw c.in-Started.is at (c.or_false-in-Started.ensures insts names (end_if b p l k) (if_any insts names c.part_end-in-Started.result b (Value (End p l k)) (c.part_end-in-Started.ensures b h))))
+    (rw c.in-Started.is at (c.or_false-in-Started.ensures insts names (end_if b p l k)
+    (if_any insts names c.part_end-in-Started.result b (Value (End p l k)) (c.part_end-in-Started.ensures b h))))

@@ -18,7 +18,8 @@ returns-in_ok-found-in-0 c A h =
     let k = c.args.e.code in
     let p = c.args.part in
     let left = subst (λ v. (b : Bool) → Tells t (End p l v) b → MeansIfIn t c.part_end-left.result b (Value (End p l v))) c.with_code.ensures.code
-    (subst (λ v. (b : Bool) → Tells t (End p (layer_of v) c.with_code.result.code) b → MeansIfIn t c.part_end-left.result b (Value (End p (layer_of v) c.with_code.result.code)))
+    (subst (λ v. (b : Bool) → Tells t (End p (layer_of v) c.with_code.result.code) b →
+    MeansIfIn t c.part_end-left.result b (Value (End p (layer_of v) c.with_code.result.code)))
     c.with_code.ensures.layer c.part_end-left.ensures) in
     let first = subst (λ v. (b : Bool) → Tells t (End p l v) b → MeansIfIn t c.part_end.result b (Value (End p l v))) c.in-0.is c.part_end.ensures in
     subst (λ v. MeansIn t c.or_false.result (any_of (trapped_ends A p l v))) (sym c.in-0.is)
@@ -46,7 +47,8 @@ returns-in_default c A h =
     let l = layer_of c.args.e.layer in
     let k = c.args.e.code in
     let p = c.args.part in
-    let more = subst (λ v. (b : Bool) → Tells t (End p l v) b → MeansIfIn t c.part_end-in_default.result b (Value (End p l v))) c.with_code-in_default.ensures.code
+    let more = subst (λ v. (b : Bool) → Tells t (End p l v) b → MeansIfIn t c.part_end-in_default.result b (Value (End p l v)))
+    c.with_code-in_default.ensures.code
     (subst (λ v. (b : Bool) → Tells t (End p (layer_of v) c.with_code-in_default.result.code) b
     → MeansIfIn t c.part_end-in_default.result b (Value (End p (layer_of v) c.with_code-in_default.result.code)))
     c.with_code-in_default.ensures.layer c.part_end-in_default.ensures) in

@@ -15,7 +15,8 @@ returns-in-Resumed c =
     let names = names_in t.wires in
     let go = c.wire-go.ensures insts names (Go c.args.n (layer_of c.args.layer)) c.find_go.ensures c.requires.go in
     rw c.in-Resumed.is
-    (rw c.in-Resumed.is at (c.both.ensures insts names (Value (Go c.args.n (layer_of c.args.layer))) (Selected c.args.path) go (record { fits = refl; same = refl })))
+    (rw c.in-Resumed.is at (c.both.ensures insts names (Value (Go c.args.n (layer_of c.args.layer))) (Selected c.args.path) go
+    (record { fits = refl; same = refl })))
 
 pub returns-in_ok-negated-in-Started : goal.returns-in_ok-negated-in-Started
 returns-in_ok-negated-in-Started c =

@@ -53,7 +53,8 @@ returns-in_ok-found-in-Local c =
     let within : j < length (instances_in t.wires) = w.within in
     let g : Gathers (names_in t.wires) (list_at c.args.m.now.locals.items j) (status_at t j) all = c.requires.emitters.locals j within in
     let list : c.as_slice.result.now ≡ list_at c.args.m.now.locals.items j
-    = c.as_slice.ensures.value ∙ list_read c.args.m.now.locals.items j c.index-list.result.now c.index-list.ensures (omega (arith, c.requires.emitters.each_local)) in
+    = c.as_slice.ensures.value ∙ list_read c.args.m.now.locals.items j c.index-list.result.now c.index-list.ensures
+    (omega (arith, c.requires.emitters.each_local)) in
     let fits = subst (λ l. All (λ w. w.0 < length (names_in t.wires)) l) (sym list) g.fits in
     let found = subst (λ xs. MeansAnyIn t c.in_ok-found-in-Local.found xs) (ap (values (names_in t.wires)) list ∙ g.same)
     (c.in_ok-found-in-Local.ensures (instances_in t.wires) (names_in t.wires) fits) in
@@ -64,4 +65,5 @@ returns-in-End c =
     let t = c.args.t.now in
     let same : instance_at (instances_in t.wires) c.in-End.i.0 ≡ instance_of c.instance-instance-in-End.result = c.instance-instance-in-End.ensures.same _ in
     rw c.in-End.is
-    (subst (λ x. IfOk c.end_formula.result (λ f. MeansIn t f (wire_formula (program_in t) (End x.path x.layer c.in-End.code)))) (sym same) c.end_formula.ensures)
+    (subst (λ x. IfOk c.end_formula.result (λ f. MeansIn t f (wire_formula (program_in t) (End x.path x.layer c.in-End.code))))
+    (sym same) c.end_formula.ensures)

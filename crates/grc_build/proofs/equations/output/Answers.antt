@@ -30,8 +30,10 @@ returns c =
     let g : Gathers (names_in t.wires) (list_at c.args.m.now.outs.items k) (Out s) all
     = subst (λ v. Gathers (names_in t.wires) (list_at c.args.m.now.outs.items k) (Out v) all) same (c.requires.emitters.outs k o.below) in
     let list : c.as_slice.result.now ≡ list_at c.args.m.now.outs.items k
-    = c.as_slice.ensures.value ∙ list_read c.args.m.now.outs.items k c.index-list.result.now c.index-list.ensures (omega (arith, o.below, c.requires.emitters.each_out)) in
+    = c.as_slice.ensures.value ∙ list_read c.args.m.now.outs.items k c.index-list.result.now c.index-list.ensures
+    (omega (arith, o.below, c.requires.emitters.each_out)) in
     let fits = subst (λ l. All (λ w. w.0 < length (names_in t.wires)) l) (sym list) g.fits in
-    let emitted = subst (λ xs. MeansAnyIn t c.in_ok-emitted.emitted xs) (ap (values (names_in t.wires)) list ∙ g.same) (c.in_ok-emitted.ensures (instances_in t.wires) (names_in t.wires) fits) in
+    let emitted = subst (λ xs. MeansAnyIn t c.in_ok-emitted.emitted xs) (ap (values (names_in t.wires)) list ∙ g.same)
+    (c.in_ok-emitted.ensures (instances_in t.wires) (names_in t.wires) fits) in
     c.or_false.ensures (instances_in t.wires) (names_in t.wires) (formula_if (nat_lt s (given_count p)) (Input s) ++ emissions (Out s) all)
     (c.in_ok-found.ensures (instances_in t.wires) (names_in t.wires) (nat_lt s (given_count p)) (Input s) (emissions (Out s) all) c.given.ensures emitted)

@@ -10,7 +10,8 @@ use Rattle.grc_build.proofs.nodes.status_number.Goals as goal
 
 pub returns-in-Outgoing : goal.returns-in-Outgoing
 returns-in-Outgoing c u e =
-    subst (λ v. HasName (names_in c.args.t.now.wires) c.out.result v) (out_status c.args.signal.0 (instance_at (instances_in c.args.t.now.wires) c.args.i.0).layer u (rw c.in-Outgoing.is at e)) c.out.ensures
+    subst (λ v. HasName (names_in c.args.t.now.wires) c.out.result v)
+    (out_status c.args.signal.0 (instance_at (instances_in c.args.t.now.wires) c.args.i.0).layer u (rw c.in-Outgoing.is at e)) c.out.ensures
 
 pub returns-in-Bound : goal.returns-in-Bound
 returns-in-Bound c u e =

@@ -17,7 +17,10 @@ returns c b x h g =
     let w = c.args.e.path in
     let over = if_any insts names c.in_ok-over.over (k == 0) (branch_over w m) c.in_ok-over.ensures in
     let one = c.in_ok-found.ensures insts names x (held_end m k) (formula_if (k == 0) (branch_over w m)) (c.in_ok-held_end.ensures x g) over in
-    let two = c.in_ok-found-2.ensures insts names (k == 0) (branch_over w n) (formula_if x (held_end m k) ++ formula_if (k == 0) (branch_over w m)) c.in_ok-over_end.ensures one in
-    let three = c.in_ok-found-3.ensures insts names b (held_end n k) (formula_if (k == 0) (branch_over w n) ++ (formula_if x (held_end m k) ++ formula_if (k == 0) (branch_over w m)))
+    let two = c.in_ok-found-2.ensures insts names (k == 0) (branch_over w n)
+    (formula_if x (held_end m k) ++ formula_if (k == 0) (branch_over w m)) c.in_ok-over_end.ensures one in
+    let three = c.in_ok-found-3.ensures insts names b (held_end n k)
+    (formula_if (k == 0) (branch_over w n) ++ (formula_if x (held_end m k) ++ formula_if (k == 0) (branch_over w m)))
     (c.in_ok-held_end-2.ensures b h) two in
-    c.or_false.ensures insts names (formula_if b (held_end n k) ++ (formula_if (k == 0) (branch_over w n) ++ (formula_if x (held_end m k) ++ formula_if (k == 0) (branch_over w m)))) three
+    c.or_false.ensures insts names (formula_if b (held_end n k) ++ (formula_if (k == 0) (branch_over w n)
+    ++ (formula_if x (held_end m k) ++ formula_if (k == 0) (branch_over w m)))) three

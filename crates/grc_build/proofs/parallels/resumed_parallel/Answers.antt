@@ -17,7 +17,8 @@ returns c a d b x h g f e =
     let w = c.args.e.path in
     let ends = c.in_ok-ends.ensures b x f e in
     let other = c.in_ok-other.ensures d g in
-    let E = any_of (formula_if b (held_end n k) ++ (formula_if (k == 0) (branch_over w n) ++ (formula_if x (held_end m k) ++ formula_if (k == 0) (branch_over w m)))) in
+    let E = any_of (formula_if b (held_end n k) ++ (formula_if (k == 0) (branch_over w n)
+    ++ (formula_if x (held_end m k) ++ formula_if (k == 0) (branch_over w m)))) in
     let O = any_of (formula_if d (held_upto m k) ++ branch_over w m ∷ []) in
     let rest = c.in_ok-rest.ensures insts names O E other ends in
     c.both-2.ensures insts names (any_of (formula_if a (held_upto n k) ++ branch_over w n ∷ [])) (Conjunction O E) (c.in_ok-branch_upto.ensures a h) rest

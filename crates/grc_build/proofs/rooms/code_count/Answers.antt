@@ -13,7 +13,8 @@ overflow_add-count c = omega (arith, c.loop-code.invariant.1, c.one_if-count.ens
 
 pub loop-code-preserved : goal.loop-code-preserved
 loop-code-preserved c = (
-  ap (λ n. n + c.one_if-count.result) c.loop-code.invariant.0 ∙ ap (λ n. length (codes_below c.loop-code.code (members c.args.codes)) + n) c.one_if-count.ensures
+  ap (λ n. n + c.one_if-count.result) c.loop-code.invariant.0 ∙ ap
+      (λ n. length (codes_below c.loop-code.code (members c.args.codes)) + n) c.one_if-count.ensures
       ∙ sym (codes_counted c.loop-code.code (members c.args.codes) c.has.result (sym c.has.ensures)),
   omega (arith, c.loop-code.invariant.1, c.one_if-count.ensures, one_at_most c.has.result),
 )

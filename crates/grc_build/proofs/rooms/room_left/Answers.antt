@@ -18,7 +18,8 @@ bounds-statements-instance c =
     let p = program_of c.args.program.now in
     let i = c.loop-instance.instance-index in
     let y = get_or c.deref-instance-items.result.now i first_instance in
-    let r : LiveRead p c.args.live.now.list.items i y = live_read p c.args.live.now.list.items c.deref-instance-items.result.now i c.requires.live c.deref-instance-items.ensures.value (omega arith) in
+    let r : LiveRead p c.args.live.now.list.items i y = live_read p c.args.live.now.list.items c.deref-instance-items.result.now i c.requires.live
+    c.deref-instance-items.ensures.value (omega arith) in
     omega (arith, r.within, length-statements p c.args.statements.now c.requires.statements)
 
 pub instance_codes-set-requires-clause-started : goal.instance_codes-set-requires-clause-started
@@ -26,7 +27,8 @@ instance_codes-set-requires-clause-started c =
     let p = program_of c.args.program.now in
     let i = c.loop-instance.instance-index in
     let y = get_or c.deref-instance-items.result.now i first_instance in
-    let r : LiveRead p c.args.live.now.list.items i y = live_read p c.args.live.now.list.items c.deref-instance-items.result.now i c.requires.live c.deref-instance-items.ensures.value (omega arith) in
+    let r : LiveRead p c.args.live.now.list.items i y = live_read p c.args.live.now.list.items c.deref-instance-items.result.now i c.requires.live
+    c.deref-instance-items.ensures.value (omega arith) in
     (codes_read c.args.codes.now p y.path.0 c.requires.codes r.within).started_in
 
 pub instance_codes-set-requires-clause-resumed : goal.instance_codes-set-requires-clause-resumed
@@ -34,7 +36,8 @@ instance_codes-set-requires-clause-resumed c =
     let p = program_of c.args.program.now in
     let i = c.loop-instance.instance-index in
     let y = get_or c.deref-instance-items.result.now i first_instance in
-    let r : LiveRead p c.args.live.now.list.items i y = live_read p c.args.live.now.list.items c.deref-instance-items.result.now i c.requires.live c.deref-instance-items.ensures.value (omega arith) in
+    let r : LiveRead p c.args.live.now.list.items i y = live_read p c.args.live.now.list.items c.deref-instance-items.result.now i c.requires.live
+    c.deref-instance-items.ensures.value (omega arith) in
     (codes_read c.args.codes.now p y.path.0 c.requires.codes r.within).resumed_in
 
 pub after_instance-requires : goal.after_instance-requires
@@ -42,8 +45,10 @@ after_instance-requires c =
     let p = program_of c.args.program.now in
     let i = c.loop-instance.instance-index in
     let y = get_or c.deref-instance-items.result.now i first_instance in
-    let r : LiveRead p c.args.live.now.list.items i y = live_read p c.args.live.now.list.items c.deref-instance-items.result.now i c.requires.live c.deref-instance-items.ensures.value (omega arith) in
-    let statement = ap (λ l. l.statement) (statement_read p c.args.statements.now y.path.0 c.index-statements-instance.result c.requires.statements r.within c.index-statements-instance.is) in
+    let r : LiveRead p c.args.live.now.list.items i y = live_read p c.args.live.now.list.items c.deref-instance-items.result.now i c.requires.live
+    c.deref-instance-items.ensures.value (omega arith) in
+    let statement = ap (λ l. l.statement) (statement_read p c.args.statements.now y.path.0 c.index-statements-instance.result c.requires.statements r.within
+    c.index-statements-instance.is) in
     c.instance_codes-set.ensures ∙ (codes_read c.args.codes.now p y.path.0 c.requires.codes r.within).codes (instance_of y).layer
     ∙ ap (λ s. instance_codes s (layer_of y.layer)) (sym statement)
 
@@ -52,8 +57,10 @@ returns-in_err-room-2 c =
     let p = program_of c.args.program.now in
     let i = c.loop-instance.instance-index in
     let y = get_or c.deref-instance-items.result.now i first_instance in
-    let r : LiveRead p c.args.live.now.list.items i y = live_read p c.args.live.now.list.items c.deref-instance-items.result.now i c.requires.live c.deref-instance-items.ensures.value (omega arith) in
-    let statement = ap (λ l. l.statement) (statement_read p c.args.statements.now y.path.0 c.index-statements-instance.result c.requires.statements r.within c.index-statements-instance.is) in
+    let r : LiveRead p c.args.live.now.list.items i y = live_read p c.args.live.now.list.items c.deref-instance-items.result.now i c.requires.live
+    c.deref-instance-items.ensures.value (omega arith) in
+    let statement = ap (λ l. l.statement) (statement_read p c.args.statements.now y.path.0 c.index-statements-instance.result c.requires.statements r.within
+    c.index-statements-instance.is) in
     let insts = map instance_of c.args.live.now.list.items in
     let size : instance_size (term_of c.index-statements-instance.result.body.now) (layer_of y.layer) ≡ size_at p (instance_of y)
     = ap (λ s. instance_size s (layer_of y.layer)) statement in
@@ -67,8 +74,10 @@ loop-instance-preserved c =
     let p = program_of c.args.program.now in
     let i = c.loop-instance.instance-index in
     let y = get_or c.deref-instance-items.result.now i first_instance in
-    let r : LiveRead p c.args.live.now.list.items i y = live_read p c.args.live.now.list.items c.deref-instance-items.result.now i c.requires.live c.deref-instance-items.ensures.value (omega arith) in
-    let statement = ap (λ l. l.statement) (statement_read p c.args.statements.now y.path.0 c.index-statements-instance.result c.requires.statements r.within c.index-statements-instance.is) in
+    let r : LiveRead p c.args.live.now.list.items i y = live_read p c.args.live.now.list.items c.deref-instance-items.result.now i c.requires.live
+    c.deref-instance-items.ensures.value (omega arith) in
+    let statement = ap (λ l. l.statement) (statement_read p c.args.statements.now y.path.0 c.index-statements-instance.result c.requires.statements r.within
+    c.index-statements-instance.is) in
     let insts = map instance_of c.args.live.now.list.items in
     let size : instance_size (term_of c.index-statements-instance.result.body.now) (layer_of y.layer) ≡ size_at p (instance_of y)
     = ap (λ s. instance_size s (layer_of y.layer)) statement in

@@ -27,7 +27,8 @@ loop-root-preserved c =
     let roots = c.args.roots.now in
     let here : i < length roots = c.loop-root-test.true in
     let seam : drop i roots ≡ get_or roots i 0 ∷ drop (i + 1) roots = rw (add-one, drop-cons roots i 0) in
-    Reaches-more c.args.live.now.items c.loop-root.live.items c.push_instance.new.live.items (starts c.args.path roots) _ (starts c.args.path (drop (i + 1) roots))
+    Reaches-more c.args.live.now.items c.loop-root.live.items c.push_instance.new.live.items (starts c.args.path roots) _
+    (starts c.args.path (drop (i + 1) roots))
     (subst (λ l. Reaches c.args.live.now.items c.loop-root.live.items (starts c.args.path roots) (starts c.args.path l)) seam c.loop-root.invariant)
     c.in_ok-push_instance.ensures.live
 

@@ -26,7 +26,8 @@ returns-in_err-copy_part-clause-fault c =
     let roots = c.in_ok-push_root.ensures ∙ ap (λ l. l ++ 0 ∷ []) c.new-2.ensures.items in
     rw (e.1, e.2) (fault_of c.new.result.items (term_of c.args.body.now) _ c.new.ensures.items
     (too_many_at c.new.result.items _ c.push_root.new.roots.items _ (term_of c.args.body.now) (body_liveness (term_of c.args.body.now)) 0 _
-    (body_shows c.has_some_code.result _ c.push_root.new.roots.items (term_of c.args.body.now) c.has_some_code.ensures (c.resumed_codes.ensures ∙ codes.resumed) roots)
+    (body_shows c.has_some_code.result _ c.push_root.new.roots.items (term_of c.args.body.now) c.has_some_code.ensures
+    (c.resumed_codes.ensures ∙ codes.resumed) roots)
     refl c.in_err-copy_part.ensures.many))
 
 pub returns-clause-live : goal.returns-clause-live
@@ -34,8 +35,10 @@ returns-clause-live c =
     let codes = codes_at _ _ 0 (codes_of_body _ (term_of c.args.body.now) c.requires.codes) in
     let roots = c.in_ok-push_root.ensures ∙ ap (λ l. l ++ 0 ∷ []) c.new-2.ensures.items in
     let g : Gains c.new.result.items c.copy_part.new.lists.live.items (body_instances (term_of c.args.body.now))
-    = gains_at c.new.result.items c.copy_part.new.lists.live.items _ c.push_root.new.roots.items _ (term_of c.args.body.now) (body_liveness (term_of c.args.body.now)) 0
-    (body_shows c.has_some_code.result _ c.push_root.new.roots.items (term_of c.args.body.now) c.has_some_code.ensures (c.resumed_codes.ensures ∙ codes.resumed) roots)
+    = gains_at c.new.result.items c.copy_part.new.lists.live.items _ c.push_root.new.roots.items _ (term_of c.args.body.now)
+    (body_liveness (term_of c.args.body.now)) 0
+    (body_shows c.has_some_code.result _ c.push_root.new.roots.items (term_of c.args.body.now) c.has_some_code.ensures
+    (c.resumed_codes.ensures ∙ codes.resumed) roots)
     refl c.in_ok-copy_part.ensures.live
     in g.list ∙ ap (λ l. map instance_of l ++ body_instances (term_of c.args.body.now)) c.new.ensures.items
 
@@ -44,8 +47,10 @@ returns-clause-few c =
     let codes = codes_at _ _ 0 (codes_of_body _ (term_of c.args.body.now) c.requires.codes) in
     let roots = c.in_ok-push_root.ensures ∙ ap (λ l. l ++ 0 ∷ []) c.new-2.ensures.items in
     let g : Gains c.new.result.items c.copy_part.new.lists.live.items (body_instances (term_of c.args.body.now))
-    = gains_at c.new.result.items c.copy_part.new.lists.live.items _ c.push_root.new.roots.items _ (term_of c.args.body.now) (body_liveness (term_of c.args.body.now)) 0
-    (body_shows c.has_some_code.result _ c.push_root.new.roots.items (term_of c.args.body.now) c.has_some_code.ensures (c.resumed_codes.ensures ∙ codes.resumed) roots)
+    = gains_at c.new.result.items c.copy_part.new.lists.live.items _ c.push_root.new.roots.items _ (term_of c.args.body.now)
+    (body_liveness (term_of c.args.body.now)) 0
+    (body_shows c.has_some_code.result _ c.push_root.new.roots.items (term_of c.args.body.now) c.has_some_code.ensures
+    (c.resumed_codes.ensures ∙ codes.resumed) roots)
     refl c.in_ok-copy_part.ensures.live
     in
     let none : length c.new.result.items ≡ 0 = ap length c.new.ensures.items in

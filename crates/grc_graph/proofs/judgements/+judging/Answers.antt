@@ -17,13 +17,15 @@ judged_at-returns t c d b s n k pre post stands =
     ∙ (λ j. combined c.args.selected.now (form_of (at j).form) (judgement_of c.judged_between-first.result) (judgement_of c.judged_between-second.result))
     ∙ judged_whole nodes c.args.tree.now.nested c.args.at c.second_part-middle.result d c.args.selected.now _ _ c.requires.within
     (c.second_part-middle.ensures.place d) c.judged_between-first.ensures
-    (subst (λ x. Judges nodes c.second_part-middle.result x.after c.args.selected.now (judgement_of c.judged_between-second.result)) at c.judged_between-second.ensures)
+    (subst (λ x. Judges nodes c.second_part-middle.result x.after c.args.selected.now (judgement_of c.judged_between-second.result)) at
+    c.judged_between-second.ensures)
     b s n k pre post stands
 
 pub judged_between-returns-then-from-to : goal.judged_between-returns-then-from-to
 judged_between-returns-then-from-to t c =
     let d : SelNode = record { path = record { 0 = 0 }; after = 0; form = Pass } in
-    judged_some c.args.tree.now.nodes.items c.args.from c.args.to d c.args.selected.now (judgement_of c.judged_at.result) c.if-from-to.true (c.judged_at.ensures d)
+    judged_some c.args.tree.now.nodes.items c.args.from c.args.to d c.args.selected.now (judgement_of c.judged_at.result) c.if-from-to.true
+    (c.judged_at.ensures d)
 
 pub judged_between-returns-else-from-to : goal.judged_between-returns-else-from-to
 judged_between-returns-else-from-to t c b s n k pre post stands =

@@ -24,10 +24,14 @@ returns-in_ok-after-in-Present-clause-list t c =
     (map view_of c.push_statement.new.list.items) (map view_of c.list_part.new.list.items) (map view_of c.set_second.new.list.items)
     (map view_of c.list_part-in-Present.new.list.items) (listed_one B (entry_view c.args.control) (Present e p q) 0) c.len-place.result m
     (omega (arith, length-map c.args.list.now.items view_of))
-    (c.in_ok-push_statement.ensures ∙ λ i. map view_of c.args.list.now.items ++ listed_one (scope_of (c.deref.ensures.value i)) (entry_view c.args.control) (term_of (c.in-Present.is i)) 0 ∷ [])
-    (c.in_ok-next-in-Present.ensures.list ∙ λ i. map view_of c.push_statement.new.list.items ++ listed B (Then n e) (term_of (c.deref-in-Present.ensures i)) (n + 1))
-    (λ l. c.set_second.ensures l ∙ λ i. set (map view_of c.list_part.new.list.items) c.len-place.result (record (get_or (map view_of c.list_part.new.list.items) c.len-place.result l) { second = after i }))
-    (c.in_ok-after-in-Present.ensures.list ∙ λ i. map view_of c.set_second.new.list.items ++ listed (scope_of (c.in_ok-next-in-Present.ensures.scope i)) (Else n e) (term_of (c.deref-in-Present-2.ensures i)) (after i)))
+    (c.in_ok-push_statement.ensures ∙ λ i. map view_of c.args.list.now.items
+    ++ listed_one (scope_of (c.deref.ensures.value i)) (entry_view c.args.control) (term_of (c.in-Present.is i)) 0 ∷ [])
+    (c.in_ok-next-in-Present.ensures.list ∙ λ i. map view_of c.push_statement.new.list.items
+    ++ listed B (Then n e) (term_of (c.deref-in-Present.ensures i)) (n + 1))
+    (λ l. c.set_second.ensures l ∙ λ i. set (map view_of c.list_part.new.list.items) c.len-place.result
+    (record (get_or (map view_of c.list_part.new.list.items) c.len-place.result l) { second = after i }))
+    (c.in_ok-after-in-Present.ensures.list ∙ λ i. map view_of c.set_second.new.list.items
+    ++ listed (scope_of (c.in_ok-next-in-Present.ensures.scope i)) (Else n e) (term_of (c.deref-in-Present-2.ensures i)) (after i)))
 
 pub returns-in_ok-after-in-Seq-clause-list : goal.returns-in_ok-after-in-Seq-clause-list
 returns-in_ok-after-in-Seq-clause-list t c =
@@ -43,10 +47,13 @@ returns-in_ok-after-in-Seq-clause-list t c =
     (map view_of c.push_statement.new.list.items) (map view_of c.list_part-in-Seq.new.list.items) (map view_of c.set_second-in-Seq.new.list.items)
     (map view_of c.list_part-in-Seq-2.new.list.items) (listed_one B (entry_view c.args.control) (Seq p q) 0) c.len-place.result m
     (omega (arith, length-map c.args.list.now.items view_of))
-    (c.in_ok-push_statement.ensures ∙ λ i. map view_of c.args.list.now.items ++ listed_one (scope_of (c.deref.ensures.value i)) (entry_view c.args.control) (term_of (c.in-Seq.is i)) 0 ∷ [])
+    (c.in_ok-push_statement.ensures ∙ λ i. map view_of c.args.list.now.items
+    ++ listed_one (scope_of (c.deref.ensures.value i)) (entry_view c.args.control) (term_of (c.in-Seq.is i)) 0 ∷ [])
     (c.in_ok-next-in-Seq.ensures.list ∙ λ i. map view_of c.push_statement.new.list.items ++ listed B (Branch n) (term_of (c.deref-in-Seq.ensures i)) (n + 1))
-    (λ l. c.set_second-in-Seq.ensures l ∙ λ i. set (map view_of c.list_part-in-Seq.new.list.items) c.len-place.result (record (get_or (map view_of c.list_part-in-Seq.new.list.items) c.len-place.result l) { second = after i }))
-    (c.in_ok-after-in-Seq.ensures.list ∙ λ i. map view_of c.set_second-in-Seq.new.list.items ++ listed (scope_of (c.in_ok-next-in-Seq.ensures.scope i)) (Second n) (term_of (c.deref-in-Seq-2.ensures i)) (after i)))
+    (λ l. c.set_second-in-Seq.ensures l ∙ λ i. set (map view_of c.list_part-in-Seq.new.list.items) c.len-place.result
+    (record (get_or (map view_of c.list_part-in-Seq.new.list.items) c.len-place.result l) { second = after i }))
+    (c.in_ok-after-in-Seq.ensures.list ∙ λ i. map view_of c.set_second-in-Seq.new.list.items
+    ++ listed (scope_of (c.in_ok-next-in-Seq.ensures.scope i)) (Second n) (term_of (c.deref-in-Seq-2.ensures i)) (after i)))
 
 pub returns-in_ok-after-in-Par-clause-list : goal.returns-in_ok-after-in-Par-clause-list
 returns-in_ok-after-in-Par-clause-list t c =
@@ -62,10 +69,13 @@ returns-in_ok-after-in-Par-clause-list t c =
     (map view_of c.push_statement.new.list.items) (map view_of c.list_part-in-Par.new.list.items) (map view_of c.set_second-in-Par.new.list.items)
     (map view_of c.list_part-in-Par-2.new.list.items) (listed_one B (entry_view c.args.control) (Par p q) 0) c.len-place.result m
     (omega (arith, length-map c.args.list.now.items view_of))
-    (c.in_ok-push_statement.ensures ∙ λ i. map view_of c.args.list.now.items ++ listed_one (scope_of (c.deref.ensures.value i)) (entry_view c.args.control) (term_of (c.in-Par.is i)) 0 ∷ [])
+    (c.in_ok-push_statement.ensures ∙ λ i. map view_of c.args.list.now.items
+    ++ listed_one (scope_of (c.deref.ensures.value i)) (entry_view c.args.control) (term_of (c.in-Par.is i)) 0 ∷ [])
     (c.in_ok-next-in-Par.ensures.list ∙ λ i. map view_of c.push_statement.new.list.items ++ listed B (Branch n) (term_of (c.deref-in-Par.ensures i)) (n + 1))
-    (λ l. c.set_second-in-Par.ensures l ∙ λ i. set (map view_of c.list_part-in-Par.new.list.items) c.len-place.result (record (get_or (map view_of c.list_part-in-Par.new.list.items) c.len-place.result l) { second = after i }))
-    (c.in_ok-after-in-Par.ensures.list ∙ λ i. map view_of c.set_second-in-Par.new.list.items ++ listed (scope_of (c.in_ok-next-in-Par.ensures.scope i)) (Branch n) (term_of (c.deref-in-Par-2.ensures i)) (after i)))
+    (λ l. c.set_second-in-Par.ensures l ∙ λ i. set (map view_of c.list_part-in-Par.new.list.items) c.len-place.result
+    (record (get_or (map view_of c.list_part-in-Par.new.list.items) c.len-place.result l) { second = after i }))
+    (c.in_ok-after-in-Par.ensures.list ∙ λ i. map view_of c.set_second-in-Par.new.list.items
+    ++ listed (scope_of (c.in_ok-next-in-Par.ensures.scope i)) (Branch n) (term_of (c.deref-in-Par-2.ensures i)) (after i)))
 
 pub returns-in_ok-after-in-Local-clause-scope : goal.returns-in_ok-after-in-Local-clause-scope
 returns-in_ok-after-in-Local-clause-scope t c =
@@ -84,5 +94,6 @@ returns-in_ok-after-in-Local-clause-list t c =
     (part_behind (map view_of c.args.list.now.items) (listed (bind B s n) (Part n) p (n + 1)) (map view_of c.list_part-in-Local.new.list.items)
     (listed_one B (entry_view c.args.control) (Local s p) 0)
     (c.in_ok-after-in-Local.ensures.list
-    ∙ λ i. (c.in_ok-push_statement.ensures ∙ λ i. map view_of c.args.list.now.items ++ listed_one (scope_of (c.deref.ensures.value i)) (entry_view c.args.control) (term_of (c.in-Local.is i)) 0 ∷ []) i
+    ∙ λ i. (c.in_ok-push_statement.ensures ∙ λ i. map view_of c.args.list.now.items
+    ++ listed_one (scope_of (c.deref.ensures.value i)) (entry_view c.args.control) (term_of (c.in-Local.is i)) 0 ∷ []) i
     ++ listed (inner i) (Part n) (term_of (c.deref-in-Local.ensures i)) (n + 1)))

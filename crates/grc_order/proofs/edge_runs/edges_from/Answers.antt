@@ -10,7 +10,8 @@ pub end_of-end-requires : goal.end_of-end-requires
 end_of-end-requires c = rw c.as_slice-pairs.ensures.value (beginnings_rise _ _ c.args.edges.now.are_edges)
 
 pub slice_bounds-result-count : goal.slice_bounds-result-count
-slice_bounds-result-count c = run-ordered _ _ _ _ c.begin_of-begin.ensures.bound c.end_of-end.ensures.bound c.begin_of-begin.ensures.point c.end_of-end.ensures.point
+slice_bounds-result-count c = run-ordered _ _ _ _ c.begin_of-begin.ensures.bound c.end_of-end.ensures.bound c.begin_of-begin.ensures.point
+    c.end_of-end.ensures.point
 
 pub returns : goal.returns
 returns c =

@@ -17,10 +17,14 @@ part_place-requires-in-Suspend t c =
 
 pub returns-in_ok-after-in-Suspend-clause-grown : goal.returns-in_ok-after-in-Suspend-clause-grown
 returns-in_ok-after-in-Suspend-clause-grown t c =
-    rw c.in-Suspend.is (one_over c.args.lists.now c.open_node-in-Suspend.new.lists c.select_part-in-Suspend.new.lists c.close_node-in-Suspend.new.lists _ c.args.at.live (resumes (term_of c.in-Suspend.part.value)) c.part_place-in-Suspend.result.live
-    c.in_ok-place-in-Suspend.place c.args.at.path Pass Pass (term_of c.in-Suspend.part.value) c.in_ok-place-in-Suspend.ensures.at c.in_ok-place-in-Suspend.ensures.nodes c.in_ok-place-in-Suspend.ensures.leaves
-    (c.part_place-in-Suspend.ensures.live ∙ λ i. c.args.at.live && has_code ((codes_at c.args.codes.now (term_of c.in-Suspend.part.value) (c.args.at.path + 1) (rw c.in-Suspend.is at c.requires.codes).1).resumed i))
-    (grows_at c.open_node-in-Suspend.new.lists c.select_part-in-Suspend.new.lists c.part_place-in-Suspend.result.live _ (term_of c.in-Suspend.part.value) _ (c.args.at.path + 1) (ap (λ k. term_of k) c.deref-in-Suspend.ensures) c.part_place-in-Suspend.ensures.path c.in_ok-after-in-Suspend.ensures.grown)
+    rw c.in-Suspend.is (one_over c.args.lists.now c.open_node-in-Suspend.new.lists c.select_part-in-Suspend.new.lists c.close_node-in-Suspend.new.lists _
+    c.args.at.live (resumes (term_of c.in-Suspend.part.value)) c.part_place-in-Suspend.result.live
+    c.in_ok-place-in-Suspend.place c.args.at.path Pass Pass (term_of c.in-Suspend.part.value) c.in_ok-place-in-Suspend.ensures.at
+    c.in_ok-place-in-Suspend.ensures.nodes c.in_ok-place-in-Suspend.ensures.leaves
+    (c.part_place-in-Suspend.ensures.live ∙ λ i. c.args.at.live && has_code
+    ((codes_at c.args.codes.now (term_of c.in-Suspend.part.value) (c.args.at.path + 1) (rw c.in-Suspend.is at c.requires.codes).1).resumed i))
+    (grows_at c.open_node-in-Suspend.new.lists c.select_part-in-Suspend.new.lists c.part_place-in-Suspend.result.live _ (term_of c.in-Suspend.part.value) _
+    (c.args.at.path + 1) (ap (λ k. term_of k) c.deref-in-Suspend.ensures) c.part_place-in-Suspend.ensures.path c.in_ok-after-in-Suspend.ensures.grown)
     c.close_node-in-Suspend.ensures.nodes c.close_node-in-Suspend.ensures.leaves refl refl)
 
 pub part_place-requires-in-Loop : goal.part_place-requires-in-Loop
@@ -29,10 +33,14 @@ part_place-requires-in-Loop t c =
 
 pub returns-in_ok-after-in-Loop-clause-grown : goal.returns-in_ok-after-in-Loop-clause-grown
 returns-in_ok-after-in-Loop-clause-grown t c =
-    rw c.in-Loop.is (one_over c.args.lists.now c.open_node-in-Loop.new.lists c.select_part-in-Loop.new.lists c.close_node-in-Loop.new.lists _ c.args.at.live (resumes (term_of c.in-Loop.part.value)) c.part_place-in-Loop.result.live
-    c.in_ok-place-in-Loop.place c.args.at.path Pass Pass (term_of c.in-Loop.part.value) c.in_ok-place-in-Loop.ensures.at c.in_ok-place-in-Loop.ensures.nodes c.in_ok-place-in-Loop.ensures.leaves
-    (c.part_place-in-Loop.ensures.live ∙ λ i. c.args.at.live && has_code ((codes_at c.args.codes.now (term_of c.in-Loop.part.value) (c.args.at.path + 1) (rw c.in-Loop.is at c.requires.codes).1).resumed i))
-    (grows_at c.open_node-in-Loop.new.lists c.select_part-in-Loop.new.lists c.part_place-in-Loop.result.live _ (term_of c.in-Loop.part.value) _ (c.args.at.path + 1) (ap (λ k. term_of k) c.deref-in-Loop.ensures) c.part_place-in-Loop.ensures.path c.in_ok-after-in-Loop.ensures.grown)
+    rw c.in-Loop.is (one_over c.args.lists.now c.open_node-in-Loop.new.lists c.select_part-in-Loop.new.lists c.close_node-in-Loop.new.lists _ c.args.at.live
+    (resumes (term_of c.in-Loop.part.value)) c.part_place-in-Loop.result.live
+    c.in_ok-place-in-Loop.place c.args.at.path Pass Pass (term_of c.in-Loop.part.value) c.in_ok-place-in-Loop.ensures.at c.in_ok-place-in-Loop.ensures.nodes
+    c.in_ok-place-in-Loop.ensures.leaves
+    (c.part_place-in-Loop.ensures.live ∙ λ i. c.args.at.live && has_code
+    ((codes_at c.args.codes.now (term_of c.in-Loop.part.value) (c.args.at.path + 1) (rw c.in-Loop.is at c.requires.codes).1).resumed i))
+    (grows_at c.open_node-in-Loop.new.lists c.select_part-in-Loop.new.lists c.part_place-in-Loop.result.live _ (term_of c.in-Loop.part.value) _
+    (c.args.at.path + 1) (ap (λ k. term_of k) c.deref-in-Loop.ensures) c.part_place-in-Loop.ensures.path c.in_ok-after-in-Loop.ensures.grown)
     c.close_node-in-Loop.ensures.nodes c.close_node-in-Loop.ensures.leaves refl refl)
 
 pub part_place-requires-in-Trap : goal.part_place-requires-in-Trap
@@ -41,10 +49,14 @@ part_place-requires-in-Trap t c =
 
 pub returns-in_ok-after-in-Trap-clause-grown : goal.returns-in_ok-after-in-Trap-clause-grown
 returns-in_ok-after-in-Trap-clause-grown t c =
-    rw c.in-Trap.is (one_over c.args.lists.now c.open_node-in-Trap.new.lists c.select_part-in-Trap.new.lists c.close_node-in-Trap.new.lists _ c.args.at.live (resumes (term_of c.in-Trap.part.value)) c.part_place-in-Trap.result.live
-    c.in_ok-place-in-Trap.place c.args.at.path Pass Pass (term_of c.in-Trap.part.value) c.in_ok-place-in-Trap.ensures.at c.in_ok-place-in-Trap.ensures.nodes c.in_ok-place-in-Trap.ensures.leaves
-    (c.part_place-in-Trap.ensures.live ∙ λ i. c.args.at.live && has_code ((codes_at c.args.codes.now (term_of c.in-Trap.part.value) (c.args.at.path + 1) (rw c.in-Trap.is at c.requires.codes).1).resumed i))
-    (grows_at c.open_node-in-Trap.new.lists c.select_part-in-Trap.new.lists c.part_place-in-Trap.result.live _ (term_of c.in-Trap.part.value) _ (c.args.at.path + 1) (ap (λ k. term_of k) c.deref-in-Trap.ensures) c.part_place-in-Trap.ensures.path c.in_ok-after-in-Trap.ensures.grown)
+    rw c.in-Trap.is (one_over c.args.lists.now c.open_node-in-Trap.new.lists c.select_part-in-Trap.new.lists c.close_node-in-Trap.new.lists _ c.args.at.live
+    (resumes (term_of c.in-Trap.part.value)) c.part_place-in-Trap.result.live
+    c.in_ok-place-in-Trap.place c.args.at.path Pass Pass (term_of c.in-Trap.part.value) c.in_ok-place-in-Trap.ensures.at c.in_ok-place-in-Trap.ensures.nodes
+    c.in_ok-place-in-Trap.ensures.leaves
+    (c.part_place-in-Trap.ensures.live ∙ λ i. c.args.at.live && has_code
+    ((codes_at c.args.codes.now (term_of c.in-Trap.part.value) (c.args.at.path + 1) (rw c.in-Trap.is at c.requires.codes).1).resumed i))
+    (grows_at c.open_node-in-Trap.new.lists c.select_part-in-Trap.new.lists c.part_place-in-Trap.result.live _ (term_of c.in-Trap.part.value) _
+    (c.args.at.path + 1) (ap (λ k. term_of k) c.deref-in-Trap.ensures) c.part_place-in-Trap.ensures.path c.in_ok-after-in-Trap.ensures.grown)
     c.close_node-in-Trap.ensures.nodes c.close_node-in-Trap.ensures.leaves refl refl)
 
 pub part_place-requires-in-Local : goal.part_place-requires-in-Local
@@ -53,10 +65,14 @@ part_place-requires-in-Local t c =
 
 pub returns-in_ok-after-in-Local-clause-grown : goal.returns-in_ok-after-in-Local-clause-grown
 returns-in_ok-after-in-Local-clause-grown t c =
-    rw c.in-Local.is (one_over c.args.lists.now c.open_node-in-Local.new.lists c.select_part-in-Local.new.lists c.close_node-in-Local.new.lists _ c.args.at.live (resumes (term_of c.in-Local.part.value)) c.part_place-in-Local.result.live
-    c.in_ok-place-in-Local.place c.args.at.path Pass Pass (term_of c.in-Local.part.value) c.in_ok-place-in-Local.ensures.at c.in_ok-place-in-Local.ensures.nodes c.in_ok-place-in-Local.ensures.leaves
-    (c.part_place-in-Local.ensures.live ∙ λ i. c.args.at.live && has_code ((codes_at c.args.codes.now (term_of c.in-Local.part.value) (c.args.at.path + 1) (rw c.in-Local.is at c.requires.codes).1).resumed i))
-    (grows_at c.open_node-in-Local.new.lists c.select_part-in-Local.new.lists c.part_place-in-Local.result.live _ (term_of c.in-Local.part.value) _ (c.args.at.path + 1) (ap (λ k. term_of k) c.deref-in-Local.ensures) c.part_place-in-Local.ensures.path c.in_ok-after-in-Local.ensures.grown)
+    rw c.in-Local.is (one_over c.args.lists.now c.open_node-in-Local.new.lists c.select_part-in-Local.new.lists c.close_node-in-Local.new.lists _ c.args.at.live
+    (resumes (term_of c.in-Local.part.value)) c.part_place-in-Local.result.live
+    c.in_ok-place-in-Local.place c.args.at.path Pass Pass (term_of c.in-Local.part.value) c.in_ok-place-in-Local.ensures.at c.in_ok-place-in-Local.ensures.nodes
+    c.in_ok-place-in-Local.ensures.leaves
+    (c.part_place-in-Local.ensures.live ∙ λ i. c.args.at.live && has_code
+    ((codes_at c.args.codes.now (term_of c.in-Local.part.value) (c.args.at.path + 1) (rw c.in-Local.is at c.requires.codes).1).resumed i))
+    (grows_at c.open_node-in-Local.new.lists c.select_part-in-Local.new.lists c.part_place-in-Local.result.live _ (term_of c.in-Local.part.value) _
+    (c.args.at.path + 1) (ap (λ k. term_of k) c.deref-in-Local.ensures) c.part_place-in-Local.ensures.path c.in_ok-after-in-Local.ensures.grown)
     c.close_node-in-Local.ensures.nodes c.close_node-in-Local.ensures.leaves refl refl)
 
 pub part_place-requires : goal.part_place-requires
@@ -65,16 +81,32 @@ part_place-requires t c =
 
 pub part_place-requires-in-Present : goal.part_place-requires-in-Present
 part_place-requires-in-Present t c =
-    subst (λ n. n < length c.args.codes.now.resumed.items) (sym (c.in_ok-next-in-Present.ensures.after ∙ λ i. c.part_place.ensures.path i + statement_count (term_of (c.deref.ensures i)))) (codes_at c.args.codes.now (term_of c.in-Present.no.value) (c.args.at.path + 1 + statement_count (term_of c.in-Present.yes.value)) (rw c.in-Present.is at c.requires.codes).2).resumed_in
+    subst (λ n. n < length c.args.codes.now.resumed.items) (sym (c.in_ok-next-in-Present.ensures.after
+    ∙ λ i. c.part_place.ensures.path i + statement_count (term_of (c.deref.ensures i))))
+    (codes_at c.args.codes.now (term_of c.in-Present.no.value) (c.args.at.path + 1 + statement_count (term_of c.in-Present.yes.value))
+    (rw c.in-Present.is at c.requires.codes).2).resumed_in
 
 pub returns-in_ok-after-in-Present-clause-grown : goal.returns-in_ok-after-in-Present-clause-grown
 returns-in_ok-after-in-Present-clause-grown t c =
-    rw c.in-Present.is (two_over c.args.lists.now c.open_node.new.lists c.select_part.new.lists c.select_part-in-Present.new.lists c.close_node.new.lists _ c.args.at.live (resumes (term_of c.in-Present.yes.value)) (resumes (term_of c.in-Present.no.value)) c.part_place.result.live c.part_place-in-Present.result.live
-    c.in_ok-place-in-Present.place c.args.at.path (c.args.at.path + 1 + statement_count (term_of c.in-Present.yes.value)) Excl Excl (term_of c.in-Present.yes.value) (term_of c.in-Present.no.value) c.in_ok-place-in-Present.ensures.at c.in_ok-place-in-Present.ensures.nodes c.in_ok-place-in-Present.ensures.leaves
-    (c.part_place.ensures.live ∙ λ i. c.args.at.live && has_code ((codes_at c.args.codes.now (term_of c.in-Present.yes.value) (c.args.at.path + 1) (rw c.in-Present.is at c.requires.codes).1).resumed i))
-    (grows_at c.open_node.new.lists c.select_part.new.lists c.part_place.result.live _ (term_of c.in-Present.yes.value) _ (c.args.at.path + 1) (ap (λ k. term_of k) c.deref.ensures) c.part_place.ensures.path c.in_ok-next-in-Present.ensures.grown)
-    (c.part_place-in-Present.ensures.live ∙ (λ i. c.args.at.live && has_code (set_at c.args.codes.now.resumed.items ((c.in_ok-next-in-Present.ensures.after ∙ λ i. c.part_place.ensures.path i + statement_count (term_of (c.deref.ensures i))) i))) ∙ λ i. c.args.at.live && has_code ((codes_at c.args.codes.now (term_of c.in-Present.no.value) (c.args.at.path + 1 + statement_count (term_of c.in-Present.yes.value)) (rw c.in-Present.is at c.requires.codes).2).resumed i))
-    (grows_at c.select_part.new.lists c.select_part-in-Present.new.lists c.part_place-in-Present.result.live _ (term_of c.in-Present.no.value) _ (c.args.at.path + 1 + statement_count (term_of c.in-Present.yes.value)) (ap (λ k. term_of k) c.deref-in-Present.ensures) (c.part_place-in-Present.ensures.path ∙ (c.in_ok-next-in-Present.ensures.after ∙ λ i. c.part_place.ensures.path i + statement_count (term_of (c.deref.ensures i)))) c.in_ok-after-in-Present.ensures.grown)
+    rw c.in-Present.is (two_over c.args.lists.now c.open_node.new.lists c.select_part.new.lists c.select_part-in-Present.new.lists c.close_node.new.lists _
+    c.args.at.live (resumes (term_of c.in-Present.yes.value)) (resumes (term_of c.in-Present.no.value)) c.part_place.result.live
+    c.part_place-in-Present.result.live
+    c.in_ok-place-in-Present.place c.args.at.path (c.args.at.path + 1 + statement_count (term_of c.in-Present.yes.value)) Excl Excl
+    (term_of c.in-Present.yes.value) (term_of c.in-Present.no.value) c.in_ok-place-in-Present.ensures.at c.in_ok-place-in-Present.ensures.nodes
+    c.in_ok-place-in-Present.ensures.leaves
+    (c.part_place.ensures.live ∙ λ i. c.args.at.live && has_code ((codes_at c.args.codes.now (term_of c.in-Present.yes.value) (c.args.at.path + 1)
+    (rw c.in-Present.is at c.requires.codes).1).resumed i))
+    (grows_at c.open_node.new.lists c.select_part.new.lists c.part_place.result.live _ (term_of c.in-Present.yes.value) _ (c.args.at.path + 1)
+    (ap (λ k. term_of k) c.deref.ensures) c.part_place.ensures.path c.in_ok-next-in-Present.ensures.grown)
+    (c.part_place-in-Present.ensures.live ∙ (λ i. c.args.at.live && has_code
+    (set_at c.args.codes.now.resumed.items ((c.in_ok-next-in-Present.ensures.after
+    ∙ λ i. c.part_place.ensures.path i + statement_count (term_of (c.deref.ensures i))) i)))
+    ∙ λ i. c.args.at.live && has_code ((codes_at c.args.codes.now (term_of c.in-Present.no.value)
+    (c.args.at.path + 1 + statement_count (term_of c.in-Present.yes.value)) (rw c.in-Present.is at c.requires.codes).2).resumed i))
+    (grows_at c.select_part.new.lists c.select_part-in-Present.new.lists c.part_place-in-Present.result.live _ (term_of c.in-Present.no.value) _
+    (c.args.at.path + 1 + statement_count (term_of c.in-Present.yes.value)) (ap (λ k. term_of k) c.deref-in-Present.ensures)
+    (c.part_place-in-Present.ensures.path ∙ (c.in_ok-next-in-Present.ensures.after
+    ∙ λ i. c.part_place.ensures.path i + statement_count (term_of (c.deref.ensures i)))) c.in_ok-after-in-Present.ensures.grown)
     c.close_node.ensures.nodes c.close_node.ensures.leaves refl refl)
 
 pub part_place-requires-in-Seq : goal.part_place-requires-in-Seq
@@ -91,16 +123,34 @@ second_place-requires-clause-first_resumed t c =
 
 pub second_place-requires-clause-second_resumed : goal.second_place-requires-clause-second_resumed
 second_place-requires-clause-second_resumed t c =
-    subst (λ n. n < length c.args.codes.now.resumed.items) (sym (c.in_ok-next-in-Seq.ensures.after ∙ λ i. c.part_place-in-Seq.ensures.path i + statement_count (term_of (c.deref-in-Seq.ensures i)))) (codes_at c.args.codes.now (term_of c.in-Seq.second.value) (c.args.at.path + 1 + statement_count (term_of c.in-Seq.first.value)) (rw c.in-Seq.is at c.requires.codes).2).resumed_in
+    subst (λ n. n < length c.args.codes.now.resumed.items) (sym (c.in_ok-next-in-Seq.ensures.after
+    ∙ λ i. c.part_place-in-Seq.ensures.path i + statement_count (term_of (c.deref-in-Seq.ensures i))))
+    (codes_at c.args.codes.now (term_of c.in-Seq.second.value) (c.args.at.path + 1 + statement_count (term_of c.in-Seq.first.value))
+    (rw c.in-Seq.is at c.requires.codes).2).resumed_in
 
 pub returns-in_ok-after-in-Seq-clause-grown : goal.returns-in_ok-after-in-Seq-clause-grown
 returns-in_ok-after-in-Seq-clause-grown t c =
-    rw c.in-Seq.is (two_over c.args.lists.now c.open_node-in-Seq.new.lists c.select_part-in-Seq.new.lists c.select_part-in-Seq-2.new.lists c.close_node-in-Seq.new.lists _ c.args.at.live (resumes (term_of c.in-Seq.first.value)) (second_resumes (term_of c.in-Seq.first.value) (term_of c.in-Seq.second.value)) c.part_place-in-Seq.result.live c.second_place.result.live
-    c.in_ok-place-in-Seq.place c.args.at.path (c.args.at.path + 1 + statement_count (term_of c.in-Seq.first.value)) Excl Excl (term_of c.in-Seq.first.value) (term_of c.in-Seq.second.value) c.in_ok-place-in-Seq.ensures.at c.in_ok-place-in-Seq.ensures.nodes c.in_ok-place-in-Seq.ensures.leaves
-    (c.part_place-in-Seq.ensures.live ∙ λ i. c.args.at.live && has_code ((codes_at c.args.codes.now (term_of c.in-Seq.first.value) (c.args.at.path + 1) (rw c.in-Seq.is at c.requires.codes).1).resumed i))
-    (grows_at c.open_node-in-Seq.new.lists c.select_part-in-Seq.new.lists c.part_place-in-Seq.result.live _ (term_of c.in-Seq.first.value) _ (c.args.at.path + 1) (ap (λ k. term_of k) c.deref-in-Seq.ensures) c.part_place-in-Seq.ensures.path c.in_ok-next-in-Seq.ensures.grown)
-    (c.second_place.ensures.live ∙ (λ i. c.args.at.live && (((codes_at c.args.codes.now (term_of c.in-Seq.first.value) (c.args.at.path + 1) (rw c.in-Seq.is at c.requires.codes).1).started i 0 || (codes_at c.args.codes.now (term_of c.in-Seq.first.value) (c.args.at.path + 1) (rw c.in-Seq.is at c.requires.codes).1).resumed i 0) && has_code (set_at c.args.codes.now.resumed.items ((c.in_ok-next-in-Seq.ensures.after ∙ λ i. c.part_place-in-Seq.ensures.path i + statement_count (term_of (c.deref-in-Seq.ensures i))) i)))) ∙ λ i. c.args.at.live && (can_pass (term_of c.in-Seq.first.value) && has_code ((codes_at c.args.codes.now (term_of c.in-Seq.second.value) (c.args.at.path + 1 + statement_count (term_of c.in-Seq.first.value)) (rw c.in-Seq.is at c.requires.codes).2).resumed i)))
-    (grows_at c.select_part-in-Seq.new.lists c.select_part-in-Seq-2.new.lists c.second_place.result.live _ (term_of c.in-Seq.second.value) _ (c.args.at.path + 1 + statement_count (term_of c.in-Seq.first.value)) (ap (λ k. term_of k) c.deref-in-Seq-2.ensures) (c.second_place.ensures.path ∙ (c.in_ok-next-in-Seq.ensures.after ∙ λ i. c.part_place-in-Seq.ensures.path i + statement_count (term_of (c.deref-in-Seq.ensures i)))) c.in_ok-after-in-Seq.ensures.grown)
+    rw c.in-Seq.is (two_over c.args.lists.now c.open_node-in-Seq.new.lists c.select_part-in-Seq.new.lists c.select_part-in-Seq-2.new.lists
+    c.close_node-in-Seq.new.lists _ c.args.at.live (resumes (term_of c.in-Seq.first.value))
+    (second_resumes (term_of c.in-Seq.first.value) (term_of c.in-Seq.second.value)) c.part_place-in-Seq.result.live c.second_place.result.live
+    c.in_ok-place-in-Seq.place c.args.at.path (c.args.at.path + 1 + statement_count (term_of c.in-Seq.first.value)) Excl Excl (term_of c.in-Seq.first.value)
+    (term_of c.in-Seq.second.value) c.in_ok-place-in-Seq.ensures.at c.in_ok-place-in-Seq.ensures.nodes c.in_ok-place-in-Seq.ensures.leaves
+    (c.part_place-in-Seq.ensures.live ∙ λ i. c.args.at.live && has_code
+    ((codes_at c.args.codes.now (term_of c.in-Seq.first.value) (c.args.at.path + 1) (rw c.in-Seq.is at c.requires.codes).1).resumed i))
+    (grows_at c.open_node-in-Seq.new.lists c.select_part-in-Seq.new.lists c.part_place-in-Seq.result.live _ (term_of c.in-Seq.first.value) _
+    (c.args.at.path + 1) (ap (λ k. term_of k) c.deref-in-Seq.ensures) c.part_place-in-Seq.ensures.path c.in_ok-next-in-Seq.ensures.grown)
+    (c.second_place.ensures.live ∙ (λ i. c.args.at.live && (((codes_at c.args.codes.now (term_of c.in-Seq.first.value) (c.args.at.path + 1)
+    (rw c.in-Seq.is at c.requires.codes).1).started i 0 || (codes_at c.args.codes.now (term_of c.in-Seq.first.value) (c.args.at.path + 1)
+    (rw c.in-Seq.is at c.requires.codes).1).resumed i 0) && has_code
+    (set_at c.args.codes.now.resumed.items ((c.in_ok-next-in-Seq.ensures.after
+    ∙ λ i. c.part_place-in-Seq.ensures.path i + statement_count (term_of (c.deref-in-Seq.ensures i))) i))))
+    ∙ λ i. c.args.at.live && (can_pass (term_of c.in-Seq.first.value)
+    && has_code ((codes_at c.args.codes.now (term_of c.in-Seq.second.value) (c.args.at.path + 1 + statement_count (term_of c.in-Seq.first.value))
+    (rw c.in-Seq.is at c.requires.codes).2).resumed i)))
+    (grows_at c.select_part-in-Seq.new.lists c.select_part-in-Seq-2.new.lists c.second_place.result.live _ (term_of c.in-Seq.second.value) _
+    (c.args.at.path + 1 + statement_count (term_of c.in-Seq.first.value)) (ap (λ k. term_of k) c.deref-in-Seq-2.ensures)
+    (c.second_place.ensures.path ∙ (c.in_ok-next-in-Seq.ensures.after
+    ∙ λ i. c.part_place-in-Seq.ensures.path i + statement_count (term_of (c.deref-in-Seq.ensures i)))) c.in_ok-after-in-Seq.ensures.grown)
     c.close_node-in-Seq.ensures.nodes c.close_node-in-Seq.ensures.leaves refl refl)
 
 pub part_place-requires-in-Par : goal.part_place-requires-in-Par
@@ -109,7 +159,10 @@ part_place-requires-in-Par t c =
 
 pub part_place-requires-in-Par-2 : goal.part_place-requires-in-Par-2
 part_place-requires-in-Par-2 t c =
-    subst (λ n. n < length c.args.codes.now.resumed.items) (sym (c.in_ok-next-in-Par.ensures.after ∙ λ i. c.part_place-in-Par.ensures.path i + statement_count (term_of (c.deref-in-Par.ensures i)))) (codes_at c.args.codes.now (term_of c.in-Par.right.value) (c.args.at.path + 1 + statement_count (term_of c.in-Par.left.value)) (rw c.in-Par.is at c.requires.codes).2).resumed_in
+    subst (λ n. n < length c.args.codes.now.resumed.items) (sym (c.in_ok-next-in-Par.ensures.after
+    ∙ λ i. c.part_place-in-Par.ensures.path i + statement_count (term_of (c.deref-in-Par.ensures i))))
+    (codes_at c.args.codes.now (term_of c.in-Par.right.value) (c.args.at.path + 1 + statement_count (term_of c.in-Par.left.value))
+    (rw c.in-Par.is at c.requires.codes).2).resumed_in
 
 pub can_pass-first-requires-clause-started : goal.can_pass-first-requires-clause-started
 can_pass-first-requires-clause-started t c =
@@ -121,21 +174,54 @@ can_pass-first-requires-clause-resumed t c =
 
 pub can_pass-requires-clause-started : goal.can_pass-requires-clause-started
 can_pass-requires-clause-started t c =
-    subst (λ n. n < length c.args.codes.now.started.items) (sym (c.in_ok-next-in-Par.ensures.after ∙ λ i. c.part_place-in-Par.ensures.path i + statement_count (term_of (c.deref-in-Par.ensures i)))) (codes_at c.args.codes.now (term_of c.in-Par.right.value) (c.args.at.path + 1 + statement_count (term_of c.in-Par.left.value)) (rw c.in-Par.is at c.requires.codes).2).started_in
+    subst (λ n. n < length c.args.codes.now.started.items) (sym (c.in_ok-next-in-Par.ensures.after
+    ∙ λ i. c.part_place-in-Par.ensures.path i + statement_count (term_of (c.deref-in-Par.ensures i))))
+    (codes_at c.args.codes.now (term_of c.in-Par.right.value) (c.args.at.path + 1 + statement_count (term_of c.in-Par.left.value))
+    (rw c.in-Par.is at c.requires.codes).2).started_in
 
 pub can_pass-requires-clause-resumed : goal.can_pass-requires-clause-resumed
 can_pass-requires-clause-resumed t c =
-    subst (λ n. n < length c.args.codes.now.resumed.items) (sym (c.in_ok-next-in-Par.ensures.after ∙ λ i. c.part_place-in-Par.ensures.path i + statement_count (term_of (c.deref-in-Par.ensures i)))) (codes_at c.args.codes.now (term_of c.in-Par.right.value) (c.args.at.path + 1 + statement_count (term_of c.in-Par.left.value)) (rw c.in-Par.is at c.requires.codes).2).resumed_in
+    subst (λ n. n < length c.args.codes.now.resumed.items) (sym (c.in_ok-next-in-Par.ensures.after
+    ∙ λ i. c.part_place-in-Par.ensures.path i + statement_count (term_of (c.deref-in-Par.ensures i))))
+    (codes_at c.args.codes.now (term_of c.in-Par.right.value) (c.args.at.path + 1 + statement_count (term_of c.in-Par.left.value))
+    (rw c.in-Par.is at c.requires.codes).2).resumed_in
 
 pub returns-in_ok-after-in-Par-clause-grown : goal.returns-in_ok-after-in-Par-clause-grown
 returns-in_ok-after-in-Par-clause-grown t c =
-    rw c.in-Par.is (two_over c.args.lists.now c.open_node-in-Par.new.lists c.select_part-in-Par.new.lists c.select_part-in-Par-2.new.lists c.close_node-in-Par.new.lists _ c.args.at.live (resumes (term_of c.in-Par.left.value)) (resumes (term_of c.in-Par.right.value)) c.part_place-in-Par.result.live c.part_place-in-Par-2.result.live
-    c.in_ok-place-in-Par.place c.args.at.path (c.args.at.path + 1 + statement_count (term_of c.in-Par.left.value)) (Par false false) (Par c.can_pass-first.result c.can_pass.result) (term_of c.in-Par.left.value) (term_of c.in-Par.right.value) c.in_ok-place-in-Par.ensures.at c.in_ok-place-in-Par.ensures.nodes c.in_ok-place-in-Par.ensures.leaves
-    (c.part_place-in-Par.ensures.live ∙ λ i. c.args.at.live && has_code ((codes_at c.args.codes.now (term_of c.in-Par.left.value) (c.args.at.path + 1) (rw c.in-Par.is at c.requires.codes).1).resumed i))
-    (grows_at c.open_node-in-Par.new.lists c.select_part-in-Par.new.lists c.part_place-in-Par.result.live _ (term_of c.in-Par.left.value) _ (c.args.at.path + 1) (ap (λ k. term_of k) c.deref-in-Par.ensures) c.part_place-in-Par.ensures.path c.in_ok-next-in-Par.ensures.grown)
-    (c.part_place-in-Par-2.ensures.live ∙ (λ i. c.args.at.live && has_code (set_at c.args.codes.now.resumed.items ((c.in_ok-next-in-Par.ensures.after ∙ λ i. c.part_place-in-Par.ensures.path i + statement_count (term_of (c.deref-in-Par.ensures i))) i))) ∙ λ i. c.args.at.live && has_code ((codes_at c.args.codes.now (term_of c.in-Par.right.value) (c.args.at.path + 1 + statement_count (term_of c.in-Par.left.value)) (rw c.in-Par.is at c.requires.codes).2).resumed i))
-    (grows_at c.select_part-in-Par.new.lists c.select_part-in-Par-2.new.lists c.part_place-in-Par-2.result.live _ (term_of c.in-Par.right.value) _ (c.args.at.path + 1 + statement_count (term_of c.in-Par.left.value)) (ap (λ k. term_of k) c.deref-in-Par-2.ensures) (c.part_place-in-Par-2.ensures.path ∙ (c.in_ok-next-in-Par.ensures.after ∙ λ i. c.part_place-in-Par.ensures.path i + statement_count (term_of (c.deref-in-Par.ensures i)))) c.in_ok-after-in-Par.ensures.grown)
-    c.close_node-in-Par.ensures.nodes c.close_node-in-Par.ensures.leaves (λ i. subtree_if c.args.at.live c.args.at.path (length c.args.lists.now.nodes.items) (Parallel (sym (c.can_pass-first.ensures ∙ λ i. (codes_at c.args.codes.now (term_of c.in-Par.left.value) (c.args.at.path + 1) (rw c.in-Par.is at c.requires.codes).1).started i 0 || (codes_at c.args.codes.now (term_of c.in-Par.left.value) (c.args.at.path + 1) (rw c.in-Par.is at c.requires.codes).1).resumed i 0) i) (sym (c.can_pass.ensures ∙ (λ i. set_at c.args.codes.now.started.items ((c.in_ok-next-in-Par.ensures.after ∙ λ i. c.part_place-in-Par.ensures.path i + statement_count (term_of (c.deref-in-Par.ensures i))) i) 0 || set_at c.args.codes.now.resumed.items ((c.in_ok-next-in-Par.ensures.after ∙ λ i. c.part_place-in-Par.ensures.path i + statement_count (term_of (c.deref-in-Par.ensures i))) i) 0) ∙ λ i. (codes_at c.args.codes.now (term_of c.in-Par.right.value) (c.args.at.path + 1 + statement_count (term_of c.in-Par.left.value)) (rw c.in-Par.is at c.requires.codes).2).started i 0 || (codes_at c.args.codes.now (term_of c.in-Par.right.value) (c.args.at.path + 1 + statement_count (term_of c.in-Par.left.value)) (rw c.in-Par.is at c.requires.codes).2).resumed i 0) i))
-    (tree_nodes (resumes (term_of c.in-Par.left.value)) (term_of c.in-Par.left.value) (c.args.at.path + 1) (length c.args.lists.now.nodes.items + 1) c.args.lists.now.leaves
-    ++ tree_nodes (resumes (term_of c.in-Par.right.value)) (term_of c.in-Par.right.value) (c.args.at.path + 1 + statement_count (term_of c.in-Par.left.value)) (length c.args.lists.now.nodes.items + 1 + length (tree_nodes (resumes (term_of c.in-Par.left.value)) (term_of c.in-Par.left.value) (c.args.at.path + 1) (length c.args.lists.now.nodes.items + 1) c.args.lists.now.leaves))
+    rw c.in-Par.is (two_over c.args.lists.now c.open_node-in-Par.new.lists c.select_part-in-Par.new.lists c.select_part-in-Par-2.new.lists
+    c.close_node-in-Par.new.lists _ c.args.at.live (resumes (term_of c.in-Par.left.value))
+    (resumes (term_of c.in-Par.right.value)) c.part_place-in-Par.result.live c.part_place-in-Par-2.result.live
+    c.in_ok-place-in-Par.place c.args.at.path (c.args.at.path + 1 + statement_count (term_of c.in-Par.left.value)) (Par false false)
+    (Par c.can_pass-first.result c.can_pass.result) (term_of c.in-Par.left.value)
+    (term_of c.in-Par.right.value) c.in_ok-place-in-Par.ensures.at c.in_ok-place-in-Par.ensures.nodes c.in_ok-place-in-Par.ensures.leaves
+    (c.part_place-in-Par.ensures.live ∙ λ i. c.args.at.live && has_code
+    ((codes_at c.args.codes.now (term_of c.in-Par.left.value) (c.args.at.path + 1) (rw c.in-Par.is at c.requires.codes).1).resumed i))
+    (grows_at c.open_node-in-Par.new.lists c.select_part-in-Par.new.lists c.part_place-in-Par.result.live _ (term_of c.in-Par.left.value) _ (c.args.at.path + 1)
+    (ap (λ k. term_of k) c.deref-in-Par.ensures) c.part_place-in-Par.ensures.path c.in_ok-next-in-Par.ensures.grown)
+    (c.part_place-in-Par-2.ensures.live ∙ (λ i. c.args.at.live && has_code
+    (set_at c.args.codes.now.resumed.items ((c.in_ok-next-in-Par.ensures.after
+    ∙ λ i. c.part_place-in-Par.ensures.path i + statement_count (term_of (c.deref-in-Par.ensures i))) i)))
+    ∙ λ i. c.args.at.live && has_code ((codes_at c.args.codes.now (term_of c.in-Par.right.value)
+    (c.args.at.path + 1 + statement_count (term_of c.in-Par.left.value)) (rw c.in-Par.is at c.requires.codes).2).resumed i))
+    (grows_at c.select_part-in-Par.new.lists c.select_part-in-Par-2.new.lists c.part_place-in-Par-2.result.live _ (term_of c.in-Par.right.value) _
+    (c.args.at.path + 1 + statement_count (term_of c.in-Par.left.value)) (ap (λ k. term_of k) c.deref-in-Par-2.ensures)
+    (c.part_place-in-Par-2.ensures.path ∙ (c.in_ok-next-in-Par.ensures.after
+    ∙ λ i. c.part_place-in-Par.ensures.path i + statement_count (term_of (c.deref-in-Par.ensures i)))) c.in_ok-after-in-Par.ensures.grown)
+    c.close_node-in-Par.ensures.nodes c.close_node-in-Par.ensures.leaves
+    (λ i. subtree_if c.args.at.live c.args.at.path (length c.args.lists.now.nodes.items)
+    (Parallel (sym (c.can_pass-first.ensures ∙ λ i. (codes_at c.args.codes.now (term_of c.in-Par.left.value) (c.args.at.path + 1)
+    (rw c.in-Par.is at c.requires.codes).1).started i 0 || (codes_at c.args.codes.now (term_of c.in-Par.left.value) (c.args.at.path + 1)
+    (rw c.in-Par.is at c.requires.codes).1).resumed i 0) i) (sym (c.can_pass.ensures
+    ∙ (λ i. set_at c.args.codes.now.started.items ((c.in_ok-next-in-Par.ensures.after
+    ∙ λ i. c.part_place-in-Par.ensures.path i + statement_count (term_of (c.deref-in-Par.ensures i))) i) 0
+    || set_at c.args.codes.now.resumed.items ((c.in_ok-next-in-Par.ensures.after
+    ∙ λ i. c.part_place-in-Par.ensures.path i + statement_count (term_of (c.deref-in-Par.ensures i))) i) 0)
+    ∙ λ i. (codes_at c.args.codes.now (term_of c.in-Par.right.value) (c.args.at.path + 1 + statement_count (term_of c.in-Par.left.value))
+    (rw c.in-Par.is at c.requires.codes).2).started i 0 || (codes_at c.args.codes.now (term_of c.in-Par.right.value)
+    (c.args.at.path + 1 + statement_count (term_of c.in-Par.left.value)) (rw c.in-Par.is at c.requires.codes).2).resumed i 0) i))
+    (tree_nodes (resumes (term_of c.in-Par.left.value)) (term_of c.in-Par.left.value) (c.args.at.path + 1)
+    (length c.args.lists.now.nodes.items + 1) c.args.lists.now.leaves
+    ++ tree_nodes (resumes (term_of c.in-Par.right.value)) (term_of c.in-Par.right.value) (c.args.at.path + 1 + statement_count (term_of c.in-Par.left.value))
+    (length c.args.lists.now.nodes.items + 1 + length (tree_nodes (resumes (term_of c.in-Par.left.value)) (term_of c.in-Par.left.value) (c.args.at.path + 1)
+    (length c.args.lists.now.nodes.items + 1) c.args.lists.now.leaves))
     (c.args.lists.now.leaves + length (leaf_paths (resumes (term_of c.in-Par.left.value)) (term_of c.in-Par.left.value) (c.args.at.path + 1))))) refl)

@@ -42,33 +42,40 @@ beside g near list i n x s l live read is =
 
 pub bounds-statements-path : goal.bounds-statements-path
 bounds-statements-path c =
-    within c.args.graph.now c.args.near.now c.args.statements.now (length c.args.made.now.kept.items) (instance_of c.args.instance) c.requires.listed c.requires.live
+    within c.args.graph.now c.args.near.now c.args.statements.now (length c.args.made.now.kept.items)
+    (instance_of c.args.instance) c.requires.listed c.requires.live
 
 pub bounds-statements-path-2 : goal.bounds-statements-path-2
 bounds-statements-path-2 c =
-    within c.args.graph.now c.args.near.now c.args.statements.now (length c.args.made.now.kept.items) (instance_of c.args.instance) c.requires.listed c.requires.live
+    within c.args.graph.now c.args.near.now c.args.statements.now (length c.args.made.now.kept.items)
+    (instance_of c.args.instance) c.requires.listed c.requires.live
 
 pub unreachable-requires : goal.unreachable-requires
 unreachable-requires c =
     let g = c.args.graph.now in
     let x = instance_of c.args.instance in
     let side = beside g c.args.near.now c.args.statements.now (length c.args.made.now.kept.items) c.in-Some.n x c.index-statements-path.result c.requires.listed
-    c.requires.live c.index-statements-path.is (ap (λ (z : Statement). around (entry_view z.control)) c.index-statements-path.is ∙ sym c.around.ensures ∙ c.in-Some.is) in
+    c.requires.live c.index-statements-path.is (ap (λ (z : Statement). around (entry_view z.control)) c.index-statements-path.is ∙ sym c.around.ensures
+    ∙ c.in-Some.is) in
     c.in-None-find_above.ensures (subst (λ xs. Contains xs (record { path = c.in-Some.n; layer = layer_above c.in-Some.n x.layer }))
     (sym (c.requires.listed.instances ∙ c.requires.listed.body)) side.live)
 
 pub bounds-statements-n : goal.bounds-statements-n
 bounds-statements-n c =
     let g = c.args.graph.now in
-    let side = beside g c.args.near.now c.args.statements.now (length c.args.made.now.kept.items) c.in-Some.n (instance_of c.args.instance) c.index-statements-path.result
-    c.requires.listed c.requires.live c.index-statements-path.is (ap (λ (z : Statement). around (entry_view z.control)) c.index-statements-path.is ∙ sym c.around.ensures ∙ c.in-Some.is) in
+    let side = beside g c.args.near.now c.args.statements.now (length c.args.made.now.kept.items) c.in-Some.n
+    (instance_of c.args.instance) c.index-statements-path.result
+    c.requires.listed c.requires.live c.index-statements-path.is (ap (λ (z : Statement). around (entry_view z.control)) c.index-statements-path.is
+    ∙ sym c.around.ensures ∙ c.in-Some.is) in
     omega (arith, side.within, length-statements (program_of g.program) c.args.statements.now c.requires.listed.statements)
 
 pub bounds-statements-n-in-Some-find_above : goal.bounds-statements-n-in-Some-find_above
 bounds-statements-n-in-Some-find_above c =
     let g = c.args.graph.now in
-    let side = beside g c.args.near.now c.args.statements.now (length c.args.made.now.kept.items) c.in-Some.n (instance_of c.args.instance) c.index-statements-path.result
-    c.requires.listed c.requires.live c.index-statements-path.is (ap (λ (z : Statement). around (entry_view z.control)) c.index-statements-path.is ∙ sym c.around.ensures ∙ c.in-Some.is) in
+    let side = beside g c.args.near.now c.args.statements.now (length c.args.made.now.kept.items) c.in-Some.n
+    (instance_of c.args.instance) c.index-statements-path.result
+    c.requires.listed c.requires.live c.index-statements-path.is (ap (λ (z : Statement). around (entry_view z.control)) c.index-statements-path.is
+    ∙ sym c.around.ensures ∙ c.in-Some.is) in
     omega (arith, side.within, length-statements (program_of g.program) c.args.statements.now c.requires.listed.statements)
 
 pub index-requires : goal.index-requires

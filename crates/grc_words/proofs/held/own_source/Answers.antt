@@ -41,7 +41,8 @@ returns-in_ok-source-in-Resumed c =
     let here : instance_at (instances_in near) c.args.i ≡ record { path = n; layer = Resumed } =
     ap (λ xs. instance_at xs c.args.i) c.requires.instances ∙ c.requires.instance ∙ resumed in
     let go = subst (λ (x : Instance). IsNumberOf (names_in near) c.go-go.result.0 (Go x.path x.layer)) here c.go-go.ensures in
-    let made = subst (λ xs. TestMade g xs (expression_of c.in-Some.test.now) 0 c.args.rows.now.items c.test_source.new.rows.items c.in_ok-tested-in-Resumed.tested)
+    let made = subst (λ xs. TestMade g xs (expression_of c.in-Some.test.now) 0 c.args.rows.now.items c.test_source.new.rows.items
+    c.in_ok-tested-in-Resumed.tested)
     c.as_slice.ensures.value c.in_ok-tested-in-Resumed.ensures in
     let own = own-suspends g near n (expression_of c.in-Some.test.now) c.args.statement.now.signals.items c.go-go.result c.args.rows.now.items
     c.test_source.new.rows.items c.both.new.rows.items c.in_ok-tested-in-Resumed.tested c.in_ok-source-in-Resumed.source is

@@ -7,7 +7,8 @@ pub index_mut-requires : goal.index_mut-requires
 index_mut-requires c =
     let nodes = c.args.tree.now.nodes.items in
     let low : c.loop-place.place - 1 < length nodes = omega (arith, c.args.tree.now.nodes.ok.0, c.len-place.ensures) in
-    let within = leaf-within (term_of c.args.graph.now.program.body) nodes (c.loop-place.place - 1) c.in-Leaf.leaf c.index-node.result.now c.requires.tree low c.index-node.ensures c.in-Leaf.is in
+    let within = leaf-within (term_of c.args.graph.now.program.body) nodes
+    (c.loop-place.place - 1) c.in-Leaf.leaf c.index-node.result.now c.requires.tree low c.index-node.ensures c.in-Leaf.is in
     omega (arith, within, c.loop-place.invariant.many, c.loop-place.sources.ok.0, c.requires.count)
 
 pub loop-place-preserved-in-Leaf : goal.loop-place-preserved-in-Leaf
@@ -17,9 +18,11 @@ loop-place-preserved-in-Leaf c =
     let nodes = tree.nodes.items in
     let j = c.loop-place.place - 1 in
     let low : j < length nodes = omega (arith, tree.nodes.ok.0, c.len-place.ensures) in
-    let within = leaf-within (term_of c.args.graph.now.program.body) nodes j c.in-Leaf.leaf c.index-node.result.now c.requires.tree low c.index-node.ensures c.in-Leaf.is in
+    let within = leaf-within (term_of c.args.graph.now.program.body) nodes j c.in-Leaf.leaf c.index-node.result.now c.requires.tree low c.index-node.ensures
+    c.in-Leaf.is in
     chosen-set g nodes tree.leaves c.args.count c.loop-place.sources.items c.loop-place.place j c.in-Leaf.leaf c.index-node.result.now c.loop-place.invariant
-    (omega arith) low c.index-node.ensures c.in-Leaf.is tree.numbered (omega (arith, leaves-many (term_of c.args.graph.now.program.body) nodes c.requires.tree, c.requires.leaves))
+    (omega arith) low c.index-node.ensures c.in-Leaf.is tree.numbered
+    (omega (arith, leaves-many (term_of c.args.graph.now.program.body) nodes c.requires.tree, c.requires.leaves))
     (omega (arith, within, c.requires.count))
 
 pub returns : goal.returns

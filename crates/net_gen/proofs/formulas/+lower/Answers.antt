@@ -30,7 +30,8 @@ lower-requires-in-And-2 t c =
     let old = drawing_of c.args.circuit.now in
     let ready = subst (FormulaReady g w old) c.in-And.is c.requires.ready in
     let right = subst (FormulaReady g w old) (sym c.deref-in-And-2.ensures) ready.1 in
-    let next = second-ready g w old (drawing_of c.lower-in-And.new.circuit) (drawing_of c.net-in-And.new.self) c.deref-in-And.result.now c.deref-in-And-2.result.now
+    let next = second-ready g w old (drawing_of c.lower-in-And.new.circuit)
+    (drawing_of c.net-in-And.new.self) c.deref-in-And.result.now c.deref-in-And-2.result.now
     c.in_ok-op-in-And.op c.in_ok-first-in-And.first c.requires.sound c.in_ok-op-in-And.ensures c.in_ok-first-in-And.ensures.drawn
     c.in_ok-first-in-And.ensures.number c.in_ok-first-in-And.ensures.fits right in
     let whole = ap weight c.in-And.is in

@@ -41,4 +41,5 @@ returns-in-None c =
     let whole = take_all at list c.loop-wire-test.false in
     let joined = joins-none g w (drawing_of c.args.circuit.now) (drawing_of c.loop-wire.circuit) c.loop-wire.so_far (take at list) c.requires.sound
     c.loop-wire.invariant c.in-None.is in
-    subst (λ xs. Lowers g w (drawing_of c.args.circuit.now) (drawing_of c.loop-wire.circuit) (Copy c.loop-wire.circuit.no) (any_sense g xs) (any_cost (length xs))) whole joined
+    subst (λ xs. Lowers g w (drawing_of c.args.circuit.now) (drawing_of c.loop-wire.circuit) (Copy c.loop-wire.circuit.no) (any_sense g xs)
+    (any_cost (length xs))) whole joined

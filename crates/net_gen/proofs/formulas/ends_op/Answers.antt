@@ -51,7 +51,8 @@ run-requires-clause-wire c =
     let i = c.args.instance.0 in
     let f = first-is g w i c.index.result.now c.requires.words c.requires.instance c.index.ensures in
     let n : c.ends_from-count.result ≡ ends_upto g w i c.args.code =
-    c.ends_from-count.ensures.count ∙ ap (λ ws. prefix_len (is_end_upto i c.args.code) (drop c.index.result.now.0 ws)) c.wires.ensures ∙ ap (λ x. prefix_len (is_end_upto i c.args.code) (drop x g.wires.items)) f in
+    c.ends_from-count.ensures.count ∙ ap (λ ws. prefix_len (is_end_upto i c.args.code) (drop c.index.result.now.0 ws)) c.wires.ensures
+    ∙ ap (λ x. prefix_len (is_end_upto i c.args.code) (drop x g.wires.items)) f in
     placed-before g w (drawing_of c.args.circuit.now) (drawing_of c.loop-wire.circuit) c.loop-wire.so_far i c.args.code c.loop-wire.wire c.index.result.now.0
     c.ends_from-count.result c.requires.ready c.loop-wire.invariant f n c.loop-wire.auto.wire c.loop-wire-test.true
 
@@ -66,7 +67,8 @@ loop-wire-preserved c =
     let m = c.loop-wire.invariant in
     let f = first-is g w i c.index.result.now c.requires.words c.requires.instance c.index.ensures in
     let n : c.ends_from-count.result ≡ ends_upto g w i c.args.code =
-    c.ends_from-count.ensures.count ∙ ap (λ ws. prefix_len (is_end_upto i c.args.code) (drop c.index.result.now.0 ws)) c.wires.ensures ∙ ap (λ x. prefix_len (is_end_upto i c.args.code) (drop x g.wires.items)) f in
+    c.ends_from-count.ensures.count ∙ ap (λ ws. prefix_len (is_end_upto i c.args.code) (drop c.index.result.now.0 ws)) c.wires.ensures
+    ∙ ap (λ x. prefix_len (is_end_upto i c.args.code) (drop x g.wires.items)) f in
     let placed = placed-before g w old now c.loop-wire.so_far i c.args.code v c.index.result.now.0 c.ends_from-count.result c.requires.ready m f n
     c.loop-wire.auto.wire c.loop-wire-test.true in
     let many = ap length c.wires.ensures in
@@ -83,7 +85,8 @@ returns-in-Some c =
     let i = c.args.instance.0 in
     let f = first-is g w i c.index.result.now c.requires.words c.requires.instance c.index.ensures in
     let n : c.ends_from-count.result ≡ ends_upto g w i c.args.code =
-    c.ends_from-count.ensures.count ∙ ap (λ ws. prefix_len (is_end_upto i c.args.code) (drop c.index.result.now.0 ws)) c.wires.ensures ∙ ap (λ x. prefix_len (is_end_upto i c.args.code) (drop x g.wires.items)) f in
+    c.ends_from-count.ensures.count ∙ ap (λ ws. prefix_len (is_end_upto i c.args.code) (drop c.index.result.now.0 ws)) c.wires.ensures
+    ∙ ap (λ x. prefix_len (is_end_upto i c.args.code) (drop x g.wires.items)) f in
     let made = ends-made g w (drawing_of c.args.circuit.now) (drawing_of c.loop-wire.circuit) c.loop-wire.so_far i c.args.code c.loop-wire.wire
     c.index.result.now.0 c.ends_from-count.result f n c.loop-wire.invariant c.loop-wire.auto.wire (omega arith) c.loop-wire-test.false in
     run-some g w (drawing_of c.args.circuit.now) (drawing_of c.loop-wire.circuit) c.loop-wire.so_far c.in-Some.net _ _ made c.in-Some.is
@@ -95,7 +98,8 @@ returns-in-None c =
     let i = c.args.instance.0 in
     let f = first-is g w i c.index.result.now c.requires.words c.requires.instance c.index.ensures in
     let n : c.ends_from-count.result ≡ ends_upto g w i c.args.code =
-    c.ends_from-count.ensures.count ∙ ap (λ ws. prefix_len (is_end_upto i c.args.code) (drop c.index.result.now.0 ws)) c.wires.ensures ∙ ap (λ x. prefix_len (is_end_upto i c.args.code) (drop x g.wires.items)) f in
+    c.ends_from-count.ensures.count ∙ ap (λ ws. prefix_len (is_end_upto i c.args.code) (drop c.index.result.now.0 ws)) c.wires.ensures
+    ∙ ap (λ x. prefix_len (is_end_upto i c.args.code) (drop x g.wires.items)) f in
     let made = ends-made g w (drawing_of c.args.circuit.now) (drawing_of c.loop-wire.circuit) c.loop-wire.so_far i c.args.code c.loop-wire.wire
     c.index.result.now.0 c.ends_from-count.result f n c.loop-wire.invariant c.loop-wire.auto.wire (omega arith) c.loop-wire-test.false in
     run-empty g w (drawing_of c.args.circuit.now) (drawing_of c.loop-wire.circuit) c.loop-wire.so_far _ _ made c.in-None.is

@@ -31,7 +31,8 @@ loop-wire-preserved c =
     let equation = ap (λ (v : WireId). slice_get g.equations.items v.0) (sym item) ∙ c.equation.ensures in
     let low : (slice_index_or order j none).0 < length g.wires.items = omega (arith, c.requires.order.in_range j none h, length-names g) in
     let drawn = c.in_ok-carry.ensures.drawn ∙ ap (with_wire (drawing_of c.lower.new.circuit) c.in_ok-op.op) item in
-    wires-step g c.args.words.now (drawing_of c.args.circuit.now) (drawing_of c.loop-wire.circuit) (drawing_of c.lower.new.circuit) (drawing_of c.carry.new.self)
+    wires-step g c.args.words.now (drawing_of c.args.circuit.now) (drawing_of c.loop-wire.circuit) (drawing_of c.lower.new.circuit)
+    (drawing_of c.carry.new.self)
     c.in_ok-op.op c.equation.result.now order j c.loop-wire.invariant h low
     (get_or_from_slice_get g.equations.items (slice_index_or order j none).0 c.equation.result.now (Const true) equation) c.in_ok-op.ensures drawn
     c.in_ok-carry.ensures.fits

@@ -35,7 +35,8 @@ returns c =
     let g = c.args.graph.now in
     let w = c.args.words.now in
     let many : c.len.result ≡ length w.rows.items = omega (arith, w.rows.ok.0, c.len.ensures) in
-    let late = subst (λ n. RowsMade g w (drawing_of c.make_wires.new.circuit) (drawing_of c.make_rows-2.new.circuit) w.early n) many c.in_ok-make_rows-2.ensures in
+    let late = subst (λ n. RowsMade g w (drawing_of c.make_wires.new.circuit) (drawing_of c.make_rows-2.new.circuit) w.early n) many
+    c.in_ok-make_rows-2.ensures in
     circuit-made g w (drawing_of c.in_ok-circuit.circuit) (drawing_of c.make_rows.new.circuit) (drawing_of c.make_wires.new.circuit)
     (drawing_of c.make_rows-2.new.circuit) (drawing_of c.make_next.new.circuit) _ c.args.order.now.list.items c.in_ok-next.next.items c.requires.order
     c.requires.words c.in_ok-circuit.ensures c.in_ok-make_rows.ensures c.in_ok-make_wires.ensures late c.in_ok-next.ensures

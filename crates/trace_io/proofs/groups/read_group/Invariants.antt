@@ -13,5 +13,6 @@ invariant-loop-event l = record {
   behind : l.at ≤ l.from;
   within : l.from ≤ length l.text;
   each_input : length l.event.items ≡ length l.names.inputs.now;
-  same : group_from l.names.inputs.now l.names.instant l.text l.at ≡ group l.names.inputs.now l.names.instant l.stage l.event.items (tokens false l.from (drop l.from l.text));
+  same : group_from l.names.inputs.now l.names.instant l.text l.at ≡
+      group l.names.inputs.now l.names.instant l.stage l.event.items (tokens false l.from (drop l.from l.text));
 }

@@ -23,7 +23,8 @@ run_steps-requires c =
     let wide = ap length (c.deref_mut-2.ensures.value ∙ begun) ∙ c.put_values.auto.values ∙ ap length c.deref_mut.ensures.value ∙ c.self.invariant.each_name in
     let low = subst (λ l. All (λ s. s.slot < length (declared p)) l) (sym c.self.invariant.plan.steps_are) (steps-low p c.self.invariant.names_fit) in
     subst (λ n. All (λ s. s.slot < n) c.deref-2.result.now) (sym wide)
-    (subst (λ l. All (λ s. s.slot < length (declared p)) l) (sym c.deref-2.ensures.value) (all-parts (λ s. s.slot < length (declared p)) plain_step c.self.inside.plan.steps.items low))
+    (subst (λ l. All (λ s. s.slot < length (declared p)) l) (sym c.deref-2.ensures.value)
+    (all-parts (λ s. s.slot < length (declared p)) plain_step c.self.inside.plan.steps.items low))
 
 pub invariant_of-self : goal.invariant_of-self
 invariant_of-self c =
@@ -31,7 +32,8 @@ invariant_of-self c =
     let plan = c.self.invariant.plan in
     let inputs = c.args.inputs.now in
     let begun = with_items_is c.self.inside.values c.put_values.new.values (c.put_values.auto.values ∙ c.deref_mut.ensures.len) in
-    let ended = with_items_is (with_items c.self.inside.values c.put_values.new.values) c.run_steps.new.values (c.run_steps.auto.values ∙ c.deref_mut-2.ensures.len) in
+    let ended = with_items_is (with_items c.self.inside.values c.put_values.new.values) c.run_steps.new.values
+    (c.run_steps.auto.values ∙ c.deref_mut-2.ensures.len) in
     let wide = ap length ended ∙ c.run_steps.auto.values ∙ ap length (c.deref_mut-2.ensures.value ∙ begun) ∙ c.put_values.auto.values
     ∙ ap length c.deref_mut.ensures.value ∙ c.self.invariant.each_name in
     let shown = with_items_is c.self.inside.outputs c.take_values.new.taken (c.take_values.auto.taken ∙ c.deref_mut-3.ensures.len)
@@ -45,7 +47,8 @@ returns c =
     let plan = c.self.invariant.plan in
     let inputs = c.args.inputs.now in
     let begun = with_items_is c.self.inside.values c.put_values.new.values (c.put_values.auto.values ∙ c.deref_mut.ensures.len) in
-    let ended = with_items_is (with_items c.self.inside.values c.put_values.new.values) c.run_steps.new.values (c.run_steps.auto.values ∙ c.deref_mut-2.ensures.len) in
+    let ended = with_items_is (with_items c.self.inside.values c.put_values.new.values) c.run_steps.new.values
+    (c.run_steps.auto.values ∙ c.deref_mut-2.ensures.len) in
     let start = c.deref_mut-2.ensures.value ∙ begun ∙ c.put_values.ensures
     ∙ ap (λ l. put_all l inputs c.deref_mut.result.now) (c.deref.ensures.value ∙ plan.inputs_are)
     ∙ ap (put_all (map (slot_in (declared p)) (inputs_of p)) inputs) c.deref_mut.ensures.value in

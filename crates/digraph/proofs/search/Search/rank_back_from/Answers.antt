@@ -5,7 +5,8 @@ pub loop-node-init : goal.loop-node-init
 loop-node-init c =
     let r = c.requires in
     let old = c.args.self.now in
-    let entered = StepsOn-root c.args.edges.now old c.enter.new.self c.args.root c.index.result.now r.is_node c.in_ok-enter.ensures r.search r.between c.index.ensures (cc) in
+    let entered = StepsOn-root c.args.edges.now old c.enter.new.self c.args.root c.index.result.now r.is_node c.in_ok-enter.ensures r.search r.between
+    c.index.ensures (cc) in
     record {
       search = entered.search;
       stays = entered.stays;

@@ -45,7 +45,8 @@ returns-in_ok-enter-in-New c =
     let low : rest - 1 < length edges = omega (arith, at.within) in
     let new = state_of-read edges old.states.items (rest - 1) _ New r.nodes low c.index.ensures c.in-New.is in
     let joined = HasEdge-rest edges old c.args.node rest r.search at (omega arith) in
-    StepsOn-enter edges old c.enter.new.self r.search (edge_at edges (rest - 1)).0 (r.nodes (rest - 1) (0, 0) low).0 new (λ some. rw r.last joined) c.in_ok-enter-in-New.ensures
+    StepsOn-enter edges old c.enter.new.self r.search (edge_at edges (rest - 1)).0 (r.nodes (rest - 1) (0, 0) low).0 new
+    (λ some. rw r.last joined) c.in_ok-enter-in-New.ensures
 
 pub returns-in_ok-walk-in-OnPath : goal.returns-in_ok-walk-in-OnPath
 returns-in_ok-walk-in-OnPath c =
@@ -56,7 +57,8 @@ returns-in_ok-walk-in-OnPath c =
     let at = IsRestOf-read edges old c.args.node rest r.search r.on_path r.last c.index-rest.ensures in
     let low : rest - 1 < length edges = omega (arith, at.within) in
     let on_path = state_of-read edges old.states.items (rest - 1) _ (OnPath c.in-OnPath.place) r.nodes low c.index.ensures c.in-OnPath.is in
-    rw (c.in_ok-walk-in-OnPath.ensures, c.deref.ensures.value) (IsClosedWalk-at edges old r.search c.args.node rest c.in-OnPath.place at (omega arith) r.nodes on_path r.on_path r.last)
+    rw (c.in_ok-walk-in-OnPath.ensures, c.deref.ensures.value) (IsClosedWalk-at edges old r.search c.args.node rest c.in-OnPath.place at
+    (omega arith) r.nodes on_path r.on_path r.last)
 
 pub returns-in-Ranked : goal.returns-in-Ranked
 returns-in-Ranked c =

@@ -5,4 +5,5 @@ use Rattle.est_base.proofs.code_set.CodeSet.max_of.Goals as goal
 
 pub returns : goal.returns
 unfolding members
-returns c = rw c.from_bits.ensures (fun_ext (bit-maxima c.args.self.bits c.args.other.bits _ _ c.args.self.within c.args.other.within c.from_least-2.ensures c.from_least.ensures))
+returns c = rw c.from_bits.ensures (fun_ext (bit-maxima c.args.self.bits c.args.other.bits _ _ c.args.self.within c.args.other.within c.from_least-2.ensures
+    c.from_least.ensures))

@@ -17,7 +17,8 @@ invariant_of-self c =
     let hides = subst Hides behind c.self.invariant.hides in
     record {
       found = λ n. c.remove.ensures.updates.0 (record { ref_ptr = (0, 0); now = n })
-          ∙ meaning-unbound (λ n. get_by (λ k. is_same_name n k.now) old.latest) (map bound_name (reverse c.pop.new.self.items)) bound.name.now bound.meaning None
+          ∙ meaning-unbound (λ n. get_by (λ k. is_same_name n k.now) old.latest)
+          (map bound_name (reverse c.pop.new.self.items)) bound.name.now bound.meaning None
           (λ n. c.self.invariant.found n ∙ ap (λ l. meaning (map bound_name l) n) behind) (sym c.in-None.is ∙ hides.0) n;
       hides = hides.1;
     }
@@ -31,7 +32,8 @@ invariant_of-self-in-Ok c =
     let hides = subst Hides behind c.self.invariant.hides in
     record {
       found = λ n. c.in-Ok.ensures.updates.0 (record { ref_ptr = (0, 0); now = n })
-          ∙ meaning-unbound (λ n. get_by (λ k. is_same_name n k.now) old.latest) (map bound_name (reverse c.pop.new.self.items)) bound.name.now bound.meaning (Some c.in-Some-hidden.meaning)
+          ∙ meaning-unbound (λ n. get_by (λ k. is_same_name n k.now) old.latest) (map bound_name (reverse c.pop.new.self.items)) bound.name.now bound.meaning
+          (Some c.in-Some-hidden.meaning)
           (λ n. c.self.invariant.found n ∙ ap (λ l. meaning (map bound_name l) n) behind) (sym c.in-Some-hidden.is ∙ hides.0) n;
       hides = hides.1;
     }
@@ -43,6 +45,7 @@ invariant_of-self-in-Err c =
     let behind : reverse c.self.inside.bound.items ≡ bound ∷ reverse c.pop.new.self.items =
     ap reverse c.in-Some.ensures.items ∙ reverse-push c.pop.new.self.items bound in
     let there = c.self.invariant.found bound.name.now ∙ ap (λ l. meaning (map bound_name l) bound.name.now) behind
-    ∙ ap (λ b. if b then Some bound.meaning else meaning (map bound_name (reverse c.pop.new.self.items)) bound.name.now) (nat_list_eq_equiv.refl bound.name.now) in
+    ∙ ap (λ b. if b then Some bound.meaning else meaning (map bound_name (reverse c.pop.new.self.items)) bound.name.now)
+    (nat_list_eq_equiv.refl bound.name.now) in
     let none_some : None ≡ Some bound.meaning = sym c.in-Err.ensures.absent ∙ there in
     absurd (cc)

@@ -7,4 +7,5 @@ use Rattle.est_names.proofs.name_set.NameSet.insert.Goals as goal
 pub returns-clause-new : goal.returns-clause-new
 returns-clause-new c =
     c.in_ok-insert.ensures.added
-    ∙ ap not (sym (list_any-map (is_same_name c.args.name.now) (λ (k : Bor (List ℕ)). k.now) c.self.inside.names.keys) ∙ ap (is_among c.args.name.now) c.self.view_is)
+    ∙ ap not (sym (list_any-map (is_same_name c.args.name.now) (λ (k : Bor (List ℕ)). k.now) c.self.inside.names.keys)
+    ∙ ap (is_among c.args.name.now) c.self.view_is)

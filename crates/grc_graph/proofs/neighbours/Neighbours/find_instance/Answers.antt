@@ -4,7 +4,8 @@ use Rattle.grc_graph.specs.WireTables.{comes_before, SplitsAt}
 use Rattle.grc_graph.specs.Instances as plain
 use Rattle.grc_graph.proofs.NeighbourReads.{found_instance, absent_instance, read_instance}
 use Rattle.grc_graph.proofs.neighbours.Neighbours.find_instance.Goals as goal
-use Rattle.grc_graph.proofs.neighbours.Neighbours.find_instance.Goals.{else-place-len-via-then-place-len+else-not-comes_before, else-place-len-via-else-place-len}
+use Rattle.grc_graph.proofs.neighbours.Neighbours.find_instance.Goals.{else-place-len-via-then-place-len+else-not-comes_before}
+use Rattle.grc_graph.proofs.neighbours.Neighbours.find_instance.Goals.{else-place-len-via-else-place-len}
 
 pub returns-then-not-comes_before : goal.returns-then-not-comes_before
 returns-then-not-comes_before c =
@@ -14,7 +15,8 @@ returns-then-not-comes_before c =
     let h : SplitsAt x insts p = subst (λ l. SplitsAt x l p) c.deref.ensures.value c.place_of-place.ensures.place in
     let l : p < length insts = omega arith in
     found_instance insts x p h l
-    (ap (λ y. comes_before x (instance_of y)) (sym (read_instance insts p c.index.result.now c.index.ensures l)) ∙ sym c.comes_before.ensures ∙ c.if-not-comes_before.true)
+    (ap (λ y. comes_before x (instance_of y)) (sym (read_instance insts p c.index.result.now c.index.ensures l)) ∙ sym c.comes_before.ensures
+    ∙ c.if-not-comes_before.true)
 
 pub returns-else-place-len : goal.returns-else-place-len
 returns-else-place-len c =
@@ -25,6 +27,7 @@ returns-else-place-len c =
     absent_instance insts x p c.args.self.now.tables.ascend h
     (λ l. elim c.else-place-len.branch [
       | else-place-len-via-then-place-len+else-not-comes_before w ↦
-          ap (λ y. comes_before x (instance_of y)) (sym (read_instance insts p w.index.result.now w.index.ensures l)) ∙ sym w.comes_before.ensures ∙ w.if-not-comes_before.false
+          ap (λ y. comes_before x (instance_of y)) (sym (read_instance insts p w.index.result.now w.index.ensures l)) ∙ sym w.comes_before.ensures
+          ∙ w.if-not-comes_before.false
       | else-place-len-via-else-place-len w ↦ absurd (omega arith)
     ])

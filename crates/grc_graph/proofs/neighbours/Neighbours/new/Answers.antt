@@ -19,7 +19,9 @@ use Rattle.grc_graph.proofs.neighbours.Neighbours.new.Goals as goal
 
 pub loop-i-init : goal.loop-i-init
 loop-i-init c =
-    Filled-none (program_of c.args.program.now) _ _ _ (c.in_ok-push_outgoing.ensures ∙ ap (λ l. l ++ map (λ s. Out (record { 0 = s })) (range_with_len c.args.program.now.inputs (outgoing_count (program_of c.args.program.now)))) c.new-wires.ensures.items)
+    Filled-none (program_of c.args.program.now) _ _ _ (c.in_ok-push_outgoing.ensures
+    ∙ ap (λ l. l ++ map (λ s. Out (record { 0 = s })) (range_with_len c.args.program.now.inputs (outgoing_count (program_of c.args.program.now))))
+    c.new-wires.ensures.items)
     (c.in_ok-push.ensures.items ∙ ap (λ l. l ++ outgoing_count (program_of c.args.program.now) ∷ []) c.new-first.ensures.items)
 
 pub instance_codes-set-requires-clause-started : goal.instance_codes-set-requires-clause-started
@@ -81,12 +83,15 @@ loop-i-preserved c =
     let same : y ≡ get_or raw i y = ap (λ l. get_or l i first_instance) c.deref-instance-items.ensures.value ∙ get_or_default raw i first_instance y inside in
     let within : y.path.0 < statement_count p.body = path_within p.body raw i y c.requires.live inside same in
     let named : instance_at insts i ≡ instance_of y = name_at raw i y _ inside ∙ ap instance_of (sym same) in
-    let statement = ap (λ l. l.statement) (statement_read p c.args.statements.now y.path.0 c.index-statements-path.result c.requires.statements within c.index-statements-path.is) in
+    let statement = ap (λ l. l.statement) (statement_read p c.args.statements.now y.path.0 c.index-statements-path.result c.requires.statements within
+    c.index-statements-path.is) in
     let read = codes_read c.args.codes.now p y.path.0 c.requires.codes within in
     subst (λ l. Filled p insts (i + 1) c.push_run.new.wires.items l) (sym c.in_ok-push-2.ensures.items)
-    (Filled-more p insts i c.loop-i.wires.items c.push_run.new.wires.items c.loop-i.first.items c.is_local-local.result (members c.instance_codes-set.result) c.len.result
+    (Filled-more p insts i c.loop-i.wires.items c.push_run.new.wires.items c.loop-i.first.items c.is_local-local.result
+    (members c.instance_codes-set.result) c.len.result
     c.loop-i.invariant (omega (arith, length-map raw instance_of))
-    (c.is_local-local.ensures ∙ ap (λ s. is_local (term_of s.body.now)) (sym c.index-statements-path.is) ∙ ap is_local statement ∙ ap (λ x. is_local (row_at (program_rows p) x.path).statement) (sym named))
+    (c.is_local-local.ensures ∙ ap (λ s. is_local (term_of s.body.now)) (sym c.index-statements-path.is) ∙ ap is_local statement
+    ∙ ap (λ x. is_local (row_at (program_rows p) x.path).statement) (sym named))
     (c.instance_codes-set.ensures ∙ read.codes (instance_of y).layer ∙ ap (λ x. instance_codes (row_at (program_rows p) x.path).statement x.layer) (sym named))
     c.in_ok-push_run.ensures (omega arith))
 
@@ -101,13 +106,16 @@ overflow_cast-len c =
     let same : y ≡ get_or raw i y = ap (λ l. get_or l i first_instance) c.deref-instance-items.ensures.value ∙ get_or_default raw i first_instance y inside in
     let within : y.path.0 < statement_count p.body = path_within p.body raw i y c.requires.live inside same in
     let named : instance_at insts i ≡ instance_of y = name_at raw i y _ inside ∙ ap instance_of (sym same) in
-    let statement = ap (λ l. l.statement) (statement_read p c.args.statements.now y.path.0 c.index-statements-path.result c.requires.statements within c.index-statements-path.is) in
+    let statement = ap (λ l. l.statement) (statement_read p c.args.statements.now y.path.0 c.index-statements-path.result c.requires.statements within
+    c.index-statements-path.is) in
     let read = codes_read c.args.codes.now p y.path.0 c.requires.codes within in
     let new : length c.push_run.new.wires.items ≤ WIRES
     = Filled-few p insts (i + 1) c.push_run.new.wires.items _ (trees_are_kernels_lem c.args.program.now.body) c.requires.live c.requires.few
-    (Filled-more p insts i c.loop-i.wires.items c.push_run.new.wires.items c.loop-i.first.items c.is_local-local.result (members c.instance_codes-set.result) (length c.push_run.new.wires.items)
+    (Filled-more p insts i c.loop-i.wires.items c.push_run.new.wires.items c.loop-i.first.items c.is_local-local.result (members c.instance_codes-set.result)
+    (length c.push_run.new.wires.items)
     c.loop-i.invariant (omega (arith, length-map raw instance_of))
-    (c.is_local-local.ensures ∙ ap (λ s. is_local (term_of s.body.now)) (sym c.index-statements-path.is) ∙ ap is_local statement ∙ ap (λ x. is_local (row_at (program_rows p) x.path).statement) (sym named))
+    (c.is_local-local.ensures ∙ ap (λ s. is_local (term_of s.body.now)) (sym c.index-statements-path.is) ∙ ap is_local statement
+    ∙ ap (λ x. is_local (row_at (program_rows p) x.path).statement) (sym named))
     (c.instance_codes-set.ensures ∙ read.codes (instance_of y).layer ∙ ap (λ x. instance_codes (row_at (program_rows p) x.path).statement x.layer) (sym named))
     c.in_ok-push_run.ensures refl) in
     omega arith
@@ -118,7 +126,8 @@ invariant_of-result c =
     let raw = c.args.live.now.list.items in
     let kernel = trees_are_kernels_lem c.args.program.now.body in
     let few : length (map instance_of raw) ≤ WIRES = few_instances p (map instance_of raw) kernel c.requires.live c.requires.few in
-    let all : length c.loop-i.wires.items ≤ WIRES = Filled-few p (map instance_of raw) c.loop-i.i _ _ kernel c.requires.live c.requires.few c.loop-i.invariant in
+    let all : length c.loop-i.wires.items ≤ WIRES = Filled-few p (map instance_of raw) c.loop-i.i _ _ kernel c.requires.live c.requires.few
+    c.loop-i.invariant in
     let list : c.in_ok-from_slice.field-0.items ≡ raw = c.in_ok-from_slice.ensures.items ∙ c.as_slice.ensures.value in
     let end : c.loop-i.i ≡ length raw = omega (arith, ap length c.deref-instance-items.ensures.value) in
     let whole : c.loop-i.i ≡ length c.in_ok-from_slice.field-0.items = end ∙ ap length (sym list) in

@@ -12,4 +12,7 @@ pub returns-else-signal-self : goal.returns-else-signal-self
 returns-else-signal-self c =
     let t = c.args.self.now in
     absent_out t.list.items t.wires.items t.first.items t.inputs t.outgoing c.args.signal.0 t.tables
-    (λ g h. elim c.else-signal-self.branch [ else-signal-self-via-then-signal-self+else-signal-self-2 w ↦ omega arith | else-signal-self-via-else-signal-self w ↦ omega arith ])
+    (λ g h. elim c.else-signal-self.branch [
+      | else-signal-self-via-then-signal-self+else-signal-self-2 w ↦ omega arith
+      | else-signal-self-via-else-signal-self w ↦ omega arith
+    ])

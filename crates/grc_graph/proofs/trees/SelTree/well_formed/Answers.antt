@@ -11,6 +11,7 @@ returns c body tree =
       nodes_all = tree ∙ sym (append-nil (body_tree body));
       begins = refl;
       ends = (let counts : c.len.result ≡ length c.args.self.now.nodes.items = omega arith in counts)
-          ∙ sym (length-map c.args.self.now.nodes.items node_of) ∙ ap length tree ∙ (let z : length (body_tree body) ≡ 0 + length (body_tree body) = omega arith in z);
+          ∙ sym (length-map c.args.self.now.nodes.items node_of) ∙ ap length tree
+          ∙ (let z : length (body_tree body) ≡ 0 + length (body_tree body) = omega arith in z);
     }))
     ∙ ap (λ j. j.formed) (judged_body c.args.selected.now body)
