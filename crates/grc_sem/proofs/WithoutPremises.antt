@@ -1,6 +1,6 @@
 -- Each premise of the laws is needed: for each, a program that keeps all the others and for which the conclusion fails.
 -- Values and ranks stand in the order of the program's wires.
-use Rattle.std.proofs.Common.{◌≡◌, ℕ, ◌+◌, ◌<◌, Bool, true, false, ◌==◌, ◌||◌, List, [], ◌∷◌, length, map, Option, Some, None, refl, sym, ap, ◌∙◌, arith}
+use Rattle.std.proofs.Common.{◌≡◌, ℕ, Bool, true, false, not, ◌==◌, ◌&&◌, ◌||◌, List, [], ◌∷◌, length, Option, Some, None, refl, sym, ap, ◌∙◌, arith}
 use Rattle.std.specs.List.{All}
 use Rattle.std.proofs.lemmas.Bool.{false≢true}
 use Rattle.std.proofs.lemmas.List.Elements.{All-nil}
@@ -12,7 +12,9 @@ use Rattle.est_kernel.specs.Reactions.{Answer, Reaction, react, run_of}
 use Rattle.est_kernel.specs.StaticCodes.{NoInstantLoop}
 use Rattle.est_kernel.specs.WellFormed.{IsWellFormed, RelatesGiven}
 use Rattle.est_kernel.specs.WellFormed as programs
-use Rattle.grc_graph.specs.Wires.{Wire, Go, StatusOf, listed, codes_below}
+use Rattle.grc_graph.specs.Wires.{Wire, Out, Go, StatusOf, listed, codes_below}
+use Rattle.grc_graph.specs.Formulas.{Boot}
+use Rattle.grc_graph.specs.Equations.{Equation}
 use Rattle.grc_graph.specs.Edges.{edge}
 use Rattle.grc_graph.specs.Orders.{GoUp}
 use Rattle.grc_graph.specs.Residuals.{resumption}
@@ -99,6 +101,33 @@ ranks_needed law =
     (law two_statuses Initial [] (by_values two_statuses examples.present) two_statuses_formed (tt, tt) refl tt refl
     (solved_by two_statuses Initial [] examples.present (refl, (refl, (refl, (refl, (refl, (refl, (refl, (refl, (refl, tt)))))))))))
 
+-- signal S in present S then emit S else emit S end end: one status of S solves the graph, and still no reaction is
+-- constructive
+abbrev one_status : Program
+one_status = program 0 0 ([] ∷ []) (Local 0 (Present (Sig 0) (Emit 0) (Emit 0)))
+
+one_status_solves : Solves (graph_of one_status) Initial [] (by_values one_status examples.present)
+unfolding listed codes_below
+one_status_solves =
+    solved_by one_status Initial [] examples.present (refl, (refl, (refl, (refl, (refl, (refl, (refl, (refl, (refl, tt)))))))))
+
+emitted_either_way : (s : Bool) → s ≡ (s || not s) → s ≡ true
+emitted_either_way true e = refl
+emitted_either_way false e = e
+
+one_status_alone : (V : Valuation) → Solves (graph_of one_status) Initial [] V → V (StatusOf 0 start) ≡ true
+unfolding listed codes_below
+one_status_alone V s =
+    let d : Equation = record { wire = Out 0; formula = Boot } in
+    let runs = s.met 3 d (omega arith) ∙ s.met 0 d (omega arith) in
+    emitted_either_way (V (StatusOf 0 start))
+    (s.met 1 d (omega arith)
+    ∙ ap (λ b. b || V (Go 3 start)) (s.met 5 d (omega arith) ∙ ap (λ b. b && V (StatusOf 0 start)) runs)
+    ∙ ap (λ b. V (StatusOf 0 start) || b) (s.met 7 d (omega arith) ∙ ap (λ b. b && not (V (StatusOf 0 start))) runs))
+
+one_status_does_not_react : react (interface_of one_status) one_status.body [] ≡ None
+one_status_does_not_react = refl
+
 -- signal S in present S else emit S end end: no status of S solves the graph, and no reaction is constructive
 abbrev no_status : Program
 no_status = program 0 0 ([] ∷ []) (Local 0 (Present (Sig 0) Nothing (Emit 0)))
@@ -123,7 +152,7 @@ no_answers : {xs : List Answer} → None ≡ Some xs → ⊥
 no_answers e = cc
 
 ranks_needed_for_runs : RunsWithoutRanks → ⊥
-ranks_needed_for_runs law = no_answers (law no_status no_status_formed (tt, tt) refl (Event [] ∷ []) (refl, tt)).2.0
+ranks_needed_for_runs law = no_answers (law no_status no_status_formed (tt, tt) refl (Event [] ∷ []) (refl, tt)).2
 
 -- input A; signal S, T in present A then present S then emit T end else present T then emit S end end end: every reaction
 -- is constructive, and still the edges go up in no rank. Of such a program the laws say nothing.
@@ -274,10 +303,10 @@ under_way_formed = record {
 }
 
 abbrev under_way_values : List Bool
-under_way_values = false ∷ false ∷ true ∷ true ∷ false ∷ true ∷ true ∷ []
+under_way_values = false ∷ false ∷ true ∷ true ∷ false ∷ false ∷ true ∷ true ∷ []
 
 abbrev under_way_ranks : List ℕ
-under_way_ranks = 0 ∷ 0 ∷ 0 ∷ 0 ∷ 0 ∷ 0 ∷ 1 ∷ []
+under_way_ranks = 0 ∷ 0 ∷ 0 ∷ 0 ∷ 0 ∷ 0 ∷ 0 ∷ 1 ∷ []
 
 kernels_needed : ReactsWithAwake → ⊥
 unfolding listed codes_below
@@ -287,7 +316,7 @@ kernels_needed law =
     (ap paused_in
     (law under_way Initial [] (by_values under_way under_way_values) (rank_in under_way under_way_ranks) under_way_formed refl tt
     (go_up under_way under_way_ranks refl) refl
-    (solved_by under_way Initial [] under_way_values (refl, (refl, (refl, (refl, (refl, (refl, (refl, tt)))))))))))
+    (solved_by under_way Initial [] under_way_values (refl, (refl, (refl, (refl, (refl, (refl, (refl, (refl, tt))))))))))))
 
 -- ---- states
 
@@ -330,8 +359,49 @@ states_needed law =
     (ap output_in
     (law half first_pause [] (by_values half half_values) (rank_in half half_ranks) half_formed ((tt, tt), tt) refl
     (go_up half half_ranks refl) refl
-    (solved_by half first_pause [] half_values
-    (refl, (refl, (refl, (refl, (refl, (refl, (refl, (refl, (refl, (refl, (refl, (refl, (refl, (refl, (refl, (refl, (refl, (refl, (refl, (refl, (refl, (refl, (refl, tt)))))))))))))))))))))))))))
+    (solved_by half first_pause [] half_values (
+      refl,
+      (
+        refl,
+        (
+          refl,
+          (
+            refl,
+            (
+              refl,
+              (
+                refl,
+                (
+                  refl,
+                  (
+                    refl,
+                    (
+                      refl,
+                      (
+                        refl,
+                        (
+                          refl,
+                          (
+                            refl,
+                            (
+                              refl,
+                              (
+                                refl,
+                                (refl, (refl, (refl, (refl, (refl, (refl, (refl, (refl, (refl, tt))))))))),
+                              ),
+                            ),
+                          ),
+                        ),
+                      ),
+                    ),
+                  ),
+                ),
+              ),
+            ),
+          ),
+        ),
+      ),
+    )))))
 
 -- suspend pause; nothing when tick, where the number of the nothing is selected too: what is held is kept by number, and
 -- the next state has leaves alone
