@@ -1,6 +1,6 @@
 use Rattle.std.proofs.Common.{◌≡◌, map, take}
 use Rattle.blif_text.specs.Circuits.{is_among}
-use Rattle.blif_text.proofs.writer.given_outputs.Given as goal
+use Rattle.blif_text.proofs.pieces.given_outputs.Given as goal
 
 abbrev pub invariant-loop-output : goal.invariant-loop-output
 invariant-loop-output l =

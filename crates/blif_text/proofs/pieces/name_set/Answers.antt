@@ -2,7 +2,7 @@ use Rattle.std.proofs.Common.{cond, true, take, sym, ap, ◌∙◌, arith}
 use Rattle.est_base.specs.Names.{is_same_name}
 use Rattle.blif_text.specs.Circuits.{is_among}
 use Rattle.blif_text.proofs.NameSets.{is_among-more}
-use Rattle.blif_text.proofs.writer.name_set.Goals as goal
+use Rattle.blif_text.proofs.pieces.name_set.Goals as goal
 
 -- the look-up of a name after a name is put in, by that of a key with its bytes
 pub loop-name-preserved : goal.loop-name-preserved

@@ -2,7 +2,7 @@ use Rattle.std.proofs.Common.{◌≡◌, ◌∷◌, ◌++◌, [], map, take, get
 use Rattle.std.proofs.lemmas.List.{map_more}
 use Rattle.net_ir.specs.declared.netlist.NetOut.{NetOut}
 use Rattle.blif_text.specs.Circuits.{is_among}
-use Rattle.blif_text.proofs.writer.given_outputs.Goals as goal
+use Rattle.blif_text.proofs.pieces.given_outputs.Goals as goal
 
 -- the answer of the set for the next output
 pub loop-output-preserved : goal.loop-output-preserved
