@@ -1,0 +1,5 @@
+pub mod Tokens
+pub mod Reading
+pub mod Faults
+pub mod NameTests
+pub mod Laws
