@@ -71,8 +71,7 @@ NextStateIsKept =
     × ((shown (graph_of p) V).paused ≡ ((graph_walk p q event V).code == 1))
 
 -- Where each edge goes up in some rank, a run of the graph from the first instant is the run of the program: every
--- reaction is constructive,
--- and what is seen of the answers is what the graph shows.
+-- reaction is constructive, and what is seen of the answers is what the graph shows.
 abbrev pub GraphRunsAreRuns : Type 0
 GraphRunsAreRuns =
     (p : Program) (rank : Wire → ℕ)
