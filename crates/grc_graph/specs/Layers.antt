@@ -94,6 +94,7 @@ liveness_at a (Par p q) n m =
     else liveness_at (part_liveness a q) q (n + 1 + statement_count p) m
 liveness_at a (Trap p) n m = if m == n then a else liveness_at (part_liveness a p) p (n + 1) m
 liveness_at a (Local s p) n m = if m == n then a else liveness_at (part_liveness a p) p (n + 1) m
+-- no body of a program has this form
 liveness_at a (Awake e p) n m = a
 
 -- the layers in which each statement of a body is live

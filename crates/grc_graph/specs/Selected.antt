@@ -48,6 +48,7 @@ IsSelected S (Par p q) n =
     × (holds S q (n + 1 + statement_count p) ≡ true → IsSelected S q (n + 1 + statement_count p))
 IsSelected S (Trap p) n = IsSelected S p (n + 1)
 IsSelected S (Local s p) n = IsSelected S p (n + 1)
+-- no body of a program has this form
 IsSelected S (Awake e p) n = ⊤
 
 -- a state of a body: the first instant, or a well-formed selection, which may be empty
