@@ -1,4 +1,5 @@
--- To believe: the layers of an instant, and which statements are live in which layers.
+-- To believe: the layers of an instant, and which statements are live in which layers: what is resumed is the depth of
+-- a statement, what is started its surface (Potop-Butucaru, Edwards and Berry, "Compiling Esterel").
 --
 -- Statements go by their numbers in preorder: under a statement with number n the first part has n + 1, and the
 -- second n + 1 plus the number of statements in the first. A statement may run more than once in one instant:
