@@ -40,7 +40,8 @@ impl Draft {
             (found_op (form_in self.old.known) (reduced_op first self.old.gates.items
             (renamed_op (named self.old.names.items) gate.op))) gate.wire) }
         ensures names { OnOk result (self.new.names.items ≡ self.old.names.items
-            ++ name_of (found_op (form_in self.old.known) (reduced_op first self.old.gates.items (renamed_op (named self.old.names.items) gate.op)))
+            ++ name_of (found_op (form_in self.old.known) (reduced_op first self.old.gates.items
+            (renamed_op (named self.old.names.items) gate.op)))
             (first + length self.old.gates.items) ∷ []) }
         ensures known { OnOk result ((q : Form) → form_in self.new.known q ≡ with_form (form_in self.old.known)
             (found_op (form_in self.old.known) (reduced_op first self.old.gates.items
