@@ -337,8 +337,8 @@ reduced-low first gates (Copy n) reads low = low
 reduced-low first gates (Not n) reads low =
     negation-low (op_at first gates n.0) n (first + length gates) (omega arith) (λ op e. op_at-low first gates n.0 op reads (omega arith) e)
 reduced-low first gates (And m n) reads low =
-    and-low (are_opposite first gates m.0 n.0) (implies first gates m.0 n.0) (implies first gates n.0 m.0) m n (first + length gates) (omega arith)
-    (omega arith)
+    and-low (are_opposite first gates m.0 n.0) (implies first gates m.0 n.0) (implies first gates n.0 m.0) m n (first + length gates)
+    (omega arith) (omega arith)
 reduced-low first gates (Or m n) reads low =
     or-low (are_opposite first gates m.0 n.0) (implies first gates m.0 n.0) (implies first gates n.0 m.0) m n (first + length gates) (omega arith) (omega arith)
 

@@ -82,8 +82,8 @@ pub record Passes (net : Netlist) (draft kept : List NetId) (mid new : List Gate
   pub packs : Packed (first_gate net) marks mid new kept
 
 -- marks that root marks give are closed
-pub closed-from : (net : Netlist) (draft : List NetId) (mid : List Gate) (before marks : List Bool) →
-    RootMarks net draft (first_marks (first_gate net) mid) before
+pub closed-from : (net : Netlist) (draft : List NetId) (mid : List Gate) (before marks : List Bool)
+    → RootMarks net draft (first_marks (first_gate net) mid) before
     → length before ≡ first_gate net + length mid → NeedsMet (first_gate net) mid before marks 0 → Closed (first_gate net) mid marks
 closed-from net draft mid before marks roots count needs =
     let first = first_gate net in
@@ -281,8 +281,8 @@ pub closed-of : (net : Netlist) (first : ℕ) (draft : List NetId) (mid mid_of_m
     → first ≡ first_gate net → begun ≡ first_marks first mid_of_marks → mid_of_marks ≡ mid → Needed net draft mid begun marks
     → mid_of_packs ≡ mid → marks_of_packs ≡ marks → Closed first mid_of_packs marks_of_packs
 closed-of net first draft mid mid_of_marks mid_of_packs begun marks marks_of_packs first_is begun_is mid_is needed mid_again marks_again =
-    let begun_whole : begun ≡ first_marks (first_gate net) mid = begun_is ∙ ap (λ f. first_marks f mid_of_marks) first_is
-    ∙ ap (first_marks (first_gate net)) mid_is in
+    let begun_whole : begun ≡ first_marks (first_gate net) mid = begun_is
+    ∙ ap (λ f. first_marks f mid_of_marks) first_is ∙ ap (first_marks (first_gate net)) mid_is in
     let roots = subst (λ b. RootMarks net draft b needed.before) begun_whole needed.roots in
     let count = needed.count ∙ ap length begun_whole ∙ first_marks-length (first_gate net) mid in
     let closed = closed-from net draft mid needed.before marks roots count needed.needs in
@@ -295,11 +295,11 @@ pub passes-of : (net : Netlist) (first : ℕ) (old mid mid_of_marks mid_of_packs
     → begun ≡ first_marks first mid_of_marks → mid_of_marks ≡ mid → (needed : Needed net draft mid begun marks)
     → mid_of_packs ≡ mid → marks_of_packs ≡ marks → Packed first marks_of_packs mid_of_packs new kept
     → Passes net draft kept mid new needed.before marks
-passes-of net first old mid mid_of_marks mid_of_packs new draft kept begun marks marks_of_packs is first_is old_is folds begun_is mid_is needed mid_again
-    marks_again
+passes-of net first old mid mid_of_marks mid_of_packs new draft kept begun marks marks_of_packs is first_is old_is folds begun_is mid_is needed
+    mid_again marks_again
     packs =
-    let begun_whole : begun ≡ first_marks (first_gate net) mid = begun_is ∙ ap (λ f. first_marks f mid_of_marks) first_is
-    ∙ ap (first_marks (first_gate net)) mid_is in
+    let begun_whole : begun ≡ first_marks (first_gate net) mid = begun_is
+    ∙ ap (λ f. first_marks f mid_of_marks) first_is ∙ ap (first_marks (first_gate net)) mid_is in
     let roots = subst (λ b. RootMarks net draft b needed.before) begun_whole needed.roots in
     let count = needed.count ∙ ap length begun_whole ∙ first_marks-length (first_gate net) mid in
     record {

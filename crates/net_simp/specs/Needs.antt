@@ -46,7 +46,7 @@ pub record Needed (net : Netlist) (names : List NetId) (gates : List Gate) (begu
 pub record Closed (first : ℕ) (gates : List Gate) (marks : List Bool) : Type 0 where
   pub count : length marks ≡ first + length gates
   pub low : (n : ℕ) → n < first → IsTrue (marked marks n)
-  pub carriers : (k : ℕ) (d : Gate) → k < length gates → IsTrue (is_some (slice_index_or gates k d).wire) →
-      IsTrue (marked marks (first + k))
+  pub carriers : (k : ℕ) (d : Gate) → k < length gates → IsTrue (is_some (slice_index_or gates k d).wire)
+      → IsTrue (marked marks (first + k))
   pub closed : (k : ℕ) (d : Gate) (n : ℕ) → k < length gates → IsTrue (marked marks (first + k))
       → IsTrue (reads (slice_index_or gates k d).op n) → IsTrue (marked marks n)

@@ -8,8 +8,8 @@ use Rattle.net_ir.specs.declared.netlist.Gate.{Gate}
 
 -- the operator of a net's gate, where the first gate has this number
 abbrev pub op_at : ℕ → List Gate → ℕ → Option Op
-op_at first gates n = if nat_lt n first then None else Some
-    (slice_index_or gates (n - first) (record { op = Const false; wire = None })).op
+op_at first gates n = if nat_lt n first then None
+    else Some (slice_index_or gates (n - first) (record { op = Const false; wire = None })).op
 
 -- a gate of this operator is never true without the net
 abbrev pub is_low : Option Op → ℕ → Bool
@@ -55,20 +55,21 @@ negation (Some (Or l m)) n = Not n
 
 -- an and, of which these three are known: whether its nets are opposite, and which implies the other
 abbrev pub and_by : Bool → Bool → Bool → NetId → NetId → Op
-and_by opposite up down m n = if opposite then Const false else
-    (if up then Copy m else (if down then Copy n else And m n))
+and_by opposite up down m n = if opposite then Const false
+    else (if up then Copy m else (if down then Copy n else And m n))
 
 abbrev pub or_by : Bool → Bool → Bool → NetId → NetId → Op
-or_by opposite up down m n = if opposite then Const true else (if up then Copy n else (if down then Copy m else Or m n))
+or_by opposite up down m n = if opposite then Const true
+    else (if up then Copy n else (if down then Copy m else Or m n))
 
 abbrev pub reduced_op : ℕ → List Gate → Op → Op
 reduced_op first gates (Const b) = Const b
 reduced_op first gates (Copy n) = Copy n
 reduced_op first gates (Not n) = negation (op_at first gates n.0) n
-reduced_op first gates (And m n) = and_by (are_opposite first gates m.0 n.0) (implies first gates m.0 n.0)
-    (implies first gates n.0 m.0) m n
-reduced_op first gates (Or m n) = or_by (are_opposite first gates m.0 n.0) (implies first gates m.0 n.0)
-    (implies first gates n.0 m.0) m n
+reduced_op first gates (And m n) = and_by (are_opposite first gates m.0 n.0)
+    (implies first gates m.0 n.0) (implies first gates n.0 m.0) m n
+reduced_op first gates (Or m n) = or_by (are_opposite first gates m.0 n.0)
+    (implies first gates m.0 n.0) (implies first gates n.0 m.0) m n
 
 -- a copy of a net whose gate has this operator: of a constant it is that constant
 abbrev pub outright_op : Option Op → NetId → Op

@@ -41,8 +41,8 @@ reads (Or l m) n = l.0 == n || m.0 == n
 
 -- none reads a gate that is a copy or a constant, whether that gate carries a wire or not
 abbrev pub ReadsComputed : Netlist → Type 0
-ReadsComputed net = (j k : ℕ) (d : Gate) → j < length net.gates → k < length net.gates →
-    (slice_index_or net.gates j d).wire ≡ None
+ReadsComputed net = (j k : ℕ) (d : Gate) → j < length net.gates → k < length net.gates
+    → (slice_index_or net.gates j d).wire ≡ None
     → IsTrue (reads (slice_index_or net.gates j d).op (first_gate net + k)) → Computes (slice_index_or net.gates k d).op
 
 abbrev pub OperandsDiffer : Op → Type 0

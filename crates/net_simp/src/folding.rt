@@ -37,15 +37,15 @@ impl Draft {
         requires in_range { InRange first self.old.gates.items self.old.names.items (form_in self.old.known) }
         requires room { first + length self.old.gates.items < 2 ^ 32 }
         ensures gates { OnOk result (self.new.gates.items ≡ with_gate first self.old.gates.items
-            (found_op (form_in self.old.known) (reduced_op first self.old.gates.items
-            (renamed_op (named self.old.names.items) gate.op))) gate.wire) }
+            (found_op (form_in self.old.known)
+            (reduced_op first self.old.gates.items (renamed_op (named self.old.names.items) gate.op))) gate.wire) }
         ensures names { OnOk result (self.new.names.items ≡ self.old.names.items
-            ++ name_of (found_op (form_in self.old.known) (reduced_op first self.old.gates.items
-            (renamed_op (named self.old.names.items) gate.op)))
+            ++ name_of (found_op (form_in self.old.known)
+            (reduced_op first self.old.gates.items (renamed_op (named self.old.names.items) gate.op)))
             (first + length self.old.gates.items) ∷ []) }
         ensures known { OnOk result ((q : Form) → form_in self.new.known q ≡ with_form (form_in self.old.known)
-            (found_op (form_in self.old.known) (reduced_op first self.old.gates.items
-            (renamed_op (named self.old.names.items) gate.op)))
+            (found_op (form_in self.old.known)
+            (reduced_op first self.old.gates.items (renamed_op (named self.old.names.items) gate.op)))
             (first + length self.old.gates.items) q) }
     {
         let op = self.found(reduced(first, &self.gates, renamed(&self.names, gate.op)));

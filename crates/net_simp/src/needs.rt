@@ -36,8 +36,8 @@ pub(crate) fn first_marks(
 pub(crate) fn mark_needed(net: &Net, first: usize, draft: &Renumbered, marks: &mut [bool])
     requires first { first ≡ first_gate (netlist_of net.now) }
     requires names { length draft.now.names.items ≡ net_count (netlist_of net.now) }
-    requires names_in_range { (n : ℕ) → n < length draft.now.names.items →
-        named draft.now.names.items n < length marks.old }
+    requires names_in_range { (n : ℕ) → n < length draft.now.names.items
+        → named draft.now.names.items n < length marks.old }
     requires count { length marks.old ≡ first + length draft.now.gates.items }
     requires reads_lower { ReadsLower first draft.now.gates.items }
     ensures { Needed (netlist_of net.now) draft.now.names.items draft.now.gates.items marks.old marks.new }

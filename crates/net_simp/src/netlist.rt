@@ -61,8 +61,8 @@ fn renamed_net(
     requires old_in_range { (n : ℕ) → n < net_count (netlist_of net.now) → n < length draft.now }
     requires draft_in_range { (n : ℕ) → n < length draft.now → named draft.now n < length kept.now }
     requires is_net { IsNet (renamed_net (netlist_of net.now) (through draft.now kept.now) gates.items) }
-    ensures { IfOk result (λ new. netlist_of new ≡ renamed_net (netlist_of net.now)
-        (through draft.now kept.now) gates.items) }
+    ensures { IfOk result (λ new. netlist_of new
+        ≡ renamed_net (netlist_of net.now) (through draft.now kept.now) gates.items) }
 {
     let name = Text::from_bytes(alloc, net.name.bytes())?;
     let inputs = copied_names(alloc, &net.inputs)?;
@@ -128,6 +128,3 @@ fn renamed_latches(
     }
     Ok(renamed)
 }
-
-#[cfg(test)]
-mod tests;
