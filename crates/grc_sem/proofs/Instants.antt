@@ -27,7 +27,7 @@ use Rattle.grc_sem.proofs.Solutions.{top_started, top_resumed}
 use Rattle.grc_sem.proofs.NextKept.{one_flip}
 use Rattle.grc_sem.proofs.NextStates.{selected_as, leaf_way}
 use Rattle.grc_sem.proofs.NextTop.{StatePauses, keeps_state, next_kept, next_selected}
-use Rattle.grc_solutions.proofs.Decode.{started_below, resumed_below}
+use Rattle.grc_graph.proofs.CodeBounds.{started_below, resumed_below}
 use Rattle.grc_sem.proofs.WalkCodes.{started_code, resumed_code}
 use Rattle.grc_sem.proofs.FirstCodes.{first_listed, none_listed}
 

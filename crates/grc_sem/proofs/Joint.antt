@@ -16,7 +16,7 @@ use Rattle.grc_graph.specs.Selected.{IsKernel}
 use Rattle.grc_graph.specs.Readings.{Valuation}
 use Rattle.grc_solutions.proofs.Lists.{Every, every_of_all, every_both, every_right, every_map, every_flat_map, every_listed, every_from}
 use Rattle.grc_solutions.proofs.Looked.{statement_at, Looked, looked, layers_same}
-use Rattle.grc_solutions.proofs.Decode.{started_below, resumed_below}
+use Rattle.grc_graph.proofs.CodeBounds.{started_below, resumed_below}
 use Rattle.grc_sem.proofs.Emissions.{emitted}
 use Rattle.grc_sem.proofs.EndForms.{val, any_meaning}
 use Rattle.grc_sem.proofs.Meets.{Met}

@@ -23,7 +23,7 @@ use Rattle.grc_solutions.proofs.Each.{spot, EachStarted, EachResumed}
 use Rattle.grc_sem.proofs.Residues.{some_has}
 use Rattle.grc_solutions.proofs.Binders.{Above, layer_above-restarted}
 use Rattle.grc_solutions.proofs.Live.{Root}
-use Rattle.grc_solutions.proofs.Decode.{resumed_below}
+use Rattle.grc_graph.proofs.CodeBounds.{resumed_below}
 use Rattle.grc_sem.proofs.Emissions.{emitted, other_binding}
 use Rattle.grc_sem.proofs.WalkEmits.{Fresh, Shows}
 use Rattle.grc_sem.proofs.EndForms.{val}

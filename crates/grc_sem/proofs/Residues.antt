@@ -13,7 +13,7 @@ use Rattle.grc_graph.specs.Layers.{can_pass}
 use Rattle.grc_graph.specs.Residuals.{holds, left_if, residual}
 use Rattle.grc_graph.specs.Selected.{IsKernel, IsSelected}
 use Rattle.grc_sem.proofs.Places.{no_loops-left}
-use Rattle.grc_solutions.proofs.Decode.{trap_code-le}
+use Rattle.grc_graph.proofs.CodeBounds.{trap_code-le}
 
 pub no_loops-right : (xs ys : List Span) → xs ++ ys ≡ [] → ys ≡ []
 no_loops-right [] ys e = e

@@ -23,7 +23,8 @@ use Rattle.grc_solutions.proofs.Each.{spot}
 use Rattle.grc_solutions.proofs.Rows.{Between, Reads, FromStatus, RowOf}
 use Rattle.grc_graph.proofs.LiveLayers.{Agrees, here_agrees, only_agrees, first_agrees, second_agrees}
 use Rattle.grc_solutions.proofs.Live.{Root, root_parts, root_if_parts}
-use Rattle.grc_solutions.proofs.Decode.{started_below, resumed_below, row_at}
+use Rattle.grc_graph.proofs.CodeBounds.{started_below, resumed_below}
+use Rattle.grc_solutions.proofs.Decode.{row_at}
 use Rattle.grc_solutions.proofs.Looked.{Contents, statement_at, reads_only, reads_first, reads_second}
 use Rattle.grc_solutions.proofs.Binders.{Above, above_more, above_bind, layer_above-started, layer_above-restarted}
 
