@@ -120,34 +120,6 @@ def lines_are_short():
     return found
 
 
-USE = re.compile(r"^use Rattle\.(\w+)\.specs\.(\w+)(?:\.\{| as |$|\.)", re.M)
-
-
-def believed_stands_apart():
-    """Each file of specs/ says what it is, and one that is to be believed cites none that is only of a proof's use."""
-    found = []
-    inner = set()
-    believed = {}
-    for path in tracked():
-        name = path.relative_to(TOP).as_posix()
-        parts = name.split("/")
-        if len(parts) != 4 or parts[0] != "crates" or parts[2] != "specs" or parts[3] == "Lib.antt":
-            continue
-        text = path.read_text()
-        place = (parts[1], path.stem)
-        if text.startswith("-- Inner:"):
-            inner.add(place)
-        elif text.startswith("-- To believe:"):
-            believed[place] = (name, USE.findall(text))
-        else:
-            found.append(f"{name}: its head says neither `To believe:` nor `Inner:`")
-    for name, cited in believed.values():
-        for place in cited:
-            if place in inner:
-                found.append(f"{name}: cites {place[0]}/specs/{place[1]}.antt, which is not to be believed")
-    return found
-
-
 def pages_are_whole():
     """Each crate's page says what is proved, what is tested, and what is neither."""
     found = []
@@ -166,7 +138,6 @@ CHECKS = [
     ("every edit is named in words", edits_are_named, None),
     ("no handle is allowed", handles_are_none, None),
     ("lines are short", lines_are_short, "git"),
-    ("what is to be believed stands apart", believed_stands_apart, "git"),
     ("every page is whole", pages_are_whole, None),
 ]
 

@@ -24,9 +24,10 @@ use std::alloc::Global;
 /// listing of its graph, and `check FILE` a line of counts. `run --via blif FILE TRACE` compiles the source, writes its
 /// text into memory, reads it again and runs it over the trace: one line for each instant, right behind its reaction.
 /// `exec --via blif TEXT TRACE` runs a text by its own meaning. `gen --start N --branches N` writes a generated source,
-/// with `--run N` the numbers of its run over so many drawn events, and `--help` the list of the commands. `--main M` names the main module, `--pick first`, `--pick last` or `--pick N`
-/// says how the evaluation order of a text is chosen. Every other list of words is `Usage`. For every outcome but `Done`
-/// one line goes to `err`; a write to `err` that fails changes no outcome.
+/// with `--run N` the numbers of its run over so many drawn events, and `--help` the list of the commands. `--main M`
+/// names the main module, `--pick first`, `--pick last` or `--pick N` says how the evaluation order of a text is chosen.
+/// Every other list of words is `Usage`. For every outcome but `Done` one line goes to `err`; a write to `err` that fails
+/// changes no outcome.
 ///
 /// For `Done` of `blif` the compiler-correctness theorem holds of the text that `out` gained (`TextKeeps`): it has a
 /// reading by the BLIF profile with the program's inputs, and its outputs and then `_paused`, and over every list of

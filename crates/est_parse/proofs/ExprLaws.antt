@@ -11,22 +11,22 @@ use Rattle.est_ast.specs.declared.tokens.Reserved.TheVariants as words
 use Rattle.est_ast.specs.declared.tokens.Mark.TheVariants as marks
 use Rattle.est_ast.specs.declared.trees.Name.{Name}
 use Rattle.est_ast.specs.Trees.{Expr, Tick, Sig, Not, And, Or, Round, Square, Exprs, NoExprs, MoreExprs, Delay, Plain, Immediate, Count, exprs}
-use Rattle.est_ast.specs.Grammar.{word, mark, name_at, name, number, tick_at, tick, Tier, Disjunction, Conjunction, Negation, SpellsExpr, SpellsExprs}
-use Rattle.est_ast.specs.Grammar.{SpellsNextExprs, SpellsOtherExprs, SpellsEvent, SpellsDelay, SpellsCount, SpellsTest}
+use Rattle.est_ast.specs.Grammar.{word, mark, name_at, number, tick_at, Tier, Disjunction, Conjunction, Negation, SpellsExpr, SpellsExprs}
+use Rattle.est_ast.specs.Grammar.{SpellsOtherExprs, SpellsEvent, SpellsDelay, SpellsCount, SpellsTest}
 use Rattle.est_ast.specs.Nesting.{expr_nesting, exprs_nesting, delay_nesting}
 use Rattle.read_rules.specs.Languages.{Empty, One, Then, Led, Both, Loop, Parted}
 use Rattle.read_rules.specs.Choice.{Made, Only, adds, fits}
-use Rattle.read_rules.specs.Readings.{Rule, loop}
+use Rattle.read_rules.specs.Readings.{Rule}
 use Rattle.read_rules.proofs.Nesting.{Below, by_room}
 use Rattle.read_rules.proofs.Loops.{Advances}
-use Rattle.read_rules.proofs.Readers.{Shape, one_shape, led_shape, Lang, Reads, the-reads, give-reads, both-reads, led-reads, trail-reads, ahead-reads}
-use Rattle.read_rules.proofs.Readers.{mapped-reads, told-reads, made-reads, same-reads, shape-reads}
+use Rattle.read_rules.proofs.Readers.{Shape, one_shape, Lang, Reads, the-reads, give-reads, both-reads, led-reads, trail-reads, ahead-reads}
+use Rattle.read_rules.proofs.Readers.{mapped-reads, told-reads, made-reads, shape-reads}
 use Rattle.read_rules.proofs.Steps.{Turn, list_depth, Steps, or-steps, loop-reads, Advances-step}
 use Rattle.read_rules.proofs.Choices.{Arm, arm, choose-lang, choose-reads}
 use Rattle.est_parse.specs.Openings.{Factor, NotFactor, RoundFactor, SquareFactor, TickFactor, NameFactor, factor_at, factor, is_deep_factor, Event}
 use Rattle.est_parse.specs.Openings.{SquareEvent, TickEvent, NameEvent, event_at, event_start, is_deep_event}
 use Rattle.est_parse.specs.Parts.{expr_list, count_of}
-use Rattle.est_parse.specs.Reading.{ExprRules, factor_behind, neg, expr_step, conj, disj, expr_rules, exprs_at, exprs_inside, expr, event_behind, event}
+use Rattle.est_parse.specs.Reading.{factor_behind, neg, expr_step, conj, disj, exprs_at, exprs_inside, event_behind, event}
 use Rattle.est_parse.specs.Reading.{immediate, count, delay, test}
 use Rattle.est_parse.proofs.TokenKinds.{word_class, class, word-kind, mark-kind, word-test, mark-test, number-test, factor_set, factor-test, event_set}
 use Rattle.est_parse.proofs.TokenKinds.{event-test}

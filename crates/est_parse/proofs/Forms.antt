@@ -1,8 +1,7 @@
 -- Inner: what a form is, once code knows the token that begins it and that there is room.
-use Rattle.std.proofs.Common.{◌≡◌, ℕ, suc, true, List, Option, Some, ◌∙◌, ap}
+use Rattle.std.proofs.Common.{◌≡◌, ℕ, suc, true, List, Some, ◌∙◌, ap}
 use Rattle.std.specs.Option.{option_map_or}
 use Rattle.est_ast.specs.declared.tokens.Token.{Token}
-use Rattle.est_ast.specs.Trees.{Form}
 use Rattle.est_parse.specs.declared.openings.Opening.{Opening}
 use Rattle.est_parse.specs.Openings.{opening, is_deep}
 use Rattle.est_parse.specs.Reading.{item_behind, form, rules, inside}

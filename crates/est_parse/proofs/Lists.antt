@@ -1,16 +1,15 @@
 -- Inner: judgements on what the whole grammar uses: words, names, and lists with separators.
-use Rattle.std.proofs.Common.{◌≡◌, inl, inr, ℕ, max, false, true, IsTrue, List, [], ◌∷◌, ◌++◌, ◌<◌, length, Option, Some, None, Ok, Err, refl, sym, ◌∙◌, ap}
-use Rattle.std.proofs.Common.{subst, arith}
+use Rattle.std.proofs.Common.{◌≡◌, ℕ, false, IsTrue, List, [], ◌∷◌, ◌++◌, ◌<◌, length, Option, Some, Ok, Err, refl, sym, ◌∙◌, ap}
+use Rattle.std.proofs.Common.{arith}
 use Rattle.est_ast.specs.declared.tokens.Token.{Token}
 use Rattle.est_ast.specs.declared.tokens.Reserved.{Reserved}
 use Rattle.est_ast.specs.declared.tokens.Reserved.TheVariants as words
 use Rattle.est_ast.specs.declared.tokens.Mark.{Mark}
-use Rattle.est_ast.specs.declared.trees.Name.{Name}
 use Rattle.est_base.specs.declared.place.Span.{Span}
 use Rattle.est_ast.specs.Trees.{Expr, Exprs, exprs, Stmt, At, Form, Stmts, stmts}
 use Rattle.est_parse.specs.Parts.{expr_list, stmt_list}
-use Rattle.est_ast.specs.Grammar.{word, mark, name, Listed, Ends}
-use Rattle.read_rules.specs.Languages.{Empty, One, Then, Led, Both, Loop, Parted}
+use Rattle.est_ast.specs.Grammar.{mark, name, Listed, Ends}
+use Rattle.read_rules.specs.Languages.{Empty, One, Both, Loop, Parted}
 use Rattle.read_rules.specs.Choice.{Made}
 use Rattle.std.specs.Option.{option_map_or}
 use Rattle.std.proofs.lemmas.List.{append_assoc}

@@ -1,5 +1,5 @@
 -- Inner: judgements on declarations, modules and programs.
-use Rattle.std.proofs.Common.{◌≡◌, ◌⊎◌, inl, inr, ℕ, max, true, false, List, [], ◌∷◌, ◌++◌, Option, Some, None, refl, sym, ◌∙◌, ap, subst, arith}
+use Rattle.std.proofs.Common.{◌≡◌, ◌⊎◌, inl, inr, ℕ, max, true, false, List, [], ◌∷◌, Option, Some, None, refl, sym, ap, subst, arith}
 use Rattle.est_ast.specs.declared.tokens.Token.{Token}
 use Rattle.est_ast.specs.declared.tokens.Kind.{Kind}
 use Rattle.est_ast.specs.declared.tokens.Kind.TheVariants as kinds
@@ -7,13 +7,13 @@ use Rattle.est_ast.specs.declared.tokens.Reserved.{Reserved}
 use Rattle.est_ast.specs.declared.tokens.Reserved.TheVariants as words
 use Rattle.est_ast.specs.declared.tokens.Mark.TheVariants as marks
 use Rattle.est_ast.specs.declared.trees.Name.{Name}
-use Rattle.est_ast.specs.Trees.{Stmt, Relation, Implies, Excludes, Decl, Input, InputOutput, Output, Relations, Module, Program}
-use Rattle.est_ast.specs.Grammar.{is_word, word, mark, name, Listed, Whole, Spells, SpellsRelation, SpellsDecl, EndsModule, SpellsModule, SpellsProgram}
+use Rattle.est_ast.specs.Trees.{Relation, Implies, Excludes, Decl, Input, InputOutput, Output, Relations, Module, Program}
+use Rattle.est_ast.specs.Grammar.{is_word, mark, name, Listed, Whole, Spells, SpellsRelation, SpellsDecl, EndsModule, SpellsModule, SpellsProgram}
 use Rattle.est_ast.specs.Nesting.{nesting, program_nesting, IsProgram}
 use Rattle.read_rules.specs.Exact.{Exactly}
-use Rattle.read_rules.specs.Languages.{Empty, One, Then, Led, Both, Loop, Optional, Many}
-use Rattle.read_rules.specs.Choice.{Made, adds, fits}
-use Rattle.read_rules.specs.Readings.{Rule, both, on, the, trail, loop, whole}
+use Rattle.read_rules.specs.Languages.{One, Then, Led, Both, Optional, Many}
+use Rattle.read_rules.specs.Choice.{Made}
+use Rattle.read_rules.specs.Readings.{Rule, the, whole}
 use Rattle.read_rules.proofs.Loops.{Advances}
 use Rattle.read_rules.proofs.Readers.{Shape, one_shape, Lang, Reads, the-reads, both-reads, led-reads, trail-reads, ahead-reads, mapped-reads, told-reads}
 use Rattle.read_rules.proofs.Readers.{made-reads, shape-reads}
@@ -23,8 +23,8 @@ use Rattle.read_rules.proofs.Choices.{whole-reads as exact-reads}
 use Rattle.est_parse.specs.declared.openings.Declaration.{Declaration}
 use Rattle.est_parse.specs.declared.openings.Declaration.TheVariants as declarations
 use Rattle.est_parse.specs.Openings.{declaration_of, declaration}
-use Rattle.est_parse.specs.Reading.{Related, Effect, Others, relation_of, relation, list_step, listed, declared, declaration_behind, is_deep_declaration, decl}
-use Rattle.est_parse.specs.Reading.{decl_step, ends_module, statement, module_rule, module_step, program}
+use Rattle.est_parse.specs.Reading.{Related, Effect, Others, relation_of, relation, list_step, declared, declaration_behind, decl}
+use Rattle.est_parse.specs.Reading.{decl_step, ends_module, module_rule, module_step, program}
 use Rattle.est_parse.proofs.TokenKinds.{word_class, mark_class, class, word-kind, word-test, mark-test, declaration_set, declaration-test}
 use Rattle.est_parse.proofs.Lists.{name-reads, listed-reads, list-advances}
 use Rattle.est_parse.proofs.StmtLaws.{statement-reads, names_depth}

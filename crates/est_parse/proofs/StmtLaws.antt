@@ -16,13 +16,13 @@ use Rattle.est_ast.specs.Trees.{AbortCase, WeakAbort, Suspend, Trap, Exit, Signa
 use Rattle.est_ast.specs.Trees.{Stmts, NoStmts, MoreStmts, Cases, NoCases, MoreCases, stmts, cases}
 use Rattle.est_ast.specs.Trees.{Loop as LoopForm, LoopEach}
 use Rattle.est_ast.specs.Grammar.{word, mark, name, number, span_of, Over, Listed, Ends, Disjunction, SpellsExpr, SpellsEvent, SpellsDelay, SpellsCount}
-use Rattle.est_ast.specs.Grammar.{SpellsTest, SpellsRename, SpellsRenames, Level, Whole, Line, Item, OnLine, Spells, SpellsSeq, SpellsPar, SpellsStmts}
+use Rattle.est_ast.specs.Grammar.{SpellsTest, SpellsRename, SpellsRenames, Level, Whole, Line, Item, Spells, SpellsSeq, SpellsPar, SpellsStmts}
 use Rattle.est_ast.specs.Grammar.{SpellsOtherStmts, SpellsItem, SpellsPart, SpellsDo, SpellsHandler, SpellsCases, SpellsOtherCases}
 use Rattle.est_ast.specs.Nesting.{expr_nesting, delay_nesting, nesting, form_nesting, part_nesting, handler_nesting, stmts_nesting, cases_nesting}
 use Rattle.read_rules.specs.Languages.{Empty, One, Then, Led, Both, Loop, Maybe, Parted, Placed}
 use Rattle.read_rules.specs.Choice.{Made, Only, adds, fits}
 use Rattle.std.specs.Option.{option_map_or}
-use Rattle.read_rules.specs.Readings.{Read, Rule, picked, refuse, give, follow, mapped, both, on, the, trail, loop}
+use Rattle.read_rules.specs.Readings.{Read, Rule, picked, refuse, give, follow, mapped, both, on, the, trail}
 use Rattle.read_rules.proofs.Nesting.{Below, by_room}
 use Rattle.read_rules.proofs.Loops.{Advances}
 use Rattle.read_rules.proofs.Readers.{Shape, one_shape, no_shape, then_shape, either_shape, Lang, Reads, the-reads, give-reads, both-reads, led-reads}
@@ -39,11 +39,11 @@ use Rattle.est_parse.specs.Parts.{stmt_list, part_of, handler_of, renames_of, Ta
 use Rattle.est_parse.specs.Parts.{present_of, loop_of, repeat_of, Head, EveryHead, RepeatHead, WeakHead, TrapHead, SignalHead}
 use Rattle.est_parse.specs.Reading.{list_step, listed, ends, delay, test, head, closing, blocked, expr, Rules, part, do_part, case_behind, case_step, case_list}
 use Rattle.est_parse.specs.Reading.{tail, choice, loop_tail, repeat_parts, handler, rename, renames, item_behind, form, item, line_step, line, whole_step}
-use Rattle.est_parse.specs.Reading.{whole, rules_of, rules, inside, statement}
-use Rattle.est_parse.proofs.TokenKinds.{word_class, mark_class, class, word-test, mark-test, number-test, name-test, factor_set, opening_set, opening-test}
+use Rattle.est_parse.specs.Reading.{whole, rules, inside, statement}
+use Rattle.est_parse.proofs.TokenKinds.{word_class, mark_class, class, word-test, mark-test, number-test, factor_set, opening_set, opening-test}
 use Rattle.est_parse.proofs.TokenKinds.{kind_test, opened-kind, kind-opens}
 use Rattle.est_parse.proofs.Lists.{name-reads, ends_shape, ends-reads, listed-reads, list-advances}
-use Rattle.est_parse.proofs.ExprLaws.{expr_shape, event_shape, delay_shape, count_shape, test_shape, KnownExprs, exprs_alone, exprs_known, event_known}
+use Rattle.est_parse.proofs.ExprLaws.{expr_shape, event_shape, delay_shape, exprs_alone, exprs_known, event_known}
 use Rattle.est_parse.proofs.ExprLaws.{delay-reads, count-reads, test-reads}
 
 -- what must not stand behind an item, and behind a list of items

@@ -20,9 +20,8 @@ use Rattle.est_parse.specs.declared.openings.Opening.{Opening}
 use Rattle.est_parse.specs.declared.openings.Opening.TheVariants as openings
 use Rattle.est_parse.specs.declared.openings.Flat.TheVariants as flats
 use Rattle.est_parse.specs.declared.openings.Block.TheVariants as blocks
-use Rattle.est_parse.specs.declared.openings.Declaration.{Declaration}
 use Rattle.est_parse.specs.declared.openings.Declaration.TheVariants as declarations
-use Rattle.est_parse.specs.Openings.{kind_of, opening_of, opening, Factor, NotFactor, factor_at, factor, Event, SquareEvent, event_at, event_start}
+use Rattle.est_parse.specs.Openings.{kind_of, opening_of, opening, NotFactor, factor_at, factor, SquareEvent, event_at, event_start}
 use Rattle.est_parse.specs.Openings.{declaration_of, declaration}
 
 abbrev pub word_class : Reserved → ℕ
@@ -154,10 +153,10 @@ mark-kind m (kinds.Ident n) x is = cc
 mark-kind m (kinds.Number n) x is = cc
 
 -- a word and a mark are taken by their own tests
-word-self : (w : Reserved) → is_word w (kinds.Reserved w) ≡ Some tt
+pub word-self : (w : Reserved) → is_word w (kinds.Reserved w) ≡ Some tt
 word-self w = ap (λ b. cond b (Some tt) None) ((bytes_eq-Decides (spelling w) (spelling w)).1 refl)
 
-mark-self : (m : Mark) → is_mark m (kinds.Mark m) ≡ Some tt
+pub mark-self : (m : Mark) → is_mark m (kinds.Mark m) ≡ Some tt
 mark-self m = ap (λ b. cond b (Some tt) None) ((bytes_eq-Decides (sign m) (sign m)).1 refl)
 
 -- a kind is known by its number

@@ -1,6 +1,10 @@
 pub mod Faults
 pub mod Heads
+pub mod Laws
+pub mod OneSpelling
 pub mod Openings
 pub mod Parts
 pub mod Reading
+pub mod Spellable
 pub mod Tails
+pub mod Unplaced

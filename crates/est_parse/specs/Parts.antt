@@ -4,7 +4,7 @@ use Rattle.est_base.specs.declared.place.Span.{Span}
 use Rattle.est_ast.specs.declared.trees.Name.{Name}
 use Rattle.est_ast.specs.declared.trees.Rename.{Rename}
 use Rattle.est_ast.specs.Trees.{Expr, Exprs, NoExprs, MoreExprs, Delay, Count, Stmt, At, Form, Await, AwaitCase}
-use Rattle.est_ast.specs.Trees.{Present, PresentCase, Loop, LoopEach, Repeat, Abort, AbortCase, Seq, Par, Part, Missing}
+use Rattle.est_ast.specs.Trees.{Present, PresentCase, Loop, LoopEach, Repeat, Abort, AbortCase, Part, Missing}
 use Rattle.est_ast.specs.Trees.{Written, Handler, NoHandler, Handled, Stmts, NoStmts, MoreStmts, Cases, exprs, stmts}
 
 -- a list of one part is that part

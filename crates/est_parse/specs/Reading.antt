@@ -1,5 +1,5 @@
 -- Inner: the reading function of the grammar, from the left with one token ahead.
-use Rattle.std.specs.Prelude.{ℕ, zero, suc, Bool, false, List, [], ◌∷◌, Option, Some, None, Ok}
+use Rattle.std.specs.Prelude.{ℕ, zero, suc, Bool, false, List, ◌∷◌, Option, Ok}
 use Rattle.est_base.specs.declared.place.Span.{Span}
 use Rattle.est_ast.specs.declared.tokens.Token.{Token}
 use Rattle.est_ast.specs.declared.tokens.Reserved.{Reserved}
@@ -26,7 +26,7 @@ use Rattle.est_parse.specs.Openings.{NameFactor, factor, is_deep_factor, Event, 
 use Rattle.est_parse.specs.Openings.{event_start, is_deep_event, declaration}
 use Rattle.est_parse.specs.Parts.{expr_list, stmt_list, part_of, handler_of, renames_of, count_of, Tail, CaseTail}
 use Rattle.est_parse.specs.Parts.{DelayTail, await_of, abort_of, Choice, CaseChoice, TestChoice, present_of, loop_of}
-use Rattle.est_parse.specs.Parts.{repeat_of, Head, GroupHead, LoopHead, EveryHead, RepeatHead, AbortHead, WeakHead}
+use Rattle.est_parse.specs.Parts.{Head, GroupHead, LoopHead, EveryHead, RepeatHead, AbortHead, WeakHead}
 use Rattle.est_parse.specs.Parts.{SuspendHead, TrapHead, SignalHead}
 use Rattle.read_rules.specs.Readings.{Read, Rule, follow, taken_of, refuse, give, mapped, both, trail, ahead, on, the}
 use Rattle.read_rules.specs.Readings.{maybe, loop, placed}

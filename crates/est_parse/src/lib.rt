@@ -9,6 +9,7 @@
 
 mod expressions;
 mod heads;
+mod laws;
 mod modules;
 mod names;
 mod openings;
@@ -20,5 +21,6 @@ mod tails;
 #[cfg(test)]
 mod tests;
 
+pub use laws::{spellings_are_grammatical, spellings_are_read};
 pub use parser::parse;
 pub use refusal::ParseError;

@@ -13,6 +13,8 @@ pub mod StatementLists
 pub mod RowReads
 pub mod RowFacts
 pub mod WireRuns
+pub mod StatementPaths
+pub mod WireSearching
 pub mod WireNames
 pub mod WireFilling
 pub mod NeighbourReads

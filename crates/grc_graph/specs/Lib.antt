@@ -19,6 +19,7 @@ pub mod CodeTables
 pub mod PlainInstances
 pub mod WireOrders
 pub mod GraphRuns
+pub mod PathTargets
 pub mod PlainGraphs
 pub mod Reads
 pub mod NumberedEdges
@@ -31,6 +32,7 @@ pub mod StatementViews
 pub mod InstanceLaws
 pub mod Rows
 pub mod WireTables
+pub mod NamedWires
 pub mod Neighbouring
 pub mod WireNames
 pub mod PlainWireNames

@@ -5,6 +5,8 @@ ghost use Rattle.std.specs.Prelude.{length};
 
 use crate::formulas::Formula;
 use crate::instances::Instances;
+use crate::wire_names::WireName;
+use crate::wire_search::Search;
 use crate::wires::{Node, Wire};
 use est_base::{InstId, WireId};
 use est_kernel::KernelProgram;
@@ -24,7 +26,9 @@ pub struct Graph {
 }
 
 impl Graph {
-    ghost use Rattle.std.specs.Prelude.{◌≡◌, ◌<◌, slice_get, Some};
+    ghost use Rattle.std.specs.Prelude.{◌≡◌, ◌<◌, ◌≤◌, ◌^◌, slice_get, Some};
+    ghost use Rattle.grc_graph.specs.NamedWires.{FindsName};
+    ghost use Rattle.grc_graph.specs.PlainWireNames.{wire_name_of};
 
     /// The wires by number. It takes no memory.
     pub fn wires(&self) -> &[Wire]
@@ -69,5 +73,20 @@ impl Graph {
         ensures { slice_get self.now.next.items leaf ≡ Some result.now }
     {
         &self.next[leaf as usize]
+    }
+
+    /// The number of the wire with this name, the first where several have it; None where no wire has it. The
+    /// time is linear in the body and in the wires. It takes no memory.
+    pub fn wire_at(&self, name: &WireName) -> Option<WireId>
+        requires few { length self.now.wires.items ≤ 2 ^ 32 }
+        ensures { FindsName self.now result (wire_name_of name.now) }
+    {
+        let search = Search::new(self, name);
+        for number in 0..self.wires.len() {
+            if search.finds(self.wires[number]) {
+                return Some(WireId(number as u32));
+            }
+        }
+        None
     }
 }

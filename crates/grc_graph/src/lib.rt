@@ -18,6 +18,7 @@ mod orders;
 mod statements;
 mod trees;
 mod wire_names;
+mod wire_search;
 mod wires;
 
 pub use code_tables::{has_some_code, resumed_codes, started_codes};

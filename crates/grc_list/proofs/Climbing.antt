@@ -3,19 +3,14 @@ use Rattle.std.proofs.Common.{◌≡◌, ℕ, zero, suc, ◌+◌, ◌-◌, ◌<�
 use Rattle.std.proofs.Common.{append_assoc, length-append, ⊎_elim}
 use Rattle.std.specs.Prelude.{Option}
 use Rattle.std.proofs.lemmas.Bool.{cases_lt}
-use Rattle.std.proofs.lemmas.List.{get_or_append_left, get_or-append-add, get_or-map, get_or_past, length-map, map-append}
+use Rattle.std.proofs.lemmas.List.{get_or_append_left, get_or-append-add, get_or-map, length-map, map-append}
 use Rattle.est_kernel.specs.Terms.{Term, Nothing, Pause, Emit, Exit, Present, Suspend, Seq, Loop, Par, Trap, Local, Awake}
 use Rattle.est_kernel.specs.Preorder.{statement_count, preorder}
 use Rattle.grc_graph.specs.WireNames.{below, paths, path_at, bound_signal, bound_at}
+use Rattle.grc_graph.proofs.StatementPaths.{long_one, long_two, long_below, length-paths, length-preorder, first_path}
 use Rattle.grc_list.specs.Places.{Place, place, places, body_places}
 
 -- ---- lengths
-
-long_two : {X : Type 0} (x : X) (xs ys : List X) (m k : ℕ) → length xs ≡ m → length ys ≡ k → length (x ∷ (xs ++ ys)) ≡ 1 + m + k
-long_two x xs ys m k e f = omega (arith, length-append xs ys, e, f)
-
-long_one : {X : Type 0} (x : X) (xs : List X) (m : ℕ) → length xs ≡ m → length (x ∷ xs) ≡ 1 + m
-long_one x xs m e = omega (arith, e)
 
 one_place : (x : Place) (p : Term) (n : ℕ) → length (places n 0 p (n + 1)) ≡ statement_count p → length (x ∷ places n 0 p (n + 1)) ≡ 1 + statement_count p
 one_place x p n e = long_one x (places n 0 p (n + 1)) _ e
@@ -42,44 +37,6 @@ length-places a c (Trap p) n = one_place (place a c (Trap p)) p n (length-places
 length-places a c (Local s p) n = one_place (place a c (Local s p)) p n (length-places n 0 p (n + 1))
 length-places a c (Awake e p) n = one_place (place a c (Awake e p)) p n (length-places n 0 p (n + 1))
 
-long_below : (c : ℕ) (ps : List (List ℕ)) (m : ℕ) → length ps ≡ m → length (below c ps) ≡ m
-long_below c ps m e = length-map ps (λ path. c ∷ path) ∙ e
-
-one_path : (p : Term) → length (paths p) ≡ statement_count p → length ([] ∷ below 0 (paths p)) ≡ 1 + statement_count p
-one_path p e = long_one [] (below 0 (paths p)) _ (long_below 0 (paths p) _ e)
-
-two_paths : (p q : Term) → length (paths p) ≡ statement_count p → length (paths q) ≡ statement_count q
-    → length ([] ∷ (below 0 (paths p) ++ below 1 (paths q))) ≡ 1 + statement_count p + statement_count q
-two_paths p q e f = long_two [] (below 0 (paths p)) (below 1 (paths q)) _ _ (long_below 0 (paths p) _ e) (long_below 1 (paths q) _ f)
-
-pub length-paths : (t : Term) → length (paths t) ≡ statement_count t
-length-paths Nothing = refl
-length-paths Pause = refl
-length-paths (Emit s) = refl
-length-paths (Exit k) = refl
-length-paths (Present e p q) = two_paths p q (length-paths p) (length-paths q)
-length-paths (Suspend e p) = one_path p (length-paths p)
-length-paths (Seq p q) = two_paths p q (length-paths p) (length-paths q)
-length-paths (Loop at p) = one_path p (length-paths p)
-length-paths (Par p q) = two_paths p q (length-paths p) (length-paths q)
-length-paths (Trap p) = one_path p (length-paths p)
-length-paths (Local s p) = one_path p (length-paths p)
-length-paths (Awake e p) = one_path p (length-paths p)
-
-pub some_statement : (t : Term) → 0 < statement_count t
-some_statement Nothing = omega arith
-some_statement Pause = omega arith
-some_statement (Emit s) = omega arith
-some_statement (Exit k) = omega arith
-some_statement (Present e p q) = omega arith
-some_statement (Suspend e p) = omega arith
-some_statement (Seq p q) = omega arith
-some_statement (Loop at p) = omega arith
-some_statement (Par p q) = omega arith
-some_statement (Trap p) = omega arith
-some_statement (Local s p) = omega arith
-some_statement (Awake e p) = omega arith
-
 -- ---- the first place is that of the statement itself
 
 first_place : (a c : ℕ) (t : Term) (n : ℕ) (d : Place) → get_or (places a c t n) 0 d ≡ place a c t
@@ -95,20 +52,6 @@ first_place a c (Par p q) n d = refl
 first_place a c (Trap p) n d = refl
 first_place a c (Local s p) n d = refl
 first_place a c (Awake e p) n d = refl
-
-pub first_path : (t : Term) → get_or (paths t) 0 [] ≡ []
-first_path Nothing = refl
-first_path Pause = refl
-first_path (Emit s) = refl
-first_path (Exit k) = refl
-first_path (Present e p q) = refl
-first_path (Suspend e p) = refl
-first_path (Seq p q) = refl
-first_path (Loop at p) = refl
-first_path (Par p q) = refl
-first_path (Trap p) = refl
-first_path (Local s p) = refl
-first_path (Awake e p) = refl
 
 -- ---- each other place leads to one before it
 
@@ -266,21 +209,11 @@ bounds a c (Trap p) n = ap (λ l. bound_signal (Trap p) ∷ l) (bounds n 0 p (n 
 bounds a c (Local s p) n = ap (λ l. bound_signal (Local s p) ∷ l) (bounds n 0 p (n + 1))
 bounds a c (Awake e p) n = ap (λ l. bound_signal (Awake e p) ∷ l) (bounds n 0 p (n + 1))
 
-length-preorder : (t : Term) → length (preorder t) ≡ statement_count t
-length-preorder t =
-    sym (length-map (preorder t) bound_signal) ∙ ap length (sym (bounds 0 0 t 0)) ∙ length-map (places 0 0 t 0) (λ x. x.bound) ∙ length-places 0 0 t 0
-
 pub bound_at-place : (body : Term) (j : ℕ) (d : Place) → j < statement_count body → (get_or (body_places body) j d).bound ≡ bound_at body j
 bound_at-place body j d low =
     sym (get_or-map (λ (x : Place). x.bound) (body_places body) j d d.bound (omega (arith, length-places 0 0 body 0, low)))
     ∙ ap (λ l. get_or l j d.bound) (bounds 0 0 body 0)
     ∙ get_or-map bound_signal (preorder body) j Nothing d.bound (omega (arith, length-preorder body, low))
-
-pub bound_at-past : (body : Term) (j : ℕ) → statement_count body ≤ j → bound_at body j ≡ bound_signal Nothing
-bound_at-past body j h = ap bound_signal (get_or_past (preorder body) j Nothing (omega (arith, length-preorder body, h)))
-
-pub path_at-past : (body : Term) (j : ℕ) → statement_count body ≤ j → path_at body 0 ≡ path_at body j
-path_at-past body j h = first_path body ∙ sym (get_or_past (paths body) j [] (omega (arith, length-paths body, h)))
 
 -- ---- the list of the program
 

@@ -4,13 +4,13 @@ ghost use Rattle.std.specs.Prelude.{◌≡◌, ◌<◌, length, IsTrue, All};
 ghost use Rattle.std.specs.List.{list_any};
 ghost use Rattle.grc_graph.specs.GraphShapes.{formula_fits};
 ghost use Rattle.grc_graph.specs.PlainGraphs.{formula_of, instances_of, names_of};
-ghost use Rattle.grc_words.specs.WordLaws.{AreWordsOf, selected_source, is_end_upto, first_end, ends_upto, any_from};
+ghost use Rattle.grc_words.specs.WordLaws.{AreWordsOf, first_end, ends_upto, any_from};
 ghost use Rattle.grc_react.specs.Evaluations.{Stage, IsKnown, formula_under, value_at};
 
 use crate::rows::{Start, source_value};
-use est_base::{InstId, PathId, WireId};
-use grc_graph::{Formula, Graph, Wire};
-use grc_words::{Source, Words};
+use est_base::{InstId, WireId};
+use grc_graph::{Formula, Graph};
+use grc_words::{Words, is_end_upto, selected_source};
 
 /// The value of a formula, where the wires and the rows have these values.
 pub(crate) fn evaluate(
@@ -64,26 +64,6 @@ fn value_at(values: &[bool], place: usize) -> bool
         values[place]
     } else {
         false
-    }
-}
-
-// What says that a statement holds a selected pause. No statement has a number behind the last one's.
-fn selected_source(words: &Words, path: PathId) -> Source
-    requires { 0 < length words.now.selected.items }
-    ensures { result ≡ selected_source words.now path.0 }
-{
-    let last = words.selected.len() - 1;
-    let place = (path.0 as usize).min(last);
-    words.selected[place]
-}
-
-// Whether a wire is an end of the instance with at most this code.
-fn is_end_upto(wire: Wire, instance: InstId, code: u8) -> bool
-    ensures { result ≡ is_end_upto instance.0 code wire }
-{
-    match wire {
-        Wire::End(of, own) => of.0 == instance.0 && own <= code,
-        Wire::Go(_) | Wire::Local(_) | Wire::Out(_) => false,
     }
 }
 

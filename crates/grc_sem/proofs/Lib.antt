@@ -32,3 +32,4 @@ pub mod Instants
 pub mod Runs
 pub mod WalkSolves
 mod GraphLaws
+mod WithoutPremises

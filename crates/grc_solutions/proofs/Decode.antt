@@ -1,88 +1,22 @@
 -- From facts of each edge of an instance to its rows.
-use Rattle.std.proofs.Common.{◌≡◌, ℕ, zero, suc, ◌+◌, ◌<◌, ◌≤◌, Bool, true, ◌&&◌, ◌||◌, leb, List, [], ◌∷◌, ◌++◌, map, filter, Option, Some, None, ⊎_elim}
-use Rattle.std.proofs.Common.{arith}
-use Rattle.std.proofs.lemmas.Bool.{or_cases, and_parts, eqb-true, cond_both, false≢true, le-leb}
-use Rattle.est_base.specs.Codes.{either, except, maxima}
+use Rattle.std.proofs.Common.{◌≡◌, ℕ, ◌+◌, ◌<◌, Bool, true, ◌&&◌, leb, List, [], ◌∷◌, ◌++◌, map, filter, Option, Some, None}
+use Rattle.std.proofs.lemmas.Bool.{and_parts, le-leb}
+use Rattle.est_base.specs.Codes.{except}
 use Rattle.est_kernel.specs.Terms.{Expression, Tick, Sig, Not, And, Or, Term, Nothing, Pause, Emit, Exit, Present, Suspend, Seq, Loop, Par, Trap, Local, Awake}
 use Rattle.est_kernel.specs.Preorder.{statement_count}
 use Rattle.est_kernel.specs.Steps.{trap_code}
-use Rattle.est_kernel.specs.StaticCodes.{codes_if, has_code, started_codes, resumed_codes, branch_codes}
-use Rattle.est_kernel.proofs.Sets.{except-parts, maxima-parts, lowered-parts}
+use Rattle.est_kernel.specs.StaticCodes.{codes_if, has_code, started_codes, resumed_codes}
+use Rattle.est_kernel.proofs.Sets.{except-parts}
 use Rattle.grc_graph.specs.Layers.{Layer, Resumed, Started, can_pass}
 use Rattle.grc_graph.specs.Scopes.{Scope}
 use Rattle.grc_graph.specs.Wires.{Wire, Go, End, status_wire, listed}
 use Rattle.grc_graph.specs.Spots.{Spot}
 use Rattle.grc_graph.specs.Edges.{Edge, edge, edges_if, edges_at, test_to, status_to, to_status, go_to_part, go_to_ends, ends_to_ends, branch_to_ends}
 use Rattle.grc_graph.specs.Edges.{trapped_to_ends}
-use Rattle.grc_graph.specs.Selected.{IsKernel}
+use Rattle.grc_graph.specs.Selected.{HasExitCodes}
+use Rattle.grc_graph.proofs.CodeBounds.{started_below, resumed_below}
 use Rattle.grc_solutions.proofs.Lists.{Every, every_left, every_right, every_map, every_flat_map, every_filter, every_if, every_listed}
 use Rattle.grc_solutions.proofs.Rows.{RowOf, RowAt, Between, Passes, ToEnds, Branches, Trapped, FromStatus, ToStatus, Reads, StartedRow, ResumedRow}
-
-pub trap_code-le : (k : ℕ) → trap_code k ≤ k
-trap_code-le zero = omega arith
-trap_code-le (suc zero) = omega arith
-trap_code-le (suc (suc zero)) = omega arith
-trap_code-le (suc (suc (suc k))) = omega arith
-
--- the codes of a kernel are below 64
-pub started_below : (t : Term) → IsKernel t → (k : ℕ) → started_codes t k ≡ true → k < 64
-started_below Nothing b k h = omega (arith, eqb-true k 0 h)
-started_below Pause b k h = omega (arith, eqb-true k 1 h)
-started_below (Emit s) b k h = omega (arith, eqb-true k 0 h)
-started_below (Exit c) b k h = omega (arith, eqb-true k c h, b.1)
-started_below (Present e p q) b k h =
-    ⊎_elim (started_below p b.0 k) (started_below q b.1 k) (or_cases (started_codes p k) (started_codes q k) h)
-started_below (Suspend e p) b k h = started_below p b k h
-started_below (Seq p q) b k h =
-    seq_below p q k (started_below p b.0 k) (started_below q b.1 k) h
-  where
-    seq_below : (p q : Term) (k : ℕ) → (started_codes p k ≡ true → k < 64) → (started_codes q k ≡ true → k < 64) → started_codes (Seq p q) k ≡ true → k < 64
-    seq_below p q k f g =
-        cond_both (started_codes p 0) (either (except 0 (started_codes p)) (started_codes q)) (started_codes p)
-        (λ A. A k ≡ true → k < 64)
-        (λ z h. ⊎_elim (λ x. f (except-parts (started_codes p) 0 k x).0) g (or_cases (except 0 (started_codes p) k) (started_codes q k) h))
-        (λ z h. f h)
-started_below (Loop at p) b k h = started_below p b k (except-parts (started_codes p) 0 k h).0
-started_below (Par p q) b k h =
-    let s = maxima-parts (started_codes p) (started_codes q) k h in
-    omega (arith, started_below p b.0 s.0 s.2, started_below q b.1 s.1 s.3, s.4)
-started_below (Trap p) b k h =
-    let s = lowered-parts (started_codes p) k h in omega (arith, started_below p b s.0 s.1, trap_code-le s.0, s.2)
-started_below (Local s p) b k h = started_below p b k h
-started_below (Awake e p) b k h = absurd b
-
-branch_below : (p : Term) (k : ℕ) → (resumed_codes p k ≡ true → k < 64) → branch_codes (started_codes p) (resumed_codes p) k ≡ true → k < 64
-branch_below p k f h =
-    ⊎_elim f (λ x. omega (arith, eqb-true k 0 (and_parts _ _ x).1)) (or_cases (resumed_codes p k) _ h)
-
-pub resumed_below : (t : Term) → IsKernel t → (k : ℕ) → resumed_codes t k ≡ true → k < 64
-resumed_below Nothing b k h = absurd (false≢true h)
-resumed_below Pause b k h = omega (arith, eqb-true k 0 h)
-resumed_below (Emit s) b k h = absurd (false≢true h)
-resumed_below (Exit c) b k h = absurd (false≢true h)
-resumed_below (Present e p q) b k h =
-    ⊎_elim (resumed_below p b.0 k) (resumed_below q b.1 k) (or_cases (resumed_codes p k) (resumed_codes q k) h)
-resumed_below (Suspend e p) b k h =
-    ⊎_elim (resumed_below p b k) (λ x. omega (arith, eqb-true k 1 (and_parts _ _ x).1)) (or_cases (resumed_codes p k) _ h)
-resumed_below (Seq p q) b k h =
-    ⊎_elim (λ x. resumed_below p b.0 k (except-parts (resumed_codes p) 0 k x).0)
-    (λ x.
-    ⊎_elim (λ y. started_below q b.1 k (and_parts _ _ y).1) (λ y. resumed_below q b.1 k (and_parts _ _ y).1)
-    (or_cases (resumed_codes p 0 && started_codes q k) _ x))
-    (or_cases (except 0 (resumed_codes p) k) _ h)
-resumed_below (Loop at p) b k h =
-    ⊎_elim (λ x. resumed_below p b k (except-parts (resumed_codes p) 0 k x).0)
-    (λ x. started_below p b k (except-parts (started_codes p) 0 k (and_parts _ _ x).1).0)
-    (or_cases (except 0 (resumed_codes p) k) _ h)
-resumed_below (Par p q) b k h =
-    let A = branch_codes (started_codes p) (resumed_codes p) in
-    let C = branch_codes (started_codes q) (resumed_codes q) in
-    let s = maxima-parts A C k (and_parts (has_code (resumed_codes p) || has_code (resumed_codes q)) (maxima A C k) h).1 in
-    omega (arith, branch_below p s.0 (resumed_below p b.0 s.0) s.2, branch_below q s.1 (resumed_below q b.1 s.1) s.3, s.4)
-resumed_below (Trap p) b k h =
-    let s = lowered-parts (resumed_codes p) k h in omega (arith, resumed_below p b s.0 s.1, trap_code-le s.0, s.2)
-resumed_below (Local s p) b k h = resumed_below p b k h
-resumed_below (Awake e p) b k h = absurd b
 
 -- the rows of the edges at one instance
 module _ (Q : Between) where
@@ -143,7 +77,7 @@ module _ (Q : Between) where
   rest : (xs ys : List Edge) → Every OnEdge (xs ++ ys) → Every OnEdge ys
   rest xs ys h = every_right OnEdge xs ys h
 
-  started_row : (B : Scope) (t : Term) (n r : ℕ) → IsKernel t → Every OnEdge (edges_at B t n (Started r)) → StartedRow Q B t n (Started r)
+  started_row : (B : Scope) (t : Term) (n r : ℕ) → HasExitCodes t → Every OnEdge (edges_at B t n (Started r)) → StartedRow Q B t n (Started r)
   started_row B Nothing n r b h = row_ends (started_codes Nothing) n (Started r) (started_below Nothing b) h
   started_row B Pause n r b h = row_ends (started_codes Pause) n (Started r) (started_below Pause b) h
   started_row B (Emit s) n r b h =
@@ -213,7 +147,7 @@ module _ (Q : Between) where
   row_go p n c es h e =
       (row_if (has_code (resumed_codes p)) (edge (Go n Resumed) (Go c Resumed) ∷ []) (first (go_to_part p n c Resumed) es h) e).0
 
-  resumed_row : (B : Scope) (t : Term) (n : ℕ) → IsKernel t → Every OnEdge (edges_at B t n Resumed) → ResumedRow Q B t n
+  resumed_row : (B : Scope) (t : Term) (n : ℕ) → HasExitCodes t → Every OnEdge (edges_at B t n Resumed) → ResumedRow Q B t n
   resumed_row B Nothing n b h = tt
   resumed_row B Pause n b h = row_ends (resumed_codes Pause) n Resumed (resumed_below Pause b) h
   resumed_row B (Emit s) n b h = tt
@@ -317,9 +251,9 @@ module _ (Q : Between) where
       )
   resumed_row B (Awake e p) n b h = absurd b
 
-  pub row_at : (x : Spot) → IsKernel x.statement → Every OnEdge (edges_at x.scope x.statement x.path x.layer) → RowAt Q x
+  pub row_at : (x : Spot) → HasExitCodes x.statement → Every OnEdge (edges_at x.scope x.statement x.path x.layer) → RowAt Q x
   row_at x = go x.scope x.statement x.path x.layer
     where
-      go : (B : Scope) (t : Term) (n : ℕ) (l : Layer) → IsKernel t → Every OnEdge (edges_at B t n l) → RowOf Q B t n l
+      go : (B : Scope) (t : Term) (n : ℕ) (l : Layer) → HasExitCodes t → Every OnEdge (edges_at B t n l) → RowOf Q B t n l
       go B t n Resumed b h = resumed_row B t n b h
       go B t n (Started r) b h = started_row B t n r b h

@@ -12,7 +12,7 @@ use Rattle.grc_graph.specs.Formulas.{Boot}
 use Rattle.grc_graph.specs.Equations.{Equation}
 use Rattle.grc_graph.specs.Edges.{Edge}
 use Rattle.grc_graph.specs.Orders.{GoUp}
-use Rattle.grc_graph.specs.Walk.{Initial}
+use Rattle.grc_graph.specs.Walk.{State, Initial}
 use Rattle.grc_graph.specs.Readings.{Valuation}
 use Rattle.grc_graph.specs.GraphRuns.{Solves, graph_of, formula_value}
 use Rattle.grc_solutions.specs.GraphWires.{equation_wires, program_wires, program_edges}
@@ -23,7 +23,7 @@ use Rattle.grc_solutions.proofs.Pairwise.{all_of_every}
 use Rattle.grc_solutions.proofs.Evaluated.{value_off, unnamed}
 use Rattle.grc_solutions.proofs.OneRun.{graphs_have_one_solution_lem}
 
-abbrev program : ℕ → Term → Program
+abbrev pub program : ℕ → Term → Program
 program n body = record {
   name = [];
   signals = [];
@@ -34,18 +34,18 @@ program n body = record {
   body = body;
 }
 
-abbrev start : Layer
+abbrev pub start : Layer
 start = Started 0
 
 -- signal S in present S else emit S end end
-abbrev no_status : Program
+abbrev pub no_status : Program
 no_status = program 0 (Local 0 (Present (Sig 0) Nothing (Emit 0)))
 
 not_itself : (b : Bool) → b ≡ not b → ⊥
 not_itself true e = false≢true (sym e)
 not_itself false e = false≢true e
 
-no_solution : (V : Valuation) → Solves (graph_of no_status) Initial [] V → ⊥
+pub no_solution : (V : Valuation) → Solves (graph_of no_status) Initial [] V → ⊥
 unfolding listed codes_below
 no_solution V s =
     let d : Equation = record { wire = Out 0; formula = Boot } in
@@ -54,33 +54,35 @@ no_solution V s =
     ∙ ap (λ b. b && not (V (StatusOf 0 start))) (s.met 3 d (omega arith) ∙ s.met 0 d (omega arith)))
 
 -- signal S in present S then emit S end end
-abbrev two_statuses : Program
+abbrev pub two_statuses : Program
 two_statuses = program 0 (Local 0 (Present (Sig 0) (Emit 0) Nothing))
 
-abbrev by_values : Program → List Bool → Valuation
+-- the values of a program's wires, in order, and how they solve its graph
+abbrev pub by_values : Program → List Bool → Valuation
 by_values p values = valuation_of (equation_wires (graph_of p).equations) values
 
-solved_by : (p : Program) (values : List Bool) → Every (λ e. by_values p values e.wire ≡ formula_value (graph_of p) Initial [] (by_values p values) e.formula)
-    (graph_of p).equations → Solves (graph_of p) Initial [] (by_values p values)
-solved_by p values h = record {
-  met = all_of_every (λ e. by_values p values e.wire ≡ formula_value (graph_of p) Initial [] (by_values p values) e.formula) (graph_of p).equations h;
+pub solved_by : (p : Program) (q : State) (event values : List Bool)
+    → Every (λ e. by_values p values e.wire ≡ formula_value (graph_of p) q event (by_values p values) e.formula) (graph_of p).equations
+    → Solves (graph_of p) q event (by_values p values)
+solved_by p q event values h = record {
+  met = all_of_every (λ e. by_values p values e.wire ≡ formula_value (graph_of p) q event (by_values p values) e.formula) (graph_of p).equations h;
   others = λ w e. value_off (equation_wires (graph_of p).equations) values w (unnamed (graph_of p).equations w e);
 }
 
 -- S is present, and the emission runs; or S is absent, and the other branch runs
-abbrev present : List Bool
+abbrev pub present : List Bool
 present = true ∷ true ∷ true ∷ true ∷ true ∷ true ∷ true ∷ false ∷ false ∷ []
 
 abbrev absent : List Bool
 absent = true ∷ false ∷ true ∷ true ∷ true ∷ false ∷ false ∷ true ∷ true ∷ []
 
-solves_present : Solves (graph_of two_statuses) Initial [] (by_values two_statuses present)
+pub solves_present : Solves (graph_of two_statuses) Initial [] (by_values two_statuses present)
 unfolding listed codes_below
-solves_present = solved_by two_statuses present (refl, (refl, (refl, (refl, (refl, (refl, (refl, (refl, (refl, tt)))))))))
+solves_present = solved_by two_statuses Initial [] present (refl, (refl, (refl, (refl, (refl, (refl, (refl, (refl, (refl, tt)))))))))
 
 solves_absent : Solves (graph_of two_statuses) Initial [] (by_values two_statuses absent)
 unfolding listed codes_below
-solves_absent = solved_by two_statuses absent (refl, (refl, (refl, (refl, (refl, (refl, (refl, (refl, (refl, tt)))))))))
+solves_absent = solved_by two_statuses Initial [] absent (refl, (refl, (refl, (refl, (refl, (refl, (refl, (refl, (refl, tt)))))))))
 
 two_solutions : ((w : Wire) → by_values two_statuses present w ≡ by_values two_statuses absent w) → ⊥
 unfolding listed codes_below
@@ -97,6 +99,24 @@ no_rank_either rank up =
     ((graphs_have_one_solution_lem two_statuses rank (tt, tt) up Initial []).1
     (by_values two_statuses present) (by_values two_statuses absent) solves_present solves_absent)
 
+-- the rank of a wire, by its place
+abbrev pub rank_in : Program → List ℕ → Wire → ℕ
+rank_in p ranks w = slice_index ranks (position_or_len (same_wire w) (program_wires p))
+
+abbrev pub all_up : (Wire → ℕ) → List Edge → Bool
+all_up rank es = list_all (λ e. ltb (rank e.from) (rank e.to)) es
+
+each_up : (rank : Wire → ℕ) (es : List Edge) → all_up rank es ≡ true → Every (λ e. rank e.from < rank e.to) es
+each_up rank [] h = tt
+each_up rank (e ∷ es) h =
+    let p = and_parts (ltb (rank e.from) (rank e.to)) (all_up rank es) h in
+    (ltb-true (rank e.from) (rank e.to) p.0, each_up rank es p.1)
+
+pub go_up : (p : Program) (ranks : List ℕ) → all_up (rank_in p ranks) (program_edges p) ≡ true → GoUp (rank_in p ranks) (program_edges p)
+go_up p ranks h e c =
+    every_at (λ x. rank_in p ranks x.from < rank_in p ranks x.to) (program_edges p)
+    (each_up (rank_in p ranks) (program_edges p) h) e c
+
 -- output S; signal T in emit T; pause; present T then emit S end end: the edges go up, in the order of a list
 abbrev straight : Program
 straight = program 1 (Local 1 (Seq (Emit 1) (Seq Pause (Present (Sig 1) (Emit 0) Nothing))))
@@ -107,22 +127,11 @@ ranks =
     7 ∷ 0 ∷ 0 ∷ 11 ∷ 0 ∷ 3 ∷ 9 ∷ 1 ∷ 10 ∷ 1 ∷ 8 ∷ 2 ∷ 3 ∷ 2 ∷ 9 ∷ 4 ∷ 7 ∷ 3 ∷ 4 ∷ 5 ∷ 6 ∷ 5 ∷ 8 ∷ 6 ∷ 7 ∷ 6 ∷ 7 ∷ []
 
 abbrev rank_of : Wire → ℕ
-unfolding listed codes_below
-rank_of w = slice_index ranks (position_or_len (same_wire w) (program_wires straight))
-
-abbrev all_up : (Wire → ℕ) → List Edge → Bool
-all_up rank es = list_all (λ e. ltb (rank e.from) (rank e.to)) es
-
-each_up : (rank : Wire → ℕ) (es : List Edge) → all_up rank es ≡ true → Every (λ e. rank e.from < rank e.to) es
-each_up rank [] h = tt
-each_up rank (e ∷ es) h =
-    let p = and_parts (ltb (rank e.from) (rank e.to)) (all_up rank es) h in
-    (ltb-true (rank e.from) (rank e.to) p.0, each_up rank es p.1)
+rank_of = rank_in straight ranks
 
 straight_up : GoUp rank_of (program_edges straight)
 unfolding listed codes_below
-straight_up e c =
-    every_at (λ x. rank_of x.from < rank_of x.to) (program_edges straight) (each_up rank_of (program_edges straight) refl) e c
+straight_up = go_up straight ranks refl
 
 one_solution_there : HasOneSolution (graph_of straight)
 one_solution_there = graphs_have_one_solution_lem straight rank_of (tt, (tt, (tt, tt))) straight_up

@@ -9,9 +9,11 @@
 mod assembly;
 mod building;
 mod held;
+mod questions;
 mod selected;
 mod table;
 mod tests_of;
 
 pub use assembly::words;
+pub use questions::{is_end_upto, selected_source};
 pub use table::{Row, Source, Words};

@@ -2,7 +2,7 @@
 
 ghost use Rattle.std.specs.Prelude.{◌≡◌, ◌+◌, ◌<◌, ◌≤◌, length, drop, IfOk, All};
 ghost use Rattle.std.specs.List.{prefix_len};
-ghost use Rattle.grc_words.specs.WordLaws.{AreWordsOf, selected_source, is_end_upto, first_end, ends_upto};
+ghost use Rattle.grc_words.specs.WordLaws.{AreWordsOf, is_end_upto, first_end, ends_upto};
 ghost use Rattle.net_gen.specs.Costs.{cost_of, any_cost};
 ghost use Rattle.net_gen.specs.Drawings.{drawing_of, Placed};
 ghost use Rattle.net_gen.specs.Growing.{Lowers};
@@ -10,9 +10,9 @@ ghost use Rattle.net_gen.specs.Readiness.{FormulaReady, EndsReady};
 ghost use Rattle.net_gen.specs.Senses.{Sound, form_sense, run_sense, any_sense};
 
 use crate::circuit::{Circuit, entry};
-use est_base::{InstId, NetId, NoMemory, PathId, WireId};
+use est_base::{InstId, NetId, NoMemory, WireId};
 use grc_graph::{Formula, Graph, Wire};
-use grc_words::{Source, Words};
+use grc_words::{Words, is_end_upto, selected_source};
 use net_ir::Op;
 
 /// A formula as an operator. Only its parts are made here, so that a wire's own gate can carry it.
@@ -63,26 +63,6 @@ pub(crate) fn lower(
             let op = any_of(circuit, graph, words, wires)?;
             Ok(op)
         }
-    }
-}
-
-// What says that a statement holds a selected pause. No statement has a number behind the last one's.
-fn selected_source(words: &Words, path: PathId) -> Source
-    requires { 0 < length words.now.selected.items }
-    ensures { result ≡ selected_source words.now path.0 }
-{
-    let last = words.selected.len() - 1;
-    let place = (path.0 as usize).min(last);
-    words.selected[place]
-}
-
-// Whether a wire is an end of the instance with at most this code.
-fn is_end_upto(wire: Wire, instance: InstId, code: u8) -> bool
-    ensures { result ≡ is_end_upto instance.0 code wire }
-{
-    match wire {
-        Wire::End(of, own) => of.0 == instance.0 && own <= code,
-        Wire::Go(_) | Wire::Local(_) | Wire::Out(_) => false,
     }
 }
 

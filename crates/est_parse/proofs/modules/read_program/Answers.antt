@@ -1,15 +1,12 @@
-use Rattle.std.proofs.Common.{◌≡◌, ◌<◌, ◌++◌, ◌∷◌, Ok, Some, sym, ap, ◌∙◌, map, arith}
+use Rattle.std.proofs.Common.{◌∷◌, ◌∙◌, map}
 use Rattle.std.proofs.lemmas.List.{map-append}
 use Rattle.est_ast.specs.declared.tokens.Reserved.TheVariants as words
-use Rattle.est_ast.specs.declared.tokens.Mark.TheVariants as marks
-use Rattle.est_ast.specs.Grammar.{word, mark}
-use Rattle.est_ast.specs.Views.{relation_of, decl_of, module_of}
-use Rattle.read_rules.specs.Readings.{give}
-use Rattle.read_rules.proofs.Loops.{loop-begun, loop-started}
-use Rattle.read_rules.proofs.Steps.{optional_or-some, maybe-some, loop-grown}
-use Rattle.est_parse.specs.Openings.{declaration}
-use Rattle.est_parse.specs.Reading.{list_step, relation, decl, decl_step, module_rule, module_step}
-use Rattle.est_parse.proofs.ModuleLaws.{relations-advances, decl-advances, module-advances}
+use Rattle.est_ast.specs.Grammar.{word}
+use Rattle.est_ast.specs.Views.{module_of}
+use Rattle.read_rules.proofs.Loops.{loop-begun}
+use Rattle.read_rules.proofs.Steps.{maybe-some, loop-grown}
+use Rattle.est_parse.specs.Reading.{module_rule, module_step}
+use Rattle.est_parse.proofs.ModuleLaws.{module-advances}
 use Rattle.est_parse.proofs.modules.read_program.Goals as goal
 
 pub modules-init : goal.modules-init

@@ -1,7 +1,6 @@
 use Rattle.std.proofs.Common.{◌≡◌, ◌++◌, length}
-use Rattle.est_ast.specs.declared.tokens.Mark.TheVariants as marks
-use Rattle.est_ast.specs.Grammar.{mark, name}
-use Rattle.est_parse.specs.Reading.{listed, list_step, rename}
+use Rattle.est_ast.specs.Grammar.{name}
+use Rattle.est_parse.specs.Reading.{listed, list_step}
 use Rattle.read_rules.specs.Readings.{mapped, loop, the}
 use Rattle.est_parse.proofs.names.read_names.Given as goal
 

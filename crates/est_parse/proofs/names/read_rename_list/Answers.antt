@@ -1,8 +1,8 @@
-use Rattle.std.proofs.Common.{◌≡◌, ◌<◌, ◌++◌, ◌∷◌, Ok, Some, sym, ap, ◌∙◌, arith}
+use Rattle.std.proofs.Common.{◌∷◌, ◌∙◌}
 use Rattle.est_ast.specs.declared.tokens.Mark.TheVariants as marks
-use Rattle.est_ast.specs.Grammar.{mark, name}
-use Rattle.est_parse.specs.Reading.{listed, list_step, rename}
-use Rattle.read_rules.specs.Readings.{give, the}
+use Rattle.est_ast.specs.Grammar.{mark}
+use Rattle.est_parse.specs.Reading.{list_step, rename}
+use Rattle.read_rules.specs.Readings.{give}
 use Rattle.read_rules.proofs.Loops.{loop-begun}
 use Rattle.read_rules.proofs.Steps.{optional_or-some, loop-grown}
 use Rattle.est_parse.proofs.StmtLaws.{renames-advances}

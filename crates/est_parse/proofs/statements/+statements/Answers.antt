@@ -1,4 +1,4 @@
-use Rattle.std.proofs.Common.{◌≡◌, ◌<◌, ◌∷◌, true, Ok, Some, sym, ap, subst, refl, ◌∙◌, map, arith}
+use Rattle.std.proofs.Common.{◌≡◌, ◌∷◌, Ok, Some, sym, subst, refl, ◌∙◌, map, arith}
 use Rattle.std.proofs.lemmas.List.{map-append}
 use Rattle.est_ast.specs.declared.tokens.Reserved.TheVariants as words
 use Rattle.est_ast.specs.declared.tokens.Mark.TheVariants as marks

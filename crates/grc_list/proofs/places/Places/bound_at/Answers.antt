@@ -2,7 +2,8 @@ use Rattle.std.proofs.Common.{◌∙◌, ap, sym, arith}
 use Rattle.est_kernel.specs.Plain.{term_of}
 use Rattle.grc_list.specs.Places.{Place}
 use Rattle.grc_list.specs.PlaceViews.{place_of}
-use Rattle.grc_list.proofs.Climbing.{place_in, length-body_places, bound_at-place, bound_at-past}
+use Rattle.grc_graph.proofs.StatementPaths.{bound_at-past}
+use Rattle.grc_list.proofs.Climbing.{place_in, length-body_places, bound_at-place}
 use Rattle.grc_list.proofs.places.Places.bound_at.Goals as goal
 
 pub returns-then-at-len : goal.returns-then-at-len

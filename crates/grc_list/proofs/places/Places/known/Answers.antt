@@ -1,7 +1,8 @@
 use Rattle.std.proofs.Common.{arith}
 use Rattle.est_kernel.specs.Plain.{term_of}
 use Rattle.grc_list.specs.PlaceViews.{place_of}
-use Rattle.grc_list.proofs.Climbing.{length-body_places, some_statement, path_at-past}
+use Rattle.grc_graph.proofs.StatementPaths.{some_statement, path_at-past}
+use Rattle.grc_list.proofs.Climbing.{length-body_places}
 use Rattle.grc_list.proofs.places.Places.known.Goals as goal
 
 pub returns-else-at-len-clause-within : goal.returns-else-at-len-clause-within

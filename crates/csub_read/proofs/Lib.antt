@@ -1,0 +1,10 @@
+pub mod Rows
+pub mod NameLists
+pub mod TokenKinds
+pub mod ExprLaws
+pub mod TextLaws
+pub mod Makers
+pub mod LexLaws
+pub mod ReaderLaws
+pub mod ReadBack
+pub mod NameFaults

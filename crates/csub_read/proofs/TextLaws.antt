@@ -1,0 +1,349 @@
+-- Inner: judgements on declarations, assignments and whole texts.
+use Rattle.std.proofs.Common.{◌≡◌, ◌⊎◌, inl, inr, ℕ, max, true, false, List, [], ◌∷◌, map, Option, Some, None, refl, ap, subst, arith}
+use Rattle.csub_text.specs.Tokens.{Kind, Static, Int, Return, Void, React, LeftParenthesis, RightParenthesis, LeftBrace}
+use Rattle.csub_text.specs.Tokens.{RightBrace, Semicolon, Equals}
+use Rattle.csub_text.specs.Trees.{State}
+use Rattle.csub_text.specs.Grammar.{is, name, bit, own_name, global_name, Written, written_nesting, Disjunction, SpellsExpr, WrittenAssign}
+use Rattle.csub_text.specs.Grammar.{WrittenProgram, SpellsState, SpellsGlobal, SpellsLocal, SpellsAssign, SpellsAnswer, SpellsText}
+use Rattle.csub_text.specs.Grammar.{body_nesting, text_nesting, IsText}
+use Rattle.read_rules.specs.Exact.{Exactly}
+use Rattle.read_rules.specs.Languages.{Then, Led, Loop, Optional, Many}
+use Rattle.read_rules.specs.Languages.{One as Single}
+use Rattle.read_rules.specs.Choice.{Made}
+use Rattle.read_rules.specs.Readings.{Rule, mapped, both, the, loop, whole}
+use Rattle.read_rules.proofs.Loops.{Advances, mapped-mapped}
+use Rattle.read_rules.proofs.Readers.{one_shape, Stops, Laws, Reads, the-reads, both-reads, led-reads, trail-reads, ahead-reads, mapped-reads}
+use Rattle.read_rules.proofs.Readers.{told-reads, made-reads, same-reads, shape-reads}
+use Rattle.read_rules.proofs.Steps.{Turn, step_depth, list_depth, AfterStep, StepLaws, Steps, look-steps, loop-reads, Advances-step}
+use Rattle.read_rules.proofs.Choices.{whole-reads as exact-reads}
+use Rattle.csub_read.specs.Reading.{makes_written, expr, state_rule, state_step, global_step, local_rule, local_step, assign_rule, assign_step}
+use Rattle.csub_read.specs.Reading.{answer_rule, function_rule, text_rule, parts_of, written_assign, written_of}
+use Rattle.csub_read.proofs.TokenKinds.{class, is-test, name_set, name-test, own-test, global-test, bit-test}
+use Rattle.csub_read.proofs.ExprLaws.{expr_shape, exprs_known}
+
+expr-reads : (room : ℕ) → Reads class (λ n. expr makes_written n) (SpellsExpr Disjunction) written_nesting expr_shape (Some room)
+expr-reads room = (exprs_known room).whole
+
+own-reads : {room : Option ℕ} → Reads class (λ _. the own_name) (Single own_name) (λ _. 0) (one_shape (16 ∷ [])) room
+own-reads = the-reads own-test
+
+end-reads : {room : Option ℕ} → Reads class (λ _. the (is Semicolon)) (Single (is Semicolon)) (λ _. 0) (one_shape (9 ∷ [])) room
+end-reads = the-reads (is-test Semicolon (omega arith))
+
+-- ---- states
+
+abbrev StateBehind : State → List Kind → Type 0
+StateBehind s = Then (Single own_name s.name) (Led (is Equals) (λ _. Then (Single bit s.init) (Single (is Semicolon) tt)))
+
+state-reads : {room : Option ℕ} → Reads class (λ _. state_rule) SpellsState (λ _. 0) (one_shape (0 ∷ [])) room
+state-reads =
+    led-reads (is-test Static (omega arith))
+    (led-reads (is-test Int (omega arith)) (made-reads (λ found. record { name = found.0; init = found.1 }) StateBehind (λ _. 0)
+    (both-reads own-reads (led-reads (is-test Equals (omega arith)) (trail-reads (the-reads bit-test) end-reads refl)) refl) (λ _. refl)
+    (λ found tokens member. member) (λ s tokens member. ((s.name, s.init), refl, member))))
+
+abbrev turn_of : List ℕ → Turn
+turn_of set = record { starts = set; empty = true; more = []; last = set }
+
+state-steps : {room : Option ℕ} → Steps class (λ _. state_step) (Optional SpellsState) (λ _. 0) (turn_of (0 ∷ [])) room
+state-steps = look-steps (is-test Static (omega arith)) state-reads refl refl
+
+-- ---- globals
+
+abbrev GlobalBehind : Option (List ℕ) → List Kind → Type 0
+GlobalBehind None = Single (is React) tt
+GlobalBehind (Some n) = Then (Single global_name n) (Single (is Semicolon) tt)
+
+abbrev EitherGlobal : Option (List ℕ) → List Kind → Type 0
+EitherGlobal v tokens = Made {A = Unit {0}} (λ _. None) (Single (is React)) v tokens ⊎ Made Some
+    (λ n. Then (Single global_name n) (Single (is Semicolon) tt)) v tokens
+
+global_to : (v : Option (List ℕ)) (tokens : List Kind) → EitherGlobal v tokens → GlobalBehind v tokens
+global_to v tokens (inl made) = subst (λ v. GlobalBehind v tokens) made.1 made.2
+global_to v tokens (inr made) = subst (λ v. GlobalBehind v tokens) made.1 made.2
+
+global_from : (v : Option (List ℕ)) (tokens : List Kind) → GlobalBehind v tokens → EitherGlobal v tokens
+global_from None tokens member = inl (tt, refl, member)
+global_from (Some n) tokens member = inr (n, refl, member)
+
+global_spells : (v : Option (List ℕ)) (tokens : List Kind) → Led (is Int) (λ _. GlobalBehind v) tokens → SpellsGlobal v tokens
+global_spells None tokens member = member
+global_spells (Some n) tokens member = member
+
+global_spelled : (v : Option (List ℕ)) (tokens : List Kind) → SpellsGlobal v tokens → Led (is Int) (λ _. GlobalBehind v) tokens
+global_spelled None tokens member = member
+global_spelled (Some n) tokens member = member
+
+abbrev no_depth : Option (List ℕ) → ℕ
+no_depth = step_depth (λ _. 0)
+
+global-reads : {room : Option ℕ} → Reads class (λ _. global_step) SpellsGlobal no_depth (one_shape (1 ∷ [])) room
+global-reads =
+    shape-reads (one_shape (1 ∷ [])) (told-reads SpellsGlobal (led-reads (is-test Int (omega arith)) (told-reads GlobalBehind
+    (ahead-reads (is-test React (omega arith)) (mapped-reads {A = Unit {0}} (λ _. None) no_depth (the-reads (is-test React (omega arith))) (λ _. refl))
+    (mapped-reads Some no_depth (trail-reads (the-reads global-test) end-reads refl) (λ _. refl)) refl refl refl refl) global_to global_from))
+    global_spells global_spelled) refl refl refl
+
+abbrev global_turn : Turn
+global_turn = record { starts = 1 ∷ []; empty = false; more = []; last = [] }
+
+after_global : (v : Option (List ℕ)) (rest : List Kind) → AfterStep class global_turn v rest → Stops class [] rest
+after_global None rest stops = stops
+after_global (Some n) rest stops = stops
+
+global-laws : (room : Option ℕ) → Laws class (λ _. global_step) SpellsGlobal no_depth (one_shape (1 ∷ [])) room
+    → StepLaws class (λ _. global_step) SpellsGlobal (λ _. 0) global_turn room
+global-laws None laws = tt
+global-laws (Some n) laws = (
+  laws.0,
+  λ value front rest member stops. laws.1 value front rest member (after_global value rest stops),
+)
+
+global-steps : (room : Option ℕ) → Steps class (λ _. global_step) SpellsGlobal (λ _. 0) global_turn room
+global-steps room =
+    let r = global-reads {room = room} in
+    record {
+      opens = λ value tokens member. r.lang.begins (Some value) tokens member;
+      closes = λ tokens member. r.lang.begins None tokens member;
+      end = Int ∷ React ∷ [];
+      ends = record { token = Int; value = tt; rest = React ∷ []; cut = refl; passes = refl; behind = record { token = React; only = refl; passes = refl } };
+      laws = global-laws room r.laws;
+    }
+
+-- ---- locals and assignments
+
+local-reads : {room : Option ℕ} → Reads class (λ _. local_rule) SpellsLocal (λ _. 0) (one_shape (1 ∷ [])) room
+local-reads = led-reads (is-test Int (omega arith)) (trail-reads own-reads end-reads refl)
+
+local-steps : {room : Option ℕ} → Steps class (λ _. local_step) (Optional SpellsLocal) (λ _. 0) (turn_of (1 ∷ [])) room
+local-steps = look-steps (is-test Int (omega arith)) local-reads refl refl
+
+abbrev SpellsPair : List ℕ × Written → List Kind → Type 0
+SpellsPair a = Then (Single name a.0) (Led (is Equals) (λ _. Then (SpellsExpr Disjunction a.1) (Single (is Semicolon) tt)))
+
+abbrev pair_depth : List ℕ × Written → ℕ
+pair_depth a = max 0 (written_nesting a.1)
+
+assign-reads : (room : ℕ) → Reads class (λ n. assign_rule makes_written n) SpellsPair pair_depth (one_shape name_set) (Some room)
+assign-reads room = both-reads (the-reads name-test) (led-reads (is-test Equals (omega arith)) (trail-reads (expr-reads room) end-reads refl)) refl
+
+assign-steps : (room : ℕ) → Steps class (λ n. assign_step makes_written n) (Optional SpellsPair) pair_depth (turn_of name_set) (Some room)
+assign-steps room = look-steps name-test (assign-reads room) refl refl
+
+answer-reads : (room : ℕ) → Reads class (λ n. answer_rule makes_written n) SpellsAnswer written_nesting (one_shape (2 ∷ [])) (Some room)
+answer-reads room =
+    led-reads (is-test Return (omega arith)) (trail-reads (expr-reads room)
+    (led-reads (is-test Semicolon (omega arith)) (the-reads (is-test RightBrace (omega arith)))) refl)
+
+-- ---- whole texts
+
+abbrev Found : Type 0
+Found = List State × (List (List ℕ) × (List (List ℕ) × (List (List ℕ × Written) × Written)))
+
+abbrev SpellsFound : Found → List Kind → Type 0
+SpellsFound p =
+    Then (Many SpellsState p.0) (Then (Loop SpellsGlobal p.1.0)
+    (Led (is LeftParenthesis) (λ _. Led (is Void) (λ _. Led (is RightParenthesis) (λ _. Led (is LeftBrace) (λ _.
+    Then (Many SpellsLocal p.1.1.0) (Then (Many SpellsPair p.1.1.1.0) (SpellsAnswer p.1.1.1.1))))))))
+
+abbrev found_depth : Found → ℕ
+found_depth p =
+    max (list_depth (λ _. 0) p.0) (max (list_depth (λ _. 0) p.1.0)
+    (max (list_depth (λ _. 0) p.1.1.0) (max (list_depth pair_depth p.1.1.1.0) (written_nesting p.1.1.1.1))))
+
+found-reads : (room : ℕ) → Reads class (λ n. both (loop state_step) (both (loop global_step) (function_rule makes_written n))) SpellsFound found_depth
+    (record { starts = 0 ∷ 1 ∷ []; empty = false; after = [] }) (Some room)
+found-reads room =
+    shape-reads (record { starts = 0 ∷ 1 ∷ []; empty = false; after = [] })
+    (both-reads (loop-reads state-steps refl) (both-reads (loop-reads (global-steps (Some room)) refl)
+    (led-reads (is-test LeftParenthesis (omega arith))
+    (led-reads (is-test Void (omega arith)) (led-reads (is-test RightParenthesis (omega arith)) (led-reads (is-test LeftBrace (omega arith))
+    (both-reads (loop-reads local-steps refl) (both-reads (loop-reads (assign-steps room) refl) (answer-reads room) refl) refl))))) refl) refl) refl refl refl
+
+flat : {A : Type 0} (values : List A) → list_depth (λ _. 0) values ≡ 0
+flat [] = refl
+flat (v ∷ others) = omega (arith, flat others)
+
+body-depth : (body : List (List ℕ × Written)) → body_nesting (map written_assign body) ≡ list_depth pair_depth body
+body-depth [] = refl
+body-depth (a ∷ body) = omega (arith, body-depth body)
+
+pairs-to : (body : List (List ℕ × Written)) (tokens : List Kind) → Many SpellsPair body tokens → Many SpellsAssign (map written_assign body) tokens
+pairs-to [] tokens member = member
+pairs-to (a ∷ body) tokens member = record {
+  front = member.front;
+  back = member.back;
+  cut = member.cut;
+  first = member.first;
+  second = pairs-to body member.back member.second;
+}
+
+abbrev pair_in : WrittenAssign → List ℕ × Written
+pair_in a = (a.target, a.value)
+
+pairs-from : (body : List WrittenAssign) (tokens : List Kind) → Many SpellsAssign body tokens → Many SpellsPair (map pair_in body) tokens
+pairs-from [] tokens member = member
+pairs-from (a ∷ body) tokens member = record {
+  front = member.front;
+  back = member.back;
+  cut = member.cut;
+  first = member.first;
+  second = pairs-from body member.back member.second;
+}
+
+pairs-are : (body : List WrittenAssign) → map written_assign (map pair_in body) ≡ body
+pairs-are [] = refl
+pairs-are (a ∷ body) = ap (λ l. a ∷ l) (pairs-are body)
+
+abbrev program_in : Found → WrittenProgram
+program_in found = written_of (parts_of found)
+
+text-to : (found : Found) (tokens : List Kind) → SpellsFound found tokens → SpellsText (program_in found) tokens
+text-to found tokens member =
+    let a = member.second in
+    let b = a.second in
+    let c = b.behind in
+    let d = c.behind in
+    let e = d.behind in
+    let f = e.behind in
+    let g = f.second in
+    record {
+      front = member.front;
+      back = member.back;
+      cut = member.cut;
+      first = member.first;
+      second = record {
+        front = a.front;
+        back = a.back;
+        cut = a.cut;
+        first = a.first;
+        second = record {
+          token = b.token;
+          value = b.value;
+          rest = b.rest;
+          cut = b.cut;
+          passes = b.passes;
+          behind = record {
+            token = c.token;
+            value = c.value;
+            rest = c.rest;
+            cut = c.cut;
+            passes = c.passes;
+            behind = record {
+              token = d.token;
+              value = d.value;
+              rest = d.rest;
+              cut = d.cut;
+              passes = d.passes;
+              behind = record {
+                token = e.token;
+                value = e.value;
+                rest = e.rest;
+                cut = e.cut;
+                passes = e.passes;
+                behind = record {
+                  front = f.front;
+                  back = f.back;
+                  cut = f.cut;
+                  first = f.first;
+                  second = record { front = g.front; back = g.back; cut = g.cut; first = pairs-to found.1.1.1.0 g.front g.first; second = g.second };
+                };
+              };
+            };
+          };
+        };
+      };
+    }
+
+text-from : (p : WrittenProgram) (tokens : List Kind) → SpellsText p tokens → Made program_in SpellsFound p tokens
+text-from p tokens member =
+    let a = member.second in
+    let b = a.second in
+    let c = b.behind in
+    let d = c.behind in
+    let e = d.behind in
+    let f = e.behind in
+    let g = f.second in (
+      (p.states, (p.globals, (p.locals, (map pair_in p.body, p.answer)))),
+      ap (λ body. record { states = p.states; globals = p.globals; locals = p.locals; body = body; answer = p.answer }) (pairs-are p.body),
+      record {
+        front = member.front;
+        back = member.back;
+        cut = member.cut;
+        first = member.first;
+        second = record {
+          front = a.front;
+          back = a.back;
+          cut = a.cut;
+          first = a.first;
+          second = record {
+            token = b.token;
+            value = b.value;
+            rest = b.rest;
+            cut = b.cut;
+            passes = b.passes;
+            behind = record {
+              token = c.token;
+              value = c.value;
+              rest = c.rest;
+              cut = c.cut;
+              passes = c.passes;
+              behind = record {
+                token = d.token;
+                value = d.value;
+                rest = d.rest;
+                cut = d.cut;
+                passes = d.passes;
+                behind = record {
+                  token = e.token;
+                  value = e.value;
+                  rest = e.rest;
+                  cut = e.cut;
+                  passes = e.passes;
+                  behind = record {
+                    front = f.front;
+                    back = f.back;
+                    cut = f.cut;
+                    first = f.first;
+                    second = record { front = g.front; back = g.back; cut = g.cut; first = pairs-from p.body g.front g.first; second = g.second };
+                  };
+                };
+              };
+            };
+          };
+        };
+      },
+    )
+
+text-reads : (room : ℕ) → Reads class (λ n. mapped program_in
+    (both (loop state_step) (both (loop global_step) (function_rule makes_written n)))) SpellsText text_nesting
+    (record { starts = 0 ∷ 1 ∷ []; empty = false; after = [] }) (Some room)
+text-reads room =
+    made-reads program_in SpellsText text_nesting (found-reads room)
+    (λ found. omega (arith, flat found.0, flat found.1.0, flat found.1.1.0, body-depth found.1.1.1.0)) text-to text-from
+
+-- the program that is written in a text
+abbrev pub written_rule : ℕ → Rule Kind WrittenProgram
+written_rule n = mapped written_of (text_rule makes_written n)
+
+written-reads : (room : ℕ) → Reads class written_rule SpellsText text_nesting (record { starts = 0 ∷ 1 ∷ []; empty = false; after = [] }) (Some room)
+written-reads room =
+    same-reads written_rule (text-reads room)
+    (λ n tokens. mapped-mapped parts_of written_of (both (loop state_step) (both (loop global_step) (function_rule makes_written n)) tokens))
+
+-- THE THEOREM: the reading function is exact over whole lists of kinds
+pub text-exact : (room : ℕ) (tokens : List Kind) → Exactly IsText room tokens (whole (written_rule room) tokens)
+text-exact = exact-reads written-reads
+
+-- what loops in code want to know
+pub state-advances : Advances state_step
+state-advances = Advances-step (state-steps {room = Some 0}) refl
+
+pub global-advances : Advances global_step
+global-advances = Advances-step (global-steps (Some 0)) refl
+
+pub local-advances : Advances local_step
+local-advances = Advances-step (local-steps {room = Some 0}) refl
+
+pub assign-advances : (room : ℕ) → Advances (assign_step makes_written room)
+assign-advances room = Advances-step (assign-steps room) refl

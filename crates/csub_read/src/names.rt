@@ -1,0 +1,210 @@
+// The rules on names.
+
+ghost use Rattle.std.specs.Prelude.{◌≡◌, ◌++◌, ◌&&◌, ℕ, List, [], map, flat_map, find, not, None, IfOk, IfErr, OnOk};
+ghost use Rattle.std.specs.HashSet.{contains_by};
+ghost use Rattle.est_base.specs.Names.{is_same_name};
+ghost use Rattle.csub_text.specs.Names.{Taken, declared, names_in, uses, unset, is_among, first_again, used_name};
+ghost use Rattle.csub_text.specs.Names.{name_fault};
+ghost use Rattle.csub_text.specs.Views.{expr_of, program_of};
+ghost use Rattle.csub_read.specs.NameTests.{names_at, use_of, wrong_use, NamesFault, AgainFault, UseFault, UnsetFault};
+
+use crate::refusal::CError;
+use crate::signs::begins_input;
+use csub_text::{CProgram, Expr};
+use est_base::{NoMemory, Text};
+use std::alloc::Global;
+use std::collections::HashSet;
+
+// A name that is assigned, or one that is read.
+#[derive(Clone, Copy, Debug)]
+pub enum Use<'a> {
+    Assigned(&'a [u8]),
+    Taken(&'a [u8]),
+}
+
+// That a program keeps the rules on names.
+pub fn check_names(alloc: Global, program: &CProgram) -> Result<(), CError>
+    ensures fit { OnOk result (name_fault (program_of program.now) ≡ None) }
+    ensures fault { IfErr result (NamesFault (program_of program.now)) }
+{
+    let declared = declared_names(alloc, program)?;
+    let known = name_set(alloc, &declared)?;
+    check_uses(alloc, &known, &uses(alloc, program)?)?;
+    check_reads(alloc, program)
+}
+
+// The names that a program declares, in the order of the text.
+pub fn declared_names<'a>(alloc: Global, program: &'a CProgram) -> Result<Vec<&'a [u8]>, NoMemory>
+    ensures { IfOk result (λ v. map (λ w. w.now) v.items ≡ declared (program_of program.now)) }
+{
+    let mut names = Vec::new(alloc);
+    for state in &program.states {
+        names.push(state.name.bytes())?;
+    }
+    for name in &program.globals {
+        names.push(name.bytes())?;
+    }
+    for name in &program.locals {
+        names.push(name.bytes())?;
+    }
+    Ok(names)
+}
+
+// The set of some names, where none stands twice.
+fn name_set<'a>(alloc: Global, names: &[&'a [u8]]) -> Result<HashSet<&'a [u8]>, CError>
+    ensures once { OnOk result (first_again [] (map (λ w. w.now) names.now) ≡ None) }
+    ensures members { IfOk result
+        (λ set. (name : List ℕ) → contains_by (λ k. is_same_name name k.now) set
+        ≡ is_among name (map (λ w. w.now) names.now)) }
+    ensures fault { IfErr result (AgainFault (map (λ w. w.now) names.now)) }
+{
+    let mut set = HashSet::new(alloc);
+    for name in names {
+        if !set.insert(*name)? {
+            return Err(CError::Twice(Text::from_bytes(alloc, name)?));
+        }
+    }
+    Ok(set)
+}
+
+// That each name that is used is one of these, and no input is assigned.
+fn check_uses(alloc: Global, known: &HashSet<&[u8]>, uses: &[Use<'_>]) -> Result<(), CError>
+    ensures all { OnOk result
+        (find (wrong_use (λ name. contains_by (λ k. is_same_name name k.now) known.now)) (map use_of uses.now) ≡ None) }
+    ensures fault { IfErr result
+        (UseFault (wrong_use (λ name. contains_by (λ k. is_same_name name k.now) known.now)) (map use_of uses.now)) }
+{
+    for place in uses {
+        if is_wrong(known, *place) {
+            return Err(CError::Undeclared(Text::from_bytes(alloc, used_name(*place))?));
+        }
+    }
+    Ok(())
+}
+
+// Whether a name is none of these, or an input that is assigned.
+fn is_wrong(known: &HashSet<&[u8]>, place: Use<'_>) -> bool
+    ensures { result ≡ wrong_use (λ name. contains_by (λ k. is_same_name name k.now) known.now) (use_of place.entry) }
+{
+    match place {
+        Use::Assigned(name) => begins_input(name) || !known.contains(name),
+        Use::Taken(name) => !known.contains(name),
+    }
+}
+
+fn used_name<'a>(place: Use<'a>) -> &'a [u8]
+    ensures { result.now ≡ used_name (use_of place.entry) }
+{
+    match place {
+        Use::Assigned(name) => name,
+        Use::Taken(name) => name,
+    }
+}
+
+// The uses of names in a program, in the order of the text.
+fn uses<'a>(alloc: Global, program: &'a CProgram) -> Result<Vec<Use<'a>>, NoMemory>
+    ensures { IfOk result (λ v. map use_of v.items ≡ uses (program_of program.now)) }
+{
+    let mut uses = Vec::new(alloc);
+    for assign in &program.body {
+        uses.push(Use::Assigned(assign.to.bytes()))?;
+        push_taken(alloc, &mut uses, &assign.value)?;
+    }
+    push_taken(alloc, &mut uses, &program.answer)?;
+    Ok(uses)
+}
+
+// The names in an expression are read.
+fn push_taken<'a>(alloc: Global, uses: &mut Vec<Use<'a>>, value: &'a Expr) -> Result<(), NoMemory>
+    ensures { OnOk result (map use_of uses.new.items
+        ≡ map use_of uses.old.items ++ map Taken (names_in (expr_of value.now))) }
+{
+    let names = names_in(alloc, value)?;
+    for name in &names {
+        uses.push(Use::Taken(*name))?;
+    }
+    Ok(())
+}
+
+// The names in an expression, from the left.
+#[tactic(auto, using(crate::proofs::Rows::names_told))]
+fn names_in<'a>(alloc: Global, value: &'a Expr) -> Result<Vec<&'a [u8]>, NoMemory>
+    ensures { IfOk result (λ v. map (λ w. w.now) v.items ≡ names_in (expr_of value.now)) }
+{
+    let mut names = Vec::new(alloc);
+    put_names(value, &mut names)?;
+    Ok(names)
+}
+
+#[cycle(names)]
+#[tactic(auto, using(crate::proofs::Rows::name_rows))]
+fn put_names<'a>(value: &'a Expr, names: &mut Vec<&'a [u8]>) -> Result<(), NoMemory>
+    ensures { OnOk result (map (λ w. w.now) names.new.items ≡ map (λ w. w.now) names.old.items ++ names_at value.now) }
+{
+    match value {
+        Expr::Name(name) => Ok(names.push(name.bytes())?),
+        Expr::Const(_) => Ok(()),
+        Expr::Not(part) => put_names(part, names),
+        Expr::And(parts) => put_all_names(parts.as_slice(), names),
+        Expr::Or(parts) => put_all_names(parts.as_slice(), names),
+    }
+}
+
+#[cycle(names)]
+fn put_all_names<'a>(parts: &'a [Expr], names: &mut Vec<&'a [u8]>) -> Result<(), NoMemory>
+    ensures { OnOk result
+        (map (λ w. w.now) names.new.items ≡ map (λ w. w.now) names.old.items ++ flat_map names_at parts.now) }
+{
+    for part in parts {
+        put_names(part, names)?;
+    }
+    Ok(())
+}
+
+// That no local is read before it is assigned.
+fn check_reads(alloc: Global, program: &CProgram) -> Result<(), CError>
+    ensures all { OnOk result (unset (program_of program.now) ≡ None) }
+    ensures fault { IfErr result (UnsetFault (unset (program_of program.now))) }
+{
+    let locals = local_set(alloc, &program.locals)?;
+    let mut assigned = HashSet::new(alloc);
+    for assign in &program.body {
+        check_set(alloc, &locals, &assigned, &assign.value)?;
+        assigned.insert(assign.to.bytes())?;
+    }
+    check_set(alloc, &locals, &assigned, &program.answer)
+}
+
+fn local_set<'a>(alloc: Global, locals: &'a [Text]) -> Result<HashSet<&'a [u8]>, NoMemory>
+    ensures { IfOk result
+        (λ set. (name : List ℕ) → contains_by (λ k. is_same_name name k.now) set ≡ is_among name locals.now) }
+{
+    let mut set = HashSet::new(alloc);
+    for name in locals {
+        set.insert(name.bytes())?;
+    }
+    Ok(set)
+}
+
+// That an expression reads no local but those that are assigned.
+fn check_set(
+    alloc: Global,
+    locals: &HashSet<&[u8]>,
+    assigned: &HashSet<&[u8]>,
+    value: &Expr,
+) -> Result<(), CError>
+    ensures all { OnOk result
+        (find (λ name. contains_by (λ k. is_same_name name k.now) locals.now
+        && not (contains_by (λ k. is_same_name name k.now) assigned.now)) (names_in (expr_of value.now)) ≡ None) }
+    ensures fault { IfErr result
+        (UnsetFault (find (λ name. contains_by (λ k. is_same_name name k.now) locals.now
+        && not (contains_by (λ k. is_same_name name k.now) assigned.now)) (names_in (expr_of value.now)))) }
+{
+    let names = names_in(alloc, value)?;
+    for name in &names {
+        if locals.contains(*name) && !assigned.contains(*name) {
+            return Err(CError::Unset(Text::from_bytes(alloc, name)?));
+        }
+    }
+    Ok(())
+}

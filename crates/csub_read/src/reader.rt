@@ -1,0 +1,89 @@
+// From a text to the program that it describes.
+
+ghost use Rattle.std.specs.Prelude.{◌≡◌, ◌-◌, ◌≤◌, length, drop, map, None, IfOk, IfErr};
+ghost use Rattle.csub_text.specs.Names.{name_fault};
+ghost use Rattle.csub_text.specs.Texts.{nesting_limit};
+ghost use Rattle.csub_text.specs.Tokens.{kinds};
+ghost use Rattle.csub_text.specs.Views.{program_of};
+ghost use Rattle.csub_read.specs.Faults.{ReadsAs, ReadsFault, place_of};
+ghost use Rattle.csub_read.specs.Reading.{GivesKinds, parts_in, makes_expr, text_rule};
+ghost use Rattle.csub_read.specs.Steps.{SyntaxFault, Spells};
+ghost use Rattle.csub_read.specs.Tokens.{kind_in, token_of};
+ghost use Rattle.read_rules.specs.Readings.{whole};
+
+use crate::lexer::lex;
+use crate::names::check_names;
+use crate::refusal::CError;
+use crate::text::read_text;
+use crate::tokens::Token;
+use csub_text::CProgram;
+use est_base::Limits;
+use read_rules::{Fault, ReadError, ended};
+use std::alloc::Global;
+
+// How many `!` and `(` may stand one in another.
+const NESTING: u32 = 200;
+
+/// The program that a text of the C subset describes, or its first fault: a text that is too long, else the
+/// first token that no text of the subset passes, else the first name that is declared a second time, else the
+/// first name that is used and not declared or is an input and assigned, else the first local that is read
+/// before it is assigned. Left of `=` stands before right of it.
+///
+/// The time and the memory that it takes are linear in the length of the text, and it recurses only as deep as
+/// brackets and `!` stand one in another.
+pub fn read_c(alloc: Global, text: &[u8]) -> Result<CProgram, CError>
+    ensures reads { IfOk result (λ p. ReadsAs text.now (program_of p)) }
+    ensures keeps_names { IfOk result (λ p. name_fault (program_of p) ≡ None) }
+    ensures refuses { IfErr result (ReadsFault text.now) }
+{
+    if Limits::TEXT_BYTES < text.len() as u64 {
+        return Err(CError::TooLong);
+    }
+    let program = read_tokens(alloc, text)?;
+    check_names(alloc, &program)?;
+    Ok(program)
+}
+
+// The program that the tokens of a text spell.
+fn read_tokens(alloc: Global, text: &[u8]) -> Result<CProgram, CError>
+    requires { length text.now ≤ Limits.TEXT_BYTES }
+    ensures spells { IfOk result (λ p. Spells text.now (program_of p)) }
+    ensures fault { IfErr result (SyntaxFault text.now) }
+{
+    let tokens = lex(alloc, text)?;
+    match read_whole(alloc, tokens.as_slice(), NESTING) {
+        Ok(program) => Ok(program),
+        Err(ReadError::Fault(fault)) => Err(CError::Syntax(place_at(
+            text,
+            tokens.as_slice(),
+            fault,
+        ))),
+        Err(ReadError::NoMemory) => Err(CError::NoMemory),
+    }
+}
+
+// The program that the tokens spell, with nothing behind it.
+fn read_whole(alloc: Global, tokens: &[Token<'_>], room: u32) -> Result<CProgram, ReadError>
+    ensures { GivesKinds parts_in result (whole (text_rule makes_expr room) (map kind_in tokens.now)) }
+{
+    let (program, rest) = read_text(alloc, tokens, room)?;
+    Ok(ended(program, rest)?)
+}
+
+// The place in the text where a fault stands.
+fn place_at(text: &[u8], tokens: &[Token<'_>], fault: Fault) -> u32
+    requires short { length text.now ≤ Limits.TEXT_BYTES }
+    requires within { fault.left ≤ length tokens.now }
+    ensures { result
+        ≡ place_of (length text.now) (drop (length tokens.now - fault.left) (map token_of tokens.now)) }
+{
+    let first = tokens.len() - fault.left;
+    if first < tokens.len() {
+        tokens[first].at
+    } else {
+        text.len() as u32
+    }
+}
+
+#[cfg(test)]
+mod tests;

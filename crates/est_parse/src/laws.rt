@@ -1,0 +1,17 @@
+// The laws of the one spelling of a tree. Each call does nothing: its contract is the law.
+
+ghost use Rattle.est_parse.specs.Laws.{SpellingsAreGrammatical, SpellingsAreRead, TreesAreSpellable};
+
+/// Each tree that the grammar can have, whatever its places, has one spelling: the kinds of its tokens without optional
+/// words, without an optional `;`, with `end module`, and with `repeat` for both spellings of that statement. To tokens
+/// of these kinds the grammar gives this tree, but for its places; and it gives no tokens to any other tree.
+pub fn spellings_are_grammatical()
+    ensures spelled { SpellingsAreGrammatical }
+    ensures all { TreesAreSpellable }
+{}
+
+/// To tokens of these kinds `parse` answers the tree, but for its places, where that is nested at most 200 deep, unless
+/// memory runs out.
+pub fn spellings_are_read()
+    ensures { SpellingsAreRead }
+{}
