@@ -38,6 +38,7 @@ use Rattle.net_gen.specs.Generated.{HasInterfaceOf, FollowsInstants, FollowsRuns
 use Rattle.net_ir.specs.declared.netlist.Net.{Net}
 use Rattle.net_ir.specs.Gates.{carried}
 use Rattle.net_ir.specs.Runs.{netlist_of}
+use Rattle.net_simp.specs.SameRuns.{SameParts, SameInstants, SameRuns}
 use Rattle.cec_front.specs.Sources.{StandsFor}
 use Rattle.cec_core.specs.declared.compiler.Compiled.{Compiled}
 use Rattle.cec_core.specs.declared.compiler.Graphed.{Graphed}
@@ -46,6 +47,7 @@ use Rattle.cec_core.specs.Compiling.{IsGraphed, IsCompiled, StandsForGraph, Stan
 use Rattle.cec_core.specs.Limits.{copying_refusal}
 use Rattle.cec_core.specs.Refusals.{Compiles, HasNoText}
 use Rattle.cec_core.proofs.GraphFacts.{acyclic, reading_order}
+use Rattle.cec_core.proofs.Simplified.{interface_stays, instants_stay, runs_stay}
 use Rattle.cec_core.proofs.WireWords.{order_carried, names_wires}
 use Rattle.cec_core.specs.Meaning.{NamesWires}
 use Rattle.cec_core.proofs.Keeping.{net_keeps, text_keeps, c_text_keeps}
@@ -77,6 +79,9 @@ copy_refused p copy_faults.NoMemory h = tt
 
 -- ---- nets and texts
 
+given-few : (p : Program) → programs.IsWellFormed p → given_count p ≤ length p.signals
+given-few p h = omega (arith, h.interface)
+
 pub net_stands : (text : List ℕ) (main : Option (List ℕ)) (g : Graphed) (order : Order) (net : Net) → StandsForGraph text main g
     → IsWireOrder g.edges.count g.edges.pairs.items order.list.items
     → HasInterfaceOf g.graph (netlist_of net) → carried net.gates.items ≡ map (λ v. v.0) order.list.items
@@ -106,8 +111,22 @@ net_stands text main g order net s along interface carries size instants runs =
       };
     }
 
-given-few : (p : Program) → programs.IsWellFormed p → given_count p ≤ length p.signals
-given-few p h = omega (arith, h.interface)
+-- a netlist and what a simplifier makes of it
+pub simplified_stands : (text : List ℕ) (main : Option (List ℕ)) (g : Graphed) (order : Order) (net new : Net) → StandsForGraph text main g
+    → IsWireOrder g.edges.count g.edges.pairs.items order.list.items
+    → HasInterfaceOf g.graph (netlist_of net) → carried net.gates.items ≡ map (λ v. v.0) order.list.items
+    → length net.gates.items ≤ gates_at_most g.graph (rows_at_most g.graph) order.list.items
+    → FollowsInstants g.graph (netlist_of net) → FollowsRuns g.graph (netlist_of net)
+    → SameParts (netlist_of net) (netlist_of new) → SameInstants (netlist_of net) (netlist_of new) → SameRuns (netlist_of net) (netlist_of new)
+    → StandsForNet text main (record { graph = g.graph; tree = g.tree; order = order; net = new })
+simplified_stands text main g order net new s along interface carries size instants runs parts same alike =
+    let few = subst (λ q. given_count q ≤ length q.signals) (sym s.graphed.graph.program) (given-few s.program s.graphed.formed) in
+    net_stands text main g order new s along
+    (interface_stays g.graph (netlist_of net) (netlist_of new) parts interface)
+    (parts.carries ∙ carries)
+    (omega (arith, parts.fewer, size))
+    (instants_stay g.graph (netlist_of net) (netlist_of new) few interface parts same instants)
+    (runs_stay g.graph (netlist_of net) (netlist_of new) few interface parts alike runs)
 
 -- the text of a compiled program names its wires
 net_wires : (c : Compiled) (p : Program) → IsCompiled c p → (written : List ℕ) → (means : Means written (netlist_of c.net)) → NamesWires means.circuit p

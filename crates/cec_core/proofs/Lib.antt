@@ -5,5 +5,6 @@ pub mod TwoFiles
 pub mod RunLines
 pub mod DrawnRuns
 pub mod WireWords
+pub mod Simplified
 pub mod Joined
 pub mod Unrefused

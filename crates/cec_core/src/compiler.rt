@@ -23,6 +23,7 @@ use grc_order::{Picker, order};
 use grc_select::select;
 use net_gen::generate;
 use net_ir::Net;
+use net_simp::simplify;
 use std::alloc::Global;
 
 /// The graph of a program, its selection tree, its dependency edges, and ranks that grow along them.
@@ -35,7 +36,7 @@ pub struct Graphed {
 }
 
 /// A compiled program: its graph, which has the kernel program and the live instances, its selection tree, an
-/// evaluation order of its wires, and its netlist.
+/// evaluation order of its wires, and its simplified netlist.
 #[derive(Debug, Drop)]
 pub struct Compiled {
     pub graph: Graph,
@@ -87,7 +88,7 @@ pub fn c_of<P: Picker>(
     Ok(written)
 }
 
-/// A source compiled: its graph, an evaluation order, and its netlist.
+/// A source compiled: its graph, an evaluation order, and its simplified netlist. The errors are those of `blif_of`.
 pub fn compile<P: Picker>(
     alloc: Global,
     text: &[u8],
@@ -105,7 +106,8 @@ pub fn compile<P: Picker>(
         ranks,
     } = source_graph(alloc, text, main)?;
     let order = order(alloc, &edges, &ranks, picker)?;
-    let net = generate(alloc, &graph, &tree, &order)?;
+    let drawn = generate(alloc, &graph, &tree, &order)?;
+    let net = simplify(alloc, &drawn)?;
     Ok(Compiled {
         graph,
         tree,

@@ -1,6 +1,6 @@
 use Rattle.est_kernel.specs.Plain.{program_of}
 use Rattle.grc_graph.proofs.BuiltReads.{next_each}
-use Rattle.cec_core.proofs.Joined.{own_graph, graph_order, net_stands}
+use Rattle.cec_core.proofs.Joined.{own_graph, graph_order, simplified_stands}
 use Rattle.cec_core.proofs.compiler.compile.Goals as goal
 
 pub generate-requires-clause-leaves : goal.generate-requires-clause-leaves
@@ -16,6 +16,7 @@ generate-requires-clause-order g c =
 
 pub returns-clause-compiles : goal.returns-clause-compiles
 returns-clause-compiles g c =
-    let e = c.in_ok-net.ensures in
-    net_stands _ _ c.in_ok-graph.field-0 c.in_ok-order.order c.in_ok-net.net c.in_ok-graph.ensures.compiles c.in_ok-order.ensures e.interface e.order e.size
-    e.instants e.runs
+    let e = c.in_ok-drawn.ensures in
+    let f = c.in_ok-net.ensures in
+    simplified_stands _ _ c.in_ok-graph.field-0 c.in_ok-order.order c.in_ok-drawn.drawn c.in_ok-net.net c.in_ok-graph.ensures.compiles c.in_ok-order.ensures
+    e.interface e.order e.size e.instants e.runs f.parts f.instants f.runs
