@@ -17,7 +17,7 @@ pub use blif_runner::{BlifRunner, run_blif};
 pub use executing::{ExecFault, TextFault, exec_blif};
 pub use laws::{events_fit, nets_are_run, runs_are_written};
 pub use machine::Runner;
-pub use net_runs::run_written;
+pub use net_runs::{net_interface, run_written};
 pub use running::{Interface, RunFault, run_trace};
 
 #[cfg(test)]

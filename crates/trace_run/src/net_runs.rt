@@ -12,13 +12,41 @@ ghost use Rattle.trace_run.specs.Running.{RunsTrace};
 ghost use Rattle.trace_run.specs.Insides.{IsCircuitOf};
 ghost use Rattle.trace_run.specs.NetRuns.{ShowsNet};
 
-use crate::blif_runner::BlifRunner;
+use crate::blif_runner::{BlifRunner, copied_names};
 use crate::running::{Interface, RunFault, run_trace};
 use blif_run::RunError;
 use blif_text::{Blif, BlifError, read_blif};
-use est_base::{Limits, NoMemory, Sink};
-use net_ir::{Gate, Net};
+use est_base::{InputRelation, Limits, NoMemory, Sink, Text};
+use net_ir::{Gate, Net, NetOut};
 use std::alloc::Global;
+
+/// The interface of a net: the names of its inputs and outputs, with these relations of its inputs.
+pub fn net_interface(
+    alloc: Global,
+    net: &Net,
+    relations: Vec<InputRelation>,
+) -> Result<Interface, NoMemory>
+    ensures given { IfOk result (λ i. i.given.items ≡ net.now.inputs.items) }
+    ensures outgoing { IfOk result (λ i. i.outgoing.items ≡ map (λ o. o.name) net.now.outputs.items) }
+    ensures relations { IfOk result (λ i. i.relations.items ≡ relations.items) }
+{
+    Ok(Interface {
+        given: copied_names(alloc, &net.inputs)?,
+        outgoing: output_names(alloc, &net.outputs)?,
+        relations,
+    })
+}
+
+// The names of outputs, copied.
+fn output_names(alloc: Global, outputs: &[NetOut]) -> Result<Vec<Text>, NoMemory>
+    ensures { IfOk result (λ names. names.items ≡ map (λ o. o.name) outputs.now) }
+{
+    let mut names = Vec::with_capacity(alloc, outputs.len())?;
+    for output in outputs {
+        names.push(Text::from_bytes(alloc, output.name.bytes())?)?;
+    }
+    Ok(names)
+}
 
 /// Reads the BLIF text that was written of a net, and runs it over a trace, with these names in its lines. What is
 /// written is what the net shows.
