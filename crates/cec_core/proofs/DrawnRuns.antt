@@ -1,5 +1,6 @@
 -- Runs over drawn events, and what is counted of them.
-use Rattle.std.proofs.Common.{◌≡◌, ℕ, zero, suc, ◌+◌, ◌*◌, ◌<◌, ◌≤◌, Bool, true, false, if◌then◌else◌, List, [], ◌∷◌, ◌++◌, length, map, Option, Some, None, refl, sym, ap, ap₂, ◌∙◌, subst, arith}
+use Rattle.std.proofs.Common.{◌≡◌, ℕ, zero, suc, ◌+◌, ◌*◌, ◌<◌, ◌≤◌, Bool, true, false, if◌then◌else◌, List, [], ◌∷◌, ◌++◌, length, map, Option, Some, None}
+use Rattle.std.proofs.Common.{refl, sym, ap, ap₂, ◌∙◌, subst, arith}
 use Rattle.std.specs.Prelude.{◌==◌, count_by, codes, decimal}
 use Rattle.std.proofs.lemmas.List.{length-take}
 use Rattle.est_base.specs.Items.{Item, Event, Reset}
@@ -47,7 +48,8 @@ pause-append (a ∷ xs) bs =
     omega (arith, rest)
 
 -- a run over the first drawn events
-pub record DrawnSoFar {S : Type 0} (reacts : S → List Bool → Answer → S → Type 0) (resets : S → S → Type 0) (old new : S) (x y n emitted paused : ℕ) : Type 0 where
+pub record DrawnSoFar {S : Type 0} (reacts : S → List Bool → Answer → S → Type 0) (resets : S → S → Type 0) (old new : S)
+    (x y n emitted paused : ℕ) : Type 0 where
   pub answers : List Answer
   pub drives : Drives reacts resets old (drawn_items n x) answers new
   pub state : y ≡ drawn_state n x

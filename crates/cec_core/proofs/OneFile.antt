@@ -1,5 +1,6 @@
 -- What the answers of the steps say of the whole call.
-use Rattle.std.proofs.Common.{◌≡◌, ℕ, ◌+◌, ◌<◌, ◌≤◌, ◌⊎◌, List, [], ◌++◌, length, Option, None, Some, Result, Ok, Err, Vec, inl, inr, refl, sym, ap, subst, arith}
+use Rattle.std.proofs.Common.{◌≡◌, ℕ, ◌+◌, ◌<◌, ◌≤◌, ◌⊎◌, List, [], ◌++◌, length, Option, None, Some, Result, Ok, Err, Vec, inl, inr, refl, sym, ap, subst}
+use Rattle.std.proofs.Common.{arith}
 use Rattle.std.proofs.Common.{◌∙◌}
 use Rattle.std.proofs.lemmas.List.{length-replicate}
 use Rattle.std.specs.Prelude.{⊤, codes, replicate, unwrap_or}
@@ -144,7 +145,8 @@ held_told None name = tt
 held_told (Some held) name = refl
 
 -- the line speaks of the file's name alone
-same_line : (fault : FileFault) (x y : Subject) → x.name ≡ y.name → line_of x (unread_outcome First limits.Source fault) ≡ line_of y (unread_outcome First limits.Source fault)
+same_line : (fault : FileFault) (x y : Subject) → x.name ≡ y.name →
+    line_of x (unread_outcome First limits.Source fault) ≡ line_of y (unread_outcome First limits.Source fault)
 same_line reading.Failed x y e = ap (λ name. codes "cec: " ++ ((codes "cannot read " ++ name) ++ codes "\n")) e
 same_line reading.TooLong x y e = refl
 same_line reading.NoMemory x y e = refl
@@ -153,10 +155,12 @@ same_line reading.NoMemory x y e = refl
 abbrev unread_subject : Content → Job → List ℕ → Subject
 unread_subject content job trace = record { name = job.name; trace = trace; main = unwrap_or job.main []; source = held_by content job.name }
 
-pub err_unread : (request : Request) (content : Content) (job : Job) (trace : List ℕ) (fault : FileFault) (x : Subject) (old new : Option (List ℕ)) (before now : ℕ)
+pub err_unread : (request : Request) (content : Content) (job : Job) (trace : List ℕ) (fault : FileFault) (x : Subject) (old new : Option (List ℕ))
+    (before now : ℕ)
     → ((y : Subject) → IsSourceSubject job content y → y.trace ≡ trace → IsSubjectOf (Some request) content y)
     → x.name ≡ job.name
-    → Appends old new before now (line_of x (unread_outcome First limits.Source fault)) ⊎ Stops old new before now (line_of x (unread_outcome First limits.Source fault))
+    → Appends old new before now (line_of x (unread_outcome First limits.Source fault))
+    ⊎ Stops old new before now (line_of x (unread_outcome First limits.Source fault))
     → GainsErr (Some request) content (unread_outcome First limits.Source fault) old new before now
 err_unread request content job trace fault x old new before now is name gains =
     let y = unread_subject content job trace in

@@ -124,7 +124,8 @@ exec_trace_unread bytes reading.Failed is = is
 exec_trace_unread bytes reading.TooLong is = is
 exec_trace_unread bytes reading.NoMemory is = tt
 
-pub run_trace_unread : (job : Job) (bytes : List ℕ) (fault : FileFault) → IsSource job.main bytes → RunsOn job.main (unread_outcome Second limits.Trace fault) bytes
+pub run_trace_unread : (job : Job) (bytes : List ℕ) (fault : FileFault) → IsSource job.main bytes →
+    RunsOn job.main (unread_outcome Second limits.Trace fault) bytes
 run_trace_unread job bytes reading.Failed is = is
 run_trace_unread job bytes reading.TooLong is = is
 run_trace_unread job bytes reading.NoMemory is = tt

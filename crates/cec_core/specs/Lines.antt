@@ -1,5 +1,6 @@
 -- To believe: the line that is written about an outcome.
-use Rattle.std.specs.Prelude.{◌≡◌, ℕ, ◌⊎◌, ⊤, List, [], ◌∷◌, ◌++◌, flat_map, Option, Some, None, codes, decimal, map, unwrap_or}
+use Rattle.std.specs.Prelude.{◌≡◌, ℕ, ◌⊎◌, ⊤, List, [], ◌∷◌, ◌++◌, flat_map, Option, Some, None, codes, decimal, map}
+use Rattle.std.specs.Prelude.{unwrap_or}
 use Rattle.est_base.specs.Writing.{Appends, Stops}
 use Rattle.est_gen.specs.Sources.{source_text}
 use Rattle.grc_graph.specs.PlainWireNames.{wire_name_of}
@@ -9,7 +10,8 @@ use Rattle.trace_run.specs.declared.executing.TextFault.{TextFault}
 use Rattle.trace_run.specs.declared.executing.TextFault.TheVariants as texts
 use Rattle.cec_front.specs.Lines.{fault_text}
 use Rattle.cec_core.specs.declared.outcome.Outcome.{Outcome}
-use Rattle.cec_core.specs.declared.outcome.Outcome.TheVariants.{Done, Usage, FileFault, Static, Cyclic, Trace, BadText, Limit, WriteFault, NoMemory}
+use Rattle.cec_core.specs.declared.outcome.Outcome.TheVariants.{Done, Usage, FileFault, Static, Cyclic, Trace, BadText}
+use Rattle.cec_core.specs.declared.outcome.Outcome.TheVariants.{Limit, WriteFault, NoMemory}
 use Rattle.cec_core.specs.declared.outcome.Which.{Which}
 use Rattle.cec_core.specs.declared.outcome.Which.TheVariants.{First, Second}
 use Rattle.cec_core.specs.declared.refusal.Limit as bounds
@@ -83,10 +85,12 @@ abbrev pub line_of : Subject → Outcome → List ℕ
 line_of x Done = []
 line_of x others = codes "cec: " ++ (said_of x others ++ codes "\n")
 
--- the subject of a command on a source: where no main module is named, no line names one; the source is the one that the
+-- the subject of a command on a source: where no main module is named, no line names one; the source is the one that
+-- the
 -- file holds
 abbrev pub IsSourceSubject : Job → Content → Subject → Type 0
-IsSourceSubject job content x = (x.name ≡ job.name) × (x.main ≡ unwrap_or job.main []) × IsHeld content job.name x.source
+IsSourceSubject job content x = (x.name ≡ job.name) × (x.main ≡ unwrap_or job.main [])
+    × IsHeld content job.name x.source
 
 abbrev pub IsSubjectOf : Option Request → Content → Subject → Type 0
 IsSubjectOf (Some (Make job)) content x = IsSourceSubject job content x
@@ -96,7 +100,8 @@ IsSubjectOf (Some (Load start branches instants)) content x = (x.main ≡ []) ×
 IsSubjectOf others content x = ⊤
 
 -- What `err` gained: the whole line, or a prefix of it where its count of faults rose.
-pub record GainsErr (asked : Option Request) (content : Content) (outcome : Outcome) (old new : Option (List ℕ)) (before now : ℕ) : Type 0 where
+pub record GainsErr (asked : Option Request) (content : Content) (outcome : Outcome) (old new : Option (List ℕ))
+    (before now : ℕ) : Type 0 where
   pub subject : Subject
   pub is_subject : IsSubjectOf asked content subject
   pub gains : Appends old new before now (line_of subject outcome) ⊎ Stops old new before now (line_of subject outcome)

@@ -32,8 +32,10 @@ pub record CountsOf (answers : List Answer) (c : Counts) : Type 0 where
   pub paused : c.paused ≡ pause_count answers
 
 -- the counts are those of what a machine answers to items, from one state to another
-abbrev pub CountsMachine : {S : Type 0} → (S → List Bool → Answer → S → Type 0) → (S → S → Type 0) → S → S → List Item → Counts → Type 0
-CountsMachine reacts resets old new items c = (answers : List Answer) × Drives reacts resets old items answers new × CountsOf answers c
+abbrev pub CountsMachine : {S : Type 0} → (S → List Bool → Answer → S → Type 0) → (S → S → Type 0) → S → S → List Item →
+    Counts → Type 0
+CountsMachine reacts resets old new items c = (answers : List Answer) × Drives reacts resets old items answers new
+    × CountsOf answers c
 
 -- the counts are those of what a net shows over items
 abbrev pub CountsNet : Netlist → List Item → Counts → Type 0
@@ -47,4 +49,5 @@ drawn_state (suc n) x = drawn_state n (state_after 8 x)
 -- the three lines, by their numbers
 abbrev pub counted_text : ℕ → ℕ → ℕ → List ℕ
 counted_text instants emitted paused =
-    concat (codes "instants " ∷ decimal instants ∷ codes "\nemitted " ∷ decimal emitted ∷ codes "\npaused " ∷ decimal paused ∷ codes "\n" ∷ [])
+    concat (codes "instants " ∷ decimal instants ∷ codes "\nemitted " ∷ decimal emitted ∷ codes "\npaused " ∷
+    decimal paused ∷ codes "\n" ∷ [])

@@ -1,5 +1,6 @@
 -- To believe: the numbers of a generated source's run over drawn events.
-use Rattle.std.specs.Prelude.{◌≡◌, ℕ, zero, suc, ◌+◌, ◌*◌, ◌==◌, Bool, if◌then◌else◌, List, [], ◌∷◌, Some, None, codes, decimal, count_by}
+use Rattle.std.specs.Prelude.{◌≡◌, ℕ, zero, suc, ◌+◌, ◌*◌, ◌==◌, Bool, if◌then◌else◌, List, [], ◌∷◌, Some, None, codes}
+use Rattle.std.specs.Prelude.{decimal, count_by}
 use Rattle.std.specs.List.{concat}
 use Rattle.est_base.specs.Items.{Item, Event}
 use Rattle.est_gen.specs.Draws.{event_from, first_state, state_after}
@@ -28,8 +29,10 @@ summary_text instants answers =
     concat (codes "instants " ∷ decimal instants ∷ codes "\nemitted " ∷ decimal (emitted_count answers)
     ∷ codes "\npaused " ∷ decimal (paused_count answers) ∷ codes "\n" ∷ [])
 
--- The compiler-correctness theorem for a load: the bytes stand for a program that compiles, the events drawn from a state on
--- are events of the program, its run over them is constructive in each instant, and the text has the numbers of that run.
+-- The compiler-correctness theorem for a load: the bytes stand for a program that compiles, the events drawn from a
+-- state on
+-- are events of the program, its run over them is constructive in each instant, and the text has the numbers of that
+-- run.
 pub record IsSummary (bytes : List ℕ) (state instants : ℕ) (text : List ℕ) : Type 0 where
   pub program : Program
   pub source : StandsFor bytes None program

@@ -10,7 +10,8 @@ use Rattle.std.specs.Prelude.{Ok}
 use Rattle.trace_run.specs.Executing.{IsTextFault, RunsText}
 use Rattle.trace_run.specs.Running.{Sinks}
 use Rattle.cec_core.specs.declared.outcome.Outcome.{Outcome}
-use Rattle.cec_core.specs.declared.outcome.Outcome.TheVariants.{Done, Usage, FileFault, Static, Cyclic, Trace, BadText, Limit, WriteFault, NoMemory}
+use Rattle.cec_core.specs.declared.outcome.Outcome.TheVariants.{Done, Usage, FileFault, Static, Cyclic, Trace, BadText}
+use Rattle.cec_core.specs.declared.outcome.Outcome.TheVariants.{Limit, WriteFault, NoMemory}
 use Rattle.cec_core.specs.declared.outcome.Which.{Which}
 use Rattle.cec_core.specs.declared.outcome.Which.TheVariants.{First, Second}
 use Rattle.cec_core.specs.declared.refusal.Limit.TheVariants as limits
@@ -66,7 +67,8 @@ ExecutesOn others bytes = ⊥
 abbrev pub IsLongTrace : List ℕ → Type 0
 IsLongTrace bytes = TRACE_BYTES < length bytes
 
--- what an outcome says of the file that is read first, where `On` says what it says of its bytes; a file fault says nothing
+-- what an outcome says of the file that is read first, where `On` says what it says of its bytes; a file fault says
+-- nothing
 -- of bytes
 abbrev pub AgreesOnFile : Content → List ℕ → (Outcome → List ℕ → Type 0) → Outcome → Type 0
 AgreesOnFile content name On (FileFault First) = ⊤
@@ -75,7 +77,8 @@ AgreesOnFile content name On others = Holds content name (On others)
 -- the same where a trace is read behind it, which may be too long
 abbrev pub AgreesOnTwo : Content → (name trace : List ℕ) → (Outcome → List ℕ → Type 0) → Outcome → Type 0
 AgreesOnTwo content name trace On (FileFault First) = ⊤
-AgreesOnTwo content name trace On (Limit limits.Trace) = Holds content name (On (Limit limits.Trace)) × Holds content trace IsLongTrace
+AgreesOnTwo content name trace On (Limit limits.Trace) = Holds content name (On (Limit limits.Trace))
+    × Holds content trace IsLongTrace
 AgreesOnTwo content name trace On others = Holds content name (On others)
 
 -- how a command ends that reads no file
@@ -110,7 +113,8 @@ IsFileOf others file name = ⊥
 -- name is the file's; every other outcome leaves both.
 abbrev pub CountsFiles : Option Request → Outcome → ℕ → ℕ → List ℕ → List ℕ → Type 0
 CountsFiles None outcome before now failed_before failed_now = (now ≡ before) × (failed_now ≡ failed_before)
-CountsFiles (Some request) (FileFault file) before now failed_before failed_now = Rose before now × IsFileOf request file failed_now
+CountsFiles (Some request) (FileFault file) before now failed_before failed_now = Rose before now
+    × IsFileOf request file failed_now
 CountsFiles (Some request) others before now failed_before failed_now = (now ≡ before) × (failed_now ≡ failed_before)
 
 -- ---- what `out` gained
@@ -118,7 +122,8 @@ CountsFiles (Some request) others before now failed_before failed_now = (now ≡
 -- the whole text, with no fault; a prefix of it, after a fault; after every other outcome nothing
 abbrev pub LeavesText : (List ℕ → Type 0) → Sinks → Outcome → Type 0
 LeavesText IsText s Done = (text : List ℕ) × IsText text × Appends s.before s.after s.faults_before s.faults_now text
-LeavesText IsText s WriteFault = (text : List ℕ) × IsText text × Stops s.before s.after s.faults_before s.faults_now text
+LeavesText IsText s WriteFault = (text : List ℕ) × IsText text
+    × Stops s.before s.after s.faults_before s.faults_now text
 LeavesText IsText s others = Appends s.before s.after s.faults_before s.faults_now []
 
 -- what a task writes of the source in a file
@@ -131,9 +136,12 @@ GainsOut None content outcome s = Appends s.before s.after s.faults_before s.fau
 GainsOut (Some Help) content outcome s = LeavesText (λ text. text ≡ help_text) s outcome
 GainsOut (Some (Make job)) content outcome s = LeavesText (IsTextOf job content) s outcome
 GainsOut (Some (Run job trace)) content outcome s =
-    LeavesRun (λ result. Holds content job.name (λ bytes. Holds content trace (λ items. RunsSource job.main bytes items s result))) s outcome
+    LeavesRun (λ result. Holds content job.name (λ bytes.
+    Holds content trace (λ items. RunsSource job.main bytes items s result))) s outcome
 GainsOut (Some (Exec text trace)) content outcome s =
-    LeavesRun (λ result. Holds content text (λ bytes. Holds content trace (λ items. RunsText bytes items s result))) s outcome
-GainsOut (Some (Generate start branches)) content outcome s = LeavesText (λ text. text ≡ source_text start branches) s outcome
+    LeavesRun (λ result. Holds content text (λ bytes. Holds content trace (λ items. RunsText bytes items s result))) s
+    outcome
+GainsOut (Some (Generate start branches)) content outcome s =
+    LeavesText (λ text. text ≡ source_text start branches) s outcome
 GainsOut (Some (Load start branches instants)) content outcome s =
     LeavesText (IsSummary (source_text start branches) (state_behind start branches) instants) s outcome

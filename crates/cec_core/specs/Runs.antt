@@ -26,16 +26,19 @@ pub record ShowsRun (p : Program) (items : List Item) (text : List ℕ) : Type 0
   pub constructive : run_of p items ≡ Some answers
   pub lines : text ≡ machines.answer_lines (outgoing_names p) (map line_answer answers)
 
--- The compiler-correctness theorem for `run`: the bytes stand for a program that compiles, and what the trace brings about
+-- The compiler-correctness theorem for `run`: the bytes stand for a program that compiles, and what the trace brings
+-- about
 -- is the lines of the program's run over its items.
-pub record RunsSource (main : Option (List ℕ)) (bytes trace : List ℕ) (s : Sinks) (result : Result (Unit {0}) RunFault) : Type 0 where
+pub record RunsSource (main : Option (List ℕ)) (bytes trace : List ℕ) (s : Sinks)
+    (result : Result (Unit {0}) RunFault) : Type 0 where
   pub program : Program
   pub short : length bytes ≤ SOURCE_BYTES
   pub source : StandsFor bytes main program
   pub compiles : Compiles program
   pub ran : RunsTrace (ShowsRun program) (beginning trace (given_names program) program.relations) s result
 
--- What a run over a trace leaves in `out`, by how it ended, where `Ran` says what is left by each end: the text of all items
+-- What a run over a trace leaves in `out`, by how it ended, where `Ran` says what is left by each end: the text of all
+-- items
 -- of the trace; after its first fault, that of the items before; after a failed write or for want of memory a prefix.
 -- Where nothing was run, `out` is as it was.
 abbrev pub LeavesRun : (Result (Unit {0}) RunFault → Type 0) → Sinks → Outcome → Type 0

@@ -1,4 +1,5 @@
--- Inner: the plain form of what a line may speak of, the outcome where a file is not read, and what a trace's file tells.
+-- Inner: the plain form of what a line may speak of, the outcome where a file is not read, and what a trace's file
+-- tells.
 use Rattle.std.specs.Prelude.{◌≡◌, ℕ, ⊤, List}
 use Rattle.est_base.specs.Faults.{Rose}
 use Rattle.est_base.specs.declared.files.reading.FileFault.{FileFault}
@@ -10,7 +11,8 @@ use Rattle.blif_text.specs.declared.refusal.BlifError.TheVariants as blifs
 use Rattle.trace_run.specs.declared.executing.TextFault.TheVariants as texts
 use Rattle.cec_core.specs.declared.lines.Subject as lines
 use Rattle.cec_core.specs.declared.outcome.Outcome.{Outcome}
-use Rattle.cec_core.specs.declared.outcome.Outcome.TheVariants.{Done, FileFault as Unread, Trace, BadText, Limit, WriteFault, NoMemory}
+use Rattle.cec_core.specs.declared.outcome.Outcome.TheVariants.{Done, FileFault as Unread, Trace, BadText, Limit}
+use Rattle.cec_core.specs.declared.outcome.Outcome.TheVariants.{WriteFault, NoMemory}
 use Rattle.cec_core.specs.declared.outcome.Which.{Which}
 use Rattle.cec_core.specs.declared.outcome.Which.TheVariants.{First, Second}
 use Rattle.cec_core.specs.declared.refusal.Limit as bounds

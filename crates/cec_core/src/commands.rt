@@ -1,4 +1,5 @@
-// The commands, one module each for those that read no file, make a text, run a source, run a text, or run a generated source.
+// The commands, one module each for those that read no file, make a text, run a source, run a text, or run a generated
+// source.
 
 pub(crate) mod exec;
 pub(crate) mod load;

@@ -103,7 +103,8 @@ fn put_loop<E: Sink>(err: &mut E, names: &[Text]) -> Result<(), SinkFault>
 
 // Names, joined by ` -> `.
 fn put_joined<E: Sink>(err: &mut E, names: &[Text]) -> Result<(), SinkFault>
-    ensures { Wrote (E.told err.old) (E.told err.new) (E.faults err.old) (E.faults err.new) (joined_names names.now) result }
+    ensures { Wrote (E.told err.old) (E.told err.new) (E.faults err.old) (E.faults err.new)
+        (joined_names names.now) result }
 {
     let Some((first, others)) = names.split_first() else {
         return Ok(());
@@ -129,7 +130,8 @@ fn put_others<E: Sink>(err: &mut E, names: &[Text]) -> Result<(), SinkFault>
 
 // A name behind ` -> `.
 fn put_other<E: Sink>(err: &mut E, name: &Text) -> Result<(), SinkFault>
-    ensures { Wrote (E.told err.old) (E.told err.new) (E.faults err.old) (E.faults err.new) (codes " -> " ++ name.now) result }
+    ensures { Wrote (E.told err.old) (E.told err.new) (E.faults err.old) (E.faults err.new)
+        (codes " -> " ++ name.now) result }
 {
     write_pieces(err, &[b" -> ", name.bytes()])
 }

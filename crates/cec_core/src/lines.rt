@@ -2,7 +2,7 @@
 
 ghost use Rattle.std.specs.Prelude.{◌≡◌, ◌≤◌, ◌⊎◌, length};
 ghost use Rattle.est_base.specs.Writing.{Appends, Stops, Wrote};
-ghost use Rattle.cec_core.specs.Lines.{limit_word, line_of};
+ghost use Rattle.cec_core.specs.Lines.{file_name, limit_word, line_of};
 ghost use Rattle.cec_core.specs.Subjects.{plain_subject};
 
 use crate::fault_lines::{put_text_fault, put_trace_fault};
@@ -35,8 +35,10 @@ pub(crate) fn subject_of_none() -> Subject<'static>
 /// Writes the line of an outcome; a sink that fails changes nothing.
 pub(crate) fn report<E: Sink>(err: &mut E, subject: Subject<'_>, outcome: &Outcome)
     requires { length subject.source.now ≤ Limits.SOURCE_BYTES }
-    ensures { Appends (E.told err.old) (E.told err.new) (E.faults err.old) (E.faults err.new) (line_of (plain_subject subject.entry) outcome.now)
-        ⊎ Stops (E.told err.old) (E.told err.new) (E.faults err.old) (E.faults err.new) (line_of (plain_subject subject.entry) outcome.now) }
+    ensures { Appends (E.told err.old) (E.told err.new) (E.faults err.old) (E.faults err.new)
+        (line_of (plain_subject subject.entry) outcome.now)
+        ⊎ Stops (E.told err.old) (E.told err.new) (E.faults err.old) (E.faults err.new)
+        (line_of (plain_subject subject.entry) outcome.now) }
 {
     let _ = put_line(err, subject, outcome);
 }
@@ -51,14 +53,10 @@ fn put_line<E: Sink>(err: &mut E, subject: Subject<'_>, outcome: &Outcome) -> Re
     match outcome {
         Outcome::Done => Ok(()),
         Outcome::Usage => write_pieces(err, &[b"cec: ", b"usage, see cec --help", b"\n"]),
-        Outcome::FileFault(Which::First) => write_pieces(
-            err,
-            &[b"cec: ", b"cannot read ", subject.name.as_bytes(), b"\n"],
-        ),
-        Outcome::FileFault(Which::Second) => write_pieces(
-            err,
-            &[b"cec: ", b"cannot read ", subject.trace.as_bytes(), b"\n"],
-        ),
+        Outcome::FileFault(file) => {
+            let name = file_name(subject, *file);
+            write_pieces(err, &[b"cec: ", b"cannot read ", name.as_bytes(), b"\n"])
+        }
         Outcome::Static(fault) => {
             let subject = cec_front::Subject {
                 main: subject.main,
@@ -76,6 +74,16 @@ fn put_line<E: Sink>(err: &mut E, subject: Subject<'_>, outcome: &Outcome) -> Re
         }
         Outcome::WriteFault => write_pieces(err, &[b"cec: ", b"cannot write", b"\n"]),
         Outcome::NoMemory => write_pieces(err, &[b"cec: ", b"out of memory", b"\n"]),
+    }
+}
+
+// The name of a file.
+fn file_name<'a>(subject: Subject<'a>, file: Which) -> &'a str
+    ensures { result.now ≡ file_name (plain_subject subject.entry) file }
+{
+    match file {
+        Which::First => subject.name,
+        Which::Second => subject.trace,
     }
 }
 

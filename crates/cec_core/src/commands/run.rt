@@ -163,7 +163,8 @@ fn run_compiled<O: Sink>(
     requires fits { length text.now ≤ Limits.TEXT_BYTES }
     requires short { length trace.items ≤ Limits.TRACE_BYTES }
     ensures { RunsTrace (ShowsNet (output_names (netlist_of compiled.net)) (netlist_of compiled.net))
-        (beginning trace.items (netlist_of compiled.net).inputs (map relation_of compiled.graph.program.relations.items))
+        (beginning trace.items (netlist_of compiled.net).inputs
+        (map relation_of compiled.graph.program.relations.items))
         (record {
           before = O.told out.old;
           after = O.told out.new;

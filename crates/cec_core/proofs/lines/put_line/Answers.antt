@@ -3,14 +3,9 @@ use Rattle.cec_core.proofs.lines.put_line.Goals as goal
 pub returns-in-Usage : goal.returns-in-Usage
 returns-in-Usage g c = rw c.in-Usage.is c.write_pieces.ensures
 
-pub returns-in-FileFault-First : goal.returns-in-FileFault-First
-returns-in-FileFault-First g c =
-    rw (c.in-FileFault-First.is, c.in-FileFault-First.field-0-is, ← c.as_bytes.ensures.value) c.write_pieces-in-FileFault-First.ensures
-
-pub returns-in-FileFault-Second : goal.returns-in-FileFault-Second
-returns-in-FileFault-Second g c =
-    rw (c.in-FileFault-Second.is, c.in-FileFault-Second.field-0-is, ← c.as_bytes-in-FileFault-Second.ensures.value)
-    c.write_pieces-in-FileFault-Second.ensures
+pub returns-in-FileFault : goal.returns-in-FileFault
+returns-in-FileFault g c =
+    rw (c.in-FileFault.is, ← c.file_name-name.ensures, ← c.as_bytes.ensures.value) c.write_pieces-in-FileFault.ensures
 
 pub returns-in-Cyclic : goal.returns-in-Cyclic
 returns-in-Cyclic g c = rw (c.in-Cyclic.is, ← c.in-Cyclic.cycle.is_text, ← c.as_slice.ensures.value) c.write_pieces-in-Cyclic.ensures

@@ -10,7 +10,7 @@ use Rattle.cec_core.proofs.commands.load.summary.Goals as goal
 pub returns-clause-text : goal.returns-clause-text
 returns-clause-text c =
     let s = c.in_ok-compiled.ensures.compiles in
-    let made = c.in_ok-compiled.field-0.0 in
+    let made = c.in_ok-compiled.compiled in
     let counts = c.in_ok-counts.ensures in
     let p = s.program in
     let items = drawn_items c.args.instants c.args.draw in

@@ -54,7 +54,8 @@ returns-in-Ok-clause-err g c =
     let subject = c.subject_of.ensures in
     err_alone _ content c.source_run-outcome.result (plain_subject c.subject_of.result) _ _ _ _ (
       source_subject content job c.in-Ok.source.items (plain_subject c.subject_of.result)
-          (held_read content job.name SOURCE_BYTES c.in-Ok.source c.in-Ok.ensures.bytes) subject.name subject.main (subject.source ∙ c.deref-in-Ok.ensures.value),
+          (held_read content job.name SOURCE_BYTES c.in-Ok.source c.in-Ok.ensures.bytes) subject.name subject.main
+          (subject.source ∙ c.deref-in-Ok.ensures.value),
       subject.trace,
     ) c.report.ensures
 
