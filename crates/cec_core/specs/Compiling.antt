@@ -62,7 +62,7 @@ pub record IsCompiled (c : Compiled) (p : Program) : Type 0 where
   pub runs : FollowsRuns c.graph (netlist_of c.net)
   pub keeps : NetKeeps (netlist_of c.net) p
 
--- The bytes stand for the program of the graph, of the netlist, or of the text.
+-- The bytes stand for the program of the graph, of the netlist, of the BLIF text, or of the C text.
 
 pub record StandsForGraph (text : List ℕ) (main : Option (List ℕ)) (g : Graphed) : Type 0 where
   pub program : Program

@@ -86,8 +86,7 @@ line_of x Done = []
 line_of x others = codes "cec: " ++ (said_of x others ++ codes "\n")
 
 -- the subject of a command on a source: where no main module is named, no line names one; the source is the one that
--- the
--- file holds
+-- the file holds
 abbrev pub IsSourceSubject : Job → Content → Subject → Type 0
 IsSourceSubject job content x = (x.name ≡ job.name) × (x.main ≡ unwrap_or job.main [])
     × IsHeld content job.name x.source

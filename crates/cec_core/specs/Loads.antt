@@ -30,9 +30,8 @@ summary_text instants answers =
     ∷ codes "\npaused " ∷ decimal (paused_count answers) ∷ codes "\n" ∷ [])
 
 -- The compiler-correctness theorem for a load: the bytes stand for a program that compiles, the events drawn from a
--- state on
--- are events of the program, its run over them is constructive in each instant, and the text has the numbers of that
--- run.
+-- state on are events of the program, its run over them is constructive in each instant, and the text has the numbers
+-- of that run.
 pub record IsSummary (bytes : List ℕ) (state instants : ℕ) (text : List ℕ) : Type 0 where
   pub program : Program
   pub source : StandsFor bytes None program

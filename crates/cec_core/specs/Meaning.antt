@@ -1,4 +1,5 @@
--- To believe: what it means that a netlist, or a written BLIF text, does what a kernel program means.
+-- To believe: what it means that a netlist, a BLIF text or a C text does what a kernel program means, and that a BLIF
+-- text names the wires of its graph.
 use Rattle.std.specs.Prelude.{◌≡◌, ℕ, Bool, List, [], ◌∷◌, ◌++◌, ◌==◌, map, length, Some, Ok, codes, decimal, ◌+◌, ◌<◌}
 use Rattle.std.specs.List.{AllZip}
 use Rattle.est_base.specs.Items.{Item, EachEvent}

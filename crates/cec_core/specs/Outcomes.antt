@@ -68,8 +68,7 @@ abbrev pub IsLongTrace : List ℕ → Type 0
 IsLongTrace bytes = TRACE_BYTES < length bytes
 
 -- what an outcome says of the file that is read first, where `On` says what it says of its bytes; a file fault says
--- nothing
--- of bytes
+-- nothing of bytes
 abbrev pub AgreesOnFile : Content → List ℕ → (Outcome → List ℕ → Type 0) → Outcome → Type 0
 AgreesOnFile content name On (FileFault First) = ⊤
 AgreesOnFile content name On others = Holds content name (On others)

@@ -35,12 +35,12 @@ HasNoText p (Limit others) = ⊥
 HasNoText p NoMemory = ⊤
 
 -- the source stands for such a program
-abbrev pub StandsForNone : List ℕ → Option (List ℕ) → Refusal → Type 0
-StandsForNone text main refusal = (p : Program) × StandsFor text main p × HasNoText p refusal
+abbrev pub StandsWithoutText : List ℕ → Option (List ℕ) → Refusal → Type 0
+StandsWithoutText text main refusal = (p : Program) × StandsFor text main p × HasNoText p refusal
 
 abbrev pub IsRefused : List ℕ → Option (List ℕ) → Refusal → Type 0
 IsRefused text main (Static fault) = front.IsRefused text main (fronts.Static fault)
-IsRefused text main (Cyclic c) = StandsForNone text main (Cyclic c)
+IsRefused text main (Cyclic c) = StandsWithoutText text main (Cyclic c)
 IsRefused text main (Limit limits.Source) = SOURCE_BYTES < length text
 IsRefused text main (Limit limits.Nesting) = front.IsRefused text main (fronts.Limit quantities.Nesting)
 IsRefused text main (Limit limits.Statements) = front.IsRefused text main (fronts.Limit quantities.Statements)
@@ -48,8 +48,8 @@ IsRefused text main (Limit limits.Signals) = front.IsRefused text main (fronts.L
 IsRefused text main (Limit limits.Kernel) = front.IsRefused text main (fronts.Limit quantities.Kernel)
 IsRefused text main (Limit limits.Height) = front.IsRefused text main (fronts.Limit quantities.Height)
 IsRefused text main (Limit limits.Traps) = front.IsRefused text main (fronts.Limit quantities.Traps)
-IsRefused text main (Limit limits.Instances) = StandsForNone text main (Limit limits.Instances)
-IsRefused text main (Limit limits.Wires) = StandsForNone text main (Limit limits.Wires)
+IsRefused text main (Limit limits.Instances) = StandsWithoutText text main (Limit limits.Instances)
+IsRefused text main (Limit limits.Wires) = StandsWithoutText text main (Limit limits.Wires)
 IsRefused text main (Limit limits.Trace) = ⊥
 IsRefused text main (Limit limits.Text) = ⊥
 IsRefused text main NoMemory = ⊤

@@ -27,8 +27,7 @@ pub record ShowsRun (p : Program) (items : List Item) (text : List ℕ) : Type 0
   pub lines : text ≡ machines.answer_lines (outgoing_names p) (map line_answer answers)
 
 -- The compiler-correctness theorem for `run`: the bytes stand for a program that compiles, and what the trace brings
--- about
--- is the lines of the program's run over its items.
+-- about is the lines of the program's run over its items.
 pub record RunsSource (main : Option (List ℕ)) (bytes trace : List ℕ) (s : Sinks)
     (result : Result (Unit {0}) RunFault) : Type 0 where
   pub program : Program
@@ -38,8 +37,8 @@ pub record RunsSource (main : Option (List ℕ)) (bytes trace : List ℕ) (s : S
   pub ran : RunsTrace (ShowsRun program) (beginning trace (given_names program) program.relations) s result
 
 -- What a run over a trace leaves in `out`, by how it ended, where `Ran` says what is left by each end: the text of all
--- items
--- of the trace; after its first fault, that of the items before; after a failed write or for want of memory a prefix.
+-- items of the trace; after its first fault, that of the items before; after a failed write or for want of memory a
+-- prefix.
 -- Where nothing was run, `out` is as it was.
 abbrev pub LeavesRun : (Result (Unit {0}) RunFault → Type 0) → Sinks → Outcome → Type 0
 LeavesRun Ran s Done = Ran (Ok tt)

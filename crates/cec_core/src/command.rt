@@ -28,17 +28,15 @@ use std::alloc::Global;
 /// names the main module, `--pick first`, `--pick last` or `--pick N` says how the evaluation order of a text is
 /// chosen.
 /// Every other list of words is `Usage`. For every outcome but `Done` one line goes to `err`; a write to `err` that
-/// fails
-/// changes no outcome.
+/// fails changes no outcome.
 ///
 /// For `Done` of `blif` the compiler-correctness theorem holds of the text that `out` gained (`TextKeeps`): it has a
 /// reading by the BLIF profile with the program's inputs, and its outputs and then `_paused`, and over every list of
 /// events that meet the relations each reaction of the source is constructive, the text has a run, any two runs agree,
 /// and the outputs and `_paused` are those of the reactions. For `c` it holds likewise, by the machine of the C subset
 /// (`CTextKeeps`). For `run` the lines are those of the source's own reactions to the items of the trace
-/// (`RunsSource`), and
-/// for `exec` those of the text's run (`RunsText`). `Static`, `Cyclic` and `Limit` come exactly where the source
-/// has their cause; for `Cyclic` that is a cycle of the dependency relation, which is shown.
+/// (`RunsSource`), and for `exec` those of the text's run (`RunsText`). `Static`, `Cyclic` and `Limit` come exactly
+/// where the source has their cause; for `Cyclic` that is a cycle of the dependency relation, which is shown.
 pub fn cec<F: Files, O: Sink, E: Sink>(
     alloc: Global,
     words: &[String],

@@ -45,13 +45,16 @@ pub struct Compiled {
     pub net: Net,
 }
 
-/// The BLIF text of a source: the compiler, from bytes to bytes. `main` is the name of the main module; without it
-/// that is the first one. The picker chooses the evaluation order, and no answer depends on it.
+/// The BLIF text of a source, which has at most 1 MiB: the compiler, from bytes to bytes. `main` is the name of the main
+/// module; without it that is the first one. The picker chooses in which order gates stand in the text; whether the
+/// source is refused, and what the text means, do not depend on it.
 ///
 /// The compiler-correctness theorem holds of the text (`TextKeeps`): it has a reading by the BLIF profile, and over
 /// every list of events that meet the source's relations each reaction of the source is constructive, the text has a
-/// run, any two runs agree, and the outputs and `_paused` are those of the reactions. A source is refused as cyclic
-/// exactly where its dependency relation has a cycle, and one is shown.
+/// run, any two runs agree, and the outputs and `_paused` are those of the reactions.
+///
+/// A source is refused for its first fault or the first limit that it passes, and as cyclic exactly where there is none
+/// and its dependency relation has a cycle; one is shown. Want of memory is an error of its own.
 pub fn blif_of<P: Picker>(
     alloc: Global,
     text: &[u8],
@@ -71,7 +74,8 @@ pub fn blif_of<P: Picker>(
 
 /// The C text of a source, likewise: the text is in the C subset, with one variable for each given and each outgoing
 /// signal, and over every list of events that meet the source's relations each reaction of the source is constructive,
-/// and the machine's outputs and the value that it returns are those of the reactions (`CTextKeeps`).
+/// and the machine's outputs and the value that it returns are those of the reactions (`CTextKeeps`). It refuses what
+/// `blif_of` refuses.
 pub fn c_of<P: Picker>(
     alloc: Global,
     text: &[u8],
@@ -116,7 +120,7 @@ pub fn compile<P: Picker>(
     })
 }
 
-/// The graph of a source, whose dependencies have no cycle.
+/// The graph of a source, whose dependencies have no cycle. The errors are those of `blif_of`.
 pub fn source_graph(alloc: Global, text: &[u8], main: Option<&[u8]>) -> Result<Graphed, Refusal>
     requires { length text.now ≤ Limits.SOURCE_BYTES }
     ensures compiles { IfOk result (StandsForGraph text.now (option_map (λ m. m.now) main.entry)) }
