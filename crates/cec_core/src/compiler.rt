@@ -45,9 +45,9 @@ pub struct Compiled {
     pub net: Net,
 }
 
-/// The BLIF text of a source, which has at most 1 MiB: the compiler, from bytes to bytes. `main` is the name of the main
-/// module; without it that is the first one. The picker chooses in which order gates stand in the text; whether the
-/// source is refused, and what the text means, do not depend on it.
+/// The BLIF text of a source, which has at most 1 MiB: the compiler, from bytes to bytes. `main` is the name of the
+/// main module; without it that is the first one. The picker chooses in which order gates stand in the text; whether
+/// the source is refused, and what the text means, do not depend on it.
 ///
 /// The compiler-correctness theorem holds of the text (`TextKeeps`): it has a reading by the BLIF profile, and over
 /// every list of events that meet the source's relations each reaction of the source is constructive, the text has a
