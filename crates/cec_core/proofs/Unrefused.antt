@@ -100,7 +100,7 @@ unrefused main bytes refusals.NoMemory s r = refl
 -- ---- where nothing outside fails
 
 -- a limit that a file passes
-passes_limit : (job : Job) (bytes : List ℕ) (quantity : bounds.Limit) → IsSource job.main bytes → MakesOn job (Limit quantity) bytes → ⊥
+passes_limit : (job : Job) (bytes : List ℕ) (quantity : bounds.Limit) → IsSource job.main bytes → MakesOn job.main (Limit quantity) bytes → ⊥
 passes_limit job bytes limits.Source s a = within_limits job.main bytes limits.Source s a
 passes_limit job bytes limits.Trace s a = within_limits job.main bytes limits.Trace s a.refused
 passes_limit job bytes limits.Text s a = within_limits job.main bytes limits.Text s a.refused

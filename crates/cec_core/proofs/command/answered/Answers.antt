@@ -5,3 +5,6 @@ returns-in-Generate-clause-out g c = rw c.in-Generate.is c.write_generated-outco
 
 pub returns-in-Load-clause-out : goal.returns-in-Load-clause-out
 returns-in-Load-clause-out g c = rw c.in-Load.is c.write_load.ensures.out
+
+pub returns-in-Load-clause-agrees : goal.returns-in-Load-clause-agrees
+returns-in-Load-clause-agrees g c = rw c.in-Load.is c.write_load.ensures.agrees

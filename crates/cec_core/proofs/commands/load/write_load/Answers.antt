@@ -1,11 +1,11 @@
-use Rattle.std.proofs.Common.{[], refl, subst, ◌∙◌}
+use Rattle.std.proofs.Common.{[], None, refl, subst, ◌∙◌}
 use Rattle.est_gen.specs.Sources.{source_text}
 use Rattle.trace_run.specs.Running.{Sinks}
 use Rattle.cec_core.specs.declared.outcome.Outcome.TheVariants as outcomes
 use Rattle.cec_core.specs.declared.refusal.Limit.TheVariants as limits
 use Rattle.cec_core.specs.Lines.{Subject}
 use Rattle.cec_core.specs.Loads.{IsSummary, state_behind}
-use Rattle.cec_core.specs.Outcomes.{LeavesText}
+use Rattle.cec_core.specs.Outcomes.{LeavesText, MakesOn}
 use Rattle.cec_core.proofs.OneFile.{err_alone}
 use Rattle.cec_core.proofs.commands.load.write_load.Goals as goal
 
@@ -31,3 +31,8 @@ returns-clause-out g c =
     subst (λ x. LeavesText (IsSummary (source_text c.args.start c.args.branches) x c.args.instants) s c.written-outcome.result) made.rest
     (subst (λ b. LeavesText (IsSummary b c.in-Ok.generated.rest c.args.instants) s c.written-outcome.result) (c.deref.ensures.value ∙ made.source)
     c.written-outcome.ensures.out)
+
+pub returns-clause-agrees : goal.returns-clause-agrees
+returns-clause-agrees g c =
+    let made = c.in-Ok.ensures in
+    subst (MakesOn None c.written-outcome.result) (c.deref.ensures.value ∙ made.source) c.written-outcome.ensures.agrees

@@ -1,4 +1,4 @@
-use Rattle.std.proofs.Common.{rules, ◌<◌, length, map, ap}
+use Rattle.std.proofs.Common.{rules, ◌<◌, length, map, refl, ap}
 use Rattle.est_base.specs.declared.bounds.TheConstants.Limits.{TRACE_BYTES, TEXT_BYTES}
 use Rattle.est_base.specs.Relations.{relation_of}
 use Rattle.est_kernel.specs.Plain.{Program}
@@ -6,7 +6,9 @@ use Rattle.net_ir.specs.Runs.{netlist_of}
 use Rattle.cec_core.specs.JobViews.{plain_job}
 use Rattle.cec_core.proofs.OneFile.{held_read}
 use Rattle.cec_core.proofs.RunLines.{given_wide, runs_program}
-use Rattle.cec_core.proofs.TwoFiles.{run_left, long_trace_unread}
+use Rattle.cec_core.specs.declared.outcome.Which.TheVariants.{Second}
+use Rattle.cec_core.specs.declared.refusal.Limit.TheVariants as limits
+use Rattle.cec_core.proofs.TwoFiles.{run_left, run_trace_unread, count_trace_unread, leaves_unread, long_trace_unread, refused_runs}
 use Rattle.cec_core.proofs.commands.run.source_run.Goals as goal
 
 pub returns-then-len-gt-TEXT_BYTES-clause-agrees : goal.returns-then-len-gt-TEXT_BYTES-clause-agrees
@@ -42,3 +44,20 @@ returns-in-Ok-read-clause-out g c =
 pub returns-in-Err-read-clause-long_trace : goal.returns-in-Err-read-clause-long_trace
 returns-in-Err-read-clause-long_trace g c =
     rw c.unread.ensures (long_trace_unread (g.F.Files.content c.args.files.now) c.args.trace.now c.in-Err-read.fault c.in-Err-read.ensures.bytes)
+
+pub returns-in-Err-clause-agrees : goal.returns-in-Err-clause-agrees
+returns-in-Err-clause-agrees g c =
+    rw c.from.ensures (refused_runs (plain_job c.args.job) c.in-Err.refusal c.args.source.now c.requires c.in-Err.ensures.refuses)
+
+pub returns-in-Err-read-clause-agrees : goal.returns-in-Err-read-clause-agrees
+returns-in-Err-read-clause-agrees g c =
+    let s = c.in-Ok.ensures.compiles in
+    rw c.unread.ensures (run_trace_unread (plain_job c.args.job) c.args.source.now c.in-Err-read.fault
+    (record { program = s.program; short = c.requires; source = s.source; compiles = s.compiled.compiles }))
+
+pub returns-in-Err-read-clause-files_counted : goal.returns-in-Err-read-clause-files_counted
+returns-in-Err-read-clause-files_counted g c =
+    rw c.unread.ensures (count_trace_unread c.args.trace.now c.in-Err-read.fault _ _ _ _ c.in-Err-read.ensures.counts)
+
+pub returns-in-Err-read-clause-out : goal.returns-in-Err-read-clause-out
+returns-in-Err-read-clause-out g c = rw c.unread.ensures (leaves_unread _ _ Second limits.Trace c.in-Err-read.fault (refl, refl))
