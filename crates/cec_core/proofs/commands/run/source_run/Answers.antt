@@ -3,7 +3,10 @@ use Rattle.est_base.specs.declared.bounds.TheConstants.Limits.{TRACE_BYTES, TEXT
 use Rattle.est_base.specs.Relations.{relation_of}
 use Rattle.est_kernel.specs.Plain.{Program}
 use Rattle.net_ir.specs.Runs.{netlist_of}
+use Rattle.trace_run.specs.Running.{Sinks}
+use Rattle.cec_core.specs.Contents.{Holds}
 use Rattle.cec_core.specs.JobViews.{plain_job}
+use Rattle.cec_core.specs.Runs.{RunsSource}
 use Rattle.cec_core.proofs.OneFile.{held_read}
 use Rattle.cec_core.proofs.RunLines.{given_wide, runs_program}
 use Rattle.cec_core.specs.declared.outcome.Which.TheVariants.{Second}
@@ -60,4 +63,14 @@ returns-in-Err-read-clause-files_counted g c =
     rw c.unread.ensures (count_trace_unread c.args.trace.now c.in-Err-read.fault _ _ _ _ c.in-Err-read.ensures.counts)
 
 pub returns-in-Err-read-clause-out : goal.returns-in-Err-read-clause-out
-returns-in-Err-read-clause-out g c = rw c.unread.ensures (leaves_unread _ _ Second limits.Trace c.in-Err-read.fault (refl, refl))
+returns-in-Err-read-clause-out g c =
+    let content = g.F.Files.content c.args.files.now in
+    let s : Sinks = record {
+      before = g.O.Sink.told c.args.out.now;
+      after = g.O.Sink.told c.args.out.now;
+      faults_before = g.O.Sink.faults c.args.out.now;
+      faults_now = g.O.Sink.faults c.args.out.now;
+    } in
+    rw c.unread.ensures
+    (leaves_unread (λ ended. Holds content c.args.trace.now (λ items. RunsSource (plain_job c.args.job).main c.args.source.now items s ended)) s Second
+    limits.Trace c.in-Err-read.fault (refl, refl))
