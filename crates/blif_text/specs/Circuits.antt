@@ -1,4 +1,5 @@
--- To believe: the circuit that a BLIF text of the profile describes, and why a text describes none.
+-- To believe: the circuit that a BLIF text of the profile describes, and why a text describes none. The profile is a
+-- part of the Berkeley Logic Interchange Format.
 use Rattle.std.specs.Prelude.{ℕ, Bool, not, if◌then◌else◌, List, [], ◌∷◌, flat_map, filter_map, find, Option, Some}
 use Rattle.std.specs.Prelude.{None, Result, Ok, Err}
 use Rattle.std.specs.List.{list_any}

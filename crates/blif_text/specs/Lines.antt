@@ -1,5 +1,5 @@
--- To believe: lines and words of a BLIF text. Any list of bytes has lines, and each line has words or bytes that
--- no line may have.
+-- To believe: lines and words of a BLIF text, after the Berkeley Logic Interchange Format. Any list of bytes has lines,
+-- and each line has words or bytes that no line may have.
 use Rattle.std.specs.Prelude.{◌==◌, ℕ, ◌+◌, ◌-◌, Bool, true, false, not, ◌&&◌, ◌||◌, if◌then◌else◌, nat_le, List, []}
 use Rattle.std.specs.Prelude.{◌∷◌, ◌++◌, length, take, map, filter, take_while}
 use Rattle.std.specs.List.{list_all}

@@ -16,7 +16,7 @@ use Rattle.grc_graph.specs.GraphRuns.{graph_of, program_edges, program_wires}
 use Rattle.grc_graph.specs.NumberedEdges.{AreEdgesOf, named_edge}
 use Rattle.grc_graph.specs.PlainGraphs.{wire_at, wire_of, formula_of, instances_of, names_of}
 use Rattle.grc_graph.specs.Reads.{IsReadingOrder}
-use Rattle.grc_graph.specs.Selected.{IsKernel}
+use Rattle.grc_graph.specs.Selected.{HasExitCodes}
 use Rattle.grc_graph.specs.WireNames.{WireName, wire_name}
 use Rattle.grc_graph.specs.WireOrders.{WireEdge, AreRanks, IsWireOrder}
 use Rattle.grc_graph.specs.Wires.{Wire}
@@ -34,7 +34,7 @@ pub wire_count : (g : Graph) (p : Program) → IsGraphOf g p → length g.wires.
 wire_count g p is = sym (length-map g.wires.items (wire_of (instances_of g))) ∙ ap length is.wires
 
 -- an evaluation order along the edges is one along which the equations read
-pub reading_order : (g : Graph) (p : Program) (count : ℕ) (pairs : List WireEdge) (order : List WireId) → IsGraphOf g p → IsKernel p.body
+pub reading_order : (g : Graph) (p : Program) (count : ℕ) (pairs : List WireEdge) (order : List WireId) → IsGraphOf g p → HasExitCodes p.body
     → count ≡ length g.wires.items
     → AreEdgesOf (names_of g) (program_edges p) pairs → IsWireOrder count pairs order
     → IsReadingOrder (names_of g) (map (formula_of (instances_of g) (names_of g)) g.equations.items) order
@@ -47,7 +47,7 @@ reading_order g p count pairs order is kernel all edges along =
 -- ---- cycles
 
 -- edges that go up in ranks by number lie on no cycle
-pub acyclic : (g : Graph) (p : Program) (count : ℕ) (pairs : List WireEdge) (ranks : List ℕ) → IsGraphOf g p → IsKernel p.body
+pub acyclic : (g : Graph) (p : Program) (count : ℕ) (pairs : List WireEdge) (ranks : List ℕ) → IsGraphOf g p → HasExitCodes p.body
     → count ≡ length g.wires.items → AreEdgesOf (names_of g) (program_edges p) pairs → AreRanks count pairs ranks → IsAcyclic p
 acyclic g p count pairs ranks is kernel all edges grow =
     let up = wire_ranks_go_up_lem p pairs ranks kernel (subst (λ names. AreEdgesOf names (program_edges p) pairs) is.wires edges)

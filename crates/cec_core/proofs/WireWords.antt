@@ -26,7 +26,7 @@ use Rattle.grc_graph.specs.WireOrders.{times}
 use Rattle.grc_graph.specs.WireOrders as orders
 use Rattle.grc_solutions.proofs.Numbers.{stands_at}
 use Rattle.grc_solutions.proofs.OneRun.{graph_runs_exist_lem}
-use Rattle.grc_graph.specs.Selected.{IsKernel}
+use Rattle.grc_graph.specs.Selected.{HasExitCodes}
 use Rattle.grc_graph.specs.SelectionTrees.{body_leaves}
 use Rattle.net_gen.specs.Generated.{HasInterfaceOf, Carries, EachInstant, FollowsRuns}
 use Rattle.net_ir.specs.declared.netlist.Gate.{Gate}
@@ -118,7 +118,7 @@ module _ (g : Graph) (p : Program) (net : Netlist) (is : IsGraphOf g p)
   told-all (v ∷ valuations) [] h = absurd h
   told-all (v ∷ valuations) (V ∷ Vs) h = (told-once v V h.0, told-all valuations Vs h.1)
 
-  pub names_wires : IsKernel p.body → IsAcyclic p → HasInterfaceOf g net → FollowsRuns g net → (text : List ℕ) → (means : Means text net) →
+  pub names_wires : HasExitCodes p.body → IsAcyclic p → HasInterfaceOf g net → FollowsRuns g net → (text : List ℕ) → (means : Means text net) →
       net.inputs ≡ given_names p
       → given_count p ≡ length net.inputs → NamesWires means.circuit p
   names_wires kernel acyclic interface follows text means inputs wide = record {

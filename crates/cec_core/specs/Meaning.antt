@@ -71,8 +71,7 @@ abbrev pub TellsWires : Program → (List ℕ → Bool) → Valuation → Type 0
 TellsWires p v V = (n : ℕ) → n < length (program_wires p) → v (wire_word n) ≡ V (wire_at (program_wires p) n)
 
 -- The graph of the program has a run over the items, from instant to instant the solution of its equations, which is
--- the
--- walk of the state that is reached; and in each instant the names tell its wires.
+-- the walk of the state that is reached; and in each instant the names tell its wires.
 pub record WiresTold (p : Program) (items : List Item) (valuations : List (List ℕ → Bool)) : Type 0 where
   pub run : List Valuation
   pub is_run : IsGraphRun (graph_of p) Initial items run
@@ -112,8 +111,7 @@ pub record CallsAlike (machine : Machine) (p : Program) (items : List Item) : Ty
   pub alike : run machine items ≡ map call_of answers
 
 -- The compiler-correctness theorem for a C text: it describes a program of the C subset with one variable for each
--- given
--- and each outgoing signal, in declared order, and over every list of items its machine shows what the program's
+-- given and each outgoing signal, in declared order, and over every list of items its machine shows what the program's
 -- reactions do.
 pub record CTextKeeps (text : List ℕ) (p : Program) : Type 0 where
   pub machine : Machine

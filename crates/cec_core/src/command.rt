@@ -22,8 +22,7 @@ use std::alloc::Global;
 /// `blif FILE` reads the source under that name and writes its BLIF text to `out`, `c FILE` its C text, `grc FILE` the
 /// listing of its graph, and `check FILE` a line of counts. `--main M` names the main module, `--pick first`,
 /// `--pick last` or `--pick N` says how the evaluation order of a text is chosen. Every other list of words is `Usage`.
-/// For every outcome but `Done` one
-/// line goes to `err`; a write to `err` that fails changes no outcome.
+/// For every outcome but `Done` one line goes to `err`; a write to `err` that fails changes no outcome.
 ///
 /// For `Done` of `blif` the compiler-correctness theorem holds of the text that `out` gained (`TextKeeps`): it has a
 /// reading by the BLIF profile with the program's inputs, and its outputs and then `_paused`, and over every list of

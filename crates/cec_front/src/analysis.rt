@@ -25,8 +25,7 @@ pub struct Analysed {
 
 /// The kernel program of a source, with the static codes of its statements. `main` is the name of the main module;
 /// without it that is the first one. A source is refused for its first fault: of its tokens, its tree, its names, its
-/// flat
-/// form, its counts, for what passes its limit, and at last for an instantaneous loop.
+/// flat form, its counts, for what passes its limit, and at last for an instantaneous loop.
 pub fn analyse(alloc: Global, text: &[u8], main: Option<&[u8]>) -> Result<Analysed, Refusal>
     requires { length text.now ≤ Limits.SOURCE_BYTES }
     ensures program { IfOk result (λ a.

@@ -19,8 +19,7 @@ pub struct Subject<'a> {
 }
 
 /// The line about a refusal: for a static fault its place, by line and column, and what is wrong there. Writing it
-/// takes
-/// no memory; a prefix of the line was appended where the sink failed.
+/// takes no memory; a prefix of the line was appended where the sink failed.
 pub fn put_refusal<E: Sink>(
     err: &mut E,
     subject: Subject<'_>,

@@ -27,9 +27,8 @@ use est_names::{NameFault, Table, check_modules};
 use std::alloc::Global;
 
 /// The kernel program that a source is expanded into, whether or not it has an instantaneous loop. `main` is the name
-/// of
-/// the main module; without it that is the first one. A source is refused for its first fault: of its tokens, its tree,
-/// its names, its flat form, its counts, and for what passes its limit.
+/// of the main module; without it that is the first one. A source is refused for its first fault: of its tokens, its
+/// tree, its names, its flat form, its counts, and for what passes its limit.
 pub fn kernel_program(
     alloc: Global,
     text: &[u8],

@@ -27,8 +27,8 @@ FactorBehind RoundFactor = Made Round (λ e. Then (SpellsExpr Disjunction e) (Si
 FactorBehind (NameFactor n) = Only (Word n)
 FactorBehind (BitFactor b) = Only (Bit b)
 
-factor-behind : (kind : Kind) (rest : List Kind) (f : Factor) → factor kind ≡ Some f → (v : Written) → FactorBehind f v rest →
-    SpellsExpr Negation v (kind ∷ rest)
+factor-behind : (kind : Kind) (rest : List Kind) (f : Factor) → factor kind ≡ Some f → (v : Written) → FactorBehind f v rest
+    → SpellsExpr Negation v (kind ∷ rest)
 factor-behind Bang rest NotFactor takes v made =
     subst (λ v. SpellsExpr Negation v (Bang ∷ rest)) made.1 (record { token = Bang; value = tt; rest = rest; cut = refl; passes = refl; behind = made.2 })
 factor-behind LeftParenthesis rest RoundFactor takes v made =
@@ -119,8 +119,8 @@ writtens-nesting (e ∷ others) = ap (max (written_nesting e)) (writtens-nesting
 abbrev Step : Kind → Tier → Option Written → List Kind → Type 0
 Step w tier = Parted (is w) (λ _. SpellsExpr tier) Empty
 
-others-to : (w : Kind) (tier : Tier) (others : List Written) (tokens : List Kind) → Loop (Step w tier) others tokens →
-    SpellsOtherExprs w tier (writtens others) tokens
+others-to : (w : Kind) (tier : Tier) (others : List Written) (tokens : List Kind) → Loop (Step w tier) others tokens
+    → SpellsOtherExprs w tier (writtens others) tokens
 others-to w tier [] tokens member = member
 others-to w tier (e ∷ others) tokens member = record {
   front = member.front;
@@ -130,8 +130,8 @@ others-to w tier (e ∷ others) tokens member = record {
   second = others-to w tier others member.back member.second;
 }
 
-others-from : (w : Kind) (tier : Tier) (others : Writtens) (tokens : List Kind) → SpellsOtherExprs w tier others tokens →
-    Loop (Step w tier) (writtens_of others) tokens
+others-from : (w : Kind) (tier : Tier) (others : Writtens) (tokens : List Kind) → SpellsOtherExprs w tier others tokens
+    → Loop (Step w tier) (writtens_of others) tokens
 others-from w tier NoneWritten tokens member = member
 others-from w tier (MoreWritten e others) tokens member = record {
   front = member.front;
@@ -188,8 +188,8 @@ alone-from : (w : Kind) (tier : Tier) (node : Writtens → Written) (e : Written
     Made {A = Written × List Written} (λ found. written_list node (found.0 ∷ found.1)) (Both (SpellsExpr tier) (Loop (Step w tier))) e tokens
 alone-from w tier node e tokens member = ((e, []), refl, record { front = tokens; back = []; cut = sym (append-nil tokens); first = member; second = refl })
 
-alone-to : (w : Kind) (tier up : Tier) (e : Written) (tokens : List Kind) → Both (SpellsExpr tier) (Loop (Step w tier)) (e, []) tokens →
-    SpellsExpr tier e tokens
+alone-to : (w : Kind) (tier up : Tier) (e : Written) (tokens : List Kind) → Both (SpellsExpr tier) (Loop (Step w tier)) (e, []) tokens
+    → SpellsExpr tier e tokens
 alone-to w tier up e tokens member = subst (λ ts. SpellsExpr tier e ts)
     (sym (member.cut ∙ ap (λ b. member.front ++ b) member.second ∙ append-nil member.front)) member.first
 
@@ -212,8 +212,8 @@ conj_disj (Or parts) tokens member = absurd member
 conj_disj (Word n) tokens member = member
 conj_disj _ tokens member = member
 
-conj-to : (found : Written × List Written) (tokens : List Kind) → Both (SpellsExpr Negation) (Loop (Step Ampersand Negation)) found tokens →
-    SpellsExpr Conjunction (written_list And (found.0 ∷ found.1)) tokens
+conj-to : (found : Written × List Written) (tokens : List Kind) → Both (SpellsExpr Negation) (Loop (Step Ampersand Negation)) found tokens
+    → SpellsExpr Conjunction (written_list And (found.0 ∷ found.1)) tokens
 conj-to (e, []) tokens member = neg_conj e tokens (alone-to Ampersand Negation Conjunction e tokens member)
 conj-to (e, next ∷ others) tokens member = parts-to Ampersand Negation e next others tokens member
 
@@ -226,8 +226,8 @@ conj-from (Bit b) tokens member = alone-from Ampersand Negation And (Bit b) toke
 conj-from (Not e) tokens member = alone-from Ampersand Negation And (Not e) tokens member
 conj-from (Round e) tokens member = alone-from Ampersand Negation And (Round e) tokens member
 
-disj-to : (found : Written × List Written) (tokens : List Kind) → Both (SpellsExpr Conjunction) (Loop (Step Bar Conjunction)) found tokens →
-    SpellsExpr Disjunction (written_list Or (found.0 ∷ found.1)) tokens
+disj-to : (found : Written × List Written) (tokens : List Kind) → Both (SpellsExpr Conjunction) (Loop (Step Bar Conjunction)) found tokens
+    → SpellsExpr Disjunction (written_list Or (found.0 ∷ found.1)) tokens
 disj-to (e, []) tokens member = conj_disj e tokens (alone-to Bar Conjunction Disjunction e tokens member)
 disj-to (e, next ∷ others) tokens member = parts-to Bar Conjunction e next others tokens member
 
@@ -272,8 +272,8 @@ factor-arms room k (BitFactor b) = arm (λ _. Bit b) give-reads (λ _. refl) ref
 factor-lang : Lang class (λ v. Led factor (λ f. FactorBehind f v)) written_nesting neg_shape
 factor-lang = choose-lang FactorBehind factor-test (Named []) (NameFactor []) refl (name-arm {room = None} [])
 
-neg-reads : (room : ℕ) → KnownExprs (fits true room) → Reads class (λ n. neg makes_written n (inside makes_written n))
-    (SpellsExpr Negation) written_nesting neg_shape (Some room)
+neg-reads : (room : ℕ) → KnownExprs (fits true room)
+    → Reads class (λ n. neg makes_written n (inside makes_written n)) (SpellsExpr Negation) written_nesting neg_shape (Some room)
 neg-reads room k = told-reads (SpellsExpr Negation) (choose-reads factor_rule factor-lang room (factor-arms room k)) neg-to neg-from
 
 abbrev and_turn : Turn
@@ -302,8 +302,8 @@ disj-reads k =
     shape-reads expr_shape (made-reads (λ found. written_list Or (found.0 ∷ found.1)) (SpellsExpr Disjunction) written_nesting
     (both-reads k (loop-reads (disj-steps k) refl) refl) (list-nesting Or (λ parts. refl)) disj-to disj-from) refl refl refl
 
-exprs_from : {room : Option ℕ} → Reads class (λ n. neg makes_written n (inside makes_written n)) (SpellsExpr Negation) written_nesting neg_shape room →
-    KnownExprs room
+exprs_from : {room : Option ℕ} → Reads class (λ n. neg makes_written n (inside makes_written n)) (SpellsExpr Negation) written_nesting neg_shape room
+    → KnownExprs room
 exprs_from k = record { part = k; whole = disj-reads (conj-reads k) }
 
 pub exprs_alone : KnownExprs None

@@ -1,20 +1,20 @@
 -- Inner: the tokens from a place of a text on.
-use Rattle.std.proofs.Common.{◌≡◌, ℕ, ◌+◌, ◌<◌, ◌≤◌, ◌==◌, zero, suc, Bool, true, false, ◌&&◌, cond, List, [], ◌∷◌, length, take, drop, get_or, Option, Some}
-use Rattle.std.proofs.Common.{None, refl, sym, ◌∙◌, ap, arith}
+use Rattle.std.proofs.Common.{◌≡◌, ℕ, ◌+◌, ◌<◌, ◌≤◌, ◌==◌, zero, suc, Bool, true, false, ◌&&◌, cond, List, [], ◌∷◌, length, take, drop, get_or}
+use Rattle.std.proofs.Common.{Option, Some, None, refl, sym, ◌∙◌, ap, arith}
 use Rattle.std.specs.Prelude.{if◌then◌else◌}
 use Rattle.std.specs.List.{prefix_len}
 use Rattle.std.proofs.Math.Seq.{drop-cons}
 use Rattle.std.proofs.lemmas.List.{length-drop, drop_all}
 use Rattle.std.proofs.lemmas.Bool.{false≢true, eqb-true}
-use Rattle.csub_text.specs.Tokens.{Kind, Bad, Token, Front, Gap, Lexeme, Wrong, front, is_space, begins_name, word_kind, mark_kind, mark_front, slash_front}
-use Rattle.csub_text.specs.Tokens.{token_of, tokens_behind, one_more, closed_after}
+use Rattle.csub_text.specs.Tokens.{Kind, Bad, Token, Front, Gap, Lexeme, Wrong, front, is_space, begins_name, word_kind, mark_kind, mark_front}
+use Rattle.csub_text.specs.Tokens.{slash_front, token_of, tokens_behind, one_more, closed_after}
 use Rattle.est_base.specs.Names.{is_name_byte}
 use Rattle.csub_read.specs.Tokens.{front_at, more_by}
 
 -- ---- the bytes that begin a text
 
-pub prefix-more : (p : ℕ → Bool) (xs : List ℕ) (i d : ℕ) → i < length xs → p (get_or xs i d) ≡ true →
-    i + prefix_len p (drop i xs) ≡ (i + 1) + prefix_len p (drop (i + 1) xs)
+pub prefix-more : (p : ℕ → Bool) (xs : List ℕ) (i d : ℕ) → i < length xs → p (get_or xs i d) ≡ true → i + prefix_len p (drop i xs)
+    ≡ (i + 1) + prefix_len p (drop (i + 1) xs)
 prefix-more p xs i d low passes =
     let n : suc i ≡ i + 1 = omega arith in
     let step : prefix_len p (drop i xs) ≡ 1 + prefix_len p (drop (suc i) xs) = ap (prefix_len p) (drop-cons xs i d low)
@@ -87,8 +87,8 @@ closed-within (c ∷ []) n at = let e : false ≡ true = cc in absurd (false≢t
 closed-within (c ∷ d ∷ cs) n at =
     elim (c == 42 && d == 47) as (λ b. (if b then Some 2 else one_more (closed_after (d ∷ cs))) ≡ Some n → n ≤ length (c ∷ d ∷ cs)) [
       | true ↦ λ e. let two : 2 ≡ n = cc in omega (arith, two)
-      | false ↦
-          λ e. let h = one-low (length (d ∷ cs)) (closed_after (d ∷ cs)) (λ k. closed-within (d ∷ cs) k) n e in omega (arith, h)
+      | false ↦ λ e. let h = one-low (length (d ∷ cs)) (closed_after (d ∷ cs))
+          (λ k. closed-within (d ∷ cs) k) n e in omega (arith, h)
     ] at
 
 -- ---- tokens
@@ -105,11 +105,11 @@ shown i rest (Lexeme more kind) = record { kind = kind; at = i } ∷ tokens_behi
 shown i rest Wrong = record { kind = Bad; at = i } ∷ []
 
 front-step : (i c : ℕ) (cs : List ℕ) (f : Front) → token_of i f (λ more. tokens_behind more (i + 1) cs) ≡ shown i (c ∷ cs) f
-front-step i c cs (Gap more) = behind-drop more (i + 1) cs ∙ ap (λ n. tokens_behind 0 n (drop more cs))
-    (let e : i + 1 + more ≡ i + (1 + more) = omega arith in e)
+front-step i c cs (Gap more) = behind-drop more (i + 1) cs
+    ∙ ap (λ n. tokens_behind 0 n (drop more cs)) (let e : i + 1 + more ≡ i + (1 + more) = omega arith in e)
 front-step i c cs (Lexeme more kind) =
-    ap (λ l. record { kind = kind; at = i } ∷ l) (behind-drop more (i + 1) cs
-    ∙ ap (λ n. tokens_behind 0 n (drop more cs)) (let e : i + 1 + more ≡ i + (1 + more) = omega arith in e))
+    ap (λ l. record { kind = kind; at = i } ∷ l)
+    (behind-drop more (i + 1) cs ∙ ap (λ n. tokens_behind 0 n (drop more cs)) (let e : i + 1 + more ≡ i + (1 + more) = omega arith in e))
 front-step i c cs Wrong = refl
 
 behind-front : (i : ℕ) (rest : List ℕ) → 0 < length rest → tokens_behind 0 i rest ≡ shown i rest (front_at rest)
@@ -122,8 +122,8 @@ drop-more (suc i) k [] = drop_all k [] (omega arith) ∙ sym (drop_all (suc i + 
 drop-more (suc i) k (x ∷ xs) = drop-more i k xs ∙ ap (λ n. drop n (x ∷ xs)) (let e : suc (i + k) ≡ suc i + k = omega arith in e)
 
 -- the tokens from a place on, where a front stands there
-pub behind-gap : (xs : List ℕ) (i more : ℕ) → i < length xs → front_at (drop i xs) ≡ Gap more →
-    tokens_behind 0 i (drop i xs) ≡ tokens_behind 0 (i + (1 + more)) (drop (i + (1 + more)) xs)
+pub behind-gap : (xs : List ℕ) (i more : ℕ) → i < length xs → front_at (drop i xs) ≡ Gap more → tokens_behind 0 i (drop i xs)
+    ≡ tokens_behind 0 (i + (1 + more)) (drop (i + (1 + more)) xs)
 behind-gap xs i more low here =
     let n = length-drop i xs in
     behind-front i (drop i xs) (omega (arith, low, n)) ∙ ap (shown i (drop i xs)) here
@@ -142,8 +142,8 @@ behind-wrong xs i low here = let n = length-drop i xs in behind-front i (drop i 
 
 -- ---- a word
 
-pub word-front : (text : List ℕ) (d : ℕ) → 0 < length text → is_space (get_or text 0 d) ≡ false → (get_or text 0 d == 47) ≡ false →
-    begins_name (get_or text 0 d) ≡ true
+pub word-front : (text : List ℕ) (d : ℕ) → 0 < length text → is_space (get_or text 0 d) ≡ false → (get_or text 0 d == 47) ≡ false
+    → begins_name (get_or text 0 d) ≡ true
     → Lexeme (prefix_len is_name_byte (drop 1 text)) (word_kind (take (1 + prefix_len is_name_byte (drop 1 text)) text)) ≡ front_at text
 word-front [] d some space slash begins = absurd (omega (arith, some))
 word-front (c ∷ cs) d some space slash begins =

@@ -1,14 +1,14 @@
 -- Inner: a reading function makes what is meant of what is written: rules for the one are images of rules for the other.
-use Rattle.std.proofs.Common.{◌≡◌, ℕ, zero, suc, Bool, false, List, [], ◌∷◌, ◌++◌, map, length, Option, Some, None, is_some, Result, Ok, Err, refl, sym, ◌∙◌}
-use Rattle.std.proofs.Common.{ap}
+use Rattle.std.proofs.Common.{◌≡◌, ℕ, zero, suc, Bool, false, List, [], ◌∷◌, ◌++◌, map, length, Option, Some, None, is_some, Result, Ok, Err, refl}
+use Rattle.std.proofs.Common.{sym, ◌∙◌, ap}
 use Rattle.std.specs.Option.{option_map, option_map_or}
 use Rattle.csub_text.specs.Tokens.{Kind, RightParenthesis, Bar, Ampersand, Semicolon, Equals}
 use Rattle.csub_text.specs.Trees.{Expr, Exprs, MoreExprs, Program}
 use Rattle.csub_text.specs.Trees as trees
 use Rattle.csub_text.specs.Grammar.{is, name, Written, And, Or, Writtens, meant, all_meant, assign_meant, program_meant}
 use Rattle.read_rules.specs.declared.faults.Fault.{Fault}
-use Rattle.read_rules.specs.Readings.{Read, Rule, refuse, give, follow, mapped, both, trail, on, the, when, ahead, maybe, picked, turn, turns, loop, end_of}
-use Rattle.read_rules.specs.Readings.{whole}
+use Rattle.read_rules.specs.Readings.{Read, Rule, refuse, give, follow, mapped, both, trail, on, the, when, ahead, maybe, picked, turn, turns, loop}
+use Rattle.read_rules.specs.Readings.{end_of, whole}
 use Rattle.read_rules.specs.Choice.{optional_or, choose, entered, fits}
 use Rattle.std.proofs.Common.{◌<◌, subst, arith}
 use Rattle.std.proofs.lemmas.List.{length-map, append-nil}
@@ -16,11 +16,11 @@ use Rattle.std.proofs.lemmas.Bool.{false≢true}
 use Rattle.read_rules.proofs.Loops.{Advances, loop-last}
 use Rattle.csub_read.proofs.ExprLaws.{and-advances, or-advances}
 use Rattle.csub_read.proofs.TextLaws.{assign-advances}
-use Rattle.csub_read.specs.Reading.{exprs, expr_list, writtens, written_list, makes_expr, makes_written, Factor, NotFactor, RoundFactor, NameFactor, BitFactor}
-use Rattle.csub_read.specs.Reading.{factor, is_deep}
+use Rattle.csub_read.specs.Reading.{exprs, expr_list, writtens, written_list, makes_expr, makes_written, Factor, NotFactor, RoundFactor, NameFactor}
+use Rattle.csub_read.specs.Reading.{BitFactor, factor, is_deep}
 use Rattle.csub_read.specs.Reading.{Rules, factor_behind, neg, list_step, listed, conj, rules_of, inside, expr, state_step, global_step, local_step}
-use Rattle.csub_read.specs.Reading.{assign_rule, assign_step, answer_rule, body_rule, function_rule, text_rule, Parts, parts_of, written_assign, written_of}
-use Rattle.csub_read.specs.Reading.{expr_assign, expr_program}
+use Rattle.csub_read.specs.Reading.{assign_rule, assign_step, answer_rule, body_rule, function_rule, text_rule, Parts, parts_of, written_assign}
+use Rattle.csub_read.specs.Reading.{written_of, expr_assign, expr_program}
 
 -- the second rule reads what the first one does, and gives what f makes of it
 abbrev Image : {T A B : Type 0} → (A → B) → Rule T A → Rule T B → Type 0
@@ -36,8 +36,8 @@ image-give f a tokens = refl
 image-refuse : {T A B : Type 0} (f : A → B) → Image {T = T} f refuse refuse
 image-refuse f tokens = refl
 
-image-mapped : {T A B C D : Type 0} (f : A → B) (p : Rule T A) (q : Rule T B) (g : A → C) (h : C → D) (k : B → D) → ((a : A) → h (g a) ≡ k (f a)) →
-    Image f p q →
+image-mapped : {T A B C D : Type 0} (f : A → B) (p : Rule T A) (q : Rule T B) (g : A → C) (h : C → D) (k : B → D) → ((a : A) → h (g a) ≡ k (f a))
+    → Image f p q →
     Image h (mapped g p) (mapped k q)
 image-mapped {T} {A} {B} f p q g h k same image tokens = go (p tokens) ∙ ap (moved k) (image tokens)
   where
@@ -50,14 +50,14 @@ image-both : {T A B C D : Type 0} (f : A → B) (p : Rule T A) (q : Rule T B) (g
 image-both {T} {A} {B} {C} {D} f p q g r s first second tokens = go (p tokens)
     ∙ ap (λ (x : Read T B). follow {B = B × D} x (λ value. mapped {A = D} {B = B × D} (λ other. (value, other)) s)) (first tokens)
   where
-    behind : (a : A) (x : Read T C) → moved {A = A × C} {B = B × D} (λ v. (f v.0, g v.1)) (moved {A = C} {B = A × C} (λ other. (a, other)) x) ≡
-        moved {A = D} {B = B × D} (λ other. (f a, other)) (moved g x)
+    behind : (a : A) (x : Read T C) → moved {A = A × C} {B = B × D} (λ v. (f v.0, g v.1)) (moved {A = C} {B = A × C} (λ other. (a, other)) x)
+        ≡ moved {A = D} {B = B × D} (λ other. (f a, other)) (moved g x)
     behind a (Ok found) = refl
     behind a (Err fault) = refl
 
     go : (x : Read T A) → moved {A = A × C} {B = B × D} (λ v. (f v.0, g v.1))
-        (follow {B = A × C} x (λ value. mapped {A = C} {B = A × C} (λ other. (value, other)) r)) ≡
-        follow {B = B × D} (moved f x) (λ value. mapped {A = D} {B = B × D} (λ other. (value, other)) s)
+        (follow {B = A × C} x (λ value. mapped {A = C} {B = A × C} (λ other. (value, other)) r))
+        ≡ follow {B = B × D} (moved f x) (λ value. mapped {A = D} {B = B × D} (λ other. (value, other)) s)
     go (Ok found) = behind found.0 (r found.1) ∙ ap (moved {A = D} {B = B × D} (λ other. (f found.0, other))) (second found.1)
     go (Err fault) = refl
 
@@ -72,36 +72,36 @@ image-trail {T} {A} {B} {C} f p q r image tokens = go (p tokens) ∙ ap (λ (x :
     go (Ok found) = behind found.0 (r found.1)
     go (Err fault) = refl
 
-image-when : {T X A B : Type 0} (f : A → B) (test : T → Option X) (p : X → Rule T A) (q : X → Rule T B) (r : Rule T A) (s : Rule T B) →
-    ((x : X) → Image f (p x) (q x)) → Image f r s →
+image-when : {T X A B : Type 0} (f : A → B) (test : T → Option X) (p : X → Rule T A) (q : X → Rule T B) (r : Rule T A) (s : Rule T B)
+    → ((x : X) → Image f (p x) (q x)) → Image f r s →
     Image f (when test p r) (when test q s)
 image-when {T} {X} {A} {B} f test p q r s image other tokens = go (picked test tokens)
   where
-    go : (o : Option (X × List T)) → moved f (option_map_or {T = X × List T} (λ found. p found.0 found.1) o (r tokens)) ≡
-        option_map_or {T = X × List T} (λ found. q found.0 found.1) o (s tokens)
+    go : (o : Option (X × List T)) → moved f (option_map_or {T = X × List T} (λ found. p found.0 found.1) o (r tokens))
+        ≡ option_map_or {T = X × List T} (λ found. q found.0 found.1) o (s tokens)
     go None = other tokens
     go (Some found) = image found.0 found.1
 
 image-on : {T X A B : Type 0} (f : A → B) (test : T → Option X) (p : Rule T A) (q : Rule T B) → Image f p q → Image f (on test (λ _. p)) (on test (λ _. q))
 image-on f test p q image = image-when f test (λ _. p) (λ _. q) refuse refuse (λ _. image) (image-refuse f)
 
-image-ahead : {T X A B : Type 0} (f : A → B) (test : T → Option X) (p : Rule T A) (q : Rule T B) (r : Rule T A) (s : Rule T B) → Image f p q → Image f r s →
-    Image f (ahead test p r) (ahead test q s)
+image-ahead : {T X A B : Type 0} (f : A → B) (test : T → Option X) (p : Rule T A) (q : Rule T B) (r : Rule T A) (s : Rule T B) → Image f p q → Image f r s
+    → Image f (ahead test p r) (ahead test q s)
 image-ahead {T} {X} {A} {B} f test p q r s image other tokens = go (picked test tokens)
   where
-    go : (o : Option (X × List T)) → moved f (option_map_or {T = X × List T} (λ _. p tokens) o (r tokens)) ≡
-        option_map_or {T = X × List T} (λ _. q tokens) o (s tokens)
+    go : (o : Option (X × List T)) → moved f (option_map_or {T = X × List T} (λ _. p tokens) o (r tokens))
+        ≡ option_map_or {T = X × List T} (λ _. q tokens) o (s tokens)
     go None = other tokens
     go (Some found) = image tokens
 
-image-maybe : {T X A B : Type 0} (f : A → B) (test : T → Option X) (p : Rule T A) (q : Rule T B) → Image f p q →
-    Image (option_map f) (maybe test p) (maybe test q)
+image-maybe : {T X A B : Type 0} (f : A → B) (test : T → Option X) (p : Rule T A) (q : Rule T B) → Image f p q
+    → Image (option_map f) (maybe test p) (maybe test q)
 image-maybe f test p q image =
     image-ahead (option_map f) test (mapped Some p) (mapped Some q) (give None) (give None) (image-mapped f p q Some (option_map f) Some (λ a. refl) image)
     (image-give (option_map f) None)
 
-image-optional_or : {T X A B : Type 0} (f : A → B) (test : T → Option X) (p : Rule T A) (q : Rule T B) (r : Rule T (Unit {0})) → Image f p q →
-    Image (option_map f) (optional_or test (λ _. p) r) (optional_or test (λ _. q) r)
+image-optional_or : {T X A B : Type 0} (f : A → B) (test : T → Option X) (p : Rule T A) (q : Rule T B) (r : Rule T (Unit {0})) → Image f p q
+    → Image (option_map f) (optional_or test (λ _. p) r) (optional_or test (λ _. q) r)
 image-optional_or {T} {X} {A} {B} f test p q r image =
     image-when (option_map f) test (λ _. mapped Some p) (λ _. mapped Some q) (mapped (λ _. None) r) (mapped (λ _. None) r)
     (λ _. image-mapped f p q Some (option_map f) Some (λ a. refl) image) ends
@@ -113,8 +113,8 @@ image-optional_or {T} {X} {A} {B} f test p q r image =
     ends : Image (option_map f) (mapped {A = Unit {0}} (λ _. None) r) (mapped {A = Unit {0}} (λ _. None) r)
     ends tokens = none (r tokens)
 
-image-turns : {T A B : Type 0} (f : A → B) (p : Rule T (Option A)) (q : Rule T (Option B)) → Image (option_map f) p q → (n : ℕ) →
-    Image (map f) (turns n p) (turns n q)
+image-turns : {T A B : Type 0} (f : A → B) (p : Rule T (Option A)) (q : Rule T (Option B)) → Image (option_map f) p q → (n : ℕ)
+    → Image (map f) (turns n p) (turns n q)
 image-turns f p q image zero tokens = refl
 image-turns {T} {A} {B} f p q image (suc n) tokens = go (λ rest. image-turns f p q image n rest) (p tokens)
     ∙ ap (λ (x : Read T (Option B)). follow x (turn (turns n q))) (image tokens)
@@ -123,8 +123,8 @@ image-turns {T} {A} {B} f p q image (suc n) tokens = go (λ rest. image-turns f 
     grown a (Ok found) = refl
     grown a (Err fault) = refl
 
-    go : Image (map f) (turns n p) (turns n q) → (x : Read T (Option A)) →
-        moved (map f) (follow x (turn (turns n p))) ≡ follow (moved (option_map f) x) (turn (turns n q))
+    go : Image (map f) (turns n p) (turns n q) → (x : Read T (Option A)) → moved (map f) (follow x (turn (turns n p)))
+        ≡ follow (moved (option_map f) x) (turn (turns n q))
     go before (Ok (None, rest)) = refl
     go before (Ok (Some a, rest)) = grown a (turns n p rest) ∙ ap (moved (λ others. f a ∷ others)) (before rest)
     go before (Err fault) = refl
@@ -132,18 +132,18 @@ image-turns {T} {A} {B} f p q image (suc n) tokens = go (λ rest. image-turns f 
 image-loop : {T A B : Type 0} (f : A → B) (p : Rule T (Option A)) (q : Rule T (Option B)) → Image (option_map f) p q → Image (map f) (loop p) (loop q)
 image-loop f p q image tokens = image-turns f p q image (suc (length tokens)) tokens
 
-image-entered : {T A B : Type 0} (f : A → B) (o : Option ℕ) (p : Rule T A) (q : Rule T B) → Image f p q → (tokens : List T) →
-    Image f (entered o p tokens) (entered o q tokens)
+image-entered : {T A B : Type 0} (f : A → B) (o : Option ℕ) (p : Rule T A) (q : Rule T B) → Image f p q → (tokens : List T)
+    → Image f (entered o p tokens) (entered o q tokens)
 image-entered f None p q image tokens rest = refl
 image-entered f (Some room) p q image tokens rest = image rest
 
-image-choose : {T X A B : Type 0} (f : A → B) (test : T → Option X) (deep : X → Bool) (room : ℕ) (p : X → Rule T A) (q : X → Rule T B) →
-    ((x : X) → Image f (p x) (q x)) →
+image-choose : {T X A B : Type 0} (f : A → B) (test : T → Option X) (deep : X → Bool) (room : ℕ) (p : X → Rule T A) (q : X → Rule T B)
+    → ((x : X) → Image f (p x) (q x)) →
     Image f (choose test deep room p) (choose test deep room q)
 image-choose {T} {X} {A} {B} f test deep room p q image tokens = go (picked test tokens)
   where
-    go : (o : Option (X × List T)) → moved f (option_map_or {T = X × List T} (λ found. entered (fits (deep found.0) room) (p found.0) tokens found.1) o
-        (refuse tokens))
+    go : (o : Option (X × List T)) → moved f
+        (option_map_or {T = X × List T} (λ found. entered (fits (deep found.0) room) (p found.0) tokens found.1) o (refuse tokens))
         ≡ option_map_or {T = X × List T} (λ found. entered (fits (deep found.0) room) (q found.0) tokens found.1) o (refuse tokens)
     go None = refl
     go (Some found) = image-entered f (fits (deep found.0) room) (p found.0) (q found.0) (image found.0) tokens found.1
@@ -154,8 +154,8 @@ all-meant : (es : List Written) → all_meant (writtens es) ≡ exprs (map meant
 all-meant [] = refl
 all-meant (e ∷ others) = ap (MoreExprs (meant e)) (all-meant others)
 
-list-meant : (node : Writtens → Written) (made : Exprs → Expr) → ((es : Writtens) → meant (node es) ≡ made (all_meant es)) → (es : List Written) →
-    meant (written_list node es) ≡ expr_list made (map meant es)
+list-meant : (node : Writtens → Written) (made : Exprs → Expr) → ((es : Writtens) → meant (node es) ≡ made (all_meant es)) → (es : List Written)
+    → meant (written_list node es) ≡ expr_list made (map meant es)
 list-meant node made same [] = same _
 list-meant node made same (e ∷ []) = refl
 list-meant node made same (e ∷ next ∷ others) = same _ ∙ ap (λ l. made (MoreExprs (meant e) (MoreExprs (meant next) l))) (all-meant others)
@@ -176,8 +176,8 @@ neg-meant : (room : ℕ) (w : Rules Written) (e : Rules Expr) → MeantRules w e
 neg-meant room w e k =
     image-choose meant factor is_deep room (λ o. factor_behind makes_written o w) (λ o. factor_behind makes_expr o e) (λ o. behind-meant o w e k)
 
-listed-meant : (mark : Kind) (node : List Written → Written) (made : List Expr → Expr) → ((es : List Written) → meant (node es) ≡ made (map meant es)) →
-    (w : Rule Kind Written) (e : Rule Kind Expr) → Image meant w e →
+listed-meant : (mark : Kind) (node : List Written → Written) (made : List Expr → Expr) → ((es : List Written) → meant (node es) ≡ made (map meant es))
+    → (w : Rule Kind Written) (e : Rule Kind Expr) → Image meant w e →
     Image meant (listed mark node w) (listed mark made e)
 listed-meant mark node made same w e k =
     image-mapped {A = Written × List Written} {B = Expr × List Expr} (λ v. (meant v.0, map meant v.1)) (both w (loop (list_step mark w)))
@@ -319,8 +319,8 @@ end-made f (Err fault) = refl
 pub whole-meant : (room : ℕ) (tokens : List Kind) → whole (text_rule makes_expr room) tokens ≡ made parts_meant (whole (text_rule makes_written room) tokens)
 whole-meant room tokens = sym (ap end_of (text-meant room tokens)) ∙ end-made parts_meant (text_rule makes_written room tokens)
 
-pub whole-written : (room : ℕ) (tokens : List Kind) → whole (mapped written_of (text_rule makes_written room)) tokens ≡
-    made written_of (whole (text_rule makes_written room) tokens)
+pub whole-written : (room : ℕ) (tokens : List Kind) → whole (mapped written_of (text_rule makes_written room)) tokens
+    ≡ made written_of (whole (text_rule makes_written room) tokens)
 whole-written room tokens = end-made written_of (text_rule makes_written room tokens)
 
 -- what is written and what it means are the same program
@@ -332,21 +332,21 @@ pub parts-means : (p : Parts Written) → expr_program (parts_meant p) ≡ progr
 parts-means p = ap (λ body. record { states = p.states; globals = p.globals; locals = p.locals; body = body; answer = meant p.answer }) (body-means p.body)
 
 -- the end of a list
-pub list-ended : {T A : Type 0} (step : Rule T (Option A)) (front : List A) (tokens rest : List T) → step tokens ≡ Ok (None, rest) →
-    mapped (λ others. front ++ others) (loop step) tokens ≡ Ok (front, rest)
+pub list-ended : {T A : Type 0} (step : Rule T (Option A)) (front : List A) (tokens rest : List T) → step tokens ≡ Ok (None, rest)
+    → mapped (λ others. front ++ others) (loop step) tokens ≡ Ok (front, rest)
 list-ended step front tokens rest none = loop-last step (λ others. front ++ others) tokens rest none ∙ ap (λ l. Ok (l, rest)) (append-nil front)
 
 -- a step whose token is taken
-pub maybe-on : {T X A : Type 0} (test : T → Option X) (q : X → Rule T A) (tokens : List T) (x : X) (behind : List T) (value : A) (rest : List T) →
-    picked test tokens ≡ Some (x, behind) → q x behind ≡ Ok (value, rest) →
+pub maybe-on : {T X A : Type 0} (test : T → Option X) (q : X → Rule T A) (tokens : List T) (x : X) (behind : List T) (value : A) (rest : List T)
+    → picked test tokens ≡ Some (x, behind) → q x behind ≡ Ok (value, rest) →
     maybe test (on test q) tokens ≡ Ok (Some value, rest)
 maybe-on {T} {X} {A} test q tokens x behind value rest next read =
     ap (λ o. option_map_or {T = X × List T} (λ _. moved {B = Option A} Some (option_map_or {T = X × List T} (λ found. q found.0 found.1) o (refuse tokens))) o
     (give None tokens)) next
     ∙ ap (moved {B = Option A} Some) read
 
-pub maybe-both : {T X A : Type 0} (test : T → Option X) (q : Rule T A) (tokens : List T) (x : X) (behind : List T) (value : X × A) (rest : List T) →
-    picked test tokens ≡ Some (x, behind) →
+pub maybe-both : {T X A : Type 0} (test : T → Option X) (q : Rule T A) (tokens : List T) (x : X) (behind : List T) (value : X × A) (rest : List T)
+    → picked test tokens ≡ Some (x, behind) →
     mapped (λ v. (x, v)) q behind ≡ Ok (value, rest) → maybe test (both (the test) q) tokens ≡ Ok (Some value, rest)
 maybe-both {T} {X} {A} test q tokens x behind value rest next read =
     ap (λ o. option_map_or {T = X × List T} (λ _. moved {B = Option (X × A)} Some
@@ -360,8 +360,8 @@ maybe-last {T} {X} {A} test p tokens none = ap (λ o. option_map_or {T = X × Li
 -- behind a token that is taken, what does not begin with another
 pub on-apart : {T X Y A : Type 0} (test : T → Option X) (other : T → Option Y) (p : Rule T (Option A)) (q : Rule T A) (tokens : List T) (x : X)
     (behind : List T) (value : A) (rest : List T)
-    → picked test tokens ≡ Some (x, behind) → picked other behind ≡ None → q behind ≡ Ok (value, rest) →
-    on test (λ _. ahead other p (mapped Some q)) tokens ≡ Ok (Some value, rest)
+    → picked test tokens ≡ Some (x, behind) → picked other behind ≡ None → q behind ≡ Ok (value, rest) → on test (λ _. ahead other p (mapped Some q)) tokens
+    ≡ Ok (Some value, rest)
 on-apart {T} {X} {Y} {A} test other p q tokens x behind value rest next none read =
     ap (λ o. option_map_or {T = X × List T} (λ found. ahead {A = Option A} other p (mapped {B = Option A} Some q) found.1) o (refuse tokens)) next
     ∙ ap (λ o. option_map_or {T = Y × List T} (λ _. p behind) o (mapped {B = Option A} Some q behind)) none

@@ -11,8 +11,8 @@ use Rattle.csub_read.proofs.NameLists.{unset-found}
 use Rattle.csub_read.specs.NameTests.{wrong_use, NamesFault, UseFault, UnsetFault}
 
 -- a test by what is known is one by the declared names
-pub wrong-same : (known : List ℕ → Bool) (names : List (List ℕ)) → ((name : List ℕ) → known name ≡ is_among name names) → (u : Use) →
-    wrong_use known u ≡ is_wrong names u
+pub wrong-same : (known : List ℕ → Bool) (names : List (List ℕ)) → ((name : List ℕ) → known name ≡ is_among name names) → (u : Use) → wrong_use known u
+    ≡ is_wrong names u
 wrong-same known names same (Assigned name) = ap (λ b. begins_input name || not b) (same name)
 wrong-same known names same (Taken name) = ap not (same name)
 
@@ -26,8 +26,8 @@ unset-by found other same (faults.Twice name) is = absurd is
 unset-by found other same (faults.Undeclared name) is = absurd is
 
 -- a local that an assignment reads too early
-pub unset-set : (known old : List ℕ → Bool) (locals : List (List ℕ)) (a : Assign) (body : List Assign) (answer : Expr) →
-    ((n : List ℕ) → known n ≡ is_among n locals)
+pub unset-set : (known old : List ℕ → Bool) (locals : List (List ℕ)) (a : Assign) (body : List Assign) (answer : Expr)
+    → ((n : List ℕ) → known n ≡ is_among n locals)
     → (all : Option (List ℕ)) → all ≡ unset_from (filter (λ n. not (old n)) locals) (a ∷ body) answer → (e : CError)
     → UnsetFault (find (λ n. known n && not (old n)) (names_in a.value)) e → UnsetFault all e
 unset-set known old locals a body answer same all left (faults.Unset name) is = left ∙ unset-found known old locals a body answer name same is

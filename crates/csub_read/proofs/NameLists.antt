@@ -1,6 +1,6 @@
 -- Inner: names that stand a second time, names among others, and the places of names.
-use Rattle.std.proofs.Common.{◌≡◌, ℕ, ◌+◌, ◌<◌, ◌≤◌, zero, suc, Bool, true, false, not, cond, ◌||◌, ◌&&◌, List, [], ◌∷◌, ◌++◌, length, get_or, take, drop, refl}
-use Rattle.std.proofs.Common.{sym, ap, ◌∙◌, arith, Some, None}
+use Rattle.std.proofs.Common.{◌≡◌, ℕ, ◌+◌, ◌<◌, ◌≤◌, zero, suc, Bool, true, false, not, cond, ◌||◌, ◌&&◌, List, [], ◌∷◌, ◌++◌, length, get_or, take}
+use Rattle.std.proofs.Common.{drop, refl, sym, ap, ◌∙◌, arith, Some, None}
 use Rattle.std.specs.Prelude.{find, filter, if◌then◌else◌}
 use Rattle.std.specs.Cmp.Lexicographic.{nat_list_eq_equiv}
 use Rattle.std.proofs.Math.Seq.{drop-cons}
@@ -75,8 +75,8 @@ none-from names once (suc i) low =
     let inside : i < length names = omega (arith, low) in
     let before = none-from names once i (omega (arith, low)) in
     ap (λ m. first_again (take m names) (drop m names)) (sym n)
-    ∙ elim (is_among (get_or names i []) (take i names)) as (λ b. is_among (get_or names i []) (take i names) ≡ b →
-    first_again (take (i + 1) names) (drop (i + 1) names) ≡ None)
+    ∙ elim (is_among (get_or names i []) (take i names)) as
+    (λ b. is_among (get_or names i []) (take i names) ≡ b → first_again (take (i + 1) names) (drop (i + 1) names) ≡ None)
     [ true ↦ λ e. let s = sym (first_again-found names i [] inside e) ∙ before in cc | false ↦ λ e. sym (first_again-step names i [] inside e) ∙ before ] refl
 
 pub new-at : (names : List (List ℕ)) → first_again [] names ≡ None → (i : ℕ) → i < length names → is_among (get_or names i []) (take i names) ≡ false
@@ -103,8 +103,8 @@ filter-same p q (x ∷ xs) same = ap (λ b. if b then x ∷ filter p xs else fil
 filter-twice : {X : Type 0} (p q : X → Bool) (xs : List X) → filter p (filter q xs) ≡ filter (λ x. q x && p x) xs
 filter-twice p q [] = refl
 filter-twice p q (x ∷ xs) =
-    elim (q x) as (λ b. filter p (if b then x ∷ filter q xs else filter q xs) ≡
-    (if b && p x then x ∷ filter (λ x. q x && p x) xs else filter (λ x. q x && p x) xs))
+    elim (q x) as (λ b. filter p (if b then x ∷ filter q xs else filter q xs)
+    ≡ (if b && p x then x ∷ filter (λ x. q x && p x) xs else filter (λ x. q x && p x) xs))
     [ true ↦ ap (λ l. if p x then x ∷ l else l) (filter-twice p q xs) | false ↦ filter-twice p q xs ]
 
 filter-all : {X : Type 0} (p : X → Bool) (xs : List X) → ((x : X) → p x ≡ true) → filter p xs ≡ xs
@@ -123,8 +123,8 @@ among-filter p x (y ∷ xs) =
       | true ↦ λ e. let at = ap p (same-eq x y e) in
           elim (p y) as (λ c. p x ≡ c → is_among x (if c then y ∷ filter p xs else filter p xs) ≡ p x) [
             | true ↦ λ f. ap (λ b. b || is_among x (filter p xs)) e ∙ sym f
-            | false ↦
-                λ f. among-filter p x xs ∙ ap (λ b. is_among x xs && b) f ∙ and-false (is_among x xs) ∙ sym f
+            | false ↦ λ f. among-filter p x xs ∙ ap (λ b. is_among x xs && b) f
+                ∙ and-false (is_among x xs) ∙ sym f
           ] at
       | false ↦ λ e. elim (p y) as (λ c. is_among x (if c then y ∷ filter p xs else filter p xs) ≡ (is_among x xs && p x))
           [ true ↦ ap (λ b. b || is_among x (filter p xs)) e ∙ among-filter p x xs | false ↦ among-filter p x xs ]
@@ -155,8 +155,8 @@ filter-more old new target locals grows =
 pub filter-none : (old : List ℕ → Bool) (locals : List (List ℕ)) → ((n : List ℕ) → old n ≡ false) → filter (λ n. not (old n)) locals ≡ locals
 filter-none old locals none = filter-all (λ n. not (old n)) locals (λ n. ap not (none n))
 
-pub unset-step : (known old new : List ℕ → Bool) (locals : List (List ℕ)) (a : Assign) (body : List Assign) (answer : Expr) →
-    ((n : List ℕ) → known n ≡ is_among n locals)
+pub unset-step : (known old new : List ℕ → Bool) (locals : List (List ℕ)) (a : Assign) (body : List Assign) (answer : Expr)
+    → ((n : List ℕ) → known n ≡ is_among n locals)
     → find (λ n. known n && not (old n)) (names_in a.value) ≡ None → ((n : List ℕ) → new n ≡ cond (is_same_name a.target n) true (old n))
     → unset_from (filter (λ n. not (old n)) locals) (a ∷ body) answer ≡ unset_from (filter (λ n. not (new n)) locals) body answer
 unset-step known old new locals a body answer same none grows =
@@ -164,8 +164,8 @@ unset-step known old new locals a body answer same none grows =
     (unset-here known old locals (names_in a.value) same ∙ none)
     ∙ ap (λ l. unset_from l body answer) (filter-more old new a.target locals grows)
 
-pub unset-found : (known old : List ℕ → Bool) (locals : List (List ℕ)) (a : Assign) (body : List Assign) (answer : Expr) (name : List ℕ) →
-    ((n : List ℕ) → known n ≡ is_among n locals)
+pub unset-found : (known old : List ℕ → Bool) (locals : List (List ℕ)) (a : Assign) (body : List Assign) (answer : Expr) (name : List ℕ)
+    → ((n : List ℕ) → known n ≡ is_among n locals)
     → find (λ n. known n && not (old n)) (names_in a.value) ≡ Some name → unset_from (filter (λ n. not (old n)) locals) (a ∷ body) answer ≡ Some name
 unset-found known old locals a body answer name same found =
     ap (λ o. or_else o (unset_from (filter (λ n. not (is_same_name a.target n)) (filter (λ n. not (old n)) locals)) body answer))

@@ -1,6 +1,6 @@
 -- Inner: what the answer of the reading function says of a text.
-use Rattle.std.proofs.Common.{◌≡◌, ℕ, ◌-◌, ◌<◌, ◌≤◌, get_or, Bool, true, false, List, [], ◌∷◌, length, map, drop, None, Result, Ok, Err, refl, sym, ◌∙◌, ap}
-use Rattle.std.proofs.Common.{subst, arith}
+use Rattle.std.proofs.Common.{◌≡◌, ℕ, ◌-◌, ◌<◌, ◌≤◌, get_or, Bool, true, false, List, [], ◌∷◌, length, map, drop, None, Result, Ok, Err, refl, sym}
+use Rattle.std.proofs.Common.{◌∙◌, ap, subst, arith}
 use Rattle.std.proofs.lemmas.List.{length-map, length-append, get_or-map, drop_all}
 use Rattle.std.proofs.lemmas.Bool.{false≢true}
 use Rattle.est_base.specs.declared.bounds.TheConstants.Limits.{TEXT_BYTES}
@@ -18,7 +18,8 @@ use Rattle.read_rules.specs.Exact.{Exactly, IsOnly, IsLeastPlace}
 use Rattle.csub_read.specs.declared.refusal.CError.{CError}
 use Rattle.csub_read.specs.declared.refusal.CError.TheVariants as faults
 use Rattle.csub_read.specs.declared.tokens.Token.{Token}
-use Rattle.csub_read.specs.Faults.{ReadsAs, ReadsFault, IsSyntaxFault, SyntaxFault, Spells, place_of}
+use Rattle.csub_read.specs.Faults.{ReadsAs, ReadsFault, IsSyntaxFault, place_of}
+use Rattle.csub_read.specs.Steps.{SyntaxFault, Spells}
 use Rattle.csub_read.specs.NameTests.{NamesFault}
 use Rattle.csub_read.specs.Reading.{Parts, makes_expr, makes_written, text_rule, written_of, expr_assign, expr_program, pair_of, parts_in}
 use Rattle.csub_read.specs.Tokens.{token_of, kind_in}
@@ -44,8 +45,8 @@ record Reads (ks : List Kind) (parts : Parts Expr) : Type 0 where
   only : IsOnly IsText nesting_limit ks written
   means : program_meant written ≡ expr_program parts
 
-exact-made : (ks : List Kind) (w : Result (Parts Written) Fault) → whole (text_rule makes_written nesting_limit) ks ≡ w →
-    Exactly IsText nesting_limit ks (made written_of w)
+exact-made : (ks : List Kind) (w : Result (Parts Written) Fault) → whole (text_rule makes_written nesting_limit) ks ≡ w
+    → Exactly IsText nesting_limit ks (made written_of w)
 exact-made ks w is = subst (Exactly IsText nesting_limit ks) (whole-written nesting_limit ks ∙ ap (made written_of) is) (text-exact nesting_limit ks)
 
 abbrev value_or : {A : Type 0} → A → Result A Fault → A
@@ -93,8 +94,8 @@ program-is p = ap (λ body. record {
     go [] = refl
     go (a ∷ body) = ap (λ l. assign_of a ∷ l) (go body)
 
-pub spells-by : (text : List ℕ) (ks : List Kind) (p : CProgram) → ks ≡ kinds text → whole (text_rule makes_expr nesting_limit) ks ≡ Ok (parts_in p) →
-    Spells text (program_of p)
+pub spells-by : (text : List ℕ) (ks : List Kind) (p : CProgram) → ks ≡ kinds text → whole (text_rule makes_expr nesting_limit) ks ≡ Ok (parts_in p)
+    → Spells text (program_of p)
 spells-by text ks p same is =
     let r = reads-by ks (parts_in p) is in
     record {
@@ -111,8 +112,8 @@ left-low ks fault least =
     let b = length-append least.front least.rest in
     omega (arith, a, b, least.place)
 
-pub syntax-by : (text : List ℕ) (all : List Token) (fault : Fault) (at : ℕ) → map token_of all ≡ tokens text →
-    IsLeastPlace IsText nesting_limit (map kind_in all) fault
+pub syntax-by : (text : List ℕ) (all : List Token) (fault : Fault) (at : ℕ) → map token_of all ≡ tokens text
+    → IsLeastPlace IsText nesting_limit (map kind_in all) fault
     → at ≡ place_of (length text) (drop (length all - fault.left) (map token_of all)) → IsSyntaxFault text at
 syntax-by text all fault at same least place =
     let n : length all ≡ length (tokens text) = sym (length-map all token_of) ∙ ap length same in

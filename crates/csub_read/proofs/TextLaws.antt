@@ -12,8 +12,8 @@ use Rattle.read_rules.specs.Languages.{One as Single}
 use Rattle.read_rules.specs.Choice.{Made}
 use Rattle.read_rules.specs.Readings.{Rule, mapped, both, the, loop, whole}
 use Rattle.read_rules.proofs.Loops.{Advances, mapped-mapped}
-use Rattle.read_rules.proofs.Readers.{one_shape, Stops, Laws, Reads, the-reads, both-reads, led-reads, trail-reads, ahead-reads, mapped-reads, told-reads}
-use Rattle.read_rules.proofs.Readers.{made-reads, same-reads, shape-reads}
+use Rattle.read_rules.proofs.Readers.{one_shape, Stops, Laws, Reads, the-reads, both-reads, led-reads, trail-reads, ahead-reads, mapped-reads}
+use Rattle.read_rules.proofs.Readers.{told-reads, made-reads, same-reads, shape-reads}
 use Rattle.read_rules.proofs.Steps.{Turn, step_depth, list_depth, AfterStep, StepLaws, Steps, look-steps, loop-reads, Advances-step}
 use Rattle.read_rules.proofs.Choices.{whole-reads as exact-reads}
 use Rattle.csub_read.specs.Reading.{makes_written, expr, state_rule, state_step, global_step, local_rule, local_step, assign_rule, assign_step}
@@ -37,8 +37,8 @@ StateBehind s = Then (Single own_name s.name) (Led (is Equals) (λ _. Then (Sing
 
 state-reads : {room : Option ℕ} → Reads class (λ _. state_rule) SpellsState (λ _. 0) (one_shape (0 ∷ [])) room
 state-reads =
-    led-reads (is-test Static (omega arith)) (led-reads (is-test Int (omega arith))
-    (made-reads (λ found. record { name = found.0; init = found.1 }) StateBehind (λ _. 0)
+    led-reads (is-test Static (omega arith))
+    (led-reads (is-test Int (omega arith)) (made-reads (λ found. record { name = found.0; init = found.1 }) StateBehind (λ _. 0)
     (both-reads own-reads (led-reads (is-test Equals (omega arith)) (trail-reads (the-reads bit-test) end-reads refl)) refl) (λ _. refl)
     (λ found tokens member. member) (λ s tokens member. ((s.name, s.init), refl, member))))
 
@@ -55,8 +55,8 @@ GlobalBehind None = Single (is React) tt
 GlobalBehind (Some n) = Then (Single global_name n) (Single (is Semicolon) tt)
 
 abbrev EitherGlobal : Option (List ℕ) → List Kind → Type 0
-EitherGlobal v tokens = Made {A = Unit {0}} (λ _. None) (Single (is React)) v tokens
-    ⊎ Made Some (λ n. Then (Single global_name n) (Single (is Semicolon) tt)) v tokens
+EitherGlobal v tokens = Made {A = Unit {0}} (λ _. None) (Single (is React)) v tokens ⊎ Made Some
+    (λ n. Then (Single global_name n) (Single (is Semicolon) tt)) v tokens
 
 global_to : (v : Option (List ℕ)) (tokens : List Kind) → EitherGlobal v tokens → GlobalBehind v tokens
 global_to v tokens (inl made) = subst (λ v. GlobalBehind v tokens) made.1 made.2
@@ -91,8 +91,8 @@ after_global : (v : Option (List ℕ)) (rest : List Kind) → AfterStep class gl
 after_global None rest stops = stops
 after_global (Some n) rest stops = stops
 
-global-laws : (room : Option ℕ) → Laws class (λ _. global_step) SpellsGlobal no_depth (one_shape (1 ∷ [])) room →
-    StepLaws class (λ _. global_step) SpellsGlobal (λ _. 0) global_turn room
+global-laws : (room : Option ℕ) → Laws class (λ _. global_step) SpellsGlobal no_depth (one_shape (1 ∷ [])) room
+    → StepLaws class (λ _. global_step) SpellsGlobal (λ _. 0) global_turn room
 global-laws None laws = tt
 global-laws (Some n) laws = (
   laws.0,
@@ -148,16 +148,16 @@ SpellsFound p =
 
 abbrev found_depth : Found → ℕ
 found_depth p =
-    max (list_depth (λ _. 0) p.0) (max (list_depth (λ _. 0) p.1.0) (max (list_depth (λ _. 0) p.1.1.0)
-    (max (list_depth pair_depth p.1.1.1.0) (written_nesting p.1.1.1.1))))
+    max (list_depth (λ _. 0) p.0) (max (list_depth (λ _. 0) p.1.0)
+    (max (list_depth (λ _. 0) p.1.1.0) (max (list_depth pair_depth p.1.1.1.0) (written_nesting p.1.1.1.1))))
 
 found-reads : (room : ℕ) → Reads class (λ n. both (loop state_step) (both (loop global_step) (function_rule makes_written n))) SpellsFound found_depth
     (record { starts = 0 ∷ 1 ∷ []; empty = false; after = [] }) (Some room)
 found-reads room =
     shape-reads (record { starts = 0 ∷ 1 ∷ []; empty = false; after = [] })
     (both-reads (loop-reads state-steps refl) (both-reads (loop-reads (global-steps (Some room)) refl)
-    (led-reads (is-test LeftParenthesis (omega arith)) (led-reads (is-test Void (omega arith))
-    (led-reads (is-test RightParenthesis (omega arith)) (led-reads (is-test LeftBrace (omega arith))
+    (led-reads (is-test LeftParenthesis (omega arith))
+    (led-reads (is-test Void (omega arith)) (led-reads (is-test RightParenthesis (omega arith)) (led-reads (is-test LeftBrace (omega arith))
     (both-reads (loop-reads local-steps refl) (both-reads (loop-reads (assign-steps room) refl) (answer-reads room) refl) refl))))) refl) refl) refl refl refl
 
 flat : {A : Type 0} (values : List A) → list_depth (λ _. 0) values ≡ 0
@@ -315,8 +315,8 @@ text-from p tokens member =
       },
     )
 
-text-reads : (room : ℕ) → Reads class (λ n. mapped program_in (both (loop state_step) (both (loop global_step) (function_rule makes_written n)))) SpellsText
-    text_nesting
+text-reads : (room : ℕ) → Reads class (λ n. mapped program_in
+    (both (loop state_step) (both (loop global_step) (function_rule makes_written n)))) SpellsText text_nesting
     (record { starts = 0 ∷ 1 ∷ []; empty = false; after = [] }) (Some room)
 text-reads room =
     made-reads program_in SpellsText text_nesting (found-reads room)
@@ -328,8 +328,8 @@ written_rule n = mapped written_of (text_rule makes_written n)
 
 written-reads : (room : ℕ) → Reads class written_rule SpellsText text_nesting (record { starts = 0 ∷ 1 ∷ []; empty = false; after = [] }) (Some room)
 written-reads room =
-    same-reads written_rule (text-reads room) (λ n tokens. mapped-mapped parts_of written_of
-    (both (loop state_step) (both (loop global_step) (function_rule makes_written n)) tokens))
+    same-reads written_rule (text-reads room)
+    (λ n tokens. mapped-mapped parts_of written_of (both (loop state_step) (both (loop global_step) (function_rule makes_written n)) tokens))
 
 -- THE THEOREM: the reading function is exact over whole lists of kinds
 pub text-exact : (room : ℕ) (tokens : List Kind) → Exactly IsText room tokens (whole (written_rule room) tokens)

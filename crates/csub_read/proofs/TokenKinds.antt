@@ -1,6 +1,6 @@
 -- Inner: the kinds of tokens as numbers, and what the tests of single tokens take.
-use Rattle.std.proofs.Common.{◌≡◌, ℕ, ◌<◌, ◌≤◌, Bool, true, false, ◌&&◌, ◌==◌, cond, eqb, eq-eqb, nat_lt, List, [], ◌∷◌, length, Some, None, is_some, refl, sym}
-use Rattle.std.proofs.Common.{◌∙◌, ap, arith}
+use Rattle.std.proofs.Common.{◌≡◌, ℕ, ◌<◌, ◌≤◌, Bool, true, false, ◌&&◌, ◌==◌, cond, eqb, eq-eqb, nat_lt, List, [], ◌∷◌, length, Some, None, is_some}
+use Rattle.std.proofs.Common.{refl, sym, ◌∙◌, ap, arith}
 use Rattle.std.specs.Prelude.{if◌then◌else◌}
 use Rattle.std.proofs.lemmas.Bool.{eqb-true}
 use Rattle.csub_text.specs.Tokens.{Kind, Static, Zero, Bang, Named}
@@ -22,8 +22,8 @@ high true false = omega arith
 high false c = omega arith
 
 apart-high : (n m : ℕ) → n < 16 → 16 ≤ m → eqb n m ≡ false
-apart-high n m low up = elim (eqb n m) as (λ b. eqb n m ≡ b → b ≡ false)
-    [ true ↦ λ e. absurd (omega (arith, low, up, eqb-true n m e)) | false ↦ λ e. refl ] refl
+apart-high n m low up = elim (eqb n m) as
+    (λ b. eqb n m ≡ b → b ≡ false) [ true ↦ λ e. absurd (omega (arith, low, up, eqb-true n m e)) | false ↦ λ e. refl ] refl
 
 both-ways : (b : Bool) → is_some {T = Unit {0}} (if b then Some tt else None) ≡ cond b true false
 both-ways true = refl

@@ -29,18 +29,6 @@ pub record IsSyntaxFault (text : List ℕ) (at : ℕ) : Type 0 where
   pub least : IsLeastPlace IsText nesting_limit (kinds text) fault
   pub place : at ≡ place_of (length text) (drop (length (tokens text) - fault.left) (tokens text))
 
--- the tokens spell what is written for the program, and for no other one
-pub record Spells (text : List ℕ) (program : Program) : Type 0 where
-  pub written : WrittenProgram
-  pub spelled : IsText nesting_limit written (kinds text)
-  pub means : program_meant written ≡ program
-  pub only : (other : WrittenProgram) → IsText nesting_limit other (kinds text) → other ≡ written
-
-abbrev pub SyntaxFault : List ℕ → CError → Type 0
-SyntaxFault text (faults.Syntax at) = IsSyntaxFault text at
-SyntaxFault text faults.NoMemory = ⊤
-SyntaxFault text others = ⊥
-
 -- the text has the grammar, and this is the first fault of its names
 pub record IsNameFault (text : List ℕ) (fault : NameFault) : Type 0 where
   pub written : WrittenProgram

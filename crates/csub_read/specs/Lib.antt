@@ -1,5 +1,6 @@
 pub mod Tokens
 pub mod Reading
 pub mod Faults
+pub mod Steps
 pub mod NameTests
 pub mod Laws

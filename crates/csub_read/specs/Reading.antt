@@ -1,6 +1,5 @@
 -- Inner: the reading function of the grammar, from the left with one token ahead. What it makes of an expression is
--- left
--- open: it makes what is written, and what that means.
+-- left open: it makes what is written, and what that means.
 use Rattle.std.specs.Prelude.{◌≡◌, ℕ, zero, suc, Bool, true, false, List, [], ◌∷◌, map, Option, Some, None, Ok, Err}
 use Rattle.std.specs.Prelude.{Result}
 use Rattle.std.specs.Borrow.{Bor}

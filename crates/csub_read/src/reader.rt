@@ -5,8 +5,9 @@ ghost use Rattle.csub_text.specs.Names.{name_fault};
 ghost use Rattle.csub_text.specs.Texts.{nesting_limit};
 ghost use Rattle.csub_text.specs.Tokens.{kinds};
 ghost use Rattle.csub_text.specs.Views.{program_of};
-ghost use Rattle.csub_read.specs.Faults.{ReadsAs, ReadsFault, SyntaxFault, Spells, place_of};
+ghost use Rattle.csub_read.specs.Faults.{ReadsAs, ReadsFault, place_of};
 ghost use Rattle.csub_read.specs.Reading.{GivesKinds, parts_in, makes_expr, text_rule};
+ghost use Rattle.csub_read.specs.Steps.{SyntaxFault, Spells};
 ghost use Rattle.csub_read.specs.Tokens.{kind_in, token_of};
 ghost use Rattle.read_rules.specs.Readings.{whole};
 

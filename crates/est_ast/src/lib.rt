@@ -1,4 +1,5 @@
-//! The source language as data: the tokens of a program text, and which tokens a text has.
+//! The source language as data: the tokens of a program text, source trees, flat trees, and which tokens and which
+//! trees a text has.
 //!
 //! The language is the one of Berry, "The Constructive Semantics of Pure Esterel", in the concrete
 //! syntax that docs/language.md states. `specs/Lexing.antt` says of every text either its one list

@@ -1,4 +1,4 @@
--- Inner: laws of kernel expansion.
+-- To believe: laws of kernel expansion.
 use Rattle.std.specs.Prelude.{◌≡◌, ℕ, ◌+◌, ◌==◌, false, List, ◌∷◌, Some}
 use Rattle.est_base.specs.declared.place.Span.{Span}
 use Rattle.est_kernel.specs.Laws.{left_after}

@@ -8,5 +8,8 @@ pub mod TrapPlaces
 pub mod FoundLists
 pub mod ScopeTables
 pub mod FlatForms
+pub mod SameNames
+pub mod SameWalks
 mod WorkedPrograms
 mod DrawnPrograms
+mod RenamedPrograms

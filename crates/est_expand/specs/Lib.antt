@@ -9,4 +9,5 @@ pub mod Tables
 pub mod Counted
 pub mod Views
 pub mod FlatPrograms
+pub mod Renaming
 pub mod Laws

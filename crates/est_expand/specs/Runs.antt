@@ -36,8 +36,7 @@ renamed formals scope given (rename ∷ renames) =
     else Err (BadRename rename.formal.span)
 
 -- The scope of a module's body. Each formal means its actual, or else the signal of the same name that is visible at
--- the
--- `run`, whose module name is at this place.
+-- the `run`, whose module name is at this place.
 abbrev pub opened : Span → Scope → Scope → Scope → List Formal → Result Scope Fault
 opened place scope given inner [] = Ok inner
 opened place scope given inner (formal ∷ formals) =

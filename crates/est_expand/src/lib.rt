@@ -19,5 +19,5 @@ mod traps;
 mod walk;
 
 pub use expansion::expand;
-pub use laws::flat_forms_fit;
+pub use laws::{flat_forms_fit, renaming_changes_names_alone};
 pub use refusal::ExpandFault;

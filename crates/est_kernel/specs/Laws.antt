@@ -1,4 +1,4 @@
--- Inner: the laws that tie the tables to one another: what Must and Can, steps, runs and codes are to be.
+-- To believe: the laws that tie the tables to one another: what Must and Can, steps, runs and codes are to be.
 use Rattle.std.specs.Prelude.{◌≡◌, ℕ, suc, ◌+◌, ◌<◌, ◌≤◌, ◌↔◌, Bool, ◌==◌, List, [], ◌∷◌, ◌++◌, length, take, slice_get}
 use Rattle.std.specs.Prelude.{All, IsTrue, Option, Some, None, option_and_then, if◌then◌else◌, ⊤}
 use Rattle.est_base.specs.Items.{Item, Event, Reset}

@@ -1,6 +1,6 @@
 -- To believe: what a term must do and what it can do in an environment, after Berry, "The Constructive Semantics
--- of Pure Esterel". The tables of this file are the project's own text: one row per form, for three
--- kinds of potential at once.
+-- of Pure Esterel". Must is his Must, Can his Can with the sign +, May his Can with the sign ⊥. The tables are written
+-- out anew, one row per form, for the three kinds at once; where they should differ from his, these count.
 use Rattle.std.specs.Prelude.{ℕ, Bool, false, not, ◌==◌, ◌&&◌, ◌||◌, if◌then◌else◌}
 use Rattle.est_base.specs.Codes.{no_code, only, either, except, maxima, lowered}
 use Rattle.est_kernel.specs.Terms.{Term, Nothing, Pause, Emit, Exit, Present, Suspend, Seq, Loop, Par, Trap, Local}

@@ -63,8 +63,8 @@ pub fn runs_are_reactions()
     ensures prefixes { PrefixHasPrefixOfAnswers }
 {}
 
-/// What is left of a kernel statement after an instant completes with one of its resumed codes, where
-/// no loop is instantaneous.
+/// Each tree of this crate is a kernel statement. What is left of one after one instant or more completes with
+/// one of its resumed codes, where no loop is instantaneous.
 pub fn residuals_complete_as_resumed()
     ensures trees { TreesAreKernels }
     ensures residuals { LeftCompletesAsResumed }

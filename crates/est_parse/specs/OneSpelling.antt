@@ -1,7 +1,6 @@
 -- To believe: the one spelling of a tree, by the kinds of its tokens. It has no word and no `;` that may be left out,
 -- `end module` at the end of a module, and `repeat` for both spellings of that statement. So each clause is a
--- production
--- of the grammar of est_ast without what is optional in it.
+-- production of the grammar of est_ast without what is optional in it.
 use Rattle.std.specs.Prelude.{ℕ, List, [], ◌∷◌, ◌++◌}
 use Rattle.std.specs.List.{flat_map}
 use Rattle.est_ast.specs.declared.tokens.Kind.{Kind}

@@ -24,7 +24,7 @@ use Rattle.grc_graph.specs.PlainGraphs.{instance_at}
 use Rattle.grc_graph.specs.PlainInstances.{instance_of}
 use Rattle.grc_graph.specs.Rows.{program_rows}
 use Rattle.grc_graph.specs.Scopes.{program_scope}
-use Rattle.grc_graph.specs.Selected.{IsKernel}
+use Rattle.grc_graph.specs.Selected.{HasExitCodes}
 use Rattle.grc_graph.specs.Statements.{Body}
 use Rattle.grc_graph.specs.WireTables.{IsNumberOf}
 use Rattle.grc_graph.specs.Wires.{Wire, Go}
@@ -46,11 +46,11 @@ use Rattle.grc_build.proofs.TableFacts.{kernel_of}
 pub instances_ascend : (t : Tables) → AreTables t → Ascends (instances_in t.wires)
 instances_ascend t h = subst Ascends (sym h.instances) (instances_ascend_lem (program_in t).body)
 
-body_kernel : (t : Tables) → AreTables t → IsKernel (program_in t).body
+body_kernel : (t : Tables) → AreTables t → HasExitCodes (program_in t).body
 body_kernel t h =
     let p = program_in t in
     let r = row_read (program_rows p) (body_liveness p.body) (program_scope p.inputs (interface_count p)) Body p.body 0 (stands_whole (program_rows p)) in
-    subst IsKernel (ap (λ r. r.statement) r.same) (program_kernel p 0 (kernel_of t) h.formed.body (omega (arith, r.within, length-program_rows p)))
+    subst HasExitCodes (ap (λ r. r.statement) r.same) (program_kernel p 0 (kernel_of t) h.formed.body (omega (arith, r.within, length-program_rows p)))
 
 -- ---- leaves
 

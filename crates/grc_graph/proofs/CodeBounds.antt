@@ -16,7 +16,7 @@ use Rattle.est_kernel.specs.WellFormed.{ExitsStandInTraps, KeepsLimits}
 use Rattle.est_kernel.proofs.Sets.{except-parts, maxima-parts, lowered-parts}
 use Rattle.grc_graph.specs.Layers.{Layer, Resumed, Started, Liveness, body_liveness, part_liveness, second_liveness, loop_liveness}
 use Rattle.grc_graph.specs.Scopes.{Scope, bind, program_scope}
-use Rattle.grc_graph.specs.Selected.{IsKernel}
+use Rattle.grc_graph.specs.Selected.{HasExitCodes}
 use Rattle.grc_graph.specs.Statements.{Entry, Body, Part, Branch, Then, Else, Suspended, Second, Looped}
 use Rattle.grc_graph.specs.Rows.{Row, row, rows, program_rows, row_at}
 use Rattle.grc_graph.specs.Wires.{instance_codes}
@@ -29,7 +29,7 @@ trap_code-le (suc (suc zero)) = omega arith
 trap_code-le (suc (suc (suc k))) = omega arith
 
 -- the codes of a kernel are below 64
-pub started_below : (t : Term) → IsKernel t → (k : ℕ) → started_codes t k ≡ true → k < 64
+pub started_below : (t : Term) → HasExitCodes t → (k : ℕ) → started_codes t k ≡ true → k < 64
 started_below Nothing b k h = omega (arith, eqb-true k 0 h)
 started_below Pause b k h = omega (arith, eqb-true k 1 h)
 started_below (Emit s) b k h = omega (arith, eqb-true k 0 h)
@@ -59,7 +59,7 @@ branch_below : (p : Term) (k : ℕ) → (resumed_codes p k ≡ true → k < 64) 
 branch_below p k f h =
     ⊎_elim f (λ x. omega (arith, eqb-true k 0 (and_parts _ _ x).1)) (or_cases (resumed_codes p k) _ h)
 
-pub resumed_below : (t : Term) → IsKernel t → (k : ℕ) → resumed_codes t k ≡ true → k < 64
+pub resumed_below : (t : Term) → HasExitCodes t → (k : ℕ) → resumed_codes t k ≡ true → k < 64
 resumed_below Nothing b k h = absurd (false≢true h)
 resumed_below Pause b k h = omega (arith, eqb-true k 0 h)
 resumed_below (Emit s) b k h = absurd (false≢true h)
@@ -89,7 +89,7 @@ resumed_below (Local s p) b k h = resumed_below p b k h
 resumed_below (Awake e p) b k h = absurd b
 
 -- a statement of a program is a kernel
-exits_below : (d : ℕ) (t : Term) → formed.IsKernel t → ExitsStandInTraps d t → d + trap_depth t ≤ 60 → IsKernel t
+exits_below : (d : ℕ) (t : Term) → formed.IsKernel t → ExitsStandInTraps d t → d + trap_depth t ≤ 60 → HasExitCodes t
 exits_below d Nothing k h l = tt
 exits_below d Pause k h l = tt
 exits_below d (Emit s) k h l = tt
@@ -104,9 +104,9 @@ exits_below d (Local s p) k h l = exits_below d p k h l
 exits_below d (Awake e p) k h l = absurd k
 
 abbrev Kernels : Row → Type 0
-Kernels r = IsKernel r.statement
+Kernels r = HasExitCodes r.statement
 
-kernel_rows : (a : Liveness) (B : Scope) (x : Entry) (t : Term) (n : ℕ) → IsKernel t → All Kernels (rows a B x t n)
+kernel_rows : (a : Liveness) (B : Scope) (x : Entry) (t : Term) (n : ℕ) → HasExitCodes t → All Kernels (rows a B x t n)
 kernel_rows a B x Nothing n h = All-cons Kernels _ [] h (All-nil Kernels)
 kernel_rows a B x Pause n h = All-cons Kernels _ [] h (All-nil Kernels)
 kernel_rows a B x (Emit s) n h = All-cons Kernels _ [] h (All-nil Kernels)
@@ -130,12 +130,12 @@ kernel_rows a B x (Local s p) n h = All-cons Kernels _ _ h (kernel_rows (part_li
 kernel_rows a B x (Awake e p) n h = absurd h
 
 pub program_kernel : (p : Program) (n : ℕ) → formed.IsKernel p.body → KeepsLimits p.body → n < statement_count p.body →
-    IsKernel (row_at (program_rows p) n).statement
+    HasExitCodes (row_at (program_rows p) n).statement
 program_kernel p n k h l =
     All-get_or Kernels (program_rows p) n _ (omega (arith, length-program_rows p))
     (kernel_rows (body_liveness p.body) (program_scope p.inputs (interface_count p)) Body p.body 0
     (exits_below 0 p.body k h.exits (let z : 0 + trap_depth p.body ≤ 60 = omega (arith, h.traps) in z)))
 
-pub codes_below-kernel : (t : Term) (l : Layer) (k : ℕ) → IsKernel t → instance_codes t l k ≡ true → k < 64
+pub codes_below-kernel : (t : Term) (l : Layer) (k : ℕ) → HasExitCodes t → instance_codes t l k ≡ true → k < 64
 codes_below-kernel t Resumed k h e = resumed_below t h k e
 codes_below-kernel t (Started r) k h e = started_below t h k e

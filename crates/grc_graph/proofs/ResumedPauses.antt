@@ -9,7 +9,7 @@ use Rattle.est_kernel.specs.Preorder.{statement_count, preorder}
 use Rattle.est_kernel.proofs.CodeLaws.{length-preorder}
 use Rattle.grc_graph.specs.Layers.{Layer, Resumed, Started, Liveness, part_liveness, second_liveness, loop_liveness, body_liveness}
 use Rattle.grc_graph.specs.Instances.{Instance, instances_at, instances, body_instances}
-use Rattle.grc_graph.specs.Selected.{IsKernel}
+use Rattle.grc_graph.specs.Selected.{HasExitCodes}
 use Rattle.grc_graph.specs.SelectionTrees.{leaf_paths, resumes, second_resumes}
 use Rattle.grc_graph.specs.InstanceLaws.{is_pause, is_resumed_pause, LeavesAreResumedPauses}
 use Rattle.grc_graph.proofs.CodeReads.{StandsAt, stands_whole, stands_head, stands_tail, stands_left, stands_right}
@@ -117,7 +117,7 @@ none_if : (b : Bool) → ◌≡◌ {A = List ℕ} [] (if b then [] else [])
 none_if true = refl
 none_if false = refl
 
-found : (body : Term) (a : Liveness) (t : Term) (n : ℕ) → IsKernel t → StandsAt (preorder body) n (preorder t) →
+found : (body : Term) (a : Liveness) (t : Term) (n : ℕ) → HasExitCodes t → StandsAt (preorder body) n (preorder t) →
     leaf_paths a.resumed t n ≡ pauses body (instances a t n)
 found body a Nothing n k h = leaf_found body a Nothing n h (none_if a.resumed)
 found body a Pause n k h = leaf_found body a Pause n h refl

@@ -1,4 +1,5 @@
--- To believe: when the wires of a graph are those of the walk of its program.
+-- To believe: when the wires of a graph are those of the walk of its program: logical coherence, in the sense of Berry,
+-- "The Constructive Semantics of Pure Esterel".
 --
 -- `go` of an instance is true where the walk reaches it, `end k` where it reaches it with code k, and the status wire
 -- of a Local where the walk of its body, in the same instance, emits the signal: so each status is coherent with what

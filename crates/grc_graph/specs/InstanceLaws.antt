@@ -1,4 +1,4 @@
--- Inner: what the live instances and the selection tree of a body are to be.
+-- To believe: what the live instances and the selection tree of a body are to be.
 use Rattle.std.specs.Prelude.{◌≡◌, ℕ, Bool, true, false, ◌&&◌, List, map, filter, All, Contains, slice_index_or}
 use Rattle.est_kernel.specs.Terms.{Term, Nothing, Pause, Emit, Exit, Present, Suspend, Seq, Loop, Par, Trap, Local}
 use Rattle.est_kernel.specs.Terms.{Awake}
@@ -8,7 +8,7 @@ use Rattle.est_kernel.specs.StaticCodes.{started_codes, resumed_codes}
 use Rattle.grc_graph.specs.Layers.{Layer, Resumed, Started, layer_above}
 use Rattle.grc_graph.specs.Instances.{Instance, body_instances, Ascends, enclosing}
 use Rattle.grc_graph.specs.Residuals.{holds, residual}
-use Rattle.grc_graph.specs.Selected.{IsKernel}
+use Rattle.grc_graph.specs.Selected.{HasExitCodes}
 use Rattle.grc_graph.specs.SelectionTrees.{body_leaves}
 use Rattle.grc_graph.specs.Selections.{IsSelection}
 
@@ -56,5 +56,5 @@ is_resumed_pause body x = is_resumed x.layer && is_pause (slice_index_or (preord
 -- the leaves of the selection tree are the pauses whose resumed instance is live, in order
 abbrev pub LeavesAreResumedPauses : Type 0
 LeavesAreResumedPauses =
-    (body : Term) → IsKernel body
+    (body : Term) → HasExitCodes body
     → body_leaves body ≡ map (λ x. x.path) (filter (is_resumed_pause body) (body_instances body))

@@ -1,4 +1,5 @@
--- To believe: the layers of an instant, and which statements are live in which layers.
+-- To believe: the layers of an instant, and which statements are live in which layers: what is resumed is the depth of
+-- a statement, what is started its surface (Potop-Butucaru, Edwards and Berry, "Compiling Esterel").
 --
 -- Statements go by their numbers in preorder: under a statement with number n the first part has n + 1, and the
 -- second n + 1 plus the number of statements in the first. A statement may run more than once in one instant:
@@ -94,6 +95,7 @@ liveness_at a (Par p q) n m =
     else liveness_at (part_liveness a q) q (n + 1 + statement_count p) m
 liveness_at a (Trap p) n m = if m == n then a else liveness_at (part_liveness a p) p (n + 1) m
 liveness_at a (Local s p) n m = if m == n then a else liveness_at (part_liveness a p) p (n + 1) m
+-- no body of a program has this form
 liveness_at a (Awake e p) n m = a
 
 -- the layers in which each statement of a body is live

@@ -1,6 +1,5 @@
 -- To believe: which wires a formula reads, and orders along which the equations of a graph read. Such an order is one
--- in
--- which the wires can be evaluated one after another.
+-- in which the wires can be evaluated one after another.
 use Rattle.std.specs.Prelude.{◌≡◌, ℕ, ◌<◌, ◌≤◌, List, length, slice_index_or, All, ⊤}
 use Rattle.est_base.specs.declared.indices.WireId.{WireId}
 use Rattle.grc_graph.specs.Wires.{Wire, End}

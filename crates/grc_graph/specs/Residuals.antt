@@ -18,6 +18,7 @@ holds S (Loop at p) n = holds S p (n + 1)
 holds S (Par p q) n = holds S p (n + 1) || holds S q (n + 1 + statement_count p)
 holds S (Trap p) n = holds S p (n + 1)
 holds S (Local s p) n = holds S p (n + 1)
+-- no body of a program has this form
 holds S (Awake e p) n = false
 
 -- what is left of a part: nothing, where it holds no selected pause
@@ -42,6 +43,7 @@ residual S (Par p q) n =
     (left_if (holds S q (n + 1 + statement_count p)) (residual S q (n + 1 + statement_count p)))
 residual S (Trap p) n = Trap (residual S p (n + 1))
 residual S (Local s p) n = Local s (residual S p (n + 1))
+-- no body of a program has this form
 residual S (Awake e p) n = Nothing
 
 -- what is left of a body in a state: nothing, where no pause is selected

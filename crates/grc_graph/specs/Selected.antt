@@ -8,19 +8,19 @@ use Rattle.grc_graph.specs.Residuals.{holds}
 use Rattle.grc_graph.specs.Walk.{State, Initial, Selecting}
 
 -- a kernel statement of a program: exits have codes from 2 to 63, and no suspension is under way
-abbrev pub IsKernel : Term → Type 0
-IsKernel Nothing = ⊤
-IsKernel Pause = ⊤
-IsKernel (Emit s) = ⊤
-IsKernel (Exit k) = (2 ≤ k) × (k < 64)
-IsKernel (Present e p q) = IsKernel p × IsKernel q
-IsKernel (Suspend e p) = IsKernel p
-IsKernel (Seq p q) = IsKernel p × IsKernel q
-IsKernel (Loop at p) = IsKernel p
-IsKernel (Par p q) = IsKernel p × IsKernel q
-IsKernel (Trap p) = IsKernel p
-IsKernel (Local s p) = IsKernel p
-IsKernel (Awake e p) = ⊥
+abbrev pub HasExitCodes : Term → Type 0
+HasExitCodes Nothing = ⊤
+HasExitCodes Pause = ⊤
+HasExitCodes (Emit s) = ⊤
+HasExitCodes (Exit k) = (2 ≤ k) × (k < 64)
+HasExitCodes (Present e p q) = HasExitCodes p × HasExitCodes q
+HasExitCodes (Suspend e p) = HasExitCodes p
+HasExitCodes (Seq p q) = HasExitCodes p × HasExitCodes q
+HasExitCodes (Loop at p) = HasExitCodes p
+HasExitCodes (Par p q) = HasExitCodes p × HasExitCodes q
+HasExitCodes (Trap p) = HasExitCodes p
+HasExitCodes (Local s p) = HasExitCodes p
+HasExitCodes (Awake e p) = ⊥
 
 -- The selected pauses of a statement at n that holds one: of a test and of a sequence one part alone holds them; the
 -- second part of a sequence only where the first can terminate; of a parallel each branch holds one or can have
@@ -48,6 +48,7 @@ IsSelected S (Par p q) n =
     × (holds S q (n + 1 + statement_count p) ≡ true → IsSelected S q (n + 1 + statement_count p))
 IsSelected S (Trap p) n = IsSelected S p (n + 1)
 IsSelected S (Local s p) n = IsSelected S p (n + 1)
+-- no body of a program has this form
 IsSelected S (Awake e p) n = ⊤
 
 -- a state of a body: the first instant, or a well-formed selection, which may be empty

@@ -80,6 +80,7 @@ started_walk Z (Par p q) n l v =
     both_walks (started_walk Z p (n + 1) l v) (started_walk Z q (n + 1 + statement_count p) l v)
 started_walk Z (Trap p) n l v = trapped_walk (started_walk Z p (n + 1) l v)
 started_walk Z (Local s p) n l v = hidden_walk s (started_walk Z p (n + 1) l (with_value v s (Z n l)))
+-- no body of a program has this form
 started_walk Z (Awake e p) n l v = ended 0
 
 -- the selected pauses of a statement at n
@@ -110,6 +111,7 @@ resumed_walk Z S (Par p q) n v =
     (if holds S q (n + 1 + statement_count p) then resumed_walk Z S q (n + 1 + statement_count p) v else ended 0)
 resumed_walk Z S (Trap p) n v = trapped_walk (resumed_walk Z S p (n + 1) v)
 resumed_walk Z S (Local s p) n v = hidden_walk s (resumed_walk Z S p (n + 1) (with_value v s (Z n Resumed)))
+-- no body of a program has this form
 resumed_walk Z S (Awake e p) n v = ended 0
 
 -- A state: the first instant is to come, or these pauses are selected.

@@ -1,6 +1,5 @@
 -- To believe: dependency edges, ranks and evaluation orders by wire numbers. The wires of a graph are numbered from 0
--- in
--- their order, and an edge is the pair of the wires that it leads from and to.
+-- in their order, and an edge is the pair of the wires that it leads from and to.
 use Rattle.std.specs.Prelude.{◌≡◌, ℕ, ◌<◌, Bool, ◌==◌, ◌&&◌, ◌||◌, nat_lt, List, length, slice_index, slice_index_or}
 use Rattle.std.specs.Prelude.{count_by, IsTrue, All, AllPairs}
 use Rattle.est_base.specs.declared.indices.WireId.{WireId}

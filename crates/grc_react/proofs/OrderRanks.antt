@@ -11,7 +11,7 @@ use Rattle.est_kernel.specs.Plain.{Program}
 use Rattle.grc_graph.specs.GraphRuns.{program_edges, program_wires}
 use Rattle.grc_graph.specs.NumberedEdges.{AreEdgesOf}
 use Rattle.grc_graph.specs.Orders.{GoUp}
-use Rattle.grc_graph.specs.Selected.{IsKernel}
+use Rattle.grc_graph.specs.Selected.{HasExitCodes}
 use Rattle.grc_graph.specs.WireOrders.{WireEdge, wire_at, edge_at, times, AreEdges, AreRanks, IsWireOrder}
 use Rattle.grc_graph.specs.Wires.{Wire}
 use Rattle.grc_solutions.proofs.Numbers.{stands_at, wire_ranks_go_up_lem}
@@ -57,7 +57,7 @@ ranks-grow count pairs order are o = record {
 }
 
 -- each edge goes up in some rank
-pub edges-up : (p : Program) (pairs : List WireEdge) (order : List WireId) → IsKernel p.body → AreEdgesOf (program_wires p) (program_edges p) pairs
+pub edges-up : (p : Program) (pairs : List WireEdge) (order : List WireId) → HasExitCodes p.body → AreEdgesOf (program_wires p) (program_edges p) pairs
     → IsWireOrder (length (program_wires p)) pairs order → (rank : Wire → ℕ) × GoUp rank (program_edges p)
 edges-up p pairs order kernel are o =
     let count = length (program_wires p) in

@@ -10,7 +10,7 @@ use Rattle.grc_graph.specs.Layers.{Layer, Resumed, Started, Liveness, root_if, p
 use Rattle.grc_graph.specs.Scopes.{Scope, bind}
 use Rattle.grc_graph.specs.Formulas.{Formula, Negation}
 use Rattle.grc_graph.specs.Spots.{Spot, spots, spots_at, test_formula, tested_entry, suspended_entry, branch_entry, second_entry, loop_entry, part_entry}
-use Rattle.grc_graph.specs.Selected.{IsKernel}
+use Rattle.grc_graph.specs.Selected.{HasExitCodes}
 use Rattle.grc_solutions.proofs.Each.{spot}
 use Rattle.grc_graph.proofs.LiveLayers.{Agrees, here_agrees, only_agrees, first_agrees, second_agrees}
 
@@ -160,7 +160,7 @@ module _ (F : Spot → Bool) (L : ℕ → List Layer) where
   join_two : (hs ps qs : List Spot) {x y z : Bool} → list_any F hs ≡ x → list_any F ps ≡ y → list_any F qs ≡ z → list_any F (hs ++ (ps ++ qs)) ≡ (x || (y || z))
   join_two hs ps qs e f g = join_one hs (ps ++ qs) e (join_one ps qs f g)
 
-  pub split : (a : Liveness) (B : Scope) (f : Layer → Formula) (t : Term) (n : ℕ) → IsKernel t → Agrees L a t n → Split a B f t n
+  pub split : (a : Liveness) (B : Scope) (f : Layer → Formula) (t : Term) (n : ℕ) → HasExitCodes t → Agrees L a t n → Split a B f t n
   split a B f Nothing n k g = here_any a B f Nothing n g
   split a B f Pause n k g = here_any a B f Pause n g
   split a B f (Emit s) n k g = here_any a B f (Emit s) n g

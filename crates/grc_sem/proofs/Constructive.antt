@@ -12,7 +12,7 @@ use Rattle.grc_graph.specs.Scopes.{Scope, bind}
 use Rattle.grc_graph.specs.Wires.{Wire, Go, StatusOf, End}
 use Rattle.grc_graph.specs.Formulas.{Formula}
 use Rattle.grc_graph.specs.Walk.{Values, started_walk}
-use Rattle.grc_graph.specs.Selected.{IsKernel}
+use Rattle.grc_graph.specs.Selected.{HasExitCodes}
 use Rattle.grc_graph.specs.Readings.{Valuation}
 use Rattle.grc_graph.specs.Coherence.{statuses, StartedWalked}
 use Rattle.grc_sem.proofs.Places.{After, Place, no_loops-left, nothing_place, exit_place, pause_place, emit_place, later_place, later_after, suspend_after}
@@ -38,7 +38,7 @@ module _ (R : Wire → ℕ) (N : ℕ) where
   abbrev pub ends : ℕ → Layer → ℕ → ℕ
   ends n l = λ k. R (End n l k)
 
-  pub started_after : (t : Term) (B : Scope) (f : Layer → Formula) (n q : ℕ) (r : ℕ → ℕ) → q ≤ n → NoInstantLoop t → IsKernel t → InScope B t →
+  pub started_after : (t : Term) (B : Scope) (f : Layer → Formula) (n q : ℕ) (r : ℕ → ℕ) → q ≤ n → NoInstantLoop t → HasExitCodes t → InScope B t →
       EachStarted (RowAt (Up R)) B f t n (Started q) → Ranks R N B (Started q) r → After t r (R (Go n (Started q))) (ends n (Started q))
   started_after Nothing B f n q r l nl b i e k =
       record { codes = λ c h. let x = e c h in omega arith; signals = λ E s h. absurd (false≢true h) }
@@ -97,7 +97,8 @@ module _ (R : Wire → ℕ) (N : ℕ) where
   started_after (Awake x p) B f n q r l nl b i e k = absurd b
 
   pub started_place : (V : Valuation) (t : Term) (B : Scope) (f : Layer → Formula) (n q : ℕ) (r : ℕ → ℕ) (v : Values) (b : Bool) → q ≤ n → NoInstantLoop t →
-      IsKernel t → InScope B t → EachStarted (RowAt (Up R)) B f t n (Started q) → Ranks R N B (Started q) r → StartedWalked V t n (Started q) v b → b ≡ true →
+      HasExitCodes t → InScope B t → EachStarted (RowAt (Up R)) B f t n (Started q) → Ranks R N B (Started q) r → StartedWalked V t n (Started q) v b →
+      b ≡ true →
       Place t v r (started_walk (statuses V) t n (Started q) v) (R (Go n (Started q))) (ends n (Started q))
   started_place V Nothing B f n q r v b l nl kn i e k w h = nothing_place (omega (arith, e 0 refl))
   started_place V Pause B f n q r v b l nl kn i e k w h = pause_place (λ m. m == n) (omega (arith, e 1 refl))

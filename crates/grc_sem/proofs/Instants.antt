@@ -11,7 +11,7 @@ use Rattle.grc_graph.specs.Wires.{End}
 use Rattle.grc_graph.specs.Residuals.{holds, residual, left_if, resumption}
 use Rattle.grc_graph.specs.SelectionTrees.{resumes}
 use Rattle.grc_graph.specs.Walk.{Values, State, Initial, Selecting, ended, is_initial, remaining, started_walk, resumed_walk, body_walk}
-use Rattle.grc_graph.specs.Selected.{IsKernel, IsSelected, IsState}
+use Rattle.grc_graph.specs.Selected.{HasExitCodes, IsSelected, IsState}
 use Rattle.grc_graph.specs.Readings.{Valuation}
 use Rattle.grc_graph.specs.Coherence.{statuses, StartedWalked, ResumedWalked}
 use Rattle.grc_graph.specs.GraphRuns.{graph_of, Solves, shown, next_state}
@@ -45,12 +45,12 @@ top_statement (Trap p) = refl
 top_statement (Local s p) = refl
 top_statement (Awake e p) = refl
 
-no_code : (t : Term) (k : ℕ) → IsKernel t → has_code (resumed_codes t) ≡ false → resumed_codes t k ≡ false
+no_code : (t : Term) (k : ℕ) → HasExitCodes t → has_code (resumed_codes t) ≡ false → resumed_codes t k ≡ false
 no_code t k b e =
     cond_both (resumed_codes t k) true false (λ c. resumed_codes t k ≡ false)
     (λ h. absurd (false≢true (sym e ∙ some_has (resumed_codes t) (k, omega (arith, resumed_below t b k h), h)))) (λ h. h)
 
-not_held : (S : ℕ → Bool) (t : Term) → NoInstantLoop t → IsKernel t → (holds S t 0 ≡ true → IsSelected S t 0) → has_code (resumed_codes t) ≡ false →
+not_held : (S : ℕ → Bool) (t : Term) → NoInstantLoop t → HasExitCodes t → (holds S t 0 ≡ true → IsSelected S t 0) → has_code (resumed_codes t) ≡ false →
     holds S t 0 ≡ false
 not_held S t nl k s e = cond_both (holds S t 0) true false (λ b. holds S t 0 ≡ false) (λ h. absurd (false≢true (sym e ∙ resumed_live S t 0 nl k h (s h))))
     (λ h. h)
@@ -90,7 +90,7 @@ rests_with Z body Initial v e = absurd (false≢true (sym (or_parts (holds (λ m
 rests_with Z body (Selecting S) v e = ap (λ h. (cond h (resumed_walk Z S body 0 v) (ended 0)).code) (or_parts (holds S body 0) false e).0
 
 -- one instant
-module _ (p : Program) (kernel : IsKernel p.body) (nl : NoInstantLoop p.body) (q : State) (event : List Bool) (V : Valuation) (state : IsState q p.body)
+module _ (p : Program) (kernel : HasExitCodes p.body) (nl : NoInstantLoop p.body) (q : State) (event : List Bool) (V : Valuation) (state : IsState q p.body)
     (s : Solves (graph_of p) q event V) where
   abbrev S : ℕ → Bool
   S = selected_of q

@@ -12,7 +12,7 @@ use Rattle.grc_graph.specs.Formulas.{Formula, Value}
 use Rattle.grc_graph.specs.Spots.{Spot, body_spots, body_entry}
 use Rattle.grc_graph.specs.Equations.{Equation, equations, end_formula, emits_on, emissions, instance_status, instance_equations, output_equation}
 use Rattle.grc_graph.specs.Walk.{Values, State}
-use Rattle.grc_graph.specs.Selected.{IsKernel}
+use Rattle.grc_graph.specs.Selected.{HasExitCodes}
 use Rattle.grc_graph.specs.Readings.{Valuation}
 use Rattle.grc_solutions.proofs.Lists.{Every, every_of_all, every_both, every_right, every_map, every_flat_map, every_listed, every_from}
 use Rattle.grc_solutions.proofs.Looked.{statement_at, Looked, looked, layers_same}
@@ -74,7 +74,7 @@ module _ (B0 : Scope) (body : Term) (q : State) (given : Values) (V : Valuation)
     pub rows : Every MetRow (instance_equations all x)
     pub dead : (k : ℕ) → instance_codes x.statement x.layer k ≡ false → V (End x.path x.layer k) ≡ false
 
-  ends_met : (B : Scope) (t : Term) (n : ℕ) (l : Layer) → IsKernel t →
+  ends_met : (B : Scope) (t : Term) (n : ℕ) (l : Layer) → HasExitCodes t →
       Every MetRow (map (λ k. record { wire = End n l k; formula = end_formula B t n l k }) (listed (instance_codes t l))) →
       ((k : ℕ) → instance_codes t l k ≡ false → V (End n l k) ≡ false) → (k : ℕ) →
       V (End n l k) ≡ (instance_codes t l k && val B0 body q given V (end_formula B t n l k))
@@ -90,10 +90,10 @@ module _ (B0 : Scope) (body : Term) (q : State) (given : Values) (V : Valuation)
       below Resumed e = resumed_below t b k e
       below (Started r) e = started_below t b k e
 
-  pub met_at : (x : Spot) → IsKernel x.statement → Alive x → Met B0 body q given V all x
+  pub met_at : (x : Spot) → HasExitCodes x.statement → Alive x → Met B0 body q given V all x
   met_at x b a = go x.scope x.statement x.path x.layer b a.rows a.dead
     where
-      go : (B : Scope) (t : Term) (n : ℕ) (l : Layer) → IsKernel t →
+      go : (B : Scope) (t : Term) (n : ℕ) (l : Layer) → HasExitCodes t →
           Every MetRow (record { wire = Go n l; formula = x.entry } ∷ (instance_status all t n l
           ++ map (λ k. record { wire = End n l k; formula = end_formula B t n l k }) (listed (instance_codes t l)))) →
           ((k : ℕ) → instance_codes t l k ≡ false → V (End n l k) ≡ false) →
@@ -182,11 +182,11 @@ module _ (inputs outs given_count : ℕ) (body : Term) (q : State) (event : List
   abbrev value : Formula → Bool
   value a = val B0 body q (is_given event) V a
 
-  looks : IsKernel body → Every (Looked (body_layers body) (statement_at body 0)) all
+  looks : HasExitCodes body → Every (Looked (body_layers body) (statement_at body 0)) all
   looks k = looked (body_layers body) (statement_at body 0) B0 body_entry body 0 k (record { each = λ m l u. refl })
 
   -- a code that a statement does not have in a layer ends nothing
-  pub dead_wire : IsKernel body → ((w : Wire) → list_any (λ e. same_wire w e.wire) rows ≡ false → V w ≡ false) → (n : ℕ) (l : Layer) (k : ℕ) →
+  pub dead_wire : HasExitCodes body → ((w : Wire) → list_any (λ e. same_wire w e.wire) rows ≡ false → V w ≡ false) → (n : ℕ) (l : Layer) (k : ℕ) →
       instance_codes (statement_at body 0 n) l k ≡ false → V (End n l k) ≡ false
   dead_wire b others n l k e =
       others (End n l k)
@@ -202,7 +202,7 @@ module _ (inputs outs given_count : ℕ) (body : Term) (q : State) (event : List
       (subst (λ t. instance_codes t l k ≡ false) (ap (statement_at body 0) (sym i) ∙ h) e)))
       (looks b)))
 
-  pub met_spots : (k : IsKernel body) → All (λ e. V e.wire ≡ value e.formula) rows →
+  pub met_spots : (k : HasExitCodes body) → All (λ e. V e.wire ≡ value e.formula) rows →
       ((w : Wire) → list_any (λ e. same_wire w e.wire) rows ≡ false → V w ≡ false) → Every (Alive B0 body q (is_given event) V all) all
   met_spots k met others =
       let every = every_of_all (λ e. V e.wire ≡ value e.formula) rows met in

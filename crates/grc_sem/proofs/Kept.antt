@@ -9,7 +9,7 @@ use Rattle.est_kernel.specs.Steps.{trap_code}
 use Rattle.grc_graph.specs.Layers.{Layer, Resumed, Started}
 use Rattle.grc_graph.specs.Residuals.{holds, left_if, residual}
 use Rattle.grc_graph.specs.Walk.{Walk, Values, with_value, truth, ended, kept_by, then_walk, both_walks, trapped_walk, started_walk, resumed_walk, selected_in}
-use Rattle.grc_graph.specs.Selected.{IsKernel}
+use Rattle.grc_graph.specs.Selected.{HasExitCodes}
 use Rattle.grc_sem.proofs.Residues.{or_other}
 
 -- two sets of pauses agree from a on below b
@@ -254,7 +254,7 @@ keeps_choice : (c : Bool) {x y : Walk} {t : Term} {n : ℕ} → Keeps x t n → 
 keeps_choice true k j = k
 keeps_choice false k j = j
 
-pub started_keeps : (Z : ℕ → Layer → Bool) (t : Term) (n : ℕ) (l : Layer) (v : Values) → IsKernel t → Keeps (started_walk Z t n l v) t n
+pub started_keeps : (Z : ℕ → Layer → Bool) (t : Term) (n : ℕ) (l : Layer) (v : Values) → HasExitCodes t → Keeps (started_walk Z t n l v) t n
 started_keeps Z Nothing n l v b = keeps_none 0 Nothing n refl
 started_keeps Z Pause n l v b =
     record {
@@ -300,7 +300,8 @@ keeps_held : (c : Bool) {x y : Walk} {t : Term} {n : ℕ} → (c ≡ true → Ke
 keeps_held true k j = k refl
 keeps_held false k j = j refl
 
-pub resumed_keeps : (Z : ℕ → Layer → Bool) (S : ℕ → Bool) (t : Term) (n : ℕ) (v : Values) → IsKernel t → holds S t n ≡ true → Keeps (resumed_walk Z S t n v) t n
+pub resumed_keeps : (Z : ℕ → Layer → Bool) (S : ℕ → Bool) (t : Term) (n : ℕ) (v : Values) → HasExitCodes t → holds S t n ≡ true →
+    Keeps (resumed_walk Z S t n v) t n
 resumed_keeps Z S Nothing n v b h = absurd (false≢true h)
 resumed_keeps Z S Pause n v b h = keeps_none 0 Pause n refl
 resumed_keeps Z S (Emit x) n v b h = absurd (false≢true h)

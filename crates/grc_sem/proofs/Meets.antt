@@ -16,7 +16,7 @@ use Rattle.grc_graph.specs.Spots.{Spot}
 use Rattle.grc_graph.specs.Equations.{end_formula, is_wire}
 use Rattle.grc_graph.specs.Residuals.{holds}
 use Rattle.grc_graph.specs.Walk.{Walk, Values, State, with_value, then_walk, started_walk, resumed_walk}
-use Rattle.grc_graph.specs.Selected.{IsKernel}
+use Rattle.grc_graph.specs.Selected.{HasExitCodes}
 use Rattle.grc_graph.specs.Readings.{Valuation, seen_value, holds_at}
 use Rattle.grc_graph.specs.Coherence.{statuses, InstanceWalked, StartedWalked, ResumedWalked}
 use Rattle.grc_solutions.proofs.Each.{spot, EachStarted, EachResumed}
@@ -51,7 +51,7 @@ and_flip false true = refl
 and_flip false false = refl
 
 -- the facts at the statement itself
-pub head_started : (P : Spot → Type 0) (B : Scope) (f : Layer → Formula) (t : Term) (n : ℕ) (l : Layer) → IsKernel t → EachStarted P B f t n l →
+pub head_started : (P : Spot → Type 0) (B : Scope) (f : Layer → Formula) (t : Term) (n : ℕ) (l : Layer) → HasExitCodes t → EachStarted P B f t n l →
     P (spot B f t n l)
 head_started P B f Nothing n l k e = e
 head_started P B f Pause n l k e = e
@@ -66,7 +66,7 @@ head_started P B f (Trap p) n l k e = e.0
 head_started P B f (Local s p) n l k e = e.0
 head_started P B f (Awake x p) n l k e = absurd k
 
-pub head_resumed : (P : Spot → Type 0) (B : Scope) (f : Layer → Formula) (t : Term) (n : ℕ) → IsKernel t → EachResumed P B f t n → P (spot B f t n Resumed)
+pub head_resumed : (P : Spot → Type 0) (B : Scope) (f : Layer → Formula) (t : Term) (n : ℕ) → HasExitCodes t → EachResumed P B f t n → P (spot B f t n Resumed)
 head_resumed P B f Nothing n k e = e
 head_resumed P B f Pause n k e = e
 head_resumed P B f (Emit s) n k e = e
@@ -168,7 +168,7 @@ root_left r true xs ys e h = go xs h
     go (z ∷ zs) i = ⊎_elim (λ u. inl u) (λ u. inr (go zs u)) i
 root_left r false xs ys e h = absurd (false≢true e)
 
-pub code_lives : (p : Term) → IsKernel p → (k : ℕ) → resumed_codes p k ≡ true → has_code (resumed_codes p) ≡ true
+pub code_lives : (p : Term) → HasExitCodes p → (k : ℕ) → resumed_codes p k ≡ true → has_code (resumed_codes p) ≡ true
 code_lives p b k h = some_has (resumed_codes p) (k, omega (arith, resumed_below p b k h), h)
 
 pub not_both : (c d : Bool) → (c && d) ≡ false → d ≡ true → c ≡ false
@@ -181,7 +181,7 @@ not_back true e = absurd (false≢true e)
 not_back false e = refl
 
 -- the wires of a started statement itself
-pub started_at : (V : Valuation) (t : Term) (n : ℕ) (l : Layer) (v : Values) (b : Bool) → IsKernel t → StartedWalked V t n l v b →
+pub started_at : (V : Valuation) (t : Term) (n : ℕ) (l : Layer) (v : Values) (b : Bool) → HasExitCodes t → StartedWalked V t n l v b →
     InstanceWalked V n l b (started_walk (statuses V) t n l v)
 started_at V Nothing n l v b k w = w
 started_at V Pause n l v b k w = w
@@ -196,7 +196,7 @@ started_at V (Trap p) n l v b k w = w.0
 started_at V (Local s p) n l v b k w = w.0
 started_at V (Awake e p) n l v b k w = absurd k
 
-pub resumed_at : (V : Valuation) (S : ℕ → Bool) (t : Term) (n : ℕ) (v : Values) (b : Bool) → IsKernel t → ResumedWalked V S t n v b →
+pub resumed_at : (V : Valuation) (S : ℕ → Bool) (t : Term) (n : ℕ) (v : Values) (b : Bool) → HasExitCodes t → ResumedWalked V S t n v b →
     InstanceWalked V n Resumed b (resumed_walk (statuses V) S t n v)
 resumed_at V S Nothing n v b k w = w
 resumed_at V S Pause n v b k w = w

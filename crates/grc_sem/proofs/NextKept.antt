@@ -11,7 +11,7 @@ use Rattle.grc_graph.specs.Scopes.{Scope, bind}
 use Rattle.grc_graph.specs.Wires.{Go, StatusOf, End}
 use Rattle.grc_graph.specs.Residuals.{holds}
 use Rattle.grc_graph.specs.Walk.{Walk, Values, truth, with_value, ended, then_walk, started_walk, resumed_walk, selected_in}
-use Rattle.grc_graph.specs.Selected.{IsKernel, IsSelected}
+use Rattle.grc_graph.specs.Selected.{HasExitCodes, IsSelected}
 use Rattle.grc_graph.specs.Readings.{Valuation, seen_values, kept_at, held_at}
 use Rattle.grc_graph.specs.Coherence.{statuses, StartedWalked, ResumedWalked}
 use Rattle.grc_sem.proofs.Places.{no_loops-left}
@@ -109,7 +109,7 @@ module _ (V : Valuation) where
   par_keep false g true k = refl
   par_keep false g false k = refl
 
-  pub started_kept : (t : Term) (n r : ℕ) (v : Values) (b : Bool) (h : Way t) → r ≤ n → NoInstantLoop t → IsKernel t → StartedWalked V t n (Started r) v b →
+  pub started_kept : (t : Term) (n r : ℕ) (v : Values) (b : Bool) (h : Way t) → r ≤ n → NoInstantLoop t → HasExitCodes t → StartedWalked V t n (Started r) v b →
       start_keeps V t n h r ≡ (b && (started_walk (statuses V) t n (Started r) v).kept (goal t n h))
   started_kept Nothing n r v b h l nl k w = absurd h
   started_kept Pause n r v b h l nl k w = ap (λ x. x && true) w.go ∙ ap (λ x. b && x) (sym (eq-eqb n n refl))
@@ -316,7 +316,7 @@ module _ (V : Valuation) (S : ℕ → Bool) (given : Values) where
   abbrev Total : Scope → (t : Term) (n : ℕ) → Way t → Bool
   Total B t n h = restart_keeps V t n h || (S (goal t n h) && held_at given V B t n (goal t n h) Resumed)
 
-  pub resumed_kept : (t : Term) (B : Scope) (n : ℕ) (v : Values) (b : Bool) (h : Way t) → NoInstantLoop t → IsKernel t →
+  pub resumed_kept : (t : Term) (B : Scope) (n : ℕ) (v : Values) (b : Bool) (h : Way t) → NoInstantLoop t → HasExitCodes t →
       (holds S t n ≡ true → IsSelected S t n) → (b ≡ true → holds S t n ≡ true) → Sees given V B Resumed v → ResumedWalked V S t n v b →
       Total B t n h ≡ (b && (resumed_walk (statuses V) S t n v).kept (goal t n h))
   resumed_kept Nothing B n v b h nl k s r e w = absurd h

@@ -12,7 +12,7 @@ use Rattle.grc_graph.specs.Layers.{Layer, Resumed, Started, can_pass}
 use Rattle.grc_graph.specs.Residuals.{holds}
 use Rattle.grc_graph.specs.Walk.{Walk, Values, truth, with_value, ended, then_walk, both_walks, started_walk, resumed_walk, selected_in}
 use Rattle.grc_graph.specs.SelectionTrees.{resumes, second_resumes, leaf_paths}
-use Rattle.grc_graph.specs.Selected.{IsKernel, IsSelected}
+use Rattle.grc_graph.specs.Selected.{HasExitCodes, IsSelected}
 use Rattle.grc_sem.proofs.Places.{no_loops-left}
 use Rattle.grc_sem.proofs.Residues.{no_loops-right, loop_body, or_other, resumed_live}
 use Rattle.grc_sem.proofs.Constructive.{and_true}
@@ -100,7 +100,8 @@ over_or_held p c n h l e f =
     (λ z. or_right h _ (f (let i = eqb-false c 1 z in omega arith)))
     (cases_Bool (c == 1))
 
-pub started_selected : (Z : ℕ → Layer → Bool) (t : Term) (n : ℕ) (l : Layer) (v : Values) → NoInstantLoop t → IsKernel t → (started_walk Z t n l v).code ≡ 1 →
+pub started_selected : (Z : ℕ → Layer → Bool) (t : Term) (n : ℕ) (l : Layer) (v : Values) → NoInstantLoop t → HasExitCodes t →
+    (started_walk Z t n l v).code ≡ 1 →
     (T : ℕ → Bool) → Same T (started_walk Z t n l v).kept n (n + statement_count t) → IsSelected T t n
 started_selected Z Nothing n l v nl k = λ c T s. tt
 started_selected Z Pause n l v nl k = λ c T s. tt
@@ -170,7 +171,7 @@ branch_selected : (d : Bool) (x : Walk) (T : ℕ → Bool) {a b : ℕ} {P : Type
 branch_selected true x T c s f = f refl c s
 branch_selected false x T c s f = absurd (omega arith)
 
-pub resumed_selected : (Z : ℕ → Layer → Bool) (S : ℕ → Bool) (t : Term) (n : ℕ) (v : Values) → NoInstantLoop t → IsKernel t → holds S t n ≡ true →
+pub resumed_selected : (Z : ℕ → Layer → Bool) (S : ℕ → Bool) (t : Term) (n : ℕ) (v : Values) → NoInstantLoop t → HasExitCodes t → holds S t n ≡ true →
     IsSelected S t n → (resumed_walk Z S t n v).code ≡ 1 → (T : ℕ → Bool) → Same T (resumed_walk Z S t n v).kept n (n + statement_count t) → IsSelected T t n
 resumed_selected Z S Nothing n v nl k h i = λ c T s. tt
 resumed_selected Z S Pause n v nl k h i = λ c T s. tt
@@ -309,7 +310,7 @@ by_first p q n m w = (inl w.0, w.1)
 by_second : (p q : Term) (n m : ℕ) → IsWay q (n + 1 + statement_count p) m → IsWay (Seq p q) n m
 by_second p q n m w = (inr w.0, w.1)
 
-pub started_ways : (Z : ℕ → Layer → Bool) (t : Term) (n : ℕ) (l : Layer) (v : Values) → IsKernel t → AllWays (started_walk Z t n l v).kept t n
+pub started_ways : (Z : ℕ → Layer → Bool) (t : Term) (n : ℕ) (l : Layer) (v : Values) → HasExitCodes t → AllWays (started_walk Z t n l v).kept t n
 started_ways Z Nothing n l v k = λ m e. absurd (false≢true e)
 started_ways Z Pause n l v k = λ m e. (tt, sym (eqb-true m n e))
 started_ways Z (Emit x) n l v k = λ m e. absurd (false≢true e)
@@ -336,7 +337,8 @@ pauses_only : (S : ℕ → Bool) (t p : Term) (n : ℕ) → statement_count t �
     Pauses S p (n + 1)
 pauses_only S t p n c f h = record { each = λ m e l u. f m (h.each m e (omega arith) (omega arith)) }
 
-pub resumed_ways : (Z : ℕ → Layer → Bool) (S : ℕ → Bool) (t : Term) (n : ℕ) (v : Values) → IsKernel t → Pauses S t n → AllWays (resumed_walk Z S t n v).kept t n
+pub resumed_ways : (Z : ℕ → Layer → Bool) (S : ℕ → Bool) (t : Term) (n : ℕ) (v : Values) → HasExitCodes t → Pauses S t n →
+    AllWays (resumed_walk Z S t n v).kept t n
 resumed_ways Z S Nothing n v k h = ended_ways 0 Nothing n
 resumed_ways Z S Pause n v k h = ended_ways 0 Pause n
 resumed_ways Z S (Emit x) n v k h = ended_ways 0 (Emit x) n
@@ -417,7 +419,7 @@ pub live_leaf : (b : Bool) (t : Term) (n m : ℕ) → b ≡ true → among m (le
 live_leaf b t n m e h = subst (λ c. among m (leaf_paths c t n) ≡ true) (sym e) h
 
 -- a selected pause of a well-formed selection is a leaf
-pub way_leaf : (S : ℕ → Bool) (t : Term) (n : ℕ) (h : Way t) → NoInstantLoop t → IsKernel t → IsSelected S t n → S (goal t n h) ≡ true →
+pub way_leaf : (S : ℕ → Bool) (t : Term) (n : ℕ) (h : Way t) → NoInstantLoop t → HasExitCodes t → IsSelected S t n → S (goal t n h) ≡ true →
     among (goal t n h) (leaf_paths true t n) ≡ true
 way_leaf S Nothing n h nl k i e = absurd h
 way_leaf S Pause n h nl k i e = or_left _ _ (eq-eqb n n refl)

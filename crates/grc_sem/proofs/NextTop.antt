@@ -13,7 +13,7 @@ use Rattle.grc_graph.specs.Equations.{kept_start, next_formula}
 use Rattle.grc_graph.specs.SelectionTrees.{resumes, body_leaves, selecting}
 use Rattle.grc_graph.specs.Residuals.{holds}
 use Rattle.grc_graph.specs.Walk.{Values, State, Initial, Selecting, ended, is_initial, started_walk, resumed_walk, body_walk}
-use Rattle.grc_graph.specs.Selected.{IsKernel, IsSelected, IsState}
+use Rattle.grc_graph.specs.Selected.{HasExitCodes, IsSelected, IsState}
 use Rattle.grc_graph.specs.Readings.{Valuation, state_holds_at, kept_at, held_at}
 use Rattle.grc_graph.specs.Coherence.{statuses, StartedWalked, ResumedWalked}
 use Rattle.grc_sem.specs.GraphWalks.{selected_of}
@@ -28,7 +28,7 @@ use Rattle.grc_sem.proofs.NextKept.{guard_total, started_kept, resumed_kept}
 use Rattle.grc_sem.proofs.NextStates.{started_selected, resumed_selected, IsWay, AllWays, started_ways, resumed_ways, among, leaf_way, way_leaf, live_leaf}
 
 -- what a walk of a state keeps is a state
-pub keeps_state : (Z : ℕ → Layer → Bool) (q : State) (body : Term) (v : Values) → IsKernel body → NoInstantLoop body → IsState q body →
+pub keeps_state : (Z : ℕ → Layer → Bool) (q : State) (body : Term) (v : Values) → HasExitCodes body → NoInstantLoop body → IsState q body →
     holds (body_walk Z q body v).kept body 0 ≡ true → IsSelected (body_walk Z q body v).kept body 0
 keeps_state Z Initial body v kernel nl state = λ h.
     let w = started_walk Z body 0 (Started 0) v in
@@ -48,7 +48,8 @@ keeps_state Z (Selecting S) body v kernel nl state =
 abbrev pub StatePauses : State → Term → Type 0
 StatePauses q body = (m : ℕ) → selected_of q m ≡ true → IsWay body 0 m
 
-pub walk_ways : (Z : ℕ → Layer → Bool) (q : State) (body : Term) (v : Values) → IsKernel body → StatePauses q body → AllWays (body_walk Z q body v).kept body 0
+pub walk_ways : (Z : ℕ → Layer → Bool) (q : State) (body : Term) (v : Values) → HasExitCodes body → StatePauses q body →
+    AllWays (body_walk Z q body v).kept body 0
 walk_ways Z Initial body v kernel h = started_ways Z body 0 (Started 0) v kernel
 walk_ways Z (Selecting S) body v kernel h =
     cond_both (holds S body 0) (resumed_walk Z S body 0 v) (ended 0) (λ w. AllWays w.kept body 0)
@@ -91,7 +92,7 @@ map_twice : {A B C : Type 0} (f : B → C) (g : A → B) (xs : List A) → map f
 map_twice f g [] = refl
 map_twice f g (x ∷ xs) = ap (λ l. f (g x) ∷ l) (map_twice f g xs)
 
-module _ (given : Values) (V : Valuation) (B : Scope) (body : Term) (q : State) (v : Values) (nl : NoInstantLoop body) (kernel : IsKernel body)
+module _ (given : Values) (V : Valuation) (B : Scope) (body : Term) (q : State) (v : Values) (nl : NoInstantLoop body) (kernel : HasExitCodes body)
     (state : IsState q body) (sees : Sees given V B Resumed v) (started : StartedWalked V body 0 (Started 0) v (is_initial q))
     (resumed : has_code (resumed_codes body) ≡ true → ResumedWalked V (selected_of q) body 0 v (holds (selected_of q) body 0)) where
   abbrev S : ℕ → Bool

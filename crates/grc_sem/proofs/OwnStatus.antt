@@ -11,7 +11,7 @@ use Rattle.grc_graph.specs.Wires.{StatusOf}
 use Rattle.grc_graph.specs.Formulas.{Formula}
 use Rattle.grc_graph.specs.Spots.{Spot, spots, spots_at, part_entry}
 use Rattle.grc_graph.specs.Walk.{Values, with_value, started_walk, resumed_walk}
-use Rattle.grc_graph.specs.Selected.{IsKernel}
+use Rattle.grc_graph.specs.Selected.{HasExitCodes}
 use Rattle.grc_graph.specs.Readings.{Valuation}
 use Rattle.grc_graph.specs.Coherence.{statuses, StartedWalked, ResumedWalked}
 use Rattle.grc_solutions.proofs.Each.{spot}
@@ -25,7 +25,7 @@ use Rattle.grc_sem.proofs.WalkEmits.{Reach, started_silent, resumed_silent, star
 use Rattle.grc_sem.proofs.Meets.{any_single, any_nothing, own_fresh, same_self, own_shows}
 
 module _ (V : Valuation) (all : List Spot) (L : ℕ → List Layer) where
-  started_emissions : (a : Liveness) (s : ℕ) (p : Term) (B : Scope) (f : Layer → Formula) (n r : ℕ) → IsKernel p → Above B n → Agrees L a p (n + 1) →
+  started_emissions : (a : Liveness) (s : ℕ) (p : Term) (B : Scope) (f : Layer → Formula) (n r : ℕ) → HasExitCodes p → Above B n → Agrees L a p (n + 1) →
       Root r a.roots → emitted V (StatusOf n (Started r)) (spots L (bind B s n) f p (n + 1)) ≡
       started_any (emission V (StatusOf n (Started r))) (bind B s n) f p (n + 1) (Started r)
   started_emissions a s p B f n r k ab g i =
@@ -46,7 +46,7 @@ module _ (V : Valuation) (all : List Spot) (L : ℕ → List Layer) where
       differs : (j : ℕ) → (j ≡ r → ⊥) → same_layer (layer_above n (Started j)) (Started r) ≡ false
       differs j z = cond_both _ (Started j) Resumed (λ y. same_layer y (Started r) ≡ false) (λ u. ne_eqb j r z) (λ u. refl)
 
-  resumed_emissions : (a : Liveness) (s : ℕ) (p : Term) (B : Scope) (f : Layer → Formula) (n : ℕ) → IsKernel p → Above B n → Agrees L a p (n + 1) →
+  resumed_emissions : (a : Liveness) (s : ℕ) (p : Term) (B : Scope) (f : Layer → Formula) (n : ℕ) → HasExitCodes p → Above B n → Agrees L a p (n + 1) →
       ((r : ℕ) → Root r a.roots → r ≤ n) → emitted V (StatusOf n Resumed) (spots L (bind B s n) f p (n + 1)) ≡
       (a.resumed && resumed_any (emission V (StatusOf n Resumed)) (bind B s n) f p (n + 1))
   resumed_emissions a s p B f n k ab g l =
@@ -77,7 +77,7 @@ module _ (V : Valuation) (all : List Spot) (L : ℕ → List Layer) where
 
   -- where its body is walked, they are the walk's
   pub local_started : (a : Liveness) (x : ℕ) (p : Term) (B : Scope) (f : Layer → Formula) (n r : ℕ) (v : Values) (b : Bool) → Agrees L a (Local x p) n →
-      Root r a.roots → r ≤ n → NoInstantLoop p → IsKernel p → Above B n → Whole V L all B f (Local x p) n →
+      Root r a.roots → r ≤ n → NoInstantLoop p → HasExitCodes p → Above B n → Whole V L all B f (Local x p) n →
       StartedWalked V p (n + 1) (Started r) (with_value v x (V (StatusOf n (Started r)))) b →
       emitted V (StatusOf n (Started r)) all ≡ (b && (started_walk (statuses V) p (n + 1) (Started r) (with_value v x (V (StatusOf n (Started r))))).signals x)
   local_started a x p B f n r v b g i l nl k ab w one =
@@ -90,7 +90,7 @@ module _ (V : Valuation) (all : List Spot) (L : ℕ → List Layer) where
       (own_shows B n x y y true ab (ap (λ z. same_layer z y) (layer_above-started n r l) ∙ same_self y))
 
   pub local_resumed : (S : ℕ → Bool) (a : Liveness) (x : ℕ) (p : Term) (B : Scope) (f : Layer → Formula) (n : ℕ) (v : Values) (b : Bool) →
-      Agrees L a (Local x p) n → a.resumed ≡ true → ((r : ℕ) → Root r a.roots → r ≤ n) → NoInstantLoop p → IsKernel p → Above B n →
+      Agrees L a (Local x p) n → a.resumed ≡ true → ((r : ℕ) → Root r a.roots → r ≤ n) → NoInstantLoop p → HasExitCodes p → Above B n →
       Whole V L all B f (Local x p) n → Reach S p (n + 1) b → (has_code (resumed_codes p) ≡ true →
       ResumedWalked V S p (n + 1) (with_value v x (V (StatusOf n Resumed))) b) →
       emitted V (StatusOf n Resumed) all ≡ (b && (resumed_walk (statuses V) S p (n + 1) (with_value v x (V (StatusOf n Resumed)))).signals x)

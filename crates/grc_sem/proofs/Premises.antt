@@ -8,10 +8,10 @@ use Rattle.est_kernel.specs.WellFormed as programs
 use Rattle.grc_graph.specs.Wires.{Wire}
 use Rattle.grc_graph.specs.Edges.{Edge}
 use Rattle.grc_graph.specs.Orders.{GoUp}
-use Rattle.grc_graph.specs.Selected.{IsKernel}
+use Rattle.grc_graph.specs.Selected.{HasExitCodes}
 use Rattle.grc_solutions.proofs.Lists.{Every, every_from, every_at}
 
-pub kernel_of : (t : Term) (d : ℕ) → programs.IsKernel t → ExitsStandInTraps d t → d + trap_depth t ≤ 62 → IsKernel t
+pub kernel_of : (t : Term) (d : ℕ) → programs.IsKernel t → ExitsStandInTraps d t → d + trap_depth t ≤ 62 → HasExitCodes t
 kernel_of Nothing d k e l = tt
 kernel_of Pause d k e l = tt
 kernel_of (Emit s) d k e l = tt

@@ -21,7 +21,7 @@ use Rattle.grc_graph.specs.Wires.{Wire, Out}
 use Rattle.grc_graph.specs.Spots.{body_entry}
 use Rattle.grc_graph.specs.Residuals.{holds, left_if, residual, resumption}
 use Rattle.grc_graph.specs.Walk.{Walk, Values, State, Initial, Selecting, ended, resumed_walk, body_walk, remaining}
-use Rattle.grc_graph.specs.Selected.{IsKernel, IsState}
+use Rattle.grc_graph.specs.Selected.{HasExitCodes, IsState}
 use Rattle.grc_graph.specs.Readings.{Valuation, seen_value, seen_values}
 use Rattle.grc_graph.specs.Coherence.{statuses, StartedWalked, ResumedWalked}
 use Rattle.grc_sem.proofs.Places.{Place, Knows, nothing_place}
@@ -148,7 +148,7 @@ map_same f g (o ∷ os) h = ap (λ b. b ∷ map f os) h.0 ∙ ap (λ l. g o ∷ 
 -- A body in a program with so many inputs and outgoing signals; a state, an event and the wires of the walk.
 pub record Solution (inputs outs : ℕ) (body : Term) (R : Wire → ℕ) (N : ℕ) (q : State) (event : List Bool) (V : Valuation) : Type 0 where
   pub loops : NoInstantLoop body
-  pub kernel : IsKernel body
+  pub kernel : HasExitCodes body
   pub scope : InScope (program_scope inputs (inputs + outs)) body
   pub most : (w : Wire) → R w ≤ N
   pub started_rows : EachStarted (RowAt (Up R)) (program_scope inputs (inputs + outs)) body_entry body 0 (Started 0)

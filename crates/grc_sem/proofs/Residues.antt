@@ -11,7 +11,7 @@ use Rattle.est_kernel.specs.StaticCodes.{has_code, started_codes, resumed_codes,
 use Rattle.est_kernel.proofs.Sets.{except-in, except-parts, upto-in, maxima-in, maxima-subset, lowered-in, lowered-subset}
 use Rattle.grc_graph.specs.Layers.{can_pass}
 use Rattle.grc_graph.specs.Residuals.{holds, left_if, residual}
-use Rattle.grc_graph.specs.Selected.{IsKernel, IsSelected}
+use Rattle.grc_graph.specs.Selected.{HasExitCodes, IsSelected}
 use Rattle.grc_sem.proofs.Places.{no_loops-left}
 use Rattle.grc_graph.proofs.CodeBounds.{trap_code-le}
 
@@ -48,7 +48,7 @@ pub some_has : (A : ℕ → Bool) → SomeCode A → has_code A ≡ true
 some_has A s = upto-in A s.0 63 s.2 s.1
 
 -- every statement has a code at its start
-pub started_some : (t : Term) → NoInstantLoop t → IsKernel t → SomeCode (started_codes t)
+pub started_some : (t : Term) → NoInstantLoop t → HasExitCodes t → SomeCode (started_codes t)
 started_some Nothing nl b = (0, omega arith, refl)
 started_some Pause nl b = (1, omega arith, refl)
 started_some (Emit s) nl b = (0, omega arith, refl)
@@ -119,7 +119,7 @@ module _ (S : ℕ → Bool) where
       (or_cases (holds S p n) (can_pass p) h)
 
   -- a statement that holds a selected pause has a resumed code
-  pub resumed_some : (t : Term) (n : ℕ) → NoInstantLoop t → IsKernel t → holds S t n ≡ true → IsSelected S t n → SomeCode (resumed_codes t)
+  pub resumed_some : (t : Term) (n : ℕ) → NoInstantLoop t → HasExitCodes t → holds S t n ≡ true → IsSelected S t n → SomeCode (resumed_codes t)
   resumed_some Nothing n nl b h s = absurd (false≢true h)
   resumed_some Pause n nl b h s = (0, omega arith, refl)
   resumed_some (Emit x) n nl b h s = absurd (false≢true h)
@@ -179,7 +179,7 @@ module _ (S : ℕ → Bool) where
   resumed_some (Local x p) n nl b h s = resumed_some p (n + 1) nl b h s
   resumed_some (Awake e p) n nl b h s = absurd b
 
-  pub resumed_live : (t : Term) (n : ℕ) → NoInstantLoop t → IsKernel t → holds S t n ≡ true → IsSelected S t n → has_code (resumed_codes t) ≡ true
+  pub resumed_live : (t : Term) (n : ℕ) → NoInstantLoop t → HasExitCodes t → holds S t n ≡ true → IsSelected S t n → has_code (resumed_codes t) ≡ true
   resumed_live t n nl b h s = some_has (resumed_codes t) (resumed_some t n nl b h s)
 
   -- the loops of what is left
@@ -222,7 +222,7 @@ module _ (S : ℕ → Bool) where
   left_codes false r p o h k e =
       subst (λ i. branch_codes (started_codes p) (resumed_codes p) i ≡ true) (sym (eqb-true k 0 e)) (branch_over p o)
 
-  pub residual_codes : (t : Term) (n : ℕ) → NoInstantLoop t → IsKernel t → holds S t n ≡ true → IsSelected S t n → (k : ℕ) → CodesFrom (residual S t n) t k
+  pub residual_codes : (t : Term) (n : ℕ) → NoInstantLoop t → HasExitCodes t → holds S t n ≡ true → IsSelected S t n → (k : ℕ) → CodesFrom (residual S t n) t k
   residual_codes Nothing n nl b h s k = λ e. absurd (false≢true h)
   residual_codes Pause n nl b h s k = λ e. e
   residual_codes (Emit x) n nl b h s k = λ e. absurd (false≢true h)

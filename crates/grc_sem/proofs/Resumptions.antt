@@ -11,7 +11,7 @@ use Rattle.grc_graph.specs.Wires.{Wire, Go, StatusOf, End}
 use Rattle.grc_graph.specs.Formulas.{Formula}
 use Rattle.grc_graph.specs.Residuals.{holds, left_if, residual}
 use Rattle.grc_graph.specs.Walk.{Walk, Values, ended, then_walk, started_walk, resumed_walk, selected_in}
-use Rattle.grc_graph.specs.Selected.{IsKernel, IsSelected}
+use Rattle.grc_graph.specs.Selected.{HasExitCodes, IsSelected}
 use Rattle.grc_graph.specs.Readings.{Valuation}
 use Rattle.grc_graph.specs.Coherence.{statuses, ResumedWalked}
 use Rattle.grc_sem.proofs.Places.{After, Place, Joins, no_loops-left, place_code, nothing_place, pause_place, later_place, later_after, loop_after, loop_place}
@@ -80,7 +80,7 @@ module _ (R : Wire → ℕ) (N : ℕ) (S : ℕ → Bool) where
   abbrev stops : ℕ → ℕ → ℕ
   stops n = λ k. R (End n Resumed k)
 
-  pub resumed_after : (t : Term) (B : Scope) (f : Layer → Formula) (n : ℕ) (r : ℕ → ℕ) → NoInstantLoop t → IsKernel t → InScope B t → Above B n →
+  pub resumed_after : (t : Term) (B : Scope) (f : Layer → Formula) (n : ℕ) (r : ℕ → ℕ) → NoInstantLoop t → HasExitCodes t → InScope B t → Above B n →
       holds S t n ≡ true → IsSelected S t n → EachResumed (RowAt (Up R)) B f t n → Ranks R N B Resumed r → After (residual S t n) r (start n) (stops n)
   resumed_after Nothing B f n r nl b i a h s e k = absurd (false≢true h)
   resumed_after Pause B f n r nl b i a h s e k =
@@ -197,7 +197,8 @@ module _ (R : Wire → ℕ) (N : ℕ) (S : ℕ → Bool) where
       (resumed_after p (bind B x n) _ (n + 1) _ nl b (i n) (above_bind B n x a) h s (e.1 live) (ranks_more R N B n x Resumed r refl k))
   resumed_after (Awake x p) B f n r nl b i a h s e k = absurd b
 
-  pub resumed_place : (V : Valuation) (t : Term) (B : Scope) (f : Layer → Formula) (n : ℕ) (r : ℕ → ℕ) (v : Values) (g : Bool) → NoInstantLoop t → IsKernel t →
+  pub resumed_place : (V : Valuation) (t : Term) (B : Scope) (f : Layer → Formula) (n : ℕ) (r : ℕ → ℕ) (v : Values) (g : Bool) → NoInstantLoop t →
+      HasExitCodes t →
       InScope B t → Above B n → holds S t n ≡ true → IsSelected S t n → EachResumed (RowAt (Up R)) B f t n → Ranks R N B Resumed r → ResumedWalked V S t n v g →
       g ≡ true → Place (residual S t n) v r (resumed_walk (statuses V) S t n v) (start n) (stops n)
   resumed_place V Nothing B f n r v g nl b i a h s e k w o = absurd (false≢true h)

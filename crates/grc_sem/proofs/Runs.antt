@@ -10,7 +10,7 @@ use Rattle.grc_graph.specs.Edges.{edges}
 use Rattle.grc_graph.specs.Orders.{GoUp}
 use Rattle.grc_graph.specs.Residuals.{resumption}
 use Rattle.grc_graph.specs.Walk.{State, Initial, remaining}
-use Rattle.grc_graph.specs.Selected.{IsKernel, IsState}
+use Rattle.grc_graph.specs.Selected.{HasExitCodes, IsState}
 use Rattle.grc_graph.specs.Readings.{Valuation}
 use Rattle.grc_graph.specs.GraphRuns.{graph_of, program_spots, Solves, shown, next_state, IsGraphRun}
 use Rattle.grc_sem.specs.GraphWalks.{graph_walk, SelectsLeaves, shown_answer, shown_code}
@@ -27,7 +27,7 @@ use Rattle.grc_sem.proofs.Instants.{next_is_state, next_leaves, next_residual, p
 abbrev Agrees : Program → Option (List Answer) → List Valuation → Type 0
 Agrees p o Vs = (answers : List Answer) × (o ≡ Some answers) × (map shown_answer answers ≡ map (λ V. shown (graph_of p) V) Vs)
 
-module _ (p : Program) (rank : Wire → ℕ) (most : ℕ) (formed : IsWellFormed p) (kernel : IsKernel p.body) (nl : NoInstantLoop p.body)
+module _ (p : Program) (rank : Wire → ℕ) (most : ℕ) (formed : IsWellFormed p) (kernel : HasExitCodes p.body) (nl : NoInstantLoop p.body)
     (up : GoUp rank (edges (program_spots p))) (bound : (w : Wire) → rank w ≤ most) where
   reacts : (q : State) (event : List Bool) (V : Valuation) → IsState q p.body → length event ≡ given_count p → Solves (graph_of p) q event V →
       react (interface_of p) (remaining q p.body) event ≡ Some (record {
@@ -69,7 +69,7 @@ module _ (p : Program) (rank : Wire → ℕ) (most : ℕ) (formed : IsWellFormed
   runs (Reset ∷ items) q Vs state leaves w r = runs items Initial Vs tt tt w r
 
 -- the premises of a program
-pub program_kernel : (p : Program) → IsWellFormed p → programs.IsKernel p.body → IsKernel p.body
+pub program_kernel : (p : Program) → IsWellFormed p → programs.IsKernel p.body → HasExitCodes p.body
 program_kernel p formed k =
     kernel_of p.body 0 k formed.body.exits (omega (arith, formed.body.traps))
 

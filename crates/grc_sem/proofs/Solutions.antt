@@ -14,7 +14,7 @@ use Rattle.grc_graph.specs.Edges.{edges, edges_at}
 use Rattle.grc_graph.specs.Orders.{GoUp}
 use Rattle.grc_graph.specs.Residuals.{holds}
 use Rattle.grc_graph.specs.Walk.{Values, State, is_initial}
-use Rattle.grc_graph.specs.Selected.{IsKernel, IsState}
+use Rattle.grc_graph.specs.Selected.{HasExitCodes, IsState}
 use Rattle.grc_graph.specs.Readings.{Valuation, seen_values, state_holds_at}
 use Rattle.grc_graph.specs.Coherence.{StartedWalked, ResumedWalked}
 use Rattle.grc_sem.specs.GraphWalks.{selected_of}
@@ -49,7 +49,7 @@ module _ (inputs outs given_count : ℕ) (body : Term) where
   body_all = tops.body_all inputs outs body
 
   -- what a solution in a state and an event is worth
-  module _ (q : State) (event : List Bool) (V : Valuation) (nl : NoInstantLoop body) (kernel : IsKernel body) (state : IsState q body)
+  module _ (q : State) (event : List Bool) (V : Valuation) (nl : NoInstantLoop body) (kernel : HasExitCodes body) (state : IsState q body)
       (met : All (λ e. V e.wire ≡ val B0 body q (is_given event) V e.formula) (equations given_count (range_with_len inputs outs) body_all))
       (others : (w : Wire) → list_any (λ e. same_wire w e.wire) (equations given_count (range_with_len inputs outs) body_all) ≡ false → V w ≡ false) where
     abbrev v : Values

@@ -18,7 +18,7 @@ use Rattle.grc_graph.specs.Formulas.{Formula}
 use Rattle.grc_graph.specs.Residuals.{holds, left_if, residual}
 use Rattle.grc_graph.specs.Walk.{Walk, Values, with_value, truth, ended, then_walk, both_walks, trapped_walk, hidden_walk, started_walk, resumed_walk}
 use Rattle.grc_graph.specs.Walk.{selected_in}
-use Rattle.grc_graph.specs.Selected.{IsKernel, IsSelected}
+use Rattle.grc_graph.specs.Selected.{HasExitCodes, IsSelected}
 use Rattle.grc_graph.specs.Readings.{Valuation}
 use Rattle.grc_graph.specs.Coherence.{statuses, StartedWalked, ResumedWalked}
 use Rattle.grc_sem.proofs.Places.{Knows, with_settled, decision_is, with_rank, test_known, place_code, no_loops-left}
@@ -286,7 +286,7 @@ seq_step t u whole p n c {E} {x} y s f g =
 
 module _ (R : Wire → ℕ) (N : ℕ) (most : (w : Wire) → R w ≤ N) where
   pub started_step : (V : Valuation) (t : Term) (B : Scope) (f : Layer → Formula) (n q : ℕ) (r : ℕ → ℕ) (v : Values) (b : Bool) (E : Environment) → q ≤ n →
-      NoInstantLoop t → IsKernel t → InScope B t → EachStarted (RowAt (Up R)) B f t n (Started q) → Ranks R N B (Started q) r →
+      NoInstantLoop t → HasExitCodes t → InScope B t → EachStarted (RowAt (Up R)) B f t n (Started q) → Ranks R N B (Started q) r →
       StartedWalked V t n (Started q) v b → b ≡ true → Knows E v N r → Stepped t E (started_walk (statuses V) t n (Started q) v) t n
   started_step V Nothing B f n q r v b E l nl kn i e k w h o =
       record { done = _; is = refl; code = refl; left = λ T s. refl }
@@ -402,7 +402,7 @@ module _ (R : Wire → ℕ) (N : ℕ) (most : (w : Wire) → R w ≤ N) where
       }
 
   pub resumed_step : (S : ℕ → Bool) (V : Valuation) (t : Term) (B : Scope) (f : Layer → Formula) (n : ℕ) (r : ℕ → ℕ) (v : Values) (g : Bool) (E : Environment) →
-      NoInstantLoop t → IsKernel t → InScope B t → Above B n → holds S t n ≡ true → IsSelected S t n → EachResumed (RowAt (Up R)) B f t n →
+      NoInstantLoop t → HasExitCodes t → InScope B t → Above B n → holds S t n ≡ true → IsSelected S t n → EachResumed (RowAt (Up R)) B f t n →
       Ranks R N B Resumed r → ResumedWalked V S t n v g → g ≡ true → Knows E v N r → Stepped (residual S t n) E (resumed_walk (statuses V) S t n v) t n
   resumed_step S V Nothing B f n r v g E nl b i a h s e k w o y = absurd (false≢true h)
   resumed_step S V Pause B f n r v g E nl b i a h s e k w o y =

@@ -11,7 +11,7 @@ use Rattle.grc_graph.specs.Formulas.{Formula}
 use Rattle.grc_graph.specs.Spots.{Spot, test_formula}
 use Rattle.grc_graph.specs.Residuals.{holds}
 use Rattle.grc_graph.specs.Walk.{Walk, Values, State, with_value, truth, ended, then_walk, started_walk, resumed_walk, selected_in}
-use Rattle.grc_graph.specs.Selected.{IsKernel}
+use Rattle.grc_graph.specs.Selected.{HasExitCodes}
 use Rattle.grc_graph.specs.Readings.{Valuation}
 use Rattle.grc_graph.specs.Coherence.{statuses, StartedWalked, ResumedWalked}
 use Rattle.grc_sem.proofs.Places.{no_loops-left}
@@ -34,7 +34,7 @@ module _ (B0 : Scope) (body : Term) (q : State) (given : Values) (V : Valuation)
   M = Met B0 body q given V all
 
   pub told_started : (a : Liveness) (t : Term) (B : Scope) (f : Layer → Formula) (n r : ℕ) (v : Values) (b : Bool) → Agrees L a t n → Root r a.roots → r ≤ n →
-      NoInstantLoop t → IsKernel t → Above B n → Whole V L all B f t n → EachStarted M B f t n (Started r) → Sees given V B (Started r) v →
+      NoInstantLoop t → HasExitCodes t → Above B n → Whole V L all B f t n → EachStarted M B f t n (Started r) → Sees given V B (Started r) v →
       V (Go n (Started r)) ≡ b → StartedWalked V t n (Started r) v b
   told_started a Nothing B f n r v b g i l nl k ab w e s h =
       record { go = h; ends = λ j. e.ends j ∙ started_mean B0 body q given V Nothing B n r v b nl k s h tt j }
@@ -181,7 +181,7 @@ module _ (B0 : Scope) (body : Term) (q : State) (given : Values) (V : Valuation)
   picks = selects B0 body q given V
 
   pub told_resumed : (S : ℕ → Bool) (a : Liveness) (t : Term) (B : Scope) (f : Layer → Formula) (n : ℕ) (v : Values) (b : Bool) → Agrees L a t n →
-      a.resumed ≡ true → ((r : ℕ) → Root r a.roots → r ≤ n) → NoInstantLoop t → IsKernel t → Above B n → Whole V L all B f t n → EachResumed M B f t n →
+      a.resumed ≡ true → ((r : ℕ) → Root r a.roots → r ≤ n) → NoInstantLoop t → HasExitCodes t → Above B n → Whole V L all B f t n → EachResumed M B f t n →
       Sees given V B Resumed v → Finds picks S t n → Reach S t n b → V (Go n Resumed) ≡ b → ResumedWalked V S t n v b
   told_resumed S a Nothing B f n v b g i l nl k ab w e s o u h =
       record { go = h; ends = λ j. e.ends j ∙ resumed_mean B0 body q given V S Nothing B n v b nl k s o u h tt j }

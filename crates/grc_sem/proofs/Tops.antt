@@ -17,7 +17,7 @@ use Rattle.grc_graph.specs.Spots.{Spot, body_spots, body_entry}
 use Rattle.grc_graph.specs.Equations.{output_equation, emissions, is_wire}
 use Rattle.grc_graph.specs.Residuals.{holds}
 use Rattle.grc_graph.specs.Walk.{Values, State, Initial, Selecting, started_walk, resumed_walk, body_walk, ended, is_initial}
-use Rattle.grc_graph.specs.Selected.{IsKernel, IsState}
+use Rattle.grc_graph.specs.Selected.{HasExitCodes, IsState}
 use Rattle.grc_graph.specs.Readings.{Valuation, seen_value, seen_values, holds_at, state_holds_at}
 use Rattle.grc_graph.specs.Coherence.{statuses, StartedWalked, ResumedWalked}
 use Rattle.grc_sem.specs.GraphWalks.{selected_of}
@@ -126,7 +126,7 @@ module _ (inputs outs : ℕ) (body : Term) where
   or_nothing false = refl
 
   -- what the program emits, where its wires are those of the walk
-  module _ (q : State) (event : List Bool) (V : Valuation) (nl : NoInstantLoop body) (kernel : IsKernel body) (state : IsState q body)
+  module _ (q : State) (event : List Bool) (V : Valuation) (nl : NoInstantLoop body) (kernel : HasExitCodes body) (state : IsState q body)
       (started : StartedWalked V body 0 (Started 0) (seen_values (is_given event) V B0 Resumed) (is_initial q))
       (resumed : has_code (resumed_codes body) ≡ true → ResumedWalked V (selected_of q) body 0 (seen_values (is_given event) V B0 Resumed)
       (holds (selected_of q) body 0)) where

@@ -9,7 +9,7 @@ use Rattle.est_kernel.proofs.Sets.{except-in, maxima-in, lowered-in}
 use Rattle.grc_graph.specs.Layers.{Layer, Resumed, Started, can_pass}
 use Rattle.grc_graph.specs.Residuals.{holds}
 use Rattle.grc_graph.specs.Walk.{Walk, Values, with_value, truth, ended, then_walk, started_walk, resumed_walk, selected_in}
-use Rattle.grc_graph.specs.Selected.{IsKernel, IsSelected}
+use Rattle.grc_graph.specs.Selected.{HasExitCodes, IsSelected}
 use Rattle.grc_sem.proofs.Places.{no_loops-left}
 use Rattle.grc_sem.proofs.Residues.{no_loops-right, loop_body, loop_code, or_other, resumed_live}
 
@@ -22,7 +22,7 @@ choice_code : (P : ℕ → Type 0) (c : Bool) (x y : Walk) → (c ≡ true → P
 choice_code P true x y f g = f refl
 choice_code P false x y f g = g refl
 
-pub started_code : (Z : ℕ → Layer → Bool) (t : Term) (n : ℕ) (l : Layer) (v : Values) → NoInstantLoop t → IsKernel t →
+pub started_code : (Z : ℕ → Layer → Bool) (t : Term) (n : ℕ) (l : Layer) (v : Values) → NoInstantLoop t → HasExitCodes t →
     started_codes t (started_walk Z t n l v).code ≡ true
 started_code Z Nothing n l v nl k = refl
 started_code Z Pause n l v nl k = refl
@@ -66,7 +66,7 @@ branch_code : (c : Bool) (p : Term) (x : Walk) → (c || can_pass p) ≡ true �
 branch_code true p x o f = or_left _ _ (f refl)
 branch_code false p x o f = or_right (resumed_codes p 0) _ (and_from _ _ o refl)
 
-pub resumed_code : (Z : ℕ → Layer → Bool) (S : ℕ → Bool) (t : Term) (n : ℕ) (v : Values) → NoInstantLoop t → IsKernel t → holds S t n ≡ true →
+pub resumed_code : (Z : ℕ → Layer → Bool) (S : ℕ → Bool) (t : Term) (n : ℕ) (v : Values) → NoInstantLoop t → HasExitCodes t → holds S t n ≡ true →
     IsSelected S t n → resumed_codes t (resumed_walk Z S t n v).code ≡ true
 resumed_code Z S Nothing n v nl k h s = absurd (false≢true h)
 resumed_code Z S Pause n v nl k h s = refl

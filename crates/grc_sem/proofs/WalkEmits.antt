@@ -11,7 +11,7 @@ use Rattle.grc_graph.specs.Formulas.{Formula}
 use Rattle.grc_graph.specs.Equations.{is_wire}
 use Rattle.grc_graph.specs.Residuals.{holds}
 use Rattle.grc_graph.specs.Walk.{Walk, Values, with_value, truth, ended, then_walk, started_walk, resumed_walk, selected_in}
-use Rattle.grc_graph.specs.Selected.{IsKernel, IsSelected}
+use Rattle.grc_graph.specs.Selected.{HasExitCodes, IsSelected}
 use Rattle.grc_graph.specs.Readings.{Valuation}
 use Rattle.grc_graph.specs.Coherence.{statuses, StartedWalked, ResumedWalked}
 use Rattle.grc_sem.proofs.Places.{no_loops-left}
@@ -136,7 +136,7 @@ guard_bits false false false x P f h = refl
 
 module _ (V : Valuation) where
   -- a statement none of whose signals has the wire
-  pub started_silent : (w : Wire) (s : ℕ) (t : Term) (B : Scope) (f : Layer → Formula) (n : ℕ) (l : Layer) → IsKernel t → Fresh w n → Shows B l w s false →
+  pub started_silent : (w : Wire) (s : ℕ) (t : Term) (B : Scope) (f : Layer → Formula) (n : ℕ) (l : Layer) → HasExitCodes t → Fresh w n → Shows B l w s false →
       started_any (emission V w) B f t n l ≡ false
   started_silent w s Nothing B f n l k r h = refl
   started_silent w s Pause B f n l k r h = refl
@@ -168,7 +168,7 @@ module _ (V : Valuation) where
   and_none true e = e
   and_none false e = refl
 
-  pub resumed_silent : (w : Wire) (s : ℕ) (t : Term) (B : Scope) (f : Layer → Formula) (n : ℕ) → IsKernel t → Fresh w n → Above B n →
+  pub resumed_silent : (w : Wire) (s : ℕ) (t : Term) (B : Scope) (f : Layer → Formula) (n : ℕ) → HasExitCodes t → Fresh w n → Above B n →
       Shows B Resumed w s false → resumed_any (emission V w) B f t n ≡ false
   resumed_silent w s Nothing B f n k r a h = refl
   resumed_silent w s Pause B f n k r a h = refl
@@ -208,7 +208,7 @@ module _ (V : Valuation) where
   resumed_silent w s (Awake e p) B f n k r a h = absurd k
 
   pub started_emits : (w : Wire) (s : ℕ) (c : Bool) (t : Term) (B : Scope) (f : Layer → Formula) (n : ℕ) (l : Layer) (v : Values) (b : Bool) → NoInstantLoop t →
-      IsKernel t → StartedWalked V t n l v b → Fresh w n → Shows B l w s c →
+      HasExitCodes t → StartedWalked V t n l v b → Fresh w n → Shows B l w s c →
       started_any (emission V w) B f t n l ≡ (c && (b && (started_walk (statuses V) t n l v).signals s))
   started_emits w s c Nothing B f n l v b nl k h r e = sym (none c b)
     where
@@ -337,11 +337,11 @@ reach_part {S} {t} {p} {n} {m} b r f =
     }
 
 module _ (V : Valuation) (S : ℕ → Bool) where
-  live_of : (p : Term) (m : ℕ) (b : Bool) → NoInstantLoop p → IsKernel p → Reach S p m b → b ≡ true → has_code (resumed_codes p) ≡ true
+  live_of : (p : Term) (m : ℕ) (b : Bool) → NoInstantLoop p → HasExitCodes p → Reach S p m b → b ≡ true → has_code (resumed_codes p) ≡ true
   live_of p m b nl k r e = resumed_live S p m nl k (r.held e) (r.selected e)
 
   pub resumed_emits : (w : Wire) (s : ℕ) (c : Bool) (t : Term) (B : Scope) (f : Layer → Formula) (n : ℕ) (v : Values) (b : Bool) → NoInstantLoop t →
-      IsKernel t → Reach S t n b → ResumedWalked V S t n v b → Fresh w n → Above B n → Shows B Resumed w s c →
+      HasExitCodes t → Reach S t n b → ResumedWalked V S t n v b → Fresh w n → Above B n → Shows B Resumed w s c →
       resumed_any (emission V w) B f t n ≡ (c && (b && (resumed_walk (statuses V) S t n v).signals s))
   resumed_emits w s c Nothing B f n v b nl k q h r a e = sym (none_bits c b)
   resumed_emits w s c Pause B f n v b nl k q h r a e = sym (none_bits c b)

@@ -13,7 +13,7 @@ use Rattle.grc_graph.specs.Wires.{Go, StatusOf}
 use Rattle.grc_graph.specs.Equations.{end_formula}
 use Rattle.grc_graph.specs.Residuals.{holds}
 use Rattle.grc_graph.specs.Walk.{Walk, Values, State, with_value, truth, ended, then_walk, started_walk, resumed_walk, selected_in}
-use Rattle.grc_graph.specs.Selected.{IsKernel}
+use Rattle.grc_graph.specs.Selected.{HasExitCodes}
 use Rattle.grc_graph.specs.Readings.{Valuation, state_holds_at}
 use Rattle.grc_graph.specs.Coherence.{statuses, StartedWalked, ResumedWalked}
 use Rattle.grc_sem.proofs.Places.{no_loops-left}
@@ -88,7 +88,7 @@ module _ (B0 : Scope) (body : Term) (q : State) (given : Values) (V : Valuation)
   abbrev pub resumed_end : Scope → Term → ℕ → ℕ → Bool
   resumed_end B t n j = resumed_codes t j && val B0 body q given V (end_formula B t n Resumed j)
 
-  pub started_mean : (t : Term) (B : Scope) (n r : ℕ) (v : Values) (b : Bool) → NoInstantLoop t → IsKernel t → Sees given V B (Started r) v →
+  pub started_mean : (t : Term) (B : Scope) (n r : ℕ) (v : Values) (b : Bool) → NoInstantLoop t → HasExitCodes t → Sees given V B (Started r) v →
       V (Go n (Started r)) ≡ b → StartedParts V t n (Started r) v b → (j : ℕ) →
       started_end B t n r j ≡ (b && j == (started_walk (statuses V) t n (Started r) v).code)
   started_mean Nothing B n r v b nl k s h w j = ap (λ x. (j == 0) && x) h ∙ and_flip (j == 0) b
@@ -175,7 +175,7 @@ module _ (B0 : Scope) (body : Term) (q : State) (given : Values) (V : Valuation)
   abbrev pub selects : ℕ → Bool
   selects = λ m. state_holds_at q body m
 
-  pub resumed_mean : (S : ℕ → Bool) (t : Term) (B : Scope) (n : ℕ) (v : Values) (b : Bool) → NoInstantLoop t → IsKernel t → Sees given V B Resumed v →
+  pub resumed_mean : (S : ℕ → Bool) (t : Term) (B : Scope) (n : ℕ) (v : Values) (b : Bool) → NoInstantLoop t → HasExitCodes t → Sees given V B Resumed v →
       Finds selects S t n → Reach S t n b → V (Go n Resumed) ≡ b → ResumedParts V S t n v b → (j : ℕ) →
       resumed_end B t n j ≡ (b && j == (resumed_walk (statuses V) S t n v).code)
   resumed_mean S Nothing B n v b nl k s o u h w j = never b (j == 0) (λ z. u.held z)

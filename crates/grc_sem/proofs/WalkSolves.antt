@@ -15,7 +15,7 @@ use Rattle.grc_graph.specs.Spots.{Spot, body_entry}
 use Rattle.grc_graph.specs.Equations.{Equation, equations, end_formula, emissions, instance_status, instance_equations, output_equation}
 use Rattle.grc_graph.specs.Residuals.{holds}
 use Rattle.grc_graph.specs.Walk.{Values, State, is_initial}
-use Rattle.grc_graph.specs.Selected.{IsKernel, IsState}
+use Rattle.grc_graph.specs.Selected.{HasExitCodes, IsState}
 use Rattle.grc_graph.specs.Readings.{Valuation, seen_values, state_holds_at}
 use Rattle.grc_graph.specs.GraphRuns.{Solves, graph_of, program_spots}
 use Rattle.grc_solutions.specs.GraphWires.{program_wires}
@@ -75,7 +75,7 @@ module _ (B0 : Scope) (body : Term) (q : State) (event : List Bool) (V : Valuati
         (λ k u e. m.ends k ∙ ap (λ c. c && val B0 body q (is_given event) V (end_formula x.scope x.statement x.path x.layer k)) e))),
   )
 
-module _ (p : Program) (q : State) (event : List Bool) (V : Valuation) (kernel : IsKernel p.body) (nl : NoInstantLoop p.body) (state : IsState q p.body)
+module _ (p : Program) (q : State) (event : List Bool) (V : Valuation) (kernel : HasExitCodes p.body) (nl : NoInstantLoop p.body) (state : IsState q p.body)
     (width : length event ≡ given_count p) where
   abbrev outs : ℕ
   outs = outgoing_count p

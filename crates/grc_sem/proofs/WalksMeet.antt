@@ -11,7 +11,7 @@ use Rattle.grc_graph.specs.Formulas.{Formula}
 use Rattle.grc_graph.specs.Spots.{Spot, test_formula}
 use Rattle.grc_graph.specs.Residuals.{holds}
 use Rattle.grc_graph.specs.Walk.{Values, State, with_value, truth, started_walk, resumed_walk}
-use Rattle.grc_graph.specs.Selected.{IsKernel}
+use Rattle.grc_graph.specs.Selected.{HasExitCodes}
 use Rattle.grc_graph.specs.Readings.{Valuation}
 use Rattle.grc_graph.specs.Coherence.{InstanceWalked, statuses, StartedWalked, ResumedWalked}
 use Rattle.grc_sem.proofs.Places.{no_loops-left}
@@ -39,7 +39,8 @@ module _ (B0 : Scope) (body : Term) (q : State) (given : Values) (V : Valuation)
   abbrev picks : ℕ → Bool
   picks = selects B0 body q given V
 
-  started_met : (t : Term) (B : Scope) (f : Layer → Formula) (n r : ℕ) (v : Values) (b : Bool) → NoInstantLoop t → IsKernel t → Sees given V B (Started r) v →
+  started_met : (t : Term) (B : Scope) (f : Layer → Formula) (n r : ℕ) (v : Values) (b : Bool) → NoInstantLoop t → HasExitCodes t →
+      Sees given V B (Started r) v →
       value (f (Started r)) ≡ b → InstanceWalked V n (Started r) b (started_walk (statuses V) t n (Started r) v) → StartedParts V t n (Started r) v b →
       StatusMet V all t n (Started r) → M (spot B f t n (Started r))
   started_met t B f n r v b nl k s h i parts st = record {
@@ -48,7 +49,7 @@ module _ (B0 : Scope) (body : Term) (q : State) (given : Values) (V : Valuation)
     status = st;
   }
 
-  resumed_met : (S : ℕ → Bool) (t : Term) (B : Scope) (f : Layer → Formula) (n : ℕ) (v : Values) (b : Bool) → NoInstantLoop t → IsKernel t →
+  resumed_met : (S : ℕ → Bool) (t : Term) (B : Scope) (f : Layer → Formula) (n : ℕ) (v : Values) (b : Bool) → NoInstantLoop t → HasExitCodes t →
       Sees given V B Resumed v → Finds picks S t n → Reach S t n b → value (f Resumed) ≡ b → InstanceWalked V n Resumed b (resumed_walk (statuses V) S t n v) →
       ResumedParts V S t n v b → StatusMet V all t n Resumed → M (spot B f t n Resumed)
   resumed_met S t B f n v b nl k s o u h i parts st = record {
@@ -58,7 +59,7 @@ module _ (B0 : Scope) (body : Term) (q : State) (given : Values) (V : Valuation)
   }
 
   pub meets_started : (a : Liveness) (t : Term) (B : Scope) (f : Layer → Formula) (n r : ℕ) (v : Values) (b : Bool) → Agrees L a t n → Root r a.roots → r ≤ n →
-      NoInstantLoop t → IsKernel t → Above B n → Whole V L all B f t n → Sees given V B (Started r) v → value (f (Started r)) ≡ b →
+      NoInstantLoop t → HasExitCodes t → Above B n → Whole V L all B f t n → Sees given V B (Started r) v → value (f (Started r)) ≡ b →
       StartedWalked V t n (Started r) v b → EachStarted M B f t n (Started r)
   meets_started a Nothing B f n r v b g i l nl k ab w s h e = started_met Nothing B f n r v b nl k s h e tt tt
   meets_started a Pause B f n r v b g i l nl k ab w s h e = started_met Pause B f n r v b nl k s h e tt tt
@@ -149,7 +150,7 @@ module _ (B0 : Scope) (body : Term) (q : State) (given : Values) (V : Valuation)
   meets_started a (Awake x p) B f n r v b g i l nl k ab w s h e = absurd k
 
   pub meets_resumed : (S : ℕ → Bool) (a : Liveness) (t : Term) (B : Scope) (f : Layer → Formula) (n : ℕ) (v : Values) (b : Bool) → Agrees L a t n →
-      a.resumed ≡ true → ((r : ℕ) → Root r a.roots → r ≤ n) → NoInstantLoop t → IsKernel t → Above B n → Whole V L all B f t n → Sees given V B Resumed v →
+      a.resumed ≡ true → ((r : ℕ) → Root r a.roots → r ≤ n) → NoInstantLoop t → HasExitCodes t → Above B n → Whole V L all B f t n → Sees given V B Resumed v →
       Finds picks S t n → Reach S t n b → value (f Resumed) ≡ b → ResumedWalked V S t n v b → EachResumed M B f t n
   meets_resumed S a Nothing B f n v b g i l nl k ab w s o u h e = resumed_met S Nothing B f n v b nl k s o u h e tt tt
   meets_resumed S a Pause B f n v b g i l nl k ab w s o u h e = resumed_met S Pause B f n v b nl k s o u h e tt tt

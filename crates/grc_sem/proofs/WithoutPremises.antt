@@ -19,7 +19,7 @@ use Rattle.grc_graph.specs.Edges.{edge}
 use Rattle.grc_graph.specs.Orders.{GoUp}
 use Rattle.grc_graph.specs.Residuals.{resumption}
 use Rattle.grc_graph.specs.Walk.{State, Initial, Selecting, remaining}
-use Rattle.grc_graph.specs.Selected.{IsKernel, IsState}
+use Rattle.grc_graph.specs.Selected.{HasExitCodes, IsState}
 use Rattle.grc_graph.specs.Readings.{Valuation}
 use Rattle.grc_graph.specs.GraphRuns.{Solves, IsGraphRun, shown, graph_of, next_state}
 use Rattle.grc_solutions.specs.GraphWires.{program_edges}
@@ -418,7 +418,7 @@ held_values =
 abbrev KeepsAnySelection : Type 0
 KeepsAnySelection =
     (p : Program) (q : State) (event : List Bool) (V : Valuation)
-    → IsKernel p.body → NoInstantLoop p.body → IsState q p.body → Solves (graph_of p) q event V
+    → HasExitCodes p.body → NoInstantLoop p.body → IsState q p.body → Solves (graph_of p) q event V
     → (m : ℕ) → selected_of (next_state (graph_of p) q event V) m ≡ (graph_walk p q event V).kept m
 
 leaves_needed : KeepsAnySelection → ⊥

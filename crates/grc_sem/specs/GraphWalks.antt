@@ -32,9 +32,8 @@ graph_walk p q event V = body_walk (statuses V) q p.body (program_values p event
 
 -- A valuation is that of the walk of a state in an event. Each wire of each live instance has the value that the walk
 -- under the statuses of the valuation gives it, and these are coherent: the status of a Local's instance is what the
--- walk
--- of its body emits, an outgoing signal is present where the event gives it or the walk emits it. What is no wire of
--- the graph is false.
+-- walk of its body emits, an outgoing signal is present where the event gives it or the walk emits it. What is no wire
+-- of the graph is false.
 pub record IsWalkOf (p : Program) (q : State) (event : List Bool) (V : Valuation) : Type 0 where
   pub started : StartedWalked V p.body 0 (Started 0) (program_values p event V) (is_initial q)
   pub resumed : has_code (resumed_codes p.body) ≡ true

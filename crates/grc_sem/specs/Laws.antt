@@ -1,4 +1,4 @@
--- Inner: the laws that tie the equations of a graph to the walk and to the reaction of its program.
+-- To believe: the laws that tie the equations of a graph to the walk and to the reaction of its program.
 use Rattle.std.specs.Prelude.{◌≡◌, ◌↔◌, ℕ, Bool, true, ◌==◌, List, length, map, Some}
 use Rattle.est_base.specs.Items.{Item, EachEvent}
 use Rattle.est_kernel.specs.Plain.{Program, interface_of, given_count}
@@ -12,7 +12,7 @@ use Rattle.grc_graph.specs.Edges.{edges}
 use Rattle.grc_graph.specs.Orders.{GoUp}
 use Rattle.grc_graph.specs.Residuals.{holds, resumption}
 use Rattle.grc_graph.specs.Walk.{State, Initial, Selecting, remaining, is_initial, body_walk, Values}
-use Rattle.grc_graph.specs.Selected.{IsKernel, IsState}
+use Rattle.grc_graph.specs.Selected.{HasExitCodes, IsState}
 use Rattle.grc_graph.specs.Readings.{Valuation}
 use Rattle.grc_graph.specs.Coherence.{StartedWalked, ResumedWalked}
 use Rattle.grc_graph.specs.GraphRuns.{graph_of, program_spots, Solves, shown, next_state, IsGraphRun}
@@ -25,7 +25,7 @@ use Rattle.grc_sem.specs.GraphWalks.{shown_answer}
 abbrev pub SolutionsAreWalks : Type 0
 SolutionsAreWalks =
     (p : Program) (q : State) (event : List Bool) (V : Valuation)
-    → IsKernel p.body → NoInstantLoop p.body → IsState q p.body → Solves (graph_of p) q event V
+    → HasExitCodes p.body → NoInstantLoop p.body → IsState q p.body → Solves (graph_of p) q event V
     → StartedWalked V p.body 0 (Started 0) (program_values p event V) (is_initial q)
     × (has_code (resumed_codes p.body) ≡ true
     → ResumedWalked V (selected_of q) p.body 0 (program_values p event V) (holds (selected_of q) p.body 0))
@@ -35,7 +35,7 @@ SolutionsAreWalks =
 abbrev pub EquationsAreTheWalk : Type 0
 EquationsAreTheWalk =
     (p : Program) (q : State) (event : List Bool) (V : Valuation)
-    → IsKernel p.body → NoInstantLoop p.body → IsState q p.body → length event ≡ given_count p
+    → HasExitCodes p.body → NoInstantLoop p.body → IsState q p.body → length event ≡ given_count p
     → Solves (graph_of p) q event V ↔ IsWalkOf p q event V
 
 -- Where each edge between wires goes up in some rank, what the state leaves of the program reacts to the
@@ -56,7 +56,7 @@ SolutionsReact =
 abbrev pub WalksKeepStates : Type 0
 WalksKeepStates =
     (p : Program) (q : State) (Z : ℕ → Layer → Bool) (v : Values)
-    → IsKernel p.body → NoInstantLoop p.body → IsState q p.body
+    → HasExitCodes p.body → NoInstantLoop p.body → IsState q p.body
     → IsState (Selecting (body_walk Z q p.body v).kept) p.body
 
 -- The next formulas of a solution select just the pauses that the walk keeps, and they are a state again, of leaves.
@@ -64,15 +64,15 @@ WalksKeepStates =
 abbrev pub NextStateIsKept : Type 0
 NextStateIsKept =
     (p : Program) (q : State) (event : List Bool) (V : Valuation)
-    → IsKernel p.body → NoInstantLoop p.body → IsState q p.body → SelectsLeaves q p.body → Solves (graph_of p) q event V
+    → HasExitCodes p.body → NoInstantLoop p.body → IsState q p.body → SelectsLeaves q p.body →
+    Solves (graph_of p) q event V
     → ((m : ℕ) → selected_of (next_state (graph_of p) q event V) m ≡ (graph_walk p q event V).kept m)
     × IsState (next_state (graph_of p) q event V) p.body
     × SelectsLeaves (next_state (graph_of p) q event V) p.body
     × ((shown (graph_of p) V).paused ≡ ((graph_walk p q event V).code == 1))
 
 -- Where each edge goes up in some rank, a run of the graph from the first instant is the run of the program: every
--- reaction is constructive,
--- and what is seen of the answers is what the graph shows.
+-- reaction is constructive, and what is seen of the answers is what the graph shows.
 abbrev pub GraphRunsAreRuns : Type 0
 GraphRunsAreRuns =
     (p : Program) (rank : Wire → ℕ)
@@ -98,7 +98,7 @@ ProgramsRun =
 abbrev pub CodesAreShown : Type 0
 CodesAreShown =
     (p : Program) (q : State) (event : List Bool) (V : Valuation)
-    → IsKernel p.body → NoInstantLoop p.body → IsState q p.body → Solves (graph_of p) q event V
+    → HasExitCodes p.body → NoInstantLoop p.body → IsState q p.body → Solves (graph_of p) q event V
     → shown_code V ≡ (graph_walk p q event V).code
 
 -- So a reaction is read off a solution alone: what the state leaves of the program reacts constructively, with the

@@ -17,7 +17,7 @@ use Rattle.grc_graph.specs.Spots.{Spot, spots, spots_at, status_formula, test_fo
 use Rattle.grc_graph.specs.Spots.{part_entry}
 use Rattle.grc_graph.specs.Edges.{Edge, edges_at}
 use Rattle.grc_graph.specs.Reads.{ReadsOnly}
-use Rattle.grc_graph.specs.Selected.{IsKernel}
+use Rattle.grc_graph.specs.Selected.{HasExitCodes}
 use Rattle.grc_solutions.proofs.Lists.{Every, every_right, every_map, every_listed}
 use Rattle.grc_solutions.proofs.Each.{spot}
 use Rattle.grc_solutions.proofs.Rows.{Between, Reads, FromStatus, RowOf}
@@ -151,7 +151,7 @@ test_reads Q B (Or a b) l w h = (test_reads Q B a l w h.0, test_reads Q B b l w 
 
 module _ (L : ℕ → List Layer) (g : ℕ → Term) (all : List Spot) (W : Wire → Type 0) (E : Between) (told : Told g all W E) where
   pub record Context (a : Liveness) (B : Scope) (f : Layer → Formula) (t : Term) (n : ℕ) : Type 0 where
-    pub kernel : IsKernel t
+    pub kernel : HasExitCodes t
     pub agrees : Agrees L a t n
     pub low : (r : ℕ) → Root r a.roots → r ≤ n
     pub above : Above B n
@@ -214,7 +214,7 @@ module _ (L : ℕ → List Layer) (g : ℕ → Term) (all : List Spot) (W : Wire
       (e l i)
 
   part : {a : Liveness} {B : Scope} {f : Layer → Formula} {t : Term} {n : ℕ} (b : Liveness) (h : Layer → Formula) (p : Term) (m : ℕ) → n < m →
-      Context a B f t n → IsKernel p → Agrees L b p m → Contents g p m → ((y : Spot) → Contains (spots L B h p m) y → Contains (spots L B f t n) y) →
+      Context a B f t n → HasExitCodes p → Agrees L b p m → Contents g p m → ((y : Spot) → Contains (spots L B h p m) y → Contains (spots L B f t n) y) →
       Enters a b m → ((l : Layer) → In b l → ReadsOnly (λ u. Asked W E u (Go m l)) (h l)) → Context b B h p m
   part {a} {B} {f} {t} {n} b h p m u c k s r w e x = record {
     kernel = k;

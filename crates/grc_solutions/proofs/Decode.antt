@@ -13,7 +13,7 @@ use Rattle.grc_graph.specs.Wires.{Wire, Go, End, status_wire, listed}
 use Rattle.grc_graph.specs.Spots.{Spot}
 use Rattle.grc_graph.specs.Edges.{Edge, edge, edges_if, edges_at, test_to, status_to, to_status, go_to_part, go_to_ends, ends_to_ends, branch_to_ends}
 use Rattle.grc_graph.specs.Edges.{trapped_to_ends}
-use Rattle.grc_graph.specs.Selected.{IsKernel}
+use Rattle.grc_graph.specs.Selected.{HasExitCodes}
 use Rattle.grc_graph.proofs.CodeBounds.{started_below, resumed_below}
 use Rattle.grc_solutions.proofs.Lists.{Every, every_left, every_right, every_map, every_flat_map, every_filter, every_if, every_listed}
 use Rattle.grc_solutions.proofs.Rows.{RowOf, RowAt, Between, Passes, ToEnds, Branches, Trapped, FromStatus, ToStatus, Reads, StartedRow, ResumedRow}
@@ -77,7 +77,7 @@ module _ (Q : Between) where
   rest : (xs ys : List Edge) → Every OnEdge (xs ++ ys) → Every OnEdge ys
   rest xs ys h = every_right OnEdge xs ys h
 
-  started_row : (B : Scope) (t : Term) (n r : ℕ) → IsKernel t → Every OnEdge (edges_at B t n (Started r)) → StartedRow Q B t n (Started r)
+  started_row : (B : Scope) (t : Term) (n r : ℕ) → HasExitCodes t → Every OnEdge (edges_at B t n (Started r)) → StartedRow Q B t n (Started r)
   started_row B Nothing n r b h = row_ends (started_codes Nothing) n (Started r) (started_below Nothing b) h
   started_row B Pause n r b h = row_ends (started_codes Pause) n (Started r) (started_below Pause b) h
   started_row B (Emit s) n r b h =
@@ -147,7 +147,7 @@ module _ (Q : Between) where
   row_go p n c es h e =
       (row_if (has_code (resumed_codes p)) (edge (Go n Resumed) (Go c Resumed) ∷ []) (first (go_to_part p n c Resumed) es h) e).0
 
-  resumed_row : (B : Scope) (t : Term) (n : ℕ) → IsKernel t → Every OnEdge (edges_at B t n Resumed) → ResumedRow Q B t n
+  resumed_row : (B : Scope) (t : Term) (n : ℕ) → HasExitCodes t → Every OnEdge (edges_at B t n Resumed) → ResumedRow Q B t n
   resumed_row B Nothing n b h = tt
   resumed_row B Pause n b h = row_ends (resumed_codes Pause) n Resumed (resumed_below Pause b) h
   resumed_row B (Emit s) n b h = tt
@@ -251,9 +251,9 @@ module _ (Q : Between) where
       )
   resumed_row B (Awake e p) n b h = absurd b
 
-  pub row_at : (x : Spot) → IsKernel x.statement → Every OnEdge (edges_at x.scope x.statement x.path x.layer) → RowAt Q x
+  pub row_at : (x : Spot) → HasExitCodes x.statement → Every OnEdge (edges_at x.scope x.statement x.path x.layer) → RowAt Q x
   row_at x = go x.scope x.statement x.path x.layer
     where
-      go : (B : Scope) (t : Term) (n : ℕ) (l : Layer) → IsKernel t → Every OnEdge (edges_at B t n l) → RowOf Q B t n l
+      go : (B : Scope) (t : Term) (n : ℕ) (l : Layer) → HasExitCodes t → Every OnEdge (edges_at B t n l) → RowOf Q B t n l
       go B t n Resumed b h = resumed_row B t n b h
       go B t n (Started r) b h = started_row B t n r b h

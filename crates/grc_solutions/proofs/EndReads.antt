@@ -12,7 +12,7 @@ use Rattle.grc_graph.specs.Formulas.{Formula, Value, Selected, Upto, Conjunction
 use Rattle.grc_graph.specs.Spots.{test_formula}
 use Rattle.grc_graph.specs.Equations.{part_end, trapped_ends, started_parallel, branch_over, branch_upto, branch_end, resumed_parallel, end_formula}
 use Rattle.grc_graph.specs.Reads.{ReadsOnly}
-use Rattle.grc_graph.specs.Selected.{IsKernel}
+use Rattle.grc_graph.specs.Selected.{HasExitCodes}
 use Rattle.grc_solutions.proofs.Lists.{Every, every_append}
 use Rattle.grc_solutions.proofs.Rows.{Between, Passes, Branches, Trapped, RowOf}
 use Rattle.grc_solutions.proofs.Contexts.{Asked, test_reads}
@@ -127,7 +127,7 @@ module _ (W : Wire → Type 0) (E : Between) where
   BranchCodes (Local s p) n l = Unit {0}
   BranchCodes (Awake e p) n l = Unit {0}
 
-  started_end : (B : Scope) (t : Term) (n r k : ℕ) → IsKernel t → RowOf Q B t n (Started r) → BranchCodes t n (Started r) → started_codes t k ≡ true →
+  started_end : (B : Scope) (t : Term) (n r k : ℕ) → HasExitCodes t → RowOf Q B t n (Started r) → BranchCodes t n (Started r) → started_codes t k ≡ true →
       ReadsOnly (λ u. Q u (End n (Started r) k)) (end_formula B t n (Started r) k)
   started_end B Nothing n r k b h c e = h k e
   started_end B Pause n r k b h c e = h k e
@@ -146,7 +146,7 @@ module _ (W : Wire → Type 0) (E : Between) where
   started_end B (Local s p) n r k b h c e = one_part (started_codes p) (n + 1) (Started r) n (Started r) k h.1
   started_end B (Awake x p) n r k b h c e = absurd b
 
-  resumed_end_reads : (B : Scope) (t : Term) (n k : ℕ) → IsKernel t → RowOf Q B t n Resumed → BranchCodes t n Resumed → resumed_codes t k ≡ true →
+  resumed_end_reads : (B : Scope) (t : Term) (n k : ℕ) → HasExitCodes t → RowOf Q B t n Resumed → BranchCodes t n Resumed → resumed_codes t k ≡ true →
       ReadsOnly (λ u. Q u (End n Resumed k)) (end_formula B t n Resumed k)
   resumed_end_reads B Nothing n k b h c e = absurd (false≢true e)
   resumed_end_reads B Pause n k b h c e = h k e
@@ -187,7 +187,7 @@ module _ (W : Wire → Type 0) (E : Between) where
   resumed_end_reads B (Local s p) n k b h c e = one_part (resumed_codes p) (n + 1) Resumed n Resumed k h.1
   resumed_end_reads B (Awake x p) n k b h c e = absurd b
 
-  pub end_reads : (B : Scope) (t : Term) (n : ℕ) (l : Layer) (k : ℕ) → IsKernel t → RowOf Q B t n l → BranchCodes t n l → instance_codes t l k ≡ true →
+  pub end_reads : (B : Scope) (t : Term) (n : ℕ) (l : Layer) (k : ℕ) → HasExitCodes t → RowOf Q B t n l → BranchCodes t n l → instance_codes t l k ≡ true →
       ReadsOnly (λ u. Q u (End n l k)) (end_formula B t n l k)
   end_reads B t n Resumed k b h c e = resumed_end_reads B t n k b h c e
   end_reads B t n (Started r) k b h c e = started_end B t n r k b h c e

@@ -8,7 +8,7 @@ use Rattle.grc_graph.specs.Layers.{Layer, Resumed, Started, Liveness, root_if, p
 use Rattle.grc_graph.specs.Scopes.{Scope, bind}
 use Rattle.grc_graph.specs.Formulas.{Formula}
 use Rattle.grc_graph.specs.Spots.{Spot, spots, spots_at, test_formula, tested_entry, branch_entry, second_entry, loop_entry}
-use Rattle.grc_graph.specs.Selected.{IsKernel}
+use Rattle.grc_graph.specs.Selected.{HasExitCodes}
 use Rattle.grc_solutions.proofs.Lists.{Every, every_append}
 use Rattle.grc_solutions.proofs.Each.{spot, EachStarted, EachResumed}
 use Rattle.grc_graph.proofs.LiveLayers.{Agrees, here_agrees, only_agrees, first_agrees, second_agrees}
@@ -44,7 +44,7 @@ module _ (L : ℕ → List Layer) (P : Spot → Type 0) where
   live : {A : Type 0} (a : Liveness) (x : Bool) → (a.resumed ≡ true → x ≡ true → A) → (a.resumed && x) ≡ true → A
   live a x f e = let h = and_parts a.resumed x e in f h.0 h.1
 
-  pub gathered : (a : Liveness) (B : Scope) (f : Layer → Formula) (t : Term) (n : ℕ) → IsKernel t → Agrees L a t n →
+  pub gathered : (a : Liveness) (B : Scope) (f : Layer → Formula) (t : Term) (n : ℕ) → HasExitCodes t → Agrees L a t n →
       (a.resumed ≡ true → EachResumed P B f t n) → ((r : ℕ) → Root r a.roots → EachStarted P B f t n (Started r)) → Every P (spots L B f t n)
   gathered a B f Nothing n k g e h = self a B f Nothing n g e h
   gathered a B f Pause n k g e h = self a B f Pause n g e h

@@ -18,4 +18,4 @@ pub mod OneRun
 pub mod Numbers
 pub mod Gathered
 pub mod Evaluated
-mod Examples
+pub mod Examples

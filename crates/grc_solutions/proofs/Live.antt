@@ -8,7 +8,7 @@ use Rattle.grc_graph.specs.Layers.{Layer, Resumed, Started, Liveness, layers_of,
 use Rattle.grc_graph.specs.Scopes.{Scope, bind}
 use Rattle.grc_graph.specs.Formulas.{Formula, Negation}
 use Rattle.grc_graph.specs.Spots.{Spot, spots, spots_at, test_formula, tested_entry, suspended_entry, branch_entry, second_entry, loop_entry, part_entry}
-use Rattle.grc_graph.specs.Selected.{IsKernel}
+use Rattle.grc_graph.specs.Selected.{HasExitCodes}
 use Rattle.grc_graph.proofs.LiveLayers.{Agrees, here_agrees, only_agrees, first_agrees, second_agrees}
 use Rattle.grc_solutions.proofs.Lists.{Every, every_left, every_right}
 use Rattle.grc_solutions.proofs.Each.{spot, EachStarted, EachResumed}
@@ -63,24 +63,24 @@ here_each P B f t n a ls e h =
     started [] y r i = absurd i
     started (x ∷ xs) y r i = ⊎_elim (λ g. subst (λ j. P (spot B f t n (Started j))) (sym g) y.0) (λ g. started xs y.1 r g) i
 
-module _ (L : ℕ → List Layer) (P Q : Spot → Type 0) (conv : (x : Spot) → IsKernel x.statement → P x → Q x) where
+module _ (L : ℕ → List Layer) (P Q : Spot → Type 0) (conv : (x : Spot) → HasExitCodes x.statement → P x → Q x) where
   abbrev Layered : Liveness → Scope → (Layer → Formula) → Term → ℕ → Type 0
   Layered a B f t n =
       (a.resumed ≡ true → EachResumed Q B f t n) × ((r : ℕ) → Root r a.roots → EachStarted Q B f t n (Started r))
 
-  here : (B : Scope) (f : Layer → Formula) (t : Term) (n : ℕ) (a : Liveness) (ss : List Spot) → IsKernel t → Agrees L a t n →
+  here : (B : Scope) (f : Layer → Formula) (t : Term) (n : ℕ) (a : Liveness) (ss : List Spot) → HasExitCodes t → Agrees L a t n →
       Every P (spots_at L B f t n ++ ss) → (a.resumed ≡ true → Q (spot B f t n Resumed)) × ((r : ℕ) → Root r a.roots → Q (spot B f t n (Started r)))
   here B f t n a ss k g h =
       let e = here_each P B f t n a (L n) (here_agrees L a t n g) (every_left P (spots_at L B f t n) ss h) in
       (λ c. conv _ k (e.0 c), λ r i. conv _ k (e.1 r i))
 
-  alone : (B : Scope) (f : Layer → Formula) (t : Term) (n : ℕ) (a : Liveness) → IsKernel t → Agrees L a t n → Every P (spots_at L B f t n) →
+  alone : (B : Scope) (f : Layer → Formula) (t : Term) (n : ℕ) (a : Liveness) → HasExitCodes t → Agrees L a t n → Every P (spots_at L B f t n) →
       (a.resumed ≡ true → Q (spot B f t n Resumed)) × ((r : ℕ) → Root r a.roots → Q (spot B f t n (Started r)))
   alone B f t n a k g h =
       let e = here_each P B f t n a (L n) (here_agrees L a t n g) h in
       (λ c. conv _ k (e.0 c), λ r i. conv _ k (e.1 r i))
 
-  pub layered : (a : Liveness) (B : Scope) (f : Layer → Formula) (t : Term) (n : ℕ) → IsKernel t → Agrees L a t n → Every P (spots L B f t n) →
+  pub layered : (a : Liveness) (B : Scope) (f : Layer → Formula) (t : Term) (n : ℕ) → HasExitCodes t → Agrees L a t n → Every P (spots L B f t n) →
       Layered a B f t n
   layered a B f Nothing n k g h = alone B f Nothing n a k g h
   layered a B f Pause n k g h = alone B f Pause n a k g h

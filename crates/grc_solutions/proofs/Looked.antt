@@ -7,7 +7,7 @@ use Rattle.grc_graph.specs.Layers.{Layer, Resumed, Started, same_layer}
 use Rattle.grc_graph.specs.Scopes.{Scope, bind}
 use Rattle.grc_graph.specs.Formulas.{Formula}
 use Rattle.grc_graph.specs.Spots.{Spot, spots, spots_at}
-use Rattle.grc_graph.specs.Selected.{IsKernel}
+use Rattle.grc_graph.specs.Selected.{HasExitCodes}
 use Rattle.grc_solutions.proofs.Lists.{Every, every_append}
 use Rattle.grc_solutions.proofs.Each.{spot}
 
@@ -72,7 +72,7 @@ module _ (L : ℕ → List Layer) (g : ℕ → Term) where
   self : (t u : Term) (n : ℕ) → Contents g t n → 1 ≤ statement_count t → statement_at t n n ≡ cond (n == n) t u → g n ≡ t
   self t u n r l e = r.each n (omega arith) (omega arith) ∙ e ∙ cond-true (n == n) t u (eq-eqb n n refl)
 
-  pub looked : (B : Scope) (f : Layer → Formula) (t : Term) (n : ℕ) → IsKernel t → Contents g t n → Every Looked (spots L B f t n)
+  pub looked : (B : Scope) (f : Layer → Formula) (t : Term) (n : ℕ) → HasExitCodes t → Contents g t n → Every Looked (spots L B f t n)
   looked B f Nothing n k r = looked_here B f Nothing n (L n) (r.each n (omega arith) (omega arith))
   looked B f Pause n k r = looked_here B f Pause n (L n) (r.each n (omega arith) (omega arith))
   looked B f (Emit s) n k r = looked_here B f (Emit s) n (L n) (r.each n (omega arith) (omega arith))

@@ -16,7 +16,7 @@ use Rattle.grc_graph.specs.Spots.{Spot, body_entry}
 use Rattle.grc_graph.specs.Equations.{Equation, end_formula, is_wire, emits_on, emissions, instance_status, instance_equations, output_equation, equations}
 use Rattle.grc_graph.specs.Edges.{edge, edges_at, go_to_ends, to_status}
 use Rattle.grc_graph.specs.Reads.{ReadsOnly}
-use Rattle.grc_graph.specs.Selected.{IsKernel}
+use Rattle.grc_graph.specs.Selected.{HasExitCodes}
 use Rattle.grc_graph.specs.GraphRuns.{program_spots, graph_of}
 use Rattle.grc_solutions.specs.GraphWires.{program_wires, program_edges, EdgesJoinWires, ReadsAreEdges}
 use Rattle.grc_solutions.proofs.Lists.{Every, every_append, every_right, every_from, every_all, every_at, every_contained}
@@ -54,7 +54,7 @@ codes_fit g (Go n l) = true
 codes_fit g (StatusOf n l) = true
 codes_fit g (End n l k) = instance_codes (g n) l k
 
-module _ (p : Program) (kernel : IsKernel p.body) where
+module _ (p : Program) (kernel : HasExitCodes p.body) where
   abbrev L : ℕ → List Layer
   L = body_layers p.body
 

@@ -14,7 +14,7 @@ use Rattle.grc_graph.specs.Wires.{Wire, Out, Go, StatusOf, End, listed, instance
 use Rattle.grc_graph.specs.Formulas.{Formula}
 use Rattle.grc_graph.specs.Spots.{Spot, spots, spots_at, body_entry}
 use Rattle.grc_graph.specs.Equations.{Equation, output_equation, instance_equations, instance_status, end_formula, equations, wires}
-use Rattle.grc_graph.specs.Selected.{IsKernel}
+use Rattle.grc_graph.specs.Selected.{HasExitCodes}
 use Rattle.grc_graph.specs.GraphRuns.{program_spots}
 use Rattle.grc_graph.proofs.LiveInstances.{instances_ascend_lem}
 use Rattle.grc_solutions.specs.GraphWires.{equation_wires, program_wires, WiresDiffer}
@@ -82,7 +82,7 @@ module _ (L : ℕ → List Layer) where
       map-append place (spots_at L B f t n) (spots L B h p (n + 1) ++ spots L B k q (n + 1 + statement_count p))
       ∙ joined (here a B f t n g) (map-append place (spots L B h p (n + 1)) (spots L B k q (n + 1 + statement_count p)) ∙ joined d e)
 
-  pub places_are : (a : Liveness) (B : Scope) (f : Layer → Formula) (t : Term) (n : ℕ) → IsKernel t → Agrees L a t n →
+  pub places_are : (a : Liveness) (B : Scope) (f : Layer → Formula) (t : Term) (n : ℕ) → HasExitCodes t → Agrees L a t n →
       map place (spots L B f t n) ≡ instances a t n
   places_are a B f Nothing n k g = here a B f Nothing n g
   places_are a B f Pause n k g = here a B f Pause n g

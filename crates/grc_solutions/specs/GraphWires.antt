@@ -4,7 +4,7 @@ use Rattle.est_kernel.specs.Plain.{Program}
 use Rattle.grc_graph.specs.Wires.{Wire}
 use Rattle.grc_graph.specs.Equations.{Equation}
 use Rattle.grc_graph.specs.Edges.{edge}
-use Rattle.grc_graph.specs.Selected.{IsKernel}
+use Rattle.grc_graph.specs.Selected.{HasExitCodes}
 use Rattle.grc_graph.specs.Reads.{ReadsOnly}
 pub use Rattle.grc_graph.specs.GraphRuns.{program_wires, program_edges}
 use Rattle.grc_graph.specs.GraphRuns.{graph_of}
@@ -20,18 +20,18 @@ Differ ws = AllPairs (λ u w. u ≢ w) ws
 -- The graph of a program has one equation for each of its wires, in their order, and no wire stands twice.
 abbrev pub WiresDiffer : Type 0
 WiresDiffer =
-    (p : Program) → IsKernel p.body
+    (p : Program) → HasExitCodes p.body
     → (equation_wires (graph_of p).equations ≡ program_wires p) × Differ (program_wires p)
 
 -- Each edge joins two wires of the graph.
 abbrev pub EdgesJoinWires : Type 0
 EdgesJoinWires =
-    (p : Program) → IsKernel p.body
+    (p : Program) → HasExitCodes p.body
     → All (λ e. Contains (program_wires p) e.from × Contains (program_wires p) e.to) (program_edges p)
 
 -- Each wire of the graph that an equation reads has an edge to the equation's wire.
 abbrev pub ReadsAreEdges : Type 0
 ReadsAreEdges =
-    (p : Program) → IsKernel p.body
+    (p : Program) → HasExitCodes p.body
     → All (λ e. ReadsOnly (λ u. Contains (program_wires p) u → Contains (program_edges p) (edge u e.wire)) e.formula)
     (graph_of p).equations

@@ -8,7 +8,7 @@ use Rattle.grc_graph.specs.Formulas.{Formula}
 use Rattle.grc_graph.specs.Equations.{Equation}
 use Rattle.grc_graph.specs.Edges.{Edge}
 use Rattle.grc_graph.specs.Orders.{GoUp}
-use Rattle.grc_graph.specs.Selected.{IsKernel}
+use Rattle.grc_graph.specs.Selected.{HasExitCodes}
 use Rattle.grc_graph.specs.WireOrders.{WireEdge, AreRanks, IsWireOrder}
 use Rattle.grc_graph.specs.PlainGraphs as graphs
 use Rattle.grc_graph.specs.NumberedEdges.{AreEdgesOf}
@@ -28,14 +28,14 @@ plain_pairs pairs = map (λ e. (e.0.0, e.1.0)) pairs
 -- An evaluation order along the edges of a program's graph is one along which its equations read.
 abbrev pub WireOrdersAreReadingOrders : Type 0
 WireOrdersAreReadingOrders =
-    (p : Program) (pairs : List WireEdge) (order : List WireId) → IsKernel p.body
+    (p : Program) (pairs : List WireEdge) (order : List WireId) → HasExitCodes p.body
     → AreEdgesOf (program_wires p) (program_edges p) pairs → IsWireOrder (length (program_wires p)) pairs order
     → IsReadingOrder (program_wires p) (formulas_of (graph_of p).equations) order
 
 -- Ranks by number that grow along the edges of a program's graph are ranks of its wires in which each edge goes up.
 abbrev pub WireRanksGoUp : Type 0
 WireRanksGoUp =
-    (p : Program) (pairs : List WireEdge) (ranks : List ℕ) → IsKernel p.body
+    (p : Program) (pairs : List WireEdge) (ranks : List ℕ) → HasExitCodes p.body
     → AreEdgesOf (program_wires p) (program_edges p) pairs → AreRanks (length (program_wires p)) pairs ranks
     → (rank : Wire → ℕ)
     × GoUp rank (program_edges p)

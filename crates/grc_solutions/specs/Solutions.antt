@@ -6,7 +6,7 @@ use Rattle.grc_graph.specs.Wires.{Wire}
 use Rattle.grc_graph.specs.Equations.{Equation}
 use Rattle.grc_graph.specs.Orders.{GoUp}
 use Rattle.grc_graph.specs.Reads.{ReadsOnly}
-use Rattle.grc_graph.specs.Selected.{IsKernel}
+use Rattle.grc_graph.specs.Selected.{HasExitCodes}
 use Rattle.grc_graph.specs.Walk.{State}
 use Rattle.grc_graph.specs.Readings.{Valuation}
 use Rattle.grc_graph.specs.GraphRuns.{PlainGraph, Solves, IsGraphRun, graph_of}
@@ -44,13 +44,14 @@ OneRun = (g : PlainGraph) → HasOneSolution g → HasOneRun g
 -- Where each edge of a program's graph goes up in some rank, its equations read up in the rank.
 abbrev pub GraphsReadUp : Type 0
 GraphsReadUp =
-    (p : Program) (rank : Wire → ℕ) → IsKernel p.body → GoUp rank (program_edges p) → ReadUp rank (graph_of p).equations
+    (p : Program) (rank : Wire → ℕ) → HasExitCodes p.body → GoUp rank (program_edges p) →
+    ReadUp rank (graph_of p).equations
 
 -- So they have one solution, and the graph has one run.
 abbrev pub GraphsHaveOneSolution : Type 0
 GraphsHaveOneSolution =
-    (p : Program) (rank : Wire → ℕ) → IsKernel p.body → GoUp rank (program_edges p) → HasOneSolution (graph_of p)
+    (p : Program) (rank : Wire → ℕ) → HasExitCodes p.body → GoUp rank (program_edges p) → HasOneSolution (graph_of p)
 
 abbrev pub GraphRunsExist : Type 0
 GraphRunsExist =
-    (p : Program) (rank : Wire → ℕ) → IsKernel p.body → GoUp rank (program_edges p) → HasOneRun (graph_of p)
+    (p : Program) (rank : Wire → ℕ) → HasExitCodes p.body → GoUp rank (program_edges p) → HasOneRun (graph_of p)

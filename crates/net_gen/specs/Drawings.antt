@@ -9,8 +9,7 @@ use Rattle.net_ir.specs.declared.netlist.Op.TheVariants.{Const, Copy, Not, And, 
 use Rattle.net_gen.specs.declared.circuit.Circuit.{Circuit}
 
 -- The number of inputs, the number of the first gate, the nets that are never and always true, the gates, and which
--- nets say what wires, runs of ends and rows
--- say, as far as they were made.
+-- nets say what wires, runs of ends and rows say, as far as they were made.
 pub record Drawing : Type 0 where
   pub given : ℕ
   pub first : ℕ

@@ -23,8 +23,8 @@ read_expr-loop-behind-init t c = record {
 
 pub read_expr-loop-behind-smaller : goal.read_expr-loop-behind-smaller
 read_expr-loop-behind-smaller t c =
-    shorter kind_in c.in_ok-part.behind.now c.loop-behind.rest.now (or-means c.args.room (map kind_in c.loop-behind.rest.now) (expr_of c.in_ok-part.part)
-    (map kind_in c.in_ok-part.behind.now)
+    shorter kind_in c.in_ok-part.behind.now c.loop-behind.rest.now
+    (or-means c.args.room (map kind_in c.loop-behind.rest.now) (expr_of c.in_ok-part.part) (map kind_in c.in_ok-part.behind.now)
     (optional_or-some (is Bar) (λ _. conj makes_expr c.args.room (inside makes_expr c.args.room)) (give tt) (map kind_in c.loop-behind.rest.now) tt
     (map kind_in c.in-Some.behind.now) (expr_of c.in_ok-part.part) (map kind_in c.in_ok-part.behind.now) c.in-Some.ensures c.in_ok-part.ensures))
 
@@ -50,8 +50,8 @@ read_conj-loop-behind-init t c = record {
 
 pub read_conj-loop-behind-smaller : goal.read_conj-loop-behind-smaller
 read_conj-loop-behind-smaller t c =
-    shorter kind_in c.in_ok-part.behind.now c.loop-behind.rest.now (and-means c.args.room (map kind_in c.loop-behind.rest.now) (expr_of c.in_ok-part.part)
-    (map kind_in c.in_ok-part.behind.now)
+    shorter kind_in c.in_ok-part.behind.now c.loop-behind.rest.now
+    (and-means c.args.room (map kind_in c.loop-behind.rest.now) (expr_of c.in_ok-part.part) (map kind_in c.in_ok-part.behind.now)
     (optional_or-some (is Ampersand) (λ _. neg makes_expr c.args.room (inside makes_expr c.args.room)) (give tt) (map kind_in c.loop-behind.rest.now) tt
     (map kind_in c.in-Some.behind.now) (expr_of c.in_ok-part.part) (map kind_in c.in_ok-part.behind.now) c.in-Some.ensures c.in_ok-part.ensures))
 

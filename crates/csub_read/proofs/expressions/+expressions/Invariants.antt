@@ -30,8 +30,9 @@ decreases-read_expr-loop-behind l = length l.rest
 abbrev pub invariant-read_conj-loop-behind : goal.invariant-read_conj-loop-behind
 invariant-read_conj-loop-behind l = record {
   some : 0 < vec_len l.parts;
-  whole : mapped (λ others. expr_list And (map expr_of l.parts.items ++ others)) (loop (list_step Ampersand (neg makes_expr l.room (inside makes_expr l.room))))
-      (map kind_in l.rest) ≡ conj makes_expr l.room (inside makes_expr l.room) (map kind_in l.tokens);
+  whole : mapped (λ others. expr_list And (map expr_of l.parts.items ++ others))
+      (loop (list_step Ampersand (neg makes_expr l.room (inside makes_expr l.room)))) (map kind_in l.rest)
+      ≡ conj makes_expr l.room (inside makes_expr l.room) (map kind_in l.tokens);
 }
 
 abbrev pub decreases-read_conj-loop-behind : goal.decreases-read_conj-loop-behind

@@ -12,8 +12,8 @@ use Rattle.csub_read.proofs.reader.read_tokens.Goals as goal
 pub returns-in-Ok-clause-spells : goal.returns-in-Ok-clause-spells
 returns-in-Ok-clause-spells c =
     let all = c.as_slice.result.now in
-    spells-by c.args.text.now (map kind_in all) c.in-Ok.program (kinds-are c.args.text.now all
-    (ap (map token_of) c.as_slice.ensures.value ∙ c.in_ok-tokens.ensures)) c.in-Ok.ensures
+    spells-by c.args.text.now (map kind_in all) c.in-Ok.program
+    (kinds-are c.args.text.now all (ap (map token_of) c.as_slice.ensures.value ∙ c.in_ok-tokens.ensures)) c.in-Ok.ensures
 
 pub place_at-requires-clause-within : goal.place_at-requires-clause-within
 place_at-requires-clause-within c =

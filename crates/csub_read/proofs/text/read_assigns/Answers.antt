@@ -14,16 +14,16 @@ assigns-init c = rw (c.nothing_read-body.ensures.left, c.nothing_read-body.ensur
 
 pub assigns-smaller : goal.assigns-smaller
 assigns-smaller c =
-    shorter kind_in c.in_ok-assign.behind.now c.assigns.rest.now (assigns-mean c.args.room (map kind_in c.assigns.rest.now) (pair_of c.in_ok-assign.assign)
-    (map kind_in c.in_ok-assign.behind.now)
+    shorter kind_in c.in_ok-assign.behind.now c.assigns.rest.now
+    (assigns-mean c.args.room (map kind_in c.assigns.rest.now) (pair_of c.in_ok-assign.assign) (map kind_in c.in_ok-assign.behind.now)
     (maybe-both name (assign_behind makes_expr c.args.room) (map kind_in c.assigns.rest.now) c.in-Some.name.now (map kind_in c.in-Some.behind.now)
     (pair_of c.in_ok-assign.assign) (map kind_in c.in_ok-assign.behind.now) c.in-Some.ensures c.in_ok-assign.ensures))
 
 pub assigns-preserved : goal.assigns-preserved
 assigns-preserved c =
     rw (c.in_ok-push.ensures.items, map-append)
-    (loop-grown (assign_step makes_expr c.args.room) (assigns-mean c.args.room) (λ all. all) (map pair_of c.assigns.body.items) (map kind_in c.assigns.rest.now)
-    (pair_of c.in_ok-assign.assign) (map kind_in c.in_ok-assign.behind.now)
+    (loop-grown (assign_step makes_expr c.args.room) (assigns-mean c.args.room) (λ all. all) (map pair_of c.assigns.body.items)
+    (map kind_in c.assigns.rest.now) (pair_of c.in_ok-assign.assign) (map kind_in c.in_ok-assign.behind.now)
     (maybe-both name (assign_behind makes_expr c.args.room) (map kind_in c.assigns.rest.now) c.in-Some.name.now (map kind_in c.in-Some.behind.now)
     (pair_of c.in_ok-assign.assign) (map kind_in c.in_ok-assign.behind.now) c.in-Some.ensures c.in_ok-assign.ensures)
     ∙ c.assigns.invariant)

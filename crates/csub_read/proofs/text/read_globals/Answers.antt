@@ -15,11 +15,11 @@ globals-init c = rw (c.nothing_read-globals.ensures.left, c.nothing_read-globals
 
 pub globals-smaller : goal.globals-smaller
 globals-smaller c =
-    shorter kind_in c.in_ok-name.behind.now c.globals.rest.now (global-advances (map kind_in c.globals.rest.now) c.in_ok-name.name
-    (map kind_in c.in_ok-name.behind.now)
+    shorter kind_in c.in_ok-name.behind.now c.globals.rest.now
+    (global-advances (map kind_in c.globals.rest.now) c.in_ok-name.name (map kind_in c.in_ok-name.behind.now)
     (on-apart (is Int) (is React) (mapped (λ _. None) (the (is React))) global_behind (map kind_in c.globals.rest.now) tt
-    (map kind_in c.in-Some.behind.now) c.in_ok-name.name (map kind_in c.in_ok-name.behind.now) c.in-Some.ensures c.in_default-past.ensures
-    c.in_ok-name.ensures))
+    (map kind_in c.in-Some.behind.now) c.in_ok-name.name
+    (map kind_in c.in_ok-name.behind.now) c.in-Some.ensures c.in_default-past.ensures c.in_ok-name.ensures))
 
 pub globals-preserved : goal.globals-preserved
 globals-preserved c =
@@ -27,6 +27,6 @@ globals-preserved c =
     (loop-grown global_step global-advances (λ all. all) c.globals.globals.items (map kind_in c.globals.rest.now) c.in_ok-name.name
     (map kind_in c.in_ok-name.behind.now)
     (on-apart (is Int) (is React) (mapped (λ _. None) (the (is React))) global_behind (map kind_in c.globals.rest.now) tt
-    (map kind_in c.in-Some.behind.now) c.in_ok-name.name (map kind_in c.in_ok-name.behind.now) c.in-Some.ensures c.in_default-past.ensures
-    c.in_ok-name.ensures)
+    (map kind_in c.in-Some.behind.now) c.in_ok-name.name
+    (map kind_in c.in_ok-name.behind.now) c.in-Some.ensures c.in_default-past.ensures c.in_ok-name.ensures)
     ∙ c.globals.invariant)

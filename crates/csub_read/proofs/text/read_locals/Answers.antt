@@ -14,8 +14,8 @@ locals-init c = rw (c.nothing_read-locals.ensures.left, c.nothing_read-locals.en
 
 pub locals-smaller : goal.locals-smaller
 locals-smaller c =
-    shorter kind_in c.in_ok-name.behind.now c.locals.rest.now (local-advances (map kind_in c.locals.rest.now) c.in_ok-name.name
-    (map kind_in c.in_ok-name.behind.now)
+    shorter kind_in c.in_ok-name.behind.now c.locals.rest.now
+    (local-advances (map kind_in c.locals.rest.now) c.in_ok-name.name (map kind_in c.in_ok-name.behind.now)
     (maybe-on (is Int) (λ _. local_behind) (map kind_in c.locals.rest.now) tt (map kind_in c.in-Some.behind.now) c.in_ok-name.name
     (map kind_in c.in_ok-name.behind.now) c.in-Some.ensures c.in_ok-name.ensures))
 

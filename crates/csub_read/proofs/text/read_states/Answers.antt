@@ -16,8 +16,8 @@ states-init c = rw (c.nothing_read-states.ensures.left, c.nothing_read-states.en
 
 pub states-smaller : goal.states-smaller
 states-smaller c =
-    shorter kind_in c.in_ok-state.behind.now c.states.rest.now (state-advances (map kind_in c.states.rest.now) (state_of c.in_ok-state.state)
-    (map kind_in c.in_ok-state.behind.now)
+    shorter kind_in c.in_ok-state.behind.now c.states.rest.now
+    (state-advances (map kind_in c.states.rest.now) (state_of c.in_ok-state.state) (map kind_in c.in_ok-state.behind.now)
     (maybe-on (is Static) (λ _. state_behind) (map kind_in c.states.rest.now) tt (map kind_in c.in-Some.behind.now) (state_of c.in_ok-state.state)
     (map kind_in c.in_ok-state.behind.now) c.in-Some.ensures c.in_ok-state.ensures))
 

@@ -1,0 +1,10 @@
+pub mod SameRuns
+pub mod SimpleNets
+pub mod Renaming
+pub mod Rules
+pub mod Forms
+pub mod Keeping
+pub mod Drafts
+pub mod Needs
+pub mod Packing
+pub mod Simplified
