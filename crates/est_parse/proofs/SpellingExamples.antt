@@ -13,8 +13,8 @@ use Rattle.est_ast.specs.Trees.{Tick, Sig, Not, And, Or, Round, Square, NoExprs,
 use Rattle.est_ast.specs.Trees.{Immediate, Count, At, Nothing, Pause, Halt, Emit, Sustain, Await, AwaitCase}
 use Rattle.est_ast.specs.Trees.{Present, PresentCase, Loop, LoopEach, Every, Repeat, Abort, AbortCase, WeakAbort}
 use Rattle.est_ast.specs.Trees.{Suspend, Trap, Exit, Signal, Run, Seq, Par, Group, Missing, Written}
-use Rattle.est_ast.specs.Trees.{Handled, NoStmts, MoreStmts, NoCases, MoreCases, Relation}
-use Rattle.est_ast.specs.Trees.{Implies, Excludes, Input, InputOutput, Output, Relations, Module}
+use Rattle.est_ast.specs.Trees.{Handled, NoStmts, MoreStmts, NoCases, MoreCases}
+use Rattle.est_ast.specs.Trees.{Implies, Excludes, Input, InputOutput, Output, Relations}
 use Rattle.est_parse.specs.OneSpelling.{stmt_tokens, tokens_of}
 use Rattle.est_parse.specs.Unplaced.{nowhere}
 
