@@ -1,11 +1,11 @@
 -- The words of a line, one after another.
-use Rattle.std.proofs.Common.{◌≡◌, ℕ, ◌+◌, ◌<◌, Bool, true, false, not, cond, List, [], ◌∷◌, length, take, drop, get_or, refl, sym, ap, ◌∙◌, subst, arith, suc}
-use Rattle.std.specs.Prelude.{filter, if◌then◌else◌}
+use Rattle.std.proofs.Common.{◌≡◌, ℕ, ◌+◌, ◌<◌, Bool, true, false, not, List, [], ◌∷◌, length, take, drop, get_or, refl, sym, ap, ◌∙◌, subst, arith, suc}
+use Rattle.std.specs.Prelude.{filter}
 use Rattle.std.specs.List.{prefix_len, position_or_len}
 use Rattle.std.proofs.Math.Seq.{drop-cons}
 use Rattle.std.proofs.lemmas.List.{length-drop}
 use Rattle.std.proofs.lemmas.List.Sums.{prefix_len_stops}
-use Rattle.blif_text.specs.Lines.{in_front, is_blank, before_pieces, pieces, is_empty, words}
+use Rattle.blif_text.specs.Lines.{in_front, is_blank, pieces, is_empty, words}
 
 -- blanks in front change nothing
 pub words-skip : (line : List ℕ) → words (drop (prefix_len is_blank line) line) ≡ words line

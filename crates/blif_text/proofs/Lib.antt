@@ -13,7 +13,7 @@ pub mod DriverSets
 pub mod TakenLines
 pub mod ReadBack
 pub mod Described
-pub mod TextParts
+pub mod Moves
 pub mod RoundTrip
 pub mod NetNames
 pub mod NetDrivers

@@ -1,5 +1,5 @@
 -- The lines of a text, taken one after another.
-use Rattle.std.proofs.Common.{◌≡◌, ℕ, ◌+◌, ◌-◌, ◌<◌, Bool, true, false, not, List, [], ◌∷◌, ◌++◌, length, map, refl, sym, ap, ◌∙◌, arith, append_assoc}
+use Rattle.std.proofs.Common.{◌≡◌, ℕ, ◌-◌, ◌<◌, Bool, true, false, not, List, [], ◌∷◌, ◌++◌, length, map, refl, sym, ap, ◌∙◌, arith, append_assoc}
 use Rattle.std.proofs.Common.{Option, Some, None, suc}
 use Rattle.std.specs.Prelude.{slice_get, flat_map, filter_map, if◌then◌else◌}
 use Rattle.std.specs.Bool.{OnTrue}

@@ -9,3 +9,4 @@ pub mod PlainStatements
 pub mod Drafts
 pub mod Rests
 pub mod Reads
+pub mod Places

@@ -9,6 +9,7 @@ mod circuit;
 mod draft;
 mod drivers;
 mod lines;
+mod pieces;
 mod reader;
 mod refusal;
 mod statements;
@@ -16,6 +17,7 @@ mod words;
 mod writer;
 
 pub use circuit::{Blif, BlifLatch, Cell, Row, Table};
+pub use pieces::BlifPieces;
 pub use reader::read_blif;
 pub use refusal::BlifError;
 pub use writer::write_blif;

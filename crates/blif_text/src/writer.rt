@@ -1,25 +1,22 @@
-// The BLIF text of a net, put together line by line.
+// The BLIF text of a net, part by part.
 
-ghost use Rattle.std.specs.Prelude.{◌≡◌, ℕ, ◌+◌, ◌<◌, ◌≤◌, ◌^◌, List, [], ◌∷◌, ◌++◌};
-ghost use Rattle.std.specs.Prelude.{map, flat_map, codes, decimal, IfSome, IfOk, OnOk, All, if◌then◌else◌};
-ghost use Rattle.std.specs.HashSet.{contains_by};
+ghost use Rattle.std.specs.Prelude.{◌≡◌, ℕ, ◌+◌, ◌<◌, ◌≤◌, List, [], ◌∷◌, ◌++◌};
+ghost use Rattle.std.specs.Prelude.{map, flat_map, codes, decimal, IfOk, OnOk, if◌then◌else◌};
 ghost use Rattle.net_ir.specs.Gates.{operand_end};
-ghost use Rattle.est_base.specs.Names.{is_same_name};
 ghost use Rattle.net_ir.specs.Netlists.{net_count};
 ghost use Rattle.net_ir.specs.Runs.{netlist_of};
-ghost use Rattle.blif_text.specs.Statements.{Outputs, Row};
+ghost use Rattle.blif_text.specs.Statements.{Model, Row};
 ghost use Rattle.blif_text.specs.Circuits.{is_among};
-ghost use Rattle.blif_text.specs.Spelled.{text_of, inputs_statements, latch_statement, table_statements};
-ghost use Rattle.blif_text.specs.Spelled.{head_statements};
-ghost use Rattle.blif_text.specs.Written.{given_outputs, output_words, gate_word, net_word, paused_word, operands};
-ghost use Rattle.blif_text.specs.Written.{op_rows, copy_table, input_table, gate_table, output_table, net_latch};
-ghost use Rattle.blif_text.specs.Written.{numbered, net_circuit, written, Means};
+ghost use Rattle.blif_text.specs.Spelled.{text_of, latch_statement, table_statements};
+ghost use Rattle.blif_text.specs.Written.{gate_word, net_word, operands, op_rows, copy_table, paused_word};
+ghost use Rattle.blif_text.specs.Written.{input_table, gate_table, output_table, net_latch, written, Means};
+ghost use Rattle.blif_text.specs.Places.{inputs_start, inputs_end, outputs_end, first_lines, last_lines};
 
+use crate::pieces::BlifPieces;
 use est_base::{NetId, NoMemory, Text};
 use itoa::Buffer;
-use net_ir::{Gate, Net, NetOut, Op};
+use net_ir::{Gate, Latch, Net, NetOut, Op};
 use std::alloc::Global;
-use std::collections::HashSet;
 
 /// The BLIF text of a net: one line feed behind each line, and one space between words.
 ///
@@ -33,105 +30,58 @@ pub fn write_blif(alloc: Global, net: &Net) -> Result<Vec<u8>, NoMemory>
     ensures text { IfOk result (λ t. t.items ≡ written (netlist_of net.now)) }
     ensures means { IfOk result (λ t. Means t.items (netlist_of net.now)) }
 {
-    let given = given_outputs(alloc, net)?;
+    let mut pieces = BlifPieces::new(net);
     let mut text = Vec::new(alloc);
-    put_text(&mut text, net, &given)?;
+    while let Some(piece) = pieces.next(alloc)? {
+        text.extend_from_slice(&piece)?;
+    }
     Ok(text)
 }
 
-// For each output, whether its name is also that of an input.
-fn given_outputs(alloc: Global, net: &Net) -> Result<Vec<bool>, NoMemory>
-    ensures { IfOk result (λ given. given.items ≡ given_outputs (netlist_of net.now)) }
+// The line of the model, and the beginning of that of the inputs, where there are any.
+pub fn put_first_lines(text: &mut Vec<u8>, net: &Net) -> Result<(), NoMemory>
+    ensures { OnOk result (text.new.items ≡ text.old.items ++ first_lines (netlist_of net.now)) }
 {
-    let inputs = name_set(alloc, &net.inputs)?;
-    let mut given = Vec::new(alloc);
-    for output in &net.outputs {
-        given.push(inputs.contains(output.name.bytes()))?;
-    }
-    Ok(given)
+    put_model(text, net.name.bytes())?;
+    put_inputs_start(text, &net.inputs)
 }
 
-// The set of some names.
-fn name_set<'a>(alloc: Global, names: &'a [Text]) -> Result<HashSet<&'a [u8]>, NoMemory>
-    ensures { IfOk result
-        (λ set. (name : List ℕ) → contains_by (λ k. is_same_name name k.now) set ≡ is_among name names.now) }
-{
-    let mut set = HashSet::new(alloc);
-    for name in names {
-        set.insert(name.bytes())?;
-    }
-    Ok(set)
-}
-
-// The whole text, where `given` says of each output whether its name is also that of an input.
-fn put_text(text: &mut Vec<u8>, net: &Net, given: &[bool]) -> Result<(), NoMemory>
-    requires { given.now ≡ given_outputs (netlist_of net.now) }
-    ensures text { OnOk result (text.new.items ≡ text.old.items ++ written (netlist_of net.now)) }
-    ensures wires { OnOk result (All (λ g. IfSome g.wire (λ w. w.0 < 2 ^ 32)) net.now.gates.items) }
-{
-    put_head(text, net, given)?;
-    put_latches(text, net)?;
-    put_inputs(text, net)?;
-    put_gates(text, net)?;
-    put_outputs(text, net, given)?;
-    put_paused(text, net)?;
-    put(text, b".end\n")
-}
-
-// The last output, which tells whether the program is still active.
-const PAUSED: &[u8] = b"_paused";
-
-// The lines up to the outputs.
-fn put_head(text: &mut Vec<u8>, net: &Net, given: &[bool]) -> Result<(), NoMemory>
-    requires { given.now ≡ given_outputs (netlist_of net.now) }
-    ensures { OnOk result (text.new.items ≡ text.old.items
-        ++ text_of (head_statements (net_circuit (netlist_of net.now)))) }
+fn put_model(text: &mut Vec<u8>, name: &[u8]) -> Result<(), NoMemory>
+    ensures { OnOk result (text.new.items ≡ text.old.items ++ text_of (Model name.now ∷ [])) }
 {
     put(text, b".model")?;
-    put_spaced(text, net.name.bytes())?;
-    put(text, b"\n")?;
-    put_input_names(text, &net.inputs)?;
-    put_output_names(text, net, given)
+    put_spaced(text, name)?;
+    put(text, b"\n")
 }
 
-// The line of the inputs, where there are any.
-fn put_input_names(text: &mut Vec<u8>, inputs: &[Text]) -> Result<(), NoMemory>
-    ensures { OnOk result (text.new.items ≡ text.old.items ++ text_of (inputs_statements inputs.now)) }
+fn put_inputs_start(text: &mut Vec<u8>, inputs: &[Text]) -> Result<(), NoMemory>
+    ensures { OnOk result (text.new.items ≡ text.old.items ++ inputs_start inputs.now) }
 {
     if inputs.is_empty() {
         return Ok(());
     }
-    put(text, b".inputs")?;
-    put_names(text, inputs)?;
-    put(text, b"\n")
+    put(text, b".inputs")
 }
 
-// Each name behind a space.
-fn put_names(text: &mut Vec<u8>, names: &[Text]) -> Result<(), NoMemory>
-    ensures { OnOk result (text.new.items ≡ text.old.items ++ flat_map (λ w. 32 ∷ w) names.now) }
+// A space and the name of an input.
+pub fn put_input_name(text: &mut Vec<u8>, name: &Text) -> Result<(), NoMemory>
+    ensures { OnOk result (text.new.items ≡ text.old.items ++ 32 ∷ name.now) }
 {
-    for name in names {
-        put_spaced(text, name.bytes())?;
-    }
-    Ok(())
+    put_spaced(text, name.bytes())
 }
 
-// The line of the outputs.
-fn put_output_names(text: &mut Vec<u8>, net: &Net, given: &[bool]) -> Result<(), NoMemory>
-    requires { given.now ≡ given_outputs (netlist_of net.now) }
-    ensures { OnOk result (text.new.items ≡ text.old.items
-        ++ text_of (Outputs (output_words (netlist_of net.now)) ∷ [])) }
+// The end of the line of the inputs, where there are any, and the beginning of that of the outputs.
+pub fn put_inputs_end(text: &mut Vec<u8>, inputs: &[Text]) -> Result<(), NoMemory>
+    ensures { OnOk result (text.new.items ≡ text.old.items ++ inputs_end inputs.now) }
 {
-    put(text, b".outputs")?;
-    for (k, output) in net.outputs.iter().enumerate() {
-        put_output_word(text, output, given[k])?;
+    if inputs.is_empty() {
+        return put(text, b".outputs");
     }
-    put_spaced(text, PAUSED)?;
-    put(text, b"\n")
+    put(text, b"\n.outputs")
 }
 
 // A space and the name of an output, where `given` says whether it is also that of an input.
-fn put_output_word(text: &mut Vec<u8>, output: &NetOut, given: bool) -> Result<(), NoMemory>
+pub fn put_output_word(text: &mut Vec<u8>, output: &NetOut, given: bool) -> Result<(), NoMemory>
     ensures { OnOk result (text.new.items ≡ text.old.items
         ++ 32 ∷ (if given then output.now.name ++ codes ".out" else output.now.name)) }
 {
@@ -139,53 +89,40 @@ fn put_output_word(text: &mut Vec<u8>, output: &NetOut, given: bool) -> Result<(
     put(text, if given { b".out" } else { b"" })
 }
 
-// A line for each latch.
-fn put_latches(text: &mut Vec<u8>, net: &Net) -> Result<(), NoMemory>
-    ensures { OnOk result (text.new.items ≡ text.old.items
-        ++ text_of (map latch_statement (numbered (net_latch (netlist_of net.now)) 0 net.now.latches.items))) }
+// The last output, which tells whether the program is still active, and the end of the line.
+pub fn put_outputs_end(text: &mut Vec<u8>) -> Result<(), NoMemory>
+    ensures { OnOk result (text.new.items ≡ text.old.items ++ outputs_end) }
 {
-    for (j, latch) in net.latches.iter().enumerate() {
-        put(text, b".latch ")?;
-        put_net(text, net, latch.from)?;
-        put_number(text, b" _s", j)?;
-        put(text, if latch.init { b" 1\n" } else { b" 0\n" })?;
-    }
-    Ok(())
+    put(text, b" _paused\n")
 }
 
-// A table for each input, which gives it its name among the nets.
-fn put_inputs(text: &mut Vec<u8>, net: &Net) -> Result<(), NoMemory>
+// The line of a latch.
+pub fn put_latch(text: &mut Vec<u8>, net: &Net, j: usize, latch: Latch) -> Result<(), NoMemory>
+    requires { latch.from.0 < net_count (netlist_of net.now) }
     ensures { OnOk result (text.new.items ≡ text.old.items
-        ++ text_of (flat_map table_statements (numbered input_table 0 net.now.inputs.items))) }
+        ++ text_of (latch_statement (net_latch (netlist_of net.now) j latch) ∷ [])) }
 {
-    for (j, name) in net.inputs.iter().enumerate() {
-        put(text, b".names ")?;
-        put(text, name.bytes())?;
-        put_number(text, b" _i", j)?;
-        put(text, b"\n1 1\n")?;
-    }
-    Ok(())
+    put(text, b".latch ")?;
+    put_net(text, net, latch.from)?;
+    put_number(text, b" _s", j)?;
+    put(text, if latch.init { b" 1\n" } else { b" 0\n" })
 }
 
-// A table for each gate.
-fn put_gates(text: &mut Vec<u8>, net: &Net) -> Result<(), NoMemory>
-    ensures text { OnOk result (text.new.items ≡ text.old.items
-        ++ text_of (flat_map table_statements (numbered (gate_table (netlist_of net.now)) 0 net.now.gates.items))) }
-    // The numbers of wires are those of their type.
-    ensures wires { OnOk result (All (λ g. IfSome g.wire (λ w. w.0 < 2 ^ 32)) net.now.gates.items) }
+// The table of an input, which gives it its name among the nets.
+pub fn put_input(text: &mut Vec<u8>, j: usize, name: &Text) -> Result<(), NoMemory>
+    ensures { OnOk result (text.new.items ≡ text.old.items ++ text_of (table_statements (input_table j name.now))) }
 {
-    for (k, gate) in net.gates.iter().enumerate() {
-        put_gate(text, net, k, *gate)?;
-    }
-    Ok(())
+    put(text, b".names ")?;
+    put(text, name.bytes())?;
+    put_number(text, b" _i", j)?;
+    put(text, b"\n1 1\n")
 }
 
 // The table of a gate.
-fn put_gate(text: &mut Vec<u8>, net: &Net, k: usize, gate: Gate) -> Result<(), NoMemory>
+pub fn put_gate(text: &mut Vec<u8>, net: &Net, k: usize, gate: Gate) -> Result<(), NoMemory>
     requires { operand_end gate.op ≤ net_count (netlist_of net.now) }
-    ensures text { OnOk result (text.new.items ≡ text.old.items
+    ensures { OnOk result (text.new.items ≡ text.old.items
         ++ text_of (table_statements (gate_table (netlist_of net.now) k gate))) }
-    ensures wire { OnOk result (IfSome gate.wire (λ w. w.0 < 2 ^ 32)) }
 {
     put(text, b".names")?;
     put_operands(text, net, gate.op)?;
@@ -229,20 +166,13 @@ fn rows(op: Op) -> &'static [u8]
     }
 }
 
-// A table for each output.
-fn put_outputs(text: &mut Vec<u8>, net: &Net, given: &[bool]) -> Result<(), NoMemory>
-    requires { given.now ≡ given_outputs (netlist_of net.now) }
-    ensures { OnOk result (text.new.items ≡ text.old.items
-        ++ text_of (flat_map table_statements (map (output_table (netlist_of net.now)) net.now.outputs.items))) }
-{
-    for (k, output) in net.outputs.iter().enumerate() {
-        put_output(text, net, output, given[k])?;
-    }
-    Ok(())
-}
-
 // The table of an output, where `given` says whether its name is also that of an input.
-fn put_output(text: &mut Vec<u8>, net: &Net, output: &NetOut, given: bool) -> Result<(), NoMemory>
+pub fn put_output(
+    text: &mut Vec<u8>,
+    net: &Net,
+    output: &NetOut,
+    given: bool,
+) -> Result<(), NoMemory>
     requires in_range { output.now.net.0 < net_count (netlist_of net.now) }
     requires given { given ≡ is_among output.now.name net.now.inputs.items }
     ensures { OnOk result (text.new.items ≡ text.old.items
@@ -254,15 +184,14 @@ fn put_output(text: &mut Vec<u8>, net: &Net, output: &NetOut, given: bool) -> Re
     put(text, b"\n1 1\n")
 }
 
-// The table of `_paused`.
-fn put_paused(text: &mut Vec<u8>, net: &Net) -> Result<(), NoMemory>
+// The table of `_paused`, and the end.
+pub fn put_last_lines(text: &mut Vec<u8>, net: &Net) -> Result<(), NoMemory>
     ensures { OnOk result (text.new.items ≡ text.old.items
-        ++ text_of (table_statements (copy_table (net_word (netlist_of net.now) net.now.paused.0) paused_word))) }
+        ++ last_lines (netlist_of net.now)) }
 {
     put(text, b".names ")?;
     put_net(text, net, net.paused)?;
-    put_spaced(text, PAUSED)?;
-    put(text, b"\n1 1\n")
+    put(text, b" _paused\n1 1\n.end\n")
 }
 
 // A space and the name of a net.
@@ -293,8 +222,7 @@ fn put_net(text: &mut Vec<u8>, net: &Net, from: NetId) -> Result<(), NoMemory>
 
 // The name of a gate.
 fn put_gate_word(text: &mut Vec<u8>, k: usize, gate: Gate) -> Result<(), NoMemory>
-    ensures text { OnOk result (text.new.items ≡ text.old.items ++ gate_word k gate.wire) }
-    ensures wire { IfSome gate.wire (λ w. w.0 < 2 ^ 32) }
+    ensures { OnOk result (text.new.items ≡ text.old.items ++ gate_word k gate.wire) }
 {
     match gate.wire {
         Some(wire) => put_number(text, b"_w", wire.0 as usize),

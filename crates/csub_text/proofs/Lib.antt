@@ -1,4 +1,4 @@
-pub mod Lines
+pub mod Moves
 mod TextEquations
 pub mod Lexing
 pub mod Spelling

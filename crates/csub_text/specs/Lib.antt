@@ -6,3 +6,4 @@ pub mod Names
 pub mod Texts
 pub mod Machine
 pub mod Written
+pub mod Places

@@ -5,8 +5,11 @@
 //! none, and what the machine of a program does over calls and resets.
 #![tactic(auto)]
 
+mod parts;
+mod pieces;
 mod trees;
 mod writer;
 
+pub use pieces::CPieces;
 pub use trees::{Assign, CProgram, Expr, State};
 pub use writer::write_c;

@@ -1,15 +1,16 @@
-// The C text of a net, put together line by line.
+// The C text of a net, line by line.
 
-ghost use Rattle.std.specs.Prelude.{◌≡◌, ◌+◌, ◌<◌, ◌≤◌, ◌^◌, ◌++◌, [], ◌∷◌, map, flat_map, decimal, codes};
-ghost use Rattle.std.specs.Prelude.{IfOk, OnOk, IfSome, All};
+ghost use Rattle.std.specs.Prelude.{◌≡◌, ◌+◌, ◌<◌, ◌≤◌, ◌++◌, [], ◌∷◌, decimal, IfOk, OnOk};
 ghost use Rattle.net_ir.specs.Gates.{operand_end};
 ghost use Rattle.net_ir.specs.Netlists.{net_count};
 ghost use Rattle.net_ir.specs.Runs.{netlist_of};
-ghost use Rattle.csub_text.specs.Written.{input_name, gate_name, next_name, net_name, input_variable, output_variable};
-ghost use Rattle.csub_text.specs.Written.{numbered, net_state, input_assign, gate_assign, next_assign, output_assign};
-ghost use Rattle.csub_text.specs.Written.{answer_assign, state_assign, gate_names, net_locals, net_body, op_expr};
-ghost use Rattle.csub_text.specs.Written.{expr_text, state_line, declaration, assign_line, line_end, written, Means};
+ghost use Rattle.csub_text.specs.Written.{input_name, gate_name, next_name, answer_name, net_name, input_variable};
+ghost use Rattle.csub_text.specs.Written.{output_variable, net_state, input_assign, gate_assign, next_assign};
+ghost use Rattle.csub_text.specs.Written.{output_assign, answer_assign, state_assign, op_expr, expr_text, state_line};
+ghost use Rattle.csub_text.specs.Written.{declaration, assign_line, line_end, head_line, last_lines, written, Means};
+ghost use Rattle.csub_text.specs.Trees.{Name};
 
+use crate::pieces::CPieces;
 use est_base::{NetId, NoMemory, Text};
 use itoa::Buffer;
 use net_ir::{Gate, Latch, Net, NetOut, Op};
@@ -25,35 +26,16 @@ pub fn write_c(alloc: Global, net: &Net) -> Result<Vec<u8>, NoMemory>
     ensures text { IfOk result (λ t. t.items ≡ written (netlist_of net.now)) }
     ensures means { IfOk result (λ t. Means t.items (netlist_of net.now)) }
 {
+    let mut pieces = CPieces::new(net);
     let mut text = Vec::new(alloc);
-    put_text(&mut text, net)?;
+    while let Some(piece) = pieces.next(alloc)? {
+        text.extend_from_slice(&piece)?;
+    }
     Ok(text)
 }
 
-fn put_text(text: &mut Vec<u8>, net: &Net) -> Result<(), NoMemory>
-    ensures text { OnOk result (text.new.items ≡ text.old.items ++ written (netlist_of net.now)) }
-    ensures wires { OnOk result (All (λ g. IfSome g.wire (λ w. w.0 < 2 ^ 32)) net.now.gates.items) }
-{
-    put_states(text, net)?;
-    put_globals(text, net)?;
-    put(text, b"int react(void) {\n")?;
-    put_locals(text, net)?;
-    put_body(text, net)?;
-    put(text, b"return r;\n}\n")
-}
-
-// A declaration for each latch.
-fn put_states(text: &mut Vec<u8>, net: &Net) -> Result<(), NoMemory>
-    ensures { OnOk result (text.new.items ≡ text.old.items
-        ++ flat_map state_line (numbered net_state 0 net.now.latches.items)) }
-{
-    for (j, latch) in net.latches.iter().enumerate() {
-        put_state(text, j, *latch)?;
-    }
-    Ok(())
-}
-
-fn put_state(text: &mut Vec<u8>, j: usize, latch: Latch) -> Result<(), NoMemory>
+// The declaration of a latch.
+pub fn put_state(text: &mut Vec<u8>, j: usize, latch: Latch) -> Result<(), NoMemory>
     ensures { OnOk result (text.new.items ≡ text.old.items ++ state_line (net_state j latch)) }
 {
     put_number(text, b"static int s", j)?;
@@ -64,124 +46,72 @@ fn put_state(text: &mut Vec<u8>, j: usize, latch: Latch) -> Result<(), NoMemory>
     }
 }
 
-// A declaration for each input and each output.
-fn put_globals(text: &mut Vec<u8>, net: &Net) -> Result<(), NoMemory>
-    ensures { OnOk result (text.new.items ≡ text.old.items
-        ++ (flat_map declaration (map input_variable net.now.inputs.items)
-        ++ flat_map declaration (map output_variable net.now.outputs.items))) }
+// The declaration of an input.
+pub fn put_input(text: &mut Vec<u8>, name: &Text) -> Result<(), NoMemory>
+    ensures { OnOk result (text.new.items ≡ text.old.items ++ declaration (input_variable name.now)) }
 {
-    put_inputs(text, &net.inputs)?;
-    put_outputs(text, &net.outputs)
+    put_named(text, b"int I_", name.bytes(), b";\n")
 }
 
-fn put_inputs(text: &mut Vec<u8>, inputs: &[Text]) -> Result<(), NoMemory>
-    ensures { OnOk result (text.new.items ≡ text.old.items
-        ++ flat_map declaration (map input_variable inputs.now)) }
+// The declaration of an output.
+pub fn put_output(text: &mut Vec<u8>, output: &NetOut) -> Result<(), NoMemory>
+    ensures { OnOk result (text.new.items ≡ text.old.items ++ declaration (output_variable output.now)) }
 {
-    for name in inputs {
-        put_named(text, b"int I_", name.bytes(), b";\n")?;
-    }
-    Ok(())
+    put_named(text, b"int O_", output.name.bytes(), b";\n")
 }
 
-fn put_outputs(text: &mut Vec<u8>, outputs: &[NetOut]) -> Result<(), NoMemory>
-    ensures { OnOk result (text.new.items ≡ text.old.items
-        ++ flat_map declaration (map output_variable outputs.now)) }
+// The line that begins the function.
+pub fn put_head(text: &mut Vec<u8>) -> Result<(), NoMemory>
+    ensures { OnOk result (text.new.items ≡ text.old.items ++ head_line) }
 {
-    for output in outputs {
-        put_named(text, b"int O_", output.name.bytes(), b";\n")?;
-    }
-    Ok(())
+    put(text, b"int react(void) {\n")
 }
 
-// The declarations of the locals.
-fn put_locals(text: &mut Vec<u8>, net: &Net) -> Result<(), NoMemory>
-    ensures { OnOk result (text.new.items ≡ text.old.items
-        ++ flat_map declaration (net_locals (netlist_of net.now))) }
+// The declaration of an input's local.
+pub fn put_input_local(text: &mut Vec<u8>, j: usize) -> Result<(), NoMemory>
+    ensures { OnOk result (text.new.items ≡ text.old.items ++ declaration (input_name j)) }
 {
-    put_input_locals(text, &net.inputs)?;
-    put_gate_locals(text, &net.gates)?;
-    put_next_locals(text, &net.latches)?;
+    put_number(text, b"int i", j)?;
+    put(text, b";\n")
+}
+
+// The declaration of a gate's local.
+pub fn put_gate_local(text: &mut Vec<u8>, k: usize, gate: Gate) -> Result<(), NoMemory>
+    ensures { OnOk result (text.new.items ≡ text.old.items ++ declaration (gate_name k gate.wire)) }
+{
+    put(text, b"int ")?;
+    put_gate_name(text, k, gate)?;
+    put(text, b";\n")
+}
+
+// The declaration of a latch's next value.
+pub fn put_next_local(text: &mut Vec<u8>, j: usize) -> Result<(), NoMemory>
+    ensures { OnOk result (text.new.items ≡ text.old.items ++ declaration (next_name j)) }
+{
+    put_number(text, b"int t", j)?;
+    put(text, b";\n")
+}
+
+// The declaration of the answer.
+pub fn put_answer_local(text: &mut Vec<u8>) -> Result<(), NoMemory>
+    ensures { OnOk result (text.new.items ≡ text.old.items ++ declaration answer_name) }
+{
     put(text, b"int r;\n")
 }
 
-fn put_input_locals(text: &mut Vec<u8>, inputs: &[Text]) -> Result<(), NoMemory>
-    ensures { OnOk result (text.new.items ≡ text.old.items
-        ++ flat_map declaration (numbered (λ j name. input_name j) 0 inputs.now)) }
+// An input is copied into its local.
+pub fn put_input_assign(text: &mut Vec<u8>, j: usize, name: &Text) -> Result<(), NoMemory>
+    ensures { OnOk result (text.new.items ≡ text.old.items ++ assign_line (input_assign j name.now)) }
 {
-    for (j, _) in inputs.iter().enumerate() {
-        put_number(text, b"int i", j)?;
-        put(text, b";\n")?;
-    }
-    Ok(())
+    put_number(text, b"i", j)?;
+    put_named(text, b" = I_", name.bytes(), b";\n")
 }
 
-fn put_gate_locals(text: &mut Vec<u8>, gates: &[Gate]) -> Result<(), NoMemory>
-    ensures { OnOk result (text.new.items ≡ text.old.items
-        ++ flat_map declaration (numbered (λ k gate. gate_name k gate.wire) 0 gates.now)) }
-{
-    for (k, gate) in gates.iter().enumerate() {
-        put(text, b"int ")?;
-        put_gate_name(text, k, *gate)?;
-        put(text, b";\n")?;
-    }
-    Ok(())
-}
-
-fn put_next_locals(text: &mut Vec<u8>, latches: &[Latch]) -> Result<(), NoMemory>
-    ensures { OnOk result (text.new.items ≡ text.old.items
-        ++ flat_map declaration (numbered (λ j latch. next_name j) 0 latches.now)) }
-{
-    for (j, _) in latches.iter().enumerate() {
-        put_number(text, b"int t", j)?;
-        put(text, b";\n")?;
-    }
-    Ok(())
-}
-
-// The assignments.
-fn put_body(text: &mut Vec<u8>, net: &Net) -> Result<(), NoMemory>
-    ensures text { OnOk result (text.new.items ≡ text.old.items
-        ++ flat_map assign_line (net_body (netlist_of net.now))) }
-    ensures wires { OnOk result (All (λ g. IfSome g.wire (λ w. w.0 < 2 ^ 32)) net.now.gates.items) }
-{
-    put_input_assigns(text, net)?;
-    put_gate_assigns(text, net)?;
-    put_next_assigns(text, net)?;
-    put_output_assigns(text, net)?;
-    put_answer_assign(text, net)?;
-    put_state_assigns(text, net)
-}
-
-// Each input is copied into its local.
-fn put_input_assigns(text: &mut Vec<u8>, net: &Net) -> Result<(), NoMemory>
-    ensures { OnOk result (text.new.items ≡ text.old.items
-        ++ flat_map assign_line (numbered input_assign 0 net.now.inputs.items)) }
-{
-    for (j, name) in net.inputs.iter().enumerate() {
-        put_number(text, b"i", j)?;
-        put_named(text, b" = I_", name.bytes(), b";\n")?;
-    }
-    Ok(())
-}
-
-fn put_gate_assigns(text: &mut Vec<u8>, net: &Net) -> Result<(), NoMemory>
-    ensures text { OnOk result (text.new.items ≡ text.old.items
-        ++ flat_map assign_line (numbered (gate_assign (netlist_of net.now)) 0 net.now.gates.items)) }
-    // The numbers of wires are those of their type.
-    ensures wires { OnOk result (All (λ g. IfSome g.wire (λ w. w.0 < 2 ^ 32)) net.now.gates.items) }
-{
-    for (k, gate) in net.gates.iter().enumerate() {
-        put_gate(text, net, k, *gate)?;
-    }
-    Ok(())
-}
-
-fn put_gate(text: &mut Vec<u8>, net: &Net, k: usize, gate: Gate) -> Result<(), NoMemory>
+// A gate is computed.
+pub fn put_gate(text: &mut Vec<u8>, net: &Net, k: usize, gate: Gate) -> Result<(), NoMemory>
     requires { operand_end gate.op ≤ net_count (netlist_of net.now) }
-    ensures text { OnOk result (text.new.items ≡ text.old.items
+    ensures { OnOk result (text.new.items ≡ text.old.items
         ++ assign_line (gate_assign (netlist_of net.now) k gate)) }
-    ensures wire { OnOk result (IfSome gate.wire (λ w. w.0 < 2 ^ 32)) }
 {
     put_gate_name(text, k, gate)?;
     put(text, b" = ")?;
@@ -219,34 +149,36 @@ fn put_pair(text: &mut Vec<u8>, net: &Net, a: NetId, mark: &[u8], b: NetId) -> R
     put_net(text, net, b)
 }
 
-// The next value of each latch is computed.
-fn put_next_assigns(text: &mut Vec<u8>, net: &Net) -> Result<(), NoMemory>
+// The next value of a latch is computed.
+pub fn put_next_assign(
+    text: &mut Vec<u8>,
+    net: &Net,
+    j: usize,
+    latch: Latch,
+) -> Result<(), NoMemory>
+    requires { latch.from.0 < net_count (netlist_of net.now) }
     ensures { OnOk result (text.new.items ≡ text.old.items
-        ++ flat_map assign_line (numbered (next_assign (netlist_of net.now)) 0 net.now.latches.items)) }
+        ++ assign_line (next_assign (netlist_of net.now) j latch)) }
 {
-    for (j, latch) in net.latches.iter().enumerate() {
-        put_number(text, b"t", j)?;
-        put(text, b" = ")?;
-        put_net(text, net, latch.from)?;
-        put(text, b";\n")?;
-    }
-    Ok(())
+    put_number(text, b"t", j)?;
+    put(text, b" = ")?;
+    put_net(text, net, latch.from)?;
+    put(text, b";\n")
 }
 
-fn put_output_assigns(text: &mut Vec<u8>, net: &Net) -> Result<(), NoMemory>
+// An output gets its value.
+pub fn put_output_assign(text: &mut Vec<u8>, net: &Net, output: &NetOut) -> Result<(), NoMemory>
+    requires { output.now.net.0 < net_count (netlist_of net.now) }
     ensures { OnOk result (text.new.items ≡ text.old.items
-        ++ flat_map assign_line (map (output_assign (netlist_of net.now)) net.now.outputs.items)) }
+        ++ assign_line (output_assign (netlist_of net.now) output.now)) }
 {
-    for output in &net.outputs {
-        put_named(text, b"O_", output.name.bytes(), b" = ")?;
-        put_net(text, net, output.net)?;
-        put(text, b";\n")?;
-    }
-    Ok(())
+    put_named(text, b"O_", output.name.bytes(), b" = ")?;
+    put_net(text, net, output.net)?;
+    put(text, b";\n")
 }
 
 // Whether the program is still active.
-fn put_answer_assign(text: &mut Vec<u8>, net: &Net) -> Result<(), NoMemory>
+pub fn put_answer_assign(text: &mut Vec<u8>, net: &Net) -> Result<(), NoMemory>
     ensures { OnOk result (text.new.items ≡ text.old.items ++ assign_line (answer_assign (netlist_of net.now))) }
 {
     put(text, b"r = ")?;
@@ -254,17 +186,20 @@ fn put_answer_assign(text: &mut Vec<u8>, net: &Net) -> Result<(), NoMemory>
     put(text, b";\n")
 }
 
-// Each latch gets its next value.
-fn put_state_assigns(text: &mut Vec<u8>, net: &Net) -> Result<(), NoMemory>
-    ensures { OnOk result (text.new.items ≡ text.old.items
-        ++ flat_map assign_line (numbered state_assign 0 net.now.latches.items)) }
+// A latch gets its next value.
+pub fn put_state_assign(text: &mut Vec<u8>, j: usize, latch: Latch) -> Result<(), NoMemory>
+    ensures { OnOk result (text.new.items ≡ text.old.items ++ assign_line (state_assign j latch)) }
 {
-    for (j, _) in net.latches.iter().enumerate() {
-        put_number(text, b"s", j)?;
-        put_number(text, b" = t", j)?;
-        put(text, b";\n")?;
-    }
-    Ok(())
+    put_number(text, b"s", j)?;
+    put_number(text, b" = t", j)?;
+    put(text, b";\n")
+}
+
+// The answer and the end.
+pub fn put_last_lines(text: &mut Vec<u8>) -> Result<(), NoMemory>
+    ensures { OnOk result (text.new.items ≡ text.old.items ++ last_lines (Name answer_name)) }
+{
+    put(text, b"return r;\n}\n")
 }
 
 // The name of a net.
@@ -286,8 +221,7 @@ fn put_net(text: &mut Vec<u8>, net: &Net, from: NetId) -> Result<(), NoMemory>
 
 // The name of a gate.
 fn put_gate_name(text: &mut Vec<u8>, k: usize, gate: Gate) -> Result<(), NoMemory>
-    ensures text { OnOk result (text.new.items ≡ text.old.items ++ gate_name k gate.wire) }
-    ensures wire { IfSome gate.wire (λ w. w.0 < 2 ^ 32) }
+    ensures { OnOk result (text.new.items ≡ text.old.items ++ gate_name k gate.wire) }
 {
     match gate.wire {
         Some(wire) => put_number(text, b"w", wire.0 as usize),

@@ -1,7 +1,7 @@
 use Rattle.std.proofs.Common.{◌≡◌, ◌-◌, ◌++◌, ◌∷◌, [], map, take, sym, ap, ◌∙◌, arith, vec_len}
 use Rattle.std.proofs.lemmas.List.{map-append}
 use Rattle.blif_text.specs.PlainStatements.{plain_statement}
-use Rattle.blif_text.specs.Drafts.{no_parts, behind, draft_parts, parts_circuit}
+use Rattle.blif_text.specs.Drafts.{behind, draft_parts, parts_circuit}
 use Rattle.blif_text.proofs.Reversals.{behind-push, parts_circuit-behind}
 use Rattle.blif_text.proofs.draft.circuit.Goals as goal
 

@@ -1,5 +1,4 @@
-use Rattle.std.proofs.Common.{◌≡◌, refl, map, ap, ◌∙◌}
-use Rattle.std.specs.Prelude.{reverse}
+use Rattle.std.proofs.Common.{refl, map, ap, ◌∙◌}
 use Rattle.blif_text.specs.Plain.{plain_latch, plain_table}
 use Rattle.blif_text.proofs.Reversals.{map-reverse}
 use Rattle.blif_text.proofs.draft.finished.Goals as goal

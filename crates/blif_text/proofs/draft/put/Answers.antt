@@ -1,6 +1,6 @@
-use Rattle.std.proofs.Common.{◌≡◌, refl, map, sym, ap, ◌∙◌}
+use Rattle.std.proofs.Common.{refl, map, ap, ◌∙◌}
 use Rattle.std.specs.Prelude.{reverse}
-use Rattle.blif_text.specs.Plain.{plain_row, plain_table}
+use Rattle.blif_text.specs.Plain.{plain_table}
 use Rattle.blif_text.proofs.Reversals.{reverse-map-push}
 use Rattle.blif_text.proofs.draft.put.Goals as goal
 

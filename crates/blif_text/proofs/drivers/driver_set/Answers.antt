@@ -1,4 +1,4 @@
-use Rattle.std.proofs.Common.{◌≡◌, ℕ, ◌+◌, ◌<◌, List, [], Bool, true, false, not, cond, length, map, take, get_or, sym, ap, ◌∙◌, arith, Bor, Some}
+use Rattle.std.proofs.Common.{◌≡◌, ℕ, ◌<◌, List, [], true, false, cond, length, map, take, get_or, sym, ap, ◌∙◌, arith, Bor, Some}
 use Rattle.std.proofs.lemmas.Bool.{not-true, not-false}
 use Rattle.std.proofs.lemmas.List.{length-map, get_or-map}
 use Rattle.est_base.specs.Names.{is_same_name}

@@ -1,5 +1,5 @@
-use Rattle.std.proofs.Common.{◌≡◌, ◌+◌, ◌-◌, ◌∷◌, ◌++◌, length, map, take, sym, ap, ◌∙◌, arith}
-use Rattle.blif_text.specs.Lines.{text_lines, ends_with, joined}
+use Rattle.std.proofs.Common.{◌+◌, ◌-◌, ◌∷◌, ◌++◌, length, take, sym, ap, ◌∙◌, arith}
+use Rattle.blif_text.specs.Lines.{ends_with, joined}
 use Rattle.blif_text.specs.Rests.{lines_left, continued}
 use Rattle.blif_text.proofs.FirstLines.{line_of, joined-alone, joined-continued, continued-front, more_behind, length-lines_left}
 use Rattle.blif_text.proofs.lines.joined_line.Goals as goal

@@ -1,4 +1,4 @@
-use Rattle.std.proofs.Common.{◌≡◌, ◌+◌, ◌-◌, ◌∷◌, length, map, take, sym, ap, ◌∙◌, arith}
+use Rattle.std.proofs.Common.{◌-◌, ◌∷◌, length, take, sym, ap, ◌∙◌, arith}
 use Rattle.blif_text.specs.Lines.{joined}
 use Rattle.blif_text.specs.Rests.{lines_left, continued}
 use Rattle.blif_text.proofs.FirstLines.{line_of, joined-alone, joined-continued}

@@ -1,4 +1,4 @@
-use Rattle.std.proofs.Common.{◌≡◌, [], map, sym, ap, ◌∙◌, Some, None}
+use Rattle.std.proofs.Common.{[], sym, ap, ◌∙◌, Some, None}
 use Rattle.std.specs.Prelude.{if◌then◌else◌}
 use Rattle.blif_text.specs.Statements.{first_refused}
 use Rattle.blif_text.specs.PlainStatements.{plain_statement}

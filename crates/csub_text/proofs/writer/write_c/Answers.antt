@@ -1,13 +1,20 @@
-use Rattle.std.proofs.Common.{◌++◌, subst, sym, ap, ◌∙◌}
-use Rattle.net_ir.specs.Runs.{netlist_of}
-use Rattle.csub_text.specs.Written.{written, Means}
-use Rattle.csub_text.proofs.NetNames.{IsWritable}
-use Rattle.csub_text.proofs.NetMeans.{Means-written}
+use Rattle.std.proofs.Common.{◌≡◌, ◌<◌, ◌++◌, [], length, take, subst, ap, ◌∙◌}
+use Rattle.std.specs.Prelude.{MatchOption}
+use Rattle.csub_text.proofs.Moves.{pieces-join, pieces-fall}
 use Rattle.csub_text.proofs.writer.write_c.Goals as goal
 
-pub returns-clause-means : goal.returns-clause-means
-returns-clause-means c =
-    let net = c.args.net.now in
-    let is : IsWritable (netlist_of net) = record { is_net = net.is_net; wires_fit = c.in_ok-put_text.ensures.wires } in
-    subst (λ t. Means t (netlist_of net)) (sym (c.in_ok-put_text.ensures.text ∙ ap (λ t. t ++ written (netlist_of net)) c.new-text.ensures.items))
-    (Means-written (netlist_of net) is)
+pub loop-text-smaller : goal.loop-text-smaller
+loop-text-smaller c =
+    let old = c.loop-text.pieces in
+    let piece = subst (λ p. MatchOption p (old ≡ []) (λ piece. (0 < length piece.items) × (piece.items ≡ take 65536 old)))
+    c.in-Some.is c.in_ok-piece.ensures.piece in
+    pieces-fall 65536 old c.in-Some.piece.items c.next.new.self piece.0 piece.1 c.in_ok-piece.ensures.rest
+
+pub loop-text-preserved : goal.loop-text-preserved
+loop-text-preserved c =
+    let old = c.loop-text.pieces in
+    let text = c.loop-text.text.items in
+    let piece = subst (λ p. MatchOption p (old ≡ []) (λ piece. (0 < length piece.items) × (piece.items ≡ take 65536 old)))
+    c.in-Some.is c.in_ok-piece.ensures.piece in
+    pieces-join 65536 text old c.in-Some.piece.items c.next.new.self c.extend_from_slice.new.self.items _ c.loop-text.invariant
+    piece.1 c.in_ok-piece.ensures.rest (c.in_ok-extend_from_slice.ensures.items ∙ ap (λ l. text ++ l) c.deref.ensures.value)

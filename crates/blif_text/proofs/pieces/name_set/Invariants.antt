@@ -1,0 +1,10 @@
+use Rattle.std.proofs.Common.{◌≡◌, ℕ, List, take}
+use Rattle.std.specs.HashSet.{contains_by}
+use Rattle.est_base.specs.Names.{is_same_name}
+use Rattle.blif_text.specs.Circuits.{is_among}
+use Rattle.blif_text.proofs.pieces.name_set.Given as goal
+
+-- the names so far
+abbrev pub invariant-loop-name : goal.invariant-loop-name
+invariant-loop-name l =
+    (name : List ℕ) → contains_by (λ k. is_same_name name k.now) l.set ≡ is_among name (take l.name-index l.names)

@@ -1,7 +1,0 @@
-use Rattle.std.proofs.Common.{◌≡◌, map, take}
-use Rattle.blif_text.specs.Circuits.{is_among}
-use Rattle.blif_text.proofs.writer.given_outputs.Given as goal
-
-abbrev pub invariant-loop-output : goal.invariant-loop-output
-invariant-loop-output l =
-    l.given.items ≡ map (λ o. is_among o.name l.net.inputs.items) (take l.output-index l.net.outputs.items)
