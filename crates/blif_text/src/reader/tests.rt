@@ -53,12 +53,35 @@ fn texts_are_refused_at_their_lines(rt: HostRuntime) -> Result<(), Fail> {
     Ok(())
 }
 
+// The prefixes of the worked text whose fault is at this line: their lengths go from the first number to just before
+// the second. The lines are those of another reader.
+const PREFIX_FAULTS: [(u32, usize, usize); 15] = [
+    (1, 0, 6),
+    (2, 6, 16),
+    (3, 16, 27),
+    (4, 27, 54),
+    (5, 54, 63),
+    (6, 63, 71),
+    (7, 71, 80),
+    (8, 80, 95),
+    (9, 95, 104),
+    (10, 104, 114),
+    (11, 114, 123),
+    (12, 123, 131),
+    (13, 131, 140),
+    (14, 140, 154),
+    (15, 154, 159),
+];
+
 #[test]
-fn a_prefix_without_its_end_is_refused(rt: HostRuntime) -> Result<(), Fail> {
-    for end in 0..WORKED_TEXT.len() - 1 {
-        match read_blif(rt.alloc(), &WORKED_TEXT[..end]) {
-            Err(BlifError::Line(_)) => {}
-            _ => panic!(rt; "prefix {end} is read"),
+fn a_prefix_without_its_end_is_refused_at_its_line(rt: HostRuntime) -> Result<(), Fail> {
+    for (line, from, to) in PREFIX_FAULTS {
+        for end in from..to {
+            let prefix = &WORKED_TEXT[..end.min(WORKED_TEXT.len())];
+            match read_blif(rt.alloc(), prefix) {
+                Err(BlifError::Line(found)) => assert_eq!(rt; found, line),
+                _ => panic!(rt; "prefix {end} is read"),
+            }
         }
     }
     Ok(())
