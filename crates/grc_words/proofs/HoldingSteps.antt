@@ -16,7 +16,7 @@ use Rattle.grc_graph.specs.declared.graph.Graph.{Graph}
 use Rattle.grc_graph.specs.declared.neighbours.Neighbours.{Neighbours}
 use Rattle.grc_graph.specs.declared.statements.Binding as bindings
 use Rattle.grc_graph.specs.Instances.{Instance}
-use Rattle.grc_graph.specs.Layers.{Layer, Resumed, layer_above, same_layer}
+use Rattle.grc_graph.specs.Layers.{Layer, Resumed, Started, layer_above, same_layer}
 use Rattle.grc_graph.specs.Neighbouring.{names_in}
 use Rattle.grc_graph.specs.PlainGraphs.{names_of, instances_of, instance_at}
 use Rattle.grc_graph.specs.Readings.{Valuation, seen_values}
@@ -57,13 +57,14 @@ pub own-none : (g : Graph) (x : Instance) (rs : List tables.Row) → RowsFit (la
     → OwnMade g x rs rs (sources.Const false)
 own-none g x rs f e = record {
   extends = extends-refl (late_bounds g 0) rs f;
-  few = none-few (test_of (statement_row g x.path).statement);
+  few = none-few (test_of (statement_row g x.path).statement) x.layer;
   says = constant-says g rs false _ e;
 }
   where
-    none-few : (o : Option Expression) → OwnFew o rs rs (sources.Const false)
-    none-few None = (omega arith, refl)
-    none-few (Some e) = omega arith
+    none-few : (o : Option Expression) (l : Layer) → OwnFew o l rs rs (sources.Const false)
+    none-few None l = (omega arith, refl)
+    none-few (Some e) Resumed = omega arith
+    none-few (Some e) (Started r) = (omega arith, refl)
 
 -- what a statement with this test suspends
 abbrev pub suspends_by : Values → Valuation → Scope → Option Expression → ℕ → Layer → Bool
@@ -140,7 +141,7 @@ own-suspends g near c e signals go old mid new tested own is listed names h m gr
     let x : Instance = record { path = c; layer = Resumed } in
     let done : OwnMade g x old last (both_source mid (sources.Wire go) tested.source) = record {
       extends = extends-trans b old mid last m.extends made.extends;
-      few = subst (λ o. OwnFew o old last (both_source mid (sources.Wire go) tested.source)) (sym is)
+      few = subst (λ o. OwnFew o Resumed old last (both_source mid (sources.Wire go) tested.source)) (sym is)
           (omega (arith, m.few, both-few mid (sources.Wire go) tested.source));
       says = says-as g last (both_source mid (sources.Wire go) tested.source) _ _
           (λ t. sym (suspends-test (is_given t.event) t.valuation B (statement_row g c).statement c Resumed
@@ -249,16 +250,24 @@ holdings-begun g rs f = record {
 }
 
 -- the rows of one more instance
-rows-of-one : (o : Option Expression) (r1 r2 r3 r4 : List tables.Row) (above_kept above_held own both_own : Source) → OwnFew o r1 r2 own
+rows-of-other : (r1 r2 r3 r4 : List tables.Row) (above_kept above_held own both_own : Source) → length r2 ≤ length r1 → own ≡ sources.Const false
     → r3 ≡ with_both r2 above_kept own → both_own ≡ both_source r2 above_kept own → r4 ≡ with_either r3 above_held both_own
-    → length r4 + 1 ≤ length r1 + rows_by o
-rows-of-one None r1 r2 r3 r4 above_kept above_held own both_own few g3 s3 g4 =
-    let third : r3 ≡ r2 = g3 ∙ ap (with_both r2 above_kept) few.1 ∙ (both-none r2 above_kept).0 in
-    let none : both_own ≡ sources.Const false = s3 ∙ ap (both_source r2 above_kept) few.1 ∙ (both-none r2 above_kept).1 in
+    → length r4 + 1 ≤ length r1 + 1
+rows-of-other r1 r2 r3 r4 above_kept above_held own both_own few is g3 s3 g4 =
+    let third : r3 ≡ r2 = g3 ∙ ap (with_both r2 above_kept) is ∙ (both-none r2 above_kept).0 in
+    let none : both_own ≡ sources.Const false = s3 ∙ ap (both_source r2 above_kept) is ∙ (both-none r2 above_kept).1 in
     let fourth : r4 ≡ r2 = g4 ∙ ap (with_either r3 above_held) none ∙ either-none r3 above_held ∙ third in
-    omega (arith, ap length fourth, few.0)
-rows-of-one (Some e) r1 r2 r3 r4 above_kept above_held own both_own few g3 s3 g4 =
+    omega (arith, ap length fourth, few)
+
+rows-of-one : (o : Option Expression) (l : Layer) (r1 r2 r3 r4 : List tables.Row) (above_kept above_held own both_own : Source) → OwnFew o l r1 r2 own
+    → r3 ≡ with_both r2 above_kept own → both_own ≡ both_source r2 above_kept own → r4 ≡ with_either r3 above_held both_own
+    → length r4 + 1 ≤ length r1 + rows_by o l
+rows-of-one None l r1 r2 r3 r4 above_kept above_held own both_own few g3 s3 g4 =
+    rows-of-other r1 r2 r3 r4 above_kept above_held own both_own few.0 few.1 g3 s3 g4
+rows-of-one (Some e) Resumed r1 r2 r3 r4 above_kept above_held own both_own few g3 s3 g4 =
     omega (arith, few, ap length g3, both-few r2 above_kept own, ap length g4, either-few r3 above_held both_own)
+rows-of-one (Some e) (Started r) r1 r2 r3 r4 above_kept above_held own both_own few g3 s3 g4 =
+    rows-of-other r1 r2 r3 r4 above_kept above_held own both_own few.0 few.1 g3 s3 g4
 
 sum-more : (g : Graph) (i : ℕ) (x : Instance) → i < length (instances_of g) → instance_at (instances_of g) i ≡ x
     → sum_by (instance_rows g) (take (i + 1) (instances_of g)) ≡ sum_by (instance_rows g) (take i (instances_of g)) + instance_rows g x
@@ -303,7 +312,7 @@ holdings-step g x old r0 r1 r2 r3 r4 kept held i above_kept above_held own both_
         m.few,
         a.few,
         sum-more g i x within here,
-        rows-of-one (test_of (statement_row g x.path).statement) r1 r2 r3 r4 above_kept above_held own both_own o.few g3 s3 g4,
+        rows-of-one (test_of (statement_row g x.path).statement) x.layer r1 r2 r3 r4 above_kept above_held own both_own o.few g3 s3 g4,
       );
       kept_all = omega (arith, m.kept_all, length_push kept above_kept);
       held_all = omega (arith, m.held_all, length_push held last);

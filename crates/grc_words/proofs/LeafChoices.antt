@@ -1,9 +1,9 @@
 -- For each statement the leaf that it is: from the last node of the tree to the first.
-use Rattle.std.proofs.Common.{◌≡◌, ℕ, ◌+◌, ◌<◌, ◌≤◌, suc, Bool, false, cond, count_by, ◌==◌, List, [], ◌∷◌, ◌++◌, length, map, take, drop, replicate}
+use Rattle.std.proofs.Common.{◌≡◌, ℕ, ◌+◌, ◌<◌, ◌≤◌, suc, Bool, true, false, cond, count_by, ◌==◌, List, [], ◌∷◌, ◌++◌, length, map, take, drop, replicate}
 use Rattle.std.proofs.Common.{slice_index_or, slice_set, refl, sym, ap, ◌∙◌, subst, arith, IsTrue, inl, inr, drop-cons, length-append, length-set}
 use Rattle.std.proofs.Common.{get_or-set_same, get_or-set_other}
 use Rattle.std.specs.Prelude.{if◌then◌else◌}
-use Rattle.std.proofs.lemmas.Bool.{cases_eq, eq-eqb, ne_eqb, eqb-true, lt-ltb}
+use Rattle.std.proofs.lemmas.Bool.{cases_eq, eq-eqb, ne_eqb, eqb-true, lt-ltb, false≢true}
 use Rattle.std.proofs.lemmas.List.{get_or-replicate, length-replicate, drop_all}
 use Rattle.std.proofs.lemmas.List.Sums.{sum_by-cons, sum_by-take-le, count_by_more_yes, count_by_more_no}
 use Rattle.grc_graph.specs.declared.graph.Graph.{Graph}
@@ -15,7 +15,9 @@ use Rattle.grc_graph.proofs.TreeSelections.{leaves_among}
 use Rattle.est_kernel.specs.Terms.{Term}
 use Rattle.est_kernel.specs.Plain.{program_of}
 use Rattle.est_kernel.specs.Preorder.{statement_count}
-use Rattle.grc_words.specs.Choosing.{LeavesChosen}
+use Rattle.grc_words.specs.Choosing.{LeavesChosen, FalseUnlessResumed}
+use Rattle.grc_words.specs.Sizes.{statement_row}
+use Rattle.grc_words.proofs.LeafRows.{body-leaves-resumed}
 use Rattle.grc_words.proofs.LeafPaths.{leaves_in-append, leaves-body_tree}
 use Rattle.std.proofs.lemmas.List.{take-append-drop, map-append}
 use Rattle.std.proofs.Math.Seq.{get_or-append_seam}
@@ -33,6 +35,7 @@ chosen_from g nodes place t n = selecting (leaves_in (map node_of (drop place no
 
 pub record ChosenFrom (g : Graph) (nodes : List SelNode) (count : ℕ) (sources : List Source) (place : ℕ) : Type 0 where
   pub many : length sources ≡ count
+  pub resumed : FalseUnlessResumed g sources
   pub says : (n : ℕ) (d : Source) → n < count → Says g (early_bounds g 0) [] (slice_index_or sources n d) (λ t. chosen_from g nodes place t n)
 
 node-next : (nodes : List SelNode) (j : ℕ) (d : SelNode) → j < length nodes → drop j nodes ≡ slice_index_or nodes j d ∷ drop (j + 1) nodes
@@ -129,6 +132,7 @@ chosen-none g nodes count sources place end e =
     let gone = drop_all place nodes end in
     record {
       many = many;
+      resumed = λ n d low no. ap (λ xs. slice_index_or xs n d) e ∙ get_or-replicate count n (Const false) d (omega arith);
       says = λ n d low.
           let at : slice_index_or sources n d ≡ Const false = ap (λ xs. slice_index_or xs n d) e ∙ get_or-replicate count n (Const false) d low in
           subst (λ s. Says g (early_bounds g 0) [] s (λ t. chosen_from g nodes place t n)) (sym at) (record {
@@ -142,6 +146,7 @@ pub chosen-skip : (g : Graph) (nodes : List SelNode) (count : ℕ) (sources : Li
     → ChosenFrom g nodes count sources j
 chosen-skip g nodes count sources place j x c e low read none empty = record {
   many = c.many;
+  resumed = c.resumed;
   says = λ n d h. says-is g (slice_index_or sources n d) _ _ (λ t.
       ap (λ i. chosen_from g nodes i t n) e ∙ sym (chosen-other g nodes j x t n low (sym read) none empty)) (c.says n d h);
 }
@@ -149,13 +154,18 @@ chosen-skip g nodes count sources place j x c e low read none empty = record {
 pub chosen-set : (g : Graph) (nodes : List SelNode) (leaves count : ℕ) (sources : List Source) (place j k : ℕ) (x : SelNode) →
     ChosenFrom g nodes count sources place
     → place ≡ j + 1 → j < length nodes → x ≡ slice_index_or nodes j x → x.form ≡ forms.Leaf k → LeavesAscend nodes leaves
-    → length g.next.items ≡ length (leaves_in (map node_of nodes)) → x.path.0 < count
+    → length g.next.items ≡ length (leaves_in (map node_of nodes)) → x.path.0 < count → (statement_row g x.path.0).live.resumed ≡ true
     → ChosenFrom g nodes count (slice_set sources x.path.0 (Leaf k)) j
-chosen-set g nodes leaves count sources place j k x c e low read form ascend next within =
+chosen-set g nodes leaves count sources place j k x c e low read form ascend next within resumed =
     let at : LeafAt nodes j k x = record { low = low; read = sym read; form = form } in
     let below = leaf-below nodes leaves j k x ascend at in
     record {
       many = length-set sources x.path.0 (Leaf k) ∙ c.many;
+      resumed = λ n d h no. elim (cases_eq n x.path.0) [
+        | inl same ↦ absurd (false≢true (sym no ∙ ap (λ i. (statement_row g i).live.resumed) same ∙ resumed))
+        | inr other ↦
+            get_or-set_other sources x.path.0 n (Leaf k) d other ∙ c.resumed n d (omega (arith, length-set sources x.path.0 (Leaf k))) no
+      ];
       says = λ n d h. elim (cases_eq n x.path.0) [
         | inl same ↦
             let put : slice_index_or (slice_set sources x.path.0 (Leaf k)) n d ≡ Leaf k =
@@ -172,10 +182,15 @@ chosen-set g nodes leaves count sources place j k x c e low read form ascend nex
       ];
     }
 
--- a leaf's statement is one of the body's
-pub leaf-within : (body : Term) (nodes : List SelNode) (j k : ℕ) (x : SelNode) → map node_of nodes ≡ body_tree body → j < length nodes
-    → x ≡ slice_index_or nodes j x → x.form ≡ forms.Leaf k → x.path.0 < statement_count body
-leaf-within body nodes j k x tree low read form =
+-- where a leaf stands among the body's
+record LeafStands (body : Term) (n : ℕ) : Type 0 where
+  place : ℕ
+  low : place < length (body_leaves body)
+  is : slice_index_or (body_leaves body) place 0 ≡ n
+
+leaf-stands : (body : Term) (nodes : List SelNode) (j k : ℕ) (x : SelNode) → map node_of nodes ≡ body_tree body → j < length nodes
+    → x ≡ slice_index_or nodes j x → x.form ≡ forms.Leaf k → LeafStands body x.path.0
+leaf-stands body nodes j k x tree low read form =
     let front = leaves_in (map node_of (take j nodes)) in
     let rest = leaves_in (map node_of (drop (j + 1) nodes)) in
     let paths : leaves_in (map node_of (drop j nodes)) ≡ x.path.0 ∷ rest =
@@ -186,11 +201,25 @@ leaf-within body nodes j k x tree low read form =
     ∙ ap leaves_in (map-append node_of (take j nodes) (drop j nodes))
     ∙ leaves_in-append (map node_of (take j nodes)) (map node_of (drop j nodes)) ∙ ap (λ l. front ++ l) paths in
     let many = ap length split ∙ length-append front (x.path.0 ∷ rest) in
-    let all = leaves_among (resumes body) body 0 in
-    let here = all (length front) 0 (omega arith) in
-    let is : slice_index_or (body_leaves body) (length front) 0 ≡ x.path.0 =
-    ap (λ l. slice_index_or l (length front) 0) split ∙ get_or-append_seam front x.path.0 rest 0 in
-    omega (arith, here.1, is)
+    record {
+      place = length front;
+      low = omega (arith, many);
+      is = ap (λ l. slice_index_or l (length front) 0) split ∙ get_or-append_seam front x.path.0 rest 0;
+    }
+
+-- a leaf's statement is one of the body's
+pub leaf-within : (body : Term) (nodes : List SelNode) (j k : ℕ) (x : SelNode) → map node_of nodes ≡ body_tree body → j < length nodes
+    → x ≡ slice_index_or nodes j x → x.form ≡ forms.Leaf k → x.path.0 < statement_count body
+leaf-within body nodes j k x tree low read form =
+    let at = leaf-stands body nodes j k x tree low read form in
+    omega (arith, (leaves_among (resumes body) body 0 at.place 0 at.low).1, at.is)
+
+-- and may be resumed
+pub leaf-resumed : (g : Graph) (nodes : List SelNode) (j k : ℕ) (x : SelNode) → map node_of nodes ≡ body_tree (program_of g.program).body → j < length nodes
+    → x ≡ slice_index_or nodes j x → x.form ≡ forms.Leaf k → (statement_row g x.path.0).live.resumed ≡ true
+leaf-resumed g nodes j k x tree low read form =
+    let at = leaf-stands (program_of g.program).body nodes j k x tree low read form in
+    subst (λ n. (statement_row g n).live.resumed ≡ true) at.is (body-leaves-resumed (program_of g.program) at.place 0 at.low)
 
 pub leaves-many : (body : Term) (nodes : List SelNode) → map node_of nodes ≡ body_tree body → length (leaves_in (map node_of nodes)) ≡ length (body_leaves body)
 leaves-many body nodes tree = ap (λ xs. length (leaves_in xs)) tree ∙ ap length (leaves-body_tree body)
@@ -200,6 +229,7 @@ pub chosen-all : (g : Graph) (nodes : List SelNode) (count : ℕ) (sources : Lis
     → map node_of nodes ≡ body_tree (program_of g.program).body → place ≡ 0 → ChosenFrom g nodes count sources place → LeavesChosen g count sources
 chosen-all g nodes count sources place tree e c = record {
   many = c.many;
+  resumed = c.resumed;
   says = λ n d h. says-is g (slice_index_or sources n d) _ _ (λ t. ap (λ i. chosen_from g nodes i t n) e
       ∙ ap (λ xs. selecting (leaves_in xs) t.bits n) tree ∙ ap (λ l. selecting l t.bits n) (leaves-body_tree (program_of g.program).body)) (c.says n d h);
 }

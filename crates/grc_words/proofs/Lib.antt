@@ -3,6 +3,7 @@ pub mod Enclosed
 pub mod Saying
 pub mod RowCounts
 pub mod LeafPaths
+pub mod LeafRows
 pub mod Holding
 pub mod LeafChoices
 pub mod PartSteps

@@ -12,7 +12,7 @@ use Rattle.grc_graph.specs.declared.graph.Graph.{Graph}
 use Rattle.grc_graph.specs.declared.neighbours.Neighbours.{Neighbours}
 use Rattle.grc_graph.specs.declared.statements.Statement.{Statement}
 use Rattle.grc_graph.specs.Instances.{Instance, body_instances}
-use Rattle.grc_graph.specs.Layers.{Layer, layer_above}
+use Rattle.grc_graph.specs.Layers.{Layer, Resumed, Started, layer_above}
 use Rattle.grc_graph.specs.Neighbouring.{instances_in, names_in}
 use Rattle.grc_graph.specs.PlainGraphs.{instances_of, names_of, instance_at}
 use Rattle.grc_graph.specs.Rows as listed_rows
@@ -95,14 +95,15 @@ LastsSaid near (Trap p) n l x = x ≡ sources.Const true
 LastsSaid near (Local s p) n l x = x ≡ sources.Const true
 LastsSaid near (Awake e p) n l x = x ≡ sources.Const true
 
--- rows for a suspension, and none for other statements
-abbrev pub OwnFew : Option Expression → (old new : List Row) → Source → Type 0
-OwnFew None old new own = (length new ≤ length old) × (own ≡ sources.Const false)
-OwnFew (Some e) old new own = length new ≤ length old + operators e + 1
+-- rows for a resumed suspension, and none for other instances
+abbrev pub OwnFew : Option Expression → Layer → (old new : List Row) → Source → Type 0
+OwnFew None l old new own = (length new ≤ length old) × (own ≡ sources.Const false)
+OwnFew (Some e) Resumed old new own = length new ≤ length old + operators e + 1
+OwnFew (Some e) (Started r) old new own = (length new ≤ length old) × (own ≡ sources.Const false)
 
 pub record OwnMade (g : Graph) (x : Instance) (old new : List Row) (own : Source) : Type 0 where
   pub extends : Extends (late_bounds g 0) old new
-  pub few : OwnFew (test_of (statement_row g x.path).statement) old new own
+  pub few : OwnFew (test_of (statement_row g x.path).statement) x.layer old new own
   pub says : Says g (late_bounds g 0) new own
       (λ t. suspends (is_given t.event) t.valuation (statement_row g x.path).scope
       (statement_row g x.path).statement x.path x.layer)

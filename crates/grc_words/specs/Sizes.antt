@@ -1,12 +1,12 @@
 -- To believe: the greatest number of rows of a table of words.
-use Rattle.std.specs.Prelude.{ℕ, ◌+◌, Option, Some, None}
+use Rattle.std.specs.Prelude.{ℕ, ◌+◌, if◌then◌else◌, Option, Some, None}
 use Rattle.std.specs.List.{sum_by}
 use Rattle.est_kernel.specs.Plain.{program_of}
-use Rattle.est_kernel.specs.Preorder.{statement_count}
 use Rattle.est_kernel.specs.Terms.{Expression, Tick, Sig, Not, And, Or, Term, Nothing, Pause, Emit, Exit, Present}
 use Rattle.est_kernel.specs.Terms.{Suspend, Seq, Loop, Par, Trap, Local, Awake}
 use Rattle.grc_graph.specs.declared.graph.Graph.{Graph}
 use Rattle.grc_graph.specs.Instances.{Instance}
+use Rattle.grc_graph.specs.Layers.{Layer, Resumed, Started}
 use Rattle.grc_graph.specs.PlainGraphs.{instances_of}
 use Rattle.grc_graph.specs.Rows as listed_rows
 
@@ -37,16 +37,22 @@ operators (Not a) = operators a + 1
 operators (And a b) = operators a + operators b + 1
 operators (Or a b) = operators a + operators b + 1
 
--- An instance takes a row to say that it is kept. That of a suspension takes its test, and three more rows to say that
+-- An instance takes a row to say that it is kept. A resumed suspension takes its test, and three more rows to say that
 -- it is held: that it runs, that it is kept, and what is held around.
-abbrev pub rows_by : Option Expression → ℕ
-rows_by None = 1
-rows_by (Some e) = operators e + 4
+abbrev pub rows_by : Option Expression → Layer → ℕ
+rows_by None l = 1
+rows_by (Some e) Resumed = operators e + 4
+rows_by (Some e) (Started r) = 1
 
 abbrev pub instance_rows : Graph → Instance → ℕ
-instance_rows g x = rows_by (test_of (statement_row g x.path).statement)
+instance_rows g x = rows_by (test_of (statement_row g x.path).statement) x.layer
 
--- A row for each statement that says whether it holds a selected pause, those of the instances, and one to say that the
--- program pauses.
+-- A statement that may be resumed takes a row to say whether it holds a selected pause. No other holds one.
+abbrev pub selection_rows : listed_rows.Row → ℕ
+selection_rows r = if r.live.resumed then 1 else 0
+
+-- The rows of the statements, those of the instances, and one to say that the program pauses.
 abbrev pub rows_at_most : Graph → ℕ
-rows_at_most g = statement_count (program_of g.program).body + sum_by (instance_rows g) (instances_of g) + 1
+rows_at_most g =
+    sum_by selection_rows (listed_rows.program_rows (program_of g.program))
+    + sum_by (instance_rows g) (instances_of g) + 1

@@ -16,3 +16,11 @@ pub mod Composition
 pub mod Naming
 pub mod NetFacts
 pub mod NetRuns
+pub mod GateSums
+pub mod FormulaGates
+pub mod InstanceGates
+pub mod RowGates
+pub mod EmissionGates
+pub mod NextGates
+pub mod EquationGates
+pub mod SizeBounds

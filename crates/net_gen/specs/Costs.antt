@@ -2,12 +2,14 @@
 --
 -- A word or a constant has a net already. A negation needs one gate besides its part, and a conjunction or a
 -- disjunction one besides its parts.
-use Rattle.std.specs.Prelude.{ℕ, ◌+◌, suc, zero, true, List, length, slice_index_or}
+use Rattle.std.specs.Prelude.{ℕ, ◌+◌, ◌*◌, suc, zero, true, List, length, slice_index_or}
 use Rattle.std.specs.List.{sum_by}
 use Rattle.est_base.specs.declared.indices.WireId.{WireId}
+use Rattle.est_kernel.specs.Plain.{Program}
 use Rattle.grc_graph.specs.declared.formulas.Formula.{Formula}
 use Rattle.grc_graph.specs.declared.formulas.Formula.TheVariants as formulas
 use Rattle.grc_graph.specs.declared.graph.Graph.{Graph}
+use Rattle.grc_graph.specs.BuiltGraphs.{graph_size}
 
 -- the or of so many wires
 abbrev pub any_cost : ℕ → ℕ
@@ -38,3 +40,8 @@ wire_cost g v = cost_of (slice_index_or g.equations.items v.0 (formulas.Const tr
 abbrev pub gates_at_most : Graph → (rows : ℕ) → List WireId → ℕ
 gates_at_most g rows order =
     2 + length g.wires.items + rows + sum_by (wire_cost g) order + sum_by cost_of g.next.items
+
+-- For the graph of a program it is linear in what is counted of the graph: so many gates for each wire and each live
+-- test node.
+abbrev pub linear_bound : Program → ℕ
+linear_bound p = 15 * graph_size p

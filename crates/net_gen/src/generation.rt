@@ -5,6 +5,7 @@ ghost use Rattle.est_base.specs.declared.bounds.TheConstants.Limits.{WIRES};
 ghost use Rattle.est_kernel.specs.Plain.{program_of, term_of};
 ghost use Rattle.est_kernel.specs.StaticCodes.{NoInstantLoop};
 ghost use Rattle.est_kernel.specs.WellFormed.{IsWellFormed, HasNames};
+ghost use Rattle.grc_graph.specs.BuiltGraphs.{IsGraphOf};
 ghost use Rattle.grc_graph.specs.Instances.{body_instances};
 ghost use Rattle.grc_graph.specs.Neighbouring.{program_wires};
 ghost use Rattle.grc_graph.specs.PlainGraphs.{formula_of, instances_of, names_of};
@@ -14,7 +15,7 @@ ghost use Rattle.grc_graph.specs.TreeForms.{node_of};
 ghost use Rattle.net_ir.specs.Gates.{carried};
 ghost use Rattle.net_ir.specs.Runs.{netlist_of};
 ghost use Rattle.grc_words.specs.Sizes.{rows_at_most};
-ghost use Rattle.net_gen.specs.Costs.{gates_at_most};
+ghost use Rattle.net_gen.specs.Costs.{gates_at_most, linear_bound};
 ghost use Rattle.net_gen.specs.Generated.{HasInterfaceOf, FollowsInstants, FollowsRuns};
 
 use crate::assembly::net_over;
@@ -48,6 +49,8 @@ pub fn generate(
     ensures order { IfOk result (λ net. carried net.gates.items ≡ map (λ v. v.0) order.now.list.items) }
     ensures size { IfOk result (λ net. length net.gates.items
         ≤ gates_at_most graph.now (rows_at_most graph.now) order.now.list.items) }
+    ensures linear { IfOk result (λ net. IsGraphOf graph.now (program_of graph.now.program)
+        → length net.gates.items ≤ linear_bound (program_of graph.now.program)) }
     ensures instants { IfOk result (λ net. FollowsInstants graph.now (netlist_of net)) }
     ensures runs { IfOk result (λ net. FollowsRuns graph.now (netlist_of net)) }
 {

@@ -1,6 +1,6 @@
 use Rattle.std.proofs.Common.{◌-◌, ◌<◌, length, arith}
 use Rattle.est_kernel.specs.Plain.{term_of}
-use Rattle.grc_words.proofs.LeafChoices.{chosen-set, chosen-all, leaf-within, leaves-many}
+use Rattle.grc_words.proofs.LeafChoices.{chosen-set, chosen-all, leaf-within, leaf-resumed, leaves-many}
 use Rattle.grc_words.proofs.selected.leaf_sources.Goals as goal
 
 pub index_mut-requires : goal.index_mut-requires
@@ -24,6 +24,7 @@ loop-place-preserved-in-Leaf c =
     (omega arith) low c.index-node.ensures c.in-Leaf.is tree.numbered
     (omega (arith, leaves-many (term_of c.args.graph.now.program.body) nodes c.requires.tree, c.requires.leaves))
     (omega (arith, within, c.requires.count))
+    (leaf-resumed g nodes j c.in-Leaf.leaf c.index-node.result.now c.requires.tree low c.index-node.ensures c.in-Leaf.is)
 
 pub returns : goal.returns
 returns c =
