@@ -141,7 +141,7 @@ chosen-none g nodes count sources place end e =
           });
     }
 
-pub chosen-skip : (g : Graph) (nodes : List SelNode) (count : ℕ) (sources : List Source) (place j : ℕ) (x : SelNode) → ChosenFrom g nodes count sources place
+chosen-skip : (g : Graph) (nodes : List SelNode) (count : ℕ) (sources : List Source) (place j : ℕ) (x : SelNode) → ChosenFrom g nodes count sources place
     → place ≡ j + 1 → j < length nodes → x ≡ slice_index_or nodes j x → is_leaf x.form ≡ false → path_if_leaf (form_of x.form) x.path.0 ≡ []
     → ChosenFrom g nodes count sources j
 chosen-skip g nodes count sources place j x c e low read none empty = record {
@@ -150,6 +150,19 @@ chosen-skip g nodes count sources place j x c e low read none empty = record {
   says = λ n d h. says-is g (slice_index_or sources n d) _ _ (λ t.
       ap (λ i. chosen_from g nodes i t n) e ∙ sym (chosen-other g nodes j x t n low (sym read) none empty)) (c.says n d h);
 }
+
+other-form : (f : SelForm) (n : ℕ) → ((k : ℕ) → f ≡ forms.Leaf k → ⊥) → (is_leaf f ≡ false) × (path_if_leaf (form_of f) n ≡ [])
+other-form (forms.Leaf k) n h = absurd (h k refl)
+other-form forms.Excl n h = (refl, refl)
+other-form (forms.Par a b) n h = (refl, refl)
+other-form forms.Pass n h = (refl, refl)
+
+pub chosen-other-form : (g : Graph) (nodes : List SelNode) (count : ℕ) (sources : List Source) (place j : ℕ) (x : SelNode)
+    → ChosenFrom g nodes count sources place → place ≡ j + 1 → j < length nodes → x ≡ slice_index_or nodes j x
+    → ((k : ℕ) → x.form ≡ forms.Leaf k → ⊥) → ChosenFrom g nodes count sources j
+chosen-other-form g nodes count sources place j x c e low read other =
+    let form = other-form x.form x.path.0 other in
+    chosen-skip g nodes count sources place j x c e low read form.0 form.1
 
 pub chosen-set : (g : Graph) (nodes : List SelNode) (leaves count : ℕ) (sources : List Source) (place j k : ℕ) (x : SelNode) →
     ChosenFrom g nodes count sources place

@@ -223,8 +223,8 @@ select-one g rs sources place j s d m e r is =
 either-rows : (r : Row) (rs : List tables.Row) (a b : Source) → (r.live.resumed ≡ false → a ≡ Const false)
     → length (with_either rs a b) ≤ length rs + selection_rows r
 either-rows r rs a b off = elim (cases_Bool r.live.resumed) [
-  | inl yes ↦ let one : selection_rows r ≡ 1 = ap (λ v. if v then 1 else 0) yes in omega (arith, one, either-few rs a b)
-  | inr no ↦ let none : with_either rs a b ≡ rs = ap (λ y. with_either rs y b) (off no) in omega (arith, ap length none)
+  | inl may ↦ let one : selection_rows r ≡ 1 = ap (λ v. if v then 1 else 0) may in omega (arith, one, either-few rs a b)
+  | inr never_so ↦ let none : with_either rs a b ≡ rs = ap (λ y. with_either rs y b) (off never_so) in omega (arith, ap length none)
 ]
 
 pub select-two : (g : Graph) (rs new : List tables.Row) (sources : List Source) (place j k : ℕ) (s a b d : Source) → SelectedMade g sources rs place →

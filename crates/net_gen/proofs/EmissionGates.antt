@@ -119,7 +119,7 @@ not_behind b l x y before h g =
     let py : b ≡ y.path = eqb-true b y.path gy.0 in
     let lx : l ≡ x.layer = layers_same l x.layer hx.1 in
     let ly : l ≡ y.layer = layers_same l y.layer gy.1 in
-    ⊎_elim (λ less. omega (arith, less)) (λ same. layer_irrefl l (subst (λ j. LayerBefore l j) (sym ly)
+    ⊎_elim (λ less. omega (arith, less, px, py)) (λ same. layer_irrefl l (subst (λ j. LayerBefore l j) (sym ly)
     (subst (λ j. LayerBefore j y.layer) (sym lx) same.1))) before
 
 places_behind : (b : ℕ) (l : Layer) (x : Instance) (xs : List Instance) → All (Before x) xs → is_place b l x ≡ true
@@ -128,20 +128,20 @@ places_behind b l x [] h e = refl
 places_behind b l x (y ∷ ys) h e =
     let rest = places_behind b l x ys (All-tail (Before x) y ys h) e in
     elim (cases_Bool (is_place b l y)) [
-      | inl yes ↦ absurd (not_behind b l x y (All-head (Before x) y ys h) e yes)
-      | inr no ↦
-          let none : one_if (is_place b l y) ≡ 0 = ap one_if no in
+      | inl so ↦ absurd (not_behind b l x y (All-head (Before x) y ys h) e so)
+      | inr apart ↦
+          let none : one_if (is_place b l y) ≡ 0 = ap one_if apart in
           omega (arith, none, rest, sum_by-cons (λ z. one_if (is_place b l z)) y ys)
     ]
 
 places_once : (b : ℕ) (l : Layer) (xs : List Instance) → Ascends xs → sum_by (λ y. one_if (is_place b l y)) xs ≤ 1
 places_once b l [] h = omega arith
 places_once b l (x ∷ xs) h = elim (cases_Bool (is_place b l x)) [
-  | inl yes ↦
-      let one : one_if (is_place b l x) ≡ 1 = ap one_if yes in
-      omega (arith, one, places_behind b l x xs h.0 yes, sum_by-cons (λ y. one_if (is_place b l y)) x xs)
-  | inr no ↦
-      let none : one_if (is_place b l x) ≡ 0 = ap one_if no in
+  | inl so ↦
+      let one : one_if (is_place b l x) ≡ 1 = ap one_if so in
+      omega (arith, one, places_behind b l x xs h.0 so, sum_by-cons (λ y. one_if (is_place b l y)) x xs)
+  | inr apart ↦
+      let none : one_if (is_place b l x) ≡ 0 = ap one_if apart in
       omega (arith, none, places_once b l xs h.1, sum_by-cons (λ y. one_if (is_place b l y)) x xs)
 ]
 

@@ -3,7 +3,7 @@ use Rattle.std.proofs.Common.{◌≡◌, ℕ, zero, suc, ◌+◌, ◌*◌, ◌<�
 use Rattle.std.proofs.Common.{sym, ap, ◌∙◌, arith, inl, inr}
 use Rattle.std.specs.Prelude.{All, if◌then◌else◌}
 use Rattle.std.specs.List.{sum_by, count_by, flat_map}
-use Rattle.std.proofs.lemmas.Bool.{cases_eq, eq-eqb, ne_eqb}
+use Rattle.std.proofs.lemmas.Bool.{cases_eq, cases_Bool, eq-eqb, ne_eqb}
 use Rattle.std.proofs.lemmas.List.{take_all}
 use Rattle.std.proofs.lemmas.List.Concat.{flat_map-cons}
 use Rattle.std.proofs.lemmas.List.Elements.{All-head, All-tail}
@@ -85,45 +85,32 @@ total-list f xs d (suc n) h =
 -- what stands never, or once, is counted never, or once
 never_there : {X : Type 0} (p : X → Bool) (k : ℕ) (xs : List X) → count_by p xs ≡ 0 → sum_by (λ x. cond (p x) k 0) xs ≡ 0
 never_there p k [] h = refl
-never_there p k (x ∷ xs) h = by (p x) refl
-  where
-    by : (b : Bool) → p x ≡ b → sum_by (λ x. cond (p x) k 0) (x ∷ xs) ≡ 0
-    by true e =
-        let one : cond (p x) 1 0 ≡ 1 = ap (λ b. cond b 1 0) e in
-        absurd (omega (arith, one, sum_by-cons (λ y. cond (p y) 1 0) x xs))
-    by false e =
-        let one : cond (p x) 1 0 ≡ 0 = ap (λ b. cond b 1 0) e in
-        let mine : cond (p x) k 0 ≡ 0 = ap (λ b. cond b k 0) e in
-        omega (
-          arith,
-          mine,
-          sum_by-cons (λ y. cond (p y) k 0) x xs,
-          never_there p k xs (omega (arith, one, sum_by-cons (λ y. cond (p y) 1 0) x xs)),
-        )
+never_there p k (x ∷ xs) h =
+    let counted = sum_by-cons (λ y. cond (p y) 1 0) x xs in
+    let costs = sum_by-cons (λ y. cond (p y) k 0) x xs in
+    elim (cases_Bool (p x)) [
+      | inl so ↦ let one : cond (p x) 1 0 ≡ 1 = ap (λ b. cond b 1 0) so in absurd (omega (arith, one, counted))
+      | inr apart ↦
+          let none : cond (p x) 1 0 ≡ 0 = ap (λ b. cond b 1 0) apart in
+          let mine : cond (p x) k 0 ≡ 0 = ap (λ b. cond b k 0) apart in
+          omega (arith, mine, costs, never_there p k xs (omega (arith, none, counted)))
+    ]
 
 once_there : {X : Type 0} (p : X → Bool) (k : ℕ) (xs : List X) → count_by p xs ≡ 1 → sum_by (λ x. cond (p x) k 0) xs ≡ k
 once_there p k [] h = absurd (omega arith)
-once_there p k (x ∷ xs) h = by (p x) refl
-  where
-    by : (b : Bool) → p x ≡ b → sum_by (λ x. cond (p x) k 0) (x ∷ xs) ≡ k
-    by true e =
-        let one : cond (p x) 1 0 ≡ 1 = ap (λ b. cond b 1 0) e in
-        let mine : cond (p x) k 0 ≡ k = ap (λ b. cond b k 0) e in
-        omega (
-          arith,
-          mine,
-          sum_by-cons (λ y. cond (p y) k 0) x xs,
-          never_there p k xs (omega (arith, one, sum_by-cons (λ y. cond (p y) 1 0) x xs)),
-        )
-    by false e =
-        let one : cond (p x) 1 0 ≡ 0 = ap (λ b. cond b 1 0) e in
-        let mine : cond (p x) k 0 ≡ 0 = ap (λ b. cond b k 0) e in
-        omega (
-          arith,
-          mine,
-          sum_by-cons (λ y. cond (p y) k 0) x xs,
-          once_there p k xs (omega (arith, one, sum_by-cons (λ y. cond (p y) 1 0) x xs)),
-        )
+once_there p k (x ∷ xs) h =
+    let counted = sum_by-cons (λ y. cond (p y) 1 0) x xs in
+    let costs = sum_by-cons (λ y. cond (p y) k 0) x xs in
+    elim (cases_Bool (p x)) [
+      | inl so ↦
+          let one : cond (p x) 1 0 ≡ 1 = ap (λ b. cond b 1 0) so in
+          let mine : cond (p x) k 0 ≡ k = ap (λ b. cond b k 0) so in
+          omega (arith, mine, costs, never_there p k xs (omega (arith, one, counted)))
+      | inr apart ↦
+          let none : cond (p x) 1 0 ≡ 0 = ap (λ b. cond b 1 0) apart in
+          let mine : cond (p x) k 0 ≡ 0 = ap (λ b. cond b k 0) apart in
+          omega (arith, mine, costs, once_there p k xs (omega (arith, none, counted)))
+    ]
 
 by_number : (f : ℕ → ℕ) (order : List WireId) (n : ℕ) → All (λ w. w.0 < n) order
     → sum_by (λ v. f v.0) order ≡ total (λ i. sum_by (λ v. cond (v.0 == i) (f i) 0) order) n

@@ -1,6 +1,6 @@
 use Rattle.std.proofs.Common.{◌-◌, ◌<◌, length, arith}
 use Rattle.est_kernel.specs.Plain.{term_of}
-use Rattle.grc_words.proofs.LeafChoices.{chosen-set, chosen-all, leaf-within, leaf-resumed, leaves-many}
+use Rattle.grc_words.proofs.LeafChoices.{chosen-set, chosen-other-form, chosen-all, leaf-within, leaf-resumed, leaves-many}
 use Rattle.grc_words.proofs.selected.leaf_sources.Goals as goal
 
 pub index_mut-requires : goal.index_mut-requires
@@ -30,3 +30,10 @@ pub returns : goal.returns
 returns c =
     chosen-all c.args.graph.now c.args.tree.now.nodes.items c.args.count c.loop-place.sources.items c.loop-place.place c.requires.tree (omega arith)
     c.loop-place.invariant
+
+pub loop-place-preserved : goal.loop-place-preserved
+loop-place-preserved c =
+    let nodes = c.args.tree.now.nodes.items in
+    let low : c.loop-place.place - 1 < length nodes = omega (arith, c.args.tree.now.nodes.ok.0, c.len-place.ensures) in
+    chosen-other-form c.args.graph.now nodes c.args.count c.loop-place.sources.items c.loop-place.place (c.loop-place.place - 1) c.index-node.result.now
+    c.loop-place.invariant (omega arith) low c.index-node.ensures c.in_default.not-Leaf
