@@ -82,6 +82,9 @@ total-list f xs d (suc n) h =
 
 -- ---- a list of numbers below a bound, each once
 
+abbrev if_so : ℕ → Bool → ℕ
+if_so k b = cond b k 0
+
 -- what stands never, or once, is counted never, or once
 never_there : {X : Type 0} (p : X → Bool) (k : ℕ) (xs : List X) → count_by p xs ≡ 0 → sum_by (λ x. cond (p x) k 0) xs ≡ 0
 never_there p k [] h = refl
@@ -89,10 +92,10 @@ never_there p k (x ∷ xs) h =
     let counted = sum_by-cons (λ y. cond (p y) 1 0) x xs in
     let costs = sum_by-cons (λ y. cond (p y) k 0) x xs in
     elim (cases_Bool (p x)) [
-      | inl so ↦ let one : cond (p x) 1 0 ≡ 1 = ap (λ b. cond b 1 0) so in absurd (omega (arith, one, counted))
+      | inl so ↦ let one : if_so 1 (p x) ≡ 1 = ap (if_so 1) so in absurd (omega (arith, one, counted))
       | inr apart ↦
-          let none : cond (p x) 1 0 ≡ 0 = ap (λ b. cond b 1 0) apart in
-          let mine : cond (p x) k 0 ≡ 0 = ap (λ b. cond b k 0) apart in
+          let none : if_so 1 (p x) ≡ 0 = ap (if_so 1) apart in
+          let mine : if_so k (p x) ≡ 0 = ap (if_so k) apart in
           omega (arith, mine, costs, never_there p k xs (omega (arith, none, counted)))
     ]
 
@@ -103,12 +106,12 @@ once_there p k (x ∷ xs) h =
     let costs = sum_by-cons (λ y. cond (p y) k 0) x xs in
     elim (cases_Bool (p x)) [
       | inl so ↦
-          let one : cond (p x) 1 0 ≡ 1 = ap (λ b. cond b 1 0) so in
-          let mine : cond (p x) k 0 ≡ k = ap (λ b. cond b k 0) so in
+          let one : if_so 1 (p x) ≡ 1 = ap (if_so 1) so in
+          let mine : if_so k (p x) ≡ k = ap (if_so k) so in
           omega (arith, mine, costs, never_there p k xs (omega (arith, one, counted)))
       | inr apart ↦
-          let none : cond (p x) 1 0 ≡ 0 = ap (λ b. cond b 1 0) apart in
-          let mine : cond (p x) k 0 ≡ 0 = ap (λ b. cond b k 0) apart in
+          let none : if_so 1 (p x) ≡ 0 = ap (if_so 1) apart in
+          let mine : if_so k (p x) ≡ 0 = ap (if_so k) apart in
           omega (arith, mine, costs, once_there p k xs (omega (arith, none, counted)))
     ]
 
