@@ -1,5 +1,5 @@
 -- The emissions on all status wires: each instance emits on one of them at most.
-use Rattle.std.proofs.Common.{◌≡◌, ℕ, zero, suc, ◌+◌, ◌*◌, ◌<◌, ◌≤◌, Bool, true, false, ◌==◌, ◌&&◌, List, [], ◌∷◌, ◌++◌, length, map, refl, sym, ap, ◌∙◌}
+use Rattle.std.proofs.Common.{◌≡◌, ℕ, zero, suc, ◌+◌, ◌<◌, ◌≤◌, Bool, true, false, ◌==◌, ◌&&◌, List, [], ◌∷◌, ◌++◌, map, refl, sym, ap, ◌∙◌}
 use Rattle.std.proofs.Common.{subst, ⊎_elim, arith, Option, Some, None, inl, inr}
 use Rattle.std.specs.Prelude.{All, if◌then◌else◌}
 use Rattle.std.specs.List.{sum_by, flat_map, range_with_len}
@@ -9,18 +9,18 @@ use Rattle.std.proofs.lemmas.List.Sums.{sum_by-cons, sum_by-append, sum_by-le-su
 use Rattle.est_kernel.specs.Plain.{Program, interface_of, outgoing_count}
 use Rattle.est_kernel.specs.Terms.{Term, Nothing, Pause, Emit, Exit, Present, Suspend, Seq, Loop, Par, Trap, Local, Awake}
 use Rattle.est_kernel.specs.WellFormed.{IsKernel}
-use Rattle.grc_graph.specs.Equations.{emits_on, is_wire, emissions, instance_status}
+use Rattle.grc_graph.specs.Equations.{emits_on, is_wire, emissions}
 use Rattle.grc_graph.specs.Formulas.{Formula, Value}
 use Rattle.grc_graph.specs.GraphRuns.{program_spots}
 use Rattle.grc_graph.specs.Instances.{Instance, LayerBefore, Before, Ascends, body_instances}
 use Rattle.grc_graph.specs.Layers.{Layer, Resumed, Started, same_layer}
-use Rattle.grc_graph.specs.Rows.{Row, program_rows, row_at, spot_at}
+use Rattle.grc_graph.specs.Rows.{program_rows, row_at, spot_at}
 use Rattle.grc_graph.specs.Scopes.{Scope}
 use Rattle.grc_graph.specs.Spots.{Spot}
 use Rattle.grc_graph.specs.Wires.{Wire, Out, Go, StatusOf, End, same_wire, status_wire, own_status}
 use Rattle.grc_graph.proofs.LiveInstances.{instances_ascend_lem}
 use Rattle.grc_graph.proofs.RowSpots.{program_spots_by_row}
-use Rattle.net_gen.proofs.FormulaGates.{gates_of, joined, any_within}
+use Rattle.net_gen.proofs.FormulaGates.{joined}
 use Rattle.net_gen.proofs.GateSums.{sum_none, sum_mapped, sum_flat, sum_swap}
 use Rattle.net_gen.proofs.InstanceGates.{emit_gates}
 

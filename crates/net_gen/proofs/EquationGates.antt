@@ -1,5 +1,5 @@
 -- How many gates the equations of a program's graph need.
-use Rattle.std.proofs.Common.{◌≡◌, ℕ, zero, suc, ◌+◌, ◌*◌, ◌<◌, ◌≤◌, Bool, true, false, ◌==◌, List, [], ◌∷◌, ◌++◌, length, map, refl, sym, ap, ◌∙◌, subst, arith}
+use Rattle.std.proofs.Common.{◌≡◌, ℕ, zero, suc, ◌+◌, ◌*◌, ◌≤◌, Bool, true, false, ◌==◌, List, [], ◌∷◌, ◌++◌, length, map, refl, sym, ap, ◌∙◌, subst, arith}
 use Rattle.std.proofs.Common.{inl, inr, length-append}
 use Rattle.std.specs.Prelude.{if◌then◌else◌, nat_lt}
 use Rattle.std.specs.List.{sum_by, flat_map}
@@ -13,13 +13,13 @@ use Rattle.grc_graph.specs.Formulas.{Formula, Input, any_of}
 use Rattle.grc_graph.specs.GraphRuns.{program_spots}
 use Rattle.grc_graph.specs.Instances.{Instance, body_instances}
 use Rattle.grc_graph.specs.Layers.{Layer}
-use Rattle.grc_graph.specs.Rows.{Row, row_at, program_rows, spot_at}
+use Rattle.grc_graph.specs.Rows.{row_at, program_rows, spot_at}
 use Rattle.grc_graph.specs.Scopes.{Scope}
 use Rattle.grc_graph.specs.Spots.{Spot}
 use Rattle.grc_graph.specs.Wires.{Wire, Out, Go, StatusOf, End, codes_below, listed, instance_codes, own_status}
 use Rattle.grc_graph.proofs.RowSpots.{program_spots_by_row}
 use Rattle.net_gen.proofs.EmissionGates.{emitters, emissions_joined, emitters_once, once_at_most, status_wires, statuses_apart}
-use Rattle.net_gen.proofs.FormulaGates.{gates_of, joined, any_gates, any_within, entry_tests, entry_gates, end_gates, dear_code, dear_gates}
+use Rattle.net_gen.proofs.FormulaGates.{gates_of, any_gates, any_within, entry_tests, entry_gates, end_gates, dear_code, dear_gates}
 use Rattle.net_gen.proofs.GateSums.{sum_both, sum_mapped, sum_flat}
 use Rattle.net_gen.proofs.InstanceGates.{emit_gates}
 use Rattle.net_gen.proofs.RowGates.{Measure}
@@ -64,7 +64,9 @@ codes_cost f c d each (suc n) A =
     = ap length (below_suc n A) ∙ length-append (codes_below n A) last in
     let one : sum_by f last ≤ 13 * length last + (if n == c then d else 0) = if_code f n (if n == c then d else 0) (A n) (each n) in
     elim (cases_eq n c) [
-      | inl e ↦ record { within = omega (arith, costs, many, one, dear_once (n == c) d, h.before (omega (arith, e))); before = λ l. absurd (omega (arith, e)) }
+      | inl e ↦
+          let before = h.before (omega (arith, e)) in
+          record { within = omega (arith, costs, many, one, dear_once (n == c) d, before); before = λ l. absurd (omega (arith, e)) }
       | inr ne ↦
           let none : (if n == c then d else 0) ≡ 0 = ap (λ b. if b then d else 0) (ne_eqb n c ne) in
           record { within = omega (arith, costs, many, one, none, h.within); before = λ l. omega (arith, costs, many, one, none, h.before (omega arith)) }
@@ -166,7 +168,8 @@ program_equations p kernel =
     let H : Spot → ℕ = λ x. emit_gates x.statement + spot_cost x in
     let G : Instance → ℕ = λ y. equation_gates (row_at W y.path).statement (row_at W y.path).entry y.layer in
     let all = equations_within (given_count p) (interface_of p).outgoing (program_spots p) (statuses_apart p kernel) in
-    let rows : sum_by H (program_spots p) ≡ sum_by (λ y. H (spot_at W y)) insts = ap (sum_by H) (program_spots_by_row p kernel) ∙ sum_mapped H (spot_at W) insts in
+    let rows : sum_by H (program_spots p) ≡ sum_by (λ y. H (spot_at W y)) insts
+    = ap (sum_by H) (program_spots_by_row p kernel) ∙ sum_mapped H (spot_at W) insts in
     let each = sum_by-le-sum_by (λ y. H (spot_at W y)) G insts (λ y.
     let r = row_at W y.path in
     omega (arith, entry_gates r.scope r.entry y.path y.layer, ends_within r.scope r.statement y.path y.layer)) in

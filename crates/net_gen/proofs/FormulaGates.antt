@@ -1,5 +1,5 @@
 -- How many gates the formulas of a graph need, by names.
-use Rattle.std.proofs.Common.{◌≡◌, ℕ, zero, suc, ◌+◌, ◌*◌, ◌<◌, ◌≤◌, Bool, true, false, ◌==◌, List, [], ◌∷◌, ◌++◌, length, map, refl, sym, ap, ◌∙◌, arith}
+use Rattle.std.proofs.Common.{◌≡◌, ℕ, zero, suc, ◌+◌, ◌≤◌, Bool, true, false, ◌==◌, List, [], ◌∷◌, ◌++◌, length, map, refl, ap, arith}
 use Rattle.std.specs.Prelude.{if◌then◌else◌}
 use Rattle.est_kernel.specs.Preorder.{statement_count}
 use Rattle.est_kernel.specs.StaticCodes.{codes_if, has_code, started_codes, resumed_codes}
@@ -7,8 +7,7 @@ use Rattle.est_base.specs.Codes.{except}
 use Rattle.est_kernel.specs.Terms.{Expression, Tick, Sig, Not, And, Or, Term, Nothing, Pause, Emit, Exit, Present, Suspend, Seq, Loop, Par, Trap, Local, Awake}
 use Rattle.grc_graph.specs.declared.formulas.Formula as declared
 use Rattle.grc_graph.specs.declared.formulas.Formula.TheVariants as formulas
-use Rattle.grc_graph.specs.Equations.{part_end, trapped_ends, branch_over, branch_upto, branch_end, resumed_parallel, started_parallel, end_formula}
-use Rattle.grc_graph.specs.Equations.{kept_start, next_formula}
+use Rattle.grc_graph.specs.Equations.{part_end, trapped_ends, branch_over, resumed_parallel, end_formula}
 use Rattle.grc_graph.specs.Formulas.{Formula, Const, Boot, Input, Value, Selected, Upto, Kept, Held, Negation, Conjunction, Disjunction, any_of}
 use Rattle.grc_graph.specs.Instances.{Instance}
 use Rattle.grc_graph.specs.Layers.{Layer, Resumed, Started, can_pass}
@@ -217,8 +216,8 @@ end_gates B (Seq p q) n Resumed k =
     omega (
       arith,
       three_gates (part_end (except 0 (resumed_codes p)) (n + 1) Resumed k) (part_end (codes_if (can_pass p) (resumed_codes q)) m Resumed k)
-      (part_end (codes_if (resumed_codes p 0) (started_codes q)) m (Started m) k) (part_gates (except 0 (resumed_codes p)) (n + 1) Resumed k)
-      (part_gates (codes_if (can_pass p) (resumed_codes q)) m Resumed k) (part_gates (codes_if (resumed_codes p 0) (started_codes q)) m (Started m) k),
+          (part_end (codes_if (resumed_codes p 0) (started_codes q)) m (Started m) k) (part_gates (except 0 (resumed_codes p)) (n + 1) Resumed k)
+          (part_gates (codes_if (can_pass p) (resumed_codes q)) m Resumed k) (part_gates (codes_if (resumed_codes p 0) (started_codes q)) m (Started m) k),
     )
 end_gates B (Seq p q) n (Started r) k =
     omega (

@@ -1,13 +1,13 @@
 -- How many gates an instance needs: for each of its wires the gate that carries it and a run of ends, its formulas, its
 -- rows in the table of words, and its part in the formulas of others.
-use Rattle.std.proofs.Common.{◌≡◌, ℕ, ◌+◌, ◌*◌, ◌≤◌, List, [], ◌∷◌, ◌++◌, length, map, refl, ap, ◌∙◌, arith, length-append}
+use Rattle.std.proofs.Common.{◌≡◌, ℕ, ◌+◌, ◌*◌, ◌≤◌, length, map, refl, arith, length-append}
 use Rattle.std.proofs.lemmas.List.{length-map}
 use Rattle.est_kernel.specs.Sizes.{test_size}
 use Rattle.est_kernel.specs.Terms.{Expression, Tick, Sig, Not, And, Or, Term, Nothing, Pause, Emit, Exit, Present, Suspend, Seq, Loop, Par, Trap, Local, Awake}
 use Rattle.grc_graph.specs.BuiltGraphs.{live_tests}
 use Rattle.grc_graph.specs.Layers.{Layer, Resumed, Started}
 use Rattle.grc_graph.specs.Statements.{Entry}
-use Rattle.grc_graph.specs.Wires.{Go, End, listed, instance_codes, own_status, instance_wires}
+use Rattle.grc_graph.specs.Wires.{End, listed, instance_codes, own_status, instance_wires}
 use Rattle.grc_words.specs.Sizes.{operators, test_of, rows_by}
 use Rattle.net_gen.proofs.FormulaGates.{where_started, where_resumed, entry_tests, dear_gates}
 

@@ -1,6 +1,6 @@
 -- The netlist of a program's graph has at most 15 gates for each wire and each live test node.
-use Rattle.std.proofs.Common.{◌≡◌, ℕ, ◌+◌, ◌*◌, ◌<◌, ◌≤◌, Bool, true, false, List, [], ◌∷◌, ◌++◌, length, map, take, get_or, refl, sym, ap, ◌∙◌, subst, arith, length-append}
-use Rattle.std.specs.Prelude.{All, Contains, if◌then◌else◌, zip}
+use Rattle.std.proofs.Common.{◌≡◌, ℕ, ◌+◌, ◌*◌, ◌<◌, ◌≤◌, Bool, true, false, List, [], ◌∷◌, ◌++◌, length, map, get_or, refl, sym, ap, ◌∙◌, arith, length-append}
+use Rattle.std.specs.Prelude.{if◌then◌else◌, zip}
 use Rattle.std.specs.List.{sum_by, flat_map}
 use Rattle.std.proofs.lemmas.List.{length-map, take_all}
 use Rattle.std.proofs.lemmas.List.FromFn.{length-map-range_with_len}
@@ -18,7 +18,7 @@ use Rattle.grc_graph.specs.Equations.{Equation, equations, next_formula}
 use Rattle.grc_graph.specs.Formulas.{Formula}
 use Rattle.grc_graph.specs.GraphRuns.{PlainGraph, program_spots, program_wires}
 use Rattle.grc_graph.specs.Instances.{Instance, body_instances}
-use Rattle.grc_graph.specs.Layers.{Layer, Resumed, Started, layers_of, body_layers, body_liveness}
+use Rattle.grc_graph.specs.Layers.{Layer, Resumed, Started, body_layers, body_liveness}
 use Rattle.grc_graph.specs.PlainGraphs.{formula_of, instances_of, names_of, wire_of}
 use Rattle.grc_graph.specs.Reads.{IsReadingOrder}
 use Rattle.grc_graph.specs.Rows.{Row, row_at, program_rows, spot_at, live_in}
@@ -26,9 +26,8 @@ use Rattle.grc_graph.specs.Scopes.{program_scope}
 use Rattle.grc_graph.specs.SelectionTrees.{body_leaves}
 use Rattle.grc_graph.specs.Spots.{Spot}
 use Rattle.grc_graph.specs.Statements.{Body}
-use Rattle.grc_graph.specs.Wires.{Wire, Out, listed, instance_codes}
+use Rattle.grc_graph.specs.Wires.{Wire, Out}
 use Rattle.grc_graph.proofs.CodeReads.{stands_whole}
-use Rattle.grc_graph.proofs.LiveInstances.{at_layer}
 use Rattle.grc_graph.proofs.RowFacts.{statement_count-pos}
 use Rattle.grc_graph.proofs.RowSpots.{row_read, program_spots_by_row}
 use Rattle.grc_graph.proofs.WireFilling.{row_wires, outs_of, program_wires_by_row}
