@@ -65,8 +65,8 @@ codes_cost f c d each (suc n) A =
     let one : sum_by f last ≤ 13 * length last + (if n == c then d else 0) = if_code f n (if n == c then d else 0) (A n) (each n) in
     elim (cases_eq n c) [
       | inl e ↦
-          let before = h.before (omega (arith, e)) in
-          record { within = omega (arith, costs, many, one, dear_once (n == c) d, before); before = λ l. absurd (omega (arith, e)) }
+          let low : n ≤ c = omega (arith, e) in
+          record { within = omega (arith, costs, many, one, dear_once (n == c) d, h.before low); before = λ l. absurd (omega (arith, e)) }
       | inr ne ↦
           let none : (if n == c then d else 0) ≡ 0 = ap (λ b. if b then d else 0) (ne_eqb n c ne) in
           record { within = omega (arith, costs, many, one, none, h.within); before = λ l. omega (arith, costs, many, one, none, h.before (omega arith)) }
@@ -79,10 +79,7 @@ ends_within : (B : Scope) (t : Term) (n : ℕ) (l : Layer) → ends_sum B t n l 
 ends_within B t n l =
     let f : ℕ → ℕ = λ k. gates_of (end_formula B t n l k) in
     subst (λ ks. sum_by f ks ≤ 13 * length ks + dear_gates t l) (sym (listed_below (instance_codes t l)))
-    (within_of f (dear_code t) (dear_gates t l) 64 (instance_codes t l) (codes_cost f (dear_code t) (dear_gates t l) (end_gates B t n l) 64 (instance_codes t l)))
-  where
-    within_of : (f : ℕ → ℕ) (c d n : ℕ) (A : ℕ → Bool) → CodesCost f c d n A → sum_by f (codes_below n A) ≤ 13 * length (codes_below n A) + d
-    within_of f c d n A h = h.within
+    (codes_cost f (dear_code t) (dear_gates t l) (end_gates B t n l) 64 (instance_codes t l)).within
 
 -- ---- all equations
 
