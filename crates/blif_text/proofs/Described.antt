@@ -4,24 +4,18 @@ use Rattle.std.proofs.Common.{arith, Option, Some, None, Result, Ok, Err, append
 use Rattle.std.specs.Prelude.{flat_map, filter_map, find, option_map, nat_le, if◌then◌else◌, codes}
 use Rattle.std.specs.List.{AllByRecursion}
 use Rattle.std.specs.Cmp.Lexicographic.{nat_list_eq_equiv}
-use lib.Pointwise.{bytes_decides}
 use Rattle.std.proofs.lemmas.List.Folds.{list_any-append}
 use Rattle.std.proofs.lemmas.Bool.{both_ways, and_parts, or_parts, or_from, and_from, leb-true, not-true, not_from_false}
 use Rattle.est_base.specs.Names.{is_same_name}
 use Rattle.est_base.specs.Distinct.{all_differ, none_shared}
 use Rattle.net_ir.proofs.Building.{all_differ-append}
+use Rattle.net_ir.proofs.NumberedNames.{same-refl, same-eq}
 use Rattle.blif_text.specs.Lines.{Line, is_clean, words, read_lines}
 use Rattle.blif_text.specs.Statements.{Statement, Model, Inputs, Outputs, Latch, Names, Row, End, Said, said, said_in, said_by, statement_of}
 use Rattle.blif_text.specs.Statements.{model_of, latch_of, names_of, name_before, table_of, end_of, table_row, bit_of, cells_of}
 use Rattle.blif_text.specs.Circuits.{Circuit, CircuitLatch, circuit_of, inputs_in, outputs_in, latches_in, tables_of, driven_by, used_by, is_among}
 use Rattle.blif_text.specs.Circuits.{first_again, driven_again, not_driven, reading, statements, unless, Fault}
 use Rattle.blif_text.specs.Runs.{driven_names}
-
-same-refl : (x : List ℕ) → is_same_name x x ≡ true
-same-refl x = (bytes_decides x x).1 refl
-
-same-eq : (x y : List ℕ) → is_same_name x y ≡ true → x ≡ y
-same-eq x y = (bytes_decides x y).0
 
 -- ---- a list of names in which none stands again
 

@@ -1,6 +1,5 @@
 mod WorkedTexts
 mod PlainWords
-pub mod Numbered
 pub mod NameSets
 pub mod FirstLines
 pub mod FirstWords

@@ -14,8 +14,9 @@ use Rattle.blif_text.specs.declared.pieces.Place.TheVariants as places
 use Rattle.blif_text.specs.Circuits.{Table, is_among}
 use Rattle.blif_text.specs.Statements.{Statement, Model, Outputs, End}
 use Rattle.blif_text.specs.Spelled.{text_of, line_text, spelled, table_statements, latch_statement, inputs_statements}
-use Rattle.blif_text.specs.Written.{output_word, paused_word, input_table, gate_table, output_table, copy_table, net_word, net_latch, numbered, written}
+use Rattle.blif_text.specs.Written.{output_word, paused_word, input_table, gate_table, output_table, copy_table, net_word, net_latch, written}
 use Rattle.blif_text.specs.Written.{given_outputs}
+use Rattle.net_ir.specs.Numbered.{numbered}
 use Rattle.blif_text.specs.Places.{text_from, parts_from, Moves, first_lines, inputs_start, inputs_end, outputs_end, last_lines, from_input_names}
 use Rattle.blif_text.specs.Places.{from_output_names, from_latches, from_inputs, from_gates, from_outputs}
 

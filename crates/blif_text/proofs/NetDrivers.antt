@@ -1,60 +1,32 @@
 -- The names that a net's circuit drives: no two are one.
-use Rattle.std.proofs.Common.{◌≡◌, ◌≢◌, ℕ, ◌+◌, ◌<◌, ◌≤◌, ◌^◌, Bool, true, false, not, ◌==◌, ◌||◌, List, [], ◌∷◌, ◌++◌, length, map, get_or, refl, sym, ap}
-use Rattle.std.proofs.Common.{◌∙◌, arith, Option, Some, None, nat_eq, IsTrue, All}
-use Rattle.std.specs.Prelude.{option_map, filter_map, decimal, IfSome, codes, if◌then◌else◌}
-use Rattle.std.specs.List.{list_all, list_any, cons_option}
+use Rattle.std.proofs.Common.{◌≡◌, ◌≢◌, ℕ, ◌+◌, Bool, true, false, not, ◌==◌, ◌||◌, List, [], ◌∷◌, ◌++◌, map, get_or, refl, sym, ap}
+use Rattle.std.proofs.Common.{◌∙◌, arith, Option, Some, None, IsTrue, All}
+use Rattle.std.specs.Prelude.{codes, if◌then◌else◌}
+use Rattle.std.specs.List.{list_all, list_any}
 use lib.Pointwise.{bytes_decides}
-use Rattle.std.proofs.lemmas.List.Folds.{list_any-append, list_all-append}
-use Rattle.std.proofs.lemmas.Bool.{both_ways, and_parts, or_parts, and_from, or_from, or_left, not-true, false_from_ne_true, not_from_false, ne_eqb, eqb-false}
+use Rattle.std.proofs.lemmas.List.Folds.{list_all-append}
+use Rattle.std.proofs.lemmas.Bool.{both_ways, and_parts, or_parts, and_from, or_from, or_left, not-true, not_from_false, ne_eqb}
 use Rattle.std.proofs.Math.Bool.{and-false}
-use Rattle.std.proofs.lemmas.List.{map-append, length-map, append_cancel_right}
+use Rattle.std.proofs.lemmas.List.{map-append, append_cancel_right}
 use Rattle.std.proofs.lemmas.List.Elements.{All-tail, All-map}
-use Rattle.std.proofs.lemmas.Fmt.{decimal_injective}
 use Rattle.est_base.specs.declared.indices.WireId.{WireId}
 use Rattle.net_ir.specs.declared.netlist.Gate.{Gate}
 use Rattle.net_ir.specs.declared.netlist.NetOut.{NetOut}
 use Rattle.net_ir.specs.declared.netlist.Latch.{Latch}
-use Rattle.est_base.specs.Distinct.{all_differ, none_shared}
+use Rattle.est_base.specs.Distinct.{all_differ}
 use Rattle.est_base.specs.Names.{is_letter, is_digit, is_name, is_name_byte, is_same_name}
-use Rattle.net_ir.specs.Gates.{carried}
 use Rattle.net_ir.specs.Netlists.{Netlist}
-use Rattle.net_ir.proofs.Building.{all_differ-append}
 use Rattle.blif_text.specs.Circuits.{CircuitLatch, Table, is_among}
 use Rattle.blif_text.specs.Runs.{driven_names}
-use Rattle.blif_text.specs.Written.{output_word, input_word, latch_word, gate_word, net_word, paused_word, numbered, net_latch, copy_table, input_table}
+use Rattle.blif_text.specs.Written.{output_word, input_word, latch_word, gate_word, net_word, paused_word, net_latch, copy_table, input_table}
 use Rattle.blif_text.specs.Written.{gate_table, output_table, net_tables, net_circuit}
-use Rattle.blif_text.proofs.Numbered.{list_all-from_All, All-numbered, map-numbered}
 use Rattle.blif_text.proofs.RoundTrip.{none_shared-front, none_shared-nil}
-use Rattle.blif_text.proofs.NetNames.{IsWritable, shown_words, input_words, latch_words, gate_words}
-
--- ---- names that differ
-
-differ : (x y : List ℕ) → (x ≢ y) → is_same_name x y ≡ false
-differ x y ne = false_from_ne_true (is_same_name x y) (λ same. ne ((bytes_decides x y).0 same))
-
-differ-decimal : (m n : ℕ) → m < 2 ^ 64 → n < 2 ^ 64 → (m ≢ n) → is_same_name (decimal m) (decimal n) ≡ false
-differ-decimal m n a b ne = differ (decimal m) (decimal n) (λ e. ne (decimal_injective m n a b e))
-
-abbrev Apart : List (List ℕ) → List (List ℕ) → Type 0
-Apart xs ys = none_shared is_same_name xs ys ≡ true
-
-apart-left : (xs ys zs : List (List ℕ)) → Apart xs zs → Apart ys zs → Apart (xs ++ ys) zs
-apart-left [] ys zs a b = b
-apart-left (x ∷ xs) ys zs a b =
-    let parts = and_parts (not (list_any (is_same_name x) zs)) (none_shared is_same_name xs zs) a in
-    and_from (not (list_any (is_same_name x) zs)) (none_shared is_same_name (xs ++ ys) zs) parts.0 (apart-left xs ys zs parts.1 b)
-
-apart-right : (xs ys zs : List (List ℕ)) → Apart xs ys → Apart xs zs → Apart xs (ys ++ zs)
-apart-right [] ys zs a b = refl
-apart-right (x ∷ xs) ys zs a b =
-    let y = and_parts (not (list_any (is_same_name x) ys)) (none_shared is_same_name xs ys) a in
-    let z = and_parts (not (list_any (is_same_name x) zs)) (none_shared is_same_name xs zs) b in
-    rw (list_any-append (is_same_name x) ys zs, not-true (list_any (is_same_name x) ys) y.0, not-true (list_any (is_same_name x) zs) z.0)
-    (apart-right xs ys zs y.1 z.1)
-
-joined-differ : (xs ys : List (List ℕ)) → all_differ is_same_name xs ≡ true → Apart xs ys → all_differ is_same_name ys ≡ true
-    → all_differ is_same_name (xs ++ ys) ≡ true
-joined-differ xs ys a b c = all_differ-append is_same_name xs ys ∙ rw (a, b, c) refl
+use Rattle.blif_text.proofs.NetNames.{shown_words, input_words, latch_words, gate_words}
+use Rattle.net_ir.proofs.Numbered.{list_all-from_All, All-numbered, map-numbered}
+use Rattle.net_ir.specs.Numbered.{numbered}
+use Rattle.net_ir.specs.Writing.{IsWritable}
+use Rattle.net_ir.proofs.NumberedNames.{Apart, TellsGates, apart-by, apart-left, apart-right, differ, differ-decimal}
+use Rattle.net_ir.proofs.NumberedNames.{gates-differ, joined-differ, numbered-differ}
 
 -- ---- the second letter tells the kinds of names apart
 
@@ -63,25 +35,6 @@ abbrev mark : List ℕ → ℕ
 mark [] = 0
 mark (c ∷ []) = 0
 mark (c ∷ d ∷ cs) = if c == 95 then d else 0
-
-mark-same : (x y : List ℕ) → x ≡ y → mark x ≡ mark y
-mark-same x y e = ap mark e
-
-differ-marks : (p : ℕ → Bool) (x : List ℕ) (ys : List (List ℕ)) → p (mark x) ≡ true → list_all (λ y. not (p (mark y))) ys ≡ true
-    → list_any (is_same_name x) ys ≡ false
-differ-marks p x [] here others = refl
-differ-marks p x (y ∷ ys) here others =
-    let parts = and_parts (not (p (mark y))) (list_all (λ z. not (p (mark z))) ys) others in
-    or_from (is_same_name x y) (list_any (is_same_name x) ys)
-    (differ x y (λ e. both_ways (p (mark y)) (not-true (p (mark y)) parts.0) (ap (λ z. p (mark z)) (sym e) ∙ here)))
-    (differ-marks p x ys here parts.1)
-
-apart-marks : (p : ℕ → Bool) (xs ys : List (List ℕ)) → list_all (λ x. p (mark x)) xs ≡ true → list_all (λ y. not (p (mark y))) ys ≡ true → Apart xs ys
-apart-marks p [] ys here others = refl
-apart-marks p (x ∷ xs) ys here others =
-    let parts = and_parts (p (mark x)) (list_all (λ z. p (mark z)) xs) here in
-    and_from (not (list_any (is_same_name x) ys)) (none_shared is_same_name xs ys)
-    (not_from_false (list_any (is_same_name x) ys) (differ-marks p x ys parts.0 others)) (apart-marks p xs ys parts.1 others)
 
 mark-name : (name : List ℕ) → is_name name ≡ true → mark name ≡ 0
 mark-name [] fits = refl
@@ -130,76 +83,9 @@ marks-gate_words net p g w = list_all-from_All (λ x. p (mark x)) (gate_words ne
 
 -- ---- within one kind the numbers differ
 
--- names that are made of different numbers differ
-abbrev TellsNumbers : (ℕ → List ℕ) → Type 0
-TellsNumbers w = (m n : ℕ) → m < 2 ^ 64 → n < 2 ^ 64 → (m ≢ n) → is_same_name (w m) (w n) ≡ false
-
-not_later : {X : Type 0} (w : ℕ → List ℕ) → TellsNumbers w → (m n : ℕ) (xs : List X) → m < n → n + length xs ≤ 2 ^ 64
-    → list_any (is_same_name (w m)) (numbered (λ j x. w j) n xs) ≡ false
-not_later w tells m n [] low few = refl
-not_later w tells m n (x ∷ xs) low few =
-    or_from (is_same_name (w m) (w n)) (list_any (is_same_name (w m)) (numbered (λ j x. w j) (n + 1) xs))
-    (tells m n (omega arith) (omega arith) (omega arith)) (not_later w tells m (n + 1) xs (omega arith) (omega arith))
-
-numbered-differ : {X : Type 0} (w : ℕ → List ℕ) → TellsNumbers w → (n : ℕ) (xs : List X) → n + length xs ≤ 2 ^ 64
-    → all_differ is_same_name (numbered (λ j x. w j) n xs) ≡ true
-numbered-differ w tells n [] few = refl
-numbered-differ w tells n (x ∷ xs) few =
-    and_from (not (list_any (is_same_name (w n)) (numbered (λ j x. w j) (n + 1) xs))) (all_differ is_same_name (numbered (λ j x. w j) (n + 1) xs))
-    (not_from_false _ (not_later w tells n (n + 1) xs (omega arith) (omega arith))) (numbered-differ w tells (n + 1) xs (omega arith))
-
--- gates by the wires that they carry
-abbrev wire_numbers : List (Option WireId) → List ℕ
-wire_numbers wires = filter_map (λ wire. option_map (λ w. w.0) wire) wires
-
-abbrev AllFit : List (Option WireId) → Type 0
-AllFit wires = All (λ wire. IfSome wire (λ w. w.0 < 2 ^ 32)) wires
-
-gate-differ : (m n : ℕ) (wire : Option WireId) → m < 2 ^ 64 → n < 2 ^ 64 → (m ≢ n) → is_same_name (gate_word m None) (gate_word n wire) ≡ false
-gate-differ m n None a b ne = differ-decimal m n a b ne
-gate-differ m n (Some w) a b ne = refl
-
-no_later_gate : (m n : ℕ) (wires : List (Option WireId)) → m < n → n + length wires ≤ 2 ^ 64
-    → list_any (is_same_name (gate_word m None)) (numbered gate_word n wires) ≡ false
-no_later_gate m n [] low few = refl
-no_later_gate m n (wire ∷ wires) low few =
-    or_from (is_same_name (gate_word m None) (gate_word n wire)) (list_any (is_same_name (gate_word m None)) (numbered gate_word (n + 1) wires))
-    (gate-differ m n wire (omega arith) (omega arith) (omega arith)) (no_later_gate m (n + 1) wires (omega arith) (omega arith))
-
-no_later_wire : (w : WireId) (m n : ℕ) (wires : List (Option WireId)) → w.0 < 2 ^ 32 → AllFit wires → list_any (nat_eq w.0) (wire_numbers wires) ≡ false
-    → list_any (is_same_name (gate_word m (Some w))) (numbered gate_word n wires) ≡ false
-no_later_wire w m n [] small fit none = refl
-no_later_wire w m n (None ∷ wires) small fit none =
-    no_later_wire w m (n + 1) wires small (All-tail (λ wire. IfSome wire (λ v. v.0 < 2 ^ 32)) None wires fit) none
-no_later_wire w m n (Some v ∷ wires) small fit none =
-    let parts = or_parts (nat_eq w.0 v.0) (list_any (nat_eq w.0) (wire_numbers wires)) none in
-    let v_fits : v.0 < 2 ^ 32 = fit 0 (Some v) (omega arith) in
-    or_from (is_same_name (decimal w.0) (decimal v.0)) (list_any (is_same_name (gate_word m (Some w))) (numbered gate_word (n + 1) wires))
-    (differ-decimal w.0 v.0 (omega arith) (omega arith) (eqb-false w.0 v.0 parts.0))
-    (no_later_wire w m (n + 1) wires small (All-tail (λ wire. IfSome wire (λ u. u.0 < 2 ^ 32)) (Some v) wires fit) parts.1)
-
-wires-differ : (n : ℕ) (wires : List (Option WireId)) → n + length wires ≤ 2 ^ 64 → AllFit wires → all_differ nat_eq (wire_numbers wires) ≡ true
-    → all_differ is_same_name (numbered gate_word n wires) ≡ true
-wires-differ n [] few fit once = refl
-wires-differ n (None ∷ wires) few fit once =
-    and_from (not (list_any (is_same_name (gate_word n None)) (numbered gate_word (n + 1) wires))) (all_differ is_same_name (numbered gate_word (n + 1) wires))
-    (not_from_false _ (no_later_gate n (n + 1) wires (omega arith) (omega arith)))
-    (wires-differ (n + 1) wires (omega arith) (All-tail (λ wire. IfSome wire (λ u. u.0 < 2 ^ 32)) None wires fit) once)
-wires-differ n (Some w ∷ wires) few fit once =
-    let parts = and_parts (not (list_any (nat_eq w.0) (wire_numbers wires))) (all_differ nat_eq (wire_numbers wires)) once in
-    let rest = All-tail (λ wire. IfSome wire (λ u. u.0 < 2 ^ 32)) (Some w) wires fit in
-    and_from (not (list_any (is_same_name (gate_word n (Some w))) (numbered gate_word (n + 1) wires)))
-    (all_differ is_same_name (numbered gate_word (n + 1) wires))
-    (not_from_false _ (no_later_wire w n (n + 1) wires (fit 0 (Some w) (omega arith)) rest (not-true _ parts.0)))
-    (wires-differ (n + 1) wires (omega arith) rest parts.1)
-
-numbered-of_map : {X Y Z : Type 0} (f : ℕ → Y → Z) (g : X → Y) (n : ℕ) (xs : List X) → numbered (λ k x. f k (g x)) n xs ≡ numbered f n (map g xs)
-numbered-of_map f g n [] = refl
-numbered-of_map f g n (x ∷ xs) = ap (λ l. f n (g x) ∷ l) (numbered-of_map f g (n + 1) xs)
-
-carried-wires : (gates : List Gate) → carried gates ≡ wire_numbers (map (λ g. g.wire) gates)
-carried-wires [] = refl
-carried-wires (g ∷ gates) = ap (cons_option (option_map (λ (w : WireId). w.0) g.wire)) (carried-wires gates)
+-- the names of gates, by their numbers or by their wires
+tells-gates : TellsGates gate_word
+tells-gates = record { numbers = λ m n a b ne. differ-decimal m n a b ne; kinds = λ m n v. refl; wires = λ m n u v a b ne. differ-decimal u.0 v.0 a b ne }
 
 differ-inputs : (net : Netlist) → IsWritable net → all_differ is_same_name (input_words net) ≡ true
 differ-inputs net is =
@@ -210,13 +96,7 @@ differ-latches net is =
     let few = is.is_net.numbered in numbered-differ latch_word differ-decimal 0 net.latches (omega arith)
 
 differ-gates : (net : Netlist) → IsWritable net → all_differ is_same_name (gate_words net) ≡ true
-differ-gates net is =
-    let few = is.is_net.numbered in
-    let wires = map (λ (g : Gate). g.wire) net.gates in
-    let once : all_differ nat_eq (wire_numbers wires) ≡ true = ap (all_differ nat_eq) (sym (carried-wires net.gates)) ∙ is.is_net.carries_once in
-    let fit = All-map (λ (wire : Option WireId). IfSome wire (λ w. w.0 < 2 ^ 32)) (λ (g : Gate). g.wire) net.gates is.wires_fit in
-    ap (all_differ is_same_name) (numbered-of_map gate_word (λ (g : Gate). g.wire) 0 net.gates)
-    ∙ wires-differ 0 wires (omega (arith, length-map net.gates (λ (g : Gate). g.wire))) fit once
+differ-gates net is = gates-differ gate_word tells-gates net is
 
 -- ---- the names of outputs
 
@@ -340,13 +220,13 @@ tables-differ net is =
     let inputs = input_words net in
     let gates = gate_words net in
     let outputs = outputs_of net in
-    let ig = apart-marks (λ m. m == 105) inputs gates (marks-input_words net (λ m. m == 105) refl) (marks-gate_words net (λ m. not (m == 105)) refl refl) in
-    let io = apart-marks (λ m. m == 105) inputs outputs (marks-input_words net (λ m. m == 105) refl) (marks-outputs net is (λ m. not (m == 105)) refl) in
-    let go = apart-marks (λ m. m == 103 || m == 119) gates outputs (marks-gate_words net (λ m. m == 103 || m == 119) refl refl)
+    let ig = apart-by mark (λ m. m == 105) inputs gates (marks-input_words net (λ m. m == 105) refl) (marks-gate_words net (λ m. not (m == 105)) refl refl) in
+    let io = apart-by mark (λ m. m == 105) inputs outputs (marks-input_words net (λ m. m == 105) refl) (marks-outputs net is (λ m. not (m == 105)) refl) in
+    let go = apart-by mark (λ m. m == 103 || m == 119) gates outputs (marks-gate_words net (λ m. m == 103 || m == 119) refl refl)
     (marks-outputs net is (λ m. not (m == 103 || m == 119)) refl) in
-    let ip = apart-marks (λ m. not (m == 112)) inputs (paused_word ∷ []) (marks-input_words net (λ m. not (m == 112)) refl) refl in
-    let gp = apart-marks (λ m. not (m == 112)) gates (paused_word ∷ []) (marks-gate_words net (λ m. not (m == 112)) refl refl) refl in
-    let op = apart-marks (λ m. not (m == 112)) outputs (paused_word ∷ []) (marks-outputs net is (λ m. not (m == 112)) refl) refl in
+    let ip = apart-by mark (λ m. not (m == 112)) inputs (paused_word ∷ []) (marks-input_words net (λ m. not (m == 112)) refl) refl in
+    let gp = apart-by mark (λ m. not (m == 112)) gates (paused_word ∷ []) (marks-gate_words net (λ m. not (m == 112)) refl refl) refl in
+    let op = apart-by mark (λ m. not (m == 112)) outputs (paused_word ∷ []) (marks-outputs net is (λ m. not (m == 112)) refl) refl in
     let both = joined-differ inputs gates (differ-inputs net is) ig (differ-gates net is) in
     let three = joined-differ (inputs ++ gates) outputs both (apart-left inputs gates outputs io go)
     (words-differ net.inputs net.outputs is.is_net.output_names_fit is.is_net.outputs_differ) in
@@ -357,17 +237,17 @@ pub names-differ : (net : Netlist) → IsWritable net → all_differ is_same_nam
 names-differ net is =
     let latches = latch_words net in
     let lt = apart-tables net is latches
-    (apart-marks (λ m. m == 115) latches (input_words net) (marks-latch_words net (λ m. m == 115) refl) (marks-input_words net (λ m. not (m == 115)) refl))
-    (apart-marks (λ m. m == 115) latches (gate_words net) (marks-latch_words net (λ m. m == 115) refl) (marks-gate_words net (λ m. not (m == 115)) refl refl))
-    (apart-marks (λ m. m == 115) latches (outputs_of net) (marks-latch_words net (λ m. m == 115) refl) (marks-outputs net is (λ m. not (m == 115)) refl))
-    (apart-marks (λ m. m == 115) latches (paused_word ∷ []) (marks-latch_words net (λ m. m == 115) refl) refl)
+    (apart-by mark (λ m. m == 115) latches (input_words net) (marks-latch_words net (λ m. m == 115) refl) (marks-input_words net (λ m. not (m == 115)) refl))
+    (apart-by mark (λ m. m == 115) latches (gate_words net) (marks-latch_words net (λ m. m == 115) refl) (marks-gate_words net (λ m. not (m == 115)) refl refl))
+    (apart-by mark (λ m. m == 115) latches (outputs_of net) (marks-latch_words net (λ m. m == 115) refl) (marks-outputs net is (λ m. not (m == 115)) refl))
+    (apart-by mark (λ m. m == 115) latches (paused_word ∷ []) (marks-latch_words net (λ m. m == 115) refl) refl)
     in
     let nt = apart-tables net is net.inputs
-    (apart-marks (λ m. m == 0) net.inputs (input_words net) (marks-inputs net is (λ m. m == 0) refl) (marks-input_words net (λ m. not (m == 0)) refl))
-    (apart-marks (λ m. m == 0) net.inputs (gate_words net) (marks-inputs net is (λ m. m == 0) refl) (marks-gate_words net (λ m. not (m == 0)) refl refl))
+    (apart-by mark (λ m. m == 0) net.inputs (input_words net) (marks-inputs net is (λ m. m == 0) refl) (marks-input_words net (λ m. not (m == 0)) refl))
+    (apart-by mark (λ m. m == 0) net.inputs (gate_words net) (marks-inputs net is (λ m. m == 0) refl) (marks-gate_words net (λ m. not (m == 0)) refl refl))
     (apart-words net is)
-    (apart-marks (λ m. m == 0) net.inputs (paused_word ∷ []) (marks-inputs net is (λ m. m == 0) refl) refl)
+    (apart-by mark (λ m. m == 0) net.inputs (paused_word ∷ []) (marks-inputs net is (λ m. m == 0) refl) refl)
     in
-    let nl = apart-marks (λ m. m == 0) net.inputs latches (marks-inputs net is (λ m. m == 0) refl) (marks-latch_words net (λ m. not (m == 0)) refl) in
+    let nl = apart-by mark (λ m. m == 0) net.inputs latches (marks-inputs net is (λ m. m == 0) refl) (marks-latch_words net (λ m. not (m == 0)) refl) in
     joined-differ net.inputs (latches ++ table_names net) is.is_net.inputs_differ (apart-right net.inputs latches (table_names net) nl nt)
     (joined-differ latches (table_names net) (differ-latches net is) lt (tables-differ net is))

@@ -15,9 +15,11 @@ use Rattle.net_ir.proofs.Values.{op_value-same, Solves-gate_values, gate_values-
 use Rattle.blif_text.specs.Circuits.{CircuitLatch, Table}
 use Rattle.blif_text.specs.Runs.{table_value, IsInstant}
 use Rattle.blif_text.specs.Written.{output_word, net_word, paused_word, operands, op_rows, copy_table, input_table, gate_table, output_table, net_latch}
-use Rattle.blif_text.specs.Written.{net_tables, net_circuit, numbered, input_word, latch_word, gate_word}
-use Rattle.blif_text.proofs.Numbered.{length-numbered, get_or-numbered, map-numbered, All-numbered}
-use Rattle.blif_text.proofs.NetNames.{IsWritable, shown_words, input_words, latch_words, gate_words, net_words, length-net_words, net_word-at, at-gate}
+use Rattle.blif_text.specs.Written.{net_tables, net_circuit, input_word, latch_word, gate_word}
+use Rattle.blif_text.proofs.NetNames.{shown_words, input_words, latch_words, gate_words, net_words, length-net_words, net_word-at, at-gate}
+use Rattle.net_ir.proofs.Numbered.{length-numbered, get_or-numbered, map-numbered, All-numbered}
+use Rattle.net_ir.specs.Numbered.{numbered}
+use Rattle.net_ir.specs.Writing.{IsWritable}
 
 -- ---- what the tables give
 

@@ -17,14 +17,11 @@ use Rattle.est_base.specs.Names.{is_name}
 use Rattle.net_ir.specs.Netlists.{Netlist, IsNet, first_gate, net_count}
 use Rattle.blif_text.specs.Lines.{is_word_byte}
 use Rattle.blif_text.specs.Circuits.{is_among}
-use Rattle.blif_text.specs.Written.{output_word, input_word, latch_word, gate_word, wire_at, net_word, numbered}
+use Rattle.blif_text.specs.Written.{output_word, input_word, latch_word, gate_word, wire_at, net_word}
 use Rattle.blif_text.proofs.WordBytes.{is_word, is_word-name, decimal_bytes}
-use Rattle.blif_text.proofs.Numbered.{list_all-parts, list_all-from_All, list_all-get_or, length-numbered, get_or-numbered, All-numbered}
-
--- a net whose wires have numbers of their type
-pub record IsWritable (net : Netlist) : Type 0 where
-  pub is_net : IsNet net
-  pub wires_fit : All (λ g. IfSome g.wire (λ w. w.0 < 2 ^ 32)) net.gates
+use Rattle.net_ir.proofs.Numbered.{list_all-parts, list_all-from_All, list_all-get_or, length-numbered, get_or-numbered, All-numbered}
+use Rattle.net_ir.specs.Numbered.{numbered}
+use Rattle.net_ir.specs.Writing.{IsWritable}
 
 -- the names of the outputs in the text
 abbrev pub shown_words : Netlist → List (List ℕ)

@@ -18,9 +18,10 @@ use Rattle.net_ir.proofs.Values.{length-gate_values, take-gate_values}
 use Rattle.blif_text.specs.Circuits.{CircuitLatch}
 use Rattle.blif_text.specs.Runs.{IsInstant, circuit_latches, IsRunFrom, IsRun, driven_names}
 use Rattle.blif_text.specs.Written.{output_word, net_word, paused_word, net_latch, output_words, net_circuit, input_word, latch_word, gate_word, written, Means}
-use Rattle.blif_text.proofs.Numbered.{length-numbered, map-numbered, numbered-map}
-use Rattle.blif_text.proofs.NetNames.{IsWritable, shown_words, input_words, latch_words, gate_words, net_words-numbers}
+use Rattle.blif_text.proofs.NetNames.{shown_words, input_words, latch_words, gate_words, net_words-numbers}
 use Rattle.blif_text.proofs.NetDrivers.{driven-net, names-differ}
+use Rattle.net_ir.proofs.Numbered.{length-numbered, map-numbered, numbered-map}
+use Rattle.net_ir.specs.Writing.{IsWritable}
 use Rattle.blif_text.proofs.NetSpelling.{reading-written}
 use Rattle.blif_text.proofs.NetInstants.{Holds, Holds-from_instant, instant-from_Holds, map-same, value-word}
 

@@ -17,14 +17,16 @@ use Rattle.net_ir.specs.Gates.{operand_end}
 use Rattle.net_ir.specs.Netlists.{Netlist, net_count}
 use Rattle.blif_text.specs.Circuits.{CircuitLatch, Table, is_among, reading}
 use Rattle.blif_text.specs.Written.{output_word, net_word, paused_word, operands, op_rows, copy_table, input_table, gate_table, output_table, net_latch}
-use Rattle.blif_text.specs.Written.{output_words, net_tables, net_circuit, numbered, input_word, latch_word, gate_word, written}
+use Rattle.blif_text.specs.Written.{output_words, net_tables, net_circuit, input_word, latch_word, gate_word, written}
 use Rattle.blif_text.proofs.WordBytes.{is_word, is_word-name, decimal_bytes}
-use Rattle.blif_text.proofs.Numbered.{list_all-parts, list_all-from_All, list_all-get_or, list_all-flat_map, list_any-left, list_any-right, All-numbered}
-use Rattle.blif_text.proofs.Numbered.{map-numbered}
 use Rattle.blif_text.proofs.RoundTrip.{HasSpelling, latch_fits, table_fits, used_names, reading-circuit_text}
-use Rattle.blif_text.proofs.NetNames.{IsWritable, shown_words, input_words, latch_words, gate_words, net_words, length-net_words, net_word-at}
+use Rattle.blif_text.proofs.NetNames.{shown_words, input_words, latch_words, gate_words, net_words, length-net_words, net_word-at}
 use Rattle.blif_text.proofs.NetNames.{is_word-net_word, is_word-gate, words-inputs, words-outputs, is_word-output}
 use Rattle.blif_text.proofs.NetDrivers.{table_names, driven-net, names-differ}
+use Rattle.net_ir.proofs.Numbered.{list_all-parts, list_all-from_All, list_all-get_or, list_all-flat_map, list_any-left, list_any-right}
+use Rattle.net_ir.proofs.Numbered.{All-numbered, map-numbered}
+use Rattle.net_ir.specs.Numbered.{numbered}
+use Rattle.net_ir.specs.Writing.{IsWritable}
 
 -- ---- tables and latches
 

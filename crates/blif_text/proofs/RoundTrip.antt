@@ -15,7 +15,7 @@ use Rattle.blif_text.specs.Circuits.{is_among, first_again, driven_again, not_dr
 use Rattle.blif_text.specs.Spelled.{inputs_statements, latch_statement, table_statements, head_statements, circuit_statements, circuit_text}
 use Rattle.blif_text.specs.Runs.{driven_names}
 use Rattle.blif_text.proofs.WordBytes.{is_word}
-use Rattle.blif_text.proofs.Numbered.{list_all-parts}
+use Rattle.net_ir.proofs.Numbered.{list_all-parts}
 use Rattle.blif_text.proofs.ReadsBack.{spellable, accepted, reading-text_of}
 
 -- ---- circuits that have a spelling

@@ -8,7 +8,8 @@ use Rattle.blif_text.specs.declared.pieces.Progress.{Progress}
 use Rattle.blif_text.specs.Statements.{Model, End}
 use Rattle.blif_text.specs.Spelled.{text_of, table_statements, latch_statement}
 use Rattle.blif_text.specs.Written.{output_word, paused_word, net_word, copy_table, input_table, gate_table}
-use Rattle.blif_text.specs.Written.{output_table, net_latch, numbered, written}
+use Rattle.blif_text.specs.Written.{output_table, net_latch, written}
+use Rattle.net_ir.specs.Numbered.{numbered}
 
 -- ---- the parts, from the last to the first
 

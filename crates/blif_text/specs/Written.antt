@@ -13,6 +13,7 @@ use Rattle.net_ir.specs.declared.netlist.Latch.{Latch}
 use Rattle.net_ir.specs.declared.netlist.NetOut.{NetOut}
 use Rattle.est_base.specs.Items.{Item, EachEvent}
 use Rattle.net_ir.specs.Netlists.{Netlist, first_gate, net_count}
+use Rattle.net_ir.specs.Numbered.{numbered}
 use Rattle.net_ir.specs.Runs.{net_run, net_values_run}
 use Rattle.blif_text.specs.Statements.{Cell, Zero, One, Any}
 use Rattle.blif_text.specs.Circuits.{Circuit, CircuitLatch, Table, is_among, reading}
@@ -90,11 +91,6 @@ output_table net output = copy_table (net_word net output.net.0) (output_word ne
 
 abbrev pub net_latch : Netlist → ℕ → Latch → CircuitLatch
 net_latch net j latch = record { source = net_word net latch.from.0; target = latch_word j; init = latch.init }
-
--- what f gives at each element and its number, where n is the number of the first one
-abbrev pub numbered : {X Y : Type 0} → (ℕ → X → Y) → ℕ → List X → List Y
-numbered f n [] = []
-numbered f n (x ∷ xs) = f n x ∷ numbered f (n + 1) xs
 
 -- the outputs in the text, of which `_paused` is the last
 abbrev pub output_words : Netlist → List (List ℕ)

@@ -1,7 +1,7 @@
 // The BLIF text of a net, piece by piece.
 
-ghost use Rattle.std.specs.Prelude.{◌≡◌, ◌≢◌, ◌⊎◌, ◌↔◌, ℕ, ◌^◌, ◌<◌, ◌≤◌, List, [], ◌++◌, length, take, drop};
-ghost use Rattle.std.specs.Prelude.{IfOk, IfErr, OnOk, MatchOption, IfSome, IsTrue, All};
+ghost use Rattle.std.specs.Prelude.{◌≡◌, ◌≢◌, ◌⊎◌, ◌↔◌, ℕ, ◌<◌, ◌≤◌, List, [], ◌++◌, length, take, drop};
+ghost use Rattle.std.specs.Prelude.{IfOk, IfErr, OnOk, MatchOption, IsTrue};
 ghost use Rattle.std.specs.HashSet.{contains_by};
 ghost use Rattle.est_base.specs.Names.{is_same_name};
 ghost use Rattle.net_ir.specs.Runs.{netlist_of};
@@ -14,7 +14,7 @@ use crate::writer::{
     put_latch, put_output, put_output_word, put_outputs_end,
 };
 use est_base::{Limits, NoMemory, Text};
-use net_ir::{Gate, Net};
+use net_ir::{Net, look_at_wires};
 use std::alloc::Global;
 use std::collections::HashSet;
 use std::marker::Model;
@@ -46,7 +46,7 @@ impl<'a> BlifPieces<'a> {
         ensures text { result ≡ written (netlist_of net.now) }
         ensures means { Means (written (netlist_of net.now)) (netlist_of net.now) }
     {
-        look_at_wires(&net.gates);
+        look_at_wires(net);
         BlifPieces {
             net,
             progress: None,
@@ -71,23 +71,6 @@ impl<'a> BlifPieces<'a> {
                 Ok(piece)
             }
         }
-    }
-}
-
-// The numbers of wires are those of their type.
-fn look_at_wires(gates: &[Gate])
-    ensures { All (λ g. IfSome g.wire (λ w. w.0 < 2 ^ 32)) gates.now }
-{
-    for gate in gates {
-        look_at_wire(*gate);
-    }
-}
-
-fn look_at_wire(gate: Gate)
-    ensures { IfSome gate.wire (λ w. w.0 < 2 ^ 32) }
-{
-    if let Some(wire) = gate.wire {
-        let _number = wire.0;
     }
 }
 

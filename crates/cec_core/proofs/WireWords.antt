@@ -13,7 +13,7 @@ use Rattle.est_kernel.specs.Plain.{Program, program_of, given_count, given_names
 use Rattle.blif_text.specs.Written.{Means, net_word, net_latch, gate_word}
 use Rattle.blif_text.specs.Written as written
 use Rattle.blif_text.specs.Runs.{IsRun}
-use Rattle.blif_text.proofs.Numbered.{length-numbered}
+use Rattle.net_ir.proofs.Numbered.{length-numbered}
 use Rattle.grc_graph.specs.declared.graph.Graph.{Graph}
 use Rattle.grc_graph.specs.BuiltGraphs.{IsGraphOf}
 use Rattle.grc_graph.proofs.BuiltReads.{next_each}

@@ -9,13 +9,13 @@ use Rattle.csub_text.specs.Grammar.{begins_input}
 use Rattle.std.proofs.lemmas.Bool.{or_parts, not-false}
 use Rattle.std.proofs.lemmas.List.Folds.{find-append}
 use Rattle.std.proofs.lemmas.List.{length-map, length-append, get_or-set_same, get_or-set_other, length-set}
+use lib.Pointwise.{bytes_decides}
 use Rattle.est_base.specs.Names.{is_same_name}
 use Rattle.csub_text.specs.Trees.{Expr, Exprs, NoExprs, MoreExprs, State, Assign, Program}
 use Rattle.csub_text.specs.Trees as trees
 use Rattle.csub_text.specs.Names.{is_among, names_in, declared, inputs_of, outputs_of, Use, Assigned, Taken, uses_in, uses, is_wrong, name_found, undeclared}
 use Rattle.csub_text.specs.Names.{declared_twice, unset, first_again, fault_by, NameFault, Twice, Undeclared, Unset}
 use Rattle.csub_text.specs.Machine.{Memory, with_value, value_of, all_of, any_of, run_body, with_inputs, first_memory, call}
-use Rattle.csub_text.proofs.NetNames.{same-refl, same-eq}
 use Rattle.std.proofs.Common.{All}
 use Rattle.std.proofs.lemmas.List.{get_or-map}
 use Rattle.std.proofs.lemmas.List.Elements.{All-from_recursion}
@@ -102,7 +102,8 @@ set-slot names values wide x among v name =
     let k = slot_in names x in
     elim (is_same_name name x) as (λ b. is_same_name name x ≡ b → value_at (slice_set values k v) (slot_in names name) ≡
     (if b then v else value_at values (slot_in names name))) [
-      | true ↦ λ e. ap (λ n. value_at (slice_set values k v) (slot_in names n)) (same-eq name x e) ∙ get_or-set_same values k v false (omega (arith, low, wide))
+      | true ↦ λ e. ap (λ n. value_at (slice_set values k v) (slot_in names n)) ((bytes_decides name x).0 e)
+        ∙ get_or-set_same values k v false (omega (arith, low, wide))
       | false ↦ λ e. get_or-set_other values k (slot_in names name) v false (λ same. let own = sym (slot-own names x name low same) ∙ e in cc)
     ] refl
 
@@ -172,7 +173,7 @@ among-more names y (x ∷ xs) all = (among-back x (y ∷ []) names all.0, among-
 
 among-self : (xs : List (List ℕ)) → AllAmong xs xs
 among-self [] = tt
-among-self (x ∷ xs) = (rw (same-refl x) refl, among-more xs x xs (among-self xs))
+among-self (x ∷ xs) = (rw ((bytes_decides x x).1 refl) refl, among-more xs x xs (among-self xs))
 
 among-widen : (before xs after : List (List ℕ)) (ys : List (List ℕ)) → AllAmong xs ys → AllAmong ((before ++ xs) ++ after) ys
 among-widen before xs after [] all = tt

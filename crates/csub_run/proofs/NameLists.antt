@@ -9,9 +9,9 @@ use Rattle.std.proofs.lemmas.Bool.{false≢true, cases_lt}
 use Rattle.std.proofs.lemmas.List.{take_more}
 use Rattle.std.proofs.lemmas.List.Folds.{list_any-append}
 use Rattle.std.proofs.lemmas.List.Sums.{prefix_len-le-length, passes_at_first}
+use lib.Pointwise.{bytes_decides}
 use Rattle.est_base.specs.Names.{is_same_name}
 use Rattle.csub_text.specs.Names.{is_among, first_again}
-use Rattle.csub_text.proofs.NetNames.{same-refl, same-eq}
 use Rattle.csub_run.specs.Runners.{slot_in}
 
 or_last : (a b : Bool) → (a || (b || false)) ≡ cond b true a
@@ -129,9 +129,9 @@ slot-low x (y ∷ xs) among =
 -- the place of a name that has one is that of no other name
 pub slot-own : (xs : List (List ℕ)) (x y : List ℕ) → slot_in xs x < length xs → slot_in xs y ≡ slot_in xs x → is_same_name y x ≡ true
 slot-own xs x y low same =
-    let at = same-eq x (get_or xs (slot_in xs x) []) (passes_at_first (is_same_name x) xs [] low) in
-    let other = same-eq y (get_or xs (slot_in xs y) []) (passes_at_first (is_same_name y) xs [] (omega (arith, low, same))) in
-    ap (is_same_name y) (at ∙ ap (λ k. get_or xs k []) (sym same) ∙ sym other) ∙ same-refl y
+    let at = (bytes_decides x (get_or xs (slot_in xs x) [])).0 (passes_at_first (is_same_name x) xs [] low) in
+    let other = (bytes_decides y (get_or xs (slot_in xs y) [])).0 (passes_at_first (is_same_name y) xs [] (omega (arith, low, same))) in
+    ap (is_same_name y) (at ∙ ap (λ k. get_or xs k []) (sym same) ∙ sym other) ∙ (bytes_decides y y).1 refl
 
 -- the elements from a place on
 pub drop-at : {X : Type 0} (xs : List X) (i : ℕ) (x : X) → i < length xs → x ≡ get_or xs i x → drop i xs ≡ x ∷ drop (i + 1) xs

@@ -12,9 +12,10 @@ use Rattle.net_ir.specs.Netlists.{Netlist}
 use Rattle.csub_text.specs.declared.parts.Place.{Place}
 use Rattle.csub_text.specs.declared.parts.Place.TheVariants as places
 use Rattle.csub_text.specs.Trees.{Name}
-use Rattle.csub_text.specs.Written.{numbered, input_name, gate_name, next_name, answer_name, input_variable, output_variable, net_state, input_assign}
+use Rattle.csub_text.specs.Written.{input_name, gate_name, next_name, answer_name, input_variable, output_variable, net_state, input_assign}
 use Rattle.csub_text.specs.Written.{gate_assign, next_assign, output_assign, answer_assign, state_assign, gate_names, state_line, declaration, assign_line}
 use Rattle.csub_text.specs.Written.{head_line, last_lines, written}
+use Rattle.net_ir.specs.Numbered.{numbered}
 use Rattle.csub_text.specs.Places.{text_from, parts_from, Moves, from_states, from_inputs, from_outputs, from_input_locals, from_gate_locals, from_next_locals}
 use Rattle.csub_text.specs.Places.{from_input_assigns, from_gate_assigns, from_next_assigns, from_output_assigns, from_state_assigns}
 

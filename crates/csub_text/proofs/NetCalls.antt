@@ -24,15 +24,19 @@ use Rattle.csub_text.specs.Trees.{Expr, Name, Const, Not, And, Or, Exprs, NoExpr
 use Rattle.csub_text.specs.Grammar.{begins_input, begins_output}
 use Rattle.csub_text.specs.Names.{inputs_of, outputs_of, is_among}
 use Rattle.csub_text.specs.Machine.{Memory, with_value, value_of, run_body, with_inputs, first_memory, call, memories_from, seen}
-use Rattle.csub_text.specs.Written.{input_name, state_name, gate_name, next_name, answer_name, net_name, input_variable, output_variable, numbered, net_state}
+use Rattle.csub_text.specs.Written.{input_name, state_name, gate_name, next_name, answer_name, net_name, input_variable, output_variable, net_state}
 use Rattle.csub_text.specs.Written.{gate_names}
 use Rattle.csub_text.specs.Written.{op_expr, input_assign, gate_assign, next_assign, output_assign, answer_assign, state_assign, net_body, net_program}
 use Rattle.csub_text.specs.Written.{shown_by_call}
-use Rattle.csub_text.proofs.NetNames.{IsWritable, same-refl, same-eq, mark, differ-marks, length-numbered, get_or-numbered, map-numbered, input_names}
+use Rattle.csub_text.proofs.NetNames.{mark, input_names}
 use Rattle.csub_text.proofs.NetNames.{state_names}
 use Rattle.csub_text.proofs.NetNames.{next_names, given_variables, shown_variables, marks-inputs, marks-states, marks-nexts, marks-gates, marks-given}
 use Rattle.csub_text.proofs.NetNames.{marks-shown}
 use Rattle.csub_text.proofs.NetNames.{differ-inputs, differ-states, differ-nexts, differ-gates, differ-given, differ-shown}
+use Rattle.net_ir.proofs.Numbered.{length-numbered, get_or-numbered, map-numbered}
+use Rattle.net_ir.proofs.NumberedNames.{differ-by, same-refl, same-eq}
+use Rattle.net_ir.specs.Numbered.{numbered}
+use Rattle.net_ir.specs.Writing.{IsWritable}
 use Rattle.csub_text.proofs.NetRules.{net_cases, net_name-input, net_name-state, net_name-gate, any_gate, any_latch, any_output, gate-low}
 
 -- ---- assignments one after another
@@ -117,11 +121,11 @@ gate-new net is n i low h =
     net_cases net i (omega arith)
     (λ input. ap (λ x. is_same_name x g) (net_name-input net i input)
     ∙ ap (λ y. is_same_name (input_name i) y) (sym (gate-at net n low))
-    ∙ any-none (is_same_name (input_name i)) (gate_names net) (differ-marks (λ m. m == 105) (input_name i) (gate_names net) refl
+    ∙ any-none (is_same_name (input_name i)) (gate_names net) (differ-by mark (λ m. m == 105) (input_name i) (gate_names net) refl
     (marks-gates net (λ m. not (m == 105)) refl refl)) n (omega arith))
     (λ j state e. ap (λ x. is_same_name x g) (ap (net_name net) e ∙ net_name-state net j state)
     ∙ ap (λ y. is_same_name (state_name j) y) (sym (gate-at net n low))
-    ∙ any-none (is_same_name (state_name j)) (gate_names net) (differ-marks (λ m. m == 115) (state_name j) (gate_names net) refl
+    ∙ any-none (is_same_name (state_name j)) (gate_names net) (differ-by mark (λ m. m == 115) (state_name j) (gate_names net) refl
     (marks-gates net (λ m. not (m == 115)) refl refl)) n (omega arith))
     (λ k gate e. ap (λ x. is_same_name x g) (ap (net_name net) e ∙ net_name-gate net k any_gate gate)
     ∙ ap (λ x. is_same_name x g) (sym (gate-at net k gate)) ∙ ap (λ y. is_same_name (get_or (gate_names net) k []) y) (sym (gate-at net n low))
@@ -205,7 +209,7 @@ targets-outputs net (o ∷ outputs) = ap (λ l. output_variable o ∷ l) (target
 -- a variable by its first byte
 not_target : (p : ℕ → Bool) (x : List ℕ) (body : List Assign) (names : List (List ℕ)) → targets body ≡ names → p (mark x) ≡ true
     → list_all (λ y. not (p (mark y))) names ≡ true → is_among x (targets body) ≡ false
-not_target p x body names same here others = ap (is_among x) same ∙ differ-marks p x names here others
+not_target p x body names same here others = ap (is_among x) same ∙ differ-by mark p x names here others
 
 net-mark : (p : ℕ → Bool) (net : Netlist) (n : ℕ) → n < net_count net → p 105 ≡ true → p 115 ≡ true → p 103 ≡ true → p 119 ≡ true →
     p (mark (net_name net n)) ≡ true
@@ -272,7 +276,7 @@ call-leaves net is latches inputs m wide_l wide_i keeps =
           ∙ run-other b1 m0 (state_name j) (not_target (λ c. c == 115) (state_name j) b1 (input_names net) t1 refl
           (marks-inputs net (λ c. not (c == 115)) refl))
           ∙ inputs-other (given_variables net) inputs m (state_name j)
-          (differ-marks (λ c. c == 115) (state_name j) (given_variables net) refl (marks-given net (λ c. not (c == 115)) refl))
+          (differ-by mark (λ c. c == 115) (state_name j) (given_variables net) refl (marks-given net (λ c. not (c == 115)) refl))
           ∙ keeps j (omega arith) ∙ sym (get_or-append-add inputs latches j false) ∙ ap (λ k. get_or (inputs ++ latches) k false) (sym f)
     ] in
     let joined = length-append inputs latches in

@@ -27,16 +27,19 @@ use Rattle.csub_text.specs.Grammar.{begins_input, begins_output, begins_global, 
 use Rattle.csub_text.specs.Names.{inputs_of, outputs_of, is_among}
 use Rattle.csub_text.specs.Texts.{Describes, nesting_limit}
 use Rattle.csub_text.specs.Machine.{Memory, Seen, with_value, with_inputs, first_memory, run_body, call, memories_from, memories, seen, run}
-use Rattle.csub_text.specs.Written.{input_name, state_name, gate_name, next_name, answer_name, net_name, input_variable, output_variable, numbered, net_state}
+use Rattle.csub_text.specs.Written.{input_name, state_name, gate_name, next_name, answer_name, net_name, input_variable, output_variable, net_state}
 use Rattle.csub_text.specs.Written.{gate_names}
 use Rattle.csub_text.specs.Written.{net_body, net_program, net_globals, net_locals, op_expr, shown_by_call, written, Means, input_assign, gate_assign}
 use Rattle.csub_text.specs.Written.{next_assign, output_assign}
 use Rattle.csub_text.proofs.Lexing.{IsVariable, says-whole, variable-input, variable-state, variable-gate, variable-wire, variable-next, variable-answer}
 use Rattle.csub_text.proofs.Lexing.{variable-given, variable-shown}
 use Rattle.csub_text.proofs.Spelling.{IsPlain, IsSpelled, program_kinds, says-program, spells-program, written_program, meant-written, nesting-written}
-use Rattle.csub_text.proofs.NetNames.{IsWritable, same-refl, mark, differ-marks, length-numbered, get_or-numbered, All-numbered, map-numbered}
-use Rattle.csub_text.proofs.NetNames.{list_all-from_All}
+use Rattle.csub_text.proofs.NetNames.{mark}
 use Rattle.csub_text.proofs.NetNames.{given_variables, shown_variables, state_names, differ-states, input_names, next_names, marks-states}
+use Rattle.net_ir.proofs.Numbered.{length-numbered, get_or-numbered, All-numbered, map-numbered, list_all-from_All}
+use Rattle.net_ir.proofs.NumberedNames.{same-refl}
+use Rattle.net_ir.specs.Numbered.{numbered}
+use Rattle.net_ir.specs.Writing.{IsWritable}
 use Rattle.csub_text.proofs.NetRules.{EachAssign, each-assign, op-names, net_cases, net_name-input, net_name-state, net_name-gate, any_gate, any_latch}
 use Rattle.csub_text.proofs.NetRules.{any_output, gate-low}
 use Rattle.csub_text.proofs.NetSets.{names-fit}

@@ -24,13 +24,16 @@ use Rattle.csub_text.specs.Trees.{Expr, Name, Const, Not, And, Or, Exprs, NoExpr
 use Rattle.csub_text.specs.Grammar.{begins_input}
 use Rattle.csub_text.specs.Names.{declared, names_in, all_names, is_among, first_again, declared_twice, Use, Assigned, Taken, uses_in, uses, is_wrong}
 use Rattle.csub_text.specs.Names.{name_found, undeclared, or_else, unset_from, unset, name_fault}
-use Rattle.csub_text.specs.Written.{input_name, state_name, gate_name, next_name, answer_name, net_name, wire_at, input_variable, output_variable, numbered}
+use Rattle.csub_text.specs.Written.{input_name, state_name, gate_name, next_name, answer_name, net_name, wire_at, input_variable, output_variable}
 use Rattle.csub_text.specs.Written.{net_state, net_globals, net_locals, gate_names, op_expr, pair, input_assign, gate_assign, next_assign, output_assign}
 use Rattle.csub_text.specs.Written.{answer_assign, state_assign, net_body, net_program}
-use Rattle.csub_text.proofs.NetNames.{IsWritable, same-refl, same-eq, mark, differ-marks, input_names, state_names, next_names, given_variables}
+use Rattle.csub_text.proofs.NetNames.{mark, input_names, state_names, next_names, given_variables}
 use Rattle.csub_text.proofs.NetNames.{shown_variables}
 use Rattle.csub_text.proofs.NetNames.{marks-inputs, marks-states, marks-nexts, marks-gates, marks-given, marks-shown, marks-locals, differ-declared, all-both}
-use Rattle.csub_text.proofs.NetNames.{length-numbered, get_or-numbered, map-numbered}
+use Rattle.net_ir.proofs.Numbered.{length-numbered, get_or-numbered, map-numbered}
+use Rattle.net_ir.proofs.NumberedNames.{same-refl, same-eq}
+use Rattle.net_ir.specs.Numbered.{numbered}
+use Rattle.net_ir.specs.Writing.{IsWritable}
 
 -- ---- names that differ are declared once
 

@@ -15,10 +15,14 @@ use Rattle.net_ir.specs.Netlists.{Netlist, first_gate, net_count}
 use Rattle.std.proofs.lemmas.List.{length-map, get_or-map, append-nil}
 use Rattle.csub_text.specs.Trees.{Expr, Name, Assign, Program}
 use Rattle.csub_text.specs.Names.{names_in, is_among, unset, name_fault}
-use Rattle.csub_text.specs.Written.{input_name, state_name, gate_name, next_name, answer_name, net_name, input_variable, numbered, net_locals, gate_names}
+use Rattle.csub_text.specs.Written.{input_name, state_name, gate_name, next_name, answer_name, net_name, input_variable, net_locals, gate_names}
 use Rattle.csub_text.specs.Written.{op_expr}
 use Rattle.csub_text.specs.Written.{input_assign, gate_assign, next_assign, output_assign, answer_assign, state_assign, net_body, net_program}
-use Rattle.csub_text.proofs.NetNames.{IsWritable, same-refl, mark, differ-marks, marks-locals, length-numbered, get_or-numbered}
+use Rattle.csub_text.proofs.NetNames.{mark, marks-locals}
+use Rattle.net_ir.proofs.Numbered.{length-numbered, get_or-numbered}
+use Rattle.net_ir.proofs.NumberedNames.{differ-by, same-refl}
+use Rattle.net_ir.specs.Numbered.{numbered}
+use Rattle.net_ir.specs.Writing.{IsWritable}
 use Rattle.csub_text.proofs.NetRules.{Known, Covered, unset-covered, op-names, net_cases, net_name-input, net_name-state, net_name-gate}
 use Rattle.csub_text.proofs.NetRules.{any_gate, any_latch, any_output, numbered-assigns, gate-low, declared_once, undeclared_none, Left}
 
@@ -101,10 +105,10 @@ covered-gates net before n (g ∷ gates) rest answer named low known go =
 -- ---- the whole body
 
 no_local-state : (net : Netlist) (j : ℕ) → is_among (state_name j) (net_locals net) ≡ false
-no_local-state net j = differ-marks (λ m. m == 115) (state_name j) (net_locals net) refl (marks-locals net (λ m. not (m == 115)) refl refl refl refl refl)
+no_local-state net j = differ-by mark (λ m. m == 115) (state_name j) (net_locals net) refl (marks-locals net (λ m. not (m == 115)) refl refl refl refl refl)
 
 no_local-given : (net : Netlist) (name : List ℕ) → is_among (input_variable name) (net_locals net) ≡ false
-no_local-given net name = differ-marks (λ m. m == 73) (input_variable name) (net_locals net) refl
+no_local-given net name = differ-by mark (λ m. m == 73) (input_variable name) (net_locals net) refl
     (marks-locals net (λ m. not (m == 73)) refl refl refl refl refl)
 
 covered-net : (net : Netlist) → IsWritable net → Covered (net_locals net) [] (net_body net) (Name answer_name)

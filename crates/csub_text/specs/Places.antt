@@ -6,10 +6,11 @@ use Rattle.csub_text.specs.declared.parts.Place.{Place}
 use Rattle.csub_text.specs.declared.parts.Place.TheVariants as places
 use Rattle.csub_text.specs.declared.pieces.Progress.{Progress}
 use Rattle.csub_text.specs.Trees.{Name}
-use Rattle.csub_text.specs.Written.{numbered, input_name, gate_name, next_name, answer_name, input_variable}
+use Rattle.csub_text.specs.Written.{input_name, gate_name, next_name, answer_name, input_variable}
 use Rattle.csub_text.specs.Written.{output_variable, net_state, input_assign, gate_assign, next_assign, output_assign}
 use Rattle.csub_text.specs.Written.{answer_assign, state_assign, state_line, declaration, assign_line, head_line}
 use Rattle.csub_text.specs.Written.{last_lines, written}
+use Rattle.net_ir.specs.Numbered.{numbered}
 
 -- ---- the parts, from the last to the first
 

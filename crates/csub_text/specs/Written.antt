@@ -11,6 +11,7 @@ use Rattle.net_ir.specs.declared.netlist.Gate.{Gate}
 use Rattle.net_ir.specs.declared.netlist.Latch.{Latch}
 use Rattle.net_ir.specs.declared.netlist.NetOut.{NetOut}
 use Rattle.net_ir.specs.Netlists.{Netlist, first_gate}
+use Rattle.net_ir.specs.Numbered.{numbered}
 use Rattle.net_ir.specs.Runs.{Shown, net_run, net_values_run}
 use Rattle.csub_text.specs.Trees.{Expr, Name, Const, Not, And, Or, Exprs, NoExprs, MoreExprs, State, Assign, Program}
 use Rattle.csub_text.specs.Names.{inputs_of, outputs_of}
@@ -52,11 +53,6 @@ input_variable name = codes "I_" ++ name
 
 abbrev pub output_variable : NetOut → List ℕ
 output_variable output = codes "O_" ++ output.name
-
--- what f gives at each element and its number, where n is the number of the first one
-abbrev pub numbered : {X Y : Type 0} → (ℕ → X → Y) → ℕ → List X → List Y
-numbered f n [] = []
-numbered f n (x ∷ xs) = f n x ∷ numbered f (n + 1) xs
 
 -- ---- the program
 

@@ -1,14 +1,14 @@
 // The C text of a net, piece by piece.
 
-ghost use Rattle.std.specs.Prelude.{◌≡◌, ◌⊎◌, ◌↔◌, ℕ, ◌^◌, ◌<◌, ◌≤◌, List, [], ◌++◌, length, take, drop};
-ghost use Rattle.std.specs.Prelude.{IfOk, IfErr, OnOk, MatchOption, IfSome, IsTrue, All};
+ghost use Rattle.std.specs.Prelude.{◌≡◌, ◌⊎◌, ◌↔◌, ℕ, ◌<◌, ◌≤◌, List, [], ◌++◌, length, take, drop};
+ghost use Rattle.std.specs.Prelude.{IfOk, IfErr, OnOk, MatchOption, IsTrue};
 ghost use Rattle.net_ir.specs.Runs.{netlist_of};
 ghost use Rattle.csub_text.specs.Written.{written, Means};
 ghost use Rattle.csub_text.specs.Places.{text_from, to_come};
 
 use crate::parts::{Place, put_part};
 use est_base::{Limits, NoMemory};
-use net_ir::{Gate, Net};
+use net_ir::{Net, look_at_wires};
 use std::alloc::Global;
 use std::marker::Model;
 
@@ -36,7 +36,7 @@ impl<'a> CPieces<'a> {
         ensures text { result ≡ written (netlist_of net.now) }
         ensures means { Means (written (netlist_of net.now)) (netlist_of net.now) }
     {
-        look_at_wires(&net.gates);
+        look_at_wires(net);
         CPieces {
             net,
             progress: None,
@@ -61,23 +61,6 @@ impl<'a> CPieces<'a> {
                 Ok(piece)
             }
         }
-    }
-}
-
-// The numbers of wires are those of their type.
-fn look_at_wires(gates: &[Gate])
-    ensures { All (λ g. IfSome g.wire (λ w. w.0 < 2 ^ 32)) gates.now }
-{
-    for gate in gates {
-        look_at_wire(*gate);
-    }
-}
-
-fn look_at_wire(gate: Gate)
-    ensures { IfSome gate.wire (λ w. w.0 < 2 ^ 32) }
-{
-    if let Some(wire) = gate.wire {
-        let _number = wire.0;
     }
 }
 

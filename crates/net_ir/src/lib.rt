@@ -8,5 +8,7 @@
 #![tactic(auto)]
 
 mod netlist;
+mod writing;
 
 pub use netlist::{Gate, Latch, Net, NetOut, Op};
+pub use writing::look_at_wires;

@@ -1,6 +1,6 @@
 // Nets, run by the BLIF texts that are written of them.
 
-ghost use Rattle.std.specs.Prelude.{◌≡◌, ◌<◌, ◌≤◌, ◌^◌, length, map, All, IfSome, IfOk};
+ghost use Rattle.std.specs.Prelude.{◌≡◌, ◌<◌, ◌≤◌, ◌^◌, length, map, IfOk};
 ghost use Rattle.est_base.specs.Relations.{relation_of};
 ghost use Rattle.net_ir.specs.Runs.{netlist_of};
 ghost use Rattle.blif_text.specs.Plain.{plain_circuit};
@@ -17,7 +17,7 @@ use crate::running::{Interface, RunFault, run_trace};
 use blif_run::RunError;
 use blif_text::{Blif, BlifError, read_blif};
 use est_base::{InputRelation, Limits, NoMemory, Sink, Text};
-use net_ir::{Gate, Net, NetOut};
+use net_ir::{Net, NetOut, look_at_wires};
 use std::alloc::Global;
 
 /// The interface of a net: the names of its inputs and outputs, with these relations of its inputs.
@@ -110,23 +110,6 @@ fn circuit_runner<'a>(alloc: Global, blif: &'a Blif) -> Result<BlifRunner<'a>, N
     match BlifRunner::new(alloc, blif) {
         Ok(runner) => Ok(runner),
         Err(error) => Err(lack_of_runner(error)),
-    }
-}
-
-// The numbers of wires are those of their type: this is known of those that were looked at.
-fn look_at_wires(net: &Net)
-    ensures { All (λ g. IfSome g.wire (λ w. w.0 < 2 ^ 32)) net.now.gates.items }
-{
-    for gate in &net.gates {
-        look_at_wire(*gate);
-    }
-}
-
-fn look_at_wire(gate: Gate)
-    ensures { IfSome gate.wire (λ w. w.0 < 2 ^ 32) }
-{
-    if let Some(wire) = gate.wire {
-        let _number = wire.0;
     }
 }
 

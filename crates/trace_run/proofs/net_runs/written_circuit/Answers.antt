@@ -1,14 +1,12 @@
 use Rattle.net_ir.specs.Runs.{netlist_of}
 use Rattle.blif_text.specs.Plain.{plain_circuit}
-use Rattle.blif_text.proofs.NetNames.{IsWritable}
 use Rattle.trace_run.proofs.NetLoops.{written-circuit, reader-lacks}
 use Rattle.trace_run.proofs.net_runs.written_circuit.Goals as goal
 
 pub returns-in-Ok : goal.returns-in-Ok
 returns-in-Ok c =
     let net = netlist_of c.args.net.now in
-    let is : IsWritable net = record { is_net = c.args.net.now.is_net; wires_fit = c.look_at_wires.ensures } in
-    written-circuit net is c.args.text.now (plain_circuit c.in-Ok.blif) c.requires.spelled c.requires.means c.in-Ok.ensures.reads.1
+    written-circuit net c.look_at_wires.ensures c.args.text.now (plain_circuit c.in-Ok.blif) c.requires.spelled c.requires.means c.in-Ok.ensures.reads.1
 
 pub lack_of_reader-requires : goal.lack_of_reader-requires
 lack_of_reader-requires c =

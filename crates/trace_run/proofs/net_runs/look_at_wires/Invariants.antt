@@ -1,6 +1,0 @@
-use Rattle.std.proofs.Common.{◌<◌, ◌^◌, take, All}
-use Rattle.std.specs.Prelude.{IfSome}
-use Rattle.trace_run.proofs.net_runs.look_at_wires.Given as goal
-
-abbrev pub invariant-loop-gate : goal.invariant-loop-gate
-invariant-loop-gate l = All (λ g. IfSome g.wire (λ w. w.0 < 2 ^ 32)) (take l.gate-index l.net.gates.items)
