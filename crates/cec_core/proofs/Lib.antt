@@ -1,5 +1,6 @@
 pub mod GraphFacts
 pub mod Keeping
+pub mod Pieces
 pub mod OneFile
 pub mod TwoFiles
 pub mod RunLines

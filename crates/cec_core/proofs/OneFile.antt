@@ -26,11 +26,12 @@ use Rattle.cec_core.specs.Answers.{IsAnswer, IsAnswerOf}
 use Rattle.cec_core.specs.Contents.{Content, IsHeld, Holds}
 use Rattle.cec_core.specs.Jobs.{Job, Request, Help, Make, Run, Exec, Generate, Load}
 use Rattle.cec_core.specs.Lines.{Subject, line_of, IsSourceSubject, IsSubjectOf, GainsErr}
-use Rattle.cec_core.specs.Outcomes.{MakesOn, AgreesOnFile, Agrees, IsFileOf, CountsFiles, LeavesText, IsTextOf, GainsOut}
+use Rattle.cec_core.specs.Outcomes.{MakesOn, AgreesOnFile, Agrees, IsFileOf, CountsFiles, LeavesText, LeavesAnswer, IsTextOf, GainsOut}
 use Rattle.cec_core.specs.Refusals.{IsRefused}
 use Rattle.cec_core.specs.Sources.{IsSource}
 use Rattle.cec_core.specs.Statuses.{outcome_of}
 use Rattle.cec_core.specs.Subjects.{unread_outcome}
+use Rattle.cec_core.proofs.Pieces.{answer_as, unread_answer}
 
 -- what was written of a line: the whole, or a prefix after a fault
 pub whole_or_front : (old new : Option (List ℕ)) (before now : ℕ) (line : List ℕ) (answer : Result (Unit {0}) SinkFault) → Wrote old new before now line answer
@@ -94,17 +95,9 @@ make_counts job WriteFault bytes before now failed_before failed_now m k = (k.fa
 make_counts job NoMemory bytes before now failed_before failed_now m k = (k.faults, k.failed)
 
 pub make_out : (content : Content) (job : Job) (outcome : Outcome) (bytes : List ℕ) (s : Sinks) → IsHeld content job.name bytes
-    → LeavesText (IsAnswer job bytes) s outcome → GainsOut (Some (Make job)) content outcome s
-make_out content job Done bytes s held l = (l.0, (bytes, held, l.1), l.2)
-make_out content job Usage bytes s held l = l
-make_out content job (Unread file) bytes s held l = l
-make_out content job (Static fault) bytes s held l = l
-make_out content job (Cyclic cycle) bytes s held l = l
-make_out content job (Trace fault) bytes s held l = l
-make_out content job (BadText fault) bytes s held l = l
-make_out content job (Limit quantity) bytes s held l = l
-make_out content job WriteFault bytes s held l = (l.0, (bytes, held, l.1), l.2)
-make_out content job NoMemory bytes s held l = l
+    → LeavesAnswer job.task (IsAnswer job bytes) s outcome → GainsOut (Some (Make job)) content outcome s
+make_out content job outcome bytes s held l =
+    answer_as job.task (IsAnswer job bytes) (IsTextOf job content) s outcome (λ text is. (bytes, held, is)) l
 
 -- what a line speaks of where the source was read
 pub source_subject : (content : Content) (job : Job) (bytes : List ℕ) (x : Subject) → IsHeld content job.name bytes → x.name ≡ job.name
@@ -130,9 +123,7 @@ counts_unread request name limit reading.NoMemory before now failed_before faile
 
 pub make_out_unread : (content : Content) (job : Job) (fault : FileFault) (s : Sinks) → Appends s.before s.after s.faults_before s.faults_now []
     → GainsOut (Some (Make job)) content (unread_outcome First limits.Source fault) s
-make_out_unread content job reading.Failed s a = a
-make_out_unread content job reading.TooLong s a = a
-make_out_unread content job reading.NoMemory s a = a
+make_out_unread content job fault s a = unread_answer job.task (IsTextOf job content) fault s a
 
 -- the bytes that a file holds, where that is told
 held_by : Content → List ℕ → List ℕ

@@ -25,9 +25,10 @@ use Rattle.cec_core.specs.declared.refusal.Refusal.{Refusal}
 use Rattle.cec_core.specs.declared.refusal.Refusal.TheVariants as refusals
 use Rattle.cec_core.specs.Cycles.{LeadsBack, IsCycle, ShowsCycle, IsAcyclic}
 use Rattle.cec_core.specs.Jobs.{Job, Request, Help, Make, Run, Exec, Generate, Load}
-use Rattle.cec_core.specs.Outcomes.{MakesOn, Agrees, CountsFiles, GainsOut}
+use Rattle.cec_core.specs.Outcomes.{MakesOn, Agrees, CountsFiles, IsTextOf, GainsOut}
 use Rattle.cec_core.specs.Refusals.{Compiles, IsRefused}
 use Rattle.cec_core.specs.Sources.{IsSource}
+use Rattle.cec_core.proofs.Pieces.{answer_rose}
 use Rattle.trace_run.specs.Running.{Sinks}
 
 -- ---- cycles
@@ -137,7 +138,8 @@ job_end job held (Trace fault) old new s agrees counts gains = absurd agrees.2
 job_end job held (BadText fault) old new s agrees counts gains = absurd agrees.2
 job_end job held (Limit quantity) old new s agrees counts gains =
     absurd (passes_limit job agrees.0 quantity (subst (IsSource job.main) (sym agrees.1) s) agrees.2)
-job_end job held WriteFault old new s agrees counts gains = absurd (never_rose gains.2.faults)
+job_end job held WriteFault old new s agrees counts gains =
+    absurd (never_rose (answer_rose job.task (IsTextOf job (Some held)) (steadily old new) gains))
 job_end job held NoMemory old new s agrees counts gains = inr refl
 
 -- Where no count rises, a source that compiles is done, unless memory runs out.

@@ -1,14 +1,16 @@
 -- To believe: what each outcome of the top call says.
-use Rattle.std.specs.Prelude.{◌≡◌, ℕ, ◌<◌, ◌≤◌, ⊤, List, [], length, Option, Some, None}
+use Rattle.std.specs.Prelude.{◌≡◌, ℕ, ◌<◌, ◌≤◌, ◌⊎◌, ⊤, List, [], length, Option, Some, None}
 use Rattle.est_base.specs.declared.bounds.TheConstants.Limits.{SOURCE_BYTES, TRACE_BYTES, TEXT_BYTES}
 use Rattle.est_base.specs.Faults.{Rose}
-use Rattle.est_base.specs.Writing.{Appends, Stops}
+use Rattle.est_base.specs.Writing.{Appends, Stops, GainsFront}
 use Rattle.est_gen.specs.Sources.{source_text}
 use Rattle.blif_run.specs.Loops.{HasNoLoop}
 use Rattle.blif_text.specs.Circuits.{Circuit, reading}
 use Rattle.std.specs.Prelude.{Ok}
 use Rattle.trace_run.specs.Executing.{IsTextFault, RunsText}
 use Rattle.trace_run.specs.Running.{Sinks}
+use Rattle.cec_core.specs.declared.jobs.Task.{Task}
+use Rattle.cec_core.specs.declared.jobs.Task.TheVariants.{Blif, C, Grc, Check}
 use Rattle.cec_core.specs.declared.outcome.Outcome.{Outcome}
 use Rattle.cec_core.specs.declared.outcome.Outcome.TheVariants.{Done, Usage, FileFault, Static, Cyclic, Trace, BadText}
 use Rattle.cec_core.specs.declared.outcome.Outcome.TheVariants.{Limit, WriteFault, NoMemory}
@@ -125,6 +127,19 @@ LeavesText IsText s WriteFault = (text : List ℕ) × IsText text
     × Stops s.before s.after s.faults_before s.faults_now text
 LeavesText IsText s others = Appends s.before s.after s.faults_before s.faults_now []
 
+-- A text that is written piece by piece: where memory is wanting between two pieces, a prefix of it is there.
+abbrev pub LeavesPieces : (List ℕ → Type 0) → Sinks → Outcome → Type 0
+LeavesPieces IsText s NoMemory = Appends s.before s.after s.faults_before s.faults_now []
+    ⊎ ((text : List ℕ) × IsText text × (s.faults_now ≡ s.faults_before) × GainsFront s.before s.after text)
+LeavesPieces IsText s others = LeavesText IsText s others
+
+-- netlists are written piece by piece, what is told of a graph as a whole
+abbrev pub LeavesAnswer : Task → (List ℕ → Type 0) → Sinks → Outcome → Type 0
+LeavesAnswer Blif IsText s outcome = LeavesPieces IsText s outcome
+LeavesAnswer C IsText s outcome = LeavesPieces IsText s outcome
+LeavesAnswer Grc IsText s outcome = LeavesText IsText s outcome
+LeavesAnswer Check IsText s outcome = LeavesText IsText s outcome
+
 -- what a task writes of the source in a file
 abbrev pub IsTextOf : Job → Content → List ℕ → Type 0
 IsTextOf job content text = Holds content job.name (λ bytes. IsAnswer job bytes text)
@@ -133,7 +148,7 @@ IsTextOf job content text = Holds content job.name (λ bytes. IsAnswer job bytes
 abbrev pub GainsOut : Option Request → Content → Outcome → Sinks → Type 0
 GainsOut None content outcome s = Appends s.before s.after s.faults_before s.faults_now []
 GainsOut (Some Help) content outcome s = LeavesText (λ text. text ≡ help_text) s outcome
-GainsOut (Some (Make job)) content outcome s = LeavesText (IsTextOf job content) s outcome
+GainsOut (Some (Make job)) content outcome s = LeavesAnswer job.task (IsTextOf job content) s outcome
 GainsOut (Some (Run job trace)) content outcome s =
     LeavesRun (λ result. Holds content job.name (λ bytes.
     Holds content trace (λ items. RunsSource job.main bytes items s result))) s outcome

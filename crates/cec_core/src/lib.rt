@@ -18,6 +18,7 @@ mod lines;
 mod outcome;
 mod refusal;
 mod steady;
+mod writing;
 
 pub use command::cec;
 pub use compiler::{Compiled, Graphed, blif_of, c_of, compile, source_graph};

@@ -2,18 +2,23 @@
 
 ghost use Rattle.std.specs.Prelude.{◌≡◌, ◌≤◌, length, Some, unwrap_or, []};
 ghost use Rattle.cec_core.specs.Answers.{IsAnswer};
+ghost use Rattle.cec_core.specs.Compiling.{StandsForText, StandsForC};
 ghost use Rattle.cec_core.specs.Jobs.{Make};
 ghost use Rattle.cec_core.specs.JobViews.{plain_job};
 ghost use Rattle.cec_core.specs.Lines.{GainsErr};
-ghost use Rattle.cec_core.specs.Outcomes.{Agrees, CountsFiles, GainsOut, LeavesText, MakesOn};
+ghost use Rattle.cec_core.specs.Outcomes.{Agrees, CountsFiles, GainsOut, LeavesAnswer, LeavesPieces, MakesOn};
 ghost use Rattle.cec_core.specs.Subjects.{plain_subject, unread_outcome};
 
-use crate::answers::answer;
-use crate::jobs::Job;
+use crate::answers::{counts, listing};
+use crate::compiler::compile_picked;
+use crate::jobs::{Job, Task};
 use crate::lines::{Subject, report};
 use crate::outcome::{Outcome, Which};
 use crate::refusal::Limit;
-use est_base::{FileFault, Files, Limits, Sink, write_text};
+use crate::writing::{write_in_pieces, write_whole};
+use blif_text::BlifPieces;
+use csub_text::CPieces;
+use est_base::{FileFault, Files, Limits, Sink};
 use std::alloc::Global;
 
 /// Does a task on the source in a file, and says how it ended.
@@ -78,11 +83,11 @@ pub(crate) fn unread(file: Which, limit: Limit, fault: FileFault) -> Outcome
     }
 }
 
-// The text that a job asks for, made of a source and written to `out`.
+// Does a task on a source: what it makes is written to `out`.
 fn written<O: Sink>(alloc: Global, job: Job<'_>, source: &[u8], out: &mut O) -> Outcome
     requires { length source.now ≤ Limits.SOURCE_BYTES }
     ensures agrees { MakesOn (plain_job job.entry).main result source.now }
-    ensures out { LeavesText (IsAnswer (plain_job job.entry) source.now)
+    ensures out { LeavesAnswer (plain_job job.entry).task (IsAnswer (plain_job job.entry) source.now)
         (record {
           before = O.told out.old;
           after = O.told out.new;
@@ -91,11 +96,60 @@ fn written<O: Sink>(alloc: Global, job: Job<'_>, source: &[u8], out: &mut O) -> 
         })
         result }
 {
-    match answer(alloc, job, source) {
-        Ok(text) => match write_text(out, &text) {
-            Ok(()) => Outcome::Done,
-            Err(_) => Outcome::WriteFault,
+    match job.task {
+        Task::Blif => blif_written(alloc, job, source, out),
+        Task::C => c_written(alloc, job, source, out),
+        Task::Grc => match listing(alloc, source, job.main) {
+            Ok(text) => write_whole(&text, out),
+            Err(refusal) => Outcome::from(refusal),
         },
+        Task::Check => match counts(alloc, source, job.main) {
+            Ok(text) => write_whole(&text, out),
+            Err(refusal) => Outcome::from(refusal),
+        },
+    }
+}
+
+// Writes the BLIF text of a source, piece by piece.
+fn blif_written<O: Sink>(alloc: Global, job: Job<'_>, source: &[u8], out: &mut O) -> Outcome
+    requires { length source.now ≤ Limits.SOURCE_BYTES }
+    ensures agrees { MakesOn (plain_job job.entry).main result source.now }
+    ensures out { LeavesPieces (StandsForText source.now (plain_job job.entry).main)
+        (record {
+          before = O.told out.old;
+          after = O.told out.new;
+          faults_before = O.faults out.old;
+          faults_now = O.faults out.new;
+        })
+        result }
+{
+    match compile_picked(alloc, source, job.main, job.pick) {
+        Ok(compiled) => {
+            let mut pieces = BlifPieces::new(&compiled.net);
+            write_in_pieces(alloc, &mut pieces, out)
+        }
+        Err(refusal) => Outcome::from(refusal),
+    }
+}
+
+// Writes the C text of a source, piece by piece.
+fn c_written<O: Sink>(alloc: Global, job: Job<'_>, source: &[u8], out: &mut O) -> Outcome
+    requires { length source.now ≤ Limits.SOURCE_BYTES }
+    ensures agrees { MakesOn (plain_job job.entry).main result source.now }
+    ensures out { LeavesPieces (StandsForC source.now (plain_job job.entry).main)
+        (record {
+          before = O.told out.old;
+          after = O.told out.new;
+          faults_before = O.faults out.old;
+          faults_now = O.faults out.new;
+        })
+        result }
+{
+    match compile_picked(alloc, source, job.main, job.pick) {
+        Ok(compiled) => {
+            let mut pieces = CPieces::new(&compiled.net);
+            write_in_pieces(alloc, &mut pieces, out)
+        }
         Err(refusal) => Outcome::from(refusal),
     }
 }

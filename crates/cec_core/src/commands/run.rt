@@ -20,7 +20,7 @@ ghost use Rattle.cec_core.specs.Subjects.{CountsTrace, LongTrace};
 
 use crate::commands::exec::run_outcome;
 use crate::commands::make::{subject_of, unread};
-use crate::compiler::{Compiled, compile};
+use crate::compiler::{Compiled, compile_picked};
 use crate::jobs::Job;
 use crate::lines::report;
 use crate::outcome::{Outcome, Which};
@@ -28,7 +28,6 @@ use crate::refusal::{Limit, Refusal};
 use blif_text::write_blif;
 use cec_words::Pick;
 use est_base::{Files, Limits, NoMemory, Sink};
-use grc_order::{Drawn, First, Last};
 use std::alloc::Global;
 use trace_run::{RunFault, net_interface, run_written};
 
@@ -127,27 +126,9 @@ pub(crate) fn compiled_text(
     ensures means { IfOk result (λ made. Means made.1.items (netlist_of made.0.net)) }
     ensures refuses { IfErr result (IsRefused source.now (option_map (λ m. m.now) main.entry)) }
 {
-    let compiled = picked_net(alloc, source, main, pick)?;
+    let compiled = compile_picked(alloc, source, main, pick)?;
     let text = write_blif(alloc, &compiled.net)?;
     Ok((compiled, text))
-}
-
-// A source compiled, in an evaluation order that is chosen so.
-fn picked_net(
-    alloc: Global,
-    source: &[u8],
-    main: Option<&[u8]>,
-    pick: Pick,
-) -> Result<Compiled, Refusal>
-    requires { length source.now ≤ Limits.SOURCE_BYTES }
-    ensures compiles { IfOk result (StandsForNet source.now (option_map (λ m. m.now) main.entry)) }
-    ensures refuses { IfErr result (IsRefused source.now (option_map (λ m. m.now) main.entry)) }
-{
-    match pick {
-        Pick::First => compile(alloc, source, main, &mut First),
-        Pick::Last => compile(alloc, source, main, &mut Last),
-        Pick::Drawn(start) => compile(alloc, source, main, &mut Drawn(start)),
-    }
 }
 
 // Runs the text of a compiled source over a trace, by the names and relations of the source.

@@ -5,7 +5,7 @@ use Rattle.cec_core.specs.Answers.{IsAnswer}
 use Rattle.cec_core.specs.declared.refusal.Limit.TheVariants as limits
 use Rattle.cec_core.specs.Jobs.{Make}
 use Rattle.cec_core.specs.JobViews.{plain_job}
-use Rattle.cec_core.specs.Outcomes.{MakesOn, LeavesText}
+use Rattle.cec_core.specs.Outcomes.{MakesOn, LeavesAnswer}
 use Rattle.cec_core.specs.Subjects.{plain_subject}
 use Rattle.cec_core.proofs.OneFile.{held_read, make_agrees, make_counts, make_out, source_subject, err_alone}
 use Rattle.cec_core.proofs.OneFile.{make_agrees_unread, counts_unread, make_out_unread, err_unread}
@@ -34,7 +34,7 @@ returns-in-Ok-clause-out g c =
       faults_now = g.O.Sink.faults c.written-outcome.new.out;
     } in
     make_out content job c.written-outcome.result c.in-Ok.source.items s (held_read content job.name SOURCE_BYTES c.in-Ok.source c.in-Ok.ensures.bytes)
-    (subst (λ bytes. LeavesText (IsAnswer job bytes) s c.written-outcome.result) c.deref.ensures.value c.written-outcome.ensures.out)
+    (subst (λ bytes. LeavesAnswer job.task (IsAnswer job bytes) s c.written-outcome.result) c.deref.ensures.value c.written-outcome.ensures.out)
 
 pub returns-in-Ok-clause-err : goal.returns-in-Ok-clause-err
 returns-in-Ok-clause-err g c =
