@@ -1,0 +1,3 @@
+pub mod BareNames
+pub mod CRuns
+pub mod Prefixes
