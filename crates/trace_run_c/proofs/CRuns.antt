@@ -54,7 +54,7 @@ told-by old new (Reset ∷ items) answers d =
     record { seen = more.seen; drives = (d.0, d.1, more.drives); are = more.are }
 
 -- a fresh machine, driven by items, answers what its program shows
-answers-run : (old new : Runner) (items : List Item) (answers : List Answer) → IsFresh old → Drives Answers Resets old items answers new
+pub answers-run : (old new : Runner) (items : List Item) (answers : List Answer) → IsFresh old → Drives Answers Resets old items answers new
     → answers ≡ map call_answer (run (program_in old) items)
 answers-run old new items answers fresh d =
     let told = told-by old new items answers d in
@@ -104,7 +104,7 @@ pub outputs-counted : (net : Netlist) (p : Program) → IsProgramOf net p → le
 outputs-counted net p of =
     sym (ap (λ q. length (outputs_of q)) of.is ∙ ap length of.means.outputs ∙ length-map net.outputs output_variable)
 
-answers-shown : (shown : List Shown) → map call_answer (map shown_by_call shown) ≡ map shown_answer shown
+pub answers-shown : (shown : List Shown) → map call_answer (map shown_by_call shown) ≡ map shown_answer shown
 answers-shown [] = refl
 answers-shown (s ∷ shown) = ap (λ l. shown_answer s ∷ l) (answers-shown shown)
 

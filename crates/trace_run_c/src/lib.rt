@@ -15,6 +15,7 @@ mod running;
 
 pub use executing::exec_c;
 pub use laws::c_runs_are_written;
+pub use machine::CMachine;
 pub use net_runs::run_written_c;
 pub use running::run_c;
 

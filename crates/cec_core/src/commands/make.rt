@@ -2,7 +2,6 @@
 
 ghost use Rattle.std.specs.Prelude.{◌≡◌, ◌≤◌, length, Some, unwrap_or, []};
 ghost use Rattle.cec_core.specs.Answers.{IsAnswer};
-ghost use Rattle.cec_core.specs.Compiling.{StandsForText, StandsForC};
 ghost use Rattle.cec_core.specs.Jobs.{Make};
 ghost use Rattle.cec_core.specs.JobViews.{plain_job};
 ghost use Rattle.cec_core.specs.Lines.{GainsErr};
@@ -24,28 +23,29 @@ use std::alloc::Global;
 /// Does a task on the source in a file, and says how it ended.
 pub(crate) fn make_text<F: Files, O: Sink, E: Sink>(
     alloc: Global,
+    task: Task,
     job: Job<'_>,
     files: &mut F,
     out: &mut O,
     err: &mut E,
 ) -> Outcome
-    ensures agrees { Agrees (Some (Make (plain_job job.entry))) (F.content files.old) result }
-    ensures files_counted { CountsFiles (Some (Make (plain_job job.entry))) result
+    ensures agrees { Agrees (Some (Make task (plain_job job.entry))) (F.content files.old) result }
+    ensures files_counted { CountsFiles (Some (Make task (plain_job job.entry))) result
         (F.faults files.old) (F.faults files.new) (F.last_failed files.old) (F.last_failed files.new) }
     ensures files_stay { F.content files.new ≡ F.content files.old }
-    ensures out { GainsOut (Some (Make (plain_job job.entry))) (F.content files.old) result
+    ensures out { GainsOut (Some (Make task (plain_job job.entry))) (F.content files.old) result
         (record {
           before = O.told out.old;
           after = O.told out.new;
           faults_before = O.faults out.old;
           faults_now = O.faults out.new;
         }) }
-    ensures err { GainsErr (Some (Make (plain_job job.entry))) (F.content files.old) result
+    ensures err { GainsErr (Some (Make task (plain_job job.entry))) (F.content files.old) result
         (E.told err.old) (E.told err.new) (E.faults err.old) (E.faults err.new) }
 {
     match files.read(alloc, job.name, Limits::SOURCE_BYTES) {
         Ok(source) => {
-            let outcome = written(alloc, job, &source, out);
+            let outcome = written(alloc, task, job, &source, out);
             report(err, subject_of(job, "", &source), &outcome);
             outcome
         }
@@ -84,10 +84,10 @@ pub(crate) fn unread(file: Which, limit: Limit, fault: FileFault) -> Outcome
 }
 
 // Does a task on a source: what it makes is written to `out`.
-fn written<O: Sink>(alloc: Global, job: Job<'_>, source: &[u8], out: &mut O) -> Outcome
+fn written<O: Sink>(alloc: Global, task: Task, job: Job<'_>, source: &[u8], out: &mut O) -> Outcome
     requires { length source.now ≤ Limits.SOURCE_BYTES }
     ensures agrees { MakesOn (plain_job job.entry).main result source.now }
-    ensures out { LeavesAnswer (plain_job job.entry).task (IsAnswer (plain_job job.entry) source.now)
+    ensures out { LeavesAnswer task (IsAnswer task (plain_job job.entry).main source.now)
         (record {
           before = O.told out.old;
           after = O.told out.new;
@@ -96,7 +96,7 @@ fn written<O: Sink>(alloc: Global, job: Job<'_>, source: &[u8], out: &mut O) -> 
         })
         result }
 {
-    match job.task {
+    match task {
         Task::Blif => blif_written(alloc, job, source, out),
         Task::C => c_written(alloc, job, source, out),
         Task::Grc => match listing(alloc, source, job.main) {
@@ -114,7 +114,7 @@ fn written<O: Sink>(alloc: Global, job: Job<'_>, source: &[u8], out: &mut O) -> 
 fn blif_written<O: Sink>(alloc: Global, job: Job<'_>, source: &[u8], out: &mut O) -> Outcome
     requires { length source.now ≤ Limits.SOURCE_BYTES }
     ensures agrees { MakesOn (plain_job job.entry).main result source.now }
-    ensures out { LeavesPieces (StandsForText source.now (plain_job job.entry).main)
+    ensures out { LeavesPieces (IsAnswer Task.Blif (plain_job job.entry).main source.now)
         (record {
           before = O.told out.old;
           after = O.told out.new;
@@ -136,7 +136,7 @@ fn blif_written<O: Sink>(alloc: Global, job: Job<'_>, source: &[u8], out: &mut O
 fn c_written<O: Sink>(alloc: Global, job: Job<'_>, source: &[u8], out: &mut O) -> Outcome
     requires { length source.now ≤ Limits.SOURCE_BYTES }
     ensures agrees { MakesOn (plain_job job.entry).main result source.now }
-    ensures out { LeavesPieces (StandsForC source.now (plain_job job.entry).main)
+    ensures out { LeavesPieces (IsAnswer Task.C (plain_job job.entry).main source.now)
         (record {
           before = O.told out.old;
           after = O.told out.new;
