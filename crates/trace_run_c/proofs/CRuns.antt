@@ -25,9 +25,10 @@ use Rattle.trace_run.specs.NetRuns.{shown_answer, ShowsNet}
 use Rattle.trace_run.specs.Running.{Sinks, IsFront, RunsTrace}
 use Rattle.trace_run.proofs.Events.{events-fit, runs-along}
 use Rattle.trace_run.proofs.Stepping.{runs-so}
-use Rattle.trace_run_c.specs.CAnswers.{bare_inputs, bare_outputs, call_answer, ShowsC}
+use Rattle.trace_run_c.specs.CAnswers.{bare_name, bare_inputs, bare_outputs, call_answer, ShowsC}
 use Rattle.trace_run_c.specs.CMachines.{Answers}
 use Rattle.trace_run_c.specs.Insides.{IsProgramOf}
+use Rattle.trace_run_c.specs.Laws.{CNetsAreRun}
 
 -- what is seen of the calls behind the answers
 record Told (old : Runner) (items : List Item) (answers : List Answer) : Type 0 where
@@ -92,6 +93,7 @@ reader-lacks text net error means fits r = by_error error ((written-are-read tex
     by_error (faults.Unset name) lacks = absurd lacks
     by_error faults.NoMemory lacks = refl
 
+-- and reads it as the program by which it means the net
 pub reader-reads : (text : List ℕ) (net : Netlist) (p : Program) → Means text net → ReadsAs text p → IsProgramOf net p
 reader-reads text net p means reads = record { text = text; means = means; is = (written-are-read text net means).only p reads.describes }
 
@@ -107,6 +109,26 @@ outputs-counted net p of =
 pub answers-shown : (shown : List Shown) → map call_answer (map shown_by_call shown) ≡ map shown_answer shown
 answers-shown [] = refl
 answers-shown (s ∷ shown) = ap (λ l. shown_answer s ∷ l) (answers-shown shown)
+
+-- its machine answers what the net shows
+answers-net : (net : Netlist) (old new : Runner) → IsProgramOf net (program_in old) → IsFresh old → (items : List Item) (answers : List Answer)
+    → EachEvent (λ event. length event ≡ length net.inputs) items → Drives Answers Resets old items answers new
+    → answers ≡ map shown_answer (net_run net items)
+answers-net net old new of fresh items answers wide d =
+    answers-run old new items answers fresh d ∙ ap (λ q. map call_answer (run q items)) of.is ∙ ap (map call_answer) (of.means.shows items wide)
+    ∙ answers-shown (net_run net items)
+
+bare-again : (names : List (List ℕ)) → map bare_name (map input_variable names) ≡ names
+bare-again [] = refl
+bare-again (name ∷ names) = ap (λ l. name ∷ l) (bare-again names)
+
+pub c-nets-are-run : CNetsAreRun
+c-nets-are-run text net p means describes =
+    let of : IsProgramOf net p = record { text = text; means = means; is = (written-are-read text net means).only p describes } in (
+      ap bare_inputs of.is ∙ ap (map bare_name) of.means.inputs ∙ bare-again net.inputs,
+      sym (outputs-counted net p of),
+      λ old new items answers is fresh wide d. answers-net net old new (subst (IsProgramOf net) (sym is) of) fresh items answers wide d,
+    )
 
 widths : (n : ℕ) (relations : List Relation) (items : List Item) → EachEvent (λ event. (length event ≡ n) × MeetsAll relations event) items
     → EachEvent (λ inputs. length inputs ≡ n) items
@@ -127,7 +149,5 @@ runs-net net old new of fresh trace names given relations s result same runs =
     along items lines front brings =
         let fits = subst (λ g. EachEvent (λ event. (length event ≡ length g) × MeetsAll relations event) items) same
         (events-fit trace given relations items front) in
-        let shows = of.means.shows items (widths (length net.inputs) relations items fits) in
-        brings.2
-        ∙ ap (answer_lines names) (answers-run old new items brings.0 fresh brings.1 ∙ ap (λ q. map call_answer (run q items)) of.is
-        ∙ ap (map call_answer) shows ∙ answers-shown (net_run net items))
+        let wide = widths (length net.inputs) relations items fits in
+        brings.2 ∙ ap (answer_lines names) (answers-net net old new of fresh items brings.0 wide brings.1)

@@ -9,9 +9,9 @@ use est_base::Sink;
 use std::alloc::Global;
 use trace_run::{ExecFault, RunFault, TextFault};
 
-/// Reads a text of the C subset and runs its program over a trace: one line for each instant, right behind its call. The
-/// interface is the text's own: its inputs and outputs without `I_` and `O_`; there are no relations. The value that a
-/// call returns gives the line's word.
+/// Reads a text of the C subset and runs its program over a trace: one line for each instant, right behind its call.
+/// The interface is the text's own: its inputs and outputs without `I_` and `O_`; there are no relations. The value
+/// that a call returns gives the line's word.
 ///
 /// The faults come in this order: those of the text, then those of the trace, item by item.
 pub fn exec_c<O: Sink>(

@@ -13,7 +13,8 @@ use std::marker::Model;
 use trace_io::Word;
 use trace_run::Runner;
 
-/// The machine of a program, as one that items drive. A contract sees it as csub_run's machine.
+/// The machine of a program, as one that items drive: an event is one call, whose returned value gives the word. A
+/// contract sees it as csub_run's machine.
 #[derive(Drop)]
 pub struct CMachine<'a> {
     calls: CRunner<'a>,
@@ -33,7 +34,8 @@ impl<'a> Model for CMachine<'a> {
 }
 
 impl<'a> CMachine<'a> {
-    /// The machine of a program before its first call. Want of memory is the only error.
+    /// The machine of a program before its first call. The program keeps the rules on names, as each one does that
+    /// some text describes. Want of memory is the only error.
     pub fn new(alloc: Global, program: &'a CProgram) -> Result<CMachine<'a>, NoMemory>
         requires { KeepsNames (program_of program.now) }
         ensures program { IfOk result (λ m. m.code ≡ program.now) }

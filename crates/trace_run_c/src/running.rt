@@ -25,7 +25,8 @@ pub fn run_c<O: Sink>(
 ) -> Result<(), RunFault>
     requires names { KeepsNames (program_of program.now) }
     requires short { length trace.items ≤ 2 ^ 24 }
-    ensures { RunsTrace (ShowsC (program_of program.now)) (beginning trace.items (bare_inputs (program_of program.now)) [])
+    ensures { RunsTrace (ShowsC (program_of program.now))
+        (beginning trace.items (bare_inputs (program_of program.now)) [])
         (record {
           before = O.told out.old;
           after = O.told out.new;
