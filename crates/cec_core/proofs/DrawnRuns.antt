@@ -1,14 +1,26 @@
 -- Runs over drawn events, and what is counted of them.
-use Rattle.std.proofs.Common.{◌≡◌, ℕ, zero, suc, ◌+◌, ◌*◌, ◌<◌, ◌≤◌, Bool, true, false, if◌then◌else◌, List, [], ◌∷◌, ◌++◌, length, map, Option, Some, None}
+use Rattle.std.proofs.Common.{◌≡◌, ℕ, zero, suc, ◌+◌, ◌*◌, ◌<◌, ◌≤◌, Bool, true, false, if◌then◌else◌, List, [], ◌∷◌, ◌++◌, length, map}
+use Rattle.std.proofs.Common.{Option, Some, None, Ok}
 use Rattle.std.proofs.Common.{refl, sym, ap, ap₂, ◌∙◌, subst, arith}
 use Rattle.std.specs.Prelude.{◌==◌, count_by, codes, decimal}
 use Rattle.std.proofs.lemmas.List.{length-take}
-use Rattle.est_base.specs.Items.{Item, Event, Reset}
+use Rattle.est_base.specs.Items.{Item, Event, Reset, EachEvent}
 use Rattle.est_base.specs.Relations.{Relation, MeetsAll}
 use Rattle.est_gen.specs.Draws.{drawn, next_state, state_after, event_from}
 use Rattle.est_kernel.specs.Plain.{Program, given_count, given_names}
 use Rattle.est_kernel.specs.Reactions as semantics
 use Rattle.net_ir.specs.Netlists.{Netlist}
+use Rattle.blif_text.specs.Circuits.{Circuit, reading}
+use Rattle.blif_text.specs.Written as blif_texts
+use Rattle.blif_run.specs.Runners as blif
+use Rattle.csub_run.specs.Runners as c_run
+use Rattle.csub_text.specs.Machine as c_machine
+use Rattle.trace_run.specs.BlifRunners as blif_answers
+use Rattle.trace_run.proofs.Nets.{nets-are-run}
+use Rattle.trace_run_c.specs.CAnswers.{call_answer}
+use Rattle.trace_run_c.specs.CMachines as c_answers
+use Rattle.trace_run_c.specs.Insides.{IsProgramOf}
+use Rattle.trace_run_c.proofs.CRuns.{answers-run, answers-shown}
 use Rattle.net_ir.specs.Runs.{net_run}
 use Rattle.trace_io.specs.declared.lines.Word.{Word}
 use Rattle.trace_io.specs.declared.lines.Word.TheVariants.{Paused, Ended, Bare}
@@ -18,7 +30,7 @@ use Rattle.trace_run.specs.NetRuns.{shown_answer}
 use Rattle.trace_run.proofs.Leading.{drives-more}
 use Rattle.cec_core.specs.declared.commands.load.Counts.{Counts}
 use Rattle.cec_core.specs.Loads.{drawn_items, emitted_count, paused_count, summary_text}
-use Rattle.cec_core.specs.Loading.{present_count, pause_of, pause_count, drawn_state, counted_text, CountsOf, CountsMachine, CountsNet}
+use Rattle.cec_core.specs.Loading.{present_count, pause_of, pause_count, drawn_state, counted_text, CountsOf, CountsMachine, CountsMore, CountsNet}
 use Rattle.cec_core.specs.Meaning.{IsEvent, AreItems, seen_of, NetKeeps}
 use Rattle.cec_core.specs.Runs.{line_answer}
 
@@ -62,17 +74,26 @@ pub drawn-nothing : {S : Type 0} (reacts : S → List Bool → Answer → S → 
     → DrawnSoFar reacts resets old old x x 0 0 0
 drawn-nothing reacts resets old x = record { answers = []; drives = refl; state = refl; present = refl; pauses = refl; few = omega arith; each = omega arith }
 
-pub drawn-once : {S : Type 0} (reacts : S → List Bool → Answer → S → Type 0) (resets : S → S → Type 0) (old mid new : S) (x y z n emitted paused : ℕ)
-    (event : List Bool) (answer : Answer) (count pause : ℕ) → DrawnSoFar reacts resets old mid x y n emitted paused → event ≡ event_from 8 y
-    → z ≡ state_after 8 y → reacts mid event answer new → count ≡ count_by (λ b. b) answer.present → count ≤ 8 → pause ≡ pause_of answer.word → pause ≤ 1
-    → DrawnSoFar reacts resets old new x z (n + 1) (emitted + count) (paused + pause)
-drawn-once reacts resets old mid new x y z n emitted paused event answer count pause so is behind react counted few paused_is one =
+pub pause-small : (w : Word) → pause_of w ≤ 1
+pause-small Paused = omega arith
+pause-small Ended = omega arith
+pause-small Bare = omega arith
+
+pub drawn-once : {S : Type 0} (reacts : S → List Bool → Answer → S → Type 0) (resets : S → S → Type 0) (old mid new : S) (x y z n : ℕ)
+    (before now : Counts) (event : List Bool) → DrawnSoFar reacts resets old mid x y n before.emitted before.paused → event ≡ event_from 8 y
+    → z ≡ state_after 8 y → CountsMore reacts mid event new before now → DrawnSoFar reacts resets old new x z (n + 1) now.emitted now.paused
+drawn-once reacts resets old mid new x y z n before now event so is behind more =
+    let answer = more.answer in
     let step : Drives reacts resets mid (Event (event_from 8 (drawn_state n x)) ∷ []) (answer ∷ []) new =
-    (new, subst (λ e. reacts mid e answer new) (is ∙ ap (event_from 8) so.state) react, refl) in
+    (new, subst (λ e. reacts mid e answer new) (is ∙ ap (event_from 8) so.state) more.react, refl) in
     let here = so.few in
     let there = so.each in
     let p = so.present in
     let q = so.pauses in
+    let emitted_is = more.emitted in
+    let paused_is = more.paused in
+    let few = more.few in
+    let one = pause-small answer.word in
     let shown = present-append so.answers (answer ∷ []) in
     let paused_all = pause-append so.answers (answer ∷ []) in
     record {
@@ -80,10 +101,10 @@ drawn-once reacts resets old mid new x y z n emitted paused event answer count p
       drives = subst (λ items. Drives reacts resets old items (so.answers ++ answer ∷ []) new) (sym (drawn-more n x))
           (drives-more reacts resets old mid new (drawn_items n x) so.answers (Event (event_from 8 (drawn_state n x)) ∷ []) (answer ∷ []) so.drives step);
       state = behind ∙ ap (state_after 8) so.state ∙ sym (state-more n x);
-      present = omega (arith, p, shown, counted);
+      present = omega (arith, p, shown, emitted_is);
       pauses = omega (arith, q, paused_all, paused_is);
-      few = omega (arith, here, few);
-      each = omega (arith, there, one);
+      few = omega (arith, here, few, emitted_is);
+      each = omega (arith, there, one, paused_is);
     }
 
 pub drawn-all : {S : Type 0} (reacts : S → List Bool → Answer → S → Type 0) (resets : S → S → Type 0) (old new : S) (x y n emitted paused : ℕ)
@@ -91,16 +112,15 @@ pub drawn-all : {S : Type 0} (reacts : S → List Bool → Answer → S → Type
     → CountsMachine reacts resets old new (drawn_items n x) (record { emitted = emitted; paused = paused })
 drawn-all reacts resets old new x y n emitted paused so = (so.answers, so.drives, record { emitted = so.present; paused = so.pauses })
 
-pub pause-small : (w : Word) → pause_of w ≤ 1
-pause-small Paused = omega arith
-pause-small Ended = omega arith
-pause-small Bare = omega arith
-
 -- ---- the numbers of a program's run
 
 event-wide : (n x : ℕ) → length (event_from n x) ≡ n
 event-wide zero x = refl
 event-wide (suc n) x = ap suc (event-wide n (next_state x))
+
+pub drawn-wide : (n x : ℕ) → EachEvent (λ event. length event ≡ 8) (drawn_items n x)
+drawn-wide zero x = tt
+drawn-wide (suc n) x = (event-wide 8 x, drawn-wide n (state_after 8 x))
 
 -- the drawn events are events of a program with eight given signals and no relations
 pub drawn-fits : (p : Program) → given_count p ≡ 8 → p.relations ≡ [] → (n x : ℕ) → AreItems p (drawn_items n x)
@@ -130,3 +150,26 @@ counts-seen answers net items instants c same counts =
     let first : c.emitted ≡ emitted_count answers = counts.emitted ∙ ap (λ l. present_count (map shown_answer l)) same ∙ emitted-seen answers in
     let second : c.paused ≡ paused_count answers = counts.paused ∙ ap (λ l. pause_count (map shown_answer l)) same ∙ paused-seen answers in
     ap₂ (counted_text instants) first second
+
+-- ---- the two texts of a net
+
+pub counts-agree : (net : Netlist) (items : List Item) (c d : Counts) → CountsNet net items c → CountsNet net items d
+    → (c.emitted ≡ d.emitted) × (c.paused ≡ d.paused)
+counts-agree net items c d x y = (x.emitted ∙ sym y.emitted, x.paused ∙ sym y.paused)
+
+-- what a machine of the BLIF text counts
+pub circuit-counts : (text : List ℕ) (net : Netlist) (circuit : Circuit) (old new : blif.Runner) (items : List Item) (counts : Counts)
+    → blif_texts.Means text net → reading text ≡ Ok circuit → old.circuit ≡ circuit → blif.IsFresh old
+    → CountsMachine blif_answers.Answers blif.Resets old new items counts → CountsNet net items counts
+circuit-counts text net circuit old new items counts means reads of fresh run =
+    subst (λ a. CountsOf a counts) ((nets-are-run text net circuit means reads).2 old new items run.0 of fresh run.1) run.2
+
+-- what a machine of the C text counts
+pub program-counts : (net : Netlist) (old new : c_run.Runner) (n x : ℕ) (counts : Counts) → IsProgramOf net (c_run.program_in old) → c_run.IsFresh old
+    → length net.inputs ≡ 8 → CountsMachine c_answers.Answers c_run.Resets old new (drawn_items n x) counts → CountsNet net (drawn_items n x) counts
+program-counts net old new n x counts of fresh wide run =
+    let items = drawn_items n x in
+    let events = subst (λ w. EachEvent (λ event. length event ≡ w) items) (sym wide) (drawn-wide n x) in
+    let shown : run.0 ≡ map shown_answer (net_run net items) = answers-run old new items run.0 fresh run.1
+    ∙ ap (λ q. map call_answer (c_machine.run q items)) of.is ∙ ap (map call_answer) (of.means.shows items events) ∙ answers-shown (net_run net items) in
+    subst (λ a. CountsOf a counts) shown run.2

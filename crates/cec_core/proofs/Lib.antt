@@ -1,10 +1,13 @@
 pub mod GraphFacts
 pub mod Keeping
+pub mod Pieces
 pub mod OneFile
 pub mod TwoFiles
+pub mod NetTexts
 pub mod RunLines
 pub mod DrawnRuns
 pub mod WireWords
 pub mod Simplified
 pub mod Joined
 pub mod Unrefused
+pub mod Accepting

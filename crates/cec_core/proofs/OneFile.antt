@@ -22,15 +22,16 @@ use Rattle.cec_core.specs.declared.refusal.Limit as bounds
 use Rattle.cec_core.specs.declared.refusal.Limit.TheVariants as limits
 use Rattle.cec_core.specs.declared.refusal.Refusal as refused
 use Rattle.cec_core.specs.declared.refusal.Refusal.TheVariants as refusals
-use Rattle.cec_core.specs.Answers.{IsAnswer, IsAnswerOf}
+use Rattle.cec_core.specs.Answers.{IsAnswer}
 use Rattle.cec_core.specs.Contents.{Content, IsHeld, Holds}
 use Rattle.cec_core.specs.Jobs.{Job, Request, Help, Make, Run, Exec, Generate, Load}
 use Rattle.cec_core.specs.Lines.{Subject, line_of, IsSourceSubject, IsSubjectOf, GainsErr}
-use Rattle.cec_core.specs.Outcomes.{MakesOn, AgreesOnFile, Agrees, IsFileOf, CountsFiles, LeavesText, IsTextOf, GainsOut}
+use Rattle.cec_core.specs.Outcomes.{MakesOn, AgreesOnFile, Agrees, IsFileOf, CountsFiles, LeavesText, LeavesAnswer, IsTextOf, GainsOut}
 use Rattle.cec_core.specs.Refusals.{IsRefused}
 use Rattle.cec_core.specs.Sources.{IsSource}
 use Rattle.cec_core.specs.Statuses.{outcome_of}
 use Rattle.cec_core.specs.Subjects.{unread_outcome}
+use Rattle.cec_core.proofs.Pieces.{answer_as, unread_answer}
 
 -- what was written of a line: the whole, or a prefix after a fault
 pub whole_or_front : (old new : Option (List ℕ)) (before now : ℕ) (line : List ℕ) (answer : Result (Unit {0}) SinkFault) → Wrote old new before now line answer
@@ -67,44 +68,38 @@ some_bytes (Some held) name = (held name, refl, tt)
 
 -- ---- a source that was read
 
-pub make_agrees : (content : Content) (job : Job) (outcome : Outcome) (bytes : List ℕ) → IsHeld content job.name bytes → MakesOn job.main outcome bytes
-    → Agrees (Some (Make job)) content outcome
-make_agrees content job Done bytes held m = (bytes, held, m)
-make_agrees content job Usage bytes held m = absurd m
-make_agrees content job (Unread file) bytes held m = absurd m
-make_agrees content job (Static fault) bytes held m = (bytes, held, m)
-make_agrees content job (Cyclic cycle) bytes held m = (bytes, held, m)
-make_agrees content job (Trace fault) bytes held m = absurd m
-make_agrees content job (BadText fault) bytes held m = absurd m
-make_agrees content job (Limit quantity) bytes held m = (bytes, held, m)
-make_agrees content job WriteFault bytes held m = (bytes, held, m)
-make_agrees content job NoMemory bytes held m = (bytes, held, m)
+pub make_agrees : (content : Content) (task : Task) (job : Job) (outcome : Outcome) (bytes : List ℕ) → IsHeld content job.name bytes
+    → MakesOn job.main outcome bytes
+    → Agrees (Some (Make task job)) content outcome
+make_agrees content task job Done bytes held m = (bytes, held, m)
+make_agrees content task job Usage bytes held m = absurd m
+make_agrees content task job (Unread file) bytes held m = absurd m
+make_agrees content task job (Static fault) bytes held m = (bytes, held, m)
+make_agrees content task job (Cyclic cycle) bytes held m = (bytes, held, m)
+make_agrees content task job (Trace fault) bytes held m = absurd m
+make_agrees content task job (BadText fault) bytes held m = absurd m
+make_agrees content task job (Limit quantity) bytes held m = (bytes, held, m)
+make_agrees content task job WriteFault bytes held m = (bytes, held, m)
+make_agrees content task job NoMemory bytes held m = (bytes, held, m)
 
-pub make_counts : (job : Job) (outcome : Outcome) (bytes : List ℕ) (before now : ℕ) (failed_before failed_now : List ℕ) → MakesOn job.main outcome bytes
-    → Keeps before now failed_before failed_now → CountsFiles (Some (Make job)) outcome before now failed_before failed_now
-make_counts job Done bytes before now failed_before failed_now m k = (k.faults, k.failed)
-make_counts job Usage bytes before now failed_before failed_now m k = absurd m
-make_counts job (Unread file) bytes before now failed_before failed_now m k = absurd m
-make_counts job (Static fault) bytes before now failed_before failed_now m k = (k.faults, k.failed)
-make_counts job (Cyclic cycle) bytes before now failed_before failed_now m k = (k.faults, k.failed)
-make_counts job (Trace fault) bytes before now failed_before failed_now m k = absurd m
-make_counts job (BadText fault) bytes before now failed_before failed_now m k = absurd m
-make_counts job (Limit quantity) bytes before now failed_before failed_now m k = (k.faults, k.failed)
-make_counts job WriteFault bytes before now failed_before failed_now m k = (k.faults, k.failed)
-make_counts job NoMemory bytes before now failed_before failed_now m k = (k.faults, k.failed)
+pub make_counts : (task : Task) (job : Job) (outcome : Outcome) (bytes : List ℕ) (before now : ℕ) (failed_before failed_now : List ℕ)
+    → MakesOn job.main outcome bytes
+    → Keeps before now failed_before failed_now → CountsFiles (Some (Make task job)) outcome before now failed_before failed_now
+make_counts task job Done bytes before now failed_before failed_now m k = (k.faults, k.failed)
+make_counts task job Usage bytes before now failed_before failed_now m k = absurd m
+make_counts task job (Unread file) bytes before now failed_before failed_now m k = absurd m
+make_counts task job (Static fault) bytes before now failed_before failed_now m k = (k.faults, k.failed)
+make_counts task job (Cyclic cycle) bytes before now failed_before failed_now m k = (k.faults, k.failed)
+make_counts task job (Trace fault) bytes before now failed_before failed_now m k = absurd m
+make_counts task job (BadText fault) bytes before now failed_before failed_now m k = absurd m
+make_counts task job (Limit quantity) bytes before now failed_before failed_now m k = (k.faults, k.failed)
+make_counts task job WriteFault bytes before now failed_before failed_now m k = (k.faults, k.failed)
+make_counts task job NoMemory bytes before now failed_before failed_now m k = (k.faults, k.failed)
 
-pub make_out : (content : Content) (job : Job) (outcome : Outcome) (bytes : List ℕ) (s : Sinks) → IsHeld content job.name bytes
-    → LeavesText (IsAnswer job bytes) s outcome → GainsOut (Some (Make job)) content outcome s
-make_out content job Done bytes s held l = (l.0, (bytes, held, l.1), l.2)
-make_out content job Usage bytes s held l = l
-make_out content job (Unread file) bytes s held l = l
-make_out content job (Static fault) bytes s held l = l
-make_out content job (Cyclic cycle) bytes s held l = l
-make_out content job (Trace fault) bytes s held l = l
-make_out content job (BadText fault) bytes s held l = l
-make_out content job (Limit quantity) bytes s held l = l
-make_out content job WriteFault bytes s held l = (l.0, (bytes, held, l.1), l.2)
-make_out content job NoMemory bytes s held l = l
+pub make_out : (content : Content) (task : Task) (job : Job) (outcome : Outcome) (bytes : List ℕ) (s : Sinks) → IsHeld content job.name bytes
+    → LeavesAnswer task (IsAnswer task job.main bytes) s outcome → GainsOut (Some (Make task job)) content outcome s
+make_out content task job outcome bytes s held l =
+    answer_as task (IsAnswer task job.main bytes) (IsTextOf task job content) s outcome (λ text is. (bytes, held, is)) l
 
 -- what a line speaks of where the source was read
 pub source_subject : (content : Content) (job : Job) (bytes : List ℕ) (x : Subject) → IsHeld content job.name bytes → x.name ≡ job.name
@@ -113,11 +108,11 @@ source_subject content job bytes x held name main source = (name, main, subst (I
 
 -- ---- a source that was not read
 
-pub make_agrees_unread : (content : Content) (job : Job) (fault : FileFault) → Reads content job.name SOURCE_BYTES (Err fault)
-    → Agrees (Some (Make job)) content (unread_outcome First limits.Source fault)
-make_agrees_unread content job reading.Failed read = tt
-make_agrees_unread content job reading.TooLong read = long_unread content job.name SOURCE_BYTES read
-make_agrees_unread content job reading.NoMemory read = some_bytes content job.name
+pub make_agrees_unread : (content : Content) (task : Task) (job : Job) (fault : FileFault) → Reads content job.name SOURCE_BYTES (Err fault)
+    → Agrees (Some (Make task job)) content (unread_outcome First limits.Source fault)
+make_agrees_unread content task job reading.Failed read = tt
+make_agrees_unread content task job reading.TooLong read = long_unread content job.name SOURCE_BYTES read
+make_agrees_unread content task job reading.NoMemory read = some_bytes content job.name
 
 -- of any command whose first file this is
 pub counts_unread : (request : Request) (name : List ℕ) (limit : bounds.Limit) (fault : FileFault) (before now : ℕ) (failed_before failed_now : List ℕ)
@@ -128,11 +123,9 @@ counts_unread request name limit reading.Failed before now failed_before failed_
 counts_unread request name limit reading.TooLong before now failed_before failed_now is k = (k.faults, k.failed)
 counts_unread request name limit reading.NoMemory before now failed_before failed_now is k = (k.faults, k.failed)
 
-pub make_out_unread : (content : Content) (job : Job) (fault : FileFault) (s : Sinks) → Appends s.before s.after s.faults_before s.faults_now []
-    → GainsOut (Some (Make job)) content (unread_outcome First limits.Source fault) s
-make_out_unread content job reading.Failed s a = a
-make_out_unread content job reading.TooLong s a = a
-make_out_unread content job reading.NoMemory s a = a
+pub make_out_unread : (content : Content) (task : Task) (job : Job) (fault : FileFault) (s : Sinks) → Appends s.before s.after s.faults_before s.faults_now []
+    → GainsOut (Some (Make task job)) content (unread_outcome First limits.Source fault) s
+make_out_unread content task job fault s a = unread_answer task (IsTextOf task job content) fault s a
 
 -- the bytes that a file holds, where that is told
 held_by : Content → List ℕ → List ℕ
@@ -172,16 +165,6 @@ err_unread request content job trace fault x old new before now is name gains =
 
 -- ---- what is made of a source
 
--- a job that has an answer has a source
-pub answer_source : (job : Job) (source text : List ℕ) → length source ≤ SOURCE_BYTES → IsAnswer job source text → IsSource job.main source
-answer_source job source text short a = by_task job.task a
-  where
-    by_task : (task : Task) → IsAnswerOf task source job.main text → IsSource job.main source
-    by_task Blif b = record { program = b.program; short = short; source = b.source; compiles = b.compiles }
-    by_task C b = record { program = b.program; short = short; source = b.source; compiles = b.compiles }
-    by_task Grc b = record { program = b.program; short = short; source = b.source; compiles = b.compiles }
-    by_task Check b = record { program = b.program; short = short; source = b.source; compiles = b.compiles }
-
 pub refused_makes : (job : Job) (refusal : refused.Refusal) (source : List ℕ) → length source ≤ SOURCE_BYTES → IsRefused source job.main refusal
     → MakesOn job.main (outcome_of refusal) source
 refused_makes job (refusals.Static fault) source short r = record { short = short; refused = r }
@@ -220,8 +203,8 @@ err_usage asked content x old new before now e gains = record { subject = x; is_
 -- no request ends as words without a meaning do
 pub no_usage : (request : Request) (content : Content) → Agrees (Some request) content Usage → ⊥
 no_usage Help content a = a
-no_usage (Make job) content a = a.2
-no_usage (Run job trace) content a = a.2
-no_usage (Exec text trace) content a = a.2
+no_usage (Make task job) content a = a.2
+no_usage (Run via job trace) content a = a.2
+no_usage (Exec via text trace) content a = a.2
 no_usage (Generate start branches) content a = a
 no_usage (Load start branches instants) content a = a

@@ -9,9 +9,14 @@ use Rattle.est_base.specs.Reading.{Reads, Counts, Keeps}
 use Rattle.blif_text.specs.Reads.{ReadsFault}
 use Rattle.blif_text.specs.declared.refusal.BlifError.{BlifError}
 use Rattle.blif_text.specs.declared.refusal.BlifError.TheVariants as blifs
+use Rattle.cec_words.specs.declared.asked.Via.{Via}
+use Rattle.cec_words.specs.declared.asked.Via.TheVariants.{Blif, C}
+use Rattle.csub_read.specs.Faults as c_reading
+use Rattle.csub_read.specs.declared.refusal.CError.{CError}
+use Rattle.csub_read.specs.declared.refusal.CError.TheVariants as c_faults
 use Rattle.trace_run.specs.declared.running.RunFault.{RunFault}
 use Rattle.trace_run.specs.declared.running.RunFault.TheVariants as runs
-use Rattle.trace_run.specs.Executing.{IsUntouched, RunsText}
+use Rattle.trace_run.specs.Executing.{IsUntouched}
 use Rattle.trace_run.specs.Running.{Sinks}
 use Rattle.cec_core.specs.declared.outcome.Outcome.{Outcome}
 use Rattle.cec_core.specs.declared.outcome.Outcome.TheVariants.{Done, Usage, FileFault as Unread, Static, Cyclic, Trace, BadText, Limit, WriteFault, NoMemory}
@@ -23,12 +28,13 @@ use Rattle.cec_core.specs.declared.refusal.Refusal as refused
 use Rattle.cec_core.specs.declared.refusal.Refusal.TheVariants as refusals
 use Rattle.cec_core.specs.Contents.{Content, IsHeld, Holds}
 use Rattle.cec_core.specs.Jobs.{Job, Request, Help, Make, Run, Exec, Generate, Load}
-use Rattle.cec_core.specs.Outcomes.{MakesOn, RunsOn, IsRunnable, ExecutesOn, IsLongTrace, AgreesOnTwo, Agrees, IsFileOf, CountsFiles}
+use Rattle.cec_core.specs.ExecTexts.{IsRunnable, RunsBy}
+use Rattle.cec_core.specs.Outcomes.{MakesOn, RunsOn, ExecutesOn, IsLongTrace, AgreesOnTwo, Agrees, IsFileOf, CountsFiles}
 use Rattle.cec_core.specs.Refusals.{IsRefused}
 use Rattle.cec_core.specs.Runs.{RunsSource, LeavesRun}
 use Rattle.cec_core.specs.Sources.{IsSource}
 use Rattle.cec_core.specs.Statuses.{outcome_of}
-use Rattle.cec_core.specs.Subjects.{unread_outcome, run_outcome, text_outcome, CountsTrace, LongTrace}
+use Rattle.cec_core.specs.Subjects.{unread_outcome, run_outcome, text_outcome, c_text_outcome, CountsTrace, LongTrace}
 use Rattle.cec_core.proofs.OneFile.{long_unread, some_bytes}
 
 -- ---- behind the first file
@@ -93,17 +99,17 @@ leaves_unread P s file limit reading.Failed u = u
 leaves_unread P s file limit reading.TooLong u = u
 leaves_unread P s file limit reading.NoMemory u = inl u
 
-pub run_agrees_unread : (content : Content) (job : Job) (trace : List ℕ) (fault : FileFault) → Reads content job.name SOURCE_BYTES (Err fault)
-    → Agrees (Some (Run job trace)) content (unread_outcome First limits.Source fault)
-run_agrees_unread content job trace reading.Failed read = tt
-run_agrees_unread content job trace reading.TooLong read = long_unread content job.name SOURCE_BYTES read
-run_agrees_unread content job trace reading.NoMemory read = some_bytes content job.name
+pub run_agrees_unread : (content : Content) (via : Via) (job : Job) (trace : List ℕ) (fault : FileFault) → Reads content job.name SOURCE_BYTES (Err fault)
+    → Agrees (Some (Run via job trace)) content (unread_outcome First limits.Source fault)
+run_agrees_unread content via job trace reading.Failed read = tt
+run_agrees_unread content via job trace reading.TooLong read = long_unread content job.name SOURCE_BYTES read
+run_agrees_unread content via job trace reading.NoMemory read = some_bytes content job.name
 
-pub exec_agrees_unread : (content : Content) (text trace : List ℕ) (fault : FileFault) → Reads content text TEXT_BYTES (Err fault)
-    → Agrees (Some (Exec text trace)) content (unread_outcome First limits.Text fault)
-exec_agrees_unread content text trace reading.Failed read = tt
-exec_agrees_unread content text trace reading.TooLong read = long_unread content text TEXT_BYTES read
-exec_agrees_unread content text trace reading.NoMemory read = some_bytes content text
+pub exec_agrees_unread : (content : Content) (via : Via) (text trace : List ℕ) (fault : FileFault) → Reads content text TEXT_BYTES (Err fault)
+    → Agrees (Some (Exec via text trace)) content (unread_outcome First limits.Text fault)
+exec_agrees_unread content via text trace reading.Failed read = tt
+exec_agrees_unread content via text trace reading.TooLong read = long_unread content text TEXT_BYTES read
+exec_agrees_unread content via text trace reading.NoMemory read = some_bytes content text
 
 -- ---- the trace is not read
 
@@ -119,16 +125,17 @@ count_trace_unread trace reading.Failed a b f g k = (k.faults, k.failed)
 count_trace_unread trace reading.TooLong a b f g k = (k.faults, k.failed)
 count_trace_unread trace reading.NoMemory a b f g k = (k.faults, k.failed)
 
-pub exec_trace_unread : (bytes : List ℕ) (fault : FileFault) → IsRunnable bytes → ExecutesOn (unread_outcome Second limits.Trace fault) bytes
-exec_trace_unread bytes reading.Failed is = is
-exec_trace_unread bytes reading.TooLong is = is
-exec_trace_unread bytes reading.NoMemory is = tt
+pub exec_trace_unread : (via : Via) (bytes : List ℕ) (fault : FileFault) → IsRunnable via bytes →
+    ExecutesOn via (unread_outcome Second limits.Trace fault) bytes
+exec_trace_unread via bytes reading.Failed is = is
+exec_trace_unread via bytes reading.TooLong is = is
+exec_trace_unread via bytes reading.NoMemory is = tt
 
-pub run_trace_unread : (job : Job) (bytes : List ℕ) (fault : FileFault) → IsSource job.main bytes →
-    RunsOn job.main (unread_outcome Second limits.Trace fault) bytes
-run_trace_unread job bytes reading.Failed is = is
-run_trace_unread job bytes reading.TooLong is = is
-run_trace_unread job bytes reading.NoMemory is = tt
+pub run_trace_unread : (via : Via) (job : Job) (bytes : List ℕ) (fault : FileFault) → IsSource job.main bytes →
+    RunsOn via job.main (unread_outcome Second limits.Trace fault) bytes
+run_trace_unread via job bytes reading.Failed is = is
+run_trace_unread via job bytes reading.TooLong is = is
+run_trace_unread via job bytes reading.NoMemory is = tt
 
 -- ---- the run
 
@@ -144,17 +151,17 @@ count_trace_ran trace (Err (runs.Trace fault)) a b f g k = (k.faults, k.failed)
 count_trace_ran trace (Err runs.Write) a b f g k = (k.faults, k.failed)
 count_trace_ran trace (Err runs.NoMemory) a b f g k = (k.faults, k.failed)
 
-pub exec_ran : (bytes : List ℕ) (r : Result (Unit {0}) RunFault) → IsRunnable bytes → ExecutesOn (run_outcome r) bytes
-exec_ran bytes (Ok done) is = is
-exec_ran bytes (Err (runs.Trace fault)) is = is
-exec_ran bytes (Err runs.Write) is = is
-exec_ran bytes (Err runs.NoMemory) is = tt
+pub exec_ran : (via : Via) (bytes : List ℕ) (r : Result (Unit {0}) RunFault) → IsRunnable via bytes → ExecutesOn via (run_outcome r) bytes
+exec_ran via bytes (Ok done) is = is
+exec_ran via bytes (Err (runs.Trace fault)) is = is
+exec_ran via bytes (Err runs.Write) is = is
+exec_ran via bytes (Err runs.NoMemory) is = tt
 
-pub run_ran : (job : Job) (bytes : List ℕ) (r : Result (Unit {0}) RunFault) → IsSource job.main bytes → RunsOn job.main (run_outcome r) bytes
-run_ran job bytes (Ok done) is = is
-run_ran job bytes (Err (runs.Trace fault)) is = is
-run_ran job bytes (Err runs.Write) is = is
-run_ran job bytes (Err runs.NoMemory) is = tt
+pub run_ran : (via : Via) (job : Job) (bytes : List ℕ) (r : Result (Unit {0}) RunFault) → IsSource job.main bytes → RunsOn via job.main (run_outcome r) bytes
+run_ran via job bytes (Ok done) is = is
+run_ran via job bytes (Err (runs.Trace fault)) is = is
+run_ran via job bytes (Err runs.Write) is = is
+run_ran via job bytes (Err runs.NoMemory) is = tt
 
 pub leaves_ran : (P : Result (Unit {0}) RunFault → Type 0) (s : Sinks) (r : Result (Unit {0}) RunFault) → P r → LeavesRun P s (run_outcome r)
 leaves_ran P s (Ok done) p = p
@@ -163,10 +170,10 @@ leaves_ran P s (Err runs.Write) p = p
 leaves_ran P s (Err runs.NoMemory) p = inr p
 
 -- where a text was run over the trace that was read
-pub exec_left : (content : Content) (trace text : List ℕ) (s : Sinks) (r : Result (Unit {0}) RunFault) (items : List ℕ) → IsHeld content trace items
-    → RunsText text items s r → LeavesRun (λ ended. Holds content trace (λ i. RunsText text i s ended)) s (run_outcome r)
-exec_left content trace text s r items held runs =
-    leaves_ran (λ ended. Holds content trace (λ i. RunsText text i s ended)) s r (items, held, runs)
+pub exec_left : (via : Via) (content : Content) (trace text : List ℕ) (s : Sinks) (r : Result (Unit {0}) RunFault) (items : List ℕ) → IsHeld content trace items
+    → RunsBy via text items s r → LeavesRun (λ ended. Holds content trace (λ i. RunsBy via text i s ended)) s (run_outcome r)
+exec_left via content trace text s r items held runs =
+    leaves_ran (λ ended. Holds content trace (λ i. RunsBy via text i s ended)) s r (items, held, runs)
 
 -- where a source was run over it
 pub run_left : (content : Content) (trace : List ℕ) (main : Option (List ℕ)) (bytes : List ℕ) (s : Sinks) (r : Result (Unit {0}) RunFault) (items : List ℕ)
@@ -177,7 +184,7 @@ run_left content trace main bytes s r items held runs =
 
 -- ---- the first file is refused
 
-pub text_executes : (bytes : List ℕ) (error : BlifError) → ReadsFault bytes error → ExecutesOn (text_outcome error) bytes
+pub text_executes : (bytes : List ℕ) (error : BlifError) → ReadsFault bytes error → ExecutesOn Blif (text_outcome error) bytes
 text_executes bytes blifs.TooLong r = r
 text_executes bytes (blifs.Line number) r = r
 text_executes bytes (blifs.TwoDrivers name) r = r
@@ -205,22 +212,55 @@ text_leaves P s (blifs.TwoDrivers name) u = u
 text_leaves P s (blifs.NoDriver name) u = u
 text_leaves P s blifs.NoMemory u = inl u
 
-pub refused_runs : (job : Job) (refusal : refused.Refusal) (source : List ℕ) → length source ≤ SOURCE_BYTES → IsRefused source job.main refusal
-    → RunsOn job.main (outcome_of refusal) source
-refused_runs job (refusals.Static fault) source short r = record { short = short; refused = r }
-refused_runs job (refusals.Cyclic cycle) source short r = record { short = short; refused = r }
-refused_runs job (refusals.Limit limits.Source) source short r = r
-refused_runs job (refusals.Limit limits.Trace) source short r = absurd r
-refused_runs job (refusals.Limit limits.Text) source short r = absurd r
-refused_runs job (refusals.Limit limits.Nesting) source short r = record { short = short; refused = r }
-refused_runs job (refusals.Limit limits.Statements) source short r = record { short = short; refused = r }
-refused_runs job (refusals.Limit limits.Signals) source short r = record { short = short; refused = r }
-refused_runs job (refusals.Limit limits.Kernel) source short r = record { short = short; refused = r }
-refused_runs job (refusals.Limit limits.Height) source short r = record { short = short; refused = r }
-refused_runs job (refusals.Limit limits.Traps) source short r = record { short = short; refused = r }
-refused_runs job (refusals.Limit limits.Instances) source short r = record { short = short; refused = r }
-refused_runs job (refusals.Limit limits.Wires) source short r = record { short = short; refused = r }
-refused_runs job refusals.NoMemory source short r = tt
+-- the same of a C text
+pub c_text_executes : (bytes : List ℕ) (error : CError) → c_reading.ReadsFault bytes error → ExecutesOn C (c_text_outcome error) bytes
+c_text_executes bytes c_faults.TooLong r = r
+c_text_executes bytes (c_faults.Syntax place) r = r
+c_text_executes bytes (c_faults.Twice name) r = r
+c_text_executes bytes (c_faults.Undeclared name) r = r
+c_text_executes bytes (c_faults.Unset name) r = r
+c_text_executes bytes c_faults.NoMemory r = tt
+
+pub c_text_long : (content : Content) (trace : List ℕ) (error : CError) → LongTrace content trace (c_text_outcome error)
+c_text_long content trace c_faults.TooLong = tt
+c_text_long content trace (c_faults.Syntax place) = tt
+c_text_long content trace (c_faults.Twice name) = tt
+c_text_long content trace (c_faults.Undeclared name) = tt
+c_text_long content trace (c_faults.Unset name) = tt
+c_text_long content trace c_faults.NoMemory = tt
+
+pub c_text_counts : (trace : List ℕ) (error : CError) (a : ℕ) (f : List ℕ) → CountsTrace trace (c_text_outcome error) a a f f
+c_text_counts trace c_faults.TooLong a f = (refl, refl)
+c_text_counts trace (c_faults.Syntax place) a f = (refl, refl)
+c_text_counts trace (c_faults.Twice name) a f = (refl, refl)
+c_text_counts trace (c_faults.Undeclared name) a f = (refl, refl)
+c_text_counts trace (c_faults.Unset name) a f = (refl, refl)
+c_text_counts trace c_faults.NoMemory a f = (refl, refl)
+
+pub c_text_leaves : (P : Result (Unit {0}) RunFault → Type 0) (s : Sinks) (error : CError) → IsUntouched s → LeavesRun P s (c_text_outcome error)
+c_text_leaves P s c_faults.TooLong u = u
+c_text_leaves P s (c_faults.Syntax place) u = u
+c_text_leaves P s (c_faults.Twice name) u = u
+c_text_leaves P s (c_faults.Undeclared name) u = u
+c_text_leaves P s (c_faults.Unset name) u = u
+c_text_leaves P s c_faults.NoMemory u = inl u
+
+pub refused_runs : (via : Via) (job : Job) (refusal : refused.Refusal) (source : List ℕ) → length source ≤ SOURCE_BYTES → IsRefused source job.main refusal
+    → RunsOn via job.main (outcome_of refusal) source
+refused_runs via job (refusals.Static fault) source short r = record { short = short; refused = r }
+refused_runs via job (refusals.Cyclic cycle) source short r = record { short = short; refused = r }
+refused_runs via job (refusals.Limit limits.Source) source short r = r
+refused_runs via job (refusals.Limit limits.Trace) source short r = absurd r
+refused_runs via job (refusals.Limit limits.Text) source short r = absurd r
+refused_runs via job (refusals.Limit limits.Nesting) source short r = record { short = short; refused = r }
+refused_runs via job (refusals.Limit limits.Statements) source short r = record { short = short; refused = r }
+refused_runs via job (refusals.Limit limits.Signals) source short r = record { short = short; refused = r }
+refused_runs via job (refusals.Limit limits.Kernel) source short r = record { short = short; refused = r }
+refused_runs via job (refusals.Limit limits.Height) source short r = record { short = short; refused = r }
+refused_runs via job (refusals.Limit limits.Traps) source short r = record { short = short; refused = r }
+refused_runs via job (refusals.Limit limits.Instances) source short r = record { short = short; refused = r }
+refused_runs via job (refusals.Limit limits.Wires) source short r = record { short = short; refused = r }
+refused_runs via job refusals.NoMemory source short r = tt
 
 pub refused_long : (content : Content) (trace : List ℕ) (main : Option (List ℕ)) (refusal : refused.Refusal) (source : List ℕ) → IsRefused source main refusal
     → LongTrace content trace (outcome_of refusal)

@@ -8,8 +8,7 @@ use Rattle.grc_graph.specs.Instances.{body_instances}
 use Rattle.grc_graph.specs.SelectionTrees.{body_leaves}
 use Rattle.grc_list.specs.Listings.{program_listing}
 use Rattle.cec_front.specs.Sources.{StandsFor}
-use Rattle.cec_core.specs.Compiling.{StandsForText, StandsForC}
-use Rattle.cec_core.specs.Jobs.{Job}
+use Rattle.cec_core.specs.Compiling.{StandsForText, StandsForC, IsBlifOf, IsCOf}
 use Rattle.cec_core.specs.Refusals.{Compiles}
 use Rattle.cec_core.specs.declared.jobs.Task.{Task}
 use Rattle.cec_core.specs.declared.jobs.Task.TheVariants.{Blif, C, Grc, Check}
@@ -35,12 +34,10 @@ pub record StandsForCounts (bytes : List ℕ) (main : Option (List ℕ)) (text :
   pub compiles : Compiles program
   pub counts : text ≡ counts_line program
 
-abbrev pub IsAnswerOf : Task → List ℕ → Option (List ℕ) → List ℕ → Type 0
-IsAnswerOf Blif source main text = StandsForText source main text
-IsAnswerOf C source main text = StandsForC source main text
-IsAnswerOf Grc source main text = StandsForListing source main text
-IsAnswerOf Check source main text = StandsForCounts source main text
-
--- what a job writes, where its file holds these bytes
-abbrev pub IsAnswer : Job → List ℕ → List ℕ → Type 0
-IsAnswer job source text = IsAnswerOf job.task source job.main text
+-- What a task writes of the source in these bytes, by the main module's name where there is one. A text is that of a
+-- compiled program's netlist too.
+abbrev pub IsAnswer : Task → Option (List ℕ) → List ℕ → List ℕ → Type 0
+IsAnswer Blif main source text = StandsForText source main text × IsBlifOf source main text
+IsAnswer C main source text = StandsForC source main text × IsCOf source main text
+IsAnswer Grc main source text = StandsForListing source main text
+IsAnswer Check main source text = StandsForCounts source main text

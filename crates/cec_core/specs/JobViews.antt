@@ -6,12 +6,12 @@ use Rattle.cec_core.specs.declared.jobs.Request.TheVariants as asks
 use Rattle.cec_core.specs.Jobs.{Job, Request, Help, Make, Run, Exec, Generate, Load}
 
 abbrev pub plain_job : jobs.Job → Job
-plain_job j = record { task = j.task; name = j.name.now; main = option_map (λ m. m.now) j.main; pick = j.pick }
+plain_job j = record { name = j.name.now; main = option_map (λ m. m.now) j.main; pick = j.pick }
 
 abbrev pub plain_request : requests.Request → Request
 plain_request asks.Help = Help
-plain_request (asks.Make job) = Make (plain_job job)
-plain_request (asks.Run job trace) = Run (plain_job job) trace.now
-plain_request (asks.Exec text trace) = Exec text.now trace.now
+plain_request (asks.Make task job) = Make task (plain_job job)
+plain_request (asks.Run via job trace) = Run via (plain_job job) trace.now
+plain_request (asks.Exec via text trace) = Exec via text.now trace.now
 plain_request (asks.Generate start branches) = Generate start branches
 plain_request (asks.Load start branches instants) = Load start branches instants

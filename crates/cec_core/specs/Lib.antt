@@ -10,10 +10,13 @@ pub mod Answers
 pub mod Contents
 pub mod Sources
 pub mod Runs
+pub mod ExecTexts
+pub mod NetTexts
 pub mod HelpTexts
 pub mod Loads
 pub mod Loading
 pub mod Outcomes
 pub mod Lines
 pub mod Subjects
+pub mod Accepted
 pub mod Laws

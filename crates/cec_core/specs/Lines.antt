@@ -66,6 +66,10 @@ text_fault_text (texts.Line number) = codes "line " ++ (decimal number ++ codes 
 text_fault_text (texts.TwoDrivers name) = codes "two drivers: " ++ name
 text_fault_text (texts.NoDriver name) = codes "no driver: " ++ name
 text_fault_text (texts.Loop names) = codes "loop: " ++ joined_names names.items
+text_fault_text (texts.Syntax place) = codes "byte " ++ (decimal place ++ codes ": syntax")
+text_fault_text (texts.Twice name) = codes "declared twice: " ++ name
+text_fault_text (texts.Undeclared name) = codes "undeclared: " ++ name
+text_fault_text (texts.Unset name) = codes "unset: " ++ name
 
 -- what is said of an outcome
 abbrev pub said_of : Subject → Outcome → List ℕ
@@ -92,9 +96,9 @@ IsSourceSubject job content x = (x.name ≡ job.name) × (x.main ≡ unwrap_or j
     × IsHeld content job.name x.source
 
 abbrev pub IsSubjectOf : Option Request → Content → Subject → Type 0
-IsSubjectOf (Some (Make job)) content x = IsSourceSubject job content x
-IsSubjectOf (Some (Run job trace)) content x = IsSourceSubject job content x × (x.trace ≡ trace)
-IsSubjectOf (Some (Exec text trace)) content x = (x.name ≡ text) × (x.trace ≡ trace)
+IsSubjectOf (Some (Make task job)) content x = IsSourceSubject job content x
+IsSubjectOf (Some (Run via job trace)) content x = IsSourceSubject job content x × (x.trace ≡ trace)
+IsSubjectOf (Some (Exec via text trace)) content x = (x.name ≡ text) × (x.trace ≡ trace)
 IsSubjectOf (Some (Load start branches instants)) content x = (x.main ≡ []) × (x.source ≡ source_text start branches)
 IsSubjectOf others content x = ⊤
 

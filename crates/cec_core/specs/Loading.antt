@@ -1,5 +1,5 @@
 -- Inner: what is counted of a machine's answers.
-use Rattle.std.specs.Prelude.{◌≡◌, ℕ, zero, suc, ◌+◌, Bool, List, [], ◌∷◌, map, count_by, codes, decimal}
+use Rattle.std.specs.Prelude.{◌≡◌, ℕ, zero, suc, ◌+◌, ◌≤◌, Bool, List, [], ◌∷◌, map, count_by, codes, decimal}
 use Rattle.std.specs.List.{concat}
 use Rattle.est_gen.specs.Draws.{state_after}
 use Rattle.est_base.specs.Items.{Item}
@@ -36,6 +36,15 @@ abbrev pub CountsMachine : {S : Type 0} → (S → List Bool → Answer → S �
     Counts → Type 0
 CountsMachine reacts resets old new items c = (answers : List Answer) × Drives reacts resets old items answers new
     × CountsOf answers c
+
+-- a machine reacts once, and this is what its answer adds to counts
+pub record CountsMore {S : Type 0} (reacts : S → List Bool → Answer → S → Type 0) (old : S) (event : List Bool)
+    (new : S) (before now : Counts) : Type 0 where
+  pub answer : Answer
+  pub react : reacts old event answer new
+  pub emitted : now.emitted ≡ before.emitted + count_by (λ b. b) answer.present
+  pub few : count_by (λ b. b) answer.present ≤ 8
+  pub paused : now.paused ≡ before.paused + pause_of answer.word
 
 -- the counts are those of what a net shows over items
 abbrev pub CountsNet : Netlist → List Item → Counts → Type 0

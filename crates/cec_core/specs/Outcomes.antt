@@ -1,14 +1,13 @@
 -- To believe: what each outcome of the top call says.
-use Rattle.std.specs.Prelude.{◌≡◌, ℕ, ◌<◌, ◌≤◌, ⊤, List, [], length, Option, Some, None}
+use Rattle.std.specs.Prelude.{◌≡◌, ℕ, ◌<◌, ◌≤◌, ◌⊎◌, ⊤, List, [], length, Option, Some, None}
 use Rattle.est_base.specs.declared.bounds.TheConstants.Limits.{SOURCE_BYTES, TRACE_BYTES, TEXT_BYTES}
 use Rattle.est_base.specs.Faults.{Rose}
-use Rattle.est_base.specs.Writing.{Appends, Stops}
+use Rattle.est_base.specs.Writing.{Appends, Stops, GainsFront}
 use Rattle.est_gen.specs.Sources.{source_text}
-use Rattle.blif_run.specs.Loops.{HasNoLoop}
-use Rattle.blif_text.specs.Circuits.{Circuit, reading}
-use Rattle.std.specs.Prelude.{Ok}
-use Rattle.trace_run.specs.Executing.{IsTextFault, RunsText}
+use Rattle.cec_words.specs.declared.asked.Via.{Via}
 use Rattle.trace_run.specs.Running.{Sinks}
+use Rattle.cec_core.specs.declared.jobs.Task.{Task}
+use Rattle.cec_core.specs.declared.jobs.Task.TheVariants.{Blif, C, Grc, Check}
 use Rattle.cec_core.specs.declared.outcome.Outcome.{Outcome}
 use Rattle.cec_core.specs.declared.outcome.Outcome.TheVariants.{Done, Usage, FileFault, Static, Cyclic, Trace, BadText}
 use Rattle.cec_core.specs.declared.outcome.Outcome.TheVariants.{Limit, WriteFault, NoMemory}
@@ -18,6 +17,7 @@ use Rattle.cec_core.specs.declared.refusal.Limit.TheVariants as limits
 use Rattle.cec_core.specs.declared.refusal.Refusal.TheVariants as refusals
 use Rattle.cec_core.specs.Answers.{IsAnswer}
 use Rattle.cec_core.specs.Contents.{Content, IsHeld, Holds}
+use Rattle.cec_core.specs.ExecTexts.{IsRunnable, HasFault, RunsBy}
 use Rattle.cec_core.specs.HelpTexts.{help_text}
 use Rattle.cec_core.specs.Jobs.{Job, Request, Help, Make, Run, Exec, Generate, Load}
 use Rattle.cec_core.specs.Loads.{IsSummary, state_behind}
@@ -38,31 +38,24 @@ MakesOn main NoMemory bytes = ⊤
 MakesOn main others bytes = ⊥
 
 -- the same for a source that is run over a trace: what comes of the trace says that the source compiles
-abbrev pub RunsOn : Option (List ℕ) → Outcome → List ℕ → Type 0
-RunsOn main (FileFault Second) bytes = IsSource main bytes
-RunsOn main (Trace fault) bytes = IsSource main bytes
-RunsOn main (Limit limits.Trace) bytes = IsSource main bytes
-RunsOn main (Limit limits.Text) bytes = WritesLongText main bytes
-RunsOn main others bytes = MakesOn main others bytes
-
--- the bytes describe a circuit without a combinational cycle
-pub record IsRunnable (bytes : List ℕ) : Type 0 where
-  pub circuit : Circuit
-  pub within : length bytes ≤ TEXT_BYTES
-  pub reads : reading bytes ≡ Ok circuit
-  pub acyclic : HasNoLoop circuit
+abbrev pub RunsOn : Via → Option (List ℕ) → Outcome → List ℕ → Type 0
+RunsOn via main (FileFault Second) bytes = IsSource main bytes
+RunsOn via main (Trace fault) bytes = IsSource main bytes
+RunsOn via main (Limit limits.Trace) bytes = IsSource main bytes
+RunsOn via main (Limit limits.Text) bytes = WritesLongText via main bytes
+RunsOn via main others bytes = MakesOn main others bytes
 
 -- what the outcome of `exec` on a text that was read says of its bytes
-abbrev pub ExecutesOn : Outcome → List ℕ → Type 0
-ExecutesOn Done bytes = IsRunnable bytes
-ExecutesOn (FileFault Second) bytes = IsRunnable bytes
-ExecutesOn (Trace fault) bytes = IsRunnable bytes
-ExecutesOn (BadText fault) bytes = (length bytes ≤ TEXT_BYTES) × IsTextFault bytes fault
-ExecutesOn (Limit limits.Text) bytes = TEXT_BYTES < length bytes
-ExecutesOn (Limit limits.Trace) bytes = IsRunnable bytes
-ExecutesOn WriteFault bytes = IsRunnable bytes
-ExecutesOn NoMemory bytes = ⊤
-ExecutesOn others bytes = ⊥
+abbrev pub ExecutesOn : Via → Outcome → List ℕ → Type 0
+ExecutesOn via Done bytes = IsRunnable via bytes
+ExecutesOn via (FileFault Second) bytes = IsRunnable via bytes
+ExecutesOn via (Trace fault) bytes = IsRunnable via bytes
+ExecutesOn via (BadText fault) bytes = (length bytes ≤ TEXT_BYTES) × HasFault via bytes fault
+ExecutesOn via (Limit limits.Text) bytes = TEXT_BYTES < length bytes
+ExecutesOn via (Limit limits.Trace) bytes = IsRunnable via bytes
+ExecutesOn via WriteFault bytes = IsRunnable via bytes
+ExecutesOn via NoMemory bytes = ⊤
+ExecutesOn via others bytes = ⊥
 
 abbrev pub IsLongTrace : List ℕ → Type 0
 IsLongTrace bytes = TRACE_BYTES < length bytes
@@ -91,9 +84,9 @@ IsWriting others = ⊥
 abbrev pub Agrees : Option Request → Content → Outcome → Type 0
 Agrees None content outcome = outcome ≡ Usage
 Agrees (Some Help) content outcome = IsWriting outcome
-Agrees (Some (Make job)) content outcome = AgreesOnFile content job.name (MakesOn job.main) outcome
-Agrees (Some (Run job trace)) content outcome = AgreesOnTwo content job.name trace (RunsOn job.main) outcome
-Agrees (Some (Exec text trace)) content outcome = AgreesOnTwo content text trace ExecutesOn outcome
+Agrees (Some (Make task job)) content outcome = AgreesOnFile content job.name (MakesOn job.main) outcome
+Agrees (Some (Run via job trace)) content outcome = AgreesOnTwo content job.name trace (RunsOn via job.main) outcome
+Agrees (Some (Exec via text trace)) content outcome = AgreesOnTwo content text trace (ExecutesOn via) outcome
 Agrees (Some (Generate start branches)) content outcome = IsWriting outcome
 Agrees (Some (Load start branches instants)) content outcome = MakesOn None outcome (source_text start branches)
 
@@ -101,11 +94,11 @@ Agrees (Some (Load start branches instants)) content outcome = MakesOn None outc
 
 -- the name of a file of a command
 abbrev pub IsFileOf : Request → Which → List ℕ → Type 0
-IsFileOf (Make job) First name = name ≡ job.name
-IsFileOf (Run job trace) First name = name ≡ job.name
-IsFileOf (Run job trace) Second name = name ≡ trace
-IsFileOf (Exec text trace) First name = name ≡ text
-IsFileOf (Exec text trace) Second name = name ≡ trace
+IsFileOf (Make task job) First name = name ≡ job.name
+IsFileOf (Run via job trace) First name = name ≡ job.name
+IsFileOf (Run via job trace) Second name = name ≡ trace
+IsFileOf (Exec via text trace) First name = name ≡ text
+IsFileOf (Exec via text trace) Second name = name ≡ trace
 IsFileOf others file name = ⊥
 
 -- The count of faults of the files and the name that failed last: a file fault raised the count, and the
@@ -125,21 +118,34 @@ LeavesText IsText s WriteFault = (text : List ℕ) × IsText text
     × Stops s.before s.after s.faults_before s.faults_now text
 LeavesText IsText s others = Appends s.before s.after s.faults_before s.faults_now []
 
+-- A text that is written piece by piece: where memory is wanting between two pieces, a prefix of it is there.
+abbrev pub LeavesPieces : (List ℕ → Type 0) → Sinks → Outcome → Type 0
+LeavesPieces IsText s NoMemory = Appends s.before s.after s.faults_before s.faults_now []
+    ⊎ ((text : List ℕ) × IsText text × (s.faults_now ≡ s.faults_before) × GainsFront s.before s.after text)
+LeavesPieces IsText s others = LeavesText IsText s others
+
+-- netlists are written piece by piece, what is told of a graph as a whole
+abbrev pub LeavesAnswer : Task → (List ℕ → Type 0) → Sinks → Outcome → Type 0
+LeavesAnswer Blif IsText s outcome = LeavesPieces IsText s outcome
+LeavesAnswer C IsText s outcome = LeavesPieces IsText s outcome
+LeavesAnswer Grc IsText s outcome = LeavesText IsText s outcome
+LeavesAnswer Check IsText s outcome = LeavesText IsText s outcome
+
 -- what a task writes of the source in a file
-abbrev pub IsTextOf : Job → Content → List ℕ → Type 0
-IsTextOf job content text = Holds content job.name (λ bytes. IsAnswer job bytes text)
+abbrev pub IsTextOf : Task → Job → Content → List ℕ → Type 0
+IsTextOf task job content text = Holds content job.name (λ bytes. IsAnswer task job.main bytes text)
 
 -- What `out` gained, by the command: its whole text, or the lines of a run.
 abbrev pub GainsOut : Option Request → Content → Outcome → Sinks → Type 0
 GainsOut None content outcome s = Appends s.before s.after s.faults_before s.faults_now []
 GainsOut (Some Help) content outcome s = LeavesText (λ text. text ≡ help_text) s outcome
-GainsOut (Some (Make job)) content outcome s = LeavesText (IsTextOf job content) s outcome
-GainsOut (Some (Run job trace)) content outcome s =
+GainsOut (Some (Make task job)) content outcome s = LeavesAnswer task (IsTextOf task job content) s outcome
+GainsOut (Some (Run via job trace)) content outcome s =
     LeavesRun (λ result. Holds content job.name (λ bytes.
     Holds content trace (λ items. RunsSource job.main bytes items s result))) s outcome
-GainsOut (Some (Exec text trace)) content outcome s =
-    LeavesRun (λ result. Holds content text (λ bytes. Holds content trace (λ items. RunsText bytes items s result))) s
-    outcome
+GainsOut (Some (Exec via text trace)) content outcome s =
+    LeavesRun (λ result. Holds content text (λ bytes.
+    Holds content trace (λ items. RunsBy via bytes items s result))) s outcome
 GainsOut (Some (Generate start branches)) content outcome s =
     LeavesText (λ text. text ≡ source_text start branches) s outcome
 GainsOut (Some (Load start branches instants)) content outcome s =

@@ -1,76 +1,22 @@
-// What is made of a source.
+// What is told of a source's graph.
 
 ghost use Rattle.std.specs.Prelude.{◌≡◌, ◌≤◌, length, IfOk, IfErr, option_map};
 ghost use Rattle.std.specs.List.{flat_map};
 ghost use Rattle.est_kernel.specs.Plain.{program_of};
-ghost use Rattle.cec_core.specs.Answers.{IsAnswer, StandsForListing, StandsForCounts, counts_line};
-ghost use Rattle.cec_core.specs.Compiling.{IsGraphed, StandsForText, StandsForC};
-ghost use Rattle.cec_core.specs.JobViews.{plain_job};
+ghost use Rattle.cec_core.specs.Answers.{StandsForListing, StandsForCounts, counts_line};
+ghost use Rattle.cec_core.specs.Compiling.{IsGraphed};
 ghost use Rattle.cec_core.specs.Refusals.{IsRefused};
 
-use crate::compiler::{Graphed, blif_of, c_of, source_graph};
-use crate::jobs::{Job, Task};
+use crate::compiler::{Graphed, source_graph};
 use crate::refusal::Refusal;
-use cec_words::Pick;
 use est_base::{Limits, NoMemory};
 use est_kernel::size;
 use grc_list::list;
-use grc_order::{Drawn, First, Last};
 use itoa::Buffer;
 use std::alloc::Global;
 
-/// The text that a job asks for.
-pub(crate) fn answer(alloc: Global, job: Job<'_>, source: &[u8]) -> Result<Vec<u8>, Refusal>
-    requires { length source.now ≤ Limits.SOURCE_BYTES }
-    ensures text { IfOk result (λ text. IsAnswer (plain_job job.entry) source.now text.items) }
-    ensures refuses { IfErr result (IsRefused source.now (plain_job job.entry).main) }
-{
-    match job.task {
-        Task::Blif => picked_blif(alloc, source, job.main, job.pick),
-        Task::C => picked_c(alloc, source, job.main, job.pick),
-        Task::Grc => listing(alloc, source, job.main),
-        Task::Check => counts(alloc, source, job.main),
-    }
-}
-
-// The BLIF text of a source, in an evaluation order that is chosen so.
-fn picked_blif(
-    alloc: Global,
-    source: &[u8],
-    main: Option<&[u8]>,
-    pick: Pick,
-) -> Result<Vec<u8>, Refusal>
-    requires { length source.now ≤ Limits.SOURCE_BYTES }
-    ensures text { IfOk result (λ text. StandsForText source.now (option_map (λ m. m.now) main.entry) text.items) }
-    ensures refuses { IfErr result (IsRefused source.now (option_map (λ m. m.now) main.entry)) }
-{
-    match pick {
-        Pick::First => blif_of(alloc, source, main, &mut First),
-        Pick::Last => blif_of(alloc, source, main, &mut Last),
-        Pick::Drawn(start) => blif_of(alloc, source, main, &mut Drawn(start)),
-    }
-}
-
-// The C text of a source, in an evaluation order that is chosen so.
-fn picked_c(
-    alloc: Global,
-    source: &[u8],
-    main: Option<&[u8]>,
-    pick: Pick,
-) -> Result<Vec<u8>, Refusal>
-    requires { length source.now ≤ Limits.SOURCE_BYTES }
-    ensures text { IfOk result (λ text. StandsForC source.now (option_map (λ m. m.now) main.entry) text.items) }
-    ensures refuses { IfErr result (IsRefused source.now (option_map (λ m. m.now) main.entry)) }
-{
-    match pick {
-        Pick::First => c_of(alloc, source, main, &mut First),
-        Pick::Last => c_of(alloc, source, main, &mut Last),
-        Pick::Drawn(start) => c_of(alloc, source, main, &mut Drawn(start)),
-    }
-}
-
-// The listing of a source's graph.
-fn listing(alloc: Global, source: &[u8], main: Option<&[u8]>) -> Result<Vec<u8>, Refusal>
+/// The listing of a source's graph.
+pub(crate) fn listing(alloc: Global, source: &[u8], main: Option<&[u8]>) -> Result<Vec<u8>, Refusal>
     requires { length source.now ≤ Limits.SOURCE_BYTES }
     ensures text { IfOk result (λ text. StandsForListing source.now (option_map (λ m. m.now) main.entry) text.items) }
     ensures refuses { IfErr result (IsRefused source.now (option_map (λ m. m.now) main.entry)) }
@@ -80,8 +26,8 @@ fn listing(alloc: Global, source: &[u8], main: Option<&[u8]>) -> Result<Vec<u8>,
     Ok(text)
 }
 
-// A line of counts of a source's graph.
-fn counts(alloc: Global, source: &[u8], main: Option<&[u8]>) -> Result<Vec<u8>, Refusal>
+/// A line of counts of a source's graph.
+pub(crate) fn counts(alloc: Global, source: &[u8], main: Option<&[u8]>) -> Result<Vec<u8>, Refusal>
     requires { length source.now ≤ Limits.SOURCE_BYTES }
     ensures text { IfOk result (λ text. StandsForCounts source.now (option_map (λ m. m.now) main.entry) text.items) }
     ensures refuses { IfErr result (IsRefused source.now (option_map (λ m. m.now) main.entry)) }

@@ -20,13 +20,13 @@ use std::alloc::Global;
 
 /// Does what the words after the program's name ask for, and says how it ended.
 ///
-/// `blif FILE` reads the source under that name and writes its BLIF text to `out`, `c FILE` its C text, `grc FILE` the
-/// listing of its graph, and `check FILE` a line of counts. `run --via blif FILE TRACE` compiles the source, writes its
-/// text into memory, reads it again and runs it over the trace: one line for each instant, right behind its reaction.
-/// `exec --via blif TEXT TRACE` runs a text by its own meaning. `gen --start N --branches N` writes a generated source,
-/// with `--run N` the numbers of its run over so many drawn events, and `--help` the list of the commands. `--main M`
-/// names the main module, `--pick first`, `--pick last` or `--pick N` says how the evaluation order of a text is
-/// chosen.
+/// `blif FILE` reads the source under that name and writes its BLIF text to `out`, `c FILE` its C text, piece by piece,
+/// `grc FILE` the listing of its graph, and `check FILE` a line of counts. `run --via blif FILE TRACE`, or `--via c`,
+/// compiles the source, writes its text of that form into memory, reads it again and runs it over the trace: one line
+/// for each instant, right behind its reaction. `exec --via blif TEXT TRACE`, or `--via c`, runs a text by its own
+/// meaning. `gen --start N --branches N` writes a generated source, with `--run N` the numbers of its run over so many
+/// drawn events, by both of its texts, and `--help` the list of the commands. `--main M` names the main module, `--pick
+/// first`, `--pick last` or `--pick N` says how the evaluation order of a text is chosen.
 /// Every other list of words is `Usage`. For every outcome but `Done` one line goes to `err`; a write to `err` that
 /// fails changes no outcome.
 ///
@@ -35,8 +35,9 @@ use std::alloc::Global;
 /// events that meet the relations each reaction of the source is constructive, the text has a run, any two runs agree,
 /// and the outputs and `_paused` are those of the reactions. For `c` it holds likewise, by the machine of the C subset
 /// (`CTextKeeps`). For `run` the lines are those of the source's own reactions to the items of the trace
-/// (`RunsSource`), and for `exec` those of the text's run (`RunsText`). `Static`, `Cyclic` and `Limit` come exactly
-/// where the source has their cause; for `Cyclic` that is a cycle of the dependency relation, which is shown.
+/// (`RunsSource`), whichever text it is run by, and for `exec` those of the text's run (`RunsText`, `RunsCText`).
+/// `Static`, `Cyclic` and `Limit` come exactly where the source has their cause; for `Cyclic` that is a cycle of the
+/// dependency relation, which is shown. Want of memory may come between two pieces, or two lines, and leaves a prefix.
 pub fn cec<F: Files, O: Sink, E: Sink>(
     alloc: Global,
     words: &[String],
@@ -96,9 +97,9 @@ fn answered<F: Files, O: Sink, E: Sink>(
             report(err, subject_of_none(), &outcome);
             outcome
         }
-        Request::Make(job) => make_text(alloc, job, files, out, err),
-        Request::Run(job, trace) => run_file(alloc, job, trace, files, out, err),
-        Request::Exec(text, trace) => exec_text(alloc, text, trace, files, out, err),
+        Request::Make(task, job) => make_text(alloc, task, job, files, out, err),
+        Request::Run(via, job, trace) => run_file(alloc, via, job, trace, files, out, err),
+        Request::Exec(via, text, trace) => exec_text(alloc, via, text, trace, files, out, err),
         Request::Generate(start, branches) => {
             let outcome = write_generated(alloc, start, branches, out);
             report(err, subject_of_none(), &outcome);

@@ -13,13 +13,14 @@ use crate::cycles::cycle_of;
 use crate::refusal::Refusal;
 use blif_text::write_blif;
 use cec_front::{Analysed, analyse};
+use cec_words::Pick;
 use csub_text::write_c;
 use est_base::Limits;
 use grc_build::build;
 use grc_copies::copies;
 use grc_dep::{Ranked, cycle_or_rank, edges};
 use grc_graph::{Edges, Graph, Order, Ranks, SelTree};
-use grc_order::{Picker, order};
+use grc_order::{Drawn, First, Last, Picker, order};
 use grc_select::select;
 use net_gen::generate;
 use net_ir::Net;
@@ -118,6 +119,24 @@ pub fn compile<P: Picker>(
         order,
         net,
     })
+}
+
+/// A source compiled, in an evaluation order that is chosen so.
+pub(crate) fn compile_picked(
+    alloc: Global,
+    source: &[u8],
+    main: Option<&[u8]>,
+    pick: Pick,
+) -> Result<Compiled, Refusal>
+    requires { length source.now ≤ Limits.SOURCE_BYTES }
+    ensures compiles { IfOk result (StandsForNet source.now (option_map (λ m. m.now) main.entry)) }
+    ensures refuses { IfErr result (IsRefused source.now (option_map (λ m. m.now) main.entry)) }
+{
+    match pick {
+        Pick::First => compile(alloc, source, main, &mut First),
+        Pick::Last => compile(alloc, source, main, &mut Last),
+        Pick::Drawn(start) => compile(alloc, source, main, &mut Drawn(start)),
+    }
 }
 
 /// The graph of a source, whose dependencies have no cycle. The errors are those of `blif_of`.

@@ -84,6 +84,16 @@ pub(crate) fn put_text_fault<E: Sink>(err: &mut E, fault: &TextFault) -> Result<
             write_pieces(err, &[b"cec: ", b"no driver: ", name.bytes(), b"\n"])
         }
         TextFault::Loop(names) => put_loop(err, names),
+        TextFault::Syntax(place) => put_numbered(err, b"byte ", *place, b": syntax", b""),
+        TextFault::Twice(name) => {
+            write_pieces(err, &[b"cec: ", b"declared twice: ", name.bytes(), b"\n"])
+        }
+        TextFault::Undeclared(name) => {
+            write_pieces(err, &[b"cec: ", b"undeclared: ", name.bytes(), b"\n"])
+        }
+        TextFault::Unset(name) => {
+            write_pieces(err, &[b"cec: ", b"unset: ", name.bytes(), b"\n"])
+        }
     }
 }
 

@@ -2,7 +2,7 @@
 
 ghost use Rattle.std.specs.Prelude.{◌≡◌, drop, map, option_map, []};
 ghost use Rattle.std.specs.String.{string_bytes};
-ghost use Rattle.cec_core.specs.Jobs.{source_job, request_by, value_in, word_at};
+ghost use Rattle.cec_core.specs.Jobs.{source_job, request_asked, request_by, value_in, word_at};
 ghost use Rattle.cec_core.specs.JobViews.{plain_job, plain_request};
 
 use cec_words::{Asked, Pick, Source, Value, Via, read_words};
@@ -20,10 +20,9 @@ pub(crate) enum Task {
     Check,
 }
 
-/// A task, the file with the source, the main module's name, and how the evaluation order is chosen.
+/// A job on a source: the file with the source, the main module's name, and how the evaluation order is chosen.
 #[derive(Clone, Copy)]
 pub(crate) struct Job<'a> {
-    pub task: Task,
     pub name: &'a str,
     pub main: Option<&'a [u8]>,
     pub pick: Pick,
@@ -35,11 +34,11 @@ pub(crate) enum Request<'a> {
     /// The list of the commands.
     Help,
     /// What a task makes of a source.
-    Make(Job<'a>),
-    /// The text that a task makes of a source, run over the trace in this file.
-    Run(Job<'a>, &'a str),
-    /// The BLIF text in the one file, run over the trace in the other.
-    Exec(&'a str, &'a str),
+    Make(Task, Job<'a>),
+    /// A source by the text of this form that is made of it, run over the trace in this file.
+    Run(Via, Job<'a>, &'a str),
+    /// The text of this form in the one file, run over the trace in the other.
+    Exec(Via, &'a str, &'a str),
     /// A generated source, by its start number and its number of branches.
     Generate(u64, u32),
     /// The numbers of its run over so many drawn instants.
@@ -50,34 +49,38 @@ pub(crate) enum Request<'a> {
 pub(crate) fn request_by(words: &[String]) -> Option<Request<'_>>
     ensures { option_map plain_request result ≡ request_by (map string_bytes words.now) }
 {
-    match read_words(words)? {
-        Asked::Help => Some(Request::Help),
-        Asked::Blif(source) => Some(Request::Make(source_job(words, Task::Blif, source))),
-        Asked::C(source) => Some(Request::Make(source_job(words, Task::C, source))),
-        Asked::Grc(source) => Some(Request::Make(source_job(words, Task::Grc, source))),
-        Asked::Check(source) => Some(Request::Make(source_job(words, Task::Check, source))),
-        Asked::Run(Via::Blif, source, trace) => Some(Request::Run(
-            source_job(words, Task::Blif, source),
-            word_at(words, trace),
-        )),
-        Asked::Exec(Via::Blif, text, trace) => Some(Request::Exec(
-            word_at(words, text),
-            word_at(words, trace),
-        )),
-        Asked::Gen(start, branches, None) => Some(Request::Generate(start, branches)),
-        Asked::Gen(start, branches, Some(instants)) => {
-            Some(Request::Load(start, branches, instants))
-        }
-        Asked::Run(Via::C, _, _) | Asked::Exec(Via::C, _, _) => None,
+    match read_words(words) {
+        Some(asked) => Some(request_asked(words, asked)),
+        None => None,
     }
 }
 
-// A task on a source.
-fn source_job(words: &[String], task: Task, source: Source) -> Job<'_>
-    ensures { plain_job result ≡ source_job (map string_bytes words.now) task source }
+// The request in words that are read so.
+fn request_asked(words: &[String], asked: Asked) -> Request<'_>
+    ensures { plain_request result ≡ request_asked (map string_bytes words.now) asked }
+{
+    match asked {
+        Asked::Help => Request::Help,
+        Asked::Blif(source) => Request::Make(Task::Blif, source_job(words, source)),
+        Asked::C(source) => Request::Make(Task::C, source_job(words, source)),
+        Asked::Grc(source) => Request::Make(Task::Grc, source_job(words, source)),
+        Asked::Check(source) => Request::Make(Task::Check, source_job(words, source)),
+        Asked::Run(via, source, trace) => {
+            Request::Run(via, source_job(words, source), word_at(words, trace))
+        }
+        Asked::Exec(via, text, trace) => {
+            Request::Exec(via, word_at(words, text), word_at(words, trace))
+        }
+        Asked::Gen(start, branches, None) => Request::Generate(start, branches),
+        Asked::Gen(start, branches, Some(instants)) => Request::Load(start, branches, instants),
+    }
+}
+
+// A job on a source.
+fn source_job(words: &[String], source: Source) -> Job<'_>
+    ensures { plain_job result ≡ source_job (map string_bytes words.now) source }
 {
     Job {
-        task,
         name: word_at(words, source.file),
         main: main_in(words, source.main),
         pick: source.pick,

@@ -1,8 +1,15 @@
-// A law of what is refused. The call does nothing: its contract is the law.
+// Laws of what is refused, and of what is done. The calls do nothing: their contracts are the laws.
 
-ghost use Rattle.cec_core.specs.Laws.{CompilingSourcesAreNotRefused};
+ghost use Rattle.cec_core.specs.Laws.{AcceptedRequestsAreDone, CompilingSourcesAreNotRefused};
 
 /// A source that compiles has no cause of a refusal: the refusals are complete, but for want of memory.
 pub fn compiling_sources_are_not_refused()
     ensures { CompilingSourcesAreNotRefused }
+{}
+
+/// What `cec` says of an outcome leaves no other one but `Done` and `NoMemory` where no count of faults rises and
+/// nothing that the files hold is refused: the source has a meaning and no fault, cycle or limit that it passes, the
+/// text is one of its form without a combinational cycle, and each instant of the trace is accepted.
+pub fn accepted_requests_are_done()
+    ensures { AcceptedRequestsAreDone }
 {}

@@ -18,11 +18,12 @@ mod lines;
 mod outcome;
 mod refusal;
 mod steady;
+mod writing;
 
 pub use command::cec;
 pub use compiler::{Compiled, Graphed, blif_of, c_of, compile, source_graph};
 pub use cycles::Cycle;
-pub use laws::compiling_sources_are_not_refused;
+pub use laws::{accepted_requests_are_done, compiling_sources_are_not_refused};
 pub use outcome::{Outcome, Which};
 pub use refusal::{Limit, Refusal};
 pub use steady::cec_steadily;

@@ -4,18 +4,18 @@ ghost use Rattle.std.specs.Prelude.{◌≡◌, ◌⊎◌, Some, map};
 ghost use Rattle.std.specs.String.{string_bytes};
 ghost use Rattle.est_base.specs.FileEntry.{held};
 ghost use Rattle.est_base.specs.SinkState.{told_of};
-ghost use Rattle.cec_core.specs.Jobs.{Job, Make, request_by};
+ghost use Rattle.cec_core.specs.Accepted.{IsAccepted};
+ghost use Rattle.cec_core.specs.Jobs.{Request, request_by};
 ghost use Rattle.cec_core.specs.Lines.{GainsErr};
 ghost use Rattle.cec_core.specs.Outcomes.{Agrees, GainsOut};
-ghost use Rattle.cec_core.specs.Sources.{IsSource};
 
 use crate::command::cec;
 use crate::outcome::Outcome;
 use est_base::{Sink, SteadyFiles, SteadySink};
 use std::alloc::Global;
 
-/// `cec` over files and a sink in memory that never fail. Where the words ask for a job on a file that holds a source
-/// that compiles, it is done, and `out` gains the text of which the theorem speaks, unless memory runs out.
+/// `cec` over files and a sink in memory that never fail. Where the words have a meaning, and nothing that the files
+/// hold is refused, it is done, and `out` gains what the theorem speaks of, unless memory runs out.
 pub fn cec_steadily<E: Sink>(
     alloc: Global,
     words: &[String],
@@ -23,8 +23,8 @@ pub fn cec_steadily<E: Sink>(
     out: &mut SteadySink,
     err: &mut E,
 ) -> Outcome
-    ensures ends { (job : Job) → request_by (map string_bytes words.now) ≡ Some (Make job) →
-        IsSource job.main (held files.old job.name) → (result ≡ Outcome.Done) ⊎ (result ≡ Outcome.NoMemory) }
+    ensures ends { (request : Request) → request_by (map string_bytes words.now) ≡ Some request →
+        IsAccepted request (held files.old) → (result ≡ Outcome.Done) ⊎ (result ≡ Outcome.NoMemory) }
     ensures agrees { Agrees (request_by (map string_bytes words.now)) (Some (held files.old)) result }
     ensures files_stay { held files.new ≡ held files.old }
     ensures out { GainsOut (request_by (map string_bytes words.now)) (Some (held files.old)) result

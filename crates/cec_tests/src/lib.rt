@@ -10,4 +10,6 @@ mod calls;
 #[cfg(test)]
 mod cycles;
 #[cfg(test)]
+mod pieces;
+#[cfg(test)]
 mod reactions;

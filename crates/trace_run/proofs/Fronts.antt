@@ -125,7 +125,7 @@ longer a b x y g =
     record { taken = t; gains = subst (λ z. Gains a b z) (sym same) g.gains }
 
 -- what grows with the items leaves the whole text, or a prefix of it
-leaves : (W V : List Item → List ℕ → Type 0)
+pub leaves : (W V : List Item → List ℕ → Type 0)
     → ((front more : List Item) (text whole : List ℕ) → W front text → V (front ++ more) whole → (rest : List ℕ) × (whole ≡ text ++ rest))
     → ((items : List Item) (text whole : List ℕ) → W items text → V items whole → whole ≡ text)
     → (r : Reading) (s : Sinks) (result : Result (Unit {0}) RunFault) (items : List Item) (end : Option TraceFault) (whole : List ℕ)
@@ -157,7 +157,7 @@ values-more net latches (Event inputs ∷ front) more =
     (rest.0, ap (λ l. values ∷ l) rest.1)
 values-more net latches (Reset ∷ front) more = values-more net (initial_latches net) front more
 
-lines-of : (names : List (List ℕ)) (a b : List Answer) → answer_lines names (a ++ b) ≡ answer_lines names a ++ answer_lines names b
+pub lines-of : (names : List (List ℕ)) (a b : List Answer) → answer_lines names (a ++ b) ≡ answer_lines names a ++ answer_lines names b
 lines-of names a b = flat_map-append (λ x. line names x.present x.word) a b
 
 pub nets-are-written : NetsAreWritten

@@ -16,12 +16,14 @@ use Rattle.trace_run.specs.declared.executing.ExecFault.TheVariants.{Text, TooLo
 use Rattle.trace_run.specs.Running.{Sinks, RunsTrace}
 use Rattle.trace_run.specs.BlifAnswers.{ShowsText}
 
--- the first fault of a text, in the order of its reader; or it has none, and its tables have this combinational cycle
+-- The first fault of a BLIF text, in the order of its reader; or it has none, and its tables have this combinational
+-- cycle. The faults of C texts are none of it.
 abbrev pub IsTextFault : List ℕ → TextFault → Type 0
 IsTextFault text (Line number) = reading text ≡ Err (circuits.Line number)
 IsTextFault text (TwoDrivers name) = reading text ≡ Err (circuits.TwoDrivers name)
 IsTextFault text (NoDriver name) = reading text ≡ Err (circuits.NoDriver name)
 IsTextFault text (Loop names) = (circuit : Circuit) × (reading text ≡ Ok circuit) × IsLoop circuit names.items
+IsTextFault text others = ⊥
 
 -- why a text is not read, as a fault of `exec`
 abbrev pub reading_fault : BlifError → ExecFault

@@ -11,7 +11,7 @@ use est_base::{Sink, Text};
 use std::alloc::Global;
 use trace_io::TraceFault;
 
-/// The first fault of a BLIF text that is to be run.
+/// The first fault of a text that is to be run: of a BLIF text one of the first four, of a C text one of the others.
 #[derive(Debug, Drop)]
 pub enum TextFault {
     /// The first line, counted from 1, that is no line of the profile in its place.
@@ -22,6 +22,14 @@ pub enum TextFault {
     NoDriver(Text),
     /// The text has none of these faults, and its tables have this combinational cycle.
     Loop(Vec<Text>),
+    /// At this byte stands the first token that no text of the C subset passes, or here the text ends too early.
+    Syntax(u32),
+    /// The first name that is declared a second time.
+    Twice(Text),
+    /// The first name that is used and not declared, or is assigned and is an input.
+    Undeclared(Text),
+    /// The first local that is read before it is assigned.
+    Unset(Text),
 }
 
 /// Why `exec_blif` was not done.

@@ -2,12 +2,14 @@
 
 ghost use Rattle.std.specs.Prelude.{◌≡◌, ◌≤◌, length, Some};
 ghost use Rattle.trace_run.specs.Executing.{RunsText};
+ghost use Rattle.trace_run_c.specs.CExecuting.{RunsCText};
 ghost use Rattle.cec_core.specs.Contents.{Holds};
+ghost use Rattle.cec_core.specs.ExecTexts.{RunsBy};
 ghost use Rattle.cec_core.specs.Jobs.{Exec};
 ghost use Rattle.cec_core.specs.Lines.{GainsErr};
 ghost use Rattle.cec_core.specs.Outcomes.{Agrees, CountsFiles, ExecutesOn, GainsOut};
 ghost use Rattle.cec_core.specs.Runs.{LeavesRun};
-ghost use Rattle.cec_core.specs.Subjects.{CountsTrace, LongTrace, run_outcome, text_outcome};
+ghost use Rattle.cec_core.specs.Subjects.{CountsTrace, LongTrace, c_text_outcome, run_outcome, text_outcome};
 
 use crate::commands::make::unread;
 use crate::lines::{Subject, report};
@@ -15,34 +17,38 @@ use crate::outcome::{Outcome, Which};
 use crate::refusal::Limit;
 use blif_run::RunError;
 use blif_text::{BlifError, read_blif};
+use cec_words::Via;
+use csub_read::{CError, read_c};
 use est_base::{Files, Limits, Sink};
 use std::alloc::Global;
 use trace_run::{BlifRunner, RunFault, TextFault, run_blif};
+use trace_run_c::run_c;
 
-/// Runs the BLIF text in a file over the trace in another, and says how it ended.
+/// Runs the text in a file over the trace in another, and says how it ended.
 pub(crate) fn exec_text<F: Files, O: Sink, E: Sink>(
     alloc: Global,
+    via: Via,
     text: &str,
     trace: &str,
     files: &mut F,
     out: &mut O,
     err: &mut E,
 ) -> Outcome
-    ensures agrees { Agrees (Some (Exec text.now trace.now)) (F.content files.old) result }
-    ensures files_counted { CountsFiles (Some (Exec text.now trace.now)) result
+    ensures agrees { Agrees (Some (Exec via text.now trace.now)) (F.content files.old) result }
+    ensures files_counted { CountsFiles (Some (Exec via text.now trace.now)) result
         (F.faults files.old) (F.faults files.new) (F.last_failed files.old) (F.last_failed files.new) }
     ensures files_stay { F.content files.new ≡ F.content files.old }
-    ensures out { GainsOut (Some (Exec text.now trace.now)) (F.content files.old) result
+    ensures out { GainsOut (Some (Exec via text.now trace.now)) (F.content files.old) result
         (record {
           before = O.told out.old;
           after = O.told out.new;
           faults_before = O.faults out.old;
           faults_now = O.faults out.new;
         }) }
-    ensures err { GainsErr (Some (Exec text.now trace.now)) (F.content files.old) result
+    ensures err { GainsErr (Some (Exec via text.now trace.now)) (F.content files.old) result
         (E.told err.old) (E.told err.new) (E.faults err.old) (E.faults err.new) }
 {
-    let outcome = file_executed(alloc, text, trace, files, out);
+    let outcome = file_executed(alloc, via, text, trace, files, out);
     let subject = Subject {
         name: text,
         trace,
@@ -53,19 +59,20 @@ pub(crate) fn exec_text<F: Files, O: Sink, E: Sink>(
     outcome
 }
 
-// Runs the BLIF text in a file over the trace in another.
+// Runs the text in a file over the trace in another.
 fn file_executed<F: Files, O: Sink>(
     alloc: Global,
+    via: Via,
     text: &str,
     trace: &str,
     files: &mut F,
     out: &mut O,
 ) -> Outcome
-    ensures agrees { Agrees (Some (Exec text.now trace.now)) (F.content files.old) result }
-    ensures files_counted { CountsFiles (Some (Exec text.now trace.now)) result
+    ensures agrees { Agrees (Some (Exec via text.now trace.now)) (F.content files.old) result }
+    ensures files_counted { CountsFiles (Some (Exec via text.now trace.now)) result
         (F.faults files.old) (F.faults files.new) (F.last_failed files.old) (F.last_failed files.new) }
     ensures files_stay { F.content files.new ≡ F.content files.old }
-    ensures out { GainsOut (Some (Exec text.now trace.now)) (F.content files.old) result
+    ensures out { GainsOut (Some (Exec via text.now trace.now)) (F.content files.old) result
         (record {
           before = O.told out.old;
           after = O.told out.new;
@@ -74,20 +81,57 @@ fn file_executed<F: Files, O: Sink>(
         }) }
 {
     match files.read(alloc, text, Limits::TEXT_BYTES) {
-        Ok(bytes) => executed(alloc, &bytes, trace, files, out),
+        Ok(bytes) => executed(alloc, via, &bytes, trace, files, out),
         Err(fault) => unread(Which::First, Limit::Text, fault),
     }
 }
 
-// Runs a BLIF text over the trace in a file.
+// Runs a text over the trace in a file.
 fn executed<F: Files, O: Sink>(
+    alloc: Global,
+    via: Via,
+    text: &[u8],
+    trace: &str,
+    files: &mut F,
+    out: &mut O,
+) -> Outcome
+    ensures agrees { ExecutesOn via result text.now }
+    ensures long_trace { LongTrace (F.content files.old) trace.now result }
+    ensures files_counted { CountsTrace trace.now result
+        (F.faults files.old) (F.faults files.new) (F.last_failed files.old) (F.last_failed files.new) }
+    ensures files_stay { F.content files.new ≡ F.content files.old }
+    ensures out { LeavesRun (λ ended. Holds (F.content files.old) trace.now
+        (λ items. RunsBy via text.now items
+        (record {
+          before = O.told out.old;
+          after = O.told out.new;
+          faults_before = O.faults out.old;
+          faults_now = O.faults out.new;
+        })
+        ended))
+        (record {
+          before = O.told out.old;
+          after = O.told out.new;
+          faults_before = O.faults out.old;
+          faults_now = O.faults out.new;
+        })
+        result }
+{
+    match via {
+        Via::Blif => circuit_executed(alloc, text, trace, files, out),
+        Via::C => program_executed(alloc, text, trace, files, out),
+    }
+}
+
+// Runs the circuit of a BLIF text over the trace in a file.
+fn circuit_executed<F: Files, O: Sink>(
     alloc: Global,
     text: &[u8],
     trace: &str,
     files: &mut F,
     out: &mut O,
 ) -> Outcome
-    ensures agrees { ExecutesOn result text.now }
+    ensures agrees { ExecutesOn Via.Blif result text.now }
     ensures long_trace { LongTrace (F.content files.old) trace.now result }
     ensures files_counted { CountsTrace trace.now result
         (F.faults files.old) (F.faults files.new) (F.last_failed files.old) (F.last_failed files.new) }
@@ -124,7 +168,47 @@ fn executed<F: Files, O: Sink>(
     }
 }
 
-// The outcome where a text is not read.
+// Runs the program of a C text over the trace in a file.
+fn program_executed<F: Files, O: Sink>(
+    alloc: Global,
+    text: &[u8],
+    trace: &str,
+    files: &mut F,
+    out: &mut O,
+) -> Outcome
+    ensures agrees { ExecutesOn Via.C result text.now }
+    ensures long_trace { LongTrace (F.content files.old) trace.now result }
+    ensures files_counted { CountsTrace trace.now result
+        (F.faults files.old) (F.faults files.new) (F.last_failed files.old) (F.last_failed files.new) }
+    ensures files_stay { F.content files.new ≡ F.content files.old }
+    ensures out { LeavesRun (λ ended. Holds (F.content files.old) trace.now
+        (λ items. RunsCText text.now items
+        (record {
+          before = O.told out.old;
+          after = O.told out.new;
+          faults_before = O.faults out.old;
+          faults_now = O.faults out.new;
+        })
+        ended))
+        (record {
+          before = O.told out.old;
+          after = O.told out.new;
+          faults_before = O.faults out.old;
+          faults_now = O.faults out.new;
+        })
+        result }
+{
+    let program = match read_c(alloc, text) {
+        Ok(program) => program,
+        Err(error) => return c_text_outcome(error),
+    };
+    match files.read(alloc, trace, Limits::TRACE_BYTES) {
+        Ok(trace) => run_outcome(run_c(alloc, &program, trace, out)),
+        Err(fault) => unread(Which::Second, Limit::Trace, fault),
+    }
+}
+
+// The outcome where a BLIF text is not read.
 fn text_outcome(error: BlifError) -> Outcome
     ensures { result ≡ text_outcome error }
 {
@@ -134,6 +218,20 @@ fn text_outcome(error: BlifError) -> Outcome
         BlifError::TwoDrivers(name) => Outcome::BadText(TextFault::TwoDrivers(name)),
         BlifError::NoDriver(name) => Outcome::BadText(TextFault::NoDriver(name)),
         BlifError::NoMemory => Outcome::NoMemory,
+    }
+}
+
+// The outcome where a C text is not read.
+fn c_text_outcome(error: CError) -> Outcome
+    ensures { result ≡ c_text_outcome error }
+{
+    match error {
+        CError::TooLong => Outcome::Limit(Limit::Text),
+        CError::Syntax(place) => Outcome::BadText(TextFault::Syntax(place)),
+        CError::Twice(name) => Outcome::BadText(TextFault::Twice(name)),
+        CError::Undeclared(name) => Outcome::BadText(TextFault::Undeclared(name)),
+        CError::Unset(name) => Outcome::BadText(TextFault::Unset(name)),
+        CError::NoMemory => Outcome::NoMemory,
     }
 }
 

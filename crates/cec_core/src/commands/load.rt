@@ -1,31 +1,33 @@
-// The command that runs a generated source over drawn events.
+// The command that runs a generated source over drawn events, by both of its texts.
 
-ghost use Rattle.std.specs.Prelude.{◌≡◌, ◌+◌, ◌≤◌, [], length, count_by, Some, None, IfOk, IfErr, OnOk};
+ghost use Rattle.std.specs.Prelude.{◌≡◌, ◌+◌, ◌<◌, ◌≤◌, ◌^◌, [], length, count_by, Some, None, IfOk, IfErr, OnOk};
 ghost use Rattle.est_gen.specs.Sources.{source_text};
 ghost use Rattle.net_ir.specs.Runs.{netlist_of};
-ghost use Rattle.blif_text.specs.Written.{Means};
 ghost use Rattle.cec_core.specs.Contents.{Content};
 ghost use Rattle.cec_core.specs.Jobs.{Load};
 ghost use Rattle.cec_core.specs.Lines.{GainsErr};
 ghost use Rattle.cec_core.specs.Loads.{IsSummary, drawn_items, state_behind};
-ghost use Rattle.cec_core.specs.Loading.{CountsMachine, CountsNet, counted_text, pause_of};
+ghost use Rattle.cec_core.specs.Loading.{CountsMachine, CountsMore, CountsNet, counted_text, pause_of};
 ghost use Rattle.cec_core.specs.Outcomes.{LeavesText, MakesOn};
 ghost use Rattle.cec_core.specs.Refusals.{IsRefused};
 
 use crate::answers::joined;
-use crate::commands::run::compiled_text;
-use crate::compiler::Compiled;
+use crate::compiler::{Compiled, compile_picked};
 use crate::lines::{Subject, report, subject_of_none};
 use crate::outcome::Outcome;
 use crate::refusal::{Limit, Refusal};
-use blif_text::read_blif;
+use blif_text::{read_blif, write_blif};
 use cec_words::Pick;
+use csub_read::read_c;
+use csub_text::write_c;
 use est_base::{Limits, NoMemory, Sink, write_text};
 use est_gen::{Draw, generate_source, next_event};
 use itoa::Buffer;
+use net_ir::Net;
 use std::alloc::Global;
 use trace_io::Word;
 use trace_run::{BlifRunner, Runner};
+use trace_run_c::CMachine;
 
 /// How many outgoing signals were present in all instants, and how many of the instants ended paused.
 #[derive(Clone, Copy)]
@@ -104,8 +106,8 @@ fn summary(alloc: Global, source: &[u8], draw: Draw, instants: u32) -> Result<Ve
     ensures text { IfOk result (λ text. IsSummary source.now draw instants text.items) }
     ensures refuses { IfErr result (IsRefused source.now None) }
 {
-    let (compiled, text) = compiled_text(alloc, source, None, Pick::First)?;
-    let counts = drawn_counts(alloc, &compiled, &text, draw, instants)?;
+    let compiled = compile_picked(alloc, source, None, Pick::First)?;
+    let counts = drawn_counts(alloc, &compiled, draw, instants)?;
     let text = summary_text(alloc, instants, counts)?;
     Ok(text)
 }
@@ -132,16 +134,14 @@ fn summary_text(alloc: Global, instants: u32, counts: Counts) -> Result<Vec<u8>,
     Ok(text)
 }
 
-// What the text of a compiled source shows over drawn events. A generated source has eight inputs and outputs, and no
+// What both texts of a compiled source show over drawn events. A generated source has eight inputs and outputs, and no
 // relations.
 fn drawn_counts(
     alloc: Global,
     compiled: &Compiled,
-    text: &[u8],
     draw: Draw,
     instants: u32,
 ) -> Result<Counts, NoMemory>
-    requires { Means text.now (netlist_of compiled.now.net) }
     ensures inputs { OnOk result (length compiled.now.net.inputs.items ≡ 8) }
     ensures relations { OnOk result (compiled.now.graph.program.relations.items ≡ []) }
     ensures counts { IfOk result (CountsNet (netlist_of compiled.now.net) (drawn_items instants draw)) }
@@ -153,31 +153,76 @@ fn drawn_counts(
     {
         return Err(NoMemory);
     }
-    let Ok(blif) = read_blif(alloc, text) else {
-        return Err(NoMemory);
-    };
-    let Ok(mut runner) = BlifRunner::new(alloc, &blif) else {
-        return Err(NoMemory);
-    };
-    let mut draw = draw;
-    Ok(run_drawn(&mut runner, &mut draw, instants))
+    run_both(alloc, net, draw, instants)
 }
 
-// Runs a machine over drawn events.
-fn run_drawn<R: Runner>(runner: &mut R, draw: &mut Draw, instants: u32) -> Counts
-    requires each_input { R.input_count runner.old ≡ 8 }
-    requires each_output { R.output_count runner.old ≡ 8 }
-    ensures { CountsMachine R.reacts R.resets runner.old runner.new (drawn_items instants draw.old) result }
+// What both texts of a net show over drawn events.
+fn run_both(alloc: Global, net: &Net, draw: Draw, instants: u32) -> Result<Counts, NoMemory>
+    requires inputs { length net.now.inputs.items ≡ 8 }
+    requires outputs { length net.now.outputs.items ≡ 8 }
+    ensures { IfOk result (CountsNet (netlist_of net.now) (drawn_items instants draw)) }
 {
-    let mut emitted = 0;
-    let mut paused = 0;
+    let circuit_text = write_blif(alloc, net)?;
+    let program_text = write_c(alloc, net)?;
+    let Ok(blif) = read_blif(alloc, &circuit_text) else {
+        return Err(NoMemory);
+    };
+    let Ok(mut circuit) = BlifRunner::new(alloc, &blif) else {
+        return Err(NoMemory);
+    };
+    let Ok(program) = read_c(alloc, &program_text) else {
+        return Err(NoMemory);
+    };
+    let mut machine = CMachine::new(alloc, &program)?;
+    let mut draw = draw;
+    let (shown, called) = run_drawn(&mut circuit, &mut machine, &mut draw, instants);
+    // Both texts mean the net, so their runs have the same numbers.
+    prove!(shown.emitted == called.emitted && shown.paused == called.paused);
+    Ok(called)
+}
+
+// Runs two machines over the same drawn events.
+fn run_drawn<R: Runner, S: Runner>(
+    circuit: &mut R,
+    machine: &mut S,
+    draw: &mut Draw,
+    instants: u32,
+) -> (Counts, Counts)
+    requires each_input { R.input_count circuit.old ≡ 8 }
+    requires each_output { R.output_count circuit.old ≡ 8 }
+    requires each_given { S.input_count machine.old ≡ 8 }
+    requires each_shown { S.output_count machine.old ≡ 8 }
+    ensures shown { CountsMachine R.reacts R.resets circuit.old circuit.new (drawn_items instants draw.old) result.0 }
+    ensures called { CountsMachine S.reacts S.resets machine.old machine.new (drawn_items instants draw.old) result.1 }
+{
+    let mut shown = Counts {
+        emitted: 0,
+        paused: 0,
+    };
+    let mut called = shown;
     for instant in 0..instants {
         let event = next_event(draw);
-        let word = runner.react(&event);
-        emitted += present_count(runner.outputs());
-        paused += pause_of(word);
+        shown = with_reaction(circuit, &event, shown);
+        called = with_reaction(machine, &event, called);
     }
-    Counts { emitted, paused }
+    (shown, called)
+}
+
+// The counts with one reaction more.
+fn with_reaction<R: Runner>(machine: &mut R, event: &[bool], counts: Counts) -> Counts
+    requires each_input { length event.now ≡ R.input_count machine.old }
+    requires each_output { R.output_count machine.old ≡ 8 }
+    requires few { counts.emitted + 8 < 2 ^ 64 }
+    requires each { counts.paused + 1 < 2 ^ 64 }
+    ensures more { CountsMore R.reacts machine.old event.now machine.new counts result }
+    ensures inputs_stay { R.input_count machine.new ≡ R.input_count machine.old }
+    ensures outputs_stay { R.output_count machine.new ≡ R.output_count machine.old }
+{
+    let word = machine.react(event);
+    Counts {
+        emitted: counts.emitted + present_count(machine.outputs()),
+        paused: counts.paused + pause_of(word),
+    }
 }
 
 // How many signals are present.

@@ -5,42 +5,47 @@ ghost use Rattle.cec_core.specs.Answers.{IsAnswer};
 ghost use Rattle.cec_core.specs.Jobs.{Make};
 ghost use Rattle.cec_core.specs.JobViews.{plain_job};
 ghost use Rattle.cec_core.specs.Lines.{GainsErr};
-ghost use Rattle.cec_core.specs.Outcomes.{Agrees, CountsFiles, GainsOut, LeavesText, MakesOn};
+ghost use Rattle.cec_core.specs.Outcomes.{Agrees, CountsFiles, GainsOut, LeavesAnswer, LeavesPieces, MakesOn};
 ghost use Rattle.cec_core.specs.Subjects.{plain_subject, unread_outcome};
 
-use crate::answers::answer;
-use crate::jobs::Job;
+use crate::answers::{counts, listing};
+use crate::compiler::compile_picked;
+use crate::jobs::{Job, Task};
 use crate::lines::{Subject, report};
 use crate::outcome::{Outcome, Which};
 use crate::refusal::Limit;
-use est_base::{FileFault, Files, Limits, Sink, write_text};
+use crate::writing::{write_in_pieces, write_whole};
+use blif_text::BlifPieces;
+use csub_text::CPieces;
+use est_base::{FileFault, Files, Limits, Sink};
 use std::alloc::Global;
 
 /// Does a task on the source in a file, and says how it ended.
 pub(crate) fn make_text<F: Files, O: Sink, E: Sink>(
     alloc: Global,
+    task: Task,
     job: Job<'_>,
     files: &mut F,
     out: &mut O,
     err: &mut E,
 ) -> Outcome
-    ensures agrees { Agrees (Some (Make (plain_job job.entry))) (F.content files.old) result }
-    ensures files_counted { CountsFiles (Some (Make (plain_job job.entry))) result
+    ensures agrees { Agrees (Some (Make task (plain_job job.entry))) (F.content files.old) result }
+    ensures files_counted { CountsFiles (Some (Make task (plain_job job.entry))) result
         (F.faults files.old) (F.faults files.new) (F.last_failed files.old) (F.last_failed files.new) }
     ensures files_stay { F.content files.new ≡ F.content files.old }
-    ensures out { GainsOut (Some (Make (plain_job job.entry))) (F.content files.old) result
+    ensures out { GainsOut (Some (Make task (plain_job job.entry))) (F.content files.old) result
         (record {
           before = O.told out.old;
           after = O.told out.new;
           faults_before = O.faults out.old;
           faults_now = O.faults out.new;
         }) }
-    ensures err { GainsErr (Some (Make (plain_job job.entry))) (F.content files.old) result
+    ensures err { GainsErr (Some (Make task (plain_job job.entry))) (F.content files.old) result
         (E.told err.old) (E.told err.new) (E.faults err.old) (E.faults err.new) }
 {
     match files.read(alloc, job.name, Limits::SOURCE_BYTES) {
         Ok(source) => {
-            let outcome = written(alloc, job, &source, out);
+            let outcome = written(alloc, task, job, &source, out);
             report(err, subject_of(job, "", &source), &outcome);
             outcome
         }
@@ -78,11 +83,11 @@ pub(crate) fn unread(file: Which, limit: Limit, fault: FileFault) -> Outcome
     }
 }
 
-// The text that a job asks for, made of a source and written to `out`.
-fn written<O: Sink>(alloc: Global, job: Job<'_>, source: &[u8], out: &mut O) -> Outcome
+// Does a task on a source: what it makes is written to `out`.
+fn written<O: Sink>(alloc: Global, task: Task, job: Job<'_>, source: &[u8], out: &mut O) -> Outcome
     requires { length source.now ≤ Limits.SOURCE_BYTES }
     ensures agrees { MakesOn (plain_job job.entry).main result source.now }
-    ensures out { LeavesText (IsAnswer (plain_job job.entry) source.now)
+    ensures out { LeavesAnswer task (IsAnswer task (plain_job job.entry).main source.now)
         (record {
           before = O.told out.old;
           after = O.told out.new;
@@ -91,11 +96,60 @@ fn written<O: Sink>(alloc: Global, job: Job<'_>, source: &[u8], out: &mut O) -> 
         })
         result }
 {
-    match answer(alloc, job, source) {
-        Ok(text) => match write_text(out, &text) {
-            Ok(()) => Outcome::Done,
-            Err(_) => Outcome::WriteFault,
+    match task {
+        Task::Blif => blif_written(alloc, job, source, out),
+        Task::C => c_written(alloc, job, source, out),
+        Task::Grc => match listing(alloc, source, job.main) {
+            Ok(text) => write_whole(&text, out),
+            Err(refusal) => Outcome::from(refusal),
         },
+        Task::Check => match counts(alloc, source, job.main) {
+            Ok(text) => write_whole(&text, out),
+            Err(refusal) => Outcome::from(refusal),
+        },
+    }
+}
+
+// Writes the BLIF text of a source, piece by piece.
+fn blif_written<O: Sink>(alloc: Global, job: Job<'_>, source: &[u8], out: &mut O) -> Outcome
+    requires { length source.now ≤ Limits.SOURCE_BYTES }
+    ensures agrees { MakesOn (plain_job job.entry).main result source.now }
+    ensures out { LeavesPieces (IsAnswer Task.Blif (plain_job job.entry).main source.now)
+        (record {
+          before = O.told out.old;
+          after = O.told out.new;
+          faults_before = O.faults out.old;
+          faults_now = O.faults out.new;
+        })
+        result }
+{
+    match compile_picked(alloc, source, job.main, job.pick) {
+        Ok(compiled) => {
+            let mut pieces = BlifPieces::new(&compiled.net);
+            write_in_pieces(alloc, &mut pieces, out)
+        }
+        Err(refusal) => Outcome::from(refusal),
+    }
+}
+
+// Writes the C text of a source, piece by piece.
+fn c_written<O: Sink>(alloc: Global, job: Job<'_>, source: &[u8], out: &mut O) -> Outcome
+    requires { length source.now ≤ Limits.SOURCE_BYTES }
+    ensures agrees { MakesOn (plain_job job.entry).main result source.now }
+    ensures out { LeavesPieces (IsAnswer Task.C (plain_job job.entry).main source.now)
+        (record {
+          before = O.told out.old;
+          after = O.told out.new;
+          faults_before = O.faults out.old;
+          faults_now = O.faults out.new;
+        })
+        result }
+{
+    match compile_picked(alloc, source, job.main, job.pick) {
+        Ok(compiled) => {
+            let mut pieces = CPieces::new(&compiled.net);
+            write_in_pieces(alloc, &mut pieces, out)
+        }
         Err(refusal) => Outcome::from(refusal),
     }
 }

@@ -2,7 +2,6 @@
 
 ghost use Rattle.std.specs.Prelude.{◌≡◌, ◌≤◌, length, map, Some, IfOk, IfErr, option_map};
 ghost use Rattle.est_base.specs.Relations.{relation_of};
-ghost use Rattle.blif_text.specs.Written.{Means, written};
 ghost use Rattle.net_ir.specs.Netlists.{output_names};
 ghost use Rattle.net_ir.specs.Runs.{netlist_of};
 ghost use Rattle.trace_io.specs.Answers.{beginning};
@@ -15,49 +14,53 @@ ghost use Rattle.cec_core.specs.JobViews.{plain_job};
 ghost use Rattle.cec_core.specs.Lines.{GainsErr};
 ghost use Rattle.cec_core.specs.Outcomes.{Agrees, CountsFiles, GainsOut, RunsOn};
 ghost use Rattle.cec_core.specs.Refusals.{IsRefused};
+ghost use Rattle.cec_core.specs.NetTexts.{IsWritten};
 ghost use Rattle.cec_core.specs.Runs.{LeavesRun, RunsSource};
 ghost use Rattle.cec_core.specs.Subjects.{CountsTrace, LongTrace};
 
 use crate::commands::exec::run_outcome;
 use crate::commands::make::{subject_of, unread};
-use crate::compiler::{Compiled, compile};
+use crate::compiler::{Compiled, compile_picked};
 use crate::jobs::Job;
 use crate::lines::report;
 use crate::outcome::{Outcome, Which};
 use crate::refusal::{Limit, Refusal};
 use blif_text::write_blif;
-use cec_words::Pick;
+use cec_words::{Pick, Via};
+use csub_text::write_c;
 use est_base::{Files, Limits, NoMemory, Sink};
-use grc_order::{Drawn, First, Last};
+use net_ir::Net;
 use std::alloc::Global;
 use trace_run::{RunFault, net_interface, run_written};
+use trace_run_c::run_written_c;
 
 /// Runs the source in a file over the trace in another, and says how it ended.
 pub(crate) fn run_file<F: Files, O: Sink, E: Sink>(
     alloc: Global,
+    via: Via,
     job: Job<'_>,
     trace: &str,
     files: &mut F,
     out: &mut O,
     err: &mut E,
 ) -> Outcome
-    ensures agrees { Agrees (Some (Run (plain_job job.entry) trace.now)) (F.content files.old) result }
-    ensures files_counted { CountsFiles (Some (Run (plain_job job.entry) trace.now)) result
+    ensures agrees { Agrees (Some (Run via (plain_job job.entry) trace.now)) (F.content files.old) result }
+    ensures files_counted { CountsFiles (Some (Run via (plain_job job.entry) trace.now)) result
         (F.faults files.old) (F.faults files.new) (F.last_failed files.old) (F.last_failed files.new) }
     ensures files_stay { F.content files.new ≡ F.content files.old }
-    ensures out { GainsOut (Some (Run (plain_job job.entry) trace.now)) (F.content files.old) result
+    ensures out { GainsOut (Some (Run via (plain_job job.entry) trace.now)) (F.content files.old) result
         (record {
           before = O.told out.old;
           after = O.told out.new;
           faults_before = O.faults out.old;
           faults_now = O.faults out.new;
         }) }
-    ensures err { GainsErr (Some (Run (plain_job job.entry) trace.now)) (F.content files.old) result
+    ensures err { GainsErr (Some (Run via (plain_job job.entry) trace.now)) (F.content files.old) result
         (E.told err.old) (E.told err.new) (E.faults err.old) (E.faults err.new) }
 {
     match files.read(alloc, job.name, Limits::SOURCE_BYTES) {
         Ok(source) => {
-            let outcome = source_run(alloc, job, &source, trace, files, out);
+            let outcome = source_run(alloc, via, job, &source, trace, files, out);
             report(err, subject_of(job, trace, &source), &outcome);
             outcome
         }
@@ -72,6 +75,7 @@ pub(crate) fn run_file<F: Files, O: Sink, E: Sink>(
 // Runs a source over the trace in a file: its text is written into memory, and read again.
 fn source_run<F: Files, O: Sink>(
     alloc: Global,
+    via: Via,
     job: Job<'_>,
     source: &[u8],
     trace: &str,
@@ -79,7 +83,7 @@ fn source_run<F: Files, O: Sink>(
     out: &mut O,
 ) -> Outcome
     requires { length source.now ≤ Limits.SOURCE_BYTES }
-    ensures agrees { RunsOn (plain_job job.entry).main result source.now }
+    ensures agrees { RunsOn via (plain_job job.entry).main result source.now }
     ensures long_trace { LongTrace (F.content files.old) trace.now result }
     ensures files_counted { CountsTrace trace.now result
         (F.faults files.old) (F.faults files.new) (F.last_failed files.old) (F.last_failed files.new) }
@@ -101,7 +105,7 @@ fn source_run<F: Files, O: Sink>(
         })
         result }
 {
-    let (compiled, text) = match compiled_text(alloc, source, job.main, job.pick) {
+    let (compiled, text) = match compiled_text(alloc, via, source, job.main, job.pick) {
         Ok(made) => made,
         Err(refusal) => return Outcome::from(refusal),
     };
@@ -109,57 +113,49 @@ fn source_run<F: Files, O: Sink>(
         return Outcome::Limit(Limit::Text);
     }
     match files.read(alloc, trace, Limits::TRACE_BYTES) {
-        Ok(items) => run_outcome(run_compiled(alloc, compiled, &text, items, out)),
+        Ok(items) => run_outcome(run_compiled(alloc, via, compiled, &text, items, out)),
         Err(fault) => unread(Which::Second, Limit::Trace, fault),
     }
 }
 
-/// A source compiled, and its BLIF text.
-pub(crate) fn compiled_text(
+// A source compiled, and its text of this form.
+fn compiled_text(
     alloc: Global,
+    via: Via,
     source: &[u8],
     main: Option<&[u8]>,
     pick: Pick,
 ) -> Result<(Compiled, Vec<u8>), Refusal>
     requires { length source.now ≤ Limits.SOURCE_BYTES }
     ensures compiles { IfOk result (λ made. StandsForNet source.now (option_map (λ m. m.now) main.entry) made.0) }
-    ensures text { IfOk result (λ made. made.1.items ≡ written (netlist_of made.0.net)) }
-    ensures means { IfOk result (λ made. Means made.1.items (netlist_of made.0.net)) }
+    ensures text { IfOk result (λ made. IsWritten via made.1.items (netlist_of made.0.net)) }
     ensures refuses { IfErr result (IsRefused source.now (option_map (λ m. m.now) main.entry)) }
 {
-    let compiled = picked_net(alloc, source, main, pick)?;
-    let text = write_blif(alloc, &compiled.net)?;
+    let compiled = compile_picked(alloc, source, main, pick)?;
+    let text = net_text(alloc, via, &compiled.net)?;
     Ok((compiled, text))
 }
 
-// A source compiled, in an evaluation order that is chosen so.
-fn picked_net(
-    alloc: Global,
-    source: &[u8],
-    main: Option<&[u8]>,
-    pick: Pick,
-) -> Result<Compiled, Refusal>
-    requires { length source.now ≤ Limits.SOURCE_BYTES }
-    ensures compiles { IfOk result (StandsForNet source.now (option_map (λ m. m.now) main.entry)) }
-    ensures refuses { IfErr result (IsRefused source.now (option_map (λ m. m.now) main.entry)) }
+// The text of this form of a net.
+fn net_text(alloc: Global, via: Via, net: &Net) -> Result<Vec<u8>, NoMemory>
+    ensures { IfOk result (λ text. IsWritten via text.items (netlist_of net.now)) }
 {
-    match pick {
-        Pick::First => compile(alloc, source, main, &mut First),
-        Pick::Last => compile(alloc, source, main, &mut Last),
-        Pick::Drawn(start) => compile(alloc, source, main, &mut Drawn(start)),
+    match via {
+        Via::Blif => write_blif(alloc, net),
+        Via::C => write_c(alloc, net),
     }
 }
 
 // Runs the text of a compiled source over a trace, by the names and relations of the source.
 fn run_compiled<O: Sink>(
     alloc: Global,
+    via: Via,
     compiled: Compiled,
     text: &[u8],
     trace: Vec<u8>,
     out: &mut O,
 ) -> Result<(), RunFault>
-    requires spelled { text.now ≡ written (netlist_of compiled.net) }
-    requires means { Means text.now (netlist_of compiled.net) }
+    requires text { IsWritten via text.now (netlist_of compiled.net) }
     requires fits { length text.now ≤ Limits.TEXT_BYTES }
     requires short { length trace.items ≤ Limits.TRACE_BYTES }
     ensures { RunsTrace (ShowsNet (output_names (netlist_of compiled.net)) (netlist_of compiled.net))
@@ -184,5 +180,8 @@ fn run_compiled<O: Sink>(
         Ok(interface) => interface,
         Err(NoMemory) => return Err(RunFault::NoMemory),
     };
-    run_written(alloc, &net, text, interface, trace, out)
+    match via {
+        Via::Blif => run_written(alloc, &net, text, interface, trace, out),
+        Via::C => run_written_c(alloc, &net, text, interface, trace, out),
+    }
 }

@@ -3,4 +3,5 @@ use Rattle.cec_core.proofs.commands.exec.file_executed.Goals as goal
 
 pub returns-in-Err-clause-agrees : goal.returns-in-Err-clause-agrees
 returns-in-Err-clause-agrees g c =
-    rw c.unread.ensures (exec_agrees_unread (g.F.Files.content c.args.files.now) c.args.text.now c.args.trace.now c.in-Err.fault c.in-Err.ensures.bytes)
+    rw c.unread.ensures
+    (exec_agrees_unread (g.F.Files.content c.args.files.now) c.args.via c.args.text.now c.args.trace.now c.in-Err.fault c.in-Err.ensures.bytes)

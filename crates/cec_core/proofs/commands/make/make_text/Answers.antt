@@ -5,7 +5,7 @@ use Rattle.cec_core.specs.Answers.{IsAnswer}
 use Rattle.cec_core.specs.declared.refusal.Limit.TheVariants as limits
 use Rattle.cec_core.specs.Jobs.{Make}
 use Rattle.cec_core.specs.JobViews.{plain_job}
-use Rattle.cec_core.specs.Outcomes.{MakesOn, LeavesText}
+use Rattle.cec_core.specs.Outcomes.{MakesOn, LeavesAnswer}
 use Rattle.cec_core.specs.Subjects.{plain_subject}
 use Rattle.cec_core.proofs.OneFile.{held_read, make_agrees, make_counts, make_out, source_subject, err_alone}
 use Rattle.cec_core.proofs.OneFile.{make_agrees_unread, counts_unread, make_out_unread, err_unread}
@@ -15,13 +15,14 @@ pub returns-in-Ok-clause-agrees : goal.returns-in-Ok-clause-agrees
 returns-in-Ok-clause-agrees g c =
     let job = plain_job c.args.job in
     let content = g.F.Files.content c.args.files.now in
-    make_agrees content job c.written-outcome.result c.in-Ok.source.items (held_read content job.name SOURCE_BYTES c.in-Ok.source c.in-Ok.ensures.bytes)
+    make_agrees content c.args.task job c.written-outcome.result c.in-Ok.source.items
+    (held_read content job.name SOURCE_BYTES c.in-Ok.source c.in-Ok.ensures.bytes)
     (subst (MakesOn job.main c.written-outcome.result) c.deref.ensures.value c.written-outcome.ensures.agrees)
 
 pub returns-in-Ok-clause-files_counted : goal.returns-in-Ok-clause-files_counted
 returns-in-Ok-clause-files_counted g c =
     let job = plain_job c.args.job in
-    make_counts job c.written-outcome.result c.deref.result.now _ _ _ _ c.written-outcome.ensures.agrees c.in-Ok.ensures.counts
+    make_counts c.args.task job c.written-outcome.result c.deref.result.now _ _ _ _ c.written-outcome.ensures.agrees c.in-Ok.ensures.counts
 
 pub returns-in-Ok-clause-out : goal.returns-in-Ok-clause-out
 returns-in-Ok-clause-out g c =
@@ -33,8 +34,10 @@ returns-in-Ok-clause-out g c =
       faults_before = g.O.Sink.faults c.args.out.now;
       faults_now = g.O.Sink.faults c.written-outcome.new.out;
     } in
-    make_out content job c.written-outcome.result c.in-Ok.source.items s (held_read content job.name SOURCE_BYTES c.in-Ok.source c.in-Ok.ensures.bytes)
-    (subst (λ bytes. LeavesText (IsAnswer job bytes) s c.written-outcome.result) c.deref.ensures.value c.written-outcome.ensures.out)
+    make_out content c.args.task job c.written-outcome.result c.in-Ok.source.items s
+    (held_read content job.name SOURCE_BYTES c.in-Ok.source c.in-Ok.ensures.bytes)
+    (subst (λ bytes. LeavesAnswer c.args.task (IsAnswer c.args.task job.main bytes) s c.written-outcome.result)
+    c.deref.ensures.value c.written-outcome.ensures.out)
 
 pub returns-in-Ok-clause-err : goal.returns-in-Ok-clause-err
 returns-in-Ok-clause-err g c =
@@ -49,18 +52,18 @@ returns-in-Ok-clause-err g c =
 pub returns-in-Err-clause-agrees : goal.returns-in-Err-clause-agrees
 returns-in-Err-clause-agrees g c =
     rw c.unread-outcome.ensures
-    (make_agrees_unread (g.F.Files.content c.args.files.now) (plain_job c.args.job) c.in-Err.fault c.in-Err.ensures.bytes)
+    (make_agrees_unread (g.F.Files.content c.args.files.now) c.args.task (plain_job c.args.job) c.in-Err.fault c.in-Err.ensures.bytes)
 
 pub returns-in-Err-clause-files_counted : goal.returns-in-Err-clause-files_counted
 returns-in-Err-clause-files_counted g c =
     let job = plain_job c.args.job in
     rw c.unread-outcome.ensures
-    (counts_unread (Make job) job.name limits.Source c.in-Err.fault _ _ _ _ (λ n is. is) c.in-Err.ensures.counts)
+    (counts_unread (Make c.args.task job) job.name limits.Source c.in-Err.fault _ _ _ _ (λ n is. is) c.in-Err.ensures.counts)
 
 pub returns-in-Err-clause-err : goal.returns-in-Err-clause-err
 returns-in-Err-clause-err g c =
     let job = plain_job c.args.job in
     rw c.unread-outcome.ensures
-    (err_unread (Make job) (g.F.Files.content c.args.files.now) job (plain_subject c.subject_of-in-Err.result).trace c.in-Err.fault
+    (err_unread (Make c.args.task job) (g.F.Files.content c.args.files.now) job (plain_subject c.subject_of-in-Err.result).trace c.in-Err.fault
     (plain_subject c.subject_of-in-Err.result) _ _ _ _ (λ y is same. is) c.subject_of-in-Err.ensures.name
     (rw (← c.unread-outcome.ensures) c.report-in-Err.ensures))

@@ -17,15 +17,15 @@ pub returns-in-Ok-clause-agrees : goal.returns-in-Ok-clause-agrees
 returns-in-Ok-clause-agrees g c =
     let job = plain_job c.args.job in
     let content = g.F.Files.content c.args.files.now in
-    two_agree content job.name c.args.trace.now (RunsOn job.main) c.source_run-outcome.result c.in-Ok.source.items
+    two_agree content job.name c.args.trace.now (RunsOn c.args.via job.main) c.source_run-outcome.result c.in-Ok.source.items
     (held_read content job.name SOURCE_BYTES c.in-Ok.source c.in-Ok.ensures.bytes)
-    (subst (RunsOn job.main c.source_run-outcome.result) c.deref.ensures.value c.source_run-outcome.ensures.agrees)
+    (subst (RunsOn c.args.via job.main c.source_run-outcome.result) c.deref.ensures.value c.source_run-outcome.ensures.agrees)
     (rw (← c.in-Ok.ensures.content_stays) c.source_run-outcome.ensures.long_trace)
 
 pub returns-in-Ok-clause-files_counted : goal.returns-in-Ok-clause-files_counted
 returns-in-Ok-clause-files_counted g c =
     let job = plain_job c.args.job in
-    two_count (Run job c.args.trace.now) c.args.trace.now c.source_run-outcome.result _ _ _ _ _ _ (λ n is. is) c.in-Ok.ensures.counts
+    two_count (Run c.args.via job c.args.trace.now) c.args.trace.now c.source_run-outcome.result _ _ _ _ _ _ (λ n is. is) c.in-Ok.ensures.counts
     c.source_run-outcome.ensures.files_counted
 
 pub returns-in-Ok-clause-out : goal.returns-in-Ok-clause-out
@@ -62,18 +62,18 @@ returns-in-Ok-clause-err g c =
 pub returns-in-Err-clause-agrees : goal.returns-in-Err-clause-agrees
 returns-in-Err-clause-agrees g c =
     rw c.unread-outcome.ensures
-    (run_agrees_unread (g.F.Files.content c.args.files.now) (plain_job c.args.job) c.args.trace.now c.in-Err.fault c.in-Err.ensures.bytes)
+    (run_agrees_unread (g.F.Files.content c.args.files.now) c.args.via (plain_job c.args.job) c.args.trace.now c.in-Err.fault c.in-Err.ensures.bytes)
 
 pub returns-in-Err-clause-files_counted : goal.returns-in-Err-clause-files_counted
 returns-in-Err-clause-files_counted g c =
     let job = plain_job c.args.job in
     rw c.unread-outcome.ensures
-    (counts_unread (Run job c.args.trace.now) job.name limits.Source c.in-Err.fault _ _ _ _ (λ n is. is) c.in-Err.ensures.counts)
+    (counts_unread (Run c.args.via job c.args.trace.now) job.name limits.Source c.in-Err.fault _ _ _ _ (λ n is. is) c.in-Err.ensures.counts)
 
 pub returns-in-Err-clause-err : goal.returns-in-Err-clause-err
 returns-in-Err-clause-err g c =
     let job = plain_job c.args.job in
     rw c.unread-outcome.ensures
-    (err_unread (Run job c.args.trace.now) (g.F.Files.content c.args.files.now) job c.args.trace.now c.in-Err.fault
+    (err_unread (Run c.args.via job c.args.trace.now) (g.F.Files.content c.args.files.now) job c.args.trace.now c.in-Err.fault
     (plain_subject c.subject_of-in-Err.result) _ _ _ _ (λ y is same. (is, same)) c.subject_of-in-Err.ensures.name
     (rw (← c.unread-outcome.ensures) c.report-in-Err.ensures))

@@ -8,6 +8,7 @@ use Rattle.cec_core.specs.Contents.{Holds}
 use Rattle.cec_core.specs.JobViews.{plain_job}
 use Rattle.cec_core.specs.Runs.{RunsSource}
 use Rattle.cec_core.proofs.OneFile.{held_read}
+use Rattle.cec_core.proofs.NetTexts.{net_text}
 use Rattle.cec_core.proofs.RunLines.{given_wide, runs_program}
 use Rattle.cec_core.specs.declared.outcome.Which.TheVariants.{Second}
 use Rattle.cec_core.specs.declared.refusal.Limit.TheVariants as limits
@@ -21,7 +22,7 @@ returns-then-len-gt-TEXT_BYTES-clause-agrees g c =
     record {
       short = c.requires;
       text = made.1.items;
-      written = record { made = made.0; compiled = c.in-Ok.ensures.compiles; text = c.in-Ok.ensures.text };
+      written = net_text c.args.via c.args.source.now (plain_job c.args.job).main made.0 made.1.items c.in-Ok.ensures.compiles c.in-Ok.ensures.text;
       long = long;
     }
 
@@ -50,12 +51,12 @@ returns-in-Err-read-clause-long_trace g c =
 
 pub returns-in-Err-clause-agrees : goal.returns-in-Err-clause-agrees
 returns-in-Err-clause-agrees g c =
-    rw c.from.ensures (refused_runs (plain_job c.args.job) c.in-Err.refusal c.args.source.now c.requires c.in-Err.ensures.refuses)
+    rw c.from.ensures (refused_runs c.args.via (plain_job c.args.job) c.in-Err.refusal c.args.source.now c.requires c.in-Err.ensures.refuses)
 
 pub returns-in-Err-read-clause-agrees : goal.returns-in-Err-read-clause-agrees
 returns-in-Err-read-clause-agrees g c =
     let s = c.in-Ok.ensures.compiles in
-    rw c.unread.ensures (run_trace_unread (plain_job c.args.job) c.args.source.now c.in-Err-read.fault
+    rw c.unread.ensures (run_trace_unread c.args.via (plain_job c.args.job) c.args.source.now c.in-Err-read.fault
     (record { program = s.program; short = c.requires; source = s.source; compiles = s.compiled.compiles }))
 
 pub returns-in-Err-read-clause-files_counted : goal.returns-in-Err-read-clause-files_counted

@@ -1,0 +1,358 @@
+-- Requests of which nothing is refused end as done, or for want of memory.
+use Rattle.std.proofs.Common.{◌≡◌, ℕ, ◌+◌, ◌<◌, ◌≤◌, ◌⊎◌, List, [], ◌∷◌, ◌++◌, length, Option, None, Some, Result, Ok, Err, inl, inr, refl, sym, ap, ◌∙◌, subst}
+use Rattle.std.proofs.Common.{⊎_elim, arith}
+use Rattle.est_base.specs.declared.bounds.TheConstants.Limits.{TRACE_BYTES, TEXT_BYTES}
+use Rattle.est_base.specs.Faults.{Rose}
+use Rattle.est_base.specs.Items.{Item, Event, Reset}
+use Rattle.est_gen.specs.Sources.{source_text}
+use Rattle.est_kernel.specs.Plain.{Program, given_names}
+use Rattle.blif_text.specs.Circuits.{Circuit}
+use Rattle.blif_run.specs.Loops.{IsLoop}
+use Rattle.cec_front.proofs.OneProgram.{one_program}
+use Rattle.cec_front.proofs.Unrefused as front
+use Rattle.cec_front.specs.Sources.{StandsFor}
+use Rattle.cec_words.specs.declared.asked.Via.{Via}
+use Rattle.cec_words.specs.declared.asked.Via.TheVariants.{Blif, C}
+use Rattle.csub_read.specs.declared.refusal.CError.TheVariants as c_faults
+use Rattle.csub_read.specs.Laws.{LacksRoom}
+use Rattle.csub_read.proofs.ReadBack.{described-are-read}
+use Rattle.csub_text.specs.Trees as c_trees
+use Rattle.trace_io.specs.declared.faults.TraceFault.{TraceFault}
+use Rattle.trace_io.specs.declared.faults.TraceFault.TheVariants as faults
+use Rattle.trace_io.specs.Answers.{IsFault, IsTrace, beginning}
+use Rattle.trace_io.specs.Traces.{Reading, Group, next_group}
+use Rattle.trace_io.specs.Traces as groups
+use Rattle.trace_run.proofs.Fronts.{front-of, front-whole}
+use Rattle.trace_run.specs.declared.executing.TextFault.{TextFault}
+use Rattle.trace_run.specs.declared.executing.TextFault.TheVariants as texts
+use Rattle.trace_run.specs.declared.running.RunFault.TheVariants as runs
+use Rattle.trace_run.specs.Running.{Sinks}
+use Rattle.trace_run_c.specs.CAnswers.{bare_inputs}
+use Rattle.cec_core.specs.declared.outcome.Outcome.{Outcome}
+use Rattle.cec_core.specs.declared.outcome.Outcome.TheVariants.{Done, Usage, FileFault, Static, Cyclic, Trace, BadText, Limit, WriteFault, NoMemory}
+use Rattle.cec_core.specs.declared.outcome.Which.{Which}
+use Rattle.cec_core.specs.declared.outcome.Which.TheVariants.{First, Second}
+use Rattle.cec_core.specs.declared.refusal.Limit as bounds
+use Rattle.cec_core.specs.declared.refusal.Limit.TheVariants as limits
+use Rattle.cec_core.specs.declared.refusal.Refusal.TheVariants as refusals
+use Rattle.cec_core.specs.Accepted.{IsWholeTrace, RunsToEnd, ExecutesToEnd, inputs_by, IsAccepted}
+use Rattle.cec_core.specs.Contents.{Content}
+use Rattle.cec_core.specs.ExecTexts.{IsCircuitText, IsProgramText, IsRunnable, HasFault, RunsBy}
+use Rattle.cec_core.specs.Jobs.{Job, Request, Help, Make, Run, Exec, Generate, Load}
+use Rattle.cec_core.specs.Laws.{AcceptedRequestsAreDone}
+use Rattle.cec_core.specs.Outcomes.{MakesOn, RunsOn, ExecutesOn, AgreesOnFile, AgreesOnTwo, IsWriting, Agrees, CountsFiles, IsTextOf, GainsOut}
+use Rattle.cec_core.specs.Runs.{RunsSource}
+use Rattle.cec_core.specs.Sources.{IsSource, WritesLongText}
+use Rattle.cec_core.specs.Subjects.{LongTrace}
+use Rattle.cec_core.proofs.Pieces.{answer_rose}
+use Rattle.cec_core.proofs.Unrefused.{unrefused, passes_limit}
+
+-- ---- a trace has one end
+
+end_is_no_fault : (r : Reading) (fault : TraceFault) → next_group r ≡ groups.End → IsFault r fault → ⊥
+end_is_no_fault r (faults.BadByte place) e is = let both = sym e ∙ is in cc
+end_is_no_fault r (faults.UnknownInput instant name) e is = let both = sym e ∙ is in cc
+end_is_no_fault r (faults.Repeated instant name) e is = let both = sym e ∙ is in cc
+end_is_no_fault r (faults.BadReset instant) e is = let both = sym e ∙ is in cc
+end_is_no_fault r (faults.OpenInstant instant) e is = let both = sym e ∙ is in cc
+end_is_no_fault r (faults.Breaks instant number) e is = let both = sym e ∙ is.3 in cc
+
+-- a list is not longer than one that begins with it
+no_longer : (x : Item) (items more : List Item) → [] ≡ (x ∷ items) ++ more → ⊥
+no_longer x items more e =
+    let count = ap (λ (l : List Item). length l) e in
+    omega (arith, count)
+
+-- a trace that is accepted to its end has no fault
+pub whole_has_no_fault : (r : Reading) (items others : List Item) (fault : TraceFault) → IsTrace r items None → IsTrace r others (Some fault) → ⊥
+whole_has_no_fault r [] [] fault t u = end_is_no_fault r fault t u
+whole_has_no_fault r (x ∷ items) [] fault t u =
+    let more = front-of r (x ∷ items) [] (Some fault) (front-whole r (x ∷ items) None t) u in
+    no_longer x items more.0 more.1
+whole_has_no_fault r [] (x ∷ others) fault t u =
+    let more = front-of r (x ∷ others) [] None (front-whole r (x ∷ others) (Some fault) u) t in
+    no_longer x others more.0 more.1
+whole_has_no_fault r (Reset ∷ items) (Reset ∷ others) fault t u =
+    let both = sym t.1 ∙ u.1 in
+    let same : u.0 ≡ t.0 = cc both in
+    whole_has_no_fault (record r { at = t.0 }) items others fault t.2 (subst (λ b. IsTrace (record r { at = b }) others (Some fault)) same u.2)
+whole_has_no_fault r (Reset ∷ items) (Event other ∷ others) fault t u = let both = sym t.1 ∙ u.1 in cc
+whole_has_no_fault r (Event event ∷ items) (Reset ∷ others) fault t u = let both = sym t.1 ∙ u.1 in cc
+whole_has_no_fault r (Event event ∷ items) (Event other ∷ others) fault t u =
+    let both = sym t.1 ∙ u.1 in
+    let same : u.0 ≡ t.0 = cc both in
+    whole_has_no_fault (record r { at = t.0; instant = r.instant + 1 }) items others fault t.3
+    (subst (λ b. IsTrace (record r { at = b; instant = r.instant + 1 }) others (Some fault)) same u.3)
+
+-- ---- what the files hold
+
+on_file : (held : List ℕ → List ℕ) (name : List ℕ) (On : Outcome → List ℕ → Type 0) (outcome : Outcome) → AgreesOnFile (Some held) name On outcome
+    → (outcome ≡ FileFault First) ⊎ On outcome (held name)
+on_file held name On Done a = inr (subst (On Done) a.1 a.2)
+on_file held name On Usage a = inr (subst (On Usage) a.1 a.2)
+on_file held name On (FileFault First) a = inl refl
+on_file held name On (FileFault Second) a = inr (subst (On (FileFault Second)) a.1 a.2)
+on_file held name On (Static fault) a = inr (subst (On (Static fault)) a.1 a.2)
+on_file held name On (Cyclic cycle) a = inr (subst (On (Cyclic cycle)) a.1 a.2)
+on_file held name On (Trace fault) a = inr (subst (On (Trace fault)) a.1 a.2)
+on_file held name On (BadText fault) a = inr (subst (On (BadText fault)) a.1 a.2)
+on_file held name On (Limit quantity) a = inr (subst (On (Limit quantity)) a.1 a.2)
+on_file held name On WriteFault a = inr (subst (On WriteFault) a.1 a.2)
+on_file held name On NoMemory a = inr (subst (On NoMemory) a.1 a.2)
+
+-- the first file and, where that is said, a trace that is too long
+record OnTwo (held : List ℕ → List ℕ) (name trace : List ℕ) (On : Outcome → List ℕ → Type 0) (outcome : Outcome) : Type 0 where
+  on : On outcome (held name)
+  long : LongTrace (Some held) trace outcome
+
+on_two : (held : List ℕ → List ℕ) (name trace : List ℕ) (On : Outcome → List ℕ → Type 0) (outcome : Outcome) → AgreesOnTwo (Some held) name trace On outcome
+    → (outcome ≡ FileFault First) ⊎ OnTwo held name trace On outcome
+on_two held name trace On Done a = inr (record { on = subst (On Done) a.1 a.2; long = tt })
+on_two held name trace On Usage a = inr (record { on = subst (On Usage) a.1 a.2; long = tt })
+on_two held name trace On (FileFault First) a = inl refl
+on_two held name trace On (FileFault Second) a = inr (record { on = subst (On (FileFault Second)) a.1 a.2; long = tt })
+on_two held name trace On (Static fault) a = inr (record { on = subst (On (Static fault)) a.1 a.2; long = tt })
+on_two held name trace On (Cyclic cycle) a = inr (record { on = subst (On (Cyclic cycle)) a.1 a.2; long = tt })
+on_two held name trace On (Trace fault) a = inr (record { on = subst (On (Trace fault)) a.1 a.2; long = tt })
+on_two held name trace On (BadText fault) a = inr (record { on = subst (On (BadText fault)) a.1 a.2; long = tt })
+on_two held name trace On (Limit limits.Source) a = inr (record { on = subst (On (Limit limits.Source)) a.1 a.2; long = tt })
+on_two held name trace On (Limit limits.Trace) a = inr (record { on = subst (On (Limit limits.Trace)) a.0.1 a.0.2; long = a.1 })
+on_two held name trace On (Limit limits.Text) a = inr (record { on = subst (On (Limit limits.Text)) a.1 a.2; long = tt })
+on_two held name trace On (Limit limits.Nesting) a = inr (record { on = subst (On (Limit limits.Nesting)) a.1 a.2; long = tt })
+on_two held name trace On (Limit limits.Statements) a = inr (record { on = subst (On (Limit limits.Statements)) a.1 a.2; long = tt })
+on_two held name trace On (Limit limits.Signals) a = inr (record { on = subst (On (Limit limits.Signals)) a.1 a.2; long = tt })
+on_two held name trace On (Limit limits.Kernel) a = inr (record { on = subst (On (Limit limits.Kernel)) a.1 a.2; long = tt })
+on_two held name trace On (Limit limits.Height) a = inr (record { on = subst (On (Limit limits.Height)) a.1 a.2; long = tt })
+on_two held name trace On (Limit limits.Traps) a = inr (record { on = subst (On (Limit limits.Traps)) a.1 a.2; long = tt })
+on_two held name trace On (Limit limits.Instances) a = inr (record { on = subst (On (Limit limits.Instances)) a.1 a.2; long = tt })
+on_two held name trace On (Limit limits.Wires) a = inr (record { on = subst (On (Limit limits.Wires)) a.1 a.2; long = tt })
+on_two held name trace On WriteFault a = inr (record { on = subst (On WriteFault) a.1 a.2; long = tt })
+on_two held name trace On NoMemory a = inr (record { on = subst (On NoMemory) a.1 a.2; long = tt })
+
+-- ---- counts that do not rise
+
+no_file_fault : (request : Request) (outcome : Outcome) (before now : ℕ) (failed_before failed_now : List ℕ) (file : Which)
+    → CountsFiles (Some request) outcome before now failed_before failed_now → (Rose before now → ⊥) → outcome ≡ FileFault file → ⊥
+no_file_fault request outcome before now failed_before failed_now file counts stays is =
+    stays (subst (λ o. CountsFiles (Some request) o before now failed_before failed_now) is counts).0
+
+gains_rose : (request : Request) (content : Content) (s : Sinks) → GainsOut (Some request) content WriteFault s → Rose s.faults_before s.faults_now
+gains_rose Help content s g = g.2.faults
+gains_rose (Make task job) content s g = answer_rose task (IsTextOf task job content) s g
+gains_rose (Run via job trace) content s g = g.2.2.ran.4.faults
+gains_rose (Exec Blif text trace) content s g = g.2.2.ran.4.faults
+gains_rose (Exec C text trace) content s g = g.2.2.ran.4.faults
+gains_rose (Generate start branches) content s g = g.2.faults
+gains_rose (Load start branches instants) content s g = g.2.faults
+
+no_write_fault : (request : Request) (content : Content) (outcome : Outcome) (s : Sinks) → GainsOut (Some request) content outcome s
+    → (Rose s.faults_before s.faults_now → ⊥) → outcome ≡ WriteFault → ⊥
+no_write_fault request content outcome s gains stays is =
+    stays (gains_rose request content s (subst (λ o. GainsOut (Some request) content o s) is gains))
+
+-- ---- how commands end
+
+writing_end : (outcome : Outcome) → IsWriting outcome → (outcome ≡ WriteFault → ⊥) → (outcome ≡ Done) ⊎ (outcome ≡ NoMemory)
+writing_end Done w no = inl refl
+writing_end Usage w no = absurd w
+writing_end (FileFault file) w no = absurd w
+writing_end (Static fault) w no = absurd w
+writing_end (Cyclic cycle) w no = absurd w
+writing_end (Trace fault) w no = absurd w
+writing_end (BadText fault) w no = absurd w
+writing_end (Limit quantity) w no = absurd w
+writing_end WriteFault w no = absurd (no refl)
+writing_end NoMemory w no = inr refl
+
+made_end : (main : Option (List ℕ)) (bytes : List ℕ) (outcome : Outcome) → IsSource main bytes → MakesOn main outcome bytes → (outcome ≡ WriteFault → ⊥)
+    → (outcome ≡ Done) ⊎ (outcome ≡ NoMemory)
+made_end main bytes Done s m no = inl refl
+made_end main bytes Usage s m no = absurd m
+made_end main bytes (FileFault file) s m no = absurd m
+made_end main bytes (Static fault) s m no = absurd (front.no_fault bytes main s.program fault s.source m.refused)
+made_end main bytes (Cyclic cycle) s m no =
+    let same = unrefused main bytes (refusals.Cyclic cycle) s m.refused in
+    cc
+made_end main bytes (Trace fault) s m no = absurd m
+made_end main bytes (BadText fault) s m no = absurd m
+made_end main bytes (Limit quantity) s m no = absurd (passes_limit main bytes quantity s m)
+made_end main bytes WriteFault s m no = absurd (no refl)
+made_end main bytes NoMemory s m no = inr refl
+
+-- a trace that is too long
+long_whole : (held : List ℕ → List ℕ) (trace : List ℕ) → length (held trace) ≤ TRACE_BYTES → LongTrace (Some held) trace (Limit limits.Trace) → ⊥
+long_whole held trace short long =
+    let passes : TRACE_BYTES < length (held trace) = subst (λ (b : List ℕ). TRACE_BYTES < length b) long.1 long.2 in
+    omega (arith, short, passes)
+
+-- a limit that is passed by a source that is run
+run_limit : (via : Via) (main : Option (List ℕ)) (held : List ℕ → List ℕ) (name trace : List ℕ) (quantity : bounds.Limit)
+    → RunsToEnd via main (held name) (held trace) → RunsOn via main (Limit quantity) (held name) → LongTrace (Some held) trace (Limit quantity) → ⊥
+run_limit via main held name trace limits.Source w on long = passes_limit main (held name) limits.Source w.source on
+run_limit via main held name trace limits.Trace w on long = long_whole held trace w.whole.short long
+run_limit via main held name trace limits.Text w on long = w.readable on
+run_limit via main held name trace limits.Nesting w on long = passes_limit main (held name) limits.Nesting w.source on
+run_limit via main held name trace limits.Statements w on long = passes_limit main (held name) limits.Statements w.source on
+run_limit via main held name trace limits.Signals w on long = passes_limit main (held name) limits.Signals w.source on
+run_limit via main held name trace limits.Kernel w on long = passes_limit main (held name) limits.Kernel w.source on
+run_limit via main held name trace limits.Height w on long = passes_limit main (held name) limits.Height w.source on
+run_limit via main held name trace limits.Traps w on long = passes_limit main (held name) limits.Traps w.source on
+run_limit via main held name trace limits.Instances w on long = passes_limit main (held name) limits.Instances w.source on
+run_limit via main held name trace limits.Wires w on long = passes_limit main (held name) limits.Wires w.source on
+
+-- a trace of a source with a fault
+run_no_fault : (via : Via) (main : Option (List ℕ)) (bytes trace : List ℕ) (s : Sinks) (fault : TraceFault) → RunsToEnd via main bytes trace
+    → RunsSource main bytes trace s (Err (runs.Trace fault)) → ⊥
+run_no_fault via main bytes trace s fault w r =
+    let p = w.source.program in
+    let same : r.program ≡ p = one_program bytes main r.program p r.source w.source.source in
+    whole_has_no_fault (beginning trace (given_names p) p.relations) w.whole.items r.ran.0 fault w.whole.whole
+    (subst (λ (q : Program). IsTrace (beginning trace (given_names q) q.relations) r.ran.0 (Some fault)) same r.ran.2)
+
+run_trace_fault : (via : Via) (job : Job) (held : List ℕ → List ℕ) (trace : List ℕ) (s : Sinks) (fault : TraceFault)
+    → RunsToEnd via job.main (held job.name) (held trace) → GainsOut (Some (Run via job trace)) (Some held) (Trace fault) s → ⊥
+run_trace_fault via job held trace s fault w g =
+    run_no_fault via job.main (held job.name) (held trace) s fault w
+    (subst (λ i. RunsSource job.main (held job.name) i s (Err (runs.Trace fault))) g.2.1
+    (subst (λ b. RunsSource job.main b g.2.0 s (Err (runs.Trace fault))) g.1 g.2.2))
+
+run_end : (via : Via) (job : Job) (held : List ℕ → List ℕ) (trace : List ℕ) (outcome : Outcome) (s : Sinks)
+    → RunsToEnd via job.main (held job.name) (held trace) → OnTwo held job.name trace (RunsOn via job.main) outcome
+    → ((file : Which) → outcome ≡ FileFault file → ⊥) → (outcome ≡ WriteFault → ⊥) → GainsOut (Some (Run via job trace)) (Some held) outcome s
+    → (outcome ≡ Done) ⊎ (outcome ≡ NoMemory)
+run_end via job held trace Done s w on unread no g = inl refl
+run_end via job held trace Usage s w on unread no g = absurd on.on
+run_end via job held trace (FileFault file) s w on unread no g = absurd (unread file refl)
+run_end via job held trace (Static fault) s w on unread no g = made_end job.main (held job.name) (Static fault) w.source on.on no
+run_end via job held trace (Cyclic cycle) s w on unread no g = made_end job.main (held job.name) (Cyclic cycle) w.source on.on no
+run_end via job held trace (Trace fault) s w on unread no g = absurd (run_trace_fault via job held trace s fault w g)
+run_end via job held trace (BadText fault) s w on unread no g = absurd on.on
+run_end via job held trace (Limit quantity) s w on unread no g = absurd (run_limit via job.main held job.name trace quantity w on.on on.long)
+run_end via job held trace WriteFault s w on unread no g = absurd (no refl)
+run_end via job held trace NoMemory s w on unread no g = inr refl
+
+-- ---- texts
+
+circuit_no_fault : (bytes : List ℕ) (fault : TextFault) → IsCircuitText bytes → HasFault Blif bytes fault → ⊥
+circuit_no_fault bytes (texts.Line number) t h = let both = sym t.reads ∙ h in cc
+circuit_no_fault bytes (texts.TwoDrivers name) t h = let both = sym t.reads ∙ h in cc
+circuit_no_fault bytes (texts.NoDriver name) t h = let both = sym t.reads ∙ h in cc
+circuit_no_fault bytes (texts.Loop names) t h =
+    let both = sym t.reads ∙ h.1 in
+    let same : h.0 ≡ t.circuit = cc both in
+    t.acyclic names.items (subst (λ (c : Circuit). IsLoop c names.items) same h.2)
+circuit_no_fault bytes (texts.Syntax place) t h = h
+circuit_no_fault bytes (texts.Twice name) t h = h
+circuit_no_fault bytes (texts.Undeclared name) t h = h
+circuit_no_fault bytes (texts.Unset name) t h = h
+
+program_no_fault : (bytes : List ℕ) (fault : TextFault) → IsProgramText bytes → HasFault C bytes fault → ⊥
+program_no_fault bytes (texts.Line number) t h = h
+program_no_fault bytes (texts.TwoDrivers name) t h = h
+program_no_fault bytes (texts.NoDriver name) t h = h
+program_no_fault bytes (texts.Loop names) t h = h
+program_no_fault bytes (texts.Syntax place) t h =
+    (described-are-read bytes t.program t.reads.describes).refusals (c_faults.Syntax place) (t.reads.short, h)
+program_no_fault bytes (texts.Twice name) t h = (described-are-read bytes t.program t.reads.describes).refusals (c_faults.Twice name) (t.reads.short, h)
+program_no_fault bytes (texts.Undeclared name) t h =
+    (described-are-read bytes t.program t.reads.describes).refusals (c_faults.Undeclared name) (t.reads.short, h)
+program_no_fault bytes (texts.Unset name) t h = (described-are-read bytes t.program t.reads.describes).refusals (c_faults.Unset name) (t.reads.short, h)
+
+text_no_fault : (via : Via) (bytes : List ℕ) (fault : TextFault) → IsRunnable via bytes → HasFault via bytes fault → ⊥
+text_no_fault Blif bytes fault t h = circuit_no_fault bytes fault t h
+text_no_fault C bytes fault t h = program_no_fault bytes fault t h
+
+text_short : (via : Via) (bytes : List ℕ) → IsRunnable via bytes → length bytes ≤ TEXT_BYTES
+text_short Blif bytes t = t.within
+text_short C bytes t = t.reads.short
+
+-- a trace of a text with a fault
+text_run_no_fault : (via : Via) (bytes trace : List ℕ) (s : Sinks) (fault : TraceFault) → ExecutesToEnd via bytes trace
+    → RunsBy via bytes trace s (Err (runs.Trace fault)) → ⊥
+text_run_no_fault Blif bytes trace s fault w r =
+    let both = sym r.reads ∙ w.text.reads in
+    let same : r.circuit ≡ w.text.circuit = cc both in
+    whole_has_no_fault (beginning trace w.text.circuit.inputs []) w.whole.items r.ran.0 fault w.whole.whole
+    (subst (λ (c : Circuit). IsTrace (beginning trace c.inputs []) r.ran.0 (Some fault)) same r.ran.2)
+text_run_no_fault C bytes trace s fault w r =
+    let same : r.program ≡ w.text.program = w.text.reads.only r.program r.reads.describes in
+    whole_has_no_fault (beginning trace (bare_inputs w.text.program) []) w.whole.items r.ran.0 fault w.whole.whole
+    (subst (λ (p : c_trees.Program). IsTrace (beginning trace (bare_inputs p) []) r.ran.0 (Some fault)) same r.ran.2)
+
+text_trace_fault : (via : Via) (held : List ℕ → List ℕ) (text trace : List ℕ) (s : Sinks) (fault : TraceFault) → ExecutesToEnd via (held text) (held trace)
+    → GainsOut (Some (Exec via text trace)) (Some held) (Trace fault) s → ⊥
+text_trace_fault via held text trace s fault w g =
+    text_run_no_fault via (held text) (held trace) s fault w
+    (subst (λ i. RunsBy via (held text) i s (Err (runs.Trace fault))) g.2.1
+    (subst (λ b. RunsBy via b g.2.0 s (Err (runs.Trace fault))) g.1 g.2.2))
+
+text_limit : (via : Via) (held : List ℕ → List ℕ) (text trace : List ℕ) (quantity : bounds.Limit) → ExecutesToEnd via (held text) (held trace)
+    → ExecutesOn via (Limit quantity) (held text) → LongTrace (Some held) trace (Limit quantity) → ⊥
+text_limit via held text trace limits.Source w on long = on
+text_limit via held text trace limits.Trace w on long = long_whole held trace w.whole.short long
+text_limit via held text trace limits.Text w on long =
+    let short = text_short via (held text) w.text in
+    omega (arith, short, on)
+text_limit via held text trace limits.Nesting w on long = on
+text_limit via held text trace limits.Statements w on long = on
+text_limit via held text trace limits.Signals w on long = on
+text_limit via held text trace limits.Kernel w on long = on
+text_limit via held text trace limits.Height w on long = on
+text_limit via held text trace limits.Traps w on long = on
+text_limit via held text trace limits.Instances w on long = on
+text_limit via held text trace limits.Wires w on long = on
+
+exec_end : (via : Via) (held : List ℕ → List ℕ) (text trace : List ℕ) (outcome : Outcome) (s : Sinks) → ExecutesToEnd via (held text) (held trace)
+    → OnTwo held text trace (ExecutesOn via) outcome → ((file : Which) → outcome ≡ FileFault file → ⊥) → (outcome ≡ WriteFault → ⊥)
+    → GainsOut (Some (Exec via text trace)) (Some held) outcome s → (outcome ≡ Done) ⊎ (outcome ≡ NoMemory)
+exec_end via held text trace Done s w on unread no g = inl refl
+exec_end via held text trace Usage s w on unread no g = absurd on.on
+exec_end via held text trace (FileFault file) s w on unread no g = absurd (unread file refl)
+exec_end via held text trace (Static fault) s w on unread no g = absurd on.on
+exec_end via held text trace (Cyclic cycle) s w on unread no g = absurd on.on
+exec_end via held text trace (Trace fault) s w on unread no g = absurd (text_trace_fault via held text trace s fault w g)
+exec_end via held text trace (BadText fault) s w on unread no g = absurd (text_no_fault via (held text) fault w.text on.on.1)
+exec_end via held text trace (Limit quantity) s w on unread no g = absurd (text_limit via held text trace quantity w on.on on.long)
+exec_end via held text trace WriteFault s w on unread no g = absurd (no refl)
+exec_end via held text trace NoMemory s w on unread no g = inr refl
+
+-- ---- requests
+
+pub accepted_done : AcceptedRequestsAreDone
+accepted_done Help held outcome before now failed_before failed_now s w agrees counts stays gains still =
+    writing_end outcome agrees (no_write_fault Help (Some held) outcome s gains still)
+accepted_done (Make task job) held outcome before now failed_before failed_now s w agrees counts stays gains still =
+    let request = Make task job in
+    ⊎_elim (λ is. absurd (no_file_fault request outcome before now failed_before failed_now First counts stays is))
+    (λ on. made_end job.main (held job.name) outcome w on (no_write_fault request (Some held) outcome s gains still))
+    (on_file held job.name (MakesOn job.main) outcome agrees)
+accepted_done (Run via job trace) held outcome before now failed_before failed_now s w agrees counts stays gains still =
+    let request = Run via job trace in
+    ⊎_elim (λ is. absurd (no_file_fault request outcome before now failed_before failed_now First counts stays is))
+    (λ on. run_end via job held trace outcome s w on (λ file. no_file_fault request outcome before now failed_before failed_now file counts stays)
+    (no_write_fault request (Some held) outcome s gains still) gains)
+    (on_two held job.name trace (RunsOn via job.main) outcome agrees)
+accepted_done (Exec via text trace) held outcome before now failed_before failed_now s w agrees counts stays gains still =
+    let request = Exec via text trace in
+    ⊎_elim (λ is. absurd (no_file_fault request outcome before now failed_before failed_now First counts stays is))
+    (λ on. exec_end via held text trace outcome s w on (λ file. no_file_fault request outcome before now failed_before failed_now file counts stays)
+    (no_write_fault request (Some held) outcome s gains still) gains)
+    (on_two held text trace (ExecutesOn via) outcome agrees)
+accepted_done (Generate start branches) held outcome before now failed_before failed_now s w agrees counts stays gains still =
+    writing_end outcome agrees (no_write_fault (Generate start branches) (Some held) outcome s gains still)
+accepted_done (Load start branches instants) held outcome before now failed_before failed_now s w agrees counts stays gains still =
+    made_end None (source_text start branches) outcome w agrees (no_write_fault (Load start branches instants) (Some held) outcome s gains still)
+
+-- a count that stays 0 did not rise
+never_rose : Rose 0 0 → ⊥
+never_rose rose = absurd (omega (arith, rose.more))
+
+-- over files and sinks that count no fault
+pub steady_end : (asks : Option Request) (request : Request) (held : List ℕ → List ℕ) (outcome : Outcome) (old new : Option (List ℕ))
+    → asks ≡ Some request → IsAccepted request held → Agrees asks (Some held) outcome → CountsFiles asks outcome 0 0 [] []
+    → GainsOut asks (Some held) outcome (record { before = old; after = new; faults_before = 0; faults_now = 0 })
+    → (outcome ≡ Done) ⊎ (outcome ≡ NoMemory)
+steady_end asks request held outcome old new is w agrees counts gains =
+    let s : Sinks = record { before = old; after = new; faults_before = 0; faults_now = 0 } in
+    accepted_done request held outcome 0 0 [] [] s w (subst (λ a. Agrees a (Some held) outcome) is agrees)
+    (subst (λ a. CountsFiles a outcome 0 0 [] []) is counts) never_rose (subst (λ a. GainsOut a (Some held) outcome s) is gains) never_rose

@@ -1,0 +1,4 @@
+pub mod BareNames
+pub mod CRuns
+pub mod Prefixes
+mod WorkedLines

@@ -1,0 +1,5 @@
+pub mod CAnswers
+pub mod CMachines
+pub mod CExecuting
+pub mod Insides
+pub mod Laws

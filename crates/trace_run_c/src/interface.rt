@@ -1,0 +1,52 @@
+// The interface of a program of the C subset.
+
+ghost use Rattle.std.specs.Prelude.{◌≡◌, [], filter, map, take, IfOk};
+ghost use Rattle.est_base.specs.Names.{is_same_name};
+ghost use Rattle.csub_text.specs.Views.{program_of};
+ghost use Rattle.trace_run_c.specs.CAnswers.{bare_name, bare_inputs, bare_outputs};
+
+use csub_text::CProgram;
+use est_base::{NoMemory, Text};
+use std::alloc::Global;
+use trace_run::Interface;
+
+// The names of the inputs and outputs of a program, without their signs; no relations.
+pub fn c_interface(alloc: Global, program: &CProgram) -> Result<Interface, NoMemory>
+    ensures given { IfOk result (λ i. i.given.items ≡ bare_inputs (program_of program.now)) }
+    ensures outgoing { IfOk result (λ i. i.outgoing.items ≡ bare_outputs (program_of program.now)) }
+    ensures relations { IfOk result (λ i. i.relations.items ≡ []) }
+{
+    Ok(Interface {
+        given: bare_names(alloc, &program.globals, b"I_")?,
+        outgoing: bare_names(alloc, &program.globals, b"O_")?,
+        relations: Vec::new(alloc),
+    })
+}
+
+// The names with this sign, without it.
+fn bare_names(alloc: Global, names: &[Text], sign: &[u8]) -> Result<Vec<Text>, NoMemory>
+    ensures { IfOk result
+        (λ bare. bare.items ≡ map bare_name (filter (λ n. is_same_name (take 2 n) sign.now) names.now)) }
+{
+    let mut bare = Vec::new(alloc);
+    for name in names {
+        if sign_of(name.bytes()) == sign {
+            bare.push(Text::from_bytes(alloc, behind_sign(name.bytes()))?)?;
+        }
+    }
+    Ok(bare)
+}
+
+// The first two bytes of a name.
+fn sign_of(name: &[u8]) -> &[u8]
+    ensures { result.now ≡ take 2 name.now }
+{
+    if name.len() < 2 { name } else { &name[..2] }
+}
+
+// The bytes of a name behind the first two.
+fn behind_sign(name: &[u8]) -> &[u8]
+    ensures { result.now ≡ bare_name name.now }
+{
+    if name.len() < 2 { b"" } else { &name[2..] }
+}
