@@ -33,7 +33,7 @@ use Rattle.grc_graph.specs.WireOrders.{WireEdge, IsWireOrder, times}
 use Rattle.grc_list.specs.Listings.{program_listing}
 use Rattle.grc_sem.proofs.Runs.{program_kernel}
 use Rattle.grc_words.specs.Sizes.{rows_at_most}
-use Rattle.net_gen.specs.Costs.{gates_at_most}
+use Rattle.net_gen.specs.Costs.{gates_at_most, linear_bound}
 use Rattle.net_gen.specs.Generated.{HasInterfaceOf, FollowsInstants, FollowsRuns}
 use Rattle.net_ir.specs.declared.netlist.Net.{Net}
 use Rattle.net_ir.specs.Gates.{carried}
@@ -86,9 +86,10 @@ pub net_stands : (text : List ℕ) (main : Option (List ℕ)) (g : Graphed) (ord
     → IsWireOrder g.edges.count g.edges.pairs.items order.list.items
     → HasInterfaceOf g.graph (netlist_of net) → carried net.gates.items ≡ map (λ v. v.0) order.list.items
     → length net.gates.items ≤ gates_at_most g.graph (rows_at_most g.graph) order.list.items
+    → (IsGraphOf g.graph (program_of g.graph.program) → length net.gates.items ≤ linear_bound (program_of g.graph.program))
     → FollowsInstants g.graph (netlist_of net) → FollowsRuns g.graph (netlist_of net)
     → StandsForNet text main (record { graph = g.graph; tree = g.tree; order = order; net = net })
-net_stands text main g order net s along interface carries size instants runs =
+net_stands text main g order net s along interface carries size linear instants runs =
     let p = s.program in
     let h = s.graphed in
     let compiles = graph_compiles g p h in
@@ -104,6 +105,7 @@ net_stands text main g order net s along interface carries size instants runs =
         along = record { pairs = g.edges.pairs.items; edges = h.edges; order = subst (λ n. IsWireOrder n g.edges.pairs.items order.list.items) h.count along };
         carried = carries;
         size = size;
+        linear = subst (λ q. length net.gates.items ≤ linear_bound q) h.graph.program (linear (own_graph g p h).graph);
         interface = interface;
         instants = instants;
         runs = runs;
@@ -116,15 +118,17 @@ pub simplified_stands : (text : List ℕ) (main : Option (List ℕ)) (g : Graphe
     → IsWireOrder g.edges.count g.edges.pairs.items order.list.items
     → HasInterfaceOf g.graph (netlist_of net) → carried net.gates.items ≡ map (λ v. v.0) order.list.items
     → length net.gates.items ≤ gates_at_most g.graph (rows_at_most g.graph) order.list.items
+    → (IsGraphOf g.graph (program_of g.graph.program) → length net.gates.items ≤ linear_bound (program_of g.graph.program))
     → FollowsInstants g.graph (netlist_of net) → FollowsRuns g.graph (netlist_of net)
     → SameParts (netlist_of net) (netlist_of new) → SameInstants (netlist_of net) (netlist_of new) → SameRuns (netlist_of net) (netlist_of new)
     → StandsForNet text main (record { graph = g.graph; tree = g.tree; order = order; net = new })
-simplified_stands text main g order net new s along interface carries size instants runs parts same alike =
+simplified_stands text main g order net new s along interface carries size linear instants runs parts same alike =
     let few = subst (λ q. given_count q ≤ length q.signals) (sym s.graphed.graph.program) (given-few s.program s.graphed.formed) in
     net_stands text main g order new s along
     (interface_stays g.graph (netlist_of net) (netlist_of new) parts interface)
     (parts.carries ∙ carries)
     (omega (arith, parts.fewer, size))
+    (λ own. let few_gates = linear own in omega (arith, parts.fewer, few_gates))
     (instants_stay g.graph (netlist_of net) (netlist_of new) few interface parts same instants)
     (runs_stay g.graph (netlist_of net) (netlist_of new) few interface parts alike runs)
 

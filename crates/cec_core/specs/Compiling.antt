@@ -13,7 +13,7 @@ use Rattle.grc_graph.specs.Reads.{IsReadingOrder}
 use Rattle.grc_graph.specs.SelectionTrees.{body_leaves, body_tree}
 use Rattle.grc_graph.specs.TreeForms.{node_of}
 use Rattle.grc_graph.specs.WireOrders.{WireEdge, AreRanks, IsWireOrder}
-use Rattle.net_gen.specs.Costs.{gates_at_most}
+use Rattle.net_gen.specs.Costs.{gates_at_most, linear_bound}
 use Rattle.grc_words.specs.Sizes.{rows_at_most}
 use Rattle.net_gen.specs.Generated.{HasInterfaceOf, FollowsInstants, FollowsRuns}
 use Rattle.net_ir.specs.Gates.{carried}
@@ -57,6 +57,7 @@ pub record IsCompiled (c : Compiled) (p : Program) : Type 0 where
   pub along : FollowsEdges c p
   pub carried : carried c.net.gates.items ≡ map (λ v. v.0) c.order.list.items
   pub size : length c.net.gates.items ≤ gates_at_most c.graph (rows_at_most c.graph) c.order.list.items
+  pub linear : length c.net.gates.items ≤ linear_bound p
   pub interface : HasInterfaceOf c.graph (netlist_of c.net)
   pub instants : FollowsInstants c.graph (netlist_of c.net)
   pub runs : FollowsRuns c.graph (netlist_of c.net)
