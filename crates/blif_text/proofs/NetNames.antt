@@ -1,6 +1,6 @@
 -- The names of a net's circuit: each is a word, no two are one, and each that is used is driven.
 use Rattle.std.proofs.Common.{◌≡◌, ℕ, ◌+◌, ◌-◌, ◌<◌, ◌^◌, true, false, List, [], ◌∷◌, ◌++◌, length, map, get_or, refl, sym, ap, ◌∙◌, arith, zero-add, ⊎_elim}
-use Rattle.std.proofs.Common.{Option, Some, None, All}
+use Rattle.std.proofs.Common.{Option, Some, None}
 use Rattle.std.specs.Prelude.{option_and_then, IfSome, codes, if◌then◌else◌}
 use Rattle.std.specs.List.{list_all, range_with_len}
 use Rattle.std.proofs.lemmas.List.FromFn.{fill_by_all}
@@ -14,7 +14,7 @@ use Rattle.net_ir.specs.declared.netlist.Gate.{Gate}
 use Rattle.net_ir.specs.declared.netlist.NetOut.{NetOut}
 use Rattle.net_ir.specs.declared.netlist.Latch.{Latch}
 use Rattle.est_base.specs.Names.{is_name}
-use Rattle.net_ir.specs.Netlists.{Netlist, IsNet, first_gate, net_count}
+use Rattle.net_ir.specs.Netlists.{Netlist, first_gate, net_count}
 use Rattle.blif_text.specs.Lines.{is_word_byte}
 use Rattle.blif_text.specs.Circuits.{is_among}
 use Rattle.blif_text.specs.Written.{output_word, input_word, latch_word, gate_word, wire_at, net_word}

@@ -2,7 +2,7 @@
 -- for input J, `_sJ` for latch J, and for gate K `_wN` if it carries wire N, else `_gK`. An input also has its
 -- own name, and so has an output; where that is an input's name too, the output is written `NAME.out`. No name
 -- of a net has a `.` or begins with `_`.
-use Rattle.std.specs.Prelude.{◌≡◌, ℕ, ◌+◌, ◌-◌, Bool, true, false, if◌then◌else◌, nat_lt, List, [], ◌∷◌, ◌++◌, length}
+use Rattle.std.specs.Prelude.{◌≡◌, ℕ, ◌-◌, Bool, true, false, if◌then◌else◌, nat_lt, List, [], ◌∷◌, ◌++◌, length}
 use Rattle.std.specs.Prelude.{map, codes, decimal, slice_get, Option, Some, None, option_and_then, Ok}
 use Rattle.std.specs.List.{range_with_len}
 use Rattle.est_base.specs.declared.indices.WireId.{WireId}

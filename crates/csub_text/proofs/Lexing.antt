@@ -1,7 +1,7 @@
 -- The tokens of a text that is put together from pieces.
-use Rattle.std.proofs.Common.{◌≡◌, ◌≢◌, ℕ, ◌+◌, ◌%◌, ◌/◌, ◌<◌, ◌≤◌, ◌^◌, ◌==◌, zero, suc, Bool, true, false, not, ◌&&◌, ◌||◌, List, [], ◌∷◌, ◌++◌, length}
-use Rattle.std.proofs.Common.{map, take, All, refl, sym, ap, ◌∙◌, subst, arith, append_assoc, Option, Some, None, ⊎_elim}
-use Rattle.std.specs.Prelude.{flat_map, codes, decimal, nat_le, if◌then◌else◌}
+use Rattle.std.proofs.Common.{◌≡◌, ℕ, ◌+◌, ◌%◌, ◌<◌, ◌≤◌, ◌^◌, ◌==◌, suc, Bool, true, false, ◌&&◌, ◌||◌, List, [], ◌∷◌, ◌++◌, length}
+use Rattle.std.proofs.Common.{map, take, All, refl, sym, ap, ◌∙◌, arith, append_assoc, ⊎_elim}
+use Rattle.std.specs.Prelude.{flat_map, codes, decimal, nat_le}
 use Rattle.std.specs.List.{list_all, prefix_len}
 use lib.Pointwise.{bytes_decides}
 use Rattle.std.proofs.lemmas.Bool.{and_parts, and_from, or_cases, eqb-true, leb-true, le-leb, ne_eqb, or_left, or_right, both_ways, false_from_ne_true}
@@ -10,8 +10,8 @@ use Rattle.std.proofs.lemmas.List.Folds.{list_all-append}
 use Rattle.std.proofs.lemmas.List.{append-nil}
 use Rattle.est_base.specs.Names.{is_letter, is_digit, is_name_byte, is_name, is_same_name}
 use Rattle.csub_text.specs.Tokens.{Kind, Static, Int, Return, Void, React, LeftParenthesis, RightParenthesis, LeftBrace}
-use Rattle.csub_text.specs.Tokens.{RightBrace, Semicolon, Equals, Zero, One, Bar, Ampersand, Bang, Named, Token, tokens_behind}
-use Rattle.csub_text.specs.Tokens.{token_of, front, word_kind, mark_kind, is_space, begins_name, Lexeme, tokens, kinds}
+use Rattle.csub_text.specs.Tokens.{RightBrace, Semicolon, Equals, Zero, One, Bar, Ampersand, Bang, Named, tokens_behind}
+use Rattle.csub_text.specs.Tokens.{token_of, front, word_kind, begins_name, Lexeme, kinds}
 
 -- the kinds of a text's tokens, where it stands at some place
 abbrev pub kinds_at : ℕ → List ℕ → List Kind

@@ -1,40 +1,34 @@
 -- What a call of a net's program leaves in the memory: the values of the nets.
-use Rattle.std.proofs.Common.{◌≡◌, ◌≢◌, ℕ, ◌+◌, ◌-◌, ◌<◌, ◌≤◌, ◌==◌, zero, suc, Bool, true, false, not, ◌&&◌, ◌||◌, List, [], ◌∷◌, ◌++◌, length, map, get_or}
-use Rattle.std.proofs.Common.{drop}
-use Rattle.std.proofs.Common.{All, refl, sym, ap, ◌∙◌, subst, arith, Option, Some, None, ◌⊎◌, inl, inr}
-use Rattle.std.specs.Prelude.{filter, if◌then◌else◌}
+use Rattle.std.proofs.Common.{◌≡◌, ℕ, ◌+◌, ◌-◌, ◌<◌, ◌≤◌, ◌==◌, zero, suc, Bool, true, false, not, ◌&&◌, ◌||◌, List, [], ◌∷◌, ◌++◌, length, map, get_or}
+use Rattle.std.proofs.Common.{refl, sym, ap, ◌∙◌, subst, arith, Some, None, inl, inr}
+use Rattle.std.specs.Prelude.{if◌then◌else◌}
 use Rattle.std.specs.List.{list_any, list_all}
 use Rattle.std.proofs.lemmas.Bool.{and_parts, or_parts, not-true, cases_lt}
-use Rattle.std.proofs.lemmas.List.{length-map, get_or-map, get_or_default, map-append, length-append, get_or_append_left, get_or-append-add, get_or_push}
-use Rattle.std.proofs.lemmas.List.{length_push, ext_get_or, get_or-drop, length-drop}
-use Rattle.std.specs.Cmp.Lexicographic.{nat_list_eq_equiv}
+use Rattle.std.proofs.lemmas.List.{length-map, get_or-map, length-append, get_or_append_left, get_or-append-add, get_or_push}
+use Rattle.std.proofs.lemmas.List.{length_push}
 use Rattle.est_base.specs.Names.{is_same_name}
 use Rattle.est_base.specs.Distinct.{all_differ}
-use Rattle.est_base.specs.Items.{Item, Event, Reset, EachEvent}
 use Rattle.net_ir.specs.declared.netlist.Op.{Op}
 use Rattle.net_ir.specs.declared.netlist.Op.TheVariants as ops
 use Rattle.net_ir.specs.declared.netlist.Gate.{Gate}
-use Rattle.net_ir.specs.declared.netlist.Latch.{Latch}
 use Rattle.net_ir.specs.declared.netlist.NetOut.{NetOut}
 use Rattle.net_ir.specs.Gates.{operand_end, op_value, value_in, gate_values}
 use Rattle.net_ir.specs.Netlists.{Netlist, first_gate, net_count}
-use Rattle.net_ir.specs.Runs.{net_values, next_latches, initial_latches, values_from, shown}
-use Rattle.net_ir.proofs.Values.{op_value-same, length-gate_values}
-use Rattle.csub_text.specs.Trees.{Expr, Name, Const, Not, And, Or, Exprs, NoExprs, MoreExprs, State, Assign, Program}
-use Rattle.csub_text.specs.Grammar.{begins_input, begins_output}
-use Rattle.csub_text.specs.Names.{inputs_of, outputs_of, is_among}
-use Rattle.csub_text.specs.Machine.{Memory, with_value, value_of, run_body, with_inputs, first_memory, call, memories_from, seen}
-use Rattle.csub_text.specs.Written.{input_name, state_name, gate_name, next_name, answer_name, net_name, input_variable, output_variable, net_state}
+use Rattle.net_ir.specs.Runs.{net_values}
+use Rattle.net_ir.proofs.Values.{op_value-same}
+use Rattle.csub_text.specs.Trees.{Name, Assign}
+use Rattle.csub_text.specs.Names.{is_among}
+use Rattle.csub_text.specs.Machine.{Memory, with_value, value_of, run_body, with_inputs}
+use Rattle.csub_text.specs.Written.{input_name, state_name, gate_name, next_name, answer_name, net_name, input_variable, output_variable}
 use Rattle.csub_text.specs.Written.{gate_names}
-use Rattle.csub_text.specs.Written.{op_expr, input_assign, gate_assign, next_assign, output_assign, answer_assign, state_assign, net_body, net_program}
-use Rattle.csub_text.specs.Written.{shown_by_call}
+use Rattle.csub_text.specs.Written.{op_expr, input_assign, gate_assign, next_assign, output_assign, answer_assign, state_assign, net_body}
 use Rattle.csub_text.proofs.NetNames.{mark, input_names}
 use Rattle.csub_text.proofs.NetNames.{state_names}
 use Rattle.csub_text.proofs.NetNames.{next_names, given_variables, shown_variables, marks-inputs, marks-states, marks-nexts, marks-gates, marks-given}
 use Rattle.csub_text.proofs.NetNames.{marks-shown}
 use Rattle.csub_text.proofs.NetNames.{differ-inputs, differ-states, differ-nexts, differ-gates, differ-given, differ-shown}
-use Rattle.net_ir.proofs.Numbered.{length-numbered, get_or-numbered, map-numbered}
-use Rattle.net_ir.proofs.NumberedNames.{differ-by, same-refl, same-eq}
+use Rattle.net_ir.proofs.Numbered.{length-numbered, get_or-numbered}
+use Rattle.net_ir.proofs.NumberedNames.{differ-by, same-refl}
 use Rattle.net_ir.specs.Numbered.{numbered}
 use Rattle.net_ir.specs.Writing.{IsWritable}
 use Rattle.csub_text.proofs.NetRules.{net_cases, net_name-input, net_name-state, net_name-gate, any_gate, any_latch, any_output, gate-low}

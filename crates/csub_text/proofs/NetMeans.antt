@@ -1,12 +1,11 @@
 -- The text of a net means the net.
-use Rattle.std.proofs.Common.{◌≡◌, ℕ, ◌+◌, ◌<◌, ◌≤◌, ◌^◌, ◌==◌, zero, suc, Bool, true, false, not, ◌&&◌, ◌||◌, List, [], ◌∷◌, ◌++◌, length, map, get_or, drop}
+use Rattle.std.proofs.Common.{◌≡◌, ℕ, ◌+◌, ◌<◌, ◌≤◌, ◌^◌, ◌==◌, zero, suc, Bool, true, false, not, List, [], ◌∷◌, ◌++◌, length, map, get_or, drop}
 use Rattle.std.proofs.Common.{All}
-use Rattle.std.proofs.Common.{refl, sym, ap, ◌∙◌, subst, arith, Option, Some, None, IsTrue}
-use Rattle.std.specs.Prelude.{filter, IfSome, decimal, codes, nat_lt}
-use Rattle.std.specs.List.{list_all}
+use Rattle.std.proofs.Common.{refl, sym, ap, ◌∙◌, subst, arith, Option, Some, None}
+use Rattle.std.specs.Prelude.{filter, IfSome, nat_lt}
 use Rattle.std.proofs.lemmas.Bool.{and_parts, not-true, or_parts, lt-ltb, false≢true}
 use Rattle.std.specs.Cmp.Lexicographic.{nat_list_eq_equiv}
-use Rattle.std.proofs.lemmas.List.{length-map, get_or-map, get_or_default, ext_get_or, get_or-drop, length-drop, append-nil, length-append}
+use Rattle.std.proofs.lemmas.List.{length-map, get_or-map, ext_get_or, get_or-drop, length-drop, length-append}
 use Rattle.std.proofs.lemmas.List.Elements.{All-append, All-map}
 use Rattle.est_base.specs.declared.indices.WireId.{WireId}
 use Rattle.est_base.specs.Names.{is_name, is_same_name}
@@ -17,30 +16,29 @@ use Rattle.net_ir.specs.declared.netlist.Op.TheVariants as ops
 use Rattle.net_ir.specs.declared.netlist.Gate.{Gate}
 use Rattle.net_ir.specs.declared.netlist.Latch.{Latch}
 use Rattle.net_ir.specs.declared.netlist.NetOut.{NetOut}
-use Rattle.net_ir.specs.Gates.{value_in, gate_values, operand_end}
+use Rattle.net_ir.specs.Gates.{value_in, operand_end}
 use Rattle.net_ir.specs.Netlists.{Netlist, first_gate, net_count}
-use Rattle.net_ir.specs.Runs.{Shown, net_values, next_latches, initial_latches, values_from, shown, net_run, net_values_run}
+use Rattle.net_ir.specs.Runs.{net_values, next_latches, initial_latches, values_from, shown, net_values_run}
 use Rattle.net_ir.proofs.Values.{length-gate_values}
-use Rattle.csub_text.specs.Trees.{Expr, Name, State, Assign, Program}
-use Rattle.csub_text.specs.Tokens.{kinds, Named}
-use Rattle.csub_text.specs.Grammar.{begins_input, begins_output, begins_global, global_name, IsText, SpellsText}
+use Rattle.csub_text.specs.Trees.{Assign}
+use Rattle.csub_text.specs.Tokens.{Named}
+use Rattle.csub_text.specs.Grammar.{begins_input, begins_output, begins_global, global_name, SpellsText}
 use Rattle.csub_text.specs.Names.{inputs_of, outputs_of, is_among}
-use Rattle.csub_text.specs.Texts.{Describes, nesting_limit}
-use Rattle.csub_text.specs.Machine.{Memory, Seen, with_value, with_inputs, first_memory, run_body, call, memories_from, memories, seen, run}
+use Rattle.csub_text.specs.Texts.{Describes}
+use Rattle.csub_text.specs.Machine.{Memory, with_inputs, first_memory, run_body, call, memories_from, seen}
 use Rattle.csub_text.specs.Written.{input_name, state_name, gate_name, next_name, answer_name, net_name, input_variable, output_variable, net_state}
 use Rattle.csub_text.specs.Written.{gate_names}
-use Rattle.csub_text.specs.Written.{net_body, net_program, net_globals, net_locals, op_expr, shown_by_call, written, Means, input_assign, gate_assign}
-use Rattle.csub_text.specs.Written.{next_assign, output_assign}
+use Rattle.csub_text.specs.Written.{net_body, net_program, op_expr, shown_by_call, written, Means}
 use Rattle.csub_text.proofs.Lexing.{IsVariable, says-whole, variable-input, variable-state, variable-gate, variable-wire, variable-next, variable-answer}
 use Rattle.csub_text.proofs.Lexing.{variable-given, variable-shown}
 use Rattle.csub_text.proofs.Spelling.{IsPlain, IsSpelled, program_kinds, says-program, spells-program, written_program, meant-written, nesting-written}
 use Rattle.csub_text.proofs.NetNames.{mark}
-use Rattle.csub_text.proofs.NetNames.{given_variables, shown_variables, state_names, differ-states, input_names, next_names, marks-states}
-use Rattle.net_ir.proofs.Numbered.{length-numbered, get_or-numbered, All-numbered, map-numbered, list_all-from_All}
+use Rattle.csub_text.proofs.NetNames.{differ-states, input_names, next_names}
+use Rattle.net_ir.proofs.Numbered.{length-numbered, get_or-numbered, All-numbered}
 use Rattle.net_ir.proofs.NumberedNames.{same-refl}
 use Rattle.net_ir.specs.Numbered.{numbered}
 use Rattle.net_ir.specs.Writing.{IsWritable}
-use Rattle.csub_text.proofs.NetRules.{EachAssign, each-assign, op-names, net_cases, net_name-input, net_name-state, net_name-gate, any_gate, any_latch}
+use Rattle.csub_text.proofs.NetRules.{EachAssign, each-assign, net_cases, net_name-input, net_name-state, net_name-gate, any_gate, any_latch}
 use Rattle.csub_text.proofs.NetRules.{any_output, gate-low}
 use Rattle.csub_text.proofs.NetSets.{names-fit}
 use Rattle.csub_text.proofs.NetCalls.{Leaves, call-leaves, any-none}

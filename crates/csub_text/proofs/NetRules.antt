@@ -1,17 +1,17 @@
 -- A net's program keeps the rules on names.
-use Rattle.std.proofs.Common.{◌≡◌, ◌≢◌, ℕ, ◌+◌, ◌-◌, ◌<◌, ◌≤◌, ◌^◌, ◌==◌, zero, suc, max, Bool, true, false, not, ◌&&◌, ◌||◌, List, [], ◌∷◌, ◌++◌, length}
-use Rattle.std.proofs.Common.{map, get_or, All, refl, sym, ap, ◌∙◌, subst, arith, Option, Some, None, IsTrue, ⊎_elim, append_assoc, ◌⊎◌, inl, inr}
-use Rattle.std.specs.Prelude.{flat_map, filter, find, IfSome, nat_lt, if◌then◌else◌}
-use Rattle.std.specs.List.{list_all, list_any, AllByRecursion}
+use Rattle.std.proofs.Common.{◌≡◌, ℕ, ◌+◌, ◌-◌, ◌<◌, ◌≤◌, ◌==◌, zero, suc, Bool, true, false, not, ◌&&◌, ◌||◌, List, [], ◌∷◌, ◌++◌, length}
+use Rattle.std.proofs.Common.{map, get_or, All, refl, sym, ap, ◌∙◌, subst, arith, Some, None, ⊎_elim, append_assoc, ◌⊎◌, inl, inr}
+use Rattle.std.specs.Prelude.{flat_map, filter, find, if◌then◌else◌}
+use Rattle.std.specs.List.{list_any, AllByRecursion}
 use Rattle.std.specs.Cmp.Lexicographic.{nat_list_eq_equiv}
 use Rattle.std.proofs.lemmas.List.Folds.{list_any-append, list_any_at}
-use Rattle.std.proofs.lemmas.Bool.{both_ways, and_parts, or_parts, and_from, or_from, not-true, not_from_false, not_from_true, cases_lt, lt-ltb, le-ltb}
+use Rattle.std.proofs.lemmas.Bool.{and_parts, or_parts, or_from, not-true, not_from_true, cases_lt, lt-ltb, le-ltb}
 use Rattle.std.proofs.lemmas.Bool.{or_left, or_right}
-use Rattle.std.proofs.lemmas.List.{length-map, get_or-map, get_or_default}
+use Rattle.std.proofs.lemmas.List.{length-map, get_or-map}
 use Rattle.std.proofs.lemmas.Option.{slice_get-get_or}
-use Rattle.std.proofs.lemmas.List.Elements.{All-from_recursion, recursion_from_All, All-append}
-use Rattle.std.specs.Prelude.{option_and_then, slice_get}
-use Rattle.est_base.specs.Names.{is_name, is_same_name}
+use Rattle.std.proofs.lemmas.List.Elements.{All-append}
+use Rattle.std.specs.Prelude.{option_and_then}
+use Rattle.est_base.specs.Names.{is_same_name}
 use Rattle.est_base.specs.Distinct.{all_differ, none_shared}
 use Rattle.net_ir.specs.declared.netlist.Op.{Op}
 use Rattle.net_ir.specs.declared.netlist.Op.TheVariants as ops
@@ -20,16 +20,16 @@ use Rattle.net_ir.specs.declared.netlist.Latch.{Latch}
 use Rattle.net_ir.specs.declared.netlist.NetOut.{NetOut}
 use Rattle.net_ir.specs.Gates.{operand_end}
 use Rattle.net_ir.specs.Netlists.{Netlist, first_gate, net_count}
-use Rattle.csub_text.specs.Trees.{Expr, Name, Const, Not, And, Or, Exprs, NoExprs, MoreExprs, Assign, Program}
+use Rattle.csub_text.specs.Trees.{Expr, Assign}
 use Rattle.csub_text.specs.Grammar.{begins_input}
-use Rattle.csub_text.specs.Names.{declared, names_in, all_names, is_among, first_again, declared_twice, Use, Assigned, Taken, uses_in, uses, is_wrong}
-use Rattle.csub_text.specs.Names.{name_found, undeclared, or_else, unset_from, unset, name_fault}
+use Rattle.csub_text.specs.Names.{declared, names_in, is_among, first_again, declared_twice, Taken, uses_in, uses, is_wrong}
+use Rattle.csub_text.specs.Names.{name_found, undeclared, unset_from}
 use Rattle.csub_text.specs.Written.{input_name, state_name, gate_name, next_name, answer_name, net_name, wire_at, input_variable, output_variable}
-use Rattle.csub_text.specs.Written.{net_state, net_globals, net_locals, gate_names, op_expr, pair, input_assign, gate_assign, next_assign, output_assign}
+use Rattle.csub_text.specs.Written.{net_state, net_globals, net_locals, gate_names, op_expr, input_assign, gate_assign, next_assign, output_assign}
 use Rattle.csub_text.specs.Written.{answer_assign, state_assign, net_body, net_program}
 use Rattle.csub_text.proofs.NetNames.{mark, input_names, state_names, next_names, given_variables}
 use Rattle.csub_text.proofs.NetNames.{shown_variables}
-use Rattle.csub_text.proofs.NetNames.{marks-inputs, marks-states, marks-nexts, marks-gates, marks-given, marks-shown, marks-locals, differ-declared, all-both}
+use Rattle.csub_text.proofs.NetNames.{differ-declared}
 use Rattle.net_ir.proofs.Numbered.{length-numbered, get_or-numbered, map-numbered}
 use Rattle.net_ir.proofs.NumberedNames.{same-refl, same-eq}
 use Rattle.net_ir.specs.Numbered.{numbered}

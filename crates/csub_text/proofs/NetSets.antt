@@ -1,30 +1,25 @@
 -- No local of a net's program is read before it is assigned; so the program keeps all rules on names.
-use Rattle.std.proofs.Common.{◌≡◌, ℕ, ◌+◌, ◌-◌, ◌<◌, ◌≤◌, ◌==◌, zero, suc, Bool, true, false, not, ◌&&◌, ◌||◌, List, [], ◌∷◌, ◌++◌, length, map, get_or, All}
+use Rattle.std.proofs.Common.{◌≡◌, ℕ, ◌+◌, ◌-◌, ◌<◌, ◌≤◌, ◌==◌, zero, suc, Bool, true, false, not, ◌&&◌, List, [], ◌∷◌, ◌++◌, length, map, get_or, All}
 use Rattle.std.proofs.Common.{refl, sym, ap, ◌∙◌}
-use Rattle.std.proofs.Common.{subst, arith, Option, None, ◌⊎◌, inl, inr}
+use Rattle.std.proofs.Common.{subst, arith, None, inl, inr}
 use Rattle.std.specs.List.{AllByRecursion}
 use Rattle.std.proofs.lemmas.Bool.{or_left, or_right, cases_lt}
 use Rattle.est_base.specs.Names.{is_same_name}
-use Rattle.net_ir.specs.declared.netlist.Op.{Op}
-use Rattle.net_ir.specs.declared.netlist.Op.TheVariants as ops
 use Rattle.net_ir.specs.declared.netlist.Gate.{Gate}
-use Rattle.net_ir.specs.declared.netlist.Latch.{Latch}
-use Rattle.net_ir.specs.declared.netlist.NetOut.{NetOut}
 use Rattle.net_ir.specs.Gates.{operand_end}
 use Rattle.net_ir.specs.Netlists.{Netlist, first_gate, net_count}
 use Rattle.std.proofs.lemmas.List.{length-map, get_or-map, append-nil}
-use Rattle.csub_text.specs.Trees.{Expr, Name, Assign, Program}
+use Rattle.csub_text.specs.Trees.{Expr, Name, Assign}
 use Rattle.csub_text.specs.Names.{names_in, is_among, unset, name_fault}
-use Rattle.csub_text.specs.Written.{input_name, state_name, gate_name, next_name, answer_name, net_name, input_variable, net_locals, gate_names}
-use Rattle.csub_text.specs.Written.{op_expr}
+use Rattle.csub_text.specs.Written.{state_name, gate_name, next_name, answer_name, net_name, input_variable, net_locals}
 use Rattle.csub_text.specs.Written.{input_assign, gate_assign, next_assign, output_assign, answer_assign, state_assign, net_body, net_program}
 use Rattle.csub_text.proofs.NetNames.{mark, marks-locals}
 use Rattle.net_ir.proofs.Numbered.{length-numbered, get_or-numbered}
 use Rattle.net_ir.proofs.NumberedNames.{differ-by, same-refl}
 use Rattle.net_ir.specs.Numbered.{numbered}
 use Rattle.net_ir.specs.Writing.{IsWritable}
-use Rattle.csub_text.proofs.NetRules.{Known, Covered, unset-covered, op-names, net_cases, net_name-input, net_name-state, net_name-gate}
-use Rattle.csub_text.proofs.NetRules.{any_gate, any_latch, any_output, numbered-assigns, gate-low, declared_once, undeclared_none, Left}
+use Rattle.csub_text.proofs.NetRules.{Known, Covered, unset-covered, op-names, net_name-input, net_name-state, net_name-gate}
+use Rattle.csub_text.proofs.NetRules.{any_gate, any_latch, any_output, numbered-assigns, gate-low, declared_once, undeclared_none}
 
 -- ---- what is assigned
 

@@ -1,12 +1,12 @@
 -- The text of a program whose expressions have one operator at most: its tokens, and that the grammar has them.
-use Rattle.std.proofs.Common.{◌≡◌, ℕ, ◌+◌, ◌<◌, ◌≤◌, zero, suc, max, Bool, true, false, List, [], ◌∷◌, ◌++◌, length, map, get_or, All, refl, sym, ap, ◌∙◌}
-use Rattle.std.proofs.Common.{subst, arith, append_assoc, Option, Some, None, IsTrue}
+use Rattle.std.proofs.Common.{◌≡◌, ℕ, ◌≤◌, suc, Bool, true, false, List, [], ◌∷◌, ◌++◌, map, get_or, All, refl, sym, ap, ◌∙◌}
+use Rattle.std.proofs.Common.{subst, arith, append_assoc, Some}
 use Rattle.std.specs.Prelude.{flat_map, codes}
 use Rattle.std.proofs.lemmas.List.{append-nil}
 use Rattle.est_base.specs.Names.{is_name_byte}
-use Rattle.read_rules.specs.Languages.{Empty, One as Single, Then, Led, Loop, Optional, Many}
+use Rattle.read_rules.specs.Languages.{One as Single, Loop, Many}
 use Rattle.csub_text.specs.Tokens.{Kind, Static, Int, Return, Void, React, LeftParenthesis, RightParenthesis, LeftBrace}
-use Rattle.csub_text.specs.Tokens.{RightBrace, Semicolon, Equals, Zero, One, Bar, Ampersand, Bang, Named, kinds}
+use Rattle.csub_text.specs.Tokens.{RightBrace, Semicolon, Equals, Zero, One, Bar, Ampersand, Bang, Named}
 use Rattle.csub_text.specs.Trees.{Expr, Name, Const, Not, And, Or, Exprs, NoExprs, MoreExprs, State, Assign, Program}
 use Rattle.csub_text.specs.Grammar as grammar
 use Rattle.csub_text.specs.Grammar.{Written, Word, Bit, Writtens, NoneWritten, MoreWritten, WrittenAssign, WrittenProgram, meant, all_meant, written_nesting}
@@ -14,7 +14,7 @@ use Rattle.csub_text.specs.Grammar.{Tier}
 use Rattle.csub_text.specs.Grammar.{Disjunction, Conjunction, Negation, SpellsExpr, SpellsState, SpellsGlobal, SpellsLocal, SpellsAssign, SpellsAnswer}
 use Rattle.csub_text.specs.Grammar.{SpellsText}
 use Rattle.csub_text.specs.Grammar.{IsText, text_nesting, body_nesting, assign_meant, program_meant, begins_global, global_name, own_name}
-use Rattle.csub_text.specs.Written.{expr_text, parts_text, others_text, bit_text, line_end, state_line, declaration, assign_line, head_line, last_lines}
+use Rattle.csub_text.specs.Written.{expr_text, bit_text, line_end, state_line, declaration, assign_line, head_line, last_lines}
 use Rattle.csub_text.specs.Written.{program_text}
 use Rattle.csub_text.proofs.Lexing.{Says, says-then, says-lines, says-name, IsVariable, says-int, says-static, says-end, says-equals, says-head, says-return}
 use Rattle.csub_text.proofs.Lexing.{says-last, says-zero, says-one, says-bang, says-and, says-or}

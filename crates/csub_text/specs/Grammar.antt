@@ -10,7 +10,7 @@
 --   neg    = "!" neg | NAME | "0" | "1" | "(" expr ")"
 --
 -- The name of a state or a local does not begin with I_ or O_.
-use Rattle.std.specs.Prelude.{◌≡◌, ℕ, suc, max, ◌==◌, Bool, true, false, ◌||◌, ◌&&◌, not, List, [], ◌∷◌, length, nat_lt}
+use Rattle.std.specs.Prelude.{ℕ, suc, max, ◌==◌, Bool, true, false, ◌||◌, ◌&&◌, List, [], ◌∷◌, length, nat_lt}
 use Rattle.std.specs.Prelude.{take, codes, Option, Some, None, if◌then◌else◌, map}
 use Rattle.est_base.specs.Names.{is_same_name}
 use Rattle.read_rules.specs.Languages.{Empty, One as Single, Then, Led, Loop, Many, Within}

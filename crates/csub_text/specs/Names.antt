@@ -1,6 +1,6 @@
 -- To believe: the rules on names. All declared names differ, each name that is used is declared, no input is assigned,
 -- and no local is read before it is assigned. The first place in the text that breaks a rule counts.
-use Rattle.std.specs.Prelude.{ℕ, Bool, true, false, not, ◌||◌, List, [], ◌∷◌, ◌++◌, map, flat_map, find, filter}
+use Rattle.std.specs.Prelude.{ℕ, Bool, not, ◌||◌, List, [], ◌∷◌, ◌++◌, map, flat_map, find, filter}
 use Rattle.std.specs.Prelude.{Option, Some, None, if◌then◌else◌}
 use Rattle.std.specs.List.{list_any}
 use Rattle.est_base.specs.Names.{is_same_name}

@@ -1,5 +1,5 @@
 -- To believe: the tokens of a text, each as long as it can be. Spaces and comments are none.
-use Rattle.std.specs.Prelude.{ℕ, ◌+◌, ◌-◌, ◌==◌, zero, suc, Bool, true, false, ◌&&◌, ◌||◌, List, [], ◌∷◌, length, take}
+use Rattle.std.specs.Prelude.{ℕ, ◌+◌, ◌==◌, zero, suc, Bool, ◌&&◌, ◌||◌, List, [], ◌∷◌, take}
 use Rattle.std.specs.Prelude.{codes}
 use Rattle.std.specs.Prelude.{Option, Some, None, if◌then◌else◌, map}
 use Rattle.std.specs.List.{prefix_len}

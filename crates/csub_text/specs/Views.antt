@@ -1,5 +1,5 @@
 -- To believe: the plain form of a program.
-use Rattle.std.specs.Prelude.{List, map}
+use Rattle.std.specs.Prelude.{map}
 use Rattle.csub_text.specs.declared.trees.Expr.{Expr as CodeExpr, Row_of-Expr, end_of-Expr, more_of-Expr}
 use Rattle.csub_text.specs.declared.trees.Expr.TheVariants as exprs
 use Rattle.csub_text.specs.declared.trees.State.{State as CodeState}

@@ -1,5 +1,5 @@
 -- Names that a text gives to the nets of a netlist: when no two are one.
-use Rattle.std.proofs.Common.{◌≡◌, ◌≢◌, ℕ, ◌+◌, ◌<◌, ◌≤◌, ◌^◌, Bool, true, false, not, ◌||◌, List, [], ◌∷◌, ◌++◌, length, map, refl, sym, ap, ◌∙◌, arith}
+use Rattle.std.proofs.Common.{◌≡◌, ◌≢◌, ℕ, ◌+◌, ◌<◌, ◌≤◌, ◌^◌, Bool, true, false, not, List, [], ◌∷◌, ◌++◌, length, map, refl, sym, ap, ◌∙◌, arith}
 use Rattle.std.proofs.Common.{Option, Some, None, nat_eq, All}
 use Rattle.std.specs.Prelude.{option_map, filter_map, decimal, IfSome}
 use Rattle.std.specs.List.{list_all, list_any, cons_option}

@@ -1,5 +1,5 @@
 -- Inner: what a writer of texts knows of a net.
-use Rattle.std.specs.Prelude.{ℕ, ◌<◌, ◌^◌, IfSome, All}
+use Rattle.std.specs.Prelude.{◌<◌, ◌^◌, IfSome, All}
 use Rattle.net_ir.specs.Netlists.{Netlist, IsNet}
 
 -- a net whose wires have numbers of their type
