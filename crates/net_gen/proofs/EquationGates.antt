@@ -17,6 +17,7 @@ use Rattle.grc_graph.specs.Rows.{row_at, program_rows, spot_at}
 use Rattle.grc_graph.specs.Scopes.{Scope}
 use Rattle.grc_graph.specs.Spots.{Spot}
 use Rattle.grc_graph.specs.Wires.{Wire, Out, Go, StatusOf, End, codes_below, listed, instance_codes, own_status}
+use Rattle.grc_graph.proofs.CodesBelow.{codes_below-none}
 use Rattle.grc_graph.proofs.RowSpots.{program_spots_by_row}
 use Rattle.net_gen.proofs.EmissionGates.{emitters, emissions_joined, emitters_once, once_at_most, status_wires, statuses_apart}
 use Rattle.net_gen.proofs.FormulaGates.{gates_of, any_gates, any_within, entry_tests, entry_gates, end_gates, dear_code, dear_gates}
@@ -29,10 +30,6 @@ use Rattle.net_gen.proofs.RowGates.{Measure}
 below_suc : (n : ℕ) (A : ℕ → Bool) → codes_below (suc n) A ≡ codes_below n A ++ (if A n then n ∷ [] else [])
 unfolding codes_below
 below_suc n A = refl
-
-below_none : (A : ℕ → Bool) → codes_below 0 A ≡ []
-unfolding codes_below
-below_none A = refl
 
 listed_below : (A : ℕ → Bool) → listed A ≡ codes_below 64 A
 unfolding listed
@@ -53,7 +50,7 @@ dear_once false d = omega arith
 
 codes_cost : (f : ℕ → ℕ) (c d : ℕ) → ((k : ℕ) → f k ≤ 13 + (if k == c then d else 0)) → (n : ℕ) (A : ℕ → Bool) → CodesCost f c d n A
 codes_cost f c d each zero A =
-    let none = ap (sum_by f) (below_none A) in
+    let none = ap (sum_by f) (codes_below-none A) in
     record { within = omega (arith, none); before = λ h. omega (arith, none) }
 codes_cost f c d each (suc n) A =
     let h = codes_cost f c d each n A in

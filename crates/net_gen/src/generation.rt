@@ -27,7 +27,8 @@ use std::alloc::Global;
 
 /// The netlist of a graph along an order in which its equations read. The graph's instances and wires
 /// are those of its program, and its `next` is over the leaves of `tree`, its body's selection tree;
-/// its equations and `next` formulas are any.
+/// its equations and `next` formulas are any. Where they are the program's as well, the netlist has at most
+/// 15 gates for each wire and each live test node.
 pub fn generate(
     alloc: Global,
     graph: &Graph,
