@@ -153,31 +153,31 @@ no_write_fault request content outcome s gains stays is =
 -- ---- how commands end
 
 writing_end : (outcome : Outcome) → IsWriting outcome → (outcome ≡ WriteFault → ⊥) → (outcome ≡ Done) ⊎ (outcome ≡ NoMemory)
-writing_end Done w no = inl refl
-writing_end Usage w no = absurd w
-writing_end (FileFault file) w no = absurd w
-writing_end (Static fault) w no = absurd w
-writing_end (Cyclic cycle) w no = absurd w
-writing_end (Trace fault) w no = absurd w
-writing_end (BadText fault) w no = absurd w
-writing_end (Limit quantity) w no = absurd w
-writing_end WriteFault w no = absurd (no refl)
-writing_end NoMemory w no = inr refl
+writing_end Done w written = inl refl
+writing_end Usage w written = absurd w
+writing_end (FileFault file) w written = absurd w
+writing_end (Static fault) w written = absurd w
+writing_end (Cyclic cycle) w written = absurd w
+writing_end (Trace fault) w written = absurd w
+writing_end (BadText fault) w written = absurd w
+writing_end (Limit quantity) w written = absurd w
+writing_end WriteFault w written = absurd (written refl)
+writing_end NoMemory w written = inr refl
 
 made_end : (main : Option (List ℕ)) (bytes : List ℕ) (outcome : Outcome) → IsSource main bytes → MakesOn main outcome bytes → (outcome ≡ WriteFault → ⊥)
     → (outcome ≡ Done) ⊎ (outcome ≡ NoMemory)
-made_end main bytes Done s m no = inl refl
-made_end main bytes Usage s m no = absurd m
-made_end main bytes (FileFault file) s m no = absurd m
-made_end main bytes (Static fault) s m no = absurd (front.no_fault bytes main s.program fault s.source m.refused)
-made_end main bytes (Cyclic cycle) s m no =
+made_end main bytes Done s m written = inl refl
+made_end main bytes Usage s m written = absurd m
+made_end main bytes (FileFault file) s m written = absurd m
+made_end main bytes (Static fault) s m written = absurd (front.no_fault bytes main s.program fault s.source m.refused)
+made_end main bytes (Cyclic cycle) s m written =
     let same = unrefused main bytes (refusals.Cyclic cycle) s m.refused in
     cc
-made_end main bytes (Trace fault) s m no = absurd m
-made_end main bytes (BadText fault) s m no = absurd m
-made_end main bytes (Limit quantity) s m no = absurd (passes_limit main bytes quantity s m)
-made_end main bytes WriteFault s m no = absurd (no refl)
-made_end main bytes NoMemory s m no = inr refl
+made_end main bytes (Trace fault) s m written = absurd m
+made_end main bytes (BadText fault) s m written = absurd m
+made_end main bytes (Limit quantity) s m written = absurd (passes_limit main bytes quantity s m)
+made_end main bytes WriteFault s m written = absurd (written refl)
+made_end main bytes NoMemory s m written = inr refl
 
 -- a trace that is too long
 long_whole : (held : List ℕ → List ℕ) (trace : List ℕ) → length (held trace) ≤ TRACE_BYTES → LongTrace (Some held) trace (Limit limits.Trace) → ⊥
@@ -220,16 +220,16 @@ run_end : (via : Via) (job : Job) (held : List ℕ → List ℕ) (trace : List �
     → RunsToEnd via job.main (held job.name) (held trace) → OnTwo held job.name trace (RunsOn via job.main) outcome
     → ((file : Which) → outcome ≡ FileFault file → ⊥) → (outcome ≡ WriteFault → ⊥) → GainsOut (Some (Run via job trace)) (Some held) outcome s
     → (outcome ≡ Done) ⊎ (outcome ≡ NoMemory)
-run_end via job held trace Done s w on unread no g = inl refl
-run_end via job held trace Usage s w on unread no g = absurd on.on
-run_end via job held trace (FileFault file) s w on unread no g = absurd (unread file refl)
-run_end via job held trace (Static fault) s w on unread no g = made_end job.main (held job.name) (Static fault) w.source on.on no
-run_end via job held trace (Cyclic cycle) s w on unread no g = made_end job.main (held job.name) (Cyclic cycle) w.source on.on no
-run_end via job held trace (Trace fault) s w on unread no g = absurd (run_trace_fault via job held trace s fault w g)
-run_end via job held trace (BadText fault) s w on unread no g = absurd on.on
-run_end via job held trace (Limit quantity) s w on unread no g = absurd (run_limit via job.main held job.name trace quantity w on.on on.long)
-run_end via job held trace WriteFault s w on unread no g = absurd (no refl)
-run_end via job held trace NoMemory s w on unread no g = inr refl
+run_end via job held trace Done s w on unread written g = inl refl
+run_end via job held trace Usage s w on unread written g = absurd on.on
+run_end via job held trace (FileFault file) s w on unread written g = absurd (unread file refl)
+run_end via job held trace (Static fault) s w on unread written g = made_end job.main (held job.name) (Static fault) w.source on.on written
+run_end via job held trace (Cyclic cycle) s w on unread written g = made_end job.main (held job.name) (Cyclic cycle) w.source on.on written
+run_end via job held trace (Trace fault) s w on unread written g = absurd (run_trace_fault via job held trace s fault w g)
+run_end via job held trace (BadText fault) s w on unread written g = absurd on.on
+run_end via job held trace (Limit quantity) s w on unread written g = absurd (run_limit via job.main held job.name trace quantity w on.on on.long)
+run_end via job held trace WriteFault s w on unread written g = absurd (written refl)
+run_end via job held trace NoMemory s w on unread written g = inr refl
 
 -- ---- texts
 
@@ -305,16 +305,16 @@ text_limit via held text trace limits.Wires w on long = on
 exec_end : (via : Via) (held : List ℕ → List ℕ) (text trace : List ℕ) (outcome : Outcome) (s : Sinks) → ExecutesToEnd via (held text) (held trace)
     → OnTwo held text trace (ExecutesOn via) outcome → ((file : Which) → outcome ≡ FileFault file → ⊥) → (outcome ≡ WriteFault → ⊥)
     → GainsOut (Some (Exec via text trace)) (Some held) outcome s → (outcome ≡ Done) ⊎ (outcome ≡ NoMemory)
-exec_end via held text trace Done s w on unread no g = inl refl
-exec_end via held text trace Usage s w on unread no g = absurd on.on
-exec_end via held text trace (FileFault file) s w on unread no g = absurd (unread file refl)
-exec_end via held text trace (Static fault) s w on unread no g = absurd on.on
-exec_end via held text trace (Cyclic cycle) s w on unread no g = absurd on.on
-exec_end via held text trace (Trace fault) s w on unread no g = absurd (text_trace_fault via held text trace s fault w g)
-exec_end via held text trace (BadText fault) s w on unread no g = absurd (text_no_fault via (held text) fault w.text on.on.1)
-exec_end via held text trace (Limit quantity) s w on unread no g = absurd (text_limit via held text trace quantity w on.on on.long)
-exec_end via held text trace WriteFault s w on unread no g = absurd (no refl)
-exec_end via held text trace NoMemory s w on unread no g = inr refl
+exec_end via held text trace Done s w on unread written g = inl refl
+exec_end via held text trace Usage s w on unread written g = absurd on.on
+exec_end via held text trace (FileFault file) s w on unread written g = absurd (unread file refl)
+exec_end via held text trace (Static fault) s w on unread written g = absurd on.on
+exec_end via held text trace (Cyclic cycle) s w on unread written g = absurd on.on
+exec_end via held text trace (Trace fault) s w on unread written g = absurd (text_trace_fault via held text trace s fault w g)
+exec_end via held text trace (BadText fault) s w on unread written g = absurd (text_no_fault via (held text) fault w.text on.on.1)
+exec_end via held text trace (Limit quantity) s w on unread written g = absurd (text_limit via held text trace quantity w on.on on.long)
+exec_end via held text trace WriteFault s w on unread written g = absurd (written refl)
+exec_end via held text trace NoMemory s w on unread written g = inr refl
 
 -- ---- requests
 

@@ -14,13 +14,13 @@ use Rattle.blif_text.specs.Circuits.{Circuit, reading}
 use Rattle.blif_text.specs.Written as blif_texts
 use Rattle.blif_run.specs.Runners as blif
 use Rattle.csub_run.specs.Runners as c_run
-use Rattle.csub_text.specs.Machine as c_machine
+use Rattle.csub_text.specs.Texts.{Describes}
+use Rattle.csub_text.specs.Trees as c_trees
+use Rattle.csub_text.specs.Written as c_texts
 use Rattle.trace_run.specs.BlifRunners as blif_answers
 use Rattle.trace_run.proofs.Nets.{nets-are-run}
-use Rattle.trace_run_c.specs.CAnswers.{call_answer}
 use Rattle.trace_run_c.specs.CMachines as c_answers
-use Rattle.trace_run_c.specs.Insides.{IsProgramOf}
-use Rattle.trace_run_c.proofs.CRuns.{answers-run, answers-shown}
+use Rattle.trace_run_c.proofs.CRuns.{c-nets-are-run}
 use Rattle.net_ir.specs.Runs.{net_run}
 use Rattle.trace_io.specs.declared.lines.Word.{Word}
 use Rattle.trace_io.specs.declared.lines.Word.TheVariants.{Paused, Ended, Bare}
@@ -165,11 +165,9 @@ circuit-counts text net circuit old new items counts means reads of fresh run =
     subst (λ a. CountsOf a counts) ((nets-are-run text net circuit means reads).2 old new items run.0 of fresh run.1) run.2
 
 -- what a machine of the C text counts
-pub program-counts : (net : Netlist) (old new : c_run.Runner) (n x : ℕ) (counts : Counts) → IsProgramOf net (c_run.program_in old) → c_run.IsFresh old
-    → length net.inputs ≡ 8 → CountsMachine c_answers.Answers c_run.Resets old new (drawn_items n x) counts → CountsNet net (drawn_items n x) counts
-program-counts net old new n x counts of fresh wide run =
-    let items = drawn_items n x in
-    let events = subst (λ w. EachEvent (λ event. length event ≡ w) items) (sym wide) (drawn-wide n x) in
-    let shown : run.0 ≡ map shown_answer (net_run net items) = answers-run old new items run.0 fresh run.1
-    ∙ ap (λ q. map call_answer (c_machine.run q items)) of.is ∙ ap (map call_answer) (of.means.shows items events) ∙ answers-shown (net_run net items) in
-    subst (λ a. CountsOf a counts) shown run.2
+pub program-counts : (text : List ℕ) (net : Netlist) (p : c_trees.Program) (old new : c_run.Runner) (n x : ℕ) (counts : Counts) → c_texts.Means text net
+    → Describes text p → c_run.program_in old ≡ p → c_run.IsFresh old → length net.inputs ≡ 8
+    → CountsMachine c_answers.Answers c_run.Resets old new (drawn_items n x) counts → CountsNet net (drawn_items n x) counts
+program-counts text net p old new n x counts means describes of fresh wide run =
+    let events = subst (λ w. EachEvent (λ event. length event ≡ w) (drawn_items n x)) (sym wide) (drawn-wide n x) in
+    subst (λ a. CountsOf a counts) ((c-nets-are-run text net p means describes).2 old new (drawn_items n x) run.0 of fresh events run.1) run.2

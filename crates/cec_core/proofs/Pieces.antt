@@ -1,7 +1,7 @@
 -- Texts that are written piece by piece, and what was written of them.
 use Rattle.std.proofs.Common.{◌≡◌, ℕ, ◌⊎◌, List, [], ◌++◌, length, take, drop, Option, inl, inr, refl, sym, ap, ◌∙◌, subst, ⊎_elim}
-use Rattle.std.proofs.Common.{append_assoc, append-nil}
-use Rattle.std.proofs.lemmas.List.{take-append-drop}
+use Rattle.std.proofs.Common.{◌<◌, append_assoc, append-nil, arith}
+use Rattle.std.proofs.lemmas.List.{length-take, length-drop, take-append-drop}
 use Rattle.std.proofs.Math.Seq.{take-append_seam}
 use Rattle.est_base.specs.declared.files.reading.FileFault.{FileFault}
 use Rattle.est_base.specs.declared.files.reading.FileFault.TheVariants as reading
@@ -49,6 +49,11 @@ one_piece_more n whole rest piece new a b c f g h so is behind came = record {
   came = appends-twice a b c f g h so.given piece so.came came;
 }
 
+-- a piece takes some of the rest
+pub pieces_fall : (n : ℕ) (old piece rest : List ℕ) → 0 < length piece → piece ≡ take n old → rest ≡ drop n old → length rest < length old
+pieces_fall n old piece rest some p r =
+    omega (arith, some, ap length p ∙ length-take n old, ap length r ∙ length-drop n old)
+
 pub all_pieces : (whole rest : List ℕ) (s : Sinks) → PiecesSoFar whole rest s → rest ≡ [] → LeavesPieces (λ text. text ≡ whole) s Done
 all_pieces whole rest s so none =
     let all : so.given ≡ whole = sym (append-nil so.given) ∙ ap (λ l. so.given ++ l) (sym none) ∙ so.join in
@@ -89,7 +94,7 @@ pieces_as P Q s (Trace fault) f l = l
 pieces_as P Q s (BadText fault) f l = l
 pieces_as P Q s (Limit quantity) f l = l
 pieces_as P Q s WriteFault f l = (l.0, f l.0 l.1, l.2)
-pieces_as P Q s NoMemory f l = ⊎_elim inl (λ x. inr (x.0, f x.0 x.1, x.2)) l
+pieces_as P Q s NoMemory f l = ⊎_elim inl (λ x. inr (x.0, f x.0 x.1, x.2, x.3)) l
 
 pub answer_as : (task : Task) (P Q : List ℕ → Type 0) (s : Sinks) (outcome : Outcome) → ((text : List ℕ) → P text → Q text) → LeavesAnswer task P s outcome
     → LeavesAnswer task Q s outcome

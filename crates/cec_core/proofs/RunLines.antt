@@ -14,17 +14,9 @@ use Rattle.trace_run.specs.declared.running.RunFault.TheVariants.{Trace, Write, 
 use Rattle.trace_run.specs.Machines.{answer_lines}
 use Rattle.trace_run.specs.NetRuns.{shown_answer, ShowsNet}
 use Rattle.trace_run.specs.Running.{Sinks, IsFront, RunsTrace}
-use Rattle.trace_run.proofs.Events.{traces-begin, events-fit}
+use Rattle.trace_run.proofs.Events.{events-fit, runs-along}
 use Rattle.cec_core.specs.Meaning.{IsEvent, AreItems, seen_of, NetKeeps}
 use Rattle.cec_core.specs.Runs.{line_answer, ShowsRun}
-
--- what brings one text about brings the other, over the first items of the trace
-runs_along : (W V : List Item → List ℕ → Type 0) (r : Reading) (s : Sinks) (result : Result (Unit {0}) RunFault)
-    → ((items : List Item) (text : List ℕ) → IsFront r items → W items text → V items text) → RunsTrace W r s result → RunsTrace V r s result
-runs_along W V r s (Ok done) f x = (x.0, x.1, x.2, f x.0 x.1 (traces-begin r x.0 None x.2) x.3, x.4)
-runs_along W V r s (Err (Trace fault)) f x = (x.0, x.1, x.2, f x.0 x.1 (traces-begin r x.0 (Some fault) x.2) x.3, x.4)
-runs_along W V r s (Err Write) f x = (x.0, x.1, x.2, f x.0 x.1 x.2 x.3, x.4)
-runs_along W V r s (Err NoMemory) f x = (x.0, x.1, x.2, f x.0 x.1 x.2 x.3, x.4, x.5)
 
 -- the events of a trace are events of the program
 are_items : (p : Program) (n : ℕ) → n ≡ given_count p → (items : List Item) → EachEvent (λ event. (length event ≡ n) × MeetsAll p.relations event) items
@@ -58,7 +50,7 @@ runs_program net p wide keeps trace relations s result same runs =
     let by_name = subst (λ names. RunsTrace (ShowsNet names net) (beginning trace net.inputs relations) s result) keeps.outputs runs in
     let by_input = subst (λ given. RunsTrace (ShowsNet (outgoing_names p) net) (beginning trace given relations) s result) keeps.inputs by_name in
     let by_relation = subst (λ r. RunsTrace (ShowsNet (outgoing_names p) net) (beginning trace (given_names p) r) s result) same by_input in
-    runs_along (ShowsNet (outgoing_names p) net) (ShowsRun p) (beginning trace (given_names p) p.relations) s result
+    runs-along (ShowsNet (outgoing_names p) net) (ShowsRun p) (beginning trace (given_names p) p.relations) s result
     (λ items text front shows.
     shows_run net p keeps items text
     (are_items p (length (given_names p)) (sym wide) items (events-fit trace (given_names p) p.relations items front)) shows) by_relation

@@ -1,10 +1,10 @@
 -- What a program shows over the first items is a prefix of what it shows over all.
-use Rattle.std.proofs.Common.{◌≡◌, ℕ, Bool, List, [], ◌∷◌, ◌++◌, map, refl, sym, ap, ◌∙◌}
+use Rattle.std.proofs.Common.{◌≡◌, ℕ, List, [], ◌∷◌, ◌++◌, map, refl, sym, ap, ◌∙◌}
 use Rattle.std.proofs.lemmas.List.{map-append}
 use Rattle.est_base.specs.Items.{Item, Event, Reset}
 use Rattle.csub_text.specs.Machine.{Memory, first_memory, call, memories_from, seen}
 use Rattle.csub_text.specs.Trees.{Program}
-use Rattle.trace_run.specs.Machines.{Answer, answer_lines}
+use Rattle.trace_run.specs.Machines.{answer_lines}
 use Rattle.trace_run.proofs.Fronts.{leaves, lines-of}
 use Rattle.trace_run_c.specs.CAnswers.{bare_outputs, call_answer, ShowsC}
 use Rattle.trace_run_c.specs.Laws.{CTextsAreWritten}

@@ -1,5 +1,5 @@
 -- A worked program and its lines. The values are those of an implementation in Python.
-use Rattle.std.proofs.Common.{◌≡◌, ℕ, Bool, true, false, List, [], ◌∷◌, codes, refl}
+use Rattle.std.proofs.Common.{◌≡◌, true, false, List, [], ◌∷◌, codes, refl}
 use Rattle.est_base.specs.Items.{Item, Event, Reset}
 use Rattle.csub_text.specs.Trees.{Expr, Exprs, Name, Not, And, Or, NoExprs, MoreExprs, Program}
 use Rattle.trace_run_c.specs.CAnswers.{bare_inputs, bare_outputs, call_lines}

@@ -1,5 +1,5 @@
 -- To believe: what `exec` does of a text of the C subset and a trace, by the meaning of the text alone.
-use Rattle.std.specs.Prelude.{◌≡◌, ℕ, ◌<◌, ◌≤◌, ◌⊎◌, List, [], length, Result, Ok, Err}
+use Rattle.std.specs.Prelude.{ℕ, ◌<◌, ◌≤◌, ◌⊎◌, List, [], length, Result, Ok, Err}
 use Rattle.est_base.specs.declared.bounds.TheConstants.Limits.{TEXT_BYTES}
 use Rattle.csub_text.specs.Names as names
 use Rattle.csub_text.specs.Trees.{Program}

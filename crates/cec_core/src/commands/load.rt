@@ -177,7 +177,8 @@ fn run_both(alloc: Global, net: &Net, draw: Draw, instants: u32) -> Result<Count
     let mut draw = draw;
     let (shown, called) = run_drawn(&mut circuit, &mut machine, &mut draw, instants);
     // Both texts mean the net, so their runs have the same numbers.
-    prove!(shown.emitted == called.emitted && shown.paused == called.paused);
+    prove!(shown.emitted == called.emitted);
+    prove!(shown.paused == called.paused);
     Ok(called)
 }
 

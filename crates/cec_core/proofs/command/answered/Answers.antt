@@ -1,5 +1,11 @@
 use Rattle.cec_core.proofs.command.answered.Goals as goal
 
+pub returns-in-Run-clause-agrees : goal.returns-in-Run-clause-agrees
+returns-in-Run-clause-agrees g c = rw c.in-Run.is c.run_file.ensures.agrees
+
+pub returns-in-Exec-clause-agrees : goal.returns-in-Exec-clause-agrees
+returns-in-Exec-clause-agrees g c = rw c.in-Exec.is c.exec_text.ensures.agrees
+
 pub returns-in-Generate-clause-out : goal.returns-in-Generate-clause-out
 returns-in-Generate-clause-out g c = rw c.in-Generate.is c.write_generated-outcome.ensures.out
 

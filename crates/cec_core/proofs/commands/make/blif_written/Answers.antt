@@ -1,11 +1,11 @@
 use Rattle.std.proofs.Common.{◌≡◌, ◌∙◌}
 use Rattle.cec_core.specs.declared.jobs.Task.TheVariants.{Blif}
+use Rattle.est_base.proofs.Gains.{appends-nothing}
 use Rattle.trace_run.specs.Running.{Sinks}
 use Rattle.cec_core.specs.Answers.{IsAnswer}
 use Rattle.cec_core.specs.JobViews.{plain_job}
 use Rattle.cec_core.proofs.NetTexts.{blif_answers, net_source}
-use Rattle.cec_core.proofs.OneFile.{refused_makes}
-use Rattle.cec_core.proofs.Pieces.{pieces_as, refused_pieces, writing_makes}
+use Rattle.cec_core.proofs.Pieces.{sinks, pieces_as, refused_pieces, writing_makes}
 use Rattle.cec_core.proofs.commands.make.blif_written.Goals as goal
 
 pub returns-in-Ok-clause-agrees : goal.returns-in-Ok-clause-agrees
@@ -26,3 +26,11 @@ returns-in-Ok-clause-out g c =
     pieces_as (λ text. text ≡ c.new-pieces.result) (IsAnswer Blif main c.args.source.now) s c.write_in_pieces.result
     (λ text is. blif_answers c.args.source.now main c.in-Ok.compiled text c.in-Ok.ensures.compiles c.new-pieces.ensures.means
     (is ∙ c.new-pieces.ensures.text)) c.write_in_pieces.ensures.out
+
+pub returns-in-Err-clause-out : goal.returns-in-Err-clause-out
+returns-in-Err-clause-out g c =
+    let told = g.O.Sink.told c.args.out.now in
+    let faults = g.O.Sink.faults c.args.out.now in
+    rw c.from.ensures
+    (refused_pieces (IsAnswer Blif (plain_job c.args.job).main c.args.source.now) c.in-Err.refusal (sinks told told faults faults)
+    (appends-nothing told faults))
