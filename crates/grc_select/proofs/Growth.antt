@@ -290,6 +290,19 @@ two_over old o mid part new t b r s live other i n m form0 form p q at opn lv e 
 pub grows_at : (old new : Lists) (live : Bool) (k p : Term) (i n : ℕ) → k ≡ p → i ≡ n → Grows old new live k i → Grows old new live p n
 grows_at old new live k p i n e h g = subst (λ t. Grows old new live t n) e (subst (λ j. Grows old new live k j) h g)
 
+-- a statement over one part has the nodes of a trap over it, where it passes the part's selection on
+pub passing_grown : (old new : Lists) (b : Bool) (k p t : Term) (n : ℕ) → k ≡ p
+    → ((i j : ℕ) → tree_nodes b t n i j ≡ tree_nodes b (Trap p) n i j)
+    → leaf_paths b t n ≡ leaf_paths b (Trap p) n
+    → Grows old new b (Trap k) n
+    → Grows old new b t n
+passing_grown old new b k p t n e tn lp g =
+    let h : Grows old new b (Trap p) n = subst (λ s. Grows old new b (Trap s) n) e g in
+    record {
+      nodes = h.nodes ∙ ap (λ l. map node_of old.nodes.items ++ l) (sym (tn (length old.nodes.items) old.leaves));
+      leaves = h.leaves ∙ ap (λ l. old.leaves + length l) (sym lp);
+    }
+
 -- the walk over a body, which begins with no node
 pub record IsTreeOf (new : Lists) (body : Term) : Type 0 where
   pub nodes : map node_of new.nodes.items ≡ tree_nodes (resumes body) body 0 0 0

@@ -5,6 +5,7 @@ ghost use Rattle.est_kernel.specs.CodeLists.{AreCodesOf};
 ghost use Rattle.est_kernel.specs.Plain.{term_of};
 ghost use Rattle.est_kernel.specs.Preorder.{statement_count};
 ghost use Rattle.est_kernel.specs.StaticCodes.{has_code};
+ghost use Rattle.est_kernel.specs.Terms.{Trap};
 ghost use Rattle.est_kernel.specs.WellFormed.{KeepsLimits};
 ghost use Rattle.grc_graph.specs.CodeTables.{CodesFrom, set_at};
 ghost use Rattle.grc_graph.specs.SelectionTrees.{body_tree, body_leaves};
@@ -37,6 +38,7 @@ pub fn select(alloc: Global, body: &Kernel, codes: &Codes) -> Result<SelTree, No
 }
 
 // Appends the nodes of the statement and of all in it, and answers the number behind them.
+#[cycle(selecting)]
 fn select_part(body: &Kernel, at: Place, codes: &Codes, lists: &mut Lists) -> Result<u32, NoMemory>
     requires codes { CodesFrom codes.now (term_of body.now) at.path }
     requires paths { at.path + statement_count (term_of body.now) < 2 ^ 32 }
@@ -65,12 +67,7 @@ fn select_part(body: &Kernel, at: Place, codes: &Codes, lists: &mut Lists) -> Re
             close_node(lists, place, at, SelForm::Excl);
             Ok(after)
         }
-        Kernel::Suspend(_, part) => {
-            let place = open_node(lists, at, SelForm::Pass)?;
-            let after = select_part(part, part_place(at, at.path + 1, codes), codes, lists)?;
-            close_node(lists, place, at, SelForm::Pass);
-            Ok(after)
-        }
+        Kernel::Suspend(_, part) => Ok(select_passing(part, at, codes, lists)?),
         Kernel::Seq(first, second) => {
             let place = open_node(lists, at, SelForm::Excl)?;
             let next = select_part(first, part_place(at, at.path + 1, codes), codes, lists)?;
@@ -78,12 +75,7 @@ fn select_part(body: &Kernel, at: Place, codes: &Codes, lists: &mut Lists) -> Re
             close_node(lists, place, at, SelForm::Excl);
             Ok(after)
         }
-        Kernel::Loop(_, part) => {
-            let place = open_node(lists, at, SelForm::Pass)?;
-            let after = select_part(part, part_place(at, at.path + 1, codes), codes, lists)?;
-            close_node(lists, place, at, SelForm::Pass);
-            Ok(after)
-        }
+        Kernel::Loop(_, part) => Ok(select_passing(part, at, codes, lists)?),
         Kernel::Par(left, right) => {
             let first = can_pass(codes, at.path + 1);
             let place = open_node(lists, at, SelForm::Par(false, false))?;
@@ -92,19 +84,35 @@ fn select_part(body: &Kernel, at: Place, codes: &Codes, lists: &mut Lists) -> Re
             close_node(lists, place, at, SelForm::Par(first, can_pass(codes, next)));
             Ok(after)
         }
-        Kernel::Trap(part) => {
-            let place = open_node(lists, at, SelForm::Pass)?;
-            let after = select_part(part, part_place(at, at.path + 1, codes), codes, lists)?;
-            close_node(lists, place, at, SelForm::Pass);
-            Ok(after)
-        }
-        Kernel::Local(_, part) => {
-            let place = open_node(lists, at, SelForm::Pass)?;
-            let after = select_part(part, part_place(at, at.path + 1, codes), codes, lists)?;
-            close_node(lists, place, at, SelForm::Pass);
-            Ok(after)
-        }
+        Kernel::Trap(part) => Ok(select_passing(part, at, codes, lists)?),
+        Kernel::Local(_, part) => Ok(select_passing(part, at, codes, lists)?),
     }
+}
+
+// The same for a statement over one part alone, whose node passes the part's selection on: its tree is a trap's.
+#[cycle(selecting)]
+fn select_passing(
+    part: &Kernel,
+    at: Place,
+    codes: &Codes,
+    lists: &mut Lists,
+) -> Result<u32, NoMemory>
+    requires codes { CodesFrom codes.now (term_of part.now) (at.path + 1) }
+    requires paths { at.path + (1 + statement_count (term_of part.now)) < 2 ^ 32 }
+    requires places { length lists.old.nodes.items + (1 + statement_count (term_of part.now)) < 2 ^ 32 }
+    requires leaves { lists.old.leaves + (1 + statement_count (term_of part.now)) < 2 ^ 32 }
+    ensures after { IfOk result (λ after. after ≡ at.path + (1 + statement_count (term_of part.now))) }
+    ensures grown { IfOk result (λ after. Grows lists.old lists.new at.live (Trap (term_of part.now)) at.path) }
+    ensures few { IfOk result (λ after. length lists.new.nodes.items
+        ≤ length lists.old.nodes.items + (1 + statement_count (term_of part.now))) }
+    ensures few_leaves { IfOk result (λ after.
+        lists.new.leaves ≤ lists.old.leaves + (1 + statement_count (term_of part.now))) }
+    ensures kept { IfOk result (λ after. length lists.old.nodes.items ≤ length lists.new.nodes.items) }
+{
+    let place = open_node(lists, at, SelForm::Pass)?;
+    let after = select_part(part, part_place(at, at.path + 1, codes), codes, lists)?;
+    close_node(lists, place, at, SelForm::Pass);
+    Ok(after)
 }
 
 // Whether the statement with this number can ever terminate.
