@@ -17,14 +17,15 @@ use Rattle.csub_text.specs.Names.{is_among, names_in, declared, inputs_of, outpu
 use Rattle.csub_text.specs.Names.{declared_twice, unset, first_again, fault_by, NameFault, Twice, Undeclared, Unset}
 use Rattle.csub_text.specs.Machine.{Memory, with_value, value_of, all_of, any_of, run_body, with_inputs, first_memory, call}
 use Rattle.std.proofs.Common.{All}
-use Rattle.std.proofs.lemmas.List.{get_or-map}
 use Rattle.std.proofs.lemmas.List.Elements.{All-from_recursion}
 use Rattle.csub_text.specs.declared.trees.CProgram.{CProgram}
 use Rattle.csub_text.specs.Views.{program_of}
 use Rattle.csub_run.specs.declared.runner.CRunner.TheInside.{Inside}
 use Rattle.csub_run.specs.Insides.{KeepsPlan}
 use Rattle.csub_run.specs.Runners.{KeepsNames, Reacts, IsFresh, slot_in, value_at, memory_in}
-use Rattle.csub_run.specs.Slots.{slotted, all_slotted, slot_value, all_values, any_value, PlainStep, step_of, settled, put_all, first_values, IsPlan}
+use Rattle.csub_run.specs.Slots.{slotted, all_slotted, slot_value, all_values, any_value}
+use Rattle.csub_run.specs.declared.steps.Step.{Step}
+use Rattle.csub_run.specs.Steps.{PlainStep, step_of, settled, step_value, made, StepFits, IsStep, AreSteps, put_all, first_values, IsPlan}
 use Rattle.csub_run.proofs.NameLists.{slot-low, slot-own}
 
 -- memories that agree on all names
@@ -227,9 +228,33 @@ pub slots-below : (names xs : List (List ℕ)) → AllAmong names xs → AllByRe
 slots-below names [] all = tt
 slots-below names (x ∷ xs) all = (slot-low x names all.0, slots-below names xs all.1)
 
-pub steps-below : (names : List (List ℕ)) (body : List Assign) → Targets names body → AllByRecursion (λ s. s.slot < length names) (map (step_of names) body)
-steps-below names [] all = tt
-steps-below names (a ∷ body) all = (slot-low a.target names all.0, steps-below names body all.1)
+steps-below : (names : List (List ℕ)) (body : List Assign) (steps : List Step) → Targets names body → AreSteps names body steps
+    → AllByRecursion (StepFits (length names)) steps
+steps-below names [] [] all are = tt
+steps-below names [] (s ∷ steps) all are = absurd are
+steps-below names (a ∷ body) [] all are = absurd are
+steps-below names (a ∷ body) (s ∷ steps) all are =
+    (record { slot_low = rw are.0.slot_is (slot-low a.target names all.0); value_fits = are.0.stands.fits }, steps-below names body steps all.1 are.1)
+
+-- ---- the steps of the code
+
+-- one more step
+pub are-more : (names : List (List ℕ)) (body : List Assign) (steps : List Step) (a : Assign) (s : Step) → AreSteps names body steps → IsStep names a s
+    → AreSteps names (body ++ a ∷ []) (steps ++ s ∷ [])
+are-more names [] [] a s are is = (is, tt)
+are-more names [] (t ∷ steps) a s are is = absurd are
+are-more names (b ∷ body) [] a s are is = absurd are
+are-more names (b ∷ body) (t ∷ steps) a s are is = (are.0, are-more names body steps a s are.1 is)
+
+pub steps-made : (names : List (List ℕ)) (body : List Assign) (steps : List Step) → AreSteps names body steps → (values : List Bool) →
+    made steps values ≡ settled (map (step_of names) body) values
+steps-made names [] [] are values = refl
+steps-made names [] (s ∷ steps) are values = absurd are
+steps-made names (a ∷ body) [] are values = absurd are
+steps-made names (a ∷ body) (s ∷ steps) are values =
+    steps-made names body steps are.1 (slice_set values s.slot (step_value values s.value))
+    ∙ ap (λ k. settled (map (step_of names) body) (slice_set values k (step_value values s.value))) are.0.slot_is
+    ∙ ap (λ v. settled (map (step_of names) body) (slice_set values (slot_in names a.target) v)) (are.0.stands.value_is values)
 
 -- ---- one call
 
@@ -298,18 +323,12 @@ through names values (x ∷ xs) = ap (λ l. value_at values (slot_in names x) �
 
 -- ---- a machine and its fields
 
-pub all-parts : {X Y : Type 0} (P : Y → Type 0) (f : X → Y) (xs : List X) → All P (map f xs) → All (λ x. P (f x)) xs
-all-parts P f xs all k d h =
-    let wide = length-map xs f in
-    subst P (get_or-map f xs k d (f d) h) (all k (f d) (omega arith))
-
 pub inputs-low : (p : Program) → All (λ k. k < length (declared p)) (map (slot_in (declared p)) (inputs_of p))
 inputs-low p = All-from_recursion (λ k. k < length (declared p)) (map (slot_in (declared p)) (inputs_of p))
     (slots-below (declared p) (inputs_of p) (inputs-among p))
 
-pub steps-low : (p : Program) → KeepsNames p → All (λ s. s.slot < length (declared p)) (map (step_of (declared p)) p.body)
-steps-low p fits = All-from_recursion (λ s. s.slot < length (declared p)) (map (step_of (declared p)) p.body)
-    (steps-below (declared p) p.body (targets-declared p fits))
+pub steps-fit : (p : Program) → KeepsNames p → (steps : List Step) → AreSteps (declared p) p.body steps → All (StepFits (length (declared p))) steps
+steps-fit p fits steps are = All-from_recursion (StepFits (length (declared p))) steps (steps-below (declared p) p.body steps (targets-declared p fits) are)
 
 pub reacts-by : (code : CProgram) → KeepsNames (program_of code) → (values inputs after : List Bool) (answer : Bool) →
     length values ≡ length (declared (program_of code))

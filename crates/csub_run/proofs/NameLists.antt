@@ -138,3 +138,7 @@ pub drop-at : {X : Type 0} (xs : List X) (i : ℕ) (x : X) → i < length xs →
 drop-at xs i x low is =
     let n : suc i ≡ i + 1 = omega arith in
     drop-cons xs i x low ∙ ap (λ y. y ∷ drop (suc i) xs) (sym is) ∙ ap (λ m. x ∷ drop m xs) n
+
+-- one more place
+pub take-at : {X : Type 0} (xs : List X) (i : ℕ) (x : X) → i < length xs → x ≡ get_or xs i x → take (i + 1) xs ≡ take i xs ++ x ∷ []
+take-at xs i x low is = take_more xs i x low ∙ ap (λ y. take i xs ++ y ∷ []) (sym is)

@@ -98,8 +98,6 @@ slotted-is names e = refl
 
 pub ruleset slotted_rows = (plain-Slot, plain-Const, plain-Not, plain-And, plain-Or, slotted-Name, slotted-Const, slotted-Not, slotted-And, slotted-Or)
 
-pub ruleset step_rows = (plain-is, slotted-is)
-
 -- ---- their values
 
 all-list : (values : List Bool) (l : List SlotExpr) → all_values values (slotteds (map slotted_of l)) ≡ list_all (value_in values) l
@@ -137,3 +135,7 @@ unfolding value_in
 value-is values e = refl
 
 pub ruleset value_rows = (value-Slot, value-Const, value-Not, value-And, value-Or)
+
+pub value-plain : (values : List Bool) (e : SlotExpr) → value_in values e ≡ slot_value values (plain_slotted e)
+unfolding value_in plain_slotted
+value-plain values e = refl

@@ -4,7 +4,7 @@ use Rattle.csub_text.specs.Views.{program_of}
 use Rattle.csub_text.specs.Names.{declared}
 use Rattle.csub_run.specs.declared.runner.CRunner.TheInside.{Inside}
 use Rattle.csub_run.specs.Runners.{Runner, KeepsNames, outputs_shown}
-use Rattle.csub_run.specs.Slots.{IsPlan}
+use Rattle.csub_run.specs.Steps.{IsPlan}
 
 abbrev pub runner_of : Inside → Runner
 runner_of r = record { code = r.program.now; values = r.values.items }

@@ -1,12 +1,9 @@
 -- Inner: expressions whose names are resolved to slots: a declared variable has its place among the declared names.
-use Rattle.std.specs.Prelude.{◌≡◌, ℕ, Bool, true, false, not, ◌&&◌, ◌||◌, List, [], ◌∷◌, ◌++◌, map, slice_set}
-use Rattle.csub_text.specs.Trees.{Expr, Exprs, NoExprs, MoreExprs, Assign, Program}
+use Rattle.std.specs.Prelude.{◌≡◌, ℕ, Bool, true, false, not, ◌&&◌, ◌||◌, List, [], ◌∷◌, map}
+use Rattle.csub_text.specs.Trees.{Expr, Exprs, NoExprs, MoreExprs}
 use Rattle.csub_text.specs.Trees as trees
 use Rattle.csub_text.specs.Views.{expr_of}
-use Rattle.csub_text.specs.Names.{declared, inputs_of, outputs_of}
 use Rattle.csub_text.specs.declared.trees.Expr.{Expr as CodeExpr}
-use Rattle.csub_run.specs.declared.plan.Step.{Step}
-use Rattle.csub_run.specs.declared.plan.Plan.{Plan}
 use Rattle.csub_run.specs.declared.slots.SlotExpr.{SlotExpr, Row_of-SlotExpr, end_of-SlotExpr, more_of-SlotExpr}
 use Rattle.csub_run.specs.declared.slots.SlotExpr.TheVariants as nodes
 use Rattle.csub_run.specs.Runners.{slot_in, value_at}
@@ -83,38 +80,3 @@ plain_slotted e = slotted_of e
 
 unfoldable pub value_in : List Bool → SlotExpr → Bool
 value_in values e = slot_value values (slotted_of e)
-
--- ---- steps
-
--- a slot gets the value of an expression
-pub record PlainStep : Type 0 where
-  pub slot : ℕ
-  pub value : Slotted
-
-abbrev pub plain_step : Step → PlainStep
-plain_step s = record { slot = s.slot; value = slotted_of s.value }
-
-abbrev pub step_of : List (List ℕ) → Assign → PlainStep
-step_of names a = record { slot = slot_in names a.target; value = slotted names a.value }
-
--- the values behind some steps
-abbrev pub settled : List PlainStep → List Bool → List Bool
-settled [] values = values
-settled (s ∷ steps) values = settled steps (slice_set values s.slot (slot_value values s.value))
-
--- each slot gets a value, one after another
-abbrev pub put_all : List ℕ → List Bool → List Bool → List Bool
-put_all (slot ∷ slots) (value ∷ given) values = put_all slots given (slice_set values slot value)
-put_all others more values = values
-
--- the values of the states, and 0 for all others
-abbrev pub first_values : Program → List Bool
-first_values p = (map (λ s. s.init) p.states ++ map (λ _. false) p.globals) ++ map (λ _. false) p.locals
-
--- the plan of a program
-pub record IsPlan (p : Program) (plan : Plan) : Type 0 where
-  pub inputs_are : plan.inputs.items ≡ map (slot_in (declared p)) (inputs_of p)
-  pub outputs_are : plan.outputs.items ≡ map (slot_in (declared p)) (outputs_of p)
-  pub steps_are : map plain_step plan.steps.items ≡ map (step_of (declared p)) p.body
-  pub answer_is : slotted_of plan.answer ≡ slotted (declared p) p.answer
-  pub initial_is : plan.initial.items ≡ first_values p

@@ -4,12 +4,14 @@
 //! and a call neither hashes nor allocates.
 #![tactic(auto)]
 
+mod gates;
 mod laws;
 mod names;
 mod plan;
 mod runner;
 mod signs;
 mod slots;
+mod steps;
 
 pub use laws::answers_are_runs;
 pub use runner::CRunner;

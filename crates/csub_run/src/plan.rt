@@ -3,24 +3,18 @@
 ghost use Rattle.std.specs.Prelude.{◌≡◌, [], None, map, filter, length, IfOk};
 ghost use Rattle.csub_text.specs.Grammar.{begins_input, begins_output};
 ghost use Rattle.csub_text.specs.Names.{first_again};
-ghost use Rattle.csub_text.specs.Views.{assign_of, program_of};
+ghost use Rattle.csub_text.specs.Views.{program_of};
 ghost use Rattle.csub_run.specs.Runners.{KeepsNames, slot_in};
-ghost use Rattle.csub_run.specs.Slots.{IsPlan, plain_step, step_of, first_values};
+ghost use Rattle.csub_run.specs.Steps.{IsPlan, first_values};
 
 use crate::names::declared_names;
 use crate::signs::{begins_input, begins_output};
 use crate::slots::{SlotExpr, resolved, slot_of};
-use csub_text::{Assign, CProgram};
+use crate::steps::{Step, steps_of};
+use csub_text::CProgram;
 use est_base::{NoMemory, Text};
 use indexmap::IndexSet;
 use std::alloc::Global;
-
-/// The slot gets the value of the expression.
-#[derive(Debug, Drop)]
-pub struct Step {
-    pub slot: usize,
-    pub value: SlotExpr,
-}
 
 /// The variables have the slots that their places among the declared names are: states, globals, locals.
 #[derive(Debug, Drop)]
@@ -43,7 +37,7 @@ pub fn plan_of(alloc: Global, program: &CProgram) -> Result<Plan, NoMemory>
     Ok(Plan {
         inputs: input_slots(alloc, &slots, &program.globals)?,
         outputs: output_slots(alloc, &slots, &program.globals)?,
-        steps: steps(alloc, &slots, &program.body)?,
+        steps: steps_of(alloc, &slots, &program.body)?,
         answer: resolved(alloc, &slots, &program.answer)?,
         initial: initial_values(alloc, program)?,
     })
@@ -112,28 +106,4 @@ fn output_slots(
         }
     }
     Ok(found)
-}
-
-// The steps of the assignments.
-fn steps(alloc: Global, slots: &IndexSet<&[u8]>, body: &[Assign]) -> Result<Vec<Step>, NoMemory>
-    ensures { IfOk result
-        (λ v. map plain_step v.items
-        ≡ map (step_of (map (λ k. k.now) slots.now.keys)) (map assign_of body.now)) }
-{
-    let mut steps = Vec::with_capacity(alloc, body.len())?;
-    for assign in body {
-        steps.push(resolved_step(alloc, slots, assign)?)?;
-    }
-    Ok(steps)
-}
-
-#[tactic(auto, using(crate::proofs::Rows::step_rows))]
-fn resolved_step(alloc: Global, slots: &IndexSet<&[u8]>, assign: &Assign) -> Result<Step, NoMemory>
-    ensures { IfOk result
-        (λ s. plain_step s ≡ step_of (map (λ k. k.now) slots.now.keys) (assign_of assign.now)) }
-{
-    Ok(Step {
-        slot: slot_of(slots, assign.to.bytes()),
-        value: resolved(alloc, slots, &assign.value)?,
-    })
 }

@@ -4,10 +4,11 @@ ghost use Rattle.std.specs.Prelude.{◌≡◌, ◌<◌, map, length, All, IfOk};
 ghost use Rattle.csub_text.specs.Names.{inputs_of};
 ghost use Rattle.csub_text.specs.Views.{program_of};
 ghost use Rattle.csub_run.specs.Runners.{KeepsNames, program_in, Reacts, Resets, IsFresh, outputs_shown, value_at};
-ghost use Rattle.csub_run.specs.Slots.{plain_step, settled, put_all};
+ghost use Rattle.csub_run.specs.Steps.{put_all};
 
-use crate::plan::{Plan, Step, plan_of};
+use crate::plan::{Plan, plan_of};
 use crate::slots::{value_at, value_of};
+use crate::steps::run_steps;
 use csub_text::CProgram;
 use est_base::NoMemory;
 use std::alloc::Global;
@@ -106,17 +107,6 @@ fn put_values(slots: &[usize], given: &[bool], values: &mut [bool])
 {
     for (k, slot) in slots.iter().enumerate() {
         values[*slot] = given[k];
-    }
-}
-
-// Makes the steps one after another.
-fn run_steps(steps: &[Step], values: &mut [bool])
-    requires { All (λ s. s.slot < length values.old) steps.now }
-    ensures { values.new ≡ settled (map plain_step steps.now) values.old }
-{
-    for step in steps {
-        let value = value_of(&step.value, values);
-        values[step.slot] = value;
     }
 }
 

@@ -4,8 +4,9 @@ use Rattle.std.proofs.lemmas.List.{with_items_is}
 use Rattle.csub_text.specs.Views.{program_of}
 use Rattle.csub_text.specs.Names.{declared, inputs_of}
 use Rattle.csub_run.specs.Runners.{Runner, Reacts, slot_in, value_at}
-use Rattle.csub_run.specs.Slots.{plain_step, step_of, settled, put_all, slot_value, slotted_of}
-use Rattle.csub_run.proofs.Machines.{all-parts, inputs-low, steps-low, reacts-by, keeps-by}
+use Rattle.csub_run.specs.Slots.{slot_value, slotted_of}
+use Rattle.csub_run.specs.Steps.{StepFits, step_of, settled, made, put_all}
+use Rattle.csub_run.proofs.Machines.{inputs-low, steps-fit, steps-made, reacts-by, keeps-by}
 use Rattle.csub_run.proofs.Rows.{value-is}
 use Rattle.csub_run.proofs.runner.CRunner.react.Goals as goal
 
@@ -21,10 +22,9 @@ run_steps-requires c =
     let p = program_of c.self.inside.program.now in
     let begun = with_items_is c.self.inside.values c.put_values.new.values (c.put_values.auto.values ∙ c.deref_mut.ensures.len) in
     let wide = ap length (c.deref_mut-2.ensures.value ∙ begun) ∙ c.put_values.auto.values ∙ ap length c.deref_mut.ensures.value ∙ c.self.invariant.each_name in
-    let low = subst (λ l. All (λ s. s.slot < length (declared p)) l) (sym c.self.invariant.plan.steps_are) (steps-low p c.self.invariant.names_fit) in
-    subst (λ n. All (λ s. s.slot < n) c.deref-2.result.now) (sym wide)
-    (subst (λ l. All (λ s. s.slot < length (declared p)) l) (sym c.deref-2.ensures.value)
-    (all-parts (λ s. s.slot < length (declared p)) plain_step c.self.inside.plan.steps.items low))
+    let steps = c.self.inside.plan.steps.items in
+    subst (λ n. All (StepFits n) c.deref-2.result.now) (sym wide)
+    (subst (λ l. All (StepFits (length (declared p))) l) (sym c.deref-2.ensures.value) (steps-fit p c.self.invariant.names_fit steps c.self.invariant.plan.steps_are))
 
 pub invariant_of-self : goal.invariant_of-self
 invariant_of-self c =
@@ -52,8 +52,8 @@ returns c =
     let start = c.deref_mut-2.ensures.value ∙ begun ∙ c.put_values.ensures
     ∙ ap (λ l. put_all l inputs c.deref_mut.result.now) (c.deref.ensures.value ∙ plan.inputs_are)
     ∙ ap (put_all (map (slot_in (declared p)) (inputs_of p)) inputs) c.deref_mut.ensures.value in
-    let after = ended ∙ c.run_steps.ensures ∙ ap (λ l. settled (map plain_step l) c.deref_mut-2.result.now) c.deref-2.ensures.value
-    ∙ ap (λ l. settled l c.deref_mut-2.result.now) plan.steps_are ∙ ap (settled (map (step_of (declared p)) p.body)) start in
+    let after = ended ∙ c.run_steps.ensures ∙ ap (λ l. made l c.deref_mut-2.result.now) c.deref-2.ensures.value
+    ∙ steps-made (declared p) p.body c.self.inside.plan.steps.items plan.steps_are c.deref_mut-2.result.now ∙ ap (settled (map (step_of (declared p)) p.body)) start in
     let new = with_items (with_items c.self.inside.values c.put_values.new.values) c.run_steps.new.values in
     let answer = c.value_of.ensures ∙ value-is c.deref-5.result.now c.self.inside.plan.answer
     ∙ ap (λ v. slot_value v (slotted_of c.self.inside.plan.answer)) c.deref-5.ensures.value ∙ ap (slot_value new.items) plan.answer_is in
