@@ -9,7 +9,7 @@ use Rattle.est_base.specs.Distinct.{all_differ}
 use Rattle.est_base.specs.Names.{is_same_name}
 use Rattle.csub_text.specs.Names.{is_among, first_again}
 use Rattle.csub_text.specs.Trees.{Program}
-use Rattle.csub_text.proofs.NetNames.{same-eq, same-refl}
+use Rattle.net_ir.proofs.NumberedNames.{same-eq, same-refl}
 use Rattle.csub_run.specs.Runners.{KeepsNames}
 use Rattle.csub_run.proofs.Machines.{names-once}
 use Rattle.trace_run_c.specs.CAnswers.{bare_name, bare_inputs}
