@@ -42,7 +42,7 @@ pub fn analyse(alloc: Global, text: &[u8], main: Option<&[u8]>) -> Result<Analys
     }
 }
 
-/// The kernel program of a source, as `analyse` answers it.
+/// The kernel program of a source, as `analyse` answers it. Its errors are those of `analyse`.
 pub fn front(alloc: Global, text: &[u8], main: Option<&[u8]>) -> Result<KernelProgram, Refusal>
     requires { length text.now ≤ Limits.SOURCE_BYTES }
     ensures program { IfOk result (λ p. StandsFor text.now (option_map (λ m. m.now) main.entry) (program_of p)) }

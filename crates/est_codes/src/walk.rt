@@ -18,6 +18,7 @@ use est_kernel::{Codes, Kernel};
 use std::alloc::Global;
 
 /// The static codes of each statement of the body, by its number in preorder.
+/// Its errors are an instantaneous loop, the first one by its place, and want of memory.
 pub fn codes(alloc: Global, body: &Kernel) -> Result<Codes, CodeFault>
     requires { KeepsLimits (term_of body.now) }
     ensures no_loop { IfOk result (λ codes. NoInstantLoop (term_of body.now)) }
@@ -33,7 +34,7 @@ pub fn codes(alloc: Global, body: &Kernel) -> Result<Codes, CodeFault>
 }
 
 /// The static codes of each statement of the body, by its number in preorder, whether or not the body has an
-/// instantaneous loop.
+/// instantaneous loop. Its only error is want of memory.
 pub fn code_sets(alloc: Global, body: &Kernel) -> Result<Codes, NoMemory>
     requires { KeepsLimits (term_of body.now) }
     ensures { IfOk result (λ codes. AreCodesOf codes (term_of body.now)) }

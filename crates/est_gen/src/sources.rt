@@ -31,6 +31,7 @@ pub enum GenFault {
 
 /// The source of the module GEN with this many branches, drawn from a start number. It has the inputs
 /// `I0` to `I7`, the outputs `O0` to `O7`, and a local signal for each branch.
+/// Its errors are a number of branches that is not 1 to 400, and want of memory.
 pub fn generate_source(alloc: Global, start: u64, branches: u32) -> Result<Generated, GenFault>
     ensures source { IfOk result (λ g. g.source.items ≡ source_text start branches) }
     ensures rest { IfOk result (λ g. g.rest ≡ state_after (3 * branches) (first_state start)) }

@@ -25,7 +25,7 @@ use grc_graph::{Formula, Graph, Instances, Neighbours, Node, Wire, list_statemen
 use std::alloc::Global;
 
 /// The graph of a program: `codes` are the static codes of its body, and `live` are its live
-/// instances.
+/// instances. Its errors are too many wires and live test nodes, and want of memory.
 pub fn build(
     alloc: Global,
     program: KernelProgram,

@@ -20,6 +20,7 @@ use grc_graph::{Instances, has_some_code, resumed_codes, started_codes};
 use std::alloc::Global;
 
 /// The live instances of the body, in the order of the graph; `codes` are the body's static codes.
+/// Its errors are too many of them, and want of memory.
 pub fn copies(alloc: Global, body: &Kernel, codes: &Codes) -> Result<Instances, CopyFault>
     requires limits { KeepsLimits (term_of body.now) }
     requires codes { AreCodesOf codes.now (term_of body.now) }

@@ -44,6 +44,7 @@ impl Neighbours {
     ghost use Rattle.grc_graph.specs.Wires.{Out, Go, StatusOf, End};
 
     /// The tables of a program's graph: `statements`, `codes` and `live` are those of its body.
+    /// Its only error is want of memory.
     pub fn new(
         alloc: Global,
         program: &KernelProgram,

@@ -60,7 +60,7 @@ pub struct Statement<'a> {
     pub signals: Vec<Binding>,
 }
 
-/// The statements of a program's body by number.
+/// The statements of a program's body by number. Its only error is want of memory.
 pub fn list_statements(
     alloc: Global,
     program: &KernelProgram,

@@ -18,6 +18,7 @@ use std::alloc::Global;
 
 /// The listing of a graph with the selection tree of its body: the line `grc 1`, a line for each node of the tree,
 /// and a line for each wire by its number. The time is linear in the body and in the text.
+/// Its only error is want of memory.
 pub fn list(alloc: Global, graph: &Graph, tree: &SelTree) -> Result<Vec<u8>, NoMemory>
     ensures text { IfOk result (λ text. text.items
         ≡ listing (program_of graph.now.program) (names_of graph.now) (map node_of tree.now.nodes.items)) }

@@ -11,6 +11,7 @@ use itoa::Buffer;
 use std::alloc::Global;
 
 /// The text of a wire: `out NAME`, `go PATH LAYER`, `st PATH LAYER NAME` or `end PATH LAYER CODE`.
+/// Its only error is want of memory.
 pub fn wire_text(alloc: Global, name: &WireName) -> Result<Vec<u8>, NoMemory>
     ensures { IfOk result (λ text. text.items ≡ wire_text (wire_name_of name.now)) }
 {

@@ -12,7 +12,7 @@ use std::alloc::Global;
 /// An order of the wires that keeps the edges, as the picker chooses it. The picker is handed the wires that are
 /// not placed and whose predecessors all are, each once, in no stated order. The ranks show that such a wire is
 /// always there; nothing else is made of them. But for the picker, the time is linear in the wires and edges up
-/// to a logarithm.
+/// to a logarithm. Its only error is want of memory.
 pub fn order<P: Picker>(
     alloc: Global,
     edges: &Edges,

@@ -48,7 +48,7 @@ pub struct Reaction {
 /// One reaction of a graph, along an order along which its equations read: in the first instant where
 /// `boot` holds, else with these leaves of `tree`, its body's selection tree, selected. `inputs` is the
 /// event. The graph's instances and wires are those of its program; its equations and `next` formulas
-/// are any.
+/// are any. Its only error is want of memory.
 pub fn react(
     alloc: Global,
     graph: &Graph,
@@ -100,7 +100,7 @@ pub fn react(
 }
 
 /// One reaction of a graph over the table of its words, which is the same in every instant. No two of
-/// its wires are the same.
+/// its wires are the same. Its only error is want of memory.
 pub fn react_over(
     alloc: Global,
     graph: &Graph,

@@ -18,7 +18,7 @@ use est_kernel::{Codes, Kernel};
 use grc_graph::{SelForm, SelTree, has_some_code, resumed_codes, started_codes};
 use std::alloc::Global;
 
-/// The selection tree of the body; `codes` are the body's static codes.
+/// The selection tree of the body; `codes` are the body's static codes. Its only error is want of memory.
 pub fn select(alloc: Global, body: &Kernel, codes: &Codes) -> Result<SelTree, NoMemory>
     requires limits { KeepsLimits (term_of body.now) }
     requires codes { AreCodesOf codes.now (term_of body.now) }

@@ -28,7 +28,7 @@ use grc_graph::{Graph, Layer, Neighbours, SelTree, Wire, list_statements};
 use std::alloc::Global;
 
 /// The table of words of a graph, whose instances and wires are those of its program and whose `next`
-/// is over the leaves of `tree`, its body's selection tree.
+/// is over the leaves of `tree`, its body's selection tree. Its only error is want of memory.
 pub fn words(alloc: Global, graph: &Graph, tree: &SelTree) -> Result<Words, NoMemory>
     requires formed { IsWellFormed (program_of graph.now.program) }
     requires no_loop { NoInstantLoop (term_of graph.now.program.body) }

@@ -28,7 +28,7 @@ use std::alloc::Global;
 /// The netlist of a graph along an order in which its equations read. The graph's instances and wires
 /// are those of its program, and its `next` is over the leaves of `tree`, its body's selection tree;
 /// its equations and `next` formulas are any. Where they are the program's as well, the netlist has at most
-/// 15 gates for each wire and each live test node.
+/// 15 gates for each wire and each live test node. Its only error is want of memory.
 pub fn generate(
     alloc: Global,
     graph: &Graph,

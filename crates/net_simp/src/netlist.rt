@@ -21,7 +21,7 @@ use std::alloc::Global;
 /// Constants are folded, double negations and absorbed operands go, gates that compute the same are one, and
 /// gates that nothing needs are left out: of the gates that carry no wire no two have one operator, none is a
 /// copy, none reads a copy, a constant, or one net twice, and each is read. It takes time linear in the gates,
-/// but for hashing.
+/// but for hashing. Its only error is want of memory.
 pub fn simplify(alloc: Global, net: &Net) -> Result<Net, NoMemory>
     ensures parts { IfOk result (λ new. SameParts (netlist_of net.now) (netlist_of new)) }
     ensures instants { IfOk result (λ new. SameInstants (netlist_of net.now) (netlist_of new)) }

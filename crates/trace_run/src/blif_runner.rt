@@ -56,6 +56,7 @@ impl<'a> BlifRunner<'a> {
     }
 
     /// The interface of the text itself: its inputs, and its outputs but for a last `_paused`; no relations.
+    /// Its only error is want of memory.
     pub fn interface(&self, alloc: Global) -> Result<Interface, NoMemory>
         ensures given { IfOk result (λ i. i.given.items ≡ self.now.circuit.inputs) }
         ensures outgoing { IfOk result (λ i. i.outgoing.items ≡ listed_names self.now.circuit.outputs) }
@@ -146,6 +147,7 @@ pub fn copied_names(alloc: Global, names: &[Text]) -> Result<Vec<Text>, NoMemory
 }
 
 /// Runs the circuit of a BLIF text over a trace, by its own interface. The runner is before its first event.
+/// Its errors are the first fault of the trace, a write that failed, and want of memory.
 pub fn run_blif<O: Sink>(
     alloc: Global,
     runner: &mut BlifRunner<'_>,

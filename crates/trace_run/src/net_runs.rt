@@ -21,6 +21,7 @@ use net_ir::{Net, NetOut, look_at_wires};
 use std::alloc::Global;
 
 /// The interface of a net: the names of its inputs and outputs, with these relations of its inputs.
+/// Its only error is want of memory.
 pub fn net_interface(
     alloc: Global,
     net: &Net,
@@ -50,6 +51,7 @@ fn output_names(alloc: Global, outputs: &[NetOut]) -> Result<Vec<Text>, NoMemory
 
 /// Reads the BLIF text that was written of a net, and runs it over a trace, with these names in its lines. What is
 /// written is what the net shows.
+/// Its errors are the first fault of the trace, a write that failed, and want of memory.
 pub fn run_written<O: Sink>(
     alloc: Global,
     net: &Net,

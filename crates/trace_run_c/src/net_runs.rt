@@ -21,6 +21,7 @@ use trace_run::{Interface, RunFault, run_trace};
 
 /// Reads the C text that was written of a net, and runs it over a trace, with these names in its lines. What is
 /// written is what the net shows.
+/// Its errors are the first fault of the trace, a write that failed, and want of memory.
 pub fn run_written_c<O: Sink>(
     alloc: Global,
     net: &Net,

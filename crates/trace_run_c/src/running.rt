@@ -16,7 +16,7 @@ use trace_run::{RunFault, run_trace};
 
 /// Runs a program over a trace, by its own interface: its inputs and outputs without their signs, and no relations. The
 /// value that a call returns gives the line's word. The program keeps the rules on names, as each one does that some
-/// text describes.
+/// text describes. Its errors are the first fault of the trace, a write that failed, and want of memory.
 pub fn run_c<O: Sink>(
     alloc: Global,
     program: &CProgram,
