@@ -1,5 +1,5 @@
 -- Requests of which nothing is refused end as done, or for want of memory.
-use Rattle.std.proofs.Common.{◌≡◌, ℕ, ◌+◌, ◌<◌, ◌≤◌, ◌⊎◌, List, [], ◌∷◌, ◌++◌, length, Option, None, Some, Result, Ok, Err, inl, inr, refl, sym, ap, ◌∙◌, subst}
+use Rattle.std.proofs.Common.{◌≡◌, ℕ, ◌+◌, ◌<◌, ◌≤◌, ◌⊎◌, List, [], ◌∷◌, ◌++◌, length, Option, None, Some, Err, inl, inr, refl, sym, ap, ◌∙◌, subst}
 use Rattle.std.proofs.Common.{⊎_elim, arith}
 use Rattle.est_base.specs.declared.bounds.TheConstants.Limits.{TRACE_BYTES, TEXT_BYTES}
 use Rattle.est_base.specs.Faults.{Rose}
@@ -10,11 +10,9 @@ use Rattle.blif_text.specs.Circuits.{Circuit}
 use Rattle.blif_run.specs.Loops.{IsLoop}
 use Rattle.cec_front.proofs.OneProgram.{one_program}
 use Rattle.cec_front.proofs.Unrefused as front
-use Rattle.cec_front.specs.Sources.{StandsFor}
 use Rattle.cec_words.specs.declared.asked.Via.{Via}
 use Rattle.cec_words.specs.declared.asked.Via.TheVariants.{Blif, C}
 use Rattle.csub_read.specs.declared.refusal.CError.TheVariants as c_faults
-use Rattle.csub_read.specs.Laws.{LacksRoom}
 use Rattle.csub_read.proofs.ReadBack.{described-are-read}
 use Rattle.csub_text.specs.Trees as c_trees
 use Rattle.trace_io.specs.declared.faults.TraceFault.{TraceFault}
@@ -35,14 +33,14 @@ use Rattle.cec_core.specs.declared.outcome.Which.TheVariants.{First, Second}
 use Rattle.cec_core.specs.declared.refusal.Limit as bounds
 use Rattle.cec_core.specs.declared.refusal.Limit.TheVariants as limits
 use Rattle.cec_core.specs.declared.refusal.Refusal.TheVariants as refusals
-use Rattle.cec_core.specs.Accepted.{IsWholeTrace, RunsToEnd, ExecutesToEnd, inputs_by, IsAccepted}
+use Rattle.cec_core.specs.Accepted.{RunsToEnd, ExecutesToEnd, IsAccepted}
 use Rattle.cec_core.specs.Contents.{Content}
 use Rattle.cec_core.specs.ExecTexts.{IsCircuitText, IsProgramText, IsRunnable, HasFault, RunsBy}
 use Rattle.cec_core.specs.Jobs.{Job, Request, Help, Make, Run, Exec, Generate, Load}
 use Rattle.cec_core.specs.Laws.{AcceptedRequestsAreDone}
 use Rattle.cec_core.specs.Outcomes.{MakesOn, RunsOn, ExecutesOn, AgreesOnFile, AgreesOnTwo, IsWriting, Agrees, CountsFiles, IsTextOf, GainsOut}
 use Rattle.cec_core.specs.Runs.{RunsSource}
-use Rattle.cec_core.specs.Sources.{IsSource, WritesLongText}
+use Rattle.cec_core.specs.Sources.{IsSource}
 use Rattle.cec_core.specs.Subjects.{LongTrace}
 use Rattle.cec_core.proofs.Pieces.{answer_rose}
 use Rattle.cec_core.proofs.Unrefused.{unrefused, passes_limit}

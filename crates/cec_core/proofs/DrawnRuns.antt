@@ -1,13 +1,12 @@
 -- Runs over drawn events, and what is counted of them.
-use Rattle.std.proofs.Common.{◌≡◌, ℕ, zero, suc, ◌+◌, ◌*◌, ◌<◌, ◌≤◌, Bool, true, false, if◌then◌else◌, List, [], ◌∷◌, ◌++◌, length, map}
-use Rattle.std.proofs.Common.{Option, Some, None, Ok}
+use Rattle.std.proofs.Common.{◌≡◌, ℕ, zero, suc, ◌+◌, ◌*◌, ◌≤◌, Bool, true, false, if◌then◌else◌, List, [], ◌∷◌, ◌++◌, length, map}
+use Rattle.std.proofs.Common.{Ok}
 use Rattle.std.proofs.Common.{refl, sym, ap, ap₂, ◌∙◌, subst, arith}
-use Rattle.std.specs.Prelude.{◌==◌, count_by, codes, decimal}
-use Rattle.std.proofs.lemmas.List.{length-take}
-use Rattle.est_base.specs.Items.{Item, Event, Reset, EachEvent}
-use Rattle.est_base.specs.Relations.{Relation, MeetsAll}
-use Rattle.est_gen.specs.Draws.{drawn, next_state, state_after, event_from}
-use Rattle.est_kernel.specs.Plain.{Program, given_count, given_names}
+use Rattle.std.specs.Prelude.{◌==◌, count_by}
+use Rattle.est_base.specs.Items.{Item, Event, EachEvent}
+use Rattle.est_base.specs.Relations.{MeetsAll}
+use Rattle.est_gen.specs.Draws.{next_state, state_after, event_from}
+use Rattle.est_kernel.specs.Plain.{Program, given_count}
 use Rattle.est_kernel.specs.Reactions as semantics
 use Rattle.net_ir.specs.Netlists.{Netlist}
 use Rattle.blif_text.specs.Circuits.{Circuit, reading}
@@ -31,8 +30,7 @@ use Rattle.trace_run.proofs.Leading.{drives-more}
 use Rattle.cec_core.specs.declared.commands.load.Counts.{Counts}
 use Rattle.cec_core.specs.Loads.{drawn_items, emitted_count, paused_count, summary_text}
 use Rattle.cec_core.specs.Loading.{present_count, pause_of, pause_count, drawn_state, counted_text, CountsOf, CountsMachine, CountsMore, CountsNet}
-use Rattle.cec_core.specs.Meaning.{IsEvent, AreItems, seen_of, NetKeeps}
-use Rattle.cec_core.specs.Runs.{line_answer}
+use Rattle.cec_core.specs.Meaning.{AreItems, seen_of}
 
 -- one instant more
 pub drawn-more : (n x : ℕ) → drawn_items (n + 1) x ≡ drawn_items n x ++ Event (event_from 8 (drawn_state n x)) ∷ []

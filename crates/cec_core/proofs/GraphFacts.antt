@@ -1,19 +1,19 @@
 -- What the passes up to the netlist ask of each other.
-use Rattle.std.proofs.Common.{◌≡◌, ℕ, zero, suc, ◌+◌, ◌-◌, ◌<◌, ◌≤◌, List, [], ◌∷◌, length, map, get_or, refl, sym, ap, ◌∙◌, subst, arith}
+use Rattle.std.proofs.Common.{◌≡◌, ℕ, suc, ◌+◌, ◌-◌, ◌<◌, List, [], ◌∷◌, length, map, get_or, sym, ap, ◌∙◌, subst, arith}
 use Rattle.std.specs.Prelude.{Contains, slice_index}
 use Rattle.std.proofs.lemmas.List.{length-map, get_or-map}
 use Rattle.std.proofs.lemmas.List.Elements.{Contains-get_or}
 use Rattle.std.proofs.lemmas.Simd.{map-map}
 use Rattle.digraph.specs.Walks.{HasEdge, IsClosedWalk}
 use Rattle.est_base.specs.declared.indices.WireId.{WireId}
-use Rattle.est_kernel.specs.Plain.{Program, program_of}
+use Rattle.est_kernel.specs.Plain.{Program}
 use Rattle.grc_dep.specs.Cycles.{numbered, numbers_of}
 use Rattle.grc_graph.specs.declared.graph.Graph.{Graph}
 use Rattle.grc_graph.specs.BuiltGraphs.{IsGraphOf}
 use Rattle.grc_graph.proofs.BuiltReads.{formulas_each}
 use Rattle.grc_graph.specs.Edges.{Edge, edge}
 use Rattle.grc_graph.specs.GraphRuns.{graph_of, program_edges, program_wires}
-use Rattle.grc_graph.specs.NumberedEdges.{AreEdgesOf, named_edge}
+use Rattle.grc_graph.specs.NumberedEdges.{AreEdgesOf}
 use Rattle.grc_graph.specs.PlainGraphs.{wire_at, wire_of, formula_of, instances_of, names_of}
 use Rattle.grc_graph.specs.Reads.{IsReadingOrder}
 use Rattle.grc_graph.specs.Selected.{HasExitCodes}

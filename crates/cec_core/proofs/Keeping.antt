@@ -1,6 +1,6 @@
 -- The netlist of a program's graph keeps what the program means, and so do the texts that are written of it.
-use Rattle.std.proofs.Common.{◌≡◌, ℕ, ◌+◌, ◌≤◌, Bool, List, [], ◌∷◌, ◌++◌, map, length, take, drop, refl, sym, ap, ap₂, ◌∙◌, subst, arith}
-use Rattle.std.proofs.lemmas.List.{length-take, length-drop, length-replicate}
+use Rattle.std.proofs.Common.{◌≡◌, ℕ, ◌≤◌, List, [], ◌∷◌, ◌++◌, map, length, refl, sym, ap, ap₂, ◌∙◌, subst, arith}
+use Rattle.std.proofs.lemmas.List.{length-take}
 use Rattle.est_base.specs.Items.{Item, Event, Reset, EachEvent}
 use Rattle.est_kernel.specs.Plain.{Program, given_count, given_names, outgoing_names}
 use Rattle.est_kernel.specs.Reactions.{Answer}
@@ -17,13 +17,13 @@ use Rattle.grc_sem.proofs.Runs.{program_kernel, graph_runs_are_runs_lem}
 use Rattle.grc_solutions.proofs.OneRun.{graph_runs_exist_lem}
 use Rattle.net_gen.specs.Generated.{HasInterfaceOf, FollowsRuns, shown_as}
 use Rattle.net_ir.specs.declared.netlist.NetOut.{NetOut}
-use Rattle.net_ir.specs.Netlists.{Netlist, output_names}
+use Rattle.net_ir.specs.Netlists.{Netlist}
 use Rattle.blif_text.specs.Written.{Means, output_word, paused_word}
 use Rattle.csub_text.specs.Written as meant
 use Rattle.csub_text.specs.Written.{input_variable, output_variable, shown_by_call}
 use Rattle.std.specs.Prelude.{codes}
 use Rattle.cec_core.specs.Cycles.{IsAcyclic}
-use Rattle.cec_core.specs.Meaning.{IsEvent, AreItems, seen_of, NetKeeps, NamesWires, shown_values, TextKeeps, call_of, CTextKeeps}
+use Rattle.cec_core.specs.Meaning.{AreItems, seen_of, NetKeeps, NamesWires, shown_values, TextKeeps, call_of, CTextKeeps}
 
 -- each event has a truth value per given signal
 pub widths : (p : Program) (n : ℕ) → given_count p ≡ n → (items : List Item) → AreItems p items → EachEvent (λ event. length event ≡ n) items

@@ -11,7 +11,6 @@ use Rattle.cec_core.specs.Answers.{IsAnswer}
 use Rattle.cec_core.specs.Compiling.{StandsForNet}
 use Rattle.cec_core.specs.NetTexts.{IsWritten}
 use Rattle.cec_core.specs.Sources.{IsSource, IsNetText}
-use Rattle.cec_core.specs.Refusals.{Compiles}
 use Rattle.est_base.specs.declared.bounds.TheConstants.Limits.{SOURCE_BYTES}
 use Rattle.std.proofs.Common.{◌≤◌, length}
 use Rattle.cec_core.proofs.Joined.{text_stands, c_text_stands}

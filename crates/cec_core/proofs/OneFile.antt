@@ -1,23 +1,20 @@
 -- What the answers of the steps say of the whole call.
 use Rattle.std.proofs.Common.{◌≡◌, ℕ, ◌+◌, ◌<◌, ◌≤◌, ◌⊎◌, List, [], ◌++◌, length, Option, None, Some, Result, Ok, Err, Vec, inl, inr, refl, sym, ap, subst}
 use Rattle.std.proofs.Common.{arith}
-use Rattle.std.proofs.Common.{◌∙◌}
 use Rattle.std.proofs.lemmas.List.{length-replicate}
 use Rattle.std.specs.Prelude.{⊤, codes, replicate, unwrap_or}
 use Rattle.std.specs.declared.alloc.Global.{Global}
-use Rattle.est_base.specs.declared.bounds.TheConstants.Limits.{SOURCE_BYTES, TRACE_BYTES, TEXT_BYTES}
+use Rattle.est_base.specs.declared.bounds.TheConstants.Limits.{SOURCE_BYTES}
 use Rattle.est_base.specs.declared.files.reading.FileFault.{FileFault}
 use Rattle.est_base.specs.declared.files.reading.FileFault.TheVariants as reading
 use Rattle.est_base.specs.declared.sinks.writing.SinkFault.{SinkFault}
-use Rattle.est_base.specs.Faults.{Rose}
 use Rattle.est_base.specs.Reading.{Reads, Counts, Keeps}
 use Rattle.est_base.specs.Writing.{Appends, Stops, Wrote}
 use Rattle.trace_run.specs.Running.{Sinks}
 use Rattle.cec_core.specs.declared.jobs.Task.{Task}
-use Rattle.cec_core.specs.declared.jobs.Task.TheVariants.{Blif, C, Grc, Check}
 use Rattle.cec_core.specs.declared.outcome.Outcome.{Outcome}
 use Rattle.cec_core.specs.declared.outcome.Outcome.TheVariants.{Done, Usage, FileFault as Unread, Static, Cyclic, Trace, BadText, Limit, WriteFault, NoMemory}
-use Rattle.cec_core.specs.declared.outcome.Which.TheVariants.{First, Second}
+use Rattle.cec_core.specs.declared.outcome.Which.TheVariants.{First}
 use Rattle.cec_core.specs.declared.refusal.Limit as bounds
 use Rattle.cec_core.specs.declared.refusal.Limit.TheVariants as limits
 use Rattle.cec_core.specs.declared.refusal.Refusal as refused
@@ -26,9 +23,8 @@ use Rattle.cec_core.specs.Answers.{IsAnswer}
 use Rattle.cec_core.specs.Contents.{Content, IsHeld, Holds}
 use Rattle.cec_core.specs.Jobs.{Job, Request, Help, Make, Run, Exec, Generate, Load}
 use Rattle.cec_core.specs.Lines.{Subject, line_of, IsSourceSubject, IsSubjectOf, GainsErr}
-use Rattle.cec_core.specs.Outcomes.{MakesOn, AgreesOnFile, Agrees, IsFileOf, CountsFiles, LeavesText, LeavesAnswer, IsTextOf, GainsOut}
+use Rattle.cec_core.specs.Outcomes.{MakesOn, Agrees, IsFileOf, CountsFiles, LeavesText, LeavesAnswer, IsTextOf, GainsOut}
 use Rattle.cec_core.specs.Refusals.{IsRefused}
-use Rattle.cec_core.specs.Sources.{IsSource}
 use Rattle.cec_core.specs.Statuses.{outcome_of}
 use Rattle.cec_core.specs.Subjects.{unread_outcome}
 use Rattle.cec_core.proofs.Pieces.{answer_as, unread_answer}

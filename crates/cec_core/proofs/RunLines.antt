@@ -1,5 +1,5 @@
 -- The lines of a compiled program's netlist over a trace are those of the program's own run.
-use Rattle.std.proofs.Common.{◌≡◌, ℕ, List, [], ◌∷◌, length, map, Result, Ok, Err, Option, refl, sym, ap, ◌∙◌, subst, arith, Some, None}
+use Rattle.std.proofs.Common.{◌≡◌, ℕ, List, [], ◌∷◌, length, map, Result, refl, sym, ap, ◌∙◌, subst, arith}
 use Rattle.std.proofs.lemmas.List.{length-take}
 use Rattle.est_base.specs.Items.{Item, Event, Reset, EachEvent}
 use Rattle.est_base.specs.Relations.{Relation, MeetsAll}
@@ -7,15 +7,13 @@ use Rattle.est_kernel.specs.Plain.{Program, given_count, given_names, outgoing_n
 use Rattle.est_kernel.specs.Reactions.{Answer}
 use Rattle.est_kernel.specs.WellFormed.{IsWellFormed}
 use Rattle.net_ir.specs.Netlists.{Netlist, output_names}
-use Rattle.trace_io.specs.Traces.{Reading}
 use Rattle.trace_io.specs.Answers.{beginning}
 use Rattle.trace_run.specs.declared.running.RunFault.{RunFault}
-use Rattle.trace_run.specs.declared.running.RunFault.TheVariants.{Trace, Write, NoMemory}
 use Rattle.trace_run.specs.Machines.{answer_lines}
 use Rattle.trace_run.specs.NetRuns.{shown_answer, ShowsNet}
-use Rattle.trace_run.specs.Running.{Sinks, IsFront, RunsTrace}
+use Rattle.trace_run.specs.Running.{Sinks, RunsTrace}
 use Rattle.trace_run.proofs.Events.{events-fit, runs-along}
-use Rattle.cec_core.specs.Meaning.{IsEvent, AreItems, seen_of, NetKeeps}
+use Rattle.cec_core.specs.Meaning.{AreItems, seen_of, NetKeeps}
 use Rattle.cec_core.specs.Runs.{line_answer, ShowsRun}
 
 -- the events of a trace are events of the program

@@ -1,5 +1,5 @@
 -- Commands that read a trace behind their first file: what the steps say of the whole.
-use Rattle.std.proofs.Common.{◌≡◌, ℕ, ◌<◌, ◌≤◌, ◌⊎◌, List, [], length, Option, None, Some, Result, Ok, Err, inl, inr, refl, sym, ap, subst, ◌∙◌}
+use Rattle.std.proofs.Common.{◌≡◌, ℕ, ◌≤◌, List, length, Option, Some, Result, Ok, Err, inl, inr, refl, subst, ◌∙◌}
 use Rattle.std.proofs.Common.{⊎_elim}
 use Rattle.est_base.specs.declared.bounds.TheConstants.Limits.{SOURCE_BYTES, TRACE_BYTES, TEXT_BYTES}
 use Rattle.est_base.specs.declared.files.reading.FileFault.{FileFault}
@@ -27,9 +27,9 @@ use Rattle.cec_core.specs.declared.refusal.Limit.TheVariants as limits
 use Rattle.cec_core.specs.declared.refusal.Refusal as refused
 use Rattle.cec_core.specs.declared.refusal.Refusal.TheVariants as refusals
 use Rattle.cec_core.specs.Contents.{Content, IsHeld, Holds}
-use Rattle.cec_core.specs.Jobs.{Job, Request, Help, Make, Run, Exec, Generate, Load}
+use Rattle.cec_core.specs.Jobs.{Job, Request, Run, Exec}
 use Rattle.cec_core.specs.ExecTexts.{IsRunnable, RunsBy}
-use Rattle.cec_core.specs.Outcomes.{MakesOn, RunsOn, ExecutesOn, IsLongTrace, AgreesOnTwo, Agrees, IsFileOf, CountsFiles}
+use Rattle.cec_core.specs.Outcomes.{RunsOn, ExecutesOn, AgreesOnTwo, Agrees, IsFileOf, CountsFiles}
 use Rattle.cec_core.specs.Refusals.{IsRefused}
 use Rattle.cec_core.specs.Runs.{RunsSource, LeavesRun}
 use Rattle.cec_core.specs.Sources.{IsSource}

@@ -1,29 +1,27 @@
 -- The names of wires in a written text have the values of the wires.
-use Rattle.std.proofs.Common.{◌≡◌, ℕ, zero, suc, ◌+◌, ◌-◌, ◌<◌, ◌≤◌, Bool, true, false, List, [], ◌∷◌, ◌++◌, length, map, get_or, Option, Some, None, refl, sym}
-use Rattle.std.proofs.Common.{ap, ◌∙◌, subst, cond, arith}
-use Rattle.std.specs.Prelude.{codes, decimal, nat_lt, option_map, option_and_then, slice_get, Contains, if◌then◌else◌}
+use Rattle.std.proofs.Common.{◌≡◌, ℕ, zero, suc, ◌+◌, ◌-◌, ◌<◌, Bool, false, List, [], ◌∷◌, length, map, get_or, Option, Some, None, refl, sym}
+use Rattle.std.proofs.Common.{ap, ◌∙◌, subst, arith}
+use Rattle.std.specs.Prelude.{nat_lt, option_map, option_and_then, Contains, if◌then◌else◌}
 use Rattle.std.specs.List.{AllZip, range_with_len, cons_option}
 use Rattle.std.proofs.lemmas.Bool.{le-ltb}
-use Rattle.std.proofs.lemmas.List.{length-map, get_or-map, get_or_default}
+use Rattle.std.proofs.lemmas.List.{length-map, get_or-map}
 use Rattle.std.proofs.lemmas.List.FromFn.{get_or-map-range_with_len}
 use Rattle.std.proofs.lemmas.Option.{slice_get-get_or}
 use Rattle.est_base.specs.declared.indices.WireId.{WireId}
-use Rattle.est_base.specs.Items.{Item, EachEvent}
-use Rattle.est_kernel.specs.Plain.{Program, program_of, given_count, given_names}
+use Rattle.est_base.specs.Items.{EachEvent}
+use Rattle.est_kernel.specs.Plain.{Program, given_count, given_names}
 use Rattle.blif_text.specs.Written.{Means, net_word, net_latch, gate_word}
 use Rattle.blif_text.specs.Written as written
-use Rattle.blif_text.specs.Runs.{IsRun}
 use Rattle.net_ir.proofs.Numbered.{length-numbered}
 use Rattle.grc_graph.specs.declared.graph.Graph.{Graph}
 use Rattle.grc_graph.specs.BuiltGraphs.{IsGraphOf}
 use Rattle.grc_graph.proofs.BuiltReads.{next_each}
-use Rattle.grc_graph.specs.GraphRuns.{IsGraphRun, graph_of, program_wires}
+use Rattle.grc_graph.specs.GraphRuns.{IsGraphRun, program_wires}
 use Rattle.grc_graph.specs.PlainGraphs.{names_of, plain_graph}
 use Rattle.grc_graph.specs.PlainGraphs as graphs
 use Rattle.grc_graph.specs.Readings.{Valuation}
 use Rattle.grc_graph.specs.Walk.{Initial}
 use Rattle.grc_graph.specs.WireOrders.{times}
-use Rattle.grc_graph.specs.WireOrders as orders
 use Rattle.grc_solutions.proofs.Numbers.{stands_at}
 use Rattle.grc_solutions.proofs.OneRun.{graph_runs_exist_lem}
 use Rattle.grc_graph.specs.Selected.{HasExitCodes}
@@ -33,7 +31,7 @@ use Rattle.net_ir.specs.declared.netlist.Gate.{Gate}
 use Rattle.net_ir.specs.Gates.{carried, value_in}
 use Rattle.net_ir.specs.Netlists.{Netlist, first_gate, net_count}
 use Rattle.cec_core.specs.Cycles.{IsAcyclic}
-use Rattle.cec_core.specs.Meaning.{AreItems, wire_word, TellsWires, WiresTold, NamesWires}
+use Rattle.cec_core.specs.Meaning.{wire_word, TellsWires, NamesWires}
 use Rattle.cec_core.proofs.Keeping.{widths}
 
 -- ---- the gate of a wire

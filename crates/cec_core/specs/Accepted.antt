@@ -1,5 +1,5 @@
 -- To believe: what a command asks of the files that it reads, so that it refuses nothing.
-use Rattle.std.specs.Prelude.{◌≡◌, ℕ, ◌≤◌, ⊤, List, [], length, Option, None}
+use Rattle.std.specs.Prelude.{ℕ, ◌≤◌, ⊤, List, [], length, Option, None}
 use Rattle.est_base.specs.declared.bounds.TheConstants.Limits.{TRACE_BYTES}
 use Rattle.est_base.specs.Items.{Item}
 use Rattle.est_base.specs.Relations.{Relation}

@@ -1,7 +1,7 @@
 -- To believe: what the passes make of a source: each field says what its pass keeps.
 use Rattle.std.specs.Prelude.{◌≡◌, ◌≤◌, ℕ, List, length, map, Option}
 use Rattle.est_base.specs.declared.bounds.TheConstants.Limits.{INSTANCES}
-use Rattle.est_kernel.specs.Plain.{Program, program_of}
+use Rattle.est_kernel.specs.Plain.{Program}
 use Rattle.est_kernel.specs.StaticCodes.{NoInstantLoop}
 use Rattle.est_kernel.specs.WellFormed.{IsWellFormed, HasNames}
 use Rattle.grc_graph.specs.BuiltGraphs.{IsGraphOf}

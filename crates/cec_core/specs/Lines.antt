@@ -1,5 +1,5 @@
 -- To believe: the line that is written about an outcome.
-use Rattle.std.specs.Prelude.{◌≡◌, ℕ, ◌⊎◌, ⊤, List, [], ◌∷◌, ◌++◌, flat_map, Option, Some, None, codes, decimal, map}
+use Rattle.std.specs.Prelude.{◌≡◌, ℕ, ◌⊎◌, ⊤, List, [], ◌∷◌, ◌++◌, flat_map, Option, Some, codes, decimal, map}
 use Rattle.std.specs.Prelude.{unwrap_or}
 use Rattle.est_base.specs.Writing.{Appends, Stops}
 use Rattle.est_gen.specs.Sources.{source_text}
@@ -18,7 +18,7 @@ use Rattle.cec_core.specs.declared.refusal.Limit as bounds
 use Rattle.cec_core.specs.declared.refusal.Limit.TheVariants as limits
 use Rattle.cec_core.specs.Contents.{Content, IsHeld}
 use Rattle.cec_core.specs.Cycles.{cycle_text}
-use Rattle.cec_core.specs.Jobs.{Job, Request, Help, Make, Run, Exec, Generate, Load}
+use Rattle.cec_core.specs.Jobs.{Job, Request, Make, Run, Exec, Load}
 
 -- what a line may speak of: the names of the two files, the main module's name, and the source
 pub record Subject : Type 0 where

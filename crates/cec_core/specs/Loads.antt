@@ -1,5 +1,5 @@
 -- To believe: the numbers of a generated source's run over drawn events.
-use Rattle.std.specs.Prelude.{◌≡◌, ℕ, zero, suc, ◌+◌, ◌*◌, ◌==◌, Bool, if◌then◌else◌, List, [], ◌∷◌, Some, None, codes}
+use Rattle.std.specs.Prelude.{◌≡◌, ℕ, zero, suc, ◌+◌, ◌*◌, ◌==◌, if◌then◌else◌, List, [], ◌∷◌, Some, None, codes}
 use Rattle.std.specs.Prelude.{decimal, count_by}
 use Rattle.std.specs.List.{concat}
 use Rattle.est_base.specs.Items.{Item, Event}

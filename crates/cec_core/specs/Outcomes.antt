@@ -16,7 +16,7 @@ use Rattle.cec_core.specs.declared.outcome.Which.TheVariants.{First, Second}
 use Rattle.cec_core.specs.declared.refusal.Limit.TheVariants as limits
 use Rattle.cec_core.specs.declared.refusal.Refusal.TheVariants as refusals
 use Rattle.cec_core.specs.Answers.{IsAnswer}
-use Rattle.cec_core.specs.Contents.{Content, IsHeld, Holds}
+use Rattle.cec_core.specs.Contents.{Content, Holds}
 use Rattle.cec_core.specs.ExecTexts.{IsRunnable, HasFault, RunsBy}
 use Rattle.cec_core.specs.HelpTexts.{help_text}
 use Rattle.cec_core.specs.Jobs.{Job, Request, Help, Make, Run, Exec, Generate, Load}

@@ -1,4 +1,4 @@
-use Rattle.std.proofs.Common.{◌≡◌, [], length, map, ap, sym, subst, ◌∙◌}
+use Rattle.std.proofs.Common.{◌≡◌, [], length, map, ap, sym, ◌∙◌}
 use Rattle.est_base.specs.Relations.{relation_of}
 use Rattle.est_kernel.specs.Plain.{Program, given_count}
 use Rattle.net_ir.specs.Runs.{netlist_of}

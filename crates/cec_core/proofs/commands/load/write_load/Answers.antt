@@ -4,7 +4,7 @@ use Rattle.trace_run.specs.Running.{Sinks}
 use Rattle.cec_core.specs.declared.outcome.Outcome.TheVariants as outcomes
 use Rattle.cec_core.specs.declared.refusal.Limit.TheVariants as limits
 use Rattle.cec_core.specs.Lines.{Subject}
-use Rattle.cec_core.specs.Loads.{IsSummary, state_behind}
+use Rattle.cec_core.specs.Loads.{IsSummary}
 use Rattle.cec_core.specs.Outcomes.{LeavesText, MakesOn}
 use Rattle.cec_core.proofs.OneFile.{err_alone}
 use Rattle.cec_core.proofs.commands.load.write_load.Goals as goal

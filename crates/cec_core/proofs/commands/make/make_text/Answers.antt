@@ -1,4 +1,4 @@
-use Rattle.std.proofs.Common.{refl, subst, sym, ◌∙◌}
+use Rattle.std.proofs.Common.{subst, ◌∙◌}
 use Rattle.est_base.specs.declared.bounds.TheConstants.Limits.{SOURCE_BYTES}
 use Rattle.trace_run.specs.Running.{Sinks}
 use Rattle.cec_core.specs.Answers.{IsAnswer}
@@ -8,7 +8,7 @@ use Rattle.cec_core.specs.JobViews.{plain_job}
 use Rattle.cec_core.specs.Outcomes.{MakesOn, LeavesAnswer}
 use Rattle.cec_core.specs.Subjects.{plain_subject}
 use Rattle.cec_core.proofs.OneFile.{held_read, make_agrees, make_counts, make_out, source_subject, err_alone}
-use Rattle.cec_core.proofs.OneFile.{make_agrees_unread, counts_unread, make_out_unread, err_unread}
+use Rattle.cec_core.proofs.OneFile.{make_agrees_unread, counts_unread, err_unread}
 use Rattle.cec_core.proofs.commands.make.make_text.Goals as goal
 
 pub returns-in-Ok-clause-agrees : goal.returns-in-Ok-clause-agrees

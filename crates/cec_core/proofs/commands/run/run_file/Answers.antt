@@ -1,6 +1,5 @@
-use Rattle.std.proofs.Common.{refl, subst, sym, ◌∙◌, Result}
+use Rattle.std.proofs.Common.{subst, ◌∙◌}
 use Rattle.est_base.specs.declared.bounds.TheConstants.Limits.{SOURCE_BYTES}
-use Rattle.trace_run.specs.declared.running.RunFault.{RunFault}
 use Rattle.trace_run.specs.Running.{Sinks}
 use Rattle.cec_core.specs.Contents.{Holds}
 use Rattle.cec_core.specs.declared.refusal.Limit.TheVariants as limits
