@@ -1,4 +1,5 @@
 pub mod BareNames
 pub mod CRuns
 pub mod Prefixes
+pub mod Faults
 mod WorkedLines

@@ -14,7 +14,7 @@ mod net_runs;
 mod running;
 
 pub use executing::exec_c;
-pub use laws::{c_nets_are_run, c_runs_are_written};
+pub use laws::{c_faults_are_exact, c_nets_are_run, c_runs_are_written};
 pub use machine::CMachine;
 pub use net_runs::run_written_c;
 pub use running::run_c;
