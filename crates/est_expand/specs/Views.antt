@@ -8,6 +8,7 @@ use Rattle.est_expand.specs.declared.interface.Formal.{Formal as CodeFormal}
 use Rattle.est_expand.specs.declared.interface.Shown.{Shown}
 use Rattle.est_expand.specs.declared.met.Met.{Met as CodeMet}
 use Rattle.est_expand.specs.declared.place.Around.{Around as CodeAround}
+use Rattle.est_expand.specs.declared.place.Site.{Site}
 use Rattle.est_expand.specs.declared.place.Source.{Source}
 use Rattle.est_expand.specs.declared.refusal.ExpandFault.{ExpandFault}
 use Rattle.est_expand.specs.Answers.{Answers}
@@ -44,6 +45,10 @@ inside_of source = flattening (program_in source) source.inputs source.room
 abbrev pub form_walk : Source → Around → Span → Form → Walk flat.Stmt
 form_walk source = row (program_in source) source.inputs (inside_of source)
 
+-- what a statement is that is walked and has been counted
+abbrev pub site_walk : Site → Around → Form → Walk flat.Stmt
+site_walk site around = form_walk site.source around site.span
+
 -- one case, where it is known what a statement in it is
 abbrev pub one_case : Scope → (Stmt → Walk flat.Stmt) → Expr × Part → Walk (flat.Expr × flat.Part)
 one_case scope inside c =
@@ -55,3 +60,7 @@ formal_of formal = record { name = formal.name.now; input = formal.input }
 -- a call answers what a walk does from what was met before
 abbrev pub Walks : {A B : Type 0} → (A → B) → Result A ExpandFault → CodeMet → CodeMet → Walk B → Type 0
 Walks view result old new walk = Answers (λ value. (view value, met_of new)) result (walk (met_of old))
+
+-- a call answers what a walk does that meets nothing, whatever was met before
+abbrev pub Gives : {A B : Type 0} → (A → B) → Result A ExpandFault → Walk B → Type 0
+Gives view result walk = (met : Met) → Answers (λ value. (view value, met)) result (walk met)

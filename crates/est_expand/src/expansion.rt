@@ -100,7 +100,7 @@ fn main_body<'a>(
         inputs: shown.inputs.len() as u32,
         room: Limits::DEPTH as u32 + 1,
     };
-    walk(alloc, source, &mut around, met, &main.body)
+    walk(alloc, &source, &mut around, met, &main.body)
 }
 
 // The scope of the main module's body.

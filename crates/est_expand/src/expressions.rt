@@ -26,6 +26,7 @@ pub fn signal(scope: &Scope, name: &Name) -> Result<Meaning, ExpandFault>
 
 /// A test.
 #[cycle(tests)]
+#[inline(never)]
 pub fn flat_test(alloc: Global, scope: &Scope, e: &SigExpr) -> Result<FlatExpr, ExpandFault>
     ensures { Answers flat_expr_of result (test scope.now (expr_of e.now)) }
 {
@@ -63,6 +64,7 @@ fn flat_tests(alloc: Global, scope: &Scope, parts: &[SigExpr]) -> Result<Vec<Fla
 }
 
 /// A delay.
+#[inline(never)]
 pub fn flat_delay(alloc: Global, scope: &Scope, delay: &Delay) -> Result<FlatDelay, ExpandFault>
     ensures { Answers flat_delay_of result (awaited scope.now (delay_of delay.now)) }
 {

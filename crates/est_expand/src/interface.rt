@@ -51,6 +51,7 @@ fn push_formals<'a>(
 }
 
 /// Names without their places.
+#[inline(never)]
 pub fn text_list<'a>(alloc: Global, names: &'a [Name]) -> Result<Vec<&'a [u8]>, NoMemory>
     ensures { IfOk result (λ found. map (λ name. name.now) found.items ≡ texts names.now) }
 {

@@ -6,8 +6,10 @@
 //! `specs/Flattening.antt` has the flat form, one row a statement.
 #![tactic(auto)]
 
+mod binders;
 mod expansion;
 mod expressions;
+mod forms;
 mod interface;
 mod laws;
 mod met;

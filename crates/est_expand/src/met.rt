@@ -45,6 +45,7 @@ impl Met {
     }
 
     /// New signals of these names, and the number of the first.
+    #[inline(never)]
     pub fn meet_signals(&mut self, alloc: Global, names: &[&[u8]]) -> Result<u32, ExpandFault>
         ensures walks { Walks (λ first. first) result self.old self.new
             (meet_signals (map (λ name. name.now) names.now)) }

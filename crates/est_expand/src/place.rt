@@ -7,6 +7,7 @@ ghost use Rattle.est_names.specs.NameFaults.{module_names};
 use crate::scope::Scope;
 use crate::traps::Traps;
 use est_ast::Module;
+use est_base::Span;
 use est_names::{NameSet, Table};
 
 /// A program: its modules with their table, and the number of inputs of the main module, which have the
@@ -18,6 +19,13 @@ pub struct Source<'a> {
     pub inputs: u32,
     pub room: u32,
     ghost named: { table.now.names ≡ module_names (map module_of modules.now) },
+}
+
+/// A statement that is walked: the program, where so many more may stand in one that stands in it, and its place.
+#[derive(Clone, Copy)]
+pub struct Site<'a> {
+    pub source: Source<'a>,
+    pub span: Span,
 }
 
 /// What stands around a statement: what names mean there, the traps of its module, and the modules from the
@@ -33,10 +41,10 @@ impl<'a> Source<'a> {
     ghost use Rattle.std.specs.Prelude.{◌+◌, IfSome, IfNone};
 
     /// The same inside of a statement, where one more may stand in another.
-    pub fn inside(self) -> Option<Source<'a>>
-        ensures some { IfSome result (λ inner. (inner.modules ≡ self.entry.modules) × (inner.table ≡ self.entry.table)
-            × (inner.inputs ≡ self.entry.inputs) × (self.entry.room ≡ inner.room + 1)) }
-        ensures none { IfNone result (self.entry.room ≡ 0) }
+    pub fn inside(&self) -> Option<Source<'a>>
+        ensures some { IfSome result (λ inner. (inner.modules ≡ self.now.modules) × (inner.table ≡ self.now.table)
+            × (inner.inputs ≡ self.now.inputs) × (self.now.room ≡ inner.room + 1)) }
+        ensures none { IfNone result (self.now.room ≡ 0) }
     {
         let room = self.room.checked_sub(1)?;
         Some(Source {

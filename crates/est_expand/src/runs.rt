@@ -23,8 +23,9 @@ use est_names::NameSet;
 use std::alloc::Global;
 
 /// The module of this name.
-pub fn module_named<'a>(source: Source<'a>, name: &Name) -> Result<&'a Module, ExpandFault>
-    ensures { Answers (λ m. module_of m.now) result (module_named (program_in source.entry) name.now) }
+#[inline(never)]
+pub fn module_named<'a>(source: &Source<'a>, name: &Name) -> Result<&'a Module, ExpandFault>
+    ensures { Answers (λ m. module_of m.now) result (module_named (program_in source.now) name.now) }
 {
     match source.table.find(name.text.bytes()) {
         Some(module) => Ok(&source.modules[module.0 as usize]),
@@ -33,6 +34,7 @@ pub fn module_named<'a>(source: Source<'a>, name: &Name) -> Result<&'a Module, E
 }
 
 /// Enters the module of this name, unless the place stands in it already.
+#[inline(never)]
 pub fn enter<'a>(alloc: Global, chain: &mut NameSet<'a>, name: &'a Name) -> Result<(), ExpandFault>
     ensures { Answers (λ _. chain.new) result (chain_with chain.old name.now) }
 {
@@ -54,6 +56,7 @@ fn recursion(alloc: Global, chain: &NameSet, name: &Name) -> Result<ExpandFault,
 }
 
 /// The scope of the body of a module that is run with these renamings.
+#[inline(never)]
 pub fn module_scope<'a>(
     alloc: Global,
     scope: &Scope<'a>,

@@ -96,6 +96,7 @@ impl<'a> Scope<'a> {
     }
 
     /// Binds names to signals from this number on.
+    #[inline(never)]
     pub fn bind_all(&mut self, names: &[&'a [u8]], first: u32, input: bool) -> Result<(), NoMemory>
         requires { first + length names.now < 2 ^ 32 }
         ensures { OnOk result (self.new ≡ binding input (map (λ name. name.now) names.now) first self.old) }
@@ -109,6 +110,7 @@ impl<'a> Scope<'a> {
     }
 
     /// Takes so many nearest binders away.
+    #[inline(never)]
     pub fn unbind_all(&mut self, count: usize)
         ensures { self.new ≡ drop count self.old }
     {

@@ -40,6 +40,7 @@ impl<'a> Traps<'a> {
     }
 
     /// Enters a trap. More than 2^32 - 1 traps count as want of memory.
+    #[inline(never)]
     pub fn enter(&mut self, name: &'a [u8]) -> Result<(), NoMemory>
         ensures { OnOk result (self.new ≡ name.now ∷ self.old) }
     {
@@ -59,6 +60,7 @@ impl<'a> Traps<'a> {
     }
 
     /// Leaves the nearest trap, where there is one.
+    #[inline(never)]
     pub fn leave(&mut self)
         ensures { self.new ≡ drop 1 self.old }
     {
@@ -69,6 +71,7 @@ impl<'a> Traps<'a> {
     }
 
     /// How many traps stand between the place and the nearest trap of this name, if there is one.
+    #[inline(never)]
     pub fn place(&self, name: &[u8]) -> Option<u32>
         ensures { result ≡ traps_between name.now self.now }
     {

@@ -2,7 +2,7 @@ use Rattle.std.proofs.Common.{◌≡◌, ℕ, ◌+◌, ◌++◌, ◌∷◌, [], 
 use Rattle.std.proofs.lemmas.List.{map-append, at_drop_more}
 use Rattle.est_base.specs.declared.indices.SigId.{SigId}
 use Rattle.est_expand.specs.Flattening.{numbers}
-use Rattle.est_expand.proofs.walk.signals_from.Goals as goal
+use Rattle.est_expand.proofs.binders.signals_from.Goals as goal
 
 pub loop-name-preserved : goal.loop-name-preserved
 loop-name-preserved c =

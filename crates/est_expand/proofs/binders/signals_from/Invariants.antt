@@ -1,6 +1,6 @@
 use Rattle.std.proofs.Common.{◌≡◌, ◌+◌, ◌++◌, map, drop}
 use Rattle.est_expand.specs.Flattening.{numbers}
-use Rattle.est_expand.proofs.walk.signals_from.Given as goal
+use Rattle.est_expand.proofs.binders.signals_from.Given as goal
 
 -- the numbers so far, and those of the names that are left
 abbrev pub invariant-loop-name : goal.invariant-loop-name

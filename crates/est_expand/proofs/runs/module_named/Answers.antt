@@ -10,7 +10,7 @@ use Rattle.est_expand.proofs.runs.module_named.Goals as goal
 
 pub returns-in-Some : goal.returns-in-Some
 returns-in-Some c =
-    let source = c.args.source in
+    let source = c.args.source.now in
     let modules = source.modules.now in
     let m = c.index-source-module.result in
     let name = c.args.name.now in
@@ -21,7 +21,7 @@ returns-in-Some c =
 
 pub returns-in-None : goal.returns-in-None
 returns-in-None c = λ fault is.
-    let source = c.args.source in
+    let source = c.args.source.now in
     let name = c.args.name.now in
     let at = ap (place_of name.text) (sym source.named) ∙ ap (λ n. place_of n source.table.now.names) (sym c.bytes.ensures) ∙ sym c.in-None.ensures in
     let the : UnknownModule name.span ≡ fault = cc in
