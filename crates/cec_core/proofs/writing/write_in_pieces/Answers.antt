@@ -13,8 +13,9 @@ returns-in-Err-write-clause-out g c =
     let piece = subst (λ p. MatchOption p (old ≡ []) (λ piece. (0 < length piece.items) × (piece.items ≡ take 65536 old)))
     c.in-Ok-Some.field-0-is c.in-Ok-Some.ensures.piece in
     piece_stops 65536 _ old c.in-Ok-Some.piece.items _ _ _ _ _ _ c.loop-piece.invariant piece.1
-    (subst (λ t. Stops (g.O.Sink.told c.loop-piece.out) (g.O.Sink.told c.write.new.self)
-    (g.O.Sink.faults c.loop-piece.out) (g.O.Sink.faults c.write.new.self) t) c.deref.ensures.value c.in-Err-write.ensures)
+    (subst (λ t. Stops (g.O.Sink.told c.loop-piece.out) (g.O.Sink.told c.write.new.self) (g.O.Sink.faults c.loop-piece.out)
+    (g.O.Sink.faults c.write.new.self) t)
+    c.deref.ensures.value c.in-Err-write.ensures)
 
 pub loop-piece-smaller : goal.loop-piece-smaller
 loop-piece-smaller g c =
@@ -29,8 +30,9 @@ loop-piece-preserved g c =
     let piece = subst (λ p. MatchOption p (old ≡ []) (λ piece. (0 < length piece.items) × (piece.items ≡ take 65536 old)))
     c.in-Ok-Some.field-0-is c.in-Ok-Some.ensures.piece in
     one_piece_more 65536 _ old c.in-Ok-Some.piece.items _ _ _ _ _ _ _ c.loop-piece.invariant piece.1 c.in-Ok-Some.ensures.rest
-    (subst (λ t. Appends (g.O.Sink.told c.loop-piece.out) (g.O.Sink.told c.write.new.self)
-    (g.O.Sink.faults c.loop-piece.out) (g.O.Sink.faults c.write.new.self) t) c.deref.ensures.value c.in_default.ensures)
+    (subst (λ t. Appends (g.O.Sink.told c.loop-piece.out) (g.O.Sink.told c.write.new.self) (g.O.Sink.faults c.loop-piece.out)
+    (g.O.Sink.faults c.write.new.self) t)
+    c.deref.ensures.value c.in_default.ensures)
 
 pub returns-in-Ok-None-clause-out : goal.returns-in-Ok-None-clause-out
 returns-in-Ok-None-clause-out g c =
