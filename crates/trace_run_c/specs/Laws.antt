@@ -1,5 +1,5 @@
--- To believe: that a text with a fault describes no program, what the machine of a net's text answers, and that a run of
--- a program that is cut off leaves a prefix.
+-- To believe: that a text with a fault describes no program, what the machine of a net's text answers, and that a run
+-- of a program that is cut off leaves a prefix.
 use Rattle.std.specs.Prelude.{◌≡◌, ℕ, ◌≤◌, List, length, map, Option, Result}
 use Rattle.est_base.specs.declared.bounds.TheConstants.Limits.{TEXT_BYTES}
 use Rattle.est_base.specs.Items.{Item, EachEvent}
