@@ -24,7 +24,8 @@ run_steps-requires c =
     let wide = ap length (c.deref_mut-2.ensures.value ∙ begun) ∙ c.put_values.auto.values ∙ ap length c.deref_mut.ensures.value ∙ c.self.invariant.each_name in
     let steps = c.self.inside.plan.steps.items in
     subst (λ n. All (StepFits n) c.deref-2.result.now) (sym wide)
-    (subst (λ l. All (StepFits (length (declared p))) l) (sym c.deref-2.ensures.value) (steps-fit p c.self.invariant.names_fit steps c.self.invariant.plan.steps_are))
+    (subst (λ l. All (StepFits (length (declared p))) l) (sym c.deref-2.ensures.value)
+    (steps-fit p c.self.invariant.names_fit steps c.self.invariant.plan.steps_are))
 
 pub invariant_of-self : goal.invariant_of-self
 invariant_of-self c =
@@ -53,7 +54,8 @@ returns c =
     ∙ ap (λ l. put_all l inputs c.deref_mut.result.now) (c.deref.ensures.value ∙ plan.inputs_are)
     ∙ ap (put_all (map (slot_in (declared p)) (inputs_of p)) inputs) c.deref_mut.ensures.value in
     let after = ended ∙ c.run_steps.ensures ∙ ap (λ l. made l c.deref_mut-2.result.now) c.deref-2.ensures.value
-    ∙ steps-made (declared p) p.body c.self.inside.plan.steps.items plan.steps_are c.deref_mut-2.result.now ∙ ap (settled (map (step_of (declared p)) p.body)) start in
+    ∙ steps-made (declared p) p.body c.self.inside.plan.steps.items plan.steps_are c.deref_mut-2.result.now
+    ∙ ap (settled (map (step_of (declared p)) p.body)) start in
     let new = with_items (with_items c.self.inside.values c.put_values.new.values) c.run_steps.new.values in
     let answer = c.value_of.ensures ∙ value-is c.deref-5.result.now c.self.inside.plan.answer
     ∙ ap (λ v. slot_value v (slotted_of c.self.inside.plan.answer)) c.deref-5.ensures.value ∙ ap (slot_value new.items) plan.answer_is in
