@@ -1,5 +1,5 @@
 -- Inner: expressions whose names are resolved to slots: a declared variable has its place among the declared names.
-use Rattle.std.specs.Prelude.{◌≡◌, ℕ, Bool, true, false, not, ◌&&◌, ◌||◌, List, [], ◌∷◌, map}
+use Rattle.std.specs.Prelude.{ℕ, Bool, true, false, not, ◌&&◌, ◌||◌, List, [], ◌∷◌}
 use Rattle.csub_text.specs.Trees.{Expr, Exprs, NoExprs, MoreExprs}
 use Rattle.csub_text.specs.Trees as trees
 use Rattle.csub_text.specs.Views.{expr_of}

@@ -1,4 +1,4 @@
-use Rattle.std.proofs.Common.{List, ℕ, length, map, sym, ap, ◌∙◌, subst, Bor}
+use Rattle.std.proofs.Common.{List, ℕ, map, sym, ap, ◌∙◌, subst, Bor}
 use Rattle.std.proofs.lemmas.List.{length-map}
 use Rattle.csub_text.specs.Views.{expr_of}
 use Rattle.csub_run.specs.Runners.{slot_in}
