@@ -5,15 +5,20 @@ ghost use Rattle.est_kernel.specs.Plain.{term_of};
 ghost use Rattle.est_dismantle.specs.Choices.{choice_of};
 ghost use Rattle.est_dismantle.specs.FlatNodes.{stmt_kernel, node_kernel, part_kernel, stmts_kernels, choices};
 ghost use Rattle.est_dismantle.specs.FlatNodes.{case_choice, stmt_new, node_new, part_new, stmts_new, cases_new};
-ghost use Rattle.est_dismantle.specs.FlatNodes.{case_new, delay_new};
+ghost use Rattle.est_dismantle.specs.FlatNodes.{case_new};
 ghost use Rattle.est_dismantle.specs.MarkLists.{marks_of};
 
-use crate::choices::{Choice, chosen};
-use crate::events::{any_event, test_of};
+use crate::choices::Choice;
+use crate::derived as rows;
+use crate::events::test_of;
+use crate::forms::{
+    expand_abort, expand_abort_case, expand_await, expand_await_case, expand_every, expand_loop,
+    expand_loop_each, expand_par, expand_present, expand_present_case, expand_repeat, expand_seq,
+    expand_signal, expand_suspend, expand_trap, expand_weak_abort,
+};
 use crate::marks::{Marks, code};
-use crate::{derived as rows, terms};
-use est_ast::{FlatCase, FlatDelay, FlatForm, FlatStmt};
-use est_base::{NoMemory, SigId, Span};
+use est_ast::{FlatCase, FlatForm, FlatStmt};
+use est_base::{NoMemory, Span};
 use est_kernel::Kernel;
 use std::alloc::Global;
 
@@ -51,145 +56,34 @@ fn expand_form(
         FlatForm::Halt => Ok(rows::halting(alloc, at)?),
         FlatForm::Emit(signal) => Ok(Kernel::Emit(*signal)),
         FlatForm::Sustain(signal) => Ok(rows::sustaining(alloc, at, *signal)?),
-        FlatForm::Await(delay, rest) => match rest {
-            None => Ok(rows::awaiting_delay(alloc, at, delay)?),
-            Some(rest) => {
-                let rest = expand(alloc, rest, marks, next)?;
-                let first = rows::awaiting_delay(alloc, at, delay)?;
-                Ok(terms::sequence(alloc, first, rest)?)
-            }
-        },
-        FlatForm::AwaitCase(cases) => {
-            let choices = expand_cases(alloc, cases.as_slice(), marks, next)?;
-            let rest = chosen(alloc, choices, Kernel::Nothing)?;
-            let any = any_event(alloc, cases.as_slice())?;
-            let first = rows::awaiting(alloc, at, any)?;
-            Ok(terms::sequence(alloc, first, rest)?)
-        }
-        FlatForm::Present(test, yes, no) => {
-            let yes = expand_part(alloc, yes, marks, next)?;
-            let no = expand_part(alloc, no, marks, next)?;
-            let test = test_of(alloc, test)?;
-            Ok(terms::choice(alloc, test, yes, no)?)
-        }
-        FlatForm::PresentCase(cases, no) => {
-            let choices = expand_cases(alloc, cases.as_slice(), marks, next)?;
-            let no = expand_part(alloc, no, marks, next)?;
-            Ok(chosen(alloc, choices, no)?)
-        }
-        FlatForm::Loop(body) => {
-            let body = expand(alloc, body, marks, next)?;
-            Ok(terms::endless_loop(alloc, at, body)?)
-        }
-        FlatForm::LoopEach(body, delay) => {
-            let signal = new_signal(delay, next)?;
-            let body = expand(alloc, body, &Marks::New(marks), next)?;
-            Ok(rows::looping_each(alloc, at, delay, signal, body)?)
-        }
-        FlatForm::Every(delay, body) => {
-            let signal = new_signal(delay, next)?;
-            let body = expand(alloc, body, &Marks::New(marks), next)?;
-            let each = rows::looping_later(alloc, at, delay, signal, body)?;
-            let first = rows::awaiting_delay(alloc, at, delay)?;
-            Ok(terms::sequence(alloc, first, each)?)
-        }
-        FlatForm::Repeat(count, _, body) => {
-            let body = expand(alloc, body, marks, next)?;
-            Ok(terms::repeated(alloc, *count, body)?)
-        }
+        FlatForm::Await(delay, rest) => expand_await(alloc, at, delay, rest, marks, next),
+        FlatForm::AwaitCase(cases) => expand_await_case(alloc, at, cases, marks, next),
+        FlatForm::Present(test, yes, no) => expand_present(alloc, test, yes, no, marks, next),
+        FlatForm::PresentCase(cases, no) => expand_present_case(alloc, cases, no, marks, next),
+        FlatForm::Loop(body) => expand_loop(alloc, at, body, marks, next),
+        FlatForm::LoopEach(body, delay) => expand_loop_each(alloc, at, body, delay, marks, next),
+        FlatForm::Every(delay, body) => expand_every(alloc, at, delay, body, marks, next),
+        FlatForm::Repeat(count, _, body) => expand_repeat(alloc, *count, body, marks, next),
         FlatForm::Abort(body, delay, rest) => {
-            let signal = new_signal(delay, next)?;
-            let outer = Marks::New(marks);
-            match rest {
-                None => {
-                    let body = expand(alloc, body, &outer, next)?;
-                    Ok(rows::abortion(alloc, at, delay, signal, body)?)
-                }
-                Some(rest) => {
-                    let body = expand(alloc, body, &Marks::New(&outer), next)?;
-                    let rest = expand(alloc, rest, &outer, next)?;
-                    let body = rows::aborting_handled(alloc, at, delay, signal, body)?;
-                    Ok(rows::handled(alloc, body, rest)?)
-                }
-            }
+            expand_abort(alloc, at, body, delay, rest, marks, next)
         }
-        FlatForm::AbortCase(body, cases) => {
-            let outer = Marks::New(marks);
-            let body = expand(alloc, body, &Marks::New(&outer), next)?;
-            let choices = expand_cases(alloc, cases.as_slice(), &outer, next)?;
-            let rest = chosen(alloc, choices, Kernel::Nothing)?;
-            let any = any_event(alloc, cases.as_slice())?;
-            let body = rows::aborting(alloc, at, any, 3, body)?;
-            Ok(rows::handled(alloc, body, rest)?)
-        }
-        FlatForm::WeakAbort(body, delay) => {
-            let body = expand(alloc, body, &Marks::New(marks), next)?;
-            Ok(rows::aborting_weakly(alloc, at, delay, body)?)
-        }
-        FlatForm::Suspend(body, delay) => {
-            let body = expand(alloc, body, marks, next)?;
-            Ok(rows::suspension(alloc, at, delay, body)?)
-        }
-        FlatForm::Trap(body, handler) => match handler {
-            None => {
-                let body = expand(alloc, body, &Marks::Source(marks), next)?;
-                Ok(terms::trap(alloc, body)?)
-            }
-            Some(handler) => {
-                let outer = Marks::New(marks);
-                let body = expand(alloc, body, &Marks::Source(&outer), next)?;
-                let rest = expand(alloc, handler, &outer, next)?;
-                let body = terms::sequence(alloc, body, Kernel::Exit(3))?;
-                Ok(rows::handled(alloc, body, rest)?)
-            }
-        },
+        FlatForm::AbortCase(body, cases) => expand_abort_case(alloc, at, body, cases, marks, next),
+        FlatForm::WeakAbort(body, delay) => expand_weak_abort(alloc, at, body, delay, marks, next),
+        FlatForm::Suspend(body, delay) => expand_suspend(alloc, at, body, delay, marks, next),
+        FlatForm::Trap(body, handler) => expand_trap(alloc, body, handler, marks, next),
         FlatForm::Exit(between) => match code(marks, *between) {
             Some(code) => Ok(Kernel::Exit(code)),
             None => Err(NoMemory),
         },
-        FlatForm::Signal(signals, body) => {
-            let body = expand(alloc, body, marks, next)?;
-            Ok(rows::locals(alloc, signals.as_slice(), body)?)
-        }
-        FlatForm::Seq(parts) => {
-            let parts = expand_parts(alloc, parts.as_slice(), marks, next)?;
-            Ok(terms::sequence_of(alloc, parts)?)
-        }
-        FlatForm::Par(parts) => {
-            let parts = expand_parts(alloc, parts.as_slice(), marks, next)?;
-            Ok(terms::parallel_of(alloc, parts)?)
-        }
-    }
-}
-
-// The number of the next new signal, which an abortion by a count of 2 or more takes.
-#[tactic(auto, using(crate::proofs::KernelNodes::delay_rows))]
-fn new_signal(delay: &FlatDelay, next: &mut u32) -> Result<SigId, NoMemory>
-    ensures signal { IfOk result (λ s. s.0 ≡ next.old) }
-    ensures next { OnOk result (next.new ≡ next.old + delay_new delay.now) }
-{
-    let signal = SigId(*next);
-    match delay {
-        FlatDelay::Plain(_) => Ok(signal),
-        FlatDelay::Immediate(_) => Ok(signal),
-        FlatDelay::Count(count, _, _) => {
-            if *count <= 1 {
-                return Ok(signal);
-            }
-            match signal.0.checked_add(1) {
-                Some(number) => {
-                    *next = number;
-                    Ok(signal)
-                }
-                None => Err(NoMemory),
-            }
-        }
+        FlatForm::Signal(signals, body) => expand_signal(alloc, signals, body, marks, next),
+        FlatForm::Seq(parts) => expand_seq(alloc, parts, marks, next),
+        FlatForm::Par(parts) => expand_par(alloc, parts, marks, next),
     }
 }
 
 #[cycle(expansion)]
 #[tactic(auto, using(crate::proofs::KernelNodes::kernel_rows))]
-fn expand_part(
+pub(crate) fn expand_part(
     alloc: Global,
     part: &Option<Box<FlatStmt>>,
     marks: &Marks,
@@ -206,7 +100,7 @@ fn expand_part(
 
 #[cycle(expansion)]
 #[tactic(auto, using(crate::proofs::KernelNodes::kernel_rows))]
-fn expand_parts(
+pub(crate) fn expand_parts(
     alloc: Global,
     parts: &[FlatStmt],
     marks: &Marks,
@@ -224,7 +118,7 @@ fn expand_parts(
 
 #[cycle(expansion)]
 #[tactic(auto, using(crate::proofs::KernelNodes::kernel_rows))]
-fn expand_cases(
+pub(crate) fn expand_cases(
     alloc: Global,
     cases: &[FlatCase],
     marks: &Marks,

@@ -12,6 +12,7 @@ mod derived;
 mod events;
 mod expansion;
 mod extent;
+mod forms;
 mod laws;
 mod marks;
 mod measure;

@@ -1,5 +1,6 @@
 // The extent of an expansion, before the expansion is made.
 
+ghost use Rattle.est_ast.specs.declared.flat.FlatForm.TheVariants.{Await, AwaitCase};
 ghost use Rattle.est_dismantle.specs.Extents.{IsExtent};
 ghost use Rattle.est_dismantle.specs.FlatNodes.{stmt_measures, node_measures, part_node_measures, parts_measures};
 ghost use Rattle.est_dismantle.specs.FlatNodes.{chosen_measures, case_measures};
@@ -8,7 +9,7 @@ ghost use Rattle.est_dismantle.specs.Measures.{Measures};
 use crate::extent::Extent;
 use crate::measured_events::{any_event_extent, event_extent};
 use crate::measured_rows as rows;
-use est_ast::{FlatCase, FlatForm, FlatStmt};
+use est_ast::{FlatCase, FlatDelay, FlatForm, FlatStmt};
 
 /// That of the statement's kernel term.
 #[cycle(measuring)]
@@ -30,23 +31,15 @@ fn measure_form(form: &FlatForm) -> Extent
         FlatForm::Halt => Extent::leaf().over(),
         FlatForm::Emit(_) => Extent::leaf(),
         FlatForm::Sustain(_) => Extent::leaf().joined(Extent::leaf()).over(),
-        FlatForm::Await(delay, rest) => match rest {
-            None => rows::awaited_delay(delay),
-            Some(rest) => rows::awaited_delay(delay).joined(measure(rest)),
-        },
-        FlatForm::AwaitCase(cases) => {
-            let chosen = measure_cases(cases.as_slice(), Extent::leaf());
-            rows::awaited(any_event_extent(cases.as_slice())).joined(chosen)
-        }
+        FlatForm::Await(delay, rest) => measure_await(delay, rest),
+        FlatForm::AwaitCase(cases) => measure_await_case(cases),
         FlatForm::Present(test, yes, no) => {
             event_extent(test).tested(measure_part(yes), measure_part(no))
         }
         FlatForm::PresentCase(cases, no) => measure_cases(cases.as_slice(), measure_part(no)),
         FlatForm::Loop(body) => measure(body).over(),
         FlatForm::LoopEach(body, delay) => rows::each(delay, measure(body)),
-        FlatForm::Every(delay, body) => {
-            rows::awaited_delay(delay).joined(rows::each_later(delay, measure(body)))
-        }
+        FlatForm::Every(delay, body) => rows::every(delay, measure(body)),
         FlatForm::Repeat(count, _, body) => measure(body).copied(*count),
         FlatForm::Abort(body, delay, rest) => match rest {
             None => rows::abortion(delay, measure(body)),
@@ -70,6 +63,28 @@ fn measure_form(form: &FlatForm) -> Extent
         FlatForm::Seq(parts) => measure_parts(parts.as_slice()),
         FlatForm::Par(parts) => measure_parts(parts.as_slice()),
     }
+}
+
+// That of `await d`, and what stands behind it.
+#[cycle(measuring)]
+#[tactic(auto, using(crate::proofs::MeasuredNodes::node_extents))]
+fn measure_await(delay: &FlatDelay, rest: &Option<Box<FlatStmt>>) -> Extent
+    ensures { IsExtent result (node_measures (Await delay.now rest.now)) }
+{
+    match rest {
+        None => rows::awaited_delay(delay),
+        Some(rest) => rows::awaited_delay(delay).joined(measure(rest)),
+    }
+}
+
+// That of `await` of cases.
+#[cycle(measuring)]
+#[tactic(auto, using(crate::proofs::MeasuredNodes::node_extents))]
+fn measure_await_case(cases: &Vec<FlatCase>) -> Extent
+    ensures { IsExtent result (node_measures (AwaitCase cases.now)) }
+{
+    let chosen = measure_cases(cases.as_slice(), Extent::leaf());
+    rows::awaited(any_event_extent(cases.as_slice())).joined(chosen)
 }
 
 #[cycle(measuring)]

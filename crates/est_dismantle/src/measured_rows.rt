@@ -4,7 +4,7 @@ ghost use Rattle.est_ast.specs.FlatViews.{flat_delay_of};
 ghost use Rattle.est_dismantle.specs.Extents.{IsExtent};
 ghost use Rattle.est_dismantle.specs.Measures.{Measures, watched, awaited, awaited_delay, aborted, aborted_counted};
 ghost use Rattle.est_dismantle.specs.Measures.{aborted_later, tested_first, abortion_measures, handled_measures};
-ghost use Rattle.est_dismantle.specs.Measures.{each_measures, each_later_measures, weakly_measures};
+ghost use Rattle.est_dismantle.specs.Measures.{each_measures, each_later_measures, weakly_measures, joined};
 ghost use Rattle.est_dismantle.specs.Measures.{suspension_measures};
 
 use crate::extent::Extent;
@@ -121,8 +121,17 @@ pub(crate) fn each(delay: &FlatDelay, body: Extent) -> Extent
     abortion(delay, body.joined(halting)).over()
 }
 
-/// That of the loop in `every d do p end`.
-pub(crate) fn each_later(delay: &FlatDelay, body: Extent) -> Extent
+/// That of `every d do p end`.
+pub(crate) fn every(delay: &FlatDelay, body: Extent) -> Extent
+    ensures { (p : Measures) → IsExtent body p
+        → IsExtent result (joined (awaited_delay (flat_delay_of delay.now))
+        (each_later_measures (flat_delay_of delay.now) p)) }
+{
+    awaited_delay(delay).joined(each_later(delay, body))
+}
+
+// That of the loop in `every d do p end`.
+fn each_later(delay: &FlatDelay, body: Extent) -> Extent
     ensures { (p : Measures) → IsExtent body p
         → IsExtent result (each_later_measures (flat_delay_of delay.now) p) }
 {

@@ -1,4 +1,4 @@
-use Rattle.std.proofs.Common.{◌+◌, ◌-◌, length, arith, drop, sym}
+use Rattle.std.proofs.Common.{◌+◌, ◌-◌, length, arith, drop, refl, sym}
 use Rattle.est_dismantle.proofs.MeasuredNodes.{along, node-Await_written, node-Present, node-Every, node-Repeat, node-Abort_written, node-AbortCase}
 use Rattle.est_dismantle.proofs.MeasuredNodes.{node-Trap_written, parts-none, parts-last, parts-step, boxed, events_in, chosen_in, chosen-past, chosen-step}
 use Rattle.est_dismantle.proofs.MeasuredNodes.{case-missing, case-written}
@@ -11,8 +11,8 @@ measure_form-returns-in-Present t c =
 
 pub measure_form-returns-in-Every : goal.measure_form-returns-in-Every
 measure_form-returns-in-Every t c =
-    node-Every c.joined-in-Every.result c.args.form.now c.in-Every.delay c.in-Every.body c.in-Every.is
-    (c.joined-in-Every.ensures _ _ c.awaited_delay-in-Every.ensures (c.each_later.ensures _ (boxed _ _ _ c.deref-in-Every.ensures c.measure-in-Every.ensures)))
+    node-Every c.every.result c.args.form.now c.in-Every.delay c.in-Every.body c.in-Every.is
+    (c.every.ensures _ (boxed _ _ _ c.deref-in-Every.ensures c.measure-in-Every.ensures))
 
 pub measure_form-returns-in-Repeat : goal.measure_form-returns-in-Repeat
 measure_form-returns-in-Repeat t c =
@@ -24,7 +24,7 @@ measure_form-returns-in-AbortCase t c =
     node-AbortCase c.handled.result c.args.form.now c.in-AbortCase.body c.in-AbortCase.cases c.in-AbortCase.is
     (c.handled.ensures _ _ (c.aborted.ensures _ _ (events_in _ _ _ c.as_slice-in-AbortCase.ensures.value c.any_event_extent-any.ensures)
     (boxed _ _ _ c.deref-in-AbortCase.ensures c.measure-in-AbortCase.ensures))
-    (chosen_in _ _ _ _ c.as_slice-in-AbortCase-2.ensures.value (c.measure_cases-chosen-in-AbortCase.ensures _ c.leaf-in-AbortCase.ensures)))
+    (chosen_in _ _ _ _ c.as_slice-in-AbortCase-2.ensures.value (c.measure_cases-chosen.ensures _ c.leaf-in-AbortCase.ensures)))
 
 pub measure_case-returns-in-None : goal.measure_case-returns-in-None
 measure_case-returns-in-None t c = along _ _ _ (case-missing c.args.case.now c.in-None.is) c.leaf.ensures
@@ -61,17 +61,17 @@ measure_cases-loop-behind-preserved t c r h =
     (omega arith) c.index-cases-count.is)
     (c.tested-whole.ensures _ _ _ c.event_extent.ensures c.measure_case.ensures (c.loop-behind.invariant r h))
 
+pub measure_await-returns-in-Some : goal.measure_await-returns-in-Some
+measure_await-returns-in-Some t c =
+    node-Await_written c.joined.result _ c.args.delay.now c.args.rest.now c.in-Some.rest refl c.in-Some.is
+    (c.joined.ensures _ _ c.awaited_delay-in-Some.ensures (boxed _ _ _ c.deref.ensures c.measure.ensures))
+
 pub measure_form-returns-in-Some : goal.measure_form-returns-in-Some
 measure_form-returns-in-Some t c =
-    node-Await_written c.joined-in-Some.result c.args.form.now c.in-Await.delay c.in-Await.rest c.in-Some.rest c.in-Await.is c.in-Some.is
-    (c.joined-in-Some.ensures _ _ c.awaited_delay-in-Some.ensures (boxed _ _ _ c.deref.ensures c.measure.ensures))
-
-pub measure_form-returns-in-Some-rest : goal.measure_form-returns-in-Some-rest
-measure_form-returns-in-Some-rest t c =
-    node-Abort_written c.handled_abortion.result c.args.form.now c.in-Abort.body c.in-Abort.delay c.in-Abort.rest c.in-Some-rest.rest c.in-Abort.is
-    c.in-Some-rest.is
-    (c.handled_abortion.ensures _ _ (boxed _ _ _ c.deref-in-Some-rest.ensures c.measure-in-Some-rest.ensures)
-    (boxed _ _ _ c.deref-in-Some-rest-2.ensures c.measure-in-Some-rest-2.ensures))
+    node-Abort_written c.handled_abortion.result c.args.form.now c.in-Abort.body c.in-Abort.delay c.in-Abort.rest c.in-Some.rest c.in-Abort.is
+    c.in-Some.is
+    (c.handled_abortion.ensures _ _ (boxed _ _ _ c.deref-in-Some.ensures c.measure-in-Some.ensures)
+    (boxed _ _ _ c.deref-in-Some-2.ensures c.measure-in-Some-2.ensures))
 
 pub measure_form-returns-in-Some-handler : goal.measure_form-returns-in-Some-handler
 measure_form-returns-in-Some-handler t c =

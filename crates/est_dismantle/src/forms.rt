@@ -1,0 +1,403 @@
+// The kernel terms of statements with parts, a function for each form: statements stand in one another up to the limit
+// on depths, and an expansion keeps on the stack what one form needs and no other's. So none is inlined into the
+// function that chooses among them. Each takes its parts as the form holds them, boxes and lists, so that its contract
+// can name the form.
+
+ghost use Rattle.std.specs.Prelude.{◌≡◌, ◌+◌, IfOk, OnOk};
+ghost use Rattle.est_base.specs.declared.place.Span.{Span as CodeSpan};
+ghost use Rattle.est_ast.specs.declared.flat.FlatForm.TheVariants.{Await, AwaitCase, Present, PresentCase, Loop};
+ghost use Rattle.est_ast.specs.declared.flat.FlatForm.TheVariants.{LoopEach, Every, Repeat, Abort, AbortCase};
+ghost use Rattle.est_ast.specs.declared.flat.FlatForm.TheVariants.{WeakAbort, Suspend, Trap, Signal, Seq, Par};
+ghost use Rattle.est_kernel.specs.Plain.{term_of};
+ghost use Rattle.est_dismantle.specs.FlatNodes.{node_kernel, node_new, delay_new};
+ghost use Rattle.est_dismantle.specs.MarkLists.{marks_of};
+
+use crate::choices::chosen;
+use crate::events::{any_event, test_of};
+use crate::expansion::{expand, expand_cases, expand_part, expand_parts};
+use crate::marks::Marks;
+use crate::{derived as rows, terms};
+use est_ast::{FlatCase, FlatDelay, FlatExpr, FlatStmt};
+use est_base::{NoMemory, SigId, Span};
+use est_kernel::Kernel;
+use std::alloc::Global;
+
+/// `await d`, and what stands behind it.
+#[cycle(expansion)]
+#[inline(never)]
+#[tactic(auto, using(crate::proofs::KernelNodes::kernel_rows))]
+pub(crate) fn expand_await(
+    alloc: Global,
+    at: Span,
+    delay: &FlatDelay,
+    rest: &Option<Box<FlatStmt>>,
+    marks: &Marks,
+    next: &mut u32,
+) -> Result<Kernel, NoMemory>
+    ensures term { IfOk result (λ k. term_of k
+        ≡ node_kernel (marks_of marks.now) next.old at (Await delay.now rest.now)) }
+    ensures next { OnOk result (next.new ≡ next.old + node_new (Await delay.now rest.now)) }
+{
+    match rest {
+        None => Ok(rows::awaiting_delay(alloc, at, delay)?),
+        Some(rest) => {
+            let rest = expand(alloc, rest, marks, next)?;
+            let first = rows::awaiting_delay(alloc, at, delay)?;
+            Ok(terms::sequence(alloc, first, rest)?)
+        }
+    }
+}
+
+/// `await` of cases.
+#[cycle(expansion)]
+#[inline(never)]
+#[tactic(auto, using(crate::proofs::KernelNodes::kernel_rows))]
+pub(crate) fn expand_await_case(
+    alloc: Global,
+    at: Span,
+    cases: &Vec<FlatCase>,
+    marks: &Marks,
+    next: &mut u32,
+) -> Result<Kernel, NoMemory>
+    ensures term { IfOk result (λ k. term_of k
+        ≡ node_kernel (marks_of marks.now) next.old at (AwaitCase cases.now)) }
+    ensures next { OnOk result (next.new ≡ next.old + node_new (AwaitCase cases.now)) }
+{
+    let choices = expand_cases(alloc, cases.as_slice(), marks, next)?;
+    let rest = chosen(alloc, choices, Kernel::Nothing)?;
+    let any = any_event(alloc, cases.as_slice())?;
+    let first = rows::awaiting(alloc, at, any)?;
+    Ok(terms::sequence(alloc, first, rest)?)
+}
+
+/// `present e`, and its two parts.
+#[cycle(expansion)]
+#[inline(never)]
+#[tactic(auto, using(crate::proofs::KernelNodes::kernel_rows))]
+pub(crate) fn expand_present(
+    alloc: Global,
+    test: &FlatExpr,
+    yes: &Option<Box<FlatStmt>>,
+    no: &Option<Box<FlatStmt>>,
+    marks: &Marks,
+    next: &mut u32,
+) -> Result<Kernel, NoMemory>
+    ensures term { (at : CodeSpan) → IfOk result (λ k. term_of k
+        ≡ node_kernel (marks_of marks.now) next.old at (Present test.now yes.now no.now)) }
+    ensures next { OnOk result (next.new ≡ next.old + node_new (Present test.now yes.now no.now)) }
+{
+    let yes = expand_part(alloc, yes, marks, next)?;
+    let no = expand_part(alloc, no, marks, next)?;
+    let test = test_of(alloc, test)?;
+    Ok(terms::choice(alloc, test, yes, no)?)
+}
+
+/// `present` of cases, and the part behind `else`.
+#[cycle(expansion)]
+#[inline(never)]
+#[tactic(auto, using(crate::proofs::KernelNodes::kernel_rows))]
+pub(crate) fn expand_present_case(
+    alloc: Global,
+    cases: &Vec<FlatCase>,
+    no: &Option<Box<FlatStmt>>,
+    marks: &Marks,
+    next: &mut u32,
+) -> Result<Kernel, NoMemory>
+    ensures term { (at : CodeSpan) → IfOk result (λ k. term_of k
+        ≡ node_kernel (marks_of marks.now) next.old at (PresentCase cases.now no.now)) }
+    ensures next { OnOk result (next.new ≡ next.old + node_new (PresentCase cases.now no.now)) }
+{
+    let choices = expand_cases(alloc, cases.as_slice(), marks, next)?;
+    let no = expand_part(alloc, no, marks, next)?;
+    Ok(chosen(alloc, choices, no)?)
+}
+
+/// `loop p end`.
+#[cycle(expansion)]
+#[inline(never)]
+#[tactic(auto, using(crate::proofs::KernelNodes::kernel_rows))]
+pub(crate) fn expand_loop(
+    alloc: Global,
+    at: Span,
+    body: &Box<FlatStmt>,
+    marks: &Marks,
+    next: &mut u32,
+) -> Result<Kernel, NoMemory>
+    ensures term { IfOk result (λ k. term_of k
+        ≡ node_kernel (marks_of marks.now) next.old at (Loop body.now)) }
+    ensures next { OnOk result (next.new ≡ next.old + node_new (Loop body.now)) }
+{
+    let body = expand(alloc, body, marks, next)?;
+    Ok(terms::endless_loop(alloc, at, body)?)
+}
+
+/// `loop p each d`.
+#[cycle(expansion)]
+#[inline(never)]
+#[tactic(auto, using(crate::proofs::KernelNodes::kernel_rows))]
+pub(crate) fn expand_loop_each(
+    alloc: Global,
+    at: Span,
+    body: &Box<FlatStmt>,
+    delay: &FlatDelay,
+    marks: &Marks,
+    next: &mut u32,
+) -> Result<Kernel, NoMemory>
+    ensures term { IfOk result (λ k. term_of k
+        ≡ node_kernel (marks_of marks.now) next.old at (LoopEach body.now delay.now)) }
+    ensures next { OnOk result (next.new ≡ next.old + node_new (LoopEach body.now delay.now)) }
+{
+    let signal = new_signal(delay, next)?;
+    let body = expand(alloc, body, &Marks::New(marks), next)?;
+    Ok(rows::looping_each(alloc, at, delay, signal, body)?)
+}
+
+/// `every d do p end`.
+#[cycle(expansion)]
+#[inline(never)]
+#[tactic(auto, using(crate::proofs::KernelNodes::kernel_rows))]
+pub(crate) fn expand_every(
+    alloc: Global,
+    at: Span,
+    delay: &FlatDelay,
+    body: &Box<FlatStmt>,
+    marks: &Marks,
+    next: &mut u32,
+) -> Result<Kernel, NoMemory>
+    ensures term { IfOk result (λ k. term_of k
+        ≡ node_kernel (marks_of marks.now) next.old at (Every delay.now body.now)) }
+    ensures next { OnOk result (next.new ≡ next.old + node_new (Every delay.now body.now)) }
+{
+    let signal = new_signal(delay, next)?;
+    let body = expand(alloc, body, &Marks::New(marks), next)?;
+    let each = rows::looping_later(alloc, at, delay, signal, body)?;
+    let first = rows::awaiting_delay(alloc, at, delay)?;
+    Ok(terms::sequence(alloc, first, each)?)
+}
+
+/// `repeat n times p end`.
+#[cycle(expansion)]
+#[inline(never)]
+#[tactic(auto, using(crate::proofs::KernelNodes::kernel_rows))]
+pub(crate) fn expand_repeat(
+    alloc: Global,
+    count: u128,
+    body: &Box<FlatStmt>,
+    marks: &Marks,
+    next: &mut u32,
+) -> Result<Kernel, NoMemory>
+    ensures term { (at span : CodeSpan) → IfOk result (λ k. term_of k
+        ≡ node_kernel (marks_of marks.now) next.old at (Repeat count span body.now)) }
+    ensures next { (span : CodeSpan) → OnOk result (next.new ≡ next.old + node_new (Repeat count span body.now)) }
+{
+    let body = expand(alloc, body, marks, next)?;
+    Ok(terms::repeated(alloc, count, body)?)
+}
+
+/// `abort p when d`, and what stands behind it.
+#[cycle(expansion)]
+#[inline(never)]
+#[tactic(auto, using(crate::proofs::KernelNodes::kernel_rows))]
+pub(crate) fn expand_abort(
+    alloc: Global,
+    at: Span,
+    body: &Box<FlatStmt>,
+    delay: &FlatDelay,
+    rest: &Option<Box<FlatStmt>>,
+    marks: &Marks,
+    next: &mut u32,
+) -> Result<Kernel, NoMemory>
+    ensures term { IfOk result (λ k. term_of k
+        ≡ node_kernel (marks_of marks.now) next.old at (Abort body.now delay.now rest.now)) }
+    ensures next { OnOk result (next.new ≡ next.old + node_new (Abort body.now delay.now rest.now)) }
+{
+    let signal = new_signal(delay, next)?;
+    let outer = Marks::New(marks);
+    match rest {
+        None => {
+            let body = expand(alloc, body, &outer, next)?;
+            Ok(rows::abortion(alloc, at, delay, signal, body)?)
+        }
+        Some(rest) => {
+            let body = expand(alloc, body, &Marks::New(&outer), next)?;
+            let rest = expand(alloc, rest, &outer, next)?;
+            let body = rows::aborting_handled(alloc, at, delay, signal, body)?;
+            Ok(rows::handled(alloc, body, rest)?)
+        }
+    }
+}
+
+/// `abort p when` one of these cases.
+#[cycle(expansion)]
+#[inline(never)]
+#[tactic(auto, using(crate::proofs::KernelNodes::kernel_rows))]
+pub(crate) fn expand_abort_case(
+    alloc: Global,
+    at: Span,
+    body: &Box<FlatStmt>,
+    cases: &Vec<FlatCase>,
+    marks: &Marks,
+    next: &mut u32,
+) -> Result<Kernel, NoMemory>
+    ensures term { IfOk result (λ k. term_of k
+        ≡ node_kernel (marks_of marks.now) next.old at (AbortCase body.now cases.now)) }
+    ensures next { OnOk result (next.new ≡ next.old + node_new (AbortCase body.now cases.now)) }
+{
+    let outer = Marks::New(marks);
+    let body = expand(alloc, body, &Marks::New(&outer), next)?;
+    let choices = expand_cases(alloc, cases.as_slice(), &outer, next)?;
+    let rest = chosen(alloc, choices, Kernel::Nothing)?;
+    let any = any_event(alloc, cases.as_slice())?;
+    let body = rows::aborting(alloc, at, any, 3, body)?;
+    Ok(rows::handled(alloc, body, rest)?)
+}
+
+/// `weak abort p when d`.
+#[cycle(expansion)]
+#[inline(never)]
+#[tactic(auto, using(crate::proofs::KernelNodes::kernel_rows))]
+pub(crate) fn expand_weak_abort(
+    alloc: Global,
+    at: Span,
+    body: &Box<FlatStmt>,
+    delay: &FlatDelay,
+    marks: &Marks,
+    next: &mut u32,
+) -> Result<Kernel, NoMemory>
+    ensures term { IfOk result (λ k. term_of k
+        ≡ node_kernel (marks_of marks.now) next.old at (WeakAbort body.now delay.now)) }
+    ensures next { OnOk result (next.new ≡ next.old + node_new (WeakAbort body.now delay.now)) }
+{
+    let body = expand(alloc, body, &Marks::New(marks), next)?;
+    Ok(rows::aborting_weakly(alloc, at, delay, body)?)
+}
+
+/// `suspend p when d`.
+#[cycle(expansion)]
+#[inline(never)]
+#[tactic(auto, using(crate::proofs::KernelNodes::kernel_rows))]
+pub(crate) fn expand_suspend(
+    alloc: Global,
+    at: Span,
+    body: &Box<FlatStmt>,
+    delay: &FlatDelay,
+    marks: &Marks,
+    next: &mut u32,
+) -> Result<Kernel, NoMemory>
+    ensures term { IfOk result (λ k. term_of k
+        ≡ node_kernel (marks_of marks.now) next.old at (Suspend body.now delay.now)) }
+    ensures next { OnOk result (next.new ≡ next.old + node_new (Suspend body.now delay.now)) }
+{
+    let body = expand(alloc, body, marks, next)?;
+    Ok(rows::suspension(alloc, at, delay, body)?)
+}
+
+/// `trap T in p end`, and what handles it.
+#[cycle(expansion)]
+#[inline(never)]
+#[tactic(auto, using(crate::proofs::KernelNodes::kernel_rows))]
+pub(crate) fn expand_trap(
+    alloc: Global,
+    body: &Box<FlatStmt>,
+    handler: &Option<Box<FlatStmt>>,
+    marks: &Marks,
+    next: &mut u32,
+) -> Result<Kernel, NoMemory>
+    ensures term { (at : CodeSpan) → IfOk result (λ k. term_of k
+        ≡ node_kernel (marks_of marks.now) next.old at (Trap body.now handler.now)) }
+    ensures next { OnOk result (next.new ≡ next.old + node_new (Trap body.now handler.now)) }
+{
+    match handler {
+        None => {
+            let body = expand(alloc, body, &Marks::Source(marks), next)?;
+            Ok(terms::trap(alloc, body)?)
+        }
+        Some(handler) => {
+            let outer = Marks::New(marks);
+            let body = expand(alloc, body, &Marks::Source(&outer), next)?;
+            let rest = expand(alloc, handler, &outer, next)?;
+            let body = terms::sequence(alloc, body, Kernel::Exit(3))?;
+            Ok(rows::handled(alloc, body, rest)?)
+        }
+    }
+}
+
+/// `signal S in p end`.
+#[cycle(expansion)]
+#[inline(never)]
+#[tactic(auto, using(crate::proofs::KernelNodes::kernel_rows))]
+pub(crate) fn expand_signal(
+    alloc: Global,
+    signals: &Vec<SigId>,
+    body: &Box<FlatStmt>,
+    marks: &Marks,
+    next: &mut u32,
+) -> Result<Kernel, NoMemory>
+    ensures term { (at : CodeSpan) → IfOk result (λ k. term_of k
+        ≡ node_kernel (marks_of marks.now) next.old at (Signal signals.now body.now)) }
+    ensures next { OnOk result (next.new ≡ next.old + node_new (Signal signals.now body.now)) }
+{
+    let body = expand(alloc, body, marks, next)?;
+    Ok(rows::locals(alloc, signals.as_slice(), body)?)
+}
+
+/// Statements one after another.
+#[cycle(expansion)]
+#[inline(never)]
+#[tactic(auto, using(crate::proofs::KernelNodes::kernel_rows))]
+pub(crate) fn expand_seq(
+    alloc: Global,
+    parts: &Vec<FlatStmt>,
+    marks: &Marks,
+    next: &mut u32,
+) -> Result<Kernel, NoMemory>
+    ensures term { (at : CodeSpan) → IfOk result (λ k. term_of k
+        ≡ node_kernel (marks_of marks.now) next.old at (Seq parts.now)) }
+    ensures next { OnOk result (next.new ≡ next.old + node_new (Seq parts.now)) }
+{
+    let parts = expand_parts(alloc, parts.as_slice(), marks, next)?;
+    Ok(terms::sequence_of(alloc, parts)?)
+}
+
+/// Statements beside one another.
+#[cycle(expansion)]
+#[inline(never)]
+#[tactic(auto, using(crate::proofs::KernelNodes::kernel_rows))]
+pub(crate) fn expand_par(
+    alloc: Global,
+    parts: &Vec<FlatStmt>,
+    marks: &Marks,
+    next: &mut u32,
+) -> Result<Kernel, NoMemory>
+    ensures term { (at : CodeSpan) → IfOk result (λ k. term_of k
+        ≡ node_kernel (marks_of marks.now) next.old at (Par parts.now)) }
+    ensures next { OnOk result (next.new ≡ next.old + node_new (Par parts.now)) }
+{
+    let parts = expand_parts(alloc, parts.as_slice(), marks, next)?;
+    Ok(terms::parallel_of(alloc, parts)?)
+}
+
+// The number of the next new signal, which an abortion by a count of 2 or more takes.
+#[tactic(auto, using(crate::proofs::KernelNodes::delay_rows))]
+fn new_signal(delay: &FlatDelay, next: &mut u32) -> Result<SigId, NoMemory>
+    ensures signal { IfOk result (λ s. s.0 ≡ next.old) }
+    ensures next { OnOk result (next.new ≡ next.old + delay_new delay.now) }
+{
+    let signal = SigId(*next);
+    match delay {
+        FlatDelay::Plain(_) => Ok(signal),
+        FlatDelay::Immediate(_) => Ok(signal),
+        FlatDelay::Count(count, _, _) => {
+            if *count <= 1 {
+                return Ok(signal);
+            }
+            match signal.0.checked_add(1) {
+                Some(number) => {
+                    *next = number;
+                    Ok(signal)
+                }
+                None => Err(NoMemory),
+            }
+        }
+    }
+}
