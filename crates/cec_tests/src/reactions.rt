@@ -10,14 +10,14 @@ use std::str;
 use std::test::Fail;
 
 // A source, a list of events, each with the names of the inputs that are present, and the lines of its answers.
-type Worked = (
+pub(crate) type Worked = (
     &'static str,
     &'static [&'static str],
     &'static [&'static str],
 );
 
 // Statements of the kernel.
-const KERNEL: [Worked; 9] = [
+pub(crate) const KERNEL: [Worked; 9] = [
     (
         "module M: nothing end module",
         &["", ""],
@@ -72,7 +72,7 @@ const KERNEL: [Worked; 9] = [
 ];
 
 // Statements that stand for others.
-const DERIVED: [Worked; 12] = [
+pub(crate) const DERIVED: [Worked; 12] = [
     // In the last instant the strong abort wins over the emission that B alone would bring.
     (
         "% Berry's ABRO\nmodule ABRO: input A, B, R; output O; loop [await A || await B]; emit O each R end module",

@@ -1,0 +1,10 @@
+-- Inner: what a graph's reactions ask of a compiled program.
+use Rattle.est_kernel.specs.Plain.{program_of}
+use Rattle.est_kernel.specs.StaticCodes.{NoInstantLoop}
+use Rattle.cec_core.specs.Compiling.{IsCompiled}
+use Rattle.cec_core.specs.declared.compiler.Compiled.{Compiled}
+
+-- the program of the graph was compiled, and none of its loops is instantaneous
+pub record IsAnyCompiled (c : Compiled) : Type 0 where
+  pub no_loop : NoInstantLoop (program_of c.graph.program).body
+  pub compiled : IsCompiled c (program_of c.graph.program)
