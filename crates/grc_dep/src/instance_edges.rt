@@ -16,8 +16,8 @@ use crate::lookups::Lookups;
 use crate::names::Name;
 use crate::part_edges::push_own_ends;
 use crate::parts::{Part, part_at};
-use crate::statuses::{push_emission, status_name};
-use crate::tested::{push_present, push_suspend};
+use crate::statuses::{BoundTest, push_emission, status_name};
+use crate::tested::{Branches, push_present, push_suspend};
 use est_base::{NoMemory, SigId, WireId};
 use est_kernel::{Codes, Kernel};
 use grc_graph::{Binding, Instance, Layer, Statement};
@@ -52,13 +52,14 @@ pub fn push_edges_at(
         Kernel::Present(test, yes, no) => {
             let yes = part_at(codes, yes, next);
             let no = part_at(codes, no, second);
-            push_present(
-                alloc, lookups, &whole, test, bindings, &yes, &no, layer, pairs,
-            )
+            let test = BoundTest { test, bindings };
+            let branches = Branches { yes, no };
+            push_present(alloc, lookups, &whole, &test, &branches, layer, pairs)
         }
         Kernel::Suspend(test, part) => {
             let part = part_at(codes, part, next);
-            push_suspend(alloc, lookups, &whole, test, bindings, &part, layer, pairs)
+            let test = BoundTest { test, bindings };
+            push_suspend(alloc, lookups, &whole, &test, &part, layer, pairs)
         }
         Kernel::Seq(left, right) => {
             let left = part_at(codes, left, next);

@@ -49,28 +49,35 @@ pub fn push_emission(
     }
 }
 
-// From each status wire that a test reads, where a condition holds. The bindings are those of its signals, in order.
+// A test with the bindings of its signals, in order.
+#[derive(Clone, Copy)]
+pub struct BoundTest<'a> {
+    pub test: &'a Test,
+    pub bindings: &'a [Binding],
+}
+
+// From each status wire that a test reads, where a condition holds.
 pub fn push_test_if(
     alloc: Global,
     lookups: &Lookups,
     holds: bool,
-    test: &Test,
-    bindings: &[Binding],
+    test: &BoundTest,
     layer: Layer,
     to: Name,
     pairs: &mut Vec<(WireId, WireId)>,
 ) -> Result<(), NoMemory>
-    requires { length bindings.now ≡ length (signals_in (expression_of test.now)) }
-    ensures { OnOk result ((B : Scope) → map binding_of bindings.now ≡ map B (signals_in (expression_of test.now))
+    requires { length test.now.bindings.now ≡ length (signals_in (expression_of test.now.test.now)) }
+    ensures { OnOk result ((B : Scope)
+        → map binding_of test.now.bindings.now ≡ map B (signals_in (expression_of test.now.test.now))
         → pairs.new.items ≡ pairs.old.items ++ found_by lookups.now
-        (edges_if holds (test_to B (expression_of test.now) (layer_of layer) (wire_named to)))) }
+        (edges_if holds (test_to B (expression_of test.now.test.now) (layer_of layer) (wire_named to)))) }
 {
     if !holds {
         return Ok(());
     }
     let mut signals = Vec::new(alloc);
-    list_signals(test, &mut signals)?;
-    push_statuses(lookups, &signals, bindings, layer, to, pairs)
+    list_signals(test.test, &mut signals)?;
+    push_statuses(lookups, &signals, test.bindings, layer, to, pairs)
 }
 
 // Appends the signals of a test.

@@ -17,36 +17,42 @@ use crate::lookups::Lookups;
 use crate::names::Name;
 use crate::part_edges::{push_ends_if, push_go_to_part};
 use crate::parts::Part;
-use crate::statuses::push_test_if;
+use crate::statuses::{BoundTest, push_test_if};
 use est_base::{NoMemory, PathId, WireId};
-use est_kernel::Test;
-use grc_graph::{Binding, Instance, Layer};
+use grc_graph::{Instance, Layer};
 use std::alloc::Global;
+
+// The branches of a test of signals.
+#[derive(Clone, Copy)]
+pub struct Branches<'a> {
+    pub yes: Part<'a>,
+    pub no: Part<'a>,
+}
 
 // The edges at a test of signals.
 pub fn push_present(
     alloc: Global,
     lookups: &Lookups,
     whole: &Part,
-    test: &Test,
-    bindings: &[Binding],
-    yes: &Part,
-    no: &Part,
+    test: &BoundTest,
+    branches: &Branches,
     layer: Layer,
     pairs: &mut Vec<(WireId, WireId)>,
 ) -> Result<(), NoMemory>
-    requires bindings { length bindings.now ≡ length (signals_in (expression_of test.now)) }
-    requires first { yes.now.path.0 ≡ whole.now.path.0 + 1 }
-    requires second { no.now.path.0 ≡ whole.now.path.0 + 1 + statement_count (term_of yes.now.body.now) }
-    ensures { OnOk result ((B : Scope) → map binding_of bindings.now ≡ map B (signals_in (expression_of test.now))
+    requires bindings { length test.now.bindings.now ≡ length (signals_in (expression_of test.now.test.now)) }
+    requires first { branches.now.yes.path.0 ≡ whole.now.path.0 + 1 }
+    requires second { branches.now.no.path.0
+        ≡ whole.now.path.0 + 1 + statement_count (term_of branches.now.yes.body.now) }
+    ensures { OnOk result ((B : Scope)
+        → map binding_of test.now.bindings.now ≡ map B (signals_in (expression_of test.now.test.now))
         → pairs.new.items ≡ pairs.old.items ++ found_by lookups.now
-        (edges_at B (Present (expression_of test.now) (term_of yes.now.body.now) (term_of no.now.body.now))
-        whole.now.path.0 (layer_of layer))) }
+        (edges_at B (Present (expression_of test.now.test.now) (term_of branches.now.yes.body.now)
+        (term_of branches.now.no.body.now)) whole.now.path.0 (layer_of layer))) }
 {
     match layer {
-        Layer::Resumed => push_resumed_present(lookups, whole, yes, no, pairs),
+        Layer::Resumed => push_resumed_present(lookups, whole, &branches.yes, &branches.no, pairs),
         Layer::Started(root) => {
-            push_started_present(alloc, lookups, whole, test, bindings, yes, no, root, pairs)
+            push_started_present(alloc, lookups, whole, test, branches, root, pairs)
         }
     }
 }
@@ -76,22 +82,24 @@ fn push_started_present(
     alloc: Global,
     lookups: &Lookups,
     whole: &Part,
-    test: &Test,
-    bindings: &[Binding],
-    yes: &Part,
-    no: &Part,
+    test: &BoundTest,
+    branches: &Branches,
     root: PathId,
     pairs: &mut Vec<(WireId, WireId)>,
 ) -> Result<(), NoMemory>
-    requires bindings { length bindings.now ≡ length (signals_in (expression_of test.now)) }
-    requires first { yes.now.path.0 ≡ whole.now.path.0 + 1 }
-    requires second { no.now.path.0 ≡ whole.now.path.0 + 1 + statement_count (term_of yes.now.body.now) }
-    ensures { OnOk result ((B : Scope) → map binding_of bindings.now ≡ map B (signals_in (expression_of test.now))
+    requires bindings { length test.now.bindings.now ≡ length (signals_in (expression_of test.now.test.now)) }
+    requires first { branches.now.yes.path.0 ≡ whole.now.path.0 + 1 }
+    requires second { branches.now.no.path.0
+        ≡ whole.now.path.0 + 1 + statement_count (term_of branches.now.yes.body.now) }
+    ensures { OnOk result ((B : Scope)
+        → map binding_of test.now.bindings.now ≡ map B (signals_in (expression_of test.now.test.now))
         → pairs.new.items ≡ pairs.old.items ++ found_by lookups.now
-        (edges_at B (Present (expression_of test.now) (term_of yes.now.body.now) (term_of no.now.body.now))
-        whole.now.path.0 (Started root.0))) }
+        (edges_at B (Present (expression_of test.now.test.now) (term_of branches.now.yes.body.now)
+        (term_of branches.now.no.body.now)) whole.now.path.0 (Started root.0))) }
 {
     let layer = Layer::Started(root);
+    let yes = &branches.yes;
+    let no = &branches.no;
     let to_yes = Name::Go(Instance {
         path: yes.path,
         layer,
@@ -102,8 +110,8 @@ fn push_started_present(
     });
     push_go_to_part(lookups, whole, yes, layer, pairs)?;
     push_go_to_part(lookups, whole, no, layer, pairs)?;
-    push_test_if(alloc, lookups, true, test, bindings, layer, to_yes, pairs)?;
-    push_test_if(alloc, lookups, true, test, bindings, layer, to_no, pairs)?;
+    push_test_if(alloc, lookups, true, test, layer, to_yes, pairs)?;
+    push_test_if(alloc, lookups, true, test, layer, to_no, pairs)?;
     push_ends_if(lookups, true, yes, layer, whole, layer, pairs)?;
     push_ends_if(lookups, true, no, layer, whole, layer, pairs)
 }
@@ -113,22 +121,23 @@ pub fn push_suspend(
     alloc: Global,
     lookups: &Lookups,
     whole: &Part,
-    test: &Test,
-    bindings: &[Binding],
+    test: &BoundTest,
     part: &Part,
     layer: Layer,
     pairs: &mut Vec<(WireId, WireId)>,
 ) -> Result<(), NoMemory>
-    requires whole { term_of whole.now.body.now ≡ Suspend (expression_of test.now) (term_of part.now.body.now) }
-    requires bindings { length bindings.now ≡ length (signals_in (expression_of test.now)) }
+    requires whole { term_of whole.now.body.now
+        ≡ Suspend (expression_of test.now.test.now) (term_of part.now.body.now) }
+    requires bindings { length test.now.bindings.now ≡ length (signals_in (expression_of test.now.test.now)) }
     requires first { part.now.path.0 ≡ whole.now.path.0 + 1 }
-    ensures { OnOk result ((B : Scope) → map binding_of bindings.now ≡ map B (signals_in (expression_of test.now))
+    ensures { OnOk result ((B : Scope)
+        → map binding_of test.now.bindings.now ≡ map B (signals_in (expression_of test.now.test.now))
         → pairs.new.items ≡ pairs.old.items ++ found_by lookups.now
-        (edges_at B (Suspend (expression_of test.now) (term_of part.now.body.now)) whole.now.path.0
+        (edges_at B (Suspend (expression_of test.now.test.now) (term_of part.now.body.now)) whole.now.path.0
         (layer_of layer))) }
 {
     match layer {
-        Layer::Resumed => push_resumed_suspend(alloc, lookups, whole, test, bindings, part, pairs),
+        Layer::Resumed => push_resumed_suspend(alloc, lookups, whole, test, part, pairs),
         Layer::Started(root) => push_started_suspend(lookups, whole, part, root, pairs),
     }
 }
@@ -138,17 +147,18 @@ fn push_resumed_suspend(
     alloc: Global,
     lookups: &Lookups,
     whole: &Part,
-    test: &Test,
-    bindings: &[Binding],
+    test: &BoundTest,
     part: &Part,
     pairs: &mut Vec<(WireId, WireId)>,
 ) -> Result<(), NoMemory>
-    requires whole { term_of whole.now.body.now ≡ Suspend (expression_of test.now) (term_of part.now.body.now) }
-    requires bindings { length bindings.now ≡ length (signals_in (expression_of test.now)) }
+    requires whole { term_of whole.now.body.now
+        ≡ Suspend (expression_of test.now.test.now) (term_of part.now.body.now) }
+    requires bindings { length test.now.bindings.now ≡ length (signals_in (expression_of test.now.test.now)) }
     requires first { part.now.path.0 ≡ whole.now.path.0 + 1 }
-    ensures { OnOk result ((B : Scope) → map binding_of bindings.now ≡ map B (signals_in (expression_of test.now))
+    ensures { OnOk result ((B : Scope)
+        → map binding_of test.now.bindings.now ≡ map B (signals_in (expression_of test.now.test.now))
         → pairs.new.items ≡ pairs.old.items ++ found_by lookups.now
-        (edges_at B (Suspend (expression_of test.now) (term_of part.now.body.now)) whole.now.path.0 Resumed)) }
+        (edges_at B (Suspend (expression_of test.now.test.now) (term_of part.now.body.now)) whole.now.path.0 Resumed)) }
 {
     let layer = Layer::Resumed;
     let at = Instance {
@@ -164,8 +174,8 @@ fn push_resumed_suspend(
     let runs = part.runs_in(layer);
     push_go_to_part(lookups, whole, part, layer, pairs)?;
     push_edge_if(lookups, pauses, Name::Go(at), end, pairs)?;
-    push_test_if(alloc, lookups, runs, test, bindings, layer, go, pairs)?;
-    push_test_if(alloc, lookups, pauses, test, bindings, layer, end, pairs)?;
+    push_test_if(alloc, lookups, runs, test, layer, go, pairs)?;
+    push_test_if(alloc, lookups, pauses, test, layer, end, pairs)?;
     push_ends_if(lookups, true, part, layer, whole, layer, pairs)
 }
 

@@ -19,7 +19,7 @@ returns-then-not-holds c = λ B e. nothing_found _ _ c.args.holds _ c.if-not-hol
 pub push_statuses-requires : goal.push_statuses-requires
 push_statuses-requires c =
     let number : SigId → ℕ = λ s. s.0 in
-    let e = expression_of c.args.test.now in
+    let e = expression_of c.args.test.now.test.now in
     let listed : map number c.deref.result.now ≡ signals_in e =
     ap (map number) c.deref.ensures.value ∙ c.in_ok-list_signals.ensures ∙ ap (λ l. map number l ++ signals_in e) c.new-signals.ensures.items in
     c.requires ∙ sym (ap length listed) ∙ length-map c.deref.result.now number
@@ -27,7 +27,7 @@ push_statuses-requires c =
 pub returns : goal.returns
 returns c =
     let number : SigId → ℕ = λ s. s.0 in
-    let e = expression_of c.args.test.now in
+    let e = expression_of c.args.test.now.test.now in
     let l = layer_of c.args.layer in
     let to = wire_named c.args.to in
     let w = c.args.lookups.now in

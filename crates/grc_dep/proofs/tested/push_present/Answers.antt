@@ -4,7 +4,7 @@ use Rattle.grc_dep.proofs.tested.push_present.Goals as goal
 
 pub returns-in-Resumed : goal.returns-in-Resumed
 returns-in-Resumed c =
-    rw c.in-Resumed.is (on_ok_weaker c.push_resumed_present.result (λ h B e. h B (expression_of c.args.test.now)) c.push_resumed_present.ensures)
+    rw c.in-Resumed.is (on_ok_weaker c.push_resumed_present.result (λ h B e. h B (expression_of c.args.test.now.test.now)) c.push_resumed_present.ensures)
 
 pub returns-in-Started : goal.returns-in-Started
 returns-in-Started c = rw c.in-Started.is c.push_started_present.ensures

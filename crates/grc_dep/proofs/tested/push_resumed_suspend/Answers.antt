@@ -14,7 +14,7 @@ returns c =
     let w = c.args.lookups.now in
     let n = c.args.whole.now.path.0 in
     let m = c.args.part.now.path.0 in
-    let e = expression_of c.args.test.now in
+    let e = expression_of c.args.test.now.test.now in
     let pauses = c.pauses_in-pauses.ensures ∙ ap (λ t. resumed_codes t 1) c.requires.whole in
     let ended = c.in_ok-push_edge_if.ensures
     ∙ ap (λ b. c.push_go_to_part.new.pairs.items ++ found_by w (edges_if b (edge (Go n Resumed) (End n Resumed 1) ∷ []))) pauses in

@@ -7,4 +7,4 @@ returns-in-Resumed c = rw c.in-Resumed.is c.push_resumed_suspend.ensures
 
 pub returns-in-Started : goal.returns-in-Started
 returns-in-Started c =
-    rw c.in-Started.is (on_ok_weaker c.push_started_suspend.result (λ h B e. h B (expression_of c.args.test.now)) c.push_started_suspend.ensures)
+    rw c.in-Started.is (on_ok_weaker c.push_started_suspend.result (λ h B e. h B (expression_of c.args.test.now.test.now)) c.push_started_suspend.ensures)
