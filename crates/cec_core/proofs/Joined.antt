@@ -48,8 +48,8 @@ use Rattle.cec_core.specs.Limits.{copying_refusal}
 use Rattle.cec_core.specs.Refusals.{Compiles, HasNoText}
 use Rattle.cec_core.proofs.GraphFacts.{acyclic, reading_order}
 use Rattle.cec_core.proofs.Simplified.{interface_stays, instants_stay, runs_stay}
-use Rattle.cec_core.proofs.WireWords.{order_carried, names_wires}
-use Rattle.cec_core.specs.Meaning.{NamesWires}
+use Rattle.cec_core.proofs.WireWords.{order_carried, holds_wires, names_wires}
+use Rattle.cec_core.specs.Meaning.{HoldsWires, NamesWires}
 use Rattle.cec_core.proofs.Keeping.{net_keeps, text_keeps, c_text_keeps}
 
 -- ---- graphs
@@ -132,18 +132,26 @@ simplified_stands text main g order net new s along interface carries size linea
     (instants_stay g.graph (netlist_of net) (netlist_of new) few interface parts same instants)
     (runs_stay g.graph (netlist_of net) (netlist_of new) few interface parts alike runs)
 
+-- each wire of a compiled program is carried
+wires_carried : (c : Compiled) (p : Program) → IsCompiled c p → (n : ℕ) → n < length (program_wires p) → Contains (carried c.net.gates.items) n
+wires_carried c p h n l =
+    order_carried c.order.list.items c.net.gates.items n h.carried (h.order.each_once n (subst (λ ws. n < length ws) (sym h.graph.wires) l))
+
+inputs_wide : (c : Compiled) (p : Program) → IsCompiled c p → given_count p ≡ length (netlist_of c.net).inputs
+inputs_wide c p h = sym (ap length h.keeps.inputs ∙ omega (arith, length-take (given_count p) p.signals, given-few p h.formed))
+
 -- the text of a compiled program names its wires
 net_wires : (c : Compiled) (p : Program) → IsCompiled c p → (written : List ℕ) → (means : Means written (netlist_of c.net)) → NamesWires means.circuit p
 net_wires c p h written means =
     let kernel = program_kernel p h.formed (kernel_of c.graph p h.graph) in
-    let inputs = h.keeps.inputs in
-    let wide : given_count p ≡ length (netlist_of c.net).inputs = sym
-    (ap length inputs ∙ omega (arith, length-take (given_count p) p.signals, given-few p h.formed)) in
-    names_wires c.graph p (netlist_of c.net) h.graph (carriers h.order.each_once) kernel h.compiles.acyclic h.interface h.runs written means inputs wide
-  where
-    carriers : ((w : ℕ) → w < length (names_of c.graph) → times c.order.list.items w ≡ 1) → (n : ℕ) → n < length (program_wires p) →
-        Contains (carried c.net.gates.items) n
-    carriers once n l = order_carried c.order.list.items c.net.gates.items n h.carried (once n (subst (λ ws. n < length ws) (sym h.graph.wires) l))
+    names_wires c.graph p (netlist_of c.net) h.graph (wires_carried c p h) kernel h.compiles.acyclic h.interface h.runs written means h.keeps.inputs
+    (inputs_wide c p h)
+
+c_net_wires : (c : Compiled) (p : Program) → IsCompiled c p → (written : List ℕ) → (means : c_meant.Means written (netlist_of c.net)) →
+    HoldsWires means.program p
+c_net_wires c p h written means =
+    let kernel = program_kernel p h.formed (kernel_of c.graph p h.graph) in
+    holds_wires c.graph p (netlist_of c.net) h.graph (wires_carried c p h) kernel h.compiles.acyclic h.interface h.runs written means (inputs_wide c p h)
 
 pub text_stands : (text : List ℕ) (main : Option (List ℕ)) (c : Compiled) (written : List ℕ) → StandsForNet text main c → Means written (netlist_of c.net) →
     StandsForText text main written
@@ -161,7 +169,8 @@ c_text_stands text main c written s means = record {
   program = s.program;
   source = s.source;
   compiles = s.compiled.compiles;
-  keeps = c_text_keeps written (netlist_of c.net) s.program (given-few s.program s.compiled.formed) s.compiled.keeps means;
+  keeps = c_text_keeps written (netlist_of c.net) s.program (given-few s.program s.compiled.formed) s.compiled.keeps means
+      (c_net_wires c s.program s.compiled written means);
 }
 
 -- ---- listings and counts

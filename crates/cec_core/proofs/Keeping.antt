@@ -23,7 +23,7 @@ use Rattle.csub_text.specs.Written as meant
 use Rattle.csub_text.specs.Written.{input_variable, output_variable, shown_by_call}
 use Rattle.std.specs.Prelude.{codes}
 use Rattle.cec_core.specs.Cycles.{IsAcyclic}
-use Rattle.cec_core.specs.Meaning.{AreItems, seen_of, NetKeeps, NamesWires, shown_values, TextKeeps, call_of, CTextKeeps}
+use Rattle.cec_core.specs.Meaning.{AreItems, seen_of, NetKeeps, NamesWires, shown_values, TextKeeps, call_of, HoldsWires, CTextKeeps}
 
 -- each event has a truth value per given signal
 pub widths : (p : Program) (n : ℕ) → given_count p ≡ n → (items : List Item) → AreItems p items → EachEvent (λ event. length event ≡ n) items
@@ -107,8 +107,9 @@ map-variables [] = refl
 map-variables (o ∷ outputs) = ap (λ l. (codes "O_" ++ o.name) ∷ l) (map-variables outputs)
 
 -- a C text that means a net which keeps what a program means keeps it too
-pub c_text_keeps : (text : List ℕ) (net : Netlist) (p : Program) → given_count p ≤ length p.signals → NetKeeps net p → meant.Means text net → CTextKeeps text p
-c_text_keeps text net p few keeps means = record {
+pub c_text_keeps : (text : List ℕ) (net : Netlist) (p : Program) → given_count p ≤ length p.signals → NetKeeps net p → (means : meant.Means text net) →
+    HoldsWires means.program p → CTextKeeps text p
+c_text_keeps text net p few keeps means wires = record {
   machine = means.program;
   describes = means.describes;
   inputs = means.inputs ∙ ap (map input_variable) keeps.inputs;
@@ -121,4 +122,5 @@ c_text_keeps text net p few keeps means = record {
         constructive = found.1;
         alike = means.shows items (widths p (length net.inputs) wide items fits) ∙ ap (map shown_by_call) found.2 ∙ map-calls found.0;
       };
+  wires = wires;
 }

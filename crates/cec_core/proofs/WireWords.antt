@@ -1,10 +1,10 @@
 -- The names of wires in a written text have the values of the wires.
-use Rattle.std.proofs.Common.{◌≡◌, ℕ, zero, suc, ◌+◌, ◌-◌, ◌<◌, Bool, false, List, [], ◌∷◌, length, map, get_or, Option, Some, None, refl, sym}
+use Rattle.std.proofs.Common.{◌≡◌, ℕ, zero, suc, ◌+◌, ◌-◌, ◌<◌, Bool, false, List, [], ◌∷◌, length, map, drop, get_or, Option, Some, None, refl, sym}
 use Rattle.std.proofs.Common.{ap, ◌∙◌, subst, arith}
 use Rattle.std.specs.Prelude.{nat_lt, option_map, option_and_then, Contains, if◌then◌else◌}
 use Rattle.std.specs.List.{AllZip, range_with_len, cons_option}
 use Rattle.std.proofs.lemmas.Bool.{le-ltb}
-use Rattle.std.proofs.lemmas.List.{length-map, get_or-map}
+use Rattle.std.proofs.lemmas.List.{length-map, get_or-map, get_or-drop}
 use Rattle.std.proofs.lemmas.List.FromFn.{get_or-map-range_with_len}
 use Rattle.std.proofs.lemmas.Option.{slice_get-get_or}
 use Rattle.est_base.specs.declared.indices.WireId.{WireId}
@@ -12,7 +12,11 @@ use Rattle.est_base.specs.Items.{EachEvent}
 use Rattle.est_kernel.specs.Plain.{Program, given_count, given_names}
 use Rattle.blif_text.specs.Written.{Means, net_word, net_latch, gate_word}
 use Rattle.blif_text.specs.Written as written
-use Rattle.net_ir.proofs.Numbered.{length-numbered}
+use Rattle.csub_text.specs.Machine.{memories}
+use Rattle.csub_text.specs.Written as meant
+use Rattle.csub_text.specs.Written.{gate_name, gate_names, net_state}
+use Rattle.net_ir.specs.Runs.{net_values_run}
+use Rattle.net_ir.proofs.Numbered.{get_or-numbered, length-numbered}
 use Rattle.grc_graph.specs.declared.graph.Graph.{Graph}
 use Rattle.grc_graph.specs.BuiltGraphs.{IsGraphOf}
 use Rattle.grc_graph.proofs.BuiltReads.{next_each}
@@ -31,7 +35,7 @@ use Rattle.net_ir.specs.declared.netlist.Gate.{Gate}
 use Rattle.net_ir.specs.Gates.{carried, value_in}
 use Rattle.net_ir.specs.Netlists.{Netlist, first_gate, net_count}
 use Rattle.cec_core.specs.Cycles.{IsAcyclic}
-use Rattle.cec_core.specs.Meaning.{wire_word, TellsWires, NamesWires}
+use Rattle.cec_core.specs.Meaning.{wire_word, wire_variable, TellsWires, NamesWires, HoldsWires}
 use Rattle.cec_core.proofs.Keeping.{widths}
 
 -- ---- the gate of a wire
@@ -88,6 +92,12 @@ word_of net n c =
     no_latch
     ∙ ap (λ k. gate_word k (written.wire_at net.gates k)) back ∙ ap (gate_word c.place) there
 
+-- the variable of its gate in a C text
+gate_of : (net : Netlist) (n : ℕ) → (c : Carrier net.gates n) → get_or (gate_names net) c.place [] ≡ wire_variable n
+gate_of net n c =
+    let x = any_in net.gates c.place c.within in
+    get_or-numbered (λ k (gate : Gate). gate_name k gate.wire) 0 net.gates c.place [] x c.within ∙ ap (gate_name (0 + c.place)) (c.is x)
+
 -- ---- instants
 
 -- the values of all nets, by their names
@@ -96,7 +106,7 @@ by_name net v = map (λ n. v (net_word net n)) (range_with_len 0 (net_count net)
 
 module _ (g : Graph) (p : Program) (net : Netlist) (is : IsGraphOf g p)
     (carriers : (n : ℕ) → n < length (program_wires p) → Contains (carried net.gates) n) where
-  told-once : (v : List ℕ → Bool) (V : Valuation) → Carries g net (by_name net v) V → TellsWires p v V
+  told-once : (v : List ℕ → Bool) (V : Valuation) → Carries g net (by_name net v) V → TellsWires wire_word p v V
   told-once v V c n l = by_carrier (carrier net.gates n (carriers n l))
     where
       by_carrier : Carrier net.gates n → v (wire_word n) ≡ V (graphs.wire_at (program_wires p) n)
@@ -110,18 +120,75 @@ module _ (g : Graph) (p : Program) (net : Netlist) (is : IsGraphOf g p)
           sym (ap v (word_of net n k)) ∙ sym value ∙ carried_value ∙ ap (λ names. V (graphs.wire_at names n)) is.wires
 
   told-all : (valuations : List (List ℕ → Bool)) (Vs : List Valuation) → EachInstant (Carries g net) (map (by_name net) valuations) Vs →
-      AllZip (TellsWires p) valuations Vs
+      AllZip (TellsWires wire_word p) valuations Vs
   told-all [] [] h = tt
   told-all [] (V ∷ Vs) h = absurd h
   told-all (v ∷ valuations) [] h = absurd h
   told-all (v ∷ valuations) (V ∷ Vs) h = (told-once v V h.0, told-all valuations Vs h.1)
+
+  -- behind a call
+  told-call : (m : List ℕ → Bool) (values : List Bool) (V : Valuation) → map m (gate_names net) ≡ drop (first_gate net) values → Carries g net values V
+      → TellsWires wire_variable p m V
+  told-call m values V e c n l = by_carrier (carrier net.gates n (carriers n l))
+    where
+      by_carrier : Carrier net.gates n → m (wire_variable n) ≡ V (graphs.wire_at (program_wires p) n)
+      by_carrier k =
+          let x = any_in net.gates k.place k.within in
+          let many = length-numbered (λ j (gate : Gate). gate_name j gate.wire) 0 net.gates in
+          let there : get_or (map m (gate_names net)) k.place false ≡ m (get_or (gate_names net) k.place []) =
+          get_or-map m (gate_names net) k.place [] false (omega (arith, k.within, many)) in
+          let value : get_or (map m (gate_names net)) k.place false ≡ value_in values (first_gate net + k.place) =
+          ap (λ vs. get_or vs k.place false) e ∙ get_or-drop (first_gate net) values k.place false in
+          let carried_value : value_in values (first_gate net + k.place) ≡ V (graphs.wire_at (names_of g) n) =
+          c k.place x (record { 0 = n }) k.within (k.is x) in
+          sym (ap m (gate_of net n k)) ∙ sym there ∙ value ∙ carried_value ∙ ap (λ names. V (graphs.wire_at names n)) is.wires
+
+  told-calls : (ms : List (List ℕ → Bool)) (vs : List (List Bool)) (Vs : List Valuation)
+      → map (λ m. map m (gate_names net)) ms ≡ map (drop (first_gate net)) vs → EachInstant (Carries g net) vs Vs
+      → AllZip (TellsWires wire_variable p) ms Vs
+  told-calls [] [] [] e h = tt
+  told-calls [] [] (V ∷ Vs) e h = absurd h
+  told-calls [] (v ∷ vs) Vs e h = cc
+  told-calls (m ∷ ms) [] Vs e h = cc
+  told-calls (m ∷ ms) (v ∷ vs) [] e h = absurd h
+  told-calls (m ∷ ms) (v ∷ vs) (V ∷ Vs) e h =
+      (told-call m v V (ap (λ l. get_or l 0 []) e) h.0, told-calls ms vs Vs (ap (drop 1) e) h.1)
+
+  latch_count : HasInterfaceOf g net → length net.latches ≡ length (body_leaves p.body) + 1
+  latch_count interface = omega (
+    arith,
+    sym (length-map net.latches (λ l. l.init))
+        ∙ ap length interface.latches,
+    length-map g.next.items (λ f. false),
+    next_each g p is,
+  )
+
+  pub holds_wires : HasExitCodes p.body → IsAcyclic p → HasInterfaceOf g net → FollowsRuns g net → (text : List ℕ) → (means : meant.Means text net) →
+      given_count p ≡ length net.inputs → HoldsWires means.program p
+  holds_wires kernel acyclic interface follows text means wide = record {
+    states =
+        ap length means.states ∙ length-numbered net_state 0 net.latches ∙ latch_count interface;
+    wires = λ items fits.
+        let events = widths p (given_count p) refl items fits in
+        let one = graph_runs_exist_lem p acyclic.rank kernel acyclic.up Initial items in
+        let run = one.0.1 in
+        let followed =
+        follows items one.0.0 (subst (λ q. EachEvent (λ event. length event ≡ given_count q) items) (sym is.program) events)
+        (subst (λ h. IsGraphRun h Initial items one.0.0) (sym is.graph) run) in
+        record {
+          run = one.0.0;
+          is_run = run;
+          told = told-calls (memories means.program items) (net_values_run net items) one.0.0
+              (means.nets items (widths p (length net.inputs) wide items fits)) followed.carries;
+        };
+  }
 
   pub names_wires : HasExitCodes p.body → IsAcyclic p → HasInterfaceOf g net → FollowsRuns g net → (text : List ℕ) → (means : Means text net) →
       net.inputs ≡ given_names p
       → given_count p ≡ length net.inputs → NamesWires means.circuit p
   names_wires kernel acyclic interface follows text means inputs wide = record {
     latches =
-        ap length means.latches ∙ length-numbered (net_latch net) 0 net.latches ∙ latch_count;
+        ap length means.latches ∙ length-numbered (net_latch net) 0 net.latches ∙ latch_count interface;
     wires = λ items fits valuations is_run.
         let events = widths p (given_count p) refl items fits in
         let one = graph_runs_exist_lem p acyclic.rank kernel acyclic.up Initial items in
@@ -136,12 +203,3 @@ module _ (g : Graph) (p : Program) (net : Netlist) (is : IsGraphOf g p)
               (sym (means.nets items valuations is_run)) followed.carries);
         };
   }
-    where
-      latch_count : length net.latches ≡ length (body_leaves p.body) + 1
-      latch_count = omega (
-        arith,
-        sym (length-map net.latches (λ l. l.init))
-            ∙ ap length interface.latches,
-        length-map g.next.items (λ f. false),
-        next_each g p is,
-      )

@@ -1,5 +1,5 @@
--- To believe: what it means that a netlist, a BLIF text or a C text does what a kernel program means, and that a BLIF
--- text names the wires of its graph.
+-- To believe: what it means that a netlist, a BLIF text or a C text does what a kernel program means, and that a text
+-- names the wires of its graph.
 use Rattle.std.specs.Prelude.{◌≡◌, ℕ, Bool, List, [], ◌∷◌, ◌++◌, ◌==◌, map, length, Some, Ok, codes, decimal, ◌+◌, ◌<◌}
 use Rattle.std.specs.List.{AllZip}
 use Rattle.est_base.specs.Items.{Item, EachEvent}
@@ -16,7 +16,7 @@ use Rattle.net_ir.specs.Runs.{Shown, net_run}
 use Rattle.blif_text.specs.Circuits.{Circuit, reading}
 use Rattle.blif_text.specs.Runs.{IsRun, driven_names}
 use Rattle.blif_text.specs.Written.{output_word, paused_word}
-use Rattle.csub_text.specs.Machine.{Seen, run}
+use Rattle.csub_text.specs.Machine.{Seen, memories, run}
 use Rattle.csub_text.specs.Names.{inputs_of, outputs_of}
 use Rattle.csub_text.specs.Texts.{Describes}
 use Rattle.csub_text.specs.Trees.{Program as Machine}
@@ -63,27 +63,31 @@ pub record RunsAlike (circuit : Circuit) (p : Program) (items : List Item) : Typ
 
 -- ---- wires by name
 
--- the name of the wire with this number
+-- the name of the wire with this number in a BLIF text, and its variable in a C text
 abbrev pub wire_word : ℕ → List ℕ
 wire_word n = codes "_w" ++ decimal n
 
+abbrev pub wire_variable : ℕ → List ℕ
+wire_variable n = codes "w" ++ decimal n
+
 -- in an instant the name of each wire of the program's graph has the wire's value
-abbrev pub TellsWires : Program → (List ℕ → Bool) → Valuation → Type 0
-TellsWires p v V = (n : ℕ) → n < length (program_wires p) → v (wire_word n) ≡ V (wire_at (program_wires p) n)
+abbrev pub TellsWires : (ℕ → List ℕ) → Program → (List ℕ → Bool) → Valuation → Type 0
+TellsWires name p v V = (n : ℕ) → n < length (program_wires p) → v (name n) ≡ V (wire_at (program_wires p) n)
 
 -- The graph of the program has a run over the items, from instant to instant the solution of its equations, which is
 -- the walk of the state that is reached; and in each instant the names tell its wires.
-pub record WiresTold (p : Program) (items : List Item) (valuations : List (List ℕ → Bool)) : Type 0 where
+pub record WiresTold (name : ℕ → List ℕ) (p : Program) (items : List Item) (valuations : List (List ℕ → Bool)) :
+    Type 0 where
   pub run : List Valuation
   pub is_run : IsGraphRun (graph_of p) Initial items run
-  pub told : AllZip (TellsWires p) valuations run
+  pub told : AllZip (TellsWires name p) valuations run
 
 -- A circuit has one latch for the first instant and one for each leaf of the selection tree, and names the wires of the
 -- program's graph by their numbers.
 pub record NamesWires (circuit : Circuit) (p : Program) : Type 0 where
   pub latches : length circuit.latches ≡ length (body_leaves p.body) + 1
   pub wires : (items : List Item) → AreItems p items → (valuations : List (List ℕ → Bool)) →
-      IsRun circuit items valuations → WiresTold p items valuations
+      IsRun circuit items valuations → WiresTold wire_word p items valuations
 
 -- The compiler-correctness theorem: a text has a reading by the BLIF profile with the program's name and
 -- given signals, and its outgoing signals and then `_paused`, in declared order, and runs alike over every
@@ -111,12 +115,19 @@ pub record CallsAlike (machine : Machine) (p : Program) (items : List Item) : Ty
   pub constructive : run_of p items ≡ Some answers
   pub alike : run machine items ≡ map call_of answers
 
+-- A program of the C subset has one state for the first instant and one for each leaf of the selection tree, and behind
+-- each call the variables of the wires of the program's graph have the wires' values.
+pub record HoldsWires (machine : Machine) (p : Program) : Type 0 where
+  pub states : length machine.states ≡ length (body_leaves p.body) + 1
+  pub wires : (items : List Item) → AreItems p items → WiresTold wire_variable p items (memories machine items)
+
 -- The compiler-correctness theorem for a C text: it describes a program of the C subset with one variable for each
 -- given and each outgoing signal, in declared order, and over every list of items its machine shows what the program's
--- reactions do.
+-- reactions do. It has a variable for each wire of the program's graph.
 pub record CTextKeeps (text : List ℕ) (p : Program) : Type 0 where
   pub machine : Machine
   pub describes : Describes text machine
   pub inputs : inputs_of machine ≡ map input_variable (given_names p)
   pub outputs : outputs_of machine ≡ map (λ name. codes "O_" ++ name) (outgoing_names p)
   pub calls : (items : List Item) → AreItems p items → CallsAlike machine p items
+  pub wires : HoldsWires machine p
