@@ -104,7 +104,7 @@ set-slot names values wide x among v name =
     elim (is_same_name name x) as (λ b. is_same_name name x ≡ b → value_at (slice_set values k v) (slot_in names name) ≡
     (if b then v else value_at values (slot_in names name))) [
       | true ↦ λ e. ap (λ n. value_at (slice_set values k v) (slot_in names n)) ((bytes_decides name x).0 e)
-        ∙ get_or-set_same values k v false (omega (arith, low, wide))
+          ∙ get_or-set_same values k v false (omega (arith, low, wide))
       | false ↦ λ e. get_or-set_other values k (slot_in names name) v false (λ same. let own = sym (slot-own names x name low same) ∙ e in cc)
     ] refl
 
