@@ -5,7 +5,7 @@ ghost use Rattle.std.specs.Option.{option_map};
 ghost use Rattle.est_ast.specs.Trees.{Seq, Par, cases};
 ghost use Rattle.est_ast.specs.Views.{delay_of, form_of, stmt_of, boxed, part_of, handle_of, case_of};
 ghost use Rattle.est_parse.specs.Heads.{head_of};
-ghost use Rattle.est_parse.specs.Parts.{stmt_list, present_of};
+ghost use Rattle.est_parse.specs.Parts.{stmt_list, present_of, WeakHead, SuspendHead};
 ghost use Rattle.est_parse.specs.Reading.{part, case_behind, case_list, choice, loop_tail, handler, flat_behind, head};
 ghost use Rattle.est_parse.specs.Reading.{closing, blocked, event, form, item, line, rules, statement};
 ghost use Rattle.est_parse.specs.Reading.{tail as tail_rule, inside as inner};
@@ -192,16 +192,8 @@ fn read_closing(
             let (tail, rest) = read_tail(alloc, Reserved::Abort, rest, room)?;
             Ok((abort_on(body, tail), rest))
         }
-        Head::Weak => {
-            let rest = after_word(Reserved::When, tokens)?;
-            let (delay, rest) = read_delay(alloc, rest, room)?;
-            Ok((Form::WeakAbort(body, delay), rest))
-        }
-        Head::Suspend => {
-            let rest = after_word(Reserved::When, tokens)?;
-            let (delay, rest) = read_test(alloc, rest, room)?;
-            Ok((Form::Suspend(body, delay), rest))
-        }
+        Head::Weak => read_weak_closing(alloc, body, tokens, room),
+        Head::Suspend => read_suspend_closing(alloc, body, tokens, room),
         Head::Trap(name) => {
             let (handle, rest) = read_handle(alloc, tokens, room)?;
             let (_, rest) = after_end(Reserved::Trap, rest)?;
@@ -224,6 +216,34 @@ fn read_closing(
             Ok((Form::Signal(names, body), rest))
         }
     }
+}
+
+// `when` and a delay, behind the statement of a weak abortion.
+fn read_weak_closing(
+    alloc: Global,
+    body: Box<Stmt>,
+    tokens: &[Token],
+    room: u32,
+) -> Result<(Form, &[Token]), ReadError>
+    ensures { Finds form_of result (closing (rules room) WeakHead (boxed body) tokens.now) }
+{
+    let rest = after_word(Reserved::When, tokens)?;
+    let (delay, rest) = read_delay(alloc, rest, room)?;
+    Ok((Form::WeakAbort(body, delay), rest))
+}
+
+// `when` and a test, behind the statement of a suspension.
+fn read_suspend_closing(
+    alloc: Global,
+    body: Box<Stmt>,
+    tokens: &[Token],
+    room: u32,
+) -> Result<(Form, &[Token]), ReadError>
+    ensures { Finds form_of result (closing (rules room) SuspendHead (boxed body) tokens.now) }
+{
+    let rest = after_word(Reserved::When, tokens)?;
+    let (delay, rest) = read_test(alloc, rest, room)?;
+    Ok((Form::Suspend(body, delay), rest))
 }
 
 // `each` and a delay, or `end` and maybe `loop`.
