@@ -1,5 +1,6 @@
 -- To believe: the meaning of a circuit, its runs over items. A valuation says of every name whether it is
--- true, and a run is a list of valuations, one for each event.
+-- true, and a run is a list of valuations, one for each event. An instant is a clock cycle of the Berkeley format; a
+-- reset, which that format does not have, begins a new run.
 use Rattle.std.specs.Prelude.{◌≡◌, ℕ, Bool, true, false, not, ◌&&◌, List, [], ◌∷◌, ◌++◌, map}
 use Rattle.std.specs.List.{list_any, AllByRecursion}
 use Rattle.est_base.specs.Items.{Item, Event, Reset}

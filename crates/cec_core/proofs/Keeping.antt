@@ -1,5 +1,5 @@
 -- The netlist of a program's graph keeps what the program means, and so do the texts that are written of it.
-use Rattle.std.proofs.Common.{◌≡◌, ℕ, ◌≤◌, List, [], ◌∷◌, ◌++◌, map, length, refl, sym, ap, ap₂, ◌∙◌, subst, arith}
+use Rattle.std.proofs.Common.{◌≡◌, ℕ, ◌≤◌, Bool, List, [], ◌∷◌, ◌++◌, map, length, refl, sym, ap, ap₂, ◌∙◌, subst, arith}
 use Rattle.std.proofs.lemmas.List.{length-take}
 use Rattle.est_base.specs.Items.{Item, Event, Reset, EachEvent}
 use Rattle.est_kernel.specs.Plain.{Program, given_count, given_names, outgoing_names}
@@ -18,12 +18,14 @@ use Rattle.grc_solutions.proofs.OneRun.{graph_runs_exist_lem}
 use Rattle.net_gen.specs.Generated.{HasInterfaceOf, FollowsRuns, shown_as}
 use Rattle.net_ir.specs.declared.netlist.NetOut.{NetOut}
 use Rattle.net_ir.specs.Netlists.{Netlist}
+use Rattle.net_ir.specs.Runs.{Shown}
 use Rattle.blif_text.specs.Written.{Means, output_word, paused_word}
 use Rattle.csub_text.specs.Written as meant
 use Rattle.csub_text.specs.Written.{input_variable, output_variable, shown_by_call}
 use Rattle.std.specs.Prelude.{codes}
 use Rattle.cec_core.specs.Cycles.{IsAcyclic}
-use Rattle.cec_core.specs.Meaning.{AreItems, seen_of, NetKeeps, NamesWires, shown_values, TextKeeps, call_of, HoldsWires, CTextKeeps}
+use Rattle.cec_core.specs.Meaning.{AreItems, answer_values, NamesWires, TextKeeps, call_of, HoldsWires, CTextKeeps}
+use Rattle.cec_core.specs.NetMeaning.{seen_of, NetKeeps}
 
 -- each event has a truth value per given signal
 pub widths : (p : Program) (n : ℕ) → given_count p ≡ n → (items : List Item) → AreItems p items → EachEvent (λ event. length event ≡ n) items
@@ -63,10 +65,13 @@ net_keeps g p net formed kernel no_loop graph acyclic interface follows = record
       );
 }
 
--- the rows of what is seen, one after another
-map-row : (answers : List Answer) → map shown_values (map seen_of answers) ≡ map (λ a. shown_values (seen_of a)) answers
+-- the values of a netlist's outputs, and then of `paused`
+abbrev shown_values : Shown → List Bool
+shown_values s = s.outputs ++ s.paused ∷ []
+
+map-row : (answers : List Answer) → map shown_values (map seen_of answers) ≡ map answer_values answers
 map-row [] = refl
-map-row (a ∷ answers) = ap (λ l. shown_values (seen_of a) ∷ l) (map-row answers)
+map-row (a ∷ answers) = ap (λ l. answer_values a ∷ l) (map-row answers)
 
 map-words : (inputs : List (List ℕ)) (outputs : List NetOut) → map (λ o. output_word inputs o.name) outputs ≡
     map (output_word inputs) (map (λ o. o.name) outputs)

@@ -13,7 +13,8 @@ use Rattle.trace_run.specs.Machines.{answer_lines}
 use Rattle.trace_run.specs.NetRuns.{shown_answer, ShowsNet}
 use Rattle.trace_run.specs.Running.{Sinks, RunsTrace}
 use Rattle.trace_run.proofs.Events.{events-fit, runs-along}
-use Rattle.cec_core.specs.Meaning.{AreItems, seen_of, NetKeeps}
+use Rattle.cec_core.specs.Meaning.{AreItems}
+use Rattle.cec_core.specs.NetMeaning.{seen_of, NetKeeps}
 use Rattle.cec_core.specs.Runs.{line_answer, ShowsRun}
 
 -- the events of a trace are events of the program

@@ -21,7 +21,8 @@ use Rattle.net_ir.specs.Runs.{netlist_of}
 use Rattle.blif_text.specs.Written as blif_texts
 use Rattle.csub_text.specs.Written as c_texts
 use Rattle.cec_front.specs.Sources.{StandsFor}
-use Rattle.cec_core.specs.Meaning.{NetKeeps, TextKeeps, CTextKeeps}
+use Rattle.cec_core.specs.Meaning.{TextKeeps, CTextKeeps}
+use Rattle.cec_core.specs.NetMeaning.{NetKeeps}
 use Rattle.cec_core.specs.Refusals.{Compiles}
 use Rattle.cec_core.specs.declared.compiler.Compiled.{Compiled}
 use Rattle.cec_core.specs.declared.compiler.Graphed.{Graphed}

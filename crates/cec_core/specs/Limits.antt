@@ -1,4 +1,4 @@
--- To believe: the refusal that a fault of a pass is.
+-- To believe: the refusal that stands for a fault of a pass.
 use Rattle.cec_front.specs.declared.refusal.Quantity.{Quantity}
 use Rattle.cec_front.specs.declared.refusal.Quantity.TheVariants as quantities
 use Rattle.cec_front.specs.declared.refusal.Refusal as fronts

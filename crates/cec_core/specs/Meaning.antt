@@ -1,5 +1,5 @@
--- To believe: what it means that a netlist, a BLIF text or a C text does what a kernel program means, and that a text
--- names the wires of its graph.
+-- To believe: what it means that a BLIF text or a C text does what a kernel program means, and that it names the wires
+-- of the program's graph.
 use Rattle.std.specs.Prelude.{◌≡◌, ℕ, Bool, List, [], ◌∷◌, ◌++◌, ◌==◌, map, length, Some, Ok, codes, decimal, ◌+◌, ◌<◌}
 use Rattle.std.specs.List.{AllZip}
 use Rattle.est_base.specs.Items.{Item, EachEvent}
@@ -11,8 +11,6 @@ use Rattle.grc_graph.specs.PlainGraphs.{wire_at}
 use Rattle.grc_graph.specs.Readings.{Valuation}
 use Rattle.grc_graph.specs.SelectionTrees.{body_leaves}
 use Rattle.grc_graph.specs.Walk.{Initial}
-use Rattle.net_ir.specs.Netlists.{Netlist, output_names}
-use Rattle.net_ir.specs.Runs.{Shown, net_run}
 use Rattle.blif_text.specs.Circuits.{Circuit, reading}
 use Rattle.blif_text.specs.Runs.{IsRun, driven_names}
 use Rattle.blif_text.specs.Written.{output_word, paused_word}
@@ -20,7 +18,6 @@ use Rattle.csub_text.specs.Machine.{Seen, memories, run}
 use Rattle.csub_text.specs.Names.{inputs_of, outputs_of}
 use Rattle.csub_text.specs.Texts.{Describes}
 use Rattle.csub_text.specs.Trees.{Program as Machine}
-use Rattle.csub_text.specs.Written.{input_variable}
 
 -- an event of a program: one truth value per given signal, and it meets the program's relations
 pub record IsEvent (p : Program) (event : List Bool) : Type 0 where
@@ -31,22 +28,9 @@ pub record IsEvent (p : Program) (event : List Bool) : Type 0 where
 abbrev pub AreItems : Program → List Item → Type 0
 AreItems p items = EachEvent (IsEvent p) items
 
--- what is seen of an answer of the semantics: code 1 is a pause
-abbrev pub seen_of : Answer → Shown
-seen_of a = record { outputs = a.outputs; paused = a.code == 1 }
-
--- Over every list of items the program's reactions are constructive, and a netlist shows in each instant
--- their outgoing signals, and `paused` exactly where the completion code is 1.
-pub record NetKeeps (net : Netlist) (p : Program) : Type 0 where
-  pub name : net.name ≡ p.name
-  pub inputs : net.inputs ≡ given_names p
-  pub outputs : output_names net ≡ outgoing_names p
-  pub runs : (items : List Item) → AreItems p items →
-      (answers : List Answer) × (run_of p items ≡ Some answers) × (net_run net items ≡ map seen_of answers)
-
--- the values of an instant's outputs, and then of `_paused`
-abbrev pub shown_values : Shown → List Bool
-shown_values s = s.outputs ++ s.paused ∷ []
+-- the values of the outputs at an answer of the semantics, and then of `_paused`: code 1 is a pause
+abbrev pub answer_values : Answer → List Bool
+answer_values a = a.outputs ++ (a.code == 1) ∷ []
 
 -- The compiler-correctness theorem for one list of items: the run of the semantics is constructive in each
 -- instant; the text has a run by BLIF's meaning, and any two runs agree on every driven name; in each
@@ -59,7 +43,7 @@ pub record RunsAlike (circuit : Circuit) (p : Program) (items : List Item) : Typ
   pub one_run : (us vs : List (List ℕ → Bool)) → IsRun circuit items us → IsRun circuit items vs →
       map (λ u. map u (driven_names circuit)) us ≡ map (λ v. map v (driven_names circuit)) vs
   pub alike : (valuations : List (List ℕ → Bool)) → IsRun circuit items valuations →
-      map (λ v. map v circuit.outputs) valuations ≡ map (λ a. shown_values (seen_of a)) answers
+      map (λ v. map v circuit.outputs) valuations ≡ map answer_values answers
 
 -- ---- wires by name
 
@@ -74,16 +58,16 @@ wire_variable n = codes "w" ++ decimal n
 abbrev pub TellsWires : (ℕ → List ℕ) → Program → (List ℕ → Bool) → Valuation → Type 0
 TellsWires name p v V = (n : ℕ) → n < length (program_wires p) → v (name n) ≡ V (wire_at (program_wires p) n)
 
--- The graph of the program has a run over the items, from instant to instant the solution of its equations, which is
--- the walk of the state that is reached; and in each instant the names tell its wires.
+-- The graph of the program has a run over the items, from instant to instant a solution of its equations (that it is
+-- the walk of the state that is reached says `solutions_are_walks`); and in each instant the names tell its wires.
 pub record WiresTold (name : ℕ → List ℕ) (p : Program) (items : List Item) (valuations : List (List ℕ → Bool)) :
     Type 0 where
   pub run : List Valuation
   pub is_run : IsGraphRun (graph_of p) Initial items run
   pub told : AllZip (TellsWires name p) valuations run
 
--- A circuit has one latch for the first instant and one for each leaf of the selection tree, and names the wires of the
--- program's graph by their numbers.
+-- A circuit has as many latches as the selection tree has leaves, and one more, for the first instant; and it names the
+-- wires of the program's graph by their numbers.
 pub record NamesWires (circuit : Circuit) (p : Program) : Type 0 where
   pub latches : length circuit.latches ≡ length (body_leaves p.body) + 1
   pub wires : (items : List Item) → AreItems p items → (valuations : List (List ℕ → Bool)) →
@@ -91,8 +75,8 @@ pub record NamesWires (circuit : Circuit) (p : Program) : Type 0 where
 
 -- The compiler-correctness theorem: a text has a reading by the BLIF profile with the program's name and
 -- given signals, and its outgoing signals and then `_paused`, in declared order, and runs alike over every
--- list of items. An outgoing signal that is given too is marked as an output. It names the wires of the program's
--- graph.
+-- list of items. An outgoing signal that is given too is written with `.out` behind its name. The text names the wires
+-- of the program's graph.
 pub record TextKeeps (text : List ℕ) (p : Program) : Type 0 where
   pub circuit : Circuit
   pub reads : reading text ≡ Ok circuit
@@ -115,8 +99,8 @@ pub record CallsAlike (machine : Machine) (p : Program) (items : List Item) : Ty
   pub constructive : run_of p items ≡ Some answers
   pub alike : run machine items ≡ map call_of answers
 
--- A program of the C subset has one state for the first instant and one for each leaf of the selection tree, and behind
--- each call the variables of the wires of the program's graph have the wires' values.
+-- A program of the C subset has as many states as the selection tree has leaves, and one more, for the first instant;
+-- and behind each call the variables of the wires of the program's graph have the wires' values.
 pub record HoldsWires (machine : Machine) (p : Program) : Type 0 where
   pub states : length machine.states ≡ length (body_leaves p.body) + 1
   pub wires : (items : List Item) → AreItems p items → WiresTold wire_variable p items (memories machine items)
@@ -127,7 +111,7 @@ pub record HoldsWires (machine : Machine) (p : Program) : Type 0 where
 pub record CTextKeeps (text : List ℕ) (p : Program) : Type 0 where
   pub machine : Machine
   pub describes : Describes text machine
-  pub inputs : inputs_of machine ≡ map input_variable (given_names p)
+  pub inputs : inputs_of machine ≡ map (λ name. codes "I_" ++ name) (given_names p)
   pub outputs : outputs_of machine ≡ map (λ name. codes "O_" ++ name) (outgoing_names p)
   pub calls : (items : List Item) → AreItems p items → CallsAlike machine p items
   pub wires : HoldsWires machine p

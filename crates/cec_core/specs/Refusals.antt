@@ -26,17 +26,17 @@ pub record Compiles (p : Program) : Type 0 where
   pub acyclic : IsAcyclic p
 
 -- why a program does not compile
-abbrev pub HasNoText : Program → Refusal → Type 0
-HasNoText p (Static fault) = ⊥
-HasNoText p (Cyclic c) = KeepsGraphLimits p × ShowsCycle p (map wire_name_of c.wires.items)
-HasNoText p (Limit limits.Instances) = INSTANCES < length (body_instances p.body)
-HasNoText p (Limit limits.Wires) = (length (body_instances p.body) ≤ INSTANCES) × (WIRES < graph_size p)
-HasNoText p (Limit others) = ⊥
-HasNoText p NoMemory = ⊤
+abbrev pub DoesNotCompile : Program → Refusal → Type 0
+DoesNotCompile p (Static fault) = ⊥
+DoesNotCompile p (Cyclic c) = KeepsGraphLimits p × ShowsCycle p (map wire_name_of c.wires.items)
+DoesNotCompile p (Limit limits.Instances) = INSTANCES < length (body_instances p.body)
+DoesNotCompile p (Limit limits.Wires) = (length (body_instances p.body) ≤ INSTANCES) × (WIRES < graph_size p)
+DoesNotCompile p (Limit others) = ⊥
+DoesNotCompile p NoMemory = ⊤
 
 -- the source stands for such a program
 abbrev pub StandsWithoutText : List ℕ → Option (List ℕ) → Refusal → Type 0
-StandsWithoutText text main refusal = (p : Program) × StandsFor text main p × HasNoText p refusal
+StandsWithoutText text main refusal = (p : Program) × StandsFor text main p × DoesNotCompile p refusal
 
 abbrev pub IsRefused : List ℕ → Option (List ℕ) → Refusal → Type 0
 IsRefused text main (Static fault) = front.IsRefused text main (fronts.Static fault)

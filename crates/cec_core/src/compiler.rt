@@ -7,7 +7,7 @@ ghost use Rattle.est_kernel.specs.StaticCodes.{NoInstantLoop};
 ghost use Rattle.est_kernel.specs.WellFormed.{IsWellFormed, HasNames};
 ghost use Rattle.cec_core.specs.Compiling.{IsGraphed, IsCompiled, StandsForGraph, StandsForNet, StandsForText};
 ghost use Rattle.cec_core.specs.Compiling.{StandsForC, IsBlifOf, IsCOf};
-ghost use Rattle.cec_core.specs.Refusals.{HasNoText, IsRefused};
+ghost use Rattle.cec_core.specs.Refusals.{DoesNotCompile, IsRefused};
 
 use crate::cycles::cycle_of;
 use crate::refusal::Refusal;
@@ -156,7 +156,7 @@ fn program_graph(alloc: Global, analysed: Analysed) -> Result<Graphed, Refusal>
     requires no_loop { NoInstantLoop (term_of analysed.program.body) }
     requires codes { AreCodesOf analysed.codes (term_of analysed.program.body) }
     ensures graphed { IfOk result (λ g. IsGraphed g (program_of analysed.program)) }
-    ensures refuses { IfErr result (HasNoText (program_of analysed.program)) }
+    ensures refuses { IfErr result (DoesNotCompile (program_of analysed.program)) }
 {
     let Analysed { program, codes } = analysed;
     let live = copies(alloc, &program.body, &codes)?;

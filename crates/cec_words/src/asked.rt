@@ -42,7 +42,7 @@ pub enum Asked {
     C(Source),
     /// The listing of a source's graph.
     Grc(Source),
-    /// Whether a source compiles.
+    /// The line of counts of a source.
     Check(Source),
     /// A source's run over the trace.
     Run(Via, Source, usize),

@@ -1,5 +1,5 @@
 -- To believe: the rules on names. All declared names differ, each name that is used is declared, no input is assigned,
--- and no local is read before it is assigned. The first place in the text that breaks a rule counts.
+-- and no local is read before it is assigned. The first rule that is broken counts, at its first place in the text.
 use Rattle.std.specs.Prelude.{ℕ, Bool, not, ◌||◌, List, [], ◌∷◌, ◌++◌, map, flat_map, find, filter}
 use Rattle.std.specs.Prelude.{Option, Some, None, if◌then◌else◌}
 use Rattle.std.specs.List.{list_any}

@@ -16,8 +16,8 @@
 --   conj    = neg { "and" neg }
 --   neg     = "not" neg | NAME | "tick" | "(" expr ")" | "[" expr "]"
 --
--- The items are the clauses of SpellsItem. The language is that of Berry, "The Constructive Semantics of Pure
--- Esterel", in the concrete syntax of Esterel V5.
+-- The items are the clauses of SpellsItem. The statements are those of Berry, "The Constructive Semantics of Pure
+-- Esterel", in the concrete syntax of Berry, "The Esterel v5 Language Primer".
 use Rattle.std.specs.Prelude.{◌≡◌, ◌⊎◌, ℕ, List, [], ◌∷◌, Option, Some, None, if◌then◌else◌}
 use Rattle.std.specs.Str.{bytes_eq}
 use Rattle.est_base.specs.declared.place.Span.{Span}

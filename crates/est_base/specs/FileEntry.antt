@@ -1,4 +1,4 @@
--- Inner: files in memory: a list of entries, where of two entries of one name the first counts.
+-- To believe: files in memory: a list of entries, where of two entries of one name the first counts.
 use Rattle.std.specs.Prelude.{◌≡◌, ℕ, ◌<◌, ◌≤◌, ◌⊎◌, if◌then◌else◌, List, [], ◌∷◌, length, Option, None, Some, IsNone}
 use Rattle.std.specs.Prelude.{unwrap_or, Contains, Result, Ok, Err, Vec, nat_eq}
 use Rattle.std.specs.Cmp.Lexicographic.{pointwise}

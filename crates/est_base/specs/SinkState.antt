@@ -1,4 +1,4 @@
--- Inner: sinks in memory: what such a sink keeps, and what it tells.
+-- To believe: sinks in memory: what such a sink keeps, and what it tells.
 use Rattle.std.specs.Prelude.{◌≡◌, ℕ, ◌+◌, ◌-◌, ◌^◌, ◌<◌, ◌≤◌, min, if◌then◌else◌, ◌==◌, List, ◌++◌, length, take}
 use Rattle.std.specs.Prelude.{Option, None, Some, Contains, Result, Ok, Err}
 use Rattle.est_base.specs.Faults.{one_more}

@@ -4,8 +4,8 @@
 #[derive(Clone, Copy, Debug, PartialEq, Eq, PartialOrd, Ord, Hash)]
 pub struct ModId(pub u32);
 
-/// A signal of a kernel program: the inputs in declared order, then the outputs, then the local
-/// ones, from 0.
+/// A signal of a kernel program, from 0: the inputs, those that are input and output, the outputs, each kind in
+/// declared order, then the local ones.
 #[derive(Clone, Copy, Debug, PartialEq, Eq, PartialOrd, Ord, Hash)]
 pub struct SigId(pub u32);
 
@@ -24,7 +24,3 @@ pub struct WireId(pub u32);
 /// A net of a netlist: the inputs, then the latches, then the gates, from 0.
 #[derive(Clone, Copy, Debug, PartialEq, Eq, PartialOrd, Ord, Hash)]
 pub struct NetId(pub u32);
-
-/// A latch of a netlist, from 0.
-#[derive(Clone, Copy, Debug, PartialEq, Eq, PartialOrd, Ord, Hash)]
-pub struct LatchId(pub u32);

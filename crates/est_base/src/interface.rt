@@ -9,11 +9,12 @@ pub struct SignalInfo {
     pub name: Text,
 }
 
-/// What a program's environment keeps of its inputs in every instant.
+/// What a program's environment keeps of its given signals, the inputs and those that are input and output, in every
+/// instant.
 #[derive(Debug, Drop)]
 pub enum InputRelation {
-    /// The second input is present whenever the first one is.
+    /// The second signal is present whenever the first one is.
     Implies(SigId, SigId),
-    /// At most one of the inputs is present; an input that the list names twice counts once.
+    /// At most one of the signals is present; one that the list names twice counts once.
     Excludes(Vec<SigId>),
 }

@@ -1,7 +1,9 @@
 //! The ground of the compiler: what every pass shares.
 //!
 //! Places in a source (`Span`), typed indices, names as bytes (`Text`), sets of completion codes
-//! (`CodeSet`), the stated limits (`Limits`), and want of memory (`NoMemory`). Completion codes are
+//! (`CodeSet`), what a program says of its signals (`SignalInfo`, `InputRelation`), the stated limits
+//! (`Limits`), want of memory (`NoMemory`), and what is read and written: `Files` and `Sink`, over the
+//! disk and standard output, and in memory. Completion codes are
 //! those of Berry, "The Constructive Semantics of Pure Esterel": 0 is termination, 1 a pause, and k
 //! of at least 2 leaves the trap that is k - 2 traps further out.
 #![tactic(auto)]
@@ -20,7 +22,7 @@ mod texts;
 pub use bounds::{Limits, limits_are_as_stated};
 pub use code_set::CodeSet;
 pub use files::{DiskFiles, FileEntry, FileFault, Files, MapFiles, SteadyFiles};
-pub use indices::{InstId, LatchId, ModId, NetId, PathId, SigId, WireId};
+pub use indices::{InstId, ModId, NetId, PathId, SigId, WireId};
 pub use interface::{InputRelation, SignalInfo};
 pub use memory::NoMemory;
 pub use names::{is_digit, is_letter, is_name_byte};

@@ -1,6 +1,7 @@
 -- To believe: the flat form of a program, in which the body of a module stands for each `run` of it, or the first fault
 -- of the walk. The walk begins at the body of the main module, takes parts in the order in which they are written, and
--- goes into the body of a module at its `run`. The language is Esterel V5, as docs/language.md states it.
+-- goes into the body of a module at its `run`. Modules and `run` are those of Berry, "The
+-- Esterel v5 Language Primer".
 use Rattle.std.specs.Prelude.{ℕ, zero, suc, ◌+◌, false, ◌||◌, nat_lt, if◌then◌else◌, List, [], ◌∷◌, map, flat_map}
 use Rattle.std.specs.Prelude.{length, Option, Some, None, Result, Ok, Err}
 use Rattle.std.specs.Option.{option_map, option_map_or}

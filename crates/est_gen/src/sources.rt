@@ -26,6 +26,7 @@ pub struct Generated {
 pub enum GenFault {
     /// No branch, or more than `MOST_BRANCHES`.
     BadBranches,
+    /// Memory was wanted and not found.
     NoMemory,
 }
 

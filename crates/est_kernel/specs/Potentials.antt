@@ -7,8 +7,8 @@ use Rattle.est_kernel.specs.Terms.{Term, Nothing, Pause, Emit, Exit, Present, Su
 use Rattle.est_kernel.specs.Terms.{Awake}
 use Rattle.est_kernel.specs.Statuses.{Status, Plus, Minus, Unknown, Environment, with_status, value}
 
--- Must is what a term does whatever the unknown statuses are. Can is what a term that must be run
--- does under some of them, and May what a term does of which it is not known that it must be run.
+-- Must is what is known to be done without trying the values of an unknown test, a lower bound. Can and May are what
+-- cannot be excluded without trying them: Can where the term is known to run, May where it is not.
 pub data Kind : Type 0 where
   Must : Kind
   Can : Kind

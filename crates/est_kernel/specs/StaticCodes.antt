@@ -1,6 +1,7 @@
 -- To believe: the codes that a statement may complete with, whatever the statuses are: in the instant in which
 -- it is started, and in later instants in which it is resumed. The codes of a kernel are below 64: there are at
--- most 60 traps one in another. After Berry, "The Constructive Semantics of Pure Esterel".
+-- most 60 traps one in another. After Berry, "The Constructive Semantics of Pure Esterel", and Tardieu and de Simone,
+-- "Instantaneous Termination in Pure Esterel" (2003).
 use Rattle.std.specs.Prelude.{◌≡◌, ℕ, Bool, ◌&&◌, ◌||◌, if◌then◌else◌, List, [], ◌∷◌, ◌++◌}
 use Rattle.est_base.specs.declared.place.Span.{Span}
 use Rattle.est_base.specs.Codes.{no_code, only, either, except, upto, maxima, lowered}

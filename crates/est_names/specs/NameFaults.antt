@@ -12,7 +12,7 @@ use Rattle.est_names.specs.declared.refusal.NameFault.TheVariants.{DuplicateModu
 use Rattle.est_names.specs.declared.refusal.NameFault.TheVariants.{RelationName, NoMemory}
 use Rattle.est_names.specs.Names.{texts, is_among, place_of}
 
--- a fault at each name that stands before it already
+-- a fault at each name that stands in the list, or in the one before it, already
 abbrev pub again : (Span → NameFault) → List (List ℕ) → List Name → List NameFault
 again fault before [] = []
 again fault before (name ∷ names) =

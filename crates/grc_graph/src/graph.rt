@@ -16,11 +16,17 @@ use est_kernel::KernelProgram;
 /// index in it is in range.
 #[derive(Debug, Drop)]
 pub struct Graph {
+    /// The program that this is the graph of.
     pub program: KernelProgram,
+    /// The live instances; an `InstId` is a place in this list.
     pub instances: Instances,
+    /// What each instance is in the control-flow graph, by its `InstId`.
     pub nodes: Vec<Node>,
+    /// What each wire is; a `WireId` is a place in this list.
     pub wires: Vec<Wire>,
+    /// The equation of each wire, by its `WireId`.
     pub equations: Vec<Formula>,
+    /// For each leaf of the selection tree, in their order, when it is selected in the next instant.
     pub next: Vec<Formula>,
     ghost indices: { IndicesFit (length instances.list.items) wires.items nodes.items equations.items next.items },
 }

@@ -1,10 +1,6 @@
 // The live instances of a kernel body.
 
-ghost use Rattle.std.specs.Prelude.{◌≡◌, IfOk, map};
-ghost use Rattle.grc_graph.specs.PlainInstances.{instance_of};
-
-use est_base::{NoMemory, PathId};
-use std::alloc::Global;
+use est_base::PathId;
 
 /// In which way a statement runs in an instant.
 #[derive(Clone, Copy, Debug, PartialEq, Eq)]
@@ -28,15 +24,4 @@ pub struct Instance {
 #[derive(Debug, Drop)]
 pub struct Instances {
     pub list: Vec<Instance>,
-}
-
-impl Instances {
-    /// An equal list, in memory of its own.
-    pub fn copy(&self, alloc: Global) -> Result<Instances, NoMemory>
-        ensures { IfOk result (λ copy. map instance_of copy.list.items ≡ map instance_of self.now.list.items) }
-    {
-        Ok(Instances {
-            list: Vec::from_slice(alloc, self.list.as_slice())?,
-        })
-    }
 }

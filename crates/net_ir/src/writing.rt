@@ -6,8 +6,8 @@ ghost use Rattle.net_ir.specs.Writing.{IsWritable};
 
 use crate::netlist::{Gate, Net};
 
-/// Looks at the wires that the gates of a net carry: their numbers are those of their type. A proof knows this of
-/// numbers that were looked at.
+/// Looks at the wires that the gates of a net carry, each once: their numbers are those of their type. A proof knows
+/// this of numbers that were looked at; no other code needs it.
 pub fn look_at_wires(net: &Net)
     ensures { IsWritable (netlist_of net.now) }
 {

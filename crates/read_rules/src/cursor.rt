@@ -1,6 +1,6 @@
 // The steps of a reader on the tokens that are left.
 
-ghost use Rattle.std.specs.Prelude.{◌≡◌, ℕ, suc, true, false, ◌∷◌, ◌-◌, ◌≤◌, [], length, take, MatchOption};
+ghost use Rattle.std.specs.Prelude.{◌≡◌, ℕ, suc, true, false, ◌∷◌, [], MatchOption};
 ghost use Rattle.std.specs.Prelude.{MatchResult};
 ghost use Rattle.read_rules.specs.Readings.{fault_at, ended};
 
@@ -46,12 +46,4 @@ pub fn ended<T, V: Drop>(value: V, rest: &[T]) -> Result<V, Fault>
     } else {
         Err(refused(rest))
     }
-}
-
-/// The tokens before the rest: what a rule took of the list.
-pub fn taken<'a, T>(tokens: &'a [T], rest: &[T]) -> &'a [T]
-    requires { length rest.now ≤ length tokens.now }
-    ensures { result.now ≡ take (length tokens.now - length rest.now) tokens.now }
-{
-    &tokens[..tokens.len() - rest.len()]
 }

@@ -15,5 +15,5 @@ mod cursor;
 mod faults;
 mod statements;
 
-pub use cursor::{ended, first, inside, refused, taken};
+pub use cursor::{ended, first, inside, refused};
 pub use faults::{Fault, ReadError};

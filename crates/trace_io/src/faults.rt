@@ -22,6 +22,8 @@ pub enum TraceFault {
 /// Why there is no next item.
 #[derive(Debug, Drop)]
 pub enum TraceError {
+    /// The trace has this fault here.
     Fault(TraceFault),
+    /// Memory was wanted and not found.
     NoMemory,
 }
