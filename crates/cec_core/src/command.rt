@@ -63,7 +63,7 @@ pub fn cec<F: Files, O: Sink, E: Sink>(
         (E.told err.old) (E.told err.new) (E.faults err.old) (E.faults err.new) }
 {
     match request_by(words) {
-        Some(request) => answered(alloc, request, files, out, err),
+        Some(request) => do_request(alloc, request, files, out, err),
         None => {
             report(err, subject_of_none(), &Outcome::Usage);
             Outcome::Usage
@@ -72,7 +72,7 @@ pub fn cec<F: Files, O: Sink, E: Sink>(
 }
 
 // Does what is asked for, and says how it ended.
-fn answered<F: Files, O: Sink, E: Sink>(
+fn do_request<F: Files, O: Sink, E: Sink>(
     alloc: Global,
     request: Request<'_>,
     files: &mut F,

@@ -48,7 +48,7 @@ pub(crate) fn exec_text<F: Files, O: Sink, E: Sink>(
     ensures err { GainsErr (Some (Exec via text.now trace.now)) (F.content files.old) result
         (E.told err.old) (E.told err.new) (E.faults err.old) (E.faults err.new) }
 {
-    let outcome = file_executed(alloc, via, text, trace, files, out);
+    let outcome = exec_file(alloc, via, text, trace, files, out);
     let subject = Subject {
         name: text,
         trace,
@@ -60,7 +60,7 @@ pub(crate) fn exec_text<F: Files, O: Sink, E: Sink>(
 }
 
 // Runs the text in a file over the trace in another.
-fn file_executed<F: Files, O: Sink>(
+fn exec_file<F: Files, O: Sink>(
     alloc: Global,
     via: Via,
     text: &str,
@@ -81,13 +81,13 @@ fn file_executed<F: Files, O: Sink>(
         }) }
 {
     match files.read(alloc, text, Limits::TEXT_BYTES) {
-        Ok(bytes) => executed(alloc, via, &bytes, trace, files, out),
+        Ok(bytes) => exec_bytes(alloc, via, &bytes, trace, files, out),
         Err(fault) => unread(Which::First, Limit::Text, fault),
     }
 }
 
 // Runs a text over the trace in a file.
-fn executed<F: Files, O: Sink>(
+fn exec_bytes<F: Files, O: Sink>(
     alloc: Global,
     via: Via,
     text: &[u8],
@@ -118,13 +118,13 @@ fn executed<F: Files, O: Sink>(
         result }
 {
     match via {
-        Via::Blif => circuit_executed(alloc, text, trace, files, out),
-        Via::C => program_executed(alloc, text, trace, files, out),
+        Via::Blif => exec_circuit(alloc, text, trace, files, out),
+        Via::C => exec_program(alloc, text, trace, files, out),
     }
 }
 
 // Runs the circuit of a BLIF text over the trace in a file.
-fn circuit_executed<F: Files, O: Sink>(
+fn exec_circuit<F: Files, O: Sink>(
     alloc: Global,
     text: &[u8],
     trace: &str,
@@ -169,7 +169,7 @@ fn circuit_executed<F: Files, O: Sink>(
 }
 
 // Runs the program of a C text over the trace in a file.
-fn program_executed<F: Files, O: Sink>(
+fn exec_program<F: Files, O: Sink>(
     alloc: Global,
     text: &[u8],
     trace: &str,

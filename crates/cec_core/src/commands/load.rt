@@ -67,7 +67,7 @@ pub(crate) fn write_load<O: Sink, E: Sink>(
         report(err, subject_of_none(), &Outcome::Limit(Limit::Source));
         return Outcome::Limit(Limit::Source);
     }
-    let outcome = written(alloc, &source, generated.rest, instants, out);
+    let outcome = write_summary(alloc, &source, generated.rest, instants, out);
     let subject = Subject {
         name: "",
         trace: "",
@@ -78,8 +78,8 @@ pub(crate) fn write_load<O: Sink, E: Sink>(
     outcome
 }
 
-// Runs a source over drawn events, and writes the numbers of the run.
-fn written<O: Sink>(alloc: Global, source: &[u8], draw: Draw, instants: u32, out: &mut O) -> Outcome
+// Runs a source over drawn events, writes the numbers of the run, and says how it ended.
+fn write_summary<O: Sink>(alloc: Global, source: &[u8], draw: Draw, instants: u32, out: &mut O) -> Outcome
     requires { length source.now ≤ Limits.SOURCE_BYTES }
     ensures agrees { MakesOn None result source.now }
     ensures out { LeavesText (IsSummary source.now draw instants)

@@ -45,7 +45,7 @@ pub(crate) fn make_text<F: Files, O: Sink, E: Sink>(
 {
     match files.read(alloc, job.name, Limits::SOURCE_BYTES) {
         Ok(source) => {
-            let outcome = written(alloc, task, job, &source, out);
+            let outcome = do_task(alloc, task, job, &source, out);
             report(err, subject_of(job, "", &source), &outcome);
             outcome
         }
@@ -83,8 +83,8 @@ pub(crate) fn unread(file: Which, limit: Limit, fault: FileFault) -> Outcome
     }
 }
 
-// Does a task on a source: what it makes is written to `out`.
-fn written<O: Sink>(alloc: Global, task: Task, job: Job<'_>, source: &[u8], out: &mut O) -> Outcome
+// Does a task on a source, writes what it makes to `out`, and says how it ended.
+fn do_task<O: Sink>(alloc: Global, task: Task, job: Job<'_>, source: &[u8], out: &mut O) -> Outcome
     requires { length source.now ≤ Limits.SOURCE_BYTES }
     ensures agrees { MakesOn (plain_job job.entry).main result source.now }
     ensures out { LeavesAnswer task (IsAnswer task (plain_job job.entry).main source.now)
@@ -97,8 +97,8 @@ fn written<O: Sink>(alloc: Global, task: Task, job: Job<'_>, source: &[u8], out:
         result }
 {
     match task {
-        Task::Blif => blif_written(alloc, job, source, out),
-        Task::C => c_written(alloc, job, source, out),
+        Task::Blif => write_blif_text(alloc, job, source, out),
+        Task::C => write_c_text(alloc, job, source, out),
         Task::Grc => match listing(alloc, source, job.main) {
             Ok(text) => write_whole(&text, out),
             Err(refusal) => Outcome::from(refusal),
@@ -111,7 +111,7 @@ fn written<O: Sink>(alloc: Global, task: Task, job: Job<'_>, source: &[u8], out:
 }
 
 // Writes the BLIF text of a source, piece by piece.
-fn blif_written<O: Sink>(alloc: Global, job: Job<'_>, source: &[u8], out: &mut O) -> Outcome
+fn write_blif_text<O: Sink>(alloc: Global, job: Job<'_>, source: &[u8], out: &mut O) -> Outcome
     requires { length source.now ≤ Limits.SOURCE_BYTES }
     ensures agrees { MakesOn (plain_job job.entry).main result source.now }
     ensures out { LeavesPieces (IsAnswer Task.Blif (plain_job job.entry).main source.now)
@@ -133,7 +133,7 @@ fn blif_written<O: Sink>(alloc: Global, job: Job<'_>, source: &[u8], out: &mut O
 }
 
 // Writes the C text of a source, piece by piece.
-fn c_written<O: Sink>(alloc: Global, job: Job<'_>, source: &[u8], out: &mut O) -> Outcome
+fn write_c_text<O: Sink>(alloc: Global, job: Job<'_>, source: &[u8], out: &mut O) -> Outcome
     requires { length source.now ≤ Limits.SOURCE_BYTES }
     ensures agrees { MakesOn (plain_job job.entry).main result source.now }
     ensures out { LeavesPieces (IsAnswer Task.C (plain_job job.entry).main source.now)

@@ -23,16 +23,16 @@ pub returns-clause-out : goal.returns-clause-out
 returns-clause-out g c =
     let s : Sinks = record {
       before = g.O.Sink.told c.args.out.now;
-      after = g.O.Sink.told c.written-outcome.new.out;
+      after = g.O.Sink.told c.write_summary-outcome.new.out;
       faults_before = g.O.Sink.faults c.args.out.now;
-      faults_now = g.O.Sink.faults c.written-outcome.new.out;
+      faults_now = g.O.Sink.faults c.write_summary-outcome.new.out;
     } in
     let made = c.in-Ok.ensures in
-    subst (λ x. LeavesText (IsSummary (source_text c.args.start c.args.branches) x c.args.instants) s c.written-outcome.result) made.rest
-    (subst (λ b. LeavesText (IsSummary b c.in-Ok.generated.rest c.args.instants) s c.written-outcome.result) (c.deref.ensures.value ∙ made.source)
-    c.written-outcome.ensures.out)
+    subst (λ x. LeavesText (IsSummary (source_text c.args.start c.args.branches) x c.args.instants) s c.write_summary-outcome.result) made.rest
+    (subst (λ b. LeavesText (IsSummary b c.in-Ok.generated.rest c.args.instants) s c.write_summary-outcome.result) (c.deref.ensures.value ∙ made.source)
+    c.write_summary-outcome.ensures.out)
 
 pub returns-clause-agrees : goal.returns-clause-agrees
 returns-clause-agrees g c =
     let made = c.in-Ok.ensures in
-    subst (MakesOn None c.written-outcome.result) (c.deref.ensures.value ∙ made.source) c.written-outcome.ensures.agrees
+    subst (MakesOn None c.write_summary-outcome.result) (c.deref.ensures.value ∙ made.source) c.write_summary-outcome.ensures.agrees

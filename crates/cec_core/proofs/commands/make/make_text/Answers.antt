@@ -15,14 +15,14 @@ pub returns-in-Ok-clause-agrees : goal.returns-in-Ok-clause-agrees
 returns-in-Ok-clause-agrees g c =
     let job = plain_job c.args.job in
     let content = g.F.Files.content c.args.files.now in
-    make_agrees content c.args.task job c.written-outcome.result c.in-Ok.source.items
+    make_agrees content c.args.task job c.do_task-outcome.result c.in-Ok.source.items
     (held_read content job.name SOURCE_BYTES c.in-Ok.source c.in-Ok.ensures.bytes)
-    (subst (MakesOn job.main c.written-outcome.result) c.deref.ensures.value c.written-outcome.ensures.agrees)
+    (subst (MakesOn job.main c.do_task-outcome.result) c.deref.ensures.value c.do_task-outcome.ensures.agrees)
 
 pub returns-in-Ok-clause-files_counted : goal.returns-in-Ok-clause-files_counted
 returns-in-Ok-clause-files_counted g c =
     let job = plain_job c.args.job in
-    make_counts c.args.task job c.written-outcome.result c.deref.result.now _ _ _ _ c.written-outcome.ensures.agrees c.in-Ok.ensures.counts
+    make_counts c.args.task job c.do_task-outcome.result c.deref.result.now _ _ _ _ c.do_task-outcome.ensures.agrees c.in-Ok.ensures.counts
 
 pub returns-in-Ok-clause-out : goal.returns-in-Ok-clause-out
 returns-in-Ok-clause-out g c =
@@ -30,21 +30,21 @@ returns-in-Ok-clause-out g c =
     let content = g.F.Files.content c.args.files.now in
     let s : Sinks = record {
       before = g.O.Sink.told c.args.out.now;
-      after = g.O.Sink.told c.written-outcome.new.out;
+      after = g.O.Sink.told c.do_task-outcome.new.out;
       faults_before = g.O.Sink.faults c.args.out.now;
-      faults_now = g.O.Sink.faults c.written-outcome.new.out;
+      faults_now = g.O.Sink.faults c.do_task-outcome.new.out;
     } in
-    make_out content c.args.task job c.written-outcome.result c.in-Ok.source.items s
+    make_out content c.args.task job c.do_task-outcome.result c.in-Ok.source.items s
     (held_read content job.name SOURCE_BYTES c.in-Ok.source c.in-Ok.ensures.bytes)
-    (subst (λ bytes. LeavesAnswer c.args.task (IsAnswer c.args.task job.main bytes) s c.written-outcome.result)
-    c.deref.ensures.value c.written-outcome.ensures.out)
+    (subst (λ bytes. LeavesAnswer c.args.task (IsAnswer c.args.task job.main bytes) s c.do_task-outcome.result)
+    c.deref.ensures.value c.do_task-outcome.ensures.out)
 
 pub returns-in-Ok-clause-err : goal.returns-in-Ok-clause-err
 returns-in-Ok-clause-err g c =
     let job = plain_job c.args.job in
     let content = g.F.Files.content c.args.files.now in
     let subject = c.subject_of.ensures in
-    err_alone _ content c.written-outcome.result (plain_subject c.subject_of.result) _ _ _ _
+    err_alone _ content c.do_task-outcome.result (plain_subject c.subject_of.result) _ _ _ _
     (source_subject content job c.in-Ok.source.items (plain_subject c.subject_of.result)
     (held_read content job.name SOURCE_BYTES c.in-Ok.source c.in-Ok.ensures.bytes) subject.name subject.main (subject.source ∙ c.deref-in-Ok.ensures.value))
     c.report.ensures

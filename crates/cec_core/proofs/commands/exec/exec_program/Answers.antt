@@ -3,7 +3,7 @@ use Rattle.csub_text.specs.Views.{program_of}
 use Rattle.cec_words.specs.declared.asked.Via.TheVariants.{C}
 use Rattle.cec_core.proofs.OneFile.{held_read}
 use Rattle.cec_core.proofs.TwoFiles.{exec_left, long_trace_unread}
-use Rattle.cec_core.proofs.commands.exec.program_executed.Goals as goal
+use Rattle.cec_core.proofs.commands.exec.exec_program.Goals as goal
 
 pub returns-in-Ok-read-clause-out : goal.returns-in-Ok-read-clause-out
 returns-in-Ok-read-clause-out g c =

@@ -1,4 +1,4 @@
-use Rattle.cec_core.proofs.command.answered.Goals as goal
+use Rattle.cec_core.proofs.command.do_request.Goals as goal
 
 pub returns-in-Run-clause-agrees : goal.returns-in-Run-clause-agrees
 returns-in-Run-clause-agrees g c = rw c.in-Run.is c.run_file.ensures.agrees

@@ -4,7 +4,7 @@ use Rattle.blif_run.specs.Loops.{HasNoLoop}
 use Rattle.cec_words.specs.declared.asked.Via.TheVariants.{Blif}
 use Rattle.cec_core.proofs.OneFile.{held_read}
 use Rattle.cec_core.proofs.TwoFiles.{exec_left, long_trace_unread}
-use Rattle.cec_core.proofs.commands.exec.circuit_executed.Goals as goal
+use Rattle.cec_core.proofs.commands.exec.exec_circuit.Goals as goal
 
 pub returns-in-Ok-read-clause-out : goal.returns-in-Ok-read-clause-out
 returns-in-Ok-read-clause-out g c =

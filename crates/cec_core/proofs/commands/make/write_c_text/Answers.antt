@@ -6,7 +6,7 @@ use Rattle.cec_core.specs.Answers.{IsAnswer}
 use Rattle.cec_core.specs.JobViews.{plain_job}
 use Rattle.cec_core.proofs.NetTexts.{c_answers, net_source}
 use Rattle.cec_core.proofs.Pieces.{sinks, pieces_as, refused_pieces, writing_makes}
-use Rattle.cec_core.proofs.commands.make.c_written.Goals as goal
+use Rattle.cec_core.proofs.commands.make.write_c_text.Goals as goal
 
 pub returns-in-Ok-clause-agrees : goal.returns-in-Ok-clause-agrees
 returns-in-Ok-clause-agrees g c =

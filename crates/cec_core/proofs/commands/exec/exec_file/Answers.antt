@@ -1,5 +1,5 @@
 use Rattle.cec_core.proofs.TwoFiles.{exec_agrees_unread}
-use Rattle.cec_core.proofs.commands.exec.file_executed.Goals as goal
+use Rattle.cec_core.proofs.commands.exec.exec_file.Goals as goal
 
 pub returns-in-Err-clause-agrees : goal.returns-in-Err-clause-agrees
 returns-in-Err-clause-agrees g c =
