@@ -141,6 +141,3 @@ fn take_values(slots: &[usize], values: &[bool], taken: &mut [bool])
         taken[k] = values[*slot];
     }
 }
-
-#[cfg(test)]
-mod tests;

@@ -149,6 +149,3 @@ fn is_ended(statements: &[Statement]) -> bool
         None => false,
     }
 }
-
-#[cfg(test)]
-mod tests;

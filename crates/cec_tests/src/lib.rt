@@ -1,12 +1,15 @@
 //! Tests of the whole compiler, from the words of a command line to what the sinks have, and of what crosses passes.
 //!
 //! Worked sources of the field go through `cec_core::cec` over files and sinks in memory; the BLIF text that it writes
-//! is read by `blif_text` and run by `blif_run`. Their graphs and netlists react besides, and worked netlists are made
-//! smaller. The expected values come from published examples and from another implementation of the language.
+//! is read by `blif_text` and run by `blif_run`. Their graphs and netlists react besides. Worked netlists are solved,
+//! made smaller and written as texts; texts are read, refused, and run over events and traces. The expected values come
+//! from published examples and from another implementation of the language.
 #![tactic(auto)]
 
 #[cfg(test)]
 mod calls;
+#[cfg(test)]
+mod circuits_run;
 #[cfg(test)]
 mod cycles;
 #[cfg(test)]
@@ -17,3 +20,11 @@ mod nets;
 mod pieces;
 #[cfg(test)]
 mod reactions;
+#[cfg(test)]
+mod texts_read;
+#[cfg(test)]
+mod texts_written;
+#[cfg(test)]
+mod traces_run;
+#[cfg(test)]
+mod worked_nets;

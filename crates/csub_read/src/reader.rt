@@ -84,6 +84,3 @@ fn place_at(text: &[u8], tokens: &[Token<'_>], fault: Fault) -> u32
         text.len() as u32
     }
 }
-
-#[cfg(test)]
-mod tests;

@@ -104,6 +104,3 @@ fn op_value(values: &[bool], op: Op) -> bool
         Op::Or(a, b) => values[a.0 as usize] || values[b.0 as usize],
     }
 }
-
-#[cfg(test)]
-mod tests;

@@ -19,6 +19,3 @@ pub use laws::{events_fit, nets_are_run, runs_are_written};
 pub use machine::Runner;
 pub use net_runs::{net_interface, run_written};
 pub use running::{Interface, RunFault, run_trace};
-
-#[cfg(test)]
-mod tests;

@@ -18,6 +18,3 @@ pub use laws::{c_faults_are_exact, c_nets_are_run, c_runs_are_written};
 pub use machine::CMachine;
 pub use net_runs::run_written_c;
 pub use running::run_c;
-
-#[cfg(test)]
-mod tests;

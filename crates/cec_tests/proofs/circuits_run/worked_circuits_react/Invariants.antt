@@ -1,5 +1,5 @@
 use Rattle.std.proofs.Common.{◌≡◌, length}
-use Rattle.blif_run.proofs.runner.tests.worked_circuits_react.Given as goal
+use Rattle.cec_tests.proofs.circuits_run.worked_circuits_react.Given as goal
 
 abbrev pub invariant-loop-item : goal.invariant-loop-item
 invariant-loop-item g l =

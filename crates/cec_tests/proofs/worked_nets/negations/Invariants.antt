@@ -1,7 +1,7 @@
 use Rattle.std.proofs.Common.{◌≡◌, ◌<◌, length, nat_eq, IsTrue, All}
 use Rattle.est_base.specs.Distinct.{all_differ}
 use Rattle.net_ir.specs.Gates.{ReadsLower, carried}
-use Rattle.net_ir.proofs.netlist.tests.negations.Given as goal
+use Rattle.cec_tests.proofs.worked_nets.negations.Given as goal
 
 abbrev pub invariant-loop-k : goal.invariant-loop-k
 invariant-loop-k l = record {

@@ -5,7 +5,7 @@ use Rattle.net_ir.specs.declared.netlist.Gate.{Gate}
 use Rattle.net_ir.specs.declared.netlist.Op.TheVariants.{Not}
 use Rattle.net_ir.specs.Gates.{carried}
 use Rattle.net_ir.proofs.Building.{ReadsLower-push, carried-push, all_differ-rising}
-use Rattle.net_ir.proofs.netlist.tests.negations.Goals as goal
+use Rattle.cec_tests.proofs.worked_nets.negations.Goals as goal
 
 pub loop-k-preserved : goal.loop-k-preserved
 loop-k-preserved c =

@@ -2,12 +2,10 @@
 
 ghost use Rattle.std.specs.Prelude.{◌≡◌, length};
 
-use super::*;
+use crate::texts_written::WORKED_BLIF;
+use blif_run::{NetRunner, RunError};
 use blif_text::read_blif;
 use std::test::Fail;
-
-const WORKED_TEXT: &[u8] =
-    b".model T\n.inputs A\n.outputs O _paused\n.latch _g1 _s0 0\n.names A _i0\n1 1\n.names _i0 _s0 _g0\n11 1\n.names _g0 _g1\n0 1\n.names _g0 O\n1 1\n.names _s0 _paused\n1 1\n.end\n";
 
 // Two latches that change their values, a table of three inputs that reads later ones, and a constant.
 const LATCHES: &[u8] =
@@ -18,7 +16,7 @@ const LATCHES: &[u8] =
 fn worked_circuits_react(rt: HostRuntime) -> Result<(), Fail> {
     let cases: [(&[u8], &[u8], &[&[u8]]); 2] = [
         (
-            WORKED_TEXT,
+            WORKED_BLIF,
             b"11101r1",
             &[b"00", b"11", b"00", b"01", b"11", b"00", b"00"],
         ),
