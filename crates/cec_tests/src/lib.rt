@@ -1,4 +1,5 @@
-//! Tests of the whole compiler, from the words of a command line to what the sinks have, and of what crosses passes.
+//! Tests of the whole compiler, from the words of a command line to what the sinks have, of what crosses passes, and of
+//! single passes through their public calls.
 //!
 //! Worked sources of the field go through `cec_core::cec` over files and sinks in memory; the BLIF text that it writes
 //! is read by `blif_text` and run by `blif_run`. Their graphs and netlists react besides, and worked netlists are made
@@ -10,10 +11,22 @@ mod calls;
 #[cfg(test)]
 mod cycles;
 #[cfg(test)]
+mod expansions;
+#[cfg(test)]
 mod graphs;
+#[cfg(test)]
+mod kernels;
 #[cfg(test)]
 mod nets;
 #[cfg(test)]
 mod pieces;
 #[cfg(test)]
+mod productions;
+#[cfg(test)]
 mod reactions;
+#[cfg(test)]
+mod static_codes;
+#[cfg(test)]
+mod tokens;
+#[cfg(test)]
+mod words;
