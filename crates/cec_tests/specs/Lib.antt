@@ -1,1 +1,2 @@
 pub mod Reacting
+pub mod WorkedBodies

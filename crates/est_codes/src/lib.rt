@@ -10,8 +10,6 @@ mod entries;
 mod places;
 mod refusal;
 mod rows;
-#[cfg(test)]
-mod tests;
 mod walk;
 
 pub use refusal::CodeFault;

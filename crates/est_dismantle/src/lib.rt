@@ -21,8 +21,6 @@ mod measured_rows;
 mod programs;
 mod refusal;
 mod terms;
-#[cfg(test)]
-mod tests;
 
 pub use laws::{
     expansions_are_well_formed, immediate_abortions_run_their_rest, immediate_awaits_end_at_once,

@@ -13,8 +13,6 @@ mod measures;
 mod programs;
 mod signal_tests;
 mod statements;
-#[cfg(test)]
-mod tests;
 
 pub use code_lists::Codes;
 pub use laws::{

@@ -12,8 +12,6 @@ mod lexer;
 mod numerals;
 mod refusal;
 mod signs;
-#[cfg(test)]
-mod tests;
 mod words;
 
 pub use lexer::lex;

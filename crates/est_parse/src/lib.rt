@@ -18,8 +18,6 @@ mod refusal;
 mod signs;
 mod statements;
 mod tails;
-#[cfg(test)]
-mod tests;
 
 pub use laws::{spellings_are_grammatical, spellings_are_read};
 pub use parser::parse;

@@ -1,7 +1,8 @@
-// Tables of texts and what they come to.
+// Tables of texts and the tokens, or the fault, that they come to.
 
-use crate::{LexError, lex};
+use crate::words::{MARKS, RESERVED};
 use est_ast::{Kind, Mark, Reserved, Token};
+use est_lex::{LexError, lex};
 use std::alloc::Global;
 use std::process::Abort;
 use std::test::Fail;
@@ -26,62 +27,6 @@ fn is_wanted(token: &Token, want: Want) -> bool {
         _ => false,
     }
 }
-
-const RESERVED: [(&[u8], Reserved); 38] = [
-    (b"abort", Reserved::Abort),
-    (b"and", Reserved::And),
-    (b"await", Reserved::Await),
-    (b"case", Reserved::Case),
-    (b"do", Reserved::Do),
-    (b"each", Reserved::Each),
-    (b"else", Reserved::Else),
-    (b"emit", Reserved::Emit),
-    (b"end", Reserved::End),
-    (b"every", Reserved::Every),
-    (b"exit", Reserved::Exit),
-    (b"halt", Reserved::Halt),
-    (b"handle", Reserved::Handle),
-    (b"immediate", Reserved::Immediate),
-    (b"in", Reserved::In),
-    (b"input", Reserved::Input),
-    (b"inputoutput", Reserved::InputOutput),
-    (b"loop", Reserved::Loop),
-    (b"module", Reserved::Module),
-    (b"not", Reserved::Not),
-    (b"nothing", Reserved::Nothing),
-    (b"or", Reserved::Or),
-    (b"output", Reserved::Output),
-    (b"pause", Reserved::Pause),
-    (b"positive", Reserved::Positive),
-    (b"present", Reserved::Present),
-    (b"relation", Reserved::Relation),
-    (b"repeat", Reserved::Repeat),
-    (b"run", Reserved::Run),
-    (b"signal", Reserved::Signal),
-    (b"suspend", Reserved::Suspend),
-    (b"sustain", Reserved::Sustain),
-    (b"then", Reserved::Then),
-    (b"tick", Reserved::Tick),
-    (b"times", Reserved::Times),
-    (b"trap", Reserved::Trap),
-    (b"weak", Reserved::Weak),
-    (b"when", Reserved::When),
-];
-
-const MARKS: [(&[u8], Mark); 12] = [
-    (b";", Mark::Semicolon),
-    (b"||", Mark::DoubleBar),
-    (b"[", Mark::LeftBracket),
-    (b"]", Mark::RightBracket),
-    (b"(", Mark::LeftParenthesis),
-    (b")", Mark::RightParenthesis),
-    (b",", Mark::Comma),
-    (b"/", Mark::Slash),
-    (b":", Mark::Colon),
-    (b"#", Mark::Hash),
-    (b"=>", Mark::Arrow),
-    (b".", Mark::Period),
-];
 
 const TEXTS: [(&[u8], &[(Want, u32, u32)]); 17] = [
     (b"", &[]),
@@ -190,12 +135,12 @@ fn is_one_token(rt: &impl Abort, alloc: Global, text: &[u8], want: Want) -> Resu
 }
 
 #[test]
-fn texts(rt: HostRuntime) -> Result<(), Fail> {
+fn texts_come_to_their_tokens(rt: HostRuntime) -> Result<(), Fail> {
     for (text, word) in RESERVED.iter() {
-        is_one_token(&rt, rt.alloc(), text, Word(*word))?;
+        is_one_token(&rt, rt.alloc(), text.as_bytes(), Word(*word))?;
     }
     for (text, mark) in MARKS.iter() {
-        is_one_token(&rt, rt.alloc(), text, Sign(*mark))?;
+        is_one_token(&rt, rt.alloc(), text.as_bytes(), Sign(*mark))?;
     }
     for (text, wants) in TEXTS.iter() {
         reads(&rt, rt.alloc(), text, wants)?;
@@ -204,7 +149,7 @@ fn texts(rt: HostRuntime) -> Result<(), Fail> {
 }
 
 #[test]
-fn faults(rt: HostRuntime) -> Result<(), Fail> {
+fn faults_of_texts_have_their_places(rt: HostRuntime) -> Result<(), Fail> {
     for (text, fault) in FAULTS.iter() {
         assert!(rt; text.len() < 100);
         match lex(rt.alloc(), text) {

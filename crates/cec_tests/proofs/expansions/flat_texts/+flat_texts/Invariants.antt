@@ -1,5 +1,5 @@
 use Rattle.std.proofs.Common.{◌+◌, ◌*◌}
-use Rattle.est_dismantle.proofs.tests.flat_texts.+flat_texts.Given as goal
+use Rattle.cec_tests.proofs.expansions.flat_texts.+flat_texts.Given as goal
 
 -- the room, and behind it how far the functions of one step stand from the next statement
 abbrev pub decreases-read_statement : goal.decreases-read_statement

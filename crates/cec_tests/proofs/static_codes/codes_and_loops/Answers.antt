@@ -1,5 +1,5 @@
 use Rattle.std.proofs.Common.{lit≤}
-use Rattle.est_codes.proofs.tests.codes_and_loops.Goals as goal
+use Rattle.cec_tests.proofs.static_codes.codes_and_loops.Goals as goal
 
 pub codes-requires : goal.codes-requires
 codes-requires c d =

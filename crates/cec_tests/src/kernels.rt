@@ -1,11 +1,18 @@
-// Each public call once, on a statement that has every form.
+// The measures and the copy of a program whose body has every form.
 
-use crate::{Kernel, KernelProgram, Test, height, size};
+ghost use Rattle.std.specs.Prelude.{◌≡◌, IfOk};
+ghost use Rattle.est_kernel.specs.Plain.{term_of};
+ghost use Rattle.est_kernel.specs.Terms.{Seq};
+
 use est_base::{InputRelation, NoMemory, SigId, SignalInfo, Span, Text};
+use est_kernel::{Kernel, KernelProgram, Test, height, size};
 use std::alloc::Global;
 use std::test::Fail;
 
-fn seq(alloc: Global, first: Kernel, second: Kernel) -> Result<Kernel, NoMemory> {
+/// Two statements, one after the other.
+pub(crate) fn seq(alloc: Global, first: Kernel, second: Kernel) -> Result<Kernel, NoMemory>
+    ensures { IfOk result (λ k. term_of k ≡ Seq (term_of first) (term_of second)) }
+{
     let first = Box::new(alloc, first)?;
     Ok(Kernel::Seq(first, Box::new(alloc, second)?))
 }
@@ -88,7 +95,7 @@ fn program(alloc: Global) -> Result<KernelProgram, NoMemory> {
 }
 
 #[test]
-fn measures_and_copies(rt: HostRuntime) -> Result<(), Fail> {
+fn measures_and_copy_of_every_form(rt: HostRuntime) -> Result<(), Fail> {
     let whole = program(rt.alloc())?;
     assert_eq!(rt; size(&whole.body), 20);
     assert_eq!(rt; height(&whole.body), 7);

@@ -1,23 +1,17 @@
-// The worked examples of the tables, and which loop is named.
+// The static codes of worked bodies, and which instantaneous loop is named.
 
 ghost use Rattle.std.specs.Prelude.{◌≡◌, IfOk};
 ghost use Rattle.est_base.specs.declared.place.Span.{Span};
 ghost use Rattle.est_kernel.specs.Plain.{term_of};
-ghost use Rattle.est_kernel.specs.Terms.{Seq, Loop};
-ghost use Rattle.est_codes.specs.WorkedBodies.{one_pause_body, emitting_body, four_loops_body};
+ghost use Rattle.est_kernel.specs.Terms.{Loop};
+ghost use Rattle.cec_tests.specs.WorkedBodies.{one_pause_body, emitting_body, four_loops_body};
 
-use crate::{CodeFault, codes};
+use crate::kernels::seq;
 use est_base::{CodeSet, NoMemory, SigId, Span};
+use est_codes::{CodeFault, codes};
 use est_kernel::Kernel;
 use std::alloc::Global;
 use std::test::Fail;
-
-fn seq(alloc: Global, first: Kernel, second: Kernel) -> Result<Kernel, NoMemory>
-    ensures { IfOk result (λ k. term_of k ≡ Seq (term_of first) (term_of second)) }
-{
-    let first = Box::new(alloc, first)?;
-    Ok(Kernel::Seq(first, Box::new(alloc, second)?))
-}
 
 fn looped(alloc: Global, start: u32, end: u32, body: Kernel) -> Result<Kernel, NoMemory>
     ensures { IfOk result (λ k. term_of k ≡ Loop (record { start = start; end = end }) (term_of body)) }

@@ -1,13 +1,13 @@
-// Rows of the table of expansions, faults, and bodies at the limits.
+// Rows of the table of expansions, bad counts, and bodies at the limits.
 
 mod flat_texts;
 mod kernel_texts;
 mod rows;
 
-use crate::measure::measure;
-use crate::{DismantleFault, dismantle};
 use est_ast::{Flat, FlatForm, FlatStmt};
 use est_base::{NoMemory, SigId, SignalInfo, Span, Text};
+use est_dismantle::{DismantleFault, dismantle};
+use est_kernel::size;
 use flat_texts::read_statement;
 use kernel_texts::{write_kernel, write_place};
 use rows::ROWS;
@@ -80,6 +80,7 @@ fn traps(alloc: Global, count: usize) -> Result<FlatStmt, NoMemory> {
     Ok(body)
 }
 
+// Two pauses, repeated so many times, and that again, so deep.
 fn repeats(alloc: Global, depth: usize, count: u128) -> Result<FlatStmt, NoMemory> {
     let mut body = statement(FlatForm::Seq(Vec::from_array(
         alloc,
@@ -98,16 +99,29 @@ fn fault(alloc: Global, body: FlatStmt) -> Result<Option<DismantleFault>, NoMemo
     Ok(dismantle(alloc, &flat).err())
 }
 
+// The number of nodes of the kernel of a program with this body; None where it is refused.
+fn kernel_size(alloc: Global, body: FlatStmt) -> Result<Option<u64>, NoMemory> {
+    let flat = program(alloc, 4, body)?;
+    Ok(match dismantle(alloc, &flat) {
+        Ok(program) => Some(size(&program.body)),
+        Err(_) => None,
+    })
+}
+
 #[test]
 fn bodies_at_the_limits(rt: HostRuntime) -> Result<(), Fail> {
     let alloc = rt.alloc();
-    assert!(rt; measure(&repeats(alloc, 2, 255)?).size == 260_099);
+    // c counts at a depth of d make 4 c^d - 1 nodes, of which there are at most 65,536.
+    assert!(rt; kernel_size(alloc, repeats(alloc, 1, 255)?)? == Some(1_019));
+    assert!(rt; kernel_size(alloc, repeats(alloc, 2, 128)?)? == Some(65_535));
     let rows = [
         (pauses(alloc, 1024)?, None),
         (pauses(alloc, 1025)?, Some(DismantleFault::TooHigh)),
         (traps(alloc, 60)?, None),
         (traps(alloc, 61)?, Some(DismantleFault::TooManyTraps)),
         (repeats(alloc, 1, 255)?, None),
+        (repeats(alloc, 2, 128)?, None),
+        (repeats(alloc, 2, 129)?, Some(DismantleFault::TooLarge)),
         (repeats(alloc, 2, 255)?, Some(DismantleFault::TooLarge)),
         (repeats(alloc, 100, 255)?, Some(DismantleFault::TooLarge)),
     ];
