@@ -1,13 +1,13 @@
 -- Inner: wires by name as the program writes them, and the numbers of named wires.
 use Rattle.std.specs.Prelude.{◌≡◌, ℕ, suc, ◌<◌, if◌then◌else◌, List, [], ◌∷◌, length, slice_index_or}
 use Rattle.std.specs.Prelude.{Option, Some, None, option_map}
-use Rattle.grc_dep.specs.declared.names.Name.{Name}
-use Rattle.grc_dep.specs.declared.names.Name.TheVariants as names
+use Rattle.grc_dep.specs.declared.names.NamedWire.{NamedWire}
+use Rattle.grc_dep.specs.declared.names.NamedWire.TheVariants as names
 use Rattle.grc_graph.specs.Wires.{Wire, Out, Go, StatusOf, End, same_wire}
 use Rattle.grc_graph.specs.PlainInstances.{instance_of}
 
 -- a wire by its name
-abbrev pub wire_named : Name → Wire
+abbrev pub wire_named : NamedWire → Wire
 wire_named (names.Out s) = Out s.0
 wire_named (names.Go x) = Go (instance_of x).path (instance_of x).layer
 wire_named (names.Status x) = StatusOf (instance_of x).path (instance_of x).layer

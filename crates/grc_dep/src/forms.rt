@@ -13,7 +13,7 @@ ghost use Rattle.grc_dep.specs.Found.{found_by};
 
 use crate::linking::push_edge_if;
 use crate::lookups::Lookups;
-use crate::names::Name;
+use crate::names::NamedWire;
 use crate::part_edges::{
     push_branch_ends, push_ends_if, push_go_to_part, push_later_ends_if, push_own_ends,
     push_trapped_ends,
@@ -87,8 +87,8 @@ fn push_resumed_loop(
     let anew = Layer::Started(part.path);
     let again = part.passes_in(layer);
     let path = part.path;
-    let end = Name::End(Instance { path, layer }, 0);
-    let entered = Name::Go(Instance { path, layer: anew });
+    let end = NamedWire::End(Instance { path, layer }, 0);
+    let entered = NamedWire::Go(Instance { path, layer: anew });
     push_go_to_part(lookups, whole, part, layer, pairs)?;
     push_edge_if(lookups, again, end, entered, pairs)?;
     push_later_ends_if(lookups, true, part, layer, whole, layer, pairs)?;
@@ -149,22 +149,22 @@ fn push_resumed_seq(
 {
     let layer = Layer::Resumed;
     let anew = Layer::Started(second.path);
-    let goes = Name::Go(Instance {
+    let goes = NamedWire::Go(Instance {
         path: whole.path,
         layer,
     });
-    let resumes = Name::Go(Instance {
+    let resumes = NamedWire::Go(Instance {
         path: second.path,
         layer,
     });
-    let end = Name::End(
+    let end = NamedWire::End(
         Instance {
             path: first.path,
             layer,
         },
         0,
     );
-    let starts = Name::Go(Instance {
+    let starts = NamedWire::Go(Instance {
         path: second.path,
         layer: anew,
     });
@@ -201,14 +201,14 @@ fn push_started_seq(
         whole.now.path.0 (Started root.0))) }
 {
     let layer = Layer::Started(root);
-    let end = Name::End(
+    let end = NamedWire::End(
         Instance {
             path: first.path,
             layer,
         },
         0,
     );
-    let starts = Name::Go(Instance {
+    let starts = NamedWire::Go(Instance {
         path: second.path,
         layer,
     });

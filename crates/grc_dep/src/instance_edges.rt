@@ -13,7 +13,7 @@ ghost use Rattle.grc_dep.specs.Found.{found_by};
 
 use crate::forms::{push_local, push_loop, push_par, push_seq, push_trap};
 use crate::lookups::Lookups;
-use crate::names::Name;
+use crate::names::NamedWire;
 use crate::part_edges::push_own_ends;
 use crate::parts::{Part, part_at};
 use crate::statuses::{BoundTest, push_emission, status_name};
@@ -102,5 +102,10 @@ fn push_emit(
     let path = whole.path;
     push_own_ends(lookups, whole, layer, pairs)?;
     let status = status_name(binding, signal, layer);
-    push_emission(lookups, Name::Go(Instance { path, layer }), status, pairs)
+    push_emission(
+        lookups,
+        NamedWire::Go(Instance { path, layer }),
+        status,
+        pairs,
+    )
 }

@@ -11,15 +11,15 @@ ghost use Rattle.grc_dep.specs.Families.{to_ends_above};
 ghost use Rattle.grc_dep.specs.Found.{found_by};
 
 use crate::lookups::Lookups;
-use crate::names::Name;
+use crate::names::NamedWire;
 use est_base::{CodeSet, NoMemory, WireId};
 use grc_graph::Instance;
 
 // The edge between two wires, where the graph has both.
 pub fn push_edge(
     lookups: &Lookups,
-    from: Name,
-    to: Name,
+    from: NamedWire,
+    to: NamedWire,
     pairs: &mut Vec<(WireId, WireId)>,
 ) -> Result<(), NoMemory>
     ensures { OnOk result (pairs.new.items ≡ pairs.old.items
@@ -41,8 +41,8 @@ pub fn push_edge(
 pub fn push_edge_if(
     lookups: &Lookups,
     holds: bool,
-    from: Name,
-    to: Name,
+    from: NamedWire,
+    to: NamedWire,
     pairs: &mut Vec<(WireId, WireId)>,
 ) -> Result<(), NoMemory>
     ensures { OnOk result (pairs.new.items ≡ pairs.old.items
@@ -66,7 +66,13 @@ pub fn push_go_to_ends(
 {
     for code in 0..64 {
         let holds = codes.has(code);
-        push_edge_if(lookups, holds, Name::Go(at), Name::End(at, code), pairs)?;
+        push_edge_if(
+            lookups,
+            holds,
+            NamedWire::Go(at),
+            NamedWire::End(at, code),
+            pairs,
+        )?;
     }
     Ok(())
 }
@@ -85,8 +91,8 @@ pub fn push_ends_to_ends(
 {
     for code in 0..64 {
         let holds = codes.has(code);
-        let to = Name::End(whole, code);
-        push_edge_if(lookups, holds, Name::End(part, code), to, pairs)?;
+        let to = NamedWire::End(whole, code);
+        push_edge_if(lookups, holds, NamedWire::End(part, code), to, pairs)?;
     }
     Ok(())
 }
@@ -106,8 +112,8 @@ pub fn push_trapped_to_ends(
 {
     for code in 0..64 {
         let holds = codes.has(code);
-        let to = Name::End(whole, trap_code(code));
-        push_edge_if(lookups, holds, Name::End(part, code), to, pairs)?;
+        let to = NamedWire::End(whole, trap_code(code));
+        push_edge_if(lookups, holds, NamedWire::End(part, code), to, pairs)?;
     }
     Ok(())
 }
@@ -155,7 +161,7 @@ fn push_to_ends_above(
     pairs: &mut Vec<(WireId, WireId)>,
 ) -> Result<(), NoMemory>
     ensures { OnOk result (pairs.new.items ≡ pairs.old.items ++ found_by lookups.now
-        (edges_if holds (to_ends_above (members whole_codes) (wire_named (Name.End part code)) code
+        (edges_if holds (to_ends_above (members whole_codes) (wire_named (NamedWire.End part code)) code
         (instance_of whole).path (instance_of whole).layer))) }
 {
     if !holds {
@@ -163,8 +169,8 @@ fn push_to_ends_above(
     }
     for above in 0..64 {
         let holds = has_above(whole_codes, code, above);
-        let to = Name::End(whole, above);
-        push_edge_if(lookups, holds, Name::End(part, code), to, pairs)?;
+        let to = NamedWire::End(whole, above);
+        push_edge_if(lookups, holds, NamedWire::End(part, code), to, pairs)?;
     }
     Ok(())
 }

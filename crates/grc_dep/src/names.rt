@@ -5,7 +5,7 @@ use grc_graph::Instance;
 
 /// A wire by what it says, whether or not the graph has it.
 #[derive(Clone, Copy, Debug)]
-pub enum Name {
+pub enum NamedWire {
     /// The outgoing signal is present.
     Out(SigId),
     /// The instance runs.

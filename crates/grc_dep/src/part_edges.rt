@@ -14,7 +14,7 @@ use crate::linking::{
     push_branch_to_ends, push_edge_if, push_ends_to_ends, push_go_to_ends, push_trapped_to_ends,
 };
 use crate::lookups::Lookups;
-use crate::names::Name;
+use crate::names::NamedWire;
 use crate::parts::Part;
 use est_base::{CodeSet, NoMemory, WireId};
 use grc_graph::Layer;
@@ -46,8 +46,8 @@ pub fn push_go_to_part(
         ++ found_by lookups.now (go_to_part (term_of part.now.body.now) whole.now.path.0 part.now.path.0
         (layer_of layer))) }
 {
-    let from = Name::Go(whole.in_layer(layer));
-    let to = Name::Go(part.in_layer(layer));
+    let from = NamedWire::Go(whole.in_layer(layer));
+    let to = NamedWire::Go(part.in_layer(layer));
     push_edge_if(lookups, part.runs_in(layer), from, to, pairs)
 }
 

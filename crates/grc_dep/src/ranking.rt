@@ -26,7 +26,7 @@ pub fn cycle_or_rank(alloc: Global, edges: &Edges) -> Result<Ranked, NoMemory>
     ensures cyclic { IfOk result (λ r. IsTrue (is_cycle r)
         ↔ ((walk : List ℕ) × IsClosedWalk (numbered edges.now.pairs.items) walk)) }
 {
-    let pairs = numbered(alloc, &edges.pairs)?;
+    let pairs = number_pairs(alloc, &edges.pairs)?;
     match ranks_or_cycle(alloc, edges.count, &pairs)? {
         RanksOrCycle::Ranks(ranking) => Ok(Ranked::Acyclic(Ranks { of: ranking.ranks })),
         RanksOrCycle::Cycle(walk) => Ok(Ranked::Cycle(wires(alloc, &walk)?)),
@@ -34,7 +34,7 @@ pub fn cycle_or_rank(alloc: Global, edges: &Edges) -> Result<Ranked, NoMemory>
 }
 
 // The edges as pairs of numbers.
-fn numbered(alloc: Global, pairs: &[(WireId, WireId)]) -> Result<Vec<(u32, u32)>, AllocError>
+fn number_pairs(alloc: Global, pairs: &[(WireId, WireId)]) -> Result<Vec<(u32, u32)>, AllocError>
     ensures { IfOk result (λ v. v.items ≡ numbered pairs.now) }
 {
     pairs.iter().map(|edge| (edge.0.0, edge.1.0)).collect(alloc)

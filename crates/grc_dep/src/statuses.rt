@@ -13,20 +13,20 @@ ghost use Rattle.grc_dep.specs.Found.{found_by};
 
 use crate::linking::push_edge;
 use crate::lookups::Lookups;
-use crate::names::Name;
+use crate::names::NamedWire;
 use est_base::{NoMemory, PathId, SigId, WireId};
 use est_kernel::Test;
 use grc_graph::{Binding, Instance, Layer, layer_above};
 use std::alloc::Global;
 
 // The status wire of a signal with this binding, as seen from a place in this layer.
-pub fn status_name(binding: Binding, signal: SigId, layer: Layer) -> Option<Name>
+pub fn status_name(binding: Binding, signal: SigId, layer: Layer) -> Option<NamedWire>
     ensures { option_map wire_named result ≡ status_wire (binding_of binding) signal.0 (layer_of layer) }
 {
     match binding {
         Binding::Entering | Binding::Unbound => None,
-        Binding::Outgoing => Some(Name::Out(signal)),
-        Binding::Bound(number) => Some(Name::Status(Instance {
+        Binding::Outgoing => Some(NamedWire::Out(signal)),
+        Binding::Bound(number) => Some(NamedWire::Status(Instance {
             path: PathId(number),
             layer: layer_above(number, layer),
         })),
@@ -36,8 +36,8 @@ pub fn status_name(binding: Binding, signal: SigId, layer: Layer) -> Option<Name
 // From an emission to the status wire, where there is one.
 pub fn push_emission(
     lookups: &Lookups,
-    from: Name,
-    status: Option<Name>,
+    from: NamedWire,
+    status: Option<NamedWire>,
     pairs: &mut Vec<(WireId, WireId)>,
 ) -> Result<(), NoMemory>
     ensures { OnOk result (pairs.new.items ≡ pairs.old.items
@@ -63,7 +63,7 @@ pub fn push_test_if(
     holds: bool,
     test: &BoundTest,
     layer: Layer,
-    to: Name,
+    to: NamedWire,
     pairs: &mut Vec<(WireId, WireId)>,
 ) -> Result<(), NoMemory>
     requires { length test.now.bindings.now ≡ length (signals_in (expression_of test.now.test.now)) }
@@ -105,7 +105,7 @@ fn push_statuses(
     signals: &[SigId],
     bindings: &[Binding],
     layer: Layer,
-    to: Name,
+    to: NamedWire,
     pairs: &mut Vec<(WireId, WireId)>,
 ) -> Result<(), NoMemory>
     requires { length bindings.now ≡ length signals.now }
@@ -124,8 +124,8 @@ fn push_statuses(
 // From a status wire, where there is one.
 fn push_status(
     lookups: &Lookups,
-    status: Option<Name>,
-    to: Name,
+    status: Option<NamedWire>,
+    to: NamedWire,
     pairs: &mut Vec<(WireId, WireId)>,
 ) -> Result<(), NoMemory>
     ensures { OnOk result (pairs.new.items ≡ pairs.old.items

@@ -14,7 +14,7 @@ ghost use Rattle.grc_dep.specs.Found.{found_by};
 
 use crate::linking::push_edge_if;
 use crate::lookups::Lookups;
-use crate::names::Name;
+use crate::names::NamedWire;
 use crate::part_edges::{push_ends_if, push_go_to_part};
 use crate::parts::Part;
 use crate::statuses::{BoundTest, push_test_if};
@@ -100,11 +100,11 @@ fn push_started_present(
     let layer = Layer::Started(root);
     let yes = &branches.yes;
     let no = &branches.no;
-    let to_yes = Name::Go(Instance {
+    let to_yes = NamedWire::Go(Instance {
         path: yes.path,
         layer,
     });
-    let to_no = Name::Go(Instance {
+    let to_no = NamedWire::Go(Instance {
         path: no.path,
         layer,
     });
@@ -165,15 +165,15 @@ fn push_resumed_suspend(
         path: whole.path,
         layer,
     };
-    let end = Name::End(at, 1);
-    let go = Name::Go(Instance {
+    let end = NamedWire::End(at, 1);
+    let go = NamedWire::Go(Instance {
         path: part.path,
         layer,
     });
     let pauses = whole.pauses_in(layer);
     let runs = part.runs_in(layer);
     push_go_to_part(lookups, whole, part, layer, pairs)?;
-    push_edge_if(lookups, pauses, Name::Go(at), end, pairs)?;
+    push_edge_if(lookups, pauses, NamedWire::Go(at), end, pairs)?;
     push_test_if(alloc, lookups, runs, test, layer, go, pairs)?;
     push_test_if(alloc, lookups, pauses, test, layer, end, pairs)?;
     push_ends_if(lookups, true, part, layer, whole, layer, pairs)

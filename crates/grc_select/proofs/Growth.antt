@@ -14,8 +14,8 @@ use Rattle.grc_graph.specs.declared.trees.SelNode.{SelNode}
 use Rattle.grc_graph.specs.SelectionTrees.{Form, TreeNode, tree_nodes, leaf_paths, subtree_if, resumes, second_resumes}
 use Rattle.grc_graph.specs.TreeForms.{form_of, node_of}
 use Rattle.grc_graph.proofs.TreeLaws.{tree_none}
-use Rattle.grc_select.specs.declared.nodes.Lists.{Lists}
-use Rattle.grc_select.specs.declared.nodes.Place.{Place}
+use Rattle.grc_select.specs.declared.nodes.TreeDraft.{TreeDraft}
+use Rattle.grc_select.specs.declared.nodes.Part.{Part}
 use Rattle.grc_select.specs.Growing.{node, opened, closed, Grows}
 
 -- where the resumed instance is not live there are no leaves
@@ -100,7 +100,7 @@ length-leaf_paths b (Trap p) n = if_at_most b _ _ (more _ _ (length-leaf_paths (
 length-leaf_paths b (Local s p) n = if_at_most b _ _ (more _ _ (length-leaf_paths (resumes p) p (n + 1)))
 length-leaf_paths b (Awake e p) n = omega arith
 
-pub length-grown : (old new : Lists) (b : Bool) (t : Term) (n : ℕ) → Grows old new b t n →
+pub length-grown : (old new : TreeDraft) (b : Bool) (t : Term) (n : ℕ) → Grows old new b t n →
     length new.nodes.items ≡ length old.nodes.items + length (tree_nodes b t n (length old.nodes.items) old.leaves)
 length-grown old new b t n g =
     omega (
@@ -111,26 +111,27 @@ length-grown old new b t n g =
       length-append (map node_of old.nodes.items) (tree_nodes b t n (length old.nodes.items) old.leaves),
     )
 
-pub nodes_at_most : (old new : Lists) (b : Bool) (t : Term) (n : ℕ) → Grows old new b t n → length new.nodes.items ≤ length old.nodes.items + statement_count t
+pub nodes_at_most : (old new : TreeDraft) (b : Bool) (t : Term) (n : ℕ) → Grows old new b t n
+    → length new.nodes.items ≤ length old.nodes.items + statement_count t
 nodes_at_most old new b t n g = omega (arith, length-grown old new b t n g, length-tree_nodes b t n (length old.nodes.items) old.leaves)
 
-pub nodes_kept : (old new : Lists) (b : Bool) (t : Term) (n : ℕ) → Grows old new b t n → length old.nodes.items ≤ length new.nodes.items
+pub nodes_kept : (old new : TreeDraft) (b : Bool) (t : Term) (n : ℕ) → Grows old new b t n → length old.nodes.items ≤ length new.nodes.items
 nodes_kept old new b t n g = omega (arith, length-grown old new b t n g)
 
-pub leaves_at_most : (old new : Lists) (b : Bool) (t : Term) (n : ℕ) → Grows old new b t n → new.leaves ≤ old.leaves + statement_count t
+pub leaves_at_most : (old new : TreeDraft) (b : Bool) (t : Term) (n : ℕ) → Grows old new b t n → new.leaves ≤ old.leaves + statement_count t
 leaves_at_most old new b t n g = omega (arith, g.leaves, length-leaf_paths b t n)
 
-pub length-opened : (old : List SelNode) (at : Place) (form : SelForm) → length (old ++ opened at form) ≤ length old + 1
-length-opened old at form =
-    omega (arith, length-append old (opened at form), if_at_most at.live (node at.path form 0 ∷ []) 1 (omega arith))
+pub length-opened : (old : List SelNode) (part : Part) (form : SelForm) → length (old ++ opened part form) ≤ length old + 1
+length-opened old part form =
+    omega (arith, length-append old (opened part form), if_at_most part.live (node part.path form 0 ∷ []) 1 (omega arith))
 
 open_live : (old : List SelNode) (b : Bool) (n : ℕ) (form : SelForm) → b ≡ true → length old < length (old ++ opened (record { path = n; live = b }) form)
 open_live old true n form h = omega (arith, length-append old (node n form 0 ∷ []))
 open_live old false n form h = absurd (false≢true h)
 
 -- the place of an open node is in the list
-pub open_within : (old : List SelNode) (at : Place) (form : SelForm) → at.live ≡ true → length old < length (old ++ opened at form)
-open_within old at form h = open_live old at.live at.path form h
+pub open_within : (old : List SelNode) (part : Part) (form : SelForm) → part.live ≡ true → length old < length (old ++ opened part form)
+open_within old part form h = open_live old part.live part.path form h
 
 -- ---- a node before those of its parts
 
@@ -146,16 +147,16 @@ seam f old end x y rest e =
     ∙ set-append_seam (map f old) (f x) rest (f y)
 
 -- the nodes that were appended between two states of the list
-pub record Between (old new : Lists) (more : List TreeNode) (leaves : ℕ) : Type 0 where
+pub record Between (old new : TreeDraft) (more : List TreeNode) (leaves : ℕ) : Type 0 where
   pub nodes : map node_of new.nodes.items ≡ map node_of old.nodes.items ++ more
   pub leaves_more : new.leaves ≡ old.leaves + leaves
 
-length-between : (old new : Lists) (more : List TreeNode) (l : ℕ) → Between old new more l → length new.nodes.items ≡ length old.nodes.items + length more
+length-between : (old new : TreeDraft) (more : List TreeNode) (l : ℕ) → Between old new more l → length new.nodes.items ≡ length old.nodes.items + length more
 length-between old new more l g =
     omega (arith, ap length g.nodes, length-map new.nodes.items node_of, length-map old.nodes.items node_of, length-append (map node_of old.nodes.items) more)
 
 -- a statement whose parts have these nodes, which stand behind its own where it has one
-pub closed_over : (old o part new : Lists) (b : Bool) (i n : ℕ) (form0 form : SelForm) (more : List TreeNode) (l : ℕ)
+pub closed_over : (old o part new : TreeDraft) (b : Bool) (i n : ℕ) (form0 form : SelForm) (more : List TreeNode) (l : ℕ)
     → i ≡ length old.nodes.items
     → o.nodes.items ≡ old.nodes.items ++ opened (record { path = n; live = b }) form0
     → o.leaves ≡ old.leaves
@@ -179,7 +180,7 @@ closed_over old o part new false i n form0 form more l at opn lv g cl lw = recor
 }
 
 -- one part, which is live where the whole is and it resumes
-pub part_between : (o part : Lists) (b r live : Bool) (p : Term) (n i k : ℕ)
+pub part_between : (o part : TreeDraft) (b r live : Bool) (p : Term) (n i k : ℕ)
     → live ≡ (b && r)
     → (b ≡ true → i ≡ length o.nodes.items)
     → (b ≡ true → k ≡ o.leaves)
@@ -199,7 +200,7 @@ part_between o part false r live p n i k e hi hk g =
     }
 
 -- two parts, one behind the other
-pub between_two : (o mid part : Lists) (b : Bool) (xs ys : List TreeNode) (k l : ℕ)
+pub between_two : (o mid part : TreeDraft) (b : Bool) (xs ys : List TreeNode) (k l : ℕ)
     → Between o mid (if b then xs else []) (if b then k else 0)
     → Between mid part (if b then ys else []) (if b then l else 0)
     → Between o part (if b then xs ++ ys else []) (if b then k + l else 0)
@@ -217,7 +218,7 @@ length-if true xs = refl
 length-if false xs = refl
 
 -- the place behind an open node
-next_place : (old o : Lists) (b : Bool) (n : ℕ) (form0 : SelForm)
+next_place : (old o : TreeDraft) (b : Bool) (n : ℕ) (form0 : SelForm)
     → o.nodes.items ≡ old.nodes.items ++ opened (record { path = n; live = b }) form0
     → b ≡ true
     → length old.nodes.items + 1 ≡ length o.nodes.items
@@ -225,7 +226,7 @@ next_place old o true n form0 opn h = omega (arith, ap length opn, length-append
 next_place old o false n form0 opn h = absurd (false≢true h)
 
 -- a statement over one part
-pub one_over : (old o part new : Lists) (t : Term) (b r live : Bool) (i n : ℕ) (form0 form : SelForm) (p : Term)
+pub one_over : (old o part new : TreeDraft) (t : Term) (b r live : Bool) (i n : ℕ) (form0 form : SelForm) (p : Term)
     → i ≡ length old.nodes.items
     → o.nodes.items ≡ old.nodes.items ++ opened (record { path = n; live = b }) form0
     → o.leaves ≡ old.leaves
@@ -246,7 +247,7 @@ one_over old o part new t b r live i n form0 form p at opn lv e g cl lw tn lp =
     }
 
 -- the place and the number behind the first part
-second_at : (o mid : Lists) (b : Bool) (xs : List TreeNode) (k i : ℕ)
+second_at : (o mid : TreeDraft) (b : Bool) (xs : List TreeNode) (k i : ℕ)
     → Between o mid (if b then xs else []) (if b then k else 0)
     → (b ≡ true → i ≡ length o.nodes.items)
     → b ≡ true
@@ -255,7 +256,7 @@ second_at o mid true xs k i g hi h = (omega (arith, length-between o mid xs k g,
 second_at o mid false xs k i g hi h = absurd (false≢true h)
 
 -- a statement over two parts
-pub two_over : (old o mid part new : Lists) (t : Term) (b r s live other : Bool) (i n m : ℕ) (form0 form : SelForm) (p q : Term)
+pub two_over : (old o mid part new : TreeDraft) (t : Term) (b r s live other : Bool) (i n m : ℕ) (form0 form : SelForm) (p q : Term)
     → i ≡ length old.nodes.items
     → o.nodes.items ≡ old.nodes.items ++ opened (record { path = n; live = b }) form0
     → o.leaves ≡ old.leaves
@@ -287,11 +288,11 @@ two_over old o mid part new t b r s live other i n m form0 form p q at opn lv e 
     }
 
 -- what a walk over a part says, in the part's own terms
-pub grows_at : (old new : Lists) (live : Bool) (k p : Term) (i n : ℕ) → k ≡ p → i ≡ n → Grows old new live k i → Grows old new live p n
+pub grows_at : (old new : TreeDraft) (live : Bool) (k p : Term) (i n : ℕ) → k ≡ p → i ≡ n → Grows old new live k i → Grows old new live p n
 grows_at old new live k p i n e h g = subst (λ t. Grows old new live t n) e (subst (λ j. Grows old new live k j) h g)
 
 -- a statement over one part has the nodes of a trap over it, where it passes the part's selection on
-pub passing_grown : (old new : Lists) (b : Bool) (k p t : Term) (n : ℕ) → k ≡ p
+pub passing_grown : (old new : TreeDraft) (b : Bool) (k p t : Term) (n : ℕ) → k ≡ p
     → ((i j : ℕ) → tree_nodes b t n i j ≡ tree_nodes b (Trap p) n i j)
     → leaf_paths b t n ≡ leaf_paths b (Trap p) n
     → Grows old new b (Trap k) n
@@ -304,11 +305,11 @@ passing_grown old new b k p t n e tn lp g =
     }
 
 -- the walk over a body, which begins with no node
-pub record IsTreeOf (new : Lists) (body : Term) : Type 0 where
+pub record IsTreeOf (new : TreeDraft) (body : Term) : Type 0 where
   pub nodes : map node_of new.nodes.items ≡ tree_nodes (resumes body) body 0 0 0
   pub leaves : new.leaves ≡ length (leaf_paths (resumes body) body 0)
 
-pub body_grown : (old new : Lists) (live : Bool) (body : Term)
+pub body_grown : (old new : TreeDraft) (live : Bool) (body : Term)
     → old.nodes.items ≡ []
     → old.leaves ≡ 0
     → live ≡ resumes body

@@ -12,7 +12,7 @@ ghost use Rattle.grc_graph.specs.SelectionTrees.{body_tree, body_leaves};
 ghost use Rattle.grc_graph.specs.TreeForms.{node_of};
 ghost use Rattle.grc_select.specs.Growing.{Grows};
 
-use crate::nodes::{Lists, Place, close_node, open_node, push_leaf};
+use crate::nodes::{Part, TreeDraft, close_node, open_node, push_leaf};
 use est_base::NoMemory;
 use est_kernel::{Codes, Kernel};
 use grc_graph::{SelForm, SelTree, has_some_code, resumed_codes, started_codes};
@@ -25,67 +25,73 @@ pub fn select(alloc: Global, body: &Kernel, codes: &Codes) -> Result<SelTree, No
     ensures nodes { IfOk result (λ tree. map node_of tree.nodes.items ≡ body_tree (term_of body.now)) }
     ensures leaves { IfOk result (λ tree. tree.leaves ≡ length (body_leaves (term_of body.now))) }
 {
-    let mut lists = Lists {
+    let mut draft = TreeDraft {
         nodes: Vec::new(alloc),
         leaves: 0,
     };
     let live = has_some_code(resumed_codes(codes, 0));
-    let _ = select_part(body, Place { path: 0, live }, codes, &mut lists)?;
+    let _ = select_part(body, Part { path: 0, live }, codes, &mut draft)?;
     Ok(SelTree {
-        nodes: lists.nodes,
-        leaves: lists.leaves,
+        nodes: draft.nodes,
+        leaves: draft.leaves,
     })
 }
 
 // Appends the nodes of the statement and of all in it, and answers the number behind them.
 #[cycle(selecting)]
-fn select_part(body: &Kernel, at: Place, codes: &Codes, lists: &mut Lists) -> Result<u32, NoMemory>
-    requires codes { CodesFrom codes.now (term_of body.now) at.path }
-    requires paths { at.path + statement_count (term_of body.now) < 2 ^ 32 }
-    requires places { length lists.old.nodes.items + statement_count (term_of body.now) < 2 ^ 32 }
-    requires leaves { lists.old.leaves + statement_count (term_of body.now) < 2 ^ 32 }
-    ensures after { IfOk result (λ after. after ≡ at.path + statement_count (term_of body.now)) }
-    ensures grown { IfOk result (λ after. Grows lists.old lists.new at.live (term_of body.now) at.path) }
-    ensures few { IfOk result (λ after. length lists.new.nodes.items
-        ≤ length lists.old.nodes.items + statement_count (term_of body.now)) }
+fn select_part(
+    body: &Kernel,
+    whole: Part,
+    codes: &Codes,
+    draft: &mut TreeDraft,
+) -> Result<u32, NoMemory>
+    requires codes { CodesFrom codes.now (term_of body.now) whole.path }
+    requires paths { whole.path + statement_count (term_of body.now) < 2 ^ 32 }
+    requires places { length draft.old.nodes.items + statement_count (term_of body.now) < 2 ^ 32 }
+    requires leaves { draft.old.leaves + statement_count (term_of body.now) < 2 ^ 32 }
+    ensures after { IfOk result (λ after. after ≡ whole.path + statement_count (term_of body.now)) }
+    ensures grown { IfOk result (λ after. Grows draft.old draft.new whole.live (term_of body.now) whole.path) }
+    ensures few { IfOk result (λ after. length draft.new.nodes.items
+        ≤ length draft.old.nodes.items + statement_count (term_of body.now)) }
     ensures few_leaves { IfOk result (λ after.
-        lists.new.leaves ≤ lists.old.leaves + statement_count (term_of body.now)) }
-    ensures kept { IfOk result (λ after. length lists.old.nodes.items ≤ length lists.new.nodes.items) }
+        draft.new.leaves ≤ draft.old.leaves + statement_count (term_of body.now)) }
+    ensures kept { IfOk result (λ after. length draft.old.nodes.items ≤ length draft.new.nodes.items) }
 {
     match body {
-        Kernel::Nothing => Ok(at.path + 1),
-        Kernel::Emit(_) => Ok(at.path + 1),
-        Kernel::Exit(_) => Ok(at.path + 1),
+        Kernel::Nothing => Ok(whole.path + 1),
+        Kernel::Emit(_) => Ok(whole.path + 1),
+        Kernel::Exit(_) => Ok(whole.path + 1),
         Kernel::Pause => {
-            push_leaf(lists, at)?;
-            Ok(at.path + 1)
+            push_leaf(draft, whole)?;
+            Ok(whole.path + 1)
         }
         Kernel::Present(_, yes, no) => {
-            let place = open_node(lists, at, SelForm::Excl)?;
-            let next = select_part(yes, part_place(at, at.path + 1, codes), codes, lists)?;
-            let after = select_part(no, part_place(at, next, codes), codes, lists)?;
-            close_node(lists, place, at, SelForm::Excl);
+            let place = open_node(draft, whole, SelForm::Excl)?;
+            let next = select_part(yes, part_at(whole, whole.path + 1, codes), codes, draft)?;
+            let after = select_part(no, part_at(whole, next, codes), codes, draft)?;
+            close_node(draft, place, whole, SelForm::Excl);
             Ok(after)
         }
-        Kernel::Suspend(_, part) => Ok(select_passing(part, at, codes, lists)?),
+        Kernel::Suspend(_, part) => Ok(select_passing(part, whole, codes, draft)?),
         Kernel::Seq(first, second) => {
-            let place = open_node(lists, at, SelForm::Excl)?;
-            let next = select_part(first, part_place(at, at.path + 1, codes), codes, lists)?;
-            let after = select_part(second, second_place(at, next, codes), codes, lists)?;
-            close_node(lists, place, at, SelForm::Excl);
+            let place = open_node(draft, whole, SelForm::Excl)?;
+            let next = select_part(first, part_at(whole, whole.path + 1, codes), codes, draft)?;
+            let after = select_part(second, second_part(whole, next, codes), codes, draft)?;
+            close_node(draft, place, whole, SelForm::Excl);
             Ok(after)
         }
-        Kernel::Loop(_, part) => Ok(select_passing(part, at, codes, lists)?),
+        Kernel::Loop(_, part) => Ok(select_passing(part, whole, codes, draft)?),
         Kernel::Par(left, right) => {
-            let first = can_pass(codes, at.path + 1);
-            let place = open_node(lists, at, SelForm::Par(false, false))?;
-            let next = select_part(left, part_place(at, at.path + 1, codes), codes, lists)?;
-            let after = select_part(right, part_place(at, next, codes), codes, lists)?;
-            close_node(lists, place, at, SelForm::Par(first, can_pass(codes, next)));
+            let first = can_pass(codes, whole.path + 1);
+            let place = open_node(draft, whole, SelForm::Par(false, false))?;
+            let next = select_part(left, part_at(whole, whole.path + 1, codes), codes, draft)?;
+            let after = select_part(right, part_at(whole, next, codes), codes, draft)?;
+            let form = SelForm::Par(first, can_pass(codes, next));
+            close_node(draft, place, whole, form);
             Ok(after)
         }
-        Kernel::Trap(part) => Ok(select_passing(part, at, codes, lists)?),
-        Kernel::Local(_, part) => Ok(select_passing(part, at, codes, lists)?),
+        Kernel::Trap(part) => Ok(select_passing(part, whole, codes, draft)?),
+        Kernel::Local(_, part) => Ok(select_passing(part, whole, codes, draft)?),
     }
 }
 
@@ -93,25 +99,25 @@ fn select_part(body: &Kernel, at: Place, codes: &Codes, lists: &mut Lists) -> Re
 #[cycle(selecting)]
 fn select_passing(
     part: &Kernel,
-    at: Place,
+    whole: Part,
     codes: &Codes,
-    lists: &mut Lists,
+    draft: &mut TreeDraft,
 ) -> Result<u32, NoMemory>
-    requires codes { CodesFrom codes.now (term_of part.now) (at.path + 1) }
-    requires paths { at.path + (1 + statement_count (term_of part.now)) < 2 ^ 32 }
-    requires places { length lists.old.nodes.items + (1 + statement_count (term_of part.now)) < 2 ^ 32 }
-    requires leaves { lists.old.leaves + (1 + statement_count (term_of part.now)) < 2 ^ 32 }
-    ensures after { IfOk result (λ after. after ≡ at.path + (1 + statement_count (term_of part.now))) }
-    ensures grown { IfOk result (λ after. Grows lists.old lists.new at.live (Trap (term_of part.now)) at.path) }
-    ensures few { IfOk result (λ after. length lists.new.nodes.items
-        ≤ length lists.old.nodes.items + (1 + statement_count (term_of part.now))) }
+    requires codes { CodesFrom codes.now (term_of part.now) (whole.path + 1) }
+    requires paths { whole.path + (1 + statement_count (term_of part.now)) < 2 ^ 32 }
+    requires places { length draft.old.nodes.items + (1 + statement_count (term_of part.now)) < 2 ^ 32 }
+    requires leaves { draft.old.leaves + (1 + statement_count (term_of part.now)) < 2 ^ 32 }
+    ensures after { IfOk result (λ after. after ≡ whole.path + (1 + statement_count (term_of part.now))) }
+    ensures grown { IfOk result (λ after. Grows draft.old draft.new whole.live (Trap (term_of part.now)) whole.path) }
+    ensures few { IfOk result (λ after. length draft.new.nodes.items
+        ≤ length draft.old.nodes.items + (1 + statement_count (term_of part.now))) }
     ensures few_leaves { IfOk result (λ after.
-        lists.new.leaves ≤ lists.old.leaves + (1 + statement_count (term_of part.now))) }
-    ensures kept { IfOk result (λ after. length lists.old.nodes.items ≤ length lists.new.nodes.items) }
+        draft.new.leaves ≤ draft.old.leaves + (1 + statement_count (term_of part.now))) }
+    ensures kept { IfOk result (λ after. length draft.old.nodes.items ≤ length draft.new.nodes.items) }
 {
-    let place = open_node(lists, at, SelForm::Pass)?;
-    let after = select_part(part, part_place(at, at.path + 1, codes), codes, lists)?;
-    close_node(lists, place, at, SelForm::Pass);
+    let place = open_node(draft, whole, SelForm::Pass)?;
+    let after = select_part(part, part_at(whole, whole.path + 1, codes), codes, draft)?;
+    close_node(draft, place, whole, SelForm::Pass);
     Ok(after)
 }
 
@@ -127,17 +133,17 @@ fn can_pass(codes: &Codes, path: u32) -> bool
 }
 
 // A part with this number.
-fn part_place(whole: Place, path: u32, codes: &Codes) -> Place
+fn part_at(whole: Part, path: u32, codes: &Codes) -> Part
     requires { path < length codes.now.resumed.items }
     ensures path { result.path ≡ path }
     ensures live { result.live ≡ (whole.live && has_code (set_at codes.now.resumed.items path)) }
 {
     let live = whole.live && has_some_code(resumed_codes(codes, path));
-    Place { path, live }
+    Part { path, live }
 }
 
 // The second part of a sequence, with this number.
-fn second_place(whole: Place, path: u32, codes: &Codes) -> Place
+fn second_part(whole: Part, path: u32, codes: &Codes) -> Part
     requires fits { whole.path + 1 < 2 ^ 32 }
     requires first_started { whole.path + 1 < length codes.now.started.items }
     requires first_resumed { whole.path + 1 < length codes.now.resumed.items }
@@ -150,5 +156,5 @@ fn second_place(whole: Place, path: u32, codes: &Codes) -> Place
     let passes = can_pass(codes, whole.path + 1);
     let resumes = has_some_code(resumed_codes(codes, path));
     let live = whole.live && passes && resumes;
-    Place { path, live }
+    Part { path, live }
 }

@@ -13,7 +13,7 @@ use Rattle.net_ir.specs.declared.netlist.Gate.{Gate}
 use Rattle.net_ir.specs.Gates.{operand_end, ReadsLower, op_value, value_in, gate_values}
 use Rattle.net_simp.specs.declared.forms.Form.{Form}
 use Rattle.net_simp.specs.SimpleNets.{reads, IsNoCopy}
-use Rattle.net_simp.specs.Renaming.{named, renamed_op, OwnNames}
+use Rattle.net_simp.specs.Renaming.{stand_in, renamed_op, OwnNames}
 use Rattle.net_simp.specs.Rules.{op_at, reduced_op, outright_op}
 use Rattle.net_simp.specs.Forms.{form_of}
 use Rattle.net_simp.specs.Keeping.{Keeps, Any}
@@ -27,11 +27,11 @@ use Rattle.net_simp.proofs.Reductions.{Says, op_at-says, op_at-gate, op_at-is, o
 use Rattle.net_simp.proofs.Reductions.{outright-settled, outright-low}
 use Rattle.net_simp.proofs.SameForms.{same-value, same_form-itself, same_form-is}
 
-pub named-old : (names : List NetId) (x : NetId) (n : ℕ) → n < length names → named (names ++ x ∷ []) n ≡ named names n
-named-old names x n low = ap (λ (y : NetId). y.0) (get_or_append_left names (x ∷ []) (record { 0 = n }) n low)
+pub stand_in-old : (names : List NetId) (x : NetId) (n : ℕ) → n < length names → stand_in (names ++ x ∷ []) n ≡ stand_in names n
+stand_in-old names x n low = ap (λ (y : NetId). y.0) (get_or_append_left names (x ∷ []) (record { 0 = n }) n low)
 
-pub named-new : (names : List NetId) (x : NetId) (n : ℕ) → length names ≡ n → named (names ++ x ∷ []) n ≡ x.0
-named-new names x n last = ap (λ (y : NetId). y.0) (get_or_push names x (record { 0 = n }) n last)
+pub stand_in-new : (names : List NetId) (x : NetId) (n : ℕ) → length names ≡ n → stand_in (names ++ x ∷ []) n ≡ x.0
+stand_in-new names x n last = ap (λ (y : NetId). y.0) (get_or_push names x (record { 0 = n }) n last)
 
 -- ---- one more new gate keeps what was said of those before
 
@@ -96,20 +96,20 @@ drafted-push first old new names known later g x name d a =
     let longer_names = length_push names name in
     let longer_new = length_push new x in
     let last : length names ≡ first + length old = d.count in
-    let at_last = named-new names name (first + length old) last in
+    let at_last = stand_in-new names name (first + length old) last in
     record {
       count = omega (arith, d.count);
-      keeps = keeps-push first old new (named names) (named (names ++ name ∷ [])) Any g x k a.wires a.low a.value
-          (λ n h asked. named-old names name n (omega arith))
+      keeps = keeps-push first old new (stand_in names) (stand_in (names ++ name ∷ [])) Any g x k a.wires a.low a.value
+          (λ n h asked. stand_in-old names name n (omega arith))
           (λ asked. let e = at_last in omega (arith, a.name_low))
           (λ asked v len. ap (value_in (gate_values v (new ++ x ∷ []))) at_last ∙ a.name_value v len);
       names_no_copy = λ n h. elim (cases_lt n (length names)) [
         | inl before ↦
-            subst (λ m. no_copy (op_at first (new ++ x ∷ []) m)) (sym (named-old names name n before))
-            (subst no_copy (sym (op_at-old first new x (named names n) (k.low n (omega arith) tt))) (d.names_no_copy n before))
+            subst (λ m. no_copy (op_at first (new ++ x ∷ []) m)) (sym (stand_in-old names name n before))
+            (subst no_copy (sym (op_at-old first new x (stand_in names n) (k.low n (omega arith) tt))) (d.names_no_copy n before))
         | inr after ↦
             let e : length names ≡ n = omega arith in
-            subst (λ m. no_copy (op_at first (new ++ x ∷ []) m)) (sym (named-new names name n e)) a.name_no_copy
+            subst (λ m. no_copy (op_at first (new ++ x ∷ []) m)) (sym (stand_in-new names name n e)) a.name_no_copy
       ];
       settles = settles-push first new x k.reads_lower d.settles a.low a.settled a.silent;
       finds = a.finds;
@@ -161,20 +161,20 @@ found-makes first old new known g op (Some n) reads finds low settled value e =
 
 made : (first : ℕ) (old new : List Gate) (names : List NetId) (known : Form → Option NetId) (g : Gate) → Drafted first old new names known
     → operand_end g.op ≤ length names
-    → Makes first old new known g (found_op known (reduced_op first new (renamed_op (named names) g.op)))
+    → Makes first old new known g (found_op known (reduced_op first new (renamed_op (stand_in names) g.op)))
 made first old new names known g d low =
     let k = d.keeps in
-    let op = renamed_op (named names) g.op in
+    let op = renamed_op (stand_in names) g.op in
     let below = λ (n : ℕ) (r : reads g.op n ≡ true). k.low n (omega (arith, reads-low g.op n (length names) r low, d.count)) tt in
-    let op_low = renamed-low (named names) g.op (first + length new) below in
+    let op_low = renamed-low (stand_in names) g.op (first + length new) below in
     found-makes first old new known g (reduced_op first new op) (known (form_of (reduced_op first new op))) k.reads_lower d.finds
     (reduced-low first new op k.reads_lower op_low)
     (reduced-settled first new op op_low
-    (λ n h r. renamed-from (named names) g.op n (λ m. no_copy (op_at first new m)) r
+    (λ n h r. renamed-from (stand_in names) g.op n (λ m. no_copy (op_at first new m)) r
     (λ m rm. d.names_no_copy m (reads-low g.op m (length names) rm low)))
     (λ n x h e. let at = op_at-gate first new n x h e in subst (Settled first new) (at.is idle) (d.settles.settled at.k idle at.within)))
     (λ v len. reduced-value (value_in (gate_values v new)) first new op op_low (λ n h. op_at-says first new v n k.reads_lower len h)
-    ∙ renamed-value (named names) (value_in (gate_values v new)) (value_in (gate_values v old)) g.op
+    ∙ renamed-value (stand_in names) (value_in (gate_values v new)) (value_in (gate_values v old)) g.op
     (λ n r. k.same v n len (omega (arith, reads-low g.op n (length names) r low, d.count)) tt))
     refl
 
@@ -283,19 +283,19 @@ skip first old new names known g n d m silent =
     let longer = length_push old g in
     let longer_names = length_push names n in
     let last : length names ≡ first + length old = d.count in
-    let at_last = named-new names n (first + length old) last in
+    let at_last = stand_in-new names n (first + length old) last in
     let low : n.0 < first + length new = omega (arith, m.low) in
     record {
       count = omega (arith, d.count);
-      keeps = keeps-skip first old new (named names) (named (names ++ n ∷ [])) Any g k silent
-          (λ j h asked. named-old names n j (omega arith))
+      keeps = keeps-skip first old new (stand_in names) (stand_in (names ++ n ∷ [])) Any g k silent
+          (λ j h asked. stand_in-old names n j (omega arith))
           (λ asked. let e = at_last in omega arith)
           (λ asked v len. ap (value_in (gate_values v new)) at_last ∙ m.value v len);
       names_no_copy = λ j h. elim (cases_lt j (length names)) [
-        | inl before ↦ subst (λ i. no_copy (op_at first new i)) (sym (named-old names n j before)) (d.names_no_copy j before)
+        | inl before ↦ subst (λ i. no_copy (op_at first new i)) (sym (stand_in-old names n j before)) (d.names_no_copy j before)
         | inr after ↦
             let e : length names ≡ j = omega arith in
-            subst (λ i. no_copy (op_at first new i)) (sym (named-new names n j e)) m.settled
+            subst (λ i. no_copy (op_at first new i)) (sym (stand_in-new names n j e)) m.settled
       ];
       settles = d.settles;
       finds = d.finds;
@@ -322,7 +322,7 @@ pub drafted-next : (first k : ℕ) (gates new newer : List Gate) (names newer_na
     → Drafted first (take k gates) new names known
     → take (k + 1) gates ≡ take k gates ++ g ∷ []
     → operand_end g.op ≤ length names
-    → op ≡ found_op known (reduced_op first new (renamed_op (named names) g.op))
+    → op ≡ found_op known (reduced_op first new (renamed_op (stand_in names) g.op))
     → newer ≡ with_gate first new op g.wire
     → newer_names ≡ names ++ name_of op (first + length new) ∷ []
     → ((q : Form) → later q ≡ with_form known op (first + length new) q)
@@ -344,8 +344,8 @@ pub drafted-start : (first : ℕ) (names : List NetId) (known : Form → Option 
     → ((q : Form) → known q ≡ None) → Drafted first [] [] names known
 drafted-start first names known count own nothing = record {
   count = omega arith;
-  keeps = keeps-start first (named names) Any (λ n h. own n (omega arith));
-  names_no_copy = λ n h. subst no_copy (sym (op_at-below first (named names n) (let e = own n h in omega arith))) tt;
+  keeps = keeps-start first (stand_in names) Any (λ n h. own n (omega arith));
+  names_no_copy = λ n h. subst no_copy (sym (op_at-below first (stand_in names n) (let e = own n h in omega arith))) tt;
   settles = record { settled = λ k d h. absurd (omega arith); no_copies = λ k d h. absurd (omega arith) };
   finds = λ q n e. let none = nothing q in let never : ⊥ = cc in absurd never;
   knows = λ k d h. absurd (omega arith);
@@ -380,7 +380,7 @@ nothing-in m empty q = ap (λ es. lookup (same_form q) es) empty
 pub in-range : (first : ℕ) (old new : List Gate) (names : List NetId) (known : Form → Option NetId) → Drafted first old new names known
     → InRange first new names known
 in-range first old new names known d = record {
-  named_low = λ n h. d.keeps.low n (omega (arith, d.count)) tt;
+  stand_in_low = λ n h. d.keeps.low n (omega (arith, d.count)) tt;
   reads_lower = d.keeps.reads_lower;
   known_low = λ q n e. (d.finds q n e).low;
 }
@@ -391,14 +391,14 @@ found-low first new names known op None r low e = low
 found-low first new names known op (Some n) r low e = let within = r.known_low (form_of op) n e in omega arith
 
 pub renamed-end : (first : ℕ) (new : List Gate) (names : List NetId) (known : Form → Option NetId) (op : Op) → InRange first new names known
-    → operand_end op ≤ length names → operand_end (renamed_op (named names) op) ≤ first + length new
+    → operand_end op ≤ length names → operand_end (renamed_op (stand_in names) op) ≤ first + length new
 renamed-end first new names known op r low =
-    renamed-low (named names) op (first + length new) (λ n read. r.named_low n (reads-low op n (length names) read low))
+    renamed-low (stand_in names) op (first + length new) (λ n read. r.stand_in_low n (reads-low op n (length names) read low))
 
 pub found-end : (first : ℕ) (new : List Gate) (names : List NetId) (known : Form → Option NetId) (op : Op) → InRange first new names known
     → operand_end op ≤ length names
-    → operand_end (found_op known (reduced_op first new (renamed_op (named names) op))) ≤ first + length new
+    → operand_end (found_op known (reduced_op first new (renamed_op (stand_in names) op))) ≤ first + length new
 found-end first new names known op r low =
-    let x = reduced_op first new (renamed_op (named names) op) in
+    let x = reduced_op first new (renamed_op (stand_in names) op) in
     found-low first new names known x (known (form_of x)) r
-    (reduced-low first new (renamed_op (named names) op) r.reads_lower (renamed-end first new names known op r low)) refl
+    (reduced-low first new (renamed_op (stand_in names) op) r.reads_lower (renamed-end first new names known op r low)) refl

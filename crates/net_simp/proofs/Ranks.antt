@@ -11,13 +11,13 @@ use Rattle.net_ir.specs.declared.netlist.Op.TheVariants.{Const, Copy, Not, And, 
 use Rattle.net_ir.specs.declared.netlist.Gate.{Gate}
 use Rattle.net_ir.specs.Gates.{operand_end, ReadsLower, op_value, value_in, gate_values}
 use Rattle.net_simp.specs.SimpleNets.{reads}
-use Rattle.net_simp.specs.Renaming.{named, renamed_op, OwnNames}
+use Rattle.net_simp.specs.Renaming.{stand_in, renamed_op, OwnNames}
 use Rattle.net_simp.specs.Keeping.{Keeps}
 use Rattle.net_simp.specs.Needs.{marked, Closed}
 use Rattle.net_simp.specs.Packing.{rank, ComesFrom, Packed}
 use Rattle.net_simp.proofs.Keeping.{value-new, keeps-start, keeps-skip, keeps-push}
 use Rattle.net_simp.proofs.Operators.{reads-low, renamed-value, renamed-low, renamed-same}
-use Rattle.net_simp.proofs.Drafting.{named-old, named-new}
+use Rattle.net_simp.proofs.Drafting.{stand_in-old, stand_in-new}
 
 abbrev one_if : Bool → ℕ
 one_if b = if b then 1 else 0
@@ -101,14 +101,14 @@ numbered n = record { 0 = n }
 
 -- the name of one more net
 names-more : (marks : List Bool) (names : List NetId) (end total : ℕ) → length names ≡ end → total ≡ rank marks end
-    → ((n : ℕ) → n < length names → named names n ≡ rank marks n)
-    → (n : ℕ) → n < length (names ++ numbered total ∷ []) → named (names ++ numbered total ∷ []) n ≡ rank marks n
+    → ((n : ℕ) → n < length names → stand_in names n ≡ rank marks n)
+    → (n : ℕ) → n < length (names ++ numbered total ∷ []) → stand_in (names ++ numbered total ∷ []) n ≡ rank marks n
 names-more marks names end total count is said n low = elim (cases_lt n (length names)) [
-  | inl before ↦ named-old names (numbered total) n before ∙ said n before
+  | inl before ↦ stand_in-old names (numbered total) n before ∙ said n before
   | inr after ↦
       let longer = length_push names (numbered total) in
       let e : length names ≡ n = omega arith in
-      named-new names (numbered total) n e ∙ is ∙ ap (rank marks) (sym count ∙ e)
+      stand_in-new names (numbered total) n e ∙ is ∙ ap (rank marks) (sym count ∙ e)
 ]
 
 -- one more gate, which is marked
@@ -131,7 +131,7 @@ packed-keep first marks old new names g p low closed on =
     let total = p.total in
     record {
       count = omega arith;
-      named_is = names-more marks names (first + length old) (first + length new) p.count p.total p.named_is;
+      stand_in_is = names-more marks names (first + length old) (first + length new) p.count p.total p.stand_in_is;
       total = omega arith;
       from = λ j h. elim (cases_lt j (length new)) [
         | inl before ↦ from-longer first marks (old ++ g ∷ []) new x j before (from-more first marks old new g j (p.from j before))
@@ -173,7 +173,7 @@ packed-skip first marks old new names g p silent off =
     let total = p.total in
     record {
       count = omega arith;
-      named_is = names-more marks names (first + length old) (first + length new) p.count p.total p.named_is;
+      stand_in_is = names-more marks names (first + length old) (first + length new) p.count p.total p.stand_in_is;
       total = omega arith;
       from = λ j h. from-more first marks old new g j (p.from j h);
       keeps = keeps-skip first old new (rank marks) (rank marks) (λ n. IsTrue (marked marks n)) g k silent
@@ -190,7 +190,7 @@ packed-start first marks names all count own =
     let at_end = ap (rank marks) e in
     record {
       count = omega arith;
-      named_is = λ n h. own n h ∙ sym (rank-own marks first n all (omega arith));
+      stand_in_is = λ n h. own n h ∙ sym (rank-own marks first n all (omega arith));
       total = omega arith;
       from = λ j h. absurd (omega arith);
       keeps = keeps-start first (rank marks) (λ n. IsTrue (marked marks n)) (λ n h. rank-own marks first n all (omega arith));
@@ -200,7 +200,7 @@ packed-start first marks names all count own =
 pub packed-next : (first k : ℕ) (marks : List Bool) (gates new newer : List Gate) (names newer_names : List NetId) (g x : Gate) (d : Gate)
     → Closed first gates marks → ReadsLower first gates → Packed first marks (take k gates) new names
     → k < length gates → g ≡ slice_index_or gates k d → marked marks (first + k) ≡ true
-    → x.op ≡ renamed_op (named names) g.op → x.wire ≡ g.wire
+    → x.op ≡ renamed_op (stand_in names) g.op → x.wire ≡ g.wire
     → newer ≡ new ++ x ∷ [] → newer_names ≡ names ++ numbered (first + length new) ∷ []
     → Packed first marks (take (k + 1) gates) newer newer_names
 packed-next first k marks gates new newer names newer_names g x d c reads_lower p low is on op wire gates_are names_are =
@@ -210,9 +210,9 @@ packed-next first k marks gates new newer names newer_names g x d c reads_lower 
     let end : operand_end g.op ≤ first + k = subst (λ (y : Gate). operand_end y.op ≤ first + k) same lower in
     let count = p.count in
     let closed = λ (n : ℕ) (r : reads g.op n ≡ true). c.closed k d n low on (ap (λ (y : Gate). reads y.op n) same ∙ r) in
-    let named_ops : renamed_op (named names) g.op ≡ renamed_op (rank marks) g.op =
-    renamed-same (named names) (rank marks) g.op (λ n r. p.named_is n (let below = reads-low g.op n (first + k) r end in omega arith)) in
-    let whole : x ≡ record { op = renamed_op (rank marks) g.op; wire = g.wire } = λ i. record { op = (op ∙ named_ops) i; wire = wire i } in
+    let stand_in_ops : renamed_op (stand_in names) g.op ≡ renamed_op (rank marks) g.op =
+    renamed-same (stand_in names) (rank marks) g.op (λ n r. p.stand_in_is n (let below = reads-low g.op n (first + k) r end in omega arith)) in
+    let whole : x ≡ record { op = renamed_op (rank marks) g.op; wire = g.wire } = λ i. record { op = (op ∙ stand_in_ops) i; wire = wire i } in
     let next = packed-keep first marks (take k gates) new names g p (omega arith) closed (ap (λ i. marked marks (first + i)) many ∙ on) in
     let more : take (k + 1) gates ≡ take k gates ++ g ∷ [] = take_more gates k d low ∙ ap (λ (y : Gate). take k gates ++ y ∷ []) same in
     subst (λ old. Packed first marks old newer newer_names) (sym more)

@@ -16,7 +16,7 @@ use Rattle.net_ir.specs.Netlists.{Netlist, IsNet, first_gate}
 use Rattle.net_simp.specs.SimpleNets.{EachOpOnce, IsNoCopy, NoCopies, Computes, reads, ReadsComputed, OperandsDiffer, ReadsNoneTwice, is_used, EachIsUsed}
 use Rattle.net_simp.specs.SameRuns.{SameParts, SameInstants, SameRuns}
 use Rattle.net_simp.specs.Simplified.{Simplified}
-use Rattle.net_simp.specs.Renaming.{named, through, renamed_op, renamed_out, renamed_latch, renamed_net}
+use Rattle.net_simp.specs.Renaming.{stand_in, through, renamed_op, renamed_out, renamed_latch, renamed_net}
 use Rattle.net_simp.specs.Rules.{op_at}
 use Rattle.net_simp.specs.Keeping.{Keeps, Any}
 use Rattle.net_simp.specs.Drafts.{computes, Settled, Settles, OpsOnce, Folded}
@@ -87,10 +87,10 @@ pub closed-from : (net : Netlist) (draft : List NetId) (mid : List Gate) (before
     → length before ≡ first_gate net + length mid → NeedsMet (first_gate net) mid before marks 0 → Closed (first_gate net) mid marks
 closed-from net draft mid before marks roots count needs =
     let first = first_gate net in
-    let outs = λ (n : ℕ). list_any (λ (o : NetOut). named draft o.net.0 == n) net.outputs in
-    let lats = λ (n : ℕ). list_any (λ (l : Latch). named draft l.from.0 == n) net.latches in
+    let outs = λ (n : ℕ). list_any (λ (o : NetOut). stand_in draft o.net.0 == n) net.outputs in
+    let lats = λ (n : ℕ). list_any (λ (l : Latch). stand_in draft l.from.0 == n) net.latches in
     let begun = λ (n : ℕ) (on : marked (first_marks first mid) n ≡ true). needs.stays n
-    (roots n ∙ or_left ((marked (first_marks first mid) n || outs n) || lats n) (named draft net.paused == n)
+    (roots n ∙ or_left ((marked (first_marks first mid) n || outs n) || lats n) (stand_in draft net.paused == n)
     (or_left (marked (first_marks first mid) n || outs n) (lats n) (or_left (marked (first_marks first mid) n) (outs n) on))) in
     record {
       count = needs.count ∙ count;
@@ -100,25 +100,25 @@ closed-from net draft mid before marks roots count needs =
     }
 
 asks-for : (net : Netlist) (draft kept : List NetId) (mid new : List Gate) (before marks : List Bool) → Passes net draft kept mid new before marks
-    → AsksFor net (λ n. IsTrue (marked marks (named draft n)))
+    → AsksFor net (λ n. IsTrue (marked marks (stand_in draft n)))
 asks-for net draft kept mid new before marks p =
     let first = first_gate net in
     let begun = λ (n : ℕ). marked (first_marks first mid) n in
-    let outs = λ (n : ℕ). list_any (λ (o : NetOut). named draft o.net.0 == n) net.outputs in
-    let lats = λ (n : ℕ). list_any (λ (l : Latch). named draft l.from.0 == n) net.latches in
-    let pause = λ (n : ℕ). named draft net.paused == n in
+    let outs = λ (n : ℕ). list_any (λ (o : NetOut). stand_in draft o.net.0 == n) net.outputs in
+    let lats = λ (n : ℕ). list_any (λ (l : Latch). stand_in draft l.from.0 == n) net.latches in
+    let pause = λ (n : ℕ). stand_in draft net.paused == n in
     record {
       outputs = λ k d h.
-          let n = named draft (slice_index_or net.outputs k d).net.0 in
+          let n = stand_in draft (slice_index_or net.outputs k d).net.0 in
           p.needs.stays n (p.roots n ∙ or_left ((begun n || outs n) || lats n) (pause n) (or_left (begun n || outs n) (lats n)
-          (or_right (begun n) (outs n) (list_any_at (λ (o : NetOut). named draft o.net.0 == n) net.outputs k d h (eq-eqb n n refl)))));
+          (or_right (begun n) (outs n) (list_any_at (λ (o : NetOut). stand_in draft o.net.0 == n) net.outputs k d h (eq-eqb n n refl)))));
       paused =
-          let n = named draft net.paused in
+          let n = stand_in draft net.paused in
           p.needs.stays n (p.roots n ∙ or_right ((begun n || outs n) || lats n) (pause n) (eq-eqb n n refl));
       latches = λ k d h.
-          let n = named draft (slice_index_or net.latches k d).from.0 in
+          let n = stand_in draft (slice_index_or net.latches k d).from.0 in
           p.needs.stays n (p.roots n ∙ or_left ((begun n || outs n) || lats n) (pause n) (or_right (begun n || outs n) (lats n)
-          (list_any_at (λ (l : Latch). named draft l.from.0 == n) net.latches k d h (eq-eqb n n refl))));
+          (list_any_at (λ (l : Latch). stand_in draft l.from.0 == n) net.latches k d h (eq-eqb n n refl))));
     }
 
 keeps-same : (first : ℕ) (old new : List Gate) (f h : ℕ → ℕ) (Asked : ℕ → Type 0) → Keeps first old new f Asked
@@ -134,17 +134,17 @@ keeps-same first old new f h Asked k same = record {
 
 -- the passes together
 keeps : (net : Netlist) (draft kept : List NetId) (mid new : List Gate) (before marks : List Bool) → Passes net draft kept mid new before marks
-    → Keeps (first_gate net) net.gates new (through draft kept) (λ n. IsTrue (marked marks (named draft n)))
+    → Keeps (first_gate net) net.gates new (through draft kept) (λ n. IsTrue (marked marks (stand_in draft n)))
 keeps net draft kept mid new before marks p =
     let first = first_gate net in
-    keeps-same first net.gates new (λ n. rank marks (named draft n)) (through draft kept) (λ n. IsTrue (marked marks (named draft n)))
-    (keeps-trans first net.gates mid new (named draft) (rank marks) (λ n. IsTrue (marked marks n)) p.folds.keeps p.packs.keeps)
-    (λ n low asked. p.packs.named_is (named draft n) (omega (arith, p.packs.count, p.folds.keeps.low n low tt)))
+    keeps-same first net.gates new (λ n. rank marks (stand_in draft n)) (through draft kept) (λ n. IsTrue (marked marks (stand_in draft n)))
+    (keeps-trans first net.gates mid new (stand_in draft) (rank marks) (λ n. IsTrue (marked marks n)) p.folds.keeps p.packs.keeps)
+    (λ n low asked. p.packs.stand_in_is (stand_in draft n) (omega (arith, p.packs.count, p.folds.keeps.low n low tt)))
 
 pub simplified-is-net : (net : Netlist) (draft kept : List NetId) (mid new : List Gate) (before marks : List Bool)
     → Passes net draft kept mid new before marks → IsNet (renamed_net net (through draft kept) new)
 simplified-is-net net draft kept mid new before marks p =
-    is-net net (through draft kept) (λ n. IsTrue (marked marks (named draft n))) new p.is_net (keeps net draft kept mid new before marks p)
+    is-net net (through draft kept) (λ n. IsTrue (marked marks (stand_in draft n))) new p.is_net (keeps net draft kept mid new before marks p)
     (asks-for net draft kept mid new before marks p)
 
 list_any-mapped : {X Y : Type 0} (p : X → Bool) (q : Y → Bool) (f : X → Y) (xs : List X) → ((x : X) → p x ≡ true → q (f x) ≡ true)
@@ -219,11 +219,11 @@ used-at net draft kept mid new before marks p at place within ranked d silent on
     let lats = list_any (λ (l : Latch). l.from.0 == m) N.latches in
     let gs = list_any (λ (g : Gate). reads g.op m) N.gates in
     let begun = marked (first_marks first mid) n in
-    let old_outs = list_any (λ (o : NetOut). named draft o.net.0 == n) net.outputs in
-    let old_lats = list_any (λ (l : Latch). named draft l.from.0 == n) net.latches in
-    let old_pause = named draft net.paused == n in
-    let moved = λ (i : ℕ) (e : named draft i ≡ n). ap (named kept) e ∙ p.packs.named_is n (omega (arith, p.packs.count)) ∙ ranked in
-    let shown = λ (i : ℕ) (e : (named draft i == n) ≡ true). eq-eqb (f i) m (moved i (eqb-true (named draft i) n e)) in
+    let old_outs = list_any (λ (o : NetOut). stand_in draft o.net.0 == n) net.outputs in
+    let old_lats = list_any (λ (l : Latch). stand_in draft l.from.0 == n) net.latches in
+    let old_pause = stand_in draft net.paused == n in
+    let moved = λ (i : ℕ) (e : stand_in draft i ≡ n). ap (stand_in kept) e ∙ p.packs.stand_in_is n (omega (arith, p.packs.count)) ∙ ranked in
+    let shown = λ (i : ℕ) (e : (stand_in draft i == n) ≡ true). eq-eqb (f i) m (moved i (eqb-true (stand_in draft i) n e)) in
     let off : begun ≡ false = first-gate first mid at d within ∙ ap is_some silent in
     elim (p.needs.needed n on) [
       | inl root ↦ elim (or_cases ((begun || old_outs) || old_lats) old_pause (sym (p.roots n) ∙ root)) [
@@ -231,11 +231,11 @@ used-at net draft kept mid new before marks p at place within ranked d silent on
           | inl begun_or ↦ elim (or_cases begun old_outs begun_or) [
             | inl never ↦ absurd (both_ways begun off never)
             | inr out ↦ or_left ((pause || outs) || lats) gs (or_left (pause || outs) lats (or_right pause outs
-                (list_any-mapped (λ (o : NetOut). named draft o.net.0 == n) (λ (o : NetOut). o.net.0 == m) (renamed_out f) net.outputs
+                (list_any-mapped (λ (o : NetOut). stand_in draft o.net.0 == n) (λ (o : NetOut). o.net.0 == m) (renamed_out f) net.outputs
                 (λ o e. shown o.net.0 e) out)))
           ]
           | inr latch ↦ or_left ((pause || outs) || lats) gs (or_right (pause || outs) lats
-              (list_any-mapped (λ (l : Latch). named draft l.from.0 == n) (λ (l : Latch). l.from.0 == m) (renamed_latch f) net.latches
+              (list_any-mapped (λ (l : Latch). stand_in draft l.from.0 == n) (λ (l : Latch). l.from.0 == m) (renamed_latch f) net.latches
               (λ l e. shown l.from.0 e) latch))
         ]
         | inr paused ↦ or_left ((pause || outs) || lats) gs (or_left (pause || outs) lats (or_left pause outs (shown net.paused paused)))
@@ -261,7 +261,7 @@ simplified net draft kept mid new before marks p =
     let f = through draft kept in
     let k = keeps net draft kept mid new before marks p in
     let asked = asks-for net draft kept mid new before marks p in
-    let Asked = λ (n : ℕ). IsTrue (marked marks (named draft n)) in
+    let Asked = λ (n : ℕ). IsTrue (marked marks (stand_in draft n)) in
     let parts = same-parts net f Asked new k in
     let instants = same-instants net f Asked new p.is_net k asked in
     record {

@@ -11,7 +11,7 @@ use Rattle.net_ir.specs.Gates.{ReadsLower}
 use Rattle.net_simp.specs.declared.forms.Form.{Form}
 use Rattle.net_simp.specs.contracts.forms.FormPartialEq.TheImpl as form_eq
 use Rattle.net_simp.specs.SimpleNets.{IsNoCopy}
-use Rattle.net_simp.specs.Renaming.{named}
+use Rattle.net_simp.specs.Renaming.{stand_in}
 use Rattle.net_simp.specs.Rules.{op_at, outright_op}
 use Rattle.net_simp.specs.Forms.{form_of}
 use Rattle.net_simp.specs.Keeping.{Keeps, Any}
@@ -99,8 +99,8 @@ pub record Settles (first : ℕ) (new : List Gate) : Type 0 where
 -- the new gates for these old ones, with what stands for each old net and what is known of forms
 pub record Drafted (first : ℕ) (old new : List Gate) (names : List NetId) (known : Form → Option NetId) : Type 0 where
   pub count : length names ≡ first + length old
-  pub keeps : Keeps first old new (named names) Any
-  pub names_no_copy : (n : ℕ) → n < length names → no_copy (op_at first new (named names n))
+  pub keeps : Keeps first old new (stand_in names) Any
+  pub names_no_copy : (n : ℕ) → n < length names → no_copy (op_at first new (stand_in names n))
   pub settles : Settles first new
   pub finds : (q : Form) (n : NetId) → known q ≡ Some n → Finds first new q n.0
   pub knows : (k : ℕ) (d : Gate) → k < length new → (slice_index_or new k d).wire ≡ None
@@ -108,7 +108,7 @@ pub record Drafted (first : ℕ) (old new : List Gate) (names : List NetId) (kno
 
 -- what stands for nets and is known of forms are nets
 pub record InRange (first : ℕ) (gates : List Gate) (names : List NetId) (known : Form → Option NetId) : Type 0 where
-  pub named_low : (n : ℕ) → n < length names → named names n < first + length gates
+  pub stand_in_low : (n : ℕ) → n < length names → stand_in names n < first + length gates
   pub reads_lower : ReadsLower first gates
   pub known_low : (q : Form) (n : NetId) → known q ≡ Some n → n.0 < first + length gates
 
@@ -121,6 +121,6 @@ OpsOnce gates = (j k : ℕ) (d : Gate) → j < length gates → k < length gates
 -- what the first pass makes
 pub record Folded (first : ℕ) (old new : List Gate) (names : List NetId) : Type 0 where
   pub count : length names ≡ first + length old
-  pub keeps : Keeps first old new (named names) Any
+  pub keeps : Keeps first old new (stand_in names) Any
   pub settles : Settles first new
   pub once : OpsOnce new

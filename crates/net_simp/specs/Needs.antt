@@ -5,7 +5,7 @@ use Rattle.net_ir.specs.declared.netlist.Gate.{Gate}
 use Rattle.std.specs.List.{list_any}
 use Rattle.est_base.specs.declared.indices.NetId.{NetId}
 use Rattle.net_ir.specs.Netlists.{Netlist, first_gate}
-use Rattle.net_simp.specs.Renaming.{named}
+use Rattle.net_simp.specs.Renaming.{stand_in}
 use Rattle.net_simp.specs.SimpleNets.{reads}
 
 abbrev pub marked : List Bool → ℕ → Bool
@@ -31,9 +31,9 @@ pub record NeedsMet (first : ℕ) (gates : List Gate) (before marks : List Bool)
 -- the marks that there were, and those of the nets that stand for what outputs, latches and `paused` show
 abbrev pub RootMarks : Netlist → List NetId → List Bool → List Bool → Type 0
 RootMarks net names begun before = (n : ℕ) → marked before n
-    ≡ (((marked begun n || list_any (λ o. named names o.net.0 == n) net.outputs)
-    || list_any (λ l. named names l.from.0 == n) net.latches)
-    || named names net.paused == n)
+    ≡ (((marked begun n || list_any (λ o. stand_in names o.net.0 == n) net.outputs)
+    || list_any (λ l. stand_in names l.from.0 == n) net.latches)
+    || stand_in names net.paused == n)
 
 -- these, and those of all that marked gates read
 pub record Needed (net : Netlist) (names : List NetId) (gates : List Gate) (begun marks : List Bool) : Type 0 where

@@ -3,7 +3,7 @@ use Rattle.std.specs.Prelude.{◌≡◌, ℕ, ◌+◌, ◌<◌, zero, suc, Bool,
 use Rattle.std.specs.Prelude.{if◌then◌else◌, IsTrue}
 use Rattle.est_base.specs.declared.indices.NetId.{NetId}
 use Rattle.net_ir.specs.declared.netlist.Gate.{Gate}
-use Rattle.net_simp.specs.Renaming.{named, renamed_op}
+use Rattle.net_simp.specs.Renaming.{stand_in, renamed_op}
 use Rattle.net_simp.specs.Keeping.{Keeps}
 use Rattle.net_simp.specs.Needs.{marked}
 
@@ -24,7 +24,7 @@ pub record ComesFrom (first : ℕ) (marks : List Bool) (gates new : List Gate) (
 -- the new gates are the marked old ones, and each net has its rank
 pub record Packed (first : ℕ) (marks : List Bool) (gates new : List Gate) (names : List NetId) : Type 0 where
   pub count : length names ≡ first + length gates
-  pub named_is : (n : ℕ) → n < length names → named names n ≡ rank marks n
+  pub stand_in_is : (n : ℕ) → n < length names → stand_in names n ≡ rank marks n
   pub total : first + length new ≡ rank marks (first + length gates)
   pub from : (j : ℕ) → j < length new → ComesFrom first marks gates new j
   pub keeps : Keeps first gates new (rank marks) (λ n. IsTrue (marked marks n))

@@ -9,16 +9,16 @@ use Rattle.net_ir.specs.declared.netlist.NetOut.{NetOut}
 use Rattle.net_ir.specs.Netlists.{Netlist}
 
 -- the net that stands for a net
-abbrev pub named : List NetId → ℕ → ℕ
-named names n = (slice_index_or names n (record { 0 = n })).0
+abbrev pub stand_in : List NetId → ℕ → ℕ
+stand_in names n = (slice_index_or names n (record { 0 = n })).0
 
 -- by one list and then another
 abbrev pub through : List NetId → List NetId → ℕ → ℕ
-through draft kept n = named kept (named draft n)
+through draft kept n = stand_in kept (stand_in draft n)
 
 -- each net stands for itself
 abbrev pub OwnNames : List NetId → Type 0
-OwnNames names = (n : ℕ) → n < length names → named names n ≡ n
+OwnNames names = (n : ℕ) → n < length names → stand_in names n ≡ n
 
 abbrev pub renamed_op : (ℕ → ℕ) → Op → Op
 renamed_op f (Const b) = Const b

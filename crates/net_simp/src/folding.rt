@@ -2,13 +2,13 @@
 
 ghost use Rattle.std.specs.Prelude.{◌≡◌, ℕ, ◌+◌, ◌<◌, ◌≤◌, ◌^◌, [], ◌∷◌, ◌++◌, length, take, IfOk, OnOk};
 ghost use Rattle.net_ir.specs.Gates.{operand_end, ReadsLower};
-ghost use Rattle.net_simp.specs.Renaming.{named, renamed_op, OwnNames};
+ghost use Rattle.net_simp.specs.Renaming.{stand_in, renamed_op, OwnNames};
 ghost use Rattle.net_simp.specs.Rules.{reduced_op};
 ghost use Rattle.net_simp.specs.Drafts.{InRange, Drafted, Folded, found_op, with_gate, name_of, with_form, form_in};
 
 use crate::forms::{Form, form_of};
-use crate::gates::{op_at, own_names, renamed};
-use crate::rules::{outright, reduced};
+use crate::gates::{op_at, own_names, renamed_op};
+use crate::rules::{outright_op, reduced_op};
 use est_base::{NetId, NoMemory, WireId};
 use indexmap::IndexMap;
 use net_ir::{Gate, Op};
@@ -38,22 +38,22 @@ impl Draft {
         requires room { first + length self.old.gates.items < 2 ^ 32 }
         ensures gates { OnOk result (self.new.gates.items ≡ with_gate first self.old.gates.items
             (found_op (form_in self.old.known)
-            (reduced_op first self.old.gates.items (renamed_op (named self.old.names.items) gate.op))) gate.wire) }
+            (reduced_op first self.old.gates.items (renamed_op (stand_in self.old.names.items) gate.op))) gate.wire) }
         ensures names { OnOk result (self.new.names.items ≡ self.old.names.items
             ++ name_of (found_op (form_in self.old.known)
-            (reduced_op first self.old.gates.items (renamed_op (named self.old.names.items) gate.op)))
+            (reduced_op first self.old.gates.items (renamed_op (stand_in self.old.names.items) gate.op)))
             (first + length self.old.gates.items) ∷ []) }
         ensures known { OnOk result ((q : Form) → form_in self.new.known q ≡ with_form (form_in self.old.known)
             (found_op (form_in self.old.known)
-            (reduced_op first self.old.gates.items (renamed_op (named self.old.names.items) gate.op)))
+            (reduced_op first self.old.gates.items (renamed_op (stand_in self.old.names.items) gate.op)))
             (first + length self.old.gates.items) q) }
     {
-        let op = self.found(reduced(first, &self.gates, renamed(&self.names, gate.op)));
+        let op = self.found_op(reduced_op(first, &self.gates, renamed_op(&self.names, gate.op)));
         self.put(first, op, gate.wire)
     }
 
     // The operator, or a copy of a net that computes it already.
-    fn found(&self, op: Op) -> Op
+    fn found_op(&self, op: Op) -> Op
         ensures { result ≡ found_op (form_in self.now.known) op }
     {
         let form = form_of(op);
@@ -76,7 +76,7 @@ impl Draft {
         match op {
             Op::Copy(net) => {
                 if wire.is_some() {
-                    let op = outright(op_at(first, &self.gates, net), net);
+                    let op = outright_op(op_at(first, &self.gates, net), net);
                     self.gates.push(Gate { op, wire })?;
                 }
                 self.names.push(net)?;
@@ -94,7 +94,11 @@ impl Draft {
 
 /// Gates that compute the same, of which no one that carries no wire is a copy, or has an operator that another one
 /// has, or that a rule makes less.
-pub(crate) fn folded(alloc: Global, first: usize, gates: &[Gate]) -> Result<Renumbered, NoMemory>
+pub(crate) fn folded_gates(
+    alloc: Global,
+    first: usize,
+    gates: &[Gate],
+) -> Result<Renumbered, NoMemory>
     requires reads_lower { ReadsLower first gates.now }
     requires numbered { first + length gates.now ≤ 2 ^ 32 }
     ensures { IfOk result (λ d. Folded first gates.now d.gates.items d.names.items) }

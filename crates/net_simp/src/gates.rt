@@ -2,7 +2,7 @@
 
 ghost use Rattle.std.specs.Prelude.{◌≡◌, ◌+◌, ◌<◌, ◌≤◌, ◌^◌, length, IfOk};
 ghost use Rattle.net_ir.specs.Gates.{operand_end};
-ghost use Rattle.net_simp.specs.Renaming.{named, renamed_op, OwnNames};
+ghost use Rattle.net_simp.specs.Renaming.{stand_in, renamed_op, OwnNames};
 ghost use Rattle.net_simp.specs.Rules.{op_at};
 
 use est_base::{NetId, NoMemory};
@@ -24,24 +24,24 @@ pub(crate) fn op_at(first: usize, gates: &[Gate], net: NetId) -> Option<Op>
 }
 
 /// The net that stands for a net.
-pub(crate) fn named(names: &[NetId], net: NetId) -> NetId
+pub(crate) fn stand_in(names: &[NetId], net: NetId) -> NetId
     requires { net.0 < length names.now }
-    ensures { result.0 ≡ named names.now net.0 }
+    ensures { result.0 ≡ stand_in names.now net.0 }
 {
     names[net.0 as usize]
 }
 
 /// The operator over the nets that stand for those that it reads.
-pub(crate) fn renamed(names: &[NetId], op: Op) -> Op
+pub(crate) fn renamed_op(names: &[NetId], op: Op) -> Op
     requires { operand_end op ≤ length names.now }
-    ensures { result ≡ renamed_op (named names.now) op }
+    ensures { result ≡ renamed_op (stand_in names.now) op }
 {
     match op {
         Op::Const(value) => Op::Const(value),
-        Op::Copy(a) => Op::Copy(named(names, a)),
-        Op::Not(a) => Op::Not(named(names, a)),
-        Op::And(a, b) => Op::And(named(names, a), named(names, b)),
-        Op::Or(a, b) => Op::Or(named(names, a), named(names, b)),
+        Op::Copy(a) => Op::Copy(stand_in(names, a)),
+        Op::Not(a) => Op::Not(stand_in(names, a)),
+        Op::And(a, b) => Op::And(stand_in(names, a), stand_in(names, b)),
+        Op::Or(a, b) => Op::Or(stand_in(names, a), stand_in(names, b)),
     }
 }
 

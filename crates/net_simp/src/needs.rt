@@ -4,14 +4,14 @@ ghost use Rattle.std.specs.Prelude.{◌≡◌, ℕ, true, is_some, ◌+◌, ◌<
 ghost use Rattle.std.specs.Prelude.{IfOk, All};
 ghost use Rattle.std.specs.List.{list_any};
 ghost use Rattle.net_ir.specs.Gates.{operand_end, ReadsLower};
-ghost use Rattle.net_simp.specs.Renaming.{named};
+ghost use Rattle.net_simp.specs.Renaming.{stand_in};
 ghost use Rattle.net_simp.specs.SimpleNets.{reads};
 ghost use Rattle.net_ir.specs.Netlists.{first_gate, net_count};
 ghost use Rattle.net_ir.specs.Runs.{netlist_of};
 ghost use Rattle.net_simp.specs.Needs.{marked, NeedsMet, Needed};
 
 use crate::folding::Renumbered;
-use crate::gates::named;
+use crate::gates::stand_in;
 use est_base::{NetId, NoMemory};
 use net_ir::{Gate, Latch, Net, NetOut, Op};
 use std::alloc::Global;
@@ -37,40 +37,40 @@ pub(crate) fn mark_needed(net: &Net, first: usize, draft: &Renumbered, marks: &m
     requires first { first ≡ first_gate (netlist_of net.now) }
     requires names { length draft.now.names.items ≡ net_count (netlist_of net.now) }
     requires names_in_range { (n : ℕ) → n < length draft.now.names.items
-        → named draft.now.names.items n < length marks.old }
+        → stand_in draft.now.names.items n < length marks.old }
     requires count { length marks.old ≡ first + length draft.now.gates.items }
     requires reads_lower { ReadsLower first draft.now.gates.items }
     ensures { Needed (netlist_of net.now) draft.now.names.items draft.now.gates.items marks.old marks.new }
 {
     mark_outputs(&draft.names, &net.outputs, marks);
     mark_latches(&draft.names, &net.latches, marks);
-    mark(named(&draft.names, net.paused), marks);
+    mark(stand_in(&draft.names, net.paused), marks);
     mark_reads(first, &draft.gates, marks);
 }
 
 // Marks the nets that stand for those of the outputs.
 fn mark_outputs(names: &[NetId], outputs: &[NetOut], marks: &mut [bool])
     requires outputs_in_range { All (λ o. o.net.0 < length names.now) outputs.now }
-    requires names_in_range { (n : ℕ) → n < length names.now → named names.now n < length marks.old }
+    requires names_in_range { (n : ℕ) → n < length names.now → stand_in names.now n < length marks.old }
     ensures count { length marks.new ≡ length marks.old }
     ensures marks { (n : ℕ) → marked marks.new n
-        ≡ (marked marks.old n || list_any (λ o. named names.now o.net.0 == n) outputs.now) }
+        ≡ (marked marks.old n || list_any (λ o. stand_in names.now o.net.0 == n) outputs.now) }
 {
     for output in outputs {
-        marks[named(names, output.net).0 as usize] = true;
+        marks[stand_in(names, output.net).0 as usize] = true;
     }
 }
 
 // Marks the nets that stand for those that the latches read.
 fn mark_latches(names: &[NetId], latches: &[Latch], marks: &mut [bool])
     requires latches_in_range { All (λ l. l.from.0 < length names.now) latches.now }
-    requires names_in_range { (n : ℕ) → n < length names.now → named names.now n < length marks.old }
+    requires names_in_range { (n : ℕ) → n < length names.now → stand_in names.now n < length marks.old }
     ensures count { length marks.new ≡ length marks.old }
     ensures marks { (n : ℕ) → marked marks.new n
-        ≡ (marked marks.old n || list_any (λ l. named names.now l.from.0 == n) latches.now) }
+        ≡ (marked marks.old n || list_any (λ l. stand_in names.now l.from.0 == n) latches.now) }
 {
     for latch in latches {
-        marks[named(names, latch.from).0 as usize] = true;
+        marks[stand_in(names, latch.from).0 as usize] = true;
     }
 }
 

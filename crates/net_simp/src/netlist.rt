@@ -3,15 +3,15 @@
 ghost use Rattle.std.specs.Prelude.{◌≡◌, ℕ, ◌<◌, length, map, IfOk, All};
 ghost use Rattle.net_ir.specs.Netlists.{IsNet, net_count};
 ghost use Rattle.net_ir.specs.Runs.{netlist_of};
-ghost use Rattle.net_simp.specs.Renaming.{named, through, renamed_out, renamed_latch, renamed_net};
+ghost use Rattle.net_simp.specs.Renaming.{stand_in, through, renamed_out, renamed_latch, renamed_net};
 ghost use Rattle.net_simp.specs.SameRuns.{SameParts, SameInstants, SameRuns};
 ghost use Rattle.net_simp.specs.Simplified.{Simplified};
 ghost use Rattle.net_simp.specs.SimpleNets.{EachOpOnce, NoCopies, ReadsComputed, ReadsNoneTwice, EachIsUsed};
 
-use crate::folding::{Renumbered, folded};
-use crate::gates::named;
+use crate::folding::{Renumbered, folded_gates};
+use crate::gates::stand_in;
 use crate::needs::{first_marks, mark_needed};
-use crate::packing::packed;
+use crate::packing::packed_gates;
 use est_base::{NetId, NoMemory, Text};
 use net_ir::{Gate, Latch, Net, NetOut};
 use std::alloc::Global;
@@ -33,18 +33,18 @@ pub fn simplify(alloc: Global, net: &Net) -> Result<Net, NoMemory>
     ensures reads_none_twice { IfOk result (λ new. ReadsNoneTwice (netlist_of new)) }
     ensures used { IfOk result (λ new. EachIsUsed (netlist_of new)) }
 {
-    Ok(simplified(alloc, net)?)
+    Ok(simplified_net(alloc, net)?)
 }
 
 // The passes, one after another.
-fn simplified(alloc: Global, net: &Net) -> Result<Net, NoMemory>
+fn simplified_net(alloc: Global, net: &Net) -> Result<Net, NoMemory>
     ensures { IfOk result (λ new. Simplified (netlist_of net.now) (netlist_of new)) }
 {
     let first = net.inputs.len() + net.latches.len();
-    let draft = folded(alloc, first, &net.gates)?;
+    let draft = folded_gates(alloc, first, &net.gates)?;
     let mut marks = first_marks(alloc, first, &draft.gates)?;
     mark_needed(net, first, &draft, &mut marks);
-    let kept = packed(alloc, first, &marks, &draft.gates)?;
+    let kept = packed_gates(alloc, first, &marks, &draft.gates)?;
     let Renumbered { names, gates } = kept;
     let made = renamed_net(alloc, net, &draft.names, &names, gates)?;
     Ok(made)
@@ -59,7 +59,7 @@ fn renamed_net(
     gates: Vec<Gate>,
 ) -> Result<Net, NoMemory>
     requires old_in_range { (n : ℕ) → n < net_count (netlist_of net.now) → n < length draft.now }
-    requires draft_in_range { (n : ℕ) → n < length draft.now → named draft.now n < length kept.now }
+    requires draft_in_range { (n : ℕ) → n < length draft.now → stand_in draft.now n < length kept.now }
     requires is_net { IsNet (renamed_net (netlist_of net.now) (through draft.now kept.now) gates.items) }
     ensures { IfOk result (λ new. netlist_of new
         ≡ renamed_net (netlist_of net.now) (through draft.now kept.now) gates.items) }
@@ -67,7 +67,7 @@ fn renamed_net(
     let name = Text::from_bytes(alloc, net.name.bytes())?;
     let inputs = copied_names(alloc, &net.inputs)?;
     let outputs = renamed_outputs(alloc, draft, kept, &net.outputs)?;
-    let paused = named(kept, named(draft, net.paused));
+    let paused = stand_in(kept, stand_in(draft, net.paused));
     let latches = renamed_latches(alloc, draft, kept, &net.latches)?;
     Ok(Net {
         name,
@@ -96,13 +96,13 @@ fn renamed_outputs(
     outputs: &[NetOut],
 ) -> Result<Vec<NetOut>, NoMemory>
     requires outputs_in_range { All (λ o. o.net.0 < length draft.now) outputs.now }
-    requires draft_in_range { (n : ℕ) → n < length draft.now → named draft.now n < length kept.now }
+    requires draft_in_range { (n : ℕ) → n < length draft.now → stand_in draft.now n < length kept.now }
     ensures { IfOk result (λ v. v.items ≡ map (renamed_out (through draft.now kept.now)) outputs.now) }
 {
     let mut renamed = Vec::new(alloc);
     for output in outputs {
         let name = Text::from_bytes(alloc, output.name.bytes())?;
-        let net = named(kept, named(draft, output.net));
+        let net = stand_in(kept, stand_in(draft, output.net));
         renamed.push(NetOut { name, net })?;
     }
     Ok(renamed)
@@ -115,12 +115,12 @@ fn renamed_latches(
     latches: &[Latch],
 ) -> Result<Vec<Latch>, NoMemory>
     requires latches_in_range { All (λ l. l.from.0 < length draft.now) latches.now }
-    requires draft_in_range { (n : ℕ) → n < length draft.now → named draft.now n < length kept.now }
+    requires draft_in_range { (n : ℕ) → n < length draft.now → stand_in draft.now n < length kept.now }
     ensures { IfOk result (λ v. v.items ≡ map (renamed_latch (through draft.now kept.now)) latches.now) }
 {
     let mut renamed = Vec::new(alloc);
     for latch in latches {
-        let from = named(kept, named(draft, latch.from));
+        let from = stand_in(kept, stand_in(draft, latch.from));
         renamed.push(Latch {
             init: latch.init,
             from,

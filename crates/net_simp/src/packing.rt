@@ -6,13 +6,13 @@ ghost use Rattle.net_simp.specs.Packing.{Packed};
 ghost use Rattle.net_simp.specs.Needs.{Closed};
 
 use crate::folding::Renumbered;
-use crate::gates::{own_names, renamed};
+use crate::gates::{own_names, renamed_op};
 use est_base::{NetId, NoMemory};
 use net_ir::Gate;
 use std::alloc::Global;
 
 /// The marked gates, over nets that are numbered anew, in their order.
-pub(crate) fn packed(
+pub(crate) fn packed_gates(
     alloc: Global,
     first: usize,
     marks: &[bool],
@@ -27,7 +27,7 @@ pub(crate) fn packed(
     let mut kept = Vec::new(alloc);
     for (k, gate) in gates.iter().enumerate() {
         if marks[first + k] {
-            let op = renamed(&names, gate.op);
+            let op = renamed_op(&names, gate.op);
             names.push(NetId((first + kept.len()) as u32))?;
             kept.push(Gate {
                 op,

@@ -11,7 +11,7 @@ use net_ir::{Gate, Op};
 
 /// An operator of the same value, over the gates so far: constants are folded, double negations and absorbed
 /// operands go, and what reads one net twice only copies it.
-pub(crate) fn reduced(first: usize, gates: &[Gate], op: Op) -> Op
+pub(crate) fn reduced_op(first: usize, gates: &[Gate], op: Op) -> Op
     requires { operand_end op ≤ first + length gates.now }
     ensures { result ≡ reduced_op first gates.now op }
 {
@@ -44,7 +44,7 @@ pub(crate) fn reduced(first: usize, gates: &[Gate], op: Op) -> Op
 }
 
 /// A copy of a net whose gate has this operator, as it is told outright: of a constant it is that constant.
-pub(crate) fn outright(op: Option<Op>, net: NetId) -> Op
+pub(crate) fn outright_op(op: Option<Op>, net: NetId) -> Op
     ensures { result ≡ outright_op op net }
 {
     match op {

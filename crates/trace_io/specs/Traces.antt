@@ -51,10 +51,10 @@ pub data Group : Type 0 where
   Refused : (fault : TraceFault) → Group
 
 -- a group that ends
-abbrev pub closed : Stage → List Bool → ℕ → Group
-closed Fresh event behind = Instant event behind
-closed Named event behind = Instant event behind
-closed Resetting event behind = Reset behind
+abbrev pub closed_group : Stage → List Bool → ℕ → Group
+closed_group Fresh event behind = Instant event behind
+closed_group Named event behind = Instant event behind
+closed_group Resetting event behind = Reset behind
 
 -- a text that ends: only between groups
 abbrev pub ended : ℕ → Stage → Group
@@ -71,7 +71,7 @@ behind_name rest (Goes stage event) = rest stage event
 abbrev pub group : List (List ℕ) → ℕ → Stage → List Bool → List Token → Group
 group inputs instant stage event [] = ended instant stage
 group inputs instant stage event (BadByte place ∷ more) = Refused (faults.BadByte place)
-group inputs instant stage event (Semicolon behind ∷ more) = closed stage event behind
+group inputs instant stage event (Semicolon behind ∷ more) = closed_group stage event behind
 group inputs instant stage event (Name name ∷ more) =
     behind_name (λ s e. group inputs instant s e more) (met_name inputs instant stage event name)
 

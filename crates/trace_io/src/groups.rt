@@ -4,7 +4,7 @@ ghost use Rattle.std.specs.Prelude.{◌≡◌, ◌≤◌, ◌^◌, length, IsTru
 ghost use Rattle.est_base.specs.Names.{is_same_name};
 ghost use Rattle.est_base.specs.Distinct.{all_differ};
 ghost use Rattle.trace_io.specs.Reads.{IsMet, IsEnd, IsRead, group_of};
-ghost use Rattle.trace_io.specs.Traces.{is_misplaced, has_resets, met_name, closed, ended, group_from};
+ghost use Rattle.trace_io.specs.Traces.{is_misplaced, has_resets, met_name, closed_group, ended, group_from};
 
 use crate::faults::{TraceError, TraceFault};
 use crate::places::{Places, place_of};
@@ -75,7 +75,7 @@ pub fn read_group(
         match next_token(text, from) {
             Found::End => return end_of(stage, names.instant),
             Found::Bad(place) => return Err(TraceError::Fault(TraceFault::BadByte(place as u32))),
-            Found::Semicolon(behind) => return Ok(closed(stage, event, behind)),
+            Found::Semicolon(behind) => return Ok(closed_group(stage, event, behind)),
             Found::Name(start, end) => {
                 stage = stage_after(alloc, names, stage, &mut event, &text[start..end])?;
                 from = end;
@@ -95,8 +95,8 @@ fn end_of(stage: Stage, instant: u32) -> Result<Read, TraceError>
 }
 
 // The group that a `;` closes.
-fn closed(stage: Stage, event: Vec<bool>, behind: usize) -> Read
-    ensures { group_of result ≡ closed stage event.items behind }
+fn closed_group(stage: Stage, event: Vec<bool>, behind: usize) -> Read
+    ensures { group_of result ≡ closed_group stage event.items behind }
 {
     match stage {
         Stage::Fresh | Stage::Named => Read::Instant(event, behind),
@@ -124,11 +124,11 @@ fn stage_after(
         return Ok(Stage::Resetting);
     }
     let Some(place) = place_of(names.places, names.inputs, name) else {
-        let name = named(alloc, name)?;
+        let name = copied_name(alloc, name)?;
         return Err(TraceError::Fault(TraceFault::UnknownInput(names.instant, name)));
     };
     if event[place] {
-        let name = named(alloc, name)?;
+        let name = copied_name(alloc, name)?;
         return Err(TraceError::Fault(TraceFault::Repeated(names.instant, name)));
     }
     event[place] = true;
@@ -136,7 +136,7 @@ fn stage_after(
 }
 
 // A name in memory of its own.
-fn named(alloc: Global, name: &[u8]) -> Result<Text, TraceError>
+fn copied_name(alloc: Global, name: &[u8]) -> Result<Text, TraceError>
     ensures { MatchResult result (λ t. t ≡ name.now) (λ e. e ≡ TraceError.NoMemory) }
 {
     match Text::from_bytes(alloc, name) {

@@ -31,7 +31,7 @@ fn bare_names(alloc: Global, names: &[Text], sign: &[u8]) -> Result<Vec<Text>, N
     let mut bare = Vec::new(alloc);
     for name in names {
         if sign_of(name.bytes()) == sign {
-            bare.push(Text::from_bytes(alloc, behind_sign(name.bytes()))?)?;
+            bare.push(Text::from_bytes(alloc, bare_name(name.bytes()))?)?;
         }
     }
     Ok(bare)
@@ -45,7 +45,7 @@ fn sign_of(name: &[u8]) -> &[u8]
 }
 
 // The bytes of a name behind the first two.
-fn behind_sign(name: &[u8]) -> &[u8]
+fn bare_name(name: &[u8]) -> &[u8]
     ensures { result.now ≡ bare_name name.now }
 {
     if name.len() < 2 { b"" } else { &name[2..] }

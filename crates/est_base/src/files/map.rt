@@ -78,7 +78,7 @@ impl Files for MapFiles {
         ensures state { self.new ≡ after_call self.old name.now result }
     {
         self.calls = self.calls.saturating_add(1);
-        match offered(&self.entries, &self.failing, self.calls, name.as_bytes()) {
+        match bytes_at_call(&self.entries, &self.failing, self.calls, name.as_bytes()) {
             Some(bytes) => copy_within(alloc, bytes.bytes(), limit),
             None => {
                 let failed = Text::from_bytes(alloc, name.as_bytes());
@@ -92,7 +92,7 @@ impl Files for MapFiles {
 }
 
 // The bytes under a name, at a call that does not fail.
-fn offered<'a>(
+fn bytes_at_call<'a>(
     entries: &'a [FileEntry],
     failing: &[u64],
     call: u64,

@@ -3,7 +3,7 @@
 use super::*;
 use std::test::Fail;
 
-fn told(outcome: &Result<Option<Item>, TraceError>) -> &'static str {
+fn outcome_text(outcome: &Result<Option<Item>, TraceError>) -> &'static str {
     match outcome {
         Ok(None) => "end",
         Ok(Some(Item::Reset)) => "reset",
@@ -53,7 +53,7 @@ fn traces_of_one_input(rt: HostRuntime) -> Result<(), Fail> {
         if text.len() < 100 && inputs.len() == 1 {
             let mut reader = TraceReader::new(rt.alloc(), text, inputs, Vec::new(rt.alloc()));
             for item in items {
-                assert_eq!(rt; told(&reader.next()), item);
+                assert_eq!(rt; outcome_text(&reader.next()), item);
             }
         }
     }

@@ -26,19 +26,19 @@ select_part-requires-clause-leaves c = omega (arith, c.requires.limits.size, sta
 
 pub invariant_of-result : goal.invariant_of-result
 invariant_of-result c =
-    let tree = body_grown (record { nodes = c.new.result; leaves = 0 }) c.select_part.new.lists c.has_some_code-live.result (term_of c.args.body.now)
+    let tree = body_grown (record { nodes = c.new.result; leaves = 0 }) c.select_part.new.draft c.has_some_code-live.result (term_of c.args.body.now)
     c.new.ensures.items refl
     (c.has_some_code-live.ensures ∙ ap has_code (c.resumed_codes.ensures
     ∙ (codes_at _ _ 0 (codes_of_body _ (term_of c.args.body.now) c.requires.codes)).resumed))
     c.in_ok-select_part.ensures.grown in
     record {
-      nested = tree_nests c.select_part.new.lists.nodes.items (term_of c.args.body.now) tree.nodes;
-      numbered = tree_numbers c.select_part.new.lists.nodes.items c.select_part.new.lists.leaves (term_of c.args.body.now) tree.nodes tree.leaves;
+      nested = tree_nests c.select_part.new.draft.nodes.items (term_of c.args.body.now) tree.nodes;
+      numbered = tree_numbers c.select_part.new.draft.nodes.items c.select_part.new.draft.leaves (term_of c.args.body.now) tree.nodes tree.leaves;
     }
 
 pub returns-clause-nodes : goal.returns-clause-nodes
 returns-clause-nodes c =
-    let tree = body_grown (record { nodes = c.new.result; leaves = 0 }) c.select_part.new.lists c.has_some_code-live.result (term_of c.args.body.now)
+    let tree = body_grown (record { nodes = c.new.result; leaves = 0 }) c.select_part.new.draft c.has_some_code-live.result (term_of c.args.body.now)
     c.new.ensures.items refl
     (c.has_some_code-live.ensures ∙ ap has_code (c.resumed_codes.ensures
     ∙ (codes_at _ _ 0 (codes_of_body _ (term_of c.args.body.now) c.requires.codes)).resumed))
@@ -47,7 +47,7 @@ returns-clause-nodes c =
 
 pub returns-clause-leaves : goal.returns-clause-leaves
 returns-clause-leaves c =
-    let tree = body_grown (record { nodes = c.new.result; leaves = 0 }) c.select_part.new.lists c.has_some_code-live.result (term_of c.args.body.now)
+    let tree = body_grown (record { nodes = c.new.result; leaves = 0 }) c.select_part.new.draft c.has_some_code-live.result (term_of c.args.body.now)
     c.new.ensures.items refl
     (c.has_some_code-live.ensures ∙ ap has_code (c.resumed_codes.ensures
     ∙ (codes_at _ _ 0 (codes_of_body _ (term_of c.args.body.now) c.requires.codes)).resumed))

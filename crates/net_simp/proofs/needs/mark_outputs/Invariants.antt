@@ -1,11 +1,11 @@
 use Rattle.std.proofs.Common.{◌≡◌, ℕ, ◌||◌, ◌==◌, length, take}
 use Rattle.std.specs.List.{list_any}
-use Rattle.net_simp.specs.Renaming.{named}
+use Rattle.net_simp.specs.Renaming.{stand_in}
 use Rattle.net_simp.specs.Needs.{marked}
 use Rattle.net_simp.proofs.needs.mark_outputs.Given as goal
 
 abbrev pub invariant-loop-output : goal.invariant-loop-output
 invariant-loop-output l = record {
   count : length l.marks ≡ length l.initial.marks;
-  says : (n : ℕ) → marked l.marks n ≡ (marked l.initial.marks n || list_any (λ o. named l.names o.net.0 == n) (take l.output-index l.outputs));
+  says : (n : ℕ) → marked l.marks n ≡ (marked l.initial.marks n || list_any (λ o. stand_in l.names o.net.0 == n) (take l.output-index l.outputs));
 }

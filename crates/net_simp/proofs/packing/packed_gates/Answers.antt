@@ -3,11 +3,11 @@ use Rattle.std.proofs.lemmas.List.{take_all}
 use Rattle.est_base.specs.declared.indices.NetId.{NetId}
 use Rattle.net_ir.specs.declared.netlist.Gate.{Gate}
 use Rattle.net_ir.specs.declared.netlist.Op.TheVariants.{Const}
-use Rattle.net_simp.specs.Renaming.{named, renamed_op}
+use Rattle.net_simp.specs.Renaming.{stand_in, renamed_op}
 use Rattle.net_simp.specs.Packing.{Packed}
 use Rattle.net_simp.proofs.Ranks.{numbered, packed-start, packed-next, packed-past}
-use Rattle.net_simp.proofs.packing.packed.Goals as goal
-use Rattle.net_simp.proofs.packing.packed.Goals.{then-marks-first+in_ok-push+in_ok-push-2, else-marks-first+in_ok-push-3}
+use Rattle.net_simp.proofs.packing.packed_gates.Goals as goal
+use Rattle.net_simp.proofs.packing.packed_gates.Goals.{then-marks-first+in_ok-push+in_ok-push-2, else-marks-first+in_ok-push-3}
 
 pub loop-k-init : goal.loop-k-init
 loop-k-init c =
@@ -30,9 +30,9 @@ loop-k-preserved c =
           let names_are = ap (λ (v : Vec NetId Global). v.items) w.names-is ∙ w.in_ok-push.ensures.items
           ∙ ap (λ t. names ++ numbered t ∷ []) total in
           let kept_are = ap (λ (v : Vec Gate Global). v.items) w.kept-is ∙ w.in_ok-push-2.ensures.items in
-          let op = w.renamed-op.ensures ∙ ap (λ ns. renamed_op (named ns) g.op) w.deref.ensures.value in
+          let op = w.renamed_op-op.ensures ∙ ap (λ ns. renamed_op (stand_in ns) g.op) w.deref.ensures.value in
           packed-next first k marks gates kept c.if-marks-first.kept.items names c.if-marks-first.names.items g
-          (record { op = w.renamed-op.result; wire = g.wire }) d c.requires.closed c.requires.reads_lower c.loop-k.invariant c.loop-k-test.true refl
+          (record { op = w.renamed_op-op.result; wire = g.wire }) d c.requires.closed c.requires.reads_lower c.loop-k.invariant c.loop-k-test.true refl
           w.if-marks-first.true op refl kept_are names_are
       | else-marks-first+in_ok-push-3 w ↦
           let total : first + w.len-else-marks-first.result ≡ first + length kept = omega (arith, c.loop-k.kept.ok.0, w.len-else-marks-first.ensures) in

@@ -3,11 +3,11 @@ use Rattle.std.proofs.lemmas.List.{take_more, take_all, length-take-le}
 use Rattle.net_ir.specs.declared.netlist.Gate.{Gate}
 use Rattle.net_ir.specs.declared.netlist.Op.TheVariants.{Const}
 use Rattle.net_ir.specs.Gates.{operand_end}
-use Rattle.net_simp.specs.Renaming.{named, renamed_op}
+use Rattle.net_simp.specs.Renaming.{stand_in, renamed_op}
 use Rattle.net_simp.specs.Rules.{reduced_op}
 use Rattle.net_simp.specs.Drafts.{Drafted, Folded, form_in, found_op}
 use Rattle.net_simp.proofs.Drafting.{drafted-next, drafted-start, nothing-in, in-range, folded}
-use Rattle.net_simp.proofs.folding.folded.Goals as goal
+use Rattle.net_simp.proofs.folding.folded_gates.Goals as goal
 
 pub loop-gate-init : goal.loop-gate-init
 loop-gate-init c =
@@ -29,7 +29,7 @@ loop-gate-preserved c =
     let low : operand_end g.op ≤ length names =
     omega (arith, many, c.loop-gate.invariant.count, c.requires.reads_lower k d here) in
     drafted-next c.args.first k gates new c.add.new.self.gates.items names c.add.new.self.names.items known (form_in c.add.new.self.known) g
-    (found_op known (reduced_op c.args.first new (renamed_op (named names) g.op)))
+    (found_op known (reduced_op c.args.first new (renamed_op (stand_in names) g.op)))
     c.loop-gate.invariant (take_more gates k d here) low refl c.in_ok-add.ensures.gates c.in_ok-add.ensures.names c.in_ok-add.ensures.known
 
 pub add-requires-clause-in_range : goal.add-requires-clause-in_range

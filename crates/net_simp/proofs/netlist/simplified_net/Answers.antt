@@ -5,10 +5,10 @@ use Rattle.net_ir.specs.Runs.{netlist_of}
 use Rattle.net_simp.specs.Renaming.{through, renamed_net}
 use Rattle.net_simp.specs.Simplified.{Simplified}
 use Rattle.net_simp.proofs.Simple.{closed-of, passes-of, simplified-is-net, simplified}
-use Rattle.net_simp.proofs.netlist.simplified.Goals as goal
+use Rattle.net_simp.proofs.netlist.simplified_net.Goals as goal
 
-pub packed-requires-clause-closed : goal.packed-requires-clause-closed
-packed-requires-clause-closed c =
+pub packed_gates-requires-clause-closed : goal.packed_gates-requires-clause-closed
+packed_gates-requires-clause-closed c =
     let old = c.args.net.now in
     let net = netlist_of old in
     let first : c.len.result + c.len-2.result ≡ first_gate net = omega (arith, old.inputs.ok.0, old.latches.ok.0, c.len.ensures, c.len-2.ensures) in
