@@ -45,22 +45,12 @@ pub fn push_lists<'a>(lists: &mut Vec<&'a [Name]>, statement: &'a Stmt) -> Resul
             lists.push(names.as_slice())?;
             push_lists(lists, p)
         }
-        Form::Seq(parts) => push_all(lists, parts),
-        Form::Par(parts) => push_all(lists, parts),
-        Form::Loop(p) => push_lists(lists, p),
-        Form::LoopEach(p, _) => push_lists(lists, p),
-        Form::Every(_, p) => push_lists(lists, p),
-        Form::Repeat(_, _, p) => push_lists(lists, p),
-        Form::WeakAbort(p, _) => push_lists(lists, p),
-        Form::Suspend(p, _) => push_lists(lists, p),
-        Form::Group(p) => push_lists(lists, p),
-        Form::Nothing => Ok(()),
-        Form::Pause => Ok(()),
-        Form::Halt => Ok(()),
-        Form::Emit(_) => Ok(()),
-        Form::Sustain(_) => Ok(()),
-        Form::Exit(_) => Ok(()),
-        Form::Run(_, _) => Ok(()),
+        Form::Seq(parts) | Form::Par(parts) => push_all(lists, parts),
+        Form::Loop(p) | Form::LoopEach(p, _) | Form::Every(_, p) => push_lists(lists, p),
+        Form::Repeat(_, _, p) | Form::Group(p) => push_lists(lists, p),
+        Form::WeakAbort(p, _) | Form::Suspend(p, _) => push_lists(lists, p),
+        Form::Nothing | Form::Pause | Form::Halt => Ok(()),
+        Form::Emit(_) | Form::Sustain(_) | Form::Exit(_) | Form::Run(_, _) => Ok(()),
     }
 }
 

@@ -12,7 +12,8 @@ use Rattle.est_kernel.specs.WellFormed.{SignalsFit, with_signal}
 use Rattle.grc_graph.specs.declared.statements.Binding as bindings
 use Rattle.grc_graph.specs.declared.statements.Binding.TheVariants as kinds
 use Rattle.grc_graph.specs.Scopes.{Binding, Scope, Entering, Outgoing, BoundAt, Unbound, bind, program_scope}
-use Rattle.grc_graph.specs.Statements.{Listed, Entry, listed_one, LocalsFit}
+use Rattle.grc_graph.specs.Statements.{Listed, Entry, listed, listed_one, LocalsFit}
+use Rattle.est_kernel.specs.Preorder.{statement_count}
 use Rattle.grc_graph.specs.StatementViews.{binding_of, scope_of}
 
 -- ---- the table of scopes
@@ -81,16 +82,27 @@ first_scope table inputs interface all lo le e = λ i s. each s i
         (cases_lt s all)
 
 -- a statement with two parts: its own entry is appended, then those of the first part; the number of the second part is
--- written into it, and the entries of the second part are appended
-pub two_listed : (old ps qs own first second new : List Listed) (x : Listed) (place m : ℕ)
+-- written into it, and the entries of the second part are appended; parts, number and last scope by another name each
+pub two_listed : (old own first second new : List Listed) (B C : Scope) (control one two : Entry) (t p p' q q' : Term) (place n m : ℕ)
     → place ≡ length old
-    → own ≡ old ++ x ∷ []
-    → first ≡ own ++ ps
+    → C ≡ B
+    → p' ≡ p
+    → q' ≡ q
+    → m ≡ n + 1 + statement_count p'
+    → own ≡ old ++ listed_one B control t 0 ∷ []
+    → first ≡ own ++ listed B one p' (n + 1)
     → ((l : Listed) → second ≡ set first place (record (get_or first place l) { second = m }))
-    → new ≡ second ++ qs
-    → new ≡ old ++ (record x { second = m }) ∷ (ps ++ qs)
-two_listed old ps qs own first second new x place m e o f s n =
-    parts_behind old ps qs second new (record x { second = m }) (patched old ps first second x place m e (f ∙ ap (λ l. l ++ ps) o) s) n
+    → new ≡ second ++ listed C two q' m
+    → new ≡ old ++ listed_one B control t (n + 1 + statement_count p)
+    ∷ (listed B one p (n + 1) ++ listed B two q (n + 1 + statement_count p))
+two_listed old own first second new B C control one two t p p' q q' place n m at b e f g o h s k =
+    let after : m ≡ n + 1 + statement_count p = g ∙ ap (λ r. n + 1 + statement_count r) e in
+    parts_behind old (listed B one p (n + 1)) (listed B two q (n + 1 + statement_count p)) second new
+    (listed_one B control t (n + 1 + statement_count p))
+    (patched old (listed B one p (n + 1)) first second (listed_one B control t 0) place (n + 1 + statement_count p) at
+    (h ∙ λ i. o i ++ listed B one (e i) (n + 1))
+    (λ l. s l ∙ λ i. set first place (record (get_or first place l) { second = after i })))
+    (k ∙ λ i. second ++ listed (b i) two (f i) (after i))
 
 -- where a signal is put back
 pub put_back : (table bound : List bindings.Binding) (s : ℕ) (b old : bindings.Binding)

@@ -129,47 +129,31 @@ fn list_part<'a>(
     match body {
         Kernel::Nothing | Kernel::Pause | Kernel::Emit(_) | Kernel::Exit(_) => Ok(path + 1),
         Kernel::Present(test, yes, no) => {
-            let control = Entry::Then(path, test);
-            let next = list_part(alloc, yes, control, path + 1, scope, list)?;
+            let next = list_part(alloc, yes, Entry::Then(path, test), path + 1, scope, list)?;
             set_second(list, place, next);
-            let control = Entry::Else(path, test);
-            let after = list_part(alloc, no, control, next, scope, list)?;
-            Ok(after)
+            list_part(alloc, no, Entry::Else(path, test), next, scope, list)
         }
         Kernel::Suspend(test, part) => {
             let control = Entry::Suspended(path, test);
-            let after = list_part(alloc, part, control, path + 1, scope, list)?;
-            Ok(after)
+            list_part(alloc, part, control, path + 1, scope, list)
         }
         Kernel::Seq(first, second) => {
-            let control = Entry::Branch(path);
-            let next = list_part(alloc, first, control, path + 1, scope, list)?;
+            let next = list_part(alloc, first, Entry::Branch(path), path + 1, scope, list)?;
             set_second(list, place, next);
-            let control = Entry::Second(path);
-            let after = list_part(alloc, second, control, next, scope, list)?;
-            Ok(after)
+            list_part(alloc, second, Entry::Second(path), next, scope, list)
         }
         Kernel::Loop(_, part) => {
-            let control = Entry::Looped(path);
-            let after = list_part(alloc, part, control, path + 1, scope, list)?;
-            Ok(after)
+            list_part(alloc, part, Entry::Looped(path), path + 1, scope, list)
         }
         Kernel::Par(left, right) => {
-            let control = Entry::Branch(path);
-            let next = list_part(alloc, left, control, path + 1, scope, list)?;
+            let next = list_part(alloc, left, Entry::Branch(path), path + 1, scope, list)?;
             set_second(list, place, next);
-            let after = list_part(alloc, right, control, next, scope, list)?;
-            Ok(after)
+            list_part(alloc, right, Entry::Branch(path), next, scope, list)
         }
-        Kernel::Trap(part) => {
-            let control = Entry::Part(path);
-            let after = list_part(alloc, part, control, path + 1, scope, list)?;
-            Ok(after)
-        }
+        Kernel::Trap(part) => list_part(alloc, part, Entry::Part(path), path + 1, scope, list),
         Kernel::Local(signal, part) => {
-            let control = Entry::Part(path);
             let outer = bind_signal(scope, *signal, Binding::Bound(path));
-            let after = list_part(alloc, part, control, path + 1, scope, list)?;
+            let after = list_part(alloc, part, Entry::Part(path), path + 1, scope, list)?;
             let _ = bind_signal(scope, *signal, outer);
             Ok(after)
         }
