@@ -3,7 +3,7 @@
 -- own name, and so has an output; where that is an input's name too, the output is written `NAME.out`. No name
 -- of a net has a `.` or begins with `_`.
 use Rattle.std.specs.Prelude.{◌≡◌, ℕ, ◌-◌, Bool, true, false, if◌then◌else◌, nat_lt, List, [], ◌∷◌, ◌++◌, length}
-use Rattle.std.specs.Prelude.{map, codes, decimal, slice_get, Option, Some, None, option_and_then, Ok}
+use Rattle.std.specs.Prelude.{map, codes, decimal, Option, Some, None, Ok}
 use Rattle.std.specs.List.{range_with_len}
 use Rattle.est_base.specs.declared.indices.WireId.{WireId}
 use Rattle.net_ir.specs.declared.netlist.Op.{Op}
@@ -12,11 +12,12 @@ use Rattle.net_ir.specs.declared.netlist.Gate.{Gate}
 use Rattle.net_ir.specs.declared.netlist.Latch.{Latch}
 use Rattle.net_ir.specs.declared.netlist.NetOut.{NetOut}
 use Rattle.est_base.specs.Items.{Item, EachEvent}
-use Rattle.net_ir.specs.Netlists.{Netlist, first_gate, net_count}
+use Rattle.net_ir.specs.NameLists.{is_among}
+use Rattle.net_ir.specs.Netlists.{Netlist, first_gate, net_count, wire_at}
 use Rattle.net_ir.specs.Numbered.{numbered}
 use Rattle.net_ir.specs.Runs.{net_run, net_values_run}
 use Rattle.blif_text.specs.Statements.{Cell, Zero, One, Any}
-use Rattle.blif_text.specs.Circuits.{Circuit, CircuitLatch, Table, is_among, reading}
+use Rattle.blif_text.specs.Circuits.{Circuit, CircuitLatch, Table, reading}
 use Rattle.blif_text.specs.Spelled.{circuit_text}
 use Rattle.blif_text.specs.Runs.{IsRun, driven_names}
 
@@ -31,10 +32,6 @@ latch_word j = codes "_s" ++ decimal j
 abbrev pub gate_word : ℕ → Option WireId → List ℕ
 gate_word k None = codes "_g" ++ decimal k
 gate_word k (Some wire) = codes "_w" ++ decimal wire.0
-
--- the wire that a gate carries
-abbrev pub wire_at : List Gate → ℕ → Option WireId
-wire_at gates k = option_and_then (λ g. g.wire) (slice_get gates k)
 
 -- the name of a net, by its number
 abbrev pub net_word : Netlist → ℕ → List ℕ
