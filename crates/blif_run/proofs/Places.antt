@@ -11,7 +11,8 @@ use Rattle.std.proofs.lemmas.List.Folds.{list_any_at, list_any_none}
 use Rattle.std.proofs.lemmas.List.Sums.{prefix_len-le-length, position_or_len_is, passes_at_first}
 use Rattle.est_base.specs.Names.{is_same_name}
 use Rattle.est_base.specs.Distinct.{all_differ}
-use Rattle.blif_text.specs.Circuits.{Circuit, CircuitLatch, is_among}
+use Rattle.blif_text.specs.NameLists.{is_among}
+use Rattle.blif_text.specs.Circuits.{Circuit, CircuitLatch}
 use Rattle.blif_text.specs.Runs.{driven_names}
 use Rattle.blif_run.specs.Slots.{slot_of, slot_count, first_slot, no_table}
 

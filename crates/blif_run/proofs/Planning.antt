@@ -5,7 +5,8 @@ use Rattle.std.specs.List.{list_any}
 use Rattle.std.proofs.lemmas.Bool.{cases_lt}
 use Rattle.std.proofs.lemmas.List.{length-map, get_or-map, get_or_default, ext_get_or, get_or_append_left, get_or-append-add, get_or-take}
 use Rattle.std.proofs.lemmas.List.Elements.{All-from_recursion}
-use Rattle.blif_text.specs.Circuits.{Circuit, CircuitLatch, Table, is_among}
+use Rattle.blif_text.specs.NameLists.{is_among}
+use Rattle.blif_text.specs.Circuits.{Circuit, CircuitLatch, Table}
 use Rattle.blif_text.specs.Runs.{driven_names, table_value, row_fits, IsInstant}
 use Rattle.blif_run.specs.Edges.{edges_from, IsEvaluationOrder}
 use Rattle.blif_run.specs.Steps.{PlainStep, StepFits, value_at, settled}

@@ -4,7 +4,8 @@ use Rattle.std.specs.List.{AllByRecursion, position_or_len}
 use Rattle.std.proofs.lemmas.List.{get_or-map}
 use Rattle.est_base.specs.Names.{is_same_name}
 use Rattle.est_base.specs.Items.{Item, Event, Reset}
-use Rattle.blif_text.specs.Circuits.{Circuit, is_among}
+use Rattle.blif_text.specs.NameLists.{is_among}
+use Rattle.blif_text.specs.Circuits.{Circuit}
 use Rattle.blif_text.specs.Runs.{IsInstant, IsRunFrom, circuit_latches, driven_names}
 use Rattle.blif_run.specs.Laws.{AnswersAreRuns}
 use Rattle.blif_text.proofs.Described.{IsSound, described-sound}

@@ -7,7 +7,8 @@ use Rattle.std.proofs.lemmas.Bool.{cases_lt}
 use Rattle.std.proofs.lemmas.List.{length-map, get_or-map, get_or_default}
 use Rattle.std.proofs.lemmas.List.Elements.{Contains-append_left, Contains-append_right, Contains-append_cases, Contains-get_or, All-from_recursion, All-map}
 use Rattle.digraph.specs.Walks.{HasEdge, JoinsNodes, IsClosedWalk}
-use Rattle.blif_text.specs.Circuits.{Circuit, Table, is_among}
+use Rattle.blif_text.specs.NameLists.{is_among}
+use Rattle.blif_text.specs.Circuits.{Circuit, Table}
 use Rattle.blif_text.specs.Runs.{driven_names}
 use Rattle.blif_run.specs.Edges.{table_edges, edges_from, output_at, outputs_along, NoWalk}
 use Rattle.blif_run.specs.Loops.{NeedsName, IsLoop, HasNoLoop, name_at}

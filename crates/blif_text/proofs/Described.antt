@@ -13,8 +13,9 @@ use Rattle.net_ir.proofs.NumberedNames.{same-refl, same-eq}
 use Rattle.blif_text.specs.Lines.{Line, is_clean, words, read_lines}
 use Rattle.blif_text.specs.Statements.{Statement, Model, Inputs, Outputs, Latch, Names, Row, End, Said, said, said_in, said_by, statement_of}
 use Rattle.blif_text.specs.Statements.{model_of, latch_of, names_of, name_before, table_of, end_of, table_row, bit_of, cells_of}
-use Rattle.blif_text.specs.Circuits.{Circuit, CircuitLatch, circuit_of, inputs_in, outputs_in, latches_in, tables_of, driven_by, used_by, is_among}
-use Rattle.blif_text.specs.Circuits.{first_again, driven_again, not_driven, reading, statements, unless, Fault}
+use Rattle.net_ir.specs.NameLists.{is_among, first_again}
+use Rattle.blif_text.specs.Circuits.{Circuit, CircuitLatch, circuit_of, inputs_in, outputs_in, latches_in, tables_of, driven_by, used_by}
+use Rattle.blif_text.specs.Circuits.{driven_again, not_driven, reading, statements, unless, Fault}
 use Rattle.blif_text.specs.Runs.{driven_names}
 
 -- ---- a list of names in which none stands again

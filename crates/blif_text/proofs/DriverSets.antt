@@ -9,7 +9,8 @@ use Rattle.est_base.specs.Names.{is_same_name}
 use Rattle.blif_text.specs.declared.refusal.BlifError.{BlifError}
 use Rattle.blif_text.specs.declared.refusal.BlifError.TheVariants.{TooLong, Line, TwoDrivers, NoDriver, NoMemory}
 use Rattle.blif_text.specs.Statements.{Statement}
-use Rattle.blif_text.specs.Circuits.{is_among, first_again, driven_again, not_driven}
+use Rattle.net_ir.specs.NameLists.{is_among, first_again}
+use Rattle.blif_text.specs.Circuits.{driven_again, not_driven}
 use Rattle.blif_text.specs.PlainStatements.{FoundFault, DriverFault}
 use Rattle.blif_text.proofs.NameSets.{is_among-push}
 

@@ -11,7 +11,8 @@ use Rattle.net_ir.specs.declared.netlist.NetOut.{NetOut}
 use Rattle.net_ir.specs.Netlists.{Netlist}
 use Rattle.blif_text.specs.declared.pieces.Place.{Place}
 use Rattle.blif_text.specs.declared.pieces.Place.TheVariants as places
-use Rattle.blif_text.specs.Circuits.{Table, is_among}
+use Rattle.net_ir.specs.NameLists.{is_among}
+use Rattle.blif_text.specs.Circuits.{Table}
 use Rattle.blif_text.specs.Statements.{Statement, Model, Outputs, End}
 use Rattle.blif_text.specs.Spelled.{text_of, line_text, spelled, table_statements, latch_statement, inputs_statements}
 use Rattle.blif_text.specs.Written.{output_word, paused_word, input_table, gate_table, output_table, copy_table, net_word, net_latch, written}

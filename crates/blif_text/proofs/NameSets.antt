@@ -4,7 +4,7 @@ use Rattle.std.specs.Cmp.Lexicographic.{nat_list_eq_equiv}
 use Rattle.std.proofs.lemmas.List.{take_more}
 use Rattle.std.proofs.lemmas.List.Folds.{list_any-append}
 use Rattle.est_base.specs.Names.{is_same_name}
-use Rattle.blif_text.specs.Circuits.{is_among}
+use Rattle.net_ir.specs.NameLists.{is_among}
 
 or_last : (a b : Bool) → (a || (b || false)) ≡ cond b true a
 or_last true true = refl

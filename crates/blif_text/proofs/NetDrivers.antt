@@ -16,7 +16,8 @@ use Rattle.net_ir.specs.declared.netlist.Latch.{Latch}
 use Rattle.est_base.specs.Distinct.{all_differ}
 use Rattle.est_base.specs.Names.{is_letter, is_digit, is_name, is_name_byte, is_same_name}
 use Rattle.net_ir.specs.Netlists.{Netlist}
-use Rattle.blif_text.specs.Circuits.{CircuitLatch, Table, is_among}
+use Rattle.net_ir.specs.NameLists.{is_among}
+use Rattle.blif_text.specs.Circuits.{CircuitLatch, Table}
 use Rattle.blif_text.specs.Runs.{driven_names}
 use Rattle.blif_text.specs.Written.{output_word, input_word, latch_word, gate_word, net_word, paused_word, net_latch, copy_table, input_table}
 use Rattle.blif_text.specs.Written.{gate_table, output_table, net_tables, net_circuit}

@@ -14,10 +14,10 @@ use Rattle.net_ir.specs.declared.netlist.Gate.{Gate}
 use Rattle.net_ir.specs.declared.netlist.NetOut.{NetOut}
 use Rattle.net_ir.specs.declared.netlist.Latch.{Latch}
 use Rattle.est_base.specs.Names.{is_name}
-use Rattle.net_ir.specs.Netlists.{Netlist, first_gate, net_count}
+use Rattle.net_ir.specs.Netlists.{Netlist, first_gate, net_count, wire_at}
 use Rattle.blif_text.specs.Lines.{is_word_byte}
-use Rattle.blif_text.specs.Circuits.{is_among}
-use Rattle.blif_text.specs.Written.{output_word, input_word, latch_word, gate_word, wire_at, net_word}
+use Rattle.net_ir.specs.NameLists.{is_among}
+use Rattle.blif_text.specs.Written.{output_word, input_word, latch_word, gate_word, net_word}
 use Rattle.blif_text.proofs.WordBytes.{is_word, is_word-name, decimal_bytes}
 use Rattle.net_ir.proofs.Numbered.{list_all-parts, list_all-from_All, list_all-get_or, length-numbered, get_or-numbered, All-numbered}
 use Rattle.net_ir.specs.Numbered.{numbered}

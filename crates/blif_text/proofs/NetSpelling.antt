@@ -15,7 +15,8 @@ use Rattle.est_base.specs.Distinct.{all_differ}
 use Rattle.est_base.specs.Names.{is_same_name}
 use Rattle.net_ir.specs.Gates.{operand_end}
 use Rattle.net_ir.specs.Netlists.{Netlist, net_count}
-use Rattle.blif_text.specs.Circuits.{CircuitLatch, Table, is_among, reading}
+use Rattle.net_ir.specs.NameLists.{is_among}
+use Rattle.blif_text.specs.Circuits.{CircuitLatch, Table, reading}
 use Rattle.blif_text.specs.Written.{output_word, net_word, paused_word, operands, op_rows, copy_table, input_table, gate_table, output_table, net_latch}
 use Rattle.blif_text.specs.Written.{output_words, net_tables, net_circuit, input_word, latch_word, gate_word, written}
 use Rattle.blif_text.proofs.WordBytes.{is_word, is_word-name, decimal_bytes}

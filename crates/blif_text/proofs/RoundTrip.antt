@@ -11,7 +11,8 @@ use Rattle.est_base.specs.Distinct.{all_differ, none_shared}
 use Rattle.est_base.specs.Names.{is_same_name}
 use Rattle.blif_text.specs.Statements.{Cell, Statement, Model, Inputs, Outputs, Names, Row, End, is_end, row_may_follow}
 use Rattle.blif_text.specs.Circuits.{Circuit, CircuitLatch, Table, leading_rows, tables_of, inputs_in, outputs_in, latches_in, circuit_of, driven_by, used_by}
-use Rattle.blif_text.specs.Circuits.{is_among, first_again, driven_again, not_driven, reading}
+use Rattle.net_ir.specs.NameLists.{is_among, first_again}
+use Rattle.blif_text.specs.Circuits.{driven_again, not_driven, reading}
 use Rattle.blif_text.specs.Spelled.{inputs_statements, latch_statement, table_statements, head_statements, circuit_statements, circuit_text}
 use Rattle.blif_text.specs.Runs.{driven_names}
 use Rattle.blif_text.proofs.WordBytes.{is_word}

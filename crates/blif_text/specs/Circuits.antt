@@ -1,9 +1,8 @@
 -- To believe: the circuit that a BLIF text of the profile describes, and why a text describes none. The profile is a
 -- part of the Berkeley Logic Interchange Format.
-use Rattle.std.specs.Prelude.{ℕ, Bool, not, if◌then◌else◌, List, [], ◌∷◌, flat_map, filter_map, find, Option, Some}
-use Rattle.std.specs.Prelude.{None, Result, Ok, Err}
-use Rattle.std.specs.List.{list_any}
-use Rattle.est_base.specs.Names.{is_same_name}
+use Rattle.std.specs.Prelude.{ℕ, Bool, not, List, [], ◌∷◌, flat_map, filter_map, find, Option, Some, None}
+use Rattle.std.specs.Prelude.{Result, Ok, Err}
+use Rattle.net_ir.specs.NameLists.{is_among, first_again}
 use Rattle.blif_text.specs.Statements.{Cell, Statement, Model, Inputs, Outputs, Latch, Names, Row, said, refused_line}
 
 -- a latch: `target` has the value `init` in the first instant, and in each later one the value that
@@ -82,14 +81,6 @@ used_by (Outputs names) = names
 used_by (Latch source target init) = source ∷ []
 used_by (Names inputs output) = inputs
 used_by others = []
-
-abbrev pub is_among : List ℕ → List (List ℕ) → Bool
-is_among name names = list_any (is_same_name name) names
-
--- the first name that stands a second time, where those before are given
-abbrev pub first_again : List (List ℕ) → List (List ℕ) → Option (List ℕ)
-first_again before [] = None
-first_again before (name ∷ names) = if is_among name before then Some name else first_again (name ∷ before) names
 
 abbrev pub driven_again : List Statement → Option (List ℕ)
 driven_again statements = first_again [] (flat_map driven_by statements)

@@ -7,7 +7,8 @@ use Rattle.blif_text.specs.declared.statements.Statement.{Statement}
 use Rattle.blif_text.specs.declared.statements.Statement.TheVariants as rust
 use Rattle.blif_text.specs.Statements as spec
 use Rattle.blif_text.specs.Statements.{refused_line}
-use Rattle.blif_text.specs.Circuits.{first_again, driven_again, not_driven}
+use Rattle.net_ir.specs.NameLists.{first_again}
+use Rattle.blif_text.specs.Circuits.{driven_again, not_driven}
 
 abbrev pub plain_statement : Statement → spec.Statement
 plain_statement (rust.Model name) = spec.Model name

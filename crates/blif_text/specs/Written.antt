@@ -3,7 +3,7 @@
 -- own name, and so has an output; where that is an input's name too, the output is written `NAME.out`. No name
 -- of a net has a `.` or begins with `_`.
 use Rattle.std.specs.Prelude.{◌≡◌, ℕ, ◌-◌, Bool, true, false, if◌then◌else◌, nat_lt, List, [], ◌∷◌, ◌++◌, length}
-use Rattle.std.specs.Prelude.{map, codes, decimal, slice_get, Option, Some, None, option_and_then, Ok}
+use Rattle.std.specs.Prelude.{map, codes, decimal, Option, Some, None, Ok}
 use Rattle.std.specs.List.{range_with_len}
 use Rattle.est_base.specs.declared.indices.WireId.{WireId}
 use Rattle.net_ir.specs.declared.netlist.Op.{Op}
@@ -12,11 +12,13 @@ use Rattle.net_ir.specs.declared.netlist.Gate.{Gate}
 use Rattle.net_ir.specs.declared.netlist.Latch.{Latch}
 use Rattle.net_ir.specs.declared.netlist.NetOut.{NetOut}
 use Rattle.est_base.specs.Items.{Item, EachEvent}
-use Rattle.net_ir.specs.Netlists.{Netlist, first_gate, net_count}
+use Rattle.net_ir.specs.NameLists.{is_among}
+use Rattle.net_ir.specs.Netlists.{Netlist, first_gate, net_count, wire_at}
 use Rattle.net_ir.specs.Numbered.{numbered}
 use Rattle.net_ir.specs.Runs.{net_run, net_values_run}
 use Rattle.blif_text.specs.Statements.{Cell, Zero, One, Any}
-use Rattle.blif_text.specs.Circuits.{Circuit, CircuitLatch, Table, is_among, reading}
+use Rattle.blif_text.specs.Circuits.{Circuit, CircuitLatch, Table, reading}
+pub use Rattle.blif_text.specs.OutputNames.{output_word, paused_word}
 use Rattle.blif_text.specs.Spelled.{circuit_text}
 use Rattle.blif_text.specs.Runs.{IsRun, driven_names}
 
@@ -32,10 +34,6 @@ abbrev pub gate_word : ℕ → Option WireId → List ℕ
 gate_word k None = codes "_g" ++ decimal k
 gate_word k (Some wire) = codes "_w" ++ decimal wire.0
 
--- the wire that a gate carries
-abbrev pub wire_at : List Gate → ℕ → Option WireId
-wire_at gates k = option_and_then (λ g. g.wire) (slice_get gates k)
-
 -- the name of a net, by its number
 abbrev pub net_word : Netlist → ℕ → List ℕ
 net_word net n =
@@ -43,16 +41,9 @@ net_word net n =
     else (if nat_lt n (first_gate net) then latch_word (n - length net.inputs)
     else gate_word (n - first_gate net) (wire_at net.gates (n - first_gate net)))
 
--- the name of an output in the text, where the names of the inputs are given
-abbrev pub output_word : List (List ℕ) → List ℕ → List ℕ
-output_word inputs name = if is_among name inputs then name ++ codes ".out" else name
-
 -- for each output, whether its name is also that of an input
 abbrev pub given_outputs : Netlist → List Bool
 given_outputs net = map (λ o. is_among o.name net.inputs) net.outputs
-
-abbrev pub paused_word : List ℕ
-paused_word = codes "_paused"
 
 -- ---- the circuit
 

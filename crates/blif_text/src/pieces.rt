@@ -5,7 +5,7 @@ ghost use Rattle.std.specs.Prelude.{IfOk, IfErr, OnOk, MatchOption, IsTrue};
 ghost use Rattle.std.specs.HashSet.{contains_by};
 ghost use Rattle.est_base.specs.Names.{is_same_name};
 ghost use Rattle.net_ir.specs.Runs.{netlist_of};
-ghost use Rattle.blif_text.specs.Circuits.{is_among};
+ghost use Rattle.net_ir.specs.NameLists.{is_among};
 ghost use Rattle.blif_text.specs.Written.{given_outputs, written, Means};
 ghost use Rattle.blif_text.specs.Places.{text_from, to_come, Moves};
 

@@ -6,7 +6,7 @@ ghost use Rattle.net_ir.specs.Gates.{operand_end};
 ghost use Rattle.net_ir.specs.Netlists.{net_count};
 ghost use Rattle.net_ir.specs.Runs.{netlist_of};
 ghost use Rattle.blif_text.specs.Statements.{Model, Row};
-ghost use Rattle.blif_text.specs.Circuits.{is_among};
+ghost use Rattle.net_ir.specs.NameLists.{is_among};
 ghost use Rattle.blif_text.specs.Spelled.{text_of, latch_statement, table_statements};
 ghost use Rattle.blif_text.specs.Written.{gate_word, net_word, operands, op_rows, copy_table, paused_word};
 ghost use Rattle.blif_text.specs.Written.{input_table, gate_table, output_table, net_latch, written, Means};

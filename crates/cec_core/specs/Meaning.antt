@@ -13,7 +13,7 @@ use Rattle.grc_graph.specs.SelectionTrees.{body_leaves}
 use Rattle.grc_graph.specs.Walk.{Initial}
 use Rattle.blif_text.specs.Circuits.{Circuit, reading}
 use Rattle.blif_text.specs.Runs.{IsRun, driven_names}
-use Rattle.blif_text.specs.Written.{output_word, paused_word}
+use Rattle.blif_text.specs.OutputNames.{output_word, paused_word}
 use Rattle.csub_text.specs.Machine.{Seen, memories, run}
 use Rattle.csub_text.specs.Names.{inputs_of, outputs_of}
 use Rattle.csub_text.specs.Texts.{Describes}

@@ -3,7 +3,8 @@ use Rattle.std.proofs.Common.{◌≡◌, ℕ, Bool, not, ◌||◌, ◌&&◌, Lis
 use Rattle.std.specs.Prelude.{find, filter}
 use Rattle.csub_text.specs.Grammar.{begins_input}
 use Rattle.csub_text.specs.Trees.{Expr, Assign, Program}
-use Rattle.csub_text.specs.Names.{Use, Assigned, Taken, Twice, Undeclared, Unset, declared, declared_twice, uses, undeclared, unset, is_among, is_wrong}
+use Rattle.net_ir.specs.NameLists.{is_among}
+use Rattle.csub_text.specs.Names.{Use, Assigned, Taken, Twice, Undeclared, Unset, declared, declared_twice, uses, undeclared, unset, is_wrong}
 use Rattle.csub_text.specs.Names.{names_in, unset_from, name_found, fault_by, name_fault}
 use Rattle.csub_read.specs.declared.refusal.CError.{CError}
 use Rattle.csub_read.specs.declared.refusal.CError.TheVariants as faults

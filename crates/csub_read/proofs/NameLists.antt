@@ -8,7 +8,8 @@ use Rattle.std.proofs.lemmas.List.{take_more}
 use Rattle.std.proofs.lemmas.List.Folds.{list_any-append}
 use Rattle.est_base.specs.Names.{is_same_name}
 use Rattle.csub_text.specs.Trees.{Expr, Assign}
-use Rattle.csub_text.specs.Names.{is_among, first_again, names_in, or_else, unset_from}
+use Rattle.net_ir.specs.NameLists.{is_among, first_again}
+use Rattle.csub_text.specs.Names.{names_in, or_else, unset_from}
 use Rattle.net_ir.proofs.NumberedNames.{same-eq}
 
 or_last : (a b : Bool) → (a || (b || false)) ≡ cond b true a

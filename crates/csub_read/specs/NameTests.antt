@@ -2,7 +2,8 @@
 use Rattle.std.specs.Prelude.{◌≡◌, ℕ, Bool, not, ◌||◌, ⊤, List, [], Option, Some, find}
 use Rattle.csub_text.specs.Grammar.{begins_input}
 use Rattle.csub_text.specs.Trees.{Program}
-use Rattle.csub_text.specs.Names.{names_in, Use, Assigned, Taken, used_name, first_again, Twice, Undeclared, Unset}
+use Rattle.net_ir.specs.NameLists.{first_again}
+use Rattle.csub_text.specs.Names.{names_in, Use, Assigned, Taken, used_name, Twice, Undeclared, Unset}
 use Rattle.csub_text.specs.Names.{name_fault}
 use Rattle.csub_text.specs.Views.{expr_of}
 use Rattle.csub_text.specs.declared.trees.Expr.{Expr as CodeExpr}

@@ -3,7 +3,8 @@
 ghost use Rattle.std.specs.Prelude.{◌≡◌, ◌++◌, ◌&&◌, ℕ, List, [], map, flat_map, find, not, None, IfOk, IfErr, OnOk};
 ghost use Rattle.std.specs.HashSet.{contains_by};
 ghost use Rattle.est_base.specs.Names.{is_same_name};
-ghost use Rattle.csub_text.specs.Names.{Taken, declared, names_in, uses, unset, is_among, first_again, used_name};
+ghost use Rattle.net_ir.specs.NameLists.{is_among, first_again};
+ghost use Rattle.csub_text.specs.Names.{Taken, declared, names_in, uses, unset, used_name};
 ghost use Rattle.csub_text.specs.Names.{name_fault};
 ghost use Rattle.csub_text.specs.Views.{expr_of, program_of};
 ghost use Rattle.csub_read.specs.NameTests.{names_at, use_of, wrong_use, NamesFault, AgainFault, UseFault, UnsetFault};

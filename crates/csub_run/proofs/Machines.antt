@@ -13,8 +13,9 @@ use lib.Pointwise.{bytes_decides}
 use Rattle.est_base.specs.Names.{is_same_name}
 use Rattle.csub_text.specs.Trees.{Expr, Exprs, NoExprs, MoreExprs, State, Assign, Program}
 use Rattle.csub_text.specs.Trees as trees
-use Rattle.csub_text.specs.Names.{is_among, names_in, declared, inputs_of, outputs_of, Use, Assigned, Taken, uses_in, uses, is_wrong, name_found, undeclared}
-use Rattle.csub_text.specs.Names.{declared_twice, unset, first_again, fault_by, NameFault, Twice, Undeclared, Unset}
+use Rattle.csub_text.specs.NameLists.{is_among, first_again}
+use Rattle.csub_text.specs.Names.{names_in, declared, inputs_of, outputs_of, Use, Assigned, Taken, uses_in, uses, is_wrong, name_found, undeclared}
+use Rattle.csub_text.specs.Names.{declared_twice, unset, fault_by, NameFault, Twice, Undeclared, Unset}
 use Rattle.csub_text.specs.Machine.{Memory, with_value, value_of, all_of, any_of, run_body, with_inputs, first_memory, call}
 use Rattle.std.proofs.Common.{All}
 use Rattle.std.proofs.lemmas.List.Elements.{All-from_recursion}

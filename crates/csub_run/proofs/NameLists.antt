@@ -11,7 +11,7 @@ use Rattle.std.proofs.lemmas.List.Folds.{list_any-append}
 use Rattle.std.proofs.lemmas.List.Sums.{prefix_len-le-length, passes_at_first}
 use lib.Pointwise.{bytes_decides}
 use Rattle.est_base.specs.Names.{is_same_name}
-use Rattle.csub_text.specs.Names.{is_among, first_again}
+use Rattle.csub_text.specs.NameLists.{is_among, first_again}
 use Rattle.csub_run.specs.Runners.{slot_in}
 
 or_last : (a b : Bool) → (a || (b || false)) ≡ cond b true a

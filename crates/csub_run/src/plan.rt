@@ -2,7 +2,7 @@
 
 ghost use Rattle.std.specs.Prelude.{◌≡◌, [], None, map, filter, length, IfOk};
 ghost use Rattle.csub_text.specs.Grammar.{begins_input, begins_output};
-ghost use Rattle.csub_text.specs.Names.{first_again};
+ghost use Rattle.csub_text.specs.NameLists.{first_again};
 ghost use Rattle.csub_text.specs.Views.{program_of};
 ghost use Rattle.csub_run.specs.Runners.{KeepsNames, slot_in};
 ghost use Rattle.csub_run.specs.Steps.{IsPlan, first_values};

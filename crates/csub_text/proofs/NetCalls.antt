@@ -17,7 +17,7 @@ use Rattle.net_ir.specs.Netlists.{Netlist, first_gate, net_count}
 use Rattle.net_ir.specs.Runs.{net_values}
 use Rattle.net_ir.proofs.Values.{op_value-same}
 use Rattle.csub_text.specs.Trees.{Name, Assign}
-use Rattle.csub_text.specs.Names.{is_among}
+use Rattle.net_ir.specs.NameLists.{is_among}
 use Rattle.csub_text.specs.Machine.{Memory, with_value, value_of, run_body, with_inputs}
 use Rattle.csub_text.specs.Written.{input_name, state_name, gate_name, next_name, answer_name, net_name, input_variable, output_variable}
 use Rattle.csub_text.specs.Written.{gate_names}

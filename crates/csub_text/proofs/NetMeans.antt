@@ -23,7 +23,8 @@ use Rattle.net_ir.proofs.Values.{length-gate_values}
 use Rattle.csub_text.specs.Trees.{Assign}
 use Rattle.csub_text.specs.Tokens.{Named}
 use Rattle.csub_text.specs.Grammar.{begins_input, begins_output, begins_global, global_name, SpellsText}
-use Rattle.csub_text.specs.Names.{inputs_of, outputs_of, is_among}
+use Rattle.net_ir.specs.NameLists.{is_among}
+use Rattle.csub_text.specs.Names.{inputs_of, outputs_of}
 use Rattle.csub_text.specs.Texts.{Describes}
 use Rattle.csub_text.specs.Machine.{Memory, with_inputs, first_memory, run_body, call, memories_from, seen}
 use Rattle.csub_text.specs.Written.{input_name, state_name, gate_name, next_name, answer_name, net_name, input_variable, output_variable, net_state}

@@ -19,12 +19,13 @@ use Rattle.net_ir.specs.declared.netlist.Gate.{Gate}
 use Rattle.net_ir.specs.declared.netlist.Latch.{Latch}
 use Rattle.net_ir.specs.declared.netlist.NetOut.{NetOut}
 use Rattle.net_ir.specs.Gates.{operand_end}
-use Rattle.net_ir.specs.Netlists.{Netlist, first_gate, net_count}
+use Rattle.net_ir.specs.Netlists.{Netlist, first_gate, net_count, wire_at}
 use Rattle.csub_text.specs.Trees.{Expr, Assign}
 use Rattle.csub_text.specs.Grammar.{begins_input}
-use Rattle.csub_text.specs.Names.{declared, names_in, is_among, first_again, declared_twice, Taken, uses_in, uses, is_wrong}
+use Rattle.net_ir.specs.NameLists.{is_among, first_again}
+use Rattle.csub_text.specs.Names.{declared, names_in, declared_twice, Taken, uses_in, uses, is_wrong}
 use Rattle.csub_text.specs.Names.{name_found, undeclared, unset_from}
-use Rattle.csub_text.specs.Written.{input_name, state_name, gate_name, next_name, answer_name, net_name, wire_at, input_variable, output_variable}
+use Rattle.csub_text.specs.Written.{input_name, state_name, gate_name, next_name, answer_name, net_name, input_variable, output_variable}
 use Rattle.csub_text.specs.Written.{net_state, net_globals, net_locals, gate_names, op_expr, input_assign, gate_assign, next_assign, output_assign}
 use Rattle.csub_text.specs.Written.{answer_assign, state_assign, net_body, net_program}
 use Rattle.csub_text.proofs.NetNames.{mark, input_names, state_names, next_names, given_variables}

@@ -10,7 +10,8 @@ use Rattle.net_ir.specs.Gates.{operand_end}
 use Rattle.net_ir.specs.Netlists.{Netlist, first_gate, net_count}
 use Rattle.std.proofs.lemmas.List.{length-map, get_or-map, append-nil}
 use Rattle.csub_text.specs.Trees.{Expr, Name, Assign}
-use Rattle.csub_text.specs.Names.{names_in, is_among, unset, name_fault}
+use Rattle.net_ir.specs.NameLists.{is_among}
+use Rattle.csub_text.specs.Names.{names_in, unset, name_fault}
 use Rattle.csub_text.specs.Written.{state_name, gate_name, next_name, answer_name, net_name, input_variable, net_locals}
 use Rattle.csub_text.specs.Written.{input_assign, gate_assign, next_assign, output_assign, answer_assign, state_assign, net_body, net_program}
 use Rattle.csub_text.proofs.NetNames.{mark, marks-locals}

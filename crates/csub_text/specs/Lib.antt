@@ -1,3 +1,5 @@
+-- what callers say names among others with
+pub use Rattle.net_ir.specs.NameLists
 pub mod Trees
 pub mod Views
 pub mod Tokens

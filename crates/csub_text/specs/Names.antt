@@ -1,9 +1,9 @@
 -- To believe: the rules on names. All declared names differ, each name that is used is declared, no input is assigned,
 -- and no local is read before it is assigned. The first rule that is broken counts, at its first place in the text.
 use Rattle.std.specs.Prelude.{ℕ, Bool, not, ◌||◌, List, [], ◌∷◌, ◌++◌, map, flat_map, find, filter}
-use Rattle.std.specs.Prelude.{Option, Some, None, if◌then◌else◌}
-use Rattle.std.specs.List.{list_any}
+use Rattle.std.specs.Prelude.{Option, Some, None}
 use Rattle.est_base.specs.Names.{is_same_name}
+use Rattle.net_ir.specs.NameLists.{is_among, first_again}
 use Rattle.csub_text.specs.Trees.{Expr, Name, Const, Not, And, Or, Exprs, NoExprs, MoreExprs, Assign, Program}
 use Rattle.csub_text.specs.Grammar.{begins_input, begins_output}
 
@@ -29,14 +29,6 @@ abbrev mutual
   pub all_names : Exprs → List (List ℕ)
   all_names NoExprs = []
   all_names (MoreExprs e others) = names_in e ++ all_names others
-
-abbrev pub is_among : List ℕ → List (List ℕ) → Bool
-is_among name names = list_any (is_same_name name) names
-
--- the first name that stands a second time, where those before are given
-abbrev pub first_again : List (List ℕ) → List (List ℕ) → Option (List ℕ)
-first_again before [] = None
-first_again before (name ∷ names) = if is_among name before then Some name else first_again (name ∷ before) names
 
 -- the first name that is declared a second time
 abbrev pub declared_twice : Program → Option (List ℕ)

@@ -2,7 +2,7 @@
 -- `iJ`, latch J the state `sJ`, and gate K the local `wN` where it carries wire N, else `gK`. The next value of latch J
 -- is computed into `tJ`, and whether the program is still active into `r`, which is returned.
 use Rattle.std.specs.Prelude.{◌≡◌, ℕ, ◌-◌, Bool, true, false, if◌then◌else◌, nat_lt, List, [], ◌∷◌, ◌++◌, length}
-use Rattle.std.specs.Prelude.{map, flat_map, codes, decimal, drop, slice_get, Option, Some, None, option_and_then}
+use Rattle.std.specs.Prelude.{map, flat_map, codes, decimal, drop, Option, Some, None}
 use Rattle.est_base.specs.declared.indices.WireId.{WireId}
 use Rattle.est_base.specs.Items.{Item, EachEvent}
 use Rattle.net_ir.specs.declared.netlist.Op.{Op}
@@ -10,7 +10,7 @@ use Rattle.net_ir.specs.declared.netlist.Op.TheVariants as ops
 use Rattle.net_ir.specs.declared.netlist.Gate.{Gate}
 use Rattle.net_ir.specs.declared.netlist.Latch.{Latch}
 use Rattle.net_ir.specs.declared.netlist.NetOut.{NetOut}
-use Rattle.net_ir.specs.Netlists.{Netlist, first_gate}
+use Rattle.net_ir.specs.Netlists.{Netlist, first_gate, wire_at}
 use Rattle.net_ir.specs.Numbered.{numbered}
 use Rattle.net_ir.specs.Runs.{Shown, net_run, net_values_run}
 use Rattle.csub_text.specs.Trees.{Expr, Name, Const, Not, And, Or, Exprs, NoExprs, MoreExprs, State, Assign, Program}
@@ -35,10 +35,6 @@ next_name j = codes "t" ++ decimal j
 
 abbrev pub answer_name : List ℕ
 answer_name = codes "r"
-
--- the wire that a gate carries
-abbrev pub wire_at : List Gate → ℕ → Option WireId
-wire_at gates k = option_and_then (λ g. g.wire) (slice_get gates k)
 
 -- the name of a net, by its number
 abbrev pub net_name : Netlist → ℕ → List ℕ

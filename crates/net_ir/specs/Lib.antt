@@ -1,4 +1,5 @@
 pub mod Gates
+pub mod NameLists
 pub mod Netlists
 pub mod Numbered
 pub mod Runs

@@ -1,5 +1,7 @@
 -- To believe: netlists as plain values, and what holds of every one.
-use Rattle.std.specs.Prelude.{ℕ, ◌+◌, ◌^◌, ◌<◌, ◌≤◌, List, length, map, nat_eq, IsTrue, All}
+use Rattle.std.specs.Prelude.{ℕ, ◌+◌, ◌^◌, ◌<◌, ◌≤◌, List, length, map, slice_get, Option, option_and_then, nat_eq}
+use Rattle.std.specs.Prelude.{IsTrue, All}
+use Rattle.est_base.specs.declared.indices.WireId.{WireId}
 use Rattle.net_ir.specs.declared.netlist.Gate.{Gate}
 use Rattle.net_ir.specs.declared.netlist.Latch.{Latch}
 use Rattle.net_ir.specs.declared.netlist.NetOut.{NetOut}
@@ -22,6 +24,10 @@ first_gate net = length net.inputs + length net.latches
 
 abbrev pub net_count : Netlist → ℕ
 net_count net = first_gate net + length net.gates
+
+-- the wire that a gate carries, by the place of the gate
+abbrev pub wire_at : List Gate → ℕ → Option WireId
+wire_at gates k = option_and_then (λ g. g.wire) (slice_get gates k)
 
 abbrev pub output_names : Netlist → List (List ℕ)
 output_names net = map (λ o. o.name) net.outputs

@@ -7,7 +7,7 @@ use Rattle.std.proofs.lemmas.Bool.{false≢true, false_from_ne_true}
 use Rattle.std.proofs.lemmas.List.{take-append-drop}
 use Rattle.est_base.specs.Distinct.{all_differ}
 use Rattle.est_base.specs.Names.{is_same_name}
-use Rattle.csub_text.specs.Names.{is_among, first_again}
+use Rattle.net_ir.specs.NameLists.{is_among, first_again}
 use Rattle.csub_text.specs.Trees.{Program}
 use Rattle.net_ir.proofs.NumberedNames.{same-eq, same-refl}
 use Rattle.csub_run.specs.Runners.{KeepsNames}

@@ -3,7 +3,8 @@ use Rattle.std.specs.Prelude.{find, flat_map}
 use Rattle.std.specs.HashSet.{contains_by}
 use Rattle.std.proofs.lemmas.Result.{IfErr-weaker}
 use Rattle.est_base.specs.Names.{is_same_name}
-use Rattle.blif_text.specs.Circuits.{is_among, driven_by, first_again, driven_again, not_driven}
+use Rattle.net_ir.specs.NameLists.{is_among, first_again}
+use Rattle.blif_text.specs.Circuits.{driven_by, driven_again, not_driven}
 use Rattle.blif_text.specs.PlainStatements.{plain_statement, FoundFault, DriverFault}
 use Rattle.blif_text.proofs.DriverSets.{DriverFault-found, find-same}
 use Rattle.blif_text.proofs.drivers.check_drivers.Goals as goal

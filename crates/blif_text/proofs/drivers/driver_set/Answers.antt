@@ -2,7 +2,7 @@ use Rattle.std.proofs.Common.{◌≡◌, ℕ, ◌<◌, List, [], true, false, co
 use Rattle.std.proofs.lemmas.Bool.{not-true, not-false}
 use Rattle.std.proofs.lemmas.List.{length-map, get_or-map}
 use Rattle.est_base.specs.Names.{is_same_name}
-use Rattle.blif_text.specs.Circuits.{is_among}
+use Rattle.net_ir.specs.NameLists.{is_among}
 use Rattle.blif_text.proofs.NameSets.{is_among-more}
 use Rattle.blif_text.proofs.DriverSets.{first_again-step, first_again-found}
 use Rattle.blif_text.proofs.drivers.driver_set.Goals as goal

@@ -1,7 +1,7 @@
 use Rattle.std.proofs.Common.{◌≡◌, ℕ, List, [], map, take, drop}
 use Rattle.std.specs.HashSet.{contains_by}
 use Rattle.est_base.specs.Names.{is_same_name}
-use Rattle.blif_text.specs.Circuits.{is_among, first_again}
+use Rattle.net_ir.specs.NameLists.{is_among, first_again}
 use Rattle.blif_text.proofs.drivers.driver_set.Given as goal
 
 -- no name stands twice so far, and the set has those so far

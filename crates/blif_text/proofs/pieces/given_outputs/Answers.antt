@@ -1,7 +1,7 @@
 use Rattle.std.proofs.Common.{◌≡◌, ◌∷◌, ◌++◌, [], map, take, get_or, sym, ap, ◌∙◌, arith}
 use Rattle.std.proofs.lemmas.List.{map_more}
 use Rattle.net_ir.specs.declared.netlist.NetOut.{NetOut}
-use Rattle.blif_text.specs.Circuits.{is_among}
+use Rattle.net_ir.specs.NameLists.{is_among}
 use Rattle.blif_text.proofs.pieces.given_outputs.Goals as goal
 
 -- the answer of the set for the next output

@@ -1,5 +1,5 @@
 use Rattle.std.proofs.Common.{◌≡◌, map, take}
-use Rattle.blif_text.specs.Circuits.{is_among}
+use Rattle.net_ir.specs.NameLists.{is_among}
 use Rattle.blif_text.proofs.pieces.given_outputs.Given as goal
 
 abbrev pub invariant-loop-output : goal.invariant-loop-output

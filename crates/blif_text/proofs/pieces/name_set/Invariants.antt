@@ -1,7 +1,7 @@
 use Rattle.std.proofs.Common.{◌≡◌, ℕ, List, take}
 use Rattle.std.specs.HashSet.{contains_by}
 use Rattle.est_base.specs.Names.{is_same_name}
-use Rattle.blif_text.specs.Circuits.{is_among}
+use Rattle.net_ir.specs.NameLists.{is_among}
 use Rattle.blif_text.proofs.pieces.name_set.Given as goal
 
 -- the names so far

@@ -3,7 +3,8 @@ use Rattle.std.specs.Prelude.{find}
 use Rattle.std.specs.HashSet.{contains_by}
 use Rattle.std.proofs.lemmas.Result.{err_from_is_err_and, on_ok_weaker, IfErr-weaker}
 use Rattle.est_base.specs.Names.{is_same_name}
-use Rattle.csub_text.specs.Names.{is_among, first_again, declared, declared_twice, is_wrong, name_found, uses, undeclared, unset}
+use Rattle.net_ir.specs.NameLists.{is_among, first_again}
+use Rattle.csub_text.specs.Names.{declared, declared_twice, is_wrong, name_found, uses, undeclared, unset}
 use Rattle.csub_text.specs.Views.{program_of}
 use Rattle.csub_read.specs.NameTests.{use_of, wrong_use, NamesFault, UnsetFault}
 use Rattle.csub_read.proofs.NameLists.{find-same}

@@ -1,7 +1,7 @@
 use Rattle.std.proofs.Common.{◌≡◌, ◌<◌, [], true, cond, length, take, get_or, sym, ap, ◌∙◌, arith}
 use Rattle.std.proofs.lemmas.List.{get_or_default}
 use Rattle.est_base.specs.Names.{is_same_name}
-use Rattle.csub_text.specs.Names.{is_among}
+use Rattle.net_ir.specs.NameLists.{is_among}
 use Rattle.csub_read.proofs.NameLists.{is_among-more}
 use Rattle.csub_read.proofs.names.local_set.Goals as goal
 

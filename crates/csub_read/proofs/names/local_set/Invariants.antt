@@ -1,7 +1,7 @@
 use Rattle.std.proofs.Common.{◌≡◌, ℕ, List, take}
 use Rattle.std.specs.HashSet.{contains_by}
 use Rattle.est_base.specs.Names.{is_same_name}
-use Rattle.csub_text.specs.Names.{is_among}
+use Rattle.net_ir.specs.NameLists.{is_among}
 use Rattle.csub_read.proofs.names.local_set.Given as goal
 
 -- the set has the names so far

@@ -2,7 +2,7 @@ use Rattle.std.proofs.Common.{◌≡◌, ℕ, ◌<◌, List, [], true, false, co
 use Rattle.std.proofs.lemmas.Bool.{not-true, not-false}
 use Rattle.std.proofs.lemmas.List.{length-map, get_or-map}
 use Rattle.est_base.specs.Names.{is_same_name}
-use Rattle.csub_text.specs.Names.{is_among}
+use Rattle.net_ir.specs.NameLists.{is_among}
 use Rattle.csub_read.proofs.NameLists.{is_among-more}
 use Rattle.csub_read.proofs.NameLists.{first_again-step, first_again-found}
 use Rattle.csub_read.proofs.names.name_set.Goals as goal
