@@ -1,8 +1,9 @@
 -- Tests of the classes of bytes, and the longest run of bytes of a class.
-use Rattle.std.proofs.Common.{◌≡◌, ℕ, Bool, true, false, ◌&&◌, ◌||◌, eqb, leb, List, get_or, arith}
+use Rattle.std.proofs.Common.{◌≡◌, ℕ, Bool, true, false, ◌||◌, eqb, List, get_or, arith}
 use Rattle.std.specs.List.{prefix_len}
 use Rattle.std.proofs.lemmas.Bool.Decides.{nat_tests}
 use Rattle.std.proofs.lemmas.List.Sums.{prefix_len-le-length, prefix_len_passes, prefix_len_stops}
+use Rattle.est_base.specs.Names.{is_letter, is_digit, is_name_byte}
 use Rattle.est_ast.specs.Runs.{IsRun}
 use Rattle.est_ast.specs.Lexemes.{IsSpace, IsLetter, IsDigit, IsNameByte}
 
@@ -14,25 +15,16 @@ pub record Tells (test : ℕ → Bool) (P : ℕ → Type 0) : Type 0 where
 abbrev pub space_test : ℕ → Bool
 space_test byte = eqb byte 32 || (eqb byte 9 || (eqb byte 10 || (eqb byte 12 || eqb byte 13)))
 
-abbrev pub letter_test : ℕ → Bool
-letter_test byte = (leb 65 byte && leb byte 90) || (leb 97 byte && leb byte 122)
-
-abbrev pub digit_test : ℕ → Bool
-digit_test byte = leb 48 byte && leb byte 57
-
-abbrev pub name_test : ℕ → Bool
-name_test byte = letter_test byte || (digit_test byte || eqb byte 95)
-
 pub space_told : Tells space_test IsSpace
 space_told = record { yes = λ byte h. grind (arith, nat_tests); no = λ byte h. grind (arith, nat_tests) }
 
-pub letter_told : Tells letter_test IsLetter
+pub letter_told : Tells is_letter IsLetter
 letter_told = record { yes = λ byte h. grind (arith, nat_tests); no = λ byte h. grind (arith, nat_tests) }
 
-pub digit_told : Tells digit_test IsDigit
+pub digit_told : Tells is_digit IsDigit
 digit_told = record { yes = λ byte h. grind (arith, nat_tests); no = λ byte h. grind (arith, nat_tests) }
 
-pub name_told : Tells name_test IsNameByte
+pub name_told : Tells is_name_byte IsNameByte
 name_told = record { yes = λ byte h. grind (arith, nat_tests); no = λ byte h. grind (arith, nat_tests) }
 
 pub run_of : (test : ℕ → Bool) (P : ℕ → Type 0) → Tells test P → (text : List ℕ) → IsRun P text (prefix_len test text)

@@ -8,13 +8,14 @@ use Rattle.std.proofs.lemmas.Bool.{cases_lt}
 use Rattle.std.proofs.lemmas.Bool.Decides.{nat_tests}
 use Rattle.std.proofs.lemmas.Slice.Eq.{bytes_eq-Decides}
 use Rattle.std.proofs.lemmas.List.Sums.{prefix_len-le-length, prefix_len_passes, prefix_len_stops}
+use Rattle.est_base.specs.Names.{is_letter, is_digit, is_name_byte}
 use Rattle.est_ast.specs.declared.tokens.Kind.{Kind}
 use Rattle.est_ast.specs.declared.tokens.Reserved.{Reserved as ReservedWord}
 use Rattle.est_ast.specs.Spelling.{spelling, sign}
 use Rattle.est_ast.specs.Lexemes.{IsLetter, IsDigit, IsNameByte, HasByte, OpensComment, ClosesComment, BeginsWithMark}
 use Rattle.est_ast.specs.Lexing.{number_of, IsFront, Piece, Cuts, width_of, tokens_from, BeginsWithBadByte, BeginsWithOpenComment, BeginsWithBigNumber, Lexing}
 use Rattle.est_ast.specs.Lexing.{Tokens, BadByte, OpenComment, BigNumber, LexesAs}
-use Rattle.est_ast.proofs.Classes.{space_test, letter_test, digit_test, name_test, space_told, letter_told, digit_told, name_told, run_of}
+use Rattle.est_ast.proofs.Classes.{space_test, space_told, letter_told, digit_told, name_told, run_of}
 use Rattle.est_ast.proofs.Heads.{mark_head, within}
 use Rattle.est_ast.proofs.OneToken.{read_word, read-spelling, mark_of, mark_of-head}
 use Rattle.est_ast.proofs.Fronts.{space_front, line_front, block_front, reserved_front, ident_front, number_front, big_front, mark_front, IsOther, bad_front}
@@ -47,16 +48,16 @@ is_reserved bytes =
 
 word_stands : (text : List ℕ) → 0 < length text → IsLetter (get_or text 0 0) → Stands text
 word_stands text some letter =
-    let n = prefix_len name_test text in
-    let run = run_of name_test IsNameByte name_told text in
+    let n = prefix_len is_name_byte text in
+    let run = run_of is_name_byte IsNameByte name_told text in
     ⊎_elim (λ (found : (word : ReservedWord) × (take n text ≡ spelling word)). piece n _ (reserved_front text n found.0 some letter run found.1))
     (λ (other : (word : ReservedWord) → take n text ≢ spelling word). piece n _ (ident_front text n some letter run other))
     (is_reserved (take n text))
 
 numeral_stands : (text : List ℕ) → 0 < length text → IsDigit (get_or text 0 0) → Stands text
 numeral_stands text some digit =
-    let n = prefix_len digit_test text in
-    let run = run_of digit_test IsDigit digit_told text in
+    let n = prefix_len is_digit text in
+    let run = run_of is_digit IsDigit digit_told text in
     ⊎_elim (λ (fits : number_of (take n text) < 2 ^ 128). piece n _ (number_front text n some digit run fits))
     (λ (big : 2 ^ 128 ≤ number_of (take n text)). big_number (big_front text n some digit run big))
     (cases_lt (number_of (take n text)) (2 ^ 128))
@@ -146,17 +147,17 @@ text_stands text some =
     (λ (no_space : space_test byte ≡ false).
     ⊎_elim (λ (percent : eqb byte 37 ≡ true). comment_stands text (some, grind (arith, nat_tests)))
     (λ (no_percent : eqb byte 37 ≡ false).
-    ⊎_elim (λ (letter : letter_test byte ≡ true). word_stands text some (letter_told.yes byte letter))
-    (λ (no_letter : letter_test byte ≡ false).
-    ⊎_elim (λ (digit : digit_test byte ≡ true). numeral_stands text some (digit_told.yes byte digit))
-    (λ (no_digit : digit_test byte ≡ false). mark_stands text some (record {
+    ⊎_elim (λ (letter : is_letter byte ≡ true). word_stands text some (letter_told.yes byte letter))
+    (λ (no_letter : is_letter byte ≡ false).
+    ⊎_elim (λ (digit : is_digit byte ≡ true). numeral_stands text some (digit_told.yes byte digit))
+    (λ (no_digit : is_digit byte ≡ false). mark_stands text some (record {
       no_space = space_told.no byte no_space;
       no_percent = λ is. grind (arith, nat_tests);
       no_letter = letter_told.no byte no_letter;
       no_digit = digit_told.no byte no_digit;
     }))
-    (either_way (digit_test byte)))
-    (either_way (letter_test byte)))
+    (either_way (is_digit byte)))
+    (either_way (is_letter byte)))
     (either_way (eqb byte 37)))
     (either_way (space_test byte))
 

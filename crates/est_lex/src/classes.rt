@@ -1,4 +1,4 @@
-// Classes of bytes.
+// Classes of bytes, in the words of the token relation.
 
 ghost use Rattle.std.specs.Prelude.{◌↔◌, IsTrue};
 ghost use Rattle.est_ast.specs.Lexemes.{IsSpace, IsLetter, IsDigit, IsNameByte};
@@ -14,19 +14,19 @@ pub fn is_space(byte: u8) -> bool
 pub fn is_letter(byte: u8) -> bool
     ensures { IsTrue result ↔ IsLetter byte }
 {
-    matches!(byte, b'A'..=b'Z' | b'a'..=b'z')
+    est_base::is_letter(byte)
 }
 
 /// A decimal digit.
 pub fn is_digit(byte: u8) -> bool
     ensures { IsTrue result ↔ IsDigit byte }
 {
-    matches!(byte, b'0'..=b'9')
+    est_base::is_digit(byte)
 }
 
 /// A letter, a digit or `_`.
 pub fn is_name_byte(byte: u8) -> bool
     ensures { IsTrue result ↔ IsNameByte byte }
 {
-    is_letter(byte) || is_digit(byte) || byte == b'_'
+    est_base::is_name_byte(byte)
 }
