@@ -79,7 +79,13 @@ pub(crate) fn write_load<O: Sink, E: Sink>(
 }
 
 // Runs a source over drawn events, writes the numbers of the run, and says how it ended.
-fn write_summary<O: Sink>(alloc: Global, source: &[u8], draw: Draw, instants: u32, out: &mut O) -> Outcome
+fn write_summary<O: Sink>(
+    alloc: Global,
+    source: &[u8],
+    draw: Draw,
+    instants: u32,
+    out: &mut O,
+) -> Outcome
     requires { length source.now ≤ Limits.SOURCE_BYTES }
     ensures agrees { MakesOn None result source.now }
     ensures out { LeavesText (IsSummary source.now draw instants)
