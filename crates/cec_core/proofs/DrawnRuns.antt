@@ -5,7 +5,8 @@ use Rattle.std.proofs.Common.{refl, sym, ap, ap₂, ◌∙◌, subst, arith}
 use Rattle.std.specs.Prelude.{◌==◌, count_by}
 use Rattle.est_base.specs.Items.{Item, Event, EachEvent}
 use Rattle.est_base.specs.Relations.{MeetsAll}
-use Rattle.est_gen.specs.Draws.{next_state, state_after, event_from}
+use Rattle.est_base.specs.Draws.{next_state, state_after}
+use Rattle.est_gen.specs.Events.{event_from}
 use Rattle.est_kernel.specs.Plain.{Program, given_count}
 use Rattle.est_kernel.specs.Reactions as semantics
 use Rattle.net_ir.specs.Netlists.{Netlist}

@@ -1,7 +1,7 @@
 -- Inner: what is counted of a machine's answers.
 use Rattle.std.specs.Prelude.{◌≡◌, ℕ, zero, suc, ◌+◌, ◌≤◌, Bool, List, [], ◌∷◌, map, count_by, codes, decimal}
 use Rattle.std.specs.List.{concat}
-use Rattle.est_gen.specs.Draws.{state_after}
+use Rattle.est_base.specs.Draws.{state_after}
 use Rattle.est_base.specs.Items.{Item}
 use Rattle.net_ir.specs.Netlists.{Netlist}
 use Rattle.net_ir.specs.Runs.{net_run}

@@ -3,7 +3,8 @@ use Rattle.std.specs.Prelude.{◌≡◌, ℕ, zero, suc, ◌+◌, ◌*◌, ◌==
 use Rattle.std.specs.Prelude.{decimal, count_by}
 use Rattle.std.specs.List.{concat}
 use Rattle.est_base.specs.Items.{Item, Event}
-use Rattle.est_gen.specs.Draws.{event_from, first_state, state_after}
+use Rattle.est_base.specs.Draws.{first_state, state_after}
+use Rattle.est_gen.specs.Events.{event_from}
 use Rattle.est_kernel.specs.Plain.{Program}
 use Rattle.est_kernel.specs.Reactions.{Answer, run_of}
 use Rattle.cec_front.specs.Sources.{StandsFor}

@@ -15,7 +15,7 @@ use blif_text::write_blif;
 use cec_front::{Analysed, analyse};
 use cec_words::Pick;
 use csub_text::write_c;
-use est_base::Limits;
+use est_base::{Draw, Limits};
 use grc_build::build;
 use grc_copies::copies;
 use grc_dep::{Ranked, cycle_or_rank, edges};
@@ -135,7 +135,7 @@ pub(crate) fn compile_picked(
     match pick {
         Pick::First => compile(alloc, source, main, &mut First),
         Pick::Last => compile(alloc, source, main, &mut Last),
-        Pick::Drawn(start) => compile(alloc, source, main, &mut Drawn(start)),
+        Pick::Drawn(start) => compile(alloc, source, main, &mut Drawn(Draw::new(start))),
     }
 }
 

@@ -1,10 +1,11 @@
--- Witnesses of the definitions that no call of this crate computes: relations, names and items.
+-- Witnesses of the definitions that no call of this crate computes, relations, names and items, and of the draws.
 use Rattle.std.specs.Prelude.{◌≡◌, zero, suc, true, false, [], ◌∷◌}
 use Rattle.std.proofs.Common.{refl, arith}
 use Rattle.std.proofs.lemmas.Bool.{false≢true}
 use Rattle.std.proofs.lemmas.List.Elements.{All-cons, All-nil}
 use Rattle.est_base.specs.declared.interface.InputRelation.TheVariants as relations_of_inputs
 use Rattle.est_base.specs.Distinct.{all_differ}
+use Rattle.est_base.specs.Draws.{first_state, high_bits, state_after}
 use Rattle.est_base.specs.Items.{Event, Reset, EachEvent}
 use Rattle.est_base.specs.Names.{is_name, is_same_name}
 use Rattle.est_base.specs.Relations.{relation_of, Implies, Excludes, Meets, MeetsAll}
@@ -51,3 +52,11 @@ each_event_told = (refl, tt)
 
 each_event_broken : EachEvent (λ given. given ≡ true ∷ []) (Event (true ∷ []) ∷ Event [] ∷ []) → ⊥
 each_event_broken h = cc
+
+-- the first draws from 0, as an implementation of the same rules in another language gives them
+first_draws : high_bits (state_after 1 (first_state 0)) ∷ high_bits (state_after 2 (first_state 0)) ∷ high_bits (state_after 3 (first_state 0)) ∷ [] ≡
+    0 ∷ 21468 ∷ 9988 ∷ []
+first_draws = refl
+
+the_lowest_31_bits_of_a_start_count : first_state 1099511627781 ≡ 5
+the_lowest_31_bits_of_a_start_count = refl

@@ -9,3 +9,4 @@ pub mod Names
 pub mod Relations
 pub mod Items
 pub mod Distinct
+pub mod Draws

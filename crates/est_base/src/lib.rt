@@ -2,14 +2,15 @@
 //!
 //! Places in a source (`Span`), typed indices, names as bytes (`Text`), sets of completion codes
 //! (`CodeSet`), what a program says of its signals (`SignalInfo`, `InputRelation`), the stated limits
-//! (`Limits`), want of memory (`NoMemory`), and what is read and written: `Files` and `Sink`, over the
-//! disk and standard output, and in memory. Completion codes are
+//! (`Limits`), want of memory (`NoMemory`), draws from a start number (`Draw`), and what is read and
+//! written: `Files` and `Sink`, over the disk and standard output, and in memory. Completion codes are
 //! those of Berry, "The Constructive Semantics of Pure Esterel": 0 is termination, 1 a pause, and k
 //! of at least 2 leaves the trap that is k - 2 traps further out.
 #![tactic(auto)]
 
 mod bounds;
 mod code_set;
+mod draws;
 mod files;
 mod indices;
 mod interface;
@@ -21,6 +22,7 @@ mod texts;
 
 pub use bounds::{Limits, limits_are_as_stated};
 pub use code_set::CodeSet;
+pub use draws::Draw;
 pub use files::{DiskFiles, FileEntry, FileFault, Files, MapFiles, SteadyFiles};
 pub use indices::{InstId, ModId, NetId, PathId, SigId, WireId};
 pub use interface::{InputRelation, SignalInfo};

@@ -1,16 +1,9 @@
--- Worked draws and sources, as an implementation of the same rules in another language gives them.
+-- Worked events and sources, as an implementation of the same rules in another language gives them.
 use Rattle.std.proofs.Common.{◌≡◌, true, false, [], ◌∷◌, codes, refl}
-use Rattle.std.specs.Prelude.{◌/◌}
 use Rattle.std.specs.Fmt.{digits}
-use Rattle.est_gen.specs.Draws.{first_state, state_after, event_from}
+use Rattle.est_base.specs.Draws.{first_state, state_after}
+use Rattle.est_gen.specs.Events.{event_from}
 use Rattle.est_gen.specs.Sources.{source_text}
-
-first_draws : (state_after 1 (first_state 0) / 65536) ∷ (state_after 2 (first_state 0) / 65536) ∷ (state_after 3 (first_state 0) / 65536) ∷ [] ≡
-    0 ∷ 21468 ∷ 9988 ∷ []
-first_draws = refl
-
-the_lowest_31_bits_of_a_start_count : first_state 1099511627781 ≡ 5
-the_lowest_31_bits_of_a_start_count = refl
 
 an_event : event_from 8 (first_state 11) ≡ false ∷ true ∷ false ∷ true ∷ true ∷ false ∷ false ∷ false ∷ []
 an_event = refl

@@ -1,13 +1,13 @@
 //! Sources and events that are drawn from a start number.
 //!
-//! A linear congruential generator makes the draws (`Draw`). `generate_source` draws a Pure Esterel
-//! module of parallel branches, each of which is one of four statements on one of eight inputs and
-//! outputs, and `next_event` draws an instant of its inputs. The same start number gives the same
-//! source and the same events everywhere, so a load is named by a few numbers.
+//! The draws are those of `est_base`. `generate_source` draws a Pure Esterel module of parallel branches, each of
+//! which is one of four statements on one of eight inputs and outputs, and `next_event` draws an instant of its
+//! inputs. The same start number gives the same source and the same events everywhere, so a load is named by a few
+//! numbers.
 #![tactic(auto)]
 
-mod draws;
+mod events;
 mod sources;
 
-pub use draws::{Draw, next_event};
+pub use events::next_event;
 pub use sources::{GenFault, Generated, MOST_BRANCHES, generate_source};

@@ -2,12 +2,11 @@
 
 ghost use Rattle.std.specs.Prelude.{◌≡◌, ◌+◌, ◌*◌, ◌<◌, ◌⊎◌, ◌↔◌, ◌==◌, if◌then◌else◌, [], ◌++◌, decimal, Err, IfOk};
 ghost use Rattle.std.specs.Prelude.{OnOk};
-ghost use Rattle.est_gen.specs.Draws.{first_state, state_after};
+ghost use Rattle.est_base.specs.Draws.{first_state, state_after};
 ghost use Rattle.est_gen.specs.Sources.{source_text, names_from, head_text, branch_text, branches_text, statement};
 ghost use Rattle.est_gen.specs.Sources.{waited_name};
 
-use crate::draws::Draw;
-use est_base::NoMemory;
+use est_base::{Draw, NoMemory};
 use itoa::Buffer;
 use std::alloc::Global;
 

@@ -1,4 +1,3 @@
-pub mod Draws
 pub mod Runs
 pub mod Schedules
 pub mod Checks

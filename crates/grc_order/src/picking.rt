@@ -1,9 +1,9 @@
 // Pickers: which of the ready wires is placed next.
 
 ghost use Rattle.std.specs.Prelude.{◌≡◌, ◌-◌, ◌<◌, length};
-ghost use Rattle.grc_order.specs.Draws.{next_state, draw_below};
+ghost use Rattle.est_base.specs.Draws.{next_state, drawn};
 
-use est_base::WireId;
+use est_base::{Draw, WireId};
 
 /// Chooses among the wires that can be placed next. What it answers is free: a number that is no place of the
 /// list counts as its remainder by the list's length.
@@ -38,22 +38,16 @@ impl Picker for Last {
     }
 }
 
-/// Draws the place below the number of ready wires. The number is the state of the draws, which are those of a
-/// linear congruential generator with the modulus 2^31.
-#[derive(Clone, Copy, Debug)]
-pub struct Drawn(pub u64);
+/// Draws the place below the number of ready wires.
+#[derive(Debug, Drop)]
+pub struct Drawn(pub Draw);
 
 impl Picker for Drawn {
     fn pick(&mut self, ready: &[WireId]) -> usize
         requires { 0 < length ready.now }
-        ensures drawn { result ≡ draw_below self.old.0 (length ready.now) }
+        ensures drawn { result ≡ drawn self.new.0 (length ready.now) }
         ensures state { self.new.0 ≡ next_state self.old.0 }
     {
-        self.0 = (self.0 % MODULUS * FACTOR + 12345) % MODULUS;
-        (self.0 / 65536) as usize % ready.len()
+        self.0.next_bits() as usize % ready.len()
     }
 }
-
-const MODULUS: u64 = 1 << 31;
-
-const FACTOR: u64 = 1_103_515_245;

@@ -3,7 +3,7 @@
 ghost use Rattle.std.specs.Prelude.{◌≡◌, []};
 
 use crate::{Drawn, First, Last, Picker, is_order, order};
-use est_base::WireId;
+use est_base::{Draw, WireId};
 use grc_graph::{Edges, Ranks};
 use std::alloc::Global;
 use std::test::Fail;
@@ -46,7 +46,7 @@ fn choices_are_placed(rt: HostRuntime) -> Result<(), Fail> {
     assert_eq!(rt; recorded.list.as_slice(), recording.chosen.as_slice());
     let first = order(rt.alloc(), &edges, &ranks, &mut First)?;
     let last = order(rt.alloc(), &edges, &ranks, &mut Last)?;
-    let drawn = order(rt.alloc(), &edges, &ranks, &mut Drawn(12345))?;
+    let drawn = order(rt.alloc(), &edges, &ranks, &mut Drawn(Draw::new(12345)))?;
     assert_ne!(rt; first.list.as_slice(), last.list.as_slice());
     assert!(rt; is_order(&edges, &drawn.list, &mut [true, false, true]));
     assert!(rt;

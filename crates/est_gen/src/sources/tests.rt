@@ -1,7 +1,7 @@
 // The happy path: the source of the fewest and of the most branches.
 
 use super::*;
-use crate::draws::next_event;
+use crate::events::next_event;
 use std::test::Fail;
 
 #[test]

@@ -1,6 +1,7 @@
 use Rattle.std.proofs.Common.{◌≡◌, ◌-◌, ◌++◌, take, length}
-use Rattle.est_gen.specs.Draws.{state_after, event_from}
-use Rattle.est_gen.proofs.draws.fill_event.Given as goal
+use Rattle.est_base.specs.Draws.{state_after}
+use Rattle.est_gen.specs.Events.{event_from}
+use Rattle.est_gen.proofs.events.fill_event.Given as goal
 
 -- what is drawn, and what is still to draw, are the whole
 abbrev pub invariant-loop-present : goal.invariant-loop-present

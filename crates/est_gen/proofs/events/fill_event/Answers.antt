@@ -1,7 +1,8 @@
 use Rattle.std.proofs.Common.{◌+◌, ◌-◌, ◌<◌, ◌==◌, ◌∷◌, ◌++◌, ◌∙◌, length, take, set, ap, sym, arith}
-use Rattle.est_gen.specs.Draws.{next_state, state_after, drawn, event_from}
+use Rattle.est_base.specs.Draws.{next_state, state_after, drawn}
+use Rattle.est_gen.specs.Events.{event_from}
 use Rattle.est_gen.proofs.Written.{event-more, event_from-more, state_after-more}
-use Rattle.est_gen.proofs.draws.fill_event.Goals as goal
+use Rattle.est_gen.proofs.events.fill_event.Goals as goal
 
 pub loop-present-preserved : goal.loop-present-preserved
 loop-present-preserved c =

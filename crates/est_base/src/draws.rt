@@ -1,11 +1,8 @@
 // The draws.
 
-ghost use Rattle.std.specs.Prelude.{◌≡◌, length};
-ghost use Rattle.est_gen.specs.Draws.{state_after, event_from};
-
 use std::marker::Model;
 
-/// A linear congruential generator. A contract sees it as its state.
+/// A linear congruential generator, that of ISO C's example of `rand`. A contract sees it as its state.
 #[derive(Debug, Drop)]
 pub struct Draw {
     state: u32,
@@ -21,7 +18,7 @@ impl Model for Draw {
 
 impl Draw {
     ghost use Rattle.std.specs.Prelude.{◌≡◌, ◌≤◌};
-    ghost use Rattle.est_gen.specs.Draws.{first_state, next_state, drawn};
+    ghost use Rattle.est_base.specs.Draws.{first_state, next_state, high_bits, drawn};
 
     /// The draws from a start number, of which the lowest 31 bits count. It takes no memory.
     pub fn new(start: u64) -> Draw
@@ -38,38 +35,25 @@ impl Draw {
         ensures state { self.new ≡ next_state self.old }
         ensures draw { result ≡ drawn self.new m }
     {
+        self.next_bits() % m
+    }
+
+    /// The next draw as it is, before a remainder bounds it. It takes no memory.
+    pub fn next_bits(&mut self) -> u32
+        ensures state { self.new ≡ next_state self.old }
+        ensures bits { result ≡ high_bits self.new }
+    {
         self.state = ((u64::from(self.state) * FACTOR + STEP) % STATES) as u32;
-        self.state / LOW % m
+        self.state / LOW
     }
 }
 
-// The generator of ISO C's example of `rand`, with states of 31 bits.
 const FACTOR: u64 = 1_103_515_245;
 
 const STEP: u64 = 12_345;
 
+// States have 31 bits.
 const STATES: u64 = 2_147_483_648;
 
 // The low 16 bits of a state are not used.
 const LOW: u32 = 65_536;
-
-/// An instant of the eight inputs of a generated source: each is present where a draw below 4 is 0.
-/// It takes no memory.
-pub fn next_event(draw: &mut Draw) -> [bool; 8]
-    ensures event { result ≡ event_from 8 draw.old }
-    ensures state { draw.new ≡ state_after 8 draw.old }
-{
-    let mut event = [false; 8];
-    fill_event(draw, &mut event);
-    event
-}
-
-// Draws each truth value of an event in turn.
-fn fill_event(draw: &mut Draw, event: &mut [bool])
-    ensures event { event.new ≡ event_from (length event.old) draw.old }
-    ensures state { draw.new ≡ state_after (length event.old) draw.old }
-{
-    for present in event.iter_mut() {
-        *present = draw.next(4) == 0;
-    }
-}
