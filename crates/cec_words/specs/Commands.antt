@@ -3,6 +3,7 @@ use Rattle.std.specs.Prelude.{ℕ, ◌+◌, Bool, false, not, ◌==◌, ◌&&◌
 use Rattle.std.specs.Prelude.{drop, slice_index, codes, if◌then◌else◌, Option, Some, None, option_map}
 use Rattle.std.specs.Prelude.{option_and_then}
 use Rattle.est_base.specs.Names.{is_same_name}
+use Rattle.est_base.specs.declared.bounds.TheConstants.Limits.{BRANCHES, LOAD_INSTANTS}
 use Rattle.cec_words.specs.declared.asked.Via.{Via}
 use Rattle.cec_words.specs.declared.asked.Via.TheVariants as vias
 use Rattle.cec_words.specs.declared.asked.Pick.{Pick}
@@ -97,8 +98,8 @@ part_of settings.Main place value = Some (parts.Main place)
 part_of settings.Via place value = option_map parts.Via (via_of value)
 part_of settings.Pick place value = option_map parts.Pick (pick_of value)
 part_of settings.Start place value = option_map parts.Start (number value)
-part_of settings.Branches place value = option_map parts.Branches (number_within 1 400 value)
-part_of settings.Run place value = option_map parts.Run (number_within 0 100000 value)
+part_of settings.Branches place value = option_map parts.Branches (number_within 1 BRANCHES value)
+part_of settings.Run place value = option_map parts.Run (number_within 0 LOAD_INSTANTS value)
 
 -- what a word does that spells an option
 abbrev pub spelled_step : ℕ → List ℕ → Spelling → Option Step

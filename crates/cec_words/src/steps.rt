@@ -7,6 +7,7 @@ ghost use Rattle.cec_words.specs.Spellings.{IsWithin};
 
 use crate::asked::{Pick, Value, Via};
 use crate::numbers::number;
+use est_base::Limits;
 
 // A command other than `--help`.
 #[derive(Clone, Copy)]
@@ -57,10 +58,6 @@ pub enum Step {
     Waits(Setting),
     Ends(Part),
 }
-
-const MOST_BRANCHES: u64 = 400;
-
-const MOST_INSTANTS: u64 = 100_000;
 
 pub fn command_of(word: &[u8]) -> Option<Command>
     ensures { result ≡ command_of word.now }
@@ -177,11 +174,11 @@ fn part_of(setting: Setting, value: Value, bytes: &[u8]) -> Option<Part>
         Setting::Start => number(bytes).map(Part::Start),
         Setting::Branches => match number(bytes)? {
             0 => None,
-            branches if branches <= MOST_BRANCHES => Some(Part::Branches(branches as u32)),
+            branches if branches <= Limits::BRANCHES => Some(Part::Branches(branches as u32)),
             _ => None,
         },
         Setting::Run => match number(bytes)? {
-            instants if instants <= MOST_INSTANTS => Some(Part::Run(instants as u32)),
+            instants if instants <= Limits::LOAD_INSTANTS => Some(Part::Run(instants as u32)),
             _ => None,
         },
     }

@@ -4,7 +4,8 @@ ghost use Rattle.std.specs.Prelude.{◌≡◌};
 ghost use Rattle.est_base.specs.declared.bounds.TheConstants.Limits.{SOURCE_BYTES, TRACE_BYTES, TEXT_BYTES, NESTING};
 ghost use Rattle.est_base.specs.declared.bounds.TheConstants.Limits.{STATEMENTS, DEPTH, SIGNALS, KERNEL_NODES};
 ghost use Rattle.est_base.specs.declared.bounds.TheConstants.Limits.{KERNEL_HEIGHT, TRAPS, INSTANCES, WIRES};
-ghost use Rattle.est_base.specs.declared.bounds.TheConstants.Limits.{LEAST_COUNT, GREATEST_COUNT};
+ghost use Rattle.est_base.specs.declared.bounds.TheConstants.Limits.{LEAST_COUNT, GREATEST_COUNT, BRANCHES};
+ghost use Rattle.est_base.specs.declared.bounds.TheConstants.Limits.{LOAD_INSTANTS};
 
 /// The limits of the compiler and of its runners. A quantity may be as great as its number here.
 #[derive(Clone, Copy, Debug)]
@@ -54,6 +55,12 @@ impl Limits {
     /// The greatest count of a delay or a `repeat`.
     pub const GREATEST_COUNT: u64 = 255;
 
+    /// Parallel branches of a generated source.
+    pub const BRANCHES: u64 = 400;
+
+    /// Instants that a generated source is run for.
+    pub const LOAD_INSTANTS: u64 = 100_000;
+
     /// Bytes of a piece in which a text is written: 64 KiB.
     pub const PIECE_BYTES: usize = 65_536;
 }
@@ -75,4 +82,6 @@ pub fn limits_are_as_stated()
     ensures wires { WIRES ≡ 262144 }
     ensures least_count { LEAST_COUNT ≡ 1 }
     ensures greatest_count { GREATEST_COUNT ≡ 255 }
+    ensures branches { BRANCHES ≡ 400 }
+    ensures load_instants { LOAD_INSTANTS ≡ 100000 }
 {}

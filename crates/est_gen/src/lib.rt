@@ -10,4 +10,4 @@ mod events;
 mod sources;
 
 pub use events::next_event;
-pub use sources::{GenFault, Generated, MOST_BRANCHES, generate_source};
+pub use sources::{GenFault, Generated, generate_source};

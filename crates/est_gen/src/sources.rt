@@ -6,12 +6,9 @@ ghost use Rattle.est_base.specs.Draws.{first_state, state_after};
 ghost use Rattle.est_gen.specs.Sources.{source_text, names_from, head_text, branch_text, branches_text, statement};
 ghost use Rattle.est_gen.specs.Sources.{waited_name};
 
-use est_base::{Draw, NoMemory};
+use est_base::{Draw, Limits, NoMemory};
 use itoa::Buffer;
 use std::alloc::Global;
-
-/// The greatest number of branches of a generated source.
-pub const MOST_BRANCHES: u32 = 400;
 
 /// A generated source, and the draws that go on after it.
 #[derive(Debug, Drop)]
@@ -23,7 +20,7 @@ pub struct Generated {
 /// Why no source is generated.
 #[derive(Clone, Copy, Debug, PartialEq, Eq)]
 pub enum GenFault {
-    /// No branch, or more than `MOST_BRANCHES`.
+    /// No branch, or more than `Limits::BRANCHES`.
     BadBranches,
     /// Memory was wanted and not found.
     NoMemory,
@@ -31,13 +28,13 @@ pub enum GenFault {
 
 /// The source of the module GEN with this many branches, drawn from a start number. It has the inputs
 /// `I0` to `I7`, the outputs `O0` to `O7`, and a local signal for each branch.
-/// Its errors are a number of branches that is not 1 to 400, and want of memory.
+/// Its errors are a number of branches that is not 1 to `Limits::BRANCHES`, and want of memory.
 pub fn generate_source(alloc: Global, start: u64, branches: u32) -> Result<Generated, GenFault>
     ensures source { IfOk result (λ g. g.source.items ≡ source_text start branches) }
     ensures rest { IfOk result (λ g. g.rest ≡ state_after (3 * branches) (first_state start)) }
-    ensures refused { (result ≡ Err GenFault.BadBranches) ↔ ((branches ≡ 0) ⊎ (400 < branches)) }
+    ensures refused { (result ≡ Err GenFault.BadBranches) ↔ ((branches ≡ 0) ⊎ (Limits.BRANCHES < branches)) }
 {
-    if branches == 0 || branches > MOST_BRANCHES {
+    if branches == 0 || u64::from(branches) > Limits::BRANCHES {
         return Err(GenFault::BadBranches);
     }
     match drawn_source(alloc, start, branches) {
