@@ -1,17 +1,15 @@
 -- A statement's entry is put before those of its parts.
-use Rattle.std.proofs.Common.{◌≡◌, ℕ, ◌<◌, List, [], ◌∷◌, ◌++◌, length, map, sym, ap, ◌∙◌, subst, arith, append_assoc, length-append}
+use Rattle.std.proofs.Common.{◌≡◌, ◌<◌, List, [], ◌∷◌, ◌++◌, length, drop, map, refl, sym, ap, ◌∙◌, subst, arith, append_assoc, length-append}
 use Rattle.std.proofs.Math.ListN.{set}
 use Rattle.std.proofs.Math.Seq.{set-append_seam}
-use Rattle.std.proofs.lemmas.List.{map-set, map-append, length-map, append-nil}
-use Rattle.std.specs.Prelude.{Option}
+use Rattle.std.proofs.lemmas.List.{map-set, map-append, length-map}
 use Rattle.est_base.specs.CodeSet.{members}
-use Rattle.est_base.specs.declared.place.Span.{Span}
-use Rattle.est_kernel.specs.Terms.{Term}
+use Rattle.est_kernel.specs.Terms.{Term, Nothing, Pause, Emit, Exit, Present, Suspend, Seq, Loop, Par, Trap, Local, Awake}
 use Rattle.est_kernel.specs.StaticCodes.{started_codes, resumed_codes, instant_loops}
 use Rattle.est_kernel.specs.Preorder.{preorder}
 use Rattle.est_codes.specs.declared.entries.Entry.{Entry}
 use Rattle.est_codes.specs.declared.walk.Found.{Found}
-use Rattle.est_codes.specs.Entries.{HasCodesOf, Lists}
+use Rattle.est_codes.specs.Entries.{HasCodesOf, Lists, ListsParts}
 use Rattle.est_codes.specs.Faults.{IsLeast}
 
 -- what was appended behind a place, once the place is written
@@ -40,113 +38,77 @@ at_in f old end x rest e =
       length-append old (x ∷ []),
     )
 
--- an entry, and the least place found with it
-pub record Puts (old end new : List Entry) (found : Found) (t : Term) : Type 0 where
-  pub list : new ≡ set end (length old) found.entry
-  pub entry : HasCodesOf found.entry t
-  pub least : IsLeast found.least (instant_loops t)
+-- a statement stands before all in it
+preorder_own : (p : Term) → preorder p ≡ p ∷ drop 1 (preorder p)
+preorder_own Nothing = refl
+preorder_own Pause = refl
+preorder_own (Emit s) = refl
+preorder_own (Exit k) = refl
+preorder_own (Present e p q) = refl
+preorder_own (Suspend e p) = refl
+preorder_own (Seq p q) = refl
+preorder_own (Loop at p) = refl
+preorder_own (Par p q) = refl
+preorder_own (Trap p) = refl
+preorder_own (Local s p) = refl
+preorder_own (Awake e p) = refl
 
-pub listed_leaf : (old end new : List Entry) (x : Entry) (found : Found) (t : Term)
-    → end ≡ old ++ x ∷ []
-    → preorder t ≡ t ∷ []
-    → Puts old end new found t
-    → Lists old new found t
-listed_leaf old end new x found t pushed order put = record {
-  started = ap (λ l. map (λ e. members e.started) l) put.list
-      ∙ map-set-append (λ e. members e.started) old end x found.entry []
-      (ap (λ l. map (λ e. members e.started) l) pushed ∙ sym (append-nil _))
-      ∙ ap (λ l. map (λ e. members e.started) old ++ l)
-      (ap (λ s. s ∷ []) put.entry.started ∙ sym (ap (λ l. map started_codes l) order));
-  resumed = ap (λ l. map (λ e. members e.resumed) l) put.list
-      ∙ map-set-append (λ e. members e.resumed) old end x found.entry []
-      (ap (λ l. map (λ e. members e.resumed) l) pushed ∙ sym (append-nil _))
-      ∙ ap (λ l. map (λ e. members e.resumed) old ++ l)
-      (ap (λ s. s ∷ []) put.entry.resumed ∙ sym (ap (λ l. map resumed_codes l) order));
-  entry = put.entry;
-  least = put.least;
-}
-
-pub listed_one : (old start end new : List Entry) (x : Entry) (part found : Found) (p t : Term)
+-- one kind of codes, once the statement's own entry is written
+own_put : {B : Type 0} (f : Entry → B) (g : Term → B) (old start end : List Entry) (x y : Entry) (p : Term)
     → start ≡ old ++ x ∷ []
-    → Lists start end part p
-    → preorder t ≡ t ∷ preorder p
-    → Puts old end new found t
-    → Lists old new found t
-listed_one old start end new x part found p t pushed one order put = record {
-  started = ap (λ l. map (λ e. members e.started) l) put.list
-      ∙ map-set-append (λ e. members e.started) old end x found.entry (map started_codes (preorder p))
-      (one.started ∙ ap (λ l. map (λ e. members e.started) l ++ map started_codes (preorder p)) pushed)
-      ∙ ap (λ l. map (λ e. members e.started) old ++ l)
-      (ap (λ s. s ∷ map started_codes (preorder p)) put.entry.started ∙ sym (ap (λ l. map started_codes l) order));
-  resumed = ap (λ l. map (λ e. members e.resumed) l) put.list
-      ∙ map-set-append (λ e. members e.resumed) old end x found.entry (map resumed_codes (preorder p))
-      (one.resumed ∙ ap (λ l. map (λ e. members e.resumed) l ++ map resumed_codes (preorder p)) pushed)
-      ∙ ap (λ l. map (λ e. members e.resumed) old ++ l)
-      (ap (λ s. s ∷ map resumed_codes (preorder p)) put.entry.resumed ∙ sym (ap (λ l. map resumed_codes l) order));
-  entry = put.entry;
-  least = put.least;
-}
+    → map f end ≡ map f start ++ map g (drop 1 (preorder p))
+    → f y ≡ g p
+    → map f (set end (length old) y) ≡ map f old ++ map g (preorder p)
+own_put f g old start end x y p pushed parts own =
+    map-set-append f old end x y (map g (drop 1 (preorder p)))
+    (parts ∙ ap (λ l. map f l ++ map g (drop 1 (preorder p))) pushed)
+    ∙ ap (λ b. map f old ++ b ∷ map g (drop 1 (preorder p))) own
+    ∙ ap (λ l. map f old ++ map g l) (sym (preorder_own p))
 
--- the entries of two parts, one after the other
-two_parts : {A B : Type 0} (f : A → B) (start mid end : List A) (u v : List B)
-    → map f mid ≡ map f start ++ u → map f end ≡ map f mid ++ v → map f end ≡ map f start ++ (u ++ v)
-two_parts f start mid end u v e g = g ∙ ap (λ l. l ++ v) e ∙ append_assoc (map f start) u v
-
-pub listed_two : (old start mid end new : List Entry) (x : Entry) (first second found : Found) (p q t : Term)
+pub listed : (old start end : List Entry) (x : Entry) (found : Found) (p : Term)
     → start ≡ old ++ x ∷ []
-    → Lists start mid first p
-    → Lists mid end second q
-    → preorder t ≡ t ∷ (preorder p ++ preorder q)
-    → Puts old end new found t
-    → Lists old new found t
-listed_two old start mid end new x first second found p q t pushed one two order put =
-    let s : map (λ e. members e.started) end
-    ≡ map (λ e. members e.started) (old ++ x ∷ []) ++ map started_codes (preorder p ++ preorder q)
-    = two_parts (λ e. members e.started) (old ++ x ∷ []) mid end _ _
-    (one.started ∙ ap (λ l. map (λ e. members e.started) l ++ map started_codes (preorder p)) pushed) two.started
-    ∙ ap (λ l. map (λ e. members e.started) (old ++ x ∷ []) ++ l) (sym (map-append started_codes (preorder p) (preorder q)))
-    in
-    let r : map (λ e. members e.resumed) end
-    ≡ map (λ e. members e.resumed) (old ++ x ∷ []) ++ map resumed_codes (preorder p ++ preorder q)
-    = two_parts (λ e. members e.resumed) (old ++ x ∷ []) mid end _ _
-    (one.resumed ∙ ap (λ l. map (λ e. members e.resumed) l ++ map resumed_codes (preorder p)) pushed) two.resumed
-    ∙ ap (λ l. map (λ e. members e.resumed) (old ++ x ∷ []) ++ l) (sym (map-append resumed_codes (preorder p) (preorder q)))
-    in record {
-      started = ap (λ l. map (λ e. members e.started) l) put.list
-          ∙ map-set-append (λ e. members e.started) old end x found.entry _ s
-          ∙ ap (λ l. map (λ e. members e.started) old ++ l)
-          (ap (λ v. v ∷ map started_codes (preorder p ++ preorder q)) put.entry.started
-          ∙ sym (ap (λ l. map started_codes l) order));
-      resumed = ap (λ l. map (λ e. members e.resumed) l) put.list
-          ∙ map-set-append (λ e. members e.resumed) old end x found.entry _ r
-          ∙ ap (λ l. map (λ e. members e.resumed) old ++ l)
-          (ap (λ v. v ∷ map resumed_codes (preorder p ++ preorder q)) put.entry.resumed
-          ∙ sym (ap (λ l. map resumed_codes l) order));
-      entry = put.entry;
-      least = put.least;
-    }
-
-pub entry_put : (old end new : List Entry) (at : ℕ) (entry : Entry) (least : Option Span) (found : Found) (t : Term)
-    → at ≡ length old
-    → new ≡ set end at entry
-    → found.entry ≡ entry
-    → found.least ≡ least
-    → HasCodesOf entry t
-    → IsLeast least (instant_loops t)
-    → Puts old end new found t
-entry_put old end new at entry least found t a n e l h g = record {
-  list = n ∙ λ i. set end (a i) (sym e i);
-  entry = subst (λ x. HasCodesOf x t) (sym e) h;
-  least = subst (λ x. IsLeast x (instant_loops t)) (sym l) g;
+    → ListsParts start end found p
+    → Lists old (set end (length old) found.entry) found p
+listed old start end x found p pushed parts = record {
+  started = own_put (λ e. members e.started) started_codes old start end x found.entry p pushed parts.started parts.entry.started;
+  resumed = own_put (λ e. members e.resumed) resumed_codes old start end x found.entry p pushed parts.resumed parts.entry.resumed;
+  entry = parts.entry;
+  least = parts.least;
 }
 
 -- the place of a statement lies before the entries of its parts
-pub listed_in : (old start mid end : List Entry) (x : Entry) (first second : Found) (p q : Term)
+pub listed_in : (old start end : List Entry) (x : Entry) (found : Found) (p : Term)
     → start ≡ old ++ x ∷ []
-    → Lists start mid first p
-    → Lists mid end second q
+    → ListsParts start end found p
     → length old < length end
-listed_in old start mid end x first second p q pushed one two =
-    at_in (λ e. members e.started) old end x (map started_codes (preorder p) ++ map started_codes (preorder q))
-    (two_parts (λ e. members e.started) (old ++ x ∷ []) mid end _ _
-    (one.started ∙ ap (λ l. map (λ e. members e.started) l ++ map started_codes (preorder p)) pushed) two.started)
+listed_in old start end x found p pushed parts =
+    at_in (λ e. members e.started) old end x (map started_codes (drop 1 (preorder p)))
+    (parts.started ∙ ap (λ l. map (λ e. members e.started) l ++ map started_codes (drop 1 (preorder p))) pushed)
+
+-- one kind of codes of two parts, one after the other
+two_put : {B : Type 0} (f : Entry → B) (g : Term → B) (old mid end : List Entry) (p q : Term)
+    → map f mid ≡ map f old ++ map g (preorder p)
+    → map f end ≡ map f mid ++ map g (preorder q)
+    → map f end ≡ map f old ++ map g (preorder p ++ preorder q)
+two_put f g old mid end p q first second =
+    second
+    ∙ ap (λ l. l ++ map g (preorder q)) first
+    ∙ append_assoc (map f old) (map g (preorder p)) (map g (preorder q))
+    ∙ ap (λ l. map f old ++ l) (sym (map-append g (preorder p) (preorder q)))
+
+pub listed_two : (old mid end : List Entry) (first second found : Found) (entry : Entry) (p q t : Term)
+    → Lists old mid first p
+    → Lists mid end second q
+    → drop 1 (preorder t) ≡ preorder p ++ preorder q
+    → found.entry ≡ entry
+    → HasCodesOf entry t
+    → IsLeast found.least (instant_loops t)
+    → ListsParts old end found t
+listed_two old mid end first second found entry p q t one two order same codes least = record {
+  started = two_put (λ e. members e.started) started_codes old mid end p q one.started two.started
+      ∙ ap (λ l. map (λ e. members e.started) old ++ map started_codes l) (sym order);
+  resumed = two_put (λ e. members e.resumed) resumed_codes old mid end p q one.resumed two.resumed
+      ∙ ap (λ l. map (λ e. members e.resumed) old ++ map resumed_codes l) (sym order);
+  entry = subst (λ x. HasCodesOf x t) (sym same) codes;
+  least = least;
+}

@@ -1,5 +1,5 @@
 -- Inner: what the walk over a body keeps.
-use Rattle.std.specs.Prelude.{◌≡◌, ◌<◌, List, ◌++◌, map, ⊤}
+use Rattle.std.specs.Prelude.{◌≡◌, ◌<◌, List, ◌++◌, drop, map, ⊤}
 use Rattle.est_base.specs.CodeSet.{members}
 use Rattle.est_kernel.specs.Terms.{Term, Nothing, Pause, Emit, Exit, Present, Suspend, Seq, Loop, Par, Trap, Local}
 use Rattle.est_kernel.specs.Terms.{Awake}
@@ -36,5 +36,14 @@ pub record Lists (old new : List Entry) (found : Found) (p : Term) : Type 0 wher
       ≡ map (λ entry. members entry.started) old ++ map started_codes (preorder p)
   pub resumed : map (λ entry. members entry.resumed) new
       ≡ map (λ entry. members entry.resumed) old ++ map resumed_codes (preorder p)
+  pub entry : HasCodesOf found.entry p
+  pub least : IsLeast found.least (instant_loops p)
+
+-- the same of all in the statement but itself: the entry of the statement stands before theirs
+pub record ListsParts (old new : List Entry) (found : Found) (p : Term) : Type 0 where
+  pub started : map (λ entry. members entry.started) new
+      ≡ map (λ entry. members entry.started) old ++ map started_codes (drop 1 (preorder p))
+  pub resumed : map (λ entry. members entry.resumed) new
+      ≡ map (λ entry. members entry.resumed) old ++ map resumed_codes (drop 1 (preorder p))
   pub entry : HasCodesOf found.entry p
   pub least : IsLeast found.least (instant_loops p)

@@ -1,13 +1,14 @@
 // The walk over a body that lists the codes of its statements.
 
-ghost use Rattle.std.specs.Prelude.{◌≡◌, ◌<◌, IfOk, IfErr, slice_set, length, []};
+ghost use Rattle.std.specs.Prelude.{◌≡◌, List, [], ◌++◌, IfOk, IfErr};
+ghost use Rattle.est_base.specs.declared.place.Span.{Span};
 ghost use Rattle.est_kernel.specs.CodeLists.{AreCodesOf};
 ghost use Rattle.est_kernel.specs.Plain.{term_of};
 ghost use Rattle.est_kernel.specs.StaticCodes.{instant_loops, NoInstantLoop};
 ghost use Rattle.est_kernel.specs.WellFormed.{KeepsLimits};
 ghost use Rattle.est_kernel.specs.Terms.{Term, Loop};
 ghost use Rattle.est_codes.specs.declared.walk.Found.{Found};
-ghost use Rattle.est_codes.specs.Entries.{ExitsFit, HasCodesOf, Lists};
+ghost use Rattle.est_codes.specs.Entries.{ExitsFit, HasCodesOf, Lists, ListsParts};
 ghost use Rattle.est_codes.specs.Faults.{FaultHasCause, IsLeast};
 
 use crate::entries::{Entry, resumed_sets, started_sets};
@@ -63,86 +64,98 @@ pub(crate) struct Found {
     pub least: Option<Span>,
 }
 
+impl Found {
+    // Of a statement that has these codes and no part.
+    fn of_leaf(entry: Entry) -> Found
+        ensures { result ≡ record { entry = entry; least = None } }
+    {
+        Found { entry, least: None }
+    }
+
+    // Of a statement that has these codes and this part, and is no loop.
+    fn of_one(entry: Entry, part: Found) -> Found
+        ensures { result ≡ record { entry = entry; least = part.least } }
+    {
+        let least = part.least;
+        Found { entry, least }
+    }
+
+    // Of a statement that has these codes and these parts.
+    fn of_two(entry: Entry, first: Found, second: Found) -> Found
+        ensures entry { result.entry ≡ entry }
+        ensures least { (a b : List Span) → IsLeast first.least a → IsLeast second.least b
+            → IsLeast result.least (a ++ b) }
+    {
+        let least = lesser(first.least, second.least);
+        Found { entry, least }
+    }
+
+    // Of a loop over this part.
+    fn of_loop(place: Span, part: Found) -> Found
+        ensures entry { (p : Term) → HasCodesOf part.entry p → HasCodesOf result.entry (Loop place p) }
+        ensures least { (p : Term) → HasCodesOf part.entry p → IsLeast part.least (instant_loops p)
+            → IsLeast result.least (instant_loops (Loop place p)) }
+    {
+        let least = if part.entry.started.has(0) {
+            lesser(Some(place), part.least)
+        } else {
+            part.least
+        };
+        let entry = part.entry.looped();
+        Found { entry, least }
+    }
+}
+
 // Lists the codes of the statement and of all in it, in preorder.
+#[cycle(list_entries)]
 fn list_entries(body: &Kernel, entries: &mut Vec<Entry>) -> Result<Found, NoMemory>
     requires { ExitsFit (term_of body.now) }
     ensures { IfOk result (λ found. Lists entries.old.items entries.new.items found (term_of body.now)) }
 {
     let at = entries.len();
     entries.push(Entry::empty())?;
+    let found = list_parts(body, entries)?;
+    entries[at] = found.entry;
+    Ok(found)
+}
+
+// Lists the codes of all in the statement but of itself, in preorder; answers what is found of the statement.
+#[cycle(list_entries)]
+fn list_parts(body: &Kernel, entries: &mut Vec<Entry>) -> Result<Found, NoMemory>
+    requires { ExitsFit (term_of body.now) }
+    ensures { IfOk result (λ found. ListsParts entries.old.items entries.new.items found (term_of body.now)) }
+{
     match body {
-        Kernel::Nothing => Ok(put(entries, at, Entry::starting_with(0), None)),
-        Kernel::Emit(_) => Ok(put(entries, at, Entry::starting_with(0), None)),
-        Kernel::Pause => Ok(put(entries, at, Entry::pause(), None)),
-        Kernel::Exit(code) => Ok(put(entries, at, Entry::starting_with(*code), None)),
+        Kernel::Nothing | Kernel::Emit(_) => Ok(Found::of_leaf(Entry::starting_with(0))),
+        Kernel::Pause => Ok(Found::of_leaf(Entry::pause())),
+        Kernel::Exit(code) => Ok(Found::of_leaf(Entry::starting_with(*code))),
         Kernel::Present(_, yes, no) => {
             let yes = list_entries(yes, entries)?;
             let no = list_entries(no, entries)?;
-            Ok(put(
-                entries,
-                at,
-                yes.entry.present(no.entry),
-                lesser(yes.least, no.least),
-            ))
+            Ok(Found::of_two(yes.entry.present(no.entry), yes, no))
         }
         Kernel::Suspend(_, part) => {
             let part = list_entries(part, entries)?;
-            Ok(put(entries, at, part.entry.suspended(), part.least))
+            Ok(Found::of_one(part.entry.suspended(), part))
         }
         Kernel::Seq(first, second) => {
             let first = list_entries(first, entries)?;
             let second = list_entries(second, entries)?;
-            Ok(put(
-                entries,
-                at,
-                first.entry.then(second.entry),
-                lesser(first.least, second.least),
-            ))
+            Ok(Found::of_two(first.entry.then(second.entry), first, second))
         }
         Kernel::Loop(place, part) => {
             let part = list_entries(part, entries)?;
-            Ok(put(entries, at, part.entry.looped(), least_with(*place, part)))
+            Ok(Found::of_loop(*place, part))
         }
         Kernel::Par(left, right) => {
             let left = list_entries(left, entries)?;
             let right = list_entries(right, entries)?;
-            Ok(put(
-                entries,
-                at,
-                left.entry.beside(right.entry),
-                lesser(left.least, right.least),
-            ))
+            Ok(Found::of_two(left.entry.beside(right.entry), left, right))
         }
         Kernel::Trap(part) => {
             let part = list_entries(part, entries)?;
-            Ok(put(entries, at, part.entry.trapped(), part.least))
+            Ok(Found::of_one(part.entry.trapped(), part))
         }
-        Kernel::Local(_, part) => {
-            let part = list_entries(part, entries)?;
-            Ok(put(entries, at, part.entry, part.least))
-        }
+        Kernel::Local(_, part) => list_entries(part, entries),
     }
-}
-
-// The least place of an instantaneous loop in a loop over this part.
-fn least_with(place: Span, part: Found) -> Option<Span>
-    ensures { (p : Term) → HasCodesOf part.entry p → IsLeast part.least (instant_loops p)
-        → IsLeast result (instant_loops (Loop place p)) }
-{
-    if part.entry.started.has(0) {
-        lesser(Some(place), part.least)
-    } else {
-        part.least
-    }
-}
-
-// Writes a statement's codes to its place.
-fn put(entries: &mut Vec<Entry>, at: usize, entry: Entry, least: Option<Span>) -> Found
-    requires { at < length entries.old.items }
-    ensures list { entries.new.items ≡ slice_set entries.old.items at entry }
-    ensures entry { result.entry ≡ entry }
-    ensures least { result.least ≡ least }
-{
-    entries[at] = entry;
-    Found { entry, least }
 }

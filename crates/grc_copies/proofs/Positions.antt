@@ -18,8 +18,8 @@ use Rattle.grc_copies.specs.declared.lists.Position.{Position}
 use Rattle.grc_copies.specs.declared.refusal.CopyFault.{CopyFault}
 use Rattle.grc_copies.specs.declared.refusal.CopyFault.TheVariants.{TooManyInstances, NoMemory}
 use Rattle.grc_copies.specs.Faults.{FaultHasCause}
-use Rattle.grc_copies.specs.Copying.{liveness_of, starts, resumed_instances, Gains, IsTooMany}
-use Rattle.grc_copies.proofs.Counts.{IsTooMany-append}
+use Rattle.grc_copies.specs.Copying.{liveness_of, part_instances, starts, resumed_instances, Gains, IsTooMany}
+use Rattle.grc_copies.proofs.Counts.{Gains-append, IsTooMany-append, IsTooMany-after}
 
 -- a statement's own instances come first
 pub too_many_at_first : (old : List Instance) (a : Liveness) (t : Term) (n : ℕ) (e : CopyFault) → IsTooMany old (instances_at a n) e →
@@ -45,21 +45,19 @@ pub record Shows (at : Position) (roots : List ℕ) (a : Liveness) (n : ℕ) : T
 liveness_by : (at : Position) (roots : List ℕ) (a : Liveness) → at.resumed ≡ a.resumed → drop at.base roots ≡ a.roots → liveness_of at roots ≡ a
 liveness_by at roots a r d = λ i. record { resumed = r i; roots = d i }
 
-pub part_shows : (c : Codes) (at pos : Position) (roots roots' : List ℕ) (p : Term) (m n : ℕ)
+pub part_shows : (c : Codes) (at pos : Position) (roots : List ℕ) (p : Term) (n : ℕ)
     → CodesFrom c p n
-    → m ≡ n
-    → pos.path ≡ m
+    → pos.path ≡ n
     → pos.base ≡ at.base
-    → pos.resumed ≡ (at.resumed && has_code (set_at c.resumed.items m))
-    → roots' ≡ roots
-    → Shows pos roots' (part_liveness (liveness_of at roots) p) n
-part_shows c at pos roots roots' p m n h e o b r s =
+    → pos.resumed ≡ (at.resumed && has_code (set_at c.resumed.items n))
+    → Shows pos roots (part_liveness (liveness_of at roots) p) n
+part_shows c at pos roots p n h e b r =
     let here = codes_at c p n h in
     record {
-      path = o ∙ e;
-      live = liveness_by pos roots' (part_liveness (liveness_of at roots) p)
-          (r ∙ (λ i. at.resumed && has_code (set_at c.resumed.items (e i))) ∙ (λ i. at.resumed && has_code (here.resumed i)))
-          (λ i. drop (b i) (s i));
+      path = e;
+      live = liveness_by pos roots (part_liveness (liveness_of at roots) p)
+          (r ∙ (λ i. at.resumed && has_code (here.resumed i)))
+          (λ i. drop (b i) roots);
     }
 
 drop_more : (base : ℕ) (roots more : List ℕ) → base ≤ length roots → drop base (roots ++ more) ≡ drop base roots ++ more
@@ -106,25 +104,21 @@ second_shows c at pos roots roots' end next holds p q n m hp hq en e v b r l w o
           ∙ second_roots (started_codes p 0) at.base roots (root_if (at.resumed && resumed_codes p 0) m) w);
     }
 
-pub loop_shows : (c : Codes) (at pos : Position) (roots roots' : List ℕ) (holds : Bool) (p : Term) (n : ℕ)
+-- a loop's body is a part, once its own root stands behind the others
+pub loop_instances : (c : Codes) (at : Position) (roots roots' : List ℕ) (holds : Bool) (p : Term) (n : ℕ)
     → CodesFrom c p n
-    → pos.path ≡ n
-    → pos.base ≡ at.base
-    → pos.resumed ≡ (at.resumed && has_code (set_at c.resumed.items n))
     → at.base ≤ length roots
     → holds ≡ (at.resumed && set_at c.resumed.items n 0)
     → roots' ≡ roots ++ root_if holds n
-    → Shows pos roots' (loop_liveness (liveness_of at roots) p n) n
-loop_shows c at pos roots roots' holds p n h e b r w o s =
+    → part_instances (liveness_of at roots') p n ≡ instances (loop_liveness (liveness_of at roots) p n) p n
+loop_instances c at roots roots' holds p n h w o s =
     let here = codes_at c p n h in
-    record {
-      path = e;
-      live = liveness_by pos roots' (loop_liveness (liveness_of at roots) p n)
-          (r ∙ (λ i. at.resumed && has_code (here.resumed i)))
-          ((λ i. drop (b i) (s i)) ∙ (λ i. drop at.base (roots ++ root_if (o i) n))
-          ∙ (λ i. drop at.base (roots ++ root_if (at.resumed && here.resumed i 0) n))
-          ∙ drop_more at.base roots (root_if (at.resumed && resumed_codes p 0) n) w);
-    }
+    let own : drop at.base roots' ≡ drop at.base roots ++ root_if (at.resumed && resumed_codes p 0) n
+    = (λ i. drop at.base (s i))
+    ∙ (λ i. drop at.base (roots ++ root_if (o i) n))
+    ∙ (λ i. drop at.base (roots ++ root_if (at.resumed && here.resumed i 0) n))
+    ∙ drop_more at.base roots (root_if (at.resumed && resumed_codes p 0) n) w in
+    λ i. instances (record { resumed = at.resumed && has_code (resumed_codes p); roots = own i }) p n
 
 -- what a walk over a part says, in the part's own terms
 pub gains_at : (old new : List Instance) (at : Position) (roots : List ℕ) (k p : Term) (a : Liveness) (n : ℕ)
@@ -140,6 +134,35 @@ pub too_many_at : (old : List Instance) (at : Position) (roots : List ℕ) (k p 
     → IsTooMany old (instances (liveness_of at roots) k at.path) f
     → IsTooMany old (instances a p n) f
 too_many_at old at roots k p a n f s e g = subst (λ l. IsTooMany old l f) (λ i. instances (s.live i) (e i) (s.path i)) g
+
+-- what is appended behind, where both and the later have other names
+pub gains_then : (old mid new : List Instance) (own more more' all : List plain.Instance)
+    → all ≡ own ++ more
+    → more' ≡ more
+    → Gains old mid own
+    → Gains mid new more'
+    → Gains old new all
+gains_then old mid new own more more' all e f g h =
+    subst (λ l. Gains old new l) (sym e) (Gains-append old mid new own more g (subst (λ l. Gains mid new l) f h))
+
+pub too_many_then : (old mid : List Instance) (own more more' all : List plain.Instance) (f : CopyFault)
+    → all ≡ own ++ more
+    → more' ≡ more
+    → Gains old mid own
+    → IsTooMany mid more' f
+    → IsTooMany old all f
+too_many_then old mid own more more' all f e g h k =
+    subst (λ l. IsTooMany old l f) (sym e) (IsTooMany-after old mid own more f h (subst (λ l. IsTooMany mid l f) g k))
+
+pub too_many_in_first : (old mid : List Instance) (own first first' second all : List plain.Instance) (f : CopyFault)
+    → all ≡ own ++ (first ++ second)
+    → first' ≡ first
+    → Gains old mid own
+    → IsTooMany mid first' f
+    → IsTooMany old all f
+too_many_in_first old mid own first first' second all f e g h k =
+    too_many_then old mid own (first ++ second) (first ++ second) all f e refl h
+    (IsTooMany-append mid first second f (subst (λ l. IsTooMany mid l f) g k))
 
 -- the resumed instance comes before the started ones
 pub instances_in_order : (a : Liveness) (n : ℕ) → resumed_instances n a.resumed ++ starts n a.roots ≡ instances_at a n

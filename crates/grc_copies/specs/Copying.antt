@@ -1,7 +1,8 @@
 -- Inner: what the walk over a body appends, and when it stops.
 use Rattle.std.specs.Prelude.{◌≡◌, ℕ, ◌+◌, ◌<◌, ◌≤◌, Bool, if◌then◌else◌, List, [], ◌∷◌, ◌++◌, length, map, drop, ⊤}
 use Rattle.est_base.specs.declared.bounds.TheConstants.Limits.{INSTANCES}
-use Rattle.grc_graph.specs.Layers.{Resumed, Started, Liveness}
+use Rattle.est_kernel.specs.Terms.{Term}
+use Rattle.grc_graph.specs.Layers.{Resumed, Started, Liveness, part_liveness}
 use Rattle.grc_graph.specs.Instances as plain
 use Rattle.grc_graph.specs.PlainInstances.{instance_of}
 use Rattle.grc_graph.specs.declared.instances.Instance.{Instance}
@@ -12,6 +13,10 @@ use Rattle.grc_copies.specs.declared.refusal.CopyFault.TheVariants.{TooManyInsta
 -- in which layers the statement at a position is live, with these roots
 abbrev pub liveness_of : Position → List ℕ → Liveness
 liveness_of at roots = record { resumed = at.resumed; roots = drop at.base roots }
+
+-- the instances of a part with this number, and of all in it, where it is live as its whole is
+abbrev pub part_instances : Liveness → Term → ℕ → List plain.Instance
+part_instances a p n = plain.instances (part_liveness a p) p n
 
 -- the started instances of a statement
 abbrev pub starts : ℕ → List ℕ → List plain.Instance

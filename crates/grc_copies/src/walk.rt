@@ -10,7 +10,7 @@ ghost use Rattle.est_kernel.specs.WellFormed.{KeepsLimits};
 ghost use Rattle.grc_graph.specs.CodeTables.{CodesFrom, set_at};
 ghost use Rattle.grc_graph.specs.Instances.{instances, body_instances};
 ghost use Rattle.grc_graph.specs.PlainInstances.{instance_of};
-ghost use Rattle.grc_copies.specs.Copying.{liveness_of, Gains, IsTooMany};
+ghost use Rattle.grc_copies.specs.Copying.{liveness_of, part_instances, Gains, IsTooMany};
 ghost use Rattle.grc_copies.specs.Faults.{FaultHasCause};
 
 use crate::lists::{Lists, Position, copy_instances, push_root, second_base};
@@ -44,6 +44,7 @@ pub fn copies(alloc: Global, body: &Kernel, codes: &Codes) -> Result<Instances, 
 
 // Appends the instances of the statement and of all in it, and answers the number behind them. The
 // roots are as before where it succeeds.
+#[cycle(copy_part)]
 fn copy_part(
     body: &Kernel,
     at: Position,
@@ -62,19 +63,16 @@ fn copy_part(
 {
     copy_instances(lists, at)?;
     match body {
-        Kernel::Nothing => Ok(at.path + 1),
-        Kernel::Pause => Ok(at.path + 1),
-        Kernel::Emit(_) => Ok(at.path + 1),
-        Kernel::Exit(_) => Ok(at.path + 1),
-        Kernel::Present(_, yes, no) => {
-            let next = copy_part(yes, part_position(at, at.path + 1, codes), codes, lists)?;
-            Ok(copy_part(no, part_position(at, next, codes), codes, lists)?)
+        Kernel::Nothing | Kernel::Pause | Kernel::Emit(_) | Kernel::Exit(_) => Ok(at.path + 1),
+        Kernel::Present(_, first, second) | Kernel::Par(first, second) => {
+            let next = copy_within(first, at, at.path + 1, codes, lists)?;
+            copy_within(second, at, next, codes, lists)
         }
-        Kernel::Suspend(_, part) => {
-            Ok(copy_part(part, part_position(at, at.path + 1, codes), codes, lists)?)
+        Kernel::Suspend(_, part) | Kernel::Trap(part) | Kernel::Local(_, part) => {
+            copy_within(part, at, at.path + 1, codes, lists)
         }
         Kernel::Seq(first, second) => {
-            let next = copy_part(first, part_position(at, at.path + 1, codes), codes, lists)?;
+            let next = copy_within(first, at, at.path + 1, codes, lists)?;
             let kept = lists.roots.len();
             let position = second_position(at, next, kept, codes);
             push_root(&mut lists.roots, restarts(at, at.path + 1, codes), next)?;
@@ -86,21 +84,34 @@ fn copy_part(
             let kept = lists.roots.len();
             let next = at.path + 1;
             push_root(&mut lists.roots, restarts(at, next, codes), next)?;
-            let after = copy_part(part, part_position(at, next, codes), codes, lists)?;
+            let after = copy_within(part, at, next, codes, lists)?;
             lists.roots.truncate(kept);
             Ok(after)
         }
-        Kernel::Par(left, right) => {
-            let next = copy_part(left, part_position(at, at.path + 1, codes), codes, lists)?;
-            Ok(copy_part(right, part_position(at, next, codes), codes, lists)?)
-        }
-        Kernel::Trap(part) => {
-            Ok(copy_part(part, part_position(at, at.path + 1, codes), codes, lists)?)
-        }
-        Kernel::Local(_, part) => {
-            Ok(copy_part(part, part_position(at, at.path + 1, codes), codes, lists)?)
-        }
     }
+}
+
+// The same for a part that is live where its whole is.
+#[cycle(copy_part)]
+fn copy_within(
+    part: &Kernel,
+    whole: Position,
+    path: u32,
+    codes: &Codes,
+    lists: &mut Lists,
+) -> Result<u32, CopyFault>
+    requires codes { CodesFrom codes.now (term_of part.now) path }
+    requires fits { path + statement_count (term_of part.now) < 2 ^ 32 }
+    requires base { whole.base ≤ length lists.old.roots.items }
+    ensures after { IfOk result (λ after. after ≡ path + statement_count (term_of part.now)) }
+    ensures roots { IfOk result (λ after. lists.new.roots.items ≡ lists.old.roots.items) }
+    ensures live { IfOk result (λ after. Gains lists.old.live.items lists.new.live.items
+        (part_instances (liveness_of whole lists.old.roots.items) (term_of part.now) path)) }
+    ensures many { IfErr result (IsTooMany lists.old.live.items
+        (part_instances (liveness_of whole lists.old.roots.items) (term_of part.now) path)) }
+{
+    let at = part_position(whole, path, codes);
+    copy_part(part, at, codes, lists)
 }
 
 // Whether the statement is live resumed and its part with this number can terminate when resumed.
