@@ -38,7 +38,7 @@ pub fn analyse(alloc: Global, text: &[u8], main: Option<&[u8]>) -> Result<Analys
     let program = kernel_program(alloc, text, main)?;
     match codes(alloc, &program.body) {
         Ok(codes) => Ok(Analysed { program, codes }),
-        Err(fault) => Err(looping(fault)),
+        Err(fault) => Err(loop_refusal(fault)),
     }
 }
 
@@ -55,7 +55,7 @@ pub fn front(alloc: Global, text: &[u8], main: Option<&[u8]>) -> Result<KernelPr
 }
 
 // The refusal of a source whose kernel program has no static codes.
-fn looping(fault: CodeFault) -> Refusal
+fn loop_refusal(fault: CodeFault) -> Refusal
     ensures { (text : List ℕ) (main : Option (List ℕ)) (p : PlainProgram)
         → Expands text main p → FaultHasCause (instant_loops p.body) fault → IsRefused text main result }
 {

@@ -41,7 +41,7 @@ pub fn kernel_program(
     let flat = flat_program(alloc, text, main)?;
     match dismantle(alloc, &flat) {
         Ok(program) => Ok(program),
-        Err(fault) => Err(unexpanded(fault)),
+        Err(fault) => Err(expansion_refusal(fault)),
     }
 }
 
@@ -68,16 +68,16 @@ fn flat_tree(alloc: Global, tree: &Program, main: Option<&[u8]>) -> Result<Flat,
 {
     let table = match check_modules(alloc, tree, main) {
         Ok(table) => table,
-        Err(fault) => return Err(misnamed(fault)),
+        Err(fault) => return Err(name_refusal(fault)),
     };
-    match expanded(alloc, tree, &table) {
+    match flat_form(alloc, tree, &table) {
         Ok(flat) => Ok(flat),
-        Err(fault) => Err(unflattened(fault)),
+        Err(fault) => Err(flattening_refusal(fault)),
     }
 }
 
 // The flat program of a tree with its table of modules.
-fn expanded<'a, 't>(
+fn flat_form<'a, 't>(
     alloc: Global,
     tree: &'a Program,
     table: &'t Table<'a>,
@@ -90,7 +90,7 @@ fn expanded<'a, 't>(
 }
 
 // The refusal of a source for its names.
-fn misnamed(fault: NameFault) -> Refusal
+fn name_refusal(fault: NameFault) -> Refusal
     ensures { (text : List ℕ) (main : Option (List ℕ)) (tree : PlainProgram)
         → ReadsAs text tree → IsFirst (name_faults main tree) fault → IsRefused text main result }
 {
@@ -108,7 +108,7 @@ fn misnamed(fault: NameFault) -> Refusal
 }
 
 // The refusal of a source that has no flat form.
-fn unflattened(fault: ExpandFault) -> Refusal
+fn flattening_refusal(fault: ExpandFault) -> Refusal
     ensures { (text : List ℕ) (main : Option (List ℕ))
         → ((plain : flattening.Fault) → fault_of fault ≡ Some plain → Unflattened text main plain)
         → IsRefused text main result }
@@ -123,7 +123,7 @@ fn unflattened(fault: ExpandFault) -> Refusal
 }
 
 // The refusal of a flat program that has no kernel program.
-fn unexpanded(fault: DismantleFault) -> Refusal
+fn expansion_refusal(fault: DismantleFault) -> Refusal
     ensures { (text : List ℕ) (main : Option (List ℕ)) (flat : PlainFlat)
         → Flattens text main flat → FaultHasCause (expansion flat) fault → IsRefused text main result }
 {

@@ -23,16 +23,16 @@ pub fn read_source(alloc: Global, text: &[u8]) -> Result<Program, Refusal>
 {
     let tokens = match lex(alloc, text) {
         Ok(tokens) => tokens,
-        Err(fault) => return Err(lexical(fault)),
+        Err(fault) => return Err(token_refusal(fault)),
     };
     match parse(alloc, &tokens) {
         Ok(tree) => Ok(tree),
-        Err(fault) => Err(grammatical(text, &tokens, fault)),
+        Err(fault) => Err(grammar_refusal(text, &tokens, fault)),
     }
 }
 
 // The refusal of a text that has no tokens.
-fn lexical(fault: LexError) -> Refusal
+fn token_refusal(fault: LexError) -> Refusal
     ensures { (text : List ℕ) (main : Option (List ℕ)) → LexesAsFault text fault → IsRefused text main result }
 {
     match fault {
@@ -44,7 +44,7 @@ fn lexical(fault: LexError) -> Refusal
 }
 
 // The refusal of tokens that are no program of the nesting that is read.
-fn grammatical(text: &[u8], tokens: &[Token], fault: ParseError) -> Refusal
+fn grammar_refusal(text: &[u8], tokens: &[Token], fault: ParseError) -> Refusal
     requires short { length text.now ≤ Limits.SOURCE_BYTES }
     requires tokens { LexesAs text.now (Tokens tokens.now) }
     requires first { IsFirstFault Limits.NESTING tokens.now fault }

@@ -4,14 +4,13 @@ ghost use Rattle.std.specs.Prelude.{◌≡◌, ◌++◌, ◌&&◌, ℕ, List, []
 ghost use Rattle.std.specs.HashSet.{contains_by};
 ghost use Rattle.est_base.specs.Names.{is_same_name};
 ghost use Rattle.net_ir.specs.NameLists.{is_among, first_again};
-ghost use Rattle.csub_text.specs.Names.{Taken, declared, names_in, uses, unset, used_name};
+ghost use Rattle.csub_text.specs.Names.{Taken, names_in, uses, unset, used_name};
 ghost use Rattle.csub_text.specs.Names.{name_fault};
 ghost use Rattle.csub_text.specs.Views.{expr_of, program_of};
 ghost use Rattle.csub_read.specs.NameTests.{names_at, use_of, wrong_use, NamesFault, AgainFault, UseFault, UnsetFault};
 
 use crate::refusal::CError;
-use crate::signs::begins_input;
-use csub_text::{CProgram, Expr};
+use csub_text::{CProgram, Expr, begins_input, declared_names};
 use est_base::{NoMemory, Text};
 use std::alloc::Global;
 use std::collections::HashSet;
@@ -32,23 +31,6 @@ pub fn check_names(alloc: Global, program: &CProgram) -> Result<(), CError>
     let known = name_set(alloc, &declared)?;
     check_uses(alloc, &known, &uses(alloc, program)?)?;
     check_reads(alloc, program)
-}
-
-// The names that a program declares, in the order of the text.
-pub fn declared_names<'a>(alloc: Global, program: &'a CProgram) -> Result<Vec<&'a [u8]>, NoMemory>
-    ensures { IfOk result (λ v. map (λ w. w.now) v.items ≡ declared (program_of program.now)) }
-{
-    let mut names = Vec::new(alloc);
-    for state in &program.states {
-        names.push(state.name.bytes())?;
-    }
-    for name in &program.globals {
-        names.push(name.bytes())?;
-    }
-    for name in &program.locals {
-        names.push(name.bytes())?;
-    }
-    Ok(names)
 }
 
 // The set of some names, where none stands twice.

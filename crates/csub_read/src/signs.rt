@@ -1,14 +1,14 @@
 // The steps of the reader on single tokens.
 
-ghost use Rattle.std.specs.Prelude.{◌≡◌, [], Some, None, false, take, map, MatchOption, MatchResult};
-ghost use Rattle.csub_text.specs.Grammar.{is, name, own_name, global_name, bit, begins_input, begins_output};
-ghost use Rattle.csub_text.specs.Grammar.{begins_global};
+ghost use Rattle.std.specs.Prelude.{◌≡◌, [], Some, None, false, map, MatchOption, MatchResult};
+ghost use Rattle.csub_text.specs.Grammar.{is, name, own_name, global_name, bit, begins_global};
 ghost use Rattle.csub_read.specs.Reading.{factor, factor_of, FindsKinds};
 ghost use Rattle.csub_read.specs.Tokens.{kind_of, kind_in};
 ghost use Rattle.read_rules.specs.Readings.{picked, the, fault_at};
 ghost use Rattle.read_rules.specs.declared.faults.ReadError.TheVariants as errors;
 
 use crate::tokens::{Kind, Token, kind_number};
+use csub_text::{begins_input, begins_output};
 use est_base::Text;
 use read_rules::{ReadError, first, refused};
 use std::alloc::Global;
@@ -160,31 +160,11 @@ fn past_global_name<'a>(tokens: &'a [Token<'a>]) -> Option<(&'a [u8], &'a [Token
     }
 }
 
-// Whether a name begins with `I_`.
-pub fn begins_input(name: &[u8]) -> bool
-    ensures { result ≡ begins_input name.now }
-{
-    front_two(name) == b"I_".as_slice()
-}
-
-// Whether a name begins with `O_`.
-pub fn begins_output(name: &[u8]) -> bool
-    ensures { result ≡ begins_output name.now }
-{
-    front_two(name) == b"O_".as_slice()
-}
-
+// Whether a name begins as those of inputs or of outputs do.
 fn begins_global(name: &[u8]) -> bool
     ensures { result ≡ begins_global name.now }
 {
     begins_input(name) || begins_output(name)
-}
-
-// The first two bytes.
-fn front_two(name: &[u8]) -> &[u8]
-    ensures { result.now ≡ take 2 name.now }
-{
-    if name.len() < 2 { name } else { &name[..2] }
 }
 
 // A name, in memory of its own.

@@ -6,10 +6,8 @@
 
 mod gates;
 mod laws;
-mod names;
 mod plan;
 mod runner;
-mod signs;
 mod slots;
 mod steps;
 

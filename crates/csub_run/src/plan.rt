@@ -7,11 +7,9 @@ ghost use Rattle.csub_text.specs.Views.{program_of};
 ghost use Rattle.csub_run.specs.Runners.{KeepsNames, slot_in};
 ghost use Rattle.csub_run.specs.Steps.{IsPlan, first_values};
 
-use crate::names::declared_names;
-use crate::signs::{begins_input, begins_output};
 use crate::slots::{SlotExpr, resolved, slot_of};
 use crate::steps::{Step, steps_of};
-use csub_text::CProgram;
+use csub_text::{CProgram, begins_input, begins_output, declared_names};
 use est_base::{NoMemory, Text};
 use indexmap::IndexSet;
 use std::alloc::Global;

@@ -5,11 +5,13 @@
 //! none, and what the machine of a program does over calls and resets.
 #![tactic(auto)]
 
+mod names;
 mod parts;
 mod pieces;
 mod trees;
 mod writer;
 
+pub use names::{begins_input, begins_output, declared_names, front_two};
 pub use pieces::CPieces;
 pub use trees::{Assign, CProgram, Expr, State};
 pub use writer::write_c;

@@ -5,7 +5,7 @@ ghost use Rattle.est_base.specs.Names.{is_same_name};
 ghost use Rattle.csub_text.specs.Views.{program_of};
 ghost use Rattle.trace_run_c.specs.CAnswers.{bare_name, bare_inputs, bare_outputs};
 
-use csub_text::CProgram;
+use csub_text::{CProgram, front_two};
 use est_base::{NoMemory, Text};
 use std::alloc::Global;
 use trace_run::Interface;
@@ -30,18 +30,11 @@ fn bare_names(alloc: Global, names: &[Text], sign: &[u8]) -> Result<Vec<Text>, N
 {
     let mut bare = Vec::new(alloc);
     for name in names {
-        if sign_of(name.bytes()) == sign {
+        if front_two(name.bytes()) == sign {
             bare.push(Text::from_bytes(alloc, bare_name(name.bytes()))?)?;
         }
     }
     Ok(bare)
-}
-
-// The first two bytes of a name.
-fn sign_of(name: &[u8]) -> &[u8]
-    ensures { result.now ≡ take 2 name.now }
-{
-    if name.len() < 2 { name } else { &name[..2] }
 }
 
 // The bytes of a name behind the first two.

@@ -3,10 +3,10 @@ use Rattle.cec_front.proofs.MainModules.{main_there}
 use Rattle.cec_front.proofs.programs.flat_tree.Goals as goal
 
 pub returns-in-Err-clause-refusal : goal.returns-in-Err-clause-refusal
-returns-in-Err-clause-refusal c = λ text reads. c.misnamed.ensures text _ (program_of c.args.tree.now) reads c.in-Err.ensures.fault
+returns-in-Err-clause-refusal c = λ text reads. c.name_refusal.ensures text _ (program_of c.args.tree.now) reads c.in-Err.ensures.fault
 
-pub returns-in-Ok-expanded-clause-flat : goal.returns-in-Ok-expanded-clause-flat
-returns-in-Ok-expanded-clause-flat c = λ text reads.
+pub returns-in-Ok-flat_form-clause-flat : goal.returns-in-Ok-flat_form-clause-flat
+returns-in-Ok-flat_form-clause-flat c = λ text reads.
     let table = c.in-Ok.ensures.table in
     let there = main_there _ (program_of c.args.tree.now) c.in-Ok.table.main table.main_place in
     record {
@@ -14,17 +14,17 @@ returns-in-Ok-expanded-clause-flat c = λ text reads.
       declares = record { reads = reads; names = table.faultless };
       main_one = there.0;
       is_main = there.2;
-      flat_form = c.in-Ok-expanded.ensures there.0 there.1;
+      flat_form = c.in-Ok-flat_form.ensures there.0 there.1;
     }
 
 pub returns-clause-refusal : goal.returns-clause-refusal
 returns-clause-refusal c = λ text reads.
     let table = c.in-Ok.ensures.table in
     let there = main_there _ (program_of c.args.tree.now) c.in-Ok.table.main table.main_place in
-    c.unflattened.ensures text _ (λ plain is. record {
+    c.flattening_refusal.ensures text _ (λ plain is. record {
       tree = program_of c.args.tree.now;
       declares = record { reads = reads; names = table.faultless };
       main_one = there.0;
       is_main = there.2;
-      ends = c.in-Err-expanded.ensures there.0 there.1 plain is;
+      ends = c.in-Err-flat_form.ensures there.0 there.1 plain is;
     })

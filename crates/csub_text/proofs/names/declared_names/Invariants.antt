@@ -1,6 +1,6 @@
 use Rattle.std.proofs.Common.{◌≡◌, ◌++◌, map, take}
 use Rattle.csub_text.specs.Views.{state_of}
-use Rattle.csub_read.proofs.names.declared_names.Given as goal
+use Rattle.csub_text.proofs.names.declared_names.Given as goal
 
 abbrev pub invariant-loop-state : goal.invariant-loop-state
 invariant-loop-state l = map (λ w. w.now) l.names.items ≡ map (λ s. s.name) (map state_of (take l.state-index l.program.states.items))

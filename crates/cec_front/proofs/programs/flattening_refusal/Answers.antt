@@ -1,5 +1,5 @@
 use Rattle.cec_front.proofs.FlatFaults.{static_fault}
-use Rattle.cec_front.proofs.programs.unflattened.Goals as goal
+use Rattle.cec_front.proofs.programs.flattening_refusal.Goals as goal
 
 pub returns-in_default : goal.returns-in_default
 returns-in_default c = λ text main ends.

@@ -1,7 +1,7 @@
 use Rattle.std.proofs.Common.{subst}
 use Rattle.est_base.specs.declared.bounds.TheConstants.Limits.{NESTING}
 use Rattle.est_parse.specs.Faults.{IsFirstFault}
-use Rattle.cec_front.proofs.sources.grammatical.Goals as goal
+use Rattle.cec_front.proofs.sources.grammar_refusal.Goals as goal
 
 pub returns-in-Syntax : goal.returns-in-Syntax
 returns-in-Syntax c = λ main. (

@@ -1,0 +1,48 @@
+// The names that a program declares, and how those of inputs and outputs begin.
+
+ghost use Rattle.std.specs.Prelude.{◌≡◌, map, take, IfOk};
+ghost use Rattle.csub_text.specs.Grammar.{begins_input, begins_output};
+ghost use Rattle.csub_text.specs.Names.{declared};
+ghost use Rattle.csub_text.specs.Views.{program_of};
+
+use crate::trees::CProgram;
+use est_base::NoMemory;
+use std::alloc::Global;
+
+/// The names that a program declares, in the order of the text. Its only error is want of memory.
+pub fn declared_names<'a>(alloc: Global, program: &'a CProgram) -> Result<Vec<&'a [u8]>, NoMemory>
+    ensures { IfOk result (λ v. map (λ w. w.now) v.items ≡ declared (program_of program.now)) }
+{
+    let mut names = Vec::new(alloc);
+    for state in &program.states {
+        names.push(state.name.bytes())?;
+    }
+    for name in &program.globals {
+        names.push(name.bytes())?;
+    }
+    for name in &program.locals {
+        names.push(name.bytes())?;
+    }
+    Ok(names)
+}
+
+/// Whether a name begins with `I_`, as those of inputs do.
+pub fn begins_input(name: &[u8]) -> bool
+    ensures { result ≡ begins_input name.now }
+{
+    front_two(name) == b"I_".as_slice()
+}
+
+/// Whether a name begins with `O_`, as those of outputs do.
+pub fn begins_output(name: &[u8]) -> bool
+    ensures { result ≡ begins_output name.now }
+{
+    front_two(name) == b"O_".as_slice()
+}
+
+/// The first two bytes of a name, or all of them where there are fewer.
+pub fn front_two(name: &[u8]) -> &[u8]
+    ensures { result.now ≡ take 2 name.now }
+{
+    if name.len() < 2 { name } else { &name[..2] }
+}
