@@ -1,4 +1,6 @@
 pub mod Truths
+pub mod GateValues
+pub mod StepLists
 pub mod Settling
 pub mod Places
 pub mod TableEdges

@@ -1,10 +1,9 @@
 -- Inner: the fields of a runner.
-use Rattle.std.specs.Prelude.{◌≡◌, length, map}
+use Rattle.std.specs.Prelude.{◌≡◌, length}
 use Rattle.blif_text.specs.Plain.{plain_circuit}
 use Rattle.blif_run.specs.declared.runner.NetRunner.TheInside.{Inside}
-use Rattle.blif_run.specs.Steps.{plain_step}
 use Rattle.blif_run.specs.Slots.{slot_count}
-use Rattle.blif_run.specs.Plans.{IsPlan}
+use Rattle.blif_run.specs.Plans.{CarriesPlan}
 use Rattle.blif_run.specs.Runners.{Runner}
 
 abbrev pub runner_of : Inside → Runner
@@ -16,8 +15,7 @@ runner_of r = record {
 
 -- the plan is one of the circuit, and each latch, slot and output has a value
 pub record KeepsPlan (r : Inside) : Type 0 where
-  pub plan : IsPlan (plain_circuit r.blif.now) (map plain_step r.plan.steps.items) r.plan.sources.items
-      r.plan.shown.items
+  pub plan : CarriesPlan (plain_circuit r.blif.now) r.plan.steps r.plan.sources.items r.plan.shown.items
   pub each_latch : length r.latches.items ≡ length r.blif.now.latches.items
   pub each_slot : length r.values.items ≡ slot_count (plain_circuit r.blif.now)
   pub each_output : length r.outputs.items ≡ length r.blif.now.outputs.items

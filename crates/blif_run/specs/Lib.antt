@@ -2,6 +2,7 @@ pub mod Loops
 pub mod Runners
 pub mod Steps
 pub mod Slots
+pub mod Gates
 pub mod Edges
 pub mod Plans
 pub mod Insides

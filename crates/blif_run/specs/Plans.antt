@@ -3,6 +3,8 @@ use Rattle.std.specs.Prelude.{◌≡◌, ℕ, ◌<◌, Bool, List, ◌++◌, len
 use Rattle.blif_text.specs.Circuits.{Circuit}
 use Rattle.blif_text.specs.Runs.{IsInstant, driven_names, table_value}
 use Rattle.blif_run.specs.Steps.{PlainStep, StepFits, settled}
+use Rattle.blif_run.specs.declared.steps.Steps.{Steps}
+use Rattle.blif_run.specs.Gates.{AreSteps}
 use Rattle.blif_run.specs.Slots.{slot_of, slot_count, first_slot, valuation_of}
 
 -- the values before the steps: the inputs, the latches, and others
@@ -30,3 +32,9 @@ pub record IsPlan (circuit : Circuit) (steps : List PlainStep) (sources shown : 
   pub only : (latches inputs values : List Bool) → Starts circuit latches inputs values
       → (v : List ℕ → Bool) → IsInstant circuit latches inputs v
       → map v (driven_names circuit) ≡ map (valuation_of circuit (settled steps values)) (driven_names circuit)
+
+-- the steps of the code are those of a plan
+pub record CarriesPlan (circuit : Circuit) (code : Steps) (sources shown : List ℕ) : Type 0 where
+  pub steps : List PlainStep
+  pub plan : IsPlan circuit steps sources shown
+  pub are : AreSteps steps code

@@ -6,6 +6,7 @@
 //! and a run of a circuit are stands in `blif_text`, after Berkeley's BLIF.
 #![tactic(auto)]
 
+mod gates;
 mod graph;
 mod laws;
 mod plan;
@@ -13,6 +14,7 @@ mod refusal;
 mod runner;
 mod slots;
 mod step;
+mod steps;
 
 pub use laws::answers_are_runs;
 pub use refusal::RunError;

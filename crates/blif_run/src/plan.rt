@@ -1,17 +1,16 @@
 // The plan of a circuit's reactions: its tables as steps in order, and which slots the latches and outputs take.
 
-ghost use Rattle.std.specs.Prelude.{◌≡◌, ◌+◌, ◌<◌, ◌≤◌, ◌^◌, map, length, All, IfOk, IfErr, OnOk, slice_index_or};
-ghost use Rattle.blif_text.specs.Plain.{plain_table, plain_latch, plain_circuit};
-ghost use Rattle.blif_run.specs.Steps.{plain_step};
-ghost use Rattle.blif_run.specs.Slots.{slots_in, slot_count, step_of, step_at, IsResolved};
-ghost use Rattle.blif_run.specs.Loops.{IsDescribed, IsLoop, LoopFault, HasNoLoop};
-ghost use Rattle.blif_run.specs.Plans.{IsPlan};
+ghost use Rattle.std.specs.Prelude.{◌≡◌, map, IfOk, IfErr, OnOk};
+ghost use Rattle.blif_text.specs.Plain.{plain_latch, plain_circuit};
+ghost use Rattle.blif_run.specs.Slots.{slots_in, slot_count, IsResolved};
+ghost use Rattle.blif_run.specs.Loops.{IsDescribed, LoopFault, HasNoLoop};
+ghost use Rattle.blif_run.specs.Plans.{CarriesPlan};
 
 use crate::graph::evaluation_order;
 use crate::refusal::RunError;
 use crate::slots::{driven_names, slot_of, slot_table, slots_of, slots_read};
-use crate::step::{Step, truth_table};
-use blif_text::{Blif, BlifLatch, Table};
+use crate::steps::{Steps, steps_of};
+use blif_text::{Blif, BlifLatch};
 use est_base::NoMemory;
 use indexmap::IndexSet;
 use std::alloc::Global;
@@ -19,7 +18,7 @@ use std::alloc::Global;
 #[derive(Debug, Drop)]
 pub struct Plan {
     // The tables, each one behind those that it reads.
-    pub steps: Vec<Step>,
+    pub steps: Steps,
     // For each latch the slot whose value it gets.
     pub sources: Vec<usize>,
     // For each output its slot.
@@ -32,7 +31,7 @@ pub struct Plan {
 pub fn circuit_plan(alloc: Global, blif: &Blif) -> Result<Plan, RunError>
     requires { IsDescribed (plain_circuit blif.now) }
     ensures plan { IfOk result
-        (λ p. IsPlan (plain_circuit blif.now) (map plain_step p.steps.items) p.sources.items p.shown.items) }
+        (λ p. CarriesPlan (plain_circuit blif.now) p.steps p.sources.items p.shown.items) }
     ensures count { IfOk result (λ p. p.count ≡ slot_count (plain_circuit blif.now)) }
     ensures acyclic { OnOk result (HasNoLoop (plain_circuit blif.now)) }
     ensures cyclic { IfErr result (LoopFault (plain_circuit blif.now)) }
@@ -40,7 +39,7 @@ pub fn circuit_plan(alloc: Global, blif: &Blif) -> Result<Plan, RunError>
     let resolved = resolved_names(alloc, blif)?;
     let order = evaluation_order(alloc, &blif.tables, resolved.first, &resolved.reads)?;
     Ok(Plan {
-        steps: steps(alloc, &blif.tables, resolved.first, &resolved.reads, &order)?,
+        steps: steps_of(alloc, &blif.tables, resolved.first, &resolved.reads, &order)?,
         sources: source_slots(alloc, &resolved.slots, &blif.latches)?,
         shown: slots_of(alloc, &resolved.slots, &blif.outputs)?,
         count: resolved.slots.len(),
@@ -70,41 +69,6 @@ fn resolved_names<'a>(alloc: Global, blif: &'a Blif) -> Result<Resolved<'a>, NoM
         slots,
         first: names.len() - blif.tables.len(),
         reads,
-    })
-}
-
-// The steps of tables in this order.
-fn steps(
-    alloc: Global,
-    tables: &[Table],
-    first: usize,
-    reads: &[Vec<usize>],
-    order: &[usize],
-) -> Result<Vec<Step>, NoMemory>
-    requires few { All (λ t. length t.inputs ≤ 8) (map plain_table tables.now) }
-    requires fits { first + length tables.now < 2 ^ 64 }
-    requires each_table { length reads.now ≡ length tables.now }
-    requires nodes { All (λ t. t < length tables.now) order.now }
-    ensures { IfOk result
-        (λ v. map plain_step v.items
-        ≡ map (step_at (map plain_table tables.now) first (map (λ r. r.items) reads.now)) order.now) }
-{
-    let mut steps = Vec::with_capacity(alloc, order.len())?;
-    for table in order {
-        steps.push(step(alloc, &tables[*table], first + *table, &reads[*table])?)?;
-    }
-    Ok(steps)
-}
-
-// The step of a table whose output and inputs have these slots.
-fn step(alloc: Global, table: &Table, output: usize, reads: &[usize]) -> Result<Step, NoMemory>
-    requires { length table.now.inputs.items ≤ 8 }
-    ensures { IfOk result (λ s. plain_step s ≡ step_of (plain_table table.now) output reads.now) }
-{
-    Ok(Step {
-        output,
-        reads: Vec::from_slice(alloc, reads)?,
-        truth: truth_table(alloc, table.inputs.len(), &table.rows)?,
     })
 }
 

@@ -9,7 +9,7 @@ ghost use Rattle.blif_run.specs.Steps.{value_at};
 
 use crate::plan::{Plan, circuit_plan};
 use crate::refusal::RunError;
-use crate::step::settle;
+use crate::steps::settle;
 use blif_text::{Blif, BlifLatch};
 use est_base::NoMemory;
 use std::alloc::Global;

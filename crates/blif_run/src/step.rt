@@ -1,9 +1,9 @@
-// Steps: each one computes the value of a slot from the values of others, by a truth table.
+// Steps of any width: each one computes the value of a slot from the values of others, by a truth table.
 
-ghost use Rattle.std.specs.Prelude.{◌≡◌, ◌≤◌, length, map, All, IfOk};
+ghost use Rattle.std.specs.Prelude.{◌≡◌, ◌≤◌, length, map, IfOk};
 ghost use Rattle.blif_text.specs.Plain.{plain_row};
 ghost use Rattle.blif_text.specs.Runs.{cell_fits, row_fits};
-ghost use Rattle.blif_run.specs.Steps.{plain_step, digits, truth_at, truth_of, step_value, settled, StepFits};
+ghost use Rattle.blif_run.specs.Steps.{plain_step, digits, truth_at, truth_of, step_value, StepFits};
 
 use blif_text::{Cell, Row};
 use est_base::NoMemory;
@@ -32,7 +32,7 @@ pub fn truth_table(alloc: Global, width: usize, rows: &[Row]) -> Result<Vec<bool
 }
 
 // Whether some row fits the inputs that are the digits of this place.
-fn some_row_fits(rows: &[Row], width: usize, place: usize) -> bool
+pub fn some_row_fits(rows: &[Row], width: usize, place: usize) -> bool
     ensures { result ≡ truth_at width (map plain_row rows.now) place }
 {
     for row in rows {
@@ -69,19 +69,8 @@ fn cell_fits(cell: Cell, value: bool) -> bool
     }
 }
 
-// Makes the steps one after another.
-pub fn settle(steps: &[Step], values: &mut [bool])
-    requires { All (λ s. StepFits (length values.old) (plain_step s)) steps.now }
-    ensures { values.new ≡ settled (map plain_step steps.now) values.old }
-{
-    for step in steps {
-        let value = step_value(step, values);
-        values[step.output] = value;
-    }
-}
-
 // The value that a step gives to its output.
-fn step_value(step: &Step, values: &[bool]) -> bool
+pub fn step_value(step: &Step, values: &[bool]) -> bool
     requires { StepFits (length values.now) (plain_step step.now) }
     ensures { result ≡ step_value (plain_step step.now) values.now }
 {
