@@ -21,30 +21,30 @@ use std::alloc::Global;
 /// The formula of what lets an instance run.
 pub(crate) fn entry(
     alloc: Global,
-    t: &Tables<'_>,
+    tables: &Tables<'_>,
     path: u32,
     layer: Layer,
 ) -> Result<Formula, NoMemory>
-    requires tables { AreTables t.now }
-    requires live { IsLive t.now path (layer_of layer) }
-    ensures { IfOk result (λ f. MeansIn t.now f
-        (entry_formula (row_in t.now path).scope (row_in t.now path).entry path (layer_of layer))) }
+    requires tables { AreTables tables.now }
+    requires live { IsLive tables.now path (layer_of layer) }
+    ensures { IfOk result (λ f. MeansIn tables.now f
+        (entry_formula (row_in tables.now path).scope (row_in tables.now path).entry path (layer_of layer))) }
 {
-    match t.statements[path as usize].control {
+    match tables.statements[path as usize].control {
         Entry::Body => Ok(body_entry(layer)),
-        Entry::Part(n) => Ok(wire(t.wires.find_go(n, layer))),
-        Entry::Branch(n) => branch_entry(alloc, t, n, path, layer),
-        Entry::Then(n, test) => tested_entry(alloc, t, n, path, test, false, layer),
-        Entry::Else(n, test) => tested_entry(alloc, t, n, path, test, true, layer),
-        Entry::Suspended(n, test) => suspended_entry(alloc, t, n, test, layer),
-        Entry::Second(n) => second_entry(alloc, t, n, path, layer),
-        Entry::Looped(n) => Ok(loop_entry(t, n, layer)),
+        Entry::Part(whole) => Ok(wire(tables.wires.find_go(whole, layer))),
+        Entry::Branch(whole) => branch_entry(alloc, tables, whole, path, layer),
+        Entry::Then(whole, test) => tested_entry(alloc, tables, whole, path, test, false, layer),
+        Entry::Else(whole, test) => tested_entry(alloc, tables, whole, path, test, true, layer),
+        Entry::Suspended(whole, test) => suspended_entry(alloc, tables, whole, test, layer),
+        Entry::Second(whole) => second_entry(alloc, tables, whole, path, layer),
+        Entry::Looped(whole) => Ok(loop_entry(tables, whole, layer)),
     }
 }
 
 // The body of a program.
 fn body_entry(layer: Layer) -> Formula
-    ensures { (t : tables_record) → MeansIn t result (body_entry (layer_of layer)) }
+    ensures { (tables : tables_record) → MeansIn tables result (body_entry (layer_of layer)) }
 {
     match layer {
         Layer::Resumed => Formula::Selected(PathId(0)),
@@ -55,15 +55,15 @@ fn body_entry(layer: Layer) -> Formula
 // A part that is resumed only where it holds a selected pause.
 fn branch_entry(
     alloc: Global,
-    t: &Tables<'_>,
-    n: u32,
+    tables: &Tables<'_>,
+    whole: u32,
     path: u32,
     layer: Layer,
 ) -> Result<Formula, NoMemory>
-    requires { IsThere t.now (Go n (layer_of layer)) }
-    ensures { IfOk result (λ f. MeansIn t.now f (branch_entry n path (layer_of layer))) }
+    requires { IsThere tables.now (Go whole (layer_of layer)) }
+    ensures { IfOk result (λ f. MeansIn tables.now f (branch_entry whole path (layer_of layer))) }
 {
-    let go = wire(t.wires.find_go(n, layer));
+    let go = wire(tables.wires.find_go(whole, layer));
     match layer {
         Layer::Resumed => both(alloc, go, Formula::Selected(PathId(path))),
         Layer::Started(_) => Ok(go),
@@ -73,22 +73,22 @@ fn branch_entry(
 // A branch of a test, or of its negation.
 fn tested_entry(
     alloc: Global,
-    t: &Tables<'_>,
-    n: u32,
+    tables: &Tables<'_>,
+    whole: u32,
     path: u32,
     test: &Test,
     negates: bool,
     layer: Layer,
 ) -> Result<Formula, NoMemory>
-    requires { IsTestOf t.now n (expression_of test.now) (layer_of layer) }
-    ensures { IfOk result (λ f. MeansIn t.now f
-        (tested_by (row_in t.now n).scope (expression_of test.now) negates n path (layer_of layer))) }
+    requires { IsTestOf tables.now whole (expression_of test.now) (layer_of layer) }
+    ensures { IfOk result (λ f. MeansIn tables.now f
+        (tested_by (row_in tables.now whole).scope (expression_of test.now) negates whole path (layer_of layer))) }
 {
-    let go = wire(t.wires.find_go(n, layer));
+    let go = wire(tables.wires.find_go(whole, layer));
     match layer {
         Layer::Resumed => both(alloc, go, Formula::Selected(PathId(path))),
         Layer::Started(_) => {
-            let holds = own_test(alloc, t, n, test, layer)?;
+            let holds = own_test(alloc, tables, whole, test, layer)?;
             if negates {
                 both(alloc, go, negated(alloc, holds)?)
             } else {
@@ -101,19 +101,19 @@ fn tested_entry(
 // The body of a suspension.
 fn suspended_entry(
     alloc: Global,
-    t: &Tables<'_>,
-    n: u32,
+    tables: &Tables<'_>,
+    whole: u32,
     test: &Test,
     layer: Layer,
 ) -> Result<Formula, NoMemory>
-    requires { IsTestOf t.now n (expression_of test.now) (layer_of layer) }
-    ensures { IfOk result (λ f. MeansIn t.now f
-        (suspended_by (row_in t.now n).scope (expression_of test.now) n (layer_of layer))) }
+    requires { IsTestOf tables.now whole (expression_of test.now) (layer_of layer) }
+    ensures { IfOk result (λ f. MeansIn tables.now f
+        (suspended_by (row_in tables.now whole).scope (expression_of test.now) whole (layer_of layer))) }
 {
-    let go = wire(t.wires.find_go(n, layer));
+    let go = wire(tables.wires.find_go(whole, layer));
     match layer {
         Layer::Resumed => {
-            let holds = own_test(alloc, t, n, test, layer)?;
+            let holds = own_test(alloc, tables, whole, test, layer)?;
             both(alloc, go, negated(alloc, holds)?)
         }
         Layer::Started(_) => Ok(go),
@@ -123,17 +123,17 @@ fn suspended_entry(
 // The second part of a sequence.
 fn second_entry(
     alloc: Global,
-    t: &Tables<'_>,
-    n: u32,
+    tables: &Tables<'_>,
+    whole: u32,
     path: u32,
     layer: Layer,
 ) -> Result<Formula, NoMemory>
-    requires { FirstEnd t.now n path (layer_of layer) }
-    ensures { IfOk result (λ f. MeansIn t.now f (second_entry n path (layer_of layer))) }
+    requires { FirstEnd tables.now whole path (layer_of layer) }
+    ensures { IfOk result (λ f. MeansIn tables.now f (second_entry whole path (layer_of layer))) }
 {
     match layer {
         Layer::Resumed => {
-            let go = wire(t.wires.find_go(n, layer));
+            let go = wire(tables.wires.find_go(whole, layer));
             both(alloc, go, Formula::Selected(PathId(path)))
         }
         Layer::Started(root) => {
@@ -142,23 +142,23 @@ fn second_entry(
             } else {
                 layer
             };
-            Ok(wire(t.wires.find_end(n + 1, from, 0)))
+            Ok(wire(tables.wires.find_end(whole + 1, from, 0)))
         }
     }
 }
 
 // The body of a loop.
-fn loop_entry(t: &Tables<'_>, n: u32, layer: Layer) -> Formula
-    requires { LoopStart t.now n (layer_of layer) }
-    ensures { MeansIn t.now result (loop_entry n (layer_of layer)) }
+fn loop_entry(tables: &Tables<'_>, whole: u32, layer: Layer) -> Formula
+    requires { LoopStart tables.now whole (layer_of layer) }
+    ensures { MeansIn tables.now result (loop_entry whole (layer_of layer)) }
 {
     match layer {
-        Layer::Resumed => wire(t.wires.find_go(n, layer)),
+        Layer::Resumed => wire(tables.wires.find_go(whole, layer)),
         Layer::Started(root) => {
-            if root.0 == n + 1 {
-                wire(t.wires.find_end(n + 1, Layer::Resumed, 0))
+            if root.0 == whole + 1 {
+                wire(tables.wires.find_end(whole + 1, Layer::Resumed, 0))
             } else {
-                wire(t.wires.find_go(n, layer))
+                wire(tables.wires.find_go(whole, layer))
             }
         }
     }
@@ -167,16 +167,16 @@ fn loop_entry(t: &Tables<'_>, n: u32, layer: Layer) -> Formula
 /// The formula of a statement's own test, as seen from its instance in this layer.
 pub(crate) fn own_test(
     alloc: Global,
-    t: &Tables<'_>,
-    n: u32,
+    tables: &Tables<'_>,
+    path: u32,
     test: &Test,
     layer: Layer,
 ) -> Result<Formula, NoMemory>
-    requires { IsTestOf t.now n (expression_of test.now) (layer_of layer) }
-    ensures { IfOk result (λ f. MeansIn t.now f
-        (test_formula (row_in t.now n).scope (expression_of test.now) (layer_of layer))) }
+    requires { IsTestOf tables.now path (expression_of test.now) (layer_of layer) }
+    ensures { IfOk result (λ f. MeansIn tables.now f
+        (test_formula (row_in tables.now path).scope (expression_of test.now) (layer_of layer))) }
 {
     let mut at = 0;
-    let bindings = t.statements[n as usize].signals.as_slice();
-    test_formula(alloc, t, test, bindings, &mut at, layer)
+    let bindings = tables.statements[path as usize].signals.as_slice();
+    test_formula(alloc, tables, test, bindings, &mut at, layer)
 }

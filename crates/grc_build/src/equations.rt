@@ -25,74 +25,85 @@ use std::alloc::Global;
 /// The equations of all wires, in order.
 pub(crate) fn equations(
     alloc: Global,
-    t: &Tables<'_>,
-    m: &Emitters,
+    tables: &Tables<'_>,
+    emitters: &Emitters,
 ) -> Result<Vec<Formula>, NoMemory>
-    requires tables { AreTables t.now }
-    requires emitters { AreEmitters t.now m.now (program_spots (program_in t.now)) }
-    ensures same { IfOk result (λ v. map (formula_of (instances_in t.now.wires) (names_in t.now.wires)) v.items
-        ≡ map (wire_formula (program_in t.now)) (names_in t.now.wires)) }
-    ensures fit { IfOk result (λ v. All (λ f. IsTrue (formula_fits (length (instances_in t.now.wires))
-        (length (names_in t.now.wires)) f)) v.items) }
+    requires tables { AreTables tables.now }
+    requires emitters { AreEmitters tables.now emitters.now (program_spots (program_in tables.now)) }
+    ensures same { IfOk result (λ v.
+        map (formula_of (instances_in tables.now.wires) (names_in tables.now.wires)) v.items
+        ≡ map (wire_formula (program_in tables.now)) (names_in tables.now.wires)) }
+    ensures fit { IfOk result (λ v. All (λ f. IsTrue (formula_fits (length (instances_in tables.now.wires))
+        (length (names_in tables.now.wires)) f)) v.items) }
 {
     let mut list = Vec::new(alloc);
-    for w in t.wires.wires() {
-        list.push(equation(alloc, t, m, *w)?)?;
+    for wire in tables.wires.wires() {
+        list.push(equation(alloc, tables, emitters, *wire)?)?;
     }
     Ok(list)
 }
 
 // The formula of a wire.
-fn equation(alloc: Global, t: &Tables<'_>, m: &Emitters, w: Wire) -> Result<Formula, NoMemory>
-    requires tables { AreTables t.now }
-    requires emitters { AreEmitters t.now m.now (program_spots (program_in t.now)) }
-    requires wire { IsWireIn t.now w }
-    ensures { IfOk result (λ f. MeansIn t.now f (wire_formula (program_in t.now)
-        (wire_of (instances_in t.now.wires) w))) }
+fn equation(
+    alloc: Global,
+    tables: &Tables<'_>,
+    emitters: &Emitters,
+    wire: Wire,
+) -> Result<Formula, NoMemory>
+    requires tables { AreTables tables.now }
+    requires emitters { AreEmitters tables.now emitters.now (program_spots (program_in tables.now)) }
+    requires wire { IsWireIn tables.now wire }
+    ensures { IfOk result (λ f. MeansIn tables.now f (wire_formula (program_in tables.now)
+        (wire_of (instances_in tables.now.wires) wire))) }
 {
-    match w {
-        Wire::Out(signal) => output(alloc, t, m, signal),
-        Wire::Go(i) => {
-            let instance = t.wires.instance(i);
-            entry(alloc, t, instance.path.0, instance.layer)
+    match wire {
+        Wire::Out(signal) => output(alloc, tables, emitters, signal),
+        Wire::Go(number) => {
+            let instance = tables.wires.instance(number);
+            entry(alloc, tables, instance.path.0, instance.layer)
         }
-        Wire::Local(i) => {
-            let list = &m.locals[i.0 as usize];
+        Wire::Local(number) => {
+            let list = &emitters.locals[number.0 as usize];
             let found = any_wire(alloc, list.as_slice())?;
             Ok(or_false(found))
         }
-        Wire::End(i, code) => {
-            let instance = t.wires.instance(i);
-            let e = Ending {
+        Wire::End(number, code) => {
+            let instance = tables.wires.instance(number);
+            let ending = Ending {
                 path: instance.path.0,
                 layer: instance.layer,
                 code,
             };
-            end_formula(alloc, t, e)
+            end_formula(alloc, tables, ending)
         }
     }
 }
 
 // The formula of an outgoing signal: it is given, or emitted.
-fn output(alloc: Global, t: &Tables<'_>, m: &Emitters, signal: SigId) -> Result<Formula, NoMemory>
-    requires tables { AreTables t.now }
-    requires emitters { AreEmitters t.now m.now (program_spots (program_in t.now)) }
-    requires wire { IsThere t.now (plain_out signal.0) }
-    ensures { IfOk result (λ f. MeansIn t.now f (wire_formula (program_in t.now) (plain_out signal.0))) }
+fn output(
+    alloc: Global,
+    tables: &Tables<'_>,
+    emitters: &Emitters,
+    signal: SigId,
+) -> Result<Formula, NoMemory>
+    requires tables { AreTables tables.now }
+    requires emitters { AreEmitters tables.now emitters.now (program_spots (program_in tables.now)) }
+    requires wire { IsThere tables.now (plain_out signal.0) }
+    ensures { IfOk result (λ f. MeansIn tables.now f (wire_formula (program_in tables.now) (plain_out signal.0))) }
 {
-    let place = signal.0 - t.program.inputs;
-    let list = &m.outs[place as usize];
+    let place = signal.0 - tables.program.inputs;
+    let list = &emitters.outs[place as usize];
     let emitted = any_wire(alloc, list.as_slice())?;
-    let found = any_more(alloc, given(t, signal), emitted)?;
+    let found = any_more(alloc, given(tables, signal), emitted)?;
     Ok(or_false(found))
 }
 
 // That the event gives a signal, where it can.
-fn given(t: &Tables<'_>, signal: SigId) -> Option<Formula>
-    requires { AreTables t.now }
-    ensures { MeansIfIn t.now result (nat_lt signal.0 (given_count (program_in t.now))) (Input signal.0) }
+fn given(tables: &Tables<'_>, signal: SigId) -> Option<Formula>
+    requires { AreTables tables.now }
+    ensures { MeansIfIn tables.now result (nat_lt signal.0 (given_count (program_in tables.now))) (Input signal.0) }
 {
-    if signal.0 < t.program.inputs + t.program.both {
+    if signal.0 < tables.program.inputs + tables.program.both {
         Some(Formula::Input(signal))
     } else {
         None

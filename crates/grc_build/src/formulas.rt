@@ -12,31 +12,31 @@ use grc_graph::Formula;
 use std::alloc::Global;
 
 /// Both of two formulas.
-pub(crate) fn both(alloc: Global, a: Formula, b: Formula) -> Result<Formula, NoMemory>
-    ensures { (insts : List Instance) (names : List Wire) (x y : plain_formula) → Means insts names a x
-        → Means insts names b y → IfOk result (λ f. Means insts names f (Conjunction x y)) }
+pub(crate) fn both(alloc: Global, left: Formula, right: Formula) -> Result<Formula, NoMemory>
+    ensures { (insts : List Instance) (names : List Wire) (x y : plain_formula) → Means insts names left x
+        → Means insts names right y → IfOk result (λ f. Means insts names f (Conjunction x y)) }
 {
-    let a = Box::new(alloc, a)?;
-    let b = Box::new(alloc, b)?;
-    Ok(Formula::And(a, b))
+    let left = Box::new(alloc, left)?;
+    let right = Box::new(alloc, right)?;
+    Ok(Formula::And(left, right))
 }
 
 /// Either of two formulas.
-pub(crate) fn either(alloc: Global, a: Formula, b: Formula) -> Result<Formula, NoMemory>
-    ensures { (insts : List Instance) (names : List Wire) (x y : plain_formula) → Means insts names a x
-        → Means insts names b y → IfOk result (λ f. Means insts names f (Disjunction x y)) }
+pub(crate) fn either(alloc: Global, left: Formula, right: Formula) -> Result<Formula, NoMemory>
+    ensures { (insts : List Instance) (names : List Wire) (x y : plain_formula) → Means insts names left x
+        → Means insts names right y → IfOk result (λ f. Means insts names f (Disjunction x y)) }
 {
-    let a = Box::new(alloc, a)?;
-    let b = Box::new(alloc, b)?;
-    Ok(Formula::Or(a, b))
+    let left = Box::new(alloc, left)?;
+    let right = Box::new(alloc, right)?;
+    Ok(Formula::Or(left, right))
 }
 
 /// The negation of a formula.
-pub(crate) fn negated(alloc: Global, a: Formula) -> Result<Formula, NoMemory>
-    ensures { (insts : List Instance) (names : List Wire) (x : plain_formula) → Means insts names a x
+pub(crate) fn negated(alloc: Global, formula: Formula) -> Result<Formula, NoMemory>
+    ensures { (insts : List Instance) (names : List Wire) (x : plain_formula) → Means insts names formula x
         → IfOk result (λ f. Means insts names f (Negation x)) }
 {
-    Ok(Formula::Not(Box::new(alloc, a)?))
+    Ok(Formula::Not(Box::new(alloc, formula)?))
 }
 
 /// The or of a formula that may be missing and of others; none where all are missing.
@@ -51,11 +51,11 @@ pub(crate) fn any_more(
 {
     match first {
         None => Ok(rest),
-        Some(a) => match rest {
-            None => Ok(Some(a)),
-            Some(b) => {
-                let f = either(alloc, a, b)?;
-                Ok(Some(f))
+        Some(left) => match rest {
+            None => Ok(Some(left)),
+            Some(right) => {
+                let formula = either(alloc, left, right)?;
+                Ok(Some(formula))
             }
         },
     }
@@ -67,7 +67,7 @@ pub(crate) fn or_false(found: Option<Formula>) -> Formula
         → MeansAny insts names found xs → Means insts names result (any_of xs) }
 {
     match found {
-        Some(f) => f,
+        Some(formula) => formula,
         None => Formula::Const(false),
     }
 }
@@ -78,7 +78,7 @@ pub(crate) fn wire(found: Option<WireId>) -> Formula
         → Means insts names result (Value u) }
 {
     match found {
-        Some(w) => Formula::Wire(w),
+        Some(wire) => Formula::Wire(wire),
         None => Formula::Const(false),
     }
 }
@@ -89,7 +89,7 @@ pub(crate) fn wire_if(found: Option<WireId>) -> Option<Formula>
         → (Contains names u ↔ (b ≡ true)) → MeansIf insts names result b (Value u) }
 {
     match found {
-        Some(w) => Some(Formula::Wire(w)),
+        Some(wire) => Some(Formula::Wire(wire)),
         None => None,
     }
 }

@@ -89,17 +89,17 @@ fn graph_parts(
 }
 
 // The parts of the graph that these tables describe.
-fn table_parts(alloc: Global, t: Tables<'_>) -> Result<Parts, NoMemory>
-    requires { AreTables t }
-    ensures { IfOk result (λ parts. AreParts (program_in t.entry) parts) }
+fn table_parts(alloc: Global, tables: Tables<'_>) -> Result<Parts, NoMemory>
+    requires { AreTables tables }
+    ensures { IfOk result (λ parts. AreParts (program_in tables.entry) parts) }
 {
-    let emitters = gather_emissions(alloc, &t)?;
-    let nodes = nodes(alloc, &t)?;
-    let equations = equations(alloc, &t, &emitters)?;
-    let next = next_formulas(alloc, &t)?;
+    let emitters = gather_emissions(alloc, &tables)?;
+    let nodes = nodes(alloc, &tables)?;
+    let equations = equations(alloc, &tables, &emitters)?;
+    let next = next_formulas(alloc, &tables)?;
     Ok(Parts {
         nodes,
-        wires: t.wires.into_wires(),
+        wires: tables.wires.into_wires(),
         equations,
         next,
     })

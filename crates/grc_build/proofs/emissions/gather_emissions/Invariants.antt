@@ -5,5 +5,5 @@ use Rattle.grc_build.specs.Emitting.{AreEmitters}
 use Rattle.grc_build.specs.Tabled.{program_in}
 use Rattle.grc_build.proofs.emissions.gather_emissions.Given as goal
 
-abbrev pub invariant-loop-i : goal.invariant-loop-i
-invariant-loop-i l = AreEmitters l.t l.m (map (spot_at (program_rows (program_in l.t))) (take l.i (instances_in l.t.wires)))
+abbrev pub invariant-loop-number : goal.invariant-loop-number
+invariant-loop-number l = AreEmitters l.tables l.emitters (map (spot_at (program_rows (program_in l.tables))) (take l.number (instances_in l.tables.wires)))

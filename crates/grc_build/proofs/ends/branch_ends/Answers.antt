@@ -9,11 +9,11 @@ use Rattle.grc_build.proofs.ends.branch_ends.Goals as goal
 
 pub returns : goal.returns
 returns c b x h g =
-    let t = c.args.t.now in
+    let t = c.args.tables.now in
     let insts = instances_in t.wires in
     let names = names_in t.wires in
-    let l = layer_of c.args.e.layer in
-    let k = c.args.e.code in
+    let l = layer_of c.args.ending.layer in
+    let k = c.args.ending.code in
     c.or_false.ensures insts names (end_if b c.args.first l k ++ end_if x c.args.second l k)
     (c.in_ok-found.ensures insts names b (Value (End c.args.first l k)) (end_if x c.args.second l k) (c.part_end.ensures b h)
     (if_any insts names c.part_end-others.result x (Value (End c.args.second l k)) (c.part_end-others.ensures x g)))

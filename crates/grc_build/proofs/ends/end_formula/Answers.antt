@@ -24,30 +24,30 @@ use Rattle.grc_build.proofs.ends.end_formula.Goals as goal
 
 pub index-statement-requires : goal.index-statement-requires
 index-statement-requires c =
-    let t = c.args.t.now in
-    let n = c.args.e.path in
-    let l = layer_of c.args.e.layer in
-    let k = c.args.e.code in
+    let t = c.args.tables.now in
+    let n = c.args.ending.path in
+    let l = layer_of c.args.ending.layer in
+    let k = c.args.ending.code in
     let h = c.requires.tables in
     let i = ending_here t n l k c.requires in
     omega (arith, statements_within t n h i.within)
 
 pub overflow_add-next : goal.overflow_add-next
 overflow_add-next c =
-    let t = c.args.t.now in
-    let n = c.args.e.path in
-    let l = layer_of c.args.e.layer in
-    let k = c.args.e.code in
+    let t = c.args.tables.now in
+    let n = c.args.ending.path in
+    let l = layer_of c.args.ending.layer in
+    let k = c.args.ending.code in
     let h = c.requires.tables in
     let i = ending_here t n l k c.requires in
     omega (arith, number_fits t n h i.within)
 
 pub returns-in-Nothing : goal.returns-in-Nothing
 returns-in-Nothing c =
-    let t = c.args.t.now in
-    let n = c.args.e.path in
-    let l = layer_of c.args.e.layer in
-    let k = c.args.e.code in
+    let t = c.args.tables.now in
+    let n = c.args.ending.path in
+    let l = layer_of c.args.ending.layer in
+    let k = c.args.ending.code in
     let h = c.requires.tables in
     let i = ending_here t n l k c.requires in
     let f = form_at t n l c.index-statement.result.now (Nothing) h i c.index-statement.ensures (ap term_of c.in-Nothing.is) in
@@ -56,10 +56,10 @@ returns-in-Nothing c =
 
 pub returns-in-Pause : goal.returns-in-Pause
 returns-in-Pause c =
-    let t = c.args.t.now in
-    let n = c.args.e.path in
-    let l = layer_of c.args.e.layer in
-    let k = c.args.e.code in
+    let t = c.args.tables.now in
+    let n = c.args.ending.path in
+    let l = layer_of c.args.ending.layer in
+    let k = c.args.ending.code in
     let h = c.requires.tables in
     let i = ending_here t n l k c.requires in
     let f = form_at t n l c.index-statement.result.now (Pause) h i c.index-statement.ensures (ap term_of c.in-Pause.is) in
@@ -68,10 +68,10 @@ returns-in-Pause c =
 
 pub returns-in-Emit : goal.returns-in-Emit
 returns-in-Emit c =
-    let t = c.args.t.now in
-    let n = c.args.e.path in
-    let l = layer_of c.args.e.layer in
-    let k = c.args.e.code in
+    let t = c.args.tables.now in
+    let n = c.args.ending.path in
+    let l = layer_of c.args.ending.layer in
+    let k = c.args.ending.code in
     let h = c.requires.tables in
     let i = ending_here t n l k c.requires in
     let f = form_at t n l c.index-statement.result.now (Emit c.in-Emit.field-0.0) h i c.index-statement.ensures (ap term_of c.in-Emit.is) in
@@ -80,10 +80,10 @@ returns-in-Emit c =
 
 pub returns-in-Exit : goal.returns-in-Exit
 returns-in-Exit c =
-    let t = c.args.t.now in
-    let n = c.args.e.path in
-    let l = layer_of c.args.e.layer in
-    let k = c.args.e.code in
+    let t = c.args.tables.now in
+    let n = c.args.ending.path in
+    let l = layer_of c.args.ending.layer in
+    let k = c.args.ending.code in
     let h = c.requires.tables in
     let i = ending_here t n l k c.requires in
     let f = form_at t n l c.index-statement.result.now (Exit c.in-Exit.field-0) h i c.index-statement.ensures (ap term_of c.in-Exit.is) in
@@ -94,10 +94,10 @@ pub returns-in-Present : goal.returns-in-Present
 returns-in-Present c =
     let p = term_of c.in-Present.field-1.value in
     let q = term_of c.in-Present.field-2.value in
-    let t = c.args.t.now in
-    let n = c.args.e.path in
-    let l = layer_of c.args.e.layer in
-    let k = c.args.e.code in
+    let t = c.args.tables.now in
+    let n = c.args.ending.path in
+    let l = layer_of c.args.ending.layer in
+    let k = c.args.ending.code in
     let h = c.requires.tables in
     let i = ending_here t n l k c.requires in
     let f = form_at t n l c.index-statement.result.now (Present (expression_of c.in-Present.field-0) (term_of c.in-Present.field-1.value)
@@ -113,10 +113,10 @@ returns-in-Present c =
 
 pub suspension_end-requires : goal.suspension_end-requires
 suspension_end-requires c =
-    let t = c.args.t.now in
-    let n = c.args.e.path in
-    let l = layer_of c.args.e.layer in
-    let k = c.args.e.code in
+    let t = c.args.tables.now in
+    let n = c.args.ending.path in
+    let l = layer_of c.args.ending.layer in
+    let k = c.args.ending.code in
     let h = c.requires.tables in
     let i = ending_here t n l k c.requires in
     let f = form_at t n l c.index-statement.result.now (Suspend (expression_of c.in-Suspend.test) (term_of c.in-Suspend.field-1.value)) h i
@@ -131,10 +131,10 @@ suspension_end-requires c =
 pub returns-in-Suspend : goal.returns-in-Suspend
 returns-in-Suspend c =
     let p = term_of c.in-Suspend.field-1.value in
-    let t = c.args.t.now in
-    let n = c.args.e.path in
-    let l = layer_of c.args.e.layer in
-    let k = c.args.e.code in
+    let t = c.args.tables.now in
+    let n = c.args.ending.path in
+    let l = layer_of c.args.ending.layer in
+    let k = c.args.ending.code in
     let h = c.requires.tables in
     let i = ending_here t n l k c.requires in
     let f = form_at t n l c.index-statement.result.now (Suspend (expression_of c.in-Suspend.test) (term_of c.in-Suspend.field-1.value)) h i
@@ -148,10 +148,10 @@ pub returns-in-Seq : goal.returns-in-Seq
 returns-in-Seq c =
     let p = term_of c.in-Seq.field-0.value in
     let q = term_of c.in-Seq.field-1.value in
-    let t = c.args.t.now in
-    let n = c.args.e.path in
-    let l = layer_of c.args.e.layer in
-    let k = c.args.e.code in
+    let t = c.args.tables.now in
+    let n = c.args.ending.path in
+    let l = layer_of c.args.ending.layer in
+    let k = c.args.ending.code in
     let h = c.requires.tables in
     let i = ending_here t n l k c.requires in
     let f = form_at t n l c.index-statement.result.now (Seq (term_of c.in-Seq.field-0.value) (term_of c.in-Seq.field-1.value)) h i c.index-statement.ensures
@@ -174,10 +174,10 @@ returns-in-Seq c =
 pub returns-in-Loop : goal.returns-in-Loop
 returns-in-Loop c =
     let p = term_of c.in-Loop.field-1.value in
-    let t = c.args.t.now in
-    let n = c.args.e.path in
-    let l = layer_of c.args.e.layer in
-    let k = c.args.e.code in
+    let t = c.args.tables.now in
+    let n = c.args.ending.path in
+    let l = layer_of c.args.ending.layer in
+    let k = c.args.ending.code in
     let h = c.requires.tables in
     let i = ending_here t n l k c.requires in
     let f = form_at t n l c.index-statement.result.now (Loop c.in-Loop.field-0 (term_of c.in-Loop.field-1.value)) h i c.index-statement.ensures
@@ -195,10 +195,10 @@ pub parallel_end-requires : goal.parallel_end-requires
 parallel_end-requires c =
     let p = term_of c.in-Par.field-0.value in
     let q = term_of c.in-Par.field-1.value in
-    let t = c.args.t.now in
-    let n = c.args.e.path in
-    let l = layer_of c.args.e.layer in
-    let k = c.args.e.code in
+    let t = c.args.tables.now in
+    let n = c.args.ending.path in
+    let l = layer_of c.args.ending.layer in
+    let k = c.args.ending.code in
     let h = c.requires.tables in
     let i = ending_here t n l k c.requires in
     let f = form_at t n l c.index-statement.result.now (Par (term_of c.in-Par.field-0.value) (term_of c.in-Par.field-1.value)) h i c.index-statement.ensures
@@ -211,10 +211,10 @@ pub returns-in-Par : goal.returns-in-Par
 returns-in-Par c =
     let p = term_of c.in-Par.field-0.value in
     let q = term_of c.in-Par.field-1.value in
-    let t = c.args.t.now in
-    let n = c.args.e.path in
-    let l = layer_of c.args.e.layer in
-    let k = c.args.e.code in
+    let t = c.args.tables.now in
+    let n = c.args.ending.path in
+    let l = layer_of c.args.ending.layer in
+    let k = c.args.ending.code in
     let h = c.requires.tables in
     let i = ending_here t n l k c.requires in
     let f = form_at t n l c.index-statement.result.now (Par (term_of c.in-Par.field-0.value) (term_of c.in-Par.field-1.value)) h i c.index-statement.ensures
@@ -235,10 +235,10 @@ trap_end-requires c = c.requires.below
 pub returns-in-Trap : goal.returns-in-Trap
 returns-in-Trap c =
     let p = term_of c.in-Trap.field-0.value in
-    let t = c.args.t.now in
-    let n = c.args.e.path in
-    let l = layer_of c.args.e.layer in
-    let k = c.args.e.code in
+    let t = c.args.tables.now in
+    let n = c.args.ending.path in
+    let l = layer_of c.args.ending.layer in
+    let k = c.args.ending.code in
     let h = c.requires.tables in
     let i = ending_here t n l k c.requires in
     let f = form_at t n l c.index-statement.result.now (Trap (term_of c.in-Trap.field-0.value)) h i c.index-statement.ensures (ap term_of c.in-Trap.is) in
@@ -249,10 +249,10 @@ returns-in-Trap c =
 pub returns-in-Local : goal.returns-in-Local
 returns-in-Local c =
     let p = term_of c.in-Local.field-1.value in
-    let t = c.args.t.now in
-    let n = c.args.e.path in
-    let l = layer_of c.args.e.layer in
-    let k = c.args.e.code in
+    let t = c.args.tables.now in
+    let n = c.args.ending.path in
+    let l = layer_of c.args.ending.layer in
+    let k = c.args.ending.code in
     let h = c.requires.tables in
     let i = ending_here t n l k c.requires in
     let f = form_at t n l c.index-statement.result.now (Local c.in-Local.field-0.0 (term_of c.in-Local.field-1.value)) h i c.index-statement.ensures

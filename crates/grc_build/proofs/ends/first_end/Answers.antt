@@ -7,23 +7,24 @@ use Rattle.grc_graph.specs.Wires.{End}
 use Rattle.grc_build.specs.Ending.{MeansIfIn}
 use Rattle.grc_build.proofs.ends.first_end.Goals as goal
 
-pub returns-then-e-eq0 : goal.returns-then-e-eq0
-returns-then-e-eq0 c b h =
-    none (c.args.e.code == 0) b (eq-eqb c.args.e.code 0 c.if-e-eq0.true)
+pub returns-then-ending-eq0 : goal.returns-then-ending-eq0
+returns-then-ending-eq0 c b h =
+    none (c.args.ending.code == 0) b (eq-eqb c.args.ending.code 0 c.if-ending-eq0.true)
   where
     none : (x b : Bool) → x ≡ true → (b && not x) ≡ false
     none true true e = refl
     none true false e = refl
     none false b e = absurd (cc)
 
-pub returns-else-e-eq0 : goal.returns-else-e-eq0
-returns-else-e-eq0 c b h =
-    let t = c.args.t.now in
+pub returns-else-ending-eq0 : goal.returns-else-ending-eq0
+returns-else-ending-eq0 c b h =
+    let t = c.args.tables.now in
     let insts = instances_in t.wires in
     let names = names_in t.wires in
-    let l = layer_of c.args.e.layer in
-    let k = c.args.e.code in
-    subst (λ y. MeansIfIn t c.part_end.result y (Value (End c.args.part l k))) (sym (same (k == 0) b (ne_eqb k 0 c.if-e-eq0.false))) (c.part_end.ensures b h)
+    let l = layer_of c.args.ending.layer in
+    let k = c.args.ending.code in
+    subst (λ y. MeansIfIn t c.part_end.result y (Value (End c.args.part l k))) (sym (same (k == 0) b (ne_eqb k 0 c.if-ending-eq0.false)))
+    (c.part_end.ensures b h)
   where
     same : (x b : Bool) → x ≡ false → (b && not x) ≡ b
     same true b e = absurd (cc)

@@ -10,11 +10,11 @@ use Rattle.grc_build.proofs.ends.loop_end.Goals as goal
 
 pub returns-in_ok-found-in-Resumed : goal.returns-in_ok-found-in-Resumed
 returns-in_ok-found-in-Resumed c b x h f =
-    let t = c.args.t.now in
+    let t = c.args.tables.now in
     let insts = instances_in t.wires in
     let names = names_in t.wires in
-    let l = layer_of c.args.e.layer in
-    let k = c.args.e.code in
+    let l = layer_of c.args.ending.layer in
+    let k = c.args.ending.code in
     let g = f (ap layer_of c.in-Resumed.is) in
     let y = b && not (k == 0) in
     let z = x && not (k == 0) in
@@ -32,11 +32,11 @@ returns-in_ok-found-in-Resumed c b x h f =
 
 pub returns-in-Started : goal.returns-in-Started
 returns-in-Started c b x h f =
-    let t = c.args.t.now in
+    let t = c.args.tables.now in
     let insts = instances_in t.wires in
     let names = names_in t.wires in
-    let l = layer_of c.args.e.layer in
-    let k = c.args.e.code in
+    let l = layer_of c.args.ending.layer in
+    let k = c.args.ending.code in
     let p = c.args.part in
     let y = b && not (k == 0) in
     rw c.in-Started.is

@@ -10,11 +10,11 @@ use Rattle.grc_build.proofs.ends.resumed_sequence_end.Goals as goal
 
 pub returns : goal.returns
 returns c b x y h g f =
-    let t = c.args.t.now in
+    let t = c.args.tables.now in
     let insts = instances_in t.wires in
     let names = names_in t.wires in
-    let l = layer_of c.args.e.layer in
-    let k = c.args.e.code in
+    let l = layer_of c.args.ending.layer in
+    let k = c.args.ending.code in
     let z = b && not (k == 0) in
     let m = c.args.second in
     let at : (b : Bool) → Tells t (End m (Started m) k) b → MeansIfIn t c.part_end-own.result b (Value (End m (Started m) k))

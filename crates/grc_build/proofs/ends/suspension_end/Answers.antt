@@ -13,12 +13,12 @@ use Rattle.grc_build.proofs.ends.suspension_end.Goals as goal
 
 pub returns-in_ok-found-in-Resumed : goal.returns-in_ok-found-in-Resumed
 returns-in_ok-found-in-Resumed c b h =
-    let t = c.args.t.now in
+    let t = c.args.tables.now in
     let insts = instances_in t.wires in
     let names = names_in t.wires in
-    let l = layer_of c.args.e.layer in
-    let k = c.args.e.code in
-    let n = c.args.e.path in
+    let l = layer_of c.args.ending.layer in
+    let k = c.args.ending.code in
+    let n = c.args.ending.path in
     let p = c.args.part in
     let x = Conjunction (Value (Go n l)) (test_formula (row_in t n).scope (expression_of c.args.test.now) l) in
     rw c.in-Resumed.is
@@ -28,11 +28,11 @@ returns-in_ok-found-in-Resumed c b h =
 
 pub returns-in-Started : goal.returns-in-Started
 returns-in-Started c b h =
-    let t = c.args.t.now in
+    let t = c.args.tables.now in
     let insts = instances_in t.wires in
     let names = names_in t.wires in
-    let l = layer_of c.args.e.layer in
-    let k = c.args.e.code in
+    let l = layer_of c.args.ending.layer in
+    let k = c.args.ending.code in
     let p = c.args.part in
     rw c.in-Started.is
     (rw c.in-Started.is at (c.or_false-in-Started.ensures insts names (end_if b p l k)

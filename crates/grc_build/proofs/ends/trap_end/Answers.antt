@@ -11,11 +11,11 @@ use Rattle.grc_build.proofs.ends.trap_end.Goals as goal
 
 pub returns-in_ok-found-in-0 : goal.returns-in_ok-found-in-0
 returns-in_ok-found-in-0 c A h =
-    let t = c.args.t.now in
+    let t = c.args.tables.now in
     let insts = instances_in t.wires in
     let names = names_in t.wires in
-    let l = layer_of c.args.e.layer in
-    let k = c.args.e.code in
+    let l = layer_of c.args.ending.layer in
+    let k = c.args.ending.code in
     let p = c.args.part in
     let left = subst (λ v. (b : Bool) → Tells t (End p l v) b → MeansIfIn t c.part_end-left.result b (Value (End p l v))) c.with_code.ensures.code
     (subst (λ v. (b : Bool) → Tells t (End p (layer_of v) c.with_code.result.code) b →
@@ -29,11 +29,11 @@ returns-in_ok-found-in-0 c A h =
 
 pub returns-in-1 : goal.returns-in-1
 returns-in-1 c A h =
-    let t = c.args.t.now in
+    let t = c.args.tables.now in
     let insts = instances_in t.wires in
     let names = names_in t.wires in
-    let l = layer_of c.args.e.layer in
-    let k = c.args.e.code in
+    let l = layer_of c.args.ending.layer in
+    let k = c.args.ending.code in
     let p = c.args.part in
     let first = subst (λ v. (b : Bool) → Tells t (End p l v) b → MeansIfIn t c.part_end-in-1.result b (Value (End p l v))) c.in-1.is c.part_end-in-1.ensures in
     subst (λ v. MeansIn t c.or_false-in-1.result (any_of (trapped_ends A p l v))) (sym c.in-1.is)
@@ -41,11 +41,11 @@ returns-in-1 c A h =
 
 pub returns-in_default : goal.returns-in_default
 returns-in_default c A h =
-    let t = c.args.t.now in
+    let t = c.args.tables.now in
     let insts = instances_in t.wires in
     let names = names_in t.wires in
-    let l = layer_of c.args.e.layer in
-    let k = c.args.e.code in
+    let l = layer_of c.args.ending.layer in
+    let k = c.args.ending.code in
     let p = c.args.part in
     let more = subst (λ v. (b : Bool) → Tells t (End p l v) b → MeansIfIn t c.part_end-in_default.result b (Value (End p l v)))
     c.with_code-in_default.ensures.code

@@ -13,8 +13,8 @@ use Rattle.grc_build.proofs.entries.second_entry.Goals.{then-root-path, else-roo
 
 pub returns-after-root-path : goal.returns-after-root-path
 returns-after-root-path c =
-    let t = c.args.t.now in
-    let n = c.args.n in
+    let t = c.args.tables.now in
+    let n = c.args.whole in
     let m = c.args.path in
     let r = c.in-Started.root.0 in
     let there : IsThere t (first_end n m (Started r)) = rw c.in-Started.is at c.requires.there in

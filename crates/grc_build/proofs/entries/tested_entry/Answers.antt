@@ -10,33 +10,33 @@ use Rattle.grc_build.proofs.entries.tested_entry.Goals as goal
 
 pub returns-in-Resumed : goal.returns-in-Resumed
 returns-in-Resumed c =
-    let t = c.args.t.now in
+    let t = c.args.tables.now in
     let insts = instances_in t.wires in
     let names = names_in t.wires in
-    let go = c.wire-go.ensures insts names (Go c.args.n (layer_of c.args.layer)) c.find_go.ensures c.requires.go in
+    let go = c.wire-go.ensures insts names (Go c.args.whole (layer_of c.args.layer)) c.find_go.ensures c.requires.go in
     rw c.in-Resumed.is
-    (rw c.in-Resumed.is at (c.both.ensures insts names (Value (Go c.args.n (layer_of c.args.layer))) (Selected c.args.path) go
+    (rw c.in-Resumed.is at (c.both.ensures insts names (Value (Go c.args.whole (layer_of c.args.layer))) (Selected c.args.path) go
     (record { fits = refl; same = refl })))
 
 pub returns-in_ok-negated-in-Started : goal.returns-in_ok-negated-in-Started
 returns-in_ok-negated-in-Started c =
-    let t = c.args.t.now in
+    let t = c.args.tables.now in
     let insts = instances_in t.wires in
     let names = names_in t.wires in
     let l = layer_of c.args.layer in
-    let x = test_formula (row_in t c.args.n).scope (expression_of c.args.test.now) l in
-    let go = c.wire-go.ensures insts names (Go c.args.n l) c.find_go.ensures c.requires.go in
+    let x = test_formula (row_in t c.args.whole).scope (expression_of c.args.test.now) l in
+    let go = c.wire-go.ensures insts names (Go c.args.whole l) c.find_go.ensures c.requires.go in
     let test = c.in_ok-negated-in-Started.ensures insts names x c.in_ok-holds-in-Started.ensures in
     rw (c.in-Started.is, c.if-negates.true)
-    (rw c.in-Started.is at (c.both-then-negates.ensures insts names (Value (Go c.args.n l)) (Negation x) go test))
+    (rw c.in-Started.is at (c.both-then-negates.ensures insts names (Value (Go c.args.whole l)) (Negation x) go test))
 
 pub returns-else-negates : goal.returns-else-negates
 returns-else-negates c =
-    let t = c.args.t.now in
+    let t = c.args.tables.now in
     let insts = instances_in t.wires in
     let names = names_in t.wires in
     let l = layer_of c.args.layer in
-    let x = test_formula (row_in t c.args.n).scope (expression_of c.args.test.now) l in
-    let go = c.wire-go.ensures insts names (Go c.args.n l) c.find_go.ensures c.requires.go in
+    let x = test_formula (row_in t c.args.whole).scope (expression_of c.args.test.now) l in
+    let go = c.wire-go.ensures insts names (Go c.args.whole l) c.find_go.ensures c.requires.go in
     rw (c.in-Started.is, c.if-negates.false)
-    (rw c.in-Started.is at (c.both-else-negates.ensures insts names (Value (Go c.args.n l)) x go c.in_ok-holds-in-Started.ensures))
+    (rw c.in-Started.is at (c.both-else-negates.ensures insts names (Value (Go c.args.whole l)) x go c.in_ok-holds-in-Started.ensures))

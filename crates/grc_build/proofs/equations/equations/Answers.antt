@@ -13,34 +13,35 @@ use Rattle.grc_build.proofs.equations.equations.Goals as goal
 
 pub equation-requires-clause-wire : goal.equation-requires-clause-wire
 equation-requires-clause-wire c =
-    let t = c.args.t.now in
+    let t = c.args.tables.now in
     let raw = t.wires.wires.items in
-    let k = c.loop-w.w-index in
-    let list : c.wires-w-items.result.now ≡ raw = c.wires-w-items.ensures in
-    let w = get_or c.wires-w-items.result.now k first_wire in
+    let k = c.loop-wire.wire-index in
+    let list : c.wires-wire-items.result.now ≡ raw = c.wires-wire-items.ensures in
+    let w = get_or c.wires-wire-items.result.now k first_wire in
     let inside : k < length raw = omega (arith, ap length list) in
     wire_in t k w inside (ap (λ l. get_or l k first_wire) list ∙ get_or_default raw k first_wire w inside)
 
-pub loop-w-preserved : goal.loop-w-preserved
-loop-w-preserved c =
-    let t = c.args.t.now in
+pub loop-wire-preserved : goal.loop-wire-preserved
+loop-wire-preserved c =
+    let t = c.args.tables.now in
     let raw = t.wires.wires.items in
     let insts = instances_in t.wires in
     let names = names_in t.wires in
     let p = program_in t in
-    let k = c.loop-w.w-index in
-    let list : c.wires-w-items.result.now ≡ raw = c.wires-w-items.ensures in
-    let w = get_or c.wires-w-items.result.now k first_wire in
+    let k = c.loop-wire.wire-index in
+    let list : c.wires-wire-items.result.now ≡ raw = c.wires-wire-items.ensures in
+    let w = get_or c.wires-wire-items.result.now k first_wire in
     let inside : k < length raw = omega (arith, ap length list) in
     let named : get_or names k (wire_of insts w) ≡ wire_of insts w
     = get_or-map (wire_of insts) raw k first_wire (wire_of insts w) inside ∙ ap (λ l. wire_of insts (get_or l k first_wire)) (sym list) in
     let f = c.in_ok-equation.field-0 in
     let items = c.in_ok-push.ensures.items in (
-      ap (map (formula_of insts names)) items ∙ map-append (formula_of insts names) c.loop-w.list.items (f ∷ [])
-          ∙ (λ j. c.loop-w.invariant.0 j ++ c.in_ok-equation.ensures.same j ∷ [])
+      ap (map (formula_of insts names)) items ∙ map-append (formula_of insts names) c.loop-wire.list.items (f ∷ [])
+          ∙ (λ j. c.loop-wire.invariant.0 j ++ c.in_ok-equation.ensures.same j ∷ [])
           ∙ (λ j. map (wire_formula p) (take k names) ++ wire_formula p (sym named j) ∷ [])
           ∙ sym (map-append (wire_formula p) (take k names) (get_or names k (wire_of insts w) ∷ []))
           ∙ ap (map (wire_formula p)) (sym (take_more names k (wire_of insts w) (omega (arith, length-map raw (wire_of insts))))),
       subst (λ l. All (λ v. IsTrue (formula_fits (length insts) (length names) v)) l) (sym items)
-          (All-push (λ v. IsTrue (formula_fits (length insts) (length names) v)) c.loop-w.list.items f c.loop-w.invariant.1 c.in_ok-equation.ensures.fits),
+          (All-push (λ v. IsTrue (formula_fits (length insts) (length names) v)) c.loop-wire.list.items f c.loop-wire.invariant.1
+          c.in_ok-equation.ensures.fits),
     )

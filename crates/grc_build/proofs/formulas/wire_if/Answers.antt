@@ -4,5 +4,5 @@ use Rattle.grc_build.proofs.formulas.wire_if.Goals as goal
 
 pub returns-in-Some : goal.returns-in-Some
 returns-in-Some c insts names u b h e =
-    let n : IsNumberOf names c.in-Some.w.0 u = rw c.in-Some.is at h in
-    (e.0 (c.in-Some.w.0, n.within, n.same u), wire_means insts names c.in-Some.w u n)
+    let n : IsNumberOf names c.in-Some.wire.0 u = rw c.in-Some.is at h in
+    (e.0 (c.in-Some.wire.0, n.within, n.same u), wire_means insts names c.in-Some.wire u n)

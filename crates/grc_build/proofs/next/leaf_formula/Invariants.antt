@@ -6,7 +6,7 @@ use Rattle.grc_build.specs.Nexts.{selected_from}
 use Rattle.grc_build.specs.Tabled.{MeansIn}
 use Rattle.grc_build.proofs.next.leaf_formula.Given as goal
 
-abbrev pub invariant-loop-j : goal.invariant-loop-j
-invariant-loop-j l =
-    (l.fn.i.0 < l.j)
-    × MeansIn l.t l.found (any_of (selected_from (instances_in l.t.wires) (instance_at (instances_in l.t.wires) l.fn.i.0).path l.j))
+abbrev pub invariant-loop-later : goal.invariant-loop-later
+invariant-loop-later l =
+    (l.fn.number.0 < l.later)
+    × MeansIn l.tables l.found (any_of (selected_from (instances_in l.tables.wires) (instance_at (instances_in l.tables.wires) l.fn.number.0).path l.later))

@@ -18,50 +18,51 @@ use Rattle.grc_build.proofs.nodes.node.Goals as goal
 
 pub index-statement-requires : goal.index-statement-requires
 index-statement-requires c =
-    let t = c.args.t.now in
-    let k = instance_here t c.args.i.0 c.requires.tables c.requires.within in
+    let t = c.args.tables.now in
+    let k = instance_here t c.args.number.0 c.requires.tables c.requires.within in
     omega (
       arith,
       statements_within t _ c.requires.tables k.within,
-      ap (λ x. x.path) (read_number t c.args.i.0 c.instance-instance.result c.instance-instance.ensures),
+      ap (λ x. x.path) (read_number t c.args.number.0 c.instance-instance.result c.instance-instance.ensures),
     )
 
 pub returns-in-Nothing : goal.returns-in-Nothing
 returns-in-Nothing c =
-    let r = read_form c.args.t.now c.args.i c.instance-instance.result c.index-statement.result.now (Nothing) c.requires.tables c.requires.within
+    let r = read_form c.args.tables.now c.args.number c.instance-instance.result c.index-statement.result.now (Nothing) c.requires.tables c.requires.within
     c.instance-instance.ensures c.index-statement.ensures (ap term_of c.in-Nothing.is) in
-    node_by c.args.t.now c.args.i.0 (nodes.Through c.args.i) (Nothing) r.form (through c.args.t.now c.args.i c.requires.within)
+    node_by c.args.tables.now c.args.number.0 (nodes.Through c.args.number) (Nothing) r.form (through c.args.tables.now c.args.number c.requires.within)
 
 pub returns-in-Loop : goal.returns-in-Loop
 returns-in-Loop c =
-    let r = read_form c.args.t.now c.args.i c.instance-instance.result c.index-statement.result.now
+    let r = read_form c.args.tables.now c.args.number c.instance-instance.result c.index-statement.result.now
     (Loop c.in-Loop.field-0 (term_of c.in-Loop.field-1.value)) c.requires.tables c.requires.within
     c.instance-instance.ensures c.index-statement.ensures (ap term_of c.in-Loop.is) in
-    node_by c.args.t.now c.args.i.0 (nodes.Through c.args.i) (Loop c.in-Loop.field-0 (term_of c.in-Loop.field-1.value)) r.form
-    (through c.args.t.now c.args.i c.requires.within)
+    node_by c.args.tables.now c.args.number.0 (nodes.Through c.args.number) (Loop c.in-Loop.field-0 (term_of c.in-Loop.field-1.value)) r.form
+    (through c.args.tables.now c.args.number c.requires.within)
 
 pub returns-in-Trap : goal.returns-in-Trap
 returns-in-Trap c =
-    let r = read_form c.args.t.now c.args.i c.instance-instance.result c.index-statement.result.now
+    let r = read_form c.args.tables.now c.args.number c.instance-instance.result c.index-statement.result.now
     (Trap (term_of c.in-Trap.field-0.value)) c.requires.tables c.requires.within
     c.instance-instance.ensures c.index-statement.ensures (ap term_of c.in-Trap.is) in
-    node_by c.args.t.now c.args.i.0 (nodes.Through c.args.i) (Trap (term_of c.in-Trap.field-0.value)) r.form (through c.args.t.now c.args.i c.requires.within)
+    node_by c.args.tables.now c.args.number.0 (nodes.Through c.args.number) (Trap (term_of c.in-Trap.field-0.value)) r.form
+    (through c.args.tables.now c.args.number c.requires.within)
 
 pub returns-in-Exit : goal.returns-in-Exit
 returns-in-Exit c =
-    let r = read_form c.args.t.now c.args.i c.instance-instance.result c.index-statement.result.now (Exit c.in-Exit.code) c.requires.tables c.requires.within
-    c.instance-instance.ensures c.index-statement.ensures (ap term_of c.in-Exit.is) in
-    node_by c.args.t.now c.args.i.0 (nodes.Exit c.args.i c.in-Exit.code) (Exit c.in-Exit.code) r.form
-    (left c.args.t.now c.args.i c.in-Exit.code c.requires.within)
+    let r = read_form c.args.tables.now c.args.number c.instance-instance.result c.index-statement.result.now (Exit c.in-Exit.code) c.requires.tables
+    c.requires.within c.instance-instance.ensures c.index-statement.ensures (ap term_of c.in-Exit.is) in
+    node_by c.args.tables.now c.args.number.0 (nodes.Exit c.args.number c.in-Exit.code) (Exit c.in-Exit.code) r.form
+    (left c.args.tables.now c.args.number c.in-Exit.code c.requires.within)
 
 pub returns-in-Pause : goal.returns-in-Pause
 returns-in-Pause c =
-    let t = c.args.t.now in
-    let i = c.args.i in
+    let t = c.args.tables.now in
+    let i = c.args.number in
     let n = path_at t i.0 in
     let l = layer_at t i.0 in
     let B = (row_in t n).scope in
-    let r = read_form c.args.t.now c.args.i c.instance-instance.result c.index-statement.result.now (Pause) c.requires.tables c.requires.within
+    let r = read_form c.args.tables.now c.args.number c.instance-instance.result c.index-statement.result.now (Pause) c.requires.tables c.requires.within
     c.instance-instance.ensures c.index-statement.ensures (ap term_of c.in-Pause.is) in
     layered_node t i c.instance-instance.result c.index-statement.result.now (Pause) c.in_layer.result
     (nodes.Through i) (nodes.Enter i) (plain.Through n l) (plain.Enter n l) r c.in_layer.ensures (through t i c.requires.within) (entered t i c.requires.within)
@@ -69,12 +70,12 @@ returns-in-Pause c =
 
 pub returns-in-Present : goal.returns-in-Present
 returns-in-Present c =
-    let t = c.args.t.now in
-    let i = c.args.i in
+    let t = c.args.tables.now in
+    let i = c.args.number in
     let n = path_at t i.0 in
     let l = layer_at t i.0 in
     let B = (row_in t n).scope in
-    let r = read_form c.args.t.now c.args.i c.instance-instance.result c.index-statement.result.now
+    let r = read_form c.args.tables.now c.args.number c.instance-instance.result c.index-statement.result.now
     (Present (expression_of c.in-Present.field-0) (term_of c.in-Present.field-1.value) (term_of c.in-Present.field-2.value)) c.requires.tables
     c.requires.within
     c.instance-instance.ensures c.index-statement.ensures (ap term_of c.in-Present.is) in
@@ -86,12 +87,12 @@ returns-in-Present c =
 
 pub returns-in-Suspend : goal.returns-in-Suspend
 returns-in-Suspend c =
-    let t = c.args.t.now in
-    let i = c.args.i in
+    let t = c.args.tables.now in
+    let i = c.args.number in
     let n = path_at t i.0 in
     let l = layer_at t i.0 in
     let B = (row_in t n).scope in
-    let r = read_form c.args.t.now c.args.i c.instance-instance.result c.index-statement.result.now
+    let r = read_form c.args.tables.now c.args.number c.instance-instance.result c.index-statement.result.now
     (Suspend (expression_of c.in-Suspend.field-0) (term_of c.in-Suspend.field-1.value)) c.requires.tables c.requires.within
     c.instance-instance.ensures c.index-statement.ensures (ap term_of c.in-Suspend.is) in
     layered_node t i c.instance-instance.result c.index-statement.result.now
@@ -102,12 +103,12 @@ returns-in-Suspend c =
 
 pub returns-in-Seq : goal.returns-in-Seq
 returns-in-Seq c =
-    let t = c.args.t.now in
-    let i = c.args.i in
+    let t = c.args.tables.now in
+    let i = c.args.number in
     let n = path_at t i.0 in
     let l = layer_at t i.0 in
     let B = (row_in t n).scope in
-    let r = read_form c.args.t.now c.args.i c.instance-instance.result c.index-statement.result.now
+    let r = read_form c.args.tables.now c.args.number c.instance-instance.result c.index-statement.result.now
     (Seq (term_of c.in-Seq.field-0.value) (term_of c.in-Seq.field-1.value)) c.requires.tables c.requires.within
     c.instance-instance.ensures c.index-statement.ensures (ap term_of c.in-Seq.is) in
     layered_node t i c.instance-instance.result c.index-statement.result.now
@@ -118,14 +119,14 @@ returns-in-Seq c =
 
 pub index-requires : goal.index-requires
 index-requires c =
-    let o = own_signal c.args.t.now c.args.i.0 c.in-Emit.signal.0 c.index-statement.result.now c.instance-instance.result c.requires.tables c.requires.within
-    c.instance-instance.ensures c.index-statement.ensures (ap term_of c.in-Emit.is) in
+    let o = own_signal c.args.tables.now c.args.number.0 c.in-Emit.signal.0 c.index-statement.result.now c.instance-instance.result c.requires.tables
+    c.requires.within c.instance-instance.ensures c.index-statement.ensures (ap term_of c.in-Emit.is) in
     omega (arith, o.some)
 
 pub returns-in-Emit : goal.returns-in-Emit
 returns-in-Emit c =
-    let t = c.args.t.now in
-    let i = c.args.i in
+    let t = c.args.tables.now in
+    let i = c.args.number in
     let n = path_at t i.0 in
     let l = layer_at t i.0 in
     let B = (row_in t n).scope in
@@ -141,9 +142,9 @@ returns-in-Emit c =
 
 pub parallel-requires-clause-branches : goal.parallel-requires-clause-branches
 parallel-requires-clause-branches c =
-    let t = c.args.t.now in
-    let i = c.args.i in
-    let r = read_form c.args.t.now c.args.i c.instance-instance.result c.index-statement.result.now
+    let t = c.args.tables.now in
+    let i = c.args.number in
+    let r = read_form c.args.tables.now c.args.number c.instance-instance.result c.index-statement.result.now
     (Par (term_of c.in-Par.field-0.value) (term_of c.in-Par.field-1.value)) c.requires.tables c.requires.within
     c.instance-instance.ensures c.index-statement.ensures (ap term_of c.in-Par.is) in
     are_branches t (path_at t i.0) c.index-statement.result.now.second (layer_at t i.0) (term_of c.in-Par.field-0.value) (term_of c.in-Par.field-1.value)
@@ -151,12 +152,12 @@ parallel-requires-clause-branches c =
 
 pub returns-in-Par : goal.returns-in-Par
 returns-in-Par c =
-    let t = c.args.t.now in
-    let i = c.args.i in
+    let t = c.args.tables.now in
+    let i = c.args.number in
     let n = path_at t i.0 in
     let p = term_of c.in-Par.field-0.value in
     let q = term_of c.in-Par.field-1.value in
-    let r = read_form c.args.t.now c.args.i c.instance-instance.result c.index-statement.result.now
+    let r = read_form c.args.tables.now c.args.number c.instance-instance.result c.index-statement.result.now
     (Par (term_of c.in-Par.field-0.value) (term_of c.in-Par.field-1.value)) c.requires.tables c.requires.within
     c.instance-instance.ensures c.index-statement.ensures (ap term_of c.in-Par.is) in
     node_by t i.0 c.parallel.result (Par p q) r.form
@@ -164,16 +165,16 @@ returns-in-Par c =
 
 pub definition-requires-clause-there : goal.definition-requires-clause-there
 definition-requires-clause-there c =
-    let t = c.args.t.now in
-    let i = c.args.i in
-    let r = read_form c.args.t.now c.args.i c.instance-instance.result c.index-statement.result.now
+    let t = c.args.tables.now in
+    let i = c.args.number in
+    let r = read_form c.args.tables.now c.args.number c.instance-instance.result c.index-statement.result.now
     (Local c.in-Local.field-0.0 (term_of c.in-Local.field-1.value)) c.requires.tables c.requires.within
     c.instance-instance.ensures c.index-statement.ensures (ap term_of c.in-Local.is) in
     is_there t IsStatus (path_at t i.0) (layer_at t i.0) c.requires.tables tt (record { within = r.here.within; live = r.here.live; has = ap is_local r.form })
 
 pub returns-in-Local : goal.returns-in-Local
 returns-in-Local c =
-    let r = read_form c.args.t.now c.args.i c.instance-instance.result c.index-statement.result.now
+    let r = read_form c.args.tables.now c.args.number c.instance-instance.result c.index-statement.result.now
     (Local c.in-Local.field-0.0 (term_of c.in-Local.field-1.value)) c.requires.tables c.requires.within
     c.instance-instance.ensures c.index-statement.ensures (ap term_of c.in-Local.is) in
-    node_by c.args.t.now c.args.i.0 c.definition.result (Local c.in-Local.field-0.0 (term_of c.in-Local.field-1.value)) r.form c.definition.ensures
+    node_by c.args.tables.now c.args.number.0 c.definition.result (Local c.in-Local.field-0.0 (term_of c.in-Local.field-1.value)) r.form c.definition.ensures

@@ -7,7 +7,7 @@ use Rattle.grc_graph.specs.PlainGraphs.{node_of}
 use Rattle.grc_build.proofs.TableSpots.{spots_in}
 use Rattle.grc_build.proofs.nodes.nodes.Given as goal
 
-abbrev pub invariant-loop-i : goal.invariant-loop-i
-invariant-loop-i l =
-    (map (node_of (instances_in l.t.wires) (names_in l.t.wires)) l.list.items ≡ map spot_node (spots_in l.t l.i))
-    × All (λ x. IsTrue (node_fits (length (instances_in l.t.wires)) (length (names_in l.t.wires)) x)) l.list.items
+abbrev pub invariant-loop-number : goal.invariant-loop-number
+invariant-loop-number l =
+    (map (node_of (instances_in l.tables.wires) (names_in l.tables.wires)) l.list.items ≡ map spot_node (spots_in l.tables l.number))
+    × All (λ x. IsTrue (node_fits (length (instances_in l.tables.wires)) (length (names_in l.tables.wires)) x)) l.list.items

@@ -13,17 +13,17 @@ use Rattle.grc_build.proofs.nodes.parallel.Goals as goal
 
 pub returns-in-Resumed : goal.returns-in-Resumed
 returns-in-Resumed c =
-    let t = c.args.t.now in
-    let x = instance_at (instances_in t.wires) c.args.i.0 in
+    let t = c.args.tables.now in
+    let x = instance_at (instances_in t.wires) c.args.number.0 in
     let same : x ≡ instance_of c.instance-instance.result = c.instance-instance.ensures.same _ in
     let layer : x.layer ≡ Resumed = ap (λ v. v.layer) same ∙ ap layer_of c.in-Resumed.is in
-    subst (λ j. IsNodeOf t (nodes.Sync c.args.i) (parallel_node x.path c.args.second j)) (sym layer)
-    (subst (λ j. IsNodeOf t (nodes.Sync c.args.i) (plain.Sync x.path j)) layer (synced t c.args.i c.requires.within))
+    subst (λ j. IsNodeOf t (nodes.Sync c.args.number) (parallel_node x.path c.args.second j)) (sym layer)
+    (subst (λ j. IsNodeOf t (nodes.Sync c.args.number) (plain.Sync x.path j)) layer (synced t c.args.number c.requires.within))
 
 pub overflow_add-instance : goal.overflow_add-instance
 overflow_add-instance c =
-    let t = c.args.t.now in
-    let x = instance_at (instances_in t.wires) c.args.i.0 in
+    let t = c.args.tables.now in
+    let x = instance_at (instances_in t.wires) c.args.number.0 in
     let y = c.instance-instance.result in
     let same : x ≡ instance_of y = c.instance-instance.ensures.same _ in
     let layer : x.layer ≡ Started c.in-Started.field-0.0 = ap (λ v. v.layer) same ∙ ap layer_of c.in-Started.is in
@@ -32,8 +32,8 @@ overflow_add-instance c =
 
 pub fork-requires-clause-first : goal.fork-requires-clause-first
 fork-requires-clause-first c =
-    let t = c.args.t.now in
-    let x = instance_at (instances_in t.wires) c.args.i.0 in
+    let t = c.args.tables.now in
+    let x = instance_at (instances_in t.wires) c.args.number.0 in
     let y = c.instance-instance.result in
     let same : x ≡ instance_of y = c.instance-instance.ensures.same _ in
     let layer : x.layer ≡ Started c.in-Started.field-0.0 = ap (λ v. v.layer) same ∙ ap layer_of c.in-Started.is in
@@ -42,8 +42,8 @@ fork-requires-clause-first c =
 
 pub fork-requires-clause-second : goal.fork-requires-clause-second
 fork-requires-clause-second c =
-    let t = c.args.t.now in
-    let x = instance_at (instances_in t.wires) c.args.i.0 in
+    let t = c.args.tables.now in
+    let x = instance_at (instances_in t.wires) c.args.number.0 in
     let y = c.instance-instance.result in
     let same : x ≡ instance_of y = c.instance-instance.ensures.same _ in
     let layer : x.layer ≡ Started c.in-Started.field-0.0 = ap (λ v. v.layer) same ∙ ap layer_of c.in-Started.is in
@@ -52,8 +52,8 @@ fork-requires-clause-second c =
 
 pub returns-in-Started : goal.returns-in-Started
 returns-in-Started c =
-    let t = c.args.t.now in
-    let x = instance_at (instances_in t.wires) c.args.i.0 in
+    let t = c.args.tables.now in
+    let x = instance_at (instances_in t.wires) c.args.number.0 in
     let y = c.instance-instance.result in
     let same : x ≡ instance_of y = c.instance-instance.ensures.same _ in
     let layer : x.layer ≡ Started c.in-Started.field-0.0 = ap (λ v. v.layer) same ∙ ap layer_of c.in-Started.is in

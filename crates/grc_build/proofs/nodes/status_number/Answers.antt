@@ -10,15 +10,15 @@ use Rattle.grc_build.proofs.nodes.status_number.Goals as goal
 
 pub returns-in-Outgoing : goal.returns-in-Outgoing
 returns-in-Outgoing c u e =
-    subst (λ v. HasName (names_in c.args.t.now.wires) c.out.result v)
-    (out_status c.args.signal.0 (instance_at (instances_in c.args.t.now.wires) c.args.i.0).layer u (rw c.in-Outgoing.is at e)) c.out.ensures
+    subst (λ v. HasName (names_in c.args.tables.now.wires) c.out.result v)
+    (out_status c.args.signal.0 (instance_at (instances_in c.args.tables.now.wires) c.args.number.0).layer u (rw c.in-Outgoing.is at e)) c.out.ensures
 
 pub returns-in-Bound : goal.returns-in-Bound
 returns-in-Bound c u e =
-    let t = c.args.t.now in
+    let t = c.args.tables.now in
     let b = c.in-Bound.path in
-    let l = (instance_at (instances_in t.wires) c.args.i.0).layer in
-    let same : instance_at (instances_in t.wires) c.args.i.0 ≡ instance_of c.instance-instance.result = c.instance-instance.ensures.same _ in
+    let l = (instance_at (instances_in t.wires) c.args.number.0).layer in
+    let same : instance_at (instances_in t.wires) c.args.number.0 ≡ instance_of c.instance-instance.result = c.instance-instance.ensures.same _ in
     let at : layer_of c.layer_above.result ≡ layer_above b l = c.layer_above.ensures ∙ ap (λ x. layer_above b x.layer) (sym same) in
     subst (λ v. HasName (names_in t.wires) c.find_status.result v) (bound_status b c.args.signal.0 l u (rw c.in-Bound.is at e))
     (subst (λ j. HasName (names_in t.wires) c.find_status.result (StatusOf b j)) at c.find_status.ensures)

@@ -7,7 +7,7 @@ use Rattle.grc_build.proofs.parallels.branch_over.Goals as goal
 
 pub returns : goal.returns
 returns c =
-    let t = c.args.t.now in
+    let t = c.args.tables.now in
     let insts = instances_in t.wires in
     let names = names_in t.wires in
     let n = c.args.path in

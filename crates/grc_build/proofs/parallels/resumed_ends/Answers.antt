@@ -8,13 +8,13 @@ use Rattle.grc_build.proofs.parallels.resumed_ends.Goals as goal
 
 pub returns : goal.returns
 returns c b x h g =
-    let t = c.args.t.now in
+    let t = c.args.tables.now in
     let insts = instances_in t.wires in
     let names = names_in t.wires in
-    let k = c.args.e.code in
+    let k = c.args.ending.code in
     let n = c.args.first in
     let m = c.args.second in
-    let w = c.args.e.path in
+    let w = c.args.ending.path in
     let over = if_any insts names c.in_ok-over.over (k == 0) (branch_over w m) c.in_ok-over.ensures in
     let one = c.in_ok-found.ensures insts names x (held_end m k) (formula_if (k == 0) (branch_over w m)) (c.in_ok-held_end.ensures x g) over in
     let two = c.in_ok-found-2.ensures insts names (k == 0) (branch_over w n)

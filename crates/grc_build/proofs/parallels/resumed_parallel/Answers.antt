@@ -8,13 +8,13 @@ use Rattle.grc_build.proofs.parallels.resumed_parallel.Goals as goal
 
 pub returns : goal.returns
 returns c a d b x h g f e =
-    let t = c.args.t.now in
+    let t = c.args.tables.now in
     let insts = instances_in t.wires in
     let names = names_in t.wires in
-    let k = c.args.e.code in
+    let k = c.args.ending.code in
     let n = c.args.first in
     let m = c.args.second in
-    let w = c.args.e.path in
+    let w = c.args.ending.path in
     let ends = c.in_ok-ends.ensures b x f e in
     let other = c.in_ok-other.ensures d g in
     let E = any_of (formula_if b (held_end n k) ++ (formula_if (k == 0) (branch_over w n)

@@ -9,11 +9,11 @@ use Rattle.grc_build.proofs.parallels.started_parallel.Goals as goal
 
 pub returns : goal.returns
 returns c b x h g =
-    let t = c.args.t.now in
+    let t = c.args.tables.now in
     let insts = instances_in t.wires in
     let names = names_in t.wires in
-    let l = layer_of c.args.e.layer in
-    let k = c.args.e.code in
+    let l = layer_of c.args.ending.layer in
+    let k = c.args.ending.code in
     let n = c.args.first in
     let m = c.args.second in
     let ends = c.or_false.ensures insts names (end_if b n l k ++ end_if x m l k)

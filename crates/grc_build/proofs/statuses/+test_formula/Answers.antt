@@ -9,7 +9,7 @@ use Rattle.grc_build.proofs.statuses.+test_formula.Goals as goal
 
 pub returns-in_ok-negated-in-Not-clause-means : goal.returns-in_ok-negated-in-Not-clause-means
 returns-in_ok-negated-in-Not-clause-means m c =
-    let t = c.args.t.now in
+    let t = c.args.tables.now in
     let bs = map binding_of c.args.bindings.now in
     let l = layer_of c.args.layer in
     let a = expression_of c.in-Not.part.value in
@@ -19,7 +19,7 @@ returns-in_ok-negated-in-Not-clause-means m c =
 
 pub returns-in_ok-both-in-And-clause-means : goal.returns-in_ok-both-in-And-clause-means
 returns-in_ok-both-in-And-clause-means m c =
-    let t = c.args.t.now in
+    let t = c.args.tables.now in
     let bs = map binding_of c.args.bindings.now in
     let l = layer_of c.args.layer in
     let k = c.args.at.now in
@@ -34,7 +34,7 @@ returns-in_ok-both-in-And-clause-means m c =
 
 pub returns-in_ok-either-in-Or-clause-means : goal.returns-in_ok-either-in-Or-clause-means
 returns-in_ok-either-in-Or-clause-means m c =
-    let t = c.args.t.now in
+    let t = c.args.tables.now in
     let bs = map binding_of c.args.bindings.now in
     let l = layer_of c.args.layer in
     let k = c.args.at.now in

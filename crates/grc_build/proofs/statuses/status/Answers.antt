@@ -9,13 +9,13 @@ use Rattle.grc_build.proofs.statuses.status.Goals as goal
 
 pub returns-in-Outgoing : goal.returns-in-Outgoing
 returns-in-Outgoing c =
-    let t = c.args.t.now in
+    let t = c.args.tables.now in
     let there : IsThere t (Out c.args.signal.0) = rw c.in-Outgoing.is at c.requires in
     rw c.in-Outgoing.is (c.wire.ensures (instances_in t.wires) (names_in t.wires) (Out c.args.signal.0) c.out.ensures there)
 
 pub returns-in-Bound : goal.returns-in-Bound
 returns-in-Bound c =
-    let t = c.args.t.now in
+    let t = c.args.tables.now in
     let b = c.in-Bound.path in
     let u = StatusOf b (layer_above b (layer_of c.args.layer)) in
     let there : IsThere t u = rw c.in-Bound.is at c.requires in
