@@ -12,10 +12,11 @@ use Rattle.blif_run.specs.Edges.{edges_from, IsEvaluationOrder}
 use Rattle.blif_run.specs.Steps.{PlainStep, StepFits, value_at, settled}
 use Rattle.blif_run.specs.Slots.{slot_of, slot_count, first_slot, slots_read, step_at, no_table, valuation_of}
 use Rattle.blif_run.specs.Plans.{Starts, IsPlan}
+use Rattle.blif_text.proofs.NameLists.{found-low, found-at, place-among}
 use Rattle.blif_text.proofs.Described.{IsSound}
 use Rattle.blif_run.proofs.Truths.{gives, gives-table, length-truth}
 use Rattle.blif_run.proofs.Settling.{InOrder, AllSettled, all-settled, all-agree}
-use Rattle.blif_run.proofs.Places.{found-low, found-at, place-at, place-among, slots-split, input-slot, latch-slot, output-slot}
+use Rattle.blif_run.proofs.Places.{place-at, slots-split, input-slot, latch-slot, output-slot}
 use Rattle.blif_run.proofs.TableEdges.{in-edges, reads-at, input-driven}
 
 -- the values of lists' elements from those of their places

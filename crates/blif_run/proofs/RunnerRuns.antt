@@ -8,8 +8,8 @@ use Rattle.blif_text.specs.NameLists.{is_among}
 use Rattle.blif_text.specs.Circuits.{Circuit}
 use Rattle.blif_text.specs.Runs.{IsInstant, IsRunFrom, circuit_latches, driven_names}
 use Rattle.blif_run.specs.Laws.{AnswersAreRuns}
+use Rattle.blif_text.proofs.NameLists.{found-low, found-at}
 use Rattle.blif_text.proofs.Described.{IsSound, described-sound}
-use Rattle.blif_run.proofs.Places.{found-low, found-at}
 use Rattle.blif_run.specs.Runners.{Runner, Drives}
 
 -- a run from a runner's latches whose outputs are the answers

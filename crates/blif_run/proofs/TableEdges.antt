@@ -13,8 +13,9 @@ use Rattle.blif_text.specs.Runs.{driven_names}
 use Rattle.blif_run.specs.Edges.{table_edges, edges_from, output_at, outputs_along, NoWalk}
 use Rattle.blif_run.specs.Loops.{NeedsName, IsLoop, HasNoLoop, name_at}
 use Rattle.blif_run.specs.Slots.{slot_of, first_slot, slots_read, no_table}
+use Rattle.blif_text.proofs.NameLists.{found-low, found-at, place-among}
 use Rattle.blif_text.proofs.Described.{IsSound}
-use Rattle.blif_run.proofs.Places.{found-low, found-at, place-among, slots-split, output-slot}
+use Rattle.blif_run.proofs.Places.{slots-split, output-slot}
 
 -- the slot is among those that are read
 pub record IsRead (slots : List ℕ) (slot : ℕ) : Type 0 where

@@ -14,6 +14,7 @@ use Rattle.blif_text.specs.Lines.{Line, is_clean, words, read_lines}
 use Rattle.blif_text.specs.Statements.{Statement, Model, Inputs, Outputs, Latch, Names, Row, End, Said, said, said_in, said_by, statement_of}
 use Rattle.blif_text.specs.Statements.{model_of, latch_of, names_of, name_before, table_of, end_of, table_row, bit_of, cells_of}
 use Rattle.net_ir.specs.NameLists.{is_among, first_again}
+use Rattle.net_ir.proofs.NameLists.{SameNames}
 use Rattle.blif_text.specs.Circuits.{Circuit, CircuitLatch, circuit_of, inputs_in, outputs_in, latches_in, tables_of, driven_by, used_by}
 use Rattle.blif_text.specs.Circuits.{driven_again, not_driven, reading, statements, unless, Fault}
 use Rattle.blif_text.specs.Runs.{driven_names}
@@ -78,9 +79,6 @@ differ-middle y (z ∷ front) behind h =
     and_from (not (is_among z (front ++ y ∷ behind))) (all_differ is_same_name (front ++ y ∷ behind)) (not_from_false (is_among z (front ++ y ∷ behind)) none)
     (differ-middle y front behind (and_from (not (is_among y (front ++ behind))) (all_differ is_same_name (front ++ behind))
     (not_from_false (is_among y (front ++ behind)) apart.1) inner.1))
-
-abbrev SameNames : List (List ℕ) → List (List ℕ) → Type 0
-SameNames xs ys = (x : List ℕ) → is_among x xs ≡ is_among x ys
 
 -- the same names, and different ones in the second list where they are in the first
 record Regroups (xs ys : List (List ℕ)) : Type 0 where

@@ -1,6 +1,7 @@
+-- what callers cite of names among others
+pub use Rattle.net_ir.proofs.NameLists
 mod WorkedTexts
 mod PlainWords
-pub mod NameSets
 pub mod FirstLines
 pub mod FirstWords
 pub mod WordBytes
@@ -8,7 +9,7 @@ pub mod SpelledLines
 pub mod ReadsBack
 pub mod SaidNames
 pub mod Reversals
-pub mod DriverSets
+pub mod DriverFaults
 pub mod TakenLines
 pub mod ReadBack
 pub mod Described

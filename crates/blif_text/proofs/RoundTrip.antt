@@ -1,17 +1,17 @@
 -- The text of a circuit is read as that circuit.
-use Rattle.std.proofs.Common.{◌≡◌, ℕ, Bool, true, false, not, ◌==◌, ◌&&◌, List, [], ◌∷◌, ◌++◌, length, map, refl, sym, ap, ◌∙◌, append_assoc, Some, None, Ok}
+use Rattle.std.proofs.Common.{◌≡◌, ℕ, Bool, true, not, ◌==◌, ◌&&◌, List, [], ◌∷◌, ◌++◌, length, map, refl, sym, ap, ◌∙◌, append_assoc, Some, None, Ok}
 use Rattle.std.specs.Prelude.{nat_le, flat_map, find}
-use Rattle.std.specs.List.{list_all, list_any}
-use Rattle.std.specs.Cmp.Lexicographic.{nat_list_eq_equiv}
-use Rattle.std.proofs.lemmas.Bool.{and_parts, or_parts, and_from, eqb-true, eq-eqb, not-true}
+use Rattle.std.specs.List.{list_all}
+use Rattle.std.proofs.lemmas.Bool.{and_parts, and_from, eqb-true, eq-eqb}
 use Rattle.std.proofs.lemmas.List.{append-nil}
 use Rattle.std.proofs.lemmas.List.Concat.{flat_map-append, flat_map_single}
 use Rattle.std.proofs.lemmas.List.Folds.{list_all-append}
-use Rattle.est_base.specs.Distinct.{all_differ, none_shared}
+use Rattle.est_base.specs.Distinct.{all_differ}
 use Rattle.est_base.specs.Names.{is_same_name}
 use Rattle.blif_text.specs.Statements.{Cell, Statement, Model, Inputs, Outputs, Names, Row, End, is_end, row_may_follow}
 use Rattle.blif_text.specs.Circuits.{Circuit, CircuitLatch, Table, leading_rows, tables_of, inputs_in, outputs_in, latches_in, circuit_of, driven_by, used_by}
 use Rattle.net_ir.specs.NameLists.{is_among, first_again}
+use Rattle.net_ir.proofs.NameLists.{once-differ}
 use Rattle.blif_text.specs.Circuits.{driven_again, not_driven, reading}
 use Rattle.blif_text.specs.Spelled.{inputs_statements, latch_statement, table_statements, head_statements, circuit_statements, circuit_text}
 use Rattle.blif_text.specs.Runs.{driven_names}
@@ -272,30 +272,6 @@ circuit_of-circuit c =
 
 -- ---- drivers
 
-same_name-symm : (x y : List ℕ) → is_same_name x y ≡ is_same_name y x
-same_name-symm x y = nat_list_eq_equiv.symm x y
-
-pub none_shared-front : (xs before : List (List ℕ)) (x : List ℕ) → list_any (is_same_name x) xs ≡ false → none_shared is_same_name xs before ≡ true
-    → none_shared is_same_name xs (x ∷ before) ≡ true
-none_shared-front [] before x apart none = refl
-none_shared-front (y ∷ xs) before x apart none =
-    let others = or_parts (is_same_name x y) (list_any (is_same_name x) xs) apart in
-    let parts = and_parts (not (is_among y before)) (none_shared is_same_name xs before) none in
-    rw (same_name-symm y x, others.0, parts.0) (none_shared-front xs before x others.1 parts.1)
-
-first_again-none : (before names : List (List ℕ)) → none_shared is_same_name names before ≡ true → all_differ is_same_name names ≡ true
-    → first_again before names ≡ None
-first_again-none before [] none differ = refl
-first_again-none before (name ∷ names) none differ =
-    let apart = and_parts (not (is_among name before)) (none_shared is_same_name names before) none in
-    let parts = and_parts (not (is_among name names)) (all_differ is_same_name names) differ in
-    rw (not-true (is_among name before) apart.0) (first_again-none (name ∷ before) names
-    (none_shared-front names before name (not-true (is_among name names) parts.0) apart.1) parts.1)
-
-pub none_shared-nil : (names : List (List ℕ)) → none_shared is_same_name names [] ≡ true
-none_shared-nil [] = refl
-none_shared-nil (name ∷ names) = none_shared-nil names
-
 find-none : {X : Type 0} (p : X → Bool) (xs : List X) → list_all p xs ≡ true → find (λ x. not (p x)) xs ≡ None
 find-none p [] all = refl
 find-none p (x ∷ xs) all =
@@ -307,7 +283,7 @@ pub reading-circuit_text : (c : Circuit) → HasSpelling c → reading (circuit_
 reading-circuit_text c fits =
     let driven = driven-circuit c in
     let once : driven_again (circuit_statements c) ≡ None = ap (first_again []) driven
-    ∙ first_again-none [] (driven_names c) (none_shared-nil (driven_names c)) fits.once in
+    ∙ once-differ (driven_names c) fits.once in
     let all : not_driven (circuit_statements c) ≡ None = rw (driven, used-circuit c)
     (find-none (λ name. is_among name (driven_names c)) (used_names c) fits.driven) in
     reading-text_of (circuit_statements c) (spellable-circuit c fits) (accepted-circuit c fits) once all ∙ ap Ok (circuit_of-circuit c)

@@ -1,5 +1,5 @@
 pub mod Rows
-pub mod NameLists
+pub mod UnsetLocals
 pub mod TokenKinds
 pub mod ExprLaws
 pub mod TextLaws

@@ -8,7 +8,7 @@ use Rattle.csub_text.specs.Names.{Use, Assigned, Taken, Twice, Undeclared, Unset
 use Rattle.csub_text.specs.Names.{names_in, unset_from, name_found, fault_by, name_fault}
 use Rattle.csub_read.specs.declared.refusal.CError.{CError}
 use Rattle.csub_read.specs.declared.refusal.CError.TheVariants as faults
-use Rattle.csub_read.proofs.NameLists.{unset-found}
+use Rattle.csub_read.proofs.UnsetLocals.{unset-found}
 use Rattle.csub_read.specs.NameTests.{wrong_use, NamesFault, UseFault, UnsetFault}
 
 -- a test by what is known is one by the declared names

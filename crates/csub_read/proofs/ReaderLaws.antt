@@ -23,7 +23,7 @@ use Rattle.csub_read.specs.Steps.{SyntaxFault, Spells}
 use Rattle.csub_read.specs.NameTests.{NamesFault}
 use Rattle.csub_read.specs.Reading.{Parts, makes_expr, makes_written, text_rule, written_of, expr_assign, expr_program, pair_of, parts_in}
 use Rattle.csub_read.specs.Tokens.{token_of, kind_in}
-use Rattle.csub_read.proofs.NameLists.{drop-at}
+use Rattle.net_ir.proofs.Numbered.{drop-at}
 use Rattle.csub_read.proofs.TextLaws.{text-exact}
 use Rattle.csub_read.proofs.Makers.{parts_meant, made, whole-meant, whole-written, parts-means}
 

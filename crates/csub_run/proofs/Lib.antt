@@ -1,4 +1,3 @@
 pub mod Rows
-pub mod NameLists
 pub mod Machines
 pub mod RunnerRuns

@@ -1,6 +1,6 @@
 -- Inner: the values of slots are the memory of the machine.
-use Rattle.std.proofs.Common.{◌≡◌, ℕ, ◌+◌, ◌<◌, zero, suc, Bool, true, false, not, cond, ◌||◌, ◌&&◌, List, [], ◌∷◌, ◌++◌, length, map, refl, sym, ap, ◌∙◌}
-use Rattle.std.proofs.Common.{arith, Option, Some, None}
+use Rattle.std.proofs.Common.{◌≡◌, ℕ, ◌+◌, ◌<◌, zero, suc, Bool, true, false, not, cond, ◌||◌, ◌&&◌, List, [], ◌∷◌, ◌++◌, length, map, get_or, refl, sym, ap}
+use Rattle.std.proofs.Common.{◌∙◌, arith, Option, Some, None}
 use Rattle.std.proofs.Math.ListN.{set}
 use Rattle.std.specs.Prelude.{slice_set, find, filter, flat_map, if◌then◌else◌}
 use Rattle.std.specs.List.{AllByRecursion}
@@ -27,7 +27,7 @@ use Rattle.csub_run.specs.Runners.{KeepsNames, Reacts, IsFresh, slot_in, value_a
 use Rattle.csub_run.specs.Slots.{slotted, all_slotted, slot_value, all_values, any_value}
 use Rattle.csub_run.specs.declared.steps.Step.{Step}
 use Rattle.csub_run.specs.Steps.{PlainStep, step_of, settled, step_value, made, StepFits, IsStep, AreSteps, put_all, first_values, IsPlan}
-use Rattle.csub_run.proofs.NameLists.{slot-low, slot-own}
+use Rattle.csub_text.proofs.NameLists.{found-low, place-among, found-at}
 
 -- memories that agree on all names
 abbrev pub Agree : Memory → Memory → Type 0
@@ -96,11 +96,18 @@ mutual
       ap (λ b. b || any_value values (all_slotted names others)) (value-slots names values e)
       ∙ ap (λ b. value_of (memory_in names values) e || b) (any-slots names values others)
 
+-- the place of a name that has one is that of no other name
+slot-own : (xs : List (List ℕ)) (x y : List ℕ) → slot_in xs x < length xs → slot_in xs y ≡ slot_in xs x → is_same_name y x ≡ true
+slot-own xs x y low same =
+    let at = found-at x xs (place-among x xs low) in
+    let other = found-at y xs (place-among y xs (omega (arith, low, same))) in
+    ap (is_same_name y) (sym at ∙ ap (λ k. get_or xs k []) (sym same) ∙ other) ∙ (bytes_decides y y).1 refl
+
 -- a slot that gets a value is a variable that does
 pub set-slot : (names : List (List ℕ)) (values : List Bool) → length values ≡ length names → (x : List ℕ) → is_among x names ≡ true → (v : Bool) →
     Agree (memory_in names (slice_set values (slot_in names x) v)) (with_value x v (memory_in names values))
 set-slot names values wide x among v name =
-    let low = slot-low x names among in
+    let low = found-low x names among in
     let k = slot_in names x in
     elim (is_same_name name x) as (λ b. is_same_name name x ≡ b → value_at (slice_set values k v) (slot_in names name) ≡
     (if b then v else value_at values (slot_in names name))) [
@@ -227,7 +234,7 @@ targets-declared p fits =
 
 pub slots-below : (names xs : List (List ℕ)) → AllAmong names xs → AllByRecursion (λ k. k < length names) (map (slot_in names) xs)
 slots-below names [] all = tt
-slots-below names (x ∷ xs) all = (slot-low x names all.0, slots-below names xs all.1)
+slots-below names (x ∷ xs) all = (found-low x names all.0, slots-below names xs all.1)
 
 steps-below : (names : List (List ℕ)) (body : List Assign) (steps : List Step) → Targets names body → AreSteps names body steps
     → AllByRecursion (StepFits (length names)) steps
@@ -235,7 +242,7 @@ steps-below names [] [] all are = tt
 steps-below names [] (s ∷ steps) all are = absurd are
 steps-below names (a ∷ body) [] all are = absurd are
 steps-below names (a ∷ body) (s ∷ steps) all are =
-    (record { slot_low = rw are.0.slot_is (slot-low a.target names all.0); value_fits = are.0.stands.fits }, steps-below names body steps all.1 are.1)
+    (record { slot_low = rw are.0.slot_is (found-low a.target names all.0); value_fits = are.0.stands.fits }, steps-below names body steps all.1 are.1)
 
 -- ---- the steps of the code
 

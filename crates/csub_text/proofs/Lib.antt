@@ -1,3 +1,5 @@
+-- what callers cite of names among others
+pub use Rattle.net_ir.proofs.NameLists
 pub mod Moves
 mod TextEquations
 pub mod Lexing

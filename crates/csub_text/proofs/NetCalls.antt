@@ -2,7 +2,7 @@
 use Rattle.std.proofs.Common.{◌≡◌, ℕ, ◌+◌, ◌-◌, ◌<◌, ◌≤◌, ◌==◌, zero, suc, Bool, true, false, not, ◌&&◌, ◌||◌, List, [], ◌∷◌, ◌++◌, length, map, get_or}
 use Rattle.std.proofs.Common.{refl, sym, ap, ◌∙◌, subst, arith, Some, None, inl, inr}
 use Rattle.std.specs.Prelude.{if◌then◌else◌}
-use Rattle.std.specs.List.{list_any, list_all}
+use Rattle.std.specs.List.{list_all}
 use Rattle.std.proofs.lemmas.Bool.{and_parts, or_parts, not-true, cases_lt}
 use Rattle.std.proofs.lemmas.List.{length-map, get_or-map, length-append, get_or_append_left, get_or-append-add, get_or_push}
 use Rattle.std.proofs.lemmas.List.{length_push}
@@ -27,6 +27,7 @@ use Rattle.csub_text.proofs.NetNames.{state_names}
 use Rattle.csub_text.proofs.NetNames.{next_names, given_variables, shown_variables, marks-inputs, marks-states, marks-nexts, marks-gates, marks-given}
 use Rattle.csub_text.proofs.NetNames.{marks-shown}
 use Rattle.csub_text.proofs.NetNames.{differ-inputs, differ-states, differ-nexts, differ-gates, differ-given, differ-shown}
+use Rattle.net_ir.proofs.NameLists.{any-none, differ-at}
 use Rattle.net_ir.proofs.Numbered.{length-numbered, get_or-numbered}
 use Rattle.net_ir.proofs.NumberedNames.{differ-by, same-refl}
 use Rattle.net_ir.specs.Numbered.{numbered}
@@ -81,23 +82,6 @@ inputs-given (n ∷ names) (v ∷ values) m differ wide (suc k) d h =
     let parts = and_parts (not (is_among n names)) (all_differ is_same_name names) differ in
     inputs-given names values (with_value n v m) parts.1 (omega arith) k d (omega arith)
 
--- ---- names at different places
-
-pub any-none : (p : List ℕ → Bool) (xs : List (List ℕ)) → list_any p xs ≡ false → (k : ℕ) → k < length xs → p (get_or xs k []) ≡ false
-any-none p [] none k h = absurd (omega arith)
-any-none p (x ∷ xs) none zero h = (or_parts (p x) (list_any p xs) none).0
-any-none p (x ∷ xs) none (suc k) h = any-none p xs (or_parts (p x) (list_any p xs) none).1 k (omega arith)
-
-differ-at : (xs : List (List ℕ)) → all_differ is_same_name xs ≡ true → (j k : ℕ) → j < k → k < length xs
-    → is_same_name (get_or xs j []) (get_or xs k []) ≡ false
-differ-at [] differ j k a b = absurd (omega arith)
-differ-at (x ∷ xs) differ j zero a b = absurd (omega arith)
-differ-at (x ∷ xs) differ zero (suc k) a b =
-    let parts = and_parts (not (is_among x xs)) (all_differ is_same_name xs) differ in
-    any-none (is_same_name x) xs (not-true (is_among x xs) parts.0) k (omega arith)
-differ-at (x ∷ xs) differ (suc j) (suc k) a b =
-    differ-at xs (and_parts (not (is_among x xs)) (all_differ is_same_name xs) differ).1 j k (omega arith) (omega arith)
-
 gate-at : (net : Netlist) (k : ℕ) → k < length net.gates → get_or (gate_names net) k [] ≡ gate_name k (get_or net.gates k any_gate).wire
 gate-at net k h =
     let z : 0 + k ≡ k = omega arith in
@@ -116,11 +100,11 @@ gate-new net is n i low h =
     (λ input. ap (λ x. is_same_name x g) (net_name-input net i input)
     ∙ ap (λ y. is_same_name (input_name i) y) (sym (gate-at net n low))
     ∙ any-none (is_same_name (input_name i)) (gate_names net) (differ-by mark (λ m. m == 105) (input_name i) (gate_names net) refl
-    (marks-gates net (λ m. not (m == 105)) refl refl)) n (omega arith))
+    (marks-gates net (λ m. not (m == 105)) refl refl)) n [] (omega arith))
     (λ j state e. ap (λ x. is_same_name x g) (ap (net_name net) e ∙ net_name-state net j state)
     ∙ ap (λ y. is_same_name (state_name j) y) (sym (gate-at net n low))
     ∙ any-none (is_same_name (state_name j)) (gate_names net) (differ-by mark (λ m. m == 115) (state_name j) (gate_names net) refl
-    (marks-gates net (λ m. not (m == 115)) refl refl)) n (omega arith))
+    (marks-gates net (λ m. not (m == 115)) refl refl)) n [] (omega arith))
     (λ k gate e. ap (λ x. is_same_name x g) (ap (net_name net) e ∙ net_name-gate net k any_gate gate)
     ∙ ap (λ x. is_same_name x g) (sym (gate-at net k gate)) ∙ ap (λ y. is_same_name (get_or (gate_names net) k []) y) (sym (gate-at net n low))
     ∙ differ-at (gate_names net) (differ-gates net is) k n (omega arith) (omega arith))

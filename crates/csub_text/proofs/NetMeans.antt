@@ -19,6 +19,7 @@ use Rattle.net_ir.specs.declared.netlist.NetOut.{NetOut}
 use Rattle.net_ir.specs.Gates.{value_in, operand_end}
 use Rattle.net_ir.specs.Netlists.{Netlist, first_gate, net_count}
 use Rattle.net_ir.specs.Runs.{net_values, next_latches, initial_latches, values_from, shown, net_values_run}
+use Rattle.net_ir.proofs.NameLists.{any-none}
 use Rattle.net_ir.proofs.Values.{length-gate_values}
 use Rattle.csub_text.specs.Trees.{Assign}
 use Rattle.csub_text.specs.Tokens.{Named}
@@ -42,7 +43,7 @@ use Rattle.net_ir.specs.Writing.{IsWritable}
 use Rattle.csub_text.proofs.NetRules.{EachAssign, each-assign, net_cases, net_name-input, net_name-state, net_name-gate, any_gate, any_latch}
 use Rattle.csub_text.proofs.NetRules.{any_output, gate-low}
 use Rattle.csub_text.proofs.NetSets.{names-fit}
-use Rattle.csub_text.proofs.NetCalls.{Leaves, call-leaves, any-none}
+use Rattle.csub_text.proofs.NetCalls.{Leaves, call-leaves}
 
 -- ---- inputs and outputs
 
@@ -95,7 +96,7 @@ first-keeps n (l ∷ latches) differ (suc j) h =
     let at : get_or names j [] ≡ state_name (n + 1 + j) = get_or-numbered (λ j latch. state_name j) (n + 1) latches j [] any_latch (omega arith) in
     let apart : is_same_name (state_name (n + 1 + j)) (state_name n) ≡ false =
     ap (λ x. is_same_name x (state_name n)) (sym at) ∙ nat_list_eq_equiv.symm (get_or names j []) (state_name n)
-    ∙ any-none (is_same_name (state_name n)) names (not-true (is_among (state_name n) names) parts.0) j (omega arith) in
+    ∙ any-none (is_same_name (state_name n)) names (not-true (is_among (state_name n) names) parts.0) j [] (omega arith) in
     ap (λ k. first_memory (numbered net_state n (l ∷ latches)) (state_name k)) s ∙ rw apart (first-keeps (n + 1) latches parts.1 j (omega arith))
 
 begins-kept : (net : Netlist) → IsWritable net → Keeps net (first_memory (net_program net).states) (initial_latches net)

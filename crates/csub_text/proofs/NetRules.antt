@@ -1,18 +1,17 @@
 -- A net's program keeps the rules on names.
 use Rattle.std.proofs.Common.{◌≡◌, ℕ, ◌+◌, ◌-◌, ◌<◌, ◌≤◌, ◌==◌, zero, suc, Bool, true, false, not, ◌&&◌, ◌||◌, List, [], ◌∷◌, ◌++◌, length}
 use Rattle.std.proofs.Common.{map, get_or, All, refl, sym, ap, ◌∙◌, subst, arith, Some, None, ⊎_elim, append_assoc, ◌⊎◌, inl, inr}
-use Rattle.std.specs.Prelude.{flat_map, filter, find, if◌then◌else◌}
+use Rattle.std.specs.Prelude.{flat_map, filter, find}
 use Rattle.std.specs.List.{list_any, AllByRecursion}
 use Rattle.std.specs.Cmp.Lexicographic.{nat_list_eq_equiv}
 use Rattle.std.proofs.lemmas.List.Folds.{list_any-append, list_any_at}
-use Rattle.std.proofs.lemmas.Bool.{and_parts, or_parts, or_from, not-true, not_from_true, cases_lt, lt-ltb, le-ltb}
+use Rattle.std.proofs.lemmas.Bool.{or_parts, or_from, not_from_true, cases_lt, lt-ltb, le-ltb}
 use Rattle.std.proofs.lemmas.Bool.{or_left, or_right}
 use Rattle.std.proofs.lemmas.List.{length-map, get_or-map}
 use Rattle.std.proofs.lemmas.Option.{slice_get-get_or}
 use Rattle.std.proofs.lemmas.List.Elements.{All-append}
 use Rattle.std.specs.Prelude.{option_and_then}
 use Rattle.est_base.specs.Names.{is_same_name}
-use Rattle.est_base.specs.Distinct.{all_differ, none_shared}
 use Rattle.net_ir.specs.declared.netlist.Op.{Op}
 use Rattle.net_ir.specs.declared.netlist.Op.TheVariants as ops
 use Rattle.net_ir.specs.declared.netlist.Gate.{Gate}
@@ -32,32 +31,10 @@ use Rattle.csub_text.proofs.NetNames.{mark, input_names, state_names, next_names
 use Rattle.csub_text.proofs.NetNames.{shown_variables}
 use Rattle.csub_text.proofs.NetNames.{differ-declared}
 use Rattle.net_ir.proofs.Numbered.{length-numbered, get_or-numbered, map-numbered}
-use Rattle.net_ir.proofs.NumberedNames.{same-refl, same-eq}
+use Rattle.net_ir.proofs.NumberedNames.{same-refl}
+use Rattle.net_ir.proofs.NameLists.{is_among-filter, once-differ}
 use Rattle.net_ir.specs.Numbered.{numbered}
 use Rattle.net_ir.specs.Writing.{IsWritable}
-
--- ---- names that differ are declared once
-
-none_shared-front : (xs before : List (List ℕ)) (x : List ℕ) → list_any (is_same_name x) xs ≡ false → none_shared is_same_name xs before ≡ true
-    → none_shared is_same_name xs (x ∷ before) ≡ true
-none_shared-front [] before x apart none = refl
-none_shared-front (y ∷ xs) before x apart none =
-    let others = or_parts (is_same_name x y) (list_any (is_same_name x) xs) apart in
-    let parts = and_parts (not (is_among y before)) (none_shared is_same_name xs before) none in
-    rw (nat_list_eq_equiv.symm y x, others.0, parts.0) (none_shared-front xs before x others.1 parts.1)
-
-first_again-none : (before names : List (List ℕ)) → none_shared is_same_name names before ≡ true → all_differ is_same_name names ≡ true
-    → first_again before names ≡ None
-first_again-none before [] none differ = refl
-first_again-none before (name ∷ names) none differ =
-    let apart = and_parts (not (is_among name before)) (none_shared is_same_name names before) none in
-    let parts = and_parts (not (is_among name names)) (all_differ is_same_name names) differ in
-    rw (not-true (is_among name before) apart.0) (first_again-none (name ∷ before) names
-    (none_shared-front names before name (not-true (is_among name names) parts.0) apart.1) parts.1)
-
-none_shared-nil : (names : List (List ℕ)) → none_shared is_same_name names [] ≡ true
-none_shared-nil [] = refl
-none_shared-nil (name ∷ names) = none_shared-nil names
 
 declared-net : (net : Netlist) → declared (net_program net) ≡ state_names net ++ (net_globals net ++ net_locals net)
 declared-net net =
@@ -67,8 +44,7 @@ declared-net net =
 pub declared_once : (net : Netlist) → IsWritable net → declared_twice (net_program net) ≡ None
 declared_once net is =
     ap (first_again []) (declared-net net)
-    ∙ first_again-none [] (state_names net ++ (net_globals net ++ net_locals net)) (none_shared-nil (state_names net ++ (net_globals net ++ net_locals net)))
-    (differ-declared net is)
+    ∙ once-differ (state_names net ++ (net_globals net ++ net_locals net)) (differ-declared net is)
 
 -- ---- the name of a net
 
@@ -316,38 +292,6 @@ undeclared_none net is =
 abbrev Ready : List (List ℕ) → List ℕ → Type 0
 Ready locals x = is_among x locals ≡ false
 
-among-filter : (t x : List ℕ) (locals : List (List ℕ)) → is_among x (filter (λ n. not (is_same_name t n)) locals) ≡
-    (is_among x locals && not (is_same_name t x))
-among-filter t x [] = refl
-among-filter t x (n ∷ locals) =
-    let more = among-filter t x locals in
-    let go : (b : Bool) → is_same_name t n ≡ b → (s : Bool) → is_same_name x n ≡ s
-    → is_among x (if not b then n ∷ filter (λ n. not (is_same_name t n)) locals else filter (λ n. not (is_same_name t n)) locals)
-    ≡ ((s || is_among x locals) && not (is_same_name t x)) =
-    λ b. elim b as (λ b. is_same_name t n ≡ b → (s : Bool) → is_same_name x n ≡ s
-    → is_among x (if not b then n ∷ filter (λ n. not (is_same_name t n)) locals else filter (λ n. not (is_same_name t n)) locals)
-    ≡ ((s || is_among x locals) && not (is_same_name t x))) [
-      | true ↦ λ tn s. elim s as (λ s. is_same_name x n ≡ s → is_among x (filter (λ n. not (is_same_name t n)) locals) ≡
-          ((s || is_among x locals) && not (is_same_name t x))) [
-            | true ↦ λ xn.
-                let tx : is_same_name t x ≡ true = ap (is_same_name t) (same-eq x n xn) ∙ tn in
-                more ∙ ap (λ b. is_among x locals && not b) tx ∙ and-none (is_among x locals) ∙ sym (ap not tx)
-            | false ↦ λ xn. more
-          ]
-      | false ↦ λ tn s. elim s as (λ s. is_same_name x n ≡ s → (is_same_name x n || is_among x (filter (λ n. not (is_same_name t n)) locals)) ≡
-          ((s || is_among x locals) && not (is_same_name t x))) [
-            | true ↦ λ xn.
-                let tx : is_same_name t x ≡ false = ap (is_same_name t) (same-eq x n xn) ∙ tn in
-                ap (λ b. b || is_among x (filter (λ n. not (is_same_name t n)) locals)) xn ∙ sym (ap not tx)
-            | false ↦ λ xn. ap (λ b. b || is_among x (filter (λ n. not (is_same_name t n)) locals)) xn ∙ more
-          ]
-    ] in
-    go (is_same_name t n) refl (is_same_name x n) refl
-  where
-    and-none : (b : Bool) → (b && false) ≡ false
-    and-none true = refl
-    and-none false = refl
-
 -- each name of an expression is no local, or is assigned before
 abbrev pub Known : List (List ℕ) → List (List ℕ) → List ℕ → Type 0
 Known locals before x = (is_among x locals ≡ false) ⊎ (is_among x before ≡ true)
@@ -375,7 +319,7 @@ none-found locals before left l (x ∷ xs) all = rw (none-left locals before lef
 
 left-more : (locals before left : List (List ℕ)) (t : List ℕ) → Left locals before left → Left locals (t ∷ before) (filter (λ n. not (is_same_name t n)) left)
 left-more locals before left t l = record {
-  are = λ x. among-filter t x left ∙ ap (λ b. b && not (is_same_name t x)) (l.are x)
+  are = λ x. is_among-filter (λ n. not (is_same_name t n)) x left ∙ ap (λ b. b && not (is_same_name t x)) (l.are x)
       ∙ ap (λ b. (is_among x locals && not (is_among x before)) && not b) (nat_list_eq_equiv.symm t x)
       ∙ both (is_among x locals) (is_among x before) (is_same_name x t);
 }

@@ -6,7 +6,8 @@ use Rattle.est_base.specs.Names.{is_same_name}
 use Rattle.net_ir.specs.NameLists.{is_among, first_again}
 use Rattle.blif_text.specs.Circuits.{driven_by, driven_again, not_driven}
 use Rattle.blif_text.specs.PlainStatements.{plain_statement, FoundFault, DriverFault}
-use Rattle.blif_text.proofs.DriverSets.{DriverFault-found, find-same}
+use Rattle.net_ir.proofs.NameLists.{find-same}
+use Rattle.blif_text.proofs.DriverFaults.{DriverFault-found}
 use Rattle.blif_text.proofs.drivers.check_drivers.Goals as goal
 
 pub returns-clause-fault : goal.returns-clause-fault

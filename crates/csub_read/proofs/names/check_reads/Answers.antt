@@ -10,7 +10,8 @@ use Rattle.csub_text.specs.Names.{names_in, unset, unset_from}
 use Rattle.csub_text.specs.Views.{assign_of, expr_of, program_of}
 use Rattle.csub_read.specs.NameTests.{UnsetFault}
 use Rattle.csub_read.proofs.NameFaults.{unset-by, unset-set}
-use Rattle.csub_read.proofs.NameLists.{drop-at, filter-none, unset-step, unset-last}
+use Rattle.net_ir.proofs.Numbered.{drop-at}
+use Rattle.csub_read.proofs.UnsetLocals.{filter-none, unset-step, unset-last}
 use Rattle.csub_read.proofs.names.check_reads.Goals as goal
 
 pub loop-assign-init : goal.loop-assign-init
