@@ -1,14 +1,16 @@
--- From place to place in the text of a net, and from piece to piece.
-use Rattle.std.proofs.Common.{◌≡◌, ℕ, ◌+◌, ◌<◌, ◌≤◌, ◌⊎◌, inl, inr, zero, suc, Bool, true, false, ◌==◌, List, [], ◌∷◌, ◌++◌, length, map, get_or, take, drop}
+-- From place to place in the text of a net.
+use Rattle.std.proofs.Common.{◌≡◌, ℕ, ◌+◌, ◌<◌, ◌≤◌, ◌⊎◌, inl, inr, Bool, false, List, [], ◌∷◌, ◌++◌, length, map, get_or, drop}
 use Rattle.std.proofs.Common.{refl, sym, ap, ◌∙◌, arith, append_assoc}
 use Rattle.std.specs.Prelude.{flat_map, codes}
-use Rattle.std.proofs.Math.Seq.{drop-cons, drop-nil}
-use Rattle.std.proofs.lemmas.List.{append-nil, get_or-map, length-take, length-drop, take-append-drop, take-append-le, drop-append-le}
+use Rattle.std.proofs.lemmas.List.{append-nil, get_or-map, drop_all}
 use Rattle.std.proofs.lemmas.List.Concat.{flat_map-append}
 use Rattle.net_ir.specs.declared.netlist.Gate.{Gate}
 use Rattle.net_ir.specs.declared.netlist.Latch.{Latch}
 use Rattle.net_ir.specs.declared.netlist.NetOut.{NetOut}
 use Rattle.net_ir.specs.Netlists.{Netlist}
+use Rattle.net_ir.specs.Numbered.{numbered}
+use Rattle.net_ir.proofs.Numbered.{drop-at}
+use Rattle.net_ir.proofs.Pieces.{grown}
 use Rattle.blif_text.specs.declared.pieces.Place.{Place}
 use Rattle.blif_text.specs.declared.pieces.Place.TheVariants as places
 use Rattle.net_ir.specs.NameLists.{is_among}
@@ -17,27 +19,10 @@ use Rattle.blif_text.specs.Statements.{Statement, Model, Outputs, End}
 use Rattle.blif_text.specs.Spelled.{text_of, line_text, spelled, table_statements, latch_statement, inputs_statements}
 use Rattle.blif_text.specs.Written.{output_word, paused_word, input_table, gate_table, output_table, copy_table, net_word, net_latch, written}
 use Rattle.blif_text.specs.Written.{given_outputs}
-use Rattle.net_ir.specs.Numbered.{numbered}
 use Rattle.blif_text.specs.Places.{text_from, parts_from, Moves, first_lines, inputs_start, inputs_end, outputs_end, last_lines, from_input_names}
 use Rattle.blif_text.specs.Places.{from_output_names, from_latches, from_inputs, from_gates, from_outputs}
 
 -- ---- lists
-
-drop-all : {X : Type 0} (xs : List X) (j : ℕ) → length xs ≤ j → drop j xs ≡ []
-drop-all [] j h = drop-nil j
-drop-all (x ∷ xs) zero h = absurd (omega arith)
-drop-all (x ∷ xs) (suc j) h = drop-all xs j (omega arith)
-
--- x stands at j
-drop-next : {X : Type 0} (xs : List X) (j : ℕ) (x : X) → j < length xs → x ≡ get_or xs j x → drop j xs ≡ x ∷ drop (j + 1) xs
-drop-next xs j x low at =
-    let n : suc j ≡ j + 1 = omega arith in
-    drop-cons xs j x low ∙ ap (λ y. y ∷ drop (suc j) xs) (sym at) ∙ ap (λ m. x ∷ drop m xs) n
-
--- what is put behind the old is the front of what was to come
-grown : (old new a b whole : List ℕ) → new ≡ old ++ a → whole ≡ a ++ b → new ++ b ≡ old ++ whole
-grown old new a b whole e w =
-    ap (λ t. t ++ b) e ∙ append_assoc old a b ∙ ap (λ t. old ++ t) (sym w)
 
 -- the first of some tables, and what follows
 tables-cut : {X : Type 0} (statements : X → List Statement) (x : X) (xs : List X) (r : List ℕ)
@@ -109,7 +94,7 @@ pub input_name-moves : (net : Netlist) (j : ℕ) (x old new : List ℕ) → j < 
 unfolding text_from parts_from
 input_name-moves net j x old new low at e = record {
   text = grown old new (32 ∷ x) (from_input_names net (j + 1)) _ e
-      (ap (λ l. flat_map (λ w. 32 ∷ w) l ++ (inputs_end net.inputs ++ from_output_names net 0)) (drop-next net.inputs j x low at)
+      (ap (λ l. flat_map (λ w. 32 ∷ w) l ++ (inputs_end net.inputs ++ from_output_names net 0)) (drop-at net.inputs j x low at)
       ∙ append_assoc (32 ∷ x) (flat_map (λ w. 32 ∷ w) (drop (j + 1) net.inputs)) _);
   falls = omega arith;
 }
@@ -119,7 +104,7 @@ pub input_names-end : (net : Netlist) (j : ℕ) (old new : List ℕ) → length 
 unfolding text_from parts_from
 input_names-end net j old new all e = record {
   text = grown old new (inputs_end net.inputs) (from_output_names net 0) _ e
-      (ap (λ l. flat_map (λ w. 32 ∷ w) l ++ (inputs_end net.inputs ++ from_output_names net 0)) (drop-all net.inputs j all));
+      (ap (λ l. flat_map (λ w. 32 ∷ w) l ++ (inputs_end net.inputs ++ from_output_names net 0)) (drop_all j net.inputs all));
   falls = omega arith;
 }
 
@@ -128,7 +113,7 @@ pub output_name-moves : (net : Netlist) (k : ℕ) (x : NetOut) (old new : List �
 unfolding text_from parts_from
 output_name-moves net k x old new low at e = record {
   text = grown old new (32 ∷ output_word net.inputs x.name) (from_output_names net (k + 1)) _ e
-      (ap (λ l. flat_map (λ w. 32 ∷ w) (map (λ o. output_word net.inputs o.name) l) ++ (outputs_end ++ from_latches net 0)) (drop-next net.outputs k x low at)
+      (ap (λ l. flat_map (λ w. 32 ∷ w) (map (λ o. output_word net.inputs o.name) l) ++ (outputs_end ++ from_latches net 0)) (drop-at net.outputs k x low at)
       ∙ append_assoc (32 ∷ output_word net.inputs x.name)
       (flat_map (λ w. 32 ∷ w) (map (λ o. output_word net.inputs o.name) (drop (k + 1) net.outputs))) _);
   falls = omega arith;
@@ -139,7 +124,7 @@ pub output_names-end : (net : Netlist) (k : ℕ) (old new : List ℕ) → length
 unfolding text_from parts_from
 output_names-end net k old new all e = record {
   text = grown old new outputs_end (from_latches net 0) _ e
-      (ap (λ l. flat_map (λ w. 32 ∷ w) (map (λ o. output_word net.inputs o.name) l) ++ (outputs_end ++ from_latches net 0)) (drop-all net.outputs k all));
+      (ap (λ l. flat_map (λ w. 32 ∷ w) (map (λ o. output_word net.inputs o.name) l) ++ (outputs_end ++ from_latches net 0)) (drop_all k net.outputs all));
   falls = omega arith;
 }
 
@@ -151,7 +136,7 @@ latch-moves net j x old new low at e =
     let others = map latch_statement (numbered (net_latch net) (j + 1) (drop (j + 1) net.latches)) in
     record {
       text = grown old new (text_of (latch_statement latch ∷ [])) (from_latches net (j + 1)) _ e
-          (ap (λ l. text_of (map latch_statement (numbered (net_latch net) j l)) ++ from_inputs net 0) (drop-next net.latches j x low at)
+          (ap (λ l. text_of (map latch_statement (numbered (net_latch net) j l)) ++ from_inputs net 0) (drop-at net.latches j x low at)
           ∙ ap (λ t. t ++ from_inputs net 0) (flat_map-append (λ s. line_text (spelled s)) (latch_statement latch ∷ []) others)
           ∙ append_assoc (text_of (latch_statement latch ∷ [])) (text_of others) (from_inputs net 0));
       falls = omega arith;
@@ -161,7 +146,7 @@ pub latches-end : (net : Netlist) (j : ℕ) (old new : List ℕ) → length net.
 unfolding text_from parts_from
 latches-end net j old new all e = record {
   text = ap (λ t. t ++ from_inputs net 0) e
-      ∙ ap (λ l. old ++ (text_of (map latch_statement (numbered (net_latch net) j l)) ++ from_inputs net 0)) (sym (drop-all net.latches j all));
+      ∙ ap (λ l. old ++ (text_of (map latch_statement (numbered (net_latch net) j l)) ++ from_inputs net 0)) (sym (drop_all j net.latches all));
   falls = omega arith;
 }
 
@@ -170,7 +155,7 @@ pub input-moves : (net : Netlist) (j : ℕ) (x old new : List ℕ) → j < lengt
 unfolding text_from parts_from
 input-moves net j x old new low at e = record {
   text = grown old new (text_of (table_statements (input_table j x))) (from_inputs net (j + 1)) _ e
-      (ap (λ l. text_of (flat_map table_statements (numbered input_table j l)) ++ from_gates net 0) (drop-next net.inputs j x low at)
+      (ap (λ l. text_of (flat_map table_statements (numbered input_table j l)) ++ from_gates net 0) (drop-at net.inputs j x low at)
       ∙ tables-cut table_statements (input_table j x) (numbered input_table (j + 1) (drop (j + 1) net.inputs)) (from_gates net 0));
   falls = omega arith;
 }
@@ -179,7 +164,7 @@ pub inputs-end : (net : Netlist) (j : ℕ) (old new : List ℕ) → length net.i
 unfolding text_from parts_from
 inputs-end net j old new all e = record {
   text = ap (λ t. t ++ from_gates net 0) e
-      ∙ ap (λ l. old ++ (text_of (flat_map table_statements (numbered input_table j l)) ++ from_gates net 0)) (sym (drop-all net.inputs j all));
+      ∙ ap (λ l. old ++ (text_of (flat_map table_statements (numbered input_table j l)) ++ from_gates net 0)) (sym (drop_all j net.inputs all));
   falls = omega arith;
 }
 
@@ -188,7 +173,7 @@ pub gate-moves : (net : Netlist) (k : ℕ) (x : Gate) (old new : List ℕ) → k
 unfolding text_from parts_from
 gate-moves net k x old new low at e = record {
   text = grown old new (text_of (table_statements (gate_table net k x))) (from_gates net (k + 1)) _ e
-      (ap (λ l. text_of (flat_map table_statements (numbered (gate_table net) k l)) ++ from_outputs net 0) (drop-next net.gates k x low at)
+      (ap (λ l. text_of (flat_map table_statements (numbered (gate_table net) k l)) ++ from_outputs net 0) (drop-at net.gates k x low at)
       ∙ tables-cut table_statements (gate_table net k x) (numbered (gate_table net) (k + 1) (drop (k + 1) net.gates)) (from_outputs net 0));
   falls = omega arith;
 }
@@ -197,7 +182,7 @@ pub gates-end : (net : Netlist) (k : ℕ) (old new : List ℕ) → length net.ga
 unfolding text_from parts_from
 gates-end net k old new all e = record {
   text = ap (λ t. t ++ from_outputs net 0) e
-      ∙ ap (λ l. old ++ (text_of (flat_map table_statements (numbered (gate_table net) k l)) ++ from_outputs net 0)) (sym (drop-all net.gates k all));
+      ∙ ap (λ l. old ++ (text_of (flat_map table_statements (numbered (gate_table net) k l)) ++ from_outputs net 0)) (sym (drop_all k net.gates all));
   falls = omega arith;
 }
 
@@ -206,7 +191,7 @@ pub output-moves : (net : Netlist) (k : ℕ) (x : NetOut) (old new : List ℕ) �
 unfolding text_from parts_from
 output-moves net k x old new low at e = record {
   text = grown old new (text_of (table_statements (output_table net x))) (from_outputs net (k + 1)) _ e
-      (ap (λ l. text_of (flat_map table_statements (map (output_table net) l)) ++ last_lines net) (drop-next net.outputs k x low at)
+      (ap (λ l. text_of (flat_map table_statements (map (output_table net) l)) ++ last_lines net) (drop-at net.outputs k x low at)
       ∙ tables-cut table_statements (output_table net x) (map (output_table net) (drop (k + 1) net.outputs)) (last_lines net));
   falls = omega arith;
 }
@@ -215,7 +200,7 @@ pub outputs-end : (net : Netlist) (k : ℕ) (old new : List ℕ) → length net.
 unfolding text_from parts_from
 outputs-end net k old new all e = record {
   text = ap (λ t. t ++ last_lines net) e
-      ∙ ap (λ l. old ++ (text_of (flat_map table_statements (map (output_table net) l)) ++ last_lines net)) (sym (drop-all net.outputs k all));
+      ∙ ap (λ l. old ++ (text_of (flat_map table_statements (map (output_table net) l)) ++ last_lines net)) (sym (drop_all k net.outputs all));
   falls = omega arith;
 }
 
@@ -229,54 +214,7 @@ last-moves net old new e = record {
 -- ---- pieces
 
 -- a text that goes as far as a piece, or to the end of what is to come
-to_end : (net : Netlist) (n : ℕ) (t : List ℕ) (place : Place) → (n ≤ length t) ⊎ (place ≡ places.End) → (n ≤ length t) ⊎ (text_from net place ≡ [])
+pub to_end : (net : Netlist) (n : ℕ) (t : List ℕ) (place : Place) → (n ≤ length t) ⊎ (place ≡ places.End) → (n ≤ length t) ⊎ (text_from net place ≡ [])
 unfolding text_from
 to_end net n t place (inl h) = inl h
 to_end net n t place (inr h) = inr (ap (text_from net) h)
-
-front : (n : ℕ) (t r whole : List ℕ) → t ++ r ≡ whole → (n ≤ length t) ⊎ (r ≡ []) → take n t ≡ take n whole
-front n t r whole e (inl h) = sym (take-append-le n t r h) ∙ ap (take n) e
-front n t r whole e (inr h) = ap (take n) (sym (append-nil t) ∙ ap (λ l. t ++ l) (sym h) ∙ e)
-
-back : (n : ℕ) (t r whole : List ℕ) → t ++ r ≡ whole → (n ≤ length t) ⊎ (r ≡ []) → drop n t ++ r ≡ drop n whole
-back n t r whole e (inl h) = sym (drop-append-le n t r h) ∙ ap (drop n) e
-back n t r whole e (inr h) =
-    ap (λ l. drop n t ++ l) h ∙ append-nil (drop n t) ∙ ap (drop n) (sym (append-nil t) ∙ ap (λ l. t ++ l) (sym h) ∙ e)
-
-none-left : (n : ℕ) (t r whole : List ℕ) → 0 < n → length t ≡ 0 → t ++ r ≡ whole → (n ≤ length t) ⊎ (r ≡ []) → whole ≡ []
-none-left n t r whole some none e (inl h) = absurd (omega (arith, none))
-none-left n (x ∷ t) r whole some none e (inr h) = absurd (omega (arith, none))
-none-left n [] r whole some none e (inr h) = sym e ∙ h
-
--- the next piece and what is to come behind it
-pub piece-front : (net : Netlist) (n : ℕ) (t whole : List ℕ) (place : Place) → t ++ text_from net place ≡ whole
-    → (n ≤ length t) ⊎ (place ≡ places.End) → take n t ≡ take n whole
-piece-front net n t whole place e h = front n t (text_from net place) whole e (to_end net n t place h)
-
-pub piece-back : (net : Netlist) (n : ℕ) (t whole : List ℕ) (place : Place) → t ++ text_from net place ≡ whole
-    → (n ≤ length t) ⊎ (place ≡ places.End) → drop n t ++ text_from net place ≡ drop n whole
-piece-back net n t whole place e h = back n t (text_from net place) whole e (to_end net n t place h)
-
-pub piece-none : (net : Netlist) (n : ℕ) (t whole : List ℕ) (place : Place) → 0 < n → length t ≡ 0 → t ++ text_from net place ≡ whole
-    → (n ≤ length t) ⊎ (place ≡ places.End) → whole ≡ []
-piece-none net n t whole place some none e h = none-left n t (text_from net place) whole some none e (to_end net n t place h)
-
-pub piece-some : (n : ℕ) (t : List ℕ) → 0 < n → 0 < length t → 0 < length (take n t)
-piece-some n t some more = rw (length-take n t) (omega (arith, some, more))
-
-pub empty-length : (len : ℕ) (t : List ℕ) → true ≡ (len == 0) → len ≡ length t → length t ≡ 0
-empty-length len t e h = grind (arith, e, h)
-
-pub some-length : (len : ℕ) (t : List ℕ) → false ≡ (len == 0) → len ≡ length t → 0 < length t
-some-length len t e h = grind (arith, e, h)
-
--- the pieces so far, and the next one
-pub pieces-join : (n : ℕ) (text old piece rest new whole : List ℕ) → text ++ old ≡ whole → piece ≡ take n old → rest ≡ drop n old → new ≡ text ++ piece
-    → new ++ rest ≡ whole
-pieces-join n text old piece rest new whole before p r grown =
-    ap (λ t. t ++ rest) grown ∙ append_assoc text piece rest
-    ∙ ap (λ l. text ++ l) (ap (λ l. l ++ rest) p ∙ ap (λ l. take n old ++ l) r ∙ take-append-drop n old) ∙ before
-
-pub pieces-fall : (n : ℕ) (old piece rest : List ℕ) → 0 < length piece → piece ≡ take n old → rest ≡ drop n old → length rest < length old
-pieces-fall n old piece rest some p r =
-    omega (arith, some, ap length p ∙ length-take n old, ap length r ∙ length-drop n old)

@@ -1,72 +1,48 @@
--- From place to place in the text of a net, and from piece to piece.
-use Rattle.std.proofs.Common.{◌≡◌, ℕ, ◌+◌, ◌<◌, ◌≤◌, ◌⊎◌, inl, inr, zero, suc, true, false, ◌==◌, List, [], ◌∷◌, ◌++◌}
-use Rattle.std.proofs.Common.{length, map, get_or, take, drop, refl, sym, ap, ◌∙◌, arith, append_assoc}
+-- From place to place in the text of a net.
+use Rattle.std.proofs.Common.{◌≡◌, ℕ, ◌+◌, ◌<◌, ◌≤◌, ◌⊎◌, inl, inr, List, [], ◌∷◌, ◌++◌}
+use Rattle.std.proofs.Common.{length, map, get_or, drop, refl, sym, ap, ◌∙◌, arith, append_assoc}
 use Rattle.std.specs.Prelude.{flat_map}
-use Rattle.std.proofs.Math.Seq.{drop-cons, drop-nil}
-use Rattle.std.proofs.lemmas.List.{append-nil, length-take, length-drop, take-append-drop, take-append-le, drop-append-le}
+use Rattle.std.proofs.lemmas.List.{append-nil, drop_all}
 use Rattle.std.proofs.lemmas.List.Concat.{flat_map-append}
 use Rattle.net_ir.specs.declared.netlist.Gate.{Gate}
 use Rattle.net_ir.specs.declared.netlist.Latch.{Latch}
 use Rattle.net_ir.specs.declared.netlist.NetOut.{NetOut}
 use Rattle.net_ir.specs.Netlists.{Netlist}
+use Rattle.net_ir.specs.Numbered.{numbered}
+use Rattle.net_ir.proofs.Numbered.{drop-at}
+use Rattle.net_ir.proofs.Pieces.{grown}
 use Rattle.csub_text.specs.declared.parts.Place.{Place}
 use Rattle.csub_text.specs.declared.parts.Place.TheVariants as places
 use Rattle.csub_text.specs.Trees.{Name}
 use Rattle.csub_text.specs.Written.{input_name, gate_name, next_name, answer_name, input_variable, output_variable, net_state, input_assign}
 use Rattle.csub_text.specs.Written.{gate_assign, next_assign, output_assign, answer_assign, state_assign, gate_names, state_line, declaration, assign_line}
 use Rattle.csub_text.specs.Written.{head_line, last_lines, written}
-use Rattle.net_ir.specs.Numbered.{numbered}
 use Rattle.csub_text.specs.Places.{text_from, parts_from, Moves, from_states, from_inputs, from_outputs, from_input_locals, from_gate_locals, from_next_locals}
 use Rattle.csub_text.specs.Places.{from_input_assigns, from_gate_assigns, from_next_assigns, from_output_assigns, from_state_assigns}
 
 -- ---- lists
 
-drop-all : {X : Type 0} (xs : List X) (j : ℕ) → length xs ≤ j → drop j xs ≡ []
-drop-all [] j h = drop-nil j
-drop-all (x ∷ xs) zero h = absurd (omega arith)
-drop-all (x ∷ xs) (suc j) h = drop-all xs j (omega arith)
-
--- x stands at j
-drop-next : {X : Type 0} (xs : List X) (j : ℕ) (x : X) → j < length xs → x ≡ get_or xs j x → drop j xs ≡ x ∷ drop (j + 1) xs
-drop-next xs j x low at =
-    let n : suc j ≡ j + 1 = omega arith in
-    drop-cons xs j x low ∙ ap (λ y. y ∷ drop (suc j) xs) (sym at) ∙ ap (λ m. x ∷ drop m xs) n
-
-get_or-change : {X : Type 0} (xs : List X) (j : ℕ) (d e : X) → j < length xs → get_or xs j d ≡ get_or xs j e
-get_or-change [] j d e low = absurd (omega arith)
-get_or-change (x ∷ xs) zero d e low = refl
-get_or-change (x ∷ xs) (suc j) d e low = get_or-change xs j d e (omega arith)
-
--- an element is itself, whatever stands for those that are missing
-pub get_or-itself : {X : Type 0} (xs : List X) (j : ℕ) (d : X) → j < length xs → get_or xs j d ≡ get_or xs j (get_or xs j d)
-get_or-itself xs j d low = get_or-change xs j d (get_or xs j d) low
-
--- what is put behind the old is the front of what was to come
-grown : (old new a b whole : List ℕ) → new ≡ old ++ a → whole ≡ a ++ b → new ++ b ≡ old ++ whole
-grown old new a b whole e w =
-    ap (λ t. t ++ b) e ∙ append_assoc old a b ∙ ap (λ t. old ++ t) (sym w)
-
 -- the next of some lines with numbers
 numbered-next : {X Y : Type 0} (line : Y → List ℕ) (f : ℕ → X → Y) (xs : List X) (j : ℕ) (x : X) (r : List ℕ) → j < length xs → x ≡ get_or xs j x
     → flat_map line (numbered f j (drop j xs)) ++ r ≡ line (f j x) ++ (flat_map line (numbered f (j + 1) (drop (j + 1) xs)) ++ r)
 numbered-next line f xs j x r low at =
-    ap (λ l. flat_map line (numbered f j l) ++ r) (drop-next xs j x low at)
+    ap (λ l. flat_map line (numbered f j l) ++ r) (drop-at xs j x low at)
     ∙ append_assoc (line (f j x)) (flat_map line (numbered f (j + 1) (drop (j + 1) xs))) r
 
 numbered-end : {X Y : Type 0} (line : Y → List ℕ) (f : ℕ → X → Y) (xs : List X) (j : ℕ) (r : List ℕ) → length xs ≤ j
     → flat_map line (numbered f j (drop j xs)) ++ r ≡ r
-numbered-end line f xs j r all = ap (λ l. flat_map line (numbered f j l) ++ r) (drop-all xs j all)
+numbered-end line f xs j r all = ap (λ l. flat_map line (numbered f j l) ++ r) (drop_all j xs all)
 
 -- the next of some lines without numbers
 map-next : {X Y : Type 0} (line : Y → List ℕ) (f : X → Y) (xs : List X) (j : ℕ) (x : X) (r : List ℕ) → j < length xs → x ≡ get_or xs j x
     → flat_map line (map f (drop j xs)) ++ r ≡ line (f x) ++ (flat_map line (map f (drop (j + 1) xs)) ++ r)
 map-next line f xs j x r low at =
-    ap (λ l. flat_map line (map f l) ++ r) (drop-next xs j x low at)
+    ap (λ l. flat_map line (map f l) ++ r) (drop-at xs j x low at)
     ∙ append_assoc (line (f x)) (flat_map line (map f (drop (j + 1) xs))) r
 
 map-end : {X Y : Type 0} (line : Y → List ℕ) (f : X → Y) (xs : List X) (j : ℕ) (r : List ℕ) → length xs ≤ j
     → flat_map line (map f (drop j xs)) ++ r ≡ r
-map-end line f xs j r all = ap (λ l. flat_map line (map f l) ++ r) (drop-all xs j all)
+map-end line f xs j r all = ap (λ l. flat_map line (map f l) ++ r) (drop_all j xs all)
 
 -- ---- the beginning
 
@@ -294,54 +270,7 @@ state_assigns-end net j old new all e = record {
 -- ---- pieces
 
 -- a text that goes as far as a piece, or to the end of what is to come
-to_end : (net : Netlist) (n : ℕ) (t : List ℕ) (place : Place) → (n ≤ length t) ⊎ (place ≡ places.End) → (n ≤ length t) ⊎ (text_from net place ≡ [])
+pub to_end : (net : Netlist) (n : ℕ) (t : List ℕ) (place : Place) → (n ≤ length t) ⊎ (place ≡ places.End) → (n ≤ length t) ⊎ (text_from net place ≡ [])
 unfolding text_from
 to_end net n t place (inl h) = inl h
 to_end net n t place (inr h) = inr (ap (text_from net) h)
-
-front : (n : ℕ) (t r whole : List ℕ) → t ++ r ≡ whole → (n ≤ length t) ⊎ (r ≡ []) → take n t ≡ take n whole
-front n t r whole e (inl h) = sym (take-append-le n t r h) ∙ ap (take n) e
-front n t r whole e (inr h) = ap (take n) (sym (append-nil t) ∙ ap (λ l. t ++ l) (sym h) ∙ e)
-
-back : (n : ℕ) (t r whole : List ℕ) → t ++ r ≡ whole → (n ≤ length t) ⊎ (r ≡ []) → drop n t ++ r ≡ drop n whole
-back n t r whole e (inl h) = sym (drop-append-le n t r h) ∙ ap (drop n) e
-back n t r whole e (inr h) =
-    ap (λ l. drop n t ++ l) h ∙ append-nil (drop n t) ∙ ap (drop n) (sym (append-nil t) ∙ ap (λ l. t ++ l) (sym h) ∙ e)
-
-none-left : (n : ℕ) (t r whole : List ℕ) → 0 < n → length t ≡ 0 → t ++ r ≡ whole → (n ≤ length t) ⊎ (r ≡ []) → whole ≡ []
-none-left n t r whole some none e (inl h) = absurd (omega (arith, none))
-none-left n (x ∷ t) r whole some none e (inr h) = absurd (omega (arith, none))
-none-left n [] r whole some none e (inr h) = sym e ∙ h
-
--- the next piece and what is to come behind it
-pub piece-front : (net : Netlist) (n : ℕ) (t whole : List ℕ) (place : Place) → t ++ text_from net place ≡ whole
-    → (n ≤ length t) ⊎ (place ≡ places.End) → take n t ≡ take n whole
-piece-front net n t whole place e h = front n t (text_from net place) whole e (to_end net n t place h)
-
-pub piece-back : (net : Netlist) (n : ℕ) (t whole : List ℕ) (place : Place) → t ++ text_from net place ≡ whole
-    → (n ≤ length t) ⊎ (place ≡ places.End) → drop n t ++ text_from net place ≡ drop n whole
-piece-back net n t whole place e h = back n t (text_from net place) whole e (to_end net n t place h)
-
-pub piece-none : (net : Netlist) (n : ℕ) (t whole : List ℕ) (place : Place) → 0 < n → length t ≡ 0 → t ++ text_from net place ≡ whole
-    → (n ≤ length t) ⊎ (place ≡ places.End) → whole ≡ []
-piece-none net n t whole place some none e h = none-left n t (text_from net place) whole some none e (to_end net n t place h)
-
-pub piece-some : (n : ℕ) (t : List ℕ) → 0 < n → 0 < length t → 0 < length (take n t)
-piece-some n t some more = rw (length-take n t) (omega (arith, some, more))
-
-pub empty-length : (len : ℕ) (t : List ℕ) → true ≡ (len == 0) → len ≡ length t → length t ≡ 0
-empty-length len t e h = grind (arith, e, h)
-
-pub some-length : (len : ℕ) (t : List ℕ) → false ≡ (len == 0) → len ≡ length t → 0 < length t
-some-length len t e h = grind (arith, e, h)
-
--- the pieces so far, and the next one
-pub pieces-join : (n : ℕ) (text old piece rest new whole : List ℕ) → text ++ old ≡ whole → piece ≡ take n old → rest ≡ drop n old → new ≡ text ++ piece
-    → new ++ rest ≡ whole
-pieces-join n text old piece rest new whole before p r grown =
-    ap (λ t. t ++ rest) grown ∙ append_assoc text piece rest
-    ∙ ap (λ l. text ++ l) (ap (λ l. l ++ rest) p ∙ ap (λ l. take n old ++ l) r ∙ take-append-drop n old) ∙ before
-
-pub pieces-fall : (n : ℕ) (old piece rest : List ℕ) → 0 < length piece → piece ≡ take n old → rest ≡ drop n old → length rest < length old
-pieces-fall n old piece rest some p r =
-    omega (arith, some, ap length p ∙ length-take n old, ap length r ∙ length-drop n old)

@@ -5,7 +5,7 @@ use Rattle.std.specs.Prelude.{sum_by, if◌then◌else◌}
 use Rattle.std.specs.List.{flat_map}
 use Rattle.std.proofs.lemmas.List.{length-map, get_or_default}
 use Rattle.std.proofs.lemmas.List.Concat.{length-flat_map}
-use Rattle.std.proofs.lemmas.List.Sums.{sum_by-cons, sum_by_more, sum_by_more_le}
+use Rattle.std.proofs.lemmas.List.Sums.{sum_by_more, sum_by_more_le}
 use Rattle.std.proofs.lemmas.List.FromFn.{length-map-range_with_len}
 use Rattle.est_kernel.specs.Plain.{Program, outgoing_count}
 use Rattle.est_kernel.specs.Sizes.{test_size}
@@ -26,6 +26,7 @@ use Rattle.grc_graph.specs.WireTables.{is_local}
 use Rattle.grc_graph.proofs.CodesBelow.{codes_below-has, codes_below-lacks}
 use Rattle.grc_graph.proofs.NeighbourReads.{path_within, name_at, first_instance}
 use Rattle.grc_graph.proofs.RowSpots.{program_spots_by_row}
+use Rattle.grc_graph.proofs.Sums.{sum_both, sum_mapped}
 use Rattle.grc_graph.proofs.WireFilling.{row_wires, outs_of, program_wires_by_row}
 use Rattle.grc_build.specs.Rooms.{instance_size, size_at}
 
@@ -48,16 +49,6 @@ size_of_instance : (t : Term) (n : ℕ) (l : Layer) → length (instance_wires t
 size_of_instance t n l =
     let codes = listed (instance_codes t l) in
     omega (arith, length-own_status t n l, length-append (own_status t n l) (map (λ k. End n l k) codes), length-map codes (λ k. End n l k))
-
--- sums
-sum_both : {X : Type 0} (f g : X → ℕ) (xs : List X) → sum_by f xs + sum_by g xs ≡ sum_by (λ x. f x + g x) xs
-sum_both f g [] = refl
-sum_both f g (x ∷ xs) = omega (arith, sum_by-cons f x xs, sum_by-cons g x xs, sum_by-cons (λ y. f y + g y) x xs, sum_both f g xs)
-
-sum_mapped : {X Y : Type 0} (f : Y → ℕ) (g : X → Y) (xs : List X) → sum_by f (map g xs) ≡ sum_by (λ x. f (g x)) xs
-sum_mapped f g [] = refl
-sum_mapped f g (x ∷ xs) =
-    sum_by-cons f (g x) (map g xs) ∙ ap (λ n. f (g x) + n) (sum_mapped f g xs) ∙ sym (sum_by-cons (λ y. f (g y)) x xs)
 
 pub graph_size_by_instance : (p : Program) → IsKernel p.body → graph_size p ≡ outgoing_count p + sum_by (size_at p) (body_instances p.body)
 graph_size_by_instance p kernel =

@@ -1,4 +1,5 @@
 mod Examples
+pub mod Sums
 pub mod CodeSets
 pub mod CodeReads
 pub mod TreeLaws

@@ -20,8 +20,8 @@ use Rattle.grc_graph.specs.Spots.{Spot}
 use Rattle.grc_graph.specs.Wires.{Wire, Out, Go, StatusOf, End, same_wire, status_wire, own_status}
 use Rattle.grc_graph.proofs.LiveInstances.{instances_ascend_lem}
 use Rattle.grc_graph.proofs.RowSpots.{program_spots_by_row}
+use Rattle.grc_graph.proofs.Sums.{sum_none, sum_mapped, sum_flat, sum_swap}
 use Rattle.net_gen.proofs.FormulaGates.{joined}
-use Rattle.net_gen.proofs.GateSums.{sum_none, sum_mapped, sum_flat, sum_swap}
 use Rattle.net_gen.proofs.InstanceGates.{emit_gates}
 
 abbrev pub one_if : Bool → ℕ

@@ -16,9 +16,9 @@ use Rattle.grc_graph.specs.Statements.{Entry, Body, Part, Branch, Then, Else, Su
 use Rattle.grc_graph.proofs.CodeReads.{StandsAt, stands_head, stands_tail, stands_whole}
 use Rattle.grc_graph.proofs.LiveInstances.{at_layer}
 use Rattle.grc_graph.proofs.WireNames.{row_instances, body_by_row}
+use Rattle.grc_graph.proofs.Sums.{sum_both, sum_none, sum_mapped}
 use Rattle.grc_words.specs.Sizes.{operators}
 use Rattle.net_gen.proofs.FormulaGates.{where_started, where_resumed, entry_tests}
-use Rattle.net_gen.proofs.GateSums.{sum_both, sum_none, sum_mapped}
 use Rattle.net_gen.proofs.InstanceGates.{wire_count, part_tests, instance_gates, instance_within}
 
 -- what an instance counts by its statement, what lets it run, and its layer; and what the instances of a statement count

@@ -32,11 +32,12 @@ use Rattle.grc_graph.proofs.RowFacts.{statement_count-pos}
 use Rattle.grc_graph.proofs.RowSpots.{row_read, program_spots_by_row}
 use Rattle.grc_graph.proofs.WireFilling.{row_wires, outs_of, program_wires_by_row}
 use Rattle.grc_graph.proofs.WireNames.{instance_live}
+use Rattle.grc_graph.proofs.Sums.{sum_both, sum_mapped}
 use Rattle.grc_words.specs.Sizes.{rows_at_most, rows_by, test_of, instance_rows, selection_rows}
 use Rattle.net_gen.specs.Costs.{cost_of, wire_cost, gates_at_most}
 use Rattle.net_gen.proofs.EquationGates.{equation_gates, program_equations}
 use Rattle.net_gen.proofs.FormulaGates.{gates_of, cost_by_name, where_resumed}
-use Rattle.net_gen.proofs.GateSums.{sum_both, sum_mapped, total-list, permuted}
+use Rattle.net_gen.proofs.GateSums.{total-list, permuted}
 use Rattle.net_gen.proofs.InstanceGates.{wire_count, wires_counted, next_gates, instance_gates}
 use Rattle.net_gen.proofs.NextGates.{program_leaves}
 use Rattle.net_gen.proofs.RowGates.{Measure, row_sum, sizes, program_counted, program_within}

@@ -3,5 +3,6 @@ pub mod Values
 pub mod Numbered
 pub mod NumberedNames
 pub mod NameLists
+pub mod Pieces
 mod WorkedNets
 mod RunEquations

@@ -1,6 +1,6 @@
 use Rattle.std.proofs.Common.{◌≡◌, ◌<◌, ◌++◌, [], length, take, subst, ap, ◌∙◌}
 use Rattle.std.specs.Prelude.{MatchOption}
-use Rattle.csub_text.proofs.Moves.{pieces-join, pieces-fall}
+use Rattle.net_ir.proofs.Pieces.{pieces-join, pieces-fall}
 use Rattle.csub_text.proofs.writer.write_c.Goals as goal
 
 pub loop-text-smaller : goal.loop-text-smaller

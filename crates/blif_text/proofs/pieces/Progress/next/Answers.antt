@@ -1,34 +1,35 @@
 use Rattle.std.proofs.Common.{◌++◌, drop, sym, ap, ◌∙◌, arith}
 use Rattle.std.proofs.Math.Seq.{drop-nil}
 use Rattle.net_ir.specs.Runs.{netlist_of}
+use Rattle.net_ir.proofs.Pieces.{piece-front, piece-back, piece-none, piece-some}
 use Rattle.blif_text.specs.Places.{text_from}
-use Rattle.blif_text.proofs.Moves.{piece-front, piece-back, piece-none, piece-some, empty-length, some-length}
+use Rattle.blif_text.proofs.Moves.{to_end}
 use Rattle.blif_text.proofs.pieces.Progress.next.Goals as goal
 
 pub returns-then-is_empty-clause-piece : goal.returns-then-is_empty-clause-piece
 returns-then-is_empty-clause-piece c =
     let text = c.in_ok-text.text in
-    piece-none (netlist_of c.args.net.now) 65536 text.items _ c.in_ok-text.place (omega arith)
-    (empty-length text.len text.items c.if-is_empty.ensures text.ok.0) c.in_ok-text.ensures.text c.in_ok-text.ensures.full
+    let full = to_end (netlist_of c.args.net.now) 65536 text.items c.in_ok-text.place c.in_ok-text.ensures.full in
+    piece-none 65536 text.len text.items _ _ (omega arith) c.if-is_empty.ensures text.ok.0 c.in_ok-text.ensures.text full
 
 pub returns-then-is_empty-clause-rest : goal.returns-then-is_empty-clause-rest
 returns-then-is_empty-clause-rest c =
     let text = c.in_ok-text.text in
-    let none = piece-none (netlist_of c.args.net.now) 65536 text.items _ c.in_ok-text.place (omega arith)
-    (empty-length text.len text.items c.if-is_empty.ensures text.ok.0) c.in_ok-text.ensures.text c.in_ok-text.ensures.full in
+    let full = to_end (netlist_of c.args.net.now) 65536 text.items c.in_ok-text.place c.in_ok-text.ensures.full in
+    let none = piece-none 65536 text.len text.items _ _ (omega arith) c.if-is_empty.ensures text.ok.0 c.in_ok-text.ensures.text full in
     none ∙ sym (ap (drop 65536) none ∙ drop-nil 65536)
 
 pub returns-clause-piece : goal.returns-clause-piece
 returns-clause-piece c =
     let text = c.in_ok-text.text in
-    let some = piece-some 65536 text.items (omega arith) (some-length text.len text.items c.if-is_empty.ensures text.ok.0) in (
-      rw c.in_ok-self.ensures.piece some,
-      c.in_ok-self.ensures.piece
-          ∙ piece-front (netlist_of c.args.net.now) 65536 text.items _ c.in_ok-text.place c.in_ok-text.ensures.text c.in_ok-text.ensures.full,
-    )
+    let full = to_end (netlist_of c.args.net.now) 65536 text.items c.in_ok-text.place c.in_ok-text.ensures.full in
+    let some = piece-some 65536 text.len text.items (omega arith) c.if-is_empty.ensures text.ok.0 in
+    (rw c.in_ok-self.ensures.piece some, c.in_ok-self.ensures.piece ∙ piece-front 65536 text.items _ _ c.in_ok-text.ensures.text full)
 
 pub returns-clause-rest : goal.returns-clause-rest
 returns-clause-rest c =
     let net = netlist_of c.args.net.now in
+    let text = c.in_ok-text.text in
+    let full = to_end net 65536 text.items c.in_ok-text.place c.in_ok-text.ensures.full in
     ap (λ l. l ++ text_from net c.in_ok-text.place) c.in_ok-self.ensures.rest
-    ∙ piece-back net 65536 c.in_ok-text.text.items _ c.in_ok-text.place c.in_ok-text.ensures.text c.in_ok-text.ensures.full
+    ∙ piece-back 65536 text.items _ _ c.in_ok-text.ensures.text full
