@@ -33,7 +33,7 @@ use Rattle.grc_graph.specs.SelectionTrees.{body_leaves}
 use Rattle.net_gen.specs.Generated.{HasInterfaceOf, Carries, EachInstant, FollowsRuns}
 use Rattle.net_ir.specs.declared.netlist.Gate.{Gate}
 use Rattle.net_ir.specs.Gates.{carried, value_in}
-use Rattle.net_ir.specs.Netlists.{Netlist, first_gate, net_count}
+use Rattle.net_ir.specs.Netlists.{Netlist, first_gate, net_count, wire_at}
 use Rattle.cec_core.specs.Cycles.{IsAcyclic}
 use Rattle.cec_core.specs.Meaning.{wire_word, wire_variable, TellsWires, NamesWires, HoldsWires}
 use Rattle.cec_core.proofs.Keeping.{widths}
@@ -84,13 +84,13 @@ word_of net n c =
     let no_latch : nat_lt i (first_gate net) ≡ false = le-ltb i (first_gate net) (omega arith) in
     let back : i - first_gate net ≡ c.place = omega arith in
     let x = any_in net.gates c.place c.within in
-    let there : written.wire_at net.gates c.place ≡ Some (record { 0 = n })
+    let there : wire_at net.gates c.place ≡ Some (record { 0 = n })
     = ap (λ o. option_and_then (λ h. h.wire) o) (slice_get-get_or net.gates c.place x c.within) ∙ c.is x in
     ap (λ b. if b then written.input_word i else (if nat_lt i (first_gate net) then written.latch_word (i - length net.inputs)
-    else gate_word (i - first_gate net) (written.wire_at net.gates (i - first_gate net)))) no_input
-    ∙ ap (λ b. if b then written.latch_word (i - length net.inputs) else gate_word (i - first_gate net) (written.wire_at net.gates (i - first_gate net)))
+    else gate_word (i - first_gate net) (wire_at net.gates (i - first_gate net)))) no_input
+    ∙ ap (λ b. if b then written.latch_word (i - length net.inputs) else gate_word (i - first_gate net) (wire_at net.gates (i - first_gate net)))
     no_latch
-    ∙ ap (λ k. gate_word k (written.wire_at net.gates k)) back ∙ ap (gate_word c.place) there
+    ∙ ap (λ k. gate_word k (wire_at net.gates k)) back ∙ ap (gate_word c.place) there
 
 -- the variable of its gate in a C text
 gate_of : (net : Netlist) (n : ℕ) → (c : Carrier net.gates n) → get_or (gate_names net) c.place [] ≡ wire_variable n
