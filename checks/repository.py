@@ -79,10 +79,30 @@ def edits_are_named():
     """A must-fail edit's name says the wrong body in words."""
     found = []
     for name in crates():
-        for edit in sorted((TOP / "crates" / name / "must-fail").glob("*.edit")):
+        edits = [edit for part in ("must-fail", "edits") for edit in sorted((TOP / "crates" / name / part).glob("*.edit"))]
+        for edit in edits:
             words = edit.stem.split("_")
             if len(words) < 2 or not all(re.fullmatch(r"[a-z]+", word) for word in words):
-                found.append(f"crates/{name}/must-fail/{edit.name}: not a name in words")
+                found.append(f"{edit.relative_to(TOP)}: not a name in words")
+    return found
+
+
+def edits_apply():
+    """Each old text of an edit stands in its file exactly once, also in edits/, where the gate does not look."""
+    found = []
+    for edit in sorted(TOP.glob("crates/*/edits/*.edit")):
+        text = old = ""
+        for line in edit.read_text().splitlines():
+            key, _, rest = line.partition(": ")
+            if key == "file":
+                path = edit.parent.parent / rest.strip()
+                text = path.read_text() if path.exists() else ""
+            elif key == "old":
+                old = rest
+                if text.count(old) != 1:
+                    found.append(f"{edit.relative_to(TOP)}: its old text does not stand once: {old.strip()}")
+            elif key == "new":
+                text = text.replace(old, rest)
     return found
 
 
@@ -136,6 +156,7 @@ CHECKS = [
     ("the repository stands alone", stands_alone, "git"),
     ("every crate is introduced", crates_are_introduced, None),
     ("every edit is named in words", edits_are_named, None),
+    ("every edit has its text", edits_apply, None),
     ("no handle is allowed", handles_are_none, None),
     ("lines are short", lines_are_short, "git"),
     ("every page is whole", pages_are_whole, None),
