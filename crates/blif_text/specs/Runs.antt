@@ -3,7 +3,9 @@
 -- reset, which that format does not have, begins a new run.
 use Rattle.std.specs.Prelude.{◌≡◌, ℕ, Bool, true, false, not, ◌&&◌, List, [], ◌∷◌, ◌++◌, map}
 use Rattle.std.specs.List.{list_any, AllByRecursion}
-use Rattle.est_base.specs.Items.{Item, Event, Reset}
+use Rattle.est_base.specs.Items.{Item}
+use Rattle.machines.specs.Machines as machines
+use Rattle.machines.specs.Machines.{Machine}
 use Rattle.blif_text.specs.Statements.{Cell, Zero, One, Any}
 use Rattle.blif_text.specs.Circuits.{Circuit, Table}
 
@@ -34,15 +36,19 @@ pub record IsInstant (circuit : Circuit) (latches inputs : List Bool) (v : List 
 abbrev pub circuit_latches : Circuit → List Bool
 circuit_latches circuit = map (λ l. l.init) circuit.latches
 
--- A run from these latch values on. Behind an event the latches have the values that their sources had in
--- its instant; a reset has no valuation and puts the latches back.
+-- The machine of a circuit: its states are the values of the latches, in an instant a valuation meets every table's
+-- equation, and behind it each latch has the value that its source had.
+abbrev pub circuit_machine : Circuit → Machine (List ℕ → Bool)
+circuit_machine circuit = record {
+  State = List Bool;
+  start = circuit_latches circuit;
+  instant = IsInstant circuit;
+  next = λ latches inputs v. map (λ l. v l.source) circuit.latches;
+}
+
+-- a run from these latch values on; a reset has no valuation and puts the latches back
 abbrev pub IsRunFrom : Circuit → List Bool → List Item → List (List ℕ → Bool) → Type 0
-IsRunFrom circuit latches [] [] = Unit {0}
-IsRunFrom circuit latches [] (v ∷ valuations) = ⊥
-IsRunFrom circuit latches (Event inputs ∷ items) (v ∷ valuations) =
-    IsInstant circuit latches inputs v × IsRunFrom circuit (map (λ l. v l.source) circuit.latches) items valuations
-IsRunFrom circuit latches (Event inputs ∷ items) [] = ⊥
-IsRunFrom circuit latches (Reset ∷ items) valuations = IsRunFrom circuit (circuit_latches circuit) items valuations
+IsRunFrom circuit latches items valuations = machines.IsRunFrom (circuit_machine circuit) latches items valuations
 
 -- a run over items, where each latch has its initial value at the first event
 abbrev pub IsRun : Circuit → List Item → List (List ℕ → Bool) → Type 0

@@ -1,7 +1,8 @@
 -- To believe: the machine of a program, over items. A memory has a value for each variable.
 use Rattle.std.specs.Prelude.{ℕ, Bool, true, false, not, ◌&&◌, ◌||◌, List, [], ◌∷◌, map, if◌then◌else◌}
-use Rattle.est_base.specs.Items.{Item, Event, Reset}
+use Rattle.est_base.specs.Items.{Item}
 use Rattle.est_base.specs.Names.{is_same_name}
+use Rattle.machines.specs.Machines.{Machine, computed, run_from}
 use Rattle.csub_text.specs.Trees.{Expr, Name, Const, Not, And, Or, Exprs, NoExprs, MoreExprs, State, Assign, Program}
 use Rattle.csub_text.specs.Names.{inputs_of, outputs_of}
 
@@ -49,11 +50,15 @@ first_memory (s ∷ states) = with_value s.name s.init (first_memory states)
 abbrev pub call : Program → List Bool → Memory → Memory
 call p inputs memory = run_body p.body (with_inputs (inputs_of p) inputs memory)
 
+-- the machine of a program: its states are memories, and what is so in an instant is the memory behind the call
+abbrev pub program_machine : Program → Machine Memory
+program_machine p =
+    computed (first_memory p.states) (λ memory inputs. call p inputs memory) (λ memory inputs behind. behind)
+
 -- the memory behind each call, from this one on; a reset puts it back and is no call
 abbrev pub memories_from : Program → Memory → List Item → List Memory
-memories_from p memory [] = []
-memories_from p memory (Event inputs ∷ items) = call p inputs memory ∷ memories_from p (call p inputs memory) items
-memories_from p memory (Reset ∷ items) = memories_from p (first_memory p.states) items
+memories_from p memory items =
+    run_from (first_memory p.states) (λ m inputs. call p inputs m) (λ m inputs behind. behind) memory items
 
 abbrev pub memories : Program → List Item → List Memory
 memories p items = memories_from p (first_memory p.states) items

@@ -8,6 +8,7 @@ pub mod ReactionLaws
 mod Equations
 pub mod ExitLaws
 pub mod RunLaws
+pub mod MachineRuns
 pub mod PreorderLaws
 pub mod ResidualLaws
 mod Witnesses

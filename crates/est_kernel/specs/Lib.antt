@@ -4,6 +4,7 @@ pub mod Statuses
 pub mod Potentials
 pub mod Steps
 pub mod Reactions
+pub mod ProgramMachine
 pub mod StaticCodes
 pub mod Sizes
 pub mod Preorder

@@ -1,8 +1,9 @@
 -- To believe: what a graph does from instant to instant. This speaks of the equations and next formulas alone, and
 -- asks nothing of how they were made.
-use Rattle.std.specs.Prelude.{◌≡◌, ℕ, Bool, false, ◌||◌, List, [], ◌∷◌, map, All, ⊤}
+use Rattle.std.specs.Prelude.{◌≡◌, ℕ, Bool, false, ◌||◌, List, [], ◌∷◌, map, All}
 use Rattle.std.specs.List.{list_any}
-use Rattle.est_base.specs.Items.{Item, Event, Reset}
+use Rattle.est_base.specs.Items.{Item}
+use Rattle.machines.specs.Machines.{Machine, IsRunFrom}
 use Rattle.est_kernel.specs.Terms.{Term}
 use Rattle.est_kernel.specs.Plain.{Program, Interface, interface_of, interface_count, given_count}
 use Rattle.est_kernel.specs.Reactions.{is_given}
@@ -74,11 +75,11 @@ shown g V = record {
   paused = V (End 0 Resumed 1) || V (End 0 (Started 0) 1);
 }
 
+-- the machine of a graph: in an instant a valuation solves it, and behind that is the next state
+abbrev pub graph_machine : PlainGraph → Machine Valuation
+graph_machine g = record { State = State; start = Initial; instant = Solves g; next = next_state g }
+
 -- A run from a state over items: one valuation per event, each of which solves the graph in the state that is reached.
 -- A reset puts the first instant back and has no valuation.
 abbrev pub IsGraphRun : PlainGraph → State → List Item → List Valuation → Type 0
-IsGraphRun g q [] [] = ⊤
-IsGraphRun g q [] (V ∷ Vs) = ⊥
-IsGraphRun g q (Event event ∷ items) [] = ⊥
-IsGraphRun g q (Event event ∷ items) (V ∷ Vs) = Solves g q event V × IsGraphRun g (next_state g q event V) items Vs
-IsGraphRun g q (Reset ∷ items) Vs = IsGraphRun g Initial items Vs
+IsGraphRun g q items Vs = IsRunFrom (graph_machine g) q items Vs

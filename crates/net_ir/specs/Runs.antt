@@ -1,8 +1,9 @@
 -- To believe: the values of a netlist and its runs over items. A latch has its initial value in the first
 -- instant and in the first one behind a reset, and in every other one the value that its net had one
 -- instant before.
-use Rattle.std.specs.Prelude.{Bool, List, [], ◌∷◌, ◌++◌, map}
-use Rattle.est_base.specs.Items.{Item, Event, Reset}
+use Rattle.std.specs.Prelude.{Bool, List, ◌++◌, map}
+use Rattle.est_base.specs.Items.{Item}
+use Rattle.machines.specs.Machines.{Machine, computed, run_from}
 use Rattle.net_ir.specs.declared.netlist.Net.{Net}
 use Rattle.net_ir.specs.Gates.{value_in, gate_values}
 use Rattle.net_ir.specs.Netlists.{Netlist}
@@ -41,13 +42,14 @@ shown net values = record {
   paused = value_in values net.paused;
 }
 
+-- the machine of a netlist: in an instant its nets have the values that its latches and inputs give them
+abbrev pub net_machine : Netlist → Machine (List Bool)
+net_machine net = computed (initial_latches net) (net_values net) (λ latches inputs values. next_latches net values)
+
 -- the values of all nets in the instant of each event, from these latch values on
 abbrev pub values_from : Netlist → List Bool → List Item → List (List Bool)
-values_from net latches [] = []
-values_from net latches (Event inputs ∷ items) =
-    let values = net_values net latches inputs in
-    values ∷ values_from net (next_latches net values) items
-values_from net latches (Reset ∷ items) = values_from net (initial_latches net) items
+values_from net latches items =
+    run_from (initial_latches net) (net_values net) (λ l inputs values. next_latches net values) latches items
 
 -- the values of all nets in the instant of each event, from the first instant on
 abbrev pub net_values_run : Netlist → List Item → List (List Bool)
