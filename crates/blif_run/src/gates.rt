@@ -10,7 +10,7 @@ use crate::step::some_row_fits;
 use blif_text::{Row, Table};
 
 /// A step that reads two slots, which may be the same.
-#[derive(Debug, Clone, Copy)]
+#[derive(Clone, Copy)]
 pub struct Gate {
     pub output: u32,
     pub left: u32,

@@ -15,7 +15,7 @@ use est_base::NoMemory;
 use indexmap::IndexSet;
 use std::alloc::Global;
 
-#[derive(Debug, Drop)]
+#[derive(Drop)]
 pub struct Plan {
     // The tables, each one behind those that it reads.
     pub steps: Steps,

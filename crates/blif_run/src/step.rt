@@ -9,7 +9,7 @@ use blif_text::{Cell, Row};
 use est_base::NoMemory;
 use std::alloc::Global;
 
-#[derive(Debug, Drop)]
+#[derive(Drop)]
 pub struct Step {
     pub output: usize,
     pub reads: Vec<usize>,

@@ -14,14 +14,14 @@ use std::alloc::Global;
 use std::mem;
 
 /// Gates, and behind them a step that is none.
-#[derive(Debug, Drop)]
+#[derive(Drop)]
 pub struct Stretch {
     pub gates: Vec<Gate>,
     pub last: Step,
 }
 
 /// Steps, most of which are gates.
-#[derive(Debug, Drop)]
+#[derive(Drop)]
 pub struct Steps {
     pub stretches: Vec<Stretch>,
     // The gates behind the last stretch.

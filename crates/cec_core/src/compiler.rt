@@ -28,7 +28,7 @@ use net_simp::simplify;
 use std::alloc::Global;
 
 /// The graph of a program, its selection tree, its dependency edges, and ranks that grow along them.
-#[derive(Debug, Drop)]
+#[derive(Drop)]
 pub struct Graphed {
     pub graph: Graph,
     pub tree: SelTree,
@@ -38,7 +38,7 @@ pub struct Graphed {
 
 /// A compiled program: its graph, which has the kernel program and the live instances, its selection tree, an
 /// evaluation order of its wires, and its simplified netlist.
-#[derive(Debug, Drop)]
+#[derive(Drop)]
 pub struct Compiled {
     pub graph: Graph,
     pub tree: SelTree,

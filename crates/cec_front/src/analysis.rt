@@ -17,7 +17,7 @@ use est_kernel::{Codes, KernelProgram};
 use std::alloc::Global;
 
 /// A kernel program with the static codes of its statements.
-#[derive(Debug, Drop)]
+#[derive(Drop)]
 pub struct Analysed {
     pub program: KernelProgram,
     pub codes: Codes,

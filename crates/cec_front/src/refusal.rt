@@ -30,7 +30,7 @@ pub enum Fault {
 }
 
 /// What passes its limit; `est_base::Limits` has the numbers.
-#[derive(Clone, Copy, Debug, PartialEq, Eq)]
+#[derive(Clone, Copy, Debug)]
 pub enum Quantity {
     /// The nesting of the source.
     Nesting,

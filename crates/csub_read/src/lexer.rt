@@ -41,7 +41,7 @@ pub fn lex<'a>(alloc: Global, text: &'a [u8]) -> Result<Vec<Token<'a>>, NoMemory
 
 // What begins a text: a space or a comment, a token, or a byte that begins neither. Of the first two the number
 // of bytes behind the first one is told.
-#[derive(Clone, Copy, Debug)]
+#[derive(Clone, Copy)]
 pub enum Front<'a> {
     Gap(usize),
     Lexeme(usize, Kind<'a>),

@@ -16,7 +16,7 @@ use std::alloc::Global;
 use std::collections::HashSet;
 
 // A name that is assigned, or one that is read.
-#[derive(Clone, Copy, Debug)]
+#[derive(Clone, Copy)]
 pub enum Use<'a> {
     Assigned(&'a [u8]),
     Taken(&'a [u8]),

@@ -14,7 +14,7 @@ use read_rules::{ReadError, first, refused};
 use std::alloc::Global;
 
 // What begins a part of an expression.
-#[derive(Clone, Copy, Debug)]
+#[derive(Clone, Copy)]
 pub enum Factor<'a> {
     Not,
     Round,

@@ -5,7 +5,7 @@ ghost use Rattle.csub_text.specs.Grammar.{kind_number};
 ghost use Rattle.csub_read.specs.Tokens.{kind_of};
 
 /// What a token is; `Bad` is one that no text has.
-#[derive(Clone, Copy, Debug)]
+#[derive(Clone, Copy)]
 pub enum Kind<'a> {
     Static,
     Int,
@@ -28,7 +28,7 @@ pub enum Kind<'a> {
 }
 
 /// A token and the place of its first byte in the text.
-#[derive(Clone, Copy, Debug)]
+#[derive(Clone, Copy)]
 pub struct Token<'a> {
     pub kind: Kind<'a>,
     pub at: u32,

@@ -3,7 +3,7 @@
 use est_base::Text;
 
 /// An expression. `And` and `Or` have two parts or more: round brackets and a list of one part make no node.
-#[derive(Debug, Drop)]
+#[derive(Drop)]
 pub enum Expr {
     Name(Text),
     Const(bool),
@@ -13,14 +13,14 @@ pub enum Expr {
 }
 
 /// A variable that keeps its value from call to call, and its value before the first one.
-#[derive(Debug, Drop)]
+#[derive(Drop)]
 pub struct State {
     pub name: Text,
     pub init: bool,
 }
 
 /// The variable `to` gets the value of the expression.
-#[derive(Debug, Drop)]
+#[derive(Drop)]
 pub struct Assign {
     pub to: Text,
     pub value: Expr,
@@ -28,7 +28,7 @@ pub struct Assign {
 
 /// A program: states, inputs (`I_`) and outputs (`O_`) among the globals, locals, the assignments of `react` in
 /// order, and the expression that it returns. Names are in the order of their declarations.
-#[derive(Debug, Drop)]
+#[derive(Drop)]
 pub struct CProgram {
     pub states: Vec<State>,
     pub globals: Vec<Text>,

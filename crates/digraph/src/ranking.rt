@@ -10,7 +10,7 @@ use crate::search::{Search, State};
 use std::alloc::{AllocError, Global};
 
 /// The nodes of a graph in an order along which each edge leads forward.
-#[derive(Debug, Drop)]
+#[derive(Drop)]
 pub struct Ranking {
     /// The rank of each node, by the node's number.
     pub ranks: Vec<u32>,
@@ -19,7 +19,7 @@ pub struct Ranking {
 }
 
 /// What a finite directed graph has.
-#[derive(Debug, Drop)]
+#[derive(Drop)]
 pub enum RanksOrCycle {
     /// Ranks that grow along each edge.
     Ranks(Ranking),

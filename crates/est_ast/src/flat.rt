@@ -4,7 +4,7 @@ use est_base::{InputRelation, SigId, SignalInfo, Span, Text};
 
 /// A program whose modules stand in one body. Signals are, in this order, the inputs, the inputoutputs, the
 /// outputs and the local ones, each kind in the order of the text.
-#[derive(Debug, Drop)]
+#[derive(Drop)]
 pub struct Flat {
     /// The main module's name.
     pub name: Text,
@@ -23,7 +23,7 @@ pub struct Flat {
 }
 
 /// A test of signals.
-#[derive(Debug, Drop)]
+#[derive(Drop)]
 pub enum FlatExpr {
     Tick(Span),
     Sig(SigId),
@@ -35,7 +35,7 @@ pub enum FlatExpr {
 }
 
 /// What a statement waits for.
-#[derive(Debug, Drop)]
+#[derive(Drop)]
 pub enum FlatDelay {
     Plain(FlatExpr),
     Immediate(FlatExpr),
@@ -43,7 +43,7 @@ pub enum FlatDelay {
 }
 
 /// A case and what it does.
-#[derive(Debug, Drop)]
+#[derive(Drop)]
 #[cycle(flat)]
 pub struct FlatCase {
     pub event: FlatExpr,
@@ -51,7 +51,7 @@ pub struct FlatCase {
 }
 
 /// A statement and the place of the source statement that it comes from.
-#[derive(Debug, Drop)]
+#[derive(Drop)]
 #[cycle(flat)]
 pub struct FlatStmt {
     pub span: Span,
@@ -59,7 +59,7 @@ pub struct FlatStmt {
 }
 
 /// What a statement is: the forms of a source statement, but for `run`.
-#[derive(Debug, Drop)]
+#[derive(Drop)]
 #[cycle(flat)]
 pub enum FlatForm {
     Nothing,

@@ -3,14 +3,14 @@
 use est_base::{Span, Text};
 
 /// A token and its place in the source: `span` has its bytes and no others.
-#[derive(Debug, PartialEq, Eq, Drop)]
+#[derive(Drop)]
 pub struct Token {
     pub kind: Kind,
     pub span: Span,
 }
 
 /// What a token is.
-#[derive(Debug, PartialEq, Eq, Drop)]
+#[derive(Drop)]
 pub enum Kind {
     /// A reserved word.
     Reserved(Reserved),
@@ -23,7 +23,7 @@ pub enum Kind {
 }
 
 /// The reserved words. Each is written as its name in lower case.
-#[derive(Clone, Copy, Debug, PartialEq, Eq)]
+#[derive(Clone, Copy, PartialEq)]
 pub enum Reserved {
     Abort,
     And,
@@ -66,7 +66,7 @@ pub enum Reserved {
 }
 
 /// The marks. A single `|` and a single `=` are none.
-#[derive(Clone, Copy, Debug, PartialEq, Eq)]
+#[derive(Clone, Copy, PartialEq)]
 pub enum Mark {
     /// `;`
     Semicolon,

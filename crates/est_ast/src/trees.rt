@@ -3,20 +3,20 @@
 use est_base::{Span, Text};
 
 /// A name and its place in the source.
-#[derive(Debug, Drop)]
+#[derive(Drop)]
 pub struct Name {
     pub text: Text,
     pub span: Span,
 }
 
 /// A program: its modules in the order of the text, of which there is one at least.
-#[derive(Debug, Drop)]
+#[derive(Drop)]
 pub struct Program {
     pub modules: Vec<Module>,
 }
 
 /// A module: its name, its declarations in order, and its body.
-#[derive(Debug, Drop)]
+#[derive(Drop)]
 pub struct Module {
     pub name: Name,
     pub decls: Vec<Decl>,
@@ -24,7 +24,7 @@ pub struct Module {
 }
 
 /// A declaration.
-#[derive(Debug, Drop)]
+#[derive(Drop)]
 pub enum Decl {
     /// `input` and the names.
     Input(Vec<Name>),
@@ -37,7 +37,7 @@ pub enum Decl {
 }
 
 /// What the environment keeps of a module's given signals in each instant.
-#[derive(Debug, Drop)]
+#[derive(Drop)]
 pub enum Relation {
     /// `A => B`: the second is present whenever the first is.
     Implies(Name, Name),
@@ -46,7 +46,7 @@ pub enum Relation {
 }
 
 /// A test of signals. A list of one part is that part and makes no node.
-#[derive(Debug, Drop)]
+#[derive(Drop)]
 pub enum SigExpr {
     /// `tick`, which is always true.
     Tick(Span),
@@ -65,7 +65,7 @@ pub enum SigExpr {
 }
 
 /// What a statement waits for.
-#[derive(Debug, Drop)]
+#[derive(Drop)]
 pub enum Delay {
     /// The next instant but the first in which the test is true.
     Plain(SigExpr),
@@ -77,7 +77,7 @@ pub enum Delay {
 }
 
 /// `case`, its test, and what stands behind `do` where that is there.
-#[derive(Debug, Drop)]
+#[derive(Drop)]
 #[cycle(tree)]
 pub struct Case {
     pub event: SigExpr,
@@ -85,14 +85,14 @@ pub struct Case {
 }
 
 /// A renaming in `run`: the signal here, and the name that it has in the module.
-#[derive(Debug, Drop)]
+#[derive(Drop)]
 pub struct Rename {
     pub actual: Name,
     pub formal: Name,
 }
 
 /// A statement and its place, from the start of its first token to the end of its last.
-#[derive(Debug, Drop)]
+#[derive(Drop)]
 #[cycle(tree)]
 pub struct Stmt {
     pub span: Span,
@@ -100,7 +100,7 @@ pub struct Stmt {
 }
 
 /// What a statement is. A part in an `Option` is one that the text may leave out.
-#[derive(Debug, Drop)]
+#[derive(Drop)]
 #[cycle(tree)]
 pub enum Form {
     /// `nothing`.
@@ -154,7 +154,7 @@ pub enum Form {
 }
 
 /// `handle T do p`.
-#[derive(Debug, Drop)]
+#[derive(Drop)]
 #[cycle(tree)]
 pub struct Handle {
     pub name: Name,

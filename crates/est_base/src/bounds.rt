@@ -8,7 +8,7 @@ ghost use Rattle.est_base.specs.declared.bounds.TheConstants.Limits.{LEAST_COUNT
 ghost use Rattle.est_base.specs.declared.bounds.TheConstants.Limits.{LOAD_INSTANTS};
 
 /// The limits of the compiler and of its runners. A quantity may be as great as its number here.
-#[derive(Clone, Copy, Debug)]
+#[derive(Clone, Copy)]
 pub struct Limits;
 
 impl Limits {

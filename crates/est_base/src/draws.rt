@@ -3,7 +3,7 @@
 use std::marker::Model;
 
 /// A linear congruential generator, that of ISO C's example of `rand`. A contract sees it as its state.
-#[derive(Debug, Drop)]
+#[derive(Drop)]
 pub struct Draw {
     state: u32,
 }

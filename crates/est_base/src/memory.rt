@@ -4,7 +4,7 @@ use std::alloc::{AllocError, AllocFailed};
 
 /// Want of memory. It may come at any moment of a call that allocates, and is merged with no
 /// other answer.
-#[derive(Clone, Copy, Debug, PartialEq, Eq)]
+#[derive(Clone, Copy, Debug)]
 pub struct NoMemory;
 
 impl From<AllocError> for NoMemory {

@@ -8,7 +8,7 @@ use std::alloc::{AllocError, AllocFailed};
 use thiserror::Error;
 
 /// Why `codes` gives no codes.
-#[derive(Debug, PartialEq, Eq, Drop, Error)]
+#[derive(Debug, PartialEq, Drop, Error)]
 pub enum CodeFault {
     /// The body of this loop can terminate in the instant in which it starts. Of all such loops this
     /// is the one whose place starts first, and of those that start there the one that ends first.

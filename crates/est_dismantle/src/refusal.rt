@@ -8,7 +8,7 @@ use std::alloc::{AllocError, AllocFailed};
 use thiserror::Error;
 
 /// Why `dismantle` gives no kernel program.
-#[derive(Debug, PartialEq, Eq, Drop, Error)]
+#[derive(Debug, PartialEq, Drop, Error)]
 pub enum DismantleFault {
     /// The first count that is 0 or above 255, in the order in which they are written.
     #[error("the count at byte {} is not from 1 to 255", .0.start)]

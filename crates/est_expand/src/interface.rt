@@ -12,7 +12,7 @@ use est_base::NoMemory;
 use std::alloc::Global;
 
 /// A signal of an interface.
-#[derive(Clone, Copy, Debug)]
+#[derive(Clone, Copy)]
 pub struct Formal<'a> {
     pub name: &'a [u8],
     pub input: bool,

@@ -10,14 +10,14 @@ use std::marker::Model;
 
 /// What a name means: a signal of the whole program, by its number, and whether the module at the place
 /// declares it as an input.
-#[derive(Clone, Copy, Debug)]
+#[derive(Clone, Copy)]
 pub struct Meaning {
     pub signal: u32,
     pub input: bool,
 }
 
 // A name, what it means, and what it meant outside of its binder.
-#[derive(Clone, Copy, Debug)]
+#[derive(Clone, Copy)]
 struct Bound<'a> {
     name: &'a [u8],
     meaning: Meaning,

@@ -11,14 +11,14 @@ use itoa::Buffer;
 use std::alloc::Global;
 
 /// A generated source, and the draws that go on after it.
-#[derive(Debug, Drop)]
+#[derive(Drop)]
 pub struct Generated {
     pub source: Vec<u8>,
     pub rest: Draw,
 }
 
 /// Why no source is generated.
-#[derive(Clone, Copy, Debug, PartialEq, Eq)]
+#[derive(Clone, Copy, Debug, PartialEq)]
 pub enum GenFault {
     /// No branch, or more than `Limits::BRANCHES`.
     BadBranches,

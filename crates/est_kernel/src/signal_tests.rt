@@ -7,7 +7,7 @@ use est_base::{NoMemory, SigId};
 use std::alloc::Global;
 
 /// A test of signals, read by Kleene's three-valued tables where statuses are unknown.
-#[derive(Debug, PartialEq, Eq, Drop)]
+#[derive(Debug, PartialEq, Drop)]
 pub enum Test {
     /// Always true.
     Tick,

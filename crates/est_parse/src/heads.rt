@@ -18,7 +18,7 @@ use read_rules::ReadError;
 use std::alloc::Global;
 
 // The head of an item.
-#[derive(Debug, Drop)]
+#[derive(Drop)]
 pub enum Head {
     Group,
     Loop,

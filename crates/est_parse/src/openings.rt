@@ -10,7 +10,7 @@ use read_rules::first;
 
 // What begins an item. All but the flat ones have room for a statement or a case, or stand before a
 // word that has.
-#[derive(Clone, Copy, Debug, PartialEq, Eq)]
+#[derive(Clone, Copy)]
 pub enum Opening {
     Flat(Flat),
     Await,
@@ -19,7 +19,7 @@ pub enum Opening {
 }
 
 // What begins an item without a statement in it.
-#[derive(Clone, Copy, Debug, PartialEq, Eq)]
+#[derive(Clone, Copy)]
 pub enum Flat {
     Nothing,
     Pause,
@@ -31,7 +31,7 @@ pub enum Flat {
 }
 
 // What begins an item with a statement in it that stands always.
-#[derive(Clone, Copy, Debug, PartialEq, Eq)]
+#[derive(Clone, Copy)]
 pub enum Block {
     Group,
     Loop,
@@ -46,7 +46,7 @@ pub enum Block {
 }
 
 // What begins a part of a test.
-#[derive(Clone, Copy, Debug, Drop)]
+#[derive(Clone, Copy, Drop)]
 pub enum Factor<'a> {
     Not,
     Round,
@@ -56,7 +56,7 @@ pub enum Factor<'a> {
 }
 
 // What begins an event.
-#[derive(Clone, Copy, Debug, Drop)]
+#[derive(Clone, Copy, Drop)]
 pub enum Event<'a> {
     Square,
     Tick(Span),
@@ -64,7 +64,7 @@ pub enum Event<'a> {
 }
 
 // What begins a declaration.
-#[derive(Clone, Copy, Debug, PartialEq, Eq)]
+#[derive(Clone, Copy)]
 pub enum Declaration {
     Input,
     InputOutput,

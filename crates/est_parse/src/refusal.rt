@@ -8,7 +8,7 @@ use read_rules::Fault;
 use thiserror::Error;
 
 /// Why `parse` gives no program. Places are numbers of tokens, from 0.
-#[derive(Clone, Copy, Debug, PartialEq, Eq, Error)]
+#[derive(Clone, Copy, Debug, PartialEq, Error)]
 pub enum ParseError {
     /// No program passes this place.
     #[error("token {0} cannot stand here")]

@@ -14,7 +14,7 @@ use est_ast::{Case, Delay, Form, Stmt, Token};
 use read_rules::ReadError;
 
 // Cases, or a delay and maybe a statement behind `do`.
-#[derive(Debug, Drop)]
+#[derive(Drop)]
 pub enum Tail {
     Cases(Vec<Case>),
     Delay(Delay, Option<Box<Stmt>>),

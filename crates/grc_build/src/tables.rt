@@ -4,7 +4,7 @@ use est_kernel::KernelProgram;
 use grc_graph::{Neighbours, Statement};
 
 /// A program, its statements by number, and its instances and wires by name.
-#[derive(Debug, Drop)]
+#[derive(Drop)]
 pub struct Tables<'a> {
     pub program: &'a KernelProgram,
     pub statements: Vec<Statement<'a>>,

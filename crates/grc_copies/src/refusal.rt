@@ -7,7 +7,7 @@ use std::alloc::{AllocError, AllocFailed};
 use thiserror::Error;
 
 /// Why `copies` gives no instances.
-#[derive(Debug, PartialEq, Eq, Drop, Error)]
+#[derive(Debug, Drop, Error)]
 pub enum CopyFault {
     /// There are more live instances than `Limits::INSTANCES`.
     #[error("too many instances")]

@@ -4,7 +4,7 @@ use est_base::SigId;
 use grc_graph::Instance;
 
 /// A wire by what it says, whether or not the graph has it.
-#[derive(Clone, Copy, Debug)]
+#[derive(Clone, Copy)]
 pub enum NamedWire {
     /// The outgoing signal is present.
     Out(SigId),

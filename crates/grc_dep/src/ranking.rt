@@ -10,7 +10,7 @@ use grc_graph::{Edges, Ranks};
 use std::alloc::{AllocError, Global};
 
 /// What dependency edges have.
-#[derive(Debug, Drop)]
+#[derive(Drop)]
 pub enum Ranked {
     /// Ranks that grow along each edge.
     Acyclic(Ranks),

@@ -3,7 +3,7 @@
 use est_base::{InstId, PathId, SigId, WireId};
 
 /// A formula over wires. It is read by two truth values, or by three.
-#[derive(Debug, Drop)]
+#[derive(Drop)]
 pub enum Formula {
     Const(bool),
     /// This is the first instant.

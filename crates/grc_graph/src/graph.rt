@@ -14,7 +14,7 @@ use est_kernel::KernelProgram;
 /// The graph of a kernel program: a node per live instance, an equation per wire, and a formula per
 /// leaf of the selection tree, which says whether the leaf is selected in the next instant. Each
 /// index in it is in range.
-#[derive(Debug, Drop)]
+#[derive(Drop)]
 pub struct Graph {
     /// The program that this is the graph of.
     pub program: KernelProgram,

@@ -3,7 +3,7 @@
 use est_base::PathId;
 
 /// In which way a statement runs in an instant.
-#[derive(Clone, Copy, Debug, PartialEq, Eq)]
+#[derive(Clone, Copy)]
 pub enum Layer {
     /// It holds control from an earlier instant.
     Resumed,
@@ -13,7 +13,7 @@ pub enum Layer {
 }
 
 /// A statement in a layer.
-#[derive(Clone, Copy, Debug, PartialEq, Eq)]
+#[derive(Clone, Copy)]
 pub struct Instance {
     pub path: PathId,
     pub layer: Layer,
@@ -21,7 +21,7 @@ pub struct Instance {
 
 /// The live instances of a body: statements in preorder, and at one statement resumed first, then
 /// started by ascending roots.
-#[derive(Debug, Drop)]
+#[derive(Drop)]
 pub struct Instances {
     pub list: Vec<Instance>,
 }

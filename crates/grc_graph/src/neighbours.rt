@@ -13,7 +13,7 @@ use std::alloc::Global;
 /// The live instances of a program and the wires of its graph, each found by its name: instances in
 /// steps that are logarithmic in their number, the wires of an instance in steps that are linear in
 /// the number of its codes.
-#[derive(Debug, Drop)]
+#[derive(Drop)]
 pub struct Neighbours {
     list: Vec<Instance>,
     wires: Vec<Wire>,

@@ -6,7 +6,7 @@ use est_base::WireId;
 
 /// The dependency edges of a graph with `count` wires, each as the pair of the wires that it leads from and
 /// to. They ascend: by their beginnings, and edges from one wire by their ends.
-#[derive(Debug, Drop)]
+#[derive(Drop)]
 pub struct Edges {
     pub count: u32,
     pub pairs: Vec<(WireId, WireId)>,
@@ -15,13 +15,13 @@ pub struct Edges {
 }
 
 /// One rank for each wire of a graph.
-#[derive(Debug, Drop)]
+#[derive(Drop)]
 pub struct Ranks {
     pub of: Vec<u32>,
 }
 
 /// Wires in an order in which they can be evaluated.
-#[derive(Debug, Drop)]
+#[derive(Drop)]
 pub struct Order {
     pub list: Vec<WireId>,
 }

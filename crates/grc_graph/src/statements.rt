@@ -15,7 +15,7 @@ use est_kernel::{Kernel, KernelProgram, Test};
 use std::alloc::Global;
 
 /// What lets a statement run; a number is that of the statement around it.
-#[derive(Clone, Copy, Debug)]
+#[derive(Clone, Copy)]
 pub enum Entry<'a> {
     /// The body of a program, by itself.
     Body,
@@ -36,7 +36,7 @@ pub enum Entry<'a> {
 }
 
 /// What a signal stands for at a place of a body.
-#[derive(Clone, Copy, Debug)]
+#[derive(Clone, Copy)]
 pub enum Binding {
     /// An input alone: its status comes with the event.
     Entering,
@@ -49,7 +49,7 @@ pub enum Binding {
 }
 
 /// A statement of a body.
-#[derive(Debug, Drop)]
+#[derive(Drop)]
 pub struct Statement<'a> {
     pub body: &'a Kernel,
     /// What lets it run.

@@ -5,7 +5,7 @@ ghost use Rattle.grc_graph.specs.TreeForms.{SubtreesNest, LeavesAscend};
 use est_base::PathId;
 
 /// What a node of a selection tree says of the parts of its statement.
-#[derive(Clone, Copy, Debug, PartialEq, Eq)]
+#[derive(Clone, Copy)]
 pub enum SelForm {
     /// A pause. Leaves are numbered in order, from 0.
     Leaf(u32),
@@ -18,7 +18,7 @@ pub enum SelForm {
 }
 
 /// A node of a selection tree.
-#[derive(Clone, Copy, Debug, PartialEq, Eq)]
+#[derive(Clone, Copy)]
 pub struct SelNode {
     /// The node's statement.
     pub path: PathId,
@@ -29,7 +29,7 @@ pub struct SelNode {
 
 /// The selection tree of a body: a node for each statement whose resumed instance is live, in
 /// preorder. The subtrees nest, and the leaves are numbered in order.
-#[derive(Debug, Drop)]
+#[derive(Drop)]
 pub struct SelTree {
     pub nodes: Vec<SelNode>,
     /// The number of leaves.

@@ -3,7 +3,7 @@
 use est_base::{InstId, SigId, WireId};
 
 /// A wire of a graph.
-#[derive(Clone, Copy, Debug, PartialEq, Eq)]
+#[derive(Clone, Copy, PartialEq)]
 pub enum Wire {
     /// The instance runs.
     Go(InstId),
@@ -17,7 +17,7 @@ pub enum Wire {
 
 /// A node of the control-flow graph, one per live instance (Potop-Butucaru, Edwards and Berry,
 /// "Compiling Esterel").
-#[derive(Clone, Copy, Debug, PartialEq, Eq)]
+#[derive(Clone, Copy)]
 pub enum Node {
     /// Starts both branches of a parallel, in these instances.
     Fork(InstId, InstId),

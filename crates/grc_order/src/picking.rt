@@ -14,7 +14,7 @@ pub trait Picker {
 }
 
 /// Chooses the first ready wire.
-#[derive(Clone, Copy, Debug)]
+#[derive(Clone, Copy)]
 pub struct First;
 
 impl Picker for First {
@@ -26,7 +26,7 @@ impl Picker for First {
 }
 
 /// Chooses the last ready wire.
-#[derive(Clone, Copy, Debug)]
+#[derive(Clone, Copy)]
 pub struct Last;
 
 impl Picker for Last {
@@ -39,7 +39,7 @@ impl Picker for Last {
 }
 
 /// Draws the place below the number of ready wires.
-#[derive(Debug, Drop)]
+#[derive(Drop)]
 pub struct Drawn(pub Draw);
 
 impl Picker for Drawn {

@@ -5,7 +5,7 @@ ghost use Rattle.std.specs.Prelude.{◌≡◌};
 use std::marker::Model;
 
 /// Truth values in order. A contract sees them as their list.
-#[derive(Debug, Drop)]
+#[derive(Drop)]
 pub struct Bits {
     list: Vec<bool>,
 }

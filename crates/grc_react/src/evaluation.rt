@@ -13,7 +13,7 @@ use grc_words::Words;
 use std::alloc::Global;
 
 /// The values of the wires, false as long as a wire has none of its own, and of the rows so far.
-#[derive(Debug, Drop)]
+#[derive(Drop)]
 pub(crate) struct Values {
     pub wires: Vec<bool>,
     pub rows: Vec<bool>,

@@ -33,7 +33,7 @@ use grc_words::{Words, words};
 use std::alloc::Global;
 
 /// What a graph does in an instant.
-#[derive(Debug, Drop)]
+#[derive(Drop)]
 pub struct Reaction {
     /// The value of each wire.
     pub wires: Bits,

@@ -10,7 +10,7 @@ use grc_words::{Row, Source};
 use std::alloc::Global;
 
 /// What an instant begins with: whether it is the first, which leaves are selected, and the event.
-#[derive(Clone, Copy, Debug)]
+#[derive(Clone, Copy)]
 pub(crate) struct Start<'a> {
     pub boot: bool,
     pub selected: &'a [bool],

@@ -24,7 +24,7 @@ use grc_graph::{Entry, Graph, Instance, Layer, Neighbours, Statement, layer_abov
 use std::alloc::Global;
 
 /// For each instance so far, what says that it is kept, and that it is held.
-#[derive(Debug, Drop)]
+#[derive(Drop)]
 pub(crate) struct Holdings {
     pub kept: Vec<Source>,
     pub held: Vec<Source>,
@@ -62,7 +62,7 @@ pub(crate) fn make_holdings(
 }
 
 /// What is said of an instance from around.
-#[derive(Clone, Copy, Debug)]
+#[derive(Clone, Copy)]
 struct Above {
     /// It is kept.
     kept: Source,

@@ -71,7 +71,7 @@ pub(crate) fn select_parts(
 
 /// The parts of a statement that may hold a selected pause: a pause is one itself, and a second part
 /// goes by its number.
-#[derive(Clone, Copy, Debug)]
+#[derive(Clone, Copy)]
 enum Parts {
     Itself,
     None,

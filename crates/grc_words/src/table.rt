@@ -3,7 +3,7 @@
 use est_base::{SigId, WireId};
 
 /// What a row, or a word, reads.
-#[derive(Clone, Copy, Debug, PartialEq, Eq)]
+#[derive(Clone, Copy)]
 pub enum Source {
     Const(bool),
     /// The leaf with this number is selected at the start of the instant.
@@ -16,7 +16,7 @@ pub enum Source {
 }
 
 /// A row of the table.
-#[derive(Clone, Copy, Debug, PartialEq, Eq)]
+#[derive(Clone, Copy)]
 pub enum Row {
     Not(Source),
     And(Source, Source),
@@ -25,7 +25,7 @@ pub enum Row {
 
 /// What the words of a graph's formulas, and what is shown of an instant, are made of. Rows are
 /// numbered from 0, and each reads rows of lower numbers alone.
-#[derive(Debug, Drop)]
+#[derive(Drop)]
 pub struct Words {
     pub rows: Vec<Row>,
     /// The number of rows at the front that read neither wires nor the event.

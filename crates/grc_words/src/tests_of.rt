@@ -17,7 +17,7 @@ use est_kernel::Test;
 use grc_graph::{Binding, Graph, Layer, Neighbours};
 
 /// A test, and the place behind its signals in the list of those that a statement reads.
-#[derive(Clone, Copy, Debug)]
+#[derive(Clone, Copy)]
 pub(crate) struct Tested {
     pub source: Source,
     pub after: usize,

@@ -14,7 +14,7 @@ use net_ir::{Gate, Op};
 use std::alloc::Global;
 
 /// How the nets before the gates are numbered.
-#[derive(Clone, Copy, Debug)]
+#[derive(Clone, Copy)]
 struct FirstNumbers {
     /// The number of inputs, which is that of the boot latch.
     given: u32,

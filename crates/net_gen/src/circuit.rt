@@ -12,7 +12,7 @@ use net_ir::{Gate, Op};
 
 /// The gates so far, and which nets say what the wires and the rows of the graph say, as far as they
 /// were made.
-#[derive(Debug, Drop)]
+#[derive(Drop)]
 pub(crate) struct Circuit {
     /// The number of inputs, which is that of the boot latch.
     pub given: u32,

@@ -16,7 +16,7 @@ use grc_words::Words;
 use std::alloc::Global;
 
 /// A circuit that has a net for each wire and row, and the nets of the leaves' next values.
-#[derive(Debug, Drop)]
+#[derive(Drop)]
 pub(crate) struct Whole {
     pub circuit: Circuit,
     pub next: Vec<NetId>,

@@ -7,7 +7,7 @@ ghost use Rattle.net_ir.specs.Netlists.{IsNet, first_gate, net_count};
 use est_base::{NetId, Text, WireId};
 
 /// What a gate makes of the nets that it reads.
-#[derive(Clone, Copy, Debug, PartialEq, Eq)]
+#[derive(Clone, Copy, Debug, PartialEq)]
 pub enum Op {
     Const(bool),
     Copy(NetId),
@@ -17,7 +17,7 @@ pub enum Op {
 }
 
 /// A gate. It may carry a wire of the graph that the netlist was made from.
-#[derive(Clone, Copy, Debug, PartialEq, Eq)]
+#[derive(Clone, Copy, Debug, PartialEq)]
 pub struct Gate {
     pub op: Op,
     pub wire: Option<WireId>,
@@ -25,14 +25,14 @@ pub struct Gate {
 
 /// A latch. It has the value `init` in the first instant, and in each later one the value that the
 /// net `from` had one instant before.
-#[derive(Clone, Copy, Debug, PartialEq, Eq)]
+#[derive(Clone, Copy, Debug, PartialEq)]
 pub struct Latch {
     pub init: bool,
     pub from: NetId,
 }
 
 /// An output, by its name and the net that it shows.
-#[derive(Debug, Drop)]
+#[derive(Drop)]
 pub struct NetOut {
     pub name: Text,
     pub net: NetId,
@@ -42,7 +42,7 @@ pub struct NetOut {
 /// outgoing one, so the name of a signal that is both stands in both lists. The nets are numbered from 0:
 /// the inputs, then the latches, then the gates in order. The net `paused` tells whether the program is
 /// still active after the instant.
-#[derive(Debug, Drop)]
+#[derive(Drop)]
 pub struct Net {
     pub name: Text,
     pub inputs: Vec<Text>,

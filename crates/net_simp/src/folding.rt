@@ -15,7 +15,7 @@ use net_ir::{Gate, Op};
 use std::alloc::Global;
 
 /// Gates, and for each net of an older netlist the one that stands for it.
-#[derive(Debug, Drop)]
+#[derive(Drop)]
 pub(crate) struct Renumbered {
     pub names: Vec<NetId>,
     pub gates: Vec<Gate>,

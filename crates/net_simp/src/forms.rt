@@ -9,7 +9,7 @@ use net_ir::Op;
 
 /// An operator, by which gates that compute the same are found: the operands of an and, and of an or, stand in
 /// ascending order.
-#[derive(Clone, Copy, Debug, PartialEq, Eq, Hash)]
+#[derive(Clone, Copy, PartialEq, Eq, Hash)]
 pub(crate) enum Form {
     Const(bool),
     Copy(u32),

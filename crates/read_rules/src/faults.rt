@@ -7,7 +7,7 @@ use std::alloc::{AllocError, AllocFailed};
 
 /// A place where a list of tokens leaves the language, counted from the end of the list, and
 /// whether it is only the nesting that goes too far there.
-#[derive(Clone, Copy, Debug, PartialEq, Eq)]
+#[derive(Clone, Copy, Debug, PartialEq)]
 pub struct Fault {
     /// With more room the token at the place could stand there.
     pub deep: bool,
@@ -16,7 +16,7 @@ pub struct Fault {
 }
 
 /// Why a reader that allocates gives no value.
-#[derive(Clone, Copy, Debug, PartialEq, Eq)]
+#[derive(Clone, Copy, Debug, PartialEq)]
 pub enum ReadError {
     /// The tokens are no member of the language.
     Fault(Fault),

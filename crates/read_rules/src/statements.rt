@@ -14,7 +14,7 @@ use crate::cursor::{ended, first, inside, refused};
 use crate::faults::ReadError;
 use std::alloc::Global;
 
-#[derive(Clone, Copy, Debug, PartialEq, Eq)]
+#[derive(Clone, Copy)]
 enum Token {
     Nothing,
     Pause,
@@ -24,7 +24,7 @@ enum Token {
 }
 
 // What begins an item.
-#[derive(Clone, Copy, Debug, PartialEq, Eq)]
+#[derive(Clone, Copy)]
 enum Opening {
     Nothing,
     Pause,

@@ -7,7 +7,7 @@ use est_base::{NoMemory, Text};
 use std::alloc::Global;
 
 /// What a line says of the program after the instant.
-#[derive(Clone, Copy, Debug, PartialEq, Eq)]
+#[derive(Clone, Copy)]
 pub enum Word {
     /// It is still active.
     Paused,

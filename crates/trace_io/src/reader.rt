@@ -16,7 +16,7 @@ use std::alloc::Global;
 use std::marker::Model;
 
 /// The truth values of the inputs in an instant, in order. A contract sees it as their list.
-#[derive(Debug, Drop)]
+#[derive(Drop)]
 pub struct Event {
     bits: Vec<bool>,
 }
@@ -30,7 +30,7 @@ impl Model for Event {
 }
 
 /// An item of a trace.
-#[derive(Debug, Drop)]
+#[derive(Drop)]
 pub enum Item {
     /// What is driven goes back to its start.
     Reset,

@@ -9,7 +9,7 @@ use crate::texts::Text;
 use std::alloc::Global;
 
 /// A file held in memory: a name, and the bytes that stand under it.
-#[derive(Debug, Drop)]
+#[derive(Drop)]
 pub struct FileEntry {
     pub name: Text,
     pub bytes: Text,

@@ -11,7 +11,7 @@ use std::marker::Model;
 
 /// Files in memory. A call whose number, from 1, is in the list of failing calls, or whose name is
 /// not there, fails; no other call does. Of two entries of one name the first counts.
-#[derive(Debug, Drop)]
+#[derive(Drop)]
 pub struct MapFiles {
     entries: Vec<FileEntry>,
     failing: Vec<u64>,

@@ -3,7 +3,7 @@
 use std::alloc::{AllocError, AllocFailed, Global};
 
 /// Why a read gave no bytes.
-#[derive(Clone, Copy, Debug, PartialEq, Eq)]
+#[derive(Clone, Copy, Debug, PartialEq)]
 pub enum FileFault {
     /// The file was not read. The count of faults rose, and the name is the one that failed last.
     Failed,

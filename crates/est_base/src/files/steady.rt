@@ -7,7 +7,7 @@ use std::marker::Model;
 
 /// Files in memory that never fail: the count of faults stays 0. A name that is not there holds no
 /// bytes. Of two entries of one name the first counts. A contract sees the entries.
-#[derive(Debug, Drop)]
+#[derive(Drop)]
 pub struct SteadyFiles {
     entries: Vec<FileEntry>,
 }

@@ -4,7 +4,7 @@ use std::alloc::{AllocError, Global};
 use std::marker::Model;
 
 // The first `room` bytes of all that came. The memory for them is taken at the start.
-#[derive(Debug, Drop)]
+#[derive(Drop)]
 pub(crate) struct KeptBytes {
     bytes: Vec<u8>,
     room: u64,

@@ -9,7 +9,7 @@ use std::marker::Model;
 /// A sink in memory. A call whose number, from 1, is in the list of failing calls fails and appends
 /// nothing; no other call fails. It takes its memory at the start, keeps the first `room` bytes,
 /// and tells them as long as no more than `room` came.
-#[derive(Debug, Drop)]
+#[derive(Drop)]
 pub struct ListSink {
     kept: KeptBytes,
     failing: Vec<u64>,

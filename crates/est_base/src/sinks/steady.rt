@@ -9,7 +9,7 @@ use std::marker::Model;
 /// A sink in memory that never fails: the count of faults stays 0. It takes its memory at the
 /// start and keeps the first `room` bytes. It tells its bytes as long as no more than `room` came,
 /// and tells nothing from then on.
-#[derive(Debug, Drop)]
+#[derive(Drop)]
 pub struct SteadySink {
     kept: KeptBytes,
 }

@@ -1,7 +1,7 @@
 // Sinks for written text, and what writing to one may answer.
 
 /// Why a write did not take the whole piece.
-#[derive(Clone, Copy, Debug, PartialEq, Eq)]
+#[derive(Clone, Copy, Debug, PartialEq)]
 pub enum SinkFault {
     /// The count of faults rose, and a prefix of the piece was appended.
     Failed,
