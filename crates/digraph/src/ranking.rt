@@ -70,6 +70,3 @@ fn ranks_of(alloc: Global, states: &[State]) -> Result<Vec<u32>, AllocError>
     }
     Ok(ranks)
 }
-
-#[cfg(test)]
-mod tests;

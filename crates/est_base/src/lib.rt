@@ -31,6 +31,3 @@ pub use names::{is_digit, is_letter, is_name_byte};
 pub use place::Span;
 pub use sinks::{ListSink, Sink, SinkFault, SteadySink, WriterSink, write_pieces, write_text};
 pub use texts::Text;
-
-#[cfg(test)]
-mod tests;

@@ -14,3 +14,4 @@ pub mod Choices
 pub mod StatementLaws
 pub mod StatementRows
 mod Examples
+mod StatementExamples

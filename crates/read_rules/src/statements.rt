@@ -31,7 +31,7 @@ enum Opening {
     Group,
 }
 
-#[derive(Debug, Drop)]
+#[derive(Drop)]
 enum Statement {
     Nothing,
     Pause,
@@ -139,69 +139,4 @@ fn read(alloc: Global, tokens: &[Token], room: u32) -> Result<Statement, ReadErr
     ensures { GivesExactly plain_of IsStatement room tokens.now result }
 {
     read_whole(alloc, tokens, room)
-}
-
-#[cfg(test)]
-mod tests {
-    use super::*;
-    use crate::faults::Fault;
-    use std::test::Fail;
-
-    // `.`, `p`, `;` and the brackets, one byte for a token.
-    fn tokens_of(alloc: Global, text: &[u8]) -> Result<Vec<Token>, ReadError> {
-        let mut tokens = Vec::new(alloc);
-        for byte in text {
-            tokens.push(match *byte {
-                b'.' => Token::Nothing,
-                b'p' => Token::Pause,
-                b';' => Token::Semicolon,
-                b'[' => Token::Open,
-                _ => Token::Close,
-            })?;
-        }
-        Ok(tokens)
-    }
-
-    fn answer(alloc: Global, text: &[u8], room: u32) -> Result<String, ReadError> {
-        let tokens = tokens_of(alloc, text)?;
-        let statement = read(alloc, tokens.as_slice(), room)?;
-        Ok(format!(in alloc; "{statement:?}")?)
-    }
-
-    #[test]
-    fn reads_lists(rt: HostRuntime) -> Result<(), Fail> {
-        let read = [
-            (".", 0, "Nothing"),
-            ("p;", 0, "Pause"),
-            (".;p;.", 0, "Sequence([Nothing, Pause, Nothing])"),
-            ("[p];.", 1, "Sequence([Group(Pause), Nothing])"),
-            ("[[.;];p]", 2, "Group(Sequence([Group(Nothing), Pause]))"),
-        ];
-        for (text, room, want) in read {
-            let found = answer(rt.alloc(), text.as_bytes(), room);
-            assert!(rt; found.is_ok(), "at {text}");
-            assert_eq!(rt; found.unwrap().as_str(), want, "at {text}");
-        }
-        let refused = [
-            ("", 0, false, 0),
-            (";", 0, false, 1),
-            (".;;", 0, false, 1),
-            (".p", 0, false, 1),
-            (".]", 1, false, 1),
-            ("[p", 1, false, 0),
-            ("[p;", 1, false, 0),
-            ("[", 0, true, 1),
-            ("p;[[.]]", 1, true, 4),
-            ("p;[]", 1, false, 1),
-        ];
-        for (text, room, deep, left) in refused {
-            let want = ReadError::Fault(Fault { deep, left });
-            assert_eq!(rt;
-                answer(rt.alloc(), text.as_bytes(), room).err(),
-                Some(want),
-                "at {text}"
-            );
-        }
-        Ok(())
-    }
 }

@@ -1,6 +1,6 @@
 // Graphs small enough to see through, and a great one.
 
-use super::*;
+use digraph::{RanksOrCycle, ranks_or_cycle};
 use std::test::Fail;
 
 // Whether the nodes are ranked, and the ranks, or else the closed walk.
