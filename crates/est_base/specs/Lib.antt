@@ -5,8 +5,10 @@ pub mod Reading
 pub mod FileEntry
 pub mod Writing
 pub mod SinkState
+pub mod SinkChanges
 pub mod Names
 pub mod Relations
 pub mod Items
 pub mod Distinct
 pub mod Draws
+pub mod Stops

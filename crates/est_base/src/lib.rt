@@ -2,7 +2,7 @@
 //!
 //! Places in a source (`Span`), typed indices, names as bytes (`Text`), sets of completion codes
 //! (`CodeSet`), what a program says of its signals (`SignalInfo`, `InputRelation`), the stated limits
-//! (`Limits`), want of memory (`NoMemory`), draws from a start number (`Draw`), and what is read and
+//! (`Limits`), want of memory (`NoMemory`) and other early ends (`Stop`), draws from a start number (`Draw`), and what is read and
 //! written: `Files` and `Sink`, over the disk and standard output, and in memory. Completion codes are
 //! those of Berry, "The Constructive Semantics of Pure Esterel": 0 is termination, 1 a pause, and k
 //! of at least 2 leaves the trap that is k - 2 traps further out.
@@ -18,6 +18,7 @@ mod memory;
 mod names;
 mod place;
 mod sinks;
+mod stop;
 mod texts;
 
 pub use bounds::{Limits, limits_are_as_stated};
@@ -30,4 +31,5 @@ pub use memory::NoMemory;
 pub use names::{is_digit, is_letter, is_name_byte};
 pub use place::Span;
 pub use sinks::{ListSink, Sink, SinkFault, SteadySink, WriterSink, write_pieces, write_text};
+pub use stop::Stop;
 pub use texts::Text;
