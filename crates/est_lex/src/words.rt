@@ -9,6 +9,48 @@ ghost use Rattle.est_ast.specs.declared.tokens.Reserved.{Reserved as ReservedWor
 use crate::classes::is_name_byte;
 use est_ast::Reserved;
 
+// The reserved words.
+static WORDS: [Reserved; 38] = [
+    Reserved::Abort,
+    Reserved::And,
+    Reserved::Await,
+    Reserved::Case,
+    Reserved::Do,
+    Reserved::Each,
+    Reserved::Else,
+    Reserved::Emit,
+    Reserved::End,
+    Reserved::Every,
+    Reserved::Exit,
+    Reserved::Halt,
+    Reserved::Handle,
+    Reserved::Immediate,
+    Reserved::In,
+    Reserved::Input,
+    Reserved::InputOutput,
+    Reserved::Loop,
+    Reserved::Module,
+    Reserved::Not,
+    Reserved::Nothing,
+    Reserved::Or,
+    Reserved::Output,
+    Reserved::Pause,
+    Reserved::Positive,
+    Reserved::Present,
+    Reserved::Relation,
+    Reserved::Repeat,
+    Reserved::Run,
+    Reserved::Signal,
+    Reserved::Suspend,
+    Reserved::Sustain,
+    Reserved::Then,
+    Reserved::Tick,
+    Reserved::Times,
+    Reserved::Trap,
+    Reserved::Weak,
+    Reserved::When,
+];
+
 /// How many letters, digits and `_` begin the text.
 pub fn name_len(text: &[u8]) -> usize
     ensures { IsRun IsNameByte text.now result }
@@ -22,50 +64,61 @@ pub fn name_len(text: &[u8]) -> usize
 }
 
 /// The reserved word that is written so, if there is one.
-pub fn reserved(word: &[u8]) -> Option<Reserved>
+pub fn reserved(text: &[u8]) -> Option<Reserved>
     ensures { MatchOption result
-        ((other : ReservedWord) → word.now ≢ spelling other)
-        (λ reserved. word.now ≡ spelling reserved) }
+        ((other : ReservedWord) → text.now ≢ spelling other)
+        (λ word. text.now ≡ spelling word) }
+{
+    for word in &WORDS {
+        if text == bytes_of(*word) {
+            return Some(*word);
+        }
+    }
+    None
+}
+
+// How the word is written.
+fn bytes_of(word: Reserved) -> &'static [u8]
+    ensures { result.now ≡ spelling word }
 {
     match word {
-        b"abort" => Some(Reserved::Abort),
-        b"and" => Some(Reserved::And),
-        b"await" => Some(Reserved::Await),
-        b"case" => Some(Reserved::Case),
-        b"do" => Some(Reserved::Do),
-        b"each" => Some(Reserved::Each),
-        b"else" => Some(Reserved::Else),
-        b"emit" => Some(Reserved::Emit),
-        b"end" => Some(Reserved::End),
-        b"every" => Some(Reserved::Every),
-        b"exit" => Some(Reserved::Exit),
-        b"halt" => Some(Reserved::Halt),
-        b"handle" => Some(Reserved::Handle),
-        b"immediate" => Some(Reserved::Immediate),
-        b"in" => Some(Reserved::In),
-        b"input" => Some(Reserved::Input),
-        b"inputoutput" => Some(Reserved::InputOutput),
-        b"loop" => Some(Reserved::Loop),
-        b"module" => Some(Reserved::Module),
-        b"not" => Some(Reserved::Not),
-        b"nothing" => Some(Reserved::Nothing),
-        b"or" => Some(Reserved::Or),
-        b"output" => Some(Reserved::Output),
-        b"pause" => Some(Reserved::Pause),
-        b"positive" => Some(Reserved::Positive),
-        b"present" => Some(Reserved::Present),
-        b"relation" => Some(Reserved::Relation),
-        b"repeat" => Some(Reserved::Repeat),
-        b"run" => Some(Reserved::Run),
-        b"signal" => Some(Reserved::Signal),
-        b"suspend" => Some(Reserved::Suspend),
-        b"sustain" => Some(Reserved::Sustain),
-        b"then" => Some(Reserved::Then),
-        b"tick" => Some(Reserved::Tick),
-        b"times" => Some(Reserved::Times),
-        b"trap" => Some(Reserved::Trap),
-        b"weak" => Some(Reserved::Weak),
-        b"when" => Some(Reserved::When),
-        _ => None,
+        Reserved::Abort => b"abort",
+        Reserved::And => b"and",
+        Reserved::Await => b"await",
+        Reserved::Case => b"case",
+        Reserved::Do => b"do",
+        Reserved::Each => b"each",
+        Reserved::Else => b"else",
+        Reserved::Emit => b"emit",
+        Reserved::End => b"end",
+        Reserved::Every => b"every",
+        Reserved::Exit => b"exit",
+        Reserved::Halt => b"halt",
+        Reserved::Handle => b"handle",
+        Reserved::Immediate => b"immediate",
+        Reserved::In => b"in",
+        Reserved::Input => b"input",
+        Reserved::InputOutput => b"inputoutput",
+        Reserved::Loop => b"loop",
+        Reserved::Module => b"module",
+        Reserved::Not => b"not",
+        Reserved::Nothing => b"nothing",
+        Reserved::Or => b"or",
+        Reserved::Output => b"output",
+        Reserved::Pause => b"pause",
+        Reserved::Positive => b"positive",
+        Reserved::Present => b"present",
+        Reserved::Relation => b"relation",
+        Reserved::Repeat => b"repeat",
+        Reserved::Run => b"run",
+        Reserved::Signal => b"signal",
+        Reserved::Suspend => b"suspend",
+        Reserved::Sustain => b"sustain",
+        Reserved::Then => b"then",
+        Reserved::Tick => b"tick",
+        Reserved::Times => b"times",
+        Reserved::Trap => b"trap",
+        Reserved::Weak => b"weak",
+        Reserved::When => b"when",
     }
 }
