@@ -22,11 +22,11 @@ use Rattle.grc_sem.proofs.EndForms.{val, any_meaning}
 use Rattle.grc_sem.proofs.Meets.{Met}
 
 -- lists
-any_map_none : {A B : Type 0} (F : B → Bool) (g : A → B) (xs : List A) → ((x : A) → F (g x) ≡ false) → list_any F (map g xs) ≡ false
+pub any_map_none : {A B : Type 0} (F : B → Bool) (g : A → B) (xs : List A) → ((x : A) → F (g x) ≡ false) → list_any F (map g xs) ≡ false
 any_map_none F g [] h = refl
 any_map_none F g (x ∷ xs) h = ap (λ b. b || list_any F (map g xs)) (h x) ∙ any_map_none F g xs h
 
-any_flat_none : {A B : Type 0} (F : B → Bool) (g : A → List B) (xs : List A) → Every (λ x. list_any F (g x) ≡ false) xs → list_any F (flat_map g xs) ≡ false
+pub any_flat_none : {A B : Type 0} (F : B → Bool) (g : A → List B) (xs : List A) → Every (λ x. list_any F (g x) ≡ false) xs → list_any F (flat_map g xs) ≡ false
 any_flat_none F g [] h = refl
 any_flat_none F g (x ∷ xs) h =
     list_any-append F (g x) (flat_map g xs) ∙ ap (λ b. b || list_any F (flat_map g xs)) h.0 ∙ any_flat_none F g xs h.1
@@ -48,7 +48,7 @@ any_below_none F g (suc n) A h =
     any_joined F g (codes_below n A) (cond (A n) (n ∷ []) []) (any_below_none F g n A h)
     (cond_both (A n) (n ∷ []) [] (λ l. list_any F (map g l) ≡ false) (λ e. ap (λ b. b || false) (h n e)) (λ e. refl))
 
-any_listed_none : {B : Type 0} (F : B → Bool) (g : ℕ → B) (A : ℕ → Bool) → ((i : ℕ) → A i ≡ true → F (g i) ≡ false) → list_any F (map g (listed A)) ≡ false
+pub any_listed_none : {B : Type 0} (F : B → Bool) (g : ℕ → B) (A : ℕ → Bool) → ((i : ℕ) → A i ≡ true → F (g i) ≡ false) → list_any F (map g (listed A)) ≡ false
 unfolding listed
 any_listed_none F g A h = any_below_none F g 64 A h
 
@@ -118,7 +118,7 @@ module _ (B0 : Scope) (body : Term) (q : State) (given : Values) (V : Valuation)
       go B (Awake e p) n l b h d = absurd b
 
 -- a wire that an instance does not have is not listed
-dead_in : (all : List Spot) (n : ℕ) (l : Layer) (k : ℕ) (y : Spot) → (y.path ≡ n → y.layer ≡ l → instance_codes y.statement y.layer k ≡ false) →
+pub dead_in : (all : List Spot) (n : ℕ) (l : Layer) (k : ℕ) (y : Spot) → (y.path ≡ n → y.layer ≡ l → instance_codes y.statement y.layer k ≡ false) →
     list_any (λ e. same_wire (End n l k) e.wire) (instance_equations all y) ≡ false
 dead_in all n l k y h = go y.statement (λ i j. h i j)
   where

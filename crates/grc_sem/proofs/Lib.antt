@@ -1,35 +1,35 @@
-mod Choices
-mod Places
-mod Residues
-mod Ranks
-mod Constructive
-mod Resumptions
-mod Kept
-mod StepWalks
-mod Outputs
-mod ReactWalks
-mod Emissions
-mod Bridge
-mod WalkCodes
-mod WalkEmits
-mod EndForms
-mod Meets
-mod WalkEnds
-mod OwnStatus
-mod Told
-mod WalksMeet
-mod Joint
-mod Tops
-mod Solutions
-mod Ways
-mod NextKept
-mod NextStates
-mod Scoped
-mod NextTop
-mod Premises
-mod FirstCodes
+pub mod Choices
+pub mod Places
+pub mod Residues
+pub mod Ranks
+pub mod Constructive
+pub mod Resumptions
+pub mod Kept
+pub mod StepWalks
+pub mod Outputs
+pub mod ReactWalks
+pub mod Emissions
+pub mod Bridge
+pub mod WalkCodes
+pub mod WalkEmits
+pub mod EndForms
+pub mod Meets
+pub mod WalkEnds
+pub mod OwnStatus
+pub mod Told
+pub mod WalksMeet
+pub mod Joint
+pub mod Tops
+pub mod Solutions
+pub mod Ways
+pub mod NextKept
+pub mod NextStates
+pub mod Scoped
+pub mod NextTop
+pub mod Premises
+pub mod FirstCodes
 pub mod Instants
 pub mod Runs
 pub mod WalkSolves
-mod GraphLaws
-mod WithoutPremises
+pub mod GraphLaws
+pub mod WithoutPremises

@@ -25,7 +25,7 @@ use Rattle.grc_sem.proofs.WalkEmits.{Reach, started_silent, resumed_silent, star
 use Rattle.grc_sem.proofs.Meets.{any_single, any_nothing, own_fresh, same_self, own_shows}
 
 module _ (V : Valuation) (all : List Spot) (L : ℕ → List Layer) where
-  started_emissions : (a : Liveness) (s : ℕ) (p : Term) (B : Scope) (f : Layer → Formula) (n r : ℕ) → HasExitCodes p → Above B n → Agrees L a p (n + 1) →
+  pub started_emissions : (a : Liveness) (s : ℕ) (p : Term) (B : Scope) (f : Layer → Formula) (n r : ℕ) → HasExitCodes p → Above B n → Agrees L a p (n + 1) →
       Root r a.roots → emitted V (StatusOf n (Started r)) (spots L (bind B s n) f p (n + 1)) ≡
       started_any (emission V (StatusOf n (Started r))) (bind B s n) f p (n + 1) (Started r)
   started_emissions a s p B f n r k ab g i =
@@ -46,7 +46,7 @@ module _ (V : Valuation) (all : List Spot) (L : ℕ → List Layer) where
       differs : (j : ℕ) → (j ≡ r → ⊥) → same_layer (layer_above n (Started j)) (Started r) ≡ false
       differs j z = cond_both _ (Started j) Resumed (λ y. same_layer y (Started r) ≡ false) (λ u. ne_eqb j r z) (λ u. refl)
 
-  resumed_emissions : (a : Liveness) (s : ℕ) (p : Term) (B : Scope) (f : Layer → Formula) (n : ℕ) → HasExitCodes p → Above B n → Agrees L a p (n + 1) →
+  pub resumed_emissions : (a : Liveness) (s : ℕ) (p : Term) (B : Scope) (f : Layer → Formula) (n : ℕ) → HasExitCodes p → Above B n → Agrees L a p (n + 1) →
       ((r : ℕ) → Root r a.roots → r ≤ n) → emitted V (StatusOf n Resumed) (spots L (bind B s n) f p (n + 1)) ≡
       (a.resumed && resumed_any (emission V (StatusOf n Resumed)) (bind B s n) f p (n + 1))
   resumed_emissions a s p B f n k ab g l =
@@ -64,7 +64,7 @@ module _ (V : Valuation) (all : List Spot) (L : ℕ → List Layer) where
       or_nothing false = refl
 
   -- the emissions of the whole list on a Local's own wire are in its body
-  local_own : (x : ℕ) (p : Term) (B : Scope) (f : Layer → Formula) (n : ℕ) (y : Layer) → Whole V L all B f (Local x p) n →
+  pub local_own : (x : ℕ) (p : Term) (B : Scope) (f : Layer → Formula) (n : ℕ) (y : Layer) → Whole V L all B f (Local x p) n →
       emitted V (StatusOf n y) all ≡ emitted V (StatusOf n y) (spots L (bind B x n) (part_entry n) p (n + 1))
   local_own x p B f n y w =
       w.own n y (omega arith) (omega arith)

@@ -110,7 +110,7 @@ module _ (inputs outs : ℕ) (body : Term) where
   pub above_top : Above B0 0
   above_top = record { each = λ s b e. absurd (no_bound s b e) }
 
-  out_shows : (o : ℕ) (l : Layer) → inputs ≤ o → o < inputs + outs → Shows B0 l (Out o) o true
+  pub out_shows : (o : ℕ) (l : Layer) → inputs ≤ o → o < inputs + outs → Shows B0 l (Out o) o true
   out_shows o l i j = record { each = λ t. go t (B0 t) (scope_part inputs (inputs + outs) t (omega arith)) }
     where
       go : (t : ℕ) (b : Binding) → InPart inputs (inputs + outs) t b → is_wire (status_wire b t l) (Out o) ≡ (true && t == o)
@@ -118,7 +118,7 @@ module _ (inputs outs : ℕ) (body : Term) where
       go t b (goes_out k m h) = ap (λ c. is_wire (status_wire c t l) (Out o)) h
       go t b (unbound k h) = ap (λ c. is_wire (status_wire c t l) (Out o)) h ∙ sym (ne_eqb t o (λ e. omega arith))
 
-  out_fresh : (o : ℕ) → Fresh (Out o) 0
+  pub out_fresh : (o : ℕ) → Fresh (Out o) 0
   out_fresh o = record { other = λ m l k. refl }
 
   or_nothing : (x : Bool) → (x || false) ≡ x

@@ -55,7 +55,7 @@ bind_shows false n x s t b l w c d f e =
     same true false b h = refl
     same false a b h = refl
 
-shows_bind : (B : Scope) (n x s : ℕ) (l : Layer) (w : Wire) (c : Bool) → Fresh w n → Shows B l w s c → Shows (bind B x n) l w s (c && not (x == s))
+pub shows_bind : (B : Scope) (n x s : ℕ) (l : Layer) (w : Wire) (c : Bool) → Fresh w n → Shows B l w s c → Shows (bind B x n) l w s (c && not (x == s))
 shows_bind B n x s l w c f h =
     record { each = λ t. bind_shows (t == x) n x s t (B t) l w c refl (f.other n (layer_above n l) (omega arith)) (h.each t) }
 

@@ -37,7 +37,7 @@ use Rattle.grc_sem.proofs.Tops as tops
 use Rattle.grc_sem.proofs.Solutions.{top_started, top_resumed, output_value}
 use Rattle.grc_sem.proofs.WalksMeet.{meets_started, meets_resumed}
 
-range_bounds : (a k : ℕ) → Every (λ o. (a ≤ o) × (o < a + k)) (range_with_len a k)
+pub range_bounds : (a k : ℕ) → Every (λ o. (a ≤ o) × (o < a + k)) (range_with_len a k)
 range_bounds a zero = tt
 range_bounds a (suc k) = (
   (omega arith, omega arith),
