@@ -258,7 +258,7 @@ finds_second g S t p q n c f h =
           ∙ cond-false (ltb m (n + 1 + statement_count p)) _ _ (lower m (n + 1 + statement_count p) l);
     }
 
-count_some : (t : Term) → 1 ≤ statement_count t
+pub count_some : (t : Term) → 1 ≤ statement_count t
 count_some Nothing = omega arith
 count_some Pause = omega arith
 count_some (Emit s) = omega arith
