@@ -25,7 +25,8 @@ answers-run p r [] (a ∷ answers) e = cc
 answers-run p r (Event event ∷ items) answers e =
     by_reaction (λ s rest. answers-run p s items rest) (react (interface_of p) r event) refl e
   where
-    goes : ((s : Term) (rest : List Answer) → run_from (interface_of p) p.body s items ≡ Some rest → Answers p s items rest) → (x : Reaction) → react (interface_of p) r event ≡ Some x → (later : Option (List Answer))
+    goes : ((s : Term) (rest : List Answer) → run_from (interface_of p) p.body s items ≡ Some rest → Answers p s items rest)
+        → (x : Reaction) → react (interface_of p) r event ≡ Some x → (later : Option (List Answer))
         → run_from (interface_of p) p.body x.residual items ≡ later → before x.answer later ≡ Some answers
         → Answers p r (Event event ∷ items) answers
     goes behind x is None f h = cc
