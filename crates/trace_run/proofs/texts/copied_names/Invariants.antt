@@ -1,5 +1,5 @@
 use Rattle.std.proofs.Common.{◌≡◌, take}
-use Rattle.trace_run.proofs.blif_runner.copied_names.Given as goal
+use Rattle.trace_run.proofs.texts.copied_names.Given as goal
 
 -- the names so far
 abbrev pub invariant-loop-name : goal.invariant-loop-name

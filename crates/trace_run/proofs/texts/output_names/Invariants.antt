@@ -1,5 +1,5 @@
 use Rattle.std.proofs.Common.{◌≡◌, map, take}
-use Rattle.trace_run.proofs.net_runs.output_names.Given as goal
+use Rattle.trace_run.proofs.texts.output_names.Given as goal
 
 -- the names so far
 abbrev pub invariant-loop-output : goal.invariant-loop-output
