@@ -2,4 +2,5 @@ pub mod Machines
 pub mod Running
 pub mod Steps
 pub mod Languages
+pub mod Ends
 pub mod Laws
