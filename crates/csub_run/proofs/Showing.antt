@@ -1,6 +1,6 @@
 -- What a machine shows: a call and a reset put their item in front of what it shows from then on.
 use Rattle.std.proofs.Common.{◌≡◌, ℕ, Bool, List, [], ◌∷◌, map, refl, sym, ap, ◌∙◌, subst}
-use Rattle.est_base.specs.Items.{Item}
+use Rattle.est_base.specs.Items.{Item, Event, Reset}
 use Rattle.machines.specs.Machines.{Shows}
 use Rattle.machines.proofs.Showing.{shows-event, shows-reset}
 use Rattle.csub_text.specs.Machine.{Memory, value_of, first_memory, call, program_machine}
@@ -40,7 +40,8 @@ answered old new inputs value reacts = record { in_front = in_front }
         let here : call_answer p behind ≡ record { present = outputs_shown new; word = word_of value } =
         sym (ap (λ o. record { present = o; word = word_of value }) outputs
         ∙ ap (λ b. record { present = map behind (outputs_of p); word = word_of b }) returned) in
-        let each = λ (m : Memory) (is : m ≡ behind).
+        let each : (m : Memory) → m ≡ behind → (call_answer p m ≡ record { present = outputs_shown new; word = word_of value })
+            × Shows (program_machine p) (call_answer p) m items answers = λ m is.
             (ap (call_answer p) is ∙ here, subst (λ k. Shows (program_machine p) (call_answer p) k items answers) (sym is) there) in
         shows-event (program_machine p) (call_answer p) (memory_of old) inputs items (record { present = outputs_shown new; word = word_of value }) answers
         behind refl each

@@ -5,8 +5,8 @@ ghost use Rattle.est_base.specs.Stops.{FaultIs, IfFault};
 ghost use Rattle.net_ir.specs.Runs.{netlist_of};
 ghost use Rattle.csub_read.specs.declared.refusal.CError.TheVariants.{TooLong as is_too_long};
 ghost use Rattle.csub_text.specs.Views.{program_of};
-ghost use Rattle.csub_text.specs.Written.{Means};
 ghost use Rattle.csub_run.specs.Runners.{KeepsNames};
+ghost use Rattle.csub_run.specs.Texts.{IsWritten};
 ghost use Rattle.csub_run.specs.Tracing.{IsProgramOf, IsStopOf};
 
 use crate::trace_runner::CMachine;
@@ -36,10 +36,9 @@ pub struct CTexts {}
 impl Language for CTexts {
     ghost use Rattle.csub_read.specs.Faults.{ReadsAs};
     ghost use Rattle.csub_text.specs.Trees.{Program};
-    ghost use Rattle.csub_text.specs.Written.{Means};
     ghost use Rattle.csub_run.specs.ProgramAnswers.{bare_inputs, bare_outputs, program_shows};
     ghost use Rattle.csub_run.specs.Runners.{program_in};
-    ghost use Rattle.csub_run.specs.Texts.{IsTextFault};
+    ghost use Rattle.csub_run.specs.Texts.{IsTextFault, IsWritten};
 
     type Fault = TextFault;
     type Machine = CMachine;
@@ -56,7 +55,7 @@ impl Language for CTexts {
 
     ghost faulty = { IsTextFault };
 
-    ghost means = { Means };
+    ghost means = { IsWritten };
 
     ghost plain = { λ m. program_in m };
 
@@ -76,7 +75,10 @@ impl Language for CTexts {
 
     fn read_back(alloc: Global, net: &Net, text: &[u8]) -> Result<CMachine, NoMemory> {
         let program = written_program(alloc, net, text)?;
-        CMachine::new(alloc, program)
+        match CMachine::new(alloc, program) {
+            Ok(machine) => Ok(machine),
+            Err(NoMemory) => Err(NoMemory),
+        }
     }
 }
 
@@ -97,7 +99,7 @@ fn text_stop(error: CError) -> Stop<TextFault>
 
 // The program of the text that was written of a net.
 fn written_program(alloc: Global, net: &Net, text: &[u8]) -> Result<CProgram, NoMemory>
-    requires means { Means text.now (netlist_of net.now) }
+    requires written { IsWritten text.now (netlist_of net.now) }
     requires fits { length text.now ≤ Limits.TEXT_BYTES }
     ensures program { IfOk result (λ p. IsProgramOf (netlist_of net.now) (program_of p)) }
     ensures names { IfOk result (λ p. KeepsNames (program_of p)) }

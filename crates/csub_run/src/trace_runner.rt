@@ -64,7 +64,10 @@ impl CMachine {
         ensures relations { IfOk result (λ i. i.relations.items ≡ []) }
         ensures differ { IfOk result (λ i. IsTrue (all_differ is_same_name i.given.items)) }
     {
-        program_interface(alloc, self.calls.program())
+        match program_interface(alloc, self.calls.program()) {
+            Ok(interface) => Ok(interface),
+            Err(NoMemory) => Err(NoMemory),
+        }
     }
 }
 

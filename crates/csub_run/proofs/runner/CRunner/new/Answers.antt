@@ -5,8 +5,8 @@ use Rattle.csub_run.proofs.runner.CRunner.new.Goals as goal
 
 pub invariant_of-result : goal.invariant_of-result
 invariant_of-result c =
-    let parts = c.in_ok.ensures in
+    let parts = c.in_ok-plan.ensures in
     keeps-by _ c.requires parts.plan (ap length parts.values ∙ wide-first (program_of c.args.program)) parts.outputs
 
 pub returns-clause-fresh : goal.returns-clause-fresh
-returns-clause-fresh c = fresh-by c.args.program _ c.in_ok.ensures.values
+returns-clause-fresh c = fresh-by c.args.program _ c.in_ok-plan.ensures.values
