@@ -7,4 +7,8 @@ pub mod TableEdges
 pub mod Planning
 pub mod Resolving
 pub mod Reactions
-pub mod RunnerRuns
+pub mod Showing
+pub mod NoLoops
+pub mod NetLoops
+pub mod NetTexts
+pub mod TextFaults

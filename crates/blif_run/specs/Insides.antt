@@ -8,14 +8,14 @@ use Rattle.blif_run.specs.Runners.{Runner}
 
 abbrev pub runner_of : Inside → Runner
 runner_of r = record {
-  circuit = plain_circuit r.blif.now;
+  circuit = plain_circuit r.blif;
   latches = r.latches.items;
   outputs = r.outputs.items;
 }
 
 -- the plan is one of the circuit, and each latch, slot and output has a value
 pub record KeepsPlan (r : Inside) : Type 0 where
-  pub plan : CarriesPlan (plain_circuit r.blif.now) r.plan.steps r.plan.sources.items r.plan.shown.items
-  pub each_latch : length r.latches.items ≡ length r.blif.now.latches.items
-  pub each_slot : length r.values.items ≡ slot_count (plain_circuit r.blif.now)
-  pub each_output : length r.outputs.items ≡ length r.blif.now.outputs.items
+  pub plan : CarriesPlan (plain_circuit r.blif) r.plan.steps r.plan.sources.items r.plan.shown.items
+  pub each_latch : length r.latches.items ≡ length r.blif.latches.items
+  pub each_slot : length r.values.items ≡ slot_count (plain_circuit r.blif)
+  pub each_output : length r.outputs.items ≡ length r.blif.outputs.items

@@ -1,9 +1,13 @@
 pub mod Loops
 pub mod Runners
+pub mod CircuitAnswers
+pub mod Showing
+pub mod Ends
+pub mod Texts
 pub mod Steps
 pub mod Slots
 pub mod Gates
 pub mod Edges
 pub mod Plans
 pub mod Insides
-pub mod Laws
+pub mod Tracing

@@ -3,8 +3,11 @@
 ghost use Rattle.std.specs.Prelude.{◌≡◌, ◌+◌, ◌<◌, ◌≤◌, ◌++◌, false, map, length, take, replicate, All, IfOk, IfErr};
 ghost use Rattle.std.specs.Prelude.{OnOk};
 ghost use Rattle.blif_text.specs.Plain.{plain_circuit, plain_latch};
+ghost use Rattle.blif_text.specs.Runs.{circuit_latches};
 ghost use Rattle.blif_run.specs.Loops.{IsDescribed, LoopFault, HasNoLoop};
+ghost use Rattle.blif_run.specs.Plans.{CarriesPlan};
 ghost use Rattle.blif_run.specs.Runners.{Reacts, Resets, IsFresh};
+ghost use Rattle.blif_run.specs.Slots.{slot_count};
 ghost use Rattle.blif_run.specs.Steps.{value_at};
 
 use crate::plan::{Plan, circuit_plan};
@@ -18,8 +21,8 @@ use std::marker::Model;
 /// A runner of a circuit. A contract sees it as the circuit, the values that the latches have in the next
 /// instant, and those that the outputs had in the last one.
 #[derive(Drop)]
-pub struct NetRunner<'a> {
-    blif: &'a Blif,
+pub struct NetRunner {
+    blif: Blif,
     plan: Plan,
     latches: Vec<bool>,
     // The value of each slot.
@@ -27,7 +30,7 @@ pub struct NetRunner<'a> {
     outputs: Vec<bool>,
 }
 
-impl<'a> Model for NetRunner<'a> {
+impl Model for NetRunner {
     ghost use Rattle.blif_run.specs.Runners.{Runner};
 
     ghost Value = { Runner };
@@ -39,24 +42,29 @@ impl<'a> Model for NetRunner<'a> {
     ghost invariant = { KeepsPlan };
 }
 
-impl<'a> NetRunner<'a> {
+impl NetRunner {
     /// A runner of a circuit before its first event. The circuit is one that some text describes.
     ///
     /// The errors are a combinational cycle, where there is one, and want of memory.
-    pub fn new(alloc: Global, blif: &'a Blif) -> Result<NetRunner<'a>, RunError>
-        requires { IsDescribed (plain_circuit blif.now) }
-        ensures circuit { IfOk result (λ r. r.circuit ≡ plain_circuit blif.now) }
+    pub fn new(alloc: Global, blif: Blif) -> Result<NetRunner, RunError>
+        requires { IsDescribed (plain_circuit blif) }
+        ensures circuit { IfOk result (λ r. r.circuit ≡ plain_circuit blif) }
         ensures fresh { IfOk result IsFresh }
-        ensures acyclic { OnOk result (HasNoLoop (plain_circuit blif.now)) }
-        ensures cyclic { IfErr result (LoopFault (plain_circuit blif.now)) }
+        ensures acyclic { OnOk result (HasNoLoop (plain_circuit blif)) }
+        ensures cyclic { IfErr result (LoopFault (plain_circuit blif)) }
     {
-        let plan = circuit_plan(alloc, blif)?;
+        let Parts {
+            plan,
+            latches,
+            values,
+            outputs,
+        } = runner_parts(alloc, &blif)?;
         Ok(NetRunner {
             blif,
-            latches: initial_values(alloc, &blif.latches)?,
-            values: vec![in alloc; false; plan.count]?,
-            outputs: vec![in alloc; false; blif.outputs.len()]?,
             plan,
+            latches,
+            values,
+            outputs,
         })
     }
 
@@ -83,10 +91,45 @@ impl<'a> NetRunner<'a> {
     pub fn reset(&mut self)
         ensures { Resets self.old self.new }
     {
-        let blif = self.blif;
-        put_initial_values(&blif.latches, &mut self.latches);
+        put_initial_values(&self.blif.latches, &mut self.latches);
         put_false(&mut self.outputs);
     }
+
+    /// The circuit that it runs.
+    pub fn blif(&self) -> &Blif
+        ensures { plain_circuit result.now ≡ self.now.circuit }
+    {
+        &self.blif
+    }
+}
+
+// What a runner has beside its circuit.
+#[derive(Drop)]
+struct Parts {
+    plan: Plan,
+    latches: Vec<bool>,
+    values: Vec<bool>,
+    outputs: Vec<bool>,
+}
+
+// The plan of a circuit, and its values before the first event.
+fn runner_parts(alloc: Global, blif: &Blif) -> Result<Parts, RunError>
+    requires { IsDescribed (plain_circuit blif.now) }
+    ensures plan { IfOk result (λ p. CarriesPlan (plain_circuit blif.now) p.plan.steps p.plan.sources.items
+        p.plan.shown.items) }
+    ensures latches { IfOk result (λ p. p.latches.items ≡ circuit_latches (plain_circuit blif.now)) }
+    ensures values { IfOk result (λ p. length p.values.items ≡ slot_count (plain_circuit blif.now)) }
+    ensures outputs { IfOk result (λ p. p.outputs.items ≡ replicate (length blif.now.outputs.items) false) }
+    ensures acyclic { OnOk result (HasNoLoop (plain_circuit blif.now)) }
+    ensures cyclic { IfErr result (LoopFault (plain_circuit blif.now)) }
+{
+    let plan = circuit_plan(alloc, blif)?;
+    Ok(Parts {
+        latches: initial_values(alloc, &blif.latches)?,
+        values: vec![in alloc; false; plan.count]?,
+        outputs: vec![in alloc; false; blif.outputs.len()]?,
+        plan,
+    })
 }
 
 // The values that latches have at first.

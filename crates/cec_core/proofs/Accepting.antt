@@ -21,11 +21,17 @@ use Rattle.trace_io.specs.Answers.{IsFault, IsTrace, beginning}
 use Rattle.trace_io.specs.Traces.{Reading, Group, next_group}
 use Rattle.trace_io.specs.Traces as groups
 use Rattle.trace_run.proofs.Fronts.{front-of, front-whole}
-use Rattle.trace_run.specs.declared.executing.TextFault.{TextFault}
-use Rattle.trace_run.specs.declared.executing.TextFault.TheVariants as texts
+use Rattle.blif_run.specs.declared.language.TextFault as circuits
+use Rattle.blif_run.specs.declared.language.TextFault.TheVariants.{Line, TwoDrivers, NoDriver, Loop}
+use Rattle.blif_run.specs.Texts.{ReadsCircuit, IsTextFault as IsCircuitFault}
+use Rattle.csub_run.specs.declared.language.TextFault as programs
+use Rattle.csub_run.specs.declared.language.TextFault.TheVariants.{Syntax, Twice, Undeclared, Unset}
+use Rattle.csub_run.specs.Texts.{IsTextFault as IsProgramFault}
+use Rattle.csub_read.specs.Faults.{ReadsAs}
+use Rattle.cec_core.specs.declared.text_faults.TextFault.{TextFault}
 use Rattle.trace_run.specs.declared.running.RunFault.TheVariants as runs
-use Rattle.trace_run.specs.Running.{Sinks}
-use Rattle.trace_run_c.specs.CAnswers.{bare_inputs}
+use Rattle.est_base.specs.SinkChanges.{SinkChange}
+use Rattle.csub_run.specs.ProgramAnswers.{bare_inputs}
 use Rattle.cec_core.specs.declared.outcome.Outcome.{Outcome}
 use Rattle.cec_core.specs.declared.outcome.Outcome.TheVariants.{Done, Usage, FileFault, Static, Cyclic, Trace, BadText, Limit, WriteFault, NoMemory}
 use Rattle.cec_core.specs.declared.outcome.Which.{Which}
@@ -35,7 +41,7 @@ use Rattle.cec_core.specs.declared.refusal.Limit.TheVariants as limits
 use Rattle.cec_core.specs.declared.refusal.Refusal.TheVariants as refusals
 use Rattle.cec_core.specs.Accepted.{RunsToEnd, ExecutesToEnd, IsAccepted}
 use Rattle.cec_core.specs.Contents.{Content}
-use Rattle.cec_core.specs.ExecTexts.{IsCircuitText, IsProgramText, IsRunnable, HasFault, RunsBy}
+use Rattle.cec_core.specs.ExecTexts.{IsTextIn, IsRunnable, HasFault, RunsBy}
 use Rattle.cec_core.specs.Jobs.{Job, Request, Help, Make, Run, Exec, Generate, Load}
 use Rattle.cec_core.specs.Laws.{AcceptedRequestsAreDone}
 use Rattle.cec_core.specs.Outcomes.{MakesOn, RunsOn, ExecutesOn, AgreesOnFile, AgreesOnTwo, IsWriting, Agrees, CountsFiles, IsTextOf, GainsOut}
@@ -134,7 +140,7 @@ no_file_fault : (request : Request) (outcome : Outcome) (before now : ℕ) (fail
 no_file_fault request outcome before now failed_before failed_now file counts stays is =
     stays (subst (λ o. CountsFiles (Some request) o before now failed_before failed_now) is counts).0
 
-gains_rose : (request : Request) (content : Content) (s : Sinks) → GainsOut (Some request) content WriteFault s → Rose s.faults_before s.faults_now
+gains_rose : (request : Request) (content : Content) (s : SinkChange) → GainsOut (Some request) content WriteFault s → Rose s.faults_before s.faults_now
 gains_rose Help content s g = g.2.faults
 gains_rose (Make task job) content s g = answer_rose task (IsTextOf task job content) s g
 gains_rose (Run via job trace) content s g = g.2.2.ran.4.faults
@@ -143,7 +149,7 @@ gains_rose (Exec C text trace) content s g = g.2.2.ran.4.faults
 gains_rose (Generate start branches) content s g = g.2.faults
 gains_rose (Load start branches instants) content s g = g.2.faults
 
-no_write_fault : (request : Request) (content : Content) (outcome : Outcome) (s : Sinks) → GainsOut (Some request) content outcome s
+no_write_fault : (request : Request) (content : Content) (outcome : Outcome) (s : SinkChange) → GainsOut (Some request) content outcome s
     → (Rose s.faults_before s.faults_now → ⊥) → outcome ≡ WriteFault → ⊥
 no_write_fault request content outcome s gains stays is =
     stays (gains_rose request content s (subst (λ o. GainsOut (Some request) content o s) is gains))
@@ -199,7 +205,7 @@ run_limit via main held name trace limits.Instances w on long = passes_limit mai
 run_limit via main held name trace limits.Wires w on long = passes_limit main (held name) limits.Wires w.source on
 
 -- a trace of a source with a fault
-run_no_fault : (via : Via) (main : Option (List ℕ)) (bytes trace : List ℕ) (s : Sinks) (fault : TraceFault) → RunsToEnd via main bytes trace
+run_no_fault : (via : Via) (main : Option (List ℕ)) (bytes trace : List ℕ) (s : SinkChange) (fault : TraceFault) → RunsToEnd via main bytes trace
     → RunsSource main bytes trace s (Err (runs.Trace fault)) → ⊥
 run_no_fault via main bytes trace s fault w r =
     let p = w.source.program in
@@ -207,14 +213,14 @@ run_no_fault via main bytes trace s fault w r =
     whole_has_no_fault (beginning trace (given_names p) p.relations) w.whole.items r.ran.0 fault w.whole.whole
     (subst (λ (q : Program). IsTrace (beginning trace (given_names q) q.relations) r.ran.0 (Some fault)) same r.ran.2)
 
-run_trace_fault : (via : Via) (job : Job) (held : List ℕ → List ℕ) (trace : List ℕ) (s : Sinks) (fault : TraceFault)
+run_trace_fault : (via : Via) (job : Job) (held : List ℕ → List ℕ) (trace : List ℕ) (s : SinkChange) (fault : TraceFault)
     → RunsToEnd via job.main (held job.name) (held trace) → GainsOut (Some (Run via job trace)) (Some held) (Trace fault) s → ⊥
 run_trace_fault via job held trace s fault w g =
     run_no_fault via job.main (held job.name) (held trace) s fault w
     (subst (λ i. RunsSource job.main (held job.name) i s (Err (runs.Trace fault))) g.2.1
     (subst (λ b. RunsSource job.main b g.2.0 s (Err (runs.Trace fault))) g.1 g.2.2))
 
-run_end : (via : Via) (job : Job) (held : List ℕ → List ℕ) (trace : List ℕ) (outcome : Outcome) (s : Sinks)
+run_end : (via : Via) (job : Job) (held : List ℕ → List ℕ) (trace : List ℕ) (outcome : Outcome) (s : SinkChange)
     → RunsToEnd via job.main (held job.name) (held trace) → OnTwo held job.name trace (RunsOn via job.main) outcome
     → ((file : Which) → outcome ≡ FileFault file → ⊥) → (outcome ≡ WriteFault → ⊥) → GainsOut (Some (Run via job trace)) (Some held) outcome s
     → (outcome ≡ Done) ⊎ (outcome ≡ NoMemory)
@@ -231,53 +237,44 @@ run_end via job held trace NoMemory s w on unread written g = inr refl
 
 -- ---- texts
 
-circuit_no_fault : (bytes : List ℕ) (fault : TextFault) → IsCircuitText bytes → HasFault Blif bytes fault → ⊥
-circuit_no_fault bytes (texts.Line number) t h = let both = sym t.reads ∙ h in cc
-circuit_no_fault bytes (texts.TwoDrivers name) t h = let both = sym t.reads ∙ h in cc
-circuit_no_fault bytes (texts.NoDriver name) t h = let both = sym t.reads ∙ h in cc
-circuit_no_fault bytes (texts.Loop names) t h =
-    let both = sym t.reads ∙ h.1 in
-    let same : h.0 ≡ t.circuit = cc both in
-    t.acyclic names.items (subst (λ (c : Circuit). IsLoop c names.items) same h.2)
-circuit_no_fault bytes (texts.Syntax place) t h = h
-circuit_no_fault bytes (texts.Twice name) t h = h
-circuit_no_fault bytes (texts.Undeclared name) t h = h
-circuit_no_fault bytes (texts.Unset name) t h = h
+circuit_no_fault : (bytes : List ℕ) (fault : circuits.TextFault) → IsTextIn ReadsCircuit bytes → IsCircuitFault bytes fault → ⊥
+circuit_no_fault bytes (Line number) t h = let both = sym t.read.is_read ∙ h in cc
+circuit_no_fault bytes (TwoDrivers name) t h = let both = sym t.read.is_read ∙ h in cc
+circuit_no_fault bytes (NoDriver name) t h = let both = sym t.read.is_read ∙ h in cc
+circuit_no_fault bytes (Loop names) t h =
+    let both = sym t.read.is_read ∙ h.1 in
+    let same : h.0 ≡ t.program = cc both in
+    t.read.acyclic names.items (subst (λ (c : Circuit). IsLoop c names.items) same h.2)
 
-program_no_fault : (bytes : List ℕ) (fault : TextFault) → IsProgramText bytes → HasFault C bytes fault → ⊥
-program_no_fault bytes (texts.Line number) t h = h
-program_no_fault bytes (texts.TwoDrivers name) t h = h
-program_no_fault bytes (texts.NoDriver name) t h = h
-program_no_fault bytes (texts.Loop names) t h = h
-program_no_fault bytes (texts.Syntax place) t h =
-    (described-are-read bytes t.program t.reads.describes).refusals (c_faults.Syntax place) (t.reads.short, h)
-program_no_fault bytes (texts.Twice name) t h = (described-are-read bytes t.program t.reads.describes).refusals (c_faults.Twice name) (t.reads.short, h)
-program_no_fault bytes (texts.Undeclared name) t h =
-    (described-are-read bytes t.program t.reads.describes).refusals (c_faults.Undeclared name) (t.reads.short, h)
-program_no_fault bytes (texts.Unset name) t h = (described-are-read bytes t.program t.reads.describes).refusals (c_faults.Unset name) (t.reads.short, h)
+program_no_fault : (bytes : List ℕ) (fault : programs.TextFault) → IsTextIn ReadsAs bytes → IsProgramFault bytes fault → ⊥
+program_no_fault bytes (Syntax place) t h = (described-are-read bytes t.program t.read.describes).refusals (c_faults.Syntax place) (t.read.short, h)
+program_no_fault bytes (Twice name) t h = (described-are-read bytes t.program t.read.describes).refusals (c_faults.Twice name) (t.read.short, h)
+program_no_fault bytes (Undeclared name) t h =
+    (described-are-read bytes t.program t.read.describes).refusals (c_faults.Undeclared name) (t.read.short, h)
+program_no_fault bytes (Unset name) t h = (described-are-read bytes t.program t.read.describes).refusals (c_faults.Unset name) (t.read.short, h)
 
 text_no_fault : (via : Via) (bytes : List ℕ) (fault : TextFault) → IsRunnable via bytes → HasFault via bytes fault → ⊥
-text_no_fault Blif bytes fault t h = circuit_no_fault bytes fault t h
-text_no_fault C bytes fault t h = program_no_fault bytes fault t h
+text_no_fault Blif bytes fault t h = circuit_no_fault bytes h.0 t h.1
+text_no_fault C bytes fault t h = program_no_fault bytes h.0 t h.1
 
 text_short : (via : Via) (bytes : List ℕ) → IsRunnable via bytes → length bytes ≤ TEXT_BYTES
 text_short Blif bytes t = t.within
-text_short C bytes t = t.reads.short
+text_short C bytes t = t.within
 
 -- a trace of a text with a fault
-text_run_no_fault : (via : Via) (bytes trace : List ℕ) (s : Sinks) (fault : TraceFault) → ExecutesToEnd via bytes trace
+text_run_no_fault : (via : Via) (bytes trace : List ℕ) (s : SinkChange) (fault : TraceFault) → ExecutesToEnd via bytes trace
     → RunsBy via bytes trace s (Err (runs.Trace fault)) → ⊥
 text_run_no_fault Blif bytes trace s fault w r =
-    let both = sym r.reads ∙ w.text.reads in
-    let same : r.circuit ≡ w.text.circuit = cc both in
-    whole_has_no_fault (beginning trace w.text.circuit.inputs []) w.whole.items r.ran.0 fault w.whole.whole
+    let both = sym r.read.is_read ∙ w.text.read.is_read in
+    let same : r.program ≡ w.text.program = cc both in
+    whole_has_no_fault (beginning trace w.text.program.inputs []) w.whole.items r.ran.0 fault w.whole.whole
     (subst (λ (c : Circuit). IsTrace (beginning trace c.inputs []) r.ran.0 (Some fault)) same r.ran.2)
 text_run_no_fault C bytes trace s fault w r =
-    let same : r.program ≡ w.text.program = w.text.reads.only r.program r.reads.describes in
+    let same : r.program ≡ w.text.program = w.text.read.only r.program r.read.describes in
     whole_has_no_fault (beginning trace (bare_inputs w.text.program) []) w.whole.items r.ran.0 fault w.whole.whole
     (subst (λ (p : c_trees.Program). IsTrace (beginning trace (bare_inputs p) []) r.ran.0 (Some fault)) same r.ran.2)
 
-text_trace_fault : (via : Via) (held : List ℕ → List ℕ) (text trace : List ℕ) (s : Sinks) (fault : TraceFault) → ExecutesToEnd via (held text) (held trace)
+text_trace_fault : (via : Via) (held : List ℕ → List ℕ) (text trace : List ℕ) (s : SinkChange) (fault : TraceFault) → ExecutesToEnd via (held text) (held trace)
     → GainsOut (Some (Exec via text trace)) (Some held) (Trace fault) s → ⊥
 text_trace_fault via held text trace s fault w g =
     text_run_no_fault via (held text) (held trace) s fault w
@@ -300,7 +297,7 @@ text_limit via held text trace limits.Traps w on long = on
 text_limit via held text trace limits.Instances w on long = on
 text_limit via held text trace limits.Wires w on long = on
 
-exec_end : (via : Via) (held : List ℕ → List ℕ) (text trace : List ℕ) (outcome : Outcome) (s : Sinks) → ExecutesToEnd via (held text) (held trace)
+exec_end : (via : Via) (held : List ℕ → List ℕ) (text trace : List ℕ) (outcome : Outcome) (s : SinkChange) → ExecutesToEnd via (held text) (held trace)
     → OnTwo held text trace (ExecutesOn via) outcome → ((file : Which) → outcome ≡ FileFault file → ⊥) → (outcome ≡ WriteFault → ⊥)
     → GainsOut (Some (Exec via text trace)) (Some held) outcome s → (outcome ≡ Done) ⊎ (outcome ≡ NoMemory)
 exec_end via held text trace Done s w on unread written g = inl refl
@@ -351,6 +348,6 @@ pub steady_end : (asks : Option Request) (request : Request) (held : List ℕ �
     → GainsOut asks (Some held) outcome (record { before = old; after = new; faults_before = 0; faults_now = 0 })
     → (outcome ≡ Done) ⊎ (outcome ≡ NoMemory)
 steady_end asks request held outcome old new is w agrees counts gains =
-    let s : Sinks = record { before = old; after = new; faults_before = 0; faults_now = 0 } in
+    let s : SinkChange = record { before = old; after = new; faults_before = 0; faults_now = 0 } in
     accepted_done request held outcome 0 0 [] [] s w (subst (λ a. Agrees a (Some held) outcome) is agrees)
     (subst (λ a. CountsFiles a outcome 0 0 [] []) is counts) never_rose (subst (λ a. GainsOut a (Some held) outcome s) is gains) never_rose

@@ -1,6 +1,5 @@
 -- Runs over drawn events, and what is counted of them.
 use Rattle.std.proofs.Common.{◌≡◌, ℕ, zero, suc, ◌+◌, ◌*◌, ◌≤◌, Bool, true, false, if◌then◌else◌, List, [], ◌∷◌, ◌++◌, length, map}
-use Rattle.std.proofs.Common.{Ok}
 use Rattle.std.proofs.Common.{refl, sym, ap, ap₂, ◌∙◌, subst, arith}
 use Rattle.std.specs.Prelude.{◌==◌, count_by}
 use Rattle.est_base.specs.Items.{Item, Event, EachEvent}
@@ -10,29 +9,19 @@ use Rattle.est_gen.specs.Events.{event_from}
 use Rattle.est_kernel.specs.Plain.{Program, given_count}
 use Rattle.est_kernel.specs.Reactions as semantics
 use Rattle.net_ir.specs.Netlists.{Netlist}
-use Rattle.blif_text.specs.Circuits.{Circuit, reading}
-use Rattle.blif_text.specs.Written as blif_texts
-use Rattle.blif_run.specs.Runners as blif
-use Rattle.csub_run.specs.Runners as c_run
-use Rattle.csub_text.specs.Texts.{Describes}
-use Rattle.csub_text.specs.Trees as c_trees
-use Rattle.csub_text.specs.Written as c_texts
-use Rattle.trace_run.specs.BlifRunners as blif_answers
-use Rattle.trace_run.proofs.Nets.{nets-are-run}
-use Rattle.trace_run_c.specs.CMachines as c_answers
-use Rattle.trace_run_c.proofs.CRuns.{c-nets-are-run}
 use Rattle.net_ir.specs.Runs.{net_run}
 use Rattle.trace_io.specs.declared.lines.Word.{Word}
 use Rattle.trace_io.specs.declared.lines.Word.TheVariants.{Paused, Ended, Bare}
-use Rattle.trace_run.specs.BlifAnswers.{word_of}
-use Rattle.trace_run.specs.Machines.{Answer, Drives}
-use Rattle.trace_run.specs.NetRuns.{shown_answer}
-use Rattle.trace_run.proofs.Leading.{drives-more}
+use Rattle.trace_run.specs.Languages.{word_of}
+use Rattle.trace_run.specs.Machines.{Answer, Answered}
+use Rattle.trace_run.specs.Steps.{Led}
+use Rattle.trace_run.specs.Languages.{shown_answer, IsOfNet}
+use Rattle.trace_run.proofs.Leading.{led-nowhere, led-more, led-shown}
 use Rattle.cec_core.specs.declared.commands.load.Counts.{Counts}
 use Rattle.cec_core.specs.Loads.{drawn_items, emitted_count, paused_count, summary_text}
 use Rattle.cec_core.specs.Loading.{present_count, pause_of, pause_count, drawn_state, counted_text, CountsOf, CountsMachine, CountsMore, CountsNet}
 use Rattle.cec_core.specs.Meaning.{AreItems}
-use Rattle.cec_core.specs.NetMeaning.{seen_of}
+use Rattle.cec_core.specs.NetMeaning.{net_seen}
 
 -- one instant more
 pub drawn-more : (n x : ℕ) → drawn_items (n + 1) x ≡ drawn_items n x ++ Event (event_from 8 (drawn_state n x)) ∷ []
@@ -60,32 +49,33 @@ pause-append (a ∷ xs) bs =
     omega (arith, rest)
 
 -- a run over the first drawn events
-pub record DrawnSoFar {S : Type 0} (reacts : S → List Bool → Answer → S → Type 0) (resets : S → S → Type 0) (old new : S)
+pub record DrawnSoFar {S : Type 0} (shows : S → List Item → List Answer → Type 0) (old new : S)
     (x y n emitted paused : ℕ) : Type 0 where
   pub answers : List Answer
-  pub drives : Drives reacts resets old (drawn_items n x) answers new
+  pub led : Led shows old (drawn_items n x) answers new
   pub state : y ≡ drawn_state n x
   pub present : emitted ≡ present_count answers
   pub pauses : paused ≡ pause_count answers
   pub few : emitted ≤ 8 * n
   pub each : paused ≤ n
 
-pub drawn-nothing : {S : Type 0} (reacts : S → List Bool → Answer → S → Type 0) (resets : S → S → Type 0) (old : S) (x : ℕ)
-    → DrawnSoFar reacts resets old old x x 0 0 0
-drawn-nothing reacts resets old x = record { answers = []; drives = refl; state = refl; present = refl; pauses = refl; few = omega arith; each = omega arith }
+pub drawn-nothing : {S : Type 0} (shows : S → List Item → List Answer → Type 0) (old : S) (x : ℕ)
+    → DrawnSoFar shows old old x x 0 0 0
+drawn-nothing shows old x = record { answers = []; led = led-nowhere shows old; state = refl; present = refl; pauses = refl; few = omega arith; each = omega arith }
 
 pub pause-small : (w : Word) → pause_of w ≤ 1
 pause-small Paused = omega arith
 pause-small Ended = omega arith
 pause-small Bare = omega arith
 
-pub drawn-once : {S : Type 0} (reacts : S → List Bool → Answer → S → Type 0) (resets : S → S → Type 0) (old mid new : S) (x y z n : ℕ)
-    (before now : Counts) (event : List Bool) → DrawnSoFar reacts resets old mid x y n before.emitted before.paused → event ≡ event_from 8 y
-    → z ≡ state_after 8 y → CountsMore reacts mid event new before now → DrawnSoFar reacts resets old new x z (n + 1) now.emitted now.paused
-drawn-once reacts resets old mid new x y z n before now event so is behind more =
+pub drawn-once : {S : Type 0} (shows : S → List Item → List Answer → Type 0) (old mid new : S) (x y z n : ℕ)
+    (before now : Counts) (event : List Bool) → DrawnSoFar shows old mid x y n before.emitted before.paused → event ≡ event_from 8 y
+    → z ≡ state_after 8 y → CountsMore shows mid event new before now → DrawnSoFar shows old new x z (n + 1) now.emitted now.paused
+drawn-once shows old mid new x y z n before now event so is behind more =
     let answer = more.answer in
-    let step : Drives reacts resets mid (Event (event_from 8 (drawn_state n x)) ∷ []) (answer ∷ []) new =
-    (new, subst (λ e. reacts mid e answer new) (is ∙ ap (event_from 8) so.state) more.react, refl) in
+    let once = subst (λ e. Answered shows mid e answer new) (is ∙ ap (event_from 8) so.state) more.answered in
+    let step : Led shows mid (Event (event_from 8 (drawn_state n x)) ∷ []) (answer ∷ []) new =
+    record { in_front = λ rest behind h. once.in_front rest behind h } in
     let here = so.few in
     let there = so.each in
     let p = so.present in
@@ -98,8 +88,8 @@ drawn-once reacts resets old mid new x y z n before now event so is behind more 
     let paused_all = pause-append so.answers (answer ∷ []) in
     record {
       answers = so.answers ++ answer ∷ [];
-      drives = subst (λ items. Drives reacts resets old items (so.answers ++ answer ∷ []) new) (sym (drawn-more n x))
-          (drives-more reacts resets old mid new (drawn_items n x) so.answers (Event (event_from 8 (drawn_state n x)) ∷ []) (answer ∷ []) so.drives step);
+      led = subst (λ items. Led shows old items (so.answers ++ answer ∷ []) new) (sym (drawn-more n x))
+          (led-more shows old mid new (drawn_items n x) so.answers (Event (event_from 8 (drawn_state n x)) ∷ []) (answer ∷ []) so.led step);
       state = behind ∙ ap (state_after 8) so.state ∙ sym (state-more n x);
       present = omega (arith, p, shown, emitted_is);
       pauses = omega (arith, q, paused_all, paused_is);
@@ -107,10 +97,11 @@ drawn-once reacts resets old mid new x y z n before now event so is behind more 
       each = omega (arith, there, one, paused_is);
     }
 
-pub drawn-all : {S : Type 0} (reacts : S → List Bool → Answer → S → Type 0) (resets : S → S → Type 0) (old new : S) (x y n emitted paused : ℕ)
-    → DrawnSoFar reacts resets old new x y n emitted paused
-    → CountsMachine reacts resets old new (drawn_items n x) (record { emitted = emitted; paused = paused })
-drawn-all reacts resets old new x y n emitted paused so = (so.answers, so.drives, record { emitted = so.present; paused = so.pauses })
+pub drawn-all : {S : Type 0} (shows : S → List Item → List Answer → Type 0) (old new : S) (x y n emitted paused : ℕ)
+    → DrawnSoFar shows old new x y n emitted paused
+    → CountsMachine shows old new (drawn_items n x) (record { emitted = emitted; paused = paused })
+drawn-all shows old new x y n emitted paused so =
+    record { answers = so.answers; led = so.led; counts = record { emitted = so.present; paused = so.pauses } }
 
 -- ---- the numbers of a program's run
 
@@ -130,7 +121,7 @@ drawn-fits p wide free (suc n) x = (
   drawn-fits p wide free n (state_after 8 x),
 )
 
-emitted-seen : (answers : List semantics.Answer) → present_count (map shown_answer (map seen_of answers)) ≡ emitted_count answers
+emitted-seen : (answers : List semantics.Answer) → present_count (map shown_answer (map net_seen answers)) ≡ emitted_count answers
 emitted-seen [] = refl
 emitted-seen (a ∷ answers) = ap (λ k. count_by (λ b. b) a.outputs + k) (emitted-seen answers)
 
@@ -138,13 +129,13 @@ pause-word : (b : Bool) → pause_of (word_of b) ≡ (if b then 1 else 0)
 pause-word true = refl
 pause-word false = refl
 
-paused-seen : (answers : List semantics.Answer) → pause_count (map shown_answer (map seen_of answers)) ≡ paused_count answers
+paused-seen : (answers : List semantics.Answer) → pause_count (map shown_answer (map net_seen answers)) ≡ paused_count answers
 paused-seen [] = refl
 paused-seen (a ∷ answers) = ap₂ (λ i j. i + j) (pause-word (a.code == 1)) (paused-seen answers)
 
 -- the counts of a net's answers are those of the program's run
 pub counts-seen : (answers : List semantics.Answer) (net : Netlist) (items : List Item) (instants : ℕ) (c : Counts)
-    → net_run net items ≡ map seen_of answers → CountsNet net items c
+    → net_run net items ≡ map net_seen answers → CountsNet net items c
     → counted_text instants c.emitted c.paused ≡ summary_text instants answers
 counts-seen answers net items instants c same counts =
     let first : c.emitted ≡ emitted_count answers = counts.emitted ∙ ap (λ l. present_count (map shown_answer l)) same ∙ emitted-seen answers in
@@ -157,17 +148,11 @@ pub counts-agree : (net : Netlist) (items : List Item) (c d : Counts) → Counts
     → (c.emitted ≡ d.emitted) × (c.paused ≡ d.paused)
 counts-agree net items c d x y = (x.emitted ∙ sym y.emitted, x.paused ∙ sym y.paused)
 
--- what a machine of the BLIF text counts
-pub circuit-counts : (text : List ℕ) (net : Netlist) (circuit : Circuit) (old new : blif.Runner) (items : List Item) (counts : Counts)
-    → blif_texts.Means text net → reading text ≡ Ok circuit → old.circuit ≡ circuit → blif.IsFresh old
-    → CountsMachine blif_answers.Answers blif.Resets old new items counts → CountsNet net items counts
-circuit-counts text net circuit old new items counts means reads of fresh run =
-    subst (λ a. CountsOf a counts) ((nets-are-run text net circuit means reads).2 old new items run.0 of fresh run.1) run.2
-
--- what a machine of the C text counts
-pub program-counts : (text : List ℕ) (net : Netlist) (p : c_trees.Program) (old new : c_run.Runner) (n x : ℕ) (counts : Counts) → c_texts.Means text net
-    → Describes text p → c_run.program_in old ≡ p → c_run.IsFresh old → length net.inputs ≡ 8
-    → CountsMachine c_answers.Answers c_run.Resets old new (drawn_items n x) counts → CountsNet net (drawn_items n x) counts
-program-counts text net p old new n x counts means describes of fresh wide run =
+-- what a machine that shows a net counts, on its way over drawn events
+pub machine-counts : {S : Type 0} (shows : S → List Item → List Answer → Type 0) (ends : (x : S) → shows x [] []) (net : Netlist) (old new : S)
+    (n x : ℕ) (counts : Counts) → length net.inputs ≡ 8 → IsOfNet shows old net → CountsMachine shows old new (drawn_items n x) counts
+    → CountsNet net (drawn_items n x) counts
+machine-counts shows ends net old new n x counts wide of run =
     let events = subst (λ w. EachEvent (λ event. length event ≡ w) (drawn_items n x)) (sym wide) (drawn-wide n x) in
-    subst (λ a. CountsOf a counts) ((c-nets-are-run text net p means describes).2 old new (drawn_items n x) run.0 of fresh events run.1) run.2
+    let shown = led-shown shows old new (drawn_items n x) run.answers (ends new) run.led in
+    subst (λ a. CountsOf a counts) (of.told (drawn_items n x) run.answers events shown) run.counts

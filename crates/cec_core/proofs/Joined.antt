@@ -49,7 +49,7 @@ use Rattle.cec_core.specs.Refusals.{Compiles, DoesNotCompile}
 use Rattle.cec_core.proofs.GraphFacts.{acyclic, reading_order}
 use Rattle.cec_core.proofs.Simplified.{interface_stays, instants_stay, runs_stay}
 use Rattle.cec_core.proofs.WireWords.{order_carried, holds_wires, names_wires}
-use Rattle.cec_core.specs.Meaning.{HoldsWires, NamesWires}
+use Rattle.cec_core.specs.WireNames.{TextNames, CTextNames}
 use Rattle.cec_core.proofs.Keeping.{net_keeps, text_keeps, c_text_keeps}
 
 -- ---- graphs
@@ -141,17 +141,25 @@ inputs_wide : (c : Compiled) (p : Program) → IsCompiled c p → given_count p 
 inputs_wide c p h = sym (ap length h.keeps.inputs ∙ omega (arith, length-take (given_count p) p.signals, given-few p h.formed))
 
 -- the text of a compiled program names its wires
-net_wires : (c : Compiled) (p : Program) → IsCompiled c p → (written : List ℕ) → (means : Means written (netlist_of c.net)) → NamesWires means.circuit p
+net_wires : (c : Compiled) (p : Program) → IsCompiled c p → (written : List ℕ) → Means written (netlist_of c.net) → TextNames written p
 net_wires c p h written means =
     let kernel = program_kernel p h.formed (kernel_of c.graph p h.graph) in
-    names_wires c.graph p (netlist_of c.net) h.graph (wires_carried c p h) kernel h.compiles.acyclic h.interface h.runs written means h.keeps.inputs
-    (inputs_wide c p h)
+    record {
+      circuit = means.circuit;
+      reads = means.reads;
+      wires = names_wires c.graph p (netlist_of c.net) h.graph (wires_carried c p h) kernel h.compiles.acyclic h.interface h.runs written means
+          h.keeps.inputs (inputs_wide c p h);
+    }
 
-c_net_wires : (c : Compiled) (p : Program) → IsCompiled c p → (written : List ℕ) → (means : c_meant.Means written (netlist_of c.net)) →
-    HoldsWires means.program p
+c_net_wires : (c : Compiled) (p : Program) → IsCompiled c p → (written : List ℕ) → c_meant.Means written (netlist_of c.net) → CTextNames written p
 c_net_wires c p h written means =
     let kernel = program_kernel p h.formed (kernel_of c.graph p h.graph) in
-    holds_wires c.graph p (netlist_of c.net) h.graph (wires_carried c p h) kernel h.compiles.acyclic h.interface h.runs written means (inputs_wide c p h)
+    record {
+      program = means.program;
+      describes = means.describes;
+      wires = holds_wires c.graph p (netlist_of c.net) h.graph (wires_carried c p h) kernel h.compiles.acyclic h.interface h.runs written means
+          (inputs_wide c p h);
+    }
 
 pub text_stands : (text : List ℕ) (main : Option (List ℕ)) (c : Compiled) (written : List ℕ) → StandsForNet text main c → Means written (netlist_of c.net) →
     StandsForText text main written
@@ -159,8 +167,8 @@ text_stands text main c written s means = record {
   program = s.program;
   source = s.source;
   compiles = s.compiled.compiles;
-  keeps = text_keeps written (netlist_of c.net) s.program (given-few s.program s.compiled.formed) s.compiled.keeps means
-      (net_wires c s.program s.compiled written means);
+  keeps = text_keeps written (netlist_of c.net) s.program (given-few s.program s.compiled.formed) s.compiled.keeps means;
+  names = net_wires c s.program s.compiled written means;
 }
 
 pub c_text_stands : (text : List ℕ) (main : Option (List ℕ)) (c : Compiled) (written : List ℕ) → StandsForNet text main c →
@@ -169,8 +177,8 @@ c_text_stands text main c written s means = record {
   program = s.program;
   source = s.source;
   compiles = s.compiled.compiles;
-  keeps = c_text_keeps written (netlist_of c.net) s.program (given-few s.program s.compiled.formed) s.compiled.keeps means
-      (c_net_wires c s.program s.compiled written means);
+  keeps = c_text_keeps written (netlist_of c.net) s.program (given-few s.program s.compiled.formed) s.compiled.keeps means;
+  names = c_net_wires c s.program s.compiled written means;
 }
 
 -- ---- listings and counts

@@ -17,8 +17,8 @@ use Rattle.cec_core.proofs.Joined.{text_stands, c_text_stands}
 
 pub net_text : (via : Via) (bytes : List ℕ) (main : Option (List ℕ)) (made : Compiled) (text : List ℕ) → StandsForNet bytes main made
     → IsWritten via text (netlist_of made.net) → IsNetText via bytes main text
-net_text vias.Blif bytes main made text s w = record { made = made; compiled = s; text = w.0 }
-net_text vias.C bytes main made text s w = record { made = made; compiled = s; text = w.0 }
+net_text vias.Blif bytes main made text s w = record { made = made; compiled = s; text = w.spelled }
+net_text vias.C bytes main made text s w = record { made = made; compiled = s; text = w.spelled }
 
 -- the text that is written of a netlist is what the task asks for
 pub blif_answers : (bytes : List ℕ) (main : Option (List ℕ)) (made : Compiled) (text : List ℕ) → StandsForNet bytes main made

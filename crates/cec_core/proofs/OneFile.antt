@@ -10,7 +10,7 @@ use Rattle.est_base.specs.declared.files.reading.FileFault.TheVariants as readin
 use Rattle.est_base.specs.declared.sinks.writing.SinkFault.{SinkFault}
 use Rattle.est_base.specs.Reading.{Reads, Counts, Keeps}
 use Rattle.est_base.specs.Writing.{Appends, Stops, Wrote}
-use Rattle.trace_run.specs.Running.{Sinks}
+use Rattle.est_base.specs.SinkChanges.{SinkChange}
 use Rattle.cec_core.specs.declared.jobs.Task.{Task}
 use Rattle.cec_core.specs.declared.outcome.Outcome.{Outcome}
 use Rattle.cec_core.specs.declared.outcome.Outcome.TheVariants.{Done, Usage, FileFault as Unread, Static, Cyclic, Trace, BadText, Limit, WriteFault, NoMemory}
@@ -92,7 +92,7 @@ make_counts task job (Limit quantity) bytes before now failed_before failed_now 
 make_counts task job WriteFault bytes before now failed_before failed_now m k = (k.faults, k.failed)
 make_counts task job NoMemory bytes before now failed_before failed_now m k = (k.faults, k.failed)
 
-pub make_out : (content : Content) (task : Task) (job : Job) (outcome : Outcome) (bytes : List ℕ) (s : Sinks) → IsHeld content job.name bytes
+pub make_out : (content : Content) (task : Task) (job : Job) (outcome : Outcome) (bytes : List ℕ) (s : SinkChange) → IsHeld content job.name bytes
     → LeavesAnswer task (IsAnswer task job.main bytes) s outcome → GainsOut (Some (Make task job)) content outcome s
 make_out content task job outcome bytes s held l =
     answer_as task (IsAnswer task job.main bytes) (IsTextOf task job content) s outcome (λ text is. (bytes, held, is)) l
@@ -119,7 +119,7 @@ counts_unread request name limit reading.Failed before now failed_before failed_
 counts_unread request name limit reading.TooLong before now failed_before failed_now is k = (k.faults, k.failed)
 counts_unread request name limit reading.NoMemory before now failed_before failed_now is k = (k.faults, k.failed)
 
-pub make_out_unread : (content : Content) (task : Task) (job : Job) (fault : FileFault) (s : Sinks) → Appends s.before s.after s.faults_before s.faults_now []
+pub make_out_unread : (content : Content) (task : Task) (job : Job) (fault : FileFault) (s : SinkChange) → Appends s.before s.after s.faults_before s.faults_now []
     → GainsOut (Some (Make task job)) content (unread_outcome First limits.Source fault) s
 make_out_unread content task job fault s a = unread_answer task (IsTextOf task job content) fault s a
 
@@ -178,7 +178,7 @@ refused_makes job (refusals.Limit limits.Instances) source short r = record { sh
 refused_makes job (refusals.Limit limits.Wires) source short r = record { short = short; refused = r }
 refused_makes job refusals.NoMemory source short r = tt
 
-pub refused_leaves : (Is : List ℕ → Type 0) (refusal : refused.Refusal) (s : Sinks) → Appends s.before s.after s.faults_before s.faults_now []
+pub refused_leaves : (Is : List ℕ → Type 0) (refusal : refused.Refusal) (s : SinkChange) → Appends s.before s.after s.faults_before s.faults_now []
     → LeavesText Is s (outcome_of refusal)
 refused_leaves Is (refusals.Static fault) s a = a
 refused_leaves Is (refusals.Cyclic cycle) s a = a

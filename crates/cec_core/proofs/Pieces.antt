@@ -8,7 +8,7 @@ use Rattle.est_base.specs.declared.files.reading.FileFault.TheVariants as readin
 use Rattle.est_base.specs.Faults.{Rose}
 use Rattle.est_base.specs.Writing.{Gains, Appends, Stops}
 use Rattle.est_base.proofs.Gains.{appends-nothing, appends-twice, stops-behind}
-use Rattle.trace_run.specs.Running.{Sinks}
+use Rattle.est_base.specs.SinkChanges.{SinkChange}
 use Rattle.cec_core.specs.declared.jobs.Task.{Task}
 use Rattle.cec_core.specs.declared.jobs.Task.TheVariants.{Blif, C, Grc, Check}
 use Rattle.cec_core.specs.declared.outcome.Outcome.{Outcome}
@@ -22,13 +22,13 @@ use Rattle.cec_core.specs.Sources.{IsSource}
 use Rattle.cec_core.specs.Statuses.{outcome_of}
 use Rattle.cec_core.specs.Subjects.{unread_outcome}
 
-abbrev pub sinks : Option (List ℕ) → Option (List ℕ) → ℕ → ℕ → Sinks
+abbrev pub sinks : Option (List ℕ) → Option (List ℕ) → ℕ → ℕ → SinkChange
 sinks before after faults_before faults_now = record { before = before; after = after; faults_before = faults_before; faults_now = faults_now }
 
 -- ---- the pieces of a text
 
 -- the pieces so far were appended, and the rest is still to come
-pub record PiecesSoFar (whole rest : List ℕ) (s : Sinks) : Type 0 where
+pub record PiecesSoFar (whole rest : List ℕ) (s : SinkChange) : Type 0 where
   pub given : List ℕ
   pub join : given ++ rest ≡ whole
   pub came : Appends s.before s.after s.faults_before s.faults_now given
@@ -54,7 +54,7 @@ pub pieces_fall : (n : ℕ) (old piece rest : List ℕ) → 0 < length piece →
 pieces_fall n old piece rest some p r =
     omega (arith, some, ap length p ∙ length-take n old, ap length r ∙ length-drop n old)
 
-pub all_pieces : (whole rest : List ℕ) (s : Sinks) → PiecesSoFar whole rest s → rest ≡ [] → LeavesPieces (λ text. text ≡ whole) s Done
+pub all_pieces : (whole rest : List ℕ) (s : SinkChange) → PiecesSoFar whole rest s → rest ≡ [] → LeavesPieces (λ text. text ≡ whole) s Done
 all_pieces whole rest s so none =
     let all : so.given ≡ whole = sym (append-nil so.given) ∙ ap (λ l. so.given ++ l) (sym none) ∙ so.join in
     (so.given, all, so.came)
@@ -64,14 +64,14 @@ pub piece_stops : (n : ℕ) (whole rest piece : List ℕ) (a b c : Option (List 
 piece_stops n whole rest piece a b c f g h so is stops =
     (so.given ++ (piece ++ drop n rest), with_piece n whole so.given rest piece so.join is, stops-behind a b c f g h so.given piece (drop n rest) so.came stops)
 
-pub piece_lacks : (whole rest : List ℕ) (s : Sinks) → PiecesSoFar whole rest s → LeavesPieces (λ text. text ≡ whole) s NoMemory
+pub piece_lacks : (whole rest : List ℕ) (s : SinkChange) → PiecesSoFar whole rest s → LeavesPieces (λ text. text ≡ whole) s NoMemory
 piece_lacks whole rest s so =
     let front : take (length so.given) whole ≡ so.given = sym (ap (take (length so.given)) so.join) ∙ take-append_seam so.given rest in
     inr (whole, refl, so.came.faults, record { taken = length so.given; gains = subst (Gains s.before s.after) (sym front) so.came.whole })
 
 -- ---- what a text is
 
-pub text_as : (P Q : List ℕ → Type 0) (s : Sinks) (outcome : Outcome) → ((text : List ℕ) → P text → Q text) → LeavesText P s outcome → LeavesText Q s outcome
+pub text_as : (P Q : List ℕ → Type 0) (s : SinkChange) (outcome : Outcome) → ((text : List ℕ) → P text → Q text) → LeavesText P s outcome → LeavesText Q s outcome
 text_as P Q s Done f l = (l.0, f l.0 l.1, l.2)
 text_as P Q s Usage f l = l
 text_as P Q s (Unread file) f l = l
@@ -83,7 +83,7 @@ text_as P Q s (Limit quantity) f l = l
 text_as P Q s WriteFault f l = (l.0, f l.0 l.1, l.2)
 text_as P Q s NoMemory f l = l
 
-pub pieces_as : (P Q : List ℕ → Type 0) (s : Sinks) (outcome : Outcome) → ((text : List ℕ) → P text → Q text) → LeavesPieces P s outcome
+pub pieces_as : (P Q : List ℕ → Type 0) (s : SinkChange) (outcome : Outcome) → ((text : List ℕ) → P text → Q text) → LeavesPieces P s outcome
     → LeavesPieces Q s outcome
 pieces_as P Q s Done f l = (l.0, f l.0 l.1, l.2)
 pieces_as P Q s Usage f l = l
@@ -96,7 +96,7 @@ pieces_as P Q s (Limit quantity) f l = l
 pieces_as P Q s WriteFault f l = (l.0, f l.0 l.1, l.2)
 pieces_as P Q s NoMemory f l = ⊎_elim inl (λ x. inr (x.0, f x.0 x.1, x.2, x.3)) l
 
-pub answer_as : (task : Task) (P Q : List ℕ → Type 0) (s : Sinks) (outcome : Outcome) → ((text : List ℕ) → P text → Q text) → LeavesAnswer task P s outcome
+pub answer_as : (task : Task) (P Q : List ℕ → Type 0) (s : SinkChange) (outcome : Outcome) → ((text : List ℕ) → P text → Q text) → LeavesAnswer task P s outcome
     → LeavesAnswer task Q s outcome
 answer_as Blif P Q s outcome f l = pieces_as P Q s outcome f l
 answer_as C P Q s outcome f l = pieces_as P Q s outcome f l
@@ -104,7 +104,7 @@ answer_as Grc P Q s outcome f l = text_as P Q s outcome f l
 answer_as Check P Q s outcome f l = text_as P Q s outcome f l
 
 -- a write that failed raised the count
-pub answer_rose : (task : Task) (P : List ℕ → Type 0) (s : Sinks) → LeavesAnswer task P s WriteFault → Rose s.faults_before s.faults_now
+pub answer_rose : (task : Task) (P : List ℕ → Type 0) (s : SinkChange) → LeavesAnswer task P s WriteFault → Rose s.faults_before s.faults_now
 answer_rose Blif P s l = l.2.faults
 answer_rose C P s l = l.2.faults
 answer_rose Grc P s l = l.2.faults
@@ -112,26 +112,26 @@ answer_rose Check P s l = l.2.faults
 
 -- ---- where nothing is written
 
-pub refused_pieces : (P : List ℕ → Type 0) (refusal : refused.Refusal) (s : Sinks) → Appends s.before s.after s.faults_before s.faults_now []
+pub refused_pieces : (P : List ℕ → Type 0) (refusal : refused.Refusal) (s : SinkChange) → Appends s.before s.after s.faults_before s.faults_now []
     → LeavesPieces P s (outcome_of refusal)
 refused_pieces P (refusals.Static fault) s a = a
 refused_pieces P (refusals.Cyclic cycle) s a = a
 refused_pieces P (refusals.Limit quantity) s a = a
 refused_pieces P refusals.NoMemory s a = inl a
 
-unread_pieces : (P : List ℕ → Type 0) (fault : FileFault) (s : Sinks) → Appends s.before s.after s.faults_before s.faults_now []
+unread_pieces : (P : List ℕ → Type 0) (fault : FileFault) (s : SinkChange) → Appends s.before s.after s.faults_before s.faults_now []
     → LeavesPieces P s (unread_outcome First limits.Source fault)
 unread_pieces P reading.Failed s a = a
 unread_pieces P reading.TooLong s a = a
 unread_pieces P reading.NoMemory s a = inl a
 
-unread_text : (P : List ℕ → Type 0) (fault : FileFault) (s : Sinks) → Appends s.before s.after s.faults_before s.faults_now []
+unread_text : (P : List ℕ → Type 0) (fault : FileFault) (s : SinkChange) → Appends s.before s.after s.faults_before s.faults_now []
     → LeavesText P s (unread_outcome First limits.Source fault)
 unread_text P reading.Failed s a = a
 unread_text P reading.TooLong s a = a
 unread_text P reading.NoMemory s a = a
 
-pub unread_answer : (task : Task) (P : List ℕ → Type 0) (fault : FileFault) (s : Sinks) → Appends s.before s.after s.faults_before s.faults_now []
+pub unread_answer : (task : Task) (P : List ℕ → Type 0) (fault : FileFault) (s : SinkChange) → Appends s.before s.after s.faults_before s.faults_now []
     → LeavesAnswer task P s (unread_outcome First limits.Source fault)
 unread_answer Blif P fault s a = unread_pieces P fault s a
 unread_answer C P fault s a = unread_pieces P fault s a

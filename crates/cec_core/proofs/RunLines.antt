@@ -10,11 +10,12 @@ use Rattle.net_ir.specs.Netlists.{Netlist, output_names}
 use Rattle.trace_io.specs.Answers.{beginning}
 use Rattle.trace_run.specs.declared.running.RunFault.{RunFault}
 use Rattle.trace_run.specs.Machines.{answer_lines}
-use Rattle.trace_run.specs.NetRuns.{shown_answer, ShowsNet}
-use Rattle.trace_run.specs.Running.{Sinks, RunsTrace}
+use Rattle.trace_run.specs.Languages.{shown_answer, ShowsNet}
+use Rattle.est_base.specs.SinkChanges.{SinkChange}
+use Rattle.trace_run.specs.Running.{RunsTrace}
 use Rattle.trace_run.proofs.Events.{events-fit, runs-along}
 use Rattle.cec_core.specs.Meaning.{AreItems}
-use Rattle.cec_core.specs.NetMeaning.{seen_of, NetKeeps}
+use Rattle.cec_core.specs.NetMeaning.{net_seen, NetKeeps}
 use Rattle.cec_core.specs.Runs.{line_answer, ShowsRun}
 
 -- the events of a trace are events of the program
@@ -25,7 +26,7 @@ are_items p n is (Event event ∷ items) fits = (record { wide = fits.0.0 ∙ is
 are_items p n is (Reset ∷ items) fits = are_items p n is items fits
 
 -- the answers of a run, as a netlist shows them and as a line does
-lines_seen : (answers : List Answer) → map shown_answer (map seen_of answers) ≡ map line_answer answers
+lines_seen : (answers : List Answer) → map shown_answer (map net_seen answers) ≡ map line_answer answers
 lines_seen [] = refl
 lines_seen (a ∷ answers) = ap (λ l. line_answer a ∷ l) (lines_seen answers)
 
@@ -42,7 +43,7 @@ shows_run net p keeps items text fits shows =
 
 -- What a netlist that keeps what a program means shows over a trace is the program's own run.
 pub runs_program : (net : Netlist) (p : Program) → given_count p ≡ length (given_names p) → NetKeeps net p → (trace : List ℕ) (relations : List Relation)
-    (s : Sinks) (result : Result (Unit {0}) RunFault) → relations ≡ p.relations
+    (s : SinkChange) (result : Result (Unit {0}) RunFault) → relations ≡ p.relations
     → RunsTrace (ShowsNet (output_names net) net) (beginning trace net.inputs relations) s result
     → RunsTrace (ShowsRun p) (beginning trace (given_names p) p.relations) s result
 runs_program net p wide keeps trace relations s result same runs =

@@ -6,18 +6,14 @@ use Rattle.est_base.specs.declared.files.reading.FileFault.{FileFault}
 use Rattle.est_base.specs.declared.files.reading.FileFault.TheVariants as reading
 use Rattle.est_base.specs.Faults.{Rose}
 use Rattle.est_base.specs.Reading.{Reads, Counts, Keeps}
-use Rattle.blif_text.specs.Reads.{ReadsFault}
-use Rattle.blif_text.specs.declared.refusal.BlifError.{BlifError}
-use Rattle.blif_text.specs.declared.refusal.BlifError.TheVariants as blifs
 use Rattle.cec_words.specs.declared.asked.Via.{Via}
-use Rattle.cec_words.specs.declared.asked.Via.TheVariants.{Blif, C}
-use Rattle.csub_read.specs.Faults as c_reading
-use Rattle.csub_read.specs.declared.refusal.CError.{CError}
-use Rattle.csub_read.specs.declared.refusal.CError.TheVariants as c_faults
 use Rattle.trace_run.specs.declared.running.RunFault.{RunFault}
 use Rattle.trace_run.specs.declared.running.RunFault.TheVariants as runs
-use Rattle.trace_run.specs.Executing.{IsUntouched}
-use Rattle.trace_run.specs.Running.{Sinks}
+use Rattle.est_base.specs.Items.{Item}
+use Rattle.est_base.specs.SinkChanges.{SinkChange, IsUntouched}
+use Rattle.trace_run.specs.Languages.{RunsIn}
+use Rattle.trace_run.specs.Machines.{Answer}
+use Rattle.cec_core.specs.declared.text_faults.TextFault.{TextFault}
 use Rattle.cec_core.specs.declared.outcome.Outcome.{Outcome}
 use Rattle.cec_core.specs.declared.outcome.Outcome.TheVariants.{Done, Usage, FileFault as Unread, Static, Cyclic, Trace, BadText, Limit, WriteFault, NoMemory}
 use Rattle.cec_core.specs.declared.outcome.Which.{Which}
@@ -28,13 +24,12 @@ use Rattle.cec_core.specs.declared.refusal.Refusal as refused
 use Rattle.cec_core.specs.declared.refusal.Refusal.TheVariants as refusals
 use Rattle.cec_core.specs.Contents.{Content, IsHeld, Holds}
 use Rattle.cec_core.specs.Jobs.{Job, Request, Run, Exec}
-use Rattle.cec_core.specs.ExecTexts.{IsRunnable, RunsBy}
-use Rattle.cec_core.specs.Outcomes.{RunsOn, ExecutesOn, AgreesOnTwo, Agrees, IsFileOf, CountsFiles}
+use Rattle.cec_core.specs.Outcomes.{RunsOn, ExecutesIn, AgreesOnTwo, Agrees, IsFileOf, CountsFiles}
 use Rattle.cec_core.specs.Refusals.{IsRefused}
 use Rattle.cec_core.specs.Runs.{RunsSource, LeavesRun}
 use Rattle.cec_core.specs.Sources.{IsSource}
 use Rattle.cec_core.specs.Statuses.{outcome_of}
-use Rattle.cec_core.specs.Subjects.{unread_outcome, run_outcome, text_outcome, c_text_outcome, CountsTrace, LongTrace}
+use Rattle.cec_core.specs.Subjects.{unread_outcome, run_outcome, CountsTrace, LongTrace}
 use Rattle.cec_core.proofs.OneFile.{long_unread, some_bytes}
 
 -- ---- behind the first file
@@ -78,7 +73,7 @@ two_count request trace WriteFault a b c f g h is k x = (x.0 ∙ k.faults, x.1 �
 two_count request trace NoMemory a b c f g h is k x = (x.0 ∙ k.faults, x.1 ∙ k.failed)
 
 -- what is left of a run, where each end says more
-pub leaves_as : (P Q : Result (Unit {0}) RunFault → Type 0) (s : Sinks) (outcome : Outcome) → ((r : Result (Unit {0}) RunFault) → P r → Q r)
+pub leaves_as : (P Q : Result (Unit {0}) RunFault → Type 0) (s : SinkChange) (outcome : Outcome) → ((r : Result (Unit {0}) RunFault) → P r → Q r)
     → LeavesRun P s outcome → LeavesRun Q s outcome
 leaves_as P Q s Done f l = f (Ok tt) l
 leaves_as P Q s Usage f l = l
@@ -93,7 +88,7 @@ leaves_as P Q s NoMemory f l = ⊎_elim inl (λ x. inr (f (Err runs.NoMemory) x)
 
 -- ---- the first file is not read
 
-pub leaves_unread : (P : Result (Unit {0}) RunFault → Type 0) (s : Sinks) (file : Which) (limit : bounds.Limit) (fault : FileFault) → IsUntouched s
+pub leaves_unread : (P : Result (Unit {0}) RunFault → Type 0) (s : SinkChange) (file : Which) (limit : bounds.Limit) (fault : FileFault) → IsUntouched s
     → LeavesRun P s (unread_outcome file limit fault)
 leaves_unread P s file limit reading.Failed u = u
 leaves_unread P s file limit reading.TooLong u = u
@@ -125,11 +120,11 @@ count_trace_unread trace reading.Failed a b f g k = (k.faults, k.failed)
 count_trace_unread trace reading.TooLong a b f g k = (k.faults, k.failed)
 count_trace_unread trace reading.NoMemory a b f g k = (k.faults, k.failed)
 
-pub exec_trace_unread : (via : Via) (bytes : List ℕ) (fault : FileFault) → IsRunnable via bytes →
-    ExecutesOn via (unread_outcome Second limits.Trace fault) bytes
-exec_trace_unread via bytes reading.Failed is = is
-exec_trace_unread via bytes reading.TooLong is = is
-exec_trace_unread via bytes reading.NoMemory is = tt
+pub exec_trace_unread : (runnable : List ℕ → Type 0) (faulty : List ℕ → TextFault → Type 0) (bytes : List ℕ) (fault : FileFault) → runnable bytes
+    → ExecutesIn runnable faulty (unread_outcome Second limits.Trace fault) bytes
+exec_trace_unread runnable faulty bytes reading.Failed is = is
+exec_trace_unread runnable faulty bytes reading.TooLong is = is
+exec_trace_unread runnable faulty bytes reading.NoMemory is = tt
 
 pub run_trace_unread : (via : Via) (job : Job) (bytes : List ℕ) (fault : FileFault) → IsSource job.main bytes →
     RunsOn via job.main (unread_outcome Second limits.Trace fault) bytes
@@ -151,11 +146,12 @@ count_trace_ran trace (Err (runs.Trace fault)) a b f g k = (k.faults, k.failed)
 count_trace_ran trace (Err runs.Write) a b f g k = (k.faults, k.failed)
 count_trace_ran trace (Err runs.NoMemory) a b f g k = (k.faults, k.failed)
 
-pub exec_ran : (via : Via) (bytes : List ℕ) (r : Result (Unit {0}) RunFault) → IsRunnable via bytes → ExecutesOn via (run_outcome r) bytes
-exec_ran via bytes (Ok done) is = is
-exec_ran via bytes (Err (runs.Trace fault)) is = is
-exec_ran via bytes (Err runs.Write) is = is
-exec_ran via bytes (Err runs.NoMemory) is = tt
+pub exec_ran : (runnable : List ℕ → Type 0) (faulty : List ℕ → TextFault → Type 0) (bytes : List ℕ) (r : Result (Unit {0}) RunFault) → runnable bytes
+    → ExecutesIn runnable faulty (run_outcome r) bytes
+exec_ran runnable faulty bytes (Ok done) is = is
+exec_ran runnable faulty bytes (Err (runs.Trace fault)) is = is
+exec_ran runnable faulty bytes (Err runs.Write) is = is
+exec_ran runnable faulty bytes (Err runs.NoMemory) is = tt
 
 pub run_ran : (via : Via) (job : Job) (bytes : List ℕ) (r : Result (Unit {0}) RunFault) → IsSource job.main bytes → RunsOn via job.main (run_outcome r) bytes
 run_ran via job bytes (Ok done) is = is
@@ -163,87 +159,28 @@ run_ran via job bytes (Err (runs.Trace fault)) is = is
 run_ran via job bytes (Err runs.Write) is = is
 run_ran via job bytes (Err runs.NoMemory) is = tt
 
-pub leaves_ran : (P : Result (Unit {0}) RunFault → Type 0) (s : Sinks) (r : Result (Unit {0}) RunFault) → P r → LeavesRun P s (run_outcome r)
+pub leaves_ran : (P : Result (Unit {0}) RunFault → Type 0) (s : SinkChange) (r : Result (Unit {0}) RunFault) → P r → LeavesRun P s (run_outcome r)
 leaves_ran P s (Ok done) p = p
 leaves_ran P s (Err (runs.Trace fault)) p = p
 leaves_ran P s (Err runs.Write) p = p
 leaves_ran P s (Err runs.NoMemory) p = inr p
 
 -- where a text was run over the trace that was read
-pub exec_left : (via : Via) (content : Content) (trace text : List ℕ) (s : Sinks) (r : Result (Unit {0}) RunFault) (items : List ℕ) → IsHeld content trace items
-    → RunsBy via text items s r → LeavesRun (λ ended. Holds content trace (λ i. RunsBy via text i s ended)) s (run_outcome r)
-exec_left via content trace text s r items held runs =
-    leaves_ran (λ ended. Holds content trace (λ i. RunsBy via text i s ended)) s r (items, held, runs)
+pub text_left : {P : Type 0} (reads : List ℕ → P → Type 0) (given outgoing : P → List (List ℕ)) (shows : P → List Item → List Answer → Type 0)
+    (content : Content) (trace text : List ℕ) (s : SinkChange) (r : Result (Unit {0}) RunFault) (items : List ℕ) → IsHeld content trace items
+    → RunsIn reads given outgoing shows text items s r
+    → LeavesRun (λ ended. Holds content trace (λ i. RunsIn reads given outgoing shows text i s ended)) s (run_outcome r)
+text_left reads given outgoing shows content trace text s r items held runs =
+    leaves_ran (λ ended. Holds content trace (λ i. RunsIn reads given outgoing shows text i s ended)) s r (items, held, runs)
 
 -- where a source was run over it
-pub run_left : (content : Content) (trace : List ℕ) (main : Option (List ℕ)) (bytes : List ℕ) (s : Sinks) (r : Result (Unit {0}) RunFault) (items : List ℕ)
+pub run_left : (content : Content) (trace : List ℕ) (main : Option (List ℕ)) (bytes : List ℕ) (s : SinkChange) (r : Result (Unit {0}) RunFault) (items : List ℕ)
     → IsHeld content trace items → RunsSource main bytes items s r
     → LeavesRun (λ ended. Holds content trace (λ i. RunsSource main bytes i s ended)) s (run_outcome r)
 run_left content trace main bytes s r items held runs =
     leaves_ran (λ ended. Holds content trace (λ i. RunsSource main bytes i s ended)) s r (items, held, runs)
 
 -- ---- the first file is refused
-
-pub text_executes : (bytes : List ℕ) (error : BlifError) → ReadsFault bytes error → ExecutesOn Blif (text_outcome error) bytes
-text_executes bytes blifs.TooLong r = r
-text_executes bytes (blifs.Line number) r = r
-text_executes bytes (blifs.TwoDrivers name) r = r
-text_executes bytes (blifs.NoDriver name) r = r
-text_executes bytes blifs.NoMemory r = tt
-
-pub text_long : (content : Content) (trace : List ℕ) (error : BlifError) → LongTrace content trace (text_outcome error)
-text_long content trace blifs.TooLong = tt
-text_long content trace (blifs.Line number) = tt
-text_long content trace (blifs.TwoDrivers name) = tt
-text_long content trace (blifs.NoDriver name) = tt
-text_long content trace blifs.NoMemory = tt
-
-pub text_counts : (trace : List ℕ) (error : BlifError) (a : ℕ) (f : List ℕ) → CountsTrace trace (text_outcome error) a a f f
-text_counts trace blifs.TooLong a f = (refl, refl)
-text_counts trace (blifs.Line number) a f = (refl, refl)
-text_counts trace (blifs.TwoDrivers name) a f = (refl, refl)
-text_counts trace (blifs.NoDriver name) a f = (refl, refl)
-text_counts trace blifs.NoMemory a f = (refl, refl)
-
-pub text_leaves : (P : Result (Unit {0}) RunFault → Type 0) (s : Sinks) (error : BlifError) → IsUntouched s → LeavesRun P s (text_outcome error)
-text_leaves P s blifs.TooLong u = u
-text_leaves P s (blifs.Line number) u = u
-text_leaves P s (blifs.TwoDrivers name) u = u
-text_leaves P s (blifs.NoDriver name) u = u
-text_leaves P s blifs.NoMemory u = inl u
-
--- the same of a C text
-pub c_text_executes : (bytes : List ℕ) (error : CError) → c_reading.ReadsFault bytes error → ExecutesOn C (c_text_outcome error) bytes
-c_text_executes bytes c_faults.TooLong r = r
-c_text_executes bytes (c_faults.Syntax place) r = r
-c_text_executes bytes (c_faults.Twice name) r = r
-c_text_executes bytes (c_faults.Undeclared name) r = r
-c_text_executes bytes (c_faults.Unset name) r = r
-c_text_executes bytes c_faults.NoMemory r = tt
-
-pub c_text_long : (content : Content) (trace : List ℕ) (error : CError) → LongTrace content trace (c_text_outcome error)
-c_text_long content trace c_faults.TooLong = tt
-c_text_long content trace (c_faults.Syntax place) = tt
-c_text_long content trace (c_faults.Twice name) = tt
-c_text_long content trace (c_faults.Undeclared name) = tt
-c_text_long content trace (c_faults.Unset name) = tt
-c_text_long content trace c_faults.NoMemory = tt
-
-pub c_text_counts : (trace : List ℕ) (error : CError) (a : ℕ) (f : List ℕ) → CountsTrace trace (c_text_outcome error) a a f f
-c_text_counts trace c_faults.TooLong a f = (refl, refl)
-c_text_counts trace (c_faults.Syntax place) a f = (refl, refl)
-c_text_counts trace (c_faults.Twice name) a f = (refl, refl)
-c_text_counts trace (c_faults.Undeclared name) a f = (refl, refl)
-c_text_counts trace (c_faults.Unset name) a f = (refl, refl)
-c_text_counts trace c_faults.NoMemory a f = (refl, refl)
-
-pub c_text_leaves : (P : Result (Unit {0}) RunFault → Type 0) (s : Sinks) (error : CError) → IsUntouched s → LeavesRun P s (c_text_outcome error)
-c_text_leaves P s c_faults.TooLong u = u
-c_text_leaves P s (c_faults.Syntax place) u = u
-c_text_leaves P s (c_faults.Twice name) u = u
-c_text_leaves P s (c_faults.Undeclared name) u = u
-c_text_leaves P s (c_faults.Unset name) u = u
-c_text_leaves P s c_faults.NoMemory u = inl u
 
 pub refused_runs : (via : Via) (job : Job) (refusal : refused.Refusal) (source : List ℕ) → length source ≤ SOURCE_BYTES → IsRefused source job.main refusal
     → RunsOn via job.main (outcome_of refusal) source
@@ -285,7 +222,7 @@ refused_counts trace (refusals.Cyclic cycle) a f = (refl, refl)
 refused_counts trace (refusals.Limit quantity) a f = (refl, refl)
 refused_counts trace refusals.NoMemory a f = (refl, refl)
 
-pub refused_leaves_run : (P : Result (Unit {0}) RunFault → Type 0) (s : Sinks) (refusal : refused.Refusal) → IsUntouched s
+pub refused_leaves_run : (P : Result (Unit {0}) RunFault → Type 0) (s : SinkChange) (refusal : refused.Refusal) → IsUntouched s
     → LeavesRun P s (outcome_of refusal)
 refused_leaves_run P s (refusals.Static fault) u = u
 refused_leaves_run P s (refusals.Cyclic cycle) u = u

@@ -12,7 +12,9 @@ use Rattle.est_base.specs.Items.{EachEvent}
 use Rattle.est_kernel.specs.Plain.{Program, given_count, given_names}
 use Rattle.blif_text.specs.Written.{Means, net_word, net_latch, gate_word}
 use Rattle.blif_text.specs.Written as written
-use Rattle.csub_text.specs.Machine.{memories}
+use Rattle.blif_text.specs.Runs.{circuit_machine}
+use Rattle.csub_text.specs.Machine.{first_memory, call, memories, program_machine}
+use Rattle.machines.proofs.Showing.{computed-only}
 use Rattle.csub_text.specs.Written as meant
 use Rattle.csub_text.specs.Written.{gate_name, gate_names, net_state}
 use Rattle.net_ir.specs.Runs.{net_values_run}
@@ -35,7 +37,8 @@ use Rattle.net_ir.specs.declared.netlist.Gate.{Gate}
 use Rattle.net_ir.specs.Gates.{carried, value_in}
 use Rattle.net_ir.specs.Netlists.{Netlist, first_gate, net_count, wire_at}
 use Rattle.cec_core.specs.Cycles.{IsAcyclic}
-use Rattle.cec_core.specs.Meaning.{wire_word, wire_variable, TellsWires, NamesWires, HoldsWires}
+use Rattle.cec_core.specs.WireNames.{wire_word, wire_variable, TellsWires, WiresTold, NamesWires}
+use Rattle.cec_core.specs.Meaning.{AreItems}
 use Rattle.cec_core.proofs.Keeping.{widths}
 
 -- ---- the gate of a wire
@@ -164,30 +167,32 @@ module _ (g : Graph) (p : Program) (net : Netlist) (is : IsGraphOf g p)
   )
 
   pub holds_wires : HasExitCodes p.body → IsAcyclic p → HasInterfaceOf g net → FollowsRuns g net → (text : List ℕ) → (means : meant.Means text net) →
-      given_count p ≡ length net.inputs → HoldsWires means.program p
+      given_count p ≡ length net.inputs → NamesWires (program_machine means.program) (length means.program.states) wire_variable p
   holds_wires kernel acyclic interface follows text means wide = record {
-    states =
+    stored =
         ap length means.states ∙ length-numbered net_state 0 net.latches ∙ latch_count interface;
-    wires = λ items fits.
+    wires = λ items fits ms called.
+        let c = means.program in
         let events = widths p (given_count p) refl items fits in
         let one = graph_runs_exist_lem p acyclic.rank kernel acyclic.up Initial items in
         let run = one.0.1 in
         let followed =
         follows items one.0.0 (subst (λ q. EachEvent (λ event. length event ≡ given_count q) items) (sym is.program) events)
         (subst (λ h. IsGraphRun h Initial items one.0.0) (sym is.graph) run) in
-        record {
+        let are = computed-only (first_memory c.states) (λ m inputs. call c inputs m) (λ m inputs behind. behind) (first_memory c.states) items ms called in
+        subst (λ l. WiresTold wire_variable p items l) (sym are) (record {
           run = one.0.0;
           is_run = run;
           told = told-calls (memories means.program items) (net_values_run net items) one.0.0
               (means.nets items (widths p (length net.inputs) wide items fits)) followed.carries;
-        };
+        });
   }
 
   pub names_wires : HasExitCodes p.body → IsAcyclic p → HasInterfaceOf g net → FollowsRuns g net → (text : List ℕ) → (means : Means text net) →
       net.inputs ≡ given_names p
-      → given_count p ≡ length net.inputs → NamesWires means.circuit p
+      → given_count p ≡ length net.inputs → NamesWires (circuit_machine means.circuit) (length means.circuit.latches) wire_word p
   names_wires kernel acyclic interface follows text means inputs wide = record {
-    latches =
+    stored =
         ap length means.latches ∙ length-numbered (net_latch net) 0 net.latches ∙ latch_count interface;
     wires = λ items fits valuations is_run.
         let events = widths p (given_count p) refl items fits in

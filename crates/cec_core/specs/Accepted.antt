@@ -6,7 +6,7 @@ use Rattle.est_base.specs.Relations.{Relation}
 use Rattle.est_gen.specs.Sources.{source_text}
 use Rattle.est_kernel.specs.Plain.{given_names}
 use Rattle.trace_io.specs.Answers.{IsTrace, beginning}
-use Rattle.trace_run_c.specs.CAnswers.{bare_inputs}
+use Rattle.csub_run.specs.ProgramAnswers.{bare_inputs}
 use Rattle.cec_words.specs.declared.asked.Via.{Via}
 use Rattle.cec_words.specs.declared.asked.Via.TheVariants.{Blif, C}
 use Rattle.cec_core.specs.ExecTexts.{IsRunnable}
@@ -27,7 +27,7 @@ pub record RunsToEnd (via : Via) (main : Option (List ℕ)) (bytes trace : List 
 
 -- the names of the inputs of a text that can be run
 abbrev pub inputs_by : (via : Via) (bytes : List ℕ) → IsRunnable via bytes → List (List ℕ)
-inputs_by Blif bytes text = text.circuit.inputs
+inputs_by Blif bytes text = text.program.inputs
 inputs_by C bytes text = bare_inputs text.program
 
 -- The text can be run, and the trace is one of it.

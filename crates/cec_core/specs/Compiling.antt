@@ -22,6 +22,7 @@ use Rattle.blif_text.specs.Written as blif_texts
 use Rattle.csub_text.specs.Written as c_texts
 use Rattle.cec_front.specs.Sources.{StandsFor}
 use Rattle.cec_core.specs.Meaning.{TextKeeps, CTextKeeps}
+use Rattle.cec_core.specs.WireNames.{TextNames, CTextNames}
 use Rattle.cec_core.specs.NetMeaning.{NetKeeps}
 use Rattle.cec_core.specs.Refusals.{Compiles}
 use Rattle.cec_core.specs.declared.compiler.Compiled.{Compiled}
@@ -81,12 +82,14 @@ pub record StandsForText (text : List ℕ) (main : Option (List ℕ)) (written :
   pub source : StandsFor text main program
   pub compiles : Compiles program
   pub keeps : TextKeeps written program
+  pub names : TextNames written program
 
 pub record StandsForC (text : List ℕ) (main : Option (List ℕ)) (written : List ℕ) : Type 0 where
   pub program : Program
   pub source : StandsFor text main program
   pub compiles : Compiles program
   pub keeps : CTextKeeps written program
+  pub names : CTextNames written program
 
 -- The text is that of a compiled program's netlist, from the same bytes: it has a table for each gate, in the order of
 -- the gates, and a gate that carries a wire is named by it.

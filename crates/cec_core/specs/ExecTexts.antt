@@ -1,41 +1,42 @@
 -- To believe: texts that `exec` runs, or refuses, by the form that the words name.
-use Rattle.std.specs.Prelude.{◌≡◌, ℕ, ◌≤◌, List, length, Result, Ok}
+use Rattle.std.specs.Prelude.{◌≡◌, ℕ, ◌≤◌, List, length, Result}
 use Rattle.est_base.specs.declared.bounds.TheConstants.Limits.{TEXT_BYTES}
-use Rattle.blif_run.specs.Loops.{HasNoLoop}
-use Rattle.blif_text.specs.Circuits.{Circuit, reading}
+use Rattle.est_base.specs.SinkChanges.{SinkChange}
+use Rattle.blif_run.specs.CircuitAnswers.{listed_names, circuit_shows}
+use Rattle.blif_run.specs.Texts as circuits
+use Rattle.blif_run.specs.Texts.{ReadsCircuit}
 use Rattle.cec_words.specs.declared.asked.Via.{Via}
 use Rattle.cec_words.specs.declared.asked.Via.TheVariants.{Blif, C}
 use Rattle.csub_read.specs.Faults.{ReadsAs}
-use Rattle.csub_text.specs.Trees.{Program}
-use Rattle.trace_run.specs.declared.executing.TextFault.{TextFault}
+use Rattle.csub_run.specs.ProgramAnswers.{bare_inputs, bare_outputs, program_shows}
+use Rattle.csub_run.specs.Texts as programs
 use Rattle.trace_run.specs.declared.running.RunFault.{RunFault}
-use Rattle.trace_run.specs.Executing.{IsTextFault, RunsText}
-use Rattle.trace_run.specs.Running.{Sinks}
-use Rattle.trace_run_c.specs.CExecuting.{IsCTextFault, RunsCText}
+use Rattle.trace_run.specs.Languages.{RunsIn}
+use Rattle.cec_core.specs.declared.text_faults.TextFault.{TextFault}
+use Rattle.cec_core.specs.declared.text_faults.TextFault.TheVariants as texts
 
--- the bytes describe a circuit without a combinational cycle
-pub record IsCircuitText (bytes : List ℕ) : Type 0 where
-  pub circuit : Circuit
+-- the bytes have a reading in a language, and are no more than can be read
+pub record IsTextIn {P : Type 0} (reads : List ℕ → P → Type 0) (bytes : List ℕ) : Type 0 where
+  pub program : P
   pub within : length bytes ≤ TEXT_BYTES
-  pub reads : reading bytes ≡ Ok circuit
-  pub acyclic : HasNoLoop circuit
+  pub read : reads bytes program
 
--- the bytes describe a program of the C subset
-pub record IsProgramText (bytes : List ℕ) : Type 0 where
-  pub program : Program
-  pub reads : ReadsAs bytes program
+-- the first fault of a text is one of its language, which is told so
+abbrev pub IsFaultIn : {F : Type 0} → (List ℕ → F → Type 0) → (F → TextFault → Type 0) → List ℕ → TextFault → Type 0
+IsFaultIn {F} faulty told bytes fault = (own : F) × faulty bytes own × told own fault
 
 -- a text that can be run
 abbrev pub IsRunnable : Via → List ℕ → Type 0
-IsRunnable Blif bytes = IsCircuitText bytes
-IsRunnable C bytes = IsProgramText bytes
+IsRunnable Blif bytes = IsTextIn ReadsCircuit bytes
+IsRunnable C bytes = IsTextIn ReadsAs bytes
 
 -- the first fault of a text
 abbrev pub HasFault : Via → List ℕ → TextFault → Type 0
-HasFault Blif bytes fault = IsTextFault bytes fault
-HasFault C bytes fault = IsCTextFault bytes fault
+HasFault Blif bytes fault = IsFaultIn circuits.IsTextFault (λ own told. told ≡ texts.Blif own) bytes fault
+HasFault C bytes fault = IsFaultIn programs.IsTextFault (λ own told. told ≡ texts.C own) bytes fault
 
 -- a text is run over a trace, by its own meaning alone
-abbrev pub RunsBy : Via → (bytes trace : List ℕ) → Sinks → Result (Unit {0}) RunFault → Type 0
-RunsBy Blif bytes trace s result = RunsText bytes trace s result
-RunsBy C bytes trace s result = RunsCText bytes trace s result
+abbrev pub RunsBy : Via → (bytes trace : List ℕ) → SinkChange → Result (Unit {0}) RunFault → Type 0
+RunsBy Blif bytes trace s result =
+    RunsIn ReadsCircuit (λ c. c.inputs) (λ c. listed_names c.outputs) circuit_shows bytes trace s result
+RunsBy C bytes trace s result = RunsIn ReadsAs bare_inputs bare_outputs program_shows bytes trace s result

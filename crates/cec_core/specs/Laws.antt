@@ -1,7 +1,7 @@
 -- To believe: laws of what is refused, and of what is done.
 use Rattle.std.specs.Prelude.{◌≡◌, ◌⊎◌, ℕ, List, Option, Some}
 use Rattle.est_base.specs.Faults.{Rose}
-use Rattle.trace_run.specs.Running.{Sinks}
+use Rattle.est_base.specs.SinkChanges.{SinkChange}
 use Rattle.cec_core.specs.declared.outcome.Outcome.{Outcome}
 use Rattle.cec_core.specs.declared.outcome.Outcome.TheVariants as outcomes
 use Rattle.cec_core.specs.declared.refusal.Refusal.{Refusal}
@@ -23,7 +23,7 @@ CompilingSourcesAreNotRefused =
 abbrev pub AcceptedRequestsAreDone : Type 0
 AcceptedRequestsAreDone =
     (request : Request) (held : List ℕ → List ℕ) (outcome : Outcome) (before now : ℕ)
-    → (failed_before failed_now : List ℕ) (s : Sinks) → IsAccepted request held
+    → (failed_before failed_now : List ℕ) (s : SinkChange) → IsAccepted request held
     → Agrees (Some request) (Some held) outcome
     → CountsFiles (Some request) outcome before now failed_before failed_now → (Rose before now → ⊥)
     → GainsOut (Some request) (Some held) outcome s → (Rose s.faults_before s.faults_now → ⊥)

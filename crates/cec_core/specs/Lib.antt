@@ -1,4 +1,5 @@
 pub mod Meaning
+pub mod WireNames
 pub mod NetMeaning
 pub mod Limits
 pub mod Cycles

@@ -6,8 +6,12 @@ use Rattle.est_gen.specs.Sources.{source_text}
 use Rattle.grc_graph.specs.PlainWireNames.{wire_name_of}
 use Rattle.trace_io.specs.declared.faults.TraceFault.{TraceFault}
 use Rattle.trace_io.specs.declared.faults.TraceFault.TheVariants as traces
-use Rattle.trace_run.specs.declared.executing.TextFault.{TextFault}
-use Rattle.trace_run.specs.declared.executing.TextFault.TheVariants as texts
+use Rattle.blif_run.specs.declared.language.TextFault as circuits
+use Rattle.blif_run.specs.declared.language.TextFault.TheVariants.{Line, TwoDrivers, NoDriver, Loop}
+use Rattle.csub_run.specs.declared.language.TextFault as programs
+use Rattle.csub_run.specs.declared.language.TextFault.TheVariants.{Syntax, Twice, Undeclared, Unset}
+use Rattle.cec_core.specs.declared.text_faults.TextFault.{TextFault}
+use Rattle.cec_core.specs.declared.text_faults.TextFault.TheVariants as texts
 use Rattle.cec_front.specs.Lines.{fault_text}
 use Rattle.cec_core.specs.declared.outcome.Outcome.{Outcome}
 use Rattle.cec_core.specs.declared.outcome.Outcome.TheVariants.{Done, Usage, FileFault, Static, Cyclic, Trace, BadText}
@@ -61,15 +65,22 @@ abbrev pub joined_names : List (List ℕ) → List ℕ
 joined_names [] = []
 joined_names (name ∷ names) = name ++ flat_map (λ n. codes " -> " ++ n) names
 
+abbrev pub circuit_fault_text : circuits.TextFault → List ℕ
+circuit_fault_text (Line number) = codes "line " ++ (decimal number ++ codes ": not in the profile")
+circuit_fault_text (TwoDrivers name) = codes "two drivers: " ++ name
+circuit_fault_text (NoDriver name) = codes "no driver: " ++ name
+circuit_fault_text (Loop names) = codes "loop: " ++ joined_names names.items
+
+abbrev pub program_fault_text : programs.TextFault → List ℕ
+program_fault_text (Syntax place) = codes "byte " ++ (decimal place ++ codes ": syntax")
+program_fault_text (Twice name) = codes "declared twice: " ++ name
+program_fault_text (Undeclared name) = codes "undeclared: " ++ name
+program_fault_text (Unset name) = codes "unset: " ++ name
+
+-- a fault of a text, by its language
 abbrev pub text_fault_text : TextFault → List ℕ
-text_fault_text (texts.Line number) = codes "line " ++ (decimal number ++ codes ": not in the profile")
-text_fault_text (texts.TwoDrivers name) = codes "two drivers: " ++ name
-text_fault_text (texts.NoDriver name) = codes "no driver: " ++ name
-text_fault_text (texts.Loop names) = codes "loop: " ++ joined_names names.items
-text_fault_text (texts.Syntax place) = codes "byte " ++ (decimal place ++ codes ": syntax")
-text_fault_text (texts.Twice name) = codes "declared twice: " ++ name
-text_fault_text (texts.Undeclared name) = codes "undeclared: " ++ name
-text_fault_text (texts.Unset name) = codes "unset: " ++ name
+text_fault_text (texts.Blif fault) = circuit_fault_text fault
+text_fault_text (texts.C fault) = program_fault_text fault
 
 -- what is said of an outcome
 abbrev pub said_of : Subject → Outcome → List ℕ

@@ -7,8 +7,9 @@ use Rattle.net_ir.specs.Netlists.{Netlist}
 use Rattle.net_ir.specs.Runs.{net_run}
 use Rattle.trace_io.specs.declared.lines.Word.{Word}
 use Rattle.trace_io.specs.declared.lines.Word.TheVariants.{Paused, Ended, Bare}
-use Rattle.trace_run.specs.Machines.{Answer, Drives}
-use Rattle.trace_run.specs.NetRuns.{shown_answer}
+use Rattle.trace_run.specs.Machines.{Answer, Answered}
+use Rattle.trace_run.specs.Steps.{Led}
+use Rattle.trace_run.specs.Languages.{shown_answer}
 use Rattle.cec_core.specs.declared.commands.load.Counts.{Counts}
 
 -- how many outgoing signals are present in some instants
@@ -31,17 +32,18 @@ pub record CountsOf (answers : List Answer) (c : Counts) : Type 0 where
   pub emitted : c.emitted ≡ present_count answers
   pub paused : c.paused ≡ pause_count answers
 
--- the counts are those of what a machine answers to items, from one state to another
-abbrev pub CountsMachine : {S : Type 0} → (S → List Bool → Answer → S → Type 0) → (S → S → Type 0) → S → S → List Item →
-    Counts → Type 0
-CountsMachine reacts resets old new items c = (answers : List Answer) × Drives reacts resets old items answers new
-    × CountsOf answers c
+-- a machine showed answers to items on its way to a later state, and the counts are theirs
+pub record CountsMachine {S : Type 0} (shows : S → List Item → List Answer → Type 0) (old new : S) (items : List Item)
+    (c : Counts) : Type 0 where
+  pub answers : List Answer
+  pub led : Led shows old items answers new
+  pub counts : CountsOf answers c
 
 -- a machine reacts once, and this is what its answer adds to counts
-pub record CountsMore {S : Type 0} (reacts : S → List Bool → Answer → S → Type 0) (old : S) (event : List Bool)
+pub record CountsMore {S : Type 0} (shows : S → List Item → List Answer → Type 0) (old : S) (event : List Bool)
     (new : S) (before now : Counts) : Type 0 where
   pub answer : Answer
-  pub react : reacts old event answer new
+  pub answered : Answered shows old event answer new
   pub emitted : now.emitted ≡ before.emitted + count_by (λ b. b) answer.present
   pub few : count_by (λ b. b) answer.present ≤ 8
   pub paused : now.paused ≡ before.paused + pause_of answer.word

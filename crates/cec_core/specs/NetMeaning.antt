@@ -8,8 +8,8 @@ use Rattle.net_ir.specs.Runs.{Shown, net_run}
 use Rattle.cec_core.specs.Meaning.{AreItems}
 
 -- what is seen of an answer of the semantics: code 1 is a pause
-abbrev pub seen_of : Answer → Shown
-seen_of a = record { outputs = a.outputs; paused = a.code == 1 }
+abbrev pub net_seen : Answer → Shown
+net_seen a = record { outputs = a.outputs; paused = a.code == 1 }
 
 -- Over every list of items the program's reactions are constructive, and a netlist shows in each instant
 -- their outgoing signals, and `paused` exactly where the completion code is 1.
@@ -18,4 +18,4 @@ pub record NetKeeps (net : Netlist) (p : Program) : Type 0 where
   pub inputs : net.inputs ≡ given_names p
   pub outputs : output_names net ≡ outgoing_names p
   pub runs : (items : List Item) → AreItems p items →
-      (answers : List Answer) × (run_of p items ≡ Some answers) × (net_run net items ≡ map seen_of answers)
+      (answers : List Answer) × (run_of p items ≡ Some answers) × (net_run net items ≡ map net_seen answers)

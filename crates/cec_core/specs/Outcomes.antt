@@ -5,7 +5,7 @@ use Rattle.est_base.specs.Faults.{Rose}
 use Rattle.est_base.specs.Writing.{Appends, Stops, GainsFront}
 use Rattle.est_gen.specs.Sources.{source_text}
 use Rattle.cec_words.specs.declared.asked.Via.{Via}
-use Rattle.trace_run.specs.Running.{Sinks}
+use Rattle.est_base.specs.SinkChanges.{SinkChange}
 use Rattle.cec_core.specs.declared.jobs.Task.{Task}
 use Rattle.cec_core.specs.declared.jobs.Task.TheVariants.{Blif, C, Grc, Check}
 use Rattle.cec_core.specs.declared.outcome.Outcome.{Outcome}
@@ -13,6 +13,7 @@ use Rattle.cec_core.specs.declared.outcome.Outcome.TheVariants.{Done, Usage, Fil
 use Rattle.cec_core.specs.declared.outcome.Outcome.TheVariants.{Limit, WriteFault, NoMemory}
 use Rattle.cec_core.specs.declared.outcome.Which.{Which}
 use Rattle.cec_core.specs.declared.outcome.Which.TheVariants.{First, Second}
+use Rattle.cec_core.specs.declared.text_faults.TextFault.{TextFault}
 use Rattle.cec_core.specs.declared.refusal.Limit.TheVariants as limits
 use Rattle.cec_core.specs.declared.refusal.Refusal.TheVariants as refusals
 use Rattle.cec_core.specs.Answers.{IsAnswer}
@@ -45,17 +46,20 @@ RunsOn via main (Limit limits.Trace) bytes = IsSource main bytes
 RunsOn via main (Limit limits.Text) bytes = WritesLongText via main bytes
 RunsOn via main others bytes = MakesOn main others bytes
 
--- what the outcome of `exec` on a text that was read says of its bytes
+-- what the outcome of `exec` on a text that was read says of its bytes, by which texts can be run and by their faults
+abbrev pub ExecutesIn : (List ℕ → Type 0) → (List ℕ → TextFault → Type 0) → Outcome → List ℕ → Type 0
+ExecutesIn runnable faulty Done bytes = runnable bytes
+ExecutesIn runnable faulty (FileFault Second) bytes = runnable bytes
+ExecutesIn runnable faulty (Trace fault) bytes = runnable bytes
+ExecutesIn runnable faulty (BadText fault) bytes = (length bytes ≤ TEXT_BYTES) × faulty bytes fault
+ExecutesIn runnable faulty (Limit limits.Text) bytes = TEXT_BYTES < length bytes
+ExecutesIn runnable faulty (Limit limits.Trace) bytes = runnable bytes
+ExecutesIn runnable faulty WriteFault bytes = runnable bytes
+ExecutesIn runnable faulty NoMemory bytes = ⊤
+ExecutesIn runnable faulty others bytes = ⊥
+
 abbrev pub ExecutesOn : Via → Outcome → List ℕ → Type 0
-ExecutesOn via Done bytes = IsRunnable via bytes
-ExecutesOn via (FileFault Second) bytes = IsRunnable via bytes
-ExecutesOn via (Trace fault) bytes = IsRunnable via bytes
-ExecutesOn via (BadText fault) bytes = (length bytes ≤ TEXT_BYTES) × HasFault via bytes fault
-ExecutesOn via (Limit limits.Text) bytes = TEXT_BYTES < length bytes
-ExecutesOn via (Limit limits.Trace) bytes = IsRunnable via bytes
-ExecutesOn via WriteFault bytes = IsRunnable via bytes
-ExecutesOn via NoMemory bytes = ⊤
-ExecutesOn via others bytes = ⊥
+ExecutesOn via outcome bytes = ExecutesIn (IsRunnable via) (HasFault via) outcome bytes
 
 abbrev pub IsLongTrace : List ℕ → Type 0
 IsLongTrace bytes = TRACE_BYTES < length bytes
@@ -112,20 +116,20 @@ CountsFiles (Some request) others before now failed_before failed_now = (now ≡
 -- ---- what `out` gained
 
 -- the whole text, with no fault; a prefix of it, after a fault; after every other outcome nothing
-abbrev pub LeavesText : (List ℕ → Type 0) → Sinks → Outcome → Type 0
+abbrev pub LeavesText : (List ℕ → Type 0) → SinkChange → Outcome → Type 0
 LeavesText IsText s Done = (text : List ℕ) × IsText text × Appends s.before s.after s.faults_before s.faults_now text
 LeavesText IsText s WriteFault = (text : List ℕ) × IsText text
     × Stops s.before s.after s.faults_before s.faults_now text
 LeavesText IsText s others = Appends s.before s.after s.faults_before s.faults_now []
 
 -- A text that is written piece by piece: where memory is wanting between two pieces, a prefix of it is there.
-abbrev pub LeavesPieces : (List ℕ → Type 0) → Sinks → Outcome → Type 0
+abbrev pub LeavesPieces : (List ℕ → Type 0) → SinkChange → Outcome → Type 0
 LeavesPieces IsText s NoMemory = Appends s.before s.after s.faults_before s.faults_now []
     ⊎ ((text : List ℕ) × IsText text × (s.faults_now ≡ s.faults_before) × GainsFront s.before s.after text)
 LeavesPieces IsText s others = LeavesText IsText s others
 
 -- netlists are written piece by piece, what is told of a graph as a whole
-abbrev pub LeavesAnswer : Task → (List ℕ → Type 0) → Sinks → Outcome → Type 0
+abbrev pub LeavesAnswer : Task → (List ℕ → Type 0) → SinkChange → Outcome → Type 0
 LeavesAnswer Blif IsText s outcome = LeavesPieces IsText s outcome
 LeavesAnswer C IsText s outcome = LeavesPieces IsText s outcome
 LeavesAnswer Grc IsText s outcome = LeavesText IsText s outcome
@@ -136,7 +140,7 @@ abbrev pub IsTextOf : Task → Job → Content → List ℕ → Type 0
 IsTextOf task job content text = Holds content job.name (λ bytes. IsAnswer task job.main bytes text)
 
 -- What `out` gained, by the command: its whole text, or the lines of a run.
-abbrev pub GainsOut : Option Request → Content → Outcome → Sinks → Type 0
+abbrev pub GainsOut : Option Request → Content → Outcome → SinkChange → Type 0
 GainsOut None content outcome s = Appends s.before s.after s.faults_before s.faults_now []
 GainsOut (Some Help) content outcome s = LeavesText (λ text. text ≡ help_text) s outcome
 GainsOut (Some (Make task job)) content outcome s = LeavesAnswer task (IsTextOf task job content) s outcome

@@ -7,10 +7,11 @@ use Rattle.est_kernel.specs.Reactions.{Answer, run_of}
 use Rattle.trace_io.specs.Answers.{beginning}
 use Rattle.trace_run.specs.declared.running.RunFault.{RunFault}
 use Rattle.trace_run.specs.declared.running.RunFault.TheVariants as runs
-use Rattle.trace_run.specs.BlifAnswers.{word_of}
-use Rattle.trace_run.specs.Executing.{IsUntouched}
+use Rattle.trace_run.specs.Languages.{word_of}
+use Rattle.est_base.specs.SinkChanges.{IsUntouched}
 use Rattle.trace_run.specs.Machines as machines
-use Rattle.trace_run.specs.Running.{Sinks, RunsTrace}
+use Rattle.est_base.specs.SinkChanges.{SinkChange}
+use Rattle.trace_run.specs.Running.{RunsTrace}
 use Rattle.cec_front.specs.Sources.{StandsFor}
 use Rattle.cec_core.specs.declared.outcome.Outcome.{Outcome}
 use Rattle.cec_core.specs.declared.outcome.Outcome.TheVariants.{Done, Trace, WriteFault, NoMemory}
@@ -28,7 +29,7 @@ pub record ShowsRun (p : Program) (items : List Item) (text : List ℕ) : Type 0
 
 -- The compiler-correctness theorem for `run`: the bytes stand for a program that compiles, and what the trace brings
 -- about is the lines of the program's run over its items.
-pub record RunsSource (main : Option (List ℕ)) (bytes trace : List ℕ) (s : Sinks)
+pub record RunsSource (main : Option (List ℕ)) (bytes trace : List ℕ) (s : SinkChange)
     (result : Result (Unit {0}) RunFault) : Type 0 where
   pub program : Program
   pub short : length bytes ≤ SOURCE_BYTES
@@ -40,7 +41,7 @@ pub record RunsSource (main : Option (List ℕ)) (bytes trace : List ℕ) (s : S
 -- items of the trace; after its first fault, that of the items before; after a failed write or for want of memory a
 -- prefix.
 -- Where nothing was run, `out` is as it was.
-abbrev pub LeavesRun : (Result (Unit {0}) RunFault → Type 0) → Sinks → Outcome → Type 0
+abbrev pub LeavesRun : (Result (Unit {0}) RunFault → Type 0) → SinkChange → Outcome → Type 0
 LeavesRun Ran s Done = Ran (Ok tt)
 LeavesRun Ran s (Trace fault) = Ran (Err (runs.Trace fault))
 LeavesRun Ran s WriteFault = Ran (Err runs.Write)

@@ -6,14 +6,9 @@ use Rattle.est_base.specs.declared.files.reading.FileFault.{FileFault}
 use Rattle.est_base.specs.declared.files.reading.FileFault.TheVariants as reading
 use Rattle.trace_run.specs.declared.running.RunFault.{RunFault}
 use Rattle.trace_run.specs.declared.running.RunFault.TheVariants as runs
-use Rattle.blif_text.specs.declared.refusal.BlifError.{BlifError}
-use Rattle.blif_text.specs.declared.refusal.BlifError.TheVariants as blifs
-use Rattle.csub_read.specs.declared.refusal.CError.{CError}
-use Rattle.csub_read.specs.declared.refusal.CError.TheVariants as c_faults
-use Rattle.trace_run.specs.declared.executing.TextFault.TheVariants as texts
 use Rattle.cec_core.specs.declared.lines.Subject as lines
 use Rattle.cec_core.specs.declared.outcome.Outcome.{Outcome}
-use Rattle.cec_core.specs.declared.outcome.Outcome.TheVariants.{Done, FileFault as Unread, Trace, BadText, Limit}
+use Rattle.cec_core.specs.declared.outcome.Outcome.TheVariants.{Done, FileFault as Unread, Trace, Limit}
 use Rattle.cec_core.specs.declared.outcome.Outcome.TheVariants.{WriteFault, NoMemory}
 use Rattle.cec_core.specs.declared.outcome.Which.{Which}
 use Rattle.cec_core.specs.declared.outcome.Which.TheVariants.{First, Second}
@@ -39,22 +34,6 @@ run_outcome (Ok done) = Done
 run_outcome (Err (runs.Trace fault)) = Trace fault
 run_outcome (Err runs.Write) = WriteFault
 run_outcome (Err runs.NoMemory) = NoMemory
-
--- the outcome where a text is not read
-abbrev pub text_outcome : BlifError → Outcome
-text_outcome blifs.TooLong = Limit limits.Text
-text_outcome (blifs.Line number) = BadText (texts.Line number)
-text_outcome (blifs.TwoDrivers name) = BadText (texts.TwoDrivers name)
-text_outcome (blifs.NoDriver name) = BadText (texts.NoDriver name)
-text_outcome blifs.NoMemory = NoMemory
-
-abbrev pub c_text_outcome : CError → Outcome
-c_text_outcome c_faults.TooLong = Limit limits.Text
-c_text_outcome (c_faults.Syntax place) = BadText (texts.Syntax place)
-c_text_outcome (c_faults.Twice name) = BadText (texts.Twice name)
-c_text_outcome (c_faults.Undeclared name) = BadText (texts.Undeclared name)
-c_text_outcome (c_faults.Unset name) = BadText (texts.Unset name)
-c_text_outcome c_faults.NoMemory = NoMemory
 
 -- a read of the trace is the only one that may have failed
 abbrev pub CountsTrace : List ℕ → Outcome → ℕ → ℕ → List ℕ → List ℕ → Type 0

@@ -2,6 +2,7 @@
 
 ghost use Rattle.std.specs.Prelude.{◌≡◌, ◌↔◌, map, Some, None};
 ghost use Rattle.std.specs.String.{string_bytes};
+ghost use Rattle.est_base.specs.SinkChanges.{change};
 ghost use Rattle.cec_core.specs.Jobs.{request_by};
 ghost use Rattle.cec_core.specs.JobViews.{plain_request};
 ghost use Rattle.cec_core.specs.Lines.{GainsErr};
@@ -53,12 +54,7 @@ pub fn cec<F: Files, O: Sink, E: Sink>(
         (F.faults files.old) (F.faults files.new) (F.last_failed files.old) (F.last_failed files.new) }
     ensures files_stay { F.content files.new ≡ F.content files.old }
     ensures out { GainsOut (request_by (map string_bytes words.now)) (F.content files.old) result
-        (record {
-          before = O.told out.old;
-          after = O.told out.new;
-          faults_before = O.faults out.old;
-          faults_now = O.faults out.new;
-        }) }
+        (change O.told O.faults out.old out.new) }
     ensures err { GainsErr (request_by (map string_bytes words.now)) (F.content files.old) result
         (E.told err.old) (E.told err.new) (E.faults err.old) (E.faults err.new) }
 {
@@ -84,12 +80,7 @@ fn do_request<F: Files, O: Sink, E: Sink>(
         (F.faults files.old) (F.faults files.new) (F.last_failed files.old) (F.last_failed files.new) }
     ensures files_stay { F.content files.new ≡ F.content files.old }
     ensures out { GainsOut (Some (plain_request request.entry)) (F.content files.old) result
-        (record {
-          before = O.told out.old;
-          after = O.told out.new;
-          faults_before = O.faults out.old;
-          faults_now = O.faults out.new;
-        }) }
+        (change O.told O.faults out.old out.new) }
     ensures err { GainsErr (Some (plain_request request.entry)) (F.content files.old) result
         (E.told err.old) (E.told err.new) (E.faults err.old) (E.faults err.new) }
 {

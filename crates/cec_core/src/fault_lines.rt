@@ -2,12 +2,15 @@
 
 ghost use Rattle.std.specs.Prelude.{◌++◌, codes, decimal, flat_map};
 ghost use Rattle.est_base.specs.Writing.{Wrote};
-ghost use Rattle.cec_core.specs.Lines.{joined_names, text_fault_text, trace_text};
+ghost use Rattle.cec_core.specs.Lines.{circuit_fault_text, joined_names, program_fault_text, text_fault_text};
+ghost use Rattle.cec_core.specs.Lines.{trace_text};
 
+use crate::text_faults::TextFault;
+use blif_run::TextFault as CircuitFault;
+use csub_run::TextFault as ProgramFault;
 use est_base::{Sink, SinkFault, Text, write_pieces};
 use itoa::Buffer;
 use trace_io::TraceFault;
-use trace_run::TextFault;
 
 /// The line of a fault of a trace.
 pub(crate) fn put_trace_fault<E: Sink>(err: &mut E, fault: &TraceFault) -> Result<(), SinkFault>
@@ -74,24 +77,44 @@ pub(crate) fn put_text_fault<E: Sink>(err: &mut E, fault: &TextFault) -> Result<
         (codes "cec: " ++ (text_fault_text fault.now ++ codes "\n")) result }
 {
     match fault {
-        TextFault::Line(number) => {
+        TextFault::Blif(fault) => put_circuit_fault(err, fault),
+        TextFault::C(fault) => put_program_fault(err, fault),
+    }
+}
+
+// The line of a fault of a BLIF text.
+fn put_circuit_fault<E: Sink>(err: &mut E, fault: &CircuitFault) -> Result<(), SinkFault>
+    ensures { Wrote (E.told err.old) (E.told err.new) (E.faults err.old) (E.faults err.new)
+        (codes "cec: " ++ (circuit_fault_text fault.now ++ codes "\n")) result }
+{
+    match fault {
+        CircuitFault::Line(number) => {
             put_numbered(err, b"line ", *number, b": not in the profile", b"")
         }
-        TextFault::TwoDrivers(name) => {
+        CircuitFault::TwoDrivers(name) => {
             write_pieces(err, &[b"cec: ", b"two drivers: ", name.bytes(), b"\n"])
         }
-        TextFault::NoDriver(name) => {
+        CircuitFault::NoDriver(name) => {
             write_pieces(err, &[b"cec: ", b"no driver: ", name.bytes(), b"\n"])
         }
-        TextFault::Loop(names) => put_loop(err, names),
-        TextFault::Syntax(place) => put_numbered(err, b"byte ", *place, b": syntax", b""),
-        TextFault::Twice(name) => {
+        CircuitFault::Loop(names) => put_loop(err, names),
+    }
+}
+
+// The line of a fault of a text of the C subset.
+fn put_program_fault<E: Sink>(err: &mut E, fault: &ProgramFault) -> Result<(), SinkFault>
+    ensures { Wrote (E.told err.old) (E.told err.new) (E.faults err.old) (E.faults err.new)
+        (codes "cec: " ++ (program_fault_text fault.now ++ codes "\n")) result }
+{
+    match fault {
+        ProgramFault::Syntax(place) => put_numbered(err, b"byte ", *place, b": syntax", b""),
+        ProgramFault::Twice(name) => {
             write_pieces(err, &[b"cec: ", b"declared twice: ", name.bytes(), b"\n"])
         }
-        TextFault::Undeclared(name) => {
+        ProgramFault::Undeclared(name) => {
             write_pieces(err, &[b"cec: ", b"undeclared: ", name.bytes(), b"\n"])
         }
-        TextFault::Unset(name) => {
+        ProgramFault::Unset(name) => {
             write_pieces(err, &[b"cec: ", b"unset: ", name.bytes(), b"\n"])
         }
     }

@@ -18,6 +18,7 @@ mod lines;
 mod outcome;
 mod refusal;
 mod steady;
+mod text_faults;
 mod writing;
 
 pub use command::cec;
@@ -27,3 +28,4 @@ pub use laws::{accepted_requests_are_done, compiling_sources_are_not_refused};
 pub use outcome::{Outcome, Which};
 pub use refusal::{Limit, Refusal};
 pub use steady::cec_steadily;
+pub use text_faults::TextFault;

@@ -5,9 +5,9 @@ ghost use Rattle.cec_core.specs.Statuses.{outcome_of, status_of};
 
 use crate::cycles::Cycle;
 use crate::refusal::{Limit, Refusal};
+use crate::text_faults::TextFault;
 use cec_front::Fault;
 use trace_io::TraceFault;
-use trace_run::TextFault;
 
 /// How a command ended, with the cause of each refusal.
 #[derive(Debug, Drop)]

@@ -1,6 +1,7 @@
 // What is written to `out` of a text.
 
 ghost use Rattle.std.specs.Prelude.{◌≡◌};
+ghost use Rattle.est_base.specs.SinkChanges.{change};
 ghost use Rattle.cec_core.specs.Outcomes.{IsWriting, LeavesPieces, LeavesText};
 
 use crate::outcome::Outcome;
@@ -48,12 +49,7 @@ pub(crate) fn write_in_pieces<P: TextPieces, O: Sink>(
 ) -> Outcome
     ensures agrees { IsWriting result }
     ensures out { LeavesPieces (λ text. text ≡ P.to_come pieces.old)
-        (record {
-          before = O.told out.old;
-          after = O.told out.new;
-          faults_before = O.faults out.old;
-          faults_now = O.faults out.new;
-        })
+        (change O.told O.faults out.old out.new)
         result }
 {
     loop {
@@ -73,12 +69,7 @@ pub(crate) fn write_in_pieces<P: TextPieces, O: Sink>(
 pub(crate) fn write_whole<O: Sink>(text: &[u8], out: &mut O) -> Outcome
     ensures agrees { IsWriting result }
     ensures out { LeavesText (λ written. written ≡ text.now)
-        (record {
-          before = O.told out.old;
-          after = O.told out.new;
-          faults_before = O.faults out.old;
-          faults_now = O.faults out.new;
-        })
+        (change O.told O.faults out.old out.new)
         result }
 {
     match write_text(out, text) {

@@ -1,3 +1,7 @@
 pub mod Rows
 pub mod Machines
-pub mod RunnerRuns
+pub mod BareNames
+pub mod Showing
+pub mod NetTexts
+pub mod TextFaults
+mod WorkedLines

@@ -353,12 +353,12 @@ reacts-by code fits values inputs after answer wide is returned =
 pub fresh-by : (code : CProgram) (values : List Bool) → values ≡ first_values (program_of code) → IsFresh (record { code = code; values = values })
 fresh-by code values is name = ap (λ v. memory_in (declared (program_of code)) v name) is ∙ first-fresh (program_of code) name
 
-pub keeps-by : (inside : Inside) → KeepsNames (program_of inside.program.now) → IsPlan (program_of inside.program.now) inside.plan
-    → length inside.values.items ≡ length (declared (program_of inside.program.now)) →
+pub keeps-by : (inside : Inside) → KeepsNames (program_of inside.program) → IsPlan (program_of inside.program) inside.plan
+    → length inside.values.items ≡ length (declared (program_of inside.program)) →
     inside.outputs.items ≡ map (value_at inside.values.items) inside.plan.outputs.items
     → KeepsPlan inside
 keeps-by inside fits plan wide shown =
-    let p = program_of inside.program.now in
+    let p = program_of inside.program in
     record {
       names_fit = fits;
       plan = plan;

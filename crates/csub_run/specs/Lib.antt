@@ -1,6 +1,10 @@
 pub mod Runners
+pub mod ProgramAnswers
+pub mod Showing
+pub mod Ends
+pub mod Texts
 pub mod Slots
 pub mod Gates
 pub mod Steps
 pub mod Insides
-pub mod Laws
+pub mod Tracing

@@ -3,7 +3,7 @@
 ghost use Rattle.std.specs.Prelude.{◌≡◌, [], filter, map, take, IfOk};
 ghost use Rattle.est_base.specs.Names.{is_same_name};
 ghost use Rattle.csub_text.specs.Views.{program_of};
-ghost use Rattle.trace_run_c.specs.CAnswers.{bare_name, bare_inputs, bare_outputs};
+ghost use Rattle.csub_run.specs.ProgramAnswers.{bare_name, bare_inputs, bare_outputs};
 
 use csub_text::{CProgram, front_two};
 use est_base::{NoMemory, Text};
@@ -11,7 +11,7 @@ use std::alloc::Global;
 use trace_run::Interface;
 
 // The names of the inputs and outputs of a program, without their signs; no relations.
-pub fn c_interface(alloc: Global, program: &CProgram) -> Result<Interface, NoMemory>
+pub fn program_interface(alloc: Global, program: &CProgram) -> Result<Interface, NoMemory>
     ensures given { IfOk result (λ i. i.given.items ≡ bare_inputs (program_of program.now)) }
     ensures outgoing { IfOk result (λ i. i.outgoing.items ≡ bare_outputs (program_of program.now)) }
     ensures relations { IfOk result (λ i. i.relations.items ≡ []) }

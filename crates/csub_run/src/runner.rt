@@ -4,7 +4,7 @@ ghost use Rattle.std.specs.Prelude.{◌≡◌, ◌<◌, map, length, All, IfOk};
 ghost use Rattle.csub_text.specs.Names.{inputs_of};
 ghost use Rattle.csub_text.specs.Views.{program_of};
 ghost use Rattle.csub_run.specs.Runners.{KeepsNames, program_in, Reacts, Resets, IsFresh, outputs_shown, value_at};
-ghost use Rattle.csub_run.specs.Steps.{put_all};
+ghost use Rattle.csub_run.specs.Steps.{IsPlan, first_values, put_all};
 
 use crate::plan::{Plan, plan_of};
 use crate::slots::{value_at, value_of};
@@ -16,15 +16,15 @@ use std::marker::Model;
 
 /// The machine of a program. A contract sees it as the program and the values of its variables.
 #[derive(Drop)]
-pub struct CRunner<'a> {
-    program: &'a CProgram,
+pub struct CRunner {
+    program: CProgram,
     plan: Plan,
     // The value of each slot.
     values: Vec<bool>,
     outputs: Vec<bool>,
 }
 
-impl<'a> Model for CRunner<'a> {
+impl Model for CRunner {
     ghost use Rattle.csub_run.specs.Runners.{Runner};
 
     ghost Value = { Runner };
@@ -41,17 +41,19 @@ impl<'a> Model for CRunner<'a> {
     ghost invariant = { KeepsPlan };
 }
 
-impl<'a> CRunner<'a> {
+impl CRunner {
     /// The machine of a program before its first call. The program keeps the rules on names, as each one does
     /// that some text describes. Want of memory is the only error.
-    pub fn new(alloc: Global, program: &'a CProgram) -> Result<CRunner<'a>, NoMemory>
-        requires { KeepsNames (program_of program.now) }
-        ensures program { IfOk result (λ r. r.code ≡ program.now) }
+    pub fn new(alloc: Global, program: CProgram) -> Result<CRunner, NoMemory>
+        requires { KeepsNames (program_of program) }
+        ensures program { IfOk result (λ r. r.code ≡ program) }
         ensures fresh { IfOk result IsFresh }
     {
-        let plan = plan_of(alloc, program)?;
-        let values = Vec::from_slice(alloc, &plan.initial)?;
-        let outputs = values_of(alloc, &plan.outputs, &values)?;
+        let Parts {
+            plan,
+            values,
+            outputs,
+        } = runner_parts(alloc, &program)?;
         Ok(CRunner {
             program,
             plan,
@@ -86,6 +88,38 @@ impl<'a> CRunner<'a> {
         self.values.copy_from_slice(&self.plan.initial);
         take_values(&self.plan.outputs, &self.values, &mut self.outputs);
     }
+
+    /// The program that it runs.
+    pub fn program(&self) -> &CProgram
+        ensures { result.now ≡ self.now.code }
+    {
+        &self.program
+    }
+}
+
+// What a machine has beside its program.
+#[derive(Drop)]
+struct Parts {
+    plan: Plan,
+    values: Vec<bool>,
+    outputs: Vec<bool>,
+}
+
+// The plan of a program, and the values before the first call.
+fn runner_parts(alloc: Global, program: &CProgram) -> Result<Parts, NoMemory>
+    requires { KeepsNames (program_of program.now) }
+    ensures plan { IfOk result (λ p. IsPlan (program_of program.now) p.plan) }
+    ensures values { IfOk result (λ p. p.values.items ≡ first_values (program_of program.now)) }
+    ensures outputs { IfOk result (λ p. p.outputs.items ≡ map (value_at p.values.items) p.plan.outputs.items) }
+{
+    let plan = plan_of(alloc, program)?;
+    let values = Vec::from_slice(alloc, &plan.initial)?;
+    let outputs = values_of(alloc, &plan.outputs, &values)?;
+    Ok(Parts {
+        plan,
+        values,
+        outputs,
+    })
 }
 
 // The values of these slots.

@@ -1,26 +1,31 @@
 // The machine of a program of the C subset, as one that items drive.
 
-ghost use Rattle.std.specs.Prelude.{◌≡◌, IfOk};
+ghost use Rattle.std.specs.Prelude.{◌≡◌, [], length, IfOk, IsTrue};
+ghost use Rattle.est_base.specs.Distinct.{all_differ};
+ghost use Rattle.est_base.specs.Names.{is_same_name};
+ghost use Rattle.csub_text.specs.Names.{outputs_of};
 ghost use Rattle.csub_text.specs.Views.{program_of};
-ghost use Rattle.csub_run.specs.Runners.{KeepsNames, IsFresh};
-ghost use Rattle.trace_run.specs.BlifAnswers.{word_of};
+ghost use Rattle.csub_run.specs.ProgramAnswers.{bare_inputs, bare_outputs};
+ghost use Rattle.csub_run.specs.Runners.{KeepsNames, IsFresh, program_in};
+ghost use Rattle.trace_run.specs.Languages.{word_of};
 
-use csub_run::CRunner;
+use crate::interface::program_interface;
+use crate::runner::CRunner;
 use csub_text::CProgram;
 use est_base::NoMemory;
 use std::alloc::Global;
 use std::marker::Model;
 use trace_io::Word;
-use trace_run::Runner;
+use trace_run::{Interface, Runner};
 
 /// The machine of a program, as one that items drive: an event is one call, whose returned value gives the word. A
-/// contract sees it as csub_run's machine.
+/// contract sees it as the program and the values of its variables.
 #[derive(Drop)]
-pub struct CMachine<'a> {
-    calls: CRunner<'a>,
+pub struct CMachine {
+    calls: CRunner,
 }
 
-impl<'a> Model for CMachine<'a> {
+impl Model for CMachine {
     ghost use Rattle.csub_run.specs.Runners.{Runner};
 
     ghost Value = { Runner };
@@ -30,15 +35,19 @@ impl<'a> Model for CMachine<'a> {
 
     ghost coded = { Prim.hlevel (codes, e.the_row.coded) };
 
+    ghost use Rattle.csub_run.specs.Tracing.{KeepsRules};
+
     ghost view = { λ m. m.calls };
+
+    ghost invariant = { KeepsRules };
 }
 
-impl<'a> CMachine<'a> {
+impl CMachine {
     /// The machine of a program before its first call. The program keeps the rules on names, as each one does that
     /// some text describes. Want of memory is the only error.
-    pub fn new(alloc: Global, program: &'a CProgram) -> Result<CMachine<'a>, NoMemory>
-        requires { KeepsNames (program_of program.now) }
-        ensures program { IfOk result (λ m. m.code ≡ program.now) }
+    pub fn new(alloc: Global, program: CProgram) -> Result<CMachine, NoMemory>
+        requires { KeepsNames (program_of program) }
+        ensures program { IfOk result (λ m. m.code ≡ program) }
         ensures fresh { IfOk result IsFresh }
     {
         match CRunner::new(alloc, program) {
@@ -46,13 +55,28 @@ impl<'a> CMachine<'a> {
             Err(NoMemory) => Err(NoMemory),
         }
     }
+
+    /// The interface of the program itself: its inputs and outputs without their signs; no relations.
+    /// Want of memory is the only error.
+    pub fn interface(&self, alloc: Global) -> Result<Interface, NoMemory>
+        ensures given { IfOk result (λ i. i.given.items ≡ bare_inputs (program_in self.now)) }
+        ensures outgoing { IfOk result (λ i. i.outgoing.items ≡ bare_outputs (program_in self.now)) }
+        ensures relations { IfOk result (λ i. i.relations.items ≡ []) }
+        ensures differ { IfOk result (λ i. IsTrue (all_differ is_same_name i.given.items)) }
+    {
+        match program_interface(alloc, self.calls.program()) {
+            Ok(interface) => Ok(interface),
+            Err(NoMemory) => Err(NoMemory),
+        }
+    }
 }
 
-impl<'a> Runner for CMachine<'a> {
+impl Runner for CMachine {
     ghost use Rattle.std.specs.Prelude.{length};
     ghost use Rattle.csub_text.specs.Names.{inputs_of, outputs_of};
-    ghost use Rattle.csub_run.specs.Runners.{Resets, outputs_shown, program_in};
-    ghost use Rattle.trace_run_c.specs.CMachines.{Answers};
+    ghost use Rattle.csub_run.specs.Runners.{outputs_shown, program_in};
+    ghost use Rattle.csub_run.specs.Showing.{runner_shows};
+    ghost use Rattle.csub_run.specs.Ends.{shows_nothing};
 
     ghost input_count = { λ r. length (inputs_of (program_in r)) };
 
@@ -60,9 +84,7 @@ impl<'a> Runner for CMachine<'a> {
 
     ghost present = { outputs_shown };
 
-    ghost reacts = { Answers };
-
-    ghost resets = { Resets };
+    ghost shows = { runner_shows };
 
     fn react(&mut self, inputs: &[bool]) -> Word {
         word_of(self.calls.react(inputs))
@@ -75,6 +97,8 @@ impl<'a> Runner for CMachine<'a> {
     fn reset(&mut self) {
         self.calls.reset();
     }
+
+    ghost ends = { λ r. shows_nothing r };
 }
 
 // The word for a value that is returned.

@@ -2,11 +2,12 @@
 use Rattle.std.proofs.Common.{◌≡◌, ℕ, ◌+◌, ◌≤◌, List, [], ◌∷◌, length, subst, arith, Some, None, Result, Ok, Err}
 use Rattle.est_base.specs.Items.{Item, Event, Reset, EachEvent}
 use Rattle.est_base.specs.Relations.{MeetsAll}
+use Rattle.est_base.specs.SinkChanges.{SinkChange}
 use Rattle.trace_io.specs.Traces.{Reading}
 use Rattle.trace_io.specs.Answers.{beginning}
 use Rattle.trace_run.specs.declared.running.RunFault.{RunFault}
 use Rattle.trace_run.specs.declared.running.RunFault.TheVariants.{Trace, Write, NoMemory}
-use Rattle.trace_run.specs.Running.{Sinks, IsFront, RunsTrace}
+use Rattle.trace_run.specs.Running.{IsFront, RunsTrace}
 use Rattle.trace_run.specs.Laws.{TracesBegin, EventsFit}
 use Rattle.trace_run.proofs.Groups.{Fits, fits-next}
 use Rattle.trace_run.proofs.Fronts.{front-whole}
@@ -28,7 +29,7 @@ pub events-fit : EventsFit
 events-fit text inputs relations items f = events-from (beginning text inputs relations) items (omega arith) f
 
 -- what brings one text about brings the other, over the first items of the trace
-pub runs-along : (W V : List Item → List ℕ → Type 0) (r : Reading) (s : Sinks) (result : Result (Unit {0}) RunFault)
+pub runs-along : (W V : List Item → List ℕ → Type 0) (r : Reading) (s : SinkChange) (result : Result (Unit {0}) RunFault)
     → ((items : List Item) (text : List ℕ) → IsFront r items → W items text → V items text) → RunsTrace W r s result → RunsTrace V r s result
 runs-along W V r s (Ok done) f x = (x.0, x.1, x.2, f x.0 x.1 (traces-begin r x.0 None x.2) x.3, x.4)
 runs-along W V r s (Err (Trace fault)) f x = (x.0, x.1, x.2, f x.0 x.1 (traces-begin r x.0 (Some fault) x.2) x.3, x.4)

@@ -5,6 +5,7 @@ use Rattle.std.proofs.lemmas.List.{length-append, map-append, take_min, take-app
 use Rattle.std.proofs.lemmas.Grind.{flat_map-append}
 use Rattle.est_base.specs.Items.{Item, Event, Reset}
 use Rattle.est_base.specs.Relations.{Relation, Implies, MeetsAll}
+use Rattle.est_base.specs.SinkChanges.{SinkChange}
 use Rattle.est_base.specs.Writing.{Gains, GainsFront, Appends}
 use Rattle.net_ir.specs.Netlists.{Netlist}
 use Rattle.net_ir.specs.Runs.{shown, net_values, next_latches, initial_latches, values_from}
@@ -14,15 +15,14 @@ use Rattle.trace_io.specs.Lines.{line}
 use Rattle.trace_io.specs.Traces.{Reading, Group, End, Instant, Refused, next_group}
 use Rattle.trace_io.specs.Traces as groups
 use Rattle.trace_io.specs.Answers.{IsFault, IsTrace}
-use Rattle.blif_text.specs.Circuits.{Circuit}
-use Rattle.blif_text.specs.Runs.{IsRun, IsRunFrom, circuit_latches}
+use Rattle.machines.specs.Machines.{Machine, IsRunFrom, Shows}
+use Rattle.machines.proofs.Showing.{told-same}
 use Rattle.trace_run.specs.declared.running.RunFault.{RunFault}
 use Rattle.trace_run.specs.declared.running.RunFault.TheVariants.{Trace, Write, NoMemory}
 use Rattle.trace_run.specs.Machines.{Answer, answer_lines}
-use Rattle.trace_run.specs.Running.{IsFront, Sinks, RunsTrace}
-use Rattle.trace_run.specs.BlifAnswers.{answer_of, run_lines, ShowsText}
-use Rattle.trace_run.specs.NetRuns.{shown_answer, ShowsNet}
-use Rattle.trace_run.specs.Laws.{Leaves, NetsAreWritten, TextsAreWritten}
+use Rattle.trace_run.specs.Running.{IsFront, RunsTrace}
+use Rattle.trace_run.specs.Languages.{shown_answer, ShowsNet}
+use Rattle.trace_run.specs.Laws.{Leaves, NetsAreWritten}
 
 -- ---- groups of different kinds differ
 
@@ -128,7 +128,7 @@ longer a b x y g =
 pub leaves : (W V : List Item → List ℕ → Type 0)
     → ((front more : List Item) (text whole : List ℕ) → W front text → V (front ++ more) whole → (rest : List ℕ) × (whole ≡ text ++ rest))
     → ((items : List Item) (text whole : List ℕ) → W items text → V items whole → whole ≡ text)
-    → (r : Reading) (s : Sinks) (result : Result (Unit {0}) RunFault) (items : List Item) (end : Option TraceFault) (whole : List ℕ)
+    → (r : Reading) (s : SinkChange) (result : Result (Unit {0}) RunFault) (items : List Item) (end : Option TraceFault) (whole : List ℕ)
     → RunsTrace W r s result → IsTrace r items end → V items whole → Leaves s whole result
 leaves W V grows is r s (Ok done) items end whole runs t v =
     let same = one-trace r runs.0 items None end runs.2 t in
@@ -177,36 +177,56 @@ nets-are-written names net r s result items end runs t =
               ∙ ap (λ x. x ++ answer_lines names (answers values.0)) (sym a),
         )
 
--- a run over the first items, and the rest
-record SplitRun (c : Circuit) (latches : List Bool) (front : List Item) (valuations : List (List ℕ → Bool)) : Type 0 where
-  first : List (List ℕ → Bool)
-  rest : List (List ℕ → Bool)
-  parts : valuations ≡ first ++ rest
-  run : IsRunFrom c latches front first
+-- a run of a machine over the first items, and the rest
+record SplitRun {X : Type 0} (M : Machine X) (s : M.State) (front : List Item) (xs : List X) : Type 0 where
+  first : List X
+  rest : List X
+  parts : xs ≡ first ++ rest
+  run : IsRunFrom M s front first
 
-split-run : (c : Circuit) (latches : List Bool) (front more : List Item) (valuations : List (List ℕ → Bool))
-    → IsRunFrom c latches (front ++ more) valuations → SplitRun c latches front valuations
-split-run c latches [] more valuations run = record { first = []; rest = valuations; parts = refl; run = tt }
-split-run c latches (Event inputs ∷ front) more [] run = absurd run
-split-run c latches (Event inputs ∷ front) more (v ∷ valuations) run =
-    let s = split-run c (map (λ l. v l.source) c.latches) front more valuations run.1 in
-    record { first = v ∷ s.first; rest = s.rest; parts = ap (λ l. v ∷ l) s.parts; run = (run.0, s.run) }
-split-run c latches (Reset ∷ front) more valuations run =
-    let s = split-run c (circuit_latches c) front more valuations run in
-    record { first = s.first; rest = s.rest; parts = s.parts; run = s.run }
+split-run : {X : Type 0} (M : Machine X) (s : M.State) (front more : List Item) (xs : List X) → IsRunFrom M s (front ++ more) xs → SplitRun M s front xs
+split-run M s [] more xs run = record { first = []; rest = xs; parts = refl; run = tt }
+split-run M s (Event inputs ∷ front) more [] run = absurd run
+split-run M s (Event inputs ∷ front) more (x ∷ xs) run =
+    let rest = split-run M (M.next s inputs x) front more xs run.1 in
+    record { first = x ∷ rest.first; rest = rest.rest; parts = ap (λ l. x ∷ l) rest.parts; run = (run.0, rest.run) }
+split-run M s (Reset ∷ front) more xs run =
+    let rest = split-run M M.start front more xs run in
+    record { first = rest.first; rest = rest.rest; parts = rest.parts; run = rest.run }
 
-pub texts-are-written : TextsAreWritten
-texts-are-written c r s result items end valuations runs t run =
-    leaves (ShowsText c) V grows (λ list text whole a b. b.2 ∙ sym (a.each_run b.0 b.1)) r s result items end (run_lines c valuations) runs t
-    (valuations, run, refl)
+-- what a machine shows to the first items is a front of what it shows to all
+pub shown-front : {X V : Type 0} (M : Machine X) (see : X → V) (s : M.State) (front more : List Item) (few all : List V) → Shows M see s front few
+    → Shows M see s (front ++ more) all → (rest : List V) × (all ≡ few ++ rest)
+shown-front M see s front more few all a b =
+    let split = split-run M s front more b.some_run.0 b.some_run.1 in (
+      map see split.rest,
+      b.each_run b.some_run.0 b.some_run.1 ∙ ap (map see) split.parts ∙ map-append see split.first split.rest
+          ∙ ap (λ l. l ++ map see split.rest) (sym (a.each_run split.first split.run)),
+    )
+
+-- the lines of what a machine shows
+pub record ShowsLines {X : Type 0} (M : Machine X) (see : X → Answer) (s : M.State) (names : List (List ℕ)) (items : List Item) (text : List ℕ) :
+    Type 0 where
+  pub answers : List Answer
+  pub shown : Shows M see s items answers
+  pub lines : text ≡ answer_lines names answers
+
+-- a run over a trace leaves the lines of what a machine shows to the whole trace, or a prefix of them
+pub shown-are-written : {X : Type 0} (M : Machine X) (see : X → Answer) (start : M.State) (names : List (List ℕ)) (r : Reading) (s : SinkChange)
+    (result : Result (Unit {0}) RunFault) (items : List Item) (end : Option TraceFault) (answers : List Answer)
+    → RunsTrace (ShowsLines M see start names) r s result → IsTrace r items end → Shows M see start items answers
+    → Leaves s (answer_lines names answers) result
+shown-are-written M see start names r s result items end answers runs t shows =
+    leaves (ShowsLines M see start names) (ShowsLines M see start names) grows same r s result items end (answer_lines names answers) runs t
+    (record { answers = answers; shown = shows; lines = refl })
   where
-    V : List Item → List ℕ → Type 0
-    V list whole = (vs : List (List ℕ → Bool)) × IsRun c list vs × (whole ≡ run_lines c vs)
-
-    grows : (front more : List Item) (text whole : List ℕ) → ShowsText c front text → V (front ++ more) whole → (rest : List ℕ) × (whole ≡ text ++ rest)
+    grows : (front more : List Item) (text whole : List ℕ) → ShowsLines M see start names front text → ShowsLines M see start names (front ++ more) whole
+        → (rest : List ℕ) × (whole ≡ text ++ rest)
     grows front more text whole a b =
-        let split = split-run c (circuit_latches c) front more b.0 b.1 in
-        let answer = λ (v : List ℕ → Bool). answer_of c.outputs (map v c.outputs) in
-        let both : run_lines c (split.first ++ split.rest) ≡ run_lines c split.first ++ run_lines c split.rest =
-        ap (answer_lines _) (map-append answer split.first split.rest) ∙ lines-of _ (map answer split.first) (map answer split.rest) in
-        (run_lines c split.rest, b.2 ∙ ap (run_lines c) split.parts ∙ both ∙ ap (λ x. x ++ run_lines c split.rest) (sym (a.each_run split.first split.run)))
+        let rest = shown-front M see start front more a.answers b.answers a.shown b.shown in (
+          answer_lines names rest.0,
+          b.lines ∙ ap (answer_lines names) rest.1 ∙ lines-of names a.answers rest.0 ∙ ap (λ x. x ++ answer_lines names rest.0) (sym a.lines),
+        )
+
+    same : (list : List Item) (text whole : List ℕ) → ShowsLines M see start names list text → ShowsLines M see start names list whole → whole ≡ text
+    same list text whole a b = b.lines ∙ ap (answer_lines names) (told-same M see start list a.answers b.answers a.shown b.shown) ∙ sym a.lines

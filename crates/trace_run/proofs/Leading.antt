@@ -1,14 +1,15 @@
 -- Items between readings, and what they drive: one list behind another.
-use Rattle.std.proofs.Common.{◌≡◌, ℕ, ◌+◌, Bool, List, [], ◌∷◌, ◌++◌, Some, None, subst}
+use Rattle.std.proofs.Common.{◌≡◌, ℕ, ◌+◌, Bool, List, [], ◌∷◌, ◌++◌, Some, None, sym, subst, append-nil}
 use Rattle.std.proofs.lemmas.Grind.{flat_map-append}
+use Rattle.std.proofs.lemmas.List.{append_assoc}
 use Rattle.est_base.specs.Items.{Item, Event, Reset}
 use Rattle.trace_io.specs.declared.faults.TraceFault.{TraceFault}
 use Rattle.trace_io.specs.Traces.{Reading, next_group, End}
 use Rattle.trace_io.specs.Answers.{IsTrace, IsFault}
 use Rattle.trace_io.specs.Lines.{line}
-use Rattle.trace_run.specs.Machines.{Answer, Drives, answer_lines}
+use Rattle.trace_run.specs.Machines.{Answer, answer_lines}
 use Rattle.trace_run.specs.Running.{IsFront}
-use Rattle.trace_run.specs.Steps.{Leads}
+use Rattle.trace_run.specs.Steps.{Leads, Led}
 
 pub leads-more : (r s t : Reading) (xs ys : List Item) → Leads r xs s → Leads s ys t → Leads r (xs ++ ys) t
 leads-more r s t [] ys a b = subst (λ q. Leads q ys t) a b
@@ -34,15 +35,23 @@ fault-leads r s (Reset ∷ xs) fault a is = (a.0, a.1, fault-leads (record r { a
 fault-leads r s (Event event ∷ xs) fault a is =
     (a.0, a.1, a.2, fault-leads (record r { at = a.0; instant = r.instant + 1 }) s xs fault a.3 is)
 
-pub drives-more : {S : Type 0} (reacts : S → List Bool → Answer → S → Type 0) (resets : S → S → Type 0) (r s t : S)
-    (xs : List Item) (before : List Answer) (ys : List Item) (behind : List Answer)
-    → Drives reacts resets r xs before s → Drives reacts resets s ys behind t → Drives reacts resets r (xs ++ ys) (before ++ behind) t
-drives-more reacts resets r s t [] [] ys behind a b = subst (λ q. Drives reacts resets q ys behind t) a b
-drives-more reacts resets r s t [] (x ∷ xs) ys behind a b = absurd a
-drives-more reacts resets r s t (Event inputs ∷ xs) [] ys behind a b = absurd a
-drives-more reacts resets r s t (Event inputs ∷ xs) (answer ∷ before) ys behind a b =
-    (a.0, a.1, drives-more reacts resets a.0 s t xs before ys behind a.2 b)
-drives-more reacts resets r s t (Reset ∷ xs) before ys behind a b = (a.0, a.1, drives-more reacts resets a.0 s t xs before ys behind a.2 b)
+pub led-nowhere : {S : Type 0} (shows : S → List Item → List Answer → Type 0) (s : S) → Led shows s [] [] s
+led-nowhere shows s = record { in_front = λ more behind h. h }
+
+pub led-more : {S : Type 0} (shows : S → List Item → List Answer → Type 0) (r s t : S) (xs : List Item) (before : List Answer) (ys : List Item)
+    (behind : List Answer) → Led shows r xs before s → Led shows s ys behind t → Led shows r (xs ++ ys) (before ++ behind) t
+led-more shows r s t xs before ys behind a b = record {
+  in_front = λ more rest h.
+      let joined = a.in_front (ys ++ more) (behind ++ rest) (b.in_front more rest h) in
+      subst (λ x. shows r x ((before ++ behind) ++ rest)) (sym (append_assoc xs ys more))
+      (subst (λ x. shows r (xs ++ (ys ++ more)) x) (sym (append_assoc before behind rest)) joined);
+}
+
+-- where a machine shows nothing to no items, it showed these answers to the items on its way
+pub led-shown : {S : Type 0} (shows : S → List Item → List Answer → Type 0) (s t : S) (items : List Item) (answers : List Answer) → shows t [] []
+    → Led shows s items answers t → shows s items answers
+led-shown shows s t items answers ends led =
+    subst (λ x. shows s x answers) (append-nil items) (subst (λ x. shows s (items ++ []) x) (append-nil answers) (led.in_front [] [] ends))
 
 pub lines-more : (names : List (List ℕ)) (before behind : List Answer)
     → answer_lines names (before ++ behind) ≡ answer_lines names before ++ answer_lines names behind

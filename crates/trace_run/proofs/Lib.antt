@@ -1,9 +1,6 @@
 pub mod Groups
 pub mod Leading
 pub mod Stepping
-pub mod Telling
-pub mod Nets
-pub mod NoLoops
-pub mod NetLoops
 pub mod Fronts
 pub mod Events
+pub mod Written

@@ -1,36 +1,22 @@
--- To believe: what the runner of a net's text answers, and that a run which is cut off leaves a prefix.
-use Rattle.std.specs.Prelude.{◌≡◌, ℕ, Bool, List, length, map, Option, Result, Ok, Err}
+-- To believe: that a run which is cut off leaves a prefix, and what the items of a trace are.
+use Rattle.std.specs.Prelude.{◌≡◌, ℕ, List, length, map, Option, Result, Ok, Err}
 use Rattle.est_base.specs.Items.{Item, EachEvent}
 use Rattle.est_base.specs.Relations.{Relation, MeetsAll}
+use Rattle.est_base.specs.SinkChanges.{SinkChange}
 use Rattle.est_base.specs.Writing.{Appends, Stops, GainsFront}
 use Rattle.net_ir.specs.Netlists.{Netlist}
 use Rattle.net_ir.specs.Runs.{net_run}
-use Rattle.blif_text.specs.Circuits.{Circuit, reading}
-use Rattle.blif_text.specs.Runs.{IsRun}
-use Rattle.blif_text.specs.Written.{Means}
-use Rattle.blif_run.specs.Runners.{Runner, IsFresh, Resets}
 use Rattle.trace_io.specs.declared.faults.TraceFault.{TraceFault}
 use Rattle.trace_io.specs.Traces.{Reading}
 use Rattle.trace_io.specs.Answers.{IsTrace, beginning}
 use Rattle.trace_run.specs.declared.running.RunFault.{RunFault}
 use Rattle.trace_run.specs.declared.running.RunFault.TheVariants.{Trace, Write, NoMemory}
-use Rattle.trace_run.specs.Machines.{Answer, Drives, answer_lines}
-use Rattle.trace_run.specs.Running.{Sinks, IsFront, RunsTrace}
-use Rattle.trace_run.specs.BlifAnswers.{listed_count, run_lines, ShowsText}
-use Rattle.trace_run.specs.NetRuns.{shown_answer, ShowsNet}
-use Rattle.trace_run.specs.BlifRunners.{Answers}
-
--- The circuit of a text that means a net has the net's inputs, and lists as many outputs as the net has. A fresh runner
--- of it, driven by items, answers what the net shows over these items.
-abbrev pub NetsAreRun : Type 0
-NetsAreRun =
-    (text : List ℕ) (net : Netlist) (circuit : Circuit) → Means text net → reading text ≡ Ok circuit
-    → (circuit.inputs ≡ net.inputs) × (listed_count circuit.outputs ≡ length net.outputs)
-    × ((old new : Runner) (items : List Item) (answers : List Answer) → old.circuit ≡ circuit → IsFresh old
-    → Drives Answers Resets old items answers new → answers ≡ map shown_answer (net_run net items))
+use Rattle.trace_run.specs.Languages.{shown_answer, ShowsNet}
+use Rattle.trace_run.specs.Machines.{answer_lines}
+use Rattle.trace_run.specs.Running.{IsFront, RunsTrace}
 
 -- what is left of a run in the sink: the whole text of the trace, or a prefix of it
-abbrev pub Leaves : Sinks → List ℕ → Result (Unit {0}) RunFault → Type 0
+abbrev pub Leaves : SinkChange → List ℕ → Result (Unit {0}) RunFault → Type 0
 Leaves s text (Ok done) = Appends s.before s.after s.faults_before s.faults_now text
 Leaves s text (Err (Trace fault)) = Appends s.before s.after s.faults_before s.faults_now text
 Leaves s text (Err Write) = Stops s.before s.after s.faults_before s.faults_now text
@@ -39,17 +25,10 @@ Leaves s text (Err NoMemory) = (s.faults_now ≡ s.faults_before) × GainsFront 
 -- of a net, where the items of the whole trace are these
 abbrev pub NetsAreWritten : Type 0
 NetsAreWritten =
-    (names : List (List ℕ)) (net : Netlist) (trace : Reading) (s : Sinks) (result : Result (Unit {0}) RunFault)
+    (names : List (List ℕ)) (net : Netlist) (trace : Reading) (s : SinkChange) (result : Result (Unit {0}) RunFault)
     → (items : List Item) (end : Option TraceFault) → RunsTrace (ShowsNet names net) trace s result
     → IsTrace trace items end
     → Leaves s (answer_lines names (map shown_answer (net_run net items))) result
-
--- of a circuit, where this is a run over the items of the whole trace
-abbrev pub TextsAreWritten : Type 0
-TextsAreWritten =
-    (circuit : Circuit) (trace : Reading) (s : Sinks) (result : Result (Unit {0}) RunFault) (items : List Item)
-    → (end : Option TraceFault) (valuations : List (List ℕ → Bool)) → RunsTrace (ShowsText circuit) trace s result
-    → IsTrace trace items end → IsRun circuit items valuations → Leaves s (run_lines circuit valuations) result
 
 -- the items of a whole trace are its first items
 abbrev pub TracesBegin : Type 0

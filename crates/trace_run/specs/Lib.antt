@@ -1,9 +1,6 @@
 pub mod Machines
 pub mod Running
 pub mod Steps
-pub mod BlifAnswers
-pub mod BlifRunners
-pub mod Executing
-pub mod NetRuns
-pub mod Insides
+pub mod Languages
+pub mod Ends
 pub mod Laws

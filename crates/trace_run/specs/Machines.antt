@@ -1,5 +1,5 @@
 -- To believe: what a machine answers to items, and the lines of its answers.
-use Rattle.std.specs.Prelude.{◌≡◌, ℕ, Bool, List, [], ◌∷◌}
+use Rattle.std.specs.Prelude.{◌≡◌, ℕ, Bool, List, ◌∷◌}
 use Rattle.std.specs.List.{flat_map}
 use Rattle.est_base.specs.Items.{Item, Event, Reset}
 use Rattle.trace_io.specs.declared.lines.Word.{Word}
@@ -10,25 +10,25 @@ pub record Answer : Type 0 where
   pub present : List Bool
   pub word : Word
 
--- The items drive a machine from one state to another, by what a reaction and a reset do to its state. An event has one
--- answer, and a reset none.
-abbrev pub Drives :
-    {S : Type 0} → (S → List Bool → Answer → S → Type 0) → (S → S → Type 0) → S → List Item → List Answer → S → Type 0
-Drives reacts resets old [] [] new = new ≡ old
-Drives reacts resets old [] (answer ∷ answers) new = ⊥
-Drives {S} reacts resets old (Event inputs ∷ items) (answer ∷ answers) new =
-    (next : S) × reacts old inputs answer next × Drives reacts resets next items answers new
-Drives reacts resets old (Event inputs ∷ items) [] new = ⊥
-Drives {S} reacts resets old (Reset ∷ items) answers new =
-    (next : S) × resets old next × Drives reacts resets next items answers new
+-- Of a type of machines, `shows` says which answers a machine of it gives to items, from its present state on. An event
+-- leaves the machine so that whatever it shows from then on, it has shown this answer before.
+pub record Answered {S : Type 0} (shows : S → List Item → List Answer → Type 0) (old : S) (event : List Bool)
+    (answer : Answer) (new : S) : Type 0 where
+  pub in_front : (items : List Item) (answers : List Answer)
+      → shows new items answers → shows old (Event event ∷ items) (answer ∷ answers)
+
+-- a reset has no answer
+abbrev pub PutBack : {S : Type 0} → (S → List Item → List Answer → Type 0) → S → S → Type 0
+PutBack shows old new =
+    (items : List Item) (answers : List Answer) → shows new items answers → shows old (Reset ∷ items) answers
 
 -- the lines of answers, one after another, where the outgoing signals have these names
 abbrev pub answer_lines : List (List ℕ) → List Answer → List ℕ
 answer_lines names answers = flat_map (λ answer. line names answer.present answer.word) answers
 
--- the items drive the machine from one state to another, and this text is the lines of its answers
-abbrev pub Brings :
-    {S : Type 0} → (S → List Bool → Answer → S → Type 0) → (S → S → Type 0) → List (List ℕ) → S → S → List Item → List ℕ
-    → Type 0
-Brings reacts resets names old new items text =
-    (answers : List Answer) × Drives reacts resets old items answers new × (text ≡ answer_lines names answers)
+-- the machine shows some answers to the items, and the text is their lines
+pub record Brings {S : Type 0} (shows : S → List Item → List Answer → Type 0) (names : List (List ℕ)) (s : S)
+    (items : List Item) (text : List ℕ) : Type 0 where
+  pub answers : List Answer
+  pub shown : shows s items answers
+  pub lines : text ≡ answer_lines names answers

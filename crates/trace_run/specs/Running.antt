@@ -1,7 +1,8 @@
 -- To believe: what a run over a trace writes, and how it ends.
-use Rattle.std.specs.Prelude.{◌≡◌, ℕ, ◌+◌, ⊤, List, [], ◌∷◌, Option, Some, None, Result, Ok, Err}
+use Rattle.std.specs.Prelude.{◌≡◌, ℕ, ◌+◌, ⊤, List, [], ◌∷◌, Some, None, Result, Ok, Err}
 use Rattle.est_base.specs.Items.{Item, Event, Reset}
 use Rattle.est_base.specs.Relations.{MeetsAll}
+use Rattle.est_base.specs.SinkChanges.{SinkChange}
 use Rattle.est_base.specs.Writing.{Appends, Stops, GainsFront}
 use Rattle.trace_io.specs.Traces.{Reading, next_group}
 use Rattle.trace_io.specs.Traces as groups
@@ -18,18 +19,11 @@ IsFront r (Event event ∷ more) =
     (behind : ℕ) × (next_group r ≡ groups.Instant event behind) × MeetsAll r.relations event
     × IsFront (record r { at = behind; instant = r.instant + 1 }) more
 
--- what a sink tells before and after a call, and its count of faults
-pub record Sinks : Type 0 where
-  pub before : Option (List ℕ)
-  pub after : Option (List ℕ)
-  pub faults_before : ℕ
-  pub faults_now : ℕ
-
 -- How a run over a trace ends, where `Writes` says which text some items bring about. Done: the sink gained the text of
 -- all items of the trace. A fault of the trace: it gained the text of the items before the first fault. A failed write:
 -- the count of faults rose, and the sink gained a prefix of the text of the first items. Want of memory may come at any
 -- moment, and then too the sink gained such a prefix.
-abbrev pub RunsTrace : (List Item → List ℕ → Type 0) → Reading → Sinks → Result (Unit {0}) RunFault → Type 0
+abbrev pub RunsTrace : (List Item → List ℕ → Type 0) → Reading → SinkChange → Result (Unit {0}) RunFault → Type 0
 RunsTrace Writes trace s (Ok done) =
     (items : List Item) × (text : List ℕ) × IsTrace trace items None × Writes items text
     × Appends s.before s.after s.faults_before s.faults_now text

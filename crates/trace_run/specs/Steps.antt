@@ -1,7 +1,8 @@
 -- Inner: one item of a run.
-use Rattle.std.specs.Prelude.{◌≡◌, ℕ, ◌+◌, ◌<◌, ◌≤◌, Bool, true, false, ⊤, List, [], ◌∷◌, length, Result, Ok, Err}
+use Rattle.std.specs.Prelude.{◌≡◌, ℕ, ◌+◌, ◌<◌, ◌≤◌, Bool, true, false, ⊤, List, [], ◌∷◌, ◌++◌, length, Result, Ok, Err}
 use Rattle.est_base.specs.Items.{Item, Event, Reset}
 use Rattle.est_base.specs.Relations.{MeetsAll}
+use Rattle.est_base.specs.SinkChanges.{SinkChange}
 use Rattle.est_base.specs.Writing.{Appends, Stops, GainsFront}
 use Rattle.trace_io.specs.Traces.{Reading, next_group}
 use Rattle.trace_io.specs.Traces as groups
@@ -10,8 +11,7 @@ use Rattle.trace_io.specs.declared.faults.TraceError.{TraceError}
 use Rattle.trace_io.specs.declared.faults.TraceError.TheVariants as errors
 use Rattle.trace_run.specs.declared.running.RunFault.{RunFault}
 use Rattle.trace_run.specs.declared.running.RunFault.TheVariants.{Trace, Write, NoMemory}
-use Rattle.trace_run.specs.Machines.{Answer, Drives, answer_lines}
-use Rattle.trace_run.specs.Running.{Sinks}
+use Rattle.trace_run.specs.Machines.{Answer, answer_lines}
 
 -- the items of a trace between two readings
 abbrev pub Leads : Reading → List Item → Reading → Type 0
@@ -23,7 +23,7 @@ Leads r (Event event ∷ more) later =
     × Leads (record r { at = behind; instant = r.instant + 1 }) more later
 
 -- what came to the sink of a text that was to be written
-abbrev pub Came : Sinks → List ℕ → Result Bool RunFault → Type 0
+abbrev pub Came : SinkChange → List ℕ → Result Bool RunFault → Type 0
 Came s text (Ok more) = Appends s.before s.after s.faults_before s.faults_now text
 Came s text (Err (Trace fault)) = Appends s.before s.after s.faults_before s.faults_now text
 Came s text (Err Write) = Stops s.before s.after s.faults_before s.faults_now text
@@ -37,13 +37,20 @@ Stands old new (Err (Trace fault)) = IsFault new fault
 Stands old new (Err Write) = ⊤
 Stands old new (Err NoMemory) = ⊤
 
+-- What a machine showed to items on its way to a later state: whatever it shows from there on, it has shown these answers
+-- before.
+pub record Led {S : Type 0} (shows : S → List Item → List Answer → Type 0) (old : S) (items : List Item)
+    (answers : List Answer) (new : S) : Type 0 where
+  pub in_front : (more : List Item) (behind : List Answer)
+      → shows new more behind → shows old (items ++ more) (answers ++ behind)
+
 -- one item, or none, between two readings and two states
-pub record IsStep {S : Type 0} (reacts : S → List Bool → Answer → S → Type 0) (resets : S → S → Type 0)
-    (names : List (List ℕ)) (r later : Reading) (old new : S) (s : Sinks) (result : Result Bool RunFault) : Type 0 where
+pub record IsStep {S : Type 0} (shows : S → List Item → List Answer → Type 0) (names : List (List ℕ))
+    (r later : Reading) (old new : S) (s : SinkChange) (result : Result Bool RunFault) : Type 0 where
   pub items : List Item
   pub answers : List Answer
   pub leads : Leads r items later
-  pub drives : Drives reacts resets old items answers new
+  pub led : Led shows old items answers new
   pub came : Came s (answer_lines names answers) result
   pub stands : Stands r later result
 
@@ -53,7 +60,7 @@ trace_stop (errors.Fault fault) = Trace fault
 trace_stop errors.NoMemory = NoMemory
 
 -- what came to the sink of a line
-abbrev pub LineCame : Sinks → List ℕ → Result (Unit {0}) RunFault → Type 0
+abbrev pub LineCame : SinkChange → List ℕ → Result (Unit {0}) RunFault → Type 0
 LineCame s text (Ok done) = Appends s.before s.after s.faults_before s.faults_now text
 LineCame s text (Err (Trace fault)) = ⊥
 LineCame s text (Err Write) = Stops s.before s.after s.faults_before s.faults_now text

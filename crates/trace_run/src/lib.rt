@@ -1,21 +1,19 @@
-//! Runs of machines over traces.
+//! Runs of machines over traces, for every language of texts.
 //!
 //! `run_trace` drives a machine by the items of a trace, and writes one line after each reaction, right behind it.
-//! `Runner` is what a machine has to be for that; `BlifRunner` is the one of a BLIF text, whose meaning stands in
-//! `blif_text`, after Berkeley's BLIF. `exec_blif` reads a BLIF text and runs it over a trace, by the meaning of
-//! the text alone.
+//! `Runner` is what a machine has to be for that, and `Language` what a language of texts is: which texts it has, what
+//! each means, and the machine that runs it. `run_text` runs a text that was read, by its own names, and `run_written`
+//! the text that was written of a netlist. The languages are implemented in crates of their own.
 #![tactic(auto)]
 
-mod blif_runner;
-mod executing;
+mod language;
 mod laws;
 mod machine;
-mod net_runs;
 mod running;
+mod texts;
 
-pub use blif_runner::{BlifRunner, run_blif};
-pub use executing::{ExecFault, TextFault, exec_blif};
-pub use laws::{events_fit, nets_are_run, runs_are_written};
+pub use language::Language;
+pub use laws::{events_fit, runs_are_written};
 pub use machine::Runner;
-pub use net_runs::{net_interface, run_written};
 pub use running::{Interface, RunFault, run_trace};
+pub use texts::{copied_names, net_interface, run_text, run_written};

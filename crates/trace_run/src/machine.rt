@@ -4,11 +4,12 @@ use trace_io::Word;
 
 /// A machine that items drive: an event is one reaction, with an answer, and a reset puts it back to its start.
 ///
-/// `reacts` says what a reaction does to the machine's state, and its answer; `resets` says what a reset does. So a
-/// machine's answers over items are those that `Drives` gives.
+/// `shows` says which answers a machine of the type gives to items, from its present state on. It is the meaning of
+/// what the machine runs, and so to be believed of each implementation; a reaction and a reset keep it.
 pub trait Runner {
-    ghost use Rattle.std.specs.Prelude.{◌≡◌, ℕ, Bool, List, length};
-    ghost use Rattle.trace_run.specs.Machines.{Answer};
+    ghost use Rattle.std.specs.Prelude.{◌≡◌, ℕ, Bool, List, [], length};
+    ghost use Rattle.est_base.specs.Items.{Item};
+    ghost use Rattle.trace_run.specs.Machines.{Answer, Answered, PutBack};
 
     ghost input_count: { Self → ℕ };
 
@@ -16,14 +17,13 @@ pub trait Runner {
 
     ghost present: { Self → List Bool };
 
-    ghost reacts: { Self → List Bool → Answer → Self → Type 0 };
-
-    ghost resets: { Self → Self → Type 0 };
+    ghost shows: { Self → List Item → List Answer → Type 0 };
 
     /// One reaction to these values of the inputs. It answers what is said of the program behind it.
     fn react(&mut self, inputs: &[bool]) -> Word
         requires { length inputs.now ≡ input_count self.old }
-        ensures reacts { reacts self.old inputs.now (record { present = present self.new; word = result }) self.new }
+        ensures answered { Answered shows self.old inputs.now (record { present = present self.new; word = result })
+            self.new }
         ensures shown { length (present self.new) ≡ output_count self.new }
         ensures inputs_stay { input_count self.new ≡ input_count self.old }
         ensures outputs_stay { output_count self.new ≡ output_count self.old };
@@ -34,7 +34,9 @@ pub trait Runner {
 
     /// Puts the machine back to its start.
     fn reset(&mut self)
-        ensures resets { resets self.old self.new }
+        ensures put_back { PutBack shows self.old self.new }
         ensures inputs_stay { input_count self.new ≡ input_count self.old }
         ensures outputs_stay { output_count self.new ≡ output_count self.old };
+
+    ghost ends: { (r : Self) → shows r [] [] };
 }

@@ -4,9 +4,10 @@ ghost use Rattle.std.specs.Prelude.{◌≡◌, ◌<◌, ◌≤◌, ◌^◌, leng
 ghost use Rattle.est_base.specs.Names.{is_same_name};
 ghost use Rattle.est_base.specs.Distinct.{all_differ};
 ghost use Rattle.est_base.specs.Relations.{relation_of};
+ghost use Rattle.est_base.specs.SinkChanges.{change};
 ghost use Rattle.trace_io.specs.Answers.{beginning, reading_of};
 ghost use Rattle.trace_io.specs.Lines.{line};
-ghost use Rattle.trace_run.specs.Machines.{Answer, Brings};
+ghost use Rattle.trace_run.specs.Machines.{Answer, Answered, Brings};
 ghost use Rattle.trace_run.specs.Running.{RunsTrace};
 ghost use Rattle.trace_run.specs.Steps.{IsStep, LineCame, trace_stop};
 
@@ -51,14 +52,9 @@ pub fn run_trace<R: Runner, O: Sink>(
     requires countable { length interface.relations.items < 2 ^ 32 }
     requires each_input { length interface.given.items ≡ R.input_count runner.old }
     requires each_output { length interface.outgoing.items ≡ R.output_count runner.old }
-    ensures { RunsTrace (Brings R.reacts R.resets interface.outgoing.items runner.old runner.new)
+    ensures { RunsTrace (Brings R.shows interface.outgoing.items runner.old)
         (beginning trace.items interface.given.items (map relation_of interface.relations.items))
-        (record {
-          before = O.told out.old;
-          after = O.told out.new;
-          faults_before = O.faults out.old;
-          faults_now = O.faults out.new;
-        })
+        (change O.told O.faults out.old out.new)
         result }
 {
     let names = interface.outgoing;
@@ -83,14 +79,9 @@ fn run_item<R: Runner, O: Sink>(
     requires within { (reading_of reader.old).at ≤ length (reading_of reader.old).text }
     requires each_input { length (reading_of reader.old).inputs ≡ R.input_count runner.old }
     requires each_output { length names.now ≡ R.output_count runner.old }
-    ensures step { IsStep R.reacts R.resets names.now (reading_of reader.old) (reading_of reader.new)
+    ensures step { IsStep R.shows names.now (reading_of reader.old) (reading_of reader.new)
         runner.old runner.new
-        (record {
-          before = O.told out.old;
-          after = O.told out.new;
-          faults_before = O.faults out.old;
-          faults_now = O.faults out.new;
-        })
+        (change O.told O.faults out.old out.new)
         result }
     ensures text_stays { (reading_of reader.new).text ≡ (reading_of reader.old).text }
     ensures given_stay { (reading_of reader.new).inputs ≡ (reading_of reader.old).inputs }
@@ -131,14 +122,9 @@ fn run_event<R: Runner, O: Sink>(
 ) -> Result<(), RunFault>
     requires each_input { length inputs.now ≡ R.input_count runner.old }
     requires each_output { length names.now ≡ R.output_count runner.old }
-    ensures reacts { (answer : Answer) × R.reacts runner.old inputs.now answer runner.new
+    ensures answered { (answer : Answer) × Answered R.shows runner.old inputs.now answer runner.new
         × LineCame
-        (record {
-          before = O.told out.old;
-          after = O.told out.new;
-          faults_before = O.faults out.old;
-          faults_now = O.faults out.new;
-        })
+        (change O.told O.faults out.old out.new)
         (line names.now answer.present answer.word) result }
     ensures inputs_stay { R.input_count runner.new ≡ R.input_count runner.old }
     ensures outputs_stay { R.output_count runner.new ≡ R.output_count runner.old }

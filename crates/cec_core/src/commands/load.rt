@@ -1,6 +1,7 @@
 // The command that runs a generated source over drawn events, by both of its texts.
 
 ghost use Rattle.std.specs.Prelude.{◌≡◌, ◌+◌, ◌<◌, ◌≤◌, ◌^◌, [], length, count_by, Some, None, IfOk, IfErr, OnOk};
+ghost use Rattle.est_base.specs.SinkChanges.{change};
 ghost use Rattle.est_gen.specs.Sources.{source_text};
 ghost use Rattle.net_ir.specs.Runs.{netlist_of};
 ghost use Rattle.cec_core.specs.Contents.{Content};
@@ -16,9 +17,10 @@ use crate::compiler::{Compiled, compile_picked};
 use crate::lines::{Subject, report, subject_of_none};
 use crate::outcome::Outcome;
 use crate::refusal::{Limit, Refusal};
-use blif_text::{read_blif, write_blif};
+use blif_run::BlifTexts;
+use blif_text::write_blif;
 use cec_words::Pick;
-use csub_read::read_c;
+use csub_run::CTexts;
 use csub_text::write_c;
 use est_base::{Draw, Limits, NoMemory, Sink, write_text};
 use est_gen::{generate_source, next_event};
@@ -26,8 +28,7 @@ use itoa::Buffer;
 use net_ir::Net;
 use std::alloc::Global;
 use trace_io::Word;
-use trace_run::{BlifRunner, Runner};
-use trace_run_c::CMachine;
+use trace_run::{Language, Runner};
 
 /// How many outgoing signals were present in all instants, and how many of the instants ended paused.
 #[derive(Clone, Copy)]
@@ -47,12 +48,7 @@ pub(crate) fn write_load<O: Sink, E: Sink>(
 ) -> Outcome
     ensures agrees { MakesOn None result (source_text start branches) }
     ensures out { LeavesText (IsSummary (source_text start branches) (state_behind start branches) instants)
-        (record {
-          before = O.told out.old;
-          after = O.told out.new;
-          faults_before = O.faults out.old;
-          faults_now = O.faults out.new;
-        })
+        (change O.told O.faults out.old out.new)
         result }
     ensures err { (content : Content) → GainsErr (Some (Load start branches instants)) content result
         (E.told err.old) (E.told err.new) (E.faults err.old) (E.faults err.new) }
@@ -89,12 +85,7 @@ fn write_summary<O: Sink>(
     requires { length source.now ≤ Limits.SOURCE_BYTES }
     ensures agrees { MakesOn None result source.now }
     ensures out { LeavesText (IsSummary source.now draw instants)
-        (record {
-          before = O.told out.old;
-          after = O.told out.new;
-          faults_before = O.faults out.old;
-          faults_now = O.faults out.new;
-        })
+        (change O.told O.faults out.old out.new)
         result }
 {
     match summary(alloc, source, draw, instants) {
@@ -170,16 +161,13 @@ fn run_both(alloc: Global, net: &Net, draw: Draw, instants: u32) -> Result<Count
 {
     let circuit_text = write_blif(alloc, net)?;
     let program_text = write_c(alloc, net)?;
-    let Ok(blif) = read_blif(alloc, &circuit_text) else {
+    if circuit_text.len() as u64 > Limits::TEXT_BYTES
+        || program_text.len() as u64 > Limits::TEXT_BYTES
+    {
         return Err(NoMemory);
-    };
-    let Ok(mut circuit) = BlifRunner::new(alloc, &blif) else {
-        return Err(NoMemory);
-    };
-    let Ok(program) = read_c(alloc, &program_text) else {
-        return Err(NoMemory);
-    };
-    let mut machine = CMachine::new(alloc, &program)?;
+    }
+    let mut circuit = BlifTexts::read_back(alloc, net, &circuit_text)?;
+    let mut machine = CTexts::read_back(alloc, net, &program_text)?;
     let mut draw = draw;
     let (shown, called) = run_drawn(&mut circuit, &mut machine, &mut draw, instants);
     // Both texts mean the net, so their runs have the same numbers.
@@ -199,8 +187,8 @@ fn run_drawn<R: Runner, S: Runner>(
     requires each_output { R.output_count circuit.old ≡ 8 }
     requires each_given { S.input_count machine.old ≡ 8 }
     requires each_shown { S.output_count machine.old ≡ 8 }
-    ensures shown { CountsMachine R.reacts R.resets circuit.old circuit.new (drawn_items instants draw.old) result.0 }
-    ensures called { CountsMachine S.reacts S.resets machine.old machine.new (drawn_items instants draw.old) result.1 }
+    ensures shown { CountsMachine R.shows circuit.old circuit.new (drawn_items instants draw.old) result.0 }
+    ensures called { CountsMachine S.shows machine.old machine.new (drawn_items instants draw.old) result.1 }
 {
     let mut shown = Counts {
         emitted: 0,
@@ -221,7 +209,7 @@ fn with_reaction<R: Runner>(machine: &mut R, event: &[bool], counts: Counts) -> 
     requires each_output { R.output_count machine.old ≡ 8 }
     requires few { counts.emitted + 8 < 2 ^ 64 }
     requires each { counts.paused + 1 < 2 ^ 64 }
-    ensures more { CountsMore R.reacts machine.old event.now machine.new counts result }
+    ensures more { CountsMore R.shows machine.old event.now machine.new counts result }
     ensures inputs_stay { R.input_count machine.new ≡ R.input_count machine.old }
     ensures outputs_stay { R.output_count machine.new ≡ R.output_count machine.old }
 {

@@ -1,6 +1,7 @@
 // The commands that make a text of a source.
 
 ghost use Rattle.std.specs.Prelude.{◌≡◌, ◌≤◌, length, Some, unwrap_or, []};
+ghost use Rattle.est_base.specs.SinkChanges.{change};
 ghost use Rattle.cec_core.specs.Answers.{IsAnswer};
 ghost use Rattle.cec_core.specs.Jobs.{Make};
 ghost use Rattle.cec_core.specs.JobViews.{plain_job};
@@ -34,12 +35,7 @@ pub(crate) fn make_text<F: Files, O: Sink, E: Sink>(
         (F.faults files.old) (F.faults files.new) (F.last_failed files.old) (F.last_failed files.new) }
     ensures files_stay { F.content files.new ≡ F.content files.old }
     ensures out { GainsOut (Some (Make task (plain_job job.entry))) (F.content files.old) result
-        (record {
-          before = O.told out.old;
-          after = O.told out.new;
-          faults_before = O.faults out.old;
-          faults_now = O.faults out.new;
-        }) }
+        (change O.told O.faults out.old out.new) }
     ensures err { GainsErr (Some (Make task (plain_job job.entry))) (F.content files.old) result
         (E.told err.old) (E.told err.new) (E.faults err.old) (E.faults err.new) }
 {
@@ -88,12 +84,7 @@ fn do_task<O: Sink>(alloc: Global, task: Task, job: Job<'_>, source: &[u8], out:
     requires { length source.now ≤ Limits.SOURCE_BYTES }
     ensures agrees { MakesOn (plain_job job.entry).main result source.now }
     ensures out { LeavesAnswer task (IsAnswer task (plain_job job.entry).main source.now)
-        (record {
-          before = O.told out.old;
-          after = O.told out.new;
-          faults_before = O.faults out.old;
-          faults_now = O.faults out.new;
-        })
+        (change O.told O.faults out.old out.new)
         result }
 {
     match task {
@@ -115,12 +106,7 @@ fn write_blif_text<O: Sink>(alloc: Global, job: Job<'_>, source: &[u8], out: &mu
     requires { length source.now ≤ Limits.SOURCE_BYTES }
     ensures agrees { MakesOn (plain_job job.entry).main result source.now }
     ensures out { LeavesPieces (IsAnswer Task.Blif (plain_job job.entry).main source.now)
-        (record {
-          before = O.told out.old;
-          after = O.told out.new;
-          faults_before = O.faults out.old;
-          faults_now = O.faults out.new;
-        })
+        (change O.told O.faults out.old out.new)
         result }
 {
     match compile_picked(alloc, source, job.main, job.pick) {
@@ -137,12 +123,7 @@ fn write_c_text<O: Sink>(alloc: Global, job: Job<'_>, source: &[u8], out: &mut O
     requires { length source.now ≤ Limits.SOURCE_BYTES }
     ensures agrees { MakesOn (plain_job job.entry).main result source.now }
     ensures out { LeavesPieces (IsAnswer Task.C (plain_job job.entry).main source.now)
-        (record {
-          before = O.told out.old;
-          after = O.told out.new;
-          faults_before = O.faults out.old;
-          faults_now = O.faults out.new;
-        })
+        (change O.told O.faults out.old out.new)
         result }
 {
     match compile_picked(alloc, source, job.main, job.pick) {

@@ -1,6 +1,7 @@
 // The commands that read no file.
 
 ghost use Rattle.std.specs.Prelude.{◌≡◌, ◌≤◌};
+ghost use Rattle.est_base.specs.SinkChanges.{change};
 ghost use Rattle.est_gen.specs.Sources.{source_text};
 ghost use Rattle.cec_core.specs.HelpTexts.{help_text};
 ghost use Rattle.cec_core.specs.Outcomes.{IsWriting, LeavesText};
@@ -23,12 +24,7 @@ cec gen --start N --branches N [--run N]
 pub(crate) fn write_help<O: Sink>(out: &mut O) -> Outcome
     ensures agrees { IsWriting result }
     ensures out { LeavesText (λ text. text ≡ help_text)
-        (record {
-          before = O.told out.old;
-          after = O.told out.new;
-          faults_before = O.faults out.old;
-          faults_now = O.faults out.new;
-        })
+        (change O.told O.faults out.old out.new)
         result }
 {
     match write_text(out, HELP) {
@@ -46,12 +42,7 @@ pub(crate) fn write_generated<O: Sink>(
 ) -> Outcome
     ensures agrees { IsWriting result }
     ensures out { LeavesText (λ text. text ≡ source_text start branches)
-        (record {
-          before = O.told out.old;
-          after = O.told out.new;
-          faults_before = O.faults out.old;
-          faults_now = O.faults out.new;
-        })
+        (change O.told O.faults out.old out.new)
         result }
 {
     // The words give a number of branches for which there is a source.

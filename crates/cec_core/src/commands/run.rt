@@ -1,11 +1,12 @@
 // The command that runs a source over a trace.
 
 ghost use Rattle.std.specs.Prelude.{◌≡◌, ◌≤◌, length, map, Some, IfOk, IfErr, option_map};
+ghost use Rattle.est_base.specs.SinkChanges.{change};
 ghost use Rattle.est_base.specs.Relations.{relation_of};
 ghost use Rattle.net_ir.specs.Netlists.{output_names};
 ghost use Rattle.net_ir.specs.Runs.{netlist_of};
 ghost use Rattle.trace_io.specs.Answers.{beginning};
-ghost use Rattle.trace_run.specs.NetRuns.{ShowsNet};
+ghost use Rattle.trace_run.specs.Languages.{ShowsNet};
 ghost use Rattle.trace_run.specs.Running.{RunsTrace};
 ghost use Rattle.cec_core.specs.Compiling.{StandsForNet};
 ghost use Rattle.cec_core.specs.Contents.{Holds};
@@ -25,14 +26,15 @@ use crate::jobs::Job;
 use crate::lines::report;
 use crate::outcome::{Outcome, Which};
 use crate::refusal::{Limit, Refusal};
+use blif_run::BlifTexts;
 use blif_text::write_blif;
 use cec_words::{Pick, Via};
+use csub_run::CTexts;
 use csub_text::write_c;
 use est_base::{Files, Limits, NoMemory, Sink};
 use net_ir::Net;
 use std::alloc::Global;
 use trace_run::{RunFault, net_interface, run_written};
-use trace_run_c::run_written_c;
 
 /// Runs the source in a file over the trace in another, and says how it ended.
 pub(crate) fn run_file<F: Files, O: Sink, E: Sink>(
@@ -49,12 +51,7 @@ pub(crate) fn run_file<F: Files, O: Sink, E: Sink>(
         (F.faults files.old) (F.faults files.new) (F.last_failed files.old) (F.last_failed files.new) }
     ensures files_stay { F.content files.new ≡ F.content files.old }
     ensures out { GainsOut (Some (Run via (plain_job job.entry) trace.now)) (F.content files.old) result
-        (record {
-          before = O.told out.old;
-          after = O.told out.new;
-          faults_before = O.faults out.old;
-          faults_now = O.faults out.new;
-        }) }
+        (change O.told O.faults out.old out.new) }
     ensures err { GainsErr (Some (Run via (plain_job job.entry) trace.now)) (F.content files.old) result
         (E.told err.old) (E.told err.new) (E.faults err.old) (E.faults err.new) }
 {
@@ -90,19 +87,9 @@ fn source_run<F: Files, O: Sink>(
     ensures files_stay { F.content files.new ≡ F.content files.old }
     ensures out { LeavesRun (λ ended. Holds (F.content files.old) trace.now
         (λ items. RunsSource (plain_job job.entry).main source.now items
-        (record {
-          before = O.told out.old;
-          after = O.told out.new;
-          faults_before = O.faults out.old;
-          faults_now = O.faults out.new;
-        })
+        (change O.told O.faults out.old out.new)
         ended))
-        (record {
-          before = O.told out.old;
-          after = O.told out.new;
-          faults_before = O.faults out.old;
-          faults_now = O.faults out.new;
-        })
+        (change O.told O.faults out.old out.new)
         result }
 {
     let (compiled, text) = match compiled_text(alloc, via, source, job.main, job.pick) {
@@ -161,12 +148,7 @@ fn run_compiled<O: Sink>(
     ensures { RunsTrace (ShowsNet (output_names (netlist_of compiled.net)) (netlist_of compiled.net))
         (beginning trace.items (netlist_of compiled.net).inputs
         (map relation_of compiled.graph.program.relations.items))
-        (record {
-          before = O.told out.old;
-          after = O.told out.new;
-          faults_before = O.faults out.old;
-          faults_now = O.faults out.new;
-        })
+        (change O.told O.faults out.old out.new)
         result }
 {
     let Compiled { graph, net, .. } = compiled;
@@ -181,7 +163,7 @@ fn run_compiled<O: Sink>(
         Err(NoMemory) => return Err(RunFault::NoMemory),
     };
     match via {
-        Via::Blif => run_written(alloc, &net, text, interface, trace, out),
-        Via::C => run_written_c(alloc, &net, text, interface, trace, out),
+        Via::Blif => run_written::<BlifTexts, O>(alloc, &net, text, interface, trace, out),
+        Via::C => run_written::<CTexts, O>(alloc, &net, text, interface, trace, out),
     }
 }

@@ -1,5 +1,5 @@
-use Rattle.trace_run.proofs.Fronts.{nets-are-written, texts-are-written}
+use Rattle.trace_run.proofs.Fronts.{nets-are-written}
 use Rattle.trace_run.proofs.laws.runs_are_written.Goals as goal
 
 pub returns : goal.returns
-returns c = record { nets = nets-are-written; texts = texts-are-written }
+returns c = nets-are-written

@@ -1,5 +1,6 @@
 use Rattle.std.proofs.Common.{◌∙◌, sym, ap, length, subst, Ok, Err, Some}
 use Rattle.trace_io.specs.Answers.{Answers, reading_of}
+use Rattle.trace_run.specs.Machines.{Answered}
 use Rattle.trace_run.specs.Steps.{IsStep}
 use Rattle.trace_run.proofs.Groups.{Fits, fits-next}
 use Rattle.trace_run.proofs.Stepping.{untouched, step-end, step-stop, step-reset, step-event}
@@ -10,7 +11,7 @@ returns-in-Ok-None-clause-step g c =
     let r = reading_of c.args.reader.now in
     let later = reading_of c.next.new.self in
     let a = subst (λ x. Answers r x later) (c.in-Ok-None.is ∙ ap Ok c.in-Ok-None.field-0-is) c.next.ensures in
-    step-end g.R.Runner.reacts g.R.Runner.resets c.args.names.now r later c.args.runner.now _ _ a.0 a.1
+    step-end g.R.Runner.shows c.args.names.now r later c.args.runner.now _ _ a.0 a.1
 
 pub returns-in-Ok-Some-Reset-clause-step : goal.returns-in-Ok-Some-Reset-clause-step
 returns-in-Ok-Some-Reset-clause-step g c =
@@ -18,8 +19,8 @@ returns-in-Ok-Some-Reset-clause-step g c =
     let later = reading_of c.next.new.self in
     let is = c.in-Ok-Some-Reset.is ∙ ap Ok (c.in-Ok-Some-Reset.field-0-is ∙ ap Some c.in-Ok-Some-Reset.field-0-0-is) in
     let a = subst (λ x. Answers r x later) is c.next.ensures in
-    step-reset g.R.Runner.reacts g.R.Runner.resets c.args.names.now r later c.args.runner.now c.reset.new.self _ _ a.0 c.requires.within a.1 a.2
-    c.reset.ensures.resets
+    step-reset g.R.Runner.shows c.args.names.now r later c.args.runner.now c.reset.new.self _ _ a.0 c.requires.within a.1 a.2
+    c.reset.ensures.put_back
 
 pub run_event-requires-clause-each_input : goal.run_event-requires-clause-each_input
 run_event-requires-clause-each_input g c =
@@ -36,10 +37,10 @@ returns-in-Ok-clause-step g c =
     let later = reading_of c.next.new.self in
     let is = c.in-Ok-Some-React.is ∙ ap Ok (c.in-Ok-Some-React.field-0-is ∙ ap Some c.in-Ok-Some-React.field-0-0-is) in
     let a = subst (λ x. Answers r x later) is c.next.ensures in
-    let came = c.in-Ok.ensures.reacts in
-    step-event g.R.Runner.reacts g.R.Runner.resets c.args.names.now r later c.args.runner.now c.run_event.new.runner _ (Ok c.in-Ok.field-0)
+    let came = c.in-Ok.ensures.answered in
+    step-event g.R.Runner.shows c.args.names.now r later c.args.runner.now c.run_event.new.runner _ (Ok c.in-Ok.field-0)
     c.in-Ok-Some-React.event a.0 came.0 c.requires.within a.1 a.2 a.3
-    (subst (λ e. g.R.Runner.reacts c.args.runner.now e came.0 c.run_event.new.runner) c.bits.ensures came.1) came.2
+    (subst (λ e. Answered g.R.Runner.shows c.args.runner.now e came.0 c.run_event.new.runner) c.bits.ensures came.1) came.2
 
 pub returns-in-Ok-Some-React-clause-step : goal.returns-in-Ok-Some-React-clause-step
 returns-in-Ok-Some-React-clause-step g c =
@@ -47,16 +48,16 @@ returns-in-Ok-Some-React-clause-step g c =
     let later = reading_of c.next.new.self in
     let is = c.in-Ok-Some-React.is ∙ ap Ok (c.in-Ok-Some-React.field-0-is ∙ ap Some c.in-Ok-Some-React.field-0-0-is) in
     let a = subst (λ x. Answers r x later) is c.next.ensures in
-    let came = c.in-Err-run_event.ensures.reacts in
-    step-event g.R.Runner.reacts g.R.Runner.resets c.args.names.now r later c.args.runner.now c.run_event.new.runner _ (Err c.in-Err-run_event.fault)
+    let came = c.in-Err-run_event.ensures.answered in
+    step-event g.R.Runner.shows c.args.names.now r later c.args.runner.now c.run_event.new.runner _ (Err c.in-Err-run_event.fault)
     c.in-Ok-Some-React.event a.0 came.0 c.requires.within a.1 a.2 a.3
-    (subst (λ e. g.R.Runner.reacts c.args.runner.now e came.0 c.run_event.new.runner) c.bits.ensures came.1) came.2
+    (subst (λ e. Answered g.R.Runner.shows c.args.runner.now e came.0 c.run_event.new.runner) c.bits.ensures came.1) came.2
 
 pub returns-clause-step : goal.returns-clause-step
 returns-clause-step g c =
     let r = reading_of c.args.reader.now in
     let later = reading_of c.next.new.self in
     let a = subst (λ x. Answers r x later) c.in-Err.is c.next.ensures in
-    subst (λ f. IsStep g.R.Runner.reacts g.R.Runner.resets c.args.names.now r later c.args.runner.now c.args.runner.now
+    subst (λ f. IsStep g.R.Runner.shows c.args.names.now r later c.args.runner.now c.args.runner.now
     (untouched (g.O.Sink.told c.args.out.now) (g.O.Sink.faults c.args.out.now)) (Err f)) (sym c.trace_stop.ensures)
-    (step-stop g.R.Runner.reacts g.R.Runner.resets c.args.names.now r later c.args.runner.now _ _ c.in-Err.error a)
+    (step-stop g.R.Runner.shows c.args.names.now r later c.args.runner.now _ _ c.in-Err.error a)

@@ -8,25 +8,25 @@ pub loop-reader-init : goal.loop-reader-init
 loop-reader-init g c = record {
   each_input = ap (λ (r : Reading). length r.inputs) c.new-reader.ensures ∙ c.requires.each_input;
   each_output = c.requires.each_output;
-  so_far = so-far-nothing g.R.Runner.reacts g.R.Runner.resets c.args.interface.outgoing.items (reading_of c.new-reader.result) c.args.runner.now
+  so_far = so-far-nothing g.R.Runner.shows c.args.interface.outgoing.items (reading_of c.new-reader.result) c.args.runner.now
       (g.O.Sink.told c.args.out.now) (g.O.Sink.faults c.args.out.now);
 }
 
 pub loop-reader-preserved : goal.loop-reader-preserved
 loop-reader-preserved g c =
-    let step = step-as _ _ _ _ _ _ _ _ _ _ _ c.deref.ensures.value (ap Ok c.in-Ok-true.field-0-test) c.in-Ok-true.ensures.step in
+    let step = step-as _ _ _ _ _ _ _ _ _ _ c.deref.ensures.value (ap Ok c.in-Ok-true.field-0-test) c.in-Ok-true.ensures.step in
     record {
       each_input = ap length c.run_item.ensures.given_stay ∙ c.loop-reader.invariant.each_input ∙ sym c.run_item.ensures.inputs_stay;
       each_output = c.loop-reader.invariant.each_output ∙ sym c.run_item.ensures.outputs_stay;
-      so_far = so-far-more _ _ _ _ _ _ _ _ _ _ _ _ _ _ _ c.loop-reader.invariant.so_far step;
+      so_far = so-far-more _ _ _ _ _ _ _ _ _ _ _ _ _ _ c.loop-reader.invariant.so_far step;
     }
 
 pub returns-in-Ok-false : goal.returns-in-Ok-false
 returns-in-Ok-false g c =
-    let step = step-as _ _ _ _ _ _ _ _ _ _ _ c.deref.ensures.value (ap Ok c.in-Ok-false.field-0-test) c.in-Ok-false.ensures.step in
-    run-ends _ _ _ _ _ _ _ _ _ _ _ _ _ _ _ _ c.new-reader.ensures c.loop-reader.invariant.so_far step
+    let step = step-as _ _ _ _ _ _ _ _ _ _ c.deref.ensures.value (ap Ok c.in-Ok-false.field-0-test) c.in-Ok-false.ensures.step in
+    run-ends g.R.Runner.shows g.met.R.Runner.ends _ _ _ _ _ _ _ _ _ _ _ _ _ _ c.new-reader.ensures c.loop-reader.invariant.so_far step
 
 pub returns-in-Err : goal.returns-in-Err
 returns-in-Err g c =
-    let step = step-as _ _ _ _ _ _ _ _ _ _ _ c.deref.ensures.value refl c.in-Err.ensures.step in
-    run-stops _ _ _ _ _ _ _ _ _ _ _ _ _ _ _ _ c.in-Err.fault c.new-reader.ensures c.loop-reader.invariant.so_far step
+    let step = step-as _ _ _ _ _ _ _ _ _ _ c.deref.ensures.value refl c.in-Err.ensures.step in
+    run-stops g.R.Runner.shows g.met.R.Runner.ends _ _ _ _ _ _ _ _ _ _ _ _ _ _ c.in-Err.fault c.new-reader.ensures c.loop-reader.invariant.so_far step

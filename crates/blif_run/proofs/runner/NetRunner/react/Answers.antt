@@ -14,12 +14,12 @@ settle-requires c =
     let begun = with_items_is c.self.inside.values c.put_first.new.values (c.put_first.auto.values ∙ c.deref_mut.ensures.len) in
     let wide = ap length (c.deref_mut-2.ensures.value ∙ begun) ∙ c.put_first.ensures.len ∙ ap length c.deref_mut.ensures.value ∙ c.self.invariant.each_slot in
     let carries = c.self.invariant.plan in
-    let does = carries.are (slot_count (plain_circuit c.self.inside.blif.now)) carries.plan.steps_fit in
+    let does = carries.are (slot_count (plain_circuit c.self.inside.blif)) carries.plan.steps_fit in
     subst (λ n. StepsFit n c.self.inside.plan.steps) (sym wide) does.fits
 
 pub returns : goal.returns
 returns c =
-    let circuit = plain_circuit c.self.inside.blif.now in
+    let circuit = plain_circuit c.self.inside.blif in
     let plan = c.self.inside.plan in
     let carries = c.self.invariant.plan in
     let does = carries.are (slot_count circuit) carries.plan.steps_fit in
@@ -30,7 +30,7 @@ returns c =
     let shown_now = with_items c.self.inside.outputs c.take_values-2.new.taken in
     let new : Runner = record { circuit = circuit; latches = kept_now.items; outputs = shown_now.items } in
     let wide = c.put_first.ensures.len ∙ ap length c.deref_mut.ensures.value ∙ c.self.invariant.each_slot in
-    let kept = c.self.invariant.each_latch ∙ sym (length-map c.self.inside.blif.now.latches.items plain_latch) in
+    let kept = c.self.invariant.each_latch ∙ sym (length-map c.self.inside.blif.latches.items plain_latch) in
     let given = c.requires ∙ ap (λ r. length r.circuit.inputs) (sym c.self.view_is) in
     let front = subst (λ l. take (length c.args.inputs.now + length l) c.put_first.new.values ≡ c.args.inputs.now ++ l) c.deref.ensures.value
     c.put_first.ensures.given in

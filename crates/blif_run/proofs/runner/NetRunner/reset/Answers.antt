@@ -8,7 +8,7 @@ use Rattle.blif_run.proofs.runner.NetRunner.reset.Goals as goal
 
 pub returns : goal.returns
 returns c =
-    let circuit = plain_circuit c.self.inside.blif.now in
+    let circuit = plain_circuit c.self.inside.blif in
     let latches = with_items c.self.inside.latches c.put_initial_values.new.values in
     let outputs = with_items c.self.inside.outputs c.put_false.new.values in
     let new : Runner = record { circuit = circuit; latches = latches.items; outputs = outputs.items } in

@@ -9,8 +9,8 @@ loop-instant-preserved g c =
     let one = c.with_reaction-shown.ensures in
     let other = c.with_reaction-called.ensures in
     record {
-      first = drawn-once _ _ _ _ _ _ _ _ _ _ _ _ so.first event.event event.state one.more;
-      second = drawn-once _ _ _ _ _ _ _ _ _ _ _ _ so.second event.event event.state other.more;
+      first = drawn-once _ _ _ _ _ _ _ _ _ _ _ so.first event.event event.state one.more;
+      second = drawn-once _ _ _ _ _ _ _ _ _ _ _ so.second event.event event.state other.more;
       each_input = one.inputs_stay ∙ so.each_input;
       each_output = one.outputs_stay ∙ so.each_output;
       each_given = other.inputs_stay ∙ so.each_given;

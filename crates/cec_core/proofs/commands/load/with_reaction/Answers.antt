@@ -11,7 +11,7 @@ returns-clause-more g c =
     let count = counted.count ∙ ap (count_by (λ b. b)) shown in
     record {
       answer = record { present = g.R.Runner.present c.react-word.new.self; word = c.react-word.result };
-      react = react.reacts;
+      answered = react.answered;
       emitted = ap (λ k. c.args.counts.emitted + k) count;
       few = subst (λ k. k ≤ 8) count (subst (λ n. c.present_count.result ≤ n) wide counted.within);
       paused = ap (λ k. c.args.counts.paused + k) c.pause_of.ensures;

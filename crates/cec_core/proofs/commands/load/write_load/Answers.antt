@@ -1,6 +1,6 @@
 use Rattle.std.proofs.Common.{[], None, refl, subst, ◌∙◌}
 use Rattle.est_gen.specs.Sources.{source_text}
-use Rattle.trace_run.specs.Running.{Sinks}
+use Rattle.est_base.specs.SinkChanges.{SinkChange}
 use Rattle.cec_core.specs.declared.outcome.Outcome.TheVariants as outcomes
 use Rattle.cec_core.specs.declared.refusal.Limit.TheVariants as limits
 use Rattle.cec_core.specs.Lines.{Subject}
@@ -21,7 +21,7 @@ returns-then-len-gt-SOURCE_BYTES-clause-err g c = λ content.
 
 pub returns-clause-out : goal.returns-clause-out
 returns-clause-out g c =
-    let s : Sinks = record {
+    let s : SinkChange = record {
       before = g.O.Sink.told c.args.out.now;
       after = g.O.Sink.told c.write_summary-outcome.new.out;
       faults_before = g.O.Sink.faults c.args.out.now;

@@ -1,6 +1,6 @@
 use Rattle.std.proofs.Common.{subst, ◌∙◌}
 use Rattle.est_base.specs.declared.bounds.TheConstants.Limits.{SOURCE_BYTES}
-use Rattle.trace_run.specs.Running.{Sinks}
+use Rattle.est_base.specs.SinkChanges.{SinkChange}
 use Rattle.cec_core.specs.Answers.{IsAnswer}
 use Rattle.cec_core.specs.declared.refusal.Limit.TheVariants as limits
 use Rattle.cec_core.specs.Jobs.{Make}
@@ -28,7 +28,7 @@ pub returns-in-Ok-clause-out : goal.returns-in-Ok-clause-out
 returns-in-Ok-clause-out g c =
     let job = plain_job c.args.job in
     let content = g.F.Files.content c.args.files.now in
-    let s : Sinks = record {
+    let s : SinkChange = record {
       before = g.O.Sink.told c.args.out.now;
       after = g.O.Sink.told c.do_task-outcome.new.out;
       faults_before = g.O.Sink.faults c.args.out.now;

@@ -1,7 +1,7 @@
 use Rattle.std.proofs.Common.{◌≡◌, ◌∙◌}
 use Rattle.cec_core.specs.declared.jobs.Task.TheVariants.{Blif}
 use Rattle.est_base.proofs.Gains.{appends-nothing}
-use Rattle.trace_run.specs.Running.{Sinks}
+use Rattle.est_base.specs.SinkChanges.{SinkChange}
 use Rattle.cec_core.specs.Answers.{IsAnswer}
 use Rattle.cec_core.specs.JobViews.{plain_job}
 use Rattle.cec_core.proofs.NetTexts.{blif_answers, net_source}
@@ -17,7 +17,7 @@ returns-in-Ok-clause-agrees g c =
 pub returns-in-Ok-clause-out : goal.returns-in-Ok-clause-out
 returns-in-Ok-clause-out g c =
     let main = (plain_job c.args.job).main in
-    let s : Sinks = record {
+    let s : SinkChange = record {
       before = g.O.Sink.told c.args.out.now;
       after = g.O.Sink.told c.write_in_pieces.new.out;
       faults_before = g.O.Sink.faults c.args.out.now;

@@ -3,7 +3,7 @@ use Rattle.est_base.specs.declared.bounds.TheConstants.Limits.{TRACE_BYTES, TEXT
 use Rattle.est_base.specs.Relations.{relation_of}
 use Rattle.est_kernel.specs.Plain.{Program}
 use Rattle.net_ir.specs.Runs.{netlist_of}
-use Rattle.trace_run.specs.Running.{Sinks}
+use Rattle.est_base.specs.SinkChanges.{SinkChange}
 use Rattle.cec_core.specs.Contents.{Holds}
 use Rattle.cec_core.specs.JobViews.{plain_job}
 use Rattle.cec_core.specs.Runs.{RunsSource}
@@ -66,7 +66,7 @@ returns-in-Err-read-clause-files_counted g c =
 pub returns-in-Err-read-clause-out : goal.returns-in-Err-read-clause-out
 returns-in-Err-read-clause-out g c =
     let content = g.F.Files.content c.args.files.now in
-    let s : Sinks = record {
+    let s : SinkChange = record {
       before = g.O.Sink.told c.args.out.now;
       after = g.O.Sink.told c.args.out.now;
       faults_before = g.O.Sink.faults c.args.out.now;

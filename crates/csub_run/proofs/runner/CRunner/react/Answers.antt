@@ -12,14 +12,14 @@ use Rattle.csub_run.proofs.runner.CRunner.react.Goals as goal
 
 pub put_values-requires-clause-within : goal.put_values-requires-clause-within
 put_values-requires-clause-within c =
-    let p = program_of c.self.inside.program.now in
+    let p = program_of c.self.inside.program in
     let wide = ap length c.deref_mut.ensures.value ∙ c.self.invariant.each_name in
     subst (λ n. All (λ k. k < n) c.deref.result.now) (sym wide)
     (subst (λ l. All (λ k. k < length (declared p)) l) (sym (c.deref.ensures.value ∙ c.self.invariant.plan.inputs_are)) (inputs-low p))
 
 pub run_steps-requires : goal.run_steps-requires
 run_steps-requires c =
-    let p = program_of c.self.inside.program.now in
+    let p = program_of c.self.inside.program in
     let begun = with_items_is c.self.inside.values c.put_values.new.values (c.put_values.auto.values ∙ c.deref_mut.ensures.len) in
     let wide = ap length (c.deref_mut-2.ensures.value ∙ begun) ∙ c.put_values.auto.values ∙ ap length c.deref_mut.ensures.value ∙ c.self.invariant.each_name in
     let steps = c.self.inside.plan.steps.items in
@@ -29,7 +29,7 @@ run_steps-requires c =
 
 pub invariant_of-self : goal.invariant_of-self
 invariant_of-self c =
-    let p = program_of c.self.inside.program.now in
+    let p = program_of c.self.inside.program in
     let plan = c.self.invariant.plan in
     let inputs = c.args.inputs.now in
     let begun = with_items_is c.self.inside.values c.put_values.new.values (c.put_values.auto.values ∙ c.deref_mut.ensures.len) in
@@ -43,7 +43,7 @@ invariant_of-self c =
 
 pub returns : goal.returns
 returns c =
-    let code = c.self.inside.program.now in
+    let code = c.self.inside.program in
     let p = program_of code in
     let plan = c.self.invariant.plan in
     let inputs = c.args.inputs.now in

@@ -12,11 +12,11 @@ invariant_of-self c =
     let shown = with_items_is c.self.inside.outputs c.take_values.new.taken (c.take_values.auto.taken ∙ c.deref_mut.ensures.len)
     ∙ c.take_values.ensures ∙ ap (λ v. map (value_at v) c.deref-2.result.now) c.deref-3.ensures.value
     ∙ ap (map (value_at c.copy_from_slice.new.self.items)) c.deref-2.ensures.value in
-    keeps-by _ c.self.invariant.names_fit plan (ap length is ∙ wide-first (program_of c.self.inside.program.now)) shown
+    keeps-by _ c.self.invariant.names_fit plan (ap length is ∙ wide-first (program_of c.self.inside.program)) shown
 
 pub returns : goal.returns
 returns c =
-    let code = c.self.inside.program.now in
+    let code = c.self.inside.program in
     let values = c.copy_from_slice.new.self.items in
     let is = c.copy_from_slice.ensures.items ∙ c.deref.ensures.value ∙ c.self.invariant.plan.initial_is in
     let next : Runner = record { code = code; values = values } in

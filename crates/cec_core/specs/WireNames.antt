@@ -1,0 +1,55 @@
+-- To believe: what it means that a text names the wires of a program's graph, and that it stores a value for each pause.
+use Rattle.std.specs.Prelude.{◌≡◌, ℕ, Bool, List, ◌++◌, length, Ok, codes, decimal, ◌+◌, ◌<◌}
+use Rattle.std.specs.List.{AllZip}
+use Rattle.est_base.specs.Items.{Item}
+use Rattle.est_kernel.specs.Plain.{Program}
+use Rattle.grc_graph.specs.GraphRuns.{IsGraphRun, graph_of, program_wires}
+use Rattle.grc_graph.specs.PlainGraphs.{wire_at}
+use Rattle.grc_graph.specs.Readings.{Valuation}
+use Rattle.grc_graph.specs.SelectionTrees.{body_leaves}
+use Rattle.grc_graph.specs.Walk.{Initial}
+use Rattle.machines.specs.Machines.{Machine, IsRun}
+use Rattle.blif_text.specs.Circuits.{Circuit, reading}
+use Rattle.blif_text.specs.Runs.{circuit_machine}
+use Rattle.csub_text.specs.Machine.{program_machine}
+use Rattle.csub_text.specs.Texts.{Describes}
+use Rattle.csub_text.specs.Trees.{Program as CProgram}
+use Rattle.cec_core.specs.Meaning.{AreItems}
+
+-- the name of the wire with this number in a BLIF text, and its variable in a C text
+abbrev pub wire_word : ℕ → List ℕ
+wire_word n = codes "_w" ++ decimal n
+
+abbrev pub wire_variable : ℕ → List ℕ
+wire_variable n = codes "w" ++ decimal n
+
+-- in an instant the name of each wire of the program's graph has the wire's value
+abbrev pub TellsWires : (ℕ → List ℕ) → Program → (List ℕ → Bool) → Valuation → Type 0
+TellsWires name p v V = (n : ℕ) → n < length (program_wires p) → v (name n) ≡ V (wire_at (program_wires p) n)
+
+-- The graph of the program has a run over the items, from instant to instant a solution of its equations (that it is
+-- the walk of the state that is reached says `solutions_are_walks`); and in each instant the names tell its wires.
+pub record WiresTold (name : ℕ → List ℕ) (p : Program) (items : List Item) (valuations : List (List ℕ → Bool)) :
+    Type 0 where
+  pub run : List Valuation
+  pub is_run : IsGraphRun (graph_of p) Initial items run
+  pub told : AllZip (TellsWires name p) valuations run
+
+-- A machine has as many latches or states as the selection tree has leaves, and one more, for the first instant; and
+-- along each of its runs the names tell the wires of the program's graph.
+pub record NamesWires (M : Machine (List ℕ → Bool)) (count : ℕ) (name : ℕ → List ℕ) (p : Program) : Type 0 where
+  pub stored : count ≡ length (body_leaves p.body) + 1
+  pub wires : (items : List Item) → AreItems p items → (valuations : List (List ℕ → Bool)) → IsRun M items valuations
+      → WiresTold name p items valuations
+
+-- of a BLIF text
+pub record TextNames (text : List ℕ) (p : Program) : Type 0 where
+  pub circuit : Circuit
+  pub reads : reading text ≡ Ok circuit
+  pub wires : NamesWires (circuit_machine circuit) (length circuit.latches) wire_word p
+
+-- of a C text
+pub record CTextNames (text : List ℕ) (p : Program) : Type 0 where
+  pub program : CProgram
+  pub describes : Describes text program
+  pub wires : NamesWires (program_machine program) (length program.states) wire_variable p

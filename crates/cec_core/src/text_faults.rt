@@ -1,0 +1,32 @@
+// The first fault of a text that is to be run, whatever its language.
+
+ghost use Rattle.std.specs.Prelude.{◌≡◌};
+ghost use Rattle.cec_core.specs.declared.text_faults.TextFault.TheVariants.{Blif as of_blif, C as of_c};
+
+use blif_run::TextFault as CircuitFault;
+use csub_run::TextFault as ProgramFault;
+
+/// The first fault of a text that is to be run, by its language.
+#[derive(Debug, Drop)]
+pub enum TextFault {
+    /// Of a BLIF text.
+    Blif(CircuitFault),
+    /// Of a text of the C subset.
+    C(ProgramFault),
+}
+
+impl From<CircuitFault> for TextFault {
+    ghost from_gives = { λ fault told. told ≡ of_blif fault };
+
+    fn from(fault: CircuitFault) -> TextFault {
+        TextFault::Blif(fault)
+    }
+}
+
+impl From<ProgramFault> for TextFault {
+    ghost from_gives = { λ fault told. told ≡ of_c fault };
+
+    fn from(fault: ProgramFault) -> TextFault {
+        TextFault::C(fault)
+    }
+}

@@ -1,0 +1,69 @@
+-- The program of a net's text shows what the net does.
+use Rattle.std.proofs.Common.{◌≡◌, ℕ, ◌≤◌, List, [], ◌∷◌, length, map, refl, sym, ap, ◌∙◌, subst, arith}
+use Rattle.std.proofs.lemmas.List.{length-map}
+use Rattle.std.proofs.lemmas.Simd.{map-map}
+use Rattle.est_base.specs.declared.bounds.TheConstants.Limits.{TEXT_BYTES}
+use Rattle.est_base.specs.Items.{Item, EachEvent}
+use Rattle.machines.proofs.Showing.{computed-shows}
+use Rattle.net_ir.specs.Netlists.{Netlist}
+use Rattle.net_ir.specs.Runs.{Shown, net_run}
+use Rattle.csub_read.specs.declared.refusal.CError.{CError}
+use Rattle.csub_read.specs.declared.refusal.CError.TheVariants as faults
+use Rattle.csub_read.specs.Faults.{ReadsAs, ReadsFault}
+use Rattle.csub_read.specs.Laws.{LacksRoom}
+use Rattle.csub_read.proofs.ReadBack.{written-are-read}
+use Rattle.csub_text.specs.Machine.{Memory, Seen, seen, first_memory, call, memories, run}
+use Rattle.csub_text.specs.Names.{inputs_of, outputs_of}
+use Rattle.csub_text.specs.Trees.{Program}
+use Rattle.csub_text.specs.Written.{Means, input_variable, output_variable, shown_by_call}
+use Rattle.csub_run.specs.ProgramAnswers.{answer_seen, call_answer, program_shows}
+use Rattle.csub_run.specs.Runners.{Runner, program_in, IsFresh}
+use Rattle.csub_run.specs.Showing.{runner_shows}
+use Rattle.csub_run.specs.Tracing.{IsProgramOf}
+use Rattle.csub_run.proofs.Showing.{fresh_shows}
+use Rattle.trace_run.specs.Languages.{shown_answer, IsOfNet}
+use Rattle.trace_run.specs.Machines.{Answer}
+
+-- the reader of such a text has no fault to tell
+pub reader-lacks : (text : List ℕ) (net : Netlist) (error : CError) → Means text net → length text ≤ TEXT_BYTES → ReadsFault text error
+    → error ≡ faults.NoMemory
+reader-lacks text net error means fits r = by_error error ((written-are-read text net means).refusals error r)
+  where
+    by_error : (e : CError) → LacksRoom text e → e ≡ faults.NoMemory
+    by_error faults.TooLong long = absurd (omega (arith, fits, long))
+    by_error (faults.Syntax at) lacks = absurd lacks
+    by_error (faults.Twice name) lacks = absurd lacks
+    by_error (faults.Undeclared name) lacks = absurd lacks
+    by_error (faults.Unset name) lacks = absurd lacks
+    by_error faults.NoMemory lacks = refl
+
+-- and reads it as the program by which it means the net
+pub reader-reads : (text : List ℕ) (net : Netlist) (p : Program) → Means text net → ReadsAs text p → IsProgramOf net p
+reader-reads text net p means reads = record { text = text; means = means; is = (written-are-read text net means).only p reads.describes }
+
+-- its program has as many inputs and outputs as the net
+pub inputs-counted : (net : Netlist) (p : Program) → IsProgramOf net p → length net.inputs ≡ length (inputs_of p)
+inputs-counted net p of =
+    sym (ap (λ q. length (inputs_of q)) of.is ∙ ap length of.means.inputs ∙ length-map net.inputs input_variable)
+
+pub outputs-counted : (net : Netlist) (p : Program) → IsProgramOf net p → length net.outputs ≡ length (outputs_of p)
+outputs-counted net p of =
+    sym (ap (λ q. length (outputs_of q)) of.is ∙ ap length of.means.outputs ∙ length-map net.outputs output_variable)
+
+pub answers-shown : (shown : List Shown) → map answer_seen (map shown_by_call shown) ≡ map shown_answer shown
+answers-shown [] = refl
+answers-shown (s ∷ shown) = ap (λ l. shown_answer s ∷ l) (answers-shown shown)
+
+-- a program shows the answers of its run
+shows-run : (p : Program) (items : List Item) (answers : List Answer) → program_shows p items answers → answers ≡ map answer_seen (run p items)
+shows-run p items answers shows =
+    computed-shows (first_memory p.states) (λ m inputs. call p inputs m) (λ m inputs behind. behind) (call_answer p) (first_memory p.states) items answers shows
+    ∙ sym (map-map answer_seen (seen p) (memories p items))
+
+-- a fresh machine of it shows the net
+pub runner-net : (net : Netlist) (r : Runner) → IsProgramOf net (program_in r) → IsFresh r → IsOfNet runner_shows r net
+runner-net net r of fresh = record {
+  told = λ items answers wide shows.
+      shows-run (program_in r) items answers (fresh_shows r fresh items answers shows) ∙ ap (λ q. map answer_seen (run q items)) of.is
+      ∙ ap (map answer_seen) (of.means.shows items wide) ∙ answers-shown (net_run net items);
+}

@@ -1,0 +1,36 @@
+-- A worked program and its lines. The values are those of an implementation in Python.
+use Rattle.std.proofs.Common.{◌≡◌, true, false, List, [], ◌∷◌, map, codes, refl}
+use Rattle.est_base.specs.Items.{Item, Event, Reset}
+use Rattle.csub_text.specs.Trees.{Expr, Exprs, Name, Not, And, Or, NoExprs, MoreExprs, Program}
+use Rattle.csub_text.specs.Machine.{run}
+use Rattle.csub_run.specs.ProgramAnswers.{answer_seen, bare_inputs, bare_outputs}
+use Rattle.trace_run.specs.Machines.{answer_lines}
+
+abbrev two : Expr → Expr → Exprs
+two a b = MoreExprs a (MoreExprs b NoExprs)
+
+-- O_A = I_A | O_Y; O_Y = I_B & !k; k = I_B; return O_A;
+abbrev signs : Program
+signs = record {
+  states = record { name = codes "k"; init = true } ∷ [];
+  globals = codes "O_Y" ∷ codes "I_B" ∷ codes "I_A" ∷ codes "O_A" ∷ [];
+  locals = [];
+  body = record { target = codes "O_A"; value = Or (two (Name (codes "I_A")) (Name (codes "O_Y"))) }
+      ∷ record { target = codes "O_Y"; value = And (two (Name (codes "I_B")) (Not (Name (codes "k")))) }
+      ∷ record { target = codes "k"; value = Name (codes "I_B") } ∷ [];
+  answer = Name (codes "O_A");
+}
+
+-- B; B; A B; ; A B; !reset; B; ;
+abbrev items : List Item
+items = Event (true ∷ false ∷ []) ∷ Event (true ∷ false ∷ []) ∷ Event (true ∷ true ∷ []) ∷ Event (false ∷ false ∷ []) ∷ Event (true ∷ true ∷ []) ∷ Reset
+    ∷ Event (true ∷ false ∷ []) ∷ Event (false ∷ false ∷ []) ∷ []
+
+inputs_in_order : bare_inputs signs ≡ codes "B" ∷ codes "A" ∷ []
+inputs_in_order = refl
+
+outputs_in_order : bare_outputs signs ≡ codes "Y" ∷ codes "A" ∷ []
+outputs_in_order = refl
+
+lines : answer_lines (bare_outputs signs) (map answer_seen (run signs items)) ≡ codes "- | ended\n- | ended\nA | paused\n- | ended\nY A | paused\n- | ended\n- | ended\n"
+lines = refl

@@ -1,5 +1,0 @@
-pub mod BareNames
-pub mod CRuns
-pub mod Prefixes
-pub mod Faults
-mod WorkedLines
