@@ -1,14 +1,14 @@
 -- The texts of each form that are written of a compiled source.
 use Rattle.std.proofs.Common.{◌≡◌, ℕ, List, Option, sym, subst}
 use Rattle.net_ir.specs.Runs.{netlist_of}
-use Rattle.blif_text.specs.Written as blif_texts
-use Rattle.csub_text.specs.Written as c_texts
+use Rattle.blif_run.specs.Texts as circuits
+use Rattle.csub_run.specs.Texts as programs
 use Rattle.cec_words.specs.declared.asked.Via.{Via}
 use Rattle.cec_words.specs.declared.asked.Via.TheVariants as vias
 use Rattle.cec_core.specs.declared.compiler.Compiled.{Compiled}
 use Rattle.cec_core.specs.declared.jobs.Task.TheVariants.{Blif, C}
 use Rattle.cec_core.specs.Answers.{IsAnswer}
-use Rattle.cec_core.specs.Compiling.{StandsForNet}
+use Rattle.cec_core.specs.Compiling.{StandsForNet, IsWrittenOf}
 use Rattle.cec_core.specs.NetTexts.{IsWritten}
 use Rattle.cec_core.specs.Sources.{IsSource, IsNetText}
 use Rattle.est_base.specs.declared.bounds.TheConstants.Limits.{SOURCE_BYTES}
@@ -20,21 +20,18 @@ pub net_text : (via : Via) (bytes : List ℕ) (main : Option (List ℕ)) (made :
 net_text vias.Blif bytes main made text s w = record { made = made; compiled = s; text = w.spelled }
 net_text vias.C bytes main made text s w = record { made = made; compiled = s; text = w.spelled }
 
--- the text that is written of a netlist is what the task asks for
-pub blif_answers : (bytes : List ℕ) (main : Option (List ℕ)) (made : Compiled) (text : List ℕ) → StandsForNet bytes main made
-    → blif_texts.Means (blif_texts.written (netlist_of made.net)) (netlist_of made.net) → text ≡ blif_texts.written (netlist_of made.net)
+-- the text that is written of a compiled source's netlist is what is asked for
+pub blif_answers : (bytes : List ℕ) (main : Option (List ℕ)) (text : List ℕ) → IsWrittenOf circuits.IsWritten bytes main text
     → IsAnswer Blif main bytes text
-blif_answers bytes main made text s means is = (
-  text_stands bytes main made text s (subst (λ t. blif_texts.Means t (netlist_of made.net)) (sym is) means),
-  record { made = made; compiled = s; text = is },
+blif_answers bytes main text w = (
+  text_stands bytes main w.made text w.compiled w.written.means,
+  record { made = w.made; compiled = w.compiled; text = w.written.spelled },
 )
 
-pub c_answers : (bytes : List ℕ) (main : Option (List ℕ)) (made : Compiled) (text : List ℕ) → StandsForNet bytes main made
-    → c_texts.Means (c_texts.written (netlist_of made.net)) (netlist_of made.net) → text ≡ c_texts.written (netlist_of made.net)
-    → IsAnswer C main bytes text
-c_answers bytes main made text s means is = (
-  c_text_stands bytes main made text s (subst (λ t. c_texts.Means t (netlist_of made.net)) (sym is) means),
-  record { made = made; compiled = s; text = is },
+pub c_answers : (bytes : List ℕ) (main : Option (List ℕ)) (text : List ℕ) → IsWrittenOf programs.IsWritten bytes main text → IsAnswer C main bytes text
+c_answers bytes main text w = (
+  c_text_stands bytes main w.made text w.compiled w.written.means,
+  record { made = w.made; compiled = w.compiled; text = w.written.spelled },
 )
 
 pub net_source : (bytes : List ℕ) (main : Option (List ℕ)) (made : Compiled) → length bytes ≤ SOURCE_BYTES → StandsForNet bytes main made → IsSource main bytes

@@ -1,6 +1,6 @@
 -- Texts that are written piece by piece, and what was written of them.
-use Rattle.std.proofs.Common.{◌≡◌, ℕ, List, [], ◌++◌, length, take, drop, Option, inl, inr, refl, sym, ap, ◌∙◌, subst, ⊎_elim}
-use Rattle.std.proofs.Common.{◌<◌, append_assoc, append-nil, arith}
+use Rattle.std.proofs.Common.{◌≡◌, ℕ, List, [], ◌++◌, length, take, drop, Option, Some, inl, inr, refl, sym, ap, ◌∙◌, subst, ⊎_elim}
+use Rattle.std.proofs.Common.{◌<◌, ◌≤◌, append_assoc, append-nil, arith}
 use Rattle.std.proofs.lemmas.List.{length-take, length-drop, take-append-drop}
 use Rattle.std.proofs.Math.Seq.{take-append_seam}
 use Rattle.est_base.specs.declared.files.reading.FileFault.{FileFault}
@@ -14,11 +14,14 @@ use Rattle.cec_core.specs.declared.jobs.Task.TheVariants.{Blif, C, Grc, Check}
 use Rattle.cec_core.specs.declared.outcome.Outcome.{Outcome}
 use Rattle.cec_core.specs.declared.outcome.Outcome.TheVariants.{Done, Usage, FileFault as Unread, Static, Cyclic, Trace, BadText, Limit, WriteFault, NoMemory}
 use Rattle.cec_core.specs.declared.outcome.Which.TheVariants.{First}
+use Rattle.cec_core.specs.declared.refusal.Limit as bounds
 use Rattle.cec_core.specs.declared.refusal.Limit.TheVariants as limits
 use Rattle.cec_core.specs.declared.refusal.Refusal as refused
 use Rattle.cec_core.specs.declared.refusal.Refusal.TheVariants as refusals
 use Rattle.cec_core.specs.Outcomes.{IsWriting, MakesOn, LeavesText, LeavesPieces, LeavesAnswer}
+use Rattle.cec_core.specs.Refusals.{IsRefused}
 use Rattle.cec_core.specs.Sources.{IsSource}
+use Rattle.est_base.specs.declared.bounds.TheConstants.Limits.{SOURCE_BYTES}
 use Rattle.cec_core.specs.Statuses.{outcome_of}
 use Rattle.cec_core.specs.Subjects.{unread_outcome}
 
@@ -150,3 +153,22 @@ writing_makes main (BadText fault) bytes w is = absurd w
 writing_makes main (Limit quantity) bytes w is = absurd w
 writing_makes main WriteFault bytes w is = is
 writing_makes main NoMemory bytes w is = tt
+
+-- what was collected of a text
+pub collected : (P : List ℕ → Type 0) (bytes : List ℕ) (before now : ℕ) → LeavesPieces P (sinks (Some []) (Some bytes) before now) Done → P bytes
+collected P bytes before now l = subst P (sym l.2.whole) l.1
+
+-- why none was: what an outcome says of a source, as a refusal
+pub limit_refused : (main : Option (List ℕ)) (bytes : List ℕ) (limit : bounds.Limit) → length bytes ≤ SOURCE_BYTES → MakesOn main (Limit limit) bytes
+    → IsRefused bytes main (refusals.Limit limit)
+limit_refused main bytes limits.Source short m = m
+limit_refused main bytes limits.Trace short m = m.refused
+limit_refused main bytes limits.Text short m = m.refused
+limit_refused main bytes limits.Nesting short m = m.refused
+limit_refused main bytes limits.Statements short m = m.refused
+limit_refused main bytes limits.Signals short m = m.refused
+limit_refused main bytes limits.Kernel short m = m.refused
+limit_refused main bytes limits.Height short m = m.refused
+limit_refused main bytes limits.Traps short m = m.refused
+limit_refused main bytes limits.Instances short m = m.refused
+limit_refused main bytes limits.Wires short m = m.refused

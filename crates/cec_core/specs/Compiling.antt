@@ -17,6 +17,7 @@ use Rattle.net_gen.specs.Costs.{gates_at_most, linear_bound}
 use Rattle.grc_words.specs.Sizes.{rows_at_most}
 use Rattle.net_gen.specs.Generated.{HasInterfaceOf, FollowsInstants, FollowsRuns}
 use Rattle.net_ir.specs.Gates.{carried}
+use Rattle.net_ir.specs.Netlists.{Netlist}
 use Rattle.net_ir.specs.Runs.{netlist_of}
 use Rattle.net_simp.specs.SimpleNets.{IsSimple}
 use Rattle.blif_text.specs.Written as blif_texts
@@ -92,6 +93,13 @@ pub record StandsForC (text : List ℕ) (main : Option (List ℕ)) (written : Li
   pub compiles : Compiles program
   pub keeps : CTextKeeps written program
   pub names : CTextNames written program
+
+-- A text that is written so of a compiled program's netlist, from these bytes.
+pub record IsWrittenOf (writes : List ℕ → Netlist → Type 0) (bytes : List ℕ) (main : Option (List ℕ))
+    (text : List ℕ) : Type 0 where
+  pub made : Compiled
+  pub compiled : StandsForNet bytes main made
+  pub written : writes text (netlist_of made.net)
 
 -- The text is that of a compiled program's netlist, from the same bytes: it has a table for each gate, in the order of
 -- the gates, and a gate that carries a wire is named by it.

@@ -22,3 +22,4 @@ pub mod Lines
 pub mod Subjects
 pub mod Accepted
 pub mod Laws
+pub mod CollectedBytes

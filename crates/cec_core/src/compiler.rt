@@ -11,10 +11,11 @@ ghost use Rattle.cec_core.specs.Refusals.{DoesNotCompile, IsRefused};
 
 use crate::cycles::cycle_of;
 use crate::refusal::Refusal;
-use blif_text::write_blif;
+use crate::targets::text_of;
+use blif_run::BlifTexts;
 use cec_front::{Analysed, analyse};
 use cec_words::Pick;
-use csub_text::write_c;
+use csub_run::CTexts;
 use est_base::{Draw, Limits};
 use grc_build::build;
 use grc_copies::copies;
@@ -68,9 +69,10 @@ pub fn blif_of<P: Picker>(
     ensures made { IfOk result (λ written. IsBlifOf text.now (option_map (λ m. m.now) main.entry) written.items) }
     ensures refuses { IfErr result (IsRefused text.now (option_map (λ m. m.now) main.entry)) }
 {
-    let compiled = compile(alloc, text, main, picker)?;
-    let written = write_blif(alloc, &compiled.net)?;
-    Ok(written)
+    match text_of::<BlifTexts, P>(alloc, text, main, picker) {
+        Ok(written) => Ok(written),
+        Err(refusal) => Err(refusal),
+    }
 }
 
 /// The C text of a source, likewise: the text is in the C subset, with one variable for each given and each outgoing
@@ -88,9 +90,10 @@ pub fn c_of<P: Picker>(
     ensures made { IfOk result (λ written. IsCOf text.now (option_map (λ m. m.now) main.entry) written.items) }
     ensures refuses { IfErr result (IsRefused text.now (option_map (λ m. m.now) main.entry)) }
 {
-    let compiled = compile(alloc, text, main, picker)?;
-    let written = write_c(alloc, &compiled.net)?;
-    Ok(written)
+    match text_of::<CTexts, P>(alloc, text, main, picker) {
+        Ok(written) => Ok(written),
+        Err(refusal) => Err(refusal),
+    }
 }
 
 /// A source compiled: its graph, an evaluation order, and its simplified netlist. The errors are those of `blif_of`.

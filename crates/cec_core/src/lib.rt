@@ -7,6 +7,7 @@
 #![tactic(auto)]
 
 mod answers;
+mod collected;
 mod command;
 mod commands;
 mod compiler;
@@ -18,6 +19,7 @@ mod lines;
 mod outcome;
 mod refusal;
 mod steady;
+mod targets;
 mod text_faults;
 mod writing;
 

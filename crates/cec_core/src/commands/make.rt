@@ -3,6 +3,7 @@
 ghost use Rattle.std.specs.Prelude.{◌≡◌, ◌≤◌, length, Some, unwrap_or, []};
 ghost use Rattle.est_base.specs.SinkChanges.{change};
 ghost use Rattle.cec_core.specs.Answers.{IsAnswer};
+ghost use Rattle.cec_core.specs.Compiling.{IsWrittenOf};
 ghost use Rattle.cec_core.specs.Jobs.{Make};
 ghost use Rattle.cec_core.specs.JobViews.{plain_job};
 ghost use Rattle.cec_core.specs.Lines.{GainsErr};
@@ -10,15 +11,17 @@ ghost use Rattle.cec_core.specs.Outcomes.{Agrees, CountsFiles, GainsOut, LeavesA
 ghost use Rattle.cec_core.specs.Subjects.{plain_subject, unread_outcome};
 
 use crate::answers::{counts, listing};
-use crate::compiler::compile_picked;
 use crate::jobs::{Job, Task};
 use crate::lines::{Subject, report};
 use crate::outcome::{Outcome, Which};
 use crate::refusal::Limit;
-use crate::writing::{write_in_pieces, write_whole};
-use blif_text::BlifPieces;
-use csub_text::CPieces;
-use est_base::{FileFault, Files, Limits, Sink};
+use crate::targets::{Target, text_into};
+use crate::writing::write_whole;
+use blif_run::BlifTexts;
+use cec_words::Pick;
+use csub_run::CTexts;
+use est_base::{Draw, FileFault, Files, Limits, Sink};
+use grc_order::{Drawn, First, Last};
 use std::alloc::Global;
 
 /// Does a task on the source in a file, and says how it ended.
@@ -88,8 +91,8 @@ fn do_task<O: Sink>(alloc: Global, task: Task, job: Job<'_>, source: &[u8], out:
         result }
 {
     match task {
-        Task::Blif => write_blif_text(alloc, job, source, out),
-        Task::C => write_c_text(alloc, job, source, out),
+        Task::Blif => write_text::<BlifTexts, O>(alloc, job, source, out),
+        Task::C => write_text::<CTexts, O>(alloc, job, source, out),
         Task::Grc => match listing(alloc, source, job.main) {
             Ok(text) => write_whole(&text, out),
             Err(refusal) => Outcome::from(refusal),
@@ -101,36 +104,19 @@ fn do_task<O: Sink>(alloc: Global, task: Task, job: Job<'_>, source: &[u8], out:
     }
 }
 
-// Writes the BLIF text of a source, piece by piece.
-fn write_blif_text<O: Sink>(alloc: Global, job: Job<'_>, source: &[u8], out: &mut O) -> Outcome
+// Writes the text of a source in a language, piece by piece.
+fn write_text<T: Target, O: Sink>(alloc: Global, job: Job<'_>, source: &[u8], out: &mut O) -> Outcome
     requires { length source.now ≤ Limits.SOURCE_BYTES }
     ensures agrees { MakesOn (plain_job job.entry).main result source.now }
-    ensures out { LeavesPieces (IsAnswer Task.Blif (plain_job job.entry).main source.now)
-        (change O.told O.faults out.old out.new)
-        result }
+    ensures out { LeavesPieces (IsWrittenOf T.writes source.now (plain_job job.entry).main)
+        (change O.told O.faults out.old out.new) result }
 {
-    match compile_picked(alloc, source, job.main, job.pick) {
-        Ok(compiled) => {
-            let mut pieces = BlifPieces::new(&compiled.net);
-            write_in_pieces(alloc, &mut pieces, out)
+    match job.pick {
+        Pick::First => text_into::<T, First, O>(alloc, source, job.main, &mut First, out),
+        Pick::Last => text_into::<T, Last, O>(alloc, source, job.main, &mut Last, out),
+        Pick::Drawn(start) => {
+            let mut drawn = Drawn(Draw::new(start));
+            text_into::<T, Drawn, O>(alloc, source, job.main, &mut drawn, out)
         }
-        Err(refusal) => Outcome::from(refusal),
-    }
-}
-
-// Writes the C text of a source, piece by piece.
-fn write_c_text<O: Sink>(alloc: Global, job: Job<'_>, source: &[u8], out: &mut O) -> Outcome
-    requires { length source.now ≤ Limits.SOURCE_BYTES }
-    ensures agrees { MakesOn (plain_job job.entry).main result source.now }
-    ensures out { LeavesPieces (IsAnswer Task.C (plain_job job.entry).main source.now)
-        (change O.told O.faults out.old out.new)
-        result }
-{
-    match compile_picked(alloc, source, job.main, job.pick) {
-        Ok(compiled) => {
-            let mut pieces = CPieces::new(&compiled.net);
-            write_in_pieces(alloc, &mut pieces, out)
-        }
-        Err(refusal) => Outcome::from(refusal),
     }
 }
