@@ -105,7 +105,12 @@ fn do_task<O: Sink>(alloc: Global, task: Task, job: Job<'_>, source: &[u8], out:
 }
 
 // Writes the text of a source in a language, piece by piece.
-fn write_text<T: Target, O: Sink>(alloc: Global, job: Job<'_>, source: &[u8], out: &mut O) -> Outcome
+fn write_text<T: Target, O: Sink>(
+    alloc: Global,
+    job: Job<'_>,
+    source: &[u8],
+    out: &mut O,
+) -> Outcome
     requires { length source.now ≤ Limits.SOURCE_BYTES }
     ensures agrees { MakesOn (plain_job job.entry).main result source.now }
     ensures out { LeavesPieces (IsWrittenOf T.writes source.now (plain_job job.entry).main)
