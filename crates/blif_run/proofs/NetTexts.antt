@@ -108,4 +108,3 @@ inputs-differ circuit described =
     let parts = sym (all_differ-append is_same_name circuit.inputs others) ∙ sound.differ in
     let both = and_parts (all_differ is_same_name circuit.inputs && none_shared is_same_name circuit.inputs others) (all_differ is_same_name others) parts in
     (and_parts (all_differ is_same_name circuit.inputs) (none_shared is_same_name circuit.inputs others) both.0).0
-

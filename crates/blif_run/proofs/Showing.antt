@@ -44,7 +44,7 @@ answered old new inputs described reacts = record { in_front = in_front }
 
     in_front : (items : List Item) (answers : List Answer) → runner_shows new items answers
         → Shows (circuit_machine old.circuit) (circuit_answer old.circuit) old.latches (Event inputs ∷ items)
-            (answer_of new.circuit.outputs new.outputs ∷ answers)
+        (answer_of new.circuit.outputs new.outputs ∷ answers)
     in_front items answers shows =
         let u = reacts.valuation in
         let here : answer_of new.circuit.outputs new.outputs ≡ circuit_answer old.circuit u =
@@ -52,16 +52,16 @@ answered old new inputs described reacts = record { in_front = in_front }
         let behind : Shows (circuit_machine old.circuit) (circuit_answer old.circuit) new.latches items answers =
         subst (λ k. Shows (circuit_machine k) (circuit_answer k) new.latches items answers) reacts.same shows in
         let Goal : (v : List ℕ → Bool) → Type 0 = λ v. (circuit_answer old.circuit v ≡ answer_of new.circuit.outputs new.outputs)
-            × Shows (circuit_machine old.circuit) (circuit_answer old.circuit) (map (λ l. v l.source) old.circuit.latches) items answers in
+        × Shows (circuit_machine old.circuit) (circuit_answer old.circuit) (map (λ l. v l.source) old.circuit.latches) items answers in
         let each : (v : List ℕ → Bool) → IsInstant old.circuit old.latches inputs v → Goal v = λ v is.
-            let same = reacts.only v is in
-            let shown : map v old.circuit.outputs ≡ map u old.circuit.outputs =
-            agree-along v u (driven_names old.circuit) same (λ x. x) old.circuit.outputs sound.driven.outputs in
-            let kept : map (λ l. v l.source) old.circuit.latches ≡ new.latches =
-            agree-along v u (driven_names old.circuit) same (λ l. l.source) old.circuit.latches sound.driven.sources ∙ sym reacts.latches in (
-              ap (answer_of old.circuit.outputs) shown ∙ sym here,
-              subst (λ l. Shows (circuit_machine old.circuit) (circuit_answer old.circuit) l items answers) (sym kept) behind,
-            )
+        let same = reacts.only v is in
+        let shown : map v old.circuit.outputs ≡ map u old.circuit.outputs =
+        agree-along v u (driven_names old.circuit) same (λ x. x) old.circuit.outputs sound.driven.outputs in
+        let kept : map (λ l. v l.source) old.circuit.latches ≡ new.latches =
+        agree-along v u (driven_names old.circuit) same (λ l. l.source) old.circuit.latches sound.driven.sources ∙ sym reacts.latches in (
+          ap (answer_of old.circuit.outputs) shown ∙ sym here,
+          subst (λ l. Shows (circuit_machine old.circuit) (circuit_answer old.circuit) l items answers) (sym kept) behind,
+        )
         in
         shows-event (circuit_machine old.circuit) (circuit_answer old.circuit) old.latches inputs items (answer_of new.circuit.outputs new.outputs) answers u
         reacts.instant each

@@ -41,6 +41,7 @@ impl Language for BlifTexts {
     ghost use Rattle.blif_run.specs.Texts.{ReadsCircuit, IsTextFault};
 
     type Fault = TextFault;
+
     type Machine = BlifRunner;
 
     ghost Plain = { Circuit };

@@ -25,7 +25,7 @@ answered old new inputs value reacts = record { in_front = in_front }
   where
     in_front : (items : List Item) (answers : List Answer) → runner_shows new items answers
         → Shows (program_machine (program_in old)) (call_answer (program_in old)) (memory_of old) (Event inputs ∷ items)
-            (record { present = outputs_shown new; word = word_of value } ∷ answers)
+        (record { present = outputs_shown new; word = word_of value } ∷ answers)
     in_front items answers shows =
         let p = program_in old in
         let behind = call p inputs (memory_of old) in
@@ -41,8 +41,8 @@ answered old new inputs value reacts = record { in_front = in_front }
         sym (ap (λ o. record { present = o; word = word_of value }) outputs
         ∙ ap (λ b. record { present = map behind (outputs_of p); word = word_of b }) returned) in
         let each : (m : Memory) → m ≡ behind → (call_answer p m ≡ record { present = outputs_shown new; word = word_of value })
-            × Shows (program_machine p) (call_answer p) m items answers = λ m is.
-            (ap (call_answer p) is ∙ here, subst (λ k. Shows (program_machine p) (call_answer p) k items answers) (sym is) there) in
+        × Shows (program_machine p) (call_answer p) m items answers = λ m is.
+        (ap (call_answer p) is ∙ here, subst (λ k. Shows (program_machine p) (call_answer p) k items answers) (sym is) there) in
         shows-event (program_machine p) (call_answer p) (memory_of old) inputs items (record { present = outputs_shown new; word = word_of value }) answers
         behind refl each
 

@@ -41,6 +41,7 @@ impl Language for CTexts {
     ghost use Rattle.csub_run.specs.Texts.{IsTextFault, IsWritten};
 
     type Fault = TextFault;
+
     type Machine = CMachine;
 
     ghost Plain = { Program };
