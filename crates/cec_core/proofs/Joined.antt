@@ -39,6 +39,7 @@ use Rattle.net_ir.specs.declared.netlist.Net.{Net}
 use Rattle.net_ir.specs.Gates.{carried}
 use Rattle.net_ir.specs.Runs.{netlist_of}
 use Rattle.net_simp.specs.SameRuns.{SameParts, SameInstants, SameRuns}
+use Rattle.net_simp.specs.SimpleNets.{IsSimple}
 use Rattle.cec_front.specs.Sources.{StandsFor}
 use Rattle.cec_core.specs.declared.compiler.Compiled.{Compiled}
 use Rattle.cec_core.specs.declared.compiler.Graphed.{Graphed}
@@ -87,9 +88,9 @@ pub net_stands : (text : List ℕ) (main : Option (List ℕ)) (g : Graphed) (ord
     → HasInterfaceOf g.graph (netlist_of net) → carried net.gates.items ≡ map (λ v. v.0) order.list.items
     → length net.gates.items ≤ gates_at_most g.graph (rows_at_most g.graph) order.list.items
     → (IsGraphOf g.graph (program_of g.graph.program) → length net.gates.items ≤ linear_bound (program_of g.graph.program))
-    → FollowsInstants g.graph (netlist_of net) → FollowsRuns g.graph (netlist_of net)
+    → FollowsInstants g.graph (netlist_of net) → FollowsRuns g.graph (netlist_of net) → IsSimple (netlist_of net)
     → StandsForNet text main (record { graph = g.graph; tree = g.tree; order = order; net = net })
-net_stands text main g order net s along interface carries size linear instants runs =
+net_stands text main g order net s along interface carries size linear instants runs simple =
     let p = s.program in
     let h = s.graphed in
     let compiles = graph_compiles g p h in
@@ -110,6 +111,7 @@ net_stands text main g order net s along interface carries size linear instants 
         instants = instants;
         runs = runs;
         keeps = net_keeps g.graph p (netlist_of net) h.formed (kernel_of g.graph p h.graph) h.no_loop h.graph compiles.acyclic interface runs;
+        simple = simple;
       };
     }
 
@@ -121,8 +123,9 @@ pub simplified_stands : (text : List ℕ) (main : Option (List ℕ)) (g : Graphe
     → (IsGraphOf g.graph (program_of g.graph.program) → length net.gates.items ≤ linear_bound (program_of g.graph.program))
     → FollowsInstants g.graph (netlist_of net) → FollowsRuns g.graph (netlist_of net)
     → SameParts (netlist_of net) (netlist_of new) → SameInstants (netlist_of net) (netlist_of new) → SameRuns (netlist_of net) (netlist_of new)
+    → IsSimple (netlist_of new)
     → StandsForNet text main (record { graph = g.graph; tree = g.tree; order = order; net = new })
-simplified_stands text main g order net new s along interface carries size linear instants runs parts same alike =
+simplified_stands text main g order net new s along interface carries size linear instants runs parts same alike simple =
     let few = subst (λ q. given_count q ≤ length q.signals) (sym s.graphed.graph.program) (given-few s.program s.graphed.formed) in
     net_stands text main g order new s along
     (interface_stays g.graph (netlist_of net) (netlist_of new) parts interface)
@@ -131,6 +134,7 @@ simplified_stands text main g order net new s along interface carries size linea
     (λ own. let few_gates = linear own in omega (arith, parts.fewer, few_gates))
     (instants_stay g.graph (netlist_of net) (netlist_of new) few interface parts same instants)
     (runs_stay g.graph (netlist_of net) (netlist_of new) few interface parts alike runs)
+    simple
 
 -- each wire of a compiled program is carried
 wires_carried : (c : Compiled) (p : Program) → IsCompiled c p → (n : ℕ) → n < length (program_wires p) → Contains (carried c.net.gates.items) n

@@ -18,6 +18,7 @@ use Rattle.grc_words.specs.Sizes.{rows_at_most}
 use Rattle.net_gen.specs.Generated.{HasInterfaceOf, FollowsInstants, FollowsRuns}
 use Rattle.net_ir.specs.Gates.{carried}
 use Rattle.net_ir.specs.Runs.{netlist_of}
+use Rattle.net_simp.specs.SimpleNets.{IsSimple}
 use Rattle.blif_text.specs.Written as blif_texts
 use Rattle.csub_text.specs.Written as c_texts
 use Rattle.cec_front.specs.Sources.{StandsFor}
@@ -48,7 +49,7 @@ pub record FollowsEdges (c : Compiled) (p : Program) : Type 0 where
   pub order : IsWireOrder (length c.graph.wires.items) pairs c.order.list.items
 
 -- The same graph, an evaluation order along its edges, and its netlist: the netlist has at most so many gates, one of
--- them for each wire, in that order, and keeps what the program means.
+-- them for each wire, in that order, keeps what the program means, and has nothing left to simplify.
 pub record IsCompiled (c : Compiled) (p : Program) : Type 0 where
   pub formed : IsWellFormed p
   pub compiles : Compiles p
@@ -64,6 +65,7 @@ pub record IsCompiled (c : Compiled) (p : Program) : Type 0 where
   pub instants : FollowsInstants c.graph (netlist_of c.net)
   pub runs : FollowsRuns c.graph (netlist_of c.net)
   pub keeps : NetKeeps (netlist_of c.net) p
+  pub simple : IsSimple (netlist_of c.net)
 
 -- The bytes stand for the program of the graph, of the netlist, of the BLIF text, or of the C text.
 

@@ -72,6 +72,3 @@ impl Reader {
         }
     }
 }
-
-#[cfg(test)]
-mod tests;

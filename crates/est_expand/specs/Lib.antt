@@ -4,6 +4,7 @@ pub mod Walks
 pub mod Tests
 pub mod Runs
 pub mod Flattening
+pub mod MainHeads
 pub mod Answers
 pub mod Tables
 pub mod Counted

@@ -12,6 +12,7 @@ ghost use Rattle.est_expand.specs.FlatPrograms.{IsFlat, IsNamed, IsNamedModule};
 ghost use Rattle.est_expand.specs.Flattening.{related, relation_in, relations_in, main_flattening, flat_program};
 ghost use Rattle.est_expand.specs.Flattening.{flattened};
 ghost use Rattle.est_expand.specs.Scopes.{main_interface, main_signals, main_scope};
+ghost use Rattle.est_expand.specs.MainHeads.{IsHeadOf};
 ghost use Rattle.est_expand.specs.Views.{interface_of, met_of, Walks};
 
 use crate::interface::{Shown, main_interface, main_names};
@@ -66,8 +67,9 @@ fn flat_main<'a>(
     let shown = main_interface(alloc, main)?;
     let mut met = Met::nothing(alloc);
     met.meet_signals(alloc, &main_names(alloc, &shown)?)?;
+    let head = main_head(alloc, main, &shown)?;
     let body = main_body(alloc, modules, table, main, &shown, &mut met)?;
-    Ok(flat_program(alloc, main, &shown, met, body)?)
+    Ok(assembled(head, met, body))
 }
 
 // The body of the main module, once its signals are counted.
@@ -117,31 +119,48 @@ fn main_scope<'a>(alloc: Global, shown: &Shown<'a>) -> Result<Scope<'a>, NoMemor
     Ok(scope)
 }
 
-// The flat program of what the walk gave.
-fn flat_program(
-    alloc: Global,
-    main: &Module,
-    shown: &Shown,
-    met: Met,
-    body: FlatStmt,
-) -> Result<Flat, NoMemory>
+// What a flat program has beside its signals and its body.
+#[derive(Drop)]
+struct MainHead {
+    name: Text,
+    inputs: u32,
+    both: u32,
+    outputs: u32,
+    relations: Vec<InputRelation>,
+}
+
+// That of the main module.
+fn main_head(alloc: Global, main: &Module, shown: &Shown) -> Result<MainHead, NoMemory>
     requires shown { interface_of shown.now ≡ main_interface (module_of main.now) }
     requires few { length (main_signals (interface_of shown.now)) ≤ 4096 }
-    ensures { IfOk result (λ flat. flat_of flat
-        ≡ flat_program (module_of main.now) (flat_stmt_of body) (met_of met)) }
+    ensures { IfOk result (IsHeadOf (module_of main.now)) }
 {
     let scope = main_scope(alloc, shown)?;
     let relations = flat_relations(alloc, &scope, &main.decls)?;
     let name = Text::from_bytes(alloc, main.name.text.bytes())?;
-    Ok(Flat {
+    Ok(MainHead {
         name,
-        signals: met.signals,
         inputs: shown.inputs.len() as u32,
         both: shown.both.len() as u32,
         outputs: shown.outputs.len() as u32,
         relations,
-        body,
     })
+}
+
+// The flat program of what the walk gave.
+fn assembled(head: MainHead, met: Met, body: FlatStmt) -> Flat
+    ensures { (main : PlainModule) → IsHeadOf main head
+        → flat_of result ≡ flat_program main (flat_stmt_of body) (met_of met) }
+{
+    Flat {
+        name: head.name,
+        signals: met.signals,
+        inputs: head.inputs,
+        both: head.both,
+        outputs: head.outputs,
+        relations: head.relations,
+        body,
+    }
 }
 
 // The relations of the main module.

@@ -182,6 +182,3 @@ fn put(text: &mut Vec<u8>, bytes: &[u8]) -> Result<(), NoMemory>
     text.extend_from_slice(bytes)?;
     Ok(())
 }
-
-#[cfg(test)]
-mod tests;

@@ -11,8 +11,6 @@ mod edge_runs;
 mod picking;
 mod schedule;
 mod scheduling;
-#[cfg(test)]
-mod tests;
 
 pub use checking::is_order;
 pub use picking::{Drawn, First, Last, Picker};

@@ -268,11 +268,13 @@ simplified net draft kept mid new before marks p =
       parts = parts;
       instants = instants;
       runs = same-runs net (renamed_net net f new) parts.latches instants;
-      once = once net draft kept mid new before marks p;
-      no_copies = no-copies net draft kept mid new before marks p;
-      reads_computed = reads-computed net draft kept mid new before marks p;
-      reads_none_twice = reads-none-twice net draft kept mid new before marks p;
-      used = used net draft kept mid new before marks p;
+      simple = record {
+        once = once net draft kept mid new before marks p;
+        no_copies = no-copies net draft kept mid new before marks p;
+        reads_computed = reads-computed net draft kept mid new before marks p;
+        reads_none_twice = reads-none-twice net draft kept mid new before marks p;
+        used = used net draft kept mid new before marks p;
+      };
     }
 
 -- ---- what the calls say, put together

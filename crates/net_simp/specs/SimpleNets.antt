@@ -65,3 +65,11 @@ is_used net n = net.paused == n || list_any (λ o. o.net.0 == n) net.outputs || 
 abbrev pub EachIsUsed : Netlist → Type 0
 EachIsUsed net = (k : ℕ) (d : Gate) → k < length net.gates → (slice_index_or net.gates k d).wire ≡ None
     → IsTrue (is_used net (first_gate net + k))
+
+-- nothing is left to simplify
+pub record IsSimple (net : Netlist) : Type 0 where
+  pub once : EachOpOnce net
+  pub no_copies : NoCopies net
+  pub reads_computed : ReadsComputed net
+  pub reads_none_twice : ReadsNoneTwice net
+  pub used : EachIsUsed net

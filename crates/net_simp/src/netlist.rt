@@ -6,7 +6,7 @@ ghost use Rattle.net_ir.specs.Runs.{netlist_of};
 ghost use Rattle.net_simp.specs.Renaming.{stand_in, through, renamed_out, renamed_latch, renamed_net};
 ghost use Rattle.net_simp.specs.SameRuns.{SameParts, SameInstants, SameRuns};
 ghost use Rattle.net_simp.specs.Simplified.{Simplified};
-ghost use Rattle.net_simp.specs.SimpleNets.{EachOpOnce, NoCopies, ReadsComputed, ReadsNoneTwice, EachIsUsed};
+ghost use Rattle.net_simp.specs.SimpleNets.{IsSimple};
 
 use crate::folding::{Renumbered, folded_gates};
 use crate::gates::stand_in;
@@ -26,12 +26,7 @@ pub fn simplify(alloc: Global, net: &Net) -> Result<Net, NoMemory>
     ensures parts { IfOk result (λ new. SameParts (netlist_of net.now) (netlist_of new)) }
     ensures instants { IfOk result (λ new. SameInstants (netlist_of net.now) (netlist_of new)) }
     ensures runs { IfOk result (λ new. SameRuns (netlist_of net.now) (netlist_of new)) }
-    // The gates that carry no wire.
-    ensures once { IfOk result (λ new. EachOpOnce (netlist_of new)) }
-    ensures no_copies { IfOk result (λ new. NoCopies (netlist_of new)) }
-    ensures reads_computed { IfOk result (λ new. ReadsComputed (netlist_of new)) }
-    ensures reads_none_twice { IfOk result (λ new. ReadsNoneTwice (netlist_of new)) }
-    ensures used { IfOk result (λ new. EachIsUsed (netlist_of new)) }
+    ensures simple { IfOk result (λ new. IsSimple (netlist_of new)) }
 {
     Ok(simplified_net(alloc, net)?)
 }

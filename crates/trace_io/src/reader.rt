@@ -153,6 +153,3 @@ impl TraceReader {
         read_group(self.alloc, &self.text, self.at, names)
     }
 }
-
-#[cfg(test)]
-mod tests;

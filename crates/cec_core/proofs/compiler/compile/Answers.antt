@@ -19,4 +19,4 @@ returns-clause-compiles g c =
     let e = c.in_ok-drawn.ensures in
     let f = c.in_ok-net.ensures in
     simplified_stands _ _ c.in_ok-graph.field-0 c.in_ok-order.order c.in_ok-drawn.drawn c.in_ok-net.net c.in_ok-graph.ensures.compiles c.in_ok-order.ensures
-    e.interface e.order e.size e.linear e.instants e.runs f.parts f.instants f.runs
+    e.interface e.order e.size e.linear e.instants e.runs f.parts f.instants f.runs f.simple

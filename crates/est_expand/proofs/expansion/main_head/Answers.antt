@@ -1,12 +1,11 @@
 use Rattle.std.proofs.Common.{◌≡◌, ℕ, List, Bor, map, length, ap, ◌∙◌, arith}
 use Rattle.std.specs.Prelude.{flat_map}
 use Rattle.std.proofs.lemmas.List.{length-map}
-use Rattle.est_ast.specs.FlatViews.{flat_stmt_of}
 use Rattle.est_ast.specs.Views.{module_of, decl_of}
 use Rattle.est_expand.specs.Scopes.{main_scope}
 use Rattle.est_expand.specs.Flattening.{relation_in, relations_in}
 use Rattle.est_expand.specs.Views.{interface_of}
-use Rattle.est_expand.proofs.expansion.flat_program.Goals as goal
+use Rattle.est_expand.proofs.expansion.main_head.Goals as goal
 
 pub returns : goal.returns
 returns c =
@@ -18,15 +17,12 @@ returns c =
     let outputs : c.len-3.result ≡ length (interface_of shown).outputs =
     omega (arith, c.len-3.ensures, shown.outputs.ok, length-map shown.outputs.items bytes) in
     let same = c.requires.shown in
-    let relations = c.in_ok-relations.ensures
-    ∙ ap (λ ds. map (relation_in c.in_ok-scope.scope) (flat_map relations_in (map decl_of ds))) c.deref.ensures.value
-    ∙ ap (λ s. map (relation_in s) (flat_map relations_in m.decls)) (c.in_ok-scope.ensures ∙ ap main_scope same) in
-    λ i. record {
-      name = (c.in_ok-name.ensures ∙ c.bytes.ensures) i;
-      signals = map (λ s. s.name) c.args.met.signals.items;
-      inputs = (inputs ∙ ap (λ f. length f.inputs) same) i;
-      both = (both ∙ ap (λ f. length f.both) same) i;
-      outputs = (outputs ∙ ap (λ f. length f.outputs) same) i;
-      relations = relations i;
-      body = flat_stmt_of c.args.body;
+    record {
+      name = c.in_ok-name.ensures ∙ c.bytes.ensures;
+      inputs = inputs ∙ ap (λ f. length f.inputs) same;
+      both = both ∙ ap (λ f. length f.both) same;
+      outputs = outputs ∙ ap (λ f. length f.outputs) same;
+      relations = c.in_ok-relations.ensures
+      ∙ ap (λ ds. map (relation_in c.in_ok-scope.scope) (flat_map relations_in (map decl_of ds))) c.deref.ensures.value
+      ∙ ap (λ s. map (relation_in s) (flat_map relations_in m.decls)) (c.in_ok-scope.ensures ∙ ap main_scope same);
     }

@@ -2,9 +2,9 @@
 
 ghost use Rattle.std.specs.Prelude.{◌≡◌, []};
 
-use crate::{Drawn, First, Last, Picker, is_order, order};
 use est_base::{Draw, WireId};
 use grc_graph::{Edges, Ranks};
+use grc_order::{Drawn, First, Last, Picker, is_order, order};
 use std::alloc::Global;
 use std::test::Fail;
 

@@ -1,0 +1,109 @@
+// What is written of each block.
+
+use crate::blocks::{Block, block_of};
+use crate::calls::{Ended, command_ended, sink};
+use est_base::{ListSink, NoMemory, Sink, SinkFault, write_pieces};
+use std::alloc::{AllocError, Global};
+
+/// Why not every block is answered.
+#[derive(Drop)]
+pub(crate) enum Stop {
+    NoMemory,
+    NotWritten,
+}
+
+impl From<NoMemory> for Stop {
+    fn from(_error: NoMemory) -> Stop {
+        Stop::NoMemory
+    }
+}
+
+impl From<AllocError> for Stop {
+    fn from(_error: AllocError) -> Stop {
+        Stop::NoMemory
+    }
+}
+
+impl From<SinkFault> for Stop {
+    fn from(_error: SinkFault) -> Stop {
+        Stop::NotWritten
+    }
+}
+
+/// Answers the blocks of a text, one after another.
+pub(crate) fn answer_all<O: Sink>(alloc: Global, text: &str, out: &mut O) -> Result<(), Stop> {
+    let mut written = sink(alloc, 0, "", "none")?;
+    let mut number: u64 = 0;
+    for part in text.split("\n~\n") {
+        if let Some(block) = block_of(part) {
+            number = number.saturating_add(1);
+            written = answer(alloc, number, block, written.bytes(), out)?;
+        }
+    }
+    Ok(())
+}
+
+// Answers a block. What its command wrote is the file `o` of the next one.
+fn answer<O: Sink>(
+    alloc: Global,
+    number: u64,
+    block: Block<'_>,
+    before: &[u8],
+    out: &mut O,
+) -> Result<ListSink, Stop> {
+    let ended = command_ended(alloc, block, before)?;
+    let told = told_beginning(alloc, block, before, &ended.out)?;
+    let head = head(alloc, number, block, told, &ended)?;
+    let shown = shown_out(block, &ended.out);
+    write_pieces(out, &[head.as_bytes(), shown, ended.err.bytes()])?;
+    Ok(ended.out)
+}
+
+// Where `out` is to fail, whether what it has is a beginning of what it has otherwise.
+fn told_beginning(
+    alloc: Global,
+    block: Block<'_>,
+    before: &[u8],
+    out: &ListSink,
+) -> Result<&'static str, NoMemory> {
+    if !block.settings.contains("out fails at") {
+        return Ok("");
+    }
+    let steady = Block {
+        settings: "",
+        ..block
+    };
+    let whole = command_ended(alloc, steady, before)?;
+    if whole.out.bytes().starts_with(out.bytes()) {
+        Ok(", a beginning")
+    } else {
+        Ok(", no beginning")
+    }
+}
+
+// The lines before the bytes.
+fn head(
+    alloc: Global,
+    number: u64,
+    block: Block<'_>,
+    told: &'static str,
+    ended: &Ended,
+) -> Result<String, AllocError> {
+    let mut head = format!(in alloc; "{number} ${}\nstatus {}, out ", block.words, ended.status)?;
+    if block.settings.contains("out is hidden") {
+        head.push_str("hidden")?;
+    } else {
+        write!(head, "{}", ended.out.bytes().len())?;
+    }
+    write!(head, "{told}, err {}\n", ended.err.bytes().len())?;
+    Ok(head)
+}
+
+// What is shown of `out`.
+fn shown_out<'a>(block: Block<'_>, out: &'a ListSink) -> &'a [u8] {
+    if block.settings.contains("out is ") {
+        b""
+    } else {
+        out.bytes()
+    }
+}
