@@ -61,7 +61,8 @@ pub record DrawnSoFar {S : Type 0} (shows : S → List Item → List Answer → 
 
 pub drawn-nothing : {S : Type 0} (shows : S → List Item → List Answer → Type 0) (old : S) (x : ℕ)
     → DrawnSoFar shows old old x x 0 0 0
-drawn-nothing shows old x = record { answers = []; led = led-nowhere shows old; state = refl; present = refl; pauses = refl; few = omega arith; each = omega arith }
+drawn-nothing shows old x =
+    record { answers = []; led = led-nowhere shows old; state = refl; present = refl; pauses = refl; few = omega arith; each = omega arith }
 
 pub pause-small : (w : Word) → pause_of w ≤ 1
 pause-small Paused = omega arith

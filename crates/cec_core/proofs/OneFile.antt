@@ -119,8 +119,8 @@ counts_unread request name limit reading.Failed before now failed_before failed_
 counts_unread request name limit reading.TooLong before now failed_before failed_now is k = (k.faults, k.failed)
 counts_unread request name limit reading.NoMemory before now failed_before failed_now is k = (k.faults, k.failed)
 
-pub make_out_unread : (content : Content) (task : Task) (job : Job) (fault : FileFault) (s : SinkChange) → Appends s.before s.after s.faults_before s.faults_now []
-    → GainsOut (Some (Make task job)) content (unread_outcome First limits.Source fault) s
+pub make_out_unread : (content : Content) (task : Task) (job : Job) (fault : FileFault) (s : SinkChange)
+    → Appends s.before s.after s.faults_before s.faults_now [] → GainsOut (Some (Make task job)) content (unread_outcome First limits.Source fault) s
 make_out_unread content task job fault s a = unread_answer task (IsTextOf task job content) fault s a
 
 -- the bytes that a file holds, where that is told

@@ -74,7 +74,8 @@ piece_lacks whole rest s so =
 
 -- ---- what a text is
 
-pub text_as : (P Q : List ℕ → Type 0) (s : SinkChange) (outcome : Outcome) → ((text : List ℕ) → P text → Q text) → LeavesText P s outcome → LeavesText Q s outcome
+pub text_as : (P Q : List ℕ → Type 0) (s : SinkChange) (outcome : Outcome) → ((text : List ℕ) → P text → Q text)
+    → LeavesText P s outcome → LeavesText Q s outcome
 text_as P Q s Done f l = (l.0, f l.0 l.1, l.2)
 text_as P Q s Usage f l = l
 text_as P Q s (Unread file) f l = l

@@ -31,8 +31,8 @@ pub record Seen : Type 0 where
 abbrev pub seen_of : Answer → Seen
 seen_of a = record { outputs = a.outputs; paused = a.code == 1 }
 
--- The compiler-correctness theorem: over all items of a program its reactions are constructive, and of a machine is seen
--- what is seen of their answers: the machine has a run, and each of its runs shows this.
+-- The compiler-correctness theorem: over all items of a program its reactions are constructive, and of a machine is
+-- seen what is seen of their answers: the machine has a run, and each of its runs shows this.
 pub record Keeps {X : Type 0} (M : Machine X) (see : X → Seen) (p : Program) : Type 0 where
   pub runs : (items : List Item) → AreItems p items
       → (answers : List Answer) × (run_of p items ≡ Some answers) × Shows M see M.start items (map seen_of answers)

@@ -1,4 +1,4 @@
--- To believe: what it means that a text names the wires of a program's graph, and that it stores a value for each pause.
+-- To believe: what it means that a text names the wires of a program's graph, and stores a value for each pause.
 use Rattle.std.specs.Prelude.{◌≡◌, ℕ, Bool, List, ◌++◌, length, Ok, codes, decimal, ◌+◌, ◌<◌}
 use Rattle.std.specs.List.{AllZip}
 use Rattle.est_base.specs.Items.{Item}

@@ -36,7 +36,7 @@ use std::alloc::Global;
 /// events that meet the relations each reaction of the source is constructive, the text has a run, any two runs agree,
 /// and the outputs and `_paused` are those of the reactions. For `c` it holds likewise, by the machine of the C subset
 /// (`CTextKeeps`). For `run` the lines are those of the source's own reactions to the items of the trace
-/// (`RunsSource`), whichever text it is run by, and for `exec` those of the text's run (`RunsText`, `RunsCText`).
+/// (`RunsSource`), whichever text it is run by, and for `exec` those of the text's own run (`RunsBy`).
 /// `Static`, `Cyclic`, `Trace`, `BadText` and `Limit` come only where the source, the trace or the text has their
 /// cause; for `Cyclic` that is a cycle of the dependency relation, which is shown. That nothing but such a cause, a
 /// failing file or sink, or want of memory keeps a command from being done is the law `accepted_requests_are_done`.

@@ -75,8 +75,8 @@ step-stop shows names r later s told faults (errors.Fault fault) a =
 step-stop shows names r later s told faults errors.NoMemory a = step-memory shows names r later s told faults a
 
 pub step-reset : {S : Type 0} (shows : S → List Item → List Answer → Type 0) (names : List (List ℕ)) (r later : Reading) (s t : S)
-    (told : Option (List ℕ)) (faults behind : ℕ) → r.at ≤ length r.text → next_group r ≡ groups.Reset behind → later ≡ record r { at = behind } → PutBack shows s t
-    → IsStep shows names r later s t (untouched told faults) (Ok true)
+    (told : Option (List ℕ)) (faults behind : ℕ) → r.at ≤ length r.text → next_group r ≡ groups.Reset behind → later ≡ record r { at = behind }
+    → PutBack shows s t → IsStep shows names r later s t (untouched told faults) (Ok true)
 step-reset shows names r later s t told faults behind within is same back =
     let fits = subst (Fits r.at (length r.text) (length r.inputs)) is (fits-next r within) in
     let at = sym (ap (λ (q : Reading). q.at) same) in

@@ -2,7 +2,8 @@
 use Rattle.std.specs.Prelude.{◌≡◌, List, [], ◌∷◌, map, refl}
 use Rattle.machines.specs.Machines.{Machine, IsRunFrom, Shows}
 
-none_shown : {X V : Type 0} → (M : Machine X) (see : X → V) (s : M.State) (xs : List X) → IsRunFrom M s [] xs → [] ≡ map see xs
+none_shown : {X V : Type 0} → (M : Machine X) (see : X → V) (s : M.State) (xs : List X)
+    → IsRunFrom M s [] xs → [] ≡ map see xs
 none_shown M see s [] run = refl
 none_shown M see s (x ∷ xs) run = absurd run
 

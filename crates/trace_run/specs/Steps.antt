@@ -37,8 +37,8 @@ Stands old new (Err (Trace fault)) = IsFault new fault
 Stands old new (Err Write) = ⊤
 Stands old new (Err NoMemory) = ⊤
 
--- What a machine showed to items on its way to a later state: whatever it shows from there on, it has shown these answers
--- before.
+-- What a machine showed to items on its way to a later state: whatever it shows from there on, it has shown these
+-- answers before.
 pub record Led {S : Type 0} (shows : S → List Item → List Answer → Type 0) (old : S) (items : List Item)
     (answers : List Answer) (new : S) : Type 0 where
   pub in_front : (more : List Item) (behind : List Answer)

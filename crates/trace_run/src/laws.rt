@@ -2,8 +2,8 @@
 
 ghost use Rattle.trace_run.specs.Laws.{NetsAreWritten, TracesBegin, EventsFit};
 
-/// A run of a net's text that is cut off leaves a prefix of the lines of the whole trace, and one that is not leaves all
-/// of them.
+/// A run of a net's text that is cut off leaves a prefix of the lines of the whole trace, and one that is not leaves
+/// all of them.
 pub fn runs_are_written()
     ensures { NetsAreWritten }
 {}
