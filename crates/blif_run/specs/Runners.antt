@@ -1,6 +1,5 @@
 -- To believe: what a runner of a circuit is from event to event.
-use Rattle.std.specs.Prelude.{◌≡◌, ℕ, Bool, false, List, [], ◌∷◌, length, map, replicate}
-use Rattle.est_base.specs.Items.{Item, Event, Reset}
+use Rattle.std.specs.Prelude.{◌≡◌, ℕ, Bool, false, List, length, map, replicate}
 use Rattle.blif_text.specs.Circuits.{Circuit}
 use Rattle.blif_text.specs.Runs.{IsInstant, circuit_latches, driven_names}
 
@@ -30,12 +29,3 @@ pub record Reacts (old : Runner) (inputs : List Bool) (new : Runner) : Type 0 wh
 pub record Resets (old new : Runner) : Type 0 where
   pub same : new.circuit ≡ old.circuit
   pub fresh : IsFresh new
-
--- The items drive the runner one after another, and the answers are the outputs behind each event.
-abbrev pub Drives : Runner → List Item → List (List Bool) → Type 0
-Drives r [] [] = Unit {0}
-Drives r [] (answer ∷ answers) = ⊥
-Drives r (Event inputs ∷ items) (answer ∷ answers) =
-    (next : Runner) × Reacts r inputs next × (answer ≡ next.outputs) × Drives next items answers
-Drives r (Event inputs ∷ items) [] = ⊥
-Drives r (Reset ∷ items) answers = (next : Runner) × Resets r next × Drives next items answers

@@ -1,13 +1,12 @@
 -- To believe: what the machine of a program is from call to call.
-use Rattle.std.specs.Prelude.{◌≡◌, ℕ, Bool, false, List, [], ◌∷◌, map, slice_index_or, None}
+use Rattle.std.specs.Prelude.{◌≡◌, ℕ, Bool, List, map, slice_index_or, None}
 use Rattle.std.specs.List.{position_or_len}
 use Rattle.est_base.specs.Names.{is_same_name}
-use Rattle.est_base.specs.Items.{Item, Event, Reset}
 use Rattle.csub_text.specs.declared.trees.CProgram.{CProgram}
 use Rattle.csub_text.specs.Trees.{Program}
 use Rattle.csub_text.specs.Views.{program_of}
 use Rattle.csub_text.specs.Names.{declared, outputs_of, name_fault}
-use Rattle.csub_text.specs.Machine.{Memory, value_of, first_memory, call, Seen}
+use Rattle.csub_text.specs.Machine.{Memory, value_of, first_memory, call}
 
 -- a program that keeps the rules on names, as each one does that some text describes
 abbrev pub KeepsNames : Program → Type 0
@@ -53,12 +52,3 @@ pub record Resets (old new : Runner) : Type 0 where
 
 abbrev pub outputs_shown : Runner → List Bool
 outputs_shown r = map (memory_of r) (outputs_of (program_in r))
-
--- The items drive the machine one after another, and these are the outputs and the returned value of each call.
-abbrev pub Drives : Runner → List Item → List Seen → Type 0
-Drives r [] [] = Unit {0}
-Drives r [] (seen ∷ others) = ⊥
-Drives r (Event inputs ∷ items) (seen ∷ others) =
-    (next : Runner) × Reacts r inputs seen.answer next × (seen.outputs ≡ outputs_shown next) × Drives next items others
-Drives r (Event inputs ∷ items) [] = ⊥
-Drives r (Reset ∷ items) others = (next : Runner) × Resets r next × Drives next items others
