@@ -31,8 +31,8 @@ pub(crate) trait Target {
 
     ghost writes: { List ℕ → Netlist → Type 0 };
 
-    /// Writes the text of a netlist, each piece right when it is made. It stops at the first piece that fails, and where
-    /// memory is wanting.
+    /// Writes the text of a netlist, each piece right when it is made. It stops at the first piece that fails, and
+    /// where memory is wanting.
     fn put<O: Sink>(alloc: Global, net: &Net, out: &mut O) -> Outcome
         ensures agrees { IsWriting result }
         ensures out { LeavesPieces (λ text. writes text (netlist_of net.now)) (change O.told O.faults out.old out.new)
