@@ -1,5 +1,5 @@
 -- To believe: what the machine of a program is from call to call.
-use Rattle.std.specs.Prelude.{◌≡◌, ℕ, Bool, List, map, slice_index_or, None}
+use Rattle.std.specs.Prelude.{◌≡◌, ℕ, Bool, false, List, map, slice_index_or, None}
 use Rattle.std.specs.List.{position_or_len}
 use Rattle.est_base.specs.Names.{is_same_name}
 use Rattle.csub_text.specs.declared.trees.CProgram.{CProgram}
