@@ -1,2 +1,1 @@
 pub mod Reacting
-pub mod WorkedBodies

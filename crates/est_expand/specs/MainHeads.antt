@@ -12,4 +12,4 @@ pub record IsHeadOf (main : Module) (head : MainHead) : Type 0 where
   pub both : head.both ≡ length (main_interface main).both
   pub outputs : head.outputs ≡ length (main_interface main).outputs
   pub relations : map relation_of head.relations.items
-    ≡ map (relation_in (main_scope (main_interface main))) (flat_map relations_in main.decls)
+      ≡ map (relation_in (main_scope (main_interface main))) (flat_map relations_in main.decls)

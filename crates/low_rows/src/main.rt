@@ -32,20 +32,35 @@ mod trees;
 mod words;
 mod worked_nets;
 
-use est_base::NoMemory;
-use rows::put_rows;
-use std::io::{self, Read, Write};
+use est_base::{WriterSink, write_text};
+use rows::answers;
+use std::alloc::Global;
+use std::io::{self, Read};
 use std::process::ExitCode;
 
-fn main(rt: HostRuntime) -> io::Result<ExitCode> {
-    let mut lines = Vec::new(rt.alloc());
-    rt.stdin().read_to_end(&mut lines)?;
-    let mut text = String::new(rt.alloc());
-    match put_rows(rt.alloc(), &mut text, &lines) {
-        Ok(()) => {
-            rt.stdout().write_all(text.as_bytes())?;
-            Ok(ExitCode::from(0))
-        }
-        Err(NoMemory) => Ok(ExitCode::from(1)),
+// The statuses where the rows are not to be had, where memory is wanting, and where the answers are not taken.
+const NO_ROWS: u8 = 1;
+
+const NO_MEMORY: u8 = 2;
+
+const NOT_WRITTEN: u8 = 3;
+
+fn main(rt: HostRuntime) -> ExitCode {
+    let Ok(lines) = all_bytes(rt.alloc(), rt.stdin()) else {
+        return ExitCode::from(NO_ROWS);
+    };
+    let Ok(text) = answers(rt.alloc(), &lines) else {
+        return ExitCode::from(NO_MEMORY);
+    };
+    let mut out = WriterSink::new(rt.stdout());
+    match write_text(&mut out, text.as_bytes()) {
+        Ok(()) => ExitCode::from(0),
+        Err(_) => ExitCode::from(NOT_WRITTEN),
     }
+}
+
+fn all_bytes<R: Read + Drop>(alloc: Global, mut reader: R) -> io::Result<Vec<u8>> {
+    let mut bytes = Vec::new(alloc);
+    reader.read_to_end(&mut bytes)?;
+    Ok(bytes)
 }

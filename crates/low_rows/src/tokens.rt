@@ -23,17 +23,23 @@ fn put_all(text: &mut String, tokens: &[Token]) -> Result<(), NoMemory> {
     for token in tokens {
         write!(text, "{}-{} ", token.span.start, token.span.end)?;
         put_kind(text, &token.kind)?;
+        text.push_str(" ")?;
     }
     Ok(())
 }
 
 fn put_kind(text: &mut String, kind: &Kind) -> Result<(), AllocError> {
     match kind {
-        Kind::Reserved(word) => write!(text, "{} ", spelling_of(*word)),
-        Kind::Mark(mark) => write!(text, "{} ", sign_of(*mark)),
-        Kind::Ident(name) => write!(text, "name {} ", str::from_utf8(name.bytes()).unwrap_or("")),
-        Kind::Number(value) => write!(text, "number {value} "),
+        Kind::Reserved(word) => text.push_str(spelling_of(*word)),
+        Kind::Mark(mark) => text.push_str(sign_of(*mark)),
+        Kind::Ident(name) => put_name(text, name.bytes()),
+        Kind::Number(value) => write!(text, "number {value}"),
     }
+}
+
+fn put_name(text: &mut String, name: &[u8]) -> Result<(), AllocError> {
+    text.push_str("name ")?;
+    text.push_str(str::from_utf8(name).unwrap_or(""))
 }
 
 fn put_fault(text: &mut String, fault: &LexError) -> Result<(), NoMemory> {

@@ -23,6 +23,6 @@ returns c =
       both = both ∙ ap (λ f. length f.both) same;
       outputs = outputs ∙ ap (λ f. length f.outputs) same;
       relations = c.in_ok-relations.ensures
-      ∙ ap (λ ds. map (relation_in c.in_ok-scope.scope) (flat_map relations_in (map decl_of ds))) c.deref.ensures.value
-      ∙ ap (λ s. map (relation_in s) (flat_map relations_in m.decls)) (c.in_ok-scope.ensures ∙ ap main_scope same);
+          ∙ ap (λ ds. map (relation_in c.in_ok-scope.scope) (flat_map relations_in (map decl_of ds))) c.deref.ensures.value
+          ∙ ap (λ s. map (relation_in s) (flat_map relations_in m.decls)) (c.in_ok-scope.ensures ∙ ap main_scope same);
     }
