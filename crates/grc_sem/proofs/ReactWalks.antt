@@ -57,14 +57,14 @@ scope_part inputs interface s l =
     not_below a b h = cond_both (ltb a b) true false (λ x. ltb a b ≡ false) (λ e. let i = ltb-true a b e in absurd (omega arith)) (λ e. e)
 
 -- what the event gives, as a status and as a value
-given_value : (event : List Bool) (s : ℕ) → s < length event → slice_get event s ≡ Some (is_given event s)
+pub given_value : (event : List Bool) (s : ℕ) → s < length event → slice_get event s ≡ Some (is_given event s)
 given_value event s l = slice_get-get_or event s false l
 
-input_known : (o : Option Bool) (b : Bool) → o ≡ Some b → status_of_input o ≡ known b
+pub input_known : (o : Option Bool) (b : Bool) → o ≡ Some b → status_of_input o ≡ known b
 input_known None b e = cc
 input_known (Some c) b e = ap known (let f : c ≡ b = cc in f)
 
-other_given : (o : Option Bool) → o ≡ Some true → status_of_other o ≡ known true
+pub other_given : (o : Option Bool) → o ≡ Some true → status_of_other o ≡ known true
 other_given None e = cc
 other_given (Some true) e = refl
 other_given (Some false) e = cc
@@ -74,10 +74,10 @@ other_below None b f = tt
 other_below (Some false) b f = tt
 other_below (Some true) b f = ap known (f refl)
 
-given_from : (event : List Bool) (o : ℕ) → slice_get event o ≡ Some true → is_given event o ≡ true
+pub given_from : (event : List Bool) (o : ℕ) → slice_get event o ≡ Some true → is_given event o ≡ true
 given_from event o e = get_or_from_slice_get event o true false e
 
-get_from : (event : List Bool) (o : ℕ) → is_given event o ≡ true → slice_get event o ≡ Some true
+pub get_from : (event : List Bool) (o : ℕ) → is_given event o ≡ true → slice_get event o ≡ Some true
 get_from event o e =
     ⊎_elim
     (λ l. given_value event o l ∙ ap Some e)

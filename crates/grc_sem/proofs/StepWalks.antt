@@ -55,7 +55,7 @@ lifted_by false true f x u e g = cc
 lifted_by false false f x u e g = refl
 
 -- what a whole leaves round what its one part left
-lifted : (c : ℕ) (h : Bool) (f : Term → Term) (x u : Term) → h ≡ (c == 1) → x ≡ left_if h u → left_by c (f x) ≡ left_if h (f u)
+pub lifted : (c : ℕ) (h : Bool) (f : Term → Term) (x u : Term) → h ≡ (c == 1) → x ≡ left_if h u → left_by c (f x) ≡ left_if h (f u)
 lifted c h f x u = lifted_by (c == 1) h f x u
 
 chosen_known : (c : Bool) (a b : Option Step) → chosen_step (known c) a b ≡ cond c a b
@@ -71,7 +71,8 @@ below_known true = refl
 below_known false = refl
 
 -- a part alone
-stepped_only : {E : Environment} {w : Walk} {p : Term} (F : Term → Term) (u whole : Term) (n : ℕ) (x : Step) → statement_count whole ≡ 1 + statement_count p →
+pub stepped_only : {E : Environment} {w : Walk} {p : Term} (F : Term → Term) (u whole : Term) (n : ℕ) (x : Step)
+    → statement_count whole ≡ 1 + statement_count p →
     ((T : ℕ → Bool) → holds T whole n ≡ holds T p (n + 1)) → ((T : ℕ → Bool) → residual T whole n ≡ F (residual T p (n + 1))) → step u E ≡ Some (leaving F x) →
     x.code ≡ w.code → ((T : ℕ → Bool) → Same T w.kept (n + 1) (n + 1 + statement_count p) → x.residual ≡ left_if (holds T p (n + 1)) (residual T p (n + 1))) →
     Keeps w p (n + 1) → Stepped u E w whole n
@@ -92,9 +93,9 @@ module _ (p q whole : Term) (n : ℕ) (F : Term → Term) where
   m = n + 1 + statement_count p
 
   pub record Two : Type 0 where
-    count : statement_count whole ≡ 1 + statement_count p + statement_count q
-    holding : (T : ℕ → Bool) → holds T whole n ≡ (holds T p (n + 1) || holds T q m)
-    leaving_is : (T : ℕ → Bool) → residual T whole n ≡ cond (holds T p (n + 1)) (F (residual T p (n + 1))) (residual T q m)
+    pub count : statement_count whole ≡ 1 + statement_count p + statement_count q
+    pub holding : (T : ℕ → Bool) → holds T whole n ≡ (holds T p (n + 1) || holds T q m)
+    pub leaving_is : (T : ℕ → Bool) → residual T whole n ≡ cond (holds T p (n + 1)) (F (residual T p (n + 1))) (residual T q m)
 
   whole_left : Two → (T : ℕ → Bool) → left_if (holds T p (n + 1) || holds T q m) (cond (holds T p (n + 1)) (F (residual T p (n + 1))) (residual T q m)) ≡
       left_if (holds T whole n) (residual T whole n)
@@ -103,7 +104,7 @@ module _ (p q whole : Term) (n : ℕ) (F : Term → Term) where
       ∙ ap (λ y. left_if (holds T whole n) y) (sym (two.leaving_is T))
 
   -- the first part alone goes on
-  first_left : {w : Walk} (x : Step) → Two → x.code ≡ w.code → ((T : ℕ → Bool) → Same T w.kept (n + 1) (n + 1 + statement_count p) →
+  pub first_left : {w : Walk} (x : Step) → Two → x.code ≡ w.code → ((T : ℕ → Bool) → Same T w.kept (n + 1) (n + 1 + statement_count p) →
       x.residual ≡ left_if (holds T p (n + 1)) (residual T p (n + 1))) → Keeps w p (n + 1) → (T : ℕ → Bool) → Same T w.kept n (n + statement_count whole) →
       left_by x.code (F x.residual) ≡ left_if (holds T whole n) (residual T whole n)
   first_left {w} x two c l keeps T s =
@@ -114,7 +115,7 @@ module _ (p q whole : Term) (n : ℕ) (F : Term → Term) where
       ∙ whole_left two T
 
   -- the second part goes on
-  second_left : {w : Walk} (x : Term) → Two → ((T : ℕ → Bool) → Same T w.kept m (m + statement_count q) → x ≡ left_if (holds T q m) (residual T q m)) →
+  pub second_left : {w : Walk} (x : Term) → Two → ((T : ℕ → Bool) → Same T w.kept m (m + statement_count q) → x ≡ left_if (holds T q m) (residual T q m)) →
       Keeps w q m → (T : ℕ → Bool) → Same T w.kept n (n + statement_count whole) → x ≡ left_if (holds T whole n) (residual T whole n)
   second_left {w} x two l keeps T s =
       let u = subst (λ j. Same T w.kept n (n + j)) two.count s in
@@ -142,16 +143,16 @@ turn_step t u q' E x y a e c P f g =
     (cases_Bool (x.code == 0)))
 
 -- a step that is there, with this code, and leaves what a walk keeps
-abbrev Leaves : Option Step → Walk → Term → ℕ → Type 0
+abbrev pub Leaves : Option Step → Walk → Term → ℕ → Type 0
 Leaves o w p n =
     (x : Step) × (o ≡ Some x) × (x.code ≡ w.code)
     × ((T : ℕ → Bool) → Same T w.kept n (n + statement_count p) → x.residual ≡ left_if (holds T p n) (residual T p n))
 
-from_leaves : {t : Term} {E : Environment} {w : Walk} {p : Term} {n : ℕ} → Leaves (step t E) w p n → Stepped t E w p n
+pub from_leaves : {t : Term} {E : Environment} {w : Walk} {p : Term} {n : ℕ} → Leaves (step t E) w p n → Stepped t E w p n
 from_leaves l = record { done = l.0; is = l.1; code = l.2; left = l.3 }
 
 -- a test
-present_step : (c : Bool) (e : Expression) (p q : Term) (n : ℕ) {E : Environment} {x y : Walk} → value e E ≡ known c → Keeps x p (n + 1) →
+pub present_step : (c : Bool) (e : Expression) (p q : Term) (n : ℕ) {E : Environment} {x y : Walk} → value e E ≡ known c → Keeps x p (n + 1) →
     Keeps y q (n + 1 + statement_count p) → (c ≡ true → Stepped p E x p (n + 1)) → (c ≡ false → Stepped q E y q (n + 1 + statement_count p)) →
     Stepped (Present e p q) E (cond c x y) (Present e p q) n
 present_step true e p q n {E} {x} {y} v kx ky f g =
@@ -185,7 +186,7 @@ both_left c true h k x y u v e f g =
 both_left c false h k x y u v e f g =
     ap (λ b. cond b (Par x y) Nothing) e ∙ ap (λ b. left_if b (Par (left_if h u) (left_if k v))) (sym (g refl))
 
-par_step : (t u p q : Term) (n : ℕ) {E : Environment} {x y : Walk} → Keeps x p (n + 1) → Keeps y q (n + 1 + statement_count p) →
+pub par_step : (t u p q : Term) (n : ℕ) {E : Environment} {x y : Walk} → Keeps x p (n + 1) → Keeps y q (n + 1 + statement_count p) →
     Keeps (both_walks x y) (Par p q) n → Stepped t E x p (n + 1) → Stepped u E y q (n + 1 + statement_count p) →
     Stepped (Par t u) E (both_walks x y) (Par p q) n
 par_step t u p q n {E} {x} {y} kx ky kb s r =
@@ -208,7 +209,7 @@ par_step t u p q n {E} {x} {y} kx ky kb s r =
           (λ d. kb.held T h ∙ d);
     }
 
-trap_left : (t p : Term) (n : ℕ) {E : Environment} {x : Walk} → Keeps x p (n + 1) → Keeps (trapped_walk x) (Trap p) n → Stepped t E x p (n + 1) →
+pub trap_left : (t p : Term) (n : ℕ) {E : Environment} {x : Walk} → Keeps x p (n + 1) → Keeps (trapped_walk x) (Trap p) n → Stepped t E x p (n + 1) →
     Stepped (Trap t) E (trapped_walk x) (Trap p) n
 trap_left t p n {E} {x} k kt s =
     let a = s.done in
@@ -230,7 +231,7 @@ trap_left t p n {E} {x} k kt s =
           (cases_Bool (trap_code x.code == 1));
     }
 
-local_left : (s : ℕ) (t p : Term) (n : ℕ) (b : Bool) {E : Environment} {x : Walk} → decided t E s ≡ known b → Keeps x p (n + 1) →
+pub local_left : (s : ℕ) (t p : Term) (n : ℕ) (b : Bool) {E : Environment} {x : Walk} → decided t E s ≡ known b → Keeps x p (n + 1) →
     Stepped t (with_status E s (known b)) x p (n + 1) → Stepped (Local s t) E (hidden_walk s x) (Local s p) n
 local_left s t p n b {E} {x} d k h =
     let a = h.done in
@@ -246,7 +247,7 @@ local_left s t p n b {E} {x} d k h =
           (k.held T j ∙ ap (λ c. c == 1) (sym h.code)) (h.left T j);
     }
 
-awake_step : (c : Bool) (e : Expression) (t p : Term) (S : ℕ → Bool) (n : ℕ) {E : Environment} {x : Walk} → value e E ≡ known c → holds S p (n + 1) ≡ true →
+pub awake_step : (c : Bool) (e : Expression) (t p : Term) (S : ℕ → Bool) (n : ℕ) {E : Environment} {x : Walk} → value e E ≡ known c → holds S p (n + 1) ≡ true →
     t ≡ residual S p (n + 1) → Keeps x p (n + 1) → (c ≡ false → Stepped t E x p (n + 1)) →
     Stepped (Awake e t) E (cond c (record { signals = λ i. false; code = 1; kept = selected_in S p (n + 1) }) x) (Suspend e p) n
 awake_step true e t p S n {E} {x} v h i k f =
@@ -267,7 +268,7 @@ awake_step false e t p S n {E} {x} v h i k f =
     s.code s.left k
 
 -- a sequence whose second term is u; the whole is the statement that is left or started
-seq_step : (t u whole p : Term) (n c : ℕ) {E : Environment} {x : Walk} (y : Walk) → (s : Stepped t E x p c) →
+pub seq_step : (t u whole p : Term) (n c : ℕ) {E : Environment} {x : Walk} (y : Walk) → (s : Stepped t E x p c) →
     ((x.code ≡ 0 → ⊥) → (T : ℕ → Bool) → Same T x.kept n (n + statement_count whole) →
     left_by s.done.code (Seq s.done.residual u) ≡ left_if (holds T whole n) (residual T whole n)) → (x.code ≡ 0 → Leaves (step u E) y whole n) →
     Stepped (Seq t u) E (then_walk x y) whole n
@@ -283,6 +284,47 @@ seq_step t u whole p n c {E} {x} y s f g =
       h.3,
     ))
     (λ z. (leaving (λ r. Seq r u) s.done, refl, s.code, f z)))
+
+pub held_step : (S : ℕ → Bool) (c : Bool) (t u whole : Term) (n : ℕ) {E : Environment} {x y : Walk} → (c ≡ true → Stepped t E x whole n) →
+    (c ≡ false → Stepped u E y whole n) → Stepped (cond c t u) E (cond c x y) whole n
+held_step S true t u whole n f g = f refl
+held_step S false t u whole n f g = g refl
+
+pub branch_step : (c : Bool) (t p : Term) (n : ℕ) {E : Environment} {x : Walk} → (c ≡ true → Stepped t E x p n)
+    → Stepped (left_if c t) E (cond c x (ended 0)) p n
+branch_step true t p n f = f refl
+branch_step false t p n f =
+    record {
+      done = _;
+      is = refl;
+      code = refl;
+      left = λ T s. ap (λ b. left_if b (residual T p n)) (sym (holds_none T p n (λ m l u. s.at m l u)));
+    }
+
+-- the part of a statement with two parts that alone holds a selected pause
+pub held_first : (p q whole : Term) (n : ℕ) (t : Term) {E : Environment} {x : Walk} → Two p q whole n (λ z. z) → Keeps x p (n + 1) → Stepped t E x p (n + 1) →
+    Stepped t E x whole n
+held_first p q whole n t {E} {x} two k s =
+    record {
+      done = s.done;
+      is = s.is;
+      code = s.code;
+      left = λ T h.
+          let u = subst (λ j. Same T x.kept n (n + j)) two.count h in
+          s.left T (first_same n (statement_count p) (statement_count q) u)
+          ∙ left_first (holds T p (n + 1)) _ (residual T p (n + 1)) _ (second_none q n T k u)
+          ∙ whole_left p q whole n (λ z. z) two T;
+    }
+
+pub held_second : (p q whole : Term) (n : ℕ) (F : Term → Term) (t : Term) {E : Environment} {x : Walk} → Two p q whole n F →
+    Keeps x q (n + 1 + statement_count p) → Stepped t E x q (n + 1 + statement_count p) → Stepped t E x whole n
+held_second p q whole n F t {E} {x} two k s =
+    record {
+      done = s.done;
+      is = s.is;
+      code = s.code;
+      left = second_left p q whole n F s.done.residual two s.left k;
+    }
 
 module _ (R : Wire → ℕ) (N : ℕ) (most : (w : Wire) → R w ≤ N) where
   pub started_step : (V : Valuation) (t : Term) (B : Scope) (f : Layer → Formula) (n q : ℕ) (r : ℕ → ℕ) (v : Values) (b : Bool) (E : Environment) → q ≤ n →
@@ -360,46 +402,6 @@ module _ (R : Wire → ℕ) (N : ℕ) (most : (w : Wire) → R w ≤ N) where
       (started_step V p (bind B s n) _ (n + 1) q (with_rank r s m) (with_value v s c) b (with_status E s (known c)) (omega arith) nl kn (i n) e.1 more w.2 h
       (with_settled s (known c) c m N N (omega arith) o (λ z. refl) (below_known c)))
   started_step V (Awake x p) B f n q r v b E l nl kn i e k w h o = absurd kn
-
-  held_step : (S : ℕ → Bool) (c : Bool) (t u whole : Term) (n : ℕ) {E : Environment} {x y : Walk} → (c ≡ true → Stepped t E x whole n) →
-      (c ≡ false → Stepped u E y whole n) → Stepped (cond c t u) E (cond c x y) whole n
-  held_step S true t u whole n f g = f refl
-  held_step S false t u whole n f g = g refl
-
-  branch_step : (c : Bool) (t p : Term) (n : ℕ) {E : Environment} {x : Walk} → (c ≡ true → Stepped t E x p n) → Stepped (left_if c t) E (cond c x (ended 0)) p n
-  branch_step true t p n f = f refl
-  branch_step false t p n f =
-      record {
-        done = _;
-        is = refl;
-        code = refl;
-        left = λ T s. ap (λ b. left_if b (residual T p n)) (sym (holds_none T p n (λ m l u. s.at m l u)));
-      }
-
-  -- the part of a statement with two parts that alone holds a selected pause
-  held_first : (p q whole : Term) (n : ℕ) (t : Term) {E : Environment} {x : Walk} → Two p q whole n (λ z. z) → Keeps x p (n + 1) → Stepped t E x p (n + 1) →
-      Stepped t E x whole n
-  held_first p q whole n t {E} {x} two k s =
-      record {
-        done = s.done;
-        is = s.is;
-        code = s.code;
-        left = λ T h.
-            let u = subst (λ j. Same T x.kept n (n + j)) two.count h in
-            s.left T (first_same n (statement_count p) (statement_count q) u)
-            ∙ left_first (holds T p (n + 1)) _ (residual T p (n + 1)) _ (second_none q n T k u)
-            ∙ whole_left p q whole n (λ z. z) two T;
-      }
-
-  held_second : (p q whole : Term) (n : ℕ) (F : Term → Term) (t : Term) {E : Environment} {x : Walk} → Two p q whole n F →
-      Keeps x q (n + 1 + statement_count p) → Stepped t E x q (n + 1 + statement_count p) → Stepped t E x whole n
-  held_second p q whole n F t {E} {x} two k s =
-      record {
-        done = s.done;
-        is = s.is;
-        code = s.code;
-        left = second_left p q whole n F s.done.residual two s.left k;
-      }
 
   pub resumed_step : (S : ℕ → Bool) (V : Valuation) (t : Term) (B : Scope) (f : Layer → Formula) (n : ℕ) (r : ℕ → ℕ) (v : Values) (g : Bool) (E : Environment) →
       NoInstantLoop t → HasExitCodes t → InScope B t → Above B n → holds S t n ≡ true → IsSelected S t n → EachResumed (RowAt (Up R)) B f t n →
