@@ -1,0 +1,7 @@
+pub mod Rails
+pub mod Walks
+pub mod Monotone
+pub mod Solving
+pub mod Steps
+mod Examples
+mod Equations

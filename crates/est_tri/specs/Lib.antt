@@ -1,0 +1,4 @@
+pub mod TriWalks
+pub mod Settled
+pub mod KnownPlaces
+pub mod Laws

@@ -1,0 +1,2 @@
+pub mod LeastSolutions
+pub mod Laws

@@ -1,0 +1,26 @@
+// The laws that tie the least three-valued solution of a graph to the reaction of its program. Each call does nothing:
+// its contract is the law.
+
+ghost use Rattle.grc_tri.specs.Laws.{AcyclicKnown, KnownReacts, LeastIsThere, ReactsKnown};
+
+/// The graph of a program has a least solution by Kleene's tables, in each state and event.
+pub fn least_solution_is_there()
+    ensures { LeastIsThere }
+{}
+
+/// Where nothing of the least solution is unknown, the wires that are true solve the graph, and what the state leaves
+/// of the program reacts constructively: with the outputs and the code that they show, and to what the next state of
+/// the graph leaves of the body. The dependency relation may have cycles.
+pub fn known_solutions_react()
+    ensures { KnownReacts }
+{}
+
+/// Where what a state leaves of the program reacts constructively, nothing of the least solution is unknown.
+pub fn reactions_are_known()
+    ensures { ReactsKnown }
+{}
+
+/// Where the equations of a graph read up in some rank, nothing of a solution is unknown.
+pub fn acyclic_solutions_are_known()
+    ensures { AcyclicKnown }
+{}
