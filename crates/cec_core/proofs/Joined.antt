@@ -29,7 +29,7 @@ use Rattle.grc_graph.specs.PlainInstances.{instance_of}
 use Rattle.grc_graph.specs.Reads.{IsReadingOrder}
 use Rattle.grc_graph.specs.SelectionTrees.{body_leaves, body_tree}
 use Rattle.grc_graph.specs.TreeForms.{node_of}
-use Rattle.grc_graph.specs.WireOrders.{WireEdge, IsWireOrder, times}
+use Rattle.grc_graph.specs.WireOrders.{WireEdge, IsWireOrder}
 use Rattle.grc_list.specs.Listings.{program_listing}
 use Rattle.grc_sem.proofs.Runs.{program_kernel}
 use Rattle.grc_words.specs.Sizes.{rows_at_most}

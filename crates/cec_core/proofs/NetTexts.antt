@@ -1,5 +1,5 @@
 -- The texts of each form that are written of a compiled source.
-use Rattle.std.proofs.Common.{◌≡◌, ℕ, List, Option, sym, subst}
+use Rattle.std.proofs.Common.{ℕ, List, Option}
 use Rattle.net_ir.specs.Runs.{netlist_of}
 use Rattle.blif_run.specs.Texts as circuits
 use Rattle.csub_run.specs.Texts as programs

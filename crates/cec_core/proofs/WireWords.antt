@@ -38,7 +38,6 @@ use Rattle.net_ir.specs.Gates.{carried, value_in}
 use Rattle.net_ir.specs.Netlists.{Netlist, first_gate, net_count, wire_at}
 use Rattle.cec_core.specs.Cycles.{IsAcyclic}
 use Rattle.cec_core.specs.WireNames.{wire_word, wire_variable, TellsWires, WiresTold, NamesWires}
-use Rattle.cec_core.specs.Meaning.{AreItems}
 use Rattle.cec_core.proofs.Keeping.{widths}
 
 -- ---- the gate of a wire

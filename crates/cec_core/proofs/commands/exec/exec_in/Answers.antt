@@ -11,3 +11,7 @@ returns-in-Ok-read-clause-out g c =
     (text_left language.reads language.given language.outgoing language.shows content c.args.trace.now c.args.text.now _ c.run_text.result
     c.in-Ok-read.trace.items (held_read content c.args.trace.now TRACE_BYTES c.in-Ok-read.trace c.in-Ok-read.ensures.bytes)
     (record { program = language.plain c.in-Ok.machine; read = c.in-Ok.ensures.reads; ran = c.run_text.ensures }))
+
+pub returns-in-Err-clause-long_trace : goal.returns-in-Err-clause-long_trace
+returns-in-Err-clause-long_trace g c =
+    rw c.unread.ensures (long_trace_unread (g.F.Files.content c.args.files.now) c.args.trace.now c.in-Err.fault c.in-Err.ensures.bytes)
