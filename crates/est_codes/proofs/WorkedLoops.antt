@@ -20,10 +20,9 @@ loops = refl
 
 least : IsLeast (Some (place 20 30)) (instant_loops body)
 least =
-    let n : Span → Type 0 = IsNotAfter (place 20 30) in
-    (
+    let n : Span → Type 0 = IsNotAfter (place 20 30) in (
       (2, omega arith, refl),
       All-cons n (place 40 50) (place 20 35 ∷ place 20 30 ∷ []) (record { start = omega arith; end = λ e. omega arith })
           (All-cons n (place 20 35) (place 20 30 ∷ []) (record { start = omega arith; end = λ e. omega arith })
-          (All-cons n (place 20 30) [] (record { start = omega arith; end = λ e. omega arith }) (All-nil n)))
+          (All-cons n (place 20 30) [] (record { start = omega arith; end = λ e. omega arith }) (All-nil n))),
     )

@@ -1,14 +1,8 @@
 //! Tests of crates below `cec_core` through their public calls: what no clause says of them, and no row of a program
 //! can say.
 //!
-<<<<<<< HEAD
 //! They stand in a crate of their own, since a crate with tests is proved twice, and below `cec_core`, so that they do
 //! not wait for it. The expected values are those of published examples, of another implementation, or worked by hand.
-=======
-//! They stand in a crate of their own, since a crate with tests is proved twice, and below `cec_core`, so that they
-//! do not wait for it. The expected values are those of published examples, of another implementation, or worked by
-//! hand.
->>>>>>> 502233d7a11cbed5182a636676be22db30c22e37
 #![tactic(auto)]
 
 #[cfg(test)]
