@@ -18,14 +18,20 @@ def tracked():
     return [TOP / name for name in listed.stdout.decode().split("\0") if name]
 
 
+def lines_of_crates():
+    """The names in crates.txt, in the order of its lines, each with those of the crates that it stands on."""
+    lines = []
+    for line in (TOP / "crates.txt").read_text().splitlines():
+        name, _, below = line.split("#")[0].partition(":")
+        if name.strip():
+            lines.append((name.split()[0], below.split()))
+    names = {name for name, _ in lines}
+    return [(name, [it for it in below if it in names]) for name, below in lines]
+
+
 def crates():
     """The names in crates.txt, in the order of its lines."""
-    names = []
-    for line in (TOP / "crates.txt").read_text().splitlines():
-        line = line.split("#")[0].strip()
-        if line:
-            names.append(line.split(":")[0].split()[0])
-    return names
+    return [name for name, _ in lines_of_crates()]
 
 
 CITES = re.compile(
@@ -62,16 +68,23 @@ def stands_alone():
 
 
 def crates_are_introduced():
-    """Each crate has a row in the README's map, with a link to its page, and a `//!` head in its root file."""
-    found = []
-    readme = (TOP / "README.md").read_text()
-    for name in crates():
-        if not re.search(rf"^\| \[`{name}`\]\(crates/{name}/README\.md\) \|", readme, re.M):
-            found.append(f"README.md: no row for {name} in the map of the crates")
+    """Each crate has a row in the table of docs/architecture.md, in the order of crates.txt, with a link to its page and the
+    crates that it stands on, and a `//!` head in its root file."""
+    found, rows = [], []
+    for name, below in lines_of_crates():
+        stands = ", ".join(f"`{it}`" for it in below) or "none"
+        rows.append((f"| [`{name}`](../crates/{name}/README.md) | ", f" | {stands} |"))
         folder = TOP / "crates" / name / "src"
         root = folder / "lib.rt" if (folder / "lib.rt").exists() else folder / "main.rt"
         if not root.exists() or not root.read_text().startswith("//!"):
             found.append(f"crates/{name}: the root file has no `//!` head")
+    page = (TOP / "docs" / "architecture.md").read_text()
+    lines = [line for line in page.splitlines() if line.startswith("| [`")]
+    if len(lines) != len(rows):
+        found.append(f"docs/architecture.md: {len(lines)} rows for {len(rows)} crates")
+    for line, (begin, end) in zip(lines, rows):
+        if not (line.startswith(begin) and line.endswith(end)):
+            found.append(f"docs/architecture.md: `{line[:60]}..` is not `{begin}..{end}`")
     return found
 
 

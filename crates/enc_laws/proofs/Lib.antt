@@ -1,0 +1,2 @@
+pub mod StateForms
+pub mod FormedLatches

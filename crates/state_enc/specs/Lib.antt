@@ -1,0 +1,12 @@
+pub mod Widths
+pub mod SelectionFolds
+pub mod EncodedCounts
+pub mod Shapes
+pub mod TreeWalks
+pub mod CodeTrees
+pub mod Plans
+pub mod Codes
+pub mod Drafts
+pub mod Meeting
+pub mod Recodings
+pub mod Encodings

@@ -1,0 +1,302 @@
+// The netlist whose latches hold a code.
+
+ghost use Rattle.std.specs.Prelude.{◌≡◌, ℕ, true, false, ◌+◌, ◌*◌, ◌<◌, ◌≤◌, ◌^◌, [], ◌∷◌, ◌++◌, length, map, take};
+ghost use Rattle.std.specs.Prelude.{IfOk, OnOk, All};
+ghost use Rattle.std.specs.Prelude.{None, drop, replicate};
+ghost use Rattle.net_ir.specs.Gates.{operand_end, ReadsLower};
+ghost use Rattle.net_ir.specs.Netlists.{IsNet, first_gate, net_count};
+ghost use Rattle.net_ir.specs.Runs.{netlist_of, initial_latches};
+ghost use Rattle.net_simp.specs.Renaming.{stand_in, renamed_op, renamed_out};
+ghost use Rattle.state_enc.specs.Drafts.{Grew, Says, EachSays, literals_of, values_of, wanted};
+ghost use Rattle.state_enc.specs.Recodings.{copied, code_base, first_behind, Drawn, bit_latch, coded_net, numbers_from};
+ghost use Rattle.state_enc.specs.Recodings.{latch_net, CopiesDrawn, IsCodedNet};
+
+use crate::codes::Literal;
+use crate::gates::{Draft, bit_nets, leaf_nets};
+use est_base::{NetId, NoMemory, Text};
+use net_ir::{Gate, Latch, Net, NetOut, Op};
+use std::alloc::Global;
+
+// What is drawn for a netlist: the net that stands for each net, the gates, and the nets of the bits.
+#[derive(Drop)]
+struct Drawing {
+    names: Vec<NetId>,
+    gates: Vec<Gate>,
+    bits: Vec<NetId>,
+}
+
+// The net that stands for a net.
+fn stand_in(names: &[NetId], net: NetId) -> NetId
+    requires { net.0 < length names.now }
+    ensures { result.0 ≡ stand_in names.now net.0 }
+{
+    names[net.0 as usize]
+}
+
+// The operator over the nets that stand for those that it reads.
+fn renamed_op(names: &[NetId], op: Op) -> Op
+    requires { operand_end op ≤ length names.now }
+    ensures { result ≡ renamed_op (stand_in names.now) op }
+{
+    match op {
+        Op::Const(value) => Op::Const(value),
+        Op::Copy(a) => Op::Copy(stand_in(names, a)),
+        Op::Not(a) => Op::Not(stand_in(names, a)),
+        Op::And(a, b) => Op::And(stand_in(names, a), stand_in(names, b)),
+        Op::Or(a, b) => Op::Or(stand_in(names, a), stand_in(names, b)),
+    }
+}
+
+// So many nets from a number on. Where there are not so many numbers, memory is said to be wanted.
+fn push_numbers(names: &mut Vec<NetId>, from: u32, count: usize) -> Result<(), NoMemory>
+    ensures names { OnOk result (names.new.items ≡ names.old.items ++ numbers_from from count) }
+    ensures fits { OnOk result (from + count < 2 ^ 32) }
+{
+    if count > (u32::MAX - from) as usize {
+        return Err(NoMemory);
+    }
+    for k in 0..count {
+        names.push(NetId(from + k as u32))?;
+    }
+    Ok(())
+}
+
+// The nets that stand for those of a netlist: for those before the leaves each itself, for the leaves these, and for
+// the gates the nets from `here` on.
+fn new_names(
+    alloc: Global,
+    base: u32,
+    leaves: &[NetId],
+    here: u32,
+    gates: usize,
+) -> Result<Vec<NetId>, NoMemory>
+    ensures names { IfOk result (λ names. names.items
+        ≡ (numbers_from 0 base ++ leaves.now) ++ numbers_from here gates) }
+    ensures fits { OnOk result (here + gates < 2 ^ 32) }
+{
+    let mut names = Vec::new(alloc);
+    push_numbers(&mut names, 0, base as usize)?;
+    names.extend_from_slice(leaves)?;
+    push_numbers(&mut names, here, gates)?;
+    Ok(names)
+}
+
+// Copies gates over the nets that stand for those that they read.
+fn copy_gates(draft: &mut Draft, names: &[NetId], gates: &[Gate]) -> Result<(), NoMemory>
+    requires { All (λ g. operand_end g.op ≤ length names.now) gates.now }
+    ensures gates { OnOk result (draft.new.gates.items
+        ≡ draft.old.gates.items ++ map (copied (stand_in names.now)) gates.now) }
+    ensures first { OnOk result (draft.new.first ≡ draft.old.first) }
+{
+    for gate in gates {
+        let op = renamed_op(names, gate.op);
+        let wire = gate.wire;
+        draft.gates.push(Gate { op, wire })?;
+    }
+    Ok(())
+}
+
+// The nets that stand for those that latches read.
+fn next_nets(alloc: Global, names: &[NetId], latches: &[Latch]) -> Result<Vec<NetId>, NoMemory>
+    requires { All (λ l. l.from.0 < length names.now) latches.now }
+    ensures { IfOk result (λ v. v.items ≡ map (latch_net (stand_in names.now)) latches.now) }
+{
+    let mut nets = Vec::new(alloc);
+    for latch in latches {
+        nets.push(stand_in(names, latch.from))?;
+    }
+    Ok(nets)
+}
+
+// Draws the gates that read the code, behind those that there are, and the copies of the gates of a netlist. Answers
+// the nets that stand for those of the netlist.
+fn draw_copies(
+    alloc: Global,
+    draft: &mut Draft,
+    yes: NetId,
+    net: &Net,
+    width: u32,
+    codes: &[Vec<Literal>],
+) -> Result<Vec<NetId>, NoMemory>
+    requires count { length codes.now + 1 ≡ length net.now.latches.items }
+    requires narrow { width < length codes.now }
+    requires first { draft.old.first ≡ first_behind (netlist_of net.now) width }
+    requires within { All (λ ls. All (λ l. l.bit < width) ls) (literals_of codes.now) }
+    requires short { All (λ ls. length ls ≤ width) (literals_of codes.now) }
+    requires reads { ReadsLower draft.old.first draft.old.gates.items }
+    requires silent { All (λ g. g.wire ≡ None) draft.old.gates.items }
+    requires yes { Says draft.old.first draft.old.gates.items yes.0 (λ v. true) }
+    ensures drawn { IfOk result (λ names. CopiesDrawn (netlist_of net.now) width (literals_of codes.now)
+        draft.old.gates.items names.items draft.new.gates.items) }
+    ensures first { OnOk result (draft.new.first ≡ draft.old.first) }
+{
+    let base = draft.first - width;
+    let leaves = leaf_nets(alloc, draft, yes, base, width, codes)?;
+    let here = draft.next_number()?;
+    let names = new_names(alloc, base, &leaves, here, net.gates.len())?;
+    copy_gates(draft, &names, &net.gates)?;
+    Ok(names)
+}
+
+// Draws the gates that write the code, where `names` tell the nets that stand for those of a netlist.
+fn draw_bits(
+    alloc: Global,
+    draft: &mut Draft,
+    no: NetId,
+    names: &[NetId],
+    net: &Net,
+    width: u32,
+    codes: &[Vec<Literal>],
+) -> Result<Vec<NetId>, NoMemory>
+    requires count { length codes.now + 1 ≡ length net.now.latches.items }
+    requires within { All (λ ls. All (λ l. l.bit < width) ls) (literals_of codes.now) }
+    requires short { All (λ ls. length ls ≤ width) (literals_of codes.now) }
+    requires reads { ReadsLower draft.old.first draft.old.gates.items }
+    requires names { All (λ l. l.from.0 < length names.now) net.now.latches.items }
+    requires low { All (λ l. stand_in names.now l.from.0 < draft.old.first + length draft.old.gates.items)
+        net.now.latches.items }
+    requires no { Says draft.old.first draft.old.gates.items no.0 (λ v. false) }
+    ensures grew { OnOk result (Grew draft.old.first draft.old.gates.items draft.new.gates.items
+        (length codes.now * width)) }
+    ensures says { IfOk result (λ sums. EachSays draft.old.first draft.new.gates.items sums.items
+        (λ i v. wanted (literals_of codes.now) (values_of draft.old.gates.items
+        (map (latch_net (stand_in names.now)) (drop 1 net.now.latches.items)) v) i)) }
+    ensures count { IfOk result (λ sums. length sums.items ≡ width) }
+    ensures first { OnOk result (draft.new.first ≡ draft.old.first) }
+{
+    let next = next_nets(alloc, names, &net.latches[1..])?;
+    let bits = bit_nets(alloc, draft, no, width, codes, &next)?;
+    Ok(bits)
+}
+
+// What is drawn for a netlist whose leaves have these literals in a code of this width.
+fn drawing_of(
+    alloc: Global,
+    net: &Net,
+    width: u32,
+    codes: &[Vec<Literal>],
+) -> Result<Drawing, NoMemory>
+    requires count { length codes.now + 1 ≡ length net.now.latches.items }
+    requires narrow { width < length codes.now }
+    requires within { All (λ ls. All (λ l. l.bit < width) ls) (literals_of codes.now) }
+    requires short { All (λ ls. length ls ≤ width) (literals_of codes.now) }
+    ensures { IfOk result (λ d. Drawn (netlist_of net.now) (map (λ l. l.from) (drop 1 net.now.latches.items)) width
+        (literals_of codes.now) d.names.items d.gates.items d.bits.items) }
+{
+    let mut draft = Draft {
+        first: net.inputs.len() as u32 + 1 + width,
+        gates: Vec::new(alloc),
+    };
+    let yes = draft.push(Op::Const(true))?;
+    let no = draft.push(Op::Const(false))?;
+    let names = draw_copies(alloc, &mut draft, yes, net, width, codes)?;
+    let bits = draw_bits(alloc, &mut draft, no, &names, net, width, codes)?;
+    let gates = numbered_gates(draft)?;
+    Ok(Drawing { names, gates, bits })
+}
+
+// The gates of a draft. Where there are more than numbers, memory is said to be wanted.
+fn numbered_gates(draft: Draft) -> Result<Vec<Gate>, NoMemory>
+    ensures gates { IfOk result (λ gates. gates.items ≡ draft.gates.items) }
+    ensures fits { OnOk result (draft.first + length draft.gates.items ≤ 2 ^ 32) }
+{
+    let Draft { first, gates } = draft;
+    if gates.len() > (u32::MAX - first) as usize {
+        return Err(NoMemory);
+    }
+    Ok(gates)
+}
+
+/// The netlist whose latches hold the code of those of a netlist, where `codes` are the literals of the leaves in a
+/// code of this width.
+pub(crate) fn coded_net(
+    alloc: Global,
+    net: &Net,
+    width: u32,
+    codes: &[Vec<Literal>],
+) -> Result<Net, NoMemory>
+    requires count { length codes.now + 1 ≡ length net.now.latches.items }
+    requires narrow { width < length codes.now }
+    requires within { All (λ ls. All (λ l. l.bit < width) ls) (literals_of codes.now) }
+    requires short { All (λ ls. length ls ≤ width) (literals_of codes.now) }
+    requires inits { initial_latches (netlist_of net.now) ≡ true ∷ replicate (length codes.now) false }
+    ensures { IfOk result (λ new. IsCodedNet (netlist_of net.now) (netlist_of new) width (literals_of codes.now)) }
+{
+    let Drawing { names, gates, bits } = drawing_of(alloc, net, width, codes)?;
+    let made = net_around(alloc, net, &names, gates, &bits)?;
+    Ok(made)
+}
+
+// The netlist around what is drawn.
+fn net_around(
+    alloc: Global,
+    net: &Net,
+    names: &[NetId],
+    gates: Vec<Gate>,
+    bits: &[NetId],
+) -> Result<Net, NoMemory>
+    requires boot { 0 < length net.now.latches.items }
+    requires names { net_count (netlist_of net.now) ≤ length names.now }
+    requires is_net { IsNet (coded_net (netlist_of net.now) (stand_in names.now) gates.items bits.now) }
+    ensures { IfOk result (λ new. netlist_of new
+        ≡ coded_net (netlist_of net.now) (stand_in names.now) gates.items bits.now) }
+{
+    let name = Text::from_bytes(alloc, net.name.bytes())?;
+    let inputs = copied_names(alloc, &net.inputs)?;
+    let outputs = renamed_outputs(alloc, names, &net.outputs)?;
+    let paused = stand_in(names, net.paused);
+    let latches = code_latches(alloc, stand_in(names, net.latches[0].from), bits)?;
+    Ok(Net {
+        name,
+        inputs,
+        outputs,
+        paused,
+        latches,
+        gates,
+    })
+}
+
+pub(crate) fn copied_names(alloc: Global, names: &[Text]) -> Result<Vec<Text>, NoMemory>
+    ensures { IfOk result (λ v. v.items ≡ names.now) }
+{
+    let mut copies = Vec::new(alloc);
+    for name in names {
+        copies.push(Text::from_bytes(alloc, name.bytes())?)?;
+    }
+    Ok(copies)
+}
+
+fn renamed_outputs(
+    alloc: Global,
+    names: &[NetId],
+    outputs: &[NetOut],
+) -> Result<Vec<NetOut>, NoMemory>
+    requires { All (λ o. o.net.0 < length names.now) outputs.now }
+    ensures { IfOk result (λ v. v.items ≡ map (renamed_out (stand_in names.now)) outputs.now) }
+{
+    let mut renamed = Vec::new(alloc);
+    for output in outputs {
+        let name = Text::from_bytes(alloc, output.name.bytes())?;
+        let net = stand_in(names, output.net);
+        renamed.push(NetOut { name, net })?;
+    }
+    Ok(renamed)
+}
+
+// The latch that tells the first instant, and one for each bit.
+fn code_latches(alloc: Global, boot: NetId, bits: &[NetId]) -> Result<Vec<Latch>, NoMemory>
+    ensures { IfOk result (λ v. v.items ≡ record { init = true; from = boot } ∷ map bit_latch bits.now) }
+{
+    let first = Latch {
+        init: true,
+        from: boot,
+    };
+    let mut latches = vec![in alloc; first]?;
+    for net in bits {
+        latches.push(Latch {
+            init: false,
+            from: *net,
+        })?;
+    }
+    Ok(latches)
+}
