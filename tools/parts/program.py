@@ -37,7 +37,7 @@ def command():
     if os.environ.get("CEC"):
         return shlex.split(os.environ["CEC"])
     tools = os.path.dirname(os.path.dirname(os.path.realpath(__file__)))
-    for beside in (os.path.join(tools, "..", "cec"), os.path.join(tools, "..", "..", "bin", "cec")):
+    for beside in (os.path.join(tools, "..", "cec"), os.path.join(tools, "..", "..", "..", "bin", "cec")):
         if os.path.isfile(beside) and os.access(beside, os.X_OK):
             return [os.path.normpath(beside)]
     found = shutil.which("cec")

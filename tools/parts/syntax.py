@@ -1,0 +1,78 @@
+"""What could stand at the place of a syntax fault: the program is asked, token by token, whether the fault moves on."""
+import os
+import re
+import tempfile
+
+from program import DONE, ask, main_words
+from tokens import MARKS, WORDS, byte_at
+
+# Words that begin a statement, and those that begin a test.
+STATEMENTS = frozenset(
+    "abort await emit every exit halt loop nothing pause positive present repeat run signal suspend sustain trap weak [".split()
+)
+PLACE = re.compile(r"cec: (\d+):(\d+): (.*)")
+# Words of Esterel V5 that are no words here, and what to do about them.
+V5_WORDS = {
+    "do": "`do p watching e` is written `abort p when e`",
+    "watching": "`do p watching e` is written `abort p when e`",
+    "upto": "`do p upto e` is written `abort p; halt when e`",
+    "timeout": "`do p watching e timeout q end` is written `abort p when e do q end`",
+    "sensor": "a sensor has a value; one that is only tested can be an input",
+    "var": "variables are no part of Pure Esterel",
+    "if": "`if` tests values; signals are tested by `present`",
+    "call": "procedures are no part of Pure Esterel",
+    "exec": "tasks are no part of Pure Esterel",
+    "type": "types are no part of Pure Esterel",
+    "constant": "constants are no part of Pure Esterel",
+    "function": "functions are no part of Pure Esterel",
+    "procedure": "procedures are no part of Pure Esterel",
+    "task": "tasks are no part of Pure Esterel",
+    "return": "tasks are no part of Pure Esterel",
+    "copymodule": "`copymodule` is written `run`",
+    "pre": "the status of the instant before is no test here; a signal that is emitted behind a `pause` can hold it",
+    "combine": "signals with values are no part of Pure Esterel",
+}
+
+
+def asked(text, main=None, command="check"):
+    """What the program answers to a text."""
+    handle, name = tempfile.mkstemp(suffix=".strl")
+    try:
+        with os.fdopen(handle, "wb") as file:
+            file.write(text.encode("latin-1"))
+        return ask(command, *main_words(main), name)
+    finally:
+        os.unlink(name)
+
+
+def fault_of(text, main=None):
+    """The place of the first fault of a text, in bytes, and its text; no place where there is none, or the fault has none."""
+    answer = asked(text, main)
+    match = PLACE.match(answer.err.decode("latin-1"))
+    if answer.status == DONE or not match:
+        return None, ""
+    return byte_at(text, int(match[1]), int(match[2])), match[3].strip()
+
+
+def goes_on(text, at, word):
+    """Whether a token can stand at a place: put there, with nothing behind it, it is not where the fault is."""
+    head = text[:at]
+    if head[-1:].isalnum() or head[-1:] == "_":
+        head += " "
+    place, fault = fault_of(head + word + "\n")
+    return not (fault in ("syntax", "limit: nesting") and place is not None and place <= len(head))
+
+
+def tokens_that_could(text, at):
+    """The tokens that could stand at a place: marks, words, and what a name or a number is called."""
+    words = [*MARKS, *sorted(WORDS), "x", "3"]
+    return [{"x": "a name", "3": "a number"}.get(word, word) for word in words if goes_on(text, at, word)]
+
+
+def in_words(tokens):
+    """A list of tokens for a reader: all that begin a statement are told as one."""
+    left, told = list(tokens), []
+    if STATEMENTS <= set(left):
+        left = [token for token in left if token not in STATEMENTS]
+        told.append("a statement")
+    return ", ".join(told + [token if token.startswith("a n") else "`%s`" % token for token in left])
