@@ -182,8 +182,8 @@ class Expander:
 
     # What is derived.
 
-    def halt(self):
-        return self.make("Loop", self.make("Pause"))
+    def halt(self, place=None):
+        return self.make("Loop", self.make("Pause", place=place))
 
     def sustain(self, the_signal):
         return self.make("Loop", self.seq(self.emit(the_signal), self.make("Pause")))
@@ -192,7 +192,8 @@ class Expander:
         """`await` of a delay."""
         def turn(trap):
             tested = self.test(delay, self.exit_to(trap), self.make("Nothing"))
-            return self.make("Loop", self.seq(*((tested, self.make("Pause")) if delay.immediate else (self.make("Pause"), tested))))
+            pause = self.make("Pause", place=(delay.start, delay.end))
+            return self.make("Loop", self.seq(*((tested, pause) if delay.immediate else (pause, tested))))
         return self.seq(*[self.trap(turn) for _ in range(max(1, delay.count))])
 
     def awaited(self, the_delay, the_do):
@@ -228,7 +229,8 @@ class Expander:
                 counter = ("x", *self.new_signal("x"))
                 return self.make("Local", self.counted(delay, body, trap, leave, counter), signals=(counter,))
             left = self.seq(self.suspended(delay, body()), self.exit_to(leave))
-            right = self.make("Loop", self.seq(self.make("Pause"), self.test(delay, self.exit_to(trap), self.make("Nothing"))))
+            pause = self.make("Pause", place=(delay.start, delay.end))
+            right = self.make("Loop", self.seq(pause, self.test(delay, self.exit_to(trap), self.make("Nothing"))))
             both = self.make("Par", left, right)
             if delay.immediate and outer is not None:
                 return self.test(delay, self.exit_to(trap), both)
@@ -262,14 +264,15 @@ class Expander:
 
     def suspend(self, the_body, the_delay):
         def turn(trap):
-            return self.make("Loop", self.test(the_delay, self.make("Pause"), self.exit_to(trap)))
+            pause = self.make("Pause", place=(the_delay.start, the_delay.end))
+            return self.make("Loop", self.test(the_delay, pause, self.exit_to(trap)))
         if the_delay.immediate:
             return self.seq(self.trap(turn), self.suspended(the_delay, self.of(the_body)))
         return self.suspended(the_delay, self.of(the_body))
 
     def loop_each(self, the_body, the_delay):
         delay = the_delay._replace(immediate=False)
-        return self.make("Loop", self.watched(delay, lambda: self.seq(self.of(the_body), self.halt()), None))
+        return self.make("Loop", self.watched(delay, lambda: self.seq(self.of(the_body), self.halt((delay.start, delay.end))), None))
 
     def every(self, the_delay, the_body):
         return self.seq(self.wait(the_delay), self.loop_each(the_body, the_delay))
