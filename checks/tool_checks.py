@@ -6,10 +6,12 @@ import shlex
 import shutil
 import subprocess
 import sys
+import time
 
 TOP = pathlib.Path(__file__).resolve().parent.parent
 BUILT = TOP / "crates/cec/out/cec"
 EXAMPLES = TOP / "examples"
+SECONDS = 60
 sys.dont_write_bytecode = True
 
 
@@ -101,6 +103,34 @@ def simulated(folder, blif, netlist, trace, models=(), reset=None):
     if built.returncode != 0:
         return built.stderr
     return lines_of(blif, run(["vvp", "-n", "bench.vvp"], folder=folder).stdout)
+
+
+class Terminal:
+    """A terminal of tmux with one program in it, on a socket of its own."""
+
+    def __init__(self, socket, words):
+        self.base = ["tmux", "-S", socket, "-f", "/dev/null"]
+        call = "CEC=%s %s; echo status $?; sleep 100" % (shlex.quote(os.environ.get("CEC", "")), shlex.join(map(str, words)))
+        run([*self.base, "new-session", "-d", "-x", "110", "-y", "40", call])
+
+    def press(self, *keys):
+        run([*self.base, "send-keys", *keys])
+
+    def screen(self, *words):
+        return run([*self.base, "capture-pane", "-p", *words]).stdout
+
+    def shows(self, *texts):
+        """Whether the screen comes to show all these texts."""
+        until = time.time() + SECONDS
+        while time.time() < until:
+            seen = self.screen()
+            if all(text in seen for text in texts):
+                return True
+            time.sleep(0.1)
+        return False
+
+    def end(self):
+        run([*self.base, "kill-server"])
 
 
 class Count:
