@@ -1,7 +1,7 @@
 """The program `cec`, as the tools call it: where it is found, what it is asked, and its statuses.
 
-`$CEC` names it, with words in front where there are some; else it is `cec` beside the tools, in the repository or where
-they are installed; else `cec` on the path.
+`$CEC` names it, with words behind it where there are some; else it is the built program of the repository, where the tools stand
+in one; else `cec` beside the tools, where they are installed, or on the path.
 """
 import os
 import shlex
@@ -37,13 +37,17 @@ def command():
     if os.environ.get("CEC"):
         return shlex.split(os.environ["CEC"])
     tools = os.path.dirname(os.path.dirname(os.path.realpath(__file__)))
-    for beside in (os.path.join(tools, "..", "cec"), os.path.join(tools, "..", "..", "..", "bin", "cec")):
-        if os.path.isfile(beside) and os.access(beside, os.X_OK):
-            return [os.path.normpath(beside)]
-    found = shutil.which("cec")
-    if found:
-        return [found]
-    raise Stop(MISSING, "no program cec beside the tools or on the path; $CEC can name it")
+    if os.path.isdir(os.path.join(tools, "..", "crates", "cec")):
+        built = os.path.normpath(os.path.join(tools, "..", "crates", "cec", "out", "cec"))
+        if os.access(built, os.X_OK):
+            return [built]
+        # The script ./cec would prove and build for more than an hour here, and say nothing.
+        raise Stop(MISSING, "the program is not built here; ./cec builds it, or $CEC names another one")
+    beside = os.path.normpath(os.path.join(tools, "..", "..", "..", "bin", "cec"))
+    found = beside if os.access(beside, os.X_OK) else shutil.which("cec")
+    if not found:
+        raise Stop(MISSING, "no program cec beside the tools or on the path; $CEC can name it")
+    return [found]
 
 
 def ask(*words):
