@@ -15,14 +15,15 @@ SECONDS = 60
 sys.dont_write_bytecode = True
 
 
-def program(check):
-    """The words that call the program: the argument's, `$CEC`, or the built one. Where it is not built, the check ends."""
+def program(check, count=None):
+    """The words that call the program: the argument's, `$CEC`, or the built one. Where it is not built, the check ends, with
+    what it found so far."""
     words = shlex.split(os.environ.get("CEC", "")) or [str(BUILT)]
     if len(sys.argv) > 1:
         words = [os.path.abspath(sys.argv[1])]
     if not shutil.which(words[0]):
         print("%s: skipped, the program is not built here (./cec builds it)" % check)
-        sys.exit(0)
+        sys.exit(1 if count and count.failed else 0)
     os.environ["CEC"] = shlex.join(words)
     return words
 

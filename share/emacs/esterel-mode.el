@@ -43,39 +43,85 @@
     ("\\<\\(?:trap\\|exit\\|handle\\)[ \t]+\\(\\w+\\)" 1 font-lock-constant-face))
   "Colours.")
 
-(defconst esterel-opening
-  "\\<\\(?:loop\\|abort\\|suspend\\|trap\\|signal\\|present\\|every\\|repeat\\)\\>\\|\\[")
+;; Indentation: the statements that are open where a line begins, each with the column of the line that opened it.
 
-(defconst esterel-closing
-  "\\<\\(?:end\\|each\\|when\\)\\>\\|\\]")
+(defun esterel-tokens ()
+  "The tokens of the buffer as a vector of pairs of a text and a place."
+  (let (found)
+    (save-excursion
+      (goto-char (point-min))
+      (while (re-search-forward "[A-Za-z][A-Za-z0-9_]*\\|[0-9]+\\|||\\|[][;(),/:#.]" nil t)
+        (let ((text (match-string-no-properties 0)) (start (match-beginning 0)))
+          (unless (nth 4 (save-excursion (syntax-ppss start)))
+            (push (cons text start) found)))))
+    (vconcat (nreverse found))))
+
+(defun esterel-token (tokens number)
+  "The text of a token; nil where there is none of this NUMBER."
+  (and (>= number 0) (< number (length tokens)) (car (aref tokens number))))
+
+(defun esterel-behind-bracket (tokens number)
+  "The number of the token behind the bracket that opens at NUMBER."
+  (let ((depth 0) (done nil))
+    (while (and (not done) (< number (length tokens)))
+      (pcase (esterel-token tokens number)
+        ("[" (setq depth (1+ depth)))
+        ("]" (setq depth (1- depth))))
+      (setq number (1+ number) done (= depth 0)))
+    number))
+
+(defun esterel-behind-delay (tokens number)
+  "The number of the token behind the delay that begins at NUMBER."
+  (when (member (esterel-token tokens number) '("immediate"))
+    (setq number (1+ number)))
+  (when (string-match-p "\\`[0-9]" (or (esterel-token tokens number) ""))
+    (setq number (1+ number)))
+  (if (equal (esterel-token tokens number) "[")
+      (esterel-behind-bracket tokens number)
+    (1+ number)))
+
+(defconst esterel-before-test
+  '("when" "await" "present" "every" "each" "case" "immediate" "and" "or" "not" "(" "[")
+  "What stands before a bracket of a test; a number does too.")
+
+(defun esterel-open-columns (place)
+  "The columns of the lines that opened what is open at PLACE, the innermost first."
+  (let ((tokens (esterel-tokens)) (number 0) columns)
+    (while (and (< number (length tokens)) (< (cdr (aref tokens number)) place))
+      (let* ((before (esterel-token tokens (1- number)))
+             (next (1+ number))
+             (column (save-excursion (goto-char (cdr (aref tokens number))) (current-indentation))))
+        (pcase (esterel-token tokens number)
+          ("module" (setq columns nil))
+          ("end" (pop columns)
+           (when (member (esterel-token tokens next)
+                         '("await" "present" "loop" "every" "repeat" "abort" "trap" "signal" "module"))
+             (setq next (1+ next))))
+          ((or "each" "]") (pop columns))
+          ((or "loop" "abort" "suspend" "trap" "present" "every" "repeat" "signal") (push column columns))
+          ("[" (if (or (equal (esterel-token tokens next) "signal")
+                       (member before esterel-before-test)
+                       (string-match-p "\\`[0-9]" (or before "")))
+                   (setq next (esterel-behind-bracket tokens number))
+                 (push column columns)))
+          ("await" (when (or (equal (esterel-token tokens next) "case")
+                             (equal (esterel-token tokens (esterel-behind-delay tokens next)) "do"))
+                     (push column columns)))
+          ("when" (unless (or (equal (esterel-token tokens next) "case")
+                              (equal (esterel-token tokens (esterel-behind-delay tokens next)) "do"))
+                    (pop columns)
+                    (setq next (esterel-behind-delay tokens next)))))
+        (setq number next)))
+    columns))
 
 (defun esterel-indent-of-line ()
-  "The column of this line, from the line before it."
+  "The column of this line."
   (save-excursion
     (back-to-indentation)
-    (let ((closes (looking-at "\\(?:end\\|each\\|when\\|handle\\|else\\|||\\|\\]\\)")))
-      (if (bobp) 0
-        (let (column opens)
-          (forward-line -1)
-          (while (and (looking-at "[ \t]*$") (not (bobp))) (forward-line -1))
-          (setq column (current-indentation))
-          (back-to-indentation)
-          (setq opens (or (looking-at "\\(?:handle\\|else\\|||\\|when[ \t]*$\\)")
-                          (> (esterel-depth-of-line) 0)))
-          (max 0 (+ column (if opens esterel-offset 0) (if closes (- esterel-offset) 0))))))))
-
-(defun esterel-depth-of-line ()
-  "How many statements this line opens and does not close."
-  (let ((end (line-end-position)) (depth 0))
-    (save-excursion
-      (beginning-of-line)
-      (while (re-search-forward (concat esterel-opening "\\|" esterel-closing) end t)
-        (unless (nth 4 (save-excursion (syntax-ppss (match-beginning 0))))
-          (if (save-match-data (string-match-p (concat "\\`\\(?:" esterel-opening "\\)\\'") (match-string 0)))
-              (setq depth (1+ depth))
-            (setq depth (1- depth))
-            (when (string= (match-string 0) "end") (skip-chars-forward " \ta-z"))))))
-    depth))
+    (let ((columns (esterel-open-columns (point))))
+      (cond ((null columns) 0)
+            ((looking-at "\\(?:\\(?:end\\|each\\|when\\|handle\\|else\\)\\_>\\|||\\|\\]\\)") (car columns))
+            (t (+ (car columns) esterel-offset))))))
 
 (defun esterel-indent-line ()
   "Indents this line."
