@@ -12,7 +12,6 @@ TOP = pathlib.Path(__file__).resolve().parent.parent
 BUILT = TOP / "crates/cec/out/cec"
 EXAMPLES = TOP / "examples"
 SECONDS = 60
-sys.dont_write_bytecode = True
 
 
 def program(check, count=None):
