@@ -4,7 +4,7 @@ import re
 import tempfile
 
 from program import DONE, ask, main_words
-from tokens import MARKS, WORDS, byte_at
+from tokens import MARKS, WORDS, Unread, byte_at, tokens_of
 
 # Words that begin a statement, and those that begin a test.
 STATEMENTS = frozenset(
@@ -13,11 +13,10 @@ STATEMENTS = frozenset(
 PLACE = re.compile(r"cec: (\d+):(\d+): (.*)")
 # Words of Esterel V5 that are no words here, and what to do about them.
 V5_WORDS = {
-    "do": "`do p watching e` is written `abort p when e`",
     "watching": "`do p watching e` is written `abort p when e`",
     "upto": "`do p upto e` is written `abort p; halt when e`",
     "timeout": "`do p watching e timeout q end` is written `abort p when e do q end`",
-    "sensor": "a sensor has a value; one that is only tested can be an input",
+    "sensor": "a sensor has a value; what is only tested can be an input",
     "var": "variables are no part of Pure Esterel",
     "if": "`if` tests values; signals are tested by `present`",
     "call": "procedures are no part of Pure Esterel",
@@ -29,9 +28,41 @@ V5_WORDS = {
     "task": "tasks are no part of Pure Esterel",
     "return": "tasks are no part of Pure Esterel",
     "copymodule": "`copymodule` is written `run`",
-    "pre": "the status of the instant before is no test here; a signal that is emitted behind a `pause` can hold it",
-    "combine": "signals with values are no part of Pure Esterel",
 }
+VALUES = "signals have no values in Pure Esterel"
+
+
+def ends_weak_abort(before):
+    """Whether the last `when` of some tokens is a weak abort's."""
+    opened, is_weak = [], False
+    for token, earlier in zip(before, [None, *before]):
+        if token.kind in ("abort", "suspend"):
+            opened.append(earlier is not None and earlier.kind == "weak")
+        elif token.kind == "when":
+            is_weak = bool(opened) and opened.pop()
+    return is_weak
+
+
+def v5_note(text, at, tokens):
+    """What is written here in place of what Esterel V5 has at a place; none where that is not known."""
+    try:
+        before, now = tokens_of(text[:at])[:-1], tokens_of(text[at:])[0]
+    except Unread:
+        return None
+    last = before[-1] if before else now
+    if now.kind == "do" and "halt" in tokens:
+        return V5_WORDS["watching"]
+    if now.kind in ("do", "case") and ends_weak_abort(before):
+        return "a weak abort has no `do` part and no cases here; two traps do the same"
+    if now.kind == "," and len(before) > 1 and before[-2].kind == "trap":
+        return "one `trap` has one name here; put a trap into another"
+    if now.kind in ("number", "immediate") and last.kind == "case":
+        return "a case has no delay here; a branch that counts can emit what it tests"
+    if now.kind == "(" and last.text == "pre":
+        return "a signal that is emitted behind a `pause` holds the status of the instant before"
+    if now.kind in ("(", ":") and last.kind == "name":
+        return VALUES
+    return V5_WORDS.get(now.text)
 
 
 def asked(text, main=None, command="check"):
