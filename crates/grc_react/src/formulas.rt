@@ -12,8 +12,8 @@ use est_base::{InstId, WireId};
 use grc_graph::{Formula, Graph};
 use grc_words::{Words, is_end_upto, selected_source};
 
-/// The value of a formula, where the wires and the rows have these values.
-pub(crate) fn evaluate(
+/// The value of a formula, where the wires and the rows have these values. It takes no memory.
+pub fn evaluate(
     graph: &Graph,
     words: &Words,
     start: &Start<'_>,

@@ -13,4 +13,6 @@ mod reaction;
 mod rows;
 
 pub use bits::Bits;
+pub use formulas::evaluate;
 pub use reaction::{Reaction, react, react_over};
+pub use rows::{Start, row_value, source_value};

@@ -11,14 +11,14 @@ use std::alloc::Global;
 
 /// What an instant begins with: whether it is the first, which leaves are selected, and the event.
 #[derive(Clone, Copy)]
-pub(crate) struct Start<'a> {
+pub struct Start<'a> {
     pub boot: bool,
     pub selected: &'a [bool],
     pub inputs: &'a [bool],
 }
 
-/// The value of a source, where the wires and the rows have these values.
-pub(crate) fn source_value(start: &Start<'_>, wires: &[bool], rows: &[bool], source: Source) -> bool
+/// The value of a source, where the wires and the rows have these values. It takes no memory.
+pub fn source_value(start: &Start<'_>, wires: &[bool], rows: &[bool], source: Source) -> bool
     requires { IsTrue (source_fits (bounds_of start.now wires.now (length rows.now)) source) }
     ensures { result ≡ source_value (surroundings_of start.now wires.now) rows.now source }
 {
@@ -31,8 +31,8 @@ pub(crate) fn source_value(start: &Start<'_>, wires: &[bool], rows: &[bool], sou
     }
 }
 
-// The value of a row, where the wires and the rows before it have these values.
-fn row_value(start: &Start<'_>, wires: &[bool], rows: &[bool], row: Row) -> bool
+/// The value of a row, where the wires and the rows before it have these values. It takes no memory.
+pub fn row_value(start: &Start<'_>, wires: &[bool], rows: &[bool], row: Row) -> bool
     requires { IsTrue (row_fits (bounds_of start.now wires.now (length rows.now)) row) }
     ensures { result ≡ row_value (surroundings_of start.now wires.now) rows.now row }
 {
@@ -70,7 +70,7 @@ pub(crate) fn add_rows(
 }
 
 /// The values of sources, in order.
-pub(crate) fn source_values(
+pub fn source_values(
     alloc: Global,
     start: &Start<'_>,
     wires: &[bool],

@@ -1,0 +1,4 @@
+mod Stepping
+mod Deciding
+mod Linking
+pub mod TableLaws

@@ -1,0 +1,4 @@
+pub mod Systems
+pub mod Linking
+pub mod Solving
+pub mod Tables

@@ -1,0 +1,47 @@
+use Rattle.std.proofs.Common.{arith}
+use Rattle.est_kernel.specs.Plain.{program_of}
+use Rattle.est_kernel.proofs.ResidualLaws.{trees_are_kernels_lem}
+use Rattle.grc_sem.proofs.Runs.{program_kernel}
+use Rattle.grc_solutions.proofs.ProgramGraphs.{reads_are_edges_lem}
+use Rattle.grc_solutions.proofs.WireNames.{wires_differ_lem}
+use Rattle.tri_run.proofs.Premises.{equations-plain, given-few, leaves-all, wires-differ, wires-few}
+use Rattle.tri_run.proofs.Programs.{keeps-fresh}
+use Rattle.tri_run.specs.States.{runner_with}
+use Rattle.tri_run.proofs.runner.TriRunner.new.Goals as goal
+
+pub words-requires-clause-few : goal.words-requires-clause-few
+words-requires-clause-few c = wires-few c.args.graph.now (program_of c.args.graph.now.program) c.requires.graph
+
+pub words-requires-clause-leaves : goal.words-requires-clause-leaves
+words-requires-clause-leaves c = leaves-all c.args.graph.now (program_of c.args.graph.now.program) c.requires.graph
+
+pub make_system-requires-clause-few : goal.make_system-requires-clause-few
+make_system-requires-clause-few c =
+    let few = wires-few c.args.graph.now (program_of c.args.graph.now.program) c.requires.graph in
+    omega arith
+
+pub make_system-requires-clause-given : goal.make_system-requires-clause-given
+make_system-requires-clause-given c = given-few (program_of c.args.graph.now.program) c.requires.formed
+
+pub make_system-requires-clause-plain : goal.make_system-requires-clause-plain
+make_system-requires-clause-plain c =
+    let p = program_of c.args.graph.now.program in
+    equations-plain c.args.graph.now p reads_are_edges_lem
+    (program_kernel p c.requires.formed (trees_are_kernels_lem c.args.graph.now.program.body)) c.requires.graph
+
+pub invariant_of-result : goal.invariant_of-result
+invariant_of-result c =
+    let g = c.args.graph.now in
+    let p = program_of g.program in
+    let kernel = trees_are_kernels_lem g.program.body in
+    let codes = program_kernel p c.requires.formed kernel in
+    record {
+      reads = record {
+        words = c.in_ok-words.ensures.words;
+        differ = wires-differ g p wires_differ_lem codes c.requires.graph;
+        plain = equations-plain g p reads_are_edges_lem codes c.requires.graph;
+        system = c.in_ok-system.ensures;
+      };
+      keeps = c.in_ok-state.ensures.keeps;
+      program = keeps-fresh (runner_with g c.in_ok-state.state) c.in_ok-state.ensures.fresh c.requires.formed kernel c.requires.no_loop c.requires.graph;
+    }

@@ -1,0 +1,9 @@
+pub mod Numbers
+pub mod Chains
+pub mod Meanings
+pub mod Systems
+pub mod Instants
+pub mod Rooms
+pub mod Runners
+pub mod States
+pub mod Insides
