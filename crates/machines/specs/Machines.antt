@@ -10,8 +10,7 @@ pub record Machine (X : Type 0) : Type 1 where
   pub instant : State → List Bool → X → Type 0
   pub next : State → List Bool → X → State
 
--- A run from a state on: one instant for each event, each from the state behind the one before. A reset is no
--- instant, and puts the machine back to its start.
+-- a run from a state on: one instant for each event, from the state behind the one before; a reset leads to the start
 abbrev pub IsRunFrom : {X : Type 0} → (M : Machine X) → M.State → List Item → List X → Type 0
 IsRunFrom M s [] [] = Unit {0}
 IsRunFrom M s [] (x ∷ xs) = ⊥
