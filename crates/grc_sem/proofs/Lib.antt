@@ -32,4 +32,5 @@ pub mod Instants
 pub mod Runs
 pub mod WalkSolves
 pub mod GraphLaws
+pub mod Regions
 pub mod WithoutPremises

@@ -1,5 +1,5 @@
 -- To believe: the laws that tie the equations of a graph to the walk and to the reaction of its program.
-use Rattle.std.specs.Prelude.{◌≡◌, ◌↔◌, ℕ, Bool, true, ◌==◌, List, length, map, Some}
+use Rattle.std.specs.Prelude.{◌≡◌, ◌↔◌, ℕ, Bool, true, ◌==◌, List, length, map, Some, All, Contains}
 use Rattle.est_base.specs.Items.{Item, EachEvent}
 use Rattle.est_kernel.specs.Plain.{Program, interface_of, given_count}
 use Rattle.est_kernel.specs.Reactions.{Answer, react, run_of}
@@ -15,7 +15,8 @@ use Rattle.grc_graph.specs.Walk.{State, Initial, Selecting, remaining, is_initia
 use Rattle.grc_graph.specs.Selected.{HasExitCodes, IsState}
 use Rattle.grc_graph.specs.Readings.{Valuation}
 use Rattle.grc_graph.specs.Coherence.{StartedWalked, ResumedWalked}
-use Rattle.grc_graph.specs.GraphRuns.{graph_of, program_spots, Solves, shown, next_state, IsGraphRun}
+use Rattle.grc_graph.specs.GraphRuns.{graph_of, program_spots, program_wires, Solves, shown, next_state, IsGraphRun}
+use Rattle.grc_sem.specs.Heads.{RegionRests}
 use Rattle.grc_graph.specs.Layers.{Layer}
 use Rattle.grc_sem.specs.GraphWalks.{selected_of, program_values, graph_walk, IsWalkOf, SelectsLeaves, shown_code}
 use Rattle.grc_sem.specs.GraphWalks.{shown_answer}
@@ -113,3 +114,17 @@ SolutionsAreReactions =
       answer = record { outputs = (shown (graph_of p) V).outputs; code = shown_code V };
       residual = remaining (next_state (graph_of p) q event V) p.body;
     })
+
+-- In a solution each region whose head does not run is at rest. This asks for no rank.
+abbrev pub RegionsRest : Type 0
+RegionsRest =
+    (p : Program) (q : State) (event : List Bool) (V : Valuation)
+    → HasExitCodes p.body → NoInstantLoop p.body → IsState q p.body → Solves (graph_of p) q event V
+    → (w : Wire) → Contains (program_wires p) w → RegionRests p.body V w
+
+-- So it is in each instant of a run from the first one on.
+abbrev pub RegionsRestInRuns : Type 0
+RegionsRestInRuns =
+    (p : Program) (items : List Item) (Vs : List Valuation)
+    → HasExitCodes p.body → NoInstantLoop p.body → IsGraphRun (graph_of p) Initial items Vs
+    → All (λ V. (w : Wire) → Contains (program_wires p) w → RegionRests p.body V w) Vs

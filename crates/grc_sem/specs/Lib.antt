@@ -1,2 +1,3 @@
 pub mod GraphWalks
+pub mod Heads
 pub mod Laws

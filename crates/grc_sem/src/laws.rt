@@ -2,7 +2,7 @@
 
 ghost use Rattle.grc_sem.specs.Laws.{CodesAreShown, EquationsAreTheWalk, ProgramsRun, SolutionsAreReactions};
 ghost use Rattle.grc_sem.specs.Laws.{GraphRunsAreRuns, NextStateIsKept, SolutionsAreWalks, SolutionsReact};
-ghost use Rattle.grc_sem.specs.Laws.{WalksKeepStates};
+ghost use Rattle.grc_sem.specs.Laws.{RegionsRest, RegionsRestInRuns, WalksKeepStates};
 
 /// A solution of a program's graph is the walk of the program's state, wire by wire.
 pub fn solutions_are_walks()
@@ -52,4 +52,14 @@ pub fn graph_runs_are_runs()
 /// graph has one that shows it.
 pub fn programs_run()
     ensures { ProgramsRun }
+{}
+
+/// In a solution each region whose head does not run is at rest: all its wires are false.
+pub fn regions_rest()
+    ensures { RegionsRest }
+{}
+
+/// In each instant of a run from the first one on, each region whose head does not run is at rest.
+pub fn regions_rest_in_runs()
+    ensures { RegionsRestInRuns }
 {}
