@@ -252,7 +252,8 @@ regions_rest_lem p q event V codes no_loop state solves =
     started : (r : ℕ) → Root r (0 ∷ []) → (B : Scope) → HasExitCodes p.body
         → StartedWalked V p.body 0 (Started 0) (program_values p event V) (is_initial q) → EachStarted (P V p.body) B body_entry p.body 0 (Started r)
     started r i B k w =
-        ⊎_elim (λ e. subst (λ m. EachStarted (P V p.body) B body_entry p.body 0 (Started m)) (sym e) (own_started V p.body p.body B body_entry 0 _ _ k w)) (λ e. absurd e) i
+        ⊎_elim (λ e. subst (λ m. EachStarted (P V p.body) B body_entry p.body 0 (Started m)) (sym e) (own_started V p.body p.body B body_entry 0 _ _ k w))
+        (λ e. absurd e) i
 
 pub regions_rest_in_runs_lem : RegionsRestInRuns
 regions_rest_in_runs_lem p items Vs codes no_loop run = from items Initial Vs tt tt run
