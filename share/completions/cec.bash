@@ -11,7 +11,9 @@ _cec() {
     fi
     case $before in
     --via)
-        mapfile -t COMPREPLY < <(compgen -W "blif c" -- "$now")
+        local ways="blif c"
+        [ "$given" = run ] && ways="blif c tri"
+        mapfile -t COMPREPLY < <(compgen -W "$ways" -- "$now")
         return
         ;;
     --pick)

@@ -1,12 +1,16 @@
 -- Requests of which nothing is refused end as done, or for want of memory.
-use Rattle.std.proofs.Common.{◌≡◌, ℕ, ◌+◌, ◌<◌, ◌≤◌, ◌⊎◌, List, [], ◌∷◌, ◌++◌, length, Option, None, Some, Err, inl, inr, refl, sym, ap, ◌∙◌, subst}
+use Rattle.std.proofs.Common.{◌≡◌, ℕ, ◌+◌, ◌<◌, ◌≤◌, ◌⊎◌, List, [], ◌∷◌, ◌++◌, length, map, Option, None, Some, Err, inl, inr, refl, sym, ap, ◌∙◌, subst}
 use Rattle.std.proofs.Common.{⊎_elim, arith}
 use Rattle.est_base.specs.declared.bounds.TheConstants.Limits.{TRACE_BYTES, TEXT_BYTES}
 use Rattle.est_base.specs.Faults.{Rose}
 use Rattle.est_base.specs.Items.{Item, Event, Reset}
 use Rattle.est_gen.specs.Sources.{source_text}
-use Rattle.est_kernel.specs.Plain.{Program, given_names}
+use Rattle.est_kernel.specs.Plain.{Program, Interface, given_names, interface_of}
+use Rattle.est_kernel.specs.Reactions.{Answer, Reaction, before, goes_on, react, run_from, run_of}
+use Rattle.est_kernel.specs.Terms.{Term}
 use Rattle.blif_text.specs.Circuits.{Circuit}
+use Rattle.grc_graph.specs.PlainWireNames.{wire_name_of}
+use Rattle.grc_graph.specs.WireNames.{WireName}
 use Rattle.blif_run.specs.Loops.{IsLoop}
 use Rattle.cec_front.proofs.OneProgram.{one_program}
 use Rattle.cec_front.proofs.Unrefused as front
@@ -34,22 +38,24 @@ use Rattle.est_base.specs.SinkChanges.{SinkChange}
 use Rattle.csub_run.specs.ProgramAnswers.{bare_inputs}
 use Rattle.cec_core.specs.declared.outcome.Outcome.{Outcome}
 use Rattle.cec_core.specs.declared.outcome.Outcome.TheVariants.{Done, Usage, FileFault, Static, Cyclic, Trace, BadText, Limit, WriteFault, NoMemory}
+use Rattle.cec_core.specs.declared.outcome.Outcome.TheVariants.{NotConstructive}
 use Rattle.cec_core.specs.declared.outcome.Which.{Which}
 use Rattle.cec_core.specs.declared.outcome.Which.TheVariants.{First, Second}
 use Rattle.cec_core.specs.declared.refusal.Limit as bounds
 use Rattle.cec_core.specs.declared.refusal.Limit.TheVariants as limits
 use Rattle.cec_core.specs.declared.refusal.Refusal.TheVariants as refusals
-use Rattle.cec_core.specs.Accepted.{RunsToEnd, ExecutesToEnd, IsAccepted}
+use Rattle.cec_core.specs.Accepted.{RunsToEnd, ReactsToEnd, ExecutesToEnd, IsAccepted}
 use Rattle.cec_core.specs.Contents.{Content}
 use Rattle.cec_core.specs.ExecTexts.{IsTextIn, IsRunnable, HasFault, RunsBy}
-use Rattle.cec_core.specs.Jobs.{Job, Request, Help, Make, Run, Exec, Generate, Load}
+use Rattle.cec_core.specs.Jobs.{Job, Request, Help, Make, Run, RunTri, Exec, Generate, Load}
 use Rattle.cec_core.specs.Laws.{AcceptedRequestsAreDone}
 use Rattle.cec_core.specs.Outcomes.{MakesOn, RunsOn, ExecutesOn, AgreesOnFile, AgreesOnTwo, IsWriting, Agrees, CountsFiles, IsTextOf, GainsOut}
 use Rattle.cec_core.specs.Runs.{RunsSource}
 use Rattle.cec_core.specs.Sources.{IsSource}
 use Rattle.cec_core.specs.Subjects.{LongTrace}
+use Rattle.cec_core.specs.TriRuns.{IsGraphSource, ReactsOn, ReactsOver, StopsOver, StopsTrace}
 use Rattle.cec_core.proofs.Pieces.{answer_rose}
-use Rattle.cec_core.proofs.Unrefused.{unrefused, passes_limit}
+use Rattle.cec_core.proofs.Unrefused.{unrefused, passes_limit, within_limits}
 
 -- ---- a trace has one end
 
@@ -103,13 +109,14 @@ on_file held name On (BadText fault) a = inr (subst (On (BadText fault)) a.1 a.2
 on_file held name On (Limit quantity) a = inr (subst (On (Limit quantity)) a.1 a.2)
 on_file held name On WriteFault a = inr (subst (On WriteFault) a.1 a.2)
 on_file held name On NoMemory a = inr (subst (On NoMemory) a.1 a.2)
+on_file held name On (NotConstructive wires) a = inr (subst (On (NotConstructive wires)) a.1 a.2)
 
 -- the first file and, where that is said, a trace that is too long
-record OnTwo (held : List ℕ → List ℕ) (name trace : List ℕ) (On : Outcome → List ℕ → Type 0) (outcome : Outcome) : Type 0 where
-  on : On outcome (held name)
-  long : LongTrace (Some held) trace outcome
+pub record OnTwo (held : List ℕ → List ℕ) (name trace : List ℕ) (On : Outcome → List ℕ → Type 0) (outcome : Outcome) : Type 0 where
+  pub on : On outcome (held name)
+  pub long : LongTrace (Some held) trace outcome
 
-on_two : (held : List ℕ → List ℕ) (name trace : List ℕ) (On : Outcome → List ℕ → Type 0) (outcome : Outcome) → AgreesOnTwo (Some held) name trace On outcome
+pub on_two : (held : List ℕ → List ℕ) (name trace : List ℕ) (On : Outcome → List ℕ → Type 0) (outcome : Outcome) → AgreesOnTwo (Some held) name trace On outcome
     → (outcome ≡ FileFault First) ⊎ OnTwo held name trace On outcome
 on_two held name trace On Done a = inr (record { on = subst (On Done) a.1 a.2; long = tt })
 on_two held name trace On Usage a = inr (record { on = subst (On Usage) a.1 a.2; long = tt })
@@ -132,10 +139,11 @@ on_two held name trace On (Limit limits.Instances) a = inr (record { on = subst 
 on_two held name trace On (Limit limits.Wires) a = inr (record { on = subst (On (Limit limits.Wires)) a.1 a.2; long = tt })
 on_two held name trace On WriteFault a = inr (record { on = subst (On WriteFault) a.1 a.2; long = tt })
 on_two held name trace On NoMemory a = inr (record { on = subst (On NoMemory) a.1 a.2; long = tt })
+on_two held name trace On (NotConstructive wires) a = inr (record { on = subst (On (NotConstructive wires)) a.1 a.2; long = tt })
 
 -- ---- counts that do not rise
 
-no_file_fault : (request : Request) (outcome : Outcome) (before now : ℕ) (failed_before failed_now : List ℕ) (file : Which)
+pub no_file_fault : (request : Request) (outcome : Outcome) (before now : ℕ) (failed_before failed_now : List ℕ) (file : Which)
     → CountsFiles (Some request) outcome before now failed_before failed_now → (Rose before now → ⊥) → outcome ≡ FileFault file → ⊥
 no_file_fault request outcome before now failed_before failed_now file counts stays is =
     stays (subst (λ o. CountsFiles (Some request) o before now failed_before failed_now) is counts).0
@@ -144,12 +152,13 @@ gains_rose : (request : Request) (content : Content) (s : SinkChange) → GainsO
 gains_rose Help content s g = g.2.faults
 gains_rose (Make task job) content s g = answer_rose task (IsTextOf task job content) s g
 gains_rose (Run via job trace) content s g = g.2.2.ran.4.faults
+gains_rose (RunTri job trace) content s g = g.2.2.ran.4.faults
 gains_rose (Exec Blif text trace) content s g = g.2.2.ran.4.faults
 gains_rose (Exec C text trace) content s g = g.2.2.ran.4.faults
 gains_rose (Generate start branches) content s g = g.2.faults
 gains_rose (Load start branches instants) content s g = g.2.faults
 
-no_write_fault : (request : Request) (content : Content) (outcome : Outcome) (s : SinkChange) → GainsOut (Some request) content outcome s
+pub no_write_fault : (request : Request) (content : Content) (outcome : Outcome) (s : SinkChange) → GainsOut (Some request) content outcome s
     → (Rose s.faults_before s.faults_now → ⊥) → outcome ≡ WriteFault → ⊥
 no_write_fault request content outcome s gains stays is =
     stays (gains_rose request content s (subst (λ o. GainsOut (Some request) content o s) is gains))
@@ -167,6 +176,7 @@ writing_end (BadText fault) w written = absurd w
 writing_end (Limit quantity) w written = absurd w
 writing_end WriteFault w written = absurd (written refl)
 writing_end NoMemory w written = inr refl
+writing_end (NotConstructive wires) w written = absurd w
 
 made_end : (main : Option (List ℕ)) (bytes : List ℕ) (outcome : Outcome) → IsSource main bytes → MakesOn main outcome bytes → (outcome ≡ WriteFault → ⊥)
     → (outcome ≡ Done) ⊎ (outcome ≡ NoMemory)
@@ -182,6 +192,7 @@ made_end main bytes (BadText fault) s m written = absurd m
 made_end main bytes (Limit quantity) s m written = absurd (passes_limit main bytes quantity s m)
 made_end main bytes WriteFault s m written = absurd (written refl)
 made_end main bytes NoMemory s m written = inr refl
+made_end main bytes (NotConstructive wires) s m written = absurd m
 
 -- a trace that is too long
 long_whole : (held : List ℕ → List ℕ) (trace : List ℕ) → length (held trace) ≤ TRACE_BYTES → LongTrace (Some held) trace (Limit limits.Trace) → ⊥
@@ -234,6 +245,88 @@ run_end via job held trace (BadText fault) s w on unread written g = absurd on.o
 run_end via job held trace (Limit quantity) s w on unread written g = absurd (run_limit via job.main held job.name trace quantity w on.on on.long)
 run_end via job held trace WriteFault s w on unread written g = absurd (written refl)
 run_end via job held trace NoMemory s w on unread written g = inr refl
+run_end via job held trace (NotConstructive wires) s w on unread written g = absurd on.on
+
+-- ---- reactions
+
+-- a run that has no answers has none with more items behind it
+pub none_behind : (i : Interface) (body r : Term) (items more : List Item) → run_from i body r items ≡ None → run_from i body r (items ++ more) ≡ None
+none_behind i body r [] more e = cc
+none_behind i body r (Reset ∷ items) more e = none_behind i body body items more e
+none_behind i body r (Event event ∷ items) more e = by (λ s h. none_behind i body s items more h) (react i r event) e
+  where
+    later : (a : Answer) (o : Option (List Answer)) → before a o ≡ None → o ≡ None
+    later a None h = refl
+    later a (Some answers) h = cc
+
+    by : ((s : Term) → run_from i body s items ≡ None → run_from i body s (items ++ more) ≡ None) → (o : Option Reaction)
+        → goes_on o (λ s. run_from i body s items) ≡ None → goes_on o (λ s. run_from i body s (items ++ more)) ≡ None
+    by behind None h = refl
+    by behind (Some x) h = ap (before x.answer) (behind x.residual (later x.answer (run_from i body x.residual items) h))
+
+-- a limit that is passed by a source that is run so
+pub react_limit : (main : Option (List ℕ)) (held : List ℕ → List ℕ) (name trace : List ℕ) (quantity : bounds.Limit) → IsGraphSource main (held name)
+    → length (held trace) ≤ TRACE_BYTES
+    → ReactsOn main (Limit quantity) (held name) → LongTrace (Some held) trace (Limit quantity) → ⊥
+react_limit main held name trace limits.Source source short on long = within_limits main (held name) limits.Source source on
+react_limit main held name trace limits.Trace source short on long = long_whole held trace short long
+react_limit main held name trace limits.Text source short on long = within_limits main (held name) limits.Text source on.refused
+react_limit main held name trace limits.Nesting source short on long = within_limits main (held name) limits.Nesting source on.refused
+react_limit main held name trace limits.Statements source short on long = within_limits main (held name) limits.Statements source on.refused
+react_limit main held name trace limits.Signals source short on long = within_limits main (held name) limits.Signals source on.refused
+react_limit main held name trace limits.Kernel source short on long = within_limits main (held name) limits.Kernel source on.refused
+react_limit main held name trace limits.Height source short on long = within_limits main (held name) limits.Height source on.refused
+react_limit main held name trace limits.Traps source short on long = within_limits main (held name) limits.Traps source on.refused
+react_limit main held name trace limits.Instances source short on long = within_limits main (held name) limits.Instances source on.refused
+react_limit main held name trace limits.Wires source short on long = within_limits main (held name) limits.Wires source on.refused
+
+-- a trace of a source with a fault
+react_no_fault : (main : Option (List ℕ)) (bytes trace : List ℕ) (s : SinkChange) (fault : TraceFault) → ReactsToEnd main bytes trace
+    → ReactsOver main bytes trace s (Err (runs.Trace fault)) → ⊥
+react_no_fault main bytes trace s fault w r =
+    let p = w.source.program in
+    let same : r.program ≡ p = one_program bytes main r.program p r.source w.source.source in
+    whole_has_no_fault (beginning trace (given_names p) p.relations) w.whole.items r.ran.0 fault w.whole.whole
+    (subst (λ (q : Program). IsTrace (beginning trace (given_names q) q.relations) r.ran.0 (Some fault)) same r.ran.2)
+
+-- an instant of it that is not constructive
+react_no_stop : (main : Option (List ℕ)) (bytes trace : List ℕ) (s : SinkChange) (instant : ℕ) (names : List WireName) → ReactsToEnd main bytes trace
+    → StopsOver main bytes trace s instant names → ⊥
+react_no_stop main bytes trace s instant names w o =
+    let p = w.source.program in
+    let same : o.program ≡ p = one_program bytes main o.program p o.source w.source.source in
+    let reading = beginning trace (given_names p) p.relations in
+    let stopped = subst (λ (q : Program). StopsTrace q (beginning trace (given_names q) q.relations) s instant names) same o.stopped in
+    let first = stopped.items ++ Event stopped.event ∷ [] in
+    let more = front-of reading first w.whole.items None stopped.front w.whole.whole in
+    let none : run_of p (first ++ more.0) ≡ None = none_behind (interface_of p) p.body p.body first more.0 stopped.stops.stops in
+    let both : None ≡ Some w.answers = sym none ∙ ap (run_of p) (sym more.1) ∙ w.constructive in
+    cc
+
+react_end : (job : Job) (held : List ℕ → List ℕ) (trace : List ℕ) (outcome : Outcome) (s : SinkChange)
+    → ReactsToEnd job.main (held job.name) (held trace) → OnTwo held job.name trace (ReactsOn job.main) outcome
+    → ((file : Which) → outcome ≡ FileFault file → ⊥) → (outcome ≡ WriteFault → ⊥) → GainsOut (Some (RunTri job trace)) (Some held) outcome s
+    → (outcome ≡ Done) ⊎ (outcome ≡ NoMemory)
+react_end job held trace Done s w on unread written g = inl refl
+react_end job held trace Usage s w on unread written g = absurd on.on
+react_end job held trace (FileFault file) s w on unread written g = absurd (unread file refl)
+react_end job held trace (Static fault) s w on unread written g =
+    absurd (front.no_fault (held job.name) job.main w.source.program fault w.source.source on.on.refused)
+react_end job held trace (Cyclic cycle) s w on unread written g = absurd on.on
+react_end job held trace (Trace fault) s w on unread written g =
+    absurd (react_no_fault job.main (held job.name) (held trace) s fault w
+    (subst (λ i. ReactsOver job.main (held job.name) i s (Err (runs.Trace fault))) g.2.1
+    (subst (λ b. ReactsOver job.main b g.2.0 s (Err (runs.Trace fault))) g.1 g.2.2)))
+react_end job held trace (BadText fault) s w on unread written g = absurd on.on
+react_end job held trace (Limit quantity) s w on unread written g =
+    absurd (react_limit job.main held job.name trace quantity w.source w.whole.short on.on on.long)
+react_end job held trace WriteFault s w on unread written g = absurd (written refl)
+react_end job held trace NoMemory s w on unread written g = inr refl
+react_end job held trace (NotConstructive wires) s w on unread written g =
+    let names = map wire_name_of wires.wires.items in
+    absurd (react_no_stop job.main (held job.name) (held trace) s wires.instant names w
+    (subst (λ i. StopsOver job.main (held job.name) i s wires.instant names) g.2.1
+    (subst (λ b. StopsOver job.main b g.2.0 s wires.instant names) g.1 g.2.2)))
 
 -- ---- texts
 
@@ -310,6 +403,7 @@ exec_end via held text trace (BadText fault) s w on unread written g = absurd (t
 exec_end via held text trace (Limit quantity) s w on unread written g = absurd (text_limit via held text trace quantity w on.on on.long)
 exec_end via held text trace WriteFault s w on unread written g = absurd (written refl)
 exec_end via held text trace NoMemory s w on unread written g = inr refl
+exec_end via held text trace (NotConstructive wires) s w on unread written g = absurd on.on
 
 -- ---- requests
 
@@ -327,6 +421,12 @@ accepted_done (Run via job trace) held outcome before now failed_before failed_n
     (λ on. run_end via job held trace outcome s w on (λ file. no_file_fault request outcome before now failed_before failed_now file counts stays)
     (no_write_fault request (Some held) outcome s gains still) gains)
     (on_two held job.name trace (RunsOn via job.main) outcome agrees)
+accepted_done (RunTri job trace) held outcome before now failed_before failed_now s w agrees counts stays gains still =
+    let request = RunTri job trace in
+    ⊎_elim (λ is. absurd (no_file_fault request outcome before now failed_before failed_now First counts stays is))
+    (λ on. react_end job held trace outcome s w on (λ file. no_file_fault request outcome before now failed_before failed_now file counts stays)
+    (no_write_fault request (Some held) outcome s gains still) gains)
+    (on_two held job.name trace (ReactsOn job.main) outcome agrees)
 accepted_done (Exec via text trace) held outcome before now failed_before failed_now s w agrees counts stays gains still =
     let request = Exec via text trace in
     ⊎_elim (λ is. absurd (no_file_fault request outcome before now failed_before failed_now First counts stays is))

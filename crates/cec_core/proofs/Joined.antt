@@ -46,7 +46,8 @@ use Rattle.cec_core.specs.declared.compiler.Graphed.{Graphed}
 use Rattle.cec_core.specs.Answers.{StandsForListing, StandsForCounts, counts_line}
 use Rattle.cec_core.specs.Compiling.{IsGraphed, IsCompiled, StandsForGraph, StandsForNet, StandsForText, StandsForC}
 use Rattle.cec_core.specs.Limits.{copying_refusal}
-use Rattle.cec_core.specs.Refusals.{Compiles, DoesNotCompile}
+use Rattle.cec_core.specs.Graphs.{HasNoGraph}
+use Rattle.cec_core.specs.Refusals.{Compiles}
 use Rattle.cec_core.proofs.GraphFacts.{acyclic, reading_order}
 use Rattle.cec_core.proofs.Simplified.{interface_stays, instants_stay, runs_stay}
 use Rattle.cec_core.proofs.WireWords.{order_carried, holds_wires, names_wires}
@@ -74,7 +75,7 @@ pub graph_order : (g : Graphed) (p : Program) (order : List WireId) → IsGraphe
 graph_order g p order h along =
     reading_order g.graph p g.edges.count g.edges.pairs.items order h.graph (program_kernel p h.formed (kernel_of g.graph p h.graph)) h.count h.edges along
 
-pub copy_refused : (p : Program) (fault : CopyFault) → copying.FaultHasCause p.body fault → DoesNotCompile p (copying_refusal fault)
+pub copy_refused : (p : Program) (fault : CopyFault) → copying.FaultHasCause p.body fault → HasNoGraph p (copying_refusal fault)
 copy_refused p copy_faults.TooManyInstances h = h
 copy_refused p copy_faults.NoMemory h = tt
 

@@ -11,3 +11,8 @@ pub mod Simplified
 pub mod Joined
 pub mod Unrefused
 pub mod Accepting
+pub mod Stopping
+pub mod MarkedWires
+pub mod ReactionFiles
+pub mod RunnerReactions
+pub mod TraceEnds

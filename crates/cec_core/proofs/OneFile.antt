@@ -14,6 +14,7 @@ use Rattle.est_base.specs.SinkChanges.{SinkChange}
 use Rattle.cec_core.specs.declared.jobs.Task.{Task}
 use Rattle.cec_core.specs.declared.outcome.Outcome.{Outcome}
 use Rattle.cec_core.specs.declared.outcome.Outcome.TheVariants.{Done, Usage, FileFault as Unread, Static, Cyclic, Trace, BadText, Limit, WriteFault, NoMemory}
+use Rattle.cec_core.specs.declared.outcome.Outcome.TheVariants.{NotConstructive}
 use Rattle.cec_core.specs.declared.outcome.Which.TheVariants.{First}
 use Rattle.cec_core.specs.declared.refusal.Limit as bounds
 use Rattle.cec_core.specs.declared.refusal.Limit.TheVariants as limits
@@ -21,7 +22,7 @@ use Rattle.cec_core.specs.declared.refusal.Refusal as refused
 use Rattle.cec_core.specs.declared.refusal.Refusal.TheVariants as refusals
 use Rattle.cec_core.specs.Answers.{IsAnswer}
 use Rattle.cec_core.specs.Contents.{Content, IsHeld, Holds}
-use Rattle.cec_core.specs.Jobs.{Job, Request, Help, Make, Run, Exec, Generate, Load}
+use Rattle.cec_core.specs.Jobs.{Job, Request, Help, Make, Run, RunTri, Exec, Generate, Load}
 use Rattle.cec_core.specs.Lines.{Subject, line_of, IsSourceSubject, IsSubjectOf, GainsErr}
 use Rattle.cec_core.specs.Outcomes.{MakesOn, Agrees, IsFileOf, CountsFiles, LeavesText, LeavesAnswer, IsTextOf, GainsOut}
 use Rattle.cec_core.specs.Refusals.{IsRefused}
@@ -77,6 +78,7 @@ make_agrees content task job (BadText fault) bytes held m = absurd m
 make_agrees content task job (Limit quantity) bytes held m = (bytes, held, m)
 make_agrees content task job WriteFault bytes held m = (bytes, held, m)
 make_agrees content task job NoMemory bytes held m = (bytes, held, m)
+make_agrees content task job (NotConstructive wires) bytes held m = absurd m
 
 pub make_counts : (task : Task) (job : Job) (outcome : Outcome) (bytes : List ℕ) (before now : ℕ) (failed_before failed_now : List ℕ)
     → MakesOn job.main outcome bytes
@@ -91,6 +93,7 @@ make_counts task job (BadText fault) bytes before now failed_before failed_now m
 make_counts task job (Limit quantity) bytes before now failed_before failed_now m k = (k.faults, k.failed)
 make_counts task job WriteFault bytes before now failed_before failed_now m k = (k.faults, k.failed)
 make_counts task job NoMemory bytes before now failed_before failed_now m k = (k.faults, k.failed)
+make_counts task job (NotConstructive wires) bytes before now failed_before failed_now m k = absurd m
 
 pub make_out : (content : Content) (task : Task) (job : Job) (outcome : Outcome) (bytes : List ℕ) (s : SinkChange) → IsHeld content job.name bytes
     → LeavesAnswer task (IsAnswer task job.main bytes) s outcome → GainsOut (Some (Make task job)) content outcome s
@@ -201,6 +204,7 @@ pub no_usage : (request : Request) (content : Content) → Agrees (Some request)
 no_usage Help content a = a
 no_usage (Make task job) content a = a.2
 no_usage (Run via job trace) content a = a.2
+no_usage (RunTri job trace) content a = a.2
 no_usage (Exec via text trace) content a = a.2
 no_usage (Generate start branches) content a = a
 no_usage (Load start branches instants) content a = a

@@ -13,6 +13,7 @@ use Rattle.cec_core.specs.declared.jobs.Task.{Task}
 use Rattle.cec_core.specs.declared.jobs.Task.TheVariants.{Blif, C, Grc, Check}
 use Rattle.cec_core.specs.declared.outcome.Outcome.{Outcome}
 use Rattle.cec_core.specs.declared.outcome.Outcome.TheVariants.{Done, Usage, FileFault as Unread, Static, Cyclic, Trace, BadText, Limit, WriteFault, NoMemory}
+use Rattle.cec_core.specs.declared.outcome.Outcome.TheVariants.{NotConstructive}
 use Rattle.cec_core.specs.declared.outcome.Which.TheVariants.{First}
 use Rattle.cec_core.specs.declared.refusal.Limit as bounds
 use Rattle.cec_core.specs.declared.refusal.Limit.TheVariants as limits
@@ -86,6 +87,7 @@ text_as P Q s (BadText fault) f l = l
 text_as P Q s (Limit quantity) f l = l
 text_as P Q s WriteFault f l = (l.0, f l.0 l.1, l.2)
 text_as P Q s NoMemory f l = l
+text_as P Q s (NotConstructive wires) f l = l
 
 pub pieces_as : (P Q : List ℕ → Type 0) (s : SinkChange) (outcome : Outcome) → ((text : List ℕ) → P text → Q text) → LeavesPieces P s outcome
     → LeavesPieces Q s outcome
@@ -99,6 +101,7 @@ pieces_as P Q s (BadText fault) f l = l
 pieces_as P Q s (Limit quantity) f l = l
 pieces_as P Q s WriteFault f l = (l.0, f l.0 l.1, l.2)
 pieces_as P Q s NoMemory f l = ⊎_elim inl (λ x. inr (x.0, f x.0 x.1, x.2, x.3)) l
+pieces_as P Q s (NotConstructive wires) f l = l
 
 pub answer_as : (task : Task) (P Q : List ℕ → Type 0) (s : SinkChange) (outcome : Outcome) → ((text : List ℕ) → P text → Q text) → LeavesAnswer task P s outcome
     → LeavesAnswer task Q s outcome
@@ -154,6 +157,7 @@ writing_makes main (BadText fault) bytes w is = absurd w
 writing_makes main (Limit quantity) bytes w is = absurd w
 writing_makes main WriteFault bytes w is = is
 writing_makes main NoMemory bytes w is = tt
+writing_makes main (NotConstructive wires) bytes w is = absurd w
 
 -- what was collected of a text
 pub collected : (P : List ℕ → Type 0) (bytes : List ℕ) (before now : ℕ) → LeavesPieces P (sinks (Some []) (Some bytes) before now) Done → P bytes

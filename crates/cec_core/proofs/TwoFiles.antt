@@ -16,6 +16,7 @@ use Rattle.trace_run.specs.Machines.{Answer}
 use Rattle.cec_core.specs.declared.text_faults.TextFault.{TextFault}
 use Rattle.cec_core.specs.declared.outcome.Outcome.{Outcome}
 use Rattle.cec_core.specs.declared.outcome.Outcome.TheVariants.{Done, Usage, FileFault as Unread, Static, Cyclic, Trace, BadText, Limit, WriteFault, NoMemory}
+use Rattle.cec_core.specs.declared.outcome.Outcome.TheVariants.{NotConstructive}
 use Rattle.cec_core.specs.declared.outcome.Which.{Which}
 use Rattle.cec_core.specs.declared.outcome.Which.TheVariants.{First, Second}
 use Rattle.cec_core.specs.declared.refusal.Limit as bounds
@@ -57,6 +58,7 @@ two_agree content name trace On (Limit limits.Instances) bytes held on long = (b
 two_agree content name trace On (Limit limits.Wires) bytes held on long = (bytes, held, on)
 two_agree content name trace On WriteFault bytes held on long = (bytes, held, on)
 two_agree content name trace On NoMemory bytes held on long = (bytes, held, on)
+two_agree content name trace On (NotConstructive wires) bytes held on long = (bytes, held, on)
 
 pub two_count : (request : Request) (trace : List ℕ) (outcome : Outcome) (a b c : ℕ) (f g h : List ℕ) → ((n : List ℕ) → n ≡ trace → IsFileOf request Second n)
     → Keeps a b f g → CountsTrace trace outcome b c g h → CountsFiles (Some request) outcome a c f h
@@ -71,6 +73,7 @@ two_count request trace (BadText fault) a b c f g h is k x = (x.0 ∙ k.faults, 
 two_count request trace (Limit quantity) a b c f g h is k x = (x.0 ∙ k.faults, x.1 ∙ k.failed)
 two_count request trace WriteFault a b c f g h is k x = (x.0 ∙ k.faults, x.1 ∙ k.failed)
 two_count request trace NoMemory a b c f g h is k x = (x.0 ∙ k.faults, x.1 ∙ k.failed)
+two_count request trace (NotConstructive wires) a b c f g h is k x = (x.0 ∙ k.faults, x.1 ∙ k.failed)
 
 -- what is left of a run, where each end says more
 pub leaves_as : (P Q : Result (Unit {0}) RunFault → Type 0) (s : SinkChange) (outcome : Outcome) → ((r : Result (Unit {0}) RunFault) → P r → Q r)
@@ -85,6 +88,7 @@ leaves_as P Q s (BadText fault) f l = l
 leaves_as P Q s (Limit quantity) f l = l
 leaves_as P Q s WriteFault f l = f (Err runs.Write) l
 leaves_as P Q s NoMemory f l = ⊎_elim inl (λ x. inr (f (Err runs.NoMemory) x)) l
+leaves_as P Q s (NotConstructive wires) f l = l
 
 -- ---- the first file is not read
 

@@ -22,8 +22,9 @@ use Rattle.cec_core.specs.declared.refusal.Refusal.{Refusal}
 use Rattle.cec_core.specs.declared.refusal.Refusal.TheVariants as refusals
 use Rattle.cec_core.specs.Cycles.{LeadsBack, IsCycle, ShowsCycle, IsAcyclic}
 use Rattle.cec_core.specs.Outcomes.{MakesOn}
-use Rattle.cec_core.specs.Refusals.{Compiles, IsRefused}
+use Rattle.cec_core.specs.Refusals.{KeepsGraphLimits, IsRefused}
 use Rattle.cec_core.specs.Sources.{IsSource}
+use Rattle.cec_core.specs.TriRuns.{IsGraphSource}
 
 -- ---- cycles
 
@@ -46,33 +47,39 @@ no_cycle p names acyclic shown = no_walk _ acyclic.rank shown.walk acyclic.up sh
 
 -- ---- refusals
 
--- the program that a source stands for compiles
-the_program : (main : Option (List ℕ)) (bytes : List ℕ) (q : Program) → IsSource main bytes → StandsFor bytes main q → Compiles q
-the_program main bytes q s stands = subst Compiles (one_program bytes main s.program q s.source stands) s.compiles
+-- a source that compiles has a graph
+pub graph_source : (main : Option (List ℕ)) (bytes : List ℕ) → IsSource main bytes → IsGraphSource main bytes
+graph_source main bytes s = record { program = s.program; short = s.short; source = s.source; limits = s.compiles.limits }
 
-not_fronted : (main : Option (List ℕ)) (bytes : List ℕ) (quantity : Quantity) → IsSource main bytes
+-- the graph of the program that a source stands for keeps the limits
+the_limits : (main : Option (List ℕ)) (bytes : List ℕ) (q : Program) → IsGraphSource main bytes → StandsFor bytes main q → KeepsGraphLimits q
+the_limits main bytes q s stands = subst KeepsGraphLimits (one_program bytes main s.program q s.source stands) s.limits
+
+not_fronted : (main : Option (List ℕ)) (bytes : List ℕ) (quantity : Quantity) → IsGraphSource main bytes
     → front_refusals.IsRefused bytes main (fronts.Limit quantity) → ⊥
 not_fronted main bytes quantity s r =
     let same = front.unrefused bytes main s.program (fronts.Limit quantity) s.source r in
     cc
 
-few_instances : (main : Option (List ℕ)) (bytes : List ℕ) (q : Program) → IsSource main bytes → StandsFor bytes main q
+few_instances : (main : Option (List ℕ)) (bytes : List ℕ) (q : Program) → IsGraphSource main bytes → StandsFor bytes main q
     → INSTANCES < length (body_instances q.body) → ⊥
 few_instances main bytes q s stands many =
-    let few = (the_program main bytes q s stands).limits.few_instances in
+    let few = (the_limits main bytes q s stands).few_instances in
     absurd (omega (arith, few, many))
 
-few_wires : (main : Option (List ℕ)) (bytes : List ℕ) (q : Program) → IsSource main bytes → StandsFor bytes main q → WIRES < graph_size q → ⊥
+few_wires : (main : Option (List ℕ)) (bytes : List ℕ) (q : Program) → IsGraphSource main bytes → StandsFor bytes main q → WIRES < graph_size q → ⊥
 few_wires main bytes q s stands many =
-    let few = (the_program main bytes q s stands).limits.few_wires in
+    let few = (the_limits main bytes q s stands).few_wires in
     absurd (omega (arith, few, many))
 
-short_enough : (main : Option (List ℕ)) (bytes : List ℕ) → IsSource main bytes → SOURCE_BYTES < length bytes → ⊥
+short_enough : (main : Option (List ℕ)) (bytes : List ℕ) → IsGraphSource main bytes → SOURCE_BYTES < length bytes → ⊥
 short_enough main bytes s long =
     let short = s.short in
     absurd (omega (arith, short, long))
 
-within_limits : (main : Option (List ℕ)) (bytes : List ℕ) (quantity : bounds.Limit) → IsSource main bytes → IsRefused bytes main (refusals.Limit quantity) → ⊥
+-- a limit that a source with a graph passes
+pub within_limits : (main : Option (List ℕ)) (bytes : List ℕ) (quantity : bounds.Limit) → IsGraphSource main bytes
+    → IsRefused bytes main (refusals.Limit quantity) → ⊥
 within_limits main bytes limits.Source s r = short_enough main bytes s r
 within_limits main bytes limits.Trace s r = r
 within_limits main bytes limits.Text s r = r
@@ -88,20 +95,22 @@ within_limits main bytes limits.Wires s r = few_wires main bytes r.0 s r.1 r.2.1
 -- a source that compiles is refused for want of memory alone
 pub unrefused : (main : Option (List ℕ)) (bytes : List ℕ) (refusal : Refusal) → IsSource main bytes → IsRefused bytes main refusal → refusal ≡ refusals.NoMemory
 unrefused main bytes (refusals.Static fault) s r = absurd (front.no_fault bytes main s.program fault s.source r)
-unrefused main bytes (refusals.Cyclic c) s r = absurd (no_cycle r.0 _ (the_program main bytes r.0 s r.1).acyclic r.2.1)
-unrefused main bytes (refusals.Limit quantity) s r = absurd (within_limits main bytes quantity s r)
+unrefused main bytes (refusals.Cyclic c) s r =
+    let same : s.program ≡ r.0 = one_program bytes main s.program r.0 s.source r.1 in
+    absurd (no_cycle r.0 _ (subst IsAcyclic same s.compiles.acyclic) r.2.1)
+unrefused main bytes (refusals.Limit quantity) s r = absurd (within_limits main bytes quantity (graph_source main bytes s) r)
 unrefused main bytes refusals.NoMemory s r = refl
 
 -- a limit that a source passes
 pub passes_limit : (main : Option (List ℕ)) (bytes : List ℕ) (quantity : bounds.Limit) → IsSource main bytes → MakesOn main (Limit quantity) bytes → ⊥
-passes_limit main bytes limits.Source s a = within_limits main bytes limits.Source s a
-passes_limit main bytes limits.Trace s a = within_limits main bytes limits.Trace s a.refused
-passes_limit main bytes limits.Text s a = within_limits main bytes limits.Text s a.refused
-passes_limit main bytes limits.Nesting s a = within_limits main bytes limits.Nesting s a.refused
-passes_limit main bytes limits.Statements s a = within_limits main bytes limits.Statements s a.refused
-passes_limit main bytes limits.Signals s a = within_limits main bytes limits.Signals s a.refused
-passes_limit main bytes limits.Kernel s a = within_limits main bytes limits.Kernel s a.refused
-passes_limit main bytes limits.Height s a = within_limits main bytes limits.Height s a.refused
-passes_limit main bytes limits.Traps s a = within_limits main bytes limits.Traps s a.refused
-passes_limit main bytes limits.Instances s a = within_limits main bytes limits.Instances s a.refused
-passes_limit main bytes limits.Wires s a = within_limits main bytes limits.Wires s a.refused
+passes_limit main bytes limits.Source s a = within_limits main bytes limits.Source (graph_source main bytes s) a
+passes_limit main bytes limits.Trace s a = within_limits main bytes limits.Trace (graph_source main bytes s) a.refused
+passes_limit main bytes limits.Text s a = within_limits main bytes limits.Text (graph_source main bytes s) a.refused
+passes_limit main bytes limits.Nesting s a = within_limits main bytes limits.Nesting (graph_source main bytes s) a.refused
+passes_limit main bytes limits.Statements s a = within_limits main bytes limits.Statements (graph_source main bytes s) a.refused
+passes_limit main bytes limits.Signals s a = within_limits main bytes limits.Signals (graph_source main bytes s) a.refused
+passes_limit main bytes limits.Kernel s a = within_limits main bytes limits.Kernel (graph_source main bytes s) a.refused
+passes_limit main bytes limits.Height s a = within_limits main bytes limits.Height (graph_source main bytes s) a.refused
+passes_limit main bytes limits.Traps s a = within_limits main bytes limits.Traps (graph_source main bytes s) a.refused
+passes_limit main bytes limits.Instances s a = within_limits main bytes limits.Instances (graph_source main bytes s) a.refused
+passes_limit main bytes limits.Wires s a = within_limits main bytes limits.Wires (graph_source main bytes s) a.refused

@@ -1,17 +1,20 @@
 -- To believe: what a command asks of the files that it reads, so that it refuses nothing.
-use Rattle.std.specs.Prelude.{ℕ, ◌≤◌, ⊤, List, [], length, Option, None}
+use Rattle.std.specs.Prelude.{◌≡◌, ℕ, ◌≤◌, ⊤, Bool, List, [], ◌∷◌, ◌++◌, length, Option, None, Some}
 use Rattle.est_base.specs.declared.bounds.TheConstants.Limits.{TRACE_BYTES}
-use Rattle.est_base.specs.Items.{Item}
+use Rattle.est_base.specs.Items.{Item, Event}
 use Rattle.est_base.specs.Relations.{Relation}
 use Rattle.est_gen.specs.Sources.{source_text}
 use Rattle.est_kernel.specs.Plain.{given_names}
+use Rattle.est_kernel.specs.Reactions.{Answer, run_of}
 use Rattle.trace_io.specs.Answers.{IsTrace, beginning}
+use Rattle.trace_run.specs.Running.{IsFront}
 use Rattle.csub_run.specs.ProgramAnswers.{bare_inputs}
 use Rattle.cec_words.specs.declared.asked.Via.{Via}
 use Rattle.cec_words.specs.declared.asked.Via.TheVariants.{Blif, C}
 use Rattle.cec_core.specs.ExecTexts.{IsRunnable}
-use Rattle.cec_core.specs.Jobs.{Request, Help, Make, Run, Exec, Generate, Load}
+use Rattle.cec_core.specs.Jobs.{Request, Help, Make, Run, RunTri, Exec, Generate, Load}
 use Rattle.cec_core.specs.Sources.{IsSource, WritesLongText}
+use Rattle.cec_core.specs.TriRuns.{IsGraphSource}
 
 -- The trace keeps its limit, and no instant of it is refused, by the names of the inputs and by these relations.
 pub record IsWholeTrace (trace : List ℕ) (inputs : List (List ℕ)) (relations : List Relation) : Type 0 where
@@ -24,6 +27,26 @@ pub record RunsToEnd (via : Via) (main : Option (List ℕ)) (bytes trace : List 
   pub source : IsSource main bytes
   pub readable : WritesLongText via main bytes → ⊥
   pub whole : IsWholeTrace trace (given_names source.program) source.program.relations
+
+-- The source has a graph, the trace is one of it, and in each instant of it the program is constructive.
+pub record ReactsToEnd (main : Option (List ℕ)) (bytes trace : List ℕ) : Type 0 where
+  pub source : IsGraphSource main bytes
+  pub whole : IsWholeTrace trace (given_names source.program) source.program.relations
+  pub answers : List Answer
+  pub constructive : run_of source.program whole.items ≡ Some answers
+
+-- The source has a graph, and up to an event of the trace nothing is refused; the program is constructive in the
+-- instants before that event, and not in its own.
+pub record ComesToStop (main : Option (List ℕ)) (bytes trace : List ℕ) : Type 0 where
+  pub source : IsGraphSource main bytes
+  pub short : length trace ≤ TRACE_BYTES
+  pub items : List Item
+  pub event : List Bool
+  pub front : IsFront (beginning trace (given_names source.program) source.program.relations)
+      (items ++ Event event ∷ [])
+  pub answers : List Answer
+  pub constructive : run_of source.program items ≡ Some answers
+  pub stops : run_of source.program (items ++ Event event ∷ []) ≡ None
 
 -- the names of the inputs of a text that can be run
 abbrev pub inputs_by : (via : Via) (bytes : List ℕ) → IsRunnable via bytes → List (List ℕ)
@@ -40,6 +63,7 @@ abbrev pub IsAccepted : Request → (List ℕ → List ℕ) → Type 0
 IsAccepted Help held = ⊤
 IsAccepted (Make task job) held = IsSource job.main (held job.name)
 IsAccepted (Run via job trace) held = RunsToEnd via job.main (held job.name) (held trace)
+IsAccepted (RunTri job trace) held = ReactsToEnd job.main (held job.name) (held trace)
 IsAccepted (Exec via text trace) held = ExecutesToEnd via (held text) (held trace)
 IsAccepted (Generate start branches) held = ⊤
 IsAccepted (Load start branches instants) held = IsSource None (source_text start branches)

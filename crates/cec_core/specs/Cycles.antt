@@ -1,12 +1,12 @@
 -- To believe: when the dependency relation of a program's graph has a cycle, and how one is shown.
-use Rattle.std.specs.Prelude.{◌≡◌, ℕ, List, [], ◌∷◌, ◌++◌, map, flat_map, codes, Contains}
+use Rattle.std.specs.Prelude.{◌≡◌, ℕ, List, [], ◌∷◌, map, codes, Contains}
 use Rattle.est_kernel.specs.Plain.{Program}
 use Rattle.grc_graph.specs.Edges.{Edge, edge}
 use Rattle.grc_graph.specs.GraphRuns.{program_edges}
 use Rattle.grc_graph.specs.Orders.{GoUp}
 use Rattle.grc_graph.specs.WireNames.{WireName, wire_name}
 use Rattle.grc_graph.specs.Wires.{Wire}
-use Rattle.grc_list.specs.Listings.{wire_text}
+use Rattle.cec_core.specs.WireTexts.{joined_texts}
 
 -- from a wire there is an edge to the first of the list, from each wire of the list one to the next, and from the last
 -- one back to the wire where the walk began
@@ -32,5 +32,4 @@ pub record IsAcyclic (p : Program) : Type 0 where
 
 -- the texts of wires, joined by ` -> `
 abbrev pub cycle_text : List WireName → List ℕ
-cycle_text [] = []
-cycle_text (w ∷ ws) = wire_text w ++ flat_map (λ v. codes " -> " ++ wire_text v) ws
+cycle_text ws = joined_texts (codes " -> ") ws

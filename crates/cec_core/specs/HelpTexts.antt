@@ -8,6 +8,6 @@ help_text =
     ∷ codes "cec c [--main M] [--pick P] FILE\n"
     ∷ codes "cec grc [--main M] FILE\n"
     ∷ codes "cec check [--main M] FILE\n"
-    ∷ codes "cec run --via blif|c [--main M] [--pick P] FILE TRACE\n"
+    ∷ codes "cec run --via blif|c|tri [--main M] [--pick P] FILE TRACE\n"
     ∷ codes "cec exec --via blif|c TEXT TRACE\n"
     ∷ codes "cec gen --start N --branches N [--run N]\n" ∷ [])

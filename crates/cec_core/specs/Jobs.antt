@@ -24,6 +24,8 @@ pub data Request : Type 0 where
   Make : (task : Task) (job : Job) → Request
   -- a source by the text of this form that is made of it, run over the trace in this file
   Run : (via : Via) (job : Job) (trace : List ℕ) → Request
+  -- a source by three-valued reactions of its graph, over the trace in this file
+  RunTri : (job : Job) (trace : List ℕ) → Request
   -- the text of this form in the one file, run over the trace in the other
   Exec : (via : Via) (text trace : List ℕ) → Request
   -- a generated source, by its start number and its number of branches
@@ -50,6 +52,7 @@ request_asked words (asks.C s) = Make C (source_job words s)
 request_asked words (asks.Grc s) = Make Grc (source_job words s)
 request_asked words (asks.Check s) = Make Check (source_job words s)
 request_asked words (asks.Run via s trace) = Run via (source_job words s) (word_at words trace)
+request_asked words (asks.RunTri s trace) = RunTri (source_job words s) (word_at words trace)
 request_asked words (asks.Exec via text trace) = Exec via (word_at words text) (word_at words trace)
 request_asked words (asks.Gen start branches None) = Generate start branches
 request_asked words (asks.Gen start branches (Some instants)) = Load start branches instants

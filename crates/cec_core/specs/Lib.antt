@@ -2,8 +2,11 @@ pub mod Meaning
 pub mod WireNames
 pub mod NetMeaning
 pub mod Limits
+pub mod WireTexts
+pub mod MarkedWires
 pub mod Cycles
 pub mod Refusals
+pub mod Graphs
 pub mod Compiling
 pub mod Statuses
 pub mod Jobs
@@ -12,6 +15,9 @@ pub mod Answers
 pub mod Contents
 pub mod Sources
 pub mod Runs
+pub mod TriRuns
+pub mod ReactionSteps
+pub mod ReactionEnds
 pub mod ExecTexts
 pub mod NetTexts
 pub mod HelpTexts

@@ -4,6 +4,7 @@ use Rattle.std.specs.Prelude.{unwrap_or}
 use Rattle.est_base.specs.Writing.{Appends, Stops}
 use Rattle.est_gen.specs.Sources.{source_text}
 use Rattle.grc_graph.specs.PlainWireNames.{wire_name_of}
+use Rattle.grc_graph.specs.WireNames.{WireName}
 use Rattle.trace_io.specs.declared.faults.TraceFault.{TraceFault}
 use Rattle.trace_io.specs.declared.faults.TraceFault.TheVariants as traces
 use Rattle.blif_run.specs.declared.language.TextFault as circuits
@@ -15,14 +16,15 @@ use Rattle.cec_core.specs.declared.text_faults.TextFault.TheVariants as texts
 use Rattle.cec_front.specs.Lines.{fault_text}
 use Rattle.cec_core.specs.declared.outcome.Outcome.{Outcome}
 use Rattle.cec_core.specs.declared.outcome.Outcome.TheVariants.{Done, Usage, FileFault, Static, Cyclic, Trace, BadText}
-use Rattle.cec_core.specs.declared.outcome.Outcome.TheVariants.{Limit, WriteFault, NoMemory}
+use Rattle.cec_core.specs.declared.outcome.Outcome.TheVariants.{Limit, WriteFault, NoMemory, NotConstructive}
 use Rattle.cec_core.specs.declared.outcome.Which.{Which}
 use Rattle.cec_core.specs.declared.outcome.Which.TheVariants.{First, Second}
 use Rattle.cec_core.specs.declared.refusal.Limit as bounds
 use Rattle.cec_core.specs.declared.refusal.Limit.TheVariants as limits
 use Rattle.cec_core.specs.Contents.{Content, IsHeld}
 use Rattle.cec_core.specs.Cycles.{cycle_text}
-use Rattle.cec_core.specs.Jobs.{Job, Request, Make, Run, Exec, Load}
+use Rattle.cec_core.specs.Jobs.{Job, Request, Make, Run, RunTri, Exec, Load}
+use Rattle.cec_core.specs.WireTexts.{joined_texts}
 
 -- what a line may speak of: the names of the two files, the main module's name, and the source
 pub record Subject : Type 0 where
@@ -82,6 +84,11 @@ abbrev pub text_fault_text : TextFault → List ℕ
 text_fault_text (texts.Blif fault) = circuit_fault_text fault
 text_fault_text (texts.C fault) = program_fault_text fault
 
+-- an instant that is not constructive, and the wires that stay unknown in it
+abbrev pub unknown_text : ℕ → List WireName → List ℕ
+unknown_text instant wires =
+    in_instant instant (codes ": not constructive: " ++ joined_texts (codes ", ") wires)
+
 -- what is said of an outcome
 abbrev pub said_of : Subject → Outcome → List ℕ
 said_of x Done = []
@@ -94,6 +101,7 @@ said_of x (BadText fault) = text_fault_text fault
 said_of x (Limit quantity) = codes "limit: " ++ limit_word quantity
 said_of x WriteFault = codes "cannot write"
 said_of x NoMemory = codes "out of memory"
+said_of x (NotConstructive wires) = unknown_text wires.instant (map wire_name_of wires.wires.items)
 
 -- the line of an outcome; none for Done
 abbrev pub line_of : Subject → Outcome → List ℕ
@@ -109,6 +117,7 @@ IsSourceSubject job content x = (x.name ≡ job.name) × (x.main ≡ unwrap_or j
 abbrev pub IsSubjectOf : Option Request → Content → Subject → Type 0
 IsSubjectOf (Some (Make task job)) content x = IsSourceSubject job content x
 IsSubjectOf (Some (Run via job trace)) content x = IsSourceSubject job content x × (x.trace ≡ trace)
+IsSubjectOf (Some (RunTri job trace)) content x = IsSourceSubject job content x × (x.trace ≡ trace)
 IsSubjectOf (Some (Exec via text trace)) content x = (x.name ≡ text) × (x.trace ≡ trace)
 IsSubjectOf (Some (Load start branches instants)) content x = (x.main ≡ []) × (x.source ≡ source_text start branches)
 IsSubjectOf others content x = ⊤

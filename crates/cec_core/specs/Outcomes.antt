@@ -1,10 +1,11 @@
 -- To believe: what each outcome of the top call says.
-use Rattle.std.specs.Prelude.{◌≡◌, ℕ, ◌<◌, ◌≤◌, ◌⊎◌, ⊤, List, [], length, Option, Some, None}
+use Rattle.std.specs.Prelude.{◌≡◌, ℕ, ◌<◌, ◌≤◌, ◌⊎◌, ⊤, List, [], length, map, Option, Some, None}
 use Rattle.est_base.specs.declared.bounds.TheConstants.Limits.{SOURCE_BYTES, TRACE_BYTES, TEXT_BYTES}
 use Rattle.est_base.specs.Faults.{Rose}
 use Rattle.est_base.specs.Writing.{Appends, Stops, GainsFront}
 use Rattle.est_gen.specs.Sources.{source_text}
 use Rattle.cec_words.specs.declared.asked.Via.{Via}
+use Rattle.grc_graph.specs.PlainWireNames.{wire_name_of}
 use Rattle.est_base.specs.SinkChanges.{SinkChange}
 use Rattle.cec_core.specs.declared.jobs.Task.{Task}
 use Rattle.cec_core.specs.declared.jobs.Task.TheVariants.{Blif, C, Grc, Check}
@@ -20,10 +21,11 @@ use Rattle.cec_core.specs.Answers.{IsAnswer}
 use Rattle.cec_core.specs.Contents.{Content, Holds}
 use Rattle.cec_core.specs.ExecTexts.{IsRunnable, HasFault, RunsBy}
 use Rattle.cec_core.specs.HelpTexts.{help_text}
-use Rattle.cec_core.specs.Jobs.{Job, Request, Help, Make, Run, Exec, Generate, Load}
+use Rattle.cec_core.specs.Jobs.{Job, Request, Help, Make, Run, RunTri, Exec, Generate, Load}
 use Rattle.cec_core.specs.Loads.{IsSummary, state_behind}
 use Rattle.cec_core.specs.Runs.{RunsSource, LeavesRun}
 use Rattle.cec_core.specs.Sources.{IsSource, IsRefusedSource, WritesLongText}
+use Rattle.cec_core.specs.TriRuns.{ReactsOn, ReactsOver, StopsOver, LeavesReactions}
 
 -- ---- causes
 
@@ -90,6 +92,7 @@ Agrees None content outcome = outcome ≡ Usage
 Agrees (Some Help) content outcome = IsWriting outcome
 Agrees (Some (Make task job)) content outcome = AgreesOnFile content job.name (MakesOn job.main) outcome
 Agrees (Some (Run via job trace)) content outcome = AgreesOnTwo content job.name trace (RunsOn via job.main) outcome
+Agrees (Some (RunTri job trace)) content outcome = AgreesOnTwo content job.name trace (ReactsOn job.main) outcome
 Agrees (Some (Exec via text trace)) content outcome = AgreesOnTwo content text trace (ExecutesOn via) outcome
 Agrees (Some (Generate start branches)) content outcome = IsWriting outcome
 Agrees (Some (Load start branches instants)) content outcome = MakesOn None outcome (source_text start branches)
@@ -101,6 +104,8 @@ abbrev pub IsFileOf : Request → Which → List ℕ → Type 0
 IsFileOf (Make task job) First name = name ≡ job.name
 IsFileOf (Run via job trace) First name = name ≡ job.name
 IsFileOf (Run via job trace) Second name = name ≡ trace
+IsFileOf (RunTri job trace) First name = name ≡ job.name
+IsFileOf (RunTri job trace) Second name = name ≡ trace
 IsFileOf (Exec via text trace) First name = name ≡ text
 IsFileOf (Exec via text trace) Second name = name ≡ trace
 IsFileOf others file name = ⊥
@@ -147,6 +152,11 @@ GainsOut (Some (Make task job)) content outcome s = LeavesAnswer task (IsTextOf 
 GainsOut (Some (Run via job trace)) content outcome s =
     LeavesRun (λ result. Holds content job.name (λ bytes.
     Holds content trace (λ items. RunsSource job.main bytes items s result))) s outcome
+GainsOut (Some (RunTri job trace)) content outcome s =
+    LeavesReactions (λ result. Holds content job.name (λ bytes.
+    Holds content trace (λ items. ReactsOver job.main bytes items s result))) (λ wires. Holds content job.name (λ bytes.
+    Holds content trace (λ items. StopsOver job.main bytes items s wires.instant (map wire_name_of wires.wires.items))))
+    s outcome
 GainsOut (Some (Exec via text trace)) content outcome s =
     LeavesRun (λ result. Holds content text (λ bytes.
     Holds content trace (λ items. RunsBy via bytes items s result))) s outcome

@@ -2,7 +2,7 @@
 use Rattle.std.specs.Prelude.{ℕ}
 use Rattle.cec_core.specs.declared.outcome.Outcome.{Outcome}
 use Rattle.cec_core.specs.declared.outcome.Outcome.TheVariants.{Done, Usage, FileFault, Static, Cyclic, Trace, BadText}
-use Rattle.cec_core.specs.declared.outcome.Outcome.TheVariants.{Limit, WriteFault, NoMemory}
+use Rattle.cec_core.specs.declared.outcome.Outcome.TheVariants.{Limit, WriteFault, NoMemory, NotConstructive}
 use Rattle.cec_core.specs.declared.refusal.Refusal.{Refusal}
 use Rattle.cec_core.specs.declared.refusal.Refusal.TheVariants as refusals
 
@@ -17,6 +17,7 @@ status_of (BadText fault) = 7
 status_of (Limit quantity) = 8
 status_of WriteFault = 9
 status_of NoMemory = 10
+status_of (NotConstructive wires) = 12
 
 abbrev pub outcome_of : Refusal → Outcome
 outcome_of (refusals.Static fault) = Static fault

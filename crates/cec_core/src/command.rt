@@ -13,6 +13,7 @@ use crate::commands::load::write_load;
 use crate::commands::make::make_text;
 use crate::commands::plain::{write_generated, write_help};
 use crate::commands::run::run_file;
+use crate::commands::tri::react_file;
 use crate::jobs::{Request, request_by};
 use crate::lines::{report, subject_of_none};
 use crate::outcome::Outcome;
@@ -92,6 +93,7 @@ fn do_request<F: Files, O: Sink, E: Sink>(
         }
         Request::Make(task, job) => make_text(alloc, task, job, files, out, err),
         Request::Run(via, job, trace) => run_file(alloc, via, job, trace, files, out, err),
+        Request::RunTri(job, trace) => react_file(alloc, job, trace, files, out, err),
         Request::Exec(via, text, trace) => exec_text(alloc, via, text, trace, files, out, err),
         Request::Generate(start, branches) => {
             let outcome = write_generated(alloc, start, branches, out);

@@ -1,8 +1,9 @@
-// The commands, one module each for those that read no file, make a text, run a source, run a text, or run a generated
-// source.
+// The commands, one module each for those that read no file, make a text, run a source by a text of it or by its
+// graph, run a text, or run a generated source.
 
 pub(crate) mod exec;
 pub(crate) mod load;
 pub(crate) mod make;
 pub(crate) mod plain;
 pub(crate) mod run;
+pub(crate) mod tri;

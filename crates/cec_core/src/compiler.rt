@@ -10,6 +10,7 @@ ghost use Rattle.cec_core.specs.Compiling.{StandsForC, IsBlifOf, IsCOf};
 ghost use Rattle.cec_core.specs.Refusals.{DoesNotCompile, IsRefused};
 
 use crate::cycles::cycle_of;
+use crate::graphs::{Built, built_graph};
 use crate::refusal::Refusal;
 use crate::targets::text_of;
 use blif_run::BlifTexts;
@@ -17,12 +18,9 @@ use cec_front::{Analysed, analyse};
 use cec_words::Pick;
 use csub_run::CTexts;
 use est_base::{Draw, Limits};
-use grc_build::build;
-use grc_copies::copies;
 use grc_dep::{Ranked, cycle_or_rank, edges};
 use grc_graph::{Edges, Graph, Order, Ranks, SelTree};
 use grc_order::{Drawn, First, Last, Picker, order};
-use grc_select::select;
 use net_gen::generate;
 use net_ir::Net;
 use net_simp::simplify;
@@ -161,10 +159,7 @@ fn program_graph(alloc: Global, analysed: Analysed) -> Result<Graphed, Refusal>
     ensures graphed { IfOk result (λ g. IsGraphed g (program_of analysed.program)) }
     ensures refuses { IfErr result (DoesNotCompile (program_of analysed.program)) }
 {
-    let Analysed { program, codes } = analysed;
-    let live = copies(alloc, &program.body, &codes)?;
-    let tree = select(alloc, &program.body, &codes)?;
-    let graph = build(alloc, program, &codes, live)?;
+    let Built { graph, tree } = built_graph(alloc, analysed)?;
     let edges = edges(alloc, &graph)?;
     match cycle_or_rank(alloc, &edges)? {
         Ranked::Acyclic(ranks) => Ok(Graphed {

@@ -1,11 +1,13 @@
 // The lines about faults of traces and texts.
 
-ghost use Rattle.std.specs.Prelude.{◌++◌, codes, decimal, flat_map};
+ghost use Rattle.std.specs.Prelude.{◌++◌, codes, decimal, flat_map, map};
 ghost use Rattle.est_base.specs.Writing.{Wrote};
 ghost use Rattle.cec_core.specs.Lines.{circuit_fault_text, joined_names, program_fault_text, text_fault_text};
-ghost use Rattle.cec_core.specs.Lines.{trace_text};
+ghost use Rattle.cec_core.specs.Lines.{trace_text, unknown_text};
+ghost use Rattle.grc_graph.specs.PlainWireNames.{wire_name_of};
 
 use crate::text_faults::TextFault;
+use crate::unknown_wires::UnknownWires;
 use blif_run::TextFault as CircuitFault;
 use csub_run::TextFault as ProgramFault;
 use est_base::{Sink, SinkFault, Text, write_pieces};
@@ -69,6 +71,21 @@ fn put_numbered<E: Sink>(
     let mut shown = Buffer::new();
     let shown = shown.format(number).as_bytes();
     write_pieces(err, &[b"cec: ", word, shown, text, rest, b"\n"])
+}
+
+/// The line of an instant in which wires stay unknown.
+pub(crate) fn put_unknown<E: Sink>(err: &mut E, wires: &UnknownWires) -> Result<(), SinkFault>
+    ensures { Wrote (E.told err.old) (E.told err.new) (E.faults err.old) (E.faults err.new)
+        (codes "cec: " ++ (unknown_text wires.now.instant (map wire_name_of wires.now.wires.items) ++ codes "\n"))
+        result }
+{
+    put_numbered(
+        err,
+        b"instant ",
+        wires.instant,
+        b": not constructive: ",
+        wires.text.as_slice(),
+    )
 }
 
 /// The line of a fault of a text.

@@ -37,6 +37,8 @@ pub(crate) enum Request<'a> {
     Make(Task, Job<'a>),
     /// A source by the text of this form that is made of it, run over the trace in this file.
     Run(Via, Job<'a>, &'a str),
+    /// A source by three-valued reactions of its graph, over the trace in this file.
+    RunTri(Job<'a>, &'a str),
     /// The text of this form in the one file, run over the trace in the other.
     Exec(Via, &'a str, &'a str),
     /// A generated source, by its start number and its number of branches.
@@ -67,6 +69,9 @@ fn request_asked(words: &[String], asked: Asked) -> Request<'_>
         Asked::Check(source) => Request::Make(Task::Check, source_job(words, source)),
         Asked::Run(via, source, trace) => {
             Request::Run(via, source_job(words, source), word_at(words, trace))
+        }
+        Asked::RunTri(source, trace) => {
+            Request::RunTri(source_job(words, source), word_at(words, trace))
         }
         Asked::Exec(via, text, trace) => {
             Request::Exec(via, word_at(words, text), word_at(words, trace))

@@ -1,6 +1,6 @@
 // Laws of what is refused, and of what is done. The calls do nothing: their contracts are the laws.
 
-ghost use Rattle.cec_core.specs.Laws.{AcceptedRequestsAreDone, CompilingSourcesAreNotRefused};
+ghost use Rattle.cec_core.specs.Laws.{AcceptedRequestsAreDone, CompilingSourcesAreNotRefused, StoppingRunsAreTold};
 
 /// A source that compiles has no cause of a refusal: the refusals are complete, but for want of memory.
 pub fn compiling_sources_are_not_refused()
@@ -12,4 +12,10 @@ pub fn compiling_sources_are_not_refused()
 /// text is one of its form without a combinational cycle, and each instant of the trace is accepted.
 pub fn accepted_requests_are_done()
     ensures { AcceptedRequestsAreDone }
+{}
+
+/// Where `run --via tri` comes to an instant in which the program is not constructive, and nothing is refused before,
+/// `cec` ends with the number of that instant, unless memory is wanting or a file or sink fails.
+pub fn stopping_runs_are_told()
+    ensures { StoppingRunsAreTold }
 {}

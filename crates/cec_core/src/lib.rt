@@ -13,21 +13,29 @@ mod commands;
 mod compiler;
 mod cycles;
 mod fault_lines;
+mod graphs;
 mod jobs;
 mod laws;
 mod lines;
 mod outcome;
+mod reactions;
 mod refusal;
 mod steady;
 mod targets;
 mod text_faults;
+mod unknown_wires;
+mod wire_texts;
 mod writing;
 
 pub use command::cec;
 pub use compiler::{Compiled, Graphed, blif_of, c_of, compile, source_graph};
 pub use cycles::Cycle;
-pub use laws::{accepted_requests_are_done, compiling_sources_are_not_refused};
+pub use graphs::{Built, graph_of};
+pub use laws::{
+    accepted_requests_are_done, compiling_sources_are_not_refused, stopping_runs_are_told,
+};
 pub use outcome::{Outcome, Which};
 pub use refusal::{Limit, Refusal};
 pub use steady::cec_steadily;
 pub use text_faults::TextFault;
+pub use unknown_wires::UnknownWires;

@@ -5,7 +5,7 @@ ghost use Rattle.est_base.specs.Writing.{Appends, Stops, Wrote};
 ghost use Rattle.cec_core.specs.Lines.{file_name, limit_word, line_of};
 ghost use Rattle.cec_core.specs.Subjects.{plain_subject};
 
-use crate::fault_lines::{put_text_fault, put_trace_fault};
+use crate::fault_lines::{put_text_fault, put_trace_fault, put_unknown};
 use crate::outcome::{Outcome, Which};
 use crate::refusal::Limit;
 use cec_front::put_fault;
@@ -74,6 +74,7 @@ fn put_line<E: Sink>(err: &mut E, subject: Subject<'_>, outcome: &Outcome) -> Re
         }
         Outcome::WriteFault => write_pieces(err, &[b"cec: ", b"cannot write", b"\n"]),
         Outcome::NoMemory => write_pieces(err, &[b"cec: ", b"out of memory", b"\n"]),
+        Outcome::NotConstructive(wires) => put_unknown(err, wires),
     }
 }
 

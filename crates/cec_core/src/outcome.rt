@@ -6,6 +6,7 @@ ghost use Rattle.cec_core.specs.Statuses.{outcome_of, status_of};
 use crate::cycles::Cycle;
 use crate::refusal::{Limit, Refusal};
 use crate::text_faults::TextFault;
+use crate::unknown_wires::UnknownWires;
 use cec_front::Fault;
 use trace_io::TraceFault;
 
@@ -32,6 +33,9 @@ pub enum Outcome {
     WriteFault,
     /// Want of memory.
     NoMemory,
+    /// The program is not constructive in this instant of the trace, and these wires stay unknown there. The lines of
+    /// the instants before it were written.
+    NotConstructive(UnknownWires),
 }
 
 /// The place of a file among the command's files.
@@ -72,6 +76,7 @@ impl Outcome {
             Outcome::Limit(_) => 8,
             Outcome::WriteFault => 9,
             Outcome::NoMemory => 10,
+            Outcome::NotConstructive(_) => 12,
         }
     }
 }

@@ -181,3 +181,20 @@ empty_words_1 = refl
 
 empty_words_2 : asked_by ([] ∷ []) ≡ None
 empty_words_2 = refl
+
+words_53 : asked_by (codes "run" ∷ codes "--via" ∷ codes "tri" ∷ codes "a" ∷ codes "b" ∷ []) ≡
+    Some (asks.RunTri (record { file = 3; main = None; pick = First }) 4)
+words_53 = refl
+
+words_54 : asked_by (codes "run" ∷ codes "a" ∷ codes "--main=m" ∷ codes "b" ∷ codes "--via=tri" ∷ []) ≡
+    Some (asks.RunTri (record { file = 1; main = Some (record { word = 2; start = 7 }); pick = First }) 3)
+words_54 = refl
+
+words_55 : asked_by (codes "run" ∷ codes "--via=tri" ∷ codes "--pick" ∷ codes "first" ∷ codes "a" ∷ codes "b" ∷ []) ≡ None
+words_55 = refl
+
+words_56 : asked_by (codes "exec" ∷ codes "--via=tri" ∷ codes "a" ∷ codes "b" ∷ []) ≡ None
+words_56 = refl
+
+words_57 : asked_by (codes "run" ∷ codes "--via=tri" ∷ codes "a" ∷ []) ≡ None
+words_57 = refl

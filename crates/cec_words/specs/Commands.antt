@@ -4,7 +4,6 @@ use Rattle.std.specs.Prelude.{drop, slice_index, codes, if◌then◌else◌, Opt
 use Rattle.std.specs.Prelude.{option_and_then}
 use Rattle.est_base.specs.Names.{is_same_name}
 use Rattle.est_base.specs.declared.bounds.TheConstants.Limits.{BRANCHES, LOAD_INSTANTS}
-use Rattle.cec_words.specs.declared.asked.Via.{Via}
 use Rattle.cec_words.specs.declared.asked.Via.TheVariants as vias
 use Rattle.cec_words.specs.declared.asked.Pick.{Pick}
 use Rattle.cec_words.specs.declared.asked.Pick.TheVariants.{First, Last, Drawn}
@@ -19,6 +18,8 @@ use Rattle.cec_words.specs.declared.steps.Part.{Part}
 use Rattle.cec_words.specs.declared.steps.Part.TheVariants as parts
 use Rattle.cec_words.specs.declared.steps.Step.{Step}
 use Rattle.cec_words.specs.declared.steps.Step.TheVariants.{Waits, Ends}
+use Rattle.cec_words.specs.declared.steps.Way.{Way}
+use Rattle.cec_words.specs.declared.steps.Way.TheVariants.{Text, Tri}
 use Rattle.cec_words.specs.Numbers.{number}
 
 abbrev pub command_of : List ℕ → Option Command
@@ -75,10 +76,11 @@ abbrev pub named : List Setting → List ℕ → Option Spelling
 named [] word = None
 named (setting ∷ more) word = or_else (spelling_of setting word) (named more word)
 
-abbrev pub via_of : List ℕ → Option Via
-via_of value =
-    if is_same_name value (codes "blif") then Some vias.Blif
-    else if is_same_name value (codes "c") then Some vias.C
+abbrev pub way_of : List ℕ → Option Way
+way_of value =
+    if is_same_name value (codes "blif") then Some (Text vias.Blif)
+    else if is_same_name value (codes "c") then Some (Text vias.C)
+    else if is_same_name value (codes "tri") then Some Tri
     else None
 
 abbrev pub pick_of : List ℕ → Option Pick
@@ -95,7 +97,7 @@ number_within least most value =
 -- the part that an option with its value makes: the value's place, and its bytes
 abbrev pub part_of : Setting → Value → List ℕ → Option Part
 part_of settings.Main place value = Some (parts.Main place)
-part_of settings.Via place value = option_map parts.Via (via_of value)
+part_of settings.Via place value = option_map parts.Via (way_of value)
 part_of settings.Pick place value = option_map parts.Pick (pick_of value)
 part_of settings.Start place value = option_map parts.Start (number value)
 part_of settings.Branches place value = option_map parts.Branches (number_within 1 BRANCHES value)

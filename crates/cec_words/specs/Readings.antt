@@ -3,7 +3,6 @@
 use Rattle.std.specs.Prelude.{ℕ, ◌+◌, Bool, ◌&&◌, nat_le, List, [], ◌∷◌, length, codes, if◌then◌else◌, Option, Some}
 use Rattle.std.specs.Prelude.{None, unwrap_or, option_map, option_and_then}
 use Rattle.est_base.specs.Names.{is_same_name}
-use Rattle.cec_words.specs.declared.asked.Via.{Via}
 use Rattle.cec_words.specs.declared.asked.Pick.{Pick}
 use Rattle.cec_words.specs.declared.asked.Pick.TheVariants.{First}
 use Rattle.cec_words.specs.declared.asked.Value.{Value}
@@ -17,13 +16,15 @@ use Rattle.cec_words.specs.declared.steps.Part.{Part}
 use Rattle.cec_words.specs.declared.steps.Part.TheVariants as parts
 use Rattle.cec_words.specs.declared.steps.Step.{Step}
 use Rattle.cec_words.specs.declared.steps.Step.TheVariants.{Waits, Ends}
+use Rattle.cec_words.specs.declared.steps.Way.{Way}
+use Rattle.cec_words.specs.declared.steps.Way.TheVariants.{Text, Tri}
 use Rattle.cec_words.specs.Numbers.{is_empty}
 use Rattle.cec_words.specs.Commands.{command_of, step_of}
 
 -- the files, and the values that each option has, in the order of the words
 pub record Gathered : Type 0 where
   pub files : List ℕ
-  pub vias : List Via
+  pub vias : List Way
   pub mains : List Value
   pub picks : List Pick
   pub starts : List ℕ
@@ -81,14 +82,24 @@ abbrev pub on_two : (ℕ → ℕ → Option Asked) → List ℕ → Option Asked
 on_two make (file ∷ trace ∷ []) = make file trace
 on_two make files = None
 
+-- a run of a source: by its text of a form, or by three-valued reactions, which have no order of evaluation to choose
+abbrev pub run_asked : Gathered → Way → (file trace : ℕ) → Option Asked
+run_asked g (Text v) file trace = Some (asks.Run v (source g file) trace)
+run_asked g Tri file trace = if is_empty g.picks then Some (asks.RunTri (source g file) trace) else None
+
+-- a run of a text, which is of some form
+abbrev pub exec_asked : Way → (text trace : ℕ) → Option Asked
+exec_asked (Text v) text trace = Some (asks.Exec v text trace)
+exec_asked Tri text trace = None
+
 -- what a command asks for
 abbrev pub asked : Command → Gathered → Option Asked
 asked commands.Blif g = on_one (λ f. asks.Blif (source g f)) g.files
 asked commands.C g = on_one (λ f. asks.C (source g f)) g.files
 asked commands.Grc g = on_one (λ f. asks.Grc (source g f)) g.files
 asked commands.Check g = on_one (λ f. asks.Check (source g f)) g.files
-asked commands.Run g = on_two (λ f t. option_map (λ v. asks.Run v (source g f) t) (head g.vias)) g.files
-asked commands.Exec g = on_two (λ f t. option_map (λ v. asks.Exec v f t) (head g.vias)) g.files
+asked commands.Run g = on_two (λ f t. option_and_then (λ w. run_asked g w f t) (head g.vias)) g.files
+asked commands.Exec g = on_two (λ f t. option_and_then (λ w. exec_asked w f t) (head g.vias)) g.files
 asked commands.Gen g =
     if is_empty g.files
     then option_and_then (λ s. option_map (λ b. asks.Gen s b (head g.runs)) (head g.branches)) (head g.starts)

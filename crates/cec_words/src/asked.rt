@@ -46,6 +46,9 @@ pub enum Asked {
     Check(Source),
     /// A source's run over the trace.
     Run(Via, Source, usize),
+    /// A source's run over the trace by three-valued reactions, whether its wires depend on one another in circles
+    /// or not.
+    RunTri(Source, usize),
     /// The run of a text over the trace.
     Exec(Via, usize, usize),
     /// A generated source: its start number, its branches, and how many instants it runs.

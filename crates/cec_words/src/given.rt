@@ -1,11 +1,11 @@
 // The files and options that some words give.
 
 ghost use Rattle.std.specs.Prelude.{◌≡◌, MatchOption};
-ghost use Rattle.cec_words.specs.Readings.{nothing, asked_once, source};
+ghost use Rattle.cec_words.specs.Readings.{nothing, asked_once, exec_asked, run_asked, source};
 ghost use Rattle.cec_words.specs.Slots.{slots, only_file, both_files, Fills, Overfills};
 
-use crate::asked::{Asked, Pick, Source, Value, Via};
-use crate::steps::{Command, Part};
+use crate::asked::{Asked, Pick, Source, Value};
+use crate::steps::{Command, Part, Way};
 
 // The files so far; no command has more than two.
 #[derive(Clone, Copy)]
@@ -18,7 +18,7 @@ pub enum Files {
 #[derive(Clone, Copy)]
 pub struct Given {
     pub files: Files,
-    pub via: Option<Via>,
+    pub via: Option<Way>,
     pub main: Option<Value>,
     pub pick: Option<Pick>,
     pub start: Option<u64>,
@@ -102,11 +102,11 @@ impl Given {
             Command::Check => Some(Asked::Check(self.source(self.one_file()?))),
             Command::Run => {
                 let (file, trace) = self.two_files()?;
-                Some(Asked::Run(self.via?, self.source(file), trace))
+                self.run_asked(self.via?, file, trace)
             }
             Command::Exec => {
                 let (text, trace) = self.two_files()?;
-                Some(Asked::Exec(self.via?, text, trace))
+                exec_asked(self.via?, text, trace)
             }
             Command::Gen => match self.files {
                 Files::None => Some(Asked::Gen(self.start?, self.branches?, self.run)),
@@ -133,6 +133,17 @@ impl Given {
         }
     }
 
+    // A run of a source by what `--via` says. Three-valued reactions have no order of evaluation to choose.
+    fn run_asked(self, way: Way, file: usize, trace: usize) -> Option<Asked>
+        ensures { result ≡ run_asked (slots self) way file trace }
+    {
+        match way {
+            Way::Text(via) => Some(Asked::Run(via, self.source(file), trace)),
+            Way::Tri if self.pick.is_none() => Some(Asked::RunTri(self.source(file), trace)),
+            Way::Tri => None,
+        }
+    }
+
     fn source(self, file: usize) -> Source
         ensures { result ≡ source (slots self) file }
     {
@@ -141,5 +152,15 @@ impl Given {
             main: self.main,
             pick: self.pick.unwrap_or(Pick::First),
         }
+    }
+}
+
+// A run of a text, which is of some form.
+fn exec_asked(way: Way, text: usize, trace: usize) -> Option<Asked>
+    ensures { result ≡ exec_asked way text trace }
+{
+    match way {
+        Way::Text(via) => Some(Asked::Exec(via, text, trace)),
+        Way::Tri => None,
     }
 }

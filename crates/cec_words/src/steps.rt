@@ -1,7 +1,7 @@
 // What one word says.
 
 ghost use Rattle.std.specs.Prelude.{◌≡◌, IfSome};
-ghost use Rattle.cec_words.specs.Commands.{command_of, options, option_name, spelling_of, named, is_plain, via_of};
+ghost use Rattle.cec_words.specs.Commands.{command_of, options, option_name, spelling_of, named, is_plain, way_of};
 ghost use Rattle.cec_words.specs.Commands.{pick_of, part_of, step_of};
 ghost use Rattle.cec_words.specs.Spellings.{IsWithin};
 
@@ -40,11 +40,18 @@ pub enum Spelling {
     Valued(Setting, usize),
 }
 
+// What `--via` says a run goes by: a text of this form, or three-valued reactions.
+#[derive(Clone, Copy)]
+pub enum Way {
+    Text(Via),
+    Tri,
+}
+
 // A part of the words behind the command: a file, or an option with its value.
 #[derive(Clone, Copy)]
 pub enum Part {
     File(usize),
-    Via(Via),
+    Via(Way),
     Main(Value),
     Pick(Pick),
     Start(u64),
@@ -169,7 +176,7 @@ fn part_of(setting: Setting, value: Value, bytes: &[u8]) -> Option<Part>
 {
     match setting {
         Setting::Main => Some(Part::Main(value)),
-        Setting::Via => via_of(bytes).map(Part::Via),
+        Setting::Via => way_of(bytes).map(Part::Via),
         Setting::Pick => pick_of(bytes).map(Part::Pick),
         Setting::Start => number(bytes).map(Part::Start),
         Setting::Branches => match number(bytes)? {
@@ -184,12 +191,13 @@ fn part_of(setting: Setting, value: Value, bytes: &[u8]) -> Option<Part>
     }
 }
 
-fn via_of(bytes: &[u8]) -> Option<Via>
-    ensures { result ≡ via_of bytes.now }
+fn way_of(bytes: &[u8]) -> Option<Way>
+    ensures { result ≡ way_of bytes.now }
 {
     match bytes {
-        b"blif" => Some(Via::Blif),
-        b"c" => Some(Via::C),
+        b"blif" => Some(Way::Text(Via::Blif)),
+        b"c" => Some(Way::Text(Via::C)),
+        b"tri" => Some(Way::Tri),
         _ => None,
     }
 }

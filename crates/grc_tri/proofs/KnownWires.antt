@@ -18,8 +18,8 @@ use Rattle.grc_solutions.specs.GraphWires.{equation_wires}
 use Rattle.grc_solutions.specs.Solutions.{ReadUp}
 use Rattle.grc_solutions.proofs.SameWires.{is_given, given_contained, equation_of}
 use Rattle.est_tri.specs.KnownPlaces as statuses
-use Rattle.grc_tri.specs.LeastSolutions.{Statuses, upto_status, TriSolves}
-use Rattle.grc_tri.specs.Laws.{IsKnown, is_plus, true_wires, AcyclicKnown}
+use Rattle.grc_tri.specs.LeastSolutions.{IsKnown, Statuses, TriSolves, is_plus, true_wires, upto_status}
+use Rattle.grc_tri.specs.Laws.{AcyclicKnown}
 use Rattle.grc_tri.proofs.StartedPlaces.{known_conjunction, known_disjunction}
 use Rattle.grc_tri.proofs.StepsLeft.{not_known, and_known, or_known}
 use Rattle.grc_tri.proofs.Stages.{status}

@@ -21,3 +21,4 @@ pub mod Outgoing
 pub mod Joint
 pub mod KnownWires
 pub mod Reactions
+pub mod Runs

@@ -60,8 +60,8 @@ use Rattle.est_tri.specs.KnownPlaces as statuses
 use Rattle.est_tri.proofs.Solving.{settle_known, settle_solved}
 use Rattle.est_tri.proofs.Monotone.{below_equal}
 use Rattle.est_tri.proofs.Steps.{step_known, known_step, step_walk_signals}
-use Rattle.grc_tri.specs.LeastSolutions.{Statuses, IsLeast}
-use Rattle.grc_tri.specs.Laws.{IsKnown, is_plus, true_wires, LeastIsThere, KnownReacts, ReactsKnown}
+use Rattle.grc_tri.specs.LeastSolutions.{IsKnown, IsLeast, Statuses, is_plus, true_wires}
+use Rattle.grc_tri.specs.Laws.{LeastIsThere, KnownReacts, ReactsKnown}
 use Rattle.grc_tri.proofs.Stages.{Stage, least_kept, least_is_kept, next, next_at, next_off, start, start_on, start_off}
 use Rattle.grc_tri.proofs.KnownWires.{known_form, form_known, true_known, plus_known, known_solves}
 use Rattle.grc_tri.proofs.ResumedWalks.{KnownResumed}

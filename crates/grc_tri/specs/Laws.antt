@@ -1,33 +1,17 @@
 -- To believe: the laws that tie the least three-valued solution of a graph to the reaction of its program.
-use Rattle.std.specs.Prelude.{◌≡◌, ℕ, Bool, true, false, List, length, Some}
+use Rattle.std.specs.Prelude.{◌≡◌, ℕ, Bool, List, length, Some}
 use Rattle.est_kernel.specs.Plain.{Program, interface_of, given_count}
 use Rattle.est_kernel.specs.Reactions.{Reaction, react}
 use Rattle.est_kernel.specs.StaticCodes.{NoInstantLoop}
-use Rattle.est_kernel.specs.Statuses.{Status, Plus, Minus, Unknown, known}
 use Rattle.est_kernel.specs.WellFormed.{IsWellFormed}
 use Rattle.est_kernel.specs.WellFormed as programs
 use Rattle.grc_graph.specs.GraphRuns.{PlainGraph, Solves, graph_of, next_state, shown}
-use Rattle.grc_graph.specs.Readings.{Valuation}
 use Rattle.grc_graph.specs.Selected.{HasExitCodes, IsState}
 use Rattle.grc_graph.specs.Walk.{State, remaining}
 use Rattle.grc_graph.specs.Wires.{Wire}
 use Rattle.grc_sem.specs.GraphWalks.{SelectsLeaves, shown_code}
 use Rattle.grc_solutions.specs.Solutions.{ReadUp}
-use Rattle.grc_tri.specs.LeastSolutions.{IsLeast, Statuses, TriSolves}
-
--- nothing is unknown
-abbrev pub IsKnown : Statuses → Type 0
-IsKnown T = (w : Wire) → (b : Bool) × (T w ≡ known b)
-
--- whether a status is true
-abbrev pub is_plus : Status → Bool
-is_plus Plus = true
-is_plus Minus = false
-is_plus Unknown = false
-
--- the valuation in which a wire is true where its status is
-abbrev pub true_wires : Statuses → Valuation
-true_wires T = λ w. is_plus (T w)
+use Rattle.grc_tri.specs.LeastSolutions.{IsKnown, IsLeast, Statuses, TriSolves, true_wires}
 
 -- The graph of a program has a least solution, in each state and event.
 abbrev pub LeastIsThere : Type 0

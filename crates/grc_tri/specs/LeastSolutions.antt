@@ -5,15 +5,15 @@
 -- Malik, "Analysis of Cyclic Combinational Circuits"). Each wire is true, false or not known. The formulas are read by
 -- Kleene's tables, as they stand: no law of Boolean algebra is used before, since `x or not x` is not true where x is
 -- not known.
-use Rattle.std.specs.Prelude.{◌≡◌, ℕ, zero, suc, Bool, false, List, All}
+use Rattle.std.specs.Prelude.{◌≡◌, ℕ, zero, suc, Bool, true, false, List, All}
 use Rattle.std.specs.List.{list_any}
 use Rattle.est_kernel.specs.Laws.{IsBelow}
 use Rattle.est_kernel.specs.Reactions.{is_given}
-use Rattle.est_kernel.specs.Statuses.{Status, Minus, Unknown, known, opposite, conjunction, disjunction}
+use Rattle.est_kernel.specs.Statuses.{Status, Plus, Minus, Unknown, known, opposite, conjunction, disjunction}
 use Rattle.est_kernel.specs.Terms.{Term}
 use Rattle.grc_graph.specs.Formulas.{Formula, Reading, meaning}
 use Rattle.grc_graph.specs.GraphRuns.{PlainGraph}
-use Rattle.grc_graph.specs.Readings.{state_holds_at}
+use Rattle.grc_graph.specs.Readings.{Valuation, state_holds_at}
 use Rattle.grc_graph.specs.Walk.{State, Values, is_initial}
 use Rattle.grc_graph.specs.Wires.{Wire, End, same_wire}
 
@@ -56,3 +56,17 @@ pub record TriSolves (g : PlainGraph) (q : State) (event : List Bool) (T : Statu
 pub record IsLeast (g : PlainGraph) (q : State) (event : List Bool) (T : Statuses) : Type 0 where
   pub solves : TriSolves g q event T
   pub least : (U : Statuses) → TriSolves g q event U → (w : Wire) → IsBelow (T w) (U w)
+
+-- nothing is unknown
+abbrev pub IsKnown : Statuses → Type 0
+IsKnown T = (w : Wire) → (b : Bool) × (T w ≡ known b)
+
+-- whether a status is true
+abbrev pub is_plus : Status → Bool
+is_plus Plus = true
+is_plus Minus = false
+is_plus Unknown = false
+
+-- the valuation in which a wire is true where its status is
+abbrev pub true_wires : Statuses → Valuation
+true_wires T = λ w. is_plus (T w)

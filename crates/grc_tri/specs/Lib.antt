@@ -1,2 +1,4 @@
 pub mod LeastSolutions
 pub mod Laws
+pub mod TriRuns
+pub mod RunLaws

@@ -2,6 +2,7 @@
 // its contract is the law.
 
 ghost use Rattle.grc_tri.specs.Laws.{AcyclicKnown, KnownReacts, LeastIsThere, ReactsKnown};
+ghost use Rattle.grc_tri.specs.RunLaws.{ProgramsRunByLeastSolutions};
 
 /// The graph of a program has a least solution by Kleene's tables, in each state and event.
 pub fn least_solution_is_there()
@@ -23,4 +24,11 @@ pub fn reactions_are_known()
 /// Where the equations of a graph read up in some rank, nothing of a solution is unknown.
 pub fn acyclic_solutions_are_known()
     ensures { AcyclicKnown }
+{}
+
+/// Over items, a program and the machine of least solutions of its graph follow each other: the one has an instant
+/// where the other one has, and both show the same. So a run of least solutions shows the program's answers, up to the
+/// first instant in which some wire is unknown, and that is the first one in which the program does not react.
+pub fn programs_run_by_least_solutions()
+    ensures { ProgramsRunByLeastSolutions }
 {}

@@ -9,5 +9,5 @@ mod laws;
 
 pub use laws::{
     acyclic_solutions_are_known, known_solutions_react, least_solution_is_there,
-    reactions_are_known,
+    programs_run_by_least_solutions, reactions_are_known,
 };

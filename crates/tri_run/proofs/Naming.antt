@@ -27,8 +27,7 @@ use Rattle.grc_react.specs.Evaluations.{IsKnown}
 use Rattle.grc_react.proofs.Steps.{plain-formulas, plain-wires}
 use Rattle.grc_react.proofs.Stages.{length-names}
 use Rattle.grc_solutions.specs.GraphWires.{Differ, equation_wires}
-use Rattle.grc_tri.specs.Laws.{is_plus}
-use Rattle.grc_tri.specs.LeastSolutions.{IsLeast, Statuses, formula_status, kleene_reading, upto_status}
+use Rattle.grc_tri.specs.LeastSolutions.{IsLeast, Statuses, formula_status, is_plus, kleene_reading, upto_status}
 use Rattle.grc_words.specs.declared.table.Words.{Words}
 use Rattle.grc_words.specs.Occasions.{Occasion}
 use Rattle.grc_words.specs.WordLaws.{AreWordsOf, any_from, ends_upto, first_end, is_end_upto}

@@ -23,10 +23,10 @@ use Rattle.grc_sem.specs.GraphWalks.{SelectsLeaves, shown_code}
 use Rattle.grc_sem.proofs.Instants.{codes_are_shown_lem, next_state_is_kept_lem}
 use Rattle.grc_sem.proofs.Runs.{program_kernel}
 use Rattle.grc_words.specs.Occasions.{state_of}
-use Rattle.grc_tri.specs.Laws.{IsKnown, true_wires}
-use Rattle.grc_tri.specs.LeastSolutions.{IsLeast, Statuses}
+use Rattle.grc_tri.specs.LeastSolutions.{IsKnown, IsLeast, Statuses, true_wires}
+use Rattle.grc_tri.specs.TriRuns.{is_unknown}
 use Rattle.grc_tri.proofs.Reactions.{known_reacts_lem, reacts_known_lem}
-use Rattle.tri_run.specs.Runners.{IsFresh, IsStuck, Runner, Stays, Steps, TriReacts, is_unknown, program_in, state_in, unknown_wires}
+use Rattle.tri_run.specs.Runners.{IsFresh, IsStuck, Runner, Stays, Steps, TriReacts, program_in, state_in, unknown_wires}
 use Rattle.tri_run.specs.States.{KeepsProgram}
 use Rattle.tri_run.specs.declared.state.NotConstructive.{NotConstructive}
 

@@ -16,8 +16,7 @@ use Rattle.grc_react.specs.Evaluations.{formula_under, start_state}
 use Rattle.grc_react.proofs.Stages.{length-names}
 use Rattle.grc_solutions.specs.Evaluations.{valuation_of}
 use Rattle.grc_solutions.specs.GraphWires.{Differ}
-use Rattle.grc_tri.specs.Laws.{true_wires}
-use Rattle.grc_tri.specs.LeastSolutions.{IsLeast}
+use Rattle.grc_tri.specs.LeastSolutions.{IsLeast, true_wires}
 use Rattle.grc_words.specs.Occasions.{state_of}
 use Rattle.tri_gates.specs.declared.gates.Value.{Value}
 use Rattle.tri_gates.specs.Systems.{is_unknown, statuses_of}

@@ -15,7 +15,7 @@ use Rattle.grc_react.specs.Evaluations.{Begins, Late, surroundings_of}
 use Rattle.grc_react.proofs.Stages.{false-off, occasion, source-known}
 use Rattle.grc_solutions.specs.Evaluations.{valuation_of}
 use Rattle.grc_solutions.specs.GraphWires.{Differ}
-use Rattle.grc_tri.specs.Laws.{IsKnown, is_plus, true_wires}
+use Rattle.grc_tri.specs.LeastSolutions.{IsKnown, is_plus, true_wires}
 use Rattle.grc_words.specs.Rows.{row_values, source_fits, source_value}
 use Rattle.grc_words.specs.WordLaws.{late_bounds}
 use Rattle.grc_words.specs.declared.table.Words.{Words}
@@ -24,7 +24,7 @@ use Rattle.tri_gates.specs.declared.gates.Value.{Value}
 use Rattle.tri_gates.specs.declared.gates.Value.TheVariants as values
 use Rattle.tri_gates.specs.Systems.{is_unknown, status_of, statuses_of}
 use Rattle.tri_run.specs.Instants.{status_named}
-use Rattle.tri_run.specs.Runners as runners
+use Rattle.grc_tri.specs.TriRuns as tri_runs
 use Rattle.tri_run.proofs.Naming.{named-there}
 use Rattle.tri_run.specs.Rooms.{are_true, are_unknown, is_true}
 
@@ -113,22 +113,22 @@ pub all-known : (ws : List Wire) (vs : List Value) → length ws ≤ length vs �
     → IsKnown (status_named ws (statuses_of vs))
 all-known ws vs le none = known-named ws (statuses_of vs) (λ v low. none-unknown vs (length ws) v none low (omega arith))
 
-unknown-same : (v : Value) → is_unknown v ≡ runners.is_unknown (status_of v)
+unknown-same : (v : Value) → is_unknown v ≡ tri_runs.is_unknown (status_of v)
 unknown-same values.Unknown = refl
 unknown-same values.False = refl
 unknown-same values.True = refl
 
 -- which wires are unknown, by their numbers and by their names
 pub unknown-named : (ws : List Wire) (vs : List Value) → Differ ws → length ws ≤ length vs
-    → are_unknown (length ws) vs ≡ map (λ w. runners.is_unknown (status_named ws (statuses_of vs) w)) ws
+    → are_unknown (length ws) vs ≡ map (λ w. tri_runs.is_unknown (status_named ws (statuses_of vs) w)) ws
 unknown-named ws vs differ le =
     let n = length ws in
     let T = status_named ws (statuses_of vs) in
     let many : length (are_unknown n vs) ≡ n = length-map (take n vs) is_unknown ∙ length-take-le n vs le in
-    ext_get_or false (are_unknown n vs) (map (λ w. runners.is_unknown (T w)) ws) (many ∙ sym (length-map ws (λ w. runners.is_unknown (T w))))
+    ext_get_or false (are_unknown n vs) (map (λ w. tri_runs.is_unknown (T w)) ws) (many ∙ sym (length-map ws (λ w. tri_runs.is_unknown (T w))))
     (λ v low.
     let under : v < n = omega arith in
     get_or-map is_unknown (take n vs) v values.Unknown false (let l = length-take-le n vs le in omega arith)
     ∙ ap is_unknown (get_or-take n vs v values.Unknown under) ∙ unknown-same (slice_index_or vs v values.Unknown)
-    ∙ ap runners.is_unknown (sym (named-there ws (statuses_of vs) differ v under))
-    ∙ sym (get_or-map (λ w. runners.is_unknown (T w)) ws v (Go 0 Resumed) false under))
+    ∙ ap tri_runs.is_unknown (sym (named-there ws (statuses_of vs) differ v under))
+    ∙ sym (get_or-map (λ w. tri_runs.is_unknown (T w)) ws v (Go 0 Resumed) false under))

@@ -3,15 +3,14 @@ use Rattle.std.specs.Prelude.{◌≡◌, Bool, true, false, ◌==◌, List, leng
 use Rattle.std.specs.List.{list_any}
 use Rattle.est_kernel.specs.Plain.{Program, program_of, interface_of}
 use Rattle.est_kernel.specs.Reactions.{Reaction, react}
-use Rattle.est_kernel.specs.Statuses.{Status, Plus, Minus, Unknown}
 use Rattle.grc_graph.specs.declared.graph.Graph.{Graph}
 use Rattle.grc_graph.specs.GraphRuns.{graph_of, program_wires, formula_value, shown}
 use Rattle.grc_graph.specs.PlainGraphs.{names_of, plain_graph}
 use Rattle.grc_graph.specs.Selected.{IsState}
 use Rattle.grc_graph.specs.Walk.{State, remaining}
 use Rattle.grc_sem.specs.GraphWalks.{SelectsLeaves}
-use Rattle.grc_tri.specs.Laws.{IsKnown, true_wires}
-use Rattle.grc_tri.specs.LeastSolutions.{IsLeast, Statuses}
+use Rattle.grc_tri.specs.LeastSolutions.{IsKnown, IsLeast, Statuses, true_wires}
+use Rattle.grc_tri.specs.TriRuns.{is_unknown}
 use Rattle.grc_words.specs.Occasions.{state_of}
 
 -- what a contract sees of a runner: the graph, whether the next instant is the first, and which leaves are selected in
@@ -29,11 +28,6 @@ program_in r = program_of r.graph.program
 
 abbrev pub state_in : Runner → State
 state_in r = state_of (plain_graph r.graph).leaves r.boot r.selected
-
-abbrev pub is_unknown : Status → Bool
-is_unknown Plus = false
-is_unknown Minus = false
-is_unknown Unknown = true
 
 -- for each wire of the graph, in order, whether it is unknown
 abbrev pub unknown_wires : Graph → Statuses → List Bool

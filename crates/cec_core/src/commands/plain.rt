@@ -15,7 +15,7 @@ const HELP: &[u8] = b"cec blif [--main M] [--pick P] FILE
 cec c [--main M] [--pick P] FILE
 cec grc [--main M] FILE
 cec check [--main M] FILE
-cec run --via blif|c [--main M] [--pick P] FILE TRACE
+cec run --via blif|c|tri [--main M] [--pick P] FILE TRACE
 cec exec --via blif|c TEXT TRACE
 cec gen --start N --branches N [--run N]
 ";

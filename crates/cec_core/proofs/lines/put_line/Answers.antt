@@ -18,3 +18,6 @@ returns-in-WriteFault g c = rw c.in-WriteFault.is c.write_pieces-in-WriteFault.e
 
 pub returns-in-NoMemory : goal.returns-in-NoMemory
 returns-in-NoMemory g c = rw c.in-NoMemory.is c.write_pieces-in-NoMemory.ensures
+
+pub returns-in-NotConstructive : goal.returns-in-NotConstructive
+returns-in-NotConstructive g c = rw c.in-NotConstructive.is c.put_unknown.ensures

@@ -1,7 +1,7 @@
 use Rattle.std.proofs.lemmas.Result.{err_from_is_err_and}
 use Rattle.est_kernel.specs.Plain.{program_of}
 use Rattle.cec_core.proofs.Joined.{copy_refused}
-use Rattle.cec_core.proofs.compiler.program_graph.Goals as goal
+use Rattle.cec_core.proofs.graphs.built_graph.Goals as goal
 
 pub returns-in_err-live-clause-refuses : goal.returns-in_err-live-clause-refuses
 returns-in_err-live-clause-refuses c =
