@@ -30,9 +30,10 @@ _cec() {
     -*)
         local options=
         case $given in
-        blif | c) options="--main --pick" ;;
+        blif) options="--main --pick --encode" ;;
+        c) options="--main --pick" ;;
         grc | check) options="--main" ;;
-        run) options="--via --main --pick" ;;
+        run) options="--via --main --pick --encode" ;;
         exec) options="--via" ;;
         gen) options="--start --branches --run" ;;
         esac

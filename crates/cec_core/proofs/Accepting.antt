@@ -32,6 +32,7 @@ use Rattle.csub_run.specs.declared.language.TextFault as programs
 use Rattle.csub_run.specs.declared.language.TextFault.TheVariants.{Syntax, Twice, Undeclared, Unset}
 use Rattle.csub_run.specs.Texts.{IsTextFault as IsProgramFault}
 use Rattle.csub_read.specs.Faults.{ReadsAs}
+use Rattle.cec_core.specs.declared.jobs.TextForm.{TextForm}
 use Rattle.cec_core.specs.declared.text_faults.TextFault.{TextFault}
 use Rattle.trace_run.specs.declared.running.RunFault.TheVariants as runs
 use Rattle.est_base.specs.SinkChanges.{SinkChange}
@@ -201,7 +202,7 @@ long_whole held trace short long =
     omega (arith, short, passes)
 
 -- a limit that is passed by a source that is run
-run_limit : (via : Via) (main : Option (List ℕ)) (held : List ℕ → List ℕ) (name trace : List ℕ) (quantity : bounds.Limit)
+run_limit : (via : TextForm) (main : Option (List ℕ)) (held : List ℕ → List ℕ) (name trace : List ℕ) (quantity : bounds.Limit)
     → RunsToEnd via main (held name) (held trace) → RunsOn via main (Limit quantity) (held name) → LongTrace (Some held) trace (Limit quantity) → ⊥
 run_limit via main held name trace limits.Source w on long = passes_limit main (held name) limits.Source w.source on
 run_limit via main held name trace limits.Trace w on long = long_whole held trace w.whole.short long
@@ -216,7 +217,7 @@ run_limit via main held name trace limits.Instances w on long = passes_limit mai
 run_limit via main held name trace limits.Wires w on long = passes_limit main (held name) limits.Wires w.source on
 
 -- a trace of a source with a fault
-run_no_fault : (via : Via) (main : Option (List ℕ)) (bytes trace : List ℕ) (s : SinkChange) (fault : TraceFault) → RunsToEnd via main bytes trace
+run_no_fault : (via : TextForm) (main : Option (List ℕ)) (bytes trace : List ℕ) (s : SinkChange) (fault : TraceFault) → RunsToEnd via main bytes trace
     → RunsSource main bytes trace s (Err (runs.Trace fault)) → ⊥
 run_no_fault via main bytes trace s fault w r =
     let p = w.source.program in
@@ -224,14 +225,14 @@ run_no_fault via main bytes trace s fault w r =
     whole_has_no_fault (beginning trace (given_names p) p.relations) w.whole.items r.ran.0 fault w.whole.whole
     (subst (λ (q : Program). IsTrace (beginning trace (given_names q) q.relations) r.ran.0 (Some fault)) same r.ran.2)
 
-run_trace_fault : (via : Via) (job : Job) (held : List ℕ → List ℕ) (trace : List ℕ) (s : SinkChange) (fault : TraceFault)
+run_trace_fault : (via : TextForm) (job : Job) (held : List ℕ → List ℕ) (trace : List ℕ) (s : SinkChange) (fault : TraceFault)
     → RunsToEnd via job.main (held job.name) (held trace) → GainsOut (Some (Run via job trace)) (Some held) (Trace fault) s → ⊥
 run_trace_fault via job held trace s fault w g =
     run_no_fault via job.main (held job.name) (held trace) s fault w
     (subst (λ i. RunsSource job.main (held job.name) i s (Err (runs.Trace fault))) g.2.1
     (subst (λ b. RunsSource job.main b g.2.0 s (Err (runs.Trace fault))) g.1 g.2.2))
 
-run_end : (via : Via) (job : Job) (held : List ℕ → List ℕ) (trace : List ℕ) (outcome : Outcome) (s : SinkChange)
+run_end : (via : TextForm) (job : Job) (held : List ℕ → List ℕ) (trace : List ℕ) (outcome : Outcome) (s : SinkChange)
     → RunsToEnd via job.main (held job.name) (held trace) → OnTwo held job.name trace (RunsOn via job.main) outcome
     → ((file : Which) → outcome ≡ FileFault file → ⊥) → (outcome ≡ WriteFault → ⊥) → GainsOut (Some (Run via job trace)) (Some held) outcome s
     → (outcome ≡ Done) ⊎ (outcome ≡ NoMemory)

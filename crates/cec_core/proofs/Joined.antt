@@ -50,13 +50,13 @@ use Rattle.cec_core.specs.Graphs.{HasNoGraph}
 use Rattle.cec_core.specs.Refusals.{Compiles}
 use Rattle.cec_core.proofs.GraphFacts.{acyclic, reading_order}
 use Rattle.cec_core.proofs.Simplified.{interface_stays, instants_stay, runs_stay}
-use Rattle.cec_core.proofs.WireWords.{order_carried, holds_wires, names_wires}
-use Rattle.cec_core.specs.WireNames.{TextNames, CTextNames}
+use Rattle.cec_core.proofs.WireWords.{order_carried, holds_wires, names_wires, latches_stored, states_stored}
+use Rattle.cec_core.specs.WireNames.{one_per_leaf, TextNames, CTextNames}
 use Rattle.cec_core.proofs.Keeping.{net_keeps, text_keeps, c_text_keeps}
 
 -- ---- graphs
 
-kernel_of : (g : Graph) (p : Program) → IsGraphOf g p → programs.IsKernel p.body
+pub kernel_of : (g : Graph) (p : Program) → IsGraphOf g p → programs.IsKernel p.body
 kernel_of g p is = subst (λ q. programs.IsKernel q.body) is.program (trees_are_kernels_lem g.program.body)
 
 -- a graph is that of the program that it has
@@ -81,7 +81,7 @@ copy_refused p copy_faults.NoMemory h = tt
 
 -- ---- nets and texts
 
-given-few : (p : Program) → programs.IsWellFormed p → given_count p ≤ length p.signals
+pub given-few : (p : Program) → programs.IsWellFormed p → given_count p ≤ length p.signals
 given-few p h = omega (arith, h.interface)
 
 pub net_stands : (text : List ℕ) (main : Option (List ℕ)) (g : Graphed) (order : Order) (net : Net) → StandsForGraph text main g
@@ -100,9 +100,11 @@ net_stands text main g order net s along interface carries size linear instants 
       source = s.source;
       compiled = record {
         formed = h.formed;
+        no_loop = h.no_loop;
         compiles = compiles;
         graph = h.graph;
         tree = h.tree;
+        leaves = h.leaves;
         order = graph_order g p order.list.items h along;
         along = record { pairs = g.edges.pairs.items; edges = h.edges; order = subst (λ n. IsWireOrder n g.edges.pairs.items order.list.items) h.count along };
         carried = carries;
@@ -134,35 +136,39 @@ simplified_stands text main g order net new s along interface carries size linea
     (omega (arith, parts.fewer, size))
     (λ own. let few_gates = linear own in omega (arith, parts.fewer, few_gates))
     (instants_stay g.graph (netlist_of net) (netlist_of new) few interface parts same instants)
-    (runs_stay g.graph (netlist_of net) (netlist_of new) few interface parts alike runs)
+    (runs_stay g.graph (netlist_of net) (netlist_of new) few interface parts.carries alike runs)
     simple
 
 -- each wire of a compiled program is carried
-wires_carried : (c : Compiled) (p : Program) → IsCompiled c p → (n : ℕ) → n < length (program_wires p) → Contains (carried c.net.gates.items) n
+pub wires_carried : (c : Compiled) (p : Program) → IsCompiled c p → (n : ℕ) → n < length (program_wires p) → Contains (carried c.net.gates.items) n
 wires_carried c p h n l =
     order_carried c.order.list.items c.net.gates.items n h.carried (h.order.each_once n (subst (λ ws. n < length ws) (sym h.graph.wires) l))
 
-inputs_wide : (c : Compiled) (p : Program) → IsCompiled c p → given_count p ≡ length (netlist_of c.net).inputs
+pub inputs_wide : (c : Compiled) (p : Program) → IsCompiled c p → given_count p ≡ length (netlist_of c.net).inputs
 inputs_wide c p h = sym (ap length h.keeps.inputs ∙ omega (arith, length-take (given_count p) p.signals, given-few p h.formed))
 
 -- the text of a compiled program names its wires
-net_wires : (c : Compiled) (p : Program) → IsCompiled c p → (written : List ℕ) → Means written (netlist_of c.net) → TextNames written p
+net_wires : (c : Compiled) (p : Program) → IsCompiled c p → (written : List ℕ) → Means written (netlist_of c.net)
+    → TextNames (one_per_leaf p) written p
 net_wires c p h written means =
     let kernel = program_kernel p h.formed (kernel_of c.graph p h.graph) in
     record {
       circuit = means.circuit;
       reads = means.reads;
-      wires = names_wires c.graph p (netlist_of c.net) h.graph (wires_carried c p h) kernel h.compiles.acyclic h.interface h.runs written means
+      stored = latches_stored c.graph p (netlist_of c.net) h.graph (wires_carried c p h) h.interface written means;
+      wires = names_wires c.graph p (netlist_of c.net) h.graph (wires_carried c p h) kernel h.compiles.acyclic h.runs written means
           h.keeps.inputs (inputs_wide c p h);
     }
 
-c_net_wires : (c : Compiled) (p : Program) → IsCompiled c p → (written : List ℕ) → c_meant.Means written (netlist_of c.net) → CTextNames written p
+c_net_wires : (c : Compiled) (p : Program) → IsCompiled c p → (written : List ℕ) → c_meant.Means written (netlist_of c.net)
+    → CTextNames (one_per_leaf p) written p
 c_net_wires c p h written means =
     let kernel = program_kernel p h.formed (kernel_of c.graph p h.graph) in
     record {
       program = means.program;
       describes = means.describes;
-      wires = holds_wires c.graph p (netlist_of c.net) h.graph (wires_carried c p h) kernel h.compiles.acyclic h.interface h.runs written means
+      stored = states_stored c.graph p (netlist_of c.net) h.graph (wires_carried c p h) h.interface written means;
+      wires = holds_wires c.graph p (netlist_of c.net) h.graph (wires_carried c p h) kernel h.compiles.acyclic h.runs written means
           (inputs_wide c p h);
     }
 

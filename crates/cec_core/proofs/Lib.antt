@@ -9,6 +9,7 @@ pub mod DrawnRuns
 pub mod WireWords
 pub mod Simplified
 pub mod Joined
+pub mod EncodedNets
 pub mod Unrefused
 pub mod Accepting
 pub mod Stopping

@@ -1,38 +1,84 @@
 -- The texts of each form that are written of a compiled source.
-use Rattle.std.proofs.Common.{ℕ, List, Option}
+use Rattle.std.proofs.Common.{◌≡◌, ℕ, ◌≤◌, List, length, Option, sym, ap, ◌∙◌, subst}
+use Rattle.est_base.specs.declared.bounds.TheConstants.Limits.{SOURCE_BYTES}
+use Rattle.est_kernel.specs.Plain.{Program}
+use Rattle.net_ir.specs.Netlists.{Netlist}
 use Rattle.net_ir.specs.Runs.{netlist_of}
 use Rattle.blif_run.specs.Texts as circuits
+use Rattle.blif_text.specs.Written as blif_texts
 use Rattle.csub_run.specs.Texts as programs
-use Rattle.cec_words.specs.declared.asked.Via.{Via}
-use Rattle.cec_words.specs.declared.asked.Via.TheVariants as vias
+use Rattle.csub_text.specs.Written as c_texts
 use Rattle.cec_core.specs.declared.compiler.Compiled.{Compiled}
-use Rattle.cec_core.specs.declared.jobs.Task.TheVariants.{Blif, C}
+use Rattle.cec_core.specs.declared.jobs.TextForm.{TextForm}
+use Rattle.cec_core.specs.declared.jobs.TextForm.TheVariants as forms
+use Rattle.cec_core.specs.declared.jobs.Task.TheVariants.{Text}
+use Rattle.cec_core.specs.declared.made.Made.{Made}
 use Rattle.cec_core.specs.Answers.{IsAnswer}
-use Rattle.cec_core.specs.Compiling.{StandsForNet, IsWrittenOf}
+use Rattle.cec_core.specs.Compiling.{IsBlifOf, IsCOf, IsCompiled, StandsForNet}
+use Rattle.cec_core.specs.EncodedTexts.{IsEncodedBlifOf}
+use Rattle.cec_core.specs.MadeNets.{IsNetIn, IsMade, IsWrittenOf}
+use Rattle.cec_core.specs.NetMeaning.{NetKeeps}
 use Rattle.cec_core.specs.NetTexts.{IsWritten}
 use Rattle.cec_core.specs.Sources.{IsSource, IsNetText}
-use Rattle.est_base.specs.declared.bounds.TheConstants.Limits.{SOURCE_BYTES}
-use Rattle.std.proofs.Common.{◌≤◌, length}
+use Rattle.cec_core.proofs.EncodedNets.{encoded_stands}
 use Rattle.cec_core.proofs.Joined.{text_stands, c_text_stands}
 
-pub net_text : (via : Via) (bytes : List ℕ) (main : Option (List ℕ)) (made : Compiled) (text : List ℕ) → StandsForNet bytes main made
-    → IsWritten via text (netlist_of made.net) → IsNetText via bytes main text
-net_text vias.Blif bytes main made text s w = record { made = made; compiled = s; text = w.spelled }
-net_text vias.C bytes main made text s w = record { made = made; compiled = s; text = w.spelled }
+-- ---- the text of each form
 
--- the text that is written of a compiled source's netlist is what is asked for
-pub blif_answers : (bytes : List ℕ) (main : Option (List ℕ)) (text : List ℕ) → IsWrittenOf circuits.IsWritten bytes main text
-    → IsAnswer Blif main bytes text
-blif_answers bytes main text w = (
-  text_stands bytes main w.made text w.compiled w.written.means,
-  record { made = w.made; compiled = w.compiled; text = w.written.spelled },
-)
+own_blif : (bytes : List ℕ) (main : Option (List ℕ)) (text : List ℕ) → (c : Compiled) → StandsForNet bytes main c → (net : Netlist) → net ≡ netlist_of c.net
+    → text ≡ blif_texts.written net → IsBlifOf bytes main text
+own_blif bytes main text c s net own w = record { made = c; compiled = s; text = w ∙ ap blif_texts.written own }
 
-pub c_answers : (bytes : List ℕ) (main : Option (List ℕ)) (text : List ℕ) → IsWrittenOf programs.IsWritten bytes main text → IsAnswer C main bytes text
-c_answers bytes main text w = (
-  c_text_stands bytes main w.made text w.compiled w.written.means,
-  record { made = w.made; compiled = w.compiled; text = w.written.spelled },
-)
+own_c : (bytes : List ℕ) (main : Option (List ℕ)) (text : List ℕ) → (c : Compiled) → StandsForNet bytes main c → (net : Netlist) → net ≡ netlist_of c.net
+    → text ≡ c_texts.written net → IsCOf bytes main text
+own_c bytes main text c s net own w = record { made = c; compiled = s; text = w ∙ ap c_texts.written own }
 
-pub net_source : (bytes : List ℕ) (main : Option (List ℕ)) (made : Compiled) → length bytes ≤ SOURCE_BYTES → StandsForNet bytes main made → IsSource main bytes
-net_source bytes main made short s = record { program = s.program; short = short; source = s.source; compiles = s.compiled.compiles }
+pub net_text : (form : TextForm) (bytes : List ℕ) (main : Option (List ℕ)) (made : Made) (text : List ℕ) → IsMade form bytes main made
+    → IsWritten form text (netlist_of made.net) → IsNetText form bytes main text
+net_text forms.Blif bytes main made text m w = own_blif bytes main text m.compiled m.source (netlist_of made.net) m.net w.spelled
+net_text forms.EncodedBlif bytes main made text m w =
+    record { made = m.compiled; compiled = m.source; net = netlist_of made.net; encoded = m.net; text = w.spelled }
+net_text forms.C bytes main made text m w = own_c bytes main text m.compiled m.source (netlist_of made.net) m.net w.spelled
+
+-- ---- the text that is written is what is asked for
+
+pub blif_answers : (bytes : List ℕ) (main : Option (List ℕ)) (text : List ℕ) → IsWrittenOf forms.Blif circuits.IsWritten bytes main text
+    → IsAnswer (Text forms.Blif) main bytes text
+blif_answers bytes main text w =
+    let m = w.is_made in (
+      text_stands bytes main m.compiled text m.source (subst (blif_texts.Means text) m.net w.written.means),
+      own_blif bytes main text m.compiled m.source (netlist_of w.made.net) m.net w.written.spelled,
+    )
+
+pub encoded_answers : (bytes : List ℕ) (main : Option (List ℕ)) (text : List ℕ) → IsWrittenOf forms.EncodedBlif circuits.IsWritten bytes main text
+    → IsAnswer (Text forms.EncodedBlif) main bytes text
+encoded_answers bytes main text w =
+    let m = w.is_made in (
+      encoded_stands bytes main m.compiled (netlist_of w.made.net) text m.source m.net w.written.means,
+      record { made = m.compiled; compiled = m.source; net = netlist_of w.made.net; encoded = m.net; text = w.written.spelled },
+    )
+
+pub c_answers : (bytes : List ℕ) (main : Option (List ℕ)) (text : List ℕ) → IsWrittenOf forms.C programs.IsWritten bytes main text
+    → IsAnswer (Text forms.C) main bytes text
+c_answers bytes main text w =
+    let m = w.is_made in (
+      c_text_stands bytes main m.compiled text m.source (subst (c_texts.Means text) m.net w.written.means),
+      own_c bytes main text m.compiled m.source (netlist_of w.made.net) m.net w.written.spelled,
+    )
+
+-- ---- what is made of a source
+
+pub made_source : (form : TextForm) (bytes : List ℕ) (main : Option (List ℕ)) (made : Made) → length bytes ≤ SOURCE_BYTES → IsMade form bytes main made
+    → IsSource main bytes
+made_source form bytes main made short m =
+    record { program = m.source.program; short = short; source = m.source.source; compiles = m.source.compiled.compiles }
+
+-- the netlist keeps what the program means
+pub made_keeps : (form : TextForm) (bytes : List ℕ) (main : Option (List ℕ)) (made : Made) → (m : IsMade form bytes main made)
+    → NetKeeps (netlist_of made.net) m.source.program
+made_keeps form bytes main made m = net_keeps form m.compiled m.source.program (netlist_of made.net) m.source.compiled m.net
+  where
+    net_keeps : (f : TextForm) (c : Compiled) (p : Program) (net : Netlist) → IsCompiled c p → IsNetIn f c p net → NetKeeps net p
+    net_keeps forms.Blif c p net h own = subst (λ n. NetKeeps n p) (sym own) h.keeps
+    net_keeps forms.EncodedBlif c p net h e = e.keeps
+    net_keeps forms.C c p net h own = subst (λ n. NetKeeps n p) (sym own) h.keeps

@@ -10,7 +10,7 @@ use Rattle.est_base.specs.Writing.{Gains, Appends, Stops}
 use Rattle.est_base.proofs.Gains.{appends-nothing, appends-twice, stops-behind}
 use Rattle.est_base.specs.SinkChanges.{SinkChange}
 use Rattle.cec_core.specs.declared.jobs.Task.{Task}
-use Rattle.cec_core.specs.declared.jobs.Task.TheVariants.{Blif, C, Grc, Check}
+use Rattle.cec_core.specs.declared.jobs.Task.TheVariants.{Text, Grc, Check}
 use Rattle.cec_core.specs.declared.outcome.Outcome.{Outcome}
 use Rattle.cec_core.specs.declared.outcome.Outcome.TheVariants.{Done, Usage, FileFault as Unread, Static, Cyclic, Trace, BadText, Limit, WriteFault, NoMemory}
 use Rattle.cec_core.specs.declared.outcome.Outcome.TheVariants.{NotConstructive}
@@ -105,15 +105,13 @@ pieces_as P Q s (NotConstructive wires) f l = l
 
 pub answer_as : (task : Task) (P Q : List ℕ → Type 0) (s : SinkChange) (outcome : Outcome) → ((text : List ℕ) → P text → Q text) → LeavesAnswer task P s outcome
     → LeavesAnswer task Q s outcome
-answer_as Blif P Q s outcome f l = pieces_as P Q s outcome f l
-answer_as C P Q s outcome f l = pieces_as P Q s outcome f l
+answer_as (Text form) P Q s outcome f l = pieces_as P Q s outcome f l
 answer_as Grc P Q s outcome f l = text_as P Q s outcome f l
 answer_as Check P Q s outcome f l = text_as P Q s outcome f l
 
 -- a write that failed raised the count
 pub answer_rose : (task : Task) (P : List ℕ → Type 0) (s : SinkChange) → LeavesAnswer task P s WriteFault → Rose s.faults_before s.faults_now
-answer_rose Blif P s l = l.2.faults
-answer_rose C P s l = l.2.faults
+answer_rose (Text form) P s l = l.2.faults
 answer_rose Grc P s l = l.2.faults
 answer_rose Check P s l = l.2.faults
 
@@ -140,8 +138,7 @@ unread_text P reading.NoMemory s a = a
 
 pub unread_answer : (task : Task) (P : List ℕ → Type 0) (fault : FileFault) (s : SinkChange) → Appends s.before s.after s.faults_before s.faults_now []
     → LeavesAnswer task P s (unread_outcome First limits.Source fault)
-unread_answer Blif P fault s a = unread_pieces P fault s a
-unread_answer C P fault s a = unread_pieces P fault s a
+unread_answer (Text form) P fault s a = unread_pieces P fault s a
 unread_answer Grc P fault s a = unread_text P fault s a
 unread_answer Check P fault s a = unread_text P fault s a
 

@@ -1,4 +1,4 @@
--- A simplified netlist follows a graph as the netlist does that it is made from.
+-- A netlist follows a graph as the netlist does that it is made from: a simplified one, or one of the same runs.
 use Rattle.std.proofs.Common.{◌≡◌, ℕ, suc, ◌≤◌, Bool, false, List, [], ◌∷◌, length, map, drop, get_or, sym, ap, ◌∙◌, subst, arith}
 use Rattle.std.proofs.lemmas.List.{length-map, length-take}
 use Rattle.est_base.specs.Items.{Item, EachEvent}
@@ -69,11 +69,11 @@ wide_events : (m n : ℕ) → m ≡ n → (items : List Item) → EachEvent (λ 
 wide_events m n e items h = subst (λ k. EachEvent (λ event. length event ≡ k) items) e h
 
 pub runs_stay : (g : Graph) (net new : Netlist) → given_count (program_of g.program) ≤ length (program_of g.program).signals → HasInterfaceOf g net
-    → SameParts net new → SameRuns net new → FollowsRuns g net → FollowsRuns g new
-runs_stay g net new few interface parts same follows = λ items Vs events run.
+    → carried new.gates ≡ carried net.gates → SameRuns net new → FollowsRuns g net → FollowsRuns g new
+runs_stay g net new few interface wires same follows = λ items Vs events run.
     let old = follows items Vs events run in
     let now = same items (wide_events _ _ (sym (input_count g net few interface)) items events) in
     record {
       shows = now.shows ∙ old.shows;
-      carries = carries_all g net new parts.carries (net_values_run net items) (net_values_run new items) Vs now.carries old.carries;
+      carries = carries_all g net new wires (net_values_run net items) (net_values_run new items) Vs now.carries old.carries;
     }

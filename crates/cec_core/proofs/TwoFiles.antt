@@ -13,6 +13,7 @@ use Rattle.est_base.specs.Items.{Item}
 use Rattle.est_base.specs.SinkChanges.{SinkChange, IsUntouched}
 use Rattle.trace_run.specs.Languages.{RunsIn}
 use Rattle.trace_run.specs.Machines.{Answer}
+use Rattle.cec_core.specs.declared.jobs.TextForm.{TextForm}
 use Rattle.cec_core.specs.declared.text_faults.TextFault.{TextFault}
 use Rattle.cec_core.specs.declared.outcome.Outcome.{Outcome}
 use Rattle.cec_core.specs.declared.outcome.Outcome.TheVariants.{Done, Usage, FileFault as Unread, Static, Cyclic, Trace, BadText, Limit, WriteFault, NoMemory}
@@ -98,7 +99,7 @@ leaves_unread P s file limit reading.Failed u = u
 leaves_unread P s file limit reading.TooLong u = u
 leaves_unread P s file limit reading.NoMemory u = inl u
 
-pub run_agrees_unread : (content : Content) (via : Via) (job : Job) (trace : List ℕ) (fault : FileFault) → Reads content job.name SOURCE_BYTES (Err fault)
+pub run_agrees_unread : (content : Content) (via : TextForm) (job : Job) (trace : List ℕ) (fault : FileFault) → Reads content job.name SOURCE_BYTES (Err fault)
     → Agrees (Some (Run via job trace)) content (unread_outcome First limits.Source fault)
 run_agrees_unread content via job trace reading.Failed read = tt
 run_agrees_unread content via job trace reading.TooLong read = long_unread content job.name SOURCE_BYTES read
@@ -130,7 +131,7 @@ exec_trace_unread runnable faulty bytes reading.Failed is = is
 exec_trace_unread runnable faulty bytes reading.TooLong is = is
 exec_trace_unread runnable faulty bytes reading.NoMemory is = tt
 
-pub run_trace_unread : (via : Via) (job : Job) (bytes : List ℕ) (fault : FileFault) → IsSource job.main bytes →
+pub run_trace_unread : (via : TextForm) (job : Job) (bytes : List ℕ) (fault : FileFault) → IsSource job.main bytes →
     RunsOn via job.main (unread_outcome Second limits.Trace fault) bytes
 run_trace_unread via job bytes reading.Failed is = is
 run_trace_unread via job bytes reading.TooLong is = is
@@ -157,7 +158,8 @@ exec_ran runnable faulty bytes (Err (runs.Trace fault)) is = is
 exec_ran runnable faulty bytes (Err runs.Write) is = is
 exec_ran runnable faulty bytes (Err runs.NoMemory) is = tt
 
-pub run_ran : (via : Via) (job : Job) (bytes : List ℕ) (r : Result (Unit {0}) RunFault) → IsSource job.main bytes → RunsOn via job.main (run_outcome r) bytes
+pub run_ran : (via : TextForm) (job : Job) (bytes : List ℕ) (r : Result (Unit {0}) RunFault) → IsSource job.main bytes
+    → RunsOn via job.main (run_outcome r) bytes
 run_ran via job bytes (Ok done) is = is
 run_ran via job bytes (Err (runs.Trace fault)) is = is
 run_ran via job bytes (Err runs.Write) is = is
@@ -186,7 +188,7 @@ run_left content trace main bytes s r items held runs =
 
 -- ---- the first file is refused
 
-pub refused_runs : (via : Via) (job : Job) (refusal : refused.Refusal) (source : List ℕ) → length source ≤ SOURCE_BYTES → IsRefused source job.main refusal
+pub refused_runs : (via : TextForm) (job : Job) (refusal : refused.Refusal) (source : List ℕ) → length source ≤ SOURCE_BYTES → IsRefused source job.main refusal
     → RunsOn via job.main (outcome_of refusal) source
 refused_runs via job (refusals.Static fault) source short r = record { short = short; refused = r }
 refused_runs via job (refusals.Cyclic cycle) source short r = record { short = short; refused = r }

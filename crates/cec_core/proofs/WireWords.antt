@@ -31,13 +31,12 @@ use Rattle.grc_graph.specs.WireOrders.{times}
 use Rattle.grc_solutions.proofs.Numbers.{stands_at}
 use Rattle.grc_solutions.proofs.OneRun.{graph_runs_exist_lem}
 use Rattle.grc_graph.specs.Selected.{HasExitCodes}
-use Rattle.grc_graph.specs.SelectionTrees.{body_leaves}
 use Rattle.net_gen.specs.Generated.{HasInterfaceOf, Carries, EachInstant, FollowsRuns}
 use Rattle.net_ir.specs.declared.netlist.Gate.{Gate}
 use Rattle.net_ir.specs.Gates.{carried, value_in}
 use Rattle.net_ir.specs.Netlists.{Netlist, first_gate, net_count, wire_at}
 use Rattle.cec_core.specs.Cycles.{IsAcyclic}
-use Rattle.cec_core.specs.WireNames.{wire_word, wire_variable, TellsWires, WiresTold, NamesWires}
+use Rattle.cec_core.specs.WireNames.{wire_word, wire_variable, TellsWires, WiresTold, NamesWires, one_per_leaf}
 use Rattle.cec_core.proofs.Keeping.{widths}
 
 -- ---- the gate of a wire
@@ -156,7 +155,7 @@ module _ (g : Graph) (p : Program) (net : Netlist) (is : IsGraphOf g p)
   told-calls (m ∷ ms) (v ∷ vs) (V ∷ Vs) e h =
       (told-call m v V (ap (λ l. get_or l 0 []) e) h.0, told-calls ms vs Vs (ap (drop 1) e) h.1)
 
-  latch_count : HasInterfaceOf g net → length net.latches ≡ length (body_leaves p.body) + 1
+  latch_count : HasInterfaceOf g net → length net.latches ≡ one_per_leaf p
   latch_count interface = omega (
     arith,
     sym (length-map net.latches (λ l. l.init))
@@ -165,11 +164,15 @@ module _ (g : Graph) (p : Program) (net : Netlist) (is : IsGraphOf g p)
     next_each g p is,
   )
 
-  pub holds_wires : HasExitCodes p.body → IsAcyclic p → HasInterfaceOf g net → FollowsRuns g net → (text : List ℕ) → (means : meant.Means text net) →
-      given_count p ≡ length net.inputs → NamesWires (program_machine means.program) (length means.program.states) wire_variable p
-  holds_wires kernel acyclic interface follows text means wide = record {
-    stored =
-        ap length means.states ∙ length-numbered net_state 0 net.latches ∙ latch_count interface;
+  pub states_stored : HasInterfaceOf g net → (text : List ℕ) → (means : meant.Means text net) → length means.program.states ≡ one_per_leaf p
+  states_stored interface text means = ap length means.states ∙ length-numbered net_state 0 net.latches ∙ latch_count interface
+
+  pub latches_stored : HasInterfaceOf g net → (text : List ℕ) → (means : Means text net) → length means.circuit.latches ≡ one_per_leaf p
+  latches_stored interface text means = ap length means.latches ∙ length-numbered (net_latch net) 0 net.latches ∙ latch_count interface
+
+  pub holds_wires : HasExitCodes p.body → IsAcyclic p → FollowsRuns g net → (text : List ℕ) → (means : meant.Means text net) →
+      given_count p ≡ length net.inputs → NamesWires (program_machine means.program) wire_variable p
+  holds_wires kernel acyclic follows text means wide = record {
     wires = λ items fits ms called.
         let c = means.program in
         let events = widths p (given_count p) refl items fits in
@@ -187,12 +190,9 @@ module _ (g : Graph) (p : Program) (net : Netlist) (is : IsGraphOf g p)
         });
   }
 
-  pub names_wires : HasExitCodes p.body → IsAcyclic p → HasInterfaceOf g net → FollowsRuns g net → (text : List ℕ) → (means : Means text net) →
-      net.inputs ≡ given_names p
-      → given_count p ≡ length net.inputs → NamesWires (circuit_machine means.circuit) (length means.circuit.latches) wire_word p
-  names_wires kernel acyclic interface follows text means inputs wide = record {
-    stored =
-        ap length means.latches ∙ length-numbered (net_latch net) 0 net.latches ∙ latch_count interface;
+  pub names_wires : HasExitCodes p.body → IsAcyclic p → FollowsRuns g net → (text : List ℕ) → (means : Means text net) → net.inputs ≡ given_names p
+      → given_count p ≡ length net.inputs → NamesWires (circuit_machine means.circuit) wire_word p
+  names_wires kernel acyclic follows text means inputs wide = record {
     wires = λ items fits valuations is_run.
         let events = widths p (given_count p) refl items fits in
         let one = graph_runs_exist_lem p acyclic.rank kernel acyclic.up Initial items in

@@ -11,6 +11,7 @@ use Rattle.trace_run.specs.Running.{IsFront}
 use Rattle.csub_run.specs.ProgramAnswers.{bare_inputs}
 use Rattle.cec_words.specs.declared.asked.Via.{Via}
 use Rattle.cec_words.specs.declared.asked.Via.TheVariants.{Blif, C}
+use Rattle.cec_core.specs.declared.jobs.TextForm.{TextForm}
 use Rattle.cec_core.specs.ExecTexts.{IsRunnable}
 use Rattle.cec_core.specs.Jobs.{Request, Help, Make, Run, RunTri, Exec, Generate, Load}
 use Rattle.cec_core.specs.Sources.{IsSource, WritesLongText}
@@ -23,7 +24,7 @@ pub record IsWholeTrace (trace : List ℕ) (inputs : List (List ℕ)) (relations
   pub whole : IsTrace (beginning trace inputs relations) items None
 
 -- The source compiles, no text of this form that is written of it is too long to be read, and the trace is one of it.
-pub record RunsToEnd (via : Via) (main : Option (List ℕ)) (bytes trace : List ℕ) : Type 0 where
+pub record RunsToEnd (via : TextForm) (main : Option (List ℕ)) (bytes trace : List ℕ) : Type 0 where
   pub source : IsSource main bytes
   pub readable : WritesLongText via main bytes → ⊥
   pub whole : IsWholeTrace trace (given_names source.program) source.program.relations

@@ -9,9 +9,11 @@ use Rattle.grc_graph.specs.SelectionTrees.{body_leaves}
 use Rattle.grc_list.specs.Listings.{program_listing}
 use Rattle.cec_front.specs.Sources.{StandsFor}
 use Rattle.cec_core.specs.Compiling.{StandsForText, StandsForC, IsBlifOf, IsCOf}
+use Rattle.cec_core.specs.EncodedTexts.{StandsForEncoded, IsEncodedBlifOf}
 use Rattle.cec_core.specs.Refusals.{Compiles}
+use Rattle.cec_core.specs.declared.jobs.TextForm.TheVariants as forms
 use Rattle.cec_core.specs.declared.jobs.Task.{Task}
-use Rattle.cec_core.specs.declared.jobs.Task.TheVariants.{Blif, C, Grc, Check}
+use Rattle.cec_core.specs.declared.jobs.Task.TheVariants.{Text, Grc, Check}
 
 -- The name of a program, and how many nodes its kernel body, leaves its selection tree, live instances and wires its
 -- graph has.
@@ -37,7 +39,9 @@ pub record StandsForCounts (bytes : List ℕ) (main : Option (List ℕ)) (text :
 -- What a task writes of the source in these bytes, by the main module's name where there is one. A text is that of a
 -- compiled program's netlist too.
 abbrev pub IsAnswer : Task → Option (List ℕ) → List ℕ → List ℕ → Type 0
-IsAnswer Blif main source text = StandsForText source main text × IsBlifOf source main text
-IsAnswer C main source text = StandsForC source main text × IsCOf source main text
+IsAnswer (Text forms.Blif) main source text = StandsForText source main text × IsBlifOf source main text
+IsAnswer (Text forms.EncodedBlif) main source text =
+    StandsForEncoded source main text × IsEncodedBlifOf source main text
+IsAnswer (Text forms.C) main source text = StandsForC source main text × IsCOf source main text
 IsAnswer Grc main source text = StandsForListing source main text
 IsAnswer Check main source text = StandsForCounts source main text

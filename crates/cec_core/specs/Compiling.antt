@@ -17,14 +17,13 @@ use Rattle.net_gen.specs.Costs.{gates_at_most, linear_bound}
 use Rattle.grc_words.specs.Sizes.{rows_at_most}
 use Rattle.net_gen.specs.Generated.{HasInterfaceOf, FollowsInstants, FollowsRuns}
 use Rattle.net_ir.specs.Gates.{carried}
-use Rattle.net_ir.specs.Netlists.{Netlist}
 use Rattle.net_ir.specs.Runs.{netlist_of}
 use Rattle.net_simp.specs.SimpleNets.{IsSimple}
 use Rattle.blif_text.specs.Written as blif_texts
 use Rattle.csub_text.specs.Written as c_texts
 use Rattle.cec_front.specs.Sources.{StandsFor}
 use Rattle.cec_core.specs.Meaning.{TextKeeps, CTextKeeps}
-use Rattle.cec_core.specs.WireNames.{TextNames, CTextNames}
+use Rattle.cec_core.specs.WireNames.{one_per_leaf, TextNames, CTextNames}
 use Rattle.cec_core.specs.NetMeaning.{NetKeeps}
 use Rattle.cec_core.specs.Refusals.{Compiles}
 use Rattle.cec_core.specs.declared.compiler.Compiled.{Compiled}
@@ -53,9 +52,11 @@ pub record FollowsEdges (c : Compiled) (p : Program) : Type 0 where
 -- them for each wire, in that order, keeps what the program means, and has nothing left to simplify.
 pub record IsCompiled (c : Compiled) (p : Program) : Type 0 where
   pub formed : IsWellFormed p
+  pub no_loop : NoInstantLoop p.body
   pub compiles : Compiles p
   pub graph : IsGraphOf c.graph p
   pub tree : map node_of c.tree.nodes.items ≡ body_tree p.body
+  pub leaves : c.tree.leaves ≡ length (body_leaves p.body)
   pub order : IsReadingOrder (names_of c.graph)
       (map (formula_of (instances_of c.graph) (names_of c.graph)) c.graph.equations.items) c.order.list.items
   pub along : FollowsEdges c p
@@ -85,21 +86,14 @@ pub record StandsForText (text : List ℕ) (main : Option (List ℕ)) (written :
   pub source : StandsFor text main program
   pub compiles : Compiles program
   pub keeps : TextKeeps written program
-  pub names : TextNames written program
+  pub names : TextNames (one_per_leaf program) written program
 
 pub record StandsForC (text : List ℕ) (main : Option (List ℕ)) (written : List ℕ) : Type 0 where
   pub program : Program
   pub source : StandsFor text main program
   pub compiles : Compiles program
   pub keeps : CTextKeeps written program
-  pub names : CTextNames written program
-
--- A text that is written so of a compiled program's netlist, from these bytes.
-pub record IsWrittenOf (writes : List ℕ → Netlist → Type 0) (bytes : List ℕ) (main : Option (List ℕ))
-    (text : List ℕ) : Type 0 where
-  pub made : Compiled
-  pub compiled : StandsForNet bytes main made
-  pub written : writes text (netlist_of made.net)
+  pub names : CTextNames (one_per_leaf program) written program
 
 -- The text is that of a compiled program's netlist, from the same bytes: it has a table for each gate, in the order of
 -- the gates, and a gate that carries a wire is named by it.

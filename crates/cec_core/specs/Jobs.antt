@@ -1,14 +1,17 @@
 -- To believe: what the words of a command line ask for.
-use Rattle.std.specs.Prelude.{ℕ, List, [], drop, slice_index_or, Option, Some, None, option_map}
+use Rattle.std.specs.Prelude.{ℕ, Bool, if◌then◌else◌, List, [], drop, slice_index_or, Option, Some, None, option_map}
 use Rattle.cec_words.specs.declared.asked.Asked.{Asked}
 use Rattle.cec_words.specs.declared.asked.Asked.TheVariants as asks
 use Rattle.cec_words.specs.declared.asked.Pick.{Pick}
 use Rattle.cec_words.specs.declared.asked.Source.{Source}
 use Rattle.cec_words.specs.declared.asked.Value.{Value}
 use Rattle.cec_words.specs.declared.asked.Via.{Via}
+use Rattle.cec_words.specs.declared.asked.Via.TheVariants as vias
 use Rattle.cec_words.specs.Readings.{asked_by}
+use Rattle.cec_core.specs.declared.jobs.TextForm.{TextForm}
+use Rattle.cec_core.specs.declared.jobs.TextForm.TheVariants as forms
 use Rattle.cec_core.specs.declared.jobs.Task.{Task}
-use Rattle.cec_core.specs.declared.jobs.Task.TheVariants.{Blif, C, Grc, Check}
+use Rattle.cec_core.specs.declared.jobs.Task.TheVariants.{Text, Grc, Check}
 
 -- a job on a source: the file with the source, the main module's name, and how the evaluation order is chosen
 pub record Job : Type 0 where
@@ -23,10 +26,10 @@ pub data Request : Type 0 where
   -- what a task makes of a source
   Make : (task : Task) (job : Job) → Request
   -- a source by the text of this form that is made of it, run over the trace in this file
-  Run : (via : Via) (job : Job) (trace : List ℕ) → Request
+  Run : (via : TextForm) (job : Job) (trace : List ℕ) → Request
   -- a source by three-valued reactions of its graph, over the trace in this file
   RunTri : (job : Job) (trace : List ℕ) → Request
-  -- the text of this form in the one file, run over the trace in the other
+  -- the text of this language in the one file, run over the trace in the other
   Exec : (via : Via) (text trace : List ℕ) → Request
   -- a generated source, by its start number and its number of branches
   Generate : (start branches : ℕ) → Request
@@ -45,13 +48,18 @@ abbrev pub source_job : List (List ℕ) → Source → Job
 source_job words s =
     record { name = word_at words s.file; main = option_map (value_in words) s.main; pick = s.pick }
 
+-- the form of a source's text, by its language, and by whether its latches are to hold the state in a code
+abbrev pub form_by : Via → Bool → TextForm
+form_by vias.Blif encode = if encode then forms.EncodedBlif else forms.Blif
+form_by vias.C encode = forms.C
+
 abbrev pub request_asked : List (List ℕ) → Asked → Request
 request_asked words asks.Help = Help
-request_asked words (asks.Blif s) = Make Blif (source_job words s)
-request_asked words (asks.C s) = Make C (source_job words s)
+request_asked words (asks.Blif s) = Make (Text (form_by vias.Blif s.encode)) (source_job words s)
+request_asked words (asks.C s) = Make (Text forms.C) (source_job words s)
 request_asked words (asks.Grc s) = Make Grc (source_job words s)
 request_asked words (asks.Check s) = Make Check (source_job words s)
-request_asked words (asks.Run via s trace) = Run via (source_job words s) (word_at words trace)
+request_asked words (asks.Run via s trace) = Run (form_by via s.encode) (source_job words s) (word_at words trace)
 request_asked words (asks.RunTri s trace) = RunTri (source_job words s) (word_at words trace)
 request_asked words (asks.Exec via text trace) = Exec via (word_at words text) (word_at words trace)
 request_asked words (asks.Gen start branches None) = Generate start branches

@@ -8,6 +8,8 @@ pub mod Cycles
 pub mod Refusals
 pub mod Graphs
 pub mod Compiling
+pub mod EncodedTexts
+pub mod MadeNets
 pub mod Statuses
 pub mod Jobs
 pub mod JobViews

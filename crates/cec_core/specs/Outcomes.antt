@@ -7,8 +7,9 @@ use Rattle.est_gen.specs.Sources.{source_text}
 use Rattle.cec_words.specs.declared.asked.Via.{Via}
 use Rattle.grc_graph.specs.PlainWireNames.{wire_name_of}
 use Rattle.est_base.specs.SinkChanges.{SinkChange}
+use Rattle.cec_core.specs.declared.jobs.TextForm.{TextForm}
 use Rattle.cec_core.specs.declared.jobs.Task.{Task}
-use Rattle.cec_core.specs.declared.jobs.Task.TheVariants.{Blif, C, Grc, Check}
+use Rattle.cec_core.specs.declared.jobs.Task.TheVariants.{Text, Grc, Check}
 use Rattle.cec_core.specs.declared.outcome.Outcome.{Outcome}
 use Rattle.cec_core.specs.declared.outcome.Outcome.TheVariants.{Done, Usage, FileFault, Static, Cyclic, Trace, BadText}
 use Rattle.cec_core.specs.declared.outcome.Outcome.TheVariants.{Limit, WriteFault, NoMemory}
@@ -41,7 +42,7 @@ MakesOn main NoMemory bytes = ⊤
 MakesOn main others bytes = ⊥
 
 -- the same for a source that is run over a trace: what comes of the trace says that the source compiles
-abbrev pub RunsOn : Via → Option (List ℕ) → Outcome → List ℕ → Type 0
+abbrev pub RunsOn : TextForm → Option (List ℕ) → Outcome → List ℕ → Type 0
 RunsOn via main (FileFault Second) bytes = IsSource main bytes
 RunsOn via main (Trace fault) bytes = IsSource main bytes
 RunsOn via main (Limit limits.Trace) bytes = IsSource main bytes
@@ -135,8 +136,7 @@ LeavesPieces IsText s others = LeavesText IsText s others
 
 -- netlists are written piece by piece, what is told of a graph as a whole
 abbrev pub LeavesAnswer : Task → (List ℕ → Type 0) → SinkChange → Outcome → Type 0
-LeavesAnswer Blif IsText s outcome = LeavesPieces IsText s outcome
-LeavesAnswer C IsText s outcome = LeavesPieces IsText s outcome
+LeavesAnswer (Text form) IsText s outcome = LeavesPieces IsText s outcome
 LeavesAnswer Grc IsText s outcome = LeavesText IsText s outcome
 LeavesAnswer Check IsText s outcome = LeavesText IsText s outcome
 

@@ -3,10 +3,11 @@ use Rattle.std.specs.Prelude.{ℕ, ◌<◌, ◌≤◌, List, length, Option}
 use Rattle.est_base.specs.declared.bounds.TheConstants.Limits.{SOURCE_BYTES, TEXT_BYTES}
 use Rattle.est_kernel.specs.Plain.{Program}
 use Rattle.cec_front.specs.Sources.{StandsFor}
-use Rattle.cec_words.specs.declared.asked.Via.{Via}
-use Rattle.cec_words.specs.declared.asked.Via.TheVariants as vias
+use Rattle.cec_core.specs.declared.jobs.TextForm.{TextForm}
+use Rattle.cec_core.specs.declared.jobs.TextForm.TheVariants as forms
 use Rattle.cec_core.specs.declared.refusal.Refusal as refused
 use Rattle.cec_core.specs.Compiling.{IsBlifOf, IsCOf}
+use Rattle.cec_core.specs.EncodedTexts.{IsEncodedBlifOf}
 use Rattle.cec_core.specs.Refusals.{Compiles, IsRefused}
 
 -- The bytes stand for a program that compiles.
@@ -22,12 +23,13 @@ pub record IsRefusedSource (main : Option (List ℕ)) (refusal : refused.Refusal
   pub refused : IsRefused bytes main refusal
 
 -- the text of this form that is written of a source
-abbrev pub IsNetText : Via → List ℕ → Option (List ℕ) → List ℕ → Type 0
-IsNetText vias.Blif bytes main text = IsBlifOf bytes main text
-IsNetText vias.C bytes main text = IsCOf bytes main text
+abbrev pub IsNetText : TextForm → List ℕ → Option (List ℕ) → List ℕ → Type 0
+IsNetText forms.Blif bytes main text = IsBlifOf bytes main text
+IsNetText forms.EncodedBlif bytes main text = IsEncodedBlifOf bytes main text
+IsNetText forms.C bytes main text = IsCOf bytes main text
 
 -- such a text is too long to be read
-pub record WritesLongText (via : Via) (main : Option (List ℕ)) (bytes : List ℕ) : Type 0 where
+pub record WritesLongText (via : TextForm) (main : Option (List ℕ)) (bytes : List ℕ) : Type 0 where
   pub short : length bytes ≤ SOURCE_BYTES
   pub text : List ℕ
   pub written : IsNetText via bytes main text

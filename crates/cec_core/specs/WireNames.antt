@@ -1,4 +1,4 @@
--- To believe: what it means that a text names the wires of a program's graph, and stores a value for each pause.
+-- To believe: what it means that a text names the wires of a program's graph, and stores so many values.
 use Rattle.std.specs.Prelude.{◌≡◌, ℕ, Bool, List, ◌++◌, length, Ok, codes, decimal, ◌+◌, ◌<◌}
 use Rattle.std.specs.List.{AllZip}
 use Rattle.est_base.specs.Items.{Item}
@@ -35,21 +35,25 @@ pub record WiresTold (name : ℕ → List ℕ) (p : Program) (items : List Item)
   pub is_run : IsGraphRun (graph_of p) Initial items run
   pub told : AllZip (TellsWires name p) valuations run
 
--- A machine has as many latches or states as the selection tree has leaves, and one more, for the first instant; and
--- along each of its runs the names tell the wires of the program's graph.
-pub record NamesWires (M : Machine (List ℕ → Bool)) (count : ℕ) (name : ℕ → List ℕ) (p : Program) : Type 0 where
-  pub stored : count ≡ length (body_leaves p.body) + 1
+-- Along each run of a machine the names tell the wires of the program's graph.
+pub record NamesWires (M : Machine (List ℕ → Bool)) (name : ℕ → List ℕ) (p : Program) : Type 0 where
   pub wires : (items : List Item) → AreItems p items → (valuations : List (List ℕ → Bool)) → IsRun M items valuations
       → WiresTold name p items valuations
 
--- of a BLIF text
-pub record TextNames (text : List ℕ) (p : Program) : Type 0 where
+-- as many values as the selection tree has leaves, and one more, for the first instant
+abbrev pub one_per_leaf : Program → ℕ
+one_per_leaf p = length (body_leaves p.body) + 1
+
+-- of a BLIF text, which has so many latches
+pub record TextNames (latches : ℕ) (text : List ℕ) (p : Program) : Type 0 where
   pub circuit : Circuit
   pub reads : reading text ≡ Ok circuit
-  pub wires : NamesWires (circuit_machine circuit) (length circuit.latches) wire_word p
+  pub stored : length circuit.latches ≡ latches
+  pub wires : NamesWires (circuit_machine circuit) wire_word p
 
--- of a C text
-pub record CTextNames (text : List ℕ) (p : Program) : Type 0 where
+-- of a C text, which has so many states
+pub record CTextNames (states : ℕ) (text : List ℕ) (p : Program) : Type 0 where
   pub program : CProgram
   pub describes : Describes text program
-  pub wires : NamesWires (program_machine program) (length program.states) wire_variable p
+  pub stored : length program.states ≡ states
+  pub wires : NamesWires (program_machine program) wire_variable p

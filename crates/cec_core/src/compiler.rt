@@ -7,10 +7,12 @@ ghost use Rattle.est_kernel.specs.StaticCodes.{NoInstantLoop};
 ghost use Rattle.est_kernel.specs.WellFormed.{IsWellFormed, HasNames};
 ghost use Rattle.cec_core.specs.Compiling.{IsGraphed, IsCompiled, StandsForGraph, StandsForNet, StandsForText};
 ghost use Rattle.cec_core.specs.Compiling.{StandsForC, IsBlifOf, IsCOf};
+ghost use Rattle.cec_core.specs.EncodedTexts.{StandsForEncoded, IsEncodedBlifOf};
 ghost use Rattle.cec_core.specs.Refusals.{DoesNotCompile, IsRefused};
 
 use crate::cycles::cycle_of;
 use crate::graphs::{Built, built_graph};
+use crate::jobs::TextForm;
 use crate::refusal::Refusal;
 use crate::targets::text_of;
 use blif_run::BlifTexts;
@@ -67,7 +69,31 @@ pub fn blif_of<P: Picker>(
     ensures made { IfOk result (λ written. IsBlifOf text.now (option_map (λ m. m.now) main.entry) written.items) }
     ensures refuses { IfErr result (IsRefused text.now (option_map (λ m. m.now) main.entry)) }
 {
-    match text_of::<BlifTexts, P>(alloc, text, main, picker) {
+    match text_of::<BlifTexts, P>(alloc, TextForm::Blif, text, main, picker) {
+        Ok(written) => Ok(written),
+        Err(refusal) => Err(refusal),
+    }
+}
+
+/// The BLIF text of a source, likewise, whose latches hold the state in a code: pauses of which one alone can be
+/// selected share latches. There are just as many as the selection tree needs (`encoded_count`), and never more than in
+/// the text of `blif_of`. What is promised of that text holds of this one, but for its number of latches, and for its
+/// tables: beside those of the compiled program's netlist it may have 64 for each pair of a node of the selection tree
+/// and a latch (`IsEncoded`). It refuses what `blif_of` refuses.
+pub fn encoded_blif_of<P: Picker>(
+    alloc: Global,
+    text: &[u8],
+    main: Option<&[u8]>,
+    picker: &mut P,
+) -> Result<Vec<u8>, Refusal>
+    requires { length text.now ≤ Limits.SOURCE_BYTES }
+    ensures compiles { IfOk result (λ written. StandsForEncoded text.now
+        (option_map (λ m. m.now) main.entry) written.items) }
+    ensures made { IfOk result (λ written. IsEncodedBlifOf text.now
+        (option_map (λ m. m.now) main.entry) written.items) }
+    ensures refuses { IfErr result (IsRefused text.now (option_map (λ m. m.now) main.entry)) }
+{
+    match text_of::<BlifTexts, P>(alloc, TextForm::EncodedBlif, text, main, picker) {
         Ok(written) => Ok(written),
         Err(refusal) => Err(refusal),
     }
@@ -88,7 +114,7 @@ pub fn c_of<P: Picker>(
     ensures made { IfOk result (λ written. IsCOf text.now (option_map (λ m. m.now) main.entry) written.items) }
     ensures refuses { IfErr result (IsRefused text.now (option_map (λ m. m.now) main.entry)) }
 {
-    match text_of::<CTexts, P>(alloc, text, main, picker) {
+    match text_of::<CTexts, P>(alloc, TextForm::C, text, main, picker) {
         Ok(written) => Ok(written),
         Err(refusal) => Err(refusal),
     }

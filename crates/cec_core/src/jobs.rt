@@ -2,18 +2,27 @@
 
 ghost use Rattle.std.specs.Prelude.{◌≡◌, drop, map, option_map, []};
 ghost use Rattle.std.specs.String.{string_bytes};
-ghost use Rattle.cec_core.specs.Jobs.{source_job, request_asked, request_by, value_in, word_at};
+ghost use Rattle.cec_core.specs.Jobs.{form_by, source_job, request_asked, request_by, value_in, word_at};
 ghost use Rattle.cec_core.specs.JobViews.{plain_job, plain_request};
 
 use cec_words::{Asked, Pick, Source, Value, Via, read_words};
 
+/// A form of the texts that are made of sources.
+#[derive(Clone, Copy, Debug, PartialEq, Eq)]
+pub(crate) enum TextForm {
+    /// BLIF, with a latch for each pause.
+    Blif,
+    /// BLIF whose latches hold the state in a code.
+    EncodedBlif,
+    /// The C subset.
+    C,
+}
+
 /// What is made of a source.
 #[derive(Clone, Copy, Debug, PartialEq, Eq)]
 pub(crate) enum Task {
-    /// Its BLIF text.
-    Blif,
-    /// Its C text.
-    C,
+    /// Its text of this form.
+    Text(TextForm),
     /// The listing of its graph.
     Grc,
     /// A line of counts.
@@ -36,10 +45,10 @@ pub(crate) enum Request<'a> {
     /// What a task makes of a source.
     Make(Task, Job<'a>),
     /// A source by the text of this form that is made of it, run over the trace in this file.
-    Run(Via, Job<'a>, &'a str),
+    Run(TextForm, Job<'a>, &'a str),
     /// A source by three-valued reactions of its graph, over the trace in this file.
     RunTri(Job<'a>, &'a str),
-    /// The text of this form in the one file, run over the trace in the other.
+    /// The text of this language in the one file, run over the trace in the other.
     Exec(Via, &'a str, &'a str),
     /// A generated source, by its start number and its number of branches.
     Generate(u64, u32),
@@ -63,12 +72,16 @@ fn request_asked(words: &[String], asked: Asked) -> Request<'_>
 {
     match asked {
         Asked::Help => Request::Help,
-        Asked::Blif(source) => Request::Make(Task::Blif, source_job(words, source)),
-        Asked::C(source) => Request::Make(Task::C, source_job(words, source)),
+        Asked::Blif(source) => {
+            let form = form_by(Via::Blif, source.encode);
+            Request::Make(Task::Text(form), source_job(words, source))
+        }
+        Asked::C(source) => Request::Make(Task::Text(TextForm::C), source_job(words, source)),
         Asked::Grc(source) => Request::Make(Task::Grc, source_job(words, source)),
         Asked::Check(source) => Request::Make(Task::Check, source_job(words, source)),
         Asked::Run(via, source, trace) => {
-            Request::Run(via, source_job(words, source), word_at(words, trace))
+            let form = form_by(via, source.encode);
+            Request::Run(form, source_job(words, source), word_at(words, trace))
         }
         Asked::RunTri(source, trace) => {
             Request::RunTri(source_job(words, source), word_at(words, trace))
@@ -78,6 +91,17 @@ fn request_asked(words: &[String], asked: Asked) -> Request<'_>
         }
         Asked::Gen(start, branches, None) => Request::Generate(start, branches),
         Asked::Gen(start, branches, Some(instants)) => Request::Load(start, branches, instants),
+    }
+}
+
+// The form of a source's text, by its language, and by whether its latches are to hold the state in a code.
+fn form_by(via: Via, encode: bool) -> TextForm
+    ensures { result ≡ form_by via encode }
+{
+    match via {
+        Via::Blif if encode => TextForm::EncodedBlif,
+        Via::Blif => TextForm::Blif,
+        Via::C => TextForm::C,
     }
 }
 

@@ -17,6 +17,7 @@ mod graphs;
 mod jobs;
 mod laws;
 mod lines;
+mod made;
 mod outcome;
 mod reactions;
 mod refusal;
@@ -28,7 +29,7 @@ mod wire_texts;
 mod writing;
 
 pub use command::cec;
-pub use compiler::{Compiled, Graphed, blif_of, c_of, compile, source_graph};
+pub use compiler::{Compiled, Graphed, blif_of, c_of, compile, encoded_blif_of, source_graph};
 pub use cycles::Cycle;
 pub use graphs::{Built, graph_of};
 pub use laws::{

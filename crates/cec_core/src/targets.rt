@@ -2,12 +2,13 @@
 
 ghost use Rattle.std.specs.Prelude.{◌≡◌, ◌≤◌, length, IfOk, IfErr, option_map};
 ghost use Rattle.est_base.specs.SinkChanges.{change};
-ghost use Rattle.cec_core.specs.Compiling.{IsWrittenOf};
+ghost use Rattle.cec_core.specs.MadeNets.{IsWrittenOf};
 ghost use Rattle.cec_core.specs.Outcomes.{LeavesPieces, MakesOn};
 ghost use Rattle.cec_core.specs.Refusals.{IsRefused};
 
 use crate::collected::Collected;
-use crate::compiler::compile;
+use crate::jobs::TextForm;
+use crate::made::source_made;
 use crate::outcome::Outcome;
 use crate::refusal::Refusal;
 use crate::writing::write_in_pieces;
@@ -61,9 +62,10 @@ impl Target for CTexts {
     }
 }
 
-/// Compiles a source and writes its text in a language to `out`, piece by piece, and says how that ended.
+/// Compiles a source and writes its text of a form, in a language, to `out`, piece by piece, and says how that ended.
 pub(crate) fn text_into<T: Target, P: Picker, O: Sink>(
     alloc: Global,
+    form: TextForm,
     source: &[u8],
     main: Option<&[u8]>,
     picker: &mut P,
@@ -71,29 +73,30 @@ pub(crate) fn text_into<T: Target, P: Picker, O: Sink>(
 ) -> Outcome
     requires { length source.now ≤ Limits.SOURCE_BYTES }
     ensures agrees { MakesOn (option_map (λ m. m.now) main.entry) result source.now }
-    ensures out { LeavesPieces (IsWrittenOf T.writes source.now (option_map (λ m. m.now) main.entry))
+    ensures out { LeavesPieces (IsWrittenOf form T.writes source.now (option_map (λ m. m.now) main.entry))
         (change O.told O.faults out.old out.new) result }
 {
-    match compile(alloc, source, main, picker) {
-        Ok(compiled) => T::put(alloc, &compiled.net, out),
+    match source_made(alloc, form, source, main, picker) {
+        Ok(made) => T::put(alloc, &made.net, out),
         Err(refusal) => Outcome::from(refusal),
     }
 }
 
-/// The text of a source in a language: what `text_into` writes, collected.
+/// The text of a source of a form, in a language: what `text_into` writes, collected.
 pub(crate) fn text_of<T: Target, P: Picker>(
     alloc: Global,
+    form: TextForm,
     source: &[u8],
     main: Option<&[u8]>,
     picker: &mut P,
 ) -> Result<Vec<u8>, Refusal>
     requires { length source.now ≤ Limits.SOURCE_BYTES }
     ensures written { IfOk result (λ text.
-        IsWrittenOf T.writes source.now (option_map (λ m. m.now) main.entry) text.items) }
+        IsWrittenOf form T.writes source.now (option_map (λ m. m.now) main.entry) text.items) }
     ensures refuses { IfErr result (IsRefused source.now (option_map (λ m. m.now) main.entry)) }
 {
     let mut text = Collected::new(alloc);
-    match text_into::<T, P, Collected>(alloc, source, main, picker, &mut text) {
+    match text_into::<T, P, Collected>(alloc, form, source, main, picker, &mut text) {
         Outcome::Done => Ok(text.into_bytes()),
         Outcome::Static(fault) => Err(Refusal::Static(fault)),
         Outcome::Cyclic(cycle) => Err(Refusal::Cyclic(cycle)),

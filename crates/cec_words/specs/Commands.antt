@@ -35,11 +35,11 @@ command_of word =
 
 -- the options of a command
 abbrev pub options : Command → List Setting
-options commands.Blif = settings.Main ∷ settings.Pick ∷ []
+options commands.Blif = settings.Main ∷ settings.Pick ∷ settings.Encode ∷ []
 options commands.C = settings.Main ∷ settings.Pick ∷ []
 options commands.Grc = settings.Main ∷ []
 options commands.Check = settings.Main ∷ []
-options commands.Run = settings.Via ∷ settings.Main ∷ settings.Pick ∷ []
+options commands.Run = settings.Via ∷ settings.Main ∷ settings.Pick ∷ settings.Encode ∷ []
 options commands.Exec = settings.Via ∷ []
 options commands.Gen = settings.Start ∷ settings.Branches ∷ settings.Run ∷ []
 
@@ -50,6 +50,7 @@ option_name settings.Pick = codes "--pick"
 option_name settings.Start = codes "--start"
 option_name settings.Branches = codes "--branches"
 option_name settings.Run = codes "--run"
+option_name settings.Encode = codes "--encode"
 
 -- a file, or a value in a word of its own: not empty, and its first byte is not `-`
 abbrev pub is_plain : List ℕ → Bool
@@ -94,7 +95,7 @@ abbrev pub number_within : ℕ → ℕ → List ℕ → Option ℕ
 number_within least most value =
     option_and_then (λ n. if nat_le least n && nat_le n most then Some n else None) (number value)
 
--- the part that an option with its value makes: the value's place, and its bytes
+-- the part that an option with its value makes: the value's place, and its bytes; one option takes no value
 abbrev pub part_of : Setting → Value → List ℕ → Option Part
 part_of settings.Main place value = Some (parts.Main place)
 part_of settings.Via place value = option_map parts.Via (way_of value)
@@ -102,9 +103,11 @@ part_of settings.Pick place value = option_map parts.Pick (pick_of value)
 part_of settings.Start place value = option_map parts.Start (number value)
 part_of settings.Branches place value = option_map parts.Branches (number_within 1 BRANCHES value)
 part_of settings.Run place value = option_map parts.Run (number_within 0 LOAD_INSTANTS value)
+part_of settings.Encode place value = None
 
--- what a word does that spells an option
+-- what a word does that spells an option: but for the one that takes no value, its name alone waits for one
 abbrev pub spelled_step : ℕ → List ℕ → Spelling → Option Step
+spelled_step at word (Bare settings.Encode) = Some (Ends parts.Encode)
 spelled_step at word (Bare setting) = Some (Waits setting)
 spelled_step at word (Valued setting start) =
     option_map Ends (part_of setting (record { word = at; start = start }) (drop start word))

@@ -1,8 +1,9 @@
 -- To believe: what a list of words asks for. The first word is a command, and the words behind it are read from the
 -- left; or it is `--help` alone.
-use Rattle.std.specs.Prelude.{ℕ, ◌+◌, Bool, ◌&&◌, nat_le, List, [], ◌∷◌, length, codes, if◌then◌else◌, Option, Some}
-use Rattle.std.specs.Prelude.{None, unwrap_or, option_map, option_and_then}
+use Rattle.std.specs.Prelude.{ℕ, ◌+◌, Bool, true, false, ◌&&◌, nat_le, List, [], ◌∷◌, length, codes}
+use Rattle.std.specs.Prelude.{if◌then◌else◌, Option, Some, None, unwrap_or, option_map, option_and_then}
 use Rattle.est_base.specs.Names.{is_same_name}
+use Rattle.cec_words.specs.declared.asked.Via.TheVariants as vias
 use Rattle.cec_words.specs.declared.asked.Pick.{Pick}
 use Rattle.cec_words.specs.declared.asked.Pick.TheVariants.{First}
 use Rattle.cec_words.specs.declared.asked.Value.{Value}
@@ -21,7 +22,8 @@ use Rattle.cec_words.specs.declared.steps.Way.TheVariants.{Text, Tri}
 use Rattle.cec_words.specs.Numbers.{is_empty}
 use Rattle.cec_words.specs.Commands.{command_of, step_of}
 
--- the files, and the values that each option has, in the order of the words
+-- the files, and the values that each option has, in the order of the words; one that takes none is true where it
+-- stands
 pub record Gathered : Type 0 where
   pub files : List ℕ
   pub vias : List Way
@@ -30,9 +32,19 @@ pub record Gathered : Type 0 where
   pub starts : List ℕ
   pub branches : List ℕ
   pub runs : List ℕ
+  pub encodes : List Bool
 
 abbrev pub nothing : Gathered
-nothing = record { files = []; vias = []; mains = []; picks = []; starts = []; branches = []; runs = [] }
+nothing = record {
+  files = [];
+  vias = [];
+  mains = [];
+  picks = [];
+  starts = [];
+  branches = [];
+  runs = [];
+  encodes = [];
+}
 
 -- one part before those of the words behind it
 abbrev pub with_part : Part → Gathered → Gathered
@@ -43,6 +55,7 @@ with_part (parts.Pick p) g = record g { picks = p ∷ g.picks }
 with_part (parts.Start n) g = record g { starts = n ∷ g.starts }
 with_part (parts.Branches n) g = record g { branches = n ∷ g.branches }
 with_part (parts.Run n) g = record g { runs = n ∷ g.runs }
+with_part parts.Encode g = record g { encodes = true ∷ g.encodes }
 
 -- what a step gives, by what the words behind it give, with the option that waits
 abbrev pub after_step : (Option Setting → Option Gathered) → Option Step → Option Gathered
@@ -67,10 +80,16 @@ abbrev pub each_once : Gathered → Bool
 each_once g =
     nat_le (length g.vias) 1 && nat_le (length g.mains) 1 && nat_le (length g.picks) 1
     && nat_le (length g.starts) 1 && nat_le (length g.branches) 1 && nat_le (length g.runs) 1
+    && nat_le (length g.encodes) 1
 
--- the source in a file: the first ready wire is picked where the words do not say
+-- the source in a file: the first ready wire is picked, and the state is not encoded, where the words do not say
 abbrev pub source : Gathered → ℕ → Source
-source g file = record { file = file; main = head g.mains; pick = unwrap_or (head g.picks) First }
+source g file = record {
+  file = file;
+  main = head g.mains;
+  pick = unwrap_or (head g.picks) First;
+  encode = unwrap_or (head g.encodes) false;
+}
 
 -- a command on one file
 abbrev pub on_one : (ℕ → Asked) → List ℕ → Option Asked
@@ -82,10 +101,13 @@ abbrev pub on_two : (ℕ → ℕ → Option Asked) → List ℕ → Option Asked
 on_two make (file ∷ trace ∷ []) = make file trace
 on_two make files = None
 
--- a run of a source: by its text of a form, or by three-valued reactions, which have no order of evaluation to choose
+-- a run of a source: by its text of a form, of which only that of BLIF has an encoded state; or by three-valued
+-- reactions, which have neither a text nor an order of evaluation to choose
 abbrev pub run_asked : Gathered → Way → (file trace : ℕ) → Option Asked
-run_asked g (Text v) file trace = Some (asks.Run v (source g file) trace)
-run_asked g Tri file trace = if is_empty g.picks then Some (asks.RunTri (source g file) trace) else None
+run_asked g (Text vias.Blif) file trace = Some (asks.Run vias.Blif (source g file) trace)
+run_asked g (Text v) file trace = if (source g file).encode then None else Some (asks.Run v (source g file) trace)
+run_asked g Tri file trace =
+    if is_empty g.picks && is_empty g.encodes then Some (asks.RunTri (source g file) trace) else None
 
 -- a run of a text, which is of some form
 abbrev pub exec_asked : Way → (text trace : ℕ) → Option Asked

@@ -1,5 +1,5 @@
 -- Inner: the files and options that the reader keeps.
-use Rattle.std.specs.Prelude.{◌≡◌, ℕ, List, [], ◌∷◌, ◌++◌, Option, Some, None, option_and_then}
+use Rattle.std.specs.Prelude.{◌≡◌, ℕ, Bool, true, false, List, [], ◌∷◌, ◌++◌, Option, Some, None, option_and_then}
 use Rattle.std.specs.Option.{option_to_list}
 use Rattle.cec_words.specs.declared.asked.Asked.{Asked}
 use Rattle.cec_words.specs.declared.given.Files.{Files}
@@ -15,6 +15,11 @@ abbrev pub files_list : Files → List ℕ
 files_list kept.None = []
 files_list (kept.One a) = a ∷ []
 files_list (kept.Two a b) = a ∷ b ∷ []
+
+-- the value of an option that takes none, where it stands
+abbrev pub flag_list : Bool → List Bool
+flag_list true = true ∷ []
+flag_list false = []
 
 abbrev pub only_file : Files → Option ℕ
 only_file (kept.One a) = Some a
@@ -34,6 +39,7 @@ extended g rest = record {
   starts = option_to_list g.start ++ rest.starts;
   branches = option_to_list g.branches ++ rest.branches;
   runs = option_to_list g.run ++ rest.runs;
+  encodes = flag_list g.encode ++ rest.encodes;
 }
 
 abbrev pub slots : Given → Gathered
@@ -45,6 +51,7 @@ slots g = record {
   starts = option_to_list g.start;
   branches = option_to_list g.branches;
   runs = option_to_list g.run;
+  encodes = flag_list g.encode;
 }
 
 -- one part more is kept

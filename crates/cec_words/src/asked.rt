@@ -29,6 +29,8 @@ pub struct Source {
     pub file: usize,
     pub main: Option<Value>,
     pub pick: Pick,
+    /// Whether the latches of its text hold the state in a code. Only a BLIF text has this.
+    pub encode: bool,
 }
 
 /// What a list of words asks for. Files are given by the places of their words.

@@ -4,7 +4,7 @@ ghost use Rattle.std.specs.Prelude.{◌≡◌, MatchOption};
 ghost use Rattle.cec_words.specs.Readings.{nothing, asked_once, exec_asked, run_asked, source};
 ghost use Rattle.cec_words.specs.Slots.{slots, only_file, both_files, Fills, Overfills};
 
-use crate::asked::{Asked, Pick, Source, Value};
+use crate::asked::{Asked, Pick, Source, Value, Via};
 use crate::steps::{Command, Part, Way};
 
 // The files so far; no command has more than two.
@@ -24,6 +24,7 @@ pub struct Given {
     pub start: Option<u64>,
     pub branches: Option<u32>,
     pub run: Option<u32>,
+    pub encode: bool,
 }
 
 impl Given {
@@ -38,6 +39,7 @@ impl Given {
             start: None,
             branches: None,
             run: None,
+            encode: false,
         }
     }
 
@@ -69,6 +71,10 @@ impl Given {
             }),
             Part::Run(run) if self.run.is_none() => Some(Given {
                 run: Some(run),
+                ..self
+            }),
+            Part::Encode if !self.encode => Some(Given {
+                encode: true,
                 ..self
             }),
             _ => None,
@@ -133,13 +139,15 @@ impl Given {
         }
     }
 
-    // A run of a source by what `--via` says. Three-valued reactions have no order of evaluation to choose.
+    // A run of a source by what `--via` says. Only a BLIF text has an encoded state, and three-valued reactions have no order
+    // of evaluation to choose.
     fn run_asked(self, way: Way, file: usize, trace: usize) -> Option<Asked>
         ensures { result ≡ run_asked (slots self) way file trace }
     {
         match way {
+            Way::Text(Via::C) if self.encode => None,
             Way::Text(via) => Some(Asked::Run(via, self.source(file), trace)),
-            Way::Tri if self.pick.is_none() => Some(Asked::RunTri(self.source(file), trace)),
+            Way::Tri if self.pick.is_none() && !self.encode => Some(Asked::RunTri(self.source(file), trace)),
             Way::Tri => None,
         }
     }
@@ -151,6 +159,7 @@ impl Given {
             file,
             main: self.main,
             pick: self.pick.unwrap_or(Pick::First),
+            encode: self.encode,
         }
     }
 }

@@ -1,8 +1,9 @@
 //! The words of the command line of `cec`, and what they ask for.
 //!
 //! The first word is a command, or `--help` alone. The other words are read from the left: options, as
-//! `--name value` or `--name=value`, and files, in any order. `read_words` answers what the words ask
-//! for, with files and values by their places among the words. It takes no memory.
+//! `--name value` or `--name=value`, or as `--name` alone where one takes no value, and files, in any order.
+//! `read_words` answers what the words ask for, with files and values by their places among the words. It takes no
+//! memory.
 #![tactic(auto)]
 
 mod asked;

@@ -30,6 +30,7 @@ pub enum Setting {
     Start,
     Branches,
     Run,
+    Encode,
 }
 
 // How a word spells an option: bare, with the value in the next word, or with the value from this
@@ -47,7 +48,7 @@ pub enum Way {
     Tri,
 }
 
-// A part of the words behind the command: a file, or an option with its value.
+// A part of the words behind the command: a file, or an option with its value, if it has one.
 #[derive(Clone, Copy)]
 pub enum Part {
     File(usize),
@@ -57,6 +58,7 @@ pub enum Part {
     Start(u64),
     Branches(u32),
     Run(u32),
+    Encode,
 }
 
 // What a word does: it makes an option wait for its value, or it ends a part.
@@ -96,6 +98,7 @@ pub fn step_of(command: Command, waiting: Option<Setting>, at: usize, word: &[u8
         return Some(Step::Ends(Part::File(at)));
     }
     match named(options(command), word)? {
+        Spelling::Bare(Setting::Encode) => Some(Step::Ends(Part::Encode)),
         Spelling::Bare(setting) => Some(Step::Waits(setting)),
         Spelling::Valued(setting, start) => {
             let part = part_of(setting, Value { word: at, start }, &word[start..])?;
@@ -119,9 +122,10 @@ fn options(command: Command) -> &'static [Setting]
     ensures { result.now ≡ options command }
 {
     match command {
-        Command::Blif | Command::C => &[Setting::Main, Setting::Pick],
+        Command::Blif => &[Setting::Main, Setting::Pick, Setting::Encode],
+        Command::C => &[Setting::Main, Setting::Pick],
         Command::Grc | Command::Check => &[Setting::Main],
-        Command::Run => &[Setting::Via, Setting::Main, Setting::Pick],
+        Command::Run => &[Setting::Via, Setting::Main, Setting::Pick, Setting::Encode],
         Command::Exec => &[Setting::Via],
         Command::Gen => &[Setting::Start, Setting::Branches, Setting::Run],
     }
@@ -138,6 +142,7 @@ fn option_name(setting: Setting) -> &'static [u8]
         Setting::Start => b"--start",
         Setting::Branches => b"--branches",
         Setting::Run => b"--run",
+        Setting::Encode => b"--encode",
     }
 }
 
@@ -188,6 +193,7 @@ fn part_of(setting: Setting, value: Value, bytes: &[u8]) -> Option<Part>
             instants if instants <= Limits::LOAD_INSTANTS => Some(Part::Run(instants as u32)),
             _ => None,
         },
+        Setting::Encode => None,
     }
 }
 

@@ -24,7 +24,7 @@ pub(crate) fn op_at(first: usize, gates: &[Gate], net: NetId) -> Option<Op>
 }
 
 /// The net that stands for a net.
-pub(crate) fn stand_in(names: &[NetId], net: NetId) -> NetId
+pub fn stand_in(names: &[NetId], net: NetId) -> NetId
     requires { net.0 < length names.now }
     ensures { result.0 ≡ stand_in names.now net.0 }
 {
@@ -32,7 +32,7 @@ pub(crate) fn stand_in(names: &[NetId], net: NetId) -> NetId
 }
 
 /// The operator over the nets that stand for those that it reads.
-pub(crate) fn renamed_op(names: &[NetId], op: Op) -> Op
+pub fn renamed_op(names: &[NetId], op: Op) -> Op
     requires { operand_end op ≤ length names.now }
     ensures { result ≡ renamed_op (stand_in names.now) op }
 {

@@ -15,4 +15,5 @@ mod netlist;
 mod packing;
 mod rules;
 
-pub use netlist::simplify;
+pub use gates::{renamed_op, stand_in};
+pub use netlist::{copied_names, simplify};

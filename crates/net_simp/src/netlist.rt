@@ -74,7 +74,8 @@ fn renamed_net(
     })
 }
 
-fn copied_names(alloc: Global, names: &[Text]) -> Result<Vec<Text>, NoMemory>
+/// Names once more.
+pub fn copied_names(alloc: Global, names: &[Text]) -> Result<Vec<Text>, NoMemory>
     ensures { IfOk result (λ v. v.items ≡ names.now) }
 {
     let mut copies = Vec::new(alloc);

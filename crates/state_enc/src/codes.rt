@@ -219,6 +219,7 @@ fn branches_plan(
 }
 
 // Appends the literals of the leaves of a tree that is coded this way from a bit on, each behind those that are known.
+#[cycle(subtree_codes)]
 fn add_codes(
     alloc: Global,
     tree: &CodeTree,
@@ -242,18 +243,37 @@ fn add_codes(
         }
         CodeTree::OneOf(_, a, b) => {
             let plan = parts_plan(alloc, way, bit, known, sizes_of(a), sizes_of(b))?;
-            add_codes(alloc, a, plan.first, plan.first_bit, &plan.front, codes)?;
-            add_codes(alloc, b, plan.second, plan.second_bit, &plan.front, codes)?;
-            Ok(())
+            add_both(alloc, &plan, a, b, codes)
         }
         CodeTree::AllOf(_, x, y, a, b) => {
             let marks = (*x, *y);
             let plan = branches_plan(alloc, way, bit, known, marks, sizes_of(a), sizes_of(b))?;
-            add_codes(alloc, a, plan.first, plan.first_bit, &plan.front, codes)?;
-            add_codes(alloc, b, plan.second, plan.second_bit, &plan.front, codes)?;
-            Ok(())
+            add_both(alloc, &plan, a, b, codes)
         }
     }
+}
+
+// Appends the literals of the leaves of two parts of a node.
+#[cycle(subtree_codes)]
+fn add_both(
+    alloc: Global,
+    plan: &Plan,
+    a: &CodeTree,
+    b: &CodeTree,
+    codes: &mut Vec<Vec<Literal>>,
+) -> Result<(), NoMemory>
+    requires first_sized { IsSized a.now }
+    requires second_sized { IsSized b.now }
+    requires first_short { IsShort plan.now.first (widths_of (shape_in a.now)).parts }
+    requires first_fits { plan.now.first_bit + width_by plan.now.first (widths_of (shape_in a.now)) < 2 ^ 32 }
+    requires second_short { IsShort plan.now.second (widths_of (shape_in b.now)).parts }
+    requires second_fits { plan.now.second_bit + width_by plan.now.second (widths_of (shape_in b.now)) < 2 ^ 32 }
+    ensures { OnOk result (literals_of codes.new.items ≡ literals_of codes.old.items
+        ++ (codes_behind plan.now.front.items (leaf_codes (shape_in a.now) plan.now.first plan.now.first_bit)
+        ++ codes_behind plan.now.front.items (leaf_codes (shape_in b.now) plan.now.second plan.now.second_bit))) }
+{
+    add_codes(alloc, a, plan.first, plan.first_bit, &plan.front, codes)?;
+    add_codes(alloc, b, plan.second, plan.second_bit, &plan.front, codes)
 }
 
 /// The literals of the leaves of a tree, in the order of the leaves.

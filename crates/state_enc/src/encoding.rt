@@ -6,11 +6,12 @@ ghost use Rattle.net_ir.specs.Runs.{netlist_of, initial_latches};
 ghost use Rattle.state_enc.specs.Encodings.{IsTreeOf, Encodes};
 
 use crate::codes::leaf_codes;
-use crate::netlist::{coded_net, copied_names};
+use crate::netlist::coded_net;
 use crate::trees::{code_tree, sizes_of};
 use est_base::{NoMemory, Text};
 use grc_graph::SelTree;
 use net_ir::{Net, NetOut};
+use net_simp::copied_names;
 use std::alloc::Global;
 
 /// The greatest number of leaves whose state is coded.

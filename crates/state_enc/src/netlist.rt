@@ -6,7 +6,7 @@ ghost use Rattle.std.specs.Prelude.{None, drop, replicate};
 ghost use Rattle.net_ir.specs.Gates.{operand_end, ReadsLower};
 ghost use Rattle.net_ir.specs.Netlists.{IsNet, first_gate, net_count};
 ghost use Rattle.net_ir.specs.Runs.{netlist_of, initial_latches};
-ghost use Rattle.net_simp.specs.Renaming.{stand_in, renamed_op, renamed_out};
+ghost use Rattle.net_simp.specs.Renaming.{stand_in, renamed_out};
 ghost use Rattle.state_enc.specs.Drafts.{Grew, Says, EachSays, literals_of, values_of, wanted};
 ghost use Rattle.state_enc.specs.Recodings.{copied, code_base, first_behind, Drawn, bit_latch, coded_net, numbers_from};
 ghost use Rattle.state_enc.specs.Recodings.{latch_net, CopiesDrawn, IsCodedNet};
@@ -15,6 +15,7 @@ use crate::codes::Literal;
 use crate::gates::{Draft, bit_nets, leaf_nets};
 use est_base::{NetId, NoMemory, Text};
 use net_ir::{Gate, Latch, Net, NetOut, Op};
+use net_simp::{copied_names, renamed_op, stand_in};
 use std::alloc::Global;
 
 // What is drawn for a netlist: the net that stands for each net, the gates, and the nets of the bits.
@@ -23,28 +24,6 @@ struct Drawing {
     names: Vec<NetId>,
     gates: Vec<Gate>,
     bits: Vec<NetId>,
-}
-
-// The net that stands for a net.
-fn stand_in(names: &[NetId], net: NetId) -> NetId
-    requires { net.0 < length names.now }
-    ensures { result.0 ≡ stand_in names.now net.0 }
-{
-    names[net.0 as usize]
-}
-
-// The operator over the nets that stand for those that it reads.
-fn renamed_op(names: &[NetId], op: Op) -> Op
-    requires { operand_end op ≤ length names.now }
-    ensures { result ≡ renamed_op (stand_in names.now) op }
-{
-    match op {
-        Op::Const(value) => Op::Const(value),
-        Op::Copy(a) => Op::Copy(stand_in(names, a)),
-        Op::Not(a) => Op::Not(stand_in(names, a)),
-        Op::And(a, b) => Op::And(stand_in(names, a), stand_in(names, b)),
-        Op::Or(a, b) => Op::Or(stand_in(names, a), stand_in(names, b)),
-    }
 }
 
 // So many nets from a number on. Where there are not so many numbers, memory is said to be wanted.
@@ -254,16 +233,6 @@ fn net_around(
         latches,
         gates,
     })
-}
-
-pub(crate) fn copied_names(alloc: Global, names: &[Text]) -> Result<Vec<Text>, NoMemory>
-    ensures { IfOk result (λ v. v.items ≡ names.now) }
-{
-    let mut copies = Vec::new(alloc);
-    for name in names {
-        copies.push(Text::from_bytes(alloc, name.bytes())?)?;
-    }
-    Ok(copies)
 }
 
 fn renamed_outputs(

@@ -3,15 +3,16 @@
 ghost use Rattle.std.specs.Prelude.{◌≡◌, ◌≤◌, length, Some, unwrap_or, []};
 ghost use Rattle.est_base.specs.SinkChanges.{change};
 ghost use Rattle.cec_core.specs.Answers.{IsAnswer};
-ghost use Rattle.cec_core.specs.Compiling.{IsWrittenOf};
 ghost use Rattle.cec_core.specs.Jobs.{Make};
 ghost use Rattle.cec_core.specs.JobViews.{plain_job};
 ghost use Rattle.cec_core.specs.Lines.{GainsErr};
+ghost use Rattle.cec_core.specs.MadeNets.{IsWrittenOf};
 ghost use Rattle.cec_core.specs.Outcomes.{Agrees, CountsFiles, GainsOut, LeavesAnswer, LeavesPieces, MakesOn};
 ghost use Rattle.cec_core.specs.Subjects.{plain_subject, unread_outcome};
+ghost use Rattle.cec_core.specs.declared.jobs.Task.TheVariants.{Text};
 
 use crate::answers::{counts, listing};
-use crate::jobs::{Job, Task};
+use crate::jobs::{Job, Task, TextForm};
 use crate::lines::{Subject, report};
 use crate::outcome::{Outcome, Which};
 use crate::refusal::Limit;
@@ -91,8 +92,7 @@ fn do_task<O: Sink>(alloc: Global, task: Task, job: Job<'_>, source: &[u8], out:
         result }
 {
     match task {
-        Task::Blif => write_text::<BlifTexts, O>(alloc, job, source, out),
-        Task::C => write_text::<CTexts, O>(alloc, job, source, out),
+        Task::Text(form) => write_form(alloc, form, job, source, out),
         Task::Grc => match listing(alloc, source, job.main) {
             Ok(text) => write_whole(&text, out),
             Err(refusal) => Outcome::from(refusal),
@@ -104,24 +104,45 @@ fn do_task<O: Sink>(alloc: Global, task: Task, job: Job<'_>, source: &[u8], out:
     }
 }
 
-// Writes the text of a source in a language, piece by piece.
-fn write_text<T: Target, O: Sink>(
+// Writes the text of a source of a form.
+fn write_form<O: Sink>(
     alloc: Global,
+    form: TextForm,
     job: Job<'_>,
     source: &[u8],
     out: &mut O,
 ) -> Outcome
     requires { length source.now ≤ Limits.SOURCE_BYTES }
     ensures agrees { MakesOn (plain_job job.entry).main result source.now }
-    ensures out { LeavesPieces (IsWrittenOf T.writes source.now (plain_job job.entry).main)
+    ensures out { LeavesPieces (IsAnswer (Text form) (plain_job job.entry).main source.now)
+        (change O.told O.faults out.old out.new) result }
+{
+    match form {
+        TextForm::Blif => write_text::<BlifTexts, O>(alloc, form, job, source, out),
+        TextForm::EncodedBlif => write_text::<BlifTexts, O>(alloc, form, job, source, out),
+        TextForm::C => write_text::<CTexts, O>(alloc, form, job, source, out),
+    }
+}
+
+// Writes the text of a source of a form, in a language, piece by piece.
+fn write_text<T: Target, O: Sink>(
+    alloc: Global,
+    form: TextForm,
+    job: Job<'_>,
+    source: &[u8],
+    out: &mut O,
+) -> Outcome
+    requires { length source.now ≤ Limits.SOURCE_BYTES }
+    ensures agrees { MakesOn (plain_job job.entry).main result source.now }
+    ensures out { LeavesPieces (IsWrittenOf form T.writes source.now (plain_job job.entry).main)
         (change O.told O.faults out.old out.new) result }
 {
     match job.pick {
-        Pick::First => text_into::<T, First, O>(alloc, source, job.main, &mut First, out),
-        Pick::Last => text_into::<T, Last, O>(alloc, source, job.main, &mut Last, out),
+        Pick::First => text_into::<T, First, O>(alloc, form, source, job.main, &mut First, out),
+        Pick::Last => text_into::<T, Last, O>(alloc, form, source, job.main, &mut Last, out),
         Pick::Drawn(start) => {
             let mut drawn = Drawn(Draw::new(start));
-            text_into::<T, Drawn, O>(alloc, source, job.main, &mut drawn, out)
+            text_into::<T, Drawn, O>(alloc, form, source, job.main, &mut drawn, out)
         }
     }
 }

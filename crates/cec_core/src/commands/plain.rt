@@ -11,11 +11,11 @@ use est_base::{Sink, write_text};
 use est_gen::generate_source;
 use std::alloc::Global;
 
-const HELP: &[u8] = b"cec blif [--main M] [--pick P] FILE
+const HELP: &[u8] = b"cec blif [--main M] [--pick P] [--encode] FILE
 cec c [--main M] [--pick P] FILE
 cec grc [--main M] FILE
 cec check [--main M] FILE
-cec run --via blif|c|tri [--main M] [--pick P] FILE TRACE
+cec run --via blif|c|tri [--main M] [--pick P] [--encode] FILE TRACE
 cec exec --via blif|c TEXT TRACE
 cec gen --start N --branches N [--run N]
 ";

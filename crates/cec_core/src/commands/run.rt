@@ -8,11 +8,11 @@ ghost use Rattle.net_ir.specs.Runs.{netlist_of};
 ghost use Rattle.trace_io.specs.Answers.{beginning};
 ghost use Rattle.trace_run.specs.Languages.{ShowsNet};
 ghost use Rattle.trace_run.specs.Running.{RunsTrace};
-ghost use Rattle.cec_core.specs.Compiling.{StandsForNet};
 ghost use Rattle.cec_core.specs.Contents.{Holds};
 ghost use Rattle.cec_core.specs.Jobs.{Run};
 ghost use Rattle.cec_core.specs.JobViews.{plain_job};
 ghost use Rattle.cec_core.specs.Lines.{GainsErr};
+ghost use Rattle.cec_core.specs.MadeNets.{IsMade};
 ghost use Rattle.cec_core.specs.Outcomes.{Agrees, CountsFiles, GainsOut, RunsOn};
 ghost use Rattle.cec_core.specs.Refusals.{IsRefused};
 ghost use Rattle.cec_core.specs.NetTexts.{IsWritten};
@@ -21,14 +21,14 @@ ghost use Rattle.cec_core.specs.Subjects.{CountsTrace, LongTrace};
 
 use crate::commands::exec::run_outcome;
 use crate::commands::make::{subject_of, unread};
-use crate::compiler::{Compiled, compile_picked};
-use crate::jobs::Job;
+use crate::jobs::{Job, TextForm};
 use crate::lines::report;
+use crate::made::{Made, made_picked};
 use crate::outcome::{Outcome, Which};
 use crate::refusal::{Limit, Refusal};
 use blif_run::BlifTexts;
 use blif_text::write_blif;
-use cec_words::{Pick, Via};
+use cec_words::Pick;
 use csub_run::CTexts;
 use csub_text::write_c;
 use est_base::{Files, Limits, NoMemory, Sink};
@@ -39,7 +39,7 @@ use trace_run::{RunFault, net_interface, run_written};
 /// Runs the source in a file over the trace in another, and says how it ended.
 pub(crate) fn run_file<F: Files, O: Sink, E: Sink>(
     alloc: Global,
-    via: Via,
+    via: TextForm,
     job: Job<'_>,
     trace: &str,
     files: &mut F,
@@ -72,7 +72,7 @@ pub(crate) fn run_file<F: Files, O: Sink, E: Sink>(
 // Runs a source over the trace in a file: its text is written into memory, and read again.
 fn source_run<F: Files, O: Sink>(
     alloc: Global,
-    via: Via,
+    via: TextForm,
     job: Job<'_>,
     source: &[u8],
     trace: &str,
@@ -92,7 +92,7 @@ fn source_run<F: Files, O: Sink>(
         (change O.told O.faults out.old out.new)
         result }
 {
-    let (compiled, text) = match compiled_text(alloc, via, source, job.main, job.pick) {
+    let (made, text) = match made_text(alloc, via, source, job.main, job.pick) {
         Ok(made) => made,
         Err(refusal) => return Outcome::from(refusal),
     };
@@ -100,59 +100,58 @@ fn source_run<F: Files, O: Sink>(
         return Outcome::Limit(Limit::Text);
     }
     match files.read(alloc, trace, Limits::TRACE_BYTES) {
-        Ok(items) => run_outcome(run_compiled(alloc, via, compiled, &text, items, out)),
+        Ok(items) => run_outcome(run_made(alloc, via, made, &text, items, out)),
         Err(fault) => unread(Which::Second, Limit::Trace, fault),
     }
 }
 
-// A source compiled, and its text of this form.
-fn compiled_text(
+// What a source's text of this form is written of, and the text.
+fn made_text(
     alloc: Global,
-    via: Via,
+    via: TextForm,
     source: &[u8],
     main: Option<&[u8]>,
     pick: Pick,
-) -> Result<(Compiled, Vec<u8>), Refusal>
+) -> Result<(Made, Vec<u8>), Refusal>
     requires { length source.now ≤ Limits.SOURCE_BYTES }
-    ensures compiles { IfOk result (λ made. StandsForNet source.now (option_map (λ m. m.now) main.entry) made.0) }
+    ensures made { IfOk result (λ made. IsMade via source.now (option_map (λ m. m.now) main.entry) made.0) }
     ensures text { IfOk result (λ made. IsWritten via made.1.items (netlist_of made.0.net)) }
     ensures refuses { IfErr result (IsRefused source.now (option_map (λ m. m.now) main.entry)) }
 {
-    let compiled = compile_picked(alloc, source, main, pick)?;
-    let text = net_text(alloc, via, &compiled.net)?;
-    Ok((compiled, text))
+    let made = made_picked(alloc, via, source, main, pick)?;
+    let text = net_text(alloc, via, &made.net)?;
+    Ok((made, text))
 }
 
 // The text of this form of a net.
-fn net_text(alloc: Global, via: Via, net: &Net) -> Result<Vec<u8>, NoMemory>
+fn net_text(alloc: Global, via: TextForm, net: &Net) -> Result<Vec<u8>, NoMemory>
     ensures { IfOk result (λ text. IsWritten via text.items (netlist_of net.now)) }
 {
     match via {
-        Via::Blif => write_blif(alloc, net),
-        Via::C => write_c(alloc, net),
+        TextForm::Blif | TextForm::EncodedBlif => write_blif(alloc, net),
+        TextForm::C => write_c(alloc, net),
     }
 }
 
-// Runs the text of a compiled source over a trace, by the names and relations of the source.
-fn run_compiled<O: Sink>(
+// Runs the text of a source over a trace, by the names and relations of the source.
+fn run_made<O: Sink>(
     alloc: Global,
-    via: Via,
-    compiled: Compiled,
+    via: TextForm,
+    made: Made,
     text: &[u8],
     trace: Vec<u8>,
     out: &mut O,
 ) -> Result<(), RunFault>
-    requires text { IsWritten via text.now (netlist_of compiled.net) }
+    requires text { IsWritten via text.now (netlist_of made.net) }
     requires fits { length text.now ≤ Limits.TEXT_BYTES }
     requires short { length trace.items ≤ Limits.TRACE_BYTES }
-    ensures { RunsTrace (ShowsNet (output_names (netlist_of compiled.net)) (netlist_of compiled.net))
-        (beginning trace.items (netlist_of compiled.net).inputs
-        (map relation_of compiled.graph.program.relations.items))
+    ensures { RunsTrace (ShowsNet (output_names (netlist_of made.net)) (netlist_of made.net))
+        (beginning trace.items (netlist_of made.net).inputs
+        (map relation_of made.program.relations.items))
         (change O.told O.faults out.old out.new)
         result }
 {
-    let Compiled { graph, net, .. } = compiled;
-    let program = graph.program;
+    let Made { program, net } = made;
     let relations = program.relations;
     // So many relations find no room, but the number of one that is broken has 32 bits.
     if relations.len() as u64 > u64::from(u32::MAX) {
@@ -163,7 +162,9 @@ fn run_compiled<O: Sink>(
         Err(NoMemory) => return Err(RunFault::NoMemory),
     };
     match via {
-        Via::Blif => run_written::<BlifTexts, O>(alloc, &net, text, interface, trace, out),
-        Via::C => run_written::<CTexts, O>(alloc, &net, text, interface, trace, out),
+        TextForm::Blif | TextForm::EncodedBlif => {
+            run_written::<BlifTexts, O>(alloc, &net, text, interface, trace, out)
+        }
+        TextForm::C => run_written::<CTexts, O>(alloc, &net, text, interface, trace, out),
     }
 }

@@ -1,8 +1,8 @@
 use Rattle.std.specs.Prelude.{option_map}
 use Rattle.est_base.specs.SinkChanges.{change}
 use Rattle.net_ir.specs.Runs.{netlist_of}
-use Rattle.cec_core.specs.Compiling.{IsWrittenOf}
-use Rattle.cec_core.proofs.NetTexts.{net_source}
+use Rattle.cec_core.specs.MadeNets.{IsWrittenOf}
+use Rattle.cec_core.proofs.NetTexts.{made_source}
 use Rattle.cec_core.proofs.Pieces.{pieces_as, writing_makes}
 use Rattle.cec_core.proofs.targets.text_into.Goals as goal
 
@@ -10,12 +10,12 @@ pub returns-in-Ok-clause-agrees : goal.returns-in-Ok-clause-agrees
 returns-in-Ok-clause-agrees g c =
     let main = option_map (λ m. m.now) c.args.main in
     writing_makes main c.put.result c.args.source.now c.put.ensures.agrees
-    (net_source c.args.source.now main c.in-Ok.compiled c.requires c.in-Ok.ensures.compiles)
+    (made_source c.args.form c.args.source.now main c.in-Ok.made c.requires c.in-Ok.ensures.made)
 
 pub returns-in-Ok-clause-out : goal.returns-in-Ok-clause-out
 returns-in-Ok-clause-out g c =
     let main = option_map (λ m. m.now) c.args.main in
-    let made = c.in-Ok.compiled in
+    let made = c.in-Ok.made in
     let s = change g.O.Sink.told g.O.Sink.faults c.args.out.now c.put.new.out in
-    pieces_as (λ text. g.T.Target.writes text (netlist_of made.net)) (IsWrittenOf g.T.Target.writes c.args.source.now main) s c.put.result
-    (λ text writes. record { made = made; compiled = c.in-Ok.ensures.compiles; written = writes }) c.put.ensures.out
+    pieces_as (λ text. g.T.Target.writes text (netlist_of made.net)) (IsWrittenOf c.args.form g.T.Target.writes c.args.source.now main) s c.put.result
+    (λ text writes. record { made = made; is_made = c.in-Ok.ensures.made; written = writes }) c.put.ensures.out

@@ -8,7 +8,7 @@ use Rattle.cec_core.specs.Contents.{Holds}
 use Rattle.cec_core.specs.JobViews.{plain_job}
 use Rattle.cec_core.specs.Runs.{RunsSource}
 use Rattle.cec_core.proofs.OneFile.{held_read}
-use Rattle.cec_core.proofs.NetTexts.{net_text}
+use Rattle.cec_core.proofs.NetTexts.{net_text, made_source, made_keeps}
 use Rattle.cec_core.proofs.RunLines.{given_wide, runs_program}
 use Rattle.cec_core.specs.declared.outcome.Which.TheVariants.{Second}
 use Rattle.cec_core.specs.declared.refusal.Limit.TheVariants as limits
@@ -22,27 +22,29 @@ returns-then-len-gt-TEXT_BYTES-clause-agrees g c =
     record {
       short = c.requires;
       text = made.1.items;
-      written = net_text c.args.via c.args.source.now (plain_job c.args.job).main made.0 made.1.items c.in-Ok.ensures.compiles c.in-Ok.ensures.text;
+      written = net_text c.args.via c.args.source.now (plain_job c.args.job).main made.0 made.1.items c.in-Ok.ensures.made c.in-Ok.ensures.text;
       long = long;
     }
 
 pub returns-in-Ok-read-clause-out : goal.returns-in-Ok-read-clause-out
 returns-in-Ok-read-clause-out g c =
     let content = g.F.Files.content c.args.files.now in
-    let s = c.in-Ok.ensures.compiles in
+    let main = (plain_job c.args.job).main in
     let made = c.in-Ok.made.0 in
+    let m = c.in-Ok.ensures.made in
+    let s = m.source in
     let p = s.program in
     rw c.run_outcome.ensures
-    (run_left content c.args.trace.now (plain_job c.args.job).main c.args.source.now _ c.run_compiled.result c.in-Ok-read.items.items
+    (run_left content c.args.trace.now main c.args.source.now _ c.run_made.result c.in-Ok-read.items.items
     (held_read content c.args.trace.now TRACE_BYTES c.in-Ok-read.items c.in-Ok-read.ensures.bytes)
     (record {
       program = p;
       short = c.requires;
       source = s.source;
       compiles = s.compiled.compiles;
-      ran = runs_program (netlist_of made.net) p (given_wide p s.compiled.formed) s.compiled.keeps c.in-Ok-read.items.items
-          (map relation_of made.graph.program.relations.items) _ c.run_compiled.result (ap (λ (q : Program). q.relations) s.compiled.graph.program)
-          c.run_compiled.ensures;
+      ran = runs_program (netlist_of made.net) p (given_wide p s.compiled.formed) (made_keeps c.args.via c.args.source.now main made m)
+          c.in-Ok-read.items.items
+          (map relation_of made.program.relations.items) _ c.run_made.result (ap (λ (q : Program). q.relations) m.program) c.run_made.ensures;
     }))
 
 pub returns-in-Err-read-clause-long_trace : goal.returns-in-Err-read-clause-long_trace
@@ -55,9 +57,9 @@ returns-in-Err-clause-agrees g c =
 
 pub returns-in-Err-read-clause-agrees : goal.returns-in-Err-read-clause-agrees
 returns-in-Err-read-clause-agrees g c =
-    let s = c.in-Ok.ensures.compiles in
-    rw c.unread.ensures (run_trace_unread c.args.via (plain_job c.args.job) c.args.source.now c.in-Err-read.fault
-    (record { program = s.program; short = c.requires; source = s.source; compiles = s.compiled.compiles }))
+    let job = plain_job c.args.job in
+    rw c.unread.ensures (run_trace_unread c.args.via job c.args.source.now c.in-Err-read.fault
+    (made_source c.args.via c.args.source.now job.main c.in-Ok.made.0 c.requires c.in-Ok.ensures.made))
 
 pub returns-in-Err-read-clause-files_counted : goal.returns-in-Err-read-clause-files_counted
 returns-in-Err-read-clause-files_counted g c =

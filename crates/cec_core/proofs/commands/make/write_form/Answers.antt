@@ -1,0 +1,35 @@
+use Rattle.est_base.specs.SinkChanges.{change}
+use Rattle.blif_run.specs.Texts as circuits
+use Rattle.csub_run.specs.Texts as programs
+use Rattle.cec_core.specs.Answers.{IsAnswer}
+use Rattle.cec_core.specs.MadeNets.{IsWrittenOf}
+use Rattle.cec_core.specs.JobViews.{plain_job}
+use Rattle.cec_core.specs.declared.jobs.Task.TheVariants.{Text}
+use Rattle.cec_core.specs.declared.jobs.TextForm.TheVariants.{Blif, EncodedBlif, C}
+use Rattle.cec_core.proofs.NetTexts.{blif_answers, encoded_answers, c_answers}
+use Rattle.cec_core.proofs.Pieces.{pieces_as}
+use Rattle.cec_core.proofs.commands.make.write_form.Goals as goal
+
+pub returns-in-Blif-clause-out : goal.returns-in-Blif-clause-out
+returns-in-Blif-clause-out g c =
+    let main = (plain_job c.args.job).main in
+    rw c.in-Blif.is
+    (pieces_as (IsWrittenOf Blif circuits.IsWritten c.args.source.now main) (IsAnswer (Text Blif) main c.args.source.now)
+    (change g.O.Sink.told g.O.Sink.faults c.args.out.now c.write_text.new.out) c.write_text.result (blif_answers c.args.source.now main)
+    (rw (← c.in-Blif.is) c.write_text.ensures.out))
+
+pub returns-in-EncodedBlif-clause-out : goal.returns-in-EncodedBlif-clause-out
+returns-in-EncodedBlif-clause-out g c =
+    let main = (plain_job c.args.job).main in
+    rw c.in-EncodedBlif.is
+    (pieces_as (IsWrittenOf EncodedBlif circuits.IsWritten c.args.source.now main) (IsAnswer (Text EncodedBlif) main c.args.source.now)
+    (change g.O.Sink.told g.O.Sink.faults c.args.out.now c.write_text-in-EncodedBlif.new.out) c.write_text-in-EncodedBlif.result
+    (encoded_answers c.args.source.now main) (rw (← c.in-EncodedBlif.is) c.write_text-in-EncodedBlif.ensures.out))
+
+pub returns-in-C-clause-out : goal.returns-in-C-clause-out
+returns-in-C-clause-out g c =
+    let main = (plain_job c.args.job).main in
+    rw c.in-C.is
+    (pieces_as (IsWrittenOf C programs.IsWritten c.args.source.now main) (IsAnswer (Text C) main c.args.source.now)
+    (change g.O.Sink.told g.O.Sink.faults c.args.out.now c.write_text-in-C.new.out) c.write_text-in-C.result (c_answers c.args.source.now main)
+    (rw (← c.in-C.is) c.write_text-in-C.ensures.out))
