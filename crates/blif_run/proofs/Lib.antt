@@ -1,14 +1,8 @@
-pub mod Truths
-pub mod GateValues
-pub mod StepLists
-pub mod Settling
-pub mod Places
-pub mod TableEdges
-pub mod Planning
+pub mod TruthTables
+pub mod CircuitEquations
 pub mod Resolving
 pub mod Reactions
 pub mod Showing
-pub mod NoLoops
 pub mod NetLoops
 pub mod NetTexts
 pub mod TextFaults

@@ -30,10 +30,12 @@ use Rattle.net_ir.specs.Writing.{IsWritable}
 use Rattle.blif_text.proofs.NetSpelling.{reading-written}
 use Rattle.blif_run.specs.declared.refusal.RunError.{RunError}
 use Rattle.blif_run.specs.declared.refusal.RunError.TheVariants as errors
-use Rattle.blif_run.specs.Loops.{HasNoLoop, LoopFault}
+use Rattle.blif_run.specs.Loops.{HasNoLoop, LoopFault, equation_of}
 use Rattle.blif_run.specs.Tracing.{IsCircuitOf}
-use Rattle.blif_run.proofs.Places.{place-at}
-use Rattle.blif_run.proofs.NoLoops.{IsRising, rising-no_loop}
+use Rattle.step_run.specs.Equations.{Equation}
+use Rattle.step_run.proofs.Places.{place-at}
+use Rattle.step_run.proofs.NoLoops.{IsRising, rising-no_loop}
+use Rattle.blif_run.specs.Truths.{no_table}
 
 -- a name stands among the first ones
 record IsBelow (names : List (List ℕ)) (limit : ℕ) (x : List ℕ) : Type 0 where
@@ -290,7 +292,8 @@ driven-within net m h =
     let b = length-append targets outs in
     omega arith
 
-rising-net : (net : Netlist) → IsWritable net → IsRising (net_tables net)
+rising-net : (net : Netlist) → IsWritable net → (k m : ℕ) (d : Table) → k < length (net_tables net) → m < length (net_tables net)
+    → Contains (get_or (net_tables net) k d).inputs (get_or (net_tables net) m d).output → m < k
 rising-net net is k m d low_k low_m has =
     let differ : all_differ is_same_name (all_names net) ≡ true = names-differ net is in
     let below = each-at (ReadsBelow net) 0 (net_tables net) k d low_k (each-reads net is) (get_or (net_tables net) m d).output has in
@@ -301,8 +304,21 @@ rising-net net is k m d low_k low_m has =
     let equal : below.place ≡ first_gate net + m = sym here ∙ ap (λ x. position_or_len (is_same_name x) (all_names net)) same ∙ there in
     omega (arith, equal, below.low)
 
+-- the same of the tables as equations
+rising-equations : (net : Netlist) → IsWritable net → IsRising (map equation_of (net_tables net))
+rising-equations net is k m d low_k low_m has =
+    let tables = net_tables net in
+    let n = length-map tables equation_of in
+    let lk : k < length tables = omega (arith, low_k, n) in
+    let lm : m < length tables = omega (arith, low_m, n) in
+    let at-k : get_or (map equation_of tables) k d ≡ equation_of (get_or tables k no_table) = get_or-map equation_of tables k no_table d lk in
+    let at-m : get_or (map equation_of tables) m d ≡ equation_of (get_or tables m no_table) = get_or-map equation_of tables m no_table d lm in
+    rising-net net is k m no_table lk lm
+    (subst (λ (e : Equation). Contains (get_or tables k no_table).inputs e.output) at-m
+    (subst (λ (e : Equation). Contains e.reads (get_or (map equation_of tables) m d).output) at-k has))
+
 pub net-no_loop : (net : Netlist) → IsWritable net → HasNoLoop (net_circuit net)
-net-no_loop net is = rising-no_loop (net_circuit net) (rising-net net is)
+net-no_loop net is = rising-no_loop (map equation_of (net_tables net)) (rising-equations net is)
 
 -- the circuit of the text that is written of a net
 pub written-circuit : (net : Netlist) → IsWritable net → (text : List ℕ) (circuit : Circuit) → text ≡ written net → Means text net → reading text ≡ Ok circuit

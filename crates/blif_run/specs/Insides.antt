@@ -1,21 +1,22 @@
 -- Inner: the fields of a runner.
 use Rattle.std.specs.Prelude.{◌≡◌, length}
 use Rattle.blif_text.specs.Plain.{plain_circuit}
+use Rattle.blif_text.specs.Runs.{circuit_latches}
 use Rattle.blif_run.specs.declared.runner.NetRunner.TheInside.{Inside}
-use Rattle.blif_run.specs.Slots.{slot_count}
-use Rattle.blif_run.specs.Plans.{CarriesPlan}
+use Rattle.blif_run.specs.Loops.{IsDescribed}
+use Rattle.blif_run.specs.Plans.{IsPlan}
 use Rattle.blif_run.specs.Runners.{Runner}
 
 abbrev pub runner_of : Inside → Runner
 runner_of r = record {
   circuit = plain_circuit r.blif;
-  latches = r.latches.items;
-  outputs = r.outputs.items;
+  latches = r.registers.registers;
+  outputs = r.registers.outputs;
 }
 
--- the plan is one of the circuit, and each latch, slot and output has a value
+-- some text describes the circuit, and the registers are its latches, with a plan of its reactions
 pub record KeepsPlan (r : Inside) : Type 0 where
-  pub plan : CarriesPlan (plain_circuit r.blif) r.plan.steps r.plan.sources.items r.plan.shown.items
-  pub each_latch : length r.latches.items ≡ length r.blif.latches.items
-  pub each_slot : length r.values.items ≡ slot_count (plain_circuit r.blif)
-  pub each_output : length r.outputs.items ≡ length r.blif.outputs.items
+  pub described : IsDescribed (plain_circuit r.blif)
+  pub plan : IsPlan (plain_circuit r.blif) r.registers.plan r.registers.sources r.registers.shown
+  pub inputs_are : r.registers.inputs ≡ length r.blif.inputs.items
+  pub initial_is : r.registers.initial ≡ circuit_latches (plain_circuit r.blif)

@@ -4,10 +4,7 @@ pub mod CircuitAnswers
 pub mod Showing
 pub mod Ends
 pub mod Texts
-pub mod Steps
-pub mod Slots
-pub mod Gates
-pub mod Edges
+pub mod Truths
 pub mod Plans
 pub mod Insides
 pub mod Tracing

@@ -1,40 +1,51 @@
--- Inner: steps that bring the values of a circuit's names about.
-use Rattle.std.specs.Prelude.{◌≡◌, ℕ, ◌<◌, Bool, List, ◌++◌, length, map, take, All}
+-- Inner: the plan of a circuit's reactions.
+use Rattle.std.specs.Prelude.{◌≡◌, ℕ, ◌+◌, ◌<◌, ◌^◌, List, ◌++◌, length, map, slice_index_or, All}
 use Rattle.blif_text.specs.Circuits.{Circuit}
-use Rattle.blif_text.specs.Runs.{IsInstant, driven_names, table_value}
-use Rattle.blif_run.specs.Steps.{PlainStep, StepFits, settled}
-use Rattle.blif_run.specs.declared.steps.Steps.{Steps}
-use Rattle.blif_run.specs.Gates.{AreSteps}
-use Rattle.blif_run.specs.Slots.{slot_of, slot_count, first_slot, valuation_of}
+use Rattle.blif_text.specs.Runs.{driven_names}
+use Rattle.step_run.specs.Slots.{slot_in}
+use Rattle.step_run.specs.Steps.{Step, driven, equation_step}
+use Rattle.step_run.specs.Plans.{Planned, Makes}
+use Rattle.step_run.specs.Order.{edges_from, IsEvaluationOrder, slots_read, no_equation}
+use Rattle.blif_run.specs.Loops.{equations_of}
 
--- the values before the steps: the inputs, the latches, and others
-pub record Starts (circuit : Circuit) (latches inputs values : List Bool) : Type 0 where
-  pub each_slot : length values ≡ slot_count circuit
-  pub each_latch : length latches ≡ length circuit.latches
-  pub each_input : length inputs ≡ length circuit.inputs
-  pub given : take (first_slot circuit) values ≡ inputs ++ latches
+-- the names that have a value before the tables: the inputs and the latches
+abbrev pub given_names : Circuit → List (List ℕ)
+given_names circuit = circuit.inputs ++ map (λ l. l.target) circuit.latches
 
--- Behind the steps the inputs and latches have the values given, every table's equation holds, and each instant has
--- just these values.
-pub record IsPlan (circuit : Circuit) (steps : List PlainStep) (sources shown : List ℕ) : Type 0 where
-  pub steps_fit : All (StepFits (slot_count circuit)) steps
-  pub sources_are : sources ≡ map (λ l. slot_of circuit l.source) circuit.latches
-  pub sources_fit : All (λ slot. slot < slot_count circuit) sources
+-- all names that have a value: those of `driven_names`, in the same order
+abbrev pub all_names : Circuit → List (List ℕ)
+all_names circuit = driven (given_names circuit) (equations_of circuit)
+
+abbrev pub slot_of : Circuit → List ℕ → ℕ
+slot_of circuit name = slot_in (all_names circuit) name
+
+-- the edges between the tables
+abbrev pub circuit_edges : Circuit → List (ℕ × ℕ)
+circuit_edges circuit =
+    edges_from (length (given_names circuit)) 0 (slots_read (all_names circuit) (equations_of circuit))
+
+-- names resolved: the driven ones, the slot of the first table's output, and for each table the slots that it reads
+pub record IsResolved (circuit : Circuit) (names keys : List (List ℕ)) (first : ℕ) (reads : List (List ℕ))
+    : Type 0 where
+  pub names_are : names ≡ all_names circuit
+  pub keys_are : keys ≡ all_names circuit
+  pub first_is : first ≡ length (given_names circuit)
+  pub fits : first + length circuit.tables < 2 ^ 64
+  pub reads_are : reads ≡ slots_read (all_names circuit) (equations_of circuit)
+
+-- the steps of the tables in an order
+abbrev pub ordered_steps : Circuit → List ℕ → List Step
+ordered_steps circuit order =
+    map (λ t. equation_step (all_names circuit) (slice_index_or (equations_of circuit) t no_equation)) order
+
+-- The plan makes the steps of the tables in an evaluation order, and there are the slots of the latches' sources and of
+-- the outputs.
+pub record IsPlan (circuit : Circuit) (plan : Planned) (sources shown : List ℕ) : Type 0 where
+  pub named_is : plan.named ≡ length (all_names circuit)
+  pub order : List ℕ
+  pub ordered : IsEvaluationOrder (length (equations_of circuit)) (circuit_edges circuit) order
+  pub makes : Makes plan (ordered_steps circuit order)
+  pub sources_are : sources ≡ map (slot_of circuit) (map (λ l. l.source) circuit.latches)
   pub shown_are : shown ≡ map (slot_of circuit) circuit.outputs
-  pub shown_fit : All (λ slot. slot < slot_count circuit) shown
-  pub inputs_given : (latches inputs values : List Bool) → Starts circuit latches inputs values
-      → map (valuation_of circuit (settled steps values)) circuit.inputs ≡ inputs
-  pub latches_kept : (latches inputs values : List Bool) → Starts circuit latches inputs values
-      → map (λ l. valuation_of circuit (settled steps values) l.target) circuit.latches ≡ latches
-  pub tables_met : (latches inputs values : List Bool) → Starts circuit latches inputs values
-      → All (λ t. valuation_of circuit (settled steps values) t.output
-      ≡ table_value t (valuation_of circuit (settled steps values))) circuit.tables
-  pub only : (latches inputs values : List Bool) → Starts circuit latches inputs values
-      → (v : List ℕ → Bool) → IsInstant circuit latches inputs v
-      → map v (driven_names circuit) ≡ map (valuation_of circuit (settled steps values)) (driven_names circuit)
-
--- the steps of the code are those of a plan
-pub record CarriesPlan (circuit : Circuit) (code : Steps) (sources shown : List ℕ) : Type 0 where
-  pub steps : List PlainStep
-  pub plan : IsPlan circuit steps sources shown
-  pub are : AreSteps steps code
+  pub sources_low : All (λ slot. slot < plan.named) sources
+  pub shown_low : All (λ slot. slot < plan.named) shown

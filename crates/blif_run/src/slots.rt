@@ -1,17 +1,15 @@
-// The slots of names: each name that a circuit drives has its place among them.
+// The names that a circuit drives, and the slots of those that its tables and latches read.
 
-ghost use Rattle.std.specs.Prelude.{◌≡◌, ◌++◌, ◌<◌, map, length, IfOk, IsTrue};
-ghost use Rattle.std.specs.List.{position_or_len};
-ghost use Rattle.est_base.specs.Distinct.{all_differ};
-ghost use Rattle.est_base.specs.Names.{is_same_name};
-ghost use Rattle.blif_text.specs.Plain.{plain_circuit, plain_table};
+ghost use Rattle.std.specs.Prelude.{◌≡◌, map, IfOk};
+ghost use Rattle.blif_text.specs.Plain.{plain_circuit, plain_latch, plain_table};
 ghost use Rattle.blif_text.specs.Runs.{driven_names};
-ghost use Rattle.blif_run.specs.Slots.{slots_in};
+ghost use Rattle.step_run.specs.Slots.{slot_in};
 
-use blif_text::{Blif, Table};
-use est_base::{NoMemory, Text};
+use blif_text::{Blif, BlifLatch, Table};
+use est_base::NoMemory;
 use indexmap::IndexSet;
 use std::alloc::Global;
+use step_run::{slot_of, slots_of};
 
 // The names that a circuit drives: inputs, latches, tables.
 pub fn driven_names<'a>(alloc: Global, blif: &'a Blif) -> Result<Vec<&'a [u8]>, NoMemory>
@@ -30,43 +28,6 @@ pub fn driven_names<'a>(alloc: Global, blif: &'a Blif) -> Result<Vec<&'a [u8]>, 
     Ok(names)
 }
 
-// The table of some names, where none stands twice.
-pub fn slot_table<'a>(alloc: Global, names: &[&'a [u8]]) -> Result<IndexSet<&'a [u8]>, NoMemory>
-    requires { IsTrue (all_differ is_same_name (map (λ w. w.now) names.now)) }
-    ensures { IfOk result (λ s. map (λ k. k.now) s.keys ≡ map (λ w. w.now) names.now) }
-{
-    let mut slots = IndexSet::new(alloc);
-    for name in names {
-        slots.insert(*name)?;
-    }
-    Ok(slots)
-}
-
-// The slot of a name, or the number of slots where it has none.
-pub fn slot_of(slots: &IndexSet<&[u8]>, name: &[u8]) -> usize
-    ensures { result ≡ position_or_len (is_same_name name.now) (map (λ k. k.now) slots.now.keys) }
-{
-    match slots.get_index_of(name) {
-        Some(slot) => slot,
-        None => slots.len(),
-    }
-}
-
-// The slots of some names.
-pub fn slots_of(
-    alloc: Global,
-    slots: &IndexSet<&[u8]>,
-    names: &[Text],
-) -> Result<Vec<usize>, NoMemory>
-    ensures { IfOk result (λ v. v.items ≡ slots_in (map (λ k. k.now) slots.now.keys) names.now) }
-{
-    let mut found = Vec::with_capacity(alloc, names.len())?;
-    for name in names {
-        found.push(slot_of(slots, name.bytes()))?;
-    }
-    Ok(found)
-}
-
 // For each table the slots that it reads.
 pub fn slots_read(
     alloc: Global,
@@ -75,11 +36,28 @@ pub fn slots_read(
 ) -> Result<Vec<Vec<usize>>, NoMemory>
     ensures { IfOk result
         (λ v. map (λ r. r.items) v.items
-        ≡ map (λ t. slots_in (map (λ k. k.now) slots.now.keys) t.inputs) (map plain_table tables.now)) }
+        ≡ map (λ t. map (slot_in (map (λ k. k.now) slots.now.keys)) t.inputs) (map plain_table tables.now)) }
 {
     let mut reads = Vec::with_capacity(alloc, tables.len())?;
     for table in tables {
         reads.push(slots_of(alloc, slots, &table.inputs)?)?;
     }
     Ok(reads)
+}
+
+// The slots of the sources of latches.
+pub fn source_slots(
+    alloc: Global,
+    slots: &IndexSet<&[u8]>,
+    latches: &[BlifLatch],
+) -> Result<Vec<usize>, NoMemory>
+    ensures { IfOk result
+        (λ v. v.items
+        ≡ map (slot_in (map (λ k. k.now) slots.now.keys)) (map (λ l. l.source) (map plain_latch latches.now))) }
+{
+    let mut found = Vec::with_capacity(alloc, latches.len())?;
+    for latch in latches {
+        found.push(slot_of(slots, latch.from.bytes()))?;
+    }
+    Ok(found)
 }

@@ -1,5 +1,5 @@
 -- The command that runs a source by three-valued reactions: what the steps say of the whole.
-use Rattle.std.proofs.Common.{◌≡◌, ℕ, ◌≤◌, List, length, map, Option, Some, Result, Ok, Err, inl, refl, subst, sym}
+use Rattle.std.proofs.Common.{ℕ, ◌≤◌, List, length, map, Option, Some, Result, Err, inl, subst, sym}
 use Rattle.est_base.specs.declared.bounds.TheConstants.Limits.{SOURCE_BYTES}
 use Rattle.est_base.specs.declared.files.reading.FileFault.{FileFault}
 use Rattle.est_base.specs.declared.files.reading.FileFault.TheVariants as reading
@@ -15,7 +15,6 @@ use Rattle.cec_core.specs.declared.outcome.Outcome.{Outcome}
 use Rattle.cec_core.specs.declared.outcome.Outcome.TheVariants.{Done, Usage, FileFault as Unread, Static, Cyclic, Trace, BadText, Limit, WriteFault, NoMemory}
 use Rattle.cec_core.specs.declared.outcome.Outcome.TheVariants.{NotConstructive}
 use Rattle.cec_core.specs.declared.outcome.Which.TheVariants.{First, Second}
-use Rattle.cec_core.specs.declared.refusal.Limit as bounds
 use Rattle.cec_core.specs.declared.refusal.Limit.TheVariants as limits
 use Rattle.cec_core.specs.declared.refusal.Refusal as refused
 use Rattle.cec_core.specs.declared.refusal.Refusal.TheVariants as refusals

@@ -1,5 +1,5 @@
 -- A runner of a graph over the items of a trace: what one item brings, what all so far brought, and where it stops.
-use Rattle.std.proofs.Common.{◌≡◌, ℕ, ◌+◌, ◌<◌, ◌≤◌, Bool, true, false, List, [], ◌∷◌, ◌++◌, length, map, Option, Some, None, Result, Ok, Err}
+use Rattle.std.proofs.Common.{◌≡◌, ℕ, ◌+◌, ◌<◌, ◌≤◌, Bool, true, false, List, [], ◌∷◌, ◌++◌, length, map, Option, Some, None, Ok, Err}
 use Rattle.std.proofs.Common.{if◌then◌else◌, refl, sym, ap, ◌∙◌, subst, append-nil, append_assoc, arith}
 use Rattle.std.specs.Prelude.{filter}
 use Rattle.std.specs.List.{list_any}
@@ -12,17 +12,15 @@ use Rattle.est_base.specs.Writing.{Appends, Gains}
 use Rattle.est_base.proofs.Gains.{appends-nothing, appends-twice}
 use Rattle.est_kernel.specs.Plain.{Program, interface_of, outgoing_count, outgoing_names, program_of}
 use Rattle.est_kernel.specs.Reactions.{Answer, before, goes_on, run_from, run_of}
-use Rattle.est_kernel.specs.Terms.{Term}
 use Rattle.grc_graph.specs.declared.graph.Graph.{Graph}
 use Rattle.grc_graph.specs.BuiltGraphs.{IsGraphOf}
 use Rattle.grc_graph.specs.GraphRuns.{PlainGraph, graph_of, next_state, program_wires}
 use Rattle.grc_graph.specs.PlainGraphs.{names_of, plain_graph}
-use Rattle.grc_graph.specs.SelectionTrees.{selecting}
-use Rattle.grc_graph.specs.Walk.{State, Initial, Selecting, remaining}
+use Rattle.grc_graph.specs.Walk.{State, Initial, remaining}
 use Rattle.grc_graph.specs.WireNames.{WireName, wire_name}
 use Rattle.grc_graph.specs.Wires.{Wire, Out}
-use Rattle.grc_tri.specs.LeastSolutions.{IsLeast, Statuses, true_wires}
-use Rattle.grc_tri.specs.TriRuns.{StopsAt, is_unknown, state_behind, tri_machine}
+use Rattle.grc_tri.specs.LeastSolutions.{IsLeast, true_wires}
+use Rattle.grc_tri.specs.TriRuns.{is_unknown, state_behind, tri_machine}
 use Rattle.grc_words.specs.Occasions.{state_of}
 use Rattle.machines.specs.Machines.{Machine, IsRunFrom}
 use Rattle.trace_io.specs.Lines.{line}
@@ -31,12 +29,11 @@ use Rattle.trace_io.specs.Traces as groups
 use Rattle.trace_run.specs.Languages.{word_of}
 use Rattle.trace_run.specs.Machines as machines
 use Rattle.trace_run.specs.Machines.{Answered, Brings, answer_lines}
-use Rattle.trace_run.specs.Running.{IsFront}
 use Rattle.trace_run.specs.Steps.{Led, Leads, LineCame}
 use Rattle.trace_run.proofs.Groups.{Fits, fits-next}
 use Rattle.trace_run.proofs.Leading.{front-leads, leads-more, lines-more}
 use Rattle.trace_run.proofs.Stepping.{SoFar, over, run-stops, step-event}
-use Rattle.tri_run.specs.Runners.{IsFresh, Resets, Runner, Stays, Steps, TriReacts, program_in, state_in, unknown_wires}
+use Rattle.tri_run.specs.Runners.{IsFresh, Resets, Runner, Steps, program_in, state_in, unknown_wires}
 use Rattle.cec_core.specs.MarkedWires.{marked_of}
 use Rattle.cec_core.specs.declared.reactions.ReactionFault.{ReactionFault}
 use Rattle.cec_core.specs.declared.reactions.ReactionFault.TheVariants.{Run, NotConstructive}

@@ -1,5 +1,5 @@
 -- Runs by three-valued reactions over a trace that comes to an instant that is not constructive: they stop there.
-use Rattle.std.proofs.Common.{◌≡◌, ℕ, ◌+◌, ◌≤◌, ◌⊎◌, Bool, List, [], ◌∷◌, ◌++◌, length, map, Option, None, Some, Result, Ok, Err, inl, inr, refl, sym, ap, ◌∙◌}
+use Rattle.std.proofs.Common.{◌≡◌, ℕ, ◌+◌, ◌⊎◌, Bool, List, [], ◌∷◌, ◌++◌, length, map, Option, None, Some, Ok, Err, inl, inr, refl, sym, ap, ◌∙◌}
 use Rattle.std.proofs.Common.{subst, ⊎_elim, append-nil, arith}
 use Rattle.std.proofs.lemmas.List.{length-append}
 use Rattle.est_base.specs.Items.{Item, Event, Reset}
@@ -12,7 +12,6 @@ use Rattle.cec_front.proofs.Unrefused as front
 use Rattle.trace_io.specs.declared.faults.TraceFault.{TraceFault}
 use Rattle.trace_io.specs.Answers.{IsTrace, beginning}
 use Rattle.trace_io.specs.Traces.{Reading}
-use Rattle.trace_run.specs.declared.running.RunFault.{RunFault}
 use Rattle.trace_run.specs.declared.running.RunFault.TheVariants as runs
 use Rattle.trace_run.specs.Running.{IsFront, RunsTrace}
 use Rattle.trace_run.proofs.Fronts.{front-of}

@@ -24,7 +24,7 @@ use Rattle.trace_run.specs.declared.running.RunFault.TheVariants as runs
 use Rattle.trace_run.specs.Machines.{Brings, answer_lines}
 use Rattle.trace_run.specs.Running.{IsFront, RunsTrace}
 use Rattle.trace_run.proofs.Stepping.{runs-so}
-use Rattle.tri_run.specs.Runners.{Runner, program_in, state_in}
+use Rattle.tri_run.specs.Runners.{Runner, state_in}
 use Rattle.cec_core.specs.declared.outcome.Outcome.{Outcome}
 use Rattle.cec_core.specs.declared.outcome.Outcome.TheVariants as outcomes
 use Rattle.cec_core.specs.declared.reactions.ReactionFault.{ReactionFault}

@@ -76,7 +76,10 @@ pub(crate) fn made_in(alloc: Global, form: TextForm, compiled: Compiled) -> Resu
         → IsNetIn form compiled p (netlist_of made.net)) }
 {
     let Compiled {
-        graph, tree, net, ..
+        graph,
+        tree,
+        net,
+        ..
     } = compiled;
     let program = graph.program;
     match form {

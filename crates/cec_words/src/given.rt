@@ -139,8 +139,8 @@ impl Given {
         }
     }
 
-    // A run of a source by what `--via` says. Only a BLIF text has an encoded state, and three-valued reactions have no order
-    // of evaluation to choose.
+    // A run of a source by what `--via` says. Only a BLIF text has an encoded state, and three-valued reactions
+    // have no order of evaluation to choose.
     fn run_asked(self, way: Way, file: usize, trace: usize) -> Option<Asked>
         ensures { result ≡ run_asked (slots self) way file trace }
     {

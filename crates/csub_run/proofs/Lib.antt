@@ -1,4 +1,5 @@
 pub mod Rows
+pub mod Compiling
 pub mod Machines
 pub mod BareNames
 pub mod Showing

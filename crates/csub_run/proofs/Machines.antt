@@ -1,14 +1,15 @@
 -- Inner: the values of slots are the memory of the machine.
-use Rattle.std.proofs.Common.{◌≡◌, ℕ, ◌+◌, ◌<◌, zero, suc, Bool, true, false, not, cond, ◌||◌, ◌&&◌, List, [], ◌∷◌, ◌++◌, length, map, get_or, refl, sym, ap}
-use Rattle.std.proofs.Common.{◌∙◌, arith, Option, Some, None}
+use Rattle.std.proofs.Common.{◌≡◌, ℕ, ◌+◌, ◌<◌, zero, suc, Bool, true, false, not, cond, ◌||◌, ◌&&◌, List, [], ◌∷◌, ◌++◌, length, map, take, get_or, refl, sym}
+use Rattle.std.proofs.Common.{ap, ◌∙◌, arith, subst, Option, Some, None}
 use Rattle.std.proofs.Math.ListN.{set}
 use Rattle.std.specs.Prelude.{slice_set, find, filter, flat_map, if◌then◌else◌}
 use Rattle.std.specs.List.{AllByRecursion}
 use Rattle.std.specs.Option.{option_or}
-use Rattle.csub_text.specs.Grammar.{begins_input}
+use Rattle.csub_text.specs.Grammar.{begins_input, begins_output}
 use Rattle.std.proofs.lemmas.Bool.{or_parts, not-false}
 use Rattle.std.proofs.lemmas.List.Folds.{find-append}
 use Rattle.std.proofs.lemmas.List.{length-map, length-append, get_or-set_same, get_or-set_other, length-set}
+use Rattle.std.proofs.Math.Seq.{take-set-lt}
 use lib.Pointwise.{bytes_decides}
 use Rattle.est_base.specs.Names.{is_same_name}
 use Rattle.csub_text.specs.Trees.{Expr, Exprs, NoExprs, MoreExprs, State, Assign, Program}
@@ -21,12 +22,16 @@ use Rattle.std.proofs.Common.{All}
 use Rattle.std.proofs.lemmas.List.Elements.{All-from_recursion}
 use Rattle.csub_text.specs.declared.trees.CProgram.{CProgram}
 use Rattle.csub_text.specs.Views.{program_of}
+use Rattle.step_run.specs.Slots.{slot_in, value_at, memory_in}
+use Rattle.step_run.specs.declared.term.Term.{Term}
+use Rattle.step_run.specs.Plans.{Planned, made, term_value}
+use Rattle.step_run.specs.Steps.{settled}
+use Rattle.step_run.proofs.Makings.{length-settled, taken-front, through}
 use Rattle.csub_run.specs.declared.runner.CRunner.TheInside.{Inside}
+use Rattle.csub_run.specs.Expressions.{assign_step}
 use Rattle.csub_run.specs.Insides.{KeepsPlan}
-use Rattle.csub_run.specs.Runners.{KeepsNames, Reacts, IsFresh, slot_in, value_at, memory_in}
-use Rattle.csub_run.specs.Slots.{slotted, all_slotted, slot_value, all_values, any_value}
-use Rattle.csub_run.specs.declared.steps.Step.{Step}
-use Rattle.csub_run.specs.Steps.{PlainStep, step_of, settled, step_value, made, StepFits, IsStep, AreSteps, put_all, first_values, IsPlan}
+use Rattle.csub_run.specs.Plans.{IsBody, IsPlan, first_values, put_all}
+use Rattle.csub_run.specs.Runners.{KeepsNames, Reacts, IsFresh}
 use Rattle.csub_text.proofs.NameLists.{found-low, place-among, found-at}
 
 -- memories that agree on all names
@@ -76,26 +81,6 @@ map-agree m n same (x ∷ xs) = ap (λ b. b ∷ map m xs) (same x) ∙ ap (λ l.
 
 -- ---- the values of slots are a memory
 
-mutual
-  pub value-slots : (names : List (List ℕ)) (values : List Bool) (e : Expr) → slot_value values (slotted names e) ≡ value_of (memory_in names values) e
-  value-slots names values (trees.Name name) = refl
-  value-slots names values (trees.Const value) = refl
-  value-slots names values (trees.Not e) = ap not (value-slots names values e)
-  value-slots names values (trees.And parts) = all-slots names values parts
-  value-slots names values (trees.Or parts) = any-slots names values parts
-
-  all-slots : (names : List (List ℕ)) (values : List Bool) (es : Exprs) → all_values values (all_slotted names es) ≡ all_of (memory_in names values) es
-  all-slots names values NoExprs = refl
-  all-slots names values (MoreExprs e others) =
-      ap (λ b. b && all_values values (all_slotted names others)) (value-slots names values e)
-      ∙ ap (λ b. value_of (memory_in names values) e && b) (all-slots names values others)
-
-  any-slots : (names : List (List ℕ)) (values : List Bool) (es : Exprs) → any_value values (all_slotted names es) ≡ any_of (memory_in names values) es
-  any-slots names values NoExprs = refl
-  any-slots names values (MoreExprs e others) =
-      ap (λ b. b || any_value values (all_slotted names others)) (value-slots names values e)
-      ∙ ap (λ b. value_of (memory_in names values) e || b) (any-slots names values others)
-
 -- the place of a name that has one is that of no other name
 slot-own : (xs : List (List ℕ)) (x y : List ℕ) → slot_in xs x < length xs → slot_in xs y ≡ slot_in xs x → is_same_name y x ≡ true
 slot-own xs x y low same =
@@ -138,22 +123,15 @@ abbrev Targets : List (List ℕ) → List Assign → Type 0
 Targets names [] = Unit {0}
 Targets names (a ∷ body) = (is_among a.target names ≡ true) × Targets names body
 
-wide-settled : (steps : List PlainStep) (values : List Bool) → length (settled steps values) ≡ length values
-wide-settled [] values = refl
-wide-settled (s ∷ steps) values = wide-settled steps (slice_set values s.slot (slot_value values s.value))
-    ∙ length-set values s.slot (slot_value values s.value)
-
 pub settled-body : (names : List (List ℕ)) (body : List Assign) (values : List Bool) → length values ≡ length names → Targets names body →
-    Agree (memory_in names (settled (map (step_of names) body) values)) (run_body body (memory_in names values))
+    Agree (memory_in names (settled (map (assign_step names) body) values)) (run_body body (memory_in names values))
 settled-body names [] values wide all name = refl
 settled-body names (a ∷ body) values wide all name =
     let m = memory_in names values in
-    let v = slot_value values (slotted names a.value) in
+    let v = value_of m a.value in
     let next = slice_set values (slot_in names a.target) v in
     settled-body names body next (length-set values (slot_in names a.target) v ∙ wide) all.1 name
-    ∙ run-agree body (memory_in names next) (with_value a.target (value_of m a.value) m)
-    (λ other. set-slot names values wide a.target all.0 v other ∙ with-agree m m (λ n. refl) a.target v (value_of m a.value)
-    (value-slots names values a.value) other) name
+    ∙ run-agree body (memory_in names next) (with_value a.target v m) (set-slot names values wide a.target all.0 v) name
 
 -- ---- what the rules on names say
 
@@ -190,6 +168,10 @@ among-widen before xs after (y ∷ ys) all = (among-front y (before ++ xs) after
 
 pub inputs-among : (p : Program) → AllAmong (declared p) (inputs_of p)
 inputs-among p = filter-among begins_input p.globals (declared p) (among-widen (map (λ s. s.name) p.states) p.globals p.locals p.globals (among-self p.globals))
+
+pub outputs-among : (p : Program) → AllAmong (declared p) (outputs_of p)
+outputs-among p =
+    filter-among begins_output p.globals (declared p) (among-widen (map (λ s. s.name) p.states) p.globals p.locals p.globals (among-self p.globals))
 
 or-none : {X : Type 0} (a b : Option X) → option_or a b ≡ None → (a ≡ None) × (b ≡ None)
 or-none None b is = (refl, is)
@@ -236,43 +218,19 @@ pub slots-below : (names xs : List (List ℕ)) → AllAmong names xs → AllByRe
 slots-below names [] all = tt
 slots-below names (x ∷ xs) all = (found-low x names all.0, slots-below names xs all.1)
 
-steps-below : (names : List (List ℕ)) (body : List Assign) (steps : List Step) → Targets names body → AreSteps names body steps
-    → AllByRecursion (StepFits (length names)) steps
-steps-below names [] [] all are = tt
-steps-below names [] (s ∷ steps) all are = absurd are
-steps-below names (a ∷ body) [] all are = absurd are
-steps-below names (a ∷ body) (s ∷ steps) all are =
-    (record { slot_low = rw are.0.slot_is (found-low a.target names all.0); value_fits = are.0.stands.fits }, steps-below names body steps all.1 are.1)
-
--- ---- the steps of the code
-
--- one more step
-pub are-more : (names : List (List ℕ)) (body : List Assign) (steps : List Step) (a : Assign) (s : Step) → AreSteps names body steps → IsStep names a s
-    → AreSteps names (body ++ a ∷ []) (steps ++ s ∷ [])
-are-more names [] [] a s are is = (is, tt)
-are-more names [] (t ∷ steps) a s are is = absurd are
-are-more names (b ∷ body) [] a s are is = absurd are
-are-more names (b ∷ body) (t ∷ steps) a s are is = (are.0, are-more names body steps a s are.1 is)
-
-pub steps-made : (names : List (List ℕ)) (body : List Assign) (steps : List Step) → AreSteps names body steps → (values : List Bool) →
-    made steps values ≡ settled (map (step_of names) body) values
-steps-made names [] [] are values = refl
-steps-made names [] (s ∷ steps) are values = absurd are
-steps-made names (a ∷ body) [] are values = absurd are
-steps-made names (a ∷ body) (s ∷ steps) are values =
-    steps-made names body steps are.1 (slice_set values s.slot (step_value values s.value))
-    ∙ ap (λ k. settled (map (step_of names) body) (slice_set values k (step_value values s.value))) are.0.slot_is
-    ∙ ap (λ v. settled (map (step_of names) body) (slice_set values (slot_in names a.target) v)) (are.0.stands.value_is values)
+targets-below : (names : List (List ℕ)) (body : List Assign) → Targets names body → AllByRecursion (λ a. slot_in names a.target < length names) body
+targets-below names [] all = tt
+targets-below names (a ∷ body) all = (found-low a.target names all.0, targets-below names body all.1)
 
 -- ---- one call
 
 -- the values behind a call with these inputs
 abbrev pub called : Program → List Bool → List Bool → List Bool
-called p inputs values = settled (map (step_of (declared p)) p.body) (put_all (map (slot_in (declared p)) (inputs_of p)) inputs values)
+called p inputs values = settled (map (assign_step (declared p)) p.body) (put_all (map (slot_in (declared p)) (inputs_of p)) inputs values)
 
 pub wide-called : (p : Program) (inputs values : List Bool) → length (called p inputs values) ≡ length values
 wide-called p inputs values =
-    wide-settled (map (step_of (declared p)) p.body) (put_all (map (slot_in (declared p)) (inputs_of p)) inputs values)
+    length-settled (map (assign_step (declared p)) p.body) (put_all (map (slot_in (declared p)) (inputs_of p)) inputs values)
     ∙ wide-put (map (slot_in (declared p)) (inputs_of p)) inputs values
 
 pub called-memory : (p : Program) → KeepsNames p → (inputs values : List Bool) → length values ≡ length (declared p) →
@@ -323,45 +281,85 @@ wide-first p =
     let h = length-map {B = Bool} p.locals (λ _. false) in
     omega (arith, a, b, c, d, e, f, g, h)
 
--- the outputs are those of the memory
-pub through : (names : List (List ℕ)) (values : List Bool) (xs : List (List ℕ)) →
-    map (value_at values) (map (slot_in names) xs) ≡ map (memory_in names values) xs
-through names values [] = refl
-through names values (x ∷ xs) = ap (λ l. value_at values (slot_in names x) ∷ l) (through names values xs)
-
 -- ---- a machine and its fields
 
 pub inputs-low : (p : Program) → All (λ k. k < length (declared p)) (map (slot_in (declared p)) (inputs_of p))
 inputs-low p = All-from_recursion (λ k. k < length (declared p)) (map (slot_in (declared p)) (inputs_of p))
     (slots-below (declared p) (inputs_of p) (inputs-among p))
 
-pub steps-fit : (p : Program) → KeepsNames p → (steps : List Step) → AreSteps (declared p) p.body steps → All (StepFits (length (declared p))) steps
-steps-fit p fits steps are = All-from_recursion (StepFits (length (declared p))) steps (steps-below (declared p) p.body steps (targets-declared p fits) are)
+pub outputs-low : (p : Program) → All (λ k. k < length (declared p)) (map (slot_in (declared p)) (outputs_of p))
+outputs-low p = All-from_recursion (λ k. k < length (declared p)) (map (slot_in (declared p)) (outputs_of p))
+    (slots-below (declared p) (outputs_of p) (outputs-among p))
+
+pub targets-low : (p : Program) → KeepsNames p → All (λ a. slot_in (declared p) a.target < length (declared p)) p.body
+targets-low p fits = All-from_recursion (λ a. slot_in (declared p) a.target < length (declared p)) p.body
+    (targets-below (declared p) p.body (targets-declared p fits))
+
+-- values given to the slots of names, among all
+pub take-put : (n : ℕ) (slots : List ℕ) (given values : List Bool) → AllByRecursion (λ k. k < n) slots
+    → take n (put_all slots given values) ≡ put_all slots given (take n values)
+take-put n [] given values all = refl
+take-put n (slot ∷ slots) [] values all = refl
+take-put n (slot ∷ slots) (v ∷ given) values all =
+    take-put n slots given (slice_set values slot v) all.1 ∙ ap (put_all slots given) (take-set-lt n values slot v all.0)
+
+-- the outputs, by the values of the variables
+pub shown-front : (p : Program) (slots : List ℕ) (values : List Bool) → slots ≡ map (slot_in (declared p)) (outputs_of p)
+    → map (value_at values) slots ≡ map (memory_in (declared p) (take (length (declared p)) values)) (outputs_of p)
+shown-front p slots values is =
+    ap (map (value_at values)) is
+    ∙ taken-front (length (declared p)) (map (slot_in (declared p)) (outputs_of p)) values (slots-below (declared p) (outputs_of p) (outputs-among p))
+    ∙ through (declared p) (take (length (declared p)) values) (outputs_of p)
+
+-- the variables behind a call
+pub called-front : (p : Program) (slots : List ℕ) (inputs values begun after : List Bool) → slots ≡ map (slot_in (declared p)) (inputs_of p)
+    → begun ≡ put_all slots inputs values
+    → take (length (declared p)) after ≡ settled (map (assign_step (declared p)) p.body) (take (length (declared p)) begun)
+    → take (length (declared p)) after ≡ called p inputs (take (length (declared p)) values)
+called-front p slots inputs values begun after are begins makes =
+    makes
+    ∙ ap (settled (map (assign_step (declared p)) p.body)) (ap (take (length (declared p))) (begins ∙ ap (λ l. put_all l inputs values) are)
+    ∙ take-put (length (declared p)) (map (slot_in (declared p)) (inputs_of p)) inputs values (slots-below (declared p) (inputs_of p) (inputs-among p)))
+
+-- the plan of the body, run on all slots
+pub body-made : (p : Program) (body : Planned) (answer : Term) (begun after : List Bool) → IsBody p body answer → length begun ≡ body.slots
+    → after ≡ made body.lookups begun
+    → take (length (declared p)) after ≡ settled (map (assign_step (declared p)) p.body) (take (length (declared p)) begun)
+body-made p body answer begun after is wide runs =
+    let steps = map (assign_step (declared p)) p.body in
+    ap (take (length (declared p))) runs
+    ∙ subst (λ n. take n (made body.lookups begun) ≡ settled steps (take n begun)) is.named_is (is.makes.made_is begun (omega (arith, wide)))
+
+pub body-says : (p : Program) (body : Planned) (answer : Term) (begun after : List Bool) → IsBody p body answer → length begun ≡ body.slots
+    → after ≡ made body.lookups begun → term_value answer after ≡ value_of (memory_in (declared p) (take (length (declared p)) after)) p.answer
+body-says p body answer begun after is wide runs =
+    ap (term_value answer) runs
+    ∙ subst (λ n. term_value answer (made body.lookups begun) ≡ value_of (memory_in (declared p) (take n (made body.lookups begun))) p.answer) is.named_is
+    (is.says.says begun (omega (arith, wide)))
+    ∙ ap (λ v. value_of (memory_in (declared p) (take (length (declared p)) v)) p.answer) (sym runs)
 
 pub reacts-by : (code : CProgram) → KeepsNames (program_of code) → (values inputs after : List Bool) (answer : Bool) →
     length values ≡ length (declared (program_of code))
-    → after ≡ called (program_of code) inputs values → answer ≡ slot_value after (slotted (declared (program_of code)) (program_of code).answer)
+    → after ≡ called (program_of code) inputs values → answer ≡ value_of (memory_in (declared (program_of code)) after) (program_of code).answer
     → Reacts (record { code = code; values = values }) inputs answer (record { code = code; values = after })
 reacts-by code fits values inputs after answer wide is returned =
     let p = program_of code in
     record {
       same = refl;
       memory = λ name. ap (λ v. memory_in (declared p) v name) is ∙ called-memory p fits inputs values wide name;
-      returned = returned ∙ value-slots (declared p) after p.answer;
+      returned = returned;
     }
 
 pub fresh-by : (code : CProgram) (values : List Bool) → values ≡ first_values (program_of code) → IsFresh (record { code = code; values = values })
 fresh-by code values is name = ap (λ v. memory_in (declared (program_of code)) v name) is ∙ first-fresh (program_of code) name
 
 pub keeps-by : (inside : Inside) → KeepsNames (program_of inside.program) → IsPlan (program_of inside.program) inside.plan
-    → length inside.values.items ≡ length (declared (program_of inside.program)) →
+    → length inside.values.items ≡ inside.plan.body.slots →
     inside.outputs.items ≡ map (value_at inside.values.items) inside.plan.outputs.items
     → KeepsPlan inside
-keeps-by inside fits plan wide shown =
-    let p = program_of inside.program in
-    record {
-      names_fit = fits;
-      plan = plan;
-      each_name = wide;
-      shown = shown ∙ ap (map (value_at inside.values.items)) plan.outputs_are ∙ through (declared p) inside.values.items (outputs_of p);
-    }
+keeps-by inside fits plan wide shown = record {
+  names_fit = fits;
+  plan = plan;
+  each_slot = wide;
+  shown = shown ∙ shown-front (program_of inside.program) inside.plan.outputs.items inside.values.items plan.outputs_are;
+}

@@ -3,8 +3,7 @@ pub mod ProgramAnswers
 pub mod Showing
 pub mod Ends
 pub mod Texts
-pub mod Slots
-pub mod Gates
-pub mod Steps
+pub mod Expressions
+pub mod Plans
 pub mod Insides
 pub mod Tracing

@@ -1,12 +1,11 @@
 -- To believe: what the machine of a program is from call to call.
-use Rattle.std.specs.Prelude.{◌≡◌, ℕ, Bool, false, List, map, slice_index_or, None}
-use Rattle.std.specs.List.{position_or_len}
-use Rattle.est_base.specs.Names.{is_same_name}
+use Rattle.std.specs.Prelude.{◌≡◌, ℕ, Bool, List, map, None}
 use Rattle.csub_text.specs.declared.trees.CProgram.{CProgram}
 use Rattle.csub_text.specs.Trees.{Program}
 use Rattle.csub_text.specs.Views.{program_of}
 use Rattle.csub_text.specs.Names.{declared, outputs_of, name_fault}
 use Rattle.csub_text.specs.Machine.{Memory, value_of, first_memory, call}
+use Rattle.step_run.specs.Slots.{memory_in}
 
 -- a program that keeps the rules on names, as each one does that some text describes
 abbrev pub KeepsNames : Program → Type 0
@@ -19,18 +18,6 @@ pub record Runner : Type 0 where
 
 abbrev pub program_in : Runner → Program
 program_in r = program_of r.code
-
--- the place of a name among some, or their number where it is none of them
-abbrev pub slot_in : List (List ℕ) → List ℕ → ℕ
-slot_in names name = position_or_len (is_same_name name) names
-
--- the value at a place; where none is, 0
-abbrev pub value_at : List Bool → ℕ → Bool
-value_at values k = slice_index_or values k false
-
--- the memory that the values make
-abbrev pub memory_in : List (List ℕ) → List Bool → Memory
-memory_in names values name = value_at values (slot_in names name)
 
 abbrev pub memory_of : Runner → Memory
 memory_of r = memory_in (declared (program_in r)) r.values

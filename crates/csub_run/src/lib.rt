@@ -1,17 +1,16 @@
 //! The machine of the C subset.
 //!
 //! `CRunner` runs a program over calls and resets as csub_text defines its machine: its names are resolved once,
-//! and a call neither hashes nor allocates. `CMachine` is the same machine as one that a trace drives, and `CTexts` the
-//! subset as a language of texts that are run over traces.
+//! its assignments are steps of a plan of `step_run`, and a call neither hashes nor allocates. `CMachine`
+//! is the same machine as one that a trace drives, and `CTexts` the subset as a language of texts that are run over
+//! traces.
 #![tactic(auto)]
 
-mod gates;
+mod expressions;
 mod interface;
 mod language;
 mod plan;
 mod runner;
-mod slots;
-mod steps;
 mod trace_runner;
 
 pub use language::{CTexts, TextFault};

@@ -1,44 +1,120 @@
 // What a machine does at a call, with the names resolved.
 
-ghost use Rattle.std.specs.Prelude.{◌≡◌, [], None, map, filter, length, IfOk};
+ghost use Rattle.std.specs.Prelude.{◌≡◌, ◌<◌, [], map, filter, length, All, IfOk, OnOk};
 ghost use Rattle.csub_text.specs.Grammar.{begins_input, begins_output};
-ghost use Rattle.csub_text.specs.NameLists.{first_again};
-ghost use Rattle.csub_text.specs.Views.{program_of};
-ghost use Rattle.csub_run.specs.Runners.{KeepsNames, slot_in};
-ghost use Rattle.csub_run.specs.Steps.{IsPlan, first_values};
+ghost use Rattle.csub_text.specs.Names.{declared, inputs_of, outputs_of};
+ghost use Rattle.csub_text.specs.Views.{assign_of, program_of};
+ghost use Rattle.step_run.specs.Slots.{slot_in};
+ghost use Rattle.step_run.specs.Plans.{Adds, Makes};
+ghost use Rattle.csub_run.specs.Expressions.{assign_step};
+ghost use Rattle.csub_run.specs.Runners.{KeepsNames};
+ghost use Rattle.csub_run.specs.Plans.{IsBody, IsPlan, first_values};
 
-use crate::slots::{SlotExpr, resolved, slot_of};
-use crate::steps::{Step, steps_of};
-use csub_text::{CProgram, begins_input, begins_output, declared_names};
+use crate::expressions::compiled;
+use csub_text::{Assign, CProgram, begins_input, begins_output, declared_names};
 use est_base::{NoMemory, Text};
 use indexmap::IndexSet;
 use std::alloc::Global;
+use step_run::{Plan, Term, slot_of, slot_table};
 
 /// The variables have the slots that their places among the declared names are: states, globals, locals.
-#[derive(Debug, Drop)]
-pub struct Plan {
+#[derive(Drop)]
+pub struct CallPlan {
     pub inputs: Vec<usize>,
     pub outputs: Vec<usize>,
-    pub steps: Vec<Step>,
-    pub answer: SlotExpr,
-    // The values before the first call.
+    pub body: Plan,
+    // The value that is returned, behind the body.
+    pub answer: Term,
+    // The values of the variables before the first call.
     pub initial: Vec<bool>,
 }
 
 // The plan of a program.
-pub fn plan_of(alloc: Global, program: &CProgram) -> Result<Plan, NoMemory>
+pub fn plan_of(alloc: Global, program: &CProgram) -> Result<CallPlan, NoMemory>
     requires { KeepsNames (program_of program.now) }
     ensures { IfOk result (IsPlan (program_of program.now)) }
 {
     let names = declared_names(alloc, program)?;
     let slots = slot_table(alloc, &names)?;
-    Ok(Plan {
-        inputs: input_slots(alloc, &slots, &program.globals)?,
-        outputs: output_slots(alloc, &slots, &program.globals)?,
-        steps: steps_of(alloc, &slots, &program.body)?,
-        answer: resolved(alloc, &slots, &program.answer)?,
+    let Places {
+        inputs,
+        outputs,
+        initial,
+    } = places_of(alloc, &slots, program)?;
+    let Body { plan, answer } = body_plan(alloc, &slots, program)?;
+    Ok(CallPlan {
+        inputs,
+        outputs,
+        body: plan,
+        answer,
+        initial,
+    })
+}
+
+// The slots of the inputs and outputs, and the values of the variables before the first call.
+#[derive(Drop)]
+struct Places {
+    inputs: Vec<usize>,
+    outputs: Vec<usize>,
+    initial: Vec<bool>,
+}
+
+fn places_of(alloc: Global, slots: &IndexSet<&[u8]>, program: &CProgram) -> Result<Places, NoMemory>
+    ensures inputs { IfOk result (λ p. p.inputs.items
+        ≡ map (slot_in (map (λ k. k.now) slots.now.keys)) (inputs_of (program_of program.now))) }
+    ensures outputs { IfOk result (λ p. p.outputs.items
+        ≡ map (slot_in (map (λ k. k.now) slots.now.keys)) (outputs_of (program_of program.now))) }
+    ensures initial { IfOk result (λ p. p.initial.items ≡ first_values (program_of program.now)) }
+{
+    Ok(Places {
+        inputs: input_slots(alloc, slots, &program.globals)?,
+        outputs: output_slots(alloc, slots, &program.globals)?,
         initial: initial_values(alloc, program)?,
     })
+}
+
+// The plan of a body, and the term of the value that is returned behind it.
+#[derive(Drop)]
+struct Body {
+    plan: Plan,
+    answer: Term,
+}
+
+fn body_plan(alloc: Global, slots: &IndexSet<&[u8]>, program: &CProgram) -> Result<Body, NoMemory>
+    requires names { KeepsNames (program_of program.now) }
+    requires slots { map (λ k. k.now) slots.now.keys ≡ declared (program_of program.now) }
+    ensures { IfOk result (λ b. IsBody (program_of program.now) b.plan b.answer) }
+{
+    let mut plan = Plan::new(alloc, slots.len())?;
+    push_assigns(&mut plan, slots, &program.body)?;
+    let answer = compiled(&mut plan, slots, &program.answer)?;
+    plan.slots();
+    Ok(Body { plan, answer })
+}
+
+// Adds the steps of assignments.
+fn push_assigns(plan: &mut Plan, slots: &IndexSet<&[u8]>, body: &[Assign]) -> Result<(), NoMemory>
+    requires named { plan.old.named ≡ length slots.now.keys }
+    requires declared { All (λ a. slot_in (map (λ k. k.now) slots.now.keys) a.to < plan.old.named) body.now }
+    requires none { Makes plan.old [] }
+    ensures named { OnOk result (plan.new.named ≡ plan.old.named) }
+    ensures makes { OnOk result
+        (Makes plan.new (map (assign_step (map (λ k. k.now) slots.now.keys)) (map assign_of body.now))) }
+{
+    for assign in body {
+        push_assign(plan, slots, assign)?;
+    }
+    Ok(())
+}
+
+// Adds the step of an assignment.
+fn push_assign(plan: &mut Plan, slots: &IndexSet<&[u8]>, assign: &Assign) -> Result<(), NoMemory>
+    requires { slot_in (map (λ k. k.now) slots.now.keys) assign.now.to < plan.old.named }
+    ensures { OnOk result
+        (Adds (assign_step (map (λ k. k.now) slots.now.keys) (assign_of assign.now)) plan.old plan.new) }
+{
+    let value = compiled(plan, slots, &assign.value)?;
+    plan.push_term(slot_of(slots, assign.to.bytes()), value)
 }
 
 // The values that the variables have before the first call: those of the states as they are declared, and 0.
@@ -56,18 +132,6 @@ fn initial_values(alloc: Global, program: &CProgram) -> Result<Vec<bool>, NoMemo
         values.push(false)?;
     }
     Ok(values)
-}
-
-// The table of some names, where none stands twice.
-fn slot_table<'a>(alloc: Global, names: &[&'a [u8]]) -> Result<IndexSet<&'a [u8]>, NoMemory>
-    requires { first_again [] (map (λ w. w.now) names.now) ≡ None }
-    ensures { IfOk result (λ s. map (λ k. k.now) s.keys ≡ map (λ w. w.now) names.now) }
-{
-    let mut slots = IndexSet::new(alloc);
-    for name in names {
-        slots.insert(*name)?;
-    }
-    Ok(slots)
 }
 
 // The slots of the inputs among the globals.

@@ -1,24 +1,24 @@
 // The machine of a program.
 
-ghost use Rattle.std.specs.Prelude.{◌≡◌, ◌<◌, map, length, All, IfOk};
-ghost use Rattle.csub_text.specs.Names.{inputs_of};
+ghost use Rattle.std.specs.Prelude.{◌≡◌, ◌<◌, ◌≤◌, map, length, take, All, IfOk};
+ghost use Rattle.csub_text.specs.Names.{declared, inputs_of};
 ghost use Rattle.csub_text.specs.Views.{program_of};
-ghost use Rattle.csub_run.specs.Runners.{KeepsNames, program_in, Reacts, Resets, IsFresh, outputs_shown, value_at};
-ghost use Rattle.csub_run.specs.Steps.{IsPlan, first_values, put_all};
+ghost use Rattle.csub_run.specs.Runners.{KeepsNames, program_in, Reacts, Resets, IsFresh, outputs_shown};
+ghost use Rattle.csub_run.specs.Plans.{IsPlan, first_values, put_all};
+ghost use Rattle.step_run.specs.Slots.{value_at};
 
-use crate::plan::{Plan, plan_of};
-use crate::slots::{value_at, value_of};
-use crate::steps::run_steps;
+use crate::plan::{CallPlan, plan_of};
 use csub_text::CProgram;
 use est_base::NoMemory;
 use std::alloc::Global;
 use std::marker::Model;
+use step_run::take_values;
 
 /// The machine of a program. A contract sees it as the program and the values of its variables.
 #[derive(Drop)]
 pub struct CRunner {
     program: CProgram,
-    plan: Plan,
+    plan: CallPlan,
     // The value of each slot.
     values: Vec<bool>,
     outputs: Vec<bool>,
@@ -68,9 +68,9 @@ impl CRunner {
         ensures { Reacts self.old inputs.now result self.new }
     {
         put_values(&self.plan.inputs, inputs, &mut self.values);
-        run_steps(&self.plan.steps, &mut self.values);
+        self.plan.body.run(&mut self.values);
         take_values(&self.plan.outputs, &self.values, &mut self.outputs);
-        value_of(&self.plan.answer, &self.values)
+        self.plan.answer.value(&self.values)
     }
 
     /// The values of the outputs, in declared order; all 0 before the first call and behind a reset. It takes
@@ -85,7 +85,7 @@ impl CRunner {
     pub fn reset(&mut self)
         ensures { Resets self.old self.new }
     {
-        self.values.copy_from_slice(&self.plan.initial);
+        put_front(&mut self.values, &self.plan.initial);
         take_values(&self.plan.outputs, &self.values, &mut self.outputs);
     }
 
@@ -100,7 +100,7 @@ impl CRunner {
 // What a machine has beside its program.
 #[derive(Drop)]
 struct Parts {
-    plan: Plan,
+    plan: CallPlan,
     values: Vec<bool>,
     outputs: Vec<bool>,
 }
@@ -109,12 +109,16 @@ struct Parts {
 fn runner_parts(alloc: Global, program: &CProgram) -> Result<Parts, NoMemory>
     requires { KeepsNames (program_of program.now) }
     ensures plan { IfOk result (λ p. IsPlan (program_of program.now) p.plan) }
-    ensures values { IfOk result (λ p. p.values.items ≡ first_values (program_of program.now)) }
+    ensures slots { IfOk result (λ p. length p.values.items ≡ p.plan.body.slots) }
+    ensures values { IfOk result (λ p. take (length (declared (program_of program.now))) p.values.items
+        ≡ first_values (program_of program.now)) }
     ensures outputs { IfOk result (λ p. p.outputs.items ≡ map (value_at p.values.items) p.plan.outputs.items) }
 {
     let plan = plan_of(alloc, program)?;
-    let values = Vec::from_slice(alloc, &plan.initial)?;
-    let outputs = values_of(alloc, &plan.outputs, &values)?;
+    let mut values = vec![in alloc; false; plan.body.slots()]?;
+    put_front(&mut values, &plan.initial);
+    let mut outputs = vec![in alloc; false; plan.outputs.len()]?;
+    take_values(&plan.outputs, &values, &mut outputs);
     Ok(Parts {
         plan,
         values,
@@ -122,15 +126,14 @@ fn runner_parts(alloc: Global, program: &CProgram) -> Result<Parts, NoMemory>
     })
 }
 
-// The values of these slots.
-fn values_of(alloc: Global, slots: &[usize], values: &[bool]) -> Result<Vec<bool>, NoMemory>
-    ensures { IfOk result (λ v. v.items ≡ map (value_at values.now) slots.now) }
+// Puts these values in front.
+fn put_front(values: &mut [bool], front: &[bool])
+    requires { length front.now ≤ length values.old }
+    ensures len { length values.new ≡ length values.old }
+    ensures front { take (length front.now) values.new ≡ front.now }
 {
-    let mut found = Vec::with_capacity(alloc, slots.len())?;
-    for slot in slots {
-        found.push(value_at(values, *slot))?;
-    }
-    Ok(found)
+    let (first, _) = values.split_at_mut(front.len());
+    first.copy_from_slice(front);
 }
 
 // Puts each value into its slot.
@@ -141,15 +144,5 @@ fn put_values(slots: &[usize], given: &[bool], values: &mut [bool])
 {
     for (k, slot) in slots.iter().enumerate() {
         values[*slot] = given[k];
-    }
-}
-
-// Takes the values of these slots.
-fn take_values(slots: &[usize], values: &[bool], taken: &mut [bool])
-    requires { length taken.old ≡ length slots.now }
-    ensures { taken.new ≡ map (value_at values.now) slots.now }
-{
-    for (k, slot) in slots.iter().enumerate() {
-        taken[k] = value_at(values, *slot);
     }
 }

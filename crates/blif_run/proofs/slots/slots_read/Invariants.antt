@@ -1,8 +1,8 @@
 use Rattle.std.proofs.Common.{◌≡◌, map, take}
 use Rattle.blif_text.specs.Plain.{plain_table}
-use Rattle.blif_run.specs.Slots.{slots_in}
+use Rattle.step_run.specs.Slots.{slot_in}
 use Rattle.blif_run.proofs.slots.slots_read.Given as goal
 
 abbrev pub invariant-loop-table : goal.invariant-loop-table
-invariant-loop-table l = map (λ r. r.items) l.reads.items ≡ map (λ t. slots_in (map (λ k. k.now) l.slots.keys) t.inputs) (map plain_table
+invariant-loop-table l = map (λ r. r.items) l.reads.items ≡ map (λ t. map (slot_in (map (λ k. k.now) l.slots.keys)) t.inputs) (map plain_table
     (take l.table-index l.tables))

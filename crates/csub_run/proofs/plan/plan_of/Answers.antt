@@ -1,25 +1,26 @@
-use Rattle.std.proofs.Common.{◌≡◌, refl, sym, ap, ◌∙◌, subst, map}
-use Rattle.csub_text.specs.Views.{assign_of, program_of}
-use Rattle.csub_text.specs.Names.{declared}
-use Rattle.csub_run.specs.Steps.{AreSteps}
+use Rattle.std.proofs.Common.{◌≡◌, ap, ◌∙◌, map}
+use Rattle.csub_text.specs.Views.{program_of}
+use Rattle.csub_text.specs.Names.{declared, inputs_of, outputs_of}
+use Rattle.step_run.specs.Slots.{slot_in}
 use Rattle.csub_run.proofs.Machines.{names-once}
-use Rattle.csub_run.proofs.Rows.{plain-is, slotted-is}
 use Rattle.csub_run.proofs.plan.plan_of.Goals as goal
 
 pub slot_table-requires : goal.slot_table-requires
 slot_table-requires c =
     rw (ap (map (λ w. w.now)) c.deref.ensures.value ∙ c.in_ok-names.ensures) (names-once (program_of c.args.program.now) c.requires)
 
+pub body_plan-requires-clause-slots : goal.body_plan-requires-clause-slots
+body_plan-requires-clause-slots c = c.in_ok-slots.ensures ∙ ap (map (λ w. w.now)) c.deref.ensures.value ∙ c.in_ok-names.ensures
+
 pub returns : goal.returns
 returns c =
-    let keys : map (λ k. k.now) c.in_ok-slots.slots.keys ≡ declared (program_of c.args.program.now) =
+    let p = program_of c.args.program.now in
+    let keys : map (λ k. k.now) c.in_ok-slots.slots.keys ≡ declared p =
     c.in_ok-slots.ensures ∙ ap (map (λ w. w.now)) c.deref.ensures.value ∙ c.in_ok-names.ensures in
-    let steps = c.in_ok-steps_of.field-0.items in
+    let places = c.in_ok-inputs.ensures in
     record {
-      inputs_are = c.in_ok-input_slots.ensures ∙ rw (keys, c.deref-2.ensures.value) refl;
-      outputs_are = c.in_ok-output_slots.ensures ∙ rw (keys, c.deref-3.ensures.value) refl;
-      steps_are = subst (λ l. AreSteps (declared (program_of c.args.program.now)) (map assign_of l) steps) c.deref-4.ensures.value
-          (subst (λ names. AreSteps names (map assign_of c.deref-4.result.now) steps) keys c.in_ok-steps_of.ensures);
-      answer_is = sym (plain-is c.in_ok-resolved.field-0) ∙ c.in_ok-resolved.ensures ∙ slotted-is _ _ ∙ rw keys refl;
-      initial_is = c.in_ok-initial_values.ensures;
+      inputs_are = places.inputs ∙ ap (λ ks. map (slot_in ks) (inputs_of p)) keys;
+      outputs_are = places.outputs ∙ ap (λ ks. map (slot_in ks) (outputs_of p)) keys;
+      body_is = c.in_ok-plan.ensures;
+      initial_is = places.initial;
     }

@@ -1,5 +1,5 @@
 use Rattle.std.proofs.Common.{◌≡◌, drop}
-use Rattle.csub_run.specs.Steps.{put_all}
+use Rattle.csub_run.specs.Plans.{put_all}
 use Rattle.csub_run.proofs.runner.put_values.Given as goal
 
 abbrev pub invariant-loop-k : goal.invariant-loop-k

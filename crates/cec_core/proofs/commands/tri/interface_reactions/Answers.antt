@@ -1,4 +1,3 @@
-use Rattle.std.proofs.Common.{◌∙◌}
 use Rattle.est_kernel.specs.Plain.{program_of}
 use Rattle.cec_core.proofs.RunnerReactions.{fresh_state}
 use Rattle.cec_core.proofs.TraceEnds.{given_differ, reactions_left}

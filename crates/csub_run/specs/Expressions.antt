@@ -1,0 +1,35 @@
+-- Inner: the values of expressions of the code where the slots of the names have these values.
+use Rattle.std.specs.Prelude.{ℕ, Bool, List, [], ◌∷◌, map}
+use Rattle.std.specs.List.{list_all, list_any}
+use Rattle.step_run.specs.Slots.{slot_in, memory_in}
+use Rattle.step_run.specs.Steps.{Step}
+use Rattle.step_run.specs.declared.term.Junction.{Junction}
+use Rattle.step_run.specs.declared.term.Junction.TheVariants.{And, Or}
+use Rattle.csub_text.specs.Machine.{value_of}
+use Rattle.csub_text.specs.Trees.{Expr, Exprs, NoExprs, MoreExprs, Assign}
+use Rattle.csub_text.specs.Views.{expr_of}
+use Rattle.csub_text.specs.declared.trees.Expr.{Expr as CodeExpr}
+
+-- a list of expressions, in the words of the grammar
+abbrev pub exprs : List Expr → Exprs
+exprs [] = NoExprs
+exprs (e ∷ others) = MoreExprs e (exprs others)
+
+-- closed, so that a proof sees one row at a time
+unfoldable pub expr_value : List (List ℕ) → CodeExpr → List Bool → Bool
+expr_value names e values = value_of (memory_in names values) (expr_of e)
+
+abbrev pub joined_all : Junction → List Bool → Bool
+joined_all And values = list_all (λ v. v) values
+joined_all Or values = list_any (λ v. v) values
+
+-- the value of expressions that are joined
+abbrev pub parts_value : List (List ℕ) → Junction → List CodeExpr → List Bool → Bool
+parts_value names junction parts values = joined_all junction (map (λ e. expr_value names e values) parts)
+
+-- the step of an assignment
+abbrev pub assign_step : List (List ℕ) → Assign → Step
+assign_step names a = record {
+  output = slot_in names a.target;
+  value = λ values. value_of (memory_in names values) a.value;
+}

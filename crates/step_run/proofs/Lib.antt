@@ -1,0 +1,10 @@
+pub mod Makings
+pub mod TermValues
+pub mod RecordLists
+pub mod Pushes
+pub mod Places
+pub mod Settling
+pub mod EquationEdges
+pub mod Solving
+pub mod NoLoops
+pub mod Instants

@@ -1,0 +1,19 @@
+use Rattle.std.proofs.Common.{◌<◌, ◌^◌, sym, subst, arith, All}
+use Rattle.step_run.specs.Plans.{Planned, Adds, AddsTerm, table_step}
+use Rattle.step_run.proofs.Pushes.{table-adds, on-ok}
+use Rattle.step_run.proofs.plan.Plan.push_table.Goals as goal
+
+pub table_term-requires : goal.table_term-requires
+table_term-requires c = λ k d h. let low = c.requires.reads k d h in let few = c.slots.ensures.few in omega arith
+
+pub push_term-requires-clause-fits : goal.push_term-requires-clause-fits
+push_term-requires-clause-fits c =
+    c.in-Some.ensures.fits c.args.self.now.free (omega (arith, c.requires.output, c.slots.ensures.names))
+    (λ k d h. let low = c.requires.reads k d h in omega (arith, c.slots.ensures.names))
+
+pub returns-in-Some : goal.returns-in-Some
+returns-in-Some c =
+    on-ok c.push_term.result (AddsTerm c.args.output c.in-Some.term c.args.self.now c.push_term.new.self)
+    (Adds (table_step c.args.output c.args.reads.now c.args.truth.now) c.args.self.now c.push_term.new.self)
+    (table-adds c.args.self.now c.push_term.new.self c.args.output c.args.reads.now c.args.truth.now c.in-Some.term c.slots.ensures.names
+    c.requires.output c.requires.reads c.in-Some.ensures) c.push_term.ensures
