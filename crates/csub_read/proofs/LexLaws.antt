@@ -1,36 +1,16 @@
--- Inner: the tokens from a place of a text on.
-use Rattle.std.proofs.Common.{◌≡◌, ℕ, ◌+◌, ◌<◌, ◌≤◌, ◌==◌, zero, suc, Bool, true, false, ◌&&◌, cond, List, [], ◌∷◌, length, take, drop, get_or}
+-- Inner: comments and words at the beginning of a text.
+use Rattle.std.proofs.Common.{◌≡◌, ℕ, ◌+◌, ◌<◌, ◌≤◌, ◌==◌, suc, true, false, ◌&&◌, List, [], ◌∷◌, length, take, drop, get_or}
 use Rattle.std.proofs.Common.{Option, Some, None, refl, sym, ◌∙◌, ap, arith}
 use Rattle.std.specs.Prelude.{if◌then◌else◌}
 use Rattle.std.specs.List.{prefix_len}
 use Rattle.std.proofs.Math.Seq.{drop-cons}
-use Rattle.std.proofs.lemmas.List.{length-drop, drop_all}
-use Rattle.std.proofs.lemmas.Bool.{false≢true, eqb-true}
-use Rattle.csub_text.specs.Tokens.{Kind, Bad, Token, Front, Gap, Lexeme, Wrong, front, is_space, begins_name, word_kind, mark_kind, mark_front}
-use Rattle.csub_text.specs.Tokens.{slash_front, token_of, tokens_behind, one_more, closed_after}
+use Rattle.std.proofs.lemmas.List.{length-drop}
+use Rattle.std.proofs.lemmas.Bool.{false≢true}
+use Rattle.csub_text.specs.Tokens.{Gap, Lexeme, front, is_space, begins_name, word_kind, mark_kind, mark_front}
+use Rattle.csub_text.specs.Tokens.{slash_front, one_more, closed_after}
 use Rattle.est_base.specs.Names.{is_name_byte}
-use Rattle.csub_read.specs.Tokens.{front_at, more_by}
-
--- ---- the bytes that begin a text
-
-pub prefix-more : (p : ℕ → Bool) (xs : List ℕ) (i d : ℕ) → i < length xs → p (get_or xs i d) ≡ true → i + prefix_len p (drop i xs)
-    ≡ (i + 1) + prefix_len p (drop (i + 1) xs)
-prefix-more p xs i d low passes =
-    let n : suc i ≡ i + 1 = omega arith in
-    let step : prefix_len p (drop i xs) ≡ 1 + prefix_len p (drop (suc i) xs) = ap (prefix_len p) (drop-cons xs i d low)
-    ∙ ap (λ b. cond b (1 + prefix_len p (drop (suc i) xs)) 0) passes in
-    let same : prefix_len p (drop (suc i) xs) ≡ prefix_len p (drop (i + 1) xs) = ap (λ m. prefix_len p (drop m xs)) n in
-    omega (arith, step, same)
-
-pub prefix-stop : (p : ℕ → Bool) (xs : List ℕ) (i d : ℕ) → i < length xs → p (get_or xs i d) ≡ false → i + prefix_len p (drop i xs) ≡ i
-prefix-stop p xs i d low fails =
-    let step : prefix_len p (drop i xs) ≡ 0 = ap (prefix_len p) (drop-cons xs i d low) ∙ ap (λ b. cond b (1 + prefix_len p (drop (suc i) xs)) 0) fails in
-    omega (arith, step)
-
-pub prefix-end : (p : ℕ → Bool) (xs : List ℕ) (i : ℕ) → length xs ≤ i → i + prefix_len p (drop i xs) ≡ i
-prefix-end p xs i high =
-    let step : prefix_len p (drop i xs) ≡ 0 = ap (prefix_len p) (drop_all i xs high) in
-    omega (arith, step)
+use Rattle.expr_text.specs.Plain.{front_at}
+use Rattle.csub_read.specs.Tokens.{more_by}
 
 -- ---- the end of a comment
 
@@ -91,60 +71,11 @@ closed-within (c ∷ d ∷ cs) n at =
           (λ k. closed-within (d ∷ cs) k) n e in omega (arith, h)
     ] at
 
--- ---- tokens
-
-behind-drop : (k at : ℕ) (xs : List ℕ) → tokens_behind k at xs ≡ tokens_behind 0 (at + k) (drop k xs)
-behind-drop zero at xs = ap (λ n. tokens_behind 0 n xs) (let e : at ≡ at + 0 = omega arith in e)
-behind-drop (suc k) at [] = refl
-behind-drop (suc k) at (c ∷ cs) = behind-drop k (at + 1) cs ∙ ap (λ n. tokens_behind 0 n (drop k cs)) (let e : at + 1 + k ≡ at + suc k = omega arith in e)
-
--- what a text that begins so has as tokens
-abbrev pub shown : ℕ → List ℕ → Front → List Token
-shown i rest (Gap more) = tokens_behind 0 (i + (1 + more)) (drop (suc more) rest)
-shown i rest (Lexeme more kind) = record { kind = kind; at = i } ∷ tokens_behind 0 (i + (1 + more)) (drop (suc more) rest)
-shown i rest Wrong = record { kind = Bad; at = i } ∷ []
-
-front-step : (i c : ℕ) (cs : List ℕ) (f : Front) → token_of i f (λ more. tokens_behind more (i + 1) cs) ≡ shown i (c ∷ cs) f
-front-step i c cs (Gap more) = behind-drop more (i + 1) cs
-    ∙ ap (λ n. tokens_behind 0 n (drop more cs)) (let e : i + 1 + more ≡ i + (1 + more) = omega arith in e)
-front-step i c cs (Lexeme more kind) =
-    ap (λ l. record { kind = kind; at = i } ∷ l)
-    (behind-drop more (i + 1) cs ∙ ap (λ n. tokens_behind 0 n (drop more cs)) (let e : i + 1 + more ≡ i + (1 + more) = omega arith in e))
-front-step i c cs Wrong = refl
-
-behind-front : (i : ℕ) (rest : List ℕ) → 0 < length rest → tokens_behind 0 i rest ≡ shown i rest (front_at rest)
-behind-front i [] some = absurd (omega (arith, some))
-behind-front i (c ∷ cs) some = front-step i c cs (front c cs)
-
-drop-more : (i k : ℕ) (xs : List ℕ) → drop k (drop i xs) ≡ drop (i + k) xs
-drop-more zero k xs = ap (λ n. drop n xs) (let e : k ≡ 0 + k = omega arith in e)
-drop-more (suc i) k [] = drop_all k [] (omega arith) ∙ sym (drop_all (suc i + k) [] (omega arith))
-drop-more (suc i) k (x ∷ xs) = drop-more i k xs ∙ ap (λ n. drop n (x ∷ xs)) (let e : suc (i + k) ≡ suc i + k = omega arith in e)
-
--- the tokens from a place on, where a front stands there
-pub behind-gap : (xs : List ℕ) (i more : ℕ) → i < length xs → front_at (drop i xs) ≡ Gap more → tokens_behind 0 i (drop i xs)
-    ≡ tokens_behind 0 (i + (1 + more)) (drop (i + (1 + more)) xs)
-behind-gap xs i more low here =
-    let n = length-drop i xs in
-    behind-front i (drop i xs) (omega (arith, low, n)) ∙ ap (shown i (drop i xs)) here
-    ∙ ap (tokens_behind 0 (i + (1 + more))) (drop-more i (suc more) xs ∙ ap (λ m. drop m xs) (let e : i + suc more ≡ i + (1 + more) = omega arith in e))
-
-pub behind-lexeme : (xs : List ℕ) (i more : ℕ) (kind : Kind) → i < length xs → front_at (drop i xs) ≡ Lexeme more kind
-    → tokens_behind 0 i (drop i xs) ≡ record { kind = kind; at = i } ∷ tokens_behind 0 (i + (1 + more)) (drop (i + (1 + more)) xs)
-behind-lexeme xs i more kind low here =
-    let n = length-drop i xs in
-    behind-front i (drop i xs) (omega (arith, low, n)) ∙ ap (shown i (drop i xs)) here
-    ∙ ap (λ l. record { kind = kind; at = i } ∷ tokens_behind 0 (i + (1 + more)) l)
-    (drop-more i (suc more) xs ∙ ap (λ m. drop m xs) (let e : i + suc more ≡ i + (1 + more) = omega arith in e))
-
-pub behind-wrong : (xs : List ℕ) (i : ℕ) → i < length xs → front_at (drop i xs) ≡ Wrong → tokens_behind 0 i (drop i xs) ≡ record { kind = Bad; at = i } ∷ []
-behind-wrong xs i low here = let n = length-drop i xs in behind-front i (drop i xs) (omega (arith, low, n)) ∙ ap (shown i (drop i xs)) here
-
 -- ---- a word
 
 pub word-front : (text : List ℕ) (d : ℕ) → 0 < length text → is_space (get_or text 0 d) ≡ false → (get_or text 0 d == 47) ≡ false
     → begins_name (get_or text 0 d) ≡ true
-    → Lexeme (prefix_len is_name_byte (drop 1 text)) (word_kind (take (1 + prefix_len is_name_byte (drop 1 text)) text)) ≡ front_at text
+    → Lexeme (prefix_len is_name_byte (drop 1 text)) (word_kind (take (1 + prefix_len is_name_byte (drop 1 text)) text)) ≡ front_at front text
 word-front [] d some space slash begins = absurd (omega (arith, some))
 word-front (c ∷ cs) d some space slash begins =
     let n = prefix_len is_name_byte cs in
@@ -154,6 +85,3 @@ word-front (c ∷ cs) d some space slash begins =
     (if begins_name c then Lexeme n (word_kind (c ∷ take n cs)) else mark_front (mark_kind c)))) space
     ∙ ap (λ b. if b then slash_front cs else (if begins_name c then Lexeme n (word_kind (c ∷ take n cs)) else mark_front (mark_kind c))) slash
     ∙ ap (λ b. if b then Lexeme n (word_kind (c ∷ take n cs)) else mark_front (mark_kind c)) begins)
-
-pub differ-eqb : (n m : ℕ) → (n ≡ m → ⊥) → (n == m) ≡ false
-differ-eqb n m apart = elim (n == m) as (λ b. (n == m) ≡ b → b ≡ false) [ true ↦ λ e. absurd (apart (eqb-true n m e)) | false ↦ λ e. refl ] refl

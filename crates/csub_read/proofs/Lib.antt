@@ -1,7 +1,5 @@
-pub mod Rows
 pub mod UnsetLocals
 pub mod TokenKinds
-pub mod ExprLaws
 pub mod TextLaws
 pub mod Makers
 pub mod LexLaws

@@ -1,256 +1,18 @@
--- Inner: a reading function makes what is meant of what is written: rules for the one are images of rules for the other.
-use Rattle.std.proofs.Common.{◌≡◌, ℕ, zero, suc, Bool, false, List, [], ◌∷◌, ◌++◌, map, length, Option, Some, None, is_some, Result, Ok, Err, refl}
-use Rattle.std.proofs.Common.{sym, ◌∙◌, ap}
-use Rattle.std.specs.Option.{option_map, option_map_or}
-use Rattle.csub_text.specs.Tokens.{Kind, RightParenthesis, Bar, Ampersand, Semicolon, Equals}
-use Rattle.csub_text.specs.Trees.{Expr, Exprs, MoreExprs, Program}
-use Rattle.csub_text.specs.Trees as trees
-use Rattle.csub_text.specs.Grammar.{is, name, Written, And, Or, Writtens, meant, all_meant, assign_meant, program_meant}
-use Rattle.read_rules.specs.declared.faults.Fault.{Fault}
-use Rattle.read_rules.specs.Readings.{Read, Rule, refuse, give, follow, mapped, both, trail, on, the, when, ahead, maybe, picked, turn, turns, loop}
-use Rattle.read_rules.specs.Readings.{end_of, whole}
-use Rattle.read_rules.specs.Choice.{optional_or, choose, entered, fits}
-use Rattle.std.proofs.Common.{◌<◌, subst, arith}
-use Rattle.std.proofs.lemmas.List.{length-map, append-nil}
-use Rattle.std.proofs.lemmas.Bool.{false≢true}
-use Rattle.read_rules.proofs.Loops.{Advances, loop-last}
-use Rattle.csub_read.proofs.ExprLaws.{and-advances, or-advances}
+-- Inner: the reading function makes what is meant of what is written: rules for the one are images of rules for the other.
+use Rattle.std.proofs.Common.{◌≡◌, ℕ, List, [], ◌∷◌, map, refl, sym, ◌∙◌, ap}
+use Rattle.csub_text.specs.Tokens.{Kind, Semicolon, Equals}
+use Rattle.csub_text.specs.Trees.{Expr}
+use Rattle.csub_text.specs.Grammar.{is, sign, name, assign_meant, program_meant}
+use Rattle.expr_text.specs.Grammar.{Written, meant}
+use Rattle.expr_text.proofs.Images.{Image, image-mapped, image-both, image-trail, image-on, image-maybe, image-loop, image-self, image-advances}
+use Rattle.expr_text.proofs.Images.{made, end-made}
+use Rattle.expr_text.proofs.Makers.{expr-meant}
+use Rattle.read_rules.specs.Readings.{mapped, both, trail, on, the, loop, end_of, whole}
+use Rattle.read_rules.proofs.Loops.{Advances}
 use Rattle.csub_read.proofs.TextLaws.{assign-advances}
-use Rattle.csub_read.specs.Reading.{exprs, expr_list, writtens, written_list, makes_expr, makes_written, Factor, NotFactor, RoundFactor, NameFactor}
-use Rattle.csub_read.specs.Reading.{BitFactor, factor, is_deep}
-use Rattle.csub_read.specs.Reading.{Rules, factor_behind, neg, list_step, listed, conj, rules_of, inside, expr, state_step, global_step, local_step}
+use Rattle.csub_read.specs.Reading.{makes_expr, makes_written, expr, state_step, global_step, local_step}
 use Rattle.csub_read.specs.Reading.{assign_rule, assign_step, answer_rule, body_rule, function_rule, text_rule, Parts, parts_of, written_assign}
 use Rattle.csub_read.specs.Reading.{written_of, expr_assign, expr_program}
-
--- the second rule reads what the first one does, and gives what f makes of it
-abbrev Image : {T A B : Type 0} → (A → B) → Rule T A → Rule T B → Type 0
-Image {T} f p q = (tokens : List T) → mapped f p tokens ≡ q tokens
-
--- the same of an answer
-abbrev moved : {T A B : Type 0} → (A → B) → Read T A → Read T B
-moved f read = follow read (λ value. give (f value))
-
-image-give : {T A B : Type 0} (f : A → B) (a : A) → Image {T = T} f (give a) (give (f a))
-image-give f a tokens = refl
-
-image-refuse : {T A B : Type 0} (f : A → B) → Image {T = T} f refuse refuse
-image-refuse f tokens = refl
-
-image-mapped : {T A B C D : Type 0} (f : A → B) (p : Rule T A) (q : Rule T B) (g : A → C) (h : C → D) (k : B → D) → ((a : A) → h (g a) ≡ k (f a))
-    → Image f p q →
-    Image h (mapped g p) (mapped k q)
-image-mapped {T} {A} {B} f p q g h k same image tokens = go (p tokens) ∙ ap (moved k) (image tokens)
-  where
-    go : (r : Read T A) → moved h (moved g r) ≡ moved k (moved f r)
-    go (Ok found) = ap (λ d. Ok (d, found.1)) (same found.0)
-    go (Err fault) = refl
-
-image-both : {T A B C D : Type 0} (f : A → B) (p : Rule T A) (q : Rule T B) (g : C → D) (r : Rule T C) (s : Rule T D) → Image f p q → Image g r s →
-    Image {A = A × C} {B = B × D} (λ v. (f v.0, g v.1)) (both p r) (both q s)
-image-both {T} {A} {B} {C} {D} f p q g r s first second tokens = go (p tokens)
-    ∙ ap (λ (x : Read T B). follow {B = B × D} x (λ value. mapped {A = D} {B = B × D} (λ other. (value, other)) s)) (first tokens)
-  where
-    behind : (a : A) (x : Read T C) → moved {A = A × C} {B = B × D} (λ v. (f v.0, g v.1)) (moved {A = C} {B = A × C} (λ other. (a, other)) x)
-        ≡ moved {A = D} {B = B × D} (λ other. (f a, other)) (moved g x)
-    behind a (Ok found) = refl
-    behind a (Err fault) = refl
-
-    go : (x : Read T A) → moved {A = A × C} {B = B × D} (λ v. (f v.0, g v.1))
-        (follow {B = A × C} x (λ value. mapped {A = C} {B = A × C} (λ other. (value, other)) r))
-        ≡ follow {B = B × D} (moved f x) (λ value. mapped {A = D} {B = B × D} (λ other. (value, other)) s)
-    go (Ok found) = behind found.0 (r found.1) ∙ ap (moved {A = D} {B = B × D} (λ other. (f found.0, other))) (second found.1)
-    go (Err fault) = refl
-
-image-trail : {T A B C : Type 0} (f : A → B) (p : Rule T A) (q : Rule T B) (r : Rule T C) → Image f p q → Image f (trail p r) (trail q r)
-image-trail {T} {A} {B} {C} f p q r image tokens = go (p tokens) ∙ ap (λ (x : Read T B). follow x (λ value. mapped (λ _. value) r)) (image tokens)
-  where
-    behind : (a : A) (x : Read T C) → moved f (moved (λ _. a) x) ≡ moved (λ _. f a) x
-    behind a (Ok found) = refl
-    behind a (Err fault) = refl
-
-    go : (x : Read T A) → moved f (follow x (λ value. mapped (λ _. value) r)) ≡ follow (moved f x) (λ value. mapped (λ _. value) r)
-    go (Ok found) = behind found.0 (r found.1)
-    go (Err fault) = refl
-
-image-when : {T X A B : Type 0} (f : A → B) (test : T → Option X) (p : X → Rule T A) (q : X → Rule T B) (r : Rule T A) (s : Rule T B)
-    → ((x : X) → Image f (p x) (q x)) → Image f r s →
-    Image f (when test p r) (when test q s)
-image-when {T} {X} {A} {B} f test p q r s image other tokens = go (picked test tokens)
-  where
-    go : (o : Option (X × List T)) → moved f (option_map_or {T = X × List T} (λ found. p found.0 found.1) o (r tokens))
-        ≡ option_map_or {T = X × List T} (λ found. q found.0 found.1) o (s tokens)
-    go None = other tokens
-    go (Some found) = image found.0 found.1
-
-image-on : {T X A B : Type 0} (f : A → B) (test : T → Option X) (p : Rule T A) (q : Rule T B) → Image f p q → Image f (on test (λ _. p)) (on test (λ _. q))
-image-on f test p q image = image-when f test (λ _. p) (λ _. q) refuse refuse (λ _. image) (image-refuse f)
-
-image-ahead : {T X A B : Type 0} (f : A → B) (test : T → Option X) (p : Rule T A) (q : Rule T B) (r : Rule T A) (s : Rule T B) → Image f p q → Image f r s
-    → Image f (ahead test p r) (ahead test q s)
-image-ahead {T} {X} {A} {B} f test p q r s image other tokens = go (picked test tokens)
-  where
-    go : (o : Option (X × List T)) → moved f (option_map_or {T = X × List T} (λ _. p tokens) o (r tokens))
-        ≡ option_map_or {T = X × List T} (λ _. q tokens) o (s tokens)
-    go None = other tokens
-    go (Some found) = image tokens
-
-image-maybe : {T X A B : Type 0} (f : A → B) (test : T → Option X) (p : Rule T A) (q : Rule T B) → Image f p q
-    → Image (option_map f) (maybe test p) (maybe test q)
-image-maybe f test p q image =
-    image-ahead (option_map f) test (mapped Some p) (mapped Some q) (give None) (give None) (image-mapped f p q Some (option_map f) Some (λ a. refl) image)
-    (image-give (option_map f) None)
-
-image-optional_or : {T X A B : Type 0} (f : A → B) (test : T → Option X) (p : Rule T A) (q : Rule T B) (r : Rule T (Unit {0})) → Image f p q
-    → Image (option_map f) (optional_or test (λ _. p) r) (optional_or test (λ _. q) r)
-image-optional_or {T} {X} {A} {B} f test p q r image =
-    image-when (option_map f) test (λ _. mapped Some p) (λ _. mapped Some q) (mapped (λ _. None) r) (mapped (λ _. None) r)
-    (λ _. image-mapped f p q Some (option_map f) Some (λ a. refl) image) ends
-  where
-    none : (x : Read T (Unit {0})) → moved {B = Option B} (option_map f) (moved {A = Unit {0}} (λ _. None) x) ≡ moved {A = Unit {0}} (λ _. None) x
-    none (Ok found) = refl
-    none (Err fault) = refl
-
-    ends : Image (option_map f) (mapped {A = Unit {0}} (λ _. None) r) (mapped {A = Unit {0}} (λ _. None) r)
-    ends tokens = none (r tokens)
-
-image-turns : {T A B : Type 0} (f : A → B) (p : Rule T (Option A)) (q : Rule T (Option B)) → Image (option_map f) p q → (n : ℕ)
-    → Image (map f) (turns n p) (turns n q)
-image-turns f p q image zero tokens = refl
-image-turns {T} {A} {B} f p q image (suc n) tokens = go (λ rest. image-turns f p q image n rest) (p tokens)
-    ∙ ap (λ (x : Read T (Option B)). follow x (turn (turns n q))) (image tokens)
-  where
-    grown : (a : A) (x : Read T (List A)) → moved (map f) (moved (λ others. a ∷ others) x) ≡ moved (λ others. f a ∷ others) (moved (map f) x)
-    grown a (Ok found) = refl
-    grown a (Err fault) = refl
-
-    go : Image (map f) (turns n p) (turns n q) → (x : Read T (Option A)) → moved (map f) (follow x (turn (turns n p)))
-        ≡ follow (moved (option_map f) x) (turn (turns n q))
-    go before (Ok (None, rest)) = refl
-    go before (Ok (Some a, rest)) = grown a (turns n p rest) ∙ ap (moved (λ others. f a ∷ others)) (before rest)
-    go before (Err fault) = refl
-
-image-loop : {T A B : Type 0} (f : A → B) (p : Rule T (Option A)) (q : Rule T (Option B)) → Image (option_map f) p q → Image (map f) (loop p) (loop q)
-image-loop f p q image tokens = image-turns f p q image (suc (length tokens)) tokens
-
-image-entered : {T A B : Type 0} (f : A → B) (o : Option ℕ) (p : Rule T A) (q : Rule T B) → Image f p q → (tokens : List T)
-    → Image f (entered o p tokens) (entered o q tokens)
-image-entered f None p q image tokens rest = refl
-image-entered f (Some room) p q image tokens rest = image rest
-
-image-choose : {T X A B : Type 0} (f : A → B) (test : T → Option X) (deep : X → Bool) (room : ℕ) (p : X → Rule T A) (q : X → Rule T B)
-    → ((x : X) → Image f (p x) (q x)) →
-    Image f (choose test deep room p) (choose test deep room q)
-image-choose {T} {X} {A} {B} f test deep room p q image tokens = go (picked test tokens)
-  where
-    go : (o : Option (X × List T)) → moved f
-        (option_map_or {T = X × List T} (λ found. entered (fits (deep found.0) room) (p found.0) tokens found.1) o (refuse tokens))
-        ≡ option_map_or {T = X × List T} (λ found. entered (fits (deep found.0) room) (q found.0) tokens found.1) o (refuse tokens)
-    go None = refl
-    go (Some found) = image-entered f (fits (deep found.0) room) (p found.0) (q found.0) (image found.0) tokens found.1
-
--- ---- expressions
-
-all-meant : (es : List Written) → all_meant (writtens es) ≡ exprs (map meant es)
-all-meant [] = refl
-all-meant (e ∷ others) = ap (MoreExprs (meant e)) (all-meant others)
-
-list-meant : (node : Writtens → Written) (made : Exprs → Expr) → ((es : Writtens) → meant (node es) ≡ made (all_meant es)) → (es : List Written)
-    → meant (written_list node es) ≡ expr_list made (map meant es)
-list-meant node made same [] = same _
-list-meant node made same (e ∷ []) = refl
-list-meant node made same (e ∷ next ∷ others) = same _ ∙ ap (λ l. made (MoreExprs (meant e) (MoreExprs (meant next) l))) (all-meant others)
-
-record MeantRules (w : Rules Written) (e : Rules Expr) : Type 0 where
-  part : Image meant w.part e.part
-  whole : Image meant w.whole e.whole
-
-behind-meant : (f : Factor) (w : Rules Written) (e : Rules Expr) → MeantRules w e → Image meant (factor_behind makes_written f w) (factor_behind makes_expr f e)
-behind-meant NotFactor w e k tokens = image-mapped meant w.part e.part makes_written.negation meant trees.Not (λ a. refl) k.part tokens
-behind-meant RoundFactor w e k tokens =
-    image-mapped meant (trail w.whole (the (is RightParenthesis))) (trail e.whole (the (is RightParenthesis))) makes_written.round meant (λ e. e) (λ a. refl)
-    (image-trail meant w.whole e.whole (the (is RightParenthesis)) k.whole) tokens
-behind-meant (NameFactor n) w e k tokens = refl
-behind-meant (BitFactor b) w e k tokens = refl
-
-neg-meant : (room : ℕ) (w : Rules Written) (e : Rules Expr) → MeantRules w e → Image meant (neg makes_written room w) (neg makes_expr room e)
-neg-meant room w e k =
-    image-choose meant factor is_deep room (λ o. factor_behind makes_written o w) (λ o. factor_behind makes_expr o e) (λ o. behind-meant o w e k)
-
-listed-meant : (mark : Kind) (node : List Written → Written) (made : List Expr → Expr) → ((es : List Written) → meant (node es) ≡ made (map meant es))
-    → (w : Rule Kind Written) (e : Rule Kind Expr) → Image meant w e →
-    Image meant (listed mark node w) (listed mark made e)
-listed-meant mark node made same w e k =
-    image-mapped {A = Written × List Written} {B = Expr × List Expr} (λ v. (meant v.0, map meant v.1)) (both w (loop (list_step mark w)))
-    (both e (loop (list_step mark e))) (λ found. node (found.0 ∷ found.1)) meant (λ found. made (found.0 ∷ found.1))
-    (λ found. same (found.0 ∷ found.1))
-    (image-both meant w e (map meant) (loop (list_step mark w)) (loop (list_step mark e)) k
-    (image-loop meant (list_step mark w) (list_step mark e) (image-optional_or meant (is mark) w e (give tt) k)))
-
-rules-meant : (room : ℕ) (w : Rules Written) (e : Rules Expr) → MeantRules w e → MeantRules (rules_of makes_written room w) (rules_of makes_expr room e)
-rules-meant room w e k =
-    let part = neg-meant room w e k in
-    record {
-      part = part;
-      whole = listed-meant Bar makes_written.any makes_expr.any (list-meant Or trees.Or (λ es. refl)) (conj makes_written room w) (conj makes_expr room e)
-          (listed-meant Ampersand makes_written.all makes_expr.all (list-meant And trees.And (λ es. refl)) (neg makes_written room w)
-          (neg makes_expr room e) part);
-    }
-
-inside-meant : (room : ℕ) → MeantRules (inside makes_written room) (inside makes_expr room)
-inside-meant zero = record { part = image-refuse meant; whole = image-refuse meant }
-inside-meant (suc room) = rules-meant room (inside makes_written room) (inside makes_expr room) (inside-meant room)
-
-expr-meant : (room : ℕ) → Image meant (expr makes_written room) (expr makes_expr room)
-expr-meant room = (rules-meant room (inside makes_written room) (inside makes_expr room) (inside-meant room)).whole
-
-neg-image : (room : ℕ) → Image meant (neg makes_written room (inside makes_written room)) (neg makes_expr room (inside makes_expr room))
-neg-image room = neg-meant room (inside makes_written room) (inside makes_expr room) (inside-meant room)
-
-conj-image : (room : ℕ) → Image meant (conj makes_written room (inside makes_written room)) (conj makes_expr room (inside makes_expr room))
-conj-image room =
-    listed-meant Ampersand makes_written.all makes_expr.all (list-meant And trees.And (λ es. refl)) (neg makes_written room (inside makes_written room))
-    (neg makes_expr room (inside makes_expr room)) (neg-image room)
-
--- ---- what loops in code want to know
-
-abbrev rest_or : {T A : Type 0} → List T → Read T A → List T
-rest_or other (Ok found) = found.1
-rest_or other (Err fault) = other
-
-abbrev gives : {T A : Type 0} → Read T (Option A) → Bool
-gives (Ok found) = is_some found.0
-gives (Err fault) = false
-
-image-advances : {T A B : Type 0} (f : A → B) (p : Rule T (Option A)) (q : Rule T (Option B)) → Image (option_map f) p q → Advances p → Advances q
-image-advances {T} {A} {B} f p q image advances tokens value rest reads = go (p tokens) refl (image tokens ∙ reads)
-  where
-    go : (x : Read T (Option A)) → p tokens ≡ x → moved (option_map f) x ≡ Ok (Some value, rest) → length rest < length tokens
-    go (Ok (Some a, other)) at same = subst (λ r. length r < length tokens) (ap (rest_or rest) same) (advances tokens a other at)
-    go (Ok (None, other)) at same = absurd (false≢true (ap gives same))
-    go (Err fault) at same = absurd (false≢true (ap gives same))
-
-pub and-means : (room : ℕ) → Advances (list_step Ampersand (neg makes_expr room (inside makes_expr room)))
-and-means room =
-    image-advances meant (list_step Ampersand (neg makes_written room (inside makes_written room)))
-    (list_step Ampersand (neg makes_expr room (inside makes_expr room)))
-    (image-optional_or meant (is Ampersand) (neg makes_written room (inside makes_written room)) (neg makes_expr room (inside makes_expr room)) (give tt)
-    (neg-image room)) (and-advances room)
-
-pub or-means : (room : ℕ) → Advances (list_step Bar (conj makes_expr room (inside makes_expr room)))
-or-means room =
-    image-advances meant (list_step Bar (conj makes_written room (inside makes_written room))) (list_step Bar (conj makes_expr room (inside makes_expr room)))
-    (image-optional_or meant (is Bar) (conj makes_written room (inside makes_written room)) (conj makes_expr room (inside makes_expr room)) (give tt)
-    (conj-image room)) (or-advances room)
-
--- fewer kinds are fewer tokens
-pub shorter : {X Y : Type 0} (f : X → Y) (xs ys : List X) → length (map f xs) < length (map f ys) → length xs < length ys
-shorter f xs ys low = let a = length-map xs f in let b = length-map ys f in omega (arith, low, a, b)
-
--- a list of more than one
-pub expr_list-many : (node : Exprs → Expr) (parts : List Expr) → 1 < length parts → expr_list node parts ≡ node (exprs parts)
-expr_list-many node [] many = absurd (omega arith)
-expr_list-many node (e ∷ []) many = absurd (omega arith)
-expr_list-many node (e ∷ next ∷ others) many = refl
 
 -- ---- texts
 
@@ -260,22 +22,15 @@ pair_meant a = (a.0, meant a.1)
 abbrev pub parts_meant : Parts Written → Parts Expr
 parts_meant p = record { states = p.states; globals = p.globals; locals = p.locals; body = map pair_meant p.body; answer = meant p.answer }
 
-image-self : {T A : Type 0} (p : Rule T A) → Image (λ a. a) p p
-image-self {T} {A} p tokens = go (p tokens)
-  where
-    go : (x : Read T A) → moved (λ a. a) x ≡ x
-    go (Ok found) = refl
-    go (Err fault) = refl
-
 assign-meant : (room : ℕ) → Image pair_meant (assign_rule makes_written room) (assign_rule makes_expr room)
 assign-meant room =
     image-both (λ a. a) (the name) (the name) meant (on (is Equals) (λ _. trail (expr makes_written room) (the (is Semicolon))))
     (on (is Equals) (λ _. trail (expr makes_expr room) (the (is Semicolon)))) (image-self (the name))
     (image-on meant (is Equals) (trail (expr makes_written room) (the (is Semicolon))) (trail (expr makes_expr room) (the (is Semicolon)))
-    (image-trail meant (expr makes_written room) (expr makes_expr room) (the (is Semicolon)) (expr-meant room)))
+    (image-trail meant (expr makes_written room) (expr makes_expr room) (the (is Semicolon)) (expr-meant sign room)))
 
 answer-meant : (room : ℕ) → Image meant (answer_rule makes_written room) (answer_rule makes_expr room)
-answer-meant room = image-on meant _ _ _ (image-trail meant (expr makes_written room) (expr makes_expr room) _ (expr-meant room))
+answer-meant room = image-on meant _ _ _ (image-trail meant (expr makes_written room) (expr makes_expr room) _ (expr-meant sign room))
 
 pub assigns-mean : (room : ℕ) → Advances (assign_step makes_expr room)
 assigns-mean room =
@@ -306,16 +61,6 @@ text-meant room =
     (image-both (λ a. a) (loop global_step) (loop global_step) (λ v. (v.0, (map pair_meant v.1.0, meant v.1.1))) (function_rule makes_written room)
     (function_rule makes_expr room) (image-self (loop global_step)) (function-meant room)))
 
--- the whole text, with nothing behind it
-abbrev pub made : {A B : Type 0} → (A → B) → Result A Fault → Result B Fault
-made f (Ok value) = Ok (f value)
-made f (Err fault) = Err fault
-
-end-made : {T A B : Type 0} (f : A → B) (x : Read T A) → end_of (moved f x) ≡ made f (end_of x)
-end-made f (Ok (a, [])) = refl
-end-made f (Ok (a, token ∷ rest)) = refl
-end-made f (Err fault) = refl
-
 pub whole-meant : (room : ℕ) (tokens : List Kind) → whole (text_rule makes_expr room) tokens ≡ made parts_meant (whole (text_rule makes_written room) tokens)
 whole-meant room tokens = sym (ap end_of (text-meant room tokens)) ∙ end-made parts_meant (text_rule makes_written room tokens)
 
@@ -330,39 +75,3 @@ body-means (a ∷ body) = ap (λ l. assign_meant (written_assign a) ∷ l) (body
 
 pub parts-means : (p : Parts Written) → expr_program (parts_meant p) ≡ program_meant (written_of p)
 parts-means p = ap (λ body. record { states = p.states; globals = p.globals; locals = p.locals; body = body; answer = meant p.answer }) (body-means p.body)
-
--- the end of a list
-pub list-ended : {T A : Type 0} (step : Rule T (Option A)) (front : List A) (tokens rest : List T) → step tokens ≡ Ok (None, rest)
-    → mapped (λ others. front ++ others) (loop step) tokens ≡ Ok (front, rest)
-list-ended step front tokens rest none = loop-last step (λ others. front ++ others) tokens rest none ∙ ap (λ l. Ok (l, rest)) (append-nil front)
-
--- a step whose token is taken
-pub maybe-on : {T X A : Type 0} (test : T → Option X) (q : X → Rule T A) (tokens : List T) (x : X) (behind : List T) (value : A) (rest : List T)
-    → picked test tokens ≡ Some (x, behind) → q x behind ≡ Ok (value, rest) →
-    maybe test (on test q) tokens ≡ Ok (Some value, rest)
-maybe-on {T} {X} {A} test q tokens x behind value rest next read =
-    ap (λ o. option_map_or {T = X × List T} (λ _. moved {B = Option A} Some (option_map_or {T = X × List T} (λ found. q found.0 found.1) o (refuse tokens))) o
-    (give None tokens)) next
-    ∙ ap (moved {B = Option A} Some) read
-
-pub maybe-both : {T X A : Type 0} (test : T → Option X) (q : Rule T A) (tokens : List T) (x : X) (behind : List T) (value : X × A) (rest : List T)
-    → picked test tokens ≡ Some (x, behind) →
-    mapped (λ v. (x, v)) q behind ≡ Ok (value, rest) → maybe test (both (the test) q) tokens ≡ Ok (Some value, rest)
-maybe-both {T} {X} {A} test q tokens x behind value rest next read =
-    ap (λ o. option_map_or {T = X × List T} (λ _. moved {B = Option (X × A)} Some
-    (follow {B = X × A} (option_map_or {T = X × List T} (λ found. give found.0 found.1) o (refuse tokens))
-    (λ v. mapped {B = X × A} (λ other. (v, other)) q))) o (give None tokens)) next
-    ∙ ap (moved {B = Option (X × A)} Some) read
-
-pub maybe-last : {T X A : Type 0} (test : T → Option X) (p : Rule T A) (tokens : List T) → picked test tokens ≡ None → maybe test p tokens ≡ Ok (None, tokens)
-maybe-last {T} {X} {A} test p tokens none = ap (λ o. option_map_or {T = X × List T} (λ _. mapped {B = Option A} Some p tokens) o (give None tokens)) none
-
--- behind a token that is taken, what does not begin with another
-pub on-apart : {T X Y A : Type 0} (test : T → Option X) (other : T → Option Y) (p : Rule T (Option A)) (q : Rule T A) (tokens : List T) (x : X)
-    (behind : List T) (value : A) (rest : List T)
-    → picked test tokens ≡ Some (x, behind) → picked other behind ≡ None → q behind ≡ Ok (value, rest) → on test (λ _. ahead other p (mapped Some q)) tokens
-    ≡ Ok (Some value, rest)
-on-apart {T} {X} {Y} {A} test other p q tokens x behind value rest next none read =
-    ap (λ o. option_map_or {T = X × List T} (λ found. ahead {A = Option A} other p (mapped {B = Option A} Some q) found.1) o (refuse tokens)) next
-    ∙ ap (λ o. option_map_or {T = Y × List T} (λ _. p behind) o (mapped {B = Option A} Some q behind)) none
-    ∙ ap (moved {B = Option A} Some) read

@@ -1,43 +1,29 @@
 -- Inner: what the answer of the reading function says of a text.
-use Rattle.std.proofs.Common.{◌≡◌, ℕ, ◌-◌, ◌<◌, ◌≤◌, get_or, Bool, true, false, List, [], ◌∷◌, length, map, drop, None, Result, Ok, Err, refl, sym}
-use Rattle.std.proofs.Common.{◌∙◌, ap, subst, arith}
-use Rattle.std.proofs.lemmas.List.{length-map, length-append, get_or-map, drop_all}
+use Rattle.std.proofs.Common.{◌≡◌, ℕ, ◌-◌, ◌≤◌, Bool, true, false, List, [], ◌∷◌, length, map, None, Result, Ok, Err, refl, sym}
+use Rattle.std.proofs.Common.{◌∙◌, ap, subst}
 use Rattle.std.proofs.lemmas.Bool.{false≢true}
 use Rattle.est_base.specs.declared.bounds.TheConstants.Limits.{TEXT_BYTES}
-use Rattle.csub_text.specs.Tokens.{Kind, tokens, kinds}
+use Rattle.csub_text.specs.Tokens.{Kind, kinds}
 use Rattle.csub_text.specs.Trees.{Expr, Program}
-use Rattle.csub_text.specs.Grammar.{Written, WrittenProgram, IsText, program_meant}
+use Rattle.csub_text.specs.Grammar.{WrittenProgram, IsText, program_meant}
 use Rattle.csub_text.specs.Names.{name_fault}
 use Rattle.csub_text.specs.Texts.{nesting_limit}
 use Rattle.csub_text.specs.Views.{program_of, assign_of}
 use Rattle.csub_text.specs.declared.trees.CProgram.{CProgram}
 use Rattle.csub_text.specs.declared.trees.Assign.{Assign as CodeAssign}
 use Rattle.read_rules.specs.declared.faults.Fault.{Fault}
-use Rattle.read_rules.specs.Readings.{ended, whole}
+use Rattle.read_rules.specs.Readings.{whole}
 use Rattle.read_rules.specs.Exact.{Exactly, IsOnly, IsLeastPlace}
 use Rattle.csub_read.specs.declared.refusal.CError.{CError}
 use Rattle.csub_read.specs.declared.refusal.CError.TheVariants as faults
-use Rattle.csub_read.specs.declared.tokens.Token.{Token}
-use Rattle.csub_read.specs.Faults.{ReadsAs, ReadsFault, IsSyntaxFault, place_of}
+use Rattle.csub_read.specs.Faults.{ReadsAs, ReadsFault}
 use Rattle.csub_read.specs.Steps.{SyntaxFault, Spells}
 use Rattle.csub_read.specs.NameTests.{NamesFault}
 use Rattle.csub_read.specs.Reading.{Parts, makes_expr, makes_written, text_rule, written_of, expr_assign, expr_program, pair_of, parts_in}
-use Rattle.csub_read.specs.Tokens.{token_of, kind_in}
-use Rattle.net_ir.proofs.Numbered.{drop-at}
 use Rattle.csub_read.proofs.TextLaws.{text-exact}
-use Rattle.csub_read.proofs.Makers.{parts_meant, made, whole-meant, whole-written, parts-means}
-
--- the kinds of a text are those of the code's tokens
-pub kinds-are : (text : List ℕ) (all : List Token) → map token_of all ≡ tokens text → map kind_in all ≡ kinds text
-kinds-are text all same = go all ∙ ap (map (λ t. t.kind)) same
-  where
-    go : (all : List Token) → map kind_in all ≡ map (λ t. t.kind) (map token_of all)
-    go [] = refl
-    go (t ∷ all) = ap (λ l. kind_in t ∷ l) (go all)
-
-pub ended-kinds : {A : Type 0} (value : A) (rest : List Token) → ended value (map kind_in rest) ≡ ended value rest
-ended-kinds value [] = refl
-ended-kinds value (t ∷ rest) = ap (λ n. Err (record { deep = false; left = n })) (length-map (t ∷ rest) kind_in)
+use Rattle.csub_read.proofs.Makers.{parts_meant, whole-meant, whole-written, parts-means}
+use Rattle.expr_text.specs.Grammar.{Written}
+use Rattle.expr_text.proofs.Images.{made}
 
 -- what is written, where the whole is read
 record Reads (ks : List Kind) (parts : Parts Expr) : Type 0 where
@@ -104,35 +90,6 @@ spells-by text ks p same is =
       means = r.means ∙ program-is p;
       only = λ other spelled. r.only.only other (subst (IsText nesting_limit other) (sym same) spelled);
     }
-
--- a fault stands within the tokens
-pub left-low : (ks : List Kind) (fault : Fault) → IsLeastPlace IsText nesting_limit ks fault → fault.left ≤ length ks
-left-low ks fault least =
-    let a = ap length least.cut in
-    let b = length-append least.front least.rest in
-    omega (arith, a, b, least.place)
-
-pub syntax-by : (text : List ℕ) (all : List Token) (fault : Fault) (at : ℕ) → map token_of all ≡ tokens text
-    → IsLeastPlace IsText nesting_limit (map kind_in all) fault
-    → at ≡ place_of (length text) (drop (length all - fault.left) (map token_of all)) → IsSyntaxFault text at
-syntax-by text all fault at same least place =
-    let n : length all ≡ length (tokens text) = sym (length-map all token_of) ∙ ap length same in
-    record {
-      fault = fault;
-      least = subst (λ ks. IsLeastPlace IsText nesting_limit ks fault) (kinds-are text all same) least;
-      place = place ∙ ap (λ l. place_of (length text) (drop (length all - fault.left) l)) same
-          ∙ ap (λ m. place_of (length text) (drop (m - fault.left) (tokens text))) n;
-    }
-
--- the place of the token with this number, or the end of the text
-pub place-token : (end : ℕ) (ts : List Token) (k : ℕ) (x : Token) → k < length ts → x ≡ get_or ts k x → x.at ≡ place_of end (drop k (map token_of ts))
-place-token end ts k x low is =
-    let wide = length-map ts token_of in
-    let at : token_of x ≡ get_or (map token_of ts) k (token_of x) = ap token_of is ∙ sym (get_or-map token_of ts k x (token_of x) low) in
-    ap (place_of end) (sym (drop-at (map token_of ts) k (token_of x) (omega (arith, low, wide)) at))
-
-pub place-end : (end : ℕ) (ts : List Token) (k : ℕ) → length ts ≤ k → end ≡ place_of end (drop k (map token_of ts))
-place-end end ts k high = let wide = length-map ts token_of in ap (place_of end) (sym (drop_all k (map token_of ts) (omega (arith, high, wide))))
 
 -- ---- whole texts
 

@@ -3,7 +3,7 @@ use Rattle.std.proofs.Common.{◌≡◌, ◌⊎◌, inl, inr, ℕ, max, true, fa
 use Rattle.csub_text.specs.Tokens.{Kind, Static, Int, Return, Void, React, LeftParenthesis, RightParenthesis, LeftBrace}
 use Rattle.csub_text.specs.Tokens.{RightBrace, Semicolon, Equals}
 use Rattle.csub_text.specs.Trees.{State}
-use Rattle.csub_text.specs.Grammar.{is, name, bit, own_name, global_name, Written, written_nesting, Disjunction, SpellsExpr, WrittenAssign}
+use Rattle.csub_text.specs.Grammar.{is, sign, name, bit, own_name, global_name, SpellsExpression, WrittenAssign}
 use Rattle.csub_text.specs.Grammar.{WrittenProgram, SpellsState, SpellsGlobal, SpellsLocal, SpellsAssign, SpellsAnswer, SpellsText}
 use Rattle.csub_text.specs.Grammar.{body_nesting, text_nesting, IsText}
 use Rattle.read_rules.specs.Exact.{Exactly}
@@ -12,17 +12,23 @@ use Rattle.read_rules.specs.Languages.{One as Single}
 use Rattle.read_rules.specs.Choice.{Made}
 use Rattle.read_rules.specs.Readings.{Rule, mapped, both, the, loop, whole}
 use Rattle.read_rules.proofs.Loops.{Advances, mapped-mapped}
-use Rattle.read_rules.proofs.Readers.{one_shape, Stops, Laws, Reads, the-reads, both-reads, led-reads, trail-reads, ahead-reads, mapped-reads}
+use Rattle.read_rules.proofs.Readers.{Shape, one_shape, Stops, Laws, Reads, the-reads, both-reads, led-reads, trail-reads, ahead-reads, mapped-reads}
 use Rattle.read_rules.proofs.Readers.{told-reads, made-reads, same-reads, shape-reads}
 use Rattle.read_rules.proofs.Steps.{Turn, step_depth, list_depth, AfterStep, StepLaws, Steps, look-steps, loop-reads, Advances-step}
 use Rattle.read_rules.proofs.Choices.{whole-reads as exact-reads}
 use Rattle.csub_read.specs.Reading.{makes_written, expr, state_rule, state_step, global_step, local_rule, local_step, assign_rule, assign_step}
 use Rattle.csub_read.specs.Reading.{answer_rule, function_rule, text_rule, parts_of, written_assign, written_of}
-use Rattle.csub_read.proofs.TokenKinds.{class, is-test, name_set, name-test, own-test, global-test, bit-test}
-use Rattle.csub_read.proofs.ExprLaws.{expr_shape, exprs_known}
+use Rattle.csub_read.specs.Tokens.{spelled}
+use Rattle.csub_read.proofs.TokenKinds.{class, is-test, name_set, name-test, own-test, global-test, bit-test, begins_set, sign-begins, sign-follows}
+use Rattle.expr_text.specs.Grammar.{Written, written_nesting}
+use Rattle.expr_text.proofs.ExprLaws.{exprs_known}
+use Rattle.expr_text.proofs.Tests.{class-reads}
 
-expr-reads : (room : ℕ) → Reads class (λ n. expr makes_written n) (SpellsExpr Disjunction) written_nesting expr_shape (Some room)
-expr-reads room = (exprs_known room).whole
+abbrev expr_shape : Shape
+expr_shape = record { starts = begins_set; empty = false; after = 14 ∷ 13 ∷ [] }
+
+expr-reads : (room : ℕ) → Reads class (λ n. expr makes_written n) SpellsExpression written_nesting expr_shape (Some room)
+expr-reads room = class-reads class expr_shape (exprs_known sign spelled room).whole (λ e. e) sign-begins sign-follows
 
 own-reads : {room : Option ℕ} → Reads class (λ _. the own_name) (Single own_name) (λ _. 0) (one_shape (16 ∷ [])) room
 own-reads = the-reads own-test
@@ -119,7 +125,7 @@ local-steps : {room : Option ℕ} → Steps class (λ _. local_step) (Optional S
 local-steps = look-steps (is-test Int (omega arith)) local-reads refl refl
 
 abbrev SpellsPair : List ℕ × Written → List Kind → Type 0
-SpellsPair a = Then (Single name a.0) (Led (is Equals) (λ _. Then (SpellsExpr Disjunction a.1) (Single (is Semicolon) tt)))
+SpellsPair a = Then (Single name a.0) (Led (is Equals) (λ _. Then (SpellsExpression a.1) (Single (is Semicolon) tt)))
 
 abbrev pair_depth : List ℕ × Written → ℕ
 pair_depth a = max 0 (written_nesting a.1)

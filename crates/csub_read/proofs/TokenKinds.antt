@@ -3,10 +3,11 @@ use Rattle.std.proofs.Common.{◌≡◌, ℕ, ◌<◌, ◌≤◌, Bool, true, fa
 use Rattle.std.proofs.Common.{refl, sym, ◌∙◌, ap, arith}
 use Rattle.std.specs.Prelude.{if◌then◌else◌}
 use Rattle.std.proofs.lemmas.Bool.{eqb-true}
-use Rattle.csub_text.specs.Tokens.{Kind, Static, Zero, Bang, Named}
-use Rattle.csub_text.specs.Grammar.{kind_number, is, name, bit, begins_global, global_name, own_name}
+use Rattle.csub_text.specs.Tokens.{Kind, Static, LeftParenthesis, Zero, One, Bar, Ampersand, Bang, Named}
+use Rattle.csub_text.specs.Grammar.{kind_number, is, sign, name, bit, begins_global, global_name, own_name}
+use Rattle.expr_text.proofs.ExprLaws.{sign_class, factor_set}
+use Rattle.expr_text.proofs.Tests.{both-ways}
 use Rattle.read_rules.proofs.Sets.{has, Test, test-of}
-use Rattle.csub_read.specs.Reading.{NotFactor, factor}
 
 -- names that a state or a local may have, those that a global may have, and those that neither may
 abbrev pub name_class : List ℕ → ℕ
@@ -24,10 +25,6 @@ high false c = omega arith
 apart-high : (n m : ℕ) → n < 16 → 16 ≤ m → eqb n m ≡ false
 apart-high n m low up = elim (eqb n m) as
     (λ b. eqb n m ≡ b → b ≡ false) [ true ↦ λ e. absurd (omega (arith, low, up, eqb-true n m e)) | false ↦ λ e. refl ] refl
-
-both-ways : (b : Bool) → is_some {T = Unit {0}} (if b then Some tt else None) ≡ cond b true false
-both-ways true = refl
-both-ways false = refl
 
 is-agrees : (k : Kind) → kind_number k < 16 → (token : Kind) → is_some (is k token) ≡ has (kind_number k ∷ []) (class token)
 is-agrees k low (Named n) =
@@ -95,19 +92,25 @@ bit-test = test-of (11 ∷ 12 ∷ []) agrees Zero false refl
     agrees Static = refl
     agrees _ = refl
 
--- what begins a part of an expression
-abbrev pub factor_set : List ℕ
-factor_set = 15 ∷ 5 ∷ 11 ∷ 12 ∷ 16 ∷ 18 ∷ 19 ∷ []
+-- what begins a part of an expression, and what goes on with one
+abbrev pub begins_set : List ℕ
+begins_set = 15 ∷ 5 ∷ 11 ∷ 12 ∷ 16 ∷ 18 ∷ 19 ∷ []
 
-pub factor-test : Test class factor factor_set
-factor-test = test-of factor_set agrees Bang NotFactor refl
+pub sign-begins : (token : Kind) → has factor_set (sign_class sign token) ≡ true → has begins_set (class token) ≡ true
+sign-begins (Named n) is = all (begins_global n) (nat_lt 2 (length n))
   where
-    all : (b c : Bool) → true ≡ has factor_set (cond b (cond c 18 19) 16)
+    all : (b c : Bool) → has begins_set (cond b (cond c 18 19) 16) ≡ true
     all true true = refl
     all true false = refl
     all false c = refl
+sign-begins Bang is = refl
+sign-begins LeftParenthesis is = refl
+sign-begins Zero is = refl
+sign-begins One is = refl
+sign-begins _ is = cc
 
-    agrees : (token : Kind) → is_some (factor token) ≡ has factor_set (class token)
-    agrees (Named n) = all (begins_global n) (nat_lt 2 (length n))
-    agrees Static = refl
-    agrees _ = refl
+pub sign-follows : (token : Kind) → has (14 ∷ 13 ∷ []) (class token) ≡ false → has (5 ∷ 6 ∷ []) (sign_class sign token) ≡ false
+sign-follows (Named n) out = refl
+sign-follows Bar out = cc
+sign-follows Ampersand out = cc
+sign-follows _ out = refl

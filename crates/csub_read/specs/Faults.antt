@@ -1,15 +1,14 @@
 -- To believe: what it means that a text is read, and what a fault says of a text. Want of memory says nothing.
-use Rattle.std.specs.Prelude.{◌≡◌, ℕ, ◌-◌, ◌<◌, ◌≤◌, ⊤, List, [], ◌∷◌, length, drop, Some}
+use Rattle.std.specs.Prelude.{◌≡◌, ℕ, ◌<◌, ◌≤◌, ⊤, List, length, Some}
 use Rattle.est_base.specs.declared.bounds.TheConstants.Limits.{TEXT_BYTES}
 use Rattle.csub_text.specs.Trees.{Program}
-use Rattle.csub_text.specs.Tokens.{Token, tokens, kinds}
+use Rattle.expr_text.specs.Lexemes.{IsFaultPlace}
+use Rattle.csub_text.specs.Tokens.{tokens, kinds}
 use Rattle.csub_text.specs.Grammar.{WrittenProgram, IsText, program_meant}
 use Rattle.csub_text.specs.Names.{NameFault, Twice, Undeclared, Unset, name_fault}
 use Rattle.csub_text.specs.Texts.{Describes, nesting_limit}
 use Rattle.csub_read.specs.declared.refusal.CError.{CError}
 use Rattle.csub_read.specs.declared.refusal.CError.TheVariants as faults
-use Rattle.read_rules.specs.declared.faults.Fault.{Fault}
-use Rattle.read_rules.specs.Exact.{IsLeastPlace}
 
 -- the text is short enough, and this is the one program that it describes
 pub record ReadsAs (text : List ℕ) (program : Program) : Type 0 where
@@ -17,17 +16,9 @@ pub record ReadsAs (text : List ℕ) (program : Program) : Type 0 where
   pub describes : Describes text program
   pub only : (other : Program) → Describes text other → other ≡ program
 
--- the place of the first of some tokens, or the end of the text
-abbrev pub place_of : ℕ → List Token → ℕ
-place_of end [] = end
-place_of end (token ∷ rest) = token.at
-
--- The fault is at the least token that no text of the grammar passes, with its bound on nesting: `left` tokens stand
--- from there on.
-pub record IsSyntaxFault (text : List ℕ) (at : ℕ) : Type 0 where
-  pub fault : Fault
-  pub least : IsLeastPlace IsText nesting_limit (kinds text) fault
-  pub place : at ≡ place_of (length text) (drop (length (tokens text) - fault.left) (tokens text))
+-- The place is that of the least token that no text of the grammar passes, with its bound on nesting.
+abbrev pub IsSyntaxFault : List ℕ → ℕ → Type 0
+IsSyntaxFault text at = IsFaultPlace IsText nesting_limit (tokens text) (length text) at
 
 -- the text has the grammar, and this is the first fault of its names
 pub record IsNameFault (text : List ℕ) (fault : NameFault) : Type 0 where

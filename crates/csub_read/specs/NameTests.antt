@@ -3,18 +3,12 @@ use Rattle.std.specs.Prelude.{◌≡◌, ℕ, Bool, not, ◌||◌, ⊤, List, []
 use Rattle.csub_text.specs.Grammar.{begins_input}
 use Rattle.csub_text.specs.Trees.{Program}
 use Rattle.net_ir.specs.NameLists.{first_again}
-use Rattle.csub_text.specs.Names.{names_in, Use, Assigned, Taken, used_name, Twice, Undeclared, Unset}
+use Rattle.csub_text.specs.Names.{Use, Assigned, Taken, used_name, Twice, Undeclared, Unset}
 use Rattle.csub_text.specs.Names.{name_fault}
-use Rattle.csub_text.specs.Views.{expr_of}
-use Rattle.csub_text.specs.declared.trees.Expr.{Expr as CodeExpr}
 use Rattle.csub_read.specs.declared.names.Use.{Use as CodeUse}
 use Rattle.csub_read.specs.declared.names.Use.TheVariants as places
 use Rattle.csub_read.specs.declared.refusal.CError.{CError}
 use Rattle.csub_read.specs.declared.refusal.CError.TheVariants as faults
-
--- the names in an expression of the code. The definition is closed, so that a proof sees one row at a time.
-unfoldable pub names_at : CodeExpr → List (List ℕ)
-names_at e = names_in (expr_of e)
 
 abbrev pub use_of : CodeUse → Use
 use_of (places.Assigned name) = Assigned name.now

@@ -1,12 +1,13 @@
--- Inner: the plain forms of tokens, and of what begins a text.
-use Rattle.std.specs.Prelude.{ℕ, ◌+◌, List, [], ◌∷◌, Option, Some, None}
-use Rattle.csub_text.specs.Tokens.{Kind, Token, Front, front}
+-- Inner: the plain forms of kinds of tokens.
+use Rattle.std.specs.Prelude.{◌≡◌, ℕ, ◌+◌, true, false, Option, Some, None, refl}
+use Rattle.csub_text.specs.Tokens.{Kind}
 use Rattle.csub_text.specs.Tokens as spec
+use Rattle.csub_text.specs.Grammar.{sign}
+use Rattle.expr_text.specs.Signs.{Sign, NameSign, BitSign, NotSign, OpenSign, CloseSign, AndSign, OrSign, OtherSign}
+use Rattle.expr_text.specs.Plain.{kind_by}
+use Rattle.expr_text.specs.declared.kinds.Token.{Token}
 use Rattle.csub_read.specs.declared.tokens.Kind.{Kind as CodeKind}
 use Rattle.csub_read.specs.declared.tokens.Kind.TheVariants as kinds
-use Rattle.csub_read.specs.declared.tokens.Token.{Token as CodeToken}
-use Rattle.csub_read.specs.declared.lexer.Front.{Front as CodeFront}
-use Rattle.csub_read.specs.declared.lexer.Front.TheVariants as fronts
 
 abbrev pub kind_of : CodeKind → Kind
 kind_of kinds.Static = spec.Static
@@ -28,28 +29,21 @@ kind_of kinds.Bang = spec.Bang
 kind_of (kinds.Named name) = spec.Named name.now
 kind_of kinds.Bad = spec.Bad
 
-abbrev pub token_of : CodeToken → Token
-token_of t = record { kind = kind_of t.kind; at = t.at }
-
 -- the kind of a token
-abbrev pub kind_in : CodeToken → Kind
-kind_in t = kind_of t.kind
+abbrev pub kind_in : Token CodeKind → Kind
+kind_in = kind_by kind_of
 
-abbrev pub front_of : CodeFront → Front
-front_of (fronts.Gap more) = spec.Gap more
-front_of (fronts.Lexeme more kind) = spec.Lexeme more (kind_of kind)
-front_of fronts.Wrong = spec.Wrong
-
--- what a text that is not empty begins with
-abbrev pub front_at : List ℕ → Front
-front_at [] = spec.Wrong
-front_at (c ∷ cs) = front c cs
-
--- how many bytes a front has behind the first one
-abbrev pub front_more : Front → ℕ
-front_more (spec.Gap more) = more
-front_more (spec.Lexeme more kind) = more
-front_more spec.Wrong = 0
+-- each sign is that of some kind
+pub spelled : (s : Sign) → (kind : Kind) × (sign kind ≡ s)
+spelled (NameSign name) = (spec.Named name, refl)
+spelled (BitSign false) = (spec.Zero, refl)
+spelled (BitSign true) = (spec.One, refl)
+spelled NotSign = (spec.Bang, refl)
+spelled OpenSign = (spec.LeftParenthesis, refl)
+spelled CloseSign = (spec.RightParenthesis, refl)
+spelled AndSign = (spec.Ampersand, refl)
+spelled OrSign = (spec.Bar, refl)
+spelled OtherSign = (spec.Bad, refl)
 
 -- the same number, and so many more
 abbrev pub more_by : ℕ → Option ℕ → Option ℕ

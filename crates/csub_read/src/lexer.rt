@@ -1,58 +1,21 @@
-// From a text to its tokens.
+// What begins a text: spaces, comments and tokens.
 
-ghost use Rattle.std.specs.Prelude.{◌≡◌, ◌+◌, ◌<◌, ◌≤◌, ◌==◌, ◌&&◌, length, drop, take, map, IfOk, IfSome};
+ghost use Rattle.std.specs.Prelude.{◌≡◌, ◌+◌, ◌<◌, ◌≤◌, ◌==◌, ◌&&◌, length, drop, take, IfSome};
 ghost use Rattle.std.specs.List.{prefix_len};
 ghost use Rattle.std.specs.Option.{option_map};
 ghost use Rattle.est_base.specs.Names.{is_name_byte};
-ghost use Rattle.csub_text.specs.Tokens.{Lexeme, tokens, is_space, begins_name, word_kind, mark_kind, closed_after};
-ghost use Rattle.csub_text.specs.Tokens.{slash_front};
-ghost use Rattle.csub_read.specs.Tokens.{kind_of, token_of, front_of, front_at, front_more};
+ghost use Rattle.csub_text.specs.Tokens.{Lexeme, front, word_kind, mark_kind, closed_after, slash_front};
+ghost use Rattle.csub_read.specs.Tokens.{kind_of};
+ghost use Rattle.expr_text.specs.Plain.{front_by, front_at, front_more};
 
-use crate::tokens::{Kind, Token};
-use est_base::{Limits, NoMemory, is_letter, is_name_byte};
-use std::alloc::Global;
-
-/// The tokens of a text. A byte that begins no token, and a `/*` without a `*/` behind it, are the last token.
-///
-/// It takes time and memory in proportion to the text.
-pub fn lex<'a>(alloc: Global, text: &'a [u8]) -> Result<Vec<Token<'a>>, NoMemory>
-    requires { length text.now ≤ Limits.TEXT_BYTES }
-    ensures { IfOk result (λ v. map token_of v.items ≡ tokens text.now) }
-{
-    let mut tokens = Vec::new(alloc);
-    let mut at: usize = 0;
-    'fronts: while at < text.len() {
-        let place = at as u32;
-        match next_front(&text[at..]) {
-            Front::Gap(more) => at += 1 + more,
-            Front::Lexeme(more, kind) => {
-                tokens.push(Token { kind, at: place })?;
-                at += 1 + more;
-            }
-            Front::Wrong => {
-                let kind = Kind::Bad;
-                tokens.push(Token { kind, at: place })?;
-                return Ok(tokens);
-            }
-        }
-    }
-    Ok(tokens)
-}
-
-// What begins a text: a space or a comment, a token, or a byte that begins neither. Of the first two the number
-// of bytes behind the first one is told.
-#[derive(Clone, Copy)]
-pub enum Front<'a> {
-    Gap(usize),
-    Lexeme(usize, Kind<'a>),
-    Wrong,
-}
+use crate::tokens::Kind;
+use expr_text::{Front, begins_name, is_space, name_len};
 
 // What begins a text that is not empty.
-fn next_front<'a>(text: &'a [u8]) -> Front<'a>
+pub fn next_front<'a>(text: &'a [u8]) -> Front<Kind<'a>>
     requires { 0 < length text.now }
-    ensures is { front_of result ≡ front_at text.now }
-    ensures within { front_more (front_of result) < length text.now }
+    ensures is { front_by kind_of result ≡ front_at front text.now }
+    ensures within { front_more (front_by kind_of result) < length text.now }
 {
     let first = text[0];
     if is_space(first) {
@@ -70,21 +33,21 @@ fn next_front<'a>(text: &'a [u8]) -> Front<'a>
 }
 
 // The word that begins a text that is not empty.
-fn word<'a>(text: &'a [u8]) -> Front<'a>
+fn word<'a>(text: &'a [u8]) -> Front<Kind<'a>>
     requires { 0 < length text.now }
-    ensures is { front_of result
+    ensures is { front_by kind_of result
         ≡ Lexeme (prefix_len is_name_byte (drop 1 text.now))
         (word_kind (take (1 + prefix_len is_name_byte (drop 1 text.now)) text.now)) }
-    ensures within { front_more (front_of result) < length text.now }
+    ensures within { front_more (front_by kind_of result) < length text.now }
 {
     let more = name_len(&text[1..]);
     Front::Lexeme(more, word_kind(&text[..1 + more]))
 }
 
 // The comment whose `/` stands before this text.
-fn comment<'a>(text: &[u8]) -> Front<'a>
-    ensures is { front_of result ≡ slash_front text.now }
-    ensures within { front_more (front_of result) ≤ length text.now }
+fn comment<'a>(text: &[u8]) -> Front<Kind<'a>>
+    ensures is { front_by kind_of result ≡ slash_front text.now }
+    ensures within { front_more (front_by kind_of result) ≤ length text.now }
 {
     if text.is_empty() || text[0] != b'*' {
         return Front::Wrong;
@@ -114,32 +77,6 @@ fn closes(byte: u8, next: u8) -> bool
     ensures { result ≡ (byte == 42 && next == 47) }
 {
     byte == b'*' && next == b'/'
-}
-
-// Space, tab, line feed, form feed and carriage return.
-fn is_space(byte: u8) -> bool
-    ensures { result ≡ is_space byte }
-{
-    byte == b' ' || (byte == b'\t' || (byte == b'\n' || (byte == b'\x0c' || byte == b'\r')))
-}
-
-// A letter or `_`.
-fn begins_name(byte: u8) -> bool
-    ensures { result ≡ begins_name byte }
-{
-    is_letter(byte) || byte == b'_'
-}
-
-// How many letters, digits and `_` begin a text.
-fn name_len(text: &[u8]) -> usize
-    ensures is { result ≡ prefix_len is_name_byte text.now }
-    ensures within { result ≤ length text.now }
-{
-    let mut len = 0;
-    'bytes: while len < text.len() && is_name_byte(text[len]) {
-        len += 1;
-    }
-    len
 }
 
 // A reserved word, or else a name.

@@ -4,7 +4,7 @@
 //! the rules on names that csub_text states.
 #![tactic(auto)]
 
-mod expressions;
+mod kinds;
 mod laws;
 mod lexer;
 mod names;

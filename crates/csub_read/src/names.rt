@@ -1,17 +1,18 @@
 // The rules on names.
 
-ghost use Rattle.std.specs.Prelude.{◌≡◌, ◌++◌, ◌&&◌, ℕ, List, [], map, flat_map, find, not, None, IfOk, IfErr, OnOk};
+ghost use Rattle.std.specs.Prelude.{◌≡◌, ◌++◌, ◌&&◌, ℕ, List, [], map, find, not, None, IfOk, IfErr, OnOk};
 ghost use Rattle.std.specs.HashSet.{contains_by};
 ghost use Rattle.est_base.specs.Names.{is_same_name};
 ghost use Rattle.net_ir.specs.NameLists.{is_among, first_again};
 ghost use Rattle.csub_text.specs.Names.{Taken, names_in, uses, unset, used_name};
 ghost use Rattle.csub_text.specs.Names.{name_fault};
 ghost use Rattle.csub_text.specs.Views.{expr_of, program_of};
-ghost use Rattle.csub_read.specs.NameTests.{names_at, use_of, wrong_use, NamesFault, AgainFault, UseFault, UnsetFault};
+ghost use Rattle.csub_read.specs.NameTests.{use_of, wrong_use, NamesFault, AgainFault, UseFault, UnsetFault};
 
 use crate::refusal::CError;
-use csub_text::{CProgram, Expr, begins_input, declared_names};
+use csub_text::{CProgram, begins_input, declared_names};
 use est_base::{NoMemory, Text};
+use expr_text::{Expr, names_in};
 use std::alloc::Global;
 use std::collections::HashSet;
 
@@ -105,41 +106,6 @@ fn push_taken<'a>(alloc: Global, uses: &mut Vec<Use<'a>>, value: &'a Expr) -> Re
     let names = names_in(alloc, value)?;
     for name in &names {
         uses.push(Use::Taken(*name))?;
-    }
-    Ok(())
-}
-
-// The names in an expression, from the left.
-#[tactic(auto, using(crate::proofs::Rows::names_told))]
-fn names_in<'a>(alloc: Global, value: &'a Expr) -> Result<Vec<&'a [u8]>, NoMemory>
-    ensures { IfOk result (λ v. map (λ w. w.now) v.items ≡ names_in (expr_of value.now)) }
-{
-    let mut names = Vec::new(alloc);
-    put_names(value, &mut names)?;
-    Ok(names)
-}
-
-#[cycle(names)]
-#[tactic(auto, using(crate::proofs::Rows::name_rows))]
-fn put_names<'a>(value: &'a Expr, names: &mut Vec<&'a [u8]>) -> Result<(), NoMemory>
-    ensures { OnOk result (map (λ w. w.now) names.new.items ≡ map (λ w. w.now) names.old.items ++ names_at value.now) }
-{
-    match value {
-        Expr::Name(name) => Ok(names.push(name.bytes())?),
-        Expr::Const(_) => Ok(()),
-        Expr::Not(part) => put_names(part, names),
-        Expr::And(parts) => put_all_names(parts.as_slice(), names),
-        Expr::Or(parts) => put_all_names(parts.as_slice(), names),
-    }
-}
-
-#[cycle(names)]
-fn put_all_names<'a>(parts: &'a [Expr], names: &mut Vec<&'a [u8]>) -> Result<(), NoMemory>
-    ensures { OnOk result
-        (map (λ w. w.now) names.new.items ≡ map (λ w. w.now) names.old.items ++ flat_map names_at parts.now) }
-{
-    for part in parts {
-        put_names(part, names)?;
     }
     Ok(())
 }

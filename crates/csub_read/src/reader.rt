@@ -1,24 +1,22 @@
 // From a text to the program that it describes.
 
-ghost use Rattle.std.specs.Prelude.{◌≡◌, ◌-◌, ◌≤◌, length, drop, map, None, IfOk, IfErr};
+ghost use Rattle.std.specs.Prelude.{◌≡◌, ◌≤◌, length, map, None, IfOk, IfErr};
 ghost use Rattle.csub_text.specs.Names.{name_fault};
-ghost use Rattle.csub_text.specs.Texts.{nesting_limit};
-ghost use Rattle.csub_text.specs.Tokens.{kinds};
 ghost use Rattle.csub_text.specs.Views.{program_of};
-ghost use Rattle.csub_read.specs.Faults.{ReadsAs, ReadsFault, place_of};
+ghost use Rattle.csub_read.specs.Faults.{ReadsAs, ReadsFault};
 ghost use Rattle.csub_read.specs.Reading.{GivesKinds, parts_in, makes_expr, text_rule};
 ghost use Rattle.csub_read.specs.Steps.{SyntaxFault, Spells};
-ghost use Rattle.csub_read.specs.Tokens.{kind_in, token_of};
+ghost use Rattle.csub_read.specs.Tokens.{kind_in};
 ghost use Rattle.read_rules.specs.Readings.{whole};
 
-use crate::lexer::lex;
 use crate::names::check_names;
 use crate::refusal::CError;
 use crate::text::read_text;
 use crate::tokens::Token;
 use csub_text::CProgram;
 use est_base::Limits;
-use read_rules::{Fault, ReadError, ended};
+use expr_text::{lex, place_at};
+use read_rules::{ReadError, ended};
 use std::alloc::Global;
 
 // How many `!` and `(` may stand one in another.
@@ -68,19 +66,4 @@ fn read_whole(alloc: Global, tokens: &[Token<'_>], room: u32) -> Result<CProgram
 {
     let (program, rest) = read_text(alloc, tokens, room)?;
     Ok(ended(program, rest)?)
-}
-
-// The place in the text where a fault stands.
-fn place_at(text: &[u8], tokens: &[Token<'_>], fault: Fault) -> u32
-    requires short { length text.now ≤ Limits.TEXT_BYTES }
-    requires within { fault.left ≤ length tokens.now }
-    ensures { result
-        ≡ place_of (length text.now) (drop (length tokens.now - fault.left) (map token_of tokens.now)) }
-{
-    let first = tokens.len() - fault.left;
-    if first < tokens.len() {
-        tokens[first].at
-    } else {
-        text.len() as u32
-    }
 }

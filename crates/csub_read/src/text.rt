@@ -1,6 +1,6 @@
 // The reader of declarations, assignments and whole texts.
 
-ghost use Rattle.std.specs.Prelude.{◌≡◌, map};
+ghost use Rattle.std.specs.Prelude.{map};
 ghost use Rattle.csub_text.specs.Views.{expr_of, state_of};
 ghost use Rattle.csub_read.specs.Reading.{FindsKinds, pair_of, parts_in, makes_expr, state_behind, state_step};
 ghost use Rattle.csub_read.specs.Reading.{global_behind, global_step};
@@ -9,14 +9,11 @@ ghost use Rattle.csub_read.specs.Reading.{text_rule};
 ghost use Rattle.csub_read.specs.Tokens.{kind_in};
 ghost use Rattle.read_rules.specs.Readings.{mapped, loop};
 
-use crate::expressions::read_expr;
-use crate::signs::{
-    after, copy_of, nothing_read, past, past_name, read_bit, read_global_name, read_own_name,
-    refused_here,
-};
+use crate::signs::{read_global_name, read_own_name};
 use crate::tokens::{Kind, Token};
 use csub_text::{Assign, CProgram, Expr, State};
 use est_base::Text;
+use expr_text::{after, copy_of, nothing_read, past, past_name, read_bit, read_expr, refused_here};
 use read_rules::ReadError;
 use std::alloc::Global;
 

@@ -1,8 +1,11 @@
-// Tokens. A name is a part of the text.
+// The kinds of tokens of the C subset. A name is a part of the text.
 
 ghost use Rattle.std.specs.Prelude.{◌≡◌};
-ghost use Rattle.csub_text.specs.Grammar.{kind_number};
+ghost use Rattle.csub_text.specs.Grammar.{kind_number, sign};
+ghost use Rattle.expr_text.specs.Plain.{sign_of};
 ghost use Rattle.csub_read.specs.Tokens.{kind_of};
+
+use expr_text::Sign;
 
 /// What a token is; `Bad` is one that no text has.
 #[derive(Clone, Copy)]
@@ -27,11 +30,24 @@ pub enum Kind<'a> {
     Bad,
 }
 
-/// A token and the place of its first byte in the text.
-#[derive(Clone, Copy)]
-pub struct Token<'a> {
-    pub kind: Kind<'a>,
-    pub at: u32,
+/// A token of a text.
+pub type Token<'a> = expr_text::Token<Kind<'a>>;
+
+// What a kind is in an expression.
+pub fn sign_of<'a>(kind: Kind<'a>) -> Sign<'a>
+    ensures { sign_of result ≡ sign (kind_of kind.entry) }
+{
+    match kind {
+        Kind::Named(name) => Sign::Name(name),
+        Kind::Zero => Sign::Bit(false),
+        Kind::One => Sign::Bit(true),
+        Kind::Bang => Sign::Not,
+        Kind::LeftParenthesis => Sign::Open,
+        Kind::RightParenthesis => Sign::Close,
+        Kind::Ampersand => Sign::And,
+        Kind::Bar => Sign::Or,
+        _ => Sign::Other,
+    }
 }
 
 // A number for each kind, the same for all names.

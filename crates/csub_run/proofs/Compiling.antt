@@ -7,8 +7,8 @@ use Rattle.std.specs.declared.boxed.Box.{Box}
 use Rattle.std.specs.declared.vec.Vec.{Vec}
 use Rattle.std.proofs.Math.Seq.{take-length}
 use Rattle.std.proofs.lemmas.List.{map-append, take_more}
-use Rattle.csub_text.specs.declared.trees.Expr.{Expr}
-use Rattle.csub_text.specs.declared.trees.Expr.TheVariants as nodes
+use Rattle.expr_text.specs.declared.trees.Expr.{Expr}
+use Rattle.expr_text.specs.declared.trees.Expr.TheVariants as nodes
 use Rattle.step_run.specs.declared.term.Term.{Term}
 use Rattle.step_run.specs.declared.term.Junction.{Junction}
 use Rattle.step_run.specs.declared.term.Junction.TheVariants as junctions

@@ -4,9 +4,9 @@ use Rattle.std.specs.List.{list_all, list_any}
 use Rattle.std.specs.declared.alloc.Global.{Global}
 use Rattle.std.specs.declared.boxed.Box.{Box}
 use Rattle.std.specs.declared.vec.Vec.{Vec}
-use Rattle.csub_text.specs.declared.trees.Expr.{Expr, Row_of-Expr, end_of-Expr, more_of-Expr, items-the_row-Expr, items_hidden-the_row-Expr-0}
-use Rattle.csub_text.specs.declared.trees.Expr.TheBlock.{hidden-the_row-Expr-0}
-use Rattle.csub_text.specs.declared.trees.Expr.TheVariants as nodes
+use Rattle.expr_text.specs.declared.trees.Expr.{Expr, Row_of-Expr, end_of-Expr, more_of-Expr, items-the_row-Expr, items_hidden-the_row-Expr-0}
+use Rattle.expr_text.specs.declared.trees.Expr.TheBlock.{hidden-the_row-Expr-0}
+use Rattle.expr_text.specs.declared.trees.Expr.TheVariants as nodes
 use Rattle.csub_text.specs.Machine.{Memory, value_of, all_of, any_of}
 use Rattle.csub_text.specs.Trees.{And, Or, MoreExprs}
 use Rattle.csub_text.specs.Views.{expr_of, exprs_of}

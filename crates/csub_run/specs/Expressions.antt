@@ -8,7 +8,7 @@ use Rattle.step_run.specs.declared.term.Junction.TheVariants.{And, Or}
 use Rattle.csub_text.specs.Machine.{value_of}
 use Rattle.csub_text.specs.Trees.{Expr, Exprs, NoExprs, MoreExprs, Assign}
 use Rattle.csub_text.specs.Views.{expr_of}
-use Rattle.csub_text.specs.declared.trees.Expr.{Expr as CodeExpr}
+use Rattle.expr_text.specs.declared.trees.Expr.{Expr as CodeExpr}
 
 -- a list of expressions, in the words of the grammar
 abbrev pub exprs : List Expr → Exprs

@@ -30,7 +30,7 @@ impl Model for CMachine {
 
     ghost Value = { Runner };
 
-    ghost use Rattle.csub_text.specs.contracts.trees.Expr as e;
+    ghost use Rattle.expr_text.specs.contracts.trees.Expr as e;
     ghost use Rattle.std.specs.Coded.{codes};
 
     ghost coded = { Prim.hlevel (codes, e.the_row.coded) };

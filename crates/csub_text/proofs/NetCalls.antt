@@ -1,5 +1,5 @@
 -- What a call of a net's program leaves in the memory: the values of the nets.
-use Rattle.std.proofs.Common.{◌≡◌, ℕ, ◌+◌, ◌-◌, ◌<◌, ◌≤◌, ◌==◌, zero, suc, Bool, true, false, not, ◌&&◌, ◌||◌, List, [], ◌∷◌, ◌++◌, length, map, get_or}
+use Rattle.std.proofs.Common.{◌≡◌, ℕ, ◌+◌, ◌-◌, ◌<◌, ◌≤◌, ◌==◌, zero, suc, Bool, true, false, not, List, [], ◌∷◌, ◌++◌, length, map, get_or}
 use Rattle.std.proofs.Common.{refl, sym, ap, ◌∙◌, subst, arith, Some, None, inl, inr}
 use Rattle.std.specs.Prelude.{if◌then◌else◌}
 use Rattle.std.specs.List.{list_all}
@@ -8,8 +8,6 @@ use Rattle.std.proofs.lemmas.List.{length-map, get_or-map, length-append, get_or
 use Rattle.std.proofs.lemmas.List.{length_push}
 use Rattle.est_base.specs.Names.{is_same_name}
 use Rattle.est_base.specs.Distinct.{all_differ}
-use Rattle.net_ir.specs.declared.netlist.Op.{Op}
-use Rattle.net_ir.specs.declared.netlist.Op.TheVariants as ops
 use Rattle.net_ir.specs.declared.netlist.Gate.{Gate}
 use Rattle.net_ir.specs.declared.netlist.NetOut.{NetOut}
 use Rattle.net_ir.specs.Gates.{operand_end, op_value, value_in, gate_values}
@@ -22,17 +20,19 @@ use Rattle.csub_text.specs.Machine.{Memory, with_value, value_of, run_body, with
 use Rattle.csub_text.specs.Written.{input_name, state_name, gate_name, next_name, answer_name, net_name, input_variable, output_variable}
 use Rattle.csub_text.specs.Written.{gate_names}
 use Rattle.csub_text.specs.Written.{op_expr, input_assign, gate_assign, next_assign, output_assign, answer_assign, state_assign, net_body}
-use Rattle.csub_text.proofs.NetNames.{mark, input_names}
-use Rattle.csub_text.proofs.NetNames.{state_names}
-use Rattle.csub_text.proofs.NetNames.{next_names, given_variables, shown_variables, marks-inputs, marks-states, marks-nexts, marks-gates, marks-given}
+use Rattle.expr_text.proofs.Operators.{op-expr-value}
+use Rattle.csub_text.proofs.NetNames.{input_names}
+use Rattle.csub_text.proofs.NetNames.{next_names, given_variables, shown_variables, marks-inputs, marks-nexts, marks-given}
 use Rattle.csub_text.proofs.NetNames.{marks-shown}
-use Rattle.csub_text.proofs.NetNames.{differ-inputs, differ-states, differ-nexts, differ-gates, differ-given, differ-shown}
+use Rattle.csub_text.proofs.NetNames.{differ-inputs, differ-nexts, differ-given, differ-shown}
 use Rattle.net_ir.proofs.NameLists.{any-none, differ-at}
 use Rattle.net_ir.proofs.Numbered.{length-numbered, get_or-numbered}
 use Rattle.net_ir.proofs.NumberedNames.{differ-by, same-refl}
 use Rattle.net_ir.specs.Numbered.{numbered}
 use Rattle.net_ir.specs.Writing.{IsWritable}
-use Rattle.csub_text.proofs.NetRules.{net_cases, net_name-input, net_name-state, net_name-gate, any_gate, any_latch, any_output, gate-low}
+use Rattle.csub_text.proofs.NetRules.{net_name-input, net_name-state, net_name-gate}
+use Rattle.expr_text.proofs.Naming.{mark, state_names, marks-states, marks-gates, differ-states, differ-gates, net_cases, any_gate, any_latch}
+use Rattle.expr_text.proofs.Naming.{any_output, gate-low}
 
 -- ---- assignments one after another
 
@@ -110,21 +110,6 @@ gate-new net is n i low h =
     ∙ differ-at (gate_names net) (differ-gates net is) k n (omega arith) (omega arith))
 
 -- ---- gates one after another
-
-op-expr-value : (m : Memory) (word : ℕ → List ℕ) (op : Op) → value_of m (op_expr word op) ≡ op_value (λ n. m (word n)) op
-op-expr-value m word (ops.Const b) = refl
-op-expr-value m word (ops.Copy n) = refl
-op-expr-value m word (ops.Not n) = refl
-op-expr-value m word (ops.And a b) = ap (λ x. m (word a.0) && x) (and-true (m (word b.0)))
-  where
-    and-true : (b : Bool) → (b && true) ≡ b
-    and-true true = refl
-    and-true false = refl
-op-expr-value m word (ops.Or a b) = ap (λ x. m (word a.0) || x) (or-false (m (word b.0)))
-  where
-    or-false : (b : Bool) → (b || false) ≡ b
-    or-false true = refl
-    or-false false = refl
 
 -- the memory has the values of the nets below a number
 abbrev Has : Netlist → ℕ → Memory → List Bool → Type 0

@@ -1,9 +1,9 @@
 -- The text of a net means the net.
-use Rattle.std.proofs.Common.{◌≡◌, ℕ, ◌+◌, ◌<◌, ◌≤◌, ◌^◌, ◌==◌, zero, suc, Bool, true, false, not, List, [], ◌∷◌, ◌++◌, length, map, get_or, drop}
+use Rattle.std.proofs.Common.{◌≡◌, ℕ, ◌+◌, ◌<◌, ◌^◌, ◌==◌, zero, suc, Bool, true, false, not, List, [], ◌∷◌, ◌++◌, length, map, get_or, drop}
 use Rattle.std.proofs.Common.{All}
 use Rattle.std.proofs.Common.{refl, sym, ap, ◌∙◌, subst, arith, Option, Some, None}
-use Rattle.std.specs.Prelude.{filter, IfSome, nat_lt}
-use Rattle.std.proofs.lemmas.Bool.{and_parts, not-true, or_parts, lt-ltb, false≢true}
+use Rattle.std.specs.Prelude.{filter, IfSome}
+use Rattle.std.proofs.lemmas.Bool.{and_parts, not-true, or_parts}
 use Rattle.std.specs.Cmp.Lexicographic.{nat_list_eq_equiv}
 use Rattle.std.proofs.lemmas.List.{length-map, get_or-map, ext_get_or, get_or-drop, length-drop, length-append}
 use Rattle.std.proofs.lemmas.List.Elements.{All-append, All-map}
@@ -11,12 +11,10 @@ use Rattle.est_base.specs.declared.indices.WireId.{WireId}
 use Rattle.est_base.specs.Names.{is_name, is_same_name}
 use Rattle.est_base.specs.Distinct.{all_differ}
 use Rattle.est_base.specs.Items.{Item, Event, Reset, EachEvent}
-use Rattle.net_ir.specs.declared.netlist.Op.{Op}
-use Rattle.net_ir.specs.declared.netlist.Op.TheVariants as ops
 use Rattle.net_ir.specs.declared.netlist.Gate.{Gate}
 use Rattle.net_ir.specs.declared.netlist.Latch.{Latch}
 use Rattle.net_ir.specs.declared.netlist.NetOut.{NetOut}
-use Rattle.net_ir.specs.Gates.{value_in, operand_end}
+use Rattle.net_ir.specs.Gates.{value_in}
 use Rattle.net_ir.specs.Netlists.{Netlist, first_gate, net_count}
 use Rattle.net_ir.specs.Runs.{net_values, next_latches, initial_latches, values_from, shown, net_values_run}
 use Rattle.net_ir.proofs.NameLists.{any-none}
@@ -30,20 +28,22 @@ use Rattle.csub_text.specs.Texts.{Describes}
 use Rattle.csub_text.specs.Machine.{Memory, with_inputs, first_memory, run_body, call, memories_from, seen}
 use Rattle.csub_text.specs.Written.{input_name, state_name, gate_name, next_name, answer_name, net_name, input_variable, output_variable, net_state}
 use Rattle.csub_text.specs.Written.{gate_names}
-use Rattle.csub_text.specs.Written.{net_body, net_program, op_expr, shown_by_call, written, Means}
-use Rattle.csub_text.proofs.Lexing.{IsVariable, says-whole, variable-input, variable-state, variable-gate, variable-wire, variable-next, variable-answer}
+use Rattle.csub_text.specs.Written.{net_body, net_program, shown_by_call, written, Means}
+use Rattle.expr_text.proofs.Saying.{says-whole}
+use Rattle.expr_text.proofs.Operators.{plain-op}
+use Rattle.csub_text.proofs.Lexing.{IsVariable, variable-input, variable-state, variable-gate, variable-wire, variable-next, variable-answer}
 use Rattle.csub_text.proofs.Lexing.{variable-given, variable-shown}
 use Rattle.csub_text.proofs.Spelling.{IsPlain, IsSpelled, program_kinds, says-program, spells-program, written_program, meant-written, nesting-written}
-use Rattle.csub_text.proofs.NetNames.{mark}
-use Rattle.csub_text.proofs.NetNames.{differ-states, input_names, next_names}
+use Rattle.csub_text.proofs.NetNames.{input_names, next_names}
 use Rattle.net_ir.proofs.Numbered.{length-numbered, get_or-numbered, All-numbered}
 use Rattle.net_ir.proofs.NumberedNames.{same-refl}
 use Rattle.net_ir.specs.Numbered.{numbered}
 use Rattle.net_ir.specs.Writing.{IsWritable}
-use Rattle.csub_text.proofs.NetRules.{EachAssign, each-assign, net_cases, net_name-input, net_name-state, net_name-gate, any_gate, any_latch}
-use Rattle.csub_text.proofs.NetRules.{any_output, gate-low}
+use Rattle.csub_text.proofs.NetRules.{EachAssign, each-assign, net_name-input, net_name-state, net_name-gate}
 use Rattle.csub_text.proofs.NetSets.{names-fit}
 use Rattle.csub_text.proofs.NetCalls.{Leaves, call-leaves}
+use Rattle.expr_text.proofs.Naming.{mark, differ-states, net_cases, any_gate, any_latch, any_output, gate-low}
+use Rattle.expr_text.proofs.Naming.{long-name}
 
 -- ---- inputs and outputs
 
@@ -187,13 +187,6 @@ net-variable net is n h =
     gate-variable k None small fits = variable-gate k small
     gate-variable k (Some w) small fits = variable-wire w.0 (omega (arith, fits))
 
-plain-op : (word : ℕ → List ℕ) (op : Op) (end : ℕ) → operand_end op ≤ end → ((n : ℕ) → n < end → IsVariable (word n)) → IsPlain (op_expr word op)
-plain-op word (ops.Const b) end low each = tt
-plain-op word (ops.Copy n) end low each = each n.0 (omega arith)
-plain-op word (ops.Not n) end low each = each n.0 (omega arith)
-plain-op word (ops.And m n) end low each = (each m.0 (omega arith), each n.0 (omega arith))
-plain-op word (ops.Or m n) end low each = (each m.0 (omega arith), each n.0 (omega arith))
-
 record IsReadable (a : Assign) : Type 0 where
   target : IsVariable a.target
   value : IsPlain a.value
@@ -205,7 +198,7 @@ assigns-readable net is =
       inputs = λ j h. record { target = variable-input j (omega arith); value = variable-given (get_or net.inputs j []) (is.is_net.input_names_fit j [] h) };
       gates = λ k h. record {
         target = subst IsVariable (net_name-gate net k any_gate h) (net-variable net is (first_gate net + k) (omega arith));
-        value = plain-op (net_name net) (get_or net.gates k any_gate).op (net_count net) (omega (arith, gate-low net is k h)) (net-variable net is);
+        value = plain-op IsVariable (net_name net) (get_or net.gates k any_gate).op (net_count net) (omega (arith, gate-low net is k h)) (net-variable net is);
       };
       nexts = λ j h. record {
         target = variable-next j (omega arith);
@@ -218,10 +211,6 @@ assigns-readable net is =
       answer = record { target = variable-answer; value = net-variable net is net.paused is.is_net.paused_in_range };
       states = λ j h. record { target = variable-state j (omega arith); value = variable-next j (omega arith) };
     }
-
-long-name : (name : List ℕ) → is_name name ≡ true → nat_lt 2 (suc (suc (length name))) ≡ true
-long-name [] fits = absurd (false≢true fits)
-long-name (c ∷ cs) fits = lt-ltb 2 (suc (suc (suc (length cs)))) (omega arith)
 
 global-input : (name : List ℕ) → is_name name ≡ true → global_name (Named (input_variable name)) ≡ Some (input_variable name)
 global-input name fits = rw (long-name name fits) refl

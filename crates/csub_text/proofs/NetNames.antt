@@ -1,32 +1,26 @@
 -- The variables of a net's program: what they are, and that no two are one.
 use Rattle.std.proofs.Common.{◌≡◌, ℕ, ◌+◌, ◌==◌, Bool, true, not, ◌||◌, List, [], ◌∷◌, ◌++◌}
-use Rattle.std.proofs.Common.{map, refl, ap, ◌∙◌, arith, Option, Some, None}
-use Rattle.std.specs.List.{list_all, list_any}
-use Rattle.std.proofs.lemmas.Bool.{and_parts, and_from}
-use Rattle.est_base.specs.declared.indices.WireId.{WireId}
+use Rattle.std.proofs.Common.{map, refl, ap, ◌∙◌, arith}
+use Rattle.std.specs.List.{list_all}
+use Rattle.std.proofs.lemmas.Bool.{and_from}
+use Rattle.std.proofs.lemmas.List.{map-id}
 use Rattle.net_ir.specs.declared.netlist.NetOut.{NetOut}
 use Rattle.est_base.specs.Distinct.{all_differ}
 use Rattle.est_base.specs.Names.{is_same_name}
 use Rattle.net_ir.specs.Netlists.{Netlist}
-use Rattle.csub_text.specs.Written.{input_name, state_name, gate_name, next_name, answer_name, input_variable, output_variable}
+use Rattle.csub_text.specs.Written.{input_name, next_name, answer_name, input_variable, output_variable}
 use Rattle.csub_text.specs.Written.{net_globals, net_locals, gate_names}
 use Rattle.net_ir.specs.Numbered.{numbered}
-use Rattle.net_ir.proofs.NumberedNames.{TellsGates, apart-by, differ-decimal, gates-differ, joined-differ, numbered-differ}
+use Rattle.net_ir.proofs.NumberedNames.{apart-by, differ-decimal, joined-differ, numbered-differ}
 use Rattle.net_ir.specs.Writing.{IsWritable}
+use Rattle.expr_text.proofs.Naming.{mark, state_names, all-numbered, all-mapped, marks-states, marks-gates, differ-states, differ-gates}
+use Rattle.expr_text.proofs.Naming.{marked-differ, in-front, all-both}
 
 -- ---- the first byte tells the kinds of names apart
-
--- the first byte, or 0 where there is none
-abbrev pub mark : List ℕ → ℕ
-mark [] = 0
-mark (c ∷ cs) = c
 
 -- the lists of variables
 abbrev pub input_names : Netlist → List (List ℕ)
 input_names net = numbered (λ j name. input_name j) 0 net.inputs
-
-abbrev pub state_names : Netlist → List (List ℕ)
-state_names net = numbered (λ j latch. state_name j) 0 net.latches
 
 abbrev pub next_names : Netlist → List (List ℕ)
 next_names net = numbered (λ j latch. next_name j) 0 net.latches
@@ -37,30 +31,11 @@ given_variables net = map input_variable net.inputs
 abbrev pub shown_variables : Netlist → List (List ℕ)
 shown_variables net = map output_variable net.outputs
 
-all-numbered : {X : Type 0} (p : List ℕ → Bool) (f : ℕ → X → List ℕ) (n : ℕ) (xs : List X) → ((k : ℕ) (x : X) → p (f k x) ≡ true) →
-    list_all p (numbered f n xs) ≡ true
-all-numbered p f n [] each = refl
-all-numbered p f n (x ∷ xs) each = and_from (p (f n x)) (list_all p (numbered f (n + 1) xs)) (each n x) (all-numbered p f (n + 1) xs each)
-
-all-mapped : {X : Type 0} (p : List ℕ → Bool) (f : X → List ℕ) (xs : List X) → ((x : X) → p (f x) ≡ true) → list_all p (map f xs) ≡ true
-all-mapped p f [] each = refl
-all-mapped p f (x ∷ xs) each = and_from (p (f x)) (list_all p (map f xs)) (each x) (all-mapped p f xs each)
-
 pub marks-inputs : (net : Netlist) (p : ℕ → Bool) → p 105 ≡ true → list_all (λ x. p (mark x)) (input_names net) ≡ true
 marks-inputs net p holds = all-numbered (λ x. p (mark x)) (λ j name. input_name j) 0 net.inputs (λ k x. holds)
 
-pub marks-states : (net : Netlist) (p : ℕ → Bool) → p 115 ≡ true → list_all (λ x. p (mark x)) (state_names net) ≡ true
-marks-states net p holds = all-numbered (λ x. p (mark x)) (λ j latch. state_name j) 0 net.latches (λ k x. holds)
-
 pub marks-nexts : (net : Netlist) (p : ℕ → Bool) → p 116 ≡ true → list_all (λ x. p (mark x)) (next_names net) ≡ true
 marks-nexts net p holds = all-numbered (λ x. p (mark x)) (λ j latch. next_name j) 0 net.latches (λ k x. holds)
-
-mark-gate : (p : ℕ → Bool) (k : ℕ) (wire : Option WireId) → p 103 ≡ true → p 119 ≡ true → p (mark (gate_name k wire)) ≡ true
-mark-gate p k None g w = g
-mark-gate p k (Some wire) g w = w
-
-pub marks-gates : (net : Netlist) (p : ℕ → Bool) → p 103 ≡ true → p 119 ≡ true → list_all (λ x. p (mark x)) (gate_names net) ≡ true
-marks-gates net p g w = all-numbered (λ x. p (mark x)) (λ k gate. gate_name k gate.wire) 0 net.gates (λ k gate. mark-gate p k gate.wire g w)
 
 pub marks-given : (net : Netlist) (p : ℕ → Bool) → p 73 ≡ true → list_all (λ x. p (mark x)) (given_variables net) ≡ true
 marks-given net p holds = all-mapped (λ x. p (mark x)) input_variable net.inputs (λ x. holds)
@@ -70,42 +45,16 @@ marks-shown net p holds = all-mapped (λ x. p (mark x)) output_variable net.outp
 
 -- ---- in each list the names differ
 
--- the names of gates, by their numbers or by their wires
-tells-gates : TellsGates gate_name
-tells-gates = record { numbers = λ m n a b ne. differ-decimal m n a b ne; kinds = λ m n v. refl; wires = λ m n u v a b ne. differ-decimal u.0 v.0 a b ne }
-
 pub differ-inputs : (net : Netlist) → IsWritable net → all_differ is_same_name (input_names net) ≡ true
 differ-inputs net is =
     let few = is.is_net.numbered in numbered-differ input_name differ-decimal 0 net.inputs (omega arith)
-
-pub differ-states : (net : Netlist) → IsWritable net → all_differ is_same_name (state_names net) ≡ true
-differ-states net is =
-    let few = is.is_net.numbered in numbered-differ state_name differ-decimal 0 net.latches (omega arith)
 
 pub differ-nexts : (net : Netlist) → IsWritable net → all_differ is_same_name (next_names net) ≡ true
 differ-nexts net is =
     let few = is.is_net.numbered in numbered-differ next_name differ-decimal 0 net.latches (omega arith)
 
-pub differ-gates : (net : Netlist) → IsWritable net → all_differ is_same_name (gate_names net) ≡ true
-differ-gates net is = gates-differ gate_name tells-gates net is
-
--- two bytes in front tell nothing
-any-marked : {X : Type 0} (c d : ℕ) (x : List ℕ) (f : X → List ℕ) (xs : List X) → (c == c) ≡ true → (d == d) ≡ true
-    → list_any (is_same_name (c ∷ d ∷ x)) (map (λ y. c ∷ d ∷ f y) xs) ≡ list_any (is_same_name x) (map f xs)
-any-marked c d x f [] e g = refl
-any-marked c d x f (y ∷ xs) e g = rw (e, g) (ap (λ b. is_same_name x (f y) || b) (any-marked c d x f xs e g))
-
-marked-differ : {X : Type 0} (c d : ℕ) (f : X → List ℕ) (xs : List X) → (c == c) ≡ true → (d == d) ≡ true
-    → all_differ is_same_name (map (λ y. c ∷ d ∷ f y) xs) ≡ all_differ is_same_name (map f xs)
-marked-differ c d f [] e g = refl
-marked-differ c d f (x ∷ xs) e g = rw (any-marked c d (f x) f xs e g, marked-differ c d f xs e g) refl
-
-map-itself : {X : Type 0} (xs : List X) → map (λ x. x) xs ≡ xs
-map-itself [] = refl
-map-itself (x ∷ xs) = ap (λ l. x ∷ l) (map-itself xs)
-
 pub differ-given : (net : Netlist) → IsWritable net → all_differ is_same_name (given_variables net) ≡ true
-differ-given net is = marked-differ 73 95 (λ name. name) net.inputs refl refl ∙ ap (all_differ is_same_name) (map-itself net.inputs) ∙ is.is_net.inputs_differ
+differ-given net is = marked-differ 73 95 (λ name. name) net.inputs refl refl ∙ ap (all_differ is_same_name) (map-id net.inputs) ∙ is.is_net.inputs_differ
 
 pub differ-shown : (net : Netlist) → IsWritable net → all_differ is_same_name (shown_variables net) ≡ true
 differ-shown net is = marked-differ 79 95 (λ (o : NetOut). o.name) net.outputs refl refl ∙ is.is_net.outputs_differ
@@ -116,16 +65,6 @@ pub differ-globals : (net : Netlist) → IsWritable net → all_differ is_same_n
 differ-globals net is = joined-differ (given_variables net) (shown_variables net) (differ-given net is)
     (apart-by mark (λ m. m == 73) (given_variables net) (shown_variables net) (marks-given net (λ m. m == 73) refl) (marks-shown net (λ m. not (m == 73)) refl))
     (differ-shown net is)
-
--- names of one kind in front of those of others
-in-front : (p : ℕ → Bool) (xs ys : List (List ℕ)) → all_differ is_same_name xs ≡ true → list_all (λ x. p (mark x)) xs ≡ true →
-    list_all (λ y. not (p (mark y))) ys ≡ true
-    → all_differ is_same_name ys ≡ true → all_differ is_same_name (xs ++ ys) ≡ true
-in-front p xs ys a here others b = joined-differ xs ys a (apart-by mark p xs ys here others) b
-
-pub all-both : (p : List ℕ → Bool) (xs ys : List (List ℕ)) → list_all p xs ≡ true → list_all p ys ≡ true → list_all p (xs ++ ys) ≡ true
-all-both p [] ys a b = b
-all-both p (x ∷ xs) ys a b = let parts = and_parts (p x) (list_all p xs) a in and_from (p x) (list_all p (xs ++ ys)) parts.0 (all-both p xs ys parts.1 b)
 
 pub marks-locals : (net : Netlist) (p : ℕ → Bool) → p 105 ≡ true → p 103 ≡ true → p 119 ≡ true → p 116 ≡ true → p 114 ≡ true
     → list_all (λ x. p (mark x)) (net_locals net) ≡ true

@@ -1,33 +1,28 @@
 -- A net's program keeps the rules on names.
-use Rattle.std.proofs.Common.{◌≡◌, ℕ, ◌+◌, ◌-◌, ◌<◌, ◌≤◌, ◌==◌, zero, suc, Bool, true, false, not, ◌&&◌, ◌||◌, List, [], ◌∷◌, ◌++◌, length}
-use Rattle.std.proofs.Common.{map, get_or, All, refl, sym, ap, ◌∙◌, subst, arith, Some, None, ⊎_elim, append_assoc, ◌⊎◌, inl, inr}
+use Rattle.std.proofs.Common.{◌≡◌, ℕ, ◌+◌, ◌-◌, ◌<◌, ◌==◌, zero, suc, Bool, true, false, not, ◌&&◌, ◌||◌, List, [], ◌∷◌, ◌++◌, length}
+use Rattle.std.proofs.Common.{map, get_or, All, refl, sym, ap, ◌∙◌, subst, arith, Some, None, append_assoc, ◌⊎◌, inl, inr}
 use Rattle.std.specs.Prelude.{flat_map, filter, find}
 use Rattle.std.specs.List.{list_any, AllByRecursion}
 use Rattle.std.specs.Cmp.Lexicographic.{nat_list_eq_equiv}
 use Rattle.std.proofs.lemmas.List.Folds.{list_any-append, list_any_at}
-use Rattle.std.proofs.lemmas.Bool.{or_parts, or_from, not_from_true, cases_lt, lt-ltb, le-ltb}
-use Rattle.std.proofs.lemmas.Bool.{or_left, or_right}
+use Rattle.std.proofs.lemmas.Bool.{or_from, not_from_true}
 use Rattle.std.proofs.lemmas.List.{length-map, get_or-map}
-use Rattle.std.proofs.lemmas.Option.{slice_get-get_or}
 use Rattle.std.proofs.lemmas.List.Elements.{All-append}
-use Rattle.std.specs.Prelude.{option_and_then}
 use Rattle.est_base.specs.Names.{is_same_name}
-use Rattle.net_ir.specs.declared.netlist.Op.{Op}
-use Rattle.net_ir.specs.declared.netlist.Op.TheVariants as ops
 use Rattle.net_ir.specs.declared.netlist.Gate.{Gate}
 use Rattle.net_ir.specs.declared.netlist.Latch.{Latch}
 use Rattle.net_ir.specs.declared.netlist.NetOut.{NetOut}
-use Rattle.net_ir.specs.Gates.{operand_end}
-use Rattle.net_ir.specs.Netlists.{Netlist, first_gate, net_count, wire_at}
+use Rattle.net_ir.specs.Netlists.{Netlist, first_gate, net_count}
 use Rattle.csub_text.specs.Trees.{Expr, Assign}
 use Rattle.csub_text.specs.Grammar.{begins_input}
 use Rattle.net_ir.specs.NameLists.{is_among, first_again}
 use Rattle.csub_text.specs.Names.{declared, names_in, declared_twice, Taken, uses_in, uses, is_wrong}
 use Rattle.csub_text.specs.Names.{name_found, undeclared, unset_from}
 use Rattle.csub_text.specs.Written.{input_name, state_name, gate_name, next_name, answer_name, net_name, input_variable, output_variable}
-use Rattle.csub_text.specs.Written.{net_state, net_globals, net_locals, gate_names, op_expr, input_assign, gate_assign, next_assign, output_assign}
+use Rattle.csub_text.specs.Written.{net_state, net_globals, net_locals, gate_names, input_assign, gate_assign, next_assign, output_assign}
 use Rattle.csub_text.specs.Written.{answer_assign, state_assign, net_body, net_program}
-use Rattle.csub_text.proofs.NetNames.{mark, input_names, state_names, next_names, given_variables}
+use Rattle.expr_text.proofs.Operators.{op-names}
+use Rattle.csub_text.proofs.NetNames.{input_names, next_names, given_variables}
 use Rattle.csub_text.proofs.NetNames.{shown_variables}
 use Rattle.csub_text.proofs.NetNames.{differ-declared}
 use Rattle.net_ir.proofs.Numbered.{length-numbered, get_or-numbered, map-numbered}
@@ -35,6 +30,9 @@ use Rattle.net_ir.proofs.NumberedNames.{same-refl}
 use Rattle.net_ir.proofs.NameLists.{is_among-filter, once-differ}
 use Rattle.net_ir.specs.Numbered.{numbered}
 use Rattle.net_ir.specs.Writing.{IsWritable}
+use Rattle.expr_text.proofs.Naming as naming
+use Rattle.expr_text.proofs.Naming.{mark, state_names, net_cases, among-numbered, among-left, among-right, any_gate, any_latch, find-none}
+use Rattle.expr_text.proofs.Naming.{any_output, gate-low}
 
 declared-net : (net : Netlist) → declared (net_program net) ≡ state_names net ++ (net_globals net ++ net_locals net)
 declared-net net =
@@ -49,53 +47,13 @@ declared_once net is =
 -- ---- the name of a net
 
 pub net_name-input : (net : Netlist) (n : ℕ) → n < length net.inputs → net_name net n ≡ input_name n
-net_name-input net n h = rw (lt-ltb n (length net.inputs) h) refl
+net_name-input = naming.net_name-input input_name
 
 pub net_name-state : (net : Netlist) (j : ℕ) → j < length net.latches → net_name net (length net.inputs + j) ≡ state_name j
-net_name-state net j h =
-    let e : length net.inputs + j - length net.inputs ≡ j = omega arith in
-    rw (
-      le-ltb (length net.inputs + j) (length net.inputs) (omega arith),
-      lt-ltb (length net.inputs + j) (length net.inputs + length net.latches) (omega arith),
-    ) (ap state_name e)
+net_name-state = naming.net_name-state input_name
 
 pub net_name-gate : (net : Netlist) (k : ℕ) (d : Gate) → k < length net.gates → net_name net (first_gate net + k) ≡ gate_name k (get_or net.gates k d).wire
-net_name-gate net k d h =
-    let e : first_gate net + k - first_gate net ≡ k = omega arith in
-    rw (le-ltb (first_gate net + k) (length net.inputs) (omega arith), le-ltb (first_gate net + k) (first_gate net) (omega arith))
-    (ap (λ i. gate_name i (wire_at net.gates i)) e ∙ ap (λ o. gate_name k (option_and_then (λ (g : Gate). g.wire) o)) (slice_get-get_or net.gates k d h))
-
--- a number of a net is that of an input, of a latch or of a gate
-pub net_cases : {C : Type 0} (net : Netlist) (n : ℕ) → n < net_count net → (n < length net.inputs → C)
-    → ((j : ℕ) → j < length net.latches → n ≡ length net.inputs + j → C) → ((k : ℕ) → k < length net.gates → n ≡ first_gate net + k → C) → C
-net_cases net n h input latch gate = ⊎_elim input
-    (λ past. ⊎_elim
-    (λ low. latch (n - length net.inputs) (omega arith) (omega arith))
-    (λ high. gate (n - first_gate net) (omega arith) (omega arith))
-    (cases_lt n (first_gate net)))
-    (cases_lt n (length net.inputs))
-
--- an element of a numbered list is among its names
-pub among-numbered : {X : Type 0} (f : ℕ → X → List ℕ) (xs : List X) (k : ℕ) (d : X) → k < length xs → is_among (f k (get_or xs k d)) (numbered f 0 xs) ≡ true
-among-numbered f xs k d h =
-    let n = length-numbered f 0 xs in
-    let z : 0 + k ≡ k = omega arith in
-    let at : get_or (numbered f 0 xs) k [] ≡ f k (get_or xs k d) = get_or-numbered f 0 xs k [] d h ∙ ap (λ m. f m (get_or xs k d)) z in
-    list_any_at (is_same_name (f k (get_or xs k d))) (numbered f 0 xs) k [] (omega arith)
-    (ap (is_same_name (f k (get_or xs k d))) at ∙ same-refl (f k (get_or xs k d)))
-
-pub among-left : (x : List ℕ) (xs ys : List (List ℕ)) → is_among x xs ≡ true → is_among x (xs ++ ys) ≡ true
-among-left x xs ys h = list_any-append (is_same_name x) xs ys ∙ or_left (is_among x xs) (is_among x ys) h
-
-pub among-right : (x : List ℕ) (xs ys : List (List ℕ)) → is_among x ys ≡ true → is_among x (xs ++ ys) ≡ true
-among-right x xs ys h = list_any-append (is_same_name x) xs ys ∙ or_right (is_among x xs) (is_among x ys) h
-
--- every net's name is a state or a local
-abbrev pub any_gate : Gate
-any_gate = record { op = ops.Const false; wire = None }
-
-abbrev pub any_latch : Latch
-any_latch = record { init = false; from = record { 0 = 0 } }
+net_name-gate = naming.net_name-gate input_name
 
 -- ---- each name that is used is declared
 
@@ -154,10 +112,6 @@ pub record Fits (names : List (List ℕ)) (a : Assign) : Type 0 where
   pub no_input : begins_input a.target ≡ false
   pub taken : AllByRecursion (λ x. is_among x names ≡ true) (names_in a.value)
 
-find-none : {X : Type 0} (p : X → Bool) (xs : List X) → list_any p xs ≡ false → find p xs ≡ None
-find-none p [] none = refl
-find-none p (x ∷ xs) none = let parts = or_parts (p x) (list_any p xs) none in rw parts.0 (find-none p xs parts.1)
-
 none-taken : (names xs : List (List ℕ)) → AllByRecursion (λ x. is_among x names ≡ true) xs → list_any (is_wrong names) (map Taken xs) ≡ false
 none-taken names [] all = refl
 none-taken names (x ∷ xs) all = or_from (not (is_among x names)) (list_any (is_wrong names) (map Taken xs)) (not_from_true (is_among x names) all.0)
@@ -173,15 +127,6 @@ none-wrong names (a ∷ body) all =
     (or_from (begins_input a.target) (not (is_among a.target names)) fits.no_input (not_from_true (is_among a.target names) fits.target))
     (none-taken names (names_in a.value) fits.taken))
     (none-wrong names body (λ k d h. all (suc k) d (omega arith)))
-
--- the names in an operator's expression are those of the nets that it reads
-pub op-names : (P : List ℕ → Type 0) (word : ℕ → List ℕ) (op : Op) (end : ℕ) → operand_end op ≤ end → ((n : ℕ) → n < end → P (word n))
-    → AllByRecursion P (names_in (op_expr word op))
-op-names P word (ops.Const b) end low each = tt
-op-names P word (ops.Copy n) end low each = (each n.0 (omega arith), tt)
-op-names P word (ops.Not n) end low each = (each n.0 (omega arith), tt)
-op-names P word (ops.And m n) end low each = (each m.0 (omega arith), (each n.0 (omega arith), tt))
-op-names P word (ops.Or m n) end low each = (each m.0 (omega arith), (each n.0 (omega arith), tt))
 
 no_input-mark : (x : List ℕ) → (mark x == 73) ≡ false → begins_input x ≡ false
 no_input-mark [] h = refl
@@ -203,9 +148,6 @@ numbered-assigns P f xs e each k d h =
     let z : 0 + k ≡ k = omega arith in
     let at : get_or (numbered f 0 xs) k d ≡ f k (get_or xs k e) = get_or-numbered f 0 xs k d e (omega arith) ∙ ap (λ m. f m (get_or xs k e)) z in
     subst P (sym at) (each k (omega arith))
-
-abbrev pub any_output : NetOut
-any_output = record { name = []; net = record { 0 = 0 } }
 
 -- the assignments of a net's program
 pub record EachAssign (P : Assign → Type 0) (net : Netlist) : Type 0 where
@@ -233,9 +175,6 @@ each-assign P net each =
     one-assign : (P : Assign → Type 0) (net : Netlist) → EachAssign P net → All P (answer_assign net ∷ [])
     one-assign P net each zero d h = each.answer
     one-assign P net each (suc k) d h = absurd (omega arith)
-
-pub gate-low : (net : Netlist) → IsWritable net → (k : ℕ) → k < length net.gates → operand_end (get_or net.gates k any_gate).op ≤ first_gate net + k
-gate-low net is k h = is.is_net.reads_lower k any_gate h
 
 pub assigns-fit : (net : Netlist) → IsWritable net → EachAssign (Fits (all_declared net)) net
 assigns-fit net is = record {

@@ -14,13 +14,15 @@ use Rattle.net_ir.specs.NameLists.{is_among}
 use Rattle.csub_text.specs.Names.{names_in, unset, name_fault}
 use Rattle.csub_text.specs.Written.{state_name, gate_name, next_name, answer_name, net_name, input_variable, net_locals}
 use Rattle.csub_text.specs.Written.{input_assign, gate_assign, next_assign, output_assign, answer_assign, state_assign, net_body, net_program}
-use Rattle.csub_text.proofs.NetNames.{mark, marks-locals}
+use Rattle.csub_text.proofs.NetNames.{marks-locals}
 use Rattle.net_ir.proofs.Numbered.{length-numbered, get_or-numbered}
 use Rattle.net_ir.proofs.NumberedNames.{differ-by, same-refl}
 use Rattle.net_ir.specs.Numbered.{numbered}
 use Rattle.net_ir.specs.Writing.{IsWritable}
-use Rattle.csub_text.proofs.NetRules.{Known, Covered, unset-covered, op-names, net_name-input, net_name-state, net_name-gate}
-use Rattle.csub_text.proofs.NetRules.{any_gate, any_latch, any_output, numbered-assigns, gate-low, declared_once, undeclared_none}
+use Rattle.csub_text.proofs.NetRules.{Known, Covered, unset-covered, net_name-input, net_name-state, net_name-gate}
+use Rattle.expr_text.proofs.Operators.{op-names}
+use Rattle.csub_text.proofs.NetRules.{numbered-assigns, declared_once, undeclared_none}
+use Rattle.expr_text.proofs.Naming.{mark, any_gate, any_latch, any_output, gate-low}
 
 -- ---- what is assigned
 

@@ -1,79 +1,45 @@
 -- The text of a program whose expressions have one operator at most: its tokens, and that the grammar has them.
-use Rattle.std.proofs.Common.{◌≡◌, ℕ, ◌≤◌, suc, Bool, true, false, List, [], ◌∷◌, ◌++◌, map, get_or, All, refl, sym, ap, ◌∙◌}
+use Rattle.std.proofs.Common.{◌≡◌, ℕ, ◌≤◌, suc, Bool, false, List, [], ◌∷◌, ◌++◌, map, get_or, All, refl, sym, ap, ◌∙◌}
 use Rattle.std.proofs.Common.{subst, arith, append_assoc, Some}
 use Rattle.std.specs.Prelude.{flat_map, codes}
-use Rattle.std.proofs.lemmas.List.{append-nil}
+use Rattle.std.proofs.lemmas.List.{map-id}
 use Rattle.est_base.specs.Names.{is_name_byte}
 use Rattle.read_rules.specs.Languages.{One as Single, Loop, Many}
 use Rattle.csub_text.specs.Tokens.{Kind, Static, Int, Return, Void, React, LeftParenthesis, RightParenthesis, LeftBrace}
-use Rattle.csub_text.specs.Tokens.{RightBrace, Semicolon, Equals, Zero, One, Bar, Ampersand, Bang, Named}
-use Rattle.csub_text.specs.Trees.{Expr, Name, Const, Not, And, Or, Exprs, NoExprs, MoreExprs, State, Assign, Program}
+use Rattle.csub_text.specs.Tokens.{RightBrace, Semicolon, Equals, Named, Bad, front, word_kind}
+use Rattle.csub_text.specs.Trees.{Expr, State, Assign, Program}
 use Rattle.csub_text.specs.Grammar as grammar
-use Rattle.csub_text.specs.Grammar.{Written, Word, Bit, Writtens, NoneWritten, MoreWritten, WrittenAssign, WrittenProgram, meant, all_meant, written_nesting}
-use Rattle.csub_text.specs.Grammar.{Tier}
-use Rattle.csub_text.specs.Grammar.{Disjunction, Conjunction, Negation, SpellsExpr, SpellsState, SpellsGlobal, SpellsLocal, SpellsAssign, SpellsAnswer}
+use Rattle.csub_text.specs.Grammar.{sign, SpellsExpression, WrittenAssign, WrittenProgram}
+use Rattle.csub_text.specs.Grammar.{SpellsState, SpellsGlobal, SpellsLocal, SpellsAssign}
 use Rattle.csub_text.specs.Grammar.{SpellsText}
-use Rattle.csub_text.specs.Grammar.{IsText, text_nesting, body_nesting, assign_meant, program_meant, begins_global, global_name, own_name}
+use Rattle.csub_text.specs.Grammar.{text_nesting, body_nesting, assign_meant, program_meant, begins_global, global_name, own_name}
 use Rattle.csub_text.specs.Written.{expr_text, bit_text, line_end, state_line, declaration, assign_line, head_line, last_lines}
 use Rattle.csub_text.specs.Written.{program_text}
-use Rattle.csub_text.proofs.Lexing.{Says, says-then, says-lines, says-name, IsVariable, says-int, says-static, says-end, says-equals, says-head, says-return}
-use Rattle.csub_text.proofs.Lexing.{says-last, says-zero, says-one, says-bang, says-and, says-or}
+use Rattle.csub_text.proofs.Lexing.{Says, IsVariable, says-int, says-static, says-end, says-equals, says-head, says-return}
+use Rattle.csub_text.proofs.Lexing.{says-last, bit_kind, says-bit, writes}
+use Rattle.expr_text.specs.Grammar.{meant}
+use Rattle.expr_text.proofs.Saying as saying
+use Rattle.expr_text.proofs.Saying.{says-then, says-lines}
+use Rattle.expr_text.proofs.Spelling as spelling
+use Rattle.expr_text.proofs.Spelling.{plain_written, meant-plain, nesting-plain, spells-many}
 
 -- a name, a constant, or one operator on names
 abbrev pub IsPlain : Expr → Type 0
-IsPlain (Name n) = IsVariable n
-IsPlain (Const value) = Unit {0}
-IsPlain (Not (Name n)) = IsVariable n
-IsPlain (And (MoreExprs (Name m) (MoreExprs (Name n) NoExprs))) = IsVariable m × IsVariable n
-IsPlain (Or (MoreExprs (Name m) (MoreExprs (Name n) NoExprs))) = IsVariable m × IsVariable n
-IsPlain others = ⊥
+IsPlain = spelling.IsPlain IsVariable
 
 -- ---- tokens
 
-abbrev pub bit_kind : Bool → Kind
-bit_kind false = Zero
-bit_kind true = One
+abbrev pub expr_kinds : Expr → List Kind
+expr_kinds = spelling.expr_kinds sign Bad front word_kind (codes "!") bit_text writes
 
-abbrev mutual
-  pub expr_kinds : Expr → List Kind
-  expr_kinds (Name n) = Named n ∷ []
-  expr_kinds (Const value) = bit_kind value ∷ []
-  expr_kinds (Not e) = Bang ∷ expr_kinds e
-  expr_kinds (And parts) = parts_kinds Ampersand parts
-  expr_kinds (Or parts) = parts_kinds Bar parts
+-- a variable, and an expression, in front of a byte that no name has
+says-name : (name : List ℕ) (d : ℕ) (ds : List ℕ) (ks : List Kind) → IsVariable name → is_name_byte d ≡ false → Says (d ∷ ds) ks
+    → Says (name ++ d ∷ ds) (Named name ∷ ks)
+says-name = saying.says-name Bad front word_kind Named writes.fronts
 
-  pub parts_kinds : Kind → Exprs → List Kind
-  parts_kinds mark NoExprs = []
-  parts_kinds mark (MoreExprs e others) = expr_kinds e ++ others_kinds mark others
-
-  pub others_kinds : Kind → Exprs → List Kind
-  others_kinds mark NoExprs = []
-  others_kinds mark (MoreExprs e others) = mark ∷ (expr_kinds e ++ others_kinds mark others)
-
-says-bit : (value : Bool) → Says (bit_text value) (bit_kind value ∷ [])
-says-bit false = says-zero
-says-bit true = says-one
-
-pair-text : (m n mark : List ℕ) (d : ℕ) (ds : List ℕ) → (m ++ (mark ++ (n ++ []))) ++ d ∷ ds ≡ m ++ (mark ++ (n ++ d ∷ ds))
-pair-text m n mark d ds = ap (λ x. (m ++ (mark ++ x)) ++ d ∷ ds) (append-nil n) ∙ append_assoc m (mark ++ n) (d ∷ ds)
-    ∙ ap (λ x. m ++ x) (append_assoc mark n (d ∷ ds))
-
--- an expression in front of a byte that no name has
 says-expr : (e : Expr) (d : ℕ) (ds : List ℕ) (ks : List Kind) → IsPlain e → is_name_byte d ≡ false → Says (d ∷ ds) ks
     → Says (expr_text e ++ d ∷ ds) (expr_kinds e ++ ks)
-says-expr (Name n) d ds ks plain stops says = says-name n d ds ks plain stops says
-says-expr (Const value) d ds ks plain stops says = says-then (bit_text value) (d ∷ ds) (bit_kind value ∷ []) ks (says-bit value) says
-says-expr (Not (Name n)) d ds ks plain stops says = says-then (codes "!") (n ++ d ∷ ds) (Bang ∷ []) (Named n ∷ ks) says-bang
-    (says-name n d ds ks plain stops says)
-says-expr (And (MoreExprs (Name m) (MoreExprs (Name n) NoExprs))) d ds ks plain stops says =
-    subst (λ t. Says t (Named m ∷ Ampersand ∷ Named n ∷ ks)) (sym (pair-text m n (codes " & ") d ds))
-    (says-name m 32 (38 ∷ 32 ∷ (n ++ d ∷ ds)) (Ampersand ∷ Named n ∷ ks) plain.0 refl
-    (says-then (codes " & ") (n ++ d ∷ ds) (Ampersand ∷ []) (Named n ∷ ks) says-and (says-name n d ds ks plain.1 stops says)))
-says-expr (Or (MoreExprs (Name m) (MoreExprs (Name n) NoExprs))) d ds ks plain stops says =
-    subst (λ t. Says t (Named m ∷ Bar ∷ Named n ∷ ks)) (sym (pair-text m n (codes " | ") d ds))
-    (says-name m 32 (124 ∷ 32 ∷ (n ++ d ∷ ds)) (Bar ∷ Named n ∷ ks) plain.0 refl
-    (says-then (codes " | ") (n ++ d ∷ ds) (Bar ∷ []) (Named n ∷ ks) says-or (says-name n d ds ks plain.1 stops says)))
-says-expr others d ds ks plain stops says = absurd plain
+says-expr = spelling.says-expr sign Bad front word_kind (codes "!") bit_text writes
 
 abbrev pub state_kinds : State → List Kind
 state_kinds s = Static ∷ Int ∷ Named s.name ∷ Equals ∷ bit_kind s.init ∷ Semicolon ∷ []
@@ -150,76 +116,11 @@ says-program p is =
 
 -- ---- the grammar
 
-abbrev mutual
-  pub plain_written : Expr → Written
-  plain_written (Name n) = Word n
-  plain_written (Const value) = Bit value
-  plain_written (Not e) = grammar.Not (plain_written e)
-  plain_written (And parts) = grammar.And (all_written parts)
-  plain_written (Or parts) = grammar.Or (all_written parts)
-
-  all_written : Exprs → Writtens
-  all_written NoExprs = NoneWritten
-  all_written (MoreExprs e others) = MoreWritten (plain_written e) (all_written others)
-
-mutual
-  meant-plain : (e : Expr) → meant (plain_written e) ≡ e
-  meant-plain (Name n) = refl
-  meant-plain (Const value) = refl
-  meant-plain (Not e) = ap Not (meant-plain e)
-  meant-plain (And parts) = ap And (meant-all parts)
-  meant-plain (Or parts) = ap Or (meant-all parts)
-
-  meant-all : (parts : Exprs) → all_meant (all_written parts) ≡ parts
-  meant-all NoExprs = refl
-  meant-all (MoreExprs e others) = ap (λ x. MoreExprs x (all_meant (all_written others))) (meant-plain e) ∙ ap (MoreExprs e) (meant-all others)
-
-nesting-plain : (e : Expr) → IsPlain e → written_nesting (plain_written e) ≤ 1
-nesting-plain (Name n) plain = omega arith
-nesting-plain (Const value) plain = omega arith
-nesting-plain (Not (Name n)) plain = omega arith
-nesting-plain (And (MoreExprs (Name m) (MoreExprs (Name n) NoExprs))) plain = omega arith
-nesting-plain (Or (MoreExprs (Name m) (MoreExprs (Name n) NoExprs))) plain = omega arith
-nesting-plain others plain = absurd plain
-
-one-name : (tier : Tier) (n : List ℕ) → SpellsExpr tier (Word n) (Named n ∷ [])
-one-name tier n = record { token = Named n; only = refl; passes = refl }
-
 one-bit : (value : Bool) → Single grammar.bit value (bit_kind value ∷ [])
-one-bit false = record { token = Zero; only = refl; passes = refl }
-one-bit true = record { token = One; only = refl; passes = refl }
+one-bit = spelling.one-bit sign Bad front word_kind (codes "!") bit_text writes
 
-spells-plain : (e : Expr) → IsPlain e → SpellsExpr Disjunction (plain_written e) (expr_kinds e)
-spells-plain (Name n) plain = one-name Disjunction n
-spells-plain (Const value) plain = one-bit value
-spells-plain (Not (Name n)) plain = record { token = Bang; value = tt; rest = Named n ∷ []; cut = refl; passes = refl; behind = one-name Negation n }
-spells-plain (And (MoreExprs (Name m) (MoreExprs (Name n) NoExprs))) plain = record {
-  front = Named m ∷ [];
-  back = Ampersand ∷ Named n ∷ [];
-  cut = refl;
-  first = one-name Negation m;
-  second = record {
-    front = Ampersand ∷ Named n ∷ [];
-    back = [];
-    cut = refl;
-    first = record { token = Ampersand; value = tt; rest = Named n ∷ []; cut = refl; passes = refl; behind = one-name Negation n };
-    second = refl;
-  };
-}
-spells-plain (Or (MoreExprs (Name m) (MoreExprs (Name n) NoExprs))) plain = record {
-  front = Named m ∷ [];
-  back = Bar ∷ Named n ∷ [];
-  cut = refl;
-  first = one-name Conjunction m;
-  second = record {
-    front = Bar ∷ Named n ∷ [];
-    back = [];
-    cut = refl;
-    first = record { token = Bar; value = tt; rest = Named n ∷ []; cut = refl; passes = refl; behind = one-name Conjunction n };
-    second = refl;
-  };
-}
-spells-plain others plain = absurd plain
+spells-plain : (e : Expr) → IsPlain e → SpellsExpression (plain_written e) (expr_kinds e)
+spells-plain = spelling.spells-plain sign Bad front word_kind (codes "!") bit_text writes
 
 abbrev written_assign : Assign → WrittenAssign
 written_assign a = record { target = a.target; value = plain_written a.value }
@@ -246,7 +147,7 @@ meant-written p =
 nesting-body : (body : List Assign) → All (λ a. IsPlain a.value) body → body_nesting (map written_assign body) ≤ 1
 nesting-body [] all = omega arith
 nesting-body (a ∷ body) all =
-    let here = nesting-plain a.value (all 0 a (omega arith)) in
+    let here = nesting-plain IsVariable a.value (all 0 a (omega arith)) in
     let rest = nesting-body body (λ k d h. all (suc k) d (omega arith)) in omega arith
 
 own-passes : (n : List ℕ) → begins_global n ≡ false → own_name (Named n) ≡ Some n
@@ -333,18 +234,6 @@ spells-assign a plain = record {
   };
 }
 
--- a step for each element
-spells-many : {X Y : Type 0} (L : Y → List Kind → Type 0) (f : X → Y) (ks : X → List Kind) (xs : List X) → All (λ x. L (f x) (ks x)) xs
-    → Many L (map f xs) (flat_map ks xs)
-spells-many L f ks [] all = refl
-spells-many L f ks (x ∷ xs) all = record {
-  front = ks x;
-  back = flat_map ks xs;
-  cut = refl;
-  first = all 0 x (omega arith);
-  second = spells-many L f ks xs (λ k d h. all (suc k) d (omega arith));
-}
-
 spells-globals : (names : List (List ℕ)) → All (λ n. global_name (Named n) ≡ Some n) names
     → Loop SpellsGlobal names (flat_map declaration_kinds names ++ Int ∷ React ∷ [])
 spells-globals [] all = record {
@@ -363,15 +252,11 @@ spells-globals (n ∷ names) all = record {
   second = spells-globals names (λ k d h. all (suc k) d (omega arith));
 }
 
-map-itself : {X : Type 0} (xs : List X) → map (λ x. x) xs ≡ xs
-map-itself [] = refl
-map-itself (x ∷ xs) = ap (λ l. x ∷ l) (map-itself xs)
-
 pub spells-program : (p : Program) → IsSpelled p → SpellsText (written_program p) (program_kinds p)
 spells-program p is =
-    let states = subst (λ l. Many SpellsState l (flat_map state_kinds p.states)) (map-itself p.states)
+    let states = subst (λ l. Many SpellsState l (flat_map state_kinds p.states)) (map-id p.states)
     (spells-many SpellsState (λ s. s) state_kinds p.states (λ k d h. spells-state (get_or p.states k d) (is.states_own k d h))) in
-    let locals = subst (λ l. Many SpellsLocal l (flat_map declaration_kinds p.locals)) (map-itself p.locals)
+    let locals = subst (λ l. Many SpellsLocal l (flat_map declaration_kinds p.locals)) (map-id p.locals)
     (spells-many SpellsLocal (λ n. n) declaration_kinds p.locals (λ k d h. spells-local (get_or p.locals k d) (is.locals_own k d h))) in
     let body = spells-many SpellsAssign written_assign assign_kinds p.body (λ k d h. spells-assign (get_or p.body k d) (is.values k d h)) in
     let behind = flat_map declaration_kinds p.locals ++ (flat_map assign_kinds p.body ++ last_kinds p.answer) in
@@ -452,4 +337,4 @@ spells-program p is =
 pub nesting-written : (p : Program) → IsSpelled p → text_nesting (written_program p) ≤ 1
 nesting-written p is =
     let body = nesting-body p.body is.values in
-    let answer = nesting-plain p.answer is.answer in omega arith
+    let answer = nesting-plain IsVariable p.answer is.answer in omega arith

@@ -1,23 +1,22 @@
--- To believe: the grammar of the C subset, as a relation between whole lists of tokens and what is written. In words:
+-- To believe: the grammar of the C subset, as a relation between whole lists of tokens and what is written. In words,
+-- with the expressions of expr_text over `!`, `&`, `|`, `0` and `1`:
 --
 --   text   = { state } { global } "int" "react" "(" "void" ")" "{" { local } { assign } "return" expr ";" "}"
 --   state  = "static" "int" NAME "=" ( "0" | "1" ) ";"
 --   global = "int" NAME ";"        the name begins with I_ or O_ and is longer
 --   local  = "int" NAME ";"
 --   assign = NAME "=" expr ";"
---   expr   = conj { "|" conj }
---   conj   = neg { "&" neg }
---   neg    = "!" neg | NAME | "0" | "1" | "(" expr ")"
---
 -- The name of a state or a local does not begin with I_ or O_.
-use Rattle.std.specs.Prelude.{ℕ, suc, max, ◌==◌, Bool, true, false, ◌||◌, ◌&&◌, List, [], ◌∷◌, length, nat_lt}
+use Rattle.std.specs.Prelude.{ℕ, max, Bool, true, false, ◌||◌, ◌&&◌, List, [], ◌∷◌, length, nat_lt}
 use Rattle.std.specs.Prelude.{take, codes, Option, Some, None, if◌then◌else◌, map}
 use Rattle.est_base.specs.Names.{is_same_name}
-use Rattle.read_rules.specs.Languages.{Empty, One as Single, Then, Led, Loop, Many, Within}
+use Rattle.read_rules.specs.Languages.{One as Single, Then, Led, Loop, Many, Within}
 use Rattle.csub_text.specs.Tokens.{Kind, Static, Int, Return, Void, React, LeftParenthesis, RightParenthesis, LeftBrace}
 use Rattle.csub_text.specs.Tokens.{RightBrace, Semicolon, Equals, Zero, One, Bar, Ampersand, Bang, Named, Bad}
-use Rattle.csub_text.specs.Trees.{Expr, Name, Const, Exprs, NoExprs, MoreExprs, State, Assign, Program}
-use Rattle.csub_text.specs.Trees as trees
+use Rattle.csub_text.specs.Trees.{State, Assign, Program}
+use Rattle.expr_text.specs.Signs.{Sign, NameSign, BitSign, NotSign, OpenSign, CloseSign, AndSign, OrSign, OtherSign}
+use Rattle.expr_text.specs.Signs.{numbered_as, named, constant}
+use Rattle.expr_text.specs.Grammar.{Written, meant, written_nesting, Disjunction, SpellsExpr}
 
 -- ---- tests of one token
 
@@ -44,17 +43,27 @@ kind_number Bad = 17
 
 -- this word or mark
 abbrev pub is : Kind → Kind → Option (Unit {0})
-is kind token = if kind_number kind == kind_number token then Some tt else None
+is kind = numbered_as kind_number (kind_number kind)
+
+-- what a token is in an expression
+abbrev pub sign : Kind → Sign
+sign (Named n) = NameSign n
+sign Zero = BitSign false
+sign One = BitSign true
+sign Bang = NotSign
+sign LeftParenthesis = OpenSign
+sign RightParenthesis = CloseSign
+sign Ampersand = AndSign
+sign Bar = OrSign
+sign others = OtherSign
 
 -- NAME
 abbrev pub name : Kind → Option (List ℕ)
-name (Named n) = Some n
-name others = None
+name = named sign
 
+-- "0" | "1"
 abbrev pub bit : Kind → Option Bool
-bit Zero = Some false
-bit One = Some true
-bit others = None
+bit = constant sign
 
 -- the names of inputs begin with I_, those of outputs with O_
 abbrev pub begins_input : List ℕ → Bool
@@ -76,92 +85,9 @@ abbrev pub own_name : Kind → Option (List ℕ)
 own_name (Named n) = if begins_global n then None else Some n
 own_name others = None
 
--- ---- what is written
-
-mutual
-  -- an expression with its brackets; a list of one part is that part
-  pub data Written : Type 0 where
-    Word : (name : List ℕ) → Written
-    Bit : (value : Bool) → Written
-    Not : (e : Written) → Written
-    Round : (e : Written) → Written
-    And : (parts : Writtens) → Written
-    Or : (parts : Writtens) → Written
-
-  pub data Writtens : Type 0 where
-    NoneWritten : Writtens
-    MoreWritten : (e : Written) (others : Writtens) → Writtens
-
--- brackets leave no trace
-abbrev mutual
-  pub meant : Written → Expr
-  meant (Word name) = Name name
-  meant (Bit value) = Const value
-  meant (Not e) = trees.Not (meant e)
-  meant (Round e) = meant e
-  meant (And parts) = trees.And (all_meant parts)
-  meant (Or parts) = trees.Or (all_meant parts)
-
-  pub all_meant : Writtens → Exprs
-  all_meant NoneWritten = NoExprs
-  all_meant (MoreWritten e others) = MoreExprs (meant e) (all_meant others)
-
--- how many `!` and `(` stand one in another
-abbrev mutual
-  pub written_nesting : Written → ℕ
-  written_nesting (Word name) = 0
-  written_nesting (Bit value) = 0
-  written_nesting (Not e) = suc (written_nesting e)
-  written_nesting (Round e) = suc (written_nesting e)
-  written_nesting (And parts) = all_nesting parts
-  written_nesting (Or parts) = all_nesting parts
-
-  pub all_nesting : Writtens → ℕ
-  all_nesting NoneWritten = 0
-  all_nesting (MoreWritten e others) = max (written_nesting e) (all_nesting others)
-
--- ---- expressions
-
--- expr, conj and neg
-pub data Tier : Type 0 where
-  Disjunction : Tier
-  Conjunction : Tier
-  Negation : Tier
-
-abbrev mutual
-  pub SpellsExpr : Tier → Written → List Kind → Type 0
-  -- NAME
-  SpellsExpr tier (Word n) = Single name n
-  -- "0" | "1"
-  SpellsExpr tier (Bit value) = Single bit value
-  -- "!" neg
-  SpellsExpr tier (Not e) = Led (is Bang) (λ _. SpellsExpr Negation e)
-  -- "(" expr ")"
-  SpellsExpr tier (Round e) =
-      Led (is LeftParenthesis) (λ _. Then (SpellsExpr Disjunction e) (Single (is RightParenthesis) tt))
-  -- neg "&" neg { "&" neg }
-  SpellsExpr Disjunction (And parts) = SpellsExprs Ampersand Negation parts
-  SpellsExpr Conjunction (And parts) = SpellsExprs Ampersand Negation parts
-  SpellsExpr Negation (And parts) = λ _. ⊥
-  -- conj "|" conj { "|" conj }
-  SpellsExpr Disjunction (Or parts) = SpellsExprs Bar Conjunction parts
-  SpellsExpr Conjunction (Or parts) = λ _. ⊥
-  SpellsExpr Negation (Or parts) = λ _. ⊥
-
-  -- two parts or more, with the mark between them
-  pub SpellsExprs : Kind → Tier → Writtens → List Kind → Type 0
-  SpellsExprs mark tier NoneWritten = λ _. ⊥
-  SpellsExprs mark tier (MoreWritten e others) = Then (SpellsExpr tier e) (SpellsNextExprs mark tier others)
-
-  pub SpellsNextExprs : Kind → Tier → Writtens → List Kind → Type 0
-  SpellsNextExprs mark tier NoneWritten = λ _. ⊥
-  SpellsNextExprs mark tier (MoreWritten e others) =
-      Then (Led (is mark) (λ _. SpellsExpr tier e)) (SpellsOtherExprs mark tier others)
-
-  pub SpellsOtherExprs : Kind → Tier → Writtens → List Kind → Type 0
-  SpellsOtherExprs mark tier NoneWritten = Empty
-  SpellsOtherExprs mark tier (MoreWritten e others) =
-      Then (Led (is mark) (λ _. SpellsExpr tier e)) (SpellsOtherExprs mark tier others)
+-- expr
+abbrev pub SpellsExpression : Written → List Kind → Type 0
+SpellsExpression = SpellsExpr sign Disjunction
 
 -- ---- whole texts
 
@@ -195,12 +121,12 @@ SpellsLocal n = Led (is Int) (λ _. Then (Single own_name n) (Single (is Semicol
 abbrev pub SpellsAssign : WrittenAssign → List Kind → Type 0
 SpellsAssign a =
     Then (Single name a.target)
-    (Led (is Equals) (λ _. Then (SpellsExpr Disjunction a.value) (Single (is Semicolon) tt)))
+    (Led (is Equals) (λ _. Then (SpellsExpression a.value) (Single (is Semicolon) tt)))
 
 -- "return" expr ";" "}"
 abbrev pub SpellsAnswer : Written → List Kind → Type 0
 SpellsAnswer e =
-    Led (is Return) (λ _. Then (SpellsExpr Disjunction e) (Led (is Semicolon) (λ _. Single (is RightBrace) tt)))
+    Led (is Return) (λ _. Then (SpellsExpression e) (Led (is Semicolon) (λ _. Single (is RightBrace) tt)))
 
 abbrev pub SpellsText : WrittenProgram → List Kind → Type 0
 SpellsText p =

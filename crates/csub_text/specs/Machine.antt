@@ -1,9 +1,10 @@
 -- To believe: the machine of a program, over items. A memory has a value for each variable.
-use Rattle.std.specs.Prelude.{ℕ, Bool, true, false, not, ◌&&◌, ◌||◌, List, [], ◌∷◌, map, if◌then◌else◌}
+use Rattle.std.specs.Prelude.{ℕ, Bool, false, List, [], ◌∷◌, map, if◌then◌else◌}
 use Rattle.est_base.specs.Items.{Item}
 use Rattle.est_base.specs.Names.{is_same_name}
 use Rattle.machines.specs.Machines.{Machine, computed, run_from}
-use Rattle.csub_text.specs.Trees.{Expr, Name, Const, Not, And, Or, Exprs, NoExprs, MoreExprs, State, Assign, Program}
+use Rattle.csub_text.specs.Trees.{State, Assign, Program}
+pub use Rattle.expr_text.specs.Values.{value_of, all_of, any_of}
 use Rattle.csub_text.specs.Names.{inputs_of, outputs_of}
 
 abbrev pub Memory : Type 0
@@ -12,23 +13,6 @@ Memory = List ℕ → Bool
 -- a variable gets a value
 abbrev pub with_value : List ℕ → Bool → Memory → Memory
 with_value name value memory = λ other. if is_same_name other name then value else memory other
-
--- the value of an expression
-abbrev mutual
-  pub value_of : Memory → Expr → Bool
-  value_of memory (Name name) = memory name
-  value_of memory (Const value) = value
-  value_of memory (Not e) = not (value_of memory e)
-  value_of memory (And parts) = all_of memory parts
-  value_of memory (Or parts) = any_of memory parts
-
-  pub all_of : Memory → Exprs → Bool
-  all_of memory NoExprs = true
-  all_of memory (MoreExprs e others) = value_of memory e && all_of memory others
-
-  pub any_of : Memory → Exprs → Bool
-  any_of memory NoExprs = false
-  any_of memory (MoreExprs e others) = value_of memory e || any_of memory others
 
 -- the assignments, one after another
 abbrev pub run_body : List Assign → Memory → Memory

@@ -4,7 +4,8 @@ use Rattle.std.specs.Prelude.{ℕ, Bool, not, ◌||◌, List, [], ◌∷◌, ◌
 use Rattle.std.specs.Prelude.{Option, Some, None}
 use Rattle.est_base.specs.Names.{is_same_name}
 use Rattle.net_ir.specs.NameLists.{is_among, first_again}
-use Rattle.csub_text.specs.Trees.{Expr, Name, Const, Not, And, Or, Exprs, NoExprs, MoreExprs, Assign, Program}
+pub use Rattle.expr_text.specs.Names.{names_in, all_names, or_else}
+use Rattle.csub_text.specs.Trees.{Expr, Assign, Program}
 use Rattle.csub_text.specs.Grammar.{begins_input, begins_output}
 
 -- the inputs and the outputs of a program, in declared order
@@ -16,19 +17,6 @@ outputs_of p = filter begins_output p.globals
 
 abbrev pub declared : Program → List (List ℕ)
 declared p = map (λ s. s.name) p.states ++ p.globals ++ p.locals
-
--- the names in an expression, from the left
-abbrev mutual
-  pub names_in : Expr → List (List ℕ)
-  names_in (Name name) = name ∷ []
-  names_in (Const value) = []
-  names_in (Not e) = names_in e
-  names_in (And parts) = all_names parts
-  names_in (Or parts) = all_names parts
-
-  pub all_names : Exprs → List (List ℕ)
-  all_names NoExprs = []
-  all_names (MoreExprs e others) = names_in e ++ all_names others
 
 -- the first name that is declared a second time
 abbrev pub declared_twice : Program → Option (List ℕ)
@@ -61,10 +49,6 @@ name_found (Some found) = Some (used_name found)
 -- the first name that is used and not declared, or is assigned and is an input
 abbrev pub undeclared : Program → Option (List ℕ)
 undeclared p = name_found (find (is_wrong (declared p)) (uses p))
-
-abbrev pub or_else : Option (List ℕ) → Option (List ℕ) → Option (List ℕ)
-or_else None other = other
-or_else (Some name) other = Some name
 
 -- the first of some locals that is read before it is assigned
 abbrev pub unset_from : List (List ℕ) → List Assign → Expr → Option (List ℕ)

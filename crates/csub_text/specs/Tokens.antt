@@ -1,9 +1,10 @@
 -- To believe: the tokens of a text, each as long as it can be. Spaces and comments are none.
-use Rattle.std.specs.Prelude.{ℕ, ◌+◌, ◌==◌, zero, suc, Bool, ◌&&◌, ◌||◌, List, [], ◌∷◌, take}
-use Rattle.std.specs.Prelude.{codes}
-use Rattle.std.specs.Prelude.{Option, Some, None, if◌then◌else◌, map}
+use Rattle.std.specs.Prelude.{ℕ, ◌+◌, ◌==◌, ◌&&◌, List, [], ◌∷◌, take, codes, map}
+use Rattle.std.specs.Prelude.{Option, Some, None, if◌then◌else◌}
 use Rattle.std.specs.List.{prefix_len}
-use Rattle.est_base.specs.Names.{is_letter, is_name_byte, is_same_name}
+use Rattle.est_base.specs.Names.{is_name_byte, is_same_name}
+use Rattle.expr_text.specs.Lexemes as lexemes
+pub use Rattle.expr_text.specs.Lexemes.{Front, Gap, Lexeme, Wrong, mark_front, is_space, begins_name, tokens_behind}
 
 -- what a token is; `Bad` is one that no text has
 pub data Kind : Type 0 where
@@ -27,17 +28,8 @@ pub data Kind : Type 0 where
   Bad : Kind
 
 -- a token and the place of its first byte in the text
-pub record Token : Type 0 where
-  pub kind : Kind
-  pub at : ℕ
-
--- space, tab, line feed, form feed and carriage return
-abbrev pub is_space : ℕ → Bool
-is_space c = c == 32 || (c == 9 || (c == 10 || (c == 12 || c == 13)))
-
--- a name begins with a letter or `_`
-abbrev pub begins_name : ℕ → Bool
-begins_name c = is_letter c || c == 95
+abbrev pub Token : Type 0
+Token = lexemes.Token Kind
 
 -- the reserved words, and all other names
 abbrev pub word_kind : List ℕ → Kind
@@ -74,28 +66,17 @@ closed_after [] = None
 closed_after (c ∷ []) = None
 closed_after (c ∷ d ∷ cs) = if c == 42 && d == 47 then Some 2 else one_more (closed_after (d ∷ cs))
 
--- what begins a text: a space or a comment, a token, or a byte that begins neither. Of the first two the number of
--- bytes behind the first one is told.
-pub data Front : Type 0 where
-  Gap : (more : ℕ) → Front
-  Lexeme : (more : ℕ) (kind : Kind) → Front
-  Wrong : Front
-
-abbrev pub comment_front : Option ℕ → Front
+abbrev pub comment_front : Option ℕ → Front Kind
 comment_front None = Wrong
 comment_front (Some n) = Gap (n + 1)
 
-abbrev pub mark_front : Option Kind → Front
-mark_front None = Wrong
-mark_front (Some kind) = Lexeme 0 kind
-
 -- a comment goes from `/*` up to the first `*/` behind it
-abbrev pub slash_front : List ℕ → Front
+abbrev pub slash_front : List ℕ → Front Kind
 slash_front [] = Wrong
 slash_front (c ∷ cs) = if c == 42 then comment_front (closed_after cs) else Wrong
 
 -- what a byte and those behind it begin with
-abbrev pub front : ℕ → List ℕ → Front
+abbrev pub front : ℕ → List ℕ → Front Kind
 front c cs =
     if is_space c then Gap 0
     else (if c == 47 then slash_front cs
@@ -103,20 +84,9 @@ front c cs =
     (word_kind (c ∷ take (prefix_len is_name_byte cs) cs))
     else mark_front (mark_kind c)))
 
-abbrev pub token_of : ℕ → Front → (ℕ → List Token) → List Token
-token_of at (Gap more) behind = behind more
-token_of at (Lexeme more kind) behind = record { kind = kind; at = at } ∷ behind more
-token_of at Wrong behind = record { kind = Bad; at = at } ∷ []
-
--- the tokens of a text that stands at this place, of which some bytes are passed over. A byte that begins no token, and
--- a `/*` without a `*/` behind it, are the last token.
-abbrev pub tokens_behind : ℕ → ℕ → List ℕ → List Token
-tokens_behind skipped at [] = []
-tokens_behind (suc skipped) at (c ∷ cs) = tokens_behind skipped (at + 1) cs
-tokens_behind zero at (c ∷ cs) = token_of at (front c cs) (λ more. tokens_behind more (at + 1) cs)
-
+-- the tokens of a text. A byte that begins no token, and a `/*` without a `*/` behind it, are the last token.
 abbrev pub tokens : List ℕ → List Token
-tokens text = tokens_behind 0 0 text
+tokens text = tokens_behind Bad front 0 0 text
 
 abbrev pub kinds : List ℕ → List Kind
 kinds text = map (λ t. t.kind) (tokens text)

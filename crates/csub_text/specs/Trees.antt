@@ -1,18 +1,6 @@
 -- To believe: programs of the C subset as plain trees, without where they lie in memory.
 use Rattle.std.specs.Prelude.{ℕ, Bool, List}
-
-mutual
-  -- an expression; `And` and `Or` have two parts or more
-  pub data Expr : Type 0 where
-    Name : (name : List ℕ) → Expr
-    Const : (value : Bool) → Expr
-    Not : (e : Expr) → Expr
-    And : (parts : Exprs) → Expr
-    Or : (parts : Exprs) → Expr
-
-  pub data Exprs : Type 0 where
-    NoExprs : Exprs
-    MoreExprs : (e : Expr) (others : Exprs) → Exprs
+pub use Rattle.expr_text.specs.Trees.{Expr, Name, Const, Not, And, Or, Exprs, NoExprs, MoreExprs}
 
 -- a state: a variable that keeps its value from call to call, and its value before the first one
 pub record State : Type 0 where

@@ -1,19 +1,19 @@
 -- To believe: the program that stands for a net, its text, and what the text means. Input J of the net is the local
 -- `iJ`, latch J the state `sJ`, and gate K the local `wN` where it carries wire N, else `gK`. The next value of latch J
 -- is computed into `tJ`, and whether the program is still active into `r`, which is returned.
-use Rattle.std.specs.Prelude.{◌≡◌, ℕ, ◌-◌, Bool, true, false, if◌then◌else◌, nat_lt, List, [], ◌∷◌, ◌++◌, length}
-use Rattle.std.specs.Prelude.{map, flat_map, codes, decimal, drop, Option, Some, None}
-use Rattle.est_base.specs.declared.indices.WireId.{WireId}
+use Rattle.std.specs.Prelude.{◌≡◌, ℕ, ◌-◌, Bool, true, false, List, [], ◌∷◌, ◌++◌, length}
+use Rattle.std.specs.Prelude.{map, flat_map, codes, decimal, drop}
 use Rattle.est_base.specs.Items.{Item, EachEvent}
-use Rattle.net_ir.specs.declared.netlist.Op.{Op}
-use Rattle.net_ir.specs.declared.netlist.Op.TheVariants as ops
 use Rattle.net_ir.specs.declared.netlist.Gate.{Gate}
 use Rattle.net_ir.specs.declared.netlist.Latch.{Latch}
 use Rattle.net_ir.specs.declared.netlist.NetOut.{NetOut}
-use Rattle.net_ir.specs.Netlists.{Netlist, first_gate, wire_at}
+use Rattle.net_ir.specs.Netlists.{Netlist, first_gate}
 use Rattle.net_ir.specs.Numbered.{numbered}
 use Rattle.net_ir.specs.Runs.{Shown, net_run, net_values_run}
-use Rattle.csub_text.specs.Trees.{Expr, Name, Const, Not, And, Or, Exprs, NoExprs, MoreExprs, State, Assign, Program}
+use Rattle.csub_text.specs.Trees.{Expr, Name, State, Assign, Program}
+use Rattle.expr_text.specs.Texts.{text_of}
+pub use Rattle.expr_text.specs.Operators.{op_expr}
+pub use Rattle.expr_text.specs.NetNames.{state_name, gate_name, gate_names, name_of_net}
 use Rattle.csub_text.specs.Names.{inputs_of, outputs_of}
 use Rattle.csub_text.specs.Texts.{Describes}
 use Rattle.csub_text.specs.Machine.{Seen, memories, run}
@@ -23,13 +23,6 @@ use Rattle.csub_text.specs.Machine.{Seen, memories, run}
 abbrev pub input_name : ℕ → List ℕ
 input_name j = codes "i" ++ decimal j
 
-abbrev pub state_name : ℕ → List ℕ
-state_name j = codes "s" ++ decimal j
-
-abbrev pub gate_name : ℕ → Option WireId → List ℕ
-gate_name k None = codes "g" ++ decimal k
-gate_name k (Some wire) = codes "w" ++ decimal wire.0
-
 abbrev pub next_name : ℕ → List ℕ
 next_name j = codes "t" ++ decimal j
 
@@ -38,10 +31,7 @@ answer_name = codes "r"
 
 -- the name of a net, by its number
 abbrev pub net_name : Netlist → ℕ → List ℕ
-net_name net n =
-    if nat_lt n (length net.inputs) then input_name n
-    else (if nat_lt n (first_gate net) then state_name (n - length net.inputs)
-    else gate_name (n - first_gate net) (wire_at net.gates (n - first_gate net)))
+net_name = name_of_net input_name
 
 -- the variables of inputs and outputs
 abbrev pub input_variable : List ℕ → List ℕ
@@ -54,16 +44,6 @@ output_variable output = codes "O_" ++ output.name
 
 abbrev pub net_state : ℕ → Latch → State
 net_state j latch = record { name = state_name j; init = latch.init }
-
-abbrev pub pair : List ℕ → List ℕ → Exprs
-pair m n = MoreExprs (Name m) (MoreExprs (Name n) NoExprs)
-
-abbrev pub op_expr : (ℕ → List ℕ) → Op → Expr
-op_expr word (ops.Const value) = Const value
-op_expr word (ops.Copy n) = Name (word n.0)
-op_expr word (ops.Not n) = Not (Name (word n.0))
-op_expr word (ops.And m n) = And (pair (word m.0) (word n.0))
-op_expr word (ops.Or m n) = Or (pair (word m.0) (word n.0))
 
 -- each input is copied into its local
 abbrev pub input_assign : ℕ → List ℕ → Assign
@@ -83,10 +63,6 @@ answer_assign net = record { target = answer_name; value = Name (net_name net ne
 
 abbrev pub state_assign : ℕ → Latch → Assign
 state_assign j latch = record { target = state_name j; value = Name (next_name j) }
-
--- the names of the gates
-abbrev pub gate_names : Netlist → List (List ℕ)
-gate_names net = numbered (λ k gate. gate_name k gate.wire) 0 net.gates
 
 abbrev pub net_globals : Netlist → List (List ℕ)
 net_globals net = map input_variable net.inputs ++ map output_variable net.outputs
@@ -117,22 +93,8 @@ abbrev pub bit_text : Bool → List ℕ
 bit_text false = codes "0"
 bit_text true = codes "1"
 
--- an expression without lists in lists
-abbrev mutual
-  pub expr_text : Expr → List ℕ
-  expr_text (Name name) = name
-  expr_text (Const value) = bit_text value
-  expr_text (Not e) = codes "!" ++ expr_text e
-  expr_text (And parts) = parts_text (codes " & ") parts
-  expr_text (Or parts) = parts_text (codes " | ") parts
-
-  pub parts_text : List ℕ → Exprs → List ℕ
-  parts_text mark NoExprs = []
-  parts_text mark (MoreExprs e others) = expr_text e ++ others_text mark others
-
-  pub others_text : List ℕ → Exprs → List ℕ
-  others_text mark NoExprs = []
-  others_text mark (MoreExprs e others) = mark ++ (expr_text e ++ others_text mark others)
+abbrev pub expr_text : Expr → List ℕ
+expr_text = text_of (codes "!") bit_text
 
 -- the end of a line
 abbrev pub line_end : List ℕ

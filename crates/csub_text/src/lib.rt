@@ -11,7 +11,8 @@ mod pieces;
 mod trees;
 mod writer;
 
+pub use expr_text::Expr;
 pub use names::{begins_input, begins_output, declared_names, front_two};
 pub use pieces::CPieces;
-pub use trees::{Assign, CProgram, Expr, State};
+pub use trees::{Assign, CProgram, State};
 pub use writer::write_c;

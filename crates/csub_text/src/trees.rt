@@ -1,16 +1,7 @@
 // Programs of the C subset as trees.
 
 use est_base::Text;
-
-/// An expression. `And` and `Or` have two parts or more: round brackets and a list of one part make no node.
-#[derive(Drop)]
-pub enum Expr {
-    Name(Text),
-    Const(bool),
-    Not(Box<Expr>),
-    And(Vec<Expr>),
-    Or(Vec<Expr>),
-}
+use expr_text::Expr;
 
 /// A variable that keeps its value from call to call, and its value before the first one.
 #[derive(Drop)]

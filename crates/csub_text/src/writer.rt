@@ -1,18 +1,18 @@
 // The C text of a net, line by line.
 
-ghost use Rattle.std.specs.Prelude.{◌≡◌, ◌+◌, ◌<◌, ◌≤◌, ◌++◌, [], ◌∷◌, decimal, IfOk, OnOk};
+ghost use Rattle.std.specs.Prelude.{◌≡◌, ◌+◌, ◌<◌, ◌≤◌, ◌++◌, IfOk, OnOk};
 ghost use Rattle.net_ir.specs.Gates.{operand_end};
 ghost use Rattle.net_ir.specs.Netlists.{net_count};
 ghost use Rattle.net_ir.specs.Runs.{netlist_of};
 ghost use Rattle.csub_text.specs.Written.{input_name, gate_name, next_name, answer_name, net_name, input_variable};
 ghost use Rattle.csub_text.specs.Written.{output_variable, net_state, input_assign, gate_assign, next_assign};
 ghost use Rattle.csub_text.specs.Written.{output_assign, answer_assign, state_assign, op_expr, expr_text, state_line};
-ghost use Rattle.csub_text.specs.Written.{declaration, assign_line, line_end, head_line, last_lines, written, Means};
+ghost use Rattle.csub_text.specs.Written.{declaration, assign_line, head_line, last_lines, written, Means};
 ghost use Rattle.csub_text.specs.Trees.{Name};
 
 use crate::pieces::CPieces;
 use est_base::{NetId, NoMemory, Text};
-use itoa::Buffer;
+use expr_text::{put, put_gate_name, put_named, put_number};
 use net_ir::{Gate, Latch, Net, NetOut, Op};
 use std::alloc::Global;
 
@@ -217,38 +217,4 @@ fn put_net(text: &mut Vec<u8>, net: &Net, from: NetId) -> Result<(), NoMemory>
     } else {
         put_gate_name(text, n - first_gate, net.gates[n - first_gate])
     }
-}
-
-// The name of a gate.
-fn put_gate_name(text: &mut Vec<u8>, k: usize, gate: Gate) -> Result<(), NoMemory>
-    ensures { OnOk result (text.new.items ≡ text.old.items ++ gate_name k gate.wire) }
-{
-    match gate.wire {
-        Some(wire) => put_number(text, b"w", wire.0 as usize),
-        None => put_number(text, b"g", k),
-    }
-}
-
-// Some bytes, and a decimal number behind them.
-fn put_number(text: &mut Vec<u8>, mark: &[u8], number: usize) -> Result<(), NoMemory>
-    ensures { OnOk result (text.new.items ≡ text.old.items ++ (mark.now ++ decimal number)) }
-{
-    put(text, mark)?;
-    put(text, Buffer::new().format(number).as_bytes())
-}
-
-// A name between some bytes.
-fn put_named(text: &mut Vec<u8>, before: &[u8], name: &[u8], behind: &[u8]) -> Result<(), NoMemory>
-    ensures { OnOk result (text.new.items ≡ text.old.items ++ (before.now ++ (name.now ++ behind.now))) }
-{
-    put(text, before)?;
-    put(text, name)?;
-    put(text, behind)
-}
-
-fn put(text: &mut Vec<u8>, bytes: &[u8]) -> Result<(), NoMemory>
-    ensures { OnOk result (text.new.items ≡ text.old.items ++ bytes.now) }
-{
-    text.extend_from_slice(bytes)?;
-    Ok(())
 }

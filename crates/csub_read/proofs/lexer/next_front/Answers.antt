@@ -1,5 +1,6 @@
 use Rattle.std.proofs.Common.{sym, ◌∙◌, arith}
-use Rattle.csub_read.proofs.LexLaws.{word-front, differ-eqb}
+use Rattle.expr_text.proofs.LexLaws.{differ-eqb}
+use Rattle.csub_read.proofs.LexLaws.{word-front}
 use Rattle.csub_read.proofs.lexer.next_front.Goals as goal
 
 pub returns-then-begins_name-clause-is : goal.returns-then-begins_name-clause-is

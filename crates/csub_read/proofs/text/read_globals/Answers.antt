@@ -6,7 +6,7 @@ use Rattle.read_rules.proofs.Loops.{loop-started}
 use Rattle.read_rules.proofs.Steps.{loop-grown}
 use Rattle.csub_read.specs.Reading.{global_behind, global_step}
 use Rattle.csub_read.specs.Tokens.{kind_in}
-use Rattle.csub_read.proofs.Makers.{shorter, on-apart}
+use Rattle.expr_text.proofs.Images.{shorter, on-apart}
 use Rattle.csub_read.proofs.TextLaws.{global-advances}
 use Rattle.csub_read.proofs.text.read_globals.Goals as goal
 

@@ -5,7 +5,7 @@ use Rattle.read_rules.proofs.Loops.{loop-started}
 use Rattle.read_rules.proofs.Steps.{loop-grown}
 use Rattle.csub_read.specs.Reading.{local_behind, local_step}
 use Rattle.csub_read.specs.Tokens.{kind_in}
-use Rattle.csub_read.proofs.Makers.{shorter, maybe-on}
+use Rattle.expr_text.proofs.Images.{shorter, maybe-on}
 use Rattle.csub_read.proofs.TextLaws.{local-advances}
 use Rattle.csub_read.proofs.text.read_locals.Goals as goal
 

@@ -7,7 +7,7 @@ use Rattle.read_rules.proofs.Loops.{loop-started}
 use Rattle.read_rules.proofs.Steps.{loop-grown}
 use Rattle.csub_read.specs.Reading.{state_behind, state_step}
 use Rattle.csub_read.specs.Tokens.{kind_in}
-use Rattle.csub_read.proofs.Makers.{shorter, maybe-on}
+use Rattle.expr_text.proofs.Images.{shorter, maybe-on}
 use Rattle.csub_read.proofs.TextLaws.{state-advances}
 use Rattle.csub_read.proofs.text.read_states.Goals as goal
 

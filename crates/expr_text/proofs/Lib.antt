@@ -1,0 +1,14 @@
+pub mod Rows
+pub mod Images
+pub mod Tests
+pub mod ExprLaws
+pub mod Makers
+pub mod LexLaws
+pub mod Saying
+pub mod Spelling
+pub mod Operators
+pub mod Naming
+pub mod Instants
+pub mod Places
+pub mod Again
+pub mod Joined

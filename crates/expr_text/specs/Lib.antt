@@ -1,0 +1,14 @@
+pub mod Trees
+pub mod Views
+pub mod Lexemes
+pub mod Signs
+pub mod Grammar
+pub mod Values
+pub mod Names
+pub mod Texts
+pub mod Operators
+pub mod NetNames
+pub mod NameTables
+pub mod Parts
+pub mod Plain
+pub mod Reading
