@@ -1,3 +1,4 @@
 mod DecimalValues
 mod Gathering
 mod WorkedWords
+mod WorkedOptions

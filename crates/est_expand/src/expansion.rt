@@ -50,7 +50,7 @@ pub fn expand<'a>(
     ensures named { (main : PlainModule) → slice_get (program_of program.now) table.now.main ≡ Some main
         → IsNamedModule main → IfOk result (λ flat. IsNamed (flat_of flat)) }
 {
-    let main = &program.modules[table.main().0 as usize];
+    let main = &program.modules[table.main()];
     flat_main(alloc, &program.modules, table, main)
 }
 

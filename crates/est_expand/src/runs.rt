@@ -28,7 +28,7 @@ pub fn module_named<'a>(source: &Source<'a>, name: &Name) -> Result<&'a Module, 
     ensures { Answers (λ m. module_of m.now) result (module_named (program_in source.now) name.now) }
 {
     match source.table.find(name.text.bytes()) {
-        Some(module) => Ok(&source.modules[module.0 as usize]),
+        Some(place) => Ok(&source.modules[place]),
         None => Err(ExpandFault::UnknownModule(name.span)),
     }
 }

@@ -6,3 +6,4 @@ pub mod FirstFaults
 pub mod GivenNames
 pub mod PlainTrees
 mod NameEquations
+mod WorkedNames

@@ -16,7 +16,7 @@ use crate::refusal::NameFault;
 use crate::signal_lists::push_lists;
 use crate::table::Table;
 use est_ast::{Decl, Module, Name, Program, Relation, Stmt};
-use est_base::{ModId, NoMemory};
+use est_base::NoMemory;
 use std::alloc::Global;
 
 /// The table of a program's modules, where the names have no fault. The main module is the one of the given
@@ -27,8 +27,7 @@ use std::alloc::Global;
 /// declared a second time in one interface or behind one `signal`, or `RelationName` at a name in a relation
 /// that its module does not declare as an input or an inputoutput.
 ///
-/// Names are found by their hashes, so the time and the memory are linear in the program. A program of more
-/// than 2^32 modules counts as want of memory.
+/// Names are found by their hashes, so the time and the memory are linear in the program.
 pub fn check_modules<'a>(
     alloc: Global,
     program: &'a Program,
@@ -37,17 +36,11 @@ pub fn check_modules<'a>(
     ensures table { IfOk result (IsTable (option_map (λ m. m.now) main.entry) (program_of program.now)) }
     ensures fault { IfErr result (IsFirst (name_faults (option_map (λ m. m.now) main.entry) (program_of program.now))) }
 {
-    if program.modules.len() > MODULES {
-        return Err(NameFault::NoMemory);
-    }
     let modules = module_name_set(alloc, &program.modules)?;
     let main = main_module(&modules, main)?;
     check_all(alloc, &program.modules)?;
     Ok(Table { main, modules })
 }
-
-// How many modules have a number each.
-const MODULES: usize = 4_294_967_296;
 
 // The names of the modules, none of which has the name of another.
 fn module_name_set<'a>(alloc: Global, modules: &'a [Module]) -> Result<NameSet<'a>, NameFault>
@@ -66,10 +59,9 @@ fn module_name_set<'a>(alloc: Global, modules: &'a [Module]) -> Result<NameSet<'
     Ok(names)
 }
 
-// The main module.
-fn main_module(modules: &NameSet, main: Option<&[u8]>) -> Result<ModId, NameFault>
-    requires { length modules.now ≤ MODULES }
-    ensures place { IfOk result (λ m. main_place (option_map (λ m. m.now) main.entry) modules.now ≡ Some m.0) }
+// The place of the main module.
+fn main_module(modules: &NameSet, main: Option<&[u8]>) -> Result<usize, NameFault>
+    ensures place { IfOk result (λ m. main_place (option_map (λ m. m.now) main.entry) modules.now ≡ Some m) }
     ensures fault { IfErr result (IsFirst (main_faults (main_place (option_map (λ m. m.now) main.entry) modules.now))) }
 {
     let place = match main {
@@ -77,7 +69,7 @@ fn main_module(modules: &NameSet, main: Option<&[u8]>) -> Result<ModId, NameFaul
         None => first_place(modules),
     };
     match place {
-        Some(place) => Ok(ModId(place as u32)),
+        Some(place) => Ok(place),
         None => Err(NameFault::NoMain),
     }
 }

@@ -125,6 +125,10 @@ loop_enters a p c (Started r) h =
     ⊎_elim (λ i. inl i) (λ i. inr (own_root a (resumed_codes p 0) r c i))
     (root_parts r a.roots (root_if (a.resumed && resumed_codes p 0) c) h)
 
+pub code_below : (t : Term) (l : Layer) → HasExitCodes t → (k : ℕ) → instance_codes t l k ≡ true → k < 64
+code_below t Resumed kernel k e = resumed_below t kernel k e
+code_below t (Started r) kernel k e = started_below t kernel k e
+
 -- what is told of the whole list: its wires, its edges, and the codes of what has an end
 pub record Told (g : ℕ → Term) (all : List Spot) (W : Wire → Type 0) (E : Between) : Type 0 where
   pub wires : (x : Spot) → Contains all x → Every W (instance_wires x.statement x.path x.layer)
@@ -188,11 +192,7 @@ module _ (L : ℕ → List Layer) (g : ℕ → Term) (all : List Spot) (W : Wire
       every_listed (λ j. W (End n l j)) (instance_codes t l)
       (every_map W (λ j. End n l j) (listed (instance_codes t l))
       (every_right W (own_status t n l) (map (λ j. End n l j) (listed (instance_codes t l))) (told.wires (spot B f t n l) (own c l i)).1))
-      k (below l h) h
-    where
-      below : (j : Layer) → instance_codes t j k ≡ true → k < 64
-      below Resumed e = resumed_below t c.kernel k e
-      below (Started r) e = started_below t c.kernel k e
+      k (code_below t l c.kernel k h) h
 
   -- ---- the context of a part
 

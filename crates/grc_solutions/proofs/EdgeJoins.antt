@@ -26,7 +26,7 @@ every_kept : {A : Type 0} (P : A → Type 0) (c : A → Bool) (xs : List A) → 
 every_kept P c [] h = tt
 every_kept P c (x ∷ xs) h = cond_both (c x) (x ∷ filter c xs) (filter c xs) (λ l. Every P l) (λ e. (h.0, every_kept P c xs h.1)) (λ e. every_kept P c xs h.1)
 
-some_code : (A : ℕ → Bool) (k : ℕ) → k < 64 → A k ≡ true → has_code A ≡ true
+pub some_code : (A : ℕ → Bool) (k : ℕ) → k < 64 → A k ≡ true → has_code A ≡ true
 some_code A k l e = upto-in A k 63 e (omega arith)
 
 module _ (L : ℕ → List Layer) (g : ℕ → Term) (all : List Spot) (W : Wire → Type 0) (E : Between) (told : Told g all W E) where

@@ -12,6 +12,7 @@ pub mod WireNames
 pub mod Contexts
 pub mod EndReads
 pub mod EdgeJoins
+pub mod EdgeReads
 pub mod EachContext
 pub mod ProgramGraphs
 pub mod OneRun

@@ -18,17 +18,18 @@ use Rattle.grc_graph.specs.Edges.{edge, edges_at, go_to_ends, to_status}
 use Rattle.grc_graph.specs.Reads.{ReadsOnly}
 use Rattle.grc_graph.specs.Selected.{HasExitCodes}
 use Rattle.grc_graph.specs.GraphRuns.{program_spots, graph_of}
-use Rattle.grc_solutions.specs.GraphWires.{program_wires, program_edges, EdgesJoinWires, ReadsAreEdges}
-use Rattle.grc_solutions.proofs.Lists.{Every, every_append, every_right, every_from, every_all, every_at, every_contained}
+use Rattle.grc_solutions.specs.GraphWires.{program_wires, program_edges, EdgesJoinWires, ReadsAreEdges, EdgesAreReads, IsRead, ReadsWire}
+use Rattle.grc_solutions.proofs.Lists.{Every, every_append, every_right, every_from, every_all, every_at, every_both, every_contained, every_listed}
 use Rattle.grc_solutions.proofs.Rows.{Between}
 use Rattle.grc_graph.proofs.LiveLayers.{body_agrees}
 use Rattle.grc_solutions.proofs.Looked.{Looked, looked, statement_at}
-use Rattle.grc_solutions.proofs.SameWires.{same_wire-true}
+use Rattle.grc_solutions.proofs.SameWires.{same_wire-true, equation_of}
 use Rattle.grc_solutions.proofs.Pairwise.{all_of_every, every_mapped, every_flat, listed_every}
-use Rattle.grc_solutions.proofs.WireNames.{instance_every}
+use Rattle.grc_solutions.proofs.WireNames.{instance_every, equation_wires_are}
 use Rattle.grc_solutions.proofs.Contexts.{In, Told, Asked, Context, contains_map, row, looks, left_part, right_part}
 use Rattle.grc_solutions.proofs.EndReads.{BranchCodes, end_reads, any_reads, every_cond}
 use Rattle.grc_solutions.proofs.EdgeJoins.{Joins, edges_join}
+use Rattle.grc_solutions.proofs.EdgeReads.{any_right, emission_read, IsStatus, Stands, EdgeRead, edges_read}
 use Rattle.grc_solutions.proofs.EachContext.{each}
 
 pub contains_flat_map : {A B : Type 0} (f : A → List B) (xs : List A) (x : A) (y : B) → Contains xs x → Contains (f x) y → Contains (flat_map f xs) y
@@ -260,6 +261,101 @@ module _ (p : Program) (kernel : HasExitCodes p.body) where
       every_append Read (map (output_equation (given_count p) all) (interface_of p).outgoing) (flat_map (instance_equations all) all)
       (every_mapped Read (output_equation (given_count p) all) (interface_of p).outgoing (every_all _ _ output_reads))
       (every_flat Read (instance_equations all) all (every_from ReadsAt (λ x. Every Read (instance_equations all x)) all instance_reads reads))
+
+  -- ---- each edge is read
+
+  abbrev es : List Equation
+  es = equations (given_count p) (interface_of p).outgoing all
+
+  abbrev Is : Wire → Formula → Type 0
+  Is w f = Contains es (record { wire = w; formula = f })
+
+  of_instance : (x : Spot) (e : Equation) → Contains all x → Contains (instance_equations all x) e → Contains es e
+  of_instance x e c d =
+      Contains-append_right (map (output_equation (given_count p) all) (interface_of p).outgoing) (flat_map (instance_equations all) all) e
+      (contains_flat_map (instance_equations all) all x e c d)
+
+  ends_stand : (x : Spot) → Contains all x → (k : ℕ) → k < 64 → instance_codes x.statement x.layer k ≡ true →
+      Is (End x.path x.layer k) (end_formula x.scope x.statement x.path x.layer k)
+  ends_stand x c k u h =
+      let own : ℕ → Equation = λ k. record { wire = End x.path x.layer k; formula = end_formula x.scope x.statement x.path x.layer k } in
+      let codes = listed (instance_codes x.statement x.layer) in
+      let status = instance_status all x.statement x.path x.layer in
+      of_instance x (own k) c
+      (Contains-append_right (record { wire = Go x.path x.layer; formula = x.entry } ∷ []) (status ++ map own codes) (own k)
+      (Contains-append_right status (map own codes) (own k)
+      (contains_map own codes k
+      (every_listed (λ j. Contains codes j) (instance_codes x.statement x.layer) (every_contained (λ j. Contains codes j) codes (λ j d. d)) k u h))))
+
+  -- the equation of a status wire reads each emission on it
+  abbrev Shows : Equation → Type 0
+  Shows q = IsStatus q.wire → (x : Spot) → Contains all x → emits_on q.wire x.statement x.scope x.layer ≡ true → IsRead (Go x.path x.layer) q.formula
+
+  status_shows : (t : Term) (n : ℕ) (l : Layer) → Every Shows (instance_status all t n l)
+  status_shows Nothing n l = tt
+  status_shows Pause n l = tt
+  status_shows (Emit s) n l = tt
+  status_shows (Exit k) n l = tt
+  status_shows (Present e x y) n l = tt
+  status_shows (Suspend e x) n l = tt
+  status_shows (Seq x y) n l = tt
+  status_shows (Loop at x) n l = tt
+  status_shows (Par x y) n l = tt
+  status_shows (Trap x) n l = tt
+  status_shows (Local s y) n l = ((λ i x c e. emission_read (StatusOf n l) x all c e), tt)
+  status_shows (Awake e x) n l = tt
+
+  instance_shows : (x : Spot) → Every Shows (instance_equations all x)
+  instance_shows x = (
+    λ i. absurd i,
+    every_append Shows (instance_status all x.statement x.path x.layer) _ (status_shows x.statement x.path x.layer)
+        (every_mapped Shows (λ k. record { wire = End x.path x.layer k; formula = end_formula x.scope x.statement x.path x.layer k })
+        (listed (instance_codes x.statement x.layer)) (every_all _ _ (λ k i. absurd i))),
+  )
+
+  output_shows : (s : ℕ) → Shows (output_equation (given_count p) all s)
+  output_shows s i x c e =
+      any_right (Go x.path x.layer) (cond (ltb s (given_count p)) (Input s ∷ []) []) (emissions (Out s) all) (emission_read (Out s) x all c e)
+
+  equations_show : Every Shows es
+  equations_show =
+      every_append Shows (map (output_equation (given_count p) all) (interface_of p).outgoing) (flat_map (instance_equations all) all)
+      (every_mapped Shows (output_equation (given_count p) all) (interface_of p).outgoing (every_all _ _ output_shows))
+      (every_flat Shows (instance_equations all) all (every_all _ all instance_shows))
+
+  stands : Stands all W Is
+  stands = record {
+    go = λ x c. of_instance x (record { wire = Go x.path x.layer; formula = x.entry }) c (0, omega arith, refl);
+    ends = ends_stand;
+    status = status;
+  }
+    where
+      status : (x : Spot) → Contains all x → (w : Wire) → W w → IsStatus w → emits_on w x.statement x.scope x.layer ≡ true →
+          (f : Formula) × Is w f × IsRead (Go x.path x.layer) f
+      status x c w v i e =
+          let q = equation_of es w (subst (λ ws. Contains ws w) (sym (equation_wires_are (given_count p) (interface_of p).outgoing all)) v) in (
+            q.0.formula,
+            subst (λ u. Contains es (record { wire = u; formula = q.0.formula })) q.2 q.1,
+            every_at Shows es equations_show q.0 q.1 (subst IsStatus (sym q.2) i) x c
+                (subst (λ u. emits_on u x.statement x.scope x.layer ≡ true) (sym q.2) e),
+          )
+
+  abbrev ReadAt : Spot → Type 0
+  ReadAt x = Every (EdgeRead L g all W E told Is stands) (edges_at x.scope x.statement x.path x.layer)
+
+  all_read : Every ReadAt all
+  all_read =
+      each L g all W E told ReadAt (λ a B f t n c l i. edges_read L g all W E told Is stands c l i) (body_liveness p.body) B0 body_entry p.body 0 top
+
+  pub edges_are_read : Every (λ e. ReadsWire es e.from e.to) (program_edges p)
+  edges_are_read =
+      every_from (λ e. (W e.from × W e.to) × EdgeRead L g all W E told Is stands e) (λ e. ReadsWire es e.from e.to) (program_edges p)
+      (λ e h. let r = h.1 h.0.1 in record { formula = r.0; equation = r.1; reads = r.2 })
+      (every_both (λ e. W e.from × W e.to) (EdgeRead L g all W E told Is stands) (program_edges p) edges_are_joined
+      (every_flat (EdgeRead L g all W E told Is stands) (λ x. edges_at x.scope x.statement x.path x.layer) all all_read))
+
+pub edges_are_reads_lem : EdgesAreReads
+edges_are_reads_lem p kernel = all_of_every (λ e. ReadsWire (graph_of p).equations e.from e.to) (program_edges p) (edges_are_read p kernel)
 
 pub edges_join_wires_lem : EdgesJoinWires
 edges_join_wires_lem p kernel =

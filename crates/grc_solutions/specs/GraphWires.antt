@@ -1,7 +1,9 @@
 -- To believe: which wires the graph of a program has, which wires its edges join, and what its equations read.
-use Rattle.std.specs.Prelude.{◌≡◌, ◌≢◌, List, map, All, AllPairs, Contains}
+use Rattle.std.specs.Prelude.{◌≡◌, ◌≢◌, ◌⊎◌, ℕ, ◌≤◌, List, map, All, AllPairs, Contains}
 use Rattle.est_kernel.specs.Plain.{Program}
-use Rattle.grc_graph.specs.Wires.{Wire}
+use Rattle.grc_graph.specs.Wires.{Wire, End}
+use Rattle.grc_graph.specs.Formulas.{Formula, Const, Boot, Input, Value, Selected, Upto, Kept, Held, Negation}
+use Rattle.grc_graph.specs.Formulas.{Conjunction, Disjunction}
 use Rattle.grc_graph.specs.Equations.{Equation}
 use Rattle.grc_graph.specs.Edges.{edge}
 use Rattle.grc_graph.specs.Selected.{HasExitCodes}
@@ -35,3 +37,29 @@ ReadsAreEdges =
     (p : Program) → HasExitCodes p.body
     → All (λ e. ReadsOnly (λ u. Contains (program_wires p) u → Contains (program_edges p) (edge u e.wire)) e.formula)
     (graph_of p).equations
+
+-- a formula reads this wire, in its own name or as an end of an instance up to a code
+abbrev pub IsRead : Wire → Formula → Type 0
+IsRead u (Const b) = ⊥
+IsRead u Boot = ⊥
+IsRead u (Input s) = ⊥
+IsRead u (Value w) = u ≡ w
+IsRead u (Selected n) = ⊥
+IsRead u (Upto n l k) = (j : ℕ) × (j ≤ k) × (u ≡ End n l j)
+IsRead u (Kept n l) = ⊥
+IsRead u (Held n l) = ⊥
+IsRead u (Negation a) = IsRead u a
+IsRead u (Conjunction a b) = IsRead u a ⊎ IsRead u b
+IsRead u (Disjunction a b) = IsRead u a ⊎ IsRead u b
+
+-- among these equations that of w reads u
+pub record ReadsWire (equations : List Equation) (u w : Wire) : Type 0 where
+  pub formula : Formula
+  pub equation : Contains equations (record { wire = w; formula = formula })
+  pub reads : IsRead u formula
+
+-- Each edge ends at a wire whose equation reads the wire that it begins at: no edge is one too many.
+abbrev pub EdgesAreReads : Type 0
+EdgesAreReads =
+    (p : Program) → HasExitCodes p.body
+    → All (λ e. ReadsWire (graph_of p).equations e.from e.to) (program_edges p)

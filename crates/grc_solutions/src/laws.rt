@@ -1,6 +1,6 @@
 // The laws of a graph's equations. Each call does nothing: its contract is the law.
 
-ghost use Rattle.grc_solutions.specs.GraphWires.{EdgesJoinWires, ReadsAreEdges, WiresDiffer};
+ghost use Rattle.grc_solutions.specs.GraphWires.{EdgesAreReads, EdgesJoinWires, ReadsAreEdges, WiresDiffer};
 ghost use Rattle.grc_solutions.specs.NumberedGraphs.{ClosedWalksHaveNoRanks, ReadingOrdersReadUp};
 ghost use Rattle.grc_solutions.specs.NumberedGraphs.{WireOrdersAreReadingOrders, WireRanksGoUp};
 ghost use Rattle.grc_solutions.specs.Solutions.{GraphRunsExist, GraphsHaveOneSolution, GraphsReadUp, OneRun};
@@ -19,6 +19,11 @@ pub fn edges_join_wires()
 /// Each wire of a program's graph that an equation reads has an edge to the equation's wire.
 pub fn reads_are_edges()
     ensures { ReadsAreEdges }
+{}
+
+/// Each edge of a program's graph ends at a wire whose equation reads the wire that the edge begins at.
+pub fn edges_are_reads()
+    ensures { EdgesAreReads }
 {}
 
 /// Where the equations of a graph read from lower ranks to higher ones, they have one solution in each state

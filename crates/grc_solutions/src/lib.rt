@@ -8,7 +8,7 @@
 mod laws;
 
 pub use laws::{
-    closed_walks_have_no_ranks, edges_join_wires, graph_runs_exist, graphs_have_one_solution,
-    graphs_read_up, one_run, one_solution, reading_orders_read_up, reads_are_edges,
-    wire_orders_are_reading_orders, wire_ranks_go_up, wires_differ,
+    closed_walks_have_no_ranks, edges_are_reads, edges_join_wires, graph_runs_exist,
+    graphs_have_one_solution, graphs_read_up, one_run, one_solution, reading_orders_read_up,
+    reads_are_edges, wire_orders_are_reading_orders, wire_ranks_go_up, wires_differ,
 };

@@ -14,17 +14,18 @@ use Rattle.net_ir.specs.Gates.{operand_end, ReadsLower, op_value, value_in, gate
 use Rattle.net_simp.specs.declared.forms.Form.{Form}
 use Rattle.net_simp.specs.SimpleNets.{reads, IsNoCopy}
 use Rattle.net_simp.specs.Renaming.{stand_in, renamed_op, OwnNames}
-use Rattle.net_simp.specs.Rules.{op_at, reduced_op, outright_op}
+use Rattle.net_simp.specs.Rules.{op_at, reduced_op}
 use Rattle.net_simp.specs.Forms.{form_of}
 use Rattle.net_simp.specs.Keeping.{Keeps, Any}
 use Rattle.std.specs.Map.{lookup}
 use Rattle.indexmap.specs.IndexMap.{IndexMap, IsEmpty}
 use Rattle.net_simp.specs.Drafts.{form_in, same_form, found_by, found_op, InRange, told, with_gate, name_of, set_form, with_form, no_copy, computes, Settled}
-use Rattle.net_simp.specs.Drafts.{Finds, Settles, Drafted, OpsOnce, Folded}
+use Rattle.net_simp.specs.Drafts.{outright_op}
+use Rattle.net_simp.specs.Drafts.{Finds, Settles, Drafted, FormsOnce, Folded}
 use Rattle.net_simp.proofs.Keeping.{value-old, value-new, keeps-start, keeps-skip, keeps-push}
 use Rattle.net_simp.proofs.Operators.{reads-low, renamed-value, renamed-low, renamed-from}
 use Rattle.net_simp.proofs.Reductions.{Says, op_at-says, op_at-gate, op_at-is, op_at-old, idle, reduced-value, reduced-settled, reduced-low, outright-value}
-use Rattle.net_simp.proofs.Reductions.{outright-settled, outright-low}
+use Rattle.net_simp.proofs.Reductions.{outright-settled, outright-low, reduced-same, reduced-again, outright-reduced}
 use Rattle.net_simp.proofs.SameForms.{same-value, same_form-itself, same_form-is}
 
 pub stand_in-old : (names : List NetId) (x : NetId) (n : ℕ) → n < length names → stand_in (names ++ x ∷ []) n ≡ stand_in names n
@@ -62,13 +63,21 @@ finds-more first gates x q n f =
       no_copy_is = f.no_copy_is;
     }
 
+reduced-more : (first : ℕ) (gates : List Gate) (x : Gate) (op : Op) → operand_end op ≤ first + length gates → reduced_op first gates op ≡ op
+    → reduced_op first (gates ++ x ∷ []) op ≡ op
+reduced-more first gates x op low reduced =
+    reduced-same first first (gates ++ x ∷ []) gates op (λ n r. op_at-old first gates x n (reads-low op n (first + length gates) r low)) ∙ reduced
+
 settles-push : (first : ℕ) (gates : List Gate) (x : Gate) → ReadsLower first gates → Settles first gates
-    → operand_end x.op ≤ first + length gates → Settled first gates x.op → (x.wire ≡ None → IsNoCopy x.op)
+    → operand_end x.op ≤ first + length gates → Settled first gates x.op → reduced_op first gates x.op ≡ x.op → (x.wire ≡ None → IsNoCopy x.op)
     → Settles first (gates ++ x ∷ [])
-settles-push first gates x reads s low settled silent = record {
+settles-push first gates x reads s low settled reduced silent = record {
   settled = All-push (λ (g : Gate). Settled first (gates ++ x ∷ []) g.op) gates x
       (λ k d h. let lower = reads k d h in settled-more first gates x (slice_index_or gates k d).op (omega arith) (s.settled k d h))
       (settled-more first gates x x.op low settled);
+  reduced = All-push (λ (g : Gate). reduced_op first (gates ++ x ∷ []) g.op ≡ g.op) gates x
+      (λ k d h. let lower = reads k d h in reduced-more first gates x (slice_index_or gates k d).op (omega arith) (s.reduced k d h))
+      (reduced-more first gates x x.op low reduced);
   no_copies = All-push (λ (g : Gate). g.wire ≡ None → IsNoCopy g.op) gates x s.no_copies silent;
 }
 
@@ -77,6 +86,7 @@ record Adds (first : ℕ) (old new : List Gate) (known later : Form → Option N
   wires : x.wire ≡ g.wire
   low : operand_end x.op ≤ first + length new
   settled : Settled first new x.op
+  reduced : reduced_op first new x.op ≡ x.op
   silent : x.wire ≡ None → IsNoCopy x.op
   value : (v : List Bool) → length v ≡ first → op_value (value_in (gate_values v new)) x.op ≡ op_value (value_in (gate_values v old)) g.op
   name_low : name.0 < first + length new + 1
@@ -111,7 +121,7 @@ drafted-push first old new names known later g x name d a =
             let e : length names ≡ n = omega arith in
             subst (λ m. no_copy (op_at first (new ++ x ∷ []) m)) (sym (stand_in-new names name n e)) a.name_no_copy
       ];
-      settles = settles-push first new x k.reads_lower d.settles a.low a.settled a.silent;
+      settles = settles-push first new x k.reads_lower d.settles a.low a.settled a.reduced a.silent;
       finds = a.finds;
       knows = λ j e h. elim (cases_lt j (length new)) [
         | inl before ↦
@@ -134,26 +144,29 @@ drafted-push first old new names known later g x name d a =
 record Makes (first : ℕ) (old new : List Gate) (known : Form → Option NetId) (g : Gate) (op : Op) : Type 0 where
   low : operand_end op ≤ first + length new
   settled : Settled first new op
+  reduced : reduced_op first new op ≡ op
   value : (v : List Bool) → length v ≡ first → op_value (value_in (gate_values v new)) op ≡ op_value (value_in (gate_values v old)) g.op
   unknown : IsNoCopy op → known (form_of op) ≡ None
 
 found-makes : (first : ℕ) (old new : List Gate) (known : Form → Option NetId) (g : Gate) (op : Op) (o : Option NetId) → ReadsLower first new
     → ((q : Form) (n : NetId) → known q ≡ Some n → Finds first new q n.0)
-    → operand_end op ≤ first + length new → Settled first new op
+    → operand_end op ≤ first + length new → Settled first new op → reduced_op first new op ≡ op
     → ((v : List Bool) → length v ≡ first → op_value (value_in (gate_values v new)) op ≡ op_value (value_in (gate_values v old)) g.op)
     → known (form_of op) ≡ o
     → Makes first old new known g (found_by o op)
-found-makes first old new known g op None reads finds low settled value e = record {
+found-makes first old new known g op None reads finds low settled reduced value e = record {
   low = low;
   settled = settled;
+  reduced = reduced;
   value = value;
   unknown = λ fresh. e;
 }
-found-makes first old new known g op (Some n) reads finds low settled value e =
+found-makes first old new known g op (Some n) reads finds low settled reduced value e =
     let f = finds (form_of op) n e in
     record {
       low = omega (arith, f.low);
       settled = subst no_copy (sym f.at) f.no_copy_is;
+      reduced = refl;
       value = λ v len. op_at-says first new v n.0 reads len f.low f.op f.at
           ∙ same-value (value_in (gate_values v new)) f.op op f.form ∙ value v len;
       unknown = λ fresh. absurd fresh;
@@ -173,6 +186,7 @@ made first old new names known g d low =
     (λ n h r. renamed-from (stand_in names) g.op n (λ m. no_copy (op_at first new m)) r
     (λ m rm. d.names_no_copy m (reads-low g.op m (length names) rm low)))
     (λ n x h e. let at = op_at-gate first new n x h e in subst (Settled first new) (at.is idle) (d.settles.settled at.k idle at.within)))
+    (reduced-again first new op)
     (λ v len. reduced-value (value_in (gate_values v new)) first new op op_low (λ n h. op_at-says first new v n k.reads_lower len h)
     ∙ renamed-value (stand_in names) (value_in (gate_values v new)) (value_in (gate_values v old)) g.op
     (λ n r. k.same v n len (omega (arith, reads-low g.op n (length names) r low, d.count)) tt))
@@ -240,6 +254,7 @@ place first old new names known g op d m fresh =
       wires = refl;
       low = m.low;
       settled = m.settled;
+      reduced = m.reduced;
       silent = λ e. fresh;
       value = m.value;
       name_low = omega arith;
@@ -263,6 +278,7 @@ tell first old new names known g n w d m carries =
       wires = sym carries;
       low = outright-low (op_at first new n.0) n (first + length new) low;
       settled = outright-settled first new (op_at first new n.0) n m.settled;
+      reduced = outright-reduced first new (op_at first new n.0) n;
       silent = λ e. let never : ⊥ = cc in absurd never;
       value = λ v len. outright-value (value_in (gate_values v new)) (op_at first new n.0) n (op_at-says first new v n.0 reads len low) ∙ m.value v len;
       name_low = omega arith;
@@ -346,7 +362,7 @@ drafted-start first names known count own nothing = record {
   count = omega arith;
   keeps = keeps-start first (stand_in names) Any (λ n h. own n (omega arith));
   names_no_copy = λ n h. subst no_copy (sym (op_at-below first (stand_in names n) (let e = own n h in omega arith))) tt;
-  settles = record { settled = λ k d h. absurd (omega arith); no_copies = λ k d h. absurd (omega arith) };
+  settles = record { settled = λ k d h. absurd (omega arith); reduced = λ k d h. absurd (omega arith); no_copies = λ k d h. absurd (omega arith) };
   finds = λ q n e. let none = nothing q in let never : ⊥ = cc in absurd never;
   knows = λ k d h. absurd (omega arith);
 }
@@ -365,7 +381,7 @@ folded first old new names known d = record {
   once = λ j k e hj hk sj sk same.
       let a = d.knows j e hj sj in
       let b = d.knows k e hk sk in
-      let c = ap (λ op. known (form_of op)) same in
+      let c = ap known same in
       let both : Some (numbered (first + j)) ≡ Some (numbered (first + k)) = cc in
       let nets : first + j ≡ first + k = ap net_of both in
       omega arith;

@@ -6,5 +6,7 @@ pub mod Drafting
 pub mod Marking
 pub mod Ranks
 pub mod SimplifiedNets
+pub mod ReducedGates
 pub mod Simple
 pub mod Carriers
+mod WorkedRules

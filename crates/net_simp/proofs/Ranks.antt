@@ -61,7 +61,7 @@ rank-injective marks m n here there same = elim (cases_order m n) [
   ]
 ]
 
-rank-own : (marks : List Bool) (first n : ℕ) → ((m : ℕ) → m < first → marked marks m ≡ true) → n ≤ first → rank marks n ≡ n
+pub rank-own : (marks : List Bool) (first n : ℕ) → ((m : ℕ) → m < first → marked marks m ≡ true) → n ≤ first → rank marks n ≡ n
 rank-own marks first zero all low = refl
 rank-own marks first (suc n) all low =
     let before = rank-own marks first n all (omega arith) in

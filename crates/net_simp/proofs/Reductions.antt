@@ -12,8 +12,8 @@ use Rattle.net_ir.specs.declared.netlist.Gate.{Gate}
 use Rattle.net_ir.specs.Gates.{operand_end, ReadsLower, op_value, value_in, gate_values}
 use Rattle.net_ir.proofs.Values.{Solves-gate_values}
 use Rattle.net_simp.specs.SimpleNets.{reads}
-use Rattle.net_simp.specs.Rules.{op_at, is_low, is_high, negates, implies, are_opposite, negation, and_by, or_by, reduced_op, outright_op}
-use Rattle.net_simp.specs.Drafts.{no_copy, computes, Settled}
+use Rattle.net_simp.specs.Rules.{op_at, is_low, is_high, negates, implies, are_opposite, negation, and_by, or_by, reduced_op}
+use Rattle.net_simp.specs.Drafts.{no_copy, computes, Settled, outright_op}
 
 abbrev pub idle : Gate
 idle = record { op = Const false; wire = None }
@@ -349,3 +349,66 @@ outright-low (Some (Copy a)) n end low = omega arith
 outright-low (Some (Not a)) n end low = omega arith
 outright-low (Some (And a b)) n end low = omega arith
 outright-low (Some (Or a b)) n end low = omega arith
+
+-- ---- what is left is reduced
+
+-- what is reduced depends on the gates of its operands alone
+pub reduced-same : (first second : ℕ) (gates others : List Gate) (op : Op)
+    → ((n : ℕ) → reads op n ≡ true → op_at first gates n ≡ op_at second others n)
+    → reduced_op first gates op ≡ reduced_op second others op
+reduced-same first second gates others (Const b) same = refl
+reduced-same first second gates others (Copy n) same = refl
+reduced-same first second gates others (Not n) same = ap (λ o. negation o n) (same n.0 (eq-eqb n.0 n.0 refl))
+reduced-same first second gates others (And m n) same =
+    let a = same m.0 (or_left (m.0 == m.0) (n.0 == m.0) (eq-eqb m.0 m.0 refl)) in
+    let b = same n.0 (or_right (m.0 == n.0) (n.0 == n.0) (eq-eqb n.0 n.0 refl)) in
+    λ i. and_by (negates (a i) n.0 || negates (b i) m.0) (m.0 == n.0 || is_low (a i) n.0 || is_high (b i) m.0)
+    (n.0 == m.0 || is_low (b i) m.0 || is_high (a i) n.0) m n
+reduced-same first second gates others (Or m n) same =
+    let a = same m.0 (or_left (m.0 == m.0) (n.0 == m.0) (eq-eqb m.0 m.0 refl)) in
+    let b = same n.0 (or_right (m.0 == n.0) (n.0 == n.0) (eq-eqb n.0 n.0 refl)) in
+    λ i. or_by (negates (a i) n.0 || negates (b i) m.0) (m.0 == n.0 || is_low (a i) n.0 || is_high (b i) m.0)
+    (n.0 == m.0 || is_low (b i) m.0 || is_high (a i) n.0) m n
+
+negation-again : (first : ℕ) (gates : List Gate) (n : NetId) (o : Option Op) → op_at first gates n.0 ≡ o
+    → reduced_op first gates (negation o n) ≡ negation o n
+negation-again first gates n None e = ap (λ o. negation o n) e
+negation-again first gates n (Some (Const b)) e = refl
+negation-again first gates n (Some (Copy a)) e = ap (λ o. negation o n) e
+negation-again first gates n (Some (Not a)) e = refl
+negation-again first gates n (Some (And a b)) e = ap (λ o. negation o n) e
+negation-again first gates n (Some (Or a b)) e = ap (λ o. negation o n) e
+
+and-again : (first : ℕ) (gates : List Gate) (opposite up down : Bool) (m n : NetId) → are_opposite first gates m.0 n.0 ≡ opposite
+    → implies first gates m.0 n.0 ≡ up → implies first gates n.0 m.0 ≡ down
+    → reduced_op first gates (and_by opposite up down m n) ≡ and_by opposite up down m n
+and-again first gates true up down m n a b c = refl
+and-again first gates false true down m n a b c = refl
+and-again first gates false false true m n a b c = refl
+and-again first gates false false false m n a b c = λ i. and_by (a i) (b i) (c i) m n
+
+or-again : (first : ℕ) (gates : List Gate) (opposite up down : Bool) (m n : NetId) → are_opposite first gates m.0 n.0 ≡ opposite
+    → implies first gates m.0 n.0 ≡ up → implies first gates n.0 m.0 ≡ down
+    → reduced_op first gates (or_by opposite up down m n) ≡ or_by opposite up down m n
+or-again first gates true up down m n a b c = refl
+or-again first gates false true down m n a b c = refl
+or-again first gates false false true m n a b c = refl
+or-again first gates false false false m n a b c = λ i. or_by (a i) (b i) (c i) m n
+
+-- reduced once, it is reduced
+pub reduced-again : (first : ℕ) (gates : List Gate) (op : Op) → reduced_op first gates (reduced_op first gates op) ≡ reduced_op first gates op
+reduced-again first gates (Const b) = refl
+reduced-again first gates (Copy n) = refl
+reduced-again first gates (Not n) = negation-again first gates n (op_at first gates n.0) refl
+reduced-again first gates (And m n) =
+    and-again first gates (are_opposite first gates m.0 n.0) (implies first gates m.0 n.0) (implies first gates n.0 m.0) m n refl refl refl
+reduced-again first gates (Or m n) =
+    or-again first gates (are_opposite first gates m.0 n.0) (implies first gates m.0 n.0) (implies first gates n.0 m.0) m n refl refl refl
+
+pub outright-reduced : (first : ℕ) (gates : List Gate) (o : Option Op) (n : NetId) → reduced_op first gates (outright_op o n) ≡ outright_op o n
+outright-reduced first gates None n = refl
+outright-reduced first gates (Some (Const b)) n = refl
+outright-reduced first gates (Some (Copy a)) n = refl
+outright-reduced first gates (Some (Not a)) n = refl
+outright-reduced first gates (Some (And a b)) n = refl
+outright-reduced first gates (Some (Or a b)) n = refl

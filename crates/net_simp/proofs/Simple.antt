@@ -13,13 +13,15 @@ use Rattle.net_ir.specs.declared.netlist.Latch.{Latch}
 use Rattle.net_ir.specs.declared.netlist.NetOut.{NetOut}
 use Rattle.net_ir.specs.Gates.{value_in, gate_values}
 use Rattle.net_ir.specs.Netlists.{Netlist, IsNet, first_gate}
-use Rattle.net_simp.specs.SimpleNets.{EachOpOnce, IsNoCopy, NoCopies, Computes, reads, ReadsComputed, OperandsDiffer, ReadsNoneTwice, is_used, EachIsUsed}
+use Rattle.net_simp.specs.SimpleNets.{EachFormOnce, EachIsReduced, turned, IsNoCopy, NoCopies, Computes, reads, ReadsComputed}
+use Rattle.net_simp.specs.SimpleNets.{OperandsDiffer, ReadsNoneTwice, is_used, EachIsUsed}
 use Rattle.net_simp.specs.SameRuns.{SameParts, SameInstants, SameRuns}
 use Rattle.net_simp.specs.Simplified.{Simplified}
 use Rattle.net_simp.specs.Renaming.{stand_in, through, renamed_op, renamed_out, renamed_latch, renamed_net}
-use Rattle.net_simp.specs.Rules.{op_at}
+use Rattle.net_simp.specs.Rules.{op_at, reduced_op}
+use Rattle.net_simp.specs.Forms.{form_of}
 use Rattle.net_simp.specs.Keeping.{Keeps, Any}
-use Rattle.net_simp.specs.Drafts.{computes, Settled, Settles, OpsOnce, Folded}
+use Rattle.net_simp.specs.Drafts.{computes, Settled, Settles, FormsOnce, Folded}
 use Rattle.net_simp.specs.Needs.{marked, ReadFrom, NeedsMet, RootMarks, Needed, Closed}
 use Rattle.net_simp.specs.Packing.{rank, ComesFrom, Packed}
 use Rattle.net_simp.proofs.Keeping.{keeps-trans}
@@ -27,6 +29,7 @@ use Rattle.net_simp.proofs.Operators.{renamed-reads, renamed-from, renamed-injec
 use Rattle.net_simp.proofs.Reductions.{op_at-is}
 use Rattle.net_simp.proofs.Marking.{first_marks, first-low, first-gate, first_marks-length}
 use Rattle.net_simp.proofs.Ranks.{rank-injective, Lands, lands}
+use Rattle.net_simp.proofs.ReducedGates.{turned-renamed, turned-reads, form-turned, ranked-reduced}
 use Rattle.net_simp.proofs.SimplifiedNets.{AsksFor, first-same, is-net, same-parts, same-instants, same-runs}
 
 -- ---- the shapes of renamed operators
@@ -158,17 +161,35 @@ list_any-mapped p q f (x ∷ xs) each is = elim (or_cases (p x) (list_any p xs) 
 -- ---- the points
 
 once : (net : Netlist) (draft kept : List NetId) (mid new : List Gate) (before marks : List Bool) → Passes net draft kept mid new before marks
-    → EachOpOnce (renamed_net net (through draft kept) new)
+    → EachFormOnce (renamed_net net (through draft kept) new)
 once net draft kept mid new before marks p = λ j k d hj hk sj sk same.
     let first = first_gate net in
     let a = p.packs.from j hj in
     let b = p.packs.from k hk in
-    let ops = renamed-injective (rank marks) (slice_index_or mid a.at d).op (slice_index_or mid b.at d).op
-    (λ m n rm rn e. rank-injective marks m n (p.closed.closed a.at d m a.within a.kept rm) (p.closed.closed b.at d n b.within b.kept rn) e)
-    (sym (a.op d) ∙ same ∙ b.op d) in
-    let ats = p.folds.once a.at b.at d a.within b.within (sym (a.wire d) ∙ sj) (sym (b.wire d) ∙ sk) ops in
+    let f = rank marks in
+    let x = (slice_index_or mid a.at d).op in
+    let y = (slice_index_or mid b.at d).op in
+    let apart = λ (m n : ℕ) (rm : reads x m ≡ true) (rn : reads y n ≡ true) (e : f m ≡ f n).
+    rank-injective marks m n (p.closed.closed a.at d m a.within a.kept rm) (p.closed.closed b.at d n b.within b.kept rn) e in
+    let forms : form_of x ≡ form_of y = elim same [
+      | inl e ↦ ap form_of (renamed-injective f x y apart (sym (a.op d) ∙ e ∙ b.op d))
+      | inr e ↦ ap form_of (renamed-injective f x (turned y) (λ m n rm rn. apart m n rm (turned-reads y n rn))
+          (sym (a.op d) ∙ e ∙ ap turned (b.op d) ∙ turned-renamed f y)) ∙ form-turned y
+    ] in
+    let ats = p.folds.once a.at b.at d a.within b.within (sym (a.wire d) ∙ sj) (sym (b.wire d) ∙ sk) forms in
     let ranks : first + j ≡ first + k = sym a.ranked ∙ ap (λ i. rank marks (first + i)) ats ∙ b.ranked in
     omega arith
+
+reduced : (net : Netlist) (draft kept : List NetId) (mid new : List Gate) (before marks : List Bool) → Passes net draft kept mid new before marks
+    → EachIsReduced (renamed_net net (through draft kept) new)
+reduced net draft kept mid new before marks p = λ j d hj sj.
+    let first = first_gate net in
+    let a = p.packs.from j hj in
+    let op = (slice_index_or mid a.at d).op in
+    let here = ranked-reduced first marks mid new kept a.at d p.closed p.packs p.folds.keeps.reads_lower a.within a.kept
+    (p.folds.settles.reduced a.at d a.within) in
+    ap (λ f. reduced_op f new (slice_index_or new j d).op) (first-same net (through draft kept) new)
+    ∙ ap (reduced_op first new) (a.op d) ∙ here ∙ sym (a.op d)
 
 no-copies : (net : Netlist) (draft kept : List NetId) (mid new : List Gate) (before marks : List Bool) → Passes net draft kept mid new before marks
     → NoCopies (renamed_net net (through draft kept) new)
@@ -270,6 +291,7 @@ simplified net draft kept mid new before marks p =
       runs = same-runs net (renamed_net net f new) parts.latches instants;
       simple = record {
         once = once net draft kept mid new before marks p;
+        reduced = reduced net draft kept mid new before marks p;
         no_copies = no-copies net draft kept mid new before marks p;
         reads_computed = reads-computed net draft kept mid new before marks p;
         reads_none_twice = reads-none-twice net draft kept mid new before marks p;

@@ -12,7 +12,7 @@ use Rattle.net_simp.specs.declared.forms.Form.{Form}
 use Rattle.net_simp.specs.contracts.forms.FormPartialEq.TheImpl as form_eq
 use Rattle.net_simp.specs.SimpleNets.{IsNoCopy}
 use Rattle.net_simp.specs.Renaming.{stand_in}
-use Rattle.net_simp.specs.Rules.{op_at, outright_op}
+use Rattle.net_simp.specs.Rules.{op_at, reduced_op}
 use Rattle.net_simp.specs.Forms.{form_of}
 use Rattle.net_simp.specs.Keeping.{Keeps, Any}
 
@@ -30,6 +30,15 @@ found_by (Some n) op = Copy n
 -- the operator, or a copy of the net that is known to compute it
 abbrev pub found_op : (Form → Option NetId) → Op → Op
 found_op known op = found_by (known (form_of op)) op
+
+-- a copy of a net whose gate has this operator: of a constant it is that constant
+abbrev pub outright_op : Option Op → NetId → Op
+outright_op None n = Copy n
+outright_op (Some (Const b)) n = Const b
+outright_op (Some (Copy m)) n = Copy n
+outright_op (Some (Not m)) n = Copy n
+outright_op (Some (And l m)) n = Copy n
+outright_op (Some (Or l m)) n = Copy n
 
 abbrev pub told : ℕ → List Gate → NetId → Option WireId → List Gate
 told first gates n None = gates
@@ -94,6 +103,7 @@ pub record Finds (first : ℕ) (gates : List Gate) (q : Form) (n : ℕ) : Type 0
 -- the new gates, of which no rule makes less, and those that carry no wire are no copies
 pub record Settles (first : ℕ) (new : List Gate) : Type 0 where
   pub settled : All (λ g. Settled first new g.op) new
+  pub reduced : All (λ g. reduced_op first new g.op ≡ g.op) new
   pub no_copies : All (λ g. g.wire ≡ None → IsNoCopy g.op) new
 
 -- the new gates for these old ones, with what stands for each old net and what is known of forms
@@ -112,15 +122,15 @@ pub record InRange (first : ℕ) (gates : List Gate) (names : List NetId) (known
   pub reads_lower : ReadsLower first gates
   pub known_low : (q : Form) (n : NetId) → known q ≡ Some n → n.0 < first + length gates
 
--- no two gates that carry no wire have the same operator
-abbrev pub OpsOnce : List Gate → Type 0
-OpsOnce gates = (j k : ℕ) (d : Gate) → j < length gates → k < length gates
+-- no two gates that carry no wire have operators of one form
+abbrev pub FormsOnce : List Gate → Type 0
+FormsOnce gates = (j k : ℕ) (d : Gate) → j < length gates → k < length gates
     → (slice_index_or gates j d).wire ≡ None → (slice_index_or gates k d).wire ≡ None
-    → (slice_index_or gates j d).op ≡ (slice_index_or gates k d).op → j ≡ k
+    → form_of (slice_index_or gates j d).op ≡ form_of (slice_index_or gates k d).op → j ≡ k
 
 -- what the first pass makes
 pub record Folded (first : ℕ) (old new : List Gate) (names : List NetId) : Type 0 where
   pub count : length names ≡ first + length old
   pub keeps : Keeps first old new (stand_in names) Any
   pub settles : Settles first new
-  pub once : OpsOnce new
+  pub once : FormsOnce new

@@ -1,4 +1,6 @@
--- Inner: the rules by which an operator says less, from one look at the gates of its operands.
+-- To believe: the rules by which an operator says less, from one look at the gates of its operands. A double negation
+-- is its net, what one net says of another is said by one of them alone, and of two opposite nets an and is false and
+-- an or is true. The constant false implies each net, and each net implies the constant true.
 use Rattle.std.specs.Prelude.{⊤, ◌≡◌, ℕ, ◌-◌, Bool, true, false, not, ◌||◌, ◌==◌, Option, None, Some, List}
 use Rattle.std.specs.Prelude.{slice_index_or, if◌then◌else◌, nat_lt, IsTrue}
 use Rattle.est_base.specs.declared.indices.NetId.{NetId}
@@ -70,12 +72,3 @@ reduced_op first gates (And m n) = and_by (are_opposite first gates m.0 n.0)
     (implies first gates m.0 n.0) (implies first gates n.0 m.0) m n
 reduced_op first gates (Or m n) = or_by (are_opposite first gates m.0 n.0)
     (implies first gates m.0 n.0) (implies first gates n.0 m.0) m n
-
--- a copy of a net whose gate has this operator: of a constant it is that constant
-abbrev pub outright_op : Option Op → NetId → Op
-outright_op None n = Copy n
-outright_op (Some (Const b)) n = Const b
-outright_op (Some (Copy m)) n = Copy n
-outright_op (Some (Not m)) n = Copy n
-outright_op (Some (And l m)) n = Copy n
-outright_op (Some (Or l m)) n = Copy n

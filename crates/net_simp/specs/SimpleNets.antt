@@ -1,17 +1,31 @@
 -- To believe: the netlists in which nothing is left to simplify. Each point is on the gates that carry no wire.
 use Rattle.std.specs.Prelude.{⊤, ◌≡◌, ℕ, ◌+◌, ◌<◌, Bool, true, false, ◌||◌, ◌==◌, None, List, length, slice_index_or}
-use Rattle.std.specs.Prelude.{IsTrue, All}
+use Rattle.std.specs.Prelude.{IsTrue, All, ◌⊎◌}
 use Rattle.std.specs.List.{list_any}
 use Rattle.net_ir.specs.declared.netlist.Op.{Op}
 use Rattle.net_ir.specs.declared.netlist.Op.TheVariants.{Const, Copy, Not, And, Or}
 use Rattle.net_ir.specs.declared.netlist.Gate.{Gate}
 use Rattle.net_ir.specs.Netlists.{Netlist, first_gate}
+use Rattle.net_simp.specs.Rules.{reduced_op}
 
--- no two have the same operator
-abbrev pub EachOpOnce : Netlist → Type 0
-EachOpOnce net = (j k : ℕ) (d : Gate) → j < length net.gates → k < length net.gates
+-- the operator with its operands in the other order
+abbrev pub turned : Op → Op
+turned (Const b) = Const b
+turned (Copy n) = Copy n
+turned (Not n) = Not n
+turned (And m n) = And n m
+turned (Or m n) = Or n m
+
+-- no two have the same operator, in whichever order its operands stand
+abbrev pub EachFormOnce : Netlist → Type 0
+EachFormOnce net = (j k : ℕ) (d : Gate) → j < length net.gates → k < length net.gates
     → (slice_index_or net.gates j d).wire ≡ None → (slice_index_or net.gates k d).wire ≡ None
-    → (slice_index_or net.gates j d).op ≡ (slice_index_or net.gates k d).op → j ≡ k
+    → ((slice_index_or net.gates j d).op ≡ (slice_index_or net.gates k d).op)
+    ⊎ ((slice_index_or net.gates j d).op ≡ turned (slice_index_or net.gates k d).op) → j ≡ k
+
+-- no rule makes less of one: no double negation, no absorbed operand, no constant that is not said to be one
+abbrev pub EachIsReduced : Netlist → Type 0
+EachIsReduced net = All (λ g. g.wire ≡ None → reduced_op (first_gate net) net.gates g.op ≡ g.op) net.gates
 
 abbrev pub IsNoCopy : Op → Type 0
 IsNoCopy (Const b) = ⊤
@@ -68,7 +82,8 @@ EachIsUsed net = (k : ℕ) (d : Gate) → k < length net.gates → (slice_index_
 
 -- nothing is left to simplify
 pub record IsSimple (net : Netlist) : Type 0 where
-  pub once : EachOpOnce net
+  pub once : EachFormOnce net
+  pub reduced : EachIsReduced net
   pub no_copies : NoCopies net
   pub reads_computed : ReadsComputed net
   pub reads_none_twice : ReadsNoneTwice net

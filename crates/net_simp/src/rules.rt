@@ -3,7 +3,7 @@
 ghost use Rattle.std.specs.Prelude.{◌≡◌, ◌+◌, ◌<◌, ◌≤◌, length};
 ghost use Rattle.net_ir.specs.Gates.{operand_end};
 ghost use Rattle.net_simp.specs.Rules.{is_low, is_high, negates, implies, are_opposite, negation, reduced_op};
-ghost use Rattle.net_simp.specs.Rules.{outright_op};
+ghost use Rattle.net_simp.specs.Drafts.{outright_op};
 
 use crate::gates::op_at;
 use est_base::NetId;

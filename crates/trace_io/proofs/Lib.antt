@@ -5,3 +5,4 @@ mod Positions
 mod Refusing
 mod WorkedLines
 mod WorkedTraces
+mod WorkedItems

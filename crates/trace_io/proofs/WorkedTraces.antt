@@ -95,3 +95,40 @@ group_29 = refl
 
 group_30 : group_from ([]) 3 ((59 ∷ 37 ∷ 10 ∷ 59 ∷ [])) 4 ≡ End
 group_30 = refl
+
+-- ---- tokens: what a name may have in it, and what stands between names
+
+-- the least and the greatest byte of a name
+group_31 : group_from (codes "!" ∷ codes "~" ∷ []) 1 (codes "~ ! ;") 0 ≡ Instant (true ∷ true ∷ []) 5
+group_31 = refl
+
+-- a form feed, and a carriage return, between names
+group_32 : group_from (codes "A" ∷ codes "B" ∷ []) 1 (66 ∷ 12 ∷ 65 ∷ 13 ∷ 59 ∷ []) 0 ≡ Instant (true ∷ true ∷ []) 5
+group_32 = refl
+
+-- no vertical tab
+group_33 : group_from (codes "A" ∷ []) 1 (65 ∷ 11 ∷ 59 ∷ []) 0 ≡ Refused (faults.BadByte 1)
+group_33 = refl
+
+-- a carriage return ends no comment
+group_34 : group_from (codes "A" ∷ []) 1 (37 ∷ 120 ∷ 13 ∷ 59 ∷ 10 ∷ 65 ∷ 59 ∷ []) 0 ≡ Instant (true ∷ []) 7
+group_34 = refl
+
+-- a comment ends a name, and has any byte in it
+group_35 : group_from (codes "A" ∷ codes "B" ∷ []) 1 (65 ∷ 37 ∷ 1 ∷ 255 ∷ 37 ∷ 10 ∷ 66 ∷ 59 ∷ []) 0 ≡ Instant (true ∷ true ∷ []) 8
+group_35 = refl
+
+-- a name is as long as it can be
+group_36 : group_from (codes "A" ∷ codes "B" ∷ []) 1 (codes "AB;") 0 ≡ Refused (faults.UnknownInput 1 (codes "AB"))
+group_36 = refl
+
+-- the first fault in the order of the text: a name a second time, before a byte that has no place
+group_37 : group_from (codes "A" ∷ []) 4 (65 ∷ 32 ∷ 65 ∷ 32 ∷ 1 ∷ []) 0 ≡ Refused (faults.Repeated 4 (codes "A"))
+group_37 = refl
+
+-- a reset among names that no input has
+group_38 : group_from (codes "A" ∷ []) 3 (codes "!reset X;") 0 ≡ Refused (faults.BadReset 3)
+group_38 = refl
+
+group_39 : group_from (codes "A" ∷ []) 3 (codes "X !reset;") 0 ≡ Refused (faults.UnknownInput 3 (codes "X"))
+group_39 = refl

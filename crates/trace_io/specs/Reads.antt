@@ -4,10 +4,17 @@ use Rattle.trace_io.specs.declared.faults.TraceFault.{TraceFault}
 use Rattle.trace_io.specs.declared.faults.TraceFault.TheVariants as faults
 use Rattle.trace_io.specs.declared.faults.TraceError.{TraceError}
 use Rattle.trace_io.specs.declared.faults.TraceError.TheVariants.{Fault, NoMemory}
-use Rattle.trace_io.specs.declared.groups.Stage.{Stage}
+use Rattle.trace_io.specs.declared.groups.Stage.TheVariants as stages
+use Rattle.trace_io.specs.declared.groups.Stage.{Stage as Standing}
 use Rattle.trace_io.specs.declared.groups.Read.{Read}
 use Rattle.trace_io.specs.declared.groups.Read.TheVariants as reads
-use Rattle.trace_io.specs.Traces.{Group, End, Reset, Instant, Refused, Met, Goes, Faulty}
+use Rattle.trace_io.specs.Traces.{Stage, Fresh, Named, Resetting, Group, End, Reset, Instant, Refused, Met}
+use Rattle.trace_io.specs.Traces.{Goes, Faulty}
+
+abbrev pub stage_of : Standing → Stage
+stage_of stages.Fresh = Fresh
+stage_of stages.Named = Named
+stage_of stages.Resetting = Resetting
 
 abbrev pub group_of : Read → Group
 group_of reads.End = End
@@ -20,8 +27,8 @@ IsOfGroup (faults.Breaks instant relation) = ⊥
 IsOfGroup fault = ⊤
 
 -- a name is met: the group goes on with this event, or the fault is this
-abbrev pub IsMet : List Bool → Met → Result Stage TraceError → Type 0
-IsMet event met (Ok stage) = met ≡ Goes stage event
+abbrev pub IsMet : List Bool → Met → Result Standing TraceError → Type 0
+IsMet event met (Ok stage) = met ≡ Goes (stage_of stage) event
 IsMet event met (Err (Fault fault)) = (met ≡ Faulty fault) × IsOfGroup fault
 IsMet event met (Err NoMemory) = ⊤
 

@@ -8,8 +8,6 @@ use Rattle.est_base.specs.Names.{is_same_name}
 use Rattle.est_base.specs.Relations.{Relation}
 use Rattle.trace_io.specs.declared.faults.TraceFault.{TraceFault}
 use Rattle.trace_io.specs.declared.faults.TraceFault.TheVariants as faults
-use Rattle.trace_io.specs.declared.groups.Stage.{Stage}
-use Rattle.trace_io.specs.declared.groups.Stage.TheVariants.{Fresh, Named, Resetting}
 use Rattle.trace_io.specs.Tokens.{Token, Semicolon, BadByte, Name, tokens}
 
 -- the name of a reset
@@ -18,6 +16,12 @@ reset_name = codes "!reset"
 
 abbrev pub has_resets : List (List ℕ) → Bool
 has_resets inputs = not (list_any (is_same_name reset_name) inputs)
+
+-- what stood in a group so far: nothing, names of inputs, or the name of a reset
+pub data Stage : Type 0 where
+  Fresh : Stage
+  Named : Stage
+  Resetting : Stage
 
 -- what a name does: it is a fault, or the group goes on at this stage with these inputs present
 pub data Met : Type 0 where

@@ -3,7 +3,7 @@
 ghost use Rattle.std.specs.Prelude.{◌≡◌, ◌≤◌, ◌^◌, length, IsTrue, MatchResult};
 ghost use Rattle.est_base.specs.Names.{is_same_name};
 ghost use Rattle.est_base.specs.Distinct.{all_differ};
-ghost use Rattle.trace_io.specs.Reads.{IsMet, IsEnd, IsRead, group_of};
+ghost use Rattle.trace_io.specs.Reads.{stage_of, IsMet, IsEnd, IsRead, group_of};
 ghost use Rattle.trace_io.specs.Traces.{is_misplaced, has_resets, met_name, closed_group, ended, group_from};
 
 use crate::faults::{TraceError, TraceFault};
@@ -86,7 +86,7 @@ pub fn read_group(
 
 // What the end of the text is, by what stood in the group.
 fn end_of(stage: Stage, instant: u32) -> Result<Read, TraceError>
-    ensures { IsEnd (ended instant stage) result }
+    ensures { IsEnd (ended instant (stage_of stage)) result }
 {
     match stage {
         Stage::Fresh => Ok(Read::End),
@@ -96,7 +96,7 @@ fn end_of(stage: Stage, instant: u32) -> Result<Read, TraceError>
 
 // The group that a `;` closes.
 fn closed_group(stage: Stage, event: Vec<bool>, behind: usize) -> Read
-    ensures { group_of result ≡ closed_group stage event.items behind }
+    ensures { group_of result ≡ closed_group (stage_of stage) event.items behind }
 {
     match stage {
         Stage::Fresh | Stage::Named => Read::Instant(event, behind),
@@ -115,7 +115,8 @@ fn stage_after(
     requires each_input { length event.old ≡ length names.inputs.now }
     requires differ { IsTrue (all_differ is_same_name names.inputs.now) }
     requires resets { names.resets ≡ has_resets names.inputs.now }
-    ensures { IsMet event.new (met_name names.entry.inputs.now names.entry.instant stage event.old name.now) result }
+    ensures { IsMet event.new
+        (met_name names.entry.inputs.now names.entry.instant (stage_of stage) event.old name.now) result }
 {
     if names.resets && is_misplaced(stage, name) {
         return Err(TraceError::Fault(TraceFault::BadReset(names.instant)));
@@ -147,7 +148,7 @@ fn copied_name(alloc: Global, name: &[u8]) -> Result<Text, TraceError>
 
 // Whether a name stands behind a reset, or a reset behind a name.
 fn is_misplaced(stage: Stage, name: &[u8]) -> bool
-    ensures { result ≡ is_misplaced stage name.now }
+    ensures { result ≡ is_misplaced (stage_of stage) name.now }
 {
     match stage {
         Stage::Fresh => false,

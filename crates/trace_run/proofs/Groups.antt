@@ -4,10 +4,8 @@ use Rattle.std.proofs.Common.{◌∙◌, arith, Option, Some, None, length-drop}
 use Rattle.std.specs.Prelude.{slice_index_or, position}
 use Rattle.std.proofs.lemmas.List.{length-replicate, length-set}
 use Rattle.est_base.specs.Names.{is_same_name}
-use Rattle.trace_io.specs.declared.groups.Stage.{Stage}
-use Rattle.trace_io.specs.declared.groups.Stage.TheVariants.{Fresh, Named, Resetting}
 use Rattle.trace_io.specs.Tokens.{Token, Semicolon, BadByte, Name, is_blank, is_trace_byte, begins_name, with_byte, tokens}
-use Rattle.trace_io.specs.Traces.{Met, Faulty, Goes, is_misplaced, reset_name, has_resets, met_input, met_name}
+use Rattle.trace_io.specs.Traces.{Stage, Fresh, Named, Resetting, Met, Faulty, Goes, is_misplaced, reset_name, has_resets, met_input, met_name}
 use Rattle.trace_io.specs.Traces.{Group, End, Reset, Instant, Refused, behind_name, group, Reading, next_group}
 
 -- each `;` stands between these places

@@ -15,9 +15,9 @@ returns-in-Some c =
     let m = c.index-source-module.result in
     let name = c.args.name.now in
     let at = ap (place_of name.text) (sym source.named) ∙ ap (λ n. place_of n source.table.now.names) (sym c.bytes.ensures) ∙ sym c.in-Some.ensures in
-    let found = module-Some (program_in source) name.text c.in-Some.module.0 (module_of m) at in
-    let low : c.in-Some.module.0 < length modules = omega (arith, found.0, length-map modules module_of) in
-    ap (found_or (UnknownModule name.span)) (found.1 ∙ ap Some (get_or-map module_of modules c.in-Some.module.0 m (module_of m) low))
+    let found = module-Some (program_in source) name.text c.in-Some.place (module_of m) at in
+    let low : c.in-Some.place < length modules = omega (arith, found.0, length-map modules module_of) in
+    ap (found_or (UnknownModule name.span)) (found.1 ∙ ap Some (get_or-map module_of modules c.in-Some.place m (module_of m) low))
 
 pub returns-in-None : goal.returns-in-None
 returns-in-None c = λ fault is.

@@ -1,6 +1,7 @@
 use Rattle.std.proofs.Common.{◌≡◌, ◌-◌, ◌≤◌, false, drop, length}
 use Rattle.trace_io.specs.Tokens.{tokens}
 use Rattle.trace_io.specs.Traces.{group, group_from}
+use Rattle.trace_io.specs.Reads.{stage_of}
 use Rattle.trace_io.proofs.groups.read_group.Given as goal
 
 -- what is left of the text
@@ -14,5 +15,5 @@ invariant-loop-event l = record {
   within : l.from ≤ length l.text;
   each_input : length l.event.items ≡ length l.names.inputs.now;
   same : group_from l.names.inputs.now l.names.instant l.text l.at ≡
-      group l.names.inputs.now l.names.instant l.stage l.event.items (tokens false l.from (drop l.from l.text));
+      group l.names.inputs.now l.names.instant (stage_of l.stage) l.event.items (tokens false l.from (drop l.from l.text));
 }
