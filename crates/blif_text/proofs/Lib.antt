@@ -1,6 +1,7 @@
 -- what callers cite of names among others
 pub use Rattle.net_ir.proofs.NameLists
 mod WorkedTexts
+mod WorkedFaults
 mod PlainWords
 pub mod FirstLines
 pub mod FirstWords

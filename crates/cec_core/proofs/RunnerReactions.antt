@@ -212,7 +212,8 @@ item_event names r later old new s event behind paused within is meets same re c
     }
 
 -- an event behind which nothing more is run: its line did not come, or it has no reaction
-pub item_stops : (names : List (List ℕ)) (r later : Reading) (old new : Runner) (s : SinkChange) (event : List Bool) (behind instant : ℕ) (fault : ReactionFault)
+pub item_stops : (names : List (List ℕ)) (r later : Reading) (old new : Runner) (s : SinkChange) (event : List Bool) (behind instant : ℕ)
+    (fault : ReactionFault)
     → r.at ≤ length r.text
     → next_group r ≡ groups.Instant event behind → MeetsAll r.relations event → later ≡ record r { at = behind; instant = r.instant + 1 }
     → instant ≡ r.instant → IsReaction names event instant old new s (Err fault) → IsReactionStep names r later old new s (Err fault)

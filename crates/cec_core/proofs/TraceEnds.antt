@@ -129,7 +129,8 @@ pub reactions_left : (g : Graph) (old new : Runner) (i : Interface) (trace : Lis
 reactions_left g old new i trace s unknown ended outcome is same first interface runs told is_outcome =
     let p = program_of g.program in
     let by_name = subst (λ n. RunsReactions n (beginning trace i.given.items (map relation_of i.relations.items)) old new s ended) interface.outgoing runs in
-    let by_input = subst (λ n. RunsReactions (outgoing_names p) (beginning trace n (map relation_of i.relations.items)) old new s ended) interface.given by_name in
+    let by_input = subst (λ n. RunsReactions (outgoing_names p) (beginning trace n (map relation_of i.relations.items)) old new s ended)
+    interface.given by_name in
     let by_relation = subst (λ n. RunsReactions (outgoing_names p) (beginning trace (given_names p) n) old new s ended) interface.relations by_input in
     left_by g old is same first (beginning trace (given_names p) p.relations) s new ended outcome by_relation
     (subst (λ u. IsReactionsOutcome g u ended outcome) told is_outcome)

@@ -147,7 +147,10 @@ impl Given {
         match way {
             Way::Text(Via::C) if self.encode => None,
             Way::Text(via) => Some(Asked::Run(via, self.source(file), trace)),
-            Way::Tri if self.pick.is_none() && !self.encode => Some(Asked::RunTri(self.source(file), trace)),
+            Way::Tri if self.pick.is_none() && !self.encode => Some(Asked::RunTri(
+                self.source(file),
+                trace,
+            )),
             Way::Tri => None,
         }
     }

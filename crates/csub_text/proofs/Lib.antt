@@ -2,6 +2,7 @@
 pub use Rattle.net_ir.proofs.NameLists
 pub mod Moves
 mod TextEquations
+mod WorkedNames
 pub mod Lexing
 pub mod Spelling
 pub mod NetNames

@@ -87,8 +87,11 @@ row_14 : SpellsItem (Trap (n (codes "T") 5 6) (At (at 10 16) (Exit (n (codes "T"
     10 14 ∷ t (i (codes "T")) 15 16 ∷ t (w words.Handle) 17 23 ∷ t (i (codes "T")) 24 25 ∷ t (w words.Do) 26 28 ∷ t (w
     words.Pause) 29 34 ∷ t (w words.End) 35 38 ∷ t (w words.Trap) 39 43 ∷ [])
 row_14 = led refl (cut (t (i (codes "T")) 5 6 ∷ []) _ (one refl) (led refl (cut (t (w words.Exit) 10 14 ∷ t (i (codes
-    "T")) 15 16 ∷ []) _ (inl (inl (cut (t (w words.Exit) 10 14 ∷ t (i (codes "T")) 15 16 ∷ []) _ (refl, (led refl (one
-    refl))) (inl refl)))) (cut (t (w words.Handle) 17 23 ∷ t (i (codes "T")) 24 25 ∷ t (w words.Do) 26 28 ∷ t (w
+    "T")) 15 16 ∷ []) _ (inl (inl (cut (t (w words.Exit) 10 14 ∷ t (i (codes "T")) 15 16 ∷ []) _ (
+      refl,
+      (led refl (one
+          refl)),
+    ) (inl refl)))) (cut (t (w words.Handle) 17 23 ∷ t (i (codes "T")) 24 25 ∷ t (w words.Do) 26 28 ∷ t (w
     words.Pause) 29 34 ∷ []) _ (led refl (cut (t (i (codes "T")) 24 25 ∷ []) _ (one refl) (led refl (inl (inl (cut (t
     (w words.Pause) 29 34 ∷ []) _ (refl, (one refl)) (inl refl))))))) (led refl (inr (one refl)))))))
 
@@ -102,8 +105,11 @@ row_15 = cut ([]) _ (inl refl) (led refl (cut (t (kinds.Number 2) 7 8 ∷ []) _ 
 -- loop pause end loop
 row_16 : SpellsItem (Loop (At (at 5 10) Pause)) (t (w words.Loop) 0 4 ∷ t (w words.Pause) 5 10 ∷ t (w words.End) 11 14
     ∷ t (w words.Loop) 15 19 ∷ [])
-row_16 = led refl (cut (t (w words.Pause) 5 10 ∷ []) _ (inl (inl (cut (t (w words.Pause) 5 10 ∷ []) _ (refl, (one
-    refl)) (inl refl)))) (led refl (inr (one refl))))
+row_16 = led refl (cut (t (w words.Pause) 5 10 ∷ []) _ (inl (inl (cut (t (w words.Pause) 5 10 ∷ []) _ (
+  refl,
+  (one
+      refl),
+) (inl refl)))) (led refl (inr (one refl))))
 
 -- run N [ signal A / B , C / D ]
 row_17 : SpellsItem (Run (n (codes "N") 4 5) (as_ (n (codes "A") 15 16) (n (codes "B") 19 20) ∷ as_ (n (codes "C") 23
@@ -122,10 +128,12 @@ row_17 = led refl (cut (t (i (codes "N")) 4 5 ∷ []) _ (one refl) (led refl (le
 row_18 : SpellsItem (Group (At (at 2 16) (Par (MoreStmts (At (at 2 7) Pause) (MoreStmts (At (at 11 16) Pause)
     NoStmts))))) (t (m marks.LeftBracket) 0 1 ∷ t (w words.Pause) 2 7 ∷ t (m marks.DoubleBar) 8 10 ∷ t (w words.Pause)
     11 16 ∷ t (m marks.RightBracket) 17 18 ∷ [])
-row_18 = led refl (cut (t (w words.Pause) 2 7 ∷ t (m marks.DoubleBar) 8 10 ∷ t (w words.Pause) 11 16 ∷ []) _ (inr
-    (refl, (cut (t (w words.Pause) 2 7 ∷ []) _ (inl (cut (t (w words.Pause) 2 7 ∷ []) _ (refl, (one refl)) (inl
-    refl))) (cut (t (m marks.DoubleBar) 8 10 ∷ t (w words.Pause) 11 16 ∷ []) _ (led refl (inl (cut (t (w words.Pause)
-    11 16 ∷ []) _ (refl, (one refl)) (inl refl)))) refl)))) (one refl))
+row_18 = led refl (cut (t (w words.Pause) 2 7 ∷ t (m marks.DoubleBar) 8 10 ∷ t (w words.Pause) 11 16 ∷ []) _ (inr (
+  refl,
+  (cut (t (w words.Pause) 2 7 ∷ []) _ (inl (cut (t (w words.Pause) 2 7 ∷ []) _ (refl, (one refl)) (inl
+      refl))) (cut (t (m marks.DoubleBar) 8 10 ∷ t (w words.Pause) 11 16 ∷ []) _ (led refl (inl (cut (t (w words.Pause)
+      11 16 ∷ []) _ (refl, (one refl)) (inl refl)))) refl)),
+)) (one refl))
 
 -- await case A end await
 row_19 : SpellsItem (AwaitCase (MoreCases (Sig (n (codes "A") 11 12)) Missing NoCases)) (t (w words.Await) 0 5 ∷ t (w
@@ -156,8 +164,11 @@ row_21 = led refl (cut (t (i (codes "S")) 7 8 ∷ t (m marks.Comma) 9 10 ∷ t (
 -- loop pause each A
 row_22 : SpellsItem (LoopEach (At (at 5 10) Pause) (Plain (Sig (n (codes "A") 16 17)))) (t (w words.Loop) 0 4 ∷ t (w
     words.Pause) 5 10 ∷ t (w words.Each) 11 15 ∷ t (i (codes "A")) 16 17 ∷ [])
-row_22 = led refl (cut (t (w words.Pause) 5 10 ∷ []) _ (inl (inl (cut (t (w words.Pause) 5 10 ∷ []) _ (refl, (one
-    refl)) (inl refl)))) (led refl (one refl)))
+row_22 = led refl (cut (t (w words.Pause) 5 10 ∷ []) _ (inl (inl (cut (t (w words.Pause) 5 10 ∷ []) _ (
+  refl,
+  (one
+      refl),
+) (inl refl)))) (led refl (one refl)))
 
 -- present case A case not B else halt end
 row_23 : SpellsItem (PresentCase (MoreCases (Sig (n (codes "A") 13 14)) Missing (MoreCases (Not (Sig (n (codes "B") 24
@@ -175,15 +186,20 @@ row_23 = led refl (cut (t (w words.Case) 8 12 ∷ t (i (codes "A")) 13 14 ∷ t 
 row_24 : SpellsItem (WeakAbort (At (at 11 15) Halt) (Immediate (Tick (at 31 35)))) (t (w words.Weak) 0 4 ∷ t (w
     words.Abort) 5 10 ∷ t (w words.Halt) 11 15 ∷ t (w words.When) 16 20 ∷ t (w words.Immediate) 21 30 ∷ t (w
     words.Tick) 31 35 ∷ [])
-row_24 = led refl (led refl (cut (t (w words.Halt) 11 15 ∷ []) _ (inl (inl (cut (t (w words.Halt) 11 15 ∷ []) _ (refl,
-    (one refl)) (inl refl)))) (led refl (led refl (one refl)))))
+row_24 = led refl (led refl (cut (t (w words.Halt) 11 15 ∷ []) _ (inl (inl (cut (t (w words.Halt) 11 15 ∷ []) _ (
+  refl,
+  (one refl),
+) (inl refl)))) (led refl (led refl (one refl)))))
 
 -- positive repeat 2 times pause end
 row_25 : SpellsItem (Repeat 2 (at 16 17) (At (at 24 29) Pause)) (t (w words.Positive) 0 8 ∷ t (w words.Repeat) 9 15 ∷
     t (kinds.Number 2) 16 17 ∷ t (w words.Times) 18 23 ∷ t (w words.Pause) 24 29 ∷ t (w words.End) 30 33 ∷ [])
 row_25 = cut (t (w words.Positive) 0 8 ∷ []) _ (inr (one refl)) (led refl (cut (t (kinds.Number 2) 16 17 ∷ []) _ (one
-    refl) (led refl (cut (t (w words.Pause) 24 29 ∷ []) _ (inl (inl (cut (t (w words.Pause) 24 29 ∷ []) _ (refl, (one
-    refl)) (inl refl)))) (led refl (inl refl))))))
+    refl) (led refl (cut (t (w words.Pause) 24 29 ∷ []) _ (inl (inl (cut (t (w words.Pause) 24 29 ∷ []) _ (
+      refl,
+      (one
+          refl),
+    ) (inl refl)))) (led refl (inl refl))))))
 
 -- await A do pause end
 row_26 : SpellsItem (Await (Plain (Sig (n (codes "A") 6 7))) (Written (At (at 11 16) Pause))) (t (w words.Await) 0 5 ∷

@@ -31,8 +31,10 @@ row_2 : SpellsItem (Present (Sig (n (codes "A") 8 9)) (Written (At (at 15 20) Pa
     words.Else) 21 25 ∷ t (w words.Halt) 26 30 ∷ t (w words.End) 31 34 ∷ [])
 row_2 = led refl (cut (t (i (codes "A")) 8 9 ∷ []) _ (one refl) (cut (t (w words.Then) 10 14 ∷ t (w words.Pause) 15 20
     ∷ []) _ (led refl (inl (inl (cut (t (w words.Pause) 15 20 ∷ []) _ (refl, (one refl)) (inl refl))))) (cut (t (w
-    words.Else) 21 25 ∷ t (w words.Halt) 26 30 ∷ []) _ (led refl (inl (inl (cut (t (w words.Halt) 26 30 ∷ []) _ (refl,
-    (one refl)) (inl refl))))) (led refl (inl refl)))))
+    words.Else) 21 25 ∷ t (w words.Halt) 26 30 ∷ []) _ (led refl (inl (inl (cut (t (w words.Halt) 26 30 ∷ []) _ (
+      refl,
+      (one refl),
+    ) (inl refl))))) (led refl (inl refl)))))
 
 -- present case A end
 row_3 : SpellsItem (PresentCase (MoreCases (Sig (n (codes "A") 13 14)) Missing NoCases) Missing) (t (w words.Present)
@@ -59,8 +61,10 @@ row_5 : SpellsItem (PresentCase (MoreCases (Sig (n (codes "A") 13 14)) Missing N
     words.Halt) 20 24 ∷ t (w words.End) 25 28 ∷ [])
 row_5 = led refl (cut (t (w words.Case) 8 12 ∷ t (i (codes "A")) 13 14 ∷ []) _ (cut (t (w words.Case) 8 12 ∷ t (i
     (codes "A")) 13 14 ∷ []) _ (led refl (cut (t (i (codes "A")) 13 14 ∷ []) _ (one refl) refl)) refl) (cut (t (w
-    words.Else) 15 19 ∷ t (w words.Halt) 20 24 ∷ []) _ (led refl (inl (inl (cut (t (w words.Halt) 20 24 ∷ []) _ (refl,
-    (one refl)) (inl refl))))) (led refl (inl refl))))
+    words.Else) 15 19 ∷ t (w words.Halt) 20 24 ∷ []) _ (led refl (inl (inl (cut (t (w words.Halt) 20 24 ∷ []) _ (
+      refl,
+      (one refl),
+    ) (inl refl))))) (led refl (inl refl))))
 
 -- present case A do pause else halt end present
 row_6 : SpellsItem (PresentCase (MoreCases (Sig (n (codes "A") 13 14)) (Written (At (at 18 23) Pause)) NoCases)
@@ -106,8 +110,11 @@ row_7 = led refl (cut (t (w words.Not) 8 11 ∷ t (w words.Not) 12 15 ∷ t (i (
 -- loop pause end
 row_8 : SpellsItem (Loop (At (at 5 10) Pause)) (t (w words.Loop) 0 4 ∷ t (w words.Pause) 5 10 ∷ t (w words.End) 11 14
     ∷ [])
-row_8 = led refl (cut (t (w words.Pause) 5 10 ∷ []) _ (inl (inl (cut (t (w words.Pause) 5 10 ∷ []) _ (refl, (one
-    refl)) (inl refl)))) (led refl (inl refl)))
+row_8 = led refl (cut (t (w words.Pause) 5 10 ∷ []) _ (inl (inl (cut (t (w words.Pause) 5 10 ∷ []) _ (
+  refl,
+  (one
+      refl),
+) (inl refl)))) (led refl (inl refl)))
 
 -- loop pause ; end
 row_9 : SpellsItem (Loop (At (at 5 10) Pause)) (t (w words.Loop) 0 4 ∷ t (w words.Pause) 5 10 ∷ t (m marks.Semicolon)
@@ -118,16 +125,22 @@ row_9 = led refl (cut (t (w words.Pause) 5 10 ∷ t (m marks.Semicolon) 11 12 �
 -- loop pause each tick
 row_10 : SpellsItem (LoopEach (At (at 5 10) Pause) (Plain (Tick (at 16 20)))) (t (w words.Loop) 0 4 ∷ t (w
     words.Pause) 5 10 ∷ t (w words.Each) 11 15 ∷ t (w words.Tick) 16 20 ∷ [])
-row_10 = led refl (cut (t (w words.Pause) 5 10 ∷ []) _ (inl (inl (cut (t (w words.Pause) 5 10 ∷ []) _ (refl, (one
-    refl)) (inl refl)))) (led refl (one refl)))
+row_10 = led refl (cut (t (w words.Pause) 5 10 ∷ []) _ (inl (inl (cut (t (w words.Pause) 5 10 ∷ []) _ (
+  refl,
+  (one
+      refl),
+) (inl refl)))) (led refl (one refl)))
 
 -- loop pause each [ A or B ]
 row_11 : SpellsItem (LoopEach (At (at 5 10) Pause) (Plain (Square (Or (MoreExprs (Sig (n (codes "A") 18 19))
     (MoreExprs (Sig (n (codes "B") 23 24)) NoExprs)))))) (t (w words.Loop) 0 4 ∷ t (w words.Pause) 5 10 ∷ t (w
     words.Each) 11 15 ∷ t (m marks.LeftBracket) 16 17 ∷ t (i (codes "A")) 18 19 ∷ t (w words.Or) 20 22 ∷ t (i (codes
     "B")) 23 24 ∷ t (m marks.RightBracket) 25 26 ∷ [])
-row_11 = led refl (cut (t (w words.Pause) 5 10 ∷ []) _ (inl (inl (cut (t (w words.Pause) 5 10 ∷ []) _ (refl, (one
-    refl)) (inl refl)))) (led refl (led refl (cut (t (i (codes "A")) 18 19 ∷ t (w words.Or) 20 22 ∷ t (i (codes "B"))
+row_11 = led refl (cut (t (w words.Pause) 5 10 ∷ []) _ (inl (inl (cut (t (w words.Pause) 5 10 ∷ []) _ (
+  refl,
+  (one
+      refl),
+) (inl refl)))) (led refl (led refl (cut (t (i (codes "A")) 18 19 ∷ t (w words.Or) 20 22 ∷ t (i (codes "B"))
     23 24 ∷ []) _ (cut (t (i (codes "A")) 18 19 ∷ []) _ (one refl) (cut (t (w words.Or) 20 22 ∷ t (i (codes "B")) 23
     24 ∷ []) _ (led refl (one refl)) refl)) (one refl)))))
 
@@ -135,8 +148,11 @@ row_11 = led refl (cut (t (w words.Pause) 5 10 ∷ []) _ (inl (inl (cut (t (w wo
 row_12 : SpellsItem (LoopEach (At (at 5 10) Pause) (Count 2 (at 16 17) (Square (Sig (n (codes "A") 20 21))))) (t (w
     words.Loop) 0 4 ∷ t (w words.Pause) 5 10 ∷ t (w words.Each) 11 15 ∷ t (kinds.Number 2) 16 17 ∷ t (m
     marks.LeftBracket) 18 19 ∷ t (i (codes "A")) 20 21 ∷ t (m marks.RightBracket) 22 23 ∷ [])
-row_12 = led refl (cut (t (w words.Pause) 5 10 ∷ []) _ (inl (inl (cut (t (w words.Pause) 5 10 ∷ []) _ (refl, (one
-    refl)) (inl refl)))) (led refl (cut (t (kinds.Number 2) 16 17 ∷ []) _ (one refl) (led refl (cut (t (i (codes "A"))
+row_12 = led refl (cut (t (w words.Pause) 5 10 ∷ []) _ (inl (inl (cut (t (w words.Pause) 5 10 ∷ []) _ (
+  refl,
+  (one
+      refl),
+) (inl refl)))) (led refl (cut (t (kinds.Number 2) 16 17 ∷ []) _ (one refl) (led refl (cut (t (i (codes "A"))
     20 21 ∷ []) _ (one refl) (one refl))))))
 
 -- every A do pause end
@@ -181,8 +197,11 @@ row_18 : SpellsItem (Repeat 2 (at 16 17) (At (at 24 29) Pause)) (t (w words.Posi
     t (kinds.Number 2) 16 17 ∷ t (w words.Times) 18 23 ∷ t (w words.Pause) 24 29 ∷ t (w words.End) 30 33 ∷ t (w
     words.Repeat) 34 40 ∷ [])
 row_18 = cut (t (w words.Positive) 0 8 ∷ []) _ (inr (one refl)) (led refl (cut (t (kinds.Number 2) 16 17 ∷ []) _ (one
-    refl) (led refl (cut (t (w words.Pause) 24 29 ∷ []) _ (inl (inl (cut (t (w words.Pause) 24 29 ∷ []) _ (refl, (one
-    refl)) (inl refl)))) (led refl (inr (one refl)))))))
+    refl) (led refl (cut (t (w words.Pause) 24 29 ∷ []) _ (inl (inl (cut (t (w words.Pause) 24 29 ∷ []) _ (
+      refl,
+      (one
+          refl),
+    ) (inl refl)))) (led refl (inr (one refl)))))))
 
 -- abort halt when A do pause end
 row_19 : SpellsItem (Abort (At (at 6 10) Halt) (Plain (Sig (n (codes "A") 16 17))) (Written (At (at 21 26) Pause))) (t
@@ -247,22 +266,28 @@ row_24 = led refl (cut (t (w words.Halt) 6 10 ∷ []) _ (inl (inl (cut (t (w wor
 -- weak abort halt when A
 row_25 : SpellsItem (WeakAbort (At (at 11 15) Halt) (Plain (Sig (n (codes "A") 21 22)))) (t (w words.Weak) 0 4 ∷ t (w
     words.Abort) 5 10 ∷ t (w words.Halt) 11 15 ∷ t (w words.When) 16 20 ∷ t (i (codes "A")) 21 22 ∷ [])
-row_25 = led refl (led refl (cut (t (w words.Halt) 11 15 ∷ []) _ (inl (inl (cut (t (w words.Halt) 11 15 ∷ []) _ (refl,
-    (one refl)) (inl refl)))) (led refl (one refl))))
+row_25 = led refl (led refl (cut (t (w words.Halt) 11 15 ∷ []) _ (inl (inl (cut (t (w words.Halt) 11 15 ∷ []) _ (
+  refl,
+  (one refl),
+) (inl refl)))) (led refl (one refl))))
 
 -- weak abort halt when 2 A
 row_26 : SpellsItem (WeakAbort (At (at 11 15) Halt) (Count 2 (at 21 22) (Sig (n (codes "A") 23 24)))) (t (w
     words.Weak) 0 4 ∷ t (w words.Abort) 5 10 ∷ t (w words.Halt) 11 15 ∷ t (w words.When) 16 20 ∷ t (kinds.Number 2) 21
     22 ∷ t (i (codes "A")) 23 24 ∷ [])
-row_26 = led refl (led refl (cut (t (w words.Halt) 11 15 ∷ []) _ (inl (inl (cut (t (w words.Halt) 11 15 ∷ []) _ (refl,
-    (one refl)) (inl refl)))) (led refl (cut (t (kinds.Number 2) 21 22 ∷ []) _ (one refl) (one refl)))))
+row_26 = led refl (led refl (cut (t (w words.Halt) 11 15 ∷ []) _ (inl (inl (cut (t (w words.Halt) 11 15 ∷ []) _ (
+  refl,
+  (one refl),
+) (inl refl)))) (led refl (cut (t (kinds.Number 2) 21 22 ∷ []) _ (one refl) (one refl)))))
 
 -- weak abort halt when [ A ]
 row_27 : SpellsItem (WeakAbort (At (at 11 15) Halt) (Plain (Square (Sig (n (codes "A") 23 24))))) (t (w words.Weak) 0
     4 ∷ t (w words.Abort) 5 10 ∷ t (w words.Halt) 11 15 ∷ t (w words.When) 16 20 ∷ t (m marks.LeftBracket) 21 22 ∷ t
     (i (codes "A")) 23 24 ∷ t (m marks.RightBracket) 25 26 ∷ [])
-row_27 = led refl (led refl (cut (t (w words.Halt) 11 15 ∷ []) _ (inl (inl (cut (t (w words.Halt) 11 15 ∷ []) _ (refl,
-    (one refl)) (inl refl)))) (led refl (led refl (cut (t (i (codes "A")) 23 24 ∷ []) _ (one refl) (one refl))))))
+row_27 = led refl (led refl (cut (t (w words.Halt) 11 15 ∷ []) _ (inl (inl (cut (t (w words.Halt) 11 15 ∷ []) _ (
+  refl,
+  (one refl),
+) (inl refl)))) (led refl (led refl (cut (t (i (codes "A")) 23 24 ∷ []) _ (one refl) (one refl))))))
 
 -- suspend halt when tick
 row_28 : SpellsItem (Suspend (At (at 8 12) Halt) (Plain (Tick (at 18 22)))) (t (w words.Suspend) 0 7 ∷ t (w

@@ -19,27 +19,36 @@ row_0 = inl (inl (cut (t (w words.Sustain) 0 7 ∷ t (i (codes "A")) 8 9 ∷ [])
 row_1 : Spells Whole (At (at 0 24) (Seq (MoreStmts (At (at 0 5) Pause) (MoreStmts (At (at 8 12) Halt) (MoreStmts (At
     (at 15 22) Nothing) NoStmts))))) (t (w words.Pause) 0 5 ∷ t (m marks.Semicolon) 6 7 ∷ t (w words.Halt) 8 12 ∷ t (m
     marks.Semicolon) 13 14 ∷ t (w words.Nothing) 15 22 ∷ t (m marks.Semicolon) 23 24 ∷ [])
-row_1 = inl (inr (refl, (cut (t (w words.Pause) 0 5 ∷ []) _ (refl, (one refl)) (cut (t (m marks.Semicolon) 6 7 ∷ t (w
-    words.Halt) 8 12 ∷ []) _ (led refl (refl, (one refl))) (cut (t (m marks.Semicolon) 13 14 ∷ t (w words.Nothing) 15
-    22 ∷ []) _ (led refl (refl, (one refl))) (inr (one refl)))))))
+row_1 = inl (inr (
+  refl,
+  (cut (t (w words.Pause) 0 5 ∷ []) _ (refl, (one refl)) (cut (t (m marks.Semicolon) 6 7 ∷ t (w
+      words.Halt) 8 12 ∷ []) _ (led refl (refl, (one refl))) (cut (t (m marks.Semicolon) 13 14 ∷ t (w words.Nothing) 15
+      22 ∷ []) _ (led refl (refl, (one refl))) (inr (one refl))))),
+))
 
 -- pause ; || halt ;
 row_2 : Spells Whole (At (at 0 17) (Par (MoreStmts (At (at 0 5) Pause) (MoreStmts (At (at 11 15) Halt) NoStmts)))) (t
     (w words.Pause) 0 5 ∷ t (m marks.Semicolon) 6 7 ∷ t (m marks.DoubleBar) 8 10 ∷ t (w words.Halt) 11 15 ∷ t (m
     marks.Semicolon) 16 17 ∷ [])
-row_2 = inr (refl, (cut (t (w words.Pause) 0 5 ∷ t (m marks.Semicolon) 6 7 ∷ []) _ (inl (cut (t (w words.Pause) 0 5 ∷
-    []) _ (refl, (one refl)) (inr (one refl)))) (cut (t (m marks.DoubleBar) 8 10 ∷ t (w words.Halt) 11 15 ∷ t (m
-    marks.Semicolon) 16 17 ∷ []) _ (led refl (inl (cut (t (w words.Halt) 11 15 ∷ []) _ (refl, (one refl)) (inr (one
-    refl))))) refl)))
+row_2 = inr (
+  refl,
+  (cut (t (w words.Pause) 0 5 ∷ t (m marks.Semicolon) 6 7 ∷ []) _ (inl (cut (t (w words.Pause) 0 5 ∷
+      []) _ (refl, (one refl)) (inr (one refl)))) (cut (t (m marks.DoubleBar) 8 10 ∷ t (w words.Halt) 11 15 ∷ t (m
+      marks.Semicolon) 16 17 ∷ []) _ (led refl (inl (cut (t (w words.Halt) 11 15 ∷ []) _ (refl, (one refl)) (inr (one
+      refl))))) refl)),
+)
 
 -- pause || halt || nothing
 row_3 : Spells Whole (At (at 0 24) (Par (MoreStmts (At (at 0 5) Pause) (MoreStmts (At (at 9 13) Halt) (MoreStmts (At
     (at 17 24) Nothing) NoStmts))))) (t (w words.Pause) 0 5 ∷ t (m marks.DoubleBar) 6 8 ∷ t (w words.Halt) 9 13 ∷ t (m
     marks.DoubleBar) 14 16 ∷ t (w words.Nothing) 17 24 ∷ [])
-row_3 = inr (refl, (cut (t (w words.Pause) 0 5 ∷ []) _ (inl (cut (t (w words.Pause) 0 5 ∷ []) _ (refl, (one refl))
-    (inl refl))) (cut (t (m marks.DoubleBar) 6 8 ∷ t (w words.Halt) 9 13 ∷ []) _ (led refl (inl (cut (t (w words.Halt)
-    9 13 ∷ []) _ (refl, (one refl)) (inl refl)))) (cut (t (m marks.DoubleBar) 14 16 ∷ t (w words.Nothing) 17 24 ∷ [])
-    _ (led refl (inl (cut (t (w words.Nothing) 17 24 ∷ []) _ (refl, (one refl)) (inl refl)))) refl))))
+row_3 = inr (
+  refl,
+  (cut (t (w words.Pause) 0 5 ∷ []) _ (inl (cut (t (w words.Pause) 0 5 ∷ []) _ (refl, (one refl))
+      (inl refl))) (cut (t (m marks.DoubleBar) 6 8 ∷ t (w words.Halt) 9 13 ∷ []) _ (led refl (inl (cut (t (w words.Halt)
+      9 13 ∷ []) _ (refl, (one refl)) (inl refl)))) (cut (t (m marks.DoubleBar) 14 16 ∷ t (w words.Nothing) 17 24 ∷ [])
+      _ (led refl (inl (cut (t (w words.Nothing) 17 24 ∷ []) _ (refl, (one refl)) (inl refl)))) refl))),
+)
 
 -- [ pause ] ; [ halt || nothing ; ] ;
 row_4 : Spells Whole (At (at 0 35) (Seq (MoreStmts (At (at 0 9) (Group (At (at 2 7) Pause))) (MoreStmts (At (at 12 33)
@@ -48,15 +57,30 @@ row_4 : Spells Whole (At (at 0 35) (Seq (MoreStmts (At (at 0 9) (Group (At (at 2
     marks.Semicolon) 10 11 ∷ t (m marks.LeftBracket) 12 13 ∷ t (w words.Halt) 14 18 ∷ t (m marks.DoubleBar) 19 21 ∷ t
     (w words.Nothing) 22 29 ∷ t (m marks.Semicolon) 30 31 ∷ t (m marks.RightBracket) 32 33 ∷ t (m marks.Semicolon) 34
     35 ∷ [])
-row_4 = inl (inr (refl, (cut (t (m marks.LeftBracket) 0 1 ∷ t (w words.Pause) 2 7 ∷ t (m marks.RightBracket) 8 9 ∷ [])
-    _ (refl, (led refl (cut (t (w words.Pause) 2 7 ∷ []) _ (inl (inl (cut (t (w words.Pause) 2 7 ∷ []) _ (refl, (one
-    refl)) (inl refl)))) (one refl)))) (cut (t (m marks.Semicolon) 10 11 ∷ t (m marks.LeftBracket) 12 13 ∷ t (w
-    words.Halt) 14 18 ∷ t (m marks.DoubleBar) 19 21 ∷ t (w words.Nothing) 22 29 ∷ t (m marks.Semicolon) 30 31 ∷ t (m
-    marks.RightBracket) 32 33 ∷ []) _ (led refl (refl, (led refl (cut (t (w words.Halt) 14 18 ∷ t (m marks.DoubleBar)
-    19 21 ∷ t (w words.Nothing) 22 29 ∷ t (m marks.Semicolon) 30 31 ∷ []) _ (inr (refl, (cut (t (w words.Halt) 14 18 ∷
-    []) _ (inl (cut (t (w words.Halt) 14 18 ∷ []) _ (refl, (one refl)) (inl refl))) (cut (t (m marks.DoubleBar) 19 21
-    ∷ t (w words.Nothing) 22 29 ∷ t (m marks.Semicolon) 30 31 ∷ []) _ (led refl (inl (cut (t (w words.Nothing) 22 29 ∷
-    []) _ (refl, (one refl)) (inr (one refl))))) refl)))) (one refl))))) (inr (one refl))))))
+row_4 = inl (inr (
+  refl,
+  (cut (t (m marks.LeftBracket) 0 1 ∷ t (w words.Pause) 2 7 ∷ t (m marks.RightBracket) 8 9 ∷ [])
+      _ (
+        refl,
+        (led refl (cut (t (w words.Pause) 2 7 ∷ []) _ (inl (inl (cut (t (w words.Pause) 2 7 ∷ []) _ (
+          refl,
+          (one
+              refl),
+        ) (inl refl)))) (one refl))),
+      ) (cut (t (m marks.Semicolon) 10 11 ∷ t (m marks.LeftBracket) 12 13 ∷ t (w
+      words.Halt) 14 18 ∷ t (m marks.DoubleBar) 19 21 ∷ t (w words.Nothing) 22 29 ∷ t (m marks.Semicolon) 30 31 ∷ t (m
+      marks.RightBracket) 32 33 ∷ []) _ (led refl (
+        refl,
+        (led refl (cut (t (w words.Halt) 14 18 ∷ t (m marks.DoubleBar)
+            19 21 ∷ t (w words.Nothing) 22 29 ∷ t (m marks.Semicolon) 30 31 ∷ []) _ (inr (
+              refl,
+              (cut (t (w words.Halt) 14 18 ∷
+                  []) _ (inl (cut (t (w words.Halt) 14 18 ∷ []) _ (refl, (one refl)) (inl refl))) (cut (t (m marks.DoubleBar) 19 21
+                  ∷ t (w words.Nothing) 22 29 ∷ t (m marks.Semicolon) 30 31 ∷ []) _ (led refl (inl (cut (t (w words.Nothing) 22 29 ∷
+                  []) _ (refl, (one refl)) (inr (one refl))))) refl)),
+            )) (one refl))),
+      )) (inr (one refl)))),
+))
 
 -- module M : input A , B ; inputoutput C ; output O ; relation A => B , A # B # C ; pause ; .
 row_5 : SpellsProgram (modul (n (codes "M") 7 8) (Input (n (codes "A") 17 18 ∷ n (codes "B") 21 22 ∷ []) ∷ InputOutput
@@ -110,8 +134,10 @@ row_6 : SpellsProgram (modul (n (codes "M") 7 8) ([]) (At (at 11 16) Pause) ∷ 
     21 27 ∷ [])
 row_6 = cut (t (w words.Module) 0 6 ∷ t (i (codes "M")) 7 8 ∷ t (m marks.Colon) 9 10 ∷ t (w words.Pause) 11 16 ∷ t (w
     words.End) 17 20 ∷ t (w words.Module) 21 27 ∷ []) _ (led refl (cut (t (i (codes "M")) 7 8 ∷ []) _ (one refl) (led
-    refl (cut ([]) _ refl (cut (t (w words.Pause) 11 16 ∷ []) _ (inl (inl (cut (t (w words.Pause) 11 16 ∷ []) _ (refl,
-    (one refl)) (inl refl)))) (inr (led refl (one refl)))))))) refl
+    refl (cut ([]) _ refl (cut (t (w words.Pause) 11 16 ∷ []) _ (inl (inl (cut (t (w words.Pause) 11 16 ∷ []) _ (
+      refl,
+      (one refl),
+    ) (inl refl)))) (inr (led refl (one refl)))))))) refl
 
 -- module M : nothing . module N : halt end module
 row_7 : SpellsProgram (modul (n (codes "M") 7 8) ([]) (At (at 11 18) Nothing) ∷ modul (n (codes "N") 28 29) ([]) (At

@@ -11,5 +11,6 @@ pub mod FlatForms
 pub mod SameNames
 pub mod SameWalks
 mod WorkedPrograms
+mod FaultOrders
 mod DrawnPrograms
 mod RenamedPrograms

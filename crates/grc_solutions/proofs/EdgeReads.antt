@@ -171,7 +171,8 @@ module _ (L : ℕ → List Layer) (g : ℕ → Term) (all : List Spot) (W : Wire
   trapped_reads : {a : Liveness} {B : Scope} {f : Layer → Formula} {t : Term} {n : ℕ} → At a B f t n → (l : Layer) → In a l → (A : ℕ → Bool) (d : ℕ) →
       ((j : ℕ) → A j ≡ true → IsRead (End d l j) (end_formula B t n l (trap_code j))) → AllRead (trapped_to_ends A d n l)
   trapped_reads {a} {B} {f} {t} {n} c l i A d h =
-      every_mapped EdgeRead (λ j. edge (End d l j) (End n l (trap_code j))) (listed A) (listed_every _ A (λ j u e. to_end c l i (End d l j) (trap_code j) (h j e)))
+      every_mapped EdgeRead (λ j. edge (End d l j) (End n l (trap_code j))) (listed A)
+      (listed_every _ A (λ j u e. to_end c l i (End d l j) (trap_code j) (h j e)))
 
   -- the status wires that a test reads, where the formula of the wire w has the test in it
   tests_read : (B : Scope) (e : Expression) (l : Layer) (w : Wire) (a : Formula) → (W w → Is w a) → ((u : Wire) → IsRead u (test_formula B e l) → IsRead u a) →

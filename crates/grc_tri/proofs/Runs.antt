@@ -1,22 +1,19 @@
 -- A program and the least solutions of its graph, from instant to instant.
-use Rattle.std.proofs.Common.{◌≡◌, ◌==◌, Bool, List, length, Some, sym, ap, ◌∙◌, refl, subst}
+use Rattle.std.proofs.Common.{◌≡◌, ◌==◌, Bool, List, length, Some, sym, ap, ◌∙◌, refl}
 use Rattle.est_kernel.specs.Plain.{Program, given_count, interface_of}
-use Rattle.est_kernel.specs.ProgramMachine.{program_machine}
 use Rattle.est_kernel.specs.Reactions.{Reaction, react}
 use Rattle.est_kernel.specs.StaticCodes.{NoInstantLoop}
 use Rattle.est_kernel.specs.Terms.{Term}
 use Rattle.est_kernel.specs.WellFormed.{IsWellFormed}
 use Rattle.est_kernel.specs.WellFormed as programs
 use Rattle.grc_graph.specs.GraphRuns.{graph_of, next_state, shown}
-use Rattle.grc_graph.specs.Walk.{State, remaining}
+use Rattle.grc_graph.specs.Walk.{State}
 use Rattle.grc_sem.specs.GraphWalks.{shown_answer}
 use Rattle.grc_sem.proofs.Instants.{codes_are_shown_lem, next_state_is_kept_lem}
 use Rattle.grc_sem.proofs.Runs.{program_kernel}
 use Rattle.grc_tri.specs.LeastSolutions.{IsKnown, IsLeast, Statuses, true_wires}
 use Rattle.grc_tri.specs.RunLaws.{LeavesTerm, ProgramsRunByLeastSolutions, RunsByLeastSolutions, ShowsReaction}
-use Rattle.grc_tri.specs.TriRuns.{tri_machine}
 use Rattle.grc_tri.proofs.Reactions.{known_reacts_lem, least_is_there_lem, reacts_known_lem}
-use Rattle.machines.specs.Machines.{Follows}
 
 module _ (p : Program) (formed : IsWellFormed p) (kernels : programs.IsKernel p.body) (no_loop : NoInstantLoop p.body) where
   -- a reaction, and the least solution of the same instant

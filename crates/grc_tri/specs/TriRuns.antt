@@ -1,5 +1,5 @@
 -- To believe: runs of a graph by least solutions, and where the run of a program stops.
-use Rattle.std.specs.Prelude.{◌≡◌, ℕ, ◌<◌, Bool, true, false, List, [], ◌∷◌, ◌++◌, filter, length, Some, None}
+use Rattle.std.specs.Prelude.{◌≡◌, ◌<◌, Bool, true, false, List, [], ◌∷◌, ◌++◌, filter, length, Some, None}
 use Rattle.est_base.specs.Items.{Item, Event, Reset}
 use Rattle.est_kernel.specs.Plain.{Program}
 use Rattle.est_kernel.specs.Reactions.{Answer, run_of}

@@ -70,7 +70,8 @@ returns-in-Err-Fault-clause-step g c =
     let a = subst (λ x. Answers r x later) (c.in-Err-Fault.is ∙ ap Err c.in-Err-Fault.field-0-is) c.next.ensures in
     let told = g.O.Sink.told c.args.out.now in
     let faults = g.O.Sink.faults c.args.out.now in
-    subst (λ f. IsStep RunnerShows c.args.names.now r later c.args.runner.now c.args.runner.now (untouched told faults) (Err (Trace f))) (sym c.in-Err-Fault.fault-is)
+    subst (λ f. IsStep RunnerShows c.args.names.now r later c.args.runner.now c.args.runner.now (untouched told faults) (Err (Trace f)))
+    (sym c.in-Err-Fault.fault-is)
     (step-stop RunnerShows c.args.names.now r later c.args.runner.now told faults (errors.Fault c.in-Err-Fault.fault) a)
 
 pub returns-clause-step : goal.returns-clause-step

@@ -27,7 +27,8 @@ loop-next-preserved g c =
     let s = change g.O.Sink.told g.O.Sink.faults c.loop-next.out c.react_to_item.new.out in
     let step = subst (λ n. IsReactionStep n q p c.loop-next.runner c.react_to_item.new.runner s (Ok c.in-Ok-Some.field-0)) c.deref.ensures.value
     c.in-Ok-Some.ensures.step in
-    let one = subst (λ o. IsReactionStep c.args.interface.outgoing.items q p c.loop-next.runner c.react_to_item.new.runner s (Ok o)) c.in-Ok-Some.field-0-is step in
+    let one = subst (λ o. IsReactionStep c.args.interface.outgoing.items q p c.loop-next.runner c.react_to_item.new.runner s (Ok o))
+    c.in-Ok-Some.field-0-is step in
     record {
       each_input = ap length stays.given_stay ∙ inv.each_input ∙ sym (ap (λ (x : Graph). given_count (program_of x.program)) stays.graph_stays);
       each_output = inv.each_output ∙ sym (ap (λ (x : Graph). outgoing_count (program_of x.program)) stays.graph_stays);
@@ -42,7 +43,8 @@ returns-in-Ok-None g c =
     let s = change g.O.Sink.told g.O.Sink.faults c.loop-next.out c.react_to_item.new.out in
     let step = subst (λ n. IsReactionStep n q p c.loop-next.runner c.react_to_item.new.runner s (Ok c.in-Ok-None.field-0)) c.deref.ensures.value
     c.in-Ok-None.ensures.step in
-    let last = subst (λ o. IsReactionStep c.args.interface.outgoing.items q p c.loop-next.runner c.react_to_item.new.runner s (Ok o)) c.in-Ok-None.field-0-is step in
+    let last = subst (λ o. IsReactionStep c.args.interface.outgoing.items q p c.loop-next.runner c.react_to_item.new.runner s (Ok o))
+    c.in-Ok-None.field-0-is step in
     run-ends RunnerShows none_shown _ _ _ _ _ _ _ _ _ _ _ _ _ _ c.new-reader.ensures
     (shown_so_far _ _ _ _ _ _ _ _ _ c.loop-next.invariant.so_far) last
 

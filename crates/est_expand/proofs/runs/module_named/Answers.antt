@@ -12,7 +12,7 @@ pub returns-in-Some : goal.returns-in-Some
 returns-in-Some c =
     let source = c.args.source.now in
     let modules = source.modules.now in
-    let m = c.index-source-module.result in
+    let m = c.index-source-place.result in
     let name = c.args.name.now in
     let at = ap (place_of name.text) (sym source.named) ∙ ap (λ n. place_of n source.table.now.names) (sym c.bytes.ensures) ∙ sym c.in-Some.ensures in
     let found = module-Some (program_in source) name.text c.in-Some.place (module_of m) at in

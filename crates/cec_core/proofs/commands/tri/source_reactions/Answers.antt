@@ -52,7 +52,8 @@ returns-in-Ok-read-clause-files_counted g c =
 pub returns-in-Ok-read-clause-out : goal.returns-in-Ok-read-clause-out
 returns-in-Ok-read-clause-out g c =
     let content = g.F.Files.content c.args.files.now in
-    trace_left content c.args.trace.now (plain_job c.args.job).main c.args.source.now c.in-Ok.built c.in-Ok-read.items.items _ c.graph_reactions.result c.requires
+    trace_left content c.args.trace.now (plain_job c.args.job).main c.args.source.now c.in-Ok.built c.in-Ok-read.items.items _ c.graph_reactions.result
+    c.requires
     c.in-Ok.ensures.built (held_read content c.args.trace.now TRACE_BYTES c.in-Ok-read.items c.in-Ok-read.ensures.bytes) c.graph_reactions.ensures.out
 
 pub returns-clause-agrees : goal.returns-clause-agrees
