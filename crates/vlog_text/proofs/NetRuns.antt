@@ -1,0 +1,237 @@
+-- Inner: the runs of a net's module: there is one over every list of inputs, and it shows what the net shows.
+use Rattle.std.proofs.Common.{◌≡◌, ℕ, Bool, true, not, ◌==◌, List, [], ◌∷◌, ◌++◌, length, map, get_or, take, drop, refl, sym, ap, ◌∙◌, subst, arith}
+use Rattle.std.specs.List.{range_with_len}
+use Rattle.std.proofs.lemmas.List.{map-append, length-append, length-map, map-id, length-drop, drop_at, take-append-drop}
+use Rattle.std.proofs.lemmas.List.FromFn.{fill_by_all}
+use Rattle.est_base.specs.Distinct.{all_differ}
+use Rattle.est_base.specs.Items.{Item, Event, Reset, EachEvent}
+use Rattle.est_base.specs.Names.{is_same_name}
+use Rattle.machines.specs.Machines.{IsRun, IsRunFrom}
+use Rattle.net_ir.specs.declared.netlist.Gate.{Gate}
+use Rattle.net_ir.specs.declared.netlist.Latch.{Latch}
+use Rattle.net_ir.specs.declared.netlist.NetOut.{NetOut}
+use Rattle.net_ir.specs.Gates.{value_in}
+use Rattle.net_ir.specs.Netlists.{Netlist, first_gate, net_count}
+use Rattle.net_ir.specs.Runs.{Shown, net_values, next_latches, initial_latches, values_from, net_values_run, shown}
+use Rattle.net_ir.specs.Writing.{IsWritable}
+use Rattle.net_ir.proofs.Numbered.{length-numbered, map-numbered, numbered-map}
+use Rattle.net_ir.proofs.Values.{length-gate_values, take-gate_values}
+use Rattle.expr_text.specs.NetNames.{state_name, gate_name, gate_names}
+use Rattle.expr_text.proofs.Instants.{map-same, same-parts, looked_up, map-looked_up, told_from, told-values}
+use Rattle.expr_text.proofs.Naming.{state_names, marks-states, marks-gates, in-front, all-both, differ-states}
+use Rattle.vlog_text.specs.Trees.{Register, Assign}
+use Rattle.vlog_text.specs.Names.{paused_name}
+use Rattle.vlog_text.specs.Machine.{IsInstant, vlog_machine, initial_registers, driven_names}
+use Rattle.vlog_text.specs.Written.{output_name, net_name, net_outputs, net_register, net_assigns, written, Means}
+use Rattle.vlog_text.proofs.NetInstants.{first_names, net_names, length-names, net_name-at, Holds, value-name, Holds-from_instant, instant-from_Holds}
+use Rattle.vlog_text.proofs.NetModules.{net_module}
+use Rattle.vlog_text.proofs.NetNames.{input_words, output_words, marks-inputs, marks-shown, differ-inputs, differ-targets}
+use Rattle.vlog_text.proofs.NetRules.{targets-are}
+use Rattle.vlog_text.proofs.NetSpelled.{describes-net}
+
+-- ---- the values of all driven names
+
+abbrev all_driven : Netlist → List (List ℕ)
+all_driven net = input_words net ++ (state_names net ++ (gate_names net ++ (output_words net ++ paused_name ∷ [])))
+
+driven-net : (net : Netlist) → driven_names (net_module net) ≡ all_driven net
+driven-net net =
+    ap (λ l. input_words net ++ (l ++ map (λ (a : Assign _). a.target) (net_assigns net)))
+    (map-numbered (λ (r : Register). r.name) (net_register net) 0 net.latches)
+    ∙ ap (λ l. input_words net ++ (state_names net ++ l)) (targets-are net)
+
+names-differ : (net : Netlist) → IsWritable net → all_differ is_same_name (all_driven net) ≡ true
+names-differ net is =
+    let targets = gate_names net ++ net_outputs net in
+    let kept = in-front (λ m. m == 115) (state_names net) targets (differ-states net is) (marks-states net (λ m. m == 115) refl)
+    (all-both _ (gate_names net) (net_outputs net) (marks-gates net (λ m. not (m == 115)) refl refl) (marks-shown net (λ m. not (m == 115)) refl refl))
+    (differ-targets net is) in
+    in-front (λ m. m == 105) (input_words net) (state_names net ++ targets) (differ-inputs net is) (marks-inputs net (λ m. m == 105) refl)
+    (all-both _ (state_names net) targets (marks-states net (λ m. not (m == 105)) refl)
+    (all-both _ (gate_names net) (net_outputs net) (marks-gates net (λ m. not (m == 105)) refl refl) (marks-shown net (λ m. not (m == 105)) refl refl))) kept
+
+-- the values that follow those of the inputs and the latches
+abbrev gate_part : Netlist → List Bool → List Bool
+gate_part net values = drop (first_gate net) values
+
+abbrev output_part : Netlist → List Bool → List Bool
+output_part net values = map (λ o. value_in values o.net.0) net.outputs
+
+abbrev all_values : Netlist → List Bool → List Bool → List Bool
+all_values net latches inputs =
+    let values = net_values net latches inputs in
+    inputs ++ (latches ++ (gate_part net values ++ (output_part net values ++ value_in values net.paused ∷ [])))
+
+length-gate_part : (net : Netlist) (latches inputs : List Bool) → length (inputs ++ latches) ≡ first_gate net
+    → length (gate_part net (net_values net latches inputs)) ≡ length net.gates
+length-gate_part net latches inputs wide =
+    length-drop (first_gate net) (net_values net latches inputs) ∙ omega (arith, length-gate_values (inputs ++ latches) net.gates)
+
+-- as many values as names
+length-all_values : (net : Netlist) (latches inputs : List Bool) → length latches ≡ length net.latches → length inputs ≡ length net.inputs
+    → length (all_driven net) ≡ length (all_values net latches inputs)
+length-all_values net latches inputs l i =
+    let wide : length (inputs ++ latches) ≡ first_gate net = length-append inputs latches ∙ rw (i, l) refl in
+    let values = net_values net latches inputs in
+    let a = length-map net.inputs (λ (name : List ℕ). 105 ∷ 95 ∷ name) in
+    let b = length-numbered (λ j (latch : Latch). state_name j) 0 net.latches in
+    let c = length-numbered (λ k (gate : Gate). gate_name k gate.wire) 0 net.gates in
+    let d = length-map net.outputs output_name in
+    let e = length-map net.outputs (λ (o : NetOut). value_in values o.net.0) in
+    let g = length-gate_part net latches inputs wide in
+    simp length-append (rw (a, b, c, d, e, g, i, l) refl)
+
+-- a valuation of the driven names, part by part
+map-all_names : (net : Netlist) (v : List ℕ → Bool) → map v (all_driven net) ≡ map v (input_words net) ++
+    (map v (state_names net) ++ (map v (gate_names net) ++ (map v (output_words net) ++ v paused_name ∷ [])))
+map-all_names net v = simp map-append refl
+
+gates-from_nets : (net : Netlist) (latches inputs : List Bool) (v : List ℕ → Bool) → Holds net latches inputs v
+    → map v (gate_names net) ≡ gate_part net (net_values net latches inputs)
+gates-from_nets net latches inputs v holds =
+    let before = first_names net in
+    let len : length (map v before) ≡ first_gate net = length-map before v ∙ length-append (input_words net) (state_names net)
+    ∙ rw (length-map net.inputs (λ (name : List ℕ). 105 ∷ 95 ∷ name), length-numbered (λ j (latch : Latch). state_name j) 0 net.latches) refl in
+    sym (drop_at (map v before) (map v (gate_names net)) (first_gate net) len)
+    ∙ ap (drop (first_gate net)) (sym (map-append v before (gate_names net)) ∙ holds.nets)
+
+values-from_Holds : (net : Netlist) (latches inputs : List Bool) (v : List ℕ → Bool) → Holds net latches inputs v
+    → map v (driven_names (net_module net)) ≡ all_values net latches inputs
+values-from_Holds net latches inputs v holds =
+    ap (map v) (driven-net net) ∙ map-all_names net v
+    ∙ rw (holds.latches_kept, holds.inputs_kept, gates-from_nets net latches inputs v holds, holds.outputs, holds.paused) refl
+
+Holds-from_values : (net : Netlist) (latches inputs : List Bool) (v : List ℕ → Bool) → length latches ≡ length net.latches
+    → length inputs ≡ length net.inputs → map v (all_driven net) ≡ all_values net latches inputs → Holds net latches inputs v
+Holds-from_values net latches inputs v l i same =
+    let values = net_values net latches inputs in
+    let before = first_names net in
+    let wide : length (inputs ++ latches) ≡ first_gate net = length-append inputs latches ∙ rw (i, l) refl in
+    let inputs_len : length (map v (input_words net)) ≡ length inputs = length-map (input_words net) v
+    ∙ length-map net.inputs (λ (name : List ℕ). 105 ∷ 95 ∷ name) ∙ sym i in
+    let latches_len : length (map v (state_names net)) ≡ length latches = length-map (state_names net) v
+    ∙ length-numbered (λ j (latch : Latch). state_name j) 0 net.latches ∙ sym l in
+    let gates_len : length (map v (gate_names net)) ≡ length (gate_part net values) = length-map (gate_names net) v
+    ∙ length-numbered (λ k (gate : Gate). gate_name k gate.wire) 0 net.gates ∙ sym (length-gate_part net latches inputs wide) in
+    let outputs_len : length (map v (output_words net)) ≡ length (output_part net values) = length-map (output_words net) v
+    ∙ length-map net.outputs output_name ∙ sym (length-map net.outputs (λ (o : NetOut). value_in values o.net.0)) in
+    let a = same-parts (map v (input_words net)) _ inputs _ inputs_len (sym (map-all_names net v) ∙ same) in
+    let b = same-parts (map v (state_names net)) _ latches _ latches_len a.1 in
+    let c = same-parts (map v (gate_names net)) _ (gate_part net values) _ gates_len b.1 in
+    let d = same-parts (map v (output_words net)) (v paused_name ∷ []) (output_part net values) (value_in values net.paused ∷ []) outputs_len c.1 in
+    let first : take (first_gate net) values ≡ inputs ++ latches = ap (λ n. take n values) (sym wide) ∙ take-gate_values (inputs ++ latches) net.gates in
+    let whole : (inputs ++ latches) ++ gate_part net values ≡ values = ap (λ x. x ++ gate_part net values) (sym first)
+    ∙ take-append-drop (first_gate net) values in
+    record {
+      inputs_kept = a.0;
+      latches_kept = b.0;
+      nets = map-append v before (gate_names net) ∙ ap (λ x. x ++ map v (gate_names net)) (map-append v (input_words net) (state_names net))
+          ∙ rw (a.0, b.0, c.0) whole;
+      outputs = d.0;
+      paused = cc d.1;
+    }
+
+-- ---- one instant
+
+-- over all values of the registers and inputs there is an instant
+instant_exists : (net : Netlist) → IsWritable net → (latches inputs : List Bool) → length latches ≡ length net.latches → length inputs ≡ length net.inputs
+    → (v : List ℕ → Bool) × IsInstant (net_module net) latches inputs v
+instant_exists net is latches inputs l i =
+    let names = all_driven net in
+    let values = all_values net latches inputs in
+    let given = map-looked_up names values (names-differ net is) (length-all_values net latches inputs l i) in
+    let holds = Holds-from_values net latches inputs (looked_up names values) l i given in
+    (looked_up names values, instant-from_Holds net is latches inputs (looked_up names values) l i holds)
+
+-- what the registers get
+next_latches-module : (net : Netlist) → IsWritable net → (latches inputs : List Bool) (v : List ℕ → Bool) → Holds net latches inputs v
+    → map (λ (r : Register). v r.from) (net_module net).registers ≡ next_latches net (net_values net latches inputs)
+next_latches-module net is latches inputs v holds =
+    map-numbered (λ (r : Register). v r.from) (net_register net) 0 net.latches
+    ∙ numbered-map (λ (x : Latch). v (net_name net x.from.0)) 0 net.latches
+    ∙ map-same (λ (x : Latch). v (net_name net x.from.0)) (λ x. value_in (net_values net latches inputs) x.from.0) net.latches
+    (λ k d h. let n = (get_or net.latches k d).from.0 in sym (value-name net v n (is.is_net.latches_in_range k d h)) ∙ ap (λ w. value_in w n) holds.nets)
+
+-- what is shown
+shown-module : (net : Netlist) (latches inputs : List Bool) (v : List ℕ → Bool) → Holds net latches inputs v
+    → map v (net_outputs net) ≡ (shown net (net_values net latches inputs)).outputs ++ (shown net (net_values net latches inputs)).paused ∷ []
+shown-module net latches inputs v holds =
+    map-append v (output_words net) (paused_name ∷ []) ∙ rw (holds.outputs, holds.paused) refl
+
+map-map : {X Y Z : Type 0} (f : Y → Z) (g : X → Y) (xs : List X) → map (λ x. f (g x)) xs ≡ map f (map g xs)
+map-map f g [] = refl
+map-map f g (x ∷ xs) = ap (λ l. f (g x) ∷ l) (map-map f g xs)
+
+net_names-numbers : (net : Netlist) → net_names net ≡ map (net_name net) (range_with_len 0 (net_count net))
+net_names-numbers net = fill_by_all (net_name net) (net_names net) (net_count net) [] (length-names net) (λ k h. sym (net_name-at net k h))
+
+-- ---- runs
+
+initial-module : (net : Netlist) → initial_registers (net_module net) ≡ initial_latches net
+initial-module net =
+    map-numbered (λ (r : Register). r.init) (net_register net) 0 net.latches ∙ numbered-map (λ (x : Latch). x.init) 0 net.latches
+
+length-initial : (net : Netlist) → length (initial_registers (net_module net)) ≡ length net.latches
+length-initial net = ap length (initial-module net) ∙ length-map net.latches (λ (x : Latch). x.init)
+
+runs_from : (net : Netlist) → IsWritable net → (latches : List Bool) (items : List Item) → length latches ≡ length net.latches
+    → EachEvent (λ inputs. length inputs ≡ length net.inputs) items
+    → (vs : List (List ℕ → Bool)) × IsRunFrom (vlog_machine (net_module net)) latches items vs
+runs_from net is latches [] l wide = ([], tt)
+runs_from net is latches (Event inputs ∷ items) l wide =
+    let here = instant_exists net is latches inputs l wide.0 in
+    let next = map (λ (r : Register). here.0 r.from) (net_module net).registers in
+    let len : length next ≡ length net.latches = length-map (net_module net).registers (λ (r : Register). here.0 r.from)
+    ∙ length-numbered (net_register net) 0 net.latches in
+    let rest = runs_from net is next items len wide.1 in
+    (here.0 ∷ rest.0, (here.1, rest.1))
+runs_from net is latches (Reset ∷ items) l wide =
+    runs_from net is (initial_registers (net_module net)) items (length-initial net) wide
+
+-- what is so of every instant with a net's values is so of every run: f of the valuations is g of the values
+runs-are : {X : Type 0} (net : Netlist) → IsWritable net → (f : (List ℕ → Bool) → X) (g : List Bool → List Bool → X)
+    → ((latches inputs : List Bool) (v : List ℕ → Bool) → Holds net latches inputs v → f v ≡ g latches inputs)
+    → (latches : List Bool) (items : List Item) (vs : List (List ℕ → Bool)) → IsRunFrom (vlog_machine (net_module net)) latches items vs
+    → map f vs ≡ told_from net g latches items
+runs-are net is f g each latches [] [] run = refl
+runs-are net is f g each latches [] (v ∷ vs) run = absurd run
+runs-are net is f g each latches (Event inputs ∷ items) [] run = absurd run
+runs-are net is f g each latches (Event inputs ∷ items) (v ∷ vs) run =
+    let holds = Holds-from_instant net is latches inputs v run.0 in
+    let next = next_latches-module net is latches inputs v holds in
+    let rest = subst (λ l. IsRunFrom (vlog_machine (net_module net)) l items vs) next run.1 in
+    let later = runs-are net is f g each (next_latches net (net_values net latches inputs)) items vs rest in
+    ap (λ x. x ∷ map f vs) (each latches inputs v holds) ∙ ap (λ x. g latches inputs ∷ x) later
+runs-are net is f g each latches (Reset ∷ items) vs run =
+    runs-are net is f g each (initial_latches net) items vs
+    (subst (λ l. IsRunFrom (vlog_machine (net_module net)) l items vs) (initial-module net) run)
+
+-- ---- the written text means the net
+
+pub Means-written : (net : Netlist) → IsWritable net → Means (written net) net
+Means-written net is =
+    let start = initial_registers (net_module net) in
+    let names = driven_names (net_module net) in
+    let values_told = λ (items : List Item) (vs : List (List ℕ → Bool)) (run : IsRun (vlog_machine (net_module net)) items vs).
+    runs-are net is (λ v. map v names) (all_values net) (values-from_Holds net) start items vs run in
+    let all_shown = λ (values : List Bool). (shown net values).outputs ++ (shown net values).paused ∷ [] in
+    let named = λ (latches inputs : List Bool) (v : List ℕ → Bool) (holds : Holds net latches inputs v). map-map v (net_name net)
+    (range_with_len 0 (net_count net)) ∙ ap (map v) (sym (net_names-numbers net)) ∙ holds.nets in
+    record {
+      design = net_module net;
+      describes = describes-net net is;
+      name = refl;
+      inputs = refl;
+      outputs = refl;
+      registers = refl;
+      wires = refl;
+      runs = λ items widths. runs_from net is start items (length-initial net) widths;
+      one_run = λ items us vs u v. values_told items us u ∙ sym (values_told items vs v);
+      shows = λ items vs run. runs-are net is (λ v. map v (net_outputs net)) (λ l i. all_shown (net_values net l i)) (shown-module net) start items vs run
+          ∙ told-values net all_shown start items ∙ ap (λ l. map all_shown (values_from net l items)) (initial-module net)
+          ∙ map-map (λ (s : Shown). s.outputs ++ s.paused ∷ []) (shown net) (net_values_run net items);
+      nets = λ items vs run. runs-are net is (λ v. map (λ n. v (net_name net n)) (range_with_len 0 (net_count net))) (λ l i. net_values net l i) named start
+          items vs run
+          ∙ told-values net (λ values. values) start items ∙ ap (λ l. map (λ values. values) (values_from net l items)) (initial-module net)
+          ∙ map-id (net_values_run net items);
+    }

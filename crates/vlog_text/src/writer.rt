@@ -1,0 +1,224 @@
+// The Verilog text of a net, line by line.
+
+ghost use Rattle.std.specs.Prelude.{◌≡◌, ◌+◌, ◌<◌, ◌≤◌, ◌++◌, IfOk, OnOk};
+ghost use Rattle.net_ir.specs.Gates.{operand_end};
+ghost use Rattle.net_ir.specs.Netlists.{net_count};
+ghost use Rattle.net_ir.specs.Runs.{netlist_of};
+ghost use Rattle.expr_text.specs.NetNames.{state_name, gate_name};
+ghost use Rattle.expr_text.specs.Operators.{op_expr};
+ghost use Rattle.vlog_text.specs.Trees.{Input, Output, Reg, Wire};
+ghost use Rattle.vlog_text.specs.Names.{paused_name};
+ghost use Rattle.vlog_text.specs.Written.{module_name, clock_name, input_name, output_name, net_name, declares};
+ghost use Rattle.vlog_text.specs.Written.{gate_assign, output_assign, paused_assign, latch_initial, latch_next};
+ghost use Rattle.vlog_text.specs.Written.{expr_text, next_port, head_front, head_end, declaration_line, initial_line};
+ghost use Rattle.vlog_text.specs.Written.{assign_line, clock_line, next_line, last_lines, written, Means};
+
+use crate::pieces::VlogPieces;
+use est_base::{NetId, NoMemory, Text};
+use expr_text::{put, put_gate_name, put_named, put_number};
+use net_ir::{Gate, Latch, Net, NetOut, Op};
+use std::alloc::Global;
+
+/// The Verilog text of a net: one line feed behind each line.
+///
+/// The module has the name `m_NAME` and the clock `clk`. Input X of the net is the input `i_X`, output X the output
+/// `o_X`, and whether the program is still active the output `paused`. Latch J is the reg `sJ`, and gate K the wire
+/// `wN` where it carries wire N, else `gK`. The time and the memory that it takes are linear in the length of the
+/// text; want of memory is its only error.
+pub fn write_verilog(alloc: Global, net: &Net) -> Result<Vec<u8>, NoMemory>
+    ensures text { IfOk result (λ t. t.items ≡ written (netlist_of net.now)) }
+    ensures means { IfOk result (λ t. Means t.items (netlist_of net.now)) }
+{
+    let mut pieces = VlogPieces::new(net);
+    let mut text = Vec::new(alloc);
+    while let Some(piece) = pieces.next(alloc)? {
+        text.extend_from_slice(&piece)?;
+    }
+    Ok(text)
+}
+
+// The name of the module, and the clock among its ports.
+pub fn put_clock_port(text: &mut Vec<u8>, name: &Text) -> Result<(), NoMemory>
+    ensures { OnOk result (text.new.items
+        ≡ text.old.items ++ (head_front (module_name name.now) ++ clock_name)) }
+{
+    put_named(text, b"module m_", name.bytes(), b"(clk")
+}
+
+// The port of an input.
+pub fn put_input_port(text: &mut Vec<u8>, name: &Text) -> Result<(), NoMemory>
+    ensures { OnOk result (text.new.items ≡ text.old.items ++ next_port (input_name name.now)) }
+{
+    put(text, b", i_")?;
+    put(text, name.bytes())
+}
+
+// The port of an output.
+pub fn put_output_port(text: &mut Vec<u8>, output: &NetOut) -> Result<(), NoMemory>
+    ensures { OnOk result (text.new.items ≡ text.old.items ++ next_port (output_name output.now)) }
+{
+    put(text, b", o_")?;
+    put(text, output.name.bytes())
+}
+
+// The port `paused`, the end of the ports, and the declaration of the clock.
+pub fn put_head_end(text: &mut Vec<u8>) -> Result<(), NoMemory>
+    ensures { OnOk result (text.new.items ≡ text.old.items
+        ++ (next_port paused_name ++ (head_end ++ declaration_line (declares Input clock_name)))) }
+{
+    put(text, b", paused);\ninput clk;\n")
+}
+
+// The declaration of an input.
+pub fn put_input(text: &mut Vec<u8>, name: &Text) -> Result<(), NoMemory>
+    ensures { OnOk result (text.new.items ≡ text.old.items
+        ++ declaration_line (declares Input (input_name name.now))) }
+{
+    put_named(text, b"input i_", name.bytes(), b";\n")
+}
+
+// The declaration of an output.
+pub fn put_output(text: &mut Vec<u8>, output: &NetOut) -> Result<(), NoMemory>
+    ensures { OnOk result (text.new.items ≡ text.old.items
+        ++ declaration_line (declares Output (output_name output.now))) }
+{
+    put_named(text, b"output o_", output.name.bytes(), b";\n")
+}
+
+// The declaration of `paused`.
+pub fn put_paused(text: &mut Vec<u8>) -> Result<(), NoMemory>
+    ensures { OnOk result (text.new.items ≡ text.old.items ++ declaration_line (declares Output paused_name)) }
+{
+    put(text, b"output paused;\n")
+}
+
+// The declaration of a latch.
+pub fn put_reg(text: &mut Vec<u8>, j: usize) -> Result<(), NoMemory>
+    ensures { OnOk result (text.new.items ≡ text.old.items ++ declaration_line (declares Reg (state_name j))) }
+{
+    put_number(text, b"reg s", j)?;
+    put(text, b";\n")
+}
+
+// The declaration of a gate.
+pub fn put_wire(text: &mut Vec<u8>, k: usize, gate: Gate) -> Result<(), NoMemory>
+    ensures { OnOk result (text.new.items ≡ text.old.items
+        ++ declaration_line (declares Wire (gate_name k gate.wire))) }
+{
+    put(text, b"wire ")?;
+    put_gate_name(text, k, gate)?;
+    put(text, b";\n")
+}
+
+// The first value of a latch.
+pub fn put_initial(text: &mut Vec<u8>, j: usize, latch: Latch) -> Result<(), NoMemory>
+    ensures { OnOk result (text.new.items ≡ text.old.items ++ initial_line (latch_initial j latch)) }
+{
+    put_number(text, b"initial s", j)?;
+    if latch.init {
+        put(text, b" = 1'b1;\n")
+    } else {
+        put(text, b" = 1'b0;\n")
+    }
+}
+
+// A gate is assigned.
+pub fn put_gate(text: &mut Vec<u8>, net: &Net, k: usize, gate: Gate) -> Result<(), NoMemory>
+    requires { operand_end gate.op ≤ net_count (netlist_of net.now) }
+    ensures { OnOk result (text.new.items ≡ text.old.items
+        ++ assign_line (gate_assign (netlist_of net.now) k gate)) }
+{
+    put(text, b"assign ")?;
+    put_gate_name(text, k, gate)?;
+    put(text, b" = ")?;
+    put_op(text, net, gate.op)?;
+    put(text, b";\n")
+}
+
+// What a gate makes of the nets that it reads.
+fn put_op(text: &mut Vec<u8>, net: &Net, op: Op) -> Result<(), NoMemory>
+    requires { operand_end op ≤ net_count (netlist_of net.now) }
+    ensures { OnOk result (text.new.items ≡ text.old.items
+        ++ expr_text (op_expr (net_name (netlist_of net.now)) op)) }
+{
+    match op {
+        Op::Const(value) => put(text, if value { b"1'b1" } else { b"1'b0" }),
+        Op::Copy(a) => put_net(text, net, a),
+        Op::Not(a) => {
+            put(text, b"~")?;
+            put_net(text, net, a)
+        }
+        Op::And(a, b) => put_pair(text, net, a, b" & ", b),
+        Op::Or(a, b) => put_pair(text, net, a, b" | ", b),
+    }
+}
+
+// Two nets with a mark between them.
+fn put_pair(text: &mut Vec<u8>, net: &Net, a: NetId, mark: &[u8], b: NetId) -> Result<(), NoMemory>
+    requires first { a.0 < net_count (netlist_of net.now) }
+    requires second { b.0 < net_count (netlist_of net.now) }
+    ensures { OnOk result (text.new.items ≡ text.old.items
+        ++ (net_name (netlist_of net.now) a.0 ++ (mark.now ++ net_name (netlist_of net.now) b.0))) }
+{
+    put_net(text, net, a)?;
+    put(text, mark)?;
+    put_net(text, net, b)
+}
+
+// An output is assigned.
+pub fn put_output_assign(text: &mut Vec<u8>, net: &Net, output: &NetOut) -> Result<(), NoMemory>
+    requires { output.now.net.0 < net_count (netlist_of net.now) }
+    ensures { OnOk result (text.new.items ≡ text.old.items
+        ++ assign_line (output_assign (netlist_of net.now) output.now)) }
+{
+    put_named(text, b"assign o_", output.name.bytes(), b" = ")?;
+    put_net(text, net, output.net)?;
+    put(text, b";\n")
+}
+
+// Whether the program is still active, and the line that begins the registers.
+pub fn put_paused_assign(text: &mut Vec<u8>, net: &Net) -> Result<(), NoMemory>
+    ensures { OnOk result (text.new.items
+        ≡ text.old.items ++ (assign_line (paused_assign (netlist_of net.now)) ++ clock_line clock_name)) }
+{
+    put(text, b"assign paused = ")?;
+    put_net(text, net, net.paused)?;
+    put(text, b";\nalways @(posedge clk) begin\n")
+}
+
+// A latch gets its next value.
+pub fn put_next(text: &mut Vec<u8>, net: &Net, j: usize, latch: Latch) -> Result<(), NoMemory>
+    requires { latch.from.0 < net_count (netlist_of net.now) }
+    ensures { OnOk result (text.new.items ≡ text.old.items
+        ++ next_line (latch_next (netlist_of net.now) j latch)) }
+{
+    put_number(text, b"s", j)?;
+    put(text, b" <= ")?;
+    put_net(text, net, latch.from)?;
+    put(text, b";\n")
+}
+
+// The end of the registers and of the module.
+pub fn put_last_lines(text: &mut Vec<u8>) -> Result<(), NoMemory>
+    ensures { OnOk result (text.new.items ≡ text.old.items ++ last_lines) }
+{
+    put(text, b"end\nendmodule\n")
+}
+
+// The name of a net.
+fn put_net(text: &mut Vec<u8>, net: &Net, from: NetId) -> Result<(), NoMemory>
+    requires { from.0 < net_count (netlist_of net.now) }
+    ensures { OnOk result (text.new.items ≡ text.old.items ++ net_name (netlist_of net.now) from.0) }
+{
+    let n = from.0 as usize;
+    let first_latch = net.inputs.len();
+    let first_gate = first_latch + net.latches.len();
+    if n < first_latch {
+        put(text, b"i_")?;
+        put(text, net.inputs[n].bytes())
+    } else if n < first_gate {
+        put_number(text, b"s", n - first_latch)
+    } else {
+        put_gate_name(text, n - first_gate, net.gates[n - first_gate])
+    }
+}
