@@ -1,4 +1,4 @@
--- To believe: what a runner of a circuit is from event to event.
+-- Contract: what a runner of a circuit is from event to event.
 use Rattle.std.specs.Prelude.{◌≡◌, ℕ, Bool, false, List, length, map, replicate}
 use Rattle.blif_text.specs.Circuits.{Circuit}
 use Rattle.blif_text.specs.Runs.{IsInstant, circuit_latches, driven_names}

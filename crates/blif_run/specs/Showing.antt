@@ -1,4 +1,4 @@
--- To believe: what a runner shows from its present state on: what its circuit's machine shows from its latch values on.
+-- Contract: what a runner shows from its present state on: what its circuit's machine shows from its latch values on.
 use Rattle.std.specs.Prelude.{List}
 use Rattle.est_base.specs.Items.{Item}
 use Rattle.machines.specs.Machines.{Shows}

@@ -21,6 +21,7 @@ pub mod NetDrivers
 pub mod NetSpelling
 pub mod NetInstants
 pub mod NetRuns
+pub mod TextLengths
 mod TextEquations
 mod RandomEquations1
 mod RandomEquations2

@@ -1,4 +1,4 @@
--- To believe: the circuit that a `Blif` value is, without where it lies in memory.
+-- Contract: the circuit that a `Blif` value is, without where it lies in memory.
 use Rattle.std.specs.Prelude.{List, map}
 use Rattle.blif_text.specs.declared.circuit.Cell.{Cell}
 use Rattle.blif_text.specs.declared.circuit.Row.{Row}

@@ -1,4 +1,4 @@
--- To believe: what the reader answers of a text, by the reading that the text has.
+-- Contract: what the reader answers of a text, by the reading that the text has.
 use Rattle.std.specs.Prelude.{◌≡◌, ℕ, ◌<◌, ◌≤◌, ⊤, List, length, Ok, Err}
 use Rattle.est_base.specs.declared.bounds.TheConstants.Limits.{TEXT_BYTES}
 use Rattle.blif_text.specs.declared.circuit.Blif.{Blif}

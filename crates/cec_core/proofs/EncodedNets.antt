@@ -7,10 +7,9 @@ use Rattle.est_kernel.specs.Plain.{Program, given_count}
 use Rattle.est_kernel.specs.Terms.{Term}
 use Rattle.grc_graph.specs.declared.graph.Graph.{Graph}
 use Rattle.grc_graph.specs.GraphRuns.{program_wires}
-use Rattle.grc_graph.specs.SelectionTrees.{body_tree}
+use Rattle.grc_graph.specs.SelectionTrees.{body_leaves, body_tree}
 use Rattle.grc_graph.specs.TreeForms.{node_of}
 use Rattle.grc_graph.specs.Walk.{Initial}
-use Rattle.grc_graph.proofs.BuiltReads.{next_each}
 use Rattle.grc_sem.proofs.Instants.{next_state_is_kept_lem}
 use Rattle.grc_sem.proofs.Runs.{program_kernel}
 use Rattle.grc_solutions.proofs.OneRun.{graph_runs_exist_lem}
@@ -29,6 +28,7 @@ use Rattle.blif_text.specs.Written.{Means, net_latch}
 use Rattle.cec_core.specs.declared.compiler.Compiled.{Compiled}
 use Rattle.cec_core.specs.Compiling.{IsCompiled, StandsForNet}
 use Rattle.cec_core.specs.EncodedTexts.{IsEncoded, StandsForEncoded}
+use Rattle.cec_core.specs.Following.{FollowsGraph}
 use Rattle.cec_core.specs.Meaning.{AreItems}
 use Rattle.cec_core.specs.NetMeaning.{NetKeeps}
 use Rattle.cec_core.specs.WireNames.{TextNames}
@@ -46,8 +46,7 @@ all_same (x ∷ xs) y = ap (λ l. y ∷ l) (all_same xs y)
 
 pub first_latches : (c : Compiled) (p : Program) → IsCompiled c p → initial_latches (netlist_of c.net) ≡ true ∷ replicate c.tree.leaves false
 first_latches c p h =
-    let many : length c.graph.next.items ≡ c.tree.leaves = next_each c.graph p h.graph ∙ sym h.leaves in
-    h.interface.latches ∙ ap (λ l. true ∷ l) (all_same c.graph.next.items false ∙ ap (λ n. replicate n false) many)
+    h.latches ∙ ap (λ l. true ∷ l) (all_same (body_leaves p.body) false ∙ ap (λ n. replicate n false) (sym h.leaves))
 
 pub own_tree : (c : Compiled) (p : Program) → IsCompiled c p → IsTreeOf c.tree p.body
 own_tree c p h = record { nodes = h.tree; leaves = h.leaves }
@@ -55,17 +54,18 @@ own_tree c p h = record { nodes = h.tree; leaves = h.leaves }
 -- ---- runs
 
 -- in each instant the latches select leaves as the tree wants
-latches_formed : (c : Compiled) (p : Program) → IsCompiled c p → (items : List Item) → EachEvent (λ event. length event ≡ given_count p) items
+latches_formed : (c : Compiled) (p : Program) → IsCompiled c p → FollowsGraph c → (items : List Item) → EachEvent (λ event. length event ≡ given_count p) items
     → LatchesMeet (SelectsWell p.body) (netlist_of c.net) (initial_latches (netlist_of c.net)) items
-latches_formed c p h items wide =
+latches_formed c p h f items wide =
     let kernel = program_kernel p h.formed (kernel_of c.graph p h.graph) in
     let one = graph_runs_exist_lem p h.compiles.acyclic.rank kernel h.compiles.acyclic.up Initial items in
-    latches-formed next_state_is_kept_lem c.graph p (netlist_of c.net) kernel h.no_loop h.graph h.interface h.instants items one.0.0 wide one.0.1
+    latches-formed next_state_is_kept_lem c.graph p (netlist_of c.net) kernel h.no_loop h.graph f.interface f.instants items one.0.0 wide one.0.1
 
-same_runs : (c : Compiled) (p : Program) (coded : Netlist) → IsCompiled c p → Encodes (netlist_of c.net) coded p.body → SameRuns (netlist_of c.net) coded
-same_runs c p coded h encodes items wide =
+same_runs : (c : Compiled) (p : Program) (coded : Netlist) → IsCompiled c p → FollowsGraph c → Encodes (netlist_of c.net) coded p.body →
+    SameRuns (netlist_of c.net) coded
+same_runs c p coded h f encodes items wide =
     encodes.runs items wide
-    (latches_formed c p h items (subst (λ n. EachEvent (λ event. length event ≡ n) items) (sym (inputs_wide c p h)) wide))
+    (latches_formed c p h f items (subst (λ n. EachEvent (λ event. length event ≡ n) items) (sym (inputs_wide c p h)) wide))
 
 -- a netlist of the names and the runs of one that keeps what a program means
 alike_keeps : (net new : Netlist) (p : Program) → given_count p ≡ length net.inputs → new.name ≡ net.name → new.inputs ≡ net.inputs
@@ -105,10 +105,10 @@ simplified_size coded new gates nodes parts few =
 
 -- ---- the whole
 
-pub encoded_is : (c : Compiled) (p : Program) (new : Netlist) → IsCompiled c p → Encodes (netlist_of c.net) new p.body
+pub encoded_is : (c : Compiled) (p : Program) (new : Netlist) → IsCompiled c p → FollowsGraph c → Encodes (netlist_of c.net) new p.body
     → length new.gates ≤ length c.net.gates.items + 64 * (length c.tree.nodes.items * length new.latches) → IsSimple new → IsEncoded c p new
-encoded_is c p new h e few simple =
-    let same = same_runs c p new h e in
+encoded_is c p new h f e few simple =
+    let same = same_runs c p new h f e in
     let nodes : length c.tree.nodes.items ≡ length (body_tree p.body) = sym (length-map c.tree.nodes.items node_of) ∙ ap length h.tree in
     record {
       name = e.name;
@@ -122,12 +122,12 @@ encoded_is c p new h e few simple =
       simple = simple;
     }
 
-encoded_names : (c : Compiled) (p : Program) (net : Netlist) (written : List ℕ) → IsCompiled c p → IsEncoded c p net → Means written net
+encoded_names : (c : Compiled) (p : Program) (net : Netlist) (written : List ℕ) → IsCompiled c p → FollowsGraph c → IsEncoded c p net → Means written net
     → TextNames (encoded_count p.body) written p
-encoded_names c p net written h e means =
+encoded_names c p net written h f e means =
     let kernel = program_kernel p h.formed (kernel_of c.graph p h.graph) in
     let few = subst (λ q. given_count q ≤ length q.signals) (sym h.graph.program) (given-few p h.formed) in
-    let follows = runs_stay c.graph (netlist_of c.net) net few h.interface e.carries e.runs h.runs in
+    let follows = runs_stay c.graph (netlist_of c.net) net few f.interface e.carries e.runs f.runs in
     let carriers : (n : ℕ) → n < length (program_wires p) → Contains (carried net.gates) n
     = λ n l. subst (λ wires. Contains wires n) (sym e.carries) (wires_carried c p h n l) in
     let count : length net.latches ≡ encoded_count p.body
@@ -136,17 +136,17 @@ encoded_names c p net written h e means =
       circuit = means.circuit;
       reads = means.reads;
       stored = ap length means.latches ∙ length-numbered (net_latch net) 0 net.latches ∙ count;
-      wires = names_wires c.graph p net h.graph carriers kernel h.compiles.acyclic follows written means e.keeps.inputs
+      wires = names_wires c.graph p net h.graph carriers kernel h.no_loop h.compiles.acyclic follows written means e.keeps.inputs
           (inputs_wide c p h ∙ ap length (sym e.inputs));
     }
 
 -- the text of such a netlist, from these bytes
 pub encoded_stands : (bytes : List ℕ) (main : Option (List ℕ)) (c : Compiled) (net : Netlist) (written : List ℕ) → (s : StandsForNet bytes main c)
-    → IsEncoded c s.program net → Means written net → StandsForEncoded bytes main written
-encoded_stands bytes main c net written s e means = record {
+    → FollowsGraph c → IsEncoded c s.program net → Means written net → StandsForEncoded bytes main written
+encoded_stands bytes main c net written s f e means = record {
   program = s.program;
   source = s.source;
   compiles = s.compiled.compiles;
   keeps = text_keeps written net s.program (given-few s.program s.compiled.formed) e.keeps means;
-  names = encoded_names c s.program net written s.compiled e means;
+  names = encoded_names c s.program net written s.compiled f e means;
 }

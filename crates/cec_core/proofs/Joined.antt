@@ -1,6 +1,6 @@
 -- What the passes joined give.
-use Rattle.std.proofs.Common.{◌≡◌, ℕ, ◌+◌, ◌-◌, ◌^◌, ◌<◌, ◌≤◌, List, [], ◌++◌, length, map, get_or, Option, sym, ap, ◌∙◌, subst, ⊎_elim, arith}
-use Rattle.std.specs.Prelude.{codes, decimal, min, All, Contains, slice_index}
+use Rattle.std.proofs.Common.{◌≡◌, ℕ, ◌+◌, ◌-◌, ◌^◌, ◌<◌, ◌≤◌, List, [], ◌∷◌, ◌++◌, length, map, get_or, Option, refl, sym, ap, ◌∙◌, subst, ⊎_elim, arith}
+use Rattle.std.specs.Prelude.{codes, decimal, min, true, false, All, Contains, slice_index}
 use Rattle.std.proofs.lemmas.Bool.{cases_lt}
 use Rattle.std.proofs.lemmas.List.Elements.{All-contains, All-map}
 use Rattle.std.proofs.lemmas.List.{length-map, length-take, get_or-map}
@@ -8,6 +8,7 @@ use Rattle.digraph.specs.Walks.{IsClosedWalk}
 use Rattle.est_base.specs.declared.indices.WireId.{WireId}
 use Rattle.est_kernel.specs.Plain.{Program, program_of, given_count, interface_of}
 use Rattle.est_kernel.specs.Sizes.{size_of}
+use Rattle.est_kernel.specs.StaticCodes.{NoInstantLoop}
 use Rattle.est_kernel.specs.WellFormed as programs
 use Rattle.est_kernel.proofs.ResidualLaws.{trees_are_kernels_lem}
 use Rattle.blif_text.specs.Written.{Means}
@@ -18,6 +19,7 @@ use Rattle.grc_copies.specs.declared.refusal.CopyFault.TheVariants as copy_fault
 use Rattle.grc_graph.specs.declared.graph.Graph.{Graph}
 use Rattle.grc_graph.specs.declared.orders.Order.{Order}
 use Rattle.grc_graph.specs.BuiltGraphs.{IsGraphOf}
+use Rattle.grc_graph.proofs.BuiltReads.{next_each}
 use Rattle.grc_graph.specs.GraphRuns.{program_spots, program_wires}
 use Rattle.grc_dep.specs.Cycles.{numbered, numbers_of}
 use Rattle.grc_graph.specs.Edges.{Edge}
@@ -45,6 +47,7 @@ use Rattle.cec_core.specs.declared.compiler.Compiled.{Compiled}
 use Rattle.cec_core.specs.declared.compiler.Graphed.{Graphed}
 use Rattle.cec_core.specs.Answers.{StandsForListing, StandsForCounts, counts_line}
 use Rattle.cec_core.specs.Compiling.{IsGraphed, IsCompiled, StandsForGraph, StandsForNet, StandsForText, StandsForC}
+use Rattle.cec_core.specs.Following.{FollowsGraph}
 use Rattle.cec_core.specs.Limits.{copying_refusal}
 use Rattle.cec_core.specs.Graphs.{HasNoGraph}
 use Rattle.cec_core.specs.Refusals.{Compiles}
@@ -84,17 +87,29 @@ copy_refused p copy_faults.NoMemory h = tt
 pub given-few : (p : Program) → programs.IsWellFormed p → given_count p ≤ length p.signals
 given-few p h = omega (arith, h.interface)
 
-pub net_stands : (text : List ℕ) (main : Option (List ℕ)) (g : Graphed) (order : Order) (net : Net) → StandsForGraph text main g
+-- a latch for the first instant, and one for each leaf
+latches_stand : (g : Graph) (p : Program) (net : Net) → IsGraphOf g p → HasInterfaceOf g (netlist_of net)
+    → map (λ l. l.init) net.latches.items ≡ true ∷ map (λ n. false) (body_leaves p.body)
+latches_stand g p net is interface = interface.latches ∙ ap (λ bits. true ∷ bits) (same_bits g.next.items (body_leaves p.body) (next_each g p is))
+  where
+    same_bits : {A B : Type 0} (xs : List A) (ys : List B) → length xs ≡ length ys → map (λ x. false) xs ≡ map (λ y. false) ys
+    same_bits [] [] e = refl
+    same_bits [] (y ∷ ys) e = absurd (omega (arith, e))
+    same_bits (x ∷ xs) [] e = absurd (omega (arith, e))
+    same_bits (x ∷ xs) (y ∷ ys) e = ap (λ bits. false ∷ bits) (same_bits xs ys (omega (arith, e)))
+
+-- a netlist and what a simplifier makes of it
+pub simplified_stands : (text : List ℕ) (main : Option (List ℕ)) (g : Graphed) (order : Order) (net new : Net) → StandsForGraph text main g
     → IsWireOrder g.edges.count g.edges.pairs.items order.list.items
-    → HasInterfaceOf g.graph (netlist_of net) → carried net.gates.items ≡ map (λ v. v.0) order.list.items
-    → length net.gates.items ≤ gates_at_most g.graph (rows_at_most g.graph) order.list.items
+    → carried net.gates.items ≡ map (λ v. v.0) order.list.items
     → (IsGraphOf g.graph (program_of g.graph.program) → length net.gates.items ≤ linear_bound (program_of g.graph.program))
-    → FollowsInstants g.graph (netlist_of net) → FollowsRuns g.graph (netlist_of net) → IsSimple (netlist_of net)
-    → StandsForNet text main (record { graph = g.graph; tree = g.tree; order = order; net = net })
-net_stands text main g order net s along interface carries size linear instants runs simple =
+    → SameParts (netlist_of net) (netlist_of new) → FollowsGraph (record { graph = g.graph; tree = g.tree; order = order; net = new })
+    → IsSimple (netlist_of new) → StandsForNet text main (record { graph = g.graph; tree = g.tree; order = order; net = new })
+simplified_stands text main g order net new s along carries linear parts follows simple =
     let p = s.program in
     let h = s.graphed in
     let compiles = graph_compiles g p h in
+    let few : length net.gates.items ≤ linear_bound p = subst (λ q. length net.gates.items ≤ linear_bound q) h.graph.program (linear (own_graph g p h).graph) in
     record {
       program = p;
       source = s.source;
@@ -107,37 +122,28 @@ net_stands text main g order net s along interface carries size linear instants 
         leaves = h.leaves;
         order = graph_order g p order.list.items h along;
         along = record { pairs = g.edges.pairs.items; edges = h.edges; order = subst (λ n. IsWireOrder n g.edges.pairs.items order.list.items) h.count along };
-        carried = carries;
-        size = size;
-        linear = subst (λ q. length net.gates.items ≤ linear_bound q) h.graph.program (linear (own_graph g p h).graph);
-        interface = interface;
-        instants = instants;
-        runs = runs;
-        keeps = net_keeps g.graph p (netlist_of net) h.formed (kernel_of g.graph p h.graph) h.no_loop h.graph compiles.acyclic interface runs;
+        carried = parts.carries ∙ carries;
+        linear = omega (arith, parts.fewer, few);
+        latches = latches_stand g.graph p new h.graph follows.interface;
+        keeps = net_keeps g.graph p (netlist_of new) h.formed (kernel_of g.graph p h.graph) h.no_loop h.graph compiles.acyclic follows.interface follows.runs;
         simple = simple;
       };
     }
 
--- a netlist and what a simplifier makes of it
-pub simplified_stands : (text : List ℕ) (main : Option (List ℕ)) (g : Graphed) (order : Order) (net new : Net) → StandsForGraph text main g
-    → IsWireOrder g.edges.count g.edges.pairs.items order.list.items
-    → HasInterfaceOf g.graph (netlist_of net) → carried net.gates.items ≡ map (λ v. v.0) order.list.items
-    → length net.gates.items ≤ gates_at_most g.graph (rows_at_most g.graph) order.list.items
-    → (IsGraphOf g.graph (program_of g.graph.program) → length net.gates.items ≤ linear_bound (program_of g.graph.program))
+-- it follows the graph as the other one does
+pub simplified_follows : (text : List ℕ) (main : Option (List ℕ)) (g : Graphed) (order : Order) (net new : Net) → StandsForGraph text main g
+    → HasInterfaceOf g.graph (netlist_of net) → length net.gates.items ≤ gates_at_most g.graph (rows_at_most g.graph) order.list.items
     → FollowsInstants g.graph (netlist_of net) → FollowsRuns g.graph (netlist_of net)
     → SameParts (netlist_of net) (netlist_of new) → SameInstants (netlist_of net) (netlist_of new) → SameRuns (netlist_of net) (netlist_of new)
-    → IsSimple (netlist_of new)
-    → StandsForNet text main (record { graph = g.graph; tree = g.tree; order = order; net = new })
-simplified_stands text main g order net new s along interface carries size linear instants runs parts same alike simple =
+    → FollowsGraph (record { graph = g.graph; tree = g.tree; order = order; net = new })
+simplified_follows text main g order net new s interface size instants runs parts same alike =
     let few = subst (λ q. given_count q ≤ length q.signals) (sym s.graphed.graph.program) (given-few s.program s.graphed.formed) in
-    net_stands text main g order new s along
-    (interface_stays g.graph (netlist_of net) (netlist_of new) parts interface)
-    (parts.carries ∙ carries)
-    (omega (arith, parts.fewer, size))
-    (λ own. let few_gates = linear own in omega (arith, parts.fewer, few_gates))
-    (instants_stay g.graph (netlist_of net) (netlist_of new) few interface parts same instants)
-    (runs_stay g.graph (netlist_of net) (netlist_of new) few interface parts.carries alike runs)
-    simple
+    record {
+      size = omega (arith, parts.fewer, size);
+      interface = interface_stays g.graph (netlist_of net) (netlist_of new) parts interface;
+      instants = instants_stay g.graph (netlist_of net) (netlist_of new) few interface parts same instants;
+      runs = runs_stay g.graph (netlist_of net) (netlist_of new) few interface parts.carries alike runs;
+    }
 
 -- each wire of a compiled program is carried
 pub wires_carried : (c : Compiled) (p : Program) → IsCompiled c p → (n : ℕ) → n < length (program_wires p) → Contains (carried c.net.gates.items) n
@@ -148,48 +154,48 @@ pub inputs_wide : (c : Compiled) (p : Program) → IsCompiled c p → given_coun
 inputs_wide c p h = sym (ap length h.keeps.inputs ∙ omega (arith, length-take (given_count p) p.signals, given-few p h.formed))
 
 -- the text of a compiled program names its wires
-net_wires : (c : Compiled) (p : Program) → IsCompiled c p → (written : List ℕ) → Means written (netlist_of c.net)
+net_wires : (c : Compiled) (p : Program) → IsCompiled c p → FollowsGraph c → (written : List ℕ) → Means written (netlist_of c.net)
     → TextNames (one_per_leaf p) written p
-net_wires c p h written means =
+net_wires c p h follows written means =
     let kernel = program_kernel p h.formed (kernel_of c.graph p h.graph) in
     record {
       circuit = means.circuit;
       reads = means.reads;
-      stored = latches_stored c.graph p (netlist_of c.net) h.graph (wires_carried c p h) h.interface written means;
-      wires = names_wires c.graph p (netlist_of c.net) h.graph (wires_carried c p h) kernel h.compiles.acyclic h.runs written means
+      stored = latches_stored c.graph p (netlist_of c.net) h.graph (wires_carried c p h) follows.interface written means;
+      wires = names_wires c.graph p (netlist_of c.net) h.graph (wires_carried c p h) kernel h.no_loop h.compiles.acyclic follows.runs written means
           h.keeps.inputs (inputs_wide c p h);
     }
 
-c_net_wires : (c : Compiled) (p : Program) → IsCompiled c p → (written : List ℕ) → c_meant.Means written (netlist_of c.net)
+c_net_wires : (c : Compiled) (p : Program) → IsCompiled c p → FollowsGraph c → (written : List ℕ) → c_meant.Means written (netlist_of c.net)
     → CTextNames (one_per_leaf p) written p
-c_net_wires c p h written means =
+c_net_wires c p h follows written means =
     let kernel = program_kernel p h.formed (kernel_of c.graph p h.graph) in
     record {
       program = means.program;
       describes = means.describes;
-      stored = states_stored c.graph p (netlist_of c.net) h.graph (wires_carried c p h) h.interface written means;
-      wires = holds_wires c.graph p (netlist_of c.net) h.graph (wires_carried c p h) kernel h.compiles.acyclic h.runs written means
+      stored = states_stored c.graph p (netlist_of c.net) h.graph (wires_carried c p h) follows.interface written means;
+      wires = holds_wires c.graph p (netlist_of c.net) h.graph (wires_carried c p h) kernel h.no_loop h.compiles.acyclic follows.runs written means
           (inputs_wide c p h);
     }
 
-pub text_stands : (text : List ℕ) (main : Option (List ℕ)) (c : Compiled) (written : List ℕ) → StandsForNet text main c → Means written (netlist_of c.net) →
-    StandsForText text main written
-text_stands text main c written s means = record {
+pub text_stands : (text : List ℕ) (main : Option (List ℕ)) (c : Compiled) (written : List ℕ) → StandsForNet text main c → FollowsGraph c →
+    Means written (netlist_of c.net) → StandsForText text main written
+text_stands text main c written s follows means = record {
   program = s.program;
   source = s.source;
   compiles = s.compiled.compiles;
   keeps = text_keeps written (netlist_of c.net) s.program (given-few s.program s.compiled.formed) s.compiled.keeps means;
-  names = net_wires c s.program s.compiled written means;
+  names = net_wires c s.program s.compiled follows written means;
 }
 
-pub c_text_stands : (text : List ℕ) (main : Option (List ℕ)) (c : Compiled) (written : List ℕ) → StandsForNet text main c →
+pub c_text_stands : (text : List ℕ) (main : Option (List ℕ)) (c : Compiled) (written : List ℕ) → StandsForNet text main c → FollowsGraph c →
     c_meant.Means written (netlist_of c.net) → StandsForC text main written
-c_text_stands text main c written s means = record {
+c_text_stands text main c written s follows means = record {
   program = s.program;
   source = s.source;
   compiles = s.compiled.compiles;
   keeps = c_text_keeps written (netlist_of c.net) s.program (given-few s.program s.compiled.formed) s.compiled.keeps means;
-  names = c_net_wires c s.program s.compiled written means;
+  names = c_net_wires c s.program s.compiled follows written means;
 }
 
 -- ---- listings and counts

@@ -6,10 +6,13 @@ pub mod TwoFiles
 pub mod NetTexts
 pub mod RunLines
 pub mod DrawnRuns
+pub mod AskedRequests
+pub mod WalkRuns
 pub mod WireWords
 pub mod Simplified
 pub mod Joined
 pub mod EncodedNets
+pub mod TextSizes
 pub mod Unrefused
 pub mod Accepting
 pub mod Stopping

@@ -15,11 +15,9 @@ use Rattle.cec_core.specs.declared.jobs.Task.TheVariants.{Text}
 use Rattle.cec_core.specs.declared.made.Made.{Made}
 use Rattle.cec_core.specs.Answers.{IsAnswer}
 use Rattle.cec_core.specs.Compiling.{IsBlifOf, IsCOf, IsCompiled, StandsForNet}
-use Rattle.cec_core.specs.EncodedTexts.{IsEncodedBlifOf}
 use Rattle.cec_core.specs.MadeNets.{IsNetIn, IsMade, IsWrittenOf}
 use Rattle.cec_core.specs.NetMeaning.{NetKeeps}
-use Rattle.cec_core.specs.NetTexts.{IsWritten}
-use Rattle.cec_core.specs.Sources.{IsSource, IsNetText}
+use Rattle.cec_core.specs.Sources.{IsSource}
 use Rattle.cec_core.proofs.EncodedNets.{encoded_stands}
 use Rattle.cec_core.proofs.Joined.{text_stands, c_text_stands}
 
@@ -33,20 +31,13 @@ own_c : (bytes : List ℕ) (main : Option (List ℕ)) (text : List ℕ) → (c :
     → text ≡ c_texts.written net → IsCOf bytes main text
 own_c bytes main text c s net own w = record { made = c; compiled = s; text = w ∙ ap c_texts.written own }
 
-pub net_text : (form : TextForm) (bytes : List ℕ) (main : Option (List ℕ)) (made : Made) (text : List ℕ) → IsMade form bytes main made
-    → IsWritten form text (netlist_of made.net) → IsNetText form bytes main text
-net_text forms.Blif bytes main made text m w = own_blif bytes main text m.compiled m.source (netlist_of made.net) m.net w.spelled
-net_text forms.EncodedBlif bytes main made text m w =
-    record { made = m.compiled; compiled = m.source; net = netlist_of made.net; encoded = m.net; text = w.spelled }
-net_text forms.C bytes main made text m w = own_c bytes main text m.compiled m.source (netlist_of made.net) m.net w.spelled
-
 -- ---- the text that is written is what is asked for
 
 pub blif_answers : (bytes : List ℕ) (main : Option (List ℕ)) (text : List ℕ) → IsWrittenOf forms.Blif circuits.IsWritten bytes main text
     → IsAnswer (Text forms.Blif) main bytes text
 blif_answers bytes main text w =
     let m = w.is_made in (
-      text_stands bytes main m.compiled text m.source (subst (blif_texts.Means text) m.net w.written.means),
+      text_stands bytes main m.compiled text m.source m.follows (subst (blif_texts.Means text) m.net w.written.means),
       own_blif bytes main text m.compiled m.source (netlist_of w.made.net) m.net w.written.spelled,
     )
 
@@ -54,7 +45,7 @@ pub encoded_answers : (bytes : List ℕ) (main : Option (List ℕ)) (text : List
     → IsAnswer (Text forms.EncodedBlif) main bytes text
 encoded_answers bytes main text w =
     let m = w.is_made in (
-      encoded_stands bytes main m.compiled (netlist_of w.made.net) text m.source m.net w.written.means,
+      encoded_stands bytes main m.compiled (netlist_of w.made.net) text m.source m.follows m.net w.written.means,
       record { made = m.compiled; compiled = m.source; net = netlist_of w.made.net; encoded = m.net; text = w.written.spelled },
     )
 
@@ -62,7 +53,7 @@ pub c_answers : (bytes : List ℕ) (main : Option (List ℕ)) (text : List ℕ) 
     → IsAnswer (Text forms.C) main bytes text
 c_answers bytes main text w =
     let m = w.is_made in (
-      c_text_stands bytes main m.compiled text m.source (subst (c_texts.Means text) m.net w.written.means),
+      c_text_stands bytes main m.compiled text m.source m.follows (subst (c_texts.Means text) m.net w.written.means),
       own_c bytes main text m.compiled m.source (netlist_of w.made.net) m.net w.written.spelled,
     )
 

@@ -23,6 +23,7 @@ use Rattle.grc_graph.specs.declared.graph.Graph.{Graph}
 use Rattle.grc_graph.specs.BuiltGraphs.{IsGraphOf}
 use Rattle.grc_graph.proofs.BuiltReads.{next_each}
 use Rattle.grc_graph.specs.GraphRuns.{IsGraphRun, program_wires}
+use Rattle.est_kernel.specs.StaticCodes.{NoInstantLoop}
 use Rattle.grc_graph.specs.PlainGraphs.{names_of, plain_graph}
 use Rattle.grc_graph.specs.PlainGraphs as graphs
 use Rattle.grc_graph.specs.Readings.{Valuation}
@@ -38,6 +39,7 @@ use Rattle.net_ir.specs.Netlists.{Netlist, first_gate, net_count, wire_at}
 use Rattle.cec_core.specs.Cycles.{IsAcyclic}
 use Rattle.cec_core.specs.WireNames.{wire_word, wire_variable, TellsWires, WiresTold, NamesWires, one_per_leaf}
 use Rattle.cec_core.proofs.Keeping.{widths}
+use Rattle.cec_core.proofs.WalkRuns.{run_walks}
 
 -- ---- the gate of a wire
 
@@ -170,9 +172,9 @@ module _ (g : Graph) (p : Program) (net : Netlist) (is : IsGraphOf g p)
   pub latches_stored : HasInterfaceOf g net → (text : List ℕ) → (means : Means text net) → length means.circuit.latches ≡ one_per_leaf p
   latches_stored interface text means = ap length means.latches ∙ length-numbered (net_latch net) 0 net.latches ∙ latch_count interface
 
-  pub holds_wires : HasExitCodes p.body → IsAcyclic p → FollowsRuns g net → (text : List ℕ) → (means : meant.Means text net) →
+  pub holds_wires : HasExitCodes p.body → NoInstantLoop p.body → IsAcyclic p → FollowsRuns g net → (text : List ℕ) → (means : meant.Means text net) →
       given_count p ≡ length net.inputs → NamesWires (program_machine means.program) wire_variable p
-  holds_wires kernel acyclic follows text means wide = record {
+  holds_wires kernel no_loop acyclic follows text means wide = record {
     wires = λ items fits ms called.
         let c = means.program in
         let events = widths p (given_count p) refl items fits in
@@ -184,15 +186,16 @@ module _ (g : Graph) (p : Program) (net : Netlist) (is : IsGraphOf g p)
         let are = computed-only (first_memory c.states) (λ m inputs. call c inputs m) (λ m inputs behind. behind) (first_memory c.states) items ms called in
         subst (λ l. WiresTold wire_variable p items l) (sym are) (record {
           run = one.0.0;
-          is_run = run;
+          is_run = run_walks p kernel no_loop items Initial one.0.0 tt tt events run;
           told = told-calls (memories means.program items) (net_values_run net items) one.0.0
               (means.nets items (widths p (length net.inputs) wide items fits)) followed.carries;
         });
   }
 
-  pub names_wires : HasExitCodes p.body → IsAcyclic p → FollowsRuns g net → (text : List ℕ) → (means : Means text net) → net.inputs ≡ given_names p
+  pub names_wires : HasExitCodes p.body → NoInstantLoop p.body → IsAcyclic p → FollowsRuns g net → (text : List ℕ) → (means : Means text net) →
+      net.inputs ≡ given_names p
       → given_count p ≡ length net.inputs → NamesWires (circuit_machine means.circuit) wire_word p
-  names_wires kernel acyclic follows text means inputs wide = record {
+  names_wires kernel no_loop acyclic follows text means inputs wide = record {
     wires = λ items fits valuations is_run.
         let events = widths p (given_count p) refl items fits in
         let one = graph_runs_exist_lem p acyclic.rank kernel acyclic.up Initial items in
@@ -202,7 +205,7 @@ module _ (g : Graph) (p : Program) (net : Netlist) (is : IsGraphOf g p)
         (subst (λ h. IsGraphRun h Initial items one.0.0) (sym is.graph) run) in
         record {
           run = one.0.0;
-          is_run = run;
+          is_run = run_walks p kernel no_loop items Initial one.0.0 tt tt events run;
           told = told-all valuations one.0.0 (subst (λ values. EachInstant (Carries g net) values one.0.0)
               (sym (means.nets items valuations is_run)) followed.carries);
         };

@@ -1,5 +1,5 @@
 -- To believe: what the passes make of a source: each field says what its pass keeps.
-use Rattle.std.specs.Prelude.{◌≡◌, ◌≤◌, ℕ, List, length, map, Option}
+use Rattle.std.specs.Prelude.{◌≡◌, ◌≤◌, ℕ, true, false, List, ◌∷◌, length, map, Option}
 use Rattle.est_base.specs.declared.bounds.TheConstants.Limits.{INSTANCES}
 use Rattle.est_kernel.specs.Plain.{Program}
 use Rattle.est_kernel.specs.StaticCodes.{NoInstantLoop}
@@ -13,9 +13,7 @@ use Rattle.grc_graph.specs.Reads.{IsReadingOrder}
 use Rattle.grc_graph.specs.SelectionTrees.{body_leaves, body_tree}
 use Rattle.grc_graph.specs.TreeForms.{node_of}
 use Rattle.grc_graph.specs.WireOrders.{WireEdge, AreRanks, IsWireOrder}
-use Rattle.net_gen.specs.Costs.{gates_at_most, linear_bound}
-use Rattle.grc_words.specs.Sizes.{rows_at_most}
-use Rattle.net_gen.specs.Generated.{HasInterfaceOf, FollowsInstants, FollowsRuns}
+use Rattle.net_gen.specs.Costs.{linear_bound}
 use Rattle.net_ir.specs.Gates.{carried}
 use Rattle.net_ir.specs.Runs.{netlist_of}
 use Rattle.net_simp.specs.SimpleNets.{IsSimple}
@@ -49,7 +47,8 @@ pub record FollowsEdges (c : Compiled) (p : Program) : Type 0 where
   pub order : IsWireOrder (length c.graph.wires.items) pairs c.order.list.items
 
 -- The same graph, an evaluation order along its edges, and its netlist: the netlist has at most so many gates, one of
--- them for each wire, in that order, keeps what the program means, and has nothing left to simplify.
+-- them for each wire, in that order. Its first latch tells the first instant; the others, one for each leaf of the
+-- selection tree, are false at first. It keeps what the program means, and has nothing left to simplify.
 pub record IsCompiled (c : Compiled) (p : Program) : Type 0 where
   pub formed : IsWellFormed p
   pub no_loop : NoInstantLoop p.body
@@ -61,11 +60,8 @@ pub record IsCompiled (c : Compiled) (p : Program) : Type 0 where
       (map (formula_of (instances_of c.graph) (names_of c.graph)) c.graph.equations.items) c.order.list.items
   pub along : FollowsEdges c p
   pub carried : carried c.net.gates.items ≡ map (λ v. v.0) c.order.list.items
-  pub size : length c.net.gates.items ≤ gates_at_most c.graph (rows_at_most c.graph) c.order.list.items
   pub linear : length c.net.gates.items ≤ linear_bound p
-  pub interface : HasInterfaceOf c.graph (netlist_of c.net)
-  pub instants : FollowsInstants c.graph (netlist_of c.net)
-  pub runs : FollowsRuns c.graph (netlist_of c.net)
+  pub latches : map (λ l. l.init) c.net.latches.items ≡ true ∷ map (λ n. false) (body_leaves p.body)
   pub keeps : NetKeeps (netlist_of c.net) p
   pub simple : IsSimple (netlist_of c.net)
 

@@ -8,6 +8,7 @@ pub mod Cycles
 pub mod Refusals
 pub mod Graphs
 pub mod Compiling
+pub mod Following
 pub mod EncodedTexts
 pub mod MadeNets
 pub mod Statuses

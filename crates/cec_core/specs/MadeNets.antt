@@ -5,6 +5,7 @@ use Rattle.net_ir.specs.Netlists.{Netlist}
 use Rattle.net_ir.specs.Runs.{netlist_of}
 use Rattle.cec_core.specs.Compiling.{StandsForNet}
 use Rattle.cec_core.specs.EncodedTexts.{IsEncoded}
+use Rattle.cec_core.specs.Following.{FollowsGraph}
 use Rattle.cec_core.specs.declared.compiler.Compiled.{Compiled}
 use Rattle.cec_core.specs.declared.jobs.TextForm.{TextForm}
 use Rattle.cec_core.specs.declared.jobs.TextForm.TheVariants.{EncodedBlif}
@@ -19,6 +20,7 @@ IsNetIn others c p net = net ≡ netlist_of c.net
 pub record IsMade (form : TextForm) (bytes : List ℕ) (main : Option (List ℕ)) (made : Made) : Type 0 where
   pub compiled : Compiled
   pub source : StandsForNet bytes main compiled
+  pub follows : FollowsGraph compiled
   pub program : program_of made.program ≡ source.program
   pub net : IsNetIn form compiled source.program (netlist_of made.net)
 

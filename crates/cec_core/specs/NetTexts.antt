@@ -1,5 +1,8 @@
--- Inner: the text of each form that is written of a net, and that it means the net.
-use Rattle.std.specs.Prelude.{ℕ, List}
+-- Inner: the text of each form that is written of a net, that it means the net, and that it can be read.
+use Rattle.std.specs.Prelude.{ℕ, ◌≤◌, List, length}
+use Rattle.est_base.specs.declared.bounds.TheConstants.Limits.{TEXT_BYTES}
+use Rattle.blif_text.specs.Written as blif_texts
+use Rattle.csub_text.specs.Written as c_texts
 use Rattle.net_ir.specs.Netlists.{Netlist}
 use Rattle.blif_run.specs.Texts as circuits
 use Rattle.csub_run.specs.Texts as programs
@@ -10,3 +13,8 @@ abbrev pub IsWritten : TextForm → List ℕ → Netlist → Type 0
 IsWritten Blif text net = circuits.IsWritten text net
 IsWritten EncodedBlif text net = circuits.IsWritten text net
 IsWritten C text net = programs.IsWritten text net
+
+-- both texts of a net are short enough to be read
+pub record TextsFit (net : Netlist) : Type 0 where
+  pub circuit : length (blif_texts.written net) ≤ TEXT_BYTES
+  pub program : length (c_texts.written net) ≤ TEXT_BYTES

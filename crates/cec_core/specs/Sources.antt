@@ -1,12 +1,11 @@
--- To believe: sources that compile, that are refused, or whose texts are too long.
-use Rattle.std.specs.Prelude.{ℕ, ◌<◌, ◌≤◌, List, length, Option}
+-- To believe: sources that compile, that are refused, or whose encoded texts are too long.
+use Rattle.std.specs.Prelude.{ℕ, ◌<◌, ◌≤◌, List, length, Option, ⊥}
 use Rattle.est_base.specs.declared.bounds.TheConstants.Limits.{SOURCE_BYTES, TEXT_BYTES}
 use Rattle.est_kernel.specs.Plain.{Program}
 use Rattle.cec_front.specs.Sources.{StandsFor}
 use Rattle.cec_core.specs.declared.jobs.TextForm.{TextForm}
 use Rattle.cec_core.specs.declared.jobs.TextForm.TheVariants as forms
 use Rattle.cec_core.specs.declared.refusal.Refusal as refused
-use Rattle.cec_core.specs.Compiling.{IsBlifOf, IsCOf}
 use Rattle.cec_core.specs.EncodedTexts.{IsEncodedBlifOf}
 use Rattle.cec_core.specs.Refusals.{Compiles, IsRefused}
 
@@ -22,15 +21,14 @@ pub record IsRefusedSource (main : Option (List ℕ)) (refusal : refused.Refusal
   pub short : length bytes ≤ SOURCE_BYTES
   pub refused : IsRefused bytes main refusal
 
--- the text of this form that is written of a source
-abbrev pub IsNetText : TextForm → List ℕ → Option (List ℕ) → List ℕ → Type 0
-IsNetText forms.Blif bytes main text = IsBlifOf bytes main text
-IsNetText forms.EncodedBlif bytes main text = IsEncodedBlifOf bytes main text
-IsNetText forms.C bytes main text = IsCOf bytes main text
-
--- such a text is too long to be read
-pub record WritesLongText (via : TextForm) (main : Option (List ℕ)) (bytes : List ℕ) : Type 0 where
+-- A text whose latches hold the state in a code is written of the source, and is too long to be read.
+pub record HasLongText (main : Option (List ℕ)) (bytes : List ℕ) : Type 0 where
   pub short : length bytes ≤ SOURCE_BYTES
   pub text : List ℕ
-  pub written : IsNetText via bytes main text
+  pub written : IsEncodedBlifOf bytes main text
   pub long : TEXT_BYTES < length text
+
+-- no text of another form is too long
+abbrev pub WritesLongText : TextForm → Option (List ℕ) → List ℕ → Type 0
+WritesLongText forms.EncodedBlif main bytes = HasLongText main bytes
+WritesLongText others main bytes = ⊥

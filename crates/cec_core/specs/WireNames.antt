@@ -3,11 +3,12 @@ use Rattle.std.specs.Prelude.{◌≡◌, ℕ, Bool, List, ◌++◌, length, Ok, 
 use Rattle.std.specs.List.{AllZip}
 use Rattle.est_base.specs.Items.{Item}
 use Rattle.est_kernel.specs.Plain.{Program}
-use Rattle.grc_graph.specs.GraphRuns.{IsGraphRun, graph_of, program_wires}
+use Rattle.grc_graph.specs.GraphRuns.{program_wires}
 use Rattle.grc_graph.specs.PlainGraphs.{wire_at}
 use Rattle.grc_graph.specs.Readings.{Valuation}
 use Rattle.grc_graph.specs.SelectionTrees.{body_leaves}
-use Rattle.grc_graph.specs.Walk.{Initial}
+use Rattle.grc_graph.specs.Walk.{State, Initial, Selecting}
+use Rattle.grc_sem.specs.GraphWalks.{IsWalkOf, graph_walk}
 use Rattle.machines.specs.Machines.{Machine, IsRun}
 use Rattle.blif_text.specs.Circuits.{Circuit, reading}
 use Rattle.blif_text.specs.Runs.{circuit_machine}
@@ -27,12 +28,21 @@ wire_variable n = codes "w" ++ decimal n
 abbrev pub TellsWires : (ℕ → List ℕ) → Program → (List ℕ → Bool) → Valuation → Type 0
 TellsWires name p v V = (n : ℕ) → n < length (program_wires p) → v (name n) ≡ V (wire_at (program_wires p) n)
 
--- The graph of the program has a run over the items, from instant to instant a solution of its equations (that it is
--- the walk of the state that is reached says `solutions_are_walks`); and in each instant the names tell its wires.
+-- The walk of a program from instant to instant, as a machine: in an instant the wires of the program's graph have the
+-- values of the walk of the state under coherent statuses, and the pauses that this walk keeps are the next state.
+abbrev pub walk_machine : Program → Machine Valuation
+walk_machine p = record {
+  State = State;
+  start = Initial;
+  instant = IsWalkOf p;
+  next = λ q event V. Selecting (graph_walk p q event V).kept;
+}
+
+-- The program is walked over the items, from instant to instant, and in each the names tell the wires.
 pub record WiresTold (name : ℕ → List ℕ) (p : Program) (items : List Item) (valuations : List (List ℕ → Bool)) :
     Type 0 where
   pub run : List Valuation
-  pub is_run : IsGraphRun (graph_of p) Initial items run
+  pub is_run : IsRun (walk_machine p) items run
   pub told : AllZip (TellsWires name p) valuations run
 
 -- Along each run of a machine the names tell the wires of the program's graph.

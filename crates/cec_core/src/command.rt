@@ -4,7 +4,7 @@ ghost use Rattle.std.specs.Prelude.{◌≡◌, ◌↔◌, map, Some, None};
 ghost use Rattle.std.specs.String.{string_bytes};
 ghost use Rattle.est_base.specs.SinkChanges.{change};
 ghost use Rattle.cec_core.specs.Jobs.{request_by};
-ghost use Rattle.cec_core.specs.JobViews.{plain_request};
+ghost use Rattle.cec_core.specs.JobViews.{CanBeGenerated, plain_request};
 ghost use Rattle.cec_core.specs.Lines.{GainsErr};
 ghost use Rattle.cec_core.specs.Outcomes.{Agrees, CountsFiles, GainsOut};
 
@@ -77,6 +77,7 @@ fn do_request<F: Files, O: Sink, E: Sink>(
     out: &mut O,
     err: &mut E,
 ) -> Outcome
+    requires generated { CanBeGenerated (plain_request request) }
     ensures agrees { Agrees (Some (plain_request request.entry)) (F.content files.old) result }
     ensures files_counted { CountsFiles (Some (plain_request request.entry)) result
         (F.faults files.old) (F.faults files.new) (F.last_failed files.old) (F.last_failed files.new) }

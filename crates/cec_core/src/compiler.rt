@@ -8,6 +8,7 @@ ghost use Rattle.est_kernel.specs.WellFormed.{IsWellFormed, HasNames};
 ghost use Rattle.cec_core.specs.Compiling.{IsGraphed, IsCompiled, StandsForGraph, StandsForNet, StandsForText};
 ghost use Rattle.cec_core.specs.Compiling.{StandsForC, IsBlifOf, IsCOf};
 ghost use Rattle.cec_core.specs.EncodedTexts.{StandsForEncoded, IsEncodedBlifOf};
+ghost use Rattle.cec_core.specs.Following.{FollowsGraph};
 ghost use Rattle.cec_core.specs.Refusals.{DoesNotCompile, IsRefused};
 
 use crate::cycles::cycle_of;
@@ -120,7 +121,8 @@ pub fn c_of<P: Picker>(
     }
 }
 
-/// A source compiled: its graph, an evaluation order, and its simplified netlist. The errors are those of `blif_of`.
+/// A source compiled: its graph, an evaluation order, and its simplified netlist, which has the graph's values in each
+/// state. The errors are those of `blif_of`.
 pub fn compile<P: Picker>(
     alloc: Global,
     text: &[u8],
@@ -129,6 +131,7 @@ pub fn compile<P: Picker>(
 ) -> Result<Compiled, Refusal>
     requires { length text.now ≤ Limits.SOURCE_BYTES }
     ensures compiles { IfOk result (StandsForNet text.now (option_map (λ m. m.now) main.entry)) }
+    ensures follows { IfOk result FollowsGraph }
     ensures refuses { IfErr result (IsRefused text.now (option_map (λ m. m.now) main.entry)) }
 {
     let Graphed {

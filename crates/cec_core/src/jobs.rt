@@ -1,9 +1,9 @@
 // What the words of a command line ask for.
 
-ghost use Rattle.std.specs.Prelude.{◌≡◌, drop, map, option_map, []};
+ghost use Rattle.std.specs.Prelude.{◌≡◌, drop, map, option_map, [], IfSome};
 ghost use Rattle.std.specs.String.{string_bytes};
 ghost use Rattle.cec_core.specs.Jobs.{form_by, source_job, request_asked, request_by, value_in, word_at};
-ghost use Rattle.cec_core.specs.JobViews.{plain_job, plain_request};
+ghost use Rattle.cec_core.specs.JobViews.{CanBeGenerated, plain_job, plain_request};
 
 use cec_words::{Asked, Pick, Source, Value, Via, read_words};
 
@@ -58,7 +58,8 @@ pub(crate) enum Request<'a> {
 
 /// What the words ask for; `None` where they have no meaning.
 pub(crate) fn request_by(words: &[String]) -> Option<Request<'_>>
-    ensures { option_map plain_request result ≡ request_by (map string_bytes words.now) }
+    ensures asked { option_map plain_request result ≡ request_by (map string_bytes words.now) }
+    ensures generated { IfSome result (λ request. CanBeGenerated (plain_request request)) }
 {
     match read_words(words) {
         Some(asked) => Some(request_asked(words, asked)),

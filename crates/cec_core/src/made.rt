@@ -7,6 +7,7 @@ ghost use Rattle.net_ir.specs.Runs.{netlist_of, initial_latches};
 ghost use Rattle.net_simp.specs.SimpleNets.{IsSimple};
 ghost use Rattle.state_enc.specs.Encodings.{IsTreeOf, Encodes};
 ghost use Rattle.cec_core.specs.Compiling.{IsCompiled};
+ghost use Rattle.cec_core.specs.Following.{FollowsGraph};
 ghost use Rattle.cec_core.specs.MadeNets.{IsMade, IsNetIn};
 ghost use Rattle.cec_core.specs.Refusals.{IsRefused};
 
@@ -70,7 +71,8 @@ pub(crate) fn made_picked(
 
 /// What a text of a form is written of, of a compiled program.
 pub(crate) fn made_in(alloc: Global, form: TextForm, compiled: Compiled) -> Result<Made, NoMemory>
-    requires { (p : Program) × IsCompiled compiled p }
+    requires stands { (p : Program) × IsCompiled compiled p }
+    requires follows { FollowsGraph compiled }
     ensures program { IfOk result (λ made. made.program ≡ compiled.graph.program) }
     ensures net { IfOk result (λ made. (p : Program) → IsCompiled compiled p
         → IsNetIn form compiled p (netlist_of made.net)) }

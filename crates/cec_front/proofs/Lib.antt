@@ -3,6 +3,8 @@ pub mod TokenCounts
 pub mod FlatFaults
 pub mod MainModules
 pub mod Named
+pub mod SourceWeights
+pub mod SourceNames
 pub mod FormedPrograms
 pub mod OneProgram
 pub mod Unrefused

@@ -1,4 +1,4 @@
--- To believe: laws of what sources stand for.
+-- Contract: laws of what sources stand for.
 use Rattle.std.specs.Prelude.{◌≡◌, ℕ, List, Option}
 use Rattle.est_kernel.specs.Plain.{Program}
 use Rattle.est_kernel.specs.WellFormed.{IsWellFormed, HasNames}

@@ -1,7 +1,7 @@
 // What is written of each block.
 
-use crate::blocks::{Block, block_of};
-use crate::calls::{Ended, command_ended, sink};
+use crate::blocks::{Block, Change, block_of, change_of, changed};
+use crate::calls::{Ended, command_ended, is_done_steadily, is_text_of, sink};
 use est_base::{ListSink, NoMemory, Sink, SinkFault, write_pieces};
 use std::alloc::{AllocError, Global};
 
@@ -37,8 +37,54 @@ pub(crate) fn answer_all<O: Sink>(alloc: Global, text: &str, out: &mut O) -> Res
     for part in text.split("\n~\n") {
         if let Some(block) = block_of(part) {
             number = number.saturating_add(1);
-            written = answer(alloc, number, block, written.bytes(), out)?;
+            match change_of(block.settings) {
+                Some(change) => answer_each(alloc, number, block, change, out)?,
+                None => written = answer(alloc, number, block, written.bytes(), out)?,
+            }
         }
+    }
+    Ok(())
+}
+
+// Answers a block at each place of its file: a line with the place, the status, and the line of the outcome.
+fn answer_each<O: Sink>(
+    alloc: Global,
+    number: u64,
+    block: Block<'_>,
+    change: Change,
+    out: &mut O,
+) -> Result<(), Stop> {
+    let head = format!(in alloc; "{number} ${}\n", block.words)?;
+    write_pieces(out, &[head.as_bytes()])?;
+    for place in 0..block.source.len() {
+        let text = changed(alloc, block.source, place, change)?;
+        answer_at(alloc, place, block, &text, out)?;
+    }
+    Ok(())
+}
+
+// Answers a block with this file in place of its own.
+fn answer_at<O: Sink>(
+    alloc: Global,
+    place: usize,
+    block: Block<'_>,
+    text: &[u8],
+    out: &mut O,
+) -> Result<(), Stop> {
+    let ended = command_ended(
+        alloc,
+        Block {
+            source: text,
+            ..block
+        },
+        b"",
+    )?;
+    let head = format!(in alloc; "{place} {}", ended.status)?;
+    let line = ended.err.bytes();
+    if line.is_empty() {
+        write_pieces(out, &[head.as_bytes(), b"\n"])?;
+    } else {
+        write_pieces(out, &[head.as_bytes(), b" ", line])?;
     }
     Ok(())
 }
@@ -52,11 +98,33 @@ fn answer<O: Sink>(
     out: &mut O,
 ) -> Result<ListSink, Stop> {
     let ended = command_ended(alloc, block, before)?;
-    let told = told_beginning(alloc, block, before, &ended.out)?;
+    let told = told_besides(alloc, block, before, &ended)?;
     let head = head(alloc, number, block, told, &ended)?;
     let shown = shown_out(block, &ended.out);
     write_pieces(out, &[head.as_bytes(), shown, ended.err.bytes()])?;
     Ok(ended.out)
+}
+
+// What is said of a command besides: nothing of one that is done, unless the other calls of the compiler do otherwise.
+fn told_besides(
+    alloc: Global,
+    block: Block<'_>,
+    before: &[u8],
+    ended: &Ended,
+) -> Result<&'static str, NoMemory> {
+    let out = ended.out.bytes();
+    if ended.status != 0 || block.settings.contains("out fails at") {
+        return told_beginning(alloc, block, before, &ended.out);
+    }
+    if !is_done_steadily(alloc, block, before, out)? {
+        return Ok(", not steadily");
+    }
+    if (block.words == " blif m" || block.words == " c m")
+        && !is_text_of(alloc, block.words.trim(), block.source, out)
+    {
+        return Ok(", not by one call");
+    }
+    Ok("")
 }
 
 // Where `out` is to fail, whether what it has is a beginning of what it has otherwise.

@@ -1,8 +1,11 @@
 // A command over files and sinks in memory.
 
+ghost use Rattle.std.specs.Prelude.{◌≤◌, length};
+
 use crate::blocks::{Block, numbers_behind};
-use cec_core::cec;
-use est_base::{FileEntry, ListSink, MapFiles, NoMemory, Text};
+use cec_core::{Refusal, blif_of, c_of, cec, cec_steadily};
+use est_base::{FileEntry, Limits, ListSink, MapFiles, NoMemory, SteadyFiles, SteadySink, Text};
+use grc_order::First;
 use std::alloc::Global;
 
 // The room of the sinks for what a command writes, and for the line of its outcome.
@@ -30,6 +33,43 @@ pub(crate) fn command_ended(
     let outcome = cec(alloc, &words, &mut files, &mut ended.out, &mut ended.err);
     ended.status = outcome.number();
     Ok(ended)
+}
+
+/// Whether `cec_steadily` is done with a block's command and writes these bytes.
+pub(crate) fn is_done_steadily(
+    alloc: Global,
+    block: Block<'_>,
+    before: &[u8],
+    written: &[u8],
+) -> Result<bool, NoMemory> {
+    let words = words_of(alloc, block.words)?;
+    let mut files = SteadyFiles::new(entries_of(alloc, block, before)?);
+    let mut out = SteadySink::new(alloc, OUT_ROOM)?;
+    let mut err = sink(alloc, ERR_ROOM, "", "none")?;
+    let outcome = cec_steadily(alloc, &words, &mut files, &mut out, &mut err);
+    Ok(outcome.number() == 0 && out.bytes() == written && err.bytes().is_empty())
+}
+
+/// Whether a source has this text, in the form that the words ask for, by the call that gives the text as a whole.
+pub(crate) fn is_text_of(alloc: Global, words: &str, source: &[u8], written: &[u8]) -> bool {
+    if source.len() as u64 > Limits::SOURCE_BYTES {
+        return false;
+    }
+    match text_of(alloc, words, source) {
+        Ok(text) => text.as_slice() == written,
+        Err(_) => false,
+    }
+}
+
+// The text of a source in the form that the words ask for.
+fn text_of(alloc: Global, words: &str, source: &[u8]) -> Result<Vec<u8>, Refusal>
+    requires { length source.now ≤ Limits.SOURCE_BYTES }
+{
+    if words.starts_with("blif") {
+        blif_of(alloc, source, None, &mut First)
+    } else {
+        c_of(alloc, source, None, &mut First)
+    }
 }
 
 // Before a command: sinks that have nothing.
@@ -62,14 +102,18 @@ fn words_of(alloc: Global, line: &str) -> Result<Vec<String>, NoMemory> {
 }
 
 fn files_of(alloc: Global, block: Block<'_>, before: &[u8]) -> Result<MapFiles, NoMemory> {
+    let failing = numbers_behind(alloc, block.settings, "files fail at")?;
+    Ok(MapFiles::new(entries_of(alloc, block, before)?, failing))
+}
+
+fn entries_of(alloc: Global, block: Block<'_>, before: &[u8]) -> Result<Vec<FileEntry>, NoMemory> {
     let mut entries = Vec::new(alloc);
-    push_file(alloc, &mut entries, "m", block.source.as_bytes())?;
+    push_file(alloc, &mut entries, "m", block.source)?;
     push_file(alloc, &mut entries, "o", before)?;
     if let Some(trace) = block.trace {
         push_file(alloc, &mut entries, "t", trace.as_bytes())?;
     }
-    let failing = numbers_behind(alloc, block.settings, "files fail at")?;
-    Ok(MapFiles::new(entries, failing))
+    Ok(entries)
 }
 
 fn push_file(

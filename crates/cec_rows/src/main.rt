@@ -19,9 +19,14 @@
 //! ends in a line feed has an empty last line here. Without a line `--` there is no file `t`. The file `o` has what the
 //! block before wrote to `out`.
 //!
-//! The answer to a block is its number and words, a line with the status and the numbers of bytes, and the bytes of
-//! `out` and `err`. Where `out` is to fail, the command runs once more without that, and the answer says whether `out`
-//! is a beginning of what it has then.
+//! With `each beginning`, `each byte left out` or `each byte is C` the command runs once for each place of the file
+//! `m`: on what stands before the place, on the file without the byte there, and on the file with the byte C there. The
+//! answer is the number and words, and for each place a line with the place, the status, and the line in `err`.
+//!
+//! The answer to a block is else its number and words, a line with the status and the numbers of bytes, and the bytes
+//! of `out` and `err`. Where `out` is to fail, the command runs once more without that, and the answer says whether
+//! `out` is a beginning of what it has then. Where it is done, it runs once more by `cec_steadily`, and a text of `blif
+//! m` or `c m` is made once more by `blif_of` or `c_of`: the answer says where those write anything else.
 #![tactic(auto)]
 
 mod answers;

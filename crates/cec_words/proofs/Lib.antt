@@ -2,3 +2,4 @@ mod DecimalValues
 mod Gathering
 mod WorkedWords
 mod WorkedOptions
+pub mod GeneratedBranches

@@ -1,4 +1,4 @@
--- To believe: a text that describes a program is read as this program and no other. It is refused for its length, or
+-- Contract: a text that describes a program is read as this program and no other. It is refused for its length, or
 -- for want of memory, alone.
 use Rattle.std.specs.Prelude.{◌≡◌, ℕ, ◌<◌, ⊤, List, length}
 use Rattle.est_base.specs.declared.bounds.TheConstants.Limits.{TEXT_BYTES}

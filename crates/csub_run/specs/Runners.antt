@@ -1,4 +1,4 @@
--- To believe: what the machine of a program is from call to call.
+-- Contract: what the machine of a program is from call to call.
 use Rattle.std.specs.Prelude.{◌≡◌, ℕ, Bool, List, map, None}
 use Rattle.csub_text.specs.declared.trees.CProgram.{CProgram}
 use Rattle.csub_text.specs.Trees.{Program}

@@ -1,4 +1,4 @@
--- To believe: what a machine shows from its present state on: what its program's machine does from this memory on.
+-- Contract: what a machine shows from its present state on: what its program's machine does from this memory on.
 use Rattle.std.specs.Prelude.{List}
 use Rattle.est_base.specs.Items.{Item}
 use Rattle.machines.specs.Machines.{Shows}

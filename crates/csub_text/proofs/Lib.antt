@@ -10,3 +10,4 @@ pub mod NetRules
 pub mod NetSets
 pub mod NetCalls
 pub mod NetMeans
+pub mod TextLengths

@@ -1,4 +1,4 @@
--- To believe: the plain form of a program.
+-- Contract: the plain form of a program.
 use Rattle.std.specs.Prelude.{map}
 use Rattle.csub_text.specs.declared.trees.State.{State as CodeState}
 use Rattle.csub_text.specs.declared.trees.Assign.{Assign as CodeAssign}

@@ -1,4 +1,4 @@
--- To believe: what the one call answers.
+-- Contract: what the one call answers.
 use Rattle.std.specs.Prelude.{ℕ, Bool, true, false, List}
 use Rattle.digraph.specs.declared.ranking.RanksOrCycle.{RanksOrCycle}
 use Rattle.digraph.specs.declared.ranking.RanksOrCycle.TheVariants.{Ranks, Cycle}

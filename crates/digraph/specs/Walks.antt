@@ -1,4 +1,4 @@
--- To believe: walks in a directed graph, and ranks of its nodes. A graph is the list of its edges, each a pair of nodes
+-- Contract: walks in a directed graph, and ranks of its nodes. A graph is the list of its edges, each a pair of nodes
 -- (from, to), and a node is a number.
 use Rattle.std.specs.Prelude.{◌≡◌, ℕ, ◌+◌, ◌-◌, ◌<◌, List, length, slice_index, All, Contains}
 

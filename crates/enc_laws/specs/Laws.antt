@@ -1,4 +1,4 @@
--- To believe: in each instant of a run the latches of a program's netlist hold a well-formed selection of leaves.
+-- Contract: in each instant of a run the latches of a program's netlist hold a well-formed selection of leaves.
 use Rattle.std.specs.Prelude.{◌≡◌, List, length}
 use Rattle.est_base.specs.Items.{Item, EachEvent}
 use Rattle.est_kernel.specs.Plain.{Program, given_count}

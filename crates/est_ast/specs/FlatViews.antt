@@ -1,4 +1,4 @@
--- To believe: the plain form of a flat program.
+-- Contract: the plain form of a flat program.
 use Rattle.std.specs.Prelude.{List, map, Option, Some, None}
 use Rattle.std.specs.declared.alloc.Global.{Global}
 use Rattle.std.specs.declared.boxed.Box.{Box}

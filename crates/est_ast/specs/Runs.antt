@@ -1,4 +1,4 @@
--- To believe: runs of bytes of one class at the front of a text.
+-- Contract: runs of bytes of one class at the front of a text.
 use Rattle.std.specs.Prelude.{ℕ, ◌<◌, ◌≤◌, List, length, slice_index}
 
 -- the first n bytes are of the class P, and the byte behind them, if there is one, is not

@@ -1,4 +1,4 @@
--- To believe: the plain form of a source tree.
+-- Contract: the plain form of a source tree.
 use Rattle.std.specs.Prelude.{List, map, Option, Some, None}
 use Rattle.std.specs.declared.alloc.Global.{Global}
 use Rattle.std.specs.declared.boxed.Box.{Box}

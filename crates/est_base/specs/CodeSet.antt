@@ -1,4 +1,4 @@
--- To believe: what a contract sees of a `CodeSet`: the test of its codes.
+-- Contract: what a contract sees of a `CodeSet`: the test of its codes.
 use Rattle.std.specs.Prelude.{ℕ, Bool, ◌==◌}
 use Rattle.std.specs.Int.{bit_at}
 use Rattle.est_base.specs.declared.code_set.CodeSet.{CodeSet}

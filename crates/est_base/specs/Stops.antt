@@ -1,4 +1,4 @@
--- To believe: what is said of a call that ended early.
+-- Contract: what is said of a call that ended early.
 use Rattle.std.specs.Prelude.{⊤, Result, Ok, Err}
 use Rattle.est_base.specs.declared.stop.Stop.{Stop}
 use Rattle.est_base.specs.declared.stop.Stop.TheVariants.{Fault, NoMemory}

@@ -1,4 +1,4 @@
--- To believe: what an answer without a program says.
+-- Contract: what an answer without a program says.
 use Rattle.std.specs.Prelude.{◌≡◌, ⊤}
 use Rattle.est_dismantle.specs.declared.refusal.DismantleFault.{DismantleFault}
 use Rattle.est_dismantle.specs.declared.refusal.DismantleFault.TheVariants as faults

@@ -1,4 +1,4 @@
--- To believe: what a flat program keeps.
+-- Contract: what a flat program keeps.
 use Rattle.std.specs.Prelude.{ℕ, ◌+◌, ◌≤◌, nat_lt, All, IsTrue, length, take}
 use Rattle.est_base.specs.declared.bounds.TheConstants.Limits.{SIGNALS}
 use Rattle.est_base.specs.Names.{is_name, is_same_name}

@@ -1,4 +1,4 @@
--- To believe: laws of kernel expansion.
+-- Contract: laws of kernel expansion.
 use Rattle.std.specs.Prelude.{◌≡◌, ℕ, ◌+◌, ◌==◌, false, List, ◌∷◌, Some}
 use Rattle.est_base.specs.declared.place.Span.{Span}
 use Rattle.est_kernel.specs.Laws.{left_after}

@@ -1,4 +1,4 @@
--- To believe: laws of flattening.
+-- Contract: laws of flattening.
 use Rattle.std.specs.Prelude.{◌≡◌, [], IfOk}
 use Rattle.est_ast.specs.Trees.{Stmt, Program, Module}
 use Rattle.est_names.specs.NameFaults.{interface_faults}

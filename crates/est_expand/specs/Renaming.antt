@@ -1,4 +1,4 @@
--- To believe: programs that are the same but for the names of what their modules bind: formals, local signals and
+-- Contract: programs that are the same but for the names of what their modules bind: formals, local signals and
 -- traps.
 -- Two names are the same where their nearest binders stand beside one another. A name that no binder around it has is
 -- free and stays. The names of modules stay, and each name stands at the same place of the text. This is the equality

@@ -1,4 +1,4 @@
--- To believe: what the lists of static codes have for a body.
+-- Contract: what the lists of static codes have for a body.
 use Rattle.std.specs.Prelude.{◌≡◌, map}
 use Rattle.est_base.specs.CodeSet.{members}
 use Rattle.est_kernel.specs.declared.code_lists.Codes.{Codes}

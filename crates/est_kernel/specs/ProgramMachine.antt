@@ -1,4 +1,4 @@
--- To believe: a kernel program as a machine. It has an instant only where the reaction is constructive.
+-- Contract: a kernel program as a machine. It has an instant only where the reaction is constructive.
 use Rattle.std.specs.Prelude.{◌≡◌, Some}
 use Rattle.est_kernel.specs.Plain.{Program, interface_of}
 use Rattle.est_kernel.specs.Reactions.{Reaction, react}

@@ -1,4 +1,4 @@
--- To believe: the table of a program's modules.
+-- Contract: the table of a program's modules.
 use Rattle.std.specs.Prelude.{◌≡◌, ℕ, List, [], Option, Some}
 use Rattle.est_ast.specs.Trees.{Program}
 use Rattle.est_names.specs.NameFaults.{module_names, main_place, name_faults}

@@ -1,4 +1,4 @@
--- To believe: laws of the one spelling of a tree.
+-- Contract: laws of the one spelling of a tree.
 use Rattle.std.specs.Prelude.{◌≡◌, ◌≤◌, List, map}
 use Rattle.est_base.specs.declared.bounds.TheConstants.Limits.{NESTING}
 use Rattle.est_ast.specs.declared.tokens.Token.{Token}

@@ -1,4 +1,4 @@
--- To believe: the one spelling of a tree, by the kinds of its tokens. It has no word and no `;` that may be left out,
+-- Contract: the one spelling of a tree, by the kinds of its tokens. It has no word and no `;` that may be left out,
 -- `end module` at the end of a module, and `repeat` for both spellings of that statement. So each clause is a
 -- production of the grammar of est_ast without what is optional in it.
 use Rattle.std.specs.Prelude.{ℕ, List, [], ◌∷◌, ◌++◌}

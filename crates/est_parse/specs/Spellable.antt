@@ -1,4 +1,4 @@
--- To believe: the trees that the grammar has, whatever their places. A sequence is no part of a sequence, a parallel
+-- Contract: the trees that the grammar has, whatever their places. A sequence is no part of a sequence, a parallel
 -- stands in neither, an `or` stands neither in an `or` nor in an `and`, nor an `and` in an `and`, and what `not` holds
 -- is none of these: brackets make a part of them. Lists have two parts or more; cases, and the names of `signal`, of a
 -- declaration and of its relations, one or more. An event is a signal, `tick` or a test in `[ ]`.

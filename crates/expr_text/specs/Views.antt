@@ -1,4 +1,4 @@
--- To believe: the plain form of an expression.
+-- Contract: the plain form of an expression.
 use Rattle.expr_text.specs.declared.trees.Expr.{Expr as CodeExpr, Row_of-Expr, end_of-Expr, more_of-Expr}
 use Rattle.expr_text.specs.declared.trees.Expr.TheVariants as exprs
 use Rattle.expr_text.specs.Trees.{Expr, Name, Const, Not, And, Or, Exprs, NoExprs, MoreExprs}

@@ -1,4 +1,4 @@
--- To believe: when a program has no graph.
+-- Contract: when a program has no graph.
 use Rattle.std.specs.Prelude.{◌<◌, ⊤}
 use Rattle.est_base.specs.declared.bounds.TheConstants.Limits.{WIRES}
 use Rattle.est_kernel.specs.Plain.{Program}

@@ -1,4 +1,4 @@
--- To believe: when a body has too many live instances.
+-- Contract: when a body has too many live instances.
 use Rattle.std.specs.Prelude.{◌<◌, length, ⊤}
 use Rattle.est_base.specs.declared.bounds.TheConstants.Limits.{INSTANCES}
 use Rattle.est_kernel.specs.Terms.{Term}

@@ -1,4 +1,4 @@
--- To believe: what the search for a cycle of dependency edges answers.
+-- Contract: what the search for a cycle of dependency edges answers.
 use Rattle.std.specs.Prelude.{ℕ, Bool, true, false, List, map}
 use Rattle.est_base.specs.declared.indices.WireId.{WireId}
 use Rattle.digraph.specs.Walks.{IsClosedWalk}

@@ -1,4 +1,4 @@
--- To believe: what the live instances and the selection tree of a body are to be.
+-- Contract: what the live instances and the selection tree of a body are to be.
 use Rattle.std.specs.Prelude.{◌≡◌, ℕ, Bool, true, false, ◌&&◌, List, map, filter, All, Contains, slice_index_or}
 use Rattle.est_kernel.specs.Terms.{Term, Nothing, Pause, Emit, Exit, Present, Suspend, Seq, Loop, Par, Trap, Local}
 use Rattle.est_kernel.specs.Terms.{Awake}

@@ -1,4 +1,4 @@
--- To believe: what a search for a wire by its name answers.
+-- Contract: what a search for a wire by its name answers.
 use Rattle.std.specs.Prelude.{◌≡◌, ℕ, ◌<◌, List, length, map, slice_index_or, Option, MatchOption, Contains}
 use Rattle.est_base.specs.declared.indices.WireId.{WireId}
 use Rattle.est_kernel.specs.Plain.{program_of}

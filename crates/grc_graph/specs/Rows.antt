@@ -1,4 +1,4 @@
--- To believe: the statements of a body by number, each with what a graph says of it: in which layers it is live, the
+-- Contract: the statements of a body by number, each with what a graph says of it: in which layers it is live, the
 -- scope, and what lets it run. So the live instances, their wires and their equations are read from one flat list.
 use Rattle.std.specs.Prelude.{ℕ, ◌+◌, Bool, false, ◌==◌, List, [], ◌∷◌, ◌++◌, map, slice_index_or}
 use Rattle.std.specs.List.{list_any}

@@ -1,4 +1,4 @@
--- To believe: the statements of a body by number, each with what lets it run, the number of its second part, and what
+-- Contract: the statements of a body by number, each with what lets it run, the number of its second part, and what
 -- the signals that it reads or emits stand for.
 use Rattle.std.specs.Prelude.{ℕ, ◌+◌, ◌<◌, List, [], ◌∷◌, ◌++◌, map, ⊤}
 use Rattle.est_kernel.specs.Plain.{Program, interface_count}

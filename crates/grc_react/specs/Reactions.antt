@@ -1,4 +1,4 @@
--- To believe: what a reaction of a graph is, and what it means for the program where the graph is the program's.
+-- Contract: what a reaction of a graph is, and what it means for the program where the graph is the program's.
 use Rattle.std.specs.Prelude.{◌≡◌, ℕ, Bool, true, false, ◌||◌, List, length, map, Some, ⊤}
 use Rattle.est_base.specs.declared.indices.WireId.{WireId}
 use Rattle.est_kernel.specs.Plain.{Program, program_of, interface_of}

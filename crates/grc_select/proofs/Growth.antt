@@ -71,7 +71,7 @@ length-tree_nodes b (Awake e p) n i k = omega arith
 more : (a b : ℕ) → a ≤ b → a ≤ 1 + b
 more a b h = omega arith
 
-length-leaf_paths : (b : Bool) (t : Term) (n : ℕ) → length (leaf_paths b t n) ≤ statement_count t
+pub length-leaf_paths : (b : Bool) (t : Term) (n : ℕ) → length (leaf_paths b t n) ≤ statement_count t
 length-leaf_paths b Nothing n = omega arith
 length-leaf_paths b Pause n = if_at_most b (n ∷ []) 1 (omega arith)
 length-leaf_paths b (Emit s) n = omega arith

@@ -13,8 +13,7 @@ use Rattle.grc_graph.specs.Walk.{Walk, Values, State, Initial, Selecting, is_ini
 use Rattle.grc_graph.specs.Readings.{Valuation, seen_values}
 use Rattle.grc_graph.specs.Coherence.{statuses, StartedWalked, ResumedWalked}
 use Rattle.grc_graph.specs.SelectionTrees.{body_leaves}
-use Rattle.grc_graph.specs.GraphRuns.{Shown}
-use Rattle.grc_solutions.specs.GraphWires.{program_wires}
+use Rattle.grc_graph.specs.GraphRuns.{Shown, program_wires}
 
 -- the selected pauses of a state: in the first instant there are none
 abbrev pub selected_of : State → ℕ → Bool

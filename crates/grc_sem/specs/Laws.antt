@@ -1,4 +1,4 @@
--- To believe: the laws that tie the equations of a graph to the walk and to the reaction of its program.
+-- Contract: the laws that tie the equations of a graph to the walk and to the reaction of its program.
 use Rattle.std.specs.Prelude.{◌≡◌, ◌↔◌, ℕ, Bool, true, ◌==◌, List, length, map, Some, All, Contains}
 use Rattle.est_base.specs.Items.{Item, EachEvent}
 use Rattle.est_kernel.specs.Plain.{Program, interface_of, given_count}

@@ -1,4 +1,4 @@
--- To believe: values of the wires of a graph, one for each wire in order.
+-- Contract: values of the wires of a graph, one for each wire in order.
 use Rattle.std.specs.Prelude.{Bool, false, if◌then◌else◌, List, [], ◌∷◌}
 use Rattle.grc_graph.specs.Wires.{Wire, same_wire}
 use Rattle.grc_graph.specs.Readings.{Valuation}

@@ -1,4 +1,4 @@
--- To believe: which wires the graph of a program has, which wires its edges join, and what its equations read.
+-- Contract: which wires the graph of a program has, which wires its edges join, and what its equations read.
 use Rattle.std.specs.Prelude.{◌≡◌, ◌≢◌, ◌⊎◌, ℕ, ◌≤◌, List, map, All, AllPairs, Contains}
 use Rattle.est_kernel.specs.Plain.{Program}
 use Rattle.grc_graph.specs.Wires.{Wire, End}

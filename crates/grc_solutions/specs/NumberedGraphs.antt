@@ -1,4 +1,4 @@
--- To believe: the graph of a program by the numbers of its wires: evaluation orders, ranks, and walks that close.
+-- Contract: the graph of a program by the numbers of its wires: evaluation orders, ranks, and walks that close.
 use Rattle.std.specs.Prelude.{◌≡◌, ℕ, ◌<◌, List, length, map, slice_index}
 use Rattle.digraph.specs.Walks.{IsClosedWalk}
 use Rattle.est_base.specs.declared.indices.WireId.{WireId}

@@ -1,4 +1,4 @@
--- To believe: when the equations of a graph have one solution in each instant, and the graph one run.
+-- Contract: when the equations of a graph have one solution in each instant, and the graph one run.
 use Rattle.std.specs.Prelude.{◌≡◌, ℕ, ◌<◌, Bool, List, All, Contains}
 use Rattle.est_base.specs.Items.{Item}
 use Rattle.est_kernel.specs.Plain.{Program}

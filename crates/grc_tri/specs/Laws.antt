@@ -1,4 +1,4 @@
--- To believe: the laws that tie the least three-valued solution of a graph to the reaction of its program.
+-- Contract: the laws that tie the least three-valued solution of a graph to the reaction of its program.
 use Rattle.std.specs.Prelude.{◌≡◌, ℕ, Bool, List, length, Some}
 use Rattle.est_kernel.specs.Plain.{Program, interface_of, given_count}
 use Rattle.est_kernel.specs.Reactions.{Reaction, react}

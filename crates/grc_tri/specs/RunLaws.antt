@@ -1,4 +1,4 @@
--- To believe: that a program and the least solutions of its graph do the same from instant to instant.
+-- Contract: that a program and the least solutions of its graph do the same from instant to instant.
 use Rattle.std.specs.Prelude.{◌≡◌, length}
 use Rattle.est_kernel.specs.Plain.{Program, given_count}
 use Rattle.est_kernel.specs.ProgramMachine.{program_machine}

@@ -1,4 +1,4 @@
--- To believe: an instant of a graph as an evaluation meets it: what is kept from the instant before, the event, and a
+-- Contract: an instant of a graph as an evaluation meets it: what is kept from the instant before, the event, and a
 -- value for each wire.
 use Rattle.std.specs.Prelude.{◌≡◌, ℕ, Bool, false, if◌then◌else◌, List, length, All, IsTrue}
 use Rattle.std.specs.List.{list_any}

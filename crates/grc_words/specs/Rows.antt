@@ -1,4 +1,4 @@
--- To believe: the values of sources and rows. A row reads rows of lower numbers alone, so the leaves, the event and the
+-- Contract: the values of sources and rows. A row reads rows of lower numbers alone, so the leaves, the event and the
 -- wires settle every row, one after another.
 use Rattle.std.specs.Prelude.{ℕ, Bool, true, false, not, ◌&&◌, ◌||◌, nat_lt, List, [], ◌∷◌, ◌++◌, slice_index_or}
 use Rattle.grc_words.specs.declared.table.Source.{Source}

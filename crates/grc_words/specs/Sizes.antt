@@ -1,4 +1,4 @@
--- To believe: the greatest number of rows of a table of words.
+-- Contract: the greatest number of rows of a table of words.
 use Rattle.std.specs.Prelude.{ℕ, ◌+◌, if◌then◌else◌, Option, Some, None}
 use Rattle.std.specs.List.{sum_by}
 use Rattle.est_kernel.specs.Plain.{program_of}

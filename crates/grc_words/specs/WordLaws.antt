@@ -1,4 +1,4 @@
--- To believe: that a table of words is that of a graph.
+-- Contract: that a table of words is that of a graph.
 use Rattle.std.specs.Prelude.{◌≡◌, ℕ, ◌+◌, ◌-◌, ◌<◌, ◌≤◌, zero, suc, Bool, false, ◌==◌, ◌&&◌, ◌||◌, nat_le, min, []}
 use Rattle.std.specs.Prelude.{length, map, drop, slice_index_or, All, IsTrue}
 use Rattle.std.specs.List.{prefix_len}

@@ -1,4 +1,4 @@
--- To believe: that a netlist stands for a graph, in each instant and over items.
+-- Contract: that a netlist stands for a graph, in each instant and over items.
 use Rattle.std.specs.Prelude.{◌≡◌, ℕ, ◌+◌, ◌<◌, Bool, true, false, Some, List, [], ◌∷◌, length, map, slice_index_or, ⊤}
 use Rattle.est_base.specs.Items.{Item, EachEvent}
 use Rattle.est_base.specs.declared.indices.WireId.{WireId}

@@ -1,4 +1,4 @@
--- To believe: the worked example's grammar, as a relation on whole lists of tokens.
+-- Contract: the worked example's grammar, as a relation on whole lists of tokens.
 --   list = item { ";" item } [ ";" ]        item = "nothing" | "pause" | "[" list "]"
 use Rattle.std.specs.Prelude.{ℕ, suc, max, List, Option, Some, None}
 use Rattle.read_rules.specs.declared.statements.Token.{Token}

@@ -1,4 +1,4 @@
--- To believe: what a netlist has in common with the one whose latches it encodes.
+-- Contract: what a netlist has in common with the one whose latches it encodes.
 use Rattle.std.specs.Prelude.{◌≡◌, Bool, true, false, List, ◌∷◌, length, map, drop, replicate}
 use Rattle.est_base.specs.Items.{Item, EachEvent}
 use Rattle.est_kernel.specs.Terms.{Term}

@@ -1,4 +1,4 @@
--- To believe: what is known of a netlist's latches in each instant of a run.
+-- Contract: what is known of a netlist's latches in each instant of a run.
 use Rattle.std.specs.Prelude.{Bool, List, [], ◌∷◌, ⊤}
 use Rattle.est_base.specs.Items.{Item, Event, Reset}
 use Rattle.net_ir.specs.Netlists.{Netlist}

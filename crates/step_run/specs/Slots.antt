@@ -1,4 +1,4 @@
--- To believe: slots, which are the places of names among some, and what the values of slots say of names.
+-- Contract: slots, which are the places of names among some, and what the values of slots say of names.
 use Rattle.std.specs.Prelude.{ℕ, Bool, false, List, slice_index_or}
 use Rattle.std.specs.List.{position_or_len}
 use Rattle.est_base.specs.Names.{is_same_name}

@@ -1,4 +1,4 @@
--- To believe: that a run which is cut off leaves a prefix, and what the items of a trace are.
+-- Contract: that a run which is cut off leaves a prefix, and what the items of a trace are.
 use Rattle.std.specs.Prelude.{◌≡◌, ℕ, List, length, map, Option, Result, Ok, Err}
 use Rattle.est_base.specs.Items.{Item, EachEvent}
 use Rattle.est_base.specs.Relations.{Relation, MeetsAll}

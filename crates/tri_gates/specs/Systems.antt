@@ -1,4 +1,4 @@
--- To believe: systems of three-valued gates, and their least solutions, by Kleene's tables.
+-- Contract: systems of three-valued gates, and their least solutions, by Kleene's tables.
 use Rattle.std.specs.Prelude.{◌≡◌, ℕ, ◌<◌, Bool, true, false, ◌&&◌, nat_lt, List, length, slice_index_or, Option}
 use Rattle.std.specs.Prelude.{Some, None}
 use Rattle.est_kernel.specs.Laws.{IsBelow}

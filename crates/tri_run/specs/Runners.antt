@@ -1,4 +1,4 @@
--- To believe: what a runner of a graph does in an instant, and what that is for the program.
+-- Contract: what a runner of a graph does in an instant, and what that is for the program.
 use Rattle.std.specs.Prelude.{◌≡◌, Bool, true, false, ◌==◌, List, length, map, replicate, All, Some, None}
 use Rattle.std.specs.List.{list_any}
 use Rattle.est_kernel.specs.Plain.{Program, program_of, interface_of}

@@ -1,4 +1,4 @@
--- To believe: the plain form of a module.
+-- Contract: the plain form of a module.
 use Rattle.std.specs.Prelude.{map}
 use Rattle.expr_text.specs.Views.{expr_of}
 use Rattle.vlog_text.specs.declared.trees.Register.{Register as CodeRegister}

@@ -6,9 +6,11 @@ ghost use Rattle.est_gen.specs.Sources.{source_text};
 ghost use Rattle.net_ir.specs.Runs.{netlist_of};
 ghost use Rattle.cec_core.specs.Contents.{Content};
 ghost use Rattle.cec_core.specs.Jobs.{Load};
+ghost use Rattle.cec_core.specs.JobViews.{AreBranches};
 ghost use Rattle.cec_core.specs.Lines.{GainsErr};
 ghost use Rattle.cec_core.specs.Loads.{IsSummary, drawn_items, state_behind};
 ghost use Rattle.cec_core.specs.Loading.{CountsMachine, CountsMore, CountsNet, counted_text, pause_of};
+ghost use Rattle.cec_core.specs.NetTexts.{TextsFit};
 ghost use Rattle.cec_core.specs.Outcomes.{LeavesText, MakesOn};
 ghost use Rattle.cec_core.specs.Refusals.{IsRefused};
 
@@ -23,7 +25,7 @@ use cec_words::Pick;
 use csub_run::CTexts;
 use csub_text::write_c;
 use est_base::{Draw, Limits, NoMemory, Sink, write_text};
-use est_gen::{generate_source, next_event};
+use est_gen::{GenFault, generate_source, next_event};
 use itoa::Buffer;
 use net_ir::Net;
 use std::alloc::Global;
@@ -37,7 +39,8 @@ pub(crate) struct Counts {
     pub paused: u64,
 }
 
-/// Runs a generated source over so many drawn events, and writes the numbers of the run.
+/// Runs a generated source over so many drawn events, and writes the numbers of the run. The words give a number of
+/// branches for which there is a source.
 pub(crate) fn write_load<O: Sink, E: Sink>(
     alloc: Global,
     start: u64,
@@ -46,6 +49,7 @@ pub(crate) fn write_load<O: Sink, E: Sink>(
     out: &mut O,
     err: &mut E,
 ) -> Outcome
+    requires { AreBranches branches }
     ensures agrees { MakesOn None result (source_text start branches) }
     ensures out { LeavesText (IsSummary (source_text start branches) (state_behind start branches) instants)
         (change O.told O.faults out.old out.new)
@@ -53,10 +57,13 @@ pub(crate) fn write_load<O: Sink, E: Sink>(
     ensures err { (content : Content) → GainsErr (Some (Load start branches instants)) content result
         (E.told err.old) (E.told err.new) (E.faults err.old) (E.faults err.new) }
 {
-    // The words give a number of branches for which there is a source.
-    let Ok(generated) = generate_source(alloc, start, branches) else {
-        report(err, subject_of_none(), &Outcome::NoMemory);
-        return Outcome::NoMemory;
+    let generated = match generate_source(alloc, start, branches) {
+        Ok(generated) => generated,
+        Err(GenFault::NoMemory) => {
+            report(err, subject_of_none(), &Outcome::NoMemory);
+            return Outcome::NoMemory;
+        }
+        Err(GenFault::BadBranches) => unreachable!(),
     };
     let source = generated.source;
     if source.len() as u64 > Limits::SOURCE_BYTES {
@@ -139,6 +146,7 @@ fn drawn_counts(
     draw: Draw,
     instants: u32,
 ) -> Result<Counts, NoMemory>
+    requires { TextsFit (netlist_of compiled.now.net) }
     ensures inputs { OnOk result (length compiled.now.net.inputs.items ≡ 8) }
     ensures relations { OnOk result (compiled.now.graph.program.relations.items ≡ []) }
     ensures counts { IfOk result (CountsNet (netlist_of compiled.now.net) (drawn_items instants draw)) }
@@ -157,15 +165,11 @@ fn drawn_counts(
 fn run_both(alloc: Global, net: &Net, draw: Draw, instants: u32) -> Result<Counts, NoMemory>
     requires inputs { length net.now.inputs.items ≡ 8 }
     requires outputs { length net.now.outputs.items ≡ 8 }
+    requires fits { TextsFit (netlist_of net.now) }
     ensures { IfOk result (CountsNet (netlist_of net.now) (drawn_items instants draw)) }
 {
     let circuit_text = write_blif(alloc, net)?;
     let program_text = write_c(alloc, net)?;
-    if circuit_text.len() as u64 > Limits::TEXT_BYTES
-        || program_text.len() as u64 > Limits::TEXT_BYTES
-    {
-        return Err(NoMemory);
-    }
     let mut circuit = BlifTexts::read_back(alloc, net, &circuit_text)?;
     let mut machine = CTexts::read_back(alloc, net, &program_text)?;
     let mut draw = draw;

@@ -4,11 +4,12 @@ ghost use Rattle.std.specs.Prelude.{◌≡◌, ◌≤◌};
 ghost use Rattle.est_base.specs.SinkChanges.{change};
 ghost use Rattle.est_gen.specs.Sources.{source_text};
 ghost use Rattle.cec_core.specs.HelpTexts.{help_text};
+ghost use Rattle.cec_core.specs.JobViews.{AreBranches};
 ghost use Rattle.cec_core.specs.Outcomes.{IsWriting, LeavesText};
 
 use crate::outcome::Outcome;
 use est_base::{Sink, write_text};
-use est_gen::generate_source;
+use est_gen::{GenFault, generate_source};
 use std::alloc::Global;
 
 const HELP: &[u8] = b"cec blif [--main M] [--pick P] [--encode] FILE
@@ -33,21 +34,23 @@ pub(crate) fn write_help<O: Sink>(out: &mut O) -> Outcome
     }
 }
 
-/// Writes a generated source.
+/// Writes a generated source. The words give a number of branches for which there is one.
 pub(crate) fn write_generated<O: Sink>(
     alloc: Global,
     start: u64,
     branches: u32,
     out: &mut O,
 ) -> Outcome
+    requires { AreBranches branches }
     ensures agrees { IsWriting result }
     ensures out { LeavesText (λ text. text ≡ source_text start branches)
         (change O.told O.faults out.old out.new)
         result }
 {
-    // The words give a number of branches for which there is a source.
-    let Ok(generated) = generate_source(alloc, start, branches) else {
-        return Outcome::NoMemory;
+    let generated = match generate_source(alloc, start, branches) {
+        Ok(generated) => generated,
+        Err(GenFault::NoMemory) => return Outcome::NoMemory,
+        Err(GenFault::BadBranches) => unreachable!(),
     };
     match write_text(out, &generated.source) {
         Ok(()) => Outcome::Done,

@@ -69,7 +69,8 @@ pub(crate) fn run_file<F: Files, O: Sink, E: Sink>(
     }
 }
 
-// Runs a source over the trace in a file: its text is written into memory, and read again.
+// Runs a source over the trace in a file: its text is written into memory, and read again. No text is too long for
+// that but one whose latches hold the state in a code.
 fn source_run<F: Files, O: Sink>(
     alloc: Global,
     via: TextForm,
@@ -145,6 +146,7 @@ fn run_made<O: Sink>(
     requires text { IsWritten via text.now (netlist_of made.net) }
     requires fits { length text.now ≤ Limits.TEXT_BYTES }
     requires short { length trace.items ≤ Limits.TRACE_BYTES }
+    requires few { length made.program.relations.items ≤ Limits.SOURCE_BYTES }
     ensures { RunsTrace (ShowsNet (output_names (netlist_of made.net)) (netlist_of made.net))
         (beginning trace.items (netlist_of made.net).inputs
         (map relation_of made.program.relations.items))
@@ -153,10 +155,6 @@ fn run_made<O: Sink>(
 {
     let Made { program, net } = made;
     let relations = program.relations;
-    // So many relations find no room, but the number of one that is broken has 32 bits.
-    if relations.len() as u64 > u64::from(u32::MAX) {
-        return Err(RunFault::NoMemory);
-    }
     let interface = match net_interface(alloc, &net, relations) {
         Ok(interface) => interface,
         Err(NoMemory) => return Err(RunFault::NoMemory),

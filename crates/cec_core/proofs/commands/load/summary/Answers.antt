@@ -1,11 +1,15 @@
-use Rattle.std.proofs.Common.{◌≡◌, [], length, map, ap, sym, ◌∙◌}
+use Rattle.std.proofs.Common.{◌≡◌, [], length, map, None, ap, sym, ◌∙◌}
 use Rattle.est_base.specs.Relations.{relation_of}
 use Rattle.est_kernel.specs.Plain.{Program, given_count}
 use Rattle.net_ir.specs.Runs.{netlist_of}
 use Rattle.cec_core.specs.Loads.{drawn_items}
 use Rattle.cec_core.proofs.DrawnRuns.{drawn-fits, counts-seen}
 use Rattle.cec_core.proofs.RunLines.{given_wide}
+use Rattle.cec_core.proofs.TextSizes.{both_fit}
 use Rattle.cec_core.proofs.commands.load.summary.Goals as goal
+
+pub drawn_counts-requires : goal.drawn_counts-requires
+drawn_counts-requires c = both_fit c.args.source.now None c.in_ok-compiled.compiled c.requires c.in_ok-compiled.ensures.compiles
 
 pub returns-clause-text : goal.returns-clause-text
 returns-clause-text c =

@@ -9,8 +9,8 @@ use Rattle.cec_core.specs.Outcomes.{LeavesText, MakesOn}
 use Rattle.cec_core.proofs.OneFile.{err_alone}
 use Rattle.cec_core.proofs.commands.load.write_load.Goals as goal
 
-pub returns-in_default-clause-err : goal.returns-in_default-clause-err
-returns-in_default-clause-err g c = λ content.
+pub returns-in-Err-NoMemory-clause-err : goal.returns-in-Err-NoMemory-clause-err
+returns-in-Err-NoMemory-clause-err g c = λ content.
     let x : Subject = record { name = []; trace = []; main = []; source = source_text c.args.start c.args.branches } in
     err_alone _ content outcomes.NoMemory x _ _ _ _ (refl, refl) c.report.ensures
 

@@ -8,7 +8,8 @@ use Rattle.cec_core.specs.Contents.{Holds}
 use Rattle.cec_core.specs.JobViews.{plain_job}
 use Rattle.cec_core.specs.Runs.{RunsSource}
 use Rattle.cec_core.proofs.OneFile.{held_read}
-use Rattle.cec_core.proofs.NetTexts.{net_text, made_source, made_keeps}
+use Rattle.cec_core.proofs.NetTexts.{made_source, made_keeps}
+use Rattle.cec_core.proofs.TextSizes.{long_text, made_relations_few}
 use Rattle.cec_core.proofs.RunLines.{given_wide, runs_program}
 use Rattle.cec_core.specs.declared.outcome.Which.TheVariants.{Second}
 use Rattle.cec_core.specs.declared.refusal.Limit.TheVariants as limits
@@ -19,12 +20,11 @@ pub returns-then-len-gt-TEXT_BYTES-clause-agrees : goal.returns-then-len-gt-TEXT
 returns-then-len-gt-TEXT_BYTES-clause-agrees g c =
     let made = c.in-Ok.made in
     let long : TEXT_BYTES < length made.1.items = search rules in
-    record {
-      short = c.requires;
-      text = made.1.items;
-      written = net_text c.args.via c.args.source.now (plain_job c.args.job).main made.0 made.1.items c.in-Ok.ensures.made c.in-Ok.ensures.text;
-      long = long;
-    }
+    long_text c.args.via c.args.source.now (plain_job c.args.job).main made.0 made.1.items c.requires c.in-Ok.ensures.made c.in-Ok.ensures.text long
+
+pub run_made-requires-clause-few : goal.run_made-requires-clause-few
+run_made-requires-clause-few g c =
+    made_relations_few c.args.via c.args.source.now (plain_job c.args.job).main c.in-Ok.made.0 c.requires c.in-Ok.ensures.made
 
 pub returns-in-Ok-read-clause-out : goal.returns-in-Ok-read-clause-out
 returns-in-Ok-read-clause-out g c =
