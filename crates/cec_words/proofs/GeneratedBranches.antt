@@ -10,7 +10,6 @@ use Rattle.cec_words.specs.declared.asked.Asked.{Asked}
 use Rattle.cec_words.specs.declared.asked.Asked.TheVariants as asks
 use Rattle.cec_words.specs.declared.asked.Source.{Source}
 use Rattle.cec_words.specs.declared.asked.Value.{Value}
-use Rattle.cec_words.specs.declared.asked.Via.{Via}
 use Rattle.cec_words.specs.declared.asked.Via.TheVariants as vias
 use Rattle.cec_words.specs.declared.steps.Command.{Command}
 use Rattle.cec_words.specs.declared.steps.Command.TheVariants as commands
@@ -22,9 +21,11 @@ use Rattle.cec_words.specs.declared.steps.Spelling.{Spelling}
 use Rattle.cec_words.specs.declared.steps.Spelling.TheVariants.{Bare, Valued}
 use Rattle.cec_words.specs.declared.steps.Step.{Step}
 use Rattle.cec_words.specs.declared.steps.Step.TheVariants.{Waits, Ends}
-use Rattle.cec_words.specs.Commands.{command_of, options, is_plain, via_of, pick_of, named, number_within, part_of, spelled_step, step_of}
+use Rattle.cec_words.specs.declared.steps.Way.{Way}
+use Rattle.cec_words.specs.declared.steps.Way.TheVariants.{Text, Tri}
+use Rattle.cec_words.specs.Commands.{command_of, options, is_plain, way_of, pick_of, named, number_within, part_of, spelled_step, step_of}
 use Rattle.cec_words.specs.Numbers.{number, is_empty}
-use Rattle.cec_words.specs.Readings.{Gathered, with_part, after_step, gathered, head, each_once, source, run_by, on_one, on_two, asked}
+use Rattle.cec_words.specs.Readings.{Gathered, with_part, after_step, gathered, head, each_once, source, run_asked, exec_asked, on_one, on_two, asked}
 use Rattle.cec_words.specs.Readings.{asked_once, asked_behind, asked_by}
 
 -- a number of branches for which there is a generated source
@@ -64,7 +65,7 @@ branches_good (Some n) good = good
 
 part_good : (setting : Setting) (place : Value) (value : List ℕ) → IfSome (part_of setting place value) GoodPart
 part_good settings.Main place value = tt
-part_good settings.Via place value = made GoodPart parts.Via (λ v. tt) (via_of value)
+part_good settings.Via place value = made GoodPart parts.Via (λ v. tt) (way_of value)
 part_good settings.Pick place value = made GoodPart parts.Pick (λ p. tt) (pick_of value)
 part_good settings.Start place value = made GoodPart parts.Start (λ n. tt) (number value)
 part_good settings.Branches place value = branches_good (number_within 1 BRANCHES value) (number_good value)
@@ -160,14 +161,24 @@ generated_well branches [] runs all = tt
 generated_well [] (s ∷ starts) runs all = tt
 generated_well (b ∷ branches) (s ∷ starts) runs all = All-head IsGood b branches all
 
-run_well : (s : Source) (t : ℕ) (o : Option Via) → IfSome (option_and_then (λ v. run_by v s t) o) AsksWell
-run_well s t None = tt
-run_well s t (Some vias.Blif) = tt
-run_well s t (Some vias.C) = by s.encode
+run_well : (g : Gathered) (f t : ℕ) (o : Option Way) → IfSome (option_and_then (λ w. run_asked g w f t) o) AsksWell
+run_well g f t None = tt
+run_well g f t (Some (Text vias.Blif)) = tt
+run_well g f t (Some (Text vias.C)) = by (source g f).encode
   where
-    by : (b : Bool) → IfSome (if b then None else Some (asks.Run vias.C s t)) AsksWell
+    by : (b : Bool) → IfSome (if b then None else Some (asks.Run vias.C (source g f) t)) AsksWell
     by true = tt
     by false = tt
+run_well g f t (Some Tri) = by (is_empty g.picks && is_empty g.encodes)
+  where
+    by : (b : Bool) → IfSome (if b then Some (asks.RunTri (source g f) t) else None) AsksWell
+    by true = tt
+    by false = tt
+
+exec_well : (f t : ℕ) (o : Option Way) → IfSome (option_and_then (λ w. exec_asked w f t) o) AsksWell
+exec_well f t None = tt
+exec_well f t (Some (Text v)) = tt
+exec_well f t (Some Tri) = tt
 
 asked_well : (command : Command) (g : Gathered) → AreGood g → IfSome (asked command g) AsksWell
 asked_well commands.Blif g all = one_well (λ f. asks.Blif (source g f)) (λ f. tt) g.files
@@ -175,9 +186,9 @@ asked_well commands.C g all = one_well (λ f. asks.C (source g f)) (λ f. tt) g.
 asked_well commands.Grc g all = one_well (λ f. asks.Grc (source g f)) (λ f. tt) g.files
 asked_well commands.Check g all = one_well (λ f. asks.Check (source g f)) (λ f. tt) g.files
 asked_well commands.Run g all =
-    two_well (λ f t. option_and_then (λ v. run_by v (source g f) t) (head g.vias)) (λ f t. run_well (source g f) t (head g.vias)) g.files
+    two_well (λ f t. option_and_then (λ w. run_asked g w f t) (head g.vias)) (λ f t. run_well g f t (head g.vias)) g.files
 asked_well commands.Exec g all =
-    two_well (λ f t. option_map (λ v. asks.Exec v f t) (head g.vias)) (λ f t. made AsksWell (λ v. asks.Exec v f t) (λ v. tt) (head g.vias)) g.files
+    two_well (λ f t. option_and_then (λ w. exec_asked w f t) (head g.vias)) (λ f t. exec_well f t (head g.vias)) g.files
 asked_well commands.Gen g all = by (is_empty g.files)
   where
     by : (b : Bool) → IfSome (if b
