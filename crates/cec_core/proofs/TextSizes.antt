@@ -26,6 +26,8 @@ use Rattle.blif_text.proofs.TextLengths as blif_lengths
 use Rattle.csub_text.specs.Written as c_texts
 use Rattle.csub_text.proofs.TextLengths as c_lengths
 use Rattle.cec_core.specs.declared.compiler.Compiled.{Compiled}
+use Rattle.cec_core.specs.declared.graphs.Built.{Built}
+use Rattle.cec_core.specs.Graphs.{StandsForBuilt}
 use Rattle.cec_core.specs.declared.jobs.TextForm.{TextForm}
 use Rattle.cec_core.specs.declared.jobs.TextForm.TheVariants as forms
 use Rattle.cec_core.specs.declared.made.Made.{Made}
@@ -136,6 +138,14 @@ made_relations_few form bytes main made short m =
     let room = source-room bytes main m.source.program m.source.source in
     let same : map relation_of made.program.relations.items ≡ m.source.program.relations = ap (λ (q : Program). q.relations) m.program in
     omega (arith, room.relations, short, ap (λ (rs : List Relation). length rs) same, length-map made.program.relations.items relation_of)
+
+-- so of a source whose dependencies may go around
+pub built_relations_few : (bytes : List ℕ) (main : Option (List ℕ)) (built : Built) → length bytes ≤ SOURCE_BYTES → StandsForBuilt bytes main built →
+    length built.graph.program.relations.items ≤ SOURCE_BYTES
+built_relations_few bytes main built short b =
+    let room = source-room bytes main b.program b.source in
+    let same : map relation_of built.graph.program.relations.items ≡ b.program.relations = ap (λ (q : Program). q.relations) b.built.graph.program in
+    omega (arith, room.relations, short, ap (λ (rs : List Relation). length rs) same, length-map built.graph.program.relations.items relation_of)
 
 -- a text that is too long is one whose latches hold the state in a code
 pub long_text : (form : TextForm) (bytes : List ℕ) (main : Option (List ℕ)) (made : Made) (text : List ℕ) → length bytes ≤ SOURCE_BYTES →

@@ -101,7 +101,8 @@ pub(crate) fn text_of<T: Target, P: Picker>(
         Outcome::Static(fault) => Err(Refusal::Static(fault)),
         Outcome::Cyclic(cycle) => Err(Refusal::Cyclic(cycle)),
         Outcome::Limit(limit) => Err(Refusal::Limit(limit)),
-        // What is collected is refused for want of memory alone, and nothing else comes.
-        _ => Err(Refusal::NoMemory),
+        // What is collected is refused for want of memory alone.
+        Outcome::WriteFault | Outcome::NoMemory => Err(Refusal::NoMemory),
+        _ => unreachable!(),
     }
 }

@@ -23,7 +23,8 @@ use Rattle.csub_text.specs.Written.{input_name, state_name, gate_name, next_name
 use Rattle.csub_text.specs.Written.{input_assign, gate_assign, next_assign, output_assign, answer_assign, state_assign, gate_names, net_globals, net_locals}
 use Rattle.csub_text.specs.Written.{net_body, net_program, bit_text, expr_text, line_end, state_line, declaration, assign_line, head_line, last_lines, written}
 use Rattle.csub_text.proofs.NetNames.{input_names, next_names, given_variables, shown_variables}
-use Rattle.csub_text.proofs.NetRules.{net_name-input, net_name-state, net_name-gate, net_cases}
+use Rattle.expr_text.proofs.Naming.{net_cases}
+use Rattle.csub_text.proofs.NetRules.{net_name-input, net_name-state, net_name-gate}
 
 -- ---- lines
 

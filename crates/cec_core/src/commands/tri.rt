@@ -104,14 +104,11 @@ fn source_reactions<F: Files, O: Sink>(
 fn graph_reactions<O: Sink>(alloc: Global, built: &Built, trace: Vec<u8>, out: &mut O) -> Outcome
     requires built { IsBuilt built.now (program_of built.now.graph.program) }
     requires short { length trace.items ≤ Limits.TRACE_BYTES }
+    requires few { length built.now.graph.program.relations.items ≤ Limits.SOURCE_BYTES }
     ensures ends { EndsReactions result }
     ensures out { LeavesTrace (program_of built.now.graph.program) trace.items
         (change O.told O.faults out.old out.new) result }
 {
-    // So many relations find no room, but the number of one that is broken has 32 bits.
-    if built.graph.program.relations.len() as u64 > u64::from(u32::MAX) {
-        return Outcome::NoMemory;
-    }
     match program_interface(alloc, &built.graph.program) {
         Ok(interface) => interface_reactions(alloc, built, interface, trace, out),
         Err(NoMemory) => Outcome::NoMemory,

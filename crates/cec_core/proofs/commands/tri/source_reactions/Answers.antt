@@ -8,6 +8,7 @@ use Rattle.cec_core.specs.TriRuns.{ReactsOver, StopsOver}
 use Rattle.cec_core.proofs.OneFile.{held_read}
 use Rattle.cec_core.proofs.ReactionFiles.{built_source, graph_refused, react_trace_unread, reacted_counts, reacted_long, reacted_on}
 use Rattle.cec_core.proofs.ReactionFiles.{reactions_unread, refused_leaves_reactions, refused_reacts, trace_left}
+use Rattle.cec_core.proofs.TextSizes.{built_relations_few}
 use Rattle.cec_core.proofs.TwoFiles.{count_trace_unread, long_trace_unread, refused_counts, refused_long}
 use Rattle.cec_core.proofs.commands.tri.source_reactions.Goals as goal
 
@@ -34,6 +35,10 @@ returns-in-Err-clause-out g c =
     (refused_leaves_reactions (λ ended. Holds content trace (λ items. ReactsOver main c.args.source.now items s ended))
     (λ wires. Holds content trace (λ items. StopsOver main c.args.source.now items s wires.instant (map wire_name_of wires.wires.items))) s c.in-Err.refusal
     (refl, refl))
+
+pub graph_reactions-requires-clause-few : goal.graph_reactions-requires-clause-few
+graph_reactions-requires-clause-few g c =
+    built_relations_few c.args.source.now (plain_job c.args.job).main c.in-Ok.built c.requires c.in-Ok.ensures.built
 
 pub returns-in-Ok-read-clause-agrees : goal.returns-in-Ok-read-clause-agrees
 returns-in-Ok-read-clause-agrees g c =
