@@ -15,6 +15,7 @@ generated words (asks.C s) well = tt
 generated words (asks.Grc s) well = tt
 generated words (asks.Check s) well = tt
 generated words (asks.Run via s trace) well = tt
+generated words (asks.RunTri s trace) well = tt
 generated words (asks.Exec via text trace) well = tt
 generated words (asks.Gen start branches None) well = record { some = well.0; few = well.1 }
 generated words (asks.Gen start branches (Some instants)) well = record { some = well.0; few = well.1 }

@@ -1,5 +1,5 @@
 -- To believe: sources that compile, that are refused, or whose encoded texts are too long.
-use Rattle.std.specs.Prelude.{ℕ, ◌<◌, ◌≤◌, List, length, Option, ⊥}
+use Rattle.std.specs.Prelude.{ℕ, ◌<◌, ◌≤◌, List, length, Option}
 use Rattle.est_base.specs.declared.bounds.TheConstants.Limits.{SOURCE_BYTES, TEXT_BYTES}
 use Rattle.est_kernel.specs.Plain.{Program}
 use Rattle.cec_front.specs.Sources.{StandsFor}
