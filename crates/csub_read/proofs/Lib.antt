@@ -3,6 +3,7 @@ pub mod TokenKinds
 pub mod TextLaws
 pub mod Makers
 pub mod LexLaws
+pub mod LongestTokens
 pub mod ReaderLaws
 pub mod ReadBack
 pub mod NameFaults

@@ -4,3 +4,4 @@ pub mod Faults
 pub mod Steps
 pub mod NameTests
 pub mod Laws
+pub mod LongestTokens

@@ -14,6 +14,6 @@ mod signs;
 mod text;
 mod tokens;
 
-pub use laws::{described_texts_are_read, written_texts_are_read};
+pub use laws::{described_texts_are_read, tokens_are_longest, written_texts_are_read};
 pub use reader::read_c;
 pub use refusal::CError;

@@ -3,20 +3,20 @@
 ghost use Rattle.std.specs.Prelude.{◌≡◌, ◌∷◌, map, MatchResult};
 ghost use Rattle.est_ast.specs.declared.tokens.Mark.TheVariants as marks;
 ghost use Rattle.est_ast.specs.Grammar.{name};
-ghost use Rattle.est_ast.specs.Views.{relation_of, decl_of, module_of, program_of};
+ghost use Rattle.est_ast.specs.Views.{relation_of, decl_of, stmt_of, module_of, program_of};
 ghost use Rattle.est_parse.specs.Reading.{listed, declared, relation, decl, decl_step, ends_module, module_rule};
-ghost use Rattle.est_parse.specs.Reading.{program};
+ghost use Rattle.est_parse.specs.Reading.{program, statement};
 ghost use Rattle.est_ast.specs.Nesting.{IsProgram};
 ghost use Rattle.read_rules.specs.Exact.{GivesExactly};
 ghost use Rattle.read_rules.specs.Found.{Finds, Gives};
-ghost use Rattle.read_rules.specs.Readings.{the, loop, whole};
+ghost use Rattle.read_rules.specs.Readings.{the, both, trail, loop, whole};
 ghost use Rattle.read_rules.specs.declared.faults.ReadError.TheVariants as errors;
 
 use crate::names::read_names;
 use crate::openings::{Declaration, past_declaration};
 use crate::signs::{after_mark, after_word, past_mark, past_word, read_name};
 use crate::statements::read_statement;
-use est_ast::{Decl, Mark, Module, Name, Program, Relation, Reserved, Token};
+use est_ast::{Decl, Mark, Module, Name, Program, Relation, Reserved, Stmt, Token};
 use read_rules::{ReadError, ended, refused};
 use std::alloc::Global;
 
@@ -62,10 +62,31 @@ fn read_module(alloc: Global, tokens: &[Token], room: u32) -> Result<(Module, &[
     let rest = after_word(Reserved::Module, tokens)?;
     let (name, rest) = read_name(alloc, rest)?;
     let rest = after_mark(Mark::Colon, rest)?;
-    let (decls, rest) = read_decls(alloc, rest, room)?;
-    let (body, rest) = read_statement(alloc, rest, room)?;
-    let (_, rest) = module_end(rest)?;
+    let ((decls, body), rest) = read_contents(alloc, rest, room)?;
     Ok((Module { name, decls, body }, rest))
+}
+
+// The declarations of a module, its statement, and its end.
+fn read_contents(
+    alloc: Global,
+    tokens: &[Token],
+    room: u32,
+) -> Result<((Vec<Decl>, Stmt), &[Token]), ReadError>
+    ensures { Finds (λ found. (map decl_of found.0.items, stmt_of found.1)) result
+        (both (loop (decl_step room)) (trail (statement room) ends_module) tokens.now) }
+{
+    let (decls, rest) = read_decls(alloc, tokens, room)?;
+    let (body, rest) = read_body(alloc, rest, room)?;
+    Ok(((decls, body), rest))
+}
+
+// The statement of a module, and its end.
+fn read_body(alloc: Global, tokens: &[Token], room: u32) -> Result<(Stmt, &[Token]), ReadError>
+    ensures { Finds stmt_of result (trail (statement room) ends_module tokens.now) }
+{
+    let (body, rest) = read_statement(alloc, tokens, room)?;
+    let (_, rest) = module_end(rest)?;
+    Ok((body, rest))
 }
 
 // `end module` or `.`.

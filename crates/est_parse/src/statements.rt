@@ -2,16 +2,18 @@
 
 ghost use Rattle.std.specs.Prelude.{◌≡◌, ◌<◌, map, vec_len};
 ghost use Rattle.std.specs.Option.{option_map};
+ghost use Rattle.est_ast.specs.declared.tokens.Reserved.TheVariants as words;
+ghost use Rattle.est_ast.specs.Grammar.{word};
 ghost use Rattle.est_ast.specs.Trees.{Seq, Par, cases};
 ghost use Rattle.est_ast.specs.Views.{delay_of, form_of, stmt_of, boxed, part_of, handle_of, case_of};
 ghost use Rattle.est_parse.specs.Heads.{head_of};
 ghost use Rattle.est_parse.specs.Parts.{stmt_list, present_of, WeakHead, SuspendHead};
-ghost use Rattle.est_parse.specs.Reading.{part, case_behind, case_list, choice, loop_tail, handler, flat_behind, head};
-ghost use Rattle.est_parse.specs.Reading.{closing, blocked, event, form, item, line, rules, statement};
+ghost use Rattle.est_parse.specs.Reading.{part, case_behind, case_list, choice, do_part, ends, loop_tail, handler};
+ghost use Rattle.est_parse.specs.Reading.{flat_behind, head, closing, blocked, event, form, item, line, rules, statement};
 ghost use Rattle.est_parse.specs.Reading.{tail as tail_rule, inside as inner};
 ghost use Rattle.est_parse.specs.Tails.{tail_of};
 ghost use Rattle.read_rules.specs.Found.{Finds};
-ghost use Rattle.read_rules.specs.Readings.{mapped};
+ghost use Rattle.read_rules.specs.Readings.{both, mapped, on, trail};
 
 use crate::expressions::{read_count, read_delay, read_expr, read_test};
 use crate::heads::{Head, read_head};
@@ -164,8 +166,21 @@ fn read_block(
     ensures { Finds form_of result (blocked (rules room) (head block (event room)) tokens.now) }
 {
     let (head, rest) = read_head(alloc, block, tokens, room)?;
-    let (body, rest) = read_statement(alloc, rest, room)?;
-    read_closing(alloc, head, Box::new(alloc, body)?, rest, room)
+    let (body, rest) = read_boxed(alloc, rest, room)?;
+    read_closing(alloc, head, body, rest, room)
+}
+
+// A statement in a box.
+#[cycle(statements)]
+fn read_boxed(
+    alloc: Global,
+    tokens: &[Token],
+    room: u32,
+) -> Result<(Box<Stmt>, &[Token]), ReadError>
+    ensures { Finds boxed result (statement room tokens.now) }
+{
+    let (body, rest) = read_statement(alloc, tokens, room)?;
+    Ok((Box::new(alloc, body)?, rest))
 }
 
 // What stands behind the statement of an item.
@@ -188,15 +203,13 @@ fn read_closing(
             }
         }
         Head::Abort => {
-            let rest = after_word(Reserved::When, tokens)?;
-            let (tail, rest) = read_tail(alloc, Reserved::Abort, rest, room)?;
+            let (tail, rest) = read_abort_tail(alloc, tokens, room)?;
             Ok((abort_on(body, tail), rest))
         }
         Head::Weak => read_weak_closing(alloc, body, tokens, room),
         Head::Suspend => read_suspend_closing(alloc, body, tokens, room),
         Head::Trap(name) => {
-            let (handle, rest) = read_handle(alloc, tokens, room)?;
-            let (_, rest) = after_end(Reserved::Trap, rest)?;
+            let (handle, rest) = read_trap_end(alloc, tokens, room)?;
             Ok((Form::Trap(name, body, handle), rest))
         }
         Head::Group => {
@@ -216,6 +229,33 @@ fn read_closing(
             Ok((Form::Signal(names, body), rest))
         }
     }
+}
+
+// `when`, and what is waited for in an abortion.
+#[cycle(statements)]
+fn read_abort_tail(
+    alloc: Global,
+    tokens: &[Token],
+    room: u32,
+) -> Result<(Tail, &[Token]), ReadError>
+    ensures { Finds tail_of result (on (word words.When) (λ _. tail_rule words.Abort (rules room)) tokens.now) }
+{
+    let rest = after_word(Reserved::When, tokens)?;
+    read_tail(alloc, Reserved::Abort, rest, room)
+}
+
+// Maybe a handler, and the end of a trap.
+#[cycle(statements)]
+fn read_trap_end(
+    alloc: Global,
+    tokens: &[Token],
+    room: u32,
+) -> Result<(Option<Handle>, &[Token]), ReadError>
+    ensures { Finds handle_of result (trail (handler (rules room)) (ends words.Trap) tokens.now) }
+{
+    let (handle, rest) = read_handle(alloc, tokens, room)?;
+    let (_, rest) = after_end(Reserved::Trap, rest)?;
+    Ok((handle, rest))
 }
 
 // `when` and a delay, behind the statement of a weak abortion.
@@ -269,15 +309,42 @@ fn read_present(alloc: Global, tokens: &[Token], room: u32) -> Result<(Form, &[T
 {
     if let Some(_) = past_word(Reserved::Case, tokens) {
         let (cases, rest) = read_cases(alloc, tokens, room)?;
-        let (other, rest) = read_part(alloc, Reserved::Else, rest, room)?;
-        let (_, rest) = after_end(Reserved::Present, rest)?;
+        let (other, rest) = read_other(alloc, rest, room)?;
         return Ok((present_of_cases(cases, other), rest));
     }
     let (test, rest) = read_expr(alloc, tokens, room)?;
-    let (then, rest) = read_part(alloc, Reserved::Then, rest, room)?;
-    let (other, rest) = read_part(alloc, Reserved::Else, rest, room)?;
-    let (_, rest) = after_end(Reserved::Present, rest)?;
+    let ((then, other), rest) = read_branches(alloc, rest, room)?;
     Ok((Form::Present(test, then, other), rest))
+}
+
+// The two parts of a test, each of which may be left out, and the end.
+#[cycle(statements)]
+fn read_branches(
+    alloc: Global,
+    tokens: &[Token],
+    room: u32,
+) -> Result<((Option<Box<Stmt>>, Option<Box<Stmt>>), &[Token]), ReadError>
+    ensures { Finds (λ found. (part_of found.0, part_of found.1)) result
+        (both (part words.Then (statement room)) (trail (part words.Else (statement room)) (ends words.Present))
+        tokens.now) }
+{
+    let (then, rest) = read_part(alloc, Reserved::Then, tokens, room)?;
+    let (other, rest) = read_other(alloc, rest, room)?;
+    Ok(((then, other), rest))
+}
+
+// The part behind `else`, where that word stands next, and the end.
+#[cycle(statements)]
+fn read_other(
+    alloc: Global,
+    tokens: &[Token],
+    room: u32,
+) -> Result<(Option<Box<Stmt>>, &[Token]), ReadError>
+    ensures { Finds part_of result (trail (part words.Else (statement room)) (ends words.Present) tokens.now) }
+{
+    let (other, rest) = read_part(alloc, Reserved::Else, tokens, room)?;
+    let (_, rest) = after_end(Reserved::Present, rest)?;
+    Ok((other, rest))
 }
 
 // `handle` and what stands behind it, where that word stands next.
@@ -294,8 +361,7 @@ fn read_handle(
     };
     let (name, rest) = read_name(alloc, rest)?;
     let rest = after_word(Reserved::Do, rest)?;
-    let (body, rest) = read_statement(alloc, rest, room)?;
-    let body = Box::new(alloc, body)?;
+    let (body, rest) = read_boxed(alloc, rest, room)?;
     Ok((Some(Handle { name, body }), rest))
 }
 
@@ -316,13 +382,26 @@ fn read_tail(
         return Ok((Tail::Cases(cases), rest));
     }
     let (delay, rest) = read_delay(alloc, tokens, room)?;
-    let Some(behind) = past_word(Reserved::Do, rest) else {
-        return Ok((Tail::Delay(delay, None), rest));
+    let (body, rest) = read_do_part(alloc, word, rest, room)?;
+    Ok((Tail::Delay(delay, body), rest))
+}
+
+// A statement behind `do` and the end of what the word begins, where `do` stands next.
+#[cycle(statements)]
+fn read_do_part(
+    alloc: Global,
+    word: Reserved,
+    tokens: &[Token],
+    room: u32,
+) -> Result<(Option<Box<Stmt>>, &[Token]), ReadError>
+    ensures { Finds part_of result (do_part word (statement room) tokens.now) }
+{
+    let Some(behind) = past_word(Reserved::Do, tokens) else {
+        return Ok((None, tokens));
     };
-    let (body, rest) = read_statement(alloc, behind, room)?;
-    let body = Box::new(alloc, body)?;
+    let (body, rest) = read_boxed(alloc, behind, room)?;
     let (_, rest) = after_end(word, rest)?;
-    Ok((Tail::Delay(delay, Some(body)), rest))
+    Ok((Some(body), rest))
 }
 
 // One case or more.
@@ -374,6 +453,6 @@ fn read_part(
     let Some(rest) = past_word(word, tokens) else {
         return Ok((None, tokens));
     };
-    let (body, rest) = read_statement(alloc, rest, room)?;
-    Ok((Some(Box::new(alloc, body)?), rest))
+    let (body, rest) = read_boxed(alloc, rest, room)?;
+    Ok((Some(body), rest))
 }

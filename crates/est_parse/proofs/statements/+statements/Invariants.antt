@@ -20,29 +20,47 @@ decreases-read_line l = l.room * 16 + 3
 abbrev pub decreases-read_statement : goal.decreases-read_statement
 decreases-read_statement l = l.room * 16 + 4
 
-abbrev pub decreases-read_part : goal.decreases-read_part
-decreases-read_part l = l.room * 16 + 5
+abbrev pub decreases-read_boxed : goal.decreases-read_boxed
+decreases-read_boxed l = l.room * 16 + 5
 
 abbrev pub decreases-read_case : goal.decreases-read_case
 decreases-read_case l = l.room * 16 + 5
 
+abbrev pub decreases-read_part : goal.decreases-read_part
+decreases-read_part l = l.room * 16 + 6
+
+abbrev pub decreases-read_do_part : goal.decreases-read_do_part
+decreases-read_do_part l = l.room * 16 + 6
+
 abbrev pub decreases-read_handle : goal.decreases-read_handle
-decreases-read_handle l = l.room * 16 + 5
+decreases-read_handle l = l.room * 16 + 6
 
 abbrev pub decreases-read_cases : goal.decreases-read_cases
 decreases-read_cases l = l.room * 16 + 6
 
+abbrev pub decreases-read_other : goal.decreases-read_other
+decreases-read_other l = l.room * 16 + 7
+
+abbrev pub decreases-read_trap_end : goal.decreases-read_trap_end
+decreases-read_trap_end l = l.room * 16 + 7
+
 abbrev pub decreases-read_tail : goal.decreases-read_tail
 decreases-read_tail l = l.room * 16 + 7
 
+abbrev pub decreases-read_branches : goal.decreases-read_branches
+decreases-read_branches l = l.room * 16 + 8
+
+abbrev pub decreases-read_abort_tail : goal.decreases-read_abort_tail
+decreases-read_abort_tail l = l.room * 16 + 8
+
 abbrev pub decreases-read_present : goal.decreases-read_present
-decreases-read_present l = l.room * 16 + 7
+decreases-read_present l = l.room * 16 + 9
 
 abbrev pub decreases-read_closing : goal.decreases-read_closing
-decreases-read_closing l = l.room * 16 + 8
+decreases-read_closing l = l.room * 16 + 9
 
 abbrev pub decreases-read_block : goal.decreases-read_block
-decreases-read_block l = l.room * 16 + 9
+decreases-read_block l = l.room * 16 + 10
 
 -- What was read so far, in front of the steps on the rest, is the whole.
 abbrev pub invariant-read_statement-loop-behind : goal.invariant-read_statement-loop-behind
