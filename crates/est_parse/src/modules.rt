@@ -15,7 +15,7 @@ ghost use Rattle.read_rules.specs.declared.faults.ReadError.TheVariants as error
 use crate::names::read_names;
 use crate::openings::{Declaration, past_declaration};
 use crate::signs::{after_mark, after_word, past_mark, past_word, read_name};
-use crate::statements::read_statement;
+use crate::statements::read_boxed;
 use est_ast::{Decl, Mark, Module, Name, Program, Relation, Reserved, Stmt, Token};
 use read_rules::{ReadError, ended, refused};
 use std::alloc::Global;
@@ -84,9 +84,9 @@ fn read_contents(
 fn read_body(alloc: Global, tokens: &[Token], room: u32) -> Result<(Stmt, &[Token]), ReadError>
     ensures { Finds stmt_of result (trail (statement room) ends_module tokens.now) }
 {
-    let (body, rest) = read_statement(alloc, tokens, room)?;
+    let (body, rest) = read_boxed(alloc, tokens, room)?;
     let (_, rest) = module_end(rest)?;
-    Ok((body, rest))
+    Ok((Box::into_inner(body), rest))
 }
 
 // `end module` or `.`.

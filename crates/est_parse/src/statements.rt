@@ -28,7 +28,7 @@ use std::alloc::Global;
 
 // A statement: lines with `||` between them.
 #[cycle(statements)]
-pub fn read_statement(
+fn read_statement(
     alloc: Global,
     tokens: &[Token],
     room: u32,
@@ -172,7 +172,7 @@ fn read_block(
 
 // A statement in a box.
 #[cycle(statements)]
-fn read_boxed(
+pub fn read_boxed(
     alloc: Global,
     tokens: &[Token],
     room: u32,
