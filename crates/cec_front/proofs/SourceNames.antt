@@ -1,11 +1,11 @@
 -- The names of a program's interface have room in its source, one behind another, and so has one byte for each of its relations.
-use Rattle.std.proofs.Common.{◌≡◌, ℕ, ◌+◌, ◌≤◌, Bool, true, false, List, [], ◌∷◌, ◌++◌, length, map, take, drop, Option, Some, None, Result, Ok, refl, sym, ap}
+use Rattle.std.proofs.Common.{◌≡◌, ℕ, ◌+◌, ◌≤◌, Bool, true, false, List, [], ◌∷◌, ◌++◌, length, take, drop, Option, Some, None, Result, Ok, refl, sym, ap}
 use Rattle.std.proofs.Common.{◌∙◌, subst, arith, append_assoc}
 use Rattle.std.specs.Prelude.{IfOk, flat_map, slice_get, option_and_then, codes, replicate, if◌then◌else◌, nat_lt, nat_le}
 use Rattle.std.specs.List.{sum_by}
 use Rattle.std.proofs.lemmas.Bool.{leb-true}
-use Rattle.std.proofs.lemmas.List.{length-append, length-map, take-append-le, drop-take}
-use Rattle.std.proofs.lemmas.List.Sums.{sum_by-append, sum_by-cons, sum_by-take-drop, get_or-le-sum_by}
+use Rattle.std.proofs.lemmas.List.{length-append, length-map}
+use Rattle.std.proofs.lemmas.List.Sums.{sum_by-append, sum_by-cons, get_or-le-sum_by}
 use Rattle.std.proofs.lemmas.Option.{get_or_from_slice_get, slice_get_within}
 use Rattle.std.proofs.lemmas.Result.{IfOk-at_ok, IfOk-weaker}
 use Rattle.std.proofs.Math.Seq.{take-add, take-append_seam}
@@ -20,15 +20,15 @@ use Rattle.est_ast.specs.NewSignals.{new_in}
 use Rattle.est_ast.specs.Trees.{Decl, Input, InputOutput, Output, Relations, Module}
 use Rattle.est_ast.specs.Trees as source
 use Rattle.est_dismantle.specs.Counts.{bad_in}
-use Rattle.est_dismantle.specs.Expansions.{Expansion, Expanded, BadCount, TooLarge, TooHigh, TooManyTraps, kernel_body, program_in, limited, counted, expansion}
+use Rattle.est_dismantle.specs.Expansions.{Expanded, TooLarge, TooHigh, TooManyTraps, kernel_body, program_in, counted}
 use Rattle.est_expand.specs.Faults.{Fault, TooManySignals}
-use Rattle.est_expand.specs.Flattening.{relations_in, relation_in, around_main, main_flattening, main_walk, flat_program, flattened}
+use Rattle.est_expand.specs.Flattening.{relations_in, relation_in, around_main, main_flattening, main_walk, flattened}
 use Rattle.est_expand.specs.Scopes.{inputs_in, both_in, outputs_in, Interface, main_interface, main_signals, main_scope}
 use Rattle.est_expand.specs.Walks.{Met, beginning, meet_signals}
-use Rattle.est_expand.proofs.FlatFitting.{on_ok-IfOk, if-IfOk, Begun, Begins, Kept, Sees, flattening-IfOk}
+use Rattle.est_expand.proofs.FlatFitting.{on_ok-IfOk, if-IfOk, Begins, Kept, Sees, flattening-IfOk}
 use Rattle.est_names.specs.Names.{texts}
 use Rattle.est_names.specs.NameFaults.{main_place, module_names}
-use Rattle.cec_front.specs.Sources.{ReadsAs, main_module, Flattens, Expands, StandsFor}
+use Rattle.cec_front.specs.Sources.{ReadsAs, main_module, StandsFor}
 use Rattle.cec_front.proofs.SourceWeights.{tokens_weigh, program_weighs, decl_weight, module_weight}
 
 -- ---- the main module in its source

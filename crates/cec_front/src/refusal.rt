@@ -1,8 +1,12 @@
 // Why a source is refused.
 
+ghost use Rattle.std.specs.Prelude.{◌≡◌};
+ghost use Rattle.cec_front.specs.declared.refusal.Refusal.TheVariants.{NoMemory as lacks_memory};
+
 use est_base::Span;
 use est_expand::ExpandFault;
 use est_names::NameFault;
+use std::alloc::AllocFailed;
 
 /// A static fault of a source, with its place. The variants of the inner faults that say that memory ran out or that a
 /// limit was passed do not occur: `Refusal` has its own.
@@ -55,4 +59,12 @@ pub enum Refusal {
     Limit(Quantity),
     /// Want of memory.
     NoMemory,
+}
+
+impl<T: Drop> From<AllocFailed<T>> for Refusal {
+    ghost from_gives = { λ _ refusal. refusal ≡ lacks_memory };
+
+    fn from(_error: AllocFailed<T>) -> Refusal {
+        Refusal::NoMemory
+    }
 }
