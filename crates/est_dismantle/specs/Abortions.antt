@@ -2,9 +2,15 @@
 use Rattle.std.specs.Prelude.{ℕ, nat_le, if◌then◌else◌}
 use Rattle.est_base.specs.declared.place.Span.{Span}
 use Rattle.est_kernel.specs.Terms as terms
-use Rattle.est_kernel.specs.Terms.{Term}
+use Rattle.est_kernel.specs.Terms.{Term, Expression}
 use Rattle.est_ast.specs.FlatTrees.{Delay, Plain, Immediate, Count}
 use Rattle.est_dismantle.specs.Kernels.{expression, aborting, aborting_counted}
+
+-- what a delay tests
+abbrev pub tested : Delay → Expression
+tested (Plain event) = expression event
+tested (Immediate event) = expression event
+tested (Count count span event) = expression event
 
 -- the body of an abortion beside what watches for the delay, without a test at the start
 abbrev pub aborting_later : Span → Delay → ℕ → ℕ → Term → Term

@@ -3,8 +3,8 @@
 ghost use Rattle.std.specs.Prelude.{◌≡◌, IfOk, map};
 ghost use Rattle.est_ast.specs.FlatViews.{flat_delay_of};
 ghost use Rattle.est_kernel.specs.Plain.{expression_of, term_of};
-ghost use Rattle.est_kernel.specs.Terms.{Pause, Emit, Exit, Present, Seq, Loop, Trap};
-ghost use Rattle.est_dismantle.specs.Abortions.{aborting_later, tested_at_once};
+ghost use Rattle.est_kernel.specs.Terms.{Pause, Emit, Exit, Present, Suspend, Seq, Loop, Trap};
+ghost use Rattle.est_dismantle.specs.Abortions.{aborting_later, tested, tested_at_once};
 ghost use Rattle.est_dismantle.specs.Kernels.{halting as spec_halting, watching as spec_watching};
 ghost use Rattle.est_dismantle.specs.Kernels.{awaiting as spec_awaiting};
 ghost use Rattle.est_dismantle.specs.Kernels.{awaiting_immediately as spec_awaiting_immediately};
@@ -13,7 +13,7 @@ ghost use Rattle.est_dismantle.specs.Kernels.{aborting_counted as spec_aborting_
 ghost use Rattle.est_dismantle.specs.Kernels.{aborting_handled as spec_aborting_handled, handled as spec_handled};
 ghost use Rattle.est_dismantle.specs.Kernels.{looping_each as spec_looping_each, later_delay};
 ghost use Rattle.est_dismantle.specs.Kernels.{aborting_weakly as spec_aborting_weakly, suspension as spec_suspension};
-ghost use Rattle.est_dismantle.specs.Kernels.{locals as spec_locals};
+ghost use Rattle.est_dismantle.specs.Kernels.{locals as spec_locals, sequence, times};
 
 use crate::events::test_of;
 use crate::terms;
@@ -97,10 +97,17 @@ pub(crate) fn aborting(
     ensures { IfOk result (λ k. term_of k ≡ spec_aborting at (expression_of event) code (term_of body)) }
 {
     let again = event.copy(alloc)?;
-    let body = terms::suspension(alloc, event, body)?;
-    let body = terms::sequence(alloc, body, Kernel::Exit(code))?;
+    let body = leaving(alloc, event, code, body)?;
     let watching = watching(alloc, at, again)?;
-    Ok(terms::parallel(alloc, body, watching)?)
+    terms::parallel(alloc, body, watching)
+}
+
+// `suspend p when e; exit`.
+fn leaving(alloc: Global, event: Test, code: u8, body: Kernel) -> Result<Kernel, NoMemory>
+    ensures { IfOk result (λ k. term_of k ≡ Seq (Suspend (expression_of event) (term_of body)) (Exit code)) }
+{
+    let held = terms::suspension(alloc, event, body)?;
+    terms::sequence(alloc, held, Kernel::Exit(code))
 }
 
 // An abortion by a count of 2 or more.
@@ -127,18 +134,30 @@ fn aborting_counted(
         event,
         signal,
     } = delay;
-    let body = terms::suspension(alloc, Test::Sig(signal), body)?;
-    let body = terms::sequence(alloc, body, Kernel::Exit(code))?;
+    let body = leaving(alloc, Test::Sig(signal), code, body)?;
+    let waits = counting(alloc, at, count, event, signal)?;
+    let both = terms::parallel(alloc, body, waits)?;
+    terms::local(alloc, signal, both)
+}
+
+// `await n e; emit x; exit T`, with T the nearest trap.
+fn counting(
+    alloc: Global,
+    at: Span,
+    count: u128,
+    event: Test,
+    signal: SigId,
+) -> Result<Kernel, NoMemory>
+    ensures { IfOk result (λ k. term_of k
+        ≡ Seq (sequence (times count (spec_awaiting at (expression_of event)))) (Seq (Emit signal.0) (Exit 2))) }
+{
     let one = awaiting(alloc, at, event)?;
     let waits = terms::repeated(alloc, count, one)?;
     let end = terms::sequence(alloc, Kernel::Emit(signal), Kernel::Exit(2))?;
-    let waits = terms::sequence(alloc, waits, end)?;
-    let both = terms::parallel(alloc, body, waits)?;
-    Ok(terms::local(alloc, signal, both)?)
+    terms::sequence(alloc, waits, end)
 }
 
 // The same for an abortion by a delay, without the test at its start.
-#[tactic(auto, unfolding(crate::specs::FlatNodes::event_test))]
 fn aborting_by(
     alloc: Global,
     at: Span,
@@ -150,28 +169,34 @@ fn aborting_by(
     ensures { IfOk result (λ k. term_of k
         ≡ aborting_later at (flat_delay_of delay.now) signal.0 code (term_of body)) }
 {
+    let event = delay_test(alloc, delay)?;
     match delay {
-        FlatDelay::Plain(event) => {
-            let event = test_of(alloc, event)?;
-            Ok(aborting(alloc, at, event, code, body)?)
-        }
-        FlatDelay::Immediate(event) => {
-            let event = test_of(alloc, event)?;
-            Ok(aborting(alloc, at, event, code, body)?)
-        }
-        FlatDelay::Count(count, _, event) => {
+        FlatDelay::Plain(_) => aborting(alloc, at, event, code, body),
+        FlatDelay::Immediate(_) => aborting(alloc, at, event, code, body),
+        FlatDelay::Count(count, _, _) => {
             let count = *count;
-            let event = test_of(alloc, event)?;
             if count <= 1 {
-                return Ok(aborting(alloc, at, event, code, body)?);
+                return aborting(alloc, at, event, code, body);
             }
             let delay = Counted {
                 count,
                 event,
                 signal,
             };
-            Ok(aborting_counted(alloc, at, delay, code, body)?)
+            aborting_counted(alloc, at, delay, code, body)
         }
+    }
+}
+
+// The test of a delay.
+#[tactic(auto, unfolding(crate::specs::FlatNodes::event_test))]
+fn delay_test(alloc: Global, delay: &FlatDelay) -> Result<Test, NoMemory>
+    ensures { IfOk result (λ t. expression_of t ≡ tested (flat_delay_of delay.now)) }
+{
+    match delay {
+        FlatDelay::Plain(event) => test_of(alloc, event),
+        FlatDelay::Immediate(event) => test_of(alloc, event),
+        FlatDelay::Count(_, _, event) => test_of(alloc, event),
     }
 }
 
@@ -190,7 +215,7 @@ fn tested_first(
         FlatDelay::Plain(_) => Ok(no),
         FlatDelay::Immediate(event) => {
             let event = test_of(alloc, event)?;
-            Ok(terms::choice(alloc, event, yes, no)?)
+            terms::choice(alloc, event, yes, no)
         }
         FlatDelay::Count(_, _, _) => Ok(no),
     }
@@ -274,6 +299,60 @@ pub(crate) fn looping_later(
     Ok(terms::endless_loop(alloc, at, part)?)
 }
 
+/// `await d; q`.
+pub(crate) fn after_delay(
+    alloc: Global,
+    at: Span,
+    delay: &FlatDelay,
+    rest: Kernel,
+) -> Result<Kernel, NoMemory>
+    ensures { IfOk result (λ k. term_of k
+        ≡ Seq (spec_awaiting_delay at (flat_delay_of delay.now)) (term_of rest)) }
+{
+    let first = awaiting_delay(alloc, at, delay)?;
+    terms::sequence(alloc, first, rest)
+}
+
+/// `every d do p end`.
+pub(crate) fn looping_every(
+    alloc: Global,
+    at: Span,
+    delay: &FlatDelay,
+    signal: SigId,
+    body: Kernel,
+) -> Result<Kernel, NoMemory>
+    ensures { IfOk result (λ k. term_of k
+        ≡ Seq (spec_awaiting_delay at (flat_delay_of delay.now))
+            (spec_looping_each at (later_delay (flat_delay_of delay.now)) signal.0 (term_of body))) }
+{
+    let each = looping_later(alloc, at, delay, signal, body)?;
+    after_delay(alloc, at, delay, each)
+}
+
+/// `abort p when d do q end`.
+pub(crate) fn handled_abortion(
+    alloc: Global,
+    at: Span,
+    delay: &FlatDelay,
+    signal: SigId,
+    body: Kernel,
+    rest: Kernel,
+) -> Result<Kernel, NoMemory>
+    ensures { IfOk result (λ k. term_of k
+        ≡ spec_handled (spec_aborting_handled at (flat_delay_of delay.now) signal.0 (term_of body)) (term_of rest)) }
+{
+    let body = aborting_handled(alloc, at, delay, signal, body)?;
+    handled(alloc, body, rest)
+}
+
+/// `trap T in p handle T do q end`.
+pub(crate) fn handled_trap(alloc: Global, body: Kernel, rest: Kernel) -> Result<Kernel, NoMemory>
+    ensures { IfOk result (λ k. term_of k ≡ spec_handled (Seq (term_of body) (Exit 3)) (term_of rest)) }
+{
+    let body = terms::sequence(alloc, body, Kernel::Exit(3))?;
+    handled(alloc, body, rest)
+}
+
 /// `weak abort p when d`.
 pub(crate) fn aborting_weakly(
     alloc: Global,
@@ -292,17 +371,17 @@ pub(crate) fn aborting_weakly(
 }
 
 // `trap T in loop present e then pause else exit T end end end`.
-fn waiting_out(alloc: Global, at: Span, event: Test) -> Result<Kernel, NoMemory>
+fn waiting_out(alloc: Global, at: Span, event: &Test) -> Result<Kernel, NoMemory>
     ensures { IfOk result (λ k. term_of k
-        ≡ Trap (Loop at (Present (expression_of event) Pause (Exit 2)))) }
+        ≡ Trap (Loop at (Present (expression_of event.now) Pause (Exit 2)))) }
 {
+    let event = event.copy(alloc)?;
     let part = terms::choice(alloc, event, Kernel::Pause, Kernel::Exit(2))?;
     let part = terms::endless_loop(alloc, at, part)?;
     terms::trap(alloc, part)
 }
 
 /// `suspend p when d`.
-#[tactic(auto, unfolding(crate::specs::FlatNodes::event_test))]
 pub(crate) fn suspension(
     alloc: Global,
     at: Span,
@@ -312,23 +391,27 @@ pub(crate) fn suspension(
     ensures { IfOk result (λ k. term_of k
         ≡ spec_suspension at (flat_delay_of delay.now) (term_of body)) }
 {
+    let event = delay_test(alloc, delay)?;
     match delay {
-        FlatDelay::Plain(event) => {
-            let event = test_of(alloc, event)?;
-            Ok(terms::suspension(alloc, event, body)?)
-        }
-        FlatDelay::Immediate(event) => {
-            let event = test_of(alloc, event)?;
-            let again = event.copy(alloc)?;
-            let waiting = waiting_out(alloc, at, again)?;
-            let part = terms::suspension(alloc, event, body)?;
-            Ok(terms::sequence(alloc, waiting, part)?)
-        }
-        FlatDelay::Count(_, _, event) => {
-            let event = test_of(alloc, event)?;
-            Ok(terms::suspension(alloc, event, body)?)
-        }
+        FlatDelay::Plain(_) => terms::suspension(alloc, event, body),
+        FlatDelay::Immediate(_) => suspension_at_once(alloc, at, event, body),
+        FlatDelay::Count(_, _, _) => terms::suspension(alloc, event, body),
     }
+}
+
+// `suspend p when immediate e`.
+fn suspension_at_once(
+    alloc: Global,
+    at: Span,
+    event: Test,
+    body: Kernel,
+) -> Result<Kernel, NoMemory>
+    ensures { IfOk result (λ k. term_of k ≡ Seq (Trap (Loop at (Present (expression_of event) Pause (Exit 2))))
+        (Suspend (expression_of event) (term_of body))) }
+{
+    let waiting = waiting_out(alloc, at, &event)?;
+    let part = terms::suspension(alloc, event, body)?;
+    terms::sequence(alloc, waiting, part)
 }
 
 /// Local signals, the first outermost.

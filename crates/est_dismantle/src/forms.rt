@@ -12,8 +12,7 @@ ghost use Rattle.est_kernel.specs.Plain.{term_of};
 ghost use Rattle.est_dismantle.specs.FlatNodes.{node_kernel, node_new, delay_new};
 ghost use Rattle.est_dismantle.specs.MarkLists.{marks_of};
 
-use crate::choices::chosen;
-use crate::events::{any_event, test_of};
+use crate::choices::{aborting_cases, awaiting_cases, choice_by, chosen};
 use crate::expansion::{expand, expand_cases, expand_part, expand_parts};
 use crate::marks::Marks;
 use crate::{derived as rows, terms};
@@ -42,8 +41,7 @@ pub(crate) fn expand_await(
         None => Ok(rows::awaiting_delay(alloc, at, delay)?),
         Some(rest) => {
             let rest = expand(alloc, rest, marks, next)?;
-            let first = rows::awaiting_delay(alloc, at, delay)?;
-            Ok(terms::sequence(alloc, first, rest)?)
+            Ok(rows::after_delay(alloc, at, delay, rest)?)
         }
     }
 }
@@ -64,10 +62,7 @@ pub(crate) fn expand_await_case(
     ensures next { OnOk result (next.new ≡ next.old + node_new (AwaitCase cases.now)) }
 {
     let choices = expand_cases(alloc, cases.as_slice(), marks, next)?;
-    let rest = chosen(alloc, choices, Kernel::Nothing)?;
-    let any = any_event(alloc, cases.as_slice())?;
-    let first = rows::awaiting(alloc, at, any)?;
-    Ok(terms::sequence(alloc, first, rest)?)
+    Ok(awaiting_cases(alloc, at, cases.as_slice(), choices)?)
 }
 
 /// `present e`, and its two parts.
@@ -88,8 +83,7 @@ pub(crate) fn expand_present(
 {
     let yes = expand_part(alloc, yes, marks, next)?;
     let no = expand_part(alloc, no, marks, next)?;
-    let test = test_of(alloc, test)?;
-    Ok(terms::choice(alloc, test, yes, no)?)
+    Ok(choice_by(alloc, test, yes, no)?)
 }
 
 /// `present` of cases, and the part behind `else`.
@@ -170,9 +164,7 @@ pub(crate) fn expand_every(
 {
     let signal = new_signal(delay, next)?;
     let body = expand(alloc, body, &Marks::New(marks), next)?;
-    let each = rows::looping_later(alloc, at, delay, signal, body)?;
-    let first = rows::awaiting_delay(alloc, at, delay)?;
-    Ok(terms::sequence(alloc, first, each)?)
+    Ok(rows::looping_every(alloc, at, delay, signal, body)?)
 }
 
 /// `repeat n times p end`.
@@ -221,8 +213,7 @@ pub(crate) fn expand_abort(
         Some(rest) => {
             let body = expand(alloc, body, &Marks::New(&outer), next)?;
             let rest = expand(alloc, rest, &outer, next)?;
-            let body = rows::aborting_handled(alloc, at, delay, signal, body)?;
-            Ok(rows::handled(alloc, body, rest)?)
+            Ok(rows::handled_abortion(alloc, at, delay, signal, body, rest)?)
         }
     }
 }
@@ -246,10 +237,7 @@ pub(crate) fn expand_abort_case(
     let outer = Marks::New(marks);
     let body = expand(alloc, body, &Marks::New(&outer), next)?;
     let choices = expand_cases(alloc, cases.as_slice(), &outer, next)?;
-    let rest = chosen(alloc, choices, Kernel::Nothing)?;
-    let any = any_event(alloc, cases.as_slice())?;
-    let body = rows::aborting(alloc, at, any, 3, body)?;
-    Ok(rows::handled(alloc, body, rest)?)
+    Ok(aborting_cases(alloc, at, cases.as_slice(), body, choices)?)
 }
 
 /// `weak abort p when d`.
@@ -316,8 +304,7 @@ pub(crate) fn expand_trap(
             let outer = Marks::New(marks);
             let body = expand(alloc, body, &Marks::Source(&outer), next)?;
             let rest = expand(alloc, handler, &outer, next)?;
-            let body = terms::sequence(alloc, body, Kernel::Exit(3))?;
-            Ok(rows::handled(alloc, body, rest)?)
+            Ok(rows::handled_trap(alloc, body, rest)?)
         }
     }
 }

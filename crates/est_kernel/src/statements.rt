@@ -41,6 +41,7 @@ pub enum Kernel {
 
 impl Kernel {
     /// An equal statement, in memory of its own.
+    #[cycle(copy)]
     pub fn copy(&self, alloc: Global) -> Result<Kernel, NoMemory>
         ensures { IfOk result (λ k. term_of k ≡ term_of self.now) }
     {
@@ -51,26 +52,32 @@ impl Kernel {
             Kernel::Exit(code) => Ok(Kernel::Exit(*code)),
             Kernel::Present(test, yes, no) => {
                 let test = test.copy(alloc)?;
-                let yes = Box::new(alloc, yes.copy(alloc)?)?;
-                Ok(Kernel::Present(test, yes, Box::new(alloc, no.copy(alloc)?)?))
+                let yes = yes.boxed_copy(alloc)?;
+                Ok(Kernel::Present(test, yes, no.boxed_copy(alloc)?))
             }
             Kernel::Suspend(test, part) => {
                 let test = test.copy(alloc)?;
-                Ok(Kernel::Suspend(test, Box::new(alloc, part.copy(alloc)?)?))
+                Ok(Kernel::Suspend(test, part.boxed_copy(alloc)?))
             }
             Kernel::Seq(first, second) => {
-                let first = Box::new(alloc, first.copy(alloc)?)?;
-                Ok(Kernel::Seq(first, Box::new(alloc, second.copy(alloc)?)?))
+                let first = first.boxed_copy(alloc)?;
+                Ok(Kernel::Seq(first, second.boxed_copy(alloc)?))
             }
-            Kernel::Loop(at, part) => Ok(Kernel::Loop(*at, Box::new(alloc, part.copy(alloc)?)?)),
+            Kernel::Loop(at, part) => Ok(Kernel::Loop(*at, part.boxed_copy(alloc)?)),
             Kernel::Par(left, right) => {
-                let left = Box::new(alloc, left.copy(alloc)?)?;
-                Ok(Kernel::Par(left, Box::new(alloc, right.copy(alloc)?)?))
+                let left = left.boxed_copy(alloc)?;
+                Ok(Kernel::Par(left, right.boxed_copy(alloc)?))
             }
-            Kernel::Trap(part) => Ok(Kernel::Trap(Box::new(alloc, part.copy(alloc)?)?)),
-            Kernel::Local(signal, part) => {
-                Ok(Kernel::Local(*signal, Box::new(alloc, part.copy(alloc)?)?))
-            }
+            Kernel::Trap(part) => Ok(Kernel::Trap(part.boxed_copy(alloc)?)),
+            Kernel::Local(signal, part) => Ok(Kernel::Local(*signal, part.boxed_copy(alloc)?)),
         }
+    }
+
+    // An equal statement in a box.
+    #[cycle(copy)]
+    fn boxed_copy(&self, alloc: Global) -> Result<Box<Kernel>, NoMemory>
+        ensures { IfOk result (λ k. term_of k.value ≡ term_of self.now) }
+    {
+        Ok(Box::new(alloc, self.copy(alloc)?)?)
     }
 }

@@ -9,7 +9,8 @@ ghost use Rattle.est_ast.specs.Views.{delay_of, form_of, stmt_of, boxed, part_of
 ghost use Rattle.est_parse.specs.Heads.{head_of};
 ghost use Rattle.est_parse.specs.Parts.{stmt_list, present_of, WeakHead, SuspendHead};
 ghost use Rattle.est_parse.specs.Reading.{part, case_behind, case_list, choice, do_part, ends, loop_tail, handler};
-ghost use Rattle.est_parse.specs.Reading.{flat_behind, head, closing, blocked, event, form, item, line, rules, statement};
+ghost use Rattle.est_parse.specs.Reading.{flat_behind, head, closing, blocked, event, form, item, line, rules};
+ghost use Rattle.est_parse.specs.Reading.{statement};
 ghost use Rattle.est_parse.specs.Reading.{tail as tail_rule, inside as inner};
 ghost use Rattle.est_parse.specs.Tails.{tail_of};
 ghost use Rattle.read_rules.specs.Found.{Finds};

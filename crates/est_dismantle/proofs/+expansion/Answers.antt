@@ -1,9 +1,11 @@
-use Rattle.std.proofs.Common.{◌≡◌, ◌+◌, refl, sym, ◌∙◌, ap, arith}
-use Rattle.est_kernel.specs.Plain.{term_of, expression_of}
+use Rattle.std.proofs.Common.{◌≡◌, ◌+◌, map, refl, sym, ◌∙◌, ap, arith}
+use Rattle.est_kernel.specs.Plain.{term_of}
 use Rattle.est_kernel.specs.Terms as terms
-use Rattle.est_dismantle.specs.Choices.{choice_of}
+use Rattle.est_ast.specs.FlatViews.{flat_delay_of}
 use Rattle.est_ast.specs.declared.flat.FlatCase.{out-FlatCase}
-use Rattle.est_dismantle.specs.FlatNodes.{event_test}
+use Rattle.est_dismantle.specs.Choices.{choice_of, chosen_of}
+use Rattle.est_dismantle.specs.FlatNodes.{event_test, any_event_test}
+use Rattle.est_dismantle.specs.Kernels.{aborting, aborting_handled}
 use Rattle.est_dismantle.specs.MarkLists.{marks_of}
 use Rattle.est_dismantle.proofs.Exits.{marks-Source, marks-New}
 use Rattle.est_dismantle.proofs.KernelNodes.{case-missing, case-written, case-new_missing, case-new_written, put-Present, put-Abort, put-AbortCase, put-Trap}
@@ -68,29 +70,34 @@ expansion::expand_parts-returns-clause-next t c =
 pub forms::expand_present-returns-clause-term : goal.forms::expand_present-returns-clause-term
 forms::expand_present-returns-clause-term t c = λ at.
     put-Present (marks_of c.args.marks.now) c.args.next.now c.expand_part.new.next at _ c.args.test.now c.args.yes.now c.args.no.now
-    (expression_of c.in_ok-test.test) (term_of c.in_ok-yes.yes) (term_of c.in_ok-no.no) (term_of c.in_ok-choice.field-0)
-    refl c.in_ok-test.ensures c.in_ok-yes.ensures.term c.in_ok-yes.ensures.next c.in_ok-no.ensures.term c.in_ok-choice.ensures
+    (event_test c.args.test.now) (term_of c.in_ok-yes.yes) (term_of c.in_ok-no.no) (term_of c.in_ok-choice_by.field-0)
+    refl refl c.in_ok-yes.ensures.term c.in_ok-yes.ensures.next c.in_ok-no.ensures.term c.in_ok-choice_by.ensures
 
-pub forms::expand_abort-returns-in_ok-handled-in-Some-clause-term : goal.forms::expand_abort-returns-in_ok-handled-in-Some-clause-term
-forms::expand_abort-returns-in_ok-handled-in-Some-clause-term t c =
+pub forms::expand_abort-returns-in_ok-handled_abortion-in-Some-clause-term : goal.forms::expand_abort-returns-in_ok-handled_abortion-in-Some-clause-term
+forms::expand_abort-returns-in_ok-handled_abortion-in-Some-clause-term t c =
     put-Abort (marks_of c.args.marks.now) _ _ c.args.next.now _ _ c.args.at _ c.args.body.now c.in-Some.rest c.args.delay.now c.args.rest.now
     _ _ _
-    (term_of c.in_ok-body-in-Some.body) (term_of c.in_ok-rest-in-Some.rest) (term_of c.in_ok-body-in-Some-2.body)
-    (term_of c.in_ok-handled-in-Some.field-0)
-    c.in_ok-body-in-Some.ensures.term c.in_ok-rest-in-Some.ensures.term c.in_ok-body-in-Some-2.ensures c.in_ok-handled-in-Some.ensures
+    (term_of c.in_ok-body-in-Some.body) (term_of c.in_ok-rest-in-Some.rest)
+    (aborting_handled c.args.at (flat_delay_of c.args.delay.now) c.in_ok-signal.signal.0 (term_of c.in_ok-body-in-Some.body))
+    (term_of c.in_ok-handled_abortion-in-Some.field-0)
+    c.in_ok-body-in-Some.ensures.term c.in_ok-rest-in-Some.ensures.term refl c.in_ok-handled_abortion-in-Some.ensures
     (marks-New _) (marks-New _) refl c.in-Some.is c.deref-in-Some.ensures c.deref-in-Some-2.ensures
     c.in_ok-signal.ensures.signal c.in_ok-signal.ensures.next c.in_ok-body-in-Some.ensures.next
 
 pub forms::expand_abort_case-returns-clause-term : goal.forms::expand_abort_case-returns-clause-term
 forms::expand_abort_case-returns-clause-term t c =
-    put-AbortCase (marks_of c.args.marks.now) _ _ c.args.next.now _ c.args.at _ c.args.body.now c.args.cases.now _ _ _ _ _
-    (term_of c.in_ok-body.body) (term_of c.in_ok-rest.rest) (term_of c.in_ok-body-2.body) (term_of c.in_ok-handled.field-0)
-    c.in_ok-body.ensures.term c.in_ok-choices.ensures.choices c.in_ok-rest.ensures c.in_ok-any.ensures c.in_ok-body-2.ensures c.in_ok-handled.ensures
+    let found = map choice_of c.in_ok-choices.choices.items in
+    let any = any_event_test c.as_slice-2.result.now in
+    let body = term_of c.in_ok-body.body in
+    put-AbortCase (marks_of c.args.marks.now) _ _ c.args.next.now _ c.args.at _ c.args.body.now c.args.cases.now _ _ c.as_slice-2.result.now found any
+    body (chosen_of found terms.Nothing) (aborting c.args.at any 3 body) (term_of c.in_ok-aborting_cases.field-0)
+    c.in_ok-body.ensures.term c.in_ok-choices.ensures.choices refl refl refl c.in_ok-aborting_cases.ensures
     (marks-New _) (marks-New _) refl c.deref.ensures c.as_slice.ensures.value c.as_slice-2.ensures.value c.in_ok-body.ensures.next
 
-pub forms::expand_trap-returns-in_ok-handled-in-Some-clause-term : goal.forms::expand_trap-returns-in_ok-handled-in-Some-clause-term
-forms::expand_trap-returns-in_ok-handled-in-Some-clause-term t c = λ at.
+pub forms::expand_trap-returns-in_ok-handled_trap-in-Some-clause-term : goal.forms::expand_trap-returns-in_ok-handled_trap-in-Some-clause-term
+forms::expand_trap-returns-in_ok-handled_trap-in-Some-clause-term t c = λ at.
     put-Trap (marks_of c.args.marks.now) _ _ c.args.next.now _ at _ c.args.body.now c.in-Some.handler c.args.handler.now _ _
-    (term_of c.in_ok-body-in-Some.body) (term_of c.in_ok-rest-in-Some.rest) (term_of c.in_ok-body-in-Some-2.body) (term_of c.in_ok-handled-in-Some.field-0)
-    c.in_ok-body-in-Some.ensures.term c.in_ok-rest-in-Some.ensures.term c.in_ok-body-in-Some-2.ensures c.in_ok-handled-in-Some.ensures
+    (term_of c.in_ok-body-in-Some.body) (term_of c.in_ok-rest-in-Some.rest) (terms.Seq (term_of c.in_ok-body-in-Some.body) (terms.Exit 3))
+    (term_of c.in_ok-handled_trap-in-Some.field-0)
+    c.in_ok-body-in-Some.ensures.term c.in_ok-rest-in-Some.ensures.term refl c.in_ok-handled_trap-in-Some.ensures
     (marks-New _) (marks-Source _) refl c.in-Some.is c.deref-in-Some.ensures c.deref-in-Some-2.ensures c.in_ok-body-in-Some.ensures.next
