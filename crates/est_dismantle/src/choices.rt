@@ -79,7 +79,7 @@ pub(crate) fn aborting_cases(
 ) -> Result<Kernel, NoMemory>
     ensures { IfOk result (λ k. term_of k
         ≡ handled (aborting at (any_event_test cases.now) 3 (term_of body))
-            (chosen_of (map choice_of choices.items) Nothing)) }
+        (chosen_of (map choice_of choices.items) Nothing)) }
 {
     let body = aborting_any(alloc, at, cases, body)?;
     let rest = chosen(alloc, choices, Kernel::Nothing)?;

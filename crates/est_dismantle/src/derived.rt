@@ -323,7 +323,7 @@ pub(crate) fn looping_every(
 ) -> Result<Kernel, NoMemory>
     ensures { IfOk result (λ k. term_of k
         ≡ Seq (spec_awaiting_delay at (flat_delay_of delay.now))
-            (spec_looping_each at (later_delay (flat_delay_of delay.now)) signal.0 (term_of body))) }
+        (spec_looping_each at (later_delay (flat_delay_of delay.now)) signal.0 (term_of body))) }
 {
     let each = looping_later(alloc, at, delay, signal, body)?;
     after_delay(alloc, at, delay, each)

@@ -29,11 +29,7 @@ use std::alloc::Global;
 
 // A statement: lines with `||` between them.
 #[cycle(statements)]
-fn read_statement(
-    alloc: Global,
-    tokens: &[Token],
-    room: u32,
-) -> Result<(Stmt, &[Token]), ReadError>
+fn read_statement(alloc: Global, tokens: &[Token], room: u32) -> Result<(Stmt, &[Token]), ReadError>
     ensures { Finds stmt_of result (statement room tokens.now) }
 {
     let (first, mut rest) = read_line(alloc, tokens, room)?;
