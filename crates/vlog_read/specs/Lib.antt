@@ -1,0 +1,9 @@
+pub mod Lexed
+pub mod Reading
+pub mod Sources
+pub mod NameTests
+pub mod NameTables
+pub mod Registers
+pub mod Steps
+pub mod Faults
+pub mod Laws

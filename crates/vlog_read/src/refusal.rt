@@ -1,0 +1,33 @@
+// Why a text is not read.
+
+use est_base::Text;
+use thiserror::Error;
+
+/// Why `read_verilog` gives no module. Of several faults the first of this list is told.
+#[derive(Debug, Drop, Error)]
+pub enum VlogFault {
+    /// The text is longer than 256 MiB.
+    #[error("text is too long")]
+    TooLong,
+    /// At this byte stands the first token that no text of the subset passes, or here the text ends too early.
+    #[error("byte {0} cannot stand here")]
+    Syntax(u32),
+    /// The first name that is declared a second time.
+    #[error("a name is declared twice")]
+    Twice(Text),
+    /// The first port that is not the declaration at its place; else the first declared input or output that is no
+    /// port; else the first of these with a name that it may not have; else the name behind `posedge`, if it is not
+    /// the first input.
+    #[error("a port is wrong")]
+    Port(Text),
+    /// The first name that is used and not declared, that is used and the clock, or that is under `initial` or left
+    /// of `<=` and no reg.
+    #[error("a name is not declared")]
+    Undeclared(Text),
+    /// The first name that is driven a second time. Inputs and regs are driven before any `assign`.
+    #[error("a name is driven twice")]
+    TwoDrivers(Text),
+    /// The first declared reg, wire or output without its drivers.
+    #[error("a name is not driven")]
+    NoDriver(Text),
+}
