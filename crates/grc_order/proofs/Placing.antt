@@ -115,7 +115,7 @@ module _ (count : ℕ) (pairs : List WireEdge) (e : WireEdge) (further : List Wi
 -- A ready wire is placed. The edges from it are then still to be taken off.
 module _ (count : ℕ) (pairs : List WireEdge) (waiting : List ℕ) (ready placed : List WireId) (schedule : IsSchedule count pairs [] waiting ready placed)
     (edges : AreEdges count pairs) (i : ℕ) (v : WireId) (i_low : i < length ready) (is : v ≡ get_or ready i v) where
-  v_low : v.0 < count
+  pub v_low : v.0 < count
   v_low = let h = schedule.ready_in i v i_low in let e = ap (λ (u : WireId). u.0) is in omega arith
 
   once_low : (w : ℕ) → w < count → times placed w + times ready w ≤ 1

@@ -1,12 +1,14 @@
 -- The edges from one wire stand side by side in ascending edges.
 use Rattle.std.proofs.Common.{◌≡◌, ℕ, ◌+◌, ◌-◌, ◌<◌, ◌≤◌, Bool, true, false, ◌==◌, nat_lt, List, [], ◌∷◌, ◌++◌, length, filter, slice_index_or, take}
-use Rattle.std.proofs.Common.{drop, refl, sym, ap, ◌∙◌, arith, All, inl, inr}
+use Rattle.std.proofs.Common.{drop, get_or, slice_index, refl, sym, ap, ◌∙◌, subst, arith, All, inl, inr}
 use Rattle.std.proofs.lemmas.Bool.{cases_lt, ne_eqb, eq-eqb, or_cases, and_parts, ltb-true, ltb-false, leb-true, leb-false, eqb-true}
+use Rattle.std.proofs.lemmas.Bool.{lt-ltb, le-ltb, lt-leb, le-leb}
 use Rattle.std.proofs.lemmas.List.{take-append-drop, drop-drop, get_or-take, get_or-drop, append-nil, length-drop, length-take-le, get_or_default}
+use Rattle.std.proofs.lemmas.List.{length_push, get_or_append_left, get_or-append-add}
 use Rattle.std.proofs.lemmas.List.Elements.{filter-append, All-head, All-tail}
 use Rattle.std.specs.List.Sorted.{IsNonDecreasingBy}
 use Rattle.grc_graph.specs.WireOrders.{WireEdge, edge_at, edge_before, AreEdges}
-use Rattle.grc_order.specs.Runs.{SplitsBelow, SplitsAbove}
+use Rattle.grc_order.specs.Runs.{AreBegins, BeginBelow, SplitsBelow, SplitsAbove}
 use Rattle.grc_order.specs.Schedules.{edges_from}
 
 filter-none : {X : Type 0} (p : X → Bool) (xs : List X) → All (λ x. p x ≡ false) xs → filter p xs ≡ []
@@ -94,3 +96,75 @@ module _ (v : ℕ) (pairs : List WireEdge) (a b : ℕ) (low : a ≤ length pairs
       let split_rest = filter-append (λ (e : WireEdge). e.0.0 == v) (take (b - a) (drop a pairs)) (drop b pairs) in
       let none = append-nil (take (b - a) (drop a pairs)) in
       sym (ap (edges_from v) parts ∙ split ∙ rw (before_run, split_rest, in_run, behind_run) none)
+
+-- ---- where the edges from each wire begin
+
+edge-read : (pairs : List WireEdge) (k : ℕ) (d : WireEdge) → k < length pairs → (slice_index_or pairs k d).0.0 ≡ (edge_at pairs k).0.0
+edge-read pairs k d h = ap (λ e. e.0.0) (get_or_default pairs k d (record { 0 = 0 }, record { 0 = 0 }) h)
+
+-- this place splits the edges where it is the first that does not begin below the wire
+pub splits-at : (v : ℕ) (pairs : List WireEdge) (p : ℕ) → IsNonDecreasingBy (λ (e : WireEdge). e.0.0) pairs → p ≤ length pairs → BeginBelow v pairs p
+    → (p < length pairs → v ≤ (edge_at pairs p).0.0) → SplitsBelow v pairs p
+splits-at v pairs p rise within below here = (
+  λ k d g h. let e = edge-read pairs k d (omega arith) in let b = below k h in lt-ltb _ v (omega arith),
+  λ k d g h.
+      let e = edge-read pairs k d h in
+      let up : (edge_at pairs p).0.0 ≤ (edge_at pairs k).0.0 = rise p k (record { 0 = 0 }, record { 0 = 0 }) g h in
+      let low : p < length pairs = omega arith in
+      let from = here low in
+      le-ltb _ v (omega arith),
+)
+
+-- what begins below a wire begins below a later one
+pub begin_below : (v w : ℕ) (pairs : List WireEdge) (p : ℕ) → SplitsBelow v pairs p → v ≤ w → BeginBelow w pairs p
+begin_below v w pairs p s le k h =
+    let b = ltb-true (edge_at pairs k).0.0 v (s.0 k (record { 0 = 0 }, record { 0 = 0 }) (omega arith) h) in
+    omega arith
+
+-- where the next wire's edges begin, those of this one end
+pub splits-above : (v : ℕ) (pairs : List WireEdge) (p : ℕ) → SplitsBelow (v + 1) pairs p → SplitsAbove v pairs p
+splits-above v pairs p s = (
+  λ k d g h. let b = ltb-true _ (v + 1) (s.0 k d g h) in le-leb _ v (omega arith),
+  λ k d g h. let b = ltb-false _ (v + 1) (s.1 k d g h) in lt-leb _ v (omega arith),
+)
+
+-- all edges begin below the number of wires
+pub all-below : (count : ℕ) (pairs : List WireEdge) → AreEdges count pairs → BeginBelow count pairs (length pairs)
+all-below count pairs edges k h = let j = edges.join k (record { 0 = 0 }, record { 0 = 0 }) h in omega (arith, j.0)
+
+-- the wires before this one are done
+pub record BeginsUpto (pairs : List WireEdge) (begins : List ℕ) (n : ℕ) : Type 0 where
+  pub each : length begins ≡ n
+  pub within : (w : ℕ) → w < n → slice_index begins w ≤ length pairs
+  pub splits : (w : ℕ) → w < n → SplitsBelow w pairs (slice_index begins w)
+
+pub begins-none : (pairs : List WireEdge) → BeginsUpto pairs [] 0
+begins-none pairs = record { each = refl; within = λ w h. absurd (omega arith); splits = λ w h. absurd (omega arith) }
+
+pub begins-more : (pairs : List WireEdge) (begins : List ℕ) (n p : ℕ) → BeginsUpto pairs begins n → p ≤ length pairs → SplitsBelow n pairs p
+    → BeginsUpto pairs (begins ++ p ∷ []) (n + 1)
+begins-more pairs begins n p b le s = record {
+  each = omega (arith, length_push begins p, b.each);
+  within = λ w h. elim (cases_lt w n) [
+    | inl less ↦ let e = kept w less in let l = b.within w less in omega arith
+    | inr over ↦ let e = new w (omega arith) in omega arith
+  ];
+  splits = λ w h. elim (cases_lt w n) [
+    | inl less ↦ subst (SplitsBelow w pairs) (sym (kept w less)) (b.splits w less)
+    | inr over ↦ let same : n ≡ w = omega arith in
+        subst (SplitsBelow w pairs) (sym (new w (sym same))) (subst (λ k. SplitsBelow k pairs p) same s)
+  ];
+}
+  where
+    kept : (w : ℕ) → w < n → slice_index (begins ++ p ∷ []) w ≡ slice_index begins w
+    kept w h = get_or_append_left begins (p ∷ []) 0 w (omega (arith, b.each))
+
+    new : (w : ℕ) → w ≡ n → slice_index (begins ++ p ∷ []) w ≡ p
+    new w e = ap (λ k. get_or (begins ++ p ∷ []) k 0) (let h : w ≡ length begins + 0 = omega (arith, b.each) in h) ∙ get_or-append-add begins (p ∷ []) 0 0
+
+pub begins-all : (count : ℕ) (pairs : List WireEdge) (begins : List ℕ) → BeginsUpto pairs begins (count + 1) → AreBegins count pairs begins
+begins-all count pairs begins b = record {
+  each = b.each;
+  within = λ w h. b.within w (omega arith);
+  splits = λ w h. b.splits w (omega arith);
+}

@@ -1,9 +1,10 @@
 // Wires placed one by one, each when all wires that have an edge to it are placed.
 
 ghost use Rattle.std.specs.Prelude.{◌≡◌, ℕ, ◌+◌, ◌<◌, [], length, slice_index, IfOk, OnOk};
+ghost use Rattle.grc_order.specs.Runs.{AreBegins};
 ghost use Rattle.grc_order.specs.Schedules.{IsScheduleOf, IsReadyOf, arrivals, edges_from};
 
-use crate::edge_runs::edges_from;
+use crate::edge_runs::edges_between;
 use crate::picking::Picker;
 use est_base::{NoMemory, WireId};
 use grc_graph::Edges;
@@ -34,9 +35,15 @@ impl Schedule {
         })
     }
 
-    // Places the ready wire that the picker chooses.
-    pub fn place_next<P: Picker>(&mut self, edges: &Edges, picker: &mut P) -> Result<(), AllocError>
+    // Places the ready wire that the picker chooses. It is known where the edges from each wire begin.
+    pub fn place_next<P: Picker>(
+        &mut self,
+        edges: &Edges,
+        begins: &[usize],
+        picker: &mut P,
+    ) -> Result<(), AllocError>
         requires schedule { IsScheduleOf edges.now [] self.old }
+        requires begins { AreBegins edges.now.count edges.now.pairs.items begins.now }
         requires some_ready { 0 < length self.old.ready.items }
         ensures schedule { OnOk result (IsScheduleOf edges.now [] self.new) }
         ensures longer { OnOk result (length self.new.placed.items ≡ length self.old.placed.items + 1) }
@@ -44,16 +51,18 @@ impl Schedule {
         let place = picker.pick(&self.ready) % self.ready.len();
         let wire = self.ready.swap_remove(place);
         self.placed.push(wire)?;
-        self.release(edges, wire)
+        self.release(edges, begins, wire)
     }
 
     // Takes the edges from a wire, which is placed, off those that other wires wait for.
-    fn release(&mut self, edges: &Edges, wire: WireId) -> Result<(), AllocError>
-        requires { IsScheduleOf edges.now (edges_from wire.0 edges.now.pairs.items) self.old }
+    fn release(&mut self, edges: &Edges, begins: &[usize], wire: WireId) -> Result<(), AllocError>
+        requires schedule { IsScheduleOf edges.now (edges_from wire.0 edges.now.pairs.items) self.old }
+        requires begins { AreBegins edges.now.count edges.now.pairs.items begins.now }
+        requires low { wire.0 < edges.now.count }
         ensures schedule { OnOk result (IsScheduleOf edges.now [] self.new) }
         ensures placed { OnOk result (self.new.placed.items ≡ self.old.placed.items) }
     {
-        for edge in edges_from(edges, wire) {
+        for edge in edges_between(edges, begins, wire) {
             let to = edge.1;
             let left = self.waiting[to.0 as usize] - 1;
             self.waiting[to.0 as usize] = left;

@@ -3,6 +3,7 @@
 ghost use Rattle.std.specs.Prelude.{IfOk};
 ghost use Rattle.grc_graph.specs.WireOrders.{AreRanks, IsWireOrder};
 
+use crate::edge_runs::edge_begins;
 use crate::picking::Picker;
 use crate::schedule::Schedule;
 use est_base::NoMemory;
@@ -11,8 +12,8 @@ use std::alloc::Global;
 
 /// An order of the wires that keeps the edges, as the picker chooses it. The picker is handed the wires that are
 /// not placed and whose predecessors all are, each once, in no stated order. The ranks show that such a wire is
-/// always there; nothing else is made of them. But for the picker, the time is linear in the wires and edges up
-/// to a logarithm. Its only error is want of memory.
+/// always there; nothing else is made of them. But for the picker, the time is linear in the wires and edges. Its
+/// only error is want of memory.
 pub fn order<P: Picker>(
     alloc: Global,
     edges: &Edges,
@@ -22,9 +23,10 @@ pub fn order<P: Picker>(
     requires { AreRanks edges.now.count edges.now.pairs.items _ranks.now.of.items }
     ensures { IfOk result (λ o. IsWireOrder edges.now.count edges.now.pairs.items o.list.items) }
 {
+    let begins = edge_begins(alloc, edges)?;
     let mut schedule = Schedule::new(alloc, edges)?;
     for _ in 0..edges.count {
-        schedule.place_next(edges, picker)?;
+        schedule.place_next(edges, &begins, picker)?;
     }
     Ok(Order {
         list: schedule.placed,

@@ -8,14 +8,14 @@ use Rattle.grc_order.proofs.schedule.Schedule.release.Goals.{then-left-eq0+in_ok
 
 pub index-requires : goal.index-requires
 index-requires c =
-    let run = c.edges_from-edge-items.ensures in
+    let run = c.edges_between-edge-items.ensures in
     let inv = c.loop-edge.invariant in
     rw run (let low = rw run at c.loop-edge-test.true in omega
     (arith, target_low _ _ _ _ _ _ _ c.args.edges.now.are_edges inv.schedule low, inv.schedule.each_wire))
 
 pub index_mut-requires : goal.index_mut-requires
 index_mut-requires c =
-    let run = c.edges_from-edge-items.ensures in
+    let run = c.edges_between-edge-items.ensures in
     let inv = c.loop-edge.invariant in
     rw run (let low = rw run at c.loop-edge-test.true in omega
     (arith, target_low _ _ _ _ _ _ _ c.args.edges.now.are_edges inv.schedule low, inv.schedule.each_wire))
@@ -23,7 +23,7 @@ index_mut-requires c =
 pub overflow_sub-left : goal.overflow_sub-left
 overflow_sub-left c =
     let inv = c.loop-edge.invariant in
-    let run = c.edges_from-edge-items.ensures in
+    let run = c.edges_between-edge-items.ensures in
     let edges = c.args.edges.now.are_edges in
     let low = rw run at c.loop-edge-test.true in
     let e = edge_at (edges_from c.args.wire.0 c.args.edges.now.pairs.items) c.loop-edge.edge-index in
@@ -34,7 +34,7 @@ overflow_sub-left c =
 pub loop-edge-preserved : goal.loop-edge-preserved
 loop-edge-preserved c =
     let inv = c.loop-edge.invariant in
-    let run = c.edges_from-edge-items.ensures in
+    let run = c.edges_between-edge-items.ensures in
     let edges = c.args.edges.now.are_edges in
     let low = rw run at c.loop-edge-test.true in
     let e = edge_at (edges_from c.args.wire.0 c.args.edges.now.pairs.items) c.loop-edge.edge-index in
@@ -53,7 +53,7 @@ loop-edge-preserved c =
 
 pub returns-clause-schedule : goal.returns-clause-schedule
 returns-clause-schedule c =
-    let run = c.edges_from-edge-items.ensures in
-    let over : length c.edges_from-edge-items.result.now ≤ c.loop-edge.edge-index = omega arith in
+    let run = c.edges_between-edge-items.ensures in
+    let over : length c.edges_between-edge-items.result.now ≤ c.loop-edge.edge-index = omega arith in
     let none = drop_all c.loop-edge.edge-index (edges_from c.args.wire.0 c.args.edges.now.pairs.items) (rw run at over) in
     rw none at c.loop-edge.invariant.schedule
