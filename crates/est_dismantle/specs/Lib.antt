@@ -1,3 +1,4 @@
+pub mod Boxes
 pub mod Kernels
 pub mod Counts
 pub mod Expansions

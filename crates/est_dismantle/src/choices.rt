@@ -1,7 +1,7 @@
 // Cases, with kernel terms.
 
 ghost use Rattle.std.specs.Prelude.{◌≡◌, IfOk, map};
-ghost use Rattle.est_kernel.specs.Plain.{term_of};
+ghost use Rattle.est_dismantle.specs.Boxes.{boxed_term};
 ghost use Rattle.est_kernel.specs.Terms.{Present, Seq, Nothing};
 ghost use Rattle.est_dismantle.specs.Choices.{chosen_of, choice_of};
 ghost use Rattle.est_dismantle.specs.FlatNodes.{event_test, any_event_test};
@@ -18,12 +18,16 @@ use std::alloc::Global;
 #[derive(Drop)]
 pub(crate) struct Choice {
     pub event: Test,
-    pub body: Kernel,
+    pub body: Box<Kernel>,
 }
 
 /// The first choice whose event is there, or else the last term.
-pub(crate) fn chosen(alloc: Global, choices: Vec<Choice>, last: Kernel) -> Result<Kernel, NoMemory>
-    ensures { IfOk result (λ k. term_of k ≡ chosen_of (map choice_of choices.items) (term_of last)) }
+pub(crate) fn chosen(
+    alloc: Global,
+    choices: Vec<Choice>,
+    last: Box<Kernel>,
+) -> Result<Box<Kernel>, NoMemory>
+    ensures { IfOk result (λ k. boxed_term k ≡ chosen_of (map choice_of choices.items) (boxed_term last)) }
 {
     let mut rest = choices;
     let mut whole = last;
@@ -37,10 +41,10 @@ pub(crate) fn chosen(alloc: Global, choices: Vec<Choice>, last: Kernel) -> Resul
 pub(crate) fn choice_by(
     alloc: Global,
     event: &FlatExpr,
-    yes: Kernel,
-    no: Kernel,
-) -> Result<Kernel, NoMemory>
-    ensures { IfOk result (λ k. term_of k ≡ Present (event_test event.now) (term_of yes) (term_of no)) }
+    yes: Box<Kernel>,
+    no: Box<Kernel>,
+) -> Result<Box<Kernel>, NoMemory>
+    ensures { IfOk result (λ k. boxed_term k ≡ Present (event_test event.now) (boxed_term yes) (boxed_term no)) }
 {
     let event = test_of(alloc, event)?;
     terms::choice(alloc, event, yes, no)
@@ -52,18 +56,19 @@ pub(crate) fn awaiting_cases(
     at: Span,
     cases: &[FlatCase],
     choices: Vec<Choice>,
-) -> Result<Kernel, NoMemory>
-    ensures { IfOk result (λ k. term_of k
+) -> Result<Box<Kernel>, NoMemory>
+    ensures { IfOk result (λ k. boxed_term k
         ≡ Seq (awaiting at (any_event_test cases.now)) (chosen_of (map choice_of choices.items) Nothing)) }
 {
-    let rest = chosen(alloc, choices, Kernel::Nothing)?;
+    let nothing = terms::node(alloc, Kernel::Nothing)?;
+    let rest = chosen(alloc, choices, nothing)?;
     let first = awaiting_any(alloc, at, cases)?;
     terms::sequence(alloc, first, rest)
 }
 
 // `await` of any event of these cases.
-fn awaiting_any(alloc: Global, at: Span, cases: &[FlatCase]) -> Result<Kernel, NoMemory>
-    ensures { IfOk result (λ k. term_of k ≡ awaiting at (any_event_test cases.now)) }
+fn awaiting_any(alloc: Global, at: Span, cases: &[FlatCase]) -> Result<Box<Kernel>, NoMemory>
+    ensures { IfOk result (λ k. boxed_term k ≡ awaiting at (any_event_test cases.now)) }
 {
     let any = any_event(alloc, cases)?;
     rows::awaiting(alloc, at, any)
@@ -74,15 +79,16 @@ pub(crate) fn aborting_cases(
     alloc: Global,
     at: Span,
     cases: &[FlatCase],
-    body: Kernel,
+    body: Box<Kernel>,
     choices: Vec<Choice>,
-) -> Result<Kernel, NoMemory>
-    ensures { IfOk result (λ k. term_of k
-        ≡ handled (aborting at (any_event_test cases.now) 3 (term_of body))
+) -> Result<Box<Kernel>, NoMemory>
+    ensures { IfOk result (λ k. boxed_term k
+        ≡ handled (aborting at (any_event_test cases.now) 3 (boxed_term body))
         (chosen_of (map choice_of choices.items) Nothing)) }
 {
     let body = aborting_any(alloc, at, cases, body)?;
-    let rest = chosen(alloc, choices, Kernel::Nothing)?;
+    let nothing = terms::node(alloc, Kernel::Nothing)?;
+    let rest = chosen(alloc, choices, nothing)?;
     rows::handled(alloc, body, rest)
 }
 
@@ -91,9 +97,9 @@ fn aborting_any(
     alloc: Global,
     at: Span,
     cases: &[FlatCase],
-    body: Kernel,
-) -> Result<Kernel, NoMemory>
-    ensures { IfOk result (λ k. term_of k ≡ aborting at (any_event_test cases.now) 3 (term_of body)) }
+    body: Box<Kernel>,
+) -> Result<Box<Kernel>, NoMemory>
+    ensures { IfOk result (λ k. boxed_term k ≡ aborting at (any_event_test cases.now) 3 (boxed_term body)) }
 {
     let any = any_event(alloc, cases)?;
     rows::aborting(alloc, at, any, 3, body)

@@ -2,8 +2,9 @@
 
 ghost use Rattle.std.specs.Prelude.{◌≡◌, IfOk, map};
 ghost use Rattle.est_ast.specs.FlatViews.{flat_delay_of};
-ghost use Rattle.est_kernel.specs.Plain.{expression_of, term_of};
-ghost use Rattle.est_kernel.specs.Terms.{Pause, Emit, Exit, Present, Suspend, Seq, Loop, Trap};
+ghost use Rattle.est_kernel.specs.Plain.{expression_of};
+ghost use Rattle.est_dismantle.specs.Boxes.{boxed_term};
+ghost use Rattle.est_kernel.specs.Terms.{Nothing, Pause, Emit, Exit, Present, Suspend, Seq, Loop, Trap};
 ghost use Rattle.est_dismantle.specs.Abortions.{aborting_later, tested, tested_at_once};
 ghost use Rattle.est_dismantle.specs.Kernels.{halting as spec_halting, watching as spec_watching};
 ghost use Rattle.est_dismantle.specs.Kernels.{awaiting as spec_awaiting};
@@ -23,51 +24,69 @@ use est_kernel::{Kernel, Test};
 use std::alloc::Global;
 
 /// `loop pause end`.
-pub(crate) fn halting(alloc: Global, at: Span) -> Result<Kernel, NoMemory>
-    ensures { IfOk result (λ k. term_of k ≡ spec_halting at) }
+pub(crate) fn halting(alloc: Global, at: Span) -> Result<Box<Kernel>, NoMemory>
+    ensures { IfOk result (λ k. boxed_term k ≡ spec_halting at) }
 {
-    terms::endless_loop(alloc, at, Kernel::Pause)
+    let pause = terms::node(alloc, Kernel::Pause)?;
+    terms::endless_loop(alloc, at, pause)
 }
 
 /// `loop emit s; pause end`.
-pub(crate) fn sustaining(alloc: Global, at: Span, signal: SigId) -> Result<Kernel, NoMemory>
-    ensures { IfOk result (λ k. term_of k ≡ Loop at (Seq (Emit signal.0) Pause)) }
+pub(crate) fn sustaining(alloc: Global, at: Span, signal: SigId) -> Result<Box<Kernel>, NoMemory>
+    ensures { IfOk result (λ k. boxed_term k ≡ Loop at (Seq (Emit signal.0) Pause)) }
 {
-    let part = terms::sequence(alloc, Kernel::Emit(signal), Kernel::Pause)?;
+    let emission = terms::node(alloc, Kernel::Emit(signal))?;
+    let pause = terms::node(alloc, Kernel::Pause)?;
+    let part = terms::sequence(alloc, emission, pause)?;
     terms::endless_loop(alloc, at, part)
 }
 
-// `loop pause; present e then exit T end end`, with T the nearest trap.
-fn watching(alloc: Global, at: Span, event: Test) -> Result<Kernel, NoMemory>
-    ensures { IfOk result (λ k. term_of k ≡ spec_watching at (expression_of event)) }
+// `present e then exit T end`, with T the nearest trap.
+fn leaving_at(alloc: Global, event: Test) -> Result<Box<Kernel>, NoMemory>
+    ensures { IfOk result (λ k. boxed_term k ≡ Present (expression_of event) (Exit 2) Nothing) }
 {
-    let leaving = terms::choice(alloc, event, Kernel::Exit(2), Kernel::Nothing)?;
-    let part = terms::sequence(alloc, Kernel::Pause, leaving)?;
+    let exit = terms::node(alloc, Kernel::Exit(2))?;
+    let nothing = terms::node(alloc, Kernel::Nothing)?;
+    terms::choice(alloc, event, exit, nothing)
+}
+
+// `loop pause; present e then exit T end end`, with T the nearest trap.
+fn watching(alloc: Global, at: Span, event: Test) -> Result<Box<Kernel>, NoMemory>
+    ensures { IfOk result (λ k. boxed_term k ≡ spec_watching at (expression_of event)) }
+{
+    let leaving = leaving_at(alloc, event)?;
+    let pause = terms::node(alloc, Kernel::Pause)?;
+    let part = terms::sequence(alloc, pause, leaving)?;
     terms::endless_loop(alloc, at, part)
 }
 
 /// `await e`.
-pub(crate) fn awaiting(alloc: Global, at: Span, event: Test) -> Result<Kernel, NoMemory>
-    ensures { IfOk result (λ k. term_of k ≡ spec_awaiting at (expression_of event)) }
+pub(crate) fn awaiting(alloc: Global, at: Span, event: Test) -> Result<Box<Kernel>, NoMemory>
+    ensures { IfOk result (λ k. boxed_term k ≡ spec_awaiting at (expression_of event)) }
 {
     let part = watching(alloc, at, event)?;
     terms::trap(alloc, part)
 }
 
 // `await immediate e`.
-fn awaiting_immediately(alloc: Global, at: Span, event: Test) -> Result<Kernel, NoMemory>
-    ensures { IfOk result (λ k. term_of k ≡ spec_awaiting_immediately at (expression_of event)) }
+fn awaiting_immediately(alloc: Global, at: Span, event: Test) -> Result<Box<Kernel>, NoMemory>
+    ensures { IfOk result (λ k. boxed_term k ≡ spec_awaiting_immediately at (expression_of event)) }
 {
-    let leaving = terms::choice(alloc, event, Kernel::Exit(2), Kernel::Nothing)?;
-    let part = terms::sequence(alloc, leaving, Kernel::Pause)?;
+    let leaving = leaving_at(alloc, event)?;
+    let pause = terms::node(alloc, Kernel::Pause)?;
+    let part = terms::sequence(alloc, leaving, pause)?;
     let waiting = terms::endless_loop(alloc, at, part)?;
     terms::trap(alloc, waiting)
 }
 
 /// `await d`.
 #[tactic(auto, unfolding(crate::specs::FlatNodes::event_test))]
-pub(crate) fn awaiting_delay(alloc: Global, at: Span, delay: &FlatDelay) -> Result<Kernel, NoMemory>
-    ensures { IfOk result (λ k. term_of k ≡ spec_awaiting_delay at (flat_delay_of delay.now)) }
+pub(crate) fn awaiting_delay(
+    alloc: Global,
+    at: Span,
+    delay: &FlatDelay,
+) -> Result<Box<Kernel>, NoMemory>
+    ensures { IfOk result (λ k. boxed_term k ≡ spec_awaiting_delay at (flat_delay_of delay.now)) }
 {
     match delay {
         FlatDelay::Plain(event) => {
@@ -92,9 +111,9 @@ pub(crate) fn aborting(
     at: Span,
     event: Test,
     code: u8,
-    body: Kernel,
-) -> Result<Kernel, NoMemory>
-    ensures { IfOk result (λ k. term_of k ≡ spec_aborting at (expression_of event) code (term_of body)) }
+    body: Box<Kernel>,
+) -> Result<Box<Kernel>, NoMemory>
+    ensures { IfOk result (λ k. boxed_term k ≡ spec_aborting at (expression_of event) code (boxed_term body)) }
 {
     let again = event.copy(alloc)?;
     let body = leaving(alloc, event, code, body)?;
@@ -103,11 +122,12 @@ pub(crate) fn aborting(
 }
 
 // `suspend p when e; exit`.
-fn leaving(alloc: Global, event: Test, code: u8, body: Kernel) -> Result<Kernel, NoMemory>
-    ensures { IfOk result (λ k. term_of k ≡ Seq (Suspend (expression_of event) (term_of body)) (Exit code)) }
+fn leaving(alloc: Global, event: Test, code: u8, body: Box<Kernel>) -> Result<Box<Kernel>, NoMemory>
+    ensures { IfOk result (λ k. boxed_term k ≡ Seq (Suspend (expression_of event) (boxed_term body)) (Exit code)) }
 {
     let held = terms::suspension(alloc, event, body)?;
-    terms::sequence(alloc, held, Kernel::Exit(code))
+    let exit = terms::node(alloc, Kernel::Exit(code))?;
+    terms::sequence(alloc, held, exit)
 }
 
 // An abortion by a count of 2 or more.
@@ -124,10 +144,10 @@ fn aborting_counted(
     at: Span,
     delay: Counted,
     code: u8,
-    body: Kernel,
-) -> Result<Kernel, NoMemory>
-    ensures { IfOk result (λ k. term_of k
-        ≡ spec_aborting_counted at delay.count (expression_of delay.event) delay.signal.0 code (term_of body)) }
+    body: Box<Kernel>,
+) -> Result<Box<Kernel>, NoMemory>
+    ensures { IfOk result (λ k. boxed_term k
+        ≡ spec_aborting_counted at delay.count (expression_of delay.event) delay.signal.0 code (boxed_term body)) }
 {
     let Counted {
         count,
@@ -140,6 +160,15 @@ fn aborting_counted(
     terms::local(alloc, signal, both)
 }
 
+// `emit x; exit T`, with T the nearest trap.
+fn emitting_exit(alloc: Global, signal: SigId) -> Result<Box<Kernel>, NoMemory>
+    ensures { IfOk result (λ k. boxed_term k ≡ Seq (Emit signal.0) (Exit 2)) }
+{
+    let emission = terms::node(alloc, Kernel::Emit(signal))?;
+    let exit = terms::node(alloc, Kernel::Exit(2))?;
+    terms::sequence(alloc, emission, exit)
+}
+
 // `await n e; emit x; exit T`, with T the nearest trap.
 fn counting(
     alloc: Global,
@@ -147,13 +176,13 @@ fn counting(
     count: u128,
     event: Test,
     signal: SigId,
-) -> Result<Kernel, NoMemory>
-    ensures { IfOk result (λ k. term_of k
+) -> Result<Box<Kernel>, NoMemory>
+    ensures { IfOk result (λ k. boxed_term k
         ≡ Seq (sequence (times count (spec_awaiting at (expression_of event)))) (Seq (Emit signal.0) (Exit 2))) }
 {
     let one = awaiting(alloc, at, event)?;
     let waits = terms::repeated(alloc, count, one)?;
-    let end = terms::sequence(alloc, Kernel::Emit(signal), Kernel::Exit(2))?;
+    let end = emitting_exit(alloc, signal)?;
     terms::sequence(alloc, waits, end)
 }
 
@@ -164,10 +193,10 @@ fn aborting_by(
     delay: &FlatDelay,
     signal: SigId,
     code: u8,
-    body: Kernel,
-) -> Result<Kernel, NoMemory>
-    ensures { IfOk result (λ k. term_of k
-        ≡ aborting_later at (flat_delay_of delay.now) signal.0 code (term_of body)) }
+    body: Box<Kernel>,
+) -> Result<Box<Kernel>, NoMemory>
+    ensures { IfOk result (λ k. boxed_term k
+        ≡ aborting_later at (flat_delay_of delay.now) signal.0 code (boxed_term body)) }
 {
     let event = delay_test(alloc, delay)?;
     match delay {
@@ -205,11 +234,11 @@ fn delay_test(alloc: Global, delay: &FlatDelay) -> Result<Test, NoMemory>
 fn tested_first(
     alloc: Global,
     delay: &FlatDelay,
-    yes: Kernel,
-    no: Kernel,
-) -> Result<Kernel, NoMemory>
-    ensures { IfOk result (λ k. term_of k
-        ≡ tested_at_once (flat_delay_of delay.now) (term_of yes) (term_of no)) }
+    yes: Box<Kernel>,
+    no: Box<Kernel>,
+) -> Result<Box<Kernel>, NoMemory>
+    ensures { IfOk result (λ k. boxed_term k
+        ≡ tested_at_once (flat_delay_of delay.now) (boxed_term yes) (boxed_term no)) }
 {
     match delay {
         FlatDelay::Plain(_) => Ok(no),
@@ -228,14 +257,15 @@ pub(crate) fn abortion(
     at: Span,
     delay: &FlatDelay,
     signal: SigId,
-    body: Kernel,
-) -> Result<Kernel, NoMemory>
-    ensures { IfOk result (λ k. term_of k
-        ≡ spec_abortion at (flat_delay_of delay.now) signal.0 (term_of body)) }
+    body: Box<Kernel>,
+) -> Result<Box<Kernel>, NoMemory>
+    ensures { IfOk result (λ k. boxed_term k
+        ≡ spec_abortion at (flat_delay_of delay.now) signal.0 (boxed_term body)) }
 {
     let part = aborting_by(alloc, at, delay, signal, 2, body)?;
     let part = terms::trap(alloc, part)?;
-    Ok(tested_first(alloc, delay, Kernel::Nothing, part)?)
+    let nothing = terms::node(alloc, Kernel::Nothing)?;
+    Ok(tested_first(alloc, delay, nothing, part)?)
 }
 
 /// What `abort p when d do q end` runs inside its two traps.
@@ -245,18 +275,23 @@ pub(crate) fn aborting_handled(
     at: Span,
     delay: &FlatDelay,
     signal: SigId,
-    body: Kernel,
-) -> Result<Kernel, NoMemory>
-    ensures { IfOk result (λ k. term_of k
-        ≡ spec_aborting_handled at (flat_delay_of delay.now) signal.0 (term_of body)) }
+    body: Box<Kernel>,
+) -> Result<Box<Kernel>, NoMemory>
+    ensures { IfOk result (λ k. boxed_term k
+        ≡ spec_aborting_handled at (flat_delay_of delay.now) signal.0 (boxed_term body)) }
 {
     let part = aborting_by(alloc, at, delay, signal, 3, body)?;
-    Ok(tested_first(alloc, delay, Kernel::Exit(2), part)?)
+    let exit = terms::node(alloc, Kernel::Exit(2))?;
+    Ok(tested_first(alloc, delay, exit, part)?)
 }
 
 /// `trap N in trap T in p end; q end`.
-pub(crate) fn handled(alloc: Global, body: Kernel, rest: Kernel) -> Result<Kernel, NoMemory>
-    ensures { IfOk result (λ k. term_of k ≡ spec_handled (term_of body) (term_of rest)) }
+pub(crate) fn handled(
+    alloc: Global,
+    body: Box<Kernel>,
+    rest: Box<Kernel>,
+) -> Result<Box<Kernel>, NoMemory>
+    ensures { IfOk result (λ k. boxed_term k ≡ spec_handled (boxed_term body) (boxed_term rest)) }
 {
     let body = terms::trap(alloc, body)?;
     let both = terms::sequence(alloc, body, rest)?;
@@ -269,10 +304,10 @@ pub(crate) fn looping_each(
     at: Span,
     delay: &FlatDelay,
     signal: SigId,
-    body: Kernel,
-) -> Result<Kernel, NoMemory>
-    ensures { IfOk result (λ k. term_of k
-        ≡ spec_looping_each at (flat_delay_of delay.now) signal.0 (term_of body)) }
+    body: Box<Kernel>,
+) -> Result<Box<Kernel>, NoMemory>
+    ensures { IfOk result (λ k. boxed_term k
+        ≡ spec_looping_each at (flat_delay_of delay.now) signal.0 (boxed_term body)) }
 {
     let halt = halting(alloc, at)?;
     let body = terms::sequence(alloc, body, halt)?;
@@ -287,10 +322,10 @@ pub(crate) fn looping_later(
     at: Span,
     delay: &FlatDelay,
     signal: SigId,
-    body: Kernel,
-) -> Result<Kernel, NoMemory>
-    ensures { IfOk result (λ k. term_of k
-        ≡ spec_looping_each at (later_delay (flat_delay_of delay.now)) signal.0 (term_of body)) }
+    body: Box<Kernel>,
+) -> Result<Box<Kernel>, NoMemory>
+    ensures { IfOk result (λ k. boxed_term k
+        ≡ spec_looping_each at (later_delay (flat_delay_of delay.now)) signal.0 (boxed_term body)) }
 {
     let halt = halting(alloc, at)?;
     let body = terms::sequence(alloc, body, halt)?;
@@ -304,10 +339,10 @@ pub(crate) fn after_delay(
     alloc: Global,
     at: Span,
     delay: &FlatDelay,
-    rest: Kernel,
-) -> Result<Kernel, NoMemory>
-    ensures { IfOk result (λ k. term_of k
-        ≡ Seq (spec_awaiting_delay at (flat_delay_of delay.now)) (term_of rest)) }
+    rest: Box<Kernel>,
+) -> Result<Box<Kernel>, NoMemory>
+    ensures { IfOk result (λ k. boxed_term k
+        ≡ Seq (spec_awaiting_delay at (flat_delay_of delay.now)) (boxed_term rest)) }
 {
     let first = awaiting_delay(alloc, at, delay)?;
     terms::sequence(alloc, first, rest)
@@ -319,11 +354,11 @@ pub(crate) fn looping_every(
     at: Span,
     delay: &FlatDelay,
     signal: SigId,
-    body: Kernel,
-) -> Result<Kernel, NoMemory>
-    ensures { IfOk result (λ k. term_of k
+    body: Box<Kernel>,
+) -> Result<Box<Kernel>, NoMemory>
+    ensures { IfOk result (λ k. boxed_term k
         ≡ Seq (spec_awaiting_delay at (flat_delay_of delay.now))
-        (spec_looping_each at (later_delay (flat_delay_of delay.now)) signal.0 (term_of body))) }
+        (spec_looping_each at (later_delay (flat_delay_of delay.now)) signal.0 (boxed_term body))) }
 {
     let each = looping_later(alloc, at, delay, signal, body)?;
     after_delay(alloc, at, delay, each)
@@ -335,21 +370,26 @@ pub(crate) fn handled_abortion(
     at: Span,
     delay: &FlatDelay,
     signal: SigId,
-    body: Kernel,
-    rest: Kernel,
-) -> Result<Kernel, NoMemory>
-    ensures { IfOk result (λ k. term_of k
-        ≡ spec_handled (spec_aborting_handled at (flat_delay_of delay.now) signal.0 (term_of body)) (term_of rest)) }
+    body: Box<Kernel>,
+    rest: Box<Kernel>,
+) -> Result<Box<Kernel>, NoMemory>
+    ensures { IfOk result (λ k. boxed_term k
+        ≡ spec_handled (spec_aborting_handled at (flat_delay_of delay.now) signal.0 (boxed_term body)) (boxed_term rest)) }
 {
     let body = aborting_handled(alloc, at, delay, signal, body)?;
     handled(alloc, body, rest)
 }
 
 /// `trap T in p handle T do q end`.
-pub(crate) fn handled_trap(alloc: Global, body: Kernel, rest: Kernel) -> Result<Kernel, NoMemory>
-    ensures { IfOk result (λ k. term_of k ≡ spec_handled (Seq (term_of body) (Exit 3)) (term_of rest)) }
+pub(crate) fn handled_trap(
+    alloc: Global,
+    body: Box<Kernel>,
+    rest: Box<Kernel>,
+) -> Result<Box<Kernel>, NoMemory>
+    ensures { IfOk result (λ k. boxed_term k ≡ spec_handled (Seq (boxed_term body) (Exit 3)) (boxed_term rest)) }
 {
-    let body = terms::sequence(alloc, body, Kernel::Exit(3))?;
+    let exit = terms::node(alloc, Kernel::Exit(3))?;
+    let body = terms::sequence(alloc, body, exit)?;
     handled(alloc, body, rest)
 }
 
@@ -358,25 +398,29 @@ pub(crate) fn aborting_weakly(
     alloc: Global,
     at: Span,
     delay: &FlatDelay,
-    body: Kernel,
-) -> Result<Kernel, NoMemory>
-    ensures { IfOk result (λ k. term_of k
-        ≡ spec_aborting_weakly at (flat_delay_of delay.now) (term_of body)) }
+    body: Box<Kernel>,
+) -> Result<Box<Kernel>, NoMemory>
+    ensures { IfOk result (λ k. boxed_term k
+        ≡ spec_aborting_weakly at (flat_delay_of delay.now) (boxed_term body)) }
 {
-    let body = terms::sequence(alloc, body, Kernel::Exit(2))?;
+    let exit = terms::node(alloc, Kernel::Exit(2))?;
+    let body = terms::sequence(alloc, body, exit)?;
     let waits = awaiting_delay(alloc, at, delay)?;
-    let waits = terms::sequence(alloc, waits, Kernel::Exit(2))?;
+    let exit = terms::node(alloc, Kernel::Exit(2))?;
+    let waits = terms::sequence(alloc, waits, exit)?;
     let both = terms::parallel(alloc, body, waits)?;
     Ok(terms::trap(alloc, both)?)
 }
 
 // `trap T in loop present e then pause else exit T end end end`.
-fn waiting_out(alloc: Global, at: Span, event: &Test) -> Result<Kernel, NoMemory>
-    ensures { IfOk result (λ k. term_of k
+fn waiting_out(alloc: Global, at: Span, event: &Test) -> Result<Box<Kernel>, NoMemory>
+    ensures { IfOk result (λ k. boxed_term k
         ≡ Trap (Loop at (Present (expression_of event.now) Pause (Exit 2)))) }
 {
     let event = event.copy(alloc)?;
-    let part = terms::choice(alloc, event, Kernel::Pause, Kernel::Exit(2))?;
+    let pause = terms::node(alloc, Kernel::Pause)?;
+    let exit = terms::node(alloc, Kernel::Exit(2))?;
+    let part = terms::choice(alloc, event, pause, exit)?;
     let part = terms::endless_loop(alloc, at, part)?;
     terms::trap(alloc, part)
 }
@@ -386,10 +430,10 @@ pub(crate) fn suspension(
     alloc: Global,
     at: Span,
     delay: &FlatDelay,
-    body: Kernel,
-) -> Result<Kernel, NoMemory>
-    ensures { IfOk result (λ k. term_of k
-        ≡ spec_suspension at (flat_delay_of delay.now) (term_of body)) }
+    body: Box<Kernel>,
+) -> Result<Box<Kernel>, NoMemory>
+    ensures { IfOk result (λ k. boxed_term k
+        ≡ spec_suspension at (flat_delay_of delay.now) (boxed_term body)) }
 {
     let event = delay_test(alloc, delay)?;
     match delay {
@@ -404,10 +448,10 @@ fn suspension_at_once(
     alloc: Global,
     at: Span,
     event: Test,
-    body: Kernel,
-) -> Result<Kernel, NoMemory>
-    ensures { IfOk result (λ k. term_of k ≡ Seq (Trap (Loop at (Present (expression_of event) Pause (Exit 2))))
-        (Suspend (expression_of event) (term_of body))) }
+    body: Box<Kernel>,
+) -> Result<Box<Kernel>, NoMemory>
+    ensures { IfOk result (λ k. boxed_term k ≡ Seq (Trap (Loop at (Present (expression_of event) Pause (Exit 2))))
+        (Suspend (expression_of event) (boxed_term body))) }
 {
     let waiting = waiting_out(alloc, at, &event)?;
     let part = terms::suspension(alloc, event, body)?;
@@ -415,8 +459,12 @@ fn suspension_at_once(
 }
 
 /// Local signals, the first outermost.
-pub(crate) fn locals(alloc: Global, signals: &[SigId], body: Kernel) -> Result<Kernel, NoMemory>
-    ensures { IfOk result (λ k. term_of k ≡ spec_locals (map (λ s. s.0) signals.now) (term_of body)) }
+pub(crate) fn locals(
+    alloc: Global,
+    signals: &[SigId],
+    body: Box<Kernel>,
+) -> Result<Box<Kernel>, NoMemory>
+    ensures { IfOk result (λ k. boxed_term k ≡ spec_locals (map (λ s. s.0) signals.now) (boxed_term body)) }
 {
     let count = signals.len();
     let mut whole = body;

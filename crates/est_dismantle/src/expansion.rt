@@ -1,7 +1,7 @@
 // Kernel expansion: the kernel term of a flat statement.
 
 ghost use Rattle.std.specs.Prelude.{◌≡◌, ◌+◌, IfOk, OnOk, map};
-ghost use Rattle.est_kernel.specs.Plain.{term_of};
+ghost use Rattle.est_dismantle.specs.Boxes.{boxed_term};
 ghost use Rattle.est_dismantle.specs.Choices.{choice_of};
 ghost use Rattle.est_dismantle.specs.FlatNodes.{stmt_kernel, node_kernel, part_kernel, stmts_kernels, choices};
 ghost use Rattle.est_dismantle.specs.FlatNodes.{case_choice, stmt_new, node_new, part_new, stmts_new, cases_new};
@@ -9,7 +9,6 @@ ghost use Rattle.est_dismantle.specs.FlatNodes.{case_new};
 ghost use Rattle.est_dismantle.specs.MarkLists.{marks_of};
 
 use crate::choices::Choice;
-use crate::derived as rows;
 use crate::events::test_of;
 use crate::forms::{
     expand_abort, expand_abort_case, expand_await, expand_await_case, expand_every, expand_loop,
@@ -17,6 +16,7 @@ use crate::forms::{
     expand_signal, expand_suspend, expand_trap, expand_weak_abort,
 };
 use crate::marks::{Marks, code};
+use crate::{derived as rows, terms};
 use est_ast::{FlatCase, FlatForm, FlatStmt};
 use est_base::{NoMemory, Span};
 use est_kernel::Kernel;
@@ -31,8 +31,8 @@ pub(crate) fn expand(
     statement: &FlatStmt,
     marks: &Marks,
     next: &mut u32,
-) -> Result<Kernel, NoMemory>
-    ensures term { IfOk result (λ k. term_of k ≡ stmt_kernel (marks_of marks.now) next.old statement.now) }
+) -> Result<Box<Kernel>, NoMemory>
+    ensures term { IfOk result (λ k. boxed_term k ≡ stmt_kernel (marks_of marks.now) next.old statement.now) }
     ensures next { OnOk result (next.new ≡ next.old + stmt_new statement.now) }
 {
     Ok(expand_form(alloc, &statement.form, statement.span, marks, next)?)
@@ -46,15 +46,15 @@ fn expand_form(
     at: Span,
     marks: &Marks,
     next: &mut u32,
-) -> Result<Kernel, NoMemory>
-    ensures term { IfOk result (λ k. term_of k ≡ node_kernel (marks_of marks.now) next.old at form.now) }
+) -> Result<Box<Kernel>, NoMemory>
+    ensures term { IfOk result (λ k. boxed_term k ≡ node_kernel (marks_of marks.now) next.old at form.now) }
     ensures next { OnOk result (next.new ≡ next.old + node_new form.now) }
 {
     match form {
-        FlatForm::Nothing => Ok(Kernel::Nothing),
-        FlatForm::Pause => Ok(Kernel::Pause),
+        FlatForm::Nothing => terms::node(alloc, Kernel::Nothing),
+        FlatForm::Pause => terms::node(alloc, Kernel::Pause),
         FlatForm::Halt => Ok(rows::halting(alloc, at)?),
-        FlatForm::Emit(signal) => Ok(Kernel::Emit(*signal)),
+        FlatForm::Emit(signal) => terms::node(alloc, Kernel::Emit(*signal)),
         FlatForm::Sustain(signal) => Ok(rows::sustaining(alloc, at, *signal)?),
         FlatForm::Await(delay, rest) => expand_await(alloc, at, delay, rest, marks, next),
         FlatForm::AwaitCase(cases) => expand_await_case(alloc, at, cases, marks, next),
@@ -72,7 +72,7 @@ fn expand_form(
         FlatForm::Suspend(body, delay) => expand_suspend(alloc, at, body, delay, marks, next),
         FlatForm::Trap(body, handler) => expand_trap(alloc, body, handler, marks, next),
         FlatForm::Exit(between) => match code(marks, *between) {
-            Some(code) => Ok(Kernel::Exit(code)),
+            Some(code) => terms::node(alloc, Kernel::Exit(code)),
             None => Err(NoMemory),
         },
         FlatForm::Signal(signals, body) => expand_signal(alloc, signals, body, marks, next),
@@ -88,12 +88,12 @@ pub(crate) fn expand_part(
     part: &Option<Box<FlatStmt>>,
     marks: &Marks,
     next: &mut u32,
-) -> Result<Kernel, NoMemory>
-    ensures term { IfOk result (λ k. term_of k ≡ part_kernel (marks_of marks.now) next.old part.now) }
+) -> Result<Box<Kernel>, NoMemory>
+    ensures term { IfOk result (λ k. boxed_term k ≡ part_kernel (marks_of marks.now) next.old part.now) }
     ensures next { OnOk result (next.new ≡ next.old + part_new part.now) }
 {
     match part {
-        None => Ok(Kernel::Nothing),
+        None => terms::node(alloc, Kernel::Nothing),
         Some(statement) => Ok(expand(alloc, statement, marks, next)?),
     }
 }
@@ -105,8 +105,8 @@ pub(crate) fn expand_parts(
     parts: &[FlatStmt],
     marks: &Marks,
     next: &mut u32,
-) -> Result<Vec<Kernel>, NoMemory>
-    ensures terms { IfOk result (λ v. map term_of v.items ≡ stmts_kernels (marks_of marks.now) next.old parts.now) }
+) -> Result<Vec<Box<Kernel>>, NoMemory>
+    ensures terms { IfOk result (λ v. map boxed_term v.items ≡ stmts_kernels (marks_of marks.now) next.old parts.now) }
     ensures next { OnOk result (next.new ≡ next.old + stmts_new parts.now) }
 {
     let mut kernels = Vec::new(alloc);
@@ -148,7 +148,7 @@ fn expand_case(
     let event = test_of(alloc, &case.event)?;
     match &case.body {
         None => {
-            let body = Kernel::Nothing;
+            let body = terms::node(alloc, Kernel::Nothing)?;
             Ok(Choice { event, body })
         }
         Some(statement) => {

@@ -8,7 +8,7 @@ ghost use Rattle.est_base.specs.declared.place.Span.{Span as CodeSpan};
 ghost use Rattle.est_ast.specs.declared.flat.FlatForm.TheVariants.{Await, AwaitCase, Present, PresentCase, Loop};
 ghost use Rattle.est_ast.specs.declared.flat.FlatForm.TheVariants.{LoopEach, Every, Repeat, Abort, AbortCase};
 ghost use Rattle.est_ast.specs.declared.flat.FlatForm.TheVariants.{WeakAbort, Suspend, Trap, Signal, Seq, Par};
-ghost use Rattle.est_kernel.specs.Plain.{term_of};
+ghost use Rattle.est_dismantle.specs.Boxes.{boxed_term};
 ghost use Rattle.est_dismantle.specs.FlatNodes.{node_kernel, node_new, delay_new};
 ghost use Rattle.est_dismantle.specs.MarkLists.{marks_of};
 
@@ -32,8 +32,8 @@ pub(crate) fn expand_await(
     rest: &Option<Box<FlatStmt>>,
     marks: &Marks,
     next: &mut u32,
-) -> Result<Kernel, NoMemory>
-    ensures term { IfOk result (λ k. term_of k
+) -> Result<Box<Kernel>, NoMemory>
+    ensures term { IfOk result (λ k. boxed_term k
         ≡ node_kernel (marks_of marks.now) next.old at (Await delay.now rest.now)) }
     ensures next { OnOk result (next.new ≡ next.old + node_new (Await delay.now rest.now)) }
 {
@@ -56,8 +56,8 @@ pub(crate) fn expand_await_case(
     cases: &Vec<FlatCase>,
     marks: &Marks,
     next: &mut u32,
-) -> Result<Kernel, NoMemory>
-    ensures term { IfOk result (λ k. term_of k
+) -> Result<Box<Kernel>, NoMemory>
+    ensures term { IfOk result (λ k. boxed_term k
         ≡ node_kernel (marks_of marks.now) next.old at (AwaitCase cases.now)) }
     ensures next { OnOk result (next.new ≡ next.old + node_new (AwaitCase cases.now)) }
 {
@@ -76,8 +76,8 @@ pub(crate) fn expand_present(
     no: &Option<Box<FlatStmt>>,
     marks: &Marks,
     next: &mut u32,
-) -> Result<Kernel, NoMemory>
-    ensures term { (at : CodeSpan) → IfOk result (λ k. term_of k
+) -> Result<Box<Kernel>, NoMemory>
+    ensures term { (at : CodeSpan) → IfOk result (λ k. boxed_term k
         ≡ node_kernel (marks_of marks.now) next.old at (Present test.now yes.now no.now)) }
     ensures next { OnOk result (next.new ≡ next.old + node_new (Present test.now yes.now no.now)) }
 {
@@ -96,8 +96,8 @@ pub(crate) fn expand_present_case(
     no: &Option<Box<FlatStmt>>,
     marks: &Marks,
     next: &mut u32,
-) -> Result<Kernel, NoMemory>
-    ensures term { (at : CodeSpan) → IfOk result (λ k. term_of k
+) -> Result<Box<Kernel>, NoMemory>
+    ensures term { (at : CodeSpan) → IfOk result (λ k. boxed_term k
         ≡ node_kernel (marks_of marks.now) next.old at (PresentCase cases.now no.now)) }
     ensures next { OnOk result (next.new ≡ next.old + node_new (PresentCase cases.now no.now)) }
 {
@@ -116,8 +116,8 @@ pub(crate) fn expand_loop(
     body: &Box<FlatStmt>,
     marks: &Marks,
     next: &mut u32,
-) -> Result<Kernel, NoMemory>
-    ensures term { IfOk result (λ k. term_of k
+) -> Result<Box<Kernel>, NoMemory>
+    ensures term { IfOk result (λ k. boxed_term k
         ≡ node_kernel (marks_of marks.now) next.old at (Loop body.now)) }
     ensures next { OnOk result (next.new ≡ next.old + node_new (Loop body.now)) }
 {
@@ -136,8 +136,8 @@ pub(crate) fn expand_loop_each(
     delay: &FlatDelay,
     marks: &Marks,
     next: &mut u32,
-) -> Result<Kernel, NoMemory>
-    ensures term { IfOk result (λ k. term_of k
+) -> Result<Box<Kernel>, NoMemory>
+    ensures term { IfOk result (λ k. boxed_term k
         ≡ node_kernel (marks_of marks.now) next.old at (LoopEach body.now delay.now)) }
     ensures next { OnOk result (next.new ≡ next.old + node_new (LoopEach body.now delay.now)) }
 {
@@ -157,8 +157,8 @@ pub(crate) fn expand_every(
     body: &Box<FlatStmt>,
     marks: &Marks,
     next: &mut u32,
-) -> Result<Kernel, NoMemory>
-    ensures term { IfOk result (λ k. term_of k
+) -> Result<Box<Kernel>, NoMemory>
+    ensures term { IfOk result (λ k. boxed_term k
         ≡ node_kernel (marks_of marks.now) next.old at (Every delay.now body.now)) }
     ensures next { OnOk result (next.new ≡ next.old + node_new (Every delay.now body.now)) }
 {
@@ -177,8 +177,8 @@ pub(crate) fn expand_repeat(
     body: &Box<FlatStmt>,
     marks: &Marks,
     next: &mut u32,
-) -> Result<Kernel, NoMemory>
-    ensures term { (at span : CodeSpan) → IfOk result (λ k. term_of k
+) -> Result<Box<Kernel>, NoMemory>
+    ensures term { (at span : CodeSpan) → IfOk result (λ k. boxed_term k
         ≡ node_kernel (marks_of marks.now) next.old at (Repeat count span body.now)) }
     ensures next { (span : CodeSpan) → OnOk result (next.new ≡ next.old + node_new (Repeat count span body.now)) }
 {
@@ -198,8 +198,8 @@ pub(crate) fn expand_abort(
     rest: &Option<Box<FlatStmt>>,
     marks: &Marks,
     next: &mut u32,
-) -> Result<Kernel, NoMemory>
-    ensures term { IfOk result (λ k. term_of k
+) -> Result<Box<Kernel>, NoMemory>
+    ensures term { IfOk result (λ k. boxed_term k
         ≡ node_kernel (marks_of marks.now) next.old at (Abort body.now delay.now rest.now)) }
     ensures next { OnOk result (next.new ≡ next.old + node_new (Abort body.now delay.now rest.now)) }
 {
@@ -229,8 +229,8 @@ pub(crate) fn expand_abort_case(
     cases: &Vec<FlatCase>,
     marks: &Marks,
     next: &mut u32,
-) -> Result<Kernel, NoMemory>
-    ensures term { IfOk result (λ k. term_of k
+) -> Result<Box<Kernel>, NoMemory>
+    ensures term { IfOk result (λ k. boxed_term k
         ≡ node_kernel (marks_of marks.now) next.old at (AbortCase body.now cases.now)) }
     ensures next { OnOk result (next.new ≡ next.old + node_new (AbortCase body.now cases.now)) }
 {
@@ -251,8 +251,8 @@ pub(crate) fn expand_weak_abort(
     delay: &FlatDelay,
     marks: &Marks,
     next: &mut u32,
-) -> Result<Kernel, NoMemory>
-    ensures term { IfOk result (λ k. term_of k
+) -> Result<Box<Kernel>, NoMemory>
+    ensures term { IfOk result (λ k. boxed_term k
         ≡ node_kernel (marks_of marks.now) next.old at (WeakAbort body.now delay.now)) }
     ensures next { OnOk result (next.new ≡ next.old + node_new (WeakAbort body.now delay.now)) }
 {
@@ -271,8 +271,8 @@ pub(crate) fn expand_suspend(
     delay: &FlatDelay,
     marks: &Marks,
     next: &mut u32,
-) -> Result<Kernel, NoMemory>
-    ensures term { IfOk result (λ k. term_of k
+) -> Result<Box<Kernel>, NoMemory>
+    ensures term { IfOk result (λ k. boxed_term k
         ≡ node_kernel (marks_of marks.now) next.old at (Suspend body.now delay.now)) }
     ensures next { OnOk result (next.new ≡ next.old + node_new (Suspend body.now delay.now)) }
 {
@@ -290,8 +290,8 @@ pub(crate) fn expand_trap(
     handler: &Option<Box<FlatStmt>>,
     marks: &Marks,
     next: &mut u32,
-) -> Result<Kernel, NoMemory>
-    ensures term { (at : CodeSpan) → IfOk result (λ k. term_of k
+) -> Result<Box<Kernel>, NoMemory>
+    ensures term { (at : CodeSpan) → IfOk result (λ k. boxed_term k
         ≡ node_kernel (marks_of marks.now) next.old at (Trap body.now handler.now)) }
     ensures next { OnOk result (next.new ≡ next.old + node_new (Trap body.now handler.now)) }
 {
@@ -319,8 +319,8 @@ pub(crate) fn expand_signal(
     body: &Box<FlatStmt>,
     marks: &Marks,
     next: &mut u32,
-) -> Result<Kernel, NoMemory>
-    ensures term { (at : CodeSpan) → IfOk result (λ k. term_of k
+) -> Result<Box<Kernel>, NoMemory>
+    ensures term { (at : CodeSpan) → IfOk result (λ k. boxed_term k
         ≡ node_kernel (marks_of marks.now) next.old at (Signal signals.now body.now)) }
     ensures next { OnOk result (next.new ≡ next.old + node_new (Signal signals.now body.now)) }
 {
@@ -337,8 +337,8 @@ pub(crate) fn expand_seq(
     parts: &Vec<FlatStmt>,
     marks: &Marks,
     next: &mut u32,
-) -> Result<Kernel, NoMemory>
-    ensures term { (at : CodeSpan) → IfOk result (λ k. term_of k
+) -> Result<Box<Kernel>, NoMemory>
+    ensures term { (at : CodeSpan) → IfOk result (λ k. boxed_term k
         ≡ node_kernel (marks_of marks.now) next.old at (Seq parts.now)) }
     ensures next { OnOk result (next.new ≡ next.old + node_new (Seq parts.now)) }
 {
@@ -355,8 +355,8 @@ pub(crate) fn expand_par(
     parts: &Vec<FlatStmt>,
     marks: &Marks,
     next: &mut u32,
-) -> Result<Kernel, NoMemory>
-    ensures term { (at : CodeSpan) → IfOk result (λ k. term_of k
+) -> Result<Box<Kernel>, NoMemory>
+    ensures term { (at : CodeSpan) → IfOk result (λ k. boxed_term k
         ≡ node_kernel (marks_of marks.now) next.old at (Par parts.now)) }
     ensures next { OnOk result (next.new ≡ next.old + node_new (Par parts.now)) }
 {

@@ -73,13 +73,14 @@ fn program(alloc: Global, flat: &Flat) -> Result<KernelProgram, NoMemory>
     let body = expand(alloc, &flat.body, &Marks::Whole, &mut next)?;
     let signals = signals_with(alloc, flat.signals.as_slice(), next - first)?;
     let relations = same_relations(alloc, flat.relations.as_slice())?;
+    let name = Text::from_bytes(alloc, flat.name.bytes())?;
     Ok(KernelProgram {
-        name: Text::from_bytes(alloc, flat.name.bytes())?,
+        name,
         signals,
         inputs: flat.inputs,
         both: flat.both,
         outputs: flat.outputs,
         relations,
-        body,
+        body: Box::into_inner(body),
     })
 }

@@ -2,6 +2,7 @@
 
 ghost use Rattle.std.specs.Prelude.{◌≡◌, IfOk, map};
 ghost use Rattle.est_kernel.specs.Plain.{expression_of, term_of};
+ghost use Rattle.est_dismantle.specs.Boxes.{boxed_term};
 ghost use Rattle.est_kernel.specs.Terms.{Present, Suspend, Seq, Loop, Par, Trap, Local};
 ghost use Rattle.est_dismantle.specs.Kernels.{sequence as spec_sequence, parallel as spec_parallel, times};
 
@@ -9,70 +10,94 @@ use est_base::{NoMemory, SigId, Span};
 use est_kernel::{Kernel, Test};
 use std::alloc::Global;
 
+/// A statement in a box: what is built is kept so, since a box is dropped by one call.
+pub(crate) fn node(alloc: Global, kernel: Kernel) -> Result<Box<Kernel>, NoMemory>
+    ensures { IfOk result (λ k. boxed_term k ≡ term_of kernel) }
+{
+    Ok(Box::new(alloc, kernel)?)
+}
+
 /// `present e then p else q end`.
 pub(crate) fn choice(
     alloc: Global,
     event: Test,
-    yes: Kernel,
-    no: Kernel,
-) -> Result<Kernel, NoMemory>
-    ensures { IfOk result (λ k. term_of k ≡ Present (expression_of event) (term_of yes) (term_of no)) }
+    yes: Box<Kernel>,
+    no: Box<Kernel>,
+) -> Result<Box<Kernel>, NoMemory>
+    ensures { IfOk result (λ k. boxed_term k ≡ Present (expression_of event) (boxed_term yes) (boxed_term no)) }
 {
-    let yes = Box::new(alloc, yes)?;
-    Ok(Kernel::Present(event, yes, Box::new(alloc, no)?))
+    node(alloc, Kernel::Present(event, yes, no))
 }
 
 /// `suspend p when e`.
-pub(crate) fn suspension(alloc: Global, event: Test, part: Kernel) -> Result<Kernel, NoMemory>
-    ensures { IfOk result (λ k. term_of k ≡ Suspend (expression_of event) (term_of part)) }
+pub(crate) fn suspension(
+    alloc: Global,
+    event: Test,
+    part: Box<Kernel>,
+) -> Result<Box<Kernel>, NoMemory>
+    ensures { IfOk result (λ k. boxed_term k ≡ Suspend (expression_of event) (boxed_term part)) }
 {
-    Ok(Kernel::Suspend(event, Box::new(alloc, part)?))
+    node(alloc, Kernel::Suspend(event, part))
 }
 
 /// `p; q`.
-pub(crate) fn sequence(alloc: Global, first: Kernel, second: Kernel) -> Result<Kernel, NoMemory>
-    ensures { IfOk result (λ k. term_of k ≡ Seq (term_of first) (term_of second)) }
+pub(crate) fn sequence(
+    alloc: Global,
+    first: Box<Kernel>,
+    second: Box<Kernel>,
+) -> Result<Box<Kernel>, NoMemory>
+    ensures { IfOk result (λ k. boxed_term k ≡ Seq (boxed_term first) (boxed_term second)) }
 {
-    let first = Box::new(alloc, first)?;
-    Ok(Kernel::Seq(first, Box::new(alloc, second)?))
+    node(alloc, Kernel::Seq(first, second))
 }
 
 /// `p || q`.
-pub(crate) fn parallel(alloc: Global, left: Kernel, right: Kernel) -> Result<Kernel, NoMemory>
-    ensures { IfOk result (λ k. term_of k ≡ Par (term_of left) (term_of right)) }
+pub(crate) fn parallel(
+    alloc: Global,
+    left: Box<Kernel>,
+    right: Box<Kernel>,
+) -> Result<Box<Kernel>, NoMemory>
+    ensures { IfOk result (λ k. boxed_term k ≡ Par (boxed_term left) (boxed_term right)) }
 {
-    let left = Box::new(alloc, left)?;
-    Ok(Kernel::Par(left, Box::new(alloc, right)?))
+    node(alloc, Kernel::Par(left, right))
 }
 
 /// `loop p end`, of the source statement at this place.
-pub(crate) fn endless_loop(alloc: Global, at: Span, part: Kernel) -> Result<Kernel, NoMemory>
-    ensures { IfOk result (λ k. term_of k ≡ Loop at (term_of part)) }
+pub(crate) fn endless_loop(
+    alloc: Global,
+    at: Span,
+    part: Box<Kernel>,
+) -> Result<Box<Kernel>, NoMemory>
+    ensures { IfOk result (λ k. boxed_term k ≡ Loop at (boxed_term part)) }
 {
-    Ok(Kernel::Loop(at, Box::new(alloc, part)?))
+    node(alloc, Kernel::Loop(at, part))
 }
 
 /// `trap T in p end`.
-pub(crate) fn trap(alloc: Global, part: Kernel) -> Result<Kernel, NoMemory>
-    ensures { IfOk result (λ k. term_of k ≡ Trap (term_of part)) }
+pub(crate) fn trap(alloc: Global, part: Box<Kernel>) -> Result<Box<Kernel>, NoMemory>
+    ensures { IfOk result (λ k. boxed_term k ≡ Trap (boxed_term part)) }
 {
-    Ok(Kernel::Trap(Box::new(alloc, part)?))
+    node(alloc, Kernel::Trap(part))
 }
 
 /// `signal s in p end`.
-pub(crate) fn local(alloc: Global, signal: SigId, part: Kernel) -> Result<Kernel, NoMemory>
-    ensures { IfOk result (λ k. term_of k ≡ Local signal.0 (term_of part)) }
+pub(crate) fn local(
+    alloc: Global,
+    signal: SigId,
+    part: Box<Kernel>,
+) -> Result<Box<Kernel>, NoMemory>
+    ensures { IfOk result (λ k. boxed_term k ≡ Local signal.0 (boxed_term part)) }
 {
-    Ok(Kernel::Local(signal, Box::new(alloc, part)?))
+    node(alloc, Kernel::Local(signal, part))
 }
 
 /// The parts one after another.
-pub(crate) fn sequence_of(alloc: Global, parts: Vec<Kernel>) -> Result<Kernel, NoMemory>
-    ensures { IfOk result (λ k. term_of k ≡ spec_sequence (map term_of parts.items)) }
+pub(crate) fn sequence_of(alloc: Global, parts: Vec<Box<Kernel>>) -> Result<Box<Kernel>, NoMemory>
+    ensures { IfOk result (λ k. boxed_term k ≡ spec_sequence (map boxed_term parts.items)) }
 {
     let mut rest = parts;
     let Some(mut whole) = rest.pop() else {
-        return Ok(Kernel::Nothing);
+        return node(alloc, Kernel::Nothing);
     };
     while let Some(part) = rest.pop() {
         whole = sequence(alloc, part, whole)?;
@@ -81,12 +106,12 @@ pub(crate) fn sequence_of(alloc: Global, parts: Vec<Kernel>) -> Result<Kernel, N
 }
 
 /// The parts side by side.
-pub(crate) fn parallel_of(alloc: Global, parts: Vec<Kernel>) -> Result<Kernel, NoMemory>
-    ensures { IfOk result (λ k. term_of k ≡ spec_parallel (map term_of parts.items)) }
+pub(crate) fn parallel_of(alloc: Global, parts: Vec<Box<Kernel>>) -> Result<Box<Kernel>, NoMemory>
+    ensures { IfOk result (λ k. boxed_term k ≡ spec_parallel (map boxed_term parts.items)) }
 {
     let mut rest = parts;
     let Some(mut whole) = rest.pop() else {
-        return Ok(Kernel::Nothing);
+        return node(alloc, Kernel::Nothing);
     };
     while let Some(part) = rest.pop() {
         whole = parallel(alloc, part, whole)?;
@@ -95,24 +120,28 @@ pub(crate) fn parallel_of(alloc: Global, parts: Vec<Kernel>) -> Result<Kernel, N
 }
 
 /// So many copies of the part in one sequence.
-pub(crate) fn repeated(alloc: Global, count: u128, part: Kernel) -> Result<Kernel, NoMemory>
-    ensures { IfOk result (λ k. term_of k ≡ spec_sequence (times count (term_of part))) }
+pub(crate) fn repeated(
+    alloc: Global,
+    count: u128,
+    part: Box<Kernel>,
+) -> Result<Box<Kernel>, NoMemory>
+    ensures { IfOk result (λ k. boxed_term k ≡ spec_sequence (times count (boxed_term part))) }
 {
     if count == 0 {
-        return Ok(Kernel::Nothing);
+        return node(alloc, Kernel::Nothing);
     }
-    let mut copies = copies_of(alloc, count - 1, &part)?;
+    let mut copies = copies_of(alloc, count - 1, &*part)?;
     copies.push(part)?;
     Ok(sequence_of(alloc, copies)?)
 }
 
 // So many copies of the part.
-fn copies_of(alloc: Global, count: u128, part: &Kernel) -> Result<Vec<Kernel>, NoMemory>
-    ensures { IfOk result (λ v. map term_of v.items ≡ times count (term_of part.now)) }
+fn copies_of(alloc: Global, count: u128, part: &Kernel) -> Result<Vec<Box<Kernel>>, NoMemory>
+    ensures { IfOk result (λ v. map boxed_term v.items ≡ times count (term_of part.now)) }
 {
     let mut copies = Vec::new(alloc);
     for _ in 0..count {
-        copies.push(part.copy(alloc)?)?;
+        copies.push(part.boxed_copy(alloc)?)?;
     }
     Ok(copies)
 }

@@ -73,9 +73,9 @@ impl Kernel {
         }
     }
 
-    // An equal statement in a box.
+    /// An equal statement in a box.
     #[cycle(copy)]
-    fn boxed_copy(&self, alloc: Global) -> Result<Box<Kernel>, NoMemory>
+    pub fn boxed_copy(&self, alloc: Global) -> Result<Box<Kernel>, NoMemory>
         ensures { IfOk result (λ k. term_of k.value ≡ term_of self.now) }
     {
         Ok(Box::new(alloc, self.copy(alloc)?)?)

@@ -2,7 +2,7 @@ use Rattle.std.proofs.Common.{◌≡◌, ◌+◌, ◌*◌, ◌++◌, map, drop, 
 use Rattle.est_ast.proofs.flat.FlatCase.TheLaws.{the_size as case_size}
 use Rattle.est_ast.proofs.flat.FlatStmt.TheLaws.{the_size}
 use Rattle.est_ast.specs.declared.flat.FlatForm.TheShapes.{weighed-FlatForm-Await-1, weighed-FlatForm-AwaitCase-0}
-use Rattle.est_kernel.specs.Plain.{term_of}
+use Rattle.est_dismantle.specs.Boxes.{boxed_term}
 use Rattle.est_dismantle.specs.Choices.{choice_of}
 use Rattle.est_dismantle.specs.FlatNodes.{stmts_kernels, choices, stmts_new, cases_new}
 use Rattle.est_dismantle.specs.MarkLists.{marks_of}
@@ -79,7 +79,7 @@ decreases-forms::expand_trap l = 8 * max (the_size l.body.now.value) (weighed-Fl
 
 abbrev pub invariant-expansion::expand_parts-loop-part : goal.invariant-expansion::expand_parts-loop-part
 invariant-expansion::expand_parts-loop-part l = record {
-  terms : map term_of l.kernels.items ++ stmts_kernels (marks_of l.marks) l.next (drop l.part-index l.parts) ≡
+  terms : map boxed_term l.kernels.items ++ stmts_kernels (marks_of l.marks) l.next (drop l.part-index l.parts) ≡
       stmts_kernels (marks_of l.marks) l.initial.next l.parts;
   next : l.next + stmts_new (drop l.part-index l.parts) ≡ l.initial.next + stmts_new l.parts;
 }

@@ -1,0 +1,10 @@
+-- Inner: kernel statements in boxes.
+use Rattle.std.specs.declared.alloc.Global.{Global}
+use Rattle.std.specs.declared.boxed.Box.{Box}
+use Rattle.est_kernel.specs.declared.statements.Kernel.{Kernel}
+use Rattle.est_kernel.specs.Plain.{term_of}
+use Rattle.est_kernel.specs.Terms.{Term}
+
+-- the term of a statement in a box
+abbrev pub boxed_term : Box Kernel Global → Term
+boxed_term p = term_of p.value
