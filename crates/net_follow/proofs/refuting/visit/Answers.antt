@@ -1,0 +1,25 @@
+use Rattle.std.proofs.Common.{false, subst, Bool}
+use Rattle.net_follow.specs.Literals.{MeetsClauses}
+use Rattle.net_follow.specs.Drawing.{Grows}
+use Rattle.net_follow.proofs.Drawing.{grows-twice, grows-clause}
+use Rattle.net_follow.proofs.refuting.visit.Goals as goal
+
+pub returns-then-branch : goal.returns-then-branch
+returns-then-branch c =
+    let cs = c.args.clauses.now.clauses.items in
+    let old = c.args.trail.now.known.items in
+    let mid = c.links.trail.known.items in
+    let new = c.look_at.new.trail.known.items in
+    let step = grows-clause cs c.in-Some.clause mid new c.in_ok-look_at.field-0 c.in-Some.ensures c.in_ok-look_at.ensures in
+    subst (λ (b : Bool). Grows (λ V. MeetsClauses V cs) old new b) c.if-branch.true
+    (grows-twice (λ V. MeetsClauses V cs) old mid new false c.in_ok-look_at.field-0 c.links.invariant step)
+
+pub links-preserved : goal.links-preserved
+links-preserved c =
+    let cs = c.args.clauses.now.clauses.items in
+    let old = c.args.trail.now.known.items in
+    let mid = c.links.trail.known.items in
+    let new = c.look_at.new.trail.known.items in
+    let step = grows-clause cs c.in-Some.clause mid new c.in_ok-look_at.field-0 c.in-Some.ensures c.in_ok-look_at.ensures in
+    subst (λ (b : Bool). Grows (λ V. MeetsClauses V cs) old new b) c.if-branch.false
+    (grows-twice (λ V. MeetsClauses V cs) old mid new false c.in_ok-look_at.field-0 c.links.invariant step)

@@ -1,0 +1,237 @@
+// Equations that follow from others.
+
+ghost use Rattle.std.specs.Prelude.{⊤, ◌≡◌, [], true, IfOk, OnOk};
+ghost use Rattle.net_follow.specs.Literals.{meets_clause, Meets, from_parts, to_left, to_right};
+ghost use Rattle.net_follow.specs.Proving.{Keeps, Shown, Sees, Denies, Denied, Begins, Noted, Entails};
+ghost use Rattle.net_follow.specs.Drawing.{Grows};
+
+use crate::clauses::Clauses;
+use crate::literals::{Clause, Equation, constant, opposite};
+use crate::refuting::{look_at, propagate, refutes};
+use crate::trails::Trail;
+use est_base::NoMemory;
+use std::alloc::Global;
+
+// How often a literal is tried for one clause that is to be proved, and how many are tried in one another.
+const TRIES: u64 = 40;
+
+const DEPTH: usize = 40;
+
+// How many clauses are looked at behind each literal that is tried, at first and once more.
+const EFFORT: u64 = 400;
+
+const GREAT_EFFORT: u64 = 6_000;
+
+/// What is assumed, and what is drawn from it. All that is drawn up to `settled` has been followed up.
+#[derive(Drop)]
+pub(crate) struct Prover {
+    pub clauses: Clauses,
+    pub trail: Trail,
+    settled: usize,
+}
+
+impl Prover {
+    // Nothing is assumed, over this many nets in one instant of one netlist.
+    fn new(alloc: Global, nets: usize) -> Result<Prover, NoMemory>
+        ensures clauses { IfOk result (λ p. p.clauses.clauses.items ≡ []) }
+        ensures known { IfOk result (λ p. p.trail.known.items ≡ []) }
+    {
+        Ok(Prover {
+            clauses: Clauses::new(alloc, nets)?,
+            trail: Trail::new(alloc, nets)?,
+            settled: 0,
+        })
+    }
+
+    // Assumes a clause.
+    fn add(&mut self, clause: Clause) -> Result<(), NoMemory>
+        ensures { OnOk result (Keeps (λ V. meets_clause V clause ≡ true) self.old self.new) }
+    {
+        self.clauses.add(clause)?;
+        let _clash = look_at(&mut self.trail, clause)?;
+        Ok(())
+    }
+
+    // Assumes an equation.
+    fn assume(&mut self, equation: Equation) -> Result<(), NoMemory>
+        ensures { OnOk result (Keeps (λ V. Meets V equation) self.old self.new) }
+    {
+        self.add(from_parts(equation))?;
+        self.add(to_left(equation))?;
+        self.add(to_right(equation))?;
+        Ok(())
+    }
+
+    // Follows up what is drawn.
+    fn settle(&mut self) -> Result<(), NoMemory>
+        ensures clauses { OnOk result (self.new.clauses ≡ self.old.clauses) }
+        ensures keeps { OnOk result (Keeps (λ V. ⊤) self.old self.new) }
+    {
+        self.trail.effort = u64::MAX;
+        let _clash = propagate(&self.clauses, &mut self.trail, self.settled)?;
+        self.settled = self.trail.known.len();
+        Ok(())
+    }
+
+    // Whether a clause follows; if so, it is assumed from then on.
+    fn shows(&mut self, clause: Clause) -> Result<bool, NoMemory>
+        ensures { IfOk result (Shown (λ V. meets_clause V clause ≡ true) self.old self.new) }
+    {
+        self.settle()?;
+        if !self.sees(clause)? {
+            return Ok(false);
+        }
+        self.add(clause)?;
+        Ok(true)
+    }
+
+    // Whether a clause follows, by little effort or by more.
+    fn sees(&mut self, clause: Clause) -> Result<bool, NoMemory>
+        ensures clauses { OnOk result (self.new.clauses ≡ self.old.clauses) }
+        ensures known { OnOk result (self.new.trail.known.items ≡ self.old.trail.known.items) }
+        ensures sees { IfOk result (Sees self.old clause) }
+    {
+        if self.sees_by(clause, EFFORT)? {
+            return Ok(true);
+        }
+        self.sees_by(clause, GREAT_EFFORT)
+    }
+
+    // Whether a clause follows, as far as this effort shows.
+    fn sees_by(&mut self, clause: Clause, effort: u64) -> Result<bool, NoMemory>
+        ensures clauses { OnOk result (self.new.clauses ≡ self.old.clauses) }
+        ensures known { OnOk result (self.new.trail.known.items ≡ self.old.trail.known.items) }
+        ensures sees { IfOk result (Sees self.old clause) }
+    {
+        let mark = self.trail.known.len();
+        self.trail.tries = TRIES;
+        self.trail.allowance = effort;
+        let seen = denial_fails(&self.clauses, &mut self.trail, clause)?;
+        self.trail.known.truncate(mark);
+        Ok(seen)
+    }
+
+    // Whether an equation follows; if so, it is assumed from then on.
+    fn follows(&mut self, equation: Equation) -> Result<bool, NoMemory>
+        ensures { IfOk result (Shown (λ V. Meets V equation) self.old self.new) }
+    {
+        if !self.shows(from_parts(equation))? {
+            return Ok(false);
+        }
+        if !self.shows(to_left(equation))? {
+            return Ok(false);
+        }
+        Ok(self.shows(to_right(equation))?)
+    }
+
+    // Whether an equation follows; it is assumed from then on.
+    fn claim(&mut self, equation: Equation) -> Result<bool, NoMemory>
+        ensures { IfOk result (Shown (λ V. Meets V equation) self.old self.new) }
+    {
+        if self.follows(equation)? {
+            return Ok(true);
+        }
+        self.assume(equation)?;
+        Ok(false)
+    }
+}
+
+// Whether a clause cannot be false.
+fn denial_fails(clauses: &Clauses, trail: &mut Trail, clause: Clause) -> Result<bool, NoMemory>
+    ensures { IfOk result (Denied clauses.now.clauses.items clause trail.old.known.items trail.new.known.items) }
+{
+    let mark = trail.known.len();
+    if denies(trail, clause)? {
+        return Ok(true);
+    }
+    Ok(refutes(clauses, trail, mark, mark, DEPTH)?)
+}
+
+// Draws that each literal of a clause is false, and tells whether that contradicts what is drawn.
+fn denies(trail: &mut Trail, clause: Clause) -> Result<bool, NoMemory>
+    ensures { IfOk result (Grows (Denies clause) trail.old.known.items trail.new.known.items) }
+{
+    if trail.learn(opposite(clause.first))? {
+        return Ok(true);
+    }
+    if trail.learn(opposite(clause.second))? {
+        return Ok(true);
+    }
+    Ok(trail.learn(opposite(clause.third))?)
+}
+
+// The clauses of an equation.
+fn from_parts(equation: Equation) -> Clause
+    ensures { result ≡ from_parts equation }
+{
+    Clause {
+        first: equation.out,
+        second: opposite(equation.left),
+        third: opposite(equation.right),
+    }
+}
+
+fn to_left(equation: Equation) -> Clause
+    ensures { result ≡ to_left equation }
+{
+    Clause {
+        first: opposite(equation.out),
+        second: equation.left,
+        third: constant(false),
+    }
+}
+
+fn to_right(equation: Equation) -> Clause
+    ensures { result ≡ to_right equation }
+{
+    Clause {
+        first: opposite(equation.out),
+        second: equation.right,
+        third: constant(false),
+    }
+}
+
+/// The places of the claims that were not shown to follow from what is assumed and the claims before them. Where there
+/// is none, each claim follows.
+pub(crate) fn unshown_claims(
+    alloc: Global,
+    nets: usize,
+    assumed: &[Equation],
+    claims: &[Equation],
+) -> Result<Vec<usize>, NoMemory>
+    ensures { IfOk result (λ places. places.items ≡ [] → Entails assumed.now claims.now) }
+{
+    let mut prover = assuming(alloc, nets, assumed)?;
+    let mut places = Vec::new(alloc);
+    for (k, claim) in claims.iter().enumerate() {
+        claim_at(&mut prover, &mut places, k, *claim)?;
+    }
+    Ok(places)
+}
+
+// Claims an equation, and notes its place where it is not shown.
+fn claim_at(
+    prover: &mut Prover,
+    places: &mut Vec<usize>,
+    place: usize,
+    claim: Equation,
+) -> Result<(), NoMemory>
+    ensures { OnOk result (Noted claim place places.old.items places.new.items prover.old prover.new) }
+{
+    if prover.claim(claim)? {
+        return Ok(());
+    }
+    places.push(place)?;
+    Ok(())
+}
+
+// A prover that assumes these equations.
+fn assuming(alloc: Global, nets: usize, assumed: &[Equation]) -> Result<Prover, NoMemory>
+    ensures { IfOk result (Begins assumed.now) }
+{
+    let mut prover = Prover::new(alloc, nets)?;
+    for equation in assumed {
+        prover.assume(*equation)?;
+    }
+    Ok(prover)
+}

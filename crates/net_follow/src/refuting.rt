@@ -1,0 +1,130 @@
+// The search for a contradiction.
+
+ghost use Rattle.std.specs.Prelude.{◌≡◌, true, IfOk};
+ghost use Rattle.net_follow.specs.Literals.{meets_clause, MeetsClauses};
+ghost use Rattle.net_follow.specs.Drawing.{Grows, Tries};
+
+use crate::clauses::Clauses;
+use crate::literals::{Clause, Literal, opposite};
+use crate::trails::Trail;
+use est_base::NoMemory;
+
+/// Draws what a clause forces, where two of its literals are false, and tells whether the third is false too.
+pub(crate) fn look_at(trail: &mut Trail, clause: Clause) -> Result<bool, NoMemory>
+    ensures { IfOk result (Grows (λ V. meets_clause V clause ≡ true) trail.old.known.items trail.new.known.items) }
+{
+    let first = trail.is_false(clause.first);
+    let second = trail.is_false(clause.second);
+    let third = trail.is_false(clause.third);
+    if first && second {
+        trail.learn(clause.third)
+    } else if first && third {
+        trail.learn(clause.second)
+    } else if second && third {
+        trail.learn(clause.first)
+    } else {
+        Ok(false)
+    }
+}
+
+// Draws what the clauses force in which a literal stands that is false now.
+fn visit(clauses: &Clauses, trail: &mut Trail, denied: Literal) -> Result<bool, NoMemory>
+    ensures { IfOk result (Grows (λ V. MeetsClauses V clauses.now.clauses.items)
+        trail.old.known.items trail.new.known.items) }
+{
+    let mut link = clauses.head(denied);
+    'links: for _step in 0..trail.effort {
+        let Some(clause) = clauses.linked(link) else {
+            return Ok(false);
+        };
+        if look_at(trail, clause)? {
+            return Ok(true);
+        }
+        trail.effort = trail.effort.saturating_sub(1);
+        link = clauses.next(link);
+    }
+    Ok(false)
+}
+
+/// Draws what is forced by what is drawn from this place on, and tells whether it contradicts itself.
+pub(crate) fn propagate(clauses: &Clauses, trail: &mut Trail, from: usize) -> Result<bool, NoMemory>
+    ensures { IfOk result (Grows (λ V. MeetsClauses V clauses.now.clauses.items)
+        trail.old.known.items trail.new.known.items) }
+{
+    'drawn: for at in from..usize::MAX {
+        if at >= trail.known.len() || trail.effort == 0 {
+            return Ok(false);
+        }
+        let denied = opposite(trail.known[at]);
+        if visit(clauses, trail, denied)? {
+            return Ok(true);
+        }
+    }
+    Ok(false)
+}
+
+// A literal to try, and the place of the drawn literal whose clause it would meet.
+#[derive(Clone, Copy)]
+struct Split {
+    literal: Literal,
+    place: usize,
+}
+
+// The first drawn literal, from this place on, that some clause says comes about by one of two others of which nothing
+// is known; and one of them.
+fn next_split(clauses: &Clauses, trail: &Trail, from: usize) -> Option<Split> {
+    for place in from..trail.known.len() {
+        if let Some(literal) = open_part(clauses, trail, opposite(trail.known[place])) {
+            return Some(Split { literal, place });
+        }
+    }
+    None
+}
+
+// A literal of a clause whose first literal is this one, and of whose others nothing is known.
+fn open_part(clauses: &Clauses, trail: &Trail, denied: Literal) -> Option<Literal> {
+    let mut place = clauses.first_head(denied);
+    for _step in 0..clauses.clauses.len() {
+        let Some(clause) = clauses.at(place) else {
+            return None;
+        };
+        if trail.value(clause.second).is_none() && trail.value(clause.third).is_none() {
+            return Some(clause.second);
+        }
+        place = clauses.first_next(place);
+    }
+    None
+}
+
+/// Whether what is drawn contradicts the clauses: what is forced is drawn, and where nothing is, a literal is tried,
+/// and then its negation, so many deep.
+pub(crate) fn refutes(
+    clauses: &Clauses,
+    trail: &mut Trail,
+    from: usize,
+    open: usize,
+    depth: usize,
+) -> Result<bool, NoMemory>
+    ensures { IfOk result (Tries (λ V. MeetsClauses V clauses.now.clauses.items)
+        trail.old.known.items trail.new.known.items) }
+{
+    trail.effort = trail.allowance;
+    trail.tries = trail.tries.saturating_sub(1);
+    if propagate(clauses, trail, from)? {
+        return Ok(true);
+    }
+    if depth == 0 || trail.tries == 0 {
+        return Ok(false);
+    }
+    let Some(split) = next_split(clauses, trail, open) else {
+        return Ok(false);
+    };
+    let mark = trail.known.len();
+    trail.push(split.literal)?;
+    if !refutes(clauses, trail, mark, split.place, depth - 1)? {
+        return Ok(false);
+    }
+    trail.known.truncate(mark);
+    trail.push(opposite(split.literal))?;
+    Ok(refutes(clauses, trail, mark, split.place, depth - 1)?)
+}

@@ -1,0 +1,25 @@
+//! Netlists that do the same with fewer gates and latches.
+//!
+//! A pass guesses which nets are equal or opposite in all instants that a netlist reaches, from runs over drawn inputs
+//! (`simulating`, `classes`), builds the netlist in which they are one, by an and-inverter graph (`graphs`, `building`,
+//! `emitting`), and has `net_follow` check that it follows the given one. Where a guess is not shown, its class is
+//! parted, and the check is made anew (`trying`). What the search does cannot be wrong by more than time: what it finds
+//! is checked.
+#![tactic(auto)]
+
+mod assembling;
+mod building;
+mod classes;
+mod cuts;
+mod edges;
+mod emitting;
+mod graphs;
+mod optimizing;
+mod plans;
+mod rewriting;
+mod silencing;
+mod simulating;
+mod tables;
+mod trying;
+
+pub use optimizing::optimize;

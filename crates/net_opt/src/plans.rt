@@ -1,0 +1,280 @@
+// Small graphs of functions of six variables.
+
+use crate::edges::{Edge, TRUE, edge_at, negated, negated_if, straight};
+use crate::tables::{
+    Between, depends_on, has, is_possible, narrowed, restricted, variable_table, width,
+};
+use est_base::NoMemory;
+use std::alloc::Global;
+
+/// How many variables there are; their nodes follow what is always true.
+pub(crate) const VARIABLES: usize = 6;
+
+/// A graph of the variables. Its pairs follow them, and hold lower nodes alone.
+#[derive(Drop)]
+pub(crate) struct Plan {
+    pub lefts: Vec<Edge>,
+    pub rights: Vec<Edge>,
+    pub root: Edge,
+}
+
+/// A graph that computes a function.
+pub(crate) fn planned(alloc: Global, table: u64) -> Result<Plan, NoMemory> {
+    let mut plan = Plan {
+        lefts: Vec::new(alloc),
+        rights: Vec::new(alloc),
+        root: TRUE,
+    };
+    let all = Between {
+        low: table,
+        high: table,
+    };
+    plan.root = plan.edge_between(all, VARIABLES + 1)?;
+    Ok(plan)
+}
+
+// How a function is made of simpler ones, where the literal is that of a variable.
+#[derive(Clone, Copy, PartialEq)]
+enum Form {
+    // the literal and one function
+    Both,
+    // the literal or one function
+    Either,
+    // the literal or one function, but not both
+    Differ,
+    // the second function, or the literal and the first
+    Outer,
+    // the first function, and the literal or the second
+    Inner,
+    // the first function where the literal holds, else the second
+    Choice,
+}
+
+#[derive(Clone, Copy)]
+struct Step {
+    form: Form,
+    literal: Edge,
+    one: Between,
+    other: Between,
+    cost: usize,
+}
+
+impl Plan {
+    // An edge of one of these functions.
+    fn edge_between(&mut self, given: Between, depth: usize) -> Result<Edge, NoMemory> {
+        let between = narrowed(given);
+        if let Some(edge) = plain_edge(between) {
+            return Ok(edge);
+        }
+        if depth == 0 {
+            return Ok(TRUE);
+        }
+        let step = best_step(between);
+        let one = self.edge_between(step.one, depth - 1)?;
+        if step.form == Form::Both {
+            return self.both(step.literal, one);
+        }
+        if step.form == Form::Either {
+            return self.either(step.literal, one);
+        }
+        if step.form == Form::Differ {
+            return self.choice(step.literal, negated(one), one);
+        }
+        let other = self.edge_between(step.other, depth - 1)?;
+        self.joined(step, one, other)
+    }
+
+    // What two functions make with a literal.
+    fn joined(&mut self, step: Step, one: Edge, other: Edge) -> Result<Edge, NoMemory> {
+        if step.form == Form::Outer {
+            let part = self.both(step.literal, one)?;
+            self.either(part, other)
+        } else if step.form == Form::Inner {
+            let part = self.either(step.literal, other)?;
+            self.both(one, part)
+        } else {
+            self.choice(step.literal, one, other)
+        }
+    }
+
+    fn choice(&mut self, literal: Edge, one: Edge, other: Edge) -> Result<Edge, NoMemory> {
+        let left = self.both(literal, one)?;
+        let right = self.both(negated(literal), other)?;
+        self.either(left, right)
+    }
+
+    fn either(&mut self, left: Edge, right: Edge) -> Result<Edge, NoMemory> {
+        Ok(negated(self.both(negated(left), negated(right))?))
+    }
+
+    // The pair of two edges: one that there is, or one more.
+    fn both(&mut self, left: Edge, right: Edge) -> Result<Edge, NoMemory> {
+        if left == right || right == TRUE {
+            return Ok(left);
+        }
+        if left == TRUE {
+            return Ok(right);
+        }
+        if left.node == right.node || left.node == 0 || right.node == 0 {
+            return Ok(negated(TRUE));
+        }
+        for k in 0..self.lefts.len() {
+            let l = edge_at(&self.lefts, k);
+            let r = edge_at(&self.rights, k);
+            if (l == left && r == right) || (l == right && r == left) {
+                return Ok(straight(k.saturating_add(VARIABLES + 1)));
+            }
+        }
+        let node = self.lefts.len().saturating_add(VARIABLES + 1);
+        self.lefts.push(left)?;
+        self.rights.push(right)?;
+        Ok(straight(node))
+    }
+}
+
+// A constant or a literal that is one of these functions.
+fn plain_edge(between: Between) -> Option<Edge> {
+    if between.low == 0 {
+        return Some(negated(TRUE));
+    }
+    if between.high == u64::MAX {
+        return Some(TRUE);
+    }
+    for variable in 0..VARIABLES {
+        let table = variable_table(variable);
+        if has(between, table) {
+            return Some(straight(variable + 1));
+        }
+        if has(between, !table) {
+            return Some(negated(straight(variable + 1)));
+        }
+    }
+    None
+}
+
+// The step that leaves the least to do.
+fn best_step(between: Between) -> Step {
+    let mut best = step_by_choice(between, 0, usize::MAX);
+    for variable in 0..VARIABLES {
+        if depends_on(between, variable) {
+            best = cheaper(best, step_by_choice(between, variable, 3));
+            best = cheaper(best, step_by_difference(between, variable));
+            best = cheaper(best, step_by_part(between, variable, false));
+            best = cheaper(best, step_by_part(between, variable, true));
+            best = cheaper(best, step_by_parts(between, variable, false));
+            best = cheaper(best, step_by_parts(between, variable, true));
+        }
+    }
+    best
+}
+
+fn cheaper(best: Step, step: Step) -> Step {
+    if step.cost < best.cost { step } else { best }
+}
+
+fn literal_of(variable: usize, negative: bool) -> Edge {
+    negated_if(straight(variable.saturating_add(1)), negative)
+}
+
+fn step_of(form: Form, literal: Edge, one: Between, other: Between, cost: usize) -> Step {
+    Step {
+        form,
+        literal,
+        one,
+        other,
+        cost,
+    }
+}
+
+// What is never taken.
+fn no_step(between: Between) -> Step {
+    step_of(Form::Choice, TRUE, between, between, usize::MAX)
+}
+
+fn step_by_choice(between: Between, variable: usize, pairs: usize) -> Step {
+    let one = restricted(between, variable, true);
+    let other = restricted(between, variable, false);
+    let cost = pairs
+        .saturating_add(width(narrowed(one)))
+        .saturating_add(width(narrowed(other)));
+    step_of(Form::Choice, literal_of(variable, false), one, other, cost)
+}
+
+fn step_by_difference(between: Between, variable: usize) -> Step {
+    let one = restricted(between, variable, true);
+    let other = restricted(between, variable, false);
+    let same = Between {
+        low: other.low | !one.high,
+        high: other.high & !one.low,
+    };
+    if !is_possible(same) {
+        return no_step(between);
+    }
+    let cost = width(narrowed(same)).saturating_add(3);
+    step_of(Form::Differ, literal_of(variable, false), same, same, cost)
+}
+
+// The literal and one function, or the literal or one function.
+fn step_by_part(between: Between, variable: usize, negative: bool) -> Step {
+    let literal = literal_of(variable, negative);
+    let one = restricted(between, variable, !negative);
+    let other = restricted(between, variable, negative);
+    if other.low == 0 {
+        return step_of(
+            Form::Both,
+            literal,
+            one,
+            one,
+            width(narrowed(one)).saturating_add(1),
+        );
+    }
+    if one.high == u64::MAX {
+        return step_of(
+            Form::Either,
+            literal,
+            other,
+            other,
+            width(narrowed(other)).saturating_add(1),
+        );
+    }
+    no_step(between)
+}
+
+// Where a function only grows with the literal: a literal less in one of two parts.
+fn step_by_parts(between: Between, variable: usize, negative: bool) -> Step {
+    let literal = literal_of(variable, negative);
+    let one = restricted(between, variable, !negative);
+    let other = restricted(between, variable, negative);
+    if other.low & !one.high != 0 {
+        return no_step(between);
+    }
+    let outer_one = Between {
+        low: one.low & !other.low,
+        high: one.high,
+    };
+    let outer_other = Between {
+        low: other.low,
+        high: other.high & one.high,
+    };
+    let inner_one = Between {
+        low: one.low | other.low,
+        high: one.high,
+    };
+    let inner_other = Between {
+        low: other.low,
+        high: other.high | !one.high,
+    };
+    let outer = pair_cost(outer_one, outer_other);
+    let inner = pair_cost(inner_one, inner_other);
+    if outer <= inner {
+        step_of(Form::Outer, literal, outer_one, outer_other, outer)
+    } else {
+        step_of(Form::Inner, literal, inner_one, inner_other, inner)
+    }
+}
+
+fn pair_cost(one: Between, other: Between) -> usize {
+    width(narrowed(one))
+        .saturating_add(width(narrowed(other)))
+        .saturating_add(2)
+}

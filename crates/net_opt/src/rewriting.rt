@@ -1,0 +1,188 @@
+// Graphs in which parts are replaced by smaller ones that compute the same.
+
+use crate::building::Built;
+use crate::cuts::{cut_of, place_in};
+use crate::edges::{Edge, TRUE, edge_at, is_marked, negated_if, straight};
+use crate::graphs::Graph;
+use crate::plans::{Plan, VARIABLES, planned};
+use est_base::NoMemory;
+use net_ir::Net;
+use std::alloc::Global;
+
+// A new graph, with the edge of each node of the old one.
+#[derive(Drop)]
+struct Rewriter {
+    graph: Graph,
+    edges: Vec<Edge>,
+    fans: Vec<usize>,
+    changes: bool,
+}
+
+/// The graph of a netlist, where each marked pair is made anew: as it was, or as a graph of a cut says it that is
+/// smaller, or, where `changes` asks for it, as small.
+pub(crate) fn rewritten(
+    alloc: Global,
+    net: &Net,
+    built: &Built,
+    marks: &[bool],
+    changes: bool,
+) -> Result<Built, NoMemory> {
+    let count = built.graph.count();
+    let mut rewriter = Rewriter {
+        graph: Graph::new(alloc, built.graph.leaves, count)?,
+        edges: Vec::new(alloc),
+        fans: fan_counts(alloc, net, built, marks)?,
+        changes,
+    };
+    for node in 0..count {
+        let edge = if !built.graph.is_pair(node) {
+            straight(node)
+        } else if is_marked(marks, node) {
+            rewriter.pair_edge(alloc, &built.graph, node)?
+        } else {
+            TRUE
+        };
+        rewriter.edges.push(edge)?;
+    }
+    let mut edges = Vec::new(alloc);
+    for edge in &built.edges {
+        edges.push(rewriter.image(*edge))?;
+    }
+    let Rewriter {
+        graph,
+        edges: _,
+        fans: _,
+        changes: _,
+    } = rewriter;
+    Ok(Built { graph, edges })
+}
+
+impl Rewriter {
+    fn image(&self, edge: Edge) -> Edge {
+        negated_if(edge_at(&self.edges, edge.node), edge.negative)
+    }
+
+    // What stands for a pair: the smaller graph of its cut, if that spares nodes.
+    fn pair_edge(&mut self, alloc: Global, old: &Graph, node: usize) -> Result<Edge, NoMemory> {
+        let pair = old.pair(node);
+        let plain_left = self.image(pair.left);
+        let plain_right = self.image(pair.right);
+        let cut = cut_of(alloc, old, node)?;
+        if cut.inside.len() > 1 {
+            let plan = planned(alloc, cut.table(alloc, old)?)?;
+            let spared = cut.spared(alloc, old, &self.fans)?;
+            let freed = self.images(alloc, &spared)?;
+            let inputs = self.images_of(alloc, &cut.leaves)?;
+            let cost = self.cost(alloc, &plan, &inputs, &freed)?;
+            if cost < spared.len() || (self.changes && cost == spared.len()) {
+                return self.placed(alloc, &plan, &inputs);
+            }
+        }
+        self.graph.both(plain_left, plain_right)
+    }
+
+    fn images(&self, alloc: Global, nodes: &[usize]) -> Result<Vec<usize>, NoMemory> {
+        let mut images = Vec::new(alloc);
+        for node in nodes {
+            images.push(self.image(straight(*node)).node)?;
+        }
+        Ok(images)
+    }
+
+    fn images_of(&self, alloc: Global, leaves: &[usize]) -> Result<Vec<Edge>, NoMemory> {
+        let mut images = Vec::new(alloc);
+        images.push(TRUE)?;
+        for k in 0..VARIABLES {
+            images.push(if k < leaves.len() {
+                self.image(straight(leaves[k]))
+            } else {
+                TRUE
+            })?;
+        }
+        Ok(images)
+    }
+
+    // How many nodes a plan adds, or keeps of those that would be freed.
+    fn cost(
+        &self,
+        alloc: Global,
+        plan: &Plan,
+        inputs: &[Edge],
+        freed: &[usize],
+    ) -> Result<usize, NoMemory> {
+        let mut names = Vec::from_slice(alloc, inputs)?;
+        let mut count: usize = 0;
+        for k in 0..plan.lefts.len() {
+            let left = named(&names, edge_at(&plan.lefts, k));
+            let right = named(&names, edge_at(&plan.rights, k));
+            let there = if left == UNKNOWN || right == UNKNOWN {
+                UNKNOWN
+            } else {
+                self.graph.found(left, right).unwrap_or(UNKNOWN)
+            };
+            if there == UNKNOWN || place_in(freed, there.node) < freed.len() {
+                count = count.saturating_add(1);
+            }
+            names.push(there)?;
+        }
+        Ok(count)
+    }
+
+    // The edge of a plan that is carried out.
+    fn placed(&mut self, alloc: Global, plan: &Plan, inputs: &[Edge]) -> Result<Edge, NoMemory> {
+        let mut names = Vec::from_slice(alloc, inputs)?;
+        for k in 0..plan.lefts.len() {
+            let left = named(&names, edge_at(&plan.lefts, k));
+            let right = named(&names, edge_at(&plan.rights, k));
+            let edge = self.graph.both(left, right)?;
+            names.push(edge)?;
+        }
+        Ok(named(&names, plan.root))
+    }
+}
+
+// What no node has.
+const UNKNOWN: Edge = Edge {
+    node: usize::MAX,
+    negative: false,
+};
+
+fn named(names: &[Edge], edge: Edge) -> Edge {
+    let name = edge_at(names, edge.node);
+    if name.node == usize::MAX {
+        UNKNOWN
+    } else {
+        negated_if(name, edge.negative)
+    }
+}
+
+// How many marked pairs, outputs, latches and `paused` need each node.
+fn fan_counts(
+    alloc: Global,
+    net: &Net,
+    built: &Built,
+    marks: &[bool],
+) -> Result<Vec<usize>, NoMemory> {
+    let mut fans = vec![in alloc; 0; built.graph.count()]?;
+    for node in 0..built.graph.count() {
+        if built.graph.is_pair(node) && is_marked(marks, node) {
+            let pair = built.graph.pair(node);
+            count(&mut fans, pair.left.node);
+            count(&mut fans, pair.right.node);
+        }
+    }
+    count(&mut fans, built.edge(net.paused).node);
+    for output in &net.outputs {
+        count(&mut fans, built.edge(output.net).node);
+    }
+    for latch in &net.latches {
+        count(&mut fans, built.edge(latch.from).node);
+    }
+    Ok(fans)
+}
+
+fn count(fans: &mut Vec<usize>, node: usize) {
+    if node < fans.len() {
+        fans[node] = fans[node].saturating_add(1);
+    }
+}
