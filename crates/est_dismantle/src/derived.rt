@@ -374,7 +374,8 @@ pub(crate) fn handled_abortion(
     rest: Box<Kernel>,
 ) -> Result<Box<Kernel>, NoMemory>
     ensures { IfOk result (λ k. boxed_term k
-        ≡ spec_handled (spec_aborting_handled at (flat_delay_of delay.now) signal.0 (boxed_term body)) (boxed_term rest)) }
+        ≡ spec_handled (spec_aborting_handled at (flat_delay_of delay.now) signal.0 (boxed_term body))
+        (boxed_term rest)) }
 {
     let body = aborting_handled(alloc, at, delay, signal, body)?;
     handled(alloc, body, rest)
