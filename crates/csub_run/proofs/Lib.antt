@@ -1,5 +1,3 @@
-pub mod Rows
-pub mod Compiling
 pub mod Machines
 pub mod BareNames
 pub mod Showing

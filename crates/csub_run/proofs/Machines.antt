@@ -1,5 +1,5 @@
 -- Inner: the values of slots are the memory of the machine.
-use Rattle.std.proofs.Common.{◌≡◌, ℕ, ◌+◌, ◌<◌, zero, suc, Bool, true, false, not, cond, ◌||◌, ◌&&◌, List, [], ◌∷◌, ◌++◌, length, map, take, get_or, refl, sym}
+use Rattle.std.proofs.Common.{◌≡◌, ℕ, ◌+◌, ◌<◌, zero, suc, Bool, true, false, not, cond, ◌||◌, List, [], ◌∷◌, ◌++◌, length, map, take, get_or, refl, sym}
 use Rattle.std.proofs.Common.{ap, ◌∙◌, arith, subst, Option, Some, None}
 use Rattle.std.proofs.Math.ListN.{set}
 use Rattle.std.specs.Prelude.{slice_set, find, filter, flat_map, if◌then◌else◌}
@@ -12,12 +12,11 @@ use Rattle.std.proofs.lemmas.List.{length-map, length-append, get_or-set_same, g
 use Rattle.std.proofs.Math.Seq.{take-set-lt}
 use lib.Pointwise.{bytes_decides}
 use Rattle.est_base.specs.Names.{is_same_name}
-use Rattle.csub_text.specs.Trees.{Expr, Exprs, NoExprs, MoreExprs, State, Assign, Program}
-use Rattle.csub_text.specs.Trees as trees
+use Rattle.csub_text.specs.Trees.{Expr, State, Assign, Program}
 use Rattle.csub_text.specs.NameLists.{is_among, first_again}
 use Rattle.csub_text.specs.Names.{names_in, declared, inputs_of, outputs_of, Use, Assigned, Taken, uses_in, uses, is_wrong, name_found, undeclared}
 use Rattle.csub_text.specs.Names.{declared_twice, unset, fault_by, NameFault, Twice, Undeclared, Unset}
-use Rattle.csub_text.specs.Machine.{Memory, with_value, value_of, all_of, any_of, run_body, with_inputs, first_memory, call}
+use Rattle.csub_text.specs.Machine.{Memory, with_value, value_of, run_body, with_inputs, first_memory, call}
 use Rattle.std.proofs.Common.{All}
 use Rattle.std.proofs.lemmas.List.Elements.{All-from_recursion}
 use Rattle.csub_text.specs.declared.trees.CProgram.{CProgram}
@@ -26,11 +25,11 @@ use Rattle.step_run.specs.Slots.{slot_in, value_at, memory_in}
 use Rattle.step_run.specs.declared.term.Term.{Term}
 use Rattle.step_run.specs.Plans.{Planned, made, term_value}
 use Rattle.step_run.specs.Steps.{settled}
+use Rattle.step_run.proofs.ExprValues.{value-local}
 use Rattle.step_run.proofs.Makings.{length-settled, taken-front, through}
 use Rattle.csub_run.specs.declared.runner.CRunner.TheInside.{Inside}
-use Rattle.csub_run.specs.Expressions.{assign_step}
 use Rattle.csub_run.specs.Insides.{KeepsPlan}
-use Rattle.csub_run.specs.Plans.{IsBody, IsPlan, first_values, put_all}
+use Rattle.csub_run.specs.Plans.{IsBody, IsPlan, assign_step, first_values, put_all}
 use Rattle.csub_run.specs.Runners.{KeepsNames, Reacts, IsFresh}
 use Rattle.csub_text.proofs.NameLists.{found-low, place-among, found-at}
 
@@ -40,21 +39,8 @@ Agree m n = (name : List ℕ) → m name ≡ n name
 
 -- ---- memories that agree do the same
 
-mutual
-  pub value-agree : (m n : Memory) → Agree m n → (e : Expr) → value_of m e ≡ value_of n e
-  value-agree m n same (trees.Name name) = same name
-  value-agree m n same (trees.Const value) = refl
-  value-agree m n same (trees.Not e) = ap not (value-agree m n same e)
-  value-agree m n same (trees.And parts) = all-agree m n same parts
-  value-agree m n same (trees.Or parts) = any-agree m n same parts
-
-  all-agree : (m n : Memory) → Agree m n → (es : Exprs) → all_of m es ≡ all_of n es
-  all-agree m n same NoExprs = refl
-  all-agree m n same (MoreExprs e others) = ap (λ b. b && all_of m others) (value-agree m n same e) ∙ ap (λ b. value_of n e && b) (all-agree m n same others)
-
-  any-agree : (m n : Memory) → Agree m n → (es : Exprs) → any_of m es ≡ any_of n es
-  any-agree m n same NoExprs = refl
-  any-agree m n same (MoreExprs e others) = ap (λ b. b || any_of m others) (value-agree m n same e) ∙ ap (λ b. value_of n e || b) (any-agree m n same others)
+value-agree : (m n : Memory) → Agree m n → (e : Expr) → value_of m e ≡ value_of n e
+value-agree m n same e = value-local m n e (λ x has. same x)
 
 with-agree : (m n : Memory) → Agree m n → (x : List ℕ) (v w : Bool) → v ≡ w → Agree (with_value x v m) (with_value x w n)
 with-agree m n same x v w is name = ap (λ u. if is_same_name name x then u else m name) is ∙ ap (λ u. if is_same_name name x then w else u) (same name)

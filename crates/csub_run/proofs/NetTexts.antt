@@ -1,9 +1,9 @@
 -- The program of a net's text shows what the net does.
-use Rattle.std.proofs.Common.{◌≡◌, ℕ, ◌≤◌, List, [], ◌∷◌, length, map, refl, sym, ap, ◌∙◌, subst, arith}
+use Rattle.std.proofs.Common.{◌≡◌, ℕ, ◌≤◌, List, [], ◌∷◌, length, map, refl, sym, ap, ◌∙◌, arith}
 use Rattle.std.proofs.lemmas.List.{length-map}
 use Rattle.std.proofs.lemmas.Simd.{map-map}
 use Rattle.est_base.specs.declared.bounds.TheConstants.Limits.{TEXT_BYTES}
-use Rattle.est_base.specs.Items.{Item, EachEvent}
+use Rattle.est_base.specs.Items.{Item}
 use Rattle.machines.proofs.Showing.{computed-shows}
 use Rattle.net_ir.specs.Netlists.{Netlist}
 use Rattle.net_ir.specs.Runs.{Shown, net_run}
@@ -12,7 +12,7 @@ use Rattle.csub_read.specs.declared.refusal.CError.TheVariants as faults
 use Rattle.csub_read.specs.Faults.{ReadsAs, ReadsFault}
 use Rattle.csub_read.specs.Laws.{LacksRoom}
 use Rattle.csub_read.proofs.ReadBack.{written-are-read}
-use Rattle.csub_text.specs.Machine.{Memory, Seen, seen, first_memory, call, memories, run}
+use Rattle.csub_text.specs.Machine.{seen, first_memory, call, memories, run}
 use Rattle.csub_text.specs.Names.{inputs_of, outputs_of}
 use Rattle.csub_text.specs.Trees.{Program}
 use Rattle.csub_text.specs.Written.{Means, input_variable, output_variable, shown_by_call}

@@ -1,13 +1,11 @@
 -- What a machine shows: a call and a reset put their item in front of what it shows from then on.
-use Rattle.std.proofs.Common.{◌≡◌, ℕ, Bool, List, [], ◌∷◌, map, refl, sym, ap, ◌∙◌, subst}
-use Rattle.est_base.specs.Items.{Item, Event, Reset}
+use Rattle.std.proofs.Common.{◌≡◌, ℕ, Bool, List, ◌∷◌, map, refl, sym, ap, ◌∙◌, subst}
+use Rattle.est_base.specs.Items.{Item, Event}
 use Rattle.machines.specs.Machines.{Shows}
 use Rattle.machines.proofs.Showing.{shows-event, shows-reset}
 use Rattle.csub_text.specs.Machine.{Memory, value_of, first_memory, call, program_machine}
 use Rattle.csub_text.specs.Names.{outputs_of}
-use Rattle.csub_text.specs.Trees.{Program}
 use Rattle.csub_text.specs.Views.{program_of}
-use Rattle.csub_text.specs.declared.trees.CProgram.{CProgram}
 use Rattle.csub_run.specs.ProgramAnswers.{call_answer, program_shows}
 use Rattle.csub_run.specs.Runners.{Runner, program_in, memory_of, outputs_shown, IsFresh, Reacts, Resets}
 use Rattle.csub_run.specs.Showing.{runner_shows}

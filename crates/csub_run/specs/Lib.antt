@@ -3,7 +3,6 @@ pub mod ProgramAnswers
 pub mod Showing
 pub mod Ends
 pub mod Texts
-pub mod Expressions
 pub mod Plans
 pub mod Insides
 pub mod Tracing

@@ -2,12 +2,13 @@
 use Rattle.std.specs.Prelude.{◌≡◌, ◌<◌, ◌≤◌, ℕ, Bool, false, List, ◌∷◌, ◌++◌, length, map, slice_set}
 use Rattle.csub_text.specs.Machine.{value_of}
 use Rattle.csub_text.specs.Names.{declared, inputs_of, outputs_of}
-use Rattle.csub_text.specs.Trees.{Program}
+use Rattle.csub_text.specs.Trees.{Assign, Program}
 use Rattle.step_run.specs.Slots.{slot_in, memory_in}
 use Rattle.step_run.specs.Plans.{Planned, Makes, Says}
+use Rattle.step_run.specs.Expressions.{expr_step}
+use Rattle.step_run.specs.Steps.{Step}
 use Rattle.step_run.specs.declared.term.Term.{Term}
 use Rattle.csub_run.specs.declared.plan.CallPlan.{CallPlan}
-use Rattle.csub_run.specs.Expressions.{assign_step}
 
 -- each slot gets a value, one after another
 abbrev pub put_all : List ℕ → List Bool → List Bool → List Bool
@@ -17,6 +18,10 @@ put_all others more values = values
 -- the values of the states, and 0 for all others
 abbrev pub first_values : Program → List Bool
 first_values p = (map (λ s. s.init) p.states ++ map (λ _. false) p.globals) ++ map (λ _. false) p.locals
+
+-- the step of an assignment
+abbrev pub assign_step : List (List ℕ) → Assign → Step
+assign_step names a = expr_step names a.target a.value
 
 -- the plan of the body makes the assignments, and has a term of the value that is returned
 pub record IsBody (p : Program) (body : Planned) (answer : Term) : Type 0 where

@@ -6,7 +6,6 @@
 //! traces.
 #![tactic(auto)]
 
-mod expressions;
 mod interface;
 mod language;
 mod plan;

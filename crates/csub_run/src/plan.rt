@@ -6,16 +6,14 @@ ghost use Rattle.csub_text.specs.Names.{declared, inputs_of, outputs_of};
 ghost use Rattle.csub_text.specs.Views.{assign_of, program_of};
 ghost use Rattle.step_run.specs.Slots.{slot_in};
 ghost use Rattle.step_run.specs.Plans.{Adds, Makes};
-ghost use Rattle.csub_run.specs.Expressions.{assign_step};
 ghost use Rattle.csub_run.specs.Runners.{KeepsNames};
-ghost use Rattle.csub_run.specs.Plans.{IsBody, IsPlan, first_values};
+ghost use Rattle.csub_run.specs.Plans.{IsBody, IsPlan, assign_step, first_values};
 
-use crate::expressions::compiled;
 use csub_text::{Assign, CProgram, begins_input, begins_output, declared_names};
 use est_base::{NoMemory, Text};
 use indexmap::IndexSet;
 use std::alloc::Global;
-use step_run::{Plan, Term, slot_of, slot_table};
+use step_run::{Plan, Term, expr_term, push_expr, slot_of, slot_table};
 
 /// The variables have the slots that their places among the declared names are: states, globals, locals.
 #[derive(Drop)]
@@ -87,7 +85,7 @@ fn body_plan(alloc: Global, slots: &IndexSet<&[u8]>, program: &CProgram) -> Resu
 {
     let mut plan = Plan::new(alloc, slots.len())?;
     push_assigns(&mut plan, slots, &program.body)?;
-    let answer = compiled(&mut plan, slots, &program.answer)?;
+    let answer = expr_term(&mut plan, slots, &program.answer)?;
     plan.slots();
     Ok(Body { plan, answer })
 }
@@ -113,8 +111,7 @@ fn push_assign(plan: &mut Plan, slots: &IndexSet<&[u8]>, assign: &Assign) -> Res
     ensures { OnOk result
         (Adds (assign_step (map (λ k. k.now) slots.now.keys) (assign_of assign.now)) plan.old plan.new) }
 {
-    let value = compiled(plan, slots, &assign.value)?;
-    plan.push_term(slot_of(slots, assign.to.bytes()), value)
+    push_expr(plan, slots, assign.to.bytes(), &assign.value)
 }
 
 // The values that the variables have before the first call: those of the states as they are declared, and 0.

@@ -13,7 +13,7 @@ use Rattle.net_ir.proofs.NameLists.{found-low, found-at, place-among}
 use Rattle.step_run.specs.Slots.{slot_in}
 use Rattle.step_run.specs.Equations.{Equation, NeedsName, IsLoop, HasNoLoop, name_at}
 use Rattle.step_run.specs.Steps.{driven, AreSound}
-use Rattle.step_run.specs.Order.{slot_edges, edges_from, names_along, NoWalk, AreWalked, slots_read, no_equation}
+use Rattle.step_run.specs.Order.{slot_edges, edges_from, NoWalk, AreWalked, slots_read, no_equation}
 use Rattle.step_run.proofs.Places.{driven-count, output-name, output-slot}
 
 -- the slot is among those that are read

@@ -8,3 +8,8 @@ pub mod EquationEdges
 pub mod Solving
 pub mod NoLoops
 pub mod Instants
+pub mod OnceNames
+pub mod ExprValues
+pub mod Compiling
+pub mod Resolving
+pub mod Reacting

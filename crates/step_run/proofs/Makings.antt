@@ -8,7 +8,7 @@ use Rattle.std.proofs.Math.Seq.{take-set-lt}
 use Rattle.step_run.specs.declared.term.Term.{Term}
 use Rattle.step_run.specs.Slots.{slot_in, value_at, memory_in}
 use Rattle.step_run.specs.Steps.{Step, step_made, settled}
-use Rattle.step_run.specs.Plans.{number_of, looked_up, Lookup, Planned, lookup_made, made, Makes, Adds, chosen, term_value, TermFits, Says, Keeps}
+use Rattle.step_run.specs.Plans.{number_of, looked_up, Lookup, Planned, lookup_made, made, Makes, Adds, chosen, term_value, Says, Keeps}
 
 pub made-append : (ls ms : List Lookup) (values : List Bool) → made (ls ++ ms) values ≡ made ms (made ls values)
 made-append [] ms values = refl

@@ -1,11 +1,11 @@
 -- What is pushed to a plan: gates, lookups, and terms that are joined.
-use Rattle.std.proofs.Common.{◌≡◌, ℕ, ◌+◌, ◌<◌, ◌≤◌, Bool, List, [], ◌∷◌, ◌++◌, length, take, All, Result, Ok, Err, refl, sym, ap, ◌∙◌, arith, subst}
+use Rattle.std.proofs.Common.{◌≡◌, ℕ, ◌+◌, ◌<◌, ◌≤◌, Bool, List, [], ◌∷◌, ◌++◌, take, All, Result, Ok, Err, refl, sym, ap, ◌∙◌, arith, subst}
 use Rattle.std.specs.Prelude.{OnOk, if◌then◌else◌, true, false}
 use Rattle.step_run.specs.declared.term.Term.{Term}
 use Rattle.step_run.specs.declared.term.Junction.{Junction}
 use Rattle.step_run.specs.declared.gate.Gate.{Gate}
 use Rattle.step_run.specs.Slots.{value_at}
-use Rattle.step_run.specs.Plans.{number_of, looked_up, Lookup, Planned, made, Adds, table_step, term_value, Says, Keeps, AddsTerm, joined, Joins}
+use Rattle.step_run.specs.Plans.{number_of, looked_up, Planned, made, Adds, table_step, term_value, AddsTerm, joined, Joins}
 use Rattle.step_run.specs.Plans.{IsOperand, IsTable}
 use Rattle.step_run.specs.Records.{term_truth, gate_lookup}
 use Rattle.step_run.proofs.Makings.{step-adds, operand-keeps, operand-says, looked-take, keeps-trans}

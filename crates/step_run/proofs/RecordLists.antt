@@ -1,10 +1,10 @@
 -- The records of the code as lookups.
-use Rattle.std.proofs.Common.{◌≡◌, ℕ, ◌<◌, ◌≤◌, Bool, List, [], ◌∷◌, ◌++◌, length, map, set, flat_map, All, refl, sym, ap, ◌∙◌, arith, append_assoc}
+use Rattle.std.proofs.Common.{◌≡◌, ℕ, ◌≤◌, Bool, List, [], ◌∷◌, ◌++◌, map, set, flat_map, All, refl, sym, ap, ◌∙◌, arith, append_assoc}
 use Rattle.std.proofs.lemmas.List.{map-append, append-nil}
 use Rattle.std.proofs.lemmas.Grind.{flat_map-append}
 use Rattle.step_run.specs.declared.gate.Gate.{Gate}
 use Rattle.step_run.specs.declared.plan.Stretch.{Stretch}
-use Rattle.step_run.specs.Plans.{looked_up, digits, Lookup, lookup_made, made}
+use Rattle.step_run.specs.Plans.{Lookup, lookup_made, made}
 use Rattle.step_run.specs.Records.{gate_value, gate_lookup, plain_lookup, GateFits, LookupFits, StretchFits, gates_made, stretches_made, stretch_lookups}
 use Rattle.step_run.proofs.Makings.{made-append}
 use Rattle.step_run.proofs.TermValues.{gate-digits}

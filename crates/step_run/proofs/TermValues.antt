@@ -1,13 +1,13 @@
 -- What terms, gates and small tables give.
 use Rattle.std.proofs.Common.{◌≡◌, ℕ, ◌+◌, ◌*◌, ◌/◌, ◌%◌, ◌^◌, ◌<◌, ◌==◌, suc, Bool, true, false, List, [], ◌∷◌, length, map, get_or, drop}
-use Rattle.std.proofs.Common.{refl, sym, ap, ◌∙◌, arith, subst}
+use Rattle.std.proofs.Common.{refl, ap, ◌∙◌, arith}
 use Rattle.std.specs.Prelude.{if◌then◌else◌}
 use Rattle.std.proofs.Math.Nat.{pow-succ'}
 use Rattle.std.proofs.Math.Seq.{drop-cons}
 use Rattle.step_run.specs.declared.term.Term.{Term}
 use Rattle.step_run.specs.declared.gate.Gate.{Gate}
 use Rattle.step_run.specs.Slots.{value_at}
-use Rattle.step_run.specs.Plans.{number_of, digits, looked_up, chosen, term_value, TermFits, Tabulates}
+use Rattle.step_run.specs.Plans.{number_of, digits, looked_up, chosen, term_value}
 use Rattle.step_run.specs.Records.{term_truth, digit_at, gate_value}
 
 -- ---- the digits of a number

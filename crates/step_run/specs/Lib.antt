@@ -4,4 +4,6 @@ pub mod Steps
 pub mod Plans
 pub mod Records
 pub mod Order
+pub mod Solvers
 pub mod Registers
+pub mod Expressions

@@ -4,7 +4,6 @@ use Rattle.std.specs.Prelude.{slice_index_or, false, if◌then◌else◌}
 use Rattle.digraph.specs.Walks.{IsClosedWalk}
 use Rattle.step_run.specs.Slots.{slot_in}
 use Rattle.step_run.specs.Equations.{Equation}
-use Rattle.step_run.specs.Steps.{driven}
 
 -- the edges of an equation that reads these slots, where the slots of the outputs begin at `first`
 abbrev pub slot_edges : ℕ → ℕ → List ℕ → List (ℕ × ℕ)

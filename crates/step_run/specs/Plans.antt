@@ -1,6 +1,6 @@
 -- Inner: plans, and which steps they make. A plan is a list of lookups in truth tables. The first slots are those of
 -- names, and the others are for what stands inside of expressions.
-use Rattle.std.specs.Prelude.{◌≡◌, ℕ, ◌+◌, ◌*◌, ◌/◌, ◌%◌, ◌<◌, ◌≤◌, ◌==◌, zero, suc, Bool, true, false, ◌&&◌, ◌||◌, not}
+use Rattle.std.specs.Prelude.{◌≡◌, ℕ, ◌+◌, ◌*◌, ◌/◌, ◌%◌, ◌<◌, ◌≤◌, ◌==◌, zero, suc, Bool, true, false, ◌&&◌, ◌||◌}
 use Rattle.std.specs.Prelude.{List, [], ◌∷◌, ◌++◌, All, length, map, take, slice_set, if◌then◌else◌}
 use Rattle.step_run.specs.declared.term.Term.{Term}
 use Rattle.step_run.specs.declared.term.Junction.{Junction}

@@ -7,7 +7,7 @@ use Rattle.step_run.specs.declared.lookup.Lookup.{Lookup as CodeLookup}
 use Rattle.step_run.specs.declared.plan.Stretch.{Stretch}
 use Rattle.step_run.specs.declared.plan.Plan.TheInside.{Inside}
 use Rattle.step_run.specs.Slots.{value_at}
-use Rattle.step_run.specs.Plans.{number_of, digits, Lookup, Planned, lookup_made, made}
+use Rattle.step_run.specs.Plans.{number_of, digits, Lookup, Planned, lookup_made}
 
 -- the four values of a term, in the order of their places
 abbrev pub term_truth : Term → List Bool

@@ -1,5 +1,5 @@
 -- Inner: steps, each of which gives one slot a value that is a function of the values of all, and what they solve.
-use Rattle.std.specs.Prelude.{◌≡◌, ◌≢◌, ℕ, Bool, true, List, [], ◌∷◌, ◌++◌, length, map, take, slice_set, Contains}
+use Rattle.std.specs.Prelude.{◌≡◌, ℕ, Bool, true, List, [], ◌∷◌, ◌++◌, map, slice_set, Contains}
 use Rattle.std.specs.List.{AllByRecursion}
 use Rattle.est_base.specs.Distinct.{all_differ}
 use Rattle.est_base.specs.Names.{is_same_name}

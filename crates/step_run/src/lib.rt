@@ -9,6 +9,7 @@
 //! instant.
 #![tactic(auto)]
 
+mod expressions;
 mod gate;
 mod lookup;
 mod order;
@@ -17,6 +18,7 @@ mod registers;
 mod slots;
 mod term;
 
+pub use expressions::{expr_term, push_expr};
 pub use order::evaluation_order;
 pub use plan::Plan;
 pub use registers::{Registers, take_values};

@@ -6,9 +6,10 @@ use Rattle.csub_text.specs.Views.{assign_of, program_of}
 use Rattle.step_run.specs.Slots.{slot_in, memory_in}
 use Rattle.step_run.specs.Plans.{Makes}
 use Rattle.step_run.proofs.Makings.{says-is}
-use Rattle.csub_run.specs.Expressions.{expr_value, assign_step}
+use Rattle.step_run.specs.Expressions.{expr_value}
+use Rattle.csub_run.specs.Plans.{assign_step}
 use Rattle.csub_run.proofs.Machines.{targets-low}
-use Rattle.csub_run.proofs.Rows.{value-is}
+use Rattle.step_run.proofs.ExprValues.{value-is}
 use Rattle.csub_run.proofs.plan.body_plan.Goals as goal
 
 pub push_assigns-requires-clause-declared : goal.push_assigns-requires-clause-declared
@@ -30,7 +31,7 @@ returns c =
     let p = program_of c.args.program.now in
     let keys = map (λ x. x.now) c.args.slots.now.keys in
     let body = c.args.program.now.body.items in
-    let new = c.compiled.new.plan in
+    let new = c.expr_term.new.plan in
     let answer = c.args.program.now.answer in
     let named = c.in_ok-plan.ensures.named ∙ c.len.ensures.len ∙ sym (length-map c.args.slots.now.keys (λ x. x.now)) ∙ ap length c.requires.slots in
     let makes = c.in_ok-answer.ensures.keeps.makes (map (assign_step keys) (map assign_of c.deref.result.now)) c.in_ok-push_assigns.ensures.makes in

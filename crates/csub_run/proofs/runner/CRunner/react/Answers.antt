@@ -3,9 +3,9 @@ use Rattle.std.specs.Vec.{with_items}
 use Rattle.std.proofs.lemmas.List.{with_items_is, length-take-le}
 use Rattle.csub_text.specs.Machine.{value_of}
 use Rattle.csub_text.specs.Views.{program_of}
-use Rattle.csub_text.specs.Names.{declared, inputs_of}
+use Rattle.csub_text.specs.Names.{declared}
 use Rattle.step_run.specs.Slots.{value_at, memory_in}
-use Rattle.step_run.specs.Plans.{made, term_value}
+use Rattle.step_run.specs.Plans.{term_value}
 use Rattle.csub_run.specs.Plans.{put_all}
 use Rattle.csub_run.specs.Runners.{Runner, Reacts}
 use Rattle.csub_run.proofs.Machines.{inputs-low, outputs-low, called-front, body-made, body-says, reacts-by, keeps-by}

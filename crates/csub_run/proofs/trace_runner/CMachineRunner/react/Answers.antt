@@ -1,5 +1,5 @@
-use Rattle.std.proofs.Common.{ap, sym, subst}
-use Rattle.csub_run.specs.Runners.{Runner, Reacts, outputs_shown}
+use Rattle.std.proofs.Common.{sym, subst}
+use Rattle.csub_run.specs.Runners.{Reacts, outputs_shown}
 use Rattle.csub_run.specs.Showing.{runner_shows}
 use Rattle.csub_run.proofs.Showing.{answered}
 use Rattle.trace_run.specs.Machines.{Answered}

@@ -1,4 +1,4 @@
-use Rattle.std.proofs.Common.{◌≡◌, ◌+◌, ◌<◌, ◌≤◌, rules, refl, sym, subst, arith}
+use Rattle.std.proofs.Common.{◌≡◌, ◌+◌, ◌≤◌, rules, refl, subst, arith}
 use Rattle.step_run.specs.Plans.{IsOperand}
 use Rattle.step_run.specs.Records.{plan_of}
 use Rattle.step_run.proofs.Pushes.{operand-is}

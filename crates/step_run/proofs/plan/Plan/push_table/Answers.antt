@@ -1,5 +1,5 @@
-use Rattle.std.proofs.Common.{◌<◌, ◌^◌, sym, subst, arith, All}
-use Rattle.step_run.specs.Plans.{Planned, Adds, AddsTerm, table_step}
+use Rattle.std.proofs.Common.{arith}
+use Rattle.step_run.specs.Plans.{Adds, AddsTerm, table_step}
 use Rattle.step_run.proofs.Pushes.{table-adds, on-ok}
 use Rattle.step_run.proofs.plan.Plan.push_table.Goals as goal
 

@@ -1,30 +1,22 @@
--- Inner: the values of the nodes that hold a list, one row a node, and of parts that are joined.
-use Rattle.std.proofs.Common.{◌≡◌, ℕ, Bool, true, false, not, ◌&&◌, ◌||◌, List, [], ◌∷◌, ◌++◌, map, refl, ap, ◌∙◌}
-use Rattle.std.specs.List.{list_all, list_any}
+-- The values of expressions, one row a node, and of parts that are joined; and which names a value depends on.
+use Rattle.std.proofs.Common.{◌≡◌, ℕ, Bool, true, false, not, ◌&&◌, ◌||◌, List, [], ◌∷◌, ◌++◌, map, refl, ap, ◌∙◌, arith, Contains}
+use Rattle.std.proofs.lemmas.List.Elements.{Contains-append_left, Contains-append_right}
 use Rattle.std.specs.declared.alloc.Global.{Global}
 use Rattle.std.specs.declared.boxed.Box.{Box}
 use Rattle.std.specs.declared.vec.Vec.{Vec}
-use Rattle.expr_text.specs.declared.trees.Expr.{Expr, Row_of-Expr, end_of-Expr, more_of-Expr, items-the_row-Expr, items_hidden-the_row-Expr-0}
-use Rattle.expr_text.specs.declared.trees.Expr.TheBlock.{hidden-the_row-Expr-0}
+use Rattle.expr_text.specs.declared.trees.Expr.{Expr}
 use Rattle.expr_text.specs.declared.trees.Expr.TheVariants as nodes
-use Rattle.csub_text.specs.Machine.{Memory, value_of, all_of, any_of}
-use Rattle.csub_text.specs.Trees.{And, Or, MoreExprs}
-use Rattle.csub_text.specs.Views.{expr_of, exprs_of}
+use Rattle.expr_text.specs.Values.{value_of, all_of, any_of}
+use Rattle.expr_text.specs.Names.{names_in, all_names}
+use Rattle.expr_text.specs.Trees.{Expr as Tree, Exprs, Name, Const, Not, And, Or, NoExprs, MoreExprs}
+use Rattle.expr_text.specs.Reading.{exprs}
+use Rattle.expr_text.specs.Views.{expr_of}
+use Rattle.expr_text.proofs.Rows.{expr-And, expr-Or}
 use Rattle.step_run.specs.Slots.{slot_in, value_at, memory_in}
 use Rattle.step_run.specs.Plans.{joined}
 use Rattle.step_run.specs.declared.term.Junction.{Junction}
 use Rattle.step_run.specs.declared.term.Junction.TheVariants as junctions
-use Rattle.csub_run.specs.Expressions.{exprs, expr_value, joined_all, parts_value}
-
-row-exprs : {n : _} (row : Row_of-Expr n) → exprs_of row ≡ exprs (map expr_of (items-the_row-Expr _ row))
-row-exprs end_of-Expr = refl
-row-exprs (more_of-Expr e row) = ap (MoreExprs (expr_of e)) (row-exprs row)
-
-expr-And : (v : Vec Expr Global) → expr_of (nodes.And v) ≡ And (exprs (map expr_of v.items))
-expr-And v = ap And (row-exprs (hidden-the_row-Expr-0 v) ∙ ap (λ l. exprs (map expr_of l)) (items_hidden-the_row-Expr-0 v))
-
-expr-Or : (v : Vec Expr Global) → expr_of (nodes.Or v) ≡ Or (exprs (map expr_of v.items))
-expr-Or v = ap Or (row-exprs (hidden-the_row-Expr-0 v) ∙ ap (λ l. exprs (map expr_of l)) (items_hidden-the_row-Expr-0 v))
+use Rattle.step_run.specs.Expressions.{expr_value, joined_all, parts_value}
 
 all-list : (names : List (List ℕ)) (values : List Bool) (l : List Expr)
     → all_of (memory_in names values) (exprs (map expr_of l)) ≡ joined_all junctions.And (map (λ e. expr_value names e values) l)
@@ -88,3 +80,25 @@ joined-one junctions.And true = refl
 joined-one junctions.And false = refl
 joined-one junctions.Or true = refl
 joined-one junctions.Or false = refl
+
+-- ---- valuations that agree on the names in an expression give it the same value
+
+mutual
+  pub value-local : (u v : List ℕ → Bool) (e : Tree) → ((x : List ℕ) → Contains (names_in e) x → u x ≡ v x) → value_of u e ≡ value_of v e
+  value-local u v (Name name) same = same name (0, omega arith, refl)
+  value-local u v (Const value) same = refl
+  value-local u v (Not e) same = ap not (value-local u v e same)
+  value-local u v (And parts) same = all-local u v parts same
+  value-local u v (Or parts) same = any-local u v parts same
+
+  all-local : (u v : List ℕ → Bool) (es : Exprs) → ((x : List ℕ) → Contains (all_names es) x → u x ≡ v x) → all_of u es ≡ all_of v es
+  all-local u v NoExprs same = refl
+  all-local u v (MoreExprs e others) same =
+      ap (λ b. b && all_of u others) (value-local u v e (λ x has. same x (Contains-append_left (names_in e) (all_names others) x has)))
+      ∙ ap (λ b. value_of v e && b) (all-local u v others (λ x has. same x (Contains-append_right (names_in e) (all_names others) x has)))
+
+  any-local : (u v : List ℕ → Bool) (es : Exprs) → ((x : List ℕ) → Contains (all_names es) x → u x ≡ v x) → any_of u es ≡ any_of v es
+  any-local u v NoExprs same = refl
+  any-local u v (MoreExprs e others) same =
+      ap (λ b. b || any_of u others) (value-local u v e (λ x has. same x (Contains-append_left (names_in e) (all_names others) x has)))
+      ∙ ap (λ b. value_of v e || b) (any-local u v others (λ x has. same x (Contains-append_right (names_in e) (all_names others) x has)))

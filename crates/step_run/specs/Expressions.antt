@@ -1,19 +1,14 @@
--- Inner: the values of expressions of the code where the slots of the names have these values.
-use Rattle.std.specs.Prelude.{ℕ, Bool, List, [], ◌∷◌, map}
+-- Inner: the values of expressions where the slots of the names have these values.
+use Rattle.std.specs.Prelude.{ℕ, Bool, List, map}
 use Rattle.std.specs.List.{list_all, list_any}
 use Rattle.step_run.specs.Slots.{slot_in, memory_in}
 use Rattle.step_run.specs.Steps.{Step}
 use Rattle.step_run.specs.declared.term.Junction.{Junction}
 use Rattle.step_run.specs.declared.term.Junction.TheVariants.{And, Or}
-use Rattle.csub_text.specs.Machine.{value_of}
-use Rattle.csub_text.specs.Trees.{Expr, Exprs, NoExprs, MoreExprs, Assign}
-use Rattle.csub_text.specs.Views.{expr_of}
+use Rattle.expr_text.specs.Trees.{Expr}
+use Rattle.expr_text.specs.Values.{value_of}
+use Rattle.expr_text.specs.Views.{expr_of}
 use Rattle.expr_text.specs.declared.trees.Expr.{Expr as CodeExpr}
-
--- a list of expressions, in the words of the grammar
-abbrev pub exprs : List Expr → Exprs
-exprs [] = NoExprs
-exprs (e ∷ others) = MoreExprs e (exprs others)
 
 -- closed, so that a proof sees one row at a time
 unfoldable pub expr_value : List (List ℕ) → CodeExpr → List Bool → Bool
@@ -27,9 +22,9 @@ joined_all Or values = list_any (λ v. v) values
 abbrev pub parts_value : List (List ℕ) → Junction → List CodeExpr → List Bool → Bool
 parts_value names junction parts values = joined_all junction (map (λ e. expr_value names e values) parts)
 
--- the step of an assignment
-abbrev pub assign_step : List (List ℕ) → Assign → Step
-assign_step names a = record {
-  output = slot_in names a.target;
-  value = λ values. value_of (memory_in names values) a.value;
+-- the step that gives a name the value of an expression
+abbrev pub expr_step : List (List ℕ) → List ℕ → Expr → Step
+expr_step names target value = record {
+  output = slot_in names target;
+  value = λ values. value_of (memory_in names values) value;
 }

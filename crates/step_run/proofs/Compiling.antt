@@ -1,6 +1,6 @@
 -- Expressions that are compiled, form by form.
-use Rattle.std.proofs.Common.{◌≡◌, ℕ, ◌+◌, ◌<◌, suc, Bool, true, not, List, [], ◌∷◌, ◌++◌, length, map, take, get_or}
-use Rattle.std.proofs.Common.{refl, sym, ap, ◌∙◌, subst, arith, Result, Ok, Err}
+use Rattle.std.proofs.Common.{◌≡◌, ℕ, ◌+◌, ◌<◌, suc, Bool, not, List, [], ◌∷◌, ◌++◌, length, map, take, get_or}
+use Rattle.std.proofs.Common.{sym, ap, ◌∙◌, subst, arith, Result, Ok, Err}
 use Rattle.std.specs.Prelude.{IfOk}
 use Rattle.std.specs.declared.alloc.Global.{Global}
 use Rattle.std.specs.declared.boxed.Box.{Box}
@@ -15,8 +15,8 @@ use Rattle.step_run.specs.declared.term.Junction.TheVariants as junctions
 use Rattle.step_run.specs.Slots.{slot_in, value_at}
 use Rattle.step_run.specs.Plans.{Planned, Compiles, Joins, Says, joined, made, term_value}
 use Rattle.step_run.proofs.Makings.{says-is, keeps-refl, keeps-trans}
-use Rattle.csub_run.specs.Expressions.{expr_value, joined_all, parts_value}
-use Rattle.csub_run.proofs.Rows.{value-Name, value-Const, value-Not, value-And, value-Or, joined-more, joined-one}
+use Rattle.step_run.specs.Expressions.{expr_value, joined_all, parts_value}
+use Rattle.step_run.proofs.ExprValues.{value-Name, value-Const, value-Not, value-And, value-Or, joined-more, joined-one}
 
 -- values that are the same are compiled by the same term
 compiles-is : (f g : List Bool → Bool) (old new : Planned) (t : Term) → ((values : List Bool) → f values ≡ g values)

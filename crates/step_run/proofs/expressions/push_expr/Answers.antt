@@ -1,0 +1,21 @@
+use Rattle.std.proofs.Common.{map}
+use Rattle.expr_text.specs.Views.{expr_of}
+use Rattle.step_run.specs.Plans.{Adds, AddsTerm}
+use Rattle.step_run.specs.Expressions.{expr_value, expr_step}
+use Rattle.step_run.proofs.ExprValues.{value-is}
+use Rattle.step_run.proofs.Makings.{adds-is, adds-behind}
+use Rattle.step_run.proofs.Pushes.{on-ok}
+use Rattle.step_run.proofs.expressions.push_expr.Goals as goal
+
+pub returns : goal.returns
+returns c =
+    let keys = map (λ k. k.now) c.args.slots.now.keys in
+    let value = c.args.value.now in
+    let step = expr_step keys c.args.target.now (expr_of value) in
+    let old = c.args.plan.now in
+    let mid = c.expr_term.new.plan in
+    let new = c.push_term.new.self in
+    on-ok c.push_term.result (AddsTerm c.slot_of.result c.in_ok-term.term mid new) (Adds step old new)
+    (λ adds. adds-behind step old mid new c.in_ok-term.ensures.keeps
+    (adds-is (record { output = c.slot_of.result; value = expr_value keys value }) step mid new c.slot_of.ensures (value-is keys value)
+    (adds.adds (expr_value keys value) c.in_ok-term.ensures.says))) c.push_term.ensures

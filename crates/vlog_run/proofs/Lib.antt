@@ -1,0 +1,7 @@
+pub mod Described
+pub mod ModuleEquations
+pub mod Reactions
+pub mod Showing
+pub mod NetLoops
+pub mod NetTexts
+mod WorkedRuns

@@ -1,0 +1,15 @@
+//! A runner of the modules that texts of structural Verilog describe.
+//!
+//! A module of assignments and registers has a run over events and resets wherever no assignment needs its own target
+//! in the same instant. `ModuleRunner::new` looks for such a combinational cycle, and else makes a plan of `step_run`
+//! of the assignments, each one behind those that it reads; `react` makes one reaction. What an instant and a run of a
+//! module are stands in `vlog_text`. `VlogRunner` is the same runner as a machine that a trace drives.
+#![tactic(auto)]
+
+mod plan;
+mod runner;
+mod slots;
+mod trace_runner;
+
+pub use runner::ModuleRunner;
+pub use trace_runner::VlogRunner;

@@ -1,0 +1,177 @@
+// The runner of a module, as a machine that items drive.
+
+ghost use Rattle.std.specs.Prelude.{◌≡◌, ◌≤◌, [], map, length, IfOk, IsTrue, OnOk};
+ghost use Rattle.est_base.specs.Distinct.{all_differ};
+ghost use Rattle.est_base.specs.Names.{is_same_name};
+ghost use Rattle.est_base.specs.Stops.{IfFault};
+ghost use Rattle.trace_run.specs.Languages.{word_of};
+ghost use Rattle.vlog_run.specs.Loops.{IsDescribed, IsLoop, HasNoLoop};
+ghost use Rattle.vlog_run.specs.ModuleAnswers.{bare_name, bare_inputs, bare_outputs, tells_pause, listed_count};
+ghost use Rattle.vlog_run.specs.Runners.{IsFresh, module_in};
+ghost use Rattle.vlog_text.specs.Views.{module_of};
+
+use crate::runner::ModuleRunner;
+use crate::slots::given_inputs;
+use est_base::{NoMemory, Stop, Text};
+use std::alloc::Global;
+use std::marker::Model;
+use trace_io::Word;
+use trace_run::{Interface, Runner};
+use vlog_text::Module;
+
+/// A runner of a module, as one that items drive. A last output `paused` is none of the outgoing signals, and its value
+/// says whether the program is still active; where there is none, nothing is said. A contract sees it as the module,
+/// the values that the registers have in the next instant, and those that the outputs had in the last one.
+#[derive(Drop)]
+pub struct VlogRunner {
+    runner: ModuleRunner,
+}
+
+impl Model for VlogRunner {
+    ghost use Rattle.vlog_run.specs.Runners.{Runner};
+
+    ghost Value = { Runner };
+
+    ghost use Rattle.expr_text.specs.contracts.trees.Expr as e;
+    ghost use Rattle.std.specs.Coded.{codes};
+
+    ghost coded = { Prim.hlevel (codes, e.the_row.coded) };
+
+    ghost use Rattle.vlog_run.specs.Tracing.{KeepsModule};
+
+    ghost view = { λ r. r.runner };
+
+    ghost invariant = { KeepsModule };
+}
+
+impl VlogRunner {
+    /// A runner of a module before its first event. The module is one that some text describes.
+    ///
+    /// The fault is a combinational cycle, where there is one, as of `ModuleRunner::new`. The only other error is want
+    /// of memory.
+    pub fn new(alloc: Global, design: Module) -> Result<VlogRunner, Stop<Vec<Text>>>
+        requires { IsDescribed (module_of design) }
+        ensures code { IfOk result (λ r. r.code ≡ design) }
+        ensures fresh { IfOk result IsFresh }
+        ensures acyclic { OnOk result (HasNoLoop (module_of design)) }
+        ensures cyclic { IfFault result (λ names. IsLoop (module_of design) names.items) }
+    {
+        match ModuleRunner::new(alloc, design) {
+            Ok(runner) => Ok(VlogRunner { runner }),
+            Err(stop) => Err(stop),
+        }
+    }
+
+    /// The interface of the text itself: its inputs besides the clock, and its outputs but for a last `paused`, without
+    /// the two bytes of their signs; no relations. Its only error is want of memory.
+    pub fn interface(&self, alloc: Global) -> Result<Interface, NoMemory>
+        ensures given { IfOk result (λ i. i.given.items ≡ bare_inputs (module_in self.now)) }
+        ensures outgoing { IfOk result (λ i. i.outgoing.items ≡ bare_outputs (module_in self.now)) }
+        ensures relations { IfOk result (λ i. i.relations.items ≡ []) }
+        ensures differ { IfOk result (λ i. IsTrue (all_differ is_same_name i.given.items)) }
+        ensures each_output { IfOk result (λ i. length i.outgoing.items ≡ listed_count (module_in self.now).outputs) }
+    {
+        match module_interface(alloc, self.runner.design()) {
+            Ok(interface) => Ok(interface),
+            Err(NoMemory) => Err(NoMemory),
+        }
+    }
+}
+
+impl Runner for VlogRunner {
+    ghost use Rattle.std.specs.Prelude.{length, take};
+    ghost use Rattle.vlog_run.specs.Ends.{shows_nothing};
+    ghost use Rattle.vlog_run.specs.ModuleAnswers.{listed_count};
+    ghost use Rattle.vlog_run.specs.Runners.{module_in};
+    ghost use Rattle.vlog_run.specs.Showing.{runner_shows};
+    ghost use Rattle.vlog_text.specs.Machine.{given_inputs};
+
+    ghost input_count = { λ r. length (given_inputs (module_in r)) };
+
+    ghost output_count = { λ r. listed_count (module_in r).outputs };
+
+    ghost present = { λ r. take (listed_count (module_in r).outputs) r.outputs };
+
+    ghost shows = { runner_shows };
+
+    fn react(&mut self, inputs: &[bool]) -> Word {
+        self.runner.react(inputs);
+        if !tells_pause(&self.runner.design().outputs) {
+            return Word::Bare;
+        }
+        let values = self.runner.outputs();
+        word_of(values[values.len() - 1])
+    }
+
+    fn outputs(&self) -> &[bool] {
+        &self.runner.outputs()[..listed_count(&self.runner.design().outputs)]
+    }
+
+    fn reset(&mut self) {
+        self.runner.reset();
+    }
+
+    ghost ends = { λ r. shows_nothing r };
+}
+
+// The names of the inputs and of the listed outputs of a module, without their signs; no relations.
+fn module_interface(alloc: Global, design: &Module) -> Result<Interface, NoMemory>
+    ensures given { IfOk result (λ i. i.given.items ≡ bare_inputs (module_of design.now)) }
+    ensures outgoing { IfOk result (λ i. i.outgoing.items ≡ bare_outputs (module_of design.now)) }
+    ensures relations { IfOk result (λ i. i.relations.items ≡ []) }
+{
+    let outputs = &design.outputs;
+    Ok(Interface {
+        given: bare_names(alloc, given_inputs(design))?,
+        outgoing: bare_names(alloc, &outputs[..listed_count(outputs)])?,
+        relations: Vec::new(alloc),
+    })
+}
+
+// The names without their signs.
+fn bare_names(alloc: Global, names: &[Text]) -> Result<Vec<Text>, NoMemory>
+    ensures { IfOk result (λ bare. bare.items ≡ map bare_name names.now) }
+{
+    let mut bare = Vec::with_capacity(alloc, names.len())?;
+    for name in names {
+        bare.push(Text::from_bytes(alloc, bare_name(name.bytes()))?)?;
+    }
+    Ok(bare)
+}
+
+// The bytes of a name behind the first two.
+fn bare_name(name: &[u8]) -> &[u8]
+    ensures { result.now ≡ bare_name name.now }
+{
+    if name.len() < 2 { b"" } else { &name[2..] }
+}
+
+const PAUSED: &[u8] = b"paused";
+
+// Whether the last of the outputs is `paused`.
+fn tells_pause(outputs: &[Text]) -> bool
+    ensures { result ≡ tells_pause outputs.now }
+{
+    match outputs.last() {
+        Some(name) => PAUSED == name.bytes(),
+        None => false,
+    }
+}
+
+// How many of the outputs are listed.
+fn listed_count(outputs: &[Text]) -> usize
+    ensures count { result ≡ listed_count outputs.now }
+    ensures within { result ≤ length outputs.now }
+{
+    if tells_pause(outputs) {
+        outputs.len() - 1
+    } else {
+        outputs.len()
+    }
+}
+
+fn word_of(paused: bool) -> Word
+    ensures { result ≡ word_of paused }
+{
+    if paused { Word::Paused } else { Word::Ended }
+}
