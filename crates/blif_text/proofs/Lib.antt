@@ -14,7 +14,7 @@ pub mod DriverFaults
 pub mod TakenLines
 pub mod ReadBack
 pub mod Described
-pub mod Moves
+pub mod Joins
 pub mod RoundTrip
 pub mod NetNames
 pub mod NetDrivers

@@ -1,5 +1,5 @@
 -- The length of a net's text: at most so many bytes for each gate and each latch, and for each name of the interface twice its length and so many more.
-use Rattle.std.proofs.Common.{◌≡◌, ℕ, ◌+◌, ◌*◌, ◌^◌, ◌<◌, ◌≤◌, zero, suc, Bool, true, false, List, [], ◌∷◌, ◌++◌, length, map, get_or, Option}
+use Rattle.std.proofs.Common.{◌≡◌, ℕ, ◌+◌, ◌*◌, ◌^◌, ◌<◌, ◌≤◌, suc, Bool, true, false, List, [], ◌∷◌, ◌++◌, length, map, get_or, Option}
 use Rattle.std.proofs.Common.{Some, None, refl, sym, ap, ◌∙◌, subst, arith, length-append, All}
 use Rattle.std.specs.Prelude.{IfSome, codes, decimal, flat_map, if◌then◌else◌}
 use Rattle.std.specs.List.{sum_by}
@@ -16,17 +16,17 @@ use Rattle.net_ir.specs.declared.netlist.Latch.{Latch}
 use Rattle.net_ir.specs.declared.netlist.NetOut.{NetOut}
 use Rattle.net_ir.specs.Gates.{operand_end}
 use Rattle.net_ir.specs.NameLists.{is_among}
-use Rattle.net_ir.specs.Netlists.{Netlist, first_gate, net_count, output_names}
+use Rattle.net_ir.specs.Netlists.{Netlist, net_count, output_names}
 use Rattle.net_ir.specs.Numbered.{numbered}
 use Rattle.net_ir.specs.Writing.{IsWritable}
 use Rattle.net_ir.proofs.Numbered.{length-numbered, All-numbered}
 use Rattle.blif_text.specs.Circuits.{Table}
 use Rattle.blif_text.specs.Statements.{Cell, Statement, Model, Inputs, Outputs, Names, Row, End}
 use Rattle.blif_text.specs.Statements as statements
-use Rattle.blif_text.specs.Spelled.{line_text, cell_byte, spelled, inputs_statements, latch_statement, table_statements, head_statements, circuit_statements}
+use Rattle.blif_text.specs.Spelled.{line_text, spelled, inputs_statements, latch_statement, table_statements, head_statements, circuit_statements}
 use Rattle.blif_text.specs.Written.{input_word, latch_word, gate_word, net_word, output_word, paused_word, operands, op_rows, copy_table, input_table}
-use Rattle.blif_text.specs.Written.{gate_table, output_table, net_latch, net_tables, net_circuit, written}
-use Rattle.blif_text.proofs.NetNames.{input_words, latch_words, gate_words, net_words, length-net_words, net_word-at}
+use Rattle.blif_text.specs.Written.{gate_table, output_table, net_latch, net_circuit, written}
+use Rattle.blif_text.proofs.NetNames.{input_words, latch_words, gate_words, length-net_words, net_word-at}
 
 -- ---- lines
 

@@ -12,4 +12,4 @@ pub mod PlainStatements
 pub mod Drafts
 pub mod Rests
 pub mod Reads
-pub mod Places
+pub mod Parts

@@ -9,6 +9,7 @@ mod circuit;
 mod draft;
 mod drivers;
 mod lines;
+mod parts;
 mod pieces;
 mod reader;
 mod refusal;
@@ -17,7 +18,6 @@ mod words;
 mod writer;
 
 pub use circuit::{Blif, BlifLatch, Cell, Row, Table};
-pub use pieces::BlifPieces;
+pub use pieces::{BlifPieces, BlifWriter, write_blif};
 pub use reader::read_blif;
 pub use refusal::BlifError;
-pub use writer::write_blif;

@@ -1,42 +1,21 @@
-// The BLIF text of a net, part by part.
+// The BLIF text of a net, line by line. Want of memory is the only error.
 
 ghost use Rattle.std.specs.Prelude.{◌≡◌, ℕ, ◌+◌, ◌<◌, ◌≤◌, List, [], ◌∷◌, ◌++◌};
-ghost use Rattle.std.specs.Prelude.{map, flat_map, codes, decimal, IfOk, OnOk, if◌then◌else◌};
+ghost use Rattle.std.specs.Prelude.{map, flat_map, codes, OnOk, if◌then◌else◌};
 ghost use Rattle.net_ir.specs.Gates.{operand_end};
 ghost use Rattle.net_ir.specs.Netlists.{net_count};
 ghost use Rattle.net_ir.specs.Runs.{netlist_of};
 ghost use Rattle.blif_text.specs.Statements.{Model, Row};
 ghost use Rattle.net_ir.specs.NameLists.{is_among};
-ghost use Rattle.blif_text.specs.Spelled.{text_of, latch_statement, table_statements};
+ghost use Rattle.blif_text.specs.Spelled.{text_of};
 ghost use Rattle.blif_text.specs.Written.{gate_word, net_word, operands, op_rows, copy_table, paused_word};
-ghost use Rattle.blif_text.specs.Written.{input_table, gate_table, output_table, net_latch, written, Means};
-ghost use Rattle.blif_text.specs.Places.{inputs_start, inputs_end, outputs_end, first_lines, last_lines};
+ghost use Rattle.blif_text.specs.Written.{input_table, gate_table, output_table, net_latch};
+ghost use Rattle.blif_text.specs.Parts.{inputs_start, inputs_end, outputs_end, first_lines, last_lines};
+ghost use Rattle.blif_text.specs.Parts.{latch_text, table_text};
 
-use crate::pieces::BlifPieces;
 use est_base::{NetId, NoMemory, Text};
-use itoa::Buffer;
 use net_ir::{Gate, Latch, Net, NetOut, Op};
-use std::alloc::Global;
-
-/// The BLIF text of a net: one line feed behind each line, and one space between words.
-///
-/// The net's inputs have their own names, and so do its outputs, but an output whose name is an input's
-/// too is written `NAME.out`; the last output is `_paused`. Input J is also `_iJ`, latch J is `_sJ`, and
-/// gate K is `_wN` where it carries wire N, else `_gK`. The lines are those of Berkeley's BLIF: the model,
-/// the inputs, the outputs, the latches, and then a table for each input, each gate, each output and
-/// `_paused`. The time and the memory that it takes are linear in the length of the text; want of memory
-/// is its only error.
-pub fn write_blif(alloc: Global, net: &Net) -> Result<Vec<u8>, NoMemory>
-    ensures text { IfOk result (λ t. t.items ≡ written (netlist_of net.now)) }
-    ensures means { IfOk result (λ t. Means t.items (netlist_of net.now)) }
-{
-    let mut pieces = BlifPieces::new(net);
-    let mut text = Vec::new(alloc);
-    while let Some(piece) = pieces.next(alloc)? {
-        text.extend_from_slice(&piece)?;
-    }
-    Ok(text)
-}
+use net_text::{put, put_number};
 
 // The line of the model, and the beginning of that of the inputs, where there are any.
 pub fn put_first_lines(text: &mut Vec<u8>, net: &Net) -> Result<(), NoMemory>
@@ -100,7 +79,7 @@ pub fn put_outputs_end(text: &mut Vec<u8>) -> Result<(), NoMemory>
 pub fn put_latch(text: &mut Vec<u8>, net: &Net, j: usize, latch: Latch) -> Result<(), NoMemory>
     requires { latch.from.0 < net_count (netlist_of net.now) }
     ensures { OnOk result (text.new.items ≡ text.old.items
-        ++ text_of (latch_statement (net_latch (netlist_of net.now) j latch) ∷ [])) }
+        ++ latch_text (net_latch (netlist_of net.now) j latch)) }
 {
     put(text, b".latch ")?;
     put_net(text, net, latch.from)?;
@@ -110,7 +89,7 @@ pub fn put_latch(text: &mut Vec<u8>, net: &Net, j: usize, latch: Latch) -> Resul
 
 // The table of an input, which gives it its name among the nets.
 pub fn put_input(text: &mut Vec<u8>, j: usize, name: &Text) -> Result<(), NoMemory>
-    ensures { OnOk result (text.new.items ≡ text.old.items ++ text_of (table_statements (input_table j name.now))) }
+    ensures { OnOk result (text.new.items ≡ text.old.items ++ table_text (input_table j name.now)) }
 {
     put(text, b".names ")?;
     put(text, name.bytes())?;
@@ -122,7 +101,7 @@ pub fn put_input(text: &mut Vec<u8>, j: usize, name: &Text) -> Result<(), NoMemo
 pub fn put_gate(text: &mut Vec<u8>, net: &Net, k: usize, gate: Gate) -> Result<(), NoMemory>
     requires { operand_end gate.op ≤ net_count (netlist_of net.now) }
     ensures { OnOk result (text.new.items ≡ text.old.items
-        ++ text_of (table_statements (gate_table (netlist_of net.now) k gate))) }
+        ++ table_text (gate_table (netlist_of net.now) k gate)) }
 {
     put(text, b".names")?;
     put_operands(text, net, gate.op)?;
@@ -176,7 +155,7 @@ pub fn put_output(
     requires in_range { output.now.net.0 < net_count (netlist_of net.now) }
     requires given { given ≡ is_among output.now.name net.now.inputs.items }
     ensures { OnOk result (text.new.items ≡ text.old.items
-        ++ text_of (table_statements (output_table (netlist_of net.now) output.now))) }
+        ++ table_text (output_table (netlist_of net.now) output.now)) }
 {
     put(text, b".names ")?;
     put_net(text, net, output.net)?;
@@ -230,25 +209,10 @@ fn put_gate_word(text: &mut Vec<u8>, k: usize, gate: Gate) -> Result<(), NoMemor
     }
 }
 
-// Some bytes, and a decimal number behind them.
-fn put_number(text: &mut Vec<u8>, mark: &[u8], number: usize) -> Result<(), NoMemory>
-    ensures { OnOk result (text.new.items ≡ text.old.items ++ mark.now ++ decimal number) }
-{
-    put(text, mark)?;
-    put(text, Buffer::new().format(number).as_bytes())
-}
-
 // A space and a word.
 fn put_spaced(text: &mut Vec<u8>, word: &[u8]) -> Result<(), NoMemory>
     ensures { OnOk result (text.new.items ≡ text.old.items ++ 32 ∷ word.now) }
 {
     put(text, b" ")?;
     put(text, word)
-}
-
-fn put(text: &mut Vec<u8>, bytes: &[u8]) -> Result<(), NoMemory>
-    ensures { OnOk result (text.new.items ≡ text.old.items ++ bytes.now) }
-{
-    text.extend_from_slice(bytes)?;
-    Ok(())
 }

@@ -1,6 +1,6 @@
 -- what callers cite of names among others
 pub use Rattle.net_ir.proofs.NameLists
-pub mod Moves
+pub mod Joins
 mod TextEquations
 mod WorkedNames
 pub mod Lexing

@@ -1,5 +1,5 @@
 -- A net's program keeps the rules on names.
-use Rattle.std.proofs.Common.{◌≡◌, ℕ, ◌+◌, ◌-◌, ◌<◌, ◌==◌, zero, suc, Bool, true, false, not, ◌&&◌, ◌||◌, List, [], ◌∷◌, ◌++◌, length}
+use Rattle.std.proofs.Common.{◌≡◌, ℕ, ◌+◌, ◌<◌, ◌==◌, zero, suc, Bool, true, false, not, ◌&&◌, ◌||◌, List, [], ◌∷◌, ◌++◌, length}
 use Rattle.std.proofs.Common.{map, get_or, All, refl, sym, ap, ◌∙◌, subst, arith, Some, None, append_assoc, ◌⊎◌, inl, inr}
 use Rattle.std.specs.Prelude.{flat_map, filter, find}
 use Rattle.std.specs.List.{list_any, AllByRecursion}

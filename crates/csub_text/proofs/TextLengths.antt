@@ -14,15 +14,15 @@ use Rattle.net_ir.specs.declared.netlist.Gate.{Gate}
 use Rattle.net_ir.specs.declared.netlist.Latch.{Latch}
 use Rattle.net_ir.specs.declared.netlist.NetOut.{NetOut}
 use Rattle.net_ir.specs.Gates.{operand_end}
-use Rattle.net_ir.specs.Netlists.{Netlist, first_gate, net_count, output_names}
+use Rattle.net_ir.specs.Netlists.{Netlist, net_count, output_names}
 use Rattle.net_ir.specs.Numbered.{numbered}
 use Rattle.net_ir.specs.Writing.{IsWritable}
 use Rattle.net_ir.proofs.Numbered.{length-numbered, All-numbered}
-use Rattle.csub_text.specs.Trees.{Assign, Expr, Name, State}
+use Rattle.csub_text.specs.Trees.{Expr, Name}
 use Rattle.csub_text.specs.Written.{input_name, state_name, gate_name, next_name, answer_name, net_name, input_variable, output_variable, net_state, op_expr}
 use Rattle.csub_text.specs.Written.{input_assign, gate_assign, next_assign, output_assign, answer_assign, state_assign, gate_names, net_globals, net_locals}
-use Rattle.csub_text.specs.Written.{net_body, net_program, bit_text, expr_text, line_end, state_line, declaration, assign_line, head_line, last_lines, written}
-use Rattle.csub_text.proofs.NetNames.{input_names, next_names, given_variables, shown_variables}
+use Rattle.csub_text.specs.Written.{net_body, net_program, expr_text, line_end, state_line, declaration, assign_line, head_line, last_lines, written}
+use Rattle.csub_text.proofs.NetNames.{input_names, next_names}
 use Rattle.expr_text.proofs.Naming.{net_cases}
 use Rattle.csub_text.proofs.NetRules.{net_name-input, net_name-state, net_name-gate}
 

@@ -1,6 +1,6 @@
 -- Worked faults of names of C programs, by hand: which of several names is the fault, and which rule comes first.
-use Rattle.std.proofs.Common.{◌≡◌, ℕ, Bool, false, List, [], ◌∷◌, None, Some, Option, codes, refl}
-use Rattle.csub_text.specs.Trees.{Expr, Name, Const, Not, And, Or, NoExprs, MoreExprs, State, Assign, Program}
+use Rattle.std.proofs.Common.{◌≡◌, ℕ, false, List, [], ◌∷◌, None, Some, Option, codes, refl}
+use Rattle.csub_text.specs.Trees.{Expr, Name, Const, Not, And, Or, NoExprs, MoreExprs, State, Assign}
 use Rattle.csub_text.specs.Names.{NameFault, name_fault, Twice, Undeclared, Unset}
 
 abbrev state : List ℕ → State

@@ -8,4 +8,4 @@ pub mod Names
 pub mod Texts
 pub mod Machine
 pub mod Written
-pub mod Places
+pub mod Parts

@@ -1,7 +1,7 @@
 -- To believe: the program that stands for a net, its text, and what the text means. Input J of the net is the local
 -- `iJ`, latch J the state `sJ`, and gate K the local `wN` where it carries wire N, else `gK`. The next value of latch J
 -- is computed into `tJ`, and whether the program is still active into `r`, which is returned.
-use Rattle.std.specs.Prelude.{◌≡◌, ℕ, ◌-◌, Bool, true, false, List, [], ◌∷◌, ◌++◌, length}
+use Rattle.std.specs.Prelude.{◌≡◌, ℕ, Bool, true, false, List, [], ◌∷◌, ◌++◌, length}
 use Rattle.std.specs.Prelude.{map, flat_map, codes, decimal, drop}
 use Rattle.est_base.specs.Items.{Item, EachEvent}
 use Rattle.net_ir.specs.declared.netlist.Gate.{Gate}

@@ -13,6 +13,5 @@ mod writer;
 
 pub use expr_text::Expr;
 pub use names::{begins_input, begins_output, declared_names, front_two};
-pub use pieces::CPieces;
+pub use pieces::{CPieces, CWriter, write_c};
 pub use trees::{Assign, CProgram, State};
-pub use writer::write_c;

@@ -1,8 +1,11 @@
-// The parts of the C text of a net: places, and what is written at each.
+// The parts of the C text of a net.
 
-ghost use Rattle.std.specs.Prelude.{◌≢◌, IfOk};
+ghost use Rattle.std.specs.Prelude.{IfOk};
 ghost use Rattle.net_ir.specs.Runs.{netlist_of};
-ghost use Rattle.csub_text.specs.Places.{Moves};
+ghost use Rattle.net_text.specs.Parts.{PutsPart};
+ghost use Rattle.csub_text.specs.Parts.{from_state_assigns, from_output_assigns, from_next_assigns, from_gate_assigns};
+ghost use Rattle.csub_text.specs.Parts.{from_input_assigns, from_next_locals, from_gate_locals, from_input_locals};
+ghost use Rattle.csub_text.specs.Parts.{from_outputs, from_inputs, net_parts};
 
 use crate::writer::{
     put_answer_assign, put_answer_local, put_gate, put_gate_local, put_head, put_input,
@@ -12,188 +15,157 @@ use crate::writer::{
 use est_base::NoMemory;
 use net_ir::Net;
 
-// A part of the text that is written at once. The number is that of the latch, the input, the output or the gate;
-// the number behind the last one stands for what ends their lines.
-#[derive(Clone, Copy)]
-pub enum Place {
-    State(usize),
-    Input(usize),
-    Output(usize),
-    InputLocal(usize),
-    GateLocal(usize),
-    NextLocal(usize),
-    InputAssign(usize),
-    GateAssign(usize),
-    NextAssign(usize),
-    OutputAssign(usize),
-    StateAssign(usize),
-    End,
-}
-
-// Writes the part at a place; the answer is the place behind it.
-pub fn put_part(text: &mut Vec<u8>, net: &Net, place: Place) -> Result<Place, NoMemory>
-    requires { place ≢ Place.End }
-    ensures { IfOk result (λ next. Moves (netlist_of net.now) text.old.items place text.new.items next) }
-{
-    match place {
-        Place::State(j) => put_states(text, net, j),
-        Place::Input(j) => put_inputs(text, net, j),
-        Place::Output(k) => put_outputs(text, net, k),
-        Place::InputLocal(j) => put_input_locals(text, net, j),
-        Place::GateLocal(k) => put_gate_locals(text, net, k),
-        Place::NextLocal(j) => put_next_locals(text, net, j),
-        Place::InputAssign(j) => put_input_assigns(text, net, j),
-        Place::GateAssign(k) => put_gate_assigns(text, net, k),
-        Place::NextAssign(j) => put_next_assigns(text, net, j),
-        Place::OutputAssign(k) => put_output_assigns(text, net, k),
-        Place::StateAssign(j) => put_state_assigns(text, net, j),
-        Place::End => Ok(Place::End),
-    }
-}
-
 // A declaration for each latch.
-fn put_states(text: &mut Vec<u8>, net: &Net, j: usize) -> Result<Place, NoMemory>
-    ensures { IfOk result
-        (λ next. Moves (netlist_of net.now) text.old.items (Place.State j) text.new.items next) }
+pub fn put_states(text: &mut Vec<u8>, net: &Net, k: u128) -> Result<bool, NoMemory>
+    ensures { IfOk result (PutsPart (net_parts (netlist_of net.now)) k text.old.items text.new.items) }
 {
-    if j < net.latches.len() {
-        put_state(text, j, net.latches[j])?;
-        Ok(Place::State(j + 1))
+    let count = net.latches.len() as u128;
+    if k < count {
+        put_state(text, k as usize, net.latches[k as usize])?;
+        Ok(true)
     } else {
-        Ok(Place::Input(0))
+        put_inputs(text, net, k - count)
     }
 }
 
 // A declaration for each input.
-fn put_inputs(text: &mut Vec<u8>, net: &Net, j: usize) -> Result<Place, NoMemory>
-    ensures { IfOk result
-        (λ next. Moves (netlist_of net.now) text.old.items (Place.Input j) text.new.items next) }
+fn put_inputs(text: &mut Vec<u8>, net: &Net, k: u128) -> Result<bool, NoMemory>
+    ensures { IfOk result (PutsPart (from_inputs (netlist_of net.now)) k text.old.items text.new.items) }
 {
-    if j < net.inputs.len() {
-        put_input(text, &net.inputs[j])?;
-        Ok(Place::Input(j + 1))
+    let count = net.inputs.len() as u128;
+    if k < count {
+        put_input(text, &net.inputs[k as usize])?;
+        Ok(true)
     } else {
-        Ok(Place::Output(0))
+        put_outputs(text, net, k - count)
     }
 }
 
 // A declaration for each output, and the line that begins the function.
-fn put_outputs(text: &mut Vec<u8>, net: &Net, k: usize) -> Result<Place, NoMemory>
-    ensures { IfOk result
-        (λ next. Moves (netlist_of net.now) text.old.items (Place.Output k) text.new.items next) }
+fn put_outputs(text: &mut Vec<u8>, net: &Net, k: u128) -> Result<bool, NoMemory>
+    ensures { IfOk result (PutsPart (from_outputs (netlist_of net.now)) k text.old.items text.new.items) }
 {
-    if k < net.outputs.len() {
-        put_output(text, &net.outputs[k])?;
-        Ok(Place::Output(k + 1))
-    } else {
+    let count = net.outputs.len() as u128;
+    if k < count {
+        put_output(text, &net.outputs[k as usize])?;
+        Ok(true)
+    } else if k == count {
         put_head(text)?;
-        Ok(Place::InputLocal(0))
+        Ok(true)
+    } else {
+        put_input_locals(text, net, k - count - 1)
     }
 }
 
 // A local for each input.
-fn put_input_locals(text: &mut Vec<u8>, net: &Net, j: usize) -> Result<Place, NoMemory>
-    ensures { IfOk result
-        (λ next. Moves (netlist_of net.now) text.old.items (Place.InputLocal j) text.new.items next) }
+fn put_input_locals(text: &mut Vec<u8>, net: &Net, k: u128) -> Result<bool, NoMemory>
+    ensures { IfOk result (PutsPart (from_input_locals (netlist_of net.now)) k text.old.items text.new.items) }
 {
-    if j < net.inputs.len() {
-        put_input_local(text, j)?;
-        Ok(Place::InputLocal(j + 1))
+    let count = net.inputs.len() as u128;
+    if k < count {
+        put_input_local(text, k as usize)?;
+        Ok(true)
     } else {
-        Ok(Place::GateLocal(0))
+        put_gate_locals(text, net, k - count)
     }
 }
 
 // A local for each gate.
-fn put_gate_locals(text: &mut Vec<u8>, net: &Net, k: usize) -> Result<Place, NoMemory>
-    ensures { IfOk result
-        (λ next. Moves (netlist_of net.now) text.old.items (Place.GateLocal k) text.new.items next) }
+fn put_gate_locals(text: &mut Vec<u8>, net: &Net, k: u128) -> Result<bool, NoMemory>
+    ensures { IfOk result (PutsPart (from_gate_locals (netlist_of net.now)) k text.old.items text.new.items) }
 {
-    if k < net.gates.len() {
-        put_gate_local(text, k, net.gates[k])?;
-        Ok(Place::GateLocal(k + 1))
+    let count = net.gates.len() as u128;
+    if k < count {
+        put_gate_local(text, k as usize, net.gates[k as usize])?;
+        Ok(true)
     } else {
-        Ok(Place::NextLocal(0))
+        put_next_locals(text, net, k - count)
     }
 }
 
 // A local for the next value of each latch, and one for the answer.
-fn put_next_locals(text: &mut Vec<u8>, net: &Net, j: usize) -> Result<Place, NoMemory>
-    ensures { IfOk result
-        (λ next. Moves (netlist_of net.now) text.old.items (Place.NextLocal j) text.new.items next) }
+fn put_next_locals(text: &mut Vec<u8>, net: &Net, k: u128) -> Result<bool, NoMemory>
+    ensures { IfOk result (PutsPart (from_next_locals (netlist_of net.now)) k text.old.items text.new.items) }
 {
-    if j < net.latches.len() {
-        put_next_local(text, j)?;
-        Ok(Place::NextLocal(j + 1))
-    } else {
+    let count = net.latches.len() as u128;
+    if k < count {
+        put_next_local(text, k as usize)?;
+        Ok(true)
+    } else if k == count {
         put_answer_local(text)?;
-        Ok(Place::InputAssign(0))
+        Ok(true)
+    } else {
+        put_input_assigns(text, net, k - count - 1)
     }
 }
 
 // Each input is copied into its local.
-fn put_input_assigns(text: &mut Vec<u8>, net: &Net, j: usize) -> Result<Place, NoMemory>
-    ensures { IfOk result
-        (λ next. Moves (netlist_of net.now) text.old.items (Place.InputAssign j) text.new.items next) }
+fn put_input_assigns(text: &mut Vec<u8>, net: &Net, k: u128) -> Result<bool, NoMemory>
+    ensures { IfOk result (PutsPart (from_input_assigns (netlist_of net.now)) k text.old.items text.new.items) }
 {
-    if j < net.inputs.len() {
-        put_input_assign(text, j, &net.inputs[j])?;
-        Ok(Place::InputAssign(j + 1))
+    let count = net.inputs.len() as u128;
+    if k < count {
+        put_input_assign(text, k as usize, &net.inputs[k as usize])?;
+        Ok(true)
     } else {
-        Ok(Place::GateAssign(0))
+        put_gate_assigns(text, net, k - count)
     }
 }
 
 // Each gate is computed.
-fn put_gate_assigns(text: &mut Vec<u8>, net: &Net, k: usize) -> Result<Place, NoMemory>
-    ensures { IfOk result
-        (λ next. Moves (netlist_of net.now) text.old.items (Place.GateAssign k) text.new.items next) }
+fn put_gate_assigns(text: &mut Vec<u8>, net: &Net, k: u128) -> Result<bool, NoMemory>
+    ensures { IfOk result (PutsPart (from_gate_assigns (netlist_of net.now)) k text.old.items text.new.items) }
 {
-    if k < net.gates.len() {
-        put_gate(text, net, k, net.gates[k])?;
-        Ok(Place::GateAssign(k + 1))
+    let count = net.gates.len() as u128;
+    if k < count {
+        put_gate(text, net, k as usize, net.gates[k as usize])?;
+        Ok(true)
     } else {
-        Ok(Place::NextAssign(0))
+        put_next_assigns(text, net, k - count)
     }
 }
 
 // The next value of each latch is computed.
-fn put_next_assigns(text: &mut Vec<u8>, net: &Net, j: usize) -> Result<Place, NoMemory>
-    ensures { IfOk result
-        (λ next. Moves (netlist_of net.now) text.old.items (Place.NextAssign j) text.new.items next) }
+fn put_next_assigns(text: &mut Vec<u8>, net: &Net, k: u128) -> Result<bool, NoMemory>
+    ensures { IfOk result (PutsPart (from_next_assigns (netlist_of net.now)) k text.old.items text.new.items) }
 {
-    if j < net.latches.len() {
-        put_next_assign(text, net, j, net.latches[j])?;
-        Ok(Place::NextAssign(j + 1))
+    let count = net.latches.len() as u128;
+    if k < count {
+        put_next_assign(text, net, k as usize, net.latches[k as usize])?;
+        Ok(true)
     } else {
-        Ok(Place::OutputAssign(0))
+        put_output_assigns(text, net, k - count)
     }
 }
 
 // Each output gets its value, and so does the answer.
-fn put_output_assigns(text: &mut Vec<u8>, net: &Net, k: usize) -> Result<Place, NoMemory>
-    ensures { IfOk result
-        (λ next. Moves (netlist_of net.now) text.old.items (Place.OutputAssign k) text.new.items next) }
+fn put_output_assigns(text: &mut Vec<u8>, net: &Net, k: u128) -> Result<bool, NoMemory>
+    ensures { IfOk result (PutsPart (from_output_assigns (netlist_of net.now)) k text.old.items text.new.items) }
 {
-    if k < net.outputs.len() {
-        put_output_assign(text, net, &net.outputs[k])?;
-        Ok(Place::OutputAssign(k + 1))
-    } else {
+    let count = net.outputs.len() as u128;
+    if k < count {
+        put_output_assign(text, net, &net.outputs[k as usize])?;
+        Ok(true)
+    } else if k == count {
         put_answer_assign(text, net)?;
-        Ok(Place::StateAssign(0))
+        Ok(true)
+    } else {
+        put_state_assigns(text, net, k - count - 1)
     }
 }
 
 // Each latch gets its next value, and the function ends.
-fn put_state_assigns(text: &mut Vec<u8>, net: &Net, j: usize) -> Result<Place, NoMemory>
-    ensures { IfOk result
-        (λ next. Moves (netlist_of net.now) text.old.items (Place.StateAssign j) text.new.items next) }
+fn put_state_assigns(text: &mut Vec<u8>, net: &Net, k: u128) -> Result<bool, NoMemory>
+    ensures { IfOk result (PutsPart (from_state_assigns (netlist_of net.now)) k text.old.items text.new.items) }
 {
-    if j < net.latches.len() {
-        put_state_assign(text, j, net.latches[j])?;
-        Ok(Place::StateAssign(j + 1))
-    } else {
+    let count = net.latches.len() as u128;
+    if k < count {
+        put_state_assign(text, k as usize, net.latches[k as usize])?;
+        Ok(true)
+    } else if k == count {
         put_last_lines(text)?;
-        Ok(Place::End)
+        Ok(true)
+    } else {
+        Ok(false)
     }
 }

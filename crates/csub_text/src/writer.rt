@@ -1,38 +1,19 @@
-// The C text of a net, line by line.
+// The C text of a net, line by line. Want of memory is the only error.
 
-ghost use Rattle.std.specs.Prelude.{◌≡◌, ◌+◌, ◌<◌, ◌≤◌, ◌++◌, IfOk, OnOk};
+ghost use Rattle.std.specs.Prelude.{◌≡◌, ◌+◌, ◌<◌, ◌≤◌, ◌++◌, OnOk};
 ghost use Rattle.net_ir.specs.Gates.{operand_end};
 ghost use Rattle.net_ir.specs.Netlists.{net_count};
 ghost use Rattle.net_ir.specs.Runs.{netlist_of};
 ghost use Rattle.csub_text.specs.Written.{input_name, gate_name, next_name, answer_name, net_name, input_variable};
 ghost use Rattle.csub_text.specs.Written.{output_variable, net_state, input_assign, gate_assign, next_assign};
 ghost use Rattle.csub_text.specs.Written.{output_assign, answer_assign, state_assign, op_expr, expr_text, state_line};
-ghost use Rattle.csub_text.specs.Written.{declaration, assign_line, head_line, last_lines, written, Means};
+ghost use Rattle.csub_text.specs.Written.{declaration, assign_line, head_line, last_lines};
 ghost use Rattle.csub_text.specs.Trees.{Name};
 
-use crate::pieces::CPieces;
 use est_base::{NetId, NoMemory, Text};
-use expr_text::{put, put_gate_name, put_named, put_number};
+use expr_text::put_gate_name;
 use net_ir::{Gate, Latch, Net, NetOut, Op};
-use std::alloc::Global;
-
-/// The C text of a net: one line feed behind each line.
-///
-/// Input J of the net is the variable `I_NAME` and the local `iJ`, latch J is the state `sJ`, gate K is the
-/// local `wN` where it carries wire N, else `gK`, and an output is the variable `O_NAME`. Each call computes the
-/// gates in order, the next value of latch J into `tJ`, and whether the program is still active into `r`. The
-/// time and the memory that it takes are linear in the length of the text; want of memory is its only error.
-pub fn write_c(alloc: Global, net: &Net) -> Result<Vec<u8>, NoMemory>
-    ensures text { IfOk result (λ t. t.items ≡ written (netlist_of net.now)) }
-    ensures means { IfOk result (λ t. Means t.items (netlist_of net.now)) }
-{
-    let mut pieces = CPieces::new(net);
-    let mut text = Vec::new(alloc);
-    while let Some(piece) = pieces.next(alloc)? {
-        text.extend_from_slice(&piece)?;
-    }
-    Ok(text)
-}
+use net_text::{put, put_named, put_number};
 
 // The declaration of a latch.
 pub fn put_state(text: &mut Vec<u8>, j: usize, latch: Latch) -> Result<(), NoMemory>

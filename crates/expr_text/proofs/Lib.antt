@@ -11,4 +11,3 @@ pub mod Naming
 pub mod Instants
 pub mod Places
 pub mod Again
-pub mod Joined

@@ -9,6 +9,5 @@ pub mod Texts
 pub mod Operators
 pub mod NetNames
 pub mod NameTables
-pub mod Parts
 pub mod Plain
 pub mod Reading

@@ -9,7 +9,6 @@
 mod kinds;
 mod lexing;
 mod names;
-mod pieces;
 mod reader;
 mod steps;
 mod tables;
@@ -19,11 +18,10 @@ mod writing;
 pub use kinds::{Front, Lexical, Sign, Token, TokenKind};
 pub use lexing::{begins_name, is_space, lex, name_len, place_at};
 pub use names::names_in;
-pub use pieces::{NetText, Progress};
 pub use reader::read_expr;
 pub use steps::{
     Factor, after, copy_of, nothing_read, past, past_factor, past_name, read_bit, refused_here,
 };
 pub use tables::{NameTable, name_set, name_table};
 pub use trees::Expr;
-pub use writing::{put, put_gate_name, put_named, put_number};
+pub use writing::put_gate_name;

@@ -13,7 +13,8 @@ use Rattle.est_base.specs.Distinct.{all_differ}
 use Rattle.est_base.specs.Names.{is_same_name}
 use Rattle.net_ir.specs.NameLists.{is_among, first_again}
 use Rattle.net_ir.proofs.NumberedNames.{same-eq, same-refl}
-use Rattle.step_run.proofs.OnceNames.{first-or_later, later, each-element, of-element, among-element, element-among, differ-both, differ-behind, in-parts, once-of}
+use Rattle.step_run.proofs.OnceNames.{first-or_later, later, each-element, of-element, among-element, element-among, differ-both}
+use Rattle.step_run.proofs.OnceNames.{differ-behind, in-parts, once-of}
 use Rattle.expr_text.specs.Names.{names_in, or_else}
 use Rattle.expr_text.specs.Trees.{Expr}
 use Rattle.vlog_text.specs.Grammar.{source_meant}

@@ -87,7 +87,8 @@ reads-below net is k d h = ⊎_elim on_gates behind (cases_lt k (length net.gate
     on_gates low =
         let gate = get_or net.gates k any_gate in
         let at : get_or (net_assigns net) k d ≡ gate_assign net (0 + k) gate =
-        get_or_append_left (numbered (gate_assign net) 0 net.gates) (map (output_assign net) net.outputs ++ paused_assign net ∷ []) d k (omega (arith, wide, low))
+        get_or_append_left (numbered (gate_assign net) 0 net.gates) (map (output_assign net) net.outputs ++ paused_assign net ∷ []) d k
+        (omega (arith, wide, low))
         ∙ get_or-numbered (gate_assign net) 0 net.gates k d any_gate low in
         subst (λ (a : Assign Expr). AllByRecursion (IsBelow (all_names net) (first_gate net + k)) (names_in a.value)) (sym at)
         (op-names (IsBelow (all_names net) (first_gate net + k)) (net_name net) gate.op (first_gate net + k) (is.is_net.reads_lower k any_gate low)
@@ -142,7 +143,8 @@ first-count net =
 all-count : (net : Netlist) → first_gate net + length (net_assigns net) ≡ length (all_names net)
 all-count net =
     let first = first-count net in
-    let all = ap length (append_assoc (first_names net) (gate_names net) (net_outputs net)) ∙ length-append (first_names net) (gate_names net ++ net_outputs net) in
+    let all = ap length (append_assoc (first_names net) (gate_names net) (net_outputs net))
+    ∙ length-append (first_names net) (gate_names net ++ net_outputs net) in
     let targets = sym (length-map (net_assigns net) (λ (a : Assign Expr). a.target)) ∙ ap length (targets-are net) in
     omega (arith, first, all, targets)
 

@@ -29,7 +29,7 @@ use Rattle.expr_text.proofs.Naming.{mark, state_names, marks-states, marks-gates
 use Rattle.expr_text.proofs.Naming.{among-right, any_gate, any_latch, find-none, any_output, gate-low, long-name, differ-states}
 use Rattle.expr_text.proofs.Operators.{op-names}
 use Rattle.vlog_text.specs.Trees.{Sort, Input, Output, Wire, Reg, Declaration, Initial, Assign, Next}
-use Rattle.vlog_text.specs.Names.{is_input, is_output, is_reg, names_of, declared, declared_twice, interface_names, misplaced, declaration_found, portless}
+use Rattle.vlog_text.specs.Names.{is_input, is_output, is_reg, names_of, declared_twice, interface_names, misplaced, declaration_found, portless}
 use Rattle.vlog_text.specs.Names.{is_first, is_last, has_sign, paused_name, is_ill_named, ill_named, is_clock, other_clock, wrong_port, Use, Kept, Assigned}
 use Rattle.vlog_text.specs.Names.{Taken}
 use Rattle.vlog_text.specs.Names.{assign_uses, next_uses, uses, is_wrong, use_found, undeclared, targets, driven_twice, is_driven, undriven, name_fault}

@@ -1,28 +1,22 @@
 -- Inner: the parts of a net's text, from the last to the first.
-use Rattle.std.specs.Prelude.{ℕ, List, [], ◌∷◌, ◌++◌, map, Option, Some, None}
+use Rattle.std.specs.Prelude.{ℕ, List, [], ◌∷◌, ◌++◌, map}
 use Rattle.net_ir.specs.Netlists.{Netlist}
 use Rattle.net_ir.specs.Numbered.{numbered}
 use Rattle.expr_text.specs.NetNames.{gate_name, state_name}
-use Rattle.expr_text.specs.Parts.{to_come}
-use Rattle.expr_text.specs.declared.pieces.Progress.{Progress}
 use Rattle.vlog_text.specs.Trees.{Input, Output, Reg, Wire}
 use Rattle.vlog_text.specs.Names.{paused_name}
 use Rattle.vlog_text.specs.Written.{module_name, clock_name, input_name, output_name, declares, gate_assign}
 use Rattle.vlog_text.specs.Written.{output_assign, paused_assign, latch_initial, latch_next, next_port, head_front}
 use Rattle.vlog_text.specs.Written.{head_end, declaration_line, initial_line, assign_line, clock_line, next_line}
-use Rattle.vlog_text.specs.Written.{last_lines, written}
-
-abbrev pub last_part : Netlist → List (List ℕ)
-last_part net = last_lines ∷ []
+use Rattle.vlog_text.specs.Written.{last_lines}
 
 abbrev pub from_nexts : Netlist → List (List ℕ)
-from_nexts net = numbered (λ j latch. next_line (latch_next net j latch)) 0 net.latches ++ last_part net
-
-abbrev pub from_clock_line : Netlist → List (List ℕ)
-from_clock_line net = (assign_line (paused_assign net) ++ clock_line clock_name) ∷ from_nexts net
+from_nexts net = numbered (λ j latch. next_line (latch_next net j latch)) 0 net.latches ++ last_lines ∷ []
 
 abbrev pub from_output_assigns : Netlist → List (List ℕ)
-from_output_assigns net = map (λ o. assign_line (output_assign net o)) net.outputs ++ from_clock_line net
+from_output_assigns net =
+    map (λ o. assign_line (output_assign net o)) net.outputs
+    ++ (assign_line (paused_assign net) ++ clock_line clock_name) ∷ from_nexts net
 
 abbrev pub from_gate_assigns : Netlist → List (List ℕ)
 from_gate_assigns net = numbered (λ k gate. assign_line (gate_assign net k gate)) 0 net.gates ++ from_output_assigns net
@@ -37,21 +31,18 @@ from_wires net =
 abbrev pub from_regs : Netlist → List (List ℕ)
 from_regs net = numbered (λ j latch. declaration_line (declares Reg (state_name j))) 0 net.latches ++ from_wires net
 
-abbrev pub from_paused : Netlist → List (List ℕ)
-from_paused net = declaration_line (declares Output paused_name) ∷ from_regs net
-
 abbrev pub from_outputs : Netlist → List (List ℕ)
-from_outputs net = map (λ o. declaration_line (declares Output (output_name o))) net.outputs ++ from_paused net
+from_outputs net =
+    map (λ o. declaration_line (declares Output (output_name o))) net.outputs
+    ++ declaration_line (declares Output paused_name) ∷ from_regs net
 
 abbrev pub from_inputs : Netlist → List (List ℕ)
 from_inputs net = map (λ name. declaration_line (declares Input (input_name name))) net.inputs ++ from_outputs net
 
-abbrev pub from_head_end : Netlist → List (List ℕ)
-from_head_end net =
-    (next_port paused_name ++ (head_end ++ declaration_line (declares Input clock_name))) ∷ from_inputs net
-
 abbrev pub from_output_ports : Netlist → List (List ℕ)
-from_output_ports net = map (λ o. next_port (output_name o)) net.outputs ++ from_head_end net
+from_output_ports net =
+    map (λ o. next_port (output_name o)) net.outputs
+    ++ (next_port paused_name ++ (head_end ++ declaration_line (declares Input clock_name))) ∷ from_inputs net
 
 abbrev pub from_input_ports : Netlist → List (List ℕ)
 from_input_ports net = map (λ name. next_port (input_name name)) net.inputs ++ from_output_ports net
@@ -59,8 +50,3 @@ from_input_ports net = map (λ name. next_port (input_name name)) net.inputs ++ 
 -- all parts
 unfoldable pub net_parts : Netlist → List (List ℕ)
 net_parts net = (head_front (module_name net.name) ++ clock_name) ∷ from_input_ports net
-
--- what is still to come
-abbrev pub still_to_come : Netlist → Option Progress → List ℕ
-still_to_come net None = written net
-still_to_come net (Some progress) = to_come (net_parts net) progress

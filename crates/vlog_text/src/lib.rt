@@ -10,6 +10,5 @@ mod pieces;
 mod trees;
 mod writer;
 
-pub use pieces::VlogPieces;
+pub use pieces::{VlogPieces, VlogWriter, write_verilog};
 pub use trees::{Assign, Module, Register};
-pub use writer::write_verilog;

@@ -1,64 +1,55 @@
-// The Verilog text of a net, piece by piece.
+// The Verilog text of a net, whole and piece by piece.
 
-ghost use Rattle.std.specs.Prelude.{◌≡◌, ◌<◌, [], length, take, drop, IfOk, IfErr, OnOk, MatchOption};
+ghost use Rattle.std.specs.Prelude.{◌≡◌, IfOk};
 ghost use Rattle.net_ir.specs.Runs.{netlist_of};
 ghost use Rattle.vlog_text.specs.Written.{written, Means};
 
-use crate::parts::Verilog;
-use est_base::{Limits, NoMemory};
-use expr_text::Progress;
+use crate::parts::put_heads;
+use est_base::NoMemory;
 use net_ir::{Net, look_at_wires};
+use net_text::{NetPieces, NetText, write_net};
 use std::alloc::Global;
-use std::marker::Model;
 
-/// The Verilog text of a net, piece by piece. A contract sees the text that is still to come.
+/// What writes the Verilog text of a net.
 #[derive(Drop)]
-pub struct VlogPieces<'a> {
-    net: &'a Net,
-    // Made with the first piece.
-    progress: Option<Progress>,
-}
+pub struct VlogWriter {}
 
-impl<'a> Model for VlogPieces<'a> {
-    ghost use Rattle.std.specs.Prelude.{List, ℕ};
-    ghost use Rattle.net_ir.specs.Runs.{netlist_of};
-    ghost use Rattle.vlog_text.specs.Parts.{still_to_come};
+impl NetText for VlogWriter {
+    ghost use Rattle.vlog_text.specs.Parts.{net_parts};
 
-    ghost Value = { List ℕ };
+    ghost parts = { net_parts };
 
-    ghost view = { λ p. still_to_come (netlist_of p.net.now) p.progress };
-}
+    ghost written = { written };
 
-impl<'a> VlogPieces<'a> {
-    /// The whole text of a net, which is that of `write_verilog`. It takes no memory.
-    pub fn new(net: &'a Net) -> VlogPieces<'a>
-        ensures text { result ≡ written (netlist_of net.now) }
-        ensures means { Means (written (netlist_of net.now)) (netlist_of net.now) }
-    {
+    ghost means = { Means };
+
+    ghost is_of = { λ _ _. Unit {0} };
+
+    fn of(_alloc: Global, _net: &Net) -> Result<VlogWriter, NoMemory> {
+        Ok(VlogWriter {})
+    }
+
+    fn put_part(&self, text: &mut Vec<u8>, net: &Net, k: u128) -> Result<bool, NoMemory> {
+        put_heads(text, net, k)
+    }
+
+    fn look_at(net: &Net) {
         look_at_wires(net);
-        VlogPieces {
-            net,
-            progress: None,
-        }
     }
+}
 
-    /// The next piece: the first 65,536 bytes of what is to come, or all of it where that is less; None
-    /// exactly at the end of the text. After want of memory, which is its only error, all that was to come
-    /// is to come still, so the next call gives the piece that was due.
-    pub fn next(&mut self, alloc: Global) -> Result<Option<Vec<u8>>, NoMemory>
-        ensures piece { IfOk result (λ answer. MatchOption answer (self.old ≡ [])
-            (λ piece. (0 < length piece.items) × (piece.items ≡ take Limits.PIECE_BYTES self.old))) }
-        ensures rest { OnOk result (self.new ≡ drop Limits.PIECE_BYTES self.old) }
-        ensures stays { IfErr result (λ _. self.new ≡ self.old) }
-    {
-        match &mut self.progress {
-            Some(progress) => progress.next::<Verilog>(alloc, self.net),
-            None => {
-                let mut progress = Progress::start(alloc);
-                let piece = progress.next::<Verilog>(alloc, self.net)?;
-                self.progress = Some(progress);
-                Ok(piece)
-            }
-        }
-    }
+/// The Verilog text of a net, piece by piece.
+pub type VlogPieces<'a> = NetPieces<'a, VlogWriter>;
+
+/// The Verilog text of a net: one line feed behind each line.
+///
+/// The module has the name `m_NAME` and the clock `clk`. Input X of the net is the input `i_X`, output X the output
+/// `o_X`, and whether the program is still active the output `paused`. Latch J is the reg `sJ`, and gate K the wire
+/// `wN` where it carries wire N, else `gK`. The time and the memory that it takes are linear in the length of the
+/// text; want of memory is its only error.
+pub fn write_verilog(alloc: Global, net: &Net) -> Result<Vec<u8>, NoMemory>
+    ensures text { IfOk result (λ t. t.items ≡ written (netlist_of net.now)) }
+    ensures means { IfOk result (λ t. Means t.items (netlist_of net.now)) }
+{
+    write_net::<VlogWriter>(alloc, net)
 }

@@ -1,6 +1,6 @@
-// The Verilog text of a net, line by line.
+// The Verilog text of a net, line by line. Want of memory is the only error.
 
-ghost use Rattle.std.specs.Prelude.{◌≡◌, ◌+◌, ◌<◌, ◌≤◌, ◌++◌, IfOk, OnOk};
+ghost use Rattle.std.specs.Prelude.{◌≡◌, ◌+◌, ◌<◌, ◌≤◌, ◌++◌, OnOk};
 ghost use Rattle.net_ir.specs.Gates.{operand_end};
 ghost use Rattle.net_ir.specs.Netlists.{net_count};
 ghost use Rattle.net_ir.specs.Runs.{netlist_of};
@@ -11,31 +11,12 @@ ghost use Rattle.vlog_text.specs.Names.{paused_name};
 ghost use Rattle.vlog_text.specs.Written.{module_name, clock_name, input_name, output_name, net_name, declares};
 ghost use Rattle.vlog_text.specs.Written.{gate_assign, output_assign, paused_assign, latch_initial, latch_next};
 ghost use Rattle.vlog_text.specs.Written.{expr_text, next_port, head_front, head_end, declaration_line, initial_line};
-ghost use Rattle.vlog_text.specs.Written.{assign_line, clock_line, next_line, last_lines, written, Means};
+ghost use Rattle.vlog_text.specs.Written.{assign_line, clock_line, next_line, last_lines};
 
-use crate::pieces::VlogPieces;
 use est_base::{NetId, NoMemory, Text};
-use expr_text::{put, put_gate_name, put_named, put_number};
+use expr_text::put_gate_name;
 use net_ir::{Gate, Latch, Net, NetOut, Op};
-use std::alloc::Global;
-
-/// The Verilog text of a net: one line feed behind each line.
-///
-/// The module has the name `m_NAME` and the clock `clk`. Input X of the net is the input `i_X`, output X the output
-/// `o_X`, and whether the program is still active the output `paused`. Latch J is the reg `sJ`, and gate K the wire
-/// `wN` where it carries wire N, else `gK`. The time and the memory that it takes are linear in the length of the
-/// text; want of memory is its only error.
-pub fn write_verilog(alloc: Global, net: &Net) -> Result<Vec<u8>, NoMemory>
-    ensures text { IfOk result (λ t. t.items ≡ written (netlist_of net.now)) }
-    ensures means { IfOk result (λ t. Means t.items (netlist_of net.now)) }
-{
-    let mut pieces = VlogPieces::new(net);
-    let mut text = Vec::new(alloc);
-    while let Some(piece) = pieces.next(alloc)? {
-        text.extend_from_slice(&piece)?;
-    }
-    Ok(text)
-}
+use net_text::{put, put_named, put_number};
 
 // The name of the module, and the clock among its ports.
 pub fn put_clock_port(text: &mut Vec<u8>, name: &Text) -> Result<(), NoMemory>

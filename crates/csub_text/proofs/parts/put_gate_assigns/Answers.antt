@@ -1,14 +1,20 @@
-use Rattle.std.proofs.Common.{◌<◌, ◌≤◌, ◌∙◌, subst, refl}
+use Rattle.std.proofs.Common.{◌<◌, subst, ◌∙◌}
 use Rattle.net_ir.specs.Runs.{netlist_of}
-use Rattle.csub_text.proofs.Moves.{gate_assign-moves, gate_assigns-end}
+use Rattle.net_text.proofs.Joined.{puts-numbered, numbered-rest}
+use Rattle.csub_text.specs.Parts.{from_next_assigns}
+use Rattle.csub_text.specs.Written.{assign_line, gate_assign}
 use Rattle.csub_text.proofs.parts.put_gate_assigns.Goals as goal
 
 pub returns-in_ok-put_gate : goal.returns-in_ok-put_gate
 returns-in_ok-put_gate c =
-    let low = subst (λ n. c.args.k < n) (c.len.ensures ∙ c.args.net.now.gates.ok.0) c.if-k-len.true in
-    gate_assign-moves (netlist_of c.args.net.now) c.args.k c.index.result.now _ _ low c.index.ensures c.in_ok-put_gate.ensures
+    let net = netlist_of c.args.net.now in
+    let wide = c.len-count.ensures ∙ c.args.net.now.gates.ok.0 in
+    puts-numbered (λ k gate. assign_line (gate_assign net k gate)) net.gates (from_next_assigns net)
+    c.args.k c.index.result.now _ _ (subst (λ n. c.args.k < n) wide c.if-k-count.true) c.index.ensures c.in_ok-put_gate.ensures
 
-pub returns-else-k-len : goal.returns-else-k-len
-returns-else-k-len c =
-    let all = subst (λ n. n ≤ c.args.k) (c.len.ensures ∙ c.args.net.now.gates.ok.0) c.if-k-len.false in
-    gate_assigns-end (netlist_of c.args.net.now) c.args.k _ _ all refl
+pub returns-else-k-count : goal.returns-else-k-count
+returns-else-k-count c =
+    let net = netlist_of c.args.net.now in
+    let wide = c.len-count.ensures ∙ c.args.net.now.gates.ok.0 in
+    numbered-rest (λ k gate. assign_line (gate_assign net k gate)) net.gates (from_next_assigns net)
+    c.len-count.result c.args.k _ _ c.put_next_assigns.result wide c.if-k-count.false c.put_next_assigns.ensures

@@ -1,14 +1,21 @@
-use Rattle.std.proofs.Common.{◌<◌, ◌≤◌, ◌∙◌, subst, refl}
+use Rattle.std.proofs.Common.{◌<◌, subst, ◌∙◌}
 use Rattle.net_ir.specs.Runs.{netlist_of}
-use Rattle.csub_text.proofs.Moves.{gate_local-moves, gate_locals-end}
+use Rattle.net_text.proofs.Joined.{puts-numbered, numbered-rest}
+use Rattle.expr_text.specs.NetNames.{gate_name}
+use Rattle.csub_text.specs.Parts.{from_next_locals}
+use Rattle.csub_text.specs.Written.{declaration}
 use Rattle.csub_text.proofs.parts.put_gate_locals.Goals as goal
 
 pub returns-in_ok-put_gate_local : goal.returns-in_ok-put_gate_local
 returns-in_ok-put_gate_local c =
-    let low = subst (λ n. c.args.k < n) (c.len.ensures ∙ c.args.net.now.gates.ok.0) c.if-k-len.true in
-    gate_local-moves (netlist_of c.args.net.now) c.args.k c.index.result.now _ _ low c.index.ensures c.in_ok-put_gate_local.ensures
+    let net = netlist_of c.args.net.now in
+    let wide = c.len-count.ensures ∙ c.args.net.now.gates.ok.0 in
+    puts-numbered (λ k gate. declaration (gate_name k gate.wire)) net.gates (from_next_locals net)
+    c.args.k c.index.result.now _ _ (subst (λ n. c.args.k < n) wide c.if-k-count.true) c.index.ensures c.in_ok-put_gate_local.ensures
 
-pub returns-else-k-len : goal.returns-else-k-len
-returns-else-k-len c =
-    let all = subst (λ n. n ≤ c.args.k) (c.len.ensures ∙ c.args.net.now.gates.ok.0) c.if-k-len.false in
-    gate_locals-end (netlist_of c.args.net.now) c.args.k _ _ all refl
+pub returns-else-k-count : goal.returns-else-k-count
+returns-else-k-count c =
+    let net = netlist_of c.args.net.now in
+    let wide = c.len-count.ensures ∙ c.args.net.now.gates.ok.0 in
+    numbered-rest (λ k gate. declaration (gate_name k gate.wire)) net.gates (from_next_locals net)
+    c.len-count.result c.args.k _ _ c.put_next_locals.result wide c.if-k-count.false c.put_next_locals.ensures

@@ -1,14 +1,20 @@
-use Rattle.std.proofs.Common.{◌<◌, ◌≤◌, ◌∙◌, subst, refl}
+use Rattle.std.proofs.Common.{◌<◌, subst, ◌∙◌}
 use Rattle.net_ir.specs.Runs.{netlist_of}
-use Rattle.csub_text.proofs.Moves.{input_assign-moves, input_assigns-end}
+use Rattle.net_text.proofs.Joined.{puts-numbered, numbered-rest}
+use Rattle.csub_text.specs.Parts.{from_gate_assigns}
+use Rattle.csub_text.specs.Written.{assign_line, input_assign}
 use Rattle.csub_text.proofs.parts.put_input_assigns.Goals as goal
 
 pub returns-in_ok-put_input_assign : goal.returns-in_ok-put_input_assign
 returns-in_ok-put_input_assign c =
-    let low = subst (λ n. c.args.j < n) (c.len.ensures ∙ c.args.net.now.inputs.ok.0) c.if-j-len.true in
-    input_assign-moves (netlist_of c.args.net.now) c.args.j c.index.result.now _ _ low c.index.ensures c.in_ok-put_input_assign.ensures
+    let net = netlist_of c.args.net.now in
+    let wide = c.len-count.ensures ∙ c.args.net.now.inputs.ok.0 in
+    puts-numbered (λ j name. assign_line (input_assign j name)) net.inputs (from_gate_assigns net)
+    c.args.k c.index.result.now _ _ (subst (λ n. c.args.k < n) wide c.if-k-count.true) c.index.ensures c.in_ok-put_input_assign.ensures
 
-pub returns-else-j-len : goal.returns-else-j-len
-returns-else-j-len c =
-    let all = subst (λ n. n ≤ c.args.j) (c.len.ensures ∙ c.args.net.now.inputs.ok.0) c.if-j-len.false in
-    input_assigns-end (netlist_of c.args.net.now) c.args.j _ _ all refl
+pub returns-else-k-count : goal.returns-else-k-count
+returns-else-k-count c =
+    let net = netlist_of c.args.net.now in
+    let wide = c.len-count.ensures ∙ c.args.net.now.inputs.ok.0 in
+    numbered-rest (λ j name. assign_line (input_assign j name)) net.inputs (from_gate_assigns net)
+    c.len-count.result c.args.k _ _ c.put_gate_assigns.result wide c.if-k-count.false c.put_gate_assigns.ensures

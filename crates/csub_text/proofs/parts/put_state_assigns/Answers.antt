@@ -1,14 +1,26 @@
-use Rattle.std.proofs.Common.{◌<◌, ◌≤◌, ◌∙◌, subst}
+use Rattle.std.proofs.Common.{◌<◌, ◌∷◌, [], subst, ◌∙◌, arith}
 use Rattle.net_ir.specs.Runs.{netlist_of}
-use Rattle.csub_text.proofs.Moves.{state_assign-moves, state_assigns-end}
+use Rattle.net_text.proofs.Joined.{puts-numbered, numbered-one, numbered-none}
+use Rattle.csub_text.specs.Trees.{Name}
+use Rattle.csub_text.specs.Written.{assign_line, state_assign, last_lines, answer_name}
 use Rattle.csub_text.proofs.parts.put_state_assigns.Goals as goal
 
 pub returns-in_ok-put_state_assign : goal.returns-in_ok-put_state_assign
 returns-in_ok-put_state_assign c =
-    let low = subst (λ n. c.args.j < n) (c.len.ensures ∙ c.args.net.now.latches.ok.0) c.if-j-len.true in
-    state_assign-moves (netlist_of c.args.net.now) c.args.j c.index.result.now _ _ low c.index.ensures c.in_ok-put_state_assign.ensures
+    let net = netlist_of c.args.net.now in
+    let wide = c.len-count.ensures ∙ c.args.net.now.latches.ok.0 in
+    puts-numbered (λ j latch. assign_line (state_assign j latch)) net.latches (last_lines (Name answer_name) ∷ [])
+    c.args.k c.index.result.now _ _ (subst (λ n. c.args.k < n) wide c.if-k-count.true) c.index.ensures c.in_ok-put_state_assign.ensures
 
 pub returns-in_ok-put_last_lines : goal.returns-in_ok-put_last_lines
 returns-in_ok-put_last_lines c =
-    let all = subst (λ n. n ≤ c.args.j) (c.len.ensures ∙ c.args.net.now.latches.ok.0) c.if-j-len.false in
-    state_assigns-end (netlist_of c.args.net.now) c.args.j _ _ all c.in_ok-put_last_lines.ensures
+    let net = netlist_of c.args.net.now in
+    let wide = c.len-count.ensures ∙ c.args.net.now.latches.ok.0 in
+    numbered-one (λ j latch. assign_line (state_assign j latch)) net.latches (last_lines (Name answer_name)) []
+    c.len-count.result c.args.k _ _ wide (omega arith) c.in_ok-put_last_lines.ensures
+
+pub returns-else-k-count-2 : goal.returns-else-k-count-2
+returns-else-k-count-2 c =
+    let net = netlist_of c.args.net.now in
+    let wide = c.len-count.ensures ∙ c.args.net.now.latches.ok.0 in
+    numbered-none (λ j latch. assign_line (state_assign j latch)) net.latches (last_lines (Name answer_name)) c.len-count.result c.args.k _ wide (omega arith)

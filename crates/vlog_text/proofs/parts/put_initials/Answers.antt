@@ -1,26 +1,20 @@
-use Rattle.std.proofs.Common.{◌<◌, ◌≤◌, ◌-◌, subst, ◌∙◌}
-use Rattle.std.proofs.lemmas.Result.{IfOk-weaker}
+use Rattle.std.proofs.Common.{◌<◌, subst, ◌∙◌}
 use Rattle.net_ir.specs.Runs.{netlist_of}
-use Rattle.expr_text.specs.Parts.{PutsPart}
-use Rattle.expr_text.proofs.Joined.{puts-numbered, puts-behind}
+use Rattle.net_text.proofs.Joined.{puts-numbered, numbered-rest}
 use Rattle.vlog_text.specs.Parts.{from_gate_assigns}
-use Rattle.vlog_text.specs.Written.{latch_initial, initial_line}
+use Rattle.vlog_text.specs.Written.{initial_line, latch_initial}
 use Rattle.vlog_text.proofs.parts.put_initials.Goals as goal
 
 pub returns-in_ok-put_initial : goal.returns-in_ok-put_initial
 returns-in_ok-put_initial c =
     let net = netlist_of c.args.net.now in
-    let low = subst (λ n. c.args.k < n) (c.len.ensures ∙ c.args.net.now.latches.ok.0) c.if-k-len.true in
-    puts-numbered (λ j latch. initial_line (latch_initial j latch)) net.latches
-    (from_gate_assigns net) c.args.k c.index.result.now _ _ low c.index.ensures c.in_ok-put_initial.ensures
+    let wide = c.len-count.ensures ∙ c.args.net.now.latches.ok.0 in
+    puts-numbered (λ j latch. initial_line (latch_initial j latch)) net.latches (from_gate_assigns net)
+    c.args.k c.index.result.now _ _ (subst (λ n. c.args.k < n) wide c.if-k-count.true) c.index.ensures c.in_ok-put_initial.ensures
 
-pub returns-else-k-len : goal.returns-else-k-len
-returns-else-k-len c =
+pub returns-else-k-count : goal.returns-else-k-count
+returns-else-k-count c =
     let net = netlist_of c.args.net.now in
-    let text = c.args.text.now.items in
-    let new = c.put_gate_assigns.new.text.items in
-    let high = subst (λ n. n ≤ c.args.k) (c.len.ensures ∙ c.args.net.now.latches.ok.0) c.if-k-len.false in
-    IfOk-weaker c.put_gate_assigns.result _ _
-    (λ more puts. puts-behind (λ j latch. initial_line (latch_initial j latch)) net.latches (from_gate_assigns net) c.args.k text new more high
-    (subst (λ n. PutsPart (from_gate_assigns net) (c.args.k - n) text new more) (c.len-else-k-len.ensures ∙ c.args.net.now.latches.ok.0) puts))
-    c.put_gate_assigns.ensures
+    let wide = c.len-count.ensures ∙ c.args.net.now.latches.ok.0 in
+    numbered-rest (λ j latch. initial_line (latch_initial j latch)) net.latches (from_gate_assigns net)
+    c.len-count.result c.args.k _ _ c.put_gate_assigns.result wide c.if-k-count.false c.put_gate_assigns.ensures

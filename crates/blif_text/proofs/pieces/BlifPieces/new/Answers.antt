@@ -1,6 +1,0 @@
-use Rattle.net_ir.specs.Runs.{netlist_of}
-use Rattle.blif_text.proofs.NetRuns.{Means-written}
-use Rattle.blif_text.proofs.pieces.BlifPieces.new.Goals as goal
-
-pub returns-clause-means : goal.returns-clause-means
-returns-clause-means c = Means-written (netlist_of c.args.net.now) c.look_at_wires.ensures
