@@ -9,9 +9,9 @@ use Rattle.net_follow.specs.declared.literals.Equation.{Equation}
 use Rattle.net_follow.specs.declared.literals.Clause.{Clause}
 use Rattle.net_follow.specs.declared.proving.Prover.{Prover}
 use Rattle.net_follow.specs.Literals.{IsSteady, holds, opposite, constant, AllHold, MeetsClauses, MeetsAll, Meets, meets_clause, from_parts, to_left, to_right}
-use Rattle.net_follow.specs.Drawing.{Grows, Tries}
+use Rattle.net_follow.specs.Knowledge.{Grows, Tries}
 use Rattle.net_follow.specs.Proving.{Models, Keeps, Shown, Sees, Denies, Denied, Begins, Noted, Entails}
-use Rattle.net_follow.proofs.Drawing.{opposite-value, grows-when}
+use Rattle.net_follow.proofs.Knowledge.{opposite-value, grows-when}
 
 -- ---- the clauses of an equation
 
@@ -87,7 +87,7 @@ all-denied V c never = three (holds V c.first) (holds V c.second) (holds V c.thi
   third = opposite-value V c.third ∙ r;
 }))
 
--- denying it contradicts what is drawn
+-- denying it contradicts what is known
 pub denied-grows : (clauses : List Clause) (c : Clause) (old new : List Literal) → Grows (Denies c) old new true → Denied clauses c old new true
 denied-grows clauses c old new grows = record {
   more = grows.more;
@@ -174,7 +174,7 @@ pub sees-denied : (c : Clause) (p : Prover) (tried : List Literal) (seen : Bool)
     → Sees p c seen
 sees-denied c p tried seen denied = record { claims = λ h V m. denied.claims h V m.steady m.clauses m.known }
 
--- what is assumed and drawn is as before
+-- what is assumed and known is as before
 pub sees-same : (c : Clause) (old new : Prover) (seen : Bool) → new.clauses.clauses.items ≡ old.clauses.clauses.items
     → new.trail.known.items ≡ old.trail.known.items → Sees new c seen → Sees old c seen
 sees-same c old new seen clauses known sees = record { claims = λ h V m. sees.claims h V (models-same V old new clauses known m) }

@@ -1,5 +1,5 @@
 -- Claims that are proved by induction over instants make one netlist follow another.
-use Rattle.std.proofs.Common.{◌≡◌, ℕ, suc, Bool, true, false, ◌&&◌, List, [], ◌∷◌, ◌++◌, length, map, refl, sym, ◌∙◌, subst, arith, All}
+use Rattle.std.proofs.Common.{◌≡◌, ℕ, suc, Bool, true, false, ◌&&◌, List, [], ◌∷◌, ◌++◌, length, map, refl, sym, subst, arith, All}
 use Rattle.std.proofs.lemmas.List.{length-map, get_or_append_left}
 use Rattle.std.proofs.Common.{length-append}
 use Rattle.est_base.specs.Items.{Item, Event, EachEvent}
@@ -11,10 +11,9 @@ use Rattle.net_ir.specs.Gates.{value_in}
 use Rattle.net_ir.specs.Netlists.{Netlist, IsNet}
 use Rattle.net_ir.specs.Runs.{shown, net_values, initial_latches, next_latches, net_machine, net_run, values_from}
 use Rattle.net_follow.specs.declared.literals.Equation.{Equation}
-use Rattle.net_follow.specs.Literals.{Meets, moved_equation}
-use Rattle.net_follow.specs.Frames.{output_equations, shows_equation, first_equations, step_equations, all_claims, frame, in_two}
+use Rattle.net_follow.specs.Literals.{Meets}
+use Rattle.net_follow.specs.Frames.{output_equations, shows_equation, all_claims, frame, in_two}
 use Rattle.net_follow.specs.Following.{IsWide, ShowSame, AlikeFrom, IsFollowed}
-use Rattle.net_follow.specs.Proving.{Entails}
 use Rattle.net_follow.specs.Matching.{HoldIn, Matches, AreShown}
 use Rattle.net_follow.proofs.Meeting.{Fits, frame_of, first-meets, step-meets, now-moved, later-moved, steady-two}
 
@@ -198,20 +197,3 @@ followed-by-runs old new same = record { runs = same; follows = alike-follows ol
 
 pub followed : (old new : Netlist) (claims : List Equation) → IsInductive old new claims → IsFollowed old new
 followed old new claims is = followed-by-runs old new (runs old new claims is)
-
--- two lists of places are one that is empty
-none-first : (xs ys : List ℕ) → xs ++ ys ≡ [] → xs ≡ []
-none-first [] ys is = refl
-none-first (x ∷ xs) ys is = cc
-
-none-behind : (xs ys : List ℕ) → xs ++ ys ≡ [] → ys ≡ []
-none-behind [] ys is = is
-none-behind (x ∷ xs) ys is = cc
-
-pub shown-facts : (old new : Netlist) (facts : List Equation) (first later both : List ℕ) → both ≡ first ++ later
-    → (first ≡ [] → Entails (first_equations old new) (map (moved_equation false) facts))
-    → (later ≡ [] → Entails (step_equations old new facts) (map (moved_equation true) facts)) → both ≡ [] → AreShown old new facts
-shown-facts old new facts first later both is a b none = record {
-  at_first = a (none-first first later (sym is ∙ none));
-  later = b (none-behind first later (sym is ∙ none));
-}

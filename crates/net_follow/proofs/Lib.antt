@@ -1,4 +1,4 @@
-pub mod Drawing
+pub mod Knowledge
 pub mod Clausal
 pub mod Meeting
 pub mod Listing

@@ -1,5 +1,5 @@
 pub mod Literals
-pub mod Drawing
+pub mod Knowledge
 pub mod Proving
 pub mod Frames
 pub mod Following

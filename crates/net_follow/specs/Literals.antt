@@ -42,7 +42,7 @@ Meets V e = holds V e.out ≡ (holds V e.left && holds V e.right)
 abbrev pub MeetsAll : (Bool → Side → ℕ → Bool) → List Equation → Type 0
 MeetsAll V es = All (λ e. Meets V e) es
 
--- what is drawn is true
+-- what is known is true
 abbrev pub AllHold : (Bool → Side → ℕ → Bool) → List Literal → Type 0
 AllHold V known = All (λ l. holds V l ≡ true) known
 

@@ -1,4 +1,4 @@
--- Inner: what a prover assumes and has drawn, and what follows from it.
+-- Inner: what a prover assumes and knows, and what follows from it.
 use Rattle.std.specs.Prelude.{◌≡◌, ◌⊎◌, ℕ, Bool, true, List, [], ◌∷◌, ◌++◌}
 use Rattle.net_follow.specs.declared.literals.Side.{Side}
 use Rattle.net_follow.specs.declared.literals.Literal.{Literal}
@@ -7,7 +7,7 @@ use Rattle.net_follow.specs.declared.literals.Clause.{Clause}
 use Rattle.net_follow.specs.declared.proving.Prover.{Prover}
 use Rattle.net_follow.specs.Literals.{IsSteady, holds, opposite, AllHold, MeetsClauses, Meets, MeetsAll, meets_clause}
 
--- these values meet what is assumed and what is drawn
+-- these values meet what is assumed and what is known
 pub record Models (V : Bool → Side → ℕ → Bool) (p : Prover) : Type 0 where
   pub steady : IsSteady V
   pub clauses : MeetsClauses V p.clauses.clauses.items
@@ -22,7 +22,7 @@ pub record Shown (Claim : (Bool → Side → ℕ → Bool) → Type 0) (old new 
   pub stays : shown ≡ true → (V : Bool → Side → ℕ → Bool) → Models V old → Models V new
   pub claims : shown ≡ true → (V : Bool → Side → ℕ → Bool) → Models V old → Claim V
 
--- where it is seen, the clause follows from what is assumed and drawn
+-- where it is seen, the clause follows from what is assumed and known
 pub record Sees (p : Prover) (c : Clause) (seen : Bool) : Type 0 where
   pub claims : seen ≡ true → (V : Bool → Side → ℕ → Bool) → Models V p → meets_clause V c ≡ true
 

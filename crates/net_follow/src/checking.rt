@@ -18,10 +18,11 @@ use est_base::NoMemory;
 use net_ir::Net;
 use std::alloc::Global;
 
-/// The places of the claims that are not shown. Claimed is what the caller claims of the nets in one instant, and then,
-/// which may rest on it, that each output, in order, and then `paused` is the same in both netlists. Where the
-/// result is empty, the new netlist follows the given one: over every list of items both show the same. Netlists that
-/// have not as many inputs and outputs are not compared, and the result has an element.
+/// The places of the claims that are not shown of an instant where all hold one instant before, or, where there is
+/// none, of the first instant. Claimed is what the caller claims of the nets in one instant, and then, which may rest
+/// on it, that each output, in order, and then `paused` is the same in both netlists. Where the result is empty, the
+/// new netlist follows the given one: over every list of items both show the same. Netlists that have not as many
+/// inputs and outputs are not compared, and the result has an element.
 pub fn unshown_places(
     alloc: Global,
     old: &Net,
@@ -41,7 +42,7 @@ pub fn unshown_places(
     Ok(unshown_facts(alloc, old, new, &facts)?)
 }
 
-// The facts that are not shown.
+// The facts that are not shown: of later instants, and where there is none, of the first one.
 fn unshown_facts(
     alloc: Global,
     old: &Net,
@@ -51,17 +52,11 @@ fn unshown_facts(
     ensures { IfOk result (λ places. places.items ≡ []
         → AreShown (netlist_of old.now) (netlist_of new.now) facts.now) }
 {
-    let first = unshown_at_first(alloc, old, new, facts)?;
     let later = unshown_later(alloc, old, new, facts)?;
-    Ok(joined(first, &later)?)
-}
-
-// One list behind the other.
-fn joined(mut first: Vec<usize>, later: &[usize]) -> Result<Vec<usize>, NoMemory>
-    ensures { IfOk result (λ v. v.items ≡ first.items ++ later.now) }
-{
-    first.extend_from_slice(later)?;
-    Ok(first)
+    if !later.is_empty() {
+        return Ok(later);
+    }
+    unshown_at_first(alloc, old, new, facts)
 }
 
 // All that is claimed.

@@ -1,7 +1,7 @@
 // Clauses, and where each literal stands in them.
 
 ghost use Rattle.std.specs.Prelude.{◌≡◌, [], ◌∷◌, ◌++◌, IfOk, IfSome, OnOk};
-ghost use Rattle.net_follow.specs.Drawing.{StandsIn};
+ghost use Rattle.net_follow.specs.Knowledge.{StandsIn};
 
 use crate::literals::{Clause, Literal, Side};
 use crate::trails::variable_index;

@@ -3,7 +3,7 @@
 ghost use Rattle.std.specs.Prelude.{⊤, ◌≡◌, [], true, IfOk, OnOk};
 ghost use Rattle.net_follow.specs.Literals.{meets_clause, Meets, from_parts, to_left, to_right};
 ghost use Rattle.net_follow.specs.Proving.{Keeps, Shown, Sees, Denies, Denied, Begins, Noted, Entails};
-ghost use Rattle.net_follow.specs.Drawing.{Grows};
+ghost use Rattle.net_follow.specs.Knowledge.{Grows};
 
 use crate::clauses::Clauses;
 use crate::literals::{Clause, Equation, constant, opposite};
@@ -22,7 +22,7 @@ const EFFORT: u64 = 400;
 
 const GREAT_EFFORT: u64 = 6_000;
 
-/// What is assumed, and what is drawn from it. All that is drawn up to `settled` has been followed up.
+/// What is assumed, and what is known by it. All that is known up to `settled` has been followed up.
 #[derive(Drop)]
 pub(crate) struct Prover {
     pub clauses: Clauses,
@@ -62,7 +62,7 @@ impl Prover {
         Ok(())
     }
 
-    // Follows up what is drawn.
+    // Follows up what is known.
     fn settle(&mut self) -> Result<(), NoMemory>
         ensures clauses { OnOk result (self.new.clauses ≡ self.old.clauses) }
         ensures keeps { OnOk result (Keeps (λ V. ⊤) self.old self.new) }
@@ -147,7 +147,7 @@ fn denial_fails(clauses: &Clauses, trail: &mut Trail, clause: Clause) -> Result<
     Ok(refutes(clauses, trail, mark, mark, DEPTH)?)
 }
 
-// Draws that each literal of a clause is false, and tells whether that contradicts what is drawn.
+// Learns that each literal of a clause is false, and tells whether that contradicts what is known.
 fn denies(trail: &mut Trail, clause: Clause) -> Result<bool, NoMemory>
     ensures { IfOk result (Grows (Denies clause) trail.old.known.items trail.new.known.items) }
 {

@@ -2,14 +2,14 @@
 
 ghost use Rattle.std.specs.Prelude.{◌≡◌, true, IfOk};
 ghost use Rattle.net_follow.specs.Literals.{meets_clause, MeetsClauses};
-ghost use Rattle.net_follow.specs.Drawing.{Grows, Tries};
+ghost use Rattle.net_follow.specs.Knowledge.{Grows, Tries};
 
 use crate::clauses::Clauses;
 use crate::literals::{Clause, Literal, opposite};
 use crate::trails::Trail;
 use est_base::NoMemory;
 
-/// Draws what a clause forces, where two of its literals are false, and tells whether the third is false too.
+/// Learns what a clause forces, where two of its literals are false, and tells whether the third is false too.
 pub(crate) fn look_at(trail: &mut Trail, clause: Clause) -> Result<bool, NoMemory>
     ensures { IfOk result (Grows (λ V. meets_clause V clause ≡ true) trail.old.known.items trail.new.known.items) }
 {
@@ -27,7 +27,7 @@ pub(crate) fn look_at(trail: &mut Trail, clause: Clause) -> Result<bool, NoMemor
     }
 }
 
-// Draws what the clauses force in which a literal stands that is false now.
+// Learns what the clauses force in which a literal stands that is false now.
 fn visit(clauses: &Clauses, trail: &mut Trail, denied: Literal) -> Result<bool, NoMemory>
     ensures { IfOk result (Grows (λ V. MeetsClauses V clauses.now.clauses.items)
         trail.old.known.items trail.new.known.items) }
@@ -46,12 +46,12 @@ fn visit(clauses: &Clauses, trail: &mut Trail, denied: Literal) -> Result<bool, 
     Ok(false)
 }
 
-/// Draws what is forced by what is drawn from this place on, and tells whether it contradicts itself.
+/// Learns what is forced by what is known from this place on, and tells whether it contradicts itself.
 pub(crate) fn propagate(clauses: &Clauses, trail: &mut Trail, from: usize) -> Result<bool, NoMemory>
     ensures { IfOk result (Grows (λ V. MeetsClauses V clauses.now.clauses.items)
         trail.old.known.items trail.new.known.items) }
 {
-    'drawn: for at in from..usize::MAX {
+    'learned: for at in from..usize::MAX {
         if at >= trail.known.len() || trail.effort == 0 {
             return Ok(false);
         }
@@ -63,14 +63,14 @@ pub(crate) fn propagate(clauses: &Clauses, trail: &mut Trail, from: usize) -> Re
     Ok(false)
 }
 
-// A literal to try, and the place of the drawn literal whose clause it would meet.
+// A literal to try, and the place of the known literal whose clause it would meet.
 #[derive(Clone, Copy)]
 struct Split {
     literal: Literal,
     place: usize,
 }
 
-// The first drawn literal, from this place on, that some clause says comes about by one of two others of which nothing
+// The first known literal, from this place on, that some clause says comes about by one of two others of which nothing
 // is known; and one of them.
 fn next_split(clauses: &Clauses, trail: &Trail, from: usize) -> Option<Split> {
     for place in from..trail.known.len() {
@@ -96,7 +96,7 @@ fn open_part(clauses: &Clauses, trail: &Trail, denied: Literal) -> Option<Litera
     None
 }
 
-/// Whether what is drawn contradicts the clauses: what is forced is drawn, and where nothing is, a literal is tried,
+/// Whether what is known contradicts the clauses: what is forced is learned, and where nothing is, a literal is tried,
 /// and then its negation, so many deep.
 pub(crate) fn refutes(
     clauses: &Clauses,

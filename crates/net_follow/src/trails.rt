@@ -1,14 +1,14 @@
-// What is drawn so far, in order: each literal follows from those before it.
+// What is known so far, in order: each literal follows from those before it.
 
 ghost use Rattle.std.specs.Prelude.{◌≡◌, ◌<◌, ◌^◌, [], ◌∷◌, ◌++◌, true, false, IfOk, IfSome, OnOk};
 ghost use Rattle.net_follow.specs.Literals.{holds};
-ghost use Rattle.net_follow.specs.Drawing.{Tells, HasValue, Grows};
+ghost use Rattle.net_follow.specs.Knowledge.{Tells, HasValue, Grows};
 
 use crate::literals::{Literal, Side};
 use est_base::NoMemory;
 use std::alloc::Global;
 
-/// The literals that are drawn, and for each net where it may stand among them: what a slot says is looked up there, so
+/// The literals that are known, and for each net where it may stand among them: what a slot says is looked up there, so
 /// that nothing must be undone when literals are taken back. `effort` is how many clauses may still be looked at before
 /// a literal is tried, `allowance` how many may be behind each that is, and `tries` how often one may be tried.
 #[derive(Drop)]
@@ -21,7 +21,7 @@ pub(crate) struct Trail {
 }
 
 impl Trail {
-    /// Nothing is drawn, of this many nets in one instant of one netlist.
+    /// Nothing is known, of this many nets in one instant of one netlist.
     pub fn new(alloc: Global, nets: usize) -> Result<Trail, NoMemory>
         ensures { IfOk result (λ t. t.known.items ≡ []) }
     {
@@ -34,7 +34,7 @@ impl Trail {
         })
     }
 
-    /// The value that a literal has where what is drawn is true, if one is known.
+    /// The value that a literal has where what is known is true, if it follows.
     pub fn value(&self, literal: Literal) -> Option<bool>
         ensures { IfSome result (HasValue self.now.known.items literal) }
     {
@@ -61,7 +61,7 @@ impl Trail {
         }
     }
 
-    /// Draws a literal, and tells whether it contradicts what is drawn already.
+    /// Learns a literal, and tells whether it contradicts what is known already.
     pub fn learn(&mut self, literal: Literal) -> Result<bool, NoMemory>
         ensures { IfOk result (Grows (λ V. holds V literal ≡ true) self.old.known.items self.new.known.items) }
     {
@@ -74,7 +74,7 @@ impl Trail {
         }
     }
 
-    /// Draws a literal.
+    /// Adds a literal to what is known.
     pub fn push(&mut self, literal: Literal) -> Result<(), NoMemory>
         ensures { OnOk result (self.new.known.items ≡ self.old.known.items ++ literal ∷ []) }
     {

@@ -1,5 +1,5 @@
 use Rattle.std.proofs.Common.{subst, Bool}
-use Rattle.net_follow.specs.Drawing.{Grows}
+use Rattle.net_follow.specs.Knowledge.{Grows}
 use Rattle.net_follow.specs.Proving.{Denies}
 use Rattle.net_follow.proofs.Clausal.{denied-grows, denied-tries}
 use Rattle.net_follow.proofs.proving.denial_fails.Goals as goal

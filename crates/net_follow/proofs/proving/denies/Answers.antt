@@ -1,7 +1,7 @@
 use Rattle.std.proofs.Common.{subst, Bool}
-use Rattle.net_follow.specs.Drawing.{Grows}
+use Rattle.net_follow.specs.Knowledge.{Grows}
 use Rattle.net_follow.specs.Proving.{Denies}
-use Rattle.net_follow.proofs.Drawing.{grows-twice}
+use Rattle.net_follow.proofs.Knowledge.{grows-twice}
 use Rattle.net_follow.proofs.Clausal.{grows-first, grows-second, grows-third}
 use Rattle.net_follow.proofs.proving.denies.Goals as goal
 

@@ -1,7 +1,7 @@
 use Rattle.std.proofs.Common.{◌≡◌, subst, Bool, length, arith}
 use Rattle.net_follow.specs.Literals.{MeetsClauses}
-use Rattle.net_follow.specs.Drawing.{Tries}
-use Rattle.net_follow.proofs.Drawing.{tries-after, tries-split}
+use Rattle.net_follow.specs.Knowledge.{Tries}
+use Rattle.net_follow.proofs.Knowledge.{tries-after, tries-split}
 use Rattle.net_follow.proofs.refuting.+refutes.Goals as goal
 
 pub returns : goal.returns

@@ -1,23 +1,23 @@
 use Rattle.std.proofs.Common.{false, subst, Bool}
 use Rattle.net_follow.specs.Literals.{MeetsClauses}
-use Rattle.net_follow.specs.Drawing.{Grows}
-use Rattle.net_follow.proofs.Drawing.{grows-twice}
+use Rattle.net_follow.specs.Knowledge.{Grows}
+use Rattle.net_follow.proofs.Knowledge.{grows-twice}
 use Rattle.net_follow.proofs.refuting.propagate.Goals as goal
 
 pub returns-then-branch : goal.returns-then-branch
 returns-then-branch c =
     let cs = c.args.clauses.now.clauses.items in
     let old = c.args.trail.now.known.items in
-    let mid = c.drawn.trail.known.items in
+    let mid = c.learned.trail.known.items in
     let new = c.visit.new.trail.known.items in
     subst (λ (b : Bool). Grows (λ V. MeetsClauses V cs) old new b) c.if-branch.true
-    (grows-twice (λ V. MeetsClauses V cs) old mid new false c.in_ok-visit.field-0 c.drawn.invariant c.in_ok-visit.ensures)
+    (grows-twice (λ V. MeetsClauses V cs) old mid new false c.in_ok-visit.field-0 c.learned.invariant c.in_ok-visit.ensures)
 
-pub drawn-preserved : goal.drawn-preserved
-drawn-preserved c =
+pub learned-preserved : goal.learned-preserved
+learned-preserved c =
     let cs = c.args.clauses.now.clauses.items in
     let old = c.args.trail.now.known.items in
-    let mid = c.drawn.trail.known.items in
+    let mid = c.learned.trail.known.items in
     let new = c.visit.new.trail.known.items in
     subst (λ (b : Bool). Grows (λ V. MeetsClauses V cs) old new b) c.if-branch.false
-    (grows-twice (λ V. MeetsClauses V cs) old mid new false c.in_ok-visit.field-0 c.drawn.invariant c.in_ok-visit.ensures)
+    (grows-twice (λ V. MeetsClauses V cs) old mid new false c.in_ok-visit.field-0 c.learned.invariant c.in_ok-visit.ensures)

@@ -1,7 +1,7 @@
 use Rattle.std.proofs.Common.{false, subst, Bool}
 use Rattle.net_follow.specs.Literals.{MeetsClauses}
-use Rattle.net_follow.specs.Drawing.{Grows}
-use Rattle.net_follow.proofs.Drawing.{grows-twice, grows-clause}
+use Rattle.net_follow.specs.Knowledge.{Grows}
+use Rattle.net_follow.proofs.Knowledge.{grows-twice, grows-clause}
 use Rattle.net_follow.proofs.refuting.visit.Goals as goal
 
 pub returns-then-branch : goal.returns-then-branch

@@ -1,6 +1,6 @@
 use Rattle.std.proofs.Common.{false}
 use Rattle.net_follow.specs.Literals.{MeetsClauses}
-use Rattle.net_follow.specs.Drawing.{Grows}
+use Rattle.net_follow.specs.Knowledge.{Grows}
 use Rattle.net_follow.proofs.refuting.visit.Given as goal
 
 abbrev pub invariant-links : goal.invariant-links

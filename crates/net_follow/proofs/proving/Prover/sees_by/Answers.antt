@@ -1,5 +1,5 @@
 use Rattle.std.proofs.Common.{◌≡◌, length, take, ap, ◌∙◌, arith}
-use Rattle.net_follow.proofs.Drawing.{taken-back}
+use Rattle.net_follow.proofs.Knowledge.{taken-back}
 use Rattle.net_follow.proofs.Clausal.{sees-denied}
 use Rattle.net_follow.proofs.proving.Prover.sees_by.Goals as goal
 

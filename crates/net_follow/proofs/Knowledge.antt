@@ -1,4 +1,4 @@
--- What is drawn, and how it grows.
+-- What is known, and how it grows.
 use Rattle.std.proofs.Common.{◌≡◌, ℕ, Bool, true, false, not, ◌||◌, List, [], ◌∷◌, ◌++◌, length, take, refl, sym, ap, ◌∙◌, subst, append_assoc}
 use Rattle.std.proofs.lemmas.List.{append-nil, take_at}
 use Rattle.std.proofs.lemmas.List.Elements.{All-push}
@@ -6,7 +6,7 @@ use Rattle.net_follow.specs.declared.literals.Side.{Side}
 use Rattle.net_follow.specs.declared.literals.Literal.{Literal}
 use Rattle.net_follow.specs.declared.literals.Clause.{Clause}
 use Rattle.net_follow.specs.Literals.{IsSteady, signed, holds, opposite, AllHold, MeetsClauses, meets_clause}
-use Rattle.net_follow.specs.Drawing.{Tells, HasValue, Grows, Tries, StandsIn}
+use Rattle.net_follow.specs.Knowledge.{Tells, HasValue, Grows, Tries, StandsIn}
 
 -- ---- values
 
@@ -36,7 +36,7 @@ opposite-value V l = signed-not l.positive (V l.late l.side l.number)
 
 -- ---- growth
 
--- nothing is drawn
+-- nothing is learned
 pub grows-none : (Given : (Bool → Side → ℕ → Bool) → Type 0) (old : List Literal) → Grows Given old old false
 grows-none Given old = record {
   more = [];
@@ -88,7 +88,7 @@ taken-back old new more is = ap (take (length old)) is ∙ take_at old more (len
 pub hold-push : (V : Bool → Side → ℕ → Bool) (known : List Literal) (l : Literal) → AllHold V known → holds V l ≡ true → AllHold V (known ++ l ∷ [])
 hold-push V known l all here = All-push (λ (m : Literal). holds V m ≡ true) known l all here
 
--- a literal is drawn of which nothing was known
+-- a literal is learned of which nothing was known
 pub grows-push : (old new : List Literal) (l : Literal) → new ≡ old ++ l ∷ [] → Grows (λ V. holds V l ≡ true) old new false
 grows-push old new l is = record {
   more = l ∷ [];
@@ -169,7 +169,7 @@ tries-both Given old first second new l clash a is b = record {
       (λ h. b.clashes c V steady given (subst (AllHold V) (sym is) (hold-push V old (opposite l) all (opposite-value V l ∙ h))));
 }
 
--- a literal is tried, all that was drawn is taken back, and its negation is tried
+-- a literal is tried, all that was learned is taken back, and its negation is tried
 pub tries-split : (Given : (Bool → Side → ℕ → Bool) → Type 0) (old pushed first cut again new : List Literal) (l m : Literal) (n : ℕ) (clash : Bool)
     → pushed ≡ old ++ l ∷ [] → Tries Given pushed first true → n ≡ length old → cut ≡ take n first → again ≡ cut ++ m ∷ [] → m ≡ opposite l
     → Tries Given again new clash → Tries Given old new clash

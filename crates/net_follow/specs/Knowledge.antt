@@ -1,4 +1,4 @@
--- Inner: what follows from literals that are drawn, and how what is drawn grows.
+-- Inner: what follows from literals that are known, and how what is known grows.
 use Rattle.std.specs.Prelude.{◌≡◌, ℕ, ◌<◌, Bool, true, List, ◌++◌, length, slice_index_or}
 use Rattle.net_follow.specs.declared.literals.Side.{Side}
 use Rattle.net_follow.specs.declared.literals.Literal.{Literal}
@@ -9,11 +9,11 @@ use Rattle.net_follow.specs.Literals.{IsSteady, holds, AllHold}
 pub record Tells (truth l : Literal) (value : Bool) : Type 0 where
   pub says : (V : Bool → Side → ℕ → Bool) → holds V truth ≡ true → holds V l ≡ value
 
--- where what is drawn is true, the literal has this value
+-- where what is known is true, the literal has this value
 pub record HasValue (known : List Literal) (l : Literal) (value : Bool) : Type 0 where
   pub says : (V : Bool → Side → ℕ → Bool) → IsSteady V → AllHold V known → holds V l ≡ value
 
--- What is drawn grows: where the premise holds, what is new follows from what was drawn, and a clash contradicts it.
+-- What is known grows: where the premise holds, what is new follows from what was known, and a clash contradicts it.
 pub record Grows (Given : (Bool → Side → ℕ → Bool) → Type 0) (old new : List Literal) (clash : Bool) : Type 0 where
   pub more : List Literal
   pub is : new ≡ old ++ more
