@@ -4,4 +4,5 @@ pub mod Reactions
 pub mod Showing
 pub mod NetLoops
 pub mod NetTexts
+pub mod TextFaults
 mod WorkedRuns

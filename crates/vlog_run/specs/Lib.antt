@@ -6,3 +6,4 @@ pub mod Ends
 pub mod Plans
 pub mod Insides
 pub mod Tracing
+pub mod Texts

@@ -3,13 +3,16 @@
 //! A module of assignments and registers has a run over events and resets wherever no assignment needs its own target
 //! in the same instant. `ModuleRunner::new` looks for such a combinational cycle, and else makes a plan of `step_run`
 //! of the assignments, each one behind those that it reads; `react` makes one reaction. What an instant and a run of a
-//! module are stands in `vlog_text`. `VlogRunner` is the same runner as a machine that a trace drives.
+//! module are stands in `vlog_text`. `VlogRunner` is the same runner as a machine that a trace drives, and
+//! `VerilogTexts` says what a text of structural Verilog means where it is run over a trace.
 #![tactic(auto)]
 
+mod language;
 mod plan;
 mod runner;
 mod slots;
 mod trace_runner;
 
+pub use language::{TextFault, VerilogTexts};
 pub use runner::ModuleRunner;
 pub use trace_runner::VlogRunner;
