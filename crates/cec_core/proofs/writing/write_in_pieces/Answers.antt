@@ -5,11 +5,11 @@ use Rattle.cec_core.proofs.Pieces.{no_piece, one_piece_more, all_pieces, piece_s
 use Rattle.cec_core.proofs.writing.write_in_pieces.Goals as goal
 
 pub loop-piece-init : goal.loop-piece-init
-loop-piece-init g c = no_piece (g.P.TextPieces.to_come c.args.pieces.now) (g.O.Sink.told c.args.out.now) (g.O.Sink.faults c.args.out.now)
+loop-piece-init g c = no_piece c.args.pieces.now (g.O.Sink.told c.args.out.now) (g.O.Sink.faults c.args.out.now)
 
 pub returns-in-Err-write-clause-out : goal.returns-in-Err-write-clause-out
 returns-in-Err-write-clause-out g c =
-    let old = g.P.TextPieces.to_come c.loop-piece.pieces in
+    let old = c.loop-piece.pieces in
     let piece = subst (λ p. MatchOption p (old ≡ []) (λ piece. (0 < length piece.items) × (piece.items ≡ take 65536 old)))
     c.in-Ok-Some.field-0-is c.in-Ok-Some.ensures.piece in
     piece_stops 65536 _ old c.in-Ok-Some.piece.items _ _ _ _ _ _ c.loop-piece.invariant piece.1
@@ -19,14 +19,14 @@ returns-in-Err-write-clause-out g c =
 
 pub loop-piece-smaller : goal.loop-piece-smaller
 loop-piece-smaller g c =
-    let old = g.P.TextPieces.to_come c.loop-piece.pieces in
+    let old = c.loop-piece.pieces in
     let piece = subst (λ p. MatchOption p (old ≡ []) (λ piece. (0 < length piece.items) × (piece.items ≡ take 65536 old)))
     c.in-Ok-Some.field-0-is c.in-Ok-Some.ensures.piece in
     pieces_fall 65536 old c.in-Ok-Some.piece.items _ piece.0 piece.1 c.in-Ok-Some.ensures.rest
 
 pub loop-piece-preserved : goal.loop-piece-preserved
 loop-piece-preserved g c =
-    let old = g.P.TextPieces.to_come c.loop-piece.pieces in
+    let old = c.loop-piece.pieces in
     let piece = subst (λ p. MatchOption p (old ≡ []) (λ piece. (0 < length piece.items) × (piece.items ≡ take 65536 old)))
     c.in-Ok-Some.field-0-is c.in-Ok-Some.ensures.piece in
     one_piece_more 65536 _ old c.in-Ok-Some.piece.items _ _ _ _ _ _ _ c.loop-piece.invariant piece.1 c.in-Ok-Some.ensures.rest
@@ -36,7 +36,7 @@ loop-piece-preserved g c =
 
 pub returns-in-Ok-None-clause-out : goal.returns-in-Ok-None-clause-out
 returns-in-Ok-None-clause-out g c =
-    let old = g.P.TextPieces.to_come c.loop-piece.pieces in
+    let old = c.loop-piece.pieces in
     let none = subst (λ p. MatchOption p (old ≡ []) (λ piece. (0 < length piece.items) × (piece.items ≡ take 65536 old)))
     c.in-Ok-None.field-0-is c.in-Ok-None.ensures.piece in
     all_pieces _ old _ c.loop-piece.invariant none

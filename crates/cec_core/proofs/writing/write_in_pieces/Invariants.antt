@@ -5,8 +5,8 @@ use Rattle.cec_core.proofs.writing.write_in_pieces.Given as goal
 -- the pieces so far were appended
 abbrev pub invariant-loop-piece : goal.invariant-loop-piece
 invariant-loop-piece g l =
-    PiecesSoFar (g.P.TextPieces.to_come l.initial.pieces) (g.P.TextPieces.to_come l.pieces)
+    PiecesSoFar l.initial.pieces l.pieces
     (sinks (g.O.Sink.told l.initial.out) (g.O.Sink.told l.out) (g.O.Sink.faults l.initial.out) (g.O.Sink.faults l.out))
 
 abbrev pub decreases-loop-piece : goal.decreases-loop-piece
-decreases-loop-piece g l = length (g.P.TextPieces.to_come l.pieces)
+decreases-loop-piece g l = length l.pieces
