@@ -1,24 +1,24 @@
 -- The tables of a sound circuit as equations, and as steps of a plan.
-use Rattle.std.proofs.Common.{◌≡◌, ℕ, ◌+◌, ◌<◌, zero, suc, Bool, true, List, [], ◌∷◌, ◌++◌, length, map, get_or, Contains, All}
+use Rattle.std.proofs.Common.{◌≡◌, ℕ, ◌+◌, ◌<◌, suc, Bool, true, List, [], ◌∷◌, ◌++◌, length, map, get_or, Contains}
 use Rattle.std.proofs.Common.{refl, sym, ap, ◌∙◌, arith, subst, append_assoc}
 use Rattle.std.specs.List.{AllByRecursion, list_any}
 use Rattle.std.proofs.lemmas.List.{length-map, length-append, get_or-map}
-use Rattle.std.proofs.lemmas.List.Elements.{recursion_from_All}
 use Rattle.est_base.specs.Distinct.{all_differ}
 use Rattle.est_base.specs.Names.{is_same_name}
 use Rattle.net_ir.specs.NameLists.{is_among}
 use Rattle.blif_text.specs.Circuits.{Circuit, Table}
-use Rattle.blif_text.specs.Runs.{driven_names, table_value, row_fits}
+use Rattle.blif_text.specs.Runs.{driven_names, row_fits}
 use Rattle.blif_text.proofs.Described.{IsSound}
 use Rattle.step_run.specs.Slots.{slot_in, memory_in}
 use Rattle.step_run.specs.Equations.{Equation}
-use Rattle.step_run.specs.Steps.{Step, equation_step, IsLocal, AreSound}
+use Rattle.step_run.specs.Steps.{equation_step, IsLocal, AreSound}
 use Rattle.step_run.specs.Order.{slots_read, no_equation}
 use Rattle.step_run.proofs.Places.{output-slot}
 use Rattle.step_run.proofs.Makings.{same-step}
 use Rattle.step_run.proofs.EquationEdges.{reads-at}
 use Rattle.blif_run.specs.Loops.{equation_of, equations_of}
-use Rattle.blif_run.specs.Plans.{given_names, all_names, ordered_steps}
+use Rattle.step_run.specs.Solvers.{ordered_steps}
+use Rattle.blif_run.specs.Plans.{given_names, all_names}
 use Rattle.blif_run.specs.Truths.{step_at, no_table}
 use Rattle.blif_run.proofs.TruthTables.{table-looked}
 
@@ -90,6 +90,7 @@ table-step c sound k h =
     ∙ sym (ap (λ (e : Equation). e.value (memory_in names values)) is))
 
 pub table-steps : (c : Circuit) → IsSound c → (order : List ℕ) → AllByRecursion (λ k. k < length c.tables) order
-    → map (step_at c.tables (length (given_names c)) (slots_read (all_names c) (equations_of c))) order ≡ ordered_steps c order
+    → map (step_at c.tables (length (given_names c)) (slots_read (all_names c) (equations_of c))) order
+    ≡ ordered_steps (given_names c) (equations_of c) order
 table-steps c sound [] all = refl
 table-steps c sound (k ∷ order) all = rw (table-step c sound k all.0, table-steps c sound order all.1) refl

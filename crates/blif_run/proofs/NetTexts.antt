@@ -1,11 +1,11 @@
 -- The circuit of a net's text shows what the net does.
-use Rattle.std.proofs.Common.{◌≡◌, ℕ, ◌-◌, Bool, true, false, ◌&&◌, if◌then◌else◌, List, [], ◌∷◌, ◌++◌, length, map, take, get_or, Ok}
+use Rattle.std.proofs.Common.{◌≡◌, ℕ, ◌-◌, Bool, true, false, ◌&&◌, if◌then◌else◌, List, [], ◌∷◌, ◌++◌, length, map, take, get_or}
 use Rattle.std.proofs.Common.{refl, sym, ap, ◌∙◌, subst, arith}
 use Rattle.std.proofs.lemmas.Bool.{and_parts}
-use Rattle.std.proofs.lemmas.List.{length-append, length-map, length-take}
+use Rattle.std.proofs.lemmas.List.{length-append, length-map}
 use Rattle.std.proofs.Math.Seq.{take-append_seam, get_or-append_seam}
 use Rattle.est_base.specs.Distinct.{all_differ, none_shared}
-use Rattle.est_base.specs.Items.{Item, EachEvent}
+use Rattle.est_base.specs.Items.{Item}
 use Rattle.est_base.specs.Names.{is_same_name}
 use Rattle.net_ir.specs.declared.netlist.NetOut.{NetOut}
 use Rattle.net_ir.specs.Netlists.{Netlist}
@@ -16,7 +16,7 @@ use Rattle.blif_text.specs.Circuits.{Circuit, CircuitLatch, Table}
 use Rattle.blif_text.specs.Runs.{IsRun}
 use Rattle.blif_text.specs.Written.{output_word, paused_word}
 use Rattle.blif_text.proofs.Described.{described-sound}
-use Rattle.blif_run.specs.CircuitAnswers.{tells_pause, listed_count, answer_of, circuit_answer, circuit_shows}
+use Rattle.blif_run.specs.CircuitAnswers.{tells_pause, listed_count, answer_of, circuit_shows}
 use Rattle.blif_run.specs.Loops.{IsDescribed}
 use Rattle.blif_run.specs.Runners.{Runner, IsFresh}
 use Rattle.blif_run.specs.Showing.{runner_shows}

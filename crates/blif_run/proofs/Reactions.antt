@@ -1,30 +1,21 @@
 -- What a runner does, from what its registers do.
-use Rattle.std.proofs.Common.{◌≡◌, ℕ, ◌+◌, ◌<◌, ◌≤◌, zero, suc, Bool, false, List, [], ◌∷◌, ◌++◌, length, map, take, drop, All}
+use Rattle.std.proofs.Common.{◌≡◌, ℕ, ◌+◌, Bool, false, List, [], ◌∷◌, ◌++◌, length, map, take, drop}
 use Rattle.std.proofs.Common.{refl, sym, ap, ◌∙◌, arith, subst, replicate}
 use Rattle.std.specs.List.{AllByRecursion}
 use Rattle.std.proofs.Math.Seq.{take-append_seam, drop-append_seam}
-use Rattle.std.proofs.lemmas.List.{length-map, length-append, length-take-le, map-append}
-use Rattle.std.proofs.lemmas.List.Elements.{recursion_from_All}
+use Rattle.std.proofs.lemmas.List.{length-map, map-append}
 use Rattle.blif_text.specs.Circuits.{Circuit, CircuitLatch, Table}
 use Rattle.blif_text.specs.Runs.{IsInstant, driven_names, table_value, circuit_latches}
 use Rattle.blif_text.proofs.Described.{IsSound}
-use Rattle.step_run.specs.Slots.{slot_in, value_at, memory_in}
 use Rattle.step_run.specs.Equations.{Equation}
-use Rattle.step_run.specs.Steps.{settled, AreSolved}
-use Rattle.step_run.specs.Plans.{made}
+use Rattle.step_run.specs.Steps.{AreSolved}
+use Rattle.step_run.specs.Solvers.{AreSlots}
 use Rattle.step_run.specs.Registers.{Frame, Advances, IsBegun}
-use Rattle.step_run.proofs.Makings.{taken-front, through}
-use Rattle.step_run.proofs.Solving.{solved}
+use Rattle.step_run.proofs.Reacting.{reaction}
 use Rattle.blif_run.specs.Loops.{equation_of, equations_of}
-use Rattle.blif_run.specs.Plans.{given_names, all_names, slot_of, ordered_steps, IsPlan}
-use Rattle.blif_run.specs.Runners.{Runner, Reacts, IsFresh}
+use Rattle.blif_run.specs.Plans.{given_names, IsPlan}
+use Rattle.blif_run.specs.Runners.{Reacts, IsFresh}
 use Rattle.blif_run.proofs.CircuitEquations.{names-are, given-count, sound-equations}
-
-take-take : {X : Type 0} (m n : ℕ) (l : List X) → m ≤ n → take m (take n l) ≡ take m l
-take-take zero n l h = refl
-take-take (suc m) zero l h = absurd (omega (arith, h))
-take-take (suc m) (suc n) [] h = refl
-take-take (suc m) (suc n) (x ∷ l) h = ap (λ t. x ∷ t) (take-take m n l (omega (arith, h)))
 
 -- two lists behind one another, from their parts
 record AreHalves {X : Type 0} (a b c d : List X) : Type 0 where
@@ -85,35 +76,21 @@ pub reacts-by : (c : Circuit) → IsSound c → (old new : Frame) (inputs : List
     → Reacts (record { circuit = c; latches = old.registers; outputs = old.outputs }) inputs
     (record { circuit = c; latches = new.registers; outputs = new.outputs })
 reacts-by c sound old new inputs plan initial given adv =
-    let names = all_names c in
     let es = equations_of c in
-    let first = length (given_names c) in
-    let n = old.plan.named in
-    let behind = made old.plan.lookups adv.start in
+    let sources = map (λ (l : CircuitLatch). l.source) c.latches in
     let kept : length old.registers ≡ length c.latches = adv.each_register ∙ ap length initial ∙ length-map c.latches (λ l. l.init) in
-    let count : first ≡ length inputs + length old.registers = omega (arith, given-count c, given, kept) in
-    let small = take n adv.start in
-    let wide : length small ≡ length names = length-take-le n adv.start (omega (arith, adv.each_slot, adv.named_low)) ∙ plan.named_is in
-    let front_low : first ≤ n = omega (arith, plan.named_is, length-append (given_names c) (map (λ e. e.output) es)) in
-    let front : take first small ≡ inputs ++ old.registers =
-    take-take first n adv.start front_low ∙ ap (λ k. take k adv.start) count ∙ adv.front in
-    let after = settled (ordered_steps c plan.order) small in
-    let makes : take n behind ≡ after = plan.makes.made_is adv.start (omega (arith, adv.each_slot)) in
-    let v = memory_in names after in
-    let s = subst (λ l. AreSolved (given_names c) es l v) front
-    (solved (given_names c) es (sound-equations c sound) plan.order plan.ordered small wide) in
-    let own = only-instant c old.registers inputs v given s in
-    let taken : (slots : List ℕ) (xs : List (List ℕ)) → slots ≡ map (slot_of c) xs → All (λ slot. slot < n) slots
-    → map (value_at behind) slots ≡ map v xs = λ slots xs are low.
-    taken-front n slots behind (recursion_from_All (λ slot. slot < n) slots low) ∙ ap (λ l. map (value_at l) slots) makes
-    ∙ ap (map (value_at after)) are ∙ through names after xs in
+    let count : length (given_names c) ≡ length inputs + length old.registers = omega (arith, given-count c, given, kept) in
+    let names = sym (names-are c) in
+    let r = reaction (given_names c) es (sound-equations c sound) old new inputs sources c.outputs plan.solver
+    (subst (λ ns. AreSlots ns sources old.sources) names plan.sources_are) (subst (λ ns. AreSlots ns c.outputs old.shown) names plan.shown_are) count adv in
+    let own = only-instant c old.registers inputs r.valuation given r.solves in
     record {
       same = refl;
-      valuation = v;
+      valuation = r.valuation;
       instant = own.instant;
       only = own.only;
-      outputs = adv.outputs ∙ taken old.shown c.outputs plan.shown_are plan.shown_low;
-      latches = adv.registers ∙ taken old.sources (map (λ l. l.source) c.latches) plan.sources_are plan.sources_low ∙ sources-same v c.latches;
+      outputs = r.outputs;
+      latches = r.registers ∙ sources-same r.valuation c.latches;
     }
 
 pub fresh-by : (c : Circuit) (r : Frame) → r.initial ≡ circuit_latches c → length r.shown ≡ length c.outputs → IsBegun r

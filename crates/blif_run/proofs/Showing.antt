@@ -4,7 +4,7 @@ use Rattle.std.specs.Prelude.{slice_index_or}
 use Rattle.std.specs.List.{AllByRecursion, position_or_len}
 use Rattle.std.proofs.lemmas.List.{get_or-map, length-map}
 use Rattle.est_base.specs.Names.{is_same_name}
-use Rattle.est_base.specs.Items.{Item, Event, Reset}
+use Rattle.est_base.specs.Items.{Item, Event}
 use Rattle.machines.specs.Machines.{Shows}
 use Rattle.machines.proofs.Showing.{shows-event, shows-reset}
 use Rattle.blif_text.specs.NameLists.{is_among}

@@ -1,5 +1,5 @@
 -- Why a text has no machine.
-use Rattle.std.proofs.Common.{◌≡◌, ◌≢◌, ℕ, ◌≤◌, List, length, Ok, refl, sym, subst, arith}
+use Rattle.std.proofs.Common.{◌≡◌, ◌≢◌, ℕ, ◌≤◌, List, length, Ok, sym, subst, arith}
 use Rattle.est_base.specs.declared.bounds.TheConstants.Limits.{TEXT_BYTES}
 use Rattle.est_base.specs.declared.stop.Stop.{Stop}
 use Rattle.est_base.specs.declared.stop.Stop.TheVariants.{Fault}

@@ -4,7 +4,8 @@ ghost use Rattle.std.specs.Prelude.{map, length, IfOk, IfErr, OnOk};
 ghost use Rattle.blif_text.specs.Plain.{plain_circuit};
 ghost use Rattle.step_run.specs.Order.{IsEvaluationOrder};
 ghost use Rattle.blif_run.specs.Loops.{IsDescribed, LoopFault, HasNoLoop, equations_of};
-ghost use Rattle.blif_run.specs.Plans.{IsPlan, IsResolved, circuit_edges};
+ghost use Rattle.step_run.specs.Solvers.{IsResolved, equation_edges};
+ghost use Rattle.blif_run.specs.Plans.{IsPlan, given_names};
 
 use crate::refusal::RunError;
 use crate::slots::{driven_names, slots_read, source_slots};
@@ -48,10 +49,11 @@ fn ordered_plan(
     order: &[usize],
 ) -> Result<CircuitPlan, NoMemory>
     requires described { IsDescribed (plain_circuit blif.now) }
-    requires resolved { IsResolved (plain_circuit blif.now) (map (λ w. w.now) resolved.now.names.items)
-        (map (λ k. k.now) resolved.now.slots.keys) resolved.now.first (map (λ s. s.items) resolved.now.reads.items) }
+    requires resolved { IsResolved (given_names (plain_circuit blif.now)) (equations_of (plain_circuit blif.now))
+        (map (λ w. w.now) resolved.now.names.items) (map (λ k. k.now) resolved.now.slots.keys) resolved.now.first
+        (map (λ s. s.items) resolved.now.reads.items) }
     requires order { IsEvaluationOrder (length (equations_of (plain_circuit blif.now)))
-        (circuit_edges (plain_circuit blif.now)) order.now }
+        (equation_edges (given_names (plain_circuit blif.now)) (equations_of (plain_circuit blif.now))) order.now }
     ensures { IfOk result (λ p. IsPlan (plain_circuit blif.now) p.tables p.sources.items p.shown.items) }
 {
     let sources = source_slots(alloc, &resolved.slots, &blif.latches)?;
@@ -85,8 +87,8 @@ struct Resolved<'a> {
 fn resolved_names<'a>(alloc: Global, blif: &'a Blif) -> Result<Resolved<'a>, NoMemory>
     requires { IsDescribed (plain_circuit blif.now) }
     ensures { IfOk result
-        (λ r. IsResolved (plain_circuit blif.now) (map (λ w. w.now) r.names.items) (map (λ k. k.now) r.slots.keys)
-        r.first (map (λ s. s.items) r.reads.items)) }
+        (λ r. IsResolved (given_names (plain_circuit blif.now)) (equations_of (plain_circuit blif.now))
+        (map (λ w. w.now) r.names.items) (map (λ k. k.now) r.slots.keys) r.first (map (λ s. s.items) r.reads.items)) }
 {
     let names = driven_names(alloc, blif)?;
     let slots = slot_table(alloc, &names)?;
@@ -102,10 +104,11 @@ fn resolved_names<'a>(alloc: Global, blif: &'a Blif) -> Result<Resolved<'a>, NoM
 // The tables in an order in which each one stands behind those that it reads, or a combinational cycle.
 fn table_order(alloc: Global, blif: &Blif, resolved: &Resolved<'_>) -> Result<Vec<usize>, RunError>
     requires described { IsDescribed (plain_circuit blif.now) }
-    requires resolved { IsResolved (plain_circuit blif.now) (map (λ w. w.now) resolved.now.names.items)
-        (map (λ k. k.now) resolved.now.slots.keys) resolved.now.first (map (λ s. s.items) resolved.now.reads.items) }
+    requires resolved { IsResolved (given_names (plain_circuit blif.now)) (equations_of (plain_circuit blif.now))
+        (map (λ w. w.now) resolved.now.names.items) (map (λ k. k.now) resolved.now.slots.keys) resolved.now.first
+        (map (λ s. s.items) resolved.now.reads.items) }
     ensures order { IfOk result (λ order. IsEvaluationOrder (length (equations_of (plain_circuit blif.now)))
-        (circuit_edges (plain_circuit blif.now)) order.items) }
+        (equation_edges (given_names (plain_circuit blif.now)) (equations_of (plain_circuit blif.now))) order.items) }
     ensures acyclic { OnOk result (HasNoLoop (plain_circuit blif.now)) }
     ensures cyclic { IfErr result (LoopFault (plain_circuit blif.now)) }
 {

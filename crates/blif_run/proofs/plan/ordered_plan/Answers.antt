@@ -1,4 +1,4 @@
-use Rattle.std.proofs.Common.{rules, ◌≡◌, ℕ, ◌<◌, ◌+◌, ◌≤◌, List, sym, ap, ◌∙◌, subst, length, map, All, arith}
+use Rattle.std.proofs.Common.{rules, ◌≡◌, ℕ, ◌<◌, ◌+◌, ◌≤◌, List, sym, ◌∙◌, subst, length, map, All, arith}
 use Rattle.std.specs.declared.alloc.Global.{Global}
 use Rattle.std.specs.declared.vec.Vec.{Vec}
 use Rattle.std.proofs.lemmas.List.{length-map}
@@ -6,9 +6,12 @@ use Rattle.std.proofs.lemmas.List.Elements.{All-from_recursion}
 use Rattle.blif_text.specs.Plain.{plain_circuit, plain_table}
 use Rattle.blif_text.proofs.Described.{described-sound}
 use Rattle.step_run.specs.Plans.{Makes}
-use Rattle.blif_run.specs.Loops.{equation_of}
+use Rattle.step_run.proofs.Resolving.{each-name, reads-within, parts-within}
+use Rattle.blif_run.specs.Loops.{equation_of, equations_of}
+use Rattle.blif_run.specs.Plans.{given_names}
 use Rattle.blif_run.specs.Truths.{step_at}
-use Rattle.blif_run.proofs.Resolving.{reads-count, each-name, each-input, reads-within, planned, parts-within}
+use Rattle.blif_run.proofs.CircuitEquations.{sound-equations}
+use Rattle.blif_run.proofs.Resolving.{tables-count, each-input, planned}
 use Rattle.blif_run.proofs.plan.ordered_plan.Goals as goal
 
 pub table_plan-requires-clause-few : goal.table_plan-requires-clause-few
@@ -21,9 +24,10 @@ pub table_plan-requires-clause-fits : goal.table_plan-requires-clause-fits
 table_plan-requires-clause-fits c =
     let circuit = plain_circuit c.args.blif.now in
     let sound = described-sound c.requires.described.0 circuit c.requires.described.1 in
+    let own = sound-equations circuit sound in
     let resolved = c.args.resolved.now in
-    let all = each-name circuit sound _ _ _ _ c.requires.resolved in
-    let count = reads-count circuit sound _ _ _ _ c.requires.resolved in
+    let all = each-name (given_names circuit) (equations_of circuit) own _ _ _ _ c.requires.resolved in
+    let count = tables-count circuit sound _ _ _ _ c.requires.resolved in
     let a = length-map resolved.names.items (λ w. w.now) in
     let b = length-map c.args.blif.now.tables.items plain_table in
     rw c.deref-3.ensures.value (omega (arith, all, count, a, b, c.len.ensures))
@@ -32,7 +36,7 @@ pub table_plan-requires-clause-each_table : goal.table_plan-requires-clause-each
 table_plan-requires-clause-each_table c =
     let circuit = plain_circuit c.args.blif.now in
     let sound = described-sound c.requires.described.0 circuit c.requires.described.1 in
-    let count = reads-count circuit sound _ _ _ _ c.requires.resolved in
+    let count = tables-count circuit sound _ _ _ _ c.requires.resolved in
     let a = length-map c.args.resolved.now.reads.items (λ r. r.items) in
     let b = length-map c.args.blif.now.tables.items plain_table in
     rw (c.deref-4.ensures.value, c.deref-3.ensures.value) (omega (arith, count, a, b))
@@ -41,10 +45,11 @@ pub table_plan-requires-clause-within : goal.table_plan-requires-clause-within
 table_plan-requires-clause-within c =
     let circuit = plain_circuit c.args.blif.now in
     let sound = described-sound c.requires.described.0 circuit c.requires.described.1 in
+    let own = sound-equations circuit sound in
     let resolved = c.args.resolved.now in
     let reads = resolved.reads.items in
-    let within = reads-within circuit sound _ _ _ _ c.requires.resolved in
-    let all = each-name circuit sound _ _ _ _ c.requires.resolved in
+    let within = reads-within (given_names circuit) (equations_of circuit) own _ _ _ _ c.requires.resolved in
+    let all = each-name (given_names circuit) (equations_of circuit) own _ _ _ _ c.requires.resolved in
     let a = length-map resolved.names.items (λ w. w.now) in
     let n : resolved.first + length (map (λ r. r.items) reads) ≡ c.len.result = omega (arith, all, a, c.len.ensures) in
     rw c.deref-4.ensures.value (parts-within (λ r. r.items) c.len.result reads

@@ -36,6 +36,5 @@ returns c =
       names_are = names;
       keys_are = keys;
       first_is = omega (arith, all, wide, count, c.len.ensures, c.len-2.ensures);
-      fits = omega (arith, all, wide, count, c.len.ensures, c.len-2.ensures, c.len.type_inv);
       reads_are = c.in_ok-reads.ensures ∙ rw (keys, c.deref-2.ensures.value) (reads-same (all_names circuit) circuit.tables);
     }

@@ -1,4 +1,4 @@
-use Rattle.std.proofs.Common.{◌≡◌, length, ap, sym, subst, ◌∙◌}
+use Rattle.std.proofs.Common.{sym, subst}
 use Rattle.net_ir.specs.Runs.{netlist_of}
 use Rattle.blif_run.specs.Tracing.{IsCircuitOf}
 use Rattle.blif_run.proofs.NetTexts.{net-inputs, net-outputs, runner-net}

@@ -1,7 +1,8 @@
 use Rattle.std.proofs.Common.{refl, ap, ◌∙◌, subst, length}
 use Rattle.std.proofs.lemmas.List.{length-map}
 use Rattle.blif_text.specs.Plain.{plain_circuit}
-use Rattle.blif_run.specs.Plans.{slot_of}
+use Rattle.step_run.specs.Slots.{slot_in}
+use Rattle.blif_text.specs.Runs.{driven_names}
 use Rattle.blif_run.specs.Runners.{Resets}
 use Rattle.blif_run.proofs.Reactions.{fresh-by}
 use Rattle.blif_run.proofs.runner.NetRunner.reset.Goals as goal
@@ -12,6 +13,6 @@ returns c =
     let keeps = c.self.invariant in
     let new = c.reset.new.self in
     let same = c.reset.ensures.same in
-    let wide = ap length (same.shown ∙ keeps.plan.shown_are) ∙ length-map circuit.outputs (slot_of circuit) in
+    let wide = ap length (same.shown ∙ keeps.plan.shown_are.are) ∙ length-map circuit.outputs (slot_in (driven_names circuit)) in
     subst (λ r. Resets r (record { circuit = circuit; latches = new.registers; outputs = new.outputs })) c.self.view_is
     (record { same = refl; fresh = fresh-by circuit new (same.initial ∙ keeps.initial_is) wide c.reset.ensures.begun })
