@@ -19,10 +19,10 @@ use Rattle.blif_text.specs.Written.{gate_table, output_table, net_tables, net_ci
 use Rattle.blif_text.proofs.NetNames.{shown_words, input_words, latch_words, gate_words, net_words, net_cases, net_word-at}
 use Rattle.blif_text.proofs.NetDrivers.{driven-net, names-differ}
 use Rattle.est_base.specs.declared.bounds.TheConstants.Limits.{TEXT_BYTES}
-use Rattle.blif_text.specs.declared.refusal.BlifError.{BlifError}
-use Rattle.blif_text.specs.declared.refusal.BlifError.TheVariants as answers
+use Rattle.blif_read.specs.declared.refusal.BlifError.{BlifError}
+use Rattle.blif_read.specs.declared.refusal.BlifError.TheVariants as answers
 use Rattle.blif_text.specs.Circuits.{reading}
-use Rattle.blif_text.specs.Reads.{ReadsFault}
+use Rattle.blif_read.specs.Reads.{ReadsFault}
 use Rattle.blif_text.specs.Written.{written, Means}
 use Rattle.net_ir.proofs.Numbered.{length-numbered, get_or-numbered}
 use Rattle.net_ir.specs.Numbered.{numbered}

@@ -6,9 +6,9 @@ use Rattle.est_base.specs.declared.stop.Stop.TheVariants.{Fault}
 use Rattle.est_base.specs.declared.stop.Stop.TheVariants as stops
 use Rattle.est_base.specs.Stops.{FaultIs}
 use Rattle.blif_text.specs.Circuits.{Circuit, reading}
-use Rattle.blif_text.specs.Reads.{ReadsFault}
-use Rattle.blif_text.specs.declared.refusal.BlifError.{BlifError}
-use Rattle.blif_text.specs.declared.refusal.BlifError.TheVariants as answers
+use Rattle.blif_read.specs.Reads.{ReadsFault}
+use Rattle.blif_read.specs.declared.refusal.BlifError.{BlifError}
+use Rattle.blif_read.specs.declared.refusal.BlifError.TheVariants as answers
 use Rattle.blif_run.specs.declared.language.TextFault.{TextFault}
 use Rattle.blif_run.specs.declared.language.TextFault.TheVariants.{Line, TwoDrivers, NoDriver, Loop}
 use Rattle.blif_run.specs.Texts.{IsTextFault}

@@ -6,8 +6,8 @@ use Rattle.est_base.specs.declared.stop.Stop.TheVariants as stops
 use Rattle.net_ir.specs.Netlists.{Netlist}
 use Rattle.blif_text.specs.Circuits.{Circuit, reading}
 use Rattle.blif_text.specs.Written.{Means}
-use Rattle.blif_text.specs.declared.refusal.BlifError.{BlifError}
-use Rattle.blif_text.specs.declared.refusal.BlifError.TheVariants as answers
+use Rattle.blif_read.specs.declared.refusal.BlifError.{BlifError}
+use Rattle.blif_read.specs.declared.refusal.BlifError.TheVariants as answers
 use Rattle.blif_run.specs.Loops.{IsDescribed, IsLoop, HasNoLoop}
 use Rattle.blif_run.specs.declared.language.TextFault.{TextFault}
 use Rattle.blif_run.specs.declared.language.TextFault.TheVariants.{Line, TwoDrivers, NoDriver, Loop}

@@ -5,7 +5,7 @@ ghost use Rattle.est_base.specs.Stops.{FaultIs, IfFault};
 ghost use Rattle.net_ir.specs.Runs.{netlist_of};
 ghost use Rattle.blif_text.specs.Circuits.{Circuit};
 ghost use Rattle.blif_text.specs.Plain.{plain_circuit};
-ghost use Rattle.blif_text.specs.declared.refusal.BlifError.TheVariants.{TooLong as is_too_long};
+ghost use Rattle.blif_read.specs.declared.refusal.BlifError.TheVariants.{TooLong as is_too_long};
 ghost use Rattle.blif_run.specs.Loops.{IsDescribed, LoopFault, HasNoLoop};
 ghost use Rattle.blif_run.specs.Runners.{IsFresh};
 ghost use Rattle.blif_run.specs.Texts.{IsWritten};
@@ -13,7 +13,8 @@ ghost use Rattle.blif_run.specs.Tracing.{IsCircuitOf, IsLoopFault, IsStopOf};
 
 use crate::refusal::RunError;
 use crate::trace_runner::BlifRunner;
-use blif_text::{Blif, BlifError, read_blif};
+use blif_read::{BlifError, read_blif};
+use blif_text::Blif;
 use est_base::{Limits, NoMemory, Stop, Text};
 use net_ir::{Net, look_at_wires};
 use std::alloc::Global;

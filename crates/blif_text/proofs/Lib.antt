@@ -3,16 +3,10 @@ pub use Rattle.net_ir.proofs.NameLists
 mod WorkedTexts
 mod WorkedFaults
 mod PlainWords
-pub mod FirstLines
-pub mod FirstWords
 pub mod WordBytes
 pub mod SpelledLines
 pub mod ReadsBack
 pub mod SaidNames
-pub mod Reversals
-pub mod DriverFaults
-pub mod TakenLines
-pub mod ReadBack
 pub mod Described
 pub mod Joins
 pub mod RoundTrip

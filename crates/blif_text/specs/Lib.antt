@@ -8,8 +8,4 @@ pub mod Runs
 pub mod OutputNames
 pub mod Written
 pub mod Plain
-pub mod PlainStatements
-pub mod Drafts
-pub mod Rests
-pub mod Reads
 pub mod Parts

@@ -1,4 +1,4 @@
-//! BLIF texts: what they mean, the text of a net, and the circuit of a text.
+//! BLIF texts: what they mean, their circuits, and the text of a net.
 //!
 //! The texts are those of Berkeley's BLIF (Berkeley Logic Interchange Format), cut down to one model
 //! of latches with an initial value and tables of at most eight inputs. `specs/` says for every list of
@@ -6,18 +6,9 @@
 #![tactic(auto)]
 
 mod circuit;
-mod draft;
-mod drivers;
-mod lines;
 mod parts;
 mod pieces;
-mod reader;
-mod refusal;
-mod statements;
-mod words;
 mod writer;
 
 pub use circuit::{Blif, BlifLatch, Cell, Row, Table};
 pub use pieces::{BlifPieces, BlifWriter, write_blif};
-pub use reader::read_blif;
-pub use refusal::BlifError;

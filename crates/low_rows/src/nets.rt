@@ -3,7 +3,8 @@
 ghost use Rattle.std.specs.Prelude.{◌≡◌, ◌+◌, ◌≤◌, ◌<◌, length, IfOk};
 
 use crate::worked_nets::{closed_net, gateless_net, negations, redundant_net, worked_net};
-use blif_text::{read_blif, write_blif};
+use blif_read::read_blif;
+use blif_text::write_blif;
 use csub_text::write_c;
 use est_base::NoMemory;
 use net_ir::Net;

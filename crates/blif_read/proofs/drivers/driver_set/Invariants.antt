@@ -1,0 +1,13 @@
+use Rattle.std.proofs.Common.{◌≡◌, ℕ, List, [], map, take, drop}
+use Rattle.std.specs.HashSet.{contains_by}
+use Rattle.est_base.specs.Names.{is_same_name}
+use Rattle.net_ir.specs.NameLists.{is_among, first_again}
+use Rattle.blif_read.proofs.drivers.driver_set.Given as goal
+
+-- no name stands twice so far, and the set has those so far
+abbrev pub invariant-loop-name : goal.invariant-loop-name
+invariant-loop-name l = record {
+  once : first_again [] (map (λ w. w.now) l.names)
+      ≡ first_again (take l.name-index (map (λ w. w.now) l.names)) (drop l.name-index (map (λ w. w.now) l.names));
+  members : (name : List ℕ) → contains_by (λ k. is_same_name name k.now) l.set ≡ is_among name (take l.name-index (map (λ w. w.now) l.names));
+}

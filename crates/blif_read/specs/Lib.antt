@@ -1,0 +1,4 @@
+pub mod PlainStatements
+pub mod Drafts
+pub mod Rests
+pub mod Reads
