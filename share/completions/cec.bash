@@ -6,13 +6,13 @@ _cec() {
     [ "$now" = "=" ] && now=
     [ "$before" = "=" ] && before=${COMP_WORDS[COMP_CWORD - 2]}
     if [ "$COMP_CWORD" -eq 1 ]; then
-        mapfile -t COMPREPLY < <(compgen -W "blif c grc check run exec gen --help" -- "$now")
+        mapfile -t COMPREPLY < <(compgen -W "blif c verilog grc check run exec gen --help" -- "$now")
         return
     fi
     case $before in
     --via)
-        local ways="blif c"
-        [ "$given" = run ] && ways="blif c tri"
+        local ways="blif c verilog"
+        [ "$given" = run ] && ways="blif c verilog tri"
         mapfile -t COMPREPLY < <(compgen -W "$ways" -- "$now")
         return
         ;;
@@ -31,7 +31,7 @@ _cec() {
         local options=
         case $given in
         blif) options="--main --pick --encode" ;;
-        c) options="--main --pick" ;;
+        c | verilog) options="--main --pick" ;;
         grc | check) options="--main" ;;
         run) options="--via --main --pick --encode" ;;
         exec) options="--via" ;;
@@ -49,8 +49,8 @@ _cec() {
             continue
         fi
         case $given:$file in
-        exec:*.blif | exec:*.c | exec:*.trace | run:*.strl | run:*.trace) COMPREPLY+=("$file") ;;
-        blif:*.strl | c:*.strl | grc:*.strl | check:*.strl) COMPREPLY+=("$file") ;;
+        exec:*.blif | exec:*.c | exec:*.v | exec:*.trace | run:*.strl | run:*.trace) COMPREPLY+=("$file") ;;
+        blif:*.strl | c:*.strl | verilog:*.strl | grc:*.strl | check:*.strl) COMPREPLY+=("$file") ;;
         esac
     done < <(compgen -f -- "$now")
     compopt -o nospace 2>/dev/null

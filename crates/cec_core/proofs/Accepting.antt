@@ -15,7 +15,7 @@ use Rattle.blif_run.specs.Loops.{IsLoop}
 use Rattle.cec_front.proofs.OneProgram.{one_program}
 use Rattle.cec_front.proofs.Unrefused as front
 use Rattle.cec_words.specs.declared.asked.Via.{Via}
-use Rattle.cec_words.specs.declared.asked.Via.TheVariants.{Blif, C}
+use Rattle.cec_words.specs.declared.asked.Via.TheVariants.{Blif, C, Verilog}
 use Rattle.csub_read.specs.declared.refusal.CError.TheVariants as c_faults
 use Rattle.csub_read.proofs.ReadBack.{described-are-read}
 use Rattle.csub_text.specs.Trees as c_trees
@@ -32,6 +32,17 @@ use Rattle.csub_run.specs.declared.language.TextFault as programs
 use Rattle.csub_run.specs.declared.language.TextFault.TheVariants.{Syntax, Twice, Undeclared, Unset}
 use Rattle.csub_run.specs.Texts.{IsTextFault as IsProgramFault}
 use Rattle.csub_read.specs.Faults.{ReadsAs}
+use Rattle.vlog_read.specs.declared.refusal.VlogFault.TheVariants as v_faults
+use Rattle.vlog_read.proofs.ReadBack as modules_read
+use Rattle.vlog_read.specs.declared.refusal.VlogFault.{VlogFault}
+use Rattle.vlog_read.specs.Faults.{ReadsFault}
+use Rattle.vlog_read.specs.Laws.{LacksRoom}
+use Rattle.vlog_run.specs.Loops as v_loops
+use Rattle.vlog_run.specs.ModuleAnswers as module_answers
+use Rattle.vlog_run.specs.Texts as module_texts
+use Rattle.vlog_run.specs.declared.language.TextFault as modules
+use Rattle.vlog_run.specs.declared.language.TextFault.TheVariants as m_faults
+use Rattle.vlog_text.specs.Trees.{Module}
 use Rattle.cec_core.specs.declared.jobs.TextForm.{TextForm}
 use Rattle.cec_core.specs.declared.text_faults.TextFault.{TextFault}
 use Rattle.trace_run.specs.declared.running.RunFault.TheVariants as runs
@@ -156,6 +167,7 @@ gains_rose (Run via job trace) content s g = g.2.2.ran.4.faults
 gains_rose (RunTri job trace) content s g = g.2.2.ran.4.faults
 gains_rose (Exec Blif text trace) content s g = g.2.2.ran.4.faults
 gains_rose (Exec C text trace) content s g = g.2.2.ran.4.faults
+gains_rose (Exec Verilog text trace) content s g = g.2.2.ran.4.faults
 gains_rose (Generate start branches) content s g = g.2.faults
 gains_rose (Load start branches instants) content s g = g.2.faults
 
@@ -331,6 +343,10 @@ react_end job held trace (NotConstructive wires) s w on unread written g =
 
 -- ---- texts
 
+-- a text that is read has none of the reader's faults
+read_no_fault : (bytes : List ℕ) (fault : VlogFault) → IsTextIn module_texts.ReadsModule bytes → ReadsFault bytes fault → LacksRoom bytes fault
+read_no_fault bytes fault t h = (modules_read.described-are-read bytes t.program t.read.is_read.describes).refusals fault h
+
 circuit_no_fault : (bytes : List ℕ) (fault : circuits.TextFault) → IsTextIn ReadsCircuit bytes → IsCircuitFault bytes fault → ⊥
 circuit_no_fault bytes (Line number) t h = let both = sym t.read.is_read ∙ h in cc
 circuit_no_fault bytes (TwoDrivers name) t h = let both = sym t.read.is_read ∙ h in cc
@@ -347,13 +363,25 @@ program_no_fault bytes (Undeclared name) t h =
     (described-are-read bytes t.program t.read.describes).refusals (c_faults.Undeclared name) (t.read.short, h)
 program_no_fault bytes (Unset name) t h = (described-are-read bytes t.program t.read.describes).refusals (c_faults.Unset name) (t.read.short, h)
 
+module_no_fault : (bytes : List ℕ) (fault : modules.TextFault) → IsTextIn module_texts.ReadsModule bytes → module_texts.IsTextFault bytes fault → ⊥
+module_no_fault bytes (m_faults.Syntax place) t h = read_no_fault bytes (v_faults.Syntax place) t (t.read.is_read.short, h)
+module_no_fault bytes (m_faults.Twice name) t h = read_no_fault bytes (v_faults.Twice name) t (t.read.is_read.short, h)
+module_no_fault bytes (m_faults.Port name) t h = read_no_fault bytes (v_faults.Port name) t (t.read.is_read.short, h)
+module_no_fault bytes (m_faults.Undeclared name) t h = read_no_fault bytes (v_faults.Undeclared name) t (t.read.is_read.short, h)
+module_no_fault bytes (m_faults.TwoDrivers name) t h = read_no_fault bytes (v_faults.TwoDrivers name) t (t.read.is_read.short, h)
+module_no_fault bytes (m_faults.NoDriver name) t h = read_no_fault bytes (v_faults.NoDriver name) t (t.read.is_read.short, h)
+module_no_fault bytes (m_faults.Loop names) t h =
+    t.read.acyclic names.items (subst (λ (m : Module). v_loops.IsLoop m names.items) (t.read.is_read.only h.0 h.1.describes) h.2)
+
 text_no_fault : (via : Via) (bytes : List ℕ) (fault : TextFault) → IsRunnable via bytes → HasFault via bytes fault → ⊥
 text_no_fault Blif bytes fault t h = circuit_no_fault bytes h.0 t h.1
 text_no_fault C bytes fault t h = program_no_fault bytes h.0 t h.1
+text_no_fault Verilog bytes fault t h = module_no_fault bytes h.0 t h.1
 
 text_short : (via : Via) (bytes : List ℕ) → IsRunnable via bytes → length bytes ≤ TEXT_BYTES
 text_short Blif bytes t = t.within
 text_short C bytes t = t.within
+text_short Verilog bytes t = t.within
 
 -- a trace of a text with a fault
 text_run_no_fault : (via : Via) (bytes trace : List ℕ) (s : SinkChange) (fault : TraceFault) → ExecutesToEnd via bytes trace
@@ -367,6 +395,10 @@ text_run_no_fault C bytes trace s fault w r =
     let same : r.program ≡ w.text.program = w.text.read.only r.program r.read.describes in
     whole_has_no_fault (beginning trace (bare_inputs w.text.program) []) w.whole.items r.ran.0 fault w.whole.whole
     (subst (λ (p : c_trees.Program). IsTrace (beginning trace (bare_inputs p) []) r.ran.0 (Some fault)) same r.ran.2)
+text_run_no_fault Verilog bytes trace s fault w r =
+    let same : r.program ≡ w.text.program = w.text.read.is_read.only r.program r.read.is_read.describes in
+    whole_has_no_fault (beginning trace (module_answers.bare_inputs w.text.program) []) w.whole.items r.ran.0 fault w.whole.whole
+    (subst (λ (m : Module). IsTrace (beginning trace (module_answers.bare_inputs m) []) r.ran.0 (Some fault)) same r.ran.2)
 
 text_trace_fault : (via : Via) (held : List ℕ → List ℕ) (text trace : List ℕ) (s : SinkChange) (fault : TraceFault) → ExecutesToEnd via (held text) (held trace)
     → GainsOut (Some (Exec via text trace)) (Some held) (Trace fault) s → ⊥

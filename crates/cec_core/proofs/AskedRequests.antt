@@ -12,6 +12,7 @@ generated : (words : List (List ℕ)) (asked : Asked) → AsksWell asked → Can
 generated words asks.Help well = tt
 generated words (asks.Blif s) well = tt
 generated words (asks.C s) well = tt
+generated words (asks.Verilog s) well = tt
 generated words (asks.Grc s) well = tt
 generated words (asks.Check s) well = tt
 generated words (asks.Run via s trace) well = tt

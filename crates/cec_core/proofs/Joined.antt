@@ -13,6 +13,7 @@ use Rattle.est_kernel.specs.WellFormed as programs
 use Rattle.est_kernel.proofs.ResidualLaws.{trees_are_kernels_lem}
 use Rattle.blif_text.specs.Written.{Means}
 use Rattle.csub_text.specs.Written as c_meant
+use Rattle.vlog_text.specs.Written as verilog_meant
 use Rattle.grc_copies.specs.Faults as copying
 use Rattle.grc_copies.specs.declared.refusal.CopyFault.{CopyFault}
 use Rattle.grc_copies.specs.declared.refusal.CopyFault.TheVariants as copy_faults
@@ -46,16 +47,16 @@ use Rattle.cec_front.specs.Sources.{StandsFor}
 use Rattle.cec_core.specs.declared.compiler.Compiled.{Compiled}
 use Rattle.cec_core.specs.declared.compiler.Graphed.{Graphed}
 use Rattle.cec_core.specs.Answers.{StandsForListing, StandsForCounts, counts_line}
-use Rattle.cec_core.specs.Compiling.{IsGraphed, IsCompiled, StandsForGraph, StandsForNet, StandsForText, StandsForC}
+use Rattle.cec_core.specs.Compiling.{IsGraphed, IsCompiled, StandsForGraph, StandsForNet, StandsForText, StandsForC, StandsForVerilog}
 use Rattle.cec_core.specs.Following.{FollowsGraph}
 use Rattle.cec_core.specs.Limits.{copying_refusal}
 use Rattle.cec_core.specs.Graphs.{HasNoGraph}
 use Rattle.cec_core.specs.Refusals.{Compiles}
 use Rattle.cec_core.proofs.GraphFacts.{acyclic, reading_order}
 use Rattle.cec_core.proofs.Simplified.{interface_stays, instants_stay, runs_stay}
-use Rattle.cec_core.proofs.WireWords.{order_carried, holds_wires, names_wires, latches_stored, states_stored}
-use Rattle.cec_core.specs.WireNames.{one_per_leaf, TextNames, CTextNames}
-use Rattle.cec_core.proofs.Keeping.{net_keeps, text_keeps, c_text_keeps}
+use Rattle.cec_core.proofs.WireWords.{order_carried, holds_wires, names_wires, module_wires, latches_stored, states_stored, registers_stored}
+use Rattle.cec_core.specs.WireNames.{one_per_leaf, TextNames, CTextNames, VerilogTextNames}
+use Rattle.cec_core.proofs.Keeping.{net_keeps, text_keeps, c_text_keeps, verilog_text_keeps}
 
 -- ---- graphs
 
@@ -178,6 +179,17 @@ c_net_wires c p h follows written means =
           (inputs_wide c p h);
     }
 
+verilog_net_wires : (c : Compiled) (p : Program) → IsCompiled c p → FollowsGraph c → (written : List ℕ) → verilog_meant.Means written (netlist_of c.net)
+    → VerilogTextNames (one_per_leaf p) written p
+verilog_net_wires c p h follows written means =
+    let kernel = program_kernel p h.formed (kernel_of c.graph p h.graph) in
+    record {
+      design = means.design;
+      describes = means.describes;
+      stored = registers_stored c.graph p (netlist_of c.net) h.graph (wires_carried c p h) follows.interface written means;
+      wires = module_wires c.graph p (netlist_of c.net) h.graph (wires_carried c p h) kernel h.no_loop h.compiles.acyclic follows.runs written means;
+    }
+
 pub text_stands : (text : List ℕ) (main : Option (List ℕ)) (c : Compiled) (written : List ℕ) → StandsForNet text main c → FollowsGraph c →
     Means written (netlist_of c.net) → StandsForText text main written
 text_stands text main c written s follows means = record {
@@ -186,6 +198,16 @@ text_stands text main c written s follows means = record {
   compiles = s.compiled.compiles;
   keeps = text_keeps written (netlist_of c.net) s.program (given-few s.program s.compiled.formed) s.compiled.keeps means;
   names = net_wires c s.program s.compiled follows written means;
+}
+
+pub verilog_text_stands : (text : List ℕ) (main : Option (List ℕ)) (c : Compiled) (written : List ℕ) → StandsForNet text main c → FollowsGraph c →
+    verilog_meant.Means written (netlist_of c.net) → StandsForVerilog text main written
+verilog_text_stands text main c written s follows means = record {
+  program = s.program;
+  source = s.source;
+  compiles = s.compiled.compiles;
+  keeps = verilog_text_keeps written (netlist_of c.net) s.program (given-few s.program s.compiled.formed) s.compiled.keeps means;
+  names = verilog_net_wires c s.program s.compiled follows written means;
 }
 
 pub c_text_stands : (text : List ℕ) (main : Option (List ℕ)) (c : Compiled) (written : List ℕ) → StandsForNet text main c → FollowsGraph c →

@@ -28,9 +28,12 @@ use Rattle.blif_text.specs.Written.{Means, output_word, paused_word}
 use Rattle.csub_text.specs.Machine as c_machine
 use Rattle.csub_text.specs.Written as meant
 use Rattle.csub_text.specs.Written.{input_variable, output_variable, shown_by_call}
+use Rattle.vlog_text.specs.Written as v_meant
+use Rattle.vlog_text.specs.Written.{input_name, output_name}
 use Rattle.std.specs.Prelude.{codes}
 use Rattle.cec_core.specs.Cycles.{IsAcyclic}
 use Rattle.cec_core.specs.Meaning.{AreItems, Seen, seen_of, outgoing_words, circuit_seen, TextKeeps, call_seen, CTextKeeps}
+use Rattle.cec_core.specs.Meaning.{module_seen, output_wires, VerilogTextKeeps}
 use Rattle.cec_core.specs.NetMeaning.{net_seen, NetKeeps}
 
 -- each event has a truth value per given signal
@@ -91,14 +94,18 @@ row-seen outputs paused =
     ap (λ k. get_or (outputs ++ paused ∷ []) k false) place ∙ get_or-append_seam outputs paused [] false in
     rw (first, last) refl
 
+-- what is seen by these names
+abbrev names_seen : List (List ℕ) → List ℕ → (List ℕ → Bool) → Seen
+names_seen names last v = record { outputs = map v names; paused = v last }
+
 -- the rows of a run, as what is seen
-rows-circuit : (p : Program) (vs : List (List ℕ → Bool)) → map row_seen (map (λ v. map v (outgoing_words p ++ paused_word ∷ [])) vs)
-    ≡ map (circuit_seen p) vs
-rows-circuit p [] = refl
-rows-circuit p (v ∷ vs) =
-    ap (λ s. s ∷ map row_seen (map (λ w. map w (outgoing_words p ++ paused_word ∷ [])) vs))
-    (ap row_seen (map-append v (outgoing_words p) (paused_word ∷ [])) ∙ row-seen (map v (outgoing_words p)) (v paused_word))
-    ∙ ap (λ l. circuit_seen p v ∷ l) (rows-circuit p vs)
+rows-names : (names : List (List ℕ)) (last : List ℕ) (vs : List (List ℕ → Bool)) → map row_seen (map (λ v. map v (names ++ last ∷ [])) vs)
+    ≡ map (names_seen names last) vs
+rows-names names last [] = refl
+rows-names names last (v ∷ vs) =
+    ap (λ s. s ∷ map row_seen (map (λ w. map w (names ++ last ∷ [])) vs))
+    (ap row_seen (map-append v names (last ∷ [])) ∙ row-seen (map v names) (v last))
+    ∙ ap (λ l. names_seen names last v ∷ l) (rows-names names last vs)
 
 rows-answers : (answers : List Answer) → map row_seen (map (λ (s : Shown). s.outputs ++ s.paused ∷ []) (map net_seen answers)) ≡ map seen_of answers
 rows-answers [] = refl
@@ -128,7 +135,7 @@ text_keeps text net p few keeps means =
                 each_run = λ vs run.
                     sym (rows-answers found.0) ∙ ap (λ l. map row_seen (map (λ (s : Shown). s.outputs ++ s.paused ∷ []) l)) (sym found.2)
                     ∙ ap (map row_seen) (sym (means.shows items vs run)) ∙ ap (λ o. map row_seen (map (λ v. map v o) vs)) outputs
-                    ∙ rows-circuit p vs;
+                    ∙ rows-names (outgoing_words p) paused_word vs;
               },
             );
       };
@@ -198,3 +205,39 @@ c_text_keeps text net p few keeps means = record {
         );
   };
 }
+
+-- ---- the Verilog text
+
+map-wires : (outputs : List NetOut) → map output_name outputs ≡ map (λ name. codes "o_" ++ name) (map (λ o. o.name) outputs)
+map-wires [] = refl
+map-wires (o ∷ outputs) = ap (λ l. (codes "o_" ++ o.name) ∷ l) (map-wires outputs)
+
+-- a Verilog text that means a net which keeps what a program means keeps it too
+pub verilog_text_keeps : (text : List ℕ) (net : Netlist) (p : Program) → given_count p ≤ length p.signals → NetKeeps net p → v_meant.Means text net
+    → VerilogTextKeeps text p
+verilog_text_keeps text net p few keeps means =
+    let outputs : means.design.outputs ≡ output_wires p ++ codes "paused" ∷ [] = means.outputs
+    ∙ ap (λ l. l ++ codes "paused" ∷ []) (map-wires net.outputs ∙ ap (map (λ name. codes "o_" ++ name)) keeps.outputs) in
+    record {
+      design = means.design;
+      describes = means.describes;
+      name = means.name ∙ ap (λ name. codes "m_" ++ name) keeps.name;
+      inputs = means.inputs ∙ ap (λ names. codes "clk" ∷ map input_name names) keeps.inputs;
+      outputs = outputs;
+      keeps = record {
+        runs = λ items fits.
+            let found = keeps.runs items fits in
+            let wide : given_count p ≡ length net.inputs = sym (ap length keeps.inputs ∙ omega (arith, length-take (given_count p) p.signals)) in (
+              found.0,
+              found.1,
+              record {
+                some_run = means.runs items (widths p (length net.inputs) wide items fits);
+                each_run = λ vs run.
+                    sym (rows-answers found.0) ∙ ap (λ l. map row_seen (map (λ (s : Shown). s.outputs ++ s.paused ∷ []) l)) (sym found.2)
+                    ∙ ap (map row_seen) (sym (means.shows items vs run)) ∙ ap (λ o. map row_seen (map (λ v. map v o) vs)) outputs
+                    ∙ rows-names (output_wires p) (codes "paused") vs;
+              },
+            );
+      };
+      one_run = λ items fits. means.one_run items;
+    }

@@ -8,18 +8,20 @@ use Rattle.blif_run.specs.Texts as circuits
 use Rattle.blif_text.specs.Written as blif_texts
 use Rattle.csub_run.specs.Texts as programs
 use Rattle.csub_text.specs.Written as c_texts
+use Rattle.vlog_run.specs.Texts as modules
+use Rattle.vlog_text.specs.Written as verilog_texts
 use Rattle.cec_core.specs.declared.compiler.Compiled.{Compiled}
 use Rattle.cec_core.specs.declared.jobs.TextForm.{TextForm}
 use Rattle.cec_core.specs.declared.jobs.TextForm.TheVariants as forms
 use Rattle.cec_core.specs.declared.jobs.Task.TheVariants.{Text}
 use Rattle.cec_core.specs.declared.made.Made.{Made}
 use Rattle.cec_core.specs.Answers.{IsAnswer}
-use Rattle.cec_core.specs.Compiling.{IsBlifOf, IsCOf, IsCompiled, StandsForNet}
+use Rattle.cec_core.specs.Compiling.{IsBlifOf, IsCOf, IsVerilogOf, IsCompiled, StandsForNet}
 use Rattle.cec_core.specs.MadeNets.{IsNetIn, IsMade, IsWrittenOf}
 use Rattle.cec_core.specs.NetMeaning.{NetKeeps}
 use Rattle.cec_core.specs.Sources.{IsSource}
 use Rattle.cec_core.proofs.EncodedNets.{encoded_stands}
-use Rattle.cec_core.proofs.Joined.{text_stands, c_text_stands}
+use Rattle.cec_core.proofs.Joined.{text_stands, c_text_stands, verilog_text_stands}
 
 -- ---- the text of each form
 
@@ -30,6 +32,10 @@ own_blif bytes main text c s net own w = record { made = c; compiled = s; text =
 own_c : (bytes : List ℕ) (main : Option (List ℕ)) (text : List ℕ) → (c : Compiled) → StandsForNet bytes main c → (net : Netlist) → net ≡ netlist_of c.net
     → text ≡ c_texts.written net → IsCOf bytes main text
 own_c bytes main text c s net own w = record { made = c; compiled = s; text = w ∙ ap c_texts.written own }
+
+own_verilog : (bytes : List ℕ) (main : Option (List ℕ)) (text : List ℕ) → (c : Compiled) → StandsForNet bytes main c → (net : Netlist) → net ≡ netlist_of c.net
+    → text ≡ verilog_texts.written net → IsVerilogOf bytes main text
+own_verilog bytes main text c s net own w = record { made = c; compiled = s; text = w ∙ ap verilog_texts.written own }
 
 -- ---- the text that is written is what is asked for
 
@@ -57,6 +63,14 @@ c_answers bytes main text w =
       own_c bytes main text m.compiled m.source (netlist_of w.made.net) m.net w.written.spelled,
     )
 
+pub verilog_answers : (bytes : List ℕ) (main : Option (List ℕ)) (text : List ℕ) → IsWrittenOf forms.Verilog modules.IsWritten bytes main text
+    → IsAnswer (Text forms.Verilog) main bytes text
+verilog_answers bytes main text w =
+    let m = w.is_made in (
+      verilog_text_stands bytes main m.compiled text m.source m.follows (subst (verilog_texts.Means text) m.net w.written.means),
+      own_verilog bytes main text m.compiled m.source (netlist_of w.made.net) m.net w.written.spelled,
+    )
+
 -- ---- what is made of a source
 
 pub made_source : (form : TextForm) (bytes : List ℕ) (main : Option (List ℕ)) (made : Made) → length bytes ≤ SOURCE_BYTES → IsMade form bytes main made
@@ -73,3 +87,4 @@ made_keeps form bytes main made m = net_keeps form m.compiled m.source.program (
     net_keeps forms.Blif c p net h own = subst (λ n. NetKeeps n p) (sym own) h.keeps
     net_keeps forms.EncodedBlif c p net h e = e.keeps
     net_keeps forms.C c p net h own = subst (λ n. NetKeeps n p) (sym own) h.keeps
+    net_keeps forms.Verilog c p net h own = subst (λ n. NetKeeps n p) (sym own) h.keeps

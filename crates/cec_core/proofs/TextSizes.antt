@@ -24,6 +24,7 @@ use Rattle.net_ir.specs.Writing.{IsWritable}
 use Rattle.blif_text.specs.Written as blif_texts
 use Rattle.blif_text.proofs.TextLengths as blif_lengths
 use Rattle.csub_text.specs.Written as c_texts
+use Rattle.vlog_text.specs.Written as verilog_texts
 use Rattle.csub_text.proofs.TextLengths as c_lengths
 use Rattle.cec_core.specs.declared.compiler.Compiled.{Compiled}
 use Rattle.cec_core.specs.declared.graphs.Built.{Built}
@@ -147,7 +148,7 @@ built_relations_few bytes main built short b =
     let same : map relation_of built.graph.program.relations.items ≡ b.program.relations = ap (λ (q : Program). q.relations) b.built.graph.program in
     omega (arith, room.relations, short, ap (λ (rs : List Relation). length rs) same, length-map built.graph.program.relations.items relation_of)
 
--- a text that is too long is one whose latches hold the state in a code
+-- a text that is too long is one whose latches hold the state in a code, or one in Verilog
 pub long_text : (form : TextForm) (bytes : List ℕ) (main : Option (List ℕ)) (made : Made) (text : List ℕ) → length bytes ≤ SOURCE_BYTES →
     IsMade form bytes main made → IsWritten form text (netlist_of made.net) → TEXT_BYTES < length text → WritesLongText form main bytes
 long_text forms.Blif bytes main made text short m w long =
@@ -160,5 +161,11 @@ long_text forms.EncodedBlif bytes main made text short m w long = record {
   short = short;
   text = text;
   written = record { made = m.compiled; compiled = m.source; net = netlist_of made.net; encoded = m.net; text = w.spelled };
+  long = long;
+}
+long_text forms.Verilog bytes main made text short m w long = record {
+  short = short;
+  text = text;
+  written = record { made = m.compiled; compiled = m.source; text = w.spelled ∙ ap verilog_texts.written m.net };
   long = long;
 }

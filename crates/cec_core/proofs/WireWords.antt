@@ -8,7 +8,7 @@ use Rattle.std.proofs.lemmas.List.{length-map, get_or-map, get_or-drop}
 use Rattle.std.proofs.lemmas.List.FromFn.{get_or-map-range_with_len}
 use Rattle.std.proofs.lemmas.Option.{slice_get-get_or}
 use Rattle.est_base.specs.declared.indices.WireId.{WireId}
-use Rattle.est_base.specs.Items.{EachEvent}
+use Rattle.est_base.specs.Items.{Item, EachEvent}
 use Rattle.est_kernel.specs.Plain.{Program, given_count, given_names}
 use Rattle.blif_text.specs.Written.{Means, net_word, net_latch, gate_word}
 use Rattle.blif_text.specs.Written as written
@@ -16,7 +16,12 @@ use Rattle.blif_text.specs.Runs.{circuit_machine}
 use Rattle.csub_text.specs.Machine.{first_memory, call, memories, program_machine}
 use Rattle.machines.proofs.Showing.{computed-only}
 use Rattle.csub_text.specs.Written as meant
-use Rattle.csub_text.specs.Written.{gate_name, gate_names, net_state}
+use Rattle.csub_text.specs.Written.{gate_name, gate_names, net_state, state_name}
+use Rattle.vlog_text.specs.Written as module_meant
+use Rattle.vlog_text.specs.Written.{name_at, net_name, net_register}
+use Rattle.vlog_text.specs.Machine.{vlog_machine}
+use Rattle.machines.specs.Machines.{Machine, IsRun}
+use Rattle.std.specs.Prelude.{slice_get}
 use Rattle.net_ir.specs.Runs.{net_values_run}
 use Rattle.net_ir.proofs.Numbered.{get_or-numbered, length-numbered}
 use Rattle.grc_graph.specs.declared.graph.Graph.{Graph}
@@ -101,33 +106,49 @@ gate_of net n c =
     let x = any_in net.gates c.place c.within in
     get_or-numbered (λ k (gate : Gate). gate_name k gate.wire) 0 net.gates c.place [] x c.within ∙ ap (gate_name (0 + c.place)) (c.is x)
 
+-- its wire in a Verilog text
+wire_of : (net : Netlist) (n : ℕ) → (c : Carrier net.gates n) → net_name net (first_gate net + c.place) ≡ wire_variable n
+wire_of net n c =
+    let i = first_gate net + c.place in
+    let no_input : nat_lt i (length net.inputs) ≡ false = le-ltb i (length net.inputs) (omega arith) in
+    let no_latch : nat_lt i (first_gate net) ≡ false = le-ltb i (first_gate net) (omega arith) in
+    let back : i - first_gate net ≡ c.place = omega arith in
+    let x = any_in net.gates c.place c.within in
+    let there : wire_at net.gates c.place ≡ Some (record { 0 = n })
+    = ap (λ o. option_and_then (λ h. h.wire) o) (slice_get-get_or net.gates c.place x c.within) ∙ c.is x in
+    ap (λ b. if b then name_at (slice_get net.inputs i) else (if nat_lt i (first_gate net) then state_name (i - length net.inputs)
+    else gate_name (i - first_gate net) (wire_at net.gates (i - first_gate net)))) no_input
+    ∙ ap (λ b. if b then state_name (i - length net.inputs) else gate_name (i - first_gate net) (wire_at net.gates (i - first_gate net))) no_latch
+    ∙ ap (λ k. gate_name k (wire_at net.gates k)) back ∙ ap (gate_name c.place) there
+
 -- ---- instants
 
--- the values of all nets, by their names
-abbrev by_name : Netlist → (List ℕ → Bool) → List Bool
-by_name net v = map (λ n. v (net_word net n)) (range_with_len 0 (net_count net))
+-- the values of all nets, by these names
+abbrev by_name : (ℕ → List ℕ) → Netlist → (List ℕ → Bool) → List Bool
+by_name name net v = map (λ n. v (name n)) (range_with_len 0 (net_count net))
 
 module _ (g : Graph) (p : Program) (net : Netlist) (is : IsGraphOf g p)
     (carriers : (n : ℕ) → n < length (program_wires p) → Contains (carried net.gates) n) where
-  told-once : (v : List ℕ → Bool) (V : Valuation) → Carries g net (by_name net v) V → TellsWires wire_word p v V
-  told-once v V c n l = by_carrier (carrier net.gates n (carriers n l))
+  told-once : (name word : ℕ → List ℕ) → ((n : ℕ) (c : Carrier net.gates n) → name (first_gate net + c.place) ≡ word n) → (v : List ℕ → Bool) (V : Valuation)
+      → Carries g net (by_name name net v) V → TellsWires word p v V
+  told-once name word named v V c n l = by_carrier (carrier net.gates n (carriers n l))
     where
-      by_carrier : Carrier net.gates n → v (wire_word n) ≡ V (graphs.wire_at (program_wires p) n)
+      by_carrier : Carrier net.gates n → v (word n) ≡ V (graphs.wire_at (program_wires p) n)
       by_carrier k =
           let i = first_gate net + k.place in
           let inside : i < net_count net = omega (arith, k.within) in
-          let value : value_in (by_name net v) i ≡ v (net_word net i) =
-          get_or-map-range_with_len (λ m. v (net_word net m)) 0 (net_count net) i i false inside (omega arith) in
+          let value : value_in (by_name name net v) i ≡ v (name i) =
+          get_or-map-range_with_len (λ m. v (name m)) 0 (net_count net) i i false inside (omega arith) in
           let x = any_in net.gates k.place k.within in
-          let carried_value : value_in (by_name net v) i ≡ V (graphs.wire_at (names_of g) n) = c k.place x (record { 0 = n }) k.within (k.is x) in
-          sym (ap v (word_of net n k)) ∙ sym value ∙ carried_value ∙ ap (λ names. V (graphs.wire_at names n)) is.wires
+          let carried_value : value_in (by_name name net v) i ≡ V (graphs.wire_at (names_of g) n) = c k.place x (record { 0 = n }) k.within (k.is x) in
+          sym (ap v (named n k)) ∙ sym value ∙ carried_value ∙ ap (λ names. V (graphs.wire_at names n)) is.wires
 
-  told-all : (valuations : List (List ℕ → Bool)) (Vs : List Valuation) → EachInstant (Carries g net) (map (by_name net) valuations) Vs →
-      AllZip (TellsWires wire_word p) valuations Vs
-  told-all [] [] h = tt
-  told-all [] (V ∷ Vs) h = absurd h
-  told-all (v ∷ valuations) [] h = absurd h
-  told-all (v ∷ valuations) (V ∷ Vs) h = (told-once v V h.0, told-all valuations Vs h.1)
+  told-all : (name word : ℕ → List ℕ) → ((n : ℕ) (c : Carrier net.gates n) → name (first_gate net + c.place) ≡ word n) → (valuations : List (List ℕ → Bool))
+      → (Vs : List Valuation) → EachInstant (Carries g net) (map (by_name name net) valuations) Vs → AllZip (TellsWires word p) valuations Vs
+  told-all name word named [] [] h = tt
+  told-all name word named [] (V ∷ Vs) h = absurd h
+  told-all name word named (v ∷ valuations) [] h = absurd h
+  told-all name word named (v ∷ valuations) (V ∷ Vs) h = (told-once name word named v V h.0, told-all name word named valuations Vs h.1)
 
   -- behind a call
   told-call : (m : List ℕ → Bool) (values : List Bool) (V : Valuation) → map m (gate_names net) ≡ drop (first_gate net) values → Carries g net values V
@@ -192,10 +213,16 @@ module _ (g : Graph) (p : Program) (net : Netlist) (is : IsGraphOf g p)
         });
   }
 
-  pub names_wires : HasExitCodes p.body → NoInstantLoop p.body → IsAcyclic p → FollowsRuns g net → (text : List ℕ) → (means : Means text net) →
-      net.inputs ≡ given_names p
-      → given_count p ≡ length net.inputs → NamesWires (circuit_machine means.circuit) wire_word p
-  names_wires kernel no_loop acyclic follows text means inputs wide = record {
+  pub registers_stored : HasInterfaceOf g net → (text : List ℕ) → (means : module_meant.Means text net) → length means.design.registers ≡ one_per_leaf p
+  registers_stored interface text means =
+      ap length means.registers ∙ length-numbered (net_register net) 0 net.latches ∙ latch_count interface
+
+  -- along the runs of a machine in which the nets have their values by these names
+  named_wires : HasExitCodes p.body → NoInstantLoop p.body → IsAcyclic p → FollowsRuns g net → (M : Machine (List ℕ → Bool)) (name word : ℕ → List ℕ)
+      → ((n : ℕ) (c : Carrier net.gates n) → name (first_gate net + c.place) ≡ word n)
+      → ((items : List Item) (valuations : List (List ℕ → Bool)) → IsRun M items valuations → map (by_name name net) valuations ≡ net_values_run net items)
+      → NamesWires M word p
+  named_wires kernel no_loop acyclic follows M name word named nets = record {
     wires = λ items fits valuations is_run.
         let events = widths p (given_count p) refl items fits in
         let one = graph_runs_exist_lem p acyclic.rank kernel acyclic.up Initial items in
@@ -206,7 +233,18 @@ module _ (g : Graph) (p : Program) (net : Netlist) (is : IsGraphOf g p)
         record {
           run = one.0.0;
           is_run = run_walks p kernel no_loop items Initial one.0.0 tt tt events run;
-          told = told-all valuations one.0.0 (subst (λ values. EachInstant (Carries g net) values one.0.0)
-              (sym (means.nets items valuations is_run)) followed.carries);
+          told = told-all name word named valuations one.0.0 (subst (λ values. EachInstant (Carries g net) values one.0.0)
+              (sym (nets items valuations is_run)) followed.carries);
         };
   }
+
+  pub names_wires : HasExitCodes p.body → NoInstantLoop p.body → IsAcyclic p → FollowsRuns g net → (text : List ℕ) → (means : Means text net) →
+      net.inputs ≡ given_names p
+      → given_count p ≡ length net.inputs → NamesWires (circuit_machine means.circuit) wire_word p
+  names_wires kernel no_loop acyclic follows text means inputs wide =
+      named_wires kernel no_loop acyclic follows (circuit_machine means.circuit) (net_word net) wire_word (word_of net) means.nets
+
+  pub module_wires : HasExitCodes p.body → NoInstantLoop p.body → IsAcyclic p → FollowsRuns g net → (text : List ℕ) → (means : module_meant.Means text net)
+      → NamesWires (vlog_machine means.design) wire_variable p
+  module_wires kernel no_loop acyclic follows text means =
+      named_wires kernel no_loop acyclic follows (vlog_machine means.design) (net_name net) wire_variable (wire_of net) means.nets

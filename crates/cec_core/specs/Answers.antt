@@ -8,7 +8,7 @@ use Rattle.grc_graph.specs.Instances.{body_instances}
 use Rattle.grc_graph.specs.SelectionTrees.{body_leaves}
 use Rattle.grc_list.specs.Listings.{program_listing}
 use Rattle.cec_front.specs.Sources.{StandsFor}
-use Rattle.cec_core.specs.Compiling.{StandsForText, StandsForC, IsBlifOf, IsCOf}
+use Rattle.cec_core.specs.Compiling.{StandsForText, StandsForC, StandsForVerilog, IsBlifOf, IsCOf, IsVerilogOf}
 use Rattle.cec_core.specs.EncodedTexts.{StandsForEncoded, IsEncodedBlifOf}
 use Rattle.cec_core.specs.Refusals.{Compiles}
 use Rattle.cec_core.specs.declared.jobs.TextForm.TheVariants as forms
@@ -43,5 +43,6 @@ IsAnswer (Text forms.Blif) main source text = StandsForText source main text × 
 IsAnswer (Text forms.EncodedBlif) main source text =
     StandsForEncoded source main text × IsEncodedBlifOf source main text
 IsAnswer (Text forms.C) main source text = StandsForC source main text × IsCOf source main text
+IsAnswer (Text forms.Verilog) main source text = StandsForVerilog source main text × IsVerilogOf source main text
 IsAnswer Grc main source text = StandsForListing source main text
 IsAnswer Check main source text = StandsForCounts source main text

@@ -19,9 +19,10 @@ use Rattle.net_ir.specs.Runs.{netlist_of}
 use Rattle.net_simp.specs.SimpleNets.{IsSimple}
 use Rattle.blif_text.specs.Written as blif_texts
 use Rattle.csub_text.specs.Written as c_texts
+use Rattle.vlog_text.specs.Written as verilog_texts
 use Rattle.cec_front.specs.Sources.{StandsFor}
-use Rattle.cec_core.specs.Meaning.{TextKeeps, CTextKeeps}
-use Rattle.cec_core.specs.WireNames.{one_per_leaf, TextNames, CTextNames}
+use Rattle.cec_core.specs.Meaning.{TextKeeps, CTextKeeps, VerilogTextKeeps}
+use Rattle.cec_core.specs.WireNames.{one_per_leaf, TextNames, CTextNames, VerilogTextNames}
 use Rattle.cec_core.specs.NetMeaning.{NetKeeps}
 use Rattle.cec_core.specs.Refusals.{Compiles}
 use Rattle.cec_core.specs.declared.compiler.Compiled.{Compiled}
@@ -65,7 +66,7 @@ pub record IsCompiled (c : Compiled) (p : Program) : Type 0 where
   pub keeps : NetKeeps (netlist_of c.net) p
   pub simple : IsSimple (netlist_of c.net)
 
--- The bytes stand for the program of the graph, of the netlist, of the BLIF text, or of the C text.
+-- The bytes stand for the program of the graph, of the netlist, or of the BLIF text, the C text or the Verilog text.
 
 pub record StandsForGraph (text : List ℕ) (main : Option (List ℕ)) (g : Graphed) : Type 0 where
   pub program : Program
@@ -91,6 +92,13 @@ pub record StandsForC (text : List ℕ) (main : Option (List ℕ)) (written : Li
   pub keeps : CTextKeeps written program
   pub names : CTextNames (one_per_leaf program) written program
 
+pub record StandsForVerilog (text : List ℕ) (main : Option (List ℕ)) (written : List ℕ) : Type 0 where
+  pub program : Program
+  pub source : StandsFor text main program
+  pub compiles : Compiles program
+  pub keeps : VerilogTextKeeps written program
+  pub names : VerilogTextNames (one_per_leaf program) written program
+
 -- The text is that of a compiled program's netlist, from the same bytes: it has a table for each gate, in the order of
 -- the gates, and a gate that carries a wire is named by it.
 pub record IsBlifOf (bytes : List ℕ) (main : Option (List ℕ)) (written : List ℕ) : Type 0 where
@@ -102,3 +110,8 @@ pub record IsCOf (bytes : List ℕ) (main : Option (List ℕ)) (written : List �
   pub made : Compiled
   pub compiled : StandsForNet bytes main made
   pub text : written ≡ c_texts.written (netlist_of made.net)
+
+pub record IsVerilogOf (bytes : List ℕ) (main : Option (List ℕ)) (written : List ℕ) : Type 0 where
+  pub made : Compiled
+  pub compiled : StandsForNet bytes main made
+  pub text : written ≡ verilog_texts.written (netlist_of made.net)

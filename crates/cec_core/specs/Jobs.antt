@@ -52,11 +52,13 @@ source_job words s =
 abbrev pub form_by : Via → Bool → TextForm
 form_by vias.Blif encode = if encode then forms.EncodedBlif else forms.Blif
 form_by vias.C encode = forms.C
+form_by vias.Verilog encode = forms.Verilog
 
 abbrev pub request_asked : List (List ℕ) → Asked → Request
 request_asked words asks.Help = Help
 request_asked words (asks.Blif s) = Make (Text (form_by vias.Blif s.encode)) (source_job words s)
 request_asked words (asks.C s) = Make (Text forms.C) (source_job words s)
+request_asked words (asks.Verilog s) = Make (Text forms.Verilog) (source_job words s)
 request_asked words (asks.Grc s) = Make Grc (source_job words s)
 request_asked words (asks.Check s) = Make Check (source_job words s)
 request_asked words (asks.Run via s trace) = Run (form_by via s.encode) (source_job words s) (word_at words trace)

@@ -11,6 +11,8 @@ use Rattle.blif_run.specs.declared.language.TextFault as circuits
 use Rattle.blif_run.specs.declared.language.TextFault.TheVariants.{Line, TwoDrivers, NoDriver, Loop}
 use Rattle.csub_run.specs.declared.language.TextFault as programs
 use Rattle.csub_run.specs.declared.language.TextFault.TheVariants.{Syntax, Twice, Undeclared, Unset}
+use Rattle.vlog_run.specs.declared.language.TextFault as modules
+use Rattle.vlog_run.specs.declared.language.TextFault.TheVariants as module_faults
 use Rattle.cec_core.specs.declared.text_faults.TextFault.{TextFault}
 use Rattle.cec_core.specs.declared.text_faults.TextFault.TheVariants as texts
 use Rattle.cec_front.specs.Lines.{fault_text}
@@ -79,10 +81,20 @@ program_fault_text (Twice name) = codes "declared twice: " ++ name
 program_fault_text (Undeclared name) = codes "undeclared: " ++ name
 program_fault_text (Unset name) = codes "unset: " ++ name
 
+abbrev pub module_fault_text : modules.TextFault → List ℕ
+module_fault_text (module_faults.Syntax place) = codes "byte " ++ (decimal place ++ codes ": syntax")
+module_fault_text (module_faults.Twice name) = codes "declared twice: " ++ name
+module_fault_text (module_faults.Port name) = codes "bad port: " ++ name
+module_fault_text (module_faults.Undeclared name) = codes "undeclared: " ++ name
+module_fault_text (module_faults.TwoDrivers name) = codes "two drivers: " ++ name
+module_fault_text (module_faults.NoDriver name) = codes "no driver: " ++ name
+module_fault_text (module_faults.Loop names) = codes "loop: " ++ joined_names names.items
+
 -- a fault of a text, by its language
 abbrev pub text_fault_text : TextFault → List ℕ
 text_fault_text (texts.Blif fault) = circuit_fault_text fault
 text_fault_text (texts.C fault) = program_fault_text fault
+text_fault_text (texts.Verilog fault) = module_fault_text fault
 
 -- an instant that is not constructive, and the wires that stay unknown in it
 abbrev pub unknown_text : ℕ → List WireName → List ℕ

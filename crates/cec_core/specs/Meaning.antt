@@ -1,10 +1,11 @@
--- To believe: what it means that a BLIF text or a C text does what a kernel program means.
+-- To believe: what it means that a BLIF text, a C text or a Verilog text does what a kernel program means.
 use Rattle.std.specs.Prelude.{◌≡◌, ℕ, Bool, List, [], ◌∷◌, ◌++◌, ◌==◌, map, length, Some, Ok, codes}
 use Rattle.est_base.specs.Items.{Item, EachEvent}
 use Rattle.est_base.specs.Relations.{MeetsAll}
 use Rattle.est_kernel.specs.Plain.{Program, given_count, given_names, outgoing_names}
 use Rattle.est_kernel.specs.Reactions.{Answer, run_of}
 use Rattle.machines.specs.Machines.{Machine, Shows}
+use Rattle.machines.specs.Machines as machines
 use Rattle.blif_text.specs.Circuits.{Circuit, reading}
 use Rattle.blif_text.specs.OutputNames.{output_word, paused_word}
 use Rattle.blif_text.specs.Runs.{circuit_machine, IsRun, driven_names}
@@ -12,6 +13,10 @@ use Rattle.csub_text.specs.Machine.{Memory, value_of, program_machine}
 use Rattle.csub_text.specs.Names.{inputs_of, outputs_of}
 use Rattle.csub_text.specs.Texts.{Describes}
 use Rattle.csub_text.specs.Trees.{Program as CProgram}
+use Rattle.vlog_text.specs.Machine as modules
+use Rattle.vlog_text.specs.Machine.{vlog_machine}
+use Rattle.vlog_text.specs.Texts as module_texts
+use Rattle.vlog_text.specs.Trees.{Module}
 
 -- an event of a program: one truth value per given signal, and it meets the program's relations
 pub record IsEvent (p : Program) (event : List Bool) : Type 0 where
@@ -75,3 +80,27 @@ pub record CTextKeeps (text : List ℕ) (p : Program) : Type 0 where
   pub inputs : inputs_of program ≡ map (λ name. codes "I_" ++ name) (given_names p)
   pub outputs : outputs_of program ≡ map (λ name. codes "O_" ++ name) (outgoing_names p)
   pub keeps : Keeps (program_machine program) (call_seen program) p
+
+-- ---- Verilog texts
+
+-- the names of the outputs of the outgoing signals
+abbrev pub output_wires : Program → List (List ℕ)
+output_wires p = map (λ name. codes "o_" ++ name) (outgoing_names p)
+
+-- what is seen of an instant of a module: the values of those outputs, and that of `paused`
+abbrev pub module_seen : Program → (List ℕ → Bool) → Seen
+module_seen p v = record { outputs = map v (output_wires p); paused = v (codes "paused") }
+
+-- A text describes a module with the program's name, the clock and then one input for each given signal, and one output
+-- for each outgoing signal and then `paused`, in declared order, which keeps what the program means; and any two of its
+-- runs agree on every driven name.
+pub record VerilogTextKeeps (text : List ℕ) (p : Program) : Type 0 where
+  pub design : Module
+  pub describes : module_texts.Describes text design
+  pub name : design.name ≡ codes "m_" ++ p.name
+  pub inputs : design.inputs ≡ codes "clk" ∷ map (λ name. codes "i_" ++ name) (given_names p)
+  pub outputs : design.outputs ≡ output_wires p ++ codes "paused" ∷ []
+  pub keeps : Keeps (vlog_machine design) (module_seen p) p
+  pub one_run : (items : List Item) → AreItems p items → (us vs : List (List ℕ → Bool))
+      → machines.IsRun (vlog_machine design) items us → machines.IsRun (vlog_machine design) items vs
+      → map (λ u. map u (modules.driven_names design)) us ≡ map (λ v. map v (modules.driven_names design)) vs

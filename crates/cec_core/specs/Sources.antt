@@ -1,4 +1,4 @@
--- To believe: sources that compile, that are refused, or whose encoded texts are too long.
+-- To believe: sources that compile, that are refused, or whose texts are too long.
 use Rattle.std.specs.Prelude.{ℕ, ◌<◌, ◌≤◌, List, length, Option}
 use Rattle.est_base.specs.declared.bounds.TheConstants.Limits.{SOURCE_BYTES, TEXT_BYTES}
 use Rattle.est_kernel.specs.Plain.{Program}
@@ -6,6 +6,7 @@ use Rattle.cec_front.specs.Sources.{StandsFor}
 use Rattle.cec_core.specs.declared.jobs.TextForm.{TextForm}
 use Rattle.cec_core.specs.declared.jobs.TextForm.TheVariants as forms
 use Rattle.cec_core.specs.declared.refusal.Refusal as refused
+use Rattle.cec_core.specs.Compiling.{IsVerilogOf}
 use Rattle.cec_core.specs.EncodedTexts.{IsEncodedBlifOf}
 use Rattle.cec_core.specs.Refusals.{Compiles, IsRefused}
 
@@ -21,14 +22,16 @@ pub record IsRefusedSource (main : Option (List ℕ)) (refusal : refused.Refusal
   pub short : length bytes ≤ SOURCE_BYTES
   pub refused : IsRefused bytes main refusal
 
--- A text whose latches hold the state in a code is written of the source, and is too long to be read.
-pub record HasLongText (main : Option (List ℕ)) (bytes : List ℕ) : Type 0 where
+-- Such a text is written of the source, and is too long to be read.
+pub record HasLongText (IsOf : List ℕ → Option (List ℕ) → List ℕ → Type 0) (main : Option (List ℕ)) (bytes : List ℕ) :
+    Type 0 where
   pub short : length bytes ≤ SOURCE_BYTES
   pub text : List ℕ
-  pub written : IsEncodedBlifOf bytes main text
+  pub written : IsOf bytes main text
   pub long : TEXT_BYTES < length text
 
--- no text of another form is too long
+-- no text of another form than these is too long
 abbrev pub WritesLongText : TextForm → Option (List ℕ) → List ℕ → Type 0
-WritesLongText forms.EncodedBlif main bytes = HasLongText main bytes
+WritesLongText forms.EncodedBlif main bytes = HasLongText IsEncodedBlifOf main bytes
+WritesLongText forms.Verilog main bytes = HasLongText IsVerilogOf main bytes
 WritesLongText others main bytes = ⊥

@@ -15,12 +15,16 @@ use Rattle.blif_text.specs.Runs.{circuit_machine}
 use Rattle.csub_text.specs.Machine.{program_machine}
 use Rattle.csub_text.specs.Texts.{Describes}
 use Rattle.csub_text.specs.Trees.{Program as CProgram}
+use Rattle.vlog_text.specs.Machine.{vlog_machine}
+use Rattle.vlog_text.specs.Texts as modules
+use Rattle.vlog_text.specs.Trees.{Module}
 use Rattle.cec_core.specs.Meaning.{AreItems}
 
--- the name of the wire with this number in a BLIF text, and its variable in a C text
+-- the name of the wire with this number in a BLIF text
 abbrev pub wire_word : ℕ → List ℕ
 wire_word n = codes "_w" ++ decimal n
 
+-- its variable in a C text, and its name in a Verilog text
 abbrev pub wire_variable : ℕ → List ℕ
 wire_variable n = codes "w" ++ decimal n
 
@@ -67,3 +71,10 @@ pub record CTextNames (states : ℕ) (text : List ℕ) (p : Program) : Type 0 wh
   pub describes : Describes text program
   pub stored : length program.states ≡ states
   pub wires : NamesWires (program_machine program) wire_variable p
+
+-- of a Verilog text, which has so many registers
+pub record VerilogTextNames (registers : ℕ) (text : List ℕ) (p : Program) : Type 0 where
+  pub design : Module
+  pub describes : modules.Describes text design
+  pub stored : length design.registers ≡ registers
+  pub wires : NamesWires (vlog_machine design) wire_variable p

@@ -6,7 +6,7 @@ ghost use Rattle.est_kernel.specs.Plain.{program_of, term_of};
 ghost use Rattle.est_kernel.specs.StaticCodes.{NoInstantLoop};
 ghost use Rattle.est_kernel.specs.WellFormed.{IsWellFormed, HasNames};
 ghost use Rattle.cec_core.specs.Compiling.{IsGraphed, IsCompiled, StandsForGraph, StandsForNet, StandsForText};
-ghost use Rattle.cec_core.specs.Compiling.{StandsForC, IsBlifOf, IsCOf};
+ghost use Rattle.cec_core.specs.Compiling.{StandsForC, StandsForVerilog, IsBlifOf, IsCOf, IsVerilogOf};
 ghost use Rattle.cec_core.specs.EncodedTexts.{StandsForEncoded, IsEncodedBlifOf};
 ghost use Rattle.cec_core.specs.Following.{FollowsGraph};
 ghost use Rattle.cec_core.specs.Refusals.{DoesNotCompile, IsRefused};
@@ -28,6 +28,7 @@ use net_gen::generate;
 use net_ir::Net;
 use net_simp::simplify;
 use std::alloc::Global;
+use vlog_run::VerilogTexts;
 
 /// The graph of a program, its selection tree, its dependency edges, and ranks that grow along them.
 #[derive(Drop)]
@@ -116,6 +117,28 @@ pub fn c_of<P: Picker>(
     ensures refuses { IfErr result (IsRefused text.now (option_map (λ m. m.now) main.entry)) }
 {
     match text_of::<CTexts, P>(alloc, TextForm::C, text, main, picker) {
+        Ok(written) => Ok(written),
+        Err(refusal) => Err(refusal),
+    }
+}
+
+/// The Verilog text of a source, likewise: the text describes a module `m_NAME` with the clock `clk`, an input for each
+/// given signal, an output for each outgoing signal, and `paused`; and over every list of events that meet the source's
+/// relations each reaction of the source is constructive, the module has a run, any two runs agree, and the outputs and
+/// `paused` are those of the reactions (`VerilogTextKeeps`). It refuses what `blif_of` refuses.
+pub fn verilog_of<P: Picker>(
+    alloc: Global,
+    text: &[u8],
+    main: Option<&[u8]>,
+    picker: &mut P,
+) -> Result<Vec<u8>, Refusal>
+    requires { length text.now ≤ Limits.SOURCE_BYTES }
+    ensures compiles { IfOk result (λ written. StandsForVerilog text.now
+        (option_map (λ m. m.now) main.entry) written.items) }
+    ensures made { IfOk result (λ written. IsVerilogOf text.now (option_map (λ m. m.now) main.entry) written.items) }
+    ensures refuses { IfErr result (IsRefused text.now (option_map (λ m. m.now) main.entry)) }
+{
+    match text_of::<VerilogTexts, P>(alloc, TextForm::Verilog, text, main, picker) {
         Ok(written) => Ok(written),
         Err(refusal) => Err(refusal),
     }

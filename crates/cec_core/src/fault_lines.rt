@@ -3,7 +3,7 @@
 ghost use Rattle.std.specs.Prelude.{◌++◌, codes, decimal, flat_map, map};
 ghost use Rattle.est_base.specs.Writing.{Wrote};
 ghost use Rattle.cec_core.specs.Lines.{circuit_fault_text, joined_names, program_fault_text, text_fault_text};
-ghost use Rattle.cec_core.specs.Lines.{trace_text, unknown_text};
+ghost use Rattle.cec_core.specs.Lines.{module_fault_text, trace_text, unknown_text};
 ghost use Rattle.grc_graph.specs.PlainWireNames.{wire_name_of};
 
 use crate::text_faults::TextFault;
@@ -13,6 +13,7 @@ use csub_run::TextFault as ProgramFault;
 use est_base::{Sink, SinkFault, Text, write_pieces};
 use itoa::Buffer;
 use trace_io::TraceFault;
+use vlog_run::TextFault as ModuleFault;
 
 /// The line of a fault of a trace.
 pub(crate) fn put_trace_fault<E: Sink>(err: &mut E, fault: &TraceFault) -> Result<(), SinkFault>
@@ -96,6 +97,7 @@ pub(crate) fn put_text_fault<E: Sink>(err: &mut E, fault: &TextFault) -> Result<
     match fault {
         TextFault::Blif(fault) => put_circuit_fault(err, fault),
         TextFault::C(fault) => put_program_fault(err, fault),
+        TextFault::Verilog(fault) => put_module_fault(err, fault),
     }
 }
 
@@ -134,6 +136,32 @@ fn put_program_fault<E: Sink>(err: &mut E, fault: &ProgramFault) -> Result<(), S
         ProgramFault::Unset(name) => {
             write_pieces(err, &[b"cec: ", b"unset: ", name.bytes(), b"\n"])
         }
+    }
+}
+
+// The line of a fault of a Verilog text.
+fn put_module_fault<E: Sink>(err: &mut E, fault: &ModuleFault) -> Result<(), SinkFault>
+    ensures { Wrote (E.told err.old) (E.told err.new) (E.faults err.old) (E.faults err.new)
+        (codes "cec: " ++ (module_fault_text fault.now ++ codes "\n")) result }
+{
+    match fault {
+        ModuleFault::Syntax(place) => put_numbered(err, b"byte ", *place, b": syntax", b""),
+        ModuleFault::Twice(name) => {
+            write_pieces(err, &[b"cec: ", b"declared twice: ", name.bytes(), b"\n"])
+        }
+        ModuleFault::Port(name) => {
+            write_pieces(err, &[b"cec: ", b"bad port: ", name.bytes(), b"\n"])
+        }
+        ModuleFault::Undeclared(name) => {
+            write_pieces(err, &[b"cec: ", b"undeclared: ", name.bytes(), b"\n"])
+        }
+        ModuleFault::TwoDrivers(name) => {
+            write_pieces(err, &[b"cec: ", b"two drivers: ", name.bytes(), b"\n"])
+        }
+        ModuleFault::NoDriver(name) => {
+            write_pieces(err, &[b"cec: ", b"no driver: ", name.bytes(), b"\n"])
+        }
+        ModuleFault::Loop(names) => put_loop(err, names),
     }
 }
 

@@ -16,6 +16,8 @@ pub(crate) enum TextForm {
     EncodedBlif,
     /// The C subset.
     C,
+    /// Structural Verilog.
+    Verilog,
 }
 
 /// What is made of a source.
@@ -78,6 +80,9 @@ fn request_asked(words: &[String], asked: Asked) -> Request<'_>
             Request::Make(Task::Text(form), source_job(words, source))
         }
         Asked::C(source) => Request::Make(Task::Text(TextForm::C), source_job(words, source)),
+        Asked::Verilog(source) => {
+            Request::Make(Task::Text(TextForm::Verilog), source_job(words, source))
+        }
         Asked::Grc(source) => Request::Make(Task::Grc, source_job(words, source)),
         Asked::Check(source) => Request::Make(Task::Check, source_job(words, source)),
         Asked::Run(via, source, trace) => {
@@ -103,6 +108,7 @@ fn form_by(via: Via, encode: bool) -> TextForm
         Via::Blif if encode => TextForm::EncodedBlif,
         Via::Blif => TextForm::Blif,
         Via::C => TextForm::C,
+        Via::Verilog => TextForm::Verilog,
     }
 }
 

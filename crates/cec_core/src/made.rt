@@ -89,7 +89,7 @@ pub(crate) fn made_in(alloc: Global, form: TextForm, compiled: Compiled) -> Resu
             let net = encoded_net(alloc, &net, &tree)?;
             Ok(Made { program, net })
         }
-        TextForm::Blif | TextForm::C => Ok(Made { program, net }),
+        TextForm::Blif | TextForm::C | TextForm::Verilog => Ok(Made { program, net }),
     }
 }
 

@@ -20,6 +20,8 @@ use est_base::{Limits, Sink};
 use grc_order::Picker;
 use net_ir::Net;
 use std::alloc::Global;
+use vlog_run::VerilogTexts;
+use vlog_text::VlogPieces;
 
 /// A language that netlists are written in, piece by piece. `writes` says which text is written of a netlist, and that
 /// it means the netlist.
@@ -58,6 +60,17 @@ impl Target for CTexts {
 
     fn put<O: Sink>(alloc: Global, net: &Net, out: &mut O) -> Outcome {
         let mut pieces = CPieces::new(net);
+        write_in_pieces(alloc, &mut pieces, out)
+    }
+}
+
+impl Target for VerilogTexts {
+    ghost use Rattle.vlog_run.specs.Texts.{IsWritten};
+
+    ghost writes = { IsWritten };
+
+    fn put<O: Sink>(alloc: Global, net: &Net, out: &mut O) -> Outcome {
+        let mut pieces = VlogPieces::new(net);
         write_in_pieces(alloc, &mut pieces, out)
     }
 }

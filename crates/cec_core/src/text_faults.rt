@@ -2,9 +2,11 @@
 
 ghost use Rattle.std.specs.Prelude.{◌≡◌};
 ghost use Rattle.cec_core.specs.declared.text_faults.TextFault.TheVariants.{Blif as of_blif, C as of_c};
+ghost use Rattle.cec_core.specs.declared.text_faults.TextFault.TheVariants.{Verilog as of_verilog};
 
 use blif_run::TextFault as CircuitFault;
 use csub_run::TextFault as ProgramFault;
+use vlog_run::TextFault as ModuleFault;
 
 /// The first fault of a text that is to be run, by its language.
 #[derive(Debug, Drop)]
@@ -13,6 +15,8 @@ pub enum TextFault {
     Blif(CircuitFault),
     /// Of a text of the C subset.
     C(ProgramFault),
+    /// Of a text of structural Verilog.
+    Verilog(ModuleFault),
 }
 
 impl From<CircuitFault> for TextFault {
@@ -28,5 +32,13 @@ impl From<ProgramFault> for TextFault {
 
     fn from(fault: ProgramFault) -> TextFault {
         TextFault::C(fault)
+    }
+}
+
+impl From<ModuleFault> for TextFault {
+    ghost from_gives = { λ fault told. told ≡ of_verilog fault };
+
+    fn from(fault: ModuleFault) -> TextFault {
+        TextFault::Verilog(fault)
     }
 }

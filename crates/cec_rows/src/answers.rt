@@ -119,9 +119,9 @@ fn told_besides(
     if !is_done_steadily(alloc, block, before, out)? {
         return Ok(", not steadily");
     }
-    if (block.words == " blif m" || block.words == " c m")
-        && !is_text_of(alloc, block.words.trim(), block.source, out)
-    {
+    let words = block.words.trim();
+    let is_text = words == "blif m" || words == "c m" || words == "verilog m";
+    if is_text && !is_text_of(alloc, words, block.source, out) {
         return Ok(", not by one call");
     }
     Ok("")

@@ -3,7 +3,7 @@
 ghost use Rattle.std.specs.Prelude.{◌≤◌, length};
 
 use crate::blocks::{Block, numbers_behind};
-use cec_core::{Refusal, blif_of, c_of, cec, cec_steadily};
+use cec_core::{Refusal, blif_of, c_of, cec, cec_steadily, verilog_of};
 use est_base::{FileEntry, Limits, ListSink, MapFiles, NoMemory, SteadyFiles, SteadySink, Text};
 use grc_order::First;
 use std::alloc::Global;
@@ -67,6 +67,8 @@ fn text_of(alloc: Global, words: &str, source: &[u8]) -> Result<Vec<u8>, Refusal
 {
     if words.starts_with("blif") {
         blif_of(alloc, source, None, &mut First)
+    } else if words.starts_with("verilog") {
+        verilog_of(alloc, source, None, &mut First)
     } else {
         c_of(alloc, source, None, &mut First)
     }

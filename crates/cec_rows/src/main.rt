@@ -26,7 +26,8 @@
 //! The answer to a block is else its number and words, a line with the status and the numbers of bytes, and the bytes
 //! of `out` and `err`. Where `out` is to fail, the command runs once more without that, and the answer says whether
 //! `out` is a beginning of what it has then. Where it is done, it runs once more by `cec_steadily`, and a text of `blif
-//! m` or `c m` is made once more by `blif_of` or `c_of`: the answer says where those write anything else.
+//! m`, `c m` or `verilog m` is made once more by `blif_of`, `c_of` or `verilog_of`: the answer says where those write
+//! anything else.
 #![tactic(auto)]
 
 mod answers;

@@ -169,6 +169,11 @@ run_well g f t (Some (Text vias.C)) = by (source g f).encode
     by : (b : Bool) → IfSome (if b then None else Some (asks.Run vias.C (source g f) t)) AsksWell
     by true = tt
     by false = tt
+run_well g f t (Some (Text vias.Verilog)) = by (source g f).encode
+  where
+    by : (b : Bool) → IfSome (if b then None else Some (asks.Run vias.Verilog (source g f) t)) AsksWell
+    by true = tt
+    by false = tt
 run_well g f t (Some Tri) = by (is_empty g.picks && is_empty g.encodes)
   where
     by : (b : Bool) → IfSome (if b then Some (asks.RunTri (source g f) t) else None) AsksWell
@@ -183,6 +188,7 @@ exec_well f t (Some Tri) = tt
 asked_well : (command : Command) (g : Gathered) → AreGood g → IfSome (asked command g) AsksWell
 asked_well commands.Blif g all = one_well (λ f. asks.Blif (source g f)) (λ f. tt) g.files
 asked_well commands.C g all = one_well (λ f. asks.C (source g f)) (λ f. tt) g.files
+asked_well commands.Verilog g all = one_well (λ f. asks.Verilog (source g f)) (λ f. tt) g.files
 asked_well commands.Grc g all = one_well (λ f. asks.Grc (source g f)) (λ f. tt) g.files
 asked_well commands.Check g all = one_well (λ f. asks.Check (source g f)) (λ f. tt) g.files
 asked_well commands.Run g all =

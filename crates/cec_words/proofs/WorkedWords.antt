@@ -151,7 +151,7 @@ words_43 = refl
 words_44 : asked_by (codes "gen" ∷ codes "--start" ∷ codes "7" ∷ codes "--branches" ∷ codes "--run" ∷ []) ≡ None
 words_44 = refl
 
-words_45 : asked_by (codes "verilog" ∷ codes "a" ∷ []) ≡ None
+words_45 : asked_by (codes "verilog" ∷ codes "a" ∷ []) ≡ Some (asks.Verilog (record { file = 1; main = None; pick = First; encode = false }))
 words_45 = refl
 
 words_46 : asked_by (codes "--main" ∷ codes "m" ∷ codes "blif" ∷ codes "a" ∷ []) ≡ None
@@ -257,3 +257,55 @@ encode_words_15 = refl
 
 encode_words_16 : asked_by (codes "blif" ∷ codes "--encodes" ∷ codes "a" ∷ []) ≡ None
 encode_words_16 = refl
+
+verilog_words_0 : asked_by (codes "verilog" ∷ codes "--main" ∷ codes "m" ∷ codes "--pick" ∷ codes "last" ∷ codes "a" ∷ []) ≡
+    Some (asks.Verilog (record { file = 5; main = Some (record { word = 2; start = 0 }); pick = Last; encode = false }))
+verilog_words_0 = refl
+
+verilog_words_1 : asked_by (codes "verilog" ∷ codes "a" ∷ codes "--pick=7" ∷ []) ≡
+    Some (asks.Verilog (record { file = 1; main = None; pick = (Drawn 7); encode = false }))
+verilog_words_1 = refl
+
+verilog_words_2 : asked_by (codes "verilog" ∷ []) ≡ None
+verilog_words_2 = refl
+
+verilog_words_3 : asked_by (codes "verilog" ∷ codes "a" ∷ codes "b" ∷ []) ≡ None
+verilog_words_3 = refl
+
+verilog_words_4 : asked_by (codes "verilog" ∷ codes "--encode" ∷ codes "a" ∷ []) ≡ None
+verilog_words_4 = refl
+
+verilog_words_5 : asked_by (codes "verilog" ∷ codes "--via=verilog" ∷ codes "a" ∷ []) ≡ None
+verilog_words_5 = refl
+
+verilog_words_6 : asked_by (codes "verilog" ∷ codes "--pick" ∷ codes "x" ∷ codes "a" ∷ []) ≡ None
+verilog_words_6 = refl
+
+verilog_words_7 : asked_by (codes "run" ∷ codes "--via" ∷ codes "verilog" ∷ codes "a" ∷ codes "b" ∷ []) ≡
+    Some (asks.Run vias.Verilog (record { file = 3; main = None; pick = First; encode = false }) 4)
+verilog_words_7 = refl
+
+verilog_words_8 : asked_by (codes "run" ∷ codes "a" ∷ codes "--via=verilog" ∷ codes "--pick" ∷ codes "last" ∷ codes "b" ∷ codes "--main=m" ∷ []) ≡
+    Some (asks.Run vias.Verilog (record { file = 1; main = Some (record { word = 6; start = 7 }); pick = Last; encode = false }) 5)
+verilog_words_8 = refl
+
+verilog_words_9 : asked_by (codes "run" ∷ codes "--via=verilog" ∷ codes "--encode" ∷ codes "a" ∷ codes "b" ∷ []) ≡ None
+verilog_words_9 = refl
+
+verilog_words_10 : asked_by (codes "run" ∷ codes "--via" ∷ codes "verilog" ∷ codes "a" ∷ []) ≡ None
+verilog_words_10 = refl
+
+verilog_words_11 : asked_by (codes "run" ∷ codes "--via=verilo" ∷ codes "a" ∷ codes "b" ∷ []) ≡ None
+verilog_words_11 = refl
+
+verilog_words_12 : asked_by (codes "exec" ∷ codes "--via" ∷ codes "verilog" ∷ codes "a" ∷ codes "b" ∷ []) ≡ Some (asks.Exec vias.Verilog 3 4)
+verilog_words_12 = refl
+
+verilog_words_13 : asked_by (codes "exec" ∷ codes "--via=verilog" ∷ codes "--pick=first" ∷ codes "a" ∷ codes "b" ∷ []) ≡ None
+verilog_words_13 = refl
+
+verilog_words_14 : asked_by (codes "exec" ∷ codes "--via=verilog" ∷ codes "--encode" ∷ codes "a" ∷ codes "b" ∷ []) ≡ None
+verilog_words_14 = refl
+
+verilog_words_15 : asked_by (codes "blif" ∷ codes "--via" ∷ codes "verilog" ∷ codes "a" ∷ []) ≡ None
+verilog_words_15 = refl

@@ -24,7 +24,8 @@ use Rattle.cec_words.specs.Numbers.{number}
 
 abbrev pub command_of : List ℕ → Option Command
 command_of word =
-    if is_same_name word (codes "blif") then Some commands.Blif
+    if is_same_name word (codes "verilog") then Some commands.Verilog
+    else if is_same_name word (codes "blif") then Some commands.Blif
     else if is_same_name word (codes "c") then Some commands.C
     else if is_same_name word (codes "grc") then Some commands.Grc
     else if is_same_name word (codes "check") then Some commands.Check
@@ -37,6 +38,7 @@ command_of word =
 abbrev pub options : Command → List Setting
 options commands.Blif = settings.Main ∷ settings.Pick ∷ settings.Encode ∷ []
 options commands.C = settings.Main ∷ settings.Pick ∷ []
+options commands.Verilog = settings.Main ∷ settings.Pick ∷ []
 options commands.Grc = settings.Main ∷ []
 options commands.Check = settings.Main ∷ []
 options commands.Run = settings.Via ∷ settings.Main ∷ settings.Pick ∷ settings.Encode ∷ []
@@ -79,7 +81,8 @@ named (setting ∷ more) word = or_else (spelling_of setting word) (named more w
 
 abbrev pub way_of : List ℕ → Option Way
 way_of value =
-    if is_same_name value (codes "blif") then Some (Text vias.Blif)
+    if is_same_name value (codes "verilog") then Some (Text vias.Verilog)
+    else if is_same_name value (codes "blif") then Some (Text vias.Blif)
     else if is_same_name value (codes "c") then Some (Text vias.C)
     else if is_same_name value (codes "tri") then Some Tri
     else None

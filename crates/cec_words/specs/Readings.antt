@@ -118,6 +118,7 @@ exec_asked Tri text trace = None
 abbrev pub asked : Command → Gathered → Option Asked
 asked commands.Blif g = on_one (λ f. asks.Blif (source g f)) g.files
 asked commands.C g = on_one (λ f. asks.C (source g f)) g.files
+asked commands.Verilog g = on_one (λ f. asks.Verilog (source g f)) g.files
 asked commands.Grc g = on_one (λ f. asks.Grc (source g f)) g.files
 asked commands.Check g = on_one (λ f. asks.Check (source g f)) g.files
 asked commands.Run g = on_two (λ f t. option_and_then (λ w. run_asked g w f t) (head g.vias)) g.files

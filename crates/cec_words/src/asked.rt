@@ -5,6 +5,7 @@
 pub enum Via {
     Blif,
     C,
+    Verilog,
 }
 
 /// Which of the wires that are ready is placed next in the order of evaluation.
@@ -42,6 +43,8 @@ pub enum Asked {
     Blif(Source),
     /// The C text of a source.
     C(Source),
+    /// The Verilog text of a source.
+    Verilog(Source),
     /// The listing of a source's graph.
     Grc(Source),
     /// The line of counts of a source.

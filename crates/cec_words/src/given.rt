@@ -104,6 +104,7 @@ impl Given {
         match command {
             Command::Blif => Some(Asked::Blif(self.source(self.one_file()?))),
             Command::C => Some(Asked::C(self.source(self.one_file()?))),
+            Command::Verilog => Some(Asked::Verilog(self.source(self.one_file()?))),
             Command::Grc => Some(Asked::Grc(self.source(self.one_file()?))),
             Command::Check => Some(Asked::Check(self.source(self.one_file()?))),
             Command::Run => {
@@ -145,7 +146,7 @@ impl Given {
         ensures { result ≡ run_asked (slots self) way file trace }
     {
         match way {
-            Way::Text(Via::C) if self.encode => None,
+            Way::Text(Via::C | Via::Verilog) if self.encode => None,
             Way::Text(via) => Some(Asked::Run(via, self.source(file), trace)),
             Way::Tri if self.pick.is_none() && !self.encode => Some(Asked::RunTri(
                 self.source(file),

@@ -1,6 +1,7 @@
 // What one word says.
 
-ghost use Rattle.std.specs.Prelude.{◌≡◌, IfSome};
+ghost use Rattle.std.specs.Prelude.{◌≡◌, codes, IfSome};
+ghost use Rattle.est_base.specs.Names.{is_same_name};
 ghost use Rattle.cec_words.specs.Commands.{command_of, options, option_name, spelling_of, named, is_plain, way_of};
 ghost use Rattle.cec_words.specs.Commands.{pick_of, part_of, step_of};
 ghost use Rattle.cec_words.specs.Spellings.{IsWithin};
@@ -14,6 +15,7 @@ use est_base::Limits;
 pub enum Command {
     Blif,
     C,
+    Verilog,
     Grc,
     Check,
     Run,
@@ -71,6 +73,9 @@ pub enum Step {
 pub fn command_of(word: &[u8]) -> Option<Command>
     ensures { result ≡ command_of word.now }
 {
+    if is_verilog(word) {
+        return Some(Command::Verilog);
+    }
     match word {
         b"blif" => Some(Command::Blif),
         b"c" => Some(Command::C),
@@ -123,7 +128,7 @@ fn options(command: Command) -> &'static [Setting]
 {
     match command {
         Command::Blif => &[Setting::Main, Setting::Pick, Setting::Encode],
-        Command::C => &[Setting::Main, Setting::Pick],
+        Command::C | Command::Verilog => &[Setting::Main, Setting::Pick],
         Command::Grc | Command::Check => &[Setting::Main],
         Command::Run => &[Setting::Via, Setting::Main, Setting::Pick, Setting::Encode],
         Command::Exec => &[Setting::Via],
@@ -200,12 +205,23 @@ fn part_of(setting: Setting, value: Value, bytes: &[u8]) -> Option<Part>
 fn way_of(bytes: &[u8]) -> Option<Way>
     ensures { result ≡ way_of bytes.now }
 {
+    if is_verilog(bytes) {
+        return Some(Way::Text(Via::Verilog));
+    }
     match bytes {
         b"blif" => Some(Way::Text(Via::Blif)),
         b"c" => Some(Way::Text(Via::C)),
         b"tri" => Some(Way::Tri),
         _ => None,
     }
+}
+
+const VERILOG: &[u8] = b"verilog";
+
+fn is_verilog(word: &[u8]) -> bool
+    ensures { result ≡ is_same_name word.now (codes "verilog") }
+{
+    word == VERILOG
 }
 
 fn pick_of(bytes: &[u8]) -> Option<Pick>

@@ -1,4 +1,4 @@
--- Contract: combinational cycles of a module, and what is asked of a module that is run.
+-- To believe: combinational cycles of a module, and what is asked of a module that is run.
 use Rattle.std.specs.Prelude.{ℕ, List, map}
 use Rattle.expr_text.specs.Names.{names_in}
 use Rattle.expr_text.specs.Trees.{Expr}

@@ -1,4 +1,4 @@
--- Contract: what a module shows over items, as lines tell it. The names of the inputs besides the clock and of the
+-- To believe: what a module shows over items, as lines tell it. The names of the inputs besides the clock and of the
 -- outputs are those behind their signs. A last output `paused` is not listed, and its value gives the word; where there
 -- is none, there is no word.
 use Rattle.std.specs.Prelude.{ℕ, ◌-◌, Bool, false, if◌then◌else◌, List, [], length, map, take, drop, slice_index_or}

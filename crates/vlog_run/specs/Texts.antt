@@ -1,5 +1,5 @@
--- Contract: texts of structural Verilog as a language: which can be run, which fault is the first, and what is written
--- of a netlist.
+-- To believe: texts of structural Verilog as a language: which can be run, which fault is the first, and what is
+-- written of a netlist.
 use Rattle.std.specs.Prelude.{◌≡◌, ℕ, List}
 use Rattle.net_ir.specs.Netlists.{Netlist}
 use Rattle.vlog_read.specs.Faults.{ReadsAs, IsSyntaxFault, IsNameFault}

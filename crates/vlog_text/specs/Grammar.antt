@@ -1,4 +1,4 @@
--- Contract: the grammar of the subset, as a relation between whole lists of tokens and what is written. In words:
+-- To believe: the grammar of the subset, as a relation between whole lists of tokens and what is written. In words:
 --
 --   text   = "module" NAME "(" NAME { "," NAME } ")" ";" { decl } { init } { assign }
 --            "always" "@" "(" "posedge" NAME ")" "begin" { NAME "<=" NAME ";" } "end" "endmodule"

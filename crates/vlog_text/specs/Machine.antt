@@ -1,4 +1,4 @@
--- Contract: the meaning of a module, its machine over items. A valuation says of every name whether it is true, and
+-- To believe: the meaning of a module, its machine over items. A valuation says of every name whether it is true, and
 -- a run is a list of valuations, one for each event. An event is a rising edge of the clock; a reset, which the text
 -- does not have, begins a new run.
 use Rattle.std.specs.Prelude.{◌≡◌, ℕ, Bool, List, ◌++◌, map, drop}

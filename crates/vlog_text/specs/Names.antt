@@ -1,4 +1,4 @@
--- Contract: the rules on names. The first rule that is broken counts, at its first place in the text.
+-- To believe: the rules on names. The first rule that is broken counts, at its first place in the text.
 use Rattle.std.specs.Prelude.{ℕ, Bool, true, false, not, ◌&&◌, ◌||◌, List, [], ◌∷◌, ◌++◌, map, flat_map, find, filter}
 use Rattle.std.specs.Prelude.{Option, Some, None, take, codes, length, nat_lt, if◌then◌else◌}
 use Rattle.est_base.specs.Names.{is_same_name}

@@ -1,4 +1,4 @@
--- Contract: which module a text describes.
+-- To believe: which module a text describes.
 use Rattle.std.specs.Prelude.{◌≡◌, ℕ, Bool, false, List, [], ◌∷◌, map, None, if◌then◌else◌}
 use Rattle.est_base.specs.Names.{is_same_name}
 use Rattle.expr_text.specs.Trees.{Expr}

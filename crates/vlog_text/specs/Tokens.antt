@@ -1,4 +1,4 @@
--- Contract: the tokens of a text, each as long as it can be. Spaces and comments are none. The words, marks and
+-- To believe: the tokens of a text, each as long as it can be. Spaces and comments are none. The words, marks and
 -- comments are those of Verilog (IEEE 1364).
 use Rattle.std.specs.Prelude.{ℕ, ◌+◌, ◌==◌, Bool, not, ◌&&◌, List, [], ◌∷◌, take, codes, map}
 use Rattle.std.specs.Prelude.{Option, Some, None, if◌then◌else◌}

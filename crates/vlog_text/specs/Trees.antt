@@ -1,4 +1,4 @@
--- Contract: what a text says as a plain tree, and the module that it stands for.
+-- To believe: what a text says as a plain tree, and the module that it stands for.
 use Rattle.std.specs.Prelude.{ℕ, Bool, List}
 use Rattle.expr_text.specs.Trees.{Expr}
 

@@ -1,4 +1,4 @@
--- Contract: the source that stands for a net, its text, and what the text means. Input X of the net is the input
+-- To believe: the source that stands for a net, its text, and what the text means. Input X of the net is the input
 -- `i_X`, output X the output `o_X`, and whether the program is still active the output `paused`. Latch J is the reg
 -- `sJ`, and gate K the wire `wN` where it carries wire N of the graph, else `gK`.
 use Rattle.std.specs.Prelude.{◌≡◌, ℕ, Bool, true, false, List, [], ◌∷◌, ◌++◌, length}

@@ -22,6 +22,7 @@ use csub_run::CTexts;
 use est_base::{Files, Limits, Sink, Stop};
 use std::alloc::Global;
 use trace_run::{Language, RunFault, run_text};
+use vlog_run::VerilogTexts;
 
 /// Runs the text in a file over the trace in another, and says how it ended.
 pub(crate) fn exec_text<F: Files, O: Sink, E: Sink>(
@@ -97,6 +98,7 @@ fn exec_bytes<F: Files, O: Sink>(
     match via {
         Via::Blif => exec_in::<BlifTexts, F, O>(alloc, text, trace, files, out),
         Via::C => exec_in::<CTexts, F, O>(alloc, text, trace, files, out),
+        Via::Verilog => exec_in::<VerilogTexts, F, O>(alloc, text, trace, files, out),
     }
 }
 

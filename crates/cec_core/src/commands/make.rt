@@ -24,6 +24,7 @@ use csub_run::CTexts;
 use est_base::{Draw, FileFault, Files, Limits, Sink};
 use grc_order::{Drawn, First, Last};
 use std::alloc::Global;
+use vlog_run::VerilogTexts;
 
 /// Does a task on the source in a file, and says how it ended.
 pub(crate) fn make_text<F: Files, O: Sink, E: Sink>(
@@ -121,6 +122,7 @@ fn write_form<O: Sink>(
         TextForm::Blif => write_text::<BlifTexts, O>(alloc, form, job, source, out),
         TextForm::EncodedBlif => write_text::<BlifTexts, O>(alloc, form, job, source, out),
         TextForm::C => write_text::<CTexts, O>(alloc, form, job, source, out),
+        TextForm::Verilog => write_text::<VerilogTexts, O>(alloc, form, job, source, out),
     }
 }
 

@@ -14,10 +14,11 @@ use std::alloc::Global;
 
 const HELP: &[u8] = b"cec blif [--main M] [--pick P] [--encode] FILE
 cec c [--main M] [--pick P] FILE
+cec verilog [--main M] [--pick P] FILE
 cec grc [--main M] FILE
 cec check [--main M] FILE
-cec run --via blif|c|tri [--main M] [--pick P] [--encode] FILE TRACE
-cec exec --via blif|c TEXT TRACE
+cec run --via blif|c|verilog|tri [--main M] [--pick P] [--encode] FILE TRACE
+cec exec --via blif|c|verilog TEXT TRACE
 cec gen --start N --branches N [--run N]
 ";
 

@@ -35,6 +35,8 @@ use est_base::{Files, Limits, NoMemory, Sink};
 use net_ir::Net;
 use std::alloc::Global;
 use trace_run::{RunFault, net_interface, run_written};
+use vlog_run::VerilogTexts;
+use vlog_text::write_verilog;
 
 /// Runs the source in a file over the trace in another, and says how it ended.
 pub(crate) fn run_file<F: Files, O: Sink, E: Sink>(
@@ -70,7 +72,7 @@ pub(crate) fn run_file<F: Files, O: Sink, E: Sink>(
 }
 
 // Runs a source over the trace in a file: its text is written into memory, and read again. No text is too long for
-// that but one whose latches hold the state in a code.
+// that but one whose latches hold the state in a code, or one in Verilog, which names each input where it is read.
 fn source_run<F: Files, O: Sink>(
     alloc: Global,
     via: TextForm,
@@ -131,6 +133,7 @@ fn net_text(alloc: Global, via: TextForm, net: &Net) -> Result<Vec<u8>, NoMemory
     match via {
         TextForm::Blif | TextForm::EncodedBlif => write_blif(alloc, net),
         TextForm::C => write_c(alloc, net),
+        TextForm::Verilog => write_verilog(alloc, net),
     }
 }
 
@@ -164,5 +167,8 @@ fn run_made<O: Sink>(
             run_written::<BlifTexts, O>(alloc, &net, text, interface, trace, out)
         }
         TextForm::C => run_written::<CTexts, O>(alloc, &net, text, interface, trace, out),
+        TextForm::Verilog => {
+            run_written::<VerilogTexts, O>(alloc, &net, text, interface, trace, out)
+        }
     }
 }

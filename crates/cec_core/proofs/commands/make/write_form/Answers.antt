@@ -1,12 +1,13 @@
 use Rattle.est_base.specs.SinkChanges.{change}
 use Rattle.blif_run.specs.Texts as circuits
 use Rattle.csub_run.specs.Texts as programs
+use Rattle.vlog_run.specs.Texts as modules
 use Rattle.cec_core.specs.Answers.{IsAnswer}
 use Rattle.cec_core.specs.MadeNets.{IsWrittenOf}
 use Rattle.cec_core.specs.JobViews.{plain_job}
 use Rattle.cec_core.specs.declared.jobs.Task.TheVariants.{Text}
-use Rattle.cec_core.specs.declared.jobs.TextForm.TheVariants.{Blif, EncodedBlif, C}
-use Rattle.cec_core.proofs.NetTexts.{blif_answers, encoded_answers, c_answers}
+use Rattle.cec_core.specs.declared.jobs.TextForm.TheVariants.{Blif, EncodedBlif, C, Verilog}
+use Rattle.cec_core.proofs.NetTexts.{blif_answers, encoded_answers, c_answers, verilog_answers}
 use Rattle.cec_core.proofs.Pieces.{pieces_as}
 use Rattle.cec_core.proofs.commands.make.write_form.Goals as goal
 
@@ -33,3 +34,11 @@ returns-in-C-clause-out g c =
     (pieces_as (IsWrittenOf C programs.IsWritten c.args.source.now main) (IsAnswer (Text C) main c.args.source.now)
     (change g.O.Sink.told g.O.Sink.faults c.args.out.now c.write_text-in-C.new.out) c.write_text-in-C.result (c_answers c.args.source.now main)
     (rw (← c.in-C.is) c.write_text-in-C.ensures.out))
+
+pub returns-in-Verilog-clause-out : goal.returns-in-Verilog-clause-out
+returns-in-Verilog-clause-out g c =
+    let main = (plain_job c.args.job).main in
+    rw c.in-Verilog.is
+    (pieces_as (IsWrittenOf Verilog modules.IsWritten c.args.source.now main) (IsAnswer (Text Verilog) main c.args.source.now)
+    (change g.O.Sink.told g.O.Sink.faults c.args.out.now c.write_text-in-Verilog.new.out) c.write_text-in-Verilog.result
+    (verilog_answers c.args.source.now main) (rw (← c.in-Verilog.is) c.write_text-in-Verilog.ensures.out))
