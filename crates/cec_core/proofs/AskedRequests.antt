@@ -1,5 +1,5 @@
 -- What words ask for can be generated.
-use Rattle.std.proofs.Common.{◌≡◌, ℕ, List, Option, Some, None, subst}
+use Rattle.std.proofs.Common.{◌≡◌, ℕ, List, Some, None, subst}
 use Rattle.std.specs.Prelude.{IfSome}
 use Rattle.cec_words.specs.declared.asked.Asked.{Asked}
 use Rattle.cec_words.specs.declared.asked.Asked.TheVariants as asks

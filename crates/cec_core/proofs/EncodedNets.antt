@@ -1,11 +1,10 @@
 -- The netlist of a compiled program whose latches hold the state in a code keeps what the program means.
-use Rattle.std.proofs.Common.{◌≡◌, ℕ, ◌+◌, ◌*◌, ◌<◌, ◌≤◌, true, false, List, [], ◌∷◌, length, map, Option, Some, refl, sym, ap, ◌∙◌, subst, arith}
+use Rattle.std.proofs.Common.{◌≡◌, ℕ, ◌+◌, ◌*◌, ◌<◌, ◌≤◌, true, false, List, [], ◌∷◌, length, map, Option, refl, sym, ap, ◌∙◌, subst, arith}
 use Rattle.std.specs.Prelude.{Contains, replicate}
 use Rattle.std.proofs.lemmas.List.{length-map, length-replicate}
 use Rattle.est_base.specs.Items.{Item, EachEvent}
 use Rattle.est_kernel.specs.Plain.{Program, given_count}
 use Rattle.est_kernel.specs.Terms.{Term}
-use Rattle.grc_graph.specs.declared.graph.Graph.{Graph}
 use Rattle.grc_graph.specs.GraphRuns.{program_wires}
 use Rattle.grc_graph.specs.SelectionTrees.{body_leaves, body_tree}
 use Rattle.grc_graph.specs.TreeForms.{node_of}
@@ -14,7 +13,6 @@ use Rattle.grc_sem.proofs.Instants.{next_state_is_kept_lem}
 use Rattle.grc_sem.proofs.Runs.{program_kernel}
 use Rattle.grc_solutions.proofs.OneRun.{graph_runs_exist_lem}
 use Rattle.enc_laws.proofs.FormedLatches.{latches-formed}
-use Rattle.net_gen.specs.Generated.{HasInterfaceOf}
 use Rattle.net_ir.specs.Gates.{carried}
 use Rattle.net_ir.specs.Netlists.{Netlist, output_names}
 use Rattle.net_ir.specs.Runs.{netlist_of, initial_latches}
@@ -29,7 +27,6 @@ use Rattle.cec_core.specs.declared.compiler.Compiled.{Compiled}
 use Rattle.cec_core.specs.Compiling.{IsCompiled, StandsForNet}
 use Rattle.cec_core.specs.EncodedTexts.{IsEncoded, StandsForEncoded}
 use Rattle.cec_core.specs.Following.{FollowsGraph}
-use Rattle.cec_core.specs.Meaning.{AreItems}
 use Rattle.cec_core.specs.NetMeaning.{NetKeeps}
 use Rattle.cec_core.specs.WireNames.{TextNames}
 use Rattle.cec_core.proofs.Joined.{kernel_of, given-few, wires_carried, inputs_wide}

@@ -33,7 +33,7 @@ use Rattle.vlog_text.specs.Written.{input_name, output_name}
 use Rattle.std.specs.Prelude.{codes}
 use Rattle.cec_core.specs.Cycles.{IsAcyclic}
 use Rattle.cec_core.specs.Meaning.{AreItems, Seen, seen_of, outgoing_words, circuit_seen, TextKeeps, call_seen, CTextKeeps}
-use Rattle.cec_core.specs.Meaning.{module_seen, output_wires, VerilogTextKeeps}
+use Rattle.cec_core.specs.Meaning.{output_wires, VerilogTextKeeps}
 use Rattle.cec_core.specs.NetMeaning.{net_seen, NetKeeps}
 
 -- each event has a truth value per given signal

@@ -1,7 +1,7 @@
 -- A text that is written of a source is no longer than can be read.
-use Rattle.std.proofs.Common.{◌≡◌, ℕ, false, ◌+◌, ◌*◌, ◌^◌, ◌<◌, ◌≤◌, List, [], ◌∷◌, length, map, take, drop, Option, Some, None, sym, ap}
+use Rattle.std.proofs.Common.{◌≡◌, ℕ, false, ◌+◌, ◌*◌, ◌^◌, ◌<◌, ◌≤◌, List, [], ◌∷◌, length, map, drop, Option, Some, None, sym, ap}
 use Rattle.std.proofs.Common.{◌∙◌, subst, arith, All}
-use Rattle.std.specs.Prelude.{IfSome, option_map, ⊤}
+use Rattle.std.specs.Prelude.{IfSome, option_map}
 use Rattle.std.specs.List.{sum_by, cons_option}
 use Rattle.std.proofs.lemmas.List.{length-map, length-take, length-drop}
 use Rattle.std.proofs.lemmas.List.Elements.{All-nil, All-cons, All-head, All-tail, All-map, All-weaker}
@@ -9,13 +9,10 @@ use Rattle.std.proofs.lemmas.List.Sums.{sum_by-cons}
 use Rattle.est_base.specs.declared.bounds.TheConstants.Limits.{SOURCE_BYTES, TEXT_BYTES, SIGNALS, KERNEL_NODES, WIRES}
 use Rattle.est_base.specs.declared.indices.WireId.{WireId}
 use Rattle.est_base.specs.Relations.{Relation, relation_of}
-use Rattle.est_kernel.specs.Plain.{Program, given_count, outgoing_count, given_names, outgoing_names}
-use Rattle.est_kernel.specs.Preorder.{statement_count}
-use Rattle.est_kernel.specs.Sizes.{size_of}
+use Rattle.est_kernel.specs.Plain.{Program, given_count, outgoing_count}
 use Rattle.grc_graph.specs.SelectionTrees.{body_leaves, resumes}
 use Rattle.grc_graph.proofs.CodeReads.{statement_count-le}
 use Rattle.grc_select.proofs.Growth.{length-leaf_paths}
-use Rattle.net_gen.specs.Costs.{linear_bound}
 use Rattle.net_ir.specs.declared.netlist.Gate.{Gate}
 use Rattle.net_ir.specs.Gates.{carried}
 use Rattle.net_ir.specs.Netlists.{Netlist, output_names}

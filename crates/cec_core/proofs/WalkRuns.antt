@@ -1,5 +1,5 @@
 -- A run of a program's graph is its walk from instant to instant.
-use Rattle.std.proofs.Common.{◌≡◌, ℕ, List, [], ◌∷◌, length, ap, subst}
+use Rattle.std.proofs.Common.{◌≡◌, List, [], ◌∷◌, length, ap, subst}
 use Rattle.est_base.specs.Items.{Item, Event, Reset, EachEvent}
 use Rattle.est_kernel.specs.Plain.{Program, given_count}
 use Rattle.est_kernel.specs.StaticCodes.{NoInstantLoop}

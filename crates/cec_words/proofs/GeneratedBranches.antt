@@ -11,18 +11,12 @@ use Rattle.cec_words.specs.declared.asked.Asked.TheVariants as asks
 use Rattle.cec_words.specs.declared.asked.Source.{Source}
 use Rattle.cec_words.specs.declared.asked.Value.{Value}
 use Rattle.cec_words.specs.declared.asked.Via.TheVariants as vias
-use Rattle.cec_words.specs.declared.steps.Command.{Command}
-use Rattle.cec_words.specs.declared.steps.Command.TheVariants as commands
-use Rattle.cec_words.specs.declared.steps.Part.{Part}
-use Rattle.cec_words.specs.declared.steps.Part.TheVariants as parts
-use Rattle.cec_words.specs.declared.steps.Setting.{Setting}
-use Rattle.cec_words.specs.declared.steps.Setting.TheVariants as settings
-use Rattle.cec_words.specs.declared.steps.Spelling.{Spelling}
-use Rattle.cec_words.specs.declared.steps.Spelling.TheVariants.{Bare, Valued}
-use Rattle.cec_words.specs.declared.steps.Step.{Step}
-use Rattle.cec_words.specs.declared.steps.Step.TheVariants.{Waits, Ends}
-use Rattle.cec_words.specs.declared.steps.Way.{Way}
-use Rattle.cec_words.specs.declared.steps.Way.TheVariants.{Text, Tri}
+use Rattle.cec_words.specs.CommandNames as commands
+use Rattle.cec_words.specs.CommandNames.{Command}
+use Rattle.cec_words.specs.OptionNames as settings
+use Rattle.cec_words.specs.OptionNames.{Setting}
+use Rattle.cec_words.specs.Parts as parts
+use Rattle.cec_words.specs.Parts.{Spelling, Bare, Valued, Part, Step, Waits, Ends, Way, Text, Tri}
 use Rattle.cec_words.specs.Commands.{command_of, options, is_plain, way_of, pick_of, named, number_within, part_of, spelled_step, step_of}
 use Rattle.cec_words.specs.Numbers.{number, is_empty}
 use Rattle.cec_words.specs.Readings.{Gathered, with_part, after_step, gathered, head, each_once, source, run_asked, exec_asked, on_one, on_two, asked}

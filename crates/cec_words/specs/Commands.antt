@@ -8,18 +8,12 @@ use Rattle.cec_words.specs.declared.asked.Via.TheVariants as vias
 use Rattle.cec_words.specs.declared.asked.Pick.{Pick}
 use Rattle.cec_words.specs.declared.asked.Pick.TheVariants.{First, Last, Drawn}
 use Rattle.cec_words.specs.declared.asked.Value.{Value}
-use Rattle.cec_words.specs.declared.steps.Command.{Command}
-use Rattle.cec_words.specs.declared.steps.Command.TheVariants as commands
-use Rattle.cec_words.specs.declared.steps.Setting.{Setting}
-use Rattle.cec_words.specs.declared.steps.Setting.TheVariants as settings
-use Rattle.cec_words.specs.declared.steps.Spelling.{Spelling}
-use Rattle.cec_words.specs.declared.steps.Spelling.TheVariants.{Bare, Valued}
-use Rattle.cec_words.specs.declared.steps.Part.{Part}
-use Rattle.cec_words.specs.declared.steps.Part.TheVariants as parts
-use Rattle.cec_words.specs.declared.steps.Step.{Step}
-use Rattle.cec_words.specs.declared.steps.Step.TheVariants.{Waits, Ends}
-use Rattle.cec_words.specs.declared.steps.Way.{Way}
-use Rattle.cec_words.specs.declared.steps.Way.TheVariants.{Text, Tri}
+use Rattle.cec_words.specs.CommandNames as commands
+use Rattle.cec_words.specs.CommandNames.{Command}
+use Rattle.cec_words.specs.OptionNames as settings
+use Rattle.cec_words.specs.OptionNames.{Setting, option_name}
+use Rattle.cec_words.specs.Parts as parts
+use Rattle.cec_words.specs.Parts.{Spelling, Bare, Valued, Part, Step, Waits, Ends, Way, Text, Tri}
 use Rattle.cec_words.specs.Numbers.{number}
 
 abbrev pub command_of : List ℕ → Option Command
@@ -44,15 +38,6 @@ options commands.Check = settings.Main ∷ []
 options commands.Run = settings.Via ∷ settings.Main ∷ settings.Pick ∷ settings.Encode ∷ []
 options commands.Exec = settings.Via ∷ []
 options commands.Gen = settings.Start ∷ settings.Branches ∷ settings.Run ∷ []
-
-abbrev pub option_name : Setting → List ℕ
-option_name settings.Via = codes "--via"
-option_name settings.Main = codes "--main"
-option_name settings.Pick = codes "--pick"
-option_name settings.Start = codes "--start"
-option_name settings.Branches = codes "--branches"
-option_name settings.Run = codes "--run"
-option_name settings.Encode = codes "--encode"
 
 -- a file, or a value in a word of its own: not empty, and its first byte is not `-`
 abbrev pub is_plain : List ℕ → Bool

@@ -1,5 +1,9 @@
 pub mod Numbers
+pub mod CommandNames
+pub mod OptionNames
+pub mod Parts
 pub mod Commands
+pub mod Views
 pub mod Spellings
 pub mod Readings
 pub mod Slots

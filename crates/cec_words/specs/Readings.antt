@@ -10,15 +10,11 @@ use Rattle.cec_words.specs.declared.asked.Value.{Value}
 use Rattle.cec_words.specs.declared.asked.Source.{Source}
 use Rattle.cec_words.specs.declared.asked.Asked.{Asked}
 use Rattle.cec_words.specs.declared.asked.Asked.TheVariants as asks
-use Rattle.cec_words.specs.declared.steps.Command.{Command}
-use Rattle.cec_words.specs.declared.steps.Command.TheVariants as commands
-use Rattle.cec_words.specs.declared.steps.Setting.{Setting}
-use Rattle.cec_words.specs.declared.steps.Part.{Part}
-use Rattle.cec_words.specs.declared.steps.Part.TheVariants as parts
-use Rattle.cec_words.specs.declared.steps.Step.{Step}
-use Rattle.cec_words.specs.declared.steps.Step.TheVariants.{Waits, Ends}
-use Rattle.cec_words.specs.declared.steps.Way.{Way}
-use Rattle.cec_words.specs.declared.steps.Way.TheVariants.{Text, Tri}
+use Rattle.cec_words.specs.CommandNames as commands
+use Rattle.cec_words.specs.CommandNames.{Command}
+use Rattle.cec_words.specs.OptionNames.{Setting}
+use Rattle.cec_words.specs.Parts as parts
+use Rattle.cec_words.specs.Parts.{Part, Step, Waits, Ends, Way, Text, Tri}
 use Rattle.cec_words.specs.Numbers.{is_empty}
 use Rattle.cec_words.specs.Commands.{command_of, step_of}
 

@@ -3,6 +3,7 @@
 ghost use Rattle.std.specs.Prelude.{◌≡◌, MatchOption};
 ghost use Rattle.cec_words.specs.Readings.{nothing, asked_once, exec_asked, run_asked, source};
 ghost use Rattle.cec_words.specs.Slots.{slots, only_file, both_files, Fills, Overfills};
+ghost use Rattle.cec_words.specs.Views.{plain_command, plain_way};
 
 use crate::asked::{Asked, Pick, Source, Value, Via};
 use crate::steps::{Command, Part, Way};
@@ -99,7 +100,7 @@ impl Given {
 
     // What a command with these files and options asks for.
     pub fn asked(self, command: Command) -> Option<Asked>
-        ensures { result ≡ asked_once command (slots self) }
+        ensures { result ≡ asked_once (plain_command command) (slots self) }
     {
         match command {
             Command::Blif => Some(Asked::Blif(self.source(self.one_file()?))),
@@ -143,7 +144,7 @@ impl Given {
     // A run of a source by what `--via` says. Only a BLIF text has an encoded state, and three-valued reactions
     // have no order of evaluation to choose.
     fn run_asked(self, way: Way, file: usize, trace: usize) -> Option<Asked>
-        ensures { result ≡ run_asked (slots self) way file trace }
+        ensures { result ≡ run_asked (slots self) (plain_way way) file trace }
     {
         match way {
             Way::Text(Via::C | Via::Verilog) if self.encode => None,
@@ -170,7 +171,7 @@ impl Given {
 
 // A run of a text, which is of some form.
 fn exec_asked(way: Way, text: usize, trace: usize) -> Option<Asked>
-    ensures { result ≡ exec_asked way text trace }
+    ensures { result ≡ exec_asked (plain_way way) text trace }
 {
     match way {
         Way::Text(via) => Some(Asked::Exec(via, text, trace)),

@@ -4,6 +4,7 @@ ghost use Rattle.std.specs.Prelude.{◌≡◌, map, option_and_then, None, Match
 ghost use Rattle.std.specs.String.{string_bytes};
 ghost use Rattle.cec_words.specs.Readings.{asked_by, asked_once, gathered};
 ghost use Rattle.cec_words.specs.Slots.{slots, HasNoMeaning, Takes};
+ghost use Rattle.cec_words.specs.Views.{plain_command};
 
 use crate::asked::Asked;
 use crate::given::Given;
@@ -28,8 +29,9 @@ pub fn read_words(words: &[String]) -> Option<Asked>
 
 // The files and options of the words behind a command, where they may have a meaning.
 fn given(command: Command, words: &[String]) -> Option<Given>
-    ensures { option_and_then (asked_once command) (gathered command None 1 (map string_bytes words.now))
-        ≡ option_and_then (λ g. asked_once command (slots g)) result }
+    ensures { option_and_then (asked_once (plain_command command))
+        (gathered (plain_command command) None 1 (map string_bytes words.now))
+        ≡ option_and_then (λ g. asked_once (plain_command command) (slots g)) result }
 {
     let mut reader = Reader {
         given: Given::none(),

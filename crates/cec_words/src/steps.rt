@@ -1,10 +1,13 @@
 // What one word says.
 
-ghost use Rattle.std.specs.Prelude.{◌≡◌, codes, IfSome};
+ghost use Rattle.std.specs.Prelude.{◌≡◌, codes, map, option_map, IfSome};
 ghost use Rattle.est_base.specs.Names.{is_same_name};
-ghost use Rattle.cec_words.specs.Commands.{command_of, options, option_name, spelling_of, named, is_plain, way_of};
+ghost use Rattle.cec_words.specs.Commands.{command_of, options, spelling_of, named, is_plain, way_of};
 ghost use Rattle.cec_words.specs.Commands.{pick_of, part_of, step_of};
+ghost use Rattle.cec_words.specs.OptionNames.{option_name};
 ghost use Rattle.cec_words.specs.Spellings.{IsWithin};
+ghost use Rattle.cec_words.specs.Views.{plain_command, plain_setting, plain_spelling, plain_way, plain_part};
+ghost use Rattle.cec_words.specs.Views.{plain_step};
 
 use crate::asked::{Pick, Value, Via};
 use crate::numbers::number;
@@ -71,7 +74,7 @@ pub enum Step {
 }
 
 pub fn command_of(word: &[u8]) -> Option<Command>
-    ensures { result ≡ command_of word.now }
+    ensures { option_map plain_command result ≡ command_of word.now }
 {
     if is_verilog(word) {
         return Some(Command::Verilog);
@@ -90,7 +93,8 @@ pub fn command_of(word: &[u8]) -> Option<Command>
 
 // The step of the word at this place, where `waiting` is an option without its value.
 pub fn step_of(command: Command, waiting: Option<Setting>, at: usize, word: &[u8]) -> Option<Step>
-    ensures { result ≡ step_of command waiting at word.now }
+    ensures { option_map plain_step result
+        ≡ step_of (plain_command command) (option_map plain_setting waiting) at word.now }
 {
     if let Some(setting) = waiting {
         if !is_plain(word) {
@@ -124,7 +128,7 @@ fn is_plain(word: &[u8]) -> bool
 
 // The options of a command.
 fn options(command: Command) -> &'static [Setting]
-    ensures { result.now ≡ options command }
+    ensures { map plain_setting result.now ≡ options (plain_command command) }
 {
     match command {
         Command::Blif => &[Setting::Main, Setting::Pick, Setting::Encode],
@@ -138,7 +142,7 @@ fn options(command: Command) -> &'static [Setting]
 
 // The name of an option.
 fn option_name(setting: Setting) -> &'static [u8]
-    ensures { result.now ≡ option_name setting }
+    ensures { result.now ≡ option_name (plain_setting setting) }
 {
     match setting {
         Setting::Via => b"--via",
@@ -153,7 +157,7 @@ fn option_name(setting: Setting) -> &'static [u8]
 
 // The first of the options that a word spells.
 fn named(options: &[Setting], word: &[u8]) -> Option<Spelling>
-    ensures spelling { result ≡ named options.now word.now }
+    ensures spelling { option_map plain_spelling result ≡ named (map plain_setting options.now) word.now }
     ensures within { IfSome result (IsWithin word.now) }
 {
     for setting in options {
@@ -166,7 +170,7 @@ fn named(options: &[Setting], word: &[u8]) -> Option<Spelling>
 
 // How a word spells an option, if it does.
 fn spelling_of(setting: Setting, word: &[u8]) -> Option<Spelling>
-    ensures spelling { result ≡ spelling_of setting word.now }
+    ensures spelling { option_map plain_spelling result ≡ spelling_of (plain_setting setting) word.now }
     ensures within { IfSome result (IsWithin word.now) }
 {
     let name = option_name(setting);
@@ -182,7 +186,7 @@ fn spelling_of(setting: Setting, word: &[u8]) -> Option<Spelling>
 
 // The part that an option and its value make, if the value has a meaning.
 fn part_of(setting: Setting, value: Value, bytes: &[u8]) -> Option<Part>
-    ensures { result ≡ part_of setting value bytes.now }
+    ensures { option_map plain_part result ≡ part_of (plain_setting setting) value bytes.now }
 {
     match setting {
         Setting::Main => Some(Part::Main(value)),
@@ -203,7 +207,7 @@ fn part_of(setting: Setting, value: Value, bytes: &[u8]) -> Option<Part>
 }
 
 fn way_of(bytes: &[u8]) -> Option<Way>
-    ensures { result ≡ way_of bytes.now }
+    ensures { option_map plain_way result ≡ way_of bytes.now }
 {
     if is_verilog(bytes) {
         return Some(Way::Text(Via::Verilog));

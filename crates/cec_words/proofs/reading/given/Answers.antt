@@ -1,9 +1,10 @@
 use Rattle.std.proofs.Common.{◌≡◌, ◌+◌, ◌<◌, ◌∙◌, [], length, map, get_or, sym, ap, arith}
-use Rattle.std.specs.Prelude.{option_and_then}
+use Rattle.std.specs.Prelude.{option_and_then, option_map}
 use Rattle.std.specs.String.{string_bytes}
 use Rattle.std.proofs.lemmas.List.{get_or-map, length-map}
 use Rattle.cec_words.specs.Readings.{asked_once}
 use Rattle.cec_words.specs.Slots.{slots}
+use Rattle.cec_words.specs.Views.{plain_command, plain_setting, plain_step}
 use Rattle.cec_words.proofs.Gathering.{next-none, next-no_meaning, next-takes}
 use Rattle.cec_words.proofs.reading.given.Goals as goal
 
@@ -15,9 +16,10 @@ returns-in_err-step c =
     let low : k < length words = omega (arith, length-map c.args.words.now string_bytes) in
     let is : word ≡ get_or words k [] = c.as_bytes.ensures.value ∙ ap string_bytes c.index-words-k.is
     ∙ sym (get_or-map string_bytes c.args.words.now k _ [] (omega arith)) in
-    c.loop-k.invariant ∙ next-none c.args.command c.loop-k.reader.given c.loop-k.reader.waiting (k + 1) words k word low is
-    (sym c.step_of.ensures ∙ c.in_err-step.was)
-    ∙ ap (option_and_then (λ g. asked_once c.args.command (slots g))) (sym c.from_residual.ensures)
+    c.loop-k.invariant ∙ next-none (plain_command c.args.command) c.loop-k.reader.given
+    (option_map plain_setting c.loop-k.reader.waiting) (k + 1) words k word low is
+    (sym c.step_of.ensures ∙ ap (option_map plain_step) c.in_err-step.was)
+    ∙ ap (option_and_then (λ g. asked_once (plain_command c.args.command) (slots g))) (sym c.from_residual.ensures)
 
 pub returns-in_err-reader : goal.returns-in_err-reader
 returns-in_err-reader c =
@@ -27,9 +29,10 @@ returns-in_err-reader c =
     let low : k < length words = omega (arith, length-map c.args.words.now string_bytes) in
     let is : word ≡ get_or words k [] = c.as_bytes.ensures.value ∙ ap string_bytes c.index-words-k.is
     ∙ sym (get_or-map string_bytes c.args.words.now k _ [] (omega arith)) in
-    c.loop-k.invariant ∙ next-no_meaning c.args.command c.loop-k.reader.given c.loop-k.reader.waiting (k + 1) words k word low is c.in_ok-step.step
-    (sym c.step_of.ensures ∙ c.in_ok-step.was) c.in_err-reader.ensures
-    ∙ ap (option_and_then (λ g. asked_once c.args.command (slots g))) (sym c.from_residual-in_err-reader.ensures)
+    c.loop-k.invariant ∙ next-no_meaning (plain_command c.args.command) c.loop-k.reader.given
+    (option_map plain_setting c.loop-k.reader.waiting) (k + 1) words k word low is c.in_ok-step.step
+    (sym c.step_of.ensures ∙ ap (option_map plain_step) c.in_ok-step.was) c.in_err-reader.ensures
+    ∙ ap (option_and_then (λ g. asked_once (plain_command c.args.command) (slots g))) (sym c.from_residual-in_err-reader.ensures)
 
 pub loop-k-preserved : goal.loop-k-preserved
 loop-k-preserved c =
@@ -39,6 +42,6 @@ loop-k-preserved c =
     let low : k < length words = omega (arith, length-map c.args.words.now string_bytes) in
     let is : word ≡ get_or words k [] = c.as_bytes.ensures.value ∙ ap string_bytes c.index-words-k.is
     ∙ sym (get_or-map string_bytes c.args.words.now k _ [] (omega arith)) in
-    c.loop-k.invariant ∙ next-takes c.args.command c.loop-k.reader.given c.loop-k.reader.waiting
+    c.loop-k.invariant ∙ next-takes (plain_command c.args.command) c.loop-k.reader.given (option_map plain_setting c.loop-k.reader.waiting)
     (k + 1) words k word low is c.in_ok-step.step c.in_ok-reader.reader.given c.in_ok-reader.reader.waiting
-    (sym c.step_of.ensures ∙ c.in_ok-step.was) c.in_ok-reader.ensures
+    (sym c.step_of.ensures ∙ ap (option_map plain_step) c.in_ok-step.was) c.in_ok-reader.ensures
