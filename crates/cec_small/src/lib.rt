@@ -1,0 +1,10 @@
+//! Small texts of sources: the compiler, and behind it the optimizer of netlists.
+//!
+//! A source is compiled by `cec_core`, its netlist is optimized by `net_opt`, and its BLIF text, its C text or its
+//! structural Verilog is written. The compiler-correctness theorem holds of the text, as of those of `cec_core`; the
+//! wires of the graph have no names in it.
+#![tactic(auto)]
+
+mod texts;
+
+pub use texts::{small_blif_of, small_c_of, small_net, small_verilog_of};
