@@ -41,11 +41,11 @@ all_same : {X Y : Type 0} (xs : List X) (y : Y) → map (λ x. y) xs ≡ replica
 all_same [] y = refl
 all_same (x ∷ xs) y = ap (λ l. y ∷ l) (all_same xs y)
 
-pub first_latches : (c : Compiled) (p : Program) → IsCompiled c p → initial_latches (netlist_of c.net) ≡ true ∷ replicate c.tree.leaves false
+pub first_latches : (c : Compiled) (p : Program) → IsCompiled c p → initial_latches (netlist_of c.net) ≡ true ∷ replicate c.graph.tree.leaves false
 first_latches c p h =
     h.latches ∙ ap (λ l. true ∷ l) (all_same (body_leaves p.body) false ∙ ap (λ n. replicate n false) (sym h.leaves))
 
-pub own_tree : (c : Compiled) (p : Program) → IsCompiled c p → IsTreeOf c.tree p.body
+pub own_tree : (c : Compiled) (p : Program) → IsCompiled c p → IsTreeOf c.graph.tree p.body
 own_tree c p h = record { nodes = h.tree; leaves = h.leaves }
 
 -- ---- runs
@@ -103,10 +103,10 @@ simplified_size coded new gates nodes parts few =
 -- ---- the whole
 
 pub encoded_is : (c : Compiled) (p : Program) (new : Netlist) → IsCompiled c p → FollowsGraph c → Encodes (netlist_of c.net) new p.body
-    → length new.gates ≤ length c.net.gates.items + 64 * (length c.tree.nodes.items * length new.latches) → IsSimple new → IsEncoded c p new
+    → length new.gates ≤ length c.net.gates.items + 64 * (length c.graph.tree.nodes.items * length new.latches) → IsSimple new → IsEncoded c p new
 encoded_is c p new h f e few simple =
     let same = same_runs c p new h f e in
-    let nodes : length c.tree.nodes.items ≡ length (body_tree p.body) = sym (length-map c.tree.nodes.items node_of) ∙ ap length h.tree in
+    let nodes : length c.graph.tree.nodes.items ≡ length (body_tree p.body) = sym (length-map c.graph.tree.nodes.items node_of) ∙ ap length h.tree in
     record {
       name = e.name;
       inputs = e.inputs;

@@ -5,9 +5,11 @@ use Rattle.std.proofs.lemmas.Bool.{cases_lt}
 use Rattle.std.proofs.lemmas.List.Elements.{All-contains, All-map}
 use Rattle.std.proofs.lemmas.List.{length-map, length-take, get_or-map}
 use Rattle.digraph.specs.Walks.{IsClosedWalk}
+use Rattle.est_base.specs.declared.bounds.TheConstants.Limits.{INSTANCES}
 use Rattle.est_base.specs.declared.indices.WireId.{WireId}
 use Rattle.est_kernel.specs.Plain.{Program, program_of, given_count, interface_of}
 use Rattle.est_kernel.specs.Sizes.{size_of}
+use Rattle.est_kernel.specs.StaticCodes.{NoInstantLoop}
 use Rattle.est_kernel.specs.WellFormed as programs
 use Rattle.est_kernel.proofs.ResidualLaws.{trees_are_kernels_lem}
 use Rattle.blif_text.specs.Written.{Means}
@@ -17,10 +19,13 @@ use Rattle.grc_copies.specs.Faults as copying
 use Rattle.grc_copies.specs.declared.refusal.CopyFault.{CopyFault}
 use Rattle.grc_copies.specs.declared.refusal.CopyFault.TheVariants as copy_faults
 use Rattle.grc_graph.specs.declared.graph.Graph.{Graph}
+use Rattle.grc_graph.specs.declared.orders.Edges.{Edges}
 use Rattle.grc_graph.specs.declared.orders.Order.{Order}
+use Rattle.grc_graph.specs.declared.orders.Ranks.{Ranks}
 use Rattle.grc_graph.specs.BuiltGraphs.{IsGraphOf}
 use Rattle.grc_graph.proofs.BuiltReads.{next_each}
-use Rattle.grc_graph.specs.GraphRuns.{program_spots, program_wires}
+use Rattle.grc_graph.proofs.TreeLaws.{tree_numbers}
+use Rattle.grc_graph.specs.GraphRuns.{program_edges, program_spots, program_wires}
 use Rattle.grc_dep.specs.Cycles.{numbered, numbers_of}
 use Rattle.grc_graph.specs.Edges.{Edge}
 use Rattle.grc_graph.specs.Equations.{wires}
@@ -31,7 +36,7 @@ use Rattle.grc_graph.specs.PlainInstances.{instance_of}
 use Rattle.grc_graph.specs.Reads.{IsReadingOrder}
 use Rattle.grc_graph.specs.SelectionTrees.{body_leaves, body_tree}
 use Rattle.grc_graph.specs.TreeForms.{node_of}
-use Rattle.grc_graph.specs.WireOrders.{WireEdge, IsWireOrder}
+use Rattle.grc_graph.specs.WireOrders.{WireEdge, AreRanks, IsWireOrder}
 use Rattle.grc_list.specs.Listings.{program_listing}
 use Rattle.grc_sem.proofs.Runs.{program_kernel}
 use Rattle.grc_words.specs.Sizes.{rows_at_most}
@@ -49,7 +54,7 @@ use Rattle.cec_core.specs.Answers.{StandsForListing, StandsForCounts, counts_lin
 use Rattle.cec_core.specs.Compiling.{IsGraphed, IsCompiled, StandsForGraph, StandsForNet, StandsForText, StandsForC, StandsForVerilog}
 use Rattle.cec_core.specs.Following.{FollowsGraph}
 use Rattle.cec_core.specs.Limits.{copying_refusal}
-use Rattle.cec_core.specs.Graphs.{HasNoGraph}
+use Rattle.cec_core.specs.Graphs.{HasNoGraph, IsBuilt}
 use Rattle.cec_core.specs.Refusals.{Compiles}
 use Rattle.cec_core.proofs.GraphFacts.{acyclic, reading_order}
 use Rattle.cec_core.proofs.Simplified.{interface_stays, instants_stay, runs_stay}
@@ -65,6 +70,42 @@ kernel_of g p is = subst (λ q. programs.IsKernel q.body) is.program (trees_are_
 -- a graph is that of the program that it has
 pub own_graph : (g : Graphed) (p : Program) → IsGraphed g p → IsGraphed g (program_of g.graph.program)
 own_graph g p h = subst (IsGraphed g) (sym h.graph.program) h
+
+-- a graph has the selection tree of its program, with a leaf for each of the program's
+pub built_is : (g : Graph) (p : Program) → programs.IsWellFormed p → programs.HasNames p → NoInstantLoop p.body
+    → length (body_instances p.body) ≤ INSTANCES → IsGraphOf g p → IsBuilt g p
+built_is g p formed names no_loop few is =
+    let tree : map node_of g.tree.nodes.items ≡ body_tree p.body = g.laid_out.tree ∙ ap (λ (q : Program). body_tree q.body) is.program in
+    record {
+      formed = formed;
+      names = names;
+      no_loop = no_loop;
+      few = few;
+      graph = is;
+      tree = tree;
+      leaves = g.tree.numbered.counted ∙ sym (tree_numbers g.tree.nodes.items (length (body_leaves p.body)) p.body tree refl).counted;
+    }
+
+pub own_built : (g : Graph) (p : Program) → IsBuilt g p → IsBuilt g (program_of g.program)
+own_built g p h = subst (IsBuilt g) (sym h.graph.program) h
+
+-- a graph that is built, with its edges and ranks along them
+pub graphed_is : (g : Graph) (edges : Edges) (ranks : Ranks) (p : Program) → IsBuilt g p → edges.count ≡ length g.wires.items
+    → AreEdgesOf (names_of g) (program_edges (program_of g.program)) edges.pairs.items
+    → AreRanks edges.count edges.pairs.items ranks.of.items
+    → IsGraphed (record { graph = g; edges = edges; ranks = ranks }) p
+graphed_is g edges ranks p h count along up = record {
+  formed = h.formed;
+  names = h.names;
+  no_loop = h.no_loop;
+  few = h.few;
+  graph = h.graph;
+  tree = h.tree;
+  leaves = h.leaves;
+  count = count;
+  edges = subst (λ q. AreEdgesOf (names_of g) (program_edges q) edges.pairs.items) h.graph.program along;
+  ranks = up;
+}
 
 pub graph_compiles : (g : Graphed) (p : Program) → IsGraphed g p → Compiles p
 graph_compiles g p h = record {
@@ -98,52 +139,54 @@ latches_stand g p net is interface = interface.latches ∙ ap (λ bits. true ∷
     same_bits (x ∷ xs) [] e = absurd (omega (arith, e))
     same_bits (x ∷ xs) (y ∷ ys) e = ap (λ bits. false ∷ bits) (same_bits xs ys (omega (arith, e)))
 
--- a netlist and what a simplifier makes of it
-pub simplified_stands : (text : List ℕ) (main : Option (List ℕ)) (g : Graphed) (order : Order) (net new : Net) → StandsForGraph text main g
+-- it follows the graph as the one does that it is made from
+pub simplified_follows : (g : Graph) (order : Order) (net new : Net)
+    → HasInterfaceOf g (netlist_of net) → length net.gates.items ≤ gates_at_most g (rows_at_most g) order.list.items
+    → FollowsInstants g (netlist_of net) → FollowsRuns g (netlist_of net)
+    → SameParts (netlist_of net) (netlist_of new) → SameInstants (netlist_of net) (netlist_of new) → SameRuns (netlist_of net) (netlist_of new)
+    → FollowsGraph (record { graph = g; order = order; net = new })
+simplified_follows g order net new interface size instants runs parts same alike =
+    let few = given-few (program_of g.program) g.laid_out.formed in
+    record {
+      size = omega (arith, parts.fewer, size);
+      interface = interface_stays g (netlist_of net) (netlist_of new) parts interface;
+      instants = instants_stay g (netlist_of net) (netlist_of new) few interface parts same instants;
+      runs = runs_stay g (netlist_of net) (netlist_of new) few interface parts.carries alike runs;
+    }
+
+-- a graph with an order along its edges, and a netlist that follows it
+pub compiled_is : (g : Graphed) (order : Order) (net : Net) → IsGraphed g (program_of g.graph.program)
     → IsWireOrder g.edges.count g.edges.pairs.items order.list.items
     → carried net.gates.items ≡ map (λ v. v.0) order.list.items
     → (IsGraphOf g.graph (program_of g.graph.program) → length net.gates.items ≤ linear_bound (program_of g.graph.program))
-    → SameParts (netlist_of net) (netlist_of new) → FollowsGraph (record { graph = g.graph; tree = g.tree; order = order; net = new })
-    → IsSimple (netlist_of new) → StandsForNet text main (record { graph = g.graph; tree = g.tree; order = order; net = new })
-simplified_stands text main g order net new s along carries linear parts follows simple =
-    let p = s.program in
-    let h = s.graphed in
+    → FollowsGraph (record { graph = g.graph; order = order; net = net })
+    → IsSimple (netlist_of net) → IsCompiled (record { graph = g.graph; order = order; net = net }) (program_of g.graph.program)
+compiled_is g order net h along carries linear follows simple =
+    let p = program_of g.graph.program in
     let compiles = graph_compiles g p h in
-    let few : length net.gates.items ≤ linear_bound p = subst (λ q. length net.gates.items ≤ linear_bound q) h.graph.program (linear (own_graph g p h).graph) in
     record {
-      program = p;
-      source = s.source;
-      compiled = record {
-        formed = h.formed;
-        no_loop = h.no_loop;
-        compiles = compiles;
-        graph = h.graph;
-        tree = h.tree;
-        leaves = h.leaves;
-        order = graph_order g p order.list.items h along;
-        along = record { pairs = g.edges.pairs.items; edges = h.edges; order = subst (λ n. IsWireOrder n g.edges.pairs.items order.list.items) h.count along };
-        carried = parts.carries ∙ carries;
-        linear = omega (arith, parts.fewer, few);
-        latches = latches_stand g.graph p new h.graph follows.interface;
-        keeps = net_keeps g.graph p (netlist_of new) h.formed (kernel_of g.graph p h.graph) h.no_loop h.graph compiles.acyclic follows.interface follows.runs;
-        simple = simple;
-      };
+      formed = h.formed;
+      no_loop = h.no_loop;
+      compiles = compiles;
+      graph = h.graph;
+      tree = h.tree;
+      leaves = h.leaves;
+      order = graph_order g p order.list.items h along;
+      along = record { pairs = g.edges.pairs.items; edges = h.edges; order = subst (λ n. IsWireOrder n g.edges.pairs.items order.list.items) h.count along };
+      carried = carries;
+      linear = linear h.graph;
+      latches = latches_stand g.graph p net h.graph follows.interface;
+      keeps = net_keeps g.graph p (netlist_of net) h.formed (kernel_of g.graph p h.graph) h.no_loop h.graph compiles.acyclic follows.interface follows.runs;
+      simple = simple;
     }
 
--- it follows the graph as the other one does
-pub simplified_follows : (text : List ℕ) (main : Option (List ℕ)) (g : Graphed) (order : Order) (net new : Net) → StandsForGraph text main g
-    → HasInterfaceOf g.graph (netlist_of net) → length net.gates.items ≤ gates_at_most g.graph (rows_at_most g.graph) order.list.items
-    → FollowsInstants g.graph (netlist_of net) → FollowsRuns g.graph (netlist_of net)
-    → SameParts (netlist_of net) (netlist_of new) → SameInstants (netlist_of net) (netlist_of new) → SameRuns (netlist_of net) (netlist_of new)
-    → FollowsGraph (record { graph = g.graph; tree = g.tree; order = order; net = new })
-simplified_follows text main g order net new s interface size instants runs parts same alike =
-    let few = subst (λ q. given_count q ≤ length q.signals) (sym s.graphed.graph.program) (given-few s.program s.graphed.formed) in
-    record {
-      size = omega (arith, parts.fewer, size);
-      interface = interface_stays g.graph (netlist_of net) (netlist_of new) parts interface;
-      instants = instants_stay g.graph (netlist_of net) (netlist_of new) few interface parts same instants;
-      runs = runs_stay g.graph (netlist_of net) (netlist_of new) few interface parts.carries alike runs;
-    }
+own_source : (text : List ℕ) (main : Option (List ℕ)) (g : Graphed) → (s : StandsForGraph text main g) → StandsFor text main (program_of g.graph.program)
+own_source text main g s = subst (StandsFor text main) (sym s.graphed.graph.program) s.source
+
+pub compiled_stands : (text : List ℕ) (main : Option (List ℕ)) (g : Graphed) (order : Order) (net : Net) → StandsForGraph text main g
+    → IsCompiled (record { graph = g.graph; order = order; net = net }) (program_of g.graph.program)
+    → StandsForNet text main (record { graph = g.graph; order = order; net = net })
+compiled_stands text main g order net s h = record { program = program_of g.graph.program; source = own_source text main g s; compiled = h }
 
 -- each wire of a compiled program is carried
 pub wires_carried : (c : Compiled) (p : Program) → IsCompiled c p → (n : ℕ) → n < length (program_wires p) → Contains (carried c.net.gates.items) n
@@ -221,20 +264,15 @@ c_text_stands text main c written s follows means = record {
 
 -- ---- listings and counts
 
-own_source : (text : List ℕ) (main : Option (List ℕ)) (g : Graphed) → (s : StandsForGraph text main g) → StandsFor text main (program_of g.graph.program)
-own_source text main g s = subst (StandsFor text main) (sym s.graphed.graph.program) s.source
-
 pub listing_stands : (bytes : List ℕ) (main : Option (List ℕ)) (g : Graphed) (text : List ℕ) → StandsForGraph bytes main g
-    → (names_of g.graph ≡ wires (interface_of (program_of g.graph.program)).outgoing (program_spots (program_of g.graph.program))
-    → map node_of g.tree.nodes.items ≡ body_tree (program_of g.graph.program).body → text ≡ program_listing (program_of g.graph.program))
-    → StandsForListing bytes main text
+    → text ≡ program_listing (program_of g.graph.program) → StandsForListing bytes main text
 listing_stands bytes main g text s told =
     let own = own_graph g s.program s.graphed in
     record {
       program = program_of g.graph.program;
       source = own_source bytes main g s;
       compiles = graph_compiles g (program_of g.graph.program) own;
-      listing = told own.graph.wires own.tree;
+      listing = told;
     }
 
 pub counts_stand : (bytes : List ℕ) (main : Option (List ℕ)) (g : Graphed) (text : List ℕ) → StandsForGraph bytes main g

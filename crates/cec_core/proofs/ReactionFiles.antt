@@ -1,35 +1,39 @@
 -- The command that runs a source by three-valued reactions: what the steps say of the whole.
-use Rattle.std.proofs.Common.{ℕ, ◌≤◌, List, length, map, Option, Some, Result, Err, inl, subst, sym}
+use Rattle.std.proofs.Common.{ℕ, ◌≤◌, Bool, List, length, map, Option, Some, Result, Ok, Err, inl, subst, sym}
 use Rattle.est_base.specs.declared.bounds.TheConstants.Limits.{SOURCE_BYTES}
 use Rattle.est_base.specs.declared.files.reading.FileFault.{FileFault}
 use Rattle.est_base.specs.declared.files.reading.FileFault.TheVariants as reading
 use Rattle.est_base.specs.Reading.{Reads, Keeps}
 use Rattle.est_kernel.specs.Plain.{Program, given_names, program_of}
+use Rattle.grc_graph.specs.declared.graph.Graph.{Graph}
 use Rattle.grc_graph.specs.PlainWireNames.{wire_name_of}
 use Rattle.trace_io.specs.Answers.{beginning}
 use Rattle.est_base.specs.SinkChanges.{SinkChange, IsUntouched}
 use Rattle.trace_run.specs.declared.running.RunFault.{RunFault}
+use Rattle.trace_run.specs.declared.running.RunFault.TheVariants as runs
 use Rattle.trace_run.specs.Running.{RunsTrace}
 use Rattle.cec_front.specs.Sources.{StandsFor}
 use Rattle.cec_core.specs.declared.outcome.Outcome.{Outcome}
 use Rattle.cec_core.specs.declared.outcome.Outcome.TheVariants.{Done, Usage, FileFault as Unread, Static, Cyclic, Trace, BadText, Limit, WriteFault, NoMemory}
 use Rattle.cec_core.specs.declared.outcome.Outcome.TheVariants.{NotConstructive}
 use Rattle.cec_core.specs.declared.outcome.Which.TheVariants.{First, Second}
+use Rattle.cec_core.specs.declared.reactions.ReactionFault.{ReactionFault}
+use Rattle.cec_core.specs.declared.reactions.ReactionFault.TheVariants as stops
 use Rattle.cec_core.specs.declared.refusal.Limit.TheVariants as limits
 use Rattle.cec_core.specs.declared.refusal.Refusal as refused
 use Rattle.cec_core.specs.declared.refusal.Refusal.TheVariants as refusals
 use Rattle.cec_core.specs.declared.unknown_wires.UnknownWires.{UnknownWires}
 use Rattle.cec_core.specs.Contents.{Content, Holds, IsHeld}
-use Rattle.cec_core.specs.declared.graphs.Built.{Built}
 use Rattle.cec_core.specs.Graphs.{HasNoGraph, IsBuilt, IsRefusedGraph, StandsForBuilt}
 use Rattle.cec_core.specs.Jobs.{Job, RunTri}
 use Rattle.cec_core.specs.Outcomes.{Agrees}
-use Rattle.cec_core.specs.ReactionEnds.{EndsReactions, LeavesTrace}
+use Rattle.cec_core.specs.ReactionEnds.{EndsReactions, IsReactionsOutcome, LeavesTrace}
 use Rattle.cec_core.specs.Refusals.{DoesNotCompile, IsRefused, KeepsGraphLimits}
 use Rattle.cec_core.specs.Runs.{ShowsRun}
 use Rattle.cec_core.specs.Statuses.{outcome_of}
 use Rattle.cec_core.specs.Subjects.{unread_outcome, CountsTrace, LongTrace}
 use Rattle.cec_core.specs.TriRuns.{IsGraphSource, ReactsOn, ReactsOver, StopsOver, StopsTrace, LeavesReactions}
+use Rattle.cec_core.proofs.Joined.{own_built}
 use Rattle.cec_core.proofs.OneFile.{long_unread, some_bytes}
 use Rattle.cec_core.proofs.TwoFiles.{leaves_as}
 
@@ -100,6 +104,17 @@ reactions_unread_first P A s reading.NoMemory u = inl u
 
 -- ---- the run
 
+-- such an outcome is one of a run
+pub reactions_end : (g : Graph) (unknown : List Bool) (ended : Result (Unit {0}) ReactionFault) (outcome : Outcome)
+    → IsReactionsOutcome g unknown ended outcome → EndsReactions outcome
+reactions_end g unknown (Ok done) outcome h = subst EndsReactions (sym h) tt
+reactions_end g unknown (Err (stops.Run (runs.Trace fault))) outcome h = subst EndsReactions (sym h) tt
+reactions_end g unknown (Err (stops.Run runs.Write)) outcome h = subst EndsReactions (sym h) tt
+reactions_end g unknown (Err (stops.Run runs.NoMemory)) outcome h = subst EndsReactions (sym h) tt
+reactions_end g unknown (Err (stops.NotConstructive number)) NoMemory h = tt
+reactions_end g unknown (Err (stops.NotConstructive number)) (NotConstructive wires) h = tt
+reactions_end g unknown (Err (stops.NotConstructive number)) others h = absurd h
+
 pub reacted_on : (main : Option (List ℕ)) (bytes : List ℕ) (outcome : Outcome) → EndsReactions outcome → IsGraphSource main bytes → ReactsOn main outcome bytes
 reacted_on main bytes Done e is = is
 reacted_on main bytes Usage e is = absurd e
@@ -157,16 +172,13 @@ reactions_as P Q A B s (NotConstructive wires) f h l = h wires l
 
 -- ---- a source with a graph
 
-pub own_built : (bytes : List ℕ) (main : Option (List ℕ)) (b : Built) → StandsForBuilt bytes main b → IsBuilt b (program_of b.graph.program)
-own_built bytes main b s = subst (IsBuilt b) (sym s.built.graph.program) s.built
-
-own_source : (bytes : List ℕ) (main : Option (List ℕ)) (b : Built) → StandsForBuilt bytes main b → StandsFor bytes main (program_of b.graph.program)
+own_source : (bytes : List ℕ) (main : Option (List ℕ)) (b : Graph) → StandsForBuilt bytes main b → StandsFor bytes main (program_of b.program)
 own_source bytes main b s = subst (StandsFor bytes main) (sym s.built.graph.program) s.source
 
-built_limits : (b : Built) (p : Program) → IsBuilt b p → KeepsGraphLimits p
+built_limits : (b : Graph) (p : Program) → IsBuilt b p → KeepsGraphLimits p
 built_limits b p is = record { few_instances = is.few; few_wires = is.graph.few }
 
-pub built_source : (main : Option (List ℕ)) (bytes : List ℕ) (b : Built) → length bytes ≤ SOURCE_BYTES → StandsForBuilt bytes main b → IsGraphSource main bytes
+pub built_source : (main : Option (List ℕ)) (bytes : List ℕ) (b : Graph) → length bytes ≤ SOURCE_BYTES → StandsForBuilt bytes main b → IsGraphSource main bytes
 built_source main bytes b short s = record {
   program = s.program;
   short = short;
@@ -174,14 +186,14 @@ built_source main bytes b short s = record {
   limits = built_limits b s.program s.built;
 }
 
-pub trace_left : (content : Content) (name : List ℕ) (main : Option (List ℕ)) (bytes : List ℕ) (b : Built) (items : List ℕ) (s : SinkChange) (outcome : Outcome)
-    → length bytes ≤ SOURCE_BYTES → StandsForBuilt bytes main b → IsHeld content name items → LeavesTrace (program_of b.graph.program) items s outcome
+pub trace_left : (content : Content) (name : List ℕ) (main : Option (List ℕ)) (bytes : List ℕ) (b : Graph) (items : List ℕ) (s : SinkChange) (outcome : Outcome)
+    → length bytes ≤ SOURCE_BYTES → StandsForBuilt bytes main b → IsHeld content name items → LeavesTrace (program_of b.program) items s outcome
     → LeavesReactions (λ ended. Holds content name (λ i. ReactsOver main bytes i s ended))
     (λ wires. Holds content name (λ i. StopsOver main bytes i s wires.instant (map wire_name_of wires.wires.items))) s outcome
 trace_left content name main bytes b items s outcome short stands held left =
-    let p = program_of b.graph.program in
+    let p = program_of b.program in
     let source = own_source bytes main b stands in
-    let limits = built_limits b p (own_built bytes main b stands) in
+    let limits = built_limits b p (own_built b stands.program stands.built) in
     let reading = beginning items (given_names p) p.relations in
     reactions_as (λ ended. RunsTrace (ShowsRun p) reading s ended) (λ ended. Holds content name (λ i. ReactsOver main bytes i s ended))
     (λ wires. StopsTrace p reading s wires.instant (map wire_name_of wires.wires.items))

@@ -10,6 +10,7 @@ use Rattle.est_base.specs.declared.bounds.TheConstants.Limits.{SOURCE_BYTES, TEX
 use Rattle.est_base.specs.declared.indices.WireId.{WireId}
 use Rattle.est_base.specs.Relations.{Relation, relation_of}
 use Rattle.est_kernel.specs.Plain.{Program, given_count, outgoing_count}
+use Rattle.grc_graph.specs.declared.graph.Graph.{Graph}
 use Rattle.grc_graph.specs.SelectionTrees.{body_leaves, resumes}
 use Rattle.grc_graph.proofs.CodeReads.{statement_count-le}
 use Rattle.grc_select.proofs.Growth.{length-leaf_paths}
@@ -24,7 +25,6 @@ use Rattle.csub_text.specs.Written as c_texts
 use Rattle.vlog_text.specs.Written as verilog_texts
 use Rattle.csub_text.proofs.TextLengths as c_lengths
 use Rattle.cec_core.specs.declared.compiler.Compiled.{Compiled}
-use Rattle.cec_core.specs.declared.graphs.Built.{Built}
 use Rattle.cec_core.specs.Graphs.{StandsForBuilt}
 use Rattle.cec_core.specs.declared.jobs.TextForm.{TextForm}
 use Rattle.cec_core.specs.declared.jobs.TextForm.TheVariants as forms
@@ -138,12 +138,12 @@ made_relations_few form bytes main made short m =
     omega (arith, room.relations, short, ap (λ (rs : List Relation). length rs) same, length-map made.program.relations.items relation_of)
 
 -- so of a source whose dependencies may go around
-pub built_relations_few : (bytes : List ℕ) (main : Option (List ℕ)) (built : Built) → length bytes ≤ SOURCE_BYTES → StandsForBuilt bytes main built →
-    length built.graph.program.relations.items ≤ SOURCE_BYTES
+pub built_relations_few : (bytes : List ℕ) (main : Option (List ℕ)) (built : Graph) → length bytes ≤ SOURCE_BYTES → StandsForBuilt bytes main built →
+    length built.program.relations.items ≤ SOURCE_BYTES
 built_relations_few bytes main built short b =
     let room = source-room bytes main b.program b.source in
-    let same : map relation_of built.graph.program.relations.items ≡ b.program.relations = ap (λ (q : Program). q.relations) b.built.graph.program in
-    omega (arith, room.relations, short, ap (λ (rs : List Relation). length rs) same, length-map built.graph.program.relations.items relation_of)
+    let same : map relation_of built.program.relations.items ≡ b.program.relations = ap (λ (q : Program). q.relations) b.built.graph.program in
+    omega (arith, room.relations, short, ap (λ (rs : List Relation). length rs) same, length-map built.program.relations.items relation_of)
 
 -- a text that is too long is one whose latches hold the state in a code, or one in Verilog
 pub long_text : (form : TextForm) (bytes : List ℕ) (main : Option (List ℕ)) (made : Made) (text : List ℕ) → length bytes ≤ SOURCE_BYTES →

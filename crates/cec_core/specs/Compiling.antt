@@ -35,8 +35,8 @@ pub record IsGraphed (g : Graphed) (p : Program) : Type 0 where
   pub no_loop : NoInstantLoop p.body
   pub few : length (body_instances p.body) ≤ INSTANCES
   pub graph : IsGraphOf g.graph p
-  pub tree : map node_of g.tree.nodes.items ≡ body_tree p.body
-  pub leaves : g.tree.leaves ≡ length (body_leaves p.body)
+  pub tree : map node_of g.graph.tree.nodes.items ≡ body_tree p.body
+  pub leaves : g.graph.tree.leaves ≡ length (body_leaves p.body)
   pub count : g.edges.count ≡ length g.graph.wires.items
   pub edges : AreEdgesOf (names_of g.graph) (program_edges p) g.edges.pairs.items
   pub ranks : AreRanks g.edges.count g.edges.pairs.items g.ranks.of.items
@@ -55,8 +55,8 @@ pub record IsCompiled (c : Compiled) (p : Program) : Type 0 where
   pub no_loop : NoInstantLoop p.body
   pub compiles : Compiles p
   pub graph : IsGraphOf c.graph p
-  pub tree : map node_of c.tree.nodes.items ≡ body_tree p.body
-  pub leaves : c.tree.leaves ≡ length (body_leaves p.body)
+  pub tree : map node_of c.graph.tree.nodes.items ≡ body_tree p.body
+  pub leaves : c.graph.tree.leaves ≡ length (body_leaves p.body)
   pub order : IsReadingOrder (names_of c.graph)
       (map (formula_of (instances_of c.graph) (names_of c.graph)) c.graph.equations.items) c.order.list.items
   pub along : FollowsEdges c p

@@ -22,7 +22,7 @@ pub(crate) fn listing(alloc: Global, source: &[u8], main: Option<&[u8]>) -> Resu
     ensures refuses { IfErr result (IsRefused source.now (option_map (λ m. m.now) main.entry)) }
 {
     let found = source_graph(alloc, source, main)?;
-    let text = list(alloc, &found.graph, &found.tree)?;
+    let text = list(alloc, &found.graph)?;
     Ok(text)
 }
 
@@ -54,7 +54,7 @@ fn counts_line(alloc: Global, found: &Graphed) -> Result<Vec<u8>, NoMemory>
             b": ",
             nodes.format(size(&program.body)).as_bytes(),
             b" nodes, ",
-            pauses.format(found.tree.leaves).as_bytes(),
+            pauses.format(found.graph.tree.leaves).as_bytes(),
             b" pauses, ",
             instances
                 .format(found.graph.instances.list.len())

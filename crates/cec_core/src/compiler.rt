@@ -1,18 +1,29 @@
 // The compiler: its passes, in their order.
 
-ghost use Rattle.std.specs.Prelude.{◌≡◌, ◌≤◌, ℕ, List, Option, length, IfOk, IfErr, option_map};
+ghost use Rattle.std.specs.Prelude.{◌≡◌, ◌≤◌, ℕ, List, Option, length, map, IfOk, IfErr, option_map};
 ghost use Rattle.est_kernel.specs.CodeLists.{AreCodesOf};
 ghost use Rattle.est_kernel.specs.Plain.{program_of, term_of};
 ghost use Rattle.est_kernel.specs.StaticCodes.{NoInstantLoop};
 ghost use Rattle.est_kernel.specs.WellFormed.{IsWellFormed, HasNames};
+ghost use Rattle.grc_graph.specs.BuiltGraphs.{IsGraphOf};
+ghost use Rattle.grc_graph.specs.GraphRuns.{program_edges};
+ghost use Rattle.grc_graph.specs.NumberedEdges.{AreEdgesOf};
+ghost use Rattle.grc_graph.specs.PlainGraphs.{formula_of, instances_of, names_of};
+ghost use Rattle.grc_graph.specs.Reads.{IsReadingOrder};
+ghost use Rattle.grc_graph.specs.WireOrders.{AreRanks};
+ghost use Rattle.net_gen.specs.Costs.{linear_bound};
+ghost use Rattle.net_ir.specs.Gates.{carried};
+ghost use Rattle.net_ir.specs.Runs.{netlist_of};
+ghost use Rattle.net_simp.specs.SimpleNets.{IsSimple};
 ghost use Rattle.cec_core.specs.Compiling.{IsGraphed, IsCompiled, StandsForGraph, StandsForNet, StandsForText};
 ghost use Rattle.cec_core.specs.Compiling.{StandsForC, StandsForVerilog, IsBlifOf, IsCOf, IsVerilogOf};
 ghost use Rattle.cec_core.specs.EncodedTexts.{StandsForEncoded, IsEncodedBlifOf};
 ghost use Rattle.cec_core.specs.Following.{FollowsGraph};
+ghost use Rattle.cec_core.specs.Graphs.{IsBuilt};
 ghost use Rattle.cec_core.specs.Refusals.{DoesNotCompile, IsRefused};
 
 use crate::cycles::cycle_of;
-use crate::graphs::{Built, built_graph};
+use crate::graphs::built_graph;
 use crate::jobs::TextForm;
 use crate::refusal::Refusal;
 use crate::targets::text_of;
@@ -20,9 +31,9 @@ use blif_run::BlifTexts;
 use cec_front::{Analysed, analyse};
 use cec_words::Pick;
 use csub_run::CTexts;
-use est_base::{Draw, Limits};
+use est_base::{Draw, Limits, NoMemory};
 use grc_dep::{Ranked, cycle_or_rank, edges};
-use grc_graph::{Edges, Graph, Order, Ranks, SelTree};
+use grc_graph::{Edges, Graph, Order, Ranks};
 use grc_order::{Drawn, First, Last, Picker, order};
 use net_gen::generate;
 use net_ir::Net;
@@ -30,21 +41,19 @@ use net_simp::simplify;
 use std::alloc::Global;
 use vlog_run::VerilogTexts;
 
-/// The graph of a program, its selection tree, its dependency edges, and ranks that grow along them.
+/// The graph of a program, its dependency edges, and ranks that grow along them.
 #[derive(Drop)]
 pub struct Graphed {
     pub graph: Graph,
-    pub tree: SelTree,
     pub edges: Edges,
     pub ranks: Ranks,
 }
 
-/// A compiled program: its graph, which has the kernel program and the live instances, its selection tree, an
+/// A compiled program: its graph, which has the kernel program, the live instances and the selection tree, an
 /// evaluation order of its wires, and its simplified netlist.
 #[derive(Drop)]
 pub struct Compiled {
     pub graph: Graph,
-    pub tree: SelTree,
     pub order: Order,
     pub net: Net,
 }
@@ -157,21 +166,56 @@ pub fn compile<P: Picker>(
     ensures follows { IfOk result FollowsGraph }
     ensures refuses { IfErr result (IsRefused text.now (option_map (λ m. m.now) main.entry)) }
 {
-    let Graphed {
-        graph,
-        tree,
-        edges,
-        ranks,
-    } = source_graph(alloc, text, main)?;
-    let order = order(alloc, &edges, &ranks, picker)?;
-    let drawn = generate(alloc, &graph, &tree, &order)?;
-    let net = simplify(alloc, &drawn)?;
+    let found = source_graph(alloc, text, main)?;
+    let made = ordered_net(alloc, &found, picker)?;
     Ok(Compiled {
-        graph,
-        tree,
-        order,
-        net,
+        graph: found.graph,
+        order: made.order,
+        net: made.net,
     })
+}
+
+/// An evaluation order of a graph's wires, and the simplified netlist along it.
+#[derive(Drop)]
+struct OrderedNet {
+    order: Order,
+    net: Net,
+}
+
+// The order that the picker makes of a graph, and its netlist.
+fn ordered_net<P: Picker>(
+    alloc: Global,
+    found: &Graphed,
+    picker: &mut P,
+) -> Result<OrderedNet, NoMemory>
+    requires { IsGraphed found.now (program_of found.now.graph.program) }
+    ensures compiled { IfOk result (λ made. IsCompiled
+        (record { graph = found.now.graph; order = made.order; net = made.net })
+        (program_of found.now.graph.program)) }
+    ensures follows { IfOk result (λ made. FollowsGraph
+        (record { graph = found.now.graph; order = made.order; net = made.net })) }
+{
+    let order = order(alloc, &found.edges, &found.ranks, picker)?;
+    let net = graph_net(alloc, &found.graph, &order)?;
+    Ok(OrderedNet { order, net })
+}
+
+// The simplified netlist of a graph along an order in which its equations read.
+fn graph_net(alloc: Global, graph: &Graph, order: &Order) -> Result<Net, NoMemory>
+    requires names { HasNames (program_of graph.now.program) }
+    requires order { IsReadingOrder (names_of graph.now)
+        (map (formula_of (instances_of graph.now) (names_of graph.now)) graph.now.equations.items)
+        order.now.list.items }
+    ensures order { IfOk result (λ net. carried net.gates.items ≡ map (λ v. v.0) order.now.list.items) }
+    ensures linear { IfOk result (λ net. IsGraphOf graph.now (program_of graph.now.program)
+        → length net.gates.items ≤ linear_bound (program_of graph.now.program)) }
+    ensures follows { IfOk result (λ net. FollowsGraph
+        (record { graph = graph.now; order = order.now; net = net })) }
+    ensures simple { IfOk result (λ net. IsSimple (netlist_of net)) }
+{
+    let drawn = generate(alloc, graph, order)?;
+    let net = simplify(alloc, &drawn)?;
+    Ok(net)
 }
 
 /// A source compiled, in an evaluation order that is chosen so.
@@ -211,17 +255,36 @@ fn program_graph(alloc: Global, analysed: Analysed) -> Result<Graphed, Refusal>
     ensures graphed { IfOk result (λ g. IsGraphed g (program_of analysed.program)) }
     ensures refuses { IfErr result (DoesNotCompile (program_of analysed.program)) }
 {
-    let Built { graph, tree } = built_graph(alloc, analysed)?;
-    let edges = edges(alloc, &graph)?;
+    let graph = built_graph(alloc, analysed)?;
+    let ranked = ranked_edges(alloc, &graph)?;
+    Ok(Graphed {
+        graph,
+        edges: ranked.edges,
+        ranks: ranked.ranks,
+    })
+}
+
+/// The dependency edges of a graph, and ranks that grow along them.
+#[derive(Drop)]
+struct RankedEdges {
+    edges: Edges,
+    ranks: Ranks,
+}
+
+// The edges of a graph where they have no cycle.
+fn ranked_edges(alloc: Global, graph: &Graph) -> Result<RankedEdges, Refusal>
+    requires { IsBuilt graph.now (program_of graph.now.program) }
+    ensures count { IfOk result (λ made. made.edges.count ≡ length graph.now.wires.items) }
+    ensures edges { IfOk result (λ made. AreEdgesOf (names_of graph.now)
+        (program_edges (program_of graph.now.program)) made.edges.pairs.items) }
+    ensures ranks { IfOk result (λ made. AreRanks made.edges.count made.edges.pairs.items made.ranks.of.items) }
+    ensures refuses { IfErr result (DoesNotCompile (program_of graph.now.program)) }
+{
+    let edges = edges(alloc, graph)?;
     match cycle_or_rank(alloc, &edges)? {
-        Ranked::Acyclic(ranks) => Ok(Graphed {
-            graph,
-            tree,
-            edges,
-            ranks,
-        }),
+        Ranked::Acyclic(ranks) => Ok(RankedEdges { edges, ranks }),
         Ranked::Cycle(walk) => {
-            let cycle = cycle_of(alloc, &graph, &edges, &walk)?;
+            let cycle = cycle_of(alloc, graph, &edges, &walk)?;
             Err(Refusal::Cyclic(cycle))
         }
     }

@@ -12,21 +12,14 @@ use cec_front::{Analysed, analyse};
 use est_base::Limits;
 use grc_build::build;
 use grc_copies::copies;
-use grc_graph::{Graph, SelTree};
+use grc_graph::Graph;
 use grc_select::select;
 use std::alloc::Global;
 
-/// The graph of a program, which has the kernel program and the live instances, and its selection tree. Its
-/// dependencies may go around.
-#[derive(Drop)]
-pub struct Built {
-    pub graph: Graph,
-    pub tree: SelTree,
-}
-
 /// The graph of a source, which has at most 1 MiB. `main` is the name of the main module; without it that is the first
-/// one. The errors are those of `blif_of`, but a source is not refused for a cycle.
-pub fn graph_of(alloc: Global, text: &[u8], main: Option<&[u8]>) -> Result<Built, Refusal>
+/// one. The errors are those of `blif_of`, but a source is not refused for a cycle: the graph's dependencies may go
+/// around.
+pub fn graph_of(alloc: Global, text: &[u8], main: Option<&[u8]>) -> Result<Graph, Refusal>
     requires { length text.now ≤ Limits.SOURCE_BYTES }
     ensures built { IfOk result (StandsForBuilt text.now (option_map (λ m. m.now) main.entry)) }
     ensures refuses { IfErr result (IsRefusedGraph text.now (option_map (λ m. m.now) main.entry)) }
@@ -36,7 +29,7 @@ pub fn graph_of(alloc: Global, text: &[u8], main: Option<&[u8]>) -> Result<Built
 }
 
 /// The graph of a kernel program.
-pub(crate) fn built_graph(alloc: Global, analysed: Analysed) -> Result<Built, Refusal>
+pub(crate) fn built_graph(alloc: Global, analysed: Analysed) -> Result<Graph, Refusal>
     requires formed { IsWellFormed (program_of analysed.program) }
     requires names { HasNames (program_of analysed.program) }
     requires no_loop { NoInstantLoop (term_of analysed.program.body) }
@@ -47,6 +40,6 @@ pub(crate) fn built_graph(alloc: Global, analysed: Analysed) -> Result<Built, Re
     let Analysed { program, codes } = analysed;
     let live = copies(alloc, &program.body, &codes)?;
     let tree = select(alloc, &program.body, &codes)?;
-    let graph = build(alloc, program, &codes, live)?;
-    Ok(Built { graph, tree })
+    let graph = build(alloc, program, codes, live, tree)?;
+    Ok(graph)
 }

@@ -34,7 +34,7 @@ pub use compiler::{
     Compiled, Graphed, blif_of, c_of, compile, encoded_blif_of, source_graph, verilog_of,
 };
 pub use cycles::Cycle;
-pub use graphs::{Built, graph_of};
+pub use graphs::graph_of;
 pub use laws::{
     accepted_requests_are_done, compiling_sources_are_not_refused, stopping_runs_are_told,
 };

@@ -17,7 +17,7 @@ use crate::refusal::Refusal;
 use cec_words::Pick;
 use est_base::{Draw, Limits, NoMemory};
 use est_kernel::KernelProgram;
-use grc_graph::SelTree;
+use grc_graph::{Graph, SelTree};
 use grc_order::{Drawn, First, Last, Picker};
 use net_ir::Net;
 use net_simp::simplify;
@@ -77,13 +77,8 @@ pub(crate) fn made_in(alloc: Global, form: TextForm, compiled: Compiled) -> Resu
     ensures net { IfOk result (λ made. (p : Program) → IsCompiled compiled p
         → IsNetIn form compiled p (netlist_of made.net)) }
 {
-    let Compiled {
-        graph,
-        tree,
-        net,
-        ..
-    } = compiled;
-    let program = graph.program;
+    let Compiled { graph, net, .. } = compiled;
+    let Graph { program, tree, .. } = graph;
     match form {
         TextForm::EncodedBlif => {
             let net = encoded_net(alloc, &net, &tree)?;

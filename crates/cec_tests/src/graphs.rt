@@ -115,7 +115,6 @@ fn react_in(
     let reaction = react(
         alloc,
         &compiled.graph,
-        &compiled.tree,
         &compiled.order,
         boot,
         selected,

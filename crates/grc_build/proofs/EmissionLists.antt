@@ -191,8 +191,8 @@ local_emitted t m new xs x s b j v e f y n o len out h =
         let r : layer_above b x.layer ≡ (instance_at insts i).layer = same_layer-true _ _ p.1 in
         let at : instance_at insts j ≡ record { path = b; layer = layer_above b x.layer } = y.same _ in
         let same : instance_at insts i ≡ instance_at insts j = (λ k. record { path = sym q k; layer = sym r k }) ∙ sym at in
-        absurd (d (one_place t.wires.list.items i j t.wires.tables.ascend (omega (arith, length-map t.wires.list.items instance_of))
-        (omega (arith, length-map t.wires.list.items instance_of, y.within)) same)))
+        absurd (d (one_place t.wires.list.now i j t.wires.tables.ascend (omega (arith, length-map t.wires.list.now instance_of))
+        (omega (arith, length-map t.wires.list.now instance_of, y.within)) same)))
         (λ z. z)
         (cases_Bool (same_wire (StatusOf b (layer_above b x.layer)) (status_at t i)))
 

@@ -113,15 +113,15 @@ equations_zipped insts all (u ∷ us) F (f ∷ fs) e =
 
 -- ---- the wires of the tables
 
-pub wire_in : (t : Tables) (k : ℕ) (w : stored_wires.Wire) → k < length t.wires.wires.items → w ≡ get_or t.wires.wires.items k w → IsWireIn t w
+pub wire_in : (t : Tables) (k : ℕ) (w : stored_wires.Wire) → k < length t.wires.wires.now → w ≡ get_or t.wires.wires.now k w → IsWireIn t w
 wire_in t k w h e = record {
   there = (
     k,
-    omega (arith, length-map t.wires.wires.items (wire_of (instances_in t.wires))),
-    get_or-map (wire_of (instances_in t.wires)) t.wires.wires.items k w _ h ∙ ap (wire_of (instances_in t.wires)) (sym e),
+    omega (arith, length-map t.wires.wires.now (wire_of (instances_in t.wires))),
+    get_or-map (wire_of (instances_in t.wires)) t.wires.wires.now k w _ h ∙ ap (wire_of (instances_in t.wires)) (sym e),
   );
   within = of_tables w (subst (λ v. IsTrue (wire_fits (length (instances_in t.wires)) v)) (sym e)
-      (wires_fit t.wires.list.items t.wires.wires.items t.wires.first.items t.wires.inputs t.wires.outgoing t.wires.tables k w h));
+      (wires_fit t.wires.list.now t.wires.wires.now t.wires.first.now t.wires.inputs t.wires.outgoing t.wires.tables k w h));
 }
   where
     of_tables : (v : stored_wires.Wire) → IsTrue (wire_fits (length (instances_in t.wires)) v) → IsOfTables t v

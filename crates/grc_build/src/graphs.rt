@@ -1,16 +1,23 @@
 // The graph of a program.
 
-ghost use Rattle.std.specs.Prelude.{◌≡◌, ◌≤◌, map, IfOk, IfErr};
+ghost use Rattle.std.specs.Prelude.{◌≡◌, ◌+◌, ◌≤◌, map, IfOk, IfErr};
 ghost use Rattle.est_base.specs.declared.bounds.TheConstants.Limits.{WIRES};
 ghost use Rattle.est_kernel.specs.CodeLists.{AreCodesOf};
 ghost use Rattle.est_kernel.specs.Plain.{program_of, term_of};
 ghost use Rattle.est_kernel.specs.WellFormed.{IsWellFormed};
 ghost use Rattle.grc_graph.specs.BuiltGraphs.{IsGraphOf, graph_size};
 ghost use Rattle.grc_graph.specs.Instances.{body_instances};
+ghost use Rattle.grc_graph.specs.Neighbouring.{program_wires};
+ghost use Rattle.grc_graph.specs.PlainGraphs.{wire_of};
 ghost use Rattle.grc_graph.specs.PlainInstances.{instance_of};
+ghost use Rattle.grc_graph.specs.SelectionTrees.{body_tree};
+ghost use Rattle.grc_graph.specs.Statements.{program_listed};
+ghost use Rattle.grc_graph.specs.StatementViews.{view_of};
+ghost use Rattle.grc_graph.specs.TreeForms.{node_of};
+ghost use Rattle.grc_graph.specs.WireTables.{AreFirsts, AreNeighbours};
 ghost use Rattle.grc_build.specs.Faults.{FaultHasCause};
-ghost use Rattle.grc_build.specs.Parts.{AreParts};
-ghost use Rattle.grc_build.specs.Tabled.{AreTables, program_in};
+ghost use Rattle.grc_build.specs.Parts.{AreParts, AreFormulas, IsLayoutOf};
+ghost use Rattle.grc_build.specs.Tabled.{AreTables};
 
 use crate::emissions::gather_emissions;
 use crate::equations::equations;
@@ -21,39 +28,54 @@ use crate::rooms::room_left;
 use crate::tables::Tables;
 use est_base::NoMemory;
 use est_kernel::{Codes, KernelProgram};
-use grc_graph::{Formula, Graph, Instances, Neighbours, Node, Wire, list_statements};
+use grc_graph::{
+    Formula, Graph, Instances, Neighbours, Node, SelTree, Statement, WireLayout, list_statements,
+    wire_layout,
+};
 use std::alloc::Global;
 
-/// The graph of a program: `codes` are the static codes of its body, and `live` are its live
-/// instances. Its errors are too many wires and live test nodes, and want of memory.
+/// The graph of a program: `codes` are the static codes of its body, `tree` is its selection tree, and `live` are its
+/// live instances. Its errors are too many wires and live test nodes, and want of memory.
 pub fn build(
     alloc: Global,
     program: KernelProgram,
-    codes: &Codes,
+    codes: Codes,
     live: Instances,
+    tree: SelTree,
 ) -> Result<Graph, BuildFault>
     requires formed { IsWellFormed (program_of program) }
-    requires codes { AreCodesOf codes.now (term_of program.body) }
+    requires codes { AreCodesOf codes (term_of program.body) }
+    requires tree { map node_of tree.nodes.items ≡ body_tree (term_of program.body) }
     requires live { map instance_of live.list.items ≡ body_instances (term_of program.body) }
     ensures graph { IfOk result (λ graph. IsGraphOf graph (program_of program)) }
     ensures refuses { IfErr result (λ fault. FaultHasCause (program_of program) fault) }
 {
-    let parts = graph_parts(alloc, &program, codes, &live)?;
+    let Parts { layout, formulas } = graph_parts(alloc, &program, &codes, &live)?;
     Ok(Graph {
         program,
+        codes,
         instances: live,
-        nodes: parts.nodes,
-        wires: parts.wires,
-        equations: parts.equations,
-        next: parts.next,
+        tree,
+        nodes: formulas.nodes,
+        wires: layout.wires,
+        equations: formulas.equations,
+        next: formulas.next,
+        first_wires: layout.first_wires,
+        first_instances: layout.first_instances,
     })
 }
 
 /// What of a graph is made of its program.
 #[derive(Drop)]
 pub(crate) struct Parts {
+    pub layout: WireLayout,
+    pub formulas: Formulas,
+}
+
+/// The nodes and the formulas of a graph over its wires.
+#[derive(Drop)]
+pub(crate) struct Formulas {
     pub nodes: Vec<Node>,
-    pub wires: Vec<Wire>,
     pub equations: Vec<Formula>,
     pub next: Vec<Formula>,
 }
@@ -68,7 +90,7 @@ fn graph_parts(
     requires formed { IsWellFormed (program_of program.now) }
     requires codes { AreCodesOf codes.now (term_of program.now.body) }
     requires live { map instance_of live.now.list.items ≡ body_instances (term_of program.now.body) }
-    ensures parts { IfOk result (λ parts. AreParts (program_of program.now) parts) }
+    ensures parts { IfOk result (λ parts. AreParts program.now live.now parts) }
     ensures few { IfOk result (λ parts. graph_size (program_of program.now) ≤ WIRES) }
     ensures refuses { IfErr result (λ fault. FaultHasCause (program_of program.now) fault) }
 {
@@ -76,30 +98,54 @@ fn graph_parts(
     match room_left(program, &statements, codes, live) {
         None => Err(BuildFault::TooManyWires),
         Some(_) => {
-            let wires = Neighbours::new(alloc, program, &statements, codes, live)?;
-            let tables = Tables {
-                program,
-                statements,
-                wires,
-            };
-            let parts = table_parts(alloc, tables)?;
+            let layout = wire_layout(alloc, program, &statements, codes, live)?;
+            let parts = laid_parts(alloc, program, statements, live, layout)?;
             Ok(parts)
         }
     }
 }
 
-// The parts of the graph that these tables describe.
-fn table_parts(alloc: Global, tables: Tables<'_>) -> Result<Parts, NoMemory>
+// The parts of a graph whose wires are laid out so.
+fn laid_parts(
+    alloc: Global,
+    program: &KernelProgram,
+    statements: Vec<Statement<'_>>,
+    live: &Instances,
+    layout: WireLayout,
+) -> Result<Parts, NoMemory>
+    requires formed { IsWellFormed (program_of program.now) }
+    requires statements { map view_of statements.items ≡ program_listed (program_of program.now) }
+    requires live { map instance_of live.now.list.items ≡ body_instances (term_of program.now.body) }
+    requires layout { IsLayoutOf program.now live.now layout }
+    ensures { IfOk result (λ parts. AreParts program.now live.now parts) }
+{
+    let wires = Neighbours::over(
+        program,
+        live,
+        &layout.wires,
+        &layout.first_wires,
+        &layout.first_instances,
+    );
+    let tables = Tables {
+        program,
+        statements,
+        wires,
+    };
+    let formulas = table_formulas(alloc, tables)?;
+    Ok(Parts { layout, formulas })
+}
+
+// The nodes and the formulas of the graph that these tables describe.
+fn table_formulas(alloc: Global, tables: Tables<'_>) -> Result<Formulas, NoMemory>
     requires { AreTables tables }
-    ensures { IfOk result (λ parts. AreParts (program_in tables.entry) parts) }
+    ensures { IfOk result (λ formulas. AreFormulas tables.entry formulas) }
 {
     let emitters = gather_emissions(alloc, &tables)?;
     let nodes = nodes(alloc, &tables)?;
     let equations = equations(alloc, &tables, &emitters)?;
     let next = next_formulas(alloc, &tables)?;
-    Ok(Parts {
+    Ok(Formulas {
         nodes,
-        wires: tables.wires.into_wires(),
         equations,
         next,
     })

@@ -18,7 +18,7 @@ ghost use Rattle.grc_build.specs.Rooms.{Leaves, instance_size};
 
 use est_base::{CodeSet, Limits};
 use est_kernel::{Codes, Kernel, KernelProgram, Test};
-use grc_graph::{Instances, Layer, Statement, instance_codes};
+use grc_graph::{Instances, Layer, Statement, codes_end, instance_codes};
 
 /// What the wires and the live test nodes of a program's graph leave of `Limits::WIRES`; None where
 /// they are more. It stops at the first instance that is too much.
@@ -75,7 +75,7 @@ fn code_count(codes: CodeSet) -> u64
     ensures { result ≡ length (listed (members codes)) }
 {
     let mut count = 0;
-    for code in 0..64 {
+    for code in 0..codes_end(codes) {
         count += one_if(codes.has(code));
     }
     count

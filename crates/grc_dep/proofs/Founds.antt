@@ -11,7 +11,7 @@ use Rattle.grc_graph.specs.Statements.{signals_in}
 use Rattle.grc_graph.specs.Wires.{Wire, status_wire, listed, codes_below}
 use Rattle.grc_graph.specs.Edges.{Edge, edge, edges_if, status_to, test_to}
 use Rattle.grc_graph.specs.WireOrders.{WireEdge}
-use Rattle.grc_graph.proofs.CodesBelow.{codes_below-none, codes_below-all}
+use Rattle.grc_graph.proofs.CodesBelow.{codes_below-none}
 use Rattle.grc_dep.specs.Names.{number_of}
 use Rattle.grc_dep.specs.Found.{pair_of, found}
 
@@ -92,9 +92,9 @@ codes_step ws F A n b xs pairs new h e so here =
     ∙ ap (λ l. found ws (F (codes_below n A) ++ l)) (sym (if_one F b n h.none))
     ∙ ap (found ws) (sym (h.both (codes_below n A) (if b then n ∷ [] else [])) ∙ ap F (sym (below_more n A b (sym e)))))
 
-pub codes_end : (ws : List Wire) (F : List ℕ → List Edge) (A : ℕ → Bool) (n : ℕ) (xs pairs : List WireEdge) → n ≡ 64
-    → pairs ≡ xs ++ found ws (F (codes_below n A)) → pairs ≡ xs ++ found ws (F (listed A))
-codes_end ws F A n xs pairs e so = so ∙ ap (λ ks. xs ++ found ws (F ks)) (codes_below-all n A e)
+pub codes_end : (ws : List Wire) (F : List ℕ → List Edge) (A : ℕ → Bool) (n end : ℕ) (xs pairs : List WireEdge) → n ≡ end
+    → codes_below end A ≡ listed A → pairs ≡ xs ++ found ws (F (codes_below n A)) → pairs ≡ xs ++ found ws (F (listed A))
+codes_end ws F A n end xs pairs e all so = so ∙ ap (λ ks. xs ++ found ws (F ks)) (ap (λ k. codes_below k A) e ∙ all)
 
 pub two_tests : (f : ℕ → Edge) (n : ℕ) (q a : Bool) → edges_if (q && a) (f n ∷ []) ≡ edges_if a (map f (if q then n ∷ [] else []))
 two_tests f n true true = refl

@@ -1,15 +1,10 @@
 // The dependency edges of a graph.
 
-ghost use Rattle.std.specs.Prelude.{◌≡◌, ◌≤◌, ◌++◌, length, map, IfOk, OnOk};
-ghost use Rattle.est_base.specs.declared.bounds.TheConstants.Limits.{WIRES};
-ghost use Rattle.est_kernel.specs.CodeLists.{AreCodesOf};
-ghost use Rattle.est_kernel.specs.Plain.{term_of, program_of};
-ghost use Rattle.est_kernel.specs.WellFormed.{IsWellFormed};
-ghost use Rattle.grc_graph.specs.Instances.{body_instances};
-ghost use Rattle.grc_graph.specs.PlainGraphs.{instances_of, names_of};
+ghost use Rattle.std.specs.Prelude.{◌≡◌, ◌++◌, length, map, IfOk, OnOk};
+ghost use Rattle.est_kernel.specs.Plain.{program_of};
+ghost use Rattle.grc_graph.specs.PlainGraphs.{names_of};
 ghost use Rattle.grc_graph.specs.GraphRuns.{program_spots};
 ghost use Rattle.grc_graph.specs.Edges.{edges};
-ghost use Rattle.grc_graph.specs.Neighbouring.{program_wires};
 ghost use Rattle.grc_graph.specs.NumberedEdges.{AreEdgesOf};
 ghost use Rattle.grc_graph.specs.Statements.{program_listed};
 ghost use Rattle.grc_graph.specs.StatementViews.{view_of};
@@ -19,30 +14,22 @@ use crate::instance_edges::push_edges_at;
 use crate::lookups::Lookups;
 use crate::sorting::sort_pairs;
 use est_base::{NoMemory, WireId};
-use est_codes::code_sets;
-use est_kernel::Codes;
-use grc_graph::{Edges, Graph, Neighbours, Statement, list_statements};
+use grc_graph::{Edges, Graph, Statement, list_statements};
 use std::alloc::Global;
 
-/// The dependency edges between the wires of a graph, each once, in ascending order. The graph is one whose instances
-/// and wires are those of its program. The time is linear in the edges but for a logarithm; the error is want of
-/// memory.
+/// The dependency edges between the wires of a graph, each once, in ascending order. The time is linear in the edges
+/// but for a logarithm; the error is want of memory.
 pub fn edges(alloc: Global, graph: &Graph) -> Result<Edges, NoMemory>
-    requires formed { IsWellFormed (program_of graph.now.program) }
-    requires instances { instances_of graph.now ≡ body_instances (term_of graph.now.program.body) }
-    requires wires { names_of graph.now ≡ program_wires (program_of graph.now.program) }
-    requires few { length graph.now.wires.items ≤ WIRES }
     ensures count { IfOk result (λ e. e.count ≡ length graph.now.wires.items) }
     ensures edges { IfOk result (λ e. AreEdgesOf (names_of graph.now)
         (edges (program_spots (program_of graph.now.program))) e.pairs.items) }
 {
     let program = &graph.program;
     let statements = list_statements(alloc, program)?;
-    let codes = code_sets(alloc, &program.body)?;
-    let tables = Neighbours::new(alloc, program, &statements, &codes, &graph.instances)?;
+    let tables = graph.neighbours();
     let lookups = Lookups { tables: &tables };
-    let mut pairs = Vec::new(alloc);
-    push_edges(alloc, graph, &lookups, &codes, &statements, &mut pairs)?;
+    let mut pairs = Vec::with_capacity(alloc, graph.wires.len())?;
+    push_edges(alloc, graph, &lookups, &statements, &mut pairs)?;
     sort_pairs(&mut pairs)?;
     Ok(Edges {
         count: graph.wires.len() as u32,
@@ -55,20 +42,16 @@ fn push_edges(
     alloc: Global,
     graph: &Graph,
     lookups: &Lookups,
-    codes: &Codes,
     statements: &[Statement],
     pairs: &mut Vec<(WireId, WireId)>,
 ) -> Result<(), NoMemory>
-    requires formed { IsWellFormed (program_of graph.now.program) }
-    requires instances { instances_of graph.now ≡ body_instances (term_of graph.now.program.body) }
-    requires codes { AreCodesOf codes.now (term_of graph.now.program.body) }
-    requires statements { map view_of statements.now ≡ program_listed (program_of graph.now.program) }
+    requires { map view_of statements.now ≡ program_listed (program_of graph.now.program) }
     ensures { OnOk result (pairs.new.items ≡ pairs.old.items
         ++ found_by lookups.now (edges (program_spots (program_of graph.now.program)))) }
 {
     for instance in &graph.instances.list {
         let statement = &statements[instance.path.0 as usize];
-        push_edges_at(alloc, lookups, codes, statement, *instance, pairs)?;
+        push_edges_at(alloc, lookups, &graph.codes, statement, *instance, pairs)?;
     }
     Ok(())
 }

@@ -13,7 +13,7 @@ ghost use Rattle.grc_dep.specs.Found.{found_by};
 use crate::lookups::Lookups;
 use crate::names::NamedWire;
 use est_base::{CodeSet, NoMemory, WireId};
-use grc_graph::Instance;
+use grc_graph::{Instance, codes_end};
 
 // The edge between two wires, where the graph has both.
 pub fn push_edge(
@@ -64,7 +64,7 @@ pub fn push_go_to_ends(
     ensures { OnOk result (pairs.new.items ≡ pairs.old.items
         ++ found_by lookups.now (go_to_ends (members codes) (instance_of at).path (instance_of at).layer)) }
 {
-    for code in 0..64 {
+    for code in 0..codes_end(codes) {
         let holds = codes.has(code);
         push_edge_if(
             lookups,
@@ -89,7 +89,7 @@ pub fn push_ends_to_ends(
         ++ found_by lookups.now (ends_to_ends (members codes) (instance_of part).path (instance_of part).layer
         (instance_of whole).path (instance_of whole).layer)) }
 {
-    for code in 0..64 {
+    for code in 0..codes_end(codes) {
         let holds = codes.has(code);
         let to = NamedWire::End(whole, code);
         push_edge_if(lookups, holds, NamedWire::End(part, code), to, pairs)?;
@@ -110,7 +110,7 @@ pub fn push_trapped_to_ends(
         ++ found_by lookups.now (trapped_to_ends (members codes) (instance_of part).path (instance_of whole).path
         (instance_of whole).layer)) }
 {
-    for code in 0..64 {
+    for code in 0..codes_end(codes) {
         let holds = codes.has(code);
         let to = NamedWire::End(whole, trap_code(code));
         push_edge_if(lookups, holds, NamedWire::End(part, code), to, pairs)?;
@@ -143,7 +143,7 @@ pub fn push_branch_to_ends(
         ++ found_by lookups.now (branch_to_ends (members codes) (members whole_codes) (instance_of part).path
         (instance_of whole).path (instance_of whole).layer)) }
 {
-    for code in 0..64 {
+    for code in 0..codes_end(codes) {
         let holds = codes.has(code);
         push_to_ends_above(lookups, holds, whole_codes, part, code, whole, pairs)?;
     }
@@ -167,7 +167,7 @@ fn push_to_ends_above(
     if !holds {
         return Ok(());
     }
-    for above in 0..64 {
+    for above in 0..codes_end(whole_codes) {
         let holds = has_above(whole_codes, code, above);
         let to = NamedWire::End(whole, above);
         push_edge_if(lookups, holds, NamedWire::End(part, code), to, pairs)?;

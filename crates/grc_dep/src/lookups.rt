@@ -11,7 +11,7 @@ use grc_graph::Neighbours;
 // The tables of a graph, in which each wire has one number.
 #[derive(Clone, Copy)]
 pub struct Lookups<'a> {
-    pub tables: &'a Neighbours,
+    pub tables: &'a Neighbours<'a>,
     ghost apart: { Apart (names_in tables.now) },
 }
 

@@ -19,6 +19,7 @@ pub mod WireSearching
 pub mod WireNames
 pub mod WireFilling
 pub mod NeighbourReads
+pub mod InstanceRuns
 pub mod LiveLayers
 pub mod RowSpots
 pub mod CodeBounds

@@ -56,10 +56,10 @@ layer_before-same (Started q) (Started r) h g =
     ap Started (let e : q ≡ r = omega arith in e)
 
 -- what it means to come before
-abbrev Ahead : plain.Instance → plain.Instance → Type 0
+abbrev pub Ahead : plain.Instance → plain.Instance → Type 0
 Ahead x y = (x.path < y.path) ⊎ ((x.path ≡ y.path) × (layer_before x.layer y.layer ≡ true))
 
-ahead : (x y : plain.Instance) → comes_before x y ≡ true → Ahead x y
+pub ahead : (x y : plain.Instance) → comes_before x y ≡ true → Ahead x y
 ahead x y h = ⊎_elim (λ e. inl (ltb-true x.path y.path e))
     (λ e. let p = and_parts (x.path == y.path) (layer_before x.layer y.layer) e in inr (eqb-true x.path y.path p.0, p.1))
     (or_cases (nat_lt x.path y.path) (x.path == y.path && layer_before x.layer y.layer) h)

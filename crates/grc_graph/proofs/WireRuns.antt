@@ -46,10 +46,10 @@ in_two P xs ys w d h f g =
     (cases_lt w (length xs))
 
 -- reads of the list of first numbers, with one more behind
-first_kept : (first : List ℕ) (x i : ℕ) → i < length first → slice_index (first ++ x ∷ []) i ≡ slice_index first i
+pub first_kept : (first : List ℕ) (x i : ℕ) → i < length first → slice_index (first ++ x ∷ []) i ≡ slice_index first i
 first_kept first x i h = get_or_append_left first (x ∷ []) 0 i h
 
-first_new : (first : List ℕ) (x i : ℕ) → length first ≡ i → slice_index (first ++ x ∷ []) i ≡ x
+pub first_new : (first : List ℕ) (x i : ℕ) → length first ≡ i → slice_index (first ++ x ∷ []) i ≡ x
 first_new first x i h = ap (λ k. get_or (first ++ x ∷ []) k 0) (let e : i ≡ length first + 0 = omega arith in e) ∙ get_or-append-add first (x ∷ []) 0 0
 
 owner_same : (u : Wire) (i j : ℕ) → owner u ≡ Some i → owner u ≡ Some j → j ≡ i

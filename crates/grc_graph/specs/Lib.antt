@@ -21,6 +21,8 @@ pub mod WireOrders
 pub mod GraphRuns
 pub mod PathTargets
 pub mod PlainGraphs
+pub mod LayoutFacts
+pub mod Layouts
 pub mod Reads
 pub mod NumberedEdges
 pub mod GraphShapes

@@ -9,7 +9,7 @@ use Rattle.grc_graph.specs.PlainGraphs.{wire_of}
 
 -- the instances and the wires by name
 abbrev pub instances_in : Neighbours → List plain.Instance
-instances_in t = map instance_of t.list.items
+instances_in t = map instance_of t.list.now
 
 abbrev pub names_in : Neighbours → List names.Wire
-names_in t = map (wire_of (instances_in t)) t.wires.items
+names_in t = map (wire_of (instances_in t)) t.wires.now

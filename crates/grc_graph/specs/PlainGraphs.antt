@@ -1,12 +1,9 @@
--- To believe: the plain form of a graph: its wires, nodes and formulas by name. A number of an instance or of a wire is
--- read through the list of instances or of wires; a number that is out of range, which no graph has, is read as the
--- body's resumed instance or its `go`.
+-- To believe: the plain form of a graph: its nodes and formulas by name. A number of a wire is read through the list of
+-- wires; a number that is out of range, which no graph has, is read as the `go` of the body's resumed instance.
 use Rattle.std.specs.Prelude.{ℕ, Bool, false, List, [], ◌∷◌, map, zip, slice_index_or}
 use Rattle.est_kernel.specs.Plain.{Program, program_of, interface_of, interface_count}
 use Rattle.grc_graph.specs.declared.formulas.Formula.{Formula}
 use Rattle.grc_graph.specs.declared.formulas.Formula.TheVariants as formulas
-use Rattle.grc_graph.specs.declared.wires.Wire.{Wire}
-use Rattle.grc_graph.specs.declared.wires.Wire.TheVariants as wires
 use Rattle.grc_graph.specs.declared.wires.Node.{Node}
 use Rattle.grc_graph.specs.declared.wires.Node.TheVariants as nodes
 use Rattle.grc_graph.specs.Layers.{Resumed}
@@ -21,17 +18,7 @@ use Rattle.grc_graph.specs.Scopes.{program_scope}
 use Rattle.grc_graph.specs.SelectionTrees.{body_leaves}
 use Rattle.grc_graph.specs.Equations.{Equation}
 use Rattle.grc_graph.specs.GraphRuns.{PlainGraph}
-
--- the instance with a number
-abbrev pub instance_at : List Instance → ℕ → Instance
-instance_at insts i = slice_index_or insts i (record { path = 0; layer = Resumed })
-
--- a wire by name
-abbrev pub wire_of : List Instance → Wire → plain.Wire
-wire_of insts (wires.Go i) = plain.Go (instance_at insts i.0).path (instance_at insts i.0).layer
-wire_of insts (wires.End i k) = plain.End (instance_at insts i.0).path (instance_at insts i.0).layer k
-wire_of insts (wires.Local i) = plain.StatusOf (instance_at insts i.0).path (instance_at insts i.0).layer
-wire_of insts (wires.Out s) = plain.Out s.0
+pub use Rattle.grc_graph.specs.PlainInstances.{instance_at, wire_of}
 
 -- the wire with a number
 abbrev pub wire_at : List plain.Wire → ℕ → plain.Wire

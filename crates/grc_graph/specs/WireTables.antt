@@ -83,6 +83,25 @@ pub record AreNeighbours (insts : List Instance) (list : List Wire) (first : Lis
   pub runs : AreRuns (length insts) list first
   pub outs : AreOutgoing inputs outgoing list
 
+-- each instance is of one of so many statements
+abbrev pub AreBelow : ℕ → List Instance → Type 0
+AreBelow count insts = (i : ℕ) (d : Instance) → i < length insts → (slice_index_or insts i d).path.0 < count
+
+-- the instances before this place are of statements before this one, and those from there on are not
+abbrev pub SplitsAtStatement : ℕ → List Instance → ℕ → Type 0
+SplitsAtStatement n insts p =
+    IsPartitionPoint (λ x. nat_lt x.path.0 n ≡ true) (λ x. nat_lt x.path.0 n ≡ false) insts p
+
+-- for each number of a statement how many instances are of statements before it
+pub record AreCountsBefore (insts : List Instance) (firsts : List ℕ) : Type 0 where
+  pub within : (n : ℕ) → n < length firsts → slice_index firsts n ≤ length insts
+  pub splits : (n : ℕ) → n < length firsts → SplitsAtStatement n insts (slice_index firsts n)
+
+-- the first instance of each statement, and one more number behind the last statement
+pub record AreFirsts (insts : List Instance) (firsts : List ℕ) : Type 0 where
+  pub counts : AreCountsBefore insts firsts
+  pub all : (i : ℕ) (d : Instance) → i < length insts → (slice_index_or insts i d).path.0 + 1 < length firsts
+
 -- the wires of the instance with the number i, with a status wire or not, and an end for each of these codes
 abbrev pub wire_run : Bool → (ℕ → Bool) → ℕ → List Wire
 wire_run b A i =

@@ -1,25 +1,39 @@
 // The graph of a kernel program.
 
+ghost use Rattle.std.specs.Prelude.{◌+◌, length, map};
+ghost use Rattle.std.proofs.Props.{props};
+ghost use Rattle.est_kernel.specs.CodeLists.{AreCodesOf};
+ghost use Rattle.est_kernel.specs.Plain.{program_of, term_of};
 ghost use Rattle.grc_graph.specs.GraphShapes.{IndicesFit};
-ghost use Rattle.std.specs.Prelude.{length};
+ghost use Rattle.grc_graph.specs.LayoutFacts.{exits-prop, signals-prop, relates-prop};
+ghost use Rattle.grc_graph.specs.Layouts.{IsLaidOut};
+ghost use Rattle.grc_graph.specs.PlainInstances.{instance_of};
+ghost use Rattle.grc_graph.specs.WireTables.{AreFirsts, AreNeighbours};
 
 use crate::formulas::Formula;
 use crate::instances::Instances;
+use crate::neighbours::Neighbours;
+use crate::trees::SelTree;
 use crate::wire_names::WireName;
 use crate::wire_search::Search;
 use crate::wires::{Node, Wire};
 use est_base::{InstId, WireId};
-use est_kernel::KernelProgram;
+use est_kernel::{Codes, KernelProgram};
 
 /// The graph of a kernel program: a node per live instance, an equation per wire, and a formula per
 /// leaf of the selection tree, which says whether the leaf is selected in the next instant. Each
-/// index in it is in range.
+/// index in it is in range. With it go the static codes and the selection tree of the body, and where each
+/// instance and each wire is found (`neighbours`).
 #[derive(Drop)]
 pub struct Graph {
     /// The program that this is the graph of.
     pub program: KernelProgram,
+    /// The static codes of the program's body.
+    pub codes: Codes,
     /// The live instances; an `InstId` is a place in this list.
     pub instances: Instances,
+    /// The selection tree of the program's body.
+    pub tree: SelTree,
     /// What each instance is in the control-flow graph, by its `InstId`.
     pub nodes: Vec<Node>,
     /// What each wire is; a `WireId` is a place in this list.
@@ -28,12 +42,24 @@ pub struct Graph {
     pub equations: Vec<Formula>,
     /// For each leaf of the selection tree, in their order, when it is selected in the next instant.
     pub next: Vec<Formula>,
+    /// For each instance the number of its first wire, and at last the number of wires.
+    pub first_wires: Vec<u32>,
+    /// For each statement the number of its first instance, and at last the number of instances.
+    pub first_instances: Vec<u32>,
+    ghost laid_out: { IsLaidOut (program_of program) (map instance_of instances.list.items) wires.items
+        tree.nodes.items (length next.items) } by { Prim.hlevel (props, exits-prop, signals-prop, relates-prop) },
+    ghost code_sets: { AreCodesOf codes (term_of program.body) },
     ghost indices: { IndicesFit (length instances.list.items) wires.items nodes.items equations.items next.items },
+    ghost tables: { AreNeighbours instances.list.items wires.items first_wires.items program.inputs
+        (program.both + program.outputs) },
+    ghost statements: { AreFirsts instances.list.items first_instances.items },
 }
 
 impl Graph {
-    ghost use Rattle.std.specs.Prelude.{◌≡◌, ◌<◌, ◌≤◌, ◌^◌, slice_get, Some};
+    ghost use Rattle.std.specs.Prelude.{◌≡◌, ◌<◌, slice_get, Some};
     ghost use Rattle.grc_graph.specs.NamedWires.{FindsName};
+    ghost use Rattle.grc_graph.specs.Neighbouring.{instances_in, names_in};
+    ghost use Rattle.grc_graph.specs.PlainGraphs.{instances_of, names_of};
     ghost use Rattle.grc_graph.specs.PlainWireNames.{wire_name_of};
 
     /// The wires by number. It takes no memory.
@@ -55,6 +81,20 @@ impl Graph {
         ensures { result.now ≡ self.now.instances }
     {
         &self.instances
+    }
+
+    /// The instances and wires, each found by its name. It takes no memory.
+    pub fn neighbours(&self) -> Neighbours<'_>
+        ensures instances { instances_in result ≡ instances_of self.now }
+        ensures wires { names_in result ≡ names_of self.now }
+    {
+        Neighbours::over(
+            &self.program,
+            &self.instances,
+            &self.wires,
+            &self.first_wires,
+            &self.first_instances,
+        )
     }
 
     /// The node of an instance. It takes no memory.
@@ -84,7 +124,6 @@ impl Graph {
     /// The number of the wire with this name, the first where several have it; None where no wire has it. The
     /// time is linear in the body and in the wires. It takes no memory.
     pub fn wire_at(&self, name: &WireName) -> Option<WireId>
-        requires few { length self.now.wires.items ≤ 2 ^ 32 }
         ensures { FindsName self.now result (wire_name_of name.now) }
     {
         let search = Search::new(self, name);

@@ -13,6 +13,7 @@ mod graph;
 mod instances;
 mod judgements;
 mod laws;
+mod layout;
 mod neighbours;
 mod orders;
 mod statements;
@@ -21,7 +22,7 @@ mod wire_names;
 mod wire_search;
 mod wires;
 
-pub use code_tables::{has_some_code, resumed_codes, started_codes};
+pub use code_tables::{codes_end, has_some_code, instance_codes, resumed_codes, started_codes};
 pub use formulas::Formula;
 pub use graph::Graph;
 pub use instances::{Instance, Instances, Layer};
@@ -29,7 +30,8 @@ pub use laws::{
     enclosing_instances_are_live, instances_ascend, leaves_are_resumed_pauses,
     residual_has_resumed_codes,
 };
-pub use neighbours::{Neighbours, instance_codes, layer_above};
+pub use layout::{WireLayout, wire_layout};
+pub use neighbours::{Neighbours, layer_above};
 pub use orders::{Edges, Order, Ranks};
 pub use statements::{Binding, Entry, Statement, list_statements};
 pub use trees::{SelForm, SelNode, SelTree};

@@ -1,84 +1,69 @@
-// Tables of live instances and of wires, which are read by name.
+// Live instances and wires of a graph, which are read by name.
 
-ghost use Rattle.grc_graph.specs.WireTables.{AreNeighbours};
+ghost use Rattle.grc_graph.specs.WireTables.{AreFirsts, AreNeighbours};
 
-use crate::code_tables::{resumed_codes, started_codes};
 use crate::instances::{Instance, Instances, Layer};
-use crate::statements::Statement;
 use crate::wires::Wire;
-use est_base::{CodeSet, InstId, NoMemory, PathId, SigId, WireId};
-use est_kernel::{Codes, Kernel, KernelProgram};
-use std::alloc::Global;
+use est_base::{InstId, PathId, SigId, WireId};
+use est_kernel::KernelProgram;
 
-/// The live instances of a program and the wires of its graph, each found by its name: instances in
-/// steps that are logarithmic in their number, the wires of an instance in steps that are linear in
-/// the number of its codes.
-#[derive(Drop)]
-pub struct Neighbours {
-    list: Vec<Instance>,
-    wires: Vec<Wire>,
+/// The live instances and the wires of a graph, each found by its name: an instance in steps that are logarithmic in
+/// the number of those of its statement, the wires of an instance in steps that are linear in the number of its codes.
+#[derive(Clone, Copy)]
+pub struct Neighbours<'a> {
+    list: &'a [Instance],
+    wires: &'a [Wire],
     // For each instance the number of its first wire, and at last the number of wires.
-    first: Vec<u32>,
+    first: &'a [u32],
+    // For each statement the number of its first instance, and at last the number of instances.
+    first_instances: &'a [u32],
     inputs: u32,
     outgoing: u32,
-    ghost tables: { AreNeighbours list.items wires.items first.items inputs outgoing },
+    ghost tables: { AreNeighbours list.now wires.now first.now inputs outgoing },
+    ghost statements: { AreFirsts list.now first_instances.now },
 }
 
-impl Neighbours {
-    ghost use Rattle.std.specs.Prelude.{◌≡◌, ℕ, ◌+◌, ◌<◌, ◌≤◌, length, map, slice_index, slice_index_or, IfOk};
-    ghost use Rattle.std.specs.Prelude.{MatchOption, Contains};
-    ghost use Rattle.est_base.specs.declared.bounds.TheConstants.Limits.{WIRES};
-    ghost use Rattle.est_kernel.specs.CodeLists.{AreCodesOf};
-    ghost use Rattle.est_kernel.specs.Plain.{program_of};
-    ghost use Rattle.est_kernel.specs.WellFormed.{IsWellFormed};
+impl<'a> Neighbours<'a> {
+    ghost use Rattle.std.specs.Prelude.{◌≡◌, ℕ, ◌+◌, ◌<◌, ◌≤◌, length, slice_index, slice_index_or};
+    ghost use Rattle.std.specs.Prelude.{MatchOption};
     ghost use Rattle.grc_graph.specs.declared.wires.Wire.{Wire as stored_wire};
-    ghost use Rattle.grc_graph.specs.Neighbouring.{program_wires};
-    ghost use Rattle.grc_graph.specs.Instances.{body_instances};
     ghost use Rattle.grc_graph.specs.Layers.{layer_above};
     ghost use Rattle.grc_graph.specs.Neighbouring.{instances_in, names_in};
     ghost use Rattle.grc_graph.specs.PlainGraphs.{instance_at};
     ghost use Rattle.grc_graph.specs.PlainInstances.{instance_of, layer_of};
-    ghost use Rattle.grc_graph.specs.Statements.{program_listed};
-    ghost use Rattle.grc_graph.specs.StatementViews.{view_of};
     ghost use Rattle.grc_graph.specs.WireTables.{IsNumberOf, HasInstance, HasName};
     ghost use Rattle.grc_graph.specs.Wires.{Out, Go, StatusOf, End};
 
-    /// The tables of a program's graph: `statements`, `codes` and `live` are those of its body.
-    /// Its only error is want of memory.
-    pub fn new(
-        alloc: Global,
+    /// These instances and wires of a program's graph, with the first wire of each instance and the first instance of
+    /// each statement.
+    pub fn over(
         program: &KernelProgram,
-        statements: &[Statement<'_>],
-        codes: &Codes,
-        live: &Instances,
-    ) -> Result<Neighbours, NoMemory>
-        requires formed { IsWellFormed (program_of program.now) }
-        requires statements { map view_of statements.now ≡ program_listed (program_of program.now) }
-        requires codes { AreCodesOf codes.now (term_of program.now.body) }
-        requires live { map instance_of live.now.list.items ≡ body_instances (term_of program.now.body) }
-        requires few { length (program_wires (program_of program.now)) ≤ WIRES }
-        ensures instances { IfOk result (λ t. instances_in t ≡ body_instances (term_of program.now.body)) }
-        ensures wires { IfOk result (λ t. names_in t ≡ program_wires (program_of program.now)) }
+        live: &'a Instances,
+        wires: &'a [Wire],
+        first_wires: &'a [u32],
+        first_instances: &'a [u32],
+    ) -> Neighbours<'a>
+        requires tables { AreNeighbours live.now.list.items wires.now first_wires.now program.now.inputs
+            (program.now.both + program.now.outputs) }
+        requires statements { AreFirsts live.now.list.items first_instances.now }
+        ensures instances { result.list.now ≡ live.now.list.items }
+        ensures wires { result.wires.now ≡ wires.now }
     {
-        let outgoing = program.both + program.outputs;
-        let mut wires = Vec::new(alloc);
-        push_outgoing(&mut wires, program.inputs, outgoing)?;
-        let mut first = Vec::new(alloc);
-        first.push(outgoing)?;
-        for (i, instance) in live.list.iter().enumerate() {
-            let path = instance.path.0;
-            let set = instance_codes(codes, *instance);
-            let local = is_local(statements[path as usize].body);
-            push_run(&mut wires, InstId(i as u32), local, set)?;
-            first.push(wires.len() as u32)?;
-        }
-        Ok(Neighbours {
-            list: Vec::from_slice(alloc, live.list.as_slice())?,
+        Neighbours {
+            list: live.list.as_slice(),
             wires,
-            first,
+            first: first_wires,
+            first_instances,
             inputs: program.inputs,
-            outgoing,
-        })
+            outgoing: program.both + program.outputs,
+        }
+    }
+
+    /// The wires by number. It takes no memory.
+    pub fn wires(&self) -> &'a [Wire]
+        ensures { result.now ≡ self.now.wires.now }
+    {
+        self.wires
     }
 
     /// The number of instances. It takes no memory.
@@ -101,13 +86,16 @@ impl Neighbours {
     pub fn find_instance(&self, path: u32, layer: Layer) -> Option<InstId>
         ensures { HasInstance (instances_in self.now) result (record { path = path; layer = layer_of layer }) }
     {
+        let statement = path as usize;
+        if statement + 1 >= self.first_instances.len() {
+            return None;
+        }
+        let from = self.first_instances[statement] as usize;
+        let to = self.first_instances[statement + 1] as usize;
         let path = PathId(path);
-        let wanted = Instance { path, layer };
-        let place = place_of(&self.list, wanted);
-        if place < self.list.len() && !comes_before(wanted, self.list[place]) {
-            Some(InstId(place as u32))
-        } else {
-            None
+        match find_place(&self.list[from..to], Instance { path, layer }) {
+            Some(place) => Some(InstId((from + place) as u32)),
+            None => None,
         }
     }
 
@@ -191,11 +179,11 @@ impl Neighbours {
 
     // The number of a wire among those of an instance.
     fn find_wire(&self, i: InstId, wanted: Wire) -> Option<WireId>
-        requires { i.0 < length self.now.list.items }
+        requires { i.0 < length self.now.list.now }
         ensures { MatchOption result
-            ((w : ℕ) (d : stored_wire) → slice_index self.now.first.items i.0 ≤ w
-            → w < slice_index self.now.first.items (i.0 + 1) → slice_index_or self.now.wires.items w d ≡ wanted → ⊥)
-            (λ w. IsNumberOf self.now.wires.items w.0 wanted) }
+            ((w : ℕ) (d : stored_wire) → slice_index self.now.first.now i.0 ≤ w
+            → w < slice_index self.now.first.now (i.0 + 1) → slice_index_or self.now.wires.now w d ≡ wanted → ⊥)
+            (λ w. IsNumberOf self.now.wires.now w.0 wanted) }
     {
         for w in self.first[i.0 as usize]..self.first[i.0 as usize + 1] {
             if self.wires[w as usize] == wanted {
@@ -204,31 +192,11 @@ impl Neighbours {
         }
         None
     }
-
-    /// The wires by number. It takes no memory.
-    pub fn wires(&self) -> &[Wire]
-        ensures { result.now ≡ self.now.wires.items }
-    {
-        self.wires.as_slice()
-    }
-
-    /// Gives the wires away.
-    pub fn into_wires(self) -> Vec<Wire>
-        ensures { result.items ≡ self.wires.items }
-    {
-        self.wires
-    }
 }
 
-ghost use Rattle.std.specs.Prelude.{◌≡◌, ◌+◌, ◌<◌, ◌≤◌, ◌^◌, ◌++◌, length, map, IfOk};
-ghost use Rattle.std.specs.List.{range_with_len};
-ghost use Rattle.est_base.specs.CodeSet.{members};
-ghost use Rattle.est_kernel.specs.Plain.{term_of};
-ghost use Rattle.grc_graph.specs.CodeTables.{codes_of};
-ghost use Rattle.grc_graph.specs.declared.wires.Wire.TheVariants.{Out, End};
-ghost use Rattle.grc_graph.specs.Wires.{listed};
+ghost use Rattle.std.specs.Prelude.{◌≡◌, ◌≤◌, length, map, Contains, MatchOption};
 ghost use Rattle.grc_graph.specs.PlainInstances.{instance_of, layer_of};
-ghost use Rattle.grc_graph.specs.WireTables.{comes_before, layer_before, Ascending, SplitsAt, wire_run, is_local};
+ghost use Rattle.grc_graph.specs.WireTables.{comes_before, layer_before, Ascending, IsNumberOf, SplitsAt};
 ghost use Rattle.grc_graph.specs.Layers.{layer_above};
 
 /// The layer in which an enclosing statement runs, as seen from an instance in this layer.
@@ -247,58 +215,18 @@ pub fn layer_above(path: u32, layer: Layer) -> Layer
     }
 }
 
-// Appends the wires of the outgoing signals, `count` from this one on.
-fn push_outgoing(wires: &mut Vec<Wire>, from: u32, count: u32) -> Result<(), NoMemory>
-    requires { from + count < 2 ^ 32 }
-    ensures { IfOk result (λ u. wires.new.items ≡ wires.old.items
-        ++ map (λ s. Out (record { 0 = s })) (range_with_len from count)) }
+// The place of an instance in a list that ascends; None where it is not there.
+fn find_place(list: &[Instance], wanted: Instance) -> Option<usize>
+    requires { Ascending list.now }
+    ensures { MatchOption result (¬ Contains (map instance_of list.now) (instance_of wanted))
+        (λ i. IsNumberOf (map instance_of list.now) i (instance_of wanted)) }
 {
-    for k in 0..count {
-        wires.push(Wire::Out(SigId(from + k)))?;
+    let place = place_of(list, wanted);
+    if place < list.len() && !comes_before(wanted, list[place]) {
+        Some(place)
+    } else {
+        None
     }
-    Ok(())
-}
-
-// Appends the wires of an instance.
-fn push_run(wires: &mut Vec<Wire>, i: InstId, local: bool, codes: CodeSet) -> Result<(), NoMemory>
-    ensures { IfOk result (λ u. wires.new.items ≡ wires.old.items ++ wire_run local (members codes) i.0) }
-{
-    wires.push(Wire::Go(i))?;
-    if local {
-        wires.push(Wire::Local(i))?;
-    }
-    push_ends(wires, i, codes)
-}
-
-// Appends the ends of an instance.
-fn push_ends(wires: &mut Vec<Wire>, i: InstId, codes: CodeSet) -> Result<(), NoMemory>
-    ensures { IfOk result (λ u. wires.new.items ≡ wires.old.items ++ map (λ k. End i k) (listed (members codes))) }
-{
-    for code in 0..64 {
-        if codes.has(code) {
-            wires.push(Wire::End(i, code))?;
-        }
-    }
-    Ok(())
-}
-
-/// The static codes of an instance. It takes no memory.
-pub fn instance_codes(codes: &Codes, instance: Instance) -> CodeSet
-    requires started { instance.path.0 < length codes.now.started.items }
-    requires resumed { instance.path.0 < length codes.now.resumed.items }
-    ensures { members result ≡ codes_of codes.now (instance_of instance) }
-{
-    match instance.layer {
-        Layer::Resumed => resumed_codes(codes, instance.path.0),
-        Layer::Started(_) => started_codes(codes, instance.path.0),
-    }
-}
-
-// Whether a statement is a Local.
-fn is_local(body: &Kernel) -> bool
-    ensures { result ≡ is_local (term_of body.now) }
-{
-    matches!(body, Kernel::Local(_, _))
 }
 
 // The number of instances that come before this one.

@@ -1,37 +1,30 @@
 // The listing of a graph.
 
-ghost use Rattle.std.specs.Prelude.{◌≡◌, ◌++◌, flat_map, map, IfOk, OnOk};
-ghost use Rattle.est_kernel.specs.Plain.{term_of, program_of, interface_of};
-ghost use Rattle.grc_graph.specs.Equations.{wires};
-ghost use Rattle.grc_graph.specs.GraphRuns.{program_spots};
-ghost use Rattle.grc_graph.specs.SelectionTrees.{body_tree};
+ghost use Rattle.std.specs.Prelude.{◌≡◌, ◌++◌, ◌∷◌, [], flat_map, map, codes, decimal, IfOk, OnOk};
+ghost use Rattle.std.specs.List.{concat};
+ghost use Rattle.est_kernel.specs.Plain.{term_of, program_of};
 ghost use Rattle.grc_graph.specs.TreeForms.{node_of};
 ghost use Rattle.grc_graph.specs.PlainGraphs.{names_of};
-ghost use Rattle.grc_list.specs.Listings.{node_line, wire_lines, listing, program_listing};
+ghost use Rattle.grc_graph.specs.PlainWireNames.{wire_name_of};
+ghost use Rattle.grc_list.specs.Listings.{node_line, wire_text, wire_lines, program_listing};
 
 use crate::names::wire_name;
 use crate::places::Places;
 use crate::texts::{put, put_node, put_number, put_wire};
 use est_base::NoMemory;
-use grc_graph::{Graph, SelTree};
+use grc_graph::{Graph, SelTree, WireName};
 use std::alloc::Global;
 
 /// The listing of a graph with the selection tree of its body: the line `grc 1`, a line for each node of the tree,
 /// and a line for each wire by its number. The time is linear in the body and in the text.
 /// Its only error is want of memory.
-pub fn list(alloc: Global, graph: &Graph, tree: &SelTree) -> Result<Vec<u8>, NoMemory>
-    ensures text { IfOk result (λ text. text.items
-        ≡ listing (program_of graph.now.program) (names_of graph.now) (map node_of tree.now.nodes.items)) }
-    // Where the wires and the tree are those of the program, the text is the program's listing.
-    ensures program { IfOk result (λ text. names_of graph.now
-        ≡ wires (interface_of (program_of graph.now.program)).outgoing (program_spots (program_of graph.now.program))
-        → map node_of tree.now.nodes.items ≡ body_tree (term_of graph.now.program.body)
-        → text.items ≡ program_listing (program_of graph.now.program)) }
+pub fn list(alloc: Global, graph: &Graph) -> Result<Vec<u8>, NoMemory>
+    ensures { IfOk result (λ text. text.items ≡ program_listing (program_of graph.now.program)) }
 {
     let places = Places::new(alloc, &graph.program.body)?;
     let mut text = Vec::new(alloc);
     put(&mut text, b"grc 1\n")?;
-    put_nodes(alloc, &mut text, &places, tree)?;
+    put_nodes(alloc, &mut text, &places, &graph.tree)?;
     put_wires(alloc, &mut text, graph, &places)?;
     Ok(text)
 }
@@ -67,10 +60,18 @@ fn put_wires(
 {
     for (number, wire) in graph.wires.iter().enumerate() {
         let name = wire_name(alloc, graph, places, *wire)?;
-        put_number(text, b"w", number)?;
-        put(text, b" ")?;
-        put_wire(text, &name)?;
-        put(text, b"\n")?;
+        put_wire_line(text, number, &name)?;
     }
     Ok(())
+}
+
+// The line of the wire with this number and name.
+fn put_wire_line(text: &mut Vec<u8>, number: usize, name: &WireName) -> Result<(), NoMemory>
+    ensures { OnOk result (text.new.items ≡ text.old.items ++ concat (codes "w" ∷ decimal number ∷ codes " "
+        ∷ wire_text (wire_name_of name.now) ∷ codes "\n" ∷ [])) }
+{
+    put_number(text, b"w", number)?;
+    put(text, b" ")?;
+    put_wire(text, name)?;
+    put(text, b"\n")
 }

@@ -1,19 +1,13 @@
 // A reaction of a graph.
 
 ghost use Rattle.std.specs.Prelude.{◌≡◌, ℕ, ◌≤◌, length, map, false, All, IsTrue, IfOk};
-ghost use Rattle.est_base.specs.declared.bounds.TheConstants.Limits.{WIRES};
 ghost use Rattle.est_kernel.specs.Plain.{program_of, term_of, given_count};
 ghost use Rattle.est_kernel.specs.StaticCodes.{NoInstantLoop};
-ghost use Rattle.est_kernel.specs.WellFormed.{IsWellFormed};
 ghost use Rattle.grc_graph.specs.GraphRuns.{Solves, formula_value, program_edges, shown};
-ghost use Rattle.grc_graph.specs.Instances.{body_instances};
-ghost use Rattle.grc_graph.specs.Neighbouring.{program_wires};
 ghost use Rattle.grc_graph.specs.Orders.{GoUp};
 ghost use Rattle.grc_graph.specs.PlainGraphs.{formula_of, instances_of, names_of, plain_graph};
 ghost use Rattle.grc_graph.specs.Readings.{Valuation};
 ghost use Rattle.grc_graph.specs.Reads.{IsReadingOrder};
-ghost use Rattle.grc_graph.specs.SelectionTrees.{body_tree, body_leaves};
-ghost use Rattle.grc_graph.specs.TreeForms.{node_of};
 ghost use Rattle.grc_graph.specs.Wires.{Wire};
 ghost use Rattle.grc_sem.specs.GraphWalks.{shown_code};
 ghost use Rattle.grc_solutions.specs.GraphWires.{Differ};
@@ -28,7 +22,7 @@ use crate::evaluation::{Values, settle};
 use crate::formulas::evaluate;
 use crate::rows::{Start, source_values};
 use est_base::NoMemory;
-use grc_graph::{Graph, Order, SelTree};
+use grc_graph::{Graph, Order};
 use grc_words::{Words, words};
 use std::alloc::Global;
 
@@ -46,25 +40,17 @@ pub struct Reaction {
 }
 
 /// One reaction of a graph, along an order along which its equations read: in the first instant where
-/// `boot` holds, else with these leaves of `tree`, its body's selection tree, selected. `inputs` is the
-/// event. The graph's instances and wires are those of its program; its equations and `next` formulas
-/// are any. Its only error is want of memory.
+/// `boot` holds, else with these leaves of its selection tree selected. `inputs` is the event. The graph's
+/// equations and `next` formulas are any. Its only error is want of memory.
 pub fn react(
     alloc: Global,
     graph: &Graph,
-    tree: &SelTree,
     order: &Order,
     boot: bool,
     selected: &[bool],
     inputs: &[bool],
 ) -> Result<Reaction, NoMemory>
-    requires formed { IsWellFormed (program_of graph.now.program) }
     requires no_loop { NoInstantLoop (term_of graph.now.program.body) }
-    requires instances { instances_of graph.now ≡ body_instances (term_of graph.now.program.body) }
-    requires names { names_of graph.now ≡ program_wires (program_of graph.now.program) }
-    requires few { length graph.now.wires.items ≤ WIRES }
-    requires tree { map node_of tree.now.nodes.items ≡ body_tree (term_of graph.now.program.body) }
-    requires leaves { length graph.now.next.items ≡ length (body_leaves (term_of graph.now.program.body)) }
     requires order { IsReadingOrder (names_of graph.now)
         (map (formula_of (instances_of graph.now) (names_of graph.now)) graph.now.equations.items)
         order.now.list.items }
@@ -94,7 +80,7 @@ pub fn react(
         → IsDependencyOrder (program_of graph.now.program) order.now.list.items
         → IsConstructive graph.now (state_begun graph.now boot selected.now) inputs.now r) }
 {
-    let words = words(alloc, graph, tree)?;
+    let words = words(alloc, graph)?;
     let reaction = react_over(alloc, graph, &words, order, boot, selected, inputs)?;
     Ok(reaction)
 }

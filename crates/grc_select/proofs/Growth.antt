@@ -7,8 +7,10 @@ use Rattle.std.proofs.lemmas.Bool.{false≢true}
 use Rattle.std.proofs.Math.ListN.{set}
 use Rattle.std.proofs.Math.Seq.{set-append_seam}
 use Rattle.std.proofs.lemmas.List.{map-set, map-append, length-map, append-nil}
-use Rattle.est_kernel.specs.Terms.{Term, Nothing, Pause, Emit, Exit, Present, Suspend, Seq, Loop, Par, Trap, Local, Awake}
+use Rattle.est_kernel.specs.Terms.{Expression, Tick, Term, Nothing, Pause, Emit, Exit, Present, Suspend, Seq, Loop, Par, Trap, Local, Awake}
 use Rattle.est_kernel.specs.Preorder.{statement_count}
+use Rattle.est_kernel.specs.declared.code_lists.Codes.{Codes}
+use Rattle.grc_graph.specs.CodeTables.{CodesFrom}
 use Rattle.grc_graph.specs.declared.trees.SelForm.{SelForm}
 use Rattle.grc_graph.specs.declared.trees.SelNode.{SelNode}
 use Rattle.grc_graph.specs.SelectionTrees.{Form, TreeNode, tree_nodes, leaf_paths, subtree_if, resumes, second_resumes}
@@ -303,6 +305,20 @@ passing_grown old new b k p t n e tn lp g =
       nodes = h.nodes ∙ ap (λ l. map node_of old.nodes.items ++ l) (sym (tn (length old.nodes.items) old.leaves));
       leaves = h.leaves ∙ ap (λ l. old.leaves + length l) (sym lp);
     }
+
+-- two parts whose terms are these
+pub two_grown : (old new : TreeDraft) (b : Bool) (n : ℕ) (over : Term → Term → Term) (k l p q : Term) → k ≡ p → l ≡ q
+    → Grows old new b (over k l) n → Grows old new b (over p q) n
+two_grown old new b n over k l p q e h g = subst (λ s. Grows old new b (over s q) n) e (subst (λ s. Grows old new b (over k s) n) h g)
+
+-- the nodes of a test do not depend on its signal
+pub test_grown : (old new : TreeDraft) (b : Bool) (n : ℕ) (e : Expression) (p q : Term) → Grows old new b (Present Tick p q) n
+    → Grows old new b (Present e p q) n
+test_grown old new b n e p q g = record { nodes = g.nodes; leaves = g.leaves }
+
+-- the codes of a parallel whose branches have these terms
+pub codes_of_two : (c : Codes) (n : ℕ) (k l p q : Term) → k ≡ p → l ≡ q → CodesFrom c (Par p q) n → CodesFrom c (Par k l) n
+codes_of_two c n k l p q e h x = subst (λ s. CodesFrom c (Par s l) n) (sym e) (subst (λ s. CodesFrom c (Par p s) n) (sym h) x)
 
 -- the walk over a body, which begins with no node
 pub record IsTreeOf (new : TreeDraft) (body : Term) : Type 0 where

@@ -5,7 +5,7 @@ ghost use Rattle.est_kernel.specs.CodeLists.{AreCodesOf};
 ghost use Rattle.est_kernel.specs.Plain.{term_of};
 ghost use Rattle.est_kernel.specs.Preorder.{statement_count};
 ghost use Rattle.est_kernel.specs.StaticCodes.{has_code};
-ghost use Rattle.est_kernel.specs.Terms.{Trap};
+ghost use Rattle.est_kernel.specs.Terms.{Tick, Present, Seq, Par, Trap};
 ghost use Rattle.est_kernel.specs.WellFormed.{KeepsLimits};
 ghost use Rattle.grc_graph.specs.CodeTables.{CodesFrom, set_at};
 ghost use Rattle.grc_graph.specs.SelectionTrees.{body_tree, body_leaves};
@@ -65,34 +65,113 @@ fn select_part(
             push_leaf(draft, whole)?;
             Ok(whole.path + 1)
         }
-        Kernel::Present(_, yes, no) => {
-            let place = open_node(draft, whole, SelForm::Excl)?;
-            let next = select_part(yes, part_at(whole, whole.path + 1, codes), codes, draft)?;
-            let after = select_part(no, part_at(whole, next, codes), codes, draft)?;
-            close_node(draft, place, whole, SelForm::Excl);
-            Ok(after)
-        }
+        Kernel::Present(_, yes, no) => Ok(select_test(yes, no, whole, codes, draft)?),
         Kernel::Suspend(_, part) => Ok(select_passing(part, whole, codes, draft)?),
-        Kernel::Seq(first, second) => {
-            let place = open_node(draft, whole, SelForm::Excl)?;
-            let next = select_part(first, part_at(whole, whole.path + 1, codes), codes, draft)?;
-            let after = select_part(second, second_part(whole, next, codes), codes, draft)?;
-            close_node(draft, place, whole, SelForm::Excl);
-            Ok(after)
-        }
+        Kernel::Seq(first, second) => Ok(select_sequence(first, second, whole, codes, draft)?),
         Kernel::Loop(_, part) => Ok(select_passing(part, whole, codes, draft)?),
-        Kernel::Par(left, right) => {
-            let first = can_pass(codes, whole.path + 1);
-            let place = open_node(draft, whole, SelForm::Par(false, false))?;
-            let next = select_part(left, part_at(whole, whole.path + 1, codes), codes, draft)?;
-            let after = select_part(right, part_at(whole, next, codes), codes, draft)?;
-            let form = SelForm::Par(first, can_pass(codes, next));
-            close_node(draft, place, whole, form);
-            Ok(after)
-        }
+        Kernel::Par(left, right) => Ok(select_parallel(left, right, whole, codes, draft)?),
         Kernel::Trap(part) => Ok(select_passing(part, whole, codes, draft)?),
         Kernel::Local(_, part) => Ok(select_passing(part, whole, codes, draft)?),
     }
+}
+
+// The same for a test of a signal, whatever the signal.
+#[cycle(selecting)]
+fn select_test(
+    yes: &Kernel,
+    no: &Kernel,
+    whole: Part,
+    codes: &Codes,
+    draft: &mut TreeDraft,
+) -> Result<u32, NoMemory>
+    requires codes { CodesFrom codes.now (Present Tick (term_of yes.now) (term_of no.now)) whole.path }
+    requires paths { whole.path + statement_count (Present Tick (term_of yes.now) (term_of no.now)) < 2 ^ 32 }
+    requires places { length draft.old.nodes.items
+        + statement_count (Present Tick (term_of yes.now) (term_of no.now)) < 2 ^ 32 }
+    requires leaves { draft.old.leaves + statement_count (Present Tick (term_of yes.now) (term_of no.now)) < 2 ^ 32 }
+    ensures after { IfOk result (λ after. after
+        ≡ whole.path + statement_count (Present Tick (term_of yes.now) (term_of no.now))) }
+    ensures grown { IfOk result (λ after. Grows draft.old draft.new whole.live
+        (Present Tick (term_of yes.now) (term_of no.now)) whole.path) }
+    ensures few { IfOk result (λ after. length draft.new.nodes.items
+        ≤ length draft.old.nodes.items + statement_count (Present Tick (term_of yes.now) (term_of no.now))) }
+    ensures few_leaves { IfOk result (λ after. draft.new.leaves
+        ≤ draft.old.leaves + statement_count (Present Tick (term_of yes.now) (term_of no.now))) }
+    ensures kept { IfOk result (λ after. length draft.old.nodes.items ≤ length draft.new.nodes.items) }
+{
+    let place = open_node(draft, whole, SelForm::Excl)?;
+    let next = select_part(yes, part_at(whole, whole.path + 1, codes), codes, draft)?;
+    let after = select_part(no, part_at(whole, next, codes), codes, draft)?;
+    close_node(draft, place, whole, SelForm::Excl);
+    Ok(after)
+}
+
+// The same for a sequence.
+#[cycle(selecting)]
+fn select_sequence(
+    first: &Kernel,
+    second: &Kernel,
+    whole: Part,
+    codes: &Codes,
+    draft: &mut TreeDraft,
+) -> Result<u32, NoMemory>
+    requires codes { CodesFrom codes.now (Seq (term_of first.now) (term_of second.now)) whole.path }
+    requires paths { whole.path + statement_count (Seq (term_of first.now) (term_of second.now)) < 2 ^ 32 }
+    requires places { length draft.old.nodes.items
+        + statement_count (Seq (term_of first.now) (term_of second.now)) < 2 ^ 32 }
+    requires leaves { draft.old.leaves + statement_count (Seq (term_of first.now) (term_of second.now)) < 2 ^ 32 }
+    ensures after { IfOk result (λ after. after
+        ≡ whole.path + statement_count (Seq (term_of first.now) (term_of second.now))) }
+    ensures grown { IfOk result (λ after. Grows draft.old draft.new whole.live
+        (Seq (term_of first.now) (term_of second.now)) whole.path) }
+    ensures few { IfOk result (λ after. length draft.new.nodes.items
+        ≤ length draft.old.nodes.items + statement_count (Seq (term_of first.now) (term_of second.now))) }
+    ensures few_leaves { IfOk result (λ after. draft.new.leaves
+        ≤ draft.old.leaves + statement_count (Seq (term_of first.now) (term_of second.now))) }
+    ensures kept { IfOk result (λ after. length draft.old.nodes.items ≤ length draft.new.nodes.items) }
+{
+    let place = open_node(draft, whole, SelForm::Excl)?;
+    let next = select_part(first, part_at(whole, whole.path + 1, codes), codes, draft)?;
+    let after = select_part(second, second_part(whole, next, codes), codes, draft)?;
+    close_node(draft, place, whole, SelForm::Excl);
+    Ok(after)
+}
+
+// The same for a parallel.
+#[cycle(selecting)]
+fn select_parallel(
+    left: &Kernel,
+    right: &Kernel,
+    whole: Part,
+    codes: &Codes,
+    draft: &mut TreeDraft,
+) -> Result<u32, NoMemory>
+    requires codes { CodesFrom codes.now (Par (term_of left.now) (term_of right.now)) whole.path }
+    requires paths { whole.path + statement_count (Par (term_of left.now) (term_of right.now)) < 2 ^ 32 }
+    requires places { length draft.old.nodes.items
+        + statement_count (Par (term_of left.now) (term_of right.now)) < 2 ^ 32 }
+    requires leaves { draft.old.leaves + statement_count (Par (term_of left.now) (term_of right.now)) < 2 ^ 32 }
+    ensures after { IfOk result (λ after. after
+        ≡ whole.path + statement_count (Par (term_of left.now) (term_of right.now))) }
+    ensures grown { IfOk result (λ after. Grows draft.old draft.new whole.live
+        (Par (term_of left.now) (term_of right.now)) whole.path) }
+    ensures few { IfOk result (λ after. length draft.new.nodes.items
+        ≤ length draft.old.nodes.items + statement_count (Par (term_of left.now) (term_of right.now))) }
+    ensures few_leaves { IfOk result (λ after. draft.new.leaves
+        ≤ draft.old.leaves + statement_count (Par (term_of left.now) (term_of right.now))) }
+    ensures kept { IfOk result (λ after. length draft.old.nodes.items ≤ length draft.new.nodes.items) }
+{
+    let over = can_pass(codes, whole.path + 1);
+    let place = open_node(draft, whole, SelForm::Par(false, false))?;
+    let next = select_part(left, part_at(whole, whole.path + 1, codes), codes, draft)?;
+    let after = select_part(right, part_at(whole, next, codes), codes, draft)?;
+    close_node(
+        draft,
+        place,
+        whole,
+        SelForm::Par(over, can_pass(codes, next)),
+    );
+    Ok(after)
 }
 
 // The same for a statement over one part alone, whose node passes the part's selection on: its tree is a trap's.

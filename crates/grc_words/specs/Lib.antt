@@ -10,3 +10,4 @@ pub mod Testing
 pub mod Sizes
 pub mod Holdings
 pub mod EndLists
+pub mod MadeSources

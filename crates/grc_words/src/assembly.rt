@@ -1,80 +1,108 @@
 // The table of words of a graph.
 
 ghost use Rattle.std.specs.Prelude.{◌≡◌, ◌+◌, ◌<◌, ◌≤◌, ◌^◌, length, map, IfOk};
-ghost use Rattle.est_base.specs.declared.bounds.TheConstants.Limits.{WIRES};
-ghost use Rattle.est_kernel.specs.CodeLists.{AreCodesOf};
-ghost use Rattle.est_kernel.specs.Plain.{program_of, term_of, interface_count, outgoing_count};
-ghost use Rattle.est_kernel.specs.StaticCodes.{NoInstantLoop};
-ghost use Rattle.est_kernel.specs.WellFormed.{IsWellFormed, KeepsLimits};
-ghost use Rattle.grc_graph.specs.Instances.{body_instances};
-ghost use Rattle.grc_graph.specs.Neighbouring.{names_in, program_wires};
-ghost use Rattle.grc_graph.specs.PlainGraphs.{instances_of, names_of};
-ghost use Rattle.grc_graph.specs.SelectionTrees.{body_tree, body_leaves};
-ghost use Rattle.grc_graph.specs.TreeForms.{node_of};
+ghost use Rattle.est_kernel.specs.Plain.{program_of, interface_count, outgoing_count};
+ghost use Rattle.grc_graph.specs.Neighbouring.{names_in};
+ghost use Rattle.grc_graph.specs.PlainGraphs.{names_of};
+ghost use Rattle.grc_graph.specs.Statements.{program_listed};
+ghost use Rattle.grc_graph.specs.StatementViews.{view_of};
 ghost use Rattle.grc_words.specs.Building.{RowsFit};
 ghost use Rattle.grc_words.specs.EndLists.{EndsFound, OutputsSaid, PausedMade};
+ghost use Rattle.grc_words.specs.MadeSources.{AreMade};
 ghost use Rattle.grc_words.specs.Sizes.{rows_at_most};
 ghost use Rattle.grc_words.specs.WordLaws.{AreWordsOf, late_bounds};
 
 use crate::building::either;
 use crate::held::make_holdings;
-use crate::selected::{leaf_sources, select_parts};
+use crate::selected::selected_sources;
 use crate::table::{Row, Source, Words};
 use crate::tests_of::wire_source;
 use est_base::{NoMemory, PathId, SigId, WireId};
-use est_codes::{CodeFault, codes};
-use est_kernel::{Codes, Kernel};
-use grc_graph::{Graph, Layer, Neighbours, SelTree, Wire, list_statements};
+use grc_graph::{Graph, Layer, Neighbours, Statement, Wire, list_statements};
 use std::alloc::Global;
 
-/// The table of words of a graph, whose instances and wires are those of its program and whose `next`
-/// is over the leaves of `tree`, its body's selection tree. Its only error is want of memory.
-pub fn words(alloc: Global, graph: &Graph, tree: &SelTree) -> Result<Words, NoMemory>
-    requires formed { IsWellFormed (program_of graph.now.program) }
-    requires no_loop { NoInstantLoop (term_of graph.now.program.body) }
-    requires instances { instances_of graph.now ≡ body_instances (term_of graph.now.program.body) }
-    requires wires { names_of graph.now ≡ program_wires (program_of graph.now.program) }
-    requires few { length graph.now.wires.items ≤ WIRES }
-    requires tree { map node_of tree.now.nodes.items ≡ body_tree (term_of graph.now.program.body) }
-    requires leaves { length graph.now.next.items ≡ length (body_leaves (term_of graph.now.program.body)) }
+/// The table of words of a graph. Its only error is want of memory.
+pub fn words(alloc: Global, graph: &Graph) -> Result<Words, NoMemory>
     ensures words { IfOk result (λ words. AreWordsOf graph.now words) }
     ensures size { IfOk result (λ words. length words.rows.items ≤ rows_at_most graph.now) }
 {
-    let program = graph.program();
-    let statements = list_statements(alloc, program)?;
-    let sets = body_codes(alloc, &program.body)?;
-    let near = Neighbours::new(alloc, program, &statements, &sets, graph.instances())?;
+    let statements = list_statements(alloc, graph.program())?;
+    words_over(alloc, graph, &statements)
+}
+
+// The table, where these are the statements of the graph's body.
+fn words_over(alloc: Global, graph: &Graph, statements: &[Statement<'_>]) -> Result<Words, NoMemory>
+    requires { map view_of statements.now ≡ program_listed (program_of graph.now.program) }
+    ensures words { IfOk result (λ words. AreWordsOf graph.now words) }
+    ensures size { IfOk result (λ words. length words.rows.items ≤ rows_at_most graph.now) }
+{
     let mut rows = Vec::new(alloc);
-    let mut selected = leaf_sources(alloc, graph, tree, statements.len())?;
-    select_parts(graph, &statements, &mut selected, &mut rows)?;
-    let early = count_rows(&rows)?;
-    let made = make_holdings(alloc, graph, &near, &statements, &mut rows)?;
-    let paused = paused_source(graph, &near, &mut rows)?;
-    let ends = first_ends(alloc, graph)?;
-    let outputs = output_sources(alloc, graph, &near)?;
+    let made = made_sources(alloc, graph, statements, &mut rows)?;
+    let found = wire_places(alloc, graph)?;
     Ok(Words {
         rows,
+        early: made.early,
+        selected: made.selected,
+        kept: made.kept,
+        held: made.held,
+        ends: found.ends,
+        outputs: found.outputs,
+        paused: made.paused,
+    })
+}
+
+/// What is said by rows, with the number of those that read neither wires nor the event.
+#[derive(Drop)]
+struct MadeSources {
+    early: u32,
+    selected: Vec<Source>,
+    kept: Vec<Source>,
+    held: Vec<Source>,
+    paused: Source,
+}
+
+// Appends all rows to none, and answers what they say.
+fn made_sources(
+    alloc: Global,
+    graph: &Graph,
+    statements: &[Statement<'_>],
+    rows: &mut Vec<Row>,
+) -> Result<MadeSources, NoMemory>
+    requires statements { map view_of statements.now ≡ program_listed (program_of graph.now.program) }
+    requires begun { length rows.old.items ≡ 0 }
+    ensures { IfOk result (λ made. AreMade graph.now rows.new.items made) }
+{
+    let near = graph.neighbours();
+    let selected = selected_sources(alloc, graph, statements, rows)?;
+    let early = count_rows(rows)?;
+    let made = make_holdings(alloc, graph, &near, statements, rows)?;
+    let paused = paused_source(graph, &near, rows)?;
+    Ok(MadeSources {
         early,
         selected,
         kept: made.kept,
         held: made.held,
-        ends,
-        outputs,
         paused,
     })
 }
 
-// The static codes of a body that has them.
-fn body_codes(alloc: Global, body: &Kernel) -> Result<Codes, NoMemory>
-    requires limits { KeepsLimits (term_of body.now) }
-    requires no_loop { NoInstantLoop (term_of body.now) }
-    ensures { IfOk result (λ sets. AreCodesOf sets (term_of body.now)) }
+/// What wires say alone: where the ends of each instance begin, and what says that each outgoing signal is present.
+#[derive(Drop)]
+struct WirePlaces {
+    ends: Vec<WireId>,
+    outputs: Vec<Source>,
+}
+
+// The same for the wires of a graph.
+fn wire_places(alloc: Global, graph: &Graph) -> Result<WirePlaces, NoMemory>
+    ensures ends { IfOk result (λ found. EndsFound graph.now 0 found.ends.items) }
+    ensures outputs { IfOk result (λ found. OutputsSaid graph.now
+        (outgoing_count (program_of graph.now.program)) found.outputs.items) }
 {
-    match codes(alloc, body) {
-        Ok(sets) => Ok(sets),
-        Err(CodeFault::InstantLoop(_)) => unreachable!(),
-        Err(CodeFault::NoMemory) => Err(NoMemory),
-    }
+    let near = graph.neighbours();
+    let ends = first_ends(alloc, graph)?;
+    let outputs = output_sources(alloc, graph, &near)?;
+    Ok(WirePlaces { ends, outputs })
 }
 
 // The number of rows so far. Numbers are u32, or else memory is said to be wanted.
@@ -117,7 +145,6 @@ fn output_sources(alloc: Global, graph: &Graph, near: &Neighbours) -> Result<Vec
 
 // For each instance the first of its wires that are ends; one behind the last wire where it has none.
 fn first_ends(alloc: Global, graph: &Graph) -> Result<Vec<WireId>, NoMemory>
-    requires { length graph.now.wires.items ≤ WIRES }
     ensures { IfOk result (λ ends. EndsFound graph.now 0 ends.items) }
 {
     let mut ends = vec![in alloc; WireId(graph.wires.len() as u32); graph.instances.list.len()]?;

@@ -3,10 +3,8 @@
 ghost use Rattle.std.specs.Prelude.{◌≡◌, ◌<◌, ◌≤◌, length, map, IfOk, OnOk};
 ghost use Rattle.est_kernel.specs.Plain.{program_of, term_of};
 ghost use Rattle.est_kernel.specs.Preorder.{statement_count};
-ghost use Rattle.grc_graph.specs.SelectionTrees.{body_tree, body_leaves};
 ghost use Rattle.grc_graph.specs.Statements.{program_listed};
 ghost use Rattle.grc_graph.specs.StatementViews.{view_of};
-ghost use Rattle.grc_graph.specs.TreeForms.{node_of};
 ghost use Rattle.grc_words.specs.Choosing.{LeavesChosen, SelectedMade};
 ghost use Rattle.grc_words.specs.PartKinds.{parts_of};
 
@@ -14,21 +12,32 @@ use crate::building::either;
 use crate::table::{Row, Source};
 use est_base::NoMemory;
 use est_kernel::Kernel;
-use grc_graph::{Graph, SelForm, SelTree, Statement};
+use grc_graph::{Graph, SelForm, Statement};
 use std::alloc::Global;
 
-/// For each statement, what says that it is a selected pause.
-pub(crate) fn leaf_sources(
+/// For each statement, what says that it holds a selected pause, by rows that are appended to none. These are the
+/// statements of the graph's body.
+pub(crate) fn selected_sources(
     alloc: Global,
     graph: &Graph,
-    tree: &SelTree,
-    count: usize,
+    statements: &[Statement<'_>],
+    rows: &mut Vec<Row>,
 ) -> Result<Vec<Source>, NoMemory>
-    requires tree { map node_of tree.now.nodes.items ≡ body_tree (term_of graph.now.program.body) }
-    requires count { count ≡ statement_count (term_of graph.now.program.body) }
-    requires leaves { length graph.now.next.items ≡ length (body_leaves (term_of graph.now.program.body)) }
+    requires statements { map view_of statements.now ≡ program_listed (program_of graph.now.program) }
+    requires begun { length rows.old.items ≡ 0 }
+    ensures { IfOk result (λ sources. SelectedMade graph.now sources.items rows.new.items 0) }
+{
+    let mut sources = leaf_sources(alloc, graph, statements.len())?;
+    select_parts(graph, statements, &mut sources, rows)?;
+    Ok(sources)
+}
+
+// For each statement, what says that it is a selected pause.
+fn leaf_sources(alloc: Global, graph: &Graph, count: usize) -> Result<Vec<Source>, NoMemory>
+    requires { count ≡ statement_count (term_of graph.now.program.body) }
     ensures { IfOk result (λ sources. LeavesChosen graph.now count sources.items) }
 {
+    let tree = &graph.tree;
     let mut sources = vec![in alloc; Source::Const(false); count]?;
     for place in (0..tree.nodes.len()).rev() {
         let node = tree.nodes[place];
@@ -39,9 +48,9 @@ pub(crate) fn leaf_sources(
     Ok(sources)
 }
 
-/// For each statement, what says that it holds a selected pause: the or of what its parts say. The
-/// parts of a statement stand behind it.
-pub(crate) fn select_parts(
+// For each statement, what says that it holds a selected pause: the or of what its parts say. The
+// parts of a statement stand behind it.
+fn select_parts(
     graph: &Graph,
     statements: &[Statement<'_>],
     sources: &mut [Source],

@@ -1,17 +1,11 @@
 // The netlist of a graph.
 
 ghost use Rattle.std.specs.Prelude.{◌≡◌, ◌≤◌, length, map, IfOk};
-ghost use Rattle.est_base.specs.declared.bounds.TheConstants.Limits.{WIRES};
-ghost use Rattle.est_kernel.specs.Plain.{program_of, term_of};
-ghost use Rattle.est_kernel.specs.StaticCodes.{NoInstantLoop};
-ghost use Rattle.est_kernel.specs.WellFormed.{IsWellFormed, HasNames};
+ghost use Rattle.est_kernel.specs.Plain.{program_of};
+ghost use Rattle.est_kernel.specs.WellFormed.{HasNames};
 ghost use Rattle.grc_graph.specs.BuiltGraphs.{IsGraphOf};
-ghost use Rattle.grc_graph.specs.Instances.{body_instances};
-ghost use Rattle.grc_graph.specs.Neighbouring.{program_wires};
 ghost use Rattle.grc_graph.specs.PlainGraphs.{formula_of, instances_of, names_of};
 ghost use Rattle.grc_graph.specs.Reads.{IsReadingOrder};
-ghost use Rattle.grc_graph.specs.SelectionTrees.{body_tree, body_leaves};
-ghost use Rattle.grc_graph.specs.TreeForms.{node_of};
 ghost use Rattle.net_ir.specs.Gates.{carried};
 ghost use Rattle.net_ir.specs.Runs.{netlist_of};
 ghost use Rattle.grc_words.specs.Sizes.{rows_at_most};
@@ -20,29 +14,16 @@ ghost use Rattle.net_gen.specs.Generated.{HasInterfaceOf, FollowsInstants, Follo
 
 use crate::assembly::net_over;
 use est_base::NoMemory;
-use grc_graph::{Graph, Order, SelTree};
+use grc_graph::{Graph, Order};
 use grc_words::words;
 use net_ir::Net;
 use std::alloc::Global;
 
-/// The netlist of a graph along an order in which its equations read. The graph's instances and wires
-/// are those of its program, and its `next` is over the leaves of `tree`, its body's selection tree;
-/// its equations and `next` formulas are any. Where they are the program's as well, the netlist has at most
-/// 15 gates for each wire and each live test node. Its only error is want of memory.
-pub fn generate(
-    alloc: Global,
-    graph: &Graph,
-    tree: &SelTree,
-    order: &Order,
-) -> Result<Net, NoMemory>
-    requires formed { IsWellFormed (program_of graph.now.program) }
+/// The netlist of a graph along an order in which its equations read. The graph's equations and `next` formulas are
+/// any. Where they are the program's, the netlist has at most 15 gates for each wire and each live test node. Its only
+/// error is want of memory.
+pub fn generate(alloc: Global, graph: &Graph, order: &Order) -> Result<Net, NoMemory>
     requires names { HasNames (program_of graph.now.program) }
-    requires no_loop { NoInstantLoop (term_of graph.now.program.body) }
-    requires instances { instances_of graph.now ≡ body_instances (term_of graph.now.program.body) }
-    requires wires { names_of graph.now ≡ program_wires (program_of graph.now.program) }
-    requires few { length graph.now.wires.items ≤ WIRES }
-    requires tree { map node_of tree.now.nodes.items ≡ body_tree (term_of graph.now.program.body) }
-    requires leaves { length graph.now.next.items ≡ length (body_leaves (term_of graph.now.program.body)) }
     requires order { IsReadingOrder (names_of graph.now)
         (map (formula_of (instances_of graph.now) (names_of graph.now)) graph.now.equations.items)
         order.now.list.items }
@@ -55,7 +36,7 @@ pub fn generate(
     ensures instants { IfOk result (λ net. FollowsInstants graph.now (netlist_of net)) }
     ensures runs { IfOk result (λ net. FollowsRuns graph.now (netlist_of net)) }
 {
-    let words = words(alloc, graph, tree)?;
+    let words = words(alloc, graph)?;
     let net = net_over(alloc, graph, &words, order)?;
     Ok(net)
 }

@@ -7,6 +7,7 @@ use Rattle.std.proofs.lemmas.List.{get_or-drop, drop_more}
 use Rattle.est_base.specs.declared.indices.WireId.{WireId}
 use Rattle.std.proofs.lemmas.Bool.{and_parts, cases_eq, eqb-true, eqb-false, false≢true, lt-ltb, ltb-true}
 use Rattle.est_kernel.specs.Statuses.{Status, Minus, known, opposite, conjunction, disjunction}
+use Rattle.grc_graph.specs.declared.formulas.Formula.{Formula}
 use Rattle.grc_graph.specs.declared.wires.Wire.{Wire}
 use Rattle.grc_graph.specs.declared.wires.Wire.TheVariants as wires
 use Rattle.grc_words.specs.WordLaws.{ends_upto, first_end, is_end_upto}
@@ -17,7 +18,8 @@ use Rattle.tri_gates.proofs.TableLaws.{and-says, extends-both, extends-refl, nod
 use Rattle.tri_gates.proofs.TableLaws.{same-says, source-says, wire-says}
 use Rattle.tri_run.specs.declared.formulas.Making.{Making}
 use Rattle.tri_run.specs.Chains.{IsRun, any_status, is_end_of, wire_number}
-use Rattle.tri_run.specs.Meanings.{GateMade, NodeMade, PairMade, Ready, any_meaning, constant_gate, shape_of, source_meaning, upto_gate, upto_meaning}
+use Rattle.tri_run.specs.Meanings.{GateMade, NodeMade, PairMade, Ready, any_meaning, constant_gate, meaning_of, shape_of}
+use Rattle.tri_run.specs.Meanings.{source_meaning, upto_gate, upto_meaning}
 use Rattle.tri_run.specs.Numbers.{input_number, selected_number}
 use Rattle.tri_run.proofs.ChainSteps.{gate-means}
 
@@ -94,6 +96,23 @@ and-made m old new n o f h made = record { extends = made.extends; says = and-sa
 pub or-made : (m : Making) (old new : List Gate) (n o : ℕ) (f h : Meaning) → PairMade m old new n o f h
     → GateMade m old new (gates.Or n o) (λ S T. disjunction (f S T) (h S T))
 or-made m old new n o f h made = record { extends = made.extends; says = or-says (shape_of m) new n o f h made.left made.right }
+
+-- the same of formulas that are equal to those of which the pair is made
+pub and-formula : (m : Making) (old new : List Gate) (n o : ℕ) (f h k l : Formula) → f ≡ k → h ≡ l
+    → PairMade m old new n o (meaning_of m f) (meaning_of m h)
+    → GateMade m old new (gates.And n o) (λ S T. conjunction (meaning_of m k S T) (meaning_of m l S T))
+and-formula m old new n o f h k l e g made =
+    let one = subst (λ x. PairMade m old new n o (meaning_of m x) (meaning_of m h)) e made in
+    let both = subst (λ y. PairMade m old new n o (meaning_of m k) (meaning_of m y)) g one in
+    and-made m old new n o (meaning_of m k) (meaning_of m l) both
+
+pub or-formula : (m : Making) (old new : List Gate) (n o : ℕ) (f h k l : Formula) → f ≡ k → h ≡ l
+    → PairMade m old new n o (meaning_of m f) (meaning_of m h)
+    → GateMade m old new (gates.Or n o) (λ S T. disjunction (meaning_of m k S T) (meaning_of m l S T))
+or-formula m old new n o f h k l e g made =
+    let one = subst (λ x. PairMade m old new n o (meaning_of m x) (meaning_of m h)) e made in
+    let both = subst (λ y. PairMade m old new n o (meaning_of m k) (meaning_of m y)) g one in
+    or-made m old new n o (meaning_of m k) (meaning_of m l) both
 
 -- an end with a code of at most k is an end
 upto-end : (i k : ℕ) (x : Wire) → is_end_upto i k x ≡ true → is_end_of i x ≡ true

@@ -3,16 +3,13 @@
 ghost use Rattle.std.specs.Prelude.{◌≡◌, length, map, IfErr, IfOk};
 ghost use Rattle.est_kernel.specs.Plain.{given_count, program_of, term_of};
 ghost use Rattle.est_kernel.specs.StaticCodes.{NoInstantLoop};
-ghost use Rattle.est_kernel.specs.WellFormed.{IsWellFormed};
 ghost use Rattle.grc_graph.specs.BuiltGraphs.{IsGraphOf};
-ghost use Rattle.grc_graph.specs.SelectionTrees.{body_tree};
-ghost use Rattle.grc_graph.specs.TreeForms.{node_of};
 ghost use Rattle.tri_run.specs.Runners.{IsFresh, IsStuck, Resets, Stays, Steps, TriReacts, program_in};
 
 use crate::state::{NotConstructive, State};
 use crate::systems::make_system;
 use est_base::NoMemory;
-use grc_graph::{Graph, SelTree};
+use grc_graph::Graph;
 use grc_words::{Words, words};
 use std::alloc::Global;
 use std::marker::Model;
@@ -46,17 +43,14 @@ impl<'a> Model for TriRunner<'a> {
 }
 
 impl<'a> TriRunner<'a> {
-    /// A runner of the graph of a program before its first event; the tree is the selection tree of the program's
-    /// body. Its only error is want of memory.
-    pub fn new(alloc: Global, tree: &SelTree, graph: &'a Graph) -> Result<TriRunner<'a>, NoMemory>
-        requires formed { IsWellFormed (program_of graph.now.program) }
+    /// A runner of the graph of a program before its first event. Its only error is want of memory.
+    pub fn new(alloc: Global, graph: &'a Graph) -> Result<TriRunner<'a>, NoMemory>
         requires no_loop { NoInstantLoop (term_of graph.now.program.body) }
         requires graph { IsGraphOf graph.now (program_of graph.now.program) }
-        requires tree { map node_of tree.now.nodes.items ≡ body_tree (term_of graph.now.program.body) }
         ensures graph { IfOk result (λ r. r.graph ≡ graph.now) }
         ensures fresh { IfOk result IsFresh }
     {
-        let words = words(alloc, graph, tree)?;
+        let words = words(alloc, graph)?;
         let system = make_system(alloc, graph, &words)?;
         let state = State::new(alloc, graph, &words, &system)?;
         Ok(TriRunner {

@@ -19,7 +19,7 @@ ghost use Rattle.cec_core.specs.TriRuns.{LeavesReactions, ReactsOn, ReactsOver, 
 
 use crate::commands::exec::run_outcome;
 use crate::commands::make::{subject_of, unread};
-use crate::graphs::{Built, graph_of};
+use crate::graphs::graph_of;
 use crate::jobs::Job;
 use crate::lines::report;
 use crate::outcome::{Outcome, Which};
@@ -90,27 +90,27 @@ fn source_reactions<F: Files, O: Sink>(
         (change O.told O.faults out.old out.new)
         result }
 {
-    let built = match graph_of(alloc, source, job.main) {
-        Ok(built) => built,
+    let graph = match graph_of(alloc, source, job.main) {
+        Ok(graph) => graph,
         Err(refusal) => return Outcome::from(refusal),
     };
     match files.read(alloc, trace, Limits::TRACE_BYTES) {
-        Ok(items) => graph_reactions(alloc, &built, items, out),
+        Ok(items) => graph_reactions(alloc, &graph, items, out),
         Err(fault) => unread(Which::Second, Limit::Trace, fault),
     }
 }
 
 // Runs the graph of a program over a trace.
-fn graph_reactions<O: Sink>(alloc: Global, built: &Built, trace: Vec<u8>, out: &mut O) -> Outcome
-    requires built { IsBuilt built.now (program_of built.now.graph.program) }
+fn graph_reactions<O: Sink>(alloc: Global, graph: &Graph, trace: Vec<u8>, out: &mut O) -> Outcome
+    requires built { IsBuilt graph.now (program_of graph.now.program) }
     requires short { length trace.items ≤ Limits.TRACE_BYTES }
-    requires few { length built.now.graph.program.relations.items ≤ Limits.SOURCE_BYTES }
+    requires few { length graph.now.program.relations.items ≤ Limits.SOURCE_BYTES }
     ensures ends { EndsReactions result }
-    ensures out { LeavesTrace (program_of built.now.graph.program) trace.items
+    ensures out { LeavesTrace (program_of graph.now.program) trace.items
         (change O.told O.faults out.old out.new) result }
 {
-    match program_interface(alloc, &built.graph.program) {
-        Ok(interface) => interface_reactions(alloc, built, interface, trace, out),
+    match program_interface(alloc, &graph.program) {
+        Ok(interface) => interface_reactions(alloc, graph, interface, trace, out),
         Err(NoMemory) => Outcome::NoMemory,
     }
 }
@@ -118,24 +118,24 @@ fn graph_reactions<O: Sink>(alloc: Global, built: &Built, trace: Vec<u8>, out: &
 // Runs the graph of a program over a trace, by the program's interface.
 fn interface_reactions<O: Sink>(
     alloc: Global,
-    built: &Built,
+    graph: &Graph,
     interface: Interface,
     trace: Vec<u8>,
     out: &mut O,
 ) -> Outcome
-    requires built { IsBuilt built.now (program_of built.now.graph.program) }
+    requires built { IsBuilt graph.now (program_of graph.now.program) }
     requires short { length trace.items ≤ Limits.TRACE_BYTES }
-    requires interface { IsInterfaceOf (program_of built.now.graph.program) interface }
+    requires interface { IsInterfaceOf (program_of graph.now.program) interface }
     requires countable { length interface.relations.items < 2 ^ 32 }
     ensures ends { EndsReactions result }
-    ensures out { LeavesTrace (program_of built.now.graph.program) trace.items
+    ensures out { LeavesTrace (program_of graph.now.program) trace.items
         (change O.told O.faults out.old out.new) result }
 {
-    match TriRunner::new(alloc, &built.tree, &built.graph) {
+    match TriRunner::new(alloc, graph) {
         Ok(made) => {
             let mut runner = made;
             let ended = run_reactions(alloc, &mut runner, interface, trace, out);
-            reactions_outcome(alloc, &built.graph, runner.unknown(), ended)
+            reactions_outcome(alloc, graph, runner.unknown(), ended)
         }
         Err(NoMemory) => Outcome::NoMemory,
     }

@@ -14,7 +14,7 @@ use Rattle.grc_build.proofs.equations.equations.Goals as goal
 pub equation-requires-clause-wire : goal.equation-requires-clause-wire
 equation-requires-clause-wire c =
     let t = c.args.tables.now in
-    let raw = t.wires.wires.items in
+    let raw = t.wires.wires.now in
     let k = c.loop-wire.wire-index in
     let list : c.wires-wire-items.result.now ≡ raw = c.wires-wire-items.ensures in
     let w = get_or c.wires-wire-items.result.now k first_wire in
@@ -24,7 +24,7 @@ equation-requires-clause-wire c =
 pub loop-wire-preserved : goal.loop-wire-preserved
 loop-wire-preserved c =
     let t = c.args.tables.now in
-    let raw = t.wires.wires.items in
+    let raw = t.wires.wires.now in
     let insts = instances_in t.wires in
     let names = names_in t.wires in
     let p = program_in t in

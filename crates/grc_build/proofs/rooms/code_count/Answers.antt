@@ -1,7 +1,7 @@
-use Rattle.std.proofs.Common.{ap, sym, ◌∙◌, length, ◌+◌, arith}
+use Rattle.std.proofs.Common.{◌≡◌, ap, sym, ◌∙◌, length, ◌+◌, arith}
 use Rattle.est_base.specs.CodeSet.{members}
 use Rattle.grc_graph.specs.Wires.{codes_below}
-use Rattle.grc_graph.proofs.CodesBelow.{codes_below-none, codes_below-all}
+use Rattle.grc_graph.proofs.CodesBelow.{codes_below-none}
 use Rattle.grc_build.proofs.GraphSizes.{codes_counted, one_at_most}
 use Rattle.grc_build.proofs.rooms.code_count.Goals as goal
 
@@ -20,4 +20,7 @@ loop-code-preserved c = (
 )
 
 pub returns : goal.returns
-returns c = c.loop-code.invariant.0 ∙ ap length (codes_below-all c.loop-code.code (members c.args.codes) (omega arith))
+returns c =
+    c.loop-code.invariant.0 ∙ ap length
+    (ap (λ n. codes_below n (members c.args.codes)) (let e : c.loop-code.code ≡ c.codes_end-code-end.result = omega arith in e)
+    ∙ c.codes_end-code-end.ensures.all)

@@ -33,4 +33,4 @@ returns c =
     let part = instance_of c.args.part in
     let whole = instance_of c.args.whole in
     let g = branch_edges (members c.args.whole_codes) part whole in
-    codes_end _ (flat_map g) (members c.args.codes) c.loop-code.code _ _ (omega arith) c.loop-code.invariant
+    codes_end _ (flat_map g) (members c.args.codes) c.loop-code.code _ _ _ (omega arith) c.codes_end-code-end.ensures.all c.loop-code.invariant

@@ -14,4 +14,6 @@ loop-code-preserved c =
     c.has-holds.ensures c.loop-code.invariant c.in_ok-push_edge_if.ensures
 
 pub returns : goal.returns
-returns c = codes_end _ (map (go_to_end (instance_of c.args.at))) (members c.args.codes) c.loop-code.code _ _ (omega arith) c.loop-code.invariant
+returns c =
+    codes_end _ (map (go_to_end (instance_of c.args.at))) (members c.args.codes) c.loop-code.code _ _ _ (omega arith)
+    c.codes_end-code-end.ensures.all c.loop-code.invariant

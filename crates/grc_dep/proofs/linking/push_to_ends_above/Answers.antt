@@ -37,6 +37,7 @@ returns c =
     let whole = instance_of c.args.whole in
     let f : ℕ → Edge = λ k. edge (End part.path part.layer c.args.code) (End whole.path whole.layer k) in
     let p = λ (k : ℕ). nat_le c.args.code k in
-    codes_end _ (λ ks. map f (filter p ks)) (members c.args.whole_codes) c.loop-above.above _ _ (omega arith) c.loop-above.invariant
+    codes_end _ (λ ks. map f (filter p ks)) (members c.args.whole_codes) c.loop-above.above _ _ _ (omega arith)
+    c.codes_end-above-end.ensures.all c.loop-above.invariant
     ∙ ap (λ b. c.args.pairs.now.items ++ found_by c.args.lookups.now (edges_if b (to_ends_above (members c.args.whole_codes)
     (End part.path part.layer c.args.code) c.args.code whole.path whole.layer))) (sym c.if-not-holds.false)

@@ -21,5 +21,5 @@ loop-code-preserved c =
 
 pub returns : goal.returns
 returns c =
-    codes_end _ (map (trapped_to_end (instance_of c.args.part) (instance_of c.args.whole))) (members c.args.codes) c.loop-code.code _ _
-    (omega arith) c.loop-code.invariant
+    codes_end _ (map (trapped_to_end (instance_of c.args.part) (instance_of c.args.whole))) (members c.args.codes) c.loop-code.code _ _ _ (omega arith)
+    c.codes_end-code-end.ensures.all c.loop-code.invariant

@@ -13,8 +13,8 @@ use Rattle.grc_react.proofs.reaction.react.Goals as goal
 pub react_over-requires-clause-differ : goal.react_over-requires-clause-differ
 react_over-requires-clause-differ c =
     let p = program_of c.args.graph.now.program in
-    let kernel = program_kernel p c.requires.formed (trees_are_kernels_lem c.args.graph.now.program.body) in
-    subst Differ (sym c.requires.names) (wires_differ_lem p kernel).1
+    let kernel = program_kernel p c.args.graph.now.laid_out.formed (trees_are_kernels_lem c.args.graph.now.program.body) in
+    subst Differ (sym c.args.graph.now.laid_out.names) (wires_differ_lem p kernel).1
 
 pub returns-clause-walk : goal.returns-clause-walk
 returns-clause-walk c = λ graph begins.
@@ -23,7 +23,7 @@ returns-clause-walk c = λ graph begins.
     let r = c.in_ok-reaction.reaction in
     let q = state_of (body_leaves body) c.args.boot c.args.selected.now in
     let m : Premises g q c.args.inputs.now r = record {
-      formed = c.requires.formed;
+      formed = c.args.graph.now.laid_out.formed;
       kernel = trees_are_kernels_lem g.program.body;
       no_loop = c.requires.no_loop;
       width = c.requires.inputs;
@@ -44,7 +44,7 @@ returns-clause-constructive c = λ graph begins rank up.
     let r = c.in_ok-reaction.reaction in
     let q = state_of (body_leaves body) c.args.boot c.args.selected.now in
     let m : Premises g q c.args.inputs.now r = record {
-      formed = c.requires.formed;
+      formed = c.args.graph.now.laid_out.formed;
       kernel = trees_are_kernels_lem g.program.body;
       no_loop = c.requires.no_loop;
       width = c.requires.inputs;
@@ -65,7 +65,7 @@ returns-clause-ordered c = λ graph begins order.
     let r = c.in_ok-reaction.reaction in
     let q = state_of (body_leaves body) c.args.boot c.args.selected.now in
     let m : Premises g q c.args.inputs.now r = record {
-      formed = c.requires.formed;
+      formed = c.args.graph.now.laid_out.formed;
       kernel = trees_are_kernels_lem g.program.body;
       no_loop = c.requires.no_loop;
       width = c.requires.inputs;
@@ -77,6 +77,6 @@ returns-clause-ordered c = λ graph begins order.
       code_is = c.in_ok-reaction.ensures.code;
       next_is = c.in_ok-reaction.ensures.next;
     } in
-    let kernel = program_kernel (program_of g.program) c.requires.formed (trees_are_kernels_lem g.program.body) in
+    let kernel = program_kernel (program_of g.program) c.args.graph.now.laid_out.formed (trees_are_kernels_lem g.program.body) in
     let up = edges-up (program_of g.program) order.pairs c.args.order.now.list.items kernel order.are_edges order.ordered in
     constructive g q c.args.inputs.now r up.0 m up.1

@@ -2,8 +2,13 @@ use Rattle.std.proofs.Common.{sym, ap, ◌∙◌}
 use Rattle.est_kernel.specs.declared.signal_tests.Test.{Test}
 use Rattle.est_kernel.specs.Plain.{expression_of}
 use Rattle.est_kernel.specs.Terms.{Not, And, Or}
-use Rattle.grc_words.proofs.TestSteps.{test-signal, test-not, test-and, test-or}
+use Rattle.grc_words.proofs.TestSteps.{test-tick, test-signal, test-not, test-and, test-or}
 use Rattle.grc_words.proofs.tests_of.+test_source.Goals as goal
+
+pub returns-in-Tick : goal.returns-in-Tick
+returns-in-Tick t c =
+    test-tick c.args.graph.now c.args.signals.now (expression_of c.args.test.now) c.args.place c.args.rows.now.items c.requires.fit
+    (ap expression_of c.in-Tick.is)
 
 pub returns-in-Sig : goal.returns-in-Sig
 returns-in-Sig t c =

@@ -4,6 +4,15 @@ use Rattle.net_gen.specs.Readiness.{RowReads, RowReady}
 use Rattle.net_gen.proofs.RowSteps.{row-now, rows-step}
 use Rattle.net_gen.proofs.making.make_rows.Goals as goal
 
+pub row-op-requires : goal.row-op-requires
+row-op-requires c =
+    let old = drawing_of c.args.circuit.now in
+    let k = c.loop-row.row in
+    let x = c.index.result.now in
+    let m = c.loop-row.invariant in
+    let reads = subst (λ y. RowReads old k y) (sym c.index.ensures) (c.requires.ready k x c.loop-row.auto.row c.loop-row-test.true) in
+    row-now c.args.graph.now c.args.words.now old (drawing_of c.loop-row.circuit) k x c.requires.sound m.sound m.wires m.placed reads
+
 pub loop-row-preserved : goal.loop-row-preserved
 loop-row-preserved c =
     let g = c.args.graph.now in

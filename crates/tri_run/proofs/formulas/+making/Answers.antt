@@ -4,7 +4,7 @@ use Rattle.grc_graph.specs.GraphShapes.{formula_fits}
 use Rattle.tri_gates.specs.declared.gates.Gate.{Gate}
 use Rattle.tri_run.specs.Meanings.{GateMade, NodeMade, meaning_of, upto_meaning}
 use Rattle.tri_run.proofs.Making.{node-made, pair-made, ready-stays}
-use Rattle.tri_run.proofs.Making.{upto-made}
+use Rattle.tri_run.proofs.Making.{upto-made, and-formula, or-formula}
 use Rattle.tri_run.proofs.formulas.+making.Goals as goal
 
 pub make_gate-returns-in-Upto : goal.make_gate-returns-in-Upto
@@ -40,3 +40,19 @@ make_nodes-returns t c =
     let m = c.args.making.now in
     pair-made m c.args.table.now.items c.make_node.new.table.items c.make_node-2.new.table.items c.in_ok-first.first c.in_ok-second.second
     (meaning_of m c.args.left.now) (meaning_of m c.args.right.now) c.in_ok-first.ensures c.in_ok-second.ensures
+
+pub make_gate-returns-in_ok-nodes-in-And : goal.make_gate-returns-in_ok-nodes-in-And
+make_gate-returns-in_ok-nodes-in-And t c =
+    let m = c.args.making.now in
+    let nodes = c.in_ok-nodes-in-And.nodes in
+    let made = and-formula m c.args.table.now.items c.make_nodes.new.table.items nodes.left nodes.right c.deref-in-And.result.now c.deref-in-And-2.result.now
+    c.in-And.left.value c.in-And.right.value c.deref-in-And.ensures c.deref-in-And-2.ensures c.in_ok-nodes-in-And.ensures in
+    rw c.in-And.is made
+
+pub make_gate-returns-in_ok-nodes-in-Or : goal.make_gate-returns-in_ok-nodes-in-Or
+make_gate-returns-in_ok-nodes-in-Or t c =
+    let m = c.args.making.now in
+    let nodes = c.in_ok-nodes-in-Or.nodes in
+    let made = or-formula m c.args.table.now.items c.make_nodes-in-Or.new.table.items nodes.left nodes.right c.deref-in-Or.result.now c.deref-in-Or-2.result.now
+    c.in-Or.left.value c.in-Or.right.value c.deref-in-Or.ensures c.deref-in-Or-2.ensures c.in_ok-nodes-in-Or.ensures in
+    rw c.in-Or.is made

@@ -1,7 +1,7 @@
 use Rattle.std.proofs.Common.{◌≡◌, ℕ, ◌+◌, ◌-◌, ◌<◌, List, length, drop, sym, subst, arith}
 use Rattle.tri_gates.specs.declared.gates.Gate.{Gate}
 use Rattle.tri_run.specs.Meanings.{NodeMade, any_meaning}
-use Rattle.tri_run.proofs.Making.{any-last, any-more, is-filled}
+use Rattle.tri_run.proofs.Making.{any-last, any-more, is-filled, same-made}
 use Rattle.tri_run.proofs.formulas.any_gate.Goals as goal
 
 pub loop-place-init : goal.loop-place-init
@@ -39,3 +39,12 @@ loop-place-preserved c =
       made = subst (λ n. N c.push_gate.new.table.items n) node
           (subst (λ xs. N xs (length m.graph.now.wires.items + length t)) (sym c.in_ok-node.ensures.table) made);
     }
+
+pub returns : goal.returns
+returns c =
+    let m = c.args.making.now in
+    let list = c.args.list.now in
+    let none : c.loop-place.place ≡ 0 = omega arith in
+    let made = subst (λ n. NodeMade m c.args.table.now.items c.loop-place.table.items c.loop-place.node (any_meaning (drop n list))) none
+    c.loop-place.invariant.made in
+    same-made m c.args.table.now.items c.loop-place.table.items c.loop-place.node (any_meaning list) made

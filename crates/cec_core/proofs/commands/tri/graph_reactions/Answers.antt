@@ -6,4 +6,4 @@ use Rattle.cec_core.proofs.commands.tri.graph_reactions.Goals as goal
 pub interface_reactions-requires-clause-countable : goal.interface_reactions-requires-clause-countable
 interface_reactions-requires-clause-countable g c =
     let same = ap length c.in-Ok.ensures.relations in
-    omega (arith, same, length-map c.in-Ok.interface.relations.items relation_of, length-map c.args.built.now.graph.program.relations.items relation_of)
+    omega (arith, same, length-map c.in-Ok.interface.relations.items relation_of, length-map c.args.graph.now.program.relations.items relation_of)

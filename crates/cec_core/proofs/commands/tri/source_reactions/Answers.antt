@@ -38,13 +38,13 @@ returns-in-Err-clause-out g c =
 
 pub graph_reactions-requires-clause-few : goal.graph_reactions-requires-clause-few
 graph_reactions-requires-clause-few g c =
-    built_relations_few c.args.source.now (plain_job c.args.job).main c.in-Ok.built c.requires c.in-Ok.ensures.built
+    built_relations_few c.args.source.now (plain_job c.args.job).main c.in-Ok.graph c.requires c.in-Ok.ensures.built
 
 pub returns-in-Ok-read-clause-agrees : goal.returns-in-Ok-read-clause-agrees
 returns-in-Ok-read-clause-agrees g c =
     let main = (plain_job c.args.job).main in
     reacted_on main c.args.source.now c.graph_reactions.result c.graph_reactions.ensures.ends
-    (built_source main c.args.source.now c.in-Ok.built c.requires c.in-Ok.ensures.built)
+    (built_source main c.args.source.now c.in-Ok.graph c.requires c.in-Ok.ensures.built)
 
 pub returns-in-Ok-read-clause-long_trace : goal.returns-in-Ok-read-clause-long_trace
 returns-in-Ok-read-clause-long_trace g c =
@@ -57,7 +57,7 @@ returns-in-Ok-read-clause-files_counted g c =
 pub returns-in-Ok-read-clause-out : goal.returns-in-Ok-read-clause-out
 returns-in-Ok-read-clause-out g c =
     let content = g.F.Files.content c.args.files.now in
-    trace_left content c.args.trace.now (plain_job c.args.job).main c.args.source.now c.in-Ok.built c.in-Ok-read.items.items _ c.graph_reactions.result
+    trace_left content c.args.trace.now (plain_job c.args.job).main c.args.source.now c.in-Ok.graph c.in-Ok-read.items.items _ c.graph_reactions.result
     c.requires
     c.in-Ok.ensures.built (held_read content c.args.trace.now TRACE_BYTES c.in-Ok-read.items c.in-Ok-read.ensures.bytes) c.graph_reactions.ensures.out
 
@@ -65,7 +65,7 @@ pub returns-clause-agrees : goal.returns-clause-agrees
 returns-clause-agrees g c =
     let main = (plain_job c.args.job).main in
     rw c.unread.ensures
-    (react_trace_unread main c.args.source.now c.in-Err-read.fault (built_source main c.args.source.now c.in-Ok.built c.requires c.in-Ok.ensures.built))
+    (react_trace_unread main c.args.source.now c.in-Err-read.fault (built_source main c.args.source.now c.in-Ok.graph c.requires c.in-Ok.ensures.built))
 
 pub returns-clause-long_trace : goal.returns-clause-long_trace
 returns-clause-long_trace g c =

@@ -1,33 +1,43 @@
-use Rattle.std.proofs.Common.{◌<◌, ◌∙◌, length, sym, ap, subst, arith}
-use Rattle.grc_graph.specs.PlainInstances.{instance_of, layer_of}
-use Rattle.grc_graph.specs.WireTables.{comes_before, SplitsAt}
-use Rattle.grc_graph.specs.Instances as plain
-use Rattle.grc_graph.proofs.NeighbourReads.{found_instance, absent_instance, read_instance}
+use Rattle.std.proofs.Common.{◌≡◌, ◌+◌, ◌<◌, ◌≤◌, length, arith}
+use Rattle.std.specs.Prelude.{slice_index}
+use Rattle.grc_graph.specs.PlainInstances.{layer_of}
+use Rattle.grc_graph.proofs.InstanceRuns.{run-begins, run-ascends, number_in_run, absent_in_run, absent_past}
 use Rattle.grc_graph.proofs.neighbours.Neighbours.find_instance.Goals as goal
-use Rattle.grc_graph.proofs.neighbours.Neighbours.find_instance.Goals.{else-place-len-via-then-place-len+else-not-comes_before}
-use Rattle.grc_graph.proofs.neighbours.Neighbours.find_instance.Goals.{else-place-len-via-else-place-len}
 
-pub returns-then-not-comes_before : goal.returns-then-not-comes_before
-returns-then-not-comes_before c =
-    let insts = c.args.self.now.list.items in
-    let p = c.place_of-place.result in
-    let x : plain.Instance = record { path = c.args.path; layer = layer_of c.args.layer } in
-    let h : SplitsAt x insts p = subst (λ l. SplitsAt x l p) c.deref.ensures.value c.place_of-place.ensures.place in
-    let l : p < length insts = omega arith in
-    found_instance insts x p h l
-    (ap (λ y. comes_before x (instance_of y)) (sym (read_instance insts p c.index.result.now c.index.ensures l)) ∙ sym c.comes_before.ensures
-    ∙ c.if-not-comes_before.true)
+pub returns-then-statement-self : goal.returns-then-statement-self
+returns-then-statement-self c =
+    let t = c.args.self.now in
+    absent_past t.list.now t.first_instances.now (record { path = c.args.path; layer = layer_of c.args.layer }) t.statements c.if-statement-self.true
 
-pub returns-else-place-len : goal.returns-else-place-len
-returns-else-place-len c =
-    let insts = c.args.self.now.list.items in
-    let p = c.place_of-place.result in
-    let x : plain.Instance = record { path = c.args.path; layer = layer_of c.args.layer } in
-    let h : SplitsAt x insts p = subst (λ l. SplitsAt x l p) c.deref.ensures.value c.place_of-place.ensures.place in
-    absent_instance insts x p c.args.self.now.tables.ascend h
-    (λ l. elim c.else-place-len.branch [
-      | else-place-len-via-then-place-len+else-not-comes_before w ↦
-          ap (λ y. comes_before x (instance_of y)) (sym (read_instance insts p w.index.result.now w.index.ensures l)) ∙ sym w.comes_before.ensures
-          ∙ w.if-not-comes_before.false
-      | else-place-len-via-else-place-len w ↦ absurd (omega arith)
-    ])
+pub slice_bounds-find_place-count : goal.slice_bounds-find_place-count
+slice_bounds-find_place-count c =
+    let t = c.args.self.now in
+    run-begins t.list.now t.first_instances.now c.args.path t.statements c.if-statement-self.false
+
+pub slice_bounds-find_place-start : goal.slice_bounds-find_place-start
+slice_bounds-find_place-start c =
+    let t = c.args.self.now in
+    run-begins t.list.now t.first_instances.now c.args.path t.statements c.if-statement-self.false
+
+pub find_place-requires : goal.find_place-requires
+find_place-requires c =
+    let t = c.args.self.now in
+    let n = c.args.path in
+    run-ascends t.list.now (slice_index t.first_instances.now n) (slice_index t.first_instances.now (n + 1))
+    (run-begins t.list.now t.first_instances.now n t.statements c.if-statement-self.false) (t.statements.counts.within (n + 1) c.if-statement-self.false)
+    t.tables.ascend
+
+pub returns-in-Some : goal.returns-in-Some
+returns-in-Some c =
+    let t = c.args.self.now in
+    let n = c.args.path in
+    number_in_run t.list.now (slice_index t.first_instances.now n) (slice_index t.first_instances.now (n + 1)) c.in-Some.place
+    (record { path = n; layer = layer_of c.args.layer })
+    (run-begins t.list.now t.first_instances.now n t.statements c.if-statement-self.false) (t.statements.counts.within (n + 1) c.if-statement-self.false)
+    c.in-Some.ensures
+
+pub returns-in-None : goal.returns-in-None
+returns-in-None c =
+    let t = c.args.self.now in
+    absent_in_run t.list.now t.first_instances.now (record { path = c.args.path; layer = layer_of c.args.layer }) t.statements c.if-statement-self.false
+    c.in-None.ensures

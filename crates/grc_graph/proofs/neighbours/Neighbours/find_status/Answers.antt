@@ -5,4 +5,4 @@ use Rattle.grc_graph.proofs.neighbours.Neighbours.find_status.Goals as goal
 pub returns-in-None : goal.returns-in-None
 returns-in-None c =
     let t = c.args.self.now in
-    no_status t.list.items t.wires.items t.first.items t.inputs t.outgoing c.args.path (layer_of c.args.layer) t.tables c.in-None.ensures
+    no_status t.list.now t.wires.now t.first.now t.inputs t.outgoing c.args.path (layer_of c.args.layer) t.tables c.in-None.ensures

@@ -6,12 +6,12 @@ use Rattle.grc_graph.proofs.neighbours.Neighbours.out.Goals.{else-signal-self-vi
 pub returns-then-signal-self-2 : goal.returns-then-signal-self-2
 returns-then-signal-self-2 c =
     let t = c.args.self.now in
-    found_out t.list.items t.wires.items t.first.items t.inputs t.outgoing c.args.signal.0 t.tables c.if-signal-self.true c.if-signal-self-2.true
+    found_out t.list.now t.wires.now t.first.now t.inputs t.outgoing c.args.signal.0 t.tables c.if-signal-self.true c.if-signal-self-2.true
 
 pub returns-else-signal-self : goal.returns-else-signal-self
 returns-else-signal-self c =
     let t = c.args.self.now in
-    absent_out t.list.items t.wires.items t.first.items t.inputs t.outgoing c.args.signal.0 t.tables
+    absent_out t.list.now t.wires.now t.first.now t.inputs t.outgoing c.args.signal.0 t.tables
     (λ g h. elim c.else-signal-self.branch [
       | else-signal-self-via-then-signal-self+else-signal-self-2 w ↦ omega arith
       | else-signal-self-via-else-signal-self w ↦ omega arith

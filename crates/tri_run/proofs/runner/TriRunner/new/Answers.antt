@@ -9,32 +9,26 @@ use Rattle.tri_run.proofs.Programs.{keeps-fresh}
 use Rattle.tri_run.specs.States.{runner_with}
 use Rattle.tri_run.proofs.runner.TriRunner.new.Goals as goal
 
-pub words-requires-clause-few : goal.words-requires-clause-few
-words-requires-clause-few c = wires-few c.args.graph.now (program_of c.args.graph.now.program) c.requires.graph
-
-pub words-requires-clause-leaves : goal.words-requires-clause-leaves
-words-requires-clause-leaves c = leaves-all c.args.graph.now (program_of c.args.graph.now.program) c.requires.graph
-
 pub make_system-requires-clause-few : goal.make_system-requires-clause-few
 make_system-requires-clause-few c =
     let few = wires-few c.args.graph.now (program_of c.args.graph.now.program) c.requires.graph in
     omega arith
 
 pub make_system-requires-clause-given : goal.make_system-requires-clause-given
-make_system-requires-clause-given c = given-few (program_of c.args.graph.now.program) c.requires.formed
+make_system-requires-clause-given c = given-few (program_of c.args.graph.now.program) c.args.graph.now.laid_out.formed
 
 pub make_system-requires-clause-plain : goal.make_system-requires-clause-plain
 make_system-requires-clause-plain c =
     let p = program_of c.args.graph.now.program in
     equations-plain c.args.graph.now p reads_are_edges_lem
-    (program_kernel p c.requires.formed (trees_are_kernels_lem c.args.graph.now.program.body)) c.requires.graph
+    (program_kernel p c.args.graph.now.laid_out.formed (trees_are_kernels_lem c.args.graph.now.program.body)) c.requires.graph
 
 pub invariant_of-result : goal.invariant_of-result
 invariant_of-result c =
     let g = c.args.graph.now in
     let p = program_of g.program in
     let kernel = trees_are_kernels_lem g.program.body in
-    let codes = program_kernel p c.requires.formed kernel in
+    let codes = program_kernel p c.args.graph.now.laid_out.formed kernel in
     record {
       reads = record {
         words = c.in_ok-words.ensures.words;
@@ -43,5 +37,5 @@ invariant_of-result c =
         system = c.in_ok-system.ensures;
       };
       keeps = c.in_ok-state.ensures.keeps;
-      program = keeps-fresh (runner_with g c.in_ok-state.state) c.in_ok-state.ensures.fresh c.requires.formed kernel c.requires.no_loop c.requires.graph;
+      program = keeps-fresh (runner_with g c.in_ok-state.state) c.in_ok-state.ensures.fresh g.laid_out.formed kernel c.requires.no_loop c.requires.graph;
     }

@@ -1,10 +1,11 @@
-use Rattle.std.proofs.Common.{ℕ, ◌++◌, ◌∷◌, [], map, ap, sym, ◌∙◌, arith}
+use Rattle.std.proofs.Common.{◌≡◌, ℕ, ◌++◌, ◌∷◌, [], map, ap, sym, ◌∙◌, arith}
 use Rattle.std.proofs.lemmas.List.{append-nil}
 use Rattle.est_base.specs.CodeSet.{members}
 use Rattle.grc_graph.specs.declared.wires.Wire.TheVariants.{End}
-use Rattle.grc_graph.proofs.CodesBelow.{codes_below-none, codes_below-has, codes_below-lacks, codes_below-all}
-use Rattle.grc_graph.proofs.neighbours.push_ends.Goals as goal
-use Rattle.grc_graph.proofs.neighbours.push_ends.Goals.{then-has+in_ok-push, else-has}
+use Rattle.grc_graph.specs.Wires.{codes_below}
+use Rattle.grc_graph.proofs.CodesBelow.{codes_below-none, codes_below-has, codes_below-lacks}
+use Rattle.grc_graph.proofs.layout.push_ends.Goals as goal
+use Rattle.grc_graph.proofs.layout.push_ends.Goals.{then-has+in_ok-push, else-has}
 
 pub loop-code-init : goal.loop-code-init
 loop-code-init c =
@@ -27,4 +28,5 @@ pub returns : goal.returns
 returns c =
     c.loop-code.invariant
     ∙ ap (λ l. c.args.wires.now.items ++ map (λ k. End c.args.i k) l)
-    (codes_below-all c.loop-code.code (members c.args.codes) (omega arith))
+    (ap (λ n. codes_below n (members c.args.codes)) (let e : c.loop-code.code ≡ c.codes_end-code-end.result = omega arith in e)
+    ∙ c.codes_end-code-end.ensures.all)

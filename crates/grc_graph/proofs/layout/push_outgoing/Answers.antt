@@ -1,7 +1,7 @@
 use Rattle.std.proofs.Common.{◌+◌, ◌++◌, ◌∷◌, [], ap, sym, ◌∙◌, refl, append_assoc}
 use Rattle.std.proofs.lemmas.List.FromFn.{map-range_with_len_more}
 use Rattle.grc_graph.specs.declared.wires.Wire.TheVariants.{Out}
-use Rattle.grc_graph.proofs.neighbours.push_outgoing.Goals as goal
+use Rattle.grc_graph.proofs.layout.push_outgoing.Goals as goal
 
 pub loop-k-preserved : goal.loop-k-preserved
 loop-k-preserved c =

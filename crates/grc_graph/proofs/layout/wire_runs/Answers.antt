@@ -15,7 +15,7 @@ use Rattle.grc_graph.specs.Wires.{instance_codes}
 use Rattle.grc_graph.proofs.WireFilling.{Filled, Filled-none, Filled-more, Filled-all, Filled-few, few_instances}
 use Rattle.grc_graph.proofs.RowReads.{statement_read, codes_read, length-statements}
 use Rattle.grc_graph.proofs.NeighbourReads.{body_ascending, path_within, name_at, first_instance}
-use Rattle.grc_graph.proofs.neighbours.Neighbours.new.Goals as goal
+use Rattle.grc_graph.proofs.layout.wire_runs.Goals as goal
 
 pub loop-i-init : goal.loop-i-init
 loop-i-init c =
@@ -120,33 +120,27 @@ overflow_cast-len c =
     c.in_ok-push_run.ensures refl) in
     omega arith
 
-pub invariant_of-result : goal.invariant_of-result
-invariant_of-result c =
+pub returns-clause-wires : goal.returns-clause-wires
+returns-clause-wires c =
+    let p = program_of c.args.program.now in
+    let raw = c.args.live.now.list.items in
+    let end : c.loop-i.i ≡ length (map instance_of raw) = omega (arith, ap length c.deref-instance-items.ensures.value, length-map raw instance_of) in
+    Filled-all p (map instance_of raw) c.loop-i.i _ _ (trees_are_kernels_lem c.args.program.now.body) c.requires.live end c.loop-i.invariant
+
+pub returns-clause-tables : goal.returns-clause-tables
+returns-clause-tables c =
     let p = program_of c.args.program.now in
     let raw = c.args.live.now.list.items in
     let kernel = trees_are_kernels_lem c.args.program.now.body in
     let few : length (map instance_of raw) ≤ WIRES = few_instances p (map instance_of raw) kernel c.requires.live c.requires.few in
     let all : length c.loop-i.wires.items ≤ WIRES = Filled-few p (map instance_of raw) c.loop-i.i _ _ kernel c.requires.live c.requires.few
     c.loop-i.invariant in
-    let list : c.in_ok-from_slice.field-0.items ≡ raw = c.in_ok-from_slice.ensures.items ∙ c.as_slice.ensures.value in
     let end : c.loop-i.i ≡ length raw = omega (arith, ap length c.deref-instance-items.ensures.value) in
-    let whole : c.loop-i.i ≡ length c.in_ok-from_slice.field-0.items = end ∙ ap length (sym list) in
     record {
-      tables = record {
-        ascend = body_ascending p.body _ (ap (map instance_of) list ∙ c.requires.live);
-        few = omega arith;
-        few_instances = omega (arith, length-map raw instance_of);
-        interface = omega (arith, c.requires.formed.interface, c.requires.formed.at_most);
-        runs = subst (λ n. AreRuns n c.loop-i.wires.items c.loop-i.first.items) whole c.loop-i.invariant.runs;
-        outs = c.loop-i.invariant.outs;
-      };
+      ascend = body_ascending p.body raw c.requires.live;
+      few = omega arith;
+      few_instances = omega (arith, length-map raw instance_of);
+      interface = omega (arith, c.requires.formed.interface, c.requires.formed.at_most);
+      runs = subst (λ n. AreRuns n c.loop-i.wires.items c.loop-i.first.items) end c.loop-i.invariant.runs;
+      outs = c.loop-i.invariant.outs;
     }
-
-pub returns-clause-wires : goal.returns-clause-wires
-returns-clause-wires c =
-    let p = program_of c.args.program.now in
-    let raw = c.args.live.now.list.items in
-    let list : c.in_ok-from_slice.field-0.items ≡ raw = c.in_ok-from_slice.ensures.items ∙ c.as_slice.ensures.value in
-    let end : c.loop-i.i ≡ length (map instance_of raw) = omega (arith, ap length c.deref-instance-items.ensures.value, length-map raw instance_of) in
-    (λ j. map (wire_of (map instance_of (list j))) c.loop-i.wires.items)
-    ∙ Filled-all p (map instance_of raw) c.loop-i.i _ _ (trees_are_kernels_lem c.args.program.now.body) c.requires.live end c.loop-i.invariant

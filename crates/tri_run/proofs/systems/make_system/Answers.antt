@@ -1,0 +1,17 @@
+use Rattle.std.proofs.Common.{◌≡◌, ◌+◌, ◌++◌, length, IsTrue, All, sym, ap, ◌∙◌, subst}
+use Rattle.tri_gates.specs.Systems.{gate_fits}
+use Rattle.tri_run.specs.declared.formulas.Making.{Making}
+use Rattle.tri_run.specs.Meanings.{meaning_of, shape_of}
+use Rattle.tri_run.specs.Systems.{equation_at}
+use Rattle.tri_run.proofs.SystemSteps.{all-fit, gates-are}
+use Rattle.tri_run.proofs.systems.make_system.Goals as goal
+
+pub finish-requires-clause-fit : goal.finish-requires-clause-fit
+finish-requires-clause-fit c =
+    let counts = c.in_ok-counts.counts in
+    let m : Making = record { graph = c.args.graph; words = c.args.words; chains = c.deref.result; counts = counts } in
+    let front = c.in_ok-gates.gates.items in
+    let table = c.make_gates.new.table.items in
+    let all = all-fit (shape_of m) front table (λ v. meaning_of m (equation_at m.graph.now v)) (gates-are m table front c.in_ok-gates.ensures) in
+    let whole : c.append.new.gates.items ≡ front ++ table = c.in_ok-append.ensures ∙ ap (λ l. front ++ l) c.deref-2.ensures.value in
+    subst (λ gs. All (λ g. IsTrue (gate_fits (length gs) (3 + counts.given + counts.statements) g)) gs) (sym whole) all
