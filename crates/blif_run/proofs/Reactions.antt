@@ -47,11 +47,11 @@ equations-met v [] all = tt
 equations-met v (t ∷ tables) all = (all.0, equations-met v tables all.1)
 
 -- a valuation that meets the equations, and no other does, is the one of an instant
-record IsOnly (c : Circuit) (latches inputs : List Bool) (v : List ℕ → Bool) : Type 0 where
-  instant : IsInstant c latches inputs v
-  only : (u : List ℕ → Bool) → IsInstant c latches inputs u → map u (driven_names c) ≡ map v (driven_names c)
+pub record IsOnly (c : Circuit) (latches inputs : List Bool) (v : List ℕ → Bool) : Type 0 where
+  pub instant : IsInstant c latches inputs v
+  pub only : (u : List ℕ → Bool) → IsInstant c latches inputs u → map u (driven_names c) ≡ map v (driven_names c)
 
-only-instant : (c : Circuit) (latches inputs : List Bool) (v : List ℕ → Bool) → length inputs ≡ length c.inputs
+pub only-instant : (c : Circuit) (latches inputs : List Bool) (v : List ℕ → Bool) → length inputs ≡ length c.inputs
     → AreSolved (given_names c) (equations_of c) (inputs ++ latches) v → IsOnly c latches inputs v
 only-instant c latches inputs v given s =
     let targets = map (λ (l : CircuitLatch). l.target) c.latches in

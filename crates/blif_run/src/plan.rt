@@ -73,18 +73,20 @@ fn ordered_plan(
     })
 }
 
-// The slots of the names of a circuit.
+/// The names of a circuit that have a value, each with its place as its slot: the inputs, the latches, and the outputs
+/// of the tables.
 #[derive(Drop)]
-struct Resolved<'a> {
-    names: Vec<&'a [u8]>,
-    slots: IndexSet<&'a [u8]>,
-    // The slot of the first table's output.
-    first: usize,
-    // For each table the slots that it reads.
-    reads: Vec<Vec<usize>>,
+pub struct Resolved<'a> {
+    pub names: Vec<&'a [u8]>,
+    pub slots: IndexSet<&'a [u8]>,
+    /// The slot of the first table's output.
+    pub first: usize,
+    /// For each table the slots that it reads.
+    pub reads: Vec<Vec<usize>>,
 }
 
-fn resolved_names<'a>(alloc: Global, blif: &'a Blif) -> Result<Resolved<'a>, NoMemory>
+/// The slots of the names of a circuit. Its only error is want of memory.
+pub fn resolved_names<'a>(alloc: Global, blif: &'a Blif) -> Result<Resolved<'a>, NoMemory>
     requires { IsDescribed (plain_circuit blif.now) }
     ensures { IfOk result
         (λ r. IsResolved (given_names (plain_circuit blif.now)) (equations_of (plain_circuit blif.now))
@@ -101,8 +103,12 @@ fn resolved_names<'a>(alloc: Global, blif: &'a Blif) -> Result<Resolved<'a>, NoM
     })
 }
 
-// The tables in an order in which each one stands behind those that it reads, or a combinational cycle.
-fn table_order(alloc: Global, blif: &Blif, resolved: &Resolved<'_>) -> Result<Vec<usize>, RunError>
+/// The tables in an order in which each one stands behind those that it reads, or a combinational cycle.
+pub fn table_order(
+    alloc: Global,
+    blif: &Blif,
+    resolved: &Resolved<'_>,
+) -> Result<Vec<usize>, RunError>
     requires described { IsDescribed (plain_circuit blif.now) }
     requires resolved { IsResolved (given_names (plain_circuit blif.now)) (equations_of (plain_circuit blif.now))
         (map (λ w. w.now) resolved.now.names.items) (map (λ k. k.now) resolved.now.slots.keys) resolved.now.first

@@ -110,8 +110,8 @@ impl Runner for BlifRunner {
 
 const PAUSED: &[u8] = b"_paused";
 
-// Whether the last of the outputs is `_paused`.
-fn tells_pause(outputs: &[Text]) -> bool
+/// Whether the last of the outputs is `_paused`.
+pub fn tells_pause(outputs: &[Text]) -> bool
     ensures { result ≡ tells_pause outputs.now }
 {
     match outputs.last() {
@@ -120,8 +120,8 @@ fn tells_pause(outputs: &[Text]) -> bool
     }
 }
 
-// How many of the outputs are listed.
-fn listed_count(outputs: &[Text]) -> usize
+/// How many of the outputs are listed.
+pub fn listed_count(outputs: &[Text]) -> usize
     ensures count { result ≡ listed_count outputs.now }
     ensures within { result ≤ length outputs.now }
 {

@@ -1,0 +1,6 @@
+pub mod Drawings
+pub mod Rows
+pub mod Slots
+pub mod Words
+pub mod Netlists
+pub mod Faults

@@ -1,0 +1,93 @@
+use Rattle.std.proofs.Common.{◌≡◌, ◌+◌, ◌<◌, ℕ, List, [], ◌∷◌, ◌++◌, length, map, take, get_or, All, sym, ap, subst, ◌∙◌, arith}
+use Rattle.std.specs.declared.alloc.Global.{Global}
+use Rattle.std.specs.declared.vec.Vec.{Vec}
+use Rattle.std.proofs.lemmas.List.{length-map, take_all}
+use Rattle.std.proofs.lemmas.List.Elements.{recursion_from_All}
+use Rattle.blif_text.specs.Plain.{plain_circuit, plain_table, plain_row}
+use Rattle.blif_text.proofs.Described.{described-sound}
+use Rattle.step_run.specs.Solvers.{ordered_steps}
+use Rattle.step_run.specs.Steps.{Step}
+use Rattle.step_run.proofs.Resolving.{reads-within, parts-within}
+use Rattle.blif_run.specs.Loops.{equation_of, equations_of}
+use Rattle.blif_run.specs.Plans.{given_names}
+use Rattle.blif_run.proofs.CircuitEquations.{sound-equations}
+use Rattle.blif_run.proofs.Resolving.{tables-count}
+use Rattle.blif_net.specs.Tables.{Settles, drawn_step, rows_step}
+use Rattle.blif_net.proofs.Slots.{steps-more, step-is, settles-as, table-steps}
+use Rattle.blif_net.proofs.drawing.drawn_tables.Goals as goal
+
+pub draw_table-requires-clause-reads : goal.draw_table-requires-clause-reads
+draw_table-requires-clause-reads c =
+    let circuit = plain_circuit c.args.blif.now in
+    let sound = described-sound c.requires.described.0 circuit c.requires.described.1 in
+    let own = sound-equations circuit sound in
+    let resolved = c.args.resolved.now in
+    let reads = resolved.reads.items in
+    let lists : List (List ℕ) = map (λ (s : Vec ℕ Global). s.items) reads in
+    let t = get_or c.args.order.now c.loop-table.table-index 0 in
+    let count = tables-count circuit sound _ _ _ _ c.requires.resolved in
+    let wide = length-map c.args.blif.now.tables.items plain_table in
+    let many : length reads ≡ length lists = sym (length-map reads (λ (s : Vec ℕ Global). s.items)) in
+    let node : t < length circuit.tables =
+    omega (arith, c.requires.order.against.nodes c.loop-table.table-index 0 (omega arith), c.requires.order.each_node, length-map circuit.tables equation_of) in
+    let within = parts-within (λ (s : Vec ℕ Global). s.items) (resolved.first + length lists) reads
+    (reads-within (given_names circuit) (equations_of circuit) own _ _ _ _ c.requires.resolved) in
+    let here : All (λ slot. slot < resolved.first + length lists) c.deref.result.now =
+    subst (λ (l : List ℕ). All (λ slot. slot < resolved.first + length lists) l)
+    (sym (c.deref.ensures.value ∙ ap (λ (s : Vec ℕ Global). s.items) c.index.ensures))
+    (within t c.index.result.now (omega (arith, node, count, many))) in
+    λ k d low.
+    let slot = here k d low in
+    omega (arith, slot, c.loop-table.invariant.each_slot, count, wide)
+
+pub loop-table-preserved : goal.loop-table-preserved
+loop-table-preserved c =
+    let circuit = plain_circuit c.args.blif.now in
+    let sound = described-sound c.requires.described.0 circuit c.requires.described.1 in
+    let resolved = c.args.resolved.now in
+    let first = resolved.first in
+    let reads = resolved.reads.items in
+    let tables = c.args.blif.now.tables.items in
+    let order = c.args.order.now in
+    let i = c.loop-table.table-index in
+    let t = get_or order i 0 in
+    let lists : List (List ℕ) = map (λ (s : Vec ℕ Global). s.items) reads in
+    let count = tables-count circuit sound _ _ _ _ c.requires.resolved in
+    let wide = length-map tables plain_table in
+    let many = length-map reads (λ (s : Vec ℕ Global). s.items) in
+    let node : t < length circuit.tables =
+    omega (arith, c.requires.order.against.nodes i 0 (omega arith), c.requires.order.each_node, length-map circuit.tables equation_of) in
+    let f : ℕ → Step = drawn_step circuit.tables first lists in
+    let made : Settles first (length tables) c.draw_table.new.drawing.gates.items c.draw_table.new.drawing.nets.items
+    (map f (take i order) ++ rows_step (first + t) c.deref.result.now (map plain_row c.deref-in-loop-table.result.now) ∷ []) =
+    c.in_ok-draw_table.ensures.settles (length tables) (map f (take i order)) c.loop-table.invariant in
+    let one : rows_step (first + t) c.deref.result.now (map plain_row c.deref-in-loop-table.result.now) ≡ f t =
+    step-is tables reads first t c.deref.result.now c.deref-in-loop-table.result.now c.index.result.now c.index-in-loop-table.result.now
+    (omega (arith, node, count, many)) (omega (arith, node, wide)) c.deref.ensures.value c.index.ensures c.deref-in-loop-table.ensures.value
+    c.index-in-loop-table.ensures in
+    subst (λ (l : List Step). Settles first (length tables) c.draw_table.new.drawing.gates.items c.draw_table.new.drawing.nets.items l)
+    (ap (λ s. map f (take i order) ++ s ∷ []) one ∙ sym (steps-more f order i 0 (omega arith))) made
+
+pub returns : goal.returns
+returns c =
+    let circuit = plain_circuit c.args.blif.now in
+    let sound = described-sound c.requires.described.0 circuit c.requires.described.1 in
+    let resolved = c.args.resolved.now in
+    let order = c.args.order.now in
+    let tables = c.args.blif.now.tables.items in
+    let reads : List (List ℕ) = map (λ (s : Vec ℕ Global). s.items) resolved.reads.items in
+    let a = length-map tables plain_table in
+    let b = length-map circuit.tables equation_of in
+    let count : length tables ≡ length (equations_of circuit) = omega (arith, a, b) in
+    let all : take c.loop-table.table-index order ≡ order = take_all c.loop-table.table-index order (omega arith) in
+    let nodes : All (λ k. k < length circuit.tables) order = λ k d low.
+    let inside = c.requires.order.against.nodes k d low in
+    omega (arith, inside, c.requires.order.each_node, b) in
+    let steps : map (drawn_step circuit.tables resolved.first reads) (take c.loop-table.table-index order)
+    ≡ ordered_steps (given_names circuit) (equations_of circuit) order =
+    ap (map (drawn_step circuit.tables resolved.first reads)) all
+    ∙ ap (λ f. map (drawn_step circuit.tables f reads) order) c.requires.resolved.first_is
+    ∙ ap (λ rs. map (drawn_step circuit.tables (length (given_names circuit)) rs) order) c.requires.resolved.reads_are
+    ∙ table-steps circuit sound order (recursion_from_All (λ k. k < length circuit.tables) order nodes) in
+    settles-as resolved.first (length (given_names circuit)) (length tables) (length (equations_of circuit)) c.loop-table.drawing.gates.items
+    c.loop-table.drawing.nets.items _ _ c.requires.resolved.first_is count steps c.loop-table.invariant

@@ -1,0 +1,14 @@
+use Rattle.std.proofs.Common.{◌≡◌, ◌∷◌, [], List, sym, subst, ◌∙◌, ap, arith, false, None, ◌<◌, ◌^◌}
+use Rattle.net_ir.specs.declared.netlist.Gate.{Gate}
+use Rattle.net_ir.specs.declared.netlist.Op.TheVariants.{Const}
+use Rattle.blif_net.specs.Tables.{Settles}
+use Rattle.blif_net.proofs.Slots.{settles-none}
+use Rattle.blif_net.proofs.drawing.first_drawing.Goals as goal
+
+pub returns : goal.returns
+returns c =
+    let never : Gate = record { op = Const false; wire = None } in
+    let few : c.args.first < 2 ^ 32 = omega (arith, c.if-first-ge4294967296.false) in
+    let gates : c.in_ok-gates.gates.items ≡ never ∷ [] = c.in_ok-gates.ensures.items ∙ ap (λ g. g ∷ []) c.never.ensures in
+    subst (λ (l : List Gate). Settles c.args.first c.args.count l c.in_ok-nets.nets.items []) (sym gates)
+    (settles-none c.args.first c.args.count c.in_ok-nets.nets.items few c.in_ok-nets.ensures.each c.in_ok-nets.ensures.own)

@@ -1,0 +1,8 @@
+use Rattle.std.proofs.Common.{true, take}
+use Rattle.blif_text.specs.Runs.{row_fits}
+use Rattle.blif_net.specs.Drawings.{Draws, read_values}
+use Rattle.blif_net.proofs.tables.joined_cells.Given as goal
+
+abbrev pub invariant-loop-k : goal.invariant-loop-k
+invariant-loop-k l =
+    Draws l.first l.fn.gates.items l.gates.items l.all true (λ values. row_fits (take l.k l.cells) (take l.k (read_values l.reads values)))

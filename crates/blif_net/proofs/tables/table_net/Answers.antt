@@ -1,0 +1,58 @@
+use Rattle.std.proofs.Common.{◌≡◌, ℕ, ◌+◌, false, ◌||◌, Some, None, List, take, map, sym, ap, ◌∙◌, arith, Bool}
+use Rattle.std.specs.List.{list_any}
+use Rattle.std.proofs.lemmas.List.{take_all}
+use Rattle.std.proofs.lemmas.Result.{IfOk-weaker}
+use Rattle.net_ir.specs.Gates.{value_in, gate_values, op_value}
+use Rattle.net_ir.specs.declared.netlist.Op.TheVariants.{Const}
+use Rattle.blif_text.specs.declared.circuit.Cell.{Cell}
+use Rattle.blif_text.specs.Plain.{plain_row}
+use Rattle.blif_text.specs.Runs.{row_fits}
+use Rattle.blif_net.specs.Drawings.{Draws, said, read_values}
+use Rattle.blif_net.proofs.Drawings.{draws-then, reads-stay}
+use Rattle.blif_net.proofs.Rows.{rows-more}
+use Rattle.blif_net.proofs.tables.table_net.Goals as goal
+
+pub loop-row-preserved : goal.loop-row-preserved
+loop-row-preserved c =
+    let first = c.args.first in
+    let a = c.args.gates.now.items in
+    let b = c.loop-row.gates.items in
+    let i = c.loop-row.row-index in
+    let rows = c.args.rows.now in
+    let reads = c.args.reads.now in
+    let any = c.loop-row.any in
+    let row = c.row-item.result in
+    let some_fits : ℕ → List Bool → Bool =
+    λ j values. list_any (λ (cells : List Cell). row_fits cells (read_values reads values)) (map plain_row (take j rows)) in
+    draws-then first a b c.with_row.new.gates.items any c.in_ok-any.any false false (some_fits i)
+    (λ values. said false any values || row_fits row.cells.items (read_values reads values))
+    (some_fits (i + 1)) c.loop-row.invariant c.in_ok-any.ensures
+    (λ given wide.
+    let values = gate_values given a in
+    ap (λ x. x || row_fits row.cells.items (read_values reads (gate_values given b))) (c.loop-row.invariant.says given wide)
+    ∙ ap (λ l. some_fits i values || row_fits row.cells.items l)
+    (reads-stay first a b any false (some_fits i) c.loop-row.invariant given wide reads c.requires.low)
+    ∙ sym (rows-more rows (read_values reads values) i row (omega arith) c.row-item.is))
+
+pub returns-in-None : goal.returns-in-None
+returns-in-None c =
+    let first = c.args.first in
+    let a = c.args.gates.now.items in
+    let b = c.loop-row.gates.items in
+    let new = c.push_gate.new.gates.items in
+    let rows = c.args.rows.now in
+    let reads = c.args.reads.now in
+    let some_fits : ℕ → List Bool → Bool =
+    λ j values. list_any (λ (cells : List Cell). row_fits cells (read_values reads values)) (map plain_row (take j rows)) in
+    let f : List Bool → Bool = λ values. list_any (λ (cells : List Cell). row_fits cells (read_values reads values)) (map plain_row rows) in
+    let all : take c.loop-row.row-index rows ≡ rows = take_all c.loop-row.row-index rows (omega arith) in
+    let none : c.loop-row.any ≡ None = c.in-None.is in
+    IfOk-weaker c.push_gate.result (λ n. Draws first b new (Some n) false (λ values. op_value (value_in values) (Const false)))
+    (λ n. Draws first a new (Some n) false f)
+    (λ n made.
+    draws-then first a b new c.loop-row.any (Some n) false false (some_fits c.loop-row.row-index) (λ values. op_value (value_in values) (Const false)) f
+    c.loop-row.invariant made
+    (λ given wide.
+    ap (λ o. said false o (gate_values given b)) (sym none) ∙ c.loop-row.invariant.says given wide
+    ∙ ap (λ l. list_any (λ (cells : List Cell). row_fits cells (read_values reads (gate_values given a))) (map plain_row l)) all))
+    c.push_gate.ensures

@@ -1,0 +1,42 @@
+use Rattle.std.proofs.Common.{◌≡◌, true, false, ◌||◌, Some, sym, ap, ◌∙◌, arith, Bool, List}
+use Rattle.std.proofs.lemmas.List.{length-map}
+use Rattle.est_base.specs.declared.indices.NetId.{NetId}
+use Rattle.net_ir.specs.Gates.{value_in, gate_values}
+use Rattle.blif_text.specs.Runs.{row_fits}
+use Rattle.blif_net.specs.Drawings.{said, read_values}
+use Rattle.blif_net.proofs.Drawings.{draws-then, draws-none, draws-value, said-stays}
+use Rattle.blif_net.proofs.Rows.{row-wide, or_false}
+use Rattle.blif_net.proofs.tables.with_row.Goals as goal
+
+pub returns-then-len-reads : goal.returns-then-len-reads
+returns-then-len-reads c =
+    let first = c.args.first in
+    let a = c.args.gates.now.items in
+    let any = c.args.any in
+    let cells = c.args.row.now.cells.items in
+    let reads = c.args.reads.now in
+    draws-value first a a any false (said false any) (λ values. said false any values || row_fits cells (read_values reads values))
+    (λ values.
+    let other : row_fits cells (read_values reads values) ≡ false =
+    row-wide cells (read_values reads values)
+    (λ e. absurd (c.if-len-reads.true (omega (arith, e, c.len.ensures, length-map reads (λ (n : NetId). value_in values n.0))))) in
+    sym (ap (λ x. said false any values || x) other ∙ or_false (said false any values)))
+    (draws-none first a any false c.requires.drawing c.requires.any)
+
+pub returns : goal.returns
+returns c =
+    let first = c.args.first in
+    let a = c.args.gates.now.items in
+    let b = c.row_net.new.gates.items in
+    let any = c.args.any in
+    let cells = c.args.row.now.cells.items in
+    let reads = c.args.reads.now in
+    let net = c.in_ok-net.net in
+    let f : List Bool → Bool = λ values. row_fits cells (read_values reads values) in
+    let one = rw c.deref.ensures.value at c.in_ok-net.ensures in
+    draws-then first a b c.either.new.gates.items (Some net) (Some c.in_ok-with.with) true false f
+    (λ values. said false any values || said false (Some net) values)
+    (λ values. said false any values || row_fits cells (read_values reads values)) one c.in_ok-with.ensures
+    (λ given wide.
+    ap (λ x. x || value_in (gate_values given b) net.0) (said-stays first a b (Some net) true f one given wide any false c.requires.any)
+    ∙ ap (λ x. said false any (gate_values given a) || x) (one.says given wide))

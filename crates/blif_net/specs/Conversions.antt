@@ -1,0 +1,35 @@
+-- Contract: what the netlist of a circuit is.
+use Rattle.std.specs.Prelude.{◌≡◌, ℕ, Bool, List, [], ◌∷◌, ◌++◌, length, map}
+use Rattle.machines.specs.Machines.{Follows}
+use Rattle.net_ir.specs.Gates.{carried}
+use Rattle.net_ir.specs.Netlists.{Netlist}
+use Rattle.net_ir.specs.Runs.{net_machine, shown}
+use Rattle.blif_text.specs.Circuits.{Circuit}
+use Rattle.blif_text.specs.Runs.{circuit_machine}
+use Rattle.blif_text.specs.Written.{output_words}
+
+-- an event has one value for each input
+abbrev pub IsWide : Circuit → List Bool → Type 0
+IsWide circuit event = length event ≡ length circuit.inputs
+
+-- in an instant the outputs of the circuit have the values that the net shows, and the last one that of `paused`
+abbrev pub ShowSame : Netlist → Circuit → List Bool → (List ℕ → Bool) → Type 0
+ShowSame net circuit values v =
+    map v circuit.outputs ≡ (shown net values).outputs ++ (shown net values).paused ∷ []
+
+-- the latches have the same values, in their order, one each
+pub record SameLatches (circuit : Circuit) (latches kept : List Bool) : Type 0 where
+  pub same : latches ≡ kept
+  pub each_latch : length latches ≡ length circuit.latches
+
+-- A netlist is that of a circuit. It has the circuit's name and inputs, and its outputs have the words of the circuit's
+-- outputs, each in their order; no gate carries a wire. From the same values of the latches on, in their order, the
+-- circuit follows it: both have an instant on each event, in any two the same is shown, and behind them the latches
+-- have the same values again, as at the start.
+pub record IsNetOf (circuit : Circuit) (net : Netlist) : Type 0 where
+  pub name : net.name ≡ circuit.name
+  pub inputs : net.inputs ≡ circuit.inputs
+  pub outputs : output_words net ≡ circuit.outputs
+  pub silent : carried net.gates ≡ []
+  pub follows : Follows (net_machine net) (circuit_machine circuit) (IsWide circuit) (ShowSame net circuit)
+      (SameLatches circuit)

@@ -1,0 +1,34 @@
+-- Inner: gates under construction, and what the nets among them say.
+use Rattle.std.specs.Prelude.{◌≡◌, ℕ, ◌+◌, ◌<◌, ◌≤◌, ◌^◌, Bool, Option, Some, None, List, [], ◌++◌, length, map, IfSome}
+use Rattle.est_base.specs.declared.indices.NetId.{NetId}
+use Rattle.net_ir.specs.declared.netlist.Gate.{Gate}
+use Rattle.net_ir.specs.Gates.{ReadsLower, carried, gate_values, value_in}
+
+-- gates behind so many inputs and latches: they read lower nets, and none carries a wire
+pub record IsDrawing (first : ℕ) (gates : List Gate) : Type 0 where
+  pub few : first + length gates ≤ 2 ^ 32
+  pub reads_lower : ReadsLower first gates
+  pub silent : carried gates ≡ []
+
+-- a net, if there is one, is one of so many
+abbrev pub is_low : ℕ → Option NetId → Type 0
+is_low count net = IfSome net (λ n. n.0 < count)
+
+-- the value of a net, if there is one; else this one
+abbrev pub said : Bool → Option NetId → List Bool → Bool
+said none None values = none
+said none (Some net) values = value_in values net.0
+
+-- the values of some nets
+abbrev pub read_values : List NetId → List Bool → List Bool
+read_values nets values = map (λ n. value_in values n.0) nets
+
+-- More gates, and a net among them, if one is needed, whose value is this function of the values of the nets so far.
+pub record Draws (first : ℕ) (old new : List Gate) (net : Option NetId) (none : Bool) (value : List Bool → Bool) :
+    Type 0 where
+  pub drawing : IsDrawing first new
+  pub more : List Gate
+  pub added : new ≡ old ++ more
+  pub low : is_low (first + length new) net
+  pub says : (given : List Bool) → length given ≡ first
+      → said none net (gate_values given new) ≡ value (gate_values given old)

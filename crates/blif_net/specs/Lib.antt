@@ -1,0 +1,5 @@
+pub mod Drawings
+pub mod Interfaces
+pub mod Checking
+pub mod Conversions
+pub mod Tables

@@ -1,0 +1,79 @@
+// The netlist of a circuit.
+
+ghost use Rattle.std.specs.Prelude.{◌≡◌, map, length, IfOk, OnOk};
+ghost use Rattle.est_base.specs.Stops.{IfFault};
+ghost use Rattle.net_ir.specs.Runs.{netlist_of};
+ghost use Rattle.blif_text.specs.Plain.{plain_circuit};
+ghost use Rattle.blif_run.specs.Loops.{IsDescribed, equations_of};
+ghost use Rattle.blif_run.specs.Plans.{given_names};
+ghost use Rattle.step_run.specs.Order.{IsEvaluationOrder};
+ghost use Rattle.step_run.specs.Solvers.{IsResolved, equation_edges};
+ghost use Rattle.blif_net.specs.Conversions.{IsNetOf};
+ghost use Rattle.blif_net.specs.Interfaces.{IsFit, IsCircuitFault};
+
+use crate::assembling::assembled_net;
+use crate::drawing::drawn_tables;
+use crate::fault::CircuitFault;
+use crate::interface::check_interface;
+use blif_run::{Resolved, RunError, resolved_names, table_order};
+use blif_text::Blif;
+use est_base::{NoMemory, Stop};
+use net_ir::Net;
+use std::alloc::Global;
+
+/// The netlist of a circuit that some text describes, which shows over all items what the circuit shows. The fault is
+/// the circuit's first one, in the order of `CircuitFault`; the only other error is want of memory, which also more
+/// than 2^32 nets are.
+pub fn net_of_circuit(alloc: Global, blif: &Blif) -> Result<Net, Stop<CircuitFault>>
+    requires { IsDescribed (plain_circuit blif.now) }
+    ensures net { IfOk result (λ net. IsNetOf (plain_circuit blif.now) (netlist_of net)) }
+    ensures fault { IfFault result (IsCircuitFault (plain_circuit blif.now)) }
+{
+    let resolved = resolved_names(alloc, blif)?;
+    check_interface(alloc, blif, &resolved.slots)?;
+    let order = tables_in_order(alloc, blif, &resolved)?;
+    Ok(made_net(alloc, blif, &resolved, &order)?)
+}
+
+// The order in which the tables are drawn.
+fn tables_in_order(
+    alloc: Global,
+    blif: &Blif,
+    resolved: &Resolved<'_>,
+) -> Result<Vec<usize>, Stop<CircuitFault>>
+    requires described { IsDescribed (plain_circuit blif.now) }
+    requires fits { IsFit (plain_circuit blif.now) }
+    requires resolved { IsResolved (given_names (plain_circuit blif.now)) (equations_of (plain_circuit blif.now))
+        (map (λ w. w.now) resolved.now.names.items) (map (λ k. k.now) resolved.now.slots.keys) resolved.now.first
+        (map (λ s. s.items) resolved.now.reads.items) }
+    ensures order { IfOk result (λ order. IsEvaluationOrder (length (equations_of (plain_circuit blif.now)))
+        (equation_edges (given_names (plain_circuit blif.now)) (equations_of (plain_circuit blif.now))) order.items) }
+    ensures cyclic { IfFault result (IsCircuitFault (plain_circuit blif.now)) }
+{
+    match table_order(alloc, blif, resolved) {
+        Ok(order) => Ok(order),
+        Err(RunError::Loop(names)) => Err(Stop::Fault(CircuitFault::Loop(names))),
+        Err(RunError::NoMemory) => Err(Stop::NoMemory),
+    }
+}
+
+// The netlist of a circuit whose tables are drawn in this order.
+fn made_net(
+    alloc: Global,
+    blif: &Blif,
+    resolved: &Resolved<'_>,
+    order: &[usize],
+) -> Result<Net, NoMemory>
+    requires described { IsDescribed (plain_circuit blif.now) }
+    requires fits { IsFit (plain_circuit blif.now) }
+    requires resolved { IsResolved (given_names (plain_circuit blif.now)) (equations_of (plain_circuit blif.now))
+        (map (λ w. w.now) resolved.now.names.items) (map (λ k. k.now) resolved.now.slots.keys) resolved.now.first
+        (map (λ s. s.items) resolved.now.reads.items) }
+    requires order { IsEvaluationOrder (length (equations_of (plain_circuit blif.now)))
+        (equation_edges (given_names (plain_circuit blif.now)) (equations_of (plain_circuit blif.now))) order.now }
+    ensures { IfOk result (λ net. IsNetOf (plain_circuit blif.now) (netlist_of net)) }
+{
+    let drawing = drawn_tables(alloc, blif, resolved, order)?;
+    let net = assembled_net(alloc, blif, &resolved.slots, drawing)?;
+    Ok(net)
+}

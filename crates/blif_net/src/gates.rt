@@ -1,0 +1,62 @@
+// Gates one behind another, none of which carries a wire.
+
+ghost use Rattle.std.specs.Prelude.{◌≡◌, ◌+◌, ◌≤◌, true, false, not, ◌&&◌, ◌||◌, Option, Some, length, IfOk};
+ghost use Rattle.net_ir.specs.Gates.{op_value, operand_end, value_in};
+ghost use Rattle.blif_net.specs.Drawings.{IsDrawing, Draws, is_low, said};
+
+use est_base::{NetId, NoMemory};
+use net_ir::{Gate, Op};
+
+/// One more gate, and its net, where `first` is the number of the first gate. Where there is no number left, memory is
+/// said to be wanted.
+pub(crate) fn push_gate(first: usize, gates: &mut Vec<Gate>, op: Op) -> Result<NetId, NoMemory>
+    requires drawing { IsDrawing first gates.old.items }
+    requires low { operand_end op ≤ first + length gates.old.items }
+    ensures { IfOk result (λ n. Draws first gates.old.items gates.new.items (Some n) false
+        (λ values. op_value (value_in values) op)) }
+{
+    let number = first + gates.len();
+    if number >= 0x1_0000_0000 {
+        return Err(NoMemory);
+    }
+    gates.push(Gate { op, wire: None })?;
+    Ok(NetId(number as u32))
+}
+
+/// The conjunction of what there is so far and one more net.
+pub(crate) fn both(
+    first: usize,
+    gates: &mut Vec<Gate>,
+    all: Option<NetId>,
+    net: NetId,
+) -> Result<NetId, NoMemory>
+    requires drawing { IsDrawing first gates.old.items }
+    requires all { is_low (first + length gates.old.items) all }
+    requires net { is_low (first + length gates.old.items) (Some net) }
+    ensures { IfOk result (λ n. Draws first gates.old.items gates.new.items (Some n) true
+        (λ values. said true all values && said true (Some net) values)) }
+{
+    match all {
+        Some(others) => push_gate(first, gates, Op::And(others, net)),
+        None => Ok(net),
+    }
+}
+
+/// The disjunction of what there is so far and one more net.
+pub(crate) fn either(
+    first: usize,
+    gates: &mut Vec<Gate>,
+    any: Option<NetId>,
+    net: NetId,
+) -> Result<NetId, NoMemory>
+    requires drawing { IsDrawing first gates.old.items }
+    requires any { is_low (first + length gates.old.items) any }
+    requires net { is_low (first + length gates.old.items) (Some net) }
+    ensures { IfOk result (λ n. Draws first gates.old.items gates.new.items (Some n) false
+        (λ values. said false any values || said false (Some net) values)) }
+{
+    match any {
+        Some(others) => push_gate(first, gates, Op::Or(others, net)),
+        None => Ok(net),
+    }
+}

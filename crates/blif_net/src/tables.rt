@@ -1,0 +1,123 @@
+// Gates that compute tables.
+
+ghost use Rattle.std.specs.Prelude.{◌≡◌, ◌+◌, ◌<◌, ◌&&◌, ◌||◌, true, false, Some, map, length, All, IfOk};
+ghost use Rattle.std.specs.List.{list_any};
+ghost use Rattle.blif_text.specs.Plain.{plain_row};
+ghost use Rattle.blif_text.specs.Runs.{cell_fits, row_fits};
+ghost use Rattle.blif_net.specs.Drawings.{IsDrawing, Draws, is_low, said, read_values};
+
+use crate::gates::{both, either, push_gate};
+use blif_text::{Cell, Row};
+use est_base::{NetId, NoMemory};
+use net_ir::{Gate, Op};
+
+/// The net of a table with these rows, over the nets of its inputs.
+pub(crate) fn table_net(
+    first: usize,
+    gates: &mut Vec<Gate>,
+    reads: &[NetId],
+    rows: &[Row],
+) -> Result<NetId, NoMemory>
+    requires drawing { IsDrawing first gates.old.items }
+    requires low { All (λ n. n.0 < first + length gates.old.items) reads.now }
+    ensures { IfOk result (λ n. Draws first gates.old.items gates.new.items (Some n) false
+        (λ values. list_any (λ row. row_fits row (read_values reads.now values)) (map plain_row rows.now))) }
+{
+    let mut any = None;
+    for row in rows {
+        any = with_row(first, gates, any, reads, row)?;
+    }
+    match any {
+        Some(net) => Ok(net),
+        None => push_gate(first, gates, Op::Const(false)),
+    }
+}
+
+// The disjunction of what there is so far and a row. A row of another width fits nothing.
+fn with_row(
+    first: usize,
+    gates: &mut Vec<Gate>,
+    any: Option<NetId>,
+    reads: &[NetId],
+    row: &Row,
+) -> Result<Option<NetId>, NoMemory>
+    requires drawing { IsDrawing first gates.old.items }
+    requires any { is_low (first + length gates.old.items) any }
+    requires low { All (λ n. n.0 < first + length gates.old.items) reads.now }
+    ensures { IfOk result (λ o. Draws first gates.old.items gates.new.items o false
+        (λ values. said false any values || row_fits row.now.cells.items (read_values reads.now values))) }
+{
+    if row.cells.len() != reads.len() {
+        return Ok(any);
+    }
+    let net = row_net(first, gates, reads, &row.cells)?;
+    let with = either(first, gates, any, net)?;
+    Ok(Some(with))
+}
+
+// The net of a row.
+fn row_net(
+    first: usize,
+    gates: &mut Vec<Gate>,
+    reads: &[NetId],
+    cells: &[Cell],
+) -> Result<NetId, NoMemory>
+    requires drawing { IsDrawing first gates.old.items }
+    requires low { All (λ n. n.0 < first + length gates.old.items) reads.now }
+    requires width { length cells.now ≡ length reads.now }
+    ensures { IfOk result (λ n. Draws first gates.old.items gates.new.items (Some n) true
+        (λ values. row_fits cells.now (read_values reads.now values))) }
+{
+    match joined_cells(first, gates, reads, cells)? {
+        Some(net) => Ok(net),
+        None => push_gate(first, gates, Op::Const(true)),
+    }
+}
+
+// The conjunction of the cells, or nothing where each one fits any value.
+fn joined_cells(
+    first: usize,
+    gates: &mut Vec<Gate>,
+    reads: &[NetId],
+    cells: &[Cell],
+) -> Result<Option<NetId>, NoMemory>
+    requires drawing { IsDrawing first gates.old.items }
+    requires low { All (λ n. n.0 < first + length gates.old.items) reads.now }
+    requires width { length cells.now ≡ length reads.now }
+    ensures { IfOk result (λ o. Draws first gates.old.items gates.new.items o true
+        (λ values. row_fits cells.now (read_values reads.now values))) }
+{
+    let mut all = None;
+    for (k, cell) in cells.iter().enumerate() {
+        all = with_cell(first, gates, all, *cell, reads[k])?;
+    }
+    Ok(all)
+}
+
+// The conjunction of what there is so far and a cell over a net.
+fn with_cell(
+    first: usize,
+    gates: &mut Vec<Gate>,
+    all: Option<NetId>,
+    cell: Cell,
+    net: NetId,
+) -> Result<Option<NetId>, NoMemory>
+    requires drawing { IsDrawing first gates.old.items }
+    requires all { is_low (first + length gates.old.items) all }
+    requires low { is_low (first + length gates.old.items) (Some net) }
+    ensures { IfOk result (λ o. Draws first gates.old.items gates.new.items o true
+        (λ values. said true all values && cell_fits cell (said true (Some net) values))) }
+{
+    match cell {
+        Cell::Any => Ok(all),
+        Cell::One => {
+            let with = both(first, gates, all, net)?;
+            Ok(Some(with))
+        }
+        Cell::Zero => {
+            let opposite = push_gate(first, gates, Op::Not(net))?;
+            let with = both(first, gates, all, opposite)?;
+            Ok(Some(with))
+        }
+    }
+}
