@@ -7,29 +7,29 @@ use Rattle.expr_text.specs.Grammar.{Written, meant}
 use Rattle.expr_text.proofs.Images.{Image, image-mapped, image-both, image-trail, image-on, image-maybe, image-loop, image-self, image-advances}
 use Rattle.expr_text.proofs.Images.{made, end-made}
 use Rattle.expr_text.proofs.Makers.{expr-meant}
-use Rattle.read_rules.specs.Readings.{mapped, both, trail, on, the, loop, end_of, whole}
+use Rattle.read_rules.specs.Readings.{Rule, mapped, both, trail, on, the, loop, end_of, whole}
 use Rattle.read_rules.proofs.Loops.{Advances}
 use Rattle.csub_read.proofs.TextLaws.{assign-advances}
 use Rattle.csub_read.specs.Reading.{makes_expr, makes_written, expr, state_step, global_step, local_step}
-use Rattle.csub_read.specs.Reading.{assign_rule, assign_step, answer_rule, body_rule, function_rule, text_rule, Parts, parts_of, written_assign}
+use Rattle.csub_read.specs.Reading.{assign_rule, assign_step, answer_rule, body_rule, function_rule, whole_rule, text_rule, Parts, parts_of, written_assign}
 use Rattle.csub_read.specs.Reading.{written_of, expr_assign, expr_program}
 
 -- ---- texts
 
-abbrev pair_meant : List ℕ × Written → List ℕ × Expr
+abbrev pub pair_meant : List ℕ × Written → List ℕ × Expr
 pair_meant a = (a.0, meant a.1)
 
 abbrev pub parts_meant : Parts Written → Parts Expr
 parts_meant p = record { states = p.states; globals = p.globals; locals = p.locals; body = map pair_meant p.body; answer = meant p.answer }
 
-assign-meant : (room : ℕ) → Image pair_meant (assign_rule makes_written room) (assign_rule makes_expr room)
+pub assign-meant : (room : ℕ) → Image pair_meant (assign_rule makes_written room) (assign_rule makes_expr room)
 assign-meant room =
     image-both (λ a. a) (the name) (the name) meant (on (is Equals) (λ _. trail (expr makes_written room) (the (is Semicolon))))
     (on (is Equals) (λ _. trail (expr makes_expr room) (the (is Semicolon)))) (image-self (the name))
     (image-on meant (is Equals) (trail (expr makes_written room) (the (is Semicolon))) (trail (expr makes_expr room) (the (is Semicolon)))
     (image-trail meant (expr makes_written room) (expr makes_expr room) (the (is Semicolon)) (expr-meant sign room)))
 
-answer-meant : (room : ℕ) → Image meant (answer_rule makes_written room) (answer_rule makes_expr room)
+pub answer-meant : (room : ℕ) → Image meant (answer_rule makes_written room) (answer_rule makes_expr room)
 answer-meant room = image-on meant _ _ _ (image-trail meant (expr makes_written room) (expr makes_expr room) _ (expr-meant sign room))
 
 pub assigns-mean : (room : ℕ) → Advances (assign_step makes_expr room)
@@ -37,29 +37,35 @@ assigns-mean room =
     image-advances pair_meant (assign_step makes_written room) (assign_step makes_expr room)
     (image-maybe pair_meant name (assign_rule makes_written room) (assign_rule makes_expr room) (assign-meant room)) (assign-advances room)
 
+pub loop-meant : (room : ℕ) → Image (map pair_meant) (loop (assign_step makes_written room)) (loop (assign_step makes_expr room))
+loop-meant room =
+    image-loop pair_meant (assign_step makes_written room) (assign_step makes_expr room)
+    (image-maybe pair_meant name (assign_rule makes_written room) (assign_rule makes_expr room) (assign-meant room))
+
 body-meant : (room : ℕ) → Image (λ v. (map pair_meant v.0, meant v.1)) (body_rule makes_written room) (body_rule makes_expr room)
 body-meant room =
     image-both (map pair_meant) (loop (assign_step makes_written room)) (loop (assign_step makes_expr room)) meant (answer_rule makes_written room)
-    (answer_rule makes_expr room)
-    (image-loop pair_meant (assign_step makes_written room) (assign_step makes_expr room)
-    (image-maybe pair_meant name (assign_rule makes_written room) (assign_rule makes_expr room) (assign-meant room)))
-    (answer-meant room)
+    (answer_rule makes_expr room) (loop-meant room) (answer-meant room)
 
-function-meant : (room : ℕ) → Image (λ v. (v.0, (map pair_meant v.1.0, meant v.1.1))) (function_rule makes_written room) (function_rule makes_expr room)
-function-meant room =
+-- whatever stands behind the locals
+function-image : {B C : Type 0} (f : B → C) (p : Rule Kind B) (q : Rule Kind C) → Image f p q
+    → Image (λ v. (v.0, f v.1)) (function_rule p) (function_rule q)
+function-image f p q image =
     image-on _ _ _ _ (image-on _ _ _ _ (image-on _ _ _ _ (image-on _ _ _ _
-    (image-both (λ a. a) (loop local_step) (loop local_step) (λ v. (map pair_meant v.0, meant v.1)) (body_rule makes_written room) (body_rule makes_expr room)
-    (image-self (loop local_step)) (body-meant room)))))
+    (image-both (λ a. a) (loop local_step) (loop local_step) f p q (image-self (loop local_step)) image))))
+
+pub whole-image : {B C : Type 0} (f : B → C) (p : Rule Kind B) (q : Rule Kind C) → Image f p q
+    → Image (λ v. (v.0, (v.1.0, (v.1.1.0, f v.1.1.1)))) (whole_rule p) (whole_rule q)
+whole-image f p q image =
+    image-both (λ a. a) (loop state_step) (loop state_step) (λ v. (v.0, (v.1.0, f v.1.1))) (both (loop global_step) (function_rule p))
+    (both (loop global_step) (function_rule q)) (image-self (loop state_step))
+    (image-both (λ a. a) (loop global_step) (loop global_step) (λ v. (v.0, f v.1)) (function_rule p) (function_rule q)
+    (image-self (loop global_step)) (function-image f p q image))
 
 text-meant : (room : ℕ) → Image parts_meant (text_rule makes_written room) (text_rule makes_expr room)
 text-meant room =
-    image-mapped _ (both (loop state_step) (both (loop global_step) (function_rule makes_written room)))
-    (both (loop state_step) (both (loop global_step) (function_rule makes_expr room))) parts_of parts_meant parts_of (λ found. refl)
-    (image-both (λ a. a) (loop state_step) (loop state_step) (λ v. (v.0, (v.1.0, (map pair_meant v.1.1.0, meant v.1.1.1))))
-    (both (loop global_step) (function_rule makes_written room)) (both (loop global_step) (function_rule makes_expr room))
-    (image-self (loop state_step))
-    (image-both (λ a. a) (loop global_step) (loop global_step) (λ v. (v.0, (map pair_meant v.1.0, meant v.1.1))) (function_rule makes_written room)
-    (function_rule makes_expr room) (image-self (loop global_step)) (function-meant room)))
+    image-mapped _ (whole_rule (body_rule makes_written room)) (whole_rule (body_rule makes_expr room)) parts_of parts_meant parts_of (λ found. refl)
+    (whole-image (λ v. (map pair_meant v.0, meant v.1)) (body_rule makes_written room) (body_rule makes_expr room) (body-meant room))
 
 pub whole-meant : (room : ℕ) (tokens : List Kind) → whole (text_rule makes_expr room) tokens ≡ made parts_meant (whole (text_rule makes_written room) tokens)
 whole-meant room tokens = sym (ap end_of (text-meant room tokens)) ∙ end-made parts_meant (text_rule makes_written room tokens)
@@ -69,7 +75,7 @@ pub whole-written : (room : ℕ) (tokens : List Kind) → whole (mapped written_
 whole-written room tokens = end-made written_of (text_rule makes_written room tokens)
 
 -- what is written and what it means are the same program
-body-means : (body : List (List ℕ × Written)) → map expr_assign (map pair_meant body) ≡ map assign_meant (map written_assign body)
+pub body-means : (body : List (List ℕ × Written)) → map expr_assign (map pair_meant body) ≡ map assign_meant (map written_assign body)
 body-means [] = refl
 body-means (a ∷ body) = ap (λ l. assign_meant (written_assign a) ∷ l) (body-means body)
 

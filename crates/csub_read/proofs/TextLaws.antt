@@ -1,5 +1,5 @@
 -- Inner: judgements on declarations, assignments and whole texts.
-use Rattle.std.proofs.Common.{◌≡◌, ◌⊎◌, inl, inr, ℕ, max, true, false, List, [], ◌∷◌, map, Option, Some, None, refl, ap, subst, arith}
+use Rattle.std.proofs.Common.{◌≡◌, ◌⊎◌, inl, inr, ℕ, max, true, false, IsTrue, List, [], ◌∷◌, map, Option, Some, None, refl, ap, subst, arith}
 use Rattle.csub_text.specs.Tokens.{Kind, Static, Int, Return, Void, React, LeftParenthesis, RightParenthesis, LeftBrace}
 use Rattle.csub_text.specs.Tokens.{RightBrace, Semicolon, Equals}
 use Rattle.csub_text.specs.Trees.{State}
@@ -10,14 +10,15 @@ use Rattle.read_rules.specs.Exact.{Exactly}
 use Rattle.read_rules.specs.Languages.{Then, Led, Loop, Optional, Many}
 use Rattle.read_rules.specs.Languages.{One as Single}
 use Rattle.read_rules.specs.Choice.{Made}
-use Rattle.read_rules.specs.Readings.{Rule, mapped, both, the, loop, whole}
+use Rattle.read_rules.specs.Readings.{Rule, mapped, the, loop, whole}
 use Rattle.read_rules.proofs.Loops.{Advances, mapped-mapped}
+use Rattle.read_rules.proofs.Sets.{apart}
 use Rattle.read_rules.proofs.Readers.{Shape, one_shape, Stops, Laws, Reads, the-reads, both-reads, led-reads, trail-reads, ahead-reads, mapped-reads}
 use Rattle.read_rules.proofs.Readers.{told-reads, made-reads, same-reads, shape-reads}
 use Rattle.read_rules.proofs.Steps.{Turn, step_depth, list_depth, AfterStep, StepLaws, Steps, look-steps, loop-reads, Advances-step}
 use Rattle.read_rules.proofs.Choices.{whole-reads as exact-reads}
 use Rattle.csub_read.specs.Reading.{makes_written, expr, state_rule, state_step, global_step, local_rule, local_step, assign_rule, assign_step}
-use Rattle.csub_read.specs.Reading.{answer_rule, function_rule, text_rule, parts_of, written_assign, written_of}
+use Rattle.csub_read.specs.Reading.{answer_rule, body_rule, whole_rule, text_rule, parts_of, written_assign, written_of}
 use Rattle.csub_read.specs.Tokens.{spelled}
 use Rattle.csub_read.proofs.TokenKinds.{class, is-test, name_set, name-test, own-test, global-test, bit-test, begins_set, sign-begins, sign-follows}
 use Rattle.expr_text.specs.Grammar.{Written, written_nesting}
@@ -25,15 +26,15 @@ use Rattle.expr_text.proofs.ExprLaws.{exprs_known}
 use Rattle.expr_text.proofs.Tests.{class-reads}
 
 abbrev expr_shape : Shape
-expr_shape = record { starts = begins_set; empty = false; after = 14 ∷ 13 ∷ [] }
+expr_shape = record { starts = begins_set; empty = false; after = 16 ∷ 15 ∷ [] }
 
 expr-reads : (room : ℕ) → Reads class (λ n. expr makes_written n) SpellsExpression written_nesting expr_shape (Some room)
 expr-reads room = class-reads class expr_shape (exprs_known sign spelled room).whole (λ e. e) sign-begins sign-follows
 
-own-reads : {room : Option ℕ} → Reads class (λ _. the own_name) (Single own_name) (λ _. 0) (one_shape (16 ∷ [])) room
+own-reads : {room : Option ℕ} → Reads class (λ _. the own_name) (Single own_name) (λ _. 0) (one_shape (18 ∷ [])) room
 own-reads = the-reads own-test
 
-end-reads : {room : Option ℕ} → Reads class (λ _. the (is Semicolon)) (Single (is Semicolon)) (λ _. 0) (one_shape (9 ∷ [])) room
+pub end-reads : {room : Option ℕ} → Reads class (λ _. the (is Semicolon)) (Single (is Semicolon)) (λ _. 0) (one_shape (11 ∷ [])) room
 end-reads = the-reads (is-test Semicolon (omega arith))
 
 -- ---- states
@@ -48,7 +49,7 @@ state-reads =
     (both-reads own-reads (led-reads (is-test Equals (omega arith)) (trail-reads (the-reads bit-test) end-reads refl)) refl) (λ _. refl)
     (λ found tokens member. member) (λ s tokens member. ((s.name, s.init), refl, member))))
 
-abbrev turn_of : List ℕ → Turn
+abbrev pub turn_of : List ℕ → Turn
 turn_of set = record { starts = set; empty = true; more = []; last = set }
 
 state-steps : {room : Option ℕ} → Steps class (λ _. state_step) (Optional SpellsState) (λ _. 0) (turn_of (0 ∷ [])) room
@@ -124,49 +125,62 @@ local-reads = led-reads (is-test Int (omega arith)) (trail-reads own-reads end-r
 local-steps : {room : Option ℕ} → Steps class (λ _. local_step) (Optional SpellsLocal) (λ _. 0) (turn_of (1 ∷ [])) room
 local-steps = look-steps (is-test Int (omega arith)) local-reads refl refl
 
-abbrev SpellsPair : List ℕ × Written → List Kind → Type 0
+abbrev pub SpellsPair : List ℕ × Written → List Kind → Type 0
 SpellsPair a = Then (Single name a.0) (Led (is Equals) (λ _. Then (SpellsExpression a.1) (Single (is Semicolon) tt)))
 
-abbrev pair_depth : List ℕ × Written → ℕ
+abbrev pub pair_depth : List ℕ × Written → ℕ
 pair_depth a = max 0 (written_nesting a.1)
 
-assign-reads : (room : ℕ) → Reads class (λ n. assign_rule makes_written n) SpellsPair pair_depth (one_shape name_set) (Some room)
+pub assign-reads : (room : ℕ) → Reads class (λ n. assign_rule makes_written n) SpellsPair pair_depth (one_shape name_set) (Some room)
 assign-reads room = both-reads (the-reads name-test) (led-reads (is-test Equals (omega arith)) (trail-reads (expr-reads room) end-reads refl)) refl
 
-assign-steps : (room : ℕ) → Steps class (λ n. assign_step makes_written n) (Optional SpellsPair) pair_depth (turn_of name_set) (Some room)
+pub assign-steps : (room : ℕ) → Steps class (λ n. assign_step makes_written n) (Optional SpellsPair) pair_depth (turn_of name_set) (Some room)
 assign-steps room = look-steps name-test (assign-reads room) refl refl
 
-answer-reads : (room : ℕ) → Reads class (λ n. answer_rule makes_written n) SpellsAnswer written_nesting (one_shape (2 ∷ [])) (Some room)
+pub answer-reads : (room : ℕ) → Reads class (λ n. answer_rule makes_written n) SpellsAnswer written_nesting (one_shape (2 ∷ [])) (Some room)
 answer-reads room =
     led-reads (is-test Return (omega arith)) (trail-reads (expr-reads room)
     (led-reads (is-test Semicolon (omega arith)) (the-reads (is-test RightBrace (omega arith)))) refl)
 
 -- ---- whole texts
 
-abbrev Found : Type 0
-Found = List State × (List (List ℕ) × (List (List ℕ) × (List (List ℕ × Written) × Written)))
-
-abbrev SpellsFound : Found → List Kind → Type 0
-SpellsFound p =
+-- whatever stands behind the locals
+abbrev pub SpellsWhole : {B : Type 0} → (B → List Kind → Type 0) → List State × (List (List ℕ) × (List (List ℕ) × B)) → List Kind → Type 0
+SpellsWhole L p =
     Then (Many SpellsState p.0) (Then (Loop SpellsGlobal p.1.0)
     (Led (is LeftParenthesis) (λ _. Led (is Void) (λ _. Led (is RightParenthesis) (λ _. Led (is LeftBrace) (λ _.
-    Then (Many SpellsLocal p.1.1.0) (Then (Many SpellsPair p.1.1.1.0) (SpellsAnswer p.1.1.1.1))))))))
+    Then (Many SpellsLocal p.1.1.0) (L p.1.1.1)))))))
 
-abbrev found_depth : Found → ℕ
-found_depth p =
-    max (list_depth (λ _. 0) p.0) (max (list_depth (λ _. 0) p.1.0)
-    (max (list_depth (λ _. 0) p.1.1.0) (max (list_depth pair_depth p.1.1.1.0) (written_nesting p.1.1.1.1))))
+abbrev pub whole_depth : {B : Type 0} → (B → ℕ) → List State × (List (List ℕ) × (List (List ℕ) × B)) → ℕ
+whole_depth d p =
+    max (list_depth (λ _. 0) p.0) (max (list_depth (λ _. 0) p.1.0) (max (list_depth (λ _. 0) p.1.1.0) (d p.1.1.1)))
 
-found-reads : (room : ℕ) → Reads class (λ n. both (loop state_step) (both (loop global_step) (function_rule makes_written n))) SpellsFound found_depth
-    (record { starts = 0 ∷ 1 ∷ []; empty = false; after = [] }) (Some room)
-found-reads room =
-    shape-reads (record { starts = 0 ∷ 1 ∷ []; empty = false; after = [] })
+abbrev pub whole_shape : Shape
+whole_shape = record { starts = 0 ∷ 1 ∷ []; empty = false; after = [] }
+
+pub whole-reads : {B : Type 0} {p : ℕ → Rule Kind B} {L : B → List Kind → Type 0} {d : B → ℕ} {starts : List ℕ} {room : ℕ}
+    → Reads class p L d (record { starts = starts; empty = false; after = [] }) (Some room) → IsTrue (apart (1 ∷ []) starts)
+    → Reads class (λ n. whole_rule (p n)) (SpellsWhole L) (whole_depth d) whole_shape (Some room)
+whole-reads {room = room} behind away =
+    shape-reads whole_shape
     (both-reads (loop-reads state-steps refl) (both-reads (loop-reads (global-steps (Some room)) refl)
     (led-reads (is-test LeftParenthesis (omega arith))
     (led-reads (is-test Void (omega arith)) (led-reads (is-test RightParenthesis (omega arith)) (led-reads (is-test LeftBrace (omega arith))
-    (both-reads (loop-reads local-steps refl) (both-reads (loop-reads (assign-steps room) refl) (answer-reads room) refl) refl))))) refl) refl) refl refl refl
+    (both-reads (loop-reads local-steps refl) behind away))))) refl) refl) refl refl refl
 
-flat : {A : Type 0} (values : List A) → list_depth (λ _. 0) values ≡ 0
+abbrev Found : Type 0
+Found = List State × (List (List ℕ) × (List (List ℕ) × (List (List ℕ × Written) × Written)))
+
+abbrev SpellsBody : List (List ℕ × Written) × Written → List Kind → Type 0
+SpellsBody b = Then (Many SpellsPair b.0) (SpellsAnswer b.1)
+
+abbrev found_depth : Found → ℕ
+found_depth = whole_depth (λ b. max (list_depth pair_depth b.0) (written_nesting b.1))
+
+found-reads : (room : ℕ) → Reads class (λ n. whole_rule (body_rule makes_written n)) (SpellsWhole SpellsBody) found_depth whole_shape (Some room)
+found-reads room = whole-reads (both-reads (loop-reads (assign-steps room) refl) (answer-reads room) refl) refl
+
+pub flat : {A : Type 0} (values : List A) → list_depth (λ _. 0) values ≡ 0
 flat [] = refl
 flat (v ∷ others) = omega (arith, flat others)
 
@@ -201,10 +215,17 @@ pairs-are : (body : List WrittenAssign) → map written_assign (map pair_in body
 pairs-are [] = refl
 pairs-are (a ∷ body) = ap (λ l. a ∷ l) (pairs-are body)
 
+-- assignments as they are written
+pub assigns-reads : (room : ℕ) → Reads class (λ n. mapped (map written_assign) (loop (assign_step makes_written n))) (Many SpellsAssign) body_nesting
+    (record { starts = name_set; empty = true; after = name_set }) (Some room)
+assigns-reads room =
+    made-reads (map written_assign) (Many SpellsAssign) body_nesting (loop-reads (assign-steps room) refl) body-depth pairs-to
+    (λ body tokens member. (map pair_in body, pairs-are body, pairs-from body tokens member))
+
 abbrev program_in : Found → WrittenProgram
 program_in found = written_of (parts_of found)
 
-text-to : (found : Found) (tokens : List Kind) → SpellsFound found tokens → SpellsText (program_in found) tokens
+text-to : (found : Found) (tokens : List Kind) → SpellsWhole SpellsBody found tokens → SpellsText (program_in found) tokens
 text-to found tokens member =
     let a = member.second in
     let b = a.second in
@@ -261,7 +282,7 @@ text-to found tokens member =
       };
     }
 
-text-from : (p : WrittenProgram) (tokens : List Kind) → SpellsText p tokens → Made program_in SpellsFound p tokens
+text-from : (p : WrittenProgram) (tokens : List Kind) → SpellsText p tokens → Made program_in (SpellsWhole SpellsBody) p tokens
 text-from p tokens member =
     let a = member.second in
     let b = a.second in
@@ -321,9 +342,7 @@ text-from p tokens member =
       },
     )
 
-text-reads : (room : ℕ) → Reads class (λ n. mapped program_in
-    (both (loop state_step) (both (loop global_step) (function_rule makes_written n)))) SpellsText text_nesting
-    (record { starts = 0 ∷ 1 ∷ []; empty = false; after = [] }) (Some room)
+text-reads : (room : ℕ) → Reads class (λ n. mapped program_in (whole_rule (body_rule makes_written n))) SpellsText text_nesting whole_shape (Some room)
 text-reads room =
     made-reads program_in SpellsText text_nesting (found-reads room)
     (λ found. omega (arith, flat found.0, flat found.1.0, flat found.1.1.0, body-depth found.1.1.1.0)) text-to text-from
@@ -332,10 +351,10 @@ text-reads room =
 abbrev pub written_rule : ℕ → Rule Kind WrittenProgram
 written_rule n = mapped written_of (text_rule makes_written n)
 
-written-reads : (room : ℕ) → Reads class written_rule SpellsText text_nesting (record { starts = 0 ∷ 1 ∷ []; empty = false; after = [] }) (Some room)
+written-reads : (room : ℕ) → Reads class written_rule SpellsText text_nesting whole_shape (Some room)
 written-reads room =
     same-reads written_rule (text-reads room)
-    (λ n tokens. mapped-mapped parts_of written_of (both (loop state_step) (both (loop global_step) (function_rule makes_written n)) tokens))
+    (λ n tokens. mapped-mapped parts_of written_of (whole_rule (body_rule makes_written n) tokens))
 
 -- THE THEOREM: the reading function is exact over whole lists of kinds
 pub text-exact : (room : ℕ) (tokens : List Kind) → Exactly IsText room tokens (whole (written_rule room) tokens)

@@ -99,14 +99,18 @@ parts_of found = record {
 abbrev pub body_rule : {A : Type 0} → Maker A → ℕ → Rule Kind (List (List ℕ × A) × A)
 body_rule m room = both (loop (assign_step m room)) (answer_rule m room)
 
--- what stands behind "react"
-abbrev pub function_rule : {A : Type 0} → Maker A → ℕ → Rule Kind (List (List ℕ) × (List (List ℕ × A) × A))
-function_rule m room =
+-- what stands behind "react", where a rule is given for what stands behind the locals
+abbrev pub function_rule : {B : Type 0} → Rule Kind B → Rule Kind (List (List ℕ) × B)
+function_rule body =
     on (is LeftParenthesis) (λ _. on (is Void) (λ _. on (is RightParenthesis) (λ _. on (is LeftBrace) (λ _.
-    both (loop local_step) (body_rule m room)))))
+    both (loop local_step) body))))
+
+-- a whole text, likewise
+abbrev pub whole_rule : {B : Type 0} → Rule Kind B → Rule Kind (List State × (List (List ℕ) × (List (List ℕ) × B)))
+whole_rule body = both (loop state_step) (both (loop global_step) (function_rule body))
 
 abbrev pub text_rule : {A : Type 0} → Maker A → ℕ → Rule Kind (Parts A)
-text_rule m room = mapped parts_of (both (loop state_step) (both (loop global_step) (function_rule m room)))
+text_rule m room = mapped parts_of (whole_rule (body_rule m room))
 
 abbrev pub written_assign : List ℕ × Written → WrittenAssign
 written_assign a = record { target = a.0; value = a.1 }

@@ -44,8 +44,9 @@ pub fn read_text<'a>(
     Ok((program, rest))
 }
 
-// The declarations of states.
-fn read_states<'a>(
+/// The declarations of states. The errors of this reader and of those below are the first fault of the tokens, and
+/// want of memory.
+pub fn read_states<'a>(
     alloc: Global,
     tokens: &'a [Token<'a>],
 ) -> Result<(Vec<State>, &'a [Token<'a>]), ReadError>
@@ -75,8 +76,8 @@ fn read_state<'a>(
     Ok((State { name, init }, rest))
 }
 
-// The declarations of globals, and the head of `react` up to its name.
-fn read_globals<'a>(
+/// The declarations of globals, and the head of `react` up to its name.
+pub fn read_globals<'a>(
     alloc: Global,
     tokens: &'a [Token<'a>],
 ) -> Result<(Vec<Text>, &'a [Token<'a>]), ReadError>
@@ -106,8 +107,8 @@ fn read_global<'a>(
     Ok((name, rest))
 }
 
-// The declarations of locals.
-fn read_locals<'a>(
+/// The declarations of locals.
+pub fn read_locals<'a>(
     alloc: Global,
     tokens: &'a [Token<'a>],
 ) -> Result<(Vec<Text>, &'a [Token<'a>]), ReadError>
@@ -134,8 +135,8 @@ fn read_local<'a>(
     Ok((name, rest))
 }
 
-// The assignments.
-fn read_assigns<'a>(
+/// The assignments.
+pub fn read_assigns<'a>(
     alloc: Global,
     tokens: &'a [Token<'a>],
     room: u32,
@@ -152,8 +153,8 @@ fn read_assigns<'a>(
     Ok((body, rest))
 }
 
-// An assignment, behind its name.
-fn read_assign<'a>(
+/// An assignment, behind its name.
+pub fn read_assign<'a>(
     alloc: Global,
     name: &[u8],
     tokens: &'a [Token<'a>],
@@ -169,8 +170,8 @@ fn read_assign<'a>(
     Ok((Assign { to, value }, rest))
 }
 
-// The expression that is returned, and the end of the text.
-fn read_answer<'a>(
+/// The expression that is returned, and the end of the text.
+pub fn read_answer<'a>(
     alloc: Global,
     tokens: &'a [Token<'a>],
     room: u32,

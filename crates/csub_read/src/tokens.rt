@@ -7,7 +7,7 @@ ghost use Rattle.csub_read.specs.Tokens.{kind_of};
 
 use expr_text::Sign;
 
-/// What a token is; `Bad` is one that no text has.
+/// What a token is. `If` and `Else` are words of guarded texts alone; `Bad` is a token that no text has.
 #[derive(Clone, Copy)]
 pub enum Kind<'a> {
     Static,
@@ -15,6 +15,8 @@ pub enum Kind<'a> {
     Return,
     Void,
     React,
+    If,
+    Else,
     LeftParenthesis,
     RightParenthesis,
     LeftBrace,
@@ -60,18 +62,20 @@ pub fn kind_number(kind: Kind<'_>) -> u8
         Kind::Return => 2,
         Kind::Void => 3,
         Kind::React => 4,
-        Kind::LeftParenthesis => 5,
-        Kind::RightParenthesis => 6,
-        Kind::LeftBrace => 7,
-        Kind::RightBrace => 8,
-        Kind::Semicolon => 9,
-        Kind::Equals => 10,
-        Kind::Zero => 11,
-        Kind::One => 12,
-        Kind::Bar => 13,
-        Kind::Ampersand => 14,
-        Kind::Bang => 15,
-        Kind::Named(_) => 16,
-        Kind::Bad => 17,
+        Kind::If => 5,
+        Kind::Else => 6,
+        Kind::LeftParenthesis => 7,
+        Kind::RightParenthesis => 8,
+        Kind::LeftBrace => 9,
+        Kind::RightBrace => 10,
+        Kind::Semicolon => 11,
+        Kind::Equals => 12,
+        Kind::Zero => 13,
+        Kind::One => 14,
+        Kind::Bar => 15,
+        Kind::Ampersand => 16,
+        Kind::Bang => 17,
+        Kind::Named(_) => 18,
+        Kind::Bad => 19,
     }
 }

@@ -11,8 +11,9 @@ use Rattle.std.specs.Prelude.{ℕ, max, Bool, true, false, ◌||◌, ◌&&◌, L
 use Rattle.std.specs.Prelude.{take, codes, Option, Some, None, if◌then◌else◌, map}
 use Rattle.est_base.specs.Names.{is_same_name}
 use Rattle.read_rules.specs.Languages.{One as Single, Then, Led, Loop, Many, Within}
-use Rattle.csub_text.specs.Tokens.{Kind, Static, Int, Return, Void, React, LeftParenthesis, RightParenthesis, LeftBrace}
-use Rattle.csub_text.specs.Tokens.{RightBrace, Semicolon, Equals, Zero, One, Bar, Ampersand, Bang, Named, Bad}
+use Rattle.csub_text.specs.Tokens.{Kind, Static, Int, Return, Void, React, If, Else, LeftParenthesis}
+use Rattle.csub_text.specs.Tokens.{RightParenthesis, LeftBrace, RightBrace, Semicolon, Equals, Zero, One, Bar}
+use Rattle.csub_text.specs.Tokens.{Ampersand, Bang, Named, Bad}
 use Rattle.csub_text.specs.Trees.{State, Assign, Program}
 use Rattle.expr_text.specs.Signs.{Sign, NameSign, BitSign, NotSign, OpenSign, CloseSign, AndSign, OrSign, OtherSign}
 use Rattle.expr_text.specs.Signs.{numbered_as, named, constant}
@@ -27,19 +28,21 @@ kind_number Int = 1
 kind_number Return = 2
 kind_number Void = 3
 kind_number React = 4
-kind_number LeftParenthesis = 5
-kind_number RightParenthesis = 6
-kind_number LeftBrace = 7
-kind_number RightBrace = 8
-kind_number Semicolon = 9
-kind_number Equals = 10
-kind_number Zero = 11
-kind_number One = 12
-kind_number Bar = 13
-kind_number Ampersand = 14
-kind_number Bang = 15
-kind_number (Named name) = 16
-kind_number Bad = 17
+kind_number If = 5
+kind_number Else = 6
+kind_number LeftParenthesis = 7
+kind_number RightParenthesis = 8
+kind_number LeftBrace = 9
+kind_number RightBrace = 10
+kind_number Semicolon = 11
+kind_number Equals = 12
+kind_number Zero = 13
+kind_number One = 14
+kind_number Bar = 15
+kind_number Ampersand = 16
+kind_number Bang = 17
+kind_number (Named name) = 18
+kind_number Bad = 19
 
 -- this word or mark
 abbrev pub is : Kind → Kind → Option (Unit {0})

@@ -6,13 +6,15 @@ use Rattle.est_base.specs.Names.{is_name_byte, is_same_name}
 use Rattle.expr_text.specs.Lexemes as lexemes
 pub use Rattle.expr_text.specs.Lexemes.{Front, Gap, Lexeme, Wrong, mark_front, is_space, begins_name, tokens_behind}
 
--- what a token is; `Bad` is one that no text has
+-- What a token is. `If` and `Else` are words of guarded texts alone, and here names; `Bad` is a token that no text has.
 pub data Kind : Type 0 where
   Static : Kind
   Int : Kind
   Return : Kind
   Void : Kind
   React : Kind
+  If : Kind
+  Else : Kind
   LeftParenthesis : Kind
   RightParenthesis : Kind
   LeftBrace : Kind

@@ -1,26 +1,39 @@
 // The names that a program declares, and how those of inputs and outputs begin.
 
-ghost use Rattle.std.specs.Prelude.{◌≡◌, map, take, IfOk};
+ghost use Rattle.std.specs.Prelude.{◌≡◌, ◌++◌, map, take, IfOk};
 ghost use Rattle.csub_text.specs.Grammar.{begins_input, begins_output};
 ghost use Rattle.csub_text.specs.Names.{declared};
-ghost use Rattle.csub_text.specs.Views.{program_of};
+ghost use Rattle.csub_text.specs.Views.{program_of, state_of};
 
-use crate::trees::CProgram;
-use est_base::NoMemory;
+use crate::trees::{CProgram, State};
+use est_base::{NoMemory, Text};
 use std::alloc::Global;
 
 /// The names that a program declares, in the order of the text. Its only error is want of memory.
 pub fn declared_names<'a>(alloc: Global, program: &'a CProgram) -> Result<Vec<&'a [u8]>, NoMemory>
     ensures { IfOk result (λ v. map (λ w. w.now) v.items ≡ declared (program_of program.now)) }
 {
+    variable_names(alloc, &program.states, &program.globals, &program.locals)
+}
+
+/// The names of these variables, in this order. Its only error is want of memory.
+pub fn variable_names<'a>(
+    alloc: Global,
+    states: &'a [State],
+    globals: &'a [Text],
+    locals: &'a [Text],
+) -> Result<Vec<&'a [u8]>, NoMemory>
+    ensures { IfOk result (λ v. map (λ w. w.now) v.items
+        ≡ map (λ s. s.name) (map state_of states.now) ++ globals.now ++ locals.now) }
+{
     let mut names = Vec::new(alloc);
-    for state in &program.states {
+    for state in states {
         names.push(state.name.bytes())?;
     }
-    for name in &program.globals {
+    for name in globals {
         names.push(name.bytes())?;
     }
-    for name in &program.locals {
+    for name in locals {
         names.push(name.bytes())?;
     }
     Ok(names)

@@ -1,0 +1,5 @@
+pub mod PlainPrograms
+mod WorkedTexts
+mod WorkedPrograms
+mod DrawnPrograms
+mod MoreDrawnPrograms

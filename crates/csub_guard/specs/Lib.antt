@@ -1,0 +1,7 @@
+pub mod Trees
+pub mod Views
+pub mod Tokens
+pub mod Grammar
+pub mod Names
+pub mod Machine
+pub mod Texts

@@ -1,0 +1,9 @@
+pub mod TextLaws
+pub mod Makers
+pub mod PieceSteps
+pub mod ReaderLaws
+pub mod ReadBack
+pub mod PutPlaces
+pub mod TokenWords
+pub mod UseLaws
+pub mod Misplacing
