@@ -1,11 +1,16 @@
 #!/usr/bin/env python3
-"""The repository's own checks: quick looks that no proof makes. Ends with status 1 where one finds something."""
+"""The repository's own checks: quick looks that no proof makes. Ends with status 1 where one finds something.
+
+With `--table`, writes the table of crates of docs/architecture.md anew, from crates.txt and the crates' pages.
+"""
 
 import pathlib
 import re
 import shutil
 import subprocess
 import sys
+
+import lemmas
 
 TOP = pathlib.Path(__file__).resolve().parent.parent
 
@@ -67,25 +72,55 @@ def stands_alone():
     return found
 
 
-def crates_are_introduced():
-    """Each crate has a row in the table of docs/architecture.md, in the order of crates.txt, with a link to its page and the
-    crates that it stands on, and a `//!` head in its root file."""
-    found, rows = [], []
+def first_sentence(name):
+    """The first sentence of a crate's page, without its full stop, and with links as plain names."""
+    page = TOP / "crates" / name / "README.md"
+    parts = page.read_text().split("\n\n") if page.exists() else []
+    text = " ".join(parts[1].split()) if len(parts) > 1 else ""
+    text = re.sub(r"\[`?(\w+)`?\]\([^)]*\)", r"`\1`", text)
+    return re.split(r"\.(?= [A-Z`]|$)", text)[0]
+
+
+def table_of_crates():
+    """The rows of the table of crates, in the order of crates.txt."""
+    rows = []
     for name, below in lines_of_crates():
         stands = ", ".join(f"`{it}`" for it in below) or "none"
-        rows.append((f"| [`{name}`](../crates/{name}/README.md) | ", f" | {stands} |"))
+        rows.append(f"| [`{name}`](../crates/{name}/README.md) | {first_sentence(name)} | {stands} |")
+    return rows
+
+
+def crates_are_introduced():
+    """The table of docs/architecture.md has a row for each crate, with the first sentence of its page and the crates that it
+    stands on, and each crate has a `//!` head in its root file."""
+    found = []
+    for name in crates():
         folder = TOP / "crates" / name / "src"
         root = folder / "lib.rt" if (folder / "lib.rt").exists() else folder / "main.rt"
         if not root.exists() or not root.read_text().startswith("//!"):
             found.append(f"crates/{name}: the root file has no `//!` head")
-    page = (TOP / "docs" / "architecture.md").read_text()
-    lines = [line for line in page.splitlines() if line.startswith("| [`")]
-    if len(lines) != len(rows):
-        found.append(f"docs/architecture.md: {len(lines)} rows for {len(rows)} crates")
-    for line, (begin, end) in zip(lines, rows):
-        if not (line.startswith(begin) and line.endswith(end)):
-            found.append(f"docs/architecture.md: `{line[:60]}..` is not `{begin}..{end}`")
+    rows = table_of_crates()
+    lines = [line for line in (TOP / "docs" / "architecture.md").read_text().splitlines() if line.startswith("| [`")]
+    for line in lines:
+        if line not in rows:
+            found.append(f"docs/architecture.md: `{line[:60]}..` is no row (checks/repository.py --table writes them)")
+    if not found and lines != rows:
+        found.append("docs/architecture.md: the rows are not those of crates.txt (checks/repository.py --table writes them)")
     return found
+
+
+def write_table():
+    """Writes the table of crates of docs/architecture.md."""
+    page = TOP / "docs" / "architecture.md"
+    lines = page.read_text().split("\n")
+    places = [place for place, line in enumerate(lines) if line.startswith("| [`")]
+    lines[places[0] : places[-1] + 1] = table_of_crates()
+    page.write_text("\n".join(lines))
+
+
+def lemmas_are_said_once():
+    """No two files of proofs have a lemma of the same type: see checks/lemmas.py."""
+    return [", ".join(them) for them in lemmas.twice(TOP)]
 
 
 def edits_are_named():
@@ -173,10 +208,14 @@ CHECKS = [
     ("no handle is allowed", handles_are_none, None),
     ("lines are short", lines_are_short, "git"),
     ("every page is whole", pages_are_whole, None),
+    ("each lemma is said once", lemmas_are_said_once, None),
 ]
 
 
 def main():
+    if sys.argv[1:] == ["--table"]:
+        write_table()
+        return 0
     failed = 0
     for title, check, tool in CHECKS:
         if tool and not shutil.which(tool):

@@ -6,10 +6,12 @@ use Rattle.std.proofs.Math.Seq.{get_or-append_seam}
 use Rattle.std.proofs.lemmas.Bool.{and_parts}
 use Rattle.std.proofs.lemmas.List.{length-map, length-append, length-replicate, get_or-map, take_more, take_all, take_at, map-append}
 use Rattle.std.proofs.lemmas.List.Elements.{All-from_recursion}
+use Rattle.facts.proofs.Lists.{all-unmapped, map-twice}
 use Rattle.machines.specs.Machines.{Follows}
 use Rattle.est_base.specs.declared.indices.NetId.{NetId}
 use Rattle.est_base.specs.Distinct.{all_differ, none_shared}
 use Rattle.est_base.specs.Names.{is_name, is_same_name}
+use Rattle.est_base.proofs.SameNames.{same_name-is}
 use Rattle.net_ir.specs.declared.netlist.Gate.{Gate}
 use Rattle.net_ir.specs.declared.netlist.Latch.{Latch}
 use Rattle.net_ir.specs.declared.netlist.NetOut.{NetOut}
@@ -19,7 +21,6 @@ use Rattle.net_ir.specs.Netlists.{Netlist, IsNet, net_count}
 use Rattle.net_ir.specs.Runs.{net_machine, next_latches}
 use Rattle.net_ir.proofs.Building.{all_differ-append}
 use Rattle.net_ir.proofs.NameLists.{found-low, found-at}
-use Rattle.net_ir.proofs.NumberedNames.{same-eq}
 use Rattle.blif_text.specs.Circuits.{Circuit, CircuitLatch, Table}
 use Rattle.blif_text.specs.OutputNames.{output_word, paused_word}
 use Rattle.blif_text.specs.Runs.{IsInstant, circuit_machine, driven_names}
@@ -50,7 +51,7 @@ none = record { 0 = 0 }
 pub outputs-split : (outputs : List (List ℕ)) → tells_pause outputs ≡ true → outputs ≡ listed_names outputs ++ paused_word ∷ []
 outputs-split outputs is =
     let last = get_or outputs (length outputs - 1) [] in
-    let named : paused_word ≡ last = same-eq paused_word last is in
+    let named : paused_word ≡ last = same_name-is paused_word last is in
     let some : 0 < length outputs =
     elim outputs as (λ o. paused_word ≡ get_or o (length o - 1) [] → 0 < length o)
     [ [] ↦ λ e. absurd (no-word e) | o ∷ more ↦ λ e. omega arith ] named in
@@ -77,10 +78,6 @@ map-alike : {X Y : Type 0} (f g : X → Y) (xs : List X) → AllByRecursion (λ 
 map-alike f g [] all = refl
 map-alike f g (x ∷ xs) all = rw (all.0, map-alike f g xs all.1) refl
 
-map-twice : {X Y Z : Type 0} (g : Y → Z) (f : X → Y) (xs : List X) → map g (map f xs) ≡ map (λ x. g (f x)) xs
-map-twice g f [] = refl
-map-twice g f (x ∷ xs) = ap (λ l. g (f x) ∷ l) (map-twice g f xs)
-
 all-left : {X : Type 0} (P : X → Type 0) (xs ys : List X) → AllByRecursion P (xs ++ ys) → AllByRecursion P xs
 all-left P [] ys all = tt
 all-left P (x ∷ xs) ys all = (all.0, all-left P xs ys all.1)
@@ -96,11 +93,6 @@ all-weaker P Q (x ∷ xs) more all = (more x all.0, all-weaker P Q xs more all.1
 all-mapped : {X Y : Type 0} (P : Y → Type 0) (f : X → Y) (xs : List X) → AllByRecursion (λ x. P (f x)) xs → AllByRecursion P (map f xs)
 all-mapped P f [] all = tt
 all-mapped P f (x ∷ xs) all = (all.0, all-mapped P f xs all.1)
-
-all-parts : {X Y : Type 0} (P : Y → Type 0) (f : X → Y) (xs : List X) → All P (map f xs) → All (λ x. P (f x)) xs
-all-parts P f xs all k d h =
-    let wide = length-map xs f in
-    subst P (get_or-map f xs k d (f d) h) (all k (f d) (omega arith))
 
 -- what is so of names that have a value is so of the listed outputs, of `_paused`, and of the sources of latches
 module _ (c : Circuit) (sound : IsSound c) (pauses : tells_pause c.outputs ≡ true) where
@@ -140,7 +132,7 @@ module _ (c : Circuit) (sound : IsSound c) (pauses : tells_pause c.outputs ≡ t
     pub outputs-low : (outputs : List NetOut) → map (λ (o : NetOut). o.net) outputs ≡ map (net_named names nets) (listed_names c.outputs)
         → All (λ (o : NetOut). o.net.0 < bound) outputs
     outputs-low outputs are =
-        all-parts (λ (n : NetId). n.0 < bound) (λ (o : NetOut). o.net) outputs
+        all-unmapped (λ (n : NetId). n.0 < bound) (λ (o : NetOut). o.net) outputs
         (subst (λ l. All (λ (n : NetId). n.0 < bound) l) (sym are)
         (All-from_recursion (λ (n : NetId). n.0 < bound) (map (net_named names nets) (listed_names c.outputs))
         (all-mapped (λ (n : NetId). n.0 < bound) (net_named names nets) (listed_names c.outputs)

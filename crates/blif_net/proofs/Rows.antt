@@ -3,18 +3,11 @@ use Rattle.std.proofs.Common.{◌≡◌, ℕ, ◌+◌, ◌<◌, zero, suc, Bool,
 use Rattle.std.specs.List.{list_any}
 use Rattle.std.proofs.lemmas.List.{length-map, get_or-map, take-map}
 use Rattle.std.proofs.lemmas.List.Folds.{list_any_more}
+use Rattle.facts.proofs.Tests.{and-true}
 use Rattle.blif_text.specs.declared.circuit.Cell.{Cell}
 use Rattle.blif_text.specs.declared.circuit.Row.{Row}
 use Rattle.blif_text.specs.Plain.{plain_row}
 use Rattle.blif_text.specs.Runs.{cell_fits, row_fits}
-
-pub and_true : (a : Bool) → (a && true) ≡ a
-and_true true = refl
-and_true false = refl
-
-pub or_false : (a : Bool) → (a || false) ≡ a
-or_false true = refl
-or_false false = refl
 
 and_assoc : (a b c : Bool) → (a && (b && c)) ≡ ((a && b) && c)
 and_assoc true b c = refl
@@ -24,7 +17,7 @@ row-suc : (cells : List Cell) (values : List Bool) (k : ℕ) (d : Cell) → k < 
     → row_fits (take (suc k) cells) (take (suc k) values) ≡ (row_fits (take k cells) (take k values) && cell_fits (get_or cells k d) (get_or values k false))
 row-suc [] values k d low same = absurd (omega (arith, low))
 row-suc (c ∷ cells) [] k d low same = absurd (omega (arith, same))
-row-suc (c ∷ cells) (v ∷ values) zero d low same = and_true (cell_fits c v)
+row-suc (c ∷ cells) (v ∷ values) zero d low same = and-true (cell_fits c v)
 row-suc (c ∷ cells) (v ∷ values) (suc k) d low same =
     ap (λ b. cell_fits c v && b) (row-suc cells values k d (omega (arith, low)) (omega (arith, same)))
     ∙ and_assoc (cell_fits c v) (row_fits (take k cells) (take k values)) (cell_fits (get_or cells k d) (get_or values k false))

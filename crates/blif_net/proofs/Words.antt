@@ -7,30 +7,27 @@ use Rattle.std.specs.Cmp.Lexicographic.{nat_list_eq_equiv}
 use Rattle.std.proofs.Math.Seq.{drop-append_seam}
 use Rattle.std.proofs.lemmas.Bool.{and_parts, and_from, not-true, not_from_false, false≢true, cases_lt}
 use Rattle.std.proofs.lemmas.List.{append_cancel_right, take-append-drop, take_more, take_all, length-append}
+use Rattle.facts.proofs.Tests.{and-false}
 use Rattle.est_base.specs.Names.{is_name, is_name_byte, is_letter, is_same_name}
 use Rattle.est_base.specs.Distinct.{all_differ}
+use Rattle.est_base.proofs.SameNames.{same_name-is, same_name-self}
 use Rattle.net_ir.specs.NameLists.{is_among, first_again}
 use Rattle.net_ir.proofs.Building.{all_differ-push}
 use Rattle.net_ir.proofs.NameLists.{found-low, found-at, new-at, any-none}
-use Rattle.net_ir.proofs.NumberedNames.{same-eq, same-refl}
 use Rattle.blif_text.specs.OutputNames.{output_word}
 use Rattle.blif_net.specs.Interfaces.{HasName}
 
 abbrev mark : List ℕ
 mark = codes ".out"
 
-and_none : (b : Bool) → (b && false) ≡ false
-and_none true = refl
-and_none false = refl
-
 -- no name has a dot
 no-dot : (front behind : List ℕ) → list_all is_name_byte (front ++ 46 ∷ behind) ≡ false
 no-dot [] behind = refl
-no-dot (c ∷ front) behind = rw (no-dot front behind) (and_none (is_name_byte c))
+no-dot (c ∷ front) behind = rw (no-dot front behind) (and-false (is_name_byte c))
 
 marked-other : (name : List ℕ) → is_name (name ++ mark) ≡ false
 marked-other [] = refl
-marked-other (c ∷ name) = rw (no-dot name (codes "out")) (and_none (is_letter c))
+marked-other (c ∷ name) = rw (no-dot name (codes "out")) (and-false (is_letter c))
 
 fits-among : (inputs : List (List ℕ)) (name : List ℕ) → All (λ n. IsTrue (is_name n)) inputs → is_among name inputs ≡ true → IsTrue (is_name name)
 fits-among inputs name fit among =
@@ -110,13 +107,13 @@ plain-name inputs word has plain =
 pub suffix-found : (word name : List ℕ) → is_same_name (drop (length word - 4) word) mark ≡ true → name ≡ take (length word - 4) word → word ≡ name ++ mark
 suffix-found word name ends is =
     sym (take-append-drop (length word - 4) word) ∙ ap (λ l. l ++ drop (length word - 4) word) (sym is)
-    ∙ ap (λ l. name ++ l) (same-eq (drop (length word - 4) word) mark ends)
+    ∙ ap (λ l. name ++ l) (same_name-is (drop (length word - 4) word) mark ends)
 
 pub suffix-lacks : (word name : List ℕ) → is_same_name (drop (length word - 4) word) mark ≡ false → word ≡ name ++ mark → ⊥
 suffix-lacks word name lacks is =
     let count : length word - 4 ≡ length name = omega (arith, ap length is, length-append name mark) in
     let ends : drop (length word - 4) word ≡ mark = ap (λ n. drop n word) count ∙ ap (drop (length name)) is ∙ drop-append_seam name mark in
-    false≢true (sym lacks ∙ ap (λ l. is_same_name l mark) ends ∙ same-refl mark)
+    false≢true (sym lacks ∙ ap (λ l. is_same_name l mark) ends ∙ same_name-self mark)
 
 -- ---- whether a name is an input's, by its slot
 
@@ -175,7 +172,7 @@ among-map : (f : List ℕ → List ℕ) (x : List ℕ) (xs : List (List ℕ)) �
 among-map f x [] among = absurd (false≢true among)
 among-map f x (y ∷ xs) among =
     elim (is_same_name x y) as (λ b. is_same_name x y ≡ b → (b || is_among x xs) ≡ true → (is_same_name (f x) (f y) || is_among (f x) (map f xs)) ≡ true) [
-      | true ↦ λ e h. ap (λ b. b || is_among (f x) (map f xs)) (ap (λ z. is_same_name (f x) (f z)) (sym (same-eq x y e)) ∙ same-refl (f x))
+      | true ↦ λ e h. ap (λ b. b || is_among (f x) (map f xs)) (ap (λ z. is_same_name (f x) (f z)) (sym (same_name-is x y e)) ∙ same_name-self (f x))
       | false ↦ λ e h. rw (among-map f x xs h) (or_true (is_same_name (f x) (f y)))
     ] refl among
   where

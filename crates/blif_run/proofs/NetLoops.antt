@@ -16,7 +16,7 @@ use Rattle.blif_text.specs.Circuits.{Circuit, CircuitLatch, Table}
 use Rattle.blif_text.specs.Written.{input_word, output_word, latch_word, gate_word, net_word, paused_word, operands}
 use Rattle.blif_text.specs.Written.{net_latch, copy_table, input_table}
 use Rattle.blif_text.specs.Written.{gate_table, output_table, net_tables, net_circuit}
-use Rattle.blif_text.proofs.NetNames.{shown_words, input_words, latch_words, gate_words, net_words, net_cases, net_word-at}
+use Rattle.blif_text.proofs.NetNames.{shown_words, input_words, latch_words, gate_words, net_words, net_word-at}
 use Rattle.blif_text.proofs.NetDrivers.{driven-net, names-differ}
 use Rattle.est_base.specs.declared.bounds.TheConstants.Limits.{TEXT_BYTES}
 use Rattle.blif_read.specs.declared.refusal.BlifError.{BlifError}
@@ -27,6 +27,7 @@ use Rattle.blif_text.specs.Written.{written, Means}
 use Rattle.net_ir.proofs.Numbered.{length-numbered, get_or-numbered}
 use Rattle.net_ir.specs.Numbered.{numbered}
 use Rattle.net_ir.specs.Writing.{IsWritable}
+use Rattle.net_ir.proofs.Nets.{net_cases}
 use Rattle.blif_text.proofs.NetSpelling.{reading-written}
 use Rattle.blif_run.specs.declared.refusal.RunError.{RunError}
 use Rattle.blif_run.specs.declared.refusal.RunError.TheVariants as errors

@@ -1,9 +1,10 @@
 -- The circuit of a net's text shows what the net does.
 use Rattle.std.proofs.Common.{◌≡◌, ℕ, ◌-◌, Bool, true, false, ◌&&◌, if◌then◌else◌, List, [], ◌∷◌, ◌++◌, length, map, take, get_or}
-use Rattle.std.proofs.Common.{refl, sym, ap, ◌∙◌, subst, arith}
+use Rattle.std.proofs.Common.{refl, sym, ap, ◌∙◌, subst}
 use Rattle.std.proofs.lemmas.Bool.{and_parts}
-use Rattle.std.proofs.lemmas.List.{length-append, length-map}
+use Rattle.std.proofs.lemmas.List.{length-map}
 use Rattle.std.proofs.Math.Seq.{take-append_seam, get_or-append_seam}
+use Rattle.facts.proofs.Lists.{last-is, last-place, map-twice}
 use Rattle.est_base.specs.Distinct.{all_differ, none_shared}
 use Rattle.est_base.specs.Items.{Item}
 use Rattle.est_base.specs.Names.{is_same_name}
@@ -24,13 +25,6 @@ use Rattle.blif_run.specs.Tracing.{IsCircuitOf}
 use Rattle.blif_run.proofs.Showing.{fresh_shows}
 use Rattle.trace_run.specs.Languages.{shown_answer, IsOfNet}
 use Rattle.trace_run.specs.Machines.{Answer}
-
--- names with `_paused` at their end
-last-place : {X : Type 0} (xs : List X) (x : X) → length (xs ++ x ∷ []) - 1 ≡ length xs
-last-place xs x = omega (arith, length-append xs (x ∷ []))
-
-last-is : {X : Type 0} (xs : List X) (x d : X) → get_or (xs ++ x ∷ []) (length (xs ++ x ∷ []) - 1) d ≡ x
-last-is xs x d = ap (λ k. get_or (xs ++ x ∷ []) k d) (last-place xs x) ∙ get_or-append_seam xs x [] d
 
 tells-last : (names : List (List ℕ)) → tells_pause (names ++ paused_word ∷ []) ≡ true
 tells-last names = ap (is_same_name paused_word) (last-is names paused_word [])
@@ -61,10 +55,6 @@ answers-run net names (values ∷ runs) same =
     let here = answer-last names (shown net values) (wide ∙ sym same) in
     ap (λ x. x ∷ map (answer_of (names ++ paused_word ∷ [])) (map (λ (s : Shown). s.outputs ++ s.paused ∷ []) (map (shown net) runs))) here
     ∙ ap (λ x. shown_answer (shown net values) ∷ x) (answers-run net names runs same)
-
-map-twice : {X Y Z : Type 0} (f : Y → Z) (g : X → Y) (xs : List X) → map f (map g xs) ≡ map (λ x. f (g x)) xs
-map-twice f g [] = refl
-map-twice f g (x ∷ xs) = ap (λ l. f (g x) ∷ l) (map-twice f g xs)
 
 -- the circuit of a text that means a net
 abbrev same-circuit : (net : Netlist) (circuit : Circuit) → (of : IsCircuitOf net circuit) → circuit ≡ of.means.circuit

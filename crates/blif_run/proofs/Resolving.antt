@@ -1,7 +1,7 @@
 -- What the resolved names of a sound circuit give: a plan.
 use Rattle.std.proofs.Common.{◌≡◌, ℕ, ◌<◌, true, List, [], ◌∷◌, length, map, All, refl, ap, ◌∙◌, arith, subst}
 use Rattle.std.specs.List.{AllByRecursion}
-use Rattle.std.proofs.lemmas.List.{length-map, get_or-map}
+use Rattle.std.proofs.lemmas.List.{length-map}
 use Rattle.std.proofs.lemmas.List.Elements.{recursion_from_All}
 use Rattle.net_ir.specs.NameLists.{is_among}
 use Rattle.blif_text.specs.Circuits.{Circuit, CircuitLatch, Table}
@@ -16,11 +16,6 @@ use Rattle.blif_run.specs.Loops.{equation_of, equations_of}
 use Rattle.blif_run.specs.Plans.{IsPlan, given_names, all_names}
 use Rattle.blif_run.specs.Truths.{step_at}
 use Rattle.blif_run.proofs.CircuitEquations.{names-are, sound-equations, table-steps}
-
-pub all-parts : {X Y : Type 0} (P : Y → Type 0) (f : X → Y) (xs : List X) → All P (map f xs) → All (λ x. P (f x)) xs
-all-parts P f xs all k d h =
-    let wide = length-map xs f in
-    subst P (get_or-map f xs k d (f d) h) (all k (f d) (omega arith))
 
 sources-among : (names : List (List ℕ)) (latches : List CircuitLatch) → AllByRecursion (λ l. is_among l.source names ≡ true) latches
     → AllByRecursion (λ x. is_among x names ≡ true) (map (λ l. l.source) latches)

@@ -5,11 +5,13 @@ use Rattle.std.specs.Prelude.{flat_map, filter_map, find, option_map, nat_le, if
 use Rattle.std.specs.List.{AllByRecursion}
 use Rattle.std.specs.Cmp.Lexicographic.{nat_list_eq_equiv}
 use Rattle.std.proofs.lemmas.List.Folds.{list_any-append}
-use Rattle.std.proofs.lemmas.Bool.{both_ways, and_parts, or_parts, or_from, and_from, leb-true, not-true, not_from_false}
+use Rattle.std.proofs.lemmas.Bool.{both_ways, and_parts, or_parts, or_from, and_from, leb-true, not-true, not_from_false, or_left, or_right}
+use Rattle.facts.proofs.Lists.{all-split}
+use Rattle.facts.proofs.Tests.{or-swapped}
 use Rattle.est_base.specs.Names.{is_same_name}
 use Rattle.est_base.specs.Distinct.{all_differ, none_shared}
+use Rattle.est_base.proofs.SameNames.{same_name-is, same_name-self}
 use Rattle.net_ir.proofs.Building.{all_differ-append}
-use Rattle.net_ir.proofs.NumberedNames.{same-refl, same-eq}
 use Rattle.blif_text.specs.Lines.{Line, is_clean, words, read_lines}
 use Rattle.blif_text.specs.Statements.{Statement, Model, Inputs, Outputs, Latch, Names, Row, End, Said, said, said_in, said_by, statement_of}
 use Rattle.blif_text.specs.Statements.{model_of, latch_of, names_of, name_before, table_of, end_of, table_row, bit_of, cells_of}
@@ -28,13 +30,6 @@ record Once (before names : List (List ℕ)) : Type 0 where
 some-none : {X : Type 0} (x : X) (Goal : Type 0) → Some x ≡ None → Goal
 some-none {X} x Goal e = let P : Option X → Type 0 = λ o. elim o as (λ _. Type 0) [ None ↦ Goal | Some y ↦ Unit {0} ] in subst P e tt
 
-or_here : (a b : Bool) → a ≡ true → (a || b) ≡ true
-or_here a b h = rw h refl
-
-or_there : (a b : Bool) → b ≡ true → (a || b) ≡ true
-or_there true b h = refl
-or_there false b h = h
-
 once-of : (before names : List (List ℕ)) → first_again before names ≡ None → Once before names
 once-of before [] none = record { differ = refl; apart = λ x h. refl }
 once-of before (name ∷ names) none =
@@ -43,29 +38,24 @@ once-of before (name ∷ names) none =
       | true ↦ λ e n. some-none name (Once before (name ∷ names)) n
       | false ↦ λ e n.
           let rest = once-of (name ∷ before) names n in
-          let new = rest.apart name (or_here (is_same_name name name) (is_among name before) (same-refl name)) in
+          let new = rest.apart name (or_left (is_same_name name name) (is_among name before) (same_name-self name)) in
           record {
             differ = rw (new, rest.differ) refl;
             apart = λ x h. or_from (is_same_name x name) (is_among x names)
                 (elim (is_same_name x name) as (λ s. is_same_name x name ≡ s → s ≡ false)
-                [ true ↦ λ s. absurd (both_ways (is_among x before) (ap (λ y. is_among y before) (same-eq x name s) ∙ e) h) | false ↦ λ s. refl ] refl)
-                (rest.apart x (or_there (is_same_name x name) (is_among x before) h));
+                [ true ↦ λ s. absurd (both_ways (is_among x before) (ap (λ y. is_among y before) (same_name-is x name s) ∙ e) h) | false ↦ λ s. refl ] refl)
+                (rest.apart x (or_right (is_same_name x name) (is_among x before) h));
           }
     ] in
     go (is_among name before) refl none
 
 -- ---- the driven names in the order of the text and in that of the circuit
 
-or-swap : (a b c : Bool) → (a || (b || c)) ≡ (b || (a || c))
-or-swap true true c = refl
-or-swap true false c = refl
-or-swap false b c = refl
-
 -- a name in the midst stands as well in front
 among-middle : (x y : List ℕ) (front behind : List (List ℕ)) → is_among x (front ++ y ∷ behind) ≡ is_among x (y ∷ front ++ behind)
 among-middle x y [] behind = refl
 among-middle x y (z ∷ front) behind =
-    ap (λ b. is_same_name x z || b) (among-middle x y front behind) ∙ or-swap (is_same_name x z) (is_same_name x y) (is_among x (front ++ behind))
+    ap (λ b. is_same_name x z || b) (among-middle x y front behind) ∙ or-swapped (is_same_name x z) (is_same_name x y) (is_among x (front ++ behind))
 
 differ-middle : (y : List ℕ) (front behind : List (List ℕ)) → all_differ is_same_name (y ∷ front ++ behind) ≡ true
     → all_differ is_same_name (front ++ y ∷ behind) ≡ true
@@ -142,10 +132,6 @@ pub record AllUsed (P : List ℕ → Type 0) (c : Circuit) : Type 0 where
   pub sources : AllByRecursion (λ l. P l.source) c.latches
   pub inputs : AllByRecursion (λ t. AllByRecursion P t.inputs) c.tables
 
-all_split : {X : Type 0} (P : X → Type 0) (xs ys : List X) → AllByRecursion P (xs ++ ys) → AllByRecursion P xs × AllByRecursion P ys
-all_split P [] ys all = (tt, all)
-all_split P (x ∷ xs) ys all = let rest = all_split P xs ys all.1 in ((all.0, rest.0), rest.1)
-
 all_joined : {X : Type 0} (P : X → Type 0) (xs ys : List X) → AllByRecursion P xs → AllByRecursion P ys → AllByRecursion P (xs ++ ys)
 all_joined P [] ys a b = b
 all_joined P (x ∷ xs) ys a b = (a.0, all_joined P xs ys a.1 b)
@@ -157,13 +143,13 @@ used-all P (Inputs names ∷ ss) all = let r = used-all P ss all in record { out
 used-all P (Row cells ∷ ss) all = let r = used-all P ss all in record { outputs = r.outputs; sources = r.sources; inputs = r.inputs }
 used-all P (End ∷ ss) all = let r = used-all P ss all in record { outputs = r.outputs; sources = r.sources; inputs = r.inputs }
 used-all P (Outputs names ∷ ss) all =
-    let both = all_split P names (flat_map used_by ss) all in
+    let both = all-split P names (flat_map used_by ss) all in
     let r = used-all P ss both.1 in
     record { outputs = all_joined P names (flat_map outputs_in ss) both.0 r.outputs; sources = r.sources; inputs = r.inputs }
 used-all P (Latch source target init ∷ ss) all =
     let r = used-all P ss all.1 in record { outputs = r.outputs; sources = (all.0, r.sources); inputs = r.inputs }
 used-all P (Names inputs output ∷ ss) all =
-    let both = all_split P inputs (flat_map used_by ss) all in
+    let both = all-split P inputs (flat_map used_by ss) all in
     let r = used-all P ss both.1 in
     record { outputs = r.outputs; sources = r.sources; inputs = (both.0, r.inputs) }
 

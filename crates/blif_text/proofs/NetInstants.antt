@@ -1,9 +1,10 @@
 -- One instant of a net's circuit: the tables hold exactly where each name has the net's value.
-use Rattle.std.proofs.Common.{◌≡◌, ℕ, ◌+◌, ◌<◌, zero, suc, Bool, true, false, not, ◌&&◌, ◌||◌, List, [], ◌∷◌, ◌++◌, length, map, get_or, take, refl, sym, ap}
-use Rattle.std.proofs.Common.{◌∙◌, subst, arith, All, zero-add}
+use Rattle.std.proofs.Common.{◌≡◌, ℕ, ◌+◌, ◌<◌, Bool, true, false, not, ◌&&◌, ◌||◌, List, [], ◌∷◌, ◌++◌, length, map, get_or, take, refl, sym, ap}
+use Rattle.std.proofs.Common.{◌∙◌, subst, arith, zero-add}
 use Rattle.std.specs.List.{AllByRecursion}
 use Rattle.std.proofs.lemmas.List.{map-append, length-append, length-map, get_or-map, take_at}
 use Rattle.std.proofs.lemmas.List.Elements.{recursion_from_All, All-append, All-map, All-cons, All-nil}
+use Rattle.facts.proofs.Lists.{all-split, map-equal, maps-at}
 use Rattle.net_ir.specs.declared.netlist.Op.{Op}
 use Rattle.net_ir.specs.declared.netlist.Op.TheVariants.{Const, Copy, Not, And, Or}
 use Rattle.net_ir.specs.declared.netlist.NetOut.{NetOut}
@@ -20,6 +21,7 @@ use Rattle.blif_text.proofs.NetNames.{shown_words, input_words, latch_words, gat
 use Rattle.net_ir.proofs.Numbered.{length-numbered, get_or-numbered, map-numbered, All-numbered}
 use Rattle.net_ir.specs.Numbered.{numbered}
 use Rattle.net_ir.specs.Writing.{IsWritable}
+use Rattle.net_ir.proofs.Nets.{numbered-at}
 
 -- ---- what the tables give
 
@@ -68,18 +70,6 @@ value-word net v n h =
 
 -- ---- the tables hold, so every name has the net's value
 
-split_all : {X : Type 0} (P : X → Type 0) (xs ys : List X) → AllByRecursion P (xs ++ ys) → AllByRecursion P xs × AllByRecursion P ys
-split_all P [] ys all = (tt, all)
-split_all P (x ∷ xs) ys all = let rest = split_all P xs ys all.1 in ((all.0, rest.0), rest.1)
-
-numbered-at : {X Y : Type 0} (P : Y → Type 0) (f : ℕ → X → Y) (n : ℕ) (xs : List X) (k : ℕ) (d : X) → k < length xs → AllByRecursion P (numbered f n xs)
-    → P (f (n + k) (get_or xs k d))
-numbered-at P f n [] k d h all = absurd (omega arith)
-numbered-at P f n (x ∷ xs) zero d h all =
-    let s : n ≡ n + 0 = omega arith in subst (λ m. P (f m x)) s all.0
-numbered-at P f n (x ∷ xs) (suc k) d h all =
-    let s : n + 1 + k ≡ n + suc k = omega arith in subst (λ m. P (f m (get_or xs k d))) s (numbered-at P f (n + 1) xs k d (omega arith) all.1)
-
 abbrev Met : (List ℕ → Bool) → Table → Type 0
 Met v t = v t.output ≡ table_value t v
 
@@ -97,14 +87,6 @@ outputs-met net v [] met = refl
 outputs-met net v (o ∷ outputs) met =
     let here : v (output_word net.inputs o.name) ≡ v (net_word net o.net.0) = met.0 ∙ copy_value (net_word net o.net.0) (output_word net.inputs o.name) v in
     let rest = outputs-met net v outputs met.1 in
-    cc
-
--- two functions that agree on each element
-pub map-same : {X Y : Type 0} (f g : X → Y) (xs : List X) → All (λ x. f x ≡ g x) xs → map f xs ≡ map g xs
-map-same f g [] same = refl
-map-same f g (x ∷ xs) same =
-    let here : f x ≡ g x = same 0 x (omega arith) in
-    let rest = map-same f g xs (λ k d h. same (suc k) d (omega arith)) in
     cc
 
 gates-met : (net : Netlist) → IsWritable net → (v : List ℕ → Bool) → AllByRecursion (Met v) (numbered (gate_table net) 0 net.gates)
@@ -134,9 +116,9 @@ pub Holds-from_instant : (net : Netlist) → IsWritable net → (latches inputs 
     → Holds net latches inputs v
 Holds-from_instant net is latches inputs v instant =
     let first_two = numbered input_table 0 net.inputs ++ numbered (gate_table net) 0 net.gates in
-    let four = split_all (Met v) (first_two ++ map (output_table net) net.outputs) (copy_table (net_word net net.paused) paused_word ∷ []) instant.tables_met in
-    let three = split_all (Met v) first_two (map (output_table net) net.outputs) four.0 in
-    let two = split_all (Met v) (numbered input_table 0 net.inputs) (numbered (gate_table net) 0 net.gates) three.0 in
+    let four = all-split (Met v) (first_two ++ map (output_table net) net.outputs) (copy_table (net_word net net.paused) paused_word ∷ []) instant.tables_met in
+    let three = all-split (Met v) first_two (map (output_table net) net.outputs) four.0 in
+    let two = all-split (Met v) (numbered input_table 0 net.inputs) (numbered (gate_table net) 0 net.gates) three.0 in
     let inputs_kept : map v (input_words net) ≡ inputs = inputs-met v 0 net.inputs two.0 ∙ instant.inputs_given in
     let latches_kept : map v (latch_words net) ≡ latches = map-numbered v (λ j (l : Latch). latch_word j) 0 net.latches
     ∙ sym (map-numbered (λ (l : CircuitLatch). v l.target) (net_latch net) 0 net.latches) ∙ instant.latches_kept in
@@ -151,18 +133,12 @@ Holds-from_instant net is latches inputs v instant =
       latches_kept = latches_kept;
       nets = nets;
       outputs = outputs-met net v net.outputs three.1
-          ∙ map-same (λ (o : NetOut). v (net_word net o.net.0)) (λ o. value_in (net_values net latches inputs) o.net.0) net.outputs
+          ∙ map-equal (λ (o : NetOut). v (net_word net o.net.0)) (λ o. value_in (net_values net latches inputs) o.net.0) net.outputs
           (λ k d h. each (get_or net.outputs k d).net.0 (is.is_net.outputs_in_range k d h));
       paused = four.1.0 ∙ copy_value (net_word net net.paused) paused_word v ∙ each net.paused is.is_net.paused_in_range;
     }
 
 -- ---- every name has the net's value, so the tables hold
-
--- two maps that are equal agree at each place
-maps-at : {X Y : Type 0} (f : X → Bool) (g : Y → Bool) (xs : List X) (ys : List Y) (k : ℕ) (d : X) (e : Y) → map f xs ≡ map g ys → k < length xs
-    → k < length ys → f (get_or xs k d) ≡ g (get_or ys k e)
-maps-at f g xs ys k d e same x y =
-    sym (get_or-map f xs k d false x) ∙ ap (λ l. get_or l k false) same ∙ get_or-map g ys k e false y
 
 pub instant-from_Holds : (net : Netlist) → IsWritable net → (latches inputs : List Bool) (v : List ℕ → Bool) → length latches ≡ length net.latches
     → length inputs ≡ length net.inputs → Holds net latches inputs v → IsInstant (net_circuit net) latches inputs v

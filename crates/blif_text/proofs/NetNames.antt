@@ -1,10 +1,10 @@
 -- The names of a net's circuit: each is a word, no two are one, and each that is used is driven.
-use Rattle.std.proofs.Common.{◌≡◌, ℕ, ◌+◌, ◌-◌, ◌<◌, ◌^◌, true, false, List, [], ◌∷◌, ◌++◌, length, map, get_or, refl, sym, ap, ◌∙◌, arith, zero-add, ⊎_elim}
+use Rattle.std.proofs.Common.{◌≡◌, ℕ, ◌+◌, ◌-◌, ◌<◌, ◌^◌, true, false, List, [], ◌∷◌, ◌++◌, length, map, get_or, refl, sym, ap, ◌∙◌, arith, zero-add}
 use Rattle.std.proofs.Common.{Option, Some, None}
 use Rattle.std.specs.Prelude.{option_and_then, IfSome, codes, if◌then◌else◌}
 use Rattle.std.specs.List.{list_all, range_with_len}
 use Rattle.std.proofs.lemmas.List.FromFn.{fill_by_all}
-use Rattle.std.proofs.lemmas.Bool.{and_parts, and_from, cases_lt, lt-ltb, le-ltb}
+use Rattle.std.proofs.lemmas.Bool.{and_parts, and_from, lt-ltb, le-ltb}
 use Rattle.std.proofs.lemmas.List.{length-append, get_or_append_left, get_or-append-add}
 use Rattle.std.proofs.lemmas.List.Elements.{All-map}
 use Rattle.std.proofs.lemmas.Option.{slice_get-get_or}
@@ -22,6 +22,7 @@ use Rattle.blif_text.proofs.WordBytes.{is_word, is_word-name, decimal_bytes}
 use Rattle.net_ir.proofs.Numbered.{list_all-parts, list_all-from_All, list_all-get_or, length-numbered, get_or-numbered, All-numbered}
 use Rattle.net_ir.specs.Numbered.{numbered}
 use Rattle.net_ir.specs.Writing.{IsWritable}
+use Rattle.net_ir.proofs.Nets.{net_cases}
 
 -- the names of the outputs in the text
 abbrev pub shown_words : Netlist → List (List ℕ)
@@ -97,16 +98,6 @@ at-gate net k d h =
     ∙ get_or-append-add (input_words net ++ latch_words net) (gate_words net) k []
     ∙ get_or-numbered (λ m (gate : Gate). gate_word m gate.wire) 0 net.gates k [] d h
     ∙ ap (λ m. gate_word m (get_or net.gates k d).wire) (zero-add k)
-
--- a number of a net is that of an input, of a latch or of a gate
-pub net_cases : {C : Type 0} (net : Netlist) (n : ℕ) → n < net_count net → (n < length net.inputs → C)
-    → ((j : ℕ) → j < length net.latches → n ≡ length net.inputs + j → C) → ((k : ℕ) → k < length net.gates → n ≡ first_gate net + k → C) → C
-net_cases net n h input latch gate = ⊎_elim input
-    (λ past. ⊎_elim
-    (λ low. latch (n - length net.inputs) (omega arith) (omega arith))
-    (λ high. gate (n - first_gate net) (omega arith) (omega arith))
-    (cases_lt n (first_gate net)))
-    (cases_lt n (length net.inputs))
 
 pub net_word-at : (net : Netlist) (n : ℕ) → n < net_count net → net_word net n ≡ get_or (net_words net) n []
 net_word-at net n h =

@@ -1,10 +1,8 @@
 -- The runs of a net's circuit: there is one over every list of inputs, and it shows what the net shows.
-use Rattle.std.proofs.Common.{◌≡◌, ℕ, Bool, true, false, not, List, [], ◌∷◌, ◌++◌, length, map, get_or, take, drop, refl, sym, ap, ◌∙◌, subst, arith}
-use Rattle.std.specs.Prelude.{if◌then◌else◌}
-use Rattle.std.specs.List.{list_any, range_with_len}
-use Rattle.std.specs.Cmp.Lexicographic.{nat_list_eq_equiv}
-use Rattle.std.proofs.lemmas.Bool.{and_parts, or_parts, not-true}
-use Rattle.std.proofs.lemmas.List.{map-append, length-append, length-map, map-id, length-drop, drop_at, take-append-drop}
+use Rattle.std.proofs.Common.{◌≡◌, ℕ, Bool, true, List, [], ◌∷◌, ◌++◌, length, map, get_or, take, drop, refl, sym, ap, ◌∙◌, subst}
+use Rattle.std.specs.List.{range_with_len}
+use Rattle.std.proofs.lemmas.List.{map-append, length-append, length-map, map-id, drop_at, take-append-drop}
+use Rattle.facts.proofs.Lists.{map-composed, map-equal, same-parts}
 use Rattle.est_base.specs.Items.{Item, Event, Reset, EachEvent}
 use Rattle.net_ir.specs.declared.netlist.NetOut.{NetOut}
 use Rattle.net_ir.specs.declared.netlist.Latch.{Latch}
@@ -14,7 +12,7 @@ use Rattle.est_base.specs.Names.{is_same_name}
 use Rattle.net_ir.specs.Gates.{value_in}
 use Rattle.net_ir.specs.Netlists.{Netlist, first_gate, net_count}
 use Rattle.net_ir.specs.Runs.{Shown, net_values, next_latches, initial_latches, values_from, net_values_run, shown}
-use Rattle.net_ir.proofs.Values.{length-gate_values, take-gate_values}
+use Rattle.net_ir.proofs.Values.{take-gate_values}
 use Rattle.blif_text.specs.Circuits.{CircuitLatch}
 use Rattle.blif_text.specs.Runs.{IsInstant, circuit_latches, IsRunFrom, IsRun, driven_names}
 use Rattle.blif_text.specs.Written.{output_word, net_word, paused_word, net_latch, output_words, net_circuit, input_word, latch_word, gate_word, written, Means}
@@ -22,62 +20,19 @@ use Rattle.blif_text.proofs.NetNames.{shown_words, input_words, latch_words, gat
 use Rattle.blif_text.proofs.NetDrivers.{driven-net, names-differ}
 use Rattle.net_ir.proofs.Numbered.{length-numbered, map-numbered, numbered-map}
 use Rattle.net_ir.specs.Writing.{IsWritable}
+use Rattle.net_ir.proofs.NameLists.{looked_up, map-looked_up}
+use Rattle.net_ir.proofs.Nets.{gate_part, length-gate_part, output_part, told-values, told_from}
 use Rattle.blif_text.proofs.NetSpelling.{reading-written}
-use Rattle.blif_text.proofs.NetInstants.{Holds, Holds-from_instant, instant-from_Holds, map-same, value-word}
+use Rattle.blif_text.proofs.NetInstants.{Holds, Holds-from_instant, instant-from_Holds, value-word}
 
 -- ---- names with given values
 
--- the valuation that gives each name the value in its place
-abbrev looked_up : List (List ℕ) → List Bool → List ℕ → Bool
-looked_up [] values x = false
-looked_up (name ∷ names) [] x = false
-looked_up (name ∷ names) (value ∷ values) x =
-    if is_same_name name x then value else looked_up names values x
-
-looked_up-past : (name : List ℕ) (value : Bool) (names : List (List ℕ)) (values : List Bool) (xs : List (List ℕ)) → list_any (is_same_name name) xs ≡ false
-    → map (looked_up (name ∷ names) (value ∷ values)) xs ≡ map (looked_up names values) xs
-looked_up-past name value names values [] apart = refl
-looked_up-past name value names values (x ∷ xs) apart =
-    let parts = or_parts (is_same_name name x) (list_any (is_same_name name) xs) apart in
-    rw parts.0 (ap (λ l. looked_up names values x ∷ l) (looked_up-past name value names values xs parts.1))
-
-map-looked_up : (names : List (List ℕ)) (values : List Bool) → all_differ is_same_name names ≡ true → length names ≡ length values
-    → map (looked_up names values) names ≡ values
-map-looked_up [] [] differ len = refl
-map-looked_up [] (value ∷ values) differ len = cc
-map-looked_up (name ∷ names) [] differ len = cc
-map-looked_up (name ∷ names) (value ∷ values) differ len =
-    let parts = and_parts (not (list_any (is_same_name name) names)) (all_differ is_same_name names) differ in
-    let rest = looked_up-past name value names values names (not-true (list_any (is_same_name name) names) parts.0)
-    ∙ map-looked_up names values parts.1 (omega arith) in
-    rw (nat_list_eq_equiv.refl name) (ap (λ l. value ∷ l) rest)
-
--- equal lists in two parts, the first ones as long as each other
-same_parts : {X : Type 0} (us vs xs ys : List X) → length us ≡ length xs → us ++ vs ≡ xs ++ ys → (us ≡ xs) × (vs ≡ ys)
-same_parts [] vs [] ys len same = (refl, same)
-same_parts [] vs (x ∷ xs) ys len same = cc
-same_parts (u ∷ us) vs [] ys len same = cc
-same_parts (u ∷ us) vs (x ∷ xs) ys len same =
-    let rest = same_parts us vs xs ys (omega arith) cc in (cc, rest.1)
-
 -- ---- the values of all driven names
-
--- the values that follow those of the inputs and the latches
-abbrev gate_part : Netlist → List Bool → List Bool
-gate_part net values = drop (first_gate net) values
-
-abbrev output_part : Netlist → List Bool → List Bool
-output_part net values = map (λ o. value_in values o.net.0) net.outputs
 
 abbrev all_values : Netlist → List Bool → List Bool → List Bool
 all_values net latches inputs =
     let values = net_values net latches inputs in
     inputs ++ (latches ++ (inputs ++ gate_part net values ++ output_part net values ++ value_in values net.paused ∷ []))
-
-length-gate_part : (net : Netlist) (latches inputs : List Bool) → length (inputs ++ latches) ≡ first_gate net
-    → length (gate_part net (net_values net latches inputs)) ≡ length net.gates
-length-gate_part net latches inputs wide =
-    length-drop (first_gate net) (net_values net latches inputs) ∙ omega (arith, length-gate_values (inputs ++ latches) net.gates)
 
 -- as many values as names
 length-all_values : (net : Netlist) (latches inputs : List Bool) → length latches ≡ length net.latches → length inputs ≡ length net.inputs
@@ -133,13 +88,13 @@ Holds-from_values net is latches inputs v l i same =
     let three_len : length (map v (input_words net) ++ map v (gate_words net) ++ map v (shown_words net)) ≡ length
     (inputs ++ gate_part net values ++ output_part net values) = length-append (map v (input_words net) ++ map v (gate_words net))
     (map v (shown_words net)) ∙ rw (two_len, outputs_len) (sym (length-append (inputs ++ gate_part net values) (output_part net values))) in
-    let a = same_parts (map v net.inputs) _ inputs _ (length-map net.inputs v ∙ sym i) (sym (map-all_names net v) ∙ same) in
-    let b = same_parts (map v (latch_words net)) _ latches _ latches_len a.1 in
-    let c = same_parts (map v (input_words net) ++ map v (gate_words net) ++ map v (shown_words net)) (v paused_word ∷ [])
+    let a = same-parts (map v net.inputs) _ inputs _ (length-map net.inputs v ∙ sym i) (sym (map-all_names net v) ∙ same) in
+    let b = same-parts (map v (latch_words net)) _ latches _ latches_len a.1 in
+    let c = same-parts (map v (input_words net) ++ map v (gate_words net) ++ map v (shown_words net)) (v paused_word ∷ [])
     (inputs ++ gate_part net values ++ output_part net values) (value_in values net.paused ∷ []) three_len b.1 in
-    let d = same_parts (map v (input_words net) ++ map v (gate_words net)) (map v (shown_words net)) (inputs ++ gate_part net values) (output_part net values)
+    let d = same-parts (map v (input_words net) ++ map v (gate_words net)) (map v (shown_words net)) (inputs ++ gate_part net values) (output_part net values)
     two_len c.0 in
-    let e = same_parts (map v (input_words net)) (map v (gate_words net)) inputs (gate_part net values) inputs_len d.0 in
+    let e = same-parts (map v (input_words net)) (map v (gate_words net)) inputs (gate_part net values) inputs_len d.0 in
     let first : take (first_gate net) values ≡ inputs ++ latches = ap (λ n. take n values) (sym wide) ∙ take-gate_values (inputs ++ latches) net.gates in
     let whole : (inputs ++ latches) ++ gate_part net values ≡ values = ap (λ x. x ++ gate_part net values) (sym first)
     ∙ take-append-drop (first_gate net) values in
@@ -172,7 +127,7 @@ next_latches-circuit : (net : Netlist) → IsWritable net → (latches inputs : 
 next_latches-circuit net is latches inputs v holds =
     map-numbered (λ (x : CircuitLatch). v x.source) (net_latch net) 0 net.latches
     ∙ numbered-map (λ (x : Latch). v (net_word net x.from.0)) 0 net.latches
-    ∙ map-same (λ (x : Latch). v (net_word net x.from.0)) (λ x. value_in (net_values net latches inputs) x.from.0) net.latches
+    ∙ map-equal (λ (x : Latch). v (net_word net x.from.0)) (λ x. value_in (net_values net latches inputs) x.from.0) net.latches
     (λ k d h. let n = (get_or net.latches k d).from.0 in sym (value-word net v n (is.is_net.latches_in_range k d h)) ∙ ap (λ w. value_in w n) holds.nets)
 
 -- what is shown
@@ -180,10 +135,6 @@ shown-circuit : (net : Netlist) (latches inputs : List Bool) (v : List ℕ → B
     → map v (output_words net) ≡ (shown net (net_values net latches inputs)).outputs ++ (shown net (net_values net latches inputs)).paused ∷ []
 shown-circuit net latches inputs v holds =
     map-append v (shown_words net) (paused_word ∷ []) ∙ rw (holds.outputs, holds.paused) refl
-
-map-map : {X Y Z : Type 0} (f : Y → Z) (g : X → Y) (xs : List X) → map (λ x. f (g x)) xs ≡ map f (map g xs)
-map-map f g [] = refl
-map-map f g (x ∷ xs) = ap (λ l. f (g x) ∷ l) (map-map f g xs)
 
 -- ---- runs
 
@@ -207,13 +158,6 @@ runs_from net is latches (Event inputs ∷ items) l wide =
 runs_from net is latches (Reset ∷ items) l wide =
     runs_from net is (circuit_latches (net_circuit net)) items (length-initial net) wide
 
--- what g gives of the latch values and the inputs of each event
-abbrev told_from : {X : Type 0} → Netlist → (List Bool → List Bool → X) → List Bool → List Item → List X
-told_from net g latches [] = []
-told_from net g latches (Event inputs ∷ items) =
-    g latches inputs ∷ told_from net g (next_latches net (net_values net latches inputs)) items
-told_from net g latches (Reset ∷ items) = told_from net g (initial_latches net) items
-
 -- what is so of every instant with a net's values is so of every run: f of the valuations is g of the values
 runs-are : {X : Type 0} (net : Netlist) → IsWritable net → (f : (List ℕ → Bool) → X) (g : List Bool → List Bool → X)
     → ((latches inputs : List Bool) (v : List ℕ → Bool) → Holds net latches inputs v → f v ≡ g latches inputs)
@@ -231,14 +175,6 @@ runs-are net is f g each latches (Event inputs ∷ items) (v ∷ vs) run =
 runs-are net is f g each latches (Reset ∷ items) vs run =
     runs-are net is f g each (initial_latches net) items vs (subst (λ l. IsRunFrom (net_circuit net) l items vs) (initial-circuit net) run)
 
--- where g is a function of the values of the nets
-told-values : {X : Type 0} (net : Netlist) (h : List Bool → X) (latches : List Bool) (items : List Item)
-    → told_from net (λ l i. h (net_values net l i)) latches items ≡ map h (values_from net latches items)
-told-values net h latches [] = refl
-told-values net h latches (Event inputs ∷ items) =
-    ap (λ x. h (net_values net latches inputs) ∷ x) (told-values net h (next_latches net (net_values net latches inputs)) items)
-told-values net h latches (Reset ∷ items) = told-values net h (initial_latches net) items
-
 -- ---- the written text means the net
 
 pub Means-written : (net : Netlist) → IsWritable net → Means (written net) net
@@ -248,7 +184,7 @@ Means-written net is =
     let values_told = λ (items : List Item) (vs : List (List ℕ → Bool)) (run : IsRun (net_circuit net) items vs). runs-are net is (λ v. map v names)
     (all_values net) (values-from_Holds net) start items vs run in
     let all_shown = λ (values : List Bool). (shown net values).outputs ++ (shown net values).paused ∷ [] in
-    let named = λ (latches inputs : List Bool) (v : List ℕ → Bool) (holds : Holds net latches inputs v). map-map v (net_word net)
+    let named = λ (latches inputs : List Bool) (v : List ℕ → Bool) (holds : Holds net latches inputs v). map-composed v (net_word net)
     (range_with_len 0 (net_count net)) ∙ ap (map v) (sym (net_words-numbers net)) ∙ holds.nets in
     record {
       circuit = net_circuit net;
@@ -261,7 +197,7 @@ Means-written net is =
       one_run = λ items us vs u v. values_told items us u ∙ sym (values_told items vs v);
       shows = λ items vs run. runs-are net is (λ v. map v (output_words net)) (λ l i. all_shown (net_values net l i)) (shown-circuit net) start items vs run
           ∙ told-values net all_shown start items ∙ ap (λ l. map all_shown (values_from net l items)) (initial-circuit net)
-          ∙ map-map (λ (s : Shown). s.outputs ++ s.paused ∷ []) (shown net) (net_values_run net items);
+          ∙ map-composed (λ (s : Shown). s.outputs ++ s.paused ∷ []) (shown net) (net_values_run net items);
       nets = λ items vs run. runs-are net is (λ v. map (λ n. v (net_word net n)) (range_with_len 0 (net_count net))) (λ l i. net_values net l i) named start
           items vs run
           ∙ told-values net (λ values. values) start items ∙ ap (λ l. map (λ values. values) (values_from net l items)) (initial-circuit net)

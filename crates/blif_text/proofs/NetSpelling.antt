@@ -3,7 +3,6 @@ use Rattle.std.proofs.Common.{◌≡◌, ℕ, ◌+◌, ◌<◌, ◌≤◌, true,
 use Rattle.std.proofs.Common.{append_assoc, All, Ok}
 use Rattle.std.specs.Prelude.{flat_map}
 use Rattle.std.specs.List.{list_all, list_any}
-use Rattle.std.specs.Cmp.Lexicographic.{nat_list_eq_equiv}
 use Rattle.std.proofs.lemmas.Bool.{and_from, or_cases}
 use Rattle.std.proofs.lemmas.List.Elements.{All-append, All-map, All-cons, All-nil}
 use Rattle.std.proofs.lemmas.List.Folds.{list_any-append, list_any_at}
@@ -13,6 +12,7 @@ use Rattle.net_ir.specs.declared.netlist.Gate.{Gate}
 use Rattle.net_ir.specs.declared.netlist.Latch.{Latch}
 use Rattle.est_base.specs.Distinct.{all_differ}
 use Rattle.est_base.specs.Names.{is_same_name}
+use Rattle.est_base.proofs.SameNames.{same_name-self}
 use Rattle.net_ir.specs.Gates.{operand_end}
 use Rattle.net_ir.specs.Netlists.{Netlist, net_count}
 use Rattle.net_ir.specs.NameLists.{is_among}
@@ -87,13 +87,10 @@ all_names net = net.inputs ++ (latch_words net ++ table_names net)
 abbrev Driven : Netlist → List ℕ → Type 0
 Driven net name = is_among name (all_names net) ≡ true
 
-same_self : (name : List ℕ) → is_same_name name name ≡ true
-same_self name = nat_list_eq_equiv.refl name
-
 driven-name : (net : Netlist) (k : ℕ) (d : List ℕ) → k < length net.inputs → Driven net (get_or net.inputs k d)
 driven-name net k d h =
     let name = get_or net.inputs k d in
-    list_any-left (is_same_name name) net.inputs (latch_words net ++ table_names net) (list_any_at (is_same_name name) net.inputs k d h (same_self name))
+    list_any-left (is_same_name name) net.inputs (latch_words net ++ table_names net) (list_any_at (is_same_name name) net.inputs k d h (same_name-self name))
 
 driven-table : (net : Netlist) (name : List ℕ) → is_among name (table_names net) ≡ true → Driven net name
 driven-table net name h =
@@ -120,7 +117,7 @@ driven-net_words net name h =
 driven-net_word : (net : Netlist) (n : ℕ) → n < net_count net → Driven net (net_word net n)
 driven-net_word net n h =
     let name = net_word net n in
-    let here : is_same_name name (get_or (net_words net) n []) ≡ true = ap (is_same_name name) (sym (net_word-at net n h)) ∙ same_self name in
+    let here : is_same_name name (get_or (net_words net) n []) ≡ true = ap (is_same_name name) (sym (net_word-at net n h)) ∙ same_name-self name in
     let len = length-net_words net in
     driven-net_words net name (list_any_at (is_same_name name) (net_words net) n [] (omega arith) here)
 
@@ -166,7 +163,7 @@ used-driven net is =
     let sources = map-numbered (λ (l : CircuitLatch). l.source) (net_latch net) 0 net.latches in
     let shown = list_all-from_All p (output_words net)
     (λ k d h. driven-output net (get_or (output_words net) k d)
-    (list_any_at (is_same_name (get_or (output_words net) k d)) (output_words net) k d h (same_self (get_or (output_words net) k d)))) in
+    (list_any_at (is_same_name (get_or (output_words net) k d)) (output_words net) k d h (same_name-self (get_or (output_words net) k d)))) in
     let kept : list_all p (map (λ (l : CircuitLatch). l.source) (numbered (net_latch net) 0 net.latches)) ≡ true = ap (list_all p) sources
     ∙ list_all-from_All p _ (All-numbered (λ name. p name ≡ true) (λ j (l : Latch). net_word net l.from.0) 0 net.latches
     (λ k d h. driven-net_word net (get_or net.latches k d).from.0 (is.is_net.latches_in_range k d h))) in

@@ -1,13 +1,13 @@
 -- The length of a net's text: at most so many bytes for each gate and each latch, and for each name of the interface twice its length and so many more.
 use Rattle.std.proofs.Common.{◌≡◌, ℕ, ◌+◌, ◌*◌, ◌^◌, ◌<◌, ◌≤◌, suc, Bool, true, false, List, [], ◌∷◌, ◌++◌, length, map, get_or, Option}
-use Rattle.std.proofs.Common.{Some, None, refl, sym, ap, ◌∙◌, subst, arith, length-append, All}
-use Rattle.std.specs.Prelude.{IfSome, codes, decimal, flat_map, if◌then◌else◌}
+use Rattle.std.proofs.Common.{Some, None, sym, ◌∙◌, subst, arith, length-append, All}
+use Rattle.std.specs.Prelude.{IfSome, codes, flat_map, if◌then◌else◌}
 use Rattle.std.specs.List.{sum_by}
-use Rattle.std.proofs.lemmas.Fmt.{length-decimal-le}
 use Rattle.std.proofs.lemmas.List.{length-map}
 use Rattle.std.proofs.lemmas.List.Concat.{length-flat_map}
 use Rattle.std.proofs.lemmas.List.Elements.{All-append, All-map}
 use Rattle.std.proofs.lemmas.List.Sums.{sum_by-append, sum_by-cons, sum_by_push, sum_by-le}
+use Rattle.facts.proofs.Lists.{short-decimal, sum-flat_map}
 use Rattle.est_base.specs.declared.indices.WireId.{WireId}
 use Rattle.net_ir.specs.declared.netlist.Op.{Op}
 use Rattle.net_ir.specs.declared.netlist.Op.TheVariants.{Const, Copy, Not, And, Or}
@@ -82,9 +82,6 @@ length-operator word output (Or m n) bound short within few =
     let second = short n.0 (omega arith) in omega (arith, length-names (word m.0 ∷ word n.0 ∷ []) output)
 
 -- ---- names of nets
-
-short-decimal : (n : ℕ) → n < 2 ^ 32 → length (decimal n) ≤ 10
-short-decimal n low = length-decimal-le 10 n (omega arith) (omega arith) (omega arith)
 
 short-gate : (k : ℕ) (wire : Option WireId) → k < 2 ^ 32 → IfSome wire (λ w. w.0 < 2 ^ 32) → length (gate_word k wire) ≤ 12
 short-gate k None low fits = let few = short-decimal k low in omega arith
@@ -176,10 +173,6 @@ outputs-length net (o ∷ outputs) short =
 
 -- ---- the text
 
-sum-flat : {X Y : Type 0} (f : Y → ℕ) (g : X → List Y) (xs : List X) → sum_by f (flat_map g xs) ≡ sum_by (λ x. sum_by f (g x)) xs
-sum-flat f g [] = refl
-sum-flat f g (x ∷ xs) = sum_by-append f (g x) (flat_map g xs) ∙ ap (λ n. sum_by f (g x) + n) (sum-flat f g xs) ∙ sym (sum_by-cons (λ y. sum_by f (g y)) x xs)
-
 abbrev pub text_bound : Netlist → ℕ
 text_bound net =
     length net.gates * 56 + length net.latches * 35 + sum_by (λ name. 2 * length name + 26) net.inputs
@@ -209,7 +202,7 @@ length-written net is =
       length-line (codes ".outputs") c.outputs,
       sum_by_push (λ (w : List ℕ). length (32 ∷ w)) shown paused_word,
       latches-length net is,
-      sum-flat line_length table_statements c.tables,
+      sum-flat_map line_length table_statements c.tables,
       sum_by-append table_length (numbered input_table 0 net.inputs ++ numbered (gate_table net) 0 net.gates ++ map (output_table net) net.outputs)
           (paused ∷ []),
       sum_by-append table_length (numbered input_table 0 net.inputs ++ numbered (gate_table net) 0 net.gates) (map (output_table net) net.outputs),

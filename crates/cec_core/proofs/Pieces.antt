@@ -1,7 +1,7 @@
 -- Texts that are written piece by piece, and what was written of them.
 use Rattle.std.proofs.Common.{◌≡◌, ℕ, List, [], ◌++◌, length, take, drop, Option, Some, inl, inr, refl, sym, ap, ◌∙◌, subst, ⊎_elim}
-use Rattle.std.proofs.Common.{◌<◌, ◌≤◌, append_assoc, append-nil, arith}
-use Rattle.std.proofs.lemmas.List.{length-take, length-drop, take-append-drop}
+use Rattle.std.proofs.Common.{◌≤◌, append_assoc, append-nil}
+use Rattle.std.proofs.lemmas.List.{take-append-drop}
 use Rattle.std.proofs.Math.Seq.{take-append_seam}
 use Rattle.est_base.specs.declared.files.reading.FileFault.{FileFault}
 use Rattle.est_base.specs.declared.files.reading.FileFault.TheVariants as reading
@@ -52,11 +52,6 @@ one_piece_more n whole rest piece new a b c f g h so is behind came = record {
   join = ap (λ l. (so.given ++ piece) ++ l) behind ∙ append_assoc so.given piece (drop n rest) ∙ with_piece n whole so.given rest piece so.join is;
   came = appends-twice a b c f g h so.given piece so.came came;
 }
-
--- a piece takes some of the rest
-pub pieces_fall : (n : ℕ) (old piece rest : List ℕ) → 0 < length piece → piece ≡ take n old → rest ≡ drop n old → length rest < length old
-pieces_fall n old piece rest some p r =
-    omega (arith, some, ap length p ∙ length-take n old, ap length r ∙ length-drop n old)
 
 pub all_pieces : (whole rest : List ℕ) (s : SinkChange) → PiecesSoFar whole rest s → rest ≡ [] → LeavesPieces (λ text. text ≡ whole) s Done
 all_pieces whole rest s so none =

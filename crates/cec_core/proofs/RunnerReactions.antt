@@ -31,9 +31,10 @@ use Rattle.trace_run.specs.Machines as machines
 use Rattle.trace_run.specs.Machines.{Answered, Brings, answer_lines}
 use Rattle.trace_run.specs.Steps.{Led, Leads, LineCame}
 use Rattle.trace_run.proofs.Groups.{Fits, fits-next}
-use Rattle.trace_run.proofs.Leading.{front-leads, leads-more, lines-more}
+use Rattle.trace_run.proofs.Leading.{front-leads, leads-more}
 use Rattle.trace_run.proofs.Stepping.{SoFar, over, run-stops, step-event}
 use Rattle.tri_run.specs.Runners.{IsFresh, Resets, Runner, Steps, program_in, state_in, unknown_wires}
+use Rattle.trace_run.proofs.Fronts.{lines-of}
 use Rattle.cec_core.specs.MarkedWires.{marked_of}
 use Rattle.cec_core.specs.declared.reactions.ReactionFault.{ReactionFault}
 use Rattle.cec_core.specs.declared.reactions.ReactionFault.TheVariants.{Run, NotConstructive}
@@ -245,7 +246,7 @@ pub one_item_more : (names : List (List ℕ)) (r q p : Reading) (s t u : Runner)
     → OneItem names q p t u (over b c g h) → ReachedSoFar names r p s u a c f h
 one_item_more names r q p s t u a b c f g h so one =
     let lines = ap (answer_lines names) (map-append line_answer so.answers one.answers)
-    ∙ lines-more names (map line_answer so.answers) (map line_answer one.answers) in
+    ∙ lines-of names (map line_answer so.answers) (map line_answer one.answers) in
     record {
       items = so.items ++ one.item ∷ [];
       answers = so.answers ++ one.answers;

@@ -1,7 +1,7 @@
 -- A netlist follows a graph as the netlist does that it is made from: a simplified one, or one of the same runs.
-use Rattle.std.proofs.Common.{◌≡◌, ℕ, suc, ◌≤◌, Bool, false, List, [], ◌∷◌, length, map, drop, get_or, sym, ap, ◌∙◌, subst, arith}
+use Rattle.std.proofs.Common.{◌≡◌, suc, ◌≤◌, Bool, false, List, [], ◌∷◌, length, map, drop, get_or, sym, ap, ◌∙◌, arith}
 use Rattle.std.proofs.lemmas.List.{length-map, length-take}
-use Rattle.est_base.specs.Items.{Item, EachEvent}
+use Rattle.est_base.proofs.Items.{wide_events}
 use Rattle.est_kernel.specs.Plain.{program_of, given_count}
 use Rattle.grc_graph.specs.declared.graph.Graph.{Graph}
 use Rattle.grc_graph.specs.Readings.{Valuation}
@@ -64,9 +64,6 @@ carries_all g net new wires (old ∷ olds) (now ∷ more) (V ∷ Vs) e h = (
   carries_stay g net new old now V wires (ap (λ (l : List (List Bool)). get_or l 0 []) e) h.0,
   carries_all g net new wires olds more Vs (ap (drop 1) e) h.1,
 )
-
-wide_events : (m n : ℕ) → m ≡ n → (items : List Item) → EachEvent (λ event. length event ≡ m) items → EachEvent (λ event. length event ≡ n) items
-wide_events m n e items h = subst (λ k. EachEvent (λ event. length event ≡ k) items) e h
 
 pub runs_stay : (g : Graph) (net new : Netlist) → given_count (program_of g.program) ≤ length (program_of g.program).signals → HasInterfaceOf g net
     → carried new.gates ≡ carried net.gates → SameRuns net new → FollowsRuns g net → FollowsRuns g new

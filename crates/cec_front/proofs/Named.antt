@@ -1,11 +1,12 @@
 -- The names of a source's modules and of their interfaces are names: a letter, and then letters, digits and `_`.
-use Rattle.std.proofs.Common.{◌≡◌, ℕ, zero, suc, ◌+◌, ◌<◌, ◌≤◌, Bool, true, ◌&&◌, List, [], ◌∷◌, ◌++◌, length, take, drop, get_or, Option, Some, None, refl}
+use Rattle.std.proofs.Common.{◌≡◌, ℕ, zero, suc, ◌+◌, ◌<◌, ◌≤◌, true, List, [], ◌∷◌, ◌++◌, length, take, drop, get_or, Option, Some, None, refl}
 use Rattle.std.proofs.Common.{◌∙◌, ap, subst, arith}
 use Rattle.std.specs.Prelude.{⊤, IsTrue, flat_map}
 use Rattle.std.proofs.lemmas.Bool.Decides.{nat_tests}
 use Rattle.std.proofs.lemmas.List.Elements.{All-nil, All-cons, All-head, All-tail, All-rest, All-same, All-append, All-take, All-drop, All-map}
 use Rattle.std.proofs.Math.Seq.{take-append_seam, drop-append_seam}
 use Rattle.std.specs.List.{All, list_all}
+use Rattle.std.proofs.lemmas.Bool.{and_from}
 use Rattle.est_base.specs.declared.place.Span.{Span}
 use Rattle.est_base.specs.Names.{is_letter, is_name_byte, is_name}
 use Rattle.est_ast.specs.declared.tokens.Token.{Token}
@@ -34,14 +35,11 @@ letter_is byte h = grind (arith, nat_tests)
 name_byte_is : (byte : ℕ) → IsNameByte byte → is_name_byte byte ≡ true
 name_byte_is byte h = grind (arith, nat_tests)
 
-and_true : (a b : Bool) → a ≡ true → b ≡ true → (a && b) ≡ true
-and_true a b first second = ap (λ x. x && b) first ∙ second
-
 name_bytes_are : (text : List ℕ) (n : ℕ) → n ≤ length text → ((k : ℕ) → k < n → IsNameByte (get_or text k 0)) → list_all is_name_byte (take n text) ≡ true
 name_bytes_are text zero within all = refl
 name_bytes_are [] (suc n) within all = refl
 name_bytes_are (byte ∷ text) (suc n) within all =
-    and_true (is_name_byte byte) (list_all is_name_byte (take n text)) (name_byte_is byte (all 0 (omega arith)))
+    and_from (is_name_byte byte) (list_all is_name_byte (take n text)) (name_byte_is byte (all 0 (omega arith)))
     (name_bytes_are text n (omega arith) (λ k below. all (suc k) (omega arith)))
 
 -- a word's bytes are a name
@@ -49,7 +47,7 @@ word_is_name : (text : List ℕ) (n : ℕ) → BeginsWithWord text n → IsTrue 
 word_is_name text zero word = absurd (omega (arith, word.some))
 word_is_name [] (suc n) word = absurd (omega (arith, word.within))
 word_is_name (byte ∷ text) (suc n) word =
-    and_true (is_letter byte) (list_all is_name_byte (take n text)) (letter_is byte word.letter)
+    and_from (is_letter byte) (list_all is_name_byte (take n text)) (letter_is byte word.letter)
     (name_bytes_are text n (omega (arith, word.within)) (λ k below. word.name_bytes (suc k) (omega arith)))
 
 made_name : (part : Part) (text : List ℕ) (width : ℕ) (n : List ℕ) → Begins part text width → Makes part (take width text) (Some (kinds.Ident n)) →

@@ -1,6 +1,5 @@
 mod DecimalValues
 mod Gathering
 mod Options
-mod WorkedWords
-mod WorkedOptions
 pub mod GeneratedBranches
+mod worked

@@ -1,5 +1,2 @@
 pub mod PlainPrograms
-mod WorkedTexts
-mod WorkedPrograms
-mod DrawnPrograms
-mod MoreDrawnPrograms
+mod worked

@@ -17,6 +17,7 @@ use Rattle.read_rules.proofs.Readers.{Shape, one_shape, Stops, Laws, Reads, the-
 use Rattle.read_rules.proofs.Readers.{told-reads, made-reads, same-reads, shape-reads}
 use Rattle.read_rules.proofs.Steps.{Turn, step_depth, list_depth, AfterStep, StepLaws, Steps, look-steps, loop-reads, Advances-step}
 use Rattle.read_rules.proofs.Choices.{whole-reads as exact-reads}
+use Rattle.read_rules.proofs.Depths.{list_depth-flat}
 use Rattle.csub_read.specs.Reading.{makes_written, expr, state_rule, state_step, global_step, local_rule, local_step, assign_rule, assign_step}
 use Rattle.csub_read.specs.Reading.{answer_rule, body_rule, whole_rule, text_rule, parts_of, written_assign, written_of}
 use Rattle.csub_read.specs.Tokens.{spelled}
@@ -180,10 +181,6 @@ found_depth = whole_depth (λ b. max (list_depth pair_depth b.0) (written_nestin
 found-reads : (room : ℕ) → Reads class (λ n. whole_rule (body_rule makes_written n)) (SpellsWhole SpellsBody) found_depth whole_shape (Some room)
 found-reads room = whole-reads (both-reads (loop-reads (assign-steps room) refl) (answer-reads room) refl) refl
 
-pub flat : {A : Type 0} (values : List A) → list_depth (λ _. 0) values ≡ 0
-flat [] = refl
-flat (v ∷ others) = omega (arith, flat others)
-
 body-depth : (body : List (List ℕ × Written)) → body_nesting (map written_assign body) ≡ list_depth pair_depth body
 body-depth [] = refl
 body-depth (a ∷ body) = omega (arith, body-depth body)
@@ -345,7 +342,7 @@ text-from p tokens member =
 text-reads : (room : ℕ) → Reads class (λ n. mapped program_in (whole_rule (body_rule makes_written n))) SpellsText text_nesting whole_shape (Some room)
 text-reads room =
     made-reads program_in SpellsText text_nesting (found-reads room)
-    (λ found. omega (arith, flat found.0, flat found.1.0, flat found.1.1.0, body-depth found.1.1.1.0)) text-to text-from
+    (λ found. omega (arith, list_depth-flat found.0, list_depth-flat found.1.0, list_depth-flat found.1.1.0, body-depth found.1.1.1.0)) text-to text-from
 
 -- the program that is written in a text
 abbrev pub written_rule : ℕ → Rule Kind WrittenProgram

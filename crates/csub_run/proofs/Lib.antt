@@ -3,4 +3,4 @@ pub mod BareNames
 pub mod Showing
 pub mod NetTexts
 pub mod TextFaults
-mod WorkedLines
+mod worked

@@ -4,10 +4,8 @@ use Rattle.std.proofs.Common.{ap, ◌∙◌, arith, subst, Option, Some, None}
 use Rattle.std.proofs.Math.ListN.{set}
 use Rattle.std.specs.Prelude.{slice_set, find, filter, flat_map, if◌then◌else◌}
 use Rattle.std.specs.List.{AllByRecursion}
-use Rattle.std.specs.Option.{option_or}
 use Rattle.csub_text.specs.Grammar.{begins_input, begins_output}
 use Rattle.std.proofs.lemmas.Bool.{or_parts, not-false}
-use Rattle.std.proofs.lemmas.List.Folds.{find-append}
 use Rattle.std.proofs.lemmas.List.{length-map, length-append, get_or-set_same, get_or-set_other, length-set}
 use Rattle.std.proofs.Math.Seq.{take-set-lt}
 use lib.Pointwise.{bytes_decides}
@@ -19,6 +17,7 @@ use Rattle.csub_text.specs.Names.{declared_twice, unset, fault_by, NameFault, Tw
 use Rattle.csub_text.specs.Machine.{Memory, with_value, value_of, run_body, with_inputs, first_memory, call}
 use Rattle.std.proofs.Common.{All}
 use Rattle.std.proofs.lemmas.List.Elements.{All-from_recursion}
+use Rattle.facts.proofs.Lists.{find-both-none, find-first-none}
 use Rattle.csub_text.specs.declared.trees.CProgram.{CProgram}
 use Rattle.csub_text.specs.Views.{program_of}
 use Rattle.step_run.specs.Slots.{slot_in, value_at, memory_in}
@@ -159,25 +158,13 @@ pub outputs-among : (p : Program) → AllAmong (declared p) (outputs_of p)
 outputs-among p =
     filter-among begins_output p.globals (declared p) (among-widen (map (λ s. s.name) p.states) p.globals p.locals p.globals (among-self p.globals))
 
-or-none : {X : Type 0} (a b : Option X) → option_or a b ≡ None → (a ≡ None) × (b ≡ None)
-or-none None b is = (refl, is)
-or-none (Some x) b is = cc
-
-find-parts : {X : Type 0} (p : X → Bool) (xs ys : List X) → find p (xs ++ ys) ≡ None → (find p xs ≡ None) × (find p ys ≡ None)
-find-parts p xs ys is = or-none (find p xs) (find p ys) (sym (find-append p xs ys) ∙ is)
-
-find-none : {X : Type 0} (p : X → Bool) (x : X) (xs : List X) → find p (x ∷ xs) ≡ None → (p x ≡ false) × (find p xs ≡ None)
-find-none p x xs is =
-    elim (p x) as (λ b. cond b (Some x) (find p xs) ≡ None → (b ≡ false) × (find p xs ≡ None))
-    [ true ↦ λ e. cc | false ↦ λ e. (refl, e) ] is
-
 -- where no use is wrong, each target is declared
 targets-among : (names : List (List ℕ)) (body : List Assign) → find (is_wrong names) (flat_map uses_in body) ≡ None → Targets names body
 targets-among names [] none = tt
 targets-among names (a ∷ body) none =
-    let first = find-none (is_wrong names) (Assigned a.target) (map Taken (names_in a.value) ++ flat_map uses_in body) none in
+    let first = find-first-none (is_wrong names) (Assigned a.target) (map Taken (names_in a.value) ++ flat_map uses_in body) none in
     let known = not-false (is_among a.target names) (or_parts (begins_input a.target) (not (is_among a.target names)) first.0).1 in
-    (known, targets-among names body (find-parts (is_wrong names) (map Taken (names_in a.value)) (flat_map uses_in body) first.1).1)
+    (known, targets-among names body (find-both-none (is_wrong names) (map Taken (names_in a.value)) (flat_map uses_in body) first.1).1)
 
 fault-none : (fault : List ℕ → NameFault) (found : Option (List ℕ)) (later : Option NameFault) → fault_by fault found later ≡ None →
     (found ≡ None) × (later ≡ None)
@@ -195,7 +182,7 @@ pub targets-declared : (p : Program) → KeepsNames p → Targets (declared p) p
 targets-declared p fits =
     let later = (fault-none Twice (declared_twice p) (fault_by Undeclared (undeclared p) (fault_by Unset (unset p) None)) fits).1 in
     let none = (fault-none Undeclared (undeclared p) (fault_by Unset (unset p) None) later).0 in
-    targets-among (declared p) p.body (find-parts (is_wrong (declared p)) (flat_map uses_in p.body) (map Taken (names_in p.answer))
+    targets-among (declared p) p.body (find-both-none (is_wrong (declared p)) (flat_map uses_in p.body) (map Taken (names_in p.answer))
     (found-none (find (is_wrong (declared p)) (uses p)) none)).0
 
 -- ---- slots are in range

@@ -1,8 +1,6 @@
 -- what callers cite of names among others
 pub use Rattle.net_ir.proofs.NameLists
 pub mod Joins
-mod TextEquations
-mod WorkedNames
 pub mod Lexing
 pub mod Spelling
 pub mod NetNames
@@ -11,3 +9,4 @@ pub mod NetSets
 pub mod NetCalls
 pub mod NetMeans
 pub mod TextLengths
+mod worked

@@ -8,6 +8,7 @@ use Rattle.std.proofs.lemmas.List.{length-map, get_or-map, length-append, get_or
 use Rattle.std.proofs.lemmas.List.{length_push}
 use Rattle.est_base.specs.Names.{is_same_name}
 use Rattle.est_base.specs.Distinct.{all_differ}
+use Rattle.est_base.proofs.SameNames.{same_name-self}
 use Rattle.net_ir.specs.declared.netlist.Gate.{Gate}
 use Rattle.net_ir.specs.declared.netlist.NetOut.{NetOut}
 use Rattle.net_ir.specs.Gates.{operand_end, op_value, value_in, gate_values}
@@ -27,11 +28,12 @@ use Rattle.csub_text.proofs.NetNames.{marks-shown}
 use Rattle.csub_text.proofs.NetNames.{differ-inputs, differ-nexts, differ-given, differ-shown}
 use Rattle.net_ir.proofs.NameLists.{any-none, differ-at}
 use Rattle.net_ir.proofs.Numbered.{length-numbered, get_or-numbered}
-use Rattle.net_ir.proofs.NumberedNames.{differ-by, same-refl}
+use Rattle.net_ir.proofs.NumberedNames.{differ-by}
 use Rattle.net_ir.specs.Numbered.{numbered}
 use Rattle.net_ir.specs.Writing.{IsWritable}
+use Rattle.net_ir.proofs.Nets.{net_cases}
 use Rattle.csub_text.proofs.NetRules.{net_name-input, net_name-state, net_name-gate}
-use Rattle.expr_text.proofs.Naming.{mark, state_names, marks-states, marks-gates, differ-states, differ-gates, net_cases, any_gate, any_latch}
+use Rattle.expr_text.proofs.Naming.{mark, state_names, marks-states, marks-gates, differ-states, differ-gates, any_gate, any_latch}
 use Rattle.expr_text.proofs.Naming.{any_output, gate-low}
 
 -- ---- assignments one after another
@@ -57,7 +59,7 @@ run-copies [] m differ k d y h is none = absurd (omega arith)
 run-copies (a ∷ body) m differ zero d y h is none =
     let parts = and_parts (not (is_among a.target (targets body))) (all_differ is_same_name (targets body)) differ in
     run-other body (with_value a.target (value_of m a.value) m) a.target (not-true (is_among a.target (targets body)) parts.0)
-    ∙ rw (same-refl a.target) (ap (value_of m) is)
+    ∙ rw (same_name-self a.target) (ap (value_of m) is)
 run-copies (a ∷ body) m differ (suc k) d y h is none =
     let parts = and_parts (not (is_among a.target (targets body))) (all_differ is_same_name (targets body)) differ in
     let other = or_parts (is_same_name y a.target) (is_among y (targets body)) none in
@@ -77,7 +79,7 @@ inputs-given [] values m differ wide k d h = absurd (omega arith)
 inputs-given (n ∷ names) [] m differ wide k d h = absurd (omega arith)
 inputs-given (n ∷ names) (v ∷ values) m differ wide zero d h =
     let parts = and_parts (not (is_among n names)) (all_differ is_same_name names) differ in
-    inputs-other names values (with_value n v m) n (not-true (is_among n names) parts.0) ∙ rw (same-refl n) refl
+    inputs-other names values (with_value n v m) n (not-true (is_among n names) parts.0) ∙ rw (same_name-self n) refl
 inputs-given (n ∷ names) (v ∷ values) m differ wide (suc k) d h =
     let parts = and_parts (not (is_among n names)) (all_differ is_same_name names) differ in
     inputs-given names values (with_value n v m) parts.1 (omega arith) k d (omega arith)
@@ -139,7 +141,7 @@ gates-run net is n (g ∷ gates) m values same all wide has i h =
       | inr last ↦
           let e : i ≡ first_gate net + n = omega arith in
           let name : net_name net i ≡ target = ap (net_name net) e ∙ net_name-gate net n any_gate low ∙ ap (λ (g : Gate). gate_name n g.wire) (sym here) in
-          let it : is_same_name (net_name net i) target ≡ true = ap (λ x. is_same_name x target) name ∙ same-refl target in
+          let it : is_same_name (net_name net i) target ≡ true = ap (λ x. is_same_name x target) name ∙ same_name-self target in
           ap (λ b. if b then value else m (net_name net i)) it ∙ is-v ∙ sym (get_or_push values v false i (wide ∙ sym e))
     ] in
     let rest = gates-run net is (n + 1) gates (with_value target value m) (values ++ v ∷ [])

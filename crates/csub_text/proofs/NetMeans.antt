@@ -7,10 +7,12 @@ use Rattle.std.proofs.lemmas.Bool.{and_parts, not-true, or_parts}
 use Rattle.std.specs.Cmp.Lexicographic.{nat_list_eq_equiv}
 use Rattle.std.proofs.lemmas.List.{length-map, get_or-map, ext_get_or, get_or-drop, length-drop, length-append}
 use Rattle.std.proofs.lemmas.List.Elements.{All-append, All-map}
+use Rattle.facts.proofs.Lists.{map-composed}
 use Rattle.est_base.specs.declared.indices.WireId.{WireId}
 use Rattle.est_base.specs.Names.{is_name, is_same_name}
 use Rattle.est_base.specs.Distinct.{all_differ}
 use Rattle.est_base.specs.Items.{Item, Event, Reset, EachEvent}
+use Rattle.est_base.proofs.SameNames.{same_name-self}
 use Rattle.net_ir.specs.declared.netlist.Gate.{Gate}
 use Rattle.net_ir.specs.declared.netlist.Latch.{Latch}
 use Rattle.net_ir.specs.declared.netlist.NetOut.{NetOut}
@@ -36,13 +38,13 @@ use Rattle.csub_text.proofs.Lexing.{variable-given, variable-shown}
 use Rattle.csub_text.proofs.Spelling.{IsPlain, IsSpelled, program_kinds, says-program, spells-program, written_program, meant-written, nesting-written}
 use Rattle.csub_text.proofs.NetNames.{input_names, next_names}
 use Rattle.net_ir.proofs.Numbered.{length-numbered, get_or-numbered, All-numbered}
-use Rattle.net_ir.proofs.NumberedNames.{same-refl}
 use Rattle.net_ir.specs.Numbered.{numbered}
 use Rattle.net_ir.specs.Writing.{IsWritable}
+use Rattle.net_ir.proofs.Nets.{length-next, net_cases}
 use Rattle.csub_text.proofs.NetRules.{EachAssign, each-assign, net_name-input, net_name-state, net_name-gate}
 use Rattle.csub_text.proofs.NetSets.{names-fit}
 use Rattle.csub_text.proofs.NetCalls.{Leaves, call-leaves}
-use Rattle.expr_text.proofs.Naming.{mark, differ-states, net_cases, any_gate, any_latch, any_output, gate-low}
+use Rattle.expr_text.proofs.Naming.{mark, differ-states, any_gate, any_latch, any_output, gate-low}
 use Rattle.expr_text.proofs.Naming.{long-name}
 
 -- ---- inputs and outputs
@@ -87,7 +89,7 @@ first-keeps : (n : ℕ) (latches : List Latch) → all_differ is_same_name (numb
 first-keeps n [] differ j h = absurd (omega arith)
 first-keeps n (l ∷ latches) differ zero h =
     let z : n + 0 ≡ n = omega arith in
-    ap (λ k. first_memory (numbered net_state n (l ∷ latches)) (state_name k)) z ∙ rw (same-refl (state_name n)) refl
+    ap (λ k. first_memory (numbered net_state n (l ∷ latches)) (state_name k)) z ∙ rw (same_name-self (state_name n)) refl
 first-keeps n (l ∷ latches) differ (suc j) h =
     let s : n + suc j ≡ n + 1 + j = omega arith in
     let names = numbered (λ j latch. state_name j) (n + 1) latches in
@@ -148,9 +150,6 @@ gates-net net latches inputs m wide_l wide_i leaves =
     ∙ ap m (get_or-numbered (λ k gate. gate_name k gate.wire) 0 net.gates k [] any_gate (omega arith)
     ∙ ap (λ i. gate_name i (get_or net.gates k any_gate).wire) z)
     ∙ leaves.gates k (omega arith) ∙ sym (get_or-drop (first_gate net) values k false))
-
-length-next : (net : Netlist) (values : List Bool) → length (next_latches net values) ≡ length net.latches
-length-next net values = length-map net.latches (λ (l : Latch). value_in values l.from.0)
 
 -- what is so behind every call of the values of its nets is so of all calls
 runs-net : {X : Type 0} (net : Netlist) → IsWritable net → (f : Memory → X) (g : List Bool → X)
@@ -284,10 +283,6 @@ describes-net net is =
       names_fit = names-fit net is;
     }
 
-map-map : {X Y Z : Type 0} (f : Y → Z) (g : X → Y) (xs : List X) → map (λ x. f (g x)) xs ≡ map f (map g xs)
-map-map f g [] = refl
-map-map f g (x ∷ xs) = ap (λ l. f (g x) ∷ l) (map-map f g xs)
-
 pub Means-written : (net : Netlist) → IsWritable net → Means (written net) net
 Means-written net is =
     let wide = length-map net.latches (λ (l : Latch). l.init) in
@@ -301,7 +296,7 @@ Means-written net is =
           runs-net net is (seen (net_program net)) (λ values. shown_by_call (shown net values))
           (λ latches inputs m wl wi leaves. seen-net net (net_values net latches inputs) m leaves)
           items (initial_latches net) (first_memory (net_program net).states) wide (begins-kept net is) widths
-          ∙ map-map shown_by_call (shown net) (net_values_run net items);
+          ∙ map-composed shown_by_call (shown net) (net_values_run net items);
       nets = λ items widths.
           runs-net net is (λ memory. map memory (gate_names net)) (drop (first_gate net))
           (λ latches inputs m wl wi leaves. gates-net net latches inputs m wl wi leaves)

@@ -9,6 +9,7 @@ use Rattle.std.proofs.lemmas.Bool.{or_from, not_from_true}
 use Rattle.std.proofs.lemmas.List.{length-map, get_or-map}
 use Rattle.std.proofs.lemmas.List.Elements.{All-append}
 use Rattle.est_base.specs.Names.{is_same_name}
+use Rattle.est_base.proofs.SameNames.{same_name-self}
 use Rattle.net_ir.specs.declared.netlist.Gate.{Gate}
 use Rattle.net_ir.specs.declared.netlist.Latch.{Latch}
 use Rattle.net_ir.specs.declared.netlist.NetOut.{NetOut}
@@ -26,12 +27,12 @@ use Rattle.csub_text.proofs.NetNames.{input_names, next_names, given_variables}
 use Rattle.csub_text.proofs.NetNames.{shown_variables}
 use Rattle.csub_text.proofs.NetNames.{differ-declared}
 use Rattle.net_ir.proofs.Numbered.{length-numbered, get_or-numbered, map-numbered}
-use Rattle.net_ir.proofs.NumberedNames.{same-refl}
 use Rattle.net_ir.proofs.NameLists.{is_among-filter, once-differ}
 use Rattle.net_ir.specs.Numbered.{numbered}
 use Rattle.net_ir.specs.Writing.{IsWritable}
+use Rattle.net_ir.proofs.Nets.{net_cases}
 use Rattle.expr_text.proofs.Naming as naming
-use Rattle.expr_text.proofs.Naming.{mark, state_names, net_cases, among-numbered, among-left, among-right, any_gate, any_latch, find-none}
+use Rattle.expr_text.proofs.Naming.{mark, state_names, among-numbered, among-left, among-right, any_gate, any_latch, find-none}
 use Rattle.expr_text.proofs.Naming.{any_output, gate-low}
 
 declared-net : (net : Netlist) → declared (net_program net) ≡ state_names net ++ (net_globals net ++ net_locals net)
@@ -96,7 +97,7 @@ global-given net j d h =
     let at : get_or (given_variables net) j [] ≡ input_variable (get_or net.inputs j d) = get_or-map input_variable net.inputs j d [] h in
     among-left (input_variable (get_or net.inputs j d)) (given_variables net) (shown_variables net)
     (list_any_at (is_same_name (input_variable (get_or net.inputs j d))) (given_variables net) j [] (omega arith)
-    (ap (is_same_name (input_variable (get_or net.inputs j d))) at ∙ same-refl (input_variable (get_or net.inputs j d))))
+    (ap (is_same_name (input_variable (get_or net.inputs j d))) at ∙ same_name-self (input_variable (get_or net.inputs j d))))
 
 global-shown : (net : Netlist) (j : ℕ) (d : NetOut) → j < length net.outputs → is_among (output_variable (get_or net.outputs j d)) (net_globals net) ≡ true
 global-shown net j d h =
@@ -104,7 +105,7 @@ global-shown net j d h =
     let at : get_or (shown_variables net) j [] ≡ output_variable (get_or net.outputs j d) = get_or-map output_variable net.outputs j d [] h in
     among-right (output_variable (get_or net.outputs j d)) (given_variables net) (shown_variables net)
     (list_any_at (is_same_name (output_variable (get_or net.outputs j d))) (shown_variables net) j [] (omega arith)
-    (ap (is_same_name (output_variable (get_or net.outputs j d))) at ∙ same-refl (output_variable (get_or net.outputs j d))))
+    (ap (is_same_name (output_variable (get_or net.outputs j d))) at ∙ same_name-self (output_variable (get_or net.outputs j d))))
 
 -- an assignment whose target is declared and no input, and whose names are declared
 pub record Fits (names : List (List ℕ)) (a : Assign) : Type 0 where

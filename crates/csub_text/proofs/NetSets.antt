@@ -9,6 +9,7 @@ use Rattle.net_ir.specs.declared.netlist.Gate.{Gate}
 use Rattle.net_ir.specs.Gates.{operand_end}
 use Rattle.net_ir.specs.Netlists.{Netlist, first_gate, net_count}
 use Rattle.std.proofs.lemmas.List.{length-map, get_or-map, append-nil}
+use Rattle.est_base.proofs.SameNames.{same_name-self}
 use Rattle.csub_text.specs.Trees.{Expr, Name, Assign}
 use Rattle.net_ir.specs.NameLists.{is_among}
 use Rattle.csub_text.specs.Names.{names_in, unset, name_fault}
@@ -16,7 +17,7 @@ use Rattle.csub_text.specs.Written.{state_name, gate_name, next_name, answer_nam
 use Rattle.csub_text.specs.Written.{input_assign, gate_assign, next_assign, output_assign, answer_assign, state_assign, net_body, net_program}
 use Rattle.csub_text.proofs.NetNames.{marks-locals}
 use Rattle.net_ir.proofs.Numbered.{length-numbered, get_or-numbered}
-use Rattle.net_ir.proofs.NumberedNames.{differ-by, same-refl}
+use Rattle.net_ir.proofs.NumberedNames.{differ-by}
 use Rattle.net_ir.specs.Numbered.{numbered}
 use Rattle.net_ir.specs.Writing.{IsWritable}
 use Rattle.csub_text.proofs.NetRules.{Known, Covered, unset-covered, net_name-input, net_name-state, net_name-gate}
@@ -55,7 +56,7 @@ target-behind : (before : List (List ℕ)) (body : List Assign) (k : ℕ) (d : A
 unfolding targets-behind
 target-behind before [] k d h = absurd (omega arith)
 target-behind before (a ∷ body) zero d h =
-    among-behind (a.target ∷ before) body a.target (or_left (is_same_name a.target a.target) (is_among a.target before) (same-refl a.target))
+    among-behind (a.target ∷ before) body a.target (or_left (is_same_name a.target a.target) (is_among a.target before) (same_name-self a.target))
 target-behind before (a ∷ body) (suc k) d h = target-behind (a.target ∷ before) body k d (omega arith)
 
 -- assignments that read what is known before all of them
@@ -95,7 +96,7 @@ covered-gates net before n (g ∷ gates) rest answer named low known go =
             | inr last ↦
                 let e : m ≡ first_gate net + n = omega arith in
                 inr (ap (λ x. is_among x (target ∷ before)) (ap (net_name net) e ∙ here)
-                ∙ or_left (is_same_name target target) (is_among target before) (same-refl target))
+                ∙ or_left (is_same_name target target) (is_among target before) (same_name-self target))
           ])
           (λ all. go (λ m h. all m (omega arith))),
     )

@@ -3,10 +3,10 @@ use Rattle.std.proofs.Common.{◌≡◌, ℕ, ◌+◌, ◌*◌, ◌^◌, ◌<◌
 use Rattle.std.proofs.Common.{◌∙◌, subst, arith, length-append, All}
 use Rattle.std.specs.Prelude.{IfSome, codes, decimal, flat_map}
 use Rattle.std.specs.List.{sum_by}
-use Rattle.std.proofs.lemmas.Fmt.{length-decimal-le}
 use Rattle.std.proofs.lemmas.Grind.{flat_map-append}
 use Rattle.std.proofs.lemmas.List.Concat.{length-flat_map}
 use Rattle.std.proofs.lemmas.List.Sums.{sum_by-cons, sum_by-le}
+use Rattle.facts.proofs.Lists.{short-decimal}
 use Rattle.est_base.specs.declared.indices.WireId.{WireId}
 use Rattle.net_ir.specs.declared.netlist.Op.{Op}
 use Rattle.net_ir.specs.declared.netlist.Op.TheVariants as ops
@@ -18,12 +18,12 @@ use Rattle.net_ir.specs.Netlists.{Netlist, net_count, output_names}
 use Rattle.net_ir.specs.Numbered.{numbered}
 use Rattle.net_ir.specs.Writing.{IsWritable}
 use Rattle.net_ir.proofs.Numbered.{length-numbered, All-numbered}
+use Rattle.net_ir.proofs.Nets.{any_gate, net_cases}
 use Rattle.csub_text.specs.Trees.{Expr, Name}
 use Rattle.csub_text.specs.Written.{input_name, state_name, gate_name, next_name, answer_name, net_name, input_variable, output_variable, net_state, op_expr}
 use Rattle.csub_text.specs.Written.{input_assign, gate_assign, next_assign, output_assign, answer_assign, state_assign, gate_names, net_globals, net_locals}
 use Rattle.csub_text.specs.Written.{net_body, net_program, expr_text, line_end, state_line, declaration, assign_line, head_line, last_lines, written}
 use Rattle.csub_text.proofs.NetNames.{input_names, next_names}
-use Rattle.expr_text.proofs.Naming.{net_cases}
 use Rattle.csub_text.proofs.NetRules.{net_name-input, net_name-state, net_name-gate}
 
 -- ---- lines
@@ -49,9 +49,6 @@ length-lines line make xs most each =
 
 -- ---- names of nets
 
-short-decimal : (n : ℕ) → n < 2 ^ 32 → length (decimal n) ≤ 10
-short-decimal n low = length-decimal-le 10 n (omega arith) (omega arith) (omega arith)
-
 short-gate : (k : ℕ) (wire : Option WireId) → k < 2 ^ 32 → IfSome wire (λ w. w.0 < 2 ^ 32) → length (gate_name k wire) ≤ 11
 short-gate k None low fits = let few = short-decimal k low in omega arith
 short-gate k (Some wire) low fits = let few = short-decimal wire.0 fits in omega arith
@@ -74,9 +71,6 @@ length-operator word (ops.Or m n) bound short within =
 
 abbrev IsShort : List ℕ → Type 0
 IsShort name = length name ≤ 11
-
-any_gate : Gate
-any_gate = record { op = ops.Const false; wire = None }
 
 module _ (net : Netlist) (is : IsWritable net) where
   numbers : net_count net ≤ 2 ^ 32

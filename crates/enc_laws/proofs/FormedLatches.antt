@@ -17,6 +17,7 @@ use Rattle.grc_graph.specs.Selected.{HasExitCodes, IsState}
 use Rattle.grc_graph.specs.Selections.{well_formed}
 use Rattle.grc_graph.specs.SelectionTrees.{body_leaves, selecting}
 use Rattle.grc_graph.specs.Walk.{State, Initial, Selecting}
+use Rattle.grc_graph.proofs.StateForms.{states-are-formed}
 use Rattle.grc_sem.specs.GraphWalks.{SelectsLeaves}
 use Rattle.grc_sem.specs.Laws.{NextStateIsKept}
 use Rattle.grc_words.specs.Occasions.{Occasion, state_of}
@@ -26,7 +27,7 @@ use Rattle.net_ir.specs.Runs.{net_values, initial_latches, next_latches}
 use Rattle.state_enc.specs.Encodings.{SelectsWell}
 use Rattle.state_enc.specs.Meeting.{LatchesMeet}
 use Rattle.enc_laws.specs.Laws.{LatchesAreFormed}
-use Rattle.enc_laws.proofs.StateForms.{states-are-formed, nothing-is-formed}
+use Rattle.enc_laws.proofs.StateForms.{nothing-is-formed}
 
 -- what the values of the latches keep from instant to instant: they stand for a state of leaves
 record Kept (g : Graph) (p : Program) (boot : Bool) (bits : List Bool) : Type 0 where

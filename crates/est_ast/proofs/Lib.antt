@@ -7,9 +7,4 @@ pub mod OneLexing
 pub mod OneToken
 pub mod Rows
 pub mod FlatRows
-pub mod Spelled
-mod SpelledItems1
-mod SpelledItems2
-mod SpelledPrograms
-mod WorkedNestings
-mod WorkedTokens
+mod worked

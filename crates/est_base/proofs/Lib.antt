@@ -2,4 +2,7 @@ pub mod Bits
 pub mod Gains
 pub mod Room
 pub mod Contents
-mod Witnesses
+pub mod NoCodes
+pub mod SameNames
+pub mod Items
+mod worked

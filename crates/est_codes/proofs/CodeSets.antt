@@ -1,15 +1,7 @@
 -- The row of a sequence.
-use Rattle.std.proofs.Common.{◌≡◌, ℕ, zero, suc, ◌≤◌, Bool, true, false, ◌||◌, sym, ◌∙◌, arith}
-use Rattle.est_base.specs.Codes.{upto, either, except, maxima}
+use Rattle.std.proofs.Common.{◌≡◌, ℕ, Bool, true, false, ◌||◌, sym, ◌∙◌}
+use Rattle.est_base.specs.Codes.{either, except, maxima}
 use Rattle.est_kernel.specs.StaticCodes.{codes_if, has_code, branch_codes}
-
--- a set has no code up to k where it has none of them
-pub upto-none : (A : ℕ → Bool) (k : ℕ) → ((j : ℕ) → j ≤ k → A j ≡ false) → upto A k ≡ false
-upto-none A zero h = h 0 (omega arith)
-upto-none A (suc k) h =
-    let below : upto A k ≡ false = upto-none A k (λ j l. h j (omega arith)) in
-    let last : A (suc k) ≡ false = h (suc k) (omega arith) in
-    rw below last
 
 -- the codes of a resumed sequence, from those of its parts
 pub resumed_sequence : (S D T E W H N U R : ℕ → Bool) (ends : Bool)

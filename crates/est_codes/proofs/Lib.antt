@@ -2,4 +2,4 @@ pub mod LeastPlaces
 pub mod Listings
 pub mod ExitCodes
 pub mod CodeSets
-mod WorkedLoops
+mod worked

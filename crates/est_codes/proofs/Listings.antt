@@ -1,8 +1,8 @@
 -- A statement's entry is put before those of its parts.
 use Rattle.std.proofs.Common.{◌≡◌, ◌<◌, List, [], ◌∷◌, ◌++◌, length, drop, map, refl, sym, ap, ◌∙◌, subst, arith, append_assoc, length-append}
 use Rattle.std.proofs.Math.ListN.{set}
-use Rattle.std.proofs.Math.Seq.{set-append_seam}
-use Rattle.std.proofs.lemmas.List.{map-set, map-append, length-map}
+use Rattle.std.proofs.lemmas.List.{map-append, length-map}
+use Rattle.facts.proofs.Lists.{map-set-append}
 use Rattle.est_base.specs.CodeSet.{members}
 use Rattle.est_kernel.specs.Terms.{Term, Nothing, Pause, Emit, Exit, Present, Suspend, Seq, Loop, Par, Trap, Local, Awake}
 use Rattle.est_kernel.specs.StaticCodes.{started_codes, resumed_codes, instant_loops}
@@ -11,17 +11,6 @@ use Rattle.est_codes.specs.declared.entries.Entry.{Entry}
 use Rattle.est_codes.specs.declared.walk.Found.{Found}
 use Rattle.est_codes.specs.Entries.{HasCodesOf, Lists, ListsParts}
 use Rattle.est_codes.specs.Faults.{IsLeast}
-
--- what was appended behind a place, once the place is written
-map-set-append : {A B : Type 0} (f : A → B) (old end : List A) (x y : A) (rest : List B)
-    → map f end ≡ map f (old ++ x ∷ []) ++ rest
-    → map f (set end (length old) y) ≡ map f old ++ f y ∷ rest
-map-set-append f old end x y rest e =
-    map-set f end (length old) y
-    ∙ ap (λ l. set l (length old) (f y))
-    (e ∙ ap (λ l. l ++ rest) (map-append f old (x ∷ [])) ∙ append_assoc (map f old) (f x ∷ []) rest)
-    ∙ ap (λ n. set (map f old ++ f x ∷ rest) n (f y)) (sym (length-map old f))
-    ∙ set-append_seam (map f old) (f x) rest (f y)
 
 -- the place of a statement lies before the entries of its parts
 at_in : {A B : Type 0} (f : A → B) (old end : List A) (x : A) (rest : List B)

@@ -5,6 +5,7 @@ use Rattle.std.specs.Option.{option_or}
 use Rattle.std.specs.declared.alloc.Global.{Global}
 use Rattle.std.specs.declared.boxed.Box.{Box}
 use Rattle.std.specs.declared.vec.Vec.{Vec}
+use Rattle.facts.proofs.Lists.{drop-at}
 use Rattle.est_base.specs.declared.indices.SigId.{SigId}
 use Rattle.est_base.specs.declared.place.Span.{Span}
 use Rattle.est_ast.specs.declared.flat.FlatCase.{FlatCase, FlatCase', FlatCase-body-None', FlatCase-body-Some', out-FlatCase}
@@ -15,10 +16,10 @@ use Rattle.est_ast.specs.declared.flat.FlatForm.TheVariants as forms
 use Rattle.est_ast.specs.declared.flat.FlatStmt.{FlatStmt}
 use Rattle.est_ast.specs.FlatViews.{flat_delay_of, flat_stmt_of, flat_case_of, flat_part_of, flat_body_of}
 use Rattle.est_ast.proofs.FlatRows.{flat_form-Seq, flat_form-Par, flat_form-AwaitCase, flat_form-PresentCase, flat_form-AbortCase}
-use Rattle.est_dismantle.proofs.Lists.{drop-at}
 use Rattle.est_dismantle.specs.Counts.{bad_count, bad_in_delay, bad_in, bad_in_form, bad_in_part, bad_in_stmts, bad_in_cases}
 use Rattle.est_dismantle.specs.FlatNodes.{first_place, bad_of_count, bad_of_delay, bad_of_stmt, bad_of_form, bad_of_part, bad_of_stmts, bad_of_cases}
 use Rattle.est_dismantle.specs.FlatNodes.{bad_of_case}
+use Rattle.est_dismantle.proofs.Found.{none-some, some-same}
 
 pub first-append : (a b : List Span) → first_place (a ++ b) ≡ option_or (first_place a) (first_place b)
 first-append [] b = refl
@@ -165,12 +166,6 @@ bad-Immediate e = refl
 pub bad-Count : (count : ℕ) (span : Span) (e : FlatExpr) → bad_of_delay (delays.Count count span e) ≡ bad_of_count count span
 unfolding bad_of_delay bad_of_count
 bad-Count count span e = refl
-
-none-some : (p : FlatStmt) → None ≡ Some p → ⊥
-none-some p h = cc
-
-some-same : (p q : FlatStmt) → Some p ≡ Some q → p ≡ q
-some-same p q h = cc
 
 pub bad-case_missing : (c : FlatCase) → (out-FlatCase c).body ≡ None → bad_of_case c ≡ None
 unfolding bad_of_case out-FlatCase denote.Hole.Carrier.out

@@ -1,8 +1,9 @@
 -- Inner: what some derived statements do, on steps.
-use Rattle.std.proofs.Common.{◌≡◌, ◌⊎◌, inl, inr, ℕ, zero, suc, ◌+◌, ◌<◌, ◌≤◌, ◌==◌, ◌||◌, max, Bool, true, false, cond, List, [], ◌∷◌, Option, Some, None}
+use Rattle.std.proofs.Common.{◌≡◌, ◌⊎◌, inl, inr, ℕ, ◌+◌, ◌<◌, ◌≤◌, ◌==◌, ◌||◌, max, Bool, true, false, cond, List, [], ◌∷◌, Option, Some, None}
 use Rattle.std.proofs.Common.{refl, sym, ◌∙◌, ap, subst, arith}
 use Rattle.std.proofs.lemmas.Bool.{eqb-true, eqb-false}
 use Rattle.std.specs.Prelude.{option_and_then}
+use Rattle.facts.proofs.Tests.{or-false}
 use Rattle.est_base.specs.declared.place.Span.{Span}
 use Rattle.est_kernel.specs.Laws.{left_by_step, left_after}
 use Rattle.est_kernel.specs.Statuses.{Status, Plus, Minus, Unknown, Environment, value}
@@ -10,6 +11,8 @@ use Rattle.est_kernel.specs.Steps.{Step, ended, left_by, leaving, leaves, chosen
 use Rattle.est_kernel.specs.Steps.{step}
 use Rattle.est_kernel.specs.Terms as terms
 use Rattle.est_kernel.specs.Terms.{Term, Expression}
+use Rattle.est_kernel.proofs.ResidualLaws.{left_whole, trap_code-one}
+use Rattle.est_kernel.proofs.StepLaws.{same_step}
 use Rattle.est_ast.specs.FlatTrees.{Expr, Plain, Immediate, Stmt, At, Await, Abort, Repeat, Sustain, LoopEach, Seq, Missing, Written, NoStmts, MoreStmts}
 use Rattle.est_dismantle.specs.Kernels.{Marks, expression, halting, watching, aborting, kernel}
 use Rattle.est_ast.specs.NewSignals.{new_by, new_in}
@@ -60,10 +63,6 @@ two-copies = record {
 abbrev sustaining : Span → ℕ → Term
 sustaining at s = terms.Loop at (terms.Seq (terms.Emit s) terms.Pause)
 
-or-right : (b : Bool) → (b || false) ≡ b
-or-right true = refl
-or-right false = refl
-
 -- the term at its start and later
 data Stays (at : Span) (s : ℕ) (r : Term) : Type 0 where
   Starts : (is : r ≡ sustaining at s) → Stays at s r
@@ -86,7 +85,7 @@ stays-after at s r (E ∷ rest) h =
 pub sustained-signals : SustainedSignalsStay
 sustained-signals marks x at s instants E =
     let found = stays-after at s (sustaining at s) instants (Starts refl) in
-    (found.0, sustained at s, found.1, stays-step at s found.0 E found.2, record { signals = λ t. or-right (t == s); pauses = refl })
+    (found.0, sustained at s, found.1, stays-step at s found.0 E found.2, record { signals = λ t. or-false (t == s); pauses = refl })
 
 -- ---- loop p each e
 
@@ -96,12 +95,6 @@ record Paused (f : Term → Term) (o : Option Step) (a : Step) : Type 0 where
   is : o ≡ Some part
   code : part.code ≡ 1
   residual : a.residual ≡ f part.residual
-
-left-one : (c : ℕ) (r : Term) → c ≡ 1 → left_by c r ≡ r
-left-one c r h = ap (λ k. left_by k r) h
-
-same-step : (a b : Step) → Some a ≡ Some b → a ≡ b
-same-step a b h = cc
 
 same-term : (a b : Term) → Some a ≡ Some b → a ≡ b
 same-term a b h = cc
@@ -118,35 +111,29 @@ loop-paused whole (Some b) a h one = go (b.code == 0) refl where
   go : (t : Bool) → (b.code == 0) ≡ t → Paused (λ r. terms.Seq r whole) (Some b) a
   go true e = absurd (no-step a (ap (λ u. cond u None (Some (leaving (λ r. terms.Seq r whole) b))) (sym e) ∙ h))
   go false e =
-      let same = same-step (leaving (λ r. terms.Seq r whole) b) a (ap (λ u. cond u None (Some (leaving (λ r. terms.Seq r whole) b))) (sym e) ∙ h) in
+      let same = same_step (leaving (λ r. terms.Seq r whole) b) a (ap (λ u. cond u None (Some (leaving (λ r. terms.Seq r whole) b))) (sym e) ∙ h) in
       let code : b.code ≡ 1 = ap (λ (s : Step). s.code) same ∙ one in
-      record { part = b; is = refl; code = code; residual = sym (ap (λ (s : Step). s.residual) same) ∙ left-one b.code (terms.Seq b.residual whole) code }
-
-trap-one : (c : ℕ) → trap_code c ≡ 1 → c ≡ 1
-trap-one zero h = absurd (omega (arith, h))
-trap-one (suc zero) h = refl
-trap-one (suc (suc zero)) h = absurd (omega (arith, h))
-trap-one (suc (suc (suc k))) h = absurd (omega (arith, h))
+      record { part = b; is = refl; code = code; residual = sym (ap (λ (s : Step). s.residual) same) ∙ left_whole b.code (terms.Seq b.residual whole) code }
 
 trap-paused : (o : Option Step) (a : Step) → trap_step o ≡ Some a → a.code ≡ 1 → Paused terms.Trap o a
 trap-paused None a h one = absurd (no-step a h)
 trap-paused (Some b) a h one =
-    let same = same-step (record { emitted = b.emitted; code = trap_code b.code; residual = left_by (trap_code b.code) (terms.Trap b.residual) }) a h in
+    let same = same_step (record { emitted = b.emitted; code = trap_code b.code; residual = left_by (trap_code b.code) (terms.Trap b.residual) }) a h in
     let code : trap_code b.code ≡ 1 = ap (λ (s : Step). s.code) same ∙ one in
     record {
       part = b;
       is = refl;
-      code = trap-one b.code code;
+      code = trap_code-one b.code code;
       residual = sym (ap (λ (s : Step). s.residual) same)
-          ∙ left-one (trap_code b.code) (terms.Trap b.residual) code;
+          ∙ left_whole (trap_code b.code) (terms.Trap b.residual) code;
     }
 
 leaves-paused : (f : Term → Term) (o : Option Step) (a : Step) → leaves f o ≡ Some a → a.code ≡ 1 → Paused f o a
 leaves-paused f None a h one = absurd (no-step a h)
 leaves-paused f (Some b) a h one =
-    let same = same-step (leaving f b) a h in
+    let same = same_step (leaving f b) a h in
     let code : b.code ≡ 1 = ap (λ (s : Step). s.code) same ∙ one in
-    record { part = b; is = refl; code = code; residual = sym (ap (λ (s : Step). s.residual) same) ∙ left-one b.code (f b.residual) code }
+    record { part = b; is = refl; code = code; residual = sym (ap (λ (s : Step). s.residual) same) ∙ left_whole b.code (f b.residual) code }
 
 record BothPaused (o q : Option Step) (a : Step) : Type 0 where
   left : Step
@@ -161,7 +148,7 @@ parallel-paused : (o q : Option Step) (a : Step) → parallel_step o q ≡ Some 
 parallel-paused None q a h one = absurd (no-step a h)
 parallel-paused (Some b) None a h one = absurd (no-step a h)
 parallel-paused (Some b) (Some c) a h one =
-    let same = same-step (record {
+    let same = same_step (record {
       emitted = λ t. b.emitted t || c.emitted t;
       code = max b.code c.code;
       residual = left_by (max b.code c.code) (terms.Par b.residual c.residual);
@@ -174,7 +161,7 @@ parallel-paused (Some b) (Some c) a h one =
       is_right = refl;
       left_code = omega (arith, code);
       right_code = omega (arith, code);
-      residual = sym (ap (λ (s : Step). s.residual) same) ∙ left-one (max b.code c.code) (terms.Par b.residual c.residual) code;
+      residual = sym (ap (λ (s : Step). s.residual) same) ∙ left_whole (max b.code c.code) (terms.Par b.residual c.residual) code;
     }
 
 -- before an exit: the first part paused
@@ -185,11 +172,11 @@ exit-paused (Some b) a h low = go (b.code == 0) refl where
   go : (t : Bool) → (b.code == 0) ≡ t → Paused (λ r. terms.Seq r (terms.Exit 2)) (Some b) a
   go true e =
       let two = ap (λ u. cond u (then_step b (Some (ended 2))) (Some (leaving (λ r. terms.Seq r (terms.Exit 2)) b))) (sym e) ∙ h in
-      let same = same-step (record { emitted = λ t. b.emitted t || false; code = 2; residual = terms.Nothing }) a two in
+      let same = same_step (record { emitted = λ t. b.emitted t || false; code = 2; residual = terms.Nothing }) a two in
       let code : 2 ≡ a.code = ap (λ (s : Step). s.code) same in absurd (omega (arith, code, low))
   go false e =
       let on = ap (λ u. cond u (then_step b (Some (ended 2))) (Some (leaving (λ r. terms.Seq r (terms.Exit 2)) b))) (sym e) ∙ h in
-      let same = same-step (leaving (λ r. terms.Seq r (terms.Exit 2)) b) a on in
+      let same = same_step (leaving (λ r. terms.Seq r (terms.Exit 2)) b) a on in
       let below : b.code ≡ a.code = ap (λ (s : Step). s.code) same in
       let some : b.code ≡ 0 → ⊥ = eqb-false b.code 0 e in
       let code : b.code ≡ 1 = omega (arith, below, low, some) in
@@ -198,7 +185,7 @@ exit-paused (Some b) a h low = go (b.code == 0) refl where
         is = refl;
         code = code;
         residual = sym (ap (λ (s : Step). s.residual) same)
-            ∙ left-one b.code (terms.Seq b.residual (terms.Exit 2)) code;
+            ∙ left_whole b.code (terms.Seq b.residual (terms.Exit 2)) code;
       }
 
 -- a sequence: the first part paused, or it ended and the second part paused
@@ -214,15 +201,15 @@ sequence-paused q (Some b) s a h one = go (b.code == 0) refl where
   ended-then : (s : Option Step) → then_step b s ≡ Some a → WentOn s a
   ended-then None g = absurd (no-step a g)
   ended-then (Some c) g =
-      let same = same-step (record { emitted = λ t. b.emitted t || c.emitted t; code = c.code; residual = c.residual }) a g in
+      let same = same_step (record { emitted = λ t. b.emitted t || c.emitted t; code = c.code; residual = c.residual }) a g in
       record { second = c; is = refl; code = ap (λ (x : Step). x.code) same ∙ one; residual = sym (ap (λ (x : Step). x.residual) same) }
 
   go : (t : Bool) → (b.code == 0) ≡ t → Paused (λ r. terms.Seq r q) (Some b) a ⊎ WentOn s a
   go true e = inr (ended-then s (ap (λ u. cond u (then_step b s) (Some (leaving (λ r. terms.Seq r q) b))) (sym e) ∙ h))
   go false e =
-      let same = same-step (leaving (λ r. terms.Seq r q) b) a (ap (λ u. cond u (then_step b s) (Some (leaving (λ r. terms.Seq r q) b))) (sym e) ∙ h) in
+      let same = same_step (leaving (λ r. terms.Seq r q) b) a (ap (λ u. cond u (then_step b s) (Some (leaving (λ r. terms.Seq r q) b))) (sym e) ∙ h) in
       let code : b.code ≡ 1 = ap (λ (x : Step). x.code) same ∙ one in
-      inl (record { part = b; is = refl; code = code; residual = sym (ap (λ (x : Step). x.residual) same) ∙ left-one b.code (terms.Seq b.residual q) code })
+      inl (record { part = b; is = refl; code = code; residual = sym (ap (λ (x : Step). x.residual) same) ∙ left_whole b.code (terms.Seq b.residual q) code })
 
 -- the loop of a term, what watches in it later, and what is left of it when the term went on as p
 abbrev each : Span → Expression → Term → Term
@@ -261,7 +248,7 @@ first-left at e p E a h one =
       body = k.part.residual;
       is = put-together at e whole a l.part t.part d.part b.left.residual b.right.residual k.part.residual l.residual t.residual b.residual d.residual
           k.residual
-          (sym (ap (λ (s : Step). s.residual) (same-step (watched at e) b.right b.is_right)));
+          (sym (ap (λ (s : Step). s.residual) (same_step (watched at e) b.right b.is_right)));
     }
 
 -- the two branches later, by the event's value
@@ -277,7 +264,7 @@ branches-left : (at : Span) (e : Expression) (whole p : Term) (o : Option Step) 
 branches-left at e whole p o Plus a b c h one outer trap =
     let k = parallel-paused (Some (record { emitted = λ t. false; code = 1; residual = terms.Seq (terms.Awake e p) (terms.Exit 2) }))
     (Some (ended 2)) c h one in
-    let two : 2 ≡ k.right.code = ap (λ (s : Step). s.code) (same-step (ended 2) k.right k.is_right) in absurd (omega (arith, two, k.right_code))
+    let two : 2 ≡ k.right.code = ap (λ (s : Step). s.code) (same_step (ended 2) k.right k.is_right) in absurd (omega (arith, two, k.right_code))
 branches-left at e whole p o Unknown a b c h one outer trap = absurd (no-step c h)
 branches-left at e whole p o Minus a b c h one outer trap =
     let body = sequence_step (terms.Exit 2) (leaves (λ r. terms.Awake e r) o) (Some (ended 2)) in
@@ -287,7 +274,7 @@ branches-left at e whole p o Minus a b c h one outer trap =
     record {
       body = m.part.residual;
       is = put-together at e whole a b c d.part k.left.residual k.right.residual m.part.residual outer trap k.residual d.residual m.residual
-          (sym (ap (λ (s : Step). s.residual) (same-step (watched at e) k.right k.is_right)));
+          (sym (ap (λ (s : Step). s.residual) (same_step (watched at e) k.right k.is_right)));
     }
 
 later-left : (at : Span) (e : Expression) (p q : Term) (E : Environment) (a : Step) → step (resumed at e (each at e p) q) E ≡ Some a → a.code ≡ 1 →

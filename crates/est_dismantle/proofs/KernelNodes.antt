@@ -6,6 +6,7 @@ use Rattle.std.proofs.lemmas.Bool.{le-leb, lt-leb}
 use Rattle.std.specs.declared.alloc.Global.{Global}
 use Rattle.std.specs.declared.boxed.Box.{Box}
 use Rattle.std.specs.declared.vec.Vec.{Vec}
+use Rattle.facts.proofs.Lists.{drop-at}
 use Rattle.est_base.specs.declared.indices.SigId.{SigId}
 use Rattle.est_base.specs.declared.place.Span.{Span}
 use Rattle.est_kernel.specs.Terms as terms
@@ -29,7 +30,7 @@ use Rattle.est_dismantle.specs.Kernels.{awaiting_delay, aborting, abortion, abor
 use Rattle.est_dismantle.specs.Kernels.{locals, kernel, kernel_of_form, part, kernels, chosen}
 use Rattle.est_ast.specs.NewSignals.{new_by, new_in, new_in_form, new_in_part, new_in_stmts, new_in_cases}
 use Rattle.est_dismantle.proofs.Exits.{marks-Whole, marks-Source, marks-New}
-use Rattle.est_dismantle.proofs.Lists.{drop-at}
+use Rattle.est_dismantle.proofs.Found.{none-some, some-same}
 
 -- ---- tests
 
@@ -403,12 +404,6 @@ cases-new_none = refl
 pub cases-new_more : (c : FlatCase) (l : List FlatCase) → cases_new (c ∷ l) ≡ case_new c + cases_new l
 unfolding cases_new case_new
 cases-new_more c l = refl
-
-none-some : (p : FlatStmt) → None ≡ Some p → ⊥
-none-some p h = cc
-
-some-same : (p q : FlatStmt) → Some p ≡ Some q → p ≡ q
-some-same p q h = cc
 
 pub case-missing : (marks : Marks) (x : ℕ) (c : FlatCase) → (out-FlatCase c).body ≡ None →
     case_choice marks x c ≡ (event_test (out-FlatCase c).event, terms.Nothing)

@@ -1,7 +1,6 @@
 pub mod Abortions
 pub mod BadCounts
 pub mod DerivedLaws
-mod Equations
 pub mod Exits
 pub mod Expanded
 pub mod Fitting
@@ -11,3 +10,5 @@ pub mod Lists
 pub mod Measured
 pub mod MeasuredNodes
 pub mod WholePrograms
+pub mod Found
+mod worked

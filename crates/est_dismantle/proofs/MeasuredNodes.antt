@@ -6,6 +6,7 @@ use Rattle.std.proofs.Math.ListN.{drop_of_length-le}
 use Rattle.std.specs.declared.alloc.Global.{Global}
 use Rattle.std.specs.declared.boxed.Box.{Box}
 use Rattle.std.specs.declared.vec.Vec.{Vec}
+use Rattle.facts.proofs.Lists.{drop-at}
 use Rattle.est_base.specs.declared.indices.SigId.{SigId}
 use Rattle.est_base.specs.declared.place.Span.{Span}
 use Rattle.est_kernel.specs.Terms as terms
@@ -28,7 +29,7 @@ use Rattle.est_dismantle.specs.Kernels.{nested, expression, expressions, events,
 use Rattle.est_dismantle.specs.Measures.{Measures, test_measures, leaf, over, trapped, joined, tested, copied, raised, awaited, awaited_delay, aborted}
 use Rattle.est_dismantle.specs.Measures.{aborted_later, tested_first, abortion_measures, handled_measures, each_measures, each_later_measures, weakly_measures}
 use Rattle.est_dismantle.specs.Measures.{suspension_measures, kernel_measures, form_measures, part_measures, stmts_measures, cases_measures}
-use Rattle.est_dismantle.proofs.Lists.{drop-at}
+use Rattle.est_dismantle.proofs.Found.{none-some, some-same}
 
 pub along : (x : Extent) (m n : Measures) → n ≡ m → IsExtent x m → IsExtent x n
 along x m n is h = subst (IsExtent x) (sym is) h
@@ -379,12 +380,6 @@ chosen_in x l k r is h = subst (λ s. IsExtent x (chosen_measures s r)) is h
 
 pub event_of : (x : Extent) (c d : FlatCase) → c ≡ d → IsExtent x (event_measures (out-FlatCase c).event) → IsExtent x (event_measures (out-FlatCase d).event)
 event_of x c d is h = subst (λ e. IsExtent x (event_measures (out-FlatCase e).event)) is h
-
-none-some : (p : FlatStmt) → None ≡ Some p → ⊥
-none-some p h = cc
-
-some-same : (p q : FlatStmt) → Some p ≡ Some q → p ≡ q
-some-same p q h = cc
 
 pub case-missing : (c : FlatCase) → (out-FlatCase c).body ≡ None → case_measures c ≡ leaf
 unfolding case_measures out-FlatCase denote.Hole.Carrier.out

@@ -9,10 +9,10 @@ use Rattle.est_base.specs.Names.{is_same_name}
 use Rattle.est_base.specs.Distinct.{all_differ}
 use Rattle.est_ast.specs.declared.trees.Name.{Name}
 use Rattle.est_ast.specs.Trees.{Decl, Input, InputOutput, Output, Relations}
-use Rattle.est_names.specs.declared.refusal.NameFault.{NameFault}
 use Rattle.est_names.specs.declared.refusal.NameFault.TheVariants.{DuplicateSignal}
 use Rattle.est_names.specs.Names.{texts, is_among}
 use Rattle.est_names.specs.NameFaults.{again, declared_in, related_in, not_given, decl_faults}
+use Rattle.est_names.proofs.FaultlessModules.{nothing_before}
 use Rattle.est_expand.specs.Scopes.{inputs_in, both_in, outputs_in}
 
 -- how often a name stands in a list
@@ -54,10 +54,6 @@ all_differ-once (n ∷ names) once =
     ap (λ b. not b && all_differ is_same_name names) out ∙ all_differ-once names (λ name. omega (arith, once name))
 
 -- ---- declarations
-
-nothing_before : (xs ys : List NameFault) → xs ++ ys ≡ [] → (xs ≡ []) × (ys ≡ [])
-nothing_before [] ys none = (refl, none)
-nothing_before (x ∷ xs) ys none = absurd (cc)
 
 -- one more name, which is none of those before
 once_more : (before : List (List ℕ)) (new : List ℕ) → is_among new before ≡ false → AtMostOnce before → AtMostOnce (before ++ new ∷ [])

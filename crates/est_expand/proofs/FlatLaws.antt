@@ -12,6 +12,8 @@ use Rattle.std.proofs.Math.Seq.{take-length}
 use Rattle.std.proofs.lemmas.List.{map-append, take-append-le}
 use Rattle.std.proofs.lemmas.List.Elements.{All-append, All-nil, All-cons, All-map}
 use Rattle.std.proofs.lemmas.List.Folds.{list_any-append}
+use Rattle.facts.proofs.Lists.{Every, all-of-every, every-append}
+use Rattle.facts.proofs.Tests.{or-swapped}
 use Rattle.est_base.specs.declared.bounds.TheConstants.Limits.{SIGNALS, DEPTH}
 use Rattle.est_base.specs.Distinct.{all_differ}
 use Rattle.est_base.specs.Names.{is_name, is_same_name}
@@ -94,11 +96,6 @@ or_first : (a i b : Bool) → (a || (i || b)) ≡ ((a || i) || b)
 or_first true i b = refl
 or_first false i b = refl
 
-or_second : (a i b : Bool) → (a || (i || b)) ≡ (i || (a || b))
-or_second true true b = refl
-or_second true false b = refl
-or_second false i b = refl
-
 among_texts : (name : List ℕ) (names others : List Name) → is_among name (texts (names ++ others)) ≡
     (is_among name (texts names) || is_among name (texts others))
 among_texts name names others = ap (is_among name) (map-append (λ n. n.text) names others) ∙ list_any-append (is_same_name name) (texts names) (texts others)
@@ -113,7 +110,7 @@ given_among name (Input names ∷ decls) =
     ∙ ap (λ b. b || is_among name (flat_map both_in decls)) (sym (list_any-append (is_same_name name) (texts names) (flat_map inputs_in decls)))
 given_among name (InputOutput names ∷ decls) =
     among_texts name names (flat_map given_in decls) ∙ ap (λ b. is_among name (texts names) || b) (given_among name decls)
-    ∙ or_second (is_among name (texts names)) (is_among name (flat_map inputs_in decls)) (is_among name (flat_map both_in decls))
+    ∙ or-swapped (is_among name (texts names)) (is_among name (flat_map inputs_in decls)) (is_among name (flat_map both_in decls))
     ∙ ap (λ b. is_among name (flat_map inputs_in decls) || b) (sym (list_any-append (is_same_name name) (texts names) (flat_map both_in decls)))
 given_among name (Output names ∷ decls) = given_among name decls
 given_among name (Relations relations ∷ decls) = given_among name decls
@@ -143,19 +140,7 @@ main_scope-given i name there = by (is_among name i.inputs) refl there
 
 -- ---- relations
 
-abbrev Each : {X : Type 0} → (X → Type 0) → List X → Type 0
-Each P [] = Unit {0}
-Each P (x ∷ xs) = P x × Each P xs
-
-All-each : {X : Type 0} (P : X → Type 0) (xs : List X) → Each P xs → All P xs
-All-each P [] each = All-nil P
-All-each P (x ∷ xs) each = All-cons P x xs each.0 (All-each P xs each.1)
-
-each-append : {X : Type 0} (P : X → Type 0) (xs ys : List X) → Each P xs → Each P ys → Each P (xs ++ ys)
-each-append P [] ys each others = others
-each-append P (x ∷ xs) ys each others = (each.0, each-append P xs ys each.1 others)
-
-each-split : {X : Type 0} (P : X → Type 0) (xs ys : List X) → Each P (xs ++ ys) → Each P xs × Each P ys
+each-split : {X : Type 0} (P : X → Type 0) (xs ys : List X) → Every P (xs ++ ys) → Every P xs × Every P ys
 each-split P [] ys each = (tt, each)
 each-split P (x ∷ xs) ys each = let (here, others) = each-split P xs ys each.1 in ((each.0, here), others)
 
@@ -166,7 +151,7 @@ nothing_before (x ∷ xs) ys is = absurd (cc)
 abbrev Among : List (List ℕ) → Name → Type 0
 Among given name = is_among name.text given ≡ true
 
-each_given : (given : List (List ℕ)) (names : List Name) → not_given given names ≡ [] → Each (Among given) names
+each_given : (given : List (List ℕ)) (names : List Name) → not_given given names ≡ [] → Every (Among given) names
 each_given given [] none = tt
 each_given given (name ∷ names) none =
     let (here, others) = nothing_before (if is_among name.text given then [] else RelationName name.span ∷ []) (not_given given names) none in
@@ -177,16 +162,16 @@ each_given given (name ∷ names) none =
     by false none = absurd (cc)
 
 abbrev NamesAmong : List (List ℕ) → Relation → Type 0
-NamesAmong given r = Each (Among given) (names_of_relation r)
+NamesAmong given r = Every (Among given) (names_of_relation r)
 
-each_relation : (given : List (List ℕ)) (rs : List Relation) → Each (Among given) (flat_map names_of_relation rs) → Each (NamesAmong given) rs
+each_relation : (given : List (List ℕ)) (rs : List Relation) → Every (Among given) (flat_map names_of_relation rs) → Every (NamesAmong given) rs
 each_relation given [] each = tt
 each_relation given (r ∷ rs) each =
     let (here, others) = each-split (Among given) (names_of_relation r) (flat_map names_of_relation rs) each in
     (here, each_relation given rs others)
 
 relations_among : (given before : List (List ℕ)) (decls : List Decl) → decl_faults given before decls ≡ [] →
-    Each (NamesAmong given) (flat_map relations_in decls)
+    Every (NamesAmong given) (flat_map relations_in decls)
 relations_among given before [] none = tt
 relations_among given before (decl ∷ decls) none =
     let (_, behind) = nothing_before (again DuplicateSignal before (declared_in decl))
@@ -194,13 +179,13 @@ relations_among given before (decl ∷ decls) none =
     let (here, others) = nothing_before (not_given given (related_in decl)) (decl_faults given (before ++ texts (declared_in decl)) decls) behind in
     by decl here (relations_among given (before ++ texts (declared_in decl)) decls others)
   where
-    by : (d : Decl) → not_given given (related_in d) ≡ [] → Each (NamesAmong given) (flat_map relations_in decls) →
-        Each (NamesAmong given) (relations_in d ++ flat_map relations_in decls)
+    by : (d : Decl) → not_given given (related_in d) ≡ [] → Every (NamesAmong given) (flat_map relations_in decls) →
+        Every (NamesAmong given) (relations_in d ++ flat_map relations_in decls)
     by (Input names) none others = others
     by (InputOutput names) none others = others
     by (Output names) none others = others
     by (Relations rs) none others =
-        each-append (NamesAmong given) rs (flat_map relations_in decls) (each_relation given rs (each_given given (flat_map names_of_relation rs) none)) others
+        every-append (NamesAmong given) rs (flat_map relations_in decls) (each_relation given rs (each_given given (flat_map names_of_relation rs) none)) others
 
 -- a relation of given names is one of given signals
 module _ (main : Module) where
@@ -218,15 +203,15 @@ module _ (main : Module) where
       let (m, is, low) = main_scope-given shown name.text (sym (given_among name.text main.decls) ∙ among) in
       subst (λ found. option_map_or (λ s. s.signal) found 0 < bound) (sym is) low
 
-  related-all : (names : List Name) → Each (Among given) names → Each (λ s. s < bound) (map (related (main_scope shown)) names)
+  related-all : (names : List Name) → Every (Among given) names → Every (λ s. s < bound) (map (related (main_scope shown)) names)
   related-all [] each = tt
   related-all (name ∷ names) each = (related-below name each.0, related-all names each.1)
 
   relation-given : (r : Relation) → NamesAmong given r → RelatesGiven bound (relation_in (main_scope shown) r)
   relation-given (Implies cause effect) each = (related-below cause each.0, related-below effect each.1.0)
-  relation-given (Excludes names) each = All-each (λ s. s < bound) (map (related (main_scope shown)) names) (related-all names each)
+  relation-given (Excludes names) each = all-of-every (λ s. s < bound) (map (related (main_scope shown)) names) (related-all names each)
 
-  relations-given : (rs : List Relation) → Each (NamesAmong given) rs → All (RelatesGiven bound) (map (relation_in (main_scope shown)) rs)
+  relations-given : (rs : List Relation) → Every (NamesAmong given) rs → All (RelatesGiven bound) (map (relation_in (main_scope shown)) rs)
   relations-given [] each = All-nil (RelatesGiven bound)
   relations-given (r ∷ rs) each =
       All-cons (RelatesGiven bound) (relation_in (main_scope shown) r) (map (relation_in (main_scope shown)) rs) (relation-given r each.0)

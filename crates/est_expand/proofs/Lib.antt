@@ -7,10 +7,6 @@ pub mod RunSteps
 pub mod TrapPlaces
 pub mod FoundLists
 pub mod ScopeTables
-pub mod FlatForms
 pub mod SameNames
 pub mod SameWalks
-mod WorkedPrograms
-mod FaultOrders
-mod DrawnPrograms
-mod RenamedPrograms
+mod worked

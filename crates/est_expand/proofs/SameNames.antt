@@ -5,9 +5,10 @@ use Rattle.std.specs.Prelude.{not, find, if◌then◌else◌, is_some}
 use Rattle.std.specs.Option.{option_map, option_or}
 use Rattle.std.specs.List.{list_all}
 use Rattle.std.specs.Cmp.Lexicographic.{nat_list_eq_equiv}
-use Rattle.std.proofs.lemmas.Slice.Eq.{bytes_eq-Decides}
+use Rattle.std.proofs.lemmas.Bool.{or_left}
 use Rattle.est_base.specs.declared.place.Span.{Span}
 use Rattle.est_base.specs.Names.{is_same_name}
+use Rattle.est_base.proofs.SameNames.{same_name-is}
 use Rattle.est_ast.specs.declared.trees.Name.{Name}
 use Rattle.est_ast.specs.declared.trees.Rename.{Rename}
 use Rattle.est_ast.specs.FlatTrees as flat
@@ -61,9 +62,6 @@ if-both R false true r s f g fault is same = absurd (cc)
 if-both R false false r s f g fault is same = fault
 
 -- ---- names
-
-same_name-is : (a b : List ℕ) → is_same_name a b ≡ true → a ≡ b
-same_name-is a b is = (bytes_eq-Decides a b).0 is
 
 -- the nearest binders of two names that are the same: both or none
 pair_alike : (p q rest : Bool) → (if p || q then p && q else rest) ≡ true → p ≡ q
@@ -358,10 +356,6 @@ formal_means : (o s t : Option Meaning) (c d : Bool) → (c || d) ≡ true → (
 formal_means (Some k) s t c d either given here = refl
 formal_means None s t true d either given here = let no : false ≡ true = given refl in absurd (cc)
 formal_means None s t false d either given here = here either
-
-or_left : (a b : Bool) → a ≡ true → (a || b) ≡ true
-or_left true b is = refl
-or_left false b is = absurd (cc)
 
 -- what follows the scopes of two runs that are the same
 pub run-both : {C D : Type 0} (Q : C → D → Type 0) (next : Scope → Result C Fault) (more : Scope → Result D Fault)

@@ -1,2 +1,2 @@
 mod Written
-mod WorkedSources
+mod worked

@@ -1,15 +1,16 @@
 -- What more knowledge makes of the potentials, and how the three kinds lie in one another: one lemma
 -- per row of the tables, over any potentials, and then one induction.
-use Rattle.std.proofs.Common.{◌≡◌, ℕ, ◌⊎◌, Bool, true, false, ◌||◌, ◌==◌, cond, max, refl, sym, ap, ◌∙◌, subst, inl, inr, ⊎_elim}
+use Rattle.std.proofs.Common.{◌≡◌, ℕ, ◌⊎◌, Bool, true, false, ◌||◌, cond, max, refl, sym, ap, ◌∙◌, subst, inl, inr, ⊎_elim}
 use Rattle.std.proofs.lemmas.Bool.{or_cases, or_left, or_right, and_parts, and_from, eqb-true, false≢true, cond_both}
 use Rattle.est_base.specs.Codes.{either}
-use Rattle.est_kernel.specs.Terms.{Expression, Tick, Sig, Not, And, Or, Term, Nothing, Pause, Emit, Exit, Present, Suspend, Seq, Loop, Par, Trap, Local, Awake}
-use Rattle.est_kernel.specs.Statuses.{Status, Plus, Minus, Unknown, Environment, with_status, opposite, conjunction, disjunction, value}
+use Rattle.est_kernel.specs.Terms.{Term, Nothing, Pause, Emit, Exit, Present, Suspend, Seq, Loop, Par, Trap, Local, Awake}
+use Rattle.est_kernel.specs.Statuses.{Status, Plus, Minus, Unknown, Environment, with_status, value}
 use Rattle.est_kernel.specs.Potentials.{Kind, Must, Can, May, Potential, Potentials, idle, completes, emits, union, chosen, second_kind, codes_kept, sequence}
 use Rattle.est_kernel.specs.Potentials.{in_turn, together, trapped, hidden, local_status, potential}
 use Rattle.est_kernel.specs.Steps.{trap_code}
 use Rattle.est_kernel.specs.Laws.{IsWithin, IsBelow, KnowsMore, MustGrows, CanShrinks, MayShrinks, MustLiesInCan, CanLiesInMay, MustHasOneCode}
 use Rattle.est_kernel.proofs.Sets.{except-in, except-parts, maxima-parts, maxima-subset, lowered-subset, lowered-parts, either-subset}
+use Rattle.est_kernel.proofs.Statuses.{below_self, knows_self, value_below, with_status-more}
 
 within_self : (a : Potential) → IsWithin a a
 within_self a = record { signals = λ t h. h; codes = λ k h. h }
@@ -313,61 +314,6 @@ trapped_refines f =
       can_shrinks = trapped_within f.can_shrinks;
       may_shrinks = trapped_within f.may_shrinks;
     }
-
--- statuses
-below_self : (v : Status) → IsBelow v v
-below_self Plus = refl
-below_self Minus = refl
-below_self Unknown = tt
-
-cond_below : (c : Bool) (v w x y : Status) → IsBelow v w → IsBelow x y → IsBelow (cond c v x) (cond c w y)
-cond_below true v w x y h g = h
-cond_below false v w x y h g = g
-
-with_status-more : {E F : Environment} (s : ℕ) (v w : Status) → KnowsMore E F → IsBelow v w → KnowsMore (with_status E s v) (with_status F s w)
-with_status-more {E} {F} s v w m h =
-    record { statuses = λ t. cond_below (t == s) v w (E t) (F t) h (m.statuses t) }
-
-knows_self : (E : Environment) → KnowsMore E E
-knows_self E = record { statuses = λ t. below_self (E t) }
-
-opposite_below : (v w : Status) → IsBelow v w → IsBelow (opposite v) (opposite w)
-opposite_below Plus w h = ap opposite h
-opposite_below Minus w h = ap opposite h
-opposite_below Unknown w h = tt
-
-conjunction_false : (v : Status) → conjunction v Minus ≡ Minus
-conjunction_false Plus = refl
-conjunction_false Minus = refl
-conjunction_false Unknown = refl
-
-conjunction_below : (v v' w w' : Status) → IsBelow v v' → IsBelow w w' → IsBelow (conjunction v w) (conjunction v' w')
-conjunction_below Minus v' w w' h g = ap (λ x. conjunction x w') h
-conjunction_below Plus v' w w' h g = subst (λ x. IsBelow w (conjunction x w')) (sym h) g
-conjunction_below Unknown v' Plus w' h g = tt
-conjunction_below Unknown v' Minus w' h g = ap (λ x. conjunction v' x) g ∙ conjunction_false v'
-conjunction_below Unknown v' Unknown w' h g = tt
-
-disjunction_true : (v : Status) → disjunction v Plus ≡ Plus
-disjunction_true Plus = refl
-disjunction_true Minus = refl
-disjunction_true Unknown = refl
-
-disjunction_below : (v v' w w' : Status) → IsBelow v v' → IsBelow w w' → IsBelow (disjunction v w) (disjunction v' w')
-disjunction_below Plus v' w w' h g = ap (λ x. disjunction x w') h
-disjunction_below Minus v' w w' h g = subst (λ x. IsBelow w (disjunction x w')) (sym h) g
-disjunction_below Unknown v' Plus w' h g = ap (λ x. disjunction v' x) g ∙ disjunction_true v'
-disjunction_below Unknown v' Minus w' h g = tt
-disjunction_below Unknown v' Unknown w' h g = tt
-
-value_below : (e : Expression) (E F : Environment) → KnowsMore E F → IsBelow (value e E) (value e F)
-value_below Tick E F m = refl
-value_below (Sig s) E F m = m.statuses s
-value_below (Not a) E F m = opposite_below (value a E) (value a F) (value_below a E F m)
-value_below (And a b) E F m =
-    conjunction_below (value a E) (value a F) (value b E) (value b F) (value_below a E F m) (value_below b E F m)
-value_below (Or a b) E F m =
-    disjunction_below (value a E) (value a F) (value b E) (value b F) (value_below a E F m) (value_below b E F m)
 
 -- the status that Must and Can give to a local signal, from what must and what can be emitted
 decided_below : (m c m' c' : Bool) → (m ≡ true → m' ≡ true) → (c' ≡ true → c ≡ true) → (m' ≡ true → c' ≡ true) →

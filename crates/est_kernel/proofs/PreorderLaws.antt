@@ -1,5 +1,5 @@
 -- Places of preorder: what stands at a place, and its parts behind it.
-use Rattle.std.proofs.Common.{◌≡◌, ℕ, zero, suc, ◌+◌, ◌-◌, ◌<◌, List, [], ◌∷◌, ◌++◌, length, slice_get, Some, refl, sym, ap, ◌∙◌, subst, ⊎_elim, arith}
+use Rattle.std.proofs.Common.{◌≡◌, ℕ, zero, suc, ◌+◌, ◌-◌, ◌<◌, List, [], ◌∷◌, ◌++◌, length, slice_get, Some, refl, sym, ap, ◌∙◌, subst, ⊎_elim, arith, ◌≤◌}
 use Rattle.std.proofs.lemmas.Bool.{cases_lt}
 use Rattle.est_kernel.specs.Terms.{Term, Nothing, Pause, Emit, Exit, Present, Suspend, Seq, Loop, Par, Trap, Local, Awake}
 use Rattle.est_kernel.specs.Preorder.{parts, preorder, statement_count}
@@ -127,3 +127,31 @@ behind (Awake e p) = under (Awake e p) (preorder p) (one_part (Awake e p) p) (la
 
 pub preorder_places_lem : PreorderPlaces
 preorder_places_lem = record { whole = whole_first; parts_behind = behind }
+
+pub statement_count-pos : (p : Term) → 0 < statement_count p
+statement_count-pos Nothing = omega arith
+statement_count-pos Pause = omega arith
+statement_count-pos (Emit s) = omega arith
+statement_count-pos (Exit c) = omega arith
+statement_count-pos (Present e p q) = omega arith
+statement_count-pos (Suspend e p) = omega arith
+statement_count-pos (Seq p q) = omega arith
+statement_count-pos (Loop at p) = omega arith
+statement_count-pos (Par p q) = omega arith
+statement_count-pos (Trap p) = omega arith
+statement_count-pos (Local s p) = omega arith
+statement_count-pos (Awake e p) = omega arith
+
+pub statement_count-some : (t : Term) → 1 ≤ statement_count t
+statement_count-some Nothing = omega arith
+statement_count-some Pause = omega arith
+statement_count-some (Emit s) = omega arith
+statement_count-some (Exit c) = omega arith
+statement_count-some (Present e p q) = omega arith
+statement_count-some (Suspend e p) = omega arith
+statement_count-some (Seq p q) = omega arith
+statement_count-some (Loop at p) = omega arith
+statement_count-some (Par p q) = omega arith
+statement_count-some (Trap p) = omega arith
+statement_count-some (Local s p) = omega arith
+statement_count-some (Awake e p) = omega arith

@@ -4,6 +4,7 @@ use Rattle.std.proofs.Common.{◌≡◌, ℕ, zero, suc, ◌+◌, ◌<◌, ◌�
 use Rattle.std.proofs.Common.{arith}
 use Rattle.std.specs.List.{range_with_len}
 use Rattle.std.proofs.lemmas.Bool.{ne_eqb, cond-false, cond_both}
+use Rattle.facts.proofs.Tests.{and-true}
 use Rattle.est_kernel.specs.Terms.{Term}
 use Rattle.est_kernel.specs.Statuses.{Status, Plus, Minus, Unknown, Environment, with_status, known, environment_of}
 use Rattle.est_kernel.specs.Potentials.{Must, Can, potential, decided}
@@ -44,13 +45,9 @@ kept_are_outputs keep n (o ∷ os) h =
     (λ e. (h.0, not_among_kept keep o os h.1, kept_are_outputs keep n os h.2))
     (λ e. kept_are_outputs keep n os h.2)
 
-and_true : (b : Bool) → (b && true) ≡ b
-and_true true = refl
-and_true false = refl
-
 -- a signal other than the hidden one
 seen : (a b : Bool) (t o : ℕ) → a ≡ b → (t ≡ o → ⊥) → (a && not (t == o)) ≡ b
-seen a b t o e n = ap (λ c. a && not c) (ne_eqb t o n) ∙ and_true a ∙ e
+seen a b t o e n = ap (λ c. a && not c) (ne_eqb t o n) ∙ and-true a ∙ e
 
 status_known : (m c b : Bool) → m ≡ b → c ≡ b → cond m Plus (cond c Unknown Minus) ≡ known b
 status_known true c true e f = refl

@@ -55,7 +55,7 @@ bounded_body n at p b =
 bounded_trap : (n : ℕ) (p : Term) → Bounded n (Trap p) → Bounded (n + 1) p
 bounded_trap n p b = record { exits = b.exits; depth = omega (arith, b.depth); loops = b.loops }
 
-trap_code-most : (k : ℕ) → trap_code k ≤ k
+pub trap_code-most : (k : ℕ) → trap_code k ≤ k
 trap_code-most zero = omega arith
 trap_code-most (suc zero) = omega arith
 trap_code-most (suc (suc zero)) = omega arith
@@ -294,7 +294,7 @@ LeavesNothing (Some x) = (x.code ≡ 1 → ⊥) → x.residual ≡ Nothing
 left_nothing : (c : ℕ) (r : Term) → (c ≡ 1 → ⊥) → left_by c r ≡ Nothing
 left_nothing c r n = cond-false (c == 1) r Nothing (ne_eqb c 1 n)
 
-left_whole : (c : ℕ) (r : Term) → c ≡ 1 → left_by c r ≡ r
+pub left_whole : (c : ℕ) (r : Term) → c ≡ 1 → left_by c r ≡ r
 left_whole c r e = cond-true (c == 1) r Nothing (eq-eqb c 1 e)
 
 leaves_nothing : (f : Term → Term) (o : Option Step) → LeavesNothing (leaves f o)
@@ -565,3 +565,9 @@ trees_are_kernels_lem (kernels.Loop' at _ p) = trees_are_kernels_lem p
 trees_are_kernels_lem (kernels.Par' _ p _ q) = (trees_are_kernels_lem p, trees_are_kernels_lem q)
 trees_are_kernels_lem (kernels.Trap' _ p) = trees_are_kernels_lem p
 trees_are_kernels_lem (kernels.Local' s _ p) = trees_are_kernels_lem p
+
+pub trap_code-one : (c : ℕ) → trap_code c ≡ 1 → c ≡ 1
+trap_code-one zero h = absurd (omega (arith, h))
+trap_code-one (suc zero) h = refl
+trap_code-one (suc (suc zero)) h = absurd (omega (arith, h))
+trap_code-one (suc (suc (suc k))) h = absurd (omega (arith, h))

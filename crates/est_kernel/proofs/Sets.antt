@@ -1,16 +1,9 @@
 -- Sets of codes as tests: what is in the maxima of two sets, and in a set that a trap has lowered.
-use Rattle.std.proofs.Common.{◌≡◌, ℕ, zero, suc, ◌≤◌, Bool, true, false, ◌&&◌, max, refl, sym, ◌∙◌, subst, ⊎_elim, arith}
+use Rattle.std.proofs.Common.{◌≡◌, ℕ, zero, suc, ◌≤◌, Bool, true, ◌&&◌, max, refl, sym, ◌∙◌, subst, ⊎_elim, arith}
 use Rattle.std.proofs.lemmas.Bool.{or_cases, or_left, or_right, and_parts, and_from, eq-eqb, ne_eqb, not-true, not_from_false, cases_lt, false≢true}
 use Rattle.est_base.specs.Codes.{either, except, upto, maxima, lowered}
 use Rattle.est_kernel.specs.Steps.{trap_code}
 use Rattle.est_kernel.specs.Laws.{IsSubset}
-
--- two tests that hold at the same places are equal
-pub same_tests : (x y : Bool) → (x ≡ true → y ≡ true) → (y ≡ true → x ≡ true) → x ≡ y
-same_tests true true f g = refl
-same_tests true false f g = sym (f refl)
-same_tests false true f g = g refl
-same_tests false false f g = refl
 
 pub except-in : (A : ℕ → Bool) (c k : ℕ) → A k ≡ true → (k ≡ c → ⊥) → except c A k ≡ true
 except-in A c k h n = and_from _ _ h (not_from_false _ (ne_eqb k c n))

@@ -2,6 +2,7 @@
 -- and steps, and then one induction each.
 use Rattle.std.proofs.Common.{◌≡◌, ℕ, Bool, true, false, not, ◌&&◌, ◌||◌, ◌==◌, cond, max, Option, Some, None, refl, sym, ap, ◌∙◌, subst}
 use Rattle.std.proofs.lemmas.Bool.{eqb-true, eqb-false, eq-eqb, ne_eqb, cond-true, cond-false, cond_both, false≢true}
+use Rattle.facts.proofs.Tests.{or-equal, same-tests}
 use Rattle.est_base.specs.Codes.{except, maxima, lowered}
 use Rattle.est_kernel.specs.Terms.{Term, Nothing, Pause, Emit, Exit, Present, Suspend, Seq, Loop, Par, Trap, Local, Awake}
 use Rattle.est_kernel.specs.Statuses.{Status, Plus, Minus, Unknown, Environment, with_status, value}
@@ -10,7 +11,7 @@ use Rattle.est_kernel.specs.Potentials.{trapped, hidden, decided, potential}
 use Rattle.est_kernel.specs.Steps.{Step, step, ended, leaving, leaves, chosen_step, then_step, sequence_step, loop_step, parallel_step, trap_code, trap_step}
 use Rattle.est_kernel.specs.Steps.{local_step, where_known}
 use Rattle.est_kernel.specs.Laws.{IsJust, StepIsWhatMustBeDone}
-use Rattle.est_kernel.proofs.Sets.{same_tests, maxima-in, maxima-parts, lowered-in, lowered-parts}
+use Rattle.est_kernel.proofs.Sets.{maxima-in, maxima-parts, lowered-in, lowered-parts}
 
 -- Must and Can, where there is a step, are just that step
 abbrev Agree : Potential → Potential → Option Step → Type 0
@@ -50,9 +51,6 @@ kept_none Must A f j = refl
 kept_none Can A f j = except_none A f j
 kept_none May A f j = except_none A f j
 
-or_equal : {a b c d : Bool} → a ≡ c → b ≡ d → (a || b) ≡ (c || d)
-or_equal {a} {b} {c} {d} e f = ap (λ x. x || b) e ∙ ap (λ x. c || x) f
-
 -- a sequence whose first part terminates
 sequence_both : (k : Kind) (a b : Potential) (x y z : Step) → IsJust a x → x.code ≡ 0 → IsJust b y → ((t : ℕ) → z.emitted t ≡ (x.emitted t || y.emitted t)) →
     z.code ≡ y.code → IsJust (sequence k a b) z
@@ -61,8 +59,8 @@ sequence_both k a b x y z f zero_code g signals code =
     let just_zero : (j : ℕ) → a.codes j ≡ (j == 0) = λ j. f.codes j ∙ ap (λ n. j == n) zero_code in
     subst (λ c. IsJust c z) (sym (cond-true (a.codes 0) _ a e))
     (record {
-      signals = λ t. or_equal (f.signals t) (g.signals t) ∙ sym (signals t);
-      codes = λ j. or_equal (kept_none k a.codes just_zero j) (g.codes j) ∙ ap (λ n. j == n) (sym code);
+      signals = λ t. or-equal (f.signals t) (g.signals t) ∙ sym (signals t);
+      codes = λ j. or-equal (kept_none k a.codes just_zero j) (g.codes j) ∙ ap (λ n. j == n) (sym code);
     })
 
 just_second : (c : Bool) (b : Potentials) (y : Step) → c ≡ true → IsJust (b Can) y → IsJust (b (cond c Can May)) y
@@ -100,7 +98,7 @@ loop_agree whole a b (Some x) h =
 -- the maxima of two single codes are their maximum
 maxima_just : (A B : ℕ → Bool) (i j : ℕ) → ((k : ℕ) → A k ≡ (k == i)) → ((k : ℕ) → B k ≡ (k == j)) → (k : ℕ) → maxima A B k ≡ (k == max i j)
 maxima_just A B i j f g k =
-    same_tests _ _
+    same-tests _ _
     (λ h.
     let r = maxima-parts A B k h in
     let left = eqb-true r.0 i (sym (f r.0) ∙ r.2) in
@@ -114,7 +112,7 @@ together_just : (a b : Potential) (x y z : Step) → IsJust a x → IsJust b y �
     z.code ≡ max x.code y.code → IsJust (together a b) z
 together_just a b x y z f g signals code =
     record {
-      signals = λ t. or_equal (f.signals t) (g.signals t) ∙ sym (signals t);
+      signals = λ t. or-equal (f.signals t) (g.signals t) ∙ sym (signals t);
       codes = λ k. maxima_just a.codes b.codes x.code y.code f.codes g.codes k ∙ ap (λ n. k == n) (sym code);
     }
 
@@ -129,7 +127,7 @@ together_agree a b c d (Some x) (Some y) h g = (
 -- what a trap makes of a single code
 lowered_just : (A : ℕ → Bool) (j : ℕ) → ((k : ℕ) → A k ≡ (k == j)) → (k : ℕ) → lowered A k ≡ (k == trap_code j)
 lowered_just A j f k =
-    same_tests _ _
+    same-tests _ _
     (λ h.
     let r = lowered-parts A k h in
     eq-eqb k (trap_code j) (r.2 ∙ ap trap_code (eqb-true r.0 j (sym (f r.0) ∙ r.1))))
@@ -188,3 +186,6 @@ agrees (Awake e p) E =
 pub step_is_what_must_be_done_lem : StepIsWhatMustBeDone
 step_is_what_must_be_done_lem p E x e =
     subst (λ o. Agree (potential p E Must) (potential p E Can) o) e (agrees p E)
+
+pub same_step : (a b : Step) → Some a ≡ Some b → a ≡ b
+same_step a b h = cc

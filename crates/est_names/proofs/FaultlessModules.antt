@@ -6,7 +6,7 @@ use Rattle.est_names.specs.declared.refusal.NameFault.{NameFault}
 use Rattle.est_names.specs.declared.refusal.NameFault.TheVariants.{DuplicateModule}
 use Rattle.est_names.specs.NameFaults.{again, interface_faults, body_faults, module_faults, module_names, main_place, main_faults, name_faults}
 
-nothing_before : (xs ys : List NameFault) → xs ++ ys ≡ [] → (xs ≡ []) × (ys ≡ [])
+pub nothing_before : (xs ys : List NameFault) → xs ++ ys ≡ [] → (xs ≡ []) × (ys ≡ [])
 nothing_before [] ys none = (refl, none)
 nothing_before (x ∷ xs) ys none = absurd (cc)
 

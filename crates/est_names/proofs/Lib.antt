@@ -4,6 +4,4 @@ pub mod NameSets
 pub mod FormLists
 pub mod FirstFaults
 pub mod GivenNames
-pub mod PlainTrees
-mod NameEquations
-mod WorkedNames
+pub mod worked

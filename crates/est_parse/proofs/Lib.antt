@@ -7,6 +7,6 @@ pub mod Places
 pub mod SpellableTrees
 pub mod SpelledPrograms
 pub mod SpelledTrees
-pub mod SpellingExamples
 pub mod StmtLaws
 pub mod TokenKinds
+mod worked

@@ -20,6 +20,7 @@ use Rattle.read_rules.proofs.Readers.{made-reads, shape-reads}
 use Rattle.read_rules.proofs.Steps.{Turn, list_depth, Steps, look-steps, loop-reads, Advances-step}
 use Rattle.read_rules.proofs.Choices.{Arm, arm, choose-lang, choose-reads}
 use Rattle.read_rules.proofs.Choices.{whole-reads as exact-reads}
+use Rattle.read_rules.proofs.Depths.{list_depth-flat}
 use Rattle.est_parse.specs.declared.openings.Declaration.{Declaration}
 use Rattle.est_parse.specs.declared.openings.Declaration.TheVariants as declarations
 use Rattle.est_parse.specs.Openings.{declaration_of, declaration}
@@ -173,10 +174,6 @@ decl_from (Relations relations) tokens led =
       behind = (relations, refl, led.behind);
     }
 
-flat : {A : Type 0} (values : List A) → list_depth (λ _. 0) values ≡ 0
-flat [] = refl
-flat (v ∷ others) = omega (arith, flat others)
-
 names-declared : {room : Option ℕ} → Reads class (λ _. declared (the name)) (Declares (One name)) (list_depth (λ _. 0))
     (record { starts = 60 ∷ []; empty = false; after = [] }) room
 names-declared = trail-reads (listed-reads marks.Comma name-reads refl) (the-reads (mark-test marks.Semicolon)) refl
@@ -188,12 +185,12 @@ abbrev decl_shape : Shape
 decl_shape = one_shape declaration_set
 
 decl-arms : (room : Option ℕ) (d : Declaration) → Arm class (λ _. 0) false [] (λ n. decl_rule d n) (DeclBehind d) room
-decl-arms room declarations.Input = arm Input names-declared (λ names. sym (flat names)) refl
-decl-arms room declarations.InputOutput = arm InputOutput names-declared (λ names. sym (flat names)) refl
-decl-arms room declarations.Output = arm Output names-declared (λ names. sym (flat names)) refl
+decl-arms room declarations.Input = arm Input names-declared (λ names. sym (list_depth-flat names)) refl
+decl-arms room declarations.InputOutput = arm InputOutput names-declared (λ names. sym (list_depth-flat names)) refl
+decl-arms room declarations.Output = arm Output names-declared (λ names. sym (list_depth-flat names)) refl
 decl-arms room declarations.Relation =
     arm Relations (trail-reads (listed-reads marks.Comma relation-reads refl) (the-reads (mark-test marks.Semicolon)) refl)
-    (λ relations. sym (flat relations)) refl
+    (λ relations. sym (list_depth-flat relations)) refl
 
 decl-lang : Lang class (λ v. Led declaration (λ d. DeclBehind d v)) (λ _. 0) decl_shape
 decl-lang = choose-lang DeclBehind declaration-test (record { kind = kinds.Reserved words.Input; span = record { start = 0; end = 0 } }) declarations.Input refl
@@ -231,7 +228,7 @@ module-reads room =
     led-reads (word-test words.Module) (made-reads (λ found. record { name = found.0; decls = found.1.0; body = found.1.1 }) ModuleBehind module_depth
     (both-reads name-reads (led-reads (mark-test marks.Colon) (both-reads (loop-reads (decl-steps room) refl)
     (trail-reads (statement-reads room) ends-module-reads refl) refl)) refl)
-    (λ found. omega (arith, flat found.1.0)) (λ found tokens member. member) (λ m tokens member. ((m.name, (m.decls, m.body)), refl, member)))
+    (λ found. omega (arith, list_depth-flat found.1.0)) (λ found tokens member. member) (λ m tokens member. ((m.name, (m.decls, m.body)), refl, member)))
 
 abbrev module_turn : Turn
 module_turn = record { starts = word_class words.Module ∷ []; empty = true; more = []; last = word_class words.Module ∷ [] }

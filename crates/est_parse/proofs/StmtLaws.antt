@@ -29,6 +29,7 @@ use Rattle.read_rules.proofs.Readers.{Shape, one_shape, no_shape, then_shape, ei
 use Rattle.read_rules.proofs.Readers.{trail-reads, ahead-reads, mapped-reads, told-reads, made-reads, placed-reads, same-reads, shape-reads}
 use Rattle.read_rules.proofs.Steps.{Turn, or_turn, step_shape, step_depth, list_depth, Steps, or-steps, trailing-steps, step-reads, loop-reads, Advances-step}
 use Rattle.read_rules.proofs.Choices.{Arm, arm, choose-lang, choose-reads}
+use Rattle.read_rules.proofs.Depths.{list_depth-flat}
 use Rattle.est_parse.specs.declared.openings.Opening.{Opening}
 use Rattle.est_parse.specs.declared.openings.Opening.TheVariants as openings
 use Rattle.est_parse.specs.declared.openings.Flat.TheVariants as flats
@@ -255,10 +256,6 @@ rename-reads =
 abbrev renames_shape : Shape
 renames_shape = record { starts = mark_class marks.LeftBracket ∷ []; empty = true; after = mark_class marks.LeftBracket ∷ [] }
 
-rename_list_depth : {A : Type 0} (others : List A) → list_depth (λ _. 0) others ≡ 0
-rename_list_depth [] = refl
-rename_list_depth (v ∷ others) = omega (arith, rename_list_depth others)
-
 renames-reads : {room : Option ℕ} → Reads class (λ _. renames) SpellsRenames (λ _. 0) renames_shape room
 renames-reads =
     shape-reads renames_shape (made-reads renames_of SpellsRenames (λ _. 0)
@@ -268,7 +265,7 @@ renames-reads =
   where
     flat : (o : Option (List Rename)) → 0 ≡ step_depth (list_depth (λ _. 0)) o
     flat None = refl
-    flat (Some v) = sym (rename_list_depth v)
+    flat (Some v) = sym (list_depth-flat v)
 
 abbrev cases_shape : Shape
 cases_shape = record {

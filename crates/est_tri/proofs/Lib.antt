@@ -3,5 +3,4 @@ pub mod Walks
 pub mod Monotone
 pub mod Solving
 pub mod Steps
-mod Examples
-mod Equations
+mod worked

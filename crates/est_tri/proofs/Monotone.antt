@@ -1,9 +1,10 @@
 -- The more is known of whether a term runs and of the signals, the more is known of its walk: one lemma per row, and
 -- then one induction. The first lemmas, on statuses, stand in est_kernel as well, where they are private.
-use Rattle.std.proofs.Common.{◌≡◌, ℕ, zero, suc, Bool, true, false, not, ◌==◌, cond, refl, sym, ap, ◌∙◌, subst}
-use Rattle.est_kernel.specs.Terms.{Expression, Tick, Sig, Not, And, Or, Term, Nothing, Pause, Emit, Exit, Present, Suspend, Seq, Loop, Par, Trap, Local, Awake}
-use Rattle.est_kernel.specs.Statuses.{Status, Plus, Minus, Unknown, Environment, with_status, opposite, conjunction, disjunction, value}
-use Rattle.est_kernel.specs.Laws.{IsBelow, KnowsMore}
+use Rattle.std.proofs.Common.{◌≡◌, ℕ, zero, suc, Bool, not, ◌==◌, refl, subst}
+use Rattle.est_kernel.specs.Terms.{Term, Nothing, Pause, Emit, Exit, Present, Suspend, Seq, Loop, Par, Trap, Local, Awake}
+use Rattle.est_kernel.specs.Statuses.{Status, Plus, Minus, Unknown, Environment, with_status, opposite, conjunction, value}
+use Rattle.est_kernel.specs.Laws.{IsBelow}
+use Rattle.est_kernel.proofs.Statuses.{below_self, cond_below, conjunction_below, disjunction_below, knows_self, opposite_below, value_below, with_status-more}
 use Rattle.est_tri.specs.TriWalks.{Tri, where_met, tri_completes, tri_emits, tri_either, tri_in_turn, tri_upto, tri_together, tri_lowered}
 use Rattle.est_tri.specs.TriWalks.{tri_trapped, tri_hidden, tri}
 use Rattle.est_tri.specs.TriWalks.{tri_decided}
@@ -11,78 +12,11 @@ use Rattle.est_tri.specs.Laws.{Below, WalksAreMonotone}
 
 -- ---- statuses
 
-pub below_self : (v : Status) → IsBelow v v
-below_self Plus = refl
-below_self Minus = refl
-below_self Unknown = tt
-
 pub below_equal : {v w : Status} → v ≡ w → IsBelow v w
 below_equal {v} e = subst (λ x. IsBelow v x) e (below_self v)
 
-pub below_both : (v w x : Status) → IsBelow v w → IsBelow w x → IsBelow v x
-below_both Plus w x h g = subst (λ y. IsBelow y x) h g
-below_both Minus w x h g = subst (λ y. IsBelow y x) h g
-below_both Unknown w x h g = tt
-
--- two statuses of which each is below the other are one
-pub below_meets : (v w : Status) → IsBelow v w → IsBelow w v → v ≡ w
-below_meets Plus w h g = sym h
-below_meets Minus w h g = sym h
-below_meets Unknown Plus h g = g
-below_meets Unknown Minus h g = g
-below_meets Unknown Unknown h g = refl
-
-cond_below : (c : Bool) (v w x y : Status) → IsBelow v w → IsBelow x y → IsBelow (cond c v x) (cond c w y)
-cond_below true v w x y h g = h
-cond_below false v w x y h g = g
-
 pub met_below : (b : Bool) (v w : Status) → IsBelow v w → IsBelow (where_met b v) (where_met b w)
 met_below b v w h = cond_below b v w Minus Minus h refl
-
-pub with_status-more : {E F : Environment} (s : ℕ) (v w : Status) → KnowsMore E F → IsBelow v w → KnowsMore (with_status E s v) (with_status F s w)
-with_status-more {E} {F} s v w m h =
-    record { statuses = λ t. cond_below (t == s) v w (E t) (F t) h (m.statuses t) }
-
-pub knows_self : (E : Environment) → KnowsMore E E
-knows_self E = record { statuses = λ t. below_self (E t) }
-
-pub opposite_below : (v w : Status) → IsBelow v w → IsBelow (opposite v) (opposite w)
-opposite_below Plus w h = ap opposite h
-opposite_below Minus w h = ap opposite h
-opposite_below Unknown w h = tt
-
-pub conjunction_false : (v : Status) → conjunction v Minus ≡ Minus
-conjunction_false Plus = refl
-conjunction_false Minus = refl
-conjunction_false Unknown = refl
-
-pub conjunction_below : (v v' w w' : Status) → IsBelow v v' → IsBelow w w' → IsBelow (conjunction v w) (conjunction v' w')
-conjunction_below Minus v' w w' h g = ap (λ x. conjunction x w') h
-conjunction_below Plus v' w w' h g = subst (λ x. IsBelow w (conjunction x w')) (sym h) g
-conjunction_below Unknown v' Plus w' h g = tt
-conjunction_below Unknown v' Minus w' h g = ap (λ x. conjunction v' x) g ∙ conjunction_false v'
-conjunction_below Unknown v' Unknown w' h g = tt
-
-disjunction_true : (v : Status) → disjunction v Plus ≡ Plus
-disjunction_true Plus = refl
-disjunction_true Minus = refl
-disjunction_true Unknown = refl
-
-pub disjunction_below : (v v' w w' : Status) → IsBelow v v' → IsBelow w w' → IsBelow (disjunction v w) (disjunction v' w')
-disjunction_below Plus v' w w' h g = ap (λ x. disjunction x w') h
-disjunction_below Minus v' w w' h g = subst (λ x. IsBelow w (disjunction x w')) (sym h) g
-disjunction_below Unknown v' Plus w' h g = ap (λ x. disjunction v' x) g ∙ disjunction_true v'
-disjunction_below Unknown v' Minus w' h g = tt
-disjunction_below Unknown v' Unknown w' h g = tt
-
-pub value_below : (e : Expression) (E F : Environment) → KnowsMore E F → IsBelow (value e E) (value e F)
-value_below Tick E F m = refl
-value_below (Sig s) E F m = m.statuses s
-value_below (Not a) E F m = opposite_below (value a E) (value a F) (value_below a E F m)
-value_below (And a b) E F m =
-    conjunction_below (value a E) (value a F) (value b E) (value b F) (value_below a E F m) (value_below b E F m)
-value_below (Or a b) E F m =
-    disjunction_below (value a E) (value a F) (value b E) (value b F) (value_below a E F m) (value_below b E F m)
 
 -- ---- rows
 

@@ -2,6 +2,7 @@
 -- together they make a status. Each row of the walk's tables goes through every rail to the row of the potentials.
 use Rattle.std.proofs.Common.{◌≡◌, ℕ, zero, suc, Bool, true, false, not, ◌&&◌, ◌||◌, ◌==◌, refl, sym, ap, ◌∙◌, arith}
 use Rattle.std.proofs.lemmas.Bool.{false≢true, true≢false}
+use Rattle.facts.proofs.Tests.{and-false, and-true}
 use Rattle.est_base.specs.Codes.{except, upto, maxima, lowered}
 use Rattle.est_kernel.proofs.Sets.{upto-in}
 use Rattle.est_kernel.specs.Statuses.{Status, Plus, Minus, Unknown, known, conjunction, disjunction}
@@ -10,18 +11,6 @@ use Rattle.est_tri.specs.TriWalks.{Tri, where_met, tri_completes, tri_emits, tri
 use Rattle.est_tri.specs.TriWalks.{tri_lowered, tri_trapped}
 use Rattle.est_tri.specs.TriWalks.{tri_hidden}
 use Rattle.est_tri.specs.Laws.{sure, possible, rail}
-
-pub and_true : (b : Bool) → (b && true) ≡ b
-and_true true = refl
-and_true false = refl
-
-pub and_false : (b : Bool) → (b && false) ≡ false
-and_false true = refl
-and_false false = refl
-
-pub or_false : (b : Bool) → (b || false) ≡ b
-or_false true = refl
-or_false false = refl
 
 -- a test of statuses that goes through and and or
 pub record IsRail (f : Status → Bool) : Type 0 where
@@ -114,12 +103,12 @@ regrouped false false false y h g = refl
 
 module _ (f : Status → Bool) (r : IsRail f) where
   pub rail_met : (b : Bool) (v : Status) → f (where_met b v) ≡ (f v && b)
-  rail_met true v = sym (and_true (f v))
-  rail_met false v = r.minus ∙ sym (and_false (f v))
+  rail_met true v = sym (and-true (f v))
+  rail_met false v = r.minus ∙ sym (and-false (f v))
 
   pub rail_completes : (c : ℕ) (g : Status) → rail f (tri_completes c g) ≡ gated (f g) (completes c)
   rail_completes c g = λ i. record {
-    signals = λ t. (r.minus ∙ sym (and_false (f g))) i;
+    signals = λ t. (r.minus ∙ sym (and-false (f g))) i;
     codes = λ k. rail_met (k == c) g i;
   }
 

@@ -8,12 +8,13 @@ use Rattle.est_kernel.specs.Statuses.{Status, Plus, Minus, Unknown, Environment,
 use Rattle.est_kernel.specs.Steps.{where_known}
 use Rattle.est_kernel.specs.Reactions.{bound, settle}
 use Rattle.est_kernel.specs.Laws.{IsBelow, KnowsMore}
+use Rattle.est_kernel.proofs.Statuses.{below_trans}
 use Rattle.est_tri.specs.TriWalks.{where_met, tri, tri_decided}
 use Rattle.est_tri.specs.Settled.{solved, IsNoneOf, EachOnce, EachMeets}
 use Rattle.est_tri.specs.KnownPlaces.{IsKnown}
 use Rattle.est_tri.specs.Laws.{SolvedSignalsAreEmitted, SolvedIsLeast}
 use Rattle.est_tri.proofs.Walks.{walk_decides}
-use Rattle.est_tri.proofs.Monotone.{below_both, walk_below, decided_again}
+use Rattle.est_tri.proofs.Monotone.{walk_below, decided_again}
 
 pub with_status_same : (E : Environment) (s : ℕ) (v : Status) → with_status E s v s ≡ v
 with_status_same E s v = cond-true (s == s) v (E s) (eq-eqb s s refl)
@@ -68,7 +69,7 @@ solved_least (o ∷ os) r E F once m h =
     subst (λ x. IsBelow x ((tri r Plus F).signals o)) (sym (bound_signals os r (with_status E o Unknown) o once.0))
     ((walk_below r Plus Plus (solved os r (with_status E o Unknown)) F refl unknown).signals o) in
     solved_least os r (with_status E o v) F once.1
-    (with_more o v m (below_both v ((tri r Plus F).signals o) (F o) told h.0)) h.1
+    (with_more o v m (below_trans v ((tri r Plus F).signals o) (F o) told h.0)) h.1
 
 -- ---- the outgoing signals are settled
 

@@ -1,6 +1,7 @@
 -- The walk of a term tells its potentials: one lemma per row, over any potentials, and then one induction.
 use Rattle.std.proofs.Common.{◌≡◌, ℕ, zero, suc, Bool, true, false, not, ◌&&◌, ◌||◌, ◌==◌, cond, refl, sym, ap, ◌∙◌}
 use Rattle.std.proofs.lemmas.Bool.{true≢false, eqb-true, eqb-false, cond-true, cond-false}
+use Rattle.facts.proofs.Tests.{and-false, and-true, or-false}
 use Rattle.est_base.specs.Codes.{except}
 use Rattle.est_kernel.specs.Terms.{Term, Nothing, Pause, Emit, Exit, Present, Suspend, Seq, Loop, Par, Trap, Local, Awake}
 use Rattle.est_kernel.specs.Statuses.{Status, Plus, Minus, Unknown, Environment, with_status, value, opposite, conjunction}
@@ -9,7 +10,7 @@ use Rattle.est_kernel.specs.Potentials.{in_turn, together, trapped, hidden, loca
 use Rattle.est_kernel.proofs.PotentialLaws.{must_has_one_code_lem}
 use Rattle.est_tri.specs.TriWalks.{Tri, tri_idle, tri_completes, tri_emits, tri_either, tri_in_turn, tri_together, tri_trapped, tri_hidden, tri, tri_decided}
 use Rattle.est_tri.specs.Laws.{sure, possible, rail, Tells, WalksTellPotentials}
-use Rattle.est_tri.proofs.Rails.{or_false, and_true, and_false, IsRail, sure_rail, possible_rail, impossible, gated, in_sequence, rail_completes}
+use Rattle.est_tri.proofs.Rails.{IsRail, sure_rail, possible_rail, impossible, gated, in_sequence, rail_completes}
 use Rattle.est_tri.proofs.Rails.{rail_emits, rail_either}
 use Rattle.est_tri.proofs.Rails.{rail_in_turn, rail_together, rail_trapped, rail_hidden}
 
@@ -30,7 +31,7 @@ emits_tells s g = gated_tells g (tri_emits s g) (emits s) (rail_emits sure sure_
 -- ---- a choice
 
 union_idle : (P : Potential) → union P idle ≡ P
-union_idle P = λ i. record { signals = λ t. or_false (P.signals t) i; codes = λ k. or_false (P.codes k) i }
+union_idle P = λ i. record { signals = λ t. or-false (P.signals t) i; codes = λ k. or-false (P.codes k) i }
 
 either_rails : (f : Status → Bool) (r : IsRail f) (a b : Tri) (A B : Potential) → rail f a ≡ A → rail f b ≡ B → rail f (tri_either a b) ≡ union A B
 either_rails f r a b A B e h = rail_either f r a b ∙ ap (λ x. union x (rail f b)) e ∙ ap (λ x. union A x) h
@@ -86,13 +87,13 @@ except_absent : (A : ℕ → Bool) → A 0 ≡ false → (k : ℕ) → except 0 
 except_absent A e k = by (k == 0) refl
   where
     by : (b : Bool) → (k == 0) ≡ b → (A k && not b) ≡ A k
-    by true is = and_false (A k) ∙ sym (ap A (eqb-true k 0 is) ∙ e)
-    by false is = and_true (A k)
+    by true is = and-false (A k) ∙ sym (ap A (eqb-true k 0 is) ∙ e)
+    by false is = and-true (A k)
 
 sequence_absent : (A : Potential) → A.codes 0 ≡ false → in_sequence A idle ≡ A
 sequence_absent A e = λ i. record {
-  signals = λ t. or_false (A.signals t) i;
-  codes = λ k. (or_false (except 0 A.codes k) ∙ except_absent A.codes e k) i;
+  signals = λ t. or-false (A.signals t) i;
+  codes = λ k. (or-false (except 0 A.codes k) ∙ except_absent A.codes e k) i;
 }
 
 -- a first part of which termination is the only code keeps none
@@ -100,7 +101,7 @@ except_only : (A : ℕ → Bool) → ((j k : ℕ) → A j ≡ true → A k ≡ t
 except_only A one e k = by (A k) refl (k == 0) refl
   where
     by : (a : Bool) → A k ≡ a → (b : Bool) → (k == 0) ≡ b → (A k && not b) ≡ false
-    by true h true is = and_false (A k)
+    by true h true is = and-false (A k)
     by true h false is = absurd (eqb-false k 0 is (one k 0 h e))
     by false h b is = ap (λ x. x && not b) h
 

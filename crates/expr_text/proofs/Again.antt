@@ -3,9 +3,9 @@ use Rattle.std.proofs.Common.{◌≡◌, ℕ, ◌+◌, ◌<◌, Bool, true, fals
 use Rattle.std.proofs.Common.{ap}
 use Rattle.std.specs.Prelude.{if◌then◌else◌}
 use Rattle.std.specs.Cmp.Lexicographic.{nat_list_eq_equiv}
+use Rattle.facts.proofs.Lists.{drop-at}
 use Rattle.est_base.specs.Names.{is_same_name}
 use Rattle.net_ir.specs.NameLists.{is_among, first_again}
-use Rattle.net_ir.proofs.Numbered.{drop-at}
 use Rattle.expr_text.specs.NameTables.{again_from}
 
 pub again-same : (p q : List ℕ → Bool) (names : List (List ℕ)) → ((name : List ℕ) → p name ≡ q name) → again_from p names ≡ again_from q names
@@ -73,14 +73,6 @@ once-behind before names once =
     or-none : (b : Bool) → (b || false) ≡ b
     or-none true = refl
     or-none false = refl
-
--- one of two sets has a name
-pub or-right : (a b : Bool) → b ≡ true → (a || b) ≡ true
-or-right true b is = refl
-or-right false b is = is
-
-pub or-neither : (a b : Bool) → a ≡ false → b ≡ false → (a || b) ≡ false
-or-neither a b none other = ap (λ x. x || b) none ∙ other
 
 -- one more name in the first of two sets
 pub or-more : (same a new b : Bool) → new ≡ cond same true a → (new || b) ≡ cond same true (a || b)

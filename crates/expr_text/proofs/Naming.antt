@@ -1,25 +1,26 @@
 -- Inner: the names of a net's parts: what they are, and that no two are one.
 use Rattle.std.proofs.Common.{suc, ◌≡◌, ℕ, ◌+◌, ◌-◌, ◌<◌, ◌≤◌, ◌==◌, Bool, true, false, not, ◌||◌, List, [], ◌∷◌, ◌++◌, length}
-use Rattle.std.proofs.Common.{map, get_or, refl, ap, ◌∙◌, arith, Option, Some, None, ⊎_elim}
+use Rattle.std.proofs.Common.{map, get_or, refl, ap, ◌∙◌, arith, Option, Some, None}
 use Rattle.std.specs.Prelude.{find, option_and_then, nat_lt}
 use Rattle.std.specs.List.{list_all, list_any}
-use Rattle.std.proofs.lemmas.Bool.{and_parts, and_from, or_parts, or_left, or_right, cases_lt, lt-ltb, le-ltb, false≢true}
+use Rattle.std.proofs.lemmas.Bool.{and_parts, and_from, or_parts, or_left, or_right, lt-ltb, le-ltb, false≢true}
 use Rattle.std.proofs.lemmas.List.Folds.{list_any-append, list_any_at}
 use Rattle.std.proofs.lemmas.Option.{slice_get-get_or}
 use Rattle.est_base.specs.declared.indices.WireId.{WireId}
 use Rattle.est_base.specs.Distinct.{all_differ}
 use Rattle.est_base.specs.Names.{is_name, is_same_name}
+use Rattle.est_base.proofs.SameNames.{same_name-self}
 use Rattle.net_ir.specs.declared.netlist.Op.TheVariants as ops
 use Rattle.net_ir.specs.declared.netlist.Gate.{Gate}
 use Rattle.net_ir.specs.declared.netlist.Latch.{Latch}
 use Rattle.net_ir.specs.declared.netlist.NetOut.{NetOut}
 use Rattle.net_ir.specs.Gates.{operand_end}
 use Rattle.net_ir.specs.NameLists.{is_among}
-use Rattle.net_ir.specs.Netlists.{Netlist, first_gate, net_count, wire_at}
+use Rattle.net_ir.specs.Netlists.{Netlist, first_gate, wire_at}
 use Rattle.net_ir.specs.Numbered.{numbered}
 use Rattle.net_ir.specs.Writing.{IsWritable}
 use Rattle.net_ir.proofs.Numbered.{length-numbered, get_or-numbered}
-use Rattle.net_ir.proofs.NumberedNames.{TellsGates, apart-by, differ-decimal, gates-differ, joined-differ, numbered-differ, same-refl}
+use Rattle.net_ir.proofs.NumberedNames.{TellsGates, apart-by, differ-decimal, gates-differ, joined-differ, numbered-differ}
 use Rattle.expr_text.specs.NetNames.{state_name, gate_name, gate_names, name_of_net}
 
 -- ---- the first byte tells kinds of names apart
@@ -84,16 +85,6 @@ pub all-both : (p : List ℕ → Bool) (xs ys : List (List ℕ)) → list_all p 
 all-both p [] ys a b = b
 all-both p (x ∷ xs) ys a b = let parts = and_parts (p x) (list_all p xs) a in and_from (p x) (list_all p (xs ++ ys)) parts.0 (all-both p xs ys parts.1 b)
 
--- a number of a net is that of an input, of a latch or of a gate
-pub net_cases : {C : Type 0} (net : Netlist) (n : ℕ) → n < net_count net → (n < length net.inputs → C)
-    → ((j : ℕ) → j < length net.latches → n ≡ length net.inputs + j → C) → ((k : ℕ) → k < length net.gates → n ≡ first_gate net + k → C) → C
-net_cases net n h input latch gate = ⊎_elim input
-    (λ past. ⊎_elim
-    (λ low. latch (n - length net.inputs) (omega arith) (omega arith))
-    (λ high. gate (n - first_gate net) (omega arith) (omega arith))
-    (cases_lt n (first_gate net)))
-    (cases_lt n (length net.inputs))
-
 -- an element of a numbered list is among its names
 pub among-numbered : {X : Type 0} (f : ℕ → X → List ℕ) (xs : List X) (k : ℕ) (d : X) → k < length xs → is_among (f k (get_or xs k d)) (numbered f 0 xs) ≡ true
 among-numbered f xs k d h =
@@ -101,7 +92,7 @@ among-numbered f xs k d h =
     let z : 0 + k ≡ k = omega arith in
     let at : get_or (numbered f 0 xs) k [] ≡ f k (get_or xs k d) = get_or-numbered f 0 xs k [] d h ∙ ap (λ m. f m (get_or xs k d)) z in
     list_any_at (is_same_name (f k (get_or xs k d))) (numbered f 0 xs) k [] (omega arith)
-    (ap (is_same_name (f k (get_or xs k d))) at ∙ same-refl (f k (get_or xs k d)))
+    (ap (is_same_name (f k (get_or xs k d))) at ∙ same_name-self (f k (get_or xs k d)))
 
 pub among-left : (x : List ℕ) (xs ys : List (List ℕ)) → is_among x xs ≡ true → is_among x (xs ++ ys) ≡ true
 among-left x xs ys h = list_any-append (is_same_name x) xs ys ∙ or_left (is_among x xs) (is_among x ys) h

@@ -2,7 +2,7 @@
 use Rattle.std.proofs.Common.{◌≡◌, ℕ, ◌-◌, ◌<◌, ◌≤◌, get_or, false, List, [], ◌∷◌, length, map, drop, Err, refl, sym}
 use Rattle.std.proofs.Common.{◌∙◌, ap, subst, arith}
 use Rattle.std.proofs.lemmas.List.{length-map, length-append, get_or-map, drop_all}
-use Rattle.net_ir.proofs.Numbered.{drop-at}
+use Rattle.facts.proofs.Lists.{drop-at}
 use Rattle.read_rules.specs.declared.faults.Fault.{Fault}
 use Rattle.read_rules.specs.Readings.{ended}
 use Rattle.read_rules.specs.Exact.{IsLeastPlace}

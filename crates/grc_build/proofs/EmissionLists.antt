@@ -15,7 +15,7 @@ use Rattle.est_kernel.specs.Terms.{Term, Nothing, Pause, Emit, Exit, Present, Su
 use Rattle.grc_graph.specs.Equations.{emissions, emits_on, is_wire}
 use Rattle.grc_graph.specs.Formulas.{Value, any_of}
 use Rattle.grc_graph.specs.Instances.{Instance}
-use Rattle.grc_graph.specs.Layers.{Layer, Resumed, Started, layer_above, same_layer}
+use Rattle.grc_graph.specs.Layers.{Layer, Resumed, layer_above}
 use Rattle.grc_graph.specs.Neighbouring.{instances_in, names_in}
 use Rattle.grc_graph.specs.PlainGraphs.{instance_at, wire_at}
 use Rattle.grc_graph.specs.PlainInstances.{instance_of}
@@ -24,6 +24,7 @@ use Rattle.grc_graph.specs.Spots.{Spot}
 use Rattle.grc_graph.specs.WireTables.{IsNumberOf}
 use Rattle.grc_graph.specs.Wires.{Wire, Out, Go, StatusOf, same_wire, status_wire}
 use Rattle.grc_graph.proofs.NeighbourReads.{one_place}
+use Rattle.grc_graph.proofs.SameWires.{same_layer-self, same_layer-true}
 use Rattle.grc_build.specs.declared.emissions.Emitters.{Emitters}
 use Rattle.grc_build.specs.declared.tables.Tables.{Tables}
 use Rattle.grc_build.specs.Emitting.{values, Gathers, list_at, status_at, AreEmitters}
@@ -81,16 +82,6 @@ no_emission w (Awake e p) B l h = refl
 
 pub emits_by : (w : Wire) (x : Spot) (s : ℕ) (b : Binding) → x.statement ≡ Emit s → x.scope s ≡ b → emits w x ≡ is_wire (status_wire b s x.layer) w
 emits_by w x s b e f = (λ i. emits_on w (e i) x.scope x.layer) ∙ λ i. is_wire (status_wire (f i) s x.layer) w
-
-same_layer-self : (l : Layer) → same_layer l l ≡ true
-same_layer-self Resumed = refl
-same_layer-self (Started r) = eq-eqb r r refl
-
-same_layer-true : (k l : Layer) → same_layer k l ≡ true → k ≡ l
-same_layer-true Resumed Resumed h = refl
-same_layer-true Resumed (Started r) h = absurd (false≢true h)
-same_layer-true (Started q) Resumed h = absurd (false≢true h)
-same_layer-true (Started q) (Started r) h = ap Started (eqb-true q r h)
 
 -- ---- the lists
 

@@ -26,10 +26,6 @@ or_false_left : (a b : Bool) → a ≡ false → (a || b) ≡ b
 or_false_left true b e = absurd (false≢true (sym e))
 or_false_left false b e = refl
 
-or_false_right : (a b : Bool) → b ≡ false → (a || b) ≡ a
-or_false_right true b e = refl
-or_false_right false b e = e
-
 -- ---- roots
 
 any-own : (r m : ℕ) (b : Bool) → Any r (root_if b m) ≡ (b && m == r)

@@ -1,11 +1,12 @@
 -- The instances of a statement stand one behind another among those of a body, the resumed one first.
-use Rattle.std.proofs.Common.{◌≡◌, ℕ, ◌+◌, ◌-◌, ◌<◌, ◌≤◌, ◌⊎◌, inl, inr, Bool, true, false, ◌==◌, List, [], ◌∷◌, ◌++◌, length, map, take, drop, get_or, refl}
+use Rattle.std.proofs.Common.{◌≡◌, ℕ, ◌+◌, ◌-◌, ◌<◌, ◌≤◌, ◌⊎◌, inl, inr, true, false, ◌==◌, List, [], ◌∷◌, ◌++◌, length, map, take, drop, get_or, refl}
 use Rattle.std.proofs.Common.{sym, ap, ◌∙◌, subst, ⊎_elim, arith}
 use Rattle.std.specs.Prelude.{All, filter, nat_lt, if◌then◌else◌}
 use Rattle.std.proofs.lemmas.Bool.{cases_lt, cases_eq, eq-eqb, ne_eqb, lt-ltb, le-ltb, cond-true, cond-false}
 use Rattle.std.proofs.lemmas.List.{append-nil, map-id, take-append-drop, drop_more, drop_all, get_or-drop, get_or_default, length-drop}
-use Rattle.std.proofs.lemmas.List.Elements.{All-nil, All-cons, All-head, All-tail, All-weaker, All-map, All-contains, Contains-append_right, filter-append}
+use Rattle.std.proofs.lemmas.List.Elements.{All-nil, All-cons, All-weaker, All-map, All-contains, Contains-append_right, filter-append}
 use Rattle.std.proofs.lemmas.Simd.{map-map}
+use Rattle.facts.proofs.Lists.{filter-none}
 use Rattle.est_kernel.specs.Terms.{Term, Nothing, Pause, Emit, Exit, Present, Suspend, Seq, Loop, Par, Trap, Local, Awake}
 use Rattle.est_kernel.specs.Preorder.{statement_count}
 use Rattle.est_kernel.specs.WellFormed.{IsKernel}
@@ -15,12 +16,6 @@ use Rattle.grc_graph.specs.Layers.{loop_liveness}
 use Rattle.grc_graph.specs.PlainGraphs.{instance_at}
 use Rattle.grc_graph.proofs.LiveInstances.{at_layer, instances_among}
 use Rattle.grc_build.specs.Nexts.{is_of, layers_from, IsRun}
-
-filter_none : {X : Type 0} (p : X → Bool) (xs : List X) → All (λ x. p x ≡ false) xs → filter p xs ≡ []
-filter_none p [] h = refl
-filter_none p (x ∷ xs) h =
-    let e : p x ≡ false = All-head (λ x. p x ≡ false) x xs h in
-    rw e (filter_none p xs (All-tail (λ x. p x ≡ false) x xs h))
 
 -- ---- the instances of a statement are those with its path
 
@@ -32,12 +27,12 @@ own_kept n (l ∷ ls) =
 
 others_left : (n m : ℕ) (ls : List Layer) → ¬ (n ≡ m) → filter (is_of m) (map (at_layer n) ls) ≡ []
 others_left n m ls h =
-    filter_none (is_of m) (map (at_layer n) ls)
+    filter-none (is_of m) (map (at_layer n) ls)
     (All-map (λ x. is_of m x ≡ false) (at_layer n) ls (λ k d l. ne_eqb n m h))
 
 apart : (a m : ℕ) (b : Liveness) (t : Term) → (m < a) ⊎ (a + statement_count t ≤ m) → filter (is_of m) (instances b t a) ≡ []
 apart a m b t o =
-    filter_none (is_of m) (instances b t a)
+    filter-none (is_of m) (instances b t a)
     (All-weaker (λ x. (a ≤ x.path) × (x.path < a + statement_count t)) (λ x. is_of m x ≡ false)
     (λ x k. ne_eqb x.path m (λ e. ⊎_elim (λ l. omega (arith, e, k.0, l)) (λ l. omega (arith, e, k.1, l)) o))
     (instances b t a) (instances_among b t a))
@@ -182,11 +177,11 @@ comes_behind insts i j h l lt =
 -- instances of lesser paths are not of a statement
 lesser_left : (n : ℕ) (xs : List Instance) → All (λ x. x.path < n) xs → filter (is_of n) xs ≡ []
 lesser_left n xs h =
-    filter_none (is_of n) xs (All-weaker (λ x. x.path < n) (λ x. is_of n x ≡ false) (λ x l. ne_eqb x.path n (λ e. omega (arith, e, l))) xs h)
+    filter-none (is_of n) xs (All-weaker (λ x. x.path < n) (λ x. is_of n x ≡ false) (λ x l. ne_eqb x.path n (λ e. omega (arith, e, l))) xs h)
 
 greater_left : (n : ℕ) (xs : List Instance) → All (λ x. n < x.path) xs → filter (is_of n) xs ≡ []
 greater_left n xs h =
-    filter_none (is_of n) xs (All-weaker (λ x. n < x.path) (λ x. is_of n x ≡ false) (λ x l. ne_eqb x.path n (λ e. omega (arith, e, l))) xs h)
+    filter-none (is_of n) xs (All-weaker (λ x. n < x.path) (λ x. is_of n x ≡ false) (λ x l. ne_eqb x.path n (λ e. omega (arith, e, l))) xs h)
 
 before_path : (x y : Instance) → Before x y → x.path ≤ y.path
 before_path x y h = ⊎_elim (λ l. omega (arith, l)) (λ e. omega (arith, e.0)) h

@@ -2,6 +2,7 @@
 use Rattle.std.proofs.Common.{◌≡◌, ℕ, ◌<◌, ◌∷◌, [], List, length, get_or, refl, ap, sym, subst, ◌∙◌, arith, Option, Some, None}
 use Rattle.std.specs.Prelude.{AllPairs, Contains, IsTrue, ◌↔◌}
 use Rattle.std.proofs.lemmas.List.Elements.{Contains-get_or}
+use Rattle.facts.proofs.Lists.{contains-flat_map}
 use Rattle.grc_graph.specs.Layers.{Resumed}
 use Rattle.grc_graph.specs.Wires.{Wire, Go}
 use Rattle.grc_graph.specs.Edges.{Edge, edge}
@@ -11,7 +12,7 @@ use Rattle.grc_graph.specs.WireOrders.{WireEdge, edge_before}
 use Rattle.grc_dep.specs.Names.{number_of, Apart}
 use Rattle.grc_dep.specs.Found.{pair_of, found}
 use Rattle.grc_dep.proofs.WireNumbers.{number_at, number_is}
-use Rattle.grc_dep.proofs.WiresApart.{in_flat_map, of_flat_map}
+use Rattle.grc_dep.proofs.WiresApart.{in_flat_map}
 
 -- the numbers of a pair are those that it is made of
 record Numbered (i j : Option ℕ) (x : WireEdge) : Type 0 where
@@ -53,7 +54,7 @@ found_has ws es i j apart l m c =
     let from = number_at ws i (wire_at ws i) (Go 0 Resumed) apart l refl in
     let to = number_at ws j (wire_at ws j) (Go 0 Resumed) apart m refl in
     let one : pair_of (number_of ws (wire_at ws i)) (number_of ws (wire_at ws j)) ≡ (record { 0 = i }, record { 0 = j }) ∷ [] = λ k. pair_of (from k) (to k) in
-    of_flat_map f es (named_edge ws i j) (record { 0 = i }, record { 0 = j }) c
+    contains-flat_map f es (named_edge ws i j) (record { 0 = i }, record { 0 = j }) c
     (subst (λ ps. Contains ps (record { 0 = i }, record { 0 = j })) (sym one) (0, omega arith, refl))
 
 -- sorted pairs, each once

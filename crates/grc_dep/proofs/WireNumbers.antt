@@ -1,52 +1,14 @@
 -- The number of a wire by its name.
-use Rattle.std.proofs.Common.{◌≡◌, ℕ, zero, suc, ◌<◌, Bool, true, false, ◌==◌, ◌&&◌, List, [], ◌∷◌, length, get_or, refl, ap, sym, subst, ◌∙◌, arith}
+use Rattle.std.proofs.Common.{◌≡◌, ℕ, zero, suc, ◌<◌, Bool, true, false, List, [], ◌∷◌, length, get_or, refl, ap, sym, subst, ◌∙◌, arith}
 use Rattle.std.proofs.Common.{Option, Some, None}
 use Rattle.std.specs.Prelude.{Contains, option_map, if◌then◌else◌}
-use Rattle.std.proofs.lemmas.Bool.{and_parts, eq-eqb, eqb-true, false≢true}
 use Rattle.est_base.specs.declared.indices.WireId.{WireId}
-use Rattle.grc_graph.specs.Layers.{Layer, Resumed, Started, same_layer}
-use Rattle.grc_graph.specs.Wires.{Wire, Out, Go, StatusOf, End, same_wire}
+use Rattle.grc_graph.specs.Wires.{Wire, same_wire}
 use Rattle.grc_graph.specs.WireTables.{HasName}
+use Rattle.grc_graph.proofs.SameWires.{same_wire-self, same_wire-true}
 use Rattle.grc_dep.specs.Names.{number_of, Apart}
 
 -- ---- the same name
-
-same_layer-self : (l : Layer) → same_layer l l ≡ true
-same_layer-self Resumed = refl
-same_layer-self (Started r) = eq-eqb r r refl
-
-same_layer-true : (j l : Layer) → same_layer j l ≡ true → j ≡ l
-same_layer-true Resumed Resumed e = refl
-same_layer-true Resumed (Started r) e = absurd (false≢true e)
-same_layer-true (Started q) Resumed e = absurd (false≢true e)
-same_layer-true (Started q) (Started r) e = ap Started (eqb-true q r e)
-
-pub same_wire-self : (w : Wire) → same_wire w w ≡ true
-same_wire-self (Out s) = eq-eqb s s refl
-same_wire-self (Go n l) = λ i. eq-eqb n n refl i && same_layer-self l i
-same_wire-self (StatusOf n l) = λ i. eq-eqb n n refl i && same_layer-self l i
-same_wire-self (End n l k) = λ i. eq-eqb n n refl i && (same_layer-self l i && eq-eqb k k refl i)
-
-pub same_wire-true : (u v : Wire) → same_wire u v ≡ true → u ≡ v
-same_wire-true (Out s) (Out t) e = ap Out (eqb-true s t e)
-same_wire-true (Out s) (Go n l) e = absurd (false≢true e)
-same_wire-true (Out s) (StatusOf n l) e = absurd (false≢true e)
-same_wire-true (Out s) (End n l k) e = absurd (false≢true e)
-same_wire-true (Go m j) (Out t) e = absurd (false≢true e)
-same_wire-true (Go m j) (Go n l) e = let h = and_parts (m == n) (same_layer j l) e in λ i. Go (eqb-true m n h.0 i) (same_layer-true j l h.1 i)
-same_wire-true (Go m j) (StatusOf n l) e = absurd (false≢true e)
-same_wire-true (Go m j) (End n l k) e = absurd (false≢true e)
-same_wire-true (StatusOf m j) (Out t) e = absurd (false≢true e)
-same_wire-true (StatusOf m j) (Go n l) e = absurd (false≢true e)
-same_wire-true (StatusOf m j) (StatusOf n l) e = let h = and_parts (m == n) (same_layer j l) e in λ i. StatusOf (eqb-true m n h.0 i) (same_layer-true j l h.1 i)
-same_wire-true (StatusOf m j) (End n l k) e = absurd (false≢true e)
-same_wire-true (End m j i) (Out t) e = absurd (false≢true e)
-same_wire-true (End m j i) (Go n l) e = absurd (false≢true e)
-same_wire-true (End m j i) (StatusOf n l) e = absurd (false≢true e)
-same_wire-true (End m j i) (End n l k) e =
-    let h = and_parts (m == n) (same_layer j l && i == k) e in
-    let g = and_parts (same_layer j l) (i == k) h.1 in
-    λ x. End (eqb-true m n h.0 x) (same_layer-true j l g.0 x) (eqb-true i k g.1 x)
 
 -- ---- numbers
 

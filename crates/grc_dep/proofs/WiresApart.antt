@@ -6,17 +6,18 @@ use Rattle.std.specs.Prelude.{All, Contains, flat_map, if◌then◌else◌, ⊤}
 use Rattle.std.specs.List.{range_with_len}
 use Rattle.std.proofs.lemmas.List.{get_or_default}
 use Rattle.std.proofs.lemmas.List.Elements.{All-contains, All-cons, All-append, All-map, All-nil}
-use Rattle.std.proofs.lemmas.List.Elements.{Contains-append_cases, Contains-append_left, Contains-append_right}
+use Rattle.std.proofs.lemmas.List.Elements.{Contains-append_cases}
 use Rattle.est_kernel.specs.Plain.{Program, outgoing_count}
 use Rattle.est_kernel.specs.Terms.{Term, Nothing, Pause, Emit, Exit, Present, Suspend, Seq, Loop, Par, Trap, Local, Awake}
 use Rattle.est_kernel.specs.WellFormed.{IsKernel}
-use Rattle.grc_graph.specs.Layers.{Layer, Resumed, Started}
-use Rattle.grc_graph.specs.Instances.{Instance, body_instances, Before, LayerBefore, Ascends}
+use Rattle.grc_graph.specs.Layers.{Layer}
+use Rattle.grc_graph.specs.Instances.{Instance, body_instances, Before, Ascends}
 use Rattle.grc_graph.specs.Neighbouring.{program_wires}
 use Rattle.grc_graph.specs.Rows.{Row, program_rows, row_at}
 use Rattle.grc_graph.specs.Wires.{Wire, Out, Go, StatusOf, End, codes_below, listed, instance_codes, own_status, instance_wires}
 use Rattle.grc_graph.proofs.LiveInstances.{instances_ascend_lem}
 use Rattle.grc_graph.proofs.WireFilling.{row_wires, outs_of, program_wires_by_row}
+use Rattle.grc_graph.proofs.SameWires.{layer_irrefl}
 use Rattle.grc_dep.specs.Names.{Apart}
 
 -- ---- lists in which nothing stands twice
@@ -57,12 +58,6 @@ in_flat_map {X = X} {Y = Y} f (x ∷ xs) y c =
   where
     later : (z : X) × Contains xs z × Contains (f z) y → (z : X) × Contains (x ∷ xs) z × Contains (f z) y
     later h = (h.0, (suc h.1.0, omega (arith, h.1.1), h.1.2), h.2)
-
-pub of_flat_map : {X Y : Type 0} (f : X → List Y) (xs : List X) (x : X) (y : Y) → Contains xs x → Contains (f x) y → Contains (flat_map f xs) y
-of_flat_map f [] x y c h = absurd (omega (arith, c.1))
-of_flat_map f (z ∷ xs) x y c h =
-    ⊎_elim (λ e. Contains-append_left (f z) (flat_map f xs) y (subst (λ w. Contains (f w) y) (sym e) h))
-    (λ k. Contains-append_right (f z) (flat_map f xs) y (of_flat_map f xs x y k h)) (first_or_later z xs x c)
 
 -- what stands in a list has one place
 once_apart : {X : Type 0} (xs : List X) (i j : ℕ) (d : X) → Once xs → i < length xs → j < length xs → get_or xs i d ≡ get_or xs j d → i ≡ j
@@ -172,10 +167,6 @@ owned t x =
     All-cons P (Go x.path x.layer) _ refl
     (All-append P (own_status t x.path x.layer) _ (status_all P t x.path x.layer refl)
     (ends_all P x.path x.layer (listed (instance_codes t x.layer)) (λ k. refl)))
-
-layer_irrefl : (l : Layer) → ¬ LayerBefore l l
-layer_irrefl Resumed h = h
-layer_irrefl (Started r) h = omega (arith, h)
 
 before_irrefl : (x : Instance) → ¬ Before x x
 before_irrefl x h = ⊎_elim (λ l. omega (arith, l)) (λ g. layer_irrefl x.layer g.1) h

@@ -1,5 +1,5 @@
 -- The codes of a kernel are below 64: its exits are, since there are at most 60 traps one in another.
-use Rattle.std.proofs.Common.{◌≡◌, ℕ, zero, suc, ◌+◌, ◌<◌, ◌≤◌, ◌⊎◌, Bool, true, false, ◌&&◌, ◌||◌, cond, List, [], ◌∷◌, ◌++◌, length, map, refl, sym, ap, ◌∙◌}
+use Rattle.std.proofs.Common.{◌≡◌, ℕ, ◌+◌, ◌<◌, ◌≤◌, ◌⊎◌, Bool, true, false, ◌&&◌, ◌||◌, cond, List, [], ◌∷◌, ◌++◌, length, map, refl, sym, ap, ◌∙◌}
 use Rattle.std.proofs.Common.{subst, ⊎_elim, arith}
 use Rattle.std.specs.Prelude.{All}
 use Rattle.std.proofs.lemmas.Bool.{or_cases, and_parts, eqb-true, cond_both, false≢true}
@@ -10,10 +10,10 @@ use Rattle.est_kernel.specs.Terms.{Term, Nothing, Pause, Emit, Exit, Present, Su
 use Rattle.est_kernel.specs.Preorder.{statement_count}
 use Rattle.est_kernel.specs.Sizes.{trap_depth}
 use Rattle.est_kernel.specs.StaticCodes.{codes_if, has_code, started_codes, resumed_codes, branch_codes}
-use Rattle.est_kernel.specs.Steps.{trap_code}
 use Rattle.est_kernel.specs.WellFormed as formed
 use Rattle.est_kernel.specs.WellFormed.{ExitsStandInTraps, KeepsLimits}
 use Rattle.est_kernel.proofs.Sets.{except-parts, maxima-parts, lowered-parts}
+use Rattle.est_kernel.proofs.ResidualLaws.{trap_code-most}
 use Rattle.grc_graph.specs.Layers.{Layer, Resumed, Started, Liveness, body_liveness, part_liveness, second_liveness, loop_liveness}
 use Rattle.grc_graph.specs.Scopes.{Scope, bind, program_scope}
 use Rattle.grc_graph.specs.Selected.{HasExitCodes}
@@ -21,12 +21,6 @@ use Rattle.grc_graph.specs.Statements.{Entry, Body, Part, Branch, Then, Else, Su
 use Rattle.grc_graph.specs.Rows.{Row, row, rows, program_rows, row_at}
 use Rattle.grc_graph.specs.Wires.{instance_codes}
 use Rattle.grc_graph.proofs.RowReads.{length-program_rows}
-
-pub trap_code-le : (k : ℕ) → trap_code k ≤ k
-trap_code-le zero = omega arith
-trap_code-le (suc zero) = omega arith
-trap_code-le (suc (suc zero)) = omega arith
-trap_code-le (suc (suc (suc k))) = omega arith
 
 -- the codes of a kernel are below 64
 pub started_below : (t : Term) → HasExitCodes t → (k : ℕ) → started_codes t k ≡ true → k < 64
@@ -51,7 +45,7 @@ started_below (Par p q) b k h =
     let s = maxima-parts (started_codes p) (started_codes q) k h in
     omega (arith, started_below p b.0 s.0 s.2, started_below q b.1 s.1 s.3, s.4)
 started_below (Trap p) b k h =
-    let s = lowered-parts (started_codes p) k h in omega (arith, started_below p b s.0 s.1, trap_code-le s.0, s.2)
+    let s = lowered-parts (started_codes p) k h in omega (arith, started_below p b s.0 s.1, trap_code-most s.0, s.2)
 started_below (Local s p) b k h = started_below p b k h
 started_below (Awake e p) b k h = absurd b
 
@@ -84,7 +78,7 @@ resumed_below (Par p q) b k h =
     let s = maxima-parts A C k (and_parts (has_code (resumed_codes p) || has_code (resumed_codes q)) (maxima A C k) h).1 in
     omega (arith, branch_below p s.0 (resumed_below p b.0 s.0) s.2, branch_below q s.1 (resumed_below q b.1 s.1) s.3, s.4)
 resumed_below (Trap p) b k h =
-    let s = lowered-parts (resumed_codes p) k h in omega (arith, resumed_below p b s.0 s.1, trap_code-le s.0, s.2)
+    let s = lowered-parts (resumed_codes p) k h in omega (arith, resumed_below p b s.0 s.1, trap_code-most s.0, s.2)
 resumed_below (Local s p) b k h = resumed_below p b k h
 resumed_below (Awake e p) b k h = absurd b
 

@@ -47,3 +47,11 @@ codes_below-end n A le h =
 -- a set without one code has the others
 pub except-other : (A : ℕ → Bool) (c k : ℕ) → (k ≡ c → ⊥) → except c A k ≡ A k
 except-other A c k h = let e : (k == c) ≡ false = ne_eqb k c h in ap (λ b. A k && not b) e ∙ and-true (A k)
+
+pub codes_below-suc : (n : ℕ) (A : ℕ → Bool) → codes_below (suc n) A ≡ codes_below n A ++ (if A n then n ∷ [] else [])
+unfolding codes_below
+codes_below-suc n A = refl
+
+pub listed-below : (A : ℕ → Bool) → listed A ≡ codes_below 64 A
+unfolding listed
+listed-below A = refl

@@ -1,4 +1,3 @@
-mod Examples
 pub mod Sums
 pub mod CodeSets
 pub mod CodeReads
@@ -8,7 +7,6 @@ pub mod TreeSelections
 pub mod LiveInstances
 pub mod ResidualCodes
 pub mod ResumedPauses
-mod InstanceExamples
 pub mod CodesBelow
 pub mod StatementLists
 pub mod RowReads
@@ -25,3 +23,8 @@ pub mod RowSpots
 pub mod CodeBounds
 pub mod RowScopes
 pub mod BuiltReads
+pub mod SameWires
+pub mod Holding
+pub mod StateForms
+pub mod WirePlaces
+mod worked

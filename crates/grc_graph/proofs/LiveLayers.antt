@@ -1,6 +1,7 @@
 -- The layers of each statement of a body, as they are passed down to its parts.
-use Rattle.std.proofs.Common.{◌≡◌, ℕ, ◌+◌, ◌<◌, ◌≤◌, true, false, ◌==◌, cond, ltb, List, refl, ap, ◌∙◌, arith}
-use Rattle.std.proofs.lemmas.Bool.{eq-eqb, ne_eqb, cond_both, cond-true, cond-false, lt-ltb, ltb-true}
+use Rattle.std.proofs.Common.{◌≡◌, ℕ, ◌+◌, ◌<◌, ◌≤◌, ◌==◌, cond, ltb, List, refl, ap, ◌∙◌, arith}
+use Rattle.std.proofs.lemmas.Bool.{eq-eqb, ne_eqb, cond-true, cond-false, lt-ltb}
+use Rattle.facts.proofs.Tests.{ltb-not}
 use Rattle.est_kernel.specs.Terms.{Term, Nothing, Pause, Emit, Exit, Present, Suspend, Seq, Loop, Par, Trap, Local, Awake}
 use Rattle.est_kernel.specs.Preorder.{statement_count}
 use Rattle.grc_graph.specs.Layers.{Layer, Liveness, layers_of, body_liveness, liveness_at, body_layers}
@@ -33,9 +34,6 @@ here_agrees L a (Awake e p) n g = g.each n (omega arith) (omega arith)
 not_self : (a b : Liveness) (n m : ℕ) → n < m → cond (m == n) a b ≡ b
 not_self a b n m l = cond-false (m == n) a b (ne_eqb m n (λ e. omega arith))
 
-not_below : (a b : ℕ) → b ≤ a → ltb a b ≡ false
-not_below a b h = cond_both (ltb a b) true false (λ x. ltb a b ≡ false) (λ e. let i = ltb-true a b e in absurd (omega arith)) (λ e. e)
-
 pub only_agrees : (L : ℕ → List Layer) (a b : Liveness) (t p : Term) (n : ℕ) → statement_count t ≡ 1 + statement_count p →
     ((m : ℕ) → liveness_at a t n m ≡ cond (m == n) a (liveness_at b p (n + 1) m)) → Agrees L a t n → Agrees L b p (n + 1)
 only_agrees L a b t p n c f g =
@@ -61,5 +59,5 @@ second_agrees L a b c t p q n k f g =
     record {
       each = λ m l u.
           g.each m (omega arith) (omega arith)
-          ∙ ap layers_of (f m ∙ not_self a _ n m (omega arith) ∙ cond-false _ (liveness_at b p (n + 1) m) _ (not_below m (n + 1 + statement_count p) l));
+          ∙ ap layers_of (f m ∙ not_self a _ n m (omega arith) ∙ cond-false _ (liveness_at b p (n + 1) m) _ (ltb-not m (n + 1 + statement_count p) l));
     }

@@ -2,7 +2,7 @@
 use Rattle.std.proofs.Common.{◌≡◌, ℕ, zero, suc, ◌+◌, ◌<◌, ◌≤◌, ◌⊎◌, inl, inr, Bool, true, false, not, ◌==◌, ◌&&◌, ◌||◌, List, [], ◌∷◌, ◌++◌, length, refl, sym}
 use Rattle.std.proofs.Common.{ap, ◌∙◌, subst, ⊎_elim, arith}
 use Rattle.std.specs.Prelude.{if◌then◌else◌, Contains, All}
-use Rattle.std.proofs.lemmas.Bool.{false≢true, and_parts, and_from, or_cases, or_left, or_right, eq-eqb, ne_eqb}
+use Rattle.std.proofs.lemmas.Bool.{false≢true, and_parts, and_from, or_cases, or_left, or_right, eq-eqb, ne_eqb, false_from_ne_true}
 use Rattle.std.proofs.lemmas.List.Elements.{Contains-append_cases, All-contains, All-nil}
 use Rattle.std.proofs.lemmas.List.{append-nil}
 use Rattle.est_base.specs.Codes.{only, either, except, maxima, lowered}
@@ -32,9 +32,6 @@ OnlyLive S b (Par p q) n = OnlyLive S (b && resumes p) p (n + 1) × OnlyLive S (
 OnlyLive S b (Trap p) n = OnlyLive S (b && resumes p) p (n + 1)
 OnlyLive S b (Local s p) n = OnlyLive S (b && resumes p) p (n + 1)
 OnlyLive S b (Awake e p) n = Unit {0}
-
-or_false : (a b : Bool) → a ≡ false → b ≡ false → (a || b) ≡ false
-or_false a b h g = λ i. h i || g i
 
 holds_nothing : (S : ℕ → Bool) (t : Term) (n : ℕ) → OnlyLive S false t n → holds S t n ≡ false
 holds_nothing S Nothing n h = refl
@@ -92,7 +89,7 @@ branch_subset true p r f g k u = or_left _ _ (f refl k u)
 branch_subset false p r f g k u = or_right _ _ (subset_if (started_codes p 0 || resumed_codes p 0) (only 0) k g u)
 
 -- of the branches of a parallel that holds a selected pause, each holds one or can be over
-branches_fit : (a x b y : Bool) → each_or_over a x b y ≡ true → (a || b) ≡ true → ((a || x) ≡ true) × ((b || y) ≡ true)
+pub branches_fit : (a x b y : Bool) → each_or_over a x b y ≡ true → (a || b) ≡ true → ((a || x) ≡ true) × ((b || y) ≡ true)
 branches_fit a x b y h g =
     ⊎_elim (λ u. absurd (false≢true (sym ((λ i. not (g i))) ∙ u))) (λ u. and_parts (a || x) (b || y) u)
     (or_cases (not (a || b)) ((a || x) && (b || y)) h)
@@ -158,15 +155,11 @@ residual_codes S (Awake e p) n o w h = λ k u. absurd (false≢true h)
 
 -- ---- the selected pauses are leaves
 
-not_true : (b : Bool) → (b ≡ true → ⊥) → b ≡ false
-not_true true f = absurd (f refl)
-not_true false f = refl
-
 pause_live : (S : ℕ → Bool) (us : List ℕ) (b : Bool) (n k : ℕ) (pre post : List ℕ)
     → ((m : ℕ) → S m ≡ true → Contains us m) → Placed us b Pause n k pre post → b ≡ false → S n ≡ false
 pause_live S us true n k pre post f h e = absurd (false≢true (sym e))
 pause_live S us false n k pre post f h e =
-    not_true (S n) (λ s. ⊎_elim
+    false_from_ne_true (S n) (λ s. ⊎_elim
     (λ u. let l = All-contains (λ m. m < n) pre n h.below u in omega arith)
     (λ u. let l = All-contains (λ m. n + 1 ≤ m) post n h.above u in omega arith)
     (Contains-append_cases pre post n (subst (λ l. Contains l n) h.whole (f n s))))

@@ -6,6 +6,7 @@ use Rattle.std.proofs.lemmas.Bool.{cases_lt, cases_eq, cases_Bool, eq-eqb, ne_eq
 use Rattle.est_kernel.specs.Plain.{Program, interface_count}
 use Rattle.est_kernel.specs.Terms.{Expression, Term, Nothing, Pause, Emit, Exit, Present, Suspend, Seq, Loop, Par, Trap, Local, Awake}
 use Rattle.est_kernel.specs.Preorder.{statement_count}
+use Rattle.est_kernel.proofs.PreorderLaws.{statement_count-pos}
 use Rattle.grc_graph.specs.Layers.{Layer, Liveness, layer_above, layers_of, body_liveness, part_liveness, second_liveness, loop_liveness}
 use Rattle.grc_graph.specs.Scopes.{Scope, Binding, Entering, Outgoing, BoundAt, Unbound, bind, program_scope}
 use Rattle.grc_graph.specs.Statements.{Entry, Body, Part, Branch, Then, Else, Suspended, Second, Looped, signals_in, signals_of}
@@ -111,20 +112,6 @@ binders_first W inputs interface a s b e = first (nat_lt s inputs) (nat_lt s int
 
 -- ---- each statement
 
-pub statement_count-pos : (t : Term) → 0 < statement_count t
-statement_count-pos Nothing = omega arith
-statement_count-pos Pause = omega arith
-statement_count-pos (Emit s) = omega arith
-statement_count-pos (Exit k) = omega arith
-statement_count-pos (Present e p q) = omega arith
-statement_count-pos (Suspend e p) = omega arith
-statement_count-pos (Seq p q) = omega arith
-statement_count-pos (Loop at p) = omega arith
-statement_count-pos (Par p q) = omega arith
-statement_count-pos (Trap p) = omega arith
-statement_count-pos (Local s p) = omega arith
-statement_count-pos (Awake e p) = omega arith
-
 pub record PlacedAs (W : List Row) (m : ℕ) (r : Row) : Type 0 where
   pub within : m < length W
   pub stands : StandsAt W m (rows r.live r.scope r.entry r.statement m)
@@ -159,10 +146,10 @@ part_of W a B C x y t p k j n c w lt e f = record {
 }
 
 -- a place of a statement with one part, or with two
-one_place : (P : ℕ → Type 0) (n k m : ℕ) → P n → ((m : ℕ) → n + 1 ≤ m → m < n + 1 + k → P m) → n ≤ m → m < n + (1 + k) → P m
+pub one_place : (P : ℕ → Type 0) (n k m : ℕ) → P n → ((m : ℕ) → n + 1 ≤ m → m < n + 1 + k → P m) → n ≤ m → m < n + (1 + k) → P m
 one_place P n k m h f le lt = ⊎_elim (λ e. subst P (sym e) h) (λ d. f m (omega (arith, d, le)) (omega arith)) (cases_eq m n)
 
-two_places : (P : ℕ → Type 0) (n j k m : ℕ) → P n → ((m : ℕ) → n + 1 ≤ m → m < n + 1 + j → P m) → ((m : ℕ) → n + 1 + j ≤ m → m < n + 1 + j + k → P m)
+pub two_places : (P : ℕ → Type 0) (n j k m : ℕ) → P n → ((m : ℕ) → n + 1 ≤ m → m < n + 1 + j → P m) → ((m : ℕ) → n + 1 + j ≤ m → m < n + 1 + j + k → P m)
     → n ≤ m → m < n + (1 + j + k) → P m
 two_places P n j k m h f g le lt =
     ⊎_elim (λ e. subst P (sym e) h) (λ d. ⊎_elim (λ l. f m (omega (arith, d, le)) l) (λ l. g m l (omega arith)) (cases_lt m (n + 1 + j))) (cases_eq m n)

@@ -57,20 +57,6 @@ length-preorder (Trap p) = long_one (Trap p) (preorder p) (statement_count p) (l
 length-preorder (Local s p) = long_one (Local s p) (preorder p) (statement_count p) (length-preorder p)
 length-preorder (Awake e p) = long_one (Awake e p) (preorder p) (statement_count p) (length-preorder p)
 
-pub some_statement : (t : Term) → 0 < statement_count t
-some_statement Nothing = omega arith
-some_statement Pause = omega arith
-some_statement (Emit s) = omega arith
-some_statement (Exit k) = omega arith
-some_statement (Present e p q) = omega arith
-some_statement (Suspend e p) = omega arith
-some_statement (Seq p q) = omega arith
-some_statement (Loop at p) = omega arith
-some_statement (Par p q) = omega arith
-some_statement (Trap p) = omega arith
-some_statement (Local s p) = omega arith
-some_statement (Awake e p) = omega arith
-
 pub first_path : (t : Term) → get_or (paths t) 0 [] ≡ []
 first_path Nothing = refl
 first_path Pause = refl

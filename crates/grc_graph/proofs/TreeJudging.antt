@@ -1,12 +1,14 @@
 -- The judgement of a subtree by its places is that of its statement.
 use Rattle.std.proofs.Common.{◌≡◌, ℕ, zero, suc, ◌+◌, ◌-◌, ◌<◌, ◌≤◌, ◌⊎◌, Bool, true, false, ◌==◌, ◌&&◌, List, [], ◌∷◌, ◌++◌, length, map, get_or, refl, sym}
 use Rattle.std.proofs.Common.{ap, ◌∙◌, subst, ⊎_elim, arith, append_assoc, length-append}
-use Rattle.std.specs.Prelude.{nat_lt, if◌then◌else◌}
+use Rattle.std.specs.Prelude.{nat_lt}
 use Rattle.std.proofs.lemmas.List.{append-nil, get_or-append-add, length-map, get_or-map, get_or_append_left, get_or_default}
-use Rattle.std.proofs.lemmas.Bool.{false≢true, eq-eqb, ne_eqb, lt-ltb, le-ltb, cases_lt, and_from}
+use Rattle.std.proofs.lemmas.Bool.{eq-eqb, ne_eqb, lt-ltb, le-ltb, cases_lt, and_from}
 use Rattle.std.proofs.Math.Bool.{and-false}
+use Rattle.facts.proofs.Tests.{if-false, if-true}
 use Rattle.est_kernel.specs.Terms.{Term, Nothing, Pause, Emit, Exit, Present, Suspend, Seq, Loop, Par, Trap, Local, Awake}
 use Rattle.est_kernel.specs.Preorder.{statement_count}
+use Rattle.est_kernel.proofs.PreorderLaws.{statement_count-pos}
 use Rattle.grc_graph.specs.declared.trees.SelNode.{SelNode}
 use Rattle.grc_graph.specs.Layers.{can_pass}
 use Rattle.grc_graph.specs.SelectionTrees.{Form, Leaf, Exclusive, Parallel, Passing, TreeNode, tree_nodes, leaf_paths, subtree_if, resumes, second_resumes}
@@ -101,20 +103,6 @@ row_one bits t p f n i k e j = record {
   later = omega arith;
 }
 
-count_some : (p : Term) → 0 < statement_count p
-count_some Nothing = omega arith
-count_some Pause = omega arith
-count_some (Emit s) = omega arith
-count_some (Exit c) = omega arith
-count_some (Present e p q) = omega arith
-count_some (Suspend e p) = omega arith
-count_some (Seq p q) = omega arith
-count_some (Loop at p) = omega arith
-count_some (Par p q) = omega arith
-count_some (Trap p) = omega arith
-count_some (Local s p) = omega arith
-count_some (Awake e p) = omega arith
-
 row_two : (bits : List Bool) (t p q : Term) (other : Bool) (f : Form) (n i k : ℕ)
     → tree_nodes true t n i k ≡ subtree_if true n i f (tree_nodes (resumes p) p (n + 1) (i + 1) k
     ++ tree_nodes other q (n + 1 + statement_count p) (i + 1 + length (tree_nodes (resumes p) p (n + 1) (i + 1) k))
@@ -132,7 +120,7 @@ row_two bits t p q other f n i k e j = record {
   leaf = k + length (leaf_paths (resumes p) p (n + 1));
   nodes_two = e;
   judged = j;
-  later = omega (arith, count_some p);
+  later = omega (arith, statement_count-pos p);
 }
 
 pub row_of : (bits : List Bool) (t : Term) (n i k : ℕ) → 0 < length (tree_nodes true t n i k) → Row bits t n i k
@@ -167,14 +155,6 @@ live_nodes false t n i k h = absurd (omega (arith, h, ap length (tree_none t n i
 
 -- ---- the place of the second part
 
-chosen : {A : Type 0} (b : Bool) (x y : A) → b ≡ true → (if b then x else y) ≡ x
-chosen true x y h = refl
-chosen false x y h = absurd (false≢true h)
-
-left_out : {A : Type 0} (b : Bool) (x y : A) → b ≡ false → (if b then x else y) ≡ y
-left_out true x y h = absurd (false≢true (sym h))
-left_out false x y h = refl
-
 -- the node at a place of a list that has these nodes there
 pub node_there : (nodes : List SelNode) (pre xs post : List TreeNode) (i j : ℕ) (d : SelNode)
     → map node_of nodes ≡ pre ++ (xs ++ post)
@@ -190,7 +170,7 @@ node_there nodes pre xs post i j d e at within =
     ∙ get_or_append_left xs post (node_of d) j within
 
 -- the second part begins behind the nodes of the first
-middle_of : (nodes : List SelNode) (nest : SubtreesNest nodes) (i n m : ℕ) (d : SelNode) (pre A B post : List TreeNode) (f : Form)
+pub middle_of : (nodes : List SelNode) (nest : SubtreesNest nodes) (i n m : ℕ) (d : SelNode) (pre A B post : List TreeNode) (f : Form)
     → map node_of nodes ≡ pre ++ ((record { path = n; after = i + 1 + length (A ++ B); form = f } ∷ (A ++ B)) ++ post)
     → i ≡ length pre
     → Heads A (n + 1) (i + 1)
@@ -209,7 +189,7 @@ middle_of nodes nest i n m d pre A B post f e at a b lt =
     (λ (none : length A < 1).
     ⊎_elim
     (λ (empty : length B < 1).
-    left_out test _ _ (ap (λ v. v && (get_or nodes (i + 1) d).path.0 == (get_or nodes i d).path.0 + 1)
+    if-false test _ _ (ap (λ v. v && (get_or nodes (i + 1) d).path.0 == (get_or nodes i d).path.0 + 1)
     (le-ltb (i + 1) (end_of nodes i d) (omega (arith, end, both))))
     ∙ (let r : i + 1 ≡ i + 1 + length A = omega arith in r))
     (λ (some : 1 ≤ length B).
@@ -218,7 +198,7 @@ middle_of nodes nest i n m d pre A B post f e at a b lt =
     let second : get_or (A ++ B) 0 (node_of d) ≡ get_or B 0 (node_of d)
     = (let z : 0 ≡ length A + 0 = omega arith in ap (λ j. get_or (A ++ B) j (node_of d)) z) ∙ get_or-append-add A B 0 (node_of d) in
     let number : (get_or nodes (i + 1) d).path.0 ≡ m = ap (λ y. y.path) (next ∙ second) ∙ b.path (node_of d) (omega arith) in
-    left_out test _ _
+    if-false test _ _
     (ap (λ v. nat_lt (i + 1) (end_of nodes i d) && v) (ne_eqb _ _ (λ q. omega (arith, q, number, path, lt))) ∙ and-false _)
     ∙ (let r : i + 1 ≡ i + 1 + length A = omega arith in r))
     (cases_lt (length B) 1))
@@ -228,7 +208,7 @@ middle_of nodes nest i n m d pre A B post f e at a b lt =
     let first : get_or (A ++ B) 0 (node_of d) ≡ get_or A 0 (node_of d) = get_or_append_left A B (node_of d) 0 (omega arith) in
     let number : (get_or nodes (i + 1) d).path.0 ≡ n + 1 = ap (λ y. y.path) (next ∙ first) ∙ a.path (node_of d) (omega arith) in
     let behind : end_of nodes (i + 1) d ≡ i + 1 + length A = ap (λ y. y.after) (next ∙ first) ∙ a.after (node_of d) (omega arith) in
-    chosen test _ _
+    if-true test _ _
     (and_from _ _ (lt-ltb (i + 1) (end_of nodes i d) (omega (arith, end, both))) (eq-eqb _ _ (omega (arith, number, path))))
     ∙ behind)
     (cases_lt (length A) 1)
@@ -315,7 +295,7 @@ second_found nodes nest i d here next end within h n e lt test =
     let later : i + 1 < end_of nodes i d = subst (λ x. i + 1 < x.after) at lt in
     record {
       place = ap (λ x. x.after) close
-          ∙ sym (chosen _ _ _ (and_from _ _ (lt-ltb (i + 1) (end_of nodes i d) later)
+          ∙ sym (if-true _ _ _ (and_from _ _ (lt-ltb (i + 1) (end_of nodes i d) later)
           ((λ j. (sym following j).path.0 == (sym at j).path.0 + 1) ∙ test)));
       after = let b = nest.begun (i + 1) d inside in subst (λ x. i < x.after) (sym close) (omega arith);
       within = subst (λ x. x.after ≤ end_of nodes i d) (sym close) (nest.whole i (i + 1) d inside (omega arith) later);

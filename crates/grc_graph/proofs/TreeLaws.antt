@@ -5,6 +5,7 @@ use Rattle.std.specs.Prelude.{IsTrue, count_by, if◌then◌else◌}
 use Rattle.std.proofs.lemmas.List.{length-map, get_or_append_left, get_or-append-add}
 use Rattle.std.proofs.lemmas.Bool.{cases_lt, eq-eqb}
 use Rattle.std.proofs.Common.{◌-◌}
+use Rattle.facts.proofs.Lists.{count_by-cons}
 use Rattle.est_kernel.specs.Terms.{Term, Nothing, Pause, Emit, Exit, Present, Suspend, Seq, Loop, Par, Trap, Local, Awake}
 use Rattle.est_kernel.specs.Preorder.{statement_count}
 use Rattle.grc_graph.specs.declared.trees.SelForm.{SelForm}
@@ -250,11 +251,6 @@ count_from p n (x ∷ xs) =
     count_from p (n + cond (p x) 1 0) xs
     ∙ (let e : n + cond (p x) 1 0 + count_by p xs ≡ n + (0 + cond (p x) 1 0 + count_by p xs) = omega arith in e)
     ∙ ap (λ m. n + m) (sym (count_from p (0 + cond (p x) 1 0) xs))
-
-count_by-cons : {X : Type 0} (p : X → Bool) (x : X) (xs : List X) → count_by p (x ∷ xs) ≡ cond (p x) 1 0 + count_by p xs
-count_by-cons p x xs =
-    count_from p (0 + cond (p x) 1 0) xs
-    ∙ (let e : 0 + cond (p x) 1 0 + count_by p xs ≡ cond (p x) 1 0 + count_by p xs = omega arith in e)
 
 counts_leaf : (f : SelForm) → (if is_leaf f then 1 else 0) ≡ leaf_in (form_of f)
 counts_leaf (forms.Leaf k) = refl

@@ -5,9 +5,10 @@ use Rattle.std.specs.Prelude.{Contains, if◌then◌else◌}
 use Rattle.std.specs.List.{flat_map, list_any, range_with_len}
 use Rattle.std.proofs.lemmas.Bool.{cases_lt, cases_Bool, eq-eqb, eqb-true, or_cases, or_left, false≢true}
 use Rattle.std.specs.Prelude.{◌||◌}
-use Rattle.std.proofs.lemmas.List.{length-map, map-append, get_or-map, append-nil}
+use Rattle.std.proofs.lemmas.List.{map-append, append-nil}
 use Rattle.std.proofs.lemmas.List.FromFn.{get_or-map-range_with_len, length-map-range_with_len}
 use Rattle.std.proofs.lemmas.List.Elements.{Contains-append_left, Contains-append_right, Contains-append_cases, Contains-get_or}
+use Rattle.facts.proofs.Lists.{contains-flat_map, contains-map}
 use Rattle.est_kernel.specs.Plain.{Program, interface_count, outgoing_count}
 use Rattle.est_kernel.specs.WellFormed.{IsKernel}
 use Rattle.est_kernel.specs.Terms.{Term, Nothing, Pause, Emit, Exit, Present, Suspend, Seq, Loop, Par, Trap, Local, Awake}
@@ -24,6 +25,7 @@ use Rattle.grc_graph.proofs.LiveInstances.{at_layer, in_map, from_map, cases_of,
 use Rattle.grc_graph.proofs.RowSpots.{length-rows}
 use Rattle.grc_graph.proofs.RowReads.{length-program_rows}
 use Rattle.grc_graph.proofs.WireFilling.{row_wires, outs_of, program_wires_by_row}
+use Rattle.grc_graph.proofs.CodesBelow.{codes_below-none, codes_below-suc}
 
 -- ---- instances
 
@@ -159,18 +161,10 @@ instance_live p n l h g =
 
 -- ---- wires
 
-below_suc : (n : ℕ) (A : ℕ → Bool) → codes_below (suc n) A ≡ codes_below n A ++ (if A n then n ∷ [] else [])
-unfolding codes_below
-below_suc n A = refl
-
-below_none : (A : ℕ → Bool) → codes_below 0 A ≡ []
-unfolding codes_below
-below_none A = refl
-
 pub below_has : (n : ℕ) (A : ℕ → Bool) (k : ℕ) → k < n → A k ≡ true → Contains (codes_below n A) k
 below_has zero A k h e = absurd (omega arith)
 below_has (suc n) A k h e =
-    subst (λ l. Contains l k) (sym (below_suc n A))
+    subst (λ l. Contains l k) (sym (codes_below-suc n A))
     (⊎_elim (λ l. Contains-append_left (codes_below n A) _ k (below_has n A k l e))
     (λ g.
     let z : k ≡ n = omega arith in
@@ -180,10 +174,10 @@ below_has (suc n) A k h e =
     (cases_lt k n))
 
 pub below_only : (n : ℕ) (A : ℕ → Bool) (k : ℕ) → Contains (codes_below n A) k → A k ≡ true
-below_only zero A k h = let z : length (codes_below 0 A) ≡ 0 = ap length (below_none A) in absurd (omega (arith, h.1))
+below_only zero A k h = let z : length (codes_below 0 A) ≡ 0 = ap length (codes_below-none A) in absurd (omega (arith, h.1))
 below_only (suc n) A k h =
     ⊎_elim (λ l. below_only n A k l) (λ l. own (A n) refl l)
-    (Contains-append_cases (codes_below n A) (if A n then n ∷ [] else []) k (subst (λ l. Contains l k) (below_suc n A) h))
+    (Contains-append_cases (codes_below n A) (if A n then n ∷ [] else []) k (subst (λ l. Contains l k) (codes_below-suc n A) h))
   where
     own : (b : Bool) → A n ≡ b → Contains (if b then n ∷ [] else []) k → A k ≡ true
     own true e l =
@@ -199,19 +193,6 @@ listed_has A k h e = below_has 64 A k h e
 listed_only : (A : ℕ → Bool) (k : ℕ) → Contains (listed A) k → A k ≡ true
 unfolding listed
 listed_only A k h = below_only 64 A k h
-
--- membership in lists that are made of others
-contains_map : {X Y : Type 0} (f : X → Y) (xs : List X) (x : X) → Contains xs x → Contains (map f xs) (f x)
-contains_map f xs x h = (h.0, omega (arith, h.1, length-map xs f), get_or-map f xs h.0 x (f x) h.1 ∙ ap f h.2)
-
-contains_flat_map : {X Y : Type 0} (f : X → List Y) (xs : List X) (x : X) (y : Y) → Contains xs x → Contains (f x) y → Contains (flat_map f xs) y
-contains_flat_map f [] x y h g = absurd (omega (arith, h.1))
-contains_flat_map f (z ∷ zs) x y h g =
-    ⊎_elim
-    (λ k. let i : k.0 ≡ 0 = omega (arith, k.1) in let e : z ≡ x = (λ j. get_or (z ∷ []) (sym i j) x) ∙ k.2 in
-    Contains-append_left (f z) (flat_map f zs) y (subst (λ w. Contains (f w) y) (sym e) g))
-    (λ k. Contains-append_right (f z) (flat_map f zs) y (contains_flat_map f zs x y k g))
-    (Contains-append_cases (z ∷ []) zs x h)
 
 from_flat_map : {X Y : Type 0} (f : X → List Y) (xs : List X) (y : Y) → Contains (flat_map f xs) y → (x : X) × (Contains xs x) × (Contains (f x) y)
 from_flat_map f [] y h = absurd (omega (arith, h.1))
@@ -383,7 +364,7 @@ has_inside t IsStatus n l b h =
     Contains-append_right (Go n l ∷ []) _ (StatusOf n l) (Contains-append_left (own_status t n l) _ (StatusOf n l) (status_in t n l h))
 has_inside t (IsEnd k) n l b h =
     Contains-append_right (Go n l ∷ []) _ (End n l k)
-    (Contains-append_right (own_status t n l) _ (End n l k) (contains_map (λ k. End n l k) (listed (instance_codes t l)) k
+    (Contains-append_right (own_status t n l) _ (End n l k) (contains-map (λ k. End n l k) (listed (instance_codes t l)) k
     (listed_has (instance_codes t l) k b h)))
 
 -- the wires that the program has
@@ -392,7 +373,7 @@ wire_there p kernel c n l b h =
     let W = program_rows p in
     subst (λ ws. Contains ws (wire_named c n l)) (sym (program_wires_by_row p kernel))
     (Contains-append_right (outs_of p) (flat_map (row_wires W) (body_instances p.body)) (wire_named c n l)
-    (contains_flat_map (row_wires W) (body_instances p.body) (at_layer n l) (wire_named c n l)
+    (contains-flat_map (row_wires W) (body_instances p.body) (at_layer n l) (wire_named c n l)
     (instance_live p n l h.within h.live) (has_inside (row_at W n).statement c n l b h.has)))
 
 -- an outgoing signal that has a wire

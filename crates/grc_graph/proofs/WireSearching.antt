@@ -8,6 +8,7 @@ use Rattle.std.proofs.lemmas.List.{get_or-map, length-map}
 use Rattle.est_kernel.specs.Plain.{program_of}
 use Rattle.est_kernel.specs.Terms.{Term}
 use Rattle.est_kernel.specs.Preorder.{statement_count}
+use Rattle.est_kernel.proofs.PreorderLaws.{statement_count-pos}
 use Rattle.grc_graph.specs.declared.graph.Graph.{Graph}
 use Rattle.grc_graph.specs.declared.instances.Instance.{Instance}
 use Rattle.grc_graph.specs.declared.wires.Wire.{Wire}
@@ -17,7 +18,7 @@ use Rattle.grc_graph.specs.PathTargets.{Target, target, target_of, capped, cappe
 use Rattle.grc_graph.specs.PlainGraphs.{instance_at, instances_of, names_of, wire_of}
 use Rattle.grc_graph.specs.PlainInstances.{instance_of}
 use Rattle.grc_graph.specs.WireNames.{WireName, path_at, bound_at, bound_signal, wire_name}
-use Rattle.grc_graph.proofs.StatementPaths.{finds, length-paths, path_at-past, some_statement, bound_at-past}
+use Rattle.grc_graph.proofs.StatementPaths.{finds, length-paths, path_at-past, bound_at-past}
 
 abbrev number_or : Option Target → ℕ
 number_or None = 0
@@ -58,7 +59,7 @@ known-in t n count e h few = record { within = omega (arith, e, h); few = few; p
 
 pub known-out : (t : Term) (n count : ℕ) → count ≡ capped (statement_count t) → count ≤ n → n < 2 ^ 32 → Known t n 0
 known-out t n count e h few = record {
-  within = some_statement t;
+  within = statement_count-pos t;
   few = omega arith;
   path = path_at-past t n (omega (arith, e, h, few));
 }

@@ -1,2 +1,2 @@
 pub mod Climbing
-mod WorkedListings
+mod worked

@@ -5,11 +5,13 @@ use Rattle.std.proofs.lemmas.Bool.{cases_eq, cases_lt, cases_Bool, ne_eqb, eq-eq
 use Rattle.std.proofs.lemmas.List.{length-set, length_push, length-take-le, take_more, get_or-take, get_or_append_left, get_or_push, get_or_default}
 use Rattle.std.proofs.lemmas.List.Sums.{count_by_more_yes, count_by-le-length, sum_by-set, sum_by-take-le}
 use Rattle.std.proofs.lemmas.List.Elements.{All-head, All-tail, All-push, All-filter, All-contains_itself, filter_passes, at_from_Contains}
+use Rattle.facts.proofs.Lists.{count_by-no, count_by-yes}
 use Rattle.est_base.specs.declared.indices.WireId.{WireId}
 use Rattle.grc_graph.specs.WireOrders.{WireEdge, wire_at, edge_at, times, AreEdges, IsWireOrder}
+use Rattle.grc_graph.proofs.WirePlaces.{place-of}
 use Rattle.grc_order.specs.Schedules.{edges_from}
 use Rattle.grc_order.specs.Checks.{LeadToMarked, IsChecked}
-use Rattle.grc_order.proofs.Counts.{bit, count_by-yes, count_by-no, times-push, times-place, place_of}
+use Rattle.grc_order.proofs.Counts.{bit, times-push, times-place}
 
 -- what holds of each edge from a wire
 from_each : (P : WireEdge → Type 0) (v : ℕ) (pairs : List WireEdge) → All P (edges_from v pairs) → (k : ℕ) → k < length pairs → (edge_at pairs k).0.0 ≡ v
@@ -169,7 +171,7 @@ leads_back count pairs list k marks edges order low checked found =
     let marked : bit (slice_index_or (set marks v.0 true) w false) ≡ 1 = rw found.2 refl in
     let upto = take_more list k (record { 0 = 0 }) low in
     let long = length-take-le (k + 1) list (omega arith) in
-    let seen = place_of (take (k + 1) list) w (omega (arith, ap (λ xs. times xs w) upto)) in
+    let seen = place-of (take (k + 1) list) w (omega (arith, ap (λ xs. times xs w) upto)) in
     let at : wire_at list seen.0 ≡ w = ap (λ (u : WireId). u.0) (sym (get_or-take (k + 1) list seen.0 (record { 0 = 0 }) (omega (arith, seen.1)))) ∙ seen.2 in
     let behind = order.along place.0 k seen.0 place.1 low (omega (arith, seen.1))
     (sym (ap (λ (e : WireEdge). e.0.0) place.2 ∙ from_begins v.0 pairs found.0 found.1)) (at ∙ sym (ap (λ (e : WireEdge). e.1.0) place.2)) in

@@ -1,8 +1,9 @@
 -- How often wires stand in lists, and how many edges hold a wire back.
 use Rattle.std.proofs.Common.{◌≡◌, ℕ, ◌+◌, ◌<◌, zero, suc, Bool, true, false, ◌==◌, ◌&&◌, cond, List, [], ◌∷◌, ◌++◌, length}
-use Rattle.std.proofs.Common.{count_by, refl, sym, ap, ◌∙◌, arith, zero-add, inl, inr}
+use Rattle.std.proofs.Common.{count_by, refl, sym, ◌∙◌, arith, inl, inr}
 use Rattle.std.proofs.lemmas.Bool.{cases_eq, ne_eqb, eq-eqb, eqb-true, eqb-false, and_parts, and_from, cases_Bool}
-use Rattle.std.proofs.lemmas.List.Sums.{sum_by-cons, sum_by_push}
+use Rattle.std.proofs.lemmas.List.Sums.{sum_by_push}
+use Rattle.facts.proofs.Lists.{count_by-cons, count_by-no, count_by-yes}
 use Rattle.est_base.specs.declared.indices.WireId.{WireId}
 use Rattle.grc_graph.specs.WireOrders.{WireEdge, wire_at, edge_at, times}
 use Rattle.grc_order.specs.Schedules.{holds_back, edges_from, arrivals}
@@ -10,15 +11,6 @@ use Rattle.grc_order.specs.Schedules.{holds_back, edges_from, arrivals}
 -- 1 where a test passes, else 0
 abbrev pub bit : Bool → ℕ
 bit b = cond b 1 0
-
-pub count_by-cons : {X : Type 0} (p : X → Bool) (x : X) (xs : List X) → count_by p (x ∷ xs) ≡ cond (p x) 1 0 + count_by p xs
-count_by-cons p x xs = sum_by-cons (λ y. cond (p y) 1 0) x xs
-
-pub count_by-yes : {X : Type 0} (p : X → Bool) (x : X) (xs : List X) → p x ≡ true → count_by p (x ∷ xs) ≡ 1 + count_by p xs
-count_by-yes p x xs passes = count_by-cons p x xs ∙ ap (λ b. cond b 1 0 + count_by p xs) passes
-
-pub count_by-no : {X : Type 0} (p : X → Bool) (x : X) (xs : List X) → p x ≡ false → count_by p (x ∷ xs) ≡ count_by p xs
-count_by-no p x xs fails = count_by-cons p x xs ∙ ap (λ b. cond b 1 0 + count_by p xs) fails ∙ zero-add (count_by p xs)
 
 -- one more wire
 pub times-push : (xs : List WireId) (v : WireId) (w : ℕ) → times (xs ++ v ∷ []) w ≡ times xs w + cond (v.0 == w) 1 0
@@ -50,18 +42,6 @@ holds_back-split placed v w (e ∷ es) free =
     let old = count_by-cons (holds_back placed w) e es in
     let new = count_by-cons (holds_back (placed ++ v ∷ []) w) e es in
     omega (arith, rest, here, old, new)
-
--- what stands in a list has a place
-pub place_of : (xs : List WireId) (w : ℕ) → 0 < times xs w → (k : ℕ) × (k < length xs) × (wire_at xs k ≡ w)
-place_of [] w some = absurd (omega arith)
-place_of (x ∷ xs) w some = elim (cases_eq x.0 w) [
-  | inl same ↦ (0, omega arith, same)
-  | inr apart ↦
-      let e = ne_eqb x.0 w apart in
-      let more = count_by-no (λ (v : WireId). v.0 == w) x xs e in
-      let rest = place_of xs w (omega arith) in
-      (suc rest.0, omega (arith, rest.1), rest.2)
-]
 
 -- and what has a place stands in it
 pub times-place : (xs : List WireId) (k : ℕ) → k < length xs → 0 < times xs (wire_at xs k)

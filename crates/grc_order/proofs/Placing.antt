@@ -1,5 +1,5 @@
 -- How a schedule begins, goes on and ends.
-use Rattle.std.proofs.Common.{◌≡◌, ℕ, ◌+◌, ◌<◌, ◌≤◌, zero, suc, Bool, true, false, not, ◌==◌, ◌&&◌, List, [], ◌∷◌, ◌++◌, length}
+use Rattle.std.proofs.Common.{◌≡◌, ℕ, ◌+◌, ◌<◌, ◌≤◌, zero, suc, true, false, not, ◌==◌, List, [], ◌∷◌, ◌++◌, length}
 use Rattle.std.proofs.Common.{slice_index, get_or, count_by, set, refl, sym, ap, ◌∙◌, arith, inl, inr, get_or-set_same}
 use Rattle.std.proofs.Common.{get_or-set_other}
 use Rattle.std.specs.List.{swap_remove}
@@ -9,14 +9,12 @@ use Rattle.std.proofs.lemmas.List.{length-set, length_push, get_or_append_left, 
 use Rattle.std.proofs.lemmas.List.Sums.{sum_by-set, sum_by-swap_remove, sum_by-le, get_or-le-sum_by}
 use Rattle.std.proofs.lemmas.List.Elements.{All-push, All-tail}
 use Rattle.std.proofs.lemmas.List.Sorted.{IsPermutation-swap_remove, All-permutation, length_permutation}
+use Rattle.facts.proofs.Lists.{count_by-no, count_by-yes}
+use Rattle.facts.proofs.Tests.{and-true}
 use Rattle.est_base.specs.declared.indices.WireId.{WireId}
 use Rattle.grc_graph.specs.WireOrders.{WireEdge, wire_at, edge_at, times, AreEdges, AreRanks, IsWireOrder}
 use Rattle.grc_order.specs.Schedules.{holds_back, edges_from, arrivals, IsAlong, IsSchedule, IsReadyOf}
-use Rattle.grc_order.proofs.Counts.{bit, count_by-yes, count_by-no, times-push, holds_back-split, times-place, holder, unheld}
-
-and_true : (b : Bool) → (b && true) ≡ b
-and_true true = refl
-and_true false = refl
+use Rattle.grc_order.proofs.Counts.{bit, times-push, holds_back-split, times-place, holder, unheld}
 
 -- no wire is placed: a wire waits for every edge to it
 pub IsSchedule-start : (count : ℕ) (pairs : List WireEdge) (waiting : List ℕ) (ready : List WireId) → length waiting ≡ count
@@ -26,7 +24,7 @@ IsSchedule-start count pairs waiting ready len counts is_ready = record {
   ready_in = λ k d h. let low = is_ready.in_range k d h in omega arith;
   placed_in = λ k d h. absurd (omega arith);
   waits = λ w h.
-      let all : count_by (holds_back [] w) pairs ≡ arrivals pairs w = λ i. count_by (λ (e : WireEdge). and_true (e.1.0 == w) i) pairs in
+      let all : count_by (holds_back [] w) pairs ≡ arrivals pairs w = λ i. count_by (λ (e : WireEdge). and-true (e.1.0 == w) i) pairs in
       omega (arith, counts w h, all);
   once = λ w h. omega (arith, is_ready.once w (omega arith));
   total = omega (arith, is_ready.total);

@@ -1,5 +1,5 @@
 -- The edges from one wire stand side by side in ascending edges.
-use Rattle.std.proofs.Common.{◌≡◌, ℕ, ◌+◌, ◌-◌, ◌<◌, ◌≤◌, Bool, true, false, ◌==◌, nat_lt, List, [], ◌∷◌, ◌++◌, length, filter, slice_index_or, take}
+use Rattle.std.proofs.Common.{◌≡◌, ℕ, ◌+◌, ◌-◌, ◌<◌, ◌≤◌, Bool, true, ◌==◌, nat_lt, List, [], ◌∷◌, ◌++◌, length, filter, slice_index_or, take}
 use Rattle.std.proofs.Common.{drop, get_or, slice_index, refl, sym, ap, ◌∙◌, subst, arith, All, inl, inr}
 use Rattle.std.proofs.lemmas.Bool.{cases_lt, ne_eqb, eq-eqb, or_cases, and_parts, ltb-true, ltb-false, leb-true, leb-false, eqb-true}
 use Rattle.std.proofs.lemmas.Bool.{lt-ltb, le-ltb, lt-leb, le-leb}
@@ -7,15 +7,10 @@ use Rattle.std.proofs.lemmas.List.{take-append-drop, drop-drop, get_or-take, get
 use Rattle.std.proofs.lemmas.List.{length_push, get_or_append_left, get_or-append-add}
 use Rattle.std.proofs.lemmas.List.Elements.{filter-append, All-head, All-tail}
 use Rattle.std.specs.List.Sorted.{IsNonDecreasingBy}
+use Rattle.facts.proofs.Lists.{filter-none}
 use Rattle.grc_graph.specs.WireOrders.{WireEdge, edge_at, edge_before, AreEdges}
 use Rattle.grc_order.specs.Runs.{AreBegins, BeginBelow, SplitsBelow, SplitsAbove}
 use Rattle.grc_order.specs.Schedules.{edges_from}
-
-filter-none : {X : Type 0} (p : X → Bool) (xs : List X) → All (λ x. p x ≡ false) xs → filter p xs ≡ []
-filter-none p [] none = refl
-filter-none p (x ∷ xs) none =
-    let here : p x ≡ false = All-head (λ y. p y ≡ false) x xs none in
-    rw here (filter-none p xs (All-tail (λ y. p y ≡ false) x xs none))
 
 filter-all : {X : Type 0} (p : X → Bool) (xs : List X) → All (λ x. p x ≡ true) xs → filter p xs ≡ xs
 filter-all p [] all = refl

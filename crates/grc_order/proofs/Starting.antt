@@ -7,8 +7,9 @@ use Rattle.std.proofs.lemmas.List.Sums.{count_by_more_yes, count_by_more_no, cou
 use Rattle.std.proofs.lemmas.List.Elements.{All-push}
 use Rattle.est_base.specs.declared.indices.WireId.{WireId}
 use Rattle.grc_graph.specs.WireOrders.{WireEdge, edge_at, times}
+use Rattle.grc_graph.proofs.WirePlaces.{place-of}
 use Rattle.grc_order.specs.Schedules.{arrivals, IsReadyOf}
-use Rattle.grc_order.proofs.Counts.{bit, times-push, place_of}
+use Rattle.grc_order.proofs.Counts.{bit, times-push}
 
 -- the edge at k is counted
 pub arrivals-more : (pairs : List WireEdge) (counts : List ℕ) (k x : ℕ) → k < length pairs → (edge_at pairs k).1.0 < length counts
@@ -33,7 +34,7 @@ times-below : (ready : List WireId) (k w : ℕ) → k ≤ w → All (λ v. v.0 <
 times-below ready k w over below = elim (cases_eq (times ready w) 0) [
   | inl none ↦ none
   | inr some ↦
-      let place = place_of ready w (omega arith) in
+      let place = place-of ready w (omega arith) in
       let low = below place.0 (record { 0 = 0 }) place.1 in
       absurd (omega (arith, place.2))
 ]

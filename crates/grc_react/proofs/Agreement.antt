@@ -1,8 +1,7 @@
 -- Sources and rows have the same values in surroundings that agree in what they read.
-use Rattle.std.proofs.Common.{◌≡◌, ℕ, ◌<◌, zero, suc, Bool, false, not, ◌&&◌, ◌||◌, List, [], ◌∷◌, ◌++◌, length, slice_index_or, map, refl, ap, ◌∙◌, arith}
-use Rattle.std.proofs.Common.{IsTrue, All}
+use Rattle.std.proofs.Common.{◌≡◌, ℕ, ◌<◌, zero, suc, Bool, false, not, ◌&&◌, ◌||◌, List, [], ◌∷◌, ◌++◌, length, slice_index_or, refl, ap, ◌∙◌, arith}
+use Rattle.std.proofs.Common.{IsTrue}
 use Rattle.std.proofs.lemmas.Bool.{ltb-true, and_parts}
-use Rattle.std.proofs.lemmas.List.Elements.{All-head, All-tail}
 use Rattle.grc_words.specs.declared.table.Source.{Source}
 use Rattle.grc_words.specs.declared.table.Source.TheVariants as sources
 use Rattle.grc_words.specs.declared.table.Row.{Row}
@@ -47,15 +46,3 @@ rows-agree b t u values (r ∷ rs) a fits =
     let first = row-agrees (b here.0) t u values r (a here.0) here.1 in
     ap (λ x. row_values t (values ++ x ∷ []) rs) first
     ∙ rows-agree b t u (values ++ row_value u values r ∷ []) rs a (λ k d low. fits (suc k) d (omega arith))
-
--- the values of a list, by two functions that agree on it, or by one after another
-pub maps-agree : {X Y : Type 0} (f h : X → Y) (xs : List X) → All (λ x. f x ≡ h x) xs → map f xs ≡ map h xs
-maps-agree f h [] same = refl
-maps-agree f h (x ∷ xs) same =
-    let here = All-head (λ y. f y ≡ h y) x xs same in
-    let rest = maps-agree f h xs (All-tail (λ y. f y ≡ h y) x xs same) in
-    λ i. here i ∷ rest i
-
-pub maps-twice : {X Y Z : Type 0} (f : Y → Z) (h : X → Y) (xs : List X) → map (λ x. f (h x)) xs ≡ map f (map h xs)
-maps-twice f h [] = refl
-maps-twice f h (x ∷ xs) = ap (λ ys. f (h x) ∷ ys) (maps-twice f h xs)

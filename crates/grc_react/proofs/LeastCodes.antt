@@ -3,6 +3,7 @@ use Rattle.std.proofs.Common.{◌≡◌, ℕ, ◌+◌, ◌<◌, ◌≤◌, zero,
 use Rattle.std.proofs.Common.{slice_index_or, refl, sym, ap, ◌∙◌, subst, arith, Option, Some, None, unwrap_or, inl, inr, ◌⊎◌}
 use Rattle.std.proofs.lemmas.Bool.{cases_lt, cases_Bool, cond-true, cond-false, and_parts, or_cases, lt-ltb, ltb-true, eqb-true, false≢true, or_left, or_right}
 use Rattle.std.proofs.lemmas.List.{get_or-map}
+use Rattle.std.proofs.lemmas.Bool.{false_from_ne_true}
 use Rattle.grc_graph.specs.declared.graph.Graph.{Graph}
 use Rattle.grc_graph.specs.declared.wires.Wire as declared
 use Rattle.grc_graph.specs.declared.wires.Wire.TheVariants as wires
@@ -10,15 +11,14 @@ use Rattle.grc_graph.specs.Instances.{Instance}
 use Rattle.grc_graph.specs.Layers.{Layer, Resumed, Started, same_layer}
 use Rattle.grc_graph.specs.PlainGraphs.{instance_at, instances_of, names_of, wire_at, wire_of}
 use Rattle.grc_graph.specs.Wires.{Wire, Go, End, same_wire, codes_below, listed}
+use Rattle.grc_graph.proofs.SameWires.{same_layer-true, same_wire-true}
+use Rattle.grc_graph.proofs.WirePlaces.{length-names}
 use Rattle.grc_sem.specs.GraphWalks.{ends_with, shown_code}
 use Rattle.grc_solutions.specs.Evaluations.{valuation_of}
 use Rattle.grc_solutions.specs.GraphWires.{Differ}
 use Rattle.grc_solutions.proofs.Evaluated.{value_there}
-use Rattle.grc_solutions.proofs.Looked.{layers_same}
-use Rattle.grc_solutions.proofs.SameWires.{same_wire-true}
 use Rattle.grc_react.specs.Codes.{is_body, body_code, least_of}
 use Rattle.grc_react.specs.Evaluations.{value_at}
-use Rattle.grc_react.proofs.Stages.{length-names}
 
 -- ---- the first code of a set
 
@@ -60,8 +60,8 @@ IsBodyEnd u k = (u ≡ End 0 Resumed k) ⊎ (u ≡ End 0 (Started 0) k)
 body-layer : (l : Layer) (k : ℕ) → (same_layer l Resumed || same_layer l (Started 0)) ≡ true → IsBodyEnd (End 0 l k) k
 unfolding IsBodyEnd
 body-layer l k e = elim (or_cases (same_layer l Resumed) (same_layer l (Started 0)) e) [
-  | inl here ↦ inl (ap (λ j. End 0 j k) (layers_same l Resumed here))
-  | inr here ↦ inr (ap (λ j. End 0 j k) (layers_same l (Started 0) here))
+  | inl here ↦ inl (ap (λ j. End 0 j k) (same_layer-true l Resumed here))
+  | inr here ↦ inr (ap (λ j. End 0 j k) (same_layer-true l (Started 0) here))
 ]
 
 end-of_code : (insts : List Instance) (x : declared.Wire) (c : ℕ) → body_code insts x ≡ Some c → (c < 64) × IsBodyEnd (wire_of insts x) c
@@ -268,20 +268,17 @@ ends-there g values c low e =
       code = code-of_end (instances_of g) (wire_there g f.place) c low (subst (λ u. IsBodyEnd u c) (sym named) h.2);
     }
 
-not-true : (b : Bool) → (b ≡ true → ⊥) → b ≡ false
-not-true b never = elim (cases_Bool b) [ inl so ↦ absurd (never so) | inr other ↦ other ]
-
 pub least-shown : (g : Graph) (values : List Bool) (least : Option ℕ) → Differ (names_of g) → length values ≡ length g.wires.items
     → Least g values (length g.wires.items) least → unwrap_or least 0 ≡ shown_code (valuation_of (names_of g) values)
 least-shown g values None differ all m =
-    none-listed (ends_with (valuation_of (names_of g) values)) (λ k low. not-true (ends_with (valuation_of (names_of g) values) k) (λ e.
+    none-listed (ends_with (valuation_of (names_of g) values)) (λ k low. false_from_ne_true (ends_with (valuation_of (names_of g) values) k) (λ e.
     let r = m.lowest k (ends-there g values k low e) in
     let none : None ≡ Some r.0 = r.1 in
     cc))
 least-shown g values (Some c) differ all m =
     let A = ends_with (valuation_of (names_of g) values) in
     let here = ended g values c differ all (m.among c refl) in
-    first-listed A c here.1 (λ k less. not-true (A k) (λ e.
+    first-listed A c here.1 (λ k less. false_from_ne_true (A k) (λ e.
     let r = m.lowest k (ends-there g values k (omega (arith, here.0)) e) in
     let same : Some c ≡ Some r.0 = r.1 in
     let is : c ≡ r.0 = cc in

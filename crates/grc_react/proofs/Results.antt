@@ -2,6 +2,7 @@
 use Rattle.std.proofs.Common.{◌≡◌, ℕ, ◌==◌, Bool, true, false, ◌||◌, List, [], ◌∷◌, length, map, sym, ap, ◌∙◌, subst, inl, inr, Some}
 use Rattle.std.specs.List.{list_any}
 use Rattle.std.proofs.lemmas.Bool.{cases_Bool, cond-false, or_left, or_right, false≢true}
+use Rattle.facts.proofs.Lists.{map-equal}
 use Rattle.est_base.specs.declared.indices.WireId.{WireId}
 use Rattle.est_kernel.specs.Plain.{Program, program_of, interface_of, given_count}
 use Rattle.est_kernel.specs.Reactions.{is_given}
@@ -18,6 +19,7 @@ use Rattle.grc_graph.specs.Selected.{IsState}
 use Rattle.grc_graph.specs.SelectionTrees.{body_leaves, selecting}
 use Rattle.grc_graph.specs.Walk.{State, remaining}
 use Rattle.grc_graph.specs.Wires.{Wire, Out}
+use Rattle.grc_graph.proofs.StateForms.{states-are-formed}
 use Rattle.grc_sem.specs.GraphWalks.{SelectsLeaves, IsWalkOf, graph_walk, shown_code}
 use Rattle.grc_sem.proofs.Instants.{next_state_is_kept_lem, codes_are_shown_lem}
 use Rattle.grc_sem.proofs.Runs.{program_kernel, solutions_are_reactions_lem}
@@ -28,8 +30,7 @@ use Rattle.grc_solutions.proofs.Solving.{one_solution_lem}
 use Rattle.grc_words.specs.Occasions.{state_of}
 use Rattle.grc_react.specs.declared.reaction.Reaction.{Reaction}
 use Rattle.grc_react.specs.Reactions.{IsProgramGraph, BeginsWell, IsWalked, IsConstructive, state_after, valued}
-use Rattle.grc_react.proofs.States.{state-formed, formed-state}
-use Rattle.grc_react.proofs.Agreement.{maps-agree}
+use Rattle.grc_react.proofs.States.{formed-state}
 use Rattle.grc_react.proofs.Steps.{ReadsAlong, plain-order, plain-differ}
 
 -- two solutions agree in every wire
@@ -59,7 +60,7 @@ start-leaves body false bits = λ m e. selects-among (body_leaves body) bits m e
 outputs-are : (p : Program) (q : State) (event : List Bool) (V : Valuation) → IsWalkOf p q event V
     → (shown (graph_of p) V).outputs ≡ map (λ s. is_given event s || (graph_walk p q event V).signals s) (interface_of p).outgoing
 outputs-are p q event V walk =
-    maps-agree (λ s. V (Out s)) (λ s. is_given event s || (graph_walk p q event V).signals s) (interface_of p).outgoing walk.outputs
+    map-equal (λ s. V (Out s)) (λ s. is_given event s || (graph_walk p q event V).signals s) (interface_of p).outgoing walk.outputs
 
 -- a reaction of a graph that is its program's
 pub record Premises (g : Graph) (q : State) (event : List Bool) (r : Reaction) : Type 0 where
@@ -100,7 +101,7 @@ walked g q event r m =
       outputs = m.emitted_is ∙ ap (λ (P : PlainGraph). (shown P V).outputs) m.graph ∙ outputs-are p q event V walk;
       ends = m.code_is ∙ codes_are_shown_lem p q event V kernel m.no_loop m.state solves;
       keeps = λ n. ap (λ xs. selecting (body_leaves p.body) xs n) bits ∙ kept.0 n;
-      formed = state-formed (selecting (body_leaves p.body) r.next) p.body state;
+      formed = states-are-formed (selecting (body_leaves p.body) r.next) p.body state;
       state = state;
     }
 

@@ -1,9 +1,10 @@
 -- What a stage of an evaluation says of the sources of the table of words.
 use Rattle.std.proofs.Common.{◌≡◌, ℕ, ◌<◌, ◌≤◌, Bool, false, List, [], length, take, drop, slice_index_or, slice_set, refl, sym, ap, ◌∙◌, arith, IsTrue}
 use Rattle.std.proofs.lemmas.Bool.{ltb-true, lt-ltb}
-use Rattle.std.proofs.lemmas.List.{length-map, length-set, length-take, get_or-take, take-append-drop}
+use Rattle.std.proofs.lemmas.List.{length-set, length-take, get_or-take, take-append-drop}
 use Rattle.grc_graph.specs.declared.graph.Graph.{Graph}
-use Rattle.grc_graph.specs.PlainGraphs.{instances_of, names_of, wire_at, wire_of}
+use Rattle.grc_graph.specs.PlainGraphs.{names_of, wire_at}
+use Rattle.grc_graph.proofs.WirePlaces.{length-names}
 use Rattle.grc_solutions.specs.Evaluations.{valuation_of}
 use Rattle.grc_solutions.proofs.Evaluated.{value_there, value_off}
 use Rattle.grc_words.specs.declared.table.Row.{Row}
@@ -29,9 +30,6 @@ occasion g w s wires rows st = record {
   one_per_given = st.given;
   unselected = st.first;
 }
-
-pub length-names : (g : Graph) → length (names_of g) ≡ length g.wires.items
-length-names g = length-map g.wires.items (wire_of (instances_of g))
 
 pub false-off : (g : Graph) (wires : List Bool) → FalseOffWires g (valuation_of (names_of g) wires)
 false-off g wires = λ w none. value_off (names_of g) wires w none

@@ -1,9 +1,10 @@
 -- The selections of leaves that are states are those that are well formed.
-use Rattle.std.proofs.Common.{◌≡◌, ℕ, ◌+◌, ◌<◌, ◌≤◌, Bool, true, false, not, ◌&&◌, ◌||◌, List, [], ◌++◌, refl, sym, ap, ◌∙◌, subst, arith, inl, inr}
+use Rattle.std.proofs.Common.{◌≡◌, ℕ, ◌+◌, ◌<◌, ◌≤◌, Bool, true, false, not, ◌&&◌, ◌||◌, List, [], ◌++◌, refl, ap, ◌∙◌, subst, arith, inl, inr}
 use Rattle.std.specs.Prelude.{Contains}
 use Rattle.std.proofs.lemmas.Bool.{cases_Bool, and_parts, and_from, or_cases, or_parts, eqb-true, false≢true}
 use Rattle.std.proofs.lemmas.List.Elements.{Contains-append_cases, All-contains}
 use Rattle.std.proofs.lemmas.Map.Views.{Contains-from_any}
+use Rattle.facts.proofs.Tests.{not-false}
 use Rattle.est_kernel.specs.Terms.{Term, Nothing, Pause, Emit, Exit, Present, Suspend, Seq, Loop, Par, Trap, Local, Awake}
 use Rattle.est_kernel.specs.Preorder.{statement_count}
 use Rattle.grc_graph.specs.Layers.{can_pass}
@@ -13,15 +14,10 @@ use Rattle.grc_graph.specs.Selections.{well_formed, at_most_one, each_or_over}
 use Rattle.grc_graph.specs.SelectionTrees.{leaf_paths, resumes, second_resumes, body_leaves}
 use Rattle.grc_graph.specs.Walk.{Selecting}
 use Rattle.grc_graph.proofs.TreeSelections.{leaves_among, leaves_none}
+use Rattle.grc_graph.proofs.ResidualCodes.{branches_fit}
 use Rattle.grc_sem.specs.GraphWalks.{SelectsLeaves}
 
 -- ---- a state is well formed
-
-not-true : (b : Bool) → not b ≡ true → b ≡ false
-not-true b e = elim (cases_Bool b) [
-  | inl so ↦ absurd (false≢true (sym (ap not so) ∙ e))
-  | inr other ↦ other
-]
 
 -- what holds no selected pause is well formed
 formed-none : (S : ℕ → Bool) (t : Term) (n : ℕ) → holds S t n ≡ false → well_formed S t n ≡ true
@@ -87,9 +83,6 @@ selected-formed S (Par p q) n h =
 selected-formed S (Trap p) n h = selected-formed S p (n + 1) h
 selected-formed S (Local s p) n h = selected-formed S p (n + 1) h
 selected-formed S (Awake c p) n h = refl
-
-pub state-formed : (S : ℕ → Bool) (body : Term) → IsState (Selecting S) body → well_formed S body 0 ≡ true
-state-formed S body h = part-formed S body 0 (λ e. selected-formed S body 0 (h e))
 
 -- ---- what is well formed is a state
 
@@ -189,13 +182,6 @@ second-live S b d t p q n count h e =
     let x = some-chosen S q c e in
     live-leaf d q c x.place (second-leaf S b d t p q n count h x.place x.from x.below x.chosen)
 
--- of the branches of a parallel that holds a selected pause, each holds one or can be over
-branches-over : (a x b y : Bool) → each_or_over a x b y ≡ true → (a || b) ≡ true → ((a || x) ≡ true) × ((b || y) ≡ true)
-branches-over a x b y h some = elim (or_cases (not (a || b)) ((a || x) && (b || y)) h) [
-  | inl none ↦ absurd (false≢true (sym (ap not some) ∙ none))
-  | inr each ↦ and_parts (a || x) (b || y) each
-]
-
 formed-selected : (S : ℕ → Bool) (t : Term) (n : ℕ) → Chosen S t n (leaf_paths true t n) → well_formed S t n ≡ true → holds S t n ≡ true → IsSelected S t n
 formed-selected S Nothing n h w e = tt
 formed-selected S Pause n h w e = tt
@@ -205,7 +191,7 @@ formed-selected S (Present x p q) n h w e =
     let c = n + 1 + statement_count p in
     let parts = and_parts (at_most_one (holds S p (n + 1)) (holds S q c)) (well_formed S p (n + 1) && well_formed S q c) w in
     let each = and_parts (well_formed S p (n + 1)) (well_formed S q c) parts.1 in (
-      not-true (holds S p (n + 1) && holds S q c) parts.0,
+      not-false (holds S p (n + 1) && holds S q c) parts.0,
       λ f. formed-selected S p (n + 1) (first-chosen S (resumes p) (resumes q) (Present x p q) p q n refl h) each.0 f,
       λ f. formed-selected S q c (second-chosen S (resumes p) (resumes q) (Present x p q) p q n refl h) each.1 f,
     )
@@ -215,7 +201,7 @@ formed-selected S (Seq p q) n h w e =
     let d = second_resumes p q in
     let parts = and_parts (at_most_one (holds S p (n + 1)) (holds S q c)) (well_formed S p (n + 1) && well_formed S q c) w in
     let each = and_parts (well_formed S p (n + 1)) (well_formed S q c) parts.1 in (
-      not-true (holds S p (n + 1) && holds S q c) parts.0,
+      not-false (holds S p (n + 1) && holds S q c) parts.0,
       λ f. formed-selected S p (n + 1) (first-chosen S (resumes p) d (Seq p q) p q n refl h) each.0 f,
       λ f. (
         (and_parts (can_pass p) (resumes q) (second-live S (resumes p) d (Seq p q) p q n refl h f)).0,
@@ -227,7 +213,7 @@ formed-selected S (Par p q) n h w e =
     let c = n + 1 + statement_count p in
     let parts = and_parts (each_or_over (holds S p (n + 1)) (can_pass p) (holds S q c) (can_pass q)) (well_formed S p (n + 1) && well_formed S q c) w in
     let each = and_parts (well_formed S p (n + 1)) (well_formed S q c) parts.1 in
-    let over = branches-over (holds S p (n + 1)) (can_pass p) (holds S q c) (can_pass q) parts.0 e in (
+    let over = branches_fit (holds S p (n + 1)) (can_pass p) (holds S q c) (can_pass q) parts.0 e in (
       over.0,
       over.1,
       λ f. formed-selected S p (n + 1) (first-chosen S (resumes p) (resumes q) (Par p q) p q n refl h) each.0 f,

@@ -15,6 +15,7 @@ use Rattle.grc_graph.specs.Reads.{ReadsOnly, IsReadingOrder, StandsBefore}
 use Rattle.grc_graph.specs.PlainGraphs as graphs
 use Rattle.grc_graph.specs.WireOrders.{wire_at}
 use Rattle.grc_graph.specs.Wires.{Wire}
+use Rattle.grc_graph.proofs.WirePlaces.{equations-all, length-names}
 use Rattle.grc_solutions.specs.Evaluating.{IsSolvedUpTo}
 use Rattle.grc_solutions.specs.Evaluations.{valuation_of}
 use Rattle.grc_solutions.specs.GraphWires.{Differ, equation_wires}
@@ -23,7 +24,7 @@ use Rattle.grc_solutions.proofs.Evaluated.{solved_at_start, solved_one_more, sol
 use Rattle.grc_words.specs.declared.table.Words.{Words}
 use Rattle.grc_react.specs.declared.rows.Start.{Start}
 use Rattle.grc_react.specs.Evaluations.{Early, IsKnown, IsSolved, formula_under, start_state}
-use Rattle.grc_react.proofs.Stages.{length-names, stage-write}
+use Rattle.grc_react.proofs.Stages.{stage-write}
 
 -- the wires and the formulas of a graph's equations
 wires-zipped : (insts : List Instance) (all names : List Wire) (forms : List Formula) → length forms ≡ length names
@@ -40,9 +41,6 @@ formulas-zipped insts all [] (f ∷ forms) len = absurd (omega arith)
 formulas-zipped insts all (n ∷ names) [] len = absurd (omega arith)
 formulas-zipped insts all (n ∷ names) (f ∷ forms) len =
     ap (λ fs. formula_of insts all f ∷ fs) (formulas-zipped insts all names forms (omega arith))
-
-equations-all : (g : Graph) → length g.equations.items ≡ length (names_of g)
-equations-all g = omega (arith, g.indices.equations_all, length-names g)
 
 pub plain-wires : (g : Graph) → equation_wires (plain_graph g).equations ≡ names_of g
 plain-wires g = wires-zipped (instances_of g) (names_of g) (names_of g) g.equations.items (equations-all g)

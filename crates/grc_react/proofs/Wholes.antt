@@ -1,6 +1,7 @@
 -- The stages of a reaction: before its first wire, and once all wires and rows are made.
 use Rattle.std.proofs.Common.{◌≡◌, ◌-◌, Bool, List, [], length, map, take, drop, slice_index_or, sym, ap, ◌∙◌, subst, arith, IsTrue}
 use Rattle.std.proofs.lemmas.List.{length-take-le, take-append-drop, take_rest, take_all}
+use Rattle.facts.proofs.Lists.{map-equal}
 use Rattle.grc_graph.specs.declared.graph.Graph.{Graph}
 use Rattle.grc_graph.specs.GraphRuns.{shown}
 use Rattle.grc_graph.specs.PlainGraphs.{names_of, plain_graph}
@@ -12,7 +13,6 @@ use Rattle.grc_words.specs.WordLaws.{late_bounds, value_of}
 use Rattle.grc_words.proofs.RowValues.{length-row_values, row_values-append}
 use Rattle.grc_react.specs.declared.rows.Start.{Start}
 use Rattle.grc_react.specs.Evaluations.{Begins, Early, Late, surroundings_of}
-use Rattle.grc_react.proofs.Agreement.{maps-agree}
 use Rattle.grc_react.proofs.Stages.{occasion, false-off, source-known}
 
 pub begun : (g : Graph) (w : Words) (s : Start) (wires old new : List Bool) (table : List Row) → Begins g w s → length wires ≡ length g.wires.items
@@ -70,7 +70,7 @@ pub outputs-mean : (g : Graph) (w : Words) (s : Start) (wires rows : List Bool) 
     → map (source_value (surroundings_of s wires) rows) w.outputs.items ≡ (shown (plain_graph g) (valuation_of (names_of g) wires)).outputs
 outputs-mean g w s wires rows m =
     let t = occasion g w s wires rows m.stage in
-    maps-agree (source_value (surroundings_of s wires) rows) (value_of g w t) w.outputs.items
+    map-equal (source_value (surroundings_of s wires) rows) (value_of g w t) w.outputs.items
     (λ k d low. source-known g w s wires rows (slice_index_or w.outputs.items k d) m.stage
     (subst (λ n. IsTrue (source_fits (late_bounds g n) (slice_index_or w.outputs.items k d))) (sym m.all) (m.stage.words.fit.outputs k d low)))
     ∙ m.stage.words.outputs t (false-off g wires)

@@ -5,8 +5,8 @@ use Rattle.std.proofs.Common.{◌<◌}
 use Rattle.std.specs.Prelude.{if◌then◌else◌}
 use Rattle.std.proofs.lemmas.Bool.{false≢true}
 use Rattle.std.proofs.Math.ListN.{set}
-use Rattle.std.proofs.Math.Seq.{set-append_seam}
-use Rattle.std.proofs.lemmas.List.{map-set, map-append, length-map, append-nil}
+use Rattle.std.proofs.lemmas.List.{length-map, append-nil}
+use Rattle.facts.proofs.Lists.{map-set-append}
 use Rattle.est_kernel.specs.Terms.{Expression, Tick, Term, Nothing, Pause, Emit, Exit, Present, Suspend, Seq, Loop, Par, Trap, Local, Awake}
 use Rattle.est_kernel.specs.Preorder.{statement_count}
 use Rattle.est_kernel.specs.declared.code_lists.Codes.{Codes}
@@ -16,24 +16,10 @@ use Rattle.grc_graph.specs.declared.trees.SelNode.{SelNode}
 use Rattle.grc_graph.specs.SelectionTrees.{Form, TreeNode, tree_nodes, leaf_paths, subtree_if, resumes, second_resumes}
 use Rattle.grc_graph.specs.TreeForms.{form_of, node_of}
 use Rattle.grc_graph.proofs.TreeLaws.{tree_none}
+use Rattle.grc_graph.proofs.TreeSelections.{leaves_none}
 use Rattle.grc_select.specs.declared.nodes.TreeDraft.{TreeDraft}
 use Rattle.grc_select.specs.declared.nodes.Part.{Part}
 use Rattle.grc_select.specs.Growing.{node, opened, closed, Grows}
-
--- where the resumed instance is not live there are no leaves
-leaves_none : (t : Term) (n : ℕ) → leaf_paths false t n ≡ []
-leaves_none Nothing n = refl
-leaves_none Pause n = refl
-leaves_none (Emit s) n = refl
-leaves_none (Exit c) n = refl
-leaves_none (Present e p q) n = refl
-leaves_none (Suspend e p) n = refl
-leaves_none (Seq p q) n = refl
-leaves_none (Loop at p) n = refl
-leaves_none (Par p q) n = refl
-leaves_none (Trap p) n = refl
-leaves_none (Local s p) n = refl
-leaves_none (Awake e p) n = refl
 
 -- ---- how many there are
 
@@ -137,17 +123,6 @@ open_within old part form h = open_live old part.live part.path form h
 
 -- ---- a node before those of its parts
 
--- what was appended behind a place, once the place is written
-seam : {A B : Type 0} (f : A → B) (old end : List A) (x y : A) (rest : List B)
-    → map f end ≡ map f (old ++ x ∷ []) ++ rest
-    → map f (set end (length old) y) ≡ map f old ++ f y ∷ rest
-seam f old end x y rest e =
-    map-set f end (length old) y
-    ∙ ap (λ l. set l (length old) (f y))
-    (e ∙ ap (λ l. l ++ rest) (map-append f old (x ∷ [])) ∙ append_assoc (map f old) (f x ∷ []) rest)
-    ∙ ap (λ n. set (map f old ++ f x ∷ rest) n (f y)) (sym (length-map old f))
-    ∙ set-append_seam (map f old) (f x) rest (f y)
-
 -- the nodes that were appended between two states of the list
 pub record Between (old new : TreeDraft) (more : List TreeNode) (leaves : ℕ) : Type 0 where
   pub nodes : map node_of new.nodes.items ≡ map node_of old.nodes.items ++ more
@@ -172,7 +147,7 @@ closed_over old o part new true i n form0 form more l at opn lv g cl lw =
     record {
       nodes =
           ap (λ v. map node_of v) (cl ∙ λ j. set part.nodes.items (at j) (node n form (counts j)))
-          ∙ seam node_of old.nodes.items part.nodes.items (node n form0 0) (node n form (length old.nodes.items + 1 + length more)) more
+          ∙ map-set-append node_of old.nodes.items part.nodes.items (node n form0 0) (node n form (length old.nodes.items + 1 + length more)) more
           (g.nodes ∙ ap (λ v. map node_of v ++ more) opn);
       leaves_more = lw ∙ g.leaves_more ∙ ap (λ x. x + l) lv;
     }

@@ -3,6 +3,7 @@ use Rattle.std.proofs.Common.{◌≡◌, ℕ, ◌+◌, Bool, true, false, ◌&&�
 use Rattle.std.specs.List.{list_any}
 use Rattle.std.proofs.Math.Bool.{or_assoc, or_comm}
 use Rattle.std.proofs.lemmas.List.Folds.{list_any-append}
+use Rattle.facts.proofs.Tests.{or-false, or-swapped}
 use Rattle.est_kernel.specs.Terms.{Term, Nothing, Pause, Emit, Exit, Present, Suspend, Seq, Loop, Par, Trap, Local, Awake}
 use Rattle.est_kernel.specs.Preorder.{statement_count}
 use Rattle.est_kernel.specs.StaticCodes.{has_code, started_codes, resumed_codes}
@@ -14,17 +15,8 @@ use Rattle.grc_graph.specs.Selected.{HasExitCodes}
 use Rattle.grc_solutions.proofs.Each.{spot}
 use Rattle.grc_graph.proofs.LiveLayers.{Agrees, here_agrees, only_agrees, first_agrees, second_agrees}
 
-pub or_left_comm : (a b c : Bool) → (a || (b || c)) ≡ (b || (a || c))
-or_left_comm true true c = refl
-or_left_comm true false c = refl
-or_left_comm false b c = refl
-
-or-false : (a : Bool) → (a || false) ≡ a
-or-false true = refl
-or-false false = refl
-
 pub four : (a b c d : Bool) → ((a || b) || (c || d)) ≡ ((a || c) || (b || d))
-four a b c d = simp (or_assoc, or_comm, or_left_comm)
+four a b c d = simp (or_assoc, or_comm, or-swapped)
 
 pub any_or : (f g : ℕ → Bool) (rs : List ℕ) → list_any (λ r. f r || g r) rs ≡ (list_any f rs || list_any g rs)
 any_or f g [] = refl

@@ -15,13 +15,13 @@ use Rattle.grc_graph.specs.Walk.{Values, started_walk}
 use Rattle.grc_graph.specs.Selected.{HasExitCodes}
 use Rattle.grc_graph.specs.Readings.{Valuation}
 use Rattle.grc_graph.specs.Coherence.{statuses, StartedWalked}
+use Rattle.grc_graph.proofs.LiveInstances.{above_within}
 use Rattle.grc_sem.proofs.Places.{After, Place, no_loops-left, nothing_place, exit_place, pause_place, emit_place, later_place, later_after, suspend_after}
 use Rattle.grc_sem.proofs.Places.{suspend_place, loop_after, loop_place, present_after, present_place, seq_after, seq_place, place_code, par_after, par_place}
 use Rattle.grc_sem.proofs.Places.{trap_after, trap_place, local_after, local_place}
 use Rattle.grc_solutions.proofs.Each.{EachStarted}
 use Rattle.grc_sem.proofs.Residues.{no_loops-right, loop_body, loop_code}
 use Rattle.grc_solutions.proofs.Rows.{RowAt}
-use Rattle.grc_solutions.proofs.Binders.{layer_above-started}
 use Rattle.grc_sem.proofs.Ranks.{Up, Ranks, InScope, tested, emitted_rank, ranks_more}
 
 -- a test that is true or false under a flag that holds
@@ -93,7 +93,7 @@ module _ (R : Wire → ℕ) (N : ℕ) where
   started_after (Local s p) B f n q r l nl b i e k =
       local_after s (R (StatusOf n (Started q))) {p = p} (omega (arith, e.0.0)) (λ c h. omega (arith, e.0.1 c h))
       (started_after p (bind B s n) _ (n + 1) q _ (omega arith) nl b (i n) e.1
-      (ranks_more R N B n s (Started q) r (layer_above-started n q l) k))
+      (ranks_more R N B n s (Started q) r (above_within n q l) k))
   started_after (Awake x p) B f n q r l nl b i e k = absurd b
 
   pub started_place : (V : Valuation) (t : Term) (B : Scope) (f : Layer → Formula) (n q : ℕ) (r : ℕ → ℕ) (v : Values) (b : Bool) → q ≤ n → NoInstantLoop t →
@@ -167,5 +167,5 @@ module _ (R : Wire → ℕ) (N : ℕ) where
       local_place s (R (StatusOf n (Started q))) (V (StatusOf n (Started q))) {p = p} nl (flag_gone h w.1)
       (omega (arith, e.0.0)) (λ c y. omega (arith, e.0.1 c y))
       (started_place V p (bind B s n) _ (n + 1) q _ _ b (omega arith) nl kn (i n) e.1
-      (ranks_more R N B n s (Started q) r (layer_above-started n q l) k) w.2 h)
+      (ranks_more R N B n s (Started q) r (above_within n q l) k) w.2 h)
   started_place V (Awake x p) B f n q r v b l nl kn i e k w h = absurd kn

@@ -3,6 +3,7 @@ use Rattle.std.proofs.Common.{◌≡◌, ℕ, ◌+◌, ◌<◌, ◌≤◌, Bool,
 use Rattle.std.specs.List.{list_any}
 use Rattle.std.proofs.lemmas.List.Folds.{list_any-append}
 use Rattle.std.proofs.lemmas.Bool.{ne_eqb}
+use Rattle.facts.proofs.Tests.{or-nothing}
 use Rattle.est_kernel.specs.Terms.{Term, Nothing, Pause, Emit, Exit, Present, Suspend, Seq, Loop, Par, Trap, Local, Awake}
 use Rattle.est_kernel.specs.Preorder.{statement_count}
 use Rattle.grc_graph.specs.Layers.{Layer, layer_above, same_layer}
@@ -26,18 +27,11 @@ any_none : {A : Type 0} (F : Spot → Bool) (g : A → Spot) (ls : List A) → (
 any_none F g [] h = refl
 any_none F g (l ∷ ls) h = ap (λ b. b || list_any F (map g ls)) (h l) ∙ any_none F g ls h
 
-or_none : {a b : Bool} → a ≡ false → b ≡ false → (a || b) ≡ false
-or_none {a} {b} e f = ap (λ x. x || b) e ∙ f
-
-or_nothing : (a b : Bool) → b ≡ false → (a || b) ≡ a
-or_nothing true b e = refl
-or_nothing false b e = e
-
 any_only : (F : Spot → Bool) (hs ps : List Spot) → list_any F hs ≡ false → list_any F (hs ++ ps) ≡ list_any F ps
 any_only F hs ps h = list_any-append F hs ps ∙ ap (λ b. b || list_any F ps) h
 
 any_first : (F : Spot → Bool) (hs ps qs : List Spot) → list_any F hs ≡ false → list_any F qs ≡ false → list_any F (hs ++ (ps ++ qs)) ≡ list_any F ps
-any_first F hs ps qs h g = any_only F hs (ps ++ qs) h ∙ list_any-append F ps qs ∙ or_nothing _ _ g
+any_first F hs ps qs h g = any_only F hs (ps ++ qs) h ∙ list_any-append F ps qs ∙ or-nothing _ _ g
 
 any_second : (F : Spot → Bool) (hs ps qs : List Spot) → list_any F hs ≡ false → list_any F ps ≡ false → list_any F (hs ++ (ps ++ qs)) ≡ list_any F qs
 any_second F hs ps qs h g = any_only F hs (ps ++ qs) h ∙ any_only F ps qs g

@@ -4,11 +4,12 @@ use Rattle.std.proofs.Common.{inr, ◌⊎◌, ⊎_elim, arith}
 use Rattle.std.specs.List.{list_any}
 use Rattle.std.proofs.lemmas.List.Folds.{list_any-append}
 use Rattle.std.proofs.lemmas.Bool.{or_cases, or_left, or_right, and_parts, eqb-true, eq-eqb, false≢true, cases_Bool, cases_lt}
+use Rattle.facts.proofs.Tests.{or-equal, or-false, same-tests}
 use Rattle.est_base.specs.Codes.{upto}
 use Rattle.est_kernel.specs.Terms.{Expression, Tick, Sig, Not, And, Or, Term}
 use Rattle.est_kernel.specs.Steps.{trap_code}
 use Rattle.est_kernel.specs.StaticCodes.{has_code}
-use Rattle.est_kernel.proofs.Sets.{same_tests, upto-in, upto-parts}
+use Rattle.est_kernel.proofs.Sets.{upto-in, upto-parts}
 use Rattle.grc_graph.specs.Layers.{Layer, Resumed}
 use Rattle.grc_graph.specs.Scopes.{Binding, Entering, Outgoing, BoundAt, Unbound, Scope}
 use Rattle.grc_graph.specs.Wires.{Go, End}
@@ -19,17 +20,10 @@ use Rattle.grc_graph.specs.Walk.{Walk, Values, State, truth, ended}
 use Rattle.grc_graph.specs.Readings.{Valuation, seen_value, boolean_reading}
 use Rattle.grc_sem.proofs.Constructive.{and_true}
 
-or-false : (a : Bool) → (a || false) ≡ a
-or-false true = refl
-or-false false = refl
-
-or_same : {a b c d : Bool} → a ≡ c → b ≡ d → (a || b) ≡ (c || d)
-or_same {a} {b} {c} {d} e f = ap (λ x. x || b) e ∙ ap (λ x. c || x) f
-
 -- a value, from what follows if it is true and from when it is
 pub ends_by : (A X b : Bool) (k c : ℕ) → (X ≡ true → (b ≡ true) × (k ≡ c)) → (b ≡ true → k ≡ c → (A ≡ true) × (X ≡ true)) → (A && X) ≡ (b && (k == c))
 ends_by A X b k c f g =
-    same_tests (A && X) (b && (k == c))
+    same-tests (A && X) (b && (k == c))
     (λ h. let i = f (and_parts A X h).1 in and_true i.0 (eq-eqb k c i.1))
     (λ h. let i = and_parts b (k == c) h in let j = g i.0 (eqb-true k c i.1) in and_true j.0 j.1)
 
@@ -242,14 +236,14 @@ module _ (B : Scope) (body : Term) (q : State) (given : Values) (V : Valuation) 
       ((A k && (val (Selected c) && V (End c Resumed k))) || ((k == 0) && (not (val (Selected c)) && V (Go n Resumed))))
   branch_end-meaning A n c k =
       list_any-append val (cond (A k) (Conjunction (Selected c) (Value (End c Resumed k)) ∷ []) []) (cond (k == 0) (branch_over n c ∷ []) [])
-      ∙ or_same (if_any (A k) (Conjunction (Selected c) (Value (End c Resumed k)))) (if_any (k == 0) (branch_over n c))
+      ∙ or-equal (if_any (A k) (Conjunction (Selected c) (Value (End c Resumed k)))) (if_any (k == 0) (branch_over n c))
 
   branch_upto-meaning : (A : ℕ → Bool) (n c k : ℕ) → val (branch_upto A n c k) ≡
       ((has_code A && (val (Selected c) && upto (λ j. V (End c Resumed j)) k)) || (not (val (Selected c)) && V (Go n Resumed)))
   branch_upto-meaning A n c k =
       any_meaning (cond (has_code A) (Conjunction (Selected c) (Upto c Resumed k) ∷ []) [] ++ (branch_over n c ∷ []))
       ∙ list_any-append val (cond (has_code A) (Conjunction (Selected c) (Upto c Resumed k) ∷ []) []) (branch_over n c ∷ [])
-      ∙ or_same (if_any (has_code A) (Conjunction (Selected c) (Upto c Resumed k))) (or-false (val (branch_over n c)))
+      ∙ or-equal (if_any (has_code A) (Conjunction (Selected c) (Upto c Resumed k))) (or-false (val (branch_over n c)))
 
   -- the code of a branch
   pub branch_number : Bool → ℕ → ℕ

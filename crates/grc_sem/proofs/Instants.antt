@@ -1,6 +1,7 @@
 -- What a solution of a program's graph shows of an instant: the next state, the code, and whether the program pauses.
 use Rattle.std.proofs.Common.{◌≡◌, ℕ, Bool, true, false, ◌&&◌, ◌||◌, ◌==◌, cond, List, refl, sym, ap, ◌∙◌, subst, ⊎_elim, arith, ◌<◌}
 use Rattle.std.proofs.lemmas.Bool.{and_parts, ne_eqb, cond_both, false≢true, cases_Bool, or_parts}
+use Rattle.facts.proofs.Tests.{or-equal, or-false}
 use Rattle.est_kernel.specs.Terms.{Term, Nothing, Pause, Emit, Exit, Present, Suspend, Seq, Loop, Par, Trap, Local, Awake}
 use Rattle.est_kernel.specs.StaticCodes.{has_code, resumed_codes, NoInstantLoop}
 use Rattle.est_kernel.specs.Plain.{Program, interface_count, outgoing_count, given_count}
@@ -22,12 +23,13 @@ use Rattle.grc_sem.proofs.Kept.{Same, holds_same, residual_same}
 use Rattle.grc_sem.proofs.Meets.{started_at, resumed_at}
 use Rattle.grc_solutions.proofs.Looked.{statement_at}
 use Rattle.grc_sem.proofs.Joint.{dead_wire}
-use Rattle.grc_sem.proofs.Tops.{nothing_held, state_reach}
+use Rattle.grc_sem.proofs.Tops.{state_reach}
 use Rattle.grc_sem.proofs.Solutions.{top_started, top_resumed}
 use Rattle.grc_sem.proofs.NextKept.{one_flip}
 use Rattle.grc_sem.proofs.NextStates.{selected_as, leaf_way}
 use Rattle.grc_sem.proofs.NextTop.{StatePauses, keeps_state, next_kept, next_selected}
 use Rattle.grc_graph.proofs.CodeBounds.{started_below, resumed_below}
+use Rattle.grc_graph.proofs.Holding.{holds-false}
 use Rattle.grc_sem.proofs.WalkCodes.{started_code, resumed_code}
 use Rattle.grc_sem.proofs.FirstCodes.{first_listed, none_listed}
 
@@ -55,13 +57,6 @@ not_held : (S : ℕ → Bool) (t : Term) → NoInstantLoop t → HasExitCodes t 
 not_held S t nl k s e = cond_both (holds S t 0) true false (λ b. holds S t 0 ≡ false) (λ h. absurd (false≢true (sym e ∙ resumed_live S t 0 nl k h (s h))))
     (λ h. h)
 
-or_same : {a b c d : Bool} → a ≡ c → b ≡ d → (a || b) ≡ (c || d)
-or_same {a} {b} {c} {d} e f = ap (λ x. x || b) e ∙ ap (λ x. c || x) f
-
-or_nothing : (x : Bool) → (x || false) ≡ x
-or_nothing true = refl
-or_nothing false = refl
-
 pauses_of : (q : State) (body : Term) → SelectsLeaves q body → StatePauses q body
 pauses_of Initial body h = λ m e. absurd (false≢true e)
 pauses_of (Selecting S) body h = λ m e. leaf_way (resumes body) body 0 m (h m e)
@@ -75,12 +70,12 @@ code_is : (Z : _) (body : Term) (q : State) (v : Values) (k : ℕ) →
     || (is_initial q && (k == (started_walk Z body 0 (Started 0) v).code))) ≡ (runs_in q body && (k == (body_walk Z q body v).code))
 unfolding runs_in
 code_is Z body Initial v k =
-    ap (λ b. (b && (k == (resumed_walk Z (λ m. false) body 0 v).code)) || (k == (started_walk Z body 0 (Started 0) v).code)) (nothing_held body 0)
-    ∙ ap (λ b. (b || true) && (k == (started_walk Z body 0 (Started 0) v).code)) (sym (nothing_held body 0))
+    ap (λ b. (b && (k == (resumed_walk Z (λ m. false) body 0 v).code)) || (k == (started_walk Z body 0 (Started 0) v).code)) (holds-false body 0)
+    ∙ ap (λ b. (b || true) && (k == (started_walk Z body 0 (Started 0) v).code)) (sym (holds-false body 0))
 code_is Z body (Selecting S) v k = held (holds S body 0)
   where
     held : (h : Bool) → ((h && (k == (resumed_walk Z S body 0 v).code)) || false) ≡ ((h || false) && (k == (cond h (resumed_walk Z S body 0 v) (ended 0)).code))
-    held true = or_nothing _
+    held true = or-false _
     held false = refl
 
 -- where it does not, its code is 0
@@ -115,7 +110,7 @@ module _ (p : Program) (kernel : HasExitCodes p.body) (nl : NoInstantLoop p.body
       (cases_Bool (has_code (resumed_codes p.body)))
 
   ends_are : (k : ℕ) → ends_with V k ≡ (runs_in q p.body && (k == (graph_walk p q event V).code))
-  ends_are k = or_same (resumed_end k) ((started_at V p.body 0 (Started 0) v (is_initial q) kernel started).ends k) ∙ code_is (statuses V) p.body q v k
+  ends_are k = or-equal (resumed_end k) ((started_at V p.body 0 (Started 0) v (is_initial q) kernel started).ends k) ∙ code_is (statuses V) p.body q v k
 
   code_below : (graph_walk p q event V).code < 64
   code_below = below q v (state_reach q p.body state).selected

@@ -3,6 +3,7 @@ use Rattle.std.proofs.Common.{◌≡◌, ℕ, zero, suc, ◌+◌, ◌<◌, Bool,
 use Rattle.std.specs.List.{list_any, flat_map, range_with_len, All}
 use Rattle.std.proofs.lemmas.List.Folds.{list_any-append}
 use Rattle.std.proofs.lemmas.Bool.{and_parts, eqb-true, cond_both, false≢true}
+use Rattle.facts.proofs.Lists.{Every}
 use Rattle.est_kernel.specs.Terms.{Term, Nothing, Pause, Emit, Exit, Present, Suspend, Seq, Loop, Par, Trap, Local, Awake}
 use Rattle.est_kernel.specs.Reactions.{is_given}
 use Rattle.grc_graph.specs.Layers.{Layer, Resumed, Started, same_layer, body_layers}
@@ -14,9 +15,10 @@ use Rattle.grc_graph.specs.Equations.{Equation, equations, end_formula, emits_on
 use Rattle.grc_graph.specs.Walk.{Values, State}
 use Rattle.grc_graph.specs.Selected.{HasExitCodes}
 use Rattle.grc_graph.specs.Readings.{Valuation}
-use Rattle.grc_solutions.proofs.Lists.{Every, every_of_all, every_both, every_right, every_map, every_flat_map, every_listed, every_from}
-use Rattle.grc_solutions.proofs.Looked.{statement_at, Looked, looked, layers_same}
+use Rattle.grc_solutions.proofs.Lists.{every_of_all, every_both, every_right, every_map, every_flat_map, every_listed, every_from}
+use Rattle.grc_solutions.proofs.Looked.{statement_at, Looked, looked}
 use Rattle.grc_graph.proofs.CodeBounds.{started_below, resumed_below}
+use Rattle.grc_graph.proofs.SameWires.{same_layer-true}
 use Rattle.grc_sem.proofs.Emissions.{emitted}
 use Rattle.grc_sem.proofs.EndForms.{val, any_meaning}
 use Rattle.grc_sem.proofs.Meets.{Met}
@@ -164,7 +166,7 @@ dead_in all n l k y h = go y.statement (λ i j. h i j)
         (λ c.
         let c1 = and_parts (n == y.path) (same_layer l y.layer && k == i) c in
         let c2 = and_parts (same_layer l y.layer) (k == i) c1.1 in
-        let z = f (sym (eqb-true n y.path c1.0)) (sym (layers_same l y.layer c2.0)) in
+        let z = f (sym (eqb-true n y.path c1.0)) (sym (same_layer-true l y.layer c2.0)) in
         absurd (false≢true (sym z ∙ subst (λ j. instance_codes t y.layer j ≡ true) (sym (eqb-true k i c2.1)) a)))
         (λ c. c))
 

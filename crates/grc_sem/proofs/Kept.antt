@@ -3,6 +3,7 @@
 use Rattle.std.proofs.Common.{◌≡◌, ℕ, zero, suc, ◌+◌, ◌<◌, ◌≤◌, Bool, true, false, ◌&&◌, ◌||◌, ◌==◌, cond, max, refl, sym, ap, ◌∙◌, subst, ⊎_elim, arith}
 use Rattle.std.proofs.lemmas.Bool.{or_cases, or_left, or_right, and_parts, and_from, eqb-true, eqb-false, eq-eqb, ne_eqb, cond_both, false≢true, cases_Bool}
 use Rattle.std.proofs.lemmas.Bool.{le-leb, lt-ltb, leb-true, ltb-true}
+use Rattle.facts.proofs.Tests.{or-equal, or-nothing, or-other}
 use Rattle.est_kernel.specs.Terms.{Term, Nothing, Pause, Emit, Exit, Present, Suspend, Seq, Loop, Par, Trap, Local, Awake}
 use Rattle.est_kernel.specs.Preorder.{statement_count}
 use Rattle.est_kernel.specs.Steps.{trap_code}
@@ -10,7 +11,7 @@ use Rattle.grc_graph.specs.Layers.{Layer, Resumed, Started}
 use Rattle.grc_graph.specs.Residuals.{holds, left_if, residual}
 use Rattle.grc_graph.specs.Walk.{Walk, Values, with_value, truth, ended, kept_by, then_walk, both_walks, trapped_walk, started_walk, resumed_walk, selected_in}
 use Rattle.grc_graph.specs.Selected.{HasExitCodes}
-use Rattle.grc_sem.proofs.Residues.{or_other}
+use Rattle.grc_graph.proofs.Holding.{holds-false}
 
 -- two sets of pauses agree from a on below b
 pub record Same (S T : ℕ → Bool) (a b : ℕ) : Type 0 where
@@ -18,9 +19,6 @@ pub record Same (S T : ℕ → Bool) (a b : ℕ) : Type 0 where
 
 pub same_within : {S T : ℕ → Bool} (a b c d : ℕ) → a ≤ c → d ≤ b → Same S T a b → Same S T c d
 same_within a b c d l m s = record { at = λ i x y. s.at i (omega arith) (omega arith) }
-
-or_same : {a b c d : Bool} → a ≡ c → b ≡ d → (a || b) ≡ (c || d)
-or_same {a} {b} {c} {d} e f = ap (λ x. x || b) e ∙ ap (λ x. c || x) f
 
 -- the bounds of a first and of a second part
 pub first_same : {S T : ℕ → Bool} (n a b : ℕ) → Same S T n (n + (1 + a + b)) → Same S T (n + 1) (n + 1 + a)
@@ -38,15 +36,15 @@ holds_same S T Pause n s = s.at n (omega arith) (omega arith)
 holds_same S T (Emit x) n s = refl
 holds_same S T (Exit k) n s = refl
 holds_same S T (Present e p q) n s =
-    or_same (holds_same S T p (n + 1) (first_same n (statement_count p) (statement_count q) s))
+    or-equal (holds_same S T p (n + 1) (first_same n (statement_count p) (statement_count q) s))
     (holds_same S T q (n + 1 + statement_count p) (second_same n (statement_count p) (statement_count q) s))
 holds_same S T (Suspend e p) n s = holds_same S T p (n + 1) (only_same n (statement_count p) s)
 holds_same S T (Seq p q) n s =
-    or_same (holds_same S T p (n + 1) (first_same n (statement_count p) (statement_count q) s))
+    or-equal (holds_same S T p (n + 1) (first_same n (statement_count p) (statement_count q) s))
     (holds_same S T q (n + 1 + statement_count p) (second_same n (statement_count p) (statement_count q) s))
 holds_same S T (Loop at p) n s = holds_same S T p (n + 1) (only_same n (statement_count p) s)
 holds_same S T (Par p q) n s =
-    or_same (holds_same S T p (n + 1) (first_same n (statement_count p) (statement_count q) s))
+    or-equal (holds_same S T p (n + 1) (first_same n (statement_count p) (statement_count q) s))
     (holds_same S T q (n + 1 + statement_count p) (second_same n (statement_count p) (statement_count q) s))
 holds_same S T (Trap p) n s = holds_same S T p (n + 1) (only_same n (statement_count p) s)
 holds_same S T (Local x p) n s = holds_same S T p (n + 1) (only_same n (statement_count p) s)
@@ -86,22 +84,8 @@ residual_same S T (Trap p) n s = ap Trap (residual_same S T p (n + 1) (only_same
 residual_same S T (Local x p) n s = ap (λ r. Local x r) (residual_same S T p (n + 1) (only_same n (statement_count p) s))
 residual_same S T (Awake e p) n s = refl
 
-holds_false : (t : Term) (n : ℕ) → holds (λ m. false) t n ≡ false
-holds_false Nothing n = refl
-holds_false Pause n = refl
-holds_false (Emit x) n = refl
-holds_false (Exit k) n = refl
-holds_false (Present e p q) n = or_same (holds_false p (n + 1)) (holds_false q (n + 1 + statement_count p))
-holds_false (Suspend e p) n = holds_false p (n + 1)
-holds_false (Seq p q) n = or_same (holds_false p (n + 1)) (holds_false q (n + 1 + statement_count p))
-holds_false (Loop at p) n = holds_false p (n + 1)
-holds_false (Par p q) n = or_same (holds_false p (n + 1)) (holds_false q (n + 1 + statement_count p))
-holds_false (Trap p) n = holds_false p (n + 1)
-holds_false (Local x p) n = holds_false p (n + 1)
-holds_false (Awake e p) n = refl
-
 pub holds_none : (T : ℕ → Bool) (t : Term) (n : ℕ) → ((m : ℕ) → n ≤ m → m < n + statement_count t → T m ≡ false) → holds T t n ≡ false
-holds_none T t n f = holds_same T (λ m. false) t n (record { at = f }) ∙ holds_false t n
+holds_none T t n f = holds_same T (λ m. false) t n (record { at = f }) ∙ holds-false t n
 
 -- what a walk of a statement at n keeps
 pub record Keeps (w : Walk) (t : Term) (n : ℕ) : Type 0 where
@@ -141,10 +125,6 @@ first_none {w} p {q} n T k s =
     holds_none T p (n + 1)
     (λ m l u. s.at m (omega arith) (omega arith) ∙ kept_outside k m (λ i. omega (arith, i.0, i.1)))
 
-pub or_false : (a b : Bool) → b ≡ false → (a || b) ≡ a
-or_false true b e = refl
-or_false false b e = e
-
 -- the whole holds what the first part holds
 keeps_first : {w : Walk} {p : Term} (q t : Term) (n : ℕ) → statement_count t ≡ 1 + statement_count p + statement_count q →
     ((T : ℕ → Bool) → holds T t n ≡ (holds T p (n + 1) || holds T q (n + 1 + statement_count p))) → Keeps w p (n + 1) → Keeps w t n
@@ -153,7 +133,7 @@ keeps_first {w} {p} q t n c h k =
       inside = λ m x. let i = k.inside m x in (omega (arith, i.0), omega (arith, i.1));
       held = λ T s.
           let u = subst (λ j. Same T w.kept n (n + j)) c s in
-          h T ∙ or_false _ _ (second_none q n T k u) ∙ k.held T (first_same n (statement_count p) (statement_count q) u);
+          h T ∙ or-nothing _ _ (second_none q n T k u) ∙ k.held T (first_same n (statement_count p) (statement_count q) u);
     }
 
 keeps_second : {w : Walk} (p : Term) {q : Term} (t : Term) (n : ℕ) → statement_count t ≡ 1 + statement_count p + statement_count q →
@@ -186,7 +166,7 @@ max_one a b e =
     (cases_Bool (a == 1))
 
 pub kept_both : (c : ℕ) (A B : ℕ → Bool) (m : ℕ) → (c == 1) ≡ true → B m ≡ false → kept_by c (λ i. A i || B i) m ≡ A m
-kept_both c A B m e f = ap (λ b. b && (A m || B m)) e ∙ or_false (A m) (B m) f
+kept_both c A B m e f = ap (λ b. b && (A m || B m)) e ∙ or-nothing (A m) (B m) f
 
 pub kept_other : (c : ℕ) (A B : ℕ → Bool) (m : ℕ) → (c == 1) ≡ true → A m ≡ false → kept_by c (λ i. A i || B i) m ≡ B m
 kept_other c A B m e f = ap (λ b. b && (A m || B m)) e ∙ ap (λ b. b || B m) f
@@ -223,7 +203,7 @@ keeps_both {x} {y} {p} {q} n j k =
       held = λ T s.
           ⊎_elim
           (λ e.
-          or_same (j.held T (both_first x p n T k e s)) (k.held T (both_second y q n T j e s))
+          or-equal (j.held T (both_first x p n T k e s)) (k.held T (both_second y q n T j e s))
           ∙ max_one x.code y.code e ∙ sym e)
           (λ e. holds_none T (Par p q) n (λ m l u. s.at m l u ∙ ap (λ b. b && (x.kept m || y.kept m)) e) ∙ sym e)
           (cases_Bool (max x.code y.code == 1));
@@ -309,7 +289,7 @@ resumed_keeps Z S (Exit k) n v b h = absurd (false≢true h)
 resumed_keeps Z S (Present e p q) n v b h =
     keeps_held (holds S p (n + 1))
     (λ c. keeps_first q (Present e p q) n refl (λ T. refl) (resumed_keeps Z S p (n + 1) v b.0 c))
-    (λ c. keeps_second p (Present e p q) n refl (λ T. refl) (resumed_keeps Z S q (n + 1 + statement_count p) v b.1 (or_other _ _ c h)))
+    (λ c. keeps_second p (Present e p q) n refl (λ T. refl) (resumed_keeps Z S q (n + 1 + statement_count p) v b.1 (or-other _ _ c h)))
 resumed_keeps Z S (Suspend e p) n v b h =
     keeps_choice (truth e v)
     (record {
@@ -328,7 +308,7 @@ resumed_keeps Z S (Seq p q) n v b h =
     (λ c. keeps_turn (started_walk Z q (n + 1 + statement_count p) (Started (n + 1 + statement_count p)) v)
     (keeps_first q (Seq p q) n refl (λ T. refl) (resumed_keeps Z S p (n + 1) v b.0 c))
     (keeps_signals _ (keeps_second p (Seq p q) n refl (λ T. refl) (started_keeps Z q (n + 1 + statement_count p) _ v b.1))))
-    (λ c. keeps_second p (Seq p q) n refl (λ T. refl) (resumed_keeps Z S q (n + 1 + statement_count p) v b.1 (or_other _ _ c h)))
+    (λ c. keeps_second p (Seq p q) n refl (λ T. refl) (resumed_keeps Z S q (n + 1 + statement_count p) v b.1 (or-other _ _ c h)))
 resumed_keeps Z S (Loop at p) n v b h =
     keeps_turn (started_walk Z p (n + 1) (Started (n + 1)) v)
     (keeps_only (Loop at p) n refl (λ T. refl) (resumed_keeps Z S p (n + 1) v b h))

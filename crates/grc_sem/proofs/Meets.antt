@@ -1,13 +1,14 @@
 -- What the wires of an instance meet, and what its place sees and finds.
-use Rattle.std.proofs.Common.{◌≡◌, ℕ, ◌+◌, ◌<◌, ◌≤◌, Bool, true, false, not, ◌&&◌, ◌||◌, ◌==◌, cond, ltb, List, [], ◌∷◌, ◌++◌, refl, sym, ap, ◌∙◌, subst, inl}
+use Rattle.std.proofs.Common.{◌≡◌, ℕ, ◌+◌, ◌<◌, ◌≤◌, Bool, true, false, ◌&&◌, ◌||◌, ◌==◌, cond, ltb, List, [], ◌∷◌, ◌++◌, refl, sym, ap, ◌∙◌, subst, inl}
 use Rattle.std.proofs.Common.{inr, ⊎_elim, arith}
 use Rattle.std.specs.List.{list_any}
-use Rattle.std.proofs.lemmas.Bool.{or_cases, or_left, or_right, eqb-true, eqb-false, eq-eqb, ne_eqb, cond_both, false≢true, cases_Bool, cond-true, cond-false}
-use Rattle.std.proofs.lemmas.Bool.{lt-ltb, ltb-true}
+use Rattle.std.proofs.lemmas.Bool.{or_cases, or_left, or_right, eqb-true, eqb-false, eq-eqb, ne_eqb, false≢true, cases_Bool, cond-true, cond-false}
+use Rattle.std.proofs.lemmas.Bool.{lt-ltb}
+use Rattle.facts.proofs.Tests.{ltb-not, same-tests}
 use Rattle.est_kernel.specs.Terms.{Term, Nothing, Pause, Emit, Exit, Present, Suspend, Seq, Loop, Par, Trap, Local, Awake}
 use Rattle.est_kernel.specs.Preorder.{statement_count}
 use Rattle.est_kernel.specs.StaticCodes.{has_code, resumed_codes}
-use Rattle.est_kernel.proofs.Sets.{same_tests}
+use Rattle.est_kernel.proofs.PreorderLaws.{statement_count-some}
 use Rattle.grc_graph.specs.Layers.{Layer, Resumed, Started, root_if, layer_above, same_layer}
 use Rattle.grc_graph.specs.Scopes.{Binding, Entering, Outgoing, BoundAt, Unbound, Scope, bind}
 use Rattle.grc_graph.specs.Wires.{Go, StatusOf, End, status_wire, instance_codes}
@@ -21,9 +22,11 @@ use Rattle.grc_graph.specs.Readings.{Valuation, seen_value, holds_at}
 use Rattle.grc_graph.specs.Coherence.{statuses, InstanceWalked, StartedWalked, ResumedWalked}
 use Rattle.grc_solutions.proofs.Each.{spot, EachStarted, EachResumed}
 use Rattle.grc_sem.proofs.Residues.{some_has}
-use Rattle.grc_solutions.proofs.Binders.{Above, layer_above-restarted}
+use Rattle.grc_solutions.proofs.Binders.{Above}
 use Rattle.grc_solutions.proofs.Live.{Root}
 use Rattle.grc_graph.proofs.CodeBounds.{resumed_below}
+use Rattle.grc_graph.proofs.Holding.{holds_at-self}
+use Rattle.grc_graph.proofs.LiveInstances.{above_behind}
 use Rattle.grc_sem.proofs.Emissions.{emitted, other_binding}
 use Rattle.grc_sem.proofs.WalkEmits.{Fresh, Shows}
 use Rattle.grc_sem.proofs.EndForms.{val}
@@ -39,16 +42,6 @@ pub record Met (B : Scope) (body : Term) (q : State) (given : Values) (V : Valua
   pub ends : (k : ℕ) → V (End x.path x.layer k) ≡ (instance_codes x.statement x.layer k
       && val B body q given V (end_formula x.scope x.statement x.path x.layer k))
   pub status : StatusMet V all x.statement x.path x.layer
-
-pub eqb_flip : (a b : ℕ) → (a == b) ≡ (b == a)
-eqb_flip a b =
-    ⊎_elim (λ e. e ∙ sym (eq-eqb b a (sym (eqb-true a b e)))) (λ e. e ∙ sym (ne_eqb b a (λ z. eqb-false a b e (sym z)))) (cases_Bool (a == b))
-
-pub and_flip : (a b : Bool) → (a && b) ≡ (b && a)
-and_flip true true = refl
-and_flip true false = refl
-and_flip false true = refl
-and_flip false false = refl
 
 -- the facts at the statement itself
 pub head_started : (P : Spot → Type 0) (B : Scope) (f : Layer → Formula) (t : Term) (n : ℕ) (l : Layer) → HasExitCodes t → EachStarted P B f t n l →
@@ -97,7 +90,7 @@ root_sees : (given : Values) (V : Valuation) (b : Binding) (s m : ℕ) → ((c :
     seen_value given V b s Resumed ≡ seen_value given V b s (Started m)
 root_sees given V Entering s m h = refl
 root_sees given V Outgoing s m h = refl
-root_sees given V (BoundAt b) s m h = ap (λ j. V (StatusOf b j)) (sym (layer_above-restarted b m (h b refl)))
+root_sees given V (BoundAt b) s m h = ap (λ j. V (StatusOf b j)) (sym (above_behind b m (h b refl)))
 root_sees given V Unbound s m h = refl
 
 pub sees_root : (given : Values) (V : Valuation) (B : Scope) (m : ℕ) (v : Values) → Above B m → Sees given V B Resumed v → Sees given V B (Started m) v
@@ -117,7 +110,7 @@ any_one f r (x ∷ xs) h e =
     (λ u. any_one f r xs h u) (or_cases (f x) (list_any f xs) e)
 
 pub any_single : (f : ℕ → Bool) (r : ℕ) (rs : List ℕ) → Root r rs → ((x : ℕ) → (x ≡ r → ⊥) → f x ≡ false) → list_any f rs ≡ f r
-any_single f r rs i h = same_tests _ _ (any_one f r rs h) (any_true f r rs i)
+any_single f r rs i h = same-tests _ _ (any_one f r rs h) (any_true f r rs i)
 
 pub any_nothing : (f : ℕ → Bool) (rs : List ℕ) → ((x : ℕ) → Root x rs → f x ≡ false) → list_any f rs ≡ false
 any_nothing f [] h = refl
@@ -126,10 +119,6 @@ any_nothing f (x ∷ xs) h = ap (λ b. b || list_any f xs) (h x (inl refl)) ∙ 
 -- the wire of a Local's own status
 pub own_fresh : (n : ℕ) (l : Layer) → Fresh (StatusOf n l) (n + 1)
 own_fresh n l = record { other = λ m j k. ap (λ b. b && same_layer j l) (ne_eqb m n (λ e. omega arith)) }
-
-pub same_self : (l : Layer) → same_layer l l ≡ true
-same_self Resumed = refl
-same_self (Started r) = eq-eqb r r refl
 
 own_bound : (d c : Bool) (n t : ℕ) (l i : Layer) (b : Binding) → same_layer (layer_above n l) i ≡ c → (b ≡ BoundAt n → ⊥) →
     is_wire (status_wire (cond d (BoundAt n) b) t l) (StatusOf n i) ≡ (c && d)
@@ -176,10 +165,6 @@ not_both true true e h = absurd (false≢true (sym e))
 not_both true false e h = absurd (false≢true h)
 not_both false d e h = refl
 
-pub not_back : (d : Bool) → not d ≡ true → d ≡ false
-not_back true e = absurd (false≢true e)
-not_back false e = refl
-
 -- the wires of a started statement itself
 pub started_at : (V : Valuation) (t : Term) (n : ℕ) (l : Layer) (v : Values) (b : Bool) → HasExitCodes t → StartedWalked V t n l v b →
     InstanceWalked V n l b (started_walk (statuses V) t n l v)
@@ -211,21 +196,6 @@ resumed_at V S (Trap p) n v b k w = w.0
 resumed_at V S (Local s p) n v b k w = w.0
 resumed_at V S (Awake e p) n v b k w = absurd k
 
--- what a lookup of held pauses finds
-pub holds_self : (S : ℕ → Bool) (t : Term) (n : ℕ) → holds_at S t n n ≡ holds S t n
-holds_self S Nothing n = refl
-holds_self S Pause n = refl
-holds_self S (Emit s) n = refl
-holds_self S (Exit c) n = refl
-holds_self S (Present e p q) n = cond-true (n == n) _ _ (eq-eqb n n refl)
-holds_self S (Suspend e p) n = cond-true (n == n) _ _ (eq-eqb n n refl)
-holds_self S (Seq p q) n = cond-true (n == n) _ _ (eq-eqb n n refl)
-holds_self S (Loop at p) n = cond-true (n == n) _ _ (eq-eqb n n refl)
-holds_self S (Par p q) n = cond-true (n == n) _ _ (eq-eqb n n refl)
-holds_self S (Trap p) n = cond-true (n == n) _ _ (eq-eqb n n refl)
-holds_self S (Local s p) n = cond-true (n == n) _ _ (eq-eqb n n refl)
-holds_self S (Awake e p) n = refl
-
 -- the lookup g finds in the statement t, at n, what S selects
 pub record Finds (g : ℕ → Bool) (S : ℕ → Bool) (t : Term) (n : ℕ) : Type 0 where
   pub each : (m : ℕ) → n ≤ m → m < n + statement_count t → g m ≡ holds_at S t n m
@@ -234,9 +204,6 @@ pub finds_only : (g S : ℕ → Bool) (t p : Term) (n : ℕ) → statement_count
     ((m : ℕ) → holds_at S t n m ≡ cond (m == n) (holds S t n) (holds_at S p (n + 1) m)) → Finds g S t n → Finds g S p (n + 1)
 finds_only g S t p n c f h =
     record { each = λ m l u. h.each m (omega arith) (omega arith) ∙ f m ∙ cond-false (m == n) _ _ (ne_eqb m n (λ e. omega arith)) }
-
-lower : (a b : ℕ) → b ≤ a → ltb a b ≡ false
-lower a b h = cond_both (ltb a b) true false (λ x. ltb a b ≡ false) (λ e. let i = ltb-true a b e in absurd (omega arith)) (λ e. e)
 
 pub finds_first : (g S : ℕ → Bool) (t p q : Term) (n : ℕ) → statement_count t ≡ 1 + statement_count p + statement_count q →
     ((m : ℕ) → holds_at S t n m ≡ cond (m == n) (holds S t n) (cond (ltb m (n + 1 + statement_count p)) (holds_at S p (n + 1) m)
@@ -255,25 +222,11 @@ finds_second g S t p q n c f h =
     record {
       each = λ m l u.
           h.each m (omega arith) (omega arith) ∙ f m ∙ cond-false (m == n) _ _ (ne_eqb m n (λ e. omega arith))
-          ∙ cond-false (ltb m (n + 1 + statement_count p)) _ _ (lower m (n + 1 + statement_count p) l);
+          ∙ cond-false (ltb m (n + 1 + statement_count p)) _ _ (ltb-not m (n + 1 + statement_count p) l);
     }
 
-pub count_some : (t : Term) → 1 ≤ statement_count t
-count_some Nothing = omega arith
-count_some Pause = omega arith
-count_some (Emit s) = omega arith
-count_some (Exit c) = omega arith
-count_some (Present e p q) = omega arith
-count_some (Suspend e p) = omega arith
-count_some (Seq p q) = omega arith
-count_some (Loop at p) = omega arith
-count_some (Par p q) = omega arith
-count_some (Trap p) = omega arith
-count_some (Local s p) = omega arith
-count_some (Awake e p) = omega arith
-
 pub finds_self : (g S : ℕ → Bool) (t : Term) (n : ℕ) → Finds g S t n → g n ≡ holds S t n
-finds_self g S t n h = h.each n (omega arith) (omega (arith, count_some t)) ∙ holds_self S t n
+finds_self g S t n h = h.each n (omega arith) (omega (arith, statement_count-some t)) ∙ holds_at-self S t n
 
 -- roots at or above a statement
 pub low_second : (c d : Bool) (rs : List ℕ) (n m : ℕ) → n ≤ m → ((r : ℕ) → Root r rs → r ≤ n) → (r : ℕ) → Root r (cond c rs [] ++ root_if d m) → r ≤ m

@@ -2,6 +2,7 @@
 use Rattle.std.proofs.Common.{◌≡◌, ℕ, ◌+◌, ◌≤◌, Bool, true, false, not, ◌&&◌, ◌||◌, ◌==◌, cond, ltb, max, refl, sym, ap, ◌∙◌, subst, inl, inr, ⊎_elim, arith}
 use Rattle.std.proofs.lemmas.Bool.{or_left, or_right, and_parts, eqb-true, eqb-false, eq-eqb, ne_eqb, cond_both, false≢true, cases_Bool, cond-true, cond-false}
 use Rattle.std.proofs.lemmas.Bool.{lt-ltb, le-leb}
+use Rattle.facts.proofs.Tests.{ltb-not, or-equal, or-left-none, or-other}
 use Rattle.est_kernel.specs.Terms.{Expression, Tick, Sig, Not, And, Or, Term, Nothing, Pause, Emit, Exit, Present, Suspend, Seq, Loop, Par, Trap, Local, Awake}
 use Rattle.est_kernel.specs.Preorder.{statement_count}
 use Rattle.est_kernel.specs.Steps.{trap_code}
@@ -14,14 +15,14 @@ use Rattle.grc_graph.specs.Walk.{Walk, Values, truth, with_value, ended, then_wa
 use Rattle.grc_graph.specs.Selected.{HasExitCodes, IsSelected}
 use Rattle.grc_graph.specs.Readings.{Valuation, seen_values, kept_at, held_at}
 use Rattle.grc_graph.specs.Coherence.{statuses, StartedWalked, ResumedWalked}
+use Rattle.grc_graph.proofs.LiveInstances.{above_within}
 use Rattle.grc_sem.proofs.Places.{no_loops-left}
-use Rattle.grc_sem.proofs.Residues.{no_loops-right, loop_body, or_other, resumed_live}
-use Rattle.grc_solutions.proofs.Binders.{layer_above-started}
+use Rattle.grc_sem.proofs.Residues.{no_loops-right, loop_body, resumed_live}
 use Rattle.grc_sem.proofs.Constructive.{and_true}
 use Rattle.grc_sem.proofs.Kept.{Keeps, kept_outside, trap_one, started_keeps, resumed_keeps, keeps_branch}
 use Rattle.grc_sem.proofs.WalkCodes.{started_code, resumed_code}
 use Rattle.grc_sem.proofs.Meets.{Sees, sees_more}
-use Rattle.grc_sem.proofs.Ways.{Way, goal, inside, way_held, look_only, look_first, look_second, lower, way_starts, start_keeps, restart_keeps}
+use Rattle.grc_sem.proofs.Ways.{Way, goal, inside, way_held, look_only, look_first, look_second, way_starts, start_keeps, restart_keeps}
 
 -- a walk whose code is not 1 keeps no pause
 pub kept_code : {w : Walk} {t : Term} {n : ℕ} → Keeps w t n → (h : Way t) → (w.code == 1) ≡ false → w.kept (goal t n h) ≡ false
@@ -38,9 +39,6 @@ not_second {w} {p} q n y k = let i = inside q (n + 1 + statement_count p) y in
 
 and_same : {a b c d : Bool} → a ≡ c → b ≡ d → (a && b) ≡ (c && d)
 and_same {a} {b} {c} {d} e f = ap (λ x. x && b) e ∙ ap (λ x. c && x) f
-
-or_same : {a b c d : Bool} → a ≡ c → b ≡ d → (a || b) ≡ (c || d)
-or_same {a} {b} {c} {d} e f = ap (λ x. x || b) e ∙ ap (λ x. c || x) f
 
 cond_kept : (d : Bool) (x y : Walk) (m : ℕ) → cond d (x.kept m) (y.kept m) ≡ (cond d x y).kept m
 cond_kept true x y m = refl
@@ -184,7 +182,7 @@ module _ (V : Valuation) where
       let wp = started_walk (statuses V) p (n + 1) y v in
       let wq = started_walk (statuses V) q m y v in
       ap (λ z. way_starts p x && (V (Go g y) && z))
-      (look_only g n true _ i.0 ∙ and_same (ap (λ j. V (End n j 1)) (layer_above-started n r l))
+      (look_only g n true _ i.0 ∙ and_same (ap (λ j. V (End n j 1)) (above_within n r l))
       (cond-true (ltb g m) (kept_at V p (n + 1) g y) _ (lt-ltb g m i.1)))
       ∙ par_keep (way_starts p x) (V (Go g y)) (V (End n y 1)) (kept_at V p (n + 1) g y)
       ∙ ap (λ z. V (End n y 1) && z) (started_kept p (n + 1) r v b x (omega arith) (no_loops-left (instant_loops p) (instant_loops q) nl) k.0 w.1)
@@ -199,8 +197,8 @@ module _ (V : Valuation) where
       let wq = started_walk (statuses V) q m y v in
       let j : n + 1 ≤ g = omega (arith, i.0) in
       ap (λ z. way_starts q x && (V (Go g y) && z))
-      (look_only g n true _ j ∙ and_same (ap (λ z. V (End n z 1)) (layer_above-started n r l))
-      (cond-false (ltb g m) (kept_at V p (n + 1) g y) (kept_at V q m g y) (lower g m i.0)))
+      (look_only g n true _ j ∙ and_same (ap (λ z. V (End n z 1)) (above_within n r l))
+      (cond-false (ltb g m) (kept_at V p (n + 1) g y) (kept_at V q m g y) (ltb-not g m i.0)))
       ∙ par_keep (way_starts q x) (V (Go g y)) (V (End n y 1)) (kept_at V q m g y)
       ∙ ap (λ z. V (End n y 1) && z) (started_kept q m r v b x (omega arith) (no_loops-right (instant_loops p) (instant_loops q) nl) k.1 w.2)
       ∙ par_bits (V (End n y 1)) b (max wp.code wq.code == 1) (wq.kept g) (wp.kept g) (w.0.ends 1 ∙ ap (λ z. b && z) (one_flip (max wp.code wq.code)))
@@ -234,12 +232,8 @@ guard_total false R true H b x f g h = absurd (false≢true (h refl))
 guard_total false R false H true x f g h = absurd (false≢true (g refl))
 guard_total false R false H false x f g h = refl
 
-left_none : (a b : Bool) → (a || b) ≡ false → a ≡ false
-left_none true b e = e
-left_none false b e = refl
-
 suspend_bits : (a s H b d x : Bool) → (a || (s && H)) ≡ ((b && not d) && x) → (a || (s && ((b && d) || H))) ≡ (b && cond d s x)
-suspend_bits a s H true true x e = ap (λ i. i || (s && true)) (left_none a (s && H) e) ∙ keep s
+suspend_bits a s H true true x e = ap (λ i. i || (s && true)) (or-left-none a (s && H) e) ∙ keep s
   where
     keep : (s : Bool) → (s && true) ≡ s
     keep true = refl
@@ -310,7 +304,7 @@ truth_same Tick u v h = refl
 truth_same (Sig s) u v h = h s
 truth_same (Not a) u v h = ap not (truth_same a u v h)
 truth_same (And a b) u v h = and_same (truth_same a u v h) (truth_same b u v h)
-truth_same (Or a b) u v h = or_same (truth_same a u v h) (truth_same b u v h)
+truth_same (Or a b) u v h = or-equal (truth_same a u v h) (truth_same b u v h)
 
 module _ (V : Valuation) (S : ℕ → Bool) (given : Values) where
   abbrev Total : Scope → (t : Term) (n : ℕ) → Way t → Bool
@@ -342,7 +336,7 @@ module _ (V : Valuation) (S : ℕ → Bool) (given : Values) where
       (λ z. resumed_kept p B (n + 1) v (b && hp) x np k.0 sp (λ y. (and_parts b hp y).1) e (w.1 z))
       (λ z. let y = (and_parts b hp z).1 in resumed_live S p (n + 1) np k.0 y (sp y))
       (λ z. let y = way_held S p (n + 1) x z in resumed_live S p (n + 1) np k.0 y (sp y))
-      ∙ held_first b hp (wp.kept g) (wq.kept g) (λ z y. not_first p n x (resumed_keeps (statuses V) S q m v k.1 (or_other hp _ y (r z))))
+      ∙ held_first b hp (wp.kept g) (wq.kept g) (λ z y. not_first p n x (resumed_keeps (statuses V) S q m v k.1 (or-other hp _ y (r z))))
       ∙ ap (λ z. b && z) (cond_kept hp wp wq g)
   resumed_kept (Present c p q) B n v b (inr x) nl k s r e w =
       let m = n + 1 + statement_count p in
@@ -373,7 +367,7 @@ module _ (V : Valuation) (S : ℕ → Bool) (given : Values) where
       let kept : selected_in S p (n + 1) g ≡ S g =
       ap (λ z. S g && z) (and_true (le-leb (n + 1) g i.0) (lt-ltb g (n + 1 + statement_count p) i.1)) ∙ keep (S g) in
       ap (λ z. (has_code (resumed_codes p) && restart_keeps V p (n + 1) h) || (S g && z))
-      (or_same own (look_only g n false (held_at given V B p (n + 1) g Resumed) i.0))
+      (or-equal own (look_only g n false (held_at given V B p (n + 1) g Resumed) i.0))
       ∙ suspend_bits (has_code (resumed_codes p) && restart_keeps V p (n + 1) h) (S g) (held_at given V B p (n + 1) g Resumed) b d (wp.kept g)
       (guard_total (has_code (resumed_codes p)) (restart_keeps V p (n + 1) h) (S g) (held_at given V B p (n + 1) g Resumed) (b && not d) (wp.kept g)
       (λ z. resumed_kept p B (n + 1) v (b && not d) h nl k s (λ y. r (and_parts b _ y).0) e (w.1 z))
@@ -401,7 +395,7 @@ module _ (V : Valuation) (S : ℕ → Bool) (given : Values) where
       (λ z. let y = (and_parts b hp z).1 in resumed_live S p (n + 1) np k.0 y (sp y))
       (λ z. let y = way_held S p (n + 1) x z in resumed_live S p (n + 1) np k.0 y (sp y))
       ∙ seq_first_bits b hp (wp.code == 0) (wp.kept g) (wr.kept g) (wq.kept g)
-      (λ z y. not_first p n x (resumed_keeps (statuses V) S q m v k.1 (or_other hp _ y (r z))))
+      (λ z y. not_first p n x (resumed_keeps (statuses V) S q m v k.1 (or-other hp _ y (r z))))
       (not_first p n x (started_keeps (statuses V) q m (Started m) v k.1))
       (λ z y. kept_code (resumed_keeps (statuses V) S p (n + 1) v k.0 z) x (zero_one wp.code y))
       ∙ ap (λ z. b && cond hp z (wq.kept g)) (then_kept wp wr g) ∙ ap (λ z. b && z) (cond_kept hp (then_walk wp wr) wq g)
@@ -424,7 +418,7 @@ module _ (V : Valuation) (S : ℕ → Bool) (given : Values) where
       let live : hq ≡ true → cpl ≡ true = λ z. let y = sq z in and_true y.0 (resumed_live S q m nq k.1 z y.1) in
       ap (λ z. (A || K) || (S g && z)) (look_second g n (statement_count p) false (held_at given V B p (n + 1) g Resumed) H i.0)
       ∙ move A K (S g && H)
-      ∙ or_same
+      ∙ or-equal
       (guard_total cpl (restart_keeps V q m x) (S g) H (b && hq) (wq.kept g)
       (λ z. resumed_kept q B m v (b && hq) x nq k.1 (λ y. (sq y).1) (λ y. (and_parts b hq y).1) e (w.2 z))
       (λ z. live (and_parts b hq z).1) (λ z. live (way_held S q m x z)))
@@ -449,7 +443,7 @@ module _ (V : Valuation) (S : ℕ → Bool) (given : Values) where
       let K = resumed_codes p 0 && start_keeps V p m h m in
       ap (λ z. (A || K) || (S g && z)) (look_only g n false H i.0)
       ∙ move A K (S g && H)
-      ∙ or_same
+      ∙ or-equal
       (guard_total (has_code (resumed_codes p)) (restart_keeps V p m h) (S g) H b (wp.kept g)
       (λ z. resumed_kept p B m v b h np k s r e (w.1 z))
       (λ z. resumed_live S p m np k (r z) (s (r z)))
@@ -500,7 +494,7 @@ module _ (V : Valuation) (S : ℕ → Bool) (given : Values) where
       let j : n + 1 ≤ g = omega (arith, i.0) in
       let sq : hq ≡ true → IsSelected S q m = λ z. (s (or_right hp hq z)).3 z in
       ap (λ z. (V (End n Resumed 1) && (has_code (resumed_codes q) && restart_keeps V q m x)) || (S g && z))
-      (look_only g n false _ j ∙ ap (λ z. V (End n Resumed 1) && z) (cond-false (ltb g m) (held_at given V B p (n + 1) g Resumed) H (lower g m i.0)))
+      (look_only g n false _ j ∙ ap (λ z. V (End n Resumed 1) && z) (cond-false (ltb g m) (held_at given V B p (n + 1) g Resumed) H (ltb-not g m i.0)))
       ∙ branch_bits (V (End n Resumed 1)) (has_code (resumed_codes q) && restart_keeps V q m x) (S g) H
       ∙ ap (λ z. V (End n Resumed 1) && z)
       (guard_total (has_code (resumed_codes q)) (restart_keeps V q m x) (S g) H (b && hq) (wq.kept g)

@@ -1,20 +1,23 @@
 -- The pauses that a walk keeps with code 1 are a state again: they are well formed, and they are leaves.
-use Rattle.std.proofs.Common.{◌≡◌, ℕ, zero, suc, ◌+◌, ◌<◌, ◌≤◌, ◌⊎◌, Bool, true, false, ◌&&◌, ◌||◌, ◌==◌, cond, max, List, [], ◌∷◌, ◌++◌, refl, sym, ap, ◌∙◌}
+use Rattle.std.proofs.Common.{◌≡◌, ℕ, ◌+◌, ◌<◌, ◌≤◌, ◌⊎◌, Bool, true, false, ◌&&◌, ◌||◌, ◌==◌, cond, max, List, [], ◌∷◌, ◌++◌, refl, sym, ap, ◌∙◌}
 use Rattle.std.proofs.Common.{subst, inl, inr, ⊎_elim, arith}
 use Rattle.std.specs.List.{list_any}
 use Rattle.std.proofs.lemmas.List.Folds.{list_any-append}
 use Rattle.std.proofs.lemmas.Bool.{or_cases, or_left, or_right, and_parts, eqb-true, eqb-false, eq-eqb, cond_both, false≢true, cases_Bool, leb-true, ltb-true}
+use Rattle.std.proofs.lemmas.Bool.{and_right}
+use Rattle.facts.proofs.Tests.{or-other}
 use Rattle.est_kernel.specs.Terms.{Term, Nothing, Pause, Emit, Exit, Present, Suspend, Seq, Loop, Par, Trap, Local, Awake}
 use Rattle.est_kernel.specs.Preorder.{statement_count}
 use Rattle.est_kernel.specs.Steps.{trap_code}
 use Rattle.est_kernel.specs.StaticCodes.{started_codes, resumed_codes, instant_loops, NoInstantLoop}
+use Rattle.est_kernel.proofs.ResidualLaws.{trap_code-one}
 use Rattle.grc_graph.specs.Layers.{Layer, Resumed, Started, can_pass}
 use Rattle.grc_graph.specs.Residuals.{holds}
 use Rattle.grc_graph.specs.Walk.{Walk, Values, truth, with_value, ended, then_walk, both_walks, started_walk, resumed_walk, selected_in}
 use Rattle.grc_graph.specs.SelectionTrees.{resumes, second_resumes, leaf_paths}
 use Rattle.grc_graph.specs.Selected.{HasExitCodes, IsSelected}
 use Rattle.grc_sem.proofs.Places.{no_loops-left}
-use Rattle.grc_sem.proofs.Residues.{no_loops-right, loop_body, or_other, resumed_live}
+use Rattle.grc_sem.proofs.Residues.{no_loops-right, loop_body, resumed_live}
 use Rattle.grc_sem.proofs.Constructive.{and_true}
 use Rattle.grc_sem.proofs.Kept.{Same, first_same, second_same, only_same, holds_same, Keeps, second_none, first_none, both_first, both_second, selected_same}
 use Rattle.grc_sem.proofs.Kept.{keeps_branch, started_keeps, resumed_keeps}
@@ -67,23 +70,13 @@ selected_as S T (Awake e p) n s h = tt
 flip_same : {S T : ℕ → Bool} {a b : ℕ} → Same S T a b → Same T S a b
 flip_same s = record { at = λ m l u. sym (s.at m l u) }
 
-and_none : (a b : Bool) → b ≡ false → (a && b) ≡ false
-and_none true b e = e
-and_none false b e = refl
-
-trap_back : (c : ℕ) → trap_code c ≡ 1 → c ≡ 1
-trap_back zero e = absurd (omega arith)
-trap_back (suc zero) e = refl
-trap_back (suc (suc zero)) e = absurd (omega arith)
-trap_back (suc (suc (suc c))) e = absurd (omega arith)
-
 -- a first part alone, and a second part alone
 first_only : {w : Walk} (p q : Term) (n : ℕ) (T : ℕ → Bool) {P Q : Type 0} → Keeps w p (n + 1) →
     Same T w.kept n (n + (1 + statement_count p + statement_count q)) → P →
     ((holds T p (n + 1) && holds T q (n + 1 + statement_count p)) ≡ false) × (holds T p (n + 1) ≡ true → P) × (holds T q (n + 1 + statement_count p) ≡ true → Q)
 first_only p q n T k s h =
     let none = second_none q n T k s in
-    (and_none _ _ none, (λ c. h), (λ c. absurd (false≢true (sym none ∙ c))))
+    (and_right _ _ none, (λ c. h), (λ c. absurd (false≢true (sym none ∙ c))))
 
 second_only : {w : Walk} (p q : Term) (n : ℕ) (T : ℕ → Bool) {P Q : Type 0} → Keeps w q (n + 1 + statement_count p) →
     Same T w.kept n (n + (1 + statement_count p + statement_count q)) → Q →
@@ -155,7 +148,7 @@ started_selected Z (Par p q) n l v nl k = λ c T s.
 started_selected Z (Trap p) n l v nl k = λ c T s.
     let x = started_walk Z p (n + 1) l v in
     let one : (trap_code x.code == 1) ≡ true = eq-eqb _ 1 c in
-    started_selected Z p (n + 1) l v nl k (trap_back x.code c) T
+    started_selected Z p (n + 1) l v nl k (trap_code-one x.code c) T
     (record { at = λ m a b. s.at m (omega arith) (omega arith) ∙ ap (λ i. i && x.kept m) one })
 started_selected Z (Local x p) n l v nl k = λ c T s.
     started_selected Z p (n + 1) l (with_value v x (Z n l)) nl k c T (record { at = λ m a b. s.at m (omega arith) (omega arith) })
@@ -186,7 +179,7 @@ resumed_selected Z S (Present e p q) n v nl k h i =
     (λ d c T s. first_only p q n T (resumed_keeps Z S p (n + 1) v k.0 d) s
     (resumed_selected Z S p (n + 1) v np k.0 d (i.1 d) c T (first_same n (statement_count p) (statement_count q) s)))
     (λ d c T s.
-    let d2 = or_other _ _ d h in
+    let d2 = or-other _ _ d h in
     second_only p q n T (resumed_keeps Z S q m v k.1 d2) s (resumed_selected Z S q m v nq k.1 d2 (i.2 d2) c T
     (second_same n (statement_count p) (statement_count q) s)))
 resumed_selected Z S (Suspend e p) n v nl k h i =
@@ -212,7 +205,7 @@ resumed_selected Z S (Seq p q) n v nl k h i =
     (λ z c T s. first_only p q n T (resumed_keeps Z S p (n + 1) v k.0 d) s
     (resumed_selected Z S p (n + 1) v np k.0 d (i.1 d) c T (first_same n (statement_count p) (statement_count q) s))))
     (λ d c T s.
-    let d2 = or_other _ _ d h in
+    let d2 = or-other _ _ d h in
     let j = i.2 d2 in
     second_only p q n T (resumed_keeps Z S q m v k.1 d2) s (
       j.0,
@@ -252,7 +245,7 @@ resumed_selected Z S (Par p q) n v nl k h i = λ c T s.
 resumed_selected Z S (Trap p) n v nl k h i = λ c T s.
     let x = resumed_walk Z S p (n + 1) v in
     let one : (trap_code x.code == 1) ≡ true = eq-eqb _ 1 c in
-    resumed_selected Z S p (n + 1) v nl k h i (trap_back x.code c) T
+    resumed_selected Z S p (n + 1) v nl k h i (trap_code-one x.code c) T
     (record { at = λ m a b. s.at m (omega arith) (omega arith) ∙ ap (λ j. j && x.kept m) one })
 resumed_selected Z S (Local x p) n v nl k h i = λ c T s.
     resumed_selected Z S p (n + 1) (with_value v x (Z n Resumed)) nl k h i c T (record { at = λ m a b. s.at m (omega arith) (omega arith) })

@@ -3,6 +3,8 @@ use Rattle.std.proofs.Common.{◌≡◌, ℕ, Bool, true, false, ◌&&◌, ◌||
 use Rattle.std.specs.List.{list_any, flat_map}
 use Rattle.std.proofs.lemmas.List.Folds.{list_any-append}
 use Rattle.std.proofs.lemmas.Bool.{and_parts, eqb-true, cond_both, false≢true}
+use Rattle.facts.proofs.Lists.{map-twice}
+use Rattle.facts.proofs.Tests.{or-equal, or-false, same-tests}
 use Rattle.est_kernel.specs.Terms.{Term}
 use Rattle.est_kernel.specs.StaticCodes.{has_code, resumed_codes, NoInstantLoop}
 use Rattle.grc_graph.specs.Layers.{Layer, Resumed, Started, body_layers, body_liveness}
@@ -16,13 +18,14 @@ use Rattle.grc_graph.specs.Walk.{Values, State, Initial, Selecting, ended, is_in
 use Rattle.grc_graph.specs.Selected.{HasExitCodes, IsSelected, IsState}
 use Rattle.grc_graph.specs.Readings.{Valuation, state_holds_at, kept_at, held_at}
 use Rattle.grc_graph.specs.Coherence.{statuses, StartedWalked, ResumedWalked}
+use Rattle.grc_graph.proofs.Holding.{holds-false}
 use Rattle.grc_sem.specs.GraphWalks.{selected_of}
 use Rattle.grc_sem.proofs.Residues.{resumed_live}
 use Rattle.grc_sem.proofs.Constructive.{and_true}
 use Rattle.grc_sem.proofs.Kept.{started_keeps, resumed_keeps}
 use Rattle.grc_sem.proofs.EndForms.{val, any_meaning}
 use Rattle.grc_sem.proofs.Meets.{Sees}
-use Rattle.grc_sem.proofs.Tops.{nothing_held, state_reach}
+use Rattle.grc_sem.proofs.Tops.{state_reach}
 use Rattle.grc_sem.proofs.Ways.{Way, goal, way_held, holds_at_goal, start_keeps, restart_keeps, layer_keeps, parted}
 use Rattle.grc_sem.proofs.NextKept.{guard_total, started_kept, resumed_kept}
 use Rattle.grc_sem.proofs.NextStates.{started_selected, resumed_selected, IsWay, AllWays, started_ways, resumed_ways, among, leaf_way, way_leaf, live_leaf}
@@ -42,7 +45,7 @@ keeps_state Z (Selecting S) body v kernel nl state =
     resumed_selected Z S body 0 v nl kernel e (state e)
     (eqb-true w.code 1 (sym ((resumed_keeps Z S body 0 v kernel e).held w.kept (record { at = λ m l u. refl })) ∙ h))
     w.kept (record { at = λ m l u. refl }))
-    (λ e h. absurd (false≢true (sym (nothing_held body 0) ∙ h)))
+    (λ e h. absurd (false≢true (sym (holds-false body 0) ∙ h)))
 
 -- the selected pauses of a state are pauses
 abbrev pub StatePauses : State → Term → Type 0
@@ -56,13 +59,6 @@ walk_ways Z (Selecting S) body v kernel h =
     (λ e. resumed_ways Z S body 0 v kernel (record { each = λ m i l u. h m i }))
     (λ e m i. absurd (false≢true i))
 
-or_same : {a b c d : Bool} → a ≡ c → b ≡ d → (a || b) ≡ (c || d)
-or_same {a} {b} {c} {d} e f = ap (λ x. x || b) e ∙ ap (λ x. c || x) f
-
-or_nothing : (x : Bool) → (x || false) ≡ x
-or_nothing true = refl
-or_nothing false = refl
-
 move_start : (l r s x : Bool) → (((l && r) || (s || false)) || x) ≡ (((l && r) || x) || s)
 move_start l r s x = go (l && r) s x
   where
@@ -73,11 +69,6 @@ move_start l r s x = go (l && r) s x
     go false false true = refl
     go false false false = refl
 
-same_test : (x y : Bool) → (x ≡ true → y ≡ true) → (y ≡ true → x ≡ true) → x ≡ y
-same_test true y f g = sym (f refl)
-same_test false true f g = g refl
-same_test false false f g = refl
-
 -- which numbers a list of values selects
 select_one : (d : Bool) (a b c r : Bool) → (d ≡ true → a ≡ b) → r ≡ (c && b) → cond d a r ≡ ((d || c) && b)
 select_one true a b c r f e = f refl
@@ -87,10 +78,6 @@ pub selecting_is : (F : ℕ → Bool) (ms : List ℕ) (m : ℕ) → selecting ms
 selecting_is F [] m = refl
 selecting_is F (x ∷ ms) m =
     select_one (m == x) (F x) (F m) (among m ms) (selecting ms (map F ms) m) (λ e. ap F (sym (eqb-true m x e))) (selecting_is F ms m)
-
-map_twice : {A B C : Type 0} (f : B → C) (g : A → B) (xs : List A) → map f (map g xs) ≡ map (λ x. f (g x)) xs
-map_twice f g [] = refl
-map_twice f g (x ∷ xs) = ap (λ l. f (g x) ∷ l) (map_twice f g xs)
 
 module _ (given : Values) (V : Valuation) (B : Scope) (body : Term) (q : State) (v : Values) (nl : NoInstantLoop body) (kernel : HasExitCodes body)
     (state : IsState q body) (sees : Sees given V B Resumed v) (started : StartedWalked V body 0 (Started 0) v (is_initial q))
@@ -109,7 +96,7 @@ module _ (given : Values) (V : Valuation) (B : Scope) (body : Term) (q : State) 
       let own = Conjunction (Selected n) (Held n Resumed) ∷ [] in
       any_meaning B body q given V (flat_map (kept_start n) ls ++ own)
       ∙ list_any-append (val B body q given V) (flat_map (kept_start n) ls) own
-      ∙ or_same (starts_any n ls) (or_nothing (state_holds_at q body n && held_at given V B body 0 n Resumed))
+      ∙ or-equal (starts_any n ls) (or-false (state_holds_at q body n && held_at given V B body 0 n Resumed))
 
   state_selected : (h : Way body) → state_holds_at q body (goal body 0 h) ≡ S (goal body 0 h)
   state_selected h = go q
@@ -125,11 +112,11 @@ module _ (given : Values) (V : Valuation) (B : Scope) (body : Term) (q : State) 
       go : (r : State) (u : Values) → ((holds (selected_of r) body 0 && (resumed_walk (statuses V) (selected_of r) body 0 u).kept m)
           || (is_initial r && (started_walk (statuses V) body 0 (Started 0) u).kept m)) ≡ (body_walk (statuses V) r body u).kept m
       go Initial u = ap (λ b. (b && (resumed_walk (statuses V) (λ i. false) body 0 u).kept m) || (started_walk (statuses V) body 0 (Started 0) u).kept m)
-          (nothing_held body 0)
+          (holds-false body 0)
       go (Selecting T) u = held (holds T body 0)
         where
           held : (h : Bool) → ((h && (resumed_walk (statuses V) T body 0 u).kept m) || false) ≡ (cond h (resumed_walk (statuses V) T body 0 u) (ended 0)).kept m
-          held true = or_nothing _
+          held true = or-false _
           held false = refl
 
   -- the next formula of a pause
@@ -143,11 +130,11 @@ module _ (given : Values) (V : Valuation) (B : Scope) (body : Term) (q : State) 
       let s = start_keeps V body 0 h 0 in
       let selected : holds S body 0 ≡ true → IsSelected S body 0 = (state_reach q body state).selected in
       next_value m (body_layers body m)
-      ∙ or_same
+      ∙ or-equal
       (parted V (λ l. true) (body_liveness body) body 0 h (record { same = λ r u. refl }))
       (ap (λ b. b && held_at given V B body 0 m Resumed) (state_selected h))
       ∙ move_start L R s X
-      ∙ or_same
+      ∙ or-equal
       (guard_total L R (S m) (held_at given V B body 0 m Resumed) (holds S body 0) ((resumed_walk (statuses V) S body 0 v).kept m)
       (λ live. resumed_kept V S given body B 0 v (holds S body 0) h nl kernel selected (λ e. e) sees (resumed live))
       (λ e. resumed_live S body 0 nl kernel e (selected e))
@@ -161,7 +148,7 @@ module _ (given : Values) (V : Valuation) (B : Scope) (body : Term) (q : State) 
   pub next_selected : (m : ℕ) → selecting (body_leaves body) (map (λ a. val B body q given V a)
       (map (λ n. next_formula n (body_layers body n)) (body_leaves body))) m ≡ (among m (body_leaves body) && next_bit m)
   next_selected m =
-      ap (λ bits. selecting (body_leaves body) bits m) (map_twice (λ a. val B body q given V a) (λ n. next_formula n (body_layers body n)) (body_leaves body))
+      ap (λ bits. selecting (body_leaves body) bits m) (map-twice (λ a. val B body q given V a) (λ n. next_formula n (body_layers body n)) (body_leaves body))
       ∙ selecting_is next_bit (body_leaves body) m
 
   -- the state that the next formulas tell
@@ -170,7 +157,7 @@ module _ (given : Values) (V : Valuation) (B : Scope) (body : Term) (q : State) 
   next_kept pauses m =
       let K = (body_walk (statuses V) q body v).kept in
       next_selected m
-      ∙ same_test (among m (body_leaves body) && next_bit m) (K m)
+      ∙ same-tests (among m (body_leaves body) && next_bit m) (K m)
       (λ e.
       let a = and_parts (among m (body_leaves body)) (next_bit m) e in
       let w = leaf_way (resumes body) body 0 m a.0 in

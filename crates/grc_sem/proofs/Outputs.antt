@@ -7,9 +7,9 @@ use Rattle.est_kernel.specs.Statuses.{Environment, with_status, known}
 use Rattle.est_kernel.specs.Potentials.{decided}
 use Rattle.est_kernel.specs.Steps.{where_known}
 use Rattle.est_kernel.specs.StaticCodes.{NoInstantLoop}
-use Rattle.est_kernel.specs.Laws.{IsBelow}
 use Rattle.est_kernel.specs.Reactions.{bound, settle}
 use Rattle.est_kernel.proofs.ReactionLaws.{NotAmong}
+use Rattle.est_kernel.proofs.Statuses.{below_known}
 use Rattle.grc_graph.specs.Walk.{Walk, Values, with_value, hidden_walk}
 use Rattle.grc_sem.proofs.Places.{Place, Below, Knows, with_rank, with_below, decision_is, local_place}
 
@@ -93,10 +93,6 @@ where_is : (b : Bool) (o : Option Environment) → where_known (known b) o ≡ o
 where_is true o = refl
 where_is false o = refl
 
-known_below : (b : Bool) → IsBelow (known b) (known b)
-known_below true = refl
-known_below false = refl
-
 -- the signals settle as the walk emits them; then all statuses of a rank below N are known
 pub settled : {t : Term} {v : Values} {r re : ℕ → ℕ} {w : Walk} {g : ℕ} (N : ℕ) (os : List ℕ) (E : Environment) → NoInstantLoop t → Differ os →
     Emitted v w r N os → Place t v r w g re → Below E v → ((s : ℕ) → NotAmong s os → r s < N → E s ≡ known (v s)) →
@@ -115,7 +111,7 @@ settled {t} {v} {r} {re} {w} {g} N (o ∷ os) E nl d e p b f =
     let is : decided (bound os t) E o ≡ known (v o) =
     decision_is {r = raised N (o ∷ os) r} o (raised N os r o) (v o) (e.0 ∙ sym (not_hidden os w o d.0)) body E N (raised_most N os r o d.0 e.1) k in
     let below : Below (with_status E o (known (v o))) v =
-    subst (λ u. Below (with_status E o (known (v o))) u) (with_own v o) (with_below o (known (v o)) (v o) b (known_below (v o))) in
+    subst (λ u. Below (with_status E o (known (v o))) u) (with_own v o) (with_below o (known (v o)) (v o) b (below_known (v o))) in
     let rest = settled {g = g} N os (with_status E o (known (v o))) nl d.1 e.2 p below
     (λ s n l. one s (s == o) refl n l) in (
       rest.0,

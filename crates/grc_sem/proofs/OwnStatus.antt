@@ -16,13 +16,15 @@ use Rattle.grc_graph.specs.Readings.{Valuation}
 use Rattle.grc_graph.specs.Coherence.{statuses, StartedWalked, ResumedWalked}
 use Rattle.grc_solutions.proofs.Each.{spot}
 use Rattle.grc_sem.proofs.Residues.{resumed_live}
-use Rattle.grc_solutions.proofs.Binders.{Above, above_bind, layer_above-started}
+use Rattle.grc_solutions.proofs.Binders.{Above, above_bind}
 use Rattle.grc_graph.proofs.LiveLayers.{Agrees, only_agrees}
+use Rattle.grc_graph.proofs.LiveInstances.{above_within}
+use Rattle.grc_graph.proofs.SameWires.{same_layer-self}
 use Rattle.grc_solutions.proofs.Live.{Root}
 use Rattle.grc_sem.proofs.Emissions.{emission, emitted, Whole}
 use Rattle.grc_sem.proofs.Bridge.{started_any, resumed_any, split}
 use Rattle.grc_sem.proofs.WalkEmits.{Reach, started_silent, resumed_silent, started_emits, resumed_emits, guard_bits}
-use Rattle.grc_sem.proofs.Meets.{any_single, any_nothing, own_fresh, same_self, own_shows}
+use Rattle.grc_sem.proofs.Meets.{any_single, any_nothing, own_fresh, own_shows}
 
 module _ (V : Valuation) (all : List Spot) (L : ℕ → List Layer) where
   pub started_emissions : (a : Liveness) (s : ℕ) (p : Term) (B : Scope) (f : Layer → Formula) (n r : ℕ) → HasExitCodes p → Above B n → Agrees L a p (n + 1) →
@@ -56,7 +58,7 @@ module _ (V : Valuation) (all : List Spot) (L : ℕ → List Layer) where
       ∙ ap (λ b. (a.resumed && resumed_any F (bind B s n) f p (n + 1)) || b)
       (any_nothing (λ j. started_any F (bind B s n) f p (n + 1) (Started j)) a.roots
       (λ j i. started_silent V W s p (bind B s n) f (n + 1) (Started j) k (own_fresh n Resumed)
-      (own_shows B n s (Started j) Resumed false ab (ap (λ y. same_layer y Resumed) (layer_above-started n j (l j i))))))
+      (own_shows B n s (Started j) Resumed false ab (ap (λ y. same_layer y Resumed) (above_within n j (l j i))))))
       ∙ or_nothing _
     where
       or_nothing : (x : Bool) → (x || false) ≡ x
@@ -87,7 +89,7 @@ module _ (V : Valuation) (all : List Spot) (L : ℕ → List Layer) where
       local_own x p B f n y w
       ∙ started_emissions ap1 x p B _ n r k ab (only_agrees L a ap1 (Local x p) p n refl (λ j. refl) g) i
       ∙ started_emits V W x true p (bind B x n) _ (n + 1) y (with_value v x (V W)) b nl k one (own_fresh n y)
-      (own_shows B n x y y true ab (ap (λ z. same_layer z y) (layer_above-started n r l) ∙ same_self y))
+      (own_shows B n x y y true ab (ap (λ z. same_layer z y) (above_within n r l) ∙ same_layer-self y))
 
   pub local_resumed : (S : ℕ → Bool) (a : Liveness) (x : ℕ) (p : Term) (B : Scope) (f : Layer → Formula) (n : ℕ) (v : Values) (b : Bool) →
       Agrees L a (Local x p) n → a.resumed ≡ true → ((r : ℕ) → Root r a.roots → r ≤ n) → NoInstantLoop p → HasExitCodes p → Above B n →

@@ -13,6 +13,7 @@ use Rattle.est_kernel.specs.Laws.{IsBelow}
 use Rattle.est_kernel.proofs.Sets.{except-parts, maxima-in, maxima-parts, lowered-parts}
 use Rattle.est_kernel.proofs.PotentialLaws.{can_lies_in_may_lem}
 use Rattle.est_kernel.proofs.CodeLaws.{may_keeps_static_codes_lem}
+use Rattle.est_kernel.proofs.Statuses.{conjunction-known, disjunction-known, opposite-known}
 use Rattle.grc_graph.specs.Walk.{Walk, Values, with_value, truth, ended, then_walk, both_walks, trapped_walk, hidden_walk}
 use Rattle.grc_sem.proofs.Choices.{Sound, Decides, InMay, decides_later, decides_from, completes_sound, completes_decides, chosen_sound, chosen_decides}
 use Rattle.grc_sem.proofs.Choices.{sequence_signals-parts, turn_sound, turn_decides, both_sound, both_decides, trapped_sound, trapped_decides}
@@ -92,30 +93,16 @@ test_below (Not a) E v h = below_true (value a E) (truth a v) (test_below a E v 
 test_below (And a b) E v h = below_and (value a E) (value b E) (truth a v) (truth b v) (test_below a E v h) (test_below b E v h)
 test_below (Or a b) E v h = below_or (value a E) (value b E) (truth a v) (truth b v) (test_below a E v h) (test_below b E v h)
 
-opposite_known : (b : Bool) → opposite (known b) ≡ known (not b)
-opposite_known true = refl
-opposite_known false = refl
-
-and_known : (a b : Bool) → conjunction (known a) (known b) ≡ known (a && b)
-and_known true true = refl
-and_known true false = refl
-and_known false b = refl
-
-or_known : (a b : Bool) → disjunction (known a) (known b) ≡ known (a || b)
-or_known true b = refl
-or_known false true = refl
-or_known false false = refl
-
 pub test_known : (e : Expression) (E : Environment) (v : Values) (n g : ℕ) (r : ℕ → ℕ) → Knows E v n r → Tested e r g → g ≤ n → value e E ≡ known (truth e v)
 test_known Tick E v n g r h t l = refl
 test_known (Sig s) E v n g r h t l = h.settled s (omega arith)
-test_known (Not a) E v n g r h t l = ap opposite (test_known a E v n g r h t l) ∙ opposite_known (truth a v)
+test_known (Not a) E v n g r h t l = ap opposite (test_known a E v n g r h t l) ∙ opposite-known (truth a v)
 test_known (And a b) E v n g r h t l =
     ap (λ x. conjunction x (value b E)) (test_known a E v n g r h t.0 l)
-    ∙ ap (λ x. conjunction (known (truth a v)) x) (test_known b E v n g r h t.1 l) ∙ and_known (truth a v) (truth b v)
+    ∙ ap (λ x. conjunction (known (truth a v)) x) (test_known b E v n g r h t.1 l) ∙ conjunction-known (truth a v) (truth b v)
 test_known (Or a b) E v n g r h t l =
     ap (λ x. disjunction x (value b E)) (test_known a E v n g r h t.0 l)
-    ∙ ap (λ x. disjunction (known (truth a v)) x) (test_known b E v n g r h t.1 l) ∙ or_known (truth a v) (truth b v)
+    ∙ ap (λ x. disjunction (known (truth a v)) x) (test_known b E v n g r h t.1 l) ∙ disjunction-known (truth a v) (truth b v)
 
 -- lists of loops
 pub no_loops-left : (xs ys : List Span) → xs ++ ys ≡ [] → xs ≡ []

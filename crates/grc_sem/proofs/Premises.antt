@@ -1,6 +1,7 @@
 -- The premises of the laws from those of a program: exits have codes below 64, and ranks have a bound.
 use Rattle.std.proofs.Common.{◌≡◌, ℕ, ◌+◌, ◌≤◌, cond, ltb, max, List, [], ◌∷◌, refl, ⊎_elim, arith}
 use Rattle.std.proofs.lemmas.Bool.{cond_both, cond-true, lt-ltb, ltb-true, cases_lt}
+use Rattle.facts.proofs.Lists.{Every}
 use Rattle.est_kernel.specs.Terms.{Term, Nothing, Pause, Emit, Exit, Present, Suspend, Seq, Loop, Par, Trap, Local, Awake}
 use Rattle.est_kernel.specs.Sizes.{trap_depth}
 use Rattle.est_kernel.specs.WellFormed.{ExitsStandInTraps}
@@ -9,7 +10,7 @@ use Rattle.grc_graph.specs.Wires.{Wire}
 use Rattle.grc_graph.specs.Edges.{Edge}
 use Rattle.grc_graph.specs.Orders.{GoUp}
 use Rattle.grc_graph.specs.Selected.{HasExitCodes}
-use Rattle.grc_solutions.proofs.Lists.{Every, every_from, every_at}
+use Rattle.grc_solutions.proofs.Lists.{every_from, every_at}
 
 pub kernel_of : (t : Term) (d : ℕ) → programs.IsKernel t → ExitsStandInTraps d t → d + trap_depth t ≤ 62 → HasExitCodes t
 kernel_of Nothing d k e l = tt

@@ -5,9 +5,10 @@ use Rattle.est_kernel.specs.Terms.{Expression, Tick, Sig, Not, And, Or, Term, No
 use Rattle.grc_graph.specs.Layers.{Layer, Resumed, Started, layer_above}
 use Rattle.grc_graph.specs.Scopes.{Binding, Entering, Outgoing, BoundAt, Unbound, Scope, bind}
 use Rattle.grc_graph.specs.Wires.{Wire, Out, StatusOf, status_wire}
+use Rattle.grc_graph.proofs.LiveInstances.{above_behind}
 use Rattle.grc_sem.proofs.Places.{Tested, with_rank}
 use Rattle.grc_solutions.proofs.Rows.{Between, Reads, FromStatus, ToStatus}
-use Rattle.grc_solutions.proofs.Binders.{Above, layer_above-restarted}
+use Rattle.grc_solutions.proofs.Binders.{Above}
 
 -- up in rank
 abbrev pub Up : (Wire → ℕ) → Between
@@ -95,7 +96,7 @@ ranks_more R N B n s l r e k =
 root_rank : (R : Wire → ℕ) (N : ℕ) (b : Binding) (s m : ℕ) → ((c : ℕ) → b ≡ BoundAt c → c < m) → binding_rank R N b s Resumed ≡ binding_rank R N b s (Started m)
 root_rank R N Entering s m h = refl
 root_rank R N Outgoing s m h = refl
-root_rank R N (BoundAt b) s m h = ap (λ j. R (StatusOf b j)) (sym (layer_above-restarted b m (h b refl)))
+root_rank R N (BoundAt b) s m h = ap (λ j. R (StatusOf b j)) (sym (above_behind b m (h b refl)))
 root_rank R N Unbound s m h = refl
 
 -- a restart sees the same signals as the resumed statement round it

@@ -1,10 +1,12 @@
 -- In each solution, and in each instant of a run, a region whose head does not run is at rest.
-use Rattle.std.proofs.Common.{◌≡◌, ℕ, ◌+◌, ◌<◌, ◌≤◌, Bool, true, false, ◌&&◌, ◌==◌, cond, ltb, List, [], ◌∷◌, map, Some, None, refl, sym, ap, ◌∙◌}
+use Rattle.std.proofs.Common.{◌≡◌, ℕ, ◌+◌, ◌<◌, ◌≤◌, Bool, false, ◌&&◌, ◌==◌, cond, ltb, List, [], ◌∷◌, map, Some, None, refl, sym, ap, ◌∙◌}
 use Rattle.std.proofs.Common.{subst, ⊎_elim, arith}
 use Rattle.std.specs.List.{All, Contains, flat_map}
-use Rattle.std.proofs.lemmas.Bool.{eq-eqb, ne_eqb, cond_both, cond-true, cond-false, lt-ltb, ltb-true}
+use Rattle.std.proofs.lemmas.Bool.{eq-eqb, ne_eqb, cond_both, cond-true, cond-false, lt-ltb}
 use Rattle.std.proofs.lemmas.List.Elements.{All-nil, All-cons}
 use Rattle.std.proofs.lemmas.Option.{none-some, same_Some}
+use Rattle.facts.proofs.Lists.{Every, every-append}
+use Rattle.facts.proofs.Tests.{ltb-not}
 use Rattle.est_base.specs.Items.{Item, Event, Reset}
 use Rattle.est_kernel.specs.Terms.{Term, Nothing, Pause, Emit, Exit, Present, Suspend, Seq, Loop, Par, Trap, Local, Awake}
 use Rattle.est_kernel.specs.Plain.{interface_of, interface_count}
@@ -23,7 +25,7 @@ use Rattle.grc_graph.specs.GraphRuns.{graph_of, program_spots, program_wires, ne
 use Rattle.grc_graph.proofs.LiveLayers.{body_agrees}
 use Rattle.grc_solutions.proofs.Each.{EachStarted, EachResumed}
 use Rattle.grc_solutions.proofs.Gathered.{gathered}
-use Rattle.grc_solutions.proofs.Lists.{Every, every_append, every_at}
+use Rattle.grc_solutions.proofs.Lists.{every_at}
 use Rattle.grc_solutions.proofs.Live.{Root}
 use Rattle.grc_sem.specs.GraphWalks.{SelectsLeaves, selected_of, program_values}
 use Rattle.grc_sem.specs.Laws.{RegionsRest, RegionsRestInRuns}
@@ -67,9 +69,6 @@ heads_here H h (Trap p) n g = g.each n (omega arith) (omega arith) ∙ cond-true
 heads_here H h (Local s p) n g = g.each n (omega arith) (omega arith) ∙ cond-true (n == n) h _ (eq-eqb n n refl)
 heads_here H h (Awake e p) n g = g.each n (omega arith) (omega arith)
 
-not_below : (a b : ℕ) → b ≤ a → ltb a b ≡ false
-not_below a b h = cond_both (ltb a b) true false (λ x. ltb a b ≡ false) (λ e. let i = ltb-true a b e in absurd (omega arith)) (λ e. e)
-
 heads_only : (H : ℕ → ℕ) (h : ℕ) (t p : Term) (n : ℕ) → statement_count t ≡ 1 + statement_count p →
     ((m : ℕ) → head_in h t n m ≡ cond (m == n) h (head_in h p (n + 1) m)) → Heads H h t n → Heads H h p (n + 1)
 heads_only H h t p n c f g =
@@ -92,7 +91,7 @@ heads_second H h i j t p q n c f g =
     record {
       each = λ m l u.
           g.each m (omega arith) (omega arith) ∙ f m ∙ cond-false (m == n) h _ (ne_eqb m n (λ e. omega arith))
-          ∙ cond-false _ (head_in i p (n + 1) m) _ (not_below m (n + 1 + statement_count p) l);
+          ∙ cond-false _ (head_in i p (n + 1) m) _ (ltb-not m (n + 1 + statement_count p) l);
     }
 
 module _ (V : Valuation) (body : Term) where
@@ -225,9 +224,9 @@ module _ (V : Valuation) (body : Term) where
   instances_rest : (xs : List Spot) → Every P xs → Every (RegionRests body V) (flat_map (λ x. instance_wires x.statement x.path x.layer) xs)
   instances_rest [] h = tt
   instances_rest (x ∷ xs) h =
-      every_append (RegionRests body V) (instance_wires x.statement x.path x.layer) _ (
+      every-append (RegionRests body V) (instance_wires x.statement x.path x.layer) _ (
         go_rests x.path x.layer h.0,
-        every_append (RegionRests body V) (own_status x.statement x.path x.layer) _ (status_rests x.statement x.path x.layer)
+        every-append (RegionRests body V) (own_status x.statement x.path x.layer) _ (status_rests x.statement x.path x.layer)
             (ends_rest x.path x.layer (listed (instance_codes x.statement x.layer)) h.0),
       )
       (instances_rest xs h.1)
@@ -246,7 +245,7 @@ regions_rest_lem p q event V codes no_loop state solves =
     (λ live. own_resumed V body (selected_of q) body B body_entry 0 _ _ codes (record { each = λ m l u. refl }) (walked.1 live))
     (λ r i. started r i B codes walked.0) in
     every_at (RegionRests body V) (program_wires p)
-    (every_append (RegionRests body V) (map Out (interface_of p).outgoing) _ (outputs_rest V body (interface_of p).outgoing)
+    (every-append (RegionRests body V) (map Out (interface_of p).outgoing) _ (outputs_rest V body (interface_of p).outgoing)
     (instances_rest V body (program_spots p) spots_rest))
   where
     started : (r : ℕ) → Root r (0 ∷ []) → (B : Scope) → HasExitCodes p.body

@@ -2,6 +2,7 @@
 -- resumed codes of the statement.
 use Rattle.std.proofs.Common.{◌≡◌, ℕ, ◌+◌, ◌≤◌, Bool, true, false, ◌||◌, ◌==◌, cond, max, refl, sym, ap, ◌∙◌, subst, ⊎_elim, arith, List, [], ◌∷◌, ◌++◌}
 use Rattle.std.proofs.lemmas.Bool.{or_cases, or_left, or_right, and_from, eqb-true, eqb-false, eq-eqb, cond_both, false≢true, cases_Bool}
+use Rattle.facts.proofs.Tests.{or-other}
 use Rattle.est_base.specs.declared.place.Span.{Span}
 use Rattle.est_base.specs.Codes.{either, except}
 use Rattle.est_kernel.specs.Terms.{Term, Nothing, Pause, Emit, Exit, Present, Suspend, Seq, Loop, Par, Trap, Local, Awake}
@@ -9,11 +10,11 @@ use Rattle.est_kernel.specs.Preorder.{statement_count}
 use Rattle.est_kernel.specs.Steps.{trap_code}
 use Rattle.est_kernel.specs.StaticCodes.{has_code, started_codes, resumed_codes, branch_codes, instant_loops, NoInstantLoop}
 use Rattle.est_kernel.proofs.Sets.{except-in, except-parts, upto-in, maxima-in, maxima-subset, lowered-in, lowered-subset}
+use Rattle.est_kernel.proofs.ResidualLaws.{trap_code-most}
 use Rattle.grc_graph.specs.Layers.{can_pass}
 use Rattle.grc_graph.specs.Residuals.{holds, left_if, residual}
 use Rattle.grc_graph.specs.Selected.{HasExitCodes, IsSelected}
 use Rattle.grc_sem.proofs.Places.{no_loops-left}
-use Rattle.grc_graph.proofs.CodeBounds.{trap_code-le}
 
 pub no_loops-right : (xs ys : List Span) → xs ++ ys ≡ [] → ys ≡ []
 no_loops-right [] ys e = e
@@ -31,10 +32,6 @@ loop_body at p nl = (
   not_instant (started_codes p 0) at (instant_loops p) nl,
   no_loops-right (cond (started_codes p 0) (at ∷ []) []) (instant_loops p) nl,
 )
-
-pub or_other : (a b : Bool) → a ≡ false → (a || b) ≡ true → b ≡ true
-or_other true b e h = absurd (false≢true (sym e))
-or_other false b e h = h
 
 -- a code of the loop's body is no termination
 pub loop_code : (p : Term) (k : ℕ) → started_codes p 0 ≡ false → started_codes p k ≡ true → k ≡ 0 → ⊥
@@ -72,7 +69,7 @@ started_some (Par p q) nl b =
     (max r.0 s.0, omega (arith, r.1, s.1), maxima-in (started_codes p) (started_codes q) r.0 s.0 r.2 s.2)
 started_some (Trap p) nl b =
     let r = started_some p nl b in
-    (trap_code r.0, omega (arith, r.1, trap_code-le r.0), lowered-in (started_codes p) r.0 r.2)
+    (trap_code r.0, omega (arith, r.1, trap_code-most r.0), lowered-in (started_codes p) r.0 r.2)
 started_some (Local s p) nl b = started_some p nl b
 started_some (Awake e p) nl b = absurd b
 
@@ -175,7 +172,7 @@ module _ (S : ℕ → Bool) where
       )
   resumed_some (Trap p) n nl b h s =
       let r = resumed_some p (n + 1) nl b h s in
-      (trap_code r.0, omega (arith, r.1, trap_code-le r.0), lowered-in (resumed_codes p) r.0 r.2)
+      (trap_code r.0, omega (arith, r.1, trap_code-most r.0), lowered-in (resumed_codes p) r.0 r.2)
   resumed_some (Local x p) n nl b h s = resumed_some p (n + 1) nl b h s
   resumed_some (Awake e p) n nl b h s = absurd b
 
@@ -232,7 +229,7 @@ module _ (S : ℕ → Bool) where
       (λ t. started_codes t k ≡ true → resumed_codes (Present x p q) k ≡ true)
       (λ c e. or_left _ _ (residual_codes p (n + 1) (no_loops-left (instant_loops p) (instant_loops q) nl) b.0 c (s.1 c) k e))
       (λ c e.
-      let d = or_other _ _ c h in
+      let d = or-other _ _ c h in
       or_right _ _ (residual_codes q (n + 1 + statement_count p) (no_loops-right (instant_loops p) (instant_loops q) nl) b.1 d (s.2 d) k e))
   residual_codes (Suspend x p) n nl b h s k = λ e.
       ⊎_elim
@@ -247,7 +244,7 @@ module _ (S : ℕ → Bool) where
       (λ c. turn_codes p q (residual S p (n + 1)) (Seq p q) k (λ i. residual_codes p (n + 1) np b.0 c (s.1 c) i)
       (seq_first p q k) (λ z. seq_restart p q k z))
       (λ c e.
-      let d = or_other _ _ c h in
+      let d = or-other _ _ c h in
       let f = s.2 d in
       seq_second p q k f.0 (residual_codes q (n + 1 + statement_count p) nq b.1 d f.1 k e))
   residual_codes (Loop at p) n nl b h s k =

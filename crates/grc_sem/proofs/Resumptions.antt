@@ -1,6 +1,7 @@
 -- The induction for statements that hold a selected pause: the term is what is left of the statement.
 use Rattle.std.proofs.Common.{◌≡◌, ℕ, ◌+◌, ◌≤◌, Bool, true, false, cond, refl, sym, subst, arith}
 use Rattle.std.proofs.lemmas.Bool.{or_right, eqb-true, eq-eqb, cond_both, false≢true}
+use Rattle.facts.proofs.Tests.{or-other}
 use Rattle.est_kernel.specs.Terms.{Term, Nothing, Pause, Emit, Exit, Present, Suspend, Seq, Loop, Par, Trap, Local, Awake}
 use Rattle.est_kernel.specs.Preorder.{statement_count}
 use Rattle.est_kernel.specs.StaticCodes.{started_codes, resumed_codes, instant_loops, NoInstantLoop}
@@ -18,7 +19,7 @@ use Rattle.grc_sem.proofs.Places.{After, Place, Joins, no_loops-left, place_code
 use Rattle.grc_sem.proofs.Places.{present_after, present_place, awake_after, awake_place, seq_after, seq_place, par_after, par_place, trap_after, trap_place}
 use Rattle.grc_sem.proofs.Places.{local_after, local_place}
 use Rattle.grc_solutions.proofs.Each.{EachResumed}
-use Rattle.grc_sem.proofs.Residues.{no_loops-right, loop_body, or_other, resumed_live, residual_static, residual_codes}
+use Rattle.grc_sem.proofs.Residues.{no_loops-right, loop_body, resumed_live, residual_static, residual_codes}
 use Rattle.grc_solutions.proofs.Rows.{RowAt}
 use Rattle.grc_solutions.proofs.Binders.{Above, above_more, above_bind}
 use Rattle.grc_sem.proofs.Ranks.{Up, Ranks, InScope, tested, ranks_more, ranks_root}
@@ -98,7 +99,7 @@ module _ (R : Wire → ℕ) (N : ℕ) (S : ℕ → Bool) where
       later_after (omega (arith, row.0 live)) (λ j y. omega (arith, row.2 j (residual_codes S p (n + 1) np b.0 c (s.1 c) j y)))
       (resumed_after p B _ (n + 1) r np b.0 i.1 (above_more B n (n + 1) (omega arith) a) c (s.1 c) (e.1 live) k))
       (λ c.
-      let d = or_other _ _ c h in
+      let d = or-other _ _ c h in
       let live = resumed_live S q m nq b.1 d (s.2 d) in
       later_after (omega (arith, row.1 live)) (λ j y. omega (arith, row.3 j (residual_codes S q m nq b.1 d (s.2 d) j y)))
       (resumed_after q B _ m r nq b.1 i.2 (above_more B n m (omega arith) a) d (s.2 d) (e.2 live) k))
@@ -132,7 +133,7 @@ module _ (R : Wire → ℕ) (N : ℕ) (S : ℕ → Bool) where
         after = started_after R N q B _ m m r (omega arith) nq b.1 i.1 (e.3 (codes 0 z)) (ranks_root R N B m r (above_more B n m (omega arith) a) k);
       }))
       (λ c.
-      let d = or_other _ _ c h in
+      let d = or-other _ _ c h in
       let g = s.2 d in
       let live = and_true g.0 (resumed_live S q m nq b.1 d g.1) in
       later_after (omega (arith, row.1 live))
@@ -218,7 +219,7 @@ module _ (R : Wire → ℕ) (N : ℕ) (S : ℕ → Bool) where
       (λ j y. omega (arith, row.2 j (residual_codes S p (n + 1) np b.0 c (s.1 c) j y)))
       (resumed_place V p B _ (n + 1) r v _ np b.0 i.1 (above_more B n (n + 1) (omega arith) a) c (s.1 c) (e.1 live) k (w.1 live) (and_true o c)))
       (λ c.
-      let d = or_other _ _ c h in
+      let d = or-other _ _ c h in
       let live = resumed_live S q m nq b.1 d (s.2 d) in
       later_place (residual_static S q m nq) (omega (arith, row.1 live))
       (λ j y. omega (arith, row.3 j (residual_codes S q m nq b.1 d (s.2 d) j y)))
@@ -273,7 +274,7 @@ module _ (R : Wire → ℕ) (N : ℕ) (S : ℕ → Bool) where
       let d : resumed_codes p 0 ≡ true = codes 0 (subst (λ j. started_codes (residual S p (n + 1)) j ≡ true) z (place_code np' first)) in
       started_place R N V q B _ m m r v _ (omega arith) nq b.1 i.1 (e.3 d) root (w.3 d) (and_true (and_true o c) (eq-eqb _ 0 z))))
       (λ c.
-      let d = or_other _ _ c h in
+      let d = or-other _ _ c h in
       let u = s.2 d in
       let live = and_true u.0 (resumed_live S q m nq b.1 d u.1) in
       later_place (residual_static S q m nq) (omega (arith, row.1 live))

@@ -1,6 +1,7 @@
 -- Signals that fit a program are in scope: what is tested has a value, and what is emitted a status wire.
-use Rattle.std.proofs.Common.{◌≡◌, ℕ, ◌<◌, ◌≤◌, Bool, true, false, ◌||◌, ◌==◌, ltb, refl, sym, ap, arith}
-use Rattle.std.proofs.lemmas.Bool.{cond_both, false≢true, ltb-true}
+use Rattle.std.proofs.Common.{◌≡◌, ℕ, ◌<◌, ◌≤◌, Bool, true, ◌==◌, ltb, refl, ap, arith}
+use Rattle.std.proofs.lemmas.Bool.{cond_both, ltb-true}
+use Rattle.facts.proofs.Tests.{or-other}
 use Rattle.est_kernel.specs.Terms.{Expression, Tick, Sig, Not, And, Or, Term, Nothing, Pause, Emit, Exit, Present, Suspend, Seq, Loop, Par, Trap, Local, Awake}
 use Rattle.est_kernel.specs.WellFormed.{TestsVisible, SignalsFit, with_signal}
 use Rattle.grc_graph.specs.Scopes.{BoundAt, Scope, bind, program_scope}
@@ -11,15 +12,11 @@ record Sighted (inputs : ℕ) (B : Scope) (visible : ℕ → Bool) : Type 0 wher
   pub value : (s : ℕ) → visible s ≡ true → has_value (B s) ≡ true
   pub status : (s : ℕ) → visible s ≡ true → inputs ≤ s → has_status (B s) ≡ true
 
-other_one : (a b : Bool) → a ≡ false → (a || b) ≡ true → b ≡ true
-other_one true b e h = absurd (false≢true (sym e))
-other_one false b e h = h
-
 sighted_more : {inputs : ℕ} {B : Scope} {visible : ℕ → Bool} (s m : ℕ) → Sighted inputs B visible → Sighted inputs (bind B s m) (with_signal s visible)
 sighted_more {inputs} {B} {visible} s m k =
     record {
-      value = λ t h. cond_both (t == s) (BoundAt m) (B t) (λ b. has_value b ≡ true) (λ e. refl) (λ e. k.value t (other_one (t == s) (visible t) e h));
-      status = λ t h l. cond_both (t == s) (BoundAt m) (B t) (λ b. has_status b ≡ true) (λ e. refl) (λ e. k.status t (other_one (t == s) (visible t) e h) l);
+      value = λ t h. cond_both (t == s) (BoundAt m) (B t) (λ b. has_value b ≡ true) (λ e. refl) (λ e. k.value t (or-other (t == s) (visible t) e h));
+      status = λ t h l. cond_both (t == s) (BoundAt m) (B t) (λ b. has_status b ≡ true) (λ e. refl) (λ e. k.status t (or-other (t == s) (visible t) e h) l);
     }
 
 test_scope : {inputs : ℕ} {B : Scope} {visible : ℕ → Bool} (e : Expression) → Sighted inputs B visible → TestsVisible visible e → TestInScope B e

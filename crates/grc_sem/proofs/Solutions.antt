@@ -2,6 +2,7 @@
 use Rattle.std.proofs.Common.{◌≡◌, ℕ, zero, suc, ◌+◌, ◌<◌, ◌≤◌, Bool, true, false, ◌||◌, List, [], ◌∷◌, length, get_or, map, refl, ap, ◌∙◌, subst, inl, ⊎_elim}
 use Rattle.std.proofs.Common.{arith}
 use Rattle.std.specs.List.{list_any, flat_map, range_with_len, All, Contains}
+use Rattle.facts.proofs.Lists.{Every}
 use Rattle.est_kernel.specs.Terms.{Term}
 use Rattle.est_kernel.specs.StaticCodes.{has_code, resumed_codes, NoInstantLoop}
 use Rattle.est_kernel.specs.Reactions.{is_given}
@@ -18,7 +19,7 @@ use Rattle.grc_graph.specs.Selected.{HasExitCodes, IsState}
 use Rattle.grc_graph.specs.Readings.{Valuation, seen_values, state_holds_at}
 use Rattle.grc_graph.specs.Coherence.{StartedWalked, ResumedWalked}
 use Rattle.grc_sem.specs.GraphWalks.{selected_of}
-use Rattle.grc_solutions.proofs.Lists.{Every, every_of_all, every_left, every_flat_map, every_contained}
+use Rattle.grc_solutions.proofs.Lists.{every_of_all, every_left, every_flat_map, every_contained}
 use Rattle.grc_solutions.proofs.Each.{EachStarted, EachResumed}
 use Rattle.grc_solutions.proofs.Rows.{RowAt}
 use Rattle.grc_sem.proofs.Ranks.{Up, InScope}

@@ -3,6 +3,7 @@
 use Rattle.std.proofs.Common.{◌≡◌, ℕ, ◌+◌, ◌≤◌, Bool, true, false, not, ◌&&◌, ◌||◌, ◌==◌, cond, max, Option, Some, None, refl, sym, ap, ◌∙◌, subst, ⊎_elim}
 use Rattle.std.proofs.Common.{arith}
 use Rattle.std.proofs.lemmas.Bool.{eqb-true, eqb-false, eq-eqb, ne_eqb, cond_both, false≢true, cases_Bool, cond-false}
+use Rattle.facts.proofs.Tests.{or-other}
 use Rattle.est_kernel.specs.Terms.{Expression, Term, Nothing, Pause, Emit, Exit, Present, Suspend, Seq, Loop, Par, Trap, Local, Awake}
 use Rattle.est_kernel.specs.Statuses.{Environment, with_status, known, value}
 use Rattle.est_kernel.specs.Potentials.{decided}
@@ -10,7 +11,7 @@ use Rattle.est_kernel.specs.Preorder.{statement_count}
 use Rattle.est_kernel.specs.Steps.{Step, step, left_by, leaving, leaves, chosen_step, then_step, sequence_step, loop_step, parallel_step, trap_step, local_step}
 use Rattle.est_kernel.specs.Steps.{where_known, trap_code}
 use Rattle.est_kernel.specs.StaticCodes.{started_codes, resumed_codes, instant_loops, NoInstantLoop}
-use Rattle.est_kernel.specs.Laws.{IsBelow}
+use Rattle.est_kernel.proofs.Statuses.{below_known}
 use Rattle.grc_graph.specs.Layers.{Layer, Resumed, Started}
 use Rattle.grc_graph.specs.Scopes.{Scope, bind}
 use Rattle.grc_graph.specs.Wires.{Wire, Go, StatusOf}
@@ -21,11 +22,12 @@ use Rattle.grc_graph.specs.Walk.{selected_in}
 use Rattle.grc_graph.specs.Selected.{HasExitCodes, IsSelected}
 use Rattle.grc_graph.specs.Readings.{Valuation}
 use Rattle.grc_graph.specs.Coherence.{statuses, StartedWalked, ResumedWalked}
+use Rattle.grc_graph.proofs.LiveInstances.{above_within}
 use Rattle.grc_sem.proofs.Places.{Knows, with_settled, decision_is, with_rank, test_known, place_code, no_loops-left}
 use Rattle.grc_solutions.proofs.Each.{EachStarted, EachResumed}
-use Rattle.grc_sem.proofs.Residues.{no_loops-right, loop_body, loop_code, or_other, resumed_live, residual_static, residual_codes}
+use Rattle.grc_sem.proofs.Residues.{no_loops-right, loop_body, loop_code, resumed_live, residual_static, residual_codes}
 use Rattle.grc_solutions.proofs.Rows.{RowAt}
-use Rattle.grc_solutions.proofs.Binders.{Above, above_more, above_bind, layer_above-started}
+use Rattle.grc_solutions.proofs.Binders.{Above, above_more, above_bind}
 use Rattle.grc_sem.proofs.Ranks.{Up, Ranks, InScope, tested, ranks_more, ranks_root}
 use Rattle.grc_sem.proofs.Constructive.{and_true, not_false, flag_gone, started_place}
 use Rattle.grc_sem.proofs.Resumptions.{resumed_place}
@@ -65,10 +67,6 @@ chosen_known false a b = refl
 known_where : (c : Bool) (a : Option Step) → where_known (known c) a ≡ a
 known_where true a = refl
 known_where false a = refl
-
-below_known : (b : Bool) → IsBelow (known b) (known b)
-below_known true = refl
-below_known false = refl
 
 -- a part alone
 pub stepped_only : {E : Environment} {w : Walk} {p : Term} (F : Term → Term) (u whole : Term) (n : ℕ) (x : Step)
@@ -395,7 +393,7 @@ module _ (R : Wire → ℕ) (N : ℕ) (most : (w : Wire) → R w ≤ N) where
   started_step V (Local s p) B f n q r v b E l nl kn i e k w h o =
       let m = R (StatusOf n (Started q)) in
       let c = V (StatusOf n (Started q)) in
-      let more = ranks_more R N B n s (Started q) r (layer_above-started n q l) k in
+      let more = ranks_more R N B n s (Started q) r (above_within n q l) k in
       let body = started_place R N V p (bind B s n) _ (n + 1) q (with_rank r s m) (with_value v s c) b (omega arith) nl kn (i n) e.1 more w.2 h in
       local_left s p p n c (decision_is s m c (flag_gone h w.1) body E N (most _) o)
       (started_keeps (statuses V) p (n + 1) (Started q) (with_value v s c) kn)
@@ -422,7 +420,7 @@ module _ (R : Wire → ℕ) (N : ℕ) (most : (w : Wire) → R w ≤ N) where
       held_first p q (Present x p q) n (residual S p (n + 1)) two (resumed_keeps (statuses V) S p (n + 1) v b.0 c)
       (resumed_step S V p B _ (n + 1) r v _ E np b.0 i.1 (above_more B n (n + 1) (omega arith) a) c (s.1 c) (e.1 live) k (w.1 live) (and_true o c) y))
       (λ c.
-      let d = or_other _ _ c h in
+      let d = or-other _ _ c h in
       let live = resumed_live S q m nq b.1 d (s.2 d) in
       held_second p q (Present x p q) n (λ z. z) (residual S q m) two (resumed_keeps (statuses V) S q m v b.1 d)
       (resumed_step S V q B _ m r v _ E nq b.1 i.2 (above_more B n m (omega arith) a) d (s.2 d) (e.2 live) k (w.2 live) (and_true o d) y))
@@ -459,7 +457,7 @@ module _ (R : Wire → ℕ) (N : ℕ) (most : (w : Wire) → R w ≤ N) where
         second_left p q (Seq p q) n (λ j. Seq j q) u.done.residual two u.left (started_keeps (statuses V) q m (Started m) v b.1),
       )))
       (λ c.
-      let d = or_other _ _ c h in
+      let d = or-other _ _ c h in
       let u = s.2 d in
       let live = and_true u.0 (resumed_live S q m nq b.1 d u.1) in
       held_second p q (Seq p q) n (λ z. Seq z q) (residual S q m) two (resumed_keeps (statuses V) S q m v b.1 d)

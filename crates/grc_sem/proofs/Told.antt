@@ -1,6 +1,7 @@
 -- Equations met are the walk: where the wires of each instance meet their equations, they are those of the walk.
 use Rattle.std.proofs.Common.{◌≡◌, ℕ, ◌+◌, ◌≤◌, Bool, true, false, not, ◌&&◌, ◌==◌, cond, max, List, [], refl, ap, ◌∙◌, arith}
 use Rattle.std.proofs.lemmas.Bool.{and_parts, eq-eqb, ne_eqb, cond-true, cond-false}
+use Rattle.facts.proofs.Tests.{eqb-turned}
 use Rattle.est_kernel.specs.Terms.{Term, Nothing, Pause, Emit, Exit, Present, Suspend, Seq, Loop, Par, Trap, Local, Awake}
 use Rattle.est_kernel.specs.Preorder.{statement_count}
 use Rattle.est_kernel.specs.StaticCodes.{has_code, started_codes, resumed_codes, instant_loops, NoInstantLoop}
@@ -17,14 +18,15 @@ use Rattle.grc_graph.specs.Coherence.{statuses, StartedWalked, ResumedWalked}
 use Rattle.grc_sem.proofs.Places.{no_loops-left}
 use Rattle.grc_solutions.proofs.Each.{EachStarted, EachResumed}
 use Rattle.grc_sem.proofs.Residues.{no_loops-right, loop_body}
-use Rattle.grc_solutions.proofs.Binders.{Above, above_more, above_bind, layer_above-started}
+use Rattle.grc_solutions.proofs.Binders.{Above, above_more, above_bind}
 use Rattle.grc_sem.proofs.Constructive.{and_true}
 use Rattle.grc_graph.proofs.LiveLayers.{Agrees, only_agrees, first_agrees, second_agrees}
+use Rattle.grc_graph.proofs.LiveInstances.{above_within}
 use Rattle.grc_solutions.proofs.Live.{Root}
 use Rattle.grc_sem.proofs.Emissions.{Whole, whole_only, whole_first, whole_second}
 use Rattle.grc_sem.proofs.WalkEmits.{Reach, reach_part}
 use Rattle.grc_sem.proofs.EndForms.{val, test_meaning, branch_number, branch_is}
-use Rattle.grc_sem.proofs.Meets.{Met, eqb_flip, head_started, head_resumed, sees_more, sees_root, root_left, code_lives, started_at, resumed_at, finds_only}
+use Rattle.grc_sem.proofs.Meets.{Met, head_started, head_resumed, sees_more, sees_root, root_left, code_lives, started_at, resumed_at, finds_only}
 use Rattle.grc_sem.proofs.Meets.{finds_first, finds_second, finds_self, low_second, root_own, Sees, Finds}
 use Rattle.grc_sem.proofs.WalkEnds.{started_mean, resumed_mean, selects}
 use Rattle.grc_sem.proofs.OwnStatus.{local_started, local_resumed}
@@ -100,7 +102,7 @@ module _ (B0 : Scope) (body : Term) (q : State) (given : Values) (V : Valuation)
       told_started aq p2 B _ m r v (b && wp.code == 0) (second_agrees L a ap1 aq t p p2 n refl (λ j. refl) g) (root_left r (started_codes p 0) a.roots _ z i)
       (omega arith) nq k.1 (above_more B n m (omega arith) ab) (whole_second V L all B f _ _ t p p2 n ab refl refl (λ j u o. refl) w) (e.2 z) s
       ((head_started M B _ p2 m y k.1 (e.2 z)).go ∙ ap (λ u. V (End (n + 1) u 0)) (cond-false (r == m) Resumed (Started r) (ne_eqb r m (λ u. omega arith)))
-      ∙ i1.ends 0 ∙ ap (λ u. b && u) (eqb_flip 0 wp.code)) in (
+      ∙ i1.ends 0 ∙ ap (λ u. b && u) (eqb-turned 0 wp.code)) in (
         record {
           go = h;
           ends = λ j. e.0.ends j ∙ started_mean B0 body q given V t B n r v b nl k s h (one, two) j;
@@ -167,7 +169,7 @@ module _ (B0 : Scope) (body : Term) (q : State) (given : Values) (V : Valuation)
       let g1 = only_agrees L a ap1 t p n refl (λ j. refl) g in
       let own = whole_only V L all B (bind B x n) f _ t p n refl refl (λ j z o. refl) w in
       let one = told_started ap1 p (bind B x n) _ (n + 1) r u b g1 i (omega arith) nl k (above_bind B n x ab) own e.1
-      (sees_more given V B n x y v (layer_above-started n r l) s) gp in (
+      (sees_more given V B n x y v (above_within n r l) s) gp in (
         record {
           go = h;
           ends = λ j. e.0.ends j ∙ started_mean B0 body q given V t B n r v b nl k s h one j;
@@ -271,7 +273,7 @@ module _ (B0 : Scope) (body : Term) (q : State) (given : Values) (V : Valuation)
       (and_true i z)) (omega arith) nq k.1 am ws (e.3 z)
       (sees_root given V B m v am s)
       ((head_started M B _ p2 m (Started m) k.1 (e.3 z)).go ∙ ap (λ y. V (End (n + 1) y 0)) (cond-true (m == m) Resumed (Started m) (eq-eqb m m refl))
-      ∙ (resumed_at V S p (n + 1) v _ k.0 (one (code_lives p k.0 0 z))).ends 0 ∙ ap (λ y. (b && c) && y) (eqb_flip 0 wp.code)) in
+      ∙ (resumed_at V S p (n + 1) v _ k.0 (one (code_lives p k.0 0 z))).ends 0 ∙ ap (λ y. (b && c) && y) (eqb-turned 0 wp.code)) in
       let T = then_walk wp wr in (
         record {
           go = h;
@@ -302,7 +304,7 @@ module _ (B0 : Scope) (body : Term) (q : State) (given : Values) (V : Valuation)
       (sees_root given V B (n + 1) v am s)
       ((head_started M B _ p (n + 1) (Started (n + 1)) k (e.2 z)).go
       ∙ ap V (cond-true (n + 1 == n + 1) (End (n + 1) Resumed 0) (Go n (Started (n + 1))) (eq-eqb (n + 1) (n + 1) refl))
-      ∙ (resumed_at V S p (n + 1) v _ k (one (code_lives p k 0 z))).ends 0 ∙ ap (λ y. b && y) (eqb_flip 0 wp.code)) in (
+      ∙ (resumed_at V S p (n + 1) v _ k (one (code_lives p k 0 z))).ends 0 ∙ ap (λ y. b && y) (eqb-turned 0 wp.code)) in (
         record {
           go = h;
           ends = λ j. e.0.ends j ∙ resumed_mean B0 body q given V S t B n v b nl k s o u h (one, two) j;

@@ -24,6 +24,7 @@ use Rattle.grc_sem.specs.GraphWalks.{selected_of}
 use Rattle.grc_sem.proofs.Residues.{resumed_live}
 use Rattle.grc_solutions.proofs.Binders.{Above}
 use Rattle.grc_graph.proofs.LiveLayers.{body_agrees}
+use Rattle.grc_graph.proofs.Holding.{holds-false}
 use Rattle.grc_sem.proofs.Emissions.{emission, emitted}
 use Rattle.grc_sem.proofs.Bridge.{started_any, resumed_any, split}
 use Rattle.grc_sem.proofs.WalkEmits.{Fresh, Shows, Reach, started_emits, resumed_emits, guard_bits}
@@ -36,41 +37,24 @@ cond_none : (c : Bool) {x y : Bool} → x ≡ false → y ≡ false → cond c x
 cond_none true e f = e
 cond_none false e f = f
 
-or_none : {a b : Bool} → a ≡ false → b ≡ false → (a || b) ≡ false
-or_none {a} {b} e f = ap (λ x. x || b) e ∙ f
-
-pub nothing_held : (t : Term) (n : ℕ) → holds (λ m. false) t n ≡ false
-nothing_held Nothing n = refl
-nothing_held Pause n = refl
-nothing_held (Emit x) n = refl
-nothing_held (Exit k) n = refl
-nothing_held (Present e p q) n = or_none (nothing_held p (n + 1)) (nothing_held q (n + 1 + statement_count p))
-nothing_held (Suspend e p) n = nothing_held p (n + 1)
-nothing_held (Seq p q) n = or_none (nothing_held p (n + 1)) (nothing_held q (n + 1 + statement_count p))
-nothing_held (Loop at p) n = nothing_held p (n + 1)
-nothing_held (Par p q) n = or_none (nothing_held p (n + 1)) (nothing_held q (n + 1 + statement_count p))
-nothing_held (Trap p) n = nothing_held p (n + 1)
-nothing_held (Local x p) n = nothing_held p (n + 1)
-nothing_held (Awake e p) n = refl
-
 nothing_at : (t : Term) (n m : ℕ) → holds_at (λ i. false) t n m ≡ false
 nothing_at Nothing n m = refl
 nothing_at Pause n m = refl
 nothing_at (Emit x) n m = refl
 nothing_at (Exit k) n m = refl
 nothing_at (Present e p q) n m =
-    cond_none (m == n) (nothing_held (Present e p q) n) (cond_none (ltb m (n + 1 + statement_count p)) (nothing_at p (n + 1) m)
+    cond_none (m == n) (holds-false (Present e p q) n) (cond_none (ltb m (n + 1 + statement_count p)) (nothing_at p (n + 1) m)
     (nothing_at q (n + 1 + statement_count p) m))
-nothing_at (Suspend e p) n m = cond_none (m == n) (nothing_held (Suspend e p) n) (nothing_at p (n + 1) m)
+nothing_at (Suspend e p) n m = cond_none (m == n) (holds-false (Suspend e p) n) (nothing_at p (n + 1) m)
 nothing_at (Seq p q) n m =
-    cond_none (m == n) (nothing_held (Seq p q) n) (cond_none (ltb m (n + 1 + statement_count p)) (nothing_at p (n + 1) m)
+    cond_none (m == n) (holds-false (Seq p q) n) (cond_none (ltb m (n + 1 + statement_count p)) (nothing_at p (n + 1) m)
     (nothing_at q (n + 1 + statement_count p) m))
-nothing_at (Loop at p) n m = cond_none (m == n) (nothing_held (Loop at p) n) (nothing_at p (n + 1) m)
+nothing_at (Loop at p) n m = cond_none (m == n) (holds-false (Loop at p) n) (nothing_at p (n + 1) m)
 nothing_at (Par p q) n m =
-    cond_none (m == n) (nothing_held (Par p q) n) (cond_none (ltb m (n + 1 + statement_count p)) (nothing_at p (n + 1) m)
+    cond_none (m == n) (holds-false (Par p q) n) (cond_none (ltb m (n + 1 + statement_count p)) (nothing_at p (n + 1) m)
     (nothing_at q (n + 1 + statement_count p) m))
-nothing_at (Trap p) n m = cond_none (m == n) (nothing_held (Trap p) n) (nothing_at p (n + 1) m)
-nothing_at (Local x p) n m = cond_none (m == n) (nothing_held (Local x p) n) (nothing_at p (n + 1) m)
+nothing_at (Trap p) n m = cond_none (m == n) (holds-false (Trap p) n) (nothing_at p (n + 1) m)
+nothing_at (Local x p) n m = cond_none (m == n) (holds-false (Local x p) n) (nothing_at p (n + 1) m)
 nothing_at (Awake e p) n m = refl
 
 pub state_finds : (q : State) (body : Term) → Finds (λ m. state_holds_at q body m) (selected_of q) body 0
@@ -81,7 +65,7 @@ pub state_reach : (q : State) (body : Term) → IsState q body → Reach (select
 state_reach Initial body s =
     record {
       held = λ e. e;
-      selected = λ e. absurd (false≢true (sym (nothing_held body 0) ∙ e));
+      selected = λ e. absurd (false≢true (sym (holds-false body 0) ∙ e));
     }
 state_reach (Selecting S) body s = record { held = λ e. e; selected = s }
 
@@ -158,7 +142,7 @@ module _ (inputs outs : ℕ) (body : Term) where
         go : (r : State) (u : Values) → ((holds (selected_of r) body 0 && (resumed_walk (statuses V) (selected_of r) body 0 u).signals o)
             || (is_initial r && (started_walk (statuses V) body 0 (Started 0) u).signals o)) ≡ (body_walk (statuses V) r body u).signals o
         go Initial u = ap (λ b. (b && (resumed_walk (statuses V) (λ m. false) body 0 u).signals o)
-            || (started_walk (statuses V) body 0 (Started 0) u).signals o) (nothing_held body 0)
+            || (started_walk (statuses V) body 0 (Started 0) u).signals o) (holds-false body 0)
         go (Selecting T) u = held (holds T body 0)
           where
             held : (h : Bool) → ((h && (resumed_walk (statuses V) T body 0 u).signals o) || false) ≡

@@ -1,6 +1,7 @@
 -- The code of a walk is a static code of its statement, started or resumed.
 use Rattle.std.proofs.Common.{◌≡◌, ℕ, ◌+◌, Bool, true, false, ◌||◌, ◌==◌, cond, refl, sym, subst, ⊎_elim}
 use Rattle.std.proofs.lemmas.Bool.{or_cases, or_left, or_right, and_from, eqb-true, eqb-false, eq-eqb, cond_both, false≢true, cond-true}
+use Rattle.facts.proofs.Tests.{or-other}
 use Rattle.est_base.specs.Codes.{either, except}
 use Rattle.est_kernel.specs.Terms.{Term, Nothing, Pause, Emit, Exit, Present, Suspend, Seq, Loop, Par, Trap, Local, Awake}
 use Rattle.est_kernel.specs.Preorder.{statement_count}
@@ -11,7 +12,7 @@ use Rattle.grc_graph.specs.Residuals.{holds}
 use Rattle.grc_graph.specs.Walk.{Walk, Values, with_value, truth, ended, then_walk, started_walk, resumed_walk, selected_in}
 use Rattle.grc_graph.specs.Selected.{HasExitCodes, IsSelected}
 use Rattle.grc_sem.proofs.Places.{no_loops-left}
-use Rattle.grc_sem.proofs.Residues.{no_loops-right, loop_body, loop_code, or_other, resumed_live}
+use Rattle.grc_sem.proofs.Residues.{no_loops-right, loop_body, loop_code, resumed_live}
 
 then_code : (P : ℕ → Type 0) (x y : Walk) → (x.code ≡ 0 → P y.code) → ((x.code ≡ 0 → ⊥) → P x.code) → P (then_walk x y).code
 then_code P x y f g =
@@ -75,7 +76,7 @@ resumed_code Z S (Exit c) n v nl k h s = absurd (false≢true h)
 resumed_code Z S (Present e p q) n v nl k h s =
     choice_code (λ c. resumed_codes (Present e p q) c ≡ true) (holds S p (n + 1)) _ _
     (λ c. or_left _ _ (resumed_code Z S p (n + 1) v (no_loops-left (instant_loops p) (instant_loops q) nl) k.0 c (s.1 c)))
-    (λ c. let d = or_other _ _ c h in
+    (λ c. let d = or-other _ _ c h in
     or_right _ _ (resumed_code Z S q (n + 1 + statement_count p) v (no_loops-right (instant_loops p) (instant_loops q) nl) k.1 d (s.2 d)))
 resumed_code Z S (Suspend e p) n v nl k h s =
     choice_code (λ c. resumed_codes (Suspend e p) c ≡ true) (truth e v)
@@ -94,7 +95,7 @@ resumed_code Z S (Seq p q) n v nl k h s =
     (λ z. or_right _ _ (or_left _ _ (and_from _ _ (subst (λ j. resumed_codes p j ≡ true) z f) (started_code Z q m (Started m) v nq k.1))))
     (λ z. or_left _ _ (except-in (resumed_codes p) 0 _ f z)))
     (λ c.
-    let d = or_other _ _ c h in
+    let d = or-other _ _ c h in
     let u = s.2 d in
     or_right _ _ (or_right _ _ (and_from _ _ u.0 (resumed_code Z S q m v nq k.1 d u.1))))
 resumed_code Z S (Loop at p) n v nl k h s =

@@ -1,6 +1,7 @@
 -- The emissions on a status wire that a place sees are those of its walk.
-use Rattle.std.proofs.Common.{◌≡◌, ℕ, ◌+◌, ◌<◌, ◌≤◌, Bool, true, false, not, ◌&&◌, ◌||◌, ◌==◌, cond, Some, refl, sym, ap, ◌∙◌, subst, ⊎_elim, arith}
-use Rattle.std.proofs.lemmas.Bool.{and_parts, eqb-true, eqb-false, eq-eqb, ne_eqb, false≢true, cases_Bool}
+use Rattle.std.proofs.Common.{◌≡◌, ℕ, ◌+◌, ◌<◌, ◌≤◌, Bool, true, false, not, ◌&&◌, ◌||◌, ◌==◌, cond, Some, refl, sym, ap, ◌∙◌, subst, arith}
+use Rattle.std.proofs.lemmas.Bool.{and_parts, eqb-true, eqb-false, ne_eqb, false≢true}
+use Rattle.facts.proofs.Tests.{and-moved, eqb-turned, or-equal, or-false}
 use Rattle.est_kernel.specs.Terms.{Term, Nothing, Pause, Emit, Exit, Present, Suspend, Seq, Loop, Par, Trap, Local, Awake}
 use Rattle.est_kernel.specs.Preorder.{statement_count}
 use Rattle.est_kernel.specs.StaticCodes.{has_code, started_codes, resumed_codes, instant_loops, NoInstantLoop}
@@ -14,9 +15,10 @@ use Rattle.grc_graph.specs.Walk.{Walk, Values, with_value, truth, ended, then_wa
 use Rattle.grc_graph.specs.Selected.{HasExitCodes, IsSelected}
 use Rattle.grc_graph.specs.Readings.{Valuation}
 use Rattle.grc_graph.specs.Coherence.{statuses, StartedWalked, ResumedWalked}
+use Rattle.grc_graph.proofs.LiveInstances.{above_behind}
 use Rattle.grc_sem.proofs.Places.{no_loops-left}
 use Rattle.grc_sem.proofs.Residues.{no_loops-right, loop_body, resumed_live}
-use Rattle.grc_solutions.proofs.Binders.{Above, above_more, above_bind, layer_above-restarted}
+use Rattle.grc_solutions.proofs.Binders.{Above, above_more, above_bind}
 use Rattle.grc_sem.proofs.Constructive.{and_true}
 use Rattle.grc_sem.proofs.Emissions.{emission}
 use Rattle.grc_sem.proofs.Bridge.{started_any, resumed_any}
@@ -32,10 +34,6 @@ fresh_more n m l f = record { other = λ i j k. f.other i j (omega arith) }
 -- where c holds, the wire is that of the signal s alone, as seen in this layer; else of none
 pub record Shows (B : Scope) (l : Layer) (w : Wire) (s : ℕ) (c : Bool) : Type 0 where
   pub each : (t : ℕ) → is_wire (status_wire (B t) t l) w ≡ (c && t == s)
-
-eqb_flip : (a b : ℕ) → (a == b) ≡ (b == a)
-eqb_flip a b =
-    ⊎_elim (λ e. e ∙ sym (eq-eqb b a (sym (eqb-true a b e)))) (λ e. e ∙ sym (ne_eqb b a (λ z. eqb-false a b e (sym z)))) (cases_Bool (a == b))
 
 bind_shows : (d : Bool) (n x s t : ℕ) (b : Binding) (l : Layer) (w : Wire) (c : Bool) → (t == x) ≡ d → same_wire (StatusOf n (layer_above n l)) w ≡ false →
     is_wire (status_wire b t l) w ≡ (c && t == s) → is_wire (status_wire (cond d (BoundAt n) b) t l) w ≡ ((c && not (x == s)) && t == s)
@@ -62,23 +60,12 @@ shows_bind B n x s l w c f h =
 root_wire : (b : Binding) (s m : ℕ) → ((c : ℕ) → b ≡ BoundAt c → c < m) → status_wire b s (Started m) ≡ status_wire b s Resumed
 root_wire Entering s m h = refl
 root_wire Outgoing s m h = refl
-root_wire (BoundAt b) s m h = ap (λ l. Some (StatusOf b l)) (layer_above-restarted b m (h b refl))
+root_wire (BoundAt b) s m h = ap (λ l. Some (StatusOf b l)) (above_behind b m (h b refl))
 root_wire Unbound s m h = refl
 
 pub shows_root : (B : Scope) (m s : ℕ) (w : Wire) (c : Bool) → Above B m → Shows B Resumed w s c → Shows B (Started m) w s c
 shows_root B m s w c a h =
     record { each = λ t. ap (λ o. is_wire o w) (root_wire (B t) t m (a.each t)) ∙ h.each t }
-
-or_same : {a b c d : Bool} → a ≡ c → b ≡ d → (a || b) ≡ (c || d)
-or_same {a} {b} {c} {d} e f = ap (λ x. x || b) e ∙ ap (λ x. c || x) f
-
--- Booleans
-emit_bits : (c a b : Bool) → ((c && a) && b) ≡ (c && (b && a))
-emit_bits true true true = refl
-emit_bits true true false = refl
-emit_bits true false true = refl
-emit_bits true false false = refl
-emit_bits false a b = refl
 
 choice_bits : (c b d x y : Bool) → ((c && ((b && d) && x)) || (c && ((b && not d) && y))) ≡ (c && (b && cond d x y))
 choice_bits true true true x y = or_nothing x
@@ -102,10 +89,6 @@ then_signals x y s = go (x.code == 0)
         (cond d (record { signals = λ t. x.signals t || y.signals t; code = y.code; kept = y.kept }) x).signals s
     go true = refl
     go false = refl
-
-or-false : (a : Bool) → (a || false) ≡ a
-or-false true = refl
-or-false false = refl
 
 turn_bits : (c b z x y : Bool) → ((c && (b && x)) || (c && ((b && z) && y))) ≡ (c && (b && cond z (x || y) x))
 turn_bits true true true x y = refl
@@ -143,11 +126,11 @@ module _ (V : Valuation) where
   started_silent w s (Emit x) B f n l k r h = ap (λ b. b && V (Go n l)) (h.each x)
   started_silent w s (Exit c) B f n l k r h = refl
   started_silent w s (Present e p q) B f n l k r h =
-      or_same (started_silent w s p B _ (n + 1) l k.0 (fresh_more n (n + 1) (omega arith) r) h)
+      or-equal (started_silent w s p B _ (n + 1) l k.0 (fresh_more n (n + 1) (omega arith) r) h)
       (started_silent w s q B _ (n + 1 + statement_count p) l k.1 (fresh_more n (n + 1 + statement_count p) (omega arith) r) h)
   started_silent w s (Suspend e p) B f n l k r h = started_silent w s p B _ (n + 1) l k (fresh_more n (n + 1) (omega arith) r) h
   started_silent w s (Seq p q) B f n l k r h =
-      or_same (started_silent w s p B _ (n + 1) l k.0 (fresh_more n (n + 1) (omega arith) r) h)
+      or-equal (started_silent w s p B _ (n + 1) l k.0 (fresh_more n (n + 1) (omega arith) r) h)
       (ap (λ b. started_codes p 0 && b) (started_silent w s q B _ (n + 1 + statement_count p) l k.1
       (fresh_more n (n + 1 + statement_count p) (omega arith) r) h)
       ∙ and_nothing (started_codes p 0))
@@ -157,7 +140,7 @@ module _ (V : Valuation) where
       and_nothing false = refl
   started_silent w s (Loop at p) B f n l k r h = started_silent w s p B _ (n + 1) l k (fresh_more n (n + 1) (omega arith) r) h
   started_silent w s (Par p q) B f n l k r h =
-      or_same (started_silent w s p B _ (n + 1) l k.0 (fresh_more n (n + 1) (omega arith) r) h)
+      or-equal (started_silent w s p B _ (n + 1) l k.0 (fresh_more n (n + 1) (omega arith) r) h)
       (started_silent w s q B _ (n + 1 + statement_count p) l k.1 (fresh_more n (n + 1 + statement_count p) (omega arith) r) h)
   started_silent w s (Trap p) B f n l k r h = started_silent w s p B _ (n + 1) l k (fresh_more n (n + 1) (omega arith) r) h
   started_silent w s (Local x p) B f n l k r h =
@@ -176,7 +159,7 @@ module _ (V : Valuation) where
   resumed_silent w s (Exit c) B f n k r a h = refl
   resumed_silent w s (Present e p q) B f n k r a h =
       let m = n + 1 + statement_count p in
-      or_same (and_none (has_code (resumed_codes p)) (resumed_silent w s p B _ (n + 1) k.0 (fresh_more n (n + 1) (omega arith) r)
+      or-equal (and_none (has_code (resumed_codes p)) (resumed_silent w s p B _ (n + 1) k.0 (fresh_more n (n + 1) (omega arith) r)
       (above_more B n (n + 1) (omega arith) a) h))
       (and_none (has_code (resumed_codes q)) (resumed_silent w s q B _ m k.1 (fresh_more n m (omega arith) r) (above_more B n m (omega arith) a) h))
   resumed_silent w s (Suspend e p) B f n k r a h =
@@ -185,18 +168,18 @@ module _ (V : Valuation) where
   resumed_silent w s (Seq p q) B f n k r a h =
       let m = n + 1 + statement_count p in
       let am = above_more B n m (omega arith) a in
-      or_same (and_none (has_code (resumed_codes p)) (resumed_silent w s p B _ (n + 1) k.0 (fresh_more n (n + 1) (omega arith) r)
+      or-equal (and_none (has_code (resumed_codes p)) (resumed_silent w s p B _ (n + 1) k.0 (fresh_more n (n + 1) (omega arith) r)
       (above_more B n (n + 1) (omega arith) a) h))
-      (or_same (and_none (can_pass p && has_code (resumed_codes q)) (resumed_silent w s q B _ m k.1 (fresh_more n m (omega arith) r) am h))
+      (or-equal (and_none (can_pass p && has_code (resumed_codes q)) (resumed_silent w s q B _ m k.1 (fresh_more n m (omega arith) r) am h))
       (and_none (resumed_codes p 0) (started_silent w s q B _ m (Started m) k.1 (fresh_more n m (omega arith) r) (shows_root B m s w false am h))))
   resumed_silent w s (Loop at p) B f n k r a h =
       let am = above_more B n (n + 1) (omega arith) a in
-      or_same (and_none (has_code (resumed_codes p)) (resumed_silent w s p B _ (n + 1) k (fresh_more n (n + 1) (omega arith) r) am h))
+      or-equal (and_none (has_code (resumed_codes p)) (resumed_silent w s p B _ (n + 1) k (fresh_more n (n + 1) (omega arith) r) am h))
       (and_none (resumed_codes p 0) (started_silent w s p B _ (n + 1) (Started (n + 1)) k (fresh_more n (n + 1) (omega arith) r)
       (shows_root B (n + 1) s w false am h)))
   resumed_silent w s (Par p q) B f n k r a h =
       let m = n + 1 + statement_count p in
-      or_same (and_none (has_code (resumed_codes p)) (resumed_silent w s p B _ (n + 1) k.0 (fresh_more n (n + 1) (omega arith) r)
+      or-equal (and_none (has_code (resumed_codes p)) (resumed_silent w s p B _ (n + 1) k.0 (fresh_more n (n + 1) (omega arith) r)
       (above_more B n (n + 1) (omega arith) a) h))
       (and_none (has_code (resumed_codes q)) (resumed_silent w s q B _ m k.1 (fresh_more n m (omega arith) r) (above_more B n m (omega arith) a) h))
   resumed_silent w s (Trap p) B f n k r a h =
@@ -223,8 +206,8 @@ module _ (V : Valuation) where
       none true false = refl
       none false b = refl
   started_emits w s c (Emit x) B f n l v b nl k h r e =
-      ap (λ i. i && V (Go n l)) (e.each x) ∙ ap (λ i. (c && x == s) && i) h.go ∙ emit_bits c (x == s) b
-      ∙ ap (λ i. c && (b && i)) (eqb_flip x s)
+      ap (λ i. i && V (Go n l)) (e.each x) ∙ ap (λ i. (c && x == s) && i) h.go ∙ and-moved c (x == s) b
+      ∙ ap (λ i. c && (b && i)) (eqb-turned x s)
   started_emits w s c (Exit j) B f n l v b nl k h r e = sym (none c b)
     where
       none : (c b : Bool) → (c && (b && false)) ≡ false
@@ -233,7 +216,7 @@ module _ (V : Valuation) where
       none false b = refl
   started_emits w s c (Present x p q) B f n l v b nl k h r e =
       let m = n + 1 + statement_count p in
-      or_same
+      or-equal
       (started_emits w s c p B _ (n + 1) l v _ (no_loops-left (instant_loops p) (instant_loops q) nl) k.0 h.1 (fresh_more n (n + 1) (omega arith) r) e)
       (started_emits w s c q B _ m l v _ (no_loops-right (instant_loops p) (instant_loops q) nl) k.1 h.2 (fresh_more n m (omega arith) r) e)
       ∙ choice_bits c b (truth x v) _ _ ∙ ap (λ i. c && (b && i)) (cond_signals (truth x v) _ _ s)
@@ -245,7 +228,7 @@ module _ (V : Valuation) where
       let nq = no_loops-right (instant_loops p) (instant_loops q) nl in
       let wp = started_walk (statuses V) p (n + 1) l v in
       let wq = started_walk (statuses V) q m l v in
-      or_same
+      or-equal
       (started_emits w s c p B _ (n + 1) l v b np k.0 h.1 (fresh_more n (n + 1) (omega arith) r) e)
       (guard_bits (started_codes p 0) c (b && wp.code == 0) (wq.signals s) _
       (λ z. started_emits w s c q B _ m l v _ nq k.1 (h.2 z) (fresh_more n m (omega arith) r) e)
@@ -255,7 +238,7 @@ module _ (V : Valuation) where
       started_emits w s c p B _ (n + 1) l v b (loop_body at p nl).1 k h.1 (fresh_more n (n + 1) (omega arith) r) e
   started_emits w s c (Par p q) B f n l v b nl k h r e =
       let m = n + 1 + statement_count p in
-      or_same
+      or-equal
       (started_emits w s c p B _ (n + 1) l v b (no_loops-left (instant_loops p) (instant_loops q) nl) k.0 h.1 (fresh_more n (n + 1) (omega arith) r) e)
       (started_emits w s c q B _ m l v b (no_loops-right (instant_loops p) (instant_loops q) nl) k.1 h.2 (fresh_more n m (omega arith) r) e)
       ∙ both_bits c b _ _
@@ -264,7 +247,7 @@ module _ (V : Valuation) where
   started_emits w s c (Local x p) B f n l v b nl k h r e =
       started_emits w s (c && not (x == s)) p (bind B x n) _ (n + 1) l _ b nl k h.2 (fresh_more n (n + 1) (omega arith) r) (shows_bind B n x s l w c r e)
       ∙ hide_bits c (x == s) b _
-      ∙ ap (λ i. c && (b && ((started_walk (statuses V) p (n + 1) l (with_value v x (V (StatusOf n l)))).signals s && not i))) (eqb_flip x s)
+      ∙ ap (λ i. c && (b && ((started_walk (statuses V) p (n + 1) l (with_value v x (V (StatusOf n l)))).signals s && not i))) (eqb-turned x s)
   started_emits w s c (Awake x p) B f n l v b nl k h r e = absurd k
 
 -- where a resumed place is reached, its statement holds a selected pause, well formed
@@ -364,7 +347,7 @@ module _ (V : Valuation) (S : ℕ → Bool) where
       let two = reach_part {p = p2} {m = m} b q (λ i j. i.2 j) in
       let wp = resumed_walk (statuses V) S p (n + 1) v in
       let wq = resumed_walk (statuses V) S p2 m v in
-      or_same
+      or-equal
       (guard_bits (has_code (resumed_codes p)) c (b && hp) (wp.signals s) _
       (λ z. resumed_emits w s c p B _ (n + 1) v _ np k.0 one (h.1 z) (fresh_more n (n + 1) (omega arith) r) (above_more B n (n + 1) (omega arith) a) e)
       (live_of p (n + 1) (b && hp) np k.0 one))
@@ -392,11 +375,11 @@ module _ (V : Valuation) (S : ℕ → Bool) where
       let wq = resumed_walk (statuses V) S p2 m v in
       let wr = started_walk (statuses V) p2 m (Started m) v in
       let am = above_more B n m (omega arith) a in
-      or_same
+      or-equal
       (guard_bits (has_code (resumed_codes p)) c (b && hp) (wp.signals s) _
       (λ z. resumed_emits w s c p B _ (n + 1) v _ np k.0 one (h.1 z) (fresh_more n (n + 1) (omega arith) r) (above_more B n (n + 1) (omega arith) a) e)
       (live_of p (n + 1) (b && hp) np k.0 one))
-      (or_same
+      (or-equal
       (guard_bits (can_pass p && has_code (resumed_codes p2)) c (b && hq) (wq.signals s) _
       (λ z. resumed_emits w s c p2 B _ m v _ nq k.1 two (h.2 z) (fresh_more n m (omega arith) r) am e)
       (λ i.
@@ -416,7 +399,7 @@ module _ (V : Valuation) (S : ℕ → Bool) where
       let wp = resumed_walk (statuses V) S p (n + 1) v in
       let wr = started_walk (statuses V) p (n + 1) (Started (n + 1)) v in
       let am = above_more B n (n + 1) (omega arith) a in
-      or_same
+      or-equal
       (guard_bits (has_code (resumed_codes p)) c b (wp.signals s) _
       (λ z. resumed_emits w s c p B _ (n + 1) v b np k one (h.1 z) (fresh_more n (n + 1) (omega arith) r) am e)
       (live_of p (n + 1) b np k one))
@@ -437,14 +420,14 @@ module _ (V : Valuation) (S : ℕ → Bool) where
       let two = reach_part {p = p2} {m = m} b q (λ i j. i.3 j) in
       let wp = resumed_walk (statuses V) S p (n + 1) v in
       let wq = resumed_walk (statuses V) S p2 m v in
-      or_same
+      or-equal
       (guard_bits (has_code (resumed_codes p)) c (b && hp) (wp.signals s) _
       (λ z. resumed_emits w s c p B _ (n + 1) v _ np k.0 one (h.1 z) (fresh_more n (n + 1) (omega arith) r) (above_more B n (n + 1) (omega arith) a) e)
       (live_of p (n + 1) (b && hp) np k.0 one))
       (guard_bits (has_code (resumed_codes p2)) c (b && hq) (wq.signals s) _
       (λ z. resumed_emits w s c p2 B _ m v _ nq k.1 two (h.2 z) (fresh_more n m (omega arith) r) (above_more B n m (omega arith) a) e)
       (live_of p2 m (b && hq) nq k.1 two))
-      ∙ branch_bits c b hp hq _ _ ∙ ap (λ i. c && (b && i)) (or_same (branch_signals hp wp s) (branch_signals hq wq s))
+      ∙ branch_bits c b hp hq _ _ ∙ ap (λ i. c && (b && i)) (or-equal (branch_signals hp wp s) (branch_signals hq wq s))
   resumed_emits w s c (Trap p) B f n v b nl k q h r a e =
       let one : Reach S p (n + 1) b = record { held = q.held; selected = q.selected } in
       guard_bits (has_code (resumed_codes p)) c b _ _
@@ -457,5 +440,5 @@ module _ (V : Valuation) (S : ℕ → Bool) where
       (shows_bind B n x s Resumed w c r e))
       (live_of p (n + 1) b nl k one)
       ∙ hide_bits c (x == s) b _
-      ∙ ap (λ i. c && (b && ((resumed_walk (statuses V) S p (n + 1) (with_value v x (V (StatusOf n Resumed)))).signals s && not i))) (eqb_flip x s)
+      ∙ ap (λ i. c && (b && ((resumed_walk (statuses V) S p (n + 1) (with_value v x (V (StatusOf n Resumed)))).signals s && not i))) (eqb-turned x s)
   resumed_emits w s c (Awake x p) B f n v b nl k q h r a e = absurd k

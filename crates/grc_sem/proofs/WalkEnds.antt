@@ -2,6 +2,7 @@
 -- says, and no other.
 use Rattle.std.proofs.Common.{◌≡◌, ℕ, ◌+◌, Bool, true, false, not, ◌&&◌, ◌==◌, cond, max, refl, sym, ap, ◌∙◌, subst, inl, inr, ⊎_elim}
 use Rattle.std.proofs.lemmas.Bool.{and_parts, eqb-true, eqb-false, ne_eqb, false≢true, cases_Bool}
+use Rattle.facts.proofs.Tests.{and-turned, not-false, or-other}
 use Rattle.est_base.specs.Codes.{except}
 use Rattle.est_kernel.specs.Terms.{Term, Nothing, Pause, Emit, Exit, Present, Suspend, Seq, Loop, Par, Trap, Local, Awake}
 use Rattle.est_kernel.specs.Preorder.{statement_count}
@@ -17,13 +18,13 @@ use Rattle.grc_graph.specs.Selected.{HasExitCodes}
 use Rattle.grc_graph.specs.Readings.{Valuation, state_holds_at}
 use Rattle.grc_graph.specs.Coherence.{statuses, StartedWalked, ResumedWalked}
 use Rattle.grc_sem.proofs.Places.{no_loops-left}
-use Rattle.grc_sem.proofs.Residues.{no_loops-right, loop_body, loop_code, or_other}
+use Rattle.grc_sem.proofs.Residues.{no_loops-right, loop_body, loop_code}
 use Rattle.grc_sem.proofs.Constructive.{and_true, not_false}
 use Rattle.grc_sem.proofs.WalkCodes.{started_code, resumed_code}
 use Rattle.grc_sem.proofs.WalkEmits.{Reach}
 use Rattle.grc_sem.proofs.EndForms.{val, test_meaning, only_ends, choice_ends, three_ends, trap_ends, trap_ends_live, only_ends_live, parallel_ends}
 use Rattle.grc_sem.proofs.EndForms.{resumed_ends, awake_ends, branch_number, branch_is}
-use Rattle.grc_sem.proofs.Meets.{and_flip, then_second, then_first, cond_first, cond_second, code_lives, not_both, not_back, started_at, resumed_at}
+use Rattle.grc_sem.proofs.Meets.{then_second, then_first, cond_first, cond_second, code_lives, not_both, started_at, resumed_at}
 use Rattle.grc_sem.proofs.Meets.{finds_first, finds_second, finds_self, Sees, Finds}
 
 -- the wires of the parts of a started statement
@@ -91,10 +92,10 @@ module _ (B0 : Scope) (body : Term) (q : State) (given : Values) (V : Valuation)
   pub started_mean : (t : Term) (B : Scope) (n r : ℕ) (v : Values) (b : Bool) → NoInstantLoop t → HasExitCodes t → Sees given V B (Started r) v →
       V (Go n (Started r)) ≡ b → StartedParts V t n (Started r) v b → (j : ℕ) →
       started_end B t n r j ≡ (b && j == (started_walk (statuses V) t n (Started r) v).code)
-  started_mean Nothing B n r v b nl k s h w j = ap (λ x. (j == 0) && x) h ∙ and_flip (j == 0) b
-  started_mean Pause B n r v b nl k s h w j = ap (λ x. (j == 1) && x) h ∙ and_flip (j == 1) b
-  started_mean (Emit x) B n r v b nl k s h w j = ap (λ x. (j == 0) && x) h ∙ and_flip (j == 0) b
-  started_mean (Exit c) B n r v b nl k s h w j = ap (λ x. (j == c) && x) h ∙ and_flip (j == c) b
+  started_mean Nothing B n r v b nl k s h w j = ap (λ x. (j == 0) && x) h ∙ and-turned (j == 0) b
+  started_mean Pause B n r v b nl k s h w j = ap (λ x. (j == 1) && x) h ∙ and-turned (j == 1) b
+  started_mean (Emit x) B n r v b nl k s h w j = ap (λ x. (j == 0) && x) h ∙ and-turned (j == 0) b
+  started_mean (Exit c) B n r v b nl k s h w j = ap (λ x. (j == c) && x) h ∙ and-turned (j == c) b
   started_mean (Present x p p2) B n r v b nl k s h w j =
       let m = n + 1 + statement_count p in
       let t = Present x p p2 in
@@ -110,7 +111,7 @@ module _ (B0 : Scope) (body : Term) (q : State) (given : Values) (V : Valuation)
       (cond d wp wq).code
       (λ o z. i1.ends o) (λ o z. i2.ends o)
       (λ z o u u2. let c = and_parts b d z in (c.0, cond_first d wp wq c.1))
-      (λ z. let c = and_parts b (not d) z in (c.0, cond_second d wp wq (not_back d c.1)))
+      (λ z. let c = and_parts b (not d) z in (c.0, cond_second d wp wq (not-false d c.1)))
       (λ z. started_code (statuses V) t n y v nl k)
       (λ z.
       ⊎_elim
@@ -179,7 +180,7 @@ module _ (B0 : Scope) (body : Term) (q : State) (given : Values) (V : Valuation)
       Finds selects S t n → Reach S t n b → V (Go n Resumed) ≡ b → ResumedParts V S t n v b → (j : ℕ) →
       resumed_end B t n j ≡ (b && j == (resumed_walk (statuses V) S t n v).code)
   resumed_mean S Nothing B n v b nl k s o u h w j = never b (j == 0) (λ z. u.held z)
-  resumed_mean S Pause B n v b nl k s o u h w j = ap (λ x. (j == 0) && x) h ∙ and_flip (j == 0) b
+  resumed_mean S Pause B n v b nl k s o u h w j = ap (λ x. (j == 0) && x) h ∙ and-turned (j == 0) b
   resumed_mean S (Emit x) B n v b nl k s o u h w j = never b (j == 0) (λ z. u.held z)
   resumed_mean S (Exit c) B n v b nl k s o u h w j = never b (j == 0) (λ z. u.held z)
   resumed_mean S (Present x p p2) B n v b nl k s o u h w j =
@@ -202,7 +203,7 @@ module _ (B0 : Scope) (body : Term) (q : State) (given : Values) (V : Valuation)
       ⊎_elim
       (λ y. inl (and_true z y, cond_first c wp wq y, resumed_code (statuses V) S p (n + 1) v np k.0 y ((u.selected z).1 y)))
       (λ y.
-      let y2 = or_other c d y (u.held z) in
+      let y2 = or-other c d y (u.held z) in
       inr (and_true z y2, cond_second c wp wq y, resumed_code (statuses V) S p2 m v nq k.1 y2 ((u.selected z).2 y2)))
       (cases_Bool c))
       j
@@ -255,7 +256,7 @@ module _ (B0 : Scope) (body : Term) (q : State) (given : Values) (V : Valuation)
       (λ r. inl (and_true z y, cond_first c T wq y ∙ then_first wp wr r, except-in (resumed_codes p) 0 wp.code f1 (eqb-false wp.code 0 r)))
       (cases_Bool (wp.code == 0)))
       (λ y.
-      let y2 = or_other c d y (u.held z) in
+      let y2 = or-other c d y (u.held z) in
       let r = (u.selected z).2 y2 in
       inr (inl (and_true z y2, cond_second c T wq y, and_true r.0 (resumed_code (statuses V) S p2 m v nq k.1 y2 r.1))))
       (cases_Bool c))

@@ -4,6 +4,7 @@ use Rattle.std.specs.Prelude.{Contains}
 use Rattle.std.specs.List.{list_any, flat_map, range_with_len}
 use Rattle.std.proofs.lemmas.Bool.{false_from_ne_true, false≢true}
 use Rattle.std.proofs.lemmas.List.Elements.{All-contains}
+use Rattle.facts.proofs.Lists.{Every, all-of-every, every-append}
 use Rattle.est_kernel.specs.Plain.{Program, outgoing_count, given_count}
 use Rattle.est_kernel.specs.Terms.{Term, Nothing, Pause, Emit, Exit, Present, Suspend, Seq, Loop, Par, Trap, Local, Awake}
 use Rattle.est_kernel.specs.StaticCodes.{has_code, resumed_codes, NoInstantLoop}
@@ -19,12 +20,12 @@ use Rattle.grc_graph.specs.Selected.{HasExitCodes, IsState}
 use Rattle.grc_graph.specs.Readings.{Valuation, seen_values, state_holds_at}
 use Rattle.grc_graph.specs.GraphRuns.{Solves, graph_of, program_spots}
 use Rattle.grc_solutions.specs.GraphWires.{program_wires}
-use Rattle.grc_solutions.proofs.Lists.{Every, every_append, every_from, every_contained, every_at}
+use Rattle.grc_solutions.proofs.Lists.{every_from, every_contained, every_at}
 use Rattle.grc_solutions.proofs.Each.{EachStarted, EachResumed}
 use Rattle.grc_graph.proofs.LiveLayers.{body_agrees}
 use Rattle.grc_solutions.proofs.SameWires.{given_contained, given_at, equation_of}
 use Rattle.grc_solutions.proofs.WireNames.{equation_wires_are}
-use Rattle.grc_solutions.proofs.Pairwise.{all_of_every, every_mapped, every_flat, listed_every}
+use Rattle.grc_solutions.proofs.Pairwise.{every_mapped, every_flat, listed_every}
 use Rattle.grc_solutions.proofs.Gathered.{gathered}
 use Rattle.grc_sem.specs.GraphWalks.{selected_of, graph_walk, IsWalkOf}
 use Rattle.grc_sem.specs.Laws.{EquationsAreTheWalk}
@@ -68,7 +69,7 @@ module _ (B0 : Scope) (body : Term) (q : State) (event : List Bool) (V : Valuati
   rows_met : (x : Spot) → Met B0 body q (is_given event) V all x → Every Row (instance_equations all x)
   rows_met x m = (
     m.go,
-    every_append Row (instance_status all x.statement x.path x.layer) _ (status_row x.statement x.path x.layer m.status)
+    every-append Row (instance_status all x.statement x.path x.layer) _ (status_row x.statement x.path x.layer m.status)
         (every_mapped Row (λ k. record { wire = End x.path x.layer k; formula = end_formula x.scope x.statement x.path x.layer k })
         (listed (instance_codes x.statement x.layer))
         (listed_every _ (instance_codes x.statement x.layer)
@@ -113,7 +114,7 @@ module _ (p : Program) (q : State) (event : List Bool) (V : Valuation) (kernel :
     started = top_started p.inputs outs (given_count p) p.body q event V nl kernel state s.met s.others;
     resumed = λ live. top_resumed p.inputs outs (given_count p) p.body q event V nl kernel state s.met s.others live;
     outputs =
-        all_of_every (λ o. V (Out o) ≡ (is_given event o || (graph_walk p q event V).signals o)) (range_with_len p.inputs outs)
+        all-of-every (λ o. V (Out o) ≡ (is_given event o || (graph_walk p q event V).signals o)) (range_with_len p.inputs outs)
         (every_from (λ o. (p.inputs ≤ o) × (o < p.inputs + outs)) (λ o. V (Out o) ≡ (is_given event o || (graph_walk p q event V).signals o))
         (range_with_len p.inputs outs)
         (λ o h. shown s o h.0 h.1) (range_bounds p.inputs outs));
@@ -165,8 +166,8 @@ module _ (p : Program) (q : State) (event : List Bool) (V : Valuation) (kernel :
   backward : IsWalkOf p q event V → Solves (graph_of p) q event V
   backward h = record {
     met =
-        all_of_every (Row B0 p.body q event V all) rows
-        (every_append (Row B0 p.body q event V all) (map (output_equation (given_count p) all) (range_with_len p.inputs outs))
+        all-of-every (Row B0 p.body q event V all) rows
+        (every-append (Row B0 p.body q event V all) (map (output_equation (given_count p) all) (range_with_len p.inputs outs))
         (flat_map (instance_equations all) all)
         (outputs_met h)
         (every_flat (Row B0 p.body q event V all) (instance_equations all) all

@@ -1,6 +1,7 @@
 -- The walk meets the equations: where the wires of each instance are those of the walk, they meet their equations.
 use Rattle.std.proofs.Common.{◌≡◌, ℕ, ◌+◌, ◌≤◌, Bool, true, not, ◌&&◌, ◌==◌, cond, List, [], refl, ap, ◌∙◌, arith, sym}
 use Rattle.std.proofs.lemmas.Bool.{and_parts, eq-eqb, ne_eqb, cond-true, cond-false}
+use Rattle.facts.proofs.Tests.{eqb-turned}
 use Rattle.est_kernel.specs.Terms.{Term, Nothing, Pause, Emit, Exit, Present, Suspend, Seq, Loop, Par, Trap, Local, Awake}
 use Rattle.est_kernel.specs.Preorder.{statement_count}
 use Rattle.est_kernel.specs.StaticCodes.{started_codes, resumed_codes, instant_loops, NoInstantLoop}
@@ -17,14 +18,15 @@ use Rattle.grc_graph.specs.Coherence.{InstanceWalked, statuses, StartedWalked, R
 use Rattle.grc_sem.proofs.Places.{no_loops-left}
 use Rattle.grc_solutions.proofs.Each.{spot, EachStarted, EachResumed}
 use Rattle.grc_sem.proofs.Residues.{no_loops-right, loop_body}
-use Rattle.grc_solutions.proofs.Binders.{Above, above_more, above_bind, layer_above-started}
+use Rattle.grc_solutions.proofs.Binders.{Above, above_more, above_bind}
 use Rattle.grc_sem.proofs.Constructive.{and_true}
 use Rattle.grc_graph.proofs.LiveLayers.{Agrees, only_agrees, first_agrees, second_agrees}
+use Rattle.grc_graph.proofs.LiveInstances.{above_within}
 use Rattle.grc_solutions.proofs.Live.{Root}
 use Rattle.grc_sem.proofs.Emissions.{Whole, whole_only, whole_first, whole_second}
 use Rattle.grc_sem.proofs.WalkEmits.{Reach, reach_part}
 use Rattle.grc_sem.proofs.EndForms.{val, test_meaning}
-use Rattle.grc_sem.proofs.Meets.{Met, eqb_flip, sees_more, sees_root, root_left, code_lives, started_at, resumed_at, finds_only, finds_first, finds_second}
+use Rattle.grc_sem.proofs.Meets.{Met, sees_more, sees_root, root_left, code_lives, started_at, resumed_at, finds_only, finds_first, finds_second}
 use Rattle.grc_sem.proofs.Meets.{finds_self, low_second, root_own, Sees, Finds, StatusMet}
 use Rattle.grc_sem.proofs.WalkEnds.{StartedParts, ResumedParts, started_mean, resumed_mean, selects}
 use Rattle.grc_sem.proofs.OwnStatus.{local_started, local_resumed}
@@ -107,7 +109,7 @@ module _ (B0 : Scope) (body : Term) (q : State) (given : Values) (V : Valuation)
             (root_left r (started_codes p 0) a.roots _ z i) (omega arith) nq k.1 (above_more B n m (omega arith) ab)
             (whole_second V L all B f _ _ t p p2 n ab refl refl (λ j u o. refl) w) s
             (ap (λ u. V (End (n + 1) u 0)) (cond-false (r == m) Resumed (Started r) (ne_eqb r m (λ u. omega arith)))
-            ∙ (started_at V p (n + 1) y v b k.0 e.1).ends 0 ∙ ap (λ u. b && u) (eqb_flip 0 wp.code)) (e.2 z),
+            ∙ (started_at V p (n + 1) y v b k.0 e.1).ends 0 ∙ ap (λ u. b && u) (eqb-turned 0 wp.code)) (e.2 z),
       )
   meets_started a (Loop at p) B f n r v b g i l nl k ab w s h e =
       let t = Loop at p in
@@ -145,7 +147,7 @@ module _ (B0 : Scope) (body : Term) (q : State) (given : Values) (V : Valuation)
         started_met t B f n r v b nl k s h e.0 e.2 (e.1 ∙ sym (local_started V all L a x p B f n r v b g i l nl k ab w e.2)),
         meets_started ap1 p (bind B x n) _ (n + 1) r (with_value v x (V (StatusOf n y))) b (only_agrees L a ap1 t p n refl (λ j. refl) g) i (omega arith) nl k
             (above_bind B n x ab) (whole_only V L all B (bind B x n) f _ t p n refl refl (λ j z o. refl) w)
-            (sees_more given V B n x y v (layer_above-started n r l) s) e.0.go e.2,
+            (sees_more given V B n x y v (above_within n r l) s) e.0.go e.2,
       )
   meets_started a (Awake x p) B f n r v b g i l nl k ab w s h e = absurd k
 
@@ -224,7 +226,7 @@ module _ (B0 : Scope) (body : Term) (q : State) (given : Values) (V : Valuation)
             (and_true i z)) (omega arith) nq k.1 am ws
             (sees_root given V B m v am s)
             (ap (λ y. V (End (n + 1) y 0)) (cond-true (m == m) Resumed (Started m) (eq-eqb m m refl))
-            ∙ (resumed_at V S p (n + 1) v _ k.0 (e.1 (code_lives p k.0 0 z))).ends 0 ∙ ap (λ y. (b && c) && y) (eqb_flip 0 wp.code)) (e.3 z)),
+            ∙ (resumed_at V S p (n + 1) v _ k.0 (e.1 (code_lives p k.0 0 z))).ends 0 ∙ ap (λ y. (b && c) && y) (eqb-turned 0 wp.code)) (e.3 z)),
       )
   meets_resumed S a (Loop at p) B f n v b g i l nl k ab w s o u h e =
       let t = Loop at p in
@@ -244,7 +246,7 @@ module _ (B0 : Scope) (body : Term) (q : State) (given : Values) (V : Valuation)
             (omega arith) np k am ws
             (sees_root given V B (n + 1) v am s)
             (ap V (cond-true (n + 1 == n + 1) (End (n + 1) Resumed 0) (Go n (Started (n + 1))) (eq-eqb (n + 1) (n + 1) refl))
-            ∙ (resumed_at V S p (n + 1) v _ k (e.1 (code_lives p k 0 z))).ends 0 ∙ ap (λ y. b && y) (eqb_flip 0 wp.code)) (e.2 z)),
+            ∙ (resumed_at V S p (n + 1) v _ k (e.1 (code_lives p k 0 z))).ends 0 ∙ ap (λ y. b && y) (eqb-turned 0 wp.code)) (e.2 z)),
       )
   meets_resumed S a (Par p p2) B f n v b g i l nl k ab w s o u h e =
       let m = n + 1 + statement_count p in

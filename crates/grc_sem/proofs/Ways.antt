@@ -1,8 +1,9 @@
 -- The way down to a pause, and what lookups find there.
 use Rattle.std.proofs.Common.{◌≡◌, ℕ, ◌+◌, ◌<◌, ◌≤◌, ◌⊎◌, Bool, true, false, ◌&&◌, ◌||◌, ◌==◌, cond, ltb, List, [], ◌∷◌, refl, sym, ap, ◌∙◌, inl, inr, arith}
 use Rattle.std.specs.List.{list_any}
-use Rattle.std.proofs.lemmas.Bool.{or_left, or_right, ne_eqb, cond_both, cond-true, cond-false, lt-ltb, ltb-true}
+use Rattle.std.proofs.lemmas.Bool.{or_left, or_right, ne_eqb, cond-true, cond-false, lt-ltb}
 use Rattle.std.proofs.lemmas.List.Folds.{list_any-append}
+use Rattle.facts.proofs.Tests.{and-false, ltb-not, or-grouped, or-turned}
 use Rattle.est_kernel.specs.Terms.{Term, Nothing, Pause, Emit, Exit, Present, Suspend, Seq, Loop, Par, Trap, Local, Awake}
 use Rattle.est_kernel.specs.Preorder.{statement_count}
 use Rattle.est_kernel.specs.StaticCodes.{has_code, started_codes, resumed_codes}
@@ -11,8 +12,8 @@ use Rattle.grc_graph.specs.Layers.{layer_above, can_pass}
 use Rattle.grc_graph.specs.Wires.{Go, End}
 use Rattle.grc_graph.specs.Residuals.{holds}
 use Rattle.grc_graph.specs.Readings.{Valuation, holds_at, kept_at}
+use Rattle.grc_graph.proofs.LiveInstances.{above_behind}
 use Rattle.grc_solutions.proofs.Live.{Root}
-use Rattle.grc_solutions.proofs.Binders.{layer_above-restarted}
 use Rattle.grc_sem.proofs.Bridge.{any_and, any_if, any_root, any_layers}
 
 -- the ways down a statement to its pauses
@@ -72,11 +73,8 @@ look_only m n a b l = cond-false (m == n) a b (ne_eqb m n (λ e. omega arith))
 pub look_first : {A : Type 0} (m n c : ℕ) (a b d : A) → n + 1 ≤ m → m < n + 1 + c → cond (m == n) a (cond (ltb m (n + 1 + c)) b d) ≡ b
 look_first m n c a b d l u = look_only m n a _ l ∙ cond-true (ltb m (n + 1 + c)) b d (lt-ltb m (n + 1 + c) u)
 
-pub lower : (a b : ℕ) → b ≤ a → ltb a b ≡ false
-lower a b h = cond_both (ltb a b) true false (λ x. ltb a b ≡ false) (λ e. let i = ltb-true a b e in absurd (omega arith)) (λ e. e)
-
 pub look_second : {A : Type 0} (m n c : ℕ) (a b d : A) → n + 1 + c ≤ m → cond (m == n) a (cond (ltb m (n + 1 + c)) b d) ≡ d
-look_second m n c a b d l = look_only m n a _ (omega arith) ∙ cond-false (ltb m (n + 1 + c)) b d (lower m (n + 1 + c) l)
+look_second m n c a b d l = look_only m n a _ (omega arith) ∙ cond-false (ltb m (n + 1 + c)) b d (ltb-not m (n + 1 + c) l)
 
 -- a selected pause is held
 pub way_held : (S : ℕ → Bool) (t : Term) (n : ℕ) (h : Way t) → S (goal t n h) ≡ true → holds S t n ≡ true
@@ -134,28 +132,13 @@ way_starts (Trap p) h = way_starts p h
 way_starts (Local s p) h = way_starts p h
 way_starts (Awake e p) h = absurd h
 
--- Booleans
-or_flip : (a b : Bool) → (a || b) ≡ (b || a)
-or_flip true true = refl
-or_flip true false = refl
-or_flip false true = refl
-or_flip false false = refl
-
-or_join : (a b c : Bool) → ((a || b) || c) ≡ (a || (b || c))
-or_join true b c = refl
-or_join false b c = refl
-
-and_nothing : (a : Bool) → (a && false) ≡ false
-and_nothing true = refl
-and_nothing false = refl
-
 turn : (l f x k s o : Bool) → ((l && (f && x)) || (o || (k && (f && s)))) ≡ ((f && ((l && x) || (k && s))) || o)
-turn l true x k s o = ap (λ i. (l && x) || i) (or_flip o (k && s)) ∙ sym (or_join (l && x) (k && s) o)
+turn l true x k s o = ap (λ i. (l && x) || i) (or-turned o (k && s)) ∙ sym (or-grouped (l && x) (k && s) o)
 turn l false x k s o =
-    ap (λ i. i || (o || (k && false))) (and_nothing l) ∙ ap (λ i. o || i) (and_nothing k) ∙ or_flip o false
+    ap (λ i. i || (o || (k && false))) (and-false l) ∙ ap (λ i. o || i) (and-false k) ∙ or-turned o false
 
 seq_bits : (a l f g x k s o : Bool) → f ≡ g → (((a && l) && (f && x)) || (o || ((a && k) && (g && s)))) ≡ ((a && (f && ((l && x) || (k && s)))) || o)
-seq_bits false l f g x k s o z = or_flip o false
+seq_bits false l f g x k s o z = or-turned o false
 seq_bits true l f g x k s o z = ap (λ i. (l && (f && x)) || (o || (k && (i && s)))) (sym z) ∙ turn l f x k s o
 
 rotate : (k f w g y : Bool) → (k && (f && (w && (g && y)))) ≡ (f && ((k && w) && (g && y)))
@@ -236,7 +219,7 @@ module _ (V : Valuation) where
   even_par F n e =
       record {
         same = λ r u. ap (λ b. b && V (End n (layer_above n (Started r)) 1)) (e.same r u)
-            ∙ ap (λ l. F Resumed && V (End n l 1)) (layer_above-restarted n r u);
+            ∙ ap (λ l. F Resumed && V (End n l 1)) (above_behind n r u);
       }
 
   assoc : (a b c : Bool) → ((a && b) && c) ≡ (a && (b && c))
@@ -437,7 +420,7 @@ module _ (V : Valuation) where
       let m = n + 1 + statement_count p in
       let i = inside q m y in
       par_parted F a (Par p q) q n m (inr y) y refl (look_second _ n (statement_count p) _ _ _ i.0)
-      (λ l. look_only _ n _ _ (omega (arith, i.0)) ∙ ap (λ z. V (End n (layer_above n l) 1) && z) (cond-false _ _ _ (lower _ _ i.0))) refl refl
+      (λ l. look_only _ n _ _ (omega (arith, i.0)) ∙ ap (λ z. V (End n (layer_above n l) 1) && z) (cond-false _ _ _ (ltb-not _ _ i.0))) refl refl
       (parted (λ l. F l && V (End n (layer_above n l) 1)) (part_liveness a q) q m y
       (even_more (λ l. F l && V (End n (layer_above n l) 1)) n m (omega arith) (even_par F n e)))
   parted F a (Trap p) n h e =

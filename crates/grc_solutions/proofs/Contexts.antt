@@ -1,14 +1,16 @@
 -- Where a live instance stands: its statement with the number and the layers, its scope, and what lets it run. Each part
 -- of a statement has such a context where the statement has one.
-use Rattle.std.proofs.Common.{◌≡◌, ℕ, zero, suc, ◌+◌, ◌<◌, ◌≤◌, ◌⊎◌, Bool, true, false, ◌&&◌, ◌==◌, cond, List, [], ◌∷◌, length, map, get_or, refl, sym, ap}
+use Rattle.std.proofs.Common.{◌≡◌, ℕ, ◌+◌, ◌<◌, ◌≤◌, ◌⊎◌, Bool, true, false, ◌&&◌, ◌==◌, cond, List, [], ◌∷◌, map, refl, sym, ap}
 use Rattle.std.proofs.Common.{◌∙◌, subst, inl, inr, ⊎_elim, arith}
 use Rattle.std.specs.Prelude.{Contains}
 use Rattle.std.proofs.lemmas.Bool.{and_parts, cond_both, eqb-true, eq-eqb, cond-true, false≢true}
 use Rattle.std.proofs.lemmas.List.Elements.{Contains-append_left, Contains-append_right}
+use Rattle.facts.proofs.Lists.{Every, contains-map}
 use Rattle.est_base.specs.declared.place.Span.{Span}
 use Rattle.est_kernel.specs.Terms.{Expression, Tick, Sig, Not, And, Or, Term, Nothing, Pause, Emit, Exit, Present, Suspend, Seq, Loop, Par, Trap, Local, Awake}
 use Rattle.est_kernel.specs.Preorder.{statement_count}
 use Rattle.est_kernel.specs.StaticCodes.{has_code, started_codes, resumed_codes}
+use Rattle.est_kernel.proofs.PreorderLaws.{statement_count-some}
 use Rattle.grc_graph.specs.Layers.{Layer, Resumed, Started, Liveness, layers_of, root_if, layer_above, part_liveness, second_liveness, loop_liveness, can_pass}
 use Rattle.grc_graph.specs.Scopes.{Binding, Entering, Outgoing, BoundAt, Unbound, Scope, bind}
 use Rattle.grc_graph.specs.Wires.{Wire, Out, Go, StatusOf, End, status_wire, listed, instance_codes, own_status, instance_wires}
@@ -18,28 +20,21 @@ use Rattle.grc_graph.specs.Spots.{part_entry}
 use Rattle.grc_graph.specs.Edges.{Edge, edges_at}
 use Rattle.grc_graph.specs.Reads.{ReadsOnly}
 use Rattle.grc_graph.specs.Selected.{HasExitCodes}
-use Rattle.grc_solutions.proofs.Lists.{Every, every_right, every_map, every_listed}
+use Rattle.grc_solutions.proofs.Lists.{every_right, every_map, every_listed}
 use Rattle.grc_solutions.proofs.Each.{spot}
 use Rattle.grc_solutions.proofs.Rows.{Between, Reads, FromStatus, RowOf}
 use Rattle.grc_graph.proofs.LiveLayers.{Agrees, here_agrees, only_agrees, first_agrees, second_agrees}
 use Rattle.grc_solutions.proofs.Live.{Root, root_parts, root_if_parts}
 use Rattle.grc_graph.proofs.CodeBounds.{started_below, resumed_below}
+use Rattle.grc_graph.proofs.LiveInstances.{above_behind, above_within}
 use Rattle.grc_solutions.proofs.Decode.{row_at}
 use Rattle.grc_solutions.proofs.Looked.{Contents, statement_at, reads_only, reads_first, reads_second}
-use Rattle.grc_solutions.proofs.Binders.{Above, above_more, above_bind, layer_above-started, layer_above-restarted}
+use Rattle.grc_solutions.proofs.Binders.{Above, above_more, above_bind}
 
 -- a layer in which a statement is live
 abbrev pub In : Liveness → Layer → Type 0
 In a Resumed = a.resumed ≡ true
 In a (Started r) = Root r a.roots
-
-pub contains_map : {A B : Type 0} (f : A → B) (xs : List A) (x : A) → Contains xs x → Contains (map f xs) (f x)
-contains_map f [] x c = absurd (omega (arith, c.1))
-contains_map f (y ∷ ys) x c = go c.0 c.1 c.2 (contains_map f ys x)
-  where
-    go : (k : ℕ) → k < suc (length ys) → get_or (y ∷ ys) k x ≡ x → (Contains ys x → Contains (map f ys) (f x)) → Contains (f y ∷ map f ys) (f x)
-    go zero l e r = (0, omega arith, ap f e)
-    go (suc k) l e r = Contains-append_right (f y ∷ []) (map f ys) (f x) (r (k, omega arith, e))
 
 root_contains : (r : ℕ) (rs : List ℕ) → Root r rs → Contains rs r
 root_contains r [] h = absurd h
@@ -52,7 +47,7 @@ in_layers a Resumed h =
     (subst (λ b. Contains (cond b (Resumed ∷ []) []) Resumed) (sym h) (0, omega arith, refl))
 in_layers a (Started r) h =
     Contains-append_right (cond a.resumed (Resumed ∷ []) []) (map Started a.roots) (Started r)
-    (contains_map Started a.roots r (root_contains r a.roots h))
+    (contains-map Started a.roots r (root_contains r a.roots h))
 
 own_first : (L : ℕ → List Layer) (B : Scope) (f : Layer → Formula) (t : Term) (n : ℕ) (y : Spot) → Contains (spots_at L B f t n) y →
     Contains (spots L B f t n) y
@@ -83,20 +78,6 @@ looked_self (Par p q) n = cond-true (n == n) _ _ (eq-eqb n n refl)
 looked_self (Trap p) n = cond-true (n == n) _ _ (eq-eqb n n refl)
 looked_self (Local s p) n = cond-true (n == n) _ _ (eq-eqb n n refl)
 looked_self (Awake e p) n = refl
-
-some_statement : (t : Term) → 1 ≤ statement_count t
-some_statement Nothing = omega arith
-some_statement Pause = omega arith
-some_statement (Emit s) = omega arith
-some_statement (Exit k) = omega arith
-some_statement (Present e p q) = omega arith
-some_statement (Suspend e p) = omega arith
-some_statement (Seq p q) = omega arith
-some_statement (Loop at p) = omega arith
-some_statement (Par p q) = omega arith
-some_statement (Trap p) = omega arith
-some_statement (Local s p) = omega arith
-some_statement (Awake e p) = omega arith
 
 -- A part is live where the whole is, or in one more layer that the resumed whole starts at the part's own root.
 abbrev pub Enters : Liveness → Liveness → ℕ → Type 0
@@ -169,10 +150,10 @@ module _ (L : ℕ → List Layer) (g : ℕ → Term) (all : List Spot) (W : Wire
   own {a} {B} {f} {t} {n} c l i =
       c.within (spot B f t n l)
       (own_first L B f t n (spot B f t n l)
-      (contains_map (λ j. spot B f t n j) (L n) l (subst (λ ls. Contains ls l) (sym (here_agrees L a t n c.agrees)) (in_layers a l i))))
+      (contains-map (λ j. spot B f t n j) (L n) l (subst (λ ls. Contains ls l) (sym (here_agrees L a t n c.agrees)) (in_layers a l i))))
 
   pub looks : {a : Liveness} {B : Scope} {f : Layer → Formula} {t : Term} {n : ℕ} → Context a B f t n → g n ≡ t
-  looks {a} {B} {f} {t} {n} c = c.found.each n (omega arith) (omega (arith, some_statement t)) ∙ looked_self t n
+  looks {a} {B} {f} {t} {n} c = c.found.each n (omega arith) (omega (arith, statement_count-some t)) ∙ looked_self t n
 
   pub row : {a : Liveness} {B : Scope} {f : Layer → Formula} {t : Term} {n : ℕ} → Context a B f t n → (l : Layer) → In a l → RowOf (Asked W E) B t n l
   row {a} {B} {f} {t} {n} c l i =
@@ -210,7 +191,7 @@ module _ (L : ℕ → List Layer) (g : ℕ → Term) (all : List Spot) (W : Wire
       ⊎_elim (λ k. c.bound s d l h k)
       (λ k.
       let low : d < n = c.above.each s d h in
-      subst (λ j. W (StatusOf d j)) (sym (ap (layer_above d) k.0 ∙ layer_above-restarted d m (omega arith))) (c.bound s d Resumed h k.1))
+      subst (λ j. W (StatusOf d j)) (sym (ap (layer_above d) k.0 ∙ above_behind d m (omega arith))) (c.bound s d Resumed h k.1))
       (e l i)
 
   part : {a : Liveness} {B : Scope} {f : Layer → Formula} {t : Term} {n : ℕ} (b : Liveness) (h : Layer → Formula) (p : Term) (m : ℕ) → n < m →
@@ -426,7 +407,7 @@ module _ (L : ℕ → List Layer) (g : ℕ → Term) (all : List Spot) (W : Wire
 
       same_layer_above : (l : Layer) → In a l → layer_above n l ≡ l
       same_layer_above Resumed i = refl
-      same_layer_above (Started r) i = layer_above-started n r (c.low r i)
+      same_layer_above (Started r) i = above_within n r (c.low r i)
 
       inner : (l : Layer) → In (part_liveness a p) l → In a l
       inner Resumed i = (and_parts a.resumed (has_code (resumed_codes p)) i).0

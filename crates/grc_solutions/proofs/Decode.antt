@@ -1,6 +1,7 @@
 -- From facts of each edge of an instance to its rows.
 use Rattle.std.proofs.Common.{◌≡◌, ℕ, ◌+◌, ◌<◌, Bool, true, ◌&&◌, leb, List, [], ◌∷◌, ◌++◌, map, filter, Option, Some, None}
 use Rattle.std.proofs.lemmas.Bool.{and_parts, le-leb}
+use Rattle.facts.proofs.Lists.{Every}
 use Rattle.est_base.specs.Codes.{except}
 use Rattle.est_kernel.specs.Terms.{Expression, Tick, Sig, Not, And, Or, Term, Nothing, Pause, Emit, Exit, Present, Suspend, Seq, Loop, Par, Trap, Local, Awake}
 use Rattle.est_kernel.specs.Preorder.{statement_count}
@@ -15,7 +16,7 @@ use Rattle.grc_graph.specs.Edges.{Edge, edge, edges_if, edges_at, test_to, statu
 use Rattle.grc_graph.specs.Edges.{trapped_to_ends}
 use Rattle.grc_graph.specs.Selected.{HasExitCodes}
 use Rattle.grc_graph.proofs.CodeBounds.{started_below, resumed_below}
-use Rattle.grc_solutions.proofs.Lists.{Every, every_left, every_right, every_map, every_flat_map, every_filter, every_if, every_listed}
+use Rattle.grc_solutions.proofs.Lists.{every_left, every_right, every_map, every_flat_map, every_filter, every_if, every_listed}
 use Rattle.grc_solutions.proofs.Rows.{RowOf, RowAt, Between, Passes, ToEnds, Branches, Trapped, FromStatus, ToStatus, Reads, StartedRow, ResumedRow}
 
 -- the rows of the edges at one instance

@@ -1,5 +1,6 @@
 -- Each live instance of a body stands in a context, so what every context gives holds of each of them.
 use Rattle.std.proofs.Common.{◌≡◌, ℕ, ◌+◌, Bool, true, false, cond, List, [], ◌∷◌, ◌++◌, map, refl, sym, subst, inl}
+use Rattle.facts.proofs.Lists.{Every, every-append}
 use Rattle.est_kernel.specs.Terms.{Term, Nothing, Pause, Emit, Exit, Present, Suspend, Seq, Loop, Par, Trap, Local, Awake}
 use Rattle.est_kernel.specs.Preorder.{statement_count}
 use Rattle.grc_graph.specs.Layers.{Layer, Resumed, Started, Liveness, layers_of, part_liveness, second_liveness, loop_liveness}
@@ -7,7 +8,6 @@ use Rattle.grc_graph.specs.Scopes.{Scope, bind}
 use Rattle.grc_graph.specs.Wires.{Wire}
 use Rattle.grc_graph.specs.Formulas.{Formula, Negation}
 use Rattle.grc_graph.specs.Spots.{Spot, spots, spots_at, test_formula, tested_entry, branch_entry, second_entry}
-use Rattle.grc_solutions.proofs.Lists.{Every, every_append}
 use Rattle.grc_solutions.proofs.Each.{spot}
 use Rattle.grc_solutions.proofs.Rows.{Between}
 use Rattle.grc_graph.proofs.LiveLayers.{here_agrees}
@@ -17,7 +17,7 @@ use Rattle.grc_solutions.proofs.Contexts.{trap_part, local_part}
 
 -- what holds of the instances in the layers of a statement
 pub over_layers : (D : Layer → Type 0) (a : Liveness) → ((l : Layer) → In a l → D l) → Every D (layers_of a)
-over_layers D a f = every_append D (cond a.resumed (Resumed ∷ []) []) (map Started a.roots) (resumed a.resumed (λ e. f Resumed e))
+over_layers D a f = every-append D (cond a.resumed (Resumed ∷ []) []) (map Started a.roots) (resumed a.resumed (λ e. f Resumed e))
     (started a.roots (λ r i. f (Started r) i))
   where
     resumed : (b : Bool) → (b ≡ true → D Resumed) → Every D (cond b (Resumed ∷ []) [])
@@ -45,7 +45,7 @@ module _ (L : ℕ → List Layer) (g : ℕ → Term) (all : List Spot) (W : Wire
         (over_layers (λ l. D (spot B f t n l)) a (here a B f t n c)))
 
     one : (a : Liveness) (B : Scope) (f : Layer → Formula) (t : Term) (n : ℕ) (ps : List Spot) → At a B f t n → Every D ps → Every D (spots_at L B f t n ++ ps)
-    one a B f t n ps c h = every_append D (spots_at L B f t n) ps (self a B f t n c) h
+    one a B f t n ps c h = every-append D (spots_at L B f t n) ps (self a B f t n c) h
 
     pub each : (a : Liveness) (B : Scope) (f : Layer → Formula) (t : Term) (n : ℕ) → At a B f t n → Every D (spots L B f t n)
     each a B f Nothing n c = self a B f Nothing n c
@@ -56,7 +56,7 @@ module _ (L : ℕ → List Layer) (g : ℕ → Term) (all : List Spot) (W : Wire
         let ps = spots L B (tested_entry n (n + 1) (test_formula B e)) p (n + 1) in
         let qs = spots L B (tested_entry n (n + 1 + statement_count p) (λ l. Negation (test_formula B e l))) q (n + 1 + statement_count p) in
         one a B f (Present e p q) n (ps ++ qs) c
-        (every_append D ps qs
+        (every-append D ps qs
         (each (part_liveness a p) B _ p (n + 1) (then_part L g all W E told c))
         (each (part_liveness a q) B _ q (n + 1 + statement_count p) (else_part L g all W E told c)))
     each a B f (Suspend e p) n c = one a B f (Suspend e p) n _ c (each (part_liveness a p) B _ p (n + 1) (suspended_part L g all W E told c))
@@ -64,7 +64,7 @@ module _ (L : ℕ → List Layer) (g : ℕ → Term) (all : List Spot) (W : Wire
         let ps = spots L B (branch_entry n (n + 1)) p (n + 1) in
         let qs = spots L B (second_entry n (n + 1 + statement_count p)) q (n + 1 + statement_count p) in
         one a B f (Seq p q) n (ps ++ qs) c
-        (every_append D ps qs
+        (every-append D ps qs
         (each (part_liveness a p) B _ p (n + 1) (first_part L g all W E told c))
         (each (second_liveness a p q (n + 1 + statement_count p)) B _ q (n + 1 + statement_count p) (second_part L g all W E told c)))
     each a B f (Loop at p) n c = one a B f (Loop at p) n _ c (each (loop_liveness a p (n + 1)) B _ p (n + 1) (loop_part L g all W E told c))
@@ -72,7 +72,7 @@ module _ (L : ℕ → List Layer) (g : ℕ → Term) (all : List Spot) (W : Wire
         let ps = spots L B (branch_entry n (n + 1)) p (n + 1) in
         let qs = spots L B (branch_entry n (n + 1 + statement_count p)) q (n + 1 + statement_count p) in
         one a B f (Par p q) n (ps ++ qs) c
-        (every_append D ps qs
+        (every-append D ps qs
         (each (part_liveness a p) B _ p (n + 1) (left_part L g all W E told c))
         (each (part_liveness a q) B _ q (n + 1 + statement_count p) (right_part L g all W E told c)))
     each a B f (Trap p) n c = one a B f (Trap p) n _ c (each (part_liveness a p) B _ p (n + 1) (trap_part L g all W E told c))

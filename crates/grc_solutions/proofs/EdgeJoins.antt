@@ -1,6 +1,7 @@
 -- The edges at a live instance join wires that exist.
 use Rattle.std.proofs.Common.{◌≡◌, ℕ, ◌+◌, ◌<◌, Bool, true, ◌&&◌, cond, leb, List, [], ◌∷◌, ◌++◌, map, filter, refl, ap, ◌∙◌, arith}
 use Rattle.std.proofs.lemmas.Bool.{and_parts, and_from, or_left, or_right, cond_both, cond-true}
+use Rattle.facts.proofs.Lists.{Every, every-append}
 use Rattle.est_base.specs.Codes.{except, either}
 use Rattle.est_kernel.specs.Terms.{Expression, Tick, Sig, Not, And, Or, Term, Nothing, Pause, Emit, Exit, Present, Suspend, Seq, Loop, Par, Trap, Local, Awake}
 use Rattle.est_kernel.specs.Preorder.{statement_count}
@@ -14,7 +15,6 @@ use Rattle.grc_graph.specs.Formulas.{Formula}
 use Rattle.grc_graph.specs.Spots.{Spot}
 use Rattle.grc_graph.specs.Edges.{Edge, edge, edges_if, go_to_ends, ends_to_ends, branch_to_ends, trapped_to_ends, status_to, test_to, to_status, go_to_part}
 use Rattle.grc_graph.specs.Edges.{edges_at}
-use Rattle.grc_solutions.proofs.Lists.{Every, every_append}
 use Rattle.grc_solutions.proofs.Rows.{Between}
 use Rattle.grc_solutions.proofs.Live.{Root, root_left, root_right, root_given, root_own}
 use Rattle.grc_solutions.proofs.Pairwise.{every_mapped, every_flat, listed_every}
@@ -37,7 +37,7 @@ module _ (L : ℕ → List Layer) (g : ℕ → Term) (all : List Spot) (W : Wire
   AllJoin es = Every Joins es
 
   two : (xs ys : List Edge) → AllJoin xs → AllJoin ys → AllJoin (xs ++ ys)
-  two xs ys h k = every_append Joins xs ys h k
+  two xs ys h k = every-append Joins xs ys h k
 
   if_joins : (b : Bool) (es : List Edge) → (b ≡ true → AllJoin es) → AllJoin (edges_if b es)
   if_joins b es h = every_cond Joins b es h

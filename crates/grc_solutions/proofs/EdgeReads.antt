@@ -4,6 +4,7 @@ use Rattle.std.proofs.Common.{ap, ◌∙◌}
 use Rattle.std.proofs.Common.{subst, inl, inr, ⊎_elim, arith, Option, Some, None}
 use Rattle.std.specs.Prelude.{Contains, filter}
 use Rattle.std.proofs.lemmas.Bool.{and_from, cond_both, cond-true, cond-false, eq-eqb, ne_eqb, leb-true, false≢true}
+use Rattle.facts.proofs.Lists.{Every, every-append}
 use Rattle.est_base.specs.Codes.{except}
 use Rattle.est_kernel.specs.Terms.{Expression, Tick, Sig, Not, And, Or, Term, Nothing, Pause, Emit, Exit, Present, Suspend, Seq, Loop, Par, Trap, Local, Awake}
 use Rattle.est_kernel.specs.Preorder.{statement_count}
@@ -17,12 +18,12 @@ use Rattle.grc_graph.specs.Spots.{Spot, status_formula, test_formula}
 use Rattle.grc_graph.specs.Equations.{part_end, trapped_ends, branch_over, end_formula, is_wire, emits_on, emissions}
 use Rattle.grc_graph.specs.Edges.{Edge, edge, edges_if, go_to_ends, ends_to_ends, branch_to_ends, trapped_to_ends, status_to, test_to, to_status, go_to_part}
 use Rattle.grc_graph.specs.Edges.{edges_at}
+use Rattle.grc_graph.proofs.SameWires.{same_wire-self}
 use Rattle.grc_solutions.specs.GraphWires.{IsRead}
 use Rattle.grc_solutions.proofs.Each.{spot}
-use Rattle.grc_solutions.proofs.Lists.{Every, every_append, every_all, every_from}
+use Rattle.grc_solutions.proofs.Lists.{every_all, every_from}
 use Rattle.grc_solutions.proofs.Rows.{Between}
 use Rattle.grc_solutions.proofs.Live.{Root, root_left, root_right, root_given, root_own}
-use Rattle.grc_solutions.proofs.SameWires.{same_wire-self}
 use Rattle.grc_solutions.proofs.Pairwise.{every_mapped, every_flat, listed_every}
 use Rattle.grc_solutions.proofs.Contexts.{In, Told, Context, code_below, own, looks, then_part, else_part, suspended_part, first_part, second_part, loop_part}
 use Rattle.grc_solutions.proofs.Contexts.{left_part, right_part, trap_part, local_part}
@@ -120,7 +121,7 @@ module _ (L : ℕ → List Layer) (g : ℕ → Term) (all : List Spot) (W : Wire
   AllRead es = Every EdgeRead es
 
   two : (xs ys : List Edge) → AllRead xs → AllRead ys → AllRead (xs ++ ys)
-  two xs ys h k = every_append EdgeRead xs ys h k
+  two xs ys h k = every-append EdgeRead xs ys h k
 
   if_reads : (b : Bool) (es : List Edge) → (b ≡ true → AllRead es) → AllRead (edges_if b es)
   if_reads b es h = every_cond EdgeRead b es h

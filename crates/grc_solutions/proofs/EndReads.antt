@@ -1,6 +1,7 @@
 -- What the formula of an end reads: each wire of it has an edge to the end.
 use Rattle.std.proofs.Common.{◌≡◌, ℕ, zero, suc, ◌+◌, Bool, true, false, ◌==◌, cond, List, [], ◌∷◌, ◌++◌, refl, sym, subst, arith}
 use Rattle.std.proofs.lemmas.Bool.{eqb-true, false≢true}
+use Rattle.facts.proofs.Lists.{Every, every-append}
 use Rattle.est_base.specs.Codes.{except}
 use Rattle.est_kernel.specs.Terms.{Term, Nothing, Pause, Emit, Exit, Present, Suspend, Seq, Loop, Par, Trap, Local, Awake}
 use Rattle.est_kernel.specs.Preorder.{statement_count}
@@ -13,7 +14,6 @@ use Rattle.grc_graph.specs.Spots.{test_formula}
 use Rattle.grc_graph.specs.Equations.{part_end, trapped_ends, started_parallel, branch_over, branch_upto, branch_end, resumed_parallel, end_formula}
 use Rattle.grc_graph.specs.Reads.{ReadsOnly}
 use Rattle.grc_graph.specs.Selected.{HasExitCodes}
-use Rattle.grc_solutions.proofs.Lists.{Every, every_append}
 use Rattle.grc_solutions.proofs.Rows.{Between, Passes, Branches, Trapped, RowOf}
 use Rattle.grc_solutions.proofs.Contexts.{Asked, test_reads}
 
@@ -44,7 +44,7 @@ module _ (W : Wire → Type 0) (E : Between) where
       ReadsOnly (λ u. Q u (End n l k)) (any_of (part_end A c i k ++ part_end C d j k))
   two_parts A C c d i j n l k h g =
       any_reads (λ u. Q u (End n l k)) (part_end A c i k ++ part_end C d j k)
-      (every_append (ReadsOnly (λ u. Q u (End n l k))) (part_end A c i k) (part_end C d j k) (part_reads A c i n l k h) (part_reads C d j n l k g))
+      (every-append (ReadsOnly (λ u. Q u (End n l k))) (part_end A c i k) (part_end C d j k) (part_reads A c i n l k h) (part_reads C d j n l k g))
 
   trapped_part : (A : ℕ → Bool) (c n : ℕ) (l : Layer) (i k : ℕ) → ((A i ≡ true) → Q (End c l i) (End n l k)) →
       Every (ReadsOnly (λ u. Q u (End n l k))) (part_end A c l i)
@@ -53,7 +53,7 @@ module _ (W : Wire → Type 0) (E : Between) where
   trapped_reads : (A : ℕ → Bool) (c n : ℕ) (l : Layer) (k : ℕ) → Trapped Q A c n l → ReadsOnly (λ u. Q u (End n l k)) (any_of (trapped_ends A c l k))
   trapped_reads A c n l zero h =
       any_reads (λ u. Q u (End n l 0)) (part_end A c l 0 ++ part_end A c l 2)
-      (every_append (ReadsOnly (λ u. Q u (End n l 0))) (part_end A c l 0) (part_end A c l 2) (trapped_part A c n l 0 0 (h 0)) (trapped_part A c n l 2 0 (h 2)))
+      (every-append (ReadsOnly (λ u. Q u (End n l 0))) (part_end A c l 0) (part_end A c l 2) (trapped_part A c n l 0 0 (h 0)) (trapped_part A c n l 2 0 (h 2)))
   trapped_reads A c n l (suc zero) h = any_reads (λ u. Q u (End n l 1)) (part_end A c l 1) (trapped_part A c n l 1 1 (h 1))
   trapped_reads A c n l (suc (suc k)) h =
       any_reads (λ u. Q u (End n l (suc (suc k)))) (part_end A c l (suc (suc (suc k))))
@@ -75,7 +75,7 @@ module _ (W : Wire → Type 0) (E : Between) where
     (
       upto_reads D C d n l k e r g,
       any_reads (λ u. Q u (End n l k)) (part_end A c l k ++ part_end D d l k)
-          (every_append (ReadsOnly (λ u. Q u (End n l k))) (part_end A c l k) (part_end D d l k) (branch_reads A C c n l k e h) (branch_reads D C d n l k e g)),
+          (every-append (ReadsOnly (λ u. Q u (End n l k))) (part_end A c l k) (part_end D d l k) (branch_reads A C c n l k e h) (branch_reads D C d n l k e g)),
     ),
   )
 
@@ -85,7 +85,7 @@ module _ (W : Wire → Type 0) (E : Between) where
       let P = λ (u : Wire). Q u (End n Resumed k) in
       let own = cond (has_code A) (Conjunction (Selected c) (Upto c Resumed k) ∷ []) [] in
       any_reads P (own ++ branch_over n c ∷ [])
-      (every_append (ReadsOnly P) own (branch_over n c ∷ [])
+      (every-append (ReadsOnly P) own (branch_over n c ∷ [])
       (every_cond (ReadsOnly P) (has_code A) (Conjunction (Selected c) (Upto c Resumed k) ∷ []) (λ x. ((tt, upto_reads A C c n Resumed k e s h), tt)))
       ((tt, o), tt))
 
@@ -95,7 +95,7 @@ module _ (W : Wire → Type 0) (E : Between) where
       let P = λ (u : Wire). Q u (End n Resumed k) in
       let own = cond (A k) (Conjunction (Selected c) (Value (End c Resumed k)) ∷ []) [] in
       let over = cond (k == 0) (branch_over n c ∷ []) [] in
-      every_append (ReadsOnly P) own over
+      every-append (ReadsOnly P) own over
       (every_cond (ReadsOnly P) (A k) (Conjunction (Selected c) (Value (End c Resumed k)) ∷ []) (λ a. ((tt, h k k a e (omega arith)), tt)))
       (every_cond (ReadsOnly P) (k == 0) (branch_over n c ∷ []) (λ a. ((tt, o), tt)))
 
@@ -106,7 +106,7 @@ module _ (W : Wire → Type 0) (E : Between) where
     (
       resumed_upto D C d n k e o r g,
       any_reads (λ u. Q u (End n Resumed k)) (branch_end A n c k ++ branch_end D n d k)
-          (every_append (ReadsOnly (λ u. Q u (End n Resumed k))) (branch_end A n c k) (branch_end D n d k) (resumed_end A C c n k e o h)
+          (every-append (ReadsOnly (λ u. Q u (End n Resumed k))) (branch_end A n c k) (branch_end D n d k) (resumed_end A C c n k e o h)
           (resumed_end D C d n k e o g)),
     ),
   )
@@ -158,7 +158,7 @@ module _ (W : Wire → Type 0) (E : Between) where
       let P = λ (u : Wire). Q u (End n Resumed k) in
       let here = Conjunction (Value (Go n Resumed)) (test_formula B x Resumed) ∷ [] in
       any_reads P (part_end (resumed_codes p) (n + 1) Resumed k ++ cond (k == 1) here [])
-      (every_append (ReadsOnly P) (part_end (resumed_codes p) (n + 1) Resumed k) (cond (k == 1) here [])
+      (every-append (ReadsOnly P) (part_end (resumed_codes p) (n + 1) Resumed k) (cond (k == 1) here [])
       (part_reads (resumed_codes p) (n + 1) Resumed n Resumed k h.4)
       (every_cond (ReadsOnly P) (k == 1) here (λ o. (paused (eqb-true k 1 o) e, tt))))
     where
@@ -175,8 +175,8 @@ module _ (W : Wire → Type 0) (E : Between) where
       let second = part_end (codes_if (can_pass p) (resumed_codes q)) m Resumed k in
       let anew = part_end (codes_if (resumed_codes p 0) (started_codes q)) m (Started m) k in
       any_reads P (first ++ (second ++ anew))
-      (every_append (ReadsOnly P) first (second ++ anew) (part_reads (except 0 (resumed_codes p)) (n + 1) Resumed n Resumed k h.3)
-      (every_append (ReadsOnly P) second anew (part_reads (codes_if (can_pass p) (resumed_codes q)) m Resumed n Resumed k h.4)
+      (every-append (ReadsOnly P) first (second ++ anew) (part_reads (except 0 (resumed_codes p)) (n + 1) Resumed n Resumed k h.3)
+      (every-append (ReadsOnly P) second anew (part_reads (codes_if (can_pass p) (resumed_codes q)) m Resumed n Resumed k h.4)
       (part_reads (codes_if (resumed_codes p 0) (started_codes q)) m (Started m) n Resumed k h.5)))
   resumed_end_reads B (Loop at p) n k b h c e =
       two_parts (except 0 (resumed_codes p)) (codes_if (resumed_codes p 0) (except 0 (started_codes p))) (n + 1) (n + 1) Resumed

@@ -6,6 +6,7 @@ use Rattle.std.specs.List.{list_any}
 use Rattle.std.proofs.lemmas.Bool.{cases_lt, eq-eqb, or_from, cond-true, cond-false, cond_both, or_parts}
 use Rattle.std.proofs.lemmas.List.{length-map, length-set, get_or-map, get_or_default, get_or-set_same, get_or-set_other}
 use Rattle.std.proofs.lemmas.List.Sums.{sum_by-cons}
+use Rattle.facts.proofs.Lists.{count_by-yes}
 use Rattle.est_base.specs.declared.indices.WireId.{WireId}
 use Rattle.grc_graph.specs.Layers.{Resumed}
 use Rattle.grc_graph.specs.Wires.{Wire, Go, same_wire}
@@ -16,11 +17,12 @@ use Rattle.grc_graph.specs.PlainGraphs as graphs
 use Rattle.grc_graph.specs.Reads.{StandsBefore, IsReadingOrder}
 use Rattle.grc_graph.specs.Walk.{State}
 use Rattle.grc_graph.specs.GraphRuns.{PlainGraph, Solves}
+use Rattle.grc_graph.proofs.SameWires.{same_wire-self, same_wire-true}
 use Rattle.grc_solutions.specs.GraphWires.{equation_wires, Differ}
 use Rattle.grc_solutions.specs.NumberedGraphs.{formulas_of}
 use Rattle.grc_solutions.specs.Evaluations.{valuation_of}
 use Rattle.grc_solutions.specs.Evaluating.{value_under, IsSolvedUpTo}
-use Rattle.grc_solutions.proofs.SameWires.{same_wire-self, same_wire-true, is_given}
+use Rattle.grc_solutions.proofs.SameWires.{is_given}
 use Rattle.grc_solutions.proofs.Solving.{agree}
 use Rattle.grc_solutions.proofs.Numbers.{stands_at}
 
@@ -66,16 +68,12 @@ value_kept (w ∷ ws) (c ∷ cs) (suc v) b u h =
 
 -- ---- places of an order
 
--- a step of a count
-counted : {A : Type 0} (p : A → Bool) (x : A) (xs : List A) → p x ≡ true → count_by p (x ∷ xs) ≡ 1 + count_by p xs
-counted p x xs e = sum_by-cons (λ y. cond (p y) 1 0) x xs ∙ ap (λ b. cond b 1 0 + count_by p xs) e
-
 counts_more : {A : Type 0} (p : A → Bool) (x : A) (xs : List A) → count_by p xs ≤ count_by p (x ∷ xs)
 counts_more p x xs = let e = sum_by-cons (λ y. cond (p y) 1 0) x xs in omega (arith, e)
 
 one_counted : {A : Type 0} (p : A → Bool) (xs : List A) (i : ℕ) (d : A) → i < length xs → p (get_or xs i d) ≡ true → 1 ≤ count_by p xs
 one_counted p [] i d l e = absurd (omega arith)
-one_counted p (x ∷ xs) zero d l e = let c = counted p x xs e in omega (arith, c)
+one_counted p (x ∷ xs) zero d l e = let c = count_by-yes p x xs e in omega (arith, c)
 one_counted p (x ∷ xs) (suc i) d l e = let c = one_counted p xs i d (omega arith) e in let m = counts_more p x xs in omega (arith, c, m)
 
 two_counted : {A : Type 0} (p : A → Bool) (xs : List A) (i j : ℕ) (d : A) → i < j → j < length xs → p (get_or xs i d) ≡ true → p (get_or xs j d) ≡ true →
@@ -83,7 +81,7 @@ two_counted : {A : Type 0} (p : A → Bool) (xs : List A) (i j : ℕ) (d : A) �
 two_counted p [] i j d l m e h = absurd (omega arith)
 two_counted p (x ∷ xs) i zero d l m e h = absurd (omega arith)
 two_counted p (x ∷ xs) zero (suc j) d l m e h =
-    let c = counted p x xs e in let o = one_counted p xs j d (omega arith) h in omega (arith, c, o)
+    let c = count_by-yes p x xs e in let o = one_counted p xs j d (omega arith) h in omega (arith, c, o)
 two_counted p (x ∷ xs) (suc i) (suc j) d l m e h =
     let c = two_counted p xs i j d (omega arith) (omega arith) e h in let o = counts_more p x xs in omega (arith, c, o)
 

@@ -4,6 +4,7 @@ use Rattle.std.proofs.Common.{◌≡◌, ℕ, ◌<◌, Bool, true, false, not, �
 use Rattle.std.specs.Prelude.{slice_index}
 use Rattle.std.specs.List.{list_all, position_or_len}
 use Rattle.std.proofs.lemmas.Bool.{and_parts, ltb-true, false≢true}
+use Rattle.facts.proofs.Lists.{Every, all-of-every}
 use Rattle.est_kernel.specs.Plain.{Program}
 use Rattle.est_kernel.specs.Terms.{Sig, Term, Nothing, Pause, Emit, Present, Seq, Local}
 use Rattle.grc_graph.specs.Layers.{Layer, Started}
@@ -18,8 +19,7 @@ use Rattle.grc_graph.specs.GraphRuns.{Solves, graph_of, formula_value}
 use Rattle.grc_solutions.specs.GraphWires.{equation_wires, program_wires, program_edges}
 use Rattle.grc_solutions.specs.Solutions.{HasOneSolution}
 use Rattle.grc_solutions.specs.Evaluations.{valuation_of}
-use Rattle.grc_solutions.proofs.Lists.{Every, every_at}
-use Rattle.grc_solutions.proofs.Pairwise.{all_of_every}
+use Rattle.grc_solutions.proofs.Lists.{every_at}
 use Rattle.grc_solutions.proofs.Evaluated.{value_off, unnamed}
 use Rattle.grc_solutions.proofs.OneRun.{graphs_have_one_solution_lem}
 
@@ -65,7 +65,7 @@ pub solved_by : (p : Program) (q : State) (event values : List Bool)
     → Every (λ e. by_values p values e.wire ≡ formula_value (graph_of p) q event (by_values p values) e.formula) (graph_of p).equations
     → Solves (graph_of p) q event (by_values p values)
 solved_by p q event values h = record {
-  met = all_of_every (λ e. by_values p values e.wire ≡ formula_value (graph_of p) q event (by_values p values) e.formula) (graph_of p).equations h;
+  met = all-of-every (λ e. by_values p values e.wire ≡ formula_value (graph_of p) q event (by_values p values) e.formula) (graph_of p).equations h;
   others = λ w e. value_off (equation_wires (graph_of p).equations) values w (unnamed (graph_of p).equations w e);
 }
 

@@ -1,6 +1,7 @@
 -- From facts of the live instances by layers to facts of each in the list.
 use Rattle.std.proofs.Common.{◌≡◌, ℕ, ◌+◌, Bool, true, false, ◌&&◌, cond, List, [], ◌++◌, refl, sym, subst, ⊎_elim}
 use Rattle.std.proofs.lemmas.Bool.{and_parts}
+use Rattle.facts.proofs.Lists.{Every, every-append}
 use Rattle.est_kernel.specs.Terms.{Term, Nothing, Pause, Emit, Exit, Present, Suspend, Seq, Loop, Par, Trap, Local, Awake}
 use Rattle.est_kernel.specs.Preorder.{statement_count}
 use Rattle.est_kernel.specs.StaticCodes.{has_code, started_codes, resumed_codes}
@@ -9,7 +10,6 @@ use Rattle.grc_graph.specs.Scopes.{Scope, bind}
 use Rattle.grc_graph.specs.Formulas.{Formula}
 use Rattle.grc_graph.specs.Spots.{Spot, spots, spots_at, test_formula, tested_entry, branch_entry, second_entry, loop_entry}
 use Rattle.grc_graph.specs.Selected.{HasExitCodes}
-use Rattle.grc_solutions.proofs.Lists.{Every, every_append}
 use Rattle.grc_solutions.proofs.Each.{spot, EachStarted, EachResumed}
 use Rattle.grc_graph.proofs.LiveLayers.{Agrees, here_agrees, only_agrees, first_agrees, second_agrees}
 use Rattle.grc_solutions.proofs.Live.{Root, root_parts, root_if_parts}
@@ -33,12 +33,12 @@ module _ (L : ℕ → List Layer) (P : Spot → Type 0) where
 
   one : (a : Liveness) (B : Scope) (f : Layer → Formula) (t : Term) (n : ℕ) (ps : List Spot) → Agrees L a t n → (a.resumed ≡ true → P (spot B f t n Resumed)) →
       ((r : ℕ) → Root r a.roots → P (spot B f t n (Started r))) → Every P ps → Every P (spots_at L B f t n ++ ps)
-  one a B f t n ps g e h k = every_append P (spots_at L B f t n) ps (self a B f t n g e h) k
+  one a B f t n ps g e h k = every-append P (spots_at L B f t n) ps (self a B f t n g e h) k
 
   two : (a : Liveness) (B : Scope) (f : Layer → Formula) (t : Term) (n : ℕ) (ps qs : List Spot) → Agrees L a t n →
       (a.resumed ≡ true → P (spot B f t n Resumed)) → ((r : ℕ) → Root r a.roots → P (spot B f t n (Started r))) → Every P ps → Every P qs →
       Every P (spots_at L B f t n ++ (ps ++ qs))
-  two a B f t n ps qs g e h k j = one a B f t n (ps ++ qs) g e h (every_append P ps qs k j)
+  two a B f t n ps qs g e h k j = one a B f t n (ps ++ qs) g e h (every-append P ps qs k j)
 
   -- the conditions of a part that is resumed with the whole
   live : {A : Type 0} (a : Liveness) (x : Bool) → (a.resumed ≡ true → x ≡ true → A) → (a.resumed && x) ≡ true → A

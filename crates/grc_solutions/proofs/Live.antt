@@ -1,6 +1,7 @@
 -- From facts of each live instance in the list to facts by layers.
 use Rattle.std.proofs.Common.{◌≡◌, ℕ, ◌+◌, ◌⊎◌, Bool, true, false, ◌&&◌, cond, List, [], ◌∷◌, ◌++◌, map, refl, sym, subst, inl, inr, ⊎_elim}
 use Rattle.std.proofs.lemmas.Bool.{and_from, false≢true}
+use Rattle.facts.proofs.Lists.{Every}
 use Rattle.est_kernel.specs.Terms.{Term, Nothing, Pause, Emit, Exit, Present, Suspend, Seq, Loop, Par, Trap, Local, Awake}
 use Rattle.est_kernel.specs.Preorder.{statement_count}
 use Rattle.est_kernel.specs.StaticCodes.{started_codes, resumed_codes}
@@ -10,7 +11,7 @@ use Rattle.grc_graph.specs.Formulas.{Formula, Negation}
 use Rattle.grc_graph.specs.Spots.{Spot, spots, spots_at, test_formula, tested_entry, suspended_entry, branch_entry, second_entry, loop_entry, part_entry}
 use Rattle.grc_graph.specs.Selected.{HasExitCodes}
 use Rattle.grc_graph.proofs.LiveLayers.{Agrees, here_agrees, only_agrees, first_agrees, second_agrees}
-use Rattle.grc_solutions.proofs.Lists.{Every, every_left, every_right}
+use Rattle.grc_solutions.proofs.Lists.{every_left, every_right}
 use Rattle.grc_solutions.proofs.Each.{spot, EachStarted, EachResumed}
 
 -- a root among the roots

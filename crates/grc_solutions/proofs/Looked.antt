@@ -1,14 +1,15 @@
 -- The statement with a number, and the statements of the live instances.
-use Rattle.std.proofs.Common.{◌≡◌, ℕ, ◌+◌, ◌<◌, ◌≤◌, true, false, ◌==◌, cond, ltb, List, [], ◌∷◌, map, refl, ap, ◌∙◌, arith}
-use Rattle.std.proofs.lemmas.Bool.{eqb-true, eq-eqb, ne_eqb, cond_both, false≢true, cond-true, cond-false, lt-ltb, ltb-true}
+use Rattle.std.proofs.Common.{◌≡◌, ℕ, ◌+◌, ◌<◌, ◌≤◌, ◌==◌, cond, ltb, List, [], ◌∷◌, map, refl, ◌∙◌, arith}
+use Rattle.std.proofs.lemmas.Bool.{eq-eqb, ne_eqb, cond-true, cond-false, lt-ltb}
+use Rattle.facts.proofs.Lists.{Every, every-append}
+use Rattle.facts.proofs.Tests.{ltb-not}
 use Rattle.est_kernel.specs.Terms.{Term, Nothing, Pause, Emit, Exit, Present, Suspend, Seq, Loop, Par, Trap, Local, Awake}
 use Rattle.est_kernel.specs.Preorder.{statement_count}
-use Rattle.grc_graph.specs.Layers.{Layer, Resumed, Started, same_layer}
+use Rattle.grc_graph.specs.Layers.{Layer}
 use Rattle.grc_graph.specs.Scopes.{Scope, bind}
 use Rattle.grc_graph.specs.Formulas.{Formula}
 use Rattle.grc_graph.specs.Spots.{Spot, spots, spots_at}
 use Rattle.grc_graph.specs.Selected.{HasExitCodes}
-use Rattle.grc_solutions.proofs.Lists.{Every, every_append}
 use Rattle.grc_solutions.proofs.Each.{spot}
 
 -- the statement with a number
@@ -33,9 +34,6 @@ statement_at (Awake e p) n m = Awake e p
 pub record Contents (g : ℕ → Term) (t : Term) (n : ℕ) : Type 0 where
   pub each : (m : ℕ) → n ≤ m → m < n + statement_count t → g m ≡ statement_at t n m
 
-lower : (a b : ℕ) → b ≤ a → ltb a b ≡ false
-lower a b h = cond_both (ltb a b) true false (λ x. ltb a b ≡ false) (λ e. let i = ltb-true a b e in absurd (omega arith)) (λ e. e)
-
 pub reads_only : (g : ℕ → Term) (t p : Term) (n : ℕ) → statement_count t ≡ 1 + statement_count p →
     ((m : ℕ) → statement_at t n m ≡ cond (m == n) t (statement_at p (n + 1) m)) → Contents g t n → Contents g p (n + 1)
 reads_only g t p n c f h =
@@ -58,7 +56,7 @@ reads_second g t p q n c f h =
     record {
       each = λ m l u.
           h.each m (omega arith) (omega arith) ∙ f m ∙ cond-false (m == n) _ _ (ne_eqb m n (λ e. omega arith))
-          ∙ cond-false (ltb m (n + 1 + statement_count p)) _ _ (lower m (n + 1 + statement_count p) l);
+          ∙ cond-false (ltb m (n + 1 + statement_count p)) _ _ (ltb-not m (n + 1 + statement_count p) l);
     }
 
 module _ (L : ℕ → List Layer) (g : ℕ → Term) where
@@ -78,36 +76,30 @@ module _ (L : ℕ → List Layer) (g : ℕ → Term) where
   looked B f (Emit s) n k r = looked_here B f (Emit s) n (L n) (r.each n (omega arith) (omega arith))
   looked B f (Exit c) n k r = looked_here B f (Exit c) n (L n) (r.each n (omega arith) (omega arith))
   looked B f (Present e p q) n k r =
-      every_append Looked (spots_at L B f (Present e p q) n) _ (looked_here B f (Present e p q) n (L n) (self (Present e p q) _ n r (omega arith) refl))
-      (every_append Looked (spots L B _ p (n + 1)) _
+      every-append Looked (spots_at L B f (Present e p q) n) _ (looked_here B f (Present e p q) n (L n) (self (Present e p q) _ n r (omega arith) refl))
+      (every-append Looked (spots L B _ p (n + 1)) _
       (looked B _ p (n + 1) k.0 (reads_first g (Present e p q) p q n refl (λ m. refl) r))
       (looked B _ q (n + 1 + statement_count p) k.1 (reads_second g (Present e p q) p q n refl (λ m. refl) r)))
   looked B f (Suspend e p) n k r =
-      every_append Looked (spots_at L B f (Suspend e p) n) _ (looked_here B f (Suspend e p) n (L n) (self (Suspend e p) _ n r (omega arith) refl))
+      every-append Looked (spots_at L B f (Suspend e p) n) _ (looked_here B f (Suspend e p) n (L n) (self (Suspend e p) _ n r (omega arith) refl))
       (looked B _ p (n + 1) k (reads_only g (Suspend e p) p n refl (λ m. refl) r))
   looked B f (Seq p q) n k r =
-      every_append Looked (spots_at L B f (Seq p q) n) _ (looked_here B f (Seq p q) n (L n) (self (Seq p q) _ n r (omega arith) refl))
-      (every_append Looked (spots L B _ p (n + 1)) _
+      every-append Looked (spots_at L B f (Seq p q) n) _ (looked_here B f (Seq p q) n (L n) (self (Seq p q) _ n r (omega arith) refl))
+      (every-append Looked (spots L B _ p (n + 1)) _
       (looked B _ p (n + 1) k.0 (reads_first g (Seq p q) p q n refl (λ m. refl) r))
       (looked B _ q (n + 1 + statement_count p) k.1 (reads_second g (Seq p q) p q n refl (λ m. refl) r)))
   looked B f (Loop at p) n k r =
-      every_append Looked (spots_at L B f (Loop at p) n) _ (looked_here B f (Loop at p) n (L n) (self (Loop at p) _ n r (omega arith) refl))
+      every-append Looked (spots_at L B f (Loop at p) n) _ (looked_here B f (Loop at p) n (L n) (self (Loop at p) _ n r (omega arith) refl))
       (looked B _ p (n + 1) k (reads_only g (Loop at p) p n refl (λ m. refl) r))
   looked B f (Par p q) n k r =
-      every_append Looked (spots_at L B f (Par p q) n) _ (looked_here B f (Par p q) n (L n) (self (Par p q) _ n r (omega arith) refl))
-      (every_append Looked (spots L B _ p (n + 1)) _
+      every-append Looked (spots_at L B f (Par p q) n) _ (looked_here B f (Par p q) n (L n) (self (Par p q) _ n r (omega arith) refl))
+      (every-append Looked (spots L B _ p (n + 1)) _
       (looked B _ p (n + 1) k.0 (reads_first g (Par p q) p q n refl (λ m. refl) r))
       (looked B _ q (n + 1 + statement_count p) k.1 (reads_second g (Par p q) p q n refl (λ m. refl) r)))
   looked B f (Trap p) n k r =
-      every_append Looked (spots_at L B f (Trap p) n) _ (looked_here B f (Trap p) n (L n) (self (Trap p) _ n r (omega arith) refl))
+      every-append Looked (spots_at L B f (Trap p) n) _ (looked_here B f (Trap p) n (L n) (self (Trap p) _ n r (omega arith) refl))
       (looked B _ p (n + 1) k (reads_only g (Trap p) p n refl (λ m. refl) r))
   looked B f (Local s p) n k r =
-      every_append Looked (spots_at L B f (Local s p) n) _ (looked_here B f (Local s p) n (L n) (self (Local s p) _ n r (omega arith) refl))
+      every-append Looked (spots_at L B f (Local s p) n) _ (looked_here B f (Local s p) n (L n) (self (Local s p) _ n r (omega arith) refl))
       (looked (bind B s n) _ p (n + 1) k (reads_only g (Local s p) p n refl (λ m. refl) r))
   looked B f (Awake e p) n k r = absurd k
-
-pub layers_same : (l j : Layer) → same_layer l j ≡ true → l ≡ j
-layers_same Resumed Resumed e = refl
-layers_same Resumed (Started r) e = absurd (false≢true e)
-layers_same (Started q) Resumed e = absurd (false≢true e)
-layers_same (Started q) (Started r) e = ap Started (eqb-true q r e)

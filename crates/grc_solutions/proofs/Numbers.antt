@@ -20,9 +20,9 @@ use Rattle.grc_graph.specs.PlainGraphs as graphs
 use Rattle.grc_graph.specs.NumberedEdges.{AreEdgesOf, named_edge}
 use Rattle.grc_graph.specs.Reads.{ReadsOnly, StandsBefore, IsReadingOrder}
 use Rattle.grc_graph.specs.GraphRuns.{graph_of}
+use Rattle.grc_graph.proofs.SameWires.{same_wire-self, same_wire-true}
 use Rattle.grc_solutions.specs.GraphWires.{program_wires, program_edges, equation_wires, Differ}
 use Rattle.grc_solutions.specs.NumberedGraphs.{formulas_of, plain_pairs, WireOrdersAreReadingOrders, WireRanksGoUp, ClosedWalksHaveNoRanks, ReadingOrdersReadUp}
-use Rattle.grc_solutions.proofs.SameWires.{same_wire-self, same_wire-true}
 use Rattle.grc_solutions.proofs.WireNames.{wires_differ_lem}
 use Rattle.grc_solutions.proofs.ProgramGraphs.{edges_join_wires_lem, reads_are_edges_lem}
 use Rattle.grc_solutions.proofs.OneRun.{reads_weaker}

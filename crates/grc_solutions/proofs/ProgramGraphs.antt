@@ -1,10 +1,11 @@
 -- The graph of a program: its edges join its wires, and its equations read along them.
-use Rattle.std.proofs.Common.{◌≡◌, ℕ, zero, suc, ◌+◌, ◌<◌, ◌≤◌, Bool, true, cond, ltb, List, [], ◌∷◌, ◌++◌, length, map, get_or, Option, Some, None, refl, sym}
+use Rattle.std.proofs.Common.{◌≡◌, ℕ, zero, suc, ◌+◌, ◌<◌, ◌≤◌, Bool, true, cond, ltb, List, [], ◌∷◌, ◌++◌, map, Option, Some, None, refl, sym}
 use Rattle.std.proofs.Common.{subst, ⊎_elim, arith}
 use Rattle.std.specs.Prelude.{Contains}
 use Rattle.std.specs.List.{flat_map, range_with_len}
 use Rattle.std.proofs.lemmas.Bool.{cases_lt, cond_both, ltb-true, ltb-false, false≢true}
 use Rattle.std.proofs.lemmas.List.Elements.{Contains-append_left, Contains-append_right}
+use Rattle.facts.proofs.Lists.{Every, all-of-every, contains-flat_map, contains-map, every-append}
 use Rattle.est_kernel.specs.Plain.{Program, interface_of, interface_count, outgoing_count, given_count}
 use Rattle.est_kernel.specs.Terms.{Term, Nothing, Pause, Emit, Exit, Present, Suspend, Seq, Loop, Par, Trap, Local, Awake}
 use Rattle.est_kernel.specs.Preorder.{statement_count}
@@ -19,26 +20,19 @@ use Rattle.grc_graph.specs.Reads.{ReadsOnly}
 use Rattle.grc_graph.specs.Selected.{HasExitCodes}
 use Rattle.grc_graph.specs.GraphRuns.{program_spots, graph_of}
 use Rattle.grc_solutions.specs.GraphWires.{program_wires, program_edges, EdgesJoinWires, ReadsAreEdges, EdgesAreReads, IsRead, ReadsWire}
-use Rattle.grc_solutions.proofs.Lists.{Every, every_append, every_right, every_from, every_all, every_at, every_both, every_contained, every_listed}
+use Rattle.grc_solutions.proofs.Lists.{every_right, every_from, every_all, every_at, every_both, every_contained, every_listed}
 use Rattle.grc_solutions.proofs.Rows.{Between}
 use Rattle.grc_graph.proofs.LiveLayers.{body_agrees}
+use Rattle.grc_graph.proofs.SameWires.{same_wire-true}
 use Rattle.grc_solutions.proofs.Looked.{Looked, looked, statement_at}
-use Rattle.grc_solutions.proofs.SameWires.{same_wire-true, equation_of}
-use Rattle.grc_solutions.proofs.Pairwise.{all_of_every, every_mapped, every_flat, listed_every}
+use Rattle.grc_solutions.proofs.SameWires.{equation_of}
+use Rattle.grc_solutions.proofs.Pairwise.{every_mapped, every_flat, listed_every}
 use Rattle.grc_solutions.proofs.WireNames.{instance_every, equation_wires_are}
-use Rattle.grc_solutions.proofs.Contexts.{In, Told, Asked, Context, contains_map, row, looks, left_part, right_part}
+use Rattle.grc_solutions.proofs.Contexts.{In, Told, Asked, Context, row, looks, left_part, right_part}
 use Rattle.grc_solutions.proofs.EndReads.{BranchCodes, end_reads, any_reads, every_cond}
 use Rattle.grc_solutions.proofs.EdgeJoins.{Joins, edges_join}
 use Rattle.grc_solutions.proofs.EdgeReads.{any_right, emission_read, IsStatus, Stands, EdgeRead, edges_read}
 use Rattle.grc_solutions.proofs.EachContext.{each}
-
-pub contains_flat_map : {A B : Type 0} (f : A → List B) (xs : List A) (x : A) (y : B) → Contains xs x → Contains (f x) y → Contains (flat_map f xs) y
-contains_flat_map f [] x y c d = absurd (omega (arith, c.1))
-contains_flat_map f (z ∷ zs) x y c d = go c.0 c.1 c.2 (λ e. contains_flat_map f zs x y e d)
-  where
-    go : (k : ℕ) → k < suc (length zs) → get_or (z ∷ zs) k x ≡ x → (Contains zs x → Contains (flat_map f zs) y) → Contains (f z ++ flat_map f zs) y
-    go zero l e r = Contains-append_left (f z) (flat_map f zs) y (subst (λ w. Contains (f w) y) (sym e) d)
-    go (suc k) l e r = Contains-append_right (f z) (flat_map f zs) y (r (k, omega arith, e))
 
 pub range_has : (a k o : ℕ) → a ≤ o → o < a + k → Contains (range_with_len a k) o
 range_has a zero o l u = absurd (omega arith)
@@ -79,19 +73,19 @@ module _ (p : Program) (kernel : HasExitCodes p.body) where
       every_contained W (instance_wires x.statement x.path x.layer)
       (λ w d.
       Contains-append_right (map Out (interface_of p).outgoing) (flat_map (λ y. instance_wires y.statement y.path y.layer) all) w
-      (contains_flat_map (λ y. instance_wires y.statement y.path y.layer) all x w c d))
+      (contains-flat_map (λ y. instance_wires y.statement y.path y.layer) all x w c d))
 
   spot_edges : (x : Spot) → Contains all x → Every (λ e. E e.from e.to) (edges_at x.scope x.statement x.path x.layer)
   spot_edges x c =
       every_contained (λ e. E e.from e.to) (edges_at x.scope x.statement x.path x.layer)
-      (λ e d. contains_flat_map (λ y. edges_at y.scope y.statement y.path y.layer) all x e c d)
+      (λ e d. contains-flat_map (λ y. edges_at y.scope y.statement y.path y.layer) all x e c d)
 
   all_looked : Every (Looked L g) all
   all_looked = looked L g B0 body_entry p.body 0 kernel (record { each = λ m l u. refl })
 
   spot_codes : Every (λ w. codes_fit g w ≡ true) (program_wires p)
   spot_codes =
-      every_append (λ w. codes_fit g w ≡ true) (map Out (interface_of p).outgoing) (flat_map (λ y. instance_wires y.statement y.path y.layer) all)
+      every-append (λ w. codes_fit g w ≡ true) (map Out (interface_of p).outgoing) (flat_map (λ y. instance_wires y.statement y.path y.layer) all)
       (every_mapped (λ w. codes_fit g w ≡ true) Out (interface_of p).outgoing (every_all _ _ (λ s. refl)))
       (every_flat (λ w. codes_fit g w ≡ true) (λ y. instance_wires y.statement y.path y.layer) all
       (every_from (Looked L g) (λ y. Every (λ w. codes_fit g w ≡ true) (instance_wires y.statement y.path y.layer)) all
@@ -138,7 +132,7 @@ module _ (p : Program) (kernel : HasExitCodes p.body) where
           let low = ltb-false s p.inputs h in
           let high = ltb-true s (interface_count p) i in
           Contains-append_left (map Out (interface_of p).outgoing) _ (Out s)
-          (contains_map Out (interface_of p).outgoing s (range_has p.inputs (outgoing_count p) s low (omega (arith, high)))))
+          (contains-map Out (interface_of p).outgoing s (range_has p.inputs (outgoing_count p) s low (omega (arith, high)))))
           (λ i e. absurd (let j : ⊥ = cc in j)))
 
       entered : (l : Layer) → In (body_liveness p.body) l → ReadsOnly (λ u. Asked W E u (Go 0 l)) (body_entry l)
@@ -242,7 +236,7 @@ module _ (p : Program) (kernel : HasExitCodes p.body) where
   instance_reads : (x : Spot) → ReadsAt x → Every Read (instance_equations all x)
   instance_reads x h = (
     h.entry,
-    every_append Read (instance_status all x.statement x.path x.layer) _ (status_reads x.statement x.path x.layer)
+    every-append Read (instance_status all x.statement x.path x.layer) _ (status_reads x.statement x.path x.layer)
         (every_mapped Read (λ k. record { wire = End x.path x.layer k; formula = end_formula x.scope x.statement x.path x.layer k })
         (listed (instance_codes x.statement x.layer))
         (listed_every _ (instance_codes x.statement x.layer) (λ k u e. h.ends k e))),
@@ -252,13 +246,13 @@ module _ (p : Program) (kernel : HasExitCodes p.body) where
   output_reads s =
       let given = cond (ltb s (given_count p)) (Input s ∷ []) [] in
       any_reads (λ u. Asked W E u (Out s)) (given ++ emissions (Out s) all)
-      (every_append (ReadsOnly (λ u. Asked W E u (Out s))) given (emissions (Out s) all)
+      (every-append (ReadsOnly (λ u. Asked W E u (Out s))) given (emissions (Out s) all)
       (every_cond (ReadsOnly (λ u. Asked W E u (Out s))) (ltb s (given_count p)) (Input s ∷ []) (λ e. (tt, tt)))
       (all_emissions (Out s)))
 
   pub equations_read : Every Read (equations (given_count p) (interface_of p).outgoing all)
   equations_read =
-      every_append Read (map (output_equation (given_count p) all) (interface_of p).outgoing) (flat_map (instance_equations all) all)
+      every-append Read (map (output_equation (given_count p) all) (interface_of p).outgoing) (flat_map (instance_equations all) all)
       (every_mapped Read (output_equation (given_count p) all) (interface_of p).outgoing (every_all _ _ output_reads))
       (every_flat Read (instance_equations all) all (every_from ReadsAt (λ x. Every Read (instance_equations all x)) all instance_reads reads))
 
@@ -273,7 +267,7 @@ module _ (p : Program) (kernel : HasExitCodes p.body) where
   of_instance : (x : Spot) (e : Equation) → Contains all x → Contains (instance_equations all x) e → Contains es e
   of_instance x e c d =
       Contains-append_right (map (output_equation (given_count p) all) (interface_of p).outgoing) (flat_map (instance_equations all) all) e
-      (contains_flat_map (instance_equations all) all x e c d)
+      (contains-flat_map (instance_equations all) all x e c d)
 
   ends_stand : (x : Spot) → Contains all x → (k : ℕ) → k < 64 → instance_codes x.statement x.layer k ≡ true →
       Is (End x.path x.layer k) (end_formula x.scope x.statement x.path x.layer k)
@@ -284,7 +278,7 @@ module _ (p : Program) (kernel : HasExitCodes p.body) where
       of_instance x (own k) c
       (Contains-append_right (record { wire = Go x.path x.layer; formula = x.entry } ∷ []) (status ++ map own codes) (own k)
       (Contains-append_right status (map own codes) (own k)
-      (contains_map own codes k
+      (contains-map own codes k
       (every_listed (λ j. Contains codes j) (instance_codes x.statement x.layer) (every_contained (λ j. Contains codes j) codes (λ j d. d)) k u h))))
 
   -- the equation of a status wire reads each emission on it
@@ -308,7 +302,7 @@ module _ (p : Program) (kernel : HasExitCodes p.body) where
   instance_shows : (x : Spot) → Every Shows (instance_equations all x)
   instance_shows x = (
     λ i. absurd i,
-    every_append Shows (instance_status all x.statement x.path x.layer) _ (status_shows x.statement x.path x.layer)
+    every-append Shows (instance_status all x.statement x.path x.layer) _ (status_shows x.statement x.path x.layer)
         (every_mapped Shows (λ k. record { wire = End x.path x.layer k; formula = end_formula x.scope x.statement x.path x.layer k })
         (listed (instance_codes x.statement x.layer)) (every_all _ _ (λ k i. absurd i))),
   )
@@ -319,7 +313,7 @@ module _ (p : Program) (kernel : HasExitCodes p.body) where
 
   equations_show : Every Shows es
   equations_show =
-      every_append Shows (map (output_equation (given_count p) all) (interface_of p).outgoing) (flat_map (instance_equations all) all)
+      every-append Shows (map (output_equation (given_count p) all) (interface_of p).outgoing) (flat_map (instance_equations all) all)
       (every_mapped Shows (output_equation (given_count p) all) (interface_of p).outgoing (every_all _ _ output_shows))
       (every_flat Shows (instance_equations all) all (every_all _ all instance_shows))
 
@@ -355,13 +349,13 @@ module _ (p : Program) (kernel : HasExitCodes p.body) where
       (every_flat (EdgeRead L g all W E told Is stands) (λ x. edges_at x.scope x.statement x.path x.layer) all all_read))
 
 pub edges_are_reads_lem : EdgesAreReads
-edges_are_reads_lem p kernel = all_of_every (λ e. ReadsWire (graph_of p).equations e.from e.to) (program_edges p) (edges_are_read p kernel)
+edges_are_reads_lem p kernel = all-of-every (λ e. ReadsWire (graph_of p).equations e.from e.to) (program_edges p) (edges_are_read p kernel)
 
 pub edges_join_wires_lem : EdgesJoinWires
 edges_join_wires_lem p kernel =
-    all_of_every (λ e. Contains (program_wires p) e.from × Contains (program_wires p) e.to) (program_edges p) (edges_are_joined p kernel)
+    all-of-every (λ e. Contains (program_wires p) e.from × Contains (program_wires p) e.to) (program_edges p) (edges_are_joined p kernel)
 
 pub reads_are_edges_lem : ReadsAreEdges
 reads_are_edges_lem p kernel =
-    all_of_every (λ e. ReadsOnly (λ u. Contains (program_wires p) u → Contains (program_edges p) (edge u e.wire)) e.formula)
+    all-of-every (λ e. ReadsOnly (λ u. Contains (program_wires p) u → Contains (program_edges p) (edge u e.wire)) e.formula)
     (graph_of p).equations (equations_read p kernel)

@@ -4,6 +4,7 @@ use Rattle.std.specs.Prelude.{◌≢◌}
 use Rattle.std.specs.List.{flat_map, range_with_len}
 use Rattle.std.proofs.lemmas.List.{map-append}
 use Rattle.std.proofs.lemmas.Simd.{map-map}
+use Rattle.facts.proofs.Lists.{Every, every-append}
 use Rattle.est_kernel.specs.Plain.{interface_count, outgoing_count, given_count}
 use Rattle.est_kernel.specs.Terms.{Term, Nothing, Pause, Emit, Exit, Present, Suspend, Seq, Loop, Par, Trap, Local, Awake}
 use Rattle.est_kernel.specs.Preorder.{statement_count}
@@ -18,7 +19,7 @@ use Rattle.grc_graph.specs.Selected.{HasExitCodes}
 use Rattle.grc_graph.specs.GraphRuns.{program_spots}
 use Rattle.grc_graph.proofs.LiveInstances.{instances_ascend_lem}
 use Rattle.grc_solutions.specs.GraphWires.{equation_wires, program_wires, WiresDiffer}
-use Rattle.grc_solutions.proofs.Lists.{Every, every_append, every_from, every_all, every_of_all}
+use Rattle.grc_solutions.proofs.Lists.{every_from, every_all, every_of_all}
 use Rattle.grc_solutions.proofs.Each.{spot}
 use Rattle.grc_graph.proofs.LiveLayers.{Agrees, body_agrees, here_agrees, only_agrees, first_agrees, second_agrees}
 use Rattle.grc_solutions.proofs.Pairwise.{Pairwise, joined, all_pairs, pairwise_append, pairwise_from, pairwise_map, pairwise_flat, every_mapped, every_flat}
@@ -192,14 +193,14 @@ pub instance_every : (P : Wire → Type 0) (t : Term) (n : ℕ) (l : Layer) → 
     ((k : ℕ) → k < 64 → instance_codes t l k ≡ true → P (End n l k)) → Every P (instance_wires t n l)
 instance_every P t n l g s e = (
   g,
-  every_append P (own_status t n l) (map (λ k. End n l k) (listed (instance_codes t l))) (own_statuses P t n l s)
+  every-append P (own_status t n l) (map (λ k. End n l k) (listed (instance_codes t l))) (own_statuses P t n l s)
       (every_mapped P (λ k. End n l k) (listed (instance_codes t l)) (listed_every _ (instance_codes t l) e)),
 )
 
 instance_differ : (t : Term) (n : ℕ) (l : Layer) → Pairwise Other (instance_wires t n l)
 instance_differ t n l =
     let ends = map (λ k. End n l k) (listed (instance_codes t l)) in (
-      every_append (Other (Go n l)) (own_status t n l) ends
+      every-append (Other (Go n l)) (own_status t n l) ends
           (own_statuses (Other (Go n l)) t n l (other_shape (Go n l) (StatusOf n l) (omega arith)))
           (every_mapped (Other (Go n l)) (λ k. End n l k) (listed (instance_codes t l)) (every_all _ _ (λ k. other_shape (Go n l) (End n l k) (omega arith)))),
       pairwise_append Other (own_status t n l) ends (statuses_differ t n l)

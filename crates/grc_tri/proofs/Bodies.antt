@@ -5,11 +5,13 @@ use Rattle.std.specs.List.{range_with_len}
 use Rattle.std.specs.Prelude.{Contains}
 use Rattle.std.proofs.lemmas.List.{get_or_past}
 use Rattle.std.proofs.lemmas.Bool.{cond_both, false≢true, lt-ltb, cases_lt, both_ways, false_from_ne_true}
+use Rattle.facts.proofs.Lists.{Every}
 use Rattle.est_kernel.specs.Terms.{Term}
 use Rattle.est_kernel.specs.Statuses.{Status, Unknown, Environment, known, disjunction}
 use Rattle.est_kernel.specs.Preorder.{statement_count}
 use Rattle.est_kernel.specs.StaticCodes.{has_code, resumed_codes, NoInstantLoop}
 use Rattle.est_kernel.specs.Reactions.{is_given}
+use Rattle.est_kernel.proofs.PreorderLaws.{statement_count-some}
 use Rattle.grc_graph.specs.Layers.{Layer, Resumed, Started, body_layers, body_liveness}
 use Rattle.grc_graph.specs.Scopes.{Binding, Entering, Outgoing, BoundAt, Unbound, Scope}
 use Rattle.grc_graph.specs.Wires.{Out, Go}
@@ -22,12 +24,12 @@ use Rattle.grc_graph.specs.Readings.{state_holds_at}
 use Rattle.grc_graph.specs.Selected.{HasExitCodes, IsState}
 use Rattle.grc_graph.proofs.LiveLayers.{body_agrees}
 use Rattle.grc_sem.specs.GraphWalks.{selected_of}
-use Rattle.grc_solutions.proofs.Lists.{Every, every_at, every_map}
+use Rattle.grc_solutions.proofs.Lists.{every_at, every_map}
 use Rattle.grc_solutions.proofs.Live.{Root}
 use Rattle.grc_sem.proofs.Ranks.{has_value, InScope}
 use Rattle.grc_sem.proofs.Emissions.{emission}
 use Rattle.grc_sem.proofs.Bridge.{started_any, resumed_any, split}
-use Rattle.grc_sem.proofs.Meets.{head_started, head_resumed, finds_self, count_some}
+use Rattle.grc_sem.proofs.Meets.{head_started, head_resumed, finds_self}
 use Rattle.grc_sem.proofs.Tops.{state_finds, state_reach, no_bound, above_top, out_shows, out_fresh}
 use Rattle.est_tri.specs.TriWalks.{where_met}
 use Rattle.est_tri.specs.Laws.{sure, possible}
@@ -130,7 +132,7 @@ module _ (inputs outs given_count : ℕ) (body : Term) (q : State) (event : List
         by_live
         (λ live. (head_resumed N B0 body_entry body 0 kernel ((each_next inputs outs given_count body q (is_given event) W U kernel met offW offU).0 live)).go
         ∙ ap known (finds_self (λ m. state_holds_at q body m) S body 0 (state_finds q body)))
-        (λ z. ((deep W layersW z).resumed.at 0 (omega arith) (omega (arith, count_some body))).0
+        (λ z. ((deep W layersW z).resumed.at 0 (omega arith) (omega (arith, statement_count-some body))).0
         ∙ ap known (sym (false_from_ne_true (holds S body 0) (λ h. both_ways (has_code (resumed_codes body)) z (lives h)))))
 
     -- ---- its outgoing signals

@@ -2,6 +2,7 @@
 -- lists of live instances, so as statuses.
 use Rattle.std.proofs.Common.{◌≡◌, ℕ, ◌+◌, ◌≤◌, Bool, true, false, not, ◌&&◌, ◌||◌, ◌==◌, List, refl, sym, ap, ◌∙◌, arith}
 use Rattle.std.proofs.lemmas.Bool.{and_parts, false≢true}
+use Rattle.facts.proofs.Tests.{and-false, and-moved, eqb-turned, or-equal}
 use Rattle.est_kernel.specs.Terms.{Term, Nothing, Pause, Emit, Exit, Present, Suspend, Seq, Loop, Par, Trap, Local, Awake}
 use Rattle.est_kernel.specs.Statuses.{Status, Minus, disjunction}
 use Rattle.est_kernel.specs.Preorder.{statement_count}
@@ -16,9 +17,8 @@ use Rattle.grc_solutions.proofs.Binders.{Above, above_more, above_bind}
 use Rattle.grc_sem.proofs.Emissions.{emission}
 use Rattle.grc_sem.proofs.Bridge.{started_any, resumed_any}
 use Rattle.grc_sem.proofs.WalkEmits.{Fresh, fresh_more, Shows, shows_root, shows_bind}
-use Rattle.grc_sem.proofs.Meets.{eqb_flip}
 use Rattle.est_tri.specs.TriWalks.{where_met}
-use Rattle.est_tri.proofs.Rails.{IsRail, rail_met, and_false}
+use Rattle.est_tri.proofs.Rails.{IsRail, rail_met}
 use Rattle.grc_tri.specs.LeastSolutions.{Statuses}
 use Rattle.grc_tri.proofs.Formulas.{met_absent}
 use Rattle.grc_tri.proofs.StartedPlaces.{emits}
@@ -74,13 +74,6 @@ deep_emits U (Awake e p) n s d = refl
 
 -- ---- Booleans
 
-emit_bits : (c a b : Bool) → ((c && a) && b) ≡ (c && (b && a))
-emit_bits true true true = refl
-emit_bits true true false = refl
-emit_bits true false true = refl
-emit_bits true false false = refl
-emit_bits false a b = refl
-
 both_bits : (c x y : Bool) → ((c && x) || (c && y)) ≡ (c && (x || y))
 both_bits true x y = refl
 both_bits false x y = refl
@@ -104,17 +97,14 @@ guarded : (g P X : Bool) → (g ≡ true → P ≡ X) → (g ≡ false → X ≡
 guarded true P X f h = f refl
 guarded false P X f h = sym (h refl)
 
-or_same : {a b c d : Bool} → a ≡ c → b ≡ d → (a || b) ≡ (c || d)
-or_same {a} {b} {c} {d} e f = ap (λ x. x || b) e ∙ ap (λ x. c || x) f
-
 -- ---- through a rail
 
 module _ (f : Status → Bool) (r : IsRail f) (L : ℕ → List Layer) (U : Statuses) (o : OffLayers L U) where
   none : (c : Bool) → false ≡ (c && f Minus)
-  none c = sym (ap (λ b. c && b) r.minus ∙ and_false c)
+  none c = sym (ap (λ b. c && b) r.minus ∙ and-false c)
 
   dead : (c : Bool) {v : Status} → v ≡ Minus → (c && f v) ≡ false
-  dead c e = ap (λ v. c && f v) e ∙ ap (λ b. c && b) r.minus ∙ and_false c
+  dead c e = ap (λ v. c && f v) e ∙ ap (λ b. c && b) r.minus ∙ and-false c
 
   two : (c : Bool) (v w : Status) → ((c && f v) || (c && f w)) ≡ (c && f (disjunction v w))
   two c v w = both_bits c (f v) (f w) ∙ ap (λ b. c && b) (sym (r.some v w))
@@ -128,7 +118,7 @@ module _ (f : Status → Bool) (r : IsRail f) (L : ℕ → List Layer) (U : Stat
   hide : (c : Bool) (x s : ℕ) (v : Status) → ((c && not (x == s)) && f v) ≡ (c && f (where_met (not (s == x)) v))
   hide c x s v =
       hide_bits c (x == s) (f v)
-      ∙ ap (λ b. c && (f v && not b)) (eqb_flip x s)
+      ∙ ap (λ b. c && (f v && not b)) (eqb-turned x s)
       ∙ ap (λ b. c && b) (sym (rail_met f r (not (s == x)) v))
 
   pub started_emitted : (w : Wire) (s : ℕ) (c : Bool) (t : Term) (B : Scope) (g : Layer → Formula) (n x : ℕ) (a : Liveness) → Agrees L a t n → x ≤ n →
@@ -138,7 +128,7 @@ module _ (f : Status → Bool) (r : IsRail f) (L : ℕ → List Layer) (U : Stat
   started_emitted w s c Pause B g n x a ag i k h e = none c
   started_emitted w s c (Emit y) B g n x a ag i k h e =
       let v = U (Go n (Started x)) in
-      ap (λ b. b && f v) (e.each y) ∙ emit_bits c (y == s) (f v) ∙ ap (λ b. c && (f v && b)) (eqb_flip y s)
+      ap (λ b. b && f v) (e.each y) ∙ and-moved c (y == s) (f v) ∙ ap (λ b. c && (f v && b)) (eqb-turned y s)
       ∙ ap (λ b. c && b) (sym (rail_met f r (s == y) v))
   started_emitted w s c (Exit y) B g n x a ag i k h e = none c
   started_emitted w s c (Present y p q) B g n x a ag i k h e =
@@ -146,7 +136,7 @@ module _ (f : Status → Bool) (r : IsRail f) (L : ℕ → List Layer) (U : Stat
       let t = Present y p q in
       let b = part_liveness a p in
       let d = part_liveness a q in
-      or_same
+      or-equal
       (started_emitted w s c p B _ (n + 1) x b (first_agrees L a b d t p q n refl (λ j. refl) ag) (omega arith) k.0 (fresh_more n (n + 1) (omega arith) h) e)
       (started_emitted w s c q B _ m x d (second_agrees L a b d t p q n refl (λ j. refl) ag) (omega arith) k.1 (fresh_more n m (omega arith) h) e)
       ∙ two c (emits U p (n + 1) (Started x) s) (emits U q m (Started x) s)
@@ -159,7 +149,7 @@ module _ (f : Status → Bool) (r : IsRail f) (L : ℕ → List Layer) (U : Stat
       let b = part_liveness a p in
       let d = second_liveness a p q m in
       let agq = second_agrees L a b d t p q n refl (λ j. refl) ag in
-      or_same
+      or-equal
       (started_emitted w s c p B _ (n + 1) x b (first_agrees L a b d t p q n refl (λ j. refl) ag) (omega arith) k.0 (fresh_more n (n + 1) (omega arith) h) e)
       (guarded (started_codes p 0) _ (c && f (emits U q m (Started x) s))
       (λ z. started_emitted w s c q B _ m x d agq (omega arith) k.1 (fresh_more n m (omega arith) h) e)
@@ -174,7 +164,7 @@ module _ (f : Status → Bool) (r : IsRail f) (L : ℕ → List Layer) (U : Stat
       let t = Par p q in
       let b = part_liveness a p in
       let d = part_liveness a q in
-      or_same
+      or-equal
       (started_emitted w s c p B _ (n + 1) x b (first_agrees L a b d t p q n refl (λ j. refl) ag) (omega arith) k.0 (fresh_more n (n + 1) (omega arith) h) e)
       (started_emitted w s c q B _ m x d (second_agrees L a b d t p q n refl (λ j. refl) ag) (omega arith) k.1 (fresh_more n m (omega arith) h) e)
       ∙ two c (emits U p (n + 1) (Started x) s) (emits U q m (Started x) s)
@@ -193,7 +183,7 @@ module _ (f : Status → Bool) (r : IsRail f) (L : ℕ → List Layer) (U : Stat
   live_part a x i e = ap (λ b. b && x) i ∙ e
 
   dead_part : (a : Liveness) (x : Bool) → x ≡ false → (a.resumed && x) ≡ false
-  dead_part a x e = ap (λ b. a.resumed && b) e ∙ and_false a.resumed
+  dead_part a x e = ap (λ b. a.resumed && b) e ∙ and-false a.resumed
 
   -- the two parts of a statement, in which nothing is entered
   two_emitted : (w : Wire) (s : ℕ) (c : Bool) (p q : Term) (B : Scope) (g j : Layer → Formula) (n : ℕ) (a : Liveness) →
@@ -206,7 +196,7 @@ module _ (f : Status → Bool) (r : IsRail f) (L : ℕ → List Layer) (U : Stat
       ≡ (c && f (disjunction (resumed_emits U p (n + 1) s) (resumed_emits U q (n + 1 + statement_count p) s)))
   two_emitted w s c p q B g j n a ap1 aq i low u v =
       let m = n + 1 + statement_count p in
-      or_same
+      or-equal
       (guarded (has_code (resumed_codes p)) _ (c && f (resumed_emits U p (n + 1) s)) u
       (λ z. dead c (deep_emits U p (n + 1) s
       (deep_quiet L U o (part_liveness a p) p (n + 1) ap1 (dead_part a _ z) (low_more a.roots n (n + 1) (omega arith) low)))))
@@ -257,11 +247,11 @@ module _ (f : Status → Bool) (r : IsRail f) (L : ℕ → List Layer) (U : Stat
       let agq = second_agrees L a b d t p q n refl (λ j. refl) ag in
       let lowq = low_second a p q n m (omega arith) low in
       let am = above_more B n m (omega arith) ab in
-      or_same
+      or-equal
       (only_emitted w s c p B _ n a agp low
       (λ z. resumed_emitted w s c p B _ (n + 1) b agp (live_part a _ i z) (low_more a.roots n (n + 1) (omega arith) low) z k.0
       (fresh_more n (n + 1) (omega arith) h) (above_more B n (n + 1) (omega arith) ab) e))
-      (or_same
+      (or-equal
       (guarded (can_pass p && has_code (resumed_codes q)) _ (c && f (resumed_emits U q m s))
       (λ z. resumed_emitted w s c q B _ m d agq (live_part a _ i z) lowq (and_parts (can_pass p) _ z).1 k.1 (fresh_more n m (omega arith) h) am e)
       (λ z. dead c (deep_emits U q m s (deep_quiet L U o d q m agq (dead_part a _ z) lowq))))
@@ -275,7 +265,7 @@ module _ (f : Status → Bool) (r : IsRail f) (L : ℕ → List Layer) (U : Stat
       let agp = only_agrees L a b (Loop at p) p n refl (λ j. refl) ag in
       let lowp = low_loop a p n low in
       let am = above_more B n (n + 1) (omega arith) ab in
-      or_same
+      or-equal
       (guarded (has_code (resumed_codes p)) _ (c && f (resumed_emits U p (n + 1) s))
       (λ z. resumed_emitted w s c p B _ (n + 1) b agp (live_part a _ i z) lowp z k (fresh_more n (n + 1) (omega arith) h) am e)
       (λ z. dead c (deep_emits U p (n + 1) s (deep_quiet L U o b p (n + 1) agp (dead_part a _ z) lowp))))

@@ -2,6 +2,7 @@
 use Rattle.std.proofs.Common.{◌≡◌, ℕ, zero, suc, ◌<◌, Bool, true, false, ◌&&◌, ◌||◌, ◌==◌, cond, List, [], ◌∷◌, ◌++◌, refl, sym, ap, ◌∙◌}
 use Rattle.est_kernel.specs.Terms.{Expression, Tick, Sig, Not, And, Or, Term}
 use Rattle.est_kernel.specs.Statuses.{Status, Plus, Minus, Unknown, Environment, with_status, known, value, opposite, conjunction, disjunction}
+use Rattle.est_kernel.proofs.Statuses.{disjunction-minus}
 use Rattle.grc_graph.specs.Layers.{Layer, Resumed, Started, layer_above}
 use Rattle.grc_graph.specs.Scopes.{Binding, Entering, Outgoing, BoundAt, Unbound, Scope, bind}
 use Rattle.grc_graph.specs.Wires.{Wire, Go, StatusOf, End, Out}
@@ -9,11 +10,12 @@ use Rattle.grc_graph.specs.Formulas.{Formula, Value, any_of, meaning}
 use Rattle.grc_graph.specs.Spots.{Spot, status_formula, test_formula}
 use Rattle.grc_graph.specs.Equations.{part_end, emits_on, emissions}
 use Rattle.grc_graph.specs.Walk.{State, Values}
-use Rattle.grc_solutions.proofs.Binders.{Above, layer_above-restarted}
+use Rattle.grc_solutions.proofs.Binders.{Above}
 use Rattle.grc_sem.proofs.Ranks.{has_value, TestInScope}
 use Rattle.grc_sem.proofs.Emissions.{emitted}
 use Rattle.est_tri.specs.TriWalks.{where_met, tri_upto}
 use Rattle.est_tri.proofs.Rails.{IsRail}
+use Rattle.grc_graph.proofs.LiveInstances.{above_behind}
 use Rattle.grc_tri.specs.LeastSolutions.{Statuses, upto_status, kleene_reading}
 
 -- ---- statuses
@@ -21,11 +23,6 @@ use Rattle.grc_tri.specs.LeastSolutions.{Statuses, upto_status, kleene_reading}
 pub met_absent : (b : Bool) → where_met b Minus ≡ Minus
 met_absent true = refl
 met_absent false = refl
-
-pub or_absent : (v : Status) → disjunction v Minus ≡ v
-or_absent Plus = refl
-or_absent Minus = refl
-or_absent Unknown = refl
 
 pub or_three : (u v w : Status) → disjunction (disjunction u v) w ≡ disjunction u (disjunction v w)
 or_three Plus v w = refl
@@ -68,7 +65,7 @@ module _ (body : Term) (q : State) (given : Values) (U : Statuses) where
   pub any_meaning : (fs : List Formula) → val (any_of fs) ≡ or_all fs
   unfolding or_all
   any_meaning [] = refl
-  any_meaning (a ∷ []) = sym (or_absent (val a))
+  any_meaning (a ∷ []) = sym (disjunction-minus (val a))
   any_meaning (a ∷ (b ∷ fs)) = ap (λ v. disjunction (val a) v) (any_meaning (b ∷ fs))
 
   pub or_append : (xs ys : List Formula) → or_all (xs ++ ys) ≡ disjunction (or_all xs) (or_all ys)
@@ -78,7 +75,7 @@ module _ (body : Term) (q : State) (given : Values) (U : Statuses) where
 
   pub if_meaning : (c : Bool) (a : Formula) → or_all (cond c (a ∷ []) []) ≡ where_met c (val a)
   unfolding or_all
-  if_meaning true a = or_absent (val a)
+  if_meaning true a = disjunction-minus (val a)
   if_meaning false a = refl
 
   pub part_meaning : (A : ℕ → Bool) (c : ℕ) (l : Layer) (k : ℕ) → or_all (part_end A c l k) ≡ where_met (A k) (U (End c l k))
@@ -128,7 +125,7 @@ module _ (body : Term) (q : State) (given : Values) (U : Statuses) where
   root_sees : (b : Binding) (s m : ℕ) → ((c : ℕ) → b ≡ BoundAt c → c < m) → seen_status b s Resumed ≡ seen_status b s (Started m)
   root_sees Entering s m h = refl
   root_sees Outgoing s m h = refl
-  root_sees (BoundAt b) s m h = ap (λ j. U (StatusOf b j)) (sym (layer_above-restarted b m (h b refl)))
+  root_sees (BoundAt b) s m h = ap (λ j. U (StatusOf b j)) (sym (above_behind b m (h b refl)))
   root_sees Unbound s m h = refl
 
   -- at a root of its own

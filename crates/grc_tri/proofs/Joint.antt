@@ -7,11 +7,13 @@ use Rattle.std.specs.Prelude.{slice_get}
 use Rattle.std.specs.List.{range_with_len}
 use Rattle.std.proofs.lemmas.List.{get_or_past}
 use Rattle.std.proofs.lemmas.Bool.{cases_Bool, false≢true, cond-true, cond-false, lt-ltb, ltb-true, cond_both}
+use Rattle.facts.proofs.Lists.{Every}
 use Rattle.est_kernel.specs.Terms.{Term, Nothing}
 use Rattle.est_kernel.specs.Statuses.{Status, Plus, Minus, Unknown, Environment, known, environment_of, status_of_input, status_of_other, disjunction}
 use Rattle.est_kernel.specs.StaticCodes.{has_code, resumed_codes, NoInstantLoop}
 use Rattle.est_kernel.specs.Reactions.{is_given, open_signals}
 use Rattle.est_kernel.specs.Laws.{IsBelow, KnowsMore}
+use Rattle.est_kernel.proofs.Statuses.{below_meets, disjunction_below, knows_self}
 use Rattle.grc_graph.specs.Layers.{Resumed, Started}
 use Rattle.grc_graph.specs.Scopes.{Binding, Entering, Outgoing, Unbound}
 use Rattle.grc_graph.specs.Wires.{Out, Go}
@@ -19,19 +21,19 @@ use Rattle.grc_graph.specs.Residuals.{holds, left_if, residual}
 use Rattle.grc_graph.specs.Walk.{State, Initial, Selecting, remaining, is_initial}
 use Rattle.grc_graph.specs.Selected.{HasExitCodes, IsState}
 use Rattle.grc_sem.specs.GraphWalks.{selected_of}
-use Rattle.grc_solutions.proofs.Lists.{Every}
 use Rattle.grc_solutions.proofs.ProgramGraphs.{range_has}
 use Rattle.grc_sem.proofs.Ranks.{InScope}
 use Rattle.grc_sem.proofs.Residues.{resumed_live, residual_static}
 use Rattle.grc_sem.proofs.ReactWalks.{InPart, scope_part, enters, goes_out, unbound, given_value, input_known, other_given, given_from, get_from}
-use Rattle.grc_sem.proofs.Tops.{nothing_held, state_reach}
+use Rattle.grc_sem.proofs.Tops.{state_reach}
 use Rattle.est_tri.specs.TriWalks.{Tri, tri_idle, tri_either, tri}
 use Rattle.est_tri.specs.Settled.{solved, EachOnce}
 use Rattle.est_tri.specs.KnownPlaces.{Known}
 use Rattle.est_tri.proofs.Walks.{silent_walk}
-use Rattle.est_tri.proofs.Monotone.{below_equal, below_meets, disjunction_below, knows_self}
+use Rattle.est_tri.proofs.Monotone.{below_equal}
 use Rattle.est_tri.proofs.Solving.{solved_off, solved_meets, solved_least}
 use Rattle.est_tri.proofs.Steps.{idle_known}
+use Rattle.grc_graph.proofs.Holding.{holds-false}
 use Rattle.grc_tri.specs.LeastSolutions.{Statuses}
 use Rattle.grc_tri.proofs.ResumedWalks.{resumed_tri, KnownResumed, silent, left_walk, left_known, known_left, quiet_known, either_left}
 use Rattle.grc_tri.proofs.StartedPlaces.{emits, Follows, below_to, to_below, above, Under, under_emits, stays_under}
@@ -58,7 +60,7 @@ body_tri q body F = tri_either (resumed_tri (selected_of q) body 0 (resumes q bo
 pub rest_signals : (q : State) (body : Term) → IsState q body → (F : Environment) (t : ℕ) →
     (tri (remaining q body) Plus F).signals t ≡ (body_tri q body F).signals t
 rest_signals Initial body s F t =
-    sym (ap (λ b. (tri_either (resumed_tri (λ m. false) body 0 (known b) F) (tri body Plus F)).signals t) (nothing_held body 0)
+    sym (ap (λ b. (tri_either (resumed_tri (λ m. false) body 0 (known b) F) (tri body Plus F)).signals t) (holds-false body 0)
     ∙ ap (λ a. (tri_either a (tri body Plus F)).signals t) (silent (λ m. false) body 0 F))
 rest_signals (Selecting S) body s F t = by (holds S body 0) refl
   where
@@ -77,7 +79,7 @@ pub rest_known : (q : State) (body : Term) → IsState q body → (F : Environme
     Known body (starts q) F × KnownResumed (selected_of q) body 0 (resumes q body) F
 rest_known Initial body s F k = (
   k,
-  subst (λ b. KnownResumed (λ m. false) body 0 (known b) F) (sym (nothing_held body 0)) (quiet_known (λ m. false) body 0 F),
+  subst (λ b. KnownResumed (λ m. false) body 0 (known b) F) (sym (holds-false body 0)) (quiet_known (λ m. false) body 0 F),
 )
 rest_known (Selecting S) body s F k = (idle_known body F, by (holds S body 0) refl k)
   where

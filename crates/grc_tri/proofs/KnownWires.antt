@@ -7,6 +7,7 @@ use Rattle.std.proofs.lemmas.Bool.{cases_Bool}
 use Rattle.std.proofs.lemmas.List.Elements.{All-contains, Contains-get_or}
 use Rattle.est_base.specs.Codes.{upto}
 use Rattle.est_kernel.specs.Statuses.{Status, Plus, Minus, Unknown, known, opposite, conjunction, disjunction}
+use Rattle.est_kernel.proofs.Statuses.{conjunction-known, disjunction-known, opposite-known}
 use Rattle.grc_graph.specs.Wires.{Wire, End}
 use Rattle.grc_graph.specs.Formulas.{Formula, Const, Boot, Input, Value, Selected, Upto, Kept, Held, Negation, Conjunction, Disjunction}
 use Rattle.grc_graph.specs.Equations.{Equation}
@@ -21,7 +22,6 @@ use Rattle.est_tri.specs.KnownPlaces as statuses
 use Rattle.grc_tri.specs.LeastSolutions.{IsKnown, Statuses, TriSolves, is_plus, true_wires, upto_status}
 use Rattle.grc_tri.specs.Laws.{AcyclicKnown}
 use Rattle.grc_tri.proofs.StartedPlaces.{known_conjunction, known_disjunction}
-use Rattle.grc_tri.proofs.StepsLeft.{not_known, and_known, or_known}
 use Rattle.grc_tri.proofs.Stages.{status}
 
 -- a status that is known, as a truth value
@@ -60,7 +60,7 @@ known_up A (suc k) f = known_disjunction (upto_status A k) (A (suc k)) (known_up
 upto_known : (A : ℕ → Status) (B : ℕ → Bool) (k : ℕ) → ((j : ℕ) → A j ≡ known (B j)) → upto_status A k ≡ known (upto B k)
 upto_known A B zero f = f 0
 upto_known A B (suc k) f =
-    ap (λ v. disjunction v (A (suc k))) (upto_known A B k f) ∙ ap (λ v. disjunction (known (upto B k)) v) (f (suc k)) ∙ or_known (upto B k) (B (suc k))
+    ap (λ v. disjunction v (A (suc k))) (upto_known A B k f) ∙ ap (λ v. disjunction (known (upto B k)) v) (f (suc k)) ∙ disjunction-known (upto B k) (B (suc k))
 
 module _ (g : PlainGraph) (q : State) (event : List Bool) where
   -- a formula is known where what it reads is
@@ -91,13 +91,13 @@ module _ (g : PlainGraph) (q : State) (event : List Bool) where
   same_meaning P T V f (Upto n l k) h = upto_known (λ j. T (End n l j)) (λ j. V (End n l j)) k (λ j. f (End n l j))
   same_meaning P T V f (Kept n l) h = absurd h
   same_meaning P T V f (Held n l) h = absurd h
-  same_meaning P T V f (Negation a) h = ap opposite (same_meaning P T V f a h) ∙ not_known _
+  same_meaning P T V f (Negation a) h = ap opposite (same_meaning P T V f a h) ∙ opposite-known _
   same_meaning P T V f (Conjunction a b) h =
       ap (λ v. conjunction v (status g q event T b)) (same_meaning P T V f a h.0)
-      ∙ ap (λ v. conjunction (known (formula_value g q event V a)) v) (same_meaning P T V f b h.1) ∙ and_known _ _
+      ∙ ap (λ v. conjunction (known (formula_value g q event V a)) v) (same_meaning P T V f b h.1) ∙ conjunction-known _ _
   same_meaning P T V f (Disjunction a b) h =
       ap (λ v. disjunction v (status g q event T b)) (same_meaning P T V f a h.0)
-      ∙ ap (λ v. disjunction (known (formula_value g q event V a)) v) (same_meaning P T V f b h.1) ∙ or_known _ _
+      ∙ ap (λ v. disjunction (known (formula_value g q event V a)) v) (same_meaning P T V f b h.1) ∙ disjunction-known _ _
 
   -- so the wires that are true solve the graph
   pub known_solves : (P : Equation → Wire → Type 0) → ((e : Equation) → Contains g.equations e → ReadsOnly (P e) e.formula) → (T : Statuses) →

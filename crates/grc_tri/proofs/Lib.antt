@@ -1,5 +1,4 @@
 mod Examples
-mod Equations
 pub mod Stages
 pub mod ResumedWalks
 pub mod StartedPlaces
@@ -22,3 +21,4 @@ pub mod Joint
 pub mod KnownWires
 pub mod Reactions
 pub mod Runs
+mod worked

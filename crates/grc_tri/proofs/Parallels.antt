@@ -7,6 +7,7 @@ use Rattle.est_base.specs.Codes.{maxima}
 use Rattle.est_kernel.specs.Terms.{Term}
 use Rattle.est_kernel.specs.Statuses.{Status, Minus, known, opposite, conjunction, disjunction}
 use Rattle.est_kernel.specs.StaticCodes.{has_code, branch_codes}
+use Rattle.est_kernel.proofs.Statuses.{disjunction-minus}
 use Rattle.grc_graph.specs.Layers.{Resumed}
 use Rattle.grc_graph.specs.Wires.{Go, End}
 use Rattle.grc_graph.specs.Formulas.{Value, Selected, Upto, Conjunction, any_of}
@@ -15,7 +16,7 @@ use Rattle.grc_graph.specs.Walk.{State, Values}
 use Rattle.grc_graph.specs.Readings.{state_holds_at}
 use Rattle.est_tri.specs.TriWalks.{where_met, tri_upto, tri_maxima}
 use Rattle.grc_tri.specs.LeastSolutions.{Statuses, upto_status}
-use Rattle.grc_tri.proofs.Formulas.{val, or_all, or_append, if_meaning, two_meaning, or_absent, met_absent, met_same, upto_same}
+use Rattle.grc_tri.proofs.Formulas.{val, or_all, or_append, if_meaning, two_meaning, met_absent, met_same, upto_same}
 use Rattle.grc_tri.proofs.ResumedWalks.{over_codes}
 use Rattle.grc_tri.proofs.StartedPlaces.{ends}
 use Rattle.grc_tri.proofs.ResumedPlaces.{over_ends, ParallelEnds}
@@ -26,18 +27,18 @@ over_none g zero = refl
 over_none g (suc k) =
     ap (λ v. disjunction v (where_met ((suc k) == 0) g)) (over_none g k)
     ∙ ap (λ b. disjunction g (where_met b g)) (ne_eqb (suc k) 0 (λ e. omega arith))
-    ∙ or_absent g
+    ∙ disjunction-minus g
 
 upto_over : (h c : Bool) (g : Status) (A : ℕ → Status) (k : ℕ) → (h ≡ true → c ≡ true) →
     disjunction (where_met c (conjunction (known h) (tri_upto A k))) (disjunction (conjunction (opposite (known h)) g) Minus) ≡ tri_upto (over_codes h g A) k
-upto_over true true g A k f = or_absent (tri_upto A k)
+upto_over true true g A k f = disjunction-minus (tri_upto A k)
 upto_over true false g A k f = absurd (false≢true (f refl))
-upto_over false true g A k f = or_absent g ∙ sym (over_none g k)
-upto_over false false g A k f = or_absent g ∙ sym (over_none g k)
+upto_over false true g A k f = disjunction-minus g ∙ sym (over_none g k)
+upto_over false false g A k f = disjunction-minus g ∙ sym (over_none g k)
 
 end_over : (h c z : Bool) (g x : Status) → Dead c x →
     disjunction (where_met c (conjunction (known h) x)) (where_met z (conjunction (opposite (known h)) g)) ≡ cond h x (where_met z g)
-end_over true c z g x d = ap (λ v. disjunction (where_met c x) v) (met_absent z) ∙ or_absent (where_met c x) ∙ met_same c x d
+end_over true c z g x d = ap (λ v. disjunction (where_met c x) v) (met_absent z) ∙ disjunction-minus (where_met c x) ∙ met_same c x d
 end_over false c z g x d = ap (λ v. disjunction v (where_met z g)) (met_absent c)
 
 -- the codes of a branch
@@ -66,7 +67,7 @@ module _ (body : Term) (q : State) (given : Values) (U : Statuses) where
       two_meaning body q given U (cond (has_code A) (own ∷ []) []) (over ∷ [])
       ∙ ap (λ v. disjunction v (or_all body q given U (over ∷ []))) (if_meaning body q given U (has_code A) own)
       ∙ ap (λ v. disjunction (where_met (has_code A) (val body q given U own)) v)
-      (if_meaning body q given U true over ∙ sym (or_absent (val body q given U over)))
+      (if_meaning body q given U true over ∙ sym (disjunction-minus (val body q given U over)))
       ∙ ap (λ b. disjunction (where_met (has_code A) (conjunction (known b) (upto_status (ends U c Resumed) k)))
       (disjunction (conjunction (opposite (known b)) (U (Go n Resumed))) Minus)) e
       ∙ ap (λ v. disjunction (where_met (has_code A) (conjunction (known h) v)) (disjunction (conjunction (opposite (known h)) (U (Go n Resumed))) Minus))

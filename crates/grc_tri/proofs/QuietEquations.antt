@@ -9,7 +9,6 @@ use Rattle.grc_graph.specs.Layers.{Resumed, Started}
 use Rattle.grc_graph.specs.Wires.{Go, StatusOf}
 use Rattle.grc_graph.specs.Residuals.{holds}
 use Rattle.grc_graph.specs.Selected.{HasExitCodes}
-use Rattle.grc_sem.proofs.Meets.{count_some}
 use Rattle.est_tri.specs.TriWalks.{where_met, tri_maxima, tri_lowered}
 use Rattle.grc_tri.specs.LeastSolutions.{Statuses}
 use Rattle.grc_tri.proofs.Formulas.{met_absent}
@@ -20,6 +19,7 @@ use Rattle.grc_tri.proofs.Quiet.{DeepQuiet, quiet_only, quiet_second, deep_only,
 use Rattle.grc_tri.proofs.Emitted.{deep_emits}
 use Rattle.grc_tri.proofs.StartedEquations.{minus_maxima, minus_lowered, quiet_follows}
 use mathlib.Core.Path.{fun_ext}
+use Rattle.est_kernel.proofs.PreorderLaws.{statement_count-some}
 
 none_ends : (U : Statuses) (n c m : ℕ) → DeepQuiet U n c → n ≤ m → m < n + c → ends U m Resumed ≡ (λ k. Minus)
 none_ends U n c m d i j = fun_ext (d.resumed.at m i j).2
@@ -39,59 +39,59 @@ deep_follows W U S (Exit y) n E k v u = (v.resumed.at n (omega arith) (omega ari
 deep_follows W U S (Present e p q) n E k v u =
     let m = n + 1 + statement_count p in
     let go = (u.resumed.at n (omega arith) (omega arith)).0 in (
-      (v.resumed.at (n + 1) (omega arith) (omega (arith, count_some p))).0 ∙ sym (ap (λ x. part_go x S p (n + 1)) go),
-      (v.resumed.at m (omega arith) (omega (arith, count_some q))).0 ∙ sym (ap (λ x. part_go x S q m) go),
+      (v.resumed.at (n + 1) (omega arith) (omega (arith, statement_count-some p))).0 ∙ sym (ap (λ x. part_go x S p (n + 1)) go),
+      (v.resumed.at m (omega arith) (omega (arith, statement_count-some q))).0 ∙ sym (ap (λ x. part_go x S q m) go),
       (λ c. (v.resumed.at n (omega arith) (omega arith)).2 c
-          ∙ sym (ap (λ x. disjunction x (ends U m Resumed c)) ((u.resumed.at (n + 1) (omega arith) (omega (arith, count_some p))).2 c)
-          ∙ (u.resumed.at m (omega arith) (omega (arith, count_some q))).2 c)),
+          ∙ sym (ap (λ x. disjunction x (ends U m Resumed c)) ((u.resumed.at (n + 1) (omega arith) (omega (arith, statement_count-some p))).2 c)
+          ∙ (u.resumed.at m (omega arith) (omega (arith, statement_count-some q))).2 c)),
       deep_follows W U S p (n + 1) E k.0 (deep_first n _ _ v) (deep_first n _ _ u),
       deep_follows W U S q m E k.1 (deep_second n _ _ v) (deep_second n _ _ u),
     )
 deep_follows W U S (Suspend e p) n E k v u =
     let go = (u.resumed.at n (omega arith) (omega arith)).0 in (
-      (v.resumed.at (n + 1) (omega arith) (omega (arith, count_some p))).0 ∙ sym (ap (λ x. conjunction x (opposite (value e E))) go),
+      (v.resumed.at (n + 1) (omega arith) (omega (arith, statement_count-some p))).0 ∙ sym (ap (λ x. conjunction x (opposite (value e E))) go),
       (λ c. (v.resumed.at n (omega arith) (omega arith)).2 c
           ∙ sym (ap (λ x. disjunction (where_met (c == 1) (conjunction x (value e E))) (ends U (n + 1) Resumed c)) go
           ∙ ap (λ x. disjunction x (ends U (n + 1) Resumed c)) (met_absent (c == 1))
-          ∙ (u.resumed.at (n + 1) (omega arith) (omega (arith, count_some p))).2 c)),
+          ∙ (u.resumed.at (n + 1) (omega arith) (omega (arith, statement_count-some p))).2 c)),
       deep_follows W U S p (n + 1) E k (deep_only n _ v) (deep_only n _ u),
     )
 deep_follows W U S (Seq p q) n E k v u =
     let m = n + 1 + statement_count p in
     let go = (u.resumed.at n (omega arith) (omega arith)).0 in (
-      (v.resumed.at (n + 1) (omega arith) (omega (arith, count_some p))).0 ∙ sym (ap (λ x. part_go x S p (n + 1)) go),
-      (v.resumed.at m (omega arith) (omega (arith, count_some q))).0 ∙ sym (ap (λ x. part_go x S q m) go),
-      ((v.own m (omega arith)).at m (omega arith) (omega (arith, count_some q))).0
-          ∙ sym ((u.resumed.at (n + 1) (omega arith) (omega (arith, count_some p))).2 0),
+      (v.resumed.at (n + 1) (omega arith) (omega (arith, statement_count-some p))).0 ∙ sym (ap (λ x. part_go x S p (n + 1)) go),
+      (v.resumed.at m (omega arith) (omega (arith, statement_count-some q))).0 ∙ sym (ap (λ x. part_go x S q m) go),
+      ((v.own m (omega arith)).at m (omega arith) (omega (arith, statement_count-some q))).0
+          ∙ sym ((u.resumed.at (n + 1) (omega arith) (omega (arith, statement_count-some p))).2 0),
       (λ c. (v.resumed.at n (omega arith) (omega arith)).2 c
           ∙ sym (ap (λ x. disjunction (disjunction (where_met (not (c == 0)) x) (ends U m (Started m) c)) (ends U m Resumed c))
-          ((u.resumed.at (n + 1) (omega arith) (omega (arith, count_some p))).2 c)
+          ((u.resumed.at (n + 1) (omega arith) (omega (arith, statement_count-some p))).2 c)
           ∙ ap (λ x. disjunction (disjunction x (ends U m (Started m) c)) (ends U m Resumed c)) (met_absent (not (c == 0)))
-          ∙ ap (λ x. disjunction x (ends U m Resumed c)) (((u.own m (omega arith)).at m (omega arith) (omega (arith, count_some q))).2 c)
-          ∙ (u.resumed.at m (omega arith) (omega (arith, count_some q))).2 c)),
+          ∙ ap (λ x. disjunction x (ends U m Resumed c)) (((u.own m (omega arith)).at m (omega arith) (omega (arith, statement_count-some q))).2 c)
+          ∙ (u.resumed.at m (omega arith) (omega (arith, statement_count-some q))).2 c)),
       deep_follows W U S p (n + 1) E k.0 (deep_first n _ _ v) (deep_first n _ _ u),
       deep_follows W U S q m E k.1 (deep_second n _ _ v) (deep_second n _ _ u),
       quiet_follows W U q m (Started m) E k.1 (quiet_second n _ _ (v.own m (omega arith))) (quiet_second n _ _ (u.own m (omega arith))),
     )
 deep_follows W U S (Loop at p) n E k v u = (
-  (v.resumed.at (n + 1) (omega arith) (omega (arith, count_some p))).0 ∙ sym (u.resumed.at n (omega arith) (omega arith)).0,
-  ((v.own (n + 1) (omega arith)).at (n + 1) (omega arith) (omega (arith, count_some p))).0
-      ∙ sym ((u.resumed.at (n + 1) (omega arith) (omega (arith, count_some p))).2 0),
+  (v.resumed.at (n + 1) (omega arith) (omega (arith, statement_count-some p))).0 ∙ sym (u.resumed.at n (omega arith) (omega arith)).0,
+  ((v.own (n + 1) (omega arith)).at (n + 1) (omega arith) (omega (arith, statement_count-some p))).0
+      ∙ sym ((u.resumed.at (n + 1) (omega arith) (omega (arith, statement_count-some p))).2 0),
   (λ c. (v.resumed.at n (omega arith) (omega arith)).2 c
       ∙ sym (ap (λ x. disjunction (where_met (not (c == 0)) x) (ends U (n + 1) (Started (n + 1)) c))
-      ((u.resumed.at (n + 1) (omega arith) (omega (arith, count_some p))).2 c)
+      ((u.resumed.at (n + 1) (omega arith) (omega (arith, statement_count-some p))).2 c)
       ∙ ap (λ x. disjunction x (ends U (n + 1) (Started (n + 1)) c)) (met_absent (not (c == 0)))
-      ∙ ((u.own (n + 1) (omega arith)).at (n + 1) (omega arith) (omega (arith, count_some p))).2 c)),
+      ∙ ((u.own (n + 1) (omega arith)).at (n + 1) (omega arith) (omega (arith, statement_count-some p))).2 c)),
   deep_follows W U S p (n + 1) E k (deep_only n _ v) (deep_only n _ u),
   quiet_follows W U p (n + 1) (Started (n + 1)) E k (quiet_only n _ (v.own (n + 1) (omega arith))) (quiet_only n _ (u.own (n + 1) (omega arith))),
 )
 deep_follows W U S (Par p q) n E k v u =
     let m = n + 1 + statement_count p in
     let go = (u.resumed.at n (omega arith) (omega arith)).0 in
-    let ep = none_ends U n _ (n + 1) u (omega arith) (omega (arith, count_some p)) in
-    let eq = none_ends U n _ m u (omega arith) (omega (arith, count_some q)) in (
-      (v.resumed.at (n + 1) (omega arith) (omega (arith, count_some p))).0 ∙ sym (ap (λ x. part_go x S p (n + 1)) go),
-      (v.resumed.at m (omega arith) (omega (arith, count_some q))).0 ∙ sym (ap (λ x. part_go x S q m) go),
+    let ep = none_ends U n _ (n + 1) u (omega arith) (omega (arith, statement_count-some p)) in
+    let eq = none_ends U n _ m u (omega arith) (omega (arith, statement_count-some q)) in (
+      (v.resumed.at (n + 1) (omega arith) (omega (arith, statement_count-some p))).0 ∙ sym (ap (λ x. part_go x S p (n + 1)) go),
+      (v.resumed.at m (omega arith) (omega (arith, statement_count-some q))).0 ∙ sym (ap (λ x. part_go x S q m) go),
       (λ c. inl ((v.resumed.at n (omega arith) (omega arith)).2 c
           ∙ sym (ap (λ A. tri_maxima A (over_ends U (holds S q m) n m) c) (over_none U (holds S p (n + 1)) n (n + 1) go ep)
           ∙ ap (λ A. tri_maxima (λ j. Minus) A c) (over_none U (holds S q m) n m go eq)
@@ -100,14 +100,14 @@ deep_follows W U S (Par p q) n E k v u =
       deep_follows W U S q m E k.1 (deep_second n _ _ v) (deep_second n _ _ u),
     )
 deep_follows W U S (Trap p) n E k v u = (
-  (v.resumed.at (n + 1) (omega arith) (omega (arith, count_some p))).0 ∙ sym (u.resumed.at n (omega arith) (omega arith)).0,
+  (v.resumed.at (n + 1) (omega arith) (omega (arith, statement_count-some p))).0 ∙ sym (u.resumed.at n (omega arith) (omega arith)).0,
   (λ c. (v.resumed.at n (omega arith) (omega arith)).2 c
-      ∙ sym (ap (λ A. tri_lowered A c) (none_ends U n _ (n + 1) u (omega arith) (omega (arith, count_some p))) ∙ minus_lowered c)),
+      ∙ sym (ap (λ A. tri_lowered A c) (none_ends U n _ (n + 1) u (omega arith) (omega (arith, statement_count-some p))) ∙ minus_lowered c)),
   deep_follows W U S p (n + 1) E k (deep_only n _ v) (deep_only n _ u),
 )
 deep_follows W U S (Local s p) n E k v u = (
-  (v.resumed.at (n + 1) (omega arith) (omega (arith, count_some p))).0 ∙ sym (u.resumed.at n (omega arith) (omega arith)).0,
-  (λ c. (v.resumed.at n (omega arith) (omega arith)).2 c ∙ sym ((u.resumed.at (n + 1) (omega arith) (omega (arith, count_some p))).2 c)),
+  (v.resumed.at (n + 1) (omega arith) (omega (arith, statement_count-some p))).0 ∙ sym (u.resumed.at n (omega arith) (omega arith)).0,
+  (λ c. (v.resumed.at n (omega arith) (omega arith)).2 c ∙ sym ((u.resumed.at (n + 1) (omega arith) (omega (arith, statement_count-some p))).2 c)),
   (v.resumed.at n (omega arith) (omega arith)).1 ∙ sym (deep_emits U p (n + 1) s (deep_only n _ u)),
   deep_follows W U S p (n + 1) (with_status E s (U (StatusOf n Resumed))) k (deep_only n _ v) (deep_only n _ u),
 )

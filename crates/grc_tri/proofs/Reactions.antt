@@ -6,6 +6,7 @@ use Rattle.std.specs.Prelude.{Contains}
 use Rattle.std.specs.List.{flat_map, range_with_len}
 use Rattle.std.proofs.lemmas.Bool.{cases_Bool, both_ways, false_from_ne_true}
 use Rattle.std.proofs.lemmas.List.Elements.{All-contains}
+use Rattle.facts.proofs.Lists.{Every, every-append}
 use Rattle.est_kernel.specs.Plain.{Program, interface_of, interface_count, outgoing_count, given_count}
 use Rattle.est_kernel.specs.Terms.{Term, Nothing, Pause, Emit, Exit, Present, Suspend, Seq, Loop, Par, Trap, Local, Awake}
 use Rattle.est_kernel.specs.Statuses.{Plus, Minus, Unknown, Environment, known}
@@ -17,6 +18,7 @@ use Rattle.est_kernel.specs.WellFormed.{IsWellFormed}
 use Rattle.est_kernel.specs.WellFormed as programs
 use Rattle.est_kernel.specs.Laws.{IsBelow, KnowsMore}
 use Rattle.est_kernel.proofs.RunLaws as runs
+use Rattle.est_kernel.proofs.StepLaws.{same_step}
 use Rattle.grc_graph.specs.Layers.{Layer, Resumed, Started, body_layers, body_liveness}
 use Rattle.grc_graph.specs.Wires.{Wire, Out, Go, End, listed, instance_codes}
 use Rattle.grc_graph.specs.Spots.{Spot, body_entry}
@@ -35,7 +37,7 @@ use Rattle.grc_graph.specs.GraphRuns.{graph_of, Solves, shown, next_state}
 use Rattle.grc_graph.proofs.LiveLayers.{body_agrees}
 use Rattle.grc_sem.specs.GraphWalks.{selected_of, graph_walk, program_values, SelectsLeaves, shown_code}
 use Rattle.grc_solutions.specs.GraphWires.{equation_wires, program_wires, program_edges, Differ}
-use Rattle.grc_solutions.proofs.Lists.{Every, every_append, every_left, every_right, every_map, every_flat_map, every_contained, every_at, every_both}
+use Rattle.grc_solutions.proofs.Lists.{every_left, every_right, every_map, every_flat_map, every_contained, every_at, every_both}
 use Rattle.grc_solutions.proofs.Lists.{every_from, every_of_all}
 use Rattle.grc_solutions.proofs.Lists.{every_listed}
 use Rattle.grc_solutions.proofs.Pairwise.{every_mapped, every_flat, listed_every}
@@ -52,7 +54,7 @@ use Rattle.grc_sem.proofs.Runs.{program_kernel}
 use Rattle.grc_sem.proofs.Instants.{code_shown, next_residual}
 use Rattle.grc_sem.proofs.WalkSolves.{range_bounds}
 use Rattle.grc_sem.proofs.Residues.{resumed_live}
-use Rattle.grc_sem.proofs.Tops.{state_reach, nothing_held}
+use Rattle.grc_sem.proofs.Tops.{state_reach}
 use Rattle.grc_sem.proofs.Kept.{Same}
 use Rattle.est_tri.specs.Settled.{EachOnce, EachMeets}
 use Rattle.est_tri.specs.KnownPlaces.{Known}
@@ -60,6 +62,7 @@ use Rattle.est_tri.specs.KnownPlaces as statuses
 use Rattle.est_tri.proofs.Solving.{settle_known, settle_solved}
 use Rattle.est_tri.proofs.Monotone.{below_equal}
 use Rattle.est_tri.proofs.Steps.{step_known, known_step, step_walk_signals}
+use Rattle.grc_graph.proofs.Holding.{holds-false}
 use Rattle.grc_tri.specs.LeastSolutions.{IsKnown, IsLeast, Statuses, is_plus, true_wires}
 use Rattle.grc_tri.specs.Laws.{LeastIsThere, KnownReacts, ReactsKnown}
 use Rattle.grc_tri.proofs.Stages.{Stage, least_kept, least_is_kept, next, next_at, next_off, start, start_on, start_off}
@@ -75,7 +78,7 @@ use Rattle.grc_tri.proofs.Rows as rows
 use Rattle.grc_tri.proofs.Firsts.{New, first_started, first_resumed, deep_under}
 use Rattle.grc_tri.proofs.Bodies as bodies
 use Rattle.grc_tri.proofs.Outgoing.{each_kept, kept_at, map_range}
-use Rattle.grc_tri.proofs.StepsLeft.{Valued, some_same, started_left, resumed_left}
+use Rattle.grc_tri.proofs.StepsLeft.{Valued, started_left, resumed_left}
 use Rattle.grc_tri.proofs.Joint.{starts, resumes, rest_known, known_rest, rest_loops, Stays}
 use Rattle.grc_tri.proofs.Joint as joint
 
@@ -167,7 +170,7 @@ module _ (T : Statuses) (all : List Spot) where
   known_rows : (x : Spot) → WiresKnown T x → Every KnownRow (instance_equations all x)
   known_rows x m = (
     m.go,
-    every_append KnownRow (instance_status all x.statement x.path x.layer) _ (status_rows x.statement x.path x.layer m.status)
+    every-append KnownRow (instance_status all x.statement x.path x.layer) _ (status_rows x.statement x.path x.layer m.status)
         (every_mapped KnownRow (λ k. record { wire = End x.path x.layer k; formula = end_formula x.scope x.statement x.path x.layer k })
         (listed (instance_codes x.statement x.layer))
         (listed_every _ (instance_codes x.statement x.layer) (λ k u e. m.ends k))),
@@ -185,7 +188,7 @@ module _ (T : Statuses) (V : Valuation) (known_all : (w : Wire) → T w ≡ know
       (a.code ≡ (body_walk (coherence.statuses V) q body v).code) × (a.residual ≡ resumption (body_walk (coherence.statuses V) q body v).kept body)
   step_of_state Initial body k state v E F f g go re m val a e =
       let s = started_left T V known_all body 0 (Started 0) v E F k f go m val (a, e) in
-      let same : a ≡ s.done = some_same a s.done (sym e ∙ s.is) in
+      let same : a ≡ s.done = same_step a s.done (sym e ∙ s.is) in
       (ap (λ y. y.code) same ∙ s.code, ap (λ y. y.residual) same ∙ s.left _ (same_kept _ 0 _))
   step_of_state (Selecting S) body k state v E F f g go re m val a e = by (holds S body 0) refl e
     where
@@ -194,12 +197,12 @@ module _ (T : Statuses) (V : Valuation) (known_all : (w : Wire) → T w ≡ know
           × (a.residual ≡ resumption (cond h (resumed_walk (coherence.statuses V) S body 0 v) (walks.ended 0)).kept body)
       by true h e =
           let s = resumed_left T V known_all S body 0 v E F k g h (state h) (re ∙ ap known h) m val (a, e) in
-          let same : a ≡ s.done = some_same a s.done (sym e ∙ s.is) in
+          let same : a ≡ s.done = same_step a s.done (sym e ∙ s.is) in
           (ap (λ y. y.code) same ∙ s.code, ap (λ y. y.residual) same ∙ s.left _ (same_kept _ 0 _))
       by false h e =
-          let same : a ≡ steps.ended 0 = some_same a (steps.ended 0) (sym e) in (
+          let same : a ≡ steps.ended 0 = same_step a (steps.ended 0) (sym e) in (
             ap (λ y. y.code) same,
-            ap (λ y. y.residual) same ∙ sym (ap (λ b. left_if b (residual (λ m. false) body 0)) (nothing_held body 0)),
+            ap (λ y. y.residual) same ∙ sym (ap (λ b. left_if b (residual (λ m. false) body 0)) (holds-false body 0)),
           )
 
 -- ---- a program in a state and an event
@@ -389,7 +392,7 @@ module _ (p : Program) (q : State) (event : List Bool) (formed : IsWellFormed p)
 
       rows_known : Every (λ e. statuses.IsKnown (T e.wire)) es
       rows_known =
-          every_append (λ e. statuses.IsKnown (T e.wire)) (map (output_equation (given_count p) all) (range_with_len p.inputs outs))
+          every-append (λ e. statuses.IsKnown (T e.wire)) (map (output_equation (given_count p) all) (range_with_len p.inputs outs))
           (flat_map (instance_equations all) all)
           (every_mapped (λ e. statuses.IsKnown (T e.wire)) (output_equation (given_count p) all) (range_with_len p.inputs outs)
           (every_from (λ o. (p.inputs ≤ o) × (o < p.inputs + outs)) (λ o. statuses.IsKnown (T (Out o))) (range_with_len p.inputs outs)

@@ -9,6 +9,7 @@ use Rattle.est_kernel.specs.Preorder.{statement_count}
 use Rattle.est_kernel.specs.StaticCodes.{codes_if, has_code, started_codes, resumed_codes, branch_codes, instant_loops, NoInstantLoop}
 use Rattle.est_kernel.proofs.Sets.{except-parts, upto-in, upto-parts, lowered-parts}
 use Rattle.est_base.specs.Codes.{except, either, lowered, maxima}
+use Rattle.est_kernel.proofs.PreorderLaws.{statement_count-some}
 use Rattle.grc_graph.specs.Layers.{Layer, Resumed, Started, Liveness, part_liveness, second_liveness, loop_liveness, can_pass}
 use Rattle.grc_graph.specs.Scopes.{Scope, bind}
 use Rattle.grc_graph.specs.Wires.{Go, StatusOf, End}
@@ -29,7 +30,7 @@ use Rattle.grc_sem.proofs.Ranks.{InScope}
 use Rattle.grc_sem.proofs.Bridge.{resumed_any}
 use Rattle.grc_sem.proofs.Emissions.{emission, whole_only, whole_first, whole_second}
 use Rattle.grc_sem.proofs.OwnStatus.{local_own, resumed_emissions}
-use Rattle.grc_sem.proofs.Meets.{head_started, head_resumed, own_fresh, own_shows, count_some, code_lives, Finds, finds_only, finds_first}
+use Rattle.grc_sem.proofs.Meets.{head_started, head_resumed, own_fresh, own_shows, code_lives, Finds, finds_only, finds_first}
 use Rattle.grc_sem.proofs.Meets.{finds_second, finds_self}
 use Rattle.grc_sem.proofs.Meets.{low_second, root_own}
 use Rattle.est_tri.specs.TriWalks.{where_met}
@@ -144,7 +145,7 @@ module _ (body : Term) (q : State) (given : Values) (W U : Statuses) (all : List
     deepU z = deep_quiet L U offU b p c ag (off z) low
 
     at_head : (T : Statuses) → DeepQuiet T c (statement_count p) → AllMinus T c Resumed
-    at_head T d = d.resumed.at c (omega arith) (omega (arith, count_some p))
+    at_head T d = d.resumed.at c (omega arith) (omega (arith, statement_count-some p))
 
     part_entered : (gd ≡ true → W (Go c Resumed) ≡ conjunction (U (Go n Resumed)) (known (picks c))) → W (Go c Resumed) ≡ part_go (U (Go n Resumed)) S p c
     part_entered f =
@@ -171,12 +172,12 @@ module _ (body : Term) (q : State) (given : Values) (W U : Statuses) (all : List
     quietU z = start_quiet L U offU m b p m ag (rootless z) (λ i. omega arith)
 
     own_entered : Dead gd (ends U c Resumed 0) → (gd ≡ true → W (Go m (Started m)) ≡ ends U c Resumed 0) → W (Go m (Started m)) ≡ ends U c Resumed 0
-    own_entered d f = either_way gd f (λ z. ((quietW z).at m (omega arith) (omega (arith, count_some p))).0 ∙ sym (d z))
+    own_entered d f = either_way gd f (λ z. ((quietW z).at m (omega arith) (omega (arith, statement_count-some p))).0 ∙ sym (d z))
 
     own_dead : (j : ℕ) → Dead (gd && started_codes p j) (U (End m (Started m) j))
     own_dead j =
         dead_own gd (started_codes p j) (U (End m (Started m) j)) (λ z. (head_started N B g p m (Started m) k (each z)).dead j)
-        (λ z. ((quietU z).at m (omega arith) (omega (arith, count_some p))).2 j)
+        (λ z. ((quietU z).at m (omega arith) (omega (arith, statement_count-some p))).2 j)
       where
         dead_own : (c d : Bool) (v : Status) → (c ≡ true → Dead d v) → (c ≡ false → v ≡ Minus) → Dead (c && d) v
         dead_own true d v f g e = f refl e
@@ -217,7 +218,7 @@ module _ (body : Term) (q : State) (given : Values) (W U : Statuses) (all : List
   part_next n c p b gd E B g nl k ag off low each lives found f h = record {
     entered = part_entered n c p b gd B g nl k ag off low each lives found f;
     dead = part_dead n c p b gd B g nl k ag off low each lives found;
-    quiet = λ z j. ((deepU n c p b gd B g nl k ag off low each lives found z).resumed.at c (omega arith) (omega (arith, count_some p))).2 j;
+    quiet = λ z j. ((deepU n c p b gd B g nl k ag off low each lives found z).resumed.at c (omega arith) (omega (arith, statement_count-some p))).2 j;
     follows = part_follows n c p b gd B g nl k ag off low each lives found E h;
   }
 

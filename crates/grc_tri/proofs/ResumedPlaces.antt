@@ -4,16 +4,17 @@ use Rattle.est_kernel.specs.Terms.{Term, Nothing, Pause, Emit, Exit, Present, Su
 use Rattle.est_kernel.specs.Statuses.{Status, Minus, Unknown, Environment, with_status, known, value, opposite, conjunction, disjunction}
 use Rattle.est_kernel.specs.Preorder.{statement_count}
 use Rattle.est_kernel.specs.Laws.{IsBelow, KnowsMore}
+use Rattle.est_kernel.proofs.Statuses.{below_self, conjunction-minus, conjunction_below, disjunction_below, knows_self, value_below, with_status-more}
 use Rattle.grc_graph.specs.Layers.{Resumed, Started}
 use Rattle.grc_graph.specs.Wires.{Go, StatusOf}
 use Rattle.grc_graph.specs.Residuals.{holds}
 use Rattle.est_tri.specs.TriWalks.{Tri, where_met, tri_idle, tri_maxima, tri_lowered}
 use Rattle.est_tri.specs.Laws.{Below}
-use Rattle.est_tri.proofs.Monotone.{below_self, below_itself, met_below, with_status-more, knows_self, conjunction_below, disjunction_below}
-use Rattle.est_tri.proofs.Monotone.{choice_below, value_below, lowered_below, walk_below, completes_below, either_below, in_turn_below, together_below}
+use Rattle.est_tri.proofs.Monotone.{below_itself, met_below}
+use Rattle.est_tri.proofs.Monotone.{choice_below, lowered_below, walk_below, completes_below, either_below, in_turn_below, together_below}
 use Rattle.est_tri.proofs.Monotone.{trapped_below, hidden_below, settles_at_once}
 use Rattle.grc_tri.specs.LeastSolutions.{Statuses}
-use Rattle.grc_tri.proofs.ResumedWalks.{over_codes, tri_branch, part_go, resumed_tri, resumed_decided, silent, conjunction_minus}
+use Rattle.grc_tri.proofs.ResumedWalks.{over_codes, tri_branch, part_go, resumed_tri, resumed_decided, silent}
 use Rattle.grc_tri.proofs.StartedPlaces.{emits, ends, Follows, below_to, to_below, maxima_below, above, Under, under_ends, under_emits}
 use Rattle.grc_tri.proofs.StartedPlaces.{stays_under}
 
@@ -156,7 +157,7 @@ FollowsResumed W U S (Awake e p) n E = ⊥
 
 -- a part that holds no selected pause does not run
 pub part_stops : (v : Status) {w : Status} (S : ℕ → Bool) (p : Term) (n : ℕ) → w ≡ part_go v S p n → holds S p n ≡ false → w ≡ Minus
-part_stops v S p n e h = e ∙ ap (λ b. conjunction v (known b)) h ∙ conjunction_minus v
+part_stops v S p n e h = e ∙ ap (λ b. conjunction v (known b)) h ∙ conjunction-minus v
 
 -- where the whole does not run, nothing of it ends
 whole_stops : (S : ℕ → Bool) (t : Term) (n : ℕ) (g : Status) (F : Environment) → IsBelow g Minus → (k : ℕ) → IsBelow ((resumed_tri S t n g F).codes k) Minus
@@ -319,7 +320,7 @@ part_ends : (U : Statuses) (S : ℕ → Bool) (t : Term) (n : ℕ) (g : Status) 
 part_ends U S t n g F u = (under_here U S t n g F u).1
 
 pub part_silent : (S : ℕ → Bool) (p : Term) (n : ℕ) (g : Status) → holds S p n ≡ false → part_go g S p n ≡ Minus
-part_silent S p n g h = ap (λ b. conjunction g (known b)) h ∙ conjunction_minus g
+part_silent S p n g h = ap (λ b. conjunction g (known b)) h ∙ conjunction-minus g
 
 pub stays_resumed : (W U : Statuses) (S : ℕ → Bool) (t : Term) (n : ℕ) (g : Status) (E F : Environment) → FollowsResumed W U S t n E → KnowsMore E F →
     (holds S t n ≡ false → g ≡ Minus) → UnderResumed U S t n g F → IsBelow (W (Go n Resumed)) g → UnderResumed W S t n g F

@@ -5,6 +5,7 @@ use Rattle.std.proofs.lemmas.Bool.{false≢true}
 use Rattle.est_kernel.specs.Terms.{Term, Nothing, Pause, Emit, Exit, Present, Suspend, Seq, Loop, Par, Trap, Local, Awake}
 use Rattle.est_kernel.specs.Statuses.{Status, Plus, Minus, Unknown, Environment, with_status, known, value, opposite, conjunction, disjunction}
 use Rattle.est_kernel.specs.Preorder.{statement_count}
+use Rattle.est_kernel.proofs.Statuses.{conjunction-minus, disjunction-minus}
 use Rattle.grc_graph.specs.Residuals.{holds, left_if, residual}
 use Rattle.grc_graph.specs.Selected.{IsSelected}
 use Rattle.est_tri.specs.TriWalks.{Tri, where_met, tri_idle, tri_completes, tri_either, tri_in_turn, tri_upto, tri_together, tri_trapped, tri_lowered}
@@ -12,6 +13,7 @@ use Rattle.est_tri.specs.TriWalks.{tri_hidden, tri, tri_decided}
 use Rattle.est_tri.specs.KnownPlaces.{IsKnown, Known}
 use Rattle.est_tri.proofs.Walks.{silent_walk}
 use Rattle.est_tri.proofs.Steps.{idle_known, known_go}
+use Rattle.grc_tri.proofs.Formulas.{met_absent}
 
 -- the codes of a branch of a parallel: where it holds no selected pause it is over, and counts as code 0
 abbrev pub over_codes : Bool → Status → (ℕ → Status) → ℕ → Status
@@ -105,22 +107,18 @@ lowered_idle (suc (suc k)) = refl
 trapped_idle : tri_trapped tri_idle ≡ tri_idle
 trapped_idle = λ i. record { signals = λ t. Minus; codes = λ k. lowered_idle k i }
 
-met_minus : (b : Bool) → where_met b Minus ≡ Minus
-met_minus true = refl
-met_minus false = refl
-
 completes_idle : (c : ℕ) → tri_completes c Minus ≡ tri_idle
-completes_idle c = λ i. record { signals = λ t. Minus; codes = λ k. met_minus (k == c) i }
+completes_idle c = λ i. record { signals = λ t. Minus; codes = λ k. met_absent (k == c) i }
 
 hidden_idle : (s : ℕ) → tri_hidden s tri_idle ≡ tri_idle
-hidden_idle s = λ i. record { signals = λ t. met_minus (not (t == s)) i; codes = λ k. Minus }
+hidden_idle s = λ i. record { signals = λ t. met_absent (not (t == s)) i; codes = λ k. Minus }
 
 in_turn_idle : tri_in_turn tri_idle tri_idle ≡ tri_idle
-in_turn_idle = λ i. record { signals = λ t. Minus; codes = λ k. ap (λ v. disjunction v Minus) (met_minus (not (k == 0))) i }
+in_turn_idle = λ i. record { signals = λ t. Minus; codes = λ k. ap (λ v. disjunction v Minus) (met_absent (not (k == 0))) i }
 
 over_idle : (h : Bool) (k : ℕ) → over_codes h Minus tri_idle.codes k ≡ Minus
 over_idle true k = refl
-over_idle false k = met_minus (k == 0)
+over_idle false k = met_absent (k == 0)
 
 branch_idle : (h : Bool) → tri_branch h Minus tri_idle ≡ tri_idle
 branch_idle h = λ i. record { signals = λ t. Minus; codes = λ k. over_idle h k i }
@@ -163,27 +161,17 @@ conjunction_plus Plus = refl
 conjunction_plus Minus = refl
 conjunction_plus Unknown = refl
 
-pub conjunction_minus : (g : Status) → conjunction g Minus ≡ Minus
-conjunction_minus Plus = refl
-conjunction_minus Minus = refl
-conjunction_minus Unknown = refl
-
 pub part_on : (g : Status) (S : ℕ → Bool) (p : Term) (n : ℕ) → holds S p n ≡ true → part_go g S p n ≡ g
 part_on g S p n e = ap (λ b. conjunction g (known b)) e ∙ conjunction_plus g
 
 pub part_off : (g : Status) (S : ℕ → Bool) (p : Term) (n : ℕ) → holds S p n ≡ false → part_go g S p n ≡ Minus
-part_off g S p n e = ap (λ b. conjunction g (known b)) e ∙ conjunction_minus g
+part_off g S p n e = ap (λ b. conjunction g (known b)) e ∙ conjunction-minus g
 
 pub idle_part : (S : ℕ → Bool) (p : Term) (n : ℕ) (g : Status) (E : Environment) → holds S p n ≡ false → resumed_tri S p n (part_go g S p n) E ≡ tri_idle
 idle_part S p n g E e = ap (λ v. resumed_tri S p n v E) (part_off g S p n e) ∙ silent S p n E
 
-or_false : (v : Status) → disjunction v Minus ≡ v
-or_false Plus = refl
-or_false Minus = refl
-or_false Unknown = refl
-
 pub either_left : (a : Tri) → tri_either a tri_idle ≡ a
-either_left a = λ i. record { signals = λ t. or_false (a.signals t) i; codes = λ k. or_false (a.codes k) i }
+either_left a = λ i. record { signals = λ t. disjunction-minus (a.signals t) i; codes = λ k. disjunction-minus (a.codes k) i }
 
 -- ---- it is the walk of the residual term
 

@@ -4,6 +4,7 @@ use Rattle.std.proofs.Common.{◌≡◌, ℕ, ◌+◌, true, false, ◌&&◌, �
 use Rattle.std.specs.List.{list_any, flat_map, range_with_len}
 use Rattle.std.proofs.lemmas.List.Folds.{list_any-append}
 use Rattle.std.proofs.lemmas.Bool.{and_parts, or_left, or_right, eqb-true, cond_both, false_from_ne_true, both_ways}
+use Rattle.facts.proofs.Lists.{Every, every-append}
 use Rattle.est_kernel.specs.Statuses.{Minus}
 use Rattle.est_kernel.specs.Terms.{Term, Nothing, Pause, Emit, Exit, Present, Suspend, Seq, Loop, Par, Trap, Local, Awake}
 use Rattle.est_kernel.specs.Preorder.{statement_count}
@@ -18,13 +19,13 @@ use Rattle.grc_graph.specs.Walk.{State, Values}
 use Rattle.grc_graph.specs.Selected.{HasExitCodes}
 use Rattle.grc_graph.proofs.LiveLayers.{body_agrees}
 use Rattle.grc_graph.proofs.CodeBounds.{codes_below-kernel}
-use Rattle.grc_solutions.proofs.Lists.{Every, every_append, every_both, every_left, every_right, every_map, every_flat_map, every_listed, every_from}
+use Rattle.grc_solutions.proofs.Lists.{every_both, every_left, every_right, every_map, every_flat_map, every_listed, every_from}
 use Rattle.grc_solutions.proofs.Each.{spot, EachStarted, EachResumed}
 use Rattle.grc_solutions.proofs.Live.{layered}
-use Rattle.grc_solutions.proofs.Looked.{statement_at, Looked, looked, layers_same}
+use Rattle.grc_solutions.proofs.Looked.{statement_at, Looked, looked}
 use Rattle.grc_sem.proofs.Joint.{dead_in, any_map_none, any_flat_none, any_listed_none}
-use Rattle.grc_sem.proofs.Meets.{same_self}
 use Rattle.est_tri.specs.TriWalks.{where_met}
+use Rattle.grc_graph.proofs.SameWires.{same_layer-self, same_layer-true}
 use Rattle.grc_tri.specs.LeastSolutions.{Statuses}
 use Rattle.grc_tri.proofs.Formulas.{val, any_meaning}
 use Rattle.grc_tri.proofs.Quiet.{lives, OffLayers}
@@ -35,7 +36,7 @@ use Rattle.grc_tri.proofs.StartedEquations.{Next}
 layers_live : (ls : List Layer) → Every (λ l. lives ls l ≡ true) ls
 layers_live [] = tt
 layers_live (l ∷ ls) = (
-  or_left (same_layer l l) (lives ls l) (same_self l),
+  or_left (same_layer l l) (lives ls l) (same_layer-self l),
   every_from (λ j. lives ls j ≡ true) (λ j. lives (l ∷ ls) j ≡ true) ls (λ j e. or_right (same_layer j l) (lives ls j) e) (layers_live ls),
 )
 
@@ -56,21 +57,21 @@ lived L B f Pause n = lived_at L B f Pause n
 lived L B f (Emit s) n = lived_at L B f (Emit s) n
 lived L B f (Exit c) n = lived_at L B f (Exit c) n
 lived L B f (Present e p q) n =
-    every_append (Lived L) (spots_at L B f (Present e p q) n) _ (lived_at L B f (Present e p q) n)
-    (every_append (Lived L) (spots L B _ p (n + 1)) _ (lived L B _ p (n + 1)) (lived L B _ q (n + 1 + statement_count p)))
+    every-append (Lived L) (spots_at L B f (Present e p q) n) _ (lived_at L B f (Present e p q) n)
+    (every-append (Lived L) (spots L B _ p (n + 1)) _ (lived L B _ p (n + 1)) (lived L B _ q (n + 1 + statement_count p)))
 lived L B f (Suspend e p) n =
-    every_append (Lived L) (spots_at L B f (Suspend e p) n) _ (lived_at L B f (Suspend e p) n) (lived L B _ p (n + 1))
+    every-append (Lived L) (spots_at L B f (Suspend e p) n) _ (lived_at L B f (Suspend e p) n) (lived L B _ p (n + 1))
 lived L B f (Seq p q) n =
-    every_append (Lived L) (spots_at L B f (Seq p q) n) _ (lived_at L B f (Seq p q) n)
-    (every_append (Lived L) (spots L B _ p (n + 1)) _ (lived L B _ p (n + 1)) (lived L B _ q (n + 1 + statement_count p)))
-lived L B f (Loop at p) n = every_append (Lived L) (spots_at L B f (Loop at p) n) _ (lived_at L B f (Loop at p) n) (lived L B _ p (n + 1))
+    every-append (Lived L) (spots_at L B f (Seq p q) n) _ (lived_at L B f (Seq p q) n)
+    (every-append (Lived L) (spots L B _ p (n + 1)) _ (lived L B _ p (n + 1)) (lived L B _ q (n + 1 + statement_count p)))
+lived L B f (Loop at p) n = every-append (Lived L) (spots_at L B f (Loop at p) n) _ (lived_at L B f (Loop at p) n) (lived L B _ p (n + 1))
 lived L B f (Par p q) n =
-    every_append (Lived L) (spots_at L B f (Par p q) n) _ (lived_at L B f (Par p q) n)
-    (every_append (Lived L) (spots L B _ p (n + 1)) _ (lived L B _ p (n + 1)) (lived L B _ q (n + 1 + statement_count p)))
-lived L B f (Trap p) n = every_append (Lived L) (spots_at L B f (Trap p) n) _ (lived_at L B f (Trap p) n) (lived L B _ p (n + 1))
+    every-append (Lived L) (spots_at L B f (Par p q) n) _ (lived_at L B f (Par p q) n)
+    (every-append (Lived L) (spots L B _ p (n + 1)) _ (lived L B _ p (n + 1)) (lived L B _ q (n + 1 + statement_count p)))
+lived L B f (Trap p) n = every-append (Lived L) (spots_at L B f (Trap p) n) _ (lived_at L B f (Trap p) n) (lived L B _ p (n + 1))
 lived L B f (Local s p) n =
-    every_append (Lived L) (spots_at L B f (Local s p) n) _ (lived_at L B f (Local s p) n) (lived L (bind B s n) _ p (n + 1))
-lived L B f (Awake e p) n = every_append (Lived L) (spots_at L B f (Awake e p) n) _ (lived_at L B f (Awake e p) n) (lived L B _ p (n + 1))
+    every-append (Lived L) (spots_at L B f (Local s p) n) _ (lived_at L B f (Local s p) n) (lived L (bind B s n) _ p (n + 1))
+lived L B f (Awake e p) n = every-append (Lived L) (spots_at L B f (Awake e p) n) _ (lived_at L B f (Awake e p) n) (lived L B _ p (n + 1))
 
 -- ---- the wires of a place where nothing is live are none of an instance's
 
@@ -82,7 +83,7 @@ module _ (all : List Spot) (L : ℕ → List Layer) (n : ℕ) (l : Layer) (out :
   apart =
       false_from_ne_true _
       (λ h. let c = and_parts (n == y.path) (same_layer l y.layer) h in
-      elsewhere (sym (eqb-true n y.path c.0)) (sym (layers_same l y.layer c.1)))
+      elsewhere (sym (eqb-true n y.path c.0)) (sym (same_layer-true l y.layer c.1)))
 
   abbrev end_rows : Term → List Equation
   end_rows t = map (λ i. record { wire = End y.path y.layer i; formula = end_formula y.scope t y.path y.layer i }) (listed (instance_codes t y.layer))

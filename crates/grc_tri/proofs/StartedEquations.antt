@@ -8,6 +8,7 @@ use Rattle.est_kernel.specs.Statuses.{Status, Minus, Environment, with_status, v
 use Rattle.est_kernel.specs.Preorder.{statement_count}
 use Rattle.est_kernel.specs.StaticCodes.{codes_if, started_codes, instant_loops, NoInstantLoop}
 use Rattle.est_base.specs.Codes.{except, either, maxima, lowered}
+use Rattle.est_kernel.proofs.PreorderLaws.{statement_count-some}
 use Rattle.grc_graph.specs.Layers.{Layer, Resumed, Started, Liveness, part_liveness, second_liveness, loop_liveness, same_layer}
 use Rattle.grc_graph.specs.Scopes.{Scope, bind}
 use Rattle.grc_graph.specs.Wires.{Go, StatusOf, End, instance_codes}
@@ -19,16 +20,18 @@ use Rattle.grc_graph.specs.Selected.{HasExitCodes}
 use Rattle.grc_graph.proofs.LiveLayers.{Agrees, only_agrees, first_agrees, second_agrees}
 use Rattle.grc_solutions.proofs.Each.{EachStarted}
 use Rattle.grc_solutions.proofs.Live.{Root, root_left, root_given}
-use Rattle.grc_solutions.proofs.Binders.{Above, above_more, above_bind, layer_above-started}
+use Rattle.grc_solutions.proofs.Binders.{Above, above_more, above_bind}
 use Rattle.grc_sem.proofs.Residues.{no_loops-right, loop_body}
 use Rattle.grc_sem.proofs.Places.{no_loops-left}
 use Rattle.grc_sem.proofs.Ranks.{InScope}
 use Rattle.grc_sem.proofs.Emissions.{Whole, whole_only, whole_first, whole_second}
 use Rattle.grc_sem.proofs.OwnStatus.{local_own, started_emissions}
-use Rattle.grc_sem.proofs.Meets.{head_started, own_fresh, own_shows, same_self, count_some}
+use Rattle.grc_sem.proofs.Meets.{head_started, own_fresh, own_shows}
 use Rattle.est_tri.specs.TriWalks.{where_met, tri_upto, tri_maxima, tri_lowered}
 use Rattle.est_tri.specs.Laws.{sure, possible}
 use Rattle.est_tri.proofs.Rails.{IsRail, sure_rail, possible_rail, same_rails}
+use Rattle.grc_graph.proofs.LiveInstances.{above_within}
+use Rattle.grc_graph.proofs.SameWires.{same_layer-self}
 use Rattle.grc_tri.specs.LeastSolutions.{Statuses, upto_status}
 use Rattle.grc_tri.proofs.Formulas.{val, or_all, any_meaning, part_meaning, two_meaning, test_meaning, SeesStatuses, sees_more, rail_emissions}
 use Rattle.grc_tri.proofs.Formulas.{met_absent, upto_same}
@@ -71,55 +74,55 @@ quiet_follows W U (Present e p q) n l E k v u =
     let up = quiet_first n _ _ u in
     let vq = quiet_second n _ _ v in
     let uq = quiet_second n _ _ u in (
-      (v.at (n + 1) (omega arith) (omega (arith, count_some p))).0 ∙ sym (ap (λ x. conjunction x (value e E)) go),
-      (v.at m (omega arith) (omega (arith, count_some q))).0 ∙ sym (ap (λ x. conjunction x (opposite (value e E))) go),
+      (v.at (n + 1) (omega arith) (omega (arith, statement_count-some p))).0 ∙ sym (ap (λ x. conjunction x (value e E)) go),
+      (v.at m (omega arith) (omega (arith, statement_count-some q))).0 ∙ sym (ap (λ x. conjunction x (opposite (value e E))) go),
       (λ c. (v.at n (omega arith) (omega arith)).2 c
-          ∙ sym (ap (λ x. disjunction x (ends U m l c)) ((u.at (n + 1) (omega arith) (omega (arith, count_some p))).2 c)
-          ∙ (u.at m (omega arith) (omega (arith, count_some q))).2 c)),
+          ∙ sym (ap (λ x. disjunction x (ends U m l c)) ((u.at (n + 1) (omega arith) (omega (arith, statement_count-some p))).2 c)
+          ∙ (u.at m (omega arith) (omega (arith, statement_count-some q))).2 c)),
       quiet_follows W U p (n + 1) l E k.0 vp up,
       quiet_follows W U q m l E k.1 vq uq,
     )
 quiet_follows W U (Suspend e p) n l E k v u = (
-  (v.at (n + 1) (omega arith) (omega (arith, count_some p))).0 ∙ sym (u.at n (omega arith) (omega arith)).0,
-  (λ c. (v.at n (omega arith) (omega arith)).2 c ∙ sym ((u.at (n + 1) (omega arith) (omega (arith, count_some p))).2 c)),
+  (v.at (n + 1) (omega arith) (omega (arith, statement_count-some p))).0 ∙ sym (u.at n (omega arith) (omega arith)).0,
+  (λ c. (v.at n (omega arith) (omega arith)).2 c ∙ sym ((u.at (n + 1) (omega arith) (omega (arith, statement_count-some p))).2 c)),
   quiet_follows W U p (n + 1) l E k (quiet_only n _ v) (quiet_only n _ u),
 )
 quiet_follows W U (Seq p q) n l E k v u =
     let m = n + 1 + statement_count p in (
-      (v.at (n + 1) (omega arith) (omega (arith, count_some p))).0 ∙ sym (u.at n (omega arith) (omega arith)).0,
-      (v.at m (omega arith) (omega (arith, count_some q))).0 ∙ sym ((u.at (n + 1) (omega arith) (omega (arith, count_some p))).2 0),
+      (v.at (n + 1) (omega arith) (omega (arith, statement_count-some p))).0 ∙ sym (u.at n (omega arith) (omega arith)).0,
+      (v.at m (omega arith) (omega (arith, statement_count-some q))).0 ∙ sym ((u.at (n + 1) (omega arith) (omega (arith, statement_count-some p))).2 0),
       (λ c. (v.at n (omega arith) (omega arith)).2 c
-          ∙ sym (ap (λ x. disjunction (where_met (not (c == 0)) x) (ends U m l c)) ((u.at (n + 1) (omega arith) (omega (arith, count_some p))).2 c)
+          ∙ sym (ap (λ x. disjunction (where_met (not (c == 0)) x) (ends U m l c)) ((u.at (n + 1) (omega arith) (omega (arith, statement_count-some p))).2 c)
           ∙ ap (λ x. disjunction x (ends U m l c)) (met_absent (not (c == 0)))
-          ∙ (u.at m (omega arith) (omega (arith, count_some q))).2 c)),
+          ∙ (u.at m (omega arith) (omega (arith, statement_count-some q))).2 c)),
       quiet_follows W U p (n + 1) l E k.0 (quiet_first n _ _ v) (quiet_first n _ _ u),
       quiet_follows W U q m l E k.1 (quiet_second n _ _ v) (quiet_second n _ _ u),
     )
 quiet_follows W U (Loop at p) n l E k v u = (
-  (v.at (n + 1) (omega arith) (omega (arith, count_some p))).0 ∙ sym (u.at n (omega arith) (omega arith)).0,
-  (λ c. (v.at n (omega arith) (omega arith)).2 c ∙ sym ((u.at (n + 1) (omega arith) (omega (arith, count_some p))).2 c)),
+  (v.at (n + 1) (omega arith) (omega (arith, statement_count-some p))).0 ∙ sym (u.at n (omega arith) (omega arith)).0,
+  (λ c. (v.at n (omega arith) (omega arith)).2 c ∙ sym ((u.at (n + 1) (omega arith) (omega (arith, statement_count-some p))).2 c)),
   quiet_follows W U p (n + 1) l E k (quiet_only n _ v) (quiet_only n _ u),
 )
 quiet_follows W U (Par p q) n l E k v u =
     let m = n + 1 + statement_count p in (
-      (v.at (n + 1) (omega arith) (omega (arith, count_some p))).0 ∙ sym (u.at n (omega arith) (omega arith)).0,
-      (v.at m (omega arith) (omega (arith, count_some q))).0 ∙ sym (u.at n (omega arith) (omega arith)).0,
+      (v.at (n + 1) (omega arith) (omega (arith, statement_count-some p))).0 ∙ sym (u.at n (omega arith) (omega arith)).0,
+      (v.at m (omega arith) (omega (arith, statement_count-some q))).0 ∙ sym (u.at n (omega arith) (omega arith)).0,
       (λ c. (v.at n (omega arith) (omega arith)).2 c
-          ∙ sym (ap (λ A. tri_maxima A (ends U m l) c) (minus_ends U l n _ (n + 1) u (omega arith) (omega (arith, count_some p)))
-          ∙ ap (λ A. tri_maxima (λ j. Minus) A c) (minus_ends U l n _ m u (omega arith) (omega (arith, count_some q)))
+          ∙ sym (ap (λ A. tri_maxima A (ends U m l) c) (minus_ends U l n _ (n + 1) u (omega arith) (omega (arith, statement_count-some p)))
+          ∙ ap (λ A. tri_maxima (λ j. Minus) A c) (minus_ends U l n _ m u (omega arith) (omega (arith, statement_count-some q)))
           ∙ minus_maxima c)),
       quiet_follows W U p (n + 1) l E k.0 (quiet_first n _ _ v) (quiet_first n _ _ u),
       quiet_follows W U q m l E k.1 (quiet_second n _ _ v) (quiet_second n _ _ u),
     )
 quiet_follows W U (Trap p) n l E k v u = (
-  (v.at (n + 1) (omega arith) (omega (arith, count_some p))).0 ∙ sym (u.at n (omega arith) (omega arith)).0,
+  (v.at (n + 1) (omega arith) (omega (arith, statement_count-some p))).0 ∙ sym (u.at n (omega arith) (omega arith)).0,
   (λ c. (v.at n (omega arith) (omega arith)).2 c
-      ∙ sym (ap (λ A. tri_lowered A c) (minus_ends U l n _ (n + 1) u (omega arith) (omega (arith, count_some p))) ∙ minus_lowered c)),
+      ∙ sym (ap (λ A. tri_lowered A c) (minus_ends U l n _ (n + 1) u (omega arith) (omega (arith, statement_count-some p))) ∙ minus_lowered c)),
   quiet_follows W U p (n + 1) l E k (quiet_only n _ v) (quiet_only n _ u),
 )
 quiet_follows W U (Local s p) n l E k v u = (
-  (v.at (n + 1) (omega arith) (omega (arith, count_some p))).0 ∙ sym (u.at n (omega arith) (omega arith)).0,
-  (λ c. (v.at n (omega arith) (omega arith)).2 c ∙ sym ((u.at (n + 1) (omega arith) (omega (arith, count_some p))).2 c)),
+  (v.at (n + 1) (omega arith) (omega (arith, statement_count-some p))).0 ∙ sym (u.at n (omega arith) (omega arith)).0,
+  (λ c. (v.at n (omega arith) (omega arith)).2 c ∙ sym ((u.at (n + 1) (omega arith) (omega (arith, statement_count-some p))).2 c)),
   (v.at n (omega arith) (omega arith)).1 ∙ sym (quiet_emits U p (n + 1) l s (quiet_only n _ u)),
   quiet_follows W U p (n + 1) l (with_status E s (U (StatusOf n l))) k (quiet_only n _ v) (quiet_only n _ u),
 )
@@ -201,7 +204,7 @@ module _ (body : Term) (q : State) (given : Values) (W U : Statuses) (all : List
         ∙ local_own (λ u. f (U u)) all L x p B g n y (w f)
         ∙ started_emissions (λ u. f (U u)) all L ap1 x p B (part_entry n) n r k ab agp i
         ∙ started_emitted f rail L U offU (StatusOf n y) x true p (bind B x n) (part_entry n) (n + 1) r ap1 agp (omega arith) k (own_fresh n y)
-        (own_shows B n x y y true ab (ap (λ z. same_layer z y) (layer_above-started n r l) ∙ same_self y))
+        (own_shows B n x y y true ab (ap (λ z. same_layer z y) (above_within n r l) ∙ same_layer-self y))
 
     status_started : (a : Liveness) (x : ℕ) (p : Term) (B : Scope) (g : Layer → Formula) (n r : ℕ) → Agrees L a (Local x p) n → Root r a.roots → r ≤ n →
         HasExitCodes p → Above B n → WholeRails U all L B g (Local x p) n → StatusNext (Local x p) n (Started r) →
@@ -265,7 +268,8 @@ module _ (body : Term) (q : State) (given : Values) (W U : Statuses) (all : List
         let hp = head_started Next B _ p (n + 1) y k.0 x.1 in
         let off = λ (z : started_codes p 0 ≡ false) (T : Statuses) (o : OffLayers L T). start_quiet L T o r d p2 m agq
         (second_root_off r n m a p p2 (omega arith) l z) (λ j. omega arith) in
-        let at = λ (z : started_codes p 0 ≡ false) (T : Statuses) (o : OffLayers L T). (off z T o).at m (omega arith) (omega (arith, count_some p2)) in
+        let at = λ (z : started_codes p 0 ≡ false) (T : Statuses) (o : OffLayers L T).
+        (off z T o).at m (omega arith) (omega (arith, statement_count-some p2)) in
         let deadq : (c : ℕ) → Dead (started_codes p 0 && started_codes p2 c) (U (End m y c)) =
         λ c. dead_second (started_codes p 0) (started_codes p2 c) (U (End m y c)) (λ z. (head_started Next B _ p2 m y k.1 (x.2 z)).dead c)
         (λ z. (at z U offU).2 c) in (
@@ -359,6 +363,6 @@ module _ (body : Term) (q : State) (given : Values) (W U : Statuses) (all : List
           follows_started b p (bind B z n) _ (n + 1) r (with_status E z (U (StatusOf n y))) (only_agrees L a b (Local z p) p n refl (λ j. refl) ag) i
               (omega arith) nl k (sc n) (above_bind B n z ab)
               (λ f. whole_only (λ u. f (U u)) L all B (bind B z n) g _ (Local z p) p n refl refl (λ j z2 o. refl) (w f)) x.1
-              (sees_more body q given U B n z y E (layer_above-started n r l) s),
+              (sees_more body q given U B n z y E (above_within n r l) s),
         )
     follows_started a (Awake e p) B g n r E ag i l nl k sc ab w x s = absurd k

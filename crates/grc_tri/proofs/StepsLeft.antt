@@ -1,14 +1,17 @@
 -- A step of what is left, where there is one, does what the walk does under the values of a solution of which nothing is
 -- unknown: it completes with the walk's code, and leaves what the kept pauses leave. This asks for no rank.
-use Rattle.std.proofs.Common.{◌≡◌, ℕ, ◌+◌, Bool, true, false, not, ◌&&◌, ◌||◌, ◌==◌, cond, Option, Some, None, refl, sym, ap, ◌∙◌}
+use Rattle.std.proofs.Common.{◌≡◌, ℕ, ◌+◌, Bool, true, false, ◌==◌, cond, Option, Some, None, refl, sym, ap, ◌∙◌}
 use Rattle.std.proofs.Common.{subst}
 use Rattle.std.proofs.lemmas.Bool.{eq-eqb, cond_both, cond-false, false≢true, true≢false}
+use Rattle.facts.proofs.Tests.{or-other}
 use Rattle.est_kernel.specs.Terms.{Expression, Tick, Sig, Not, And, Or, Term, Nothing, Pause, Emit, Exit, Present, Suspend, Seq, Loop, Par, Trap, Local, Awake}
 use Rattle.est_kernel.specs.Statuses.{Status, Plus, Minus, Unknown, Environment, with_status, known, value, opposite, conjunction, disjunction}
 use Rattle.est_kernel.specs.Potentials.{decided}
 use Rattle.est_kernel.specs.Preorder.{statement_count}
 use Rattle.est_kernel.specs.Steps.{Step, step, leaving, leaves, chosen_step, loop_step, local_step}
 use Rattle.est_kernel.specs.Laws.{IsBelow, KnowsMore}
+use Rattle.est_kernel.proofs.Statuses.{conjunction-known, disjunction-known, opposite-known, value_below, with_status-more}
+use Rattle.est_kernel.proofs.StepLaws.{same_step}
 use Rattle.grc_graph.specs.Layers.{Layer, Resumed, Started}
 use Rattle.grc_graph.specs.Wires.{Wire, Go, StatusOf}
 use Rattle.grc_graph.specs.Residuals.{holds, left_if, residual}
@@ -17,13 +20,12 @@ use Rattle.grc_graph.specs.Selected.{HasExitCodes, IsSelected}
 use Rattle.grc_graph.specs.Readings.{Valuation}
 use Rattle.grc_graph.specs.Coherence.{statuses}
 use Rattle.grc_sem.proofs.Kept.{only_same, started_keeps, resumed_keeps, keeps_branch}
-use Rattle.grc_sem.proofs.Residues.{or_other}
 use Rattle.grc_sem.proofs.StepWalks.{Stepped, Two, lifted, stepped_only, first_left, second_left, present_step, par_step, trap_left, local_left, awake_step}
 use Rattle.grc_sem.proofs.StepWalks.{seq_step, held_step, branch_step, held_first, held_second}
 use Rattle.est_tri.specs.TriWalks.{tri, tri_decided}
 use Rattle.est_tri.specs.KnownPlaces.{IsKnown}
 use Rattle.est_tri.proofs.Walks.{walk_decides}
-use Rattle.est_tri.proofs.Monotone.{below_equal, value_below, with_status-more}
+use Rattle.est_tri.proofs.Monotone.{below_equal}
 use Rattle.est_tri.proofs.Solving.{known_where}
 use Rattle.est_tri.proofs.Steps.{HasStep, leaves_part, sequence_parts, loop_part, parallel_parts, trap_part, local_part, step_walk_codes}
 use Rattle.grc_tri.specs.LeastSolutions.{Statuses}
@@ -43,29 +45,17 @@ is_value Unknown b k h = absurd k
 pub record Valued (E : Environment) (v : Values) : Type 0 where
   pub each : (s : ℕ) → IsBelow (E s) (known (v s))
 
-pub not_known : (b : Bool) → opposite (known b) ≡ known (not b)
-not_known true = refl
-not_known false = refl
-
-pub and_known : (a b : Bool) → conjunction (known a) (known b) ≡ known (a && b)
-and_known true b = refl
-and_known false b = refl
-
-pub or_known : (a b : Bool) → disjunction (known a) (known b) ≡ known (a || b)
-or_known true b = refl
-or_known false b = refl
-
 -- in the environment of the values a test has its truth
 truth_known : (e : Expression) (v : Values) → value e (λ s. known (v s)) ≡ known (truth e v)
 truth_known Tick v = refl
 truth_known (Sig s) v = refl
-truth_known (Not a) v = ap opposite (truth_known a v) ∙ not_known (truth a v)
+truth_known (Not a) v = ap opposite (truth_known a v) ∙ opposite-known (truth a v)
 truth_known (And a b) v =
     ap (λ x. conjunction x (value b (λ s. known (v s)))) (truth_known a v) ∙ ap (λ x. conjunction (known (truth a v)) x) (truth_known b v)
-    ∙ and_known (truth a v) (truth b v)
+    ∙ conjunction-known (truth a v) (truth b v)
 truth_known (Or a b) v =
     ap (λ x. disjunction x (value b (λ s. known (v s)))) (truth_known a v) ∙ ap (λ x. disjunction (known (truth a v)) x) (truth_known b v)
-    ∙ or_known (truth a v) (truth b v)
+    ∙ disjunction-known (truth a v) (truth b v)
 
 -- a test whose value is known has its truth
 test_is : (e : Expression) (E : Environment) (v : Values) → Valued E v → IsKnown (value e E) → value e E ≡ known (truth e v)
@@ -95,9 +85,6 @@ chosen_first v a b c e h z = subst (λ x. HasStep (chosen_step x a b)) (e ∙ ap
 
 chosen_second : (v : Status) (a b : Option Step) (c : Bool) → v ≡ known c → HasStep (chosen_step v a b) → c ≡ false → HasStep b
 chosen_second v a b c e h z = subst (λ x. HasStep (chosen_step x a b)) (e ∙ ap known z) h
-
-pub some_same : (a b : Step) → Some a ≡ Some b → a ≡ b
-some_same a b e = cc
 
 known_meets : (x y : Status) → IsKnown x → IsBelow x y → x ≡ y
 known_meets Plus y k h = sym h
@@ -161,7 +148,7 @@ module _ (T : Statuses) (V : Valuation) (known_all : (w : Wire) → T w ≡ know
       let r = n + 1 + statement_count p in
       let parts = sequence_parts q (step p F) (step q F) h.0 h.1 in
       let s = started_left p (n + 1) l v E F k.0 f.3 (f.0 ∙ go) m val (parts.0, parts.1) in
-      let same : s.done ≡ parts.0 = some_same s.done parts.0 (sym s.is ∙ parts.1) in
+      let same : s.done ≡ parts.0 = same_step s.done parts.0 (sym s.is ∙ parts.1) in
       let x = above T p (n + 1) l Plus E F f.3 (f.0 ∙ go) m in
       let two : Two p q (Seq p q) n (λ z. Seq z q) = record { count = refl; holding = λ S. refl; leaving_is = λ S. refl } in
       seq_step p q (Seq p q) p n (n + 1) (started_walk Z q r l v) s
@@ -219,7 +206,7 @@ module _ (T : Statuses) (V : Valuation) (known_all : (w : Wire) → T w ≡ know
       (λ c. held_first p q (Present e p q) n (residual S p (n + 1)) two (resumed_keeps Z S p (n + 1) v k.0 c)
       (resumed_left S p (n + 1) v E F k.0 f.3 c (sel.1 c) (f.0 ∙ part_on (T (Go n Resumed)) S p (n + 1) c ∙ go) m val
       (cond_first hp (residual S p (n + 1)) (residual S q r) F c h)))
-      (λ c. let d = or_other _ _ c ho in
+      (λ c. let d = or-other _ _ c ho in
       held_second p q (Present e p q) n (λ z. z) (residual S q r) two (resumed_keeps Z S q r v k.1 d)
       (resumed_left S q r v E F k.1 f.4 d (sel.2 d) (f.1 ∙ part_on (T (Go n Resumed)) S q r d ∙ go) m val
       (cond_second hp (residual S p (n + 1)) (residual S q r) F c h)))
@@ -245,7 +232,7 @@ module _ (T : Statuses) (V : Valuation) (known_all : (w : Wire) → T w ≡ know
       let parts = sequence_parts q (step t F) (step q F) w.0 w.1 in
       let on : T (Go (n + 1) Resumed) ≡ Plus = f.0 ∙ part_on (T (Go n Resumed)) S p (n + 1) c ∙ go in
       let s = resumed_left S p (n + 1) v E F k.0 f.4 c (sel.1 c) on m val (parts.0, parts.1) in
-      let same : s.done ≡ parts.0 = some_same s.done parts.0 (sym s.is ∙ parts.1) in
+      let same : s.done ≡ parts.0 = same_step s.done parts.0 (sym s.is ∙ parts.1) in
       let x = above_resumed T S p (n + 1) Plus E F f.4 (λ z. absurd (true≢false (sym c ∙ z))) on m in
       seq_step t q (Seq p q) p n (n + 1) (started_walk Z q r (Started r) v) s
       (λ z. first_left p q (Seq p q) n (λ u. Seq u q) s.done two s.code s.left (resumed_keeps Z S p (n + 1) v k.0 c))
@@ -261,7 +248,7 @@ module _ (T : Statuses) (V : Valuation) (known_all : (w : Wire) → T w ≡ know
         second_left p q (Seq p q) n (λ j. Seq j q) u.done.residual two u.left (started_keeps Z q r (Started r) v k.1),
       )))
       (λ c.
-      let d = or_other _ _ c ho in
+      let d = or-other _ _ c ho in
       let u = sel.2 d in
       held_second p q (Seq p q) n (λ z. Seq z q) (residual S q r) two (resumed_keeps Z S q r v k.1 d)
       (resumed_left S q r v E F k.1 f.5 d u.1 (f.1 ∙ part_on (T (Go n Resumed)) S q r d ∙ go) m val
@@ -271,7 +258,7 @@ module _ (T : Statuses) (V : Valuation) (known_all : (w : Wire) → T w ≡ know
       let parts = sequence_parts (Loop at p) (step t F) (step (Loop at p) F) h.0 h.1 in
       let on : T (Go (n + 1) Resumed) ≡ Plus = f.0 ∙ go in
       let s = resumed_left S p (n + 1) v E F k f.3 ho sel on m val (parts.0, parts.1) in
-      let same : s.done ≡ parts.0 = some_same s.done parts.0 (sym s.is ∙ parts.1) in
+      let same : s.done ≡ parts.0 = same_step s.done parts.0 (sym s.is ∙ parts.1) in
       let x = above_resumed T S p (n + 1) Plus E F f.3 (λ z. absurd (true≢false (sym ho ∙ z))) on m in
       seq_step t (Loop at p) (Loop at p) p n (n + 1) (started_walk Z p (n + 1) (Started (n + 1)) v) s
       (λ z X u.

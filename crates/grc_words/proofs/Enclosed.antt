@@ -1,8 +1,9 @@
 -- What is kept and held of each statement follows from what is of the statement around it.
-use Rattle.std.proofs.Common.{◌≡◌, ℕ, ◌+◌, ◌<◌, ◌≤◌, Bool, true, false, ◌&&◌, ◌||◌, ◌==◌, nat_lt, cond, Some, None, List, refl, sym, ap, ◌∙◌, subst, ⊎_elim}
+use Rattle.std.proofs.Common.{◌≡◌, ℕ, ◌+◌, ◌<◌, ◌≤◌, Bool, true, false, ◌&&◌, ◌||◌, ◌==◌, nat_lt, cond, Some, None, List, refl, sym, ap, ◌∙◌, subst}
 use Rattle.std.proofs.Common.{arith}
 use Rattle.std.specs.Prelude.{if◌then◌else◌, MatchOption}
-use Rattle.std.proofs.lemmas.Bool.{cases_lt, cases_eq, ne_eqb, eq-eqb, lt-ltb, le-ltb}
+use Rattle.std.proofs.lemmas.Bool.{ne_eqb, eq-eqb, lt-ltb, le-ltb}
+use Rattle.facts.proofs.Tests.{or-false}
 use Rattle.est_base.specs.declared.place.Span.{Span}
 use Rattle.est_kernel.specs.Terms.{Expression, Term, Nothing, Pause, Emit, Exit, Present, Suspend, Seq, Loop, Par, Trap, Local, Awake}
 use Rattle.est_kernel.specs.Plain.{Program, interface_count}
@@ -12,12 +13,14 @@ use Rattle.grc_graph.specs.Readings.{Valuation, kept_at, held_at}
 use Rattle.grc_graph.specs.Rows.{Row, row, rows, row_at, second_of, program_rows}
 use Rattle.grc_graph.specs.Scopes.{Scope, bind, program_scope}
 use Rattle.est_kernel.specs.WellFormed.{IsKernel}
+use Rattle.est_kernel.proofs.PreorderLaws.{statement_count-pos}
 use Rattle.grc_graph.specs.Statements.{Entry, Body, Part, Branch, Then, Else, Suspended, Second, Looped}
 use Rattle.grc_graph.specs.Walk.{Values}
 use Rattle.grc_graph.specs.Wires.{End}
 use Rattle.grc_graph.proofs.CodeReads.{StandsAt, stands_whole}
 use Rattle.grc_graph.proofs.LiveInstances.{above_above}
 use Rattle.grc_graph.proofs.RowSpots.{length-rows, stands_one, stands_first, stands_second, row_read}
+use Rattle.grc_graph.proofs.RowFacts.{one_place, two_places}
 use Rattle.grc_words.specs.Enclosures.{Readings, around, kept_of, held_of, lasts, suspends, IsWithin, IsOutermost, FollowsAround}
 
 -- a statement itself
@@ -34,10 +37,6 @@ kept-self V (Par p q) n l = rw (eq-eqb n n refl) refl
 kept-self V (Trap p) n l = rw (eq-eqb n n refl) refl
 kept-self V (Local s p) n l = rw (eq-eqb n n refl) refl
 kept-self V (Awake e p) n l = refl
-
-or-false : (b : Bool) → (b || false) ≡ b
-or-false true = refl
-or-false false = refl
 
 held-self : (given : Values) (V : Valuation) (B : Scope) (t : Term) (n : ℕ) (l : Layer)
     → held_at given V B t n n l ≡ suspends given V B t n (layer_above n l)
@@ -242,33 +241,11 @@ through-local r B s p n = record {
   held = λ m l low high. not-here m n _ _ low;
 }
 
-pub some-statement : (t : Term) → 0 < statement_count t
-some-statement Nothing = omega arith
-some-statement Pause = omega arith
-some-statement (Emit s) = omega arith
-some-statement (Exit k) = omega arith
-some-statement (Present e p q) = omega arith
-some-statement (Suspend e p) = omega arith
-some-statement (Seq p q) = omega arith
-some-statement (Loop at p) = omega arith
-some-statement (Par p q) = omega arith
-some-statement (Trap p) = omega arith
-some-statement (Local s p) = omega arith
-some-statement (Awake e p) = omega arith
-
 -- a statement that stands in a body: what is held and kept in it, and what the statement around it says of it
 pub record Stands (r : Readings) (W : List Row) (G : Layer → Bool) (a : Liveness) (B : Scope) (x : Entry) (t : Term) (n : ℕ) : Type 0 where
   pub rows_in : StandsAt W n (rows a B x t n)
   pub inside : Inside r G B t n
   pub follows : FollowsAround r W n
-
-pub one_place : (P : ℕ → Type 0) (n k m : ℕ) → P n → ((m : ℕ) → n + 1 ≤ m → m < n + 1 + k → P m) → n ≤ m → m < n + (1 + k) → P m
-one_place P n k m h f le lt = ⊎_elim (λ e. subst P (sym e) h) (λ d. f m (omega (arith, d, le)) (omega arith)) (cases_eq m n)
-
-pub two_places : (P : ℕ → Type 0) (n j k m : ℕ) → P n → ((m : ℕ) → n + 1 ≤ m → m < n + 1 + j → P m) → ((m : ℕ) → n + 1 + j ≤ m → m < n + 1 + j + k → P m)
-    → n ≤ m → m < n + (1 + j + k) → P m
-two_places P n j k m h f g le lt =
-    ⊎_elim (λ e. subst P (sym e) h) (λ d. ⊎_elim (λ l. f m (omega (arith, d, le)) l) (λ l. g m l (omega arith)) (cases_lt m (n + 1 + j))) (cases_eq m n)
 
 -- a part of a statement stands in the body too
 part-stands : (r : Readings) (W : List Row) (G : Layer → Bool) (a b : Liveness) (B C : Scope) (x y : Entry) (t p : Term) (n c : ℕ) → around y ≡ Some n
@@ -277,13 +254,14 @@ part-stands : (r : Readings) (W : List Row) (G : Layer → Bool) (a b : Liveness
 part-stands r W G a b B C x y t p n c enters within s rows_in th =
     let here = row_read W a B x t n s.rows_in in
     let there = row_read W b C y p c rows_in in
-    let law = within-part r G B (row a B x t (second_of t n)) (row b C y p (second_of p c)) n c (some-statement p) within (some-statement t) s.inside th in
+    let law =
+    within-part r G B (row a B x t (second_of t n)) (row b C y p (second_of p c)) n c (statement_count-pos p) within (statement_count-pos t) s.inside th in
     let around_is : IsWithin r (row_at W n) (row_at W c) n c =
     subst (λ z. IsWithin r z (row_at W c) n c) (sym here.same) (subst (λ z. IsWithin r (row a B x t (second_of t n)) z n c) (sym there.same) law) in
     let entry : around (row_at W c).entry ≡ Some n = ap (λ z. around z.entry) there.same ∙ enters in
     record {
       rows_in = rows_in;
-      inside = inside-part r G B C t p n c (some-statement p) within (some-statement t) s.inside th;
+      inside = inside-part r G B C t p n c (statement_count-pos p) within (statement_count-pos t) s.inside th;
       follows = subst (λ o. MatchOption o (IsOutermost r (row_at W c) c) (λ m. IsWithin r (row_at W m) (row_at W c) m c)) (sym entry) around_is;
     }
 

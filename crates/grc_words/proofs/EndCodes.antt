@@ -8,7 +8,8 @@ use Rattle.std.proofs.lemmas.List.{append-nil, take_more}
 use Rattle.std.proofs.lemmas.List.Elements.{All-nil, All-cons, All-head, All-tail, All-append, All-weaker}
 use Rattle.std.proofs.lemmas.List.Folds.{list_any-append}
 use Rattle.est_base.specs.Codes.{upto}
-use Rattle.grc_graph.specs.Wires.{codes_below, listed}
+use Rattle.grc_graph.specs.Wires.{codes_below}
+use Rattle.grc_graph.proofs.CodesBelow.{codes_below-none, codes_below-suc}
 use Rattle.grc_words.specs.WordLaws.{any_from}
 
 -- ---- the front of a list
@@ -25,18 +26,6 @@ front-stops p [] h = refl
 front-stops p (x ∷ xs) h = ap (λ b. if b then 1 + prefix_len p xs else 0) (All-head (λ z. p z ≡ false) x xs h)
 
 -- ---- the codes of a set, below a code and from it on
-
-below-suc : (n : ℕ) (A : ℕ → Bool) → codes_below (suc n) A ≡ codes_below n A ++ (if A n then n ∷ [] else [])
-unfolding codes_below
-below-suc n A = refl
-
-below-none : (A : ℕ → Bool) → codes_below 0 A ≡ []
-unfolding codes_below
-below-none A = refl
-
-pub listed-is : (A : ℕ → Bool) → listed A ≡ codes_below 64 A
-unfolding listed
-listed-is A = refl
 
 abbrev pub Between : ℕ → ℕ → ℕ → Type 0
 Between low high c = (low ≤ c) × (c < high)
@@ -64,7 +53,7 @@ codes-from A low (suc more) (suc high) e =
     let last : List ℕ = if A high then high ∷ [] else [] in
     record {
       rest = r.rest ++ last;
-      whole = below-suc high A ∙ ap (λ l. l ++ last) r.whole ∙ append_assoc (codes_below low A) r.rest last;
+      whole = codes_below-suc high A ∙ ap (λ l. l ++ last) r.whole ∙ append_assoc (codes_below low A) r.rest last;
       between = All-append (Between low (suc high)) r.rest last
           (All-weaker (Between low high) (Between low (suc high)) (λ c h. (h.0, omega (arith, h.1))) r.rest r.between)
           (one-if A low high (A high) (omega arith));
@@ -74,7 +63,7 @@ codes-from A low (suc more) (suc high) e =
 pub codes-below : (A : ℕ → Bool) (n : ℕ) → All (λ c. c < n) (codes_below n A)
 codes-below A n =
     let r = codes-from A 0 n n (omega arith) in
-    let whole : codes_below n A ≡ r.rest = r.whole ∙ ap (λ l. l ++ r.rest) (below-none A) in
+    let whole : codes_below n A ≡ r.rest = r.whole ∙ ap (λ l. l ++ r.rest) (codes_below-none A) in
     subst (All (λ c. c < n)) (sym whole) (All-weaker (Between 0 n) (λ c. c < n) (λ c h. h.1) r.rest r.between)
 
 -- ---- whether some code of at most k is true of
@@ -85,9 +74,9 @@ any-if f n true h = or-false (f n)
 any-if f n false h = sym (h refl)
 
 pub any-below : (f A : ℕ → Bool) (k : ℕ) → ((n : ℕ) → A n ≡ false → f n ≡ false) → list_any f (codes_below (suc k) A) ≡ upto f k
-any-below f A zero h = ap (list_any f) (below-suc 0 A ∙ ap (λ l. l ++ (if A 0 then 0 ∷ [] else [])) (below-none A)) ∙ any-if f 0 (A 0) (h 0)
+any-below f A zero h = ap (list_any f) (codes_below-suc 0 A ∙ ap (λ l. l ++ (if A 0 then 0 ∷ [] else [])) (codes_below-none A)) ∙ any-if f 0 (A 0) (h 0)
 any-below f A (suc k) h =
-    ap (list_any f) (below-suc (suc k) A) ∙ list_any-append f (codes_below (suc k) A) (if A (suc k) then suc k ∷ [] else [])
+    ap (list_any f) (codes_below-suc (suc k) A) ∙ list_any-append f (codes_below (suc k) A) (if A (suc k) then suc k ∷ [] else [])
     ∙ (λ t. any-below f A k h t || any-if f (suc k) (A (suc k)) (h (suc k)) t)
 
 -- nothing is true from 64 on

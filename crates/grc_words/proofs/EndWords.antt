@@ -22,17 +22,18 @@ use Rattle.grc_graph.specs.Readings.{Valuation}
 use Rattle.grc_graph.specs.Wires as names
 use Rattle.grc_graph.specs.Wires.{codes_below, listed, same_wire}
 use Rattle.grc_graph.proofs.WireNames.{below_only}
+use Rattle.grc_graph.proofs.CodesBelow.{listed-below}
+use Rattle.grc_graph.proofs.SameWires.{same_wire-back}
 use Rattle.grc_words.specs.EndLists.{is_no_end_of}
 use Rattle.grc_words.specs.Occasions.{FalseOffWires}
 use Rattle.grc_words.specs.WordLaws.{any_from, is_end_upto}
-use Rattle.grc_words.proofs.EndCodes.{Between, codes-from, codes-below, listed-is, front-passes, front-stops, any-below, any-taken, upto-far}
+use Rattle.grc_words.proofs.EndCodes.{Between, codes-from, codes-below, front-passes, front-stops, any-below, any-taken, upto-far}
 use Rattle.grc_words.proofs.EndPlaces.{EndsAt, codes_at, end-among, ends-at}
-use Rattle.grc_words.proofs.TestSteps.{wire-is}
 
 some-such : (u : names.Wire) (ws : List names.Wire) → list_any (same_wire u) ws ≡ true → Contains ws u
 some-such u [] h = absurd (false≢true h)
 some-such u (w ∷ ws) h = elim (cases_Bool (same_wire u w)) [
-  | inl here ↦ (zero, omega arith, wire-is u w here)
+  | inl here ↦ (zero, omega arith, same_wire-back u w here)
   | inr other ↦
       let r = some-such u ws (ap (λ b. b || list_any (same_wire u) ws) (sym other) ∙ h) in
       (suc r.0, omega (arith, r.1), r.2)
@@ -128,7 +129,7 @@ parted A k f h = elim (cases_lt k 64) [
       record {
         low = codes_below (suc k) A;
         high = r.rest;
-        whole = listed-is A ∙ r.whole;
+        whole = listed-below A ∙ r.whole;
         below = All-weaker (λ c. c < suc k) (λ c. c ≤ k) (λ c q. omega (arith, q)) (codes_below (suc k) A) (codes-below A (suc k));
         above = All-weaker (Between (suc k) 64) (λ c. k < c) (λ c q. omega (arith, q.0)) r.rest r.between;
         any = any-below f A k (λ n none. h n (λ there. false≢true (sym none ∙ in_set n there)));
@@ -139,13 +140,13 @@ parted A k f h = elim (cases_lt k 64) [
         arith,
         q,
         All-contains (λ c. c < 64) (codes_below 64 A) n (codes-below A 64)
-            (subst (λ l. Contains l n) (listed-is A) there),
+            (subst (λ l. Contains l n) (listed-below A) there),
       ))) in
       let at : 63 + (k - 63) ≡ k = omega arith in
       record {
         low = codes_below 64 A;
         high = [];
-        whole = listed-is A ∙ sym (append-nil (codes_below 64 A));
+        whole = listed-below A ∙ sym (append-nil (codes_below 64 A));
         below = All-weaker (λ c. c < 64) (λ c. c ≤ k) (λ c q. omega (arith, q, big)) (codes_below 64 A) (codes-below A 64);
         above = λ n d q. absurd (omega (arith, q));
         any = any-below f A 63 (λ n none. h n (λ there. false≢true (sym none ∙ in_set n there)))
@@ -154,7 +155,7 @@ parted A k f h = elim (cases_lt k 64) [
 ]
   where
     in_set : (n : ℕ) → Contains (listed A) n → A n ≡ true
-    in_set n there = below_only 64 A n (subst (λ l. Contains l n) (listed-is A) there)
+    in_set n there = below_only 64 A n (subst (λ l. Contains l n) (listed-below A) there)
 
 -- the value of the wire with this number, of those that start with the ends
 value-at : (g : Graph) (V : Valuation) (i : ℕ) (front : List Wire) (cs : List ℕ) (behind : List Wire) → g.wires.items ≡ front ++ (map (end_of i) cs ++ behind)

@@ -1,10 +1,10 @@
 -- What a statement of a body holds, by its row in the list of statements.
-use Rattle.std.proofs.Common.{◌≡◌, ℕ, ◌+◌, ◌-◌, ◌<◌, ◌≤◌, Bool, false, List, refl, sym, ap, ◌∙◌, subst, arith}
-use Rattle.std.proofs.lemmas.Bool.{eq-eqb}
+use Rattle.std.proofs.Common.{◌≡◌, ℕ, ◌+◌, ◌-◌, ◌<◌, ◌≤◌, Bool, List, refl, sym, ap, ◌∙◌, subst, arith}
 use Rattle.est_kernel.specs.Plain.{Program, interface_count}
 use Rattle.est_kernel.specs.Terms.{Term, Nothing, Pause, Emit, Exit, Present, Suspend, Seq, Loop, Par, Trap, Local, Awake}
 use Rattle.est_kernel.specs.Preorder.{statement_count}
 use Rattle.est_kernel.specs.WellFormed.{IsKernel}
+use Rattle.est_kernel.proofs.PreorderLaws.{statement_count-pos}
 use Rattle.grc_graph.specs.Layers.{Liveness, body_liveness, part_liveness, second_liveness, loop_liveness}
 use Rattle.grc_graph.specs.Readings.{holds_at}
 use Rattle.grc_graph.specs.Residuals.{holds}
@@ -13,30 +13,18 @@ use Rattle.grc_graph.specs.Scopes.{Scope, bind, program_scope}
 use Rattle.grc_graph.specs.Statements.{Entry, Body, Part, Branch, Then, Else, Suspended, Second, Looped}
 use Rattle.grc_graph.proofs.CodeReads.{StandsAt, stands_whole}
 use Rattle.grc_graph.proofs.RowSpots.{length-rows, stands_one, stands_first, stands_second, row_read}
-use Rattle.grc_words.proofs.Enclosed.{some-statement, one_place, two_places, chosen-first, chosen-second, not-here}
+use Rattle.grc_graph.proofs.Holding.{holds_at-self}
+use Rattle.grc_graph.proofs.RowFacts.{one_place, two_places}
+use Rattle.grc_words.proofs.Enclosed.{chosen-first, chosen-second, not-here}
 
 -- what is said of the statement with this number is what its row says
 abbrev HoldsThere : (ℕ → Bool) → List Row → Term → (n m : ℕ) → Type 0
 HoldsThere S W t n m = holds_at S t n m ≡ holds S (row_at W m).statement m
 
-itself : (S : ℕ → Bool) (t : Term) (n : ℕ) → holds_at S t n n ≡ holds S t n
-itself S Nothing n = refl
-itself S Pause n = refl
-itself S (Emit s) n = refl
-itself S (Exit k) n = refl
-itself S (Present e p q) n = rw (eq-eqb n n refl) refl
-itself S (Suspend e p) n = rw (eq-eqb n n refl) refl
-itself S (Seq p q) n = rw (eq-eqb n n refl) refl
-itself S (Loop at p) n = rw (eq-eqb n n refl) refl
-itself S (Par p q) n = rw (eq-eqb n n refl) refl
-itself S (Trap p) n = rw (eq-eqb n n refl) refl
-itself S (Local s p) n = rw (eq-eqb n n refl) refl
-itself S (Awake e p) n = refl
-
 here-holds : (S : ℕ → Bool) (W : List Row) (a : Liveness) (B : Scope) (x : Entry) (t : Term) (n : ℕ) → StandsAt W n (rows a B x t n) → HoldsThere S W t n n
 here-holds S W a B x t n h =
     let k = row_read W a B x t n h in
-    itself S t n ∙ ap (λ (r : Row). holds S r.statement n) (sym k.same)
+    holds_at-self S t n ∙ ap (λ (r : Row). holds S r.statement n) (sym k.same)
 
 at-here : (P : ℕ → Type 0) (n m : ℕ) → P n → n ≤ m → m < n + 1 → P m
 at-here P n m h le lt = subst P (let z : n ≡ m = omega arith in z) h
@@ -116,42 +104,42 @@ behind S (Exit k) n m h = refl
 behind S (Present e p q) n m h =
     let c = n + 1 + statement_count p in
     let last = n + (1 + statement_count p + statement_count q) - 1 in
-    let some = some-statement q in
+    let some = statement_count-pos q in
     let e : c + statement_count q - 1 ≡ last = omega arith in
     chosen-second m n c _ _ _ (omega arith) (omega arith) ∙ behind S q c m (omega arith) ∙ ap (holds_at S q c) e
     ∙ sym (chosen-second last n c _ _ _ (omega arith) (omega arith))
 behind S (Suspend e p) n m h =
     let last = n + (1 + statement_count p) - 1 in
-    let some = some-statement p in
+    let some = statement_count-pos p in
     let e : n + 1 + statement_count p - 1 ≡ last = omega arith in
     not-here m n _ _ (omega arith) ∙ behind S p (n + 1) m (omega arith) ∙ ap (holds_at S p (n + 1)) e ∙ sym (not-here last n _ _ (omega arith))
 behind S (Seq p q) n m h =
     let c = n + 1 + statement_count p in
     let last = n + (1 + statement_count p + statement_count q) - 1 in
-    let some = some-statement q in
+    let some = statement_count-pos q in
     let e : c + statement_count q - 1 ≡ last = omega arith in
     chosen-second m n c _ _ _ (omega arith) (omega arith) ∙ behind S q c m (omega arith) ∙ ap (holds_at S q c) e
     ∙ sym (chosen-second last n c _ _ _ (omega arith) (omega arith))
 behind S (Loop at p) n m h =
     let last = n + (1 + statement_count p) - 1 in
-    let some = some-statement p in
+    let some = statement_count-pos p in
     let e : n + 1 + statement_count p - 1 ≡ last = omega arith in
     not-here m n _ _ (omega arith) ∙ behind S p (n + 1) m (omega arith) ∙ ap (holds_at S p (n + 1)) e ∙ sym (not-here last n _ _ (omega arith))
 behind S (Par p q) n m h =
     let c = n + 1 + statement_count p in
     let last = n + (1 + statement_count p + statement_count q) - 1 in
-    let some = some-statement q in
+    let some = statement_count-pos q in
     let e : c + statement_count q - 1 ≡ last = omega arith in
     chosen-second m n c _ _ _ (omega arith) (omega arith) ∙ behind S q c m (omega arith) ∙ ap (holds_at S q c) e
     ∙ sym (chosen-second last n c _ _ _ (omega arith) (omega arith))
 behind S (Trap p) n m h =
     let last = n + (1 + statement_count p) - 1 in
-    let some = some-statement p in
+    let some = statement_count-pos p in
     let e : n + 1 + statement_count p - 1 ≡ last = omega arith in
     not-here m n _ _ (omega arith) ∙ behind S p (n + 1) m (omega arith) ∙ ap (holds_at S p (n + 1)) e ∙ sym (not-here last n _ _ (omega arith))
 behind S (Local k p) n m h =
     let last = n + (1 + statement_count p) - 1 in
-    let some = some-statement p in
+    let some = statement_count-pos p in
     let e : n + 1 + statement_count p - 1 ≡ last = omega arith in
     not-here m n _ _ (omega arith) ∙ behind S p (n + 1) m (omega arith) ∙ ap (holds_at S p (n + 1)) e ∙ sym (not-here last n _ _ (omega arith))
 behind S (Awake e p) n m h = refl
@@ -160,18 +148,3 @@ pub behind-last : (S : ℕ → Bool) (t : Term) (m : ℕ) → statement_count t 
 behind-last S t m h =
     let e : 0 + statement_count t - 1 ≡ statement_count t - 1 = omega arith in
     behind S t 0 m (omega arith) ∙ ap (holds_at S t 0) e
-
--- where no pause is selected no statement holds one
-pub holds-none : (S : ℕ → Bool) (t : Term) (n : ℕ) → ((m : ℕ) → S m ≡ false) → holds S t n ≡ false
-holds-none S Nothing n h = refl
-holds-none S Pause n h = h n
-holds-none S (Emit k) n h = refl
-holds-none S (Exit k) n h = refl
-holds-none S (Present e p q) n h = rw (holds-none S p (n + 1) h, holds-none S q (n + 1 + statement_count p) h) refl
-holds-none S (Suspend e p) n h = holds-none S p (n + 1) h
-holds-none S (Seq p q) n h = rw (holds-none S p (n + 1) h, holds-none S q (n + 1 + statement_count p) h) refl
-holds-none S (Loop at p) n h = holds-none S p (n + 1) h
-holds-none S (Par p q) n h = rw (holds-none S p (n + 1) h, holds-none S q (n + 1 + statement_count p) h) refl
-holds-none S (Trap p) n h = holds-none S p (n + 1) h
-holds-none S (Local k p) n h = holds-none S p (n + 1) h
-holds-none S (Awake e p) n h = refl

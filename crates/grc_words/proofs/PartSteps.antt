@@ -1,9 +1,9 @@
 -- One more statement whose source says that it holds a selected pause.
-use Rattle.std.proofs.Common.{◌≡◌, ℕ, suc, ◌+◌, ◌<◌, ◌≤◌, Bool, false, ◌||◌, ◌&&◌, List, [], ◌∷◌, length, drop, slice_index_or, slice_set, refl, sym, ap}
+use Rattle.std.proofs.Common.{◌≡◌, ℕ, suc, ◌+◌, ◌<◌, ◌≤◌, Bool, false, ◌||◌, List, [], ◌∷◌, length, drop, slice_index_or, slice_set, refl, sym, ap}
 use Rattle.std.proofs.Common.{◌∙◌, subst, arith, inl, inr, length-set, get_or-set_same, get_or-set_other, drop-cons}
 use Rattle.std.specs.Prelude.{if◌then◌else◌}
 use Rattle.std.specs.List.{sum_by}
-use Rattle.std.proofs.lemmas.Bool.{cases_eq, cases_Bool}
+use Rattle.std.proofs.lemmas.Bool.{cases_eq, cases_Bool, and_left}
 use Rattle.std.proofs.lemmas.List.Sums.{sum_by-cons}
 use Rattle.est_kernel.specs.Plain.{program_of, Program}
 use Rattle.est_kernel.specs.Preorder.{statement_count}
@@ -71,9 +71,6 @@ two-hold W v a b B y z t p q n c offa offb before h g e =
       λ no. ap (λ (r : Row). r.live.resumed) j.same ∙ offb no,
     )
 
-never : (b c : Bool) → b ≡ false → (b && c) ≡ false
-never b c e = ap (λ x. x && c) e
-
 by-kind : (W : List Row) (a : Liveness) (B : Scope) (x : Entry) (t : Term) (n : ℕ) → StandsAt W n (rows a B x t n)
     → HoldsBy W a.resumed t n (second_of t n) (kind_of t (second_of t n))
 by-kind W a B x Nothing n h = λ S. refl
@@ -84,37 +81,37 @@ by-kind W a B x (Present e p q) n h =
     let c = n + 1 + statement_count p in
     let ps = rows (part_liveness a p) B (Then n e) p (n + 1) in
     let qs = rows (part_liveness a q) B (Else n e) q c in
-    two-hold W a.resumed (part_liveness a p) (part_liveness a q) B (Then n e) (Else n e) (Present e p q) p q n c (never a.resumed _) (never a.resumed _)
+    two-hold W a.resumed (part_liveness a p) (part_liveness a q) B (Then n e) (Else n e) (Present e p q) p q n c (and_left a.resumed _) (and_left a.resumed _)
     (omega arith)
     (stands_first W n (row a B x (Present e p q) c) ps qs h)
     (stands_second W n (row a B x (Present e p q) c) p ps qs (length-rows (part_liveness a p) B (Then n e) p (n + 1)) h) (λ S. refl)
 by-kind W a B x (Suspend e p) n h =
-    one-holds W a.resumed (part_liveness a p) B (Suspended n e) (Suspend e p) p n (never a.resumed _)
+    one-holds W a.resumed (part_liveness a p) B (Suspended n e) (Suspend e p) p n (and_left a.resumed _)
     (stands_one W n (row a B x (Suspend e p) 0) (rows (part_liveness a p) B (Suspended n e) p (n + 1)) h) (λ S. refl)
 by-kind W a B x (Seq p q) n h =
     let c = n + 1 + statement_count p in
     let b = second_liveness a p q (n + 1 + statement_count p) in
     let ps = rows (part_liveness a p) B (Branch n) p (n + 1) in
     let qs = rows b B (Second n) q c in
-    two-hold W a.resumed (part_liveness a p) b B (Branch n) (Second n) (Seq p q) p q n c (never a.resumed _) (never a.resumed _) (omega arith)
+    two-hold W a.resumed (part_liveness a p) b B (Branch n) (Second n) (Seq p q) p q n c (and_left a.resumed _) (and_left a.resumed _) (omega arith)
     (stands_first W n (row a B x (Seq p q) c) ps qs h)
     (stands_second W n (row a B x (Seq p q) c) p ps qs (length-rows (part_liveness a p) B (Branch n) p (n + 1)) h) (λ S. refl)
 by-kind W a B x (Loop at p) n h =
-    one-holds W a.resumed (loop_liveness a p (n + 1)) B (Looped n) (Loop at p) p n (never a.resumed _)
+    one-holds W a.resumed (loop_liveness a p (n + 1)) B (Looped n) (Loop at p) p n (and_left a.resumed _)
     (stands_one W n (row a B x (Loop at p) 0) (rows (loop_liveness a p (n + 1)) B (Looped n) p (n + 1)) h) (λ S. refl)
 by-kind W a B x (Par p q) n h =
     let c = n + 1 + statement_count p in
     let ps = rows (part_liveness a p) B (Branch n) p (n + 1) in
     let qs = rows (part_liveness a q) B (Branch n) q c in
-    two-hold W a.resumed (part_liveness a p) (part_liveness a q) B (Branch n) (Branch n) (Par p q) p q n c (never a.resumed _) (never a.resumed _)
+    two-hold W a.resumed (part_liveness a p) (part_liveness a q) B (Branch n) (Branch n) (Par p q) p q n c (and_left a.resumed _) (and_left a.resumed _)
     (omega arith)
     (stands_first W n (row a B x (Par p q) c) ps qs h)
     (stands_second W n (row a B x (Par p q) c) p ps qs (length-rows (part_liveness a p) B (Branch n) p (n + 1)) h) (λ S. refl)
 by-kind W a B x (Trap p) n h =
-    one-holds W a.resumed (part_liveness a p) B (Part n) (Trap p) p n (never a.resumed _)
+    one-holds W a.resumed (part_liveness a p) B (Part n) (Trap p) p n (and_left a.resumed _)
     (stands_one W n (row a B x (Trap p) 0) (rows (part_liveness a p) B (Part n) p (n + 1)) h) (λ S. refl)
 by-kind W a B x (Local s p) n h =
-    one-holds W a.resumed (part_liveness a p) (bind B s n) (Part n) (Local s p) p n (never a.resumed _)
+    one-holds W a.resumed (part_liveness a p) (bind B s n) (Part n) (Local s p) p n (and_left a.resumed _)
     (stands_one W n (row a B x (Local s p) 0) (rows (part_liveness a p) (bind B s n) (Part n) p (n + 1)) h) (λ S. refl)
 by-kind W a B x (Awake e p) n h = λ S. refl
 

@@ -4,6 +4,7 @@ use Rattle.std.proofs.Common.{IsTrue, inl, inr}
 use Rattle.std.proofs.Common.{append_assoc, append-nil, length-append}
 use Rattle.std.proofs.lemmas.Bool.{cases_lt, cases_Bool, ltb-true, lt-ltb}
 use Rattle.std.proofs.lemmas.List.{get_or_append_left, get_or_push, length_push}
+use Rattle.facts.proofs.Tests.{and-true-at}
 use Rattle.grc_graph.specs.declared.graph.Graph.{Graph}
 use Rattle.grc_words.specs.declared.table.Source.{Source}
 use Rattle.grc_words.specs.declared.table.Source.TheVariants as sources
@@ -116,10 +117,6 @@ constant-says g b rs c x m e h t off = sym (h.value t off) ∙ constant-value (s
 and-true_left : (x y : Bool) → x ≡ true → y ≡ (x && y)
 and-true_left x y e = rw e refl
 
-and-true_right : (x y : Bool) → y ≡ true → x ≡ (x && y)
-and-true_right true y e = sym e
-and-true_right false y e = refl
-
 and-false_right : (x y : Bool) → y ≡ false → y ≡ (x && y)
 and-false_right true y e = refl
 and-false_right false y e = e
@@ -137,7 +134,7 @@ pub makes-both : (g : Graph) (b : Bounds) (rs : List Row) (x y : Source) (m n : 
 makes-both g b rs x y m n f h k = elim (cases_Bool (is_constant true x)) [
   | inl one ↦ rw one (makes-here g b rs y n _ f k (λ t off. and-true_left (m t) (n t) (constant-says g b rs true x m one h t off)))
   | inr not_one ↦ elim (cases_Bool (is_constant true y)) [
-    | inl two ↦ rw (not_one, two) (makes-here g b rs x m _ f h (λ t off. and-true_right (m t) (n t) (constant-says g b rs true y n two k t off)))
+    | inl two ↦ rw (not_one, two) (makes-here g b rs x m _ f h (λ t off. and-true-at (m t) (n t) (constant-says g b rs true y n two k t off)))
     | inr not_two ↦ elim (cases_Bool (is_constant false y)) [
       | inl three ↦
           rw (not_one, not_two, three)

@@ -1,9 +1,9 @@
 -- Tests as sources, from their parts; and wires as sources.
-use Rattle.std.proofs.Common.{◌≡◌, ℕ, ◌+◌, ◌<◌, ◌≤◌, zero, suc, true, false, ◌&&◌, ◌==◌, List, [], ◌∷◌, ◌++◌, length, map, take, drop, slice_index_or, refl}
+use Rattle.std.proofs.Common.{◌≡◌, ℕ, ◌+◌, ◌<◌, ◌≤◌, zero, suc, true, false, List, [], ◌∷◌, ◌++◌, length, map, take, drop, slice_index_or, refl}
 use Rattle.std.proofs.Common.{sym, ap, ◌∙◌, subst, arith, Option, Some, None, length-append, inl, inr}
 use Rattle.std.specs.List.{list_any}
 use Rattle.std.specs.Prelude.{Contains}
-use Rattle.std.proofs.lemmas.Bool.{lt-ltb, eqb-true, and_parts, cases_Bool}
+use Rattle.std.proofs.lemmas.Bool.{lt-ltb, cases_Bool}
 use Rattle.std.proofs.Common.{drop-cons}
 use Rattle.std.proofs.lemmas.List.{length-map, length_push, take-take, take-map, map-append, take_at, drop_at, drop-drop, drop-take, drop-map}
 use Rattle.est_base.specs.declared.indices.WireId.{WireId}
@@ -12,7 +12,7 @@ use Rattle.est_kernel.specs.Terms.{Expression, Tick, Sig, Not, And, Or}
 use Rattle.grc_graph.specs.declared.graph.Graph.{Graph}
 use Rattle.grc_graph.specs.declared.neighbours.Neighbours.{Neighbours}
 use Rattle.grc_graph.specs.declared.statements.Binding as bindings
-use Rattle.grc_graph.specs.Layers.{Layer, Resumed, Started, same_layer}
+use Rattle.grc_graph.specs.Layers.{Resumed}
 use Rattle.grc_graph.specs.Neighbouring.{names_in}
 use Rattle.grc_graph.specs.PlainGraphs.{names_of, wire_of, instances_of}
 use Rattle.grc_graph.specs.Readings.{seen_value}
@@ -20,7 +20,8 @@ use Rattle.grc_graph.specs.Scopes.{Scope, Binding}
 use Rattle.grc_graph.specs.Statements.{signals_in}
 use Rattle.grc_graph.specs.StatementViews.{binding_of}
 use Rattle.grc_graph.specs.WireTables.{HasName}
-use Rattle.grc_graph.specs.Wires.{Wire, Out, Go, StatusOf, End, same_wire}
+use Rattle.grc_graph.specs.Wires.{Wire, Go, same_wire}
+use Rattle.grc_graph.proofs.SameWires.{same_wire-back}
 use Rattle.grc_words.specs.declared.table.Source.{Source}
 use Rattle.grc_words.specs.declared.table.Source.TheVariants as sources
 use Rattle.grc_words.specs.declared.table.Row as tables
@@ -32,38 +33,6 @@ use Rattle.grc_words.proofs.RowCounts.{both-few, either-few}
 use Rattle.grc_words.proofs.Saying.{says-more, extends-refl, extends-trans, makes-not, makes-both, makes-either, grows-not, grows-both, grows-either}
 use Rattle.grc_words.proofs.Saying.{fits-grown}
 
-layer-is : (j l : Layer) → same_layer j l ≡ true → j ≡ l
-layer-is Resumed Resumed e = refl
-layer-is Resumed (Started r) e = absurd (cc)
-layer-is (Started q) Resumed e = absurd (cc)
-layer-is (Started q) (Started r) e = ap Started (eqb-true q r e)
-
--- wires of one name
-pub wire-is : (u w : Wire) → same_wire u w ≡ true → w ≡ u
-wire-is (Out s) (Out t) e = ap Out (sym (eqb-true s t e))
-wire-is (Out s) (Go n l) e = absurd (cc)
-wire-is (Out s) (StatusOf n l) e = absurd (cc)
-wire-is (Out s) (End n l k) e = absurd (cc)
-wire-is (Go m j) (Out t) e = absurd (cc)
-wire-is (Go m j) (Go n l) e =
-    let parts = and_parts (m == n) (same_layer j l) e in
-    let a = eqb-true m n parts.0 in let b = layer-is j l parts.1 in cc
-wire-is (Go m j) (StatusOf n l) e = absurd (cc)
-wire-is (Go m j) (End n l k) e = absurd (cc)
-wire-is (StatusOf m j) (Out t) e = absurd (cc)
-wire-is (StatusOf m j) (Go n l) e = absurd (cc)
-wire-is (StatusOf m j) (StatusOf n l) e =
-    let parts = and_parts (m == n) (same_layer j l) e in
-    let a = eqb-true m n parts.0 in let b = layer-is j l parts.1 in cc
-wire-is (StatusOf m j) (End n l k) e = absurd (cc)
-wire-is (End m j i) (Out t) e = absurd (cc)
-wire-is (End m j i) (Go n l) e = absurd (cc)
-wire-is (End m j i) (StatusOf n l) e = absurd (cc)
-wire-is (End m j i) (End n l k) e =
-    let parts = and_parts (m == n) (same_layer j l && i == k) e in
-    let more = and_parts (same_layer j l) (i == k) parts.1 in
-    let a = eqb-true m n parts.0 in let b = layer-is j l more.0 in let c = eqb-true i k more.1 in cc
-
 contains-next : (w : Wire) (ws : List Wire) (u : Wire) → Contains ws u → Contains (w ∷ ws) u
 contains-next w ws u c = (suc c.0, omega (arith, c.1), c.2)
 
@@ -71,7 +40,7 @@ contains-next w ws u c = (suc c.0, omega (arith, c.1), c.2)
 pub none-such : (u : Wire) (ws : List Wire) → (Contains ws u → ⊥) → list_any (same_wire u) ws ≡ false
 none-such u [] h = refl
 none-such u (w ∷ ws) h = elim (cases_Bool (same_wire u w)) [
-  | inl here ↦ absurd (h (zero, omega arith, wire-is u w here))
+  | inl here ↦ absurd (h (zero, omega arith, same_wire-back u w here))
   | inr other ↦ rw (other, none-such u ws (λ c. h (contains-next w ws u c))) refl
 ]
 

@@ -11,6 +11,7 @@ use Rattle.std.proofs.lemmas.List.Sums.{prefix_len-le-length}
 use Rattle.est_kernel.specs.Plain.{program_of, outgoing_count}
 use Rattle.est_kernel.specs.Preorder.{statement_count}
 use Rattle.est_kernel.specs.WellFormed.{IsKernel}
+use Rattle.est_kernel.proofs.PreorderLaws.{statement_count-pos}
 use Rattle.grc_graph.specs.declared.graph.Graph.{Graph}
 use Rattle.grc_graph.specs.GraphRuns.{shown}
 use Rattle.grc_graph.specs.Instances.{body_instances}
@@ -23,7 +24,7 @@ use Rattle.grc_graph.specs.Rows.{row_at, program_rows}
 use Rattle.grc_graph.specs.SelectionTrees.{body_leaves, selecting}
 use Rattle.grc_graph.specs.Walk.{State, Initial, Selecting}
 use Rattle.grc_graph.specs.Wires as names
-use Rattle.grc_graph.proofs.RowFacts.{statement_count-pos}
+use Rattle.grc_graph.proofs.Holding.{holds-none}
 use Rattle.grc_words.specs.declared.table.Source.{Source}
 use Rattle.grc_words.specs.declared.table.Source.TheVariants as sources
 use Rattle.grc_words.specs.declared.table.Row.{Row}
@@ -38,7 +39,7 @@ use Rattle.grc_words.specs.Rows.{source_fits, row_fits}
 use Rattle.grc_words.specs.Sizes.{instance_rows, rows_at_most}
 use Rattle.grc_words.specs.WordLaws.{WordsFit, AreWordsOf, early_bounds, late_bounds, value_of, first_end}
 use Rattle.grc_words.proofs.EndWords.{upto-by-ends}
-use Rattle.grc_words.proofs.Holding.{holds_at-row, behind-last, holds-none}
+use Rattle.grc_words.proofs.Holding.{holds_at-row, behind-last}
 use Rattle.grc_words.proofs.Saying.{says-more, fits-grown, extends-trans}
 
 -- ---- what early rows read late ones may read

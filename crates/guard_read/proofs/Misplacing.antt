@@ -3,7 +3,7 @@ use Rattle.std.proofs.Common.{◌≡◌, ℕ, ◌+◌, ◌<◌, ◌≤◌, Bool,
 use Rattle.std.proofs.Common.{Option, Some, None, subst, Result, Ok, Err}
 use Rattle.std.specs.Prelude.{IfOk}
 use Rattle.std.proofs.lemmas.List.{take_more, map-append, drop_all, get_or_default}
-use Rattle.net_ir.proofs.Numbered.{drop-at}
+use Rattle.facts.proofs.Lists.{drop-at}
 use Rattle.csub_guard.specs.Names.{Use, used_name, first_breaking, all_uses, made_uses, is_again, is_unset, assigned_again, unset}
 use Rattle.csub_guard.specs.Trees.{Program}
 use Rattle.expr_text.specs.NameTables.{name_told}

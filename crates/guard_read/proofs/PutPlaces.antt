@@ -4,6 +4,7 @@ use Rattle.std.specs.Prelude.{if◌then◌else◌}
 use Rattle.std.specs.List.{list_any}
 use Rattle.std.proofs.lemmas.Bool.{false≢true}
 use lib.Pointwise.{bytes_decides}
+use Rattle.facts.proofs.Tests.{or-false-back, or-left-none}
 use Rattle.est_base.specs.Names.{is_same_name}
 use Rattle.csub_guard.specs.Names.{Place, Outside, Half, Use, Put, Taken, Tested, is_outside, are_halves, are_alike, is_put_elsewhere, is_put_where, completes}
 use Rattle.csub_guard.specs.Names.{is_set}
@@ -69,10 +70,6 @@ data Few : List Place → Type 0 where
   OnePlace : (place : Place) → Few (place ∷ [])
   Halves : (block other : ℕ) (test own : List ℕ) → (block == other) ≡ true → Few (Half other own false ∷ Half block test true ∷ [])
 
-or-left : (a b : Bool) → (a || b) ≡ false → a ≡ false
-or-left true b is = is
-or-left false b is = refl
-
 not-is : (a : Bool) → not a ≡ false → a ≡ true
 not-is true is = refl
 not-is false is = absurd (false≢true (sym is))
@@ -80,13 +77,16 @@ not-is false is = absurd (false≢true (sym is))
 few : (places : List Place) → Clean places → Few places
 few [] clean = NoPlace
 few (x ∷ []) clean = OnePlace x
-few (x ∷ y ∷ places) clean = two x y places (not-is (are_halves y x) (or-left (not (are_halves y x)) (list_any (λ o. not (are_halves o x)) places) clean.0))
+few (x ∷ y ∷ places) clean =
+    two x y places
+    (not-is (are_halves y x) (or-left-none (not (are_halves y x)) (list_any (λ o. not (are_halves o x)) places) clean.0))
     clean.1.0
   where
     two : (x y : Place) (places : List Place) → are_halves y x ≡ true → list_any (λ o. not (are_halves o y)) places ≡ false → Few (x ∷ y ∷ places)
     two (Half other own false) (Half block test true) [] halves none = Halves block other test own halves
     two (Half other own false) (Half block test true) (z ∷ places) halves none =
-        absurd (false≢true (sym (or-left (not (are_halves z (Half block test true))) (list_any (λ o. not (are_halves o (Half block test true))) places) none
+        absurd (false≢true (sym
+        (or-left-none (not (are_halves z (Half block test true))) (list_any (λ o. not (are_halves o (Half block test true))) places) none
         ∙ refl) ∙ ap not (first-none z block test)))
       where
         first-none : (z : Place) (block : ℕ) (test : List ℕ) → are_halves z (Half block test true) ≡ false
@@ -101,10 +101,6 @@ few (x ∷ y ∷ places) clean = two x y places (not-is (are_halves y x) (or-lef
     two (Half b t true) (Half c u false) places halves none = absurd (false≢true halves)
     two (Half b t false) Outside places halves none = absurd (false≢true halves)
     two (Half b t false) (Half c u false) places halves none = absurd (false≢true halves)
-
-or-none : (a : Bool) → a ≡ (a || false)
-or-none true = refl
-or-none false = refl
 
 or-more : (a b : Bool) → true ≡ (a || (true || b))
 or-more true b = refl
@@ -123,7 +119,7 @@ clash-is places at clean = go places (few places clean)
         one : (at : Place) → clashes (Some (PutFirst block test)) at ≡ (not (are_halves (Half block test true) at) || false)
         one Outside = refl
         one (Half other own true) = refl
-        one (Half other own false) = or-none (not (block == other))
+        one (Half other own false) = or-false-back (not (block == other))
     go (Half other own false ∷ Half block test true ∷ []) (Halves b o t w same) = refl
     go (Outside ∷ (_ ∷ _)) x = elim x [ ]
     go (Half other own false ∷ (Outside ∷ _)) x = elim x [ ]
@@ -142,14 +138,14 @@ set-is places at clean = go places (few places clean)
       where
         one : (at : Place) → is_set_by (Some (PutFirst block test)) at ≡ ((are_alike (Half block test true) at || false) || false)
         one Outside = refl
-        one (Half other own true) = or-none (is_same_name test own) ∙ or-none (is_same_name test own || false)
+        one (Half other own true) = or-false-back (is_same_name test own) ∙ or-false-back (is_same_name test own || false)
         one (Half other own false) = refl
     go (Half block test false ∷ []) (OnePlace place) = one at
       where
         one : (at : Place) → is_set_by (Some (PutSecond test)) at ≡ ((are_alike (Half block test false) at || false) || false)
         one Outside = refl
         one (Half other own true) = refl
-        one (Half other own false) = or-none (is_same_name test own) ∙ or-none (is_same_name test own || false)
+        one (Half other own false) = or-false-back (is_same_name test own) ∙ or-false-back (is_same_name test own || false)
     go (Half other own false ∷ Half block test true ∷ []) (Halves b o t w same) =
         ap (λ b. b || list_any (sets (Half other own false ∷ Half block test true ∷ []) at) (Half block test true ∷ []))
         (or-more (are_alike (Half other own false) at) false ∙ ap (λ h. are_alike (Half other own false) at || (h || false)) (sym same))

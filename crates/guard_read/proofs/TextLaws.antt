@@ -4,7 +4,7 @@ use Rattle.std.proofs.Common.{refl, ap, subst, arith}
 use Rattle.csub_text.specs.Tokens.{Kind, Static, If, Else, Named, LeftParenthesis, RightParenthesis, LeftBrace, RightBrace}
 use Rattle.csub_text.specs.Grammar.{is, name, begins_global, WrittenAssign, body_nesting, SpellsAnswer}
 use Rattle.csub_read.proofs.TokenKinds.{class, is-test, name-test}
-use Rattle.csub_read.proofs.TextLaws.{SpellsPair, turn_of, assigns-reads, assign-reads, answer-reads, whole_shape, whole-reads, whole_depth, flat}
+use Rattle.csub_read.proofs.TextLaws.{SpellsPair, turn_of, assigns-reads, assign-reads, answer-reads, whole_shape, whole-reads, whole_depth}
 use Rattle.csub_text.specs.Trees.{State}
 use Rattle.csub_guard.specs.Grammar.{WrittenPiece, OneWritten, IfWritten, SpellsHalf, SpellsElse, SpellsPiece, SpellsText, piece_nesting, pieces_nesting}
 use Rattle.csub_guard.specs.Grammar.{text_nesting, IsText}
@@ -21,6 +21,7 @@ use Rattle.read_rules.proofs.Loops.{Advances}
 use Rattle.read_rules.proofs.Readers.{Shape, one_shape, Reads, the-reads, both-reads, led-reads, trail-reads, ahead-reads, mapped-reads, told-reads, made-reads}
 use Rattle.read_rules.proofs.Sets.{has, Test, test-of}
 use Rattle.read_rules.proofs.Steps.{Turn, step_depth, list_depth, Steps, look-steps, step-reads, loop-reads, Advances-step}
+use Rattle.read_rules.proofs.Depths.{list_depth-flat}
 
 -- ---- halves
 
@@ -122,7 +123,7 @@ pieces-depth [] = refl
 pieces-depth (piece ∷ body) = ap (max (piece_nesting piece)) (pieces-depth body)
 
 text-depth : (found : List State × (List (List ℕ) × (List (List ℕ) × Body))) → text_nesting (written_made found) ≡ whole_depth body_depth found
-text-depth found = omega (arith, flat found.0, flat found.1.0, flat found.1.1.0, pieces-depth found.1.1.1.0)
+text-depth found = omega (arith, list_depth-flat found.0, list_depth-flat found.1.0, list_depth-flat found.1.1.0, pieces-depth found.1.1.1.0)
 
 text-reads : (room : ℕ) → Reads class written_rule SpellsText text_nesting whole_shape (Some room)
 text-reads room =

@@ -10,6 +10,7 @@ use Rattle.net_ir.specs.declared.netlist.NetOut.{NetOut}
 use Rattle.net_ir.specs.Gates.{value_in}
 use Rattle.net_ir.specs.Netlists.{Netlist, IsNet}
 use Rattle.net_ir.specs.Runs.{shown, net_values, initial_latches, next_latches, net_machine, net_run, values_from}
+use Rattle.net_ir.proofs.Nets.{length-next}
 use Rattle.net_follow.specs.declared.literals.Equation.{Equation}
 use Rattle.net_follow.specs.Literals.{Meets}
 use Rattle.net_follow.specs.Frames.{output_equations, shows_equation, all_claims, frame, in_two}
@@ -65,9 +66,6 @@ pub record IsInductive (old new : Netlist) (claims : List Equation) : Type 0 whe
 initial-count : (net : Netlist) → length (initial_latches net) ≡ length net.latches
 initial-count net = length-map net.latches (λ (l : Latch). l.init)
 
-next-count : (net : Netlist) (values : List Bool) → length (next_latches net values) ≡ length net.latches
-next-count net values = length-map net.latches (λ (l : Latch). value_in values l.from.0)
-
 starts : (old new : Netlist) (claims : List Equation) → IsInductive old new claims
     → Matches old new (all_claims old new claims) (initial_latches old) (initial_latches new)
 starts old new claims is = record {
@@ -94,8 +92,8 @@ next-matches old new claims is s t inputs matches wide =
     let v = net_values old s inputs in
     let w = net_values new t inputs in
     record {
-      old_count = next-count old v;
-      new_count = next-count new w;
+      old_count = length-next old v;
+      new_count = length-next new w;
       hold = λ others also_wide.
           let f = frame_of old new s t inputs in
           let g = frame_of old new (next_latches old v) (next_latches new w) others in
@@ -111,8 +109,8 @@ next-matches old new claims is s t inputs matches wide =
             old_is = is.old_is;
             new_is = is.new_is;
             same_inputs = is.same_inputs;
-            old_count = next-count old v;
-            new_count = next-count new w;
+            old_count = length-next old v;
+            new_count = length-next new w;
             wide = also_wide;
           } in
           later-moved (all_claims old new claims) f g (is.shown_facts.later.entails (in_two f g) (steady-two f g (λ n. refl) (λ n. refl))

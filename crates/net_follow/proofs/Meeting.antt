@@ -4,6 +4,7 @@ use Rattle.std.proofs.Common.{sym, ap, ◌∙◌, subst, arith, All}
 use Rattle.std.proofs.Common.{length-append}
 use Rattle.std.proofs.lemmas.List.{length-map, get_or-map, get_or_append_left, get_or-append-add}
 use Rattle.std.proofs.lemmas.List.Elements.{All-append, All-map}
+use Rattle.facts.proofs.Tests.{and-true-at}
 use Rattle.net_ir.specs.declared.netlist.Op.{Op}
 use Rattle.net_ir.specs.declared.netlist.Op.TheVariants.{Const, Copy, Not, And, Or}
 use Rattle.net_ir.specs.declared.netlist.Gate.{Gate}
@@ -23,10 +24,6 @@ use Rattle.net_follow.specs.Matching.{HoldIn}
 
 -- ---- one equation
 
-and-true : (x t : Bool) → t ≡ true → x ≡ (x && t)
-and-true true t h = sym h
-and-true false t h = refl
-
 or-denied : (a b : Bool) → not (a || b) ≡ (not a && not b)
 or-denied true b = refl
 or-denied false b = refl
@@ -36,7 +33,7 @@ and-same a b c d p q = λ i. p i && q i
 
 -- a net that has the value of another
 copy-meets : (V : Bool → Side → ℕ → Bool) (o l : Bool) → IsSteady V → o ≡ l → o ≡ (l && V false Always 0)
-copy-meets V o l steady same = same ∙ and-true l (V false Always 0) (steady false 0)
+copy-meets V o l steady same = same ∙ and-true-at l (V false Always 0) (steady false 0)
 
 -- a net that has the value that its operator makes of others
 pub gate-meets : (V : Bool → Side → ℕ → Bool) (late : Bool) (side : Side) (values : ℕ → Bool) → IsSteady V → ((n : ℕ) → V late side n ≡ values n)

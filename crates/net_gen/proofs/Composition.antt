@@ -9,6 +9,7 @@ use Rattle.grc_graph.specs.declared.graph.Graph.{Graph}
 use Rattle.grc_graph.specs.PlainGraphs.{names_of}
 use Rattle.grc_graph.specs.Reads.{IsReadingOrder}
 use Rattle.grc_graph.specs.WireOrders.{wire_at}
+use Rattle.grc_graph.proofs.WirePlaces.{length-names, place-of}
 use Rattle.grc_words.specs.declared.table.Words.{Words}
 use Rattle.grc_words.specs.WordLaws.{AreWordsOf}
 use Rattle.net_ir.specs.Gates.{carried}
@@ -17,9 +18,7 @@ use Rattle.net_gen.specs.Drawings.{Drawing, Placed}
 use Rattle.net_gen.specs.Growing.{spent}
 use Rattle.net_gen.specs.Making.{Begun, RowsMade, WiresMade, NextMade, CircuitMade}
 use Rattle.net_gen.specs.Readiness.{RowsPlaced, WiresPlaced}
-use Rattle.net_gen.proofs.GraphValues.{length-names}
 use Rattle.net_gen.proofs.Lowering.{placed-stays}
-use Rattle.net_gen.proofs.Standing.{place-of}
 
 -- all wires have their nets once the whole order has
 pub wires-placed : (g : Graph) (w : Words) (old new : Drawing) (forms : List Formula) (order : List WireId) → WiresMade g w old new order (length order)

@@ -6,6 +6,7 @@ use Rattle.std.specs.List.{sum_by, flat_map, range_with_len}
 use Rattle.std.proofs.lemmas.Bool.{cases_eq, cases_Bool, and_parts, eqb-true, eq-eqb, ne_eqb}
 use Rattle.std.proofs.lemmas.List.Elements.{All-head, All-tail}
 use Rattle.std.proofs.lemmas.List.Sums.{sum_by-cons, sum_by-append, sum_by-le-sum_by}
+use Rattle.facts.proofs.Lists.{sum-flat_map}
 use Rattle.est_kernel.specs.Plain.{Program, interface_of, outgoing_count}
 use Rattle.est_kernel.specs.Terms.{Term, Nothing, Pause, Emit, Exit, Present, Suspend, Seq, Loop, Par, Trap, Local, Awake}
 use Rattle.est_kernel.specs.WellFormed.{IsKernel}
@@ -13,14 +14,15 @@ use Rattle.grc_graph.specs.Equations.{emits_on, is_wire, emissions}
 use Rattle.grc_graph.specs.Formulas.{Formula, Value}
 use Rattle.grc_graph.specs.GraphRuns.{program_spots}
 use Rattle.grc_graph.specs.Instances.{Instance, LayerBefore, Before, Ascends, body_instances}
-use Rattle.grc_graph.specs.Layers.{Layer, Resumed, Started, same_layer}
+use Rattle.grc_graph.specs.Layers.{Layer, same_layer}
 use Rattle.grc_graph.specs.Rows.{program_rows, row_at, spot_at}
 use Rattle.grc_graph.specs.Scopes.{Scope}
 use Rattle.grc_graph.specs.Spots.{Spot}
 use Rattle.grc_graph.specs.Wires.{Wire, Out, Go, StatusOf, End, same_wire, status_wire, own_status}
 use Rattle.grc_graph.proofs.LiveInstances.{instances_ascend_lem}
 use Rattle.grc_graph.proofs.RowSpots.{program_spots_by_row}
-use Rattle.grc_graph.proofs.Sums.{sum_none, sum_mapped, sum_flat, sum_swap}
+use Rattle.grc_graph.proofs.Sums.{sum_none, sum_mapped, sum_swap}
+use Rattle.grc_graph.proofs.SameWires.{layer_irrefl, same_layer-true}
 use Rattle.net_gen.proofs.FormulaGates.{joined}
 use Rattle.net_gen.proofs.InstanceGates.{emit_gates}
 
@@ -97,16 +99,6 @@ range_once s a (suc n) = elim (cases_eq s a) [
       omega (arith, other, sum_by-cons (λ t. one_if (s == t)) a (range_with_len (a + 1) n), range_once s (a + 1) n)
 ]
 
-layers_same : (l j : Layer) → same_layer l j ≡ true → l ≡ j
-layers_same Resumed Resumed h = refl
-layers_same Resumed (Started r) h = absurd (cc)
-layers_same (Started q) Resumed h = absurd (cc)
-layers_same (Started q) (Started r) h = ap Started (eqb-true q r h)
-
-layer_irrefl : (l : Layer) → ¬ LayerBefore l l
-layer_irrefl Resumed h = h
-layer_irrefl (Started r) h = omega (arith, h)
-
 -- whether an instance is that of the statement b in the layer l
 abbrev is_place : ℕ → Layer → Instance → Bool
 is_place b l y = b == y.path && same_layer l y.layer
@@ -117,8 +109,8 @@ not_behind b l x y before h g =
     let gy = and_parts (b == y.path) (same_layer l y.layer) g in
     let px : b ≡ x.path = eqb-true b x.path hx.0 in
     let py : b ≡ y.path = eqb-true b y.path gy.0 in
-    let lx : l ≡ x.layer = layers_same l x.layer hx.1 in
-    let ly : l ≡ y.layer = layers_same l y.layer gy.1 in
+    let lx : l ≡ x.layer = same_layer-true l x.layer hx.1 in
+    let ly : l ≡ y.layer = same_layer-true l y.layer gy.1 in
     ⊎_elim (λ less. omega (arith, less, px, py)) (λ same. layer_irrefl l (subst (λ j. LayerBefore l j) (sym ly)
     (subst (λ j. LayerBefore j y.layer) (sym lx) same.1))) before
 
@@ -182,7 +174,7 @@ no_status v h (Awake e p) n l = omega arith
 no_statuses : (v : Wire) → ((n : ℕ) (l : Layer) → same_wire v (StatusOf n l) ≡ false) → (all : List Spot)
     → sum_by (λ w. one_if (same_wire v w)) (flat_map (λ x. own_status x.statement x.path x.layer) all) ≡ 0
 no_statuses v h all =
-    let same = sum_flat (λ w. one_if (same_wire v w)) (λ (x : Spot). own_status x.statement x.path x.layer) all in
+    let same = sum-flat_map (λ w. one_if (same_wire v w)) (λ (x : Spot). own_status x.statement x.path x.layer) all in
     let each = sum_by-le-sum_by (λ (x : Spot). sum_by (λ w. one_if (same_wire v w)) (own_status x.statement x.path x.layer)) (λ x. 0) all
     (λ x. no_status v h x.statement x.path x.layer) in
     omega (arith, same, each, sum_none all)
@@ -194,7 +186,7 @@ statuses_once p kernel b l =
     let W = program_rows p in
     let insts = body_instances p.body in
     let F : Spot → ℕ = λ x. sum_by (λ w. one_if (same_wire (StatusOf b l) w)) (own_status x.statement x.path x.layer) in
-    let flat = sum_flat (λ w. one_if (same_wire (StatusOf b l) w)) (λ (x : Spot). own_status x.statement x.path x.layer) all in
+    let flat = sum-flat_map (λ w. one_if (same_wire (StatusOf b l) w)) (λ (x : Spot). own_status x.statement x.path x.layer) all in
     let rows : sum_by F all ≡ sum_by (λ y. F (spot_at W y)) insts = ap (sum_by F) (program_spots_by_row p kernel) ∙ sum_mapped F (spot_at W) insts in
     let each = sum_by-le-sum_by (λ y. F (spot_at W y)) (λ y. one_if (is_place b l y)) insts (λ y. status_place b l (row_at W y.path).statement y) in
     omega (arith, flat, rows, each, places_once b l insts (instances_ascend_lem p.body))

@@ -1,10 +1,11 @@
 -- How many gates the equations of a program's graph need.
-use Rattle.std.proofs.Common.{◌≡◌, ℕ, zero, suc, ◌+◌, ◌*◌, ◌≤◌, Bool, true, false, ◌==◌, List, [], ◌∷◌, ◌++◌, length, map, refl, sym, ap, ◌∙◌, subst, arith}
+use Rattle.std.proofs.Common.{◌≡◌, ℕ, zero, suc, ◌+◌, ◌*◌, ◌≤◌, Bool, true, false, ◌==◌, List, [], ◌∷◌, ◌++◌, length, map, sym, ap, ◌∙◌, subst, arith}
 use Rattle.std.proofs.Common.{inl, inr, length-append}
 use Rattle.std.specs.Prelude.{if◌then◌else◌, nat_lt}
 use Rattle.std.specs.List.{sum_by, flat_map}
 use Rattle.std.proofs.lemmas.Bool.{cases_eq, ne_eqb}
 use Rattle.std.proofs.lemmas.List.Sums.{sum_by-cons, sum_by-append, sum_by-le-sum_by}
+use Rattle.facts.proofs.Lists.{sum-flat_map}
 use Rattle.est_kernel.specs.Plain.{Program, interface_of, given_count}
 use Rattle.est_kernel.specs.Terms.{Term, Nothing, Pause, Emit, Exit, Present, Suspend, Seq, Loop, Par, Trap, Local, Awake}
 use Rattle.est_kernel.specs.WellFormed.{IsKernel}
@@ -17,23 +18,15 @@ use Rattle.grc_graph.specs.Rows.{row_at, program_rows, spot_at}
 use Rattle.grc_graph.specs.Scopes.{Scope}
 use Rattle.grc_graph.specs.Spots.{Spot}
 use Rattle.grc_graph.specs.Wires.{Wire, Out, Go, StatusOf, End, codes_below, listed, instance_codes, own_status}
-use Rattle.grc_graph.proofs.CodesBelow.{codes_below-none}
+use Rattle.grc_graph.proofs.CodesBelow.{codes_below-none, codes_below-suc, listed-below}
 use Rattle.grc_graph.proofs.RowSpots.{program_spots_by_row}
-use Rattle.grc_graph.proofs.Sums.{sum_both, sum_mapped, sum_flat}
+use Rattle.grc_graph.proofs.Sums.{sum_both, sum_mapped}
 use Rattle.net_gen.proofs.EmissionGates.{emitters, emissions_joined, emitters_once, once_at_most, status_wires, statuses_apart}
 use Rattle.net_gen.proofs.FormulaGates.{gates_of, any_gates, any_within, entry_tests, entry_gates, end_gates, dear_code, dear_gates}
 use Rattle.net_gen.proofs.InstanceGates.{emit_gates}
 use Rattle.net_gen.proofs.RowGates.{Measure}
 
 -- ---- the ends of an instance
-
-below_suc : (n : ℕ) (A : ℕ → Bool) → codes_below (suc n) A ≡ codes_below n A ++ (if A n then n ∷ [] else [])
-unfolding codes_below
-below_suc n A = refl
-
-listed_below : (A : ℕ → Bool) → listed A ≡ codes_below 64 A
-unfolding listed
-listed_below A = refl
 
 -- each code costs 13, and one of them d more
 record CodesCost (f : ℕ → ℕ) (c d n : ℕ) (A : ℕ → Bool) : Type 0 where
@@ -56,9 +49,9 @@ codes_cost f c d each (suc n) A =
     let h = codes_cost f c d each n A in
     let last : List ℕ = if A n then n ∷ [] else [] in
     let costs : sum_by f (codes_below (suc n) A) ≡ sum_by f (codes_below n A) + sum_by f last
-    = ap (sum_by f) (below_suc n A) ∙ sum_by-append f (codes_below n A) last in
+    = ap (sum_by f) (codes_below-suc n A) ∙ sum_by-append f (codes_below n A) last in
     let many : length (codes_below (suc n) A) ≡ length (codes_below n A) + length last
-    = ap length (below_suc n A) ∙ length-append (codes_below n A) last in
+    = ap length (codes_below-suc n A) ∙ length-append (codes_below n A) last in
     let one : sum_by f last ≤ 13 * length last + (if n == c then d else 0) = if_code f n (if n == c then d else 0) (A n) (each n) in
     elim (cases_eq n c) [
       | inl e ↦
@@ -75,7 +68,7 @@ ends_sum B t n l = sum_by (λ k. gates_of (end_formula B t n l k)) (listed (inst
 ends_within : (B : Scope) (t : Term) (n : ℕ) (l : Layer) → ends_sum B t n l ≤ 13 * length (listed (instance_codes t l)) + dear_gates t l
 ends_within B t n l =
     let f : ℕ → ℕ = λ k. gates_of (end_formula B t n l k) in
-    subst (λ ks. sum_by f ks ≤ 13 * length ks + dear_gates t l) (sym (listed_below (instance_codes t l)))
+    subst (λ ks. sum_by f ks ≤ 13 * length ks + dear_gates t l) (sym (listed-below (instance_codes t l)))
     (codes_cost f (dear_code t) (dear_gates t l) (end_gates B t n l) 64 (instance_codes t l)).within
 
 -- ---- all equations
@@ -141,10 +134,10 @@ equations_within given outgoing all once =
     let outs = sum_mapped equation_cost (output_equation given all) outgoing in
     let outs_few = sum_by-le-sum_by (λ s. equation_cost (output_equation given all s)) (λ s. E (Out s)) outgoing (output_within given all) in
     let outs_named = sum_mapped E Out outgoing in
-    let each = sum_flat equation_cost (instance_equations all) all in
+    let each = sum-flat_map equation_cost (instance_equations all) all in
     let each_few = sum_by-le-sum_by (λ x. sum_by equation_cost (instance_equations all x)) (λ x. sum_by E (statuses x) + spot_cost x) all (spot_within all) in
     let apart = sum_both (λ x. sum_by E (statuses x)) spot_cost all in
-    let named = sum_flat E statuses all in
+    let named = sum-flat_map E statuses all in
     let wires = sum_by-append E (map Out outgoing) (flat_map statuses all) in
     let both = sum_both (λ (x : Spot). emit_gates x.statement) spot_cost all in
     omega (arith, split, outs, outs_few, outs_named, each, each_few, apart, named, wires, emitters_once (status_wires outgoing all) all once, both)

@@ -10,8 +10,9 @@ use Rattle.grc_graph.specs.Equations.{Equation}
 use Rattle.grc_graph.specs.GraphRuns.{formula_value}
 use Rattle.grc_graph.specs.Instances.{Instance}
 use Rattle.grc_graph.specs.Layers.{Resumed}
-use Rattle.grc_graph.specs.PlainGraphs.{formula_of, wire_of, instances_of, names_of, equations_of, plain_graph, wire_at}
+use Rattle.grc_graph.specs.PlainGraphs.{formula_of, instances_of, names_of, equations_of, plain_graph, wire_at}
 use Rattle.grc_graph.specs.Wires.{Wire, Go, same_wire}
+use Rattle.grc_graph.proofs.WirePlaces.{equations-all, length-names}
 use Rattle.grc_words.specs.declared.table.Row.{Row}
 use Rattle.grc_words.specs.declared.table.Words.{Words}
 use Rattle.grc_words.specs.Occasions.{Occasion, FalseOffWires, state_in, surroundings}
@@ -28,12 +29,6 @@ any-equations w insts all [] forms len = refl
 any-equations w insts all (n ∷ names) [] len = absurd (omega arith)
 any-equations w insts all (n ∷ names) (f ∷ forms) len =
     ap (λ b. same_wire w n || b) (any-equations w insts all names forms (omega arith))
-
-pub length-names : (g : Graph) → length (names_of g) ≡ length g.wires.items
-length-names g = length-map g.wires.items (wire_of (instances_of g))
-
-pub equations-all : (g : Graph) → length g.equations.items ≡ length (names_of g)
-equations-all g = omega (arith, g.indices.equations_all, length-names g)
 
 -- a solution is false off the wires
 pub false-off_wires : (g : Graph) (t : Instant g) → FalseOffWires g t.occasion.valuation

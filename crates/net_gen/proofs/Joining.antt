@@ -1,9 +1,10 @@
 -- The or of a list of wires, one wire after another.
-use Rattle.std.proofs.Common.{◌≡◌, ℕ, ◌+◌, ◌<◌, ◌≤◌, ◌^◌, zero, suc, Bool, false, true, ◌||◌, List, [], ◌∷◌, ◌++◌, length, slice_index_or, refl, sym, ap, ◌∙◌}
+use Rattle.std.proofs.Common.{◌≡◌, ℕ, ◌+◌, ◌<◌, ◌≤◌, ◌^◌, zero, suc, false, ◌||◌, List, [], ◌∷◌, ◌++◌, length, slice_index_or, refl, sym, ap, ◌∙◌}
 use Rattle.std.proofs.Common.{subst, arith, Option, Some, None}
 use Rattle.std.specs.List.{list_any}
 use Rattle.std.proofs.lemmas.List.{length_push}
 use Rattle.std.proofs.lemmas.List.Folds.{list_any-append}
+use Rattle.facts.proofs.Tests.{or-false}
 use Rattle.est_base.specs.declared.indices.NetId.{NetId}
 use Rattle.est_base.specs.declared.indices.WireId.{WireId}
 use Rattle.grc_graph.specs.declared.graph.Graph.{Graph}
@@ -16,10 +17,6 @@ use Rattle.net_gen.specs.Growing.{Grew, Lowers, Places, Joins}
 use Rattle.net_gen.specs.Senses.{Instant, Sense, Sound, Stands, any_sense, wire_sense, wire_value}
 use Rattle.net_gen.proofs.Growth.{grew-refl, places-lowered}
 use Rattle.net_gen.proofs.Sensing.{op-copy, op-or, op-is, stands-is}
-
-or-false : (b : Bool) → (b || false) ≡ b
-or-false true = refl
-or-false false = refl
 
 any-one : (g : Graph) (v : WireId) → wire_sense g v.0 ≡ any_sense g (v ∷ [])
 unfolding any_sense wire_sense

@@ -36,7 +36,7 @@ use Rattle.net_gen.specs.Generated.{HasInterfaceOf, Carries, ReactsAs, FollowsIn
 use Rattle.net_gen.specs.Making.{CircuitMade}
 use Rattle.net_gen.specs.Readiness.{SourceReady, source_net}
 use Rattle.net_gen.specs.Senses.{Instant, Sense, Sound, Stands, start_of, first_of, net_sense, wire_sense, form_sense, source_sense}
-use Rattle.net_gen.proofs.GraphValues.{false-off_wires, length-names}
+use Rattle.net_gen.proofs.GraphValues.{false-off_wires}
 use Rattle.net_gen.proofs.Reading.{source-late}
 use Rattle.net_gen.proofs.Standing.{differ-once}
 use Rattle.net_gen.proofs.Wording.{stands-source}

@@ -10,6 +10,7 @@ use Rattle.std.proofs.lemmas.Slice.Zip.{seconds-zip}
 use Rattle.est_base.specs.declared.indices.WireId.{WireId}
 use Rattle.est_kernel.specs.Plain.{Program, program_of, interface_of, interface_count, given_count, outgoing_count}
 use Rattle.est_kernel.specs.WellFormed.{IsKernel}
+use Rattle.est_kernel.proofs.PreorderLaws.{statement_count-pos}
 use Rattle.grc_graph.specs.declared.formulas.Formula as declared
 use Rattle.grc_graph.specs.declared.formulas.Formula.TheVariants as formulas
 use Rattle.grc_graph.specs.declared.graph.Graph.{Graph}
@@ -28,7 +29,6 @@ use Rattle.grc_graph.specs.Spots.{Spot}
 use Rattle.grc_graph.specs.Statements.{Body}
 use Rattle.grc_graph.specs.Wires.{Wire, Out}
 use Rattle.grc_graph.proofs.CodeReads.{stands_whole}
-use Rattle.grc_graph.proofs.RowFacts.{statement_count-pos}
 use Rattle.grc_graph.proofs.RowSpots.{row_read, program_spots_by_row}
 use Rattle.grc_graph.proofs.WireFilling.{row_wires, outs_of, program_wires_by_row}
 use Rattle.grc_graph.proofs.WireNames.{instance_live}

@@ -1,12 +1,12 @@
 -- Where the wires of an order stand, and that none stands twice.
-use Rattle.std.proofs.Common.{◌≡◌, ◌≢◌, ℕ, ◌+◌, ◌<◌, ◌≤◌, zero, suc, Bool, true, false, not, ◌&&◌, ◌||◌, ◌==◌, cond, nat_eq, List, [], ◌∷◌, length, map}
+use Rattle.std.proofs.Common.{◌≡◌, ◌≢◌, ℕ, ◌+◌, ◌<◌, ◌≤◌, zero, suc, Bool, true, false, not, ◌&&◌, ◌||◌, ◌==◌, cond, nat_eq, List, [], ◌∷◌, map}
 use Rattle.std.proofs.Common.{slice_index_or, refl, sym, ap, ◌∙◌, subst, arith, IsTrue, All, inl, inr}
 use Rattle.std.specs.List.{list_any}
 use Rattle.std.proofs.lemmas.Bool.{ne_eqb, eq-eqb}
 use Rattle.std.proofs.lemmas.List.Sums.{sum_by-cons}
 use Rattle.est_base.specs.Distinct.{all_differ}
 use Rattle.est_base.specs.declared.indices.WireId.{WireId}
-use Rattle.grc_graph.specs.WireOrders.{wire_at, times}
+use Rattle.grc_graph.specs.WireOrders.{times}
 use Rattle.net_gen.proofs.Tables.{same-or-other}
 
 times-here : (u : WireId) (us : List WireId) (v : ℕ) → u.0 ≡ v → times (u ∷ us) v ≡ 1 + times us v
@@ -20,16 +20,6 @@ times-other u us v ne =
     let whole = sum_by-cons (λ (x : WireId). cond (x.0 == v) 1 0) u us in
     let none : cond (u.0 == v) 1 0 ≡ 0 = ap (λ b. cond b 1 0) (ne_eqb u.0 v ne) in
     whole ∙ ap (λ n. n + times us v) none ∙ (omega arith)
-
--- a wire that stands in a list has a place there
-pub place-of : (order : List WireId) (v : ℕ) → 0 < times order v → (j : ℕ) × (j < length order) × (wire_at order j ≡ v)
-place-of [] v h = absurd (omega arith)
-place-of (u ∷ us) v h = elim (same-or-other u.0 v) [
-  | inl same ↦ (0, omega arith, same)
-  | inr ne ↦
-      let more = place-of us v (omega (arith, times-other u us v ne)) in
-      (suc more.0, omega (arith, more.1), more.2)
-]
 
 none-any : (us : List WireId) (v : ℕ) → times us v ≡ 0 → list_any (nat_eq v) (map (λ (u : WireId). u.0) us) ≡ false
 none-any [] v e = refl

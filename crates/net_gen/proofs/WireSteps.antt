@@ -18,6 +18,7 @@ use Rattle.grc_graph.specs.PlainGraphs.{formula_of, instances_of, names_of}
 use Rattle.grc_graph.specs.Reads.{IsReadingOrder, ReadsOnly, StandsBefore}
 use Rattle.grc_graph.specs.Wires.{Wire}
 use Rattle.grc_graph.specs.WireOrders.{wire_at}
+use Rattle.grc_graph.proofs.WirePlaces.{equations-all, length-names}
 use Rattle.grc_words.specs.declared.table.Words.{Words}
 use Rattle.grc_words.specs.WordLaws.{AreWordsOf}
 use Rattle.net_ir.specs.declared.netlist.Gate.{Gate}
@@ -30,7 +31,7 @@ use Rattle.net_gen.specs.Growing.{Grew, Lowers, Places, spent}
 use Rattle.net_gen.specs.Making.{WiresMade, NextMade}
 use Rattle.net_gen.specs.Readiness.{FormulaReady, RowsPlaced}
 use Rattle.net_gen.specs.Senses.{Sense, Sound, Stands, OpStands, net_sense, op_sense, wire_sense, form_sense, first_of}
-use Rattle.net_gen.proofs.GraphValues.{wire_sense-formula, length-names, equations-all}
+use Rattle.net_gen.proofs.GraphValues.{wire_sense-formula}
 use Rattle.net_gen.proofs.Growth.{stands-more, stands-new, grew-refl, grew-trans, places-lowered}
 use Rattle.net_gen.proofs.Lowering.{placed-stays}
 use Rattle.net_gen.proofs.Reading.{ready-along}

@@ -4,5 +4,5 @@ pub mod Numbered
 pub mod NumberedNames
 pub mod NameLists
 pub mod Pieces
-mod WorkedNets
-mod RunEquations
+pub mod Nets
+mod worked

@@ -11,8 +11,8 @@ use Rattle.std.proofs.lemmas.List.Sums.{prefix_len-le-length, passes_at_first}
 use Rattle.std.proofs.lemmas.Map.Made.{is_member-filter}
 use Rattle.est_base.specs.Names.{is_same_name}
 use Rattle.est_base.specs.Distinct.{all_differ, none_shared}
+use Rattle.est_base.proofs.SameNames.{same_name-is}
 use Rattle.net_ir.specs.NameLists.{is_among, first_again}
-use Rattle.net_ir.proofs.NumberedNames.{same-eq}
 
 -- ---- names among others
 
@@ -35,7 +35,7 @@ is_among-more name names i d low =
 
 -- one of those that pass a test
 pub is_among-filter : (p : List ℕ → Bool) (name : List ℕ) (names : List (List ℕ)) → is_among name (filter p names) ≡ (is_among name names && p name)
-is_among-filter p name names = is_member-filter nat_list_eq_equiv p name (λ other same. ap p (same-eq name other same)) names
+is_among-filter p name names = is_member-filter nat_list_eq_equiv p name (λ other same. ap p (same_name-is name other same)) names
 
 pub any-none : {X : Type 0} (p : X → Bool) (xs : List X) → list_any p xs ≡ false → (k : ℕ) (d : X) → k < length xs → p (get_or xs k d) ≡ false
 any-none p [] none k d h = absurd (omega arith)
@@ -173,7 +173,7 @@ place-among x xs low =
 
 pub found-at : (x : List ℕ) (xs : List (List ℕ)) → is_among x xs ≡ true → get_or xs (position_or_len (is_same_name x) xs) [] ≡ x
 found-at x xs among =
-    sym (same-eq x (get_or xs (position_or_len (is_same_name x) xs) []) (passes_at_first (is_same_name x) xs [] (found-low x xs among)))
+    sym (same_name-is x (get_or xs (position_or_len (is_same_name x) xs) []) (passes_at_first (is_same_name x) xs [] (found-low x xs among)))
 
 -- ---- what a set of names says of the list of its names
 
@@ -215,3 +215,28 @@ keys-next f xs i d keys new low before other put =
     let grown : new ≡ keys ++ x ∷ [] = put ∙ rw lacks refl in
     ap (map f) grown ∙ map-append f keys (x ∷ []) ∙ ap (λ l. l ++ f x ∷ []) before ∙ ap (λ n. take i (map f xs) ++ n ∷ []) (sym at)
     ∙ sym (take_more (map f xs) i [] inside)
+
+-- the valuation that gives each name the value in its place
+abbrev pub looked_up : List (List ℕ) → List Bool → List ℕ → Bool
+looked_up [] values x = false
+looked_up (name ∷ names) [] x = false
+looked_up (name ∷ names) (value ∷ values) x =
+    if is_same_name name x then value else looked_up names values x
+
+pub looked_up-past : (name : List ℕ) (value : Bool) (names : List (List ℕ)) (values : List Bool) (xs : List (List ℕ)) → list_any (is_same_name name) xs ≡ false
+    → map (looked_up (name ∷ names) (value ∷ values)) xs ≡ map (looked_up names values) xs
+looked_up-past name value names values [] apart = refl
+looked_up-past name value names values (x ∷ xs) apart =
+    let parts = or_parts (is_same_name name x) (list_any (is_same_name name) xs) apart in
+    rw parts.0 (ap (λ l. looked_up names values x ∷ l) (looked_up-past name value names values xs parts.1))
+
+pub map-looked_up : (names : List (List ℕ)) (values : List Bool) → all_differ is_same_name names ≡ true → length names ≡ length values
+    → map (looked_up names values) names ≡ values
+map-looked_up [] [] differ len = refl
+map-looked_up [] (value ∷ values) differ len = cc
+map-looked_up (name ∷ names) [] differ len = cc
+map-looked_up (name ∷ names) (value ∷ values) differ len =
+    let parts = and_parts (not (list_any (is_same_name name) names)) (all_differ is_same_name names) differ in
+    let rest = looked_up-past name value names values names (not-true (list_any (is_same_name name) names) parts.0)
+    ∙ map-looked_up names values parts.1 (omega arith) in
+    rw (nat_list_eq_equiv.refl name) (ap (λ l. value ∷ l) rest)

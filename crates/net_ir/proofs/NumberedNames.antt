@@ -12,6 +12,7 @@ use Rattle.std.proofs.lemmas.Fmt.{decimal_injective}
 use Rattle.est_base.specs.declared.indices.WireId.{WireId}
 use Rattle.est_base.specs.Distinct.{all_differ, none_shared}
 use Rattle.est_base.specs.Names.{is_same_name}
+use Rattle.est_base.proofs.SameNames.{same_name-is}
 use Rattle.net_ir.specs.declared.netlist.Gate.{Gate}
 use Rattle.net_ir.specs.Gates.{carried}
 use Rattle.net_ir.specs.Netlists.{Netlist}
@@ -21,14 +22,8 @@ use Rattle.net_ir.proofs.Building.{all_differ-append}
 
 -- ---- names that differ
 
-pub same-eq : (x y : List ℕ) → is_same_name x y ≡ true → x ≡ y
-same-eq x y = (bytes_decides x y).0
-
-pub same-refl : (x : List ℕ) → is_same_name x x ≡ true
-same-refl x = (bytes_decides x x).1 refl
-
 pub differ : (x y : List ℕ) → (x ≢ y) → is_same_name x y ≡ false
-differ x y ne = false_from_ne_true (is_same_name x y) (λ same. ne (same-eq x y same))
+differ x y ne = false_from_ne_true (is_same_name x y) (λ same. ne (same_name-is x y same))
 
 pub differ-decimal : (m n : ℕ) → m < 2 ^ 64 → n < 2 ^ 64 → (m ≢ n) → is_same_name (decimal m) (decimal n) ≡ false
 differ-decimal m n a b ne = differ (decimal m) (decimal n) (λ e. ne (decimal_injective m n a b e))

@@ -1,6 +1,6 @@
 -- Texts that are put together part by part, and given away piece by piece.
 use Rattle.std.proofs.Common.{◌≡◌, ℕ, ◌<◌, ◌≤◌, ◌⊎◌, inl, inr, true, false, ◌==◌, List, [], ◌∷◌, ◌++◌, length, take, drop, sym, ap, ◌∙◌, arith, append_assoc}
-use Rattle.std.proofs.lemmas.List.{append-nil, length-take, length-drop, take-append-drop, take-append-le, drop-append-le}
+use Rattle.std.proofs.lemmas.List.{append-nil, length-take, take-append-drop, take-append-le, drop-append-le}
 
 -- ---- from part to part
 
@@ -46,7 +46,3 @@ pub pieces-join : (n : ℕ) (text old piece rest new whole : List ℕ) → text 
 pieces-join n text old piece rest new whole before p r more =
     ap (λ t. t ++ rest) more ∙ append_assoc text piece rest
     ∙ ap (λ l. text ++ l) (ap (λ l. l ++ rest) p ∙ ap (λ l. take n old ++ l) r ∙ take-append-drop n old) ∙ before
-
-pub pieces-fall : (n : ℕ) (old piece rest : List ℕ) → 0 < length piece → piece ≡ take n old → rest ≡ drop n old → length rest < length old
-pieces-fall n old piece rest some p r =
-    omega (arith, some, ap length p ∙ length-take n old, ap length r ∙ length-drop n old)

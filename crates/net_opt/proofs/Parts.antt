@@ -123,7 +123,7 @@ silent-with net parts s = λ i. record {
   gates = s.gates i;
 }
 
-silent-wires : (gates : List Gate) → carried (map silent_gate gates) ≡ []
+pub silent-wires : (gates : List Gate) → carried (map silent_gate gates) ≡ []
 silent-wires [] = refl
 silent-wires (g ∷ gates) = silent-wires gates
 

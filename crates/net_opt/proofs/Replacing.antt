@@ -12,6 +12,7 @@ use Rattle.net_follow.proofs.Induction.{followed-by-runs}
 use Rattle.net_simp.specs.SameRuns.{SameParts, SameRuns}
 use Rattle.net_opt.specs.Optimized.{Optimizes}
 use Rattle.net_opt.specs.Silencing.{silent_gate, silent_net}
+use Rattle.net_opt.proofs.Parts.{silent-wires}
 
 -- ---- wires that are forgotten
 
@@ -28,14 +29,10 @@ silent-from net latches (Event inputs ∷ items) =
     ∙ silent-from net (next_latches net (net_values net latches inputs)) items) i
 silent-from net latches (Reset ∷ items) = silent-from net (initial_latches net) items
 
-silent-carried : (gates : List Gate) → carried (map silent_gate gates) ≡ []
-silent-carried [] = refl
-silent-carried (g ∷ gates) = silent-carried gates
-
 pub silent-optimizes : (net : Netlist) → Optimizes net (silent_net net)
 silent-optimizes net = record {
   replaces = record {
-    interface = record { name = refl; inputs = refl; outputs = refl; silent = silent-carried net.gates };
+    interface = record { name = refl; inputs = refl; outputs = refl; silent = silent-wires net.gates };
     followed = followed-by-runs net (silent_net net) (λ items fit. silent-from net (initial_latches net) items);
   };
   fewer_gates = omega (arith, length-map net.gates silent_gate);

@@ -3,7 +3,7 @@ use Rattle.std.proofs.Common.{◌≡◌, ℕ, ◌+◌, ◌<◌, ◌≤◌, suc, 
 use Rattle.std.proofs.Common.{slice_index_or, refl, sym, ap, subst, ◌∙◌, arith, inl, inr, All}
 use Rattle.std.proofs.lemmas.List.{get_or_append_left, get_or_push, length_push}
 use Rattle.std.proofs.lemmas.List.Elements.{All-push}
-use Rattle.std.proofs.lemmas.Bool.{cases_lt, cases_Bool, both_ways, lt-ltb}
+use Rattle.std.proofs.lemmas.Bool.{cases_lt, cases_Bool, lt-ltb}
 use Rattle.std.specs.Prelude.{nat_lt, ◌⊎◌}
 use Rattle.est_base.specs.declared.indices.NetId.{NetId}
 use Rattle.est_base.specs.declared.indices.WireId.{WireId}
@@ -19,6 +19,7 @@ use Rattle.net_simp.specs.Forms.{form_of}
 use Rattle.net_simp.specs.Keeping.{Keeps, Any}
 use Rattle.std.specs.Map.{lookup}
 use Rattle.indexmap.specs.IndexMap.{IndexMap, IsEmpty}
+use Rattle.facts.proofs.Tests.{if-false, if-true}
 use Rattle.net_simp.specs.Drafts.{form_in, same_form, found_by, found_op, InRange, told, with_gate, name_of, set_form, with_form, no_copy, computes, Settled}
 use Rattle.net_simp.specs.Drafts.{outright_op}
 use Rattle.net_simp.specs.Drafts.{Finds, Settles, Drafted, FormsOnce, Folded}
@@ -198,14 +199,6 @@ chosen-in : {X : Type 0} (b : Bool) (x y z : X) → (if b then x else y) ≡ z �
 chosen-in true x y z e = inl (refl, e)
 chosen-in false x y z e = inr (refl, e)
 
-chosen-left : {X : Type 0} (b : Bool) (x y : X) → b ≡ true → (if b then x else y) ≡ x
-chosen-left true x y e = refl
-chosen-left false x y e = absurd (both_ways false refl e)
-
-chosen-right : {X : Type 0} (b : Bool) (x y : X) → b ≡ false → (if b then x else y) ≡ y
-chosen-right true x y e = absurd (both_ways true e refl)
-chosen-right false x y e = refl
-
 abbrev numbered : ℕ → NetId
 numbered n = record { 0 = n }
 
@@ -240,7 +233,7 @@ place-stays known op own unknown q n e = elim (cases_Bool (same_form (form_of op
   | inl is_true ↦
       let same = ap known (same_form-is (form_of op) q is_true) in
       let never : ⊥ = cc in absurd never
-  | inr is_false ↦ chosen-right (same_form (form_of op) q) (Some (numbered own)) (known q) is_false ∙ e
+  | inr is_false ↦ if-false (same_form (form_of op) q) (Some (numbered own)) (known q) is_false ∙ e
 ]
 
 -- a gate of its own
@@ -262,7 +255,7 @@ place first old new names known g op d m fresh =
       name_no_copy = subst no_copy (sym (op_at-new first new x)) fresh;
       finds = place-finds first new known op g.wire fresh d.finds;
       stays = place-stays known op (first + length new) (m.unknown fresh);
-      knows = λ e. chosen-left (same_form (form_of op) (form_of op)) (Some (numbered (first + length new))) (known (form_of op))
+      knows = λ e. if-true (same_form (form_of op) (form_of op)) (Some (numbered (first + length new))) (known (form_of op))
           (same_form-itself (form_of op));
     })
 
@@ -354,7 +347,7 @@ drafted-next first k gates new newer names newer_names known later g op d more l
     (sym same) next)))
 
 op_at-below : (first n : ℕ) → n < first → op_at first [] n ≡ None
-op_at-below first n low = chosen-left (nat_lt n first) None (Some idle.op) (lt-ltb n first low)
+op_at-below first n low = if-true (nat_lt n first) None (Some idle.op) (lt-ltb n first low)
 
 pub drafted-start : (first : ℕ) (names : List NetId) (known : Form → Option NetId) → length names ≡ first → OwnNames names
     → ((q : Form) → known q ≡ None) → Drafted first [] [] names known

@@ -9,4 +9,4 @@ pub mod SimplifiedNets
 pub mod ReducedGates
 pub mod Simple
 pub mod Carriers
-mod WorkedRules
+mod worked

@@ -5,6 +5,7 @@ use Rattle.std.specs.Prelude.{◌⊎◌, is_some}
 use Rattle.std.proofs.lemmas.List.{get_or-set_same, get_or-set_other, get_or_default, get_or_append_left, get_or-append-add, get_or-replicate, get_or-map}
 use Rattle.std.proofs.lemmas.List.{length-replicate, length-append, length-map}
 use Rattle.std.proofs.lemmas.Bool.{eq-eqb, ne_eqb, cases_eq, cases_order, or_cases, or_left, or_right, both_ways}
+use Rattle.facts.proofs.Tests.{or-false-back}
 use Rattle.net_ir.specs.declared.netlist.Op.{Op}
 use Rattle.net_ir.specs.declared.netlist.Op.TheVariants.{Const}
 use Rattle.net_ir.specs.declared.netlist.Gate.{Gate}
@@ -17,14 +18,6 @@ or-true : (b : Bool) → true ≡ (b || true)
 or-true true = refl
 or-true false = refl
 
-or-false : (b : Bool) → b ≡ (b || false)
-or-false true = refl
-or-false false = refl
-
-pub or-assoc : (a b c : Bool) → ((a || b) || c) ≡ (a || (b || c))
-or-assoc true b c = refl
-or-assoc false b c = refl
-
 -- one more mark
 pub marked-set : (marks : List Bool) (m n : ℕ) → m < length marks → marked (set marks m true) n ≡ (marked marks n || m == n)
 marked-set marks m n low = elim (cases_eq m n) [
@@ -33,7 +26,7 @@ marked-set marks m n low = elim (cases_eq m n) [
       ∙ or-true (marked marks n) ∙ ap (λ b. marked marks n || b) (sym (eq-eqb m n same))
   | inr apart ↦
       get_or-set_other marks m n true false (λ e. apart (sym e))
-      ∙ or-false (marked marks n) ∙ ap (λ b. marked marks n || b) (sym (ne_eqb m n apart))
+      ∙ or-false-back (marked marks n) ∙ ap (λ b. marked marks n || b) (sym (ne_eqb m n apart))
 ]
 
 -- no gate yet

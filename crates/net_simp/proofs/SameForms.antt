@@ -2,6 +2,7 @@
 use Rattle.std.proofs.Common.{◌≡◌, ℕ, ◌+◌, ◌<◌, Bool, true, false, not, ◌&&◌, ◌||◌, ◌==◌, if◌then◌else◌, refl, sym, ap, ◌∙◌, arith}
 use Rattle.std.specs.Prelude.{nat_lt}
 use Rattle.std.proofs.lemmas.Bool.{eqb-true, eq-eqb, and_parts, and_from, false≢true}
+use Rattle.facts.proofs.Tests.{and-turned, or-turned}
 use Rattle.net_ir.specs.declared.netlist.Op.{Op}
 use Rattle.net_ir.specs.declared.netlist.Op.TheVariants.{Const, Copy, Not, And, Or}
 use Rattle.net_ir.specs.Gates.{op_value}
@@ -16,18 +17,6 @@ form_value V (forms.Copy n) = V n
 form_value V (forms.Not n) = not (V n)
 form_value V (forms.And m n) = V m && V n
 form_value V (forms.Or m n) = V m || V n
-
-and-turned : (x y : Bool) → (x && y) ≡ (y && x)
-and-turned true true = refl
-and-turned true false = refl
-and-turned false true = refl
-and-turned false false = refl
-
-or-turned : (x y : Bool) → (x || y) ≡ (y || x)
-or-turned true true = refl
-or-turned true false = refl
-or-turned false true = refl
-or-turned false false = refl
 
 ordered-and : (V : ℕ → Bool) (m n : ℕ) (b : Bool) → form_value V (if b then forms.And m n else forms.And n m) ≡ (V m && V n)
 ordered-and V m n true = refl

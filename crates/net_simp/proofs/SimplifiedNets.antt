@@ -1,9 +1,10 @@
 -- A netlist over the new gates: that it is one, and that it has the runs of the old one.
-use Rattle.std.proofs.Common.{◌≡◌, ℕ, ◌+◌, ◌<◌, zero, suc, Bool, List, [], ◌∷◌, ◌++◌, length, map, slice_index_or, refl, sym, ap, ◌∙◌, subst, arith, IsTrue}
+use Rattle.std.proofs.Common.{◌≡◌, ℕ, ◌+◌, ◌<◌, Bool, List, [], ◌∷◌, ◌++◌, length, map, slice_index_or, refl, sym, ap, ◌∙◌, subst, arith, IsTrue}
 use Rattle.std.proofs.Common.{All, nat_eq, length-append}
 use Rattle.std.proofs.lemmas.List.{length-map}
 use Rattle.std.proofs.lemmas.List.Elements.{All-map}
 use Rattle.std.proofs.lemmas.Simd.{map-map}
+use Rattle.facts.proofs.Lists.{map-equal}
 use Rattle.est_base.specs.Distinct.{all_differ}
 use Rattle.est_base.specs.Items.{Item, Event, Reset, EachEvent}
 use Rattle.est_base.specs.Names.{is_name, is_same_name}
@@ -31,13 +32,6 @@ names-same net f gates = map-map (λ (o : NetOut). o.name) (renamed_out f) net.o
 
 inits-same : (net : Netlist) (f : ℕ → ℕ) (gates : List Gate) → initial_latches (renamed_net net f gates) ≡ initial_latches net
 inits-same net f gates = map-map (λ (l : Latch). l.init) (renamed_latch f) net.latches
-
-map-same : {X Y : Type 0} (f h : X → Y) (xs : List X) → All (λ x. f x ≡ h x) xs → map f xs ≡ map h xs
-map-same f h [] same = refl
-map-same f h (x ∷ xs) same =
-    let here : f x ≡ h x = same zero x (omega arith) in
-    let rest = map-same f h xs (λ k d b. same (suc k) d (omega arith)) in
-    cc
 
 pub is-net : (net : Netlist) (f : ℕ → ℕ) (Asked : ℕ → Type 0) (gates : List Gate) → IsNet net → Keeps (first_gate net) net.gates gates f Asked
     → AsksFor net Asked → IsNet (renamed_net net f gates)
@@ -80,11 +74,11 @@ same-instants net f Asked gates n k a = λ latches inputs many given.
     let W = gate_values v gates in
     let len : length v ≡ first_gate net = omega (arith, length-append inputs latches) in
     let outs = map-map (λ (o : NetOut). value_in W o.net.0) (renamed_out f) net.outputs
-    ∙ map-same (λ (o : NetOut). value_in W (f o.net.0)) (λ (o : NetOut). value_in V o.net.0) net.outputs
+    ∙ map-equal (λ (o : NetOut). value_in W (f o.net.0)) (λ (o : NetOut). value_in V o.net.0) net.outputs
     (λ j o h. k.same v (slice_index_or net.outputs j o).net.0 len (n.outputs_in_range j o h) (a.outputs j o h)) in
     let active = k.same v net.paused len n.paused_in_range a.paused in
     let next = map-map (λ (l : Latch). value_in W l.from.0) (renamed_latch f) net.latches
-    ∙ map-same (λ (l : Latch). value_in W (f l.from.0)) (λ (l : Latch). value_in V l.from.0) net.latches
+    ∙ map-equal (λ (l : Latch). value_in W (f l.from.0)) (λ (l : Latch). value_in V l.from.0) net.latches
     (λ j l h. k.same v (slice_index_or net.latches j l).from.0 len (n.latches_in_range j l h) (a.latches j l h)) in
     record {
       shows = λ i. record { outputs = outs i; paused = active i };

@@ -1,7 +1,9 @@
 -- What the texts of an optimized netlist keep of the text whose netlist it is made of.
-use Rattle.std.proofs.Common.{◌≡◌, ℕ, Bool, List, [], ◌∷◌, ◌++◌, length, map, refl, sym, ap, ap₂, ◌∙◌, subst}
+use Rattle.std.proofs.Common.{◌≡◌, ℕ, Bool, List, [], ◌∷◌, ◌++◌, length, map, sym, ap, ap₂, ◌∙◌, subst}
 use Rattle.std.specs.Prelude.{codes}
-use Rattle.est_base.specs.Items.{Item, Event, Reset, EachEvent}
+use Rattle.facts.proofs.Lists.{map-twice}
+use Rattle.est_base.specs.Items.{Item, EachEvent}
+use Rattle.est_base.proofs.Items.{wide_events}
 use Rattle.machines.specs.Machines.{Shows}
 use Rattle.machines.proofs.Showing.{shows-computed, shows-through}
 use Rattle.net_ir.specs.declared.netlist.NetOut.{NetOut}
@@ -24,16 +26,6 @@ use Rattle.opt_texts.specs.Optimized.{IsSmallOf, IsSmallNetOf}
 -- what a netlist shows, as a row of values
 abbrev row : Shown → List Bool
 row s = s.outputs ++ s.paused ∷ []
-
-map-twice : {X Y Z : Type 0} (g : Y → Z) (f : X → Y) (xs : List X) → map g (map f xs) ≡ map (λ x. g (f x)) xs
-map-twice g f [] = refl
-map-twice g f (x ∷ xs) = ap (λ l. g (f x) ∷ l) (map-twice g f xs)
-
--- events of a width, by two numbers that are the same
-widths : (m n : ℕ) → m ≡ n → (items : List Item) → EachEvent (λ event. length event ≡ m) items → EachEvent (λ event. length event ≡ n) items
-widths m n is [] fits = tt
-widths m n is (Event event ∷ items) fits = (fits.0 ∙ is, widths m n is items fits.1)
-widths m n is (Reset ∷ items) fits = widths m n is items fits
 
 module _ (c : Circuit) (net : Netlist) (small : IsSmallOf c net) where
   abbrev made : Netlist
@@ -61,13 +53,13 @@ module _ (c : Circuit) (net : Netlist) (small : IsSmallOf c net) where
 
   module _ (items : List Item) (fits : EachEvent (IsWide c) items) where
     pub wide : EachEvent (λ event. length event ≡ length net.inputs) items
-    wide = widths (length c.inputs) (length net.inputs) (ap length (sym inputs-kept)) items fits
+    wide = wide_events (length c.inputs) (length net.inputs) (ap length (sym inputs-kept)) items fits
 
     abbrev rows : List (List Bool)
     rows = map row (net_run net items)
 
     followed : net_run net items ≡ net_run made items
-    followed = small.optimizes.replaces.followed.runs items (widths (length c.inputs) (length made.inputs) (ap length (sym small.is.inputs)) items fits)
+    followed = small.optimizes.replaces.followed.runs items (wide_events (length c.inputs) (length made.inputs) (ap length (sym small.is.inputs)) items fits)
 
     -- the circuit shows what the netlist shows
     pub circuit-shows : Shows (circuit_machine c) (λ v. map v c.outputs) (circuit_machine c).start items rows

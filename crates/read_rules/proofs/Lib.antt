@@ -13,5 +13,5 @@ pub mod Whole
 pub mod Choices
 pub mod StatementLaws
 pub mod StatementRows
-mod Examples
-mod StatementExamples
+pub mod Depths
+mod worked

@@ -1,7 +1,7 @@
 -- The literals of leaves, put together: which are met, and which bits they want.
 use Rattle.std.proofs.Common.{◌≡◌, ℕ, ◌<◌, ◌≤◌, ◌⊎◌, inl, inr, Bool, true, false, ◌==◌, ◌&&◌, ◌||◌, List, [], ◌∷◌, ◌++◌, map, refl, ap, sym}
 use Rattle.std.proofs.Common.{◌∙◌, arith, All}
-use Rattle.std.proofs.lemmas.Bool.{false≢true, ne_eqb}
+use Rattle.std.proofs.lemmas.Bool.{ne_eqb, or_parts}
 use Rattle.std.proofs.Math.Bool.{and-false, and_assoc, or_assoc}
 use Rattle.std.proofs.lemmas.List.Elements.{All-append, All-nil, All-cons, All-weaker, All-head, All-tail}
 use Rattle.state_enc.specs.declared.codes.Literal.{Literal}
@@ -61,20 +61,16 @@ bit_of-front S f (e ∷ es) i =
     ∙ ap (λ b. (S e.leaf && b) || ((some_selected S es && wants i f) || bit_of S es i)) (wants-append i f e.needs)
     ∙ shuffled (S e.leaf) (wants i f) (wants i e.needs) (some_selected S es) (bit_of S es i)
 
-either-false : (a b : Bool) → (a || b) ≡ false → (a ≡ false) × (b ≡ false)
-either-false true b e = absurd (false≢true (sym e))
-either-false false b e = (refl, e)
-
 pub bit_of-none : (S : ℕ → Bool) (es : List LeafCode) (i : ℕ) → some_selected S es ≡ false → bit_of S es i ≡ false
 bit_of-none S [] i none = refl
 bit_of-none S (e ∷ es) i none =
-    let both = either-false (S e.leaf) (some_selected S es) none in
+    let both = or_parts (S e.leaf) (some_selected S es) none in
     ap (λ b. (b && wants i e.needs) || bit_of S es i) both.0 ∙ bit_of-none S es i both.1
 
 pub selections-none : (S : ℕ → Bool) (es : List LeafCode) → some_selected S es ≡ false → selections S es ≡ nothing es
 selections-none S [] none = refl
 selections-none S (e ∷ es) none =
-    let both = either-false (S e.leaf) (some_selected S es) none in
+    let both = or_parts (S e.leaf) (some_selected S es) none in
     (λ i. both.0 i ∷ selections-none S es both.1 i)
 
 pub selections-front : (S : ℕ → Bool) (f : List Literal) (es : List LeafCode) → selections S (map (with_front f) es) ≡ selections S es

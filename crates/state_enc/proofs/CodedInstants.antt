@@ -5,6 +5,7 @@ use Rattle.std.proofs.lemmas.List.{append-nil, get_or_append_left, get_or-append
 use Rattle.std.proofs.lemmas.List.Elements.{All-map, All-cons, All-tail}
 use Rattle.std.proofs.lemmas.Simd.{map-map}
 use Rattle.std.proofs.lemmas.Bool.{cases_lt}
+use Rattle.facts.proofs.Lists.{map-equal}
 use Rattle.est_base.specs.Distinct.{all_differ}
 use Rattle.est_base.specs.Items.{Item, EachEvent}
 use Rattle.est_base.specs.Names.{is_name, is_same_name}
@@ -47,13 +48,6 @@ tabulated-same h f (x ∷ xs) (suc n) k len same =
     let here : h x ≡ f k = same 0 x (omega arith) ∙ ap f e in
     let rest = tabulated-same h f xs n (k + 1) (omega (arith, len)) (λ i d low.
     let q : k + suc i ≡ k + 1 + i = omega arith in same (suc i) d (omega arith) ∙ ap f q) in
-    (λ j. here j ∷ rest j)
-
-map-same : {X Y : Type 0} (f h : X → Y) (xs : List X) → All (λ x. f x ≡ h x) xs → map f xs ≡ map h xs
-map-same f h [] same = refl
-map-same f h (x ∷ xs) same =
-    let here : f x ≡ h x = same zero x (omega arith) in
-    let rest = map-same f h xs (λ k d b. same (suc k) d (omega arith)) in
     (λ j. here j ∷ rest j)
 
 met-same : (B C : ℕ → Bool) (ls : List Literal) → ((i : ℕ) → B i ≡ C i) → are_met B ls ≡ are_met C ls
@@ -275,7 +269,7 @@ module _ (net : Netlist) (boot : NetId) (leaves : List Latch) (width : ℕ) (cod
   recoded-shows : shown (coded_net net (stand_in names) gates bits) new_values ≡ shown net old_values
   recoded-shows =
       let outs = map-map (λ (o : NetOut). value_in new_values o.net.0) (renamed_out (stand_in names)) net.outputs
-      ∙ map-same (λ (o : NetOut). value_in new_values (stand_in names o.net.0)) (λ (o : NetOut). value_in old_values o.net.0) net.outputs
+      ∙ map-equal (λ (o : NetOut). value_in new_values (stand_in names o.net.0)) (λ (o : NetOut). value_in old_values o.net.0) net.outputs
       (λ j o low. name-same (slice_index_or net.outputs j o).net.0 (h.is_net.outputs_in_range j o low)) in
       let active = name-same net.paused h.is_net.paused_in_range in
       λ i. record { outputs = outs i; paused = active i }
@@ -304,7 +298,7 @@ module _ (net : Netlist) (boot : NetId) (leaves : List Latch) (width : ℕ) (cod
       let B = gate_values new_start (h.drawn.decode ++ map (copied (stand_in names)) net.gates) in
       let leaf_values : map (λ (n : NetId). value_in B (stand_in names n.0)) next ≡ map N leaves =
       map-map (λ (n : NetId). value_in B (stand_in names n.0)) (λ (l : Latch). l.from) leaves
-      ∙ map-same (λ (l : Latch). value_in B (stand_in names l.from.0)) N leaves (λ j l low. copied-same (slice_index_or leaves j l).from.0 (leaves-low j l
+      ∙ map-equal (λ (l : Latch). value_in B (stand_in names l.from.0)) N leaves (λ j l low. copied-same (slice_index_or leaves j l).from.0 (leaves-low j l
       low)) in
       let many = h.drawn.bit_count in
       let codes_now : map (λ (n : NetId). value_in new_values n.0) bits ≡ tabulated (wanted codes (map N leaves)) width 0 =

@@ -13,4 +13,4 @@ pub mod ShapeLaws
 pub mod PlanLaws
 pub mod TreeWeights
 pub mod Encoded
-mod WorkedWidths
+mod worked

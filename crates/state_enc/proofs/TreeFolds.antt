@@ -1,19 +1,18 @@
 -- What a subtree comes to by its places is what its statement does.
-use Rattle.std.proofs.Common.{◌≡◌, ℕ, ◌+◌, ◌<◌, ◌≤◌, Bool, true, false, ◌==◌, ◌&&◌, List, [], ◌∷◌, ◌++◌, length, map, get_or, refl, sym}
-use Rattle.std.proofs.Common.{ap, ◌∙◌, ⊎_elim, arith, append_assoc, length-append}
-use Rattle.std.specs.Prelude.{nat_lt, if◌then◌else◌}
-use Rattle.std.proofs.lemmas.List.{append-nil, get_or-append-add, get_or_append_left}
-use Rattle.std.proofs.lemmas.Bool.{false≢true, eq-eqb, ne_eqb, lt-ltb, le-ltb, cases_lt, and_from}
-use Rattle.std.proofs.Math.Bool.{and-false}
+use Rattle.std.proofs.Common.{◌≡◌, ℕ, ◌+◌, ◌<◌, ◌≤◌, Bool, true, false, List, [], ◌∷◌, ◌++◌, length, map, get_or, refl, sym}
+use Rattle.std.proofs.Common.{ap, ◌∙◌, arith, append_assoc, length-append}
+use Rattle.std.specs.Prelude.{if◌then◌else◌}
+use Rattle.std.proofs.lemmas.List.{append-nil}
 use Rattle.est_kernel.specs.Terms.{Term, Nothing, Pause, Emit, Exit, Present, Suspend, Seq, Loop, Par, Trap, Local, Awake}
 use Rattle.est_kernel.specs.Preorder.{statement_count}
+use Rattle.est_kernel.proofs.PreorderLaws.{statement_count-pos}
 use Rattle.grc_graph.specs.declared.trees.SelNode.{SelNode}
 use Rattle.grc_graph.specs.Layers.{can_pass}
 use Rattle.grc_graph.specs.SelectionTrees.{Form, Leaf, Exclusive, Parallel, Passing, TreeNode, tree_nodes, leaf_paths, subtree_if, resumes, second_resumes}
 use Rattle.grc_graph.specs.TreeForms.{form_of, node_of, end_of, SubtreesNest}
 use Rattle.grc_graph.specs.TreeReadings.{second_place}
 use Rattle.grc_graph.proofs.TreeLaws.{tree_none}
-use Rattle.grc_graph.proofs.TreeJudging.{Heads, heads_tree, node_there}
+use Rattle.grc_graph.proofs.TreeJudging.{heads_tree, node_there, middle_of}
 use Rattle.state_enc.specs.SelectionFolds.{fold_tree}
 use Rattle.state_enc.specs.TreeWalks.{Folds}
 
@@ -75,20 +74,6 @@ row_one none join t p f n i k e j = record {
   later = omega arith;
 }
 
-count_some : (p : Term) → 0 < statement_count p
-count_some Nothing = omega arith
-count_some Pause = omega arith
-count_some (Emit s) = omega arith
-count_some (Exit c) = omega arith
-count_some (Present e p q) = omega arith
-count_some (Suspend e p) = omega arith
-count_some (Seq p q) = omega arith
-count_some (Loop at p) = omega arith
-count_some (Par p q) = omega arith
-count_some (Trap p) = omega arith
-count_some (Local s p) = omega arith
-count_some (Awake e p) = omega arith
-
 row_two : {X : Type 0} (none : X) (join : Form → X → X → X) (t p q : Term) (other : Bool) (f : Form) (n i k : ℕ)
     → tree_nodes true t n i k ≡ subtree_if true n i f (tree_nodes (resumes p) p (n + 1) (i + 1) k
     ++ tree_nodes other q (n + 1 + statement_count p) (i + 1 + length (tree_nodes (resumes p) p (n + 1) (i + 1) k))
@@ -106,7 +91,7 @@ row_two none join t p q other f n i k e j = record {
   leaf = k + length (leaf_paths (resumes p) p (n + 1));
   nodes_two = e;
   judged = j;
-  later = omega (arith, count_some p);
+  later = omega (arith, statement_count-pos p);
 }
 
 row_of : {X : Type 0} (none : X) (join : Form → X → X → X) (t : Term) (n i k : ℕ) → 0 < length (tree_nodes true t n i k) → Row none join t n i k
@@ -135,58 +120,6 @@ row_of none join (Local s p) n i k h = row_one none join (Local s p) p Passing n
 row_of none join (Awake e p) n i k h = absurd (omega arith)
 
 -- ---- the place of the second part
-
-chosen : {A : Type 0} (b : Bool) (x y : A) → b ≡ true → (if b then x else y) ≡ x
-chosen true x y h = refl
-chosen false x y h = absurd (false≢true h)
-
-left_out : {A : Type 0} (b : Bool) (x y : A) → b ≡ false → (if b then x else y) ≡ y
-left_out true x y h = absurd (false≢true (sym h))
-left_out false x y h = refl
-
--- the second part begins behind the nodes of the first
-middle_of : (nodes : List SelNode) (nest : SubtreesNest nodes) (i n m : ℕ) (d : SelNode) (pre A B post : List TreeNode) (f : Form)
-    → map node_of nodes ≡ pre ++ ((record { path = n; after = i + 1 + length (A ++ B); form = f } ∷ (A ++ B)) ++ post)
-    → i ≡ length pre
-    → Heads A (n + 1) (i + 1)
-    → Heads B m (i + 1 + length A)
-    → n + 1 < m
-    → second_place nodes i d ≡ i + 1 + length A
-middle_of nodes nest i n m d pre A B post f e at a b lt =
-    let x : TreeNode = record { path = n; after = i + 1 + length (A ++ B); form = f } in
-    let here : node_of (get_or nodes i d) ≡ x
-    = node_there nodes pre (x ∷ (A ++ B)) post i 0 d e (omega (arith, at)) (omega arith) in
-    let end : end_of nodes i d ≡ i + 1 + length (A ++ B) = ap (λ y. y.after) here in
-    let path : (get_or nodes i d).path.0 ≡ n = ap (λ y. y.path) here in
-    let both : length (A ++ B) ≡ length A + length B = length-append A B in
-    let test = nat_lt (i + 1) (end_of nodes i d) && (get_or nodes (i + 1) d).path.0 == (get_or nodes i d).path.0 + 1 in
-    ⊎_elim
-    (λ (none : length A < 1).
-    ⊎_elim
-    (λ (empty : length B < 1).
-    left_out test _ _ (ap (λ v. v && (get_or nodes (i + 1) d).path.0 == (get_or nodes i d).path.0 + 1)
-    (le-ltb (i + 1) (end_of nodes i d) (omega (arith, end, both))))
-    ∙ (let r : i + 1 ≡ i + 1 + length A = omega arith in r))
-    (λ (some : 1 ≤ length B).
-    let next : node_of (get_or nodes (i + 1) d) ≡ get_or (A ++ B) 0 (node_of d)
-    = node_there nodes pre (x ∷ (A ++ B)) post (i + 1) 1 d e (omega (arith, at)) (omega (arith, both)) in
-    let second : get_or (A ++ B) 0 (node_of d) ≡ get_or B 0 (node_of d)
-    = (let z : 0 ≡ length A + 0 = omega arith in ap (λ j. get_or (A ++ B) j (node_of d)) z) ∙ get_or-append-add A B 0 (node_of d) in
-    let number : (get_or nodes (i + 1) d).path.0 ≡ m = ap (λ y. y.path) (next ∙ second) ∙ b.path (node_of d) (omega arith) in
-    left_out test _ _
-    (ap (λ v. nat_lt (i + 1) (end_of nodes i d) && v) (ne_eqb _ _ (λ q. omega (arith, q, number, path, lt))) ∙ and-false _)
-    ∙ (let r : i + 1 ≡ i + 1 + length A = omega arith in r))
-    (cases_lt (length B) 1))
-    (λ (some : 1 ≤ length A).
-    let next : node_of (get_or nodes (i + 1) d) ≡ get_or (A ++ B) 0 (node_of d)
-    = node_there nodes pre (x ∷ (A ++ B)) post (i + 1) 1 d e (omega (arith, at)) (omega (arith, both)) in
-    let first : get_or (A ++ B) 0 (node_of d) ≡ get_or A 0 (node_of d) = get_or_append_left A B (node_of d) 0 (omega arith) in
-    let number : (get_or nodes (i + 1) d).path.0 ≡ n + 1 = ap (λ y. y.path) (next ∙ first) ∙ a.path (node_of d) (omega arith) in
-    let behind : end_of nodes (i + 1) d ≡ i + 1 + length A = ap (λ y. y.after) (next ∙ first) ∙ a.after (node_of d) (omega arith) in
-    chosen test _ _
-    (and_from _ _ (lt-ltb (i + 1) (end_of nodes i d) (omega (arith, end, both))) (eq-eqb _ _ (omega (arith, number, path))))
-    ∙ behind)
-    (cases_lt (length A) 1)
 
 -- what a subtree comes to, from what its parts do
 pub folds-whole : {X : Type 0} (none : X) (join : Form → X → X → X) (nodes : List SelNode) (nest : SubtreesNest nodes) (i middle : ℕ) (d : SelNode) (l r : X)

@@ -7,6 +7,7 @@ use Rattle.std.proofs.lemmas.Bool.{cases_lt}
 use Rattle.std.proofs.lemmas.List.{length-map, get_or-map, get_or_default}
 use Rattle.std.proofs.lemmas.List.Elements.{Contains-append_left, Contains-append_right, Contains-append_cases, Contains-get_or}
 use Rattle.std.proofs.lemmas.List.Elements.{All-from_recursion, All-map, recursion_from_All}
+use Rattle.facts.proofs.Lists.{contains-later}
 use Rattle.digraph.specs.Walks.{HasEdge, JoinsNodes, IsClosedWalk}
 use Rattle.net_ir.specs.NameLists.{is_among}
 use Rattle.net_ir.proofs.NameLists.{found-low, found-at, place-among}
@@ -25,9 +26,6 @@ pub record IsRead (slots : List ℕ) (slot : ℕ) : Type 0 where
 read-more : (s slot : ℕ) (slots : List ℕ) → IsRead slots slot → IsRead (s ∷ slots) slot
 read-more s slot slots r = record { at = suc r.at; low = omega (arith, r.low); is = r.is }
 
-contains-more : {X : Type 0} (y x : X) (xs : List X) → Contains xs x → Contains (y ∷ xs) x
-contains-more y x xs h = (suc h.0, omega (arith, h.1), h.2)
-
 in-equation : (first source : ℕ) (slots : List ℕ) (u : ℕ) → IsRead slots (first + u) → Contains (slot_edges first source slots) (source, u)
 in-equation first source [] u r = let low = r.low in absurd (omega arith)
 in-equation first source (s ∷ slots) u r = go (λ q. in-equation first source slots u q) r.at r.low r.is
@@ -41,7 +39,7 @@ in-equation first source (s ∷ slots) u r = go (λ q. in-equation first source 
     go more (suc k) low is =
         let rest = more (record { at = k; low = omega arith; is = is }) in
         elim (nat_lt s first) as (λ b. Contains (if b then slot_edges first source slots else (source, s - first) ∷ slot_edges first source slots) (source, u))
-        [ true ↦ rest | false ↦ contains-more (source, s - first) (source, u) (slot_edges first source slots) rest ]
+        [ true ↦ rest | false ↦ contains-later (source, s - first) (source, u) (slot_edges first source slots) rest ]
 
 record FromEquation (first source : ℕ) (slots : List ℕ) (e : ℕ × ℕ) : Type 0 where
   node : e.0 ≡ source

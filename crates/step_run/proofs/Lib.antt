@@ -7,7 +7,6 @@ pub mod Settling
 pub mod EquationEdges
 pub mod Solving
 pub mod NoLoops
-pub mod Instants
 pub mod OnceNames
 pub mod ExprValues
 pub mod Compiling

@@ -7,12 +7,13 @@ use Rattle.std.proofs.lemmas.Bool.{and_from, and_left, and_parts, both_ways, fal
 use Rattle.std.proofs.lemmas.List.{get_or_default, take-append-drop}
 use Rattle.std.proofs.lemmas.List.Elements.{All-contains, All-from_recursion}
 use Rattle.std.proofs.lemmas.List.Folds.{list_any_at}
+use Rattle.facts.proofs.Lists.{contains-later}
 use Rattle.est_base.specs.Distinct.{all_differ, none_shared}
 use Rattle.est_base.specs.Names.{is_same_name}
+use Rattle.est_base.proofs.SameNames.{same_name-is, same_name-self}
 use Rattle.net_ir.specs.NameLists.{is_among, first_again}
 use Rattle.net_ir.proofs.Building.{all_differ-append}
 use Rattle.net_ir.proofs.NameLists.{found-low, found-at, is_among-filter}
-use Rattle.net_ir.proofs.NumberedNames.{same-eq, same-refl}
 
 -- ---- elements
 
@@ -20,18 +21,15 @@ pub first-or_later : {X : Type 0} (y x : X) (xs : List X) → Contains (y ∷ xs
 first-or_later y x xs (zero, h, is) = inl is
 first-or_later y x xs (suc k, h, is) = inr (k, omega (arith, h), is)
 
-pub later : {X : Type 0} (y x : X) (xs : List X) → Contains xs x → Contains (y ∷ xs) x
-later y x xs has = (suc has.0, omega (arith, has.1), has.2)
-
 pub each-element : {X : Type 0} (P : X → Type 0) (xs : List X) → ((x : X) → Contains xs x → P x) → AllByRecursion P xs
 each-element P [] each = tt
-each-element P (x ∷ xs) each = (each x (0, omega arith, refl), each-element P xs (λ y has. each y (later x y xs has)))
+each-element P (x ∷ xs) each = (each x (0, omega arith, refl), each-element P xs (λ y has. each y (contains-later x y xs has)))
 
 pub of-element : {X : Type 0} (P : X → Type 0) (xs : List X) → AllByRecursion P xs → (x : X) → Contains xs x → P x
 of-element P xs all x has = All-contains P xs x (All-from_recursion P xs all) has
 
 pub among-element : (x : List ℕ) (xs : List (List ℕ)) → Contains xs x → is_among x xs ≡ true
-among-element x xs has = list_any_at (is_same_name x) xs has.0 x has.1 (ap (is_same_name x) has.2 ∙ same-refl x)
+among-element x xs has = list_any_at (is_same_name x) xs has.0 x has.1 (ap (is_same_name x) has.2 ∙ same_name-self x)
 
 pub element-among : (x : List ℕ) (xs : List (List ℕ)) → is_among x xs ≡ true → Contains xs x
 element-among x xs among =
@@ -45,7 +43,7 @@ pub none_shared-from : (xs ys : List (List ℕ)) → ((x : List ℕ) → Contain
 none_shared-from [] ys apart = refl
 none_shared-from (x ∷ xs) ys apart =
     and_from (not (is_among x ys)) (none_shared is_same_name xs ys) (not_from_false (is_among x ys) (apart x (0, omega arith, refl)))
-    (none_shared-from xs ys (λ y has. apart y (later x y xs has)))
+    (none_shared-from xs ys (λ y has. apart y (contains-later x y xs has)))
 
 pub differ-both : (xs ys : List (List ℕ)) → all_differ is_same_name xs ≡ true → all_differ is_same_name ys ≡ true
     → ((x : List ℕ) → Contains xs x → is_among x ys ≡ false) → all_differ is_same_name (xs ++ ys) ≡ true
@@ -91,11 +89,12 @@ once-of before [] none = record { differ = refl; apart = λ x h. refl }
 once-of before (name ∷ names) none =
     let new = if-none (is_among name before) name (first_again (name ∷ before) names) none in
     let rest = once-of (name ∷ before) names new.1 in
-    let here : is_among name names ≡ false = rest.apart name (or_left (is_same_name name name) (is_among name before) (same-refl name)) in
+    let here : is_among name names ≡ false = rest.apart name (or_left (is_same_name name name) (is_among name before) (same_name-self name)) in
     record {
       differ = and_from (not (is_among name names)) (all_differ is_same_name names) (not_from_false (is_among name names) here) rest.differ;
       apart = λ x h. or_from (is_same_name x name) (is_among x names)
-          (false_from_ne_true (is_same_name x name) (λ s. both_ways (is_among name before) new.0 (ap (λ y. is_among y before) (sym (same-eq x name s)) ∙ h)))
+          (false_from_ne_true (is_same_name x name)
+          (λ s. both_ways (is_among name before) new.0 (ap (λ y. is_among y before) (sym (same_name-is x name s)) ∙ h)))
           (rest.apart x (or_right (is_same_name x name) (is_among x before) h));
     }
 
@@ -105,10 +104,10 @@ once-of before (name ∷ names) none =
 behind-differs : (x z sign : List ℕ) → is_same_name (take 2 x) sign ≡ true → is_same_name (take 2 z) sign ≡ true → is_same_name x z ≡ false
     → is_same_name (drop 2 x) (drop 2 z) ≡ false
 behind-differs x z sign a b other = false_from_ne_true (is_same_name (drop 2 x) (drop 2 z)) (λ same.
-    let front = same-eq (take 2 x) sign a ∙ sym (same-eq (take 2 z) sign b) in
-    let behind = same-eq (drop 2 x) (drop 2 z) same in
+    let front = same_name-is (take 2 x) sign a ∙ sym (same_name-is (take 2 z) sign b) in
+    let behind = same_name-is (drop 2 x) (drop 2 z) same in
     let equal : x ≡ z = sym (take-append-drop 2 x) ∙ ap₂ (λ f g. f ++ g) front behind ∙ take-append-drop 2 z in
-    both_ways (is_same_name x z) other (ap (is_same_name x) (sym equal) ∙ same-refl x))
+    both_ways (is_same_name x z) other (ap (is_same_name x) (sym equal) ∙ same_name-self x))
 
 behind-apart : (x sign : List ℕ) (zs : List (List ℕ)) → is_same_name (take 2 x) sign ≡ true
     → AllByRecursion (λ z. is_same_name (take 2 z) sign ≡ true) zs → is_among x zs ≡ false → is_among (drop 2 x) (map (drop 2) zs) ≡ false

@@ -1,8 +1,9 @@
 -- What the resolved names of sound equations give: an order, or a loop.
 use Rattle.std.proofs.Common.{◌≡◌, ℕ, ◌+◌, ◌<◌, true, List, [], ◌∷◌, length, map, All, sym, ap, ◌∙◌, arith, subst}
 use Rattle.std.specs.List.{AllByRecursion}
-use Rattle.std.proofs.lemmas.List.{length-map, get_or-map}
+use Rattle.std.proofs.lemmas.List.{length-map}
 use Rattle.std.proofs.lemmas.List.Elements.{All-from_recursion}
+use Rattle.facts.proofs.Lists.{all-unmapped}
 use Rattle.net_ir.specs.NameLists.{is_among}
 use Rattle.net_ir.proofs.NameLists.{found-low}
 use Rattle.step_run.specs.Slots.{slot_in}
@@ -13,15 +14,10 @@ use Rattle.step_run.specs.Solvers.{equation_edges, IsResolved, AreSlots}
 use Rattle.step_run.proofs.EquationEdges.{reads-low, walked-loop, no-loop}
 use Rattle.step_run.proofs.Places.{driven-count}
 
-all-parts : {X Y : Type 0} (P : Y → Type 0) (f : X → Y) (xs : List X) → All P (map f xs) → All (λ x. P (f x)) xs
-all-parts P f xs all k d h =
-    let wide = length-map xs f in
-    subst P (get_or-map f xs k d (f d) h) (all k (f d) (omega arith))
-
 -- what is said of the parts of values, of the values
 pub parts-within : {V : Type 0} (items : V → List ℕ) (bound : ℕ) (vs : List V) → All (λ slots. All (λ slot. slot < bound) slots) (map items vs)
     → All (λ v. All (λ slot. slot < bound) (items v)) vs
-parts-within items bound vs all = all-parts (λ slots. All (λ slot. slot < bound) slots) items vs all
+parts-within items bound vs all = all-unmapped (λ slots. All (λ slot. slot < bound) slots) items vs all
 
 -- the slots of names that have a value
 slots-low : (names xs : List (List ℕ)) → AllByRecursion (λ x. is_among x names ≡ true) xs

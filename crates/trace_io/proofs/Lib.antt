@@ -3,6 +3,4 @@ mod Finding
 mod Scanning
 mod Positions
 mod Refusing
-mod WorkedLines
-mod WorkedTraces
-mod WorkedItems
+mod worked

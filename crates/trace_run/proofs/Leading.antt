@@ -1,13 +1,11 @@
 -- Items between readings, and what they drive: one list behind another.
-use Rattle.std.proofs.Common.{◌≡◌, ℕ, ◌+◌, Bool, List, [], ◌∷◌, ◌++◌, Some, None, sym, subst, append-nil}
-use Rattle.std.proofs.lemmas.Grind.{flat_map-append}
+use Rattle.std.proofs.Common.{◌≡◌, ◌+◌, Bool, List, [], ◌∷◌, ◌++◌, Some, None, sym, subst, append-nil}
 use Rattle.std.proofs.lemmas.List.{append_assoc}
 use Rattle.est_base.specs.Items.{Item, Event, Reset}
 use Rattle.trace_io.specs.declared.faults.TraceFault.{TraceFault}
 use Rattle.trace_io.specs.Traces.{Reading, next_group, End}
 use Rattle.trace_io.specs.Answers.{IsTrace, IsFault}
-use Rattle.trace_io.specs.Lines.{line}
-use Rattle.trace_run.specs.Machines.{Answer, answer_lines}
+use Rattle.trace_run.specs.Machines.{Answer}
 use Rattle.trace_run.specs.Running.{IsFront}
 use Rattle.trace_run.specs.Steps.{Leads, Led}
 
@@ -52,7 +50,3 @@ pub led-shown : {S : Type 0} (shows : S → List Item → List Answer → Type 0
     → Led shows s items answers t → shows s items answers
 led-shown shows s t items answers ends led =
     subst (λ x. shows s x answers) (append-nil items) (subst (λ x. shows s (items ++ []) x) (append-nil answers) (led.in_front [] [] ends))
-
-pub lines-more : (names : List (List ℕ)) (before behind : List Answer)
-    → answer_lines names (before ++ behind) ≡ answer_lines names before ++ answer_lines names behind
-lines-more names before behind = flat_map-append (λ a. line names a.present a.word) before behind

@@ -20,7 +20,8 @@ use Rattle.est_base.specs.SinkChanges.{SinkChange}
 use Rattle.trace_run.specs.Running.{RunsTrace}
 use Rattle.trace_run.specs.Steps.{Leads, Led, Came, LineCame, Stands, IsStep, trace_stop}
 use Rattle.trace_run.proofs.Groups.{Fits, fits-next}
-use Rattle.trace_run.proofs.Leading.{leads-more, front-leads, whole-leads, fault-leads, led-nowhere, led-more, led-shown, lines-more}
+use Rattle.trace_run.proofs.Leading.{leads-more, front-leads, whole-leads, fault-leads, led-nowhere, led-more, led-shown}
+use Rattle.trace_run.proofs.Fronts.{lines-of}
 
 -- a sink that nothing was written to
 abbrev pub untouched : Option (List ℕ) → ℕ → SinkChange
@@ -160,7 +161,7 @@ pub so-far-more : {S : Type 0} (shows : S → List Item → List Answer → Type
     (s t u : S) (a b c : Option (List ℕ)) (f g h : ℕ) → SoFar shows names r q s t a b f g
     → IsStep shows names q p t u (over b c g h) (Ok true) → SoFar shows names r p s u a c f h
 so-far-more shows names r q p s t u a b c f g h so step =
-    let lines = lines-more names so.answers step.answers in
+    let lines = lines-of names so.answers step.answers in
     record {
       items = so.items ++ step.items;
       answers = so.answers ++ step.answers;
@@ -192,7 +193,7 @@ ends-at : {S : Type 0} (shows : S → List Item → List Answer → Type 0) (end
     → IsStep shows names q p t u (over b c g h) (Ok false) → RunsTrace (Brings shows names s) r (over a c f h) (Ok tt)
 ends-at shows ends names r q p s t u a b c f g h so step =
     let all = both shows names r q p s t u a b c f g h (Ok false) so step in
-    let lines = lines-more names so.answers step.answers in (
+    let lines = lines-of names so.answers step.answers in (
       all.items,
       answer_lines names all.answers,
       whole-leads r p all.items all.leads step.stands,
@@ -205,7 +206,7 @@ stops-at : {S : Type 0} (shows : S → List Item → List Answer → Type 0) (en
     → IsStep shows names q p t u (over b c g h) (Err fault) → RunsTrace (Brings shows names s) r (over a c f h) (Err fault)
 stops-at shows ends names r q p s t u a b c f g h (Trace fault) so step =
     let all = both shows names r q p s t u a b c f g h (Err (Trace fault)) so step in
-    let lines = lines-more names so.answers step.answers in (
+    let lines = lines-of names so.answers step.answers in (
       all.items,
       answer_lines names all.answers,
       fault-leads r p all.items fault all.leads step.stands,
@@ -217,7 +218,7 @@ stops-at shows ends names r q p s t u a b c f g h Write so step =
     let first = answer_lines names so.answers in
     let second = answer_lines names step.answers in
     let lines : first ++ (second ++ []) ≡ answer_lines names (so.answers ++ step.answers) = ap (λ x. first ++ x) (append-nil second)
-    ∙ sym (lines-more names so.answers step.answers) in (
+    ∙ sym (lines-of names so.answers step.answers) in (
       all.items,
       answer_lines names all.answers,
       front-leads r p all.items all.leads,
@@ -233,7 +234,7 @@ stops-at shows ends names r q p s t u a b c f g h NoMemory so step =
       front-leads r p all.items all.leads,
       record { answers = all.answers; shown = led-shown shows s u all.items all.answers (ends u) all.led; lines = refl },
       step.came.0 ∙ so.came.faults,
-      subst (λ x. GainsFront a c x) (sym (lines-more names so.answers step.answers)) (front-behind a b c first second f g so.came step.came.1),
+      subst (λ x. GainsFront a c x) (sym (lines-of names so.answers step.answers)) (front-behind a b c first second f g so.came step.came.1),
     )
 
 -- what brings one text about brings the other

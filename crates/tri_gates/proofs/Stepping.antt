@@ -6,6 +6,7 @@ use Rattle.std.proofs.lemmas.Bool.{cases_eq, eqb-true, eq-eqb, false≢true, or_
 use Rattle.std.proofs.lemmas.List.{get_or-set_same, get_or-set_other}
 use Rattle.est_kernel.specs.Laws.{IsBelow}
 use Rattle.est_kernel.specs.Statuses.{Status, Plus, Minus, Unknown, opposite, conjunction, disjunction}
+use Rattle.est_kernel.proofs.Statuses.{below_self, below_trans, opposite_below}
 use Rattle.tri_gates.specs.declared.gates.Gate.{Gate}
 use Rattle.tri_gates.specs.declared.gates.Gate.TheVariants as gates
 use Rattle.tri_gates.specs.declared.gates.Side.{Side}
@@ -13,16 +14,6 @@ use Rattle.tri_gates.specs.declared.gates.Side.TheVariants as sides
 use Rattle.tri_gates.specs.Linking.{Reads}
 use Rattle.tri_gates.specs.Solving.{Underway, without, is_operand, with_readers, with_readers_below}
 use Rattle.tri_gates.specs.Systems.{IsLeastSolution, gate_at, gate_status, operand}
-
-pub below_refl : (v : Status) → IsBelow v v
-below_refl Plus = refl
-below_refl Minus = refl
-below_refl Unknown = tt
-
-pub below_trans : (u v w : Status) → IsBelow u v → IsBelow v w → IsBelow u w
-below_trans Plus v w h k = let B : Status → Type 0 = λ x. IsBelow x w in subst B h k
-below_trans Minus v w h k = let B : Status → Type 0 = λ x. IsBelow x w in subst B h k
-below_trans Unknown v w h k = tt
 
 -- of what is not known all that is below it is not known
 pub below_unknown : (v : Status) → IsBelow v Unknown → v ≡ Unknown
@@ -35,11 +26,6 @@ pub known_below : (u v : Status) → u ≢ Unknown → IsBelow u v → u ≡ v
 known_below Plus v k h = sym h
 known_below Minus v k h = sym h
 known_below Unknown v k h = absurd (k refl)
-
-opposite_below : (u v : Status) → IsBelow u v → IsBelow (opposite u) (opposite v)
-opposite_below Plus v h = ap opposite h
-opposite_below Minus v h = ap opposite h
-opposite_below Unknown v h = tt
 
 conjunction_below : (a b u v : Status) → IsBelow a u → IsBelow b v → IsBelow (conjunction a b) (conjunction u v)
 conjunction_below Minus b u v h k = ap (λ x. conjunction x v) h
@@ -66,7 +52,7 @@ disjunction_below Unknown Unknown u v h k = tt
 -- a gate grows with what it reads
 pub gate_below : (sources : List Bool) (V U : ℕ → Status) (g : Gate) → ((n : ℕ) → IsBelow (V n) (U n))
     → IsBelow (gate_status sources V g) (gate_status sources U g)
-gate_below sources V U (gates.Source k) h = below_refl _
+gate_below sources V U (gates.Source k) h = below_self _
 gate_below sources V U (gates.Same a) h = h a
 gate_below sources V U (gates.Not a) h = opposite_below (V a) (U a) (h a)
 gate_below sources V U (gates.And a b) h = conjunction_below (V a) (V b) (U a) (U b) (h a) (h b)
@@ -149,7 +135,7 @@ pub decided : (all : List Gate) (sources : List Bool) (V U : ℕ → Status) (st
 decided all sources V U stack height node todo room is_node none value here apart u =
     let grows : (n : ℕ) → IsBelow (V n) (U n) = λ n. ⊎_elim
     (λ (same : n ≡ node). let B : Status → Type 0 = λ x. IsBelow x (U n) in subst B (sym (ap V same ∙ none)) tt)
-    (λ (off : n ≡ node → ⊥). let B : Status → Type 0 = λ x. IsBelow (V n) x in subst B (sym (apart n off)) (below_refl (V n)))
+    (λ (off : n ≡ node → ⊥). let B : Status → Type 0 = λ x. IsBelow (V n) x in subst B (sym (apart n off)) (below_self (V n)))
     (cases_eq n node)
     in
     let gates_grow : (n : ℕ) → IsBelow (gate_status sources V (gate_at all n)) (gate_status sources U (gate_at all n)) =

@@ -21,17 +21,18 @@ use Rattle.grc_graph.specs.Readings.{Valuation}
 use Rattle.grc_graph.specs.Walk.{State}
 use Rattle.grc_graph.specs.Wires.{Wire, End, Go, same_wire}
 use Rattle.grc_graph.specs.Layers.{Resumed}
-use Rattle.grc_solutions.proofs.SameWires.{same_wire-self, same_wire-true, is_given}
+use Rattle.grc_solutions.proofs.SameWires.{is_given}
 use Rattle.grc_solutions.proofs.Evaluated.{unnamed}
 use Rattle.grc_react.specs.Evaluations.{IsKnown}
 use Rattle.grc_react.proofs.Steps.{plain-formulas, plain-wires}
-use Rattle.grc_react.proofs.Stages.{length-names}
 use Rattle.grc_solutions.specs.GraphWires.{Differ, equation_wires}
 use Rattle.grc_tri.specs.LeastSolutions.{IsLeast, Statuses, formula_status, is_plus, kleene_reading, upto_status}
 use Rattle.grc_words.specs.declared.table.Words.{Words}
 use Rattle.grc_words.specs.Occasions.{Occasion}
 use Rattle.grc_words.specs.WordLaws.{AreWordsOf, any_from, ends_upto, first_end, is_end_upto}
 use Rattle.tri_gates.specs.Tables.{IsLeastOf}
+use Rattle.grc_graph.proofs.SameWires.{same_wire-back, same_wire-self, same_wire-true}
+use Rattle.grc_graph.proofs.WirePlaces.{length-names}
 use Rattle.tri_run.specs.declared.numbers.Counts.{Counts}
 use Rattle.tri_run.specs.Chains.{any_status}
 use Rattle.tri_run.specs.Instants.{AreSources, Instant, status_named}
@@ -211,15 +212,12 @@ named-off (w ∷ ws) V u h = elim (cases_Bool (same_wire u w)) [
       ∙ named-off ws (λ n. V (suc n)) u (sym (ap (λ b. b || list_any (same_wire u) ws) other) ∙ h)
 ]
 
-wire-back : (u w : Wire) → same_wire u w ≡ true → w ≡ u
-wire-back u w h = sym (same_wire-true u w h)
-
 -- a wire that stands in a list stands at a place of it, and has the status of that place
 named-on : (ws : List Wire) (V : ℕ → Status) (u : Wire) → list_any (same_wire u) ws ≡ true
     → (v : ℕ) × (v < length ws) × (wire_at ws v ≡ u) × (status_named ws V u ≡ V v)
 named-on [] V u h = absurd (false≢true h)
 named-on (w ∷ ws) V u h = elim (cases_Bool (same_wire u w)) [
-  | inl here ↦ (0, omega arith, wire-back u w here, cond-true (same_wire u w) (V 0) (status_named ws (λ n. V (suc n)) u) here)
+  | inl here ↦ (0, omega arith, same_wire-back u w here, cond-true (same_wire u w) (V 0) (status_named ws (λ n. V (suc n)) u) here)
   | inr other ↦
       let r = named-on ws (λ n. V (suc n)) u (sym (ap (λ b. b || list_any (same_wire u) ws) other) ∙ h) in
       (suc r.0, omega (arith, r.1), r.2, cond-false (same_wire u w) (V 0) (status_named ws (λ n. V (suc n)) u) other ∙ r.3)

@@ -1,13 +1,8 @@
 -- What the graph of a program gives to its runner.
 use Rattle.std.proofs.Common.{◌≡◌, ◌<◌, false, List, length, slice_index_or, All, sym, ap, ◌∙◌, subst, arith}
-use Rattle.std.proofs.Common.{◌≤◌, ◌^◌}
-use Rattle.std.proofs.lemmas.List.{get_or_default, length-map}
-use Rattle.est_base.specs.declared.bounds.TheConstants.Limits.{WIRES}
+use Rattle.std.proofs.Common.{◌^◌}
+use Rattle.std.proofs.lemmas.List.{get_or_default}
 use Rattle.est_kernel.specs.Plain.{given_count}
-use Rattle.grc_graph.specs.Equations.{next_formula}
-use Rattle.grc_graph.specs.Layers.{body_layers}
-use Rattle.grc_graph.specs.SelectionTrees.{body_leaves}
-use Rattle.grc_react.proofs.Stages.{length-names}
 use Rattle.est_kernel.specs.Plain.{Program}
 use Rattle.est_kernel.specs.WellFormed.{IsWellFormed}
 use Rattle.grc_graph.specs.declared.formulas.Formula.{Formula}
@@ -61,19 +56,6 @@ equations-plain g p law kernel is k d low =
     ap (λ (P : PlainGraph). (slice_index_or P.equations k d2).formula) (sym is.graph) ∙ formula-of-equation g k d2 under in
     let known = plain-known _ (equation_at g k) (instances_of g) (names_of g) (subst (ReadsOnly _) at reads) in
     subst (IsKnown ⊥) (get_or_default g.equations.items k (variants.Const false) d low) known
-
--- the graph keeps the limit of wires, and has a formula for each leaf
-pub wires-few : (g : Graph) (p : Program) → IsGraphOf g p → length g.wires.items ≤ WIRES
-wires-few g p is =
-    let n = length-names g in
-    let m = ap length is.wires in
-    let f = is.few in
-    omega arith
-
-pub leaves-all : (g : Graph) (p : Program) → IsGraphOf g p → length g.next.items ≡ length (body_leaves p.body)
-leaves-all g p is =
-    sym (length-map g.next.items (formula_of (instances_of g) (names_of g))) ∙ ap (λ (P : PlainGraph). length P.next) is.graph
-    ∙ length-map (body_leaves p.body) (λ n. next_formula n (body_layers p.body n))
 
 pub given-few : (p : Program) → IsWellFormed p → given_count p < 2 ^ 32
 given-few p formed =

@@ -4,14 +4,14 @@ use Rattle.std.proofs.Common.{None, Result, Ok, Err}
 use Rattle.std.specs.Prelude.{Option, IfErr, IfOk}
 use Rattle.std.specs.List.{list_any}
 use Rattle.std.proofs.lemmas.Bool.{false≢true}
-use Rattle.est_kernel.specs.Laws.{IsBelow}
 use Rattle.est_kernel.specs.Plain.{given_count, interface_of, program_of}
 use Rattle.est_kernel.specs.Reactions.{Reaction, react}
 use Rattle.est_kernel.specs.StaticCodes.{NoInstantLoop}
-use Rattle.est_kernel.specs.Statuses.{Status, Plus, Minus, Unknown, known}
+use Rattle.est_kernel.specs.Statuses.{known}
 use Rattle.est_kernel.specs.WellFormed.{IsWellFormed}
 use Rattle.est_kernel.specs.WellFormed as programs
 use Rattle.est_kernel.specs.Terms.{Term}
+use Rattle.est_kernel.proofs.Statuses.{below_meets}
 use Rattle.grc_graph.specs.BuiltGraphs.{IsGraphOf}
 use Rattle.grc_graph.specs.GraphRuns.{PlainGraph, formula_value, graph_of, next_state, shown}
 use Rattle.grc_graph.specs.PlainGraphs.{names_of, plain_graph}
@@ -62,17 +62,10 @@ reacts-from old new inputs paused runs width s =
       settled = s.settled;
     }
 
-both-below : (u v : Status) → IsBelow u v → IsBelow v u → u ≡ v
-both-below Plus v h k = sym h
-both-below Minus v h k = sym h
-both-below Unknown Plus h k = k
-both-below Unknown Minus h k = k
-both-below Unknown Unknown h k = refl
-
 -- two least solutions are the same
 same-least : (g : PlainGraph) (q : State) (event : List Bool) (T U : Statuses) → IsLeast g q event T → IsLeast g q event U → T ≡ U
 same-least g q event T U a b =
-    let each : (w : Wire) → T w ≡ U w = λ w. both-below (T w) (U w) (a.least U b.solves w) (b.least T a.solves w) in
+    let each : (w : Wire) → T w ≡ U w = λ w. below_meets (T w) (U w) (a.least U b.solves w) (b.least T a.solves w) in
     λ i w. each w i
 
 none-unknown : (T : Statuses) → IsKnown T → (ws : List Wire) → list_any (λ b. b) (map (λ w. is_unknown (T w)) ws) ≡ false

@@ -1,7 +1,7 @@
 -- Inner: tables of what stands under `initial` and beside `<=`, filled from the last to the first.
 use Rattle.std.proofs.Common.{◌≡◌, ℕ, ◌+◌, ◌<◌, Bool, true, false, cond, List, [], ◌∷◌, length, map, drop, get_or, Option, Some, Bor, refl, sym, ◌∙◌, ap}
+use Rattle.facts.proofs.Lists.{drop-at}
 use Rattle.est_base.specs.Names.{is_same_name}
-use Rattle.net_ir.proofs.Numbered.{drop-at}
 use Rattle.expr_text.specs.Trees.{Expr}
 use Rattle.vlog_text.specs.Texts.{initial_value, next_source, register_said}
 use Rattle.vlog_text.specs.Trees.{Source}

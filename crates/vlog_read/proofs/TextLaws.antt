@@ -9,6 +9,7 @@ use Rattle.read_rules.proofs.Loops.{Advances}
 use Rattle.read_rules.proofs.Readers.{Shape, one_shape, Reads, the-reads, give-reads, both-reads, led-reads, trail-reads, made-reads, shape-reads}
 use Rattle.read_rules.proofs.Steps.{Turn, list_depth, Steps, or-steps, look-steps, loop-reads, Advances-step}
 use Rattle.read_rules.proofs.Choices.{whole-reads as exact-reads}
+use Rattle.read_rules.proofs.Depths.{list_depth-flat}
 use Rattle.expr_text.specs.Grammar.{Written, written_nesting}
 use Rattle.expr_text.specs.Reading.{makes_written}
 use Rattle.expr_text.proofs.ExprLaws.{exprs_known}
@@ -39,10 +40,6 @@ end-reads = the-reads (is-test Semicolon)
 abbrev turn_of : List ℕ → Turn
 turn_of set = record { starts = set; empty = true; more = []; last = set }
 
-flat : {A : Type 0} (values : List A) → list_depth (λ _. 0) values ≡ 0
-flat [] = refl
-flat (v ∷ others) = omega (arith, flat others)
-
 -- ---- the head
 
 port-steps : {room : Option ℕ} → Steps kind_number (λ _. port_step) (Parted (is Comma) (λ _. Single name) Empty) (λ _. 0) (turn_of (10 ∷ [])) room
@@ -59,7 +56,7 @@ ports-reads : {room : Option ℕ} → Reads kind_number (λ _. ports_rule) Spell
 ports-reads =
     shape-reads (record { starts = 21 ∷ []; empty = false; after = 10 ∷ [] })
     (made-reads (λ found. found.0 ∷ found.1) SpellsPorts (λ _. 0) (both-reads name-reads (loop-reads port-steps refl) refl)
-    (λ found. omega (arith, flat found.1)) (λ found tokens member. member) ports-from) refl refl refl
+    (λ found. omega (arith, list_depth-flat found.1)) (λ found tokens member. member) ports-from) refl refl refl
 
 abbrev HeadFound : List ℕ × List (List ℕ) → List Kind → Type 0
 HeadFound found = SpellsHead found.0 found.1
@@ -170,7 +167,8 @@ text-from s tokens member = (((s.name, s.ports), (s.declarations, (s.initials, (
 text-reads : (room : ℕ) → Reads kind_number (λ n. text_rule makes_written n) SpellsText text_depth (one_shape (0 ∷ [])) (Some room)
 text-reads room =
     made-reads source_of SpellsText text_depth (found-reads room)
-    (λ f. omega (arith, flat f.1.0, flat f.1.1.0, flat f.1.1.1.1.1, assigns-depth f.1.1.1.0)) (λ f tokens member. member) text-from
+    (λ f. omega (arith, list_depth-flat f.1.0, list_depth-flat f.1.1.0, list_depth-flat f.1.1.1.1.1, assigns-depth f.1.1.1.0))
+    (λ f tokens member. member) text-from
 
 -- THE THEOREM: the reading function is exact over whole lists of kinds
 pub text-exact : (room : ℕ) (tokens : List Kind) → Exactly IsText room tokens (whole (text_rule makes_written room) tokens)

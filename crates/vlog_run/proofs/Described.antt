@@ -4,16 +4,16 @@ use Rattle.std.proofs.Common.{refl, sym, ap, ◌∙◌, subst, arith, cond, Cont
 use Rattle.std.specs.Prelude.{find, flat_map, codes, nat_lt}
 use Rattle.std.specs.List.{AllByRecursion}
 use Rattle.std.specs.Cmp.Lexicographic.{nat_list_eq_equiv}
-use Rattle.std.specs.Option.{option_or}
 use Rattle.std.proofs.lemmas.Bool.{and_from, and_parts, both_ways, false_from_ne_true, not-false, not-true, not_from_false, or_from, or_left}
 use Rattle.std.proofs.lemmas.Bool.{or_parts, or_right}
 use Rattle.std.proofs.lemmas.List.Elements.{Contains-append_left, Contains-append_right}
-use Rattle.std.proofs.lemmas.List.Folds.{find-append, list_any-append}
+use Rattle.std.proofs.lemmas.List.Folds.{list_any-append}
+use Rattle.facts.proofs.Lists.{contains-later, find-both-none, find-first-none}
 use Rattle.est_base.specs.Distinct.{all_differ}
 use Rattle.est_base.specs.Names.{is_same_name}
+use Rattle.est_base.proofs.SameNames.{same_name-is, same_name-self}
 use Rattle.net_ir.specs.NameLists.{is_among, first_again}
-use Rattle.net_ir.proofs.NumberedNames.{same-eq, same-refl}
-use Rattle.step_run.proofs.OnceNames.{first-or_later, later, each-element, of-element, among-element, element-among, differ-both}
+use Rattle.step_run.proofs.OnceNames.{first-or_later, each-element, of-element, among-element, element-among, differ-both}
 use Rattle.step_run.proofs.OnceNames.{differ-behind, in-parts, once-of}
 use Rattle.expr_text.specs.Names.{names_in, or_else}
 use Rattle.expr_text.specs.Trees.{Expr}
@@ -34,10 +34,10 @@ or_else-none : (a b : Option (List ℕ)) → or_else a b ≡ None → (a ≡ Non
 or_else-none None b e = (refl, e)
 or_else-none (Some x) b e = cc
 
-fault-none : (fault : List ℕ → NameFault) (found : Option (List ℕ)) (later : Option NameFault) → fault_by fault found later ≡ None
-    → (found ≡ None) × (later ≡ None)
-fault-none fault None later e = (refl, e)
-fault-none fault (Some name) later e = cc
+fault-none : (fault : List ℕ → NameFault) (found : Option (List ℕ)) (contains-later : Option NameFault) → fault_by fault found contains-later ≡ None
+    → (found ≡ None) × (contains-later ≡ None)
+fault-none fault None contains-later e = (refl, e)
+fault-none fault (Some name) contains-later e = cc
 
 declaration-none : (found : Option Declaration) → declaration_found found ≡ None → found ≡ None
 declaration-none None e = refl
@@ -47,21 +47,9 @@ use-none : (found : Option Use) → use_found found ≡ None → found ≡ None
 use-none None e = refl
 use-none (Some u) e = cc
 
-option-none : {X : Type 0} (a b : Option X) → option_or a b ≡ None → (a ≡ None) × (b ≡ None)
-option-none None b e = (refl, e)
-option-none (Some x) b e = cc
-
-find-both : {X : Type 0} (p : X → Bool) (xs ys : List X) → find p (xs ++ ys) ≡ None → (find p xs ≡ None) × (find p ys ≡ None)
-find-both p xs ys e = option-none (find p xs) (find p ys) (sym (find-append p xs ys) ∙ e)
-
-find-first : {X : Type 0} (p : X → Bool) (x : X) (xs : List X) → find p (x ∷ xs) ≡ None → (p x ≡ false) × (find p xs ≡ None)
-find-first p x xs e =
-    elim (p x) as (λ b. cond b (Some x) (find p xs) ≡ None → (b ≡ false) × (find p xs ≡ None))
-    [ true ↦ λ h. cc | false ↦ λ h. (refl, h) ] e
-
 none-passes : {X : Type 0} (p : X → Bool) (xs : List X) → find p xs ≡ None → AllByRecursion (λ x. p x ≡ false) xs
 none-passes p [] e = tt
-none-passes p (x ∷ xs) e = let parts = find-first p x xs e in (parts.0, none-passes p xs parts.1)
+none-passes p (x ∷ xs) e = let parts = find-first-none p x xs e in (parts.0, none-passes p xs parts.1)
 
 -- ---- declared names of some sorts
 
@@ -73,7 +61,7 @@ record IsNamed (test : Sort → Bool) (ds : List Declaration) (x : List ℕ) : T
   is : declaration.name ≡ x
 
 more-named : (test : Sort → Bool) (d : Declaration) (ds : List Declaration) (x : List ℕ) → IsNamed test ds x → IsNamed test (d ∷ ds) x
-more-named test d ds x n = record { declaration = n.declaration; stands = later d n.declaration ds n.stands; passes = n.passes; is = n.is }
+more-named test d ds x n = record { declaration = n.declaration; stands = contains-later d n.declaration ds n.stands; passes = n.passes; is = n.is }
 
 named-from : (test : Sort → Bool) (ds : List Declaration) (x : List ℕ) → Contains (names_of test ds) x → IsNamed test ds x
 named-from test [] x has = absurd (omega (arith, has.1))
@@ -95,7 +83,7 @@ named-at test (e ∷ ds) d has passes = ⊎_elim here (λ later_one. go (named-a
         rw own (0, omega arith, ap (λ (y : Declaration). y.name) is)
 
     go : Contains (names_of test ds) d.name → (b : Bool) → test e.sort ≡ b → Contains (names_of test (e ∷ ds)) d.name
-    go rest true s = rw s (later e.name d.name (names_of test ds) rest)
+    go rest true s = rw s (contains-later e.name d.name (names_of test ds) rest)
     go rest false s = rw s rest
 
 -- a name that is declared, with its declaration
@@ -110,12 +98,13 @@ declared-from (d ∷ ds) x has =
     ⊎_elim (λ is. record { declaration = d; stands = (0, omega arith, refl); is = is })
     (λ there.
     let rest = declared-from ds x there in
-    record { declaration = rest.declaration; stands = later d rest.declaration ds rest.stands; is = rest.is }) (first-or_later d.name x (declared ds) has)
+    record { declaration = rest.declaration; stands = contains-later d rest.declaration ds rest.stands; is = rest.is })
+    (first-or_later d.name x (declared ds) has)
 
 declared-at : (ds : List Declaration) (d : Declaration) → Contains ds d → Contains (declared ds) d.name
 declared-at [] d has = absurd (omega (arith, has.1))
 declared-at (e ∷ ds) d has =
-    ⊎_elim (λ is. (0, omega arith, ap (λ (y : Declaration). y.name) is)) (λ there. later e.name d.name (declared ds) (declared-at ds d there))
+    ⊎_elim (λ is. (0, omega arith, ap (λ (y : Declaration). y.name) is)) (λ there. contains-later e.name d.name (declared ds) (declared-at ds d there))
     (first-or_later e d ds has)
 
 -- each name is declared once: two declarations of one name are one
@@ -175,19 +164,19 @@ drop-differ (x ∷ xs) differ = (and_parts (not (is_among x xs)) (all_differ is_
 
 drop-element : (xs : List (List ℕ)) (x : List ℕ) → Contains (drop 1 xs) x → Contains xs x
 drop-element [] x has = has
-drop-element (y ∷ xs) x has = later y x xs has
+drop-element (y ∷ xs) x has = contains-later y x xs has
 
 -- a name that is not the first is one of the others
 element-drop : (xs : List (List ℕ)) (x : List ℕ) → is_first xs x ≡ false → Contains xs x → Contains (drop 1 xs) x
 element-drop [] x other has = has
 element-drop (y ∷ xs) x other has =
-    ⊎_elim (λ is. absurd (both_ways (is_same_name x y) other (ap (is_same_name x) is ∙ same-refl x))) (λ there. there) (first-or_later y x xs has)
+    ⊎_elim (λ is. absurd (both_ways (is_same_name x y) other (ap (is_same_name x) is ∙ same_name-self x))) (λ there. there) (first-or_later y x xs has)
 
 drop-not_first : (xs : List (List ℕ)) → all_differ is_same_name xs ≡ true → (x : List ℕ) → Contains (drop 1 xs) x → is_first xs x ≡ false
 drop-not_first [] differ x has = refl
 drop-not_first (y ∷ xs) differ x has = false_from_ne_true (is_same_name x y) (λ same.
     let parts = and_parts (not (is_among y xs)) (all_differ is_same_name xs) differ in
-    both_ways (is_among y xs) (not-true (is_among y xs) parts.0) (ap (λ z. is_among z xs) (sym (same-eq x y same)) ∙ among-element x xs has))
+    both_ways (is_among y xs) (not-true (is_among y xs) parts.0) (ap (λ z. is_among z xs) (sym (same_name-is x y same)) ∙ among-element x xs has))
 
 -- a name that is among neither of two lists
 apart-both : (x : List ℕ) (xs ys : List (List ℕ)) → is_among x xs ≡ false → is_among x ys ≡ false → is_among x (xs ++ ys) ≡ false
@@ -242,17 +231,17 @@ assigns-fine : (ds : List Declaration) (assigns : List (Assign Expr)) → find (
     → AllByRecursion (λ a. AllByRecursion (λ x. is_wrong ds (Taken x) ≡ false) (names_in a.value)) assigns
 assigns-fine ds [] none = tt
 assigns-fine ds (a ∷ assigns) none =
-    let parts = find-both (is_wrong ds) (assign_uses a) (flat_map assign_uses assigns) none in
-    let own = find-first (is_wrong ds) (Assigned a.target) (map Taken (names_in a.value)) parts.0 in
+    let parts = find-both-none (is_wrong ds) (assign_uses a) (flat_map assign_uses assigns) none in
+    let own = find-first-none (is_wrong ds) (Assigned a.target) (map Taken (names_in a.value)) parts.0 in
     (taken-fine ds (names_in a.value) (none-passes (is_wrong ds) (map Taken (names_in a.value)) own.1), assigns-fine ds assigns parts.1)
 
 nexts-fine : (ds : List Declaration) (nexts : List Next) → find (is_wrong ds) (flat_map next_uses nexts) ≡ None
     → AllByRecursion (λ n. is_wrong ds (Taken n.source) ≡ false) nexts
 nexts-fine ds [] none = tt
 nexts-fine ds (n ∷ nexts) none =
-    let parts = find-both (is_wrong ds) (next_uses n) (flat_map next_uses nexts) none in
-    let own = find-first (is_wrong ds) (Kept n.target) (Taken n.source ∷ []) parts.0 in
-    ((find-first (is_wrong ds) (Taken n.source) [] own.1).0, nexts-fine ds nexts parts.1)
+    let parts = find-both-none (is_wrong ds) (next_uses n) (flat_map next_uses nexts) none in
+    let own = find-first-none (is_wrong ds) (Kept n.target) (Taken n.source ∷ []) parts.0 in
+    ((find-first-none (is_wrong ds) (Taken n.source) [] own.1).0, nexts-fine ds nexts parts.1)
 
 -- what holds of all sources holds of the one of a name that has one
 next-fine : (P : List ℕ → Type 0) (nexts : List Next) → AllByRecursion (λ n. P n.source) nexts → (x : List ℕ)
@@ -388,8 +377,8 @@ module _ (s : Source Expr) (fits : name_fault s ≡ None) where
   uses-fine : (find (is_wrong ds) (flat_map assign_uses s.assigns) ≡ None) × (find (is_wrong ds) (flat_map next_uses s.nexts) ≡ None)
   uses-fine =
       let none = use-none (find (is_wrong ds) (uses s)) used.0 in
-      let rest = find-both (is_wrong ds) (map (λ i. Kept i.name) s.initials) (flat_map assign_uses s.assigns ++ flat_map next_uses s.nexts) none in
-      find-both (is_wrong ds) (flat_map assign_uses s.assigns) (flat_map next_uses s.nexts) rest.1
+      let rest = find-both-none (is_wrong ds) (map (λ i. Kept i.name) s.initials) (flat_map assign_uses s.assigns ++ flat_map next_uses s.nexts) none in
+      find-both-none (is_wrong ds) (flat_map assign_uses s.assigns) (flat_map next_uses s.nexts) rest.1
 
   reads-driven : AllByRecursion (λ a. AllByRecursion (λ x. is_among x driven ≡ true) (names_in a.value)) s.assigns
   reads-driven =
@@ -414,7 +403,7 @@ module _ (s : Source Expr) (fits : name_fault s ≡ None) where
       → AllByRecursion (λ x. is_among x driven ≡ true) (map (λ r. r.from) (map (register_said s) names))
   sources-driven [] within = tt
   sources-driven (x ∷ names) within =
-      (reg-next x (within x (0, omega arith, refl)), sources-driven names (λ y has. within y (later x y names has)))
+      (reg-next x (within x (0, omega arith, refl)), sources-driven names (λ y has. within y (contains-later x y names has)))
 
   outputs-driven : AllByRecursion (λ x. is_among x driven ≡ true) (names_of is_output ds)
   outputs-driven = each-element (λ x. is_among x driven ≡ true) (names_of is_output ds) (λ x has.

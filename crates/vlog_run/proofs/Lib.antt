@@ -5,4 +5,4 @@ pub mod Showing
 pub mod NetLoops
 pub mod NetTexts
 pub mod TextFaults
-mod WorkedRuns
+mod worked

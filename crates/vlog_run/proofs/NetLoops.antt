@@ -1,19 +1,18 @@
 -- The module of a net has no combinational cycle: each of its assignments reads names that stand before its target.
-use Rattle.std.proofs.Common.{◌≡◌, ℕ, ◌+◌, ◌-◌, ◌<◌, ◌≤◌, true, None, List, [], ◌∷◌, ◌++◌, length, map, get_or, sym, ap, ◌∙◌, subst, arith}
+use Rattle.std.proofs.Common.{◌≡◌, ℕ, ◌+◌, ◌-◌, ◌<◌, ◌≤◌, true, List, [], ◌∷◌, ◌++◌, length, map, get_or, sym, ap, ◌∙◌, subst, arith}
 use Rattle.std.proofs.Common.{append_assoc, Contains, ⊎_elim}
 use Rattle.std.specs.List.{AllByRecursion}
 use Rattle.std.proofs.lemmas.Bool.{cases_lt}
 use Rattle.std.proofs.lemmas.List.{length-append, length-map, get_or_append_left, get_or-append-add, get_or-map}
 use Rattle.est_base.specs.Distinct.{all_differ}
 use Rattle.est_base.specs.Names.{is_same_name}
-use Rattle.net_ir.specs.declared.netlist.Gate.{Gate}
 use Rattle.net_ir.specs.declared.netlist.Latch.{Latch}
 use Rattle.net_ir.specs.declared.netlist.NetOut.{NetOut}
-use Rattle.net_ir.specs.declared.netlist.Op.TheVariants as ops
 use Rattle.net_ir.specs.Netlists.{Netlist, first_gate, net_count}
 use Rattle.net_ir.specs.Numbered.{numbered}
 use Rattle.net_ir.specs.Writing.{IsWritable}
 use Rattle.net_ir.proofs.Numbered.{length-numbered, get_or-numbered, map-numbered}
+use Rattle.net_ir.proofs.Nets.{any_gate}
 use Rattle.expr_text.specs.Names.{names_in}
 use Rattle.expr_text.specs.NetNames.{state_name, gate_names}
 use Rattle.expr_text.specs.Trees.{Expr}
@@ -67,9 +66,6 @@ net-below net n limit low h =
       within = omega arith;
       is = get_or_append_left (net_names net) (net_outputs net) [] n (omega arith) ∙ sym (net_name-at net n h);
     }
-
-any_gate : Gate
-any_gate = record { op = ops.Const true; wire = None }
 
 any_output : NetOut
 any_output = record { name = []; net = record { 0 = 0 } }

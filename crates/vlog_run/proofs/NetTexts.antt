@@ -1,8 +1,9 @@
 -- The module of a net's text shows what the net does.
 use Rattle.std.proofs.Common.{◌≡◌, ℕ, ◌-◌, Bool, true, false, if◌then◌else◌, List, [], ◌∷◌, ◌++◌, length, map, take, drop, get_or}
-use Rattle.std.proofs.Common.{refl, sym, ap, ◌∙◌, subst, arith}
-use Rattle.std.proofs.lemmas.List.{length-append, length-map}
+use Rattle.std.proofs.Common.{refl, sym, ap, ◌∙◌, subst}
+use Rattle.std.proofs.lemmas.List.{length-map}
 use Rattle.std.proofs.Math.Seq.{take-append_seam, get_or-append_seam}
+use Rattle.facts.proofs.Lists.{last-is, last-place, map-twice}
 use Rattle.est_base.specs.Items.{Item}
 use Rattle.est_base.specs.Names.{is_same_name}
 use Rattle.machines.specs.Machines.{IsRun}
@@ -21,13 +22,6 @@ use Rattle.vlog_run.specs.Runners.{Runner, module_in, IsFresh}
 use Rattle.vlog_run.specs.Showing.{runner_shows}
 use Rattle.vlog_run.specs.Tracing.{IsModuleOf}
 use Rattle.vlog_run.proofs.Showing.{fresh_shows}
-
--- names with `paused` at their end
-last-place : {X : Type 0} (xs : List X) (x : X) → length (xs ++ x ∷ []) - 1 ≡ length xs
-last-place xs x = omega (arith, length-append xs (x ∷ []))
-
-last-is : {X : Type 0} (xs : List X) (x d : X) → get_or (xs ++ x ∷ []) (length (xs ++ x ∷ []) - 1) d ≡ x
-last-is xs x d = ap (λ k. get_or (xs ++ x ∷ []) k d) (last-place xs x) ∙ get_or-append_seam xs x [] d
 
 tells-last : (names : List (List ℕ)) → tells_pause (names ++ paused_name ∷ []) ≡ true
 tells-last names = ap (is_same_name paused_name) (last-is names paused_name [])
@@ -58,10 +52,6 @@ answers-run net names (values ∷ runs) same =
     let here = answer-last names (shown net values) (wide ∙ sym same) in
     ap (λ x. x ∷ map (answer_of (names ++ paused_name ∷ [])) (map (λ (s : Shown). s.outputs ++ s.paused ∷ []) (map (shown net) runs))) here
     ∙ ap (λ x. shown_answer (shown net values) ∷ x) (answers-run net names runs same)
-
-map-twice : {X Y Z : Type 0} (f : Y → Z) (g : X → Y) (xs : List X) → map f (map g xs) ≡ map (λ x. f (g x)) xs
-map-twice f g [] = refl
-map-twice f g (x ∷ xs) = ap (λ l. f (g x) ∷ l) (map-twice f g xs)
 
 pub net-inputs : (net : Netlist) (design : Module) → IsModuleOf net design → length (given_inputs design) ≡ length net.inputs
 net-inputs net design of =

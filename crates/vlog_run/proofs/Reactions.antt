@@ -35,7 +35,7 @@ names-same : (v : List ℕ → Bool) (registers : List Register) → map v (map 
 names-same v [] = refl
 names-same v (r ∷ registers) = ap (λ bs. v r.name ∷ bs) (names-same v registers)
 
-sources-same : (v : List ℕ → Bool) (registers : List Register) → map v (map (λ r. r.from) registers) ≡ map (λ r. v r.from) registers
+pub sources-same : (v : List ℕ → Bool) (registers : List Register) → map v (map (λ r. r.from) registers) ≡ map (λ r. v r.from) registers
 sources-same v [] = refl
 sources-same v (r ∷ registers) = ap (λ bs. v r.from ∷ bs) (sources-same v registers)
 

@@ -14,13 +14,14 @@ use Rattle.trace_io.specs.declared.lines.Word.TheVariants.{Bare}
 use Rattle.trace_run.specs.Languages.{word_of}
 use Rattle.trace_run.specs.Machines.{Answer, Answered, PutBack}
 use Rattle.vlog_text.specs.Machine.{IsInstant, vlog_machine, driven_names}
-use Rattle.vlog_text.specs.Trees.{Register, Module}
+use Rattle.vlog_text.specs.Trees.{Module}
 use Rattle.vlog_text.specs.Views.{module_of}
 use Rattle.vlog_run.specs.Loops.{IsDescribed}
 use Rattle.vlog_run.specs.ModuleAnswers.{tells_pause, listed_count, answer_of, module_answer, module_shows}
 use Rattle.vlog_run.specs.Runners.{Runner, module_in, IsFresh, Reacts, Resets}
 use Rattle.vlog_run.specs.Showing.{runner_shows}
 use Rattle.vlog_run.proofs.Described.{IsSound, described-sound}
+use Rattle.vlog_run.proofs.Reactions.{sources-same}
 
 -- valuations that agree on names agree on each of them
 agree-at : (v w : List ℕ → Bool) (names : List (List ℕ)) → map v names ≡ map w names → (x : List ℕ) → is_among x names ≡ true → v x ≡ w x
@@ -34,10 +35,6 @@ agree-along : (v w : List ℕ → Bool) (names : List (List ℕ)) → map v name
     → AllByRecursion (λ x. is_among x names ≡ true) xs → map v xs ≡ map w xs
 agree-along v w names same [] all = refl
 agree-along v w names same (x ∷ xs) all = let here = agree-at v w names same x all.0 in rw (here, agree-along v w names same xs all.1) refl
-
-sources-same : (v : List ℕ → Bool) (registers : List Register) → map v (map (λ r. r.from) registers) ≡ map (λ r. v r.from) registers
-sources-same v [] = refl
-sources-same v (r ∷ registers) = ap (λ bs. v r.from ∷ bs) (sources-same v registers)
 
 -- one reaction: every instant that there may be shows the same, and leaves the same values to the registers
 pub answered : (old new : Runner) (inputs : List Bool) → IsDescribed (module_in old) → Reacts old inputs new

@@ -7,4 +7,4 @@ pub mod NetInstants
 pub mod NetSpelled
 pub mod NetRuns
 pub mod Joins
-mod TextEquations
+mod worked

@@ -4,6 +4,7 @@ use Rattle.std.proofs.Common.{◌∙◌, subst, arith, zero-add}
 use Rattle.std.specs.List.{AllByRecursion}
 use Rattle.std.proofs.lemmas.List.{map-append, length-append, length-map, get_or-map, take_at, get_or_append_left, get_or-append-add}
 use Rattle.std.proofs.lemmas.List.Elements.{recursion_from_All, All-append, All-map, All-cons, All-nil}
+use Rattle.facts.proofs.Lists.{all-split, map-equal, maps-at}
 use Rattle.net_ir.specs.declared.netlist.Gate.{Gate}
 use Rattle.net_ir.specs.declared.netlist.Latch.{Latch}
 use Rattle.net_ir.specs.declared.netlist.NetOut.{NetOut}
@@ -14,11 +15,11 @@ use Rattle.net_ir.specs.Runs.{net_values}
 use Rattle.net_ir.specs.Writing.{IsWritable}
 use Rattle.net_ir.proofs.Numbered.{length-numbered, get_or-numbered, map-numbered, All-numbered}
 use Rattle.net_ir.proofs.Values.{op_value-same, Solves-gate_values, gate_values-from_Solves}
+use Rattle.net_ir.proofs.Nets.{net_cases, numbered-at}
 use Rattle.expr_text.specs.NetNames.{state_name, gate_name, gate_names}
 use Rattle.expr_text.specs.Trees.{Expr}
 use Rattle.expr_text.specs.Values.{value_of}
-use Rattle.expr_text.proofs.Instants.{split-all, numbered-at, map-same, maps-at}
-use Rattle.expr_text.proofs.Naming.{state_names, net_cases, any_gate, any_latch}
+use Rattle.expr_text.proofs.Naming.{state_names, any_gate, any_latch}
 use Rattle.expr_text.proofs.Operators.{op-expr-value}
 use Rattle.vlog_text.specs.Trees.{Register, Assign}
 use Rattle.vlog_text.specs.Names.{paused_name}
@@ -121,8 +122,8 @@ values_before_gates net latches inputs v i l =
 pub Holds-from_instant : (net : Netlist) → IsWritable net → (latches inputs : List Bool) (v : List ℕ → Bool) → IsInstant (net_module net) latches inputs v
     → Holds net latches inputs v
 Holds-from_instant net is latches inputs v instant =
-    let two = split-all (Met v) (numbered (gate_assign net) 0 net.gates) (map (output_assign net) net.outputs ++ paused_assign net ∷ []) instant.assigns_met in
-    let three = split-all (Met v) (map (output_assign net) net.outputs) (paused_assign net ∷ []) two.1 in
+    let two = all-split (Met v) (numbered (gate_assign net) 0 net.gates) (map (output_assign net) net.outputs ++ paused_assign net ∷ []) instant.assigns_met in
+    let three = all-split (Met v) (map (output_assign net) net.outputs) (paused_assign net ∷ []) two.1 in
     let latches_kept : map v (state_names net) ≡ latches = map-numbered v (λ j (l : Latch). state_name j) 0 net.latches
     ∙ sym (map-numbered (λ (r : Register). v r.name) (net_register net) 0 net.latches) ∙ instant.registers_kept in
     let u = map v (net_names net) in
@@ -135,7 +136,7 @@ Holds-from_instant net is latches inputs v instant =
       latches_kept = latches_kept;
       nets = nets;
       outputs = outputs-met net v net.outputs three.0
-          ∙ map-same (λ (o : NetOut). v (net_name net o.net.0)) (λ o. value_in (net_values net latches inputs) o.net.0) net.outputs
+          ∙ map-equal (λ (o : NetOut). v (net_name net o.net.0)) (λ o. value_in (net_values net latches inputs) o.net.0) net.outputs
           (λ k d h. each (get_or net.outputs k d).net.0 (is.is_net.outputs_in_range k d h));
       paused = three.1.0 ∙ each net.paused is.is_net.paused_in_range;
     }

@@ -3,6 +3,7 @@ use Rattle.std.proofs.Common.{◌≡◌, ℕ, ◌+◌, ◌<◌, zero, suc, Bool,
 use Rattle.std.proofs.lemmas.Bool.{and_parts, not-true}
 use Rattle.est_base.specs.Distinct.{all_differ}
 use Rattle.est_base.specs.Names.{is_same_name}
+use Rattle.est_base.proofs.SameNames.{same_name-self}
 use Rattle.net_ir.specs.declared.netlist.Latch.{Latch}
 use Rattle.net_ir.specs.NameLists.{is_among}
 use Rattle.net_ir.specs.Netlists.{Netlist}
@@ -10,7 +11,6 @@ use Rattle.net_ir.specs.Numbered.{numbered}
 use Rattle.net_ir.specs.Writing.{IsWritable}
 use Rattle.net_ir.proofs.NameLists.{any-none}
 use Rattle.net_ir.proofs.Numbered.{length-numbered, get_or-numbered, map-numbered}
-use Rattle.net_ir.proofs.NumberedNames.{same-refl}
 use Rattle.expr_text.specs.NetNames.{state_name, gate_names}
 use Rattle.expr_text.proofs.Instants.{numbered-same}
 use Rattle.expr_text.proofs.Naming.{differ-states}
@@ -51,7 +51,7 @@ initial-at : (n : ℕ) (latches : List Latch) → all_differ is_same_name (numbe
 initial-at n [] differ j d h = absurd (omega arith)
 initial-at n (l ∷ latches) differ zero d h =
     let z : n + 0 ≡ n = omega arith in
-    ap (λ k. initial_value (numbered latch_initial n (l ∷ latches)) (state_name k)) z ∙ rw (same-refl (state_name n)) refl
+    ap (λ k. initial_value (numbered latch_initial n (l ∷ latches)) (state_name k)) z ∙ rw (same_name-self (state_name n)) refl
 initial-at n (l ∷ latches) differ (suc j) d h =
     let s : n + suc j ≡ n + 1 + j = omega arith in
     ap (λ k. initial_value (numbered latch_initial n (l ∷ latches)) (state_name k)) s
@@ -62,7 +62,7 @@ next-at : (net : Netlist) (n : ℕ) (latches : List Latch) → all_differ is_sam
 next-at net n [] differ j d h = absurd (omega arith)
 next-at net n (l ∷ latches) differ zero d h =
     let z : n + 0 ≡ n = omega arith in
-    ap (λ k. next_source (numbered (latch_next net) n (l ∷ latches)) (state_name k)) z ∙ rw (same-refl (state_name n)) refl
+    ap (λ k. next_source (numbered (latch_next net) n (l ∷ latches)) (state_name k)) z ∙ rw (same_name-self (state_name n)) refl
 next-at net n (l ∷ latches) differ (suc j) d h =
     let s : n + suc j ≡ n + 1 + j = omega arith in
     ap (λ k. next_source (numbered (latch_next net) n (l ∷ latches)) (state_name k)) s

@@ -8,8 +8,10 @@ use Rattle.std.proofs.lemmas.Bool.{and_from, or_from, not_from_true}
 use Rattle.std.proofs.lemmas.List.{length-map, get_or-map, map-append}
 use Rattle.std.proofs.lemmas.List.Elements.{All-append}
 use Rattle.std.proofs.lemmas.Option.{slice_get-get_or}
+use Rattle.facts.proofs.Tests.{and-false}
 use Rattle.est_base.specs.Distinct.{all_differ}
 use Rattle.est_base.specs.Names.{is_name, is_same_name}
+use Rattle.est_base.proofs.SameNames.{same_name-self}
 use Rattle.net_ir.specs.declared.netlist.Gate.{Gate}
 use Rattle.net_ir.specs.declared.netlist.Latch.{Latch}
 use Rattle.net_ir.specs.declared.netlist.NetOut.{NetOut}
@@ -19,13 +21,13 @@ use Rattle.net_ir.specs.Numbered.{numbered}
 use Rattle.net_ir.specs.Writing.{IsWritable}
 use Rattle.net_ir.proofs.NameLists.{find-same, once-differ}
 use Rattle.net_ir.proofs.Numbered.{length-numbered, get_or-numbered, map-numbered, All-numbered}
-use Rattle.net_ir.proofs.NumberedNames.{same-refl}
+use Rattle.net_ir.proofs.Nets.{net_cases}
 use Rattle.expr_text.specs.Names.{names_in}
 use Rattle.expr_text.specs.NetNames.{state_name, gate_name, gate_names}
 use Rattle.expr_text.specs.Trees.{Expr}
 use Rattle.expr_text.proofs.Again.{once-behind}
 use Rattle.expr_text.proofs.Naming as naming
-use Rattle.expr_text.proofs.Naming.{mark, state_names, marks-states, marks-gates, in-front, all-both, net_cases, among-numbered, among-left}
+use Rattle.expr_text.proofs.Naming.{mark, state_names, marks-states, marks-gates, in-front, all-both, among-numbered, among-left}
 use Rattle.expr_text.proofs.Naming.{among-right, any_gate, any_latch, find-none, any_output, gate-low, long-name, differ-states}
 use Rattle.expr_text.proofs.Operators.{op-names}
 use Rattle.vlog_text.specs.Trees.{Sort, Input, Output, Wire, Reg, Declaration, Initial, Assign, Next}
@@ -51,7 +53,7 @@ net_name-gate net = naming.net_name-gate (λ n. name_at (slice_get net.inputs n)
 
 -- a name stands among those of its list
 pub among-at : (xs : List (List ℕ)) (k : ℕ) (d : List ℕ) → k < length xs → is_among (get_or xs k d) xs ≡ true
-among-at xs k d h = list_any_at (is_same_name (get_or xs k d)) xs k d h (same-refl (get_or xs k d))
+among-at xs k d h = list_any_at (is_same_name (get_or xs k d)) xs k d h (same_name-self (get_or xs k d))
 
 among-mapped : {X : Type 0} (f : X → List ℕ) (xs : List X) (k : ℕ) (e : X) → k < length xs → is_among (f (get_or xs k e)) (map f xs) ≡ true
 among-mapped f xs k e h =
@@ -142,7 +144,7 @@ declared_once net is = ap (first_again []) (declared-net net) ∙ once-differ (a
 
 misplaced-same : (xs : List (List ℕ)) → misplaced xs xs ≡ None
 misplaced-same [] = refl
-misplaced-same (x ∷ xs) = rw (same-refl x) (misplaced-same xs)
+misplaced-same (x ∷ xs) = rw (same_name-self x) (misplaced-same xs)
 
 misplaced-none : (net : Netlist) → misplaced (net_source net).ports (interface_names (net_declarations net)) ≡ None
 misplaced-none net =
@@ -160,13 +162,9 @@ portless-none net =
       wires = λ k d h. refl;
     }))
 
-and-none : (b : Bool) → (b && false) ≡ false
-and-none true = refl
-and-none false = refl
-
 last-behind : (xs : List (List ℕ)) (x : List ℕ) → is_last (xs ++ x ∷ []) x ≡ true
-last-behind [] x = same-refl x
-last-behind (y ∷ []) x = same-refl x
+last-behind [] x = same_name-self x
+last-behind (y ∷ []) x = same_name-self x
 last-behind (y ∷ z ∷ xs) x = last-behind (z ∷ xs) x
 
 sign-input : (name : List ℕ) → is_name name ≡ true → has_sign (codes "i_") (input_name name) ≡ true
@@ -194,7 +192,7 @@ ill_named-none net is =
         ap (λ n. not (is_first (names_of is_input (net_declarations net)) n) && not (has_sign (codes "i_") n)) at
         ∙ ap (λ b. not (is_first (names_of is_input (net_declarations net)) (input_name (get_or net.inputs k []))) && not b)
         (sign-input (get_or net.inputs k []) (is.is_net.input_names_fit k [] low))
-        ∙ and-none (not (is_first (names_of is_input (net_declarations net)) (input_name (get_or net.inputs k []))))
+        ∙ and-false (not (is_first (names_of is_input (net_declarations net)) (input_name (get_or net.inputs k []))))
 
     each-output : All (λ n. is_ill_named (net_declarations net) Output n ≡ false) (output_words net)
     each-output k d h =

@@ -1,8 +1,9 @@
 -- Inner: the runs of a net's module: there is one over every list of inputs, and it shows what the net shows.
-use Rattle.std.proofs.Common.{◌≡◌, ℕ, Bool, true, not, ◌==◌, List, [], ◌∷◌, ◌++◌, length, map, get_or, take, drop, refl, sym, ap, ◌∙◌, subst, arith}
+use Rattle.std.proofs.Common.{◌≡◌, ℕ, Bool, true, not, ◌==◌, List, [], ◌∷◌, ◌++◌, length, map, get_or, take, drop, refl, sym, ap, ◌∙◌, subst}
 use Rattle.std.specs.List.{range_with_len}
-use Rattle.std.proofs.lemmas.List.{map-append, length-append, length-map, map-id, length-drop, drop_at, take-append-drop}
+use Rattle.std.proofs.lemmas.List.{map-append, length-append, length-map, map-id, drop_at, take-append-drop}
 use Rattle.std.proofs.lemmas.List.FromFn.{fill_by_all}
+use Rattle.facts.proofs.Lists.{map-composed, map-equal, same-parts}
 use Rattle.est_base.specs.Distinct.{all_differ}
 use Rattle.est_base.specs.Items.{Item, Event, Reset, EachEvent}
 use Rattle.est_base.specs.Names.{is_same_name}
@@ -15,9 +16,10 @@ use Rattle.net_ir.specs.Netlists.{Netlist, first_gate, net_count}
 use Rattle.net_ir.specs.Runs.{Shown, net_values, next_latches, initial_latches, values_from, net_values_run, shown}
 use Rattle.net_ir.specs.Writing.{IsWritable}
 use Rattle.net_ir.proofs.Numbered.{length-numbered, map-numbered, numbered-map}
-use Rattle.net_ir.proofs.Values.{length-gate_values, take-gate_values}
+use Rattle.net_ir.proofs.Values.{take-gate_values}
+use Rattle.net_ir.proofs.NameLists.{looked_up, map-looked_up}
+use Rattle.net_ir.proofs.Nets.{gate_part, length-gate_part, output_part, told-values, told_from}
 use Rattle.expr_text.specs.NetNames.{state_name, gate_name, gate_names}
-use Rattle.expr_text.proofs.Instants.{map-same, same-parts, looked_up, map-looked_up, told_from, told-values}
 use Rattle.expr_text.proofs.Naming.{state_names, marks-states, marks-gates, in-front, all-both, differ-states}
 use Rattle.vlog_text.specs.Trees.{Register, Assign}
 use Rattle.vlog_text.specs.Names.{paused_name}
@@ -50,22 +52,10 @@ names-differ net is =
     (all-both _ (state_names net) targets (marks-states net (λ m. not (m == 105)) refl)
     (all-both _ (gate_names net) (net_outputs net) (marks-gates net (λ m. not (m == 105)) refl refl) (marks-shown net (λ m. not (m == 105)) refl refl))) kept
 
--- the values that follow those of the inputs and the latches
-abbrev gate_part : Netlist → List Bool → List Bool
-gate_part net values = drop (first_gate net) values
-
-abbrev output_part : Netlist → List Bool → List Bool
-output_part net values = map (λ o. value_in values o.net.0) net.outputs
-
 abbrev all_values : Netlist → List Bool → List Bool → List Bool
 all_values net latches inputs =
     let values = net_values net latches inputs in
     inputs ++ (latches ++ (gate_part net values ++ (output_part net values ++ value_in values net.paused ∷ [])))
-
-length-gate_part : (net : Netlist) (latches inputs : List Bool) → length (inputs ++ latches) ≡ first_gate net
-    → length (gate_part net (net_values net latches inputs)) ≡ length net.gates
-length-gate_part net latches inputs wide =
-    length-drop (first_gate net) (net_values net latches inputs) ∙ omega (arith, length-gate_values (inputs ++ latches) net.gates)
 
 -- as many values as names
 length-all_values : (net : Netlist) (latches inputs : List Bool) → length latches ≡ length net.latches → length inputs ≡ length net.inputs
@@ -149,7 +139,7 @@ next_latches-module : (net : Netlist) → IsWritable net → (latches inputs : L
 next_latches-module net is latches inputs v holds =
     map-numbered (λ (r : Register). v r.from) (net_register net) 0 net.latches
     ∙ numbered-map (λ (x : Latch). v (net_name net x.from.0)) 0 net.latches
-    ∙ map-same (λ (x : Latch). v (net_name net x.from.0)) (λ x. value_in (net_values net latches inputs) x.from.0) net.latches
+    ∙ map-equal (λ (x : Latch). v (net_name net x.from.0)) (λ x. value_in (net_values net latches inputs) x.from.0) net.latches
     (λ k d h. let n = (get_or net.latches k d).from.0 in sym (value-name net v n (is.is_net.latches_in_range k d h)) ∙ ap (λ w. value_in w n) holds.nets)
 
 -- what is shown
@@ -157,10 +147,6 @@ shown-module : (net : Netlist) (latches inputs : List Bool) (v : List ℕ → Bo
     → map v (net_outputs net) ≡ (shown net (net_values net latches inputs)).outputs ++ (shown net (net_values net latches inputs)).paused ∷ []
 shown-module net latches inputs v holds =
     map-append v (output_words net) (paused_name ∷ []) ∙ rw (holds.outputs, holds.paused) refl
-
-map-map : {X Y Z : Type 0} (f : Y → Z) (g : X → Y) (xs : List X) → map (λ x. f (g x)) xs ≡ map f (map g xs)
-map-map f g [] = refl
-map-map f g (x ∷ xs) = ap (λ l. f (g x) ∷ l) (map-map f g xs)
 
 net_names-numbers : (net : Netlist) → net_names net ≡ map (net_name net) (range_with_len 0 (net_count net))
 net_names-numbers net = fill_by_all (net_name net) (net_names net) (net_count net) [] (length-names net) (λ k h. sym (net_name-at net k h))
@@ -215,7 +201,7 @@ Means-written net is =
     let values_told = λ (items : List Item) (vs : List (List ℕ → Bool)) (run : IsRun (vlog_machine (net_module net)) items vs).
     runs-are net is (λ v. map v names) (all_values net) (values-from_Holds net) start items vs run in
     let all_shown = λ (values : List Bool). (shown net values).outputs ++ (shown net values).paused ∷ [] in
-    let named = λ (latches inputs : List Bool) (v : List ℕ → Bool) (holds : Holds net latches inputs v). map-map v (net_name net)
+    let named = λ (latches inputs : List Bool) (v : List ℕ → Bool) (holds : Holds net latches inputs v). map-composed v (net_name net)
     (range_with_len 0 (net_count net)) ∙ ap (map v) (sym (net_names-numbers net)) ∙ holds.nets in
     record {
       design = net_module net;
@@ -229,7 +215,7 @@ Means-written net is =
       one_run = λ items us vs u v. values_told items us u ∙ sym (values_told items vs v);
       shows = λ items vs run. runs-are net is (λ v. map v (net_outputs net)) (λ l i. all_shown (net_values net l i)) (shown-module net) start items vs run
           ∙ told-values net all_shown start items ∙ ap (λ l. map all_shown (values_from net l items)) (initial-module net)
-          ∙ map-map (λ (s : Shown). s.outputs ++ s.paused ∷ []) (shown net) (net_values_run net items);
+          ∙ map-composed (λ (s : Shown). s.outputs ++ s.paused ∷ []) (shown net) (net_values_run net items);
       nets = λ items vs run. runs-are net is (λ v. map (λ n. v (net_name net n)) (range_with_len 0 (net_count net))) (λ l i. net_values net l i) named start
           items vs run
           ∙ told-values net (λ values. values) start items ∙ ap (λ l. map (λ values. values) (values_from net l items)) (initial-module net)

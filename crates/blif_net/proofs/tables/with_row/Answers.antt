@@ -1,11 +1,12 @@
 use Rattle.std.proofs.Common.{◌≡◌, true, false, ◌||◌, Some, sym, ap, ◌∙◌, arith, Bool, List}
 use Rattle.std.proofs.lemmas.List.{length-map}
+use Rattle.facts.proofs.Tests.{or-false}
 use Rattle.est_base.specs.declared.indices.NetId.{NetId}
 use Rattle.net_ir.specs.Gates.{value_in, gate_values}
 use Rattle.blif_text.specs.Runs.{row_fits}
 use Rattle.blif_net.specs.Drawings.{said, read_values}
 use Rattle.blif_net.proofs.Drawings.{draws-then, draws-none, draws-value, said-stays}
-use Rattle.blif_net.proofs.Rows.{row-wide, or_false}
+use Rattle.blif_net.proofs.Rows.{row-wide}
 use Rattle.blif_net.proofs.tables.with_row.Goals as goal
 
 pub returns-then-len-reads : goal.returns-then-len-reads
@@ -20,7 +21,7 @@ returns-then-len-reads c =
     let other : row_fits cells (read_values reads values) ≡ false =
     row-wide cells (read_values reads values)
     (λ e. absurd (c.if-len-reads.true (omega (arith, e, c.len.ensures, length-map reads (λ (n : NetId). value_in values n.0))))) in
-    sym (ap (λ x. said false any values || x) other ∙ or_false (said false any values)))
+    sym (ap (λ x. said false any values || x) other ∙ or-false (said false any values)))
     (draws-none first a any false c.requires.drawing c.requires.any)
 
 pub returns : goal.returns

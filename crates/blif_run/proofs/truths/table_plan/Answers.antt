@@ -1,14 +1,14 @@
 use Rattle.std.proofs.Common.{◌≡◌, ◌+◌, ◌<◌, ◌≤◌, ◌++◌, [], ◌∷◌, length, map, take, get_or, sym, ap, ◌∙◌, subst, arith}
 use Rattle.std.proofs.lemmas.List.{length-map, get_or-map, map-append, take_more}
+use Rattle.facts.proofs.Lists.{all-unmapped}
 use Rattle.blif_text.specs.Plain.{plain_table}
 use Rattle.step_run.specs.Plans.{Adds, Makes}
 use Rattle.blif_run.specs.Truths.{no_table, step_of, step_at}
-use Rattle.blif_run.proofs.Resolving.{all-parts}
 use Rattle.blif_run.proofs.truths.table_plan.Goals as goal
 
 pub push_step-requires-clause-few : goal.push_step-requires-clause-few
 push_step-requires-clause-few c =
-    let few = all-parts (λ t. length t.inputs ≤ 8) plain_table c.args.tables.now c.requires.few in
+    let few = all-unmapped (λ t. length t.inputs ≤ 8) plain_table c.args.tables.now c.requires.few in
     let t = c.index-tables-table.result in
     rw (c.index-tables-table.is) (few _ t (c.requires.nodes c.loop-table.table-index 0 (omega arith)))
 

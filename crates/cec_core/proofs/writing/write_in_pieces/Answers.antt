@@ -1,7 +1,8 @@
 use Rattle.std.proofs.Common.{◌≡◌, ◌<◌, [], length, take, subst}
 use Rattle.std.specs.Prelude.{MatchOption}
+use Rattle.facts.proofs.Lists.{pieces-fall}
 use Rattle.est_base.specs.Writing.{Appends, Stops}
-use Rattle.cec_core.proofs.Pieces.{no_piece, one_piece_more, all_pieces, piece_stops, piece_lacks, pieces_fall}
+use Rattle.cec_core.proofs.Pieces.{no_piece, one_piece_more, all_pieces, piece_stops, piece_lacks}
 use Rattle.cec_core.proofs.writing.write_in_pieces.Goals as goal
 
 pub loop-piece-init : goal.loop-piece-init
@@ -22,7 +23,7 @@ loop-piece-smaller g c =
     let old = c.loop-piece.pieces in
     let piece = subst (λ p. MatchOption p (old ≡ []) (λ piece. (0 < length piece.items) × (piece.items ≡ take 65536 old)))
     c.in-Ok-Some.field-0-is c.in-Ok-Some.ensures.piece in
-    pieces_fall 65536 old c.in-Ok-Some.piece.items _ piece.0 piece.1 c.in-Ok-Some.ensures.rest
+    pieces-fall 65536 old c.in-Ok-Some.piece.items _ piece.0 piece.1 c.in-Ok-Some.ensures.rest
 
 pub loop-piece-preserved : goal.loop-piece-preserved
 loop-piece-preserved g c =

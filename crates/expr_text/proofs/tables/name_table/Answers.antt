@@ -1,10 +1,10 @@
 use Rattle.std.proofs.Common.{◌≡◌, ℕ, Bool, ◌||◌, List, [], length, map, get_or, sym, ap, ◌∙◌, arith, Bor}
 use Rattle.std.specs.HashSet.{contains_by}
-use Rattle.std.proofs.lemmas.Bool.{not-true, not-false}
+use Rattle.std.proofs.lemmas.Bool.{not-true, not-false, or_from, or_right}
 use Rattle.std.proofs.lemmas.List.{length-map, get_or-map}
 use Rattle.est_base.specs.Names.{is_same_name}
 use Rattle.net_ir.proofs.NameLists.{members-next}
-use Rattle.expr_text.proofs.Again.{again-step, again-found, or-right, or-neither, or-more}
+use Rattle.expr_text.proofs.Again.{again-step, again-found, or-more}
 use Rattle.expr_text.proofs.tables.name_table.Goals as goal
 
 pub returns-then-contains-clause-again : goal.returns-then-contains-clause-again
@@ -20,7 +20,7 @@ returns-then-contains-clause-again c =
     c.ended.ensures.told
     ∙ sym (c.loop-name.invariant.once
     ∙ again-found (λ n. table n || before n) (map bytes names) i key.now (omega (arith, wide)) (sym (get_or-map bytes names i none key.now (omega arith)))
-    (or-right (table key.now) (before key.now) (sym c.contains.ensures ∙ c.if-contains.true)))
+    (or_right (table key.now) (before key.now) (sym c.contains.ensures ∙ c.if-contains.true)))
 
 pub returns-then-not-branch-clause-again : goal.returns-then-not-branch-clause-again
 returns-then-not-branch-clause-again c =
@@ -53,7 +53,7 @@ loop-name-preserved c =
       once = c.loop-name.invariant.once
           ∙ again-step (λ n. table n || before n) (λ n. grown n || before n) (map bytes names) i key.now (omega (arith, wide))
           (sym (get_or-map bytes names i none key.now (omega arith)))
-          (or-neither (table key.now) (before key.now) (not-true _ (sym c.in_ok-insert.ensures.added ∙ c.if-not-branch.false))
+          (or_from (table key.now) (before key.now) (not-true _ (sym c.in_ok-insert.ensures.added ∙ c.if-not-branch.false))
           (sym c.contains.ensures ∙ c.if-contains.false))
           (λ n. or-more (is_same_name key.now n) (table n) (grown n) (before n) (grows n));
       members = λ n. members-next bytes names i none (omega arith) n _ _ (c.loop-name.invariant.members n) (grows n);

@@ -1,9 +1,9 @@
 use Rattle.std.proofs.Common.{◌≡◌, [], ◌∷◌, ◌++◌, length, map, take, slice_index_or, sym, ap, ◌∙◌, arith}
 use Rattle.std.proofs.lemmas.List.{map_more, take_all}
+use Rattle.facts.proofs.Lists.{map-composed}
 use Rattle.grc_graph.specs.declared.formulas.Formula.{Formula}
 use Rattle.grc_graph.specs.PlainGraphs.{formula_of, instances_of, names_of}
 use Rattle.grc_react.specs.Evaluations.{formula_under}
-use Rattle.grc_react.proofs.Agreement.{maps-twice}
 use Rattle.grc_react.proofs.Steps.{known-late}
 use Rattle.grc_react.proofs.reaction.next_values.Goals as goal
 
@@ -30,4 +30,4 @@ returns c =
     let F = λ (f : Formula). formula_under g c.args.start.now c.args.wires.now (formula_of (instances_of g) (names_of g) f) in
     c.loop-formula.invariant
     ∙ ap (map F) (take_all c.loop-formula.formula-index items (omega (arith, ap length c.as_slice-formula-items.ensures.value)))
-    ∙ maps-twice (formula_under g c.args.start.now c.args.wires.now) (formula_of (instances_of g) (names_of g)) items
+    ∙ map-composed (formula_under g c.args.start.now c.args.wires.now) (formula_of (instances_of g) (names_of g)) items

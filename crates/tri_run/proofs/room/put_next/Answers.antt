@@ -1,9 +1,9 @@
 use Rattle.std.proofs.Common.{◌≡◌, ◌<◌, [], ◌∷◌, ◌++◌, length, map, take, slice_index_or, sym, ap, ◌∙◌, arith}
 use Rattle.std.proofs.lemmas.List.{map_more, take_all, take_more_set, length-set}
+use Rattle.facts.proofs.Lists.{map-composed}
 use Rattle.grc_graph.specs.declared.formulas.Formula.{Formula}
 use Rattle.grc_graph.specs.PlainGraphs.{formula_of, instances_of, names_of}
 use Rattle.grc_react.specs.Evaluations.{formula_under}
-use Rattle.grc_react.proofs.Agreement.{maps-twice}
 use Rattle.grc_react.proofs.Steps.{known-late}
 use Rattle.tri_run.proofs.room.put_next.Goals as goal
 
@@ -44,4 +44,4 @@ returns c =
     let same = inv.len in
     let test = c.loop-leaf-test.false in
     sym (take_all at c.loop-leaf.next.items (omega arith)) ∙ inv.front ∙ ap (map F) (take_all at items (omega arith))
-    ∙ maps-twice (formula_under g c.args.start.now c.args.wires.now) (formula_of (instances_of g) (names_of g)) items
+    ∙ map-composed (formula_under g c.args.start.now c.args.wires.now) (formula_of (instances_of g) (names_of g)) items

@@ -1,0 +1,5 @@
+-- Worked examples of the definitions: values by hand, or by an independent implementation. No law stands on them.
+mod WorkedTexts
+mod WorkedPrograms
+mod DrawnPrograms
+mod MoreDrawnPrograms

@@ -1,0 +1,7 @@
+-- Worked examples of the definitions: values by hand, or by an independent implementation. No law stands on them.
+mod Spelled
+mod SpelledItems1
+mod SpelledItems2
+mod SpelledPrograms
+mod WorkedNestings
+mod WorkedTokens

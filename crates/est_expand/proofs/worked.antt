@@ -1,0 +1,6 @@
+-- Worked examples of the definitions: values by hand, or by an independent implementation. No law stands on them.
+mod FlatForms
+mod WorkedPrograms
+mod FaultOrders
+mod DrawnPrograms
+mod RenamedPrograms
