@@ -10,7 +10,7 @@ use Rattle.grc_graph.specs.SelectionTrees.{body_leaves, body_tree}
 use Rattle.grc_graph.specs.TreeForms.{node_of}
 use Rattle.grc_graph.specs.Walk.{Initial}
 use Rattle.grc_sem.proofs.Instants.{next_state_is_kept_lem}
-use Rattle.grc_sem.proofs.Runs.{program_kernel}
+use Rattle.grc_sem.proofs.Premises.{program_kernel}
 use Rattle.grc_solutions.proofs.OneRun.{graph_runs_exist_lem}
 use Rattle.enc_laws.proofs.FormedLatches.{latches-formed}
 use Rattle.net_ir.specs.Gates.{carried}

@@ -17,7 +17,8 @@ use Rattle.grc_graph.specs.GraphRuns.{PlainGraph, IsGraphRun, graph_of, shown}
 use Rattle.grc_graph.specs.Readings.{Valuation}
 use Rattle.grc_graph.specs.Walk.{Initial}
 use Rattle.grc_sem.specs.GraphWalks.{shown_answer}
-use Rattle.grc_sem.proofs.Runs.{program_kernel, graph_runs_are_runs_lem}
+use Rattle.grc_sem.proofs.Premises.{program_kernel}
+use Rattle.grc_tri.proofs.Acyclic.{graph_runs_are_runs_lem}
 use Rattle.grc_solutions.proofs.OneRun.{graph_runs_exist_lem}
 use Rattle.net_gen.specs.Generated.{HasInterfaceOf, FollowsRuns, shown_as}
 use Rattle.net_ir.specs.declared.netlist.NetOut.{NetOut}

@@ -22,7 +22,8 @@ use Rattle.grc_graph.specs.Wires.{Wire, Out}
 use Rattle.grc_graph.proofs.StateForms.{states-are-formed}
 use Rattle.grc_sem.specs.GraphWalks.{SelectsLeaves, IsWalkOf, graph_walk, shown_code}
 use Rattle.grc_sem.proofs.Instants.{next_state_is_kept_lem, codes_are_shown_lem}
-use Rattle.grc_sem.proofs.Runs.{program_kernel, solutions_are_reactions_lem}
+use Rattle.grc_sem.proofs.Premises.{program_kernel}
+use Rattle.grc_tri.proofs.Acyclic.{solutions_are_reactions_lem}
 use Rattle.grc_sem.proofs.WalkSolves.{equations_are_the_walk_lem}
 use Rattle.grc_solutions.specs.GraphWires.{Differ}
 use Rattle.grc_solutions.proofs.Numbers.{reading_orders_read_up_lem}

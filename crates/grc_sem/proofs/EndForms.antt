@@ -3,7 +3,7 @@ use Rattle.std.proofs.Common.{◌≡◌, ℕ, zero, suc, ◌≤◌, Bool, true, 
 use Rattle.std.proofs.Common.{inr, ◌⊎◌, ⊎_elim, arith}
 use Rattle.std.specs.List.{list_any}
 use Rattle.std.proofs.lemmas.List.Folds.{list_any-append}
-use Rattle.std.proofs.lemmas.Bool.{or_cases, or_left, or_right, and_parts, eqb-true, eq-eqb, false≢true, cases_Bool, cases_lt}
+use Rattle.std.proofs.lemmas.Bool.{and_from, or_cases, or_left, or_right, and_parts, eqb-true, eq-eqb, false≢true, cases_Bool, cases_lt}
 use Rattle.facts.proofs.Tests.{or-equal, or-false, same-tests}
 use Rattle.est_base.specs.Codes.{upto}
 use Rattle.est_kernel.specs.Terms.{Expression, Tick, Sig, Not, And, Or, Term}
@@ -18,14 +18,13 @@ use Rattle.grc_graph.specs.Spots.{status_formula, test_formula}
 use Rattle.grc_graph.specs.Equations.{part_end, trapped_ends, started_parallel, branch_over, branch_upto, branch_end, resumed_parallel}
 use Rattle.grc_graph.specs.Walk.{Walk, Values, State, truth, ended}
 use Rattle.grc_graph.specs.Readings.{Valuation, seen_value, boolean_reading}
-use Rattle.grc_sem.proofs.Constructive.{and_true}
 
 -- a value, from what follows if it is true and from when it is
 pub ends_by : (A X b : Bool) (k c : ℕ) → (X ≡ true → (b ≡ true) × (k ≡ c)) → (b ≡ true → k ≡ c → (A ≡ true) × (X ≡ true)) → (A && X) ≡ (b && (k == c))
 ends_by A X b k c f g =
     same-tests (A && X) (b && (k == c))
-    (λ h. let i = f (and_parts A X h).1 in and_true i.0 (eq-eqb k c i.1))
-    (λ h. let i = and_parts b (k == c) h in let j = g i.0 (eqb-true k c i.1) in and_true j.0 j.1)
+    (λ h. let i = f (and_parts A X h).1 in and_from _ _ i.0 (eq-eqb k c i.1))
+    (λ h. let i = and_parts b (k == c) h in let j = g i.0 (eqb-true k c i.1) in and_from _ _ j.0 j.1)
 
 module _ (B : Scope) (body : Term) (q : State) (given : Values) (V : Valuation) where
   abbrev pub val : Formula → Bool
@@ -73,7 +72,7 @@ module _ (B : Scope) (body : Term) (q : State) (given : Values) (V : Valuation) 
 
   is_end : (A : ℕ → Bool) (c : ℕ) (l : Layer) (g : Bool) (code k : ℕ) → (A k ≡ true → V (End c l k) ≡ (g && k == code)) → A k ≡ true → g ≡ true → k ≡ code →
       list_any val (part_end A c l k) ≡ true
-  is_end A c l g code k e a h z = part_meaning A c l k ∙ and_true a (e a ∙ and_true h (eq-eqb k code z))
+  is_end A c l g code k e a h z = part_meaning A c l k ∙ and_from _ _ a (e a ∙ and_from _ _ h (eq-eqb k code z))
 
   -- one part with all its codes
   pub only_ends_live : (A : ℕ → Bool) (c : ℕ) (l : Layer) (g : Bool) (code : ℕ) → ((k : ℕ) → A k ≡ true → V (End c l k) ≡ (g && k == code)) →
@@ -195,7 +194,7 @@ module _ (B : Scope) (body : Term) (q : State) (given : Values) (V : Valuation) 
       (i.0, omega (arith, u.1))
 
   upto_is : (c : ℕ) (l : Layer) (g : Bool) (x k : ℕ) → Ends c l g x → g ≡ true → x ≤ k → upto (λ j. V (End c l j)) k ≡ true
-  upto_is c l g x k e h l2 = upto-in (λ j. V (End c l j)) x k (e x ∙ and_true h (eq-eqb x x refl)) l2
+  upto_is c l g x k e h l2 = upto-in (λ j. V (End c l j)) x k (e x ∙ and_from _ _ h (eq-eqb x x refl)) l2
 
   pub parallel_ends : (A C W : ℕ → Bool) (c d : ℕ) (l : Layer) (b : Bool) (x y : ℕ) → Ends c l b x → Ends d l b y → (b ≡ true → A x ≡ true) →
       (b ≡ true → C y ≡ true) → (b ≡ true → W (max x y) ≡ true) → (k : ℕ) → (W k && val (started_parallel A C c d l k)) ≡ (b && k == max x y)
@@ -214,8 +213,8 @@ module _ (B : Scope) (body : Term) (q : State) (given : Values) (V : Valuation) 
       ))
       (λ h z. (
         subst (λ j. W j ≡ true) (sym z) (w h),
-        and_true (upto_is c l b x k e h (omega arith))
-            (and_true (upto_is d l b y k f h (omega arith))
+        and_from _ _ (upto_is c l b x k e h (omega arith))
+            (and_from _ _ (upto_is d l b y k f h (omega arith))
             (two_any (part_end A c l k) (part_end C d l k)
             ∙ ⊎_elim
             (λ m. let same : k ≡ x = omega arith in or_left _ _ (is_end A c l b x k (λ n. e k) (subst (λ j. A j ≡ true) (sym same) (a h)) h same))
@@ -294,10 +293,10 @@ module _ (B : Scope) (body : Term) (q : State) (given : Values) (V : Valuation) 
       (λ u.
       let same : k ≡ x = z ∙ pick h x u in
       let ak : A k ≡ true = subst (λ j. A j ≡ true) (sym same) (a i u) in
-      or_left _ _ (and_true ak (and_true (sel ∙ u) (e ak ∙ and_true (and_true i u) (eq-eqb k x same)))))
+      or_left _ _ (and_from _ _ ak (and_from _ _ (sel ∙ u) (e ak ∙ and_from _ _ (and_from _ _ i u) (eq-eqb k x same)))))
       (λ u.
       or_right (A k && (val (Selected c) && V (End c Resumed k))) _
-      (and_true (eq-eqb k 0 (z ∙ pass_over h x u)) (and_true (ap not (sel ∙ u)) (go ∙ i))))
+      (and_from _ _ (eq-eqb k 0 (z ∙ pass_over h x u)) (and_from _ _ (ap not (sel ∙ u)) (go ∙ i))))
       (cases_Bool h)
 
   upto_over : (A : ℕ → Bool) (n c : ℕ) (b h : Bool) (x k : ℕ) → V (Go n Resumed) ≡ b → val (Selected c) ≡ h → (has_code A ≡ true → Ends c Resumed (b && h) x) →
@@ -321,8 +320,8 @@ module _ (B : Scope) (body : Term) (q : State) (given : Values) (V : Valuation) 
       ∙ ⊎_elim
       (λ u.
       let live = a i u in
-      or_left _ _ (and_true live (and_true (sel ∙ u) (upto_is c Resumed (b && h) x k (e live) (and_true i u) (omega (arith, pick h x u))))))
-      (λ u. or_right (has_code A && (val (Selected c) && upto (λ j. V (End c Resumed j)) k)) _ (and_true (ap not (sel ∙ u)) (go ∙ i)))
+      or_left _ _ (and_from _ _ live (and_from _ _ (sel ∙ u) (upto_is c Resumed (b && h) x k (e live) (and_from _ _ i u) (omega (arith, pick h x u))))))
+      (λ u. or_right (has_code A && (val (Selected c) && upto (λ j. V (End c Resumed j)) k)) _ (and_from _ _ (ap not (sel ∙ u)) (go ∙ i)))
       (cases_Bool h)
 
   pub resumed_ends : (A C W : ℕ → Bool) (n c d : ℕ) (b h i : Bool) (x y : ℕ) → V (Go n Resumed) ≡ b → val (Selected c) ≡ h → val (Selected d) ≡ i →
@@ -345,8 +344,8 @@ module _ (B : Scope) (body : Term) (q : State) (given : Values) (V : Valuation) 
       (or_cases (list_any val (branch_end A n c k)) _ (sym (two_any (branch_end A n c k) (branch_end C n d k)) ∙ t.1)))
       (λ u z. (
         subst (λ j. W j ≡ true) (sym z) (w u),
-        and_true (upto_held A n c b h x k go sc ea (λ v e. la x (a v e)) u (omega arith))
-            (and_true (upto_held C n d b i y k go sd ec (λ v e. lc y (g v e)) u (omega arith))
+        and_from _ _ (upto_held A n c b h x k go sc ea (λ v e. la x (a v e)) u (omega arith))
+            (and_from _ _ (upto_held C n d b i y k go sd ec (λ v e. lc y (g v e)) u (omega arith))
             (two_any (branch_end A n c k) (branch_end C n d k)
             ∙ ⊎_elim
             (λ m. or_left _ _ (end_is A n c b h x k go sc one a u (omega arith)))
@@ -381,9 +380,10 @@ module _ (B : Scope) (body : Term) (q : State) (given : Values) (V : Valuation) 
         subst (λ j. W j ≡ true) (sym z) (w h),
         all
             ∙ ⊎_elim
-            (λ u. or_right (list_any val (part_end A c Resumed k)) _ (if_any (k == 1) own ∙ and_true (eq-eqb k 1 (z ∙ one u)) (and_true (go ∙ h) (test ∙ u))))
+            (λ u. or_right (list_any val (part_end A c Resumed k)) _
+            (if_any (k == 1) own ∙ and_from _ _ (eq-eqb k 1 (z ∙ one u)) (and_from _ _ (go ∙ h) (test ∙ u))))
             (λ u.
             let same : k ≡ x = z ∙ other u in
-            or_left _ _ (is_end A c Resumed (b && not d) x k (ends k) (subst (λ j. A j ≡ true) (sym same) (a h u)) (and_true h (ap not u)) same))
+            or_left _ _ (is_end A c Resumed (b && not d) x k (ends k) (subst (λ j. A j ≡ true) (sym same) (a h u)) (and_from _ _ h (ap not u)) same))
             (cases_Bool d),
       ))

@@ -1,4 +1,4 @@
--- The laws that tie a graph's equations to the walk and to the reaction of its program.
+-- The laws that tie a graph's equations to the walk of its program.
 use Rattle.est_kernel.specs.Plain.{outgoing_count, given_count}
 use Rattle.grc_sem.specs.Laws.{SolutionsAreWalks, WalksKeepStates}
 use Rattle.grc_sem.proofs.NextTop.{keeps_state}

@@ -1,4 +1,4 @@
--- From a solution of a program's graph, and ranks that go up along each edge, to the walk.
+-- From a solution of a program's graph to the equations that the wires of each instance meet.
 use Rattle.std.proofs.Common.{◌≡◌, ℕ, zero, suc, ◌+◌, ◌<◌, Bool, true, false, ◌&&◌, ◌||◌, ◌==◌, cond, List, [], ◌∷◌, ◌++◌, map, refl, sym, ap, ◌∙◌, subst}
 use Rattle.std.specs.List.{list_any, flat_map, range_with_len, All}
 use Rattle.std.proofs.lemmas.List.Folds.{list_any-append}
@@ -149,12 +149,6 @@ dead_in all n l k y h = go y.statement (λ i j. h i j)
     status_none (Trap p) = refl
     status_none (Local s p) = refl
     status_none (Awake e p) = refl
-
-    three : (a b c d : Bool) → (a ≡ true → b ≡ true → c ≡ true → d ≡ true) → d ≡ false → (a && (b && c)) ≡ false
-    three true true true d f e = absurd (false≢true (sym e ∙ f refl refl refl))
-    three true true false d f e = refl
-    three true false c d f e = refl
-    three false b c d f e = refl
 
     go : (t : Term) → (y.path ≡ n → y.layer ≡ l → instance_codes t y.layer k ≡ false) → list_any same (own_rows t) ≡ false
     go t f =

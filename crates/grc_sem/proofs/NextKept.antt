@@ -1,7 +1,7 @@
 -- The next formula of a pause is true exactly where the walk keeps the pause.
 use Rattle.std.proofs.Common.{◌≡◌, ℕ, ◌+◌, ◌≤◌, Bool, true, false, not, ◌&&◌, ◌||◌, ◌==◌, cond, ltb, max, refl, sym, ap, ◌∙◌, subst, inl, inr, ⊎_elim, arith}
 use Rattle.std.proofs.lemmas.Bool.{or_left, or_right, and_parts, eqb-true, eqb-false, eq-eqb, ne_eqb, cond_both, false≢true, cases_Bool, cond-true, cond-false}
-use Rattle.std.proofs.lemmas.Bool.{lt-ltb, le-leb}
+use Rattle.std.proofs.lemmas.Bool.{and_from, lt-ltb, le-leb}
 use Rattle.facts.proofs.Tests.{ltb-not, or-equal, or-left-none, or-other}
 use Rattle.est_kernel.specs.Terms.{Expression, Tick, Sig, Not, And, Or, Term, Nothing, Pause, Emit, Exit, Present, Suspend, Seq, Loop, Par, Trap, Local, Awake}
 use Rattle.est_kernel.specs.Preorder.{statement_count}
@@ -16,9 +16,7 @@ use Rattle.grc_graph.specs.Selected.{HasExitCodes, IsSelected}
 use Rattle.grc_graph.specs.Readings.{Valuation, seen_values, kept_at, held_at}
 use Rattle.grc_graph.specs.Coherence.{statuses, StartedWalked, ResumedWalked}
 use Rattle.grc_graph.proofs.LiveInstances.{above_within}
-use Rattle.grc_sem.proofs.Places.{no_loops-left}
-use Rattle.grc_sem.proofs.Residues.{no_loops-right, loop_body, resumed_live}
-use Rattle.grc_sem.proofs.Constructive.{and_true}
+use Rattle.grc_sem.proofs.Residues.{no_loops-left, no_loops-right, loop_body, resumed_live}
 use Rattle.grc_sem.proofs.Kept.{Keeps, kept_outside, trap_one, started_keeps, resumed_keeps, keeps_branch}
 use Rattle.grc_sem.proofs.WalkCodes.{started_code, resumed_code}
 use Rattle.grc_sem.proofs.Meets.{Sees, sees_more}
@@ -365,7 +363,7 @@ module _ (V : Valuation) (S : ℕ → Bool) (given : Values) where
       let own : (V (Go n Resumed) && truth c (seen_values given V B Resumed)) ≡ (b && d) =
       and_same w.0.go (truth_same c (seen_values given V B Resumed) v (λ z. sym (e.each z))) in
       let kept : selected_in S p (n + 1) g ≡ S g =
-      ap (λ z. S g && z) (and_true (le-leb (n + 1) g i.0) (lt-ltb g (n + 1 + statement_count p) i.1)) ∙ keep (S g) in
+      ap (λ z. S g && z) (and_from _ _ (le-leb (n + 1) g i.0) (lt-ltb g (n + 1 + statement_count p) i.1)) ∙ keep (S g) in
       ap (λ z. (has_code (resumed_codes p) && restart_keeps V p (n + 1) h) || (S g && z))
       (or-equal own (look_only g n false (held_at given V B p (n + 1) g Resumed) i.0))
       ∙ suspend_bits (has_code (resumed_codes p) && restart_keeps V p (n + 1) h) (S g) (held_at given V B p (n + 1) g Resumed) b d (wp.kept g)
@@ -415,7 +413,7 @@ module _ (V : Valuation) (S : ℕ → Bool) (given : Values) where
       let A = cpl && restart_keeps V q m x in
       let K = resumed_codes p 0 && start_keeps V q m x m in
       let sq : hq ≡ true → (can_pass p ≡ true) × IsSelected S q m = λ z. (s (or_right hp hq z)).2 z in
-      let live : hq ≡ true → cpl ≡ true = λ z. let y = sq z in and_true y.0 (resumed_live S q m nq k.1 z y.1) in
+      let live : hq ≡ true → cpl ≡ true = λ z. let y = sq z in and_from _ _ y.0 (resumed_live S q m nq k.1 z y.1) in
       ap (λ z. (A || K) || (S g && z)) (look_second g n (statement_count p) false (held_at given V B p (n + 1) g Resumed) H i.0)
       ∙ move A K (S g && H)
       ∙ or-equal

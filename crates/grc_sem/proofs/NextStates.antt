@@ -4,7 +4,7 @@ use Rattle.std.proofs.Common.{subst, inl, inr, ⊎_elim, arith}
 use Rattle.std.specs.List.{list_any}
 use Rattle.std.proofs.lemmas.List.Folds.{list_any-append}
 use Rattle.std.proofs.lemmas.Bool.{or_cases, or_left, or_right, and_parts, eqb-true, eqb-false, eq-eqb, cond_both, false≢true, cases_Bool, leb-true, ltb-true}
-use Rattle.std.proofs.lemmas.Bool.{and_right}
+use Rattle.std.proofs.lemmas.Bool.{and_from, and_right}
 use Rattle.facts.proofs.Tests.{or-other}
 use Rattle.est_kernel.specs.Terms.{Term, Nothing, Pause, Emit, Exit, Present, Suspend, Seq, Loop, Par, Trap, Local, Awake}
 use Rattle.est_kernel.specs.Preorder.{statement_count}
@@ -16,9 +16,7 @@ use Rattle.grc_graph.specs.Residuals.{holds}
 use Rattle.grc_graph.specs.Walk.{Walk, Values, truth, with_value, ended, then_walk, both_walks, started_walk, resumed_walk, selected_in}
 use Rattle.grc_graph.specs.SelectionTrees.{resumes, second_resumes, leaf_paths}
 use Rattle.grc_graph.specs.Selected.{HasExitCodes, IsSelected}
-use Rattle.grc_sem.proofs.Places.{no_loops-left}
-use Rattle.grc_sem.proofs.Residues.{no_loops-right, loop_body, resumed_live}
-use Rattle.grc_sem.proofs.Constructive.{and_true}
+use Rattle.grc_sem.proofs.Residues.{no_loops-left, no_loops-right, loop_body, resumed_live}
 use Rattle.grc_sem.proofs.Kept.{Same, first_same, second_same, only_same, holds_same, Keeps, second_none, first_none, both_first, both_second, selected_same}
 use Rattle.grc_sem.proofs.Kept.{keeps_branch, started_keeps, resumed_keeps}
 use Rattle.grc_sem.proofs.WalkCodes.{started_code, resumed_code}
@@ -440,7 +438,7 @@ way_leaf S (Seq p q) n (inr x) nl k i e =
     let nq = no_loops-right (instant_loops p) (instant_loops q) nl in
     let y = way_held S q m x e in
     let j = i.2 y in
-    among_second _ (leaf_paths (resumes p) p (n + 1)) _ (live_leaf (second_resumes p q) q m _ (and_true j.0 (resumed_live S q m nq k.1 y j.1))
+    among_second _ (leaf_paths (resumes p) p (n + 1)) _ (live_leaf (second_resumes p q) q m _ (and_from _ _ j.0 (resumed_live S q m nq k.1 y j.1))
     (way_leaf S q m x nq k.1 j.1 e))
 way_leaf S (Loop at p) n h nl k i e =
     let np = (loop_body at p nl).1 in

@@ -2,7 +2,7 @@
 use Rattle.std.proofs.Common.{◌≡◌, ℕ, Bool, true, false, ◌&&◌, ◌||◌, ◌==◌, cond, List, [], ◌∷◌, ◌++◌, map, refl, sym, ap, ◌∙◌, arith}
 use Rattle.std.specs.List.{list_any, flat_map}
 use Rattle.std.proofs.lemmas.List.Folds.{list_any-append}
-use Rattle.std.proofs.lemmas.Bool.{and_parts, eqb-true, cond_both, false≢true}
+use Rattle.std.proofs.lemmas.Bool.{and_from, and_parts, eqb-true, cond_both, false≢true}
 use Rattle.facts.proofs.Lists.{map-twice}
 use Rattle.facts.proofs.Tests.{or-equal, or-false, same-tests}
 use Rattle.est_kernel.specs.Terms.{Term}
@@ -21,7 +21,6 @@ use Rattle.grc_graph.specs.Coherence.{statuses, StartedWalked, ResumedWalked}
 use Rattle.grc_graph.proofs.Holding.{holds-false}
 use Rattle.grc_sem.specs.GraphWalks.{selected_of}
 use Rattle.grc_sem.proofs.Residues.{resumed_live}
-use Rattle.grc_sem.proofs.Constructive.{and_true}
 use Rattle.grc_sem.proofs.Kept.{started_keeps, resumed_keeps}
 use Rattle.grc_sem.proofs.EndForms.{val, any_meaning}
 use Rattle.grc_sem.proofs.Meets.{Sees}
@@ -167,7 +166,7 @@ module _ (given : Values) (V : Valuation) (B : Scope) (body : Term) (q : State) 
       let f : K (goal body 0 w.0) ≡ true = ap K w.1 ∙ e in
       let held = way_held K body 0 w.0 f in
       let selected = keeps_state (statuses V) q body v kernel nl state held in
-      and_true
+      and_from _ _
       (ap (λ i. among i (body_leaves body)) (sym w.1)
       ∙ live_leaf (resumes body) body 0 (goal body 0 w.0) (resumed_live K body 0 nl kernel held selected) (way_leaf K body 0 w.0 nl kernel selected f))
       (ap next_bit (sym w.1) ∙ next_way w.0 ∙ f))

@@ -14,7 +14,10 @@ use Rattle.est_kernel.proofs.ResidualLaws.{trap_code-most}
 use Rattle.grc_graph.specs.Layers.{can_pass}
 use Rattle.grc_graph.specs.Residuals.{holds, left_if, residual}
 use Rattle.grc_graph.specs.Selected.{HasExitCodes, IsSelected}
-use Rattle.grc_sem.proofs.Places.{no_loops-left}
+
+pub no_loops-left : (xs ys : List Span) → xs ++ ys ≡ [] → xs ≡ []
+no_loops-left [] ys e = refl
+no_loops-left (x ∷ xs) ys e = cc
 
 pub no_loops-right : (xs ys : List Span) → xs ++ ys ≡ [] → ys ≡ []
 no_loops-right [] ys e = e

@@ -1,5 +1,5 @@
--- A solution of a program's graph is a walk, so what is left of the program reacts constructively.
-use Rattle.std.proofs.Common.{◌≡◌, ℕ, zero, suc, ◌+◌, ◌<◌, ◌≤◌, Bool, true, false, ◌||◌, List, [], ◌∷◌, length, get_or, map, refl, ap, ◌∙◌, subst, inl, ⊎_elim}
+-- A solution of a program's graph is a walk, with the outgoing signals that it emits.
+use Rattle.std.proofs.Common.{◌≡◌, ℕ, zero, suc, ◌+◌, ◌<◌, ◌≤◌, Bool, true, false, ◌||◌, List, [], ◌∷◌, length, get_or, map, refl, ◌∙◌, subst, inl, ⊎_elim}
 use Rattle.std.proofs.Common.{arith}
 use Rattle.std.specs.List.{list_any, flat_map, range_with_len, All, Contains}
 use Rattle.facts.proofs.Lists.{Every}
@@ -11,36 +11,24 @@ use Rattle.grc_graph.specs.Scopes.{Scope}
 use Rattle.grc_graph.specs.Wires.{Wire, Out, same_wire}
 use Rattle.grc_graph.specs.Spots.{Spot, body_entry}
 use Rattle.grc_graph.specs.Equations.{equations, instance_equations, output_equation}
-use Rattle.grc_graph.specs.Edges.{edges, edges_at}
-use Rattle.grc_graph.specs.Orders.{GoUp}
 use Rattle.grc_graph.specs.Residuals.{holds}
 use Rattle.grc_graph.specs.Walk.{Values, State, is_initial}
 use Rattle.grc_graph.specs.Selected.{HasExitCodes, IsState}
 use Rattle.grc_graph.specs.Readings.{Valuation, seen_values, state_holds_at}
 use Rattle.grc_graph.specs.Coherence.{StartedWalked, ResumedWalked}
 use Rattle.grc_sem.specs.GraphWalks.{selected_of}
-use Rattle.grc_solutions.proofs.Lists.{every_of_all, every_left, every_flat_map, every_contained}
+use Rattle.grc_solutions.proofs.Lists.{every_of_all, every_left}
 use Rattle.grc_solutions.proofs.Each.{EachStarted, EachResumed}
-use Rattle.grc_solutions.proofs.Rows.{RowAt}
-use Rattle.grc_sem.proofs.Ranks.{Up, InScope}
 use Rattle.grc_graph.proofs.LiveLayers.{body_agrees}
 use Rattle.grc_solutions.proofs.Live.{layered}
-use Rattle.grc_solutions.proofs.Decode.{row_at}
 use Rattle.grc_sem.proofs.Emissions.{emitted, Whole}
 use Rattle.grc_sem.proofs.EndForms.{val}
 use Rattle.grc_sem.proofs.Meets.{Met, head_started, head_resumed, finds_self}
 use Rattle.grc_sem.proofs.Told.{told_started, told_resumed}
 use Rattle.grc_sem.proofs.Joint.{Alive, met_at, met_spots}
-use Rattle.grc_sem.proofs.ReactWalks.{Solution}
 use Rattle.grc_solutions.proofs.ProgramGraphs.{range_has}
 use Rattle.grc_sem.proofs.Tops.{state_finds, state_reach}
 use Rattle.grc_sem.proofs.Tops as tops
-
--- Edges that go up, instance by instance
-up_rows : (R : Wire → ℕ) (all : List Spot) → GoUp R (edges all) → Every (λ x. Every (λ e. R e.from < R e.to) (edges_at x.scope x.statement x.path x.layer)) all
-up_rows R all h =
-    every_flat_map (λ e. R e.from < R e.to) (λ x. edges_at x.scope x.statement x.path x.layer) all
-    (every_contained (λ e. R e.from < R e.to) (edges all) h)
 
 module _ (inputs outs given_count : ℕ) (body : Term) where
   abbrev B0 : Scope
@@ -105,25 +93,3 @@ module _ (inputs outs given_count : ℕ) (body : Term) where
         let rows = every_left (λ e. V e.wire ≡ val B0 body q (is_given event) V e.formula)
         (map (output_equation given_count body_all) (range_with_len inputs outs)) (flat_map (instance_equations body_all) body_all) every in
         output_row (range_with_len inputs outs) rows o (range_has inputs outs o i j) ∙ tops.output_means inputs outs body given_count q event V w o
-
-    pub solution_of : (R : Wire → ℕ) (N : ℕ) → InScope B0 body → ((w : Wire) → R w ≤ N) → GoUp R (edges body_all) → length event ≡ given_count →
-        inputs ≤ given_count → given_count ≤ inputs + outs → Solution inputs outs body R N q event V
-    solution_of R N scope most up width low high =
-        let l = layered (body_layers body) (λ x. Every (λ e. R e.from < R e.to) (edges_at x.scope x.statement x.path x.layer)) (RowAt (Up R)) (row_at (Up R))
-        (body_liveness body) B0 body_entry body 0 kernel (body_agrees body) (up_rows R body_all up) in
-        record {
-          loops = nl;
-          kernel = kernel;
-          scope = scope;
-          most = most;
-          started_rows = l.1 0 (inl refl);
-          resumed_rows = l.0;
-          state = state;
-          width = (omega arith, omega arith);
-          started_wires = λ e. subst (λ b. StartedWalked V body 0 (Started 0) v b) (ap is_initial e) top_started;
-          resumed_wires = λ T e live.
-              let f : S ≡ T = ap selected_of e in
-              subst (λ U. ResumedWalked V U body 0 v (holds U body 0)) f (top_resumed live);
-          outputs = λ o i j. output_value width o i j ∙ ap (λ b. is_given event o || b)
-              (tops.body_emits inputs outs body q event V nl kernel state top_started top_resumed o i j);
-        }

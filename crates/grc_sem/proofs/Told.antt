@@ -1,6 +1,6 @@
 -- Equations met are the walk: where the wires of each instance meet their equations, they are those of the walk.
 use Rattle.std.proofs.Common.{◌≡◌, ℕ, ◌+◌, ◌≤◌, Bool, true, false, not, ◌&&◌, ◌==◌, cond, max, List, [], refl, ap, ◌∙◌, arith}
-use Rattle.std.proofs.lemmas.Bool.{and_parts, eq-eqb, ne_eqb, cond-true, cond-false}
+use Rattle.std.proofs.lemmas.Bool.{and_from, and_parts, eq-eqb, ne_eqb, cond-true, cond-false}
 use Rattle.facts.proofs.Tests.{eqb-turned}
 use Rattle.est_kernel.specs.Terms.{Term, Nothing, Pause, Emit, Exit, Present, Suspend, Seq, Loop, Par, Trap, Local, Awake}
 use Rattle.est_kernel.specs.Preorder.{statement_count}
@@ -15,11 +15,9 @@ use Rattle.grc_graph.specs.Walk.{Walk, Values, State, with_value, truth, ended, 
 use Rattle.grc_graph.specs.Selected.{HasExitCodes}
 use Rattle.grc_graph.specs.Readings.{Valuation}
 use Rattle.grc_graph.specs.Coherence.{statuses, StartedWalked, ResumedWalked}
-use Rattle.grc_sem.proofs.Places.{no_loops-left}
 use Rattle.grc_solutions.proofs.Each.{EachStarted, EachResumed}
-use Rattle.grc_sem.proofs.Residues.{no_loops-right, loop_body}
+use Rattle.grc_sem.proofs.Residues.{no_loops-left, no_loops-right, loop_body}
 use Rattle.grc_solutions.proofs.Binders.{Above, above_more, above_bind}
-use Rattle.grc_sem.proofs.Constructive.{and_true}
 use Rattle.grc_graph.proofs.LiveLayers.{Agrees, only_agrees, first_agrees, second_agrees}
 use Rattle.grc_graph.proofs.LiveInstances.{above_within}
 use Rattle.grc_solutions.proofs.Live.{Root}
@@ -207,13 +205,13 @@ module _ (B0 : Scope) (body : Term) (q : State) (given : Values) (V : Valuation)
       let up : Reach S p (n + 1) (b && c) = reach_part {p = p} {m = n + 1} b u (λ y z. y.1 z) in
       let uq : Reach S p2 m (b && d) = reach_part {p = p2} {m = m} b u (λ y z. y.2 z) in
       let one : has_code (resumed_codes p) ≡ true → ResumedWalked V S p (n + 1) v (b && c) = λ z.
-      told_resumed S ap1 p B _ (n + 1) v (b && c) (first_agrees L a ap1 aq t p p2 n refl (λ j. refl) g) (and_true i z)
+      told_resumed S ap1 p B _ (n + 1) v (b && c) (first_agrees L a ap1 aq t p p2 n refl (λ j. refl) g) (and_from _ _ i z)
       (λ r y. let y2 = l r y in omega arith) np k.0 (above_more B n (n + 1) (omega arith) ab)
       (whole_first V L all B f _ _ t p p2 n ab refl refl (λ j y y2. refl) w) (e.1 z) s op up
       ((head_resumed M B _ p (n + 1) k.0 (e.1 z)).go ∙ ap (λ y. y && picks (n + 1)) h ∙ ap (λ y. b && y) (finds_self picks S p (n + 1) op)) in
       let two : has_code (resumed_codes p2) ≡ true → ResumedWalked V S p2 m v (b && d) = λ z.
-      told_resumed S aq p2 B _ m v (b && d) (second_agrees L a ap1 aq t p p2 n refl (λ j. refl) g) (and_true i z) (λ r y. let y2 = l r y in omega arith) nq k.1
-      (above_more B n m (omega arith) ab) (whole_second V L all B f _ _ t p p2 n ab refl refl (λ j y y2. refl) w) (e.2 z) s oq uq
+      told_resumed S aq p2 B _ m v (b && d) (second_agrees L a ap1 aq t p p2 n refl (λ j. refl) g) (and_from _ _ i z) (λ r y. let y2 = l r y in omega arith) nq
+      k.1 (above_more B n m (omega arith) ab) (whole_second V L all B f _ _ t p p2 n ab refl refl (λ j y y2. refl) w) (e.2 z) s oq uq
       ((head_resumed M B _ p2 m k.1 (e.2 z)).go ∙ ap (λ y. y && picks m) h ∙ ap (λ y. b && y) (finds_self picks S p2 m oq)) in
       let wq = resumed_walk (statuses V) S p2 m v in (
         record {
@@ -231,8 +229,8 @@ module _ (B0 : Scope) (body : Term) (q : State) (given : Values) (V : Valuation)
       let op = finds_only picks S t p n refl (λ j. refl) o in
       let up : Reach S p (n + 1) (b && not d) = record { held = λ z. u.held (and_parts b _ z).0; selected = λ z. u.selected (and_parts b _ z).0 } in
       let one : has_code (resumed_codes p) ≡ true → ResumedWalked V S p (n + 1) v (b && not d) = λ z.
-      told_resumed S ap1 p B _ (n + 1) v (b && not d) (only_agrees L a ap1 t p n refl (λ j. refl) g) (and_true i z) (λ r y. let y2 = l r y in omega arith) nl k
-      (above_more B n (n + 1) (omega arith) ab) (whole_only V L all B B f _ t p n refl refl (λ j y y2. refl) w) (e.1 z) s op up
+      told_resumed S ap1 p B _ (n + 1) v (b && not d) (only_agrees L a ap1 t p n refl (λ j. refl) g) (and_from _ _ i z) (λ r y. let y2 = l r y in omega arith)
+      nl k (above_more B n (n + 1) (omega arith) ab) (whole_only V L all B B f _ t p n refl refl (λ j y y2. refl) w) (e.1 z) s op up
       ((head_resumed M B _ p (n + 1) k (e.1 z)).go ∙ ap (λ y. y && not (val B0 body q given V (test_formula B x Resumed))) h ∙ ap (λ y. b && not y) test) in
       let paused : Walk = record { signals = λ y. false; code = 1; kept = selected_in S p (n + 1) } in (
         record {
@@ -260,17 +258,17 @@ module _ (B0 : Scope) (body : Term) (q : State) (given : Values) (V : Valuation)
       let wp = resumed_walk (statuses V) S p (n + 1) v in
       let wr = started_walk (statuses V) p2 m (Started m) v in
       let one : has_code (resumed_codes p) ≡ true → ResumedWalked V S p (n + 1) v (b && c) = λ z.
-      told_resumed S ap1 p B _ (n + 1) v (b && c) (first_agrees L a ap1 aq t p p2 n refl (λ j. refl) g) (and_true i z)
+      told_resumed S ap1 p B _ (n + 1) v (b && c) (first_agrees L a ap1 aq t p p2 n refl (λ j. refl) g) (and_from _ _ i z)
       (λ r y. let y2 = l r y in omega arith) np k.0 (above_more B n (n + 1) (omega arith) ab)
       (whole_first V L all B f _ _ t p p2 n ab refl refl (λ j y y2. refl) w) (e.1 z) s op up
       ((head_resumed M B _ p (n + 1) k.0 (e.1 z)).go ∙ ap (λ y. y && picks (n + 1)) h ∙ ap (λ y. b && y) (finds_self picks S p (n + 1) op)) in
       let two : (can_pass p && has_code (resumed_codes p2)) ≡ true → ResumedWalked V S p2 m v (b && d) = λ z.
-      told_resumed S aq p2 B _ m v (b && d) gq (and_true i z) (low_second (started_codes p 0) (a.resumed && resumed_codes p 0) a.roots n m (omega arith) l) nq
-      k.1 am ws (e.2 z) s oq uq
+      told_resumed S aq p2 B _ m v (b && d) gq (and_from _ _ i z) (low_second (started_codes p 0) (a.resumed && resumed_codes p 0) a.roots n m (omega arith) l)
+      nq k.1 am ws (e.2 z) s oq uq
       ((head_resumed M B _ p2 m k.1 (e.2 z)).go ∙ ap (λ y. y && picks m) h ∙ ap (λ y. b && y) (finds_self picks S p2 m oq)) in
       let three : resumed_codes p 0 ≡ true → StartedWalked V p2 m (Started m) v ((b && c) && wp.code == 0) = λ z.
       told_started aq p2 B _ m m v ((b && c) && wp.code == 0) gq (root_own m (a.resumed && resumed_codes p 0) (cond (started_codes p 0) a.roots [])
-      (and_true i z)) (omega arith) nq k.1 am ws (e.3 z)
+      (and_from _ _ i z)) (omega arith) nq k.1 am ws (e.3 z)
       (sees_root given V B m v am s)
       ((head_started M B _ p2 m (Started m) k.1 (e.3 z)).go ∙ ap (λ y. V (End (n + 1) y 0)) (cond-true (m == m) Resumed (Started m) (eq-eqb m m refl))
       ∙ (resumed_at V S p (n + 1) v _ k.0 (one (code_lives p k.0 0 z))).ends 0 ∙ ap (λ y. (b && c) && y) (eqb-turned 0 wp.code)) in
@@ -295,11 +293,11 @@ module _ (B0 : Scope) (body : Term) (q : State) (given : Values) (V : Valuation)
       let up : Reach S p (n + 1) b = record { held = u.held; selected = u.selected } in
       let wp = resumed_walk (statuses V) S p (n + 1) v in
       let one : has_code (resumed_codes p) ≡ true → ResumedWalked V S p (n + 1) v b = λ z.
-      told_resumed S ap1 p B _ (n + 1) v b g1 (and_true i z) (low_second true (a.resumed && resumed_codes p 0) a.roots n (n + 1) (omega arith) l) np k am ws
+      told_resumed S ap1 p B _ (n + 1) v b g1 (and_from _ _ i z) (low_second true (a.resumed && resumed_codes p 0) a.roots n (n + 1) (omega arith) l) np k am ws
       (e.1 z) s op up
       ((head_resumed M B _ p (n + 1) k (e.1 z)).go ∙ h) in
       let two : resumed_codes p 0 ≡ true → StartedWalked V p (n + 1) (Started (n + 1)) v (b && wp.code == 0) = λ z.
-      told_started ap1 p B _ (n + 1) (n + 1) v (b && wp.code == 0) g1 (root_own (n + 1) (a.resumed && resumed_codes p 0) a.roots (and_true i z))
+      told_started ap1 p B _ (n + 1) (n + 1) v (b && wp.code == 0) g1 (root_own (n + 1) (a.resumed && resumed_codes p 0) a.roots (and_from _ _ i z))
       (omega arith) np k am ws (e.2 z)
       (sees_root given V B (n + 1) v am s)
       ((head_started M B _ p (n + 1) (Started (n + 1)) k (e.2 z)).go
@@ -328,13 +326,13 @@ module _ (B0 : Scope) (body : Term) (q : State) (given : Values) (V : Valuation)
       let up : Reach S p (n + 1) (b && c) = reach_part {p = p} {m = n + 1} b u (λ y z. y.2 z) in
       let uq : Reach S p2 m (b && d) = reach_part {p = p2} {m = m} b u (λ y z. y.3 z) in
       let one : has_code (resumed_codes p) ≡ true → ResumedWalked V S p (n + 1) v (b && c) = λ z.
-      told_resumed S ap1 p B _ (n + 1) v (b && c) (first_agrees L a ap1 aq t p p2 n refl (λ j. refl) g) (and_true i z)
+      told_resumed S ap1 p B _ (n + 1) v (b && c) (first_agrees L a ap1 aq t p p2 n refl (λ j. refl) g) (and_from _ _ i z)
       (λ r y. let y2 = l r y in omega arith) np k.0 (above_more B n (n + 1) (omega arith) ab)
       (whole_first V L all B f _ _ t p p2 n ab refl refl (λ j y y2. refl) w) (e.1 z) s op up
       ((head_resumed M B _ p (n + 1) k.0 (e.1 z)).go ∙ ap (λ y. y && picks (n + 1)) h ∙ ap (λ y. b && y) sp) in
       let two : has_code (resumed_codes p2) ≡ true → ResumedWalked V S p2 m v (b && d) = λ z.
-      told_resumed S aq p2 B _ m v (b && d) (second_agrees L a ap1 aq t p p2 n refl (λ j. refl) g) (and_true i z) (λ r y. let y2 = l r y in omega arith) nq k.1
-      (above_more B n m (omega arith) ab) (whole_second V L all B f _ _ t p p2 n ab refl refl (λ j y y2. refl) w) (e.2 z) s oq uq
+      told_resumed S aq p2 B _ m v (b && d) (second_agrees L a ap1 aq t p p2 n refl (λ j. refl) g) (and_from _ _ i z) (λ r y. let y2 = l r y in omega arith) nq
+      k.1 (above_more B n m (omega arith) ab) (whole_second V L all B f _ _ t p p2 n ab refl refl (λ j y y2. refl) w) (e.2 z) s oq uq
       ((head_resumed M B _ p2 m k.1 (e.2 z)).go ∙ ap (λ y. y && picks m) h ∙ ap (λ y. b && y) sq) in
       let wp = resumed_walk (statuses V) S p (n + 1) v in
       let wq = resumed_walk (statuses V) S p2 m v in
@@ -355,8 +353,8 @@ module _ (B0 : Scope) (body : Term) (q : State) (given : Values) (V : Valuation)
       let op = finds_only picks S t p n refl (λ j. refl) o in
       let up : Reach S p (n + 1) b = record { held = u.held; selected = u.selected } in
       let one : has_code (resumed_codes p) ≡ true → ResumedWalked V S p (n + 1) v b = λ z.
-      told_resumed S ap1 p B _ (n + 1) v b (only_agrees L a ap1 t p n refl (λ j. refl) g) (and_true i z) (λ r y. let y2 = l r y in omega arith) nl k
-      (above_more B n (n + 1) (omega arith) ab) (whole_only V L all B B f _ t p n refl refl (λ j y y2. refl) w) (e.1 z) s op up
+      told_resumed S ap1 p B _ (n + 1) v b (only_agrees L a ap1 t p n refl (λ j. refl) g) (and_from _ _ i z) (λ r y. let y2 = l r y in omega arith) nl
+      k (above_more B n (n + 1) (omega arith) ab) (whole_only V L all B B f _ t p n refl refl (λ j y y2. refl) w) (e.1 z) s op up
       ((head_resumed M B _ p (n + 1) k (e.1 z)).go ∙ h) in (
         record {
           go = h;
@@ -374,7 +372,7 @@ module _ (B0 : Scope) (body : Term) (q : State) (given : Values) (V : Valuation)
       let op = finds_only picks S t p n refl (λ j. refl) o in
       let up : Reach S p (n + 1) b = record { held = u.held; selected = u.selected } in
       let one : has_code (resumed_codes p) ≡ true → ResumedWalked V S p (n + 1) v2 b = λ z.
-      told_resumed S ap1 p (bind B x n) _ (n + 1) v2 b g1 (and_true i z) (λ r y. let y2 = l r y in omega arith) nl k (above_bind B n x ab) own (e.1 z)
+      told_resumed S ap1 p (bind B x n) _ (n + 1) v2 b g1 (and_from _ _ i z) (λ r y. let y2 = l r y in omega arith) nl k (above_bind B n x ab) own (e.1 z)
       (sees_more given V B n x Resumed v refl s) op up
       ((head_resumed M (bind B x n) _ p (n + 1) k (e.1 z)).go ∙ h) in
       let wp = resumed_walk (statuses V) S p (n + 1) v2 in (

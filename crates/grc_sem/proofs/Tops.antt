@@ -4,7 +4,8 @@ use Rattle.std.proofs.Common.{arith}
 use Rattle.std.specs.List.{list_any}
 use Rattle.std.proofs.lemmas.List.{get_or_past}
 use Rattle.std.proofs.lemmas.List.Folds.{list_any-append}
-use Rattle.std.proofs.lemmas.Bool.{ne_eqb, cond_both, false≢true, lt-ltb, cases_lt}
+use Rattle.std.proofs.lemmas.Bool.{ne_eqb, cond_both, false≢true, lt-ltb, cases_lt, cond-true, cond-false}
+use Rattle.facts.proofs.Tests.{ltb-not}
 use Rattle.est_kernel.specs.Terms.{Term, Nothing, Pause, Emit, Exit, Present, Suspend, Seq, Loop, Par, Trap, Local, Awake}
 use Rattle.est_kernel.specs.Preorder.{statement_count}
 use Rattle.est_kernel.specs.StaticCodes.{has_code, resumed_codes, NoInstantLoop}
@@ -31,7 +32,23 @@ use Rattle.grc_sem.proofs.WalkEmits.{Fresh, Shows, Reach, started_emits, resumed
 use Rattle.grc_sem.proofs.EndForms.{val, any_meaning}
 use Rattle.grc_sem.proofs.Meets.{Finds}
 use Rattle.grc_sem.proofs.Joint.{emissions_any}
-use Rattle.grc_sem.proofs.ReactWalks.{scope_part, InPart, enters, goes_out, unbound}
+
+-- the place of a number in a program's scope
+pub data InPart (inputs interface s : ℕ) (b : Binding) : Type 0 where
+  enters : s < inputs → b ≡ Entering → InPart inputs interface s b
+  goes_out : inputs ≤ s → s < interface → b ≡ Outgoing → InPart inputs interface s b
+  unbound : interface ≤ s → b ≡ Unbound → InPart inputs interface s b
+
+pub scope_part : (inputs interface s : ℕ) → inputs ≤ interface → InPart inputs interface s (program_scope inputs interface s)
+scope_part inputs interface s l =
+    ⊎_elim
+    (λ h. enters h (cond-true _ Entering _ (lt-ltb s inputs h)))
+    (λ h.
+    ⊎_elim
+    (λ k. goes_out h k (cond-false _ Entering _ (ltb-not s inputs h) ∙ cond-true _ Outgoing Unbound (lt-ltb s interface k)))
+    (λ k. unbound k (cond-false _ Entering _ (ltb-not s inputs h) ∙ cond-false _ Outgoing Unbound (ltb-not s interface k)))
+    (cases_lt s interface))
+    (cases_lt s inputs)
 
 cond_none : (c : Bool) {x y : Bool} → x ≡ false → y ≡ false → cond c x y ≡ false
 cond_none true e f = e

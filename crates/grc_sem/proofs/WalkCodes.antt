@@ -11,8 +11,7 @@ use Rattle.grc_graph.specs.Layers.{Layer, Resumed, Started, can_pass}
 use Rattle.grc_graph.specs.Residuals.{holds}
 use Rattle.grc_graph.specs.Walk.{Walk, Values, with_value, truth, ended, then_walk, started_walk, resumed_walk, selected_in}
 use Rattle.grc_graph.specs.Selected.{HasExitCodes, IsSelected}
-use Rattle.grc_sem.proofs.Places.{no_loops-left}
-use Rattle.grc_sem.proofs.Residues.{no_loops-right, loop_body, loop_code, resumed_live}
+use Rattle.grc_sem.proofs.Residues.{no_loops-left, no_loops-right, loop_body, loop_code, resumed_live}
 
 then_code : (P : ℕ → Type 0) (x y : Walk) → (x.code ≡ 0 → P y.code) → ((x.code ≡ 0 → ⊥) → P x.code) → P (then_walk x y).code
 then_code P x y f g =

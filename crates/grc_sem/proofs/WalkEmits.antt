@@ -1,6 +1,6 @@
 -- The emissions on a status wire that a place sees are those of its walk.
 use Rattle.std.proofs.Common.{◌≡◌, ℕ, ◌+◌, ◌<◌, ◌≤◌, Bool, true, false, not, ◌&&◌, ◌||◌, ◌==◌, cond, Some, refl, sym, ap, ◌∙◌, subst, arith}
-use Rattle.std.proofs.lemmas.Bool.{and_parts, eqb-true, eqb-false, ne_eqb, false≢true}
+use Rattle.std.proofs.lemmas.Bool.{and_from, and_parts, eqb-true, eqb-false, ne_eqb, false≢true}
 use Rattle.facts.proofs.Tests.{and-moved, eqb-turned, or-equal, or-false}
 use Rattle.est_kernel.specs.Terms.{Term, Nothing, Pause, Emit, Exit, Present, Suspend, Seq, Loop, Par, Trap, Local, Awake}
 use Rattle.est_kernel.specs.Preorder.{statement_count}
@@ -16,10 +16,8 @@ use Rattle.grc_graph.specs.Selected.{HasExitCodes, IsSelected}
 use Rattle.grc_graph.specs.Readings.{Valuation}
 use Rattle.grc_graph.specs.Coherence.{statuses, StartedWalked, ResumedWalked}
 use Rattle.grc_graph.proofs.LiveInstances.{above_behind}
-use Rattle.grc_sem.proofs.Places.{no_loops-left}
-use Rattle.grc_sem.proofs.Residues.{no_loops-right, loop_body, resumed_live}
+use Rattle.grc_sem.proofs.Residues.{no_loops-left, no_loops-right, loop_body, resumed_live}
 use Rattle.grc_solutions.proofs.Binders.{Above, above_more, above_bind}
-use Rattle.grc_sem.proofs.Constructive.{and_true}
 use Rattle.grc_sem.proofs.Emissions.{emission}
 use Rattle.grc_sem.proofs.Bridge.{started_any, resumed_any}
 use Rattle.grc_sem.proofs.WalkCodes.{started_code, resumed_code}
@@ -384,7 +382,7 @@ module _ (V : Valuation) (S : ℕ → Bool) where
       (λ z. resumed_emits w s c p2 B _ m v _ nq k.1 two (h.2 z) (fresh_more n m (omega arith) r) am e)
       (λ i.
       let g = and_parts b hq i in
-      and_true ((q.selected g.0).2 g.1).0 (live_of p2 m (b && hq) nq k.1 two i)))
+      and_from _ _ ((q.selected g.0).2 g.1).0 (live_of p2 m (b && hq) nq k.1 two i)))
       (guard_bits (resumed_codes p 0) c ((b && hp) && wp.code == 0) (wr.signals s) _
       (λ z. started_emits V w s c p2 B _ m (Started m) v _ nq k.1 (h.3 z) (fresh_more n m (omega arith) r) (shows_root B m s w c am e))
       (λ i.

@@ -1,7 +1,7 @@
 -- What the ends of an instance mean, where its parts are those of the walk: each code of the instance ends it as its walk
 -- says, and no other.
 use Rattle.std.proofs.Common.{◌≡◌, ℕ, ◌+◌, Bool, true, false, not, ◌&&◌, ◌==◌, cond, max, refl, sym, ap, ◌∙◌, subst, inl, inr, ⊎_elim}
-use Rattle.std.proofs.lemmas.Bool.{and_parts, eqb-true, eqb-false, ne_eqb, false≢true, cases_Bool}
+use Rattle.std.proofs.lemmas.Bool.{and_from, and_parts, eqb-true, eqb-false, ne_eqb, false≢true, cases_Bool}
 use Rattle.facts.proofs.Tests.{and-turned, not-false, or-other}
 use Rattle.est_base.specs.Codes.{except}
 use Rattle.est_kernel.specs.Terms.{Term, Nothing, Pause, Emit, Exit, Present, Suspend, Seq, Loop, Par, Trap, Local, Awake}
@@ -17,9 +17,7 @@ use Rattle.grc_graph.specs.Walk.{Walk, Values, State, with_value, truth, ended, 
 use Rattle.grc_graph.specs.Selected.{HasExitCodes}
 use Rattle.grc_graph.specs.Readings.{Valuation, state_holds_at}
 use Rattle.grc_graph.specs.Coherence.{statuses, StartedWalked, ResumedWalked}
-use Rattle.grc_sem.proofs.Places.{no_loops-left}
-use Rattle.grc_sem.proofs.Residues.{no_loops-right, loop_body, loop_code}
-use Rattle.grc_sem.proofs.Constructive.{and_true, not_false}
+use Rattle.grc_sem.proofs.Residues.{no_loops-left, no_loops-right, loop_body, loop_code}
 use Rattle.grc_sem.proofs.WalkCodes.{started_code, resumed_code}
 use Rattle.grc_sem.proofs.WalkEmits.{Reach}
 use Rattle.grc_sem.proofs.EndForms.{val, test_meaning, only_ends, choice_ends, three_ends, trap_ends, trap_ends_live, only_ends_live, parallel_ends}
@@ -115,8 +113,8 @@ module _ (B0 : Scope) (body : Term) (q : State) (given : Values) (V : Valuation)
       (λ z. started_code (statuses V) t n y v nl k)
       (λ z.
       ⊎_elim
-      (λ c. inl (and_true z c, cond_first d wp wq c, started_code (statuses V) p (n + 1) y v np k.0))
-      (λ c. inr (and_true z (not_false c), cond_second d wp wq c, started_code (statuses V) p2 m y v nq k.1))
+      (λ c. inl (and_from _ _ z c, cond_first d wp wq c, started_code (statuses V) p (n + 1) y v np k.0))
+      (λ c. inr (and_from _ _ z (ap not c), cond_second d wp wq c, started_code (statuses V) p2 m y v nq k.1))
       (cases_Bool d))
       j
   started_mean (Suspend x p) B n r v b nl k s h w j =
@@ -141,9 +139,9 @@ module _ (B0 : Scope) (body : Term) (q : State) (given : Values) (V : Valuation)
       let f1 = started_code (statuses V) p (n + 1) y v np k.0 in
       ⊎_elim
       (λ c. inr (
-        and_true z c,
+        and_from _ _ z c,
         then_second wp wq c,
-        and_true (subst (λ u. started_codes p u ≡ true) (eqb-true wp.code 0 c) f1)
+        and_from _ _ (subst (λ u. started_codes p u ≡ true) (eqb-true wp.code 0 c) f1)
             (started_code (statuses V) p2 m y v nq k.1),
       ))
       (λ c. inl (z, then_first wp wq c, except-in (started_codes p) 0 wp.code f1 (eqb-false wp.code 0 c)))
@@ -201,10 +199,10 @@ module _ (B0 : Scope) (body : Term) (q : State) (given : Values) (V : Valuation)
       (λ z. resumed_code (statuses V) S t n v nl k (u.held z) (u.selected z))
       (λ z.
       ⊎_elim
-      (λ y. inl (and_true z y, cond_first c wp wq y, resumed_code (statuses V) S p (n + 1) v np k.0 y ((u.selected z).1 y)))
+      (λ y. inl (and_from _ _ z y, cond_first c wp wq y, resumed_code (statuses V) S p (n + 1) v np k.0 y ((u.selected z).1 y)))
       (λ y.
       let y2 = or-other c d y (u.held z) in
-      inr (and_true z y2, cond_second c wp wq y, resumed_code (statuses V) S p2 m v nq k.1 y2 ((u.selected z).2 y2)))
+      inr (and_from _ _ z y2, cond_second c wp wq y, resumed_code (statuses V) S p2 m v nq k.1 y2 ((u.selected z).2 y2)))
       (cases_Bool c))
       j
   resumed_mean S (Suspend x p) B n v b nl k s o u h w j =
@@ -233,7 +231,8 @@ module _ (B0 : Scope) (body : Term) (q : State) (given : Values) (V : Valuation)
       (resumed_codes t)
       (n + 1) m m Resumed Resumed (Started m) (b && c) (b && d) ((b && c) && wp.code == 0) b wp.code wq.code wr.code (cond c T wq).code
       (λ y z. (resumed_at V S p (n + 1) v _ k.0 (w.0 (code_lives p k.0 y (except-parts (resumed_codes p) 0 y z).0))).ends y)
-      (λ y z. let z2 = and_parts (can_pass p) (resumed_codes p2 y) z in (resumed_at V S p2 m v _ k.1 (w.1 (and_true z2.0 (code_lives p2 k.1 y z2.1)))).ends y)
+      (λ y z. let z2 = and_parts (can_pass p) (resumed_codes p2 y) z in
+      (resumed_at V S p2 m v _ k.1 (w.1 (and_from _ _ z2.0 (code_lives p2 k.1 y z2.1)))).ends y)
       (λ y z. let z2 = and_parts (resumed_codes p 0) (started_codes p2 y) z in (started_at V p2 m (Started m) v _ k.1 (w.2 z2.0)).ends y)
       (λ z y y2 y3.
       let z2 = and_parts b c z in
@@ -247,18 +246,18 @@ module _ (B0 : Scope) (body : Term) (q : State) (given : Values) (V : Valuation)
       let f1 = resumed_code (statuses V) S p (n + 1) v np k.0 y ((u.selected z).1 y) in
       ⊎_elim
       (λ r. inr (inr (
-        and_true (and_true z y) r,
+        and_from _ _ (and_from _ _ z y) r,
         cond_first c T wq y
             ∙ then_second wp wr r,
-        and_true (subst (λ r2. resumed_codes p r2 ≡ true) (eqb-true wp.code 0 r) f1)
+        and_from _ _ (subst (λ r2. resumed_codes p r2 ≡ true) (eqb-true wp.code 0 r) f1)
             (started_code (statuses V) p2 m (Started m) v nq k.1),
       )))
-      (λ r. inl (and_true z y, cond_first c T wq y ∙ then_first wp wr r, except-in (resumed_codes p) 0 wp.code f1 (eqb-false wp.code 0 r)))
+      (λ r. inl (and_from _ _ z y, cond_first c T wq y ∙ then_first wp wr r, except-in (resumed_codes p) 0 wp.code f1 (eqb-false wp.code 0 r)))
       (cases_Bool (wp.code == 0)))
       (λ y.
       let y2 = or-other c d y (u.held z) in
       let r = (u.selected z).2 y2 in
-      inr (inl (and_true z y2, cond_second c T wq y, and_true r.0 (resumed_code (statuses V) S p2 m v nq k.1 y2 r.1))))
+      inr (inl (and_from _ _ z y2, cond_second c T wq y, and_from _ _ r.0 (resumed_code (statuses V) S p2 m v nq k.1 y2 r.1))))
       (cases_Bool c))
       j
   resumed_mean S (Loop at p) B n v b nl k s o u h w j =
@@ -279,9 +278,9 @@ module _ (B0 : Scope) (body : Term) (q : State) (given : Values) (V : Valuation)
       let f2 = started_code (statuses V) p (n + 1) (Started (n + 1)) v np k in
       ⊎_elim
       (λ r. inr (
-        and_true z r,
+        and_from _ _ z r,
         then_second wp wr r,
-        and_true (subst (λ r2. resumed_codes p r2 ≡ true) (eqb-true wp.code 0 r) f1)
+        and_from _ _ (subst (λ r2. resumed_codes p r2 ≡ true) (eqb-true wp.code 0 r) f1)
             (except-in (started_codes p) 0 wr.code f2 (loop_code p wr.code parts.0 f2)),
       ))
       (λ r. inl (z, then_first wp wr r, except-in (resumed_codes p) 0 wp.code f1 (eqb-false wp.code 0 r)))

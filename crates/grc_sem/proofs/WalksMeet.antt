@@ -1,6 +1,6 @@
 -- The walk meets the equations: where the wires of each instance are those of the walk, they meet their equations.
 use Rattle.std.proofs.Common.{◌≡◌, ℕ, ◌+◌, ◌≤◌, Bool, true, not, ◌&&◌, ◌==◌, cond, List, [], refl, ap, ◌∙◌, arith, sym}
-use Rattle.std.proofs.lemmas.Bool.{and_parts, eq-eqb, ne_eqb, cond-true, cond-false}
+use Rattle.std.proofs.lemmas.Bool.{and_from, and_parts, eq-eqb, ne_eqb, cond-true, cond-false}
 use Rattle.facts.proofs.Tests.{eqb-turned}
 use Rattle.est_kernel.specs.Terms.{Term, Nothing, Pause, Emit, Exit, Present, Suspend, Seq, Loop, Par, Trap, Local, Awake}
 use Rattle.est_kernel.specs.Preorder.{statement_count}
@@ -15,11 +15,9 @@ use Rattle.grc_graph.specs.Walk.{Values, State, with_value, truth, started_walk,
 use Rattle.grc_graph.specs.Selected.{HasExitCodes}
 use Rattle.grc_graph.specs.Readings.{Valuation}
 use Rattle.grc_graph.specs.Coherence.{InstanceWalked, statuses, StartedWalked, ResumedWalked}
-use Rattle.grc_sem.proofs.Places.{no_loops-left}
 use Rattle.grc_solutions.proofs.Each.{spot, EachStarted, EachResumed}
-use Rattle.grc_sem.proofs.Residues.{no_loops-right, loop_body}
+use Rattle.grc_sem.proofs.Residues.{no_loops-left, no_loops-right, loop_body}
 use Rattle.grc_solutions.proofs.Binders.{Above, above_more, above_bind}
-use Rattle.grc_sem.proofs.Constructive.{and_true}
 use Rattle.grc_graph.proofs.LiveLayers.{Agrees, only_agrees, first_agrees, second_agrees}
 use Rattle.grc_graph.proofs.LiveInstances.{above_within}
 use Rattle.grc_solutions.proofs.Live.{Root}
@@ -171,12 +169,12 @@ module _ (B0 : Scope) (body : Term) (q : State) (given : Values) (V : Valuation)
       let uq : Reach S p2 m (b && holds S p2 m) = reach_part {p = p2} {m = m} b u (λ y z. y.2 z) in (
         resumed_met S t B f n v b nl k s o u h e.0 (e.1, e.2) tt,
         (λ z.
-            meets_resumed S ap1 p B _ (n + 1) v (b && holds S p (n + 1)) (first_agrees L a ap1 aq t p p2 n refl (λ j. refl) g) (and_true i z)
+            meets_resumed S ap1 p B _ (n + 1) v (b && holds S p (n + 1)) (first_agrees L a ap1 aq t p p2 n refl (λ j. refl) g) (and_from _ _ i z)
             (λ r y. let y2 = l r y in omega arith) np k.0 (above_more B n (n + 1) (omega arith) ab)
             (whole_first V L all B f _ _ t p p2 n ab refl refl (λ j y y2. refl) w) s op up
             (ap (λ y. y && picks (n + 1)) e.0.go ∙ ap (λ y. b && y) (finds_self picks S p (n + 1) op)) (e.1 z)),
         (λ z.
-            meets_resumed S aq p2 B _ m v (b && holds S p2 m) (second_agrees L a ap1 aq t p p2 n refl (λ j. refl) g) (and_true i z)
+            meets_resumed S aq p2 B _ m v (b && holds S p2 m) (second_agrees L a ap1 aq t p p2 n refl (λ j. refl) g) (and_from _ _ i z)
             (λ r y. let y2 = l r y in omega arith) nq k.1 (above_more B n m (omega arith) ab)
             (whole_second V L all B f _ _ t p p2 n ab refl refl (λ j y y2. refl) w) s oq uq
             (ap (λ y. y && picks m) e.0.go ∙ ap (λ y. b && y) (finds_self picks S p2 m oq)) (e.2 z)),
@@ -190,7 +188,7 @@ module _ (B0 : Scope) (body : Term) (q : State) (given : Values) (V : Valuation)
       let up : Reach S p (n + 1) (b && not d) = record { held = λ z. u.held (and_parts b _ z).0; selected = λ z. u.selected (and_parts b _ z).0 } in (
         resumed_met S t B f n v b nl k s o u h e.0 e.1 tt,
         λ z.
-            meets_resumed S ap1 p B _ (n + 1) v (b && not d) (only_agrees L a ap1 t p n refl (λ j. refl) g) (and_true i z)
+            meets_resumed S ap1 p B _ (n + 1) v (b && not d) (only_agrees L a ap1 t p n refl (λ j. refl) g) (and_from _ _ i z)
             (λ r y. let y2 = l r y in omega arith) nl k (above_more B n (n + 1) (omega arith) ab)
             (whole_only V L all B B f _ t p n refl refl (λ j y y2. refl) w) s op up
             (ap (λ y. y && not (value (test_formula B x Resumed))) e.0.go ∙ ap (λ y. b && not y) test) (e.1 z),
@@ -213,17 +211,17 @@ module _ (B0 : Scope) (body : Term) (q : State) (given : Values) (V : Valuation)
       let wp = resumed_walk (statuses V) S p (n + 1) v in (
         resumed_met S t B f n v b nl k s o u h e.0 (e.1, e.2, e.3) tt,
         (λ z.
-            meets_resumed S ap1 p B _ (n + 1) v (b && c) (first_agrees L a ap1 aq t p p2 n refl (λ j. refl) g) (and_true i z)
+            meets_resumed S ap1 p B _ (n + 1) v (b && c) (first_agrees L a ap1 aq t p p2 n refl (λ j. refl) g) (and_from _ _ i z)
             (λ r y. let y2 = l r y in omega arith) np k.0 (above_more B n (n + 1) (omega arith) ab)
             (whole_first V L all B f _ _ t p p2 n ab refl refl (λ j y y2. refl) w) s op up
             (ap (λ y. y && picks (n + 1)) e.0.go ∙ ap (λ y. b && y) (finds_self picks S p (n + 1) op)) (e.1 z)),
         (λ z.
-            meets_resumed S aq p2 B _ m v (b && holds S p2 m) gq (and_true i z)
+            meets_resumed S aq p2 B _ m v (b && holds S p2 m) gq (and_from _ _ i z)
             (low_second (started_codes p 0) (a.resumed && resumed_codes p 0) a.roots n m (omega arith) l) nq k.1 am ws s oq uq
             (ap (λ y. y && picks m) e.0.go ∙ ap (λ y. b && y) (finds_self picks S p2 m oq)) (e.2 z)),
         (λ z.
             meets_started aq p2 B _ m m v ((b && c) && wp.code == 0) gq (root_own m (a.resumed && resumed_codes p 0) (cond (started_codes p 0) a.roots [])
-            (and_true i z)) (omega arith) nq k.1 am ws
+            (and_from _ _ i z)) (omega arith) nq k.1 am ws
             (sees_root given V B m v am s)
             (ap (λ y. V (End (n + 1) y 0)) (cond-true (m == m) Resumed (Started m) (eq-eqb m m refl))
             ∙ (resumed_at V S p (n + 1) v _ k.0 (e.1 (code_lives p k.0 0 z))).ends 0 ∙ ap (λ y. (b && c) && y) (eqb-turned 0 wp.code)) (e.3 z)),
@@ -239,10 +237,10 @@ module _ (B0 : Scope) (body : Term) (q : State) (given : Values) (V : Valuation)
       let up : Reach S p (n + 1) b = record { held = u.held; selected = u.selected } in
       let wp = resumed_walk (statuses V) S p (n + 1) v in (
         resumed_met S t B f n v b nl k s o u h e.0 (e.1, e.2) tt,
-        (λ z. meets_resumed S ap1 p B _ (n + 1) v b g1 (and_true i z)
+        (λ z. meets_resumed S ap1 p B _ (n + 1) v b g1 (and_from _ _ i z)
             (low_second true (a.resumed && resumed_codes p 0) a.roots n (n + 1) (omega arith) l) np k am ws s op up e.0.go (e.1 z)),
         (λ z.
-            meets_started ap1 p B _ (n + 1) (n + 1) v (b && wp.code == 0) g1 (root_own (n + 1) (a.resumed && resumed_codes p 0) a.roots (and_true i z))
+            meets_started ap1 p B _ (n + 1) (n + 1) v (b && wp.code == 0) g1 (root_own (n + 1) (a.resumed && resumed_codes p 0) a.roots (and_from _ _ i z))
             (omega arith) np k am ws
             (sees_root given V B (n + 1) v am s)
             (ap V (cond-true (n + 1 == n + 1) (End (n + 1) Resumed 0) (Go n (Started (n + 1))) (eq-eqb (n + 1) (n + 1) refl))
@@ -261,12 +259,12 @@ module _ (B0 : Scope) (body : Term) (q : State) (given : Values) (V : Valuation)
       let uq : Reach S p2 m (b && holds S p2 m) = reach_part {p = p2} {m = m} b u (λ y z. y.3 z) in (
         resumed_met S t B f n v b nl k s o u h e.0 (e.1, e.2) tt,
         (λ z.
-            meets_resumed S ap1 p B _ (n + 1) v (b && holds S p (n + 1)) (first_agrees L a ap1 aq t p p2 n refl (λ j. refl) g) (and_true i z)
+            meets_resumed S ap1 p B _ (n + 1) v (b && holds S p (n + 1)) (first_agrees L a ap1 aq t p p2 n refl (λ j. refl) g) (and_from _ _ i z)
             (λ r y. let y2 = l r y in omega arith) np k.0 (above_more B n (n + 1) (omega arith) ab)
             (whole_first V L all B f _ _ t p p2 n ab refl refl (λ j y y2. refl) w) s op up
             (ap (λ y. y && picks (n + 1)) e.0.go ∙ ap (λ y. b && y) (finds_self picks S p (n + 1) op)) (e.1 z)),
         (λ z.
-            meets_resumed S aq p2 B _ m v (b && holds S p2 m) (second_agrees L a ap1 aq t p p2 n refl (λ j. refl) g) (and_true i z)
+            meets_resumed S aq p2 B _ m v (b && holds S p2 m) (second_agrees L a ap1 aq t p p2 n refl (λ j. refl) g) (and_from _ _ i z)
             (λ r y. let y2 = l r y in omega arith) nq k.1 (above_more B n m (omega arith) ab)
             (whole_second V L all B f _ _ t p p2 n ab refl refl (λ j y y2. refl) w) s oq uq
             (ap (λ y. y && picks m) e.0.go ∙ ap (λ y. b && y) (finds_self picks S p2 m oq)) (e.2 z)),
@@ -277,7 +275,7 @@ module _ (B0 : Scope) (body : Term) (q : State) (given : Values) (V : Valuation)
       let op = finds_only picks S t p n refl (λ j. refl) o in
       let up : Reach S p (n + 1) b = record { held = u.held; selected = u.selected } in (
         resumed_met S t B f n v b nl k s o u h e.0 e.1 tt,
-        λ z. meets_resumed S ap1 p B _ (n + 1) v b (only_agrees L a ap1 t p n refl (λ j. refl) g) (and_true i z) (λ r y. let y2 = l r y in omega arith) nl k
+        λ z. meets_resumed S ap1 p B _ (n + 1) v b (only_agrees L a ap1 t p n refl (λ j. refl) g) (and_from _ _ i z) (λ r y. let y2 = l r y in omega arith) nl k
             (above_more B n (n + 1) (omega arith) ab) (whole_only V L all B B f _ t p n refl refl (λ j y y2. refl) w) s op up e.0.go (e.1 z),
       )
   meets_resumed S a (Local x p) B f n v b g i l nl k ab w s o u h e =
@@ -287,7 +285,7 @@ module _ (B0 : Scope) (body : Term) (q : State) (given : Values) (V : Valuation)
       let up : Reach S p (n + 1) b = record { held = u.held; selected = u.selected } in (
         resumed_met S t B f n v b nl k s o u h e.0 e.2 (e.1 ∙ sym (local_resumed V all L S a x p B f n v b g i l nl k ab w up e.2)),
         λ z. meets_resumed S ap1 p (bind B x n) _ (n + 1) (with_value v x (V (StatusOf n Resumed))) b (only_agrees L a ap1 t p n refl (λ j. refl) g)
-            (and_true i z) (λ r y. let y2 = l r y in omega arith) nl k (above_bind B n x ab)
+            (and_from _ _ i z) (λ r y. let y2 = l r y in omega arith) nl k (above_bind B n x ab)
             (whole_only V L all B (bind B x n) f _ t p n refl refl (λ j y y2. refl) w) (sees_more given V B n x Resumed v refl s) op up e.0.go (e.2 z),
       )
   meets_resumed S a (Awake x p) B f n v b g i l nl k ab w s o u h e = absurd k

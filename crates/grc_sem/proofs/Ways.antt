@@ -190,24 +190,6 @@ module _ (V : Valuation) where
       go Resumed = refl
       go (Started r) = ap (λ b. F (Started r) && (V (Go m (Started r)) && b)) (e (Started r))
 
-  -- a parallel adds its end to the factor
-  keeps_par : (F : Layer → Bool) (t p : Term) (n c m : ℕ) (ls : List Layer) →
-      ((l : Layer) → kept_at V t n m l ≡ (V (End n (layer_above n l) 1) && kept_at V p c m l)) →
-      list_any (layer_keeps F t n m) ls ≡ list_any (layer_keeps (λ l. F l && V (End n (layer_above n l) 1)) p c m) ls
-  keeps_par F t p n c m ls e = any_same _ _ ls go
-    where
-      four : (a b c d : Bool) → (a && (b && (c && d))) ≡ ((a && c) && (b && d))
-      four true true c d = refl
-      four true false true d = refl
-      four true false false d = refl
-      four false b c d = refl
-
-      go : (l : Layer) → layer_keeps F t n m l ≡ layer_keeps (λ j. F j && V (End n (layer_above n j) 1)) p c m l
-      go Resumed = refl
-      go (Started r) =
-          ap (λ b. F (Started r) && (V (Go m (Started r)) && b)) (e (Started r))
-          ∙ four (F (Started r)) (V (Go m (Started r))) (V (End n (layer_above n (Started r)) 1)) _
-
   -- the factor is the same for a start at a root below n as for what is resumed
   pub record Even (F : Layer → Bool) (n : ℕ) : Type 0 where
     pub same : (r : ℕ) → n < r → F (Started r) ≡ F Resumed
@@ -221,25 +203,6 @@ module _ (V : Valuation) where
         same = λ r u. ap (λ b. b && V (End n (layer_above n (Started r)) 1)) (e.same r u)
             ∙ ap (λ l. F Resumed && V (End n l 1)) (above_behind n r u);
       }
-
-  assoc : (a b c : Bool) → ((a && b) && c) ≡ (a && (b && c))
-  assoc true b c = refl
-  assoc false b c = refl
-
-  swap3 : (a b c d : Bool) → ((a && b) && (c && d)) ≡ (a && (c && (b && d)))
-  swap3 true true c d = refl
-  swap3 true false true d = refl
-  swap3 true false false d = refl
-  swap3 false b c d = refl
-
-  and_or : (a b c d : Bool) → ((a && (b && c)) || (a && (b && d))) ≡ (a && (b && (c || d)))
-  and_or true true c d = refl
-  and_or true false c d = refl
-  and_or false b c d = refl
-
-  or_joined : (a b c : Bool) → ((a || b) || c) ≡ (a || (b || c))
-  or_joined true b c = refl
-  or_joined false b c = refl
 
   or_same : {a b c d : Bool} → a ≡ c → b ≡ d → (a || b) ≡ (c || d)
   or_same {a} {b} {c} {d} e f = ap (λ x. x || b) e ∙ ap (λ x. c || x) f

@@ -1,25 +1,19 @@
--- Contract: the laws that tie the equations of a graph to the walk and to the reaction of its program.
-use Rattle.std.specs.Prelude.{◌≡◌, ◌↔◌, ℕ, Bool, true, ◌==◌, List, length, map, Some, All, Contains}
-use Rattle.est_base.specs.Items.{Item, EachEvent}
-use Rattle.est_kernel.specs.Plain.{Program, interface_of, given_count}
-use Rattle.est_kernel.specs.Reactions.{Answer, react, run_of}
+-- Contract: the laws that tie the equations of a graph to the walk of its program.
+use Rattle.std.specs.Prelude.{◌≡◌, ◌↔◌, ℕ, Bool, true, ◌==◌, List, length, All, Contains}
+use Rattle.est_base.specs.Items.{Item}
+use Rattle.est_kernel.specs.Plain.{Program, given_count}
 use Rattle.est_kernel.specs.StaticCodes.{has_code, resumed_codes, NoInstantLoop}
-use Rattle.est_kernel.specs.WellFormed.{IsWellFormed}
-use Rattle.est_kernel.specs.WellFormed as programs
 use Rattle.grc_graph.specs.Layers.{Started}
 use Rattle.grc_graph.specs.Wires.{Wire}
-use Rattle.grc_graph.specs.Edges.{edges}
-use Rattle.grc_graph.specs.Orders.{GoUp}
-use Rattle.grc_graph.specs.Residuals.{holds, resumption}
-use Rattle.grc_graph.specs.Walk.{State, Initial, Selecting, remaining, is_initial, body_walk, Values}
+use Rattle.grc_graph.specs.Residuals.{holds}
+use Rattle.grc_graph.specs.Walk.{State, Initial, Selecting, is_initial, body_walk, Values}
 use Rattle.grc_graph.specs.Selected.{HasExitCodes, IsState}
 use Rattle.grc_graph.specs.Readings.{Valuation}
 use Rattle.grc_graph.specs.Coherence.{StartedWalked, ResumedWalked}
-use Rattle.grc_graph.specs.GraphRuns.{graph_of, program_spots, program_wires, Solves, shown, next_state, IsGraphRun}
+use Rattle.grc_graph.specs.GraphRuns.{graph_of, program_wires, Solves, shown, next_state, IsGraphRun}
 use Rattle.grc_sem.specs.Heads.{RegionRests}
 use Rattle.grc_graph.specs.Layers.{Layer}
 use Rattle.grc_sem.specs.GraphWalks.{selected_of, program_values, graph_walk, IsWalkOf, SelectsLeaves, shown_code}
-use Rattle.grc_sem.specs.GraphWalks.{shown_answer}
 
 -- Where no loop is instantaneous, a solution of a program's graph in a state is its walk: each wire of each instance
 -- has the value that the walk gives it, in the layer of the first start and, where it is live, in the resumed one.
@@ -38,20 +32,6 @@ EquationsAreTheWalk =
     (p : Program) (q : State) (event : List Bool) (V : Valuation)
     → HasExitCodes p.body → NoInstantLoop p.body → IsState q p.body → length event ≡ given_count p
     → Solves (graph_of p) q event V ↔ IsWalkOf p q event V
-
--- Where each edge between wires goes up in some rank, what the state leaves of the program reacts to the
--- event: the reaction is constructive, the outgoing signals are present as their wires are true, and what is left
--- after it is what the pauses that the walk keeps leave of the body.
-abbrev pub SolutionsReact : Type 0
-SolutionsReact =
-    (p : Program) (q : State) (event : List Bool) (V : Valuation) (rank : Wire → ℕ)
-    → IsWellFormed p → programs.IsKernel p.body → NoInstantLoop p.body → IsState q p.body
-    → GoUp rank (edges (program_spots p)) → length event ≡ given_count p → Solves (graph_of p) q event V
-    → react (interface_of p) (remaining q p.body) event
-    ≡ Some (record {
-      answer = record { outputs = (shown (graph_of p) V).outputs; code = (graph_walk p q event V).code };
-      residual = resumption (graph_walk p q event V).kept p.body;
-    })
 
 -- the pauses that a walk of a state keeps are a state again
 abbrev pub WalksKeepStates : Type 0
@@ -72,48 +52,12 @@ NextStateIsKept =
     × SelectsLeaves (next_state (graph_of p) q event V) p.body
     × ((shown (graph_of p) V).paused ≡ ((graph_walk p q event V).code == 1))
 
--- Where each edge goes up in some rank, a run of the graph from the first instant is the run of the program: every
--- reaction is constructive, and what is seen of the answers is what the graph shows.
-abbrev pub GraphRunsAreRuns : Type 0
-GraphRunsAreRuns =
-    (p : Program) (rank : Wire → ℕ)
-    → IsWellFormed p → programs.IsKernel p.body → NoInstantLoop p.body → GoUp rank (edges (program_spots p))
-    → (items : List Item) → EachEvent (λ event. length event ≡ given_count p) items
-    → (Vs : List Valuation) → IsGraphRun (graph_of p) Initial items Vs
-    → (answers : List Answer)
-    × (run_of p items ≡ Some answers)
-    × (map shown_answer answers ≡ map (λ V. shown (graph_of p) V) Vs)
-
--- The graph has such a run over all items of the right width, so the program has one: every reaction is constructive.
-abbrev pub ProgramsRun : Type 0
-ProgramsRun =
-    (p : Program) (rank : Wire → ℕ)
-    → IsWellFormed p → programs.IsKernel p.body → NoInstantLoop p.body → GoUp rank (edges (program_spots p))
-    → (items : List Item) → EachEvent (λ event. length event ≡ given_count p) items
-    → (answers : List Answer) × (Vs : List Valuation)
-    × (run_of p items ≡ Some answers)
-    × IsGraphRun (graph_of p) Initial items Vs
-    × (map shown_answer answers ≡ map (λ V. shown (graph_of p) V) Vs)
-
 -- The code of the walk is the one that a solution shows.
 abbrev pub CodesAreShown : Type 0
 CodesAreShown =
     (p : Program) (q : State) (event : List Bool) (V : Valuation)
     → HasExitCodes p.body → NoInstantLoop p.body → IsState q p.body → Solves (graph_of p) q event V
     → shown_code V ≡ (graph_walk p q event V).code
-
--- So a reaction is read off a solution alone: what the state leaves of the program reacts constructively, with the
--- outputs and the code that the solution shows, and leaves what the next state of the graph leaves of the body.
-abbrev pub SolutionsAreReactions : Type 0
-SolutionsAreReactions =
-    (p : Program) (q : State) (event : List Bool) (V : Valuation) (rank : Wire → ℕ)
-    → IsWellFormed p → programs.IsKernel p.body → NoInstantLoop p.body → IsState q p.body → SelectsLeaves q p.body
-    → GoUp rank (edges (program_spots p)) → length event ≡ given_count p → Solves (graph_of p) q event V
-    → react (interface_of p) (remaining q p.body) event
-    ≡ Some (record {
-      answer = record { outputs = (shown (graph_of p) V).outputs; code = shown_code V };
-      residual = remaining (next_state (graph_of p) q event V) p.body;
-    })
 
 -- In a solution each region whose head does not run is at rest. This asks for no rank.
 abbrev pub RegionsRest : Type 0

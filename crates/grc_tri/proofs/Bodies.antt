@@ -26,7 +26,7 @@ use Rattle.grc_graph.proofs.LiveLayers.{body_agrees}
 use Rattle.grc_sem.specs.GraphWalks.{selected_of}
 use Rattle.grc_solutions.proofs.Lists.{every_at, every_map}
 use Rattle.grc_solutions.proofs.Live.{Root}
-use Rattle.grc_sem.proofs.Ranks.{has_value, InScope}
+use Rattle.grc_tri.proofs.Scoped.{has_value, InScope}
 use Rattle.grc_sem.proofs.Emissions.{emission}
 use Rattle.grc_sem.proofs.Bridge.{started_any, resumed_any, split}
 use Rattle.grc_sem.proofs.Meets.{head_started, head_resumed, finds_self}

@@ -19,8 +19,7 @@ use Rattle.grc_graph.specs.Residuals.{holds, residual}
 use Rattle.grc_graph.specs.Selected.{HasExitCodes, IsSelected}
 use Rattle.grc_graph.proofs.LiveLayers.{Agrees, only_agrees, first_agrees, second_agrees}
 use Rattle.grc_solutions.proofs.Each.{EachStarted, EachResumed}
-use Rattle.grc_sem.proofs.Residues.{no_loops-right, loop_body, resumed_live, residual_static, residual_codes}
-use Rattle.grc_sem.proofs.Places.{no_loops-left}
+use Rattle.grc_sem.proofs.Residues.{no_loops-left, no_loops-right, loop_body, resumed_live, residual_static, residual_codes}
 use Rattle.grc_sem.proofs.Meets.{head_started, head_resumed}
 use Rattle.est_tri.specs.TriWalks.{tri, tri_decided}
 use Rattle.est_tri.specs.Laws.{possible}

@@ -11,7 +11,7 @@ use Rattle.grc_graph.specs.Spots.{Spot, status_formula, test_formula}
 use Rattle.grc_graph.specs.Equations.{part_end, emits_on, emissions}
 use Rattle.grc_graph.specs.Walk.{State, Values}
 use Rattle.grc_solutions.proofs.Binders.{Above}
-use Rattle.grc_sem.proofs.Ranks.{has_value, TestInScope}
+use Rattle.grc_tri.proofs.Scoped.{has_value, TestInScope}
 use Rattle.grc_sem.proofs.Emissions.{emitted}
 use Rattle.est_tri.specs.TriWalks.{where_met, tri_upto}
 use Rattle.est_tri.proofs.Rails.{IsRail}

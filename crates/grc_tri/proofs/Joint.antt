@@ -22,10 +22,9 @@ use Rattle.grc_graph.specs.Walk.{State, Initial, Selecting, remaining, is_initia
 use Rattle.grc_graph.specs.Selected.{HasExitCodes, IsState}
 use Rattle.grc_sem.specs.GraphWalks.{selected_of}
 use Rattle.grc_solutions.proofs.ProgramGraphs.{range_has}
-use Rattle.grc_sem.proofs.Ranks.{InScope}
+use Rattle.grc_tri.proofs.Scoped.{InScope}
 use Rattle.grc_sem.proofs.Residues.{resumed_live, residual_static}
-use Rattle.grc_sem.proofs.ReactWalks.{InPart, scope_part, enters, goes_out, unbound, given_value, input_known, other_given, given_from, get_from}
-use Rattle.grc_sem.proofs.Tops.{state_reach}
+use Rattle.grc_sem.proofs.Tops.{InPart, scope_part, enters, goes_out, unbound, state_reach}
 use Rattle.est_tri.specs.TriWalks.{Tri, tri_idle, tri_either, tri}
 use Rattle.est_tri.specs.Settled.{solved, EachOnce}
 use Rattle.est_tri.specs.KnownPlaces.{Known}
@@ -40,9 +39,10 @@ use Rattle.grc_tri.proofs.StartedPlaces.{emits, Follows, below_to, to_below, abo
 use Rattle.grc_tri.proofs.ResumedPlaces.{resumed_emits, FollowsResumed, above_resumed, UnderResumed, under_resumed_emits, stays_resumed}
 use Rattle.grc_tri.proofs.Rows.{Off, RowMet}
 use Rattle.grc_tri.proofs.Rows as programs
-use Rattle.grc_tri.proofs.Bodies.{body_emits, body_follows, body_resumes, body_starts, body_is_resumed, output_next}
+use Rattle.grc_tri.proofs.Bodies.{body_follows, body_resumes, body_starts, body_is_resumed, output_next}
 use Rattle.grc_tri.proofs.Bodies as bodies
-use Rattle.grc_tri.proofs.Outgoing.{kept_once, below_range, not_kept, each_kept, kept_at, other_status_below}
+use Rattle.grc_tri.proofs.Outgoing.{kept_once, below_range, not_kept, each_kept, kept_at, other_status_below, given_value, input_known}
+use Rattle.grc_tri.proofs.Outgoing.{other_given, given_from, get_from}
 
 -- ---- the walk of what a state leaves of a body
 

@@ -1,9 +1,12 @@
 -- The outgoing signals that an event leaves open, and what an event gives.
-use Rattle.std.proofs.Common.{◌≡◌, ℕ, zero, suc, ◌+◌, ◌<◌, ◌≤◌, Bool, true, false, cond, List, [], ◌∷◌, map, filter, Option, Some, None, refl, sym}
+use Rattle.std.proofs.Common.{◌≡◌, ℕ, zero, suc, ◌+◌, ◌<◌, ◌≤◌, Bool, true, false, cond, List, [], ◌∷◌, map, filter, length, Option, Some, None, refl, sym}
 use Rattle.std.proofs.Common.{ap, ◌∙◌, subst, ⊎_elim, arith}
-use Rattle.std.specs.List.{range_with_len}
+use Rattle.std.specs.List.{range_with_len, slice_get}
 use Rattle.std.proofs.lemmas.Bool.{cond_both, false≢true, cases_lt}
-use Rattle.est_kernel.specs.Statuses.{Status, Plus, status_of_other}
+use Rattle.std.proofs.lemmas.List.{get_or_past}
+use Rattle.std.proofs.lemmas.Option.{slice_get-get_or, get_or_from_slice_get}
+use Rattle.est_kernel.specs.Statuses.{Status, Plus, known, status_of_input, status_of_other}
+use Rattle.est_kernel.specs.Reactions.{is_given}
 use Rattle.est_kernel.specs.Laws.{IsBelow}
 use Rattle.est_tri.specs.Settled.{IsNoneOf, EachOnce, EachMeets}
 
@@ -77,3 +80,27 @@ pub other_status_below : (o : Option Bool) (w : Status) → (o ≡ Some true →
 other_status_below None w f = tt
 other_status_below (Some false) w f = tt
 other_status_below (Some true) w f = f refl
+
+-- ---- what the event gives, as a status and as a value
+
+pub given_value : (event : List Bool) (s : ℕ) → s < length event → slice_get event s ≡ Some (is_given event s)
+given_value event s l = slice_get-get_or event s false l
+
+pub input_known : (o : Option Bool) (b : Bool) → o ≡ Some b → status_of_input o ≡ known b
+input_known None b e = cc
+input_known (Some c) b e = ap known (let f : c ≡ b = cc in f)
+
+pub other_given : (o : Option Bool) → o ≡ Some true → status_of_other o ≡ known true
+other_given None e = cc
+other_given (Some true) e = refl
+other_given (Some false) e = cc
+
+pub given_from : (event : List Bool) (o : ℕ) → slice_get event o ≡ Some true → is_given event o ≡ true
+given_from event o e = get_or_from_slice_get event o true false e
+
+pub get_from : (event : List Bool) (o : ℕ) → is_given event o ≡ true → slice_get event o ≡ Some true
+get_from event o e =
+    ⊎_elim
+    (λ l. given_value event o l ∙ ap Some e)
+    (λ l. absurd (false≢true (sym (get_or_past event o false l) ∙ e)))
+    (cases_lt o (length event))

@@ -24,7 +24,7 @@ use Rattle.grc_graph.specs.Wires.{Wire, Out, Go, End, listed, instance_codes}
 use Rattle.grc_graph.specs.Spots.{Spot, body_entry}
 use Rattle.grc_graph.specs.Equations.{Equation, end_formula, instance_status, instance_equations, output_equation}
 use Rattle.grc_graph.specs.Residuals.{holds, left_if, residual, resumption}
-use Rattle.grc_graph.specs.Walk.{State, Initial, Selecting, Values, remaining, is_initial, resumed_walk, body_walk}
+use Rattle.grc_graph.specs.Walk.{State, Initial, Selecting, Values, remaining, resumed_walk, body_walk}
 use Rattle.grc_graph.specs.Walk as walks
 use Rattle.grc_graph.specs.Selected.{HasExitCodes, IsState}
 use Rattle.grc_graph.specs.Readings.{Valuation, seen_value}
@@ -48,9 +48,9 @@ use Rattle.grc_solutions.proofs.SameWires.{given_at, given_contained, equation_o
 use Rattle.grc_solutions.proofs.SameWires as given
 use Rattle.grc_solutions.proofs.WireNames.{wires_differ_lem}
 use Rattle.grc_solutions.proofs.ProgramGraphs.{range_has, reads_are_edges_lem}
-use Rattle.grc_sem.proofs.Ranks.{InScope}
-use Rattle.grc_sem.proofs.Scoped.{fit_scope}
-use Rattle.grc_sem.proofs.Runs.{program_kernel}
+use Rattle.grc_tri.proofs.Scoped.{InScope}
+use Rattle.grc_tri.proofs.Scoped.{fit_scope}
+use Rattle.grc_sem.proofs.Premises.{program_kernel}
 use Rattle.grc_sem.proofs.Instants.{code_shown, next_residual}
 use Rattle.grc_sem.proofs.WalkSolves.{range_bounds}
 use Rattle.grc_sem.proofs.Residues.{resumed_live}
@@ -63,7 +63,7 @@ use Rattle.est_tri.proofs.Solving.{settle_known, settle_solved}
 use Rattle.est_tri.proofs.Monotone.{below_equal}
 use Rattle.est_tri.proofs.Steps.{step_known, known_step, step_walk_signals}
 use Rattle.grc_graph.proofs.Holding.{holds-false}
-use Rattle.grc_tri.specs.LeastSolutions.{IsKnown, IsLeast, Statuses, is_plus, true_wires}
+use Rattle.grc_tri.specs.LeastSolutions.{IsKnown, IsLeast, Statuses, TriSolves, is_plus, true_wires}
 use Rattle.grc_tri.specs.Laws.{LeastIsThere, KnownReacts, ReactsKnown}
 use Rattle.grc_tri.proofs.Stages.{Stage, least_kept, least_is_kept, next, next_at, next_off, start, start_on, start_off}
 use Rattle.grc_tri.proofs.KnownWires.{known_form, form_known, true_known, plus_known, known_solves}
@@ -91,6 +91,14 @@ pub least_is_there_lem : LeastIsThere
 least_is_there_lem p q event kernel =
     let l = least_kept (graph_of p) q event (graph_differs p kernel) (λ T. Unit {0}) (record { first = tt; later = λ T o t. tt }) in
     (l.at, l.least)
+
+-- of a solution without unknown wires, those that are true solve the graph
+pub true_solves : (p : Program) (q : State) (event : List Bool) (T : Statuses) → HasExitCodes p.body → TriSolves (graph_of p) q event T → IsKnown T →
+    Solves (graph_of p) q event (true_wires T)
+true_solves p q event T kernel =
+    known_solves (graph_of p) q event (λ e u. Contains (program_wires p) u → Contains (program_edges p) (edge u e.wire))
+    (λ e c. All-contains (λ y. ReadsOnly (λ u. Contains (program_wires p) u → Contains (program_edges p) (edge u y.wire)) y.formula)
+    (graph_of p).equations e (reads_are_edges_lem p kernel) c) T
 
 -- ---- nothing is known at first
 
@@ -416,10 +424,7 @@ module _ (p : Program) (q : State) (event : List Bool) (formed : IsWellFormed p)
       each w = form_known (T w) (known_all w).0 (known_all w).1
 
       pub solves : Solves (graph_of p) q event V
-      solves =
-          known_solves (graph_of p) q event (λ e u. Contains (program_wires p) u → Contains (program_edges p) (edge u e.wire))
-          (λ e c. All-contains (λ y. ReadsOnly (λ u. Contains (program_wires p) u → Contains (program_edges p) (edge u y.wire)) y.formula)
-          (graph_of p).equations e (reads_are_edges_lem p kernel) c) T least.solves known_all
+      solves = true_solves p q event T kernel least.solves known_all
 
       asks_known : Known r Plus G
       asks_known =
@@ -470,20 +475,35 @@ module _ (p : Program) (q : State) (event : List Bool) (formed : IsWellFormed p)
           (program_values p event V) shown_of G follows follows_resumed starts_at resumes_at below
           valued made.0 made.1
 
+      -- so the program reacts, with the answer of the walk, and to what the kept pauses leave
+      pub walk_reacts : react (interface_of p) r event
+          ≡ Some (record {
+            answer = record { outputs = (shown (graph_of p) V).outputs; code = (graph_walk p q event V).code };
+            residual = resumption (graph_walk p q event V).kept p.body;
+          })
+      walk_reacts =
+          ap (λ o. reaction_of (interface_of p) event (step_in r o)) all_settled
+          ∙ ap (λ o. reaction_of (interface_of p) event o) made.1
+          ∙ ap (λ l. Some (record { answer = record { outputs = l; code = made.0.code }; residual = made.0.residual }))
+          (map_range (λ s. is_given event s || made.0.emitted s) (λ s. V (Out s)) p.inputs outs shown_output)
+          ∙ ap (λ c. Some (record { answer = record { outputs = (shown (graph_of p) V).outputs; code = c }; residual = made.0.residual })) step_is_walk.0
+          ∙ ap (λ t. Some (record { answer = record { outputs = (shown (graph_of p) V).outputs; code = (graph_walk p q event V).code }; residual = t }))
+          step_is_walk.1
+
+      -- which the solution shows
       pub reaction : SelectsLeaves q p.body → react (interface_of p) r event
           ≡ Some (record {
             answer = record { outputs = (shown (graph_of p) V).outputs; code = shown_code V };
             residual = remaining (next_state (graph_of p) q event V) p.body;
           })
       reaction leaves =
-          ap (λ o. reaction_of (interface_of p) event (step_in r o)) all_settled
-          ∙ ap (λ o. reaction_of (interface_of p) event o) made.1
-          ∙ ap (λ l. Some (record { answer = record { outputs = l; code = made.0.code }; residual = made.0.residual }))
-          (map_range (λ s. is_given event s || made.0.emitted s) (λ s. V (Out s)) p.inputs outs shown_output)
-          ∙ ap (λ c. Some (record { answer = record { outputs = (shown (graph_of p) V).outputs; code = c }; residual = made.0.residual }))
-          (step_is_walk.0 ∙ sym (code_shown p kernel nl q event V state solves))
+          walk_reacts
+          ∙ ap (λ c. Some (record {
+            answer = record { outputs = (shown (graph_of p) V).outputs; code = c };
+            residual = resumption (graph_walk p q event V).kept p.body;
+          })) (sym (code_shown p kernel nl q event V state solves))
           ∙ ap (λ t. Some (record { answer = record { outputs = (shown (graph_of p) V).outputs; code = shown_code V }; residual = t }))
-          (step_is_walk.1 ∙ next_residual p kernel nl q event V state solves leaves)
+          (next_residual p kernel nl q event V state solves leaves)
 
 pub known_reacts_lem : KnownReacts
 known_reacts_lem p q event T formed kernels nl state leaves width least k = (

@@ -24,9 +24,8 @@ use Rattle.grc_graph.proofs.LiveLayers.{Agrees, only_agrees, first_agrees, secon
 use Rattle.grc_solutions.proofs.Each.{EachStarted, EachResumed}
 use Rattle.grc_solutions.proofs.Live.{Root}
 use Rattle.grc_solutions.proofs.Binders.{Above, above_more, above_bind}
-use Rattle.grc_sem.proofs.Residues.{no_loops-right, loop_body, resumed_live}
-use Rattle.grc_sem.proofs.Places.{no_loops-left}
-use Rattle.grc_sem.proofs.Ranks.{InScope}
+use Rattle.grc_sem.proofs.Residues.{no_loops-left, no_loops-right, loop_body, resumed_live}
+use Rattle.grc_tri.proofs.Scoped.{InScope}
 use Rattle.grc_sem.proofs.Bridge.{resumed_any}
 use Rattle.grc_sem.proofs.Emissions.{emission, whole_only, whole_first, whole_second}
 use Rattle.grc_sem.proofs.OwnStatus.{local_own, resumed_emissions}

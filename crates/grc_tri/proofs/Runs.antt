@@ -10,14 +10,14 @@ use Rattle.grc_graph.specs.GraphRuns.{graph_of, next_state, shown}
 use Rattle.grc_graph.specs.Walk.{State}
 use Rattle.grc_sem.specs.GraphWalks.{shown_answer}
 use Rattle.grc_sem.proofs.Instants.{codes_are_shown_lem, next_state_is_kept_lem}
-use Rattle.grc_sem.proofs.Runs.{program_kernel}
+use Rattle.grc_sem.proofs.Premises.{program_kernel}
 use Rattle.grc_tri.specs.LeastSolutions.{IsKnown, IsLeast, Statuses, true_wires}
 use Rattle.grc_tri.specs.RunLaws.{LeavesTerm, ProgramsRunByLeastSolutions, RunsByLeastSolutions, ShowsReaction}
 use Rattle.grc_tri.proofs.Reactions.{known_reacts_lem, least_is_there_lem, reacts_known_lem}
 
 module _ (p : Program) (formed : IsWellFormed p) (kernels : programs.IsKernel p.body) (no_loop : NoInstantLoop p.body) where
   -- a reaction, and the least solution of the same instant
-  same_instant : (r : Term) (q : State) (event : List Bool) (x : Reaction) (T : Statuses) → LeavesTerm p r q → length event ≡ given_count p
+  pub same_instant : (r : Term) (q : State) (event : List Bool) (x : Reaction) (T : Statuses) → LeavesTerm p r q → length event ≡ given_count p
       → react (interface_of p) r event ≡ Some x → IsLeast (graph_of p) q event T → IsKnown T
       → ShowsReaction p x T × LeavesTerm p x.residual (next_state (graph_of p) q event (true_wires T))
   same_instant r q event x T match width is least known =
@@ -43,7 +43,7 @@ module _ (p : Program) (formed : IsWellFormed p) (kernels : programs.IsKernel p.
             (ap (λ t. react (interface_of p) t event) (sym match.term) ∙ is),
       )
 
-  moves_to_program : (q : State) (r : Term) (event : List Bool) (T : Statuses) → LeavesTerm p r q → length event ≡ given_count p
+  pub moves_to_program : (q : State) (r : Term) (event : List Bool) (T : Statuses) → LeavesTerm p r q → length event ≡ given_count p
       → IsLeast (graph_of p) q event T → IsKnown T → (x : Reaction) × (react (interface_of p) r event ≡ Some x)
   moves_to_program q r event T match width least known =
       let found = known_reacts_lem p q event T formed kernels no_loop match.state match.leaves width least known in

@@ -21,9 +21,8 @@ use Rattle.grc_graph.proofs.LiveLayers.{Agrees, only_agrees, first_agrees, secon
 use Rattle.grc_solutions.proofs.Each.{EachStarted}
 use Rattle.grc_solutions.proofs.Live.{Root, root_left, root_given}
 use Rattle.grc_solutions.proofs.Binders.{Above, above_more, above_bind}
-use Rattle.grc_sem.proofs.Residues.{no_loops-right, loop_body}
-use Rattle.grc_sem.proofs.Places.{no_loops-left}
-use Rattle.grc_sem.proofs.Ranks.{InScope}
+use Rattle.grc_sem.proofs.Residues.{no_loops-left, no_loops-right, loop_body}
+use Rattle.grc_tri.proofs.Scoped.{InScope}
 use Rattle.grc_sem.proofs.Emissions.{Whole, whole_only, whole_first, whole_second}
 use Rattle.grc_sem.proofs.OwnStatus.{local_own, started_emissions}
 use Rattle.grc_sem.proofs.Meets.{head_started, own_fresh, own_shows}

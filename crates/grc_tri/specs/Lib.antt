@@ -1,4 +1,5 @@
 pub mod LeastSolutions
 pub mod Laws
+pub mod AcyclicLaws
 pub mod TriRuns
 pub mod RunLaws

@@ -1,6 +1,8 @@
 // The laws that tie the least three-valued solution of a graph to the reaction of its program. Each call does nothing:
 // its contract is the law.
 
+ghost use Rattle.grc_tri.specs.AcyclicLaws.{GraphRunsAreRuns, ProgramsRun};
+ghost use Rattle.grc_tri.specs.AcyclicLaws.{SolutionsAreReactions, SolutionsReact};
 ghost use Rattle.grc_tri.specs.Laws.{AcyclicKnown, KnownReacts, LeastIsThere, ReactsKnown};
 ghost use Rattle.grc_tri.specs.RunLaws.{ProgramsRunByLeastSolutions};
 
@@ -31,4 +33,28 @@ pub fn acyclic_solutions_are_known()
 /// first instant in which some wire is unknown, and that is the first one in which the program does not react.
 pub fn programs_run_by_least_solutions()
     ensures { ProgramsRunByLeastSolutions }
+{}
+
+/// Where the edges of a graph go up in rank, a solution in a state is a constructive reaction of what
+/// the state leaves of the program.
+pub fn solutions_react()
+    ensures { SolutionsReact }
+{}
+
+/// Where the edges of a graph go up in rank, a reaction of the program is read off a solution alone: its outputs,
+/// its code, and what it leaves of the program.
+pub fn solutions_are_reactions()
+    ensures { SolutionsAreReactions }
+{}
+
+/// Where the edges of a graph go up in rank, a run of the graph from the first instant is the run of
+/// the program, and every reaction in it is constructive.
+pub fn graph_runs_are_runs()
+    ensures { GraphRunsAreRuns }
+{}
+
+/// Where the edges of a graph go up in some rank, the program has a run over all items of the right width, and the
+/// graph has one that shows it.
+pub fn programs_run()
+    ensures { ProgramsRun }
 {}

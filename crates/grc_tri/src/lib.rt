@@ -8,6 +8,7 @@
 mod laws;
 
 pub use laws::{
-    acyclic_solutions_are_known, known_solutions_react, least_solution_is_there,
-    programs_run_by_least_solutions, reactions_are_known,
+    acyclic_solutions_are_known, graph_runs_are_runs, known_solutions_react,
+    least_solution_is_there, programs_run, programs_run_by_least_solutions, reactions_are_known,
+    solutions_are_reactions, solutions_react,
 };

@@ -21,7 +21,7 @@ use Rattle.grc_graph.specs.Walk.{State, Selecting, remaining}
 use Rattle.grc_graph.specs.Wires.{Wire}
 use Rattle.grc_sem.specs.GraphWalks.{SelectsLeaves, shown_code}
 use Rattle.grc_sem.proofs.Instants.{codes_are_shown_lem, next_state_is_kept_lem}
-use Rattle.grc_sem.proofs.Runs.{program_kernel}
+use Rattle.grc_sem.proofs.Premises.{program_kernel}
 use Rattle.grc_words.specs.Occasions.{state_of}
 use Rattle.grc_tri.specs.LeastSolutions.{IsKnown, IsLeast, Statuses, true_wires}
 use Rattle.grc_tri.specs.TriRuns.{is_unknown}

@@ -2,7 +2,7 @@ use Rattle.std.proofs.Common.{sym, subst}
 use Rattle.est_kernel.specs.Plain.{program_of, term_of}
 use Rattle.est_kernel.proofs.ResidualLaws.{trees_are_kernels_lem}
 use Rattle.grc_graph.specs.SelectionTrees.{body_leaves}
-use Rattle.grc_sem.proofs.Runs.{program_kernel}
+use Rattle.grc_sem.proofs.Premises.{program_kernel}
 use Rattle.grc_solutions.specs.GraphWires.{Differ}
 use Rattle.grc_solutions.proofs.WireNames.{wires_differ_lem}
 use Rattle.grc_words.specs.Occasions.{state_of}

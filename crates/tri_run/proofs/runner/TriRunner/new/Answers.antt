@@ -2,7 +2,7 @@ use Rattle.std.proofs.Common.{arith}
 use Rattle.est_kernel.specs.Plain.{program_of}
 use Rattle.est_kernel.proofs.ResidualLaws.{trees_are_kernels_lem}
 use Rattle.grc_graph.proofs.BuiltReads.{wires_few}
-use Rattle.grc_sem.proofs.Runs.{program_kernel}
+use Rattle.grc_sem.proofs.Premises.{program_kernel}
 use Rattle.grc_solutions.proofs.ProgramGraphs.{reads_are_edges_lem}
 use Rattle.grc_solutions.proofs.WireNames.{wires_differ_lem}
 use Rattle.tri_run.proofs.Premises.{equations-plain, given-few, wires-differ}

@@ -1,12 +1,43 @@
--- Signals that fit a program are in scope: what is tested has a value, and what is emitted a status wire.
-use Rattle.std.proofs.Common.{◌≡◌, ℕ, ◌<◌, ◌≤◌, Bool, true, ◌==◌, ltb, refl, ap, arith}
+-- Signals in scope: what is tested has a value, and what is emitted a status wire. Those that fit a program are.
+use Rattle.std.proofs.Common.{◌≡◌, ℕ, ◌<◌, ◌≤◌, Bool, true, false, ◌==◌, ltb, refl, ap, arith}
 use Rattle.std.proofs.lemmas.Bool.{cond_both, ltb-true}
 use Rattle.facts.proofs.Tests.{or-other}
 use Rattle.est_kernel.specs.Terms.{Expression, Tick, Sig, Not, And, Or, Term, Nothing, Pause, Emit, Exit, Present, Suspend, Seq, Loop, Par, Trap, Local, Awake}
 use Rattle.est_kernel.specs.WellFormed.{TestsVisible, SignalsFit, with_signal}
-use Rattle.grc_graph.specs.Scopes.{BoundAt, Scope, bind, program_scope}
-use Rattle.grc_sem.proofs.Ranks.{has_value, has_status, TestInScope, InScope}
-use Rattle.grc_sem.proofs.ReactWalks.{InPart, scope_part, enters, goes_out, unbound}
+use Rattle.grc_graph.specs.Scopes.{Binding, Entering, Outgoing, BoundAt, Unbound, Scope, bind, program_scope}
+use Rattle.grc_sem.proofs.Tops.{InPart, scope_part, enters, goes_out, unbound}
+
+-- what is tested has a value, and what is emitted a status wire
+abbrev pub has_value : Binding → Bool
+has_value Unbound = false
+has_value b = true
+
+abbrev pub has_status : Binding → Bool
+has_status Entering = false
+has_status Outgoing = true
+has_status (BoundAt b) = true
+has_status Unbound = false
+
+abbrev pub TestInScope : Scope → Expression → Type 0
+TestInScope B Tick = Unit {0}
+TestInScope B (Sig s) = has_value (B s) ≡ true
+TestInScope B (Not a) = TestInScope B a
+TestInScope B (And a b) = TestInScope B a × TestInScope B b
+TestInScope B (Or a b) = TestInScope B a × TestInScope B b
+
+abbrev pub InScope : Scope → Term → Type 0
+InScope B Nothing = Unit {0}
+InScope B Pause = Unit {0}
+InScope B (Emit s) = has_status (B s) ≡ true
+InScope B (Exit k) = Unit {0}
+InScope B (Present e p q) = TestInScope B e × InScope B p × InScope B q
+InScope B (Suspend e p) = TestInScope B e × InScope B p
+InScope B (Seq p q) = InScope B p × InScope B q
+InScope B (Loop at p) = InScope B p
+InScope B (Par p q) = InScope B p × InScope B q
+InScope B (Trap p) = InScope B p
+InScope B (Local s p) = (m : ℕ) → InScope (bind B s m) p
+InScope B (Awake e p) = Unit {0}
 
 record Sighted (inputs : ℕ) (B : Scope) (visible : ℕ → Bool) : Type 0 where
   pub value : (s : ℕ) → visible s ≡ true → has_value (B s) ≡ true
