@@ -9,7 +9,6 @@ use Rattle.est_base.specs.declared.bounds.TheConstants.Limits.{INSTANCES}
 use Rattle.est_base.specs.declared.indices.WireId.{WireId}
 use Rattle.est_kernel.specs.Plain.{Program, program_of, given_count, interface_of}
 use Rattle.est_kernel.specs.Sizes.{size_of}
-use Rattle.est_kernel.specs.StaticCodes.{NoInstantLoop}
 use Rattle.est_kernel.specs.WellFormed as programs
 use Rattle.est_kernel.proofs.ResidualLaws.{trees_are_kernels_lem}
 use Rattle.blif_text.specs.Written.{Means}

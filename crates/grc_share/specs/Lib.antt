@@ -1,0 +1,2 @@
+pub mod SharedInstances
+pub mod SharedWires

@@ -1,0 +1,7 @@
+//! Shared wires of a program's graph: started instances of a statement that cannot run in one instant are one.
+//!
+//! A statement of a kernel body is started at each root that can start it, and has an instance for each. Where one
+//! of two roots stands above the other and no loop body between them, they never start the statement in one
+//! instant, so that one instance can stand for both. The graph follows Potop-Butucaru, Edwards and Berry,
+//! "Compiling Esterel", where the surface of a statement is drawn once. This crate has definitions and lemmas alone.
+#![tactic(auto)]

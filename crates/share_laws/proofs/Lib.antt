@@ -1,0 +1,3 @@
+pub mod Exclusion
+pub mod PartsRunning
+pub mod Excluded
