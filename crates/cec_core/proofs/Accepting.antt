@@ -43,7 +43,7 @@ use Rattle.vlog_run.specs.Texts as module_texts
 use Rattle.vlog_run.specs.declared.language.TextFault as modules
 use Rattle.vlog_run.specs.declared.language.TextFault.TheVariants as m_faults
 use Rattle.vlog_text.specs.Trees.{Module}
-use Rattle.cec_core.specs.declared.jobs.TextForm.{TextForm}
+use Rattle.cec_compile.specs.declared.forms.TextForm.{TextForm}
 use Rattle.cec_core.specs.declared.text_faults.TextFault.{TextFault}
 use Rattle.trace_run.specs.declared.running.RunFault.TheVariants as runs
 use Rattle.est_base.specs.SinkChanges.{SinkChange}
@@ -53,19 +53,20 @@ use Rattle.cec_core.specs.declared.outcome.Outcome.TheVariants.{Done, Usage, Fil
 use Rattle.cec_core.specs.declared.outcome.Outcome.TheVariants.{NotConstructive}
 use Rattle.cec_core.specs.declared.outcome.Which.{Which}
 use Rattle.cec_core.specs.declared.outcome.Which.TheVariants.{First, Second}
-use Rattle.cec_core.specs.declared.refusal.Limit as bounds
-use Rattle.cec_core.specs.declared.refusal.Limit.TheVariants as limits
-use Rattle.cec_core.specs.declared.refusal.Refusal.TheVariants as refusals
+use Rattle.cec_compile.specs.declared.refusal.Limit as bounds
+use Rattle.cec_compile.specs.declared.refusal.Limit.TheVariants as limits
+use Rattle.cec_compile.specs.declared.refusal.Refusal.TheVariants as refusals
 use Rattle.cec_core.specs.Accepted.{RunsToEnd, ReactsToEnd, ExecutesToEnd, IsAccepted}
-use Rattle.cec_core.specs.Contents.{Content}
+use Rattle.text_io.specs.Contents.{Content}
 use Rattle.cec_core.specs.ExecTexts.{IsTextIn, IsRunnable, HasFault, RunsBy}
 use Rattle.cec_core.specs.Jobs.{Job, Request, Help, Make, Run, RunTri, Exec, Generate, Load}
 use Rattle.cec_core.specs.Laws.{AcceptedRequestsAreDone}
 use Rattle.cec_core.specs.Outcomes.{MakesOn, RunsOn, ExecutesOn, AgreesOnFile, AgreesOnTwo, IsWriting, Agrees, CountsFiles, IsTextOf, GainsOut}
 use Rattle.cec_core.specs.Runs.{RunsSource}
-use Rattle.cec_core.specs.Sources.{IsSource}
+use Rattle.cec_compile.specs.Sources.{IsSource}
 use Rattle.cec_core.specs.Subjects.{LongTrace}
 use Rattle.cec_core.specs.TriRuns.{IsGraphSource, ReactsOn, ReactsOver, StopsOver, StopsTrace}
+use Rattle.text_io.proofs.Reading.{never_rose}
 use Rattle.cec_core.proofs.Pieces.{answer_rose}
 use Rattle.cec_core.proofs.Unrefused.{unrefused, passes_limit, within_limits}
 
@@ -470,10 +471,6 @@ accepted_done (Generate start branches) held outcome before now failed_before fa
     writing_end outcome agrees (no_write_fault (Generate start branches) (Some held) outcome s gains still)
 accepted_done (Load start branches instants) held outcome before now failed_before failed_now s w agrees counts stays gains still =
     made_end None (source_text start branches) outcome w agrees (no_write_fault (Load start branches instants) (Some held) outcome s gains still)
-
--- a count that stays 0 did not rise
-never_rose : Rose 0 0 → ⊥
-never_rose rose = absurd (omega (arith, rose.more))
 
 -- over files and sinks that count no fault
 pub steady_end : (asks : Option Request) (request : Request) (held : List ℕ → List ℕ) (outcome : Outcome) (old new : Option (List ℕ))

@@ -20,8 +20,8 @@ use Rattle.trace_run.proofs.Leading.{led-nowhere, led-more, led-shown}
 use Rattle.cec_core.specs.declared.commands.load.Counts.{Counts}
 use Rattle.cec_core.specs.Loads.{drawn_items, emitted_count, paused_count, summary_text}
 use Rattle.cec_core.specs.Loading.{present_count, pause_of, pause_count, drawn_state, counted_text, CountsOf, CountsMachine, CountsMore, CountsNet}
-use Rattle.cec_core.specs.Meaning.{AreItems}
-use Rattle.cec_core.specs.NetMeaning.{net_seen}
+use Rattle.cec_compile.specs.Meaning.{AreItems}
+use Rattle.cec_compile.specs.NetMeaning.{net_seen}
 
 -- one instant more
 pub drawn-more : (n x : ℕ) → drawn_items (n + 1) x ≡ drawn_items n x ++ Event (event_from 8 (drawn_state n x)) ∷ []

@@ -1,18 +1,10 @@
-pub mod GraphFacts
-pub mod Keeping
 pub mod Pieces
+pub mod Listings
 pub mod OneFile
 pub mod TwoFiles
-pub mod NetTexts
 pub mod RunLines
 pub mod DrawnRuns
 pub mod AskedRequests
-pub mod WalkRuns
-pub mod WireWords
-pub mod Simplified
-pub mod Joined
-pub mod EncodedNets
-pub mod TextSizes
 pub mod Unrefused
 pub mod Accepting
 pub mod Stopping
@@ -20,3 +12,4 @@ pub mod MarkedWires
 pub mod ReactionFiles
 pub mod RunnerReactions
 pub mod TraceEnds
+pub mod TextSizes

@@ -1,67 +1,31 @@
 -- What the answers of the steps say of the whole call.
-use Rattle.std.proofs.Common.{◌≡◌, ℕ, ◌+◌, ◌<◌, ◌≤◌, ◌⊎◌, List, [], ◌++◌, length, Option, None, Some, Result, Ok, Err, Vec, inl, inr, refl, sym, ap, subst}
-use Rattle.std.proofs.Common.{arith}
-use Rattle.std.proofs.lemmas.List.{length-replicate}
-use Rattle.std.specs.Prelude.{⊤, codes, replicate, unwrap_or}
-use Rattle.std.specs.declared.alloc.Global.{Global}
+use Rattle.std.proofs.Common.{◌≡◌, ℕ, ◌≤◌, ◌⊎◌, List, [], ◌++◌, length, Option, None, Some, Err, refl, sym, ap, subst}
+use Rattle.std.specs.Prelude.{codes, unwrap_or}
 use Rattle.est_base.specs.declared.bounds.TheConstants.Limits.{SOURCE_BYTES}
 use Rattle.est_base.specs.declared.files.reading.FileFault.{FileFault}
 use Rattle.est_base.specs.declared.files.reading.FileFault.TheVariants as reading
-use Rattle.est_base.specs.declared.sinks.writing.SinkFault.{SinkFault}
 use Rattle.est_base.specs.Reading.{Reads, Counts, Keeps}
-use Rattle.est_base.specs.Writing.{Appends, Stops, Wrote}
+use Rattle.est_base.specs.Writing.{Appends, Stops}
 use Rattle.est_base.specs.SinkChanges.{SinkChange}
 use Rattle.cec_core.specs.declared.jobs.Task.{Task}
 use Rattle.cec_core.specs.declared.outcome.Outcome.{Outcome}
 use Rattle.cec_core.specs.declared.outcome.Outcome.TheVariants.{Done, Usage, FileFault as Unread, Static, Cyclic, Trace, BadText, Limit, WriteFault, NoMemory}
 use Rattle.cec_core.specs.declared.outcome.Outcome.TheVariants.{NotConstructive}
 use Rattle.cec_core.specs.declared.outcome.Which.TheVariants.{First}
-use Rattle.cec_core.specs.declared.refusal.Limit as bounds
-use Rattle.cec_core.specs.declared.refusal.Limit.TheVariants as limits
-use Rattle.cec_core.specs.declared.refusal.Refusal as refused
-use Rattle.cec_core.specs.declared.refusal.Refusal.TheVariants as refusals
+use Rattle.cec_compile.specs.declared.refusal.Limit as bounds
+use Rattle.cec_compile.specs.declared.refusal.Limit.TheVariants as limits
+use Rattle.cec_compile.specs.declared.refusal.Refusal as refused
+use Rattle.cec_compile.specs.declared.refusal.Refusal.TheVariants as refusals
 use Rattle.cec_core.specs.Answers.{IsAnswer}
-use Rattle.cec_core.specs.Contents.{Content, IsHeld, Holds}
+use Rattle.text_io.specs.Contents.{Content, IsHeld}
+use Rattle.text_io.proofs.Reading.{long_unread, some_bytes, held_by, held_told}
 use Rattle.cec_core.specs.Jobs.{Job, Request, Help, Make, Run, RunTri, Exec, Generate, Load}
 use Rattle.cec_core.specs.Lines.{Subject, line_of, IsSourceSubject, IsSubjectOf, GainsErr}
 use Rattle.cec_core.specs.Outcomes.{MakesOn, Agrees, IsFileOf, CountsFiles, LeavesText, LeavesAnswer, IsTextOf, GainsOut}
-use Rattle.cec_core.specs.Refusals.{IsRefused}
+use Rattle.cec_compile.specs.Refusals.{IsRefused}
 use Rattle.cec_core.specs.Statuses.{outcome_of}
 use Rattle.cec_core.specs.Subjects.{unread_outcome}
 use Rattle.cec_core.proofs.Pieces.{answer_as, unread_answer}
-
--- what was written of a line: the whole, or a prefix after a fault
-pub whole_or_front : (old new : Option (List ℕ)) (before now : ℕ) (line : List ℕ) (answer : Result (Unit {0}) SinkFault) → Wrote old new before now line answer
-    → Appends old new before now line ⊎ Stops old new before now line
-whole_or_front old new before now line (Ok done) h = inl h
-whole_or_front old new before now line (Err fault) h = inr h
-
--- ---- bytes under a name
-
--- the bytes that were read are those that the file holds
-pub held_read : (content : Content) (name : List ℕ) (limit : ℕ) (bytes : Vec ℕ Global) → Reads content name limit (Ok bytes)
-    → IsHeld content name bytes.items
-held_read None name limit bytes read = tt
-held_read (Some held) name limit bytes read = read.0
-
--- and they are within the limit
-pub short_read : (content : Content) (name : List ℕ) (limit : ℕ) (bytes : Vec ℕ Global) → Reads content name limit (Ok bytes)
-    → length bytes.items ≤ limit
-short_read None name limit bytes read = read
-short_read (Some held) name limit bytes read = subst (λ (b : List ℕ). length b ≤ limit) (sym read.0) read.1
-
-some_long : (limit : ℕ) → (bytes : List ℕ) × (limit < length bytes)
-some_long limit = (replicate (limit + 1) 0, omega (arith, length-replicate {A = ℕ} (limit + 1) 0))
-
--- where a file is too long, more than the limit stand there
-pub long_unread : (content : Content) (name : List ℕ) (limit : ℕ) → Reads content name limit (Err reading.TooLong)
-    → Holds content name (λ bytes. limit < length bytes)
-long_unread None name limit read = let long = some_long limit in (long.0, tt, long.1)
-long_unread (Some held) name limit read = (held name, refl, read)
-
-pub some_bytes : (content : Content) (name : List ℕ) → Holds content name (λ bytes. ⊤)
-some_bytes None name = ([], tt, tt)
-some_bytes (Some held) name = (held name, refl, tt)
 
 -- ---- a source that was read
 
@@ -125,16 +89,6 @@ counts_unread request name limit reading.NoMemory before now failed_before faile
 pub make_out_unread : (content : Content) (task : Task) (job : Job) (fault : FileFault) (s : SinkChange)
     → Appends s.before s.after s.faults_before s.faults_now [] → GainsOut (Some (Make task job)) content (unread_outcome First limits.Source fault) s
 make_out_unread content task job fault s a = unread_answer task (IsTextOf task job content) fault s a
-
--- the bytes that a file holds, where that is told
-held_by : Content → List ℕ → List ℕ
-held_by None name = []
-held_by (Some held) name = held name
-
-held_told : (content : Content) (name : List ℕ) → IsHeld content name (held_by content name)
-unfolding held_by
-held_told None name = tt
-held_told (Some held) name = refl
 
 -- the line speaks of the file's name alone
 same_line : (fault : FileFault) (x y : Subject) → x.name ≡ y.name →

@@ -19,22 +19,22 @@ use Rattle.cec_core.specs.declared.outcome.Outcome.TheVariants.{NotConstructive}
 use Rattle.cec_core.specs.declared.outcome.Which.TheVariants.{First, Second}
 use Rattle.cec_core.specs.declared.reactions.ReactionFault.{ReactionFault}
 use Rattle.cec_core.specs.declared.reactions.ReactionFault.TheVariants as stops
-use Rattle.cec_core.specs.declared.refusal.Limit.TheVariants as limits
-use Rattle.cec_core.specs.declared.refusal.Refusal as refused
-use Rattle.cec_core.specs.declared.refusal.Refusal.TheVariants as refusals
+use Rattle.cec_compile.specs.declared.refusal.Limit.TheVariants as limits
+use Rattle.cec_compile.specs.declared.refusal.Refusal as refused
+use Rattle.cec_compile.specs.declared.refusal.Refusal.TheVariants as refusals
 use Rattle.cec_core.specs.declared.unknown_wires.UnknownWires.{UnknownWires}
-use Rattle.cec_core.specs.Contents.{Content, Holds, IsHeld}
-use Rattle.cec_core.specs.Graphs.{HasNoGraph, IsBuilt, IsRefusedGraph, StandsForBuilt}
+use Rattle.text_io.specs.Contents.{Content, Holds, IsHeld}
+use Rattle.cec_compile.specs.Graphs.{HasNoGraph, IsBuilt, IsRefusedGraph, StandsForBuilt}
 use Rattle.cec_core.specs.Jobs.{Job, RunTri}
 use Rattle.cec_core.specs.Outcomes.{Agrees}
 use Rattle.cec_core.specs.ReactionEnds.{EndsReactions, IsReactionsOutcome, LeavesTrace}
-use Rattle.cec_core.specs.Refusals.{DoesNotCompile, IsRefused, KeepsGraphLimits}
+use Rattle.cec_compile.specs.Refusals.{DoesNotCompile, IsRefused, KeepsGraphLimits}
 use Rattle.cec_core.specs.Runs.{ShowsRun}
 use Rattle.cec_core.specs.Statuses.{outcome_of}
 use Rattle.cec_core.specs.Subjects.{unread_outcome, CountsTrace, LongTrace}
 use Rattle.cec_core.specs.TriRuns.{IsGraphSource, ReactsOn, ReactsOver, StopsOver, StopsTrace, LeavesReactions}
-use Rattle.cec_core.proofs.Joined.{own_built}
-use Rattle.cec_core.proofs.OneFile.{long_unread, some_bytes}
+use Rattle.cec_compile.proofs.Joined.{own_built}
+use Rattle.text_io.proofs.Reading.{long_unread, some_bytes}
 use Rattle.cec_core.proofs.TwoFiles.{leaves_as}
 
 -- ---- graphs that are not there

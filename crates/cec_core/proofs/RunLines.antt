@@ -14,8 +14,8 @@ use Rattle.trace_run.specs.Languages.{shown_answer, ShowsNet}
 use Rattle.est_base.specs.SinkChanges.{SinkChange}
 use Rattle.trace_run.specs.Running.{RunsTrace}
 use Rattle.trace_run.proofs.Events.{events-fit, runs-along}
-use Rattle.cec_core.specs.Meaning.{AreItems}
-use Rattle.cec_core.specs.NetMeaning.{net_seen, NetKeeps}
+use Rattle.cec_compile.specs.Meaning.{AreItems}
+use Rattle.cec_compile.specs.NetMeaning.{net_seen, NetKeeps}
 use Rattle.cec_core.specs.Runs.{line_answer, ShowsRun}
 
 -- the events of a trace are events of the program

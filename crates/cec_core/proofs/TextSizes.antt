@@ -24,16 +24,16 @@ use Rattle.blif_text.proofs.TextLengths as blif_lengths
 use Rattle.csub_text.specs.Written as c_texts
 use Rattle.vlog_text.specs.Written as verilog_texts
 use Rattle.csub_text.proofs.TextLengths as c_lengths
-use Rattle.cec_core.specs.declared.compiler.Compiled.{Compiled}
-use Rattle.cec_core.specs.Graphs.{StandsForBuilt}
-use Rattle.cec_core.specs.declared.jobs.TextForm.{TextForm}
-use Rattle.cec_core.specs.declared.jobs.TextForm.TheVariants as forms
-use Rattle.cec_core.specs.declared.made.Made.{Made}
-use Rattle.cec_core.specs.Compiling.{IsCompiled, StandsForNet}
-use Rattle.cec_core.specs.MadeNets.{IsMade}
+use Rattle.cec_compile.specs.declared.compiler.Compiled.{Compiled}
+use Rattle.cec_compile.specs.Graphs.{StandsForBuilt}
+use Rattle.cec_compile.specs.declared.forms.TextForm.{TextForm}
+use Rattle.cec_compile.specs.declared.forms.TextForm.TheVariants as forms
+use Rattle.cec_compile.specs.declared.made.Made.{Made}
+use Rattle.cec_compile.specs.Compiling.{IsCompiled, StandsForNet}
+use Rattle.cec_compile.specs.MadeNets.{IsMade}
 use Rattle.cec_core.specs.NetTexts.{IsWritten, TextsFit}
-use Rattle.cec_core.specs.Sources.{WritesLongText}
-use Rattle.cec_core.proofs.GraphFacts.{wire_count}
+use Rattle.cec_compile.specs.Sources.{WritesLongText}
+use Rattle.cec_compile.proofs.GraphFacts.{wire_count}
 use Rattle.cec_front.proofs.SourceNames.{HasRoom, source-room, given-room, outgoing-room}
 
 -- ---- what is counted of the netlist of a compiled program

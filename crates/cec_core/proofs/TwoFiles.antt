@@ -13,26 +13,26 @@ use Rattle.est_base.specs.Items.{Item}
 use Rattle.est_base.specs.SinkChanges.{SinkChange, IsUntouched}
 use Rattle.trace_run.specs.Languages.{RunsIn}
 use Rattle.trace_run.specs.Machines.{Answer}
-use Rattle.cec_core.specs.declared.jobs.TextForm.{TextForm}
+use Rattle.cec_compile.specs.declared.forms.TextForm.{TextForm}
 use Rattle.cec_core.specs.declared.text_faults.TextFault.{TextFault}
 use Rattle.cec_core.specs.declared.outcome.Outcome.{Outcome}
 use Rattle.cec_core.specs.declared.outcome.Outcome.TheVariants.{Done, Usage, FileFault as Unread, Static, Cyclic, Trace, BadText, Limit, WriteFault, NoMemory}
 use Rattle.cec_core.specs.declared.outcome.Outcome.TheVariants.{NotConstructive}
 use Rattle.cec_core.specs.declared.outcome.Which.{Which}
 use Rattle.cec_core.specs.declared.outcome.Which.TheVariants.{First, Second}
-use Rattle.cec_core.specs.declared.refusal.Limit as bounds
-use Rattle.cec_core.specs.declared.refusal.Limit.TheVariants as limits
-use Rattle.cec_core.specs.declared.refusal.Refusal as refused
-use Rattle.cec_core.specs.declared.refusal.Refusal.TheVariants as refusals
-use Rattle.cec_core.specs.Contents.{Content, IsHeld, Holds}
+use Rattle.cec_compile.specs.declared.refusal.Limit as bounds
+use Rattle.cec_compile.specs.declared.refusal.Limit.TheVariants as limits
+use Rattle.cec_compile.specs.declared.refusal.Refusal as refused
+use Rattle.cec_compile.specs.declared.refusal.Refusal.TheVariants as refusals
+use Rattle.text_io.specs.Contents.{Content, IsHeld, Holds}
 use Rattle.cec_core.specs.Jobs.{Job, Request, Run, Exec}
 use Rattle.cec_core.specs.Outcomes.{RunsOn, ExecutesIn, AgreesOnTwo, Agrees, IsFileOf, CountsFiles}
-use Rattle.cec_core.specs.Refusals.{IsRefused}
+use Rattle.cec_compile.specs.Refusals.{IsRefused}
 use Rattle.cec_core.specs.Runs.{RunsSource, LeavesRun}
-use Rattle.cec_core.specs.Sources.{IsSource}
+use Rattle.cec_compile.specs.Sources.{IsSource}
 use Rattle.cec_core.specs.Statuses.{outcome_of}
 use Rattle.cec_core.specs.Subjects.{unread_outcome, run_outcome, CountsTrace, LongTrace}
-use Rattle.cec_core.proofs.OneFile.{long_unread, some_bytes}
+use Rattle.text_io.proofs.Reading.{long_unread, some_bytes}
 
 -- ---- behind the first file
 

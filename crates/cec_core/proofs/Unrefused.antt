@@ -16,14 +16,14 @@ use Rattle.cec_front.specs.declared.refusal.Refusal.TheVariants as fronts
 use Rattle.cec_front.specs.Refusals as front_refusals
 use Rattle.cec_front.specs.Sources.{StandsFor}
 use Rattle.cec_core.specs.declared.outcome.Outcome.TheVariants.{Limit}
-use Rattle.cec_core.specs.declared.refusal.Limit as bounds
-use Rattle.cec_core.specs.declared.refusal.Limit.TheVariants as limits
-use Rattle.cec_core.specs.declared.refusal.Refusal.{Refusal}
-use Rattle.cec_core.specs.declared.refusal.Refusal.TheVariants as refusals
-use Rattle.cec_core.specs.Cycles.{LeadsBack, IsCycle, ShowsCycle, IsAcyclic}
+use Rattle.cec_compile.specs.declared.refusal.Limit as bounds
+use Rattle.cec_compile.specs.declared.refusal.Limit.TheVariants as limits
+use Rattle.cec_compile.specs.declared.refusal.Refusal.{Refusal}
+use Rattle.cec_compile.specs.declared.refusal.Refusal.TheVariants as refusals
+use Rattle.cec_compile.specs.Cycles.{LeadsBack, IsCycle, ShowsCycle, IsAcyclic}
 use Rattle.cec_core.specs.Outcomes.{MakesOn}
-use Rattle.cec_core.specs.Refusals.{KeepsGraphLimits, IsRefused}
-use Rattle.cec_core.specs.Sources.{IsSource}
+use Rattle.cec_compile.specs.Refusals.{KeepsGraphLimits, IsRefused}
+use Rattle.cec_compile.specs.Sources.{IsSource}
 use Rattle.cec_core.specs.TriRuns.{IsGraphSource}
 
 -- ---- cycles

@@ -12,10 +12,10 @@ use Rattle.csub_run.specs.ProgramAnswers.{bare_inputs}
 use Rattle.cec_words.specs.declared.asked.Via.{Via}
 use Rattle.cec_words.specs.declared.asked.Via.TheVariants.{Blif, C, Verilog}
 use Rattle.vlog_run.specs.ModuleAnswers as modules
-use Rattle.cec_core.specs.declared.jobs.TextForm.{TextForm}
+use Rattle.cec_compile.specs.declared.forms.TextForm.{TextForm}
 use Rattle.cec_core.specs.ExecTexts.{IsRunnable}
 use Rattle.cec_core.specs.Jobs.{Request, Help, Make, Run, RunTri, Exec, Generate, Load}
-use Rattle.cec_core.specs.Sources.{IsSource, WritesLongText}
+use Rattle.cec_compile.specs.Sources.{IsSource, WritesLongText}
 use Rattle.cec_core.specs.TriRuns.{IsGraphSource}
 
 -- The trace keeps its limit, and no instant of it is refused, by the names of the inputs and by these relations.

@@ -8,10 +8,8 @@ use Rattle.grc_graph.specs.Instances.{body_instances}
 use Rattle.grc_graph.specs.SelectionTrees.{body_leaves}
 use Rattle.grc_list.specs.Listings.{program_listing}
 use Rattle.cec_front.specs.Sources.{StandsFor}
-use Rattle.cec_core.specs.Compiling.{StandsForText, StandsForC, StandsForVerilog, IsBlifOf, IsCOf, IsVerilogOf}
-use Rattle.cec_core.specs.EncodedTexts.{StandsForEncoded, IsEncodedBlifOf}
-use Rattle.cec_core.specs.Refusals.{Compiles}
-use Rattle.cec_core.specs.declared.jobs.TextForm.TheVariants as forms
+use Rattle.cec_compile.specs.SourceTexts.{IsSourceText}
+use Rattle.cec_compile.specs.Refusals.{Compiles}
 use Rattle.cec_core.specs.declared.jobs.Task.{Task}
 use Rattle.cec_core.specs.declared.jobs.Task.TheVariants.{Text, Grc, Check}
 
@@ -36,13 +34,8 @@ pub record StandsForCounts (bytes : List ℕ) (main : Option (List ℕ)) (text :
   pub compiles : Compiles program
   pub counts : text ≡ counts_line program
 
--- What a task writes of the source in these bytes, by the main module's name where there is one. A text is that of a
--- compiled program's netlist too.
+-- What a task writes of the source in these bytes, by the main module's name where there is one.
 abbrev pub IsAnswer : Task → Option (List ℕ) → List ℕ → List ℕ → Type 0
-IsAnswer (Text forms.Blif) main source text = StandsForText source main text × IsBlifOf source main text
-IsAnswer (Text forms.EncodedBlif) main source text =
-    StandsForEncoded source main text × IsEncodedBlifOf source main text
-IsAnswer (Text forms.C) main source text = StandsForC source main text × IsCOf source main text
-IsAnswer (Text forms.Verilog) main source text = StandsForVerilog source main text × IsVerilogOf source main text
+IsAnswer (Text form) main source text = IsSourceText form main source text
 IsAnswer Grc main source text = StandsForListing source main text
 IsAnswer Check main source text = StandsForCounts source main text

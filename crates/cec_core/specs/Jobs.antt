@@ -8,8 +8,8 @@ use Rattle.cec_words.specs.declared.asked.Value.{Value}
 use Rattle.cec_words.specs.declared.asked.Via.{Via}
 use Rattle.cec_words.specs.declared.asked.Via.TheVariants as vias
 use Rattle.cec_words.specs.Readings.{asked_by}
-use Rattle.cec_core.specs.declared.jobs.TextForm.{TextForm}
-use Rattle.cec_core.specs.declared.jobs.TextForm.TheVariants as forms
+use Rattle.cec_compile.specs.declared.forms.TextForm.{TextForm}
+use Rattle.cec_compile.specs.declared.forms.TextForm.TheVariants as forms
 use Rattle.cec_core.specs.declared.jobs.Task.{Task}
 use Rattle.cec_core.specs.declared.jobs.Task.TheVariants.{Text, Grc, Check}
 

@@ -4,14 +4,14 @@ use Rattle.est_base.specs.Faults.{Rose}
 use Rattle.est_base.specs.SinkChanges.{SinkChange}
 use Rattle.cec_core.specs.declared.outcome.Outcome.{Outcome}
 use Rattle.cec_core.specs.declared.outcome.Outcome.TheVariants as outcomes
-use Rattle.cec_core.specs.declared.refusal.Refusal.{Refusal}
-use Rattle.cec_core.specs.declared.refusal.Refusal.TheVariants.{NoMemory}
+use Rattle.cec_compile.specs.declared.refusal.Refusal.{Refusal}
+use Rattle.cec_compile.specs.declared.refusal.Refusal.TheVariants.{NoMemory}
 use Rattle.cec_core.specs.declared.unknown_wires.UnknownWires.{UnknownWires}
 use Rattle.cec_core.specs.Accepted.{ComesToStop, IsAccepted}
 use Rattle.cec_core.specs.Jobs.{Job, Request, RunTri}
 use Rattle.cec_core.specs.Outcomes.{Agrees, CountsFiles, GainsOut}
-use Rattle.cec_core.specs.Refusals.{IsRefused}
-use Rattle.cec_core.specs.Sources.{IsSource}
+use Rattle.cec_compile.specs.Refusals.{IsRefused}
+use Rattle.cec_compile.specs.Sources.{IsSource}
 use Rattle.cec_core.specs.TriRuns.{event_count}
 
 -- A source that compiles has no cause of a refusal; want of memory needs none.

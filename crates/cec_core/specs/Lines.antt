@@ -1,7 +1,6 @@
 -- To believe: the line that is written about an outcome.
-use Rattle.std.specs.Prelude.{◌≡◌, ℕ, ◌⊎◌, ⊤, List, [], ◌∷◌, ◌++◌, flat_map, Option, Some, codes, decimal, map}
+use Rattle.std.specs.Prelude.{◌≡◌, ℕ, ⊤, List, [], ◌++◌, Option, Some, codes, decimal, map}
 use Rattle.std.specs.Prelude.{unwrap_or}
-use Rattle.est_base.specs.Writing.{Appends, Stops}
 use Rattle.est_gen.specs.Sources.{source_text}
 use Rattle.grc_graph.specs.PlainWireNames.{wire_name_of}
 use Rattle.grc_graph.specs.WireNames.{WireName}
@@ -21,12 +20,13 @@ use Rattle.cec_core.specs.declared.outcome.Outcome.TheVariants.{Done, Usage, Fil
 use Rattle.cec_core.specs.declared.outcome.Outcome.TheVariants.{Limit, WriteFault, NoMemory, NotConstructive}
 use Rattle.cec_core.specs.declared.outcome.Which.{Which}
 use Rattle.cec_core.specs.declared.outcome.Which.TheVariants.{First, Second}
-use Rattle.cec_core.specs.declared.refusal.Limit as bounds
-use Rattle.cec_core.specs.declared.refusal.Limit.TheVariants as limits
-use Rattle.cec_core.specs.Contents.{Content, IsHeld}
-use Rattle.cec_core.specs.Cycles.{cycle_text}
+use Rattle.cec_compile.specs.declared.refusal.Limit as bounds
+use Rattle.cec_compile.specs.declared.refusal.Limit.TheVariants as limits
+use Rattle.text_io.specs.Contents.{Content, IsHeld}
+use Rattle.text_io.specs.ErrorLines.{GainsLine, joined_names}
+use Rattle.cec_compile.specs.Cycles.{cycle_text}
 use Rattle.cec_core.specs.Jobs.{Job, Request, Make, Run, RunTri, Exec, Load}
-use Rattle.cec_core.specs.WireTexts.{joined_texts}
+use Rattle.cec_compile.specs.WireTexts.{joined_texts}
 
 -- what a line may speak of: the names of the two files, the main module's name, and the source
 pub record Subject : Type 0 where
@@ -63,11 +63,6 @@ trace_text (traces.Repeated instant name) = in_instant instant (codes ": repeate
 trace_text (traces.BadReset instant) = in_instant instant (codes ": bad reset")
 trace_text (traces.OpenInstant instant) = in_instant instant (codes ": open")
 trace_text (traces.Breaks instant relation) = in_instant instant (codes ": breaks relation " ++ decimal relation)
-
--- names, joined by ` -> `
-abbrev pub joined_names : List (List ℕ) → List ℕ
-joined_names [] = []
-joined_names (name ∷ names) = name ++ flat_map (λ n. codes " -> " ++ n) names
 
 abbrev pub circuit_fault_text : circuits.TextFault → List ℕ
 circuit_fault_text (Line number) = codes "line " ++ (decimal number ++ codes ": not in the profile")
@@ -139,4 +134,4 @@ pub record GainsErr (asked : Option Request) (content : Content) (outcome : Outc
     (before now : ℕ) : Type 0 where
   pub subject : Subject
   pub is_subject : IsSubjectOf asked content subject
-  pub gains : Appends old new before now (line_of subject outcome) ⊎ Stops old new before now (line_of subject outcome)
+  pub gains : GainsLine old new before now (line_of subject outcome)

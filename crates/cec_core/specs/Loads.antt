@@ -8,8 +8,8 @@ use Rattle.est_gen.specs.Events.{event_from}
 use Rattle.est_kernel.specs.Plain.{Program}
 use Rattle.est_kernel.specs.Reactions.{Answer, run_of}
 use Rattle.cec_front.specs.Sources.{StandsFor}
-use Rattle.cec_core.specs.Meaning.{AreItems}
-use Rattle.cec_core.specs.Refusals.{Compiles}
+use Rattle.cec_compile.specs.Meaning.{AreItems}
+use Rattle.cec_compile.specs.Refusals.{Compiles}
 
 -- instants of eight inputs, drawn one after another from a state on
 abbrev pub drawn_items : ℕ → ℕ → List Item

@@ -7,8 +7,8 @@ use Rattle.net_ir.specs.Netlists.{Netlist}
 use Rattle.blif_run.specs.Texts as circuits
 use Rattle.csub_run.specs.Texts as programs
 use Rattle.vlog_run.specs.Texts as modules
-use Rattle.cec_core.specs.declared.jobs.TextForm.{TextForm}
-use Rattle.cec_core.specs.declared.jobs.TextForm.TheVariants.{Blif, EncodedBlif, C, Verilog}
+use Rattle.cec_compile.specs.declared.forms.TextForm.{TextForm}
+use Rattle.cec_compile.specs.declared.forms.TextForm.TheVariants.{Blif, EncodedBlif, C, Verilog}
 
 abbrev pub IsWritten : TextForm → List ℕ → Netlist → Type 0
 IsWritten Blif text net = circuits.IsWritten text net

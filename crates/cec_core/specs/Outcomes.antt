@@ -2,12 +2,15 @@
 use Rattle.std.specs.Prelude.{◌≡◌, ℕ, ◌<◌, ◌≤◌, ◌⊎◌, ⊤, List, [], length, map, Option, Some, None}
 use Rattle.est_base.specs.declared.bounds.TheConstants.Limits.{SOURCE_BYTES, TRACE_BYTES, TEXT_BYTES}
 use Rattle.est_base.specs.Faults.{Rose}
-use Rattle.est_base.specs.Writing.{Appends, Stops, GainsFront}
+use Rattle.est_base.specs.Writing.{Appends}
 use Rattle.est_gen.specs.Sources.{source_text}
 use Rattle.cec_words.specs.declared.asked.Via.{Via}
 use Rattle.grc_graph.specs.PlainWireNames.{wire_name_of}
 use Rattle.est_base.specs.SinkChanges.{SinkChange}
-use Rattle.cec_core.specs.declared.jobs.TextForm.{TextForm}
+use Rattle.text_io.specs.Writings as texts
+use Rattle.text_io.specs.declared.writing.Written.{Written}
+use Rattle.text_io.specs.declared.writing.Written.TheVariants as ends
+use Rattle.cec_compile.specs.declared.forms.TextForm.{TextForm}
 use Rattle.cec_core.specs.declared.jobs.Task.{Task}
 use Rattle.cec_core.specs.declared.jobs.Task.TheVariants.{Text, Grc, Check}
 use Rattle.cec_core.specs.declared.outcome.Outcome.{Outcome}
@@ -16,16 +19,16 @@ use Rattle.cec_core.specs.declared.outcome.Outcome.TheVariants.{Limit, WriteFaul
 use Rattle.cec_core.specs.declared.outcome.Which.{Which}
 use Rattle.cec_core.specs.declared.outcome.Which.TheVariants.{First, Second}
 use Rattle.cec_core.specs.declared.text_faults.TextFault.{TextFault}
-use Rattle.cec_core.specs.declared.refusal.Limit.TheVariants as limits
-use Rattle.cec_core.specs.declared.refusal.Refusal.TheVariants as refusals
+use Rattle.cec_compile.specs.declared.refusal.Limit.TheVariants as limits
+use Rattle.cec_compile.specs.declared.refusal.Refusal.TheVariants as refusals
 use Rattle.cec_core.specs.Answers.{IsAnswer}
-use Rattle.cec_core.specs.Contents.{Content, Holds}
+use Rattle.text_io.specs.Contents.{Content, Holds}
 use Rattle.cec_core.specs.ExecTexts.{IsRunnable, HasFault, RunsBy}
 use Rattle.cec_core.specs.HelpTexts.{help_text}
 use Rattle.cec_core.specs.Jobs.{Job, Request, Help, Make, Run, RunTri, Exec, Generate, Load}
 use Rattle.cec_core.specs.Loads.{IsSummary, state_behind}
 use Rattle.cec_core.specs.Runs.{RunsSource, LeavesRun}
-use Rattle.cec_core.specs.Sources.{IsSource, IsRefusedSource, WritesLongText}
+use Rattle.cec_compile.specs.Sources.{IsSource, IsRefusedSource, WritesLongText}
 use Rattle.cec_core.specs.TriRuns.{ReactsOn, ReactsOver, StopsOver, LeavesReactions}
 
 -- ---- causes
@@ -121,18 +124,20 @@ CountsFiles (Some request) others before now failed_before failed_now = (now ≡
 
 -- ---- what `out` gained
 
+-- how the writing of a text ended; after every other outcome none was to be written
+abbrev pub written_of : Outcome → Option Written
+written_of Done = Some ends.Done
+written_of WriteFault = Some ends.WriteFault
+written_of NoMemory = Some ends.NoMemory
+written_of others = None
+
 -- the whole text, with no fault; a prefix of it, after a fault; after every other outcome nothing
 abbrev pub LeavesText : (List ℕ → Type 0) → SinkChange → Outcome → Type 0
-LeavesText IsText s Done = (text : List ℕ) × IsText text × Appends s.before s.after s.faults_before s.faults_now text
-LeavesText IsText s WriteFault = (text : List ℕ) × IsText text
-    × Stops s.before s.after s.faults_before s.faults_now text
-LeavesText IsText s others = Appends s.before s.after s.faults_before s.faults_now []
+LeavesText IsText s outcome = texts.LeavesText IsText s (written_of outcome)
 
 -- A text that is written piece by piece: where memory is wanting between two pieces, a prefix of it is there.
 abbrev pub LeavesPieces : (List ℕ → Type 0) → SinkChange → Outcome → Type 0
-LeavesPieces IsText s NoMemory = Appends s.before s.after s.faults_before s.faults_now []
-    ⊎ ((text : List ℕ) × IsText text × (s.faults_now ≡ s.faults_before) × GainsFront s.before s.after text)
-LeavesPieces IsText s others = LeavesText IsText s others
+LeavesPieces IsText s outcome = texts.LeavesPieces IsText s (written_of outcome)
 
 -- netlists are written piece by piece, what is told of a graph as a whole
 abbrev pub LeavesAnswer : Task → (List ℕ → Type 0) → SinkChange → Outcome → Type 0

@@ -15,7 +15,7 @@ use Rattle.trace_run.specs.Running.{RunsTrace}
 use Rattle.cec_front.specs.Sources.{StandsFor}
 use Rattle.cec_core.specs.declared.outcome.Outcome.{Outcome}
 use Rattle.cec_core.specs.declared.outcome.Outcome.TheVariants.{Done, Trace, WriteFault, NoMemory}
-use Rattle.cec_core.specs.Refusals.{Compiles}
+use Rattle.cec_compile.specs.Refusals.{Compiles}
 
 -- what a line shows of an answer of the semantics: code 1 is a pause
 abbrev pub line_answer : Answer → machines.Answer

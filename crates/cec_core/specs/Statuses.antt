@@ -1,10 +1,12 @@
--- To believe: the status that the program ends with, and the outcome that a refusal is.
+-- To believe: the status that the program ends with, and the outcome that a refusal or the end of a writing is.
 use Rattle.std.specs.Prelude.{ℕ}
+use Rattle.text_io.specs.declared.writing.Written.{Written}
+use Rattle.text_io.specs.declared.writing.Written.TheVariants as ends
 use Rattle.cec_core.specs.declared.outcome.Outcome.{Outcome}
 use Rattle.cec_core.specs.declared.outcome.Outcome.TheVariants.{Done, Usage, FileFault, Static, Cyclic, Trace, BadText}
 use Rattle.cec_core.specs.declared.outcome.Outcome.TheVariants.{Limit, WriteFault, NoMemory, NotConstructive}
-use Rattle.cec_core.specs.declared.refusal.Refusal.{Refusal}
-use Rattle.cec_core.specs.declared.refusal.Refusal.TheVariants as refusals
+use Rattle.cec_compile.specs.declared.refusal.Refusal.{Refusal}
+use Rattle.cec_compile.specs.declared.refusal.Refusal.TheVariants as refusals
 
 abbrev pub status_of : Outcome → ℕ
 status_of Done = 0
@@ -24,3 +26,8 @@ outcome_of (refusals.Static fault) = Static fault
 outcome_of (refusals.Cyclic cycle) = Cyclic cycle
 outcome_of (refusals.Limit quantity) = Limit quantity
 outcome_of refusals.NoMemory = NoMemory
+
+abbrev pub written_outcome : Written → Outcome
+written_outcome ends.Done = Done
+written_outcome ends.WriteFault = WriteFault
+written_outcome ends.NoMemory = NoMemory

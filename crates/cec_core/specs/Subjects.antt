@@ -12,9 +12,9 @@ use Rattle.cec_core.specs.declared.outcome.Outcome.TheVariants.{Done, FileFault 
 use Rattle.cec_core.specs.declared.outcome.Outcome.TheVariants.{WriteFault, NoMemory}
 use Rattle.cec_core.specs.declared.outcome.Which.{Which}
 use Rattle.cec_core.specs.declared.outcome.Which.TheVariants.{First, Second}
-use Rattle.cec_core.specs.declared.refusal.Limit as bounds
-use Rattle.cec_core.specs.declared.refusal.Limit.TheVariants as limits
-use Rattle.cec_core.specs.Contents.{Content, Holds}
+use Rattle.cec_compile.specs.declared.refusal.Limit as bounds
+use Rattle.cec_compile.specs.declared.refusal.Limit.TheVariants as limits
+use Rattle.text_io.specs.Contents.{Content, Holds}
 use Rattle.cec_core.specs.Lines.{Subject}
 use Rattle.cec_core.specs.Outcomes.{IsLongTrace}
 use Rattle.std.specs.Prelude.{Result, Ok, Err}

@@ -18,12 +18,12 @@ use Rattle.cec_core.specs.declared.outcome.Outcome.{Outcome}
 use Rattle.cec_core.specs.declared.outcome.Outcome.TheVariants.{Done, FileFault, Static, Trace, Limit, NotConstructive}
 use Rattle.cec_core.specs.declared.outcome.Outcome.TheVariants.{WriteFault, NoMemory}
 use Rattle.cec_core.specs.declared.outcome.Which.TheVariants.{Second}
-use Rattle.cec_core.specs.declared.refusal.Limit.TheVariants as limits
-use Rattle.cec_core.specs.declared.refusal.Refusal.TheVariants as refusals
+use Rattle.cec_compile.specs.declared.refusal.Limit.TheVariants as limits
+use Rattle.cec_compile.specs.declared.refusal.Refusal.TheVariants as refusals
 use Rattle.cec_core.specs.declared.unknown_wires.UnknownWires.{UnknownWires}
-use Rattle.cec_core.specs.Refusals.{KeepsGraphLimits}
+use Rattle.cec_compile.specs.Refusals.{KeepsGraphLimits}
 use Rattle.cec_core.specs.Runs.{ShowsRun, LeavesRun, line_answer}
-use Rattle.cec_core.specs.Sources.{IsRefusedSource}
+use Rattle.cec_compile.specs.Sources.{IsRefusedSource}
 
 -- The bytes stand for a program whose graph keeps the limits; its dependencies may go around.
 pub record IsGraphSource (main : Option (List ℕ)) (bytes : List ℕ) : Type 0 where

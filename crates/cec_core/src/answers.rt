@@ -1,19 +1,18 @@
 // What is told of a source's graph.
 
 ghost use Rattle.std.specs.Prelude.{◌≡◌, ◌≤◌, length, IfOk, IfErr, option_map};
-ghost use Rattle.std.specs.List.{flat_map};
 ghost use Rattle.est_kernel.specs.Plain.{program_of};
 ghost use Rattle.cec_core.specs.Answers.{StandsForListing, StandsForCounts, counts_line};
-ghost use Rattle.cec_core.specs.Compiling.{IsGraphed};
-ghost use Rattle.cec_core.specs.Refusals.{IsRefused};
+ghost use Rattle.cec_compile.specs.Compiling.{IsGraphed};
+ghost use Rattle.cec_compile.specs.Refusals.{IsRefused};
 
-use crate::compiler::{Graphed, source_graph};
-use crate::refusal::Refusal;
+use cec_compile::{Graphed, Refusal, source_graph};
 use est_base::{Limits, NoMemory};
 use est_kernel::size;
 use grc_list::list;
 use itoa::Buffer;
 use std::alloc::Global;
+use text_io::joined;
 
 /// The listing of a source's graph.
 pub(crate) fn listing(alloc: Global, source: &[u8], main: Option<&[u8]>) -> Result<Vec<u8>, Refusal>
@@ -64,16 +63,5 @@ fn counts_line(alloc: Global, found: &Graphed) -> Result<Vec<u8>, NoMemory>
             b" wires\n",
         ],
     )?;
-    Ok(text)
-}
-
-/// The pieces, one after another.
-pub(crate) fn joined(alloc: Global, pieces: &[&[u8]]) -> Result<Vec<u8>, NoMemory>
-    ensures { IfOk result (λ text. text.items ≡ flat_map (λ piece. piece.now) pieces.now) }
-{
-    let mut text = Vec::new(alloc);
-    for piece in pieces {
-        text.extend_from_slice(piece)?;
-    }
     Ok(text)
 }

@@ -1,8 +1,8 @@
 // The lines about faults of traces and texts.
 
-ghost use Rattle.std.specs.Prelude.{◌++◌, codes, decimal, flat_map, map};
+ghost use Rattle.std.specs.Prelude.{◌++◌, codes, decimal, map};
 ghost use Rattle.est_base.specs.Writing.{Wrote};
-ghost use Rattle.cec_core.specs.Lines.{circuit_fault_text, joined_names, program_fault_text, text_fault_text};
+ghost use Rattle.cec_core.specs.Lines.{circuit_fault_text, program_fault_text, text_fault_text};
 ghost use Rattle.cec_core.specs.Lines.{module_fault_text, trace_text, unknown_text};
 ghost use Rattle.grc_graph.specs.PlainWireNames.{wire_name_of};
 
@@ -10,8 +10,9 @@ use crate::text_faults::TextFault;
 use crate::unknown_wires::UnknownWires;
 use blif_run::TextFault as CircuitFault;
 use csub_run::TextFault as ProgramFault;
-use est_base::{Sink, SinkFault, Text, write_pieces};
+use est_base::{Sink, SinkFault, write_pieces};
 use itoa::Buffer;
+use text_io::put_loop;
 use trace_io::TraceFault;
 use vlog_run::TextFault as ModuleFault;
 
@@ -116,7 +117,7 @@ fn put_circuit_fault<E: Sink>(err: &mut E, fault: &CircuitFault) -> Result<(), S
         CircuitFault::NoDriver(name) => {
             write_pieces(err, &[b"cec: ", b"no driver: ", name.bytes(), b"\n"])
         }
-        CircuitFault::Loop(names) => put_loop(err, names),
+        CircuitFault::Loop(names) => put_loop(err, b"cec: ", names),
     }
 }
 
@@ -161,55 +162,6 @@ fn put_module_fault<E: Sink>(err: &mut E, fault: &ModuleFault) -> Result<(), Sin
         ModuleFault::NoDriver(name) => {
             write_pieces(err, &[b"cec: ", b"no driver: ", name.bytes(), b"\n"])
         }
-        ModuleFault::Loop(names) => put_loop(err, names),
+        ModuleFault::Loop(names) => put_loop(err, b"cec: ", names),
     }
-}
-
-// The line of a combinational cycle.
-fn put_loop<E: Sink>(err: &mut E, names: &[Text]) -> Result<(), SinkFault>
-    ensures { Wrote (E.told err.old) (E.told err.new) (E.faults err.old) (E.faults err.new)
-        (codes "cec: " ++ ((codes "loop: " ++ joined_names names.now) ++ codes "\n")) result }
-{
-    if let Err(fault) = write_pieces(err, &[b"cec: ", b"loop: "]) {
-        return Err(fault);
-    }
-    if let Err(fault) = put_joined(err, names) {
-        return Err(fault);
-    }
-    write_pieces(err, &[b"\n"])
-}
-
-// Names, joined by ` -> `.
-fn put_joined<E: Sink>(err: &mut E, names: &[Text]) -> Result<(), SinkFault>
-    ensures { Wrote (E.told err.old) (E.told err.new) (E.faults err.old) (E.faults err.new)
-        (joined_names names.now) result }
-{
-    let Some((first, others)) = names.split_first() else {
-        return Ok(());
-    };
-    if let Err(fault) = err.write(first.bytes()) {
-        return Err(fault);
-    }
-    put_others(err, others)
-}
-
-// More names, each behind ` -> `.
-fn put_others<E: Sink>(err: &mut E, names: &[Text]) -> Result<(), SinkFault>
-    ensures { Wrote (E.told err.old) (E.told err.new) (E.faults err.old) (E.faults err.new)
-        (flat_map (λ name. codes " -> " ++ name) names.now) result }
-{
-    for name in names {
-        if let Err(fault) = put_other(err, name) {
-            return Err(fault);
-        }
-    }
-    Ok(())
-}
-
-// A name behind ` -> `.
-fn put_other<E: Sink>(err: &mut E, name: &Text) -> Result<(), SinkFault>
-    ensures { Wrote (E.told err.old) (E.told err.new) (E.faults err.old) (E.faults err.new)
-        (codes " -> " ++ name.now) result }
-{
-    write_pieces(err, &[b" -> ", name.bytes()])
 }

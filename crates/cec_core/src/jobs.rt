@@ -5,20 +5,8 @@ ghost use Rattle.std.specs.String.{string_bytes};
 ghost use Rattle.cec_core.specs.Jobs.{form_by, source_job, request_asked, request_by, value_in, word_at};
 ghost use Rattle.cec_core.specs.JobViews.{CanBeGenerated, plain_job, plain_request};
 
+use cec_compile::TextForm;
 use cec_words::{Asked, Pick, Source, Value, Via, read_words};
-
-/// A form of the texts that are made of sources.
-#[derive(Clone, Copy, Debug, PartialEq, Eq)]
-pub(crate) enum TextForm {
-    /// BLIF, with a latch for each pause.
-    Blif,
-    /// BLIF whose latches hold the state in a code.
-    EncodedBlif,
-    /// The C subset.
-    C,
-    /// Structural Verilog.
-    Verilog,
-}
 
 /// What is made of a source.
 #[derive(Clone, Copy, Debug, PartialEq, Eq)]

@@ -7,7 +7,7 @@ ghost use Rattle.cec_core.specs.Subjects.{plain_subject};
 
 use crate::fault_lines::{put_text_fault, put_trace_fault, put_unknown};
 use crate::outcome::{Outcome, Which};
-use crate::refusal::Limit;
+use cec_compile::Limit;
 use cec_front::put_fault;
 use est_base::{Limits, Sink, SinkFault, write_pieces};
 

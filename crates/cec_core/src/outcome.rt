@@ -1,13 +1,13 @@
 // How a command ended.
 
 ghost use Rattle.std.specs.Prelude.{◌≡◌};
-ghost use Rattle.cec_core.specs.Statuses.{outcome_of, status_of};
+ghost use Rattle.cec_core.specs.Statuses.{outcome_of, status_of, written_outcome};
 
-use crate::cycles::Cycle;
-use crate::refusal::{Limit, Refusal};
 use crate::text_faults::TextFault;
 use crate::unknown_wires::UnknownWires;
+use cec_compile::{Cycle, Limit, Refusal};
 use cec_front::Fault;
+use text_io::Written;
 use trace_io::TraceFault;
 
 /// How a command ended, with the cause of each refusal.
@@ -56,6 +56,18 @@ impl From<Refusal> for Outcome {
             Refusal::Cyclic(cycle) => Outcome::Cyclic(cycle),
             Refusal::Limit(limit) => Outcome::Limit(limit),
             Refusal::NoMemory => Outcome::NoMemory,
+        }
+    }
+}
+
+impl From<Written> for Outcome {
+    ghost from_gives = { λ written outcome. outcome ≡ written_outcome written };
+
+    fn from(written: Written) -> Outcome {
+        match written {
+            Written::Done => Outcome::Done,
+            Written::WriteFault => Outcome::WriteFault,
+            Written::NoMemory => Outcome::NoMemory,
         }
     }
 }

@@ -6,9 +6,9 @@ ghost use Rattle.grc_graph.specs.PlainGraphs.{names_of};
 ghost use Rattle.grc_graph.specs.PlainWireNames.{wire_name_of};
 ghost use Rattle.grc_graph.specs.WireNames.{wire_name};
 ghost use Rattle.cec_core.specs.MarkedWires.{marked_from, marked_of};
-ghost use Rattle.cec_core.specs.WireTexts.{joined_texts};
+ghost use Rattle.cec_compile.specs.WireTexts.{joined_texts};
 
-use crate::wire_texts::joined_texts;
+use cec_compile::joined_texts;
 use est_base::{NoMemory, WireId};
 use grc_graph::{Graph, WireName};
 use grc_list::names_of;

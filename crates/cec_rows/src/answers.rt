@@ -1,7 +1,9 @@
 // What is written of each block.
 
 use crate::blocks::{Block, Change, block_of, change_of, changed};
-use crate::calls::{Ended, command_ended, is_done_steadily, is_text_of, sink};
+use crate::calls::{
+    Ended, command_ended, has_small_text, is_done_steadily, is_optimized_text, is_text_of, sink,
+};
 use est_base::{ListSink, NoMemory, Sink, SinkFault, write_pieces};
 use std::alloc::{AllocError, Global};
 
@@ -119,12 +121,26 @@ fn told_besides(
     if !is_done_steadily(alloc, block, before, out)? {
         return Ok(", not steadily");
     }
-    let words = block.words.trim();
-    let is_text = words == "blif m" || words == "c m" || words == "verilog m";
-    if is_text && !is_text_of(alloc, words, block.source, out) {
-        return Ok(", not by one call");
+    Ok(told_of_text(alloc, block.words.trim(), block.source, out))
+}
+
+// What is said of a text that is written: nothing where the call that gives it as a whole gives the same, and where a
+// source has a small text too.
+fn told_of_text(alloc: Global, words: &str, source: &[u8], out: &[u8]) -> &'static str {
+    if words == "blif m" || words == "c m" || words == "verilog m" {
+        if !is_text_of(alloc, words, source, out) {
+            return ", not by one call";
+        }
+        if !has_small_text(alloc, words, source) {
+            return ", without a small text";
+        }
     }
-    Ok("")
+    if words == "cec-opt blif m" || words == "cec-opt c m" || words == "cec-opt verilog m" {
+        if !is_optimized_text(alloc, words, source, out) {
+            return ", not by one call";
+        }
+    }
+    ""
 }
 
 // Where `out` is to fail, whether what it has is a beginning of what it has otherwise.

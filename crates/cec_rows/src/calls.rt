@@ -4,14 +4,26 @@ ghost use Rattle.std.specs.Prelude.{◌≤◌, length};
 
 use crate::blocks::{Block, numbers_behind};
 use cec_core::{Refusal, blif_of, c_of, cec, cec_steadily, verilog_of};
-use est_base::{FileEntry, Limits, ListSink, MapFiles, NoMemory, SteadyFiles, SteadySink, Text};
+use cec_small::{small_blif_of, small_c_of, small_verilog_of};
+use est_base::{
+    FileEntry, Limits, ListSink, MapFiles, NoMemory, SteadyFiles, SteadySink, Stop, Text,
+};
 use grc_order::First;
+use opt_core::{cec_opt, cec_opt_steadily};
+use opt_texts::{OptFault, optimized_blif, optimized_c, optimized_verilog};
 use std::alloc::Global;
 
 // The room of the sinks for what a command writes, and for the line of its outcome.
 const OUT_ROOM: u64 = 2_097_152;
 
 const ERR_ROOM: u64 = 4_096;
+
+// A program that rows call.
+#[derive(Clone, Copy)]
+enum Program {
+    Cec,
+    CecOpt,
+}
 
 /// How a command ended: its status, and what the two sinks have.
 #[derive(Drop)]
@@ -28,26 +40,81 @@ pub(crate) fn command_ended(
     before: &[u8],
 ) -> Result<Ended, NoMemory> {
     let mut ended = not_begun(alloc, block.settings)?;
-    let words = words_of(alloc, block.words)?;
     let mut files = files_of(alloc, block, before)?;
-    let outcome = cec(alloc, &words, &mut files, &mut ended.out, &mut ended.err);
-    ended.status = outcome.number();
+    let (program, words) = asked_of(alloc, block.words)?;
+    let (out, err) = (&mut ended.out, &mut ended.err);
+    ended.status = match program {
+        Program::Cec => cec(alloc, &words, &mut files, out, err).number(),
+        Program::CecOpt => cec_opt(alloc, &words, &mut files, out, err).number(),
+    };
     Ok(ended)
 }
 
-/// Whether `cec_steadily` is done with a block's command and writes these bytes.
+// The program that a line of words calls, and the words behind its name, which stands before those of `cec-opt` alone.
+fn asked_of(alloc: Global, line: &str) -> Result<(Program, Vec<String>), NoMemory> {
+    match line.split_once("cec-opt") {
+        Some((_, behind)) => Ok((Program::CecOpt, words_of(alloc, behind)?)),
+        None => Ok((Program::Cec, words_of(alloc, line)?)),
+    }
+}
+
+/// Whether `cec_steadily`, or `cec_opt_steadily`, is done with a block's command and writes these bytes.
 pub(crate) fn is_done_steadily(
     alloc: Global,
     block: Block<'_>,
     before: &[u8],
     written: &[u8],
 ) -> Result<bool, NoMemory> {
-    let words = words_of(alloc, block.words)?;
+    let (program, words) = asked_of(alloc, block.words)?;
     let mut files = SteadyFiles::new(entries_of(alloc, block, before)?);
     let mut out = SteadySink::new(alloc, OUT_ROOM)?;
     let mut err = sink(alloc, ERR_ROOM, "", "none")?;
-    let outcome = cec_steadily(alloc, &words, &mut files, &mut out, &mut err);
-    Ok(outcome.number() == 0 && out.bytes() == written && err.bytes().is_empty())
+    let status = match program {
+        Program::Cec => cec_steadily(alloc, &words, &mut files, &mut out, &mut err).number(),
+        Program::CecOpt => {
+            cec_opt_steadily(alloc, &words, &mut files, &mut out, &mut err).number()
+        }
+    };
+    Ok(status == 0 && out.bytes() == written && err.bytes().is_empty())
+}
+
+/// Whether a BLIF text has this optimized one, in the form that the words ask for, by the call that gives it whole.
+pub(crate) fn is_optimized_text(alloc: Global, words: &str, text: &[u8], written: &[u8]) -> bool {
+    if text.len() as u64 > Limits::TEXT_BYTES {
+        return false;
+    }
+    match optimized_text(alloc, words, text) {
+        Ok(small) => small.as_slice() == written,
+        Err(_) => false,
+    }
+}
+
+// The optimized text of a BLIF text in the form that the words ask for.
+fn optimized_text(alloc: Global, words: &str, text: &[u8]) -> Result<Vec<u8>, Stop<OptFault>>
+    requires { length text.now ≤ Limits.TEXT_BYTES }
+{
+    if words.ends_with("blif m") {
+        optimized_blif(alloc, text)
+    } else if words.ends_with("verilog m") {
+        optimized_verilog(alloc, text)
+    } else {
+        optimized_c(alloc, text)
+    }
+}
+
+/// Whether a source has a small text in the form that the words ask for.
+pub(crate) fn has_small_text(alloc: Global, words: &str, source: &[u8]) -> bool {
+    if source.len() as u64 > Limits::SOURCE_BYTES {
+        return false;
+    }
+    let small = if words.starts_with("blif") {
+        small_blif_of(alloc, source, None, &mut First)
+    } else if words.starts_with("verilog") {
+        small_verilog_of(alloc, source, None, &mut First)
+    } else {
+        small_c_of(alloc, source, None, &mut First)
+    };
+    small.is_ok()
 }
 
 /// Whether a source has this text, in the form that the words ask for, by the call that gives the text as a whole.

@@ -24,7 +24,8 @@
 //! answer is the number and words, and for each place a line with the place, the status, and the line in `err`.
 //!
 //! The answer to a block is else its number and words, a line with the status and the numbers of bytes, and the bytes
-//! of `out` and `err`. Where `out` is to fail, the command runs once more without that, and the answer says whether
+//! of `out` and `err`. Words behind `cec-opt` are those of the optimizer, and all others those of the compiler. Where
+//! `out` is to fail, the command runs once more without that, and the answer says whether
 //! `out` is a beginning of what it has then. Where it is done, it runs once more by `cec_steadily`, and a text of `blif
 //! m`, `c m` or `verilog m` is made once more by `blif_of`, `c_of` or `verilog_of`: the answer says where those write
 //! anything else.

@@ -7,11 +7,11 @@ use Rattle.net_opt.specs.Optimized.{Optimizes}
 use Rattle.blif_text.specs.Written.{Means}
 use Rattle.csub_text.specs.Written as c_texts
 use Rattle.vlog_text.specs.Written as vlog_texts
-use Rattle.cec_core.specs.declared.compiler.Compiled.{Compiled}
-use Rattle.cec_core.specs.Compiling.{StandsForNet}
-use Rattle.cec_core.specs.NetMeaning.{NetKeeps}
-use Rattle.cec_core.proofs.Joined.{given-few, inputs_wide}
-use Rattle.cec_core.proofs.Keeping.{widths, text_keeps, c_text_keeps, verilog_text_keeps}
+use Rattle.cec_compile.specs.declared.compiler.Compiled.{Compiled}
+use Rattle.cec_compile.specs.Compiling.{StandsForNet}
+use Rattle.cec_compile.specs.NetMeaning.{NetKeeps}
+use Rattle.cec_compile.proofs.Joined.{given-few, inputs_wide}
+use Rattle.cec_compile.proofs.Keeping.{widths, text_keeps, c_text_keeps, verilog_text_keeps}
 use Rattle.cec_small.specs.SmallTexts.{StandsForSmallNet, StandsForSmallBlif, StandsForSmallC, StandsForSmallVerilog, IsSmallNetOf}
 
 optimized_keeps : (net new : Netlist) (p : Program) → given_count p ≡ length net.inputs → Optimizes net new → NetKeeps net p → NetKeeps new p

@@ -9,11 +9,11 @@ use Rattle.blif_text.specs.Written as blif_texts
 use Rattle.csub_text.specs.Written as c_texts
 use Rattle.vlog_text.specs.Written as vlog_texts
 use Rattle.cec_front.specs.Sources.{StandsFor}
-use Rattle.cec_core.specs.Compiling.{StandsForNet}
-use Rattle.cec_core.specs.Meaning.{TextKeeps, CTextKeeps, VerilogTextKeeps}
-use Rattle.cec_core.specs.NetMeaning.{NetKeeps}
-use Rattle.cec_core.specs.Refusals.{Compiles}
-use Rattle.cec_core.specs.declared.compiler.Compiled.{Compiled}
+use Rattle.cec_compile.specs.Compiling.{StandsForNet}
+use Rattle.cec_compile.specs.Meaning.{TextKeeps, CTextKeeps, VerilogTextKeeps}
+use Rattle.cec_compile.specs.NetMeaning.{NetKeeps}
+use Rattle.cec_compile.specs.Refusals.{Compiles}
+use Rattle.cec_compile.specs.declared.compiler.Compiled.{Compiled}
 
 -- The bytes stand for the program of the netlist, or of the text in BLIF, C or Verilog, which keeps what the program
 -- means.

@@ -1,7 +1,7 @@
 //! Small texts of sources: the compiler, and behind it the optimizer of netlists.
 //!
-//! A source is compiled by `cec_core`, its netlist is optimized by `net_opt`, and its BLIF text, its C text or its
-//! structural Verilog is written. The compiler-correctness theorem holds of the text, as of those of `cec_core`; the
+//! A source is compiled by `cec_compile`, its netlist is optimized by `net_opt`, and its BLIF text, its C text or its
+//! structural Verilog is written. The compiler-correctness theorem holds of the text, as of those of `cec_compile`; the
 //! wires of the graph have no names in it.
 #![tactic(auto)]
 

@@ -2,13 +2,13 @@
 
 ghost use Rattle.std.specs.Prelude.{◌≤◌, length, IfOk, IfErr, option_map};
 ghost use Rattle.net_ir.specs.Runs.{netlist_of};
-ghost use Rattle.cec_core.specs.Refusals.{IsRefused};
+ghost use Rattle.cec_compile.specs.Refusals.{IsRefused};
 ghost use Rattle.cec_small.specs.SmallTexts.{StandsForSmallNet, StandsForSmallBlif, StandsForSmallC};
 ghost use Rattle.cec_small.specs.SmallTexts.{StandsForSmallVerilog, IsSmallNetOf, IsSmallBlifOf, IsSmallCOf};
 ghost use Rattle.cec_small.specs.SmallTexts.{IsSmallVerilogOf};
 
 use blif_text::write_blif;
-use cec_core::{Refusal, compile};
+use cec_compile::{Refusal, compile};
 use csub_text::write_c;
 use est_base::Limits;
 use grc_order::Picker;
@@ -18,7 +18,7 @@ use std::alloc::Global;
 use vlog_text::write_verilog;
 
 /// The BLIF text of the small netlist of a source. The compiler-correctness theorem holds of the text (`TextKeeps`), as
-/// of that of `cec_core::blif_of`: it has a reading by the BLIF profile, and over every list of events that meet the
+/// of that of `cec_compile::blif_of`: it has a reading by the BLIF profile, and over every list of events that meet the
 /// source's relations each reaction of the source is constructive, the text has a run, any two runs agree, and the
 /// outputs and `_paused` are those of the reactions. It refuses what `blif_of` refuses.
 pub fn small_blif_of<P: Picker>(
@@ -78,7 +78,7 @@ pub fn small_verilog_of<P: Picker>(
 }
 
 /// The netlist of a source, optimized: it keeps what the source's program means (`NetKeeps`), and has no more gates and
-/// no more latches than the netlist of `cec_core::compile`. It refuses what `compile` refuses.
+/// no more latches than the netlist of `cec_compile::compile`. It refuses what `compile` refuses.
 pub fn small_net<P: Picker>(
     alloc: Global,
     text: &[u8],

@@ -2,8 +2,8 @@
 use Rattle.std.proofs.Common.{◌≡◌, ℕ, List, Option, sym, subst}
 use Rattle.est_kernel.specs.Plain.{program_of}
 use Rattle.est_kernel.specs.StaticCodes.{NoInstantLoop}
-use Rattle.cec_core.specs.Compiling.{IsCompiled, StandsForNet}
-use Rattle.cec_core.specs.declared.compiler.Compiled.{Compiled}
+use Rattle.cec_compile.specs.Compiling.{IsCompiled, StandsForNet}
+use Rattle.cec_compile.specs.declared.compiler.Compiled.{Compiled}
 use Rattle.cec_tests.specs.Reacting.{IsAnyCompiled}
 
 pub any_compiled : (text : List ℕ) (main : Option (List ℕ)) (c : Compiled) → StandsForNet text main c → IsAnyCompiled c

@@ -1,8 +1,8 @@
 -- Inner: what a graph's reactions ask of a compiled program.
 use Rattle.est_kernel.specs.Plain.{program_of}
 use Rattle.est_kernel.specs.StaticCodes.{NoInstantLoop}
-use Rattle.cec_core.specs.Compiling.{IsCompiled}
-use Rattle.cec_core.specs.declared.compiler.Compiled.{Compiled}
+use Rattle.cec_compile.specs.Compiling.{IsCompiled}
+use Rattle.cec_compile.specs.declared.compiler.Compiled.{Compiled}
 
 -- the program of the graph was compiled, and none of its loops is instantaneous
 pub record IsAnyCompiled (c : Compiled) : Type 0 where

@@ -4,7 +4,7 @@ ghost use Rattle.std.specs.Prelude.{◌≡◌, false, All, IsTrue};
 ghost use Rattle.cec_tests.specs.Reacting.{IsAnyCompiled};
 
 use crate::sources::{DERIVED, KERNEL, Worked};
-use cec_core::{Compiled, compile};
+use cec_compile::{Compiled, compile};
 use est_base::{Limits, NetId, NoMemory, WireId};
 use est_kernel::KernelProgram;
 use grc_list::name_of;

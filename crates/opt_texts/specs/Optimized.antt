@@ -1,4 +1,4 @@
--- Contract: the optimized netlist of a BLIF text.
+-- Contract: the netlist of a BLIF text, and its optimized one.
 use Rattle.std.specs.Prelude.{◌≡◌, ℕ, List, Ok}
 use Rattle.net_ir.specs.Netlists.{Netlist}
 use Rattle.net_opt.specs.Optimized.{Optimizes}
@@ -19,3 +19,9 @@ pub record IsSmallNetOf (text : List ℕ) (net : Netlist) : Type 0 where
   pub circuit : Circuit
   pub reads : reading text ≡ Ok circuit
   pub small : IsSmallOf circuit net
+
+-- The netlist of a text: that of the circuit that it describes.
+pub record IsTextNet (text : List ℕ) (net : Netlist) : Type 0 where
+  pub circuit : Circuit
+  pub reads : reading text ≡ Ok circuit
+  pub is : IsNetOf circuit net

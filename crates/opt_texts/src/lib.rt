@@ -10,4 +10,4 @@ mod fault;
 mod texts;
 
 pub use fault::OptFault;
-pub use texts::{optimized_blif, optimized_c, optimized_net, optimized_verilog};
+pub use texts::{optimized_blif, optimized_c, optimized_net, optimized_verilog, text_net};

@@ -11,7 +11,7 @@ ghost use Rattle.blif_net.specs.Conversions.{IsNetOf};
 ghost use Rattle.blif_net.specs.Interfaces.{IsCircuitFault};
 ghost use Rattle.opt_texts.specs.Faults.{IsOptFault, IsReadFault, IsNetFault};
 ghost use Rattle.opt_texts.specs.Alike.{BlifKeeps, CKeeps, VerilogKeeps};
-ghost use Rattle.opt_texts.specs.Optimized.{IsSmallNetOf, IsSmallOf};
+ghost use Rattle.opt_texts.specs.Optimized.{IsSmallNetOf, IsSmallOf, IsTextNet};
 
 use crate::fault::OptFault;
 use blif_net::{CircuitFault, net_of_circuit};
@@ -66,6 +66,16 @@ pub fn optimized_net(alloc: Global, text: &[u8]) -> Result<Net, Stop<OptFault>>
 {
     let blif = read_circuit(alloc, text)?;
     small_net(alloc, &blif)
+}
+
+/// The netlist of a BLIF text, as the text describes it: its circuit's netlist.
+pub fn text_net(alloc: Global, text: &[u8]) -> Result<Net, Stop<OptFault>>
+    requires { length text.now ≤ Limits.TEXT_BYTES }
+    ensures net { IfOk result (λ net. IsTextNet text.now (netlist_of net)) }
+    ensures fault { IfFault result (IsOptFault text.now) }
+{
+    let blif = read_circuit(alloc, text)?;
+    circuit_net(alloc, &blif)
 }
 
 fn read_circuit(alloc: Global, text: &[u8]) -> Result<Blif, Stop<OptFault>>

@@ -4,7 +4,7 @@ ghost use Rattle.std.specs.Prelude.{◌≡◌, ◌+◌, ◌<◌, ◌≤◌, ◌^
 ghost use Rattle.est_base.specs.SinkChanges.{change};
 ghost use Rattle.est_gen.specs.Sources.{source_text};
 ghost use Rattle.net_ir.specs.Runs.{netlist_of};
-ghost use Rattle.cec_core.specs.Contents.{Content};
+ghost use Rattle.text_io.specs.Contents.{Content};
 ghost use Rattle.cec_core.specs.Jobs.{Load};
 ghost use Rattle.cec_core.specs.JobViews.{AreBranches};
 ghost use Rattle.cec_core.specs.Lines.{GainsErr};
@@ -12,23 +12,24 @@ ghost use Rattle.cec_core.specs.Loads.{IsSummary, drawn_items, state_behind};
 ghost use Rattle.cec_core.specs.Loading.{CountsMachine, CountsMore, CountsNet, counted_text, pause_of};
 ghost use Rattle.cec_core.specs.NetTexts.{TextsFit};
 ghost use Rattle.cec_core.specs.Outcomes.{LeavesText, MakesOn};
-ghost use Rattle.cec_core.specs.Refusals.{IsRefused};
+ghost use Rattle.cec_compile.specs.Refusals.{IsRefused};
 
-use crate::answers::joined;
-use crate::compiler::{Compiled, compile_picked};
 use crate::lines::{Subject, report, subject_of_none};
 use crate::outcome::Outcome;
-use crate::refusal::{Limit, Refusal};
+use crate::picked::compile_picked;
+use crate::writing::write_whole;
 use blif_run::BlifTexts;
 use blif_text::write_blif;
+use cec_compile::{Compiled, Limit, Refusal};
 use cec_words::Pick;
 use csub_run::CTexts;
 use csub_text::write_c;
-use est_base::{Draw, Limits, NoMemory, Sink, write_text};
+use est_base::{Draw, Limits, NoMemory, Sink};
 use est_gen::{GenFault, generate_source, next_event};
 use itoa::Buffer;
 use net_ir::Net;
 use std::alloc::Global;
+use text_io::joined;
 use trace_io::Word;
 use trace_run::{Language, Runner};
 
@@ -96,10 +97,7 @@ fn write_summary<O: Sink>(
         result }
 {
     match summary(alloc, source, draw, instants) {
-        Ok(text) => match write_text(out, &text) {
-            Ok(()) => Outcome::Done,
-            Err(_) => Outcome::WriteFault,
-        },
+        Ok(text) => write_whole(&text, out),
         Err(refusal) => Outcome::from(refusal),
     }
 }

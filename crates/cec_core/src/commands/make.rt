@@ -1,30 +1,31 @@
 // The commands that make a text of a source.
 
-ghost use Rattle.std.specs.Prelude.{◌≡◌, ◌≤◌, length, Some, unwrap_or, []};
+ghost use Rattle.std.specs.Prelude.{◌≡◌, ◌≤◌, length, Some, option_map, unwrap_or, []};
 ghost use Rattle.est_base.specs.SinkChanges.{change};
+ghost use Rattle.text_io.specs.NetWriting.{IsWrittenIn};
 ghost use Rattle.cec_core.specs.Answers.{IsAnswer};
 ghost use Rattle.cec_core.specs.Jobs.{Make};
 ghost use Rattle.cec_core.specs.JobViews.{plain_job};
 ghost use Rattle.cec_core.specs.Lines.{GainsErr};
-ghost use Rattle.cec_core.specs.MadeNets.{IsWrittenOf};
+ghost use Rattle.cec_compile.specs.MadeNets.{IsWrittenOf};
 ghost use Rattle.cec_core.specs.Outcomes.{Agrees, CountsFiles, GainsOut, LeavesAnswer, LeavesPieces, MakesOn};
 ghost use Rattle.cec_core.specs.Subjects.{plain_subject, unread_outcome};
 ghost use Rattle.cec_core.specs.declared.jobs.Task.TheVariants.{Text};
 
 use crate::answers::{counts, listing};
-use crate::jobs::{Job, Task, TextForm};
+use crate::jobs::{Job, Task};
 use crate::lines::{Subject, report};
 use crate::outcome::{Outcome, Which};
-use crate::refusal::Limit;
-use crate::targets::{Target, text_into};
 use crate::writing::write_whole;
-use blif_run::BlifTexts;
+use blif_text::BlifWriter;
+use cec_compile::{Limit, TextForm, write_source_text};
 use cec_words::Pick;
-use csub_run::CTexts;
+use csub_text::CWriter;
 use est_base::{Draw, FileFault, Files, Limits, Sink};
-use grc_order::{Drawn, First, Last};
+use grc_order::{Drawn, First, Last, Picker};
+use net_text::NetText;
 use std::alloc::Global;
-use vlog_run::VerilogTexts;
+use vlog_text::VlogWriter;
 
 /// Does a task on the source in a file, and says how it ended.
 pub(crate) fn make_text<F: Files, O: Sink, E: Sink>(
@@ -119,15 +120,15 @@ fn write_form<O: Sink>(
         (change O.told O.faults out.old out.new) result }
 {
     match form {
-        TextForm::Blif => write_text::<BlifTexts, O>(alloc, form, job, source, out),
-        TextForm::EncodedBlif => write_text::<BlifTexts, O>(alloc, form, job, source, out),
-        TextForm::C => write_text::<CTexts, O>(alloc, form, job, source, out),
-        TextForm::Verilog => write_text::<VerilogTexts, O>(alloc, form, job, source, out),
+        TextForm::Blif => write_text::<BlifWriter, O>(alloc, form, job, source, out),
+        TextForm::EncodedBlif => write_text::<BlifWriter, O>(alloc, form, job, source, out),
+        TextForm::C => write_text::<CWriter, O>(alloc, form, job, source, out),
+        TextForm::Verilog => write_text::<VlogWriter, O>(alloc, form, job, source, out),
     }
 }
 
 // Writes the text of a source of a form, in a language, piece by piece.
-fn write_text<T: Target, O: Sink>(
+fn write_text<T: NetText + Drop, O: Sink>(
     alloc: Global,
     form: TextForm,
     job: Job<'_>,
@@ -136,7 +137,7 @@ fn write_text<T: Target, O: Sink>(
 ) -> Outcome
     requires { length source.now ≤ Limits.SOURCE_BYTES }
     ensures agrees { MakesOn (plain_job job.entry).main result source.now }
-    ensures out { LeavesPieces (IsWrittenOf form T.writes source.now (plain_job job.entry).main)
+    ensures out { LeavesPieces (IsWrittenOf form (IsWrittenIn T.written T.means) source.now (plain_job job.entry).main)
         (change O.told O.faults out.old out.new) result }
 {
     match job.pick {
@@ -146,5 +147,25 @@ fn write_text<T: Target, O: Sink>(
             let mut drawn = Drawn(Draw::new(start));
             text_into::<T, Drawn, O>(alloc, form, source, job.main, &mut drawn, out)
         }
+    }
+}
+
+// Writes the text of a source of a form, in a language, along the order that a picker makes, and says how that ended.
+fn text_into<T: NetText + Drop, P: Picker, O: Sink>(
+    alloc: Global,
+    form: TextForm,
+    source: &[u8],
+    main: Option<&[u8]>,
+    picker: &mut P,
+    out: &mut O,
+) -> Outcome
+    requires { length source.now ≤ Limits.SOURCE_BYTES }
+    ensures agrees { MakesOn (option_map (λ m. m.now) main.entry) result source.now }
+    ensures out { LeavesPieces (IsWrittenOf form (IsWrittenIn T.written T.means) source.now
+        (option_map (λ m. m.now) main.entry)) (change O.told O.faults out.old out.new) result }
+{
+    match write_source_text::<T, P, O>(alloc, form, source, main, picker, out) {
+        Ok(ended) => Outcome::from(ended),
+        Err(refusal) => Outcome::from(refusal),
     }
 }

@@ -8,7 +8,8 @@ ghost use Rattle.cec_core.specs.JobViews.{AreBranches};
 ghost use Rattle.cec_core.specs.Outcomes.{IsWriting, LeavesText};
 
 use crate::outcome::Outcome;
-use est_base::{Sink, write_text};
+use crate::writing::write_whole;
+use est_base::Sink;
 use est_gen::{GenFault, generate_source};
 use std::alloc::Global;
 
@@ -29,10 +30,7 @@ pub(crate) fn write_help<O: Sink>(out: &mut O) -> Outcome
         (change O.told O.faults out.old out.new)
         result }
 {
-    match write_text(out, HELP) {
-        Ok(()) => Outcome::Done,
-        Err(_) => Outcome::WriteFault,
-    }
+    write_whole(HELP, out)
 }
 
 /// Writes a generated source. The words give a number of branches for which there is one.
@@ -53,8 +51,5 @@ pub(crate) fn write_generated<O: Sink>(
         Err(GenFault::NoMemory) => return Outcome::NoMemory,
         Err(GenFault::BadBranches) => unreachable!(),
     };
-    match write_text(out, &generated.source) {
-        Ok(()) => Outcome::Done,
-        Err(_) => Outcome::WriteFault,
-    }
+    write_whole(&generated.source, out)
 }

@@ -6,8 +6,8 @@ ghost use Rattle.est_base.specs.SinkChanges.{change};
 ghost use Rattle.est_kernel.specs.Plain.{program_of};
 ghost use Rattle.est_kernel.specs.WellFormed.{IsWellFormed};
 ghost use Rattle.grc_graph.specs.PlainWireNames.{wire_name_of};
-ghost use Rattle.cec_core.specs.Contents.{Holds};
-ghost use Rattle.cec_core.specs.Graphs.{IsBuilt};
+ghost use Rattle.text_io.specs.Contents.{Holds};
+ghost use Rattle.cec_compile.specs.Graphs.{IsBuilt};
 ghost use Rattle.cec_core.specs.Jobs.{RunTri};
 ghost use Rattle.cec_core.specs.JobViews.{plain_job};
 ghost use Rattle.cec_core.specs.Lines.{GainsErr};
@@ -19,13 +19,12 @@ ghost use Rattle.cec_core.specs.TriRuns.{LeavesReactions, ReactsOn, ReactsOver, 
 
 use crate::commands::exec::run_outcome;
 use crate::commands::make::{subject_of, unread};
-use crate::graphs::graph_of;
 use crate::jobs::Job;
 use crate::lines::report;
 use crate::outcome::{Outcome, Which};
 use crate::reactions::{ReactionFault, run_reactions};
-use crate::refusal::Limit;
 use crate::unknown_wires::unknown_wires;
+use cec_compile::{Limit, graph_of};
 use est_base::{Files, InputRelation, Limits, NoMemory, SignalInfo, Sink, Text};
 use est_kernel::KernelProgram;
 use grc_graph::Graph;

@@ -1,4 +1,4 @@
-use Rattle.cec_core.proofs.Joined.{counts_stand}
+use Rattle.cec_core.proofs.Listings.{counts_stand}
 use Rattle.cec_core.proofs.answers.counts.Goals as goal
 
 pub returns-clause-text : goal.returns-clause-text

@@ -1,4 +1,4 @@
-use Rattle.cec_core.proofs.Joined.{listing_stands}
+use Rattle.cec_core.proofs.Listings.{listing_stands}
 use Rattle.cec_core.proofs.answers.listing.Goals as goal
 
 pub returns-clause-text : goal.returns-clause-text

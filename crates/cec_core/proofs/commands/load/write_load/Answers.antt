@@ -2,7 +2,7 @@ use Rattle.std.proofs.Common.{[], None, refl, subst, ◌∙◌}
 use Rattle.est_gen.specs.Sources.{source_text}
 use Rattle.est_base.specs.SinkChanges.{SinkChange}
 use Rattle.cec_core.specs.declared.outcome.Outcome.TheVariants as outcomes
-use Rattle.cec_core.specs.declared.refusal.Limit.TheVariants as limits
+use Rattle.cec_compile.specs.declared.refusal.Limit.TheVariants as limits
 use Rattle.cec_core.specs.Lines.{Subject}
 use Rattle.cec_core.specs.Loads.{IsSummary}
 use Rattle.cec_core.specs.Outcomes.{LeavesText, MakesOn}

@@ -2,12 +2,13 @@ use Rattle.std.proofs.Common.{subst, ◌∙◌}
 use Rattle.est_base.specs.declared.bounds.TheConstants.Limits.{SOURCE_BYTES}
 use Rattle.est_base.specs.SinkChanges.{SinkChange}
 use Rattle.cec_core.specs.Answers.{IsAnswer}
-use Rattle.cec_core.specs.declared.refusal.Limit.TheVariants as limits
+use Rattle.cec_compile.specs.declared.refusal.Limit.TheVariants as limits
 use Rattle.cec_core.specs.Jobs.{Make}
 use Rattle.cec_core.specs.JobViews.{plain_job}
 use Rattle.cec_core.specs.Outcomes.{MakesOn, LeavesAnswer}
 use Rattle.cec_core.specs.Subjects.{plain_subject}
-use Rattle.cec_core.proofs.OneFile.{held_read, make_agrees, make_counts, make_out, source_subject, err_alone}
+use Rattle.text_io.proofs.Reading.{held_read}
+use Rattle.cec_core.proofs.OneFile.{make_agrees, make_counts, make_out, source_subject, err_alone}
 use Rattle.cec_core.proofs.OneFile.{make_agrees_unread, counts_unread, err_unread}
 use Rattle.cec_core.proofs.commands.make.make_text.Goals as goal
 

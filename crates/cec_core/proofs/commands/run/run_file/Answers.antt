@@ -1,14 +1,15 @@
 use Rattle.std.proofs.Common.{subst, ◌∙◌}
 use Rattle.est_base.specs.declared.bounds.TheConstants.Limits.{SOURCE_BYTES}
 use Rattle.est_base.specs.SinkChanges.{SinkChange}
-use Rattle.cec_core.specs.Contents.{Holds}
-use Rattle.cec_core.specs.declared.refusal.Limit.TheVariants as limits
+use Rattle.text_io.specs.Contents.{Holds}
+use Rattle.cec_compile.specs.declared.refusal.Limit.TheVariants as limits
 use Rattle.cec_core.specs.Jobs.{Run}
 use Rattle.cec_core.specs.JobViews.{plain_job}
 use Rattle.cec_core.specs.Outcomes.{RunsOn}
 use Rattle.cec_core.specs.Runs.{RunsSource, LeavesRun}
 use Rattle.cec_core.specs.Subjects.{plain_subject}
-use Rattle.cec_core.proofs.OneFile.{held_read, source_subject, err_alone, counts_unread, err_unread}
+use Rattle.text_io.proofs.Reading.{held_read}
+use Rattle.cec_core.proofs.OneFile.{source_subject, err_alone, counts_unread, err_unread}
 use Rattle.cec_core.proofs.TwoFiles.{two_agree, two_count, leaves_as, run_agrees_unread}
 use Rattle.cec_core.proofs.commands.run.run_file.Goals as goal
 

@@ -4,15 +4,15 @@ use Rattle.est_base.specs.Relations.{relation_of}
 use Rattle.est_kernel.specs.Plain.{Program}
 use Rattle.net_ir.specs.Runs.{netlist_of}
 use Rattle.est_base.specs.SinkChanges.{SinkChange}
-use Rattle.cec_core.specs.Contents.{Holds}
+use Rattle.text_io.specs.Contents.{Holds}
 use Rattle.cec_core.specs.JobViews.{plain_job}
 use Rattle.cec_core.specs.Runs.{RunsSource}
-use Rattle.cec_core.proofs.OneFile.{held_read}
-use Rattle.cec_core.proofs.NetTexts.{made_source, made_keeps}
+use Rattle.text_io.proofs.Reading.{held_read}
+use Rattle.cec_compile.proofs.NetTexts.{made_source, made_keeps}
 use Rattle.cec_core.proofs.TextSizes.{long_text, made_relations_few}
 use Rattle.cec_core.proofs.RunLines.{given_wide, runs_program}
 use Rattle.cec_core.specs.declared.outcome.Which.TheVariants.{Second}
-use Rattle.cec_core.specs.declared.refusal.Limit.TheVariants as limits
+use Rattle.cec_compile.specs.declared.refusal.Limit.TheVariants as limits
 use Rattle.cec_core.proofs.TwoFiles.{run_left, run_trace_unread, count_trace_unread, leaves_unread, long_trace_unread, refused_runs}
 use Rattle.cec_core.proofs.commands.run.source_run.Goals as goal
 

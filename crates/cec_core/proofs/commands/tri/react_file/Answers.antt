@@ -2,13 +2,14 @@ use Rattle.std.proofs.Common.{map, refl, subst, ◌∙◌}
 use Rattle.est_base.specs.declared.bounds.TheConstants.Limits.{SOURCE_BYTES}
 use Rattle.est_base.specs.SinkChanges.{SinkChange}
 use Rattle.grc_graph.specs.PlainWireNames.{wire_name_of}
-use Rattle.cec_core.specs.Contents.{Holds}
-use Rattle.cec_core.specs.declared.refusal.Limit.TheVariants as limits
+use Rattle.text_io.specs.Contents.{Holds}
+use Rattle.cec_compile.specs.declared.refusal.Limit.TheVariants as limits
 use Rattle.cec_core.specs.Jobs.{RunTri}
 use Rattle.cec_core.specs.JobViews.{plain_job}
 use Rattle.cec_core.specs.Subjects.{plain_subject}
 use Rattle.cec_core.specs.TriRuns.{LeavesReactions, ReactsOn, ReactsOver, StopsOver}
-use Rattle.cec_core.proofs.OneFile.{held_read, source_subject, err_alone, counts_unread, err_unread}
+use Rattle.text_io.proofs.Reading.{held_read}
+use Rattle.cec_core.proofs.OneFile.{source_subject, err_alone, counts_unread, err_unread}
 use Rattle.cec_core.proofs.TwoFiles.{two_agree, two_count}
 use Rattle.trace_run.proofs.Stepping.{untouched}
 use Rattle.cec_core.proofs.ReactionFiles.{react_agrees_unread, reactions_as, reactions_unread_first}

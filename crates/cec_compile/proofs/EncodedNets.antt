@@ -1,0 +1,149 @@
+-- The netlist of a compiled program whose latches hold the state in a code keeps what the program means.
+use Rattle.std.proofs.Common.{◌≡◌, ℕ, ◌+◌, ◌*◌, ◌<◌, ◌≤◌, true, false, List, [], ◌∷◌, length, map, Option, refl, sym, ap, ◌∙◌, subst, arith}
+use Rattle.std.specs.Prelude.{Contains, replicate}
+use Rattle.std.proofs.lemmas.List.{length-map, length-replicate}
+use Rattle.est_base.specs.Items.{Item, EachEvent}
+use Rattle.est_kernel.specs.Plain.{Program, given_count}
+use Rattle.est_kernel.specs.Terms.{Term}
+use Rattle.grc_graph.specs.GraphRuns.{program_wires}
+use Rattle.grc_graph.specs.SelectionTrees.{body_leaves, body_tree}
+use Rattle.grc_graph.specs.TreeForms.{node_of}
+use Rattle.grc_graph.specs.Walk.{Initial}
+use Rattle.grc_sem.proofs.Instants.{next_state_is_kept_lem}
+use Rattle.grc_sem.proofs.Premises.{program_kernel}
+use Rattle.grc_solutions.proofs.OneRun.{graph_runs_exist_lem}
+use Rattle.enc_laws.proofs.FormedLatches.{latches-formed}
+use Rattle.net_ir.specs.Gates.{carried}
+use Rattle.net_ir.specs.Netlists.{Netlist, output_names}
+use Rattle.net_ir.specs.Runs.{netlist_of, initial_latches}
+use Rattle.net_ir.proofs.Numbered.{length-numbered}
+use Rattle.net_simp.specs.SameRuns.{SameParts, SameRuns}
+use Rattle.net_simp.specs.SimpleNets.{IsSimple}
+use Rattle.state_enc.specs.EncodedCounts.{encoded_bits, encoded_count}
+use Rattle.state_enc.specs.Encodings.{IsTreeOf, SelectsWell, Encodes}
+use Rattle.state_enc.specs.Meeting.{LatchesMeet}
+use Rattle.blif_text.specs.Written.{Means, net_latch}
+use Rattle.cec_compile.specs.declared.compiler.Compiled.{Compiled}
+use Rattle.cec_compile.specs.Compiling.{IsCompiled, StandsForNet}
+use Rattle.cec_compile.specs.EncodedTexts.{IsEncoded, StandsForEncoded}
+use Rattle.cec_compile.specs.Following.{FollowsGraph}
+use Rattle.cec_compile.specs.NetMeaning.{NetKeeps}
+use Rattle.cec_compile.specs.WireNames.{TextNames}
+use Rattle.cec_compile.proofs.Joined.{kernel_of, given-few, wires_carried, inputs_wide}
+use Rattle.cec_compile.proofs.Keeping.{widths, text_keeps}
+use Rattle.cec_compile.proofs.Simplified.{runs_stay}
+use Rattle.cec_compile.proofs.WireWords.{names_wires}
+
+-- ---- what encoding asks for
+
+-- one and the same for each element
+all_same : {X Y : Type 0} (xs : List X) (y : Y) → map (λ x. y) xs ≡ replicate (length xs) y
+all_same [] y = refl
+all_same (x ∷ xs) y = ap (λ l. y ∷ l) (all_same xs y)
+
+pub first_latches : (c : Compiled) (p : Program) → IsCompiled c p → initial_latches (netlist_of c.net) ≡ true ∷ replicate c.graph.tree.leaves false
+first_latches c p h =
+    h.latches ∙ ap (λ l. true ∷ l) (all_same (body_leaves p.body) false ∙ ap (λ n. replicate n false) (sym h.leaves))
+
+pub own_tree : (c : Compiled) (p : Program) → IsCompiled c p → IsTreeOf c.graph.tree p.body
+own_tree c p h = record { nodes = h.tree; leaves = h.leaves }
+
+-- ---- runs
+
+-- in each instant the latches select leaves as the tree wants
+latches_formed : (c : Compiled) (p : Program) → IsCompiled c p → FollowsGraph c → (items : List Item) → EachEvent (λ event. length event ≡ given_count p) items
+    → LatchesMeet (SelectsWell p.body) (netlist_of c.net) (initial_latches (netlist_of c.net)) items
+latches_formed c p h f items wide =
+    let kernel = program_kernel p h.formed (kernel_of c.graph p h.graph) in
+    let one = graph_runs_exist_lem p h.compiles.acyclic.rank kernel h.compiles.acyclic.up Initial items in
+    latches-formed next_state_is_kept_lem c.graph p (netlist_of c.net) kernel h.no_loop h.graph f.interface f.instants items one.0.0 wide one.0.1
+
+same_runs : (c : Compiled) (p : Program) (coded : Netlist) → IsCompiled c p → FollowsGraph c → Encodes (netlist_of c.net) coded p.body →
+    SameRuns (netlist_of c.net) coded
+same_runs c p coded h f encodes items wide =
+    encodes.runs items wide
+    (latches_formed c p h f items (subst (λ n. EachEvent (λ event. length event ≡ n) items) (sym (inputs_wide c p h)) wide))
+
+-- a netlist of the names and the runs of one that keeps what a program means
+alike_keeps : (net new : Netlist) (p : Program) → given_count p ≡ length net.inputs → new.name ≡ net.name → new.inputs ≡ net.inputs
+    → output_names new ≡ output_names net → SameRuns net new → NetKeeps net p → NetKeeps new p
+alike_keeps net new p wide name inputs outputs same keeps = record {
+  name = name ∙ keeps.name;
+  inputs = inputs ∙ keeps.inputs;
+  outputs = outputs ∙ keeps.outputs;
+  runs = λ items fits.
+      let found = keeps.runs items fits in
+      (found.0, found.1, (same items (widths p (length net.inputs) wide items fits)).shows ∙ found.2);
+}
+
+-- ---- an encoded netlist that is simplified
+
+same_count : (coded new : Netlist) → SameParts coded new → length new.latches ≡ length coded.latches
+same_count coded new parts = sym (length-map new.latches (λ l. l.init)) ∙ ap length parts.latches ∙ length-map coded.latches (λ l. l.init)
+
+pub simplified_encodes : (net coded new : Netlist) (body : Term) → SameParts coded new → SameRuns coded new → Encodes net coded body → Encodes net new body
+simplified_encodes net coded new body parts same e = record {
+  name = parts.name ∙ e.name;
+  inputs = parts.inputs ∙ e.inputs;
+  outputs = parts.outputs ∙ e.outputs;
+  carries = parts.carries ∙ e.carries;
+  count = same_count coded new parts ∙ e.count;
+  latches = parts.latches ∙ e.latches;
+  runs = λ items wide meet.
+      let first = e.runs items wide meet in
+      let second = same items (subst (λ l. EachEvent (λ event. length event ≡ length l) items) (sym e.inputs) wide) in
+      record { shows = second.shows ∙ first.shows; carries = second.carries ∙ first.carries };
+}
+
+pub simplified_size : (coded new : Netlist) (gates nodes : ℕ) → SameParts coded new → length coded.gates ≤ gates + 64 * (nodes * length coded.latches)
+    → length new.gates ≤ gates + 64 * (nodes * length new.latches)
+simplified_size coded new gates nodes parts few =
+    subst (λ n. length new.gates ≤ gates + 64 * (nodes * n)) (sym (same_count coded new parts)) (omega (arith, parts.fewer, few))
+
+-- ---- the whole
+
+pub encoded_is : (c : Compiled) (p : Program) (new : Netlist) → IsCompiled c p → FollowsGraph c → Encodes (netlist_of c.net) new p.body
+    → length new.gates ≤ length c.net.gates.items + 64 * (length c.graph.tree.nodes.items * length new.latches) → IsSimple new → IsEncoded c p new
+encoded_is c p new h f e few simple =
+    let same = same_runs c p new h f e in
+    let nodes : length c.graph.tree.nodes.items ≡ length (body_tree p.body) = sym (length-map c.graph.tree.nodes.items node_of) ∙ ap length h.tree in
+    record {
+      name = e.name;
+      inputs = e.inputs;
+      outputs = e.outputs;
+      carries = e.carries;
+      latches = e.latches;
+      runs = same;
+      keeps = alike_keeps (netlist_of c.net) new p (inputs_wide c p h) e.name e.inputs e.outputs same h.keeps;
+      size = subst (λ n. length new.gates ≤ length c.net.gates.items + 64 * (n * length new.latches)) nodes few;
+      simple = simple;
+    }
+
+encoded_names : (c : Compiled) (p : Program) (net : Netlist) (written : List ℕ) → IsCompiled c p → FollowsGraph c → IsEncoded c p net → Means written net
+    → TextNames (encoded_count p.body) written p
+encoded_names c p net written h f e means =
+    let kernel = program_kernel p h.formed (kernel_of c.graph p h.graph) in
+    let few = subst (λ q. given_count q ≤ length q.signals) (sym h.graph.program) (given-few p h.formed) in
+    let follows = runs_stay c.graph (netlist_of c.net) net few f.interface e.carries e.runs f.runs in
+    let carriers : (n : ℕ) → n < length (program_wires p) → Contains (carried net.gates) n
+    = λ n l. subst (λ wires. Contains wires n) (sym e.carries) (wires_carried c p h n l) in
+    let count : length net.latches ≡ encoded_count p.body
+    = omega (arith, length-map net.latches (λ l. l.init), ap length e.latches, length-replicate (encoded_bits p.body) false) in
+    record {
+      circuit = means.circuit;
+      reads = means.reads;
+      stored = ap length means.latches ∙ length-numbered (net_latch net) 0 net.latches ∙ count;
+      wires = names_wires c.graph p net h.graph carriers kernel h.no_loop h.compiles.acyclic follows written means e.keeps.inputs
+          (inputs_wide c p h ∙ ap length (sym e.inputs));
+    }
+
+-- the text of such a netlist, from these bytes
+pub encoded_stands : (bytes : List ℕ) (main : Option (List ℕ)) (c : Compiled) (net : Netlist) (written : List ℕ) → (s : StandsForNet bytes main c)
+    → FollowsGraph c → IsEncoded c s.program net → Means written net → StandsForEncoded bytes main written
+encoded_stands bytes main c net written s f e means = record {
+  program = s.program;
+  source = s.source;
+  compiles = s.compiled.compiles;
+  keeps = text_keeps written net s.program (given-few s.program s.compiled.formed) e.keeps means;
+  names = encoded_names c s.program net written s.compiled f e means;
+}

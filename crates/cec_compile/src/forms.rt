@@ -1,0 +1,14 @@
+// The forms of the texts of sources.
+
+/// A form of the texts that are made of sources.
+#[derive(Clone, Copy, Debug, PartialEq, Eq)]
+pub enum TextForm {
+    /// BLIF, with a latch for each pause.
+    Blif,
+    /// BLIF whose latches hold the state in a code.
+    EncodedBlif,
+    /// The C subset.
+    C,
+    /// Structural Verilog.
+    Verilog,
+}

@@ -1,0 +1,27 @@
+//! From the bytes of a source to its graph, its netlist and its texts: the compiler, with the theorem.
+//!
+//! `blif_of` takes the bytes of a Pure Esterel source to a BLIF text (Berkeley), `c_of` to a text in a subset of C, and
+//! `verilog_of` to a module of structural Verilog. Their contracts say that the text, by the meaning of BLIF, by the
+//! machine of the subset or by the module's, does in every run what the constructive semantics (Berry, "The
+//! Constructive Semantics of Pure Esterel") says of the source. `compiler` is the list of the passes, in their order.
+#![tactic(auto)]
+
+mod compiler;
+mod cycles;
+mod forms;
+mod graphs;
+mod made;
+mod refusal;
+mod source_texts;
+mod wire_texts;
+
+pub use compiler::{
+    Compiled, Graphed, blif_of, c_of, compile, encoded_blif_of, source_graph, verilog_of,
+};
+pub use cycles::Cycle;
+pub use forms::TextForm;
+pub use graphs::graph_of;
+pub use made::{Made, made_in, source_made};
+pub use refusal::{Limit, Refusal};
+pub use source_texts::write_source_text;
+pub use wire_texts::joined_texts;

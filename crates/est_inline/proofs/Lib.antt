@@ -1,0 +1,3 @@
+pub mod InlinedNames
+pub mod InlinedWalks
+mod worked

@@ -1,0 +1,4 @@
+pub mod DepthLaws
+pub mod Answers
+pub mod Outcomes
+pub mod Accepting

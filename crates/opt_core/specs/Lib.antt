@@ -1,0 +1,10 @@
+pub mod Words
+pub mod Depths
+pub mod Answers
+pub mod Statuses
+pub mod Outcomes
+pub mod Lines
+pub mod HelpTexts
+pub mod Laws
+pub mod Views
+pub mod NetTexts

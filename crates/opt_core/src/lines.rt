@@ -1,0 +1,98 @@
+// The line about an outcome.
+
+ghost use Rattle.std.specs.Prelude.{◌++◌, codes};
+ghost use Rattle.est_base.specs.Writing.{Wrote};
+ghost use Rattle.text_io.specs.ErrorLines.{GainsLine};
+ghost use Rattle.opt_core.specs.Lines.{circuit_text, fault_text, line_of};
+
+use crate::outcome::Outcome;
+use blif_net::CircuitFault;
+use est_base::{Sink, SinkFault, write_pieces};
+use itoa::Buffer;
+use opt_texts::OptFault;
+use text_io::put_loop;
+
+/// Writes the line of an outcome, where a command reads the file of this name; a sink that fails changes nothing.
+pub(crate) fn report<E: Sink>(err: &mut E, name: &str, outcome: &Outcome)
+    ensures { GainsLine (E.told err.old) (E.told err.new) (E.faults err.old) (E.faults err.new)
+        (line_of name.now outcome.now) }
+{
+    let _ = put_line(err, name, outcome);
+}
+
+// The line of an outcome, none for `Done`. Writing it takes no memory; a prefix of the line was appended where the
+// sink failed.
+fn put_line<E: Sink>(err: &mut E, name: &str, outcome: &Outcome) -> Result<(), SinkFault>
+    ensures { Wrote (E.told err.old) (E.told err.new) (E.faults err.old) (E.faults err.new)
+        (line_of name.now outcome.now) result }
+{
+    match outcome {
+        Outcome::Done => Ok(()),
+        Outcome::Usage => write_pieces(err, &[b"cec-opt: ", b"usage, see cec-opt --help", b"\n"]),
+        Outcome::FileFault => {
+            write_pieces(
+                err,
+                &[b"cec-opt: ", b"cannot read ", name.as_bytes(), b"\n"],
+            )
+        }
+        Outcome::BadText(fault) => put_fault(err, fault),
+        Outcome::TooLong => write_pieces(err, &[b"cec-opt: ", b"limit: text", b"\n"]),
+        Outcome::WriteFault => write_pieces(err, &[b"cec-opt: ", b"cannot write", b"\n"]),
+        Outcome::NoMemory => write_pieces(err, &[b"cec-opt: ", b"out of memory", b"\n"]),
+    }
+}
+
+// The line of a fault of a text.
+fn put_fault<E: Sink>(err: &mut E, fault: &OptFault) -> Result<(), SinkFault>
+    ensures { Wrote (E.told err.old) (E.told err.new) (E.faults err.old) (E.faults err.new)
+        (codes "cec-opt: " ++ (fault_text fault.now ++ codes "\n")) result }
+{
+    match fault {
+        OptFault::Line(number) => {
+            let mut shown = Buffer::new();
+            let shown = shown.format(*number).as_bytes();
+            write_pieces(
+                err,
+                &[
+                    b"cec-opt: ",
+                    b"line ",
+                    shown,
+                    b": not in the profile",
+                    b"\n",
+                ],
+            )
+        }
+        OptFault::TwoDrivers(name) => {
+            write_pieces(err, &[b"cec-opt: ", b"two drivers: ", name.bytes(), b"\n"])
+        }
+        OptFault::NoDriver(name) => {
+            write_pieces(err, &[b"cec-opt: ", b"no driver: ", name.bytes(), b"\n"])
+        }
+        OptFault::Circuit(fault) => put_circuit_fault(err, fault),
+    }
+}
+
+// The line of a fault of a circuit.
+fn put_circuit_fault<E: Sink>(err: &mut E, fault: &CircuitFault) -> Result<(), SinkFault>
+    ensures { Wrote (E.told err.old) (E.told err.new) (E.faults err.old) (E.faults err.new)
+        (codes "cec-opt: " ++ (circuit_text fault.now ++ codes "\n")) result }
+{
+    match fault {
+        CircuitFault::NoPause => {
+            write_pieces(err, &[b"cec-opt: ", b"last output is not _paused", b"\n"])
+        }
+        CircuitFault::Model(name) => {
+            write_pieces(err, &[b"cec-opt: ", b"bad model: ", name.bytes(), b"\n"])
+        }
+        CircuitFault::Input(name) => {
+            write_pieces(err, &[b"cec-opt: ", b"bad input: ", name.bytes(), b"\n"])
+        }
+        CircuitFault::Output(name) => {
+            write_pieces(err, &[b"cec-opt: ", b"bad output: ", name.bytes(), b"\n"])
+        }
+        CircuitFault::Again(name) => {
+            write_pieces(err, &[b"cec-opt: ", b"output twice: ", name.bytes(), b"\n"])
+        }
+        CircuitFault::Loop(names) => put_loop(err, b"cec-opt: ", names),
+    }
+}

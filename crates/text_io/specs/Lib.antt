@@ -1,0 +1,5 @@
+pub mod Contents
+pub mod Writings
+pub mod ErrorLines
+pub mod NetWriting
+pub mod CollectedBytes
