@@ -1,0 +1,8 @@
+use Rattle.std.proofs.Common.{arith}
+use Rattle.net_ir.specs.Runs.{netlist_of}
+use Rattle.guard_owners.proofs.BlockTexts.{gate-part}
+use Rattle.guard_owners.proofs.blocks.put_gate.Goals as goal
+
+pub returns : goal.returns
+returns c g =
+    gate-part (netlist_of c.args.net.now) c.args.k _ g _ _ _ c.requires (omega (arith, c.gates_begin.ensures.number)) c.in_ok-put_part.ensures

@@ -1,0 +1,3 @@
+pub mod HeadReads
+pub mod LiveHeads
+pub mod RegionReads

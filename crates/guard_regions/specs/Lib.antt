@@ -1,0 +1,2 @@
+pub mod HeadLists
+pub mod Regions
