@@ -1,18 +1,22 @@
 -- Inner: judgements on what the whole grammar uses: words, names, and lists with separators.
-use Rattle.std.proofs.Common.{◌≡◌, ℕ, false, IsTrue, List, [], ◌∷◌, ◌++◌, ◌<◌, length, Option, Some, Ok, Err, refl, sym, ◌∙◌, ap}
+use Rattle.std.proofs.Common.{◌≡◌, ℕ, false, IsTrue, List, [], ◌∷◌, ◌++◌, ◌<◌, length, map, Option, Some, Ok, Err, Result, Bor, refl, sym, ◌∙◌, ap}
 use Rattle.std.proofs.Common.{arith}
 use Rattle.est_ast.specs.declared.tokens.Token.{Token}
 use Rattle.est_ast.specs.declared.tokens.Reserved.{Reserved}
 use Rattle.est_ast.specs.declared.tokens.Reserved.TheVariants as words
 use Rattle.est_ast.specs.declared.tokens.Mark.{Mark}
 use Rattle.est_base.specs.declared.place.Span.{Span}
-use Rattle.est_ast.specs.Trees.{Expr, Exprs, exprs, Stmt, At, Form, Stmts, stmts}
-use Rattle.est_parse.specs.Parts.{expr_list, stmt_list}
+use Rattle.est_ast.specs.Trees.{Stmt, At, Form, Stmts, stmts}
+use Rattle.est_parse.specs.Parts.{stmt_list}
 use Rattle.est_ast.specs.Grammar.{mark, name, Listed, Ends}
 use Rattle.read_rules.specs.Languages.{Empty, One, Both, Loop, Parted}
 use Rattle.read_rules.specs.Choice.{Made}
 use Rattle.std.specs.Option.{option_map_or}
-use Rattle.std.proofs.lemmas.List.{append_assoc}
+use Rattle.std.proofs.lemmas.List.{append_assoc, map-id}
+use Rattle.expr_tiers.specs.Views.{FindsBy}
+use Rattle.read_rules.specs.Found.{Finds}
+use Rattle.read_rules.specs.declared.faults.ReadError.{ReadError}
+use Rattle.read_rules.specs.declared.faults.ReadError.TheVariants as errors
 use Rattle.est_ast.specs.Grammar.{span_of}
 use Rattle.read_rules.specs.Readings.{Read, Rule, refuse, give, follow, mapped, on, the, picked, turn, loop, taken_of}
 use Rattle.read_rules.proofs.Loops.{Advances, loop-unfolds}
@@ -48,15 +52,17 @@ listed-reads {A} {p} {L} {d} {s} {room} m r away =
     from (value ∷ others) tokens member = ((value, others), refl, member)
 
 -- a list of more than one
-pub expr_list-many : (node : Exprs → Expr) (parts : List Expr) → 1 < length parts → expr_list node parts ≡ node (exprs parts)
-expr_list-many node [] many = absurd (omega arith)
-expr_list-many node (e ∷ []) many = absurd (omega arith)
-expr_list-many node (e ∷ next ∷ others) many = refl
-
 pub stmt_list-many : (node : Stmts → Form) (parts : List Stmt) (span : Span) → 1 < length parts → stmt_list node parts span ≡ At span (node (stmts parts))
 stmt_list-many node [] span many = absurd (omega arith)
 stmt_list-many node (p ∷ []) span many = absurd (omega arith)
 stmt_list-many node (p ∷ next ∷ others) span many = refl
+
+-- Code that a reader of plain tokens read, where the tokens are plain themselves.
+pub finds-plain : {T X Y : Type 0} (view : X → Y) (result : Result (X × Bor (List T)) ReadError) (p : Rule T Y) (tokens : List T) →
+    FindsBy (λ t. t) view result (p (map (λ t. t) tokens)) → Finds view result (p tokens)
+finds-plain view (Ok found) p tokens is = ap p (sym (map-id tokens)) ∙ is ∙ ap (λ ts. Ok (view found.0, ts)) (map-id found.1.now)
+finds-plain view (Err (errors.Fault fault)) p tokens is = ap p (sym (map-id tokens)) ∙ is
+finds-plain view (Err errors.NoMemory) p tokens is = tt
 
 -- What loops in code keep.
 

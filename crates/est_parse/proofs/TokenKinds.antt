@@ -15,13 +15,14 @@ use Rattle.est_ast.specs.declared.tokens.Mark.TheVariants as marks
 use Rattle.est_ast.specs.Spelling.{spelling, sign}
 use Rattle.est_ast.specs.Grammar.{is_word, word, is_mark, mark, name_at, name, number_at, number}
 use Rattle.est_ast.proofs.OneToken.{read_word, read-spelling, mark_of, mark_of-head}
+use Rattle.expr_tiers.specs.Reading.{Negates}
 use Rattle.read_rules.proofs.Sets.{has, Test, test-of}
 use Rattle.est_parse.specs.declared.openings.Opening.{Opening}
 use Rattle.est_parse.specs.declared.openings.Opening.TheVariants as openings
 use Rattle.est_parse.specs.declared.openings.Flat.TheVariants as flats
 use Rattle.est_parse.specs.declared.openings.Block.TheVariants as blocks
 use Rattle.est_parse.specs.declared.openings.Declaration.TheVariants as declarations
-use Rattle.est_parse.specs.Openings.{kind_of, opening_of, opening, NotFactor, factor_at, factor, SquareEvent, event_at, event_start}
+use Rattle.est_parse.specs.Openings.{kind_of, opening_of, opening, part_at, part_start, SquareEvent, event_at, event_start}
 use Rattle.est_parse.specs.Openings.{declaration_of, declaration}
 
 abbrev pub word_class : Reserved → ℕ
@@ -247,10 +248,10 @@ opening-test = test-of opening_set (λ token. agrees token.kind) (at_kind (kinds
 abbrev pub factor_set : List ℕ
 factor_set = 60 ∷ 19 ∷ 33 ∷ 44 ∷ 42 ∷ []
 
-pub factor-test : Test class factor factor_set
-factor-test = test-of factor_set (λ token. agrees token.span token.kind) (at_kind (kinds.Reserved words.Not)) NotFactor refl
+pub part-test : Test class part_start factor_set
+part-test = test-of factor_set (λ token. agrees token.span token.kind) (at_kind (kinds.Reserved words.Not)) Negates refl
   where
-    agrees : (span : Span) (kind : Kind) → is_some (factor_at span kind) ≡ has factor_set (kind_class kind)
+    agrees : (span : Span) (kind : Kind) → is_some (part_at span kind) ≡ has factor_set (kind_class kind)
     agrees span (kinds.Ident text) = refl
     agrees span (kinds.Number value) = refl
     agrees span (kinds.Reserved words.Not) = refl

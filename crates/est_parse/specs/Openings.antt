@@ -11,12 +11,13 @@ use Rattle.est_parse.specs.declared.openings.Opening.{Opening}
 use Rattle.est_parse.specs.declared.openings.Opening.TheVariants as openings
 use Rattle.est_parse.specs.declared.openings.Flat.TheVariants as flats
 use Rattle.est_parse.specs.declared.openings.Block.TheVariants as blocks
-use Rattle.est_parse.specs.declared.openings.Factor.{Factor as CodeFactor}
-use Rattle.est_parse.specs.declared.openings.Factor.TheVariants as factors
+use Rattle.est_parse.specs.declared.openings.Bracket.{Bracket}
+use Rattle.est_parse.specs.declared.openings.Bracket.TheVariants as brackets
 use Rattle.est_parse.specs.declared.openings.Event.{Event as CodeEvent}
 use Rattle.est_parse.specs.declared.openings.Event.TheVariants as events
 use Rattle.est_parse.specs.declared.openings.Declaration.{Declaration}
 use Rattle.est_parse.specs.declared.openings.Declaration.TheVariants as declarations
+use Rattle.expr_tiers.specs.Reading.{Opening as PartOpening, Negates, Opens, IsLeaf}
 
 -- the token that begins an item
 abbrev pub kind_of : Opening → Kind
@@ -70,36 +71,22 @@ abbrev pub is_deep : Opening → Bool
 is_deep (openings.Flat flat) = false
 is_deep _ = true
 
--- what begins a part of a test: `tick` or a name is the whole part
-pub data Factor : Type 0 where
-  NotFactor : Factor
-  RoundFactor : Factor
-  SquareFactor : Factor
-  TickFactor : Span → Factor
-  NameFactor : Name → Factor
+-- a part of a test of its own
+pub data Leaf : Type 0 where
+  TickLeaf : Span → Leaf
+  NameLeaf : Name → Leaf
 
-abbrev pub factor_of : CodeFactor → Factor
-factor_of factors.Not = NotFactor
-factor_of factors.Round = RoundFactor
-factor_of factors.Square = SquareFactor
-factor_of (factors.Tick span) = TickFactor span
-factor_of (factors.Name text span) = NameFactor (record { text = text.now; span = span })
+-- what begins a part of a test
+abbrev pub part_at : Span → Kind → Option (PartOpening Bracket Leaf)
+part_at span (kinds.Reserved words.Not) = Some Negates
+part_at span (kinds.Mark marks.LeftParenthesis) = Some (Opens brackets.Round)
+part_at span (kinds.Mark marks.LeftBracket) = Some (Opens brackets.Square)
+part_at span (kinds.Reserved words.Tick) = Some (IsLeaf (TickLeaf span))
+part_at span (kinds.Ident text) = Some (IsLeaf (NameLeaf (record { text = text; span = span })))
+part_at span _ = None
 
-abbrev pub factor_at : Span → Kind → Option Factor
-factor_at span (kinds.Reserved words.Not) = Some NotFactor
-factor_at span (kinds.Mark marks.LeftParenthesis) = Some RoundFactor
-factor_at span (kinds.Mark marks.LeftBracket) = Some SquareFactor
-factor_at span (kinds.Reserved words.Tick) = Some (TickFactor span)
-factor_at span (kinds.Ident text) = Some (NameFactor (record { text = text; span = span }))
-factor_at span _ = None
-
-abbrev pub factor : Token → Option Factor
-factor token = factor_at token.span token.kind
-
-abbrev pub is_deep_factor : Factor → Bool
-is_deep_factor (TickFactor span) = false
-is_deep_factor (NameFactor n) = false
-is_deep_factor _ = true
+abbrev pub part_start : Token → Option (PartOpening Bracket Leaf)
+part_start token = part_at token.span token.kind
 
 -- what begins an event
 pub data Event : Type 0 where

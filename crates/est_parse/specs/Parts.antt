@@ -3,16 +3,11 @@ use Rattle.std.specs.Prelude.{ℕ, List, [], ◌∷◌, Option, Some, None}
 use Rattle.est_base.specs.declared.place.Span.{Span}
 use Rattle.est_ast.specs.declared.trees.Name.{Name}
 use Rattle.est_ast.specs.declared.trees.Rename.{Rename}
-use Rattle.est_ast.specs.Trees.{Expr, Exprs, NoExprs, MoreExprs, Delay, Count, Stmt, At, Form, Await, AwaitCase}
+use Rattle.est_ast.specs.Trees.{Expr, Delay, Count, Stmt, At, Form, Await, AwaitCase}
 use Rattle.est_ast.specs.Trees.{Present, PresentCase, Loop, LoopEach, Repeat, Abort, AbortCase, Part, Missing}
-use Rattle.est_ast.specs.Trees.{Written, Handler, NoHandler, Handled, Stmts, NoStmts, MoreStmts, Cases, exprs, stmts}
+use Rattle.est_ast.specs.Trees.{Written, Handler, NoHandler, Handled, Stmts, NoStmts, MoreStmts, Cases, stmts}
 
 -- a list of one part is that part
-abbrev pub expr_list : (Exprs → Expr) → List Expr → Expr
-expr_list node [] = node NoExprs
-expr_list node (e ∷ []) = e
-expr_list node (e ∷ next ∷ others) = node (MoreExprs e (MoreExprs next (exprs others)))
-
 abbrev pub stmt_list : (Stmts → Form) → List Stmt → Span → Stmt
 stmt_list node [] span = At span (node NoStmts)
 stmt_list node (p ∷ []) span = p

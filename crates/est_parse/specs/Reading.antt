@@ -8,7 +8,7 @@ use Rattle.est_ast.specs.declared.tokens.Mark.{Mark}
 use Rattle.est_ast.specs.declared.tokens.Mark.TheVariants as marks
 use Rattle.est_ast.specs.declared.trees.Name.{Name}
 use Rattle.est_ast.specs.declared.trees.Rename.{Rename}
-use Rattle.est_ast.specs.Trees.{Expr, Tick, Sig, Not, And, Or, Round, Square, Exprs, Delay, Plain, Immediate, Stmt, At}
+use Rattle.est_ast.specs.Trees.{Expr, Tick, Sig, Not, And, Or, Round, Square, exprs, Delay, Plain, Immediate, Stmt, At}
 use Rattle.est_ast.specs.Trees.{Form, Nothing, Pause, Halt, Emit, Sustain, Every, Repeat, WeakAbort, Suspend, Trap}
 use Rattle.est_ast.specs.Trees.{Exit, Signal, Run, Seq, Par, Group, Part, Handler, Stmts, Cases, cases, Relation}
 use Rattle.est_ast.specs.Trees.{Implies, Excludes, Decl, Input, InputOutput, Output, Relations, Module, Program}
@@ -19,15 +19,18 @@ use Rattle.est_parse.specs.declared.openings.Flat.{Flat}
 use Rattle.est_parse.specs.declared.openings.Block.{Block}
 use Rattle.est_parse.specs.declared.openings.Flat.TheVariants as flats
 use Rattle.est_parse.specs.declared.openings.Block.TheVariants as blocks
+use Rattle.est_parse.specs.declared.openings.Bracket.{Bracket}
+use Rattle.est_parse.specs.declared.openings.Bracket.TheVariants as brackets
 use Rattle.est_parse.specs.declared.openings.Declaration.{Declaration}
 use Rattle.est_parse.specs.declared.openings.Declaration.TheVariants as declarations
-use Rattle.est_parse.specs.Openings.{opening, is_deep, Factor, NotFactor, RoundFactor, SquareFactor, TickFactor}
-use Rattle.est_parse.specs.Openings.{NameFactor, factor, is_deep_factor, Event, SquareEvent, TickEvent, NameEvent}
+use Rattle.est_parse.specs.Openings.{opening, is_deep, Leaf, TickLeaf, NameLeaf, part_start, Event, SquareEvent}
+use Rattle.est_parse.specs.Openings.{TickEvent, NameEvent}
 use Rattle.est_parse.specs.Openings.{event_start, is_deep_event, declaration}
-use Rattle.est_parse.specs.Parts.{expr_list, stmt_list, part_of, handler_of, renames_of, count_of, Tail, CaseTail}
+use Rattle.est_parse.specs.Parts.{stmt_list, part_of, handler_of, renames_of, count_of, Tail, CaseTail}
 use Rattle.est_parse.specs.Parts.{DelayTail, await_of, abort_of, Choice, CaseChoice, TestChoice, present_of, loop_of}
 use Rattle.est_parse.specs.Parts.{Head, GroupHead, LoopHead, EveryHead, RepeatHead, AbortHead, WeakHead}
 use Rattle.est_parse.specs.Parts.{SuspendHead, TrapHead, SignalHead}
+use Rattle.expr_tiers.specs.Reading as tiers
 use Rattle.read_rules.specs.Readings.{Read, Rule, follow, taken_of, refuse, give, mapped, both, trail, ahead, on, the}
 use Rattle.read_rules.specs.Readings.{maybe, loop, placed}
 use Rattle.read_rules.specs.Choice.{optional_or, may, trailing, choose}
@@ -45,58 +48,42 @@ ends w = on (word words.End) (λ _. may (word w))
 
 -- Tests.
 
--- the rules for a part of a test and for a whole one
-pub record ExprRules : Type 0 where
-  pub part : Rule Token Expr
-  pub whole : Rule Token Expr
+abbrev pub closing_mark : Bracket → Token → Option (Unit {0})
+closing_mark brackets.Round = mark marks.RightParenthesis
+closing_mark brackets.Square = mark marks.RightBracket
 
-abbrev pub factor_behind : Factor → ExprRules → Rule Token Expr
-factor_behind NotFactor inner = mapped Not inner.part
-factor_behind RoundFactor inner = mapped Round (trail inner.whole (the (mark marks.RightParenthesis)))
-factor_behind SquareFactor inner = mapped Square (trail inner.whole (the (mark marks.RightBracket)))
-factor_behind (TickFactor span) inner = give (Tick span)
-factor_behind (NameFactor n) inner = give (Sig n)
+abbrev pub leaf_of : Leaf → Expr
+leaf_of (TickLeaf span) = Tick span
+leaf_of (NameLeaf n) = Sig n
 
-abbrev pub neg : ℕ → ExprRules → Rule Token Expr
-neg room inner = choose factor is_deep_factor room (λ o. factor_behind o inner)
+abbrev pub bracketed : Bracket → Expr → Expr
+bracketed brackets.Round = Round
+bracketed brackets.Square = Square
 
--- parts with a word between them
-abbrev pub expr_step : Reserved → Rule Token Expr → Rule Token (Option Expr)
-expr_step w part = optional_or (word w) (λ _. part) (give tt)
-
-abbrev pub expr_parts : Reserved → (Exprs → Expr) → Rule Token Expr → Rule Token Expr
-expr_parts w node part = mapped (λ found. expr_list node (found.0 ∷ found.1)) (both part (loop (expr_step w part)))
-
-abbrev pub conj : ℕ → ExprRules → Rule Token Expr
-conj room inner = expr_parts words.And And (neg room inner)
-
-abbrev pub disj : ℕ → ExprRules → Rule Token Expr
-disj room inner = expr_parts words.Or Or (conj room inner)
-
-abbrev pub no_exprs : ExprRules
-no_exprs = record { part = refuse; whole = refuse }
-
-abbrev pub expr_rules : ℕ → ExprRules → ExprRules
-expr_rules room inner = record { part = neg room inner; whole = disj room inner }
-
--- the rules inside what the next token opens, never used where there is no room
-abbrev pub exprs_inside : ℕ → ExprRules
-exprs_inside zero = no_exprs
-exprs_inside (suc room) = expr_rules room (exprs_inside room)
-
-abbrev pub exprs_at : ℕ → ExprRules
-exprs_at room = expr_rules room (exprs_inside room)
+-- tests as expressions by tiers
+abbrev pub tests : tiers.Tiers Token Bracket Leaf Expr
+tests = record {
+  opening = part_start;
+  closing = closing_mark;
+  and_mark = word words.And;
+  or_mark = word words.Or;
+  leaf = leaf_of;
+  negation = Not;
+  bracketed = bracketed;
+  all = λ es. And (exprs es);
+  any = λ es. Or (exprs es);
+}
 
 abbrev pub expr : ℕ → Rule Token Expr
-expr room = (exprs_at room).whole
+expr room = tiers.expr tests room
 
-abbrev pub event_behind : Event → ExprRules → Rule Token Expr
+abbrev pub event_behind : Event → tiers.Rules Token Expr → Rule Token Expr
 event_behind SquareEvent inner = mapped Square (trail inner.whole (the (mark marks.RightBracket)))
 event_behind (TickEvent span) inner = give (Tick span)
 event_behind (NameEvent n) inner = give (Sig n)
 
 abbrev pub event : ℕ → Rule Token Expr
-event room = choose event_start is_deep_event room (λ o. event_behind o (exprs_inside room))
+event room = choose event_start is_deep_event room (λ o. event_behind o (tiers.inside tests room))
 
 abbrev pub immediate : Rule Token Expr → Rule Token Delay
 immediate event = mapped Immediate (on (word words.Immediate) (λ _. event))

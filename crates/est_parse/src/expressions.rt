@@ -1,20 +1,21 @@
 // The reader of tests, events and delays.
 
 ghost use Rattle.std.specs.Prelude.{◌≡◌, ◌<◌, map, vec_len};
-ghost use Rattle.est_ast.specs.Trees.{And, Or};
+ghost use Rattle.est_ast.specs.Trees.{And, Or, exprs};
 ghost use Rattle.est_ast.specs.Views.{expr_of, delay_of};
-ghost use Rattle.est_parse.specs.Parts.{expr_list};
-ghost use Rattle.est_parse.specs.Reading.{neg, conj, expr, exprs_inside, event, immediate, count, delay, test};
+ghost use Rattle.est_parse.specs.Reading.{expr, event, immediate, count, delay, test};
 ghost use Rattle.read_rules.specs.Found.{Finds};
 
-use crate::openings::{Event, Factor, past_event, past_factor};
-use crate::signs::{after_mark, after_word, copy_of, is_number_next, past_word, read_number};
-use est_ast::{Delay, Mark, Name, Reserved, SigExpr, Token};
+use crate::openings::{Bracket, Event, past_event};
+use crate::signs::{
+    after_mark, after_word, copy_of, is_mark, is_number_next, is_word, past_word, read_number,
+};
+use est_ast::{Delay, Kind, Mark, Name, Reserved, SigExpr, Token};
+use expr_tiers::{ExprLanguage, Opening};
 use read_rules::{ReadError, inside, refused};
 use std::alloc::Global;
 
 // A test: parts with `or` between them.
-#[cycle(expressions)]
 pub fn read_expr(
     alloc: Global,
     tokens: &[Token],
@@ -22,87 +23,102 @@ pub fn read_expr(
 ) -> Result<(SigExpr, &[Token]), ReadError>
     ensures { Finds expr_of result (expr room tokens.now) }
 {
-    let (first, mut rest) = read_conj(alloc, tokens, room)?;
-    let mut parts = Vec::new(alloc);
-    parts.push(first)?;
-    while let Some(behind) = past_word(Reserved::Or, rest) {
-        let (part, behind) = read_conj(alloc, behind, room)?;
-        parts.push(part)?;
-        rest = behind;
-    }
-    Ok((any_of(parts), rest))
+    expr_tiers::read_expr::<Tests>(alloc, tokens, room)
 }
 
-// Parts with `and` between them.
-#[cycle(expressions)]
-fn read_conj(alloc: Global, tokens: &[Token], room: u32) -> Result<(SigExpr, &[Token]), ReadError>
-    ensures { Finds expr_of result (conj room (exprs_inside room) tokens.now) }
-{
-    let (first, mut rest) = read_neg(alloc, tokens, room)?;
-    let mut parts = Vec::new(alloc);
-    parts.push(first)?;
-    while let Some(behind) = past_word(Reserved::And, rest) {
-        let (part, behind) = read_neg(alloc, behind, room)?;
-        parts.push(part)?;
-        rest = behind;
-    }
-    Ok((all_of(parts), rest))
-}
+// Tests as expressions by tiers.
+struct Tests {}
 
-// A part without `and` and `or`, but for those in brackets.
-#[cycle(expressions)]
-fn read_neg(alloc: Global, tokens: &[Token], room: u32) -> Result<(SigExpr, &[Token]), ReadError>
-    ensures { Finds expr_of result (neg room (exprs_inside room) tokens.now) }
-{
-    let Some((factor, rest)) = past_factor(tokens) else {
-        return Err(ReadError::Fault(refused(tokens)));
-    };
-    match factor {
-        Factor::Tick(span) => Ok((SigExpr::Tick(span), rest)),
-        Factor::Name(text, span) => {
-            let text = copy_of(alloc, text)?;
-            Ok((SigExpr::Sig(Name { text, span }), rest))
-        }
-        Factor::Not => {
-            let room = inside(room, tokens)?;
-            let (part, rest) = read_neg(alloc, rest, room)?;
-            Ok((SigExpr::Not(Box::new(alloc, part)?), rest))
-        }
-        Factor::Round => {
-            let room = inside(room, tokens)?;
-            let (body, rest) = read_expr(alloc, rest, room)?;
-            let rest = after_mark(Mark::RightParenthesis, rest)?;
-            Ok((SigExpr::Round(Box::new(alloc, body)?), rest))
-        }
-        Factor::Square => {
-            let room = inside(room, tokens)?;
-            let (body, rest) = read_expr(alloc, rest, room)?;
-            let rest = after_mark(Mark::RightBracket, rest)?;
-            Ok((SigExpr::Square(Box::new(alloc, body)?), rest))
-        }
-    }
-}
+impl ExprLanguage for Tests {
+    ghost use Rattle.est_ast.specs.Trees.{Expr};
+    ghost use Rattle.est_ast.specs.Views.{expr_of};
+    ghost use Rattle.est_ast.specs.declared.tokens.Token.{Token};
+    ghost use Rattle.est_parse.specs.Openings.{Leaf};
+    ghost use Rattle.est_parse.specs.Reading.{tests};
 
-// The parts with `or` between them, of which there is one at least. One part alone makes no node.
-fn any_of(mut parts: Vec<SigExpr>) -> SigExpr
-    requires { 0 < vec_len parts }
-    ensures { expr_of result ≡ expr_list Or (map expr_of parts.items) }
-{
-    if parts.len() > 1 {
-        return SigExpr::Or(parts);
-    }
-    parts.pop().unwrap()
-}
+    type Token = Token;
 
-// The parts with `and` between them, of which there is one at least. One part alone makes no node.
-fn all_of(mut parts: Vec<SigExpr>) -> SigExpr
-    requires { 0 < vec_len parts }
-    ensures { expr_of result ≡ expr_list And (map expr_of parts.items) }
-{
-    if parts.len() > 1 {
-        return SigExpr::And(parts);
+    type Bracket = Bracket;
+
+    type Tree = SigExpr;
+
+    ghost Plain = { Token };
+
+    ghost PlainLeaf = { Leaf };
+
+    ghost PlainTree = { Expr };
+
+    ghost token_of = { λ token. token };
+
+    ghost tree_of = { expr_of };
+
+    ghost tiers = { tests };
+
+    fn opening(token: &Token) -> Option<Opening<Bracket>> {
+        match &token.kind {
+            Kind::Reserved(Reserved::Not) => Some(Opening::Not),
+            Kind::Mark(Mark::LeftParenthesis) => Some(Opening::Open(Bracket::Round)),
+            Kind::Mark(Mark::LeftBracket) => Some(Opening::Open(Bracket::Square)),
+            Kind::Reserved(Reserved::Tick) => Some(Opening::Leaf),
+            Kind::Ident(_) => Some(Opening::Leaf),
+            _ => None,
+        }
     }
-    parts.pop().unwrap()
+
+    fn is_close(bracket: Bracket, token: &Token) -> bool {
+        match bracket {
+            Bracket::Round => is_mark(Mark::RightParenthesis, &token.kind),
+            Bracket::Square => is_mark(Mark::RightBracket, &token.kind),
+        }
+    }
+
+    fn is_and(token: &Token) -> bool {
+        is_word(Reserved::And, &token.kind)
+    }
+
+    fn is_or(token: &Token) -> bool {
+        is_word(Reserved::Or, &token.kind)
+    }
+
+    fn leaf(alloc: Global, token: &Token) -> Result<SigExpr, ReadError> {
+        match &token.kind {
+            Kind::Ident(text) => {
+                let text = copy_of(alloc, text)?;
+                let span = token.span;
+                Ok(SigExpr::Sig(Name { text, span }))
+            }
+            Kind::Reserved(Reserved::Tick) => Ok(SigExpr::Tick(token.span)),
+            _ => unreachable!(),
+        }
+    }
+
+    fn negation(alloc: Global, part: SigExpr) -> Result<SigExpr, ReadError> {
+        Ok(SigExpr::Not(Box::new(alloc, part)?))
+    }
+
+    fn bracketed(alloc: Global, bracket: Bracket, body: SigExpr) -> Result<SigExpr, ReadError> {
+        let body = Box::new(alloc, body)?;
+        match bracket {
+            Bracket::Round => Ok(SigExpr::Round(body)),
+            Bracket::Square => Ok(SigExpr::Square(body)),
+        }
+    }
+
+    #[tactic(auto, using(est_ast::proofs::Rows::rows))]
+    fn all(parts: Vec<SigExpr>) -> SigExpr
+        requires { 1 < vec_len parts }
+        ensures { expr_of result ≡ And (exprs (map expr_of parts.items)) }
+    {
+        SigExpr::And(parts)
+    }
+
+    #[tactic(auto, using(est_ast::proofs::Rows::rows))]
+    fn any(parts: Vec<SigExpr>) -> SigExpr
+        requires { 1 < vec_len parts }
+        ensures { expr_of result ≡ Or (exprs (map expr_of parts.items)) }
+    {
+        SigExpr::Or(parts)
+    }
 }
 
 // A signal, `tick`, or a test in `[ ]`.

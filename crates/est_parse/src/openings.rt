@@ -1,7 +1,7 @@
 // What the next token begins.
 
 ghost use Rattle.std.specs.Prelude.{◌≡◌, Some, None, is_some, MatchOption};
-ghost use Rattle.est_parse.specs.Openings.{opening, factor, event_start, declaration, factor_of, event_of};
+ghost use Rattle.est_parse.specs.Openings.{opening, event_start, declaration, event_of};
 ghost use Rattle.read_rules.specs.Readings.{picked};
 
 use est_ast::{Kind, Mark, Reserved, Token};
@@ -45,14 +45,11 @@ pub enum Block {
     Signal,
 }
 
-// What begins a part of a test.
-#[derive(Clone, Copy, Drop)]
-pub enum Factor<'a> {
-    Not,
+// A kind of brackets in a test.
+#[derive(Clone, Copy)]
+pub enum Bracket {
     Round,
     Square,
-    Tick(Span),
-    Name(&'a Text, Span),
 }
 
 // What begins an event.
@@ -109,24 +106,6 @@ pub fn is_item_next(tokens: &[Token]) -> bool
     ensures { result ≡ is_some (picked opening tokens.now) }
 {
     past_opening(tokens).is_some()
-}
-
-// What begins a part of a test with the next token, and the tokens behind it.
-pub fn past_factor(tokens: &[Token]) -> Option<(Factor<'_>, &[Token])>
-    ensures { MatchOption result
-        (picked factor tokens.now ≡ None)
-        (λ found. picked factor tokens.now ≡ Some (factor_of found.0, found.1.now)) }
-{
-    let (token, rest) = first(tokens)?;
-    let factor = match &token.kind {
-        Kind::Reserved(Reserved::Not) => Factor::Not,
-        Kind::Mark(Mark::LeftParenthesis) => Factor::Round,
-        Kind::Mark(Mark::LeftBracket) => Factor::Square,
-        Kind::Reserved(Reserved::Tick) => Factor::Tick(token.span),
-        Kind::Ident(text) => Factor::Name(text, token.span),
-        _ => return None,
-    };
-    Some((factor, rest))
 }
 
 // What begins an event with the next token, and the tokens behind it.

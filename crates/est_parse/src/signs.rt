@@ -138,7 +138,7 @@ pub fn place_of(tokens: &[Token], rest: &[Token]) -> Span
 }
 
 // Whether the token is this reserved word.
-fn is_word(expected: Reserved, kind: &Kind) -> bool
+pub fn is_word(expected: Reserved, kind: &Kind) -> bool
     ensures { result ≡ is_some (spec.is_word expected kind.now) }
 {
     match kind {
@@ -148,7 +148,7 @@ fn is_word(expected: Reserved, kind: &Kind) -> bool
 }
 
 // Whether the token is this mark.
-fn is_mark(expected: Mark, kind: &Kind) -> bool
+pub fn is_mark(expected: Mark, kind: &Kind) -> bool
     ensures { result ≡ is_some (spec.is_mark expected kind.now) }
 {
     match kind {

@@ -1,14 +1,15 @@
 -- Inner: rules that make what a function makes of what other rules make, and the steps of loops in code.
 use Rattle.std.proofs.Common.{◌≡◌, ℕ, zero, suc, ◌<◌, Bool, false, List, [], ◌∷◌, ◌++◌, map, length, Option, Some, None, is_some, Result, Ok, Err, refl}
-use Rattle.std.proofs.Common.{◌∙◌, sym, ap, subst, arith}
+use Rattle.std.proofs.Common.{◌∙◌, sym, ap, subst}
 use Rattle.std.specs.Option.{option_map, option_map_or}
-use Rattle.std.proofs.lemmas.List.{length-map, append-nil}
+use Rattle.std.proofs.lemmas.List.{append-nil}
 use Rattle.std.proofs.lemmas.Bool.{false≢true}
 use Rattle.read_rules.specs.declared.faults.Fault.{Fault}
 use Rattle.read_rules.specs.Readings.{Read, Rule, refuse, give, follow, mapped, both, trail, on, the, when, ahead, maybe, picked, turn, turns, loop}
 use Rattle.read_rules.specs.Readings.{end_of}
 use Rattle.read_rules.specs.Choice.{optional_or, choose, entered, fits}
 use Rattle.read_rules.proofs.Loops.{Advances, loop-last}
+pub use Rattle.expr_tiers.proofs.Shrinks.{shorter}
 
 -- the second rule reads what the first one does, and gives what f makes of it
 abbrev pub Image : {T A B : Type 0} → (A → B) → Rule T A → Rule T B → Type 0
@@ -160,10 +161,6 @@ image-advances {T} {A} {B} f p q image advances tokens value rest reads = go (p 
     go (Ok (Some a, other)) at same = subst (λ r. length r < length tokens) (ap (rest_or rest) same) (advances tokens a other at)
     go (Ok (None, other)) at same = absurd (false≢true (ap gives same))
     go (Err fault) at same = absurd (false≢true (ap gives same))
-
--- fewer kinds are fewer tokens
-pub shorter : {X Y : Type 0} (f : X → Y) (xs ys : List X) → length (map f xs) < length (map f ys) → length xs < length ys
-shorter f xs ys low = let a = length-map xs f in let b = length-map ys f in omega (arith, low, a, b)
 
 -- the whole text, with nothing behind it
 abbrev pub made : {A B : Type 0} → (A → B) → Result A Fault → Result B Fault

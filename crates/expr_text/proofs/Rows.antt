@@ -24,6 +24,8 @@ expr-And v = ap And (row-exprs (hidden-the_row-Expr-0 v) ∙ ap (λ l. reading.e
 pub expr-Or : (v : Vec Expr Global) → expr_of (exprs.Or v) ≡ Or (reading.exprs (map expr_of v.items))
 expr-Or v = ap Or (row-exprs (hidden-the_row-Expr-0 v) ∙ ap (λ l. reading.exprs (map expr_of l)) (items_hidden-the_row-Expr-0 v))
 
+pub ruleset list_rows = (expr-And, expr-Or)
+
 -- ---- their names
 
 names-list : (l : List Expr) → all_names (reading.exprs (map expr_of l)) ≡ flat_map names_at l

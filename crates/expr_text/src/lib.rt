@@ -2,8 +2,7 @@
 //!
 //! An expression is made of names and constants by not, and, and or, with brackets. `specs/` says how expressions
 //! are spelled by tokens of any kind, what they mean, and how a text is cut into tokens; a language gives its kinds
-//! of tokens (`TokenKind`), and stands its own grammar on these. The reader of expressions goes from the left with one
-//! token ahead and recurses only as deep as negations and brackets stand one in another.
+//! of tokens (`TokenKind`), and stands its own grammar on these. The reader of expressions is that of expr_tiers.
 #![tactic(auto)]
 
 mod kinds;
@@ -19,9 +18,7 @@ pub use kinds::{Front, Lexical, Sign, Token, TokenKind};
 pub use lexing::{begins_name, is_space, lex, name_len, place_at};
 pub use names::names_in;
 pub use reader::read_expr;
-pub use steps::{
-    Factor, after, copy_of, nothing_read, past, past_factor, past_name, read_bit, refused_here,
-};
+pub use steps::{after, copy_of, nothing_read, past, past_name, read_bit, refused_here};
 pub use tables::{NameTable, name_set, name_table};
 pub use trees::Expr;
 pub use writing::put_gate_name;

@@ -1,19 +1,20 @@
-// The reader of expressions.
+// The reader of expressions: that by tiers, for a language's kinds of tokens.
 
-ghost use Rattle.std.specs.Prelude.{◌≡◌, ◌<◌, map, vec_len};
+ghost use Rattle.std.specs.Prelude.{◌≡◌, ◌<◌, map, is_some, vec_len};
 ghost use Rattle.expr_text.specs.Trees.{And, Or};
 ghost use Rattle.expr_text.specs.Views.{expr_of};
-ghost use Rattle.expr_text.specs.Reading.{FindsBy, expr_list, makes_expr, neg, conj, expr, inside};
-ghost use Rattle.expr_text.specs.Plain.{kind_by};
+ghost use Rattle.expr_text.specs.Reading.{FindsBy, makes_expr, expr, exprs};
+ghost use Rattle.expr_text.specs.Plain.{kind_by, sign_of};
+ghost use Rattle.expr_text.specs.Signs.{signed};
 
-use crate::kinds::{Sign, Token, TokenKind};
-use crate::steps::{Factor, after_close, copy_of, past_factor, past_sign, refused_here};
+use crate::kinds::{Sign, Token, TokenKind, sign_number};
+use crate::steps::copy_of;
 use crate::trees::Expr;
-use read_rules::{ReadError, inside};
+use expr_tiers::{ExprLanguage, Opening};
+use read_rules::ReadError;
 use std::alloc::Global;
 
 /// An expression: parts with or between them. Its errors are the first fault of the tokens, and want of memory.
-#[cycle(expressions)]
 pub fn read_expr<'t, K: TokenKind>(
     alloc: Global,
     tokens: &'t [Token<K>],
@@ -21,86 +22,91 @@ pub fn read_expr<'t, K: TokenKind>(
 ) -> Result<(Expr, &'t [Token<K>]), ReadError>
     ensures { FindsBy K.plain expr_of result (expr K.sign makes_expr room (map (kind_by K.plain) tokens.now)) }
 {
-    let (first, mut rest) = read_conj(alloc, tokens, room)?;
-    let mut parts = Vec::new(alloc);
-    parts.push(first)?;
-    while let Some(behind) = past_sign(Sign::Or, rest) {
-        let (part, behind) = read_conj(alloc, behind, room)?;
-        parts.push(part)?;
-        rest = behind;
-    }
-    Ok((any_of(parts), rest))
+    expr_tiers::read_expr::<Token<K>>(alloc, tokens, room)
 }
 
-// Parts with and between them.
-#[cycle(expressions)]
-fn read_conj<'t, K: TokenKind>(
-    alloc: Global,
-    tokens: &'t [Token<K>],
-    room: u32,
-) -> Result<(Expr, &'t [Token<K>]), ReadError>
-    ensures { FindsBy K.plain expr_of result
-        (conj K.sign makes_expr room (inside K.sign makes_expr room) (map (kind_by K.plain) tokens.now)) }
-{
-    let (first, mut rest) = read_neg(alloc, tokens, room)?;
-    let mut parts = Vec::new(alloc);
-    parts.push(first)?;
-    while let Some(behind) = past_sign(Sign::And, rest) {
-        let (part, behind) = read_neg(alloc, behind, room)?;
-        parts.push(part)?;
-        rest = behind;
-    }
-    Ok((all_of(parts), rest))
-}
+impl<K: TokenKind> ExprLanguage for Token<K> {
+    ghost use Rattle.expr_text.specs.Plain.{kind_by};
+    ghost use Rattle.expr_text.specs.Reading.{Leaf, makes_expr, tiers_of};
+    ghost use Rattle.expr_text.specs.Trees.{Expr};
+    ghost use Rattle.expr_text.specs.Views.{expr_of};
 
-// A part without and and or, but for those in brackets.
-#[cycle(expressions)]
-fn read_neg<'t, K: TokenKind>(
-    alloc: Global,
-    tokens: &'t [Token<K>],
-    room: u32,
-) -> Result<(Expr, &'t [Token<K>]), ReadError>
-    ensures { FindsBy K.plain expr_of result
-        (neg K.sign makes_expr room (inside K.sign makes_expr room) (map (kind_by K.plain) tokens.now)) }
-{
-    let Some((factor, rest)) = past_factor(tokens) else {
-        return Err(refused_here(tokens));
-    };
-    match factor {
-        Factor::Bit(value) => Ok((Expr::Const(value), rest)),
-        Factor::Name(name) => Ok((Expr::Name(copy_of(alloc, name)?), rest)),
-        Factor::Not => {
-            let room = inside(room, tokens)?;
-            let (part, rest) = read_neg(alloc, rest, room)?;
-            Ok((Expr::Not(Box::new(alloc, part)?), rest))
-        }
-        Factor::Round => {
-            let room = inside(room, tokens)?;
-            let (body, rest) = read_expr(alloc, rest, room)?;
-            let rest = after_close(rest)?;
-            Ok((body, rest))
+    type Token = Token<K>;
+
+    type Bracket = ();
+
+    type Tree = Expr;
+
+    ghost Plain = { K.Plain };
+
+    ghost PlainLeaf = { Leaf };
+
+    ghost PlainTree = { Expr };
+
+    ghost token_of = { kind_by K.plain };
+
+    ghost tree_of = { expr_of };
+
+    ghost tiers = { tiers_of K.sign makes_expr };
+
+    fn opening(token: &Token<K>) -> Option<Opening<()>> {
+        match token.kind.sign() {
+            Sign::Not => Some(Opening::Not),
+            Sign::Open => Some(Opening::Open(())),
+            Sign::Bit(_) => Some(Opening::Leaf),
+            Sign::Name(_) => Some(Opening::Leaf),
+            _ => None,
         }
     }
+
+    fn is_close(_bracket: (), token: &Token<K>) -> bool {
+        is_sign(Sign::Close, token)
+    }
+
+    fn is_and(token: &Token<K>) -> bool {
+        is_sign(Sign::And, token)
+    }
+
+    fn is_or(token: &Token<K>) -> bool {
+        is_sign(Sign::Or, token)
+    }
+
+    fn leaf(alloc: Global, token: &Token<K>) -> Result<Expr, ReadError> {
+        match token.kind.sign() {
+            Sign::Bit(value) => Ok(Expr::Const(value)),
+            Sign::Name(name) => Ok(Expr::Name(copy_of(alloc, name)?)),
+            _ => unreachable!(),
+        }
+    }
+
+    fn negation(alloc: Global, part: Expr) -> Result<Expr, ReadError> {
+        Ok(Expr::Not(Box::new(alloc, part)?))
+    }
+
+    fn bracketed(_alloc: Global, _bracket: (), body: Expr) -> Result<Expr, ReadError> {
+        Ok(body)
+    }
+
+    #[tactic(auto, using(crate::proofs::Rows::list_rows))]
+    fn all(parts: Vec<Expr>) -> Expr
+        requires { 1 < vec_len parts }
+        ensures { expr_of result ≡ And (exprs (map expr_of parts.items)) }
+    {
+        Expr::And(parts)
+    }
+
+    #[tactic(auto, using(crate::proofs::Rows::list_rows))]
+    fn any(parts: Vec<Expr>) -> Expr
+        requires { 1 < vec_len parts }
+        ensures { expr_of result ≡ Or (exprs (map expr_of parts.items)) }
+    {
+        Expr::Or(parts)
+    }
 }
 
-// The parts with or between them, of which there is one at least. One part alone makes no node.
-fn any_of(mut parts: Vec<Expr>) -> Expr
-    requires { 0 < vec_len parts }
-    ensures { expr_of result ≡ expr_list Or (map expr_of parts.items) }
+// Whether a token is this operator or bracket.
+fn is_sign<K: TokenKind>(expected: Sign<'_>, token: &Token<K>) -> bool
+    ensures { result ≡ is_some (signed K.sign (sign_of expected.entry) (kind_by K.plain token.now)) }
 {
-    if parts.len() > 1 {
-        return Expr::Or(parts);
-    }
-    parts.pop().unwrap()
-}
-
-// The parts with and between them, of which there is one at least. One part alone makes no node.
-fn all_of(mut parts: Vec<Expr>) -> Expr
-    requires { 0 < vec_len parts }
-    ensures { expr_of result ≡ expr_list And (map expr_of parts.items) }
-{
-    if parts.len() > 1 {
-        return Expr::And(parts);
-    }
-    parts.pop().unwrap()
+    sign_number(expected) == sign_number(token.kind.sign())
 }

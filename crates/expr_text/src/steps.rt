@@ -1,25 +1,16 @@
 // The steps of a reader on single tokens.
 
 ghost use Rattle.std.specs.Prelude.{◌≡◌, [], Some, None, false, map, MatchOption, MatchResult};
-ghost use Rattle.expr_text.specs.Signs.{numbered_as, signed, named, constant};
-ghost use Rattle.expr_text.specs.Reading.{factor, factor_of, FindsBy};
-ghost use Rattle.expr_text.specs.Plain.{kind_by, sign_of};
+ghost use Rattle.expr_text.specs.Signs.{numbered_as, named, constant};
+ghost use Rattle.expr_text.specs.Reading.{FindsBy};
+ghost use Rattle.expr_text.specs.Plain.{kind_by};
 ghost use Rattle.read_rules.specs.Readings.{picked, the, fault_at};
 ghost use Rattle.read_rules.specs.declared.faults.ReadError.TheVariants as errors;
 
-use crate::kinds::{Sign, Token, TokenKind, sign_number};
+use crate::kinds::{Sign, Token, TokenKind};
 use est_base::Text;
 use read_rules::{ReadError, first, refused};
 use std::alloc::Global;
-
-/// What begins a part of an expression.
-#[derive(Clone, Copy)]
-pub enum Factor<'a> {
-    Not,
-    Round,
-    Name(&'a [u8]),
-    Bit(bool),
-}
 
 /// Nothing is read yet, and all the tokens are left. A loop over what is left begins with what a call gave in a pair:
 /// the borrow checker of the proofs does not cover one that begins with the parameter itself.
@@ -95,56 +86,6 @@ pub fn read_bit<'t, K: TokenKind>(
         },
         None => Err(refused_here(tokens)),
     }
-}
-
-// The tokens behind this operator or bracket, where it stands next.
-pub fn past_sign<'t, K: TokenKind>(
-    expected: Sign<'_>,
-    tokens: &'t [Token<K>],
-) -> Option<&'t [Token<K>]>
-    ensures { MatchOption result
-        (picked (signed K.sign (sign_of expected.entry)) (map (kind_by K.plain) tokens.now) ≡ None)
-        (λ rest. picked (signed K.sign (sign_of expected.entry)) (map (kind_by K.plain) tokens.now)
-        ≡ Some (tt, map (kind_by K.plain) rest.now)) }
-{
-    match first(tokens) {
-        Some((token, rest)) if sign_number(expected) == sign_number(token.kind.sign()) => {
-            Some(rest)
-        }
-        _ => None,
-    }
-}
-
-// The tokens behind a closing bracket, which must stand next.
-pub fn after_close<'t, K: TokenKind>(tokens: &'t [Token<K>]) -> Result<&'t [Token<K>], ReadError>
-    ensures { MatchResult result
-        (λ rest. picked (signed K.sign (sign_of Sign.Close)) (map (kind_by K.plain) tokens.now)
-        ≡ Some (tt, map (kind_by K.plain) rest.now))
-        (λ e. (picked (signed K.sign (sign_of Sign.Close)) (map (kind_by K.plain) tokens.now) ≡ None)
-        × (e ≡ errors.Fault (fault_at false (map (kind_by K.plain) tokens.now)))) }
-{
-    match past_sign(Sign::Close, tokens) {
-        Some(rest) => Ok(rest),
-        None => Err(refused_here(tokens)),
-    }
-}
-
-/// What begins a part of an expression with the next token, and the tokens behind it.
-pub fn past_factor<'t, K: TokenKind>(tokens: &'t [Token<K>]) -> Option<(Factor<'t>, &'t [Token<K>])>
-    ensures { MatchOption result
-        (picked (factor K.sign) (map (kind_by K.plain) tokens.now) ≡ None)
-        (λ found. picked (factor K.sign) (map (kind_by K.plain) tokens.now)
-        ≡ Some (factor_of found.0, map (kind_by K.plain) found.1.now)) }
-{
-    let (token, rest) = first(tokens)?;
-    let factor = match token.kind.sign() {
-        Sign::Not => Factor::Not,
-        Sign::Open => Factor::Round,
-        Sign::Bit(value) => Factor::Bit(value),
-        Sign::Name(name) => Factor::Name(name),
-        _ => return None,
-    };
-    Some((factor, rest))
 }
 
 /// A name, in memory of its own.

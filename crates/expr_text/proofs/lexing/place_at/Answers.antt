@@ -1,4 +1,3 @@
-use Rattle.expr_text.specs.Plain.{token_by}
 use Rattle.std.proofs.Common.{◌-◌, length, sym, arith, ◌∙◌, ap}
 use Rattle.expr_text.proofs.Places.{place-token}
 use Rattle.expr_text.proofs.lexing.place_at.Goals as goal

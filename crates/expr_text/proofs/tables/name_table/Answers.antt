@@ -1,4 +1,4 @@
-use Rattle.std.proofs.Common.{◌≡◌, ℕ, Bool, ◌||◌, List, [], length, map, get_or, sym, ap, ◌∙◌, arith, Bor}
+use Rattle.std.proofs.Common.{ℕ, ◌||◌, List, [], map, get_or, sym, ap, ◌∙◌, arith, Bor}
 use Rattle.std.specs.HashSet.{contains_by}
 use Rattle.std.proofs.lemmas.Bool.{not-true, not-false, or_from, or_right}
 use Rattle.std.proofs.lemmas.List.{length-map, get_or-map}

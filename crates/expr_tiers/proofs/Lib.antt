@@ -1,0 +1,3 @@
+pub mod Shrinks
+pub mod Judgements
+pub mod Grammars

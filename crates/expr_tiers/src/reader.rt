@@ -1,0 +1,160 @@
+// The readers of expressions, one a tier.
+
+ghost use Rattle.std.specs.Prelude.{◌≡◌, ◌<◌, ◌∷◌, None, Some, map, vec_len, MatchOption, MatchResult};
+ghost use Rattle.std.specs.Prelude.{false};
+ghost use Rattle.expr_tiers.specs.Reading.{expr, conj, neg, inside, list_of};
+ghost use Rattle.expr_tiers.specs.Views.{FindsBy, opening_in};
+ghost use Rattle.read_rules.specs.Readings.{picked, fault_at};
+ghost use Rattle.read_rules.specs.declared.faults.ReadError.TheVariants as errors;
+
+use crate::language::{ExprLanguage, Opening};
+use read_rules::{ReadError, first, inside, refused};
+use std::alloc::Global;
+
+/// An expression: parts with or between them. Its errors are the first fault of the tokens, and want of memory.
+#[cycle(tiers)]
+pub fn read_expr<'t, L: ExprLanguage>(
+    alloc: Global,
+    tokens: &'t [L::Token],
+    room: u32,
+) -> Result<(L::Tree, &'t [L::Token]), ReadError>
+    ensures { FindsBy L.token_of L.tree_of result (expr L.tiers room (map L.token_of tokens.now)) }
+{
+    let (first, mut rest) = read_conj::<L>(alloc, tokens, room)?;
+    let mut parts = Vec::new(alloc);
+    parts.push(first)?;
+    while let Some(behind) = past_or::<L>(rest) {
+        let (part, behind) = read_conj::<L>(alloc, behind, room)?;
+        parts.push(part)?;
+        rest = behind;
+    }
+    Ok((any_of::<L>(parts), rest))
+}
+
+// Parts with and between them.
+#[cycle(tiers)]
+fn read_conj<'t, L: ExprLanguage>(
+    alloc: Global,
+    tokens: &'t [L::Token],
+    room: u32,
+) -> Result<(L::Tree, &'t [L::Token]), ReadError>
+    ensures { FindsBy L.token_of L.tree_of result
+        (conj L.tiers room (inside L.tiers room) (map L.token_of tokens.now)) }
+{
+    let (first, mut rest) = read_neg::<L>(alloc, tokens, room)?;
+    let mut parts = Vec::new(alloc);
+    parts.push(first)?;
+    while let Some(behind) = past_and::<L>(rest) {
+        let (part, behind) = read_neg::<L>(alloc, behind, room)?;
+        parts.push(part)?;
+        rest = behind;
+    }
+    Ok((all_of::<L>(parts), rest))
+}
+
+// A part without and and or, but for those in brackets.
+#[cycle(tiers)]
+fn read_neg<'t, L: ExprLanguage>(
+    alloc: Global,
+    tokens: &'t [L::Token],
+    room: u32,
+) -> Result<(L::Tree, &'t [L::Token]), ReadError>
+    ensures { FindsBy L.token_of L.tree_of result
+        (neg L.tiers room (inside L.tiers room) (map L.token_of tokens.now)) }
+{
+    let Some((opening, token, rest)) = past_opening::<L>(tokens) else {
+        return Err(ReadError::Fault(refused(tokens)));
+    };
+    match opening {
+        Opening::Leaf => Ok((L::leaf(alloc, token)?, rest)),
+        Opening::Not => {
+            let room = inside(room, tokens)?;
+            let (part, rest) = read_neg::<L>(alloc, rest, room)?;
+            Ok((L::negation(alloc, part)?, rest))
+        }
+        Opening::Open(bracket) => {
+            let room = inside(room, tokens)?;
+            let (body, rest) = read_expr::<L>(alloc, rest, room)?;
+            let rest = after_close::<L>(bracket, rest)?;
+            Ok((L::bracketed(alloc, bracket, body)?, rest))
+        }
+    }
+}
+
+// What begins a part with the next token, that token, and the tokens behind it.
+fn past_opening<'t, L: ExprLanguage>(
+    tokens: &'t [L::Token],
+) -> Option<(Opening<L::Bracket>, &'t L::Token, &'t [L::Token])>
+    ensures { MatchOption result
+        (picked L.tiers.opening (map L.token_of tokens.now) ≡ None)
+        (λ found. (opening_in (L.tiers.opening (L.token_of found.1.now)) ≡ Some found.0)
+        × (tokens.now ≡ found.1.now ∷ found.2.now)) }
+{
+    let (token, rest) = first(tokens)?;
+    match L::opening(token) {
+        Some(opening) => Some((opening, token, rest)),
+        None => None,
+    }
+}
+
+// The tokens behind the operator and, where it stands next.
+fn past_and<'t, L: ExprLanguage>(tokens: &'t [L::Token]) -> Option<&'t [L::Token]>
+    ensures { MatchOption result
+        (picked L.tiers.and_mark (map L.token_of tokens.now) ≡ None)
+        (λ rest. picked L.tiers.and_mark (map L.token_of tokens.now) ≡ Some (tt, map L.token_of rest.now)) }
+{
+    match first(tokens) {
+        Some((token, rest)) if L::is_and(token) => Some(rest),
+        _ => None,
+    }
+}
+
+// The tokens behind the operator or, where it stands next.
+fn past_or<'t, L: ExprLanguage>(tokens: &'t [L::Token]) -> Option<&'t [L::Token]>
+    ensures { MatchOption result
+        (picked L.tiers.or_mark (map L.token_of tokens.now) ≡ None)
+        (λ rest. picked L.tiers.or_mark (map L.token_of tokens.now) ≡ Some (tt, map L.token_of rest.now)) }
+{
+    match first(tokens) {
+        Some((token, rest)) if L::is_or(token) => Some(rest),
+        _ => None,
+    }
+}
+
+// The tokens behind what closes the bracket, which must stand next.
+fn after_close<'t, L: ExprLanguage>(
+    bracket: L::Bracket,
+    tokens: &'t [L::Token],
+) -> Result<&'t [L::Token], ReadError>
+    ensures { MatchResult result
+        (λ rest. picked (L.tiers.closing bracket) (map L.token_of tokens.now) ≡ Some (tt, map L.token_of rest.now))
+        (λ e. (picked (L.tiers.closing bracket) (map L.token_of tokens.now) ≡ None)
+        × (e ≡ errors.Fault (fault_at false (map L.token_of tokens.now)))) }
+{
+    match first(tokens) {
+        Some((token, rest)) if L::is_close(bracket, token) => Ok(rest),
+        _ => Err(ReadError::Fault(refused(tokens))),
+    }
+}
+
+// The parts with or between them, of which there is one at least. One part alone makes no node.
+fn any_of<'t, L: ExprLanguage>(mut parts: Vec<L::Tree>) -> L::Tree
+    requires { 0 < vec_len parts }
+    ensures { L.tree_of result ≡ list_of L.tiers.any (map L.tree_of parts.items) }
+{
+    if parts.len() > 1 {
+        return L::any(parts);
+    }
+    parts.pop().unwrap()
+}
+
+// The parts with and between them, of which there is one at least. One part alone makes no node.
+fn all_of<'t, L: ExprLanguage>(mut parts: Vec<L::Tree>) -> L::Tree
+    requires { 0 < vec_len parts }
+    ensures { L.tree_of result ≡ list_of L.tiers.all (map L.tree_of parts.items) }
+{
+    if parts.len() > 1 {
+        return L::all(parts);
+    }
+    parts.pop().unwrap()
+}
