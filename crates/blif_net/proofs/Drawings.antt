@@ -6,8 +6,7 @@ use Rattle.est_base.specs.declared.indices.NetId.{NetId}
 use Rattle.net_ir.specs.declared.netlist.Op.{Op}
 use Rattle.net_ir.specs.declared.netlist.Gate.{Gate}
 use Rattle.net_ir.specs.Gates.{operand_end, op_value, value_in, gate_values}
-use Rattle.net_ir.proofs.Building.{ReadsLower-push, carried-silent}
-use Rattle.net_ir.proofs.Values.{length-gate_values, gate_values-append, value_in-gate_values}
+use Rattle.net_ir.proofs.Exports.{ReadsLower-push, carried-silent, length-gate_values, gate_values-append, value_in-gate_values}
 use Rattle.blif_net.specs.Drawings.{IsDrawing, Draws, is_low, said, read_values}
 
 -- one more gate

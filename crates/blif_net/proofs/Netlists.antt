@@ -11,7 +11,7 @@ use Rattle.machines.specs.Machines.{Follows}
 use Rattle.est_base.specs.declared.indices.NetId.{NetId}
 use Rattle.est_base.specs.Distinct.{all_differ, none_shared}
 use Rattle.est_base.specs.Names.{is_name, is_same_name}
-use Rattle.est_base.proofs.SameNames.{same_name-is}
+use Rattle.est_base.proofs.Exports.{same_name-is}
 use Rattle.net_ir.specs.declared.netlist.Gate.{Gate}
 use Rattle.net_ir.specs.declared.netlist.Latch.{Latch}
 use Rattle.net_ir.specs.declared.netlist.NetOut.{NetOut}
@@ -19,24 +19,21 @@ use Rattle.net_ir.specs.Gates.{gate_values, value_in, ReadsLower}
 use Rattle.net_ir.specs.NameLists.{is_among}
 use Rattle.net_ir.specs.Netlists.{Netlist, IsNet, net_count}
 use Rattle.net_ir.specs.Runs.{net_machine, next_latches}
-use Rattle.net_ir.proofs.Building.{all_differ-append}
-use Rattle.net_ir.proofs.NameLists.{found-low, found-at}
+use Rattle.net_ir.proofs.Exports.{all_differ-append, found-low, found-at}
 use Rattle.blif_text.specs.Circuits.{Circuit, CircuitLatch, Table}
 use Rattle.blif_text.specs.OutputNames.{output_word, paused_word}
 use Rattle.blif_text.specs.Runs.{IsInstant, circuit_machine, driven_names}
 use Rattle.blif_text.specs.Written.{output_words}
-use Rattle.blif_text.proofs.Described.{IsSound}
+use Rattle.blif_text.proofs.Exports.{IsSound}
 use Rattle.step_run.specs.Slots.{slot_in, value_at, memory_in}
 use Rattle.step_run.specs.Steps.{settled, AreSolved, driven}
 use Rattle.step_run.specs.Order.{IsEvaluationOrder}
 use Rattle.step_run.specs.Solvers.{ordered_steps, equation_edges}
-use Rattle.step_run.proofs.Places.{driven-count}
-use Rattle.step_run.proofs.Solving.{solved}
+use Rattle.step_run.proofs.Exports.{driven-count, solved}
 use Rattle.blif_run.specs.CircuitAnswers.{tells_pause, listed_count, listed_names}
 use Rattle.blif_run.specs.Loops.{equations_of}
 use Rattle.blif_run.specs.Plans.{given_names, all_names}
-use Rattle.blif_run.proofs.CircuitEquations.{names-are, given-count, sound-equations}
-use Rattle.blif_run.proofs.Reactions.{IsOnly, only-instant}
+use Rattle.blif_run.proofs.Exports.{names-are, given-count, sound-equations, IsOnly, only-instant}
 use Rattle.blif_net.specs.declared.assembling.Named.{Named}
 use Rattle.blif_net.specs.Conversions.{IsWide, ShowSame, SameLatches, IsNetOf}
 use Rattle.blif_net.specs.Drawings.{IsDrawing, read_values}

@@ -17,19 +17,17 @@ use Rattle.blif_text.specs.declared.circuit.Table.{Table as CodeTable}
 use Rattle.blif_text.specs.Plain.{plain_row, plain_table}
 use Rattle.blif_text.specs.Circuits.{Circuit, Table}
 use Rattle.blif_text.specs.Runs.{row_fits}
-use Rattle.blif_text.proofs.Described.{IsSound}
+use Rattle.blif_text.proofs.Exports.{IsSound}
 use Rattle.step_run.specs.Slots.{slot_in, value_at, memory_in}
 use Rattle.step_run.specs.Equations.{Equation}
 use Rattle.step_run.specs.Steps.{Step, settled, step_made, equation_step}
 use Rattle.step_run.specs.Order.{slots_read, no_equation}
 use Rattle.step_run.specs.Solvers.{ordered_steps}
-use Rattle.step_run.proofs.EquationEdges.{reads-at}
-use Rattle.step_run.proofs.Makings.{same-step, through}
-use Rattle.step_run.proofs.Places.{output-slot}
+use Rattle.step_run.proofs.Exports.{reads-at, same-step, through, output-slot}
 use Rattle.blif_run.specs.Loops.{equation_of, equations_of}
 use Rattle.blif_run.specs.Plans.{given_names, all_names}
 use Rattle.blif_run.specs.Truths.{no_table}
-use Rattle.blif_run.proofs.CircuitEquations.{sound-equations, equation-at}
+use Rattle.blif_run.proofs.Exports.{sound-equations, equation-at}
 use Rattle.blif_net.specs.Drawings.{Draws, read_values}
 use Rattle.blif_net.specs.Tables.{Settles, AddsStep, rows_step, drawn_step}
 use Rattle.blif_net.proofs.Drawings.{reads-stay, all-later}

@@ -10,10 +10,9 @@ use Rattle.std.proofs.lemmas.List.{append_cancel_right, take-append-drop, take_m
 use Rattle.facts.proofs.Tests.{and-false}
 use Rattle.est_base.specs.Names.{is_name, is_name_byte, is_letter, is_same_name}
 use Rattle.est_base.specs.Distinct.{all_differ}
-use Rattle.est_base.proofs.SameNames.{same_name-is, same_name-self}
+use Rattle.est_base.proofs.Exports.{same_name-is, same_name-self}
 use Rattle.net_ir.specs.NameLists.{is_among, first_again}
-use Rattle.net_ir.proofs.Building.{all_differ-push}
-use Rattle.net_ir.proofs.NameLists.{found-low, found-at, new-at, any-none}
+use Rattle.net_ir.proofs.Exports.{all_differ-push, found-low, found-at, new-at, any-none}
 use Rattle.blif_text.specs.OutputNames.{output_word}
 use Rattle.blif_net.specs.Interfaces.{HasName}
 

@@ -8,14 +8,12 @@ use Rattle.est_base.specs.Names.{is_same_name}
 use Rattle.net_ir.specs.NameLists.{is_among}
 use Rattle.blif_text.specs.Circuits.{Circuit, Table}
 use Rattle.blif_text.specs.Runs.{driven_names, row_fits}
-use Rattle.blif_text.proofs.Described.{IsSound}
+use Rattle.blif_text.proofs.Exports.{IsSound}
 use Rattle.step_run.specs.Slots.{slot_in, memory_in}
 use Rattle.step_run.specs.Equations.{Equation}
 use Rattle.step_run.specs.Steps.{equation_step, IsLocal, AreSound}
 use Rattle.step_run.specs.Order.{slots_read, no_equation}
-use Rattle.step_run.proofs.Places.{output-slot}
-use Rattle.step_run.proofs.Makings.{same-step}
-use Rattle.step_run.proofs.EquationEdges.{reads-at}
+use Rattle.step_run.proofs.Exports.{output-slot, same-step, reads-at}
 use Rattle.blif_run.specs.Loops.{equation_of, equations_of}
 use Rattle.step_run.specs.Solvers.{ordered_steps}
 use Rattle.blif_run.specs.Plans.{given_names, all_names}

@@ -1,8 +1,9 @@
-pub mod TruthTables
-pub mod CircuitEquations
-pub mod Resolving
-pub mod Reactions
-pub mod Showing
-pub mod NetLoops
-pub mod NetTexts
-pub mod TextFaults
+mod TruthTables
+mod CircuitEquations
+mod Resolving
+mod Reactions
+mod Showing
+mod NetLoops
+mod NetTexts
+mod TextFaults
+pub mod Exports

@@ -16,26 +16,22 @@ use Rattle.blif_text.specs.Circuits.{Circuit, CircuitLatch, Table}
 use Rattle.blif_text.specs.Written.{input_word, output_word, latch_word, gate_word, net_word, paused_word, operands}
 use Rattle.blif_text.specs.Written.{net_latch, copy_table, input_table}
 use Rattle.blif_text.specs.Written.{gate_table, output_table, net_tables, net_circuit}
-use Rattle.blif_text.proofs.NetNames.{shown_words, input_words, latch_words, gate_words, net_words, net_word-at}
-use Rattle.blif_text.proofs.NetDrivers.{driven-net, names-differ}
+use Rattle.blif_text.proofs.Exports.{shown_words, input_words, latch_words, gate_words, net_words, net_word-at, driven-net, names-differ, reading-written}
 use Rattle.est_base.specs.declared.bounds.TheConstants.Limits.{TEXT_BYTES}
 use Rattle.blif_read.specs.declared.refusal.BlifError.{BlifError}
 use Rattle.blif_read.specs.declared.refusal.BlifError.TheVariants as answers
 use Rattle.blif_text.specs.Circuits.{reading}
 use Rattle.blif_read.specs.Reads.{ReadsFault}
 use Rattle.blif_text.specs.Written.{written, Means}
-use Rattle.net_ir.proofs.Numbered.{length-numbered, get_or-numbered}
+use Rattle.net_ir.proofs.Exports.{length-numbered, get_or-numbered, net_cases}
 use Rattle.net_ir.specs.Numbered.{numbered}
 use Rattle.net_ir.specs.Writing.{IsWritable}
-use Rattle.net_ir.proofs.Nets.{net_cases}
-use Rattle.blif_text.proofs.NetSpelling.{reading-written}
 use Rattle.blif_run.specs.declared.refusal.RunError.{RunError}
 use Rattle.blif_run.specs.declared.refusal.RunError.TheVariants as errors
 use Rattle.blif_run.specs.Loops.{HasNoLoop, LoopFault, equation_of}
 use Rattle.blif_run.specs.Tracing.{IsCircuitOf}
 use Rattle.step_run.specs.Equations.{Equation}
-use Rattle.step_run.proofs.Places.{place-at}
-use Rattle.step_run.proofs.NoLoops.{IsRising, rising-no_loop}
+use Rattle.step_run.proofs.Exports.{place-at, IsRising, rising-no_loop}
 use Rattle.blif_run.specs.Truths.{no_table}
 
 -- a name stands among the first ones

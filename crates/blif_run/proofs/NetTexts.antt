@@ -12,11 +12,11 @@ use Rattle.net_ir.specs.declared.netlist.NetOut.{NetOut}
 use Rattle.net_ir.specs.Netlists.{Netlist}
 use Rattle.net_ir.specs.Gates.{value_in}
 use Rattle.net_ir.specs.Runs.{Shown, shown, net_run, net_values_run}
-use Rattle.net_ir.proofs.Building.{all_differ-append}
+use Rattle.net_ir.proofs.Exports.{all_differ-append}
 use Rattle.blif_text.specs.Circuits.{Circuit, CircuitLatch, Table}
 use Rattle.blif_text.specs.Runs.{IsRun}
 use Rattle.blif_text.specs.Written.{output_word, paused_word}
-use Rattle.blif_text.proofs.Described.{described-sound}
+use Rattle.blif_text.proofs.Exports.{described-sound}
 use Rattle.blif_run.specs.CircuitAnswers.{tells_pause, listed_count, answer_of, circuit_shows}
 use Rattle.blif_run.specs.Loops.{IsDescribed}
 use Rattle.blif_run.specs.Runners.{Runner, IsFresh}

@@ -6,12 +6,12 @@ use Rattle.std.proofs.Math.Seq.{take-append_seam, drop-append_seam}
 use Rattle.std.proofs.lemmas.List.{length-map, map-append}
 use Rattle.blif_text.specs.Circuits.{Circuit, CircuitLatch, Table}
 use Rattle.blif_text.specs.Runs.{IsInstant, driven_names, table_value, circuit_latches}
-use Rattle.blif_text.proofs.Described.{IsSound}
+use Rattle.blif_text.proofs.Exports.{IsSound}
 use Rattle.step_run.specs.Equations.{Equation}
 use Rattle.step_run.specs.Steps.{AreSolved}
 use Rattle.step_run.specs.Solvers.{AreSlots}
 use Rattle.step_run.specs.Registers.{Frame, Advances, IsBegun}
-use Rattle.step_run.proofs.Reacting.{reaction}
+use Rattle.step_run.proofs.Exports.{reaction}
 use Rattle.blif_run.specs.Loops.{equation_of, equations_of}
 use Rattle.blif_run.specs.Plans.{given_names, IsPlan}
 use Rattle.blif_run.specs.Runners.{Reacts, IsFresh}

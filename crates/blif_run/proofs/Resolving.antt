@@ -6,12 +6,12 @@ use Rattle.std.proofs.lemmas.List.Elements.{recursion_from_All}
 use Rattle.net_ir.specs.NameLists.{is_among}
 use Rattle.blif_text.specs.Circuits.{Circuit, CircuitLatch, Table}
 use Rattle.blif_text.specs.Runs.{driven_names}
-use Rattle.blif_text.proofs.Described.{IsSound}
+use Rattle.blif_text.proofs.Exports.{IsSound}
 use Rattle.step_run.specs.Slots.{slot_in}
 use Rattle.step_run.specs.Plans.{Planned, Makes}
 use Rattle.step_run.specs.Order.{IsEvaluationOrder, slots_read}
 use Rattle.step_run.specs.Solvers.{IsResolved, equation_edges, ordered_steps}
-use Rattle.step_run.proofs.Resolving.{reads-count, slots-are}
+use Rattle.step_run.proofs.Exports.{reads-count, slots-are}
 use Rattle.blif_run.specs.Loops.{equation_of, equations_of}
 use Rattle.blif_run.specs.Plans.{IsPlan, given_names, all_names}
 use Rattle.blif_run.specs.Truths.{step_at}

@@ -6,12 +6,12 @@ use Rattle.std.proofs.lemmas.List.{get_or-map, length-map}
 use Rattle.est_base.specs.Names.{is_same_name}
 use Rattle.est_base.specs.Items.{Item, Event}
 use Rattle.machines.specs.Machines.{Shows}
-use Rattle.machines.proofs.Showing.{shows-event, shows-reset}
+use Rattle.machines.proofs.Exports.{shows-event, shows-reset}
 use Rattle.blif_text.specs.NameLists.{is_among}
 use Rattle.blif_text.specs.Circuits.{Circuit}
 use Rattle.blif_text.specs.Runs.{IsInstant, circuit_machine, circuit_latches, driven_names}
-use Rattle.blif_text.proofs.NameLists.{found-low, found-at}
-use Rattle.blif_text.proofs.Described.{IsSound, described-sound}
+use Rattle.net_ir.proofs.Exports.{found-low, found-at}
+use Rattle.blif_text.proofs.Exports.{IsSound, described-sound}
 use Rattle.blif_run.specs.CircuitAnswers.{tells_pause, listed_count, answer_of, circuit_answer, circuit_shows}
 use Rattle.blif_run.specs.Loops.{IsDescribed}
 use Rattle.blif_run.specs.Runners.{Runner, IsFresh, Reacts, Resets}

@@ -10,8 +10,7 @@ use Rattle.blif_text.specs.Circuits.{Table}
 use Rattle.blif_text.specs.Runs.{cell_fits, row_fits, table_value}
 use Rattle.step_run.specs.Slots.{slot_in, value_at, memory_in}
 use Rattle.step_run.specs.Plans.{number_of, digits, looked_up}
-use Rattle.step_run.proofs.Makings.{through}
-use Rattle.step_run.proofs.TermValues.{number-below, digits-number}
+use Rattle.step_run.proofs.Exports.{through, number-below, digits-number}
 use Rattle.blif_run.specs.Truths.{truth_at, truth_of}
 
 -- ---- looking up

@@ -10,13 +10,12 @@ use Rattle.facts.proofs.Lists.{all-split}
 use Rattle.facts.proofs.Tests.{or-swapped}
 use Rattle.est_base.specs.Names.{is_same_name}
 use Rattle.est_base.specs.Distinct.{all_differ, none_shared}
-use Rattle.est_base.proofs.SameNames.{same_name-is, same_name-self}
-use Rattle.net_ir.proofs.Building.{all_differ-append}
+use Rattle.est_base.proofs.Exports.{same_name-is, same_name-self}
+use Rattle.net_ir.proofs.Exports.{all_differ-append, SameNames}
 use Rattle.blif_text.specs.Lines.{Line, is_clean, words, read_lines}
 use Rattle.blif_text.specs.Statements.{Statement, Model, Inputs, Outputs, Latch, Names, Row, End, Said, said, said_in, said_by, statement_of}
 use Rattle.blif_text.specs.Statements.{model_of, latch_of, names_of, name_before, table_of, end_of, table_row, bit_of, cells_of}
 use Rattle.net_ir.specs.NameLists.{is_among, first_again}
-use Rattle.net_ir.proofs.NameLists.{SameNames}
 use Rattle.blif_text.specs.Circuits.{Circuit, CircuitLatch, circuit_of, inputs_in, outputs_in, latches_in, tables_of, driven_by, used_by}
 use Rattle.blif_text.specs.Circuits.{driven_again, not_driven, reading, statements, unless, Fault}
 use Rattle.blif_text.specs.Runs.{driven_names}

@@ -8,7 +8,7 @@ use Rattle.net_ir.specs.NameLists.{is_among}
 use Rattle.net_ir.specs.Netlists.{Netlist}
 use Rattle.net_ir.specs.Numbered.{numbered}
 use Rattle.net_text.specs.Parts.{joined}
-use Rattle.net_text.proofs.Joined.{joined-numbered, joined-mapped, joined-each, joined-one, joined-last, count-numbered, count-mapped}
+use Rattle.net_text.proofs.Exports.{joined-numbered, joined-mapped, joined-each, joined-one, joined-last, count-numbered, count-mapped}
 use Rattle.blif_text.specs.Circuits.{CircuitLatch, Table}
 use Rattle.blif_text.specs.Statements.{Statement, Model, Outputs, End}
 use Rattle.blif_text.specs.Spelled.{text_of, line_text, spelled, table_statements, latch_statement, inputs_statements}

@@ -1,16 +1,16 @@
 -- what callers cite of names among others
-pub use Rattle.net_ir.proofs.NameLists
-pub mod WordBytes
-pub mod SpelledLines
-pub mod ReadsBack
-pub mod SaidNames
-pub mod Described
-pub mod Joins
-pub mod RoundTrip
-pub mod NetNames
-pub mod NetDrivers
-pub mod NetSpelling
-pub mod NetInstants
-pub mod NetRuns
+mod WordBytes
+mod SpelledLines
+mod ReadsBack
+mod SaidNames
+mod Described
+mod Joins
+mod RoundTrip
+mod NetNames
+mod NetDrivers
+mod NetSpelling
+mod NetInstants
+mod NetRuns
 pub mod TextLengths
 mod worked
+pub mod Exports

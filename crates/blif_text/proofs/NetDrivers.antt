@@ -21,13 +21,11 @@ use Rattle.blif_text.specs.Circuits.{CircuitLatch, Table}
 use Rattle.blif_text.specs.Runs.{driven_names}
 use Rattle.blif_text.specs.Written.{output_word, input_word, latch_word, gate_word, net_word, paused_word, net_latch, copy_table, input_table}
 use Rattle.blif_text.specs.Written.{gate_table, output_table, net_tables, net_circuit}
-use Rattle.net_ir.proofs.NameLists.{none_shared-front, none_shared-nil}
+use Rattle.net_ir.proofs.Exports.{none_shared-front, none_shared-nil, list_all-from_All, All-numbered, map-numbered, Apart, TellsGates, apart-by, apart-left}
+use Rattle.net_ir.proofs.Exports.{apart-right, differ, differ-decimal, gates-differ, joined-differ, numbered-differ}
 use Rattle.blif_text.proofs.NetNames.{shown_words, input_words, latch_words, gate_words}
-use Rattle.net_ir.proofs.Numbered.{list_all-from_All, All-numbered, map-numbered}
 use Rattle.net_ir.specs.Numbered.{numbered}
 use Rattle.net_ir.specs.Writing.{IsWritable}
-use Rattle.net_ir.proofs.NumberedNames.{Apart, TellsGates, apart-by, apart-left, apart-right, differ, differ-decimal}
-use Rattle.net_ir.proofs.NumberedNames.{gates-differ, joined-differ, numbered-differ}
 
 -- ---- the second letter tells the kinds of names apart
 

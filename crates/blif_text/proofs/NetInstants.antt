@@ -12,16 +12,15 @@ use Rattle.net_ir.specs.declared.netlist.Latch.{Latch}
 use Rattle.net_ir.specs.Gates.{op_value, value_in, gate_values, Solves}
 use Rattle.net_ir.specs.Netlists.{Netlist, first_gate, net_count}
 use Rattle.net_ir.specs.Runs.{net_values}
-use Rattle.net_ir.proofs.Values.{op_value-same, Solves-gate_values, gate_values-from_Solves}
+use Rattle.net_ir.proofs.Exports.{op_value-same, Solves-gate_values, gate_values-from_Solves, length-numbered, get_or-numbered, map-numbered, All-numbered}
+use Rattle.net_ir.proofs.Exports.{numbered-at}
 use Rattle.blif_text.specs.Circuits.{CircuitLatch, Table}
 use Rattle.blif_text.specs.Runs.{table_value, IsInstant}
 use Rattle.blif_text.specs.Written.{output_word, net_word, paused_word, operands, op_rows, copy_table, input_table, gate_table, output_table, net_latch}
 use Rattle.blif_text.specs.Written.{net_tables, net_circuit, input_word, latch_word, gate_word}
 use Rattle.blif_text.proofs.NetNames.{shown_words, input_words, latch_words, gate_words, net_words, length-net_words, net_word-at, at-gate}
-use Rattle.net_ir.proofs.Numbered.{length-numbered, get_or-numbered, map-numbered, All-numbered}
 use Rattle.net_ir.specs.Numbered.{numbered}
 use Rattle.net_ir.specs.Writing.{IsWritable}
-use Rattle.net_ir.proofs.Nets.{numbered-at}
 
 -- ---- what the tables give
 

@@ -19,10 +19,9 @@ use Rattle.blif_text.specs.Lines.{is_word_byte}
 use Rattle.net_ir.specs.NameLists.{is_among}
 use Rattle.blif_text.specs.Written.{output_word, input_word, latch_word, gate_word, net_word}
 use Rattle.blif_text.proofs.WordBytes.{is_word, is_word-name, decimal_bytes}
-use Rattle.net_ir.proofs.Numbered.{list_all-parts, list_all-from_All, list_all-get_or, length-numbered, get_or-numbered, All-numbered}
+use Rattle.net_ir.proofs.Exports.{list_all-parts, list_all-from_All, list_all-get_or, length-numbered, get_or-numbered, All-numbered, net_cases}
 use Rattle.net_ir.specs.Numbered.{numbered}
 use Rattle.net_ir.specs.Writing.{IsWritable}
-use Rattle.net_ir.proofs.Nets.{net_cases}
 
 -- the names of the outputs in the text
 abbrev pub shown_words : Netlist → List (List ℕ)

@@ -12,16 +12,14 @@ use Rattle.est_base.specs.Names.{is_same_name}
 use Rattle.net_ir.specs.Gates.{value_in}
 use Rattle.net_ir.specs.Netlists.{Netlist, first_gate, net_count}
 use Rattle.net_ir.specs.Runs.{Shown, net_values, next_latches, initial_latches, values_from, net_values_run, shown}
-use Rattle.net_ir.proofs.Values.{take-gate_values}
+use Rattle.net_ir.proofs.Exports.{take-gate_values, length-numbered, map-numbered, numbered-map, looked_up, map-looked_up, gate_part, length-gate_part}
+use Rattle.net_ir.proofs.Exports.{output_part, told-values, told_from}
 use Rattle.blif_text.specs.Circuits.{CircuitLatch}
 use Rattle.blif_text.specs.Runs.{IsInstant, circuit_latches, IsRunFrom, IsRun, driven_names}
 use Rattle.blif_text.specs.Written.{output_word, net_word, paused_word, net_latch, output_words, net_circuit, input_word, latch_word, gate_word, written, Means}
 use Rattle.blif_text.proofs.NetNames.{shown_words, input_words, latch_words, gate_words, net_words-numbers}
 use Rattle.blif_text.proofs.NetDrivers.{driven-net, names-differ}
-use Rattle.net_ir.proofs.Numbered.{length-numbered, map-numbered, numbered-map}
 use Rattle.net_ir.specs.Writing.{IsWritable}
-use Rattle.net_ir.proofs.NameLists.{looked_up, map-looked_up}
-use Rattle.net_ir.proofs.Nets.{gate_part, length-gate_part, output_part, told-values, told_from}
 use Rattle.blif_text.proofs.NetSpelling.{reading-written}
 use Rattle.blif_text.proofs.NetInstants.{Holds, Holds-from_instant, instant-from_Holds, value-word}
 

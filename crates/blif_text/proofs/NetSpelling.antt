@@ -12,7 +12,7 @@ use Rattle.net_ir.specs.declared.netlist.Gate.{Gate}
 use Rattle.net_ir.specs.declared.netlist.Latch.{Latch}
 use Rattle.est_base.specs.Distinct.{all_differ}
 use Rattle.est_base.specs.Names.{is_same_name}
-use Rattle.est_base.proofs.SameNames.{same_name-self}
+use Rattle.est_base.proofs.Exports.{same_name-self}
 use Rattle.net_ir.specs.Gates.{operand_end}
 use Rattle.net_ir.specs.Netlists.{Netlist, net_count}
 use Rattle.net_ir.specs.NameLists.{is_among}
@@ -24,8 +24,8 @@ use Rattle.blif_text.proofs.RoundTrip.{HasSpelling, latch_fits, table_fits, used
 use Rattle.blif_text.proofs.NetNames.{shown_words, input_words, latch_words, gate_words, net_words, length-net_words, net_word-at}
 use Rattle.blif_text.proofs.NetNames.{is_word-net_word, is_word-gate, words-inputs, words-outputs, is_word-output}
 use Rattle.blif_text.proofs.NetDrivers.{table_names, driven-net, names-differ}
-use Rattle.net_ir.proofs.Numbered.{list_all-parts, list_all-from_All, list_all-get_or, list_all-flat_map, list_any-left, list_any-right}
-use Rattle.net_ir.proofs.Numbered.{All-numbered, map-numbered}
+use Rattle.net_ir.proofs.Exports.{list_all-parts, list_all-from_All, list_all-get_or, list_all-flat_map, list_any-left, list_any-right, All-numbered}
+use Rattle.net_ir.proofs.Exports.{map-numbered}
 use Rattle.net_ir.specs.Numbered.{numbered}
 use Rattle.net_ir.specs.Writing.{IsWritable}
 

@@ -11,12 +11,11 @@ use Rattle.est_base.specs.Names.{is_same_name}
 use Rattle.blif_text.specs.Statements.{Cell, Statement, Model, Inputs, Outputs, Names, Row, End, is_end, row_may_follow}
 use Rattle.blif_text.specs.Circuits.{Circuit, CircuitLatch, Table, leading_rows, tables_of, inputs_in, outputs_in, latches_in, circuit_of, driven_by, used_by}
 use Rattle.net_ir.specs.NameLists.{is_among, first_again}
-use Rattle.net_ir.proofs.NameLists.{once-differ}
+use Rattle.net_ir.proofs.Exports.{once-differ, list_all-parts}
 use Rattle.blif_text.specs.Circuits.{driven_again, not_driven, reading}
 use Rattle.blif_text.specs.Spelled.{inputs_statements, latch_statement, table_statements, head_statements, circuit_statements, circuit_text}
 use Rattle.blif_text.specs.Runs.{driven_names}
 use Rattle.blif_text.proofs.WordBytes.{is_word}
-use Rattle.net_ir.proofs.Numbered.{list_all-parts}
 use Rattle.blif_text.proofs.ReadsBack.{spellable, accepted, reading-text_of}
 
 -- ---- circuits that have a spelling

@@ -19,7 +19,7 @@ use Rattle.net_ir.specs.NameLists.{is_among}
 use Rattle.net_ir.specs.Netlists.{Netlist, net_count, output_names}
 use Rattle.net_ir.specs.Numbered.{numbered}
 use Rattle.net_ir.specs.Writing.{IsWritable}
-use Rattle.net_ir.proofs.Numbered.{length-numbered, All-numbered}
+use Rattle.net_ir.proofs.Exports.{length-numbered, All-numbered}
 use Rattle.blif_text.specs.Circuits.{Table}
 use Rattle.blif_text.specs.Statements.{Cell, Statement, Model, Inputs, Outputs, Names, Row, End}
 use Rattle.blif_text.specs.Statements as statements

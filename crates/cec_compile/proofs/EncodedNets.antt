@@ -9,14 +9,13 @@ use Rattle.grc_graph.specs.GraphRuns.{program_wires}
 use Rattle.grc_graph.specs.SelectionTrees.{body_leaves, body_tree}
 use Rattle.grc_graph.specs.TreeForms.{node_of}
 use Rattle.grc_graph.specs.Walk.{Initial}
-use Rattle.grc_sem.proofs.Instants.{next_state_is_kept_lem}
-use Rattle.grc_sem.proofs.Premises.{program_kernel}
-use Rattle.grc_solutions.proofs.OneRun.{graph_runs_exist_lem}
-use Rattle.enc_laws.proofs.FormedLatches.{latches-formed}
+use Rattle.grc_sem.proofs.Exports.{next_state_is_kept_lem, program_kernel}
+use Rattle.grc_solutions.proofs.Exports.{graph_runs_exist_lem}
+use Rattle.enc_laws.proofs.Exports.{latches-formed}
 use Rattle.net_ir.specs.Gates.{carried}
 use Rattle.net_ir.specs.Netlists.{Netlist, output_names}
 use Rattle.net_ir.specs.Runs.{netlist_of, initial_latches}
-use Rattle.net_ir.proofs.Numbered.{length-numbered}
+use Rattle.net_ir.proofs.Exports.{length-numbered}
 use Rattle.net_simp.specs.SameRuns.{SameParts, SameRuns}
 use Rattle.net_simp.specs.SimpleNets.{IsSimple}
 use Rattle.state_enc.specs.EncodedCounts.{encoded_bits, encoded_count}

@@ -10,7 +10,7 @@ use Rattle.est_kernel.specs.Plain.{Program}
 use Rattle.grc_dep.specs.Cycles.{numbered, numbers_of}
 use Rattle.grc_graph.specs.declared.graph.Graph.{Graph}
 use Rattle.grc_graph.specs.BuiltGraphs.{IsGraphOf}
-use Rattle.grc_graph.proofs.BuiltReads.{formulas_each}
+use Rattle.grc_graph.proofs.Exports.{formulas_each}
 use Rattle.grc_graph.specs.Edges.{Edge, edge}
 use Rattle.grc_graph.specs.GraphRuns.{graph_of, program_edges, program_wires}
 use Rattle.grc_graph.specs.NumberedEdges.{AreEdgesOf}
@@ -21,7 +21,7 @@ use Rattle.grc_graph.specs.WireNames.{WireName, wire_name}
 use Rattle.grc_graph.specs.WireOrders.{WireEdge, AreRanks, IsWireOrder}
 use Rattle.grc_graph.specs.Wires.{Wire}
 use Rattle.grc_solutions.specs.NumberedGraphs.{formulas_of}
-use Rattle.grc_solutions.proofs.Numbers.{wire_orders_are_reading_orders_lem, wire_ranks_go_up_lem}
+use Rattle.grc_solutions.proofs.Exports.{wire_orders_are_reading_orders_lem, wire_ranks_go_up_lem}
 use Rattle.cec_compile.specs.Cycles.{LeadsBack, IsCycle, ShowsCycle, IsAcyclic}
 
 -- ---- wires and formulas

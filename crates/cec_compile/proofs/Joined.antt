@@ -11,7 +11,7 @@ use Rattle.est_kernel.specs.Plain.{Program, program_of, given_count, interface_o
 use Rattle.est_kernel.specs.Sizes.{size_of}
 use Rattle.est_kernel.specs.StaticCodes.{NoInstantLoop}
 use Rattle.est_kernel.specs.WellFormed as programs
-use Rattle.est_kernel.proofs.ResidualLaws.{trees_are_kernels_lem}
+use Rattle.est_kernel.proofs.Exports.{trees_are_kernels_lem}
 use Rattle.blif_text.specs.Written.{Means}
 use Rattle.csub_text.specs.Written as c_meant
 use Rattle.vlog_text.specs.Written as verilog_meant
@@ -23,8 +23,7 @@ use Rattle.grc_graph.specs.declared.orders.Edges.{Edges}
 use Rattle.grc_graph.specs.declared.orders.Order.{Order}
 use Rattle.grc_graph.specs.declared.orders.Ranks.{Ranks}
 use Rattle.grc_graph.specs.BuiltGraphs.{IsGraphOf}
-use Rattle.grc_graph.proofs.BuiltReads.{next_each}
-use Rattle.grc_graph.proofs.TreeLaws.{tree_numbers}
+use Rattle.grc_graph.proofs.Exports.{next_each, tree_numbers}
 use Rattle.grc_graph.specs.GraphRuns.{program_edges, program_spots, program_wires}
 use Rattle.grc_dep.specs.Cycles.{numbered, numbers_of}
 use Rattle.grc_graph.specs.Edges.{Edge}
@@ -37,7 +36,7 @@ use Rattle.grc_graph.specs.Reads.{IsReadingOrder}
 use Rattle.grc_graph.specs.SelectionTrees.{body_leaves, body_tree}
 use Rattle.grc_graph.specs.TreeForms.{node_of}
 use Rattle.grc_graph.specs.WireOrders.{WireEdge, AreRanks, IsWireOrder}
-use Rattle.grc_sem.proofs.Premises.{program_kernel}
+use Rattle.grc_sem.proofs.Exports.{program_kernel}
 use Rattle.grc_words.specs.Sizes.{rows_at_most}
 use Rattle.net_gen.specs.Costs.{gates_at_most, linear_bound}
 use Rattle.net_gen.specs.Generated.{HasInterfaceOf, FollowsInstants, FollowsRuns}

@@ -7,7 +7,7 @@ use Rattle.std.proofs.Math.Seq.{take-append_seam, get_or-append_seam}
 use Rattle.est_base.specs.Items.{Item, Event, Reset, EachEvent}
 use Rattle.est_kernel.specs.Plain.{Program, given_count, given_names, outgoing_names}
 use Rattle.est_kernel.specs.Reactions.{Answer, run_of}
-use Rattle.machines.proofs.Showing.{shows-computed}
+use Rattle.machines.proofs.Exports.{shows-computed}
 use Rattle.est_kernel.specs.StaticCodes.{NoInstantLoop}
 use Rattle.est_kernel.specs.WellFormed as programs
 use Rattle.est_kernel.specs.WellFormed.{IsWellFormed}
@@ -17,9 +17,9 @@ use Rattle.grc_graph.specs.GraphRuns.{PlainGraph, IsGraphRun, graph_of, shown}
 use Rattle.grc_graph.specs.Readings.{Valuation}
 use Rattle.grc_graph.specs.Walk.{Initial}
 use Rattle.grc_sem.specs.GraphWalks.{shown_answer}
-use Rattle.grc_sem.proofs.Premises.{program_kernel}
-use Rattle.grc_tri.proofs.Acyclic.{graph_runs_are_runs_lem}
-use Rattle.grc_solutions.proofs.OneRun.{graph_runs_exist_lem}
+use Rattle.grc_sem.proofs.Exports.{program_kernel}
+use Rattle.grc_tri.proofs.Exports.{graph_runs_are_runs_lem}
+use Rattle.grc_solutions.proofs.Exports.{graph_runs_exist_lem}
 use Rattle.net_gen.specs.Generated.{HasInterfaceOf, FollowsRuns, shown_as}
 use Rattle.net_ir.specs.declared.netlist.NetOut.{NetOut}
 use Rattle.net_ir.specs.Netlists.{Netlist}

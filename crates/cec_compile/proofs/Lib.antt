@@ -1,8 +1,9 @@
-pub mod GraphFacts
-pub mod Keeping
-pub mod NetTexts
-pub mod WalkRuns
-pub mod WireWords
-pub mod Simplified
-pub mod Joined
-pub mod EncodedNets
+mod GraphFacts
+mod Keeping
+mod NetTexts
+mod WalkRuns
+mod WireWords
+mod Simplified
+mod Joined
+mod EncodedNets
+pub mod Exports

@@ -9,8 +9,7 @@ use Rattle.grc_graph.specs.Readings.{Valuation}
 use Rattle.grc_graph.specs.Selected.{HasExitCodes, IsState}
 use Rattle.grc_graph.specs.Walk.{State, Initial, Selecting}
 use Rattle.grc_sem.specs.GraphWalks.{SelectsLeaves, graph_walk}
-use Rattle.grc_sem.proofs.Instants.{next_state_is_kept_lem}
-use Rattle.grc_sem.proofs.WalkSolves.{equations_are_the_walk_lem}
+use Rattle.grc_sem.proofs.Exports.{next_state_is_kept_lem, equations_are_the_walk_lem}
 use Rattle.cec_compile.specs.WireNames.{walk_machine}
 
 module _ (p : Program) (kernel : HasExitCodes p.body) (no_loop : NoInstantLoop p.body) where

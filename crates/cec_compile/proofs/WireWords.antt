@@ -14,7 +14,7 @@ use Rattle.blif_text.specs.Written.{Means, net_word, net_latch, gate_word}
 use Rattle.blif_text.specs.Written as written
 use Rattle.blif_text.specs.Runs.{circuit_machine}
 use Rattle.csub_text.specs.Machine.{first_memory, call, memories, program_machine}
-use Rattle.machines.proofs.Showing.{computed-only}
+use Rattle.machines.proofs.Exports.{computed-only}
 use Rattle.csub_text.specs.Written as meant
 use Rattle.csub_text.specs.Written.{gate_name, gate_names, net_state, state_name}
 use Rattle.vlog_text.specs.Written as module_meant
@@ -23,10 +23,10 @@ use Rattle.vlog_text.specs.Machine.{vlog_machine}
 use Rattle.machines.specs.Machines.{Machine, IsRun}
 use Rattle.std.specs.Prelude.{slice_get}
 use Rattle.net_ir.specs.Runs.{net_values_run}
-use Rattle.net_ir.proofs.Numbered.{get_or-numbered, length-numbered}
+use Rattle.net_ir.proofs.Exports.{get_or-numbered, length-numbered}
 use Rattle.grc_graph.specs.declared.graph.Graph.{Graph}
 use Rattle.grc_graph.specs.BuiltGraphs.{IsGraphOf}
-use Rattle.grc_graph.proofs.BuiltReads.{next_each}
+use Rattle.grc_graph.proofs.Exports.{next_each}
 use Rattle.grc_graph.specs.GraphRuns.{IsGraphRun, program_wires}
 use Rattle.est_kernel.specs.StaticCodes.{NoInstantLoop}
 use Rattle.grc_graph.specs.PlainGraphs.{names_of, plain_graph}
@@ -34,8 +34,7 @@ use Rattle.grc_graph.specs.PlainGraphs as graphs
 use Rattle.grc_graph.specs.Readings.{Valuation}
 use Rattle.grc_graph.specs.Walk.{Initial}
 use Rattle.grc_graph.specs.WireOrders.{times}
-use Rattle.grc_solutions.proofs.Numbers.{stands_at}
-use Rattle.grc_solutions.proofs.OneRun.{graph_runs_exist_lem}
+use Rattle.grc_solutions.proofs.Exports.{stands_at, graph_runs_exist_lem}
 use Rattle.grc_graph.specs.Selected.{HasExitCodes}
 use Rattle.net_gen.specs.Generated.{HasInterfaceOf, Carries, EachInstant, FollowsRuns}
 use Rattle.net_ir.specs.declared.netlist.Gate.{Gate}

@@ -12,19 +12,19 @@ use Rattle.blif_text.specs.Circuits.{Circuit}
 use Rattle.grc_graph.specs.PlainWireNames.{wire_name_of}
 use Rattle.grc_graph.specs.WireNames.{WireName}
 use Rattle.blif_run.specs.Loops.{IsLoop}
-use Rattle.cec_front.proofs.OneProgram.{one_program}
+use Rattle.cec_front.proofs.Exports.{one_program}
 use Rattle.cec_front.proofs.Unrefused as front
 use Rattle.cec_words.specs.declared.asked.Via.{Via}
 use Rattle.cec_words.specs.declared.asked.Via.TheVariants.{Blif, C, Verilog}
 use Rattle.csub_read.specs.declared.refusal.CError.TheVariants as c_faults
-use Rattle.csub_read.proofs.ReadBack.{described-are-read}
+use Rattle.csub_read.proofs.Exports.{described-are-read}
 use Rattle.csub_text.specs.Trees as c_trees
 use Rattle.trace_io.specs.declared.faults.TraceFault.{TraceFault}
 use Rattle.trace_io.specs.declared.faults.TraceFault.TheVariants as faults
 use Rattle.trace_io.specs.Answers.{IsFault, IsTrace, beginning}
 use Rattle.trace_io.specs.Traces.{Reading, Group, next_group}
 use Rattle.trace_io.specs.Traces as groups
-use Rattle.trace_run.proofs.Fronts.{front-of, front-whole}
+use Rattle.trace_run.proofs.Exports.{front-of, front-whole}
 use Rattle.blif_run.specs.declared.language.TextFault as circuits
 use Rattle.blif_run.specs.declared.language.TextFault.TheVariants.{Line, TwoDrivers, NoDriver, Loop}
 use Rattle.blif_run.specs.Texts.{ReadsCircuit, IsTextFault as IsCircuitFault}
@@ -66,7 +66,7 @@ use Rattle.cec_core.specs.Runs.{RunsSource}
 use Rattle.cec_compile.specs.Sources.{IsSource}
 use Rattle.cec_core.specs.Subjects.{LongTrace}
 use Rattle.cec_core.specs.TriRuns.{IsGraphSource, ReactsOn, ReactsOver, StopsOver, StopsTrace}
-use Rattle.text_io.proofs.Reading.{never_rose}
+use Rattle.text_io.proofs.Exports.{never_rose}
 use Rattle.cec_core.proofs.Pieces.{answer_rose}
 use Rattle.cec_core.proofs.Unrefused.{unrefused, passes_limit, within_limits}
 

@@ -4,7 +4,7 @@ use Rattle.std.specs.Prelude.{IfSome}
 use Rattle.cec_words.specs.declared.asked.Asked.{Asked}
 use Rattle.cec_words.specs.declared.asked.Asked.TheVariants as asks
 use Rattle.cec_words.specs.Readings.{asked_by}
-use Rattle.cec_words.proofs.GeneratedBranches.{AsksWell, asks-well}
+use Rattle.cec_words.proofs.Exports.{AsksWell, asks-well}
 use Rattle.cec_core.specs.Jobs.{request_asked}
 use Rattle.cec_core.specs.JobViews.{CanBeGenerated}
 

@@ -16,7 +16,7 @@ use Rattle.trace_run.specs.Languages.{word_of}
 use Rattle.trace_run.specs.Machines.{Answer, Answered}
 use Rattle.trace_run.specs.Steps.{Led}
 use Rattle.trace_run.specs.Languages.{shown_answer, IsOfNet}
-use Rattle.trace_run.proofs.Leading.{led-nowhere, led-more, led-shown}
+use Rattle.trace_run.proofs.Exports.{led-nowhere, led-more, led-shown}
 use Rattle.cec_core.specs.declared.commands.load.Counts.{Counts}
 use Rattle.cec_core.specs.Loads.{drawn_items, emitted_count, paused_count, summary_text}
 use Rattle.cec_core.specs.Loading.{present_count, pause_of, pause_count, drawn_state, counted_text, CountsOf, CountsMachine, CountsMore, CountsNet}

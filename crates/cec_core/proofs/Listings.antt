@@ -11,7 +11,7 @@ use Rattle.grc_graph.specs.SelectionTrees.{body_leaves}
 use Rattle.grc_list.specs.Listings.{program_listing}
 use Rattle.cec_compile.specs.declared.compiler.Graphed.{Graphed}
 use Rattle.cec_compile.specs.Compiling.{IsGraphed, StandsForGraph}
-use Rattle.cec_compile.proofs.Joined.{own_graph, own_source, graph_compiles}
+use Rattle.cec_compile.proofs.Exports.{own_graph, own_source, graph_compiles}
 use Rattle.cec_core.specs.Answers.{StandsForListing, StandsForCounts, counts_line}
 
 pub listing_stands : (bytes : List ℕ) (main : Option (List ℕ)) (g : Graphed) (text : List ℕ) → StandsForGraph bytes main g

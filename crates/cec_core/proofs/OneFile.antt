@@ -18,7 +18,7 @@ use Rattle.cec_compile.specs.declared.refusal.Refusal as refused
 use Rattle.cec_compile.specs.declared.refusal.Refusal.TheVariants as refusals
 use Rattle.cec_core.specs.Answers.{IsAnswer}
 use Rattle.text_io.specs.Contents.{Content, IsHeld}
-use Rattle.text_io.proofs.Reading.{long_unread, some_bytes, held_by, held_told}
+use Rattle.text_io.proofs.Exports.{long_unread, some_bytes, held_by, held_told}
 use Rattle.cec_core.specs.Jobs.{Job, Request, Help, Make, Run, RunTri, Exec, Generate, Load}
 use Rattle.cec_core.specs.Lines.{Subject, line_of, IsSourceSubject, IsSubjectOf, GainsErr}
 use Rattle.cec_core.specs.Outcomes.{MakesOn, Agrees, IsFileOf, CountsFiles, LeavesText, LeavesAnswer, IsTextOf, GainsOut}

@@ -33,8 +33,8 @@ use Rattle.cec_core.specs.Runs.{ShowsRun}
 use Rattle.cec_core.specs.Statuses.{outcome_of}
 use Rattle.cec_core.specs.Subjects.{unread_outcome, CountsTrace, LongTrace}
 use Rattle.cec_core.specs.TriRuns.{IsGraphSource, ReactsOn, ReactsOver, StopsOver, StopsTrace, LeavesReactions}
-use Rattle.cec_compile.proofs.Joined.{own_built}
-use Rattle.text_io.proofs.Reading.{long_unread, some_bytes}
+use Rattle.cec_compile.proofs.Exports.{own_built}
+use Rattle.text_io.proofs.Exports.{long_unread, some_bytes}
 use Rattle.cec_core.proofs.TwoFiles.{leaves_as}
 
 -- ---- graphs that are not there

@@ -13,7 +13,7 @@ use Rattle.trace_run.specs.Machines.{answer_lines}
 use Rattle.trace_run.specs.Languages.{shown_answer, ShowsNet}
 use Rattle.est_base.specs.SinkChanges.{SinkChange}
 use Rattle.trace_run.specs.Running.{RunsTrace}
-use Rattle.trace_run.proofs.Events.{events-fit, runs-along}
+use Rattle.trace_run.proofs.Exports.{events-fit, runs-along}
 use Rattle.cec_compile.specs.Meaning.{AreItems}
 use Rattle.cec_compile.specs.NetMeaning.{net_seen, NetKeeps}
 use Rattle.cec_core.specs.Runs.{line_answer, ShowsRun}

@@ -9,7 +9,7 @@ use Rattle.est_base.specs.Items.{Item, Event, Reset}
 use Rattle.est_base.specs.Relations.{MeetsAll}
 use Rattle.est_base.specs.SinkChanges.{SinkChange, IsUntouched}
 use Rattle.est_base.specs.Writing.{Appends, Gains}
-use Rattle.est_base.proofs.Gains.{appends-nothing, appends-twice}
+use Rattle.est_base.proofs.Exports.{appends-nothing, appends-twice}
 use Rattle.est_kernel.specs.Plain.{Program, interface_of, outgoing_count, outgoing_names, program_of}
 use Rattle.est_kernel.specs.Reactions.{Answer, before, goes_on, run_from, run_of}
 use Rattle.grc_graph.specs.declared.graph.Graph.{Graph}
@@ -30,11 +30,8 @@ use Rattle.trace_run.specs.Languages.{word_of}
 use Rattle.trace_run.specs.Machines as machines
 use Rattle.trace_run.specs.Machines.{Answered, Brings, answer_lines}
 use Rattle.trace_run.specs.Steps.{Led, Leads, LineCame}
-use Rattle.trace_run.proofs.Groups.{Fits, fits-next}
-use Rattle.trace_run.proofs.Leading.{front-leads, leads-more}
-use Rattle.trace_run.proofs.Stepping.{SoFar, over, run-stops, step-event}
+use Rattle.trace_run.proofs.Exports.{Fits, fits-next, front-leads, leads-more, SoFar, over, run-stops, step-event, lines-of}
 use Rattle.tri_run.specs.Runners.{IsFresh, Resets, Runner, Steps, program_in, state_in, unknown_wires}
-use Rattle.trace_run.proofs.Fronts.{lines-of}
 use Rattle.cec_core.specs.MarkedWires.{marked_of}
 use Rattle.cec_core.specs.declared.reactions.ReactionFault.{ReactionFault}
 use Rattle.cec_core.specs.declared.reactions.ReactionFault.TheVariants.{Run, NotConstructive}

@@ -7,14 +7,14 @@ use Rattle.est_base.specs.SinkChanges.{SinkChange}
 use Rattle.est_kernel.specs.Plain.{Program, given_names, interface_of}
 use Rattle.est_kernel.specs.Reactions.{Answer, run_of}
 use Rattle.grc_graph.specs.PlainWireNames.{wire_name_of}
-use Rattle.cec_front.proofs.OneProgram.{one_program}
+use Rattle.cec_front.proofs.Exports.{one_program}
 use Rattle.cec_front.proofs.Unrefused as front
 use Rattle.trace_io.specs.declared.faults.TraceFault.{TraceFault}
 use Rattle.trace_io.specs.Answers.{IsTrace, beginning}
 use Rattle.trace_io.specs.Traces.{Reading}
 use Rattle.trace_run.specs.declared.running.RunFault.TheVariants as runs
 use Rattle.trace_run.specs.Running.{IsFront, RunsTrace}
-use Rattle.trace_run.proofs.Fronts.{front-of}
+use Rattle.trace_run.proofs.Exports.{front-of}
 use Rattle.cec_core.specs.declared.outcome.Outcome.{Outcome}
 use Rattle.cec_core.specs.declared.outcome.Outcome.TheVariants.{Done, Usage, FileFault, Static, Cyclic, Trace, BadText, Limit, WriteFault, NoMemory}
 use Rattle.cec_core.specs.declared.outcome.Outcome.TheVariants.{NotConstructive}

@@ -12,8 +12,8 @@ use Rattle.est_base.specs.Relations.{Relation, relation_of}
 use Rattle.est_kernel.specs.Plain.{Program, given_count, outgoing_count}
 use Rattle.grc_graph.specs.declared.graph.Graph.{Graph}
 use Rattle.grc_graph.specs.SelectionTrees.{body_leaves, resumes}
-use Rattle.grc_graph.proofs.CodeReads.{statement_count-le}
-use Rattle.grc_select.proofs.Growth.{length-leaf_paths}
+use Rattle.grc_graph.proofs.Exports.{statement_count-le}
+use Rattle.grc_select.proofs.Exports.{length-leaf_paths}
 use Rattle.net_ir.specs.declared.netlist.Gate.{Gate}
 use Rattle.net_ir.specs.Gates.{carried}
 use Rattle.net_ir.specs.Netlists.{Netlist, output_names}
@@ -33,8 +33,8 @@ use Rattle.cec_compile.specs.Compiling.{IsCompiled, StandsForNet}
 use Rattle.cec_compile.specs.MadeNets.{IsMade}
 use Rattle.cec_core.specs.NetTexts.{IsWritten, TextsFit}
 use Rattle.cec_compile.specs.Sources.{WritesLongText}
-use Rattle.cec_compile.proofs.GraphFacts.{wire_count}
-use Rattle.cec_front.proofs.SourceNames.{HasRoom, source-room, given-room, outgoing-room}
+use Rattle.cec_compile.proofs.Exports.{wire_count}
+use Rattle.cec_front.proofs.Exports.{HasRoom, source-room, given-room, outgoing-room}
 
 -- ---- what is counted of the netlist of a compiled program
 

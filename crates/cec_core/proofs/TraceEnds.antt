@@ -15,7 +15,7 @@ use Rattle.grc_graph.specs.declared.graph.Graph.{Graph}
 use Rattle.grc_graph.specs.BuiltGraphs.{IsGraphOf}
 use Rattle.grc_graph.specs.PlainWireNames.{wire_name_of}
 use Rattle.grc_graph.specs.Walk.{Initial}
-use Rattle.net_ir.proofs.Building.{all_differ-append}
+use Rattle.net_ir.proofs.Exports.{all_differ-append}
 use Rattle.trace_io.specs.Answers.{beginning}
 use Rattle.trace_io.specs.Traces.{Reading}
 use Rattle.trace_run.specs.declared.running.Interface.{Interface}
@@ -23,7 +23,7 @@ use Rattle.trace_run.specs.declared.running.RunFault.{RunFault}
 use Rattle.trace_run.specs.declared.running.RunFault.TheVariants as runs
 use Rattle.trace_run.specs.Machines.{Brings, answer_lines}
 use Rattle.trace_run.specs.Running.{IsFront, RunsTrace}
-use Rattle.trace_run.proofs.Stepping.{runs-so}
+use Rattle.trace_run.proofs.Exports.{runs-so}
 use Rattle.tri_run.specs.Runners.{Runner, state_in}
 use Rattle.cec_core.specs.declared.outcome.Outcome.{Outcome}
 use Rattle.cec_core.specs.declared.outcome.Outcome.TheVariants as outcomes

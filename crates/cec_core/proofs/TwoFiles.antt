@@ -32,7 +32,7 @@ use Rattle.cec_core.specs.Runs.{RunsSource, LeavesRun}
 use Rattle.cec_compile.specs.Sources.{IsSource}
 use Rattle.cec_core.specs.Statuses.{outcome_of}
 use Rattle.cec_core.specs.Subjects.{unread_outcome, run_outcome, CountsTrace, LongTrace}
-use Rattle.text_io.proofs.Reading.{long_unread, some_bytes}
+use Rattle.text_io.proofs.Exports.{long_unread, some_bytes}
 
 -- ---- behind the first file
 

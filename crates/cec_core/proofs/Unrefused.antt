@@ -8,7 +8,7 @@ use Rattle.grc_graph.specs.Instances.{body_instances}
 use Rattle.grc_graph.specs.Orders.{GoUp}
 use Rattle.grc_graph.specs.WireNames.{WireName}
 use Rattle.grc_graph.specs.Wires.{Wire}
-use Rattle.cec_front.proofs.OneProgram.{one_program}
+use Rattle.cec_front.proofs.Exports.{one_program}
 use Rattle.cec_front.proofs.Unrefused as front
 use Rattle.cec_front.specs.declared.refusal.Quantity.{Quantity}
 use Rattle.cec_front.specs.declared.refusal.Quantity.TheVariants as quantities

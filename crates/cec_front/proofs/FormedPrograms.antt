@@ -11,11 +11,11 @@ use Rattle.est_kernel.specs.WellFormed.{IsWellFormed, HasNames}
 use Rattle.est_ast.specs.Trees as source
 use Rattle.est_ast.specs.FlatTrees.{Flat}
 use Rattle.est_names.specs.NameFaults.{main_place, module_names, interface_faults}
-use Rattle.est_names.proofs.FaultlessModules.{faultless-interface}
+use Rattle.est_names.proofs.Exports.{faultless-interface}
 use Rattle.est_expand.specs.FlatPrograms as expanding
-use Rattle.est_expand.proofs.FlatLaws.{flattened-fits, flattened-named}
+use Rattle.est_expand.proofs.Exports.{flattened-fits, flattened-named}
 use Rattle.est_dismantle.specs.FlatPrograms.{IsFlat}
-use Rattle.est_dismantle.proofs.Expanded.{expansion-well_formed, expansion-names}
+use Rattle.est_dismantle.proofs.Exports.{expansion-well_formed, expansion-names}
 use Rattle.cec_front.specs.Sources.{main_module, Flattens, Expands}
 use Rattle.cec_front.proofs.Named.{modules_named}
 

@@ -1,10 +1,11 @@
-pub mod Written
-pub mod TokenCounts
-pub mod FlatFaults
-pub mod MainModules
-pub mod Named
-pub mod SourceWeights
-pub mod SourceNames
-pub mod FormedPrograms
-pub mod OneProgram
+mod Written
+mod TokenCounts
+mod FlatFaults
+mod MainModules
+mod Named
+mod SourceWeights
+mod SourceNames
+mod FormedPrograms
+mod OneProgram
 pub mod Unrefused
+pub mod Exports

@@ -4,7 +4,7 @@ use Rattle.std.specs.Prelude.{slice_get, option_and_then}
 use Rattle.std.proofs.lemmas.List.{length-map}
 use Rattle.est_ast.specs.Trees.{Program, Module}
 use Rattle.est_names.specs.NameFaults.{main_place, module_names}
-use Rattle.est_names.proofs.MainPlaces.{main_place-within}
+use Rattle.est_names.proofs.Exports.{main_place-within}
 use Rattle.cec_front.specs.Sources.{main_module}
 
 get_there : (program : Program) (place : ℕ) → place < length program → (m : Module) × slice_get program place ≡ Some m

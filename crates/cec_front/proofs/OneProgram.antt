@@ -6,12 +6,12 @@ use Rattle.est_ast.specs.Lexing.{Lexing, Tokens, BadByte, OpenComment, BigNumber
 use Rattle.est_ast.specs.Nesting.{IsProgram}
 use Rattle.est_ast.specs.Trees as source
 use Rattle.est_ast.specs.FlatTrees.{Flat}
-use Rattle.est_ast.proofs.OneLexing.{at_most_one}
+use Rattle.est_ast.proofs.Exports.{at_most_one}
 use Rattle.read_rules.specs.declared.faults.Fault.{Fault}
 use Rattle.read_rules.specs.Exact.{Exactly}
 use Rattle.read_rules.specs.Readings.{whole}
 use Rattle.est_parse.specs.Reading.{program}
-use Rattle.est_parse.proofs.ModuleLaws.{program-exact}
+use Rattle.est_parse.proofs.Exports.{program-exact}
 use Rattle.est_kernel.specs.Plain.{Program}
 use Rattle.est_expand.specs.Flattening.{flattened}
 use Rattle.est_expand.specs.Faults as flattening

@@ -25,7 +25,7 @@ use Rattle.est_expand.specs.Faults.{Fault, TooManySignals}
 use Rattle.est_expand.specs.Flattening.{relations_in, relation_in, around_main, main_flattening, main_walk, flattened}
 use Rattle.est_expand.specs.Scopes.{inputs_in, both_in, outputs_in, Interface, main_interface, main_signals, main_scope}
 use Rattle.est_expand.specs.Walks.{Met, beginning, meet_signals}
-use Rattle.est_expand.proofs.FlatFitting.{on_ok-IfOk, if-IfOk, Begins, Kept, Sees, flattening-IfOk}
+use Rattle.est_expand.proofs.Exports.{on_ok-IfOk, if-IfOk, Begins, Kept, Sees, flattening-IfOk}
 use Rattle.est_names.specs.Names.{texts}
 use Rattle.est_names.specs.NameFaults.{main_place, module_names}
 use Rattle.cec_front.specs.Sources.{ReadsAs, main_module, StandsFor}

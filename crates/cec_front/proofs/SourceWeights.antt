@@ -17,7 +17,7 @@ use Rattle.est_ast.specs.Grammar.{SpellsModule, SpellsProgram}
 use Rattle.est_ast.specs.Lexemes.{Part, Space, LineComment, BlockComment, Word, Numeral, Sign}
 use Rattle.est_ast.specs.Lexing.{Makes, IsFront, Piece, Cuts, token_at, tokens_from, Tokens, LexesAs}
 use Rattle.est_ast.specs.Trees.{Relation, Implies, Excludes, Decl, Input, InputOutput, Output, Relations, Module, Program}
-use Rattle.est_ast.proofs.Fronts.{front_fits}
+use Rattle.est_ast.proofs.Exports.{front_fits}
 use Rattle.read_rules.specs.Languages.{Empty, One, Then, Led, Optional, Parted, Many}
 use Rattle.read_rules.specs.Languages.{Loop as Steps}
 

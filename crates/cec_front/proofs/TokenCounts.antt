@@ -4,7 +4,7 @@ use Rattle.std.proofs.lemmas.List.{length-drop, length-append}
 use Rattle.est_ast.specs.declared.tokens.Kind.{Kind}
 use Rattle.est_ast.specs.declared.tokens.Token.{Token}
 use Rattle.est_ast.specs.Lexing.{Piece, Cuts, token_at, tokens_from, LexesAs, Tokens}
-use Rattle.est_ast.proofs.Fronts.{front_fits}
+use Rattle.est_ast.proofs.Exports.{front_fits}
 
 at_most_one : (start width : ℕ) (token : Option Kind) → length (token_at start width token) ≤ 1
 at_most_one start width None = omega arith

@@ -9,7 +9,7 @@ use Rattle.est_ast.specs.Lexing as lexing
 use Rattle.est_ast.specs.Nesting.{IsProgram}
 use Rattle.est_ast.specs.Trees as source
 use Rattle.est_ast.specs.FlatTrees.{Flat}
-use Rattle.est_ast.proofs.OneLexing.{at_most_one}
+use Rattle.est_ast.proofs.Exports.{at_most_one}
 use Rattle.read_rules.specs.declared.faults.Fault as reading
 use Rattle.read_rules.specs.Exact.{IsLeastPlace}
 use Rattle.est_parse.specs.declared.refusal.ParseError.TheVariants as parsing

@@ -2,7 +2,7 @@
 use Rattle.std.proofs.Common.{◌≡◌, ℕ, List, ◌++◌, ap, ◌∙◌, codes, arith}
 use Rattle.std.proofs.lemmas.Grind.{common_steps}
 use Rattle.cec_front.specs.Lines.{placed}
-use Rattle.text_io.proofs.Lines.{regroup}
+use Rattle.text_io.proofs.Exports.{regroup}
 
 -- what follows the text about a place follows the place
 pub placed-more : (source : List ℕ) (place : ℕ) (x y : List ℕ) → placed source place (x ++ y) ≡ placed source place x ++ y

@@ -10,8 +10,7 @@ use Rattle.vlog_text.specs.Written as vlog_texts
 use Rattle.cec_compile.specs.declared.compiler.Compiled.{Compiled}
 use Rattle.cec_compile.specs.Compiling.{StandsForNet}
 use Rattle.cec_compile.specs.NetMeaning.{NetKeeps}
-use Rattle.cec_compile.proofs.Joined.{given-few, inputs_wide}
-use Rattle.cec_compile.proofs.Keeping.{widths, text_keeps, c_text_keeps, verilog_text_keeps}
+use Rattle.cec_compile.proofs.Exports.{given-few, inputs_wide, widths, text_keeps, c_text_keeps, verilog_text_keeps}
 use Rattle.cec_small.specs.SmallTexts.{StandsForSmallNet, StandsForSmallBlif, StandsForSmallC, StandsForSmallVerilog, IsSmallNetOf}
 
 optimized_keeps : (net new : Netlist) (p : Program) → given_count p ≡ length net.inputs → Optimizes net new → NetKeeps net p → NetKeeps new p

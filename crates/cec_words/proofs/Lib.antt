@@ -1,5 +1,6 @@
 mod DecimalValues
 mod Gathering
 mod Options
-pub mod GeneratedBranches
+mod GeneratedBranches
 mod worked
+pub mod Exports

@@ -1,9 +1,10 @@
-pub mod UnsetLocals
-pub mod TokenKinds
-pub mod TextLaws
-pub mod Makers
-pub mod LexLaws
-pub mod LongestTokens
-pub mod ReaderLaws
-pub mod ReadBack
-pub mod NameFaults
+mod UnsetLocals
+mod TokenKinds
+mod TextLaws
+mod Makers
+mod LexLaws
+mod LongestTokens
+mod ReaderLaws
+mod ReadBack
+mod NameFaults
+pub mod Exports

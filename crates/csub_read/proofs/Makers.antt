@@ -4,11 +4,10 @@ use Rattle.csub_text.specs.Tokens.{Kind, Semicolon, Equals}
 use Rattle.csub_text.specs.Trees.{Expr}
 use Rattle.csub_text.specs.Grammar.{is, sign, name, assign_meant, program_meant}
 use Rattle.expr_text.specs.Grammar.{Written, meant}
-use Rattle.expr_text.proofs.Images.{Image, image-mapped, image-both, image-trail, image-on, image-maybe, image-loop, image-self, image-advances}
-use Rattle.expr_text.proofs.Images.{made, end-made}
-use Rattle.expr_text.proofs.Makers.{expr-meant}
+use Rattle.expr_text.proofs.Exports.{Image, image-mapped, image-both, image-trail, image-on, image-maybe, image-loop, image-self, image-advances, made}
+use Rattle.expr_text.proofs.Exports.{end-made, expr-meant}
 use Rattle.read_rules.specs.Readings.{Rule, mapped, both, trail, on, the, loop, end_of, whole}
-use Rattle.read_rules.proofs.Loops.{Advances}
+use Rattle.read_rules.proofs.Exports.{Advances}
 use Rattle.csub_read.proofs.TextLaws.{assign-advances}
 use Rattle.csub_read.specs.Reading.{makes_expr, makes_written, expr, state_step, global_step, local_step}
 use Rattle.csub_read.specs.Reading.{assign_rule, assign_step, answer_rule, body_rule, function_rule, whole_rule, text_rule, Parts, parts_of, written_assign}

@@ -23,7 +23,7 @@ use Rattle.csub_read.specs.Reading.{Parts, makes_expr, makes_written, text_rule,
 use Rattle.csub_read.proofs.TextLaws.{text-exact}
 use Rattle.csub_read.proofs.Makers.{parts_meant, whole-meant, whole-written, parts-means}
 use Rattle.expr_text.specs.Grammar.{Written}
-use Rattle.expr_text.proofs.Images.{made}
+use Rattle.expr_text.proofs.Exports.{made}
 
 -- what is written, where the whole is read
 record Reads (ks : List Kind) (parts : Parts Expr) : Type 0 where

@@ -11,20 +11,15 @@ use Rattle.read_rules.specs.Languages.{Then, Led, Loop, Optional, Many}
 use Rattle.read_rules.specs.Languages.{One as Single}
 use Rattle.read_rules.specs.Choice.{Made}
 use Rattle.read_rules.specs.Readings.{Rule, mapped, the, loop, whole}
-use Rattle.read_rules.proofs.Loops.{Advances, mapped-mapped}
-use Rattle.read_rules.proofs.Sets.{apart}
-use Rattle.read_rules.proofs.Readers.{Shape, one_shape, Stops, Laws, Reads, the-reads, both-reads, led-reads, trail-reads, ahead-reads, mapped-reads}
-use Rattle.read_rules.proofs.Readers.{told-reads, made-reads, same-reads, shape-reads}
-use Rattle.read_rules.proofs.Steps.{Turn, step_depth, list_depth, AfterStep, StepLaws, Steps, look-steps, loop-reads, Advances-step}
-use Rattle.read_rules.proofs.Choices.{whole-reads as exact-reads}
-use Rattle.read_rules.proofs.Depths.{list_depth-flat}
+use Rattle.read_rules.proofs.Exports.{Advances, mapped-mapped, apart, Shape, one_shape, Stops, Laws, Reads, the-reads, both-reads, led-reads, trail-reads}
+use Rattle.read_rules.proofs.Exports.{ahead-reads, mapped-reads, told-reads, made-reads, same-reads, shape-reads, Turn, step_depth, list_depth, AfterStep}
+use Rattle.read_rules.proofs.Exports.{StepLaws, Steps, look-steps, loop-reads, Advances-step, whole-reads as exact-reads, list_depth-flat}
 use Rattle.csub_read.specs.Reading.{makes_written, expr, state_rule, state_step, global_step, local_rule, local_step, assign_rule, assign_step}
 use Rattle.csub_read.specs.Reading.{answer_rule, body_rule, whole_rule, text_rule, parts_of, written_assign, written_of}
 use Rattle.csub_read.specs.Tokens.{spelled}
 use Rattle.csub_read.proofs.TokenKinds.{class, is-test, name_set, name-test, own-test, global-test, bit-test, begins_set, sign-begins, sign-follows}
 use Rattle.expr_text.specs.Grammar.{Written, written_nesting}
-use Rattle.expr_text.proofs.ExprLaws.{exprs_known}
-use Rattle.expr_text.proofs.Tests.{class-reads}
+use Rattle.expr_text.proofs.Exports.{exprs_known, class-reads}
 
 abbrev expr_shape : Shape
 expr_shape = record { starts = begins_set; empty = false; after = 16 ∷ 15 ∷ [] }

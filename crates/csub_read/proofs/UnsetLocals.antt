@@ -3,7 +3,7 @@ use Rattle.std.proofs.Common.{◌≡◌, ℕ, Bool, true, false, not, cond, ◌&
 use Rattle.std.specs.Prelude.{find, filter, if◌then◌else◌}
 use Rattle.est_base.specs.Names.{is_same_name}
 use Rattle.net_ir.specs.NameLists.{is_among}
-use Rattle.net_ir.proofs.NameLists.{find-same, is_among-filter}
+use Rattle.net_ir.proofs.Exports.{find-same, is_among-filter}
 use Rattle.csub_text.specs.Trees.{Expr, Assign}
 use Rattle.csub_text.specs.Names.{names_in, or_else, unset_from}
 

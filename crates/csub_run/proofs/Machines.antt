@@ -24,13 +24,12 @@ use Rattle.step_run.specs.Slots.{slot_in, value_at, memory_in}
 use Rattle.step_run.specs.declared.term.Term.{Term}
 use Rattle.step_run.specs.Plans.{Planned, made, term_value}
 use Rattle.step_run.specs.Steps.{settled}
-use Rattle.step_run.proofs.ExprValues.{value-local}
-use Rattle.step_run.proofs.Makings.{length-settled, taken-front, through}
+use Rattle.step_run.proofs.Exports.{value-local, length-settled, taken-front, through}
 use Rattle.csub_run.specs.declared.runner.CRunner.TheInside.{Inside}
 use Rattle.csub_run.specs.Insides.{KeepsPlan}
 use Rattle.csub_run.specs.Plans.{IsBody, IsPlan, assign_step, first_values, put_all}
 use Rattle.csub_run.specs.Runners.{KeepsNames, Reacts, IsFresh}
-use Rattle.csub_text.proofs.NameLists.{found-low, place-among, found-at}
+use Rattle.net_ir.proofs.Exports.{found-low, place-among, found-at}
 
 -- memories that agree on all names
 abbrev pub Agree : Memory → Memory → Type 0

@@ -4,14 +4,14 @@ use Rattle.std.proofs.lemmas.List.{length-map}
 use Rattle.std.proofs.lemmas.Simd.{map-map}
 use Rattle.est_base.specs.declared.bounds.TheConstants.Limits.{TEXT_BYTES}
 use Rattle.est_base.specs.Items.{Item}
-use Rattle.machines.proofs.Showing.{computed-shows}
+use Rattle.machines.proofs.Exports.{computed-shows}
 use Rattle.net_ir.specs.Netlists.{Netlist}
 use Rattle.net_ir.specs.Runs.{Shown, net_run}
 use Rattle.csub_read.specs.declared.refusal.CError.{CError}
 use Rattle.csub_read.specs.declared.refusal.CError.TheVariants as faults
 use Rattle.csub_read.specs.Faults.{ReadsAs, ReadsFault}
 use Rattle.csub_read.specs.Laws.{LacksRoom}
-use Rattle.csub_read.proofs.ReadBack.{written-are-read}
+use Rattle.csub_read.proofs.Exports.{written-are-read}
 use Rattle.csub_text.specs.Machine.{seen, first_memory, call, memories, run}
 use Rattle.csub_text.specs.Names.{inputs_of, outputs_of}
 use Rattle.csub_text.specs.Trees.{Program}

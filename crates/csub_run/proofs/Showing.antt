@@ -2,7 +2,7 @@
 use Rattle.std.proofs.Common.{◌≡◌, ℕ, Bool, List, ◌∷◌, map, refl, sym, ap, ◌∙◌, subst}
 use Rattle.est_base.specs.Items.{Item, Event}
 use Rattle.machines.specs.Machines.{Shows}
-use Rattle.machines.proofs.Showing.{shows-event, shows-reset}
+use Rattle.machines.proofs.Exports.{shows-event, shows-reset}
 use Rattle.csub_text.specs.Machine.{Memory, value_of, first_memory, call, program_machine}
 use Rattle.csub_text.specs.Names.{outputs_of}
 use Rattle.csub_text.specs.Views.{program_of}

@@ -10,8 +10,7 @@ use Rattle.csub_text.specs.Grammar.{sign}
 use Rattle.expr_text.specs.Signs.{BitSign}
 use Rattle.csub_text.specs.Written.{bit_text}
 use Rattle.expr_text.proofs.Saying as saying
-use Rattle.expr_text.proofs.Saying.{FrontsNames, begins_high, digits-decimal, bytes-decimal, bytes-name, no-word}
-use Rattle.expr_text.proofs.Spelling.{Writes}
+use Rattle.expr_text.proofs.Exports.{FrontsNames, begins_high, digits-decimal, bytes-decimal, bytes-name, no-word, Writes}
 
 -- a piece of a text has these tokens, whatever stands behind it
 abbrev pub Says : List ℕ → List Kind → Type 0

@@ -8,33 +8,28 @@ use Rattle.std.proofs.lemmas.List.{length-map, get_or-map, length-append, get_or
 use Rattle.std.proofs.lemmas.List.{length_push}
 use Rattle.est_base.specs.Names.{is_same_name}
 use Rattle.est_base.specs.Distinct.{all_differ}
-use Rattle.est_base.proofs.SameNames.{same_name-self}
+use Rattle.est_base.proofs.Exports.{same_name-self}
 use Rattle.net_ir.specs.declared.netlist.Gate.{Gate}
 use Rattle.net_ir.specs.declared.netlist.NetOut.{NetOut}
 use Rattle.net_ir.specs.Gates.{operand_end, op_value, value_in, gate_values}
 use Rattle.net_ir.specs.Netlists.{Netlist, first_gate, net_count}
 use Rattle.net_ir.specs.Runs.{net_values}
-use Rattle.net_ir.proofs.Values.{op_value-same}
+use Rattle.net_ir.proofs.Exports.{op_value-same, any-none, differ-at, length-numbered, get_or-numbered, differ-by, net_cases}
 use Rattle.csub_text.specs.Trees.{Name, Assign}
 use Rattle.net_ir.specs.NameLists.{is_among}
 use Rattle.csub_text.specs.Machine.{Memory, with_value, value_of, run_body, with_inputs}
 use Rattle.csub_text.specs.Written.{input_name, state_name, gate_name, next_name, answer_name, net_name, input_variable, output_variable}
 use Rattle.csub_text.specs.Written.{gate_names}
 use Rattle.csub_text.specs.Written.{op_expr, input_assign, gate_assign, next_assign, output_assign, answer_assign, state_assign, net_body}
-use Rattle.expr_text.proofs.Operators.{op-expr-value}
+use Rattle.expr_text.proofs.Exports.{op-expr-value, mark, state_names, marks-states, marks-gates, differ-states, differ-gates, any_gate, any_latch}
+use Rattle.expr_text.proofs.Exports.{any_output, gate-low}
 use Rattle.csub_text.proofs.NetNames.{input_names}
 use Rattle.csub_text.proofs.NetNames.{next_names, given_variables, shown_variables, marks-inputs, marks-nexts, marks-given}
 use Rattle.csub_text.proofs.NetNames.{marks-shown}
 use Rattle.csub_text.proofs.NetNames.{differ-inputs, differ-nexts, differ-given, differ-shown}
-use Rattle.net_ir.proofs.NameLists.{any-none, differ-at}
-use Rattle.net_ir.proofs.Numbered.{length-numbered, get_or-numbered}
-use Rattle.net_ir.proofs.NumberedNames.{differ-by}
 use Rattle.net_ir.specs.Numbered.{numbered}
 use Rattle.net_ir.specs.Writing.{IsWritable}
-use Rattle.net_ir.proofs.Nets.{net_cases}
 use Rattle.csub_text.proofs.NetRules.{net_name-input, net_name-state, net_name-gate}
-use Rattle.expr_text.proofs.Naming.{mark, state_names, marks-states, marks-gates, differ-states, differ-gates, any_gate, any_latch}
-use Rattle.expr_text.proofs.Naming.{any_output, gate-low}
 
 -- ---- assignments one after another
 

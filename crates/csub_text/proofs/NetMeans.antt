@@ -12,15 +12,14 @@ use Rattle.est_base.specs.declared.indices.WireId.{WireId}
 use Rattle.est_base.specs.Names.{is_name, is_same_name}
 use Rattle.est_base.specs.Distinct.{all_differ}
 use Rattle.est_base.specs.Items.{Item, Event, Reset, EachEvent}
-use Rattle.est_base.proofs.SameNames.{same_name-self}
+use Rattle.est_base.proofs.Exports.{same_name-self}
 use Rattle.net_ir.specs.declared.netlist.Gate.{Gate}
 use Rattle.net_ir.specs.declared.netlist.Latch.{Latch}
 use Rattle.net_ir.specs.declared.netlist.NetOut.{NetOut}
 use Rattle.net_ir.specs.Gates.{value_in}
 use Rattle.net_ir.specs.Netlists.{Netlist, first_gate, net_count}
 use Rattle.net_ir.specs.Runs.{net_values, next_latches, initial_latches, values_from, shown, net_values_run}
-use Rattle.net_ir.proofs.NameLists.{any-none}
-use Rattle.net_ir.proofs.Values.{length-gate_values}
+use Rattle.net_ir.proofs.Exports.{any-none, length-gate_values, length-numbered, get_or-numbered, All-numbered, length-next, net_cases}
 use Rattle.csub_text.specs.Trees.{Assign}
 use Rattle.csub_text.specs.Tokens.{Named}
 use Rattle.csub_text.specs.Grammar.{begins_input, begins_output, begins_global, global_name, SpellsText}
@@ -31,21 +30,16 @@ use Rattle.csub_text.specs.Machine.{Memory, with_inputs, first_memory, run_body,
 use Rattle.csub_text.specs.Written.{input_name, state_name, gate_name, next_name, answer_name, net_name, input_variable, output_variable, net_state}
 use Rattle.csub_text.specs.Written.{gate_names}
 use Rattle.csub_text.specs.Written.{net_body, net_program, shown_by_call, written, Means}
-use Rattle.expr_text.proofs.Saying.{says-whole}
-use Rattle.expr_text.proofs.Operators.{plain-op}
+use Rattle.expr_text.proofs.Exports.{says-whole, plain-op, mark, differ-states, any_gate, any_latch, any_output, gate-low, long-name}
 use Rattle.csub_text.proofs.Lexing.{IsVariable, variable-input, variable-state, variable-gate, variable-wire, variable-next, variable-answer}
 use Rattle.csub_text.proofs.Lexing.{variable-given, variable-shown}
 use Rattle.csub_text.proofs.Spelling.{IsPlain, IsSpelled, program_kinds, says-program, spells-program, written_program, meant-written, nesting-written}
 use Rattle.csub_text.proofs.NetNames.{input_names, next_names}
-use Rattle.net_ir.proofs.Numbered.{length-numbered, get_or-numbered, All-numbered}
 use Rattle.net_ir.specs.Numbered.{numbered}
 use Rattle.net_ir.specs.Writing.{IsWritable}
-use Rattle.net_ir.proofs.Nets.{length-next, net_cases}
 use Rattle.csub_text.proofs.NetRules.{EachAssign, each-assign, net_name-input, net_name-state, net_name-gate}
 use Rattle.csub_text.proofs.NetSets.{names-fit}
 use Rattle.csub_text.proofs.NetCalls.{Leaves, call-leaves}
-use Rattle.expr_text.proofs.Naming.{mark, differ-states, any_gate, any_latch, any_output, gate-low}
-use Rattle.expr_text.proofs.Naming.{long-name}
 
 -- ---- inputs and outputs
 

@@ -11,10 +11,10 @@ use Rattle.net_ir.specs.Netlists.{Netlist}
 use Rattle.csub_text.specs.Written.{input_name, next_name, answer_name, input_variable, output_variable}
 use Rattle.csub_text.specs.Written.{net_globals, net_locals, gate_names}
 use Rattle.net_ir.specs.Numbered.{numbered}
-use Rattle.net_ir.proofs.NumberedNames.{apart-by, differ-decimal, joined-differ, numbered-differ}
+use Rattle.net_ir.proofs.Exports.{apart-by, differ-decimal, joined-differ, numbered-differ}
 use Rattle.net_ir.specs.Writing.{IsWritable}
-use Rattle.expr_text.proofs.Naming.{mark, state_names, all-numbered, all-mapped, marks-states, marks-gates, differ-states, differ-gates}
-use Rattle.expr_text.proofs.Naming.{marked-differ, in-front, all-both}
+use Rattle.expr_text.proofs.Exports.{mark, state_names, all-numbered, all-mapped, marks-states, marks-gates, differ-states, differ-gates, marked-differ}
+use Rattle.expr_text.proofs.Exports.{in-front, all-both}
 
 -- ---- the first byte tells the kinds of names apart
 

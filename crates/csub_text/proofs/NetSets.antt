@@ -9,21 +9,19 @@ use Rattle.net_ir.specs.declared.netlist.Gate.{Gate}
 use Rattle.net_ir.specs.Gates.{operand_end}
 use Rattle.net_ir.specs.Netlists.{Netlist, first_gate, net_count}
 use Rattle.std.proofs.lemmas.List.{length-map, get_or-map, append-nil}
-use Rattle.est_base.proofs.SameNames.{same_name-self}
+use Rattle.est_base.proofs.Exports.{same_name-self}
 use Rattle.csub_text.specs.Trees.{Expr, Name, Assign}
 use Rattle.net_ir.specs.NameLists.{is_among}
 use Rattle.csub_text.specs.Names.{names_in, unset, name_fault}
 use Rattle.csub_text.specs.Written.{state_name, gate_name, next_name, answer_name, net_name, input_variable, net_locals}
 use Rattle.csub_text.specs.Written.{input_assign, gate_assign, next_assign, output_assign, answer_assign, state_assign, net_body, net_program}
 use Rattle.csub_text.proofs.NetNames.{marks-locals}
-use Rattle.net_ir.proofs.Numbered.{length-numbered, get_or-numbered}
-use Rattle.net_ir.proofs.NumberedNames.{differ-by}
+use Rattle.net_ir.proofs.Exports.{length-numbered, get_or-numbered, differ-by}
 use Rattle.net_ir.specs.Numbered.{numbered}
 use Rattle.net_ir.specs.Writing.{IsWritable}
 use Rattle.csub_text.proofs.NetRules.{Known, Covered, unset-covered, net_name-input, net_name-state, net_name-gate}
-use Rattle.expr_text.proofs.Operators.{op-names}
+use Rattle.expr_text.proofs.Exports.{op-names, mark, any_gate, any_latch, any_output, gate-low}
 use Rattle.csub_text.proofs.NetRules.{numbered-assigns, declared_once, undeclared_none}
-use Rattle.expr_text.proofs.Naming.{mark, any_gate, any_latch, any_output, gate-low}
 
 -- ---- what is assigned
 

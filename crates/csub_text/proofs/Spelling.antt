@@ -19,9 +19,8 @@ use Rattle.csub_text.proofs.Lexing.{Says, IsVariable, says-int, says-static, say
 use Rattle.csub_text.proofs.Lexing.{says-last, bit_kind, says-bit, writes}
 use Rattle.expr_text.specs.Grammar.{meant}
 use Rattle.expr_text.proofs.Saying as saying
-use Rattle.expr_text.proofs.Saying.{says-then, says-lines}
+use Rattle.expr_text.proofs.Exports.{says-then, says-lines, plain_written, meant-plain, nesting-plain, spells-many}
 use Rattle.expr_text.proofs.Spelling as spelling
-use Rattle.expr_text.proofs.Spelling.{plain_written, meant-plain, nesting-plain, spells-many}
 
 -- a name, a constant, or one operator on names
 abbrev pub IsPlain : Expr → Type 0

@@ -17,8 +17,7 @@ use Rattle.net_ir.specs.Gates.{operand_end}
 use Rattle.net_ir.specs.Netlists.{Netlist, net_count, output_names}
 use Rattle.net_ir.specs.Numbered.{numbered}
 use Rattle.net_ir.specs.Writing.{IsWritable}
-use Rattle.net_ir.proofs.Numbered.{length-numbered, All-numbered}
-use Rattle.net_ir.proofs.Nets.{any_gate, net_cases}
+use Rattle.net_ir.proofs.Exports.{length-numbered, All-numbered, any_gate, net_cases}
 use Rattle.csub_text.specs.Trees.{Expr, Name}
 use Rattle.csub_text.specs.Written.{input_name, state_name, gate_name, next_name, answer_name, net_name, input_variable, output_variable, net_state, op_expr}
 use Rattle.csub_text.specs.Written.{input_assign, gate_assign, next_assign, output_assign, answer_assign, state_assign, gate_names, net_globals, net_locals}

@@ -17,7 +17,7 @@ use Rattle.grc_graph.specs.Selected.{HasExitCodes, IsState}
 use Rattle.grc_graph.specs.Selections.{well_formed}
 use Rattle.grc_graph.specs.SelectionTrees.{body_leaves, selecting}
 use Rattle.grc_graph.specs.Walk.{State, Initial, Selecting}
-use Rattle.grc_graph.proofs.StateForms.{states-are-formed}
+use Rattle.grc_graph.proofs.Exports.{states-are-formed}
 use Rattle.grc_sem.specs.GraphWalks.{SelectsLeaves}
 use Rattle.grc_sem.specs.Laws.{NextStateIsKept}
 use Rattle.grc_words.specs.Occasions.{Occasion, state_of}

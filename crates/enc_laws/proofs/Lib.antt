@@ -1,2 +1,3 @@
-pub mod StateForms
-pub mod FormedLatches
+mod StateForms
+mod FormedLatches
+pub mod Exports

@@ -6,8 +6,7 @@ use Rattle.std.proofs.lemmas.List.Elements.{All-head, All-tail}
 use Rattle.est_kernel.specs.Terms.{Term}
 use Rattle.grc_graph.specs.Selections.{well_formed}
 use Rattle.grc_graph.specs.SelectionTrees.{selecting}
-use Rattle.grc_graph.proofs.Holding.{holds-none}
-use Rattle.grc_graph.proofs.StateForms.{formed-part}
+use Rattle.grc_graph.proofs.Exports.{holds-none, formed-part}
 
 chosen-false : (t b : Bool) (rest : Bool) → b ≡ false → rest ≡ false → (if t then b else rest) ≡ false
 chosen-false true b rest e f = e

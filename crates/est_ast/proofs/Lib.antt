@@ -1,10 +1,11 @@
-pub mod Classes
-pub mod EveryText
-pub mod Fronts
-pub mod Heads
-pub mod Longest
-pub mod OneLexing
-pub mod OneToken
-pub mod Rows
-pub mod FlatRows
+mod Classes
+mod EveryText
+mod Fronts
+mod Heads
+mod Longest
+mod OneLexing
+mod OneToken
+mod Rows
+mod FlatRows
 mod worked
+pub mod Exports

@@ -1,8 +1,9 @@
-pub mod Bits
-pub mod Gains
-pub mod Room
-pub mod Contents
-pub mod NoCodes
-pub mod SameNames
-pub mod Items
+mod Bits
+mod Gains
+mod Room
+mod Contents
+mod NoCodes
+mod SameNames
+mod Items
 mod worked
+pub mod Exports

@@ -11,8 +11,7 @@ use Rattle.est_kernel.specs.Steps.{Step, ended, left_by, leaving, leaves, chosen
 use Rattle.est_kernel.specs.Steps.{step}
 use Rattle.est_kernel.specs.Terms as terms
 use Rattle.est_kernel.specs.Terms.{Term, Expression}
-use Rattle.est_kernel.proofs.ResidualLaws.{left_whole, trap_code-one}
-use Rattle.est_kernel.proofs.StepLaws.{same_step}
+use Rattle.est_kernel.proofs.Exports.{left_whole, trap_code-one, same_step}
 use Rattle.est_ast.specs.FlatTrees.{Expr, Plain, Immediate, Stmt, At, Await, Abort, Repeat, Sustain, LoopEach, Seq, Missing, Written, NoStmts, MoreStmts}
 use Rattle.est_dismantle.specs.Kernels.{Marks, expression, halting, watching, aborting, kernel}
 use Rattle.est_ast.specs.NewSignals.{new_by, new_in}

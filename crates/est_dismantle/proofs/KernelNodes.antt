@@ -21,7 +21,7 @@ use Rattle.est_ast.specs.declared.flat.FlatForm.TheVariants as forms
 use Rattle.est_ast.specs.declared.flat.FlatStmt.{FlatStmt}
 use Rattle.est_ast.specs.FlatTrees.{exprs, stmts, cases}
 use Rattle.est_ast.specs.FlatViews.{flat_expr_of, flat_delay_of, flat_stmt_of, flat_case_of, flat_part_of, flat_event_of, flat_body_of}
-use Rattle.est_ast.proofs.FlatRows.{flat_expr-And, flat_expr-Or, flat_form-Seq, flat_form-Par, flat_form-AwaitCase, flat_form-PresentCase, flat_form-AbortCase}
+use Rattle.est_ast.proofs.Exports.{flat_expr-And, flat_expr-Or, flat_form-Seq, flat_form-Par, flat_form-AwaitCase, flat_form-PresentCase, flat_form-AbortCase}
 use Rattle.est_dismantle.specs.Choices.{chosen_of}
 use Rattle.est_dismantle.specs.FlatNodes.{event_test, events_tests, case_test, any_event_test, delay_new, stmt_new, node_new, part_new, stmts_new, case_new}
 use Rattle.est_dismantle.specs.FlatNodes.{cases_new, stmt_kernel, node_kernel, part_kernel, stmts_kernels, case_choice, choices}

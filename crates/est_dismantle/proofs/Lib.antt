@@ -1,14 +1,15 @@
-pub mod Abortions
-pub mod BadCounts
-pub mod DerivedLaws
-pub mod Exits
-pub mod Expanded
-pub mod Fitting
-pub mod KernelNodes
-pub mod Limits
-pub mod Lists
-pub mod Measured
-pub mod MeasuredNodes
-pub mod WholePrograms
-pub mod Found
+mod Abortions
+mod BadCounts
+mod DerivedLaws
+mod Exits
+mod Expanded
+mod Fitting
+mod KernelNodes
+mod Limits
+mod Lists
+mod Measured
+mod MeasuredNodes
+mod WholePrograms
+mod Found
 mod worked
+pub mod Exports

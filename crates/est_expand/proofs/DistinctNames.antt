@@ -12,7 +12,7 @@ use Rattle.est_ast.specs.Trees.{Decl, Input, InputOutput, Output, Relations}
 use Rattle.est_names.specs.declared.refusal.NameFault.TheVariants.{DuplicateSignal}
 use Rattle.est_names.specs.Names.{texts, is_among}
 use Rattle.est_names.specs.NameFaults.{again, declared_in, related_in, not_given, decl_faults}
-use Rattle.est_names.proofs.FaultlessModules.{nothing_before}
+use Rattle.est_names.proofs.Exports.{nothing_before}
 use Rattle.est_expand.specs.Scopes.{inputs_in, both_in, outputs_in}
 
 -- how often a name stands in a list

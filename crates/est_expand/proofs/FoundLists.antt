@@ -7,7 +7,7 @@ use Rattle.est_ast.specs.declared.trees.SigExpr.TheVariants as nodes
 use Rattle.est_ast.specs.FlatTrees as flat
 use Rattle.est_ast.specs.Trees.{exprs}
 use Rattle.est_ast.specs.Views.{expr_of}
-use Rattle.est_ast.proofs.Rows.{expr-And, expr-Or}
+use Rattle.est_ast.proofs.Exports.{expr-And, expr-Or}
 use Rattle.est_expand.specs.Faults.{Fault}
 use Rattle.est_expand.specs.Scopes.{Scope}
 use Rattle.est_expand.specs.Walks.{on_ok}

@@ -1,12 +1,13 @@
-pub mod DistinctNames
-pub mod FlatLaws
-pub mod FlatFitting
-pub mod RowForms
-pub mod WalkSteps
-pub mod RunSteps
-pub mod TrapPlaces
-pub mod FoundLists
-pub mod ScopeTables
-pub mod SameNames
-pub mod SameWalks
+mod DistinctNames
+mod FlatLaws
+mod FlatFitting
+mod RowForms
+mod WalkSteps
+mod RunSteps
+mod TrapPlaces
+mod FoundLists
+mod ScopeTables
+mod SameNames
+mod SameWalks
 mod worked
+pub mod Exports

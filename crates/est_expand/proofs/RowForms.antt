@@ -12,7 +12,7 @@ use Rattle.est_ast.specs.declared.trees.Stmt.{Stmt as CodeStmt}
 use Rattle.est_ast.specs.FlatTrees as flat
 use Rattle.est_ast.specs.Trees.{stmts, cases}
 use Rattle.est_ast.specs.Views.{form_of, stmt_of, case_of, part_of}
-use Rattle.est_ast.proofs.Rows.{form-Seq, form-Par, form-AwaitCase, form-PresentCase, form-AbortCase}
+use Rattle.est_ast.proofs.Exports.{form-Seq, form-Par, form-AwaitCase, form-PresentCase, form-AbortCase}
 use Rattle.est_expand.specs.Walks.{give, after}
 use Rattle.est_expand.specs.Flattening.{Around, part, each, each_case}
 use Rattle.est_expand.specs.declared.place.Source.{Source}

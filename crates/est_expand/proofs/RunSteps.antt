@@ -12,7 +12,7 @@ use Rattle.est_ast.specs.declared.trees.Rename.{Rename}
 use Rattle.est_ast.specs.Trees.{Module, Program}
 use Rattle.est_names.specs.Names.{is_among, place_of}
 use Rattle.est_names.specs.NameFaults.{module_names}
-use Rattle.est_names.proofs.NameSets.{position-map}
+use Rattle.est_names.proofs.Exports.{position-map}
 use Rattle.est_expand.specs.Faults.{BadRename}
 use Rattle.est_expand.specs.Scopes.{Scope, meaning, Formal}
 use Rattle.est_expand.specs.Runs.{formal_names, renamed}

@@ -8,7 +8,7 @@ use Rattle.std.specs.Cmp.Lexicographic.{nat_list_eq_equiv}
 use Rattle.std.proofs.lemmas.Bool.{or_left}
 use Rattle.est_base.specs.declared.place.Span.{Span}
 use Rattle.est_base.specs.Names.{is_same_name}
-use Rattle.est_base.proofs.SameNames.{same_name-is}
+use Rattle.est_base.proofs.Exports.{same_name-is}
 use Rattle.est_ast.specs.declared.trees.Name.{Name}
 use Rattle.est_ast.specs.declared.trees.Rename.{Rename}
 use Rattle.est_ast.specs.FlatTrees as flat

@@ -6,7 +6,7 @@ use Rattle.std.specs.Option.{option_map, option_or}
 use Rattle.std.proofs.lemmas.Bool.{eq-eqb, ne_eqb}
 use Rattle.est_base.specs.declared.place.Span.{Span}
 use Rattle.est_base.specs.Names.{is_same_name}
-use Rattle.est_base.proofs.SameNames.{same_name-is}
+use Rattle.est_base.proofs.Exports.{same_name-is}
 use Rattle.est_ast.specs.declared.trees.Name.{Name}
 use Rattle.est_ast.specs.declared.trees.Rename.{Rename}
 use Rattle.est_ast.specs.FlatTrees as flat

@@ -25,7 +25,7 @@ use Rattle.est_expand.specs.Tests.{found_or, test, awaited}
 use Rattle.est_expand.specs.Runs.{chain_with, renamed, opened}
 use Rattle.est_expand.specs.Flattening.{Around, in_signals, in_trap, part, each, each_case, meet_delay, exit_of, handler, emitted, row, flattening}
 use Rattle.est_expand.specs.Flattening.{related, relation_in, relations_in, around_main, main_walk, flattened}
-use Rattle.est_expand.proofs.SameNames.{numbers-alike}
+use Rattle.est_expand.proofs.Exports.{numbers-alike}
 use Rattle.est_inline.specs.Inlining as copy
 use Rattle.est_inline.specs.Inlining.{own, Place, inside_binders, inside_module, name_by, test_by, delay_by, part_by, stmts_by, cases_by, handler_by, inlining}
 use Rattle.est_inline.specs.Inlining.{relation_by, decl_by, in_main, inlined}

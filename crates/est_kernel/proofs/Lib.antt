@@ -1,12 +1,13 @@
-pub mod Sets
-pub mod PotentialLaws
-pub mod StepLaws
-pub mod CodeLaws
-pub mod ReactionLaws
-pub mod ExitLaws
+mod Sets
+mod PotentialLaws
+mod StepLaws
+mod CodeLaws
+mod ReactionLaws
+mod ExitLaws
 pub mod RunLaws
-pub mod MachineRuns
-pub mod PreorderLaws
-pub mod ResidualLaws
-pub mod Statuses
+mod MachineRuns
+mod PreorderLaws
+mod ResidualLaws
+mod Statuses
 mod worked
+pub mod Exports

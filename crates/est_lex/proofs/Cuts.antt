@@ -4,7 +4,7 @@ use Rattle.std.proofs.lemmas.List.{append-nil, append_assoc, drop-drop, length-d
 use Rattle.est_ast.specs.declared.tokens.Kind.{Kind}
 use Rattle.est_ast.specs.declared.tokens.Token.{Token}
 use Rattle.est_ast.specs.Lexing.{IsFront, Piece, Cuts, width_of, token_at, tokens_from}
-use Rattle.est_ast.proofs.Fronts.{front_fits}
+use Rattle.est_ast.proofs.Exports.{front_fits}
 
 -- the text up to this place is cut into spaces, comments and these tokens
 pub record IsCutTo (text : List ℕ) (place : ℕ) (tokens : List Token) : Type 0 where

@@ -10,7 +10,7 @@ use Rattle.est_ast.specs.declared.trees.Form.TheVariants as forms
 use Rattle.est_ast.specs.declared.trees.Stmt.{Stmt}
 use Rattle.est_ast.specs.Trees.{cases}
 use Rattle.est_ast.specs.Views.{form_of, case_of, part_of, stmt_of}
-use Rattle.est_ast.proofs.Rows.{form-PresentCase, form-AbortCase}
+use Rattle.est_ast.proofs.Exports.{form-PresentCase, form-AbortCase}
 use Rattle.est_names.specs.NameFaults.{signal_lists, signal_lists_in, signal_lists_cases, signal_lists_part}
 
 pub signal_lists-PresentCase : (form : Form) (v : Vec Case Global) (q : Option (Box Stmt Global))

@@ -1,7 +1,8 @@
-pub mod FaultlessModules
-pub mod MainPlaces
-pub mod NameSets
-pub mod FormLists
-pub mod FirstFaults
-pub mod GivenNames
+mod FaultlessModules
+mod MainPlaces
+mod NameSets
+mod FormLists
+mod FirstFaults
+mod GivenNames
 pub mod worked
+pub mod Exports

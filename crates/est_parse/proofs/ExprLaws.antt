@@ -14,17 +14,13 @@ use Rattle.est_ast.specs.Grammar.{is_word, word, mark, name_at, name, number, ti
 use Rattle.est_ast.specs.Grammar.{SpellsExprs, SpellsNextExprs, SpellsOtherExprs, SpellsEvent, SpellsDelay, SpellsCount, SpellsTest}
 use Rattle.est_ast.specs.Nesting.{expr_nesting, exprs_nesting, delay_nesting}
 use Rattle.expr_tiers.specs.Reading.{Negates, Opens, IsLeaf, inside}
-use Rattle.expr_tiers.proofs.Judgements.{Behind, IsGrammar, Kinds, KnownExprs}
+use Rattle.expr_tiers.proofs.Exports.{Behind, IsGrammar, Kinds, KnownExprs, Begins, part-to, negation-from, bracket-from, leaf-from, IsRow, tier-of}
 use Rattle.expr_tiers.proofs.Judgements as tiers
-use Rattle.expr_tiers.proofs.Grammars.{Begins, part-to, negation-from, bracket-from, leaf-from, IsRow, tier-of}
 use Rattle.read_rules.specs.Languages.{One, Then, Led, Both}
 use Rattle.read_rules.specs.Choice.{Made, Only, adds, fits}
 use Rattle.read_rules.specs.Readings.{Rule}
-use Rattle.read_rules.proofs.Sets.{apart, Test}
-use Rattle.read_rules.proofs.Readers.{Shape, one_shape, Lang, Reads, the-reads, give-reads, both-reads, led-reads, trail-reads, ahead-reads}
-use Rattle.read_rules.proofs.Readers.{mapped-reads, told-reads, shape-reads}
-use Rattle.read_rules.proofs.Steps.{list_depth}
-use Rattle.read_rules.proofs.Choices.{Arm, arm, choose-lang, choose-reads}
+use Rattle.read_rules.proofs.Exports.{apart, Test, Shape, one_shape, Lang, Reads, the-reads, give-reads, both-reads, led-reads, trail-reads, ahead-reads}
+use Rattle.read_rules.proofs.Exports.{mapped-reads, told-reads, shape-reads, list_depth, Arm, arm, choose-lang, choose-reads}
 use Rattle.est_parse.specs.declared.openings.Bracket.{Bracket}
 use Rattle.est_parse.specs.declared.openings.Bracket.TheVariants as brackets
 use Rattle.est_parse.specs.Openings.{Leaf, TickLeaf, NameLeaf, part_at, part_start, Event}

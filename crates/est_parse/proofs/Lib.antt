@@ -1,12 +1,13 @@
-pub mod ExprLaws
-pub mod Forms
-pub mod Having
-pub mod Lists
-pub mod ModuleLaws
-pub mod Places
-pub mod SpellableTrees
-pub mod SpelledPrograms
-pub mod SpelledTrees
-pub mod StmtLaws
-pub mod TokenKinds
+mod ExprLaws
+mod Forms
+mod Having
+mod Lists
+mod ModuleLaws
+mod Places
+mod SpellableTrees
+mod SpelledPrograms
+mod SpelledTrees
+mod StmtLaws
+mod TokenKinds
 mod worked
+pub mod Exports

@@ -19,10 +19,8 @@ use Rattle.read_rules.specs.declared.faults.ReadError.{ReadError}
 use Rattle.read_rules.specs.declared.faults.ReadError.TheVariants as errors
 use Rattle.est_ast.specs.Grammar.{span_of}
 use Rattle.read_rules.specs.Readings.{Read, Rule, refuse, give, follow, mapped, on, the, picked, turn, loop, taken_of}
-use Rattle.read_rules.proofs.Loops.{Advances, loop-unfolds}
-use Rattle.read_rules.proofs.Sets.{apart}
-use Rattle.read_rules.proofs.Readers.{Shape, one_shape, no_shape, then_shape, Reads, the-reads, give-reads, both-reads, led-reads, may-reads, made-reads}
-use Rattle.read_rules.proofs.Steps.{or_turn, step_shape, list_depth, or-steps, loop-reads, Advances-step}
+use Rattle.read_rules.proofs.Exports.{Advances, loop-unfolds, apart, Shape, one_shape, no_shape, then_shape, Reads, the-reads, give-reads, both-reads}
+use Rattle.read_rules.proofs.Exports.{led-reads, may-reads, made-reads, or_turn, step_shape, list_depth, or-steps, loop-reads, Advances-step}
 use Rattle.est_parse.specs.Reading.{list_step, listed, ends, finished, stmt_parts}
 use Rattle.est_parse.proofs.TokenKinds.{word_class, mark_class, class, word-test, mark-test, name-test}
 

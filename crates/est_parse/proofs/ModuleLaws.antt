@@ -14,13 +14,9 @@ use Rattle.read_rules.specs.Exact.{Exactly}
 use Rattle.read_rules.specs.Languages.{One, Then, Led, Both, Optional, Many}
 use Rattle.read_rules.specs.Choice.{Made}
 use Rattle.read_rules.specs.Readings.{Rule, the, whole}
-use Rattle.read_rules.proofs.Loops.{Advances}
-use Rattle.read_rules.proofs.Readers.{Shape, one_shape, Lang, Reads, the-reads, both-reads, led-reads, trail-reads, ahead-reads, mapped-reads, told-reads}
-use Rattle.read_rules.proofs.Readers.{made-reads, shape-reads}
-use Rattle.read_rules.proofs.Steps.{Turn, list_depth, Steps, look-steps, loop-reads, Advances-step}
-use Rattle.read_rules.proofs.Choices.{Arm, arm, choose-lang, choose-reads}
-use Rattle.read_rules.proofs.Choices.{whole-reads as exact-reads}
-use Rattle.read_rules.proofs.Depths.{list_depth-flat}
+use Rattle.read_rules.proofs.Exports.{Advances, Shape, one_shape, Lang, Reads, the-reads, both-reads, led-reads, trail-reads, ahead-reads, mapped-reads}
+use Rattle.read_rules.proofs.Exports.{told-reads, made-reads, shape-reads, Turn, list_depth, Steps, look-steps, loop-reads, Advances-step, Arm, arm}
+use Rattle.read_rules.proofs.Exports.{choose-lang, choose-reads, whole-reads as exact-reads, list_depth-flat}
 use Rattle.est_parse.specs.declared.openings.Declaration.{Declaration}
 use Rattle.est_parse.specs.declared.openings.Declaration.TheVariants as declarations
 use Rattle.est_parse.specs.Openings.{declaration_of, declaration}

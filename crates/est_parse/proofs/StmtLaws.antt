@@ -23,13 +23,10 @@ use Rattle.read_rules.specs.Languages.{Empty, One, Then, Led, Both, Loop, Maybe,
 use Rattle.read_rules.specs.Choice.{Made, Only, adds, fits}
 use Rattle.std.specs.Option.{option_map_or}
 use Rattle.read_rules.specs.Readings.{Read, Rule, picked, refuse, give, follow, mapped, both, on, the, trail}
-use Rattle.read_rules.proofs.Nesting.{Below, by_room}
-use Rattle.read_rules.proofs.Loops.{Advances}
-use Rattle.read_rules.proofs.Readers.{Shape, one_shape, no_shape, then_shape, either_shape, Lang, Reads, the-reads, give-reads, both-reads, led-reads}
-use Rattle.read_rules.proofs.Readers.{trail-reads, ahead-reads, mapped-reads, told-reads, made-reads, placed-reads, same-reads, shape-reads}
-use Rattle.read_rules.proofs.Steps.{Turn, or_turn, step_shape, step_depth, list_depth, Steps, or-steps, trailing-steps, step-reads, loop-reads, Advances-step}
-use Rattle.read_rules.proofs.Choices.{Arm, arm, choose-lang, choose-reads}
-use Rattle.read_rules.proofs.Depths.{list_depth-flat}
+use Rattle.read_rules.proofs.Exports.{Below, by_room, Advances, Shape, one_shape, no_shape, then_shape, either_shape, Lang, Reads, the-reads, give-reads}
+use Rattle.read_rules.proofs.Exports.{both-reads, led-reads, trail-reads, ahead-reads, mapped-reads, told-reads, made-reads, placed-reads, same-reads}
+use Rattle.read_rules.proofs.Exports.{shape-reads, Turn, or_turn, step_shape, step_depth, list_depth, Steps, or-steps, trailing-steps, step-reads, loop-reads}
+use Rattle.read_rules.proofs.Exports.{Advances-step, Arm, arm, choose-lang, choose-reads, list_depth-flat}
 use Rattle.est_parse.specs.declared.openings.Opening.{Opening}
 use Rattle.est_parse.specs.declared.openings.Opening.TheVariants as openings
 use Rattle.est_parse.specs.declared.openings.Flat.TheVariants as flats

@@ -14,9 +14,9 @@ use Rattle.est_ast.specs.declared.tokens.Mark.{Mark}
 use Rattle.est_ast.specs.declared.tokens.Mark.TheVariants as marks
 use Rattle.est_ast.specs.Spelling.{spelling, sign}
 use Rattle.est_ast.specs.Grammar.{is_word, word, is_mark, mark, name_at, name, number_at, number}
-use Rattle.est_ast.proofs.OneToken.{read_word, read-spelling, mark_of, mark_of-head}
+use Rattle.est_ast.proofs.Exports.{read_word, read-spelling, mark_of, mark_of-head}
 use Rattle.expr_tiers.specs.Reading.{Negates}
-use Rattle.read_rules.proofs.Sets.{has, Test, test-of}
+use Rattle.read_rules.proofs.Exports.{has, Test, test-of}
 use Rattle.est_parse.specs.declared.openings.Opening.{Opening}
 use Rattle.est_parse.specs.declared.openings.Opening.TheVariants as openings
 use Rattle.est_parse.specs.declared.openings.Flat.TheVariants as flats

@@ -1,6 +1,7 @@
-pub mod Rails
-pub mod Walks
-pub mod Monotone
-pub mod Solving
-pub mod Steps
+mod Rails
+mod Walks
+mod Monotone
+mod Solving
+mod Steps
 mod worked
+pub mod Exports

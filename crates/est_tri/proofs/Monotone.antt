@@ -4,7 +4,7 @@ use Rattle.std.proofs.Common.{◌≡◌, ℕ, zero, suc, Bool, not, ◌==◌, re
 use Rattle.est_kernel.specs.Terms.{Term, Nothing, Pause, Emit, Exit, Present, Suspend, Seq, Loop, Par, Trap, Local, Awake}
 use Rattle.est_kernel.specs.Statuses.{Status, Plus, Minus, Unknown, Environment, with_status, opposite, conjunction, value}
 use Rattle.est_kernel.specs.Laws.{IsBelow}
-use Rattle.est_kernel.proofs.Statuses.{below_self, cond_below, conjunction_below, disjunction_below, knows_self, opposite_below, value_below, with_status-more}
+use Rattle.est_kernel.proofs.Exports.{below_self, cond_below, conjunction_below, disjunction_below, knows_self, opposite_below, value_below, with_status-more}
 use Rattle.est_tri.specs.TriWalks.{Tri, where_met, tri_completes, tri_emits, tri_either, tri_in_turn, tri_upto, tri_together, tri_lowered}
 use Rattle.est_tri.specs.TriWalks.{tri_trapped, tri_hidden, tri}
 use Rattle.est_tri.specs.TriWalks.{tri_decided}

@@ -4,7 +4,7 @@ use Rattle.std.proofs.Common.{◌≡◌, ℕ, zero, suc, Bool, true, false, not,
 use Rattle.std.proofs.lemmas.Bool.{false≢true, true≢false}
 use Rattle.facts.proofs.Tests.{and-false, and-true}
 use Rattle.est_base.specs.Codes.{except, upto, maxima, lowered}
-use Rattle.est_kernel.proofs.Sets.{upto-in}
+use Rattle.est_kernel.proofs.Exports.{upto-in}
 use Rattle.est_kernel.specs.Statuses.{Status, Plus, Minus, Unknown, known, conjunction, disjunction}
 use Rattle.est_kernel.specs.Potentials.{Potential, completes, emits, union, together, trapped, hidden}
 use Rattle.est_tri.specs.TriWalks.{Tri, where_met, tri_completes, tri_emits, tri_either, tri_in_turn, tri_upto, tri_maxima, tri_together}

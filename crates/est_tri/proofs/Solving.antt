@@ -8,7 +8,7 @@ use Rattle.est_kernel.specs.Statuses.{Status, Plus, Minus, Unknown, Environment,
 use Rattle.est_kernel.specs.Steps.{where_known}
 use Rattle.est_kernel.specs.Reactions.{bound, settle}
 use Rattle.est_kernel.specs.Laws.{IsBelow, KnowsMore}
-use Rattle.est_kernel.proofs.Statuses.{below_trans}
+use Rattle.est_kernel.proofs.Exports.{below_trans}
 use Rattle.est_tri.specs.TriWalks.{where_met, tri, tri_decided}
 use Rattle.est_tri.specs.Settled.{solved, IsNoneOf, EachOnce, EachMeets}
 use Rattle.est_tri.specs.KnownPlaces.{IsKnown}

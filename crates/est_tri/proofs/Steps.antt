@@ -7,8 +7,7 @@ use Rattle.est_kernel.specs.Potentials.{decided}
 use Rattle.est_kernel.specs.Steps.{Step, step, ended, leaving, leaves, chosen_step, then_step, sequence_step, loop_step, parallel_step, trap_step, local_step}
 use Rattle.est_kernel.specs.Steps.{where_known}
 use Rattle.est_kernel.specs.StaticCodes.{started_codes, instant_loops}
-use Rattle.est_kernel.proofs.StepLaws.{step_is_what_must_be_done_lem}
-use Rattle.est_kernel.proofs.CodeLaws.{append-nil, not_instant, step_keeps_static_codes_lem}
+use Rattle.est_kernel.proofs.Exports.{step_is_what_must_be_done_lem, append-nil, not_instant, step_keeps_static_codes_lem}
 use Rattle.est_tri.specs.TriWalks.{tri, tri_decided}
 use Rattle.est_tri.specs.KnownPlaces.{IsKnown, Known}
 use Rattle.est_tri.specs.Laws.{sure, possible, StepsAreKnown, KnownSteps}

@@ -7,7 +7,7 @@ use Rattle.est_kernel.specs.Terms.{Term, Nothing, Pause, Emit, Exit, Present, Su
 use Rattle.est_kernel.specs.Statuses.{Status, Plus, Minus, Unknown, Environment, with_status, value, opposite, conjunction}
 use Rattle.est_kernel.specs.Potentials.{Kind, Must, Can, May, Potential, Potentials, idle, completes, emits, union, chosen, second_kind, codes_kept, sequence}
 use Rattle.est_kernel.specs.Potentials.{in_turn, together, trapped, hidden, local_status, decided, potential}
-use Rattle.est_kernel.proofs.PotentialLaws.{must_has_one_code_lem}
+use Rattle.est_kernel.proofs.Exports.{must_has_one_code_lem}
 use Rattle.est_tri.specs.TriWalks.{Tri, tri_idle, tri_completes, tri_emits, tri_either, tri_in_turn, tri_together, tri_trapped, tri_hidden, tri, tri_decided}
 use Rattle.est_tri.specs.Laws.{sure, possible, rail, Tells, WalksTellPotentials}
 use Rattle.est_tri.proofs.Rails.{IsRail, sure_rail, possible_rail, impossible, gated, in_sequence, rail_completes}

@@ -8,12 +8,10 @@ use Rattle.expr_text.specs.Grammar.{SpellsExpr, SpellsExprs, SpellsNextExprs, Sp
 use Rattle.expr_text.specs.Reading.{writtens, makes_written, Leaf, NameLeaf, BitLeaf, leaf_of, opening_of, tiers_of}
 use Rattle.expr_text.proofs.Tests.{number-test}
 use Rattle.expr_tiers.specs.Reading.{Negates, Opens, IsLeaf, Tiers}
-use Rattle.expr_tiers.proofs.Judgements.{IsTier, Behind, IsGrammar, Kinds, KnownExprs}
+use Rattle.expr_tiers.proofs.Exports.{IsTier, Behind, IsGrammar, Kinds, KnownExprs, Begins, part-to, negation-from, bracket-from, leaf-from, IsRow, tier-of}
 use Rattle.expr_tiers.proofs.Judgements as tiers
-use Rattle.expr_tiers.proofs.Grammars.{Begins, part-to, negation-from, bracket-from, leaf-from, IsRow, tier-of}
 use Rattle.read_rules.specs.Languages.{Led}
-use Rattle.read_rules.proofs.Sets.{has, Test, test-of}
-use Rattle.read_rules.proofs.Steps.{list_depth}
+use Rattle.read_rules.proofs.Exports.{has, Test, test-of, list_depth}
 
 -- ---- what begins a part
 

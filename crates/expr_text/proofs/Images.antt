@@ -8,8 +8,8 @@ use Rattle.read_rules.specs.declared.faults.Fault.{Fault}
 use Rattle.read_rules.specs.Readings.{Read, Rule, refuse, give, follow, mapped, both, trail, on, the, when, ahead, maybe, picked, turn, turns, loop}
 use Rattle.read_rules.specs.Readings.{end_of}
 use Rattle.read_rules.specs.Choice.{optional_or, choose, entered, fits}
-use Rattle.read_rules.proofs.Loops.{Advances, loop-last}
-pub use Rattle.expr_tiers.proofs.Shrinks.{shorter}
+use Rattle.read_rules.proofs.Exports.{Advances, loop-last}
+pub use Rattle.expr_tiers.proofs.Exports.{shorter}
 
 -- the second rule reads what the first one does, and gives what f makes of it
 abbrev pub Image : {T A B : Type 0} → (A → B) → Rule T A → Rule T B → Type 0

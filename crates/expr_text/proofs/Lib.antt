@@ -1,13 +1,14 @@
-pub mod Rows
-pub mod Images
-pub mod Tests
-pub mod ExprLaws
-pub mod Makers
-pub mod LexLaws
+mod Rows
+mod Images
+mod Tests
+mod ExprLaws
+mod Makers
+mod LexLaws
 pub mod Saying
 pub mod Spelling
-pub mod Operators
+mod Operators
 pub mod Naming
-pub mod Instants
-pub mod Places
-pub mod Again
+mod Instants
+mod Places
+mod Again
+pub mod Exports

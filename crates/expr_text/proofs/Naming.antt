@@ -9,7 +9,7 @@ use Rattle.std.proofs.lemmas.Option.{slice_get-get_or}
 use Rattle.est_base.specs.declared.indices.WireId.{WireId}
 use Rattle.est_base.specs.Distinct.{all_differ}
 use Rattle.est_base.specs.Names.{is_name, is_same_name}
-use Rattle.est_base.proofs.SameNames.{same_name-self}
+use Rattle.est_base.proofs.Exports.{same_name-self}
 use Rattle.net_ir.specs.declared.netlist.Op.TheVariants as ops
 use Rattle.net_ir.specs.declared.netlist.Gate.{Gate}
 use Rattle.net_ir.specs.declared.netlist.Latch.{Latch}
@@ -19,8 +19,7 @@ use Rattle.net_ir.specs.NameLists.{is_among}
 use Rattle.net_ir.specs.Netlists.{Netlist, first_gate, wire_at}
 use Rattle.net_ir.specs.Numbered.{numbered}
 use Rattle.net_ir.specs.Writing.{IsWritable}
-use Rattle.net_ir.proofs.Numbered.{length-numbered, get_or-numbered}
-use Rattle.net_ir.proofs.NumberedNames.{TellsGates, apart-by, differ-decimal, gates-differ, joined-differ, numbered-differ}
+use Rattle.net_ir.proofs.Exports.{length-numbered, get_or-numbered, TellsGates, apart-by, differ-decimal, gates-differ, joined-differ, numbered-differ}
 use Rattle.expr_text.specs.NetNames.{state_name, gate_name, gate_names, name_of_net}
 
 -- ---- the first byte tells kinds of names apart

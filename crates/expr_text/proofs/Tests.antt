@@ -3,8 +3,7 @@ use Rattle.std.proofs.Common.{◌≡◌, ℕ, Bool, true, false, ◌==◌, cond,
 use Rattle.std.specs.Prelude.{if◌then◌else◌}
 use Rattle.read_rules.specs.Languages.{Within}
 use Rattle.read_rules.specs.Readings.{Rule}
-use Rattle.read_rules.proofs.Sets.{has, Test, test-of}
-use Rattle.read_rules.proofs.Readers.{Shape, Starts, Stops, Laws, Reads, same-total}
+use Rattle.read_rules.proofs.Exports.{has, Test, test-of, Shape, Starts, Stops, Laws, Reads, same-total}
 use Rattle.expr_text.specs.Signs.{numbered_as}
 
 pub both-ways : (b : Bool) → is_some {T = Unit {0}} (if b then Some tt else None) ≡ cond b true false

@@ -6,12 +6,9 @@ use Rattle.std.proofs.lemmas.List.{append-nil}
 use Rattle.read_rules.specs.Languages.{Empty, One, Then, Led, Both, Loop, Parted}
 use Rattle.read_rules.specs.Choice.{Made, Only, adds, fits}
 use Rattle.read_rules.specs.Readings.{Rule}
-use Rattle.read_rules.proofs.Sets.{within, apart, Test}
-use Rattle.read_rules.proofs.Nesting.{Below, by_room}
-use Rattle.read_rules.proofs.Readers.{Shape, one_shape, no_shape, then_shape, Lang, Reads, the-reads, give-reads, both-reads, trail-reads, told-reads}
-use Rattle.read_rules.proofs.Readers.{made-reads, shape-reads}
-use Rattle.read_rules.proofs.Steps.{or_turn, step_shape, list_depth, or-steps, loop-reads}
-use Rattle.read_rules.proofs.Choices.{Arm, arm, choose-lang, choose-reads}
+use Rattle.read_rules.proofs.Exports.{within, apart, Test, Below, by_room, Shape, one_shape, no_shape, then_shape, Lang, Reads, the-reads, give-reads}
+use Rattle.read_rules.proofs.Exports.{both-reads, trail-reads, told-reads, made-reads, shape-reads, or_turn, step_shape, list_depth, or-steps, loop-reads}
+use Rattle.read_rules.proofs.Exports.{Arm, arm, choose-lang, choose-reads}
 use Rattle.expr_tiers.specs.Reading.{Opening, Negates, Opens, IsLeaf, Tiers, is_deep, opened, list_of, listed, conj, inside, rules_at}
 
 -- ---- a tier: parts with an operator between them

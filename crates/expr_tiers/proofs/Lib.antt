@@ -1,3 +1,4 @@
-pub mod Shrinks
+mod Shrinks
 pub mod Judgements
-pub mod Grammars
+mod Grammars
+pub mod Exports

@@ -6,7 +6,7 @@ use Rattle.std.proofs.lemmas.Bool.{false≢true}
 use Rattle.std.specs.Option.{option_map, option_map_or}
 use Rattle.read_rules.specs.Readings.{Read, Rule, refuse, give, follow, mapped, both, trail, the, picked, turn, turns, loop}
 use Rattle.read_rules.specs.Choice.{choose, entered, fits}
-use Rattle.read_rules.proofs.Loops.{Advances}
+use Rattle.read_rules.proofs.Exports.{Advances}
 use Rattle.expr_tiers.specs.Reading.{Opening, Negates, Opens, IsLeaf, Tiers, Rules, is_deep, opened, neg, list_of, list_step, listed, conj, inside}
 
 abbrev Shrinks : {T A : Type 0} → Rule T A → Type 0

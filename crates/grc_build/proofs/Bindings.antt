@@ -7,7 +7,7 @@ use Rattle.grc_graph.specs.Scopes.{Binding, Scope, Unbound}
 use Rattle.grc_graph.specs.Spots.{test_formula, status_formula}
 use Rattle.grc_graph.specs.Formulas.{Negation, Conjunction, Disjunction}
 use Rattle.grc_graph.specs.Statements.{signals_in}
-use Rattle.grc_graph.proofs.CodeReads.{StandsAt, stands_left, stands_right, stands_head}
+use Rattle.grc_graph.proofs.Exports.{StandsAt, stands_left, stands_right, stands_head}
 use Rattle.grc_build.specs.declared.tables.Tables.{Tables}
 use Rattle.grc_build.specs.Tabled.{bound_test, StatusIsThere, StatusesAreThere}
 

@@ -23,8 +23,7 @@ use Rattle.grc_graph.specs.Scopes.{Binding, Scope, Outgoing, BoundAt}
 use Rattle.grc_graph.specs.Spots.{Spot}
 use Rattle.grc_graph.specs.WireTables.{IsNumberOf}
 use Rattle.grc_graph.specs.Wires.{Wire, Out, Go, StatusOf, same_wire, status_wire}
-use Rattle.grc_graph.proofs.NeighbourReads.{one_place}
-use Rattle.grc_graph.proofs.SameWires.{same_layer-self, same_layer-true}
+use Rattle.grc_graph.proofs.Exports.{place_once, same_layer-self, same_layer-true}
 use Rattle.grc_build.specs.declared.emissions.Emitters.{Emitters}
 use Rattle.grc_build.specs.declared.tables.Tables.{Tables}
 use Rattle.grc_build.specs.Emitting.{values, Gathers, list_at, status_at, AreEmitters}
@@ -182,7 +181,7 @@ local_emitted t m new xs x s b j v e f y n o len out h =
         let r : layer_above b x.layer ≡ (instance_at insts i).layer = same_layer-true _ _ p.1 in
         let at : instance_at insts j ≡ record { path = b; layer = layer_above b x.layer } = y.same _ in
         let same : instance_at insts i ≡ instance_at insts j = (λ k. record { path = sym q k; layer = sym r k }) ∙ sym at in
-        absurd (d (one_place t.wires.list.now i j t.wires.tables.ascend (omega (arith, length-map t.wires.list.now instance_of))
+        absurd (d (place_once t.wires.list.now i j t.wires.tables.ascend (omega (arith, length-map t.wires.list.now instance_of))
         (omega (arith, length-map t.wires.list.now instance_of, y.within)) same)))
         (λ z. z)
         (cases_Bool (same_wire (StatusOf b (layer_above b x.layer)) (status_at t i)))

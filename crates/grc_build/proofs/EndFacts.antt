@@ -5,7 +5,7 @@ use Rattle.est_kernel.specs.Plain.{term_of}
 use Rattle.est_kernel.specs.Terms.{Expression, Term, Present, Suspend, Seq, Loop, Par, Trap, Local}
 use Rattle.est_kernel.specs.Preorder.{statement_count}
 use Rattle.est_kernel.specs.StaticCodes.{codes_if, has_code, started_codes, resumed_codes}
-use Rattle.est_kernel.proofs.Sets.{upto-in}
+use Rattle.est_kernel.proofs.Exports.{upto-in}
 use Rattle.grc_graph.specs.declared.statements.Statement.{Statement}
 use Rattle.grc_graph.specs.Equations.{end_formula, branch_over}
 use Rattle.grc_graph.specs.Formulas.{Conjunction, any_of}
@@ -15,11 +15,8 @@ use Rattle.grc_graph.specs.Scopes.{Scope, bind}
 use Rattle.grc_graph.specs.Spots.{test_formula}
 use Rattle.grc_graph.specs.Statements.{Entry, Part, Branch, Then, Else, Suspended, Second, Looped}
 use Rattle.grc_graph.specs.Wires.{End, instance_codes}
-use Rattle.grc_graph.proofs.CodeBounds.{program_kernel, codes_below-kernel}
-use Rattle.grc_graph.proofs.CodeReads.{StandsAt}
-use Rattle.grc_graph.proofs.RowFacts.{Placed, program_placed}
-use Rattle.grc_graph.proofs.RowSpots.{length-rows, stands_one, stands_first, stands_second, row_read}
-use Rattle.grc_graph.proofs.WireNames.{IsEnd}
+use Rattle.grc_graph.proofs.Exports.{program_kernel, codes_below-kernel, StandsAt, Placed, program_placed, length-rows, stands_one, stands_first}
+use Rattle.grc_graph.proofs.Exports.{stands_second, row_read, IsEnd}
 use Rattle.grc_build.specs.declared.tables.Tables.{Tables}
 use Rattle.grc_build.specs.Ending.{IsEnding, IsParallel, Tells, TellsLive, end_if, held_upto, held_end, suspension_ends, sequence_ends, loop_ends}
 use Rattle.grc_build.specs.Ending.{parallel_formula}

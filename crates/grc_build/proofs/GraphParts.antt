@@ -23,8 +23,7 @@ use Rattle.grc_graph.specs.Rows.{program_rows, spot_at}
 use Rattle.grc_graph.specs.Scopes.{program_scope}
 use Rattle.grc_graph.specs.SelectionTrees.{body_leaves, body_tree}
 use Rattle.grc_graph.specs.TreeForms as forms
-use Rattle.grc_graph.proofs.NeighbourReads.{wires_fit}
-use Rattle.grc_graph.proofs.RowSpots.{program_spots_by_row}
+use Rattle.grc_graph.proofs.Exports.{wires_fit, program_spots_by_row}
 use Rattle.grc_build.specs.declared.graphs.Formulas.{Formulas}
 use Rattle.grc_build.specs.declared.graphs.Parts.{Parts}
 use Rattle.grc_build.specs.declared.tables.Tables.{Tables}

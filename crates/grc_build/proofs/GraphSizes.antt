@@ -23,11 +23,8 @@ use Rattle.grc_graph.specs.Rows.{program_rows, row_at, spot_at}
 use Rattle.grc_graph.specs.Spots.{Spot}
 use Rattle.grc_graph.specs.Wires.{Out, End, codes_below, listed, instance_codes, own_status, instance_wires}
 use Rattle.grc_graph.specs.WireTables.{is_local}
-use Rattle.grc_graph.proofs.CodesBelow.{codes_below-has, codes_below-lacks}
-use Rattle.grc_graph.proofs.NeighbourReads.{path_within, name_at, first_instance}
-use Rattle.grc_graph.proofs.RowSpots.{program_spots_by_row}
-use Rattle.grc_graph.proofs.Sums.{sum_both, sum_mapped}
-use Rattle.grc_graph.proofs.WireFilling.{row_wires, outs_of, program_wires_by_row}
+use Rattle.grc_graph.proofs.Exports.{codes_below-has, codes_below-lacks, path_within, name_at, first_instance, program_spots_by_row, sum_both, sum_mapped}
+use Rattle.grc_graph.proofs.Exports.{row_wires, outs_of, program_wires_by_row}
 use Rattle.grc_build.specs.Rooms.{instance_size, size_at}
 
 length-own_status : (t : Term) (n : ℕ) (l : Layer) → length (own_status t n l) ≡ (if is_local t then 1 else 0)

@@ -28,12 +28,8 @@ use Rattle.grc_graph.specs.Selected.{HasExitCodes}
 use Rattle.grc_graph.specs.Statements.{Body}
 use Rattle.grc_graph.specs.WireTables.{IsNumberOf}
 use Rattle.grc_graph.specs.Wires.{Wire, Go}
-use Rattle.grc_graph.proofs.CodeBounds.{program_kernel}
-use Rattle.grc_graph.proofs.CodeReads.{stands_whole}
-use Rattle.grc_graph.proofs.LiveInstances.{instances_ascend_lem}
-use Rattle.grc_graph.proofs.ResumedPauses.{leaves_are_resumed_pauses_lem}
-use Rattle.grc_graph.proofs.RowReads.{preorder_read, length-program_rows}
-use Rattle.grc_graph.proofs.RowSpots.{row_read}
+use Rattle.grc_graph.proofs.Exports.{program_kernel, stands_whole, instances_ascend_lem, leaves_are_resumed_pauses_lem, preorder_read, length-program_rows}
+use Rattle.grc_graph.proofs.Exports.{row_read}
 use Rattle.grc_build.specs.declared.tables.Tables.{Tables}
 use Rattle.grc_build.specs.Meanings.{Means}
 use Rattle.grc_build.specs.Nexts.{layers_from, IsRun, selected_from, leaves_before}

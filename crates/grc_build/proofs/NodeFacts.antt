@@ -20,7 +20,7 @@ use Rattle.grc_graph.specs.PlainGraphs.{instance_at}
 use Rattle.grc_graph.specs.Scopes.{Scope, Binding, Outgoing, BoundAt}
 use Rattle.grc_graph.specs.WireTables.{IsNumberOf}
 use Rattle.grc_graph.specs.Wires.{Wire, Go, Out, StatusOf, status_wire}
-use Rattle.grc_graph.proofs.RowScopes.{HasStatus}
+use Rattle.grc_graph.proofs.Exports.{HasStatus}
 use Rattle.grc_build.specs.declared.tables.Tables.{Tables}
 use Rattle.grc_build.specs.Emitting.{spot_in}
 use Rattle.grc_build.specs.Noding.{IsNodeOf, IsNode, by_layer, parallel_node, AreBranches}

@@ -7,11 +7,11 @@ use Rattle.std.proofs.lemmas.List.Folds.{list_any-append}
 use Rattle.std.proofs.lemmas.List.Elements.{All-head, All-tail}
 use Rattle.est_kernel.specs.Terms.{Term}
 use Rattle.est_kernel.specs.StaticCodes.{has_code, started_codes, resumed_codes}
-use Rattle.est_kernel.proofs.Sets.{upto-in}
+use Rattle.est_kernel.proofs.Exports.{upto-in}
 use Rattle.grc_graph.specs.Layers.{Layer, Resumed, Started, Liveness, root_if, can_pass, part_liveness, second_liveness, loop_liveness}
 use Rattle.grc_graph.specs.Rows.{live_in}
 use Rattle.grc_graph.specs.Wires.{instance_codes}
-use Rattle.grc_graph.proofs.LiveInstances.{RootsFit}
+use Rattle.grc_graph.proofs.Exports.{RootsFit}
 
 abbrev Any : ℕ → List ℕ → Bool
 Any r rs = list_any (λ q. q == r) rs

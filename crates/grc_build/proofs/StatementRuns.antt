@@ -14,7 +14,7 @@ use Rattle.grc_graph.specs.Instances.{Instance, instances_at, instances, body_in
 use Rattle.grc_graph.specs.Layers.{Layer, Resumed, Started, Liveness, layers_of, liveness_at, body_liveness, body_layers, part_liveness, second_liveness}
 use Rattle.grc_graph.specs.Layers.{loop_liveness}
 use Rattle.grc_graph.specs.PlainGraphs.{instance_at}
-use Rattle.grc_graph.proofs.LiveInstances.{at_layer, instances_among}
+use Rattle.grc_graph.proofs.Exports.{at_layer, instances_among}
 use Rattle.grc_build.specs.Nexts.{is_of, layers_from, IsRun}
 
 -- ---- the instances of a statement are those with its path

@@ -23,9 +23,7 @@ use Rattle.grc_graph.specs.Spots.{test_formula}
 use Rattle.grc_graph.specs.Statements.{signals_in, signals_of}
 use Rattle.grc_graph.specs.StatementViews.{binding_of, view_of}
 use Rattle.grc_graph.specs.Wires.{Out}
-use Rattle.grc_graph.proofs.CodeReads.{StandsAt, stands_whole}
-use Rattle.grc_graph.proofs.RowScopes.{program_fits, out_there}
-use Rattle.grc_graph.proofs.WireNames.{IsStatus, live_of, in_layers}
+use Rattle.grc_graph.proofs.Exports.{StandsAt, stands_whole, program_fits, out_there, IsStatus, live_of, in_layers}
 use Rattle.grc_build.specs.declared.tables.Tables.{Tables}
 use Rattle.grc_build.specs.Tabled.{program_in, row_in, AreTables, IsLive, StatusIsThere, StatusesAreThere, bound_test}
 use Rattle.grc_build.specs.Entering.{IsTestOf}

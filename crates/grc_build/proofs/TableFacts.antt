@@ -5,18 +5,16 @@ use Rattle.std.proofs.lemmas.Bool.{cases_Bool, eqb-true, and_parts}
 use Rattle.est_kernel.specs.Terms.{Expression}
 use Rattle.est_kernel.specs.WellFormed.{IsKernel}
 use Rattle.est_kernel.specs.Preorder.{statement_count}
-use Rattle.est_kernel.proofs.ResidualLaws.{trees_are_kernels_lem}
+use Rattle.est_kernel.proofs.Exports.{trees_are_kernels_lem}
 use Rattle.grc_graph.specs.declared.statements.Statement.{Statement}
 use Rattle.grc_graph.specs.Layers.{Layer, Resumed, Started, second_liveness, loop_liveness}
 use Rattle.grc_graph.specs.Rows.{program_rows, listed_row, entry_formula, live_in}
 use Rattle.grc_graph.specs.Statements.{Entry, Part, Branch, Then, Else, Suspended, Second, Looped}
 use Rattle.grc_graph.specs.StatementViews.{view_of, entry_view}
 use Rattle.grc_graph.specs.Wires.{Go, End, instance_codes}
-use Rattle.grc_graph.proofs.CodeReads.{statement_count-le}
-use Rattle.grc_graph.proofs.LiveInstances.{at_layer}
-use Rattle.grc_graph.proofs.RowFacts.{PartOf, TestedPart, SecondPart, LoopedPart, Entered, Placed, program_placed}
-use Rattle.grc_graph.proofs.RowReads.{statement_read, length-statements, length-program_rows}
-use Rattle.grc_graph.proofs.WireNames.{Kind, IsGo, IsEnd, Below, WireAt, wire_named, wire_only, wire_there, live_instance, instance_live}
+use Rattle.grc_graph.proofs.Exports.{statement_count-le, at_layer, PartOf, TestedPart, SecondPart, LoopedPart, Entered, Placed, program_placed}
+use Rattle.grc_graph.proofs.Exports.{statement_read, length-statements, length-program_rows, Kind, IsGo, IsEnd, Below, WireAt, wire_named, wire_only}
+use Rattle.grc_graph.proofs.Exports.{wire_there, live_instance, instance_live}
 use Rattle.grc_build.specs.declared.tables.Tables.{Tables}
 use Rattle.grc_build.specs.Tabled.{program_in, row_in, AreTables, IsLive, IsThere}
 use Rattle.grc_build.specs.Entering.{tested_by, suspended_by, IsTestOf, first_end, FirstEnd, loop_start, LoopStart}

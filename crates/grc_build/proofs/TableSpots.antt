@@ -6,7 +6,7 @@ use Rattle.grc_graph.specs.Neighbouring.{instances_in}
 use Rattle.grc_graph.specs.PlainGraphs.{instance_at}
 use Rattle.grc_graph.specs.Rows.{program_rows, spot_at}
 use Rattle.grc_graph.specs.Spots.{Spot}
-use Rattle.grc_graph.proofs.RowSpots.{program_spots_by_row}
+use Rattle.grc_graph.proofs.Exports.{program_spots_by_row}
 use Rattle.grc_build.specs.declared.tables.Tables.{Tables}
 use Rattle.grc_build.specs.Emitting.{spot_in}
 use Rattle.grc_build.specs.Tabled.{program_in, AreTables}

@@ -26,10 +26,7 @@ use Rattle.grc_graph.specs.Rows.{program_rows, spot_at}
 use Rattle.grc_graph.specs.Spots.{Spot}
 use Rattle.grc_graph.specs.WireTables.{IsNumberOf}
 use Rattle.grc_graph.specs.Wires.{Wire, Out, Go, End, listed, instance_codes, own_status, instance_wires}
-use Rattle.grc_graph.proofs.CodeBounds.{program_kernel, codes_below-kernel}
-use Rattle.grc_graph.proofs.NeighbourReads.{wires_fit}
-use Rattle.grc_graph.proofs.RowSpots.{program_spots_by_row}
-use Rattle.grc_graph.proofs.WireNames.{IsEnd, out_only}
+use Rattle.grc_graph.proofs.Exports.{program_kernel, codes_below-kernel, wires_fit, program_spots_by_row, IsEnd, out_only}
 use Rattle.std.specs.Prelude.{Vec}
 use Rattle.std.specs.declared.alloc.Global.{Global}
 use Rattle.est_base.specs.declared.indices.WireId.{WireId}

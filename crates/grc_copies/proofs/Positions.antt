@@ -9,7 +9,7 @@ use Rattle.est_kernel.specs.declared.code_lists.Codes.{Codes}
 use Rattle.est_kernel.specs.Terms.{Term, Nothing, Pause, Emit, Exit, Present, Suspend, Seq, Loop, Par, Trap, Local, Awake}
 use Rattle.est_kernel.specs.StaticCodes.{has_code, started_codes, resumed_codes}
 use Rattle.grc_graph.specs.CodeTables.{HasCodesAt, CodesFrom, set_at}
-use Rattle.grc_graph.proofs.CodeReads.{codes_at}
+use Rattle.grc_graph.proofs.Exports.{codes_at}
 use Rattle.grc_graph.specs.Layers.{Layer, Resumed, Started, Liveness, body_liveness, root_if, can_pass, part_liveness, second_liveness, loop_liveness}
 use Rattle.grc_graph.specs.Instances as plain
 use Rattle.grc_graph.specs.Instances.{instances, instances_at, body_instances}

@@ -11,7 +11,7 @@ use Rattle.grc_graph.specs.Statements.{signals_in}
 use Rattle.grc_graph.specs.Wires.{Wire, status_wire, listed, codes_below}
 use Rattle.grc_graph.specs.Edges.{Edge, edge, edges_if, status_to, test_to}
 use Rattle.grc_graph.specs.WireOrders.{WireEdge}
-use Rattle.grc_graph.proofs.CodesBelow.{codes_below-none}
+use Rattle.grc_graph.proofs.Exports.{codes_below-none}
 use Rattle.grc_dep.specs.Names.{number_of}
 use Rattle.grc_dep.specs.Found.{pair_of, found}
 

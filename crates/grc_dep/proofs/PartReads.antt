@@ -21,10 +21,8 @@ use Rattle.grc_graph.specs.Scopes.{Scope, bind}
 use Rattle.grc_graph.specs.Spots.{Spot}
 use Rattle.grc_graph.specs.Statements.{Entry, Part, Branch, Then, Else, Suspended, Second, Looped, Listed, signals_of}
 use Rattle.grc_graph.specs.StatementViews.{view_of, binding_of}
-use Rattle.grc_graph.proofs.CodeReads.{StandsAt, statement_count-le}
-use Rattle.grc_graph.proofs.RowFacts.{program_placed}
-use Rattle.grc_graph.proofs.RowReads.{codes_read, length-program_rows}
-use Rattle.grc_graph.proofs.RowSpots.{Read, row_read, length-rows, stands_one, stands_first, stands_second, program_spots_by_row}
+use Rattle.grc_graph.proofs.Exports.{StandsAt, statement_count-le, program_placed, codes_read, length-program_rows, Read, row_read, length-rows, stands_one}
+use Rattle.grc_graph.proofs.Exports.{stands_first, stands_second, program_spots_by_row}
 use Rattle.grc_dep.specs.InstanceEdges.{instance_edges}
 use Rattle.grc_dep.specs.PartCodes.{PartsHaveCodes, IsListed}
 

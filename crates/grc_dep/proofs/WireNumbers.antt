@@ -5,7 +5,7 @@ use Rattle.std.specs.Prelude.{Contains, option_map, if◌then◌else◌}
 use Rattle.est_base.specs.declared.indices.WireId.{WireId}
 use Rattle.grc_graph.specs.Wires.{Wire, same_wire}
 use Rattle.grc_graph.specs.WireTables.{HasName}
-use Rattle.grc_graph.proofs.SameWires.{same_wire-self, same_wire-true}
+use Rattle.grc_graph.proofs.Exports.{same_wire-self, same_wire-true}
 use Rattle.grc_dep.specs.Names.{number_of, Apart}
 
 -- ---- the same name

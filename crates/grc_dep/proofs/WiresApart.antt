@@ -15,9 +15,7 @@ use Rattle.grc_graph.specs.Instances.{Instance, body_instances, Before, Ascends}
 use Rattle.grc_graph.specs.Neighbouring.{program_wires}
 use Rattle.grc_graph.specs.Rows.{Row, program_rows, row_at}
 use Rattle.grc_graph.specs.Wires.{Wire, Out, Go, StatusOf, End, codes_below, listed, instance_codes, own_status, instance_wires}
-use Rattle.grc_graph.proofs.LiveInstances.{instances_ascend_lem}
-use Rattle.grc_graph.proofs.WireFilling.{row_wires, outs_of, program_wires_by_row}
-use Rattle.grc_graph.proofs.SameWires.{layer_irrefl}
+use Rattle.grc_graph.proofs.Exports.{instances_ascend_lem, row_wires, outs_of, program_wires_by_row, layer_irrefl}
 use Rattle.grc_dep.specs.Names.{Apart}
 
 -- ---- lists in which nothing stands twice

@@ -12,8 +12,7 @@ use Rattle.est_kernel.specs.Sizes.{trap_depth}
 use Rattle.est_kernel.specs.StaticCodes.{codes_if, has_code, started_codes, resumed_codes, branch_codes}
 use Rattle.est_kernel.specs.WellFormed as formed
 use Rattle.est_kernel.specs.WellFormed.{ExitsStandInTraps, KeepsLimits}
-use Rattle.est_kernel.proofs.Sets.{except-parts, maxima-parts, lowered-parts}
-use Rattle.est_kernel.proofs.ResidualLaws.{trap_code-most}
+use Rattle.est_kernel.proofs.Exports.{except-parts, maxima-parts, lowered-parts, trap_code-most}
 use Rattle.grc_graph.specs.Layers.{Layer, Resumed, Started, Liveness, body_liveness, part_liveness, second_liveness, loop_liveness}
 use Rattle.grc_graph.specs.Scopes.{Scope, bind, program_scope}
 use Rattle.grc_graph.specs.Selected.{HasExitCodes}

@@ -9,7 +9,7 @@ use Rattle.est_kernel.specs.Sizes.{size_of}
 use Rattle.est_kernel.specs.Terms.{Term, Nothing, Pause, Emit, Exit, Present, Suspend, Seq, Loop, Par, Trap, Local, Awake}
 use Rattle.est_kernel.specs.Preorder.{statement_count, preorder}
 use Rattle.est_kernel.specs.StaticCodes.{started_codes, resumed_codes}
-use Rattle.est_kernel.proofs.CodeLaws.{length-preorder}
+use Rattle.est_kernel.proofs.Exports.{length-preorder}
 use Rattle.grc_graph.specs.CodeTables.{set_at, HasCodesAt, CodesFrom}
 
 -- a list stands in another at this place

@@ -1,30 +1,31 @@
-pub mod Sums
-pub mod CodeSets
-pub mod CodeReads
-pub mod TreeLaws
-pub mod TreeJudging
-pub mod TreeSelections
-pub mod LiveInstances
-pub mod ResidualCodes
-pub mod ResumedPauses
-pub mod CodesBelow
-pub mod StatementLists
-pub mod RowReads
-pub mod RowFacts
-pub mod WireRuns
-pub mod StatementPaths
-pub mod WireSearching
-pub mod WireNames
-pub mod WireFilling
-pub mod NeighbourReads
-pub mod InstanceRuns
-pub mod LiveLayers
-pub mod RowSpots
-pub mod CodeBounds
-pub mod RowScopes
-pub mod BuiltReads
-pub mod SameWires
-pub mod Holding
-pub mod StateForms
-pub mod WirePlaces
+mod Sums
+mod CodeSets
+mod CodeReads
+mod TreeLaws
+mod TreeJudging
+mod TreeSelections
+mod LiveInstances
+mod ResidualCodes
+mod ResumedPauses
+mod CodesBelow
+mod StatementLists
+mod RowReads
+mod RowFacts
+mod WireRuns
+mod StatementPaths
+mod WireSearching
+mod WireNames
+mod WireFilling
+mod NeighbourReads
+mod InstanceRuns
+mod LiveLayers
+mod RowSpots
+mod CodeBounds
+mod RowScopes
+mod BuiltReads
+mod SameWires
+mod Holding
+mod StateForms
+mod WirePlaces
 mod worked
+pub mod Exports

@@ -146,9 +146,9 @@ absent_instance insts x p up h g c =
     (cases_lt k p)
 
 -- one instance stands at one place
-pub one_place : (insts : List Instance) (i j : ℕ) → Ascending insts → i < length insts → j < length insts
+pub place_once : (insts : List Instance) (i j : ℕ) → Ascending insts → i < length insts → j < length insts
     → instance_at (map instance_of insts) i ≡ instance_at (map instance_of insts) j → i ≡ j
-one_place insts i j up li lj e =
+place_once insts i j up li lj e =
     let same : instance_of (get_or insts i first_instance) ≡ instance_of (get_or insts j first_instance)
     = sym (name_at insts i first_instance _ li) ∙ e ∙ name_at insts j first_instance _ lj in
     ⊎_elim (λ q. q)
@@ -213,7 +213,7 @@ not_there : (insts : List Instance) (raw : List Wire) (first : List ℕ) (inputs
 not_there insts raw first inputs outgoing i j w u t li lw none e o same =
     let own : owner (get_or raw w first_wire) ≡ Some j = ap owner e ∙ o in
     let lj : j < length insts = t.runs.own_in w j first_wire lw own in
-    let ij : i ≡ j = one_place insts i j t.ascend li lj same in
+    let ij : i ≡ j = place_once insts i j t.ascend li lj same in
     none w first_wire (subst (λ k. slice_index first k ≤ w) (sym ij) (t.runs.own_from w j first_wire lw own))
     (subst (λ k. w < slice_index first (k + 1)) (sym ij) (t.runs.own_below w j first_wire lw own)) e
 
@@ -231,7 +231,7 @@ absent_end insts raw first inputs outgoing i k t li none c =
     let e = sym (get_or-map (wire_of list) raw c.0 first_wire (names.End x.path x.layer k) inside) ∙ c.2 in
     let f = end_from list (get_or raw c.0 first_wire) x.path x.layer k e in
     let lj : f.0 < length insts = t.runs.own_in c.0 f.0 first_wire inside (ap owner f.1) in
-    let ij : i ≡ f.0 = one_place insts i f.0 t.ascend li lj (sym f.2) in
+    let ij : i ≡ f.0 = place_once insts i f.0 t.ascend li lj (sym f.2) in
     not_there insts raw first inputs outgoing i i c.0 (wires.End (record { 0 = i }) k) t li inside none
     (f.1 ∙ λ t. wires.End (record { 0 = sym ij t }) k) refl refl
 
@@ -249,7 +249,7 @@ absent_status insts raw first inputs outgoing i t li none c =
     let e = sym (get_or-map (wire_of list) raw c.0 first_wire (names.StatusOf x.path x.layer) inside) ∙ c.2 in
     let f = status_from list (get_or raw c.0 first_wire) x.path x.layer e in
     let lj : f.0 < length insts = t.runs.own_in c.0 f.0 first_wire inside (ap owner f.1) in
-    let ij : i ≡ f.0 = one_place insts i f.0 t.ascend li lj (sym f.2) in
+    let ij : i ≡ f.0 = place_once insts i f.0 t.ascend li lj (sym f.2) in
     not_there insts raw first inputs outgoing i i c.0 (wires.Local (record { 0 = i })) t li inside none
     (f.1 ∙ λ t. wires.Local (record { 0 = sym ij t })) refl refl
 

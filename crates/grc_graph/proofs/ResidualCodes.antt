@@ -10,7 +10,7 @@ use Rattle.est_kernel.specs.Laws.{IsSubset}
 use Rattle.est_kernel.specs.Terms.{Term, Nothing, Pause, Emit, Exit, Present, Suspend, Seq, Loop, Par, Trap, Local, Awake}
 use Rattle.est_kernel.specs.Preorder.{statement_count}
 use Rattle.est_kernel.specs.StaticCodes.{codes_if, has_code, branch_codes, started_codes, resumed_codes}
-use Rattle.est_kernel.proofs.Sets.{maxima-subset, lowered-subset, except-in, except-parts}
+use Rattle.est_kernel.proofs.Exports.{maxima-subset, lowered-subset, except-in, except-parts}
 use Rattle.grc_graph.specs.Layers.{can_pass}
 use Rattle.grc_graph.specs.Residuals.{holds, residual, left_if}
 use Rattle.grc_graph.specs.SelectionTrees.{leaf_paths, resumes, second_resumes, body_leaves}

@@ -6,7 +6,7 @@ use Rattle.std.proofs.lemmas.Bool.{false≢true}
 use Rattle.std.proofs.lemmas.List.Elements.{filter-append}
 use Rattle.est_kernel.specs.Terms.{Term, Nothing, Pause, Emit, Exit, Present, Suspend, Seq, Loop, Par, Trap, Local, Awake}
 use Rattle.est_kernel.specs.Preorder.{statement_count, preorder}
-use Rattle.est_kernel.proofs.CodeLaws.{length-preorder}
+use Rattle.est_kernel.proofs.Exports.{length-preorder}
 use Rattle.grc_graph.specs.Layers.{Layer, Resumed, Started, Liveness, part_liveness, second_liveness, loop_liveness, body_liveness}
 use Rattle.grc_graph.specs.Instances.{Instance, instances_at, instances, body_instances}
 use Rattle.grc_graph.specs.Selected.{HasExitCodes}

@@ -6,7 +6,7 @@ use Rattle.std.proofs.lemmas.Bool.{cases_lt, cases_eq, cases_Bool, eq-eqb, ne_eq
 use Rattle.est_kernel.specs.Plain.{Program, interface_count}
 use Rattle.est_kernel.specs.Terms.{Expression, Term, Nothing, Pause, Emit, Exit, Present, Suspend, Seq, Loop, Par, Trap, Local, Awake}
 use Rattle.est_kernel.specs.Preorder.{statement_count}
-use Rattle.est_kernel.proofs.PreorderLaws.{statement_count-pos}
+use Rattle.est_kernel.proofs.Exports.{statement_count-pos}
 use Rattle.grc_graph.specs.Layers.{Layer, Liveness, layer_above, layers_of, body_liveness, part_liveness, second_liveness, loop_liveness}
 use Rattle.grc_graph.specs.Scopes.{Scope, Binding, Entering, Outgoing, BoundAt, Unbound, bind, program_scope}
 use Rattle.grc_graph.specs.Statements.{Entry, Body, Part, Branch, Then, Else, Suspended, Second, Looped, signals_in, signals_of}

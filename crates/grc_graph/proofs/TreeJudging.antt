@@ -8,7 +8,7 @@ use Rattle.std.proofs.Math.Bool.{and-false}
 use Rattle.facts.proofs.Tests.{if-false, if-true}
 use Rattle.est_kernel.specs.Terms.{Term, Nothing, Pause, Emit, Exit, Present, Suspend, Seq, Loop, Par, Trap, Local, Awake}
 use Rattle.est_kernel.specs.Preorder.{statement_count}
-use Rattle.est_kernel.proofs.PreorderLaws.{statement_count-pos}
+use Rattle.est_kernel.proofs.Exports.{statement_count-pos}
 use Rattle.grc_graph.specs.declared.trees.SelNode.{SelNode}
 use Rattle.grc_graph.specs.Layers.{can_pass}
 use Rattle.grc_graph.specs.SelectionTrees.{Form, Leaf, Exclusive, Parallel, Passing, TreeNode, tree_nodes, leaf_paths, subtree_if, resumes, second_resumes}

@@ -8,7 +8,7 @@ use Rattle.std.proofs.lemmas.List.{get_or-map, length-map}
 use Rattle.est_kernel.specs.Plain.{program_of}
 use Rattle.est_kernel.specs.Terms.{Term}
 use Rattle.est_kernel.specs.Preorder.{statement_count}
-use Rattle.est_kernel.proofs.PreorderLaws.{statement_count-pos}
+use Rattle.est_kernel.proofs.Exports.{statement_count-pos}
 use Rattle.grc_graph.specs.declared.graph.Graph.{Graph}
 use Rattle.grc_graph.specs.declared.instances.Instance.{Instance}
 use Rattle.grc_graph.specs.declared.wires.Wire.{Wire}

@@ -7,7 +7,7 @@ use Rattle.std.proofs.lemmas.List.{get_or_append_left, get_or-append-add, get_or
 use Rattle.est_kernel.specs.Terms.{Term, Nothing, Pause, Emit, Exit, Present, Suspend, Seq, Loop, Par, Trap, Local, Awake}
 use Rattle.est_kernel.specs.Preorder.{statement_count, preorder}
 use Rattle.grc_graph.specs.WireNames.{below, paths, path_at, bound_signal, bound_at}
-use Rattle.grc_graph.proofs.StatementPaths.{long_one, long_two, long_below, length-paths, length-preorder, first_path}
+use Rattle.grc_graph.proofs.Exports.{long_one, long_two, long_below, length-paths, length-preorder, first_path}
 use Rattle.grc_list.specs.Places.{Place, place, places, body_places}
 
 -- ---- lengths

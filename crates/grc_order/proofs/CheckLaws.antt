@@ -8,7 +8,7 @@ use Rattle.std.proofs.lemmas.List.Elements.{All-head, All-tail, All-push, All-fi
 use Rattle.facts.proofs.Lists.{count_by-no, count_by-yes}
 use Rattle.est_base.specs.declared.indices.WireId.{WireId}
 use Rattle.grc_graph.specs.WireOrders.{WireEdge, wire_at, edge_at, times, AreEdges, IsWireOrder}
-use Rattle.grc_graph.proofs.WirePlaces.{place-of}
+use Rattle.grc_graph.proofs.Exports.{place-of}
 use Rattle.grc_order.specs.Schedules.{edges_from}
 use Rattle.grc_order.specs.Checks.{LeadToMarked, IsChecked}
 use Rattle.grc_order.proofs.Counts.{bit, times-push, times-place}

@@ -7,7 +7,7 @@ use Rattle.std.proofs.lemmas.List.Sums.{count_by_more_yes, count_by_more_no, cou
 use Rattle.std.proofs.lemmas.List.Elements.{All-push}
 use Rattle.est_base.specs.declared.indices.WireId.{WireId}
 use Rattle.grc_graph.specs.WireOrders.{WireEdge, edge_at, times}
-use Rattle.grc_graph.proofs.WirePlaces.{place-of}
+use Rattle.grc_graph.proofs.Exports.{place-of}
 use Rattle.grc_order.specs.Schedules.{arrivals, IsReadyOf}
 use Rattle.grc_order.proofs.Counts.{bit, times-push}
 

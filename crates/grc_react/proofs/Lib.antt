@@ -1,10 +1,11 @@
-pub mod Agreement
-pub mod Stages
-pub mod Meanings
-pub mod Ends
-pub mod Steps
-pub mod LeastCodes
-pub mod States
-pub mod OrderRanks
-pub mod Results
-pub mod Wholes
+mod Agreement
+mod Stages
+mod Meanings
+mod Ends
+mod Steps
+mod LeastCodes
+mod States
+mod OrderRanks
+mod Results
+mod Wholes
+pub mod Exports

@@ -14,7 +14,7 @@ use Rattle.grc_graph.specs.Orders.{GoUp}
 use Rattle.grc_graph.specs.Selected.{HasExitCodes}
 use Rattle.grc_graph.specs.WireOrders.{WireEdge, wire_at, edge_at, times, AreEdges, AreRanks, IsWireOrder}
 use Rattle.grc_graph.specs.Wires.{Wire}
-use Rattle.grc_solutions.proofs.Numbers.{stands_at, wire_ranks_go_up_lem}
+use Rattle.grc_solutions.proofs.Exports.{stands_at, wire_ranks_go_up_lem}
 
 -- the place of a wire in an order
 place_in : List WireId → ℕ → ℕ

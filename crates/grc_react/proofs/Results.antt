@@ -19,15 +19,12 @@ use Rattle.grc_graph.specs.Selected.{IsState}
 use Rattle.grc_graph.specs.SelectionTrees.{body_leaves, selecting}
 use Rattle.grc_graph.specs.Walk.{State, remaining}
 use Rattle.grc_graph.specs.Wires.{Wire, Out}
-use Rattle.grc_graph.proofs.StateForms.{states-are-formed}
+use Rattle.grc_graph.proofs.Exports.{states-are-formed}
 use Rattle.grc_sem.specs.GraphWalks.{SelectsLeaves, IsWalkOf, graph_walk, shown_code}
-use Rattle.grc_sem.proofs.Instants.{next_state_is_kept_lem, codes_are_shown_lem}
-use Rattle.grc_sem.proofs.Premises.{program_kernel}
-use Rattle.grc_tri.proofs.Acyclic.{solutions_are_reactions_lem}
-use Rattle.grc_sem.proofs.WalkSolves.{equations_are_the_walk_lem}
+use Rattle.grc_sem.proofs.Exports.{next_state_is_kept_lem, codes_are_shown_lem, program_kernel, equations_are_the_walk_lem}
+use Rattle.grc_tri.proofs.Exports.{solutions_are_reactions_lem}
 use Rattle.grc_solutions.specs.GraphWires.{Differ}
-use Rattle.grc_solutions.proofs.Numbers.{reading_orders_read_up_lem}
-use Rattle.grc_solutions.proofs.Solving.{one_solution_lem}
+use Rattle.grc_solutions.proofs.Exports.{reading_orders_read_up_lem, one_solution_lem}
 use Rattle.grc_words.specs.Occasions.{state_of}
 use Rattle.grc_react.specs.declared.reaction.Reaction.{Reaction}
 use Rattle.grc_react.specs.Reactions.{IsProgramGraph, BeginsWell, IsWalked, IsConstructive, state_after, valued}

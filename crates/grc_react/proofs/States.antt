@@ -13,8 +13,7 @@ use Rattle.grc_graph.specs.Selected.{IsSelected, IsState}
 use Rattle.grc_graph.specs.Selections.{well_formed, at_most_one, each_or_over}
 use Rattle.grc_graph.specs.SelectionTrees.{leaf_paths, resumes, second_resumes, body_leaves}
 use Rattle.grc_graph.specs.Walk.{Selecting}
-use Rattle.grc_graph.proofs.TreeSelections.{leaves_among, leaves_none}
-use Rattle.grc_graph.proofs.ResidualCodes.{branches_fit}
+use Rattle.grc_graph.proofs.Exports.{leaves_among, leaves_none, branches_fit}
 use Rattle.grc_sem.specs.GraphWalks.{SelectsLeaves}
 
 -- ---- a state is well formed

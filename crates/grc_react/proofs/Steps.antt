@@ -15,12 +15,12 @@ use Rattle.grc_graph.specs.Reads.{ReadsOnly, IsReadingOrder, StandsBefore}
 use Rattle.grc_graph.specs.PlainGraphs as graphs
 use Rattle.grc_graph.specs.WireOrders.{wire_at}
 use Rattle.grc_graph.specs.Wires.{Wire}
-use Rattle.grc_graph.proofs.WirePlaces.{equations-all, length-names}
+use Rattle.grc_graph.proofs.Exports.{equations-all, length-names}
 use Rattle.grc_solutions.specs.Evaluating.{IsSolvedUpTo}
 use Rattle.grc_solutions.specs.Evaluations.{valuation_of}
 use Rattle.grc_solutions.specs.GraphWires.{Differ, equation_wires}
 use Rattle.grc_solutions.specs.NumberedGraphs.{formulas_of}
-use Rattle.grc_solutions.proofs.Evaluated.{solved_at_start, solved_one_more, solved_at_end}
+use Rattle.grc_solutions.proofs.Exports.{solved_at_start, solved_one_more, solved_at_end}
 use Rattle.grc_words.specs.declared.table.Words.{Words}
 use Rattle.grc_react.specs.declared.rows.Start.{Start}
 use Rattle.grc_react.specs.Evaluations.{Early, IsKnown, IsSolved, formula_under, start_state}

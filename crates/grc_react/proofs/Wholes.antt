@@ -10,7 +10,7 @@ use Rattle.grc_words.specs.declared.table.Row.{Row}
 use Rattle.grc_words.specs.declared.table.Words.{Words}
 use Rattle.grc_words.specs.Rows.{source_value, row_values, source_fits}
 use Rattle.grc_words.specs.WordLaws.{late_bounds, value_of}
-use Rattle.grc_words.proofs.RowValues.{length-row_values, row_values-append}
+use Rattle.grc_words.proofs.Exports.{length-row_values, row_values-append}
 use Rattle.grc_react.specs.declared.rows.Start.{Start}
 use Rattle.grc_react.specs.Evaluations.{Begins, Early, Late, surroundings_of}
 use Rattle.grc_react.proofs.Stages.{occasion, false-off, source-known}

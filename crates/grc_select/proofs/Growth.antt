@@ -15,8 +15,7 @@ use Rattle.grc_graph.specs.declared.trees.SelForm.{SelForm}
 use Rattle.grc_graph.specs.declared.trees.SelNode.{SelNode}
 use Rattle.grc_graph.specs.SelectionTrees.{Form, TreeNode, tree_nodes, leaf_paths, subtree_if, resumes, second_resumes}
 use Rattle.grc_graph.specs.TreeForms.{form_of, node_of}
-use Rattle.grc_graph.proofs.TreeLaws.{tree_none}
-use Rattle.grc_graph.proofs.TreeSelections.{leaves_none}
+use Rattle.grc_graph.proofs.Exports.{tree_none, leaves_none}
 use Rattle.grc_select.specs.declared.nodes.TreeDraft.{TreeDraft}
 use Rattle.grc_select.specs.declared.nodes.Part.{Part}
 use Rattle.grc_select.specs.Growing.{node, opened, closed, Grows}

@@ -1,1 +1,2 @@
-pub mod Growth
+mod Growth
+pub mod Exports

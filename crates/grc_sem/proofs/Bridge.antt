@@ -12,8 +12,8 @@ use Rattle.grc_graph.specs.Scopes.{Scope, bind}
 use Rattle.grc_graph.specs.Formulas.{Formula, Negation}
 use Rattle.grc_graph.specs.Spots.{Spot, spots, spots_at, test_formula, tested_entry, suspended_entry, branch_entry, second_entry, loop_entry, part_entry}
 use Rattle.grc_graph.specs.Selected.{HasExitCodes}
-use Rattle.grc_solutions.proofs.Each.{spot}
-use Rattle.grc_graph.proofs.LiveLayers.{Agrees, here_agrees, only_agrees, first_agrees, second_agrees}
+use Rattle.grc_solutions.proofs.Exports.{spot}
+use Rattle.grc_graph.proofs.Exports.{Agrees, here_agrees, only_agrees, first_agrees, second_agrees}
 
 pub four : (a b c d : Bool) → ((a || b) || (c || d)) ≡ ((a || c) || (b || d))
 four a b c d = simp (or_assoc, or_comm, or-swapped)

@@ -13,8 +13,7 @@ use Rattle.grc_graph.specs.Formulas.{Formula, Negation}
 use Rattle.grc_graph.specs.Spots.{Spot, spots, spots_at, test_formula, tested_entry, suspended_entry, branch_entry, second_entry, loop_entry, part_entry}
 use Rattle.grc_graph.specs.Equations.{is_wire, emits_on}
 use Rattle.grc_graph.specs.Readings.{Valuation}
-use Rattle.grc_solutions.proofs.Each.{spot}
-use Rattle.grc_solutions.proofs.Binders.{Above}
+use Rattle.grc_solutions.proofs.Exports.{spot, Above}
 
 -- an instance emits on the wire, and runs
 abbrev pub emission : Valuation → Wire → Spot → Bool

@@ -9,7 +9,7 @@ use Rattle.est_base.specs.Codes.{upto}
 use Rattle.est_kernel.specs.Terms.{Expression, Tick, Sig, Not, And, Or, Term}
 use Rattle.est_kernel.specs.Steps.{trap_code}
 use Rattle.est_kernel.specs.StaticCodes.{has_code}
-use Rattle.est_kernel.proofs.Sets.{upto-in, upto-parts}
+use Rattle.est_kernel.proofs.Exports.{upto-in, upto-parts}
 use Rattle.grc_graph.specs.Layers.{Layer, Resumed}
 use Rattle.grc_graph.specs.Scopes.{Binding, Entering, Outgoing, BoundAt, Unbound, Scope}
 use Rattle.grc_graph.specs.Wires.{Go, End}

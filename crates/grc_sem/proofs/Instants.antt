@@ -21,15 +21,14 @@ use Rattle.grc_sem.specs.Laws.{NextStateIsKept, CodesAreShown}
 use Rattle.grc_sem.proofs.Residues.{some_has, resumed_live}
 use Rattle.grc_sem.proofs.Kept.{Same, holds_same, residual_same}
 use Rattle.grc_sem.proofs.Meets.{started_at, resumed_at}
-use Rattle.grc_solutions.proofs.Looked.{statement_at}
+use Rattle.grc_solutions.proofs.Exports.{statement_at}
 use Rattle.grc_sem.proofs.Joint.{dead_wire}
 use Rattle.grc_sem.proofs.Tops.{state_reach}
 use Rattle.grc_sem.proofs.Solutions.{top_started, top_resumed}
 use Rattle.grc_sem.proofs.NextKept.{one_flip}
 use Rattle.grc_sem.proofs.NextStates.{selected_as, leaf_way}
 use Rattle.grc_sem.proofs.NextTop.{StatePauses, keeps_state, next_kept, next_selected}
-use Rattle.grc_graph.proofs.CodeBounds.{started_below, resumed_below}
-use Rattle.grc_graph.proofs.Holding.{holds-false}
+use Rattle.grc_graph.proofs.Exports.{started_below, resumed_below, holds-false}
 use Rattle.grc_sem.proofs.WalkCodes.{started_code, resumed_code}
 use Rattle.grc_sem.proofs.FirstCodes.{first_listed, none_listed}
 

@@ -15,10 +15,9 @@ use Rattle.grc_graph.specs.Equations.{Equation, equations, end_formula, emits_on
 use Rattle.grc_graph.specs.Walk.{Values, State}
 use Rattle.grc_graph.specs.Selected.{HasExitCodes}
 use Rattle.grc_graph.specs.Readings.{Valuation}
-use Rattle.grc_solutions.proofs.Lists.{every_of_all, every_both, every_right, every_map, every_flat_map, every_listed, every_from}
-use Rattle.grc_solutions.proofs.Looked.{statement_at, Looked, looked}
-use Rattle.grc_graph.proofs.CodeBounds.{started_below, resumed_below}
-use Rattle.grc_graph.proofs.SameWires.{same_layer-true}
+use Rattle.grc_solutions.proofs.Exports.{every_of_all, every_both, every_right, every_map, every_flat_map, every_listed, every_from, statement_at, Looked}
+use Rattle.grc_solutions.proofs.Exports.{looked}
+use Rattle.grc_graph.proofs.Exports.{started_below, resumed_below, same_layer-true}
 use Rattle.grc_sem.proofs.Emissions.{emitted}
 use Rattle.grc_sem.proofs.EndForms.{val, any_meaning}
 use Rattle.grc_sem.proofs.Meets.{Met}

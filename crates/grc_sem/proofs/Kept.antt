@@ -11,7 +11,7 @@ use Rattle.grc_graph.specs.Layers.{Layer, Resumed, Started}
 use Rattle.grc_graph.specs.Residuals.{holds, left_if, residual}
 use Rattle.grc_graph.specs.Walk.{Walk, Values, with_value, truth, ended, kept_by, then_walk, both_walks, trapped_walk, started_walk, resumed_walk, selected_in}
 use Rattle.grc_graph.specs.Selected.{HasExitCodes}
-use Rattle.grc_graph.proofs.Holding.{holds-false}
+use Rattle.grc_graph.proofs.Exports.{holds-false}
 
 -- two sets of pauses agree from a on below b
 pub record Same (S T : ℕ → Bool) (a b : ℕ) : Type 0 where

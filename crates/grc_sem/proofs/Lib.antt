@@ -1,54 +1,55 @@
 -- The lemmas, in the order in which docs/proofs.md tells them.
 
 -- what the laws ask of a body, from what is asked of a program
-pub mod Premises
+mod Premises
 -- what a selection leaves of a statement, and its codes
-pub mod Residues
+mod Residues
 -- the code of a walk is a static code of its statement
-pub mod WalkCodes
+mod WalkCodes
 -- what some live instance of a statement passes, by layers
-pub mod Bridge
+mod Bridge
 -- where the emissions on a status wire stand
-pub mod Emissions
+mod Emissions
 -- they are those of the walk of the body that sees the wire
-pub mod WalkEmits
+mod WalkEmits
 -- what the formulas of ends mean, form by form
-pub mod EndForms
+mod EndForms
 -- what the wires of an instance meet, and what its place sees and finds
-pub mod Meets
+mod Meets
 -- the status wire of a Local is what its body emits
-pub mod OwnStatus
+mod OwnStatus
 -- the ends of an instance, where its parts are those of the walk
-pub mod WalkEnds
+mod WalkEnds
 -- where each instance meets its equations, its wires are those of the walk
-pub mod Told
+mod Told
 -- from the list of a graph's equations to what each instance meets
-pub mod Joint
+mod Joint
 -- what a whole body sees, selects and emits
-pub mod Tops
+mod Tops
 -- so a solution is a walk
-pub mod Solutions
+mod Solutions
 -- wires that are those of the walk meet the equations
-pub mod WalksMeet
+mod WalksMeet
 -- so the solutions are just the walks
-pub mod WalkSolves
+mod WalkSolves
 -- what a walk keeps, and that what is held depends on nothing else
-pub mod Kept
+mod Kept
 -- the way down to a pause
-pub mod Ways
+mod Ways
 -- the next formula of a pause says whether the walk keeps it
-pub mod NextKept
+mod NextKept
 -- what a walk keeps is a state
-pub mod NextStates
+mod NextStates
 -- so the next state of a body is what its walk keeps
-pub mod NextTop
+mod NextTop
 -- the first code of a set
-pub mod FirstCodes
+mod FirstCodes
 -- what a solution shows: the next state, the code, and whether the program pauses
-pub mod Instants
+mod Instants
 -- the laws on solutions and walks
-pub mod GraphLaws
+mod GraphLaws
 -- a region whose head does not run is at rest
-pub mod Regions
+mod Regions
 -- a step that does what the walk does, form by form
-pub mod StepWalks
+mod StepWalks
+pub mod Exports

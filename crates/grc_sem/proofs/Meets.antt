@@ -8,7 +8,7 @@ use Rattle.facts.proofs.Tests.{ltb-not, same-tests}
 use Rattle.est_kernel.specs.Terms.{Term, Nothing, Pause, Emit, Exit, Present, Suspend, Seq, Loop, Par, Trap, Local, Awake}
 use Rattle.est_kernel.specs.Preorder.{statement_count}
 use Rattle.est_kernel.specs.StaticCodes.{has_code, resumed_codes}
-use Rattle.est_kernel.proofs.PreorderLaws.{statement_count-some}
+use Rattle.est_kernel.proofs.Exports.{statement_count-some}
 use Rattle.grc_graph.specs.Layers.{Layer, Resumed, Started, root_if, layer_above, same_layer}
 use Rattle.grc_graph.specs.Scopes.{Binding, Entering, Outgoing, BoundAt, Unbound, Scope, bind}
 use Rattle.grc_graph.specs.Wires.{Go, StatusOf, End, status_wire, instance_codes}
@@ -20,13 +20,9 @@ use Rattle.grc_graph.specs.Walk.{Walk, Values, State, with_value, then_walk, sta
 use Rattle.grc_graph.specs.Selected.{HasExitCodes}
 use Rattle.grc_graph.specs.Readings.{Valuation, seen_value, holds_at}
 use Rattle.grc_graph.specs.Coherence.{statuses, InstanceWalked, StartedWalked, ResumedWalked}
-use Rattle.grc_solutions.proofs.Each.{spot, EachStarted, EachResumed}
+use Rattle.grc_solutions.proofs.Exports.{spot, EachStarted, EachResumed, Above, Root}
 use Rattle.grc_sem.proofs.Residues.{some_has}
-use Rattle.grc_solutions.proofs.Binders.{Above}
-use Rattle.grc_solutions.proofs.Live.{Root}
-use Rattle.grc_graph.proofs.CodeBounds.{resumed_below}
-use Rattle.grc_graph.proofs.Holding.{holds_at-self}
-use Rattle.grc_graph.proofs.LiveInstances.{above_behind}
+use Rattle.grc_graph.proofs.Exports.{resumed_below, holds_at-self, above_behind}
 use Rattle.grc_sem.proofs.Emissions.{emitted, other_binding}
 use Rattle.grc_sem.proofs.WalkEmits.{Fresh, Shows}
 use Rattle.grc_sem.proofs.EndForms.{val}

@@ -15,7 +15,7 @@ use Rattle.grc_graph.specs.Walk.{Walk, Values, truth, with_value, ended, then_wa
 use Rattle.grc_graph.specs.Selected.{HasExitCodes, IsSelected}
 use Rattle.grc_graph.specs.Readings.{Valuation, seen_values, kept_at, held_at}
 use Rattle.grc_graph.specs.Coherence.{statuses, StartedWalked, ResumedWalked}
-use Rattle.grc_graph.proofs.LiveInstances.{above_within}
+use Rattle.grc_graph.proofs.Exports.{above_within}
 use Rattle.grc_sem.proofs.Residues.{no_loops-left, no_loops-right, loop_body, resumed_live}
 use Rattle.grc_sem.proofs.Kept.{Keeps, kept_outside, trap_one, started_keeps, resumed_keeps, keeps_branch}
 use Rattle.grc_sem.proofs.WalkCodes.{started_code, resumed_code}

@@ -10,7 +10,7 @@ use Rattle.est_kernel.specs.Terms.{Term, Nothing, Pause, Emit, Exit, Present, Su
 use Rattle.est_kernel.specs.Preorder.{statement_count}
 use Rattle.est_kernel.specs.Steps.{trap_code}
 use Rattle.est_kernel.specs.StaticCodes.{started_codes, resumed_codes, instant_loops, NoInstantLoop}
-use Rattle.est_kernel.proofs.ResidualLaws.{trap_code-one}
+use Rattle.est_kernel.proofs.Exports.{trap_code-one}
 use Rattle.grc_graph.specs.Layers.{Layer, Resumed, Started, can_pass}
 use Rattle.grc_graph.specs.Residuals.{holds}
 use Rattle.grc_graph.specs.Walk.{Walk, Values, truth, with_value, ended, then_walk, both_walks, started_walk, resumed_walk, selected_in}

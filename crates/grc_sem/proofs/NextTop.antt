@@ -18,7 +18,7 @@ use Rattle.grc_graph.specs.Walk.{Values, State, Initial, Selecting, ended, is_in
 use Rattle.grc_graph.specs.Selected.{HasExitCodes, IsSelected, IsState}
 use Rattle.grc_graph.specs.Readings.{Valuation, state_holds_at, kept_at, held_at}
 use Rattle.grc_graph.specs.Coherence.{statuses, StartedWalked, ResumedWalked}
-use Rattle.grc_graph.proofs.Holding.{holds-false}
+use Rattle.grc_graph.proofs.Exports.{holds-false}
 use Rattle.grc_sem.specs.GraphWalks.{selected_of}
 use Rattle.grc_sem.proofs.Residues.{resumed_live}
 use Rattle.grc_sem.proofs.Kept.{started_keeps, resumed_keeps}

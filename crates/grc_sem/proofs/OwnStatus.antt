@@ -14,13 +14,9 @@ use Rattle.grc_graph.specs.Walk.{Values, with_value, started_walk, resumed_walk}
 use Rattle.grc_graph.specs.Selected.{HasExitCodes}
 use Rattle.grc_graph.specs.Readings.{Valuation}
 use Rattle.grc_graph.specs.Coherence.{statuses, StartedWalked, ResumedWalked}
-use Rattle.grc_solutions.proofs.Each.{spot}
+use Rattle.grc_solutions.proofs.Exports.{spot, Above, above_bind, Root}
 use Rattle.grc_sem.proofs.Residues.{resumed_live}
-use Rattle.grc_solutions.proofs.Binders.{Above, above_bind}
-use Rattle.grc_graph.proofs.LiveLayers.{Agrees, only_agrees}
-use Rattle.grc_graph.proofs.LiveInstances.{above_within}
-use Rattle.grc_graph.proofs.SameWires.{same_layer-self}
-use Rattle.grc_solutions.proofs.Live.{Root}
+use Rattle.grc_graph.proofs.Exports.{Agrees, only_agrees, above_within, same_layer-self}
 use Rattle.grc_sem.proofs.Emissions.{emission, emitted, Whole}
 use Rattle.grc_sem.proofs.Bridge.{started_any, resumed_any, split}
 use Rattle.grc_sem.proofs.WalkEmits.{Reach, started_silent, resumed_silent, started_emits, resumed_emits, guard_bits}

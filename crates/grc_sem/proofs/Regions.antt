@@ -22,11 +22,8 @@ use Rattle.grc_graph.specs.Walk.{State, Initial, Values, Walk, is_initial}
 use Rattle.grc_graph.specs.Readings.{Valuation}
 use Rattle.grc_graph.specs.Coherence.{InstanceWalked, StartedWalked, ResumedWalked}
 use Rattle.grc_graph.specs.GraphRuns.{graph_of, program_spots, program_wires, next_state, IsGraphRun}
-use Rattle.grc_graph.proofs.LiveLayers.{body_agrees}
-use Rattle.grc_solutions.proofs.Each.{EachStarted, EachResumed}
-use Rattle.grc_solutions.proofs.Gathered.{gathered}
-use Rattle.grc_solutions.proofs.Lists.{every_at}
-use Rattle.grc_solutions.proofs.Live.{Root}
+use Rattle.grc_graph.proofs.Exports.{body_agrees}
+use Rattle.grc_solutions.proofs.Exports.{EachStarted, EachResumed, gathered, every_at, Root}
 use Rattle.grc_sem.specs.GraphWalks.{SelectsLeaves, selected_of, program_values}
 use Rattle.grc_sem.specs.Laws.{RegionsRest, RegionsRestInRuns}
 use Rattle.grc_sem.proofs.GraphLaws.{solutions_are_walks_lem}

@@ -9,8 +9,7 @@ use Rattle.est_kernel.specs.Terms.{Term, Nothing, Pause, Emit, Exit, Present, Su
 use Rattle.est_kernel.specs.Preorder.{statement_count}
 use Rattle.est_kernel.specs.Steps.{trap_code}
 use Rattle.est_kernel.specs.StaticCodes.{has_code, started_codes, resumed_codes, branch_codes, instant_loops, NoInstantLoop}
-use Rattle.est_kernel.proofs.Sets.{except-in, except-parts, upto-in, maxima-in, maxima-subset, lowered-in, lowered-subset}
-use Rattle.est_kernel.proofs.ResidualLaws.{trap_code-most}
+use Rattle.est_kernel.proofs.Exports.{except-in, except-parts, upto-in, maxima-in, maxima-subset, lowered-in, lowered-subset, trap_code-most}
 use Rattle.grc_graph.specs.Layers.{can_pass}
 use Rattle.grc_graph.specs.Residuals.{holds, left_if, residual}
 use Rattle.grc_graph.specs.Selected.{HasExitCodes, IsSelected}

@@ -17,16 +17,13 @@ use Rattle.grc_graph.specs.Selected.{HasExitCodes, IsState}
 use Rattle.grc_graph.specs.Readings.{Valuation, seen_values, state_holds_at}
 use Rattle.grc_graph.specs.Coherence.{StartedWalked, ResumedWalked}
 use Rattle.grc_sem.specs.GraphWalks.{selected_of}
-use Rattle.grc_solutions.proofs.Lists.{every_of_all, every_left}
-use Rattle.grc_solutions.proofs.Each.{EachStarted, EachResumed}
-use Rattle.grc_graph.proofs.LiveLayers.{body_agrees}
-use Rattle.grc_solutions.proofs.Live.{layered}
+use Rattle.grc_solutions.proofs.Exports.{every_of_all, every_left, EachStarted, EachResumed, layered, range_has}
+use Rattle.grc_graph.proofs.Exports.{body_agrees}
 use Rattle.grc_sem.proofs.Emissions.{emitted, Whole}
 use Rattle.grc_sem.proofs.EndForms.{val}
 use Rattle.grc_sem.proofs.Meets.{Met, head_started, head_resumed, finds_self}
 use Rattle.grc_sem.proofs.Told.{told_started, told_resumed}
 use Rattle.grc_sem.proofs.Joint.{Alive, met_at, met_spots}
-use Rattle.grc_solutions.proofs.ProgramGraphs.{range_has}
 use Rattle.grc_sem.proofs.Tops.{state_finds, state_reach}
 use Rattle.grc_sem.proofs.Tops as tops
 

@@ -23,9 +23,8 @@ use Rattle.grc_graph.specs.Readings.{Valuation, seen_value, seen_values, holds_a
 use Rattle.grc_graph.specs.Coherence.{statuses, StartedWalked, ResumedWalked}
 use Rattle.grc_sem.specs.GraphWalks.{selected_of}
 use Rattle.grc_sem.proofs.Residues.{resumed_live}
-use Rattle.grc_solutions.proofs.Binders.{Above}
-use Rattle.grc_graph.proofs.LiveLayers.{body_agrees}
-use Rattle.grc_graph.proofs.Holding.{holds-false}
+use Rattle.grc_solutions.proofs.Exports.{Above}
+use Rattle.grc_graph.proofs.Exports.{body_agrees, holds-false}
 use Rattle.grc_sem.proofs.Emissions.{emission, emitted}
 use Rattle.grc_sem.proofs.Bridge.{started_any, resumed_any, split}
 use Rattle.grc_sem.proofs.WalkEmits.{Fresh, Shows, Reach, started_emits, resumed_emits, guard_bits}

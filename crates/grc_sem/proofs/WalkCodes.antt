@@ -6,7 +6,7 @@ use Rattle.est_base.specs.Codes.{either, except}
 use Rattle.est_kernel.specs.Terms.{Term, Nothing, Pause, Emit, Exit, Present, Suspend, Seq, Loop, Par, Trap, Local, Awake}
 use Rattle.est_kernel.specs.Preorder.{statement_count}
 use Rattle.est_kernel.specs.StaticCodes.{has_code, started_codes, resumed_codes, branch_codes, instant_loops, NoInstantLoop}
-use Rattle.est_kernel.proofs.Sets.{except-in, maxima-in, lowered-in}
+use Rattle.est_kernel.proofs.Exports.{except-in, maxima-in, lowered-in}
 use Rattle.grc_graph.specs.Layers.{Layer, Resumed, Started, can_pass}
 use Rattle.grc_graph.specs.Residuals.{holds}
 use Rattle.grc_graph.specs.Walk.{Walk, Values, with_value, truth, ended, then_walk, started_walk, resumed_walk, selected_in}

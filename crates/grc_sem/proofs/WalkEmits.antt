@@ -15,9 +15,9 @@ use Rattle.grc_graph.specs.Walk.{Walk, Values, with_value, truth, ended, then_wa
 use Rattle.grc_graph.specs.Selected.{HasExitCodes, IsSelected}
 use Rattle.grc_graph.specs.Readings.{Valuation}
 use Rattle.grc_graph.specs.Coherence.{statuses, StartedWalked, ResumedWalked}
-use Rattle.grc_graph.proofs.LiveInstances.{above_behind}
+use Rattle.grc_graph.proofs.Exports.{above_behind}
 use Rattle.grc_sem.proofs.Residues.{no_loops-left, no_loops-right, loop_body, resumed_live}
-use Rattle.grc_solutions.proofs.Binders.{Above, above_more, above_bind}
+use Rattle.grc_solutions.proofs.Exports.{Above, above_more, above_bind}
 use Rattle.grc_sem.proofs.Emissions.{emission}
 use Rattle.grc_sem.proofs.Bridge.{started_any, resumed_any}
 use Rattle.grc_sem.proofs.WalkCodes.{started_code, resumed_code}

@@ -7,7 +7,7 @@ use Rattle.est_base.specs.Codes.{except}
 use Rattle.est_kernel.specs.Terms.{Term, Nothing, Pause, Emit, Exit, Present, Suspend, Seq, Loop, Par, Trap, Local, Awake}
 use Rattle.est_kernel.specs.Preorder.{statement_count}
 use Rattle.est_kernel.specs.StaticCodes.{codes_if, has_code, started_codes, resumed_codes, instant_loops, NoInstantLoop}
-use Rattle.est_kernel.proofs.Sets.{except-in, except-parts}
+use Rattle.est_kernel.proofs.Exports.{except-in, except-parts}
 use Rattle.grc_graph.specs.Layers.{Layer, Resumed, Started, can_pass}
 use Rattle.grc_graph.specs.Scopes.{Scope}
 use Rattle.grc_graph.specs.Wires.{Go, StatusOf}

@@ -20,13 +20,9 @@ use Rattle.grc_graph.specs.Selected.{HasExitCodes, IsState}
 use Rattle.grc_graph.specs.Readings.{Valuation, seen_values, state_holds_at}
 use Rattle.grc_graph.specs.GraphRuns.{Solves, graph_of, program_spots}
 use Rattle.grc_solutions.specs.GraphWires.{program_wires}
-use Rattle.grc_solutions.proofs.Lists.{every_from, every_contained, every_at}
-use Rattle.grc_solutions.proofs.Each.{EachStarted, EachResumed}
-use Rattle.grc_graph.proofs.LiveLayers.{body_agrees}
-use Rattle.grc_solutions.proofs.SameWires.{given_contained, given_at, equation_of}
-use Rattle.grc_solutions.proofs.WireNames.{equation_wires_are}
-use Rattle.grc_solutions.proofs.Pairwise.{every_mapped, every_flat, listed_every}
-use Rattle.grc_solutions.proofs.Gathered.{gathered}
+use Rattle.grc_solutions.proofs.Exports.{every_from, every_contained, every_at, EachStarted, EachResumed, given_contained, given_at, equation_of}
+use Rattle.grc_solutions.proofs.Exports.{equation_wires_are, every_mapped, every_flat, listed_every, gathered}
+use Rattle.grc_graph.proofs.Exports.{body_agrees}
 use Rattle.grc_sem.specs.GraphWalks.{selected_of, graph_walk, IsWalkOf}
 use Rattle.grc_sem.specs.Laws.{EquationsAreTheWalk}
 use Rattle.grc_sem.proofs.Emissions.{Whole}

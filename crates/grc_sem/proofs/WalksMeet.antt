@@ -15,12 +15,9 @@ use Rattle.grc_graph.specs.Walk.{Values, State, with_value, truth, started_walk,
 use Rattle.grc_graph.specs.Selected.{HasExitCodes}
 use Rattle.grc_graph.specs.Readings.{Valuation}
 use Rattle.grc_graph.specs.Coherence.{InstanceWalked, statuses, StartedWalked, ResumedWalked}
-use Rattle.grc_solutions.proofs.Each.{spot, EachStarted, EachResumed}
+use Rattle.grc_solutions.proofs.Exports.{spot, EachStarted, EachResumed, Above, above_more, above_bind, Root}
 use Rattle.grc_sem.proofs.Residues.{no_loops-left, no_loops-right, loop_body}
-use Rattle.grc_solutions.proofs.Binders.{Above, above_more, above_bind}
-use Rattle.grc_graph.proofs.LiveLayers.{Agrees, only_agrees, first_agrees, second_agrees}
-use Rattle.grc_graph.proofs.LiveInstances.{above_within}
-use Rattle.grc_solutions.proofs.Live.{Root}
+use Rattle.grc_graph.proofs.Exports.{Agrees, only_agrees, first_agrees, second_agrees, above_within}
 use Rattle.grc_sem.proofs.Emissions.{Whole, whole_only, whole_first, whole_second}
 use Rattle.grc_sem.proofs.WalkEmits.{Reach, reach_part}
 use Rattle.grc_sem.proofs.EndForms.{val, test_meaning}

@@ -12,8 +12,8 @@ use Rattle.grc_graph.specs.Layers.{layer_above, can_pass}
 use Rattle.grc_graph.specs.Wires.{Go, End}
 use Rattle.grc_graph.specs.Residuals.{holds}
 use Rattle.grc_graph.specs.Readings.{Valuation, holds_at, kept_at}
-use Rattle.grc_graph.proofs.LiveInstances.{above_behind}
-use Rattle.grc_solutions.proofs.Live.{Root}
+use Rattle.grc_graph.proofs.Exports.{above_behind}
+use Rattle.grc_solutions.proofs.Exports.{Root}
 use Rattle.grc_sem.proofs.Bridge.{any_and, any_if, any_root, any_layers}
 
 -- the ways down a statement to its pauses

@@ -1,6 +1,7 @@
-pub mod LoopNumbers
-pub mod RowsLive
-pub mod RootKeys
-pub mod SharedNames
-pub mod SharedWireNames
+mod LoopNumbers
+mod RowsLive
+mod RootKeys
+mod SharedNames
+mod SharedWireNames
 mod worked
+pub mod Exports

@@ -4,7 +4,7 @@ use Rattle.std.specs.Prelude.{nat_lt, ⊤}
 use Rattle.std.proofs.lemmas.Bool.{eq-eqb, ne_eqb, cond-true, cond-false, lt-ltb, le-ltb}
 use Rattle.est_kernel.specs.Terms.{Term, Nothing, Pause, Emit, Exit, Present, Suspend, Seq, Loop, Par, Trap, Local, Awake}
 use Rattle.est_kernel.specs.Preorder.{statement_count}
-use Rattle.est_kernel.proofs.PreorderLaws.{statement_count-pos}
+use Rattle.est_kernel.proofs.Exports.{statement_count-pos}
 use Rattle.grc_share.specs.SharedInstances.{loops_at, loops_above}
 
 -- ---- reads of a number in a statement at n

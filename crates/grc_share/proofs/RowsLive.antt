@@ -10,9 +10,8 @@ use Rattle.grc_graph.specs.Layers.{Liveness, body_liveness, part_liveness, secon
 use Rattle.grc_graph.specs.Rows.{Row, rows, program_rows, row_at}
 use Rattle.grc_graph.specs.Scopes.{Scope, bind, program_scope}
 use Rattle.grc_graph.specs.Statements.{Entry, Body, Branch, Then, Else, Second}
-use Rattle.est_kernel.proofs.PreorderLaws.{statement_count-pos}
-use Rattle.grc_graph.proofs.CodeReads.{StandsAt, stands_whole}
-use Rattle.grc_graph.proofs.RowSpots.{length-rows, stands_one, stands_first, stands_second, row_read}
+use Rattle.est_kernel.proofs.Exports.{statement_count-pos}
+use Rattle.grc_graph.proofs.Exports.{StandsAt, stands_whole, length-rows, stands_one, stands_first, stands_second, row_read}
 use Rattle.grc_share.proofs.LoopNumbers.{at-only, at-first, at-second, at-self}
 
 -- a function gives the statements of one at n their liveness

@@ -8,7 +8,7 @@ use Rattle.grc_graph.specs.GraphRuns.{program_wires}
 use Rattle.grc_graph.specs.Layers.{Layer}
 use Rattle.grc_graph.specs.Rows.{live_in}
 use Rattle.grc_graph.specs.Wires.{Wire, Out, Go, StatusOf, End}
-use Rattle.grc_graph.proofs.WireNames.{IsGo, IsStatus, IsEnd, Kind, WireAt, wire_named, wire_only}
+use Rattle.grc_graph.proofs.Exports.{IsGo, IsStatus, IsEnd, Kind, WireAt, wire_named, wire_only}
 use Rattle.grc_share.specs.SharedInstances.{Sharing, body_sharing, key, one_instance, one_status}
 use Rattle.grc_share.specs.SharedWires.{one_wire, shared_layer, shared_wire, status_layer}
 use Rattle.grc_share.proofs.RowsLive.{program_gives}

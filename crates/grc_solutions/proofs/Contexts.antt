@@ -10,7 +10,7 @@ use Rattle.est_base.specs.declared.place.Span.{Span}
 use Rattle.est_kernel.specs.Terms.{Expression, Tick, Sig, Not, And, Or, Term, Nothing, Pause, Emit, Exit, Present, Suspend, Seq, Loop, Par, Trap, Local, Awake}
 use Rattle.est_kernel.specs.Preorder.{statement_count}
 use Rattle.est_kernel.specs.StaticCodes.{has_code, started_codes, resumed_codes}
-use Rattle.est_kernel.proofs.PreorderLaws.{statement_count-some}
+use Rattle.est_kernel.proofs.Exports.{statement_count-some}
 use Rattle.grc_graph.specs.Layers.{Layer, Resumed, Started, Liveness, layers_of, root_if, layer_above, part_liveness, second_liveness, loop_liveness, can_pass}
 use Rattle.grc_graph.specs.Scopes.{Binding, Entering, Outgoing, BoundAt, Unbound, Scope, bind}
 use Rattle.grc_graph.specs.Wires.{Wire, Out, Go, StatusOf, End, status_wire, listed, instance_codes, own_status, instance_wires}
@@ -23,10 +23,8 @@ use Rattle.grc_graph.specs.Selected.{HasExitCodes}
 use Rattle.grc_solutions.proofs.Lists.{every_right, every_map, every_listed}
 use Rattle.grc_solutions.proofs.Each.{spot}
 use Rattle.grc_solutions.proofs.Rows.{Between, Reads, FromStatus, RowOf}
-use Rattle.grc_graph.proofs.LiveLayers.{Agrees, here_agrees, only_agrees, first_agrees, second_agrees}
+use Rattle.grc_graph.proofs.Exports.{Agrees, here_agrees, only_agrees, first_agrees, second_agrees, started_below, resumed_below, above_behind, above_within}
 use Rattle.grc_solutions.proofs.Live.{Root, root_parts, root_if_parts}
-use Rattle.grc_graph.proofs.CodeBounds.{started_below, resumed_below}
-use Rattle.grc_graph.proofs.LiveInstances.{above_behind, above_within}
 use Rattle.grc_solutions.proofs.Decode.{row_at}
 use Rattle.grc_solutions.proofs.Looked.{Contents, statement_at, reads_only, reads_first, reads_second}
 use Rattle.grc_solutions.proofs.Binders.{Above, above_more, above_bind}

@@ -7,7 +7,7 @@ use Rattle.est_kernel.specs.Terms.{Expression, Tick, Sig, Not, And, Or, Term, No
 use Rattle.est_kernel.specs.Preorder.{statement_count}
 use Rattle.est_kernel.specs.Steps.{trap_code}
 use Rattle.est_kernel.specs.StaticCodes.{codes_if, has_code, started_codes, resumed_codes}
-use Rattle.est_kernel.proofs.Sets.{except-parts}
+use Rattle.est_kernel.proofs.Exports.{except-parts}
 use Rattle.grc_graph.specs.Layers.{Layer, Resumed, Started, can_pass}
 use Rattle.grc_graph.specs.Scopes.{Scope}
 use Rattle.grc_graph.specs.Wires.{Wire, Go, End, status_wire, listed}
@@ -15,7 +15,7 @@ use Rattle.grc_graph.specs.Spots.{Spot}
 use Rattle.grc_graph.specs.Edges.{Edge, edge, edges_if, edges_at, test_to, status_to, to_status, go_to_part, go_to_ends, ends_to_ends, branch_to_ends}
 use Rattle.grc_graph.specs.Edges.{trapped_to_ends}
 use Rattle.grc_graph.specs.Selected.{HasExitCodes}
-use Rattle.grc_graph.proofs.CodeBounds.{started_below, resumed_below}
+use Rattle.grc_graph.proofs.Exports.{started_below, resumed_below}
 use Rattle.grc_solutions.proofs.Lists.{every_left, every_right, every_map, every_flat_map, every_filter, every_if, every_listed}
 use Rattle.grc_solutions.proofs.Rows.{RowOf, RowAt, Between, Passes, ToEnds, Branches, Trapped, FromStatus, ToStatus, Reads, StartedRow, ResumedRow}
 

@@ -10,7 +10,7 @@ use Rattle.grc_graph.specs.Formulas.{Formula, Negation}
 use Rattle.grc_graph.specs.Spots.{Spot, spots, spots_at, test_formula, tested_entry, branch_entry, second_entry}
 use Rattle.grc_solutions.proofs.Each.{spot}
 use Rattle.grc_solutions.proofs.Rows.{Between}
-use Rattle.grc_graph.proofs.LiveLayers.{here_agrees}
+use Rattle.grc_graph.proofs.Exports.{here_agrees}
 use Rattle.grc_solutions.proofs.Live.{Root, root_right}
 use Rattle.grc_solutions.proofs.Contexts.{In, Told, Context, then_part, else_part, suspended_part, first_part, second_part, loop_part, left_part, right_part}
 use Rattle.grc_solutions.proofs.Contexts.{trap_part, local_part}

@@ -7,7 +7,7 @@ use Rattle.est_kernel.specs.Terms.{Expression, Tick, Sig, Not, And, Or, Term, No
 use Rattle.est_kernel.specs.Preorder.{statement_count}
 use Rattle.est_kernel.specs.Steps.{trap_code}
 use Rattle.est_kernel.specs.StaticCodes.{codes_if, has_code, started_codes, resumed_codes}
-use Rattle.est_kernel.proofs.Sets.{except-parts, upto-in, lowered-in}
+use Rattle.est_kernel.proofs.Exports.{except-parts, upto-in, lowered-in}
 use Rattle.grc_graph.specs.Layers.{Layer, Resumed, Started, Liveness, root_if, can_pass}
 use Rattle.grc_graph.specs.Scopes.{Binding, Entering, Outgoing, BoundAt, Unbound, Scope}
 use Rattle.grc_graph.specs.Wires.{Wire, Go, End, status_wire, listed, instance_codes}

@@ -18,7 +18,7 @@ use Rattle.grc_graph.specs.Spots.{Spot, status_formula, test_formula}
 use Rattle.grc_graph.specs.Equations.{part_end, trapped_ends, branch_over, end_formula, is_wire, emits_on, emissions}
 use Rattle.grc_graph.specs.Edges.{Edge, edge, edges_if, go_to_ends, ends_to_ends, branch_to_ends, trapped_to_ends, status_to, test_to, to_status, go_to_part}
 use Rattle.grc_graph.specs.Edges.{edges_at}
-use Rattle.grc_graph.proofs.SameWires.{same_wire-self}
+use Rattle.grc_graph.proofs.Exports.{same_wire-self}
 use Rattle.grc_solutions.specs.GraphWires.{IsRead}
 use Rattle.grc_solutions.proofs.Each.{spot}
 use Rattle.grc_solutions.proofs.Lists.{every_all, every_from}

@@ -17,7 +17,7 @@ use Rattle.grc_graph.specs.PlainGraphs as graphs
 use Rattle.grc_graph.specs.Reads.{StandsBefore, IsReadingOrder}
 use Rattle.grc_graph.specs.Walk.{State}
 use Rattle.grc_graph.specs.GraphRuns.{PlainGraph, Solves}
-use Rattle.grc_graph.proofs.SameWires.{same_wire-self, same_wire-true}
+use Rattle.grc_graph.proofs.Exports.{same_wire-self, same_wire-true}
 use Rattle.grc_solutions.specs.GraphWires.{equation_wires, Differ}
 use Rattle.grc_solutions.specs.NumberedGraphs.{formulas_of}
 use Rattle.grc_solutions.specs.Evaluations.{valuation_of}

@@ -11,7 +11,7 @@ use Rattle.grc_graph.specs.Formulas.{Formula}
 use Rattle.grc_graph.specs.Spots.{Spot, spots, spots_at, test_formula, tested_entry, branch_entry, second_entry, loop_entry}
 use Rattle.grc_graph.specs.Selected.{HasExitCodes}
 use Rattle.grc_solutions.proofs.Each.{spot, EachStarted, EachResumed}
-use Rattle.grc_graph.proofs.LiveLayers.{Agrees, here_agrees, only_agrees, first_agrees, second_agrees}
+use Rattle.grc_graph.proofs.Exports.{Agrees, here_agrees, only_agrees, first_agrees, second_agrees}
 use Rattle.grc_solutions.proofs.Live.{Root, root_parts, root_if_parts}
 use Rattle.grc_solutions.proofs.Contexts.{In}
 use Rattle.grc_solutions.proofs.EachContext.{over_layers, over_spots}

@@ -10,7 +10,7 @@ use Rattle.grc_graph.specs.Scopes.{Scope, bind}
 use Rattle.grc_graph.specs.Formulas.{Formula, Negation}
 use Rattle.grc_graph.specs.Spots.{Spot, spots, spots_at, test_formula, tested_entry, suspended_entry, branch_entry, second_entry, loop_entry, part_entry}
 use Rattle.grc_graph.specs.Selected.{HasExitCodes}
-use Rattle.grc_graph.proofs.LiveLayers.{Agrees, here_agrees, only_agrees, first_agrees, second_agrees}
+use Rattle.grc_graph.proofs.Exports.{Agrees, here_agrees, only_agrees, first_agrees, second_agrees}
 use Rattle.grc_solutions.proofs.Lists.{every_left, every_right}
 use Rattle.grc_solutions.proofs.Each.{spot, EachStarted, EachResumed}
 

@@ -22,8 +22,7 @@ use Rattle.grc_graph.specs.GraphRuns.{program_spots, graph_of}
 use Rattle.grc_solutions.specs.GraphWires.{program_wires, program_edges, EdgesJoinWires, ReadsAreEdges, EdgesAreReads, IsRead, ReadsWire}
 use Rattle.grc_solutions.proofs.Lists.{every_right, every_from, every_all, every_at, every_both, every_contained, every_listed}
 use Rattle.grc_solutions.proofs.Rows.{Between}
-use Rattle.grc_graph.proofs.LiveLayers.{body_agrees}
-use Rattle.grc_graph.proofs.SameWires.{same_wire-true}
+use Rattle.grc_graph.proofs.Exports.{body_agrees, same_wire-true}
 use Rattle.grc_solutions.proofs.Looked.{Looked, looked, statement_at}
 use Rattle.grc_solutions.proofs.SameWires.{equation_of}
 use Rattle.grc_solutions.proofs.Pairwise.{every_mapped, every_flat, listed_every}

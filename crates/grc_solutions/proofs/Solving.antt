@@ -13,7 +13,7 @@ use Rattle.grc_graph.specs.Reads.{ReadsOnly}
 use Rattle.grc_graph.specs.Walk.{State}
 use Rattle.grc_graph.specs.Readings.{Valuation}
 use Rattle.grc_graph.specs.GraphRuns.{PlainGraph, Solves, formula_value}
-use Rattle.grc_graph.proofs.SameWires.{same_wire-self, same_wire-true}
+use Rattle.grc_graph.proofs.Exports.{same_wire-self, same_wire-true}
 use Rattle.grc_solutions.specs.GraphWires.{equation_wires, Differ}
 use Rattle.grc_solutions.specs.Solutions.{ReadUp, OneSolution}
 use Rattle.grc_solutions.proofs.SameWires.{is_given, given_contained, equation_of}

@@ -17,11 +17,10 @@ use Rattle.grc_graph.specs.Spots.{Spot, spots, spots_at, body_entry}
 use Rattle.grc_graph.specs.Equations.{Equation, output_equation, instance_equations, instance_status, end_formula, equations, wires}
 use Rattle.grc_graph.specs.Selected.{HasExitCodes}
 use Rattle.grc_graph.specs.GraphRuns.{program_spots}
-use Rattle.grc_graph.proofs.LiveInstances.{instances_ascend_lem}
+use Rattle.grc_graph.proofs.Exports.{instances_ascend_lem, Agrees, body_agrees, here_agrees, only_agrees, first_agrees, second_agrees}
 use Rattle.grc_solutions.specs.GraphWires.{equation_wires, program_wires, WiresDiffer}
 use Rattle.grc_solutions.proofs.Lists.{every_from, every_all, every_of_all}
 use Rattle.grc_solutions.proofs.Each.{spot}
-use Rattle.grc_graph.proofs.LiveLayers.{Agrees, body_agrees, here_agrees, only_agrees, first_agrees, second_agrees}
 use Rattle.grc_solutions.proofs.Pairwise.{Pairwise, joined, all_pairs, pairwise_append, pairwise_from, pairwise_map, pairwise_flat, every_mapped, every_flat}
 use Rattle.grc_solutions.proofs.Pairwise.{listed_every, listed_ascend, range_ascends}
 

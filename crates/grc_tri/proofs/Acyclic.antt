@@ -18,8 +18,8 @@ use Rattle.grc_graph.specs.Selected.{HasExitCodes}
 use Rattle.grc_graph.specs.Walk.{State, Initial, remaining}
 use Rattle.grc_graph.specs.Wires.{Wire}
 use Rattle.grc_sem.specs.GraphWalks.{graph_walk, shown_answer, shown_code}
-use Rattle.grc_sem.proofs.Premises.{program_kernel}
-use Rattle.grc_solutions.proofs.OneRun.{graphs_read_up_lem, graphs_have_one_solution_lem, graph_runs_exist_lem}
+use Rattle.grc_sem.proofs.Exports.{program_kernel}
+use Rattle.grc_solutions.proofs.Exports.{graphs_read_up_lem, graphs_have_one_solution_lem, graph_runs_exist_lem}
 use Rattle.grc_tri.specs.AcyclicLaws.{SolutionsReact, SolutionsAreReactions, GraphRunsAreRuns, ProgramsRun}
 use Rattle.grc_tri.specs.LeastSolutions.{IsKnown, IsLeast, Statuses, true_wires}
 use Rattle.grc_tri.specs.RunLaws.{LeavesTerm}

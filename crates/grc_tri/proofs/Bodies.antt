@@ -11,7 +11,7 @@ use Rattle.est_kernel.specs.Statuses.{Status, Unknown, Environment, known, disju
 use Rattle.est_kernel.specs.Preorder.{statement_count}
 use Rattle.est_kernel.specs.StaticCodes.{has_code, resumed_codes, NoInstantLoop}
 use Rattle.est_kernel.specs.Reactions.{is_given}
-use Rattle.est_kernel.proofs.PreorderLaws.{statement_count-some}
+use Rattle.est_kernel.proofs.Exports.{statement_count-some}
 use Rattle.grc_graph.specs.Layers.{Layer, Resumed, Started, body_layers, body_liveness}
 use Rattle.grc_graph.specs.Scopes.{Binding, Entering, Outgoing, BoundAt, Unbound, Scope}
 use Rattle.grc_graph.specs.Wires.{Out, Go}
@@ -22,18 +22,15 @@ use Rattle.grc_graph.specs.Residuals.{holds}
 use Rattle.grc_graph.specs.Walk.{State, is_initial}
 use Rattle.grc_graph.specs.Readings.{state_holds_at}
 use Rattle.grc_graph.specs.Selected.{HasExitCodes, IsState}
-use Rattle.grc_graph.proofs.LiveLayers.{body_agrees}
+use Rattle.grc_graph.proofs.Exports.{body_agrees}
 use Rattle.grc_sem.specs.GraphWalks.{selected_of}
-use Rattle.grc_solutions.proofs.Lists.{every_at, every_map}
-use Rattle.grc_solutions.proofs.Live.{Root}
+use Rattle.grc_solutions.proofs.Exports.{every_at, every_map, Root}
 use Rattle.grc_tri.proofs.Scoped.{has_value, InScope}
-use Rattle.grc_sem.proofs.Emissions.{emission}
-use Rattle.grc_sem.proofs.Bridge.{started_any, resumed_any, split}
-use Rattle.grc_sem.proofs.Meets.{head_started, head_resumed, finds_self}
-use Rattle.grc_sem.proofs.Tops.{state_finds, state_reach, no_bound, above_top, out_shows, out_fresh}
+use Rattle.grc_sem.proofs.Exports.{emission, started_any, resumed_any, split, head_started, head_resumed, finds_self, state_finds, state_reach, no_bound}
+use Rattle.grc_sem.proofs.Exports.{above_top, out_shows, out_fresh}
 use Rattle.est_tri.specs.TriWalks.{where_met}
 use Rattle.est_tri.specs.Laws.{sure, possible}
-use Rattle.est_tri.proofs.Rails.{IsRail, sure_rail, possible_rail, same_rails}
+use Rattle.est_tri.proofs.Exports.{IsRail, sure_rail, possible_rail, same_rails}
 use Rattle.grc_tri.specs.LeastSolutions.{Statuses}
 use Rattle.grc_tri.proofs.Formulas.{val, or_all, if_meaning, two_meaning, SeesStatuses, seen_status, rail_emissions}
 use Rattle.grc_tri.proofs.StartedPlaces.{emits, Follows}

@@ -12,13 +12,11 @@ use Rattle.grc_graph.specs.Scopes.{Scope, bind}
 use Rattle.grc_graph.specs.Wires.{Wire, Go}
 use Rattle.grc_graph.specs.Formulas.{Formula}
 use Rattle.grc_graph.specs.Selected.{HasExitCodes}
-use Rattle.grc_graph.proofs.LiveLayers.{Agrees, only_agrees, first_agrees, second_agrees}
-use Rattle.grc_solutions.proofs.Binders.{Above, above_more, above_bind}
-use Rattle.grc_sem.proofs.Emissions.{emission}
-use Rattle.grc_sem.proofs.Bridge.{started_any, resumed_any}
-use Rattle.grc_sem.proofs.WalkEmits.{Fresh, fresh_more, Shows, shows_root, shows_bind}
+use Rattle.grc_graph.proofs.Exports.{Agrees, only_agrees, first_agrees, second_agrees}
+use Rattle.grc_solutions.proofs.Exports.{Above, above_more, above_bind}
+use Rattle.grc_sem.proofs.Exports.{emission, started_any, resumed_any, Fresh, fresh_more, Shows, shows_root, shows_bind}
 use Rattle.est_tri.specs.TriWalks.{where_met}
-use Rattle.est_tri.proofs.Rails.{IsRail, rail_met}
+use Rattle.est_tri.proofs.Exports.{IsRail, rail_met}
 use Rattle.grc_tri.specs.LeastSolutions.{Statuses}
 use Rattle.grc_tri.proofs.Formulas.{met_absent}
 use Rattle.grc_tri.proofs.StartedPlaces.{emits}

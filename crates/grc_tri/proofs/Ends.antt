@@ -4,10 +4,10 @@ use Rattle.std.proofs.Common.{◌≡◌, ℕ, Bool, true, false, not, ◌&&◌, 
 use Rattle.std.proofs.lemmas.Bool.{false≢true, true≢false, both_ways, false_from_ne_true}
 use Rattle.est_base.specs.Codes.{maxima}
 use Rattle.est_kernel.specs.Statuses.{Status, Minus, conjunction, disjunction}
-use Rattle.est_kernel.proofs.Sets.{maxima-in, maxima-parts}
+use Rattle.est_kernel.proofs.Exports.{maxima-in, maxima-parts}
 use Rattle.est_tri.specs.TriWalks.{where_met, tri_upto, tri_maxima}
 use Rattle.est_tri.specs.Laws.{possible}
-use Rattle.est_tri.proofs.Rails.{possible_rail, impossible, rail_maxima}
+use Rattle.est_tri.proofs.Exports.{possible_rail, impossible, rail_maxima}
 use Rattle.grc_tri.proofs.Formulas.{or_three, or_turned, met_same}
 
 -- absent where the condition fails

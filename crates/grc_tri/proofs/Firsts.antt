@@ -8,8 +8,7 @@ use Rattle.est_kernel.specs.Statuses.{Status, Plus, Minus, Unknown, Environment,
 use Rattle.est_kernel.specs.Preorder.{statement_count}
 use Rattle.est_kernel.specs.StaticCodes.{has_code, started_codes, resumed_codes, instant_loops, NoInstantLoop}
 use Rattle.est_kernel.specs.Laws.{IsBelow}
-use Rattle.est_kernel.proofs.CodeLaws.{may_keeps_static_codes_lem}
-use Rattle.est_kernel.proofs.PotentialLaws.{can_lies_in_may_lem}
+use Rattle.est_kernel.proofs.Exports.{may_keeps_static_codes_lem, can_lies_in_may_lem}
 use Rattle.grc_graph.specs.Layers.{Layer, Resumed, Started, Liveness, part_liveness, second_liveness, loop_liveness, can_pass}
 use Rattle.grc_graph.specs.Scopes.{Scope, bind}
 use Rattle.grc_graph.specs.Wires.{Go, StatusOf, End, instance_codes}
@@ -17,15 +16,12 @@ use Rattle.grc_graph.specs.Formulas.{Formula}
 use Rattle.grc_graph.specs.Spots.{Spot}
 use Rattle.grc_graph.specs.Residuals.{holds, residual}
 use Rattle.grc_graph.specs.Selected.{HasExitCodes, IsSelected}
-use Rattle.grc_graph.proofs.LiveLayers.{Agrees, only_agrees, first_agrees, second_agrees}
-use Rattle.grc_solutions.proofs.Each.{EachStarted, EachResumed}
-use Rattle.grc_sem.proofs.Residues.{no_loops-left, no_loops-right, loop_body, resumed_live, residual_static, residual_codes}
-use Rattle.grc_sem.proofs.Meets.{head_started, head_resumed}
+use Rattle.grc_graph.proofs.Exports.{Agrees, only_agrees, first_agrees, second_agrees}
+use Rattle.grc_solutions.proofs.Exports.{EachStarted, EachResumed}
+use Rattle.grc_sem.proofs.Exports.{no_loops-left, no_loops-right, loop_body, resumed_live, residual_static, residual_codes, head_started, head_resumed}
 use Rattle.est_tri.specs.TriWalks.{tri, tri_decided}
 use Rattle.est_tri.specs.Laws.{possible}
-use Rattle.est_tri.proofs.Rails.{impossible}
-use Rattle.est_tri.proofs.Walks.{walk_tells, code_at, silent_codes, silent_signals}
-use Rattle.est_tri.proofs.Monotone.{below_equal}
+use Rattle.est_tri.proofs.Exports.{impossible, walk_tells, code_at, silent_codes, silent_signals, below_equal}
 use Rattle.grc_tri.specs.LeastSolutions.{Statuses}
 use Rattle.grc_tri.proofs.ResumedWalks.{part_go, part_off, resumed_tri, resumed_decided, silent, left_walk}
 use Rattle.grc_tri.proofs.StartedPlaces.{ends, Under}

@@ -2,7 +2,7 @@
 use Rattle.std.proofs.Common.{◌≡◌, ℕ, zero, suc, ◌<◌, Bool, true, false, ◌&&◌, ◌||◌, ◌==◌, cond, List, [], ◌∷◌, ◌++◌, refl, sym, ap, ◌∙◌}
 use Rattle.est_kernel.specs.Terms.{Expression, Tick, Sig, Not, And, Or, Term}
 use Rattle.est_kernel.specs.Statuses.{Status, Plus, Minus, Unknown, Environment, with_status, known, value, opposite, conjunction, disjunction}
-use Rattle.est_kernel.proofs.Statuses.{disjunction-minus}
+use Rattle.est_kernel.proofs.Exports.{disjunction-minus}
 use Rattle.grc_graph.specs.Layers.{Layer, Resumed, Started, layer_above}
 use Rattle.grc_graph.specs.Scopes.{Binding, Entering, Outgoing, BoundAt, Unbound, Scope, bind}
 use Rattle.grc_graph.specs.Wires.{Wire, Go, StatusOf, End, Out}
@@ -10,12 +10,12 @@ use Rattle.grc_graph.specs.Formulas.{Formula, Value, any_of, meaning}
 use Rattle.grc_graph.specs.Spots.{Spot, status_formula, test_formula}
 use Rattle.grc_graph.specs.Equations.{part_end, emits_on, emissions}
 use Rattle.grc_graph.specs.Walk.{State, Values}
-use Rattle.grc_solutions.proofs.Binders.{Above}
+use Rattle.grc_solutions.proofs.Exports.{Above}
 use Rattle.grc_tri.proofs.Scoped.{has_value, TestInScope}
-use Rattle.grc_sem.proofs.Emissions.{emitted}
+use Rattle.grc_sem.proofs.Exports.{emitted}
 use Rattle.est_tri.specs.TriWalks.{where_met, tri_upto}
-use Rattle.est_tri.proofs.Rails.{IsRail}
-use Rattle.grc_graph.proofs.LiveInstances.{above_behind}
+use Rattle.est_tri.proofs.Exports.{IsRail}
+use Rattle.grc_graph.proofs.Exports.{above_behind}
 use Rattle.grc_tri.specs.LeastSolutions.{Statuses, upto_status, kleene_reading}
 
 -- ---- statuses

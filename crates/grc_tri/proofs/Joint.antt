@@ -13,7 +13,7 @@ use Rattle.est_kernel.specs.Statuses.{Status, Plus, Minus, Unknown, Environment,
 use Rattle.est_kernel.specs.StaticCodes.{has_code, resumed_codes, NoInstantLoop}
 use Rattle.est_kernel.specs.Reactions.{is_given, open_signals}
 use Rattle.est_kernel.specs.Laws.{IsBelow, KnowsMore}
-use Rattle.est_kernel.proofs.Statuses.{below_meets, disjunction_below, knows_self}
+use Rattle.est_kernel.proofs.Exports.{below_meets, disjunction_below, knows_self}
 use Rattle.grc_graph.specs.Layers.{Resumed, Started}
 use Rattle.grc_graph.specs.Scopes.{Binding, Entering, Outgoing, Unbound}
 use Rattle.grc_graph.specs.Wires.{Out, Go}
@@ -21,18 +21,14 @@ use Rattle.grc_graph.specs.Residuals.{holds, left_if, residual}
 use Rattle.grc_graph.specs.Walk.{State, Initial, Selecting, remaining, is_initial}
 use Rattle.grc_graph.specs.Selected.{HasExitCodes, IsState}
 use Rattle.grc_sem.specs.GraphWalks.{selected_of}
-use Rattle.grc_solutions.proofs.ProgramGraphs.{range_has}
+use Rattle.grc_solutions.proofs.Exports.{range_has}
 use Rattle.grc_tri.proofs.Scoped.{InScope}
-use Rattle.grc_sem.proofs.Residues.{resumed_live, residual_static}
-use Rattle.grc_sem.proofs.Tops.{InPart, scope_part, enters, goes_out, unbound, state_reach}
+use Rattle.grc_sem.proofs.Exports.{resumed_live, residual_static, InPart, scope_part, enters, goes_out, unbound, state_reach}
 use Rattle.est_tri.specs.TriWalks.{Tri, tri_idle, tri_either, tri}
 use Rattle.est_tri.specs.Settled.{solved, EachOnce}
 use Rattle.est_tri.specs.KnownPlaces.{Known}
-use Rattle.est_tri.proofs.Walks.{silent_walk}
-use Rattle.est_tri.proofs.Monotone.{below_equal}
-use Rattle.est_tri.proofs.Solving.{solved_off, solved_meets, solved_least}
-use Rattle.est_tri.proofs.Steps.{idle_known}
-use Rattle.grc_graph.proofs.Holding.{holds-false}
+use Rattle.est_tri.proofs.Exports.{silent_walk, below_equal, solved_off, solved_meets, solved_least, idle_known}
+use Rattle.grc_graph.proofs.Exports.{holds-false}
 use Rattle.grc_tri.specs.LeastSolutions.{Statuses}
 use Rattle.grc_tri.proofs.ResumedWalks.{resumed_tri, KnownResumed, silent, left_walk, left_known, known_left, quiet_known, either_left}
 use Rattle.grc_tri.proofs.StartedPlaces.{emits, Follows, below_to, to_below, above, Under, under_emits, stays_under}

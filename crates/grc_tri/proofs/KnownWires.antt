@@ -7,7 +7,7 @@ use Rattle.std.proofs.lemmas.Bool.{cases_Bool}
 use Rattle.std.proofs.lemmas.List.Elements.{All-contains, Contains-get_or}
 use Rattle.est_base.specs.Codes.{upto}
 use Rattle.est_kernel.specs.Statuses.{Status, Plus, Minus, Unknown, known, opposite, conjunction, disjunction}
-use Rattle.est_kernel.proofs.Statuses.{conjunction-known, disjunction-known, opposite-known}
+use Rattle.est_kernel.proofs.Exports.{conjunction-known, disjunction-known, opposite-known}
 use Rattle.grc_graph.specs.Wires.{Wire, End}
 use Rattle.grc_graph.specs.Formulas.{Formula, Const, Boot, Input, Value, Selected, Upto, Kept, Held, Negation, Conjunction, Disjunction}
 use Rattle.grc_graph.specs.Equations.{Equation}
@@ -17,7 +17,7 @@ use Rattle.grc_graph.specs.Readings.{Valuation}
 use Rattle.grc_graph.specs.GraphRuns.{PlainGraph, Solves, formula_value}
 use Rattle.grc_solutions.specs.GraphWires.{equation_wires}
 use Rattle.grc_solutions.specs.Solutions.{ReadUp}
-use Rattle.grc_solutions.proofs.SameWires.{is_given, given_contained, equation_of}
+use Rattle.grc_solutions.proofs.Exports.{is_given, given_contained, equation_of}
 use Rattle.est_tri.specs.KnownPlaces as statuses
 use Rattle.grc_tri.specs.LeastSolutions.{IsKnown, Statuses, TriSolves, is_plus, true_wires, upto_status}
 use Rattle.grc_tri.specs.Laws.{AcyclicKnown}

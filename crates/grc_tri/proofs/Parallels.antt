@@ -7,7 +7,7 @@ use Rattle.est_base.specs.Codes.{maxima}
 use Rattle.est_kernel.specs.Terms.{Term}
 use Rattle.est_kernel.specs.Statuses.{Status, Minus, known, opposite, conjunction, disjunction}
 use Rattle.est_kernel.specs.StaticCodes.{has_code, branch_codes}
-use Rattle.est_kernel.proofs.Statuses.{disjunction-minus}
+use Rattle.est_kernel.proofs.Exports.{disjunction-minus}
 use Rattle.grc_graph.specs.Layers.{Resumed}
 use Rattle.grc_graph.specs.Wires.{Go, End}
 use Rattle.grc_graph.specs.Formulas.{Value, Selected, Upto, Conjunction, any_of}

@@ -12,9 +12,8 @@ use Rattle.est_kernel.specs.StaticCodes.{started_codes, resumed_codes}
 use Rattle.grc_graph.specs.Layers.{Layer, Resumed, Started, Liveness, layers_of, liveness_at, root_if, same_layer, part_liveness, second_liveness}
 use Rattle.grc_graph.specs.Layers.{loop_liveness}
 use Rattle.grc_graph.specs.Wires.{Go, StatusOf, End}
-use Rattle.grc_graph.proofs.LiveLayers.{Agrees}
-use Rattle.grc_sem.proofs.Bridge.{any_layers, any_if, any_root}
-use Rattle.grc_sem.proofs.Meets.{any_nothing}
+use Rattle.grc_graph.proofs.Exports.{Agrees}
+use Rattle.grc_sem.proofs.Exports.{any_layers, any_if, any_root, any_nothing}
 use Rattle.grc_tri.specs.LeastSolutions.{Statuses}
 
 -- whether a statement with these layers is live in a layer

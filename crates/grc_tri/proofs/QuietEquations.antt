@@ -19,7 +19,7 @@ use Rattle.grc_tri.proofs.Quiet.{DeepQuiet, quiet_only, quiet_second, deep_only,
 use Rattle.grc_tri.proofs.Emitted.{deep_emits}
 use Rattle.grc_tri.proofs.StartedEquations.{minus_maxima, minus_lowered, quiet_follows}
 use mathlib.Core.Path.{fun_ext}
-use Rattle.est_kernel.proofs.PreorderLaws.{statement_count-some}
+use Rattle.est_kernel.proofs.Exports.{statement_count-some}
 
 none_ends : (U : Statuses) (n c m : ℕ) → DeepQuiet U n c → n ≤ m → m < n + c → ends U m Resumed ≡ (λ k. Minus)
 none_ends U n c m d i j = fun_ext (d.resumed.at m i j).2

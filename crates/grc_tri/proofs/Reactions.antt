@@ -18,7 +18,7 @@ use Rattle.est_kernel.specs.WellFormed.{IsWellFormed}
 use Rattle.est_kernel.specs.WellFormed as programs
 use Rattle.est_kernel.specs.Laws.{IsBelow, KnowsMore}
 use Rattle.est_kernel.proofs.RunLaws as runs
-use Rattle.est_kernel.proofs.StepLaws.{same_step}
+use Rattle.est_kernel.proofs.Exports.{same_step}
 use Rattle.grc_graph.specs.Layers.{Layer, Resumed, Started, body_layers, body_liveness}
 use Rattle.grc_graph.specs.Wires.{Wire, Out, Go, End, listed, instance_codes}
 use Rattle.grc_graph.specs.Spots.{Spot, body_entry}
@@ -32,37 +32,21 @@ use Rattle.grc_graph.specs.Coherence as coherence
 use Rattle.grc_graph.specs.Edges.{edge}
 use Rattle.grc_graph.specs.Reads.{ReadsOnly}
 use Rattle.grc_graph.specs.Scopes.{Binding, Entering, Outgoing, BoundAt, Unbound, Scope}
-use Rattle.grc_graph.proofs.CodeBounds.{codes_below-kernel}
+use Rattle.grc_graph.proofs.Exports.{codes_below-kernel, body_agrees, holds-false}
 use Rattle.grc_graph.specs.GraphRuns.{graph_of, Solves, shown, next_state}
-use Rattle.grc_graph.proofs.LiveLayers.{body_agrees}
 use Rattle.grc_sem.specs.GraphWalks.{selected_of, graph_walk, program_values, SelectsLeaves, shown_code}
 use Rattle.grc_solutions.specs.GraphWires.{equation_wires, program_wires, program_edges, Differ}
-use Rattle.grc_solutions.proofs.Lists.{every_left, every_right, every_map, every_flat_map, every_contained, every_at, every_both}
-use Rattle.grc_solutions.proofs.Lists.{every_from, every_of_all}
-use Rattle.grc_solutions.proofs.Lists.{every_listed}
-use Rattle.grc_solutions.proofs.Pairwise.{every_mapped, every_flat, listed_every}
-use Rattle.grc_solutions.proofs.Each.{EachStarted, EachResumed}
-use Rattle.grc_solutions.proofs.Live.{Root, layered}
-use Rattle.grc_solutions.proofs.Gathered.{gathered}
-use Rattle.grc_solutions.proofs.SameWires.{given_at, given_contained, equation_of}
+use Rattle.grc_solutions.proofs.Exports.{every_left, every_right, every_map, every_flat_map, every_contained, every_at, every_both, every_from, every_of_all}
+use Rattle.grc_solutions.proofs.Exports.{every_listed, every_mapped, every_flat, listed_every, EachStarted, EachResumed, Root, layered, gathered, given_at}
+use Rattle.grc_solutions.proofs.Exports.{given_contained, equation_of, wires_differ_lem, range_has, reads_are_edges_lem}
 use Rattle.grc_solutions.proofs.SameWires as given
-use Rattle.grc_solutions.proofs.WireNames.{wires_differ_lem}
-use Rattle.grc_solutions.proofs.ProgramGraphs.{range_has, reads_are_edges_lem}
 use Rattle.grc_tri.proofs.Scoped.{InScope}
 use Rattle.grc_tri.proofs.Scoped.{fit_scope}
-use Rattle.grc_sem.proofs.Premises.{program_kernel}
-use Rattle.grc_sem.proofs.Instants.{code_shown, next_residual}
-use Rattle.grc_sem.proofs.WalkSolves.{range_bounds}
-use Rattle.grc_sem.proofs.Residues.{resumed_live}
-use Rattle.grc_sem.proofs.Tops.{state_reach}
-use Rattle.grc_sem.proofs.Kept.{Same}
+use Rattle.grc_sem.proofs.Exports.{program_kernel, code_shown, next_residual, range_bounds, resumed_live, state_reach, Same}
 use Rattle.est_tri.specs.Settled.{EachOnce, EachMeets}
 use Rattle.est_tri.specs.KnownPlaces.{Known}
 use Rattle.est_tri.specs.KnownPlaces as statuses
-use Rattle.est_tri.proofs.Solving.{settle_known, settle_solved}
-use Rattle.est_tri.proofs.Monotone.{below_equal}
-use Rattle.est_tri.proofs.Steps.{step_known, known_step, step_walk_signals}
-use Rattle.grc_graph.proofs.Holding.{holds-false}
+use Rattle.est_tri.proofs.Exports.{settle_known, settle_solved, below_equal, step_known, known_step, step_walk_signals}
 use Rattle.grc_tri.specs.LeastSolutions.{IsKnown, IsLeast, Statuses, TriSolves, is_plus, true_wires}
 use Rattle.grc_tri.specs.Laws.{LeastIsThere, KnownReacts, ReactsKnown}
 use Rattle.grc_tri.proofs.Stages.{Stage, least_kept, least_is_kept, next, next_at, next_off, start, start_on, start_off}

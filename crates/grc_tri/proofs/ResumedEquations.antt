@@ -7,9 +7,8 @@ use Rattle.est_kernel.specs.Terms.{Term, Nothing, Pause, Emit, Exit, Present, Su
 use Rattle.est_kernel.specs.Statuses.{Status, Minus, Environment, with_status, known, opposite, conjunction, disjunction}
 use Rattle.est_kernel.specs.Preorder.{statement_count}
 use Rattle.est_kernel.specs.StaticCodes.{codes_if, has_code, started_codes, resumed_codes, branch_codes, instant_loops, NoInstantLoop}
-use Rattle.est_kernel.proofs.Sets.{except-parts, upto-in, upto-parts, lowered-parts}
+use Rattle.est_kernel.proofs.Exports.{except-parts, upto-in, upto-parts, lowered-parts, statement_count-some}
 use Rattle.est_base.specs.Codes.{except, either, lowered, maxima}
-use Rattle.est_kernel.proofs.PreorderLaws.{statement_count-some}
 use Rattle.grc_graph.specs.Layers.{Layer, Resumed, Started, Liveness, part_liveness, second_liveness, loop_liveness, can_pass}
 use Rattle.grc_graph.specs.Scopes.{Scope, bind}
 use Rattle.grc_graph.specs.Wires.{Go, StatusOf, End}
@@ -20,21 +19,15 @@ use Rattle.grc_graph.specs.Residuals.{holds}
 use Rattle.grc_graph.specs.Walk.{State, Values}
 use Rattle.grc_graph.specs.Readings.{state_holds_at}
 use Rattle.grc_graph.specs.Selected.{HasExitCodes, IsSelected}
-use Rattle.grc_graph.proofs.LiveLayers.{Agrees, only_agrees, first_agrees, second_agrees}
-use Rattle.grc_solutions.proofs.Each.{EachStarted, EachResumed}
-use Rattle.grc_solutions.proofs.Live.{Root}
-use Rattle.grc_solutions.proofs.Binders.{Above, above_more, above_bind}
-use Rattle.grc_sem.proofs.Residues.{no_loops-left, no_loops-right, loop_body, resumed_live}
+use Rattle.grc_graph.proofs.Exports.{Agrees, only_agrees, first_agrees, second_agrees}
+use Rattle.grc_solutions.proofs.Exports.{EachStarted, EachResumed, Root, Above, above_more, above_bind}
+use Rattle.grc_sem.proofs.Exports.{no_loops-left, no_loops-right, loop_body, resumed_live, resumed_any, emission, whole_only, whole_first, whole_second}
+use Rattle.grc_sem.proofs.Exports.{local_own, resumed_emissions, head_started, head_resumed, own_fresh, own_shows, code_lives, Finds, finds_only, finds_first}
+use Rattle.grc_sem.proofs.Exports.{finds_second, finds_self, low_second, root_own}
 use Rattle.grc_tri.proofs.Scoped.{InScope}
-use Rattle.grc_sem.proofs.Bridge.{resumed_any}
-use Rattle.grc_sem.proofs.Emissions.{emission, whole_only, whole_first, whole_second}
-use Rattle.grc_sem.proofs.OwnStatus.{local_own, resumed_emissions}
-use Rattle.grc_sem.proofs.Meets.{head_started, head_resumed, own_fresh, own_shows, code_lives, Finds, finds_only, finds_first}
-use Rattle.grc_sem.proofs.Meets.{finds_second, finds_self}
-use Rattle.grc_sem.proofs.Meets.{low_second, root_own}
 use Rattle.est_tri.specs.TriWalks.{where_met}
 use Rattle.est_tri.specs.Laws.{sure, possible}
-use Rattle.est_tri.proofs.Rails.{IsRail, sure_rail, possible_rail, same_rails}
+use Rattle.est_tri.proofs.Exports.{IsRail, sure_rail, possible_rail, same_rails}
 use Rattle.grc_tri.specs.LeastSolutions.{Statuses}
 use Rattle.grc_tri.proofs.Formulas.{or_all, if_meaning, part_meaning, or_append, two_meaning, test_meaning, SeesStatuses, sees_more, sees_root}
 use Rattle.grc_tri.proofs.Formulas.{rail_emissions}

@@ -4,15 +4,15 @@ use Rattle.est_kernel.specs.Terms.{Term, Nothing, Pause, Emit, Exit, Present, Su
 use Rattle.est_kernel.specs.Statuses.{Status, Minus, Environment, with_status, value, opposite, conjunction}
 use Rattle.est_kernel.specs.Preorder.{statement_count}
 use Rattle.est_kernel.specs.Laws.{IsBelow, KnowsMore}
-use Rattle.est_kernel.proofs.Statuses.{value_below, with_status-more}
+use Rattle.est_kernel.proofs.Exports.{value_below, with_status-more}
 use Rattle.grc_graph.specs.Layers.{Layer, Resumed, Started}
 use Rattle.grc_graph.specs.Scopes.{Scope, bind}
 use Rattle.grc_graph.specs.Wires.{Wire, Go, StatusOf, End}
 use Rattle.grc_graph.specs.Formulas.{Formula}
 use Rattle.grc_graph.specs.Residuals.{holds}
-use Rattle.grc_solutions.proofs.Each.{EachResumed}
+use Rattle.grc_solutions.proofs.Exports.{EachResumed}
 use Rattle.est_tri.specs.KnownPlaces.{IsKnown}
-use Rattle.est_tri.proofs.Monotone.{choice_below}
+use Rattle.est_tri.proofs.Exports.{choice_below}
 use Rattle.grc_tri.specs.LeastSolutions.{Statuses}
 use Rattle.grc_tri.proofs.ResumedWalks.{over_codes, resumed_tri, resumed_decided, KnownResumed, resumed_go}
 use Rattle.grc_tri.proofs.StartedPlaces.{unopposed}

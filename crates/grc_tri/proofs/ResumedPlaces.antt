@@ -4,15 +4,14 @@ use Rattle.est_kernel.specs.Terms.{Term, Nothing, Pause, Emit, Exit, Present, Su
 use Rattle.est_kernel.specs.Statuses.{Status, Minus, Unknown, Environment, with_status, known, value, opposite, conjunction, disjunction}
 use Rattle.est_kernel.specs.Preorder.{statement_count}
 use Rattle.est_kernel.specs.Laws.{IsBelow, KnowsMore}
-use Rattle.est_kernel.proofs.Statuses.{below_self, conjunction-minus, conjunction_below, disjunction_below, knows_self, value_below, with_status-more}
+use Rattle.est_kernel.proofs.Exports.{below_self, conjunction-minus, conjunction_below, disjunction_below, knows_self, value_below, with_status-more}
 use Rattle.grc_graph.specs.Layers.{Resumed, Started}
 use Rattle.grc_graph.specs.Wires.{Go, StatusOf}
 use Rattle.grc_graph.specs.Residuals.{holds}
 use Rattle.est_tri.specs.TriWalks.{Tri, where_met, tri_idle, tri_maxima, tri_lowered}
 use Rattle.est_tri.specs.Laws.{Below}
-use Rattle.est_tri.proofs.Monotone.{below_itself, met_below}
-use Rattle.est_tri.proofs.Monotone.{choice_below, lowered_below, walk_below, completes_below, either_below, in_turn_below, together_below}
-use Rattle.est_tri.proofs.Monotone.{trapped_below, hidden_below, settles_at_once}
+use Rattle.est_tri.proofs.Exports.{below_itself, met_below, choice_below, lowered_below, walk_below, completes_below, either_below, in_turn_below}
+use Rattle.est_tri.proofs.Exports.{together_below, trapped_below, hidden_below, settles_at_once}
 use Rattle.grc_tri.specs.LeastSolutions.{Statuses}
 use Rattle.grc_tri.proofs.ResumedWalks.{over_codes, tri_branch, part_go, resumed_tri, resumed_decided, silent}
 use Rattle.grc_tri.proofs.StartedPlaces.{emits, ends, Follows, below_to, to_below, maxima_below, above, Under, under_ends, under_emits}

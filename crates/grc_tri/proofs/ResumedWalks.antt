@@ -5,14 +5,13 @@ use Rattle.std.proofs.lemmas.Bool.{false≢true}
 use Rattle.est_kernel.specs.Terms.{Term, Nothing, Pause, Emit, Exit, Present, Suspend, Seq, Loop, Par, Trap, Local, Awake}
 use Rattle.est_kernel.specs.Statuses.{Status, Plus, Minus, Unknown, Environment, with_status, known, value, opposite, conjunction, disjunction}
 use Rattle.est_kernel.specs.Preorder.{statement_count}
-use Rattle.est_kernel.proofs.Statuses.{conjunction-minus, disjunction-minus}
+use Rattle.est_kernel.proofs.Exports.{conjunction-minus, disjunction-minus}
 use Rattle.grc_graph.specs.Residuals.{holds, left_if, residual}
 use Rattle.grc_graph.specs.Selected.{IsSelected}
 use Rattle.est_tri.specs.TriWalks.{Tri, where_met, tri_idle, tri_completes, tri_either, tri_in_turn, tri_upto, tri_together, tri_trapped, tri_lowered}
 use Rattle.est_tri.specs.TriWalks.{tri_hidden, tri, tri_decided}
 use Rattle.est_tri.specs.KnownPlaces.{IsKnown, Known}
-use Rattle.est_tri.proofs.Walks.{silent_walk}
-use Rattle.est_tri.proofs.Steps.{idle_known, known_go}
+use Rattle.est_tri.proofs.Exports.{silent_walk, idle_known, known_go}
 use Rattle.grc_tri.proofs.Formulas.{met_absent}
 
 -- the codes of a branch of a parallel: where it holds no selected pause it is over, and counts as code 0

@@ -17,15 +17,11 @@ use Rattle.grc_graph.specs.Spots.{Spot, spots, spots_at, body_spots, body_entry}
 use Rattle.grc_graph.specs.Equations.{Equation, equations, end_formula, emissions, instance_status, instance_equations, output_equation}
 use Rattle.grc_graph.specs.Walk.{State, Values}
 use Rattle.grc_graph.specs.Selected.{HasExitCodes}
-use Rattle.grc_graph.proofs.LiveLayers.{body_agrees}
-use Rattle.grc_graph.proofs.CodeBounds.{codes_below-kernel}
-use Rattle.grc_solutions.proofs.Lists.{every_both, every_left, every_right, every_map, every_flat_map, every_listed, every_from}
-use Rattle.grc_solutions.proofs.Each.{spot, EachStarted, EachResumed}
-use Rattle.grc_solutions.proofs.Live.{layered}
-use Rattle.grc_solutions.proofs.Looked.{statement_at, Looked, looked}
-use Rattle.grc_sem.proofs.Joint.{dead_in, any_map_none, any_flat_none, any_listed_none}
+use Rattle.grc_graph.proofs.Exports.{body_agrees, codes_below-kernel, same_layer-self, same_layer-true}
+use Rattle.grc_solutions.proofs.Exports.{every_both, every_left, every_right, every_map, every_flat_map, every_listed, every_from, spot, EachStarted}
+use Rattle.grc_solutions.proofs.Exports.{EachResumed, layered, statement_at, Looked, looked}
+use Rattle.grc_sem.proofs.Exports.{dead_in, any_map_none, any_flat_none, any_listed_none}
 use Rattle.est_tri.specs.TriWalks.{where_met}
-use Rattle.grc_graph.proofs.SameWires.{same_layer-self, same_layer-true}
 use Rattle.grc_tri.specs.LeastSolutions.{Statuses}
 use Rattle.grc_tri.proofs.Formulas.{val, any_meaning}
 use Rattle.grc_tri.proofs.Quiet.{lives, OffLayers}

@@ -9,8 +9,7 @@ use Rattle.est_kernel.specs.WellFormed as programs
 use Rattle.grc_graph.specs.GraphRuns.{graph_of, next_state, shown}
 use Rattle.grc_graph.specs.Walk.{State}
 use Rattle.grc_sem.specs.GraphWalks.{shown_answer}
-use Rattle.grc_sem.proofs.Instants.{codes_are_shown_lem, next_state_is_kept_lem}
-use Rattle.grc_sem.proofs.Premises.{program_kernel}
+use Rattle.grc_sem.proofs.Exports.{codes_are_shown_lem, next_state_is_kept_lem, program_kernel}
 use Rattle.grc_tri.specs.LeastSolutions.{IsKnown, IsLeast, Statuses, true_wires}
 use Rattle.grc_tri.specs.RunLaws.{LeavesTerm, ProgramsRunByLeastSolutions, RunsByLeastSolutions, ShowsReaction}
 use Rattle.grc_tri.proofs.Reactions.{known_reacts_lem, least_is_there_lem, reacts_known_lem}

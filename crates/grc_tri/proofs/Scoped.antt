@@ -5,7 +5,7 @@ use Rattle.facts.proofs.Tests.{or-other}
 use Rattle.est_kernel.specs.Terms.{Expression, Tick, Sig, Not, And, Or, Term, Nothing, Pause, Emit, Exit, Present, Suspend, Seq, Loop, Par, Trap, Local, Awake}
 use Rattle.est_kernel.specs.WellFormed.{TestsVisible, SignalsFit, with_signal}
 use Rattle.grc_graph.specs.Scopes.{Binding, Entering, Outgoing, BoundAt, Unbound, Scope, bind, program_scope}
-use Rattle.grc_sem.proofs.Tops.{InPart, scope_part, enters, goes_out, unbound}
+use Rattle.grc_sem.proofs.Exports.{InPart, scope_part, enters, goes_out, unbound}
 
 -- what is tested has a value, and what is emitted a status wire
 abbrev pub has_value : Binding → Bool

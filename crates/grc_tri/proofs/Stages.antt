@@ -11,16 +11,15 @@ use mathlib.Core.Path.{fun_ext}
 use Rattle.facts.proofs.Lists.{Every}
 use Rattle.est_kernel.specs.Statuses.{Status, Plus, Minus, Unknown}
 use Rattle.est_kernel.specs.Laws.{IsBelow}
-use Rattle.est_kernel.proofs.Statuses.{below_meets, below_self, conjunction_below, disjunction_below, opposite_below}
+use Rattle.est_kernel.proofs.Exports.{below_meets, below_self, conjunction_below, disjunction_below, opposite_below}
 use Rattle.grc_graph.specs.Wires.{Wire, End, same_wire}
 use Rattle.grc_graph.specs.Formulas.{Formula, Const, Boot, Input, Value, Selected, Upto, Kept, Held, Negation, Conjunction, Disjunction}
 use Rattle.grc_graph.specs.Equations.{Equation}
 use Rattle.grc_graph.specs.Walk.{State}
 use Rattle.grc_graph.specs.GraphRuns.{PlainGraph}
-use Rattle.grc_graph.proofs.SameWires.{same_wire-self, same_wire-true}
+use Rattle.grc_graph.proofs.Exports.{same_wire-self, same_wire-true}
 use Rattle.grc_solutions.specs.GraphWires.{equation_wires, Differ}
-use Rattle.grc_solutions.proofs.Lists.{every_of_all}
-use Rattle.grc_solutions.proofs.SameWires.{is_given}
+use Rattle.grc_solutions.proofs.Exports.{every_of_all, is_given}
 use Rattle.grc_tri.specs.LeastSolutions.{Statuses, upto_status, formula_status, TriSolves, IsLeast}
 
 -- each status of the first is below that of the second

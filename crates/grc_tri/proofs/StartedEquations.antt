@@ -8,7 +8,7 @@ use Rattle.est_kernel.specs.Statuses.{Status, Minus, Environment, with_status, v
 use Rattle.est_kernel.specs.Preorder.{statement_count}
 use Rattle.est_kernel.specs.StaticCodes.{codes_if, started_codes, instant_loops, NoInstantLoop}
 use Rattle.est_base.specs.Codes.{except, either, maxima, lowered}
-use Rattle.est_kernel.proofs.PreorderLaws.{statement_count-some}
+use Rattle.est_kernel.proofs.Exports.{statement_count-some}
 use Rattle.grc_graph.specs.Layers.{Layer, Resumed, Started, Liveness, part_liveness, second_liveness, loop_liveness, same_layer}
 use Rattle.grc_graph.specs.Scopes.{Scope, bind}
 use Rattle.grc_graph.specs.Wires.{Go, StatusOf, End, instance_codes}
@@ -17,20 +17,14 @@ use Rattle.grc_graph.specs.Spots.{Spot, part_entry}
 use Rattle.grc_graph.specs.Equations.{end_formula, emissions, part_end, trapped_ends, started_parallel}
 use Rattle.grc_graph.specs.Walk.{State, Values}
 use Rattle.grc_graph.specs.Selected.{HasExitCodes}
-use Rattle.grc_graph.proofs.LiveLayers.{Agrees, only_agrees, first_agrees, second_agrees}
-use Rattle.grc_solutions.proofs.Each.{EachStarted}
-use Rattle.grc_solutions.proofs.Live.{Root, root_left, root_given}
-use Rattle.grc_solutions.proofs.Binders.{Above, above_more, above_bind}
-use Rattle.grc_sem.proofs.Residues.{no_loops-left, no_loops-right, loop_body}
+use Rattle.grc_graph.proofs.Exports.{Agrees, only_agrees, first_agrees, second_agrees, above_within, same_layer-self}
+use Rattle.grc_solutions.proofs.Exports.{EachStarted, Root, root_left, root_given, Above, above_more, above_bind}
+use Rattle.grc_sem.proofs.Exports.{no_loops-left, no_loops-right, loop_body, Whole, whole_only, whole_first, whole_second, local_own, started_emissions}
+use Rattle.grc_sem.proofs.Exports.{head_started, own_fresh, own_shows}
 use Rattle.grc_tri.proofs.Scoped.{InScope}
-use Rattle.grc_sem.proofs.Emissions.{Whole, whole_only, whole_first, whole_second}
-use Rattle.grc_sem.proofs.OwnStatus.{local_own, started_emissions}
-use Rattle.grc_sem.proofs.Meets.{head_started, own_fresh, own_shows}
 use Rattle.est_tri.specs.TriWalks.{where_met, tri_upto, tri_maxima, tri_lowered}
 use Rattle.est_tri.specs.Laws.{sure, possible}
-use Rattle.est_tri.proofs.Rails.{IsRail, sure_rail, possible_rail, same_rails}
-use Rattle.grc_graph.proofs.LiveInstances.{above_within}
-use Rattle.grc_graph.proofs.SameWires.{same_layer-self}
+use Rattle.est_tri.proofs.Exports.{IsRail, sure_rail, possible_rail, same_rails}
 use Rattle.grc_tri.specs.LeastSolutions.{Statuses, upto_status}
 use Rattle.grc_tri.proofs.Formulas.{val, or_all, any_meaning, part_meaning, two_meaning, test_meaning, SeesStatuses, sees_more, rail_emissions}
 use Rattle.grc_tri.proofs.Formulas.{met_absent, upto_same}

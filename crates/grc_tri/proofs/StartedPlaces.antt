@@ -6,19 +6,17 @@ use Rattle.est_kernel.specs.Terms.{Term, Nothing, Pause, Emit, Exit, Present, Su
 use Rattle.est_kernel.specs.Statuses.{Status, Plus, Minus, Unknown, Environment, with_status, value, opposite, conjunction, disjunction}
 use Rattle.est_kernel.specs.Preorder.{statement_count}
 use Rattle.est_kernel.specs.Laws.{IsBelow, KnowsMore}
-use Rattle.est_kernel.proofs.Statuses.{conjunction_below, disjunction_below, value_below, with_status-more}
+use Rattle.est_kernel.proofs.Exports.{conjunction_below, disjunction_below, value_below, with_status-more}
 use Rattle.grc_graph.specs.Layers.{Layer}
 use Rattle.grc_graph.specs.Scopes.{Scope, bind}
 use Rattle.grc_graph.specs.Wires.{Wire, Go, StatusOf, End}
 use Rattle.grc_graph.specs.Formulas.{Formula}
 use Rattle.grc_graph.specs.Spots.{Spot}
-use Rattle.grc_solutions.proofs.Each.{EachStarted}
-use Rattle.est_tri.proofs.Steps.{known_go}
+use Rattle.grc_solutions.proofs.Exports.{EachStarted}
+use Rattle.est_tri.proofs.Exports.{known_go, met_below, choice_below, upto_below, lowered_below, decided_again}
 use Rattle.est_tri.specs.TriWalks.{Tri, where_met, tri_upto, tri_maxima, tri_lowered, tri, tri_decided}
 use Rattle.est_tri.specs.KnownPlaces.{IsKnown, Known}
 use Rattle.est_tri.specs.Laws.{Below}
-use Rattle.est_tri.proofs.Monotone.{met_below}
-use Rattle.est_tri.proofs.Monotone.{choice_below, upto_below, lowered_below, decided_again}
 use Rattle.grc_tri.specs.LeastSolutions.{Statuses}
 
 -- what the walk's place is on the wires: the statuses of the emissions, and of the ends

@@ -10,8 +10,7 @@ use Rattle.est_kernel.specs.Potentials.{decided}
 use Rattle.est_kernel.specs.Preorder.{statement_count}
 use Rattle.est_kernel.specs.Steps.{Step, step, leaving, leaves, chosen_step, loop_step, local_step}
 use Rattle.est_kernel.specs.Laws.{IsBelow, KnowsMore}
-use Rattle.est_kernel.proofs.Statuses.{conjunction-known, disjunction-known, opposite-known, value_below, with_status-more}
-use Rattle.est_kernel.proofs.StepLaws.{same_step}
+use Rattle.est_kernel.proofs.Exports.{conjunction-known, disjunction-known, opposite-known, value_below, with_status-more, same_step}
 use Rattle.grc_graph.specs.Layers.{Layer, Resumed, Started}
 use Rattle.grc_graph.specs.Wires.{Wire, Go, StatusOf}
 use Rattle.grc_graph.specs.Residuals.{holds, left_if, residual}
@@ -19,15 +18,12 @@ use Rattle.grc_graph.specs.Walk.{Values, with_value, truth, started_walk, resume
 use Rattle.grc_graph.specs.Selected.{HasExitCodes, IsSelected}
 use Rattle.grc_graph.specs.Readings.{Valuation}
 use Rattle.grc_graph.specs.Coherence.{statuses}
-use Rattle.grc_sem.proofs.Kept.{only_same, started_keeps, resumed_keeps, keeps_branch}
-use Rattle.grc_sem.proofs.StepWalks.{Stepped, Two, lifted, stepped_only, first_left, second_left, present_step, par_step, trap_left, local_left, awake_step}
-use Rattle.grc_sem.proofs.StepWalks.{seq_step, held_step, branch_step, held_first, held_second}
+use Rattle.grc_sem.proofs.Exports.{only_same, started_keeps, resumed_keeps, keeps_branch, Stepped, Two, lifted, stepped_only, first_left, second_left}
+use Rattle.grc_sem.proofs.Exports.{present_step, par_step, trap_left, local_left, awake_step, seq_step, held_step, branch_step, held_first, held_second}
 use Rattle.est_tri.specs.TriWalks.{tri, tri_decided}
 use Rattle.est_tri.specs.KnownPlaces.{IsKnown}
-use Rattle.est_tri.proofs.Walks.{walk_decides}
-use Rattle.est_tri.proofs.Monotone.{below_equal}
-use Rattle.est_tri.proofs.Solving.{known_where}
-use Rattle.est_tri.proofs.Steps.{HasStep, leaves_part, sequence_parts, loop_part, parallel_parts, trap_part, local_part, step_walk_codes}
+use Rattle.est_tri.proofs.Exports.{walk_decides, below_equal, known_where, HasStep, leaves_part, sequence_parts, loop_part, parallel_parts, trap_part}
+use Rattle.est_tri.proofs.Exports.{local_part, step_walk_codes}
 use Rattle.grc_tri.specs.LeastSolutions.{Statuses}
 use Rattle.grc_tri.proofs.ResumedWalks.{part_on, resumed_tri, resumed_decided, left_walk}
 use Rattle.grc_tri.proofs.StartedPlaces.{ends, Follows, above, above_decided}

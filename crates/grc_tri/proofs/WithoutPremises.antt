@@ -24,7 +24,7 @@ use Rattle.grc_graph.specs.Readings.{Valuation}
 use Rattle.grc_graph.specs.GraphRuns.{Solves, IsGraphRun, shown, graph_of, next_state}
 use Rattle.grc_solutions.specs.GraphWires.{program_edges}
 use Rattle.grc_sem.specs.GraphWalks.{graph_walk, selected_of}
-use Rattle.grc_solutions.proofs.Examples.{start, by_values, solved_by, rank_in, go_up}
+use Rattle.grc_solutions.proofs.Exports.{start, by_values, solved_by, rank_in, go_up}
 use Rattle.grc_solutions.proofs.Examples as examples
 
 -- a program whose signals have names of no letters

@@ -13,14 +13,12 @@ use Rattle.grc_graph.specs.Readings.{Valuation, kept_at, held_at}
 use Rattle.grc_graph.specs.Rows.{Row, row, rows, row_at, second_of, program_rows}
 use Rattle.grc_graph.specs.Scopes.{Scope, bind, program_scope}
 use Rattle.est_kernel.specs.WellFormed.{IsKernel}
-use Rattle.est_kernel.proofs.PreorderLaws.{statement_count-pos}
+use Rattle.est_kernel.proofs.Exports.{statement_count-pos}
 use Rattle.grc_graph.specs.Statements.{Entry, Body, Part, Branch, Then, Else, Suspended, Second, Looped}
 use Rattle.grc_graph.specs.Walk.{Values}
 use Rattle.grc_graph.specs.Wires.{End}
-use Rattle.grc_graph.proofs.CodeReads.{StandsAt, stands_whole}
-use Rattle.grc_graph.proofs.LiveInstances.{above_above}
-use Rattle.grc_graph.proofs.RowSpots.{length-rows, stands_one, stands_first, stands_second, row_read}
-use Rattle.grc_graph.proofs.RowFacts.{one_place, two_places}
+use Rattle.grc_graph.proofs.Exports.{StandsAt, stands_whole, above_above, length-rows, stands_one, stands_first, stands_second, row_read, one_place}
+use Rattle.grc_graph.proofs.Exports.{two_places}
 use Rattle.grc_words.specs.Enclosures.{Readings, around, kept_of, held_of, lasts, suspends, IsWithin, IsOutermost, FollowsAround}
 
 -- a statement itself

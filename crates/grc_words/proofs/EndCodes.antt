@@ -9,7 +9,7 @@ use Rattle.std.proofs.lemmas.List.Elements.{All-nil, All-cons, All-head, All-tai
 use Rattle.std.proofs.lemmas.List.Folds.{list_any-append}
 use Rattle.est_base.specs.Codes.{upto}
 use Rattle.grc_graph.specs.Wires.{codes_below}
-use Rattle.grc_graph.proofs.CodesBelow.{codes_below-none, codes_below-suc}
+use Rattle.grc_graph.proofs.Exports.{codes_below-none, codes_below-suc}
 use Rattle.grc_words.specs.WordLaws.{any_from}
 
 -- ---- the front of a list

@@ -19,8 +19,7 @@ use Rattle.grc_graph.specs.PlainInstances.{instance_of}
 use Rattle.grc_graph.specs.Rows.{row_at, program_rows}
 use Rattle.grc_graph.specs.WireTables.{wire_run, is_local}
 use Rattle.grc_graph.specs.Wires.{listed, instance_codes}
-use Rattle.grc_graph.proofs.NeighbourReads.{body_ascending, one_place}
-use Rattle.grc_graph.proofs.WireFilling.{Filled, Filled-none, Filled-more, Filled-all}
+use Rattle.grc_graph.proofs.Exports.{body_ascending, place_once, Filled, Filled-none, Filled-more, Filled-all}
 use Rattle.grc_words.specs.EndLists.{is_no_end_of}
 
 -- ---- the lists that the definition has
@@ -125,7 +124,7 @@ one-list insts apart (u ∷ us) (w ∷ ws) f h e =
 apart-of : (g : Graph) → instances_of g ≡ plain.body_instances (program_of g.program).body → Apart (instances_of g)
 apart-of g e i j low high same =
     let many = length-map g.instances.list.items instance_of in
-    one_place g.instances.list.items i j (body_ascending (program_of g.program).body g.instances.list.items e) (omega arith) (omega arith) same
+    place_once g.instances.list.items i j (body_ascending (program_of g.program).body g.instances.list.items e) (omega arith) (omega arith) same
 
 wires-are : (g : Graph) → IsKernel (program_of g.program).body → instances_of g ≡ plain.body_instances (program_of g.program).body
     → names_of g ≡ program_wires (program_of g.program) → g.wires.items ≡ wires_to (program_of g.program) (instances_of g) (length (instances_of g))

@@ -21,9 +21,7 @@ use Rattle.grc_graph.specs.PlainGraphs.{instance_at, instances_of, names_of, wir
 use Rattle.grc_graph.specs.Readings.{Valuation}
 use Rattle.grc_graph.specs.Wires as names
 use Rattle.grc_graph.specs.Wires.{codes_below, listed, same_wire}
-use Rattle.grc_graph.proofs.WireNames.{below_only}
-use Rattle.grc_graph.proofs.CodesBelow.{listed-below}
-use Rattle.grc_graph.proofs.SameWires.{same_wire-back}
+use Rattle.grc_graph.proofs.Exports.{below_only, listed-below, same_wire-back}
 use Rattle.grc_words.specs.EndLists.{is_no_end_of}
 use Rattle.grc_words.specs.Occasions.{FalseOffWires}
 use Rattle.grc_words.specs.WordLaws.{any_from, is_end_upto}

@@ -4,17 +4,15 @@ use Rattle.est_kernel.specs.Plain.{Program, interface_count}
 use Rattle.est_kernel.specs.Terms.{Term, Nothing, Pause, Emit, Exit, Present, Suspend, Seq, Loop, Par, Trap, Local, Awake}
 use Rattle.est_kernel.specs.Preorder.{statement_count}
 use Rattle.est_kernel.specs.WellFormed.{IsKernel}
-use Rattle.est_kernel.proofs.PreorderLaws.{statement_count-pos}
+use Rattle.est_kernel.proofs.Exports.{statement_count-pos}
 use Rattle.grc_graph.specs.Layers.{Liveness, body_liveness, part_liveness, second_liveness, loop_liveness}
 use Rattle.grc_graph.specs.Readings.{holds_at}
 use Rattle.grc_graph.specs.Residuals.{holds}
 use Rattle.grc_graph.specs.Rows.{Row, row, rows, row_at, program_rows}
 use Rattle.grc_graph.specs.Scopes.{Scope, bind, program_scope}
 use Rattle.grc_graph.specs.Statements.{Entry, Body, Part, Branch, Then, Else, Suspended, Second, Looped}
-use Rattle.grc_graph.proofs.CodeReads.{StandsAt, stands_whole}
-use Rattle.grc_graph.proofs.RowSpots.{length-rows, stands_one, stands_first, stands_second, row_read}
-use Rattle.grc_graph.proofs.Holding.{holds_at-self}
-use Rattle.grc_graph.proofs.RowFacts.{one_place, two_places}
+use Rattle.grc_graph.proofs.Exports.{StandsAt, stands_whole, length-rows, stands_one, stands_first, stands_second, row_read, holds_at-self, one_place}
+use Rattle.grc_graph.proofs.Exports.{two_places}
 use Rattle.grc_words.proofs.Enclosed.{chosen-first, chosen-second, not-here}
 
 -- what is said of the statement with this number is what its row says

@@ -11,7 +11,7 @@ use Rattle.grc_graph.specs.declared.trees.SelForm.{SelForm}
 use Rattle.grc_graph.specs.declared.trees.SelForm.TheVariants as forms
 use Rattle.grc_graph.specs.declared.trees.SelNode.{SelNode}
 use Rattle.grc_graph.specs.SelectionTrees.{selecting, body_tree, body_leaves, resumes}
-use Rattle.grc_graph.proofs.TreeSelections.{leaves_among}
+use Rattle.grc_graph.proofs.Exports.{leaves_among}
 use Rattle.est_kernel.specs.Terms.{Term}
 use Rattle.est_kernel.specs.Plain.{program_of}
 use Rattle.est_kernel.specs.Preorder.{statement_count}

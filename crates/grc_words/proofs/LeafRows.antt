@@ -10,8 +10,7 @@ use Rattle.grc_graph.specs.Rows.{Row, row, rows, row_at, program_rows}
 use Rattle.grc_graph.specs.Scopes.{Scope, bind, program_scope}
 use Rattle.grc_graph.specs.SelectionTrees.{leaf_paths, body_leaves, resumes, second_resumes}
 use Rattle.grc_graph.specs.Statements.{Entry, Body, Part, Branch, Then, Else, Suspended, Second, Looped}
-use Rattle.grc_graph.proofs.CodeReads.{StandsAt, stands_whole}
-use Rattle.grc_graph.proofs.RowSpots.{length-rows, stands_one, stands_first, stands_second, row_read}
+use Rattle.grc_graph.proofs.Exports.{StandsAt, stands_whole, length-rows, stands_one, stands_first, stands_second, row_read}
 
 abbrev AreResumed : List Row → List ℕ → Type 0
 AreResumed W ms = All (λ m. (row_at W m).live.resumed ≡ true) ms

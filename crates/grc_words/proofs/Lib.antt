@@ -1,18 +1,19 @@
-pub mod RowValues
-pub mod Enclosed
-pub mod Saying
-pub mod RowCounts
-pub mod LeafPaths
-pub mod LeafRows
-pub mod Holding
-pub mod LeafChoices
-pub mod PartSteps
-pub mod TestSteps
-pub mod Beside
-pub mod HoldingSteps
-pub mod Listing
-pub mod EndSteps
-pub mod EndPlaces
-pub mod EndCodes
-pub mod EndWords
-pub mod Whole
+mod RowValues
+mod Enclosed
+mod Saying
+mod RowCounts
+mod LeafPaths
+mod LeafRows
+mod Holding
+mod LeafChoices
+mod PartSteps
+mod TestSteps
+mod Beside
+mod HoldingSteps
+mod Listing
+mod EndSteps
+mod EndPlaces
+mod EndCodes
+mod EndWords
+mod Whole
+pub mod Exports

@@ -17,9 +17,7 @@ use Rattle.grc_graph.specs.PlainInstances.{instance_of}
 use Rattle.grc_graph.specs.StatementViews.{view_of}
 use Rattle.grc_graph.specs.Neighbouring.{instances_in}
 use Rattle.grc_graph.specs.WireTables.{comes_before, IsNumberOf}
-use Rattle.grc_graph.proofs.NeighbourReads.{body_ascending, name_at}
-use Rattle.grc_graph.proofs.RowReads.{statement_read}
-use Rattle.grc_graph.proofs.WireNames.{LiveAt, live_instance}
+use Rattle.grc_graph.proofs.Exports.{body_ascending, name_at, statement_read, LiveAt, live_instance}
 use Rattle.grc_words.specs.Holdings.{AreListed, IsLive, StatementRead}
 
 -- an instance by number is live

@@ -14,15 +14,12 @@ use Rattle.grc_graph.specs.Residuals.{holds}
 use Rattle.grc_graph.specs.Rows.{Row, row, rows, row_at, second_of, program_rows}
 use Rattle.grc_graph.specs.Scopes.{Scope, bind}
 use Rattle.grc_graph.specs.Statements.{Entry, Part, Branch, Then, Else, Suspended, Second, Looped}
-use Rattle.grc_graph.proofs.CodeReads.{StandsAt}
-use Rattle.grc_graph.proofs.RowFacts.{program_placed}
-use Rattle.grc_graph.proofs.RowSpots.{length-rows, stands_one, stands_first, stands_second, row_read}
+use Rattle.grc_graph.proofs.Exports.{StandsAt, program_placed, length-rows, stands_one, stands_first, stands_second, row_read, length-program_rows}
 use Rattle.grc_words.specs.declared.selected.Parts.{Parts}
 use Rattle.grc_words.specs.declared.selected.Parts.TheVariants as kinds
 use Rattle.grc_words.specs.declared.table.Source.{Source}
 use Rattle.grc_words.specs.declared.table.Source.TheVariants.{Const}
 use Rattle.grc_words.specs.declared.table.Row as tables
-use Rattle.grc_graph.proofs.RowReads.{length-program_rows}
 use Rattle.grc_words.specs.Building.{Says, Extends, with_either, either_source}
 use Rattle.grc_words.specs.Choosing.{LeavesChosen, SelectedMade, selection}
 use Rattle.grc_words.specs.Sizes.{selection_rows, statement_row}

@@ -21,7 +21,7 @@ use Rattle.grc_graph.specs.Statements.{signals_in}
 use Rattle.grc_graph.specs.StatementViews.{binding_of}
 use Rattle.grc_graph.specs.WireTables.{HasName}
 use Rattle.grc_graph.specs.Wires.{Wire, Go, same_wire}
-use Rattle.grc_graph.proofs.SameWires.{same_wire-back}
+use Rattle.grc_graph.proofs.Exports.{same_wire-back}
 use Rattle.grc_words.specs.declared.table.Source.{Source}
 use Rattle.grc_words.specs.declared.table.Source.TheVariants as sources
 use Rattle.grc_words.specs.declared.table.Row as tables

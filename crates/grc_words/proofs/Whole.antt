@@ -11,7 +11,7 @@ use Rattle.std.proofs.lemmas.List.Sums.{prefix_len-le-length}
 use Rattle.est_kernel.specs.Plain.{program_of, outgoing_count}
 use Rattle.est_kernel.specs.Preorder.{statement_count}
 use Rattle.est_kernel.specs.WellFormed.{IsKernel}
-use Rattle.est_kernel.proofs.PreorderLaws.{statement_count-pos}
+use Rattle.est_kernel.proofs.Exports.{statement_count-pos}
 use Rattle.grc_graph.specs.declared.graph.Graph.{Graph}
 use Rattle.grc_graph.specs.GraphRuns.{shown}
 use Rattle.grc_graph.specs.Instances.{body_instances}
@@ -24,7 +24,7 @@ use Rattle.grc_graph.specs.Rows.{row_at, program_rows}
 use Rattle.grc_graph.specs.SelectionTrees.{body_leaves, selecting}
 use Rattle.grc_graph.specs.Walk.{State, Initial, Selecting}
 use Rattle.grc_graph.specs.Wires as names
-use Rattle.grc_graph.proofs.Holding.{holds-none}
+use Rattle.grc_graph.proofs.Exports.{holds-none}
 use Rattle.grc_words.specs.declared.table.Source.{Source}
 use Rattle.grc_words.specs.declared.table.Source.TheVariants as sources
 use Rattle.grc_words.specs.declared.table.Row.{Row}

@@ -8,9 +8,9 @@ use Rattle.net_ir.specs.declared.netlist.Gate.{Gate}
 use Rattle.net_ir.specs.declared.netlist.Latch.{Latch}
 use Rattle.net_ir.specs.Netlists.{Netlist}
 use Rattle.net_ir.specs.Numbered.{numbered}
-use Rattle.net_ir.proofs.Numbered.{length-numbered, get_or-numbered}
+use Rattle.net_ir.proofs.Exports.{length-numbered, get_or-numbered}
 use Rattle.net_text.specs.Parts.{joined, PutsPart}
-use Rattle.net_text.proofs.Joined.{joined-numbered, joined-mapped, joined-one, joined-last, count-numbered, count-mapped}
+use Rattle.net_text.proofs.Exports.{joined-numbered, joined-mapped, joined-one, joined-last, count-numbered, count-mapped}
 use Rattle.csub_text.specs.Trees.{Assign, Name}
 use Rattle.csub_text.specs.Written.{input_name, gate_name, next_name, answer_name, input_variable, output_variable, net_state, input_assign}
 use Rattle.csub_text.specs.Written.{gate_assign, next_assign, output_assign, answer_assign, state_assign, gate_names, state_line, declaration, assign_line}

@@ -5,13 +5,13 @@ use Rattle.csub_text.specs.Tokens.{Kind, If, Else, LeftParenthesis, RightParenth
 use Rattle.csub_text.specs.Trees.{Assign}
 use Rattle.csub_text.specs.Grammar.{is, name, WrittenAssign, assign_meant}
 use Rattle.csub_read.specs.Reading.{makes_expr, makes_written, assign_rule, assign_step, answer_rule, whole_rule, written_assign, expr_assign}
-use Rattle.csub_read.proofs.Makers.{pair_meant, assign-meant, loop-meant, answer-meant, whole-image, body-means}
+use Rattle.csub_read.proofs.Exports.{pair_meant, assign-meant, loop-meant, answer-meant, whole-image, body-means}
 use Rattle.csub_guard.specs.Grammar.{piece_meant, program_meant}
 use Rattle.expr_text.specs.Grammar.{meant}
-use Rattle.expr_text.proofs.Images.{Image, image-mapped, image-both, image-trail, image-on, image-ahead, image-maybe, image-loop, image-self, image-advances}
-use Rattle.expr_text.proofs.Images.{made, end-made}
+use Rattle.expr_text.proofs.Exports.{Image, image-mapped, image-both, image-trail, image-on, image-ahead, image-maybe, image-loop, image-self, image-advances}
+use Rattle.expr_text.proofs.Exports.{made, end-made}
 use Rattle.read_rules.specs.Readings.{mapped, both, on, the, loop, end_of, whole}
-use Rattle.read_rules.proofs.Loops.{Advances}
+use Rattle.read_rules.proofs.Exports.{Advances}
 use Rattle.guard_read.specs.Reading.{builds_written, builds_expr, half_rule, else_rule, else_step, block_behind, block_rule, block_made, one_made, piece_rule}
 use Rattle.guard_read.specs.Reading.{begins_piece, piece_step, body_rule, written_made, written_rule, program_made, program_rule}
 use Rattle.guard_read.proofs.TextLaws.{piece-advances}

@@ -6,10 +6,10 @@ use Rattle.csub_text.specs.Tokens.{Kind, If}
 use Rattle.csub_text.specs.Grammar.{is}
 use Rattle.csub_read.specs.Reading.{makes_expr, assign_rule}
 use Rattle.csub_guard.specs.Trees.{Piece}
-use Rattle.expr_text.proofs.Images.{maybe-last}
+use Rattle.expr_text.proofs.Exports.{maybe-last}
 use Rattle.guard_read.specs.Reading.{builds_expr, block_made, one_made, block_behind, piece_rule, begins_piece, piece_step}
 use Rattle.read_rules.specs.Readings.{refuse, give, follow, mapped, picked}
-use Rattle.read_rules.proofs.Steps.{maybe-some}
+use Rattle.read_rules.proofs.Exports.{maybe-some}
 
 pub piece-next : (room : ℕ) (tokens : List Kind) (value : Piece) (rest : List Kind) → is_some (picked begins_piece tokens) ≡ true
     → piece_rule builds_expr room tokens ≡ Ok (value, rest) → piece_step builds_expr room tokens ≡ Ok (Some value, rest)

@@ -21,7 +21,7 @@ use Rattle.csub_guard.specs.Views.{piece_of, program_of}
 use Rattle.csub_guard.specs.declared.trees.GuardedProgram.{GuardedProgram}
 use Rattle.csub_guard.specs.declared.trees.Piece.{Piece as CodePiece}
 use Rattle.csub_guard.specs.declared.trees.Piece.TheVariants as pieces
-use Rattle.expr_text.proofs.Images.{made}
+use Rattle.expr_text.proofs.Exports.{made}
 use Rattle.expr_text.specs.declared.kinds.Token.{Token}
 use Rattle.read_rules.specs.declared.faults.Fault.{Fault}
 use Rattle.read_rules.specs.Readings.{ended, end_of, whole}

@@ -3,8 +3,8 @@ use Rattle.std.proofs.Common.{◌≡◌, ◌⊎◌, inl, inr, ℕ, max, Bool, tr
 use Rattle.std.proofs.Common.{refl, ap, subst, arith}
 use Rattle.csub_text.specs.Tokens.{Kind, Static, If, Else, Named, LeftParenthesis, RightParenthesis, LeftBrace, RightBrace}
 use Rattle.csub_text.specs.Grammar.{is, name, begins_global, WrittenAssign, body_nesting, SpellsAnswer}
-use Rattle.csub_read.proofs.TokenKinds.{class, is-test, name-test}
-use Rattle.csub_read.proofs.TextLaws.{SpellsPair, turn_of, assigns-reads, assign-reads, answer-reads, whole_shape, whole-reads, whole_depth}
+use Rattle.csub_read.proofs.Exports.{class, is-test, name-test, SpellsPair, turn_of, assigns-reads, assign-reads, answer-reads, whole_shape, whole-reads}
+use Rattle.csub_read.proofs.Exports.{whole_depth}
 use Rattle.csub_text.specs.Trees.{State}
 use Rattle.csub_guard.specs.Grammar.{WrittenPiece, OneWritten, IfWritten, SpellsHalf, SpellsElse, SpellsPiece, SpellsText, piece_nesting, pieces_nesting}
 use Rattle.csub_guard.specs.Grammar.{text_nesting, IsText}
@@ -16,12 +16,9 @@ use Rattle.read_rules.specs.Exact.{Exactly}
 use Rattle.read_rules.specs.Languages.{Then, Led, Optional, Many}
 use Rattle.read_rules.specs.Languages.{One as Single}
 use Rattle.read_rules.specs.Readings.{whole}
-use Rattle.read_rules.proofs.Choices.{whole-reads as exact-reads}
-use Rattle.read_rules.proofs.Loops.{Advances}
-use Rattle.read_rules.proofs.Readers.{Shape, one_shape, Reads, the-reads, both-reads, led-reads, trail-reads, ahead-reads, mapped-reads, told-reads, made-reads}
-use Rattle.read_rules.proofs.Sets.{has, Test, test-of}
-use Rattle.read_rules.proofs.Steps.{Turn, step_depth, list_depth, Steps, look-steps, step-reads, loop-reads, Advances-step}
-use Rattle.read_rules.proofs.Depths.{list_depth-flat}
+use Rattle.read_rules.proofs.Exports.{whole-reads as exact-reads, Advances, Shape, one_shape, Reads, the-reads, both-reads, led-reads, trail-reads}
+use Rattle.read_rules.proofs.Exports.{ahead-reads, mapped-reads, told-reads, made-reads, has, Test, test-of, Turn, step_depth, list_depth, Steps, look-steps}
+use Rattle.read_rules.proofs.Exports.{step-reads, loop-reads, Advances-step, list_depth-flat}
 
 -- ---- halves
 

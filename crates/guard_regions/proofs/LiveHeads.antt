@@ -10,7 +10,7 @@ use Rattle.est_kernel.specs.Terms.{Term, Nothing, Pause, Emit, Exit, Present, Su
 use Rattle.grc_graph.specs.Instances.{Instance, instances_at, instances, body_instances, enclosing}
 use Rattle.grc_graph.specs.Layers.{Layer, Resumed, Started, Liveness, layer_above, layers_of, root_if, body_liveness, part_liveness, second_liveness}
 use Rattle.grc_graph.specs.Layers.{loop_liveness}
-use Rattle.grc_graph.proofs.LiveInstances.{at_layer, from_map, in_map, own_root, of_fewer, started_in, cases_of, instances_among, enclosing_are_live_lem}
+use Rattle.grc_graph.proofs.Exports.{at_layer, from_map, in_map, own_root, of_fewer, started_in, cases_of, instances_among, enclosing_are_live_lem}
 use Rattle.grc_sem.specs.Heads.{head_in}
 use Rattle.guard_regions.specs.HeadLists.{head_number}
 

@@ -20,8 +20,7 @@ use Rattle.grc_graph.specs.PlainGraphs.{instances_of, names_of, wire_at, wire_of
 use Rattle.grc_graph.specs.PlainInstances.{instance_of, layer_of}
 use Rattle.grc_graph.specs.WireTables.{IsNumberOf}
 use Rattle.grc_graph.specs.Wires.{Go, End, same_wire}
-use Rattle.grc_graph.proofs.LiveInstances.{at_layer, instances_among}
-use Rattle.grc_graph.proofs.SameWires.{same_layer-self}
+use Rattle.grc_graph.proofs.Exports.{at_layer, instances_among, same_layer-self}
 use Rattle.grc_sem.specs.Heads.{head_in, head_go, region_of}
 use Rattle.guard_regions.specs.HeadLists.{heads_of, head_number}
 use Rattle.guard_regions.specs.Regions.{IsRegion, AreRegionsBefore}

@@ -1,2 +1,3 @@
-pub mod Following
-pub mod Showing
+mod Following
+mod Showing
+pub mod Exports

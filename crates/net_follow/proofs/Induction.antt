@@ -4,13 +4,13 @@ use Rattle.std.proofs.lemmas.List.{length-map, get_or_append_left}
 use Rattle.std.proofs.Common.{length-append}
 use Rattle.est_base.specs.Items.{Item, Event, EachEvent}
 use Rattle.machines.specs.Machines.{Follows}
-use Rattle.machines.proofs.Showing.{shows-through, shows-computed, computed-shows}
+use Rattle.machines.proofs.Exports.{shows-through, shows-computed, computed-shows}
 use Rattle.net_ir.specs.declared.netlist.Latch.{Latch}
 use Rattle.net_ir.specs.declared.netlist.NetOut.{NetOut}
 use Rattle.net_ir.specs.Gates.{value_in}
 use Rattle.net_ir.specs.Netlists.{Netlist, IsNet}
 use Rattle.net_ir.specs.Runs.{shown, net_values, initial_latches, next_latches, net_machine, net_run, values_from}
-use Rattle.net_ir.proofs.Nets.{length-next}
+use Rattle.net_ir.proofs.Exports.{length-next}
 use Rattle.net_follow.specs.declared.literals.Equation.{Equation}
 use Rattle.net_follow.specs.Literals.{Meets}
 use Rattle.net_follow.specs.Frames.{output_equations, shows_equation, all_claims, frame, in_two}

@@ -1,5 +1,6 @@
-pub mod Knowledge
-pub mod Clausal
-pub mod Meeting
-pub mod Listing
-pub mod Induction
+mod Knowledge
+mod Clausal
+mod Meeting
+mod Listing
+mod Induction
+pub mod Exports

@@ -12,8 +12,7 @@ use Rattle.net_ir.specs.declared.netlist.Latch.{Latch}
 use Rattle.net_ir.specs.Gates.{value_in, op_value, Solves}
 use Rattle.net_ir.specs.Netlists.{Netlist, IsNet, first_gate}
 use Rattle.net_ir.specs.Runs.{net_values, initial_latches, next_latches}
-use Rattle.net_ir.proofs.Numbered.{All-numbered}
-use Rattle.net_ir.proofs.Values.{Solves-gate_values, value_in-gate_values}
+use Rattle.net_ir.proofs.Exports.{All-numbered, Solves-gate_values, value_in-gate_values}
 use Rattle.net_follow.specs.declared.literals.Side.{Side}
 use Rattle.net_follow.specs.declared.literals.Side.TheVariants.{Always, Old, New}
 use Rattle.net_follow.specs.declared.literals.Equation.{Equation}

@@ -14,7 +14,7 @@ use Rattle.grc_words.specs.declared.table.Words.{Words}
 use Rattle.net_ir.specs.declared.netlist.Gate.{Gate}
 use Rattle.net_ir.specs.declared.netlist.Op.TheVariants.{Const}
 use Rattle.net_ir.specs.Gates.{ReadsLower}
-use Rattle.net_ir.proofs.Building.{ReadsLower-push}
+use Rattle.net_ir.proofs.Exports.{ReadsLower-push}
 use Rattle.net_gen.specs.Drawings.{Drawing, with_gate}
 use Rattle.net_gen.specs.Growing.{spare, spent}
 use Rattle.net_gen.specs.Making.{Begun}

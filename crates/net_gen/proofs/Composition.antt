@@ -9,7 +9,7 @@ use Rattle.grc_graph.specs.declared.graph.Graph.{Graph}
 use Rattle.grc_graph.specs.PlainGraphs.{names_of}
 use Rattle.grc_graph.specs.Reads.{IsReadingOrder}
 use Rattle.grc_graph.specs.WireOrders.{wire_at}
-use Rattle.grc_graph.proofs.WirePlaces.{length-names, place-of}
+use Rattle.grc_graph.proofs.Exports.{length-names, place-of}
 use Rattle.grc_words.specs.declared.table.Words.{Words}
 use Rattle.grc_words.specs.WordLaws.{AreWordsOf}
 use Rattle.net_ir.specs.Gates.{carried}

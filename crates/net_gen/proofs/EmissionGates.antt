@@ -19,10 +19,7 @@ use Rattle.grc_graph.specs.Rows.{program_rows, row_at, spot_at}
 use Rattle.grc_graph.specs.Scopes.{Scope}
 use Rattle.grc_graph.specs.Spots.{Spot}
 use Rattle.grc_graph.specs.Wires.{Wire, Out, Go, StatusOf, End, same_wire, status_wire, own_status}
-use Rattle.grc_graph.proofs.LiveInstances.{instances_ascend_lem}
-use Rattle.grc_graph.proofs.RowSpots.{program_spots_by_row}
-use Rattle.grc_graph.proofs.Sums.{sum_none, sum_mapped, sum_swap}
-use Rattle.grc_graph.proofs.SameWires.{layer_irrefl, same_layer-true}
+use Rattle.grc_graph.proofs.Exports.{instances_ascend_lem, program_spots_by_row, sum_none, sum_mapped, sum_swap, layer_irrefl, same_layer-true}
 use Rattle.net_gen.proofs.FormulaGates.{joined}
 use Rattle.net_gen.proofs.InstanceGates.{emit_gates}
 

@@ -18,9 +18,7 @@ use Rattle.grc_graph.specs.Rows.{row_at, program_rows, spot_at}
 use Rattle.grc_graph.specs.Scopes.{Scope}
 use Rattle.grc_graph.specs.Spots.{Spot}
 use Rattle.grc_graph.specs.Wires.{Wire, Out, Go, StatusOf, End, codes_below, listed, instance_codes, own_status}
-use Rattle.grc_graph.proofs.CodesBelow.{codes_below-none, codes_below-suc, listed-below}
-use Rattle.grc_graph.proofs.RowSpots.{program_spots_by_row}
-use Rattle.grc_graph.proofs.Sums.{sum_both, sum_mapped}
+use Rattle.grc_graph.proofs.Exports.{codes_below-none, codes_below-suc, listed-below, program_spots_by_row, sum_both, sum_mapped}
 use Rattle.net_gen.proofs.EmissionGates.{emitters, emissions_joined, emitters_once, once_at_most, status_wires, statuses_apart}
 use Rattle.net_gen.proofs.FormulaGates.{gates_of, any_gates, any_within, entry_tests, entry_gates, end_gates, dear_code, dear_gates}
 use Rattle.net_gen.proofs.InstanceGates.{emit_gates}

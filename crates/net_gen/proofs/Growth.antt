@@ -11,7 +11,7 @@ use Rattle.net_ir.specs.declared.netlist.Gate.{Gate}
 use Rattle.net_ir.specs.declared.netlist.Op.{Op}
 use Rattle.net_ir.specs.declared.netlist.Op.TheVariants.{Const, Copy, Not, And, Or}
 use Rattle.net_ir.specs.Gates.{ReadsLower, operand_end, carried}
-use Rattle.net_ir.proofs.Building.{ReadsLower-push, carried-silent}
+use Rattle.net_ir.proofs.Exports.{ReadsLower-push, carried-silent}
 use Rattle.net_gen.specs.Drawings.{Drawing, next_number, with_gate, with_net, net_number, gates_for}
 use Rattle.net_gen.specs.Senses.{Sense, first_of, net_sense, op_sense, wire_sense, Stands, OpStands, Table, Sound}
 use Rattle.net_gen.specs.Growing.{Grew, Lowers, Places, spent}

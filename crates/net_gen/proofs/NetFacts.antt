@@ -29,7 +29,7 @@ use Rattle.net_ir.specs.declared.netlist.NetOut.{NetOut}
 use Rattle.net_ir.specs.Gates.{ReadsLower, carried, value_in, gate_values}
 use Rattle.net_ir.specs.Netlists.{Netlist, IsNet, first_gate, net_count, output_names}
 use Rattle.net_ir.specs.Runs.{Shown, shown, net_values, next_latches}
-use Rattle.net_ir.proofs.Building.{all_differ-append}
+use Rattle.net_ir.proofs.Exports.{all_differ-append}
 use Rattle.net_gen.specs.Assembled.{IsAround, boot_latch, leaf_latch}
 use Rattle.net_gen.specs.Drawings.{Drawing, next_number}
 use Rattle.net_gen.specs.Generated.{HasInterfaceOf, Carries, ReactsAs, FollowsInstants, shown_as}

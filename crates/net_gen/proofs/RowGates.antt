@@ -13,10 +13,7 @@ use Rattle.grc_graph.specs.Layers.{Layer, Resumed, Started, Liveness, layers_of,
 use Rattle.grc_graph.specs.Rows.{Row, row, rows, row_at, program_rows}
 use Rattle.grc_graph.specs.Scopes.{Scope, bind, program_scope}
 use Rattle.grc_graph.specs.Statements.{Entry, Body, Part, Branch, Then, Else, Suspended, Second, Looped}
-use Rattle.grc_graph.proofs.CodeReads.{StandsAt, stands_head, stands_tail, stands_whole}
-use Rattle.grc_graph.proofs.LiveInstances.{at_layer}
-use Rattle.grc_graph.proofs.WireNames.{row_instances, body_by_row}
-use Rattle.grc_graph.proofs.Sums.{sum_both, sum_none, sum_mapped}
+use Rattle.grc_graph.proofs.Exports.{StandsAt, stands_head, stands_tail, stands_whole, at_layer, row_instances, body_by_row, sum_both, sum_none, sum_mapped}
 use Rattle.grc_words.specs.Sizes.{operators}
 use Rattle.net_gen.proofs.FormulaGates.{where_started, where_resumed, entry_tests}
 use Rattle.net_gen.proofs.InstanceGates.{wire_count, part_tests, instance_gates, instance_within}

@@ -11,7 +11,7 @@ use Rattle.net_ir.specs.declared.netlist.Gate.{Gate}
 use Rattle.net_ir.specs.declared.netlist.Op.{Op}
 use Rattle.net_ir.specs.declared.netlist.Op.TheVariants.{Const, Copy, Not, And, Or}
 use Rattle.net_ir.specs.Gates.{operand_end, op_value, value_in, gate_values}
-use Rattle.net_ir.proofs.Values.{length-gate_values, gate_values-append, value_in-gate_values, op_value-same}
+use Rattle.net_ir.proofs.Exports.{length-gate_values, gate_values-append, value_in-gate_values, op_value-same}
 use Rattle.net_gen.specs.Drawings.{Drawing, next_number}
 use Rattle.net_gen.specs.Senses.{Instant, Sense, start_of, first_of, net_sense, op_sense, Stands, OpStands}
 

@@ -10,7 +10,7 @@ use Rattle.std.proofs.lemmas.Slice.Zip.{seconds-zip}
 use Rattle.est_base.specs.declared.indices.WireId.{WireId}
 use Rattle.est_kernel.specs.Plain.{Program, program_of, interface_of, interface_count, given_count, outgoing_count}
 use Rattle.est_kernel.specs.WellFormed.{IsKernel}
-use Rattle.est_kernel.proofs.PreorderLaws.{statement_count-pos}
+use Rattle.est_kernel.proofs.Exports.{statement_count-pos}
 use Rattle.grc_graph.specs.declared.formulas.Formula as declared
 use Rattle.grc_graph.specs.declared.formulas.Formula.TheVariants as formulas
 use Rattle.grc_graph.specs.declared.graph.Graph.{Graph}
@@ -28,11 +28,8 @@ use Rattle.grc_graph.specs.SelectionTrees.{body_leaves}
 use Rattle.grc_graph.specs.Spots.{Spot}
 use Rattle.grc_graph.specs.Statements.{Body}
 use Rattle.grc_graph.specs.Wires.{Wire, Out}
-use Rattle.grc_graph.proofs.CodeReads.{stands_whole}
-use Rattle.grc_graph.proofs.RowSpots.{row_read, program_spots_by_row}
-use Rattle.grc_graph.proofs.WireFilling.{row_wires, outs_of, program_wires_by_row}
-use Rattle.grc_graph.proofs.WireNames.{instance_live}
-use Rattle.grc_graph.proofs.Sums.{sum_both, sum_mapped}
+use Rattle.grc_graph.proofs.Exports.{stands_whole, row_read, program_spots_by_row, row_wires, outs_of, program_wires_by_row, instance_live, sum_both}
+use Rattle.grc_graph.proofs.Exports.{sum_mapped}
 use Rattle.grc_words.specs.Sizes.{rows_at_most, rows_by, test_of, instance_rows, selection_rows}
 use Rattle.net_gen.specs.Costs.{cost_of, wire_cost, gates_at_most}
 use Rattle.net_gen.proofs.EquationGates.{equation_gates, program_equations}

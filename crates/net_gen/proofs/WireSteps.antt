@@ -18,13 +18,13 @@ use Rattle.grc_graph.specs.PlainGraphs.{formula_of, instances_of, names_of}
 use Rattle.grc_graph.specs.Reads.{IsReadingOrder, ReadsOnly, StandsBefore}
 use Rattle.grc_graph.specs.Wires.{Wire}
 use Rattle.grc_graph.specs.WireOrders.{wire_at}
-use Rattle.grc_graph.proofs.WirePlaces.{equations-all, length-names}
+use Rattle.grc_graph.proofs.Exports.{equations-all, length-names}
 use Rattle.grc_words.specs.declared.table.Words.{Words}
 use Rattle.grc_words.specs.WordLaws.{AreWordsOf}
 use Rattle.net_ir.specs.declared.netlist.Gate.{Gate}
 use Rattle.net_ir.specs.declared.netlist.Op.{Op}
 use Rattle.net_ir.specs.Gates.{carried}
-use Rattle.net_ir.proofs.Building.{ReadsLower-push, carried-push}
+use Rattle.net_ir.proofs.Exports.{ReadsLower-push, carried-push}
 use Rattle.net_gen.specs.Costs.{cost_of, wire_cost}
 use Rattle.net_gen.specs.Drawings.{Drawing, Placed, next_number, with_gate, with_wire, with_net, net_number}
 use Rattle.net_gen.specs.Growing.{Grew, Lowers, Places, spent}

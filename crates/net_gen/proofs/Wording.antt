@@ -27,7 +27,7 @@ use Rattle.grc_words.specs.WordLaws.{AreWordsOf, selected_source, first_end, end
 use Rattle.net_ir.specs.declared.netlist.Op.{Op}
 use Rattle.net_ir.specs.declared.netlist.Op.TheVariants.{Const, Copy, Not, And, Or}
 use Rattle.net_ir.specs.Gates.{value_in, gate_values}
-use Rattle.net_ir.proofs.Values.{value_in-gate_values}
+use Rattle.net_ir.proofs.Exports.{value_in-gate_values}
 use Rattle.net_gen.specs.Costs.{cost_of}
 use Rattle.net_gen.specs.Drawings.{Drawing, next_number, net_at, Placed, constant_net, input_net, gates_for}
 use Rattle.net_gen.specs.Growing.{Grew, Lowers, Places, spent}

@@ -1,8 +1,9 @@
-pub mod Building
-pub mod Values
-pub mod Numbered
-pub mod NumberedNames
-pub mod NameLists
-pub mod Pieces
-pub mod Nets
+mod Building
+mod Values
+mod Numbered
+mod NumberedNames
+mod NameLists
+mod Pieces
+mod Nets
 mod worked
+pub mod Exports

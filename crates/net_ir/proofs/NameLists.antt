@@ -11,7 +11,7 @@ use Rattle.std.proofs.lemmas.List.Sums.{prefix_len-le-length, passes_at_first}
 use Rattle.std.proofs.lemmas.Map.Made.{is_member-filter}
 use Rattle.est_base.specs.Names.{is_same_name}
 use Rattle.est_base.specs.Distinct.{all_differ, none_shared}
-use Rattle.est_base.proofs.SameNames.{same_name-is}
+use Rattle.est_base.proofs.Exports.{same_name-is}
 use Rattle.net_ir.specs.NameLists.{is_among, first_again}
 
 -- ---- names among others

@@ -12,7 +12,7 @@ use Rattle.std.proofs.lemmas.Fmt.{decimal_injective}
 use Rattle.est_base.specs.declared.indices.WireId.{WireId}
 use Rattle.est_base.specs.Distinct.{all_differ, none_shared}
 use Rattle.est_base.specs.Names.{is_same_name}
-use Rattle.est_base.proofs.SameNames.{same_name-is}
+use Rattle.est_base.proofs.Exports.{same_name-is}
 use Rattle.net_ir.specs.declared.netlist.Gate.{Gate}
 use Rattle.net_ir.specs.Gates.{carried}
 use Rattle.net_ir.specs.Netlists.{Netlist}

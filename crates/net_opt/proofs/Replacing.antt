@@ -8,7 +8,7 @@ use Rattle.net_ir.specs.Gates.{carried, gate_values, value_in, op_value}
 use Rattle.net_ir.specs.Netlists.{Netlist}
 use Rattle.net_ir.specs.Runs.{shown, net_values, initial_latches, next_latches, values_from}
 use Rattle.net_follow.specs.Following.{IsWide}
-use Rattle.net_follow.proofs.Induction.{followed-by-runs}
+use Rattle.net_follow.proofs.Exports.{followed-by-runs}
 use Rattle.net_simp.specs.SameRuns.{SameParts, SameRuns}
 use Rattle.net_opt.specs.Optimized.{Optimizes}
 use Rattle.net_opt.specs.Silencing.{silent_gate, silent_net}

@@ -8,8 +8,7 @@ use Rattle.std.specs.Option.{option_map}
 use Rattle.est_base.specs.declared.indices.WireId.{WireId}
 use Rattle.net_ir.specs.declared.netlist.Gate.{Gate}
 use Rattle.net_ir.specs.Gates.{operand_end, op_value, value_in, gate_values, carried}
-use Rattle.net_ir.proofs.Building.{ReadsLower-push, carried-silent}
-use Rattle.net_ir.proofs.Values.{gate_values-append, length-gate_values}
+use Rattle.net_ir.proofs.Exports.{ReadsLower-push, carried-silent, gate_values-append, length-gate_values}
 use Rattle.net_simp.specs.SameRuns.{carried_value, carried_values}
 use Rattle.net_simp.specs.Keeping.{Keeps, Any}
 

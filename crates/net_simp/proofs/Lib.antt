@@ -1,12 +1,13 @@
-pub mod Keeping
-pub mod Operators
-pub mod Reductions
-pub mod SameForms
-pub mod Drafting
-pub mod Marking
-pub mod Ranks
-pub mod SimplifiedNets
-pub mod ReducedGates
-pub mod Simple
-pub mod Carriers
+mod Keeping
+mod Operators
+mod Reductions
+mod SameForms
+mod Drafting
+mod Marking
+mod Ranks
+mod SimplifiedNets
+mod ReducedGates
+mod Simple
+mod Carriers
 mod worked
+pub mod Exports

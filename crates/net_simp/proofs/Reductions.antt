@@ -10,7 +10,7 @@ use Rattle.net_ir.specs.declared.netlist.Op.{Op}
 use Rattle.net_ir.specs.declared.netlist.Op.TheVariants.{Const, Copy, Not, And, Or}
 use Rattle.net_ir.specs.declared.netlist.Gate.{Gate}
 use Rattle.net_ir.specs.Gates.{operand_end, ReadsLower, op_value, value_in, gate_values}
-use Rattle.net_ir.proofs.Values.{Solves-gate_values}
+use Rattle.net_ir.proofs.Exports.{Solves-gate_values}
 use Rattle.net_simp.specs.SimpleNets.{reads}
 use Rattle.net_simp.specs.Rules.{op_at, is_low, is_high, negates, implies, are_opposite, negation, and_by, or_by, reduced_op}
 use Rattle.net_simp.specs.Drafts.{no_copy, computes, Settled, outright_op}

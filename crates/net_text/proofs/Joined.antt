@@ -7,7 +7,7 @@ use Rattle.std.proofs.lemmas.List.{append-nil, length-append, get_or_append_left
 use Rattle.std.proofs.Math.Seq.{get_or-append_right}
 use Rattle.std.proofs.lemmas.List.{length-map}
 use Rattle.net_ir.specs.Numbered.{numbered}
-use Rattle.net_ir.proofs.Numbered.{length-numbered, get_or-numbered}
+use Rattle.net_ir.proofs.Exports.{length-numbered, get_or-numbered}
 use Rattle.net_text.specs.Parts.{joined, PutsPart}
 
 -- ---- the parts of several lists

@@ -2,7 +2,7 @@
 use Rattle.std.proofs.Common.{◌≡◌, ℕ, ◌≤◌, ◌<◌, ◌⊎◌, List, [], Option, Some, inl, inr, refl, sym, subst, arith}
 use Rattle.est_base.specs.Faults.{Rose}
 use Rattle.est_base.specs.SinkChanges.{SinkChange}
-use Rattle.text_io.proofs.Reading.{never_rose}
+use Rattle.text_io.proofs.Exports.{never_rose}
 use Rattle.opt_core.specs.Laws.{IsAccepted, IsFaultless, AcceptedTextsAreDone}
 use Rattle.opt_core.specs.Outcomes.{Agrees, CountsFiles, LeavesAnswer, IsTextOf, GainsOut}
 use Rattle.opt_core.specs.Words.{Request, Help, Do}

@@ -1,7 +1,7 @@
 -- The text that is written of an optimized netlist is what is asked for.
 use Rattle.std.proofs.Common.{ℕ, List}
 use Rattle.net_ir.specs.Netlists.{Netlist}
-use Rattle.opt_texts.proofs.Keeping.{blif-keeps, c-keeps, verilog-keeps}
+use Rattle.opt_texts.proofs.Exports.{blif-keeps, c-keeps, verilog-keeps}
 use Rattle.opt_texts.specs.Optimized.{IsSmallNetOf, IsTextNet}
 use Rattle.opt_core.specs.Answers.{IsAnswer}
 use Rattle.opt_core.specs.NetTexts.{IsWritten}

@@ -12,7 +12,7 @@ use Rattle.est_base.specs.Writing.{Appends}
 use Rattle.opt_texts.specs.Faults.{IsOptFault}
 use Rattle.opt_texts.specs.declared.fault.OptFault.{OptFault}
 use Rattle.text_io.proofs.Pieces as texts
-use Rattle.text_io.proofs.Reading.{long_unread, some_bytes}
+use Rattle.text_io.proofs.Exports.{long_unread, some_bytes}
 use Rattle.text_io.specs.Contents.{Content, IsHeld}
 use Rattle.text_io.specs.Writings.{LeavesText, LeavesPieces}
 use Rattle.text_io.specs.declared.writing.Written.{Written}

@@ -3,9 +3,9 @@ use Rattle.std.proofs.Common.{◌≡◌, ℕ, Bool, List, [], ◌∷◌, ◌++�
 use Rattle.std.specs.Prelude.{codes}
 use Rattle.facts.proofs.Lists.{map-twice}
 use Rattle.est_base.specs.Items.{Item, EachEvent}
-use Rattle.est_base.proofs.Items.{wide_events}
+use Rattle.est_base.proofs.Exports.{wide_events}
 use Rattle.machines.specs.Machines.{Shows}
-use Rattle.machines.proofs.Showing.{shows-computed, shows-through}
+use Rattle.machines.proofs.Exports.{shows-computed, shows-through}
 use Rattle.net_ir.specs.declared.netlist.NetOut.{NetOut}
 use Rattle.net_ir.specs.Netlists.{Netlist, output_names}
 use Rattle.net_ir.specs.Runs.{Shown, shown, net_machine, net_values, next_latches, initial_latches, net_run}

@@ -1,17 +1,18 @@
-pub mod Next
-pub mod Laws
-pub mod Sets
-pub mod Proper
-pub mod Runs
-pub mod Nesting
-pub mod Parts
-pub mod Loops
-pub mod Totals
-pub mod Readers
-pub mod Steps
-pub mod Whole
-pub mod Choices
-pub mod StatementLaws
-pub mod StatementRows
-pub mod Depths
+mod Next
+mod Laws
+mod Sets
+mod Proper
+mod Runs
+mod Nesting
+mod Parts
+mod Loops
+mod Totals
+mod Readers
+mod Steps
+mod Whole
+mod Choices
+mod StatementLaws
+mod StatementRows
+mod Depths
 mod worked
+pub mod Exports

@@ -14,19 +14,15 @@ use Rattle.grc_graph.specs.Rows.{live_in, program_rows}
 use Rattle.grc_graph.specs.Selected.{HasExitCodes, IsSelected, IsState}
 use Rattle.grc_graph.specs.Walk.{State, Initial, Selecting, is_initial}
 use Rattle.grc_graph.specs.Wires.{Go}
-use Rattle.grc_graph.proofs.WireNames.{IsGo, wire_only}
+use Rattle.grc_graph.proofs.Exports.{IsGo, wire_only, holds-false}
 use Rattle.grc_sem.specs.GraphWalks.{selected_of, IsWalkOf}
-use Rattle.grc_sem.proofs.Meets.{started_at, resumed_at}
-use Rattle.grc_graph.proofs.Holding.{holds-false}
-use Rattle.grc_sem.proofs.Premises.{program_kernel}
-use Rattle.grc_sem.proofs.WalkSolves.{equations_are_the_walk_lem}
+use Rattle.grc_sem.proofs.Exports.{started_at, resumed_at, program_kernel, equations_are_the_walk_lem}
 use Rattle.share_laws.specs.Laws.{KeysTellApart, MembersExcludeEachOther}
-use Rattle.grc_solutions.proofs.Live.{Root}
+use Rattle.grc_solutions.proofs.Exports.{Root}
 use Rattle.grc_share.specs.SharedInstances.{Sharing, loops_at, body_sharing, key, one_instance}
-use Rattle.grc_share.proofs.LoopNumbers.{above-self, at-only, at-first, at-second, at-self, body_own_keys}
+use Rattle.grc_share.proofs.Exports.{above-self, at-only, at-first, at-second, at-self, body_own_keys, gives-here, live_row, program_gives}
 use Rattle.share_laws.proofs.Exclusion.{Runs, layer_key, Apart, AllApart, all_apart}
 use Rattle.share_laws.proofs.PartsRunning.{IsIn, StartedHere, Walked, parts_running}
-use Rattle.grc_share.proofs.RowsLive.{gives-here, live_row, program_gives}
 
 -- ---- a statement with a number
 

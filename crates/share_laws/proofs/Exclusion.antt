@@ -9,7 +9,7 @@ use Rattle.grc_graph.specs.Readings.{Valuation}
 use Rattle.grc_graph.specs.Residuals.{holds}
 use Rattle.grc_graph.specs.Selected.{HasExitCodes, IsSelected}
 use Rattle.grc_graph.specs.Wires.{Go}
-use Rattle.grc_share.proofs.LoopNumbers.{OwnKeys}
+use Rattle.grc_share.proofs.Exports.{OwnKeys}
 
 -- an instance runs
 abbrev pub Runs : Valuation → ℕ → Layer → Type 0

@@ -13,10 +13,9 @@ use Rattle.grc_graph.specs.Residuals.{holds}
 use Rattle.grc_graph.specs.Selected.{HasExitCodes}
 use Rattle.grc_graph.specs.Walk.{Values, with_value}
 use Rattle.grc_graph.specs.Wires.{Go, StatusOf}
-use Rattle.grc_solutions.proofs.Live.{Root, root_parts, root_if_parts}
-use Rattle.grc_sem.proofs.Meets.{started_at, resumed_at}
-use Rattle.grc_share.proofs.LoopNumbers.{at-only, at-first, at-second}
-use Rattle.grc_share.proofs.RowsLive.{Gives, gives-here}
+use Rattle.grc_solutions.proofs.Exports.{Root, root_parts, root_if_parts}
+use Rattle.grc_sem.proofs.Exports.{started_at, resumed_at}
+use Rattle.grc_share.proofs.Exports.{at-only, at-first, at-second, Gives, gives-here}
 use Rattle.share_laws.proofs.Exclusion.{Runs, Descends, Follows, Restarts, PartsRun}
 
 -- a layer among those of a statement

@@ -16,7 +16,7 @@ use Rattle.net_ir.specs.declared.netlist.NetOut.{NetOut}
 use Rattle.net_ir.specs.Gates.{ReadsLower, value_in, gate_values, carried}
 use Rattle.net_ir.specs.Netlists.{Netlist, IsNet, first_gate, net_count, output_names}
 use Rattle.net_ir.specs.Runs.{shown, initial_latches, next_latches}
-use Rattle.net_ir.proofs.Values.{length-gate_values, gate_values-append, value_in-gate_values}
+use Rattle.net_ir.proofs.Exports.{length-gate_values, gate_values-append, value_in-gate_values}
 use Rattle.net_simp.specs.Renaming.{renamed_out, stand_in}
 use Rattle.net_simp.specs.SameRuns.{carried_values, RunsAlike}
 use Rattle.state_enc.specs.declared.codes.Literal.{Literal}

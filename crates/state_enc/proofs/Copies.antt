@@ -9,10 +9,10 @@ use Rattle.std.proofs.Common.{length-append}
 use Rattle.est_base.specs.declared.indices.WireId.{WireId}
 use Rattle.net_ir.specs.declared.netlist.Gate.{Gate}
 use Rattle.net_ir.specs.Gates.{operand_end, ReadsLower, op_value, value_in, gate_values, carried}
-use Rattle.net_ir.proofs.Values.{ReadsLower-rest}
+use Rattle.net_ir.proofs.Exports.{ReadsLower-rest}
 use Rattle.net_simp.specs.Renaming.{renamed_op}
 use Rattle.net_simp.specs.SameRuns.{carried_value, carried_values}
-use Rattle.net_simp.proofs.Operators.{reads-low, renamed-value, renamed-low}
+use Rattle.net_simp.proofs.Exports.{reads-low, renamed-value, renamed-low}
 use Rattle.state_enc.specs.Recodings.{copied}
 
 -- nets stand for others: so many for so many

@@ -13,8 +13,7 @@ use Rattle.net_ir.specs.declared.netlist.Op.{Op}
 use Rattle.net_ir.specs.declared.netlist.Op.TheVariants.{And, Or}
 use Rattle.net_ir.specs.declared.netlist.Gate.{Gate}
 use Rattle.net_ir.specs.Gates.{operand_end, ReadsLower, op_value, value_in, gate_values}
-use Rattle.net_ir.proofs.Building.{ReadsLower-push}
-use Rattle.net_ir.proofs.Values.{length-gate_values, gate_values-append, value_in-gate_values}
+use Rattle.net_ir.proofs.Exports.{ReadsLower-push, length-gate_values, gate_values-append, value_in-gate_values}
 use Rattle.state_enc.specs.declared.codes.Literal.{Literal}
 use Rattle.state_enc.specs.Codes.{is_met, are_met, wants}
 use Rattle.state_enc.specs.Drafts.{bits_at, Grew, Says, EachSays, literals_of, literals_at, wanted, values_of}

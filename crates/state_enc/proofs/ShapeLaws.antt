@@ -10,7 +10,7 @@ use Rattle.grc_graph.specs.Layers.{can_pass}
 use Rattle.grc_graph.specs.Selections.{well_formed}
 use Rattle.grc_graph.specs.SelectionTrees.{Form, Leaf, Exclusive, Parallel, Passing, resumes, second_resumes, leaf_paths, body_leaves, selecting}
 use Rattle.grc_graph.specs.TreeJudgements.{Judgement, judgement, combined, none_selected}
-use Rattle.grc_graph.proofs.TreeSelections.{judged_body}
+use Rattle.grc_graph.proofs.Exports.{judged_body}
 use Rattle.net_ir.specs.Gates.{value_in}
 use Rattle.state_enc.specs.declared.codes.Literal.{Literal}
 use Rattle.state_enc.specs.declared.codes.Way.{Way}

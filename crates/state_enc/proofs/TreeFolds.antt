@@ -5,14 +5,13 @@ use Rattle.std.specs.Prelude.{if◌then◌else◌}
 use Rattle.std.proofs.lemmas.List.{append-nil}
 use Rattle.est_kernel.specs.Terms.{Term, Nothing, Pause, Emit, Exit, Present, Suspend, Seq, Loop, Par, Trap, Local, Awake}
 use Rattle.est_kernel.specs.Preorder.{statement_count}
-use Rattle.est_kernel.proofs.PreorderLaws.{statement_count-pos}
+use Rattle.est_kernel.proofs.Exports.{statement_count-pos}
 use Rattle.grc_graph.specs.declared.trees.SelNode.{SelNode}
 use Rattle.grc_graph.specs.Layers.{can_pass}
 use Rattle.grc_graph.specs.SelectionTrees.{Form, Leaf, Exclusive, Parallel, Passing, TreeNode, tree_nodes, leaf_paths, subtree_if, resumes, second_resumes}
 use Rattle.grc_graph.specs.TreeForms.{form_of, node_of, end_of, SubtreesNest}
 use Rattle.grc_graph.specs.TreeReadings.{second_place}
-use Rattle.grc_graph.proofs.TreeLaws.{tree_none}
-use Rattle.grc_graph.proofs.TreeJudging.{heads_tree, node_there, middle_of}
+use Rattle.grc_graph.proofs.Exports.{tree_none, heads_tree, node_there, middle_of}
 use Rattle.state_enc.specs.SelectionFolds.{fold_tree}
 use Rattle.state_enc.specs.TreeWalks.{Folds}
 

@@ -10,7 +10,7 @@ use Rattle.std.proofs.lemmas.List.Elements.{All-from_recursion, All-map, recursi
 use Rattle.facts.proofs.Lists.{contains-later}
 use Rattle.digraph.specs.Walks.{HasEdge, JoinsNodes, IsClosedWalk}
 use Rattle.net_ir.specs.NameLists.{is_among}
-use Rattle.net_ir.proofs.NameLists.{found-low, found-at, place-among}
+use Rattle.net_ir.proofs.Exports.{found-low, found-at, place-among}
 use Rattle.step_run.specs.Slots.{slot_in}
 use Rattle.step_run.specs.Equations.{Equation, NeedsName, IsLoop, HasNoLoop, name_at}
 use Rattle.step_run.specs.Steps.{driven, AreSound}

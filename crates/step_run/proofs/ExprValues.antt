@@ -11,7 +11,7 @@ use Rattle.expr_text.specs.Names.{names_in, all_names}
 use Rattle.expr_text.specs.Trees.{Expr as Tree, Exprs, Name, Const, Not, And, Or, NoExprs, MoreExprs}
 use Rattle.expr_text.specs.Reading.{exprs}
 use Rattle.expr_text.specs.Views.{expr_of}
-use Rattle.expr_text.proofs.Rows.{expr-And, expr-Or}
+use Rattle.expr_text.proofs.Exports.{expr-And, expr-Or}
 use Rattle.step_run.specs.Slots.{slot_in, value_at, memory_in}
 use Rattle.step_run.specs.Plans.{joined}
 use Rattle.step_run.specs.declared.term.Junction.{Junction}

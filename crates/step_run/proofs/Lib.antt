@@ -1,14 +1,15 @@
-pub mod Makings
-pub mod TermValues
-pub mod RecordLists
-pub mod Pushes
-pub mod Places
-pub mod Settling
-pub mod EquationEdges
-pub mod Solving
-pub mod NoLoops
-pub mod OnceNames
-pub mod ExprValues
-pub mod Compiling
-pub mod Resolving
-pub mod Reacting
+mod Makings
+mod TermValues
+mod RecordLists
+mod Pushes
+mod Places
+mod Settling
+mod EquationEdges
+mod Solving
+mod NoLoops
+mod OnceNames
+mod ExprValues
+mod Compiling
+mod Resolving
+mod Reacting
+pub mod Exports

@@ -10,10 +10,9 @@ use Rattle.std.proofs.lemmas.List.Folds.{list_any_at}
 use Rattle.facts.proofs.Lists.{contains-later}
 use Rattle.est_base.specs.Distinct.{all_differ, none_shared}
 use Rattle.est_base.specs.Names.{is_same_name}
-use Rattle.est_base.proofs.SameNames.{same_name-is, same_name-self}
+use Rattle.est_base.proofs.Exports.{same_name-is, same_name-self}
 use Rattle.net_ir.specs.NameLists.{is_among, first_again}
-use Rattle.net_ir.proofs.Building.{all_differ-append}
-use Rattle.net_ir.proofs.NameLists.{found-low, found-at, is_among-filter}
+use Rattle.net_ir.proofs.Exports.{all_differ-append, found-low, found-at, is_among-filter}
 
 -- ---- elements
 

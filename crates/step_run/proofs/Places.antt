@@ -6,7 +6,7 @@ use Rattle.std.proofs.lemmas.List.{length-map, get_or-map, length-append, get_or
 use Rattle.std.proofs.lemmas.List.Sums.{position_or_len_is}
 use Rattle.est_base.specs.Names.{is_same_name}
 use Rattle.est_base.specs.Distinct.{all_differ}
-use Rattle.net_ir.proofs.NameLists.{differ-at}
+use Rattle.net_ir.proofs.Exports.{differ-at}
 use Rattle.step_run.specs.Slots.{slot_in}
 use Rattle.step_run.specs.Equations.{Equation}
 use Rattle.step_run.specs.Steps.{driven}

@@ -5,7 +5,7 @@ use Rattle.std.proofs.lemmas.List.{length-map}
 use Rattle.std.proofs.lemmas.List.Elements.{All-from_recursion}
 use Rattle.facts.proofs.Lists.{all-unmapped}
 use Rattle.net_ir.specs.NameLists.{is_among}
-use Rattle.net_ir.proofs.NameLists.{found-low}
+use Rattle.net_ir.proofs.Exports.{found-low}
 use Rattle.step_run.specs.Slots.{slot_in}
 use Rattle.step_run.specs.Equations.{Equation, IsLoop, HasNoLoop}
 use Rattle.step_run.specs.Steps.{driven, AreSound}

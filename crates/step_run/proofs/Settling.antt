@@ -7,7 +7,7 @@ use Rattle.std.proofs.lemmas.List.Elements.{All-from_recursion}
 use Rattle.std.proofs.lemmas.Bool.{cases_lt, cases_eq}
 use Rattle.std.specs.List.{AllByRecursion}
 use Rattle.net_ir.specs.NameLists.{is_among}
-use Rattle.net_ir.proofs.NameLists.{found-low, found-at}
+use Rattle.net_ir.proofs.Exports.{found-low, found-at}
 use Rattle.step_run.specs.Slots.{slot_in, value_at, memory_in}
 use Rattle.step_run.specs.Equations.{Equation}
 use Rattle.step_run.specs.Steps.{Step, step_made, settled, driven, equation_step, IsLocal, AreSound}

@@ -3,7 +3,7 @@ use Rattle.std.proofs.Common.{◌≡◌, ℕ, ◌+◌, ◌-◌, ◌<◌, suc, Bo
 use Rattle.std.proofs.Common.{refl, sym, ap, ◌∙◌, arith, subst}
 use Rattle.std.proofs.lemmas.List.{length-map, length-take, get_or-map, get_or_default, ext_get_or, get_or-take}
 use Rattle.std.proofs.lemmas.List.Elements.{All-from_recursion, recursion_from_All}
-use Rattle.net_ir.proofs.NameLists.{found-low}
+use Rattle.net_ir.proofs.Exports.{found-low}
 use Rattle.step_run.specs.Slots.{slot_in, value_at, memory_in}
 use Rattle.step_run.specs.Equations.{Equation}
 use Rattle.step_run.specs.Steps.{Step, settled, driven, equation_step, AreSound, AreSolved}

@@ -1,3 +1,4 @@
 pub mod Pieces
-pub mod Reading
-pub mod Lines
+mod Reading
+mod Lines
+pub mod Exports

@@ -3,7 +3,7 @@ use Rattle.std.proofs.Common.{◌≡◌, ℕ, List, ◌++◌, Option, Result, Ok
 use Rattle.std.proofs.lemmas.Grind.{common_steps}
 use Rattle.est_base.specs.declared.sinks.writing.SinkFault.{SinkFault}
 use Rattle.est_base.specs.Writing.{Wrote, Stops, Appends}
-use Rattle.est_base.proofs.Gains.{stops-behind, appends-twice, appends-nothing}
+use Rattle.est_base.proofs.Exports.{stops-behind, appends-twice, appends-nothing}
 use Rattle.text_io.specs.ErrorLines.{GainsLine}
 
 -- a first text was appended; what a write of another text did, it did of both

@@ -5,7 +5,7 @@ use Rattle.std.proofs.lemmas.List.{take-append-drop}
 use Rattle.std.proofs.Math.Seq.{take-append_seam}
 use Rattle.est_base.specs.SinkChanges.{SinkChange}
 use Rattle.est_base.specs.Writing.{Gains, Appends, Stops}
-use Rattle.est_base.proofs.Gains.{appends-nothing, appends-twice, stops-behind}
+use Rattle.est_base.proofs.Exports.{appends-nothing, appends-twice, stops-behind}
 use Rattle.text_io.specs.Writings.{LeavesText, LeavesPieces}
 use Rattle.text_io.specs.declared.writing.Written.{Written}
 use Rattle.text_io.specs.declared.writing.Written.TheVariants.{Done, WriteFault, NoMemory}

@@ -16,7 +16,7 @@ use Rattle.trace_io.specs.Traces.{Reading, Group, End, Instant, Refused, next_gr
 use Rattle.trace_io.specs.Traces as groups
 use Rattle.trace_io.specs.Answers.{IsFault, IsTrace}
 use Rattle.machines.specs.Machines.{Machine, IsRunFrom, Shows}
-use Rattle.machines.proofs.Showing.{told-same}
+use Rattle.machines.proofs.Exports.{told-same}
 use Rattle.trace_run.specs.declared.running.RunFault.{RunFault}
 use Rattle.trace_run.specs.declared.running.RunFault.TheVariants.{Trace, Write, NoMemory}
 use Rattle.trace_run.specs.Machines.{Answer, answer_lines}

@@ -1,6 +1,7 @@
-pub mod Groups
-pub mod Leading
-pub mod Stepping
-pub mod Fronts
-pub mod Events
-pub mod Written
+mod Groups
+mod Leading
+mod Stepping
+mod Fronts
+mod Events
+mod Written
+pub mod Exports

@@ -5,7 +5,7 @@ use Rattle.std.proofs.Math.Seq.{take-append-add}
 use Rattle.est_base.specs.Items.{Item, Event, Reset}
 use Rattle.est_base.specs.Relations.{MeetsAll}
 use Rattle.est_base.specs.Writing.{Appends, Stops, GainsFront}
-use Rattle.est_base.proofs.Gains.{gains-nothing, gains-twice, appends-nothing, appends-twice, stops-behind}
+use Rattle.est_base.proofs.Exports.{gains-nothing, gains-twice, appends-nothing, appends-twice, stops-behind}
 use Rattle.trace_io.specs.declared.faults.TraceFault.{TraceFault}
 use Rattle.trace_io.specs.Lines.{line}
 use Rattle.trace_io.specs.Traces.{Reading, next_group}

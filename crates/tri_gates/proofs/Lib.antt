@@ -1,4 +1,5 @@
 mod Stepping
 mod Deciding
 mod Linking
-pub mod TableLaws
+mod TableLaws
+pub mod Exports

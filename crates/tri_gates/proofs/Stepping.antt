@@ -6,7 +6,7 @@ use Rattle.std.proofs.lemmas.Bool.{cases_eq, eqb-true, eq-eqb, false≢true, or_
 use Rattle.std.proofs.lemmas.List.{get_or-set_same, get_or-set_other}
 use Rattle.est_kernel.specs.Laws.{IsBelow}
 use Rattle.est_kernel.specs.Statuses.{Status, Plus, Minus, Unknown, opposite, conjunction, disjunction}
-use Rattle.est_kernel.proofs.Statuses.{below_self, below_trans, opposite_below}
+use Rattle.est_kernel.proofs.Exports.{below_self, below_trans, opposite_below}
 use Rattle.tri_gates.specs.declared.gates.Gate.{Gate}
 use Rattle.tri_gates.specs.declared.gates.Gate.TheVariants as gates
 use Rattle.tri_gates.specs.declared.gates.Side.{Side}

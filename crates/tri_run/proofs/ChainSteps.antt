@@ -16,7 +16,7 @@ use Rattle.tri_gates.specs.declared.gates.Gate.{Gate}
 use Rattle.tri_gates.specs.declared.gates.Gate.TheVariants as gates
 use Rattle.tri_gates.specs.Systems.{gate_fits, gate_status}
 use Rattle.tri_gates.specs.Tables.{Extends, GateSays, Meaning, NodeSays, Shape, nodes_of}
-use Rattle.tri_gates.proofs.TableLaws.{extends-length, extends-refl, node-stays, or-says, pushed-extends, pushed-says, wire-says}
+use Rattle.tri_gates.proofs.Exports.{extends-length, extends-refl, node-stays, or-says, pushed-extends, pushed-says, wire-says}
 use Rattle.tri_run.specs.Chains.{ChainsSoFar, IsRun, any_status, bare, continues, continues_as, is_end_of, wire_number}
 
 -- a node with another meaning that is always the same

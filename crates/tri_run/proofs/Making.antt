@@ -14,8 +14,8 @@ use Rattle.grc_words.specs.WordLaws.{ends_upto, first_end, is_end_upto}
 use Rattle.tri_gates.specs.declared.gates.Gate.{Gate}
 use Rattle.tri_gates.specs.declared.gates.Gate.TheVariants as gates
 use Rattle.tri_gates.specs.Tables.{Extends, Meaning}
-use Rattle.tri_gates.proofs.TableLaws.{and-says, extends-both, extends-refl, node-stays, not-says, or-says, pushed-extends, pushed-says}
-use Rattle.tri_gates.proofs.TableLaws.{same-says, source-says, wire-says}
+use Rattle.tri_gates.proofs.Exports.{and-says, extends-both, extends-refl, node-stays, not-says, or-says, pushed-extends, pushed-says, same-says, source-says}
+use Rattle.tri_gates.proofs.Exports.{wire-says}
 use Rattle.tri_run.specs.declared.formulas.Making.{Making}
 use Rattle.tri_run.specs.Chains.{IsRun, any_status, is_end_of, wire_number}
 use Rattle.tri_run.specs.Meanings.{GateMade, NodeMade, PairMade, Ready, any_meaning, constant_gate, meaning_of, shape_of}

@@ -21,18 +21,16 @@ use Rattle.grc_graph.specs.Readings.{Valuation}
 use Rattle.grc_graph.specs.Walk.{State}
 use Rattle.grc_graph.specs.Wires.{Wire, End, Go, same_wire}
 use Rattle.grc_graph.specs.Layers.{Resumed}
-use Rattle.grc_solutions.proofs.SameWires.{is_given}
-use Rattle.grc_solutions.proofs.Evaluated.{unnamed}
+use Rattle.grc_solutions.proofs.Exports.{is_given, unnamed}
 use Rattle.grc_react.specs.Evaluations.{IsKnown}
-use Rattle.grc_react.proofs.Steps.{plain-formulas, plain-wires}
+use Rattle.grc_react.proofs.Exports.{plain-formulas, plain-wires}
 use Rattle.grc_solutions.specs.GraphWires.{Differ, equation_wires}
 use Rattle.grc_tri.specs.LeastSolutions.{IsLeast, Statuses, formula_status, is_plus, kleene_reading, upto_status}
 use Rattle.grc_words.specs.declared.table.Words.{Words}
 use Rattle.grc_words.specs.Occasions.{Occasion}
 use Rattle.grc_words.specs.WordLaws.{AreWordsOf, any_from, ends_upto, first_end, is_end_upto}
 use Rattle.tri_gates.specs.Tables.{IsLeastOf}
-use Rattle.grc_graph.proofs.SameWires.{same_wire-back, same_wire-self, same_wire-true}
-use Rattle.grc_graph.proofs.WirePlaces.{length-names}
+use Rattle.grc_graph.proofs.Exports.{same_wire-back, same_wire-self, same_wire-true, length-names}
 use Rattle.tri_run.specs.declared.numbers.Counts.{Counts}
 use Rattle.tri_run.specs.Chains.{any_status}
 use Rattle.tri_run.specs.Instants.{AreSources, Instant, status_named}

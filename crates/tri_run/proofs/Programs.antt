@@ -11,7 +11,7 @@ use Rattle.est_kernel.specs.Statuses.{known}
 use Rattle.est_kernel.specs.WellFormed.{IsWellFormed}
 use Rattle.est_kernel.specs.WellFormed as programs
 use Rattle.est_kernel.specs.Terms.{Term}
-use Rattle.est_kernel.proofs.Statuses.{below_meets}
+use Rattle.est_kernel.proofs.Exports.{below_meets}
 use Rattle.grc_graph.specs.BuiltGraphs.{IsGraphOf}
 use Rattle.grc_graph.specs.GraphRuns.{PlainGraph, formula_value, graph_of, next_state, shown}
 use Rattle.grc_graph.specs.PlainGraphs.{names_of, plain_graph}
@@ -20,12 +20,11 @@ use Rattle.grc_graph.specs.SelectionTrees.{selecting}
 use Rattle.grc_graph.specs.Walk.{State, Selecting, remaining}
 use Rattle.grc_graph.specs.Wires.{Wire}
 use Rattle.grc_sem.specs.GraphWalks.{SelectsLeaves, shown_code}
-use Rattle.grc_sem.proofs.Instants.{codes_are_shown_lem, next_state_is_kept_lem}
-use Rattle.grc_sem.proofs.Premises.{program_kernel}
+use Rattle.grc_sem.proofs.Exports.{codes_are_shown_lem, next_state_is_kept_lem, program_kernel}
 use Rattle.grc_words.specs.Occasions.{state_of}
 use Rattle.grc_tri.specs.LeastSolutions.{IsKnown, IsLeast, Statuses, true_wires}
 use Rattle.grc_tri.specs.TriRuns.{is_unknown}
-use Rattle.grc_tri.proofs.Reactions.{known_reacts_lem, reacts_known_lem}
+use Rattle.grc_tri.proofs.Exports.{known_reacts_lem, reacts_known_lem}
 use Rattle.tri_run.specs.Runners.{IsFresh, IsStuck, Runner, Stays, Steps, TriReacts, program_in, state_in, unknown_wires}
 use Rattle.tri_run.specs.States.{KeepsProgram}
 use Rattle.tri_run.specs.declared.state.NotConstructive.{NotConstructive}

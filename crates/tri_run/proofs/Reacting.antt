@@ -19,7 +19,7 @@ use Rattle.grc_tri.specs.LeastSolutions.{IsLeast, true_wires}
 use Rattle.grc_words.specs.Occasions.{state_of}
 use Rattle.tri_gates.specs.declared.gates.Value.{Value}
 use Rattle.tri_gates.specs.Systems.{is_unknown, statuses_of}
-use Rattle.grc_graph.proofs.WirePlaces.{length-names}
+use Rattle.grc_graph.proofs.Exports.{length-names}
 use Rattle.tri_run.specs.declared.state.State.{State}
 use Rattle.tri_run.specs.Instants.{status_named}
 use Rattle.tri_run.specs.Rooms.{are_true, are_unknown}

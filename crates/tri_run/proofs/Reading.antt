@@ -12,14 +12,14 @@ use Rattle.grc_graph.specs.Wires.{Wire, Go, same_wire}
 use Rattle.grc_graph.specs.Layers.{Resumed}
 use Rattle.grc_react.specs.declared.rows.Start.{Start}
 use Rattle.grc_react.specs.Evaluations.{Begins, Late, surroundings_of}
-use Rattle.grc_react.proofs.Stages.{false-off, occasion, source-known}
+use Rattle.grc_react.proofs.Exports.{false-off, occasion, source-known}
 use Rattle.grc_solutions.specs.Evaluations.{valuation_of}
 use Rattle.grc_solutions.specs.GraphWires.{Differ}
 use Rattle.grc_tri.specs.LeastSolutions.{IsKnown, is_plus, true_wires}
 use Rattle.grc_words.specs.Rows.{row_values, source_fits, source_value}
 use Rattle.grc_words.specs.WordLaws.{late_bounds}
 use Rattle.grc_words.specs.declared.table.Words.{Words}
-use Rattle.grc_words.proofs.RowValues.{length-row_values}
+use Rattle.grc_words.proofs.Exports.{length-row_values}
 use Rattle.tri_gates.specs.declared.gates.Value.{Value}
 use Rattle.tri_gates.specs.declared.gates.Value.TheVariants as values
 use Rattle.tri_gates.specs.Systems.{is_unknown, status_of, statuses_of}

@@ -10,9 +10,7 @@ use Rattle.grc_graph.specs.PlainGraphs.{names_of, plain_graph}
 use Rattle.grc_graph.specs.Readings.{state_holds_at}
 use Rattle.grc_react.specs.declared.rows.Start.{Start}
 use Rattle.grc_react.specs.Evaluations.{Begins, IsKnown, Stage, start_state, surroundings_of}
-use Rattle.grc_react.proofs.Agreement.{source-agrees}
-use Rattle.grc_react.proofs.Wholes.{begun}
-use Rattle.grc_react.proofs.Meanings.{boot-is, selected-means}
+use Rattle.grc_react.proofs.Exports.{source-agrees, begun, boot-is, selected-means}
 use Rattle.grc_tri.specs.LeastSolutions.{IsLeast}
 use Rattle.grc_words.specs.declared.table.Source.TheVariants as sources
 use Rattle.grc_words.specs.declared.table.Words.{Words}
@@ -20,7 +18,7 @@ use Rattle.grc_words.specs.Rows.{row_values, source_value}
 use Rattle.grc_words.specs.WordLaws.{early_bounds, selected_source}
 use Rattle.tri_gates.specs.declared.gates.System.{System}
 use Rattle.tri_gates.specs.Systems.{IsLeastSolution}
-use Rattle.tri_gates.proofs.TableLaws.{least-of-wires}
+use Rattle.tri_gates.proofs.Exports.{least-of-wires}
 use Rattle.tri_run.specs.declared.numbers.Counts.{Counts}
 use Rattle.tri_run.specs.Instants.{AreSources, Instant, status_named}
 use Rattle.tri_run.specs.Meanings.{meaning_in}

@@ -8,7 +8,7 @@ use Rattle.tri_gates.specs.declared.gates.Gate.{Gate}
 use Rattle.tri_gates.specs.declared.gates.Gate.TheVariants as gates
 use Rattle.tri_gates.specs.Systems.{gate_at, gate_fits}
 use Rattle.tri_gates.specs.Tables.{AreGates, GateSays, Meaning, Shape, TableFits}
-use Rattle.tri_gates.proofs.TableLaws.{extends-refl, fits-more, gate-stays}
+use Rattle.tri_gates.proofs.Exports.{extends-refl, fits-more, gate-stays}
 use Rattle.tri_run.specs.declared.formulas.Making.{Making}
 use Rattle.tri_run.specs.Chains.{AreChains}
 use Rattle.tri_run.specs.Meanings.{GateMade, Ready, meaning_of, shape_of}

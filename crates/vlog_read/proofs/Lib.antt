@@ -1,8 +1,9 @@
-pub mod TokenKinds
-pub mod TextLaws
-pub mod Makers
-pub mod ReaderLaws
-pub mod LexLaws
-pub mod NameLaws
+mod TokenKinds
+mod TextLaws
+mod Makers
+mod ReaderLaws
+mod LexLaws
+mod NameLaws
 pub mod ReadBack
-pub mod RegisterTables
+mod RegisterTables
+pub mod Exports

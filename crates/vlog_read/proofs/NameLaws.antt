@@ -6,16 +6,16 @@ use Rattle.std.specs.Prelude.{find, filter, codes, if◌then◌else◌}
 use Rattle.std.proofs.lemmas.List.{take_more, map-append, append-nil}
 use Rattle.est_base.specs.Names.{is_same_name}
 use Rattle.net_ir.specs.NameLists.{is_among, first_again}
-use Rattle.net_ir.proofs.NameLists.{find-same}
+use Rattle.net_ir.proofs.Exports.{find-same}
 use Rattle.expr_text.specs.NameTables.{again_from, name_told}
 use Rattle.expr_text.specs.Names.{or_else}
 use Rattle.expr_text.specs.Trees.{Expr}
-use Rattle.expr_text.proofs.Again.{again-first}
+use Rattle.expr_text.proofs.Exports.{again-first}
 use Rattle.vlog_text.specs.Trees.{Sort, Input, Output, Wire, Reg, Declaration, Source}
 use Rattle.vlog_text.specs.Names.{is_input, is_output, is_reg, names_of, declared, is_first, is_last, has_sign, paused_name, is_ill_named, ill_named}
 use Rattle.vlog_text.specs.Names.{declaration_found, portless, other_clock, Use, Kept, Assigned, Taken, uses, is_wrong, use_found, undeclared}
 use Rattle.vlog_text.specs.Names.{targets, is_driven, undriven}
-use Rattle.vlog_text.proofs.NetNames.{names-append}
+use Rattle.vlog_text.proofs.Exports.{names-append}
 use Rattle.std.specs.HashSet.{contains_by}
 use Rattle.vlog_read.specs.declared.drivers.Drivers.{Drivers}
 use Rattle.vlog_read.specs.declared.uses.Known.{Known}

@@ -8,7 +8,7 @@ use Rattle.read_rules.specs.Exact.{Exactly, IsLeastPlace}
 use Rattle.expr_text.specs.Trees.{Expr}
 use Rattle.expr_text.specs.Grammar.{Written}
 use Rattle.expr_text.specs.Reading.{makes_expr, makes_written}
-use Rattle.expr_text.proofs.Images.{made}
+use Rattle.expr_text.proofs.Exports.{made}
 use Rattle.vlog_text.specs.Trees.{Source, Module}
 use Rattle.vlog_text.specs.Tokens.{Kind, kinds}
 use Rattle.vlog_text.specs.Grammar.{IsText, source_meant}

@@ -5,15 +5,11 @@ use Rattle.read_rules.specs.Languages.{Empty, Then, Led, Both, Loop, Optional, M
 use Rattle.read_rules.specs.Languages.{One as Single}
 use Rattle.read_rules.specs.Choice.{Made}
 use Rattle.read_rules.specs.Readings.{the, on, whole}
-use Rattle.read_rules.proofs.Loops.{Advances}
-use Rattle.read_rules.proofs.Readers.{Shape, one_shape, Reads, the-reads, give-reads, both-reads, led-reads, trail-reads, made-reads, shape-reads}
-use Rattle.read_rules.proofs.Steps.{Turn, list_depth, Steps, or-steps, look-steps, loop-reads, Advances-step}
-use Rattle.read_rules.proofs.Choices.{whole-reads as exact-reads}
-use Rattle.read_rules.proofs.Depths.{list_depth-flat}
+use Rattle.read_rules.proofs.Exports.{Advances, Shape, one_shape, Reads, the-reads, give-reads, both-reads, led-reads, trail-reads, made-reads, shape-reads}
+use Rattle.read_rules.proofs.Exports.{Turn, list_depth, Steps, or-steps, look-steps, loop-reads, Advances-step, whole-reads as exact-reads, list_depth-flat}
 use Rattle.expr_text.specs.Grammar.{Written, written_nesting}
 use Rattle.expr_text.specs.Reading.{makes_written}
-use Rattle.expr_text.proofs.ExprLaws.{exprs_known}
-use Rattle.expr_text.proofs.Tests.{class-reads}
+use Rattle.expr_text.proofs.Exports.{exprs_known, class-reads}
 use Rattle.vlog_text.specs.Trees.{Sort, Declaration, Initial, Assign, Next, Source}
 use Rattle.vlog_text.specs.Tokens.{Kind, ModuleWord, InitialWord, AssignWord, AlwaysWord, PosedgeWord, BeginWord}
 use Rattle.vlog_text.specs.Tokens.{EndWord, EndmoduleWord, LeftParenthesis, RightParenthesis, Comma, Semicolon, Equals}

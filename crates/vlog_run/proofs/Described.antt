@@ -11,10 +11,9 @@ use Rattle.std.proofs.lemmas.List.Folds.{list_any-append}
 use Rattle.facts.proofs.Lists.{contains-later, find-both-none, find-first-none}
 use Rattle.est_base.specs.Distinct.{all_differ}
 use Rattle.est_base.specs.Names.{is_same_name}
-use Rattle.est_base.proofs.SameNames.{same_name-is, same_name-self}
+use Rattle.est_base.proofs.Exports.{same_name-is, same_name-self}
 use Rattle.net_ir.specs.NameLists.{is_among, first_again}
-use Rattle.step_run.proofs.OnceNames.{first-or_later, each-element, of-element, among-element, element-among, differ-both}
-use Rattle.step_run.proofs.OnceNames.{differ-behind, in-parts, once-of}
+use Rattle.step_run.proofs.Exports.{first-or_later, each-element, of-element, among-element, element-among, differ-both, differ-behind, in-parts, once-of}
 use Rattle.expr_text.specs.Names.{names_in, or_else}
 use Rattle.expr_text.specs.Trees.{Expr}
 use Rattle.vlog_text.specs.Grammar.{source_meant}

@@ -11,8 +11,7 @@ use Rattle.step_run.specs.Slots.{slot_in}
 use Rattle.step_run.specs.Steps.{driven, equation_step, IsLocal, AreSound}
 use Rattle.step_run.specs.Order.{slots_read, no_equation}
 use Rattle.step_run.specs.Solvers.{ordered_steps}
-use Rattle.step_run.proofs.ExprValues.{value-local}
-use Rattle.step_run.proofs.Places.{driven-count, output-slot}
+use Rattle.step_run.proofs.Exports.{value-local, driven-count, output-slot}
 use Rattle.vlog_text.specs.Machine.{given_inputs, driven_names}
 use Rattle.vlog_text.specs.Trees.{Assign, Module}
 use Rattle.vlog_run.specs.Loops.{equation_of, equations_of}

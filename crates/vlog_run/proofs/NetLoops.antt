@@ -11,27 +11,19 @@ use Rattle.net_ir.specs.declared.netlist.NetOut.{NetOut}
 use Rattle.net_ir.specs.Netlists.{Netlist, first_gate, net_count}
 use Rattle.net_ir.specs.Numbered.{numbered}
 use Rattle.net_ir.specs.Writing.{IsWritable}
-use Rattle.net_ir.proofs.Numbered.{length-numbered, get_or-numbered, map-numbered}
-use Rattle.net_ir.proofs.Nets.{any_gate}
+use Rattle.net_ir.proofs.Exports.{length-numbered, get_or-numbered, map-numbered, any_gate}
 use Rattle.expr_text.specs.Names.{names_in}
 use Rattle.expr_text.specs.NetNames.{state_name, gate_names}
 use Rattle.expr_text.specs.Trees.{Expr}
-use Rattle.expr_text.proofs.Naming.{state_names}
-use Rattle.expr_text.proofs.Operators.{op-names}
+use Rattle.expr_text.proofs.Exports.{state_names, op-names}
 use Rattle.step_run.specs.Slots.{slot_in}
 use Rattle.step_run.specs.Equations.{Equation}
 use Rattle.step_run.specs.Equations as equations
-use Rattle.step_run.proofs.NoLoops.{IsRising, rising-no_loop}
-use Rattle.step_run.proofs.OnceNames.{of-element}
-use Rattle.step_run.proofs.Places.{place-at}
+use Rattle.step_run.proofs.Exports.{IsRising, rising-no_loop, of-element, place-at}
 use Rattle.vlog_text.specs.Machine.{driven_names}
 use Rattle.vlog_text.specs.Trees.{Register, Assign, Module}
 use Rattle.vlog_text.specs.Written.{written, Means, input_name, net_name, net_outputs, gate_assign, output_assign, paused_assign, net_assigns, net_register}
-use Rattle.vlog_text.proofs.NetInstants.{net_names, first_names, length-names, net_name-at}
-use Rattle.vlog_text.proofs.NetModules.{net_module}
-use Rattle.vlog_text.proofs.NetNames.{input_words}
-use Rattle.vlog_text.proofs.NetRules.{targets-are}
-use Rattle.vlog_text.proofs.NetSpelled.{describes-net}
+use Rattle.vlog_text.proofs.Exports.{net_names, first_names, length-names, net_name-at, net_module, input_words, targets-are, describes-net}
 use Rattle.vlog_run.specs.Loops.{HasNoLoop, equation_of}
 use Rattle.vlog_run.specs.Plans.{no_assign}
 use Rattle.vlog_run.specs.Tracing.{IsModuleOf}

@@ -9,7 +9,7 @@ use Rattle.step_run.specs.Equations.{Equation}
 use Rattle.step_run.specs.Registers.{Frame, Advances, IsBegun}
 use Rattle.step_run.specs.Solvers.{AreSlots}
 use Rattle.step_run.specs.Steps.{AreSolved}
-use Rattle.step_run.proofs.Reacting.{reaction}
+use Rattle.step_run.proofs.Exports.{reaction}
 use Rattle.vlog_text.specs.Machine.{given_inputs, driven_names, IsInstant, initial_registers}
 use Rattle.vlog_text.specs.Trees.{Register, Assign, Module}
 use Rattle.vlog_text.specs.Views.{module_of}

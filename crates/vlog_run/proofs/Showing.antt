@@ -6,9 +6,9 @@ use Rattle.std.proofs.lemmas.List.{get_or-map, length-map}
 use Rattle.est_base.specs.Items.{Item, Event}
 use Rattle.est_base.specs.Names.{is_same_name}
 use Rattle.machines.specs.Machines.{Shows}
-use Rattle.machines.proofs.Showing.{shows-event, shows-reset}
+use Rattle.machines.proofs.Exports.{shows-event, shows-reset}
 use Rattle.net_ir.specs.NameLists.{is_among}
-use Rattle.net_ir.proofs.NameLists.{found-low, found-at}
+use Rattle.net_ir.proofs.Exports.{found-low, found-at}
 use Rattle.trace_io.specs.declared.lines.Word.{Word}
 use Rattle.trace_io.specs.declared.lines.Word.TheVariants.{Bare}
 use Rattle.trace_run.specs.Languages.{word_of}

@@ -11,12 +11,11 @@ use Rattle.vlog_read.specs.Faults.{ReadsAs, ReadsFault}
 use Rattle.vlog_read.specs.Laws.{LacksRoom}
 use Rattle.vlog_read.specs.declared.refusal.VlogFault.{VlogFault}
 use Rattle.vlog_read.specs.declared.refusal.VlogFault.TheVariants as answers
-use Rattle.vlog_read.proofs.ReadBack.{described-are-read}
+use Rattle.vlog_read.proofs.Exports.{described-are-read}
 use Rattle.vlog_text.specs.Texts.{Describes}
 use Rattle.vlog_text.specs.Trees.{Module}
 use Rattle.vlog_text.specs.Written.{written, Means}
-use Rattle.vlog_text.proofs.NetModules.{net_module}
-use Rattle.vlog_text.proofs.NetSpelled.{describes-net}
+use Rattle.vlog_text.proofs.Exports.{net_module, describes-net}
 use Rattle.vlog_run.specs.declared.language.TextFault.{TextFault}
 use Rattle.vlog_run.specs.declared.language.TextFault.TheVariants.{Syntax, Twice, Port, Undeclared, TwoDrivers, NoDriver, Loop}
 use Rattle.vlog_run.specs.Texts.{IsTextFault}

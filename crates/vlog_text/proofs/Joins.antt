@@ -9,7 +9,7 @@ use Rattle.net_ir.specs.Netlists.{Netlist}
 use Rattle.net_ir.specs.Numbered.{numbered}
 use Rattle.expr_text.specs.NetNames.{state_name, gate_name}
 use Rattle.net_text.specs.Parts.{joined}
-use Rattle.net_text.proofs.Joined.{joined-numbered, joined-mapped, joined-one, joined-last, count-numbered, count-mapped}
+use Rattle.net_text.proofs.Exports.{joined-numbered, joined-mapped, joined-one, joined-last, count-numbered, count-mapped}
 use Rattle.vlog_text.specs.Trees.{Input, Output, Reg, Wire}
 use Rattle.vlog_text.specs.Names.{paused_name}
 use Rattle.vlog_text.specs.Parts.{from_nexts, from_output_assigns, from_gate_assigns, from_initials, from_wires, from_regs, from_outputs}

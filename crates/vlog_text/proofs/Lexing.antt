@@ -5,8 +5,7 @@ use Rattle.std.proofs.lemmas.Bool.{ne_eqb}
 use Rattle.est_base.specs.Names.{is_name}
 use Rattle.expr_text.specs.Signs.{BitSign}
 use Rattle.expr_text.proofs.Saying as saying
-use Rattle.expr_text.proofs.Saying.{FrontsNames, begins_high, digits-decimal, bytes-decimal, bytes-name, no-word}
-use Rattle.expr_text.proofs.Spelling.{Writes}
+use Rattle.expr_text.proofs.Exports.{FrontsNames, begins_high, digits-decimal, bytes-decimal, bytes-name, no-word, Writes}
 use Rattle.vlog_text.specs.Trees.{Sort, Input, Output, Wire, Reg}
 use Rattle.vlog_text.specs.Tokens.{Kind, ModuleWord, InitialWord, AssignWord, AlwaysWord, PosedgeWord, BeginWord}
 use Rattle.vlog_text.specs.Tokens.{EndWord, EndmoduleWord, LeftParenthesis, RightParenthesis, Comma, Semicolon, Equals}

@@ -1,10 +1,11 @@
-pub mod Lexing
-pub mod Spelling
-pub mod NetNames
-pub mod NetRules
-pub mod NetModules
-pub mod NetInstants
-pub mod NetSpelled
-pub mod NetRuns
-pub mod Joins
+mod Lexing
+mod Spelling
+mod NetNames
+mod NetRules
+mod NetModules
+mod NetInstants
+mod NetSpelled
+mod NetRuns
+mod Joins
 mod worked
+pub mod Exports

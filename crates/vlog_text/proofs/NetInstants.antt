@@ -13,14 +13,12 @@ use Rattle.net_ir.specs.Netlists.{Netlist, first_gate, net_count}
 use Rattle.net_ir.specs.Numbered.{numbered}
 use Rattle.net_ir.specs.Runs.{net_values}
 use Rattle.net_ir.specs.Writing.{IsWritable}
-use Rattle.net_ir.proofs.Numbered.{length-numbered, get_or-numbered, map-numbered, All-numbered}
-use Rattle.net_ir.proofs.Values.{op_value-same, Solves-gate_values, gate_values-from_Solves}
-use Rattle.net_ir.proofs.Nets.{net_cases, numbered-at}
+use Rattle.net_ir.proofs.Exports.{length-numbered, get_or-numbered, map-numbered, All-numbered, op_value-same, Solves-gate_values, gate_values-from_Solves}
+use Rattle.net_ir.proofs.Exports.{net_cases, numbered-at}
 use Rattle.expr_text.specs.NetNames.{state_name, gate_name, gate_names}
 use Rattle.expr_text.specs.Trees.{Expr}
 use Rattle.expr_text.specs.Values.{value_of}
-use Rattle.expr_text.proofs.Naming.{state_names, any_gate, any_latch}
-use Rattle.expr_text.proofs.Operators.{op-expr-value}
+use Rattle.expr_text.proofs.Exports.{state_names, any_gate, any_latch, op-expr-value}
 use Rattle.vlog_text.specs.Trees.{Register, Assign}
 use Rattle.vlog_text.specs.Names.{paused_name}
 use Rattle.vlog_text.specs.Machine.{IsInstant}

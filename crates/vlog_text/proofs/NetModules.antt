@@ -3,17 +3,15 @@ use Rattle.std.proofs.Common.{◌≡◌, ℕ, ◌+◌, ◌<◌, zero, suc, Bool,
 use Rattle.std.proofs.lemmas.Bool.{and_parts, not-true}
 use Rattle.est_base.specs.Distinct.{all_differ}
 use Rattle.est_base.specs.Names.{is_same_name}
-use Rattle.est_base.proofs.SameNames.{same_name-self}
+use Rattle.est_base.proofs.Exports.{same_name-self}
 use Rattle.net_ir.specs.declared.netlist.Latch.{Latch}
 use Rattle.net_ir.specs.NameLists.{is_among}
 use Rattle.net_ir.specs.Netlists.{Netlist}
 use Rattle.net_ir.specs.Numbered.{numbered}
 use Rattle.net_ir.specs.Writing.{IsWritable}
-use Rattle.net_ir.proofs.NameLists.{any-none}
-use Rattle.net_ir.proofs.Numbered.{length-numbered, get_or-numbered, map-numbered}
+use Rattle.net_ir.proofs.Exports.{any-none, length-numbered, get_or-numbered, map-numbered}
 use Rattle.expr_text.specs.NetNames.{state_name, gate_names}
-use Rattle.expr_text.proofs.Instants.{numbered-same}
-use Rattle.expr_text.proofs.Naming.{differ-states}
+use Rattle.expr_text.proofs.Exports.{numbered-same, differ-states}
 use Rattle.vlog_text.specs.Trees.{Module}
 use Rattle.vlog_text.specs.Texts.{initial_value, next_source, register_said, module_said}
 use Rattle.vlog_text.specs.Written.{module_name, net_name, latch_initial, latch_next, net_inputs, net_outputs, net_assigns, net_source, net_register}

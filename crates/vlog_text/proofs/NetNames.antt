@@ -12,9 +12,9 @@ use Rattle.net_ir.specs.declared.netlist.NetOut.{NetOut}
 use Rattle.net_ir.specs.Netlists.{Netlist}
 use Rattle.net_ir.specs.Numbered.{numbered}
 use Rattle.net_ir.specs.Writing.{IsWritable}
-use Rattle.net_ir.proofs.Numbered.{map-numbered}
+use Rattle.net_ir.proofs.Exports.{map-numbered}
 use Rattle.expr_text.specs.NetNames.{state_name, gate_name, gate_names}
-use Rattle.expr_text.proofs.Naming.{mark, state_names, all-mapped, marks-states, marks-gates, differ-states, differ-gates, marked-differ, in-front, all-both}
+use Rattle.expr_text.proofs.Exports.{mark, state_names, all-mapped, marks-states, marks-gates, differ-states, differ-gates, marked-differ, in-front, all-both}
 use Rattle.vlog_text.specs.Trees.{Sort, Input, Output, Wire, Reg, Declaration}
 use Rattle.vlog_text.specs.Names.{is_input, is_output, is_wire, is_reg, names_of, declared, paused_name}
 use Rattle.vlog_text.specs.Written.{clock_name, input_name, output_name, declares, net_inputs, net_outputs, net_declarations}

@@ -15,12 +15,10 @@ use Rattle.net_ir.specs.Gates.{value_in}
 use Rattle.net_ir.specs.Netlists.{Netlist, first_gate, net_count}
 use Rattle.net_ir.specs.Runs.{Shown, net_values, next_latches, initial_latches, values_from, net_values_run, shown}
 use Rattle.net_ir.specs.Writing.{IsWritable}
-use Rattle.net_ir.proofs.Numbered.{length-numbered, map-numbered, numbered-map}
-use Rattle.net_ir.proofs.Values.{take-gate_values}
-use Rattle.net_ir.proofs.NameLists.{looked_up, map-looked_up}
-use Rattle.net_ir.proofs.Nets.{gate_part, length-gate_part, output_part, told-values, told_from}
+use Rattle.net_ir.proofs.Exports.{length-numbered, map-numbered, numbered-map, take-gate_values, looked_up, map-looked_up, gate_part, length-gate_part}
+use Rattle.net_ir.proofs.Exports.{output_part, told-values, told_from}
 use Rattle.expr_text.specs.NetNames.{state_name, gate_name, gate_names}
-use Rattle.expr_text.proofs.Naming.{state_names, marks-states, marks-gates, in-front, all-both, differ-states}
+use Rattle.expr_text.proofs.Exports.{state_names, marks-states, marks-gates, in-front, all-both, differ-states}
 use Rattle.vlog_text.specs.Trees.{Register, Assign}
 use Rattle.vlog_text.specs.Names.{paused_name}
 use Rattle.vlog_text.specs.Machine.{IsInstant, vlog_machine, initial_registers, driven_names}

@@ -7,13 +7,10 @@ use Rattle.net_ir.specs.declared.netlist.Gate.{Gate}
 use Rattle.net_ir.specs.declared.netlist.Latch.{Latch}
 use Rattle.net_ir.specs.Netlists.{Netlist, first_gate, net_count}
 use Rattle.net_ir.specs.Writing.{IsWritable}
-use Rattle.net_ir.proofs.Numbered.{All-numbered}
-use Rattle.net_ir.proofs.Nets.{net_cases}
+use Rattle.net_ir.proofs.Exports.{All-numbered, net_cases}
 use Rattle.expr_text.specs.NetNames.{state_name, gate_name, gate_names}
 use Rattle.expr_text.specs.Trees.{Expr}
-use Rattle.expr_text.proofs.Naming.{state_names, any_gate, any_output, gate-low}
-use Rattle.expr_text.proofs.Operators.{plain-op}
-use Rattle.expr_text.proofs.Saying.{says-whole}
+use Rattle.expr_text.proofs.Exports.{state_names, any_gate, any_output, gate-low, plain-op, says-whole}
 use Rattle.vlog_text.specs.Trees.{Input, Output, Reg, Wire, Declaration, Assign}
 use Rattle.vlog_text.specs.Grammar.{SpellsText}
 use Rattle.vlog_text.specs.Texts.{Describes, module_said}

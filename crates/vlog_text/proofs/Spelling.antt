@@ -8,9 +8,8 @@ use Rattle.read_rules.specs.Languages.{Empty, One as Single, Loop, Many, Parted}
 use Rattle.expr_text.specs.Trees.{Expr}
 use Rattle.expr_text.specs.Grammar.{Written}
 use Rattle.expr_text.proofs.Saying as saying
-use Rattle.expr_text.proofs.Saying.{says-then, says-lines}
+use Rattle.expr_text.proofs.Exports.{says-then, says-lines, plain_written, meant-plain, nesting-plain, spells-many}
 use Rattle.expr_text.proofs.Spelling as spelling
-use Rattle.expr_text.proofs.Spelling.{plain_written, meant-plain, nesting-plain, spells-many}
 use Rattle.vlog_text.specs.Trees.{Declaration, Initial, Assign, Next, Source}
 use Rattle.vlog_text.specs.Tokens.{Kind, ModuleWord, InitialWord, AssignWord, AlwaysWord, PosedgeWord, BeginWord}
 use Rattle.vlog_text.specs.Tokens.{EndWord, EndmoduleWord, LeftParenthesis, RightParenthesis, Comma, Semicolon, Equals}

@@ -6,7 +6,7 @@ use Rattle.est_ast.specs.FlatViews.{flat_stmt_of, flat_case_of}
 use Rattle.est_ast.specs.Trees as trees
 use Rattle.est_ast.specs.Trees.{stmts, cases}
 use Rattle.est_ast.specs.Views.{stmt_of, form_of, case_of, part_of, module_of}
-use Rattle.est_ast.proofs.FlatRows.{flat_form-Seq, flat_form-Par, flat_form-AwaitCase, flat_form-PresentCase, flat_form-AbortCase}
+use Rattle.est_ast.proofs.Exports.{flat_form-Seq, flat_form-Par, flat_form-AwaitCase, flat_form-PresentCase, flat_form-AbortCase}
 use Rattle.est_expand.specs.Faults.{TooDeep}
 use Rattle.est_expand.specs.Scopes.{binding}
 use Rattle.est_expand.specs.Flattening.{each, each_case, part, row, flattening}

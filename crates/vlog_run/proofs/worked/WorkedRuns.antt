@@ -4,7 +4,7 @@ use Rattle.std.proofs.Common.{◌≡◌, ℕ, ◌+◌, ◌<◌, zero, suc, Bool,
 use Rattle.est_base.specs.Items.{Item, Event, Reset}
 use Rattle.expr_text.specs.Trees.{Expr, Exprs, Name, Const, Not, And, Or, NoExprs, MoreExprs}
 use Rattle.machines.specs.Machines.{IsRun}
-use Rattle.net_ir.proofs.NameLists.{looked_up}
+use Rattle.net_ir.proofs.Exports.{looked_up}
 use Rattle.trace_run.specs.Machines.{answer_lines}
 use Rattle.vlog_text.specs.Machine.{vlog_machine}
 use Rattle.vlog_text.specs.Trees.{Module}

@@ -1,5 +1,5 @@
 use Rattle.blif_text.specs.Plain.{plain_circuit}
-use Rattle.blif_text.proofs.Described.{described-sound}
+use Rattle.blif_text.proofs.Exports.{described-sound}
 use Rattle.blif_net.proofs.Netlists.{named-net}
 use Rattle.blif_net.proofs.assembling.joined_net.Goals as goal
 

@@ -3,7 +3,7 @@ use Rattle.est_base.specs.declared.indices.NetId.{NetId}
 use Rattle.blif_text.specs.OutputNames.{paused_word}
 use Rattle.blif_text.specs.Plain.{plain_circuit}
 use Rattle.blif_text.specs.Runs.{driven_names}
-use Rattle.blif_text.proofs.Described.{described-sound}
+use Rattle.blif_text.proofs.Exports.{described-sound}
 use Rattle.blif_run.specs.CircuitAnswers.{listed_count}
 use Rattle.step_run.specs.Slots.{slot_in}
 use Rattle.blif_net.proofs.Netlists.{paused-at, paused-slot, listed-slots, source-slots}

@@ -1,8 +1,8 @@
 use Rattle.std.proofs.Common.{sym, subst, ◌∙◌}
 use Rattle.net_ir.specs.Netlists.{Netlist}
 use Rattle.blif_text.specs.Plain.{plain_circuit}
-use Rattle.blif_text.proofs.Described.{described-sound}
-use Rattle.blif_run.proofs.CircuitEquations.{names-are}
+use Rattle.blif_text.proofs.Exports.{described-sound}
+use Rattle.blif_run.proofs.Exports.{names-are}
 use Rattle.blif_net.specs.Conversions.{IsNetOf}
 use Rattle.blif_net.proofs.Netlists.{net-is}
 use Rattle.blif_net.proofs.conversion.made_net.Goals as goal

@@ -1,6 +1,6 @@
 use Rattle.std.proofs.Common.{◌∙◌}
 use Rattle.blif_text.specs.Plain.{plain_circuit}
-use Rattle.blif_run.proofs.CircuitEquations.{names-are}
+use Rattle.blif_run.proofs.Exports.{names-are}
 use Rattle.blif_net.proofs.conversion.net_of_circuit.Goals as goal
 
 pub check_interface-requires : goal.check_interface-requires

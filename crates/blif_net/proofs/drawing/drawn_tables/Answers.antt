@@ -4,14 +4,13 @@ use Rattle.std.specs.declared.vec.Vec.{Vec}
 use Rattle.std.proofs.lemmas.List.{length-map, take_all}
 use Rattle.std.proofs.lemmas.List.Elements.{recursion_from_All}
 use Rattle.blif_text.specs.Plain.{plain_circuit, plain_table, plain_row}
-use Rattle.blif_text.proofs.Described.{described-sound}
+use Rattle.blif_text.proofs.Exports.{described-sound}
 use Rattle.step_run.specs.Solvers.{ordered_steps}
 use Rattle.step_run.specs.Steps.{Step}
-use Rattle.step_run.proofs.Resolving.{reads-within, parts-within}
+use Rattle.step_run.proofs.Exports.{reads-within, parts-within}
 use Rattle.blif_run.specs.Loops.{equation_of, equations_of}
 use Rattle.blif_run.specs.Plans.{given_names}
-use Rattle.blif_run.proofs.CircuitEquations.{sound-equations}
-use Rattle.blif_run.proofs.Resolving.{tables-count}
+use Rattle.blif_run.proofs.Exports.{sound-equations, tables-count}
 use Rattle.blif_net.specs.Tables.{Settles, drawn_step, rows_step}
 use Rattle.blif_net.proofs.Slots.{steps-more, step-is, settles-as, table-steps}
 use Rattle.blif_net.proofs.drawing.drawn_tables.Goals as goal

@@ -6,7 +6,7 @@ use Rattle.est_base.specs.Names.{is_same_name}
 use Rattle.net_ir.specs.NameLists.{is_among, first_again}
 use Rattle.blif_text.specs.Circuits.{driven_by, driven_again, not_driven}
 use Rattle.blif_read.specs.PlainStatements.{plain_statement, FoundFault, DriverFault}
-use Rattle.net_ir.proofs.NameLists.{find-same}
+use Rattle.net_ir.proofs.Exports.{find-same}
 use Rattle.blif_read.proofs.DriverFaults.{DriverFault-found}
 use Rattle.blif_read.proofs.drivers.check_drivers.Goals as goal
 

@@ -2,7 +2,7 @@ use Rattle.std.proofs.Common.{◌≢◌, ℕ, ◌-◌, ◌≤◌, List, [], ◌�
 use Rattle.std.proofs.lemmas.Bool.{eqb-false}
 use Rattle.std.proofs.lemmas.List.{length-map, length-take}
 use Rattle.blif_text.specs.Statements.{names_of}
-use Rattle.blif_text.proofs.SaidNames.{names_of-last, map-last}
+use Rattle.blif_text.proofs.Exports.{names_of-last, map-last}
 use Rattle.blif_read.proofs.statements.names.Goals as goal
 
 pub returns : goal.returns

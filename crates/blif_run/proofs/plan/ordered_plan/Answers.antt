@@ -4,9 +4,9 @@ use Rattle.std.specs.declared.vec.Vec.{Vec}
 use Rattle.std.proofs.lemmas.List.{length-map}
 use Rattle.std.proofs.lemmas.List.Elements.{All-from_recursion}
 use Rattle.blif_text.specs.Plain.{plain_circuit, plain_table}
-use Rattle.blif_text.proofs.Described.{described-sound}
+use Rattle.blif_text.proofs.Exports.{described-sound}
 use Rattle.step_run.specs.Plans.{Makes}
-use Rattle.step_run.proofs.Resolving.{each-name, reads-within, parts-within}
+use Rattle.step_run.proofs.Exports.{each-name, reads-within, parts-within}
 use Rattle.blif_run.specs.Loops.{equation_of, equations_of}
 use Rattle.blif_run.specs.Plans.{given_names}
 use Rattle.blif_run.specs.Truths.{step_at}

@@ -1,10 +1,10 @@
 use Rattle.std.proofs.Common.{sym, ap, ◌∙◌, length, map, arith}
 use Rattle.std.proofs.lemmas.List.{length-map}
-use Rattle.net_ir.proofs.NameLists.{once-differ}
+use Rattle.net_ir.proofs.Exports.{once-differ}
 use Rattle.blif_text.specs.Plain.{plain_circuit, plain_table}
 use Rattle.blif_text.specs.Runs.{driven_names}
-use Rattle.blif_text.proofs.Described.{described-sound}
-use Rattle.step_run.proofs.Places.{driven-count}
+use Rattle.blif_text.proofs.Exports.{described-sound}
+use Rattle.step_run.proofs.Exports.{driven-count}
 use Rattle.blif_run.specs.Loops.{equation_of, equations_of}
 use Rattle.blif_run.specs.Plans.{given_names, all_names}
 use Rattle.blif_run.proofs.CircuitEquations.{names-are, reads-same}

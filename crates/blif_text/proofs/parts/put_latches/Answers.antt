@@ -1,6 +1,6 @@
 use Rattle.std.proofs.Common.{◌<◌, subst, ◌∙◌}
 use Rattle.net_ir.specs.Runs.{netlist_of}
-use Rattle.net_text.proofs.Joined.{puts-numbered, numbered-rest}
+use Rattle.net_text.proofs.Exports.{puts-numbered, numbered-rest}
 use Rattle.blif_text.specs.Parts.{from_inputs, latch_text}
 use Rattle.blif_text.specs.Written.{net_latch}
 use Rattle.blif_text.proofs.parts.put_latches.Goals as goal

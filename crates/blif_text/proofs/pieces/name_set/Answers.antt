@@ -1,7 +1,7 @@
 use Rattle.std.proofs.Common.{cond, true, take, sym, ap, ◌∙◌, arith}
 use Rattle.est_base.specs.Names.{is_same_name}
 use Rattle.net_ir.specs.NameLists.{is_among}
-use Rattle.net_ir.proofs.NameLists.{is_among-more}
+use Rattle.net_ir.proofs.Exports.{is_among-more}
 use Rattle.blif_text.proofs.pieces.name_set.Goals as goal
 
 -- the look-up of a name after a name is put in, by that of a key with its bytes

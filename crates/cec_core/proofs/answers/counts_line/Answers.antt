@@ -1,7 +1,7 @@
 use Rattle.std.proofs.Common.{rules, ◌≡◌, length, ap, ◌∙◌}
 use Rattle.std.specs.Prelude.{decimal}
 use Rattle.est_kernel.specs.Plain.{program_of}
-use Rattle.cec_compile.proofs.GraphFacts.{wire_count}
+use Rattle.cec_compile.proofs.Exports.{wire_count}
 use Rattle.cec_core.proofs.Listings.{size_counted, instances_counted, counts_pieces}
 use Rattle.cec_core.proofs.answers.counts_line.Goals as goal
 

@@ -1,5 +1,5 @@
 use Rattle.std.proofs.Common.{length, refl, sym, ap, ◌∙◌}
-use Rattle.est_base.proofs.Gains.{gains-nothing}
+use Rattle.est_base.proofs.Exports.{gains-nothing}
 use Rattle.cec_core.proofs.RunnerReactions.{outputs_wide}
 use Rattle.cec_core.proofs.reactions.react_to_event.Goals as goal
 

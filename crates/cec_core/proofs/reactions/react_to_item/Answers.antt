@@ -3,8 +3,7 @@ use Rattle.est_base.specs.SinkChanges.{change}
 use Rattle.trace_io.specs.Answers.{Answers, reading_of}
 use Rattle.trace_io.specs.Traces.{Reading}
 use Rattle.trace_io.specs.declared.faults.TraceError.TheVariants as errors
-use Rattle.trace_run.proofs.Groups.{Fits, fits-next}
-use Rattle.trace_run.proofs.Stepping.{step-end, step-stop, untouched}
+use Rattle.trace_run.proofs.Exports.{Fits, fits-next, step-end, step-stop, untouched}
 use Rattle.trace_run.specs.Steps.{IsStep}
 use Rattle.trace_run.specs.declared.running.RunFault.TheVariants.{Trace}
 use Rattle.cec_core.specs.ReactionSteps.{IsReaction, RunnerShows}

@@ -4,7 +4,7 @@ use Rattle.est_kernel.specs.Plain.{given_count, outgoing_count, program_of}
 use Rattle.grc_graph.specs.declared.graph.Graph.{Graph}
 use Rattle.trace_io.specs.Traces.{Reading}
 use Rattle.trace_io.specs.Answers.{reading_of}
-use Rattle.trace_run.proofs.Stepping.{run-ends}
+use Rattle.trace_run.proofs.Exports.{run-ends}
 use Rattle.cec_core.specs.ReactionSteps.{IsReactionStep, RunnerShows}
 use Rattle.cec_core.proofs.RunnerReactions.{none_shown, nothing_yet, one_item_more, run_cut_off, shown_so_far}
 use Rattle.cec_core.proofs.reactions.run_reactions.Goals as goal

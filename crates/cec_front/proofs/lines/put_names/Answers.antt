@@ -1,6 +1,6 @@
 use Rattle.std.proofs.Common.{◌++◌, codes, subst}
 use Rattle.est_base.specs.Writing.{Stops}
-use Rattle.est_base.proofs.Gains.{stops-behind, pieces_at}
+use Rattle.est_base.proofs.Exports.{stops-behind, pieces_at}
 use Rattle.cec_front.proofs.lines.put_names.Goals as goal
 
 pub returns-in-Err : goal.returns-in-Err

@@ -1,6 +1,6 @@
 use Rattle.std.proofs.Common.{◌++◌, codes, flat_map}
-use Rattle.est_base.proofs.Gains.{stops-behind}
-use Rattle.text_io.proofs.Lines.{wrote-behind, stops-early}
+use Rattle.est_base.proofs.Exports.{stops-behind}
+use Rattle.text_io.proofs.Exports.{wrote-behind, stops-early}
 use Rattle.cec_front.proofs.Written.{line_parts}
 use Rattle.cec_front.proofs.lines.put_recursive.Goals as goal
 

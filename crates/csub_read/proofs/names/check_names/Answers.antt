@@ -4,7 +4,7 @@ use Rattle.std.specs.HashSet.{contains_by}
 use Rattle.std.proofs.lemmas.Result.{err_from_is_err_and, on_ok_weaker, IfErr-weaker}
 use Rattle.est_base.specs.Names.{is_same_name}
 use Rattle.net_ir.specs.NameLists.{is_among, first_again}
-use Rattle.net_ir.proofs.NameLists.{find-same}
+use Rattle.net_ir.proofs.Exports.{find-same}
 use Rattle.csub_text.specs.Names.{declared, declared_twice, is_wrong, name_found, uses, undeclared, unset}
 use Rattle.csub_text.specs.Views.{program_of}
 use Rattle.csub_read.specs.NameTests.{use_of, wrong_use, NamesFault, UnsetFault}

@@ -1,6 +1,6 @@
 use Rattle.std.proofs.Common.{ℕ, List, [], get_or, sym, ap, ◌∙◌, arith, Bor, Some}
 use Rattle.std.proofs.lemmas.Bool.{not-true, not-false}
-use Rattle.net_ir.proofs.NameLists.{members-next, once-next, again-here}
+use Rattle.net_ir.proofs.Exports.{members-next, once-next, again-here}
 use Rattle.csub_read.proofs.names.name_set.Goals as goal
 
 pub returns-then-not-branch-clause-fault : goal.returns-then-not-branch-clause-fault

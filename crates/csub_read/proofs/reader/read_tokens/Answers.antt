@@ -8,7 +8,7 @@ use Rattle.csub_read.specs.Reading.{GivesKinds, parts_in, makes_expr, text_rule}
 use Rattle.csub_read.specs.Tokens.{kind_of, kind_in}
 use Rattle.csub_text.specs.Tokens.{tokens}
 use Rattle.expr_text.specs.Plain.{token_by}
-use Rattle.expr_text.proofs.Places.{kinds-are, left-low, fault-place}
+use Rattle.expr_text.proofs.Exports.{kinds-are, left-low, fault-place}
 use Rattle.csub_read.proofs.ReaderLaws.{spells-by, least-by}
 use Rattle.csub_read.proofs.reader.read_tokens.Goals as goal
 

@@ -5,11 +5,10 @@ use Rattle.csub_text.specs.Names.{declared}
 use Rattle.csub_text.specs.Views.{assign_of, program_of}
 use Rattle.step_run.specs.Slots.{slot_in, memory_in}
 use Rattle.step_run.specs.Plans.{Makes}
-use Rattle.step_run.proofs.Makings.{says-is}
+use Rattle.step_run.proofs.Exports.{says-is, value-is}
 use Rattle.step_run.specs.Expressions.{expr_value}
 use Rattle.csub_run.specs.Plans.{assign_step}
 use Rattle.csub_run.proofs.Machines.{targets-low}
-use Rattle.step_run.proofs.ExprValues.{value-is}
 use Rattle.csub_run.proofs.plan.body_plan.Goals as goal
 
 pub push_assigns-requires-clause-declared : goal.push_assigns-requires-clause-declared

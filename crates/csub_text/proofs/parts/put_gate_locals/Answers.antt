@@ -1,6 +1,6 @@
 use Rattle.std.proofs.Common.{◌<◌, subst, ◌∙◌}
 use Rattle.net_ir.specs.Runs.{netlist_of}
-use Rattle.net_text.proofs.Joined.{puts-numbered, numbered-rest}
+use Rattle.net_text.proofs.Exports.{puts-numbered, numbered-rest}
 use Rattle.expr_text.specs.NetNames.{gate_name}
 use Rattle.csub_text.specs.Parts.{from_next_locals}
 use Rattle.csub_text.specs.Written.{declaration}

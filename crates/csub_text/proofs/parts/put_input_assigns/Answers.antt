@@ -1,6 +1,6 @@
 use Rattle.std.proofs.Common.{◌<◌, subst, ◌∙◌}
 use Rattle.net_ir.specs.Runs.{netlist_of}
-use Rattle.net_text.proofs.Joined.{puts-numbered, numbered-rest}
+use Rattle.net_text.proofs.Exports.{puts-numbered, numbered-rest}
 use Rattle.csub_text.specs.Parts.{from_gate_assigns}
 use Rattle.csub_text.specs.Written.{assign_line, input_assign}
 use Rattle.csub_text.proofs.parts.put_input_assigns.Goals as goal

@@ -1,7 +1,7 @@
 use Rattle.std.proofs.Common.{◌<◌, [], get_or, subst, ◌∙◌}
 use Rattle.std.proofs.lemmas.List.{get_or_default}
 use Rattle.net_ir.specs.Runs.{netlist_of}
-use Rattle.net_text.proofs.Joined.{puts-numbered, numbered-rest}
+use Rattle.net_text.proofs.Exports.{puts-numbered, numbered-rest}
 use Rattle.csub_text.specs.Parts.{from_gate_locals}
 use Rattle.csub_text.specs.Written.{declaration, input_name}
 use Rattle.csub_text.proofs.parts.put_input_locals.Goals as goal

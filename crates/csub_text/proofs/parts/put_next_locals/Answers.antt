@@ -1,8 +1,8 @@
 use Rattle.std.proofs.Common.{◌<◌, ◌∷◌, get_or, subst, ◌∙◌, arith}
 use Rattle.std.proofs.lemmas.List.{get_or_default}
 use Rattle.net_ir.specs.Runs.{netlist_of}
-use Rattle.net_text.proofs.Joined.{puts-numbered, numbered-one, numbered-past}
-use Rattle.expr_text.proofs.Naming.{any_latch}
+use Rattle.net_text.proofs.Exports.{puts-numbered, numbered-one, numbered-past}
+use Rattle.expr_text.proofs.Exports.{any_latch}
 use Rattle.csub_text.specs.Parts.{from_input_assigns}
 use Rattle.csub_text.specs.Written.{declaration, next_name, answer_name}
 use Rattle.csub_text.proofs.parts.put_next_locals.Goals as goal

@@ -1,6 +1,6 @@
 use Rattle.std.proofs.Common.{◌<◌, ◌∷◌, [], subst, ◌∙◌, arith}
 use Rattle.net_ir.specs.Runs.{netlist_of}
-use Rattle.net_text.proofs.Joined.{puts-numbered, numbered-one, numbered-none}
+use Rattle.net_text.proofs.Exports.{puts-numbered, numbered-one, numbered-none}
 use Rattle.csub_text.specs.Trees.{Name}
 use Rattle.csub_text.specs.Written.{assign_line, state_assign, last_lines, answer_name}
 use Rattle.csub_text.proofs.parts.put_state_assigns.Goals as goal

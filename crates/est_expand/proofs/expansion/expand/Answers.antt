@@ -5,8 +5,7 @@ use Rattle.std.proofs.lemmas.Option.{slice_get-get_or}
 use Rattle.est_ast.specs.Trees.{Module}
 use Rattle.est_ast.specs.Views.{module_of}
 use Rattle.est_names.specs.NameFaults.{module_names, interface_faults}
-use Rattle.est_names.proofs.FaultlessModules.{faultless-interface}
-use Rattle.est_names.proofs.MainPlaces.{main_place-within}
+use Rattle.est_names.proofs.Exports.{faultless-interface, main_place-within}
 use Rattle.est_expand.specs.FlatPrograms.{IsNamedModule}
 use Rattle.est_expand.proofs.FlatLaws.{answer-fits, answer-named}
 use Rattle.est_expand.proofs.expansion.expand.Goals as goal

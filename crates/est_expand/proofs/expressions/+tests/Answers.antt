@@ -5,7 +5,7 @@ use Rattle.est_ast.specs.FlatTrees as flat
 use Rattle.est_ast.specs.FlatViews.{flat_expr_of}
 use Rattle.est_ast.specs.Trees.{exprs}
 use Rattle.est_ast.specs.Views.{expr_of}
-use Rattle.est_ast.proofs.FlatRows.{flat_expr-And, flat_expr-Or}
+use Rattle.est_ast.proofs.Exports.{flat_expr-And, flat_expr-Or}
 use Rattle.est_expand.specs.Walks.{on_ok}
 use Rattle.est_expand.specs.Tests.{tests}
 use Rattle.est_expand.proofs.FoundLists.{fault_stays, value_passes, test-And, test-Or, exprs_behind, exprs_behind-step, before_exprs-all}

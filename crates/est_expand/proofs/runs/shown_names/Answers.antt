@@ -1,7 +1,7 @@
 use Rattle.std.proofs.Common.{◌≡◌, ◌+◌, ◌++◌, ◌∷◌, [], map, take, get_or, false, arith}
 use Rattle.std.proofs.lemmas.Grind.{common_steps}
 use Rattle.est_expand.specs.declared.interface.Formal.{Formal}
-use Rattle.est_names.proofs.NameSets.{is_among-put}
+use Rattle.est_names.proofs.Exports.{is_among-put}
 use Rattle.est_expand.specs.Runs.{formal_names}
 use Rattle.est_expand.specs.Views.{formal_of}
 use Rattle.est_expand.proofs.runs.shown_names.Goals as goal

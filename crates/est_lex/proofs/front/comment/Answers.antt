@@ -1,4 +1,4 @@
-use Rattle.est_ast.proofs.Fronts.{line_front, block_front}
+use Rattle.est_ast.proofs.Exports.{line_front, block_front}
 use Rattle.est_lex.proofs.front.comment.Goals as goal
 
 pub returns-in-Some-clause-ok : goal.returns-in-Some-clause-ok

@@ -1,6 +1,6 @@
 use Rattle.std.proofs.Common.{get_or, refl, rules}
 use Rattle.est_ast.specs.Lexemes.{IsSpace}
-use Rattle.est_ast.proofs.Fronts.{space_front, mark_front, IsOther, bad_front}
+use Rattle.est_ast.proofs.Exports.{space_front, mark_front, IsOther, bad_front}
 use Rattle.est_lex.proofs.front.front.Goals as goal
 
 pub returns-then-is_space-clause-ok : goal.returns-then-is_space-clause-ok

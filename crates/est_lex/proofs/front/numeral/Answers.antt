@@ -1,5 +1,5 @@
 use Rattle.std.proofs.Common.{refl, arith}
-use Rattle.est_ast.proofs.Fronts.{number_front, big_front}
+use Rattle.est_ast.proofs.Exports.{number_front, big_front}
 use Rattle.est_lex.proofs.front.numeral.Goals as goal
 
 pub returns-in-Some-clause-ok : goal.returns-in-Some-clause-ok

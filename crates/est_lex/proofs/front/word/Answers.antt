@@ -1,4 +1,4 @@
-use Rattle.est_ast.proofs.Fronts.{reserved_front, ident_front}
+use Rattle.est_ast.proofs.Exports.{reserved_front, ident_front}
 use Rattle.est_lex.proofs.front.word.Goals as goal
 use Rattle.est_lex.proofs.front.word.Goals.{in-Some, in-None+in_ok-from_bytes-in-None}
 

@@ -1,8 +1,7 @@
 use Rattle.std.proofs.Common.{◌∙◌, map}
 use Rattle.std.proofs.lemmas.List.{map-append}
 use Rattle.est_ast.specs.Views.{decl_of}
-use Rattle.read_rules.proofs.Loops.{loop-started}
-use Rattle.read_rules.proofs.Steps.{maybe-some, loop-grown}
+use Rattle.read_rules.proofs.Exports.{loop-started, maybe-some, loop-grown}
 use Rattle.est_parse.specs.Openings.{declaration}
 use Rattle.est_parse.specs.Reading.{decl, decl_step}
 use Rattle.est_parse.proofs.ModuleLaws.{decl-advances}

@@ -4,8 +4,7 @@ use Rattle.est_ast.specs.declared.tokens.Mark.TheVariants as marks
 use Rattle.est_ast.specs.Grammar.{mark}
 use Rattle.est_ast.specs.Views.{relation_of}
 use Rattle.read_rules.specs.Readings.{give}
-use Rattle.read_rules.proofs.Loops.{loop-begun}
-use Rattle.read_rules.proofs.Steps.{optional_or-some, loop-grown}
+use Rattle.read_rules.proofs.Exports.{loop-begun, optional_or-some, loop-grown}
 use Rattle.est_parse.specs.Reading.{list_step, relation}
 use Rattle.est_parse.proofs.ModuleLaws.{relations-advances}
 use Rattle.est_parse.proofs.modules.read_relations.Goals as goal

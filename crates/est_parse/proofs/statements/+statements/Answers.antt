@@ -6,8 +6,7 @@ use Rattle.est_ast.specs.Grammar.{word, mark}
 use Rattle.est_ast.specs.Trees.{Seq, Par, cases}
 use Rattle.est_ast.specs.Views.{stmt_of, case_of}
 use Rattle.read_rules.specs.Readings.{picked, give, on}
-use Rattle.read_rules.proofs.Loops.{loop-begun}
-use Rattle.read_rules.proofs.Steps.{optional_or-some, trailing-some, loop-grown}
+use Rattle.read_rules.proofs.Exports.{loop-begun, optional_or-some, trailing-some, loop-grown}
 use Rattle.est_parse.specs.Parts.{stmt_list}
 use Rattle.est_parse.specs.Openings.{opening}
 use Rattle.est_parse.specs.Reading.{item, line, line_step, whole_step, inside, rules, case_behind, case_step}

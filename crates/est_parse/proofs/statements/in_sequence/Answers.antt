@@ -2,7 +2,7 @@ use Rattle.std.proofs.Common.{◌<◌, length, map, sym, ap, ◌∙◌, arith}
 use Rattle.std.proofs.lemmas.List.{length-map}
 use Rattle.est_ast.specs.Trees.{At, Seq}
 use Rattle.est_ast.specs.Views.{stmt_of}
-use Rattle.est_ast.proofs.Rows.{form-Seq}
+use Rattle.est_ast.proofs.Exports.{form-Seq}
 use Rattle.est_parse.proofs.Lists.{stmt_list-many}
 use Rattle.est_parse.proofs.statements.in_sequence.Goals as goal
 

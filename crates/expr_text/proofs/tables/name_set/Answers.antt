@@ -1,5 +1,5 @@
 use Rattle.std.proofs.Common.{ℕ, List, [], arith, Bor}
-use Rattle.net_ir.proofs.NameLists.{members-next}
+use Rattle.net_ir.proofs.Exports.{members-next}
 use Rattle.expr_text.proofs.tables.name_set.Goals as goal
 
 pub loop-name-preserved : goal.loop-name-preserved

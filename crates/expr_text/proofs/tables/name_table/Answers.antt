@@ -3,7 +3,7 @@ use Rattle.std.specs.HashSet.{contains_by}
 use Rattle.std.proofs.lemmas.Bool.{not-true, not-false, or_from, or_right}
 use Rattle.std.proofs.lemmas.List.{length-map, get_or-map}
 use Rattle.est_base.specs.Names.{is_same_name}
-use Rattle.net_ir.proofs.NameLists.{members-next}
+use Rattle.net_ir.proofs.Exports.{members-next}
 use Rattle.expr_text.proofs.Again.{again-step, again-found, or-more}
 use Rattle.expr_text.proofs.tables.name_table.Goals as goal
 

@@ -1,8 +1,7 @@
 use Rattle.std.proofs.Common.{◌∷◌, ◌∙◌, map, arith}
 use Rattle.std.proofs.lemmas.List.{map-append}
 use Rattle.read_rules.specs.Readings.{give}
-use Rattle.read_rules.proofs.Loops.{loop-begun}
-use Rattle.read_rules.proofs.Steps.{optional_or-some, loop-grown}
+use Rattle.read_rules.proofs.Exports.{loop-begun, optional_or-some, loop-grown}
 use Rattle.expr_tiers.specs.Reading.{list_of, neg, conj, list_step, inside}
 use Rattle.expr_tiers.proofs.Shrinks.{and-advances, or-advances, shorter}
 use Rattle.expr_tiers.proofs.reader.+tiers.Goals as goal

@@ -5,7 +5,7 @@ use Rattle.std.proofs.lemmas.List.Elements.{All-push}
 use Rattle.grc_graph.specs.GraphShapes.{formula_fits}
 use Rattle.grc_graph.specs.Neighbouring.{instances_in, names_in}
 use Rattle.grc_graph.specs.PlainGraphs.{wire_of, formula_of}
-use Rattle.grc_graph.proofs.NeighbourReads.{first_wire}
+use Rattle.grc_graph.proofs.Exports.{first_wire}
 use Rattle.grc_build.specs.Tabled.{program_in}
 use Rattle.grc_build.specs.WireFormulas.{wire_formula}
 use Rattle.grc_build.proofs.WireEquations.{wire_in}

@@ -6,8 +6,7 @@ use Rattle.grc_graph.specs.Nodes as plain
 use Rattle.grc_graph.specs.StatementViews.{binding_of}
 use Rattle.grc_graph.specs.Wires.{status_wire}
 use Rattle.grc_graph.specs.WireTables.{is_local}
-use Rattle.grc_graph.proofs.RowScopes.{HasStatus, EmitShown, program_fits}
-use Rattle.grc_graph.proofs.WireNames.{IsStatus}
+use Rattle.grc_graph.proofs.Exports.{HasStatus, EmitShown, program_fits, IsStatus}
 use Rattle.grc_build.specs.Noding.{IsNodeOf}
 use Rattle.grc_build.specs.Tabled.{program_in, row_in}
 use Rattle.grc_build.proofs.NodeFacts.{path_at, layer_at, through, entered, switched, tested, left, pause_node, present_node, suspend_node, seq_node, par_node}

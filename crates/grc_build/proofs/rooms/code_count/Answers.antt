@@ -1,7 +1,7 @@
 use Rattle.std.proofs.Common.{◌≡◌, ap, sym, ◌∙◌, length, ◌+◌, arith}
 use Rattle.est_base.specs.CodeSet.{members}
 use Rattle.grc_graph.specs.Wires.{codes_below}
-use Rattle.grc_graph.proofs.CodesBelow.{codes_below-none}
+use Rattle.grc_graph.proofs.Exports.{codes_below-none}
 use Rattle.grc_build.proofs.GraphSizes.{codes_counted, one_at_most}
 use Rattle.grc_build.proofs.rooms.code_count.Goals as goal
 

@@ -3,12 +3,11 @@ use Rattle.std.specs.Prelude.{sum_by}
 use Rattle.std.proofs.lemmas.List.{length-map, take_all}
 use Rattle.est_base.specs.declared.bounds.TheConstants.Limits.{WIRES}
 use Rattle.est_kernel.specs.Plain.{program_of, term_of, outgoing_count}
-use Rattle.est_kernel.proofs.ResidualLaws.{trees_are_kernels_lem}
+use Rattle.est_kernel.proofs.Exports.{trees_are_kernels_lem}
 use Rattle.grc_graph.specs.BuiltGraphs.{graph_size}
 use Rattle.grc_graph.specs.PlainInstances.{instance_of, layer_of}
 use Rattle.grc_graph.specs.Wires.{instance_codes}
-use Rattle.grc_graph.proofs.NeighbourReads.{first_instance}
-use Rattle.grc_graph.proofs.RowReads.{statement_read, codes_read, length-statements}
+use Rattle.grc_graph.proofs.Exports.{first_instance, statement_read, codes_read, length-statements}
 use Rattle.grc_build.specs.Rooms.{Leaves, instance_size, size_at}
 use Rattle.grc_build.proofs.GraphSizes.{graph_size_by_instance, size_more, size_within, LiveRead, live_read}
 use Rattle.grc_build.proofs.rooms.room_left.Goals as goal

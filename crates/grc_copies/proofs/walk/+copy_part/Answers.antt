@@ -5,7 +5,7 @@ use Rattle.est_kernel.specs.Plain.{term_of}
 use Rattle.est_kernel.specs.Preorder.{statement_count}
 use Rattle.grc_graph.specs.Instances.{instances, instances_at}
 use Rattle.grc_graph.specs.Layers.{root_if, second_liveness, loop_liveness}
-use Rattle.grc_graph.proofs.CodeReads.{codes_at}
+use Rattle.grc_graph.proofs.Exports.{codes_at}
 use Rattle.grc_copies.specs.Copying.{liveness_of, part_instances, Gains, IsTooMany}
 use Rattle.grc_copies.proofs.Counts.{IsTooMany-after, Gains-append}
 use Rattle.grc_copies.proofs.Positions.{part_shows, second_shows, loop_instances, gains_at, gains_then}

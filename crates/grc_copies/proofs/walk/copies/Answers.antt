@@ -4,7 +4,7 @@ use Rattle.est_kernel.specs.Plain.{term_of}
 use Rattle.grc_graph.specs.Layers.{body_liveness, root_if}
 use Rattle.grc_graph.specs.Instances.{body_instances}
 use Rattle.grc_graph.specs.PlainInstances.{instance_of}
-use Rattle.grc_graph.proofs.CodeReads.{codes_of_body, codes_at, statement_count-le}
+use Rattle.grc_graph.proofs.Exports.{codes_of_body, codes_at, statement_count-le}
 use Rattle.grc_copies.specs.Copying.{Gains}
 use Rattle.grc_copies.proofs.Counts.{length-gained}
 use Rattle.grc_copies.proofs.Positions.{body_shows, fault_of, gains_at, too_many_at}

@@ -3,15 +3,14 @@ use Rattle.std.specs.Prelude.{flat_map}
 use Rattle.std.proofs.lemmas.List.{append-nil, map_more, flat_map_more, get_or_default, take_all}
 use Rattle.est_kernel.specs.Plain.{Program, program_of}
 use Rattle.est_kernel.specs.Preorder.{statement_count}
-use Rattle.est_kernel.proofs.ResidualLaws.{trees_are_kernels_lem}
+use Rattle.est_kernel.proofs.Exports.{trees_are_kernels_lem}
 use Rattle.grc_graph.specs.declared.instances.Instance.{Instance}
 use Rattle.grc_graph.specs.declared.instances.Layer.TheVariants as layers
 use Rattle.grc_graph.specs.Edges.{edges_at}
 use Rattle.grc_graph.specs.Instances.{body_instances}
 use Rattle.grc_graph.specs.PlainInstances.{instance_of, layer_of}
 use Rattle.grc_graph.specs.Rows.{program_rows, row_at}
-use Rattle.grc_graph.proofs.NeighbourReads.{path_within}
-use Rattle.grc_graph.proofs.RowReads.{statement_read, length-statements}
+use Rattle.grc_graph.proofs.Exports.{path_within, statement_read, length-statements}
 use Rattle.grc_dep.specs.InstanceEdges.{instance_edges}
 use Rattle.grc_dep.specs.Found.{found_by}
 use Rattle.grc_dep.proofs.Founds.{found_none, pushed_2}

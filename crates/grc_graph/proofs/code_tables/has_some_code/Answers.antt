@@ -1,8 +1,8 @@
 use Rattle.std.proofs.Common.{sym, ◌∙◌, ⊎_elim, arith}
 use Rattle.std.proofs.lemmas.Bool.{cases_lt}
 use Rattle.est_base.specs.CodeSet.{members}
-use Rattle.est_base.proofs.NoCodes.{upto-none}
-use Rattle.est_kernel.proofs.Sets.{upto-in}
+use Rattle.est_base.proofs.Exports.{upto-none}
+use Rattle.est_kernel.proofs.Exports.{upto-in}
 use Rattle.grc_graph.proofs.code_tables.has_some_code.Goals as goal
 
 pub returns-then-has : goal.returns-then-has

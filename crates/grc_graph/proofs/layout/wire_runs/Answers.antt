@@ -4,7 +4,7 @@ use Rattle.est_base.specs.declared.bounds.TheConstants.Limits.{WIRES}
 use Rattle.est_base.specs.CodeSet.{members}
 use Rattle.est_kernel.specs.Plain.{program_of, term_of, outgoing_count}
 use Rattle.est_kernel.specs.Preorder.{statement_count}
-use Rattle.est_kernel.proofs.ResidualLaws.{trees_are_kernels_lem}
+use Rattle.est_kernel.proofs.Exports.{trees_are_kernels_lem}
 use Rattle.grc_graph.specs.declared.wires.Wire.TheVariants.{Out}
 use Rattle.std.specs.List.{range_with_len}
 use Rattle.grc_graph.specs.PlainGraphs.{instance_at, wire_of}

@@ -4,7 +4,7 @@ use Rattle.est_base.specs.declared.indices.WireId.{WireId}
 use Rattle.grc_graph.specs.declared.formulas.Formula.TheVariants.{Const}
 use Rattle.grc_graph.specs.GraphShapes.{formula_fits}
 use Rattle.grc_graph.specs.PlainGraphs.{formula_of, instances_of, names_of}
-use Rattle.grc_graph.proofs.WirePlaces.{length-names}
+use Rattle.grc_graph.proofs.Exports.{length-names}
 use Rattle.grc_react.specs.Evaluations.{formula_under}
 use Rattle.grc_react.proofs.Steps.{Solving, solving-begun, solving-step, solving-done, known-along}
 use Rattle.grc_react.proofs.evaluation.solve.Goals as goal

@@ -1,10 +1,10 @@
 use Rattle.std.proofs.Common.{sym, subst}
 use Rattle.est_kernel.specs.Plain.{program_of, term_of}
-use Rattle.est_kernel.proofs.ResidualLaws.{trees_are_kernels_lem}
+use Rattle.est_kernel.proofs.Exports.{trees_are_kernels_lem}
 use Rattle.grc_graph.specs.SelectionTrees.{body_leaves}
-use Rattle.grc_sem.proofs.Premises.{program_kernel}
+use Rattle.grc_sem.proofs.Exports.{program_kernel}
 use Rattle.grc_solutions.specs.GraphWires.{Differ}
-use Rattle.grc_solutions.proofs.WireNames.{wires_differ_lem}
+use Rattle.grc_solutions.proofs.Exports.{wires_differ_lem}
 use Rattle.grc_words.specs.Occasions.{state_of}
 use Rattle.grc_react.proofs.OrderRanks.{edges-up}
 use Rattle.grc_react.proofs.Results.{Premises, start-leaves, begun-state, walked, constructive}

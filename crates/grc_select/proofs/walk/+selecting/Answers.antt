@@ -8,7 +8,7 @@ use Rattle.grc_graph.specs.declared.trees.SelForm.TheVariants.{Excl, Pass, Par}
 use Rattle.grc_graph.specs.CodeTables.{CodesFrom, set_at}
 use Rattle.grc_graph.specs.Layers.{can_pass}
 use Rattle.grc_graph.specs.SelectionTrees.{Parallel, resumes, second_resumes, subtree_if, tree_nodes, leaf_paths}
-use Rattle.grc_graph.proofs.CodeReads.{codes_at}
+use Rattle.grc_graph.proofs.Exports.{codes_at}
 use Rattle.grc_select.proofs.Growth.{one_over, two_over, grows_at, passing_grown, two_grown, test_grown, codes_of_two}
 use Rattle.grc_select.proofs.walk.+selecting.Goals as goal
 

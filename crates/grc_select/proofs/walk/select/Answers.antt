@@ -4,8 +4,7 @@ use Rattle.est_kernel.specs.Preorder.{statement_count}
 use Rattle.est_kernel.specs.StaticCodes.{has_code}
 use Rattle.grc_graph.specs.SelectionTrees.{body_tree, body_leaves, resumes, tree_nodes, leaf_paths}
 use Rattle.grc_graph.specs.TreeForms.{node_of}
-use Rattle.grc_graph.proofs.CodeReads.{codes_of_body, codes_at, statement_count-le}
-use Rattle.grc_graph.proofs.TreeLaws.{tree_nests, tree_numbers}
+use Rattle.grc_graph.proofs.Exports.{codes_of_body, codes_at, statement_count-le, tree_nests, tree_numbers}
 use Rattle.grc_select.proofs.Growth.{body_grown}
 use Rattle.grc_select.proofs.walk.select.Goals as goal
 

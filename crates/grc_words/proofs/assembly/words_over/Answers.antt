@@ -1,4 +1,4 @@
-use Rattle.est_kernel.proofs.ResidualLaws.{trees_are_kernels_lem}
+use Rattle.est_kernel.proofs.Exports.{trees_are_kernels_lem}
 use Rattle.grc_words.specs.declared.table.Words.{Words}
 use Rattle.grc_words.proofs.Whole.{Made, words-are, rows-few}
 use Rattle.grc_words.proofs.assembly.words_over.Goals as goal

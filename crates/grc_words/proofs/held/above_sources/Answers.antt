@@ -2,7 +2,7 @@ use Rattle.std.proofs.Common.{◌≡◌, ℕ, ◌<◌, List, Option, Some, None,
 use Rattle.std.specs.Prelude.{Contains}
 use Rattle.std.proofs.lemmas.List.{get_or_default}
 use Rattle.est_kernel.specs.Plain.{program_of, term_of}
-use Rattle.est_kernel.proofs.ResidualLaws.{trees_are_kernels_lem}
+use Rattle.est_kernel.proofs.Exports.{trees_are_kernels_lem}
 use Rattle.grc_graph.specs.declared.graph.Graph.{Graph}
 use Rattle.grc_graph.specs.declared.neighbours.Neighbours.{Neighbours}
 use Rattle.grc_graph.specs.declared.statements.Statement.{Statement}
@@ -12,7 +12,7 @@ use Rattle.grc_graph.specs.Neighbouring.{instances_in}
 use Rattle.grc_graph.specs.PlainInstances.{instance_of, layer_of}
 use Rattle.grc_graph.specs.Statements.{Listed}
 use Rattle.grc_graph.specs.StatementViews.{entry_view}
-use Rattle.grc_graph.proofs.RowReads.{length-statements}
+use Rattle.grc_graph.proofs.Exports.{length-statements}
 use Rattle.grc_words.specs.Building.{with_both, both_source}
 use Rattle.grc_words.specs.Enclosures.{around}
 use Rattle.grc_words.specs.Holdings.{AreListed, IsLive, LastsSaid}

@@ -1,7 +1,7 @@
 use Rattle.std.proofs.Common.{◌≡◌, ℕ, ◌+◌, ◌<◌, List, [], ◌∷◌, ◌++◌, length, slice_index_or, sym, ap, ◌∙◌, subst, arith}
 use Rattle.std.proofs.lemmas.List.{get_or-map, length-map}
 use Rattle.est_kernel.specs.Plain.{program_of}
-use Rattle.est_kernel.proofs.ResidualLaws.{trees_are_kernels_lem}
+use Rattle.est_kernel.proofs.Exports.{trees_are_kernels_lem}
 use Rattle.grc_graph.specs.declared.graph.Graph.{Graph}
 use Rattle.grc_graph.specs.declared.instances.Instance as declared
 use Rattle.grc_graph.specs.declared.neighbours.Neighbours.{Neighbours}
@@ -9,8 +9,7 @@ use Rattle.grc_graph.specs.declared.statements.Statement.{Statement}
 use Rattle.grc_graph.specs.Layers.{Resumed}
 use Rattle.grc_graph.specs.PlainGraphs.{instances_of, instance_at}
 use Rattle.grc_graph.specs.PlainInstances.{instance_of}
-use Rattle.grc_graph.proofs.RowReads.{length-statements}
-use Rattle.grc_graph.proofs.WireNames.{LiveAt}
+use Rattle.grc_graph.proofs.Exports.{length-statements, LiveAt}
 use Rattle.grc_words.specs.Holdings.{AreListed, HoldingsMade}
 use Rattle.grc_words.proofs.Beside.{own-layer}
 use Rattle.grc_words.proofs.HoldingSteps.{holdings-begun, holdings-now, holdings-step}

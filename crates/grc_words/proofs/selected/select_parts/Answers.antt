@@ -4,7 +4,7 @@ use Rattle.grc_graph.specs.declared.graph.Graph.{Graph}
 use Rattle.grc_graph.specs.declared.statements.Statement.{Statement}
 use Rattle.grc_graph.specs.Statements.{program_listed}
 use Rattle.grc_graph.specs.StatementViews.{view_of}
-use Rattle.grc_graph.proofs.RowReads.{statement_read, length-statements}
+use Rattle.grc_graph.proofs.Exports.{statement_read, length-statements}
 use Rattle.grc_words.specs.declared.selected.Parts.{Parts}
 use Rattle.grc_words.specs.declared.selected.Parts.TheVariants as kinds
 use Rattle.std.proofs.Common.{Vec, Global}

@@ -1,7 +1,7 @@
 use Rattle.std.proofs.Common.{◌≡◌, length, sym, subst, arith}
 use Rattle.std.proofs.lemmas.List.{with_items_is}
 use Rattle.est_kernel.specs.Plain.{program_of}
-use Rattle.grc_graph.proofs.RowReads.{length-statements}
+use Rattle.grc_graph.proofs.Exports.{length-statements}
 use Rattle.grc_words.specs.Choosing.{SelectedMade}
 use Rattle.grc_words.proofs.selected.selected_sources.Goals as goal
 

@@ -1,9 +1,9 @@
 use Rattle.std.proofs.Common.{◌+◌, ◌++◌, map, take, drop, ap, arith, ◌∙◌, append_assoc}
 use Rattle.net_ir.specs.Runs.{netlist_of}
 use Rattle.net_text.specs.Parts.{joined}
-use Rattle.net_text.proofs.Joined.{few-items}
+use Rattle.net_text.proofs.Exports.{few-items}
 use Rattle.csub_text.specs.Parts.{net_parts}
-use Rattle.csub_text.proofs.Joins.{few-parts}
+use Rattle.csub_text.proofs.Exports.{few-parts}
 use Rattle.guard_owners.specs.Blocks.{groups, groups_text}
 use Rattle.guard_owners.specs.Usages.{owner_in}
 use Rattle.guard_owners.proofs.BlockTexts.{gates-within, blocks-written}

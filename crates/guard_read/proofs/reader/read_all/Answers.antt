@@ -5,7 +5,7 @@ use Rattle.csub_read.specs.Reading.{GivesKinds}
 use Rattle.csub_read.specs.Tokens.{kind_of, kind_in}
 use Rattle.csub_guard.specs.Grammar.{IsText}
 use Rattle.csub_guard.specs.Tokens.{tokens}
-use Rattle.expr_text.proofs.Places.{kinds-are, left-low, fault-place}
+use Rattle.expr_text.proofs.Exports.{kinds-are, left-low, fault-place}
 use Rattle.read_rules.specs.Readings.{whole}
 use Rattle.guard_read.specs.Reading.{program_in, program_rule}
 use Rattle.guard_read.proofs.ReaderLaws.{spells-program, least-by}

@@ -1,12 +1,11 @@
 use Rattle.std.proofs.Common.{◌∙◌, map, sym}
 use Rattle.std.proofs.lemmas.List.{map-append}
 use Rattle.csub_read.specs.Tokens.{kind_in}
-use Rattle.expr_text.proofs.Images.{shorter, list-ended}
+use Rattle.expr_text.proofs.Exports.{shorter, list-ended}
 use Rattle.guard_read.specs.Reading.{builds_expr, piece_in, piece_step}
 use Rattle.guard_read.proofs.Makers.{pieces-mean}
 use Rattle.guard_read.proofs.PieceSteps.{piece-next, piece-none}
-use Rattle.read_rules.proofs.Loops.{loop-started}
-use Rattle.read_rules.proofs.Steps.{loop-grown}
+use Rattle.read_rules.proofs.Exports.{loop-started, loop-grown}
 use Rattle.guard_read.proofs.text.read_pieces.Goals as goal
 
 pub pieces-init : goal.pieces-init

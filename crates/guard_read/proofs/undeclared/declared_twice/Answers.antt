@@ -4,7 +4,7 @@ use Rattle.std.specs.List.{list_any}
 use Rattle.csub_guard.specs.Names.{declared}
 use Rattle.csub_guard.specs.Views.{program_of}
 use Rattle.est_base.specs.Names.{is_same_name}
-use Rattle.expr_text.proofs.Again.{again-first}
+use Rattle.expr_text.proofs.Exports.{again-first}
 use Rattle.expr_text.specs.NameTables.{again_from}
 use Rattle.guard_read.proofs.undeclared.declared_twice.Goals as goal
 

@@ -1,6 +1,6 @@
 use Rattle.std.proofs.Common.{◌+◌, sym, subst, arith}
 use Rattle.est_kernel.specs.Plain.{term_of}
-use Rattle.grc_graph.proofs.CodeReads.{statement_count-le}
+use Rattle.grc_graph.proofs.Exports.{statement_count-le}
 use Rattle.guard_regions.specs.Regions.{AreRegionsBefore}
 use Rattle.guard_regions.proofs.RegionReads.{one-more}
 use Rattle.guard_regions.proofs.region_list.regions.Goals as goal

@@ -4,7 +4,7 @@ use Rattle.std.proofs.lemmas.Grind.{common_steps}
 use Rattle.net_ir.specs.declared.netlist.Gate.{Gate}
 use Rattle.net_ir.specs.declared.netlist.Op.TheVariants.{Not}
 use Rattle.net_ir.specs.Gates.{carried}
-use Rattle.net_ir.proofs.Building.{ReadsLower-push, carried-push, all_differ-rising}
+use Rattle.net_ir.proofs.Exports.{ReadsLower-push, carried-push, all_differ-rising}
 use Rattle.low_rows.proofs.worked_nets.negations.Goals as goal
 
 pub loop-k-preserved : goal.loop-k-preserved

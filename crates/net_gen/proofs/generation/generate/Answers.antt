@@ -1,6 +1,6 @@
 use Rattle.std.proofs.Common.{arith}
 use Rattle.std.specs.Prelude.{map}
-use Rattle.est_kernel.proofs.ResidualLaws.{trees_are_kernels_lem}
+use Rattle.est_kernel.proofs.Exports.{trees_are_kernels_lem}
 use Rattle.grc_graph.specs.PlainGraphs.{formula_of, instances_of, names_of}
 use Rattle.net_gen.proofs.SizeBounds.{gates_few}
 use Rattle.net_gen.proofs.generation.generate.Goals as goal

@@ -2,7 +2,7 @@ use Rattle.std.proofs.Common.{◌≡◌, ◌<◌, true, length, slice_index_or, 
 use Rattle.std.proofs.lemmas.Option.{get_or_from_slice_get}
 use Rattle.est_base.specs.declared.indices.WireId.{WireId}
 use Rattle.grc_graph.specs.declared.formulas.Formula.TheVariants.{Const}
-use Rattle.grc_graph.proofs.WirePlaces.{length-names}
+use Rattle.grc_graph.proofs.Exports.{length-names}
 use Rattle.net_gen.specs.Drawings.{drawing_of, with_wire}
 use Rattle.net_gen.proofs.WireSteps.{wires-step, order-ready}
 use Rattle.net_gen.proofs.making.make_wires.Goals as goal

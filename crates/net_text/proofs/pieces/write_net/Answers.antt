@@ -1,7 +1,7 @@
 use Rattle.std.proofs.Common.{◌≡◌, ◌<◌, ◌++◌, [], length, take, subst, ap, ◌∙◌}
 use Rattle.std.specs.Prelude.{MatchOption}
 use Rattle.facts.proofs.Lists.{pieces-fall}
-use Rattle.net_ir.proofs.Pieces.{pieces-join}
+use Rattle.net_ir.proofs.Exports.{pieces-join}
 use Rattle.net_text.proofs.pieces.write_net.Goals as goal
 
 pub loop-text-smaller : goal.loop-text-smaller

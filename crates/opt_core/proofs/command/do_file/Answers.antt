@@ -1,8 +1,8 @@
 use Rattle.std.proofs.Common.{subst}
-use Rattle.est_base.proofs.Gains.{appends-nothing}
+use Rattle.est_base.proofs.Exports.{appends-nothing}
 use Rattle.est_base.specs.SinkChanges.{change}
 use Rattle.est_base.specs.declared.bounds.TheConstants.Limits.{TEXT_BYTES}
-use Rattle.text_io.proofs.Reading.{held_read}
+use Rattle.text_io.proofs.Exports.{held_read}
 use Rattle.opt_core.specs.Answers.{IsAnswer}
 use Rattle.opt_core.specs.Outcomes.{SaysOf, LeavesAnswer}
 use Rattle.opt_core.proofs.Outcomes.{read_agrees, read_counts, read_out, unread_agrees, unread_counts, unread_out}

@@ -1,4 +1,4 @@
-use Rattle.text_io.proofs.Lines.{whole_or_front}
+use Rattle.text_io.proofs.Exports.{whole_or_front}
 use Rattle.opt_core.proofs.lines.report.Goals as goal
 
 pub returns : goal.returns

@@ -1,6 +1,6 @@
 use Rattle.std.proofs.Common.{◌≡◌, ◌∙◌, sym, subst}
 use Rattle.est_base.specs.SinkChanges.{change}
-use Rattle.est_base.proofs.Gains.{appends-nothing}
+use Rattle.est_base.proofs.Exports.{appends-nothing}
 use Rattle.opt_core.specs.Answers.{IsAnswer, TellsText}
 use Rattle.opt_core.specs.declared.words.Task.TheVariants.{Check}
 use Rattle.opt_core.proofs.Outcomes.{written_says, written_text, stop_says, stop_leaves}

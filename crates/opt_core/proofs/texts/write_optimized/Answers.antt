@@ -1,5 +1,5 @@
 use Rattle.est_base.specs.SinkChanges.{change}
-use Rattle.est_base.proofs.Gains.{appends-nothing}
+use Rattle.est_base.proofs.Exports.{appends-nothing}
 use Rattle.net_ir.specs.Runs.{netlist_of}
 use Rattle.opt_core.specs.Answers.{IsAnswer}
 use Rattle.opt_core.specs.NetTexts.{IsWritten}

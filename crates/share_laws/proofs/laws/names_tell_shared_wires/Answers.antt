@@ -1,5 +1,5 @@
 use Rattle.grc_share.specs.SharedInstances.{body_sharing}
-use Rattle.grc_share.proofs.SharedWireNames.{named-one_wire, one_wire-named, wires_live}
+use Rattle.grc_share.proofs.Exports.{named-one_wire, one_wire-named, wires_live}
 use Rattle.share_laws.proofs.laws.names_tell_shared_wires.Goals as goal
 
 pub returns : goal.returns

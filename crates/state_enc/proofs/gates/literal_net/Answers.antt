@@ -1,6 +1,6 @@
 use Rattle.std.proofs.Common.{◌+◌, ◌<◌, ◌∙◌, ap, not, arith}
 use Rattle.net_ir.specs.declared.netlist.Op.TheVariants.{Not}
-use Rattle.net_ir.proofs.Values.{value_in-gate_values}
+use Rattle.net_ir.proofs.Exports.{value_in-gate_values}
 use Rattle.state_enc.proofs.GateLaws.{says-given, says-as, says-push, literal-true, literal-false}
 use Rattle.state_enc.proofs.gates.literal_net.Goals as goal
 

@@ -1,6 +1,6 @@
 use Rattle.std.proofs.Common.{sym, ◌∙◌}
 use Rattle.est_base.specs.Names.{is_same_name}
-use Rattle.net_ir.proofs.NameLists.{position-some, position-none}
+use Rattle.net_ir.proofs.Exports.{position-some, position-none}
 use Rattle.step_run.proofs.slots.slot_of.Goals as goal
 
 pub returns-in-Some : goal.returns-in-Some

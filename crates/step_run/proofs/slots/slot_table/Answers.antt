@@ -1,6 +1,6 @@
 use Rattle.std.proofs.Common.{ℕ, ◌<◌, List, [], length, map, arith, Bor}
 use Rattle.std.proofs.lemmas.List.{length-map}
-use Rattle.net_ir.proofs.NameLists.{new-at, keys-next}
+use Rattle.net_ir.proofs.Exports.{new-at, keys-next}
 use Rattle.step_run.proofs.slots.slot_table.Goals as goal
 
 pub loop-name-preserved : goal.loop-name-preserved

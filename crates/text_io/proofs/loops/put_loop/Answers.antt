@@ -1,5 +1,5 @@
 use Rattle.std.proofs.Common.{◌++◌, codes}
-use Rattle.est_base.proofs.Gains.{stops-behind}
+use Rattle.est_base.proofs.Exports.{stops-behind}
 use Rattle.text_io.specs.ErrorLines.{joined_names}
 use Rattle.text_io.proofs.Lines.{wrote-behind, stops-early, regroup}
 use Rattle.text_io.proofs.loops.put_loop.Goals as goal

@@ -1,6 +1,6 @@
 use Rattle.std.proofs.Common.{[], refl, map, ap}
 use Rattle.est_base.specs.Relations.{relation_of}
-use Rattle.est_base.proofs.Gains.{gains-nothing}
+use Rattle.est_base.proofs.Exports.{gains-nothing}
 use Rattle.trace_run.proofs.Written.{runs-own}
 use Rattle.trace_run.proofs.texts.run_text.Goals as goal
 

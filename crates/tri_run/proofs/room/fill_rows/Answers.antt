@@ -3,7 +3,7 @@ use Rattle.std.proofs.lemmas.List.{take_more, take_more_set, length-set}
 use Rattle.grc_words.specs.declared.table.Row.TheVariants.{Not}
 use Rattle.grc_words.specs.declared.table.Source.TheVariants.{Const}
 use Rattle.grc_words.specs.Rows.{row_value, row_values}
-use Rattle.grc_words.proofs.RowValues.{row_values-append}
+use Rattle.grc_words.proofs.Exports.{row_values-append}
 use Rattle.grc_react.specs.Evaluations.{surroundings_of}
 use Rattle.tri_run.proofs.room.fill_rows.Goals as goal
 

@@ -4,7 +4,7 @@ use Rattle.facts.proofs.Lists.{map-composed}
 use Rattle.grc_graph.specs.declared.formulas.Formula.{Formula}
 use Rattle.grc_graph.specs.PlainGraphs.{formula_of, instances_of, names_of}
 use Rattle.grc_react.specs.Evaluations.{formula_under}
-use Rattle.grc_react.proofs.Steps.{known-late}
+use Rattle.grc_react.proofs.Exports.{known-late}
 use Rattle.tri_run.proofs.room.put_next.Goals as goal
 
 pub evaluate-requires-clause-known : goal.evaluate-requires-clause-known

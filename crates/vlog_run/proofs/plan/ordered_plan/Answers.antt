@@ -3,7 +3,7 @@ use Rattle.std.proofs.lemmas.List.{length-map, get_or-map}
 use Rattle.std.proofs.lemmas.List.Elements.{recursion_from_All}
 use Rattle.step_run.specs.Plans.{Makes}
 use Rattle.step_run.specs.Slots.{slot_in}
-use Rattle.step_run.proofs.Resolving.{slots-are}
+use Rattle.step_run.proofs.Exports.{slots-are}
 use Rattle.vlog_text.specs.Machine.{driven_names}
 use Rattle.vlog_text.specs.Views.{module_of, assign_of}
 use Rattle.vlog_run.specs.Loops.{equation_of}

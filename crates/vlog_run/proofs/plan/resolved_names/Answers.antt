@@ -1,7 +1,7 @@
 use Rattle.std.proofs.Common.{sym, ap, ◌∙◌, length, map, arith}
 use Rattle.std.proofs.lemmas.List.{length-map}
-use Rattle.net_ir.proofs.NameLists.{once-differ}
-use Rattle.step_run.proofs.Places.{driven-count}
+use Rattle.net_ir.proofs.Exports.{once-differ}
+use Rattle.step_run.proofs.Exports.{driven-count}
 use Rattle.step_run.specs.Steps.{driven}
 use Rattle.vlog_text.specs.Machine.{driven_names}
 use Rattle.vlog_text.specs.Views.{module_of, assign_of}

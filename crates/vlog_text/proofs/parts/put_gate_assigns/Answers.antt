@@ -1,6 +1,6 @@
 use Rattle.std.proofs.Common.{◌<◌, subst, ◌∙◌}
 use Rattle.net_ir.specs.Runs.{netlist_of}
-use Rattle.net_text.proofs.Joined.{puts-numbered, numbered-rest}
+use Rattle.net_text.proofs.Exports.{puts-numbered, numbered-rest}
 use Rattle.vlog_text.specs.Parts.{from_output_assigns}
 use Rattle.vlog_text.specs.Written.{assign_line, gate_assign}
 use Rattle.vlog_text.proofs.parts.put_gate_assigns.Goals as goal

@@ -1,6 +1,6 @@
 use Rattle.std.proofs.Common.{◌<◌, ◌∷◌, [], subst, ◌∙◌, arith}
 use Rattle.net_ir.specs.Runs.{netlist_of}
-use Rattle.net_text.proofs.Joined.{puts-numbered, numbered-one, numbered-none}
+use Rattle.net_text.proofs.Exports.{puts-numbered, numbered-one, numbered-none}
 use Rattle.vlog_text.specs.Written.{next_line, latch_next, last_lines}
 use Rattle.vlog_text.proofs.parts.put_nexts.Goals as goal
 

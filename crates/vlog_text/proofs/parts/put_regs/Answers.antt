@@ -1,9 +1,9 @@
 use Rattle.std.proofs.Common.{◌<◌, get_or, subst, ◌∙◌}
 use Rattle.std.proofs.lemmas.List.{get_or_default}
 use Rattle.net_ir.specs.Runs.{netlist_of}
-use Rattle.net_text.proofs.Joined.{puts-numbered, numbered-rest}
+use Rattle.net_text.proofs.Exports.{puts-numbered, numbered-rest}
 use Rattle.expr_text.specs.NetNames.{state_name}
-use Rattle.expr_text.proofs.Naming.{any_latch}
+use Rattle.expr_text.proofs.Exports.{any_latch}
 use Rattle.vlog_text.specs.Trees.{Reg}
 use Rattle.vlog_text.specs.Parts.{from_wires}
 use Rattle.vlog_text.specs.Written.{declaration_line, declares}

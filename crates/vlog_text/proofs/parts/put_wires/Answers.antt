@@ -1,6 +1,6 @@
 use Rattle.std.proofs.Common.{◌<◌, subst, ◌∙◌}
 use Rattle.net_ir.specs.Runs.{netlist_of}
-use Rattle.net_text.proofs.Joined.{puts-numbered, numbered-rest}
+use Rattle.net_text.proofs.Exports.{puts-numbered, numbered-rest}
 use Rattle.expr_text.specs.NetNames.{gate_name}
 use Rattle.vlog_text.specs.Trees.{Wire}
 use Rattle.vlog_text.specs.Parts.{from_initials}

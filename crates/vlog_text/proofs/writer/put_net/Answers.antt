@@ -5,7 +5,7 @@ use Rattle.std.proofs.lemmas.Result.{on_ok_weaker}
 use Rattle.net_ir.specs.Netlists.{first_gate}
 use Rattle.net_ir.specs.Runs.{netlist_of}
 use Rattle.expr_text.specs.NetNames.{gate_name}
-use Rattle.expr_text.proofs.Naming.{any_gate}
+use Rattle.expr_text.proofs.Exports.{any_gate}
 use Rattle.vlog_text.specs.Written.{net_name}
 use Rattle.vlog_text.proofs.NetRules.{net_name-input, net_name-gate}
 use Rattle.vlog_text.proofs.writer.put_net.Goals as goal

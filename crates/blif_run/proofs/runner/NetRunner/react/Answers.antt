@@ -1,6 +1,6 @@
 use Rattle.std.proofs.Common.{sym, ap, ◌∙◌, subst, length}
 use Rattle.blif_text.specs.Plain.{plain_circuit}
-use Rattle.blif_text.proofs.Described.{described-sound}
+use Rattle.blif_text.proofs.Exports.{described-sound}
 use Rattle.blif_run.specs.Runners.{Runner, Reacts}
 use Rattle.blif_run.proofs.Reactions.{reacts-by}
 use Rattle.blif_run.proofs.runner.NetRunner.react.Goals as goal

@@ -1,5 +1,5 @@
 use Rattle.est_base.specs.declared.bounds.TheConstants.Limits.{TRACE_BYTES}
-use Rattle.text_io.proofs.Reading.{held_read}
+use Rattle.text_io.proofs.Exports.{held_read}
 use Rattle.cec_core.proofs.TwoFiles.{text_left, long_trace_unread}
 use Rattle.cec_core.proofs.commands.exec.exec_in.Goals as goal
 

@@ -7,7 +7,7 @@ use Rattle.cec_core.specs.Jobs.{Make}
 use Rattle.cec_core.specs.JobViews.{plain_job}
 use Rattle.cec_core.specs.Outcomes.{MakesOn, LeavesAnswer}
 use Rattle.cec_core.specs.Subjects.{plain_subject}
-use Rattle.text_io.proofs.Reading.{held_read}
+use Rattle.text_io.proofs.Exports.{held_read}
 use Rattle.cec_core.proofs.OneFile.{make_agrees, make_counts, make_out, source_subject, err_alone}
 use Rattle.cec_core.proofs.OneFile.{make_agrees_unread, counts_unread, err_unread}
 use Rattle.cec_core.proofs.commands.make.make_text.Goals as goal

@@ -3,7 +3,7 @@ use Rattle.cec_compile.specs.MadeNets.{IsWrittenOf}
 use Rattle.cec_compile.specs.SourceTexts.{IsSourceText}
 use Rattle.cec_core.specs.JobViews.{plain_job}
 use Rattle.cec_compile.specs.declared.forms.TextForm.TheVariants.{Blif, EncodedBlif, C, Verilog}
-use Rattle.cec_compile.proofs.NetTexts.{IsBlifText, IsCText, IsVerilogText, blif_answers, encoded_answers, c_answers, verilog_answers}
+use Rattle.cec_compile.proofs.Exports.{IsBlifText, IsCText, IsVerilogText, blif_answers, encoded_answers, c_answers, verilog_answers}
 use Rattle.cec_core.proofs.Pieces.{pieces_as}
 use Rattle.cec_core.proofs.commands.make.write_form.Goals as goal
 

@@ -8,7 +8,7 @@ use Rattle.cec_core.specs.JobViews.{plain_job}
 use Rattle.cec_core.specs.Outcomes.{RunsOn}
 use Rattle.cec_core.specs.Runs.{RunsSource, LeavesRun}
 use Rattle.cec_core.specs.Subjects.{plain_subject}
-use Rattle.text_io.proofs.Reading.{held_read}
+use Rattle.text_io.proofs.Exports.{held_read}
 use Rattle.cec_core.proofs.OneFile.{source_subject, err_alone, counts_unread, err_unread}
 use Rattle.cec_core.proofs.TwoFiles.{two_agree, two_count, leaves_as, run_agrees_unread}
 use Rattle.cec_core.proofs.commands.run.run_file.Goals as goal

@@ -7,8 +7,8 @@ use Rattle.est_base.specs.SinkChanges.{SinkChange}
 use Rattle.text_io.specs.Contents.{Holds}
 use Rattle.cec_core.specs.JobViews.{plain_job}
 use Rattle.cec_core.specs.Runs.{RunsSource}
-use Rattle.text_io.proofs.Reading.{held_read}
-use Rattle.cec_compile.proofs.NetTexts.{made_source, made_keeps}
+use Rattle.text_io.proofs.Exports.{held_read}
+use Rattle.cec_compile.proofs.Exports.{made_source, made_keeps}
 use Rattle.cec_core.proofs.TextSizes.{long_text, made_relations_few}
 use Rattle.cec_core.proofs.RunLines.{given_wide, runs_program}
 use Rattle.cec_core.specs.declared.outcome.Which.TheVariants.{Second}

@@ -8,10 +8,10 @@ use Rattle.cec_core.specs.Jobs.{RunTri}
 use Rattle.cec_core.specs.JobViews.{plain_job}
 use Rattle.cec_core.specs.Subjects.{plain_subject}
 use Rattle.cec_core.specs.TriRuns.{LeavesReactions, ReactsOn, ReactsOver, StopsOver}
-use Rattle.text_io.proofs.Reading.{held_read}
+use Rattle.text_io.proofs.Exports.{held_read}
 use Rattle.cec_core.proofs.OneFile.{source_subject, err_alone, counts_unread, err_unread}
 use Rattle.cec_core.proofs.TwoFiles.{two_agree, two_count}
-use Rattle.trace_run.proofs.Stepping.{untouched}
+use Rattle.trace_run.proofs.Exports.{untouched}
 use Rattle.cec_core.proofs.ReactionFiles.{react_agrees_unread, reactions_as, reactions_unread_first}
 use Rattle.cec_core.proofs.commands.tri.react_file.Goals as goal
 

@@ -1,11 +1,11 @@
 use Rattle.std.proofs.Common.{map, refl}
 use Rattle.est_base.specs.declared.bounds.TheConstants.Limits.{TRACE_BYTES}
 use Rattle.grc_graph.specs.PlainWireNames.{wire_name_of}
-use Rattle.trace_run.proofs.Stepping.{untouched}
+use Rattle.trace_run.proofs.Exports.{untouched}
 use Rattle.text_io.specs.Contents.{Holds}
 use Rattle.cec_core.specs.JobViews.{plain_job}
 use Rattle.cec_core.specs.TriRuns.{ReactsOver, StopsOver}
-use Rattle.text_io.proofs.Reading.{held_read}
+use Rattle.text_io.proofs.Exports.{held_read}
 use Rattle.cec_core.proofs.ReactionFiles.{built_source, graph_refused, react_trace_unread, reacted_counts, reacted_long, reacted_on}
 use Rattle.cec_core.proofs.ReactionFiles.{reactions_unread, refused_leaves_reactions, refused_reacts, trace_left}
 use Rattle.cec_core.proofs.TextSizes.{built_relations_few}

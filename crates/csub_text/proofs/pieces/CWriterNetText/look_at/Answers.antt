@@ -1,5 +1,5 @@
 use Rattle.net_ir.specs.Runs.{netlist_of}
-use Rattle.net_text.proofs.Joined.{few-items}
+use Rattle.net_text.proofs.Exports.{few-items}
 use Rattle.csub_text.proofs.Joins.{written-joined, few-parts}
 use Rattle.csub_text.proofs.NetMeans.{Means-written}
 use Rattle.csub_text.proofs.pieces.CWriterNetText.look_at.Goals as goal

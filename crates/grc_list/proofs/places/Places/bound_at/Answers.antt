@@ -2,7 +2,7 @@ use Rattle.std.proofs.Common.{◌∙◌, ap, sym, arith}
 use Rattle.est_kernel.specs.Plain.{term_of}
 use Rattle.grc_list.specs.Places.{Place}
 use Rattle.grc_list.specs.PlaceViews.{place_of}
-use Rattle.grc_graph.proofs.StatementPaths.{bound_at-past}
+use Rattle.grc_graph.proofs.Exports.{bound_at-past}
 use Rattle.grc_list.proofs.Climbing.{place_in, length-body_places, bound_at-place}
 use Rattle.grc_list.proofs.places.Places.bound_at.Goals as goal
 

@@ -1,8 +1,8 @@
 use Rattle.std.proofs.Common.{arith}
 use Rattle.est_kernel.specs.Plain.{term_of}
-use Rattle.est_kernel.proofs.PreorderLaws.{statement_count-pos}
+use Rattle.est_kernel.proofs.Exports.{statement_count-pos}
 use Rattle.grc_list.specs.PlaceViews.{place_of}
-use Rattle.grc_graph.proofs.StatementPaths.{path_at-past}
+use Rattle.grc_graph.proofs.Exports.{path_at-past}
 use Rattle.grc_list.proofs.Climbing.{length-body_places}
 use Rattle.grc_list.proofs.places.Places.known.Goals as goal
 

@@ -3,7 +3,7 @@ use Rattle.std.proofs.lemmas.List.{reverse-append}
 use Rattle.est_kernel.specs.Plain.{term_of}
 use Rattle.grc_graph.specs.WireNames.{path_at}
 use Rattle.grc_list.specs.PlaceViews.{place_of}
-use Rattle.grc_graph.proofs.StatementPaths.{first_path}
+use Rattle.grc_graph.proofs.Exports.{first_path}
 use Rattle.grc_list.proofs.Climbing.{place_leads_up}
 use Rattle.grc_list.proofs.places.Places.path_at.Goals as goal
 

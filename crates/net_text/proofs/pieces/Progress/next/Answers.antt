@@ -1,7 +1,7 @@
 use Rattle.std.proofs.Common.{◌++◌, drop, sym, ap, ◌∙◌, arith}
 use Rattle.std.proofs.Math.Seq.{drop-nil}
 use Rattle.net_ir.specs.Runs.{netlist_of}
-use Rattle.net_ir.proofs.Pieces.{piece-front, piece-back, piece-none, piece-some}
+use Rattle.net_ir.proofs.Exports.{piece-front, piece-back, piece-none, piece-some}
 use Rattle.net_text.specs.Parts.{joined}
 use Rattle.net_text.proofs.pieces.Progress.next.Goals as goal
 

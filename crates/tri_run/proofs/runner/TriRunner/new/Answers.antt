@@ -1,10 +1,9 @@
 use Rattle.std.proofs.Common.{arith}
 use Rattle.est_kernel.specs.Plain.{program_of}
-use Rattle.est_kernel.proofs.ResidualLaws.{trees_are_kernels_lem}
-use Rattle.grc_graph.proofs.BuiltReads.{wires_few}
-use Rattle.grc_sem.proofs.Premises.{program_kernel}
-use Rattle.grc_solutions.proofs.ProgramGraphs.{reads_are_edges_lem}
-use Rattle.grc_solutions.proofs.WireNames.{wires_differ_lem}
+use Rattle.est_kernel.proofs.Exports.{trees_are_kernels_lem}
+use Rattle.grc_graph.proofs.Exports.{wires_few}
+use Rattle.grc_sem.proofs.Exports.{program_kernel}
+use Rattle.grc_solutions.proofs.Exports.{reads_are_edges_lem, wires_differ_lem}
 use Rattle.tri_run.proofs.Premises.{equations-plain, given-few, wires-differ}
 use Rattle.tri_run.proofs.Programs.{keeps-fresh}
 use Rattle.tri_run.specs.States.{runner_with}

@@ -1,5 +1,5 @@
 use Rattle.net_ir.specs.Runs.{netlist_of}
-use Rattle.net_text.proofs.Joined.{few-items}
+use Rattle.net_text.proofs.Exports.{few-items}
 use Rattle.vlog_text.proofs.Joins.{written-joined, few-parts}
 use Rattle.vlog_text.proofs.NetRuns.{Means-written}
 use Rattle.vlog_text.proofs.pieces.VlogWriterNetText.look_at.Goals as goal

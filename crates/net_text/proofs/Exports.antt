@@ -1,0 +1,3 @@
+-- What other crates use of these proofs.
+pub use Rattle.net_text.proofs.Joined.{count-mapped, count-numbered, few-items, joined-each, joined-last, joined-mapped, joined-numbered, joined-one}
+pub use Rattle.net_text.proofs.Joined.{numbered-none, numbered-one, numbered-past, numbered-rest, puts-numbered}
