@@ -75,7 +75,7 @@ impl BlifRunner {
 }
 
 impl Runner for BlifRunner {
-    ghost use Rattle.std.specs.Prelude.{take};
+    ghost use Rattle.std.specs.Prelude.{⊤, take};
     ghost use Rattle.blif_run.specs.CircuitAnswers.{listed_count};
     ghost use Rattle.blif_run.specs.Showing.{runner_shows};
     ghost use Rattle.blif_run.specs.Ends.{shows_nothing};
@@ -87,6 +87,8 @@ impl Runner for BlifRunner {
     ghost present = { λ r. take (listed_count r.circuit.outputs) r.outputs };
 
     ghost shows = { runner_shows };
+
+    ghost becomes = { λ r items last. ⊤ };
 
     fn react(&mut self, inputs: &[bool]) -> Word {
         self.runner.react(inputs);
@@ -106,6 +108,8 @@ impl Runner for BlifRunner {
     }
 
     ghost ends = { λ r. shows_nothing r };
+
+    ghost stays = { λ r. tt };
 }
 
 const PAUSED: &[u8] = b"_paused";

@@ -298,7 +298,7 @@ stops_there names first r q s t u a b c f g h event behind number same so is mee
 pub run_cut_off : (names : List (List ℕ)) (first r q p : Reading) (s t u : Runner) (a b c : Option (List ℕ)) (f g h : ℕ) (fault : ReactionFault) → r ≡ first
     → ReachedSoFar names r q s t a b f g → IsReactionStep names q p t u (over b c g h) (Err fault) → RunsReactions names first s u (over a c f h) (Err fault)
 run_cut_off names first r q p s t u a b c f g h (Run fault) same so step =
-    run-stops RunnerShows none_shown names first r q p s t u a b c f g h fault same (shown_so_far names r q s t a b f g so) step
+    run-stops RunnerShows names first r q p s t u (none_shown u) a b c f g h fault same (shown_so_far names r q s t a b f g so) step
 run_cut_off names first r q p s t u a b c f g h (NotConstructive number) same so step =
     stops_there names first r q s t u a b c f g h step.0 step.1 number same so step.2 step.3 step.4 step.5 step.6
 

@@ -1,2 +1,3 @@
-pub mod PlainPrograms
+mod PlainPrograms
 mod worked
+pub mod Exports

@@ -1,6 +1,7 @@
-pub mod Machines
-pub mod BareNames
-pub mod Showing
-pub mod NetTexts
-pub mod TextFaults
+mod Machines
+mod BareNames
+mod Showing
+mod NetTexts
+mod TextFaults
 mod worked
+pub mod Exports

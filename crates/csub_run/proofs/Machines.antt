@@ -37,19 +37,19 @@ Agree m n = (name : List ℕ) → m name ≡ n name
 
 -- ---- memories that agree do the same
 
-value-agree : (m n : Memory) → Agree m n → (e : Expr) → value_of m e ≡ value_of n e
+pub value-agree : (m n : Memory) → Agree m n → (e : Expr) → value_of m e ≡ value_of n e
 value-agree m n same e = value-local m n e (λ x has. same x)
 
-with-agree : (m n : Memory) → Agree m n → (x : List ℕ) (v w : Bool) → v ≡ w → Agree (with_value x v m) (with_value x w n)
+pub with-agree : (m n : Memory) → Agree m n → (x : List ℕ) (v w : Bool) → v ≡ w → Agree (with_value x v m) (with_value x w n)
 with-agree m n same x v w is name = ap (λ u. if is_same_name name x then u else m name) is ∙ ap (λ u. if is_same_name name x then w else u) (same name)
 
-run-agree : (body : List Assign) (m n : Memory) → Agree m n → Agree (run_body body m) (run_body body n)
+pub run-agree : (body : List Assign) (m n : Memory) → Agree m n → Agree (run_body body m) (run_body body n)
 run-agree [] m n same = same
 run-agree (a ∷ body) m n same =
     run-agree body (with_value a.target (value_of m a.value) m) (with_value a.target (value_of n a.value) n)
     (with-agree m n same a.target (value_of m a.value) (value_of n a.value) (value-agree m n same a.value))
 
-inputs-agree : (names : List (List ℕ)) (values : List Bool) (m n : Memory) → Agree m n → Agree (with_inputs names values m) (with_inputs names values n)
+pub inputs-agree : (names : List (List ℕ)) (values : List Bool) (m n : Memory) → Agree m n → Agree (with_inputs names values m) (with_inputs names values n)
 inputs-agree [] values m n same = same
 inputs-agree (name ∷ names) [] m n same = same
 inputs-agree (name ∷ names) (value ∷ values) m n same =
@@ -85,11 +85,11 @@ set-slot names values wide x among v name =
       | false ↦ λ e. get_or-set_other values k (slot_in names name) v false (λ same. let own = sym (slot-own names x name low same) ∙ e in cc)
     ] refl
 
-abbrev AllAmong : List (List ℕ) → List (List ℕ) → Type 0
+abbrev pub AllAmong : List (List ℕ) → List (List ℕ) → Type 0
 AllAmong names [] = Unit {0}
 AllAmong names (x ∷ xs) = (is_among x names ≡ true) × AllAmong names xs
 
-wide-put : (slots : List ℕ) (given values : List Bool) → length (put_all slots given values) ≡ length values
+pub wide-put : (slots : List ℕ) (given values : List Bool) → length (put_all slots given values) ≡ length values
 wide-put [] given values = refl
 wide-put (slot ∷ slots) [] values = refl
 wide-put (slot ∷ slots) (v ∷ given) values = wide-put slots given (slice_set values slot v) ∙ length-set values slot v
@@ -103,7 +103,7 @@ put-inputs names (x ∷ xs) (v ∷ given) values wide all name =
     ∙ inputs-agree xs given (memory_in names (slice_set values (slot_in names x) v)) (with_value x v (memory_in names values))
     (set-slot names values wide x all.0 v) name
 
-abbrev Targets : List (List ℕ) → List Assign → Type 0
+abbrev pub Targets : List (List ℕ) → List Assign → Type 0
 Targets names [] = Unit {0}
 Targets names (a ∷ body) = (is_among a.target names ≡ true) × Targets names body
 
@@ -120,13 +120,13 @@ settled-body names (a ∷ body) values wide all name =
 -- ---- what the rules on names say
 
 -- the globals are declared
-among-front : (x : List ℕ) (xs ys : List (List ℕ)) → is_among x xs ≡ true → is_among x (xs ++ ys) ≡ true
+pub among-front : (x : List ℕ) (xs ys : List (List ℕ)) → is_among x xs ≡ true → is_among x (xs ++ ys) ≡ true
 among-front x [] ys among = cc
 among-front x (z ∷ xs) ys among =
     elim (is_same_name x z) as (λ b. (b || is_among x xs) ≡ true → (b || is_among x (xs ++ ys)) ≡ true)
     [ true ↦ λ e. refl | false ↦ λ e. among-front x xs ys e ] among
 
-among-back : (x : List ℕ) (xs ys : List (List ℕ)) → is_among x ys ≡ true → is_among x (xs ++ ys) ≡ true
+pub among-back : (x : List ℕ) (xs ys : List (List ℕ)) → is_among x ys ≡ true → is_among x (xs ++ ys) ≡ true
 among-back x [] ys among = among
 among-back x (z ∷ xs) ys among =
     elim (is_same_name x z) as (λ b. (b || is_among x (xs ++ ys)) ≡ true)
@@ -190,7 +190,7 @@ pub slots-below : (names xs : List (List ℕ)) → AllAmong names xs → AllByRe
 slots-below names [] all = tt
 slots-below names (x ∷ xs) all = (found-low x names all.0, slots-below names xs all.1)
 
-targets-below : (names : List (List ℕ)) (body : List Assign) → Targets names body → AllByRecursion (λ a. slot_in names a.target < length names) body
+pub targets-below : (names : List (List ℕ)) (body : List Assign) → Targets names body → AllByRecursion (λ a. slot_in names a.target < length names) body
 targets-below names [] all = tt
 targets-below names (a ∷ body) all = (found-low a.target names all.0, targets-below names body all.1)
 

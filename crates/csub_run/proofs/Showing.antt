@@ -13,7 +13,7 @@ use Rattle.trace_run.specs.Languages.{word_of}
 use Rattle.trace_run.specs.Machines.{Answer, Answered, PutBack}
 
 -- memories that agree on every name are one
-same-memory : (m n : Memory) → ((name : List ℕ) → m name ≡ n name) → m ≡ n
+pub same-memory : (m n : Memory) → ((name : List ℕ) → m name ≡ n name) → m ≡ n
 same-memory m n same = λ i name. same name i
 
 -- one call

@@ -1,24 +1,25 @@
-// The interface of a program of the C subset.
+// The interface of a program.
 
 ghost use Rattle.std.specs.Prelude.{◌≡◌, [], filter, map, take, IfOk};
 ghost use Rattle.est_base.specs.Names.{is_same_name};
-ghost use Rattle.csub_text.specs.Views.{program_of};
-ghost use Rattle.csub_run.specs.ProgramAnswers.{bare_name, bare_inputs, bare_outputs};
+ghost use Rattle.csub_text.specs.Grammar.{begins_input, begins_output};
+ghost use Rattle.csub_run.specs.ProgramAnswers.{bare_name};
 
-use csub_text::{CProgram, front_two};
+use csub_text::front_two;
 use est_base::{NoMemory, Text};
 use std::alloc::Global;
 use trace_run::Interface;
 
-// The names of the inputs and outputs of a program, without their signs; no relations.
-pub fn program_interface(alloc: Global, program: &CProgram) -> Result<Interface, NoMemory>
-    ensures given { IfOk result (λ i. i.given.items ≡ bare_inputs (program_of program.now)) }
-    ensures outgoing { IfOk result (λ i. i.outgoing.items ≡ bare_outputs (program_of program.now)) }
+/// The names of the inputs and outputs among the globals of a program, without their signs; no relations. Its only
+/// error is want of memory.
+pub fn globals_interface(alloc: Global, globals: &[Text]) -> Result<Interface, NoMemory>
+    ensures given { IfOk result (λ i. i.given.items ≡ map bare_name (filter begins_input globals.now)) }
+    ensures outgoing { IfOk result (λ i. i.outgoing.items ≡ map bare_name (filter begins_output globals.now)) }
     ensures relations { IfOk result (λ i. i.relations.items ≡ []) }
 {
     Ok(Interface {
-        given: bare_names(alloc, &program.globals, b"I_")?,
-        outgoing: bare_names(alloc, &program.globals, b"O_")?,
+        given: bare_names(alloc, globals, b"I_")?,
+        outgoing: bare_names(alloc, globals, b"O_")?,
         relations: Vec::new(alloc),
     })
 }

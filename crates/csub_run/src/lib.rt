@@ -12,6 +12,8 @@ mod plan;
 mod runner;
 mod trace_runner;
 
+pub use interface::globals_interface;
 pub use language::{CTexts, TextFault};
-pub use runner::CRunner;
-pub use trace_runner::CMachine;
+pub use plan::{input_slots, output_slots, push_assign, push_assigns, variable_values};
+pub use runner::{CRunner, put_front, put_values};
+pub use trace_runner::{CMachine, word_of};

@@ -1,15 +1,15 @@
 // What a machine does at a call, with the names resolved.
 
-ghost use Rattle.std.specs.Prelude.{◌≡◌, ◌<◌, [], map, filter, length, All, IfOk, OnOk};
+ghost use Rattle.std.specs.Prelude.{◌≡◌, ◌<◌, false, [], ◌++◌, map, filter, length, All, IfOk, OnOk};
 ghost use Rattle.csub_text.specs.Grammar.{begins_input, begins_output};
 ghost use Rattle.csub_text.specs.Names.{declared, inputs_of, outputs_of};
-ghost use Rattle.csub_text.specs.Views.{assign_of, program_of};
+ghost use Rattle.csub_text.specs.Views.{assign_of, program_of, state_of};
 ghost use Rattle.step_run.specs.Slots.{slot_in};
 ghost use Rattle.step_run.specs.Plans.{Adds, Makes};
 ghost use Rattle.csub_run.specs.Runners.{KeepsNames};
 ghost use Rattle.csub_run.specs.Plans.{IsBody, IsPlan, assign_step, first_values};
 
-use csub_text::{Assign, CProgram, begins_input, begins_output, declared_names};
+use csub_text::{Assign, CProgram, State, begins_input, begins_output, declared_names};
 use est_base::{NoMemory, Text};
 use indexmap::IndexSet;
 use std::alloc::Global;
@@ -90,8 +90,12 @@ fn body_plan(alloc: Global, slots: &IndexSet<&[u8]>, program: &CProgram) -> Resu
     Ok(Body { plan, answer })
 }
 
-// Adds the steps of assignments.
-fn push_assigns(plan: &mut Plan, slots: &IndexSet<&[u8]>, body: &[Assign]) -> Result<(), NoMemory>
+/// Adds the steps of assignments. Its only error is want of memory.
+pub fn push_assigns(
+    plan: &mut Plan,
+    slots: &IndexSet<&[u8]>,
+    body: &[Assign],
+) -> Result<(), NoMemory>
     requires named { plan.old.named ≡ length slots.now.keys }
     requires declared { All (λ a. slot_in (map (λ k. k.now) slots.now.keys) a.to < plan.old.named) body.now }
     requires none { Makes plan.old [] }
@@ -105,8 +109,12 @@ fn push_assigns(plan: &mut Plan, slots: &IndexSet<&[u8]>, body: &[Assign]) -> Re
     Ok(())
 }
 
-// Adds the step of an assignment.
-fn push_assign(plan: &mut Plan, slots: &IndexSet<&[u8]>, assign: &Assign) -> Result<(), NoMemory>
+/// Adds the step of an assignment. Its only error is want of memory.
+pub fn push_assign(
+    plan: &mut Plan,
+    slots: &IndexSet<&[u8]>,
+    assign: &Assign,
+) -> Result<(), NoMemory>
     requires { slot_in (map (λ k. k.now) slots.now.keys) assign.now.to < plan.old.named }
     ensures { OnOk result
         (Adds (assign_step (map (λ k. k.now) slots.now.keys) (assign_of assign.now)) plan.old plan.new) }
@@ -114,25 +122,39 @@ fn push_assign(plan: &mut Plan, slots: &IndexSet<&[u8]>, assign: &Assign) -> Res
     push_expr(plan, slots, assign.to.bytes(), &assign.value)
 }
 
-// The values that the variables have before the first call: those of the states as they are declared, and 0.
+// The values that the variables have before the first call.
 fn initial_values(alloc: Global, program: &CProgram) -> Result<Vec<bool>, NoMemory>
     ensures { IfOk result (λ v. v.items ≡ first_values (program_of program.now)) }
 {
+    variable_values(alloc, &program.states, &program.globals, &program.locals)
+}
+
+/// The values of these variables before the first call: those of the states as they are declared, and 0. Its only error
+/// is want of memory.
+pub fn variable_values(
+    alloc: Global,
+    states: &[State],
+    globals: &[Text],
+    locals: &[Text],
+) -> Result<Vec<bool>, NoMemory>
+    ensures { IfOk result (λ v. v.items ≡ (map (λ s. s.init) (map state_of states.now) ++ map (λ _. false) globals.now)
+        ++ map (λ _. false) locals.now) }
+{
     let mut values = Vec::new(alloc);
-    for state in &program.states {
+    for state in states {
         values.push(state.init)?;
     }
-    for _ in &program.globals {
+    for _ in globals {
         values.push(false)?;
     }
-    for _ in &program.locals {
+    for _ in locals {
         values.push(false)?;
     }
     Ok(values)
 }
 
-// The slots of the inputs among the globals.
-fn input_slots(
+/// The slots of the inputs among the globals. Its only error is want of memory.
+pub fn input_slots(
     alloc: Global,
     slots: &IndexSet<&[u8]>,
     globals: &[Text],
@@ -149,8 +171,8 @@ fn input_slots(
     Ok(found)
 }
 
-// The slots of the outputs among the globals.
-fn output_slots(
+/// The slots of the outputs among the globals. Its only error is want of memory.
+pub fn output_slots(
     alloc: Global,
     slots: &IndexSet<&[u8]>,
     globals: &[Text],

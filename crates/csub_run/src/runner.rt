@@ -126,8 +126,8 @@ fn runner_parts(alloc: Global, program: &CProgram) -> Result<Parts, NoMemory>
     })
 }
 
-// Puts these values in front.
-fn put_front(values: &mut [bool], front: &[bool])
+/// Puts these values in front.
+pub fn put_front(values: &mut [bool], front: &[bool])
     requires { length front.now ≤ length values.old }
     ensures len { length values.new ≡ length values.old }
     ensures front { take (length front.now) values.new ≡ front.now }
@@ -136,8 +136,8 @@ fn put_front(values: &mut [bool], front: &[bool])
     first.copy_from_slice(front);
 }
 
-// Puts each value into its slot.
-fn put_values(slots: &[usize], given: &[bool], values: &mut [bool])
+/// Puts each value into its slot.
+pub fn put_values(slots: &[usize], given: &[bool], values: &mut [bool])
     requires each { length given.now ≡ length slots.now }
     requires within { All (λ slot. slot < length values.old) slots.now }
     ensures { values.new ≡ put_all slots.now given.now values.old }

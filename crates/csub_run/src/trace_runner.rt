@@ -9,7 +9,7 @@ ghost use Rattle.csub_run.specs.ProgramAnswers.{bare_inputs, bare_outputs};
 ghost use Rattle.csub_run.specs.Runners.{KeepsNames, IsFresh, program_in};
 ghost use Rattle.trace_run.specs.Languages.{word_of};
 
-use crate::interface::program_interface;
+use crate::interface::globals_interface;
 use crate::runner::CRunner;
 use csub_text::CProgram;
 use est_base::NoMemory;
@@ -64,7 +64,7 @@ impl CMachine {
         ensures relations { IfOk result (λ i. i.relations.items ≡ []) }
         ensures differ { IfOk result (λ i. IsTrue (all_differ is_same_name i.given.items)) }
     {
-        match program_interface(alloc, self.calls.program()) {
+        match globals_interface(alloc, &self.calls.program().globals) {
             Ok(interface) => Ok(interface),
             Err(NoMemory) => Err(NoMemory),
         }
@@ -72,7 +72,7 @@ impl CMachine {
 }
 
 impl Runner for CMachine {
-    ghost use Rattle.std.specs.Prelude.{length};
+    ghost use Rattle.std.specs.Prelude.{⊤, length};
     ghost use Rattle.csub_text.specs.Names.{inputs_of, outputs_of};
     ghost use Rattle.csub_run.specs.Runners.{outputs_shown, program_in};
     ghost use Rattle.csub_run.specs.Showing.{runner_shows};
@@ -85,6 +85,8 @@ impl Runner for CMachine {
     ghost present = { outputs_shown };
 
     ghost shows = { runner_shows };
+
+    ghost becomes = { λ r items last. ⊤ };
 
     fn react(&mut self, inputs: &[bool]) -> Word {
         word_of(self.calls.react(inputs))
@@ -99,10 +101,12 @@ impl Runner for CMachine {
     }
 
     ghost ends = { λ r. shows_nothing r };
+
+    ghost stays = { λ r. tt };
 }
 
-// The word for a value that is returned.
-fn word_of(paused: bool) -> Word
+/// The word for a value that is returned.
+pub fn word_of(paused: bool) -> Word
     ensures { result ≡ word_of paused }
 {
     if paused { Word::Paused } else { Word::Ended }

@@ -36,12 +36,12 @@ use Rattle.csub_text.proofs.NetRules.{net_name-input, net_name-state, net_name-g
 abbrev targets : List Assign → List (List ℕ)
 targets body = map (λ a. a.target) body
 
-run-append : (xs ys : List Assign) (m : Memory) → run_body (xs ++ ys) m ≡ run_body ys (run_body xs m)
+pub run-append : (xs ys : List Assign) (m : Memory) → run_body (xs ++ ys) m ≡ run_body ys (run_body xs m)
 run-append [] ys m = refl
 run-append (a ∷ xs) ys m = run-append xs ys (with_value a.target (value_of m a.value) m)
 
 -- a variable that is not assigned
-run-other : (body : List Assign) (m : Memory) (x : List ℕ) → is_among x (targets body) ≡ false → run_body body m x ≡ m x
+pub run-other : (body : List Assign) (m : Memory) (x : List ℕ) → is_among x (targets body) ≡ false → run_body body m x ≡ m x
 run-other [] m x none = refl
 run-other (a ∷ body) m x none =
     let parts = or_parts (is_same_name x a.target) (is_among x (targets body)) none in
@@ -88,7 +88,7 @@ alone : (x y : List ℕ) → is_among x (y ∷ []) ≡ false → is_same_name x 
 alone x y none = (or_parts (is_same_name x y) false none).0
 
 -- no net before a gate has the gate's name
-gate-new : (net : Netlist) → IsWritable net → (n i : ℕ) → n < length net.gates → i < first_gate net + n
+pub gate-new : (net : Netlist) → IsWritable net → (n i : ℕ) → n < length net.gates → i < first_gate net + n
     → is_same_name (net_name net i) (gate_name n (get_or net.gates n any_gate).wire) ≡ false
 gate-new net is n i low h =
     let g = gate_name n (get_or net.gates n any_gate).wire in
@@ -109,7 +109,7 @@ gate-new net is n i low h =
 -- ---- gates one after another
 
 -- the memory has the values of the nets below a number
-abbrev Has : Netlist → ℕ → Memory → List Bool → Type 0
+abbrev pub Has : Netlist → ℕ → Memory → List Bool → Type 0
 Has net end m values = (i : ℕ) → i < end → m (net_name net i) ≡ value_in values i
 
 gates-run : (net : Netlist) → IsWritable net → (n : ℕ) (gates : List Gate) (m : Memory) (values : List Bool)
@@ -146,16 +146,37 @@ gates-run net is n (g ∷ gates) m values same all wide has i h =
 
 -- ---- one call
 
-abbrev Keeps : Netlist → Memory → List Bool → Type 0
+abbrev pub Keeps : Netlist → Memory → List Bool → Type 0
 Keeps net m latches = (j : ℕ) → j < length net.latches → m (state_name j) ≡ get_or latches j false
 
--- what a call leaves
-pub record Leaves (net : Netlist) (values : List Bool) (m : Memory) : Type 0 where
-  pub gates : (k : ℕ) → k < length net.gates → m (gate_name k (get_or net.gates k any_gate).wire) ≡ value_in values (first_gate net + k)
+-- what a call leaves for the next one and shows
+pub record Shows (net : Netlist) (values : List Bool) (m : Memory) : Type 0 where
   pub states : (j : ℕ) → j < length net.latches → m (state_name j) ≡ value_in values (get_or net.latches j any_latch).from.0
   pub outputs : (k : ℕ) → k < length net.outputs → m (output_variable (get_or net.outputs k any_output)) ≡
       value_in values (get_or net.outputs k any_output).net.0
   pub answer : m answer_name ≡ value_in values net.paused
+
+-- what a call leaves
+pub record Leaves (net : Netlist) (values : List Bool) (m : Memory) : Type 0 where
+  pub gates : (k : ℕ) → k < length net.gates → m (gate_name k (get_or net.gates k any_gate).wire) ≡ value_in values (first_gate net + k)
+  pub shows : Shows net values m
+
+-- the memory has the values of the nets that are used behind the gates
+pub record Serves (net : Netlist) (values : List Bool) (m : Memory) : Type 0 where
+  pub latches : (j : ℕ) → j < length net.latches → m (net_name net (get_or net.latches j any_latch).from.0)
+      ≡ value_in values (get_or net.latches j any_latch).from.0
+  pub outputs : (k : ℕ) → k < length net.outputs → m (net_name net (get_or net.outputs k any_output).net.0)
+      ≡ value_in values (get_or net.outputs k any_output).net.0
+  pub answer : m (net_name net net.paused) ≡ value_in values net.paused
+
+-- the assignments before the gates, and those behind them
+abbrev pub before_gates : Netlist → List Assign
+before_gates net = numbered input_assign 0 net.inputs
+
+abbrev pub behind_gates : Netlist → List Assign
+behind_gates net =
+    numbered (next_assign net) 0 net.latches ++ (map (output_assign net) net.outputs
+    ++ ((answer_assign net ∷ []) ++ numbered state_assign 0 net.latches))
 
 targets-numbered : {X : Type 0} (f : ℕ → X → Assign) (g : ℕ → X → List ℕ) (n : ℕ) (xs : List X) → ((k : ℕ) (x : X) → (f k x).target ≡ g k x)
     → targets (numbered f n xs) ≡ numbered g n xs
@@ -183,40 +204,19 @@ net-mark p net n h i s g w =
     go p k None g w = g
     go p k (Some wire) g w = w
 
-pub call-leaves : (net : Netlist) → IsWritable net → (latches inputs : List Bool) (m : Memory) → length latches ≡ length net.latches
+-- the inputs and the states before the gates
+pub inputs-run : (net : Netlist) → IsWritable net → (latches inputs : List Bool) (m : Memory) → length latches ≡ length net.latches
     → length inputs ≡ length net.inputs → Keeps net m latches
-    → Leaves net (net_values net latches inputs) (run_body (net_body net) (with_inputs (given_variables net) inputs m))
-call-leaves net is latches inputs m wide_l wide_i keeps =
-    let values = net_values net latches inputs in
+    → Has net (first_gate net) (run_body (before_gates net) (with_inputs (given_variables net) inputs m)) (inputs ++ latches)
+inputs-run net is latches inputs m wide_l wide_i keeps =
     let b1 = numbered input_assign 0 net.inputs in
-    let b2 = numbered (gate_assign net) 0 net.gates in
-    let b3 = numbered (next_assign net) 0 net.latches in
-    let b4 = map (output_assign net) net.outputs in
-    let b5 = answer_assign net ∷ [] in
-    let b6 = numbered state_assign 0 net.latches in
     let t1 : targets b1 ≡ input_names net = targets-numbered input_assign (λ j name. input_name j) 0 net.inputs (λ k x. refl) in
-    let t2 : targets b2 ≡ gate_names net = targets-numbered (gate_assign net) (λ k gate. gate_name k gate.wire) 0 net.gates (λ k x. refl) in
-    let t3 : targets b3 ≡ next_names net = targets-numbered (next_assign net) (λ j latch. next_name j) 0 net.latches (λ k x. refl) in
-    let t4 : targets b4 ≡ shown_variables net = targets-outputs net net.outputs in
-    let t6 : targets b6 ≡ state_names net = targets-numbered state_assign (λ j latch. state_name j) 0 net.latches (λ k x. refl) in
     let m0 = with_inputs (given_variables net) inputs m in
     let m1 = run_body b1 m0 in
-    let m2 = run_body b2 m1 in
-    let m3 = run_body b3 m2 in
-    let m4 = run_body b4 m3 in
-    let m5 = run_body b5 m4 in
-    let m6 = run_body b6 m5 in
-    let whole : run_body (net_body net) m0 ≡ m6 =
-    run-append b1 (b2 ++ (b3 ++ (b4 ++ (b5 ++ b6)))) m0 ∙ run-append b2 (b3 ++ (b4 ++ (b5 ++ b6))) m1 ∙ run-append b3 (b4 ++ (b5 ++ b6)) m2
-    ∙ run-append b4 (b5 ++ b6) m3 ∙ run-append b5 b6 m4 in
     let n1 = length-numbered input_assign 0 net.inputs in
-    let n3 = length-numbered (next_assign net) 0 net.latches in
-    let n4 = length-map net.outputs (output_assign net) in
-    let n6 = length-numbered state_assign 0 net.latches in
     let ng = length-map net.inputs input_variable in
     let d = answer_assign net in
-    -- the inputs and the states before the gates
-    let has1 : Has net (first_gate net) m1 (inputs ++ latches) = λ i h. elim (cases_lt i (length net.inputs)) [
+    λ i h. elim (cases_lt i (length net.inputs)) [
       | inl low ↦
           let z : 0 + i ≡ i = omega arith in
           let at : get_or b1 i d ≡ input_assign i (get_or net.inputs i []) = get_or-numbered input_assign 0 net.inputs i d [] low
@@ -238,22 +238,45 @@ call-leaves net is latches inputs m wide_l wide_i keeps =
           ∙ inputs-other (given_variables net) inputs m (state_name j)
           (differ-by mark (λ c. c == 115) (state_name j) (given_variables net) refl (marks-given net (λ c. not (c == 115)) refl))
           ∙ keeps j (omega arith) ∙ sym (get_or-append-add inputs latches j false) ∙ ap (λ k. get_or (inputs ++ latches) k false) (sym f)
-    ] in
-    let joined = length-append inputs latches in
-    -- all nets behind the gates
-    let has2 : Has net (net_count net) m2 values = λ i h.
-    gates-run net is 0 net.gates m1 (inputs ++ latches) (λ k low. let z : k ≡ 0 + k = omega arith in ap (λ n. get_or net.gates n any_gate) z) (omega arith)
-    (omega arith)
-    (λ i low. has1 i (omega arith)) i (omega arith) in
-    -- no net is a target of the last parts but a state
-    let kept3 : (i : ℕ) → i < net_count net → m3 (net_name net i) ≡ value_in values i = λ i h.
-    run-other b3 m2 (net_name net i) (not_target (λ c. not (c == 116)) (net_name net i) b3 (next_names net) t3
+    ]
+
+-- no net is a target of the first parts behind the gates
+past-nexts : (net : Netlist) (m : Memory) (i : ℕ) → i < net_count net
+    → run_body (numbered (next_assign net) 0 net.latches) m (net_name net i) ≡ m (net_name net i)
+past-nexts net m i h =
+    let b3 = numbered (next_assign net) 0 net.latches in
+    let t3 : targets b3 ≡ next_names net = targets-numbered (next_assign net) (λ j latch. next_name j) 0 net.latches (λ k x. refl) in
+    run-other b3 m (net_name net i) (not_target (λ c. not (c == 116)) (net_name net i) b3 (next_names net) t3
     (net-mark (λ c. not (c == 116)) net i h refl refl refl refl)
-    (marks-nexts net (λ c. not (not (c == 116))) refl)) ∙ has2 i h in
-    let kept4 : (i : ℕ) → i < net_count net → m4 (net_name net i) ≡ value_in values i = λ i h.
-    run-other b4 m3 (net_name net i) (not_target (λ c. not (c == 79)) (net_name net i) b4 (shown_variables net) t4
+    (marks-nexts net (λ c. not (not (c == 116))) refl))
+
+past-outputs : (net : Netlist) (m : Memory) (i : ℕ) → i < net_count net → run_body (map (output_assign net) net.outputs) m (net_name net i) ≡ m (net_name net i)
+past-outputs net m i h =
+    let b4 = map (output_assign net) net.outputs in
+    run-other b4 m (net_name net i) (not_target (λ c. not (c == 79)) (net_name net i) b4 (shown_variables net) (targets-outputs net net.outputs)
     (net-mark (λ c. not (c == 79)) net i h refl refl refl refl)
-    (marks-shown net (λ c. not (not (c == 79))) refl)) ∙ kept3 i h in
+    (marks-shown net (λ c. not (not (c == 79))) refl))
+
+-- what the assignments behind the gates leave, where the memory has what they use
+pub behind-shows : (net : Netlist) → IsWritable net → (values : List Bool) (m : Memory) → Serves net values m
+    → Shows net values (run_body (behind_gates net) m)
+behind-shows net is values m2 serves =
+    let b3 = numbered (next_assign net) 0 net.latches in
+    let b4 = map (output_assign net) net.outputs in
+    let b5 = answer_assign net ∷ [] in
+    let b6 = numbered state_assign 0 net.latches in
+    let t3 : targets b3 ≡ next_names net = targets-numbered (next_assign net) (λ j latch. next_name j) 0 net.latches (λ k x. refl) in
+    let t4 : targets b4 ≡ shown_variables net = targets-outputs net net.outputs in
+    let t6 : targets b6 ≡ state_names net = targets-numbered state_assign (λ j latch. state_name j) 0 net.latches (λ k x. refl) in
+    let m3 = run_body b3 m2 in
+    let m4 = run_body b4 m3 in
+    let m5 = run_body b5 m4 in
+    let m6 = run_body b6 m5 in
+    let whole : run_body (behind_gates net) m2 ≡ m6 = run-append b3 (b4 ++ (b5 ++ b6)) m2 ∙ run-append b4 (b5 ++ b6) m3 ∙ run-append b5 b6 m4 in
+    let n3 = length-numbered (next_assign net) 0 net.latches in
+    let n4 = length-map net.outputs (output_assign net) in
+    let n6 = length-numbered state_assign 0 net.latches in
+    let d = answer_assign net in
     let next3 : (j : ℕ) → j < length net.latches → m3 (next_name j) ≡ value_in values (get_or net.latches j any_latch).from.0 = λ j h.
     let z : 0 + j ≡ j = omega arith in
     let latch = get_or net.latches j any_latch in
@@ -264,7 +287,7 @@ call-leaves net is latches inputs m wide_l wide_i keeps =
     (not_target (λ c. not (c == 116)) (net_name net latch.from.0) b3 (next_names net) t3
     (net-mark (λ c. not (c == 116)) net latch.from.0 range refl refl refl refl)
     (marks-nexts net (λ c. not (not (c == 116))) refl))
-    ∙ has2 latch.from.0 range in
+    ∙ serves.latches j h in
     let output4 : (k : ℕ) → k < length net.outputs → m4 (output_variable (get_or net.outputs k any_output)) ≡
     value_in values (get_or net.outputs k any_output).net.0 = λ k h.
     let output = get_or net.outputs k any_output in
@@ -275,16 +298,10 @@ call-leaves net is latches inputs m wide_l wide_i keeps =
     (not_target (λ c. not (c == 79)) (net_name net output.net.0) b4 (shown_variables net) t4
     (net-mark (λ c. not (c == 79)) net output.net.0 range refl refl refl refl)
     (marks-shown net (λ c. not (not (c == 79))) refl))
-    ∙ kept3 output.net.0 range in
+    ∙ past-nexts net m2 output.net.0 range ∙ serves.outputs k h in
     let own6 : (x : List ℕ) → (mark x == 115) ≡ false → m6 x ≡ m5 x = λ x h.
     run-other b6 m5 x (not_target (λ c. not (c == 115)) x b6 (state_names net) t6 (ap not h) (marks-states net (λ c. not (not (c == 115))) refl)) in
     record {
-      gates = λ k h.
-          let name = gate_name k (get_or net.gates k any_gate).wire in
-          let own : (mark name == 115) ≡ false = gate-mark (get_or net.gates k any_gate).wire k in
-          ap (λ f. f name) whole ∙ own6 name own
-          ∙ run-other b5 m4 name (gate-no_answer (get_or net.gates k any_gate).wire k)
-          ∙ ap m4 (sym (net_name-gate net k any_gate h)) ∙ kept4 (first_gate net + k) (omega arith);
       states = λ j h.
           let z : 0 + j ≡ j = omega arith in
           let latch = get_or net.latches j any_latch in
@@ -300,8 +317,30 @@ call-leaves net is latches inputs m wide_l wide_i keeps =
           let name = output_variable (get_or net.outputs k any_output) in
           ap (λ f. f name) whole ∙ own6 name refl ∙ run-other b5 m4 name refl ∙ output4 k h;
       answer =
-          ap (λ f. f answer_name) whole ∙ own6 answer_name refl ∙ kept4 net.paused is.is_net.paused_in_range;
+          ap (λ f. f answer_name) whole ∙ own6 answer_name refl ∙ past-outputs net m3 net.paused is.is_net.paused_in_range
+          ∙ past-nexts net m2 net.paused is.is_net.paused_in_range ∙ serves.answer;
     }
+
+-- gates are as they were
+behind-gates : (net : Netlist) (m : Memory) (k : ℕ) → k < length net.gates
+    → run_body (behind_gates net) m (gate_name k (get_or net.gates k any_gate).wire) ≡ m (gate_name k (get_or net.gates k any_gate).wire)
+behind-gates net m2 k h =
+    let b3 = numbered (next_assign net) 0 net.latches in
+    let b4 = map (output_assign net) net.outputs in
+    let b5 = answer_assign net ∷ [] in
+    let b6 = numbered state_assign 0 net.latches in
+    let t6 : targets b6 ≡ state_names net = targets-numbered state_assign (λ j latch. state_name j) 0 net.latches (λ k x. refl) in
+    let m3 = run_body b3 m2 in
+    let m4 = run_body b4 m3 in
+    let m5 = run_body b5 m4 in
+    let name = gate_name k (get_or net.gates k any_gate).wire in
+    let own : (mark name == 115) ≡ false = gate-mark (get_or net.gates k any_gate).wire k in
+    ap (λ f. f name) (run-append b3 (b4 ++ (b5 ++ b6)) m2 ∙ run-append b4 (b5 ++ b6) m3 ∙ run-append b5 b6 m4)
+    ∙ run-other b6 m5 name (not_target (λ c. not (c == 115)) name b6 (state_names net) t6 (ap not own) (marks-states net (λ c. not (not (c == 115))) refl))
+    ∙ run-other b5 m4 name (gate-no_answer (get_or net.gates k any_gate).wire k)
+    ∙ ap m4 (sym (net_name-gate net k any_gate h)) ∙ past-outputs net m3 (first_gate net + k) (omega arith)
+    ∙ past-nexts net m2 (first_gate net + k) (omega arith)
+    ∙ ap m2 (net_name-gate net k any_gate h)
   where
     gate-mark : (wire : _) (k : ℕ) → (mark (gate_name k wire) == 115) ≡ false
     gate-mark None k = refl
@@ -310,3 +349,33 @@ call-leaves net is latches inputs m wide_l wide_i keeps =
     gate-no_answer : (wire : _) (k : ℕ) → is_among (gate_name k wire) (answer_name ∷ []) ≡ false
     gate-no_answer None k = refl
     gate-no_answer (Some w) k = refl
+
+pub call-leaves : (net : Netlist) → IsWritable net → (latches inputs : List Bool) (m : Memory) → length latches ≡ length net.latches
+    → length inputs ≡ length net.inputs → Keeps net m latches
+    → Leaves net (net_values net latches inputs) (run_body (net_body net) (with_inputs (given_variables net) inputs m))
+call-leaves net is latches inputs m wide_l wide_i keeps =
+    let values = net_values net latches inputs in
+    let b1 = before_gates net in
+    let b2 = numbered (gate_assign net) 0 net.gates in
+    let m0 = with_inputs (given_variables net) inputs m in
+    let m1 = run_body b1 m0 in
+    let m2 = run_body b2 m1 in
+    let whole : run_body (net_body net) m0 ≡ run_body (behind_gates net) m2
+    = run-append b1 (b2 ++ behind_gates net) m0 ∙ run-append b2 (behind_gates net) m1 in
+    let has1 = inputs-run net is latches inputs m wide_l wide_i keeps in
+    let joined = length-append inputs latches in
+    -- all nets behind the gates
+    let has2 : Has net (net_count net) m2 values = λ i h.
+    gates-run net is 0 net.gates m1 (inputs ++ latches) (λ k low. let z : k ≡ 0 + k = omega arith in ap (λ n. get_or net.gates n any_gate) z) (omega arith)
+    (omega arith)
+    (λ i low. has1 i (omega arith)) i (omega arith) in
+    let serves : Serves net values m2 = record {
+      latches = λ j h. has2 (get_or net.latches j any_latch).from.0 (is.is_net.latches_in_range j any_latch h);
+      outputs = λ k h. has2 (get_or net.outputs k any_output).net.0 (is.is_net.outputs_in_range k any_output h);
+      answer = has2 net.paused is.is_net.paused_in_range;
+    } in
+    record {
+      gates = λ k h. ap (λ f. f (gate_name k (get_or net.gates k any_gate).wire)) whole ∙ behind-gates net m2 k h
+          ∙ ap m2 (sym (net_name-gate net k any_gate h)) ∙ has2 (first_gate net + k) (omega arith);
+      shows = subst (Shows net values) (sym whole) (behind-shows net is values m2 serves);
+    }

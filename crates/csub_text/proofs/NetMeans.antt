@@ -20,7 +20,7 @@ use Rattle.net_ir.specs.Gates.{value_in}
 use Rattle.net_ir.specs.Netlists.{Netlist, first_gate, net_count}
 use Rattle.net_ir.specs.Runs.{net_values, next_latches, initial_latches, values_from, shown, net_values_run}
 use Rattle.net_ir.proofs.Exports.{any-none, length-gate_values, length-numbered, get_or-numbered, All-numbered, length-next, net_cases}
-use Rattle.csub_text.specs.Trees.{Assign}
+use Rattle.csub_text.specs.Trees.{Assign, Name}
 use Rattle.csub_text.specs.Tokens.{Named}
 use Rattle.csub_text.specs.Grammar.{begins_input, begins_output, begins_global, global_name, SpellsText}
 use Rattle.net_ir.specs.NameLists.{is_among}
@@ -28,18 +28,19 @@ use Rattle.csub_text.specs.Names.{inputs_of, outputs_of}
 use Rattle.csub_text.specs.Texts.{Describes}
 use Rattle.csub_text.specs.Machine.{Memory, with_inputs, first_memory, run_body, call, memories_from, seen}
 use Rattle.csub_text.specs.Written.{input_name, state_name, gate_name, next_name, answer_name, net_name, input_variable, output_variable, net_state}
-use Rattle.csub_text.specs.Written.{gate_names}
+use Rattle.csub_text.specs.Written.{gate_names, net_globals, net_locals}
 use Rattle.csub_text.specs.Written.{net_body, net_program, shown_by_call, written, Means}
 use Rattle.expr_text.proofs.Exports.{says-whole, plain-op, mark, differ-states, any_gate, any_latch, any_output, gate-low, long-name}
 use Rattle.csub_text.proofs.Lexing.{IsVariable, variable-input, variable-state, variable-gate, variable-wire, variable-next, variable-answer}
 use Rattle.csub_text.proofs.Lexing.{variable-given, variable-shown}
-use Rattle.csub_text.proofs.Spelling.{IsPlain, IsSpelled, program_kinds, says-program, spells-program, written_program, meant-written, nesting-written}
+use Rattle.csub_text.proofs.Spelling.{IsPlain, IsFramed, IsSpelled, program_kinds, says-program, spells-program, written_program, meant-written}
+use Rattle.csub_text.proofs.Spelling.{nesting-written}
 use Rattle.csub_text.proofs.NetNames.{input_names, next_names}
 use Rattle.net_ir.specs.Numbered.{numbered}
 use Rattle.net_ir.specs.Writing.{IsWritable}
 use Rattle.csub_text.proofs.NetRules.{EachAssign, each-assign, net_name-input, net_name-state, net_name-gate}
 use Rattle.csub_text.proofs.NetSets.{names-fit}
-use Rattle.csub_text.proofs.NetCalls.{Leaves, call-leaves}
+use Rattle.csub_text.proofs.NetCalls.{Shows, Leaves, call-leaves}
 
 -- ---- inputs and outputs
 
@@ -60,10 +61,10 @@ all_outputs : (outputs : List NetOut) → filter begins_output (map output_varia
 all_outputs [] = refl
 all_outputs (o ∷ outputs) = ap (λ l. output_variable o ∷ l) (all_outputs outputs)
 
-inputs-net : (net : Netlist) → inputs_of (net_program net) ≡ map input_variable net.inputs
+pub inputs-net : (net : Netlist) → inputs_of (net_program net) ≡ map input_variable net.inputs
 inputs-net net = inputs-given net.inputs (map output_variable net.outputs) (no_inputs net.outputs)
 
-outputs-net : (net : Netlist) → outputs_of (net_program net) ≡ map output_variable net.outputs
+pub outputs-net : (net : Netlist) → outputs_of (net_program net) ≡ map output_variable net.outputs
 outputs-net net = outputs-given net.inputs (map output_variable net.outputs) ∙ all_outputs net.outputs
 
 -- ---- runs
@@ -95,7 +96,7 @@ first-keeps n (l ∷ latches) differ (suc j) h =
     ∙ any-none (is_same_name (state_name n)) names (not-true (is_among (state_name n) names) parts.0) j [] (omega arith) in
     ap (λ k. first_memory (numbered net_state n (l ∷ latches)) (state_name k)) s ∙ rw apart (first-keeps (n + 1) latches parts.1 j (omega arith))
 
-begins-kept : (net : Netlist) → IsWritable net → Keeps net (first_memory (net_program net).states) (initial_latches net)
+pub begins-kept : (net : Netlist) → IsWritable net → Keeps net (first_memory (net_program net).states) (initial_latches net)
 begins-kept net is j h =
     let z : j ≡ 0 + j = omega arith in
     ap (λ k. first_memory (net_program net).states (state_name k)) z ∙ first-keeps 0 net.latches (differ-states net is) j h
@@ -108,12 +109,12 @@ call-net net is latches inputs m wide_l wide_i keeps =
     subst (λ names. Leaves net (net_values net latches inputs) (run_body (net_body net) (with_inputs names inputs m))) (sym (inputs-net net))
     (call-leaves net is latches inputs m wide_l wide_i keeps)
 
-kept-next : (net : Netlist) (values : List Bool) (m : Memory) → Leaves net values m → Keeps net m (next_latches net values)
-kept-next net values m leaves j h =
-    leaves.states j h ∙ sym (get_or-map (λ (l : Latch). value_in values l.from.0) net.latches j any_latch false h)
+pub kept-next : (net : Netlist) (values : List Bool) (m : Memory) → Shows net values m → Keeps net m (next_latches net values)
+kept-next net values m shows j h =
+    shows.states j h ∙ sym (get_or-map (λ (l : Latch). value_in values l.from.0) net.latches j any_latch false h)
 
-seen-net : (net : Netlist) (values : List Bool) (m : Memory) → Leaves net values m → seen (net_program net) m ≡ shown_by_call (shown net values)
-seen-net net values m leaves =
+pub seen-net : (net : Netlist) (values : List Bool) (m : Memory) → Shows net values m → seen (net_program net) m ≡ shown_by_call (shown net values)
+seen-net net values m shows =
     let outputs : map m (outputs_of (net_program net)) ≡ map (λ o. value_in values o.net.0) net.outputs =
     ap (map m) (outputs-net net)
     ∙ ext_get_or false (map m (map output_variable net.outputs)) (map (λ o. value_in values o.net.0) net.outputs)
@@ -123,10 +124,10 @@ seen-net net values m leaves =
     let a = length-map (map output_variable net.outputs) m in
     let b = length-map net.outputs output_variable in
     get_or-map m (map output_variable net.outputs) k [] false (omega arith)
-    ∙ ap m (get_or-map output_variable net.outputs k any_output [] (omega arith)) ∙ leaves.outputs k (omega arith)
+    ∙ ap m (get_or-map output_variable net.outputs k any_output [] (omega arith)) ∙ shows.outputs k (omega arith)
     ∙ sym (get_or-map (λ (o : NetOut). value_in values o.net.0) net.outputs k any_output false (omega arith))) in
     ap (λ o. record { outputs = o; answer = m answer_name }) outputs
-    ∙ ap (λ a. record { outputs = map (λ (o : NetOut). value_in values o.net.0) net.outputs; answer = a }) leaves.answer
+    ∙ ap (λ a. record { outputs = map (λ (o : NetOut). value_in values o.net.0) net.outputs; answer = a }) shows.answer
 
 gates-net : (net : Netlist) (latches inputs : List Bool) (m : Memory) → length latches ≡ length net.latches → length inputs ≡ length net.inputs
     → Leaves net (net_values net latches inputs) m → map m (gate_names net) ≡ drop (first_gate net) (net_values net latches inputs)
@@ -157,7 +158,7 @@ runs-net net is f g each (Event inputs ∷ items) latches m wide keeps widths =
     let values = net_values net latches inputs in
     let leaves = call-net net is latches inputs m wide widths.0 keeps in
     let later = runs-net net is f g each items (next_latches net values) (call (net_program net) inputs m) (length-next net values)
-    (kept-next net values (call (net_program net) inputs m) leaves) widths.1 in
+    (kept-next net values (call (net_program net) inputs m) leaves.shows) widths.1 in
     ap (λ x. x ∷ map f (memories_from (net_program net) (call (net_program net) inputs m) items))
     (each latches inputs (call (net_program net) inputs m) wide widths.0 leaves)
     ∙ ap (λ l. g values ∷ l) later
@@ -167,7 +168,7 @@ runs-net net is f g each (Reset ∷ items) latches m wide keeps widths =
 
 -- ---- the text describes the program
 
-net-variable : (net : Netlist) → IsWritable net → (n : ℕ) → n < net_count net → IsVariable (net_name net n)
+pub net-variable : (net : Netlist) → IsWritable net → (n : ℕ) → n < net_count net → IsVariable (net_name net n)
 net-variable net is n h =
     let few = is.is_net.numbered in
     net_cases net n h
@@ -180,11 +181,11 @@ net-variable net is n h =
     gate-variable k None small fits = variable-gate k small
     gate-variable k (Some w) small fits = variable-wire w.0 (omega (arith, fits))
 
-record IsReadable (a : Assign) : Type 0 where
-  target : IsVariable a.target
-  value : IsPlain a.value
+pub record IsReadable (a : Assign) : Type 0 where
+  pub target : IsVariable a.target
+  pub value : IsPlain a.value
 
-assigns-readable : (net : Netlist) → IsWritable net → EachAssign IsReadable net
+pub assigns-readable : (net : Netlist) → IsWritable net → EachAssign IsReadable net
 assigns-readable net is =
     let few = is.is_net.numbered in
     record {
@@ -220,10 +221,9 @@ gate-own : (k : ℕ) (wire : _) → begins_global (gate_name k wire) ≡ false
 gate-own k None = no_global (gate_name k None) refl refl
 gate-own k (Some w) = no_global (gate_name k (Some w)) refl refl
 
-spelled-net : (net : Netlist) → IsWritable net → IsSpelled (net_program net)
-spelled-net net is =
+pub framed-net : (net : Netlist) → IsWritable net → IsFramed (net_program net).states (net_globals net) (net_locals net) (Name answer_name)
+framed-net net is =
     let few = is.is_net.numbered in
-    let all = each-assign IsReadable net (assigns-readable net is) in
     record {
       states = All-numbered (λ s. IsVariable s.name) net_state 0 net.latches (λ k d h. variable-state (0 + k) (omega arith));
       globals = All-append IsVariable (map input_variable net.inputs) (map output_variable net.outputs)
@@ -235,8 +235,6 @@ spelled-net net is =
           (All-append IsVariable (next_names net) (answer_name ∷ [])
           (All-numbered IsVariable (λ j latch. next_name j) 0 net.latches (λ k d h. variable-next (0 + k) (omega arith)))
           (one IsVariable answer_name variable-answer)));
-      targets = λ k d h. (all k d h).target;
-      values = λ k d h. (all k d h).value;
       answer = variable-answer;
       states_own = All-numbered (λ s. begins_global s.name ≡ false) net_state 0 net.latches (λ k d h. no_global (state_name (0 + k)) refl refl);
       globals_long = All-append (λ n. global_name (Named n) ≡ Some n) (map input_variable net.inputs) (map output_variable net.outputs)
@@ -263,6 +261,11 @@ spelled-net net is =
         subst IsVariable (net_name-gate net k d h ∙ ap (λ i. gate_name i (get_or net.gates k d).wire) (sym z))
         (net-variable net is (first_gate net + k) (omega arith)))
 
+spelled-net : (net : Netlist) → IsWritable net → IsSpelled (net_program net)
+spelled-net net is =
+    let all = each-assign IsReadable net (assigns-readable net is) in
+    record { frame = framed-net net is; targets = λ k d h. (all k d h).target; values = λ k d h. (all k d h).value }
+
 describes-net : (net : Netlist) → IsWritable net → Describes (written net) (net_program net)
 describes-net net is =
     let p = net_program net in
@@ -288,7 +291,7 @@ Means-written net is =
       states = refl;
       shows = λ items widths.
           runs-net net is (seen (net_program net)) (λ values. shown_by_call (shown net values))
-          (λ latches inputs m wl wi leaves. seen-net net (net_values net latches inputs) m leaves)
+          (λ latches inputs m wl wi leaves. seen-net net (net_values net latches inputs) m leaves.shows)
           items (initial_latches net) (first_memory (net_program net).states) wide (begins-kept net is) widths
           ∙ map-composed shown_by_call (shown net) (net_values_run net items);
       nets = λ items widths.

@@ -32,7 +32,7 @@ use Rattle.net_ir.specs.Numbered.{numbered}
 use Rattle.net_ir.specs.Writing.{IsWritable}
 use Rattle.expr_text.proofs.Naming as naming
 
-declared-net : (net : Netlist) → declared (net_program net) ≡ state_names net ++ (net_globals net ++ net_locals net)
+pub declared-net : (net : Netlist) → declared (net_program net) ≡ state_names net ++ (net_globals net ++ net_locals net)
 declared-net net =
     append_assoc (map (λ s. s.name) (net_program net).states) (net_globals net) (net_locals net)
     ∙ ap (λ l. l ++ (net_globals net ++ net_locals net)) (map-numbered (λ s. s.name) net_state 0 net.latches)
@@ -58,7 +58,7 @@ net_name-gate = naming.net_name-gate input_name
 abbrev pub all_declared : Netlist → List (List ℕ)
 all_declared net = state_names net ++ (net_globals net ++ net_locals net)
 
-declared-local : (net : Netlist) (x : List ℕ) → is_among x (net_locals net) ≡ true → is_among x (all_declared net) ≡ true
+pub declared-local : (net : Netlist) (x : List ℕ) → is_among x (net_locals net) ≡ true → is_among x (all_declared net) ≡ true
 declared-local net x h = among-right x (state_names net) (net_globals net ++ net_locals net) (among-right x (net_globals net) (net_locals net) h)
 
 declared-global : (net : Netlist) (x : List ℕ) → is_among x (net_globals net) ≡ true → is_among x (all_declared net) ≡ true
@@ -67,7 +67,7 @@ declared-global net x h = among-right x (state_names net) (net_globals net ++ ne
 local-input : (net : Netlist) (j : ℕ) (d : List ℕ) → j < length net.inputs → is_among (input_name j) (net_locals net) ≡ true
 local-input net j d h = among-left (input_name j) (input_names net) _ (among-numbered (λ j name. input_name j) net.inputs j d h)
 
-local-gate : (net : Netlist) (k : ℕ) (d : Gate) → k < length net.gates → is_among (gate_name k (get_or net.gates k d).wire) (net_locals net) ≡ true
+pub local-gate : (net : Netlist) (k : ℕ) (d : Gate) → k < length net.gates → is_among (gate_name k (get_or net.gates k d).wire) (net_locals net) ≡ true
 local-gate net k d h = among-right _ (input_names net) _ (among-left _ (gate_names net) _ (among-numbered (λ k gate. gate_name k gate.wire) net.gates k d h))
 
 local-next : (net : Netlist) (j : ℕ) (d : Latch) → j < length net.latches → is_among (next_name j) (net_locals net) ≡ true
@@ -75,7 +75,7 @@ local-next net j d h =
     among-right (next_name j) (input_names net) _ (among-right (next_name j) (gate_names net) _ (among-left (next_name j) (next_names net) _
     (among-numbered (λ j latch. next_name j) net.latches j d h)))
 
-local-answer : (net : Netlist) → is_among answer_name (net_locals net) ≡ true
+pub local-answer : (net : Netlist) → is_among answer_name (net_locals net) ≡ true
 local-answer net =
     among-right answer_name (input_names net) _ (among-right answer_name (gate_names net) _ (among-right answer_name (next_names net) (answer_name ∷ []) refl))
 

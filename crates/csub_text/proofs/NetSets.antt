@@ -101,10 +101,10 @@ covered-gates net before n (g ∷ gates) rest answer named low known go =
 
 -- ---- the whole body
 
-no_local-state : (net : Netlist) (j : ℕ) → is_among (state_name j) (net_locals net) ≡ false
+pub no_local-state : (net : Netlist) (j : ℕ) → is_among (state_name j) (net_locals net) ≡ false
 no_local-state net j = differ-by mark (λ m. m == 115) (state_name j) (net_locals net) refl (marks-locals net (λ m. not (m == 115)) refl refl refl refl refl)
 
-no_local-given : (net : Netlist) (name : List ℕ) → is_among (input_variable name) (net_locals net) ≡ false
+pub no_local-given : (net : Netlist) (name : List ℕ) → is_among (input_variable name) (net_locals net) ≡ false
 no_local-given net name = differ-by mark (λ m. m == 73) (input_variable name) (net_locals net) refl
     (marks-locals net (λ m. not (m == 73)) refl refl refl refl refl)
 

@@ -3,6 +3,6 @@ pub use Rattle.est_ast.proofs.Fronts.{IsOther, bad_front, big_front, block_front
 pub use Rattle.est_ast.proofs.Fronts.{reserved_front, space_front}
 pub use Rattle.est_ast.proofs.OneLexing.{at_most_one}
 pub use Rattle.est_ast.proofs.OneToken.{mark_of, mark_of-head, read-spelling, read_word}
-pub use Rattle.est_ast.proofs.Rows.{expr-And, expr-Or, form-AbortCase, form-AwaitCase, form-Par, form-PresentCase, form-Seq}
+pub use Rattle.est_ast.proofs.Rows.{expr-And, expr-Or, form-AbortCase, form-AwaitCase, form-Par, form-PresentCase, form-Seq, rows}
 pub use Rattle.est_ast.proofs.FlatRows.{flat_expr-And, flat_expr-Or, flat_form-AbortCase, flat_form-AwaitCase, flat_form-Par, flat_form-PresentCase}
 pub use Rattle.est_ast.proofs.FlatRows.{flat_form-Seq}

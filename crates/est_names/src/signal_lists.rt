@@ -11,7 +11,7 @@ use est_base::NoMemory;
 
 /// Puts those of a statement behind the others, in the order of the text.
 #[cycle(signal_lists)]
-#[tactic(auto, using(est_ast::proofs::Rows::rows))]
+#[tactic(auto, using(est_ast::proofs::Exports::rows))]
 pub fn push_lists<'a>(lists: &mut Vec<&'a [Name]>, statement: &'a Stmt) -> Result<(), NoMemory>
     ensures { OnOk result (map (λ l. l.now) lists.new.items
         ≡ map (λ l. l.now) lists.old.items ++ signal_lists (stmt_of statement.now)) }

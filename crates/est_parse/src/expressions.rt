@@ -104,7 +104,7 @@ impl ExprLanguage for Tests {
         }
     }
 
-    #[tactic(auto, using(est_ast::proofs::Rows::rows))]
+    #[tactic(auto, using(est_ast::proofs::Exports::rows))]
     fn all(parts: Vec<SigExpr>) -> SigExpr
         requires { 1 < vec_len parts }
         ensures { expr_of result ≡ And (exprs (map expr_of parts.items)) }
@@ -112,7 +112,7 @@ impl ExprLanguage for Tests {
         SigExpr::And(parts)
     }
 
-    #[tactic(auto, using(est_ast::proofs::Rows::rows))]
+    #[tactic(auto, using(est_ast::proofs::Exports::rows))]
     fn any(parts: Vec<SigExpr>) -> SigExpr
         requires { 1 < vec_len parts }
         ensures { expr_of result ≡ Or (exprs (map expr_of parts.items)) }

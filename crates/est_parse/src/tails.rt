@@ -21,7 +21,7 @@ pub enum Tail {
 }
 
 // The statement that waits for it.
-#[tactic(auto, using(est_ast::proofs::Rows::rows))]
+#[tactic(auto, using(est_ast::proofs::Exports::rows))]
 pub fn await_on(tail: Tail) -> Form
     ensures { form_of result ≡ await_of (tail_of tail) }
 {
@@ -32,7 +32,7 @@ pub fn await_on(tail: Tail) -> Form
 }
 
 // The statement that it ends.
-#[tactic(auto, using(est_ast::proofs::Rows::rows))]
+#[tactic(auto, using(est_ast::proofs::Exports::rows))]
 pub fn abort_on(body: Box<Stmt>, tail: Tail) -> Form
     ensures { form_of result ≡ abort_of (boxed body, tail_of tail) }
 {
@@ -54,7 +54,7 @@ pub fn await_from<'a>(
 }
 
 // `present` with these cases.
-#[tactic(auto, using(est_ast::proofs::Rows::rows))]
+#[tactic(auto, using(est_ast::proofs::Exports::rows))]
 pub fn present_of_cases(found: Vec<Case>, other: Option<Box<Stmt>>) -> Form
     ensures { form_of result ≡ PresentCase (cases (map case_of found.items)) (part_of other) }
 {

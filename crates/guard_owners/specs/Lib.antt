@@ -1,3 +1,4 @@
 pub mod Owners
 pub mod Usages
 pub mod Blocks
+pub mod Resting

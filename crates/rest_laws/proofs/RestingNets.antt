@@ -17,7 +17,7 @@ use Rattle.grc_graph.specs.Walk.{Initial}
 use Rattle.grc_graph.specs.Wires.{Wire, Go}
 use Rattle.grc_sem.specs.Heads.{RegionRests, region_of}
 use Rattle.grc_sem.proofs.Exports.{regions_rest_in_runs_lem}
-use Rattle.rest_laws.specs.Resting.{AreAtRest}
+use Rattle.guard_owners.specs.Resting.{AreAtRest}
 use Rattle.guard_regions.specs.Regions.{AreRegions, IsRegion}
 use Rattle.net_gen.specs.Generated.{Carries, EachInstant}
 use Rattle.net_ir.specs.declared.netlist.Gate.{Gate}

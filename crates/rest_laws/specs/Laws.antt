@@ -10,7 +10,7 @@ use Rattle.grc_graph.specs.GraphRuns.{IsGraphRun, graph_of}
 use Rattle.grc_graph.specs.Readings.{Valuation}
 use Rattle.grc_graph.specs.Selected.{HasExitCodes}
 use Rattle.grc_graph.specs.Walk.{Initial}
-use Rattle.rest_laws.specs.Resting.{AreAtRest}
+use Rattle.guard_owners.specs.Resting.{AreAtRest}
 use Rattle.guard_regions.specs.Regions.{AreRegions}
 use Rattle.net_gen.specs.Generated.{FollowsRuns}
 use Rattle.net_ir.specs.Netlists.{Netlist}

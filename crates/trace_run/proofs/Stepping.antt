@@ -15,6 +15,7 @@ use Rattle.trace_io.specs.declared.faults.TraceError.{TraceError}
 use Rattle.trace_io.specs.declared.faults.TraceError.TheVariants as errors
 use Rattle.trace_run.specs.declared.running.RunFault.{RunFault}
 use Rattle.trace_run.specs.declared.running.RunFault.TheVariants.{Trace, Write, NoMemory}
+use Rattle.trace_run.specs.Becoming.{Passes, shown_until}
 use Rattle.trace_run.specs.Machines.{Answer, Answered, PutBack, Brings, answer_lines}
 use Rattle.est_base.specs.SinkChanges.{SinkChange}
 use Rattle.trace_run.specs.Running.{RunsTrace}
@@ -90,6 +91,17 @@ step-reset shows names r later s t told faults behind within is same back =
       stands = (subst (λ k. r.at < k) at fits.0, subst (λ (q : Reading). q.at ≤ length q.text) (sym same) fits.1);
     }
 
+-- a reset and a reaction, whatever the machine becomes
+pub back-until : {S : Type 0} (shows : S → List Item → List Answer → Type 0) (becomes : S → List Item → S → Type 0) (last s t : S)
+    → PutBack shows s t → Passes becomes Reset s t → PutBack (shown_until shows becomes last) s t
+back-until shows becomes last s t back passes items answers h = (back items answers h.0, passes items last h.1)
+
+pub answered-until : {S : Type 0} (shows : S → List Item → List Answer → Type 0) (becomes : S → List Item → S → Type 0) (last s t : S)
+    (event : List Bool) (answer : Answer) → Answered shows s event answer t → Passes becomes (Event event) s t
+    → Answered (shown_until shows becomes last) s event answer t
+answered-until shows becomes last s t event answer react passes =
+    record { in_front = λ items answers h. (react.in_front items answers h.0, passes items last h.1) }
+
 abbrev pub more_after : Result (Unit {0}) RunFault → Result Bool RunFault
 more_after (Ok done) = Ok true
 more_after (Err fault) = Err fault
@@ -144,6 +156,12 @@ pub record SoFar {S : Type 0} (shows : S → List Item → List Answer → Type 
   pub led : Led shows old items answers new
   pub came : Appends before after f g (answer_lines names answers)
 
+-- the same, whatever machine it becomes behind the items that are left
+abbrev pub SoFarTowards : {S : Type 0} → (S → List Item → List Answer → Type 0) → (S → List Item → S → Type 0)
+    → (names : List (List ℕ)) (r later : Reading) (old new : S) (before after : Option (List ℕ)) (f g : ℕ) → Type 0
+SoFarTowards {S} shows becomes names r later old new before after f g =
+    (last : S) → SoFar (shown_until shows becomes last) names r later old new before after f g
+
 pub so-far-nothing : {S : Type 0} (shows : S → List Item → List Answer → Type 0) (names : List (List ℕ)) (r : Reading) (s : S)
     (told : Option (List ℕ)) (f : ℕ) → SoFar shows names r r s s told told f f
 so-far-nothing shows names r s told f =
@@ -188,32 +206,32 @@ both shows names r q p s t u a b c f g h result so step = record {
   led = led-more shows s t u so.items so.answers step.items step.answers so.led step.led;
 }
 
-ends-at : {S : Type 0} (shows : S → List Item → List Answer → Type 0) (ends : (x : S) → shows x [] []) (names : List (List ℕ)) (r q p : Reading)
-    (s t u : S) (a b c : Option (List ℕ)) (f g h : ℕ) → SoFar shows names r q s t a b f g
+ends-at : {S : Type 0} (shows : S → List Item → List Answer → Type 0) (names : List (List ℕ)) (r q p : Reading)
+    (s t u : S) (ends : shows u [] []) (a b c : Option (List ℕ)) (f g h : ℕ) → SoFar shows names r q s t a b f g
     → IsStep shows names q p t u (over b c g h) (Ok false) → RunsTrace (Brings shows names s) r (over a c f h) (Ok tt)
-ends-at shows ends names r q p s t u a b c f g h so step =
+ends-at shows names r q p s t u ends a b c f g h so step =
     let all = both shows names r q p s t u a b c f g h (Ok false) so step in
     let lines = lines-of names so.answers step.answers in (
       all.items,
       answer_lines names all.answers,
       whole-leads r p all.items all.leads step.stands,
-      record { answers = all.answers; shown = led-shown shows s u all.items all.answers (ends u) all.led; lines = refl },
+      record { answers = all.answers; shown = led-shown shows s u all.items all.answers ends all.led; lines = refl },
       subst (λ x. Appends a c f h x) (sym lines) (appends-twice a b c f g h _ _ so.came step.came),
     )
 
-stops-at : {S : Type 0} (shows : S → List Item → List Answer → Type 0) (ends : (x : S) → shows x [] []) (names : List (List ℕ)) (r q p : Reading)
-    (s t u : S) (a b c : Option (List ℕ)) (f g h : ℕ) (fault : RunFault) → SoFar shows names r q s t a b f g
+stops-at : {S : Type 0} (shows : S → List Item → List Answer → Type 0) (names : List (List ℕ)) (r q p : Reading)
+    (s t u : S) (ends : shows u [] []) (a b c : Option (List ℕ)) (f g h : ℕ) (fault : RunFault) → SoFar shows names r q s t a b f g
     → IsStep shows names q p t u (over b c g h) (Err fault) → RunsTrace (Brings shows names s) r (over a c f h) (Err fault)
-stops-at shows ends names r q p s t u a b c f g h (Trace fault) so step =
+stops-at shows names r q p s t u ends a b c f g h (Trace fault) so step =
     let all = both shows names r q p s t u a b c f g h (Err (Trace fault)) so step in
     let lines = lines-of names so.answers step.answers in (
       all.items,
       answer_lines names all.answers,
       fault-leads r p all.items fault all.leads step.stands,
-      record { answers = all.answers; shown = led-shown shows s u all.items all.answers (ends u) all.led; lines = refl },
+      record { answers = all.answers; shown = led-shown shows s u all.items all.answers ends all.led; lines = refl },
       subst (λ x. Appends a c f h x) (sym lines) (appends-twice a b c f g h _ _ so.came step.came),
     )
-stops-at shows ends names r q p s t u a b c f g h Write so step =
+stops-at shows names r q p s t u ends a b c f g h Write so step =
     let all = both shows names r q p s t u a b c f g h (Err Write) so step in
     let first = answer_lines names so.answers in
     let second = answer_lines names step.answers in
@@ -222,17 +240,17 @@ stops-at shows ends names r q p s t u a b c f g h Write so step =
       all.items,
       answer_lines names all.answers,
       front-leads r p all.items all.leads,
-      record { answers = all.answers; shown = led-shown shows s u all.items all.answers (ends u) all.led; lines = refl },
+      record { answers = all.answers; shown = led-shown shows s u all.items all.answers ends all.led; lines = refl },
       subst (λ x. Stops a c f h x) lines (stops-behind a b c f g h first second [] so.came step.came),
     )
-stops-at shows ends names r q p s t u a b c f g h NoMemory so step =
+stops-at shows names r q p s t u ends a b c f g h NoMemory so step =
     let all = both shows names r q p s t u a b c f g h (Err NoMemory) so step in
     let first = answer_lines names so.answers in
     let second = answer_lines names step.answers in (
       all.items,
       answer_lines names all.answers,
       front-leads r p all.items all.leads,
-      record { answers = all.answers; shown = led-shown shows s u all.items all.answers (ends u) all.led; lines = refl },
+      record { answers = all.answers; shown = led-shown shows s u all.items all.answers ends all.led; lines = refl },
       step.came.0 ∙ so.came.faults,
       subst (λ x. GainsFront a c x) (sym (lines-of names so.answers step.answers)) (front-behind a b c first second f g so.came step.came.1),
     )
@@ -245,17 +263,25 @@ runs-so W V r s (Err (Trace fault)) f x = (x.0, x.1, x.2, f x.0 x.1 x.3, x.4)
 runs-so W V r s (Err Write) f x = (x.0, x.1, x.2, f x.0 x.1 x.3, x.4)
 runs-so W V r s (Err NoMemory) f x = (x.0, x.1, x.2, f x.0 x.1 x.3, x.4, x.5)
 
--- the last item of a run, which began at a reading
-pub run-ends : {S : Type 0} (shows : S → List Item → List Answer → Type 0) (ends : (x : S) → shows x [] []) (names : List (List ℕ)) (first r q p : Reading)
-    (s t u : S) (a b c : Option (List ℕ)) (f g h : ℕ) → r ≡ first → SoFar shows names r q s t a b f g
-    → IsStep shows names q p t u (over b c g h) (Ok false) → RunsTrace (Brings shows names s) first (over a c f h) (Ok tt)
-run-ends shows ends names first r q p s t u a b c f g h same so step =
-    subst (λ x. RunsTrace (Brings shows names s) x (over a c f h) (Ok tt)) same
-    (ends-at shows ends names r q p s t u a b c f g h so step)
+-- what the machine becomes is left out
+pub runs-shown : {S : Type 0} (shows : S → List Item → List Answer → Type 0) (becomes : S → List Item → S → Type 0) (last : S) (names : List (List ℕ)) (s : S)
+    (r : Reading) (c : SinkChange) (result : Result (Unit {0}) RunFault) → RunsTrace (Brings (shown_until shows becomes last) names s) r c result
+    → RunsTrace (Brings shows names s) r c result
+runs-shown shows becomes last names s r c result runs =
+    runs-so (Brings (shown_until shows becomes last) names s) (Brings shows names s) r c result
+    (λ items text brings. record { answers = brings.answers; shown = brings.shown.0; lines = brings.lines }) runs
 
-pub run-stops : {S : Type 0} (shows : S → List Item → List Answer → Type 0) (ends : (x : S) → shows x [] []) (names : List (List ℕ)) (first r q p : Reading)
-    (s t u : S) (a b c : Option (List ℕ)) (f g h : ℕ) (fault : RunFault) → r ≡ first → SoFar shows names r q s t a b f g
+-- the last item of a run, which began at a reading
+pub run-ends : {S : Type 0} (shows : S → List Item → List Answer → Type 0) (names : List (List ℕ)) (first r q p : Reading)
+    (s t u : S) (ends : shows u [] []) (a b c : Option (List ℕ)) (f g h : ℕ) → r ≡ first → SoFar shows names r q s t a b f g
+    → IsStep shows names q p t u (over b c g h) (Ok false) → RunsTrace (Brings shows names s) first (over a c f h) (Ok tt)
+run-ends shows names first r q p s t u ends a b c f g h same so step =
+    subst (λ x. RunsTrace (Brings shows names s) x (over a c f h) (Ok tt)) same
+    (ends-at shows names r q p s t u ends a b c f g h so step)
+
+pub run-stops : {S : Type 0} (shows : S → List Item → List Answer → Type 0) (names : List (List ℕ)) (first r q p : Reading)
+    (s t u : S) (ends : shows u [] []) (a b c : Option (List ℕ)) (f g h : ℕ) (fault : RunFault) → r ≡ first → SoFar shows names r q s t a b f g
     → IsStep shows names q p t u (over b c g h) (Err fault) → RunsTrace (Brings shows names s) first (over a c f h) (Err fault)
-run-stops shows ends names first r q p s t u a b c f g h fault same so step =
+run-stops shows names first r q p s t u ends a b c f g h fault same so step =
     subst (λ x. RunsTrace (Brings shows names s) x (over a c f h) (Err fault)) same
-    (stops-at shows ends names r q p s t u a b c f g h fault so step)
+    (stops-at shows names r q p s t u ends a b c f g h fault so step)

@@ -1,4 +1,5 @@
 pub mod Machines
+pub mod Becoming
 pub mod Running
 pub mod Steps
 pub mod Languages

@@ -11,6 +11,7 @@ use Rattle.trace_io.specs.declared.faults.TraceError.{TraceError}
 use Rattle.trace_io.specs.declared.faults.TraceError.TheVariants as errors
 use Rattle.trace_run.specs.declared.running.RunFault.{RunFault}
 use Rattle.trace_run.specs.declared.running.RunFault.TheVariants.{Trace, Write, NoMemory}
+use Rattle.trace_run.specs.Becoming.{shown_until}
 use Rattle.trace_run.specs.Machines.{Answer, answer_lines}
 
 -- the items of a trace between two readings
@@ -53,6 +54,13 @@ pub record IsStep {S : Type 0} (shows : S → List Item → List Answer → Type
   pub led : Led shows old items answers new
   pub came : Came s (answer_lines names answers) result
   pub stands : Stands r later result
+
+-- the same, whatever machine it becomes behind the items that are left
+abbrev pub IsStepTowards : {S : Type 0} → (S → List Item → List Answer → Type 0)
+    → (S → List Item → S → Type 0) → (names : List (List ℕ)) (r later : Reading) (old new : S) (s : SinkChange)
+    (result : Result Bool RunFault) → Type 0
+IsStepTowards {S} shows becomes names r later old new s result =
+    (last : S) → IsStep (shown_until shows becomes last) names r later old new s result
 
 -- why a run ends where the trace has no next item
 abbrev pub trace_stop : TraceError → RunFault

@@ -3,13 +3,15 @@
 ghost use Rattle.std.specs.Prelude.{◌≡◌, ◌<◌, ◌≤◌, ◌^◌, length, map, IsTrue};
 ghost use Rattle.est_base.specs.Names.{is_same_name};
 ghost use Rattle.est_base.specs.Distinct.{all_differ};
+ghost use Rattle.est_base.specs.Items.{Event};
 ghost use Rattle.est_base.specs.Relations.{relation_of};
 ghost use Rattle.est_base.specs.SinkChanges.{change};
 ghost use Rattle.trace_io.specs.Answers.{beginning, reading_of};
 ghost use Rattle.trace_io.specs.Lines.{line};
+ghost use Rattle.trace_run.specs.Becoming.{Passes, shown_until};
 ghost use Rattle.trace_run.specs.Machines.{Answer, Answered, Brings};
 ghost use Rattle.trace_run.specs.Running.{RunsTrace};
-ghost use Rattle.trace_run.specs.Steps.{IsStep, LineCame, trace_stop};
+ghost use Rattle.trace_run.specs.Steps.{IsStepTowards, LineCame, trace_stop};
 
 use crate::machine::Runner;
 use est_base::{InputRelation, NoMemory, Sink, SinkFault, Text};
@@ -52,7 +54,7 @@ pub fn run_trace<R: Runner, O: Sink>(
     requires countable { length interface.relations.items < 2 ^ 32 }
     requires each_input { length interface.given.items ≡ R.input_count runner.old }
     requires each_output { length interface.outgoing.items ≡ R.output_count runner.old }
-    ensures { RunsTrace (Brings R.shows interface.outgoing.items runner.old)
+    ensures { RunsTrace (Brings (shown_until R.shows R.becomes runner.new) interface.outgoing.items runner.old)
         (beginning trace.items interface.given.items (map relation_of interface.relations.items))
         (change O.told O.faults out.old out.new)
         result }
@@ -79,7 +81,7 @@ fn run_item<R: Runner, O: Sink>(
     requires within { (reading_of reader.old).at ≤ length (reading_of reader.old).text }
     requires each_input { length (reading_of reader.old).inputs ≡ R.input_count runner.old }
     requires each_output { length names.now ≡ R.output_count runner.old }
-    ensures step { IsStep R.shows names.now (reading_of reader.old) (reading_of reader.new)
+    ensures step { IsStepTowards R.shows R.becomes names.now (reading_of reader.old) (reading_of reader.new)
         runner.old runner.new
         (change O.told O.faults out.old out.new)
         result }
@@ -126,6 +128,7 @@ fn run_event<R: Runner, O: Sink>(
         × LineCame
         (change O.told O.faults out.old out.new)
         (line names.now answer.present answer.word) result }
+    ensures passes { Passes R.becomes (Event inputs.now) runner.old runner.new }
     ensures inputs_stay { R.input_count runner.new ≡ R.input_count runner.old }
     ensures outputs_stay { R.output_count runner.new ≡ R.output_count runner.old }
 {

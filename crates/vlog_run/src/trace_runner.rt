@@ -79,7 +79,7 @@ impl VlogRunner {
 }
 
 impl Runner for VlogRunner {
-    ghost use Rattle.std.specs.Prelude.{length, take};
+    ghost use Rattle.std.specs.Prelude.{⊤, length, take};
     ghost use Rattle.vlog_run.specs.Ends.{shows_nothing};
     ghost use Rattle.vlog_run.specs.ModuleAnswers.{listed_count};
     ghost use Rattle.vlog_run.specs.Runners.{module_in};
@@ -93,6 +93,8 @@ impl Runner for VlogRunner {
     ghost present = { λ r. take (listed_count (module_in r).outputs) r.outputs };
 
     ghost shows = { runner_shows };
+
+    ghost becomes = { λ r items last. ⊤ };
 
     fn react(&mut self, inputs: &[bool]) -> Word {
         self.runner.react(inputs);
@@ -112,6 +114,8 @@ impl Runner for VlogRunner {
     }
 
     ghost ends = { λ r. shows_nothing r };
+
+    ghost stays = { λ r. tt };
 }
 
 // The names of the inputs and of the listed outputs of a module, without their signs; no relations.

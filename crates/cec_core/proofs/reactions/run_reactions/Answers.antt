@@ -45,7 +45,7 @@ returns-in-Ok-None g c =
     c.in-Ok-None.ensures.step in
     let last = subst (λ o. IsReactionStep c.args.interface.outgoing.items q p c.loop-next.runner c.react_to_item.new.runner s (Ok o))
     c.in-Ok-None.field-0-is step in
-    run-ends RunnerShows none_shown _ _ _ _ _ _ _ _ _ _ _ _ _ _ c.new-reader.ensures
+    run-ends RunnerShows _ _ _ _ _ _ _ _ (none_shown c.react_to_item.new.runner) _ _ _ _ _ _ c.new-reader.ensures
     (shown_so_far _ _ _ _ _ _ _ _ _ c.loop-next.invariant.so_far) last
 
 pub returns-in-Err : goal.returns-in-Err

@@ -1,6 +1,6 @@
 use Rattle.std.proofs.Common.{◌≡◌, ◌-◌, length}
 use Rattle.trace_io.specs.Answers.{reading_of}
-use Rattle.trace_run.proofs.Stepping.{SoFar}
+use Rattle.trace_run.proofs.Stepping.{SoFarTowards}
 use Rattle.trace_run.proofs.running.run_trace.Given as goal
 
 -- what the items so far brought
@@ -8,7 +8,7 @@ abbrev pub invariant-loop-reader : goal.invariant-loop-reader
 invariant-loop-reader g l = record {
   each_input : length l.reader.inputs.items ≡ g.R.Runner.input_count l.runner;
   each_output : length l.names.items ≡ g.R.Runner.output_count l.runner;
-  so_far : SoFar g.R.Runner.shows l.names.items (reading_of l.initial.reader) (reading_of l.reader)
+  so_far : SoFarTowards g.R.Runner.shows g.R.Runner.becomes l.names.items (reading_of l.initial.reader) (reading_of l.reader)
       l.initial.runner l.runner
       (g.O.Sink.told l.initial.out) (g.O.Sink.told l.out) (g.O.Sink.faults l.initial.out) (g.O.Sink.faults l.out);
 }

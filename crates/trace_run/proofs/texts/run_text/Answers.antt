@@ -1,6 +1,7 @@
 use Rattle.std.proofs.Common.{[], refl, map, ap}
 use Rattle.est_base.specs.Relations.{relation_of}
 use Rattle.est_base.proofs.Exports.{gains-nothing}
+use Rattle.trace_run.proofs.Stepping.{runs-shown}
 use Rattle.trace_run.proofs.Written.{runs-own}
 use Rattle.trace_run.proofs.texts.run_text.Goals as goal
 
@@ -21,4 +22,5 @@ returns-in-Ok g c =
     let p = language.plain c.args.machine in
     let e = c.in-Ok.ensures in
     runs-own _ language.shows c.args.machine p (language.outgoing p) (language.given p) c.requires.shows c.args.trace.items _ _ _ _ c.run_trace.result
-    e.outgoing e.given (ap (map relation_of) e.relations) c.run_trace.ensures
+    e.outgoing e.given (ap (map relation_of) e.relations)
+    (runs-shown g.L.Machine.Runner.shows g.L.Machine.Runner.becomes c.run_trace.new.runner _ c.args.machine _ _ c.run_trace.result c.run_trace.ensures)
