@@ -200,6 +200,33 @@ def pages_are_whole():
     return found
 
 
+PROOF_NAMES = re.compile(r"^(?:pub )?use Rattle\.(\w+)\.proofs\.([A-Z]\w*)\.\{(.*)\}", re.M)
+PROOF_RULES = re.compile(r"\busing\((?:[^()]*\b)?(\w+)::proofs::(\w+)::(\w+)")
+
+
+def exports_are_listed():
+    """What other crates use of a crate's proofs by name is what its `proofs/Exports.antt` lists; all of `facts` is for others."""
+    found, listed, used = [], set(), set()
+    ours = set(crates()) - {"facts"}
+    for path in sorted(TOP.glob("crates/*/proofs/**/*.antt")) + sorted(TOP.glob("crates/*/src/**/*.rt")):
+        name = path.relative_to(TOP).as_posix()
+        crate, text = path.relative_to(TOP / "crates").parts[0], path.read_text()
+        if path.suffix == ".rt":
+            uses = PROOF_RULES.findall(text)
+        else:
+            uses = PROOF_NAMES.findall(text)
+        for other, module, names in uses:
+            words = {word.split(" as ")[0].strip() for word in names.split(",")}
+            if path.name == "Exports.antt":
+                listed |= {(crate, word) for word in words}
+            elif other in ours and other != crate:
+                if module != "Exports":
+                    found.append(f"{name}: takes from {other}/proofs/{module}, not from its Exports")
+                used |= {(other, word) for word in words}
+    found += [f"crates/{crate}/proofs/Exports.antt: no other crate uses {word}" for crate, word in sorted(listed - used)]
+    return found
+
+
 CHECKS = [
     ("the repository stands alone", stands_alone, "git"),
     ("every crate is introduced", crates_are_introduced, None),
@@ -209,6 +236,7 @@ CHECKS = [
     ("lines are short", lines_are_short, "git"),
     ("every page is whole", pages_are_whole, None),
     ("each lemma is said once", lemmas_are_said_once, None),
+    ("what other crates use is exported", exports_are_listed, None),
 ]
 
 

@@ -213,7 +213,7 @@ fn graph_net(alloc: Global, graph: &Graph, order: &Order) -> Result<Net, NoMemor
     ensures simple { IfOk result (λ net. IsSimple (netlist_of net)) }
 {
     let drawn = generate(alloc, graph, order)?;
-    let net = simplify(alloc, &drawn)?;
+    let net = simplify(alloc, drawn)?;
     Ok(net)
 }
 

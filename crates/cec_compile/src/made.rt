@@ -78,6 +78,6 @@ fn encoded_net(alloc: Global, net: &Net, tree: &SelTree) -> Result<Net, NoMemory
     ensures simple { IfOk result (λ new. IsSimple (netlist_of new)) }
 {
     let coded = encode(alloc, net, tree)?;
-    let made = simplify(alloc, &coded)?;
+    let made = simplify(alloc, coded)?;
     Ok(made)
 }

@@ -1,9 +1,11 @@
 // Flat programs: one body without `run`, whose signals and traps are numbers.
 
+ghost use Rattle.std.specs.Prelude.{◌≤◌, length};
+
 use est_base::{InputRelation, SigId, SignalInfo, Span, Text};
 
 /// A program whose modules stand in one body. Signals are, in this order, the inputs, the inputoutputs, the
-/// outputs and the local ones, each kind in the order of the text.
+/// outputs and the local ones, each kind in the order of the text. There are at most `Limits::SIGNALS`.
 #[derive(Drop)]
 pub struct Flat {
     /// The main module's name.
@@ -20,6 +22,7 @@ pub struct Flat {
     pub relations: Vec<InputRelation>,
     /// What the program does.
     pub body: FlatStmt,
+    ghost few: { length signals.items ≤ 4096 },
 }
 
 /// A test of signals.

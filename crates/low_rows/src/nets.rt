@@ -20,7 +20,7 @@ pub(crate) fn put_net(alloc: Global, text: &mut String, rest: &[u8]) -> Result<(
     let count = name.parse::<u32>().unwrap_or(0).min(MOST_GATES);
     match asked {
         "texts" => put_texts(alloc, text, &net_of(alloc, name)?),
-        "least" => put_texts(alloc, text, &simplify(alloc, &net_of(alloc, name)?)?),
+        "least" => put_texts(alloc, text, &simplify(alloc, net_of(alloc, name)?)?),
         "solves" => put_solved(alloc, text, words.next().unwrap_or("")),
         "turns" => put_turns(alloc, text, count),
         _ => put_chain(alloc, text, count),

@@ -24,3 +24,4 @@ pub mod EmissionGates
 pub mod NextGates
 pub mod EquationGates
 pub mod SizeBounds
+mod FirstNumbers

@@ -22,26 +22,16 @@ struct FirstNumbers {
     first: u32,
 }
 
-// The numbers of the inputs, of the latches and of two gates are u32, or else memory is said to be wanted.
-fn count_before_gates(graph: &Graph) -> Result<FirstNumbers, NoMemory>
-    ensures given { IfOk result (λ n. n.given ≡ given_count (program_of graph.now.program)) }
-    ensures first { IfOk result (λ n. n.first ≡ first_of graph.now) }
-    ensures fits { IfOk result (λ n. first_of graph.now + 2 < 2 ^ 32) }
+// The limits on signals and on kernel nodes keep the numbers of the inputs, of the latches and of two gates small.
+fn count_before_gates(graph: &Graph) -> FirstNumbers
+    ensures given { result.given ≡ given_count (program_of graph.now.program) }
+    ensures first { result.first ≡ first_of graph.now }
+    ensures fits { first_of graph.now + 2 < 2 ^ 32 }
 {
     let program = graph.program();
-    let given = program.inputs as usize + program.both as usize;
-    let leaves = graph.next.len();
-    if leaves >= u32::MAX as usize {
-        return Err(NoMemory);
-    }
-    let first = given + 1 + leaves;
-    if first + 2 > u32::MAX as usize {
-        return Err(NoMemory);
-    }
-    Ok(FirstNumbers {
-        given: given as u32,
-        first: first as u32,
-    })
+    let given = program.inputs + program.both;
+    let first = given + 1 + graph.next.len() as u32;
+    FirstNumbers { given, first }
 }
 
 // A table without an entry.
@@ -64,7 +54,7 @@ fn constant_gate(value: bool) -> Gate
 pub(crate) fn begin(alloc: Global, graph: &Graph, words: &Words) -> Result<Circuit, NoMemory>
     ensures { IfOk result (λ c. Begun graph.now words.now (drawing_of c)) }
 {
-    let numbers = count_before_gates(graph)?;
+    let numbers = count_before_gates(graph);
     let wires = graph.wires().len();
     Ok(Circuit {
         given: numbers.given,

@@ -36,7 +36,7 @@ pub fn optimize(alloc: Global, net: &Net) -> Result<Net, NoMemory>
     ensures simple { IfOk result (λ new. IsSimple (netlist_of new)) }
 {
     let small = searched_net(alloc, net)?;
-    Ok(simplify(alloc, &small)?)
+    Ok(simplify(alloc, small)?)
 }
 
 // What the passes find.

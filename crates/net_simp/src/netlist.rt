@@ -23,23 +23,23 @@ use std::alloc::Global;
 /// order its operands stand, of none the rules make less, none is a copy, none reads a copy, a constant, or one
 /// net twice, and each is read. It takes time linear in the gates, but for hashing. Its only error is want of
 /// memory.
-pub fn simplify(alloc: Global, net: &Net) -> Result<Net, NoMemory>
-    ensures parts { IfOk result (λ new. SameParts (netlist_of net.now) (netlist_of new)) }
-    ensures instants { IfOk result (λ new. SameInstants (netlist_of net.now) (netlist_of new)) }
-    ensures runs { IfOk result (λ new. SameRuns (netlist_of net.now) (netlist_of new)) }
+pub fn simplify(alloc: Global, net: Net) -> Result<Net, NoMemory>
+    ensures parts { IfOk result (λ new. SameParts (netlist_of net) (netlist_of new)) }
+    ensures instants { IfOk result (λ new. SameInstants (netlist_of net) (netlist_of new)) }
+    ensures runs { IfOk result (λ new. SameRuns (netlist_of net) (netlist_of new)) }
     ensures simple { IfOk result (λ new. IsSimple (netlist_of new)) }
 {
     Ok(simplified_net(alloc, net)?)
 }
 
 // The passes, one after another.
-fn simplified_net(alloc: Global, net: &Net) -> Result<Net, NoMemory>
-    ensures { IfOk result (λ new. Simplified (netlist_of net.now) (netlist_of new)) }
+fn simplified_net(alloc: Global, net: Net) -> Result<Net, NoMemory>
+    ensures { IfOk result (λ new. Simplified (netlist_of net) (netlist_of new)) }
 {
     let first = net.inputs.len() + net.latches.len();
     let draft = folded_gates(alloc, first, &net.gates)?;
     let mut marks = first_marks(alloc, first, &draft.gates)?;
-    mark_needed(net, first, &draft, &mut marks);
+    mark_needed(&net, first, &draft, &mut marks);
     let kept = packed_gates(alloc, first, &marks, &draft.gates)?;
     let Renumbered { names, gates } = kept;
     let made = renamed_net(alloc, net, &draft.names, &names, gates)?;
@@ -49,25 +49,23 @@ fn simplified_net(alloc: Global, net: &Net) -> Result<Net, NoMemory>
 // The netlist of these gates, where `draft` and then `kept` tell what stands for a net.
 fn renamed_net(
     alloc: Global,
-    net: &Net,
+    net: Net,
     draft: &[NetId],
     kept: &[NetId],
     gates: Vec<Gate>,
 ) -> Result<Net, NoMemory>
-    requires old_in_range { (n : ℕ) → n < net_count (netlist_of net.now) → n < length draft.now }
+    requires old_in_range { (n : ℕ) → n < net_count (netlist_of net) → n < length draft.now }
     requires draft_in_range { (n : ℕ) → n < length draft.now → stand_in draft.now n < length kept.now }
-    requires is_net { IsNet (renamed_net (netlist_of net.now) (through draft.now kept.now) gates.items) }
+    requires is_net { IsNet (renamed_net (netlist_of net) (through draft.now kept.now) gates.items) }
     ensures { IfOk result (λ new. netlist_of new
-        ≡ renamed_net (netlist_of net.now) (through draft.now kept.now) gates.items) }
+        ≡ renamed_net (netlist_of net) (through draft.now kept.now) gates.items) }
 {
-    let name = Text::from_bytes(alloc, net.name.bytes())?;
-    let inputs = copied_names(alloc, &net.inputs)?;
     let outputs = renamed_outputs(alloc, draft, kept, &net.outputs)?;
     let paused = stand_in(kept, stand_in(draft, net.paused));
     let latches = renamed_latches(alloc, draft, kept, &net.latches)?;
     Ok(Net {
-        name,
-        inputs,
+        name: net.name,
+        inputs: net.inputs,
         outputs,
         paused,
         latches,

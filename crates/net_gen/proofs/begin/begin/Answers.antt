@@ -10,6 +10,7 @@ returns c =
     let gates : c.in_ok-vec.field-0.items ≡ constant false ∷ (constant true ∷ []) = c.in_ok-vec.ensures.items
     ∙ ap (λ (x : Gate). x ∷ (c.constant_gate-2.result ∷ [])) c.constant_gate.ensures
     ∙ ap (λ (y : Gate). constant false ∷ (y ∷ [])) c.constant_gate-2.ensures in
-    begun c.args.graph.now c.args.words.now _ c.in_ok-numbers.ensures.given c.in_ok-numbers.ensures.first c.in_ok-numbers.ensures.fits refl refl
-    gates (c.in_ok-no_nets.ensures ∙ ap no_entries many) (c.in_ok-no_nets-2.ensures ∙ ap no_entries many)
+    let numbers = c.count_before_gates-numbers.ensures in
+    begun c.args.graph.now c.args.words.now _ numbers.given numbers.first numbers.fits refl refl gates
+    (c.in_ok-no_nets.ensures ∙ ap no_entries many) (c.in_ok-no_nets-2.ensures ∙ ap no_entries many)
     (c.in_ok-no_nets-3.ensures ∙ ap no_entries rows)

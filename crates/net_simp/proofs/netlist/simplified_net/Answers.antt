@@ -9,7 +9,7 @@ use Rattle.net_simp.proofs.netlist.simplified_net.Goals as goal
 
 pub packed_gates-requires-clause-closed : goal.packed_gates-requires-clause-closed
 packed_gates-requires-clause-closed c =
-    let old = c.args.net.now in
+    let old = c.args.net in
     let net = netlist_of old in
     let first : c.len.result + c.len-2.result ≡ first_gate net = omega (arith, old.inputs.ok.0, old.latches.ok.0, c.len.ensures, c.len-2.ensures) in
     let draft = c.in_ok-draft.draft.names.items in
@@ -22,7 +22,7 @@ packed_gates-requires-clause-closed c =
 
 pub renamed_net-requires-clause-is_net : goal.renamed_net-requires-clause-is_net
 renamed_net-requires-clause-is_net c =
-    let old = c.args.net.now in
+    let old = c.args.net in
     let net = netlist_of old in
     let first : c.len.result + c.len-2.result ≡ first_gate net = omega (arith, old.inputs.ok.0, old.latches.ok.0, c.len.ensures, c.len-2.ensures) in
     let draft = c.in_ok-draft.draft.names.items in
@@ -41,7 +41,7 @@ renamed_net-requires-clause-is_net c =
 
 pub returns : goal.returns
 returns c =
-    let old = c.args.net.now in
+    let old = c.args.net in
     let net = netlist_of old in
     let first : c.len.result + c.len-2.result ≡ first_gate net = omega (arith, old.inputs.ok.0, old.latches.ok.0, c.len.ensures, c.len-2.ensures) in
     let draft = c.in_ok-draft.draft.names.items in
