@@ -1,14 +1,13 @@
 -- What the passes joined give.
-use Rattle.std.proofs.Common.{◌≡◌, ℕ, ◌+◌, ◌-◌, ◌^◌, ◌<◌, ◌≤◌, List, [], ◌∷◌, ◌++◌, length, map, get_or, Option, refl, sym, ap, ◌∙◌, subst, ⊎_elim, arith}
-use Rattle.std.specs.Prelude.{codes, decimal, min, true, false, All, Contains, slice_index}
+use Rattle.std.proofs.Common.{◌≡◌, ℕ, ◌+◌, ◌-◌, ◌<◌, ◌≤◌, List, [], ◌∷◌, length, map, get_or, Option, refl, sym, ap, ◌∙◌, subst, ⊎_elim, arith}
+use Rattle.std.specs.Prelude.{true, false, All, Contains, slice_index}
 use Rattle.std.proofs.lemmas.Bool.{cases_lt}
 use Rattle.std.proofs.lemmas.List.Elements.{All-contains, All-map}
 use Rattle.std.proofs.lemmas.List.{length-map, length-take, get_or-map}
 use Rattle.digraph.specs.Walks.{IsClosedWalk}
 use Rattle.est_base.specs.declared.bounds.TheConstants.Limits.{INSTANCES}
 use Rattle.est_base.specs.declared.indices.WireId.{WireId}
-use Rattle.est_kernel.specs.Plain.{Program, program_of, given_count, interface_of}
-use Rattle.est_kernel.specs.Sizes.{size_of}
+use Rattle.est_kernel.specs.Plain.{Program, program_of, given_count}
 use Rattle.est_kernel.specs.StaticCodes.{NoInstantLoop}
 use Rattle.est_kernel.specs.WellFormed as programs
 use Rattle.est_kernel.proofs.Exports.{trees_are_kernels_lem}
@@ -24,14 +23,12 @@ use Rattle.grc_graph.specs.declared.orders.Order.{Order}
 use Rattle.grc_graph.specs.declared.orders.Ranks.{Ranks}
 use Rattle.grc_graph.specs.BuiltGraphs.{IsGraphOf}
 use Rattle.grc_graph.proofs.Exports.{next_each, tree_numbers}
-use Rattle.grc_graph.specs.GraphRuns.{program_edges, program_spots, program_wires}
+use Rattle.grc_graph.specs.GraphRuns.{program_edges, program_wires}
 use Rattle.grc_dep.specs.Cycles.{numbered, numbers_of}
 use Rattle.grc_graph.specs.Edges.{Edge}
-use Rattle.grc_graph.specs.Equations.{wires}
 use Rattle.grc_graph.specs.NumberedEdges.{AreEdgesOf}
 use Rattle.grc_graph.specs.Instances.{body_instances}
 use Rattle.grc_graph.specs.PlainGraphs.{formula_of, instances_of, names_of, wire_of}
-use Rattle.grc_graph.specs.PlainInstances.{instance_of}
 use Rattle.grc_graph.specs.Reads.{IsReadingOrder}
 use Rattle.grc_graph.specs.SelectionTrees.{body_leaves, body_tree}
 use Rattle.grc_graph.specs.TreeForms.{node_of}

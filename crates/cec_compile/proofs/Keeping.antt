@@ -170,15 +170,15 @@ rows_told text p keeps items fits vs run =
 
 -- ---- the C text
 
-map-variables : (outputs : List NetOut) → map output_variable outputs ≡ map (λ name. codes "O_" ++ name) (map (λ o. o.name) outputs)
+pub map-variables : (outputs : List NetOut) → map output_variable outputs ≡ map (λ name. codes "O_" ++ name) (map (λ o. o.name) outputs)
 map-variables [] = refl
 map-variables (o ∷ outputs) = ap (λ l. (codes "O_" ++ o.name) ∷ l) (map-variables outputs)
 
 -- what is seen of a call
-abbrev called : c_machine.Seen → Seen
+abbrev pub called : c_machine.Seen → Seen
 called s = record { outputs = s.outputs; paused = s.answer }
 
-calls-seen : (answers : List Answer) → map called (map shown_by_call (map net_seen answers)) ≡ map seen_of answers
+pub calls-seen : (answers : List Answer) → map called (map shown_by_call (map net_seen answers)) ≡ map seen_of answers
 calls-seen [] = refl
 calls-seen (a ∷ answers) = ap (λ l. seen_of a ∷ l) (calls-seen answers)
 

@@ -6,4 +6,5 @@ mod WireWords
 mod Simplified
 mod Joined
 mod EncodedNets
+mod GuardedTexts
 pub mod Exports

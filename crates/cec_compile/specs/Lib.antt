@@ -10,5 +10,7 @@ pub mod Compiling
 pub mod Following
 pub mod EncodedTexts
 pub mod SourceTexts
+pub mod GuardedTexts
 pub mod MadeNets
+pub mod MadeGuarded
 pub mod Sources

@@ -10,6 +10,7 @@ mod compiler;
 mod cycles;
 mod forms;
 mod graphs;
+mod guarded_texts;
 mod made;
 mod refusal;
 mod source_texts;
@@ -21,6 +22,7 @@ pub use compiler::{
 pub use cycles::Cycle;
 pub use forms::TextForm;
 pub use graphs::graph_of;
+pub use guarded_texts::{GuardedMade, guarded_c_of, guarded_made};
 pub use made::{Made, made_in, source_made};
 pub use refusal::{Limit, Refusal};
 pub use source_texts::write_source_text;

@@ -1,3 +1,4 @@
 mod PlainPrograms
+mod UseLists
 mod worked
 pub mod Exports

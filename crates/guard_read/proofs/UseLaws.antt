@@ -11,26 +11,12 @@ use Rattle.csub_guard.specs.Names.{Place, Outside, Half, Use, Put, Taken, Tested
 use Rattle.csub_guard.specs.Names.{declared, is_undeclared, is_again, is_unset, is_put_elsewhere, is_set}
 use Rattle.csub_guard.specs.Trees.{Piece, One, If, Program}
 use Rattle.csub_guard.specs.Views.{piece_of}
+use Rattle.csub_guard.proofs.Exports.{uses-append}
 use Rattle.csub_guard.specs.declared.trees.Piece.{Piece as CodePiece}
 use Rattle.expr_text.specs.Names.{or_else}
 use Rattle.net_ir.specs.NameLists.{is_among}
 use Rattle.guard_read.specs.Tables.{again_by, unset_by, first_of}
 use Rattle.guard_read.specs.Undeclared.{wrong_use}
-
--- ---- the uses of pieces one behind another
-
-pub uses-append : (uses : Place → Assign → List Use) (k : ℕ) (xs ys : List Piece)
-    → piece_uses uses k (xs ++ ys) ≡ piece_uses uses k xs ++ piece_uses uses (k + length xs) ys
-uses-append uses k [] ys = ap (λ n. piece_uses uses n ys) (let e : k ≡ k + 0 = omega arith in e)
-uses-append uses k (One a ∷ xs) ys =
-    let e : k + 1 + length xs ≡ k + length (One a ∷ xs) = omega arith in
-    ap (λ l. uses Outside a ++ l) (uses-append uses (k + 1) xs ys ∙ ap (λ n. piece_uses uses (k + 1) xs ++ piece_uses uses n ys) e)
-    ∙ sym (append_assoc (uses Outside a) (piece_uses uses (k + 1) xs) (piece_uses uses (k + length (One a ∷ xs)) ys))
-uses-append uses k (If test first second ∷ xs) ys =
-    let e : k + 1 + length xs ≡ k + length (If test first second ∷ xs) = omega arith in
-    let front = (Tested test ∷ flat_map (uses (Half k test true)) first) ++ flat_map (uses (Half k test false)) second in
-    ap (λ l. front ++ l) (uses-append uses (k + 1) xs ys ∙ ap (λ n. piece_uses uses (k + 1) xs ++ piece_uses uses n ys) e)
-    ∙ sym (append_assoc front (piece_uses uses (k + 1) xs) (piece_uses uses (k + length (If test first second ∷ xs)) ys))
 
 -- one piece more
 pub uses-next : (uses : Place → Assign → List Use) (body : List CodePiece) (k : ℕ) (x : CodePiece) → k < length body → x ≡ get_or body k x

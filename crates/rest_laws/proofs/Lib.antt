@@ -1,1 +1,3 @@
-pub mod RestingNets
+mod RestingNets
+mod GuardedTexts
+pub mod Exports

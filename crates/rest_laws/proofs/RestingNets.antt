@@ -1,11 +1,11 @@
 -- In each instant of a netlist that follows a program's graph the regions whose heads do not run are at rest.
-use Rattle.std.proofs.Common.{◌≡◌, ℕ, ◌+◌, ◌<◌, Bool, false, List, [], ◌∷◌, length, Option, Some, None, refl, sym, ap, ◌∙◌, subst, ⊎_elim, arith}
-use Rattle.std.specs.Prelude.{All, Contains, slice_index_or}
+use Rattle.std.proofs.Common.{◌≡◌, Bool, List, [], ◌∷◌, length, Option, Some, None, sym, ap, ◌∙◌, subst, ⊎_elim, arith}
+use Rattle.std.specs.Prelude.{All, Contains}
 use Rattle.std.proofs.lemmas.Bool.{cases_lt}
 use Rattle.std.proofs.lemmas.List.{get_or_past, length-map}
 use Rattle.std.proofs.lemmas.List.Elements.{All-nil, All-cons, All-head, All-tail, Contains-get_or}
 use Rattle.std.proofs.lemmas.Option.{none-some}
-use Rattle.est_base.specs.Items.{Item, EachEvent}
+use Rattle.est_base.specs.Items.{EachEvent}
 use Rattle.est_base.specs.declared.indices.WireId.{WireId}
 use Rattle.est_kernel.specs.Plain.{Program, program_of, given_count}
 use Rattle.grc_graph.specs.declared.graph.Graph.{Graph}
@@ -20,7 +20,6 @@ use Rattle.grc_sem.proofs.Exports.{regions_rest_in_runs_lem}
 use Rattle.guard_owners.specs.Resting.{AreAtRest}
 use Rattle.guard_regions.specs.Regions.{AreRegions, IsRegion}
 use Rattle.net_gen.specs.Generated.{Carries, EachInstant}
-use Rattle.net_ir.specs.declared.netlist.Gate.{Gate}
 use Rattle.net_ir.specs.Netlists.{Netlist}
 use Rattle.net_ir.specs.Runs.{net_values_run}
 use Rattle.rest_laws.specs.Laws.{NetlistsRest}

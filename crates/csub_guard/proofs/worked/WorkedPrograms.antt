@@ -1,11 +1,11 @@
 -- Worked programs: the rules of places and of reads, one by one, and calls with their counts. The values are those of
 -- an implementation in Python.
 use Rattle.std.proofs.Common.{◌≡◌, Bool, true, false, List, [], ◌∷◌, map, codes, refl, Some, None, ℕ}
-use Rattle.est_base.specs.Items.{Event, Reset}
+use Rattle.est_base.specs.Items.{Event}
 use Rattle.csub_text.specs.Machine.{Seen}
-use Rattle.csub_text.specs.Trees.{Assign, Expr, Exprs, Name, Const, Not, And, Or, NoExprs, MoreExprs}
+use Rattle.csub_text.specs.Trees.{Assign, Expr, Name, Const}
 use Rattle.csub_guard.specs.Machine.{calls, run}
-use Rattle.csub_guard.specs.Names.{Twice, Undeclared, Again, Unset, name_fault}
+use Rattle.csub_guard.specs.Names.{Undeclared, Again, Unset, name_fault}
 use Rattle.csub_guard.specs.Trees.{One, If, Program}
 
 abbrev sets : List ℕ → Expr → Assign

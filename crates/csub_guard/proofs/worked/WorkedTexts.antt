@@ -1,5 +1,5 @@
 -- A worked block: its tokens, and that they spell it.
-use Rattle.std.proofs.Common.{◌≡◌, ℕ, List, [], ◌∷◌, codes, refl, Some}
+use Rattle.std.proofs.Common.{◌≡◌, List, [], ◌∷◌, codes, refl, Some}
 use Rattle.csub_text.specs.Tokens.{Kind, If, Else, LeftParenthesis, RightParenthesis, LeftBrace, RightBrace, Equals, Semicolon, One, Named}
 use Rattle.csub_guard.specs.Grammar.{IfWritten, SpellsHalf, SpellsPiece}
 use Rattle.csub_guard.specs.Tokens.{kinds}

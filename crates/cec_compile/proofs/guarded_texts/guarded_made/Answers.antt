@@ -1,0 +1,31 @@
+use Rattle.std.proofs.Common.{ap, ◌∙◌, sym, subst}
+use Rattle.std.specs.Prelude.{option_map}
+use Rattle.est_kernel.specs.Plain.{program_of}
+use Rattle.rest_laws.specs.Guarded.{GuardedRuns}
+use Rattle.cec_compile.proofs.GuardedTexts.{guarded_is}
+use Rattle.cec_compile.proofs.guarded_texts.guarded_made.Goals as goal
+
+pub returns-clause-made : goal.returns-clause-made
+returns-clause-made g c =
+    let s = c.in_ok-compiled.ensures.compiles in
+    let e = c.in_ok-made.ensures in
+    let by = c.in_ok-text.ensures s.program s.compiled in
+    record {
+      made = record {
+        compiled = c.in_ok-compiled.compiled;
+        source = s;
+        follows = c.in_ok-compiled.ensures.follows;
+        program = ap program_of e.program ∙ s.compiled.graph.program;
+        net = e.net s.program s.compiled;
+      };
+      means = record {
+        regions = by.regions;
+        runs = subst (λ n. GuardedRuns c.in_ok-text.text.items n by.regions) (sym (e.net s.program s.compiled)) by.runs;
+      };
+    }
+
+pub returns-clause-text : goal.returns-clause-text
+returns-clause-text g c =
+    let s = c.in_ok-compiled.ensures.compiles in
+    guarded_is c.args.source.now (option_map (λ m. m.now) c.args.main) c.in_ok-compiled.compiled c.in_ok-text.text.items s
+    (c.in_ok-text.ensures s.program s.compiled)

@@ -1,0 +1,31 @@
+-- Inner: the guarded text of a compiled program, and what it is written of.
+use Rattle.std.specs.Prelude.{◌≡◌, ℕ, List, Option}
+use Rattle.est_base.specs.declared.indices.WireId.{WireId}
+use Rattle.guard_regions.specs.Regions.{AreRegions}
+use Rattle.net_ir.specs.Runs.{netlist_of}
+use Rattle.guard_owners.specs.Blocks.{guarded_text}
+use Rattle.guard_owners.specs.Owners.{owners}
+use Rattle.guard_text.specs.Regions.{region_by}
+use Rattle.rest_laws.specs.Guarded.{GuardedRuns}
+use Rattle.cec_compile.specs.MadeNets.{IsMade}
+use Rattle.cec_compile.specs.declared.compiler.Compiled.{Compiled}
+use Rattle.cec_compile.specs.declared.forms.TextForm.TheVariants.{C}
+use Rattle.cec_compile.specs.declared.guarded_texts.GuardedMade.{GuardedMade}
+
+-- the text is written of the netlist by the regions of the graph, and means it
+pub record IsGuardedBy (c : Compiled) (text : List ℕ) : Type 0 where
+  pub regions : List (Option WireId)
+  pub are : AreRegions c.graph regions
+  pub spelled : text ≡ guarded_text (netlist_of c.net)
+      (owners (netlist_of c.net) (region_by (netlist_of c.net) regions))
+  pub runs : GuardedRuns text (netlist_of c.net) regions
+
+-- a text means the netlist with regions of its gates
+pub record MeansGuarded (text : List ℕ) (g : GuardedMade) : Type 0 where
+  pub regions : List (Option WireId)
+  pub runs : GuardedRuns text (netlist_of g.made.net) regions
+
+-- the bytes stand for the program, and the text means its netlist
+pub record IsMadeGuarded (bytes : List ℕ) (main : Option (List ℕ)) (g : GuardedMade) : Type 0 where
+  pub made : IsMade C bytes main g.made
+  pub means : MeansGuarded g.text.items g

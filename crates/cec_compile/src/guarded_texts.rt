@@ -1,0 +1,74 @@
+// The guarded C texts of sources.
+
+ghost use Rattle.std.specs.Prelude.{◌≤◌, length, IfOk, IfErr, option_map};
+ghost use Rattle.est_kernel.specs.Plain.{Program};
+ghost use Rattle.cec_compile.specs.Compiling.{IsCompiled};
+ghost use Rattle.cec_compile.specs.Following.{FollowsGraph};
+ghost use Rattle.cec_compile.specs.GuardedTexts.{IsGuardedOf, IsGuardedText, StandsForGuarded};
+ghost use Rattle.cec_compile.specs.MadeGuarded.{IsGuardedBy, IsMadeGuarded};
+ghost use Rattle.cec_compile.specs.Refusals.{IsRefused};
+
+use crate::compiler::{Compiled, compile};
+use crate::forms::TextForm;
+use crate::made::{Made, made_in};
+use crate::refusal::Refusal;
+use est_base::{Limits, NoMemory};
+use grc_order::Picker;
+use guard_regions::regions;
+use guard_text::write_guarded;
+use std::alloc::Global;
+
+/// A kernel program with the netlist that its guarded text is written of, and the text.
+#[derive(Drop)]
+pub struct GuardedMade {
+    pub made: Made,
+    pub text: Vec<u8>,
+}
+
+/// The guarded C text of a source, likewise: the text is that of `c_of`, but that the gates of a head that stand one
+/// behind another are a block, which a call skips where the head does not run. The theorem holds of it by the machine
+/// of guarded programs (`GuardedTextKeeps`), and a call runs the assignments of the text of `c_of` but for the gates
+/// that it skips (`IsGuardedOf`). It refuses what `blif_of` refuses.
+pub fn guarded_c_of<P: Picker>(
+    alloc: Global,
+    text: &[u8],
+    main: Option<&[u8]>,
+    picker: &mut P,
+) -> Result<Vec<u8>, Refusal>
+    requires { length text.now ≤ Limits.SOURCE_BYTES }
+    ensures compiles { IfOk result (λ written. StandsForGuarded text.now
+        (option_map (λ m. m.now) main.entry) written.items) }
+    ensures made { IfOk result (λ written. IsGuardedOf text.now (option_map (λ m. m.now) main.entry) written.items) }
+    ensures refuses { IfErr result (IsRefused text.now (option_map (λ m. m.now) main.entry)) }
+{
+    let GuardedMade { text: written, .. } = guarded_made(alloc, text, main, picker)?;
+    Ok(written)
+}
+
+/// The guarded C text of a source, with what it is written of. The errors are those of `blif_of`.
+pub fn guarded_made<P: Picker>(
+    alloc: Global,
+    source: &[u8],
+    main: Option<&[u8]>,
+    picker: &mut P,
+) -> Result<GuardedMade, Refusal>
+    requires { length source.now ≤ Limits.SOURCE_BYTES }
+    ensures made { IfOk result (IsMadeGuarded source.now (option_map (λ m. m.now) main.entry)) }
+    ensures text { IfOk result (λ g. IsGuardedText (option_map (λ m. m.now) main.entry) source.now g.text.items) }
+    ensures refuses { IfErr result (IsRefused source.now (option_map (λ m. m.now) main.entry)) }
+{
+    let compiled = compile(alloc, source, main, picker)?;
+    let text = guarded_text(alloc, &compiled)?;
+    let made = made_in(alloc, TextForm::C, compiled)?;
+    Ok(GuardedMade { made, text })
+}
+
+// The guarded text of a compiled program.
+fn guarded_text(alloc: Global, compiled: &Compiled) -> Result<Vec<u8>, NoMemory>
+    requires follows { FollowsGraph compiled.now }
+    ensures { IfOk result (λ text. (p : Program) → IsCompiled compiled.now p → IsGuardedBy compiled.now text.items) }
+{
+    let regions = regions(alloc, &compiled.graph)?;
+    let text = write_guarded(alloc, &compiled.net, &regions)?;
+    Ok(text)
+}

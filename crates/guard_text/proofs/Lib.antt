@@ -1,0 +1,14 @@
+mod OwnerFacts
+mod BlockRuns
+mod GateRuns
+mod OwnerFits
+mod Calls
+mod Described
+mod Uses
+mod Names
+mod TopNames
+mod Declared
+mod Spelled
+mod GateRegions
+mod Means
+mod OwnersFound
