@@ -1,9 +1,10 @@
-pub mod TextLaws
-pub mod Makers
-pub mod PieceSteps
-pub mod ReaderLaws
-pub mod ReadBack
-pub mod PutPlaces
-pub mod TokenWords
-pub mod UseLaws
-pub mod Misplacing
+mod TextLaws
+mod Makers
+mod PieceSteps
+mod ReaderLaws
+mod ReadBack
+mod PutPlaces
+mod TokenWords
+mod UseLaws
+mod Misplacing
+pub mod Exports

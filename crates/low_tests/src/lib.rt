@@ -8,6 +8,8 @@
 #[cfg(test)]
 mod digraphs;
 #[cfg(test)]
+mod guarded;
+#[cfg(test)]
 mod outside;
 #[cfg(test)]
 mod pickers;

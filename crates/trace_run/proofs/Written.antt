@@ -32,7 +32,7 @@ runs-own shows program_shows s p own_names own_given is trace names given relati
     (λ items text brings. brings-so shows program_shows s p own_names items text is brings)
     (subst (λ x. RunsTrace (Brings shows own_names s) (beginning trace own_given x) c result) free by_input)
 
-widths : (n : ℕ) (relations : List Relation) (items : List Item) → EachEvent (λ event. (length event ≡ n) × MeetsAll relations event) items
+pub widths : (n : ℕ) (relations : List Relation) (items : List Item) → EachEvent (λ event. (length event ≡ n) × MeetsAll relations event) items
     → EachEvent (λ event. length event ≡ n) items
 widths n relations [] fits = tt
 widths n relations (Event event ∷ items) fits = (fits.0.0, widths n relations items fits.1)

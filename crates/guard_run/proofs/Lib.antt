@@ -1,0 +1,12 @@
+mod Fits
+mod Bodies
+mod Stretches
+mod Counting
+mod Runs
+mod Keeping
+mod Showing
+mod NetTexts
+mod TextFaults
+mod CountedRuns
+mod worked
+pub mod Exports

@@ -1,0 +1,10 @@
+pub mod Plans
+pub mod Runs
+pub mod Runners
+pub mod Insides
+pub mod ProgramAnswers
+pub mod Showing
+pub mod Ends
+pub mod CountedRuns
+pub mod Texts
+pub mod Tracing

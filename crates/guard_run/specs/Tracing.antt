@@ -1,0 +1,48 @@
+-- Inner: the fields of a machine that a trace drives, the program of a net's text, why a text has no machine, and what
+-- came to the sink of the line of a count.
+use Rattle.std.specs.Prelude.{◌≡◌, ℕ, List, Option, Some, Result, Ok, Err}
+use Rattle.est_base.specs.SinkChanges.{SinkChange, IsUntouched}
+use Rattle.est_base.specs.Writing.{Appends, Stops}
+use Rattle.net_ir.specs.Netlists.{Netlist}
+use Rattle.csub_guard.specs.Trees.{Program}
+use Rattle.guard_read.specs.declared.refusal.GuardedFault.{GuardedFault}
+use Rattle.guard_read.specs.declared.refusal.GuardedFault.TheVariants as faults
+use Rattle.guard_run.specs.Runners.{KeepsNames, program_in}
+use Rattle.guard_run.specs.ProgramAnswers.{count_line}
+use Rattle.guard_run.specs.Showing.{Counter}
+use Rattle.guard_run.specs.Texts.{Means}
+use Rattle.guard_run.specs.declared.language.TextFault.{TextFault}
+use Rattle.guard_run.specs.declared.language.TextFault.TheVariants.{Syntax, Twice, Undeclared, Again, Unset}
+use Rattle.guard_run.specs.declared.trace_runner.GuardedMachine.TheInside.{Inside}
+use Rattle.trace_run.specs.declared.running.RunFault.{RunFault}
+use Rattle.trace_run.specs.declared.running.RunFault.TheVariants.{Trace, Write, NoMemory}
+
+abbrev pub counter_of : Inside → Counter
+counter_of m = record { calls = m.calls; total = m.total }
+
+-- the program keeps the rules on names
+abbrev pub KeepsRules : Inside → Type 0
+KeepsRules m = KeepsNames (program_in m.calls)
+
+-- the program by which a text means the net
+pub record IsProgramOf (text : List ℕ) (net : Netlist) (program : Program) : Type 0 where
+  pub means : Means text net
+  pub is : program ≡ means.program
+
+-- a fault of the reader, but for the limit on the length, as one of the language
+abbrev pub IsFaultOf : GuardedFault → TextFault → Type 0
+IsFaultOf faults.TooLong fault = ⊥
+IsFaultOf (faults.Syntax at) fault = fault ≡ Syntax at
+IsFaultOf (faults.Twice name) fault = fault ≡ Twice name
+IsFaultOf (faults.Undeclared name) fault = fault ≡ Undeclared name
+IsFaultOf (faults.Again name) fault = fault ≡ Again name
+IsFaultOf (faults.Unset name) fault = fault ≡ Unset name
+
+-- what came to the sink of the line of a count; where no counter holds it, nothing
+abbrev pub CountCame : Option ℕ → SinkChange → Result (Unit {0}) RunFault → Type 0
+CountCame total s (Ok done) =
+    (n : ℕ) × (total ≡ Some n) × Appends s.before s.after s.faults_before s.faults_now (count_line n)
+CountCame total s (Err (Trace fault)) = ⊥
+CountCame total s (Err Write) =
+    (n : ℕ) × (total ≡ Some n) × Stops s.before s.after s.faults_before s.faults_now (count_line n)
+CountCame total s (Err NoMemory) = IsUntouched s

@@ -1,0 +1,21 @@
+//! The machine of guarded programs, and guarded texts as a language of texts that are run over traces.
+//!
+//! `GuardedRunner` runs a program over calls and resets as csub_guard defines its machine, and counts the assignments
+//! of each call: the assignments between blocks, and those of each half of a block, are a plan of `step_run`, and a
+//! call runs one half of each block. It neither hashes nor allocates. `GuardedMachine` is the same machine as one that
+//! a trace drives, `GuardedTexts` the language, and `run_counted` writes the number of assignments of all calls behind
+//! the lines of a trace.
+#![tactic(auto)]
+
+mod counts;
+mod language;
+mod plan;
+mod run;
+mod runner;
+mod running;
+mod trace_runner;
+
+pub use language::{GuardedTexts, TextFault, read_machine, written_machine};
+pub use runner::GuardedRunner;
+pub use running::{run_counted, run_written_counted};
+pub use trace_runner::GuardedMachine;

@@ -1,0 +1,124 @@
+// Runs of guarded texts over traces, with the line of their count.
+
+ghost use Rattle.std.specs.Prelude.{◌≡◌, ◌<◌, ◌≤◌, ◌^◌, length, map, IfOk, IsTrue};
+ghost use Rattle.est_base.specs.Distinct.{all_differ};
+ghost use Rattle.est_base.specs.Names.{is_same_name};
+ghost use Rattle.est_base.specs.Relations.{relation_of};
+ghost use Rattle.est_base.specs.SinkChanges.{change};
+ghost use Rattle.net_ir.specs.Runs.{netlist_of};
+ghost use Rattle.csub_guard.specs.Machine.{inputs_of, outputs_of};
+ghost use Rattle.guard_run.specs.CountedRuns.{CountsNet, CountsProgram, RunsCounted};
+ghost use Rattle.guard_run.specs.ProgramAnswers.{count_line, last_line};
+ghost use Rattle.guard_run.specs.Showing.{IsNew, counted_program, counter_shows};
+ghost use Rattle.guard_run.specs.Texts.{Means};
+ghost use Rattle.guard_run.specs.Tracing.{CountCame};
+ghost use Rattle.trace_io.specs.Answers.{beginning};
+ghost use Rattle.trace_run.specs.Machines.{Brings};
+
+use crate::language::written_machine;
+use crate::trace_runner::GuardedMachine;
+use est_base::{Limits, NoMemory, Sink, SinkFault};
+use net_ir::Net;
+use net_text::{put, put_number};
+use std::alloc::Global;
+use trace_run::{Interface, RunFault, run_trace};
+
+/// Runs a text that was read over a trace, by its own interface: one line for each instant, right behind its reaction,
+/// and, where the whole trace was read, the number of assignments that all calls ran.
+/// Its errors are the first fault of the trace, a write that failed, and want of memory, which also 2^64 assignments
+/// are.
+pub fn run_counted<O: Sink>(
+    alloc: Global,
+    machine: GuardedMachine,
+    trace: Vec<u8>,
+    out: &mut O,
+) -> Result<(), RunFault>
+    requires fresh { IsNew machine }
+    requires short { length trace.items ≤ 2 ^ 24 }
+    ensures { CountsProgram (counted_program machine) trace.items (change O.told O.faults out.old out.new) result }
+{
+    match machine.interface(alloc) {
+        Ok(interface) => run_over(alloc, machine, interface, trace, out),
+        Err(NoMemory) => Err(RunFault::NoMemory),
+    }
+}
+
+/// Reads the text that was written of a net, and runs it over a trace, with these names in its lines. What is written
+/// is what the net shows, and, where the whole trace was read, the number of assignments that all calls ran.
+/// Its errors are the first fault of the trace, a write that failed, and want of memory, which also 2^64 assignments
+/// are.
+pub fn run_written_counted<O: Sink>(
+    alloc: Global,
+    net: &Net,
+    text: &[u8],
+    interface: Interface,
+    trace: Vec<u8>,
+    out: &mut O,
+) -> Result<(), RunFault>
+    requires means { Means text.now (netlist_of net.now) }
+    requires fits { length text.now ≤ Limits.TEXT_BYTES }
+    requires given { interface.given.items ≡ net.now.inputs.items }
+    requires outgoing { length interface.outgoing.items ≡ length net.now.outputs.items }
+    requires countable { length interface.relations.items < 2 ^ 32 }
+    requires short { length trace.items ≤ 2 ^ 24 }
+    ensures { CountsNet text.now interface.outgoing.items (netlist_of net.now)
+        (beginning trace.items interface.given.items (map relation_of interface.relations.items))
+        (change O.told O.faults out.old out.new) result }
+{
+    match written_machine(alloc, net, text) {
+        Ok(machine) => run_over(alloc, machine, interface, trace, out),
+        Err(NoMemory) => Err(RunFault::NoMemory),
+    }
+}
+
+// Runs a new machine over a trace, and writes the line of its count behind the others.
+fn run_over<O: Sink>(
+    alloc: Global,
+    machine: GuardedMachine,
+    interface: Interface,
+    trace: Vec<u8>,
+    out: &mut O,
+) -> Result<(), RunFault>
+    requires fresh { IsNew machine }
+    requires short { length trace.items ≤ 2 ^ 24 }
+    requires names_differ { IsTrue (all_differ is_same_name interface.given.items) }
+    requires countable { length interface.relations.items < 2 ^ 32 }
+    requires each_input { length interface.given.items ≡ length (inputs_of (counted_program machine)) }
+    requires each_output { length interface.outgoing.items ≡ length (outputs_of (counted_program machine)) }
+    ensures { RunsCounted (Brings counter_shows interface.outgoing.items machine) (last_line (counted_program machine))
+        (beginning trace.items interface.given.items (map relation_of interface.relations.items))
+        (change O.told O.faults out.old out.new) result }
+{
+    let mut machine = machine;
+    match run_trace(alloc, &mut machine, interface, trace, out) {
+        Ok(()) => write_count(alloc, machine.total(), out),
+        Err(fault) => Err(fault),
+    }
+}
+
+// Writes the line of a count.
+fn write_count<O: Sink>(alloc: Global, total: Option<u64>, out: &mut O) -> Result<(), RunFault>
+    ensures { CountCame total (change O.told O.faults out.old out.new) result }
+{
+    let Some(count) = total else {
+        return Err(RunFault::NoMemory);
+    };
+    let line = match count_line(alloc, count) {
+        Ok(line) => line,
+        Err(NoMemory) => return Err(RunFault::NoMemory),
+    };
+    match out.write(&line) {
+        Ok(()) => Ok(()),
+        Err(SinkFault::Failed) => Err(RunFault::Write),
+    }
+}
+
+// The line of a count.
+fn count_line(alloc: Global, count: u64) -> Result<Vec<u8>, NoMemory>
+    ensures { IfOk result (λ line. line.items ≡ count_line count) }
+{
+    let mut line = Vec::new(alloc);
+    put_number(&mut line, b"assignments ", count as usize)?;
+    put(&mut line, b"\n")?;
+    Ok(line)
+}
