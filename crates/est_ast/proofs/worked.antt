@@ -5,3 +5,4 @@ mod SpelledItems2
 mod SpelledPrograms
 mod WorkedNestings
 mod WorkedTokens
+mod WorkedLexemes

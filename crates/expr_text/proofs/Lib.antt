@@ -11,4 +11,5 @@ pub mod Naming
 mod Instants
 mod Places
 mod Again
+mod worked
 pub mod Exports

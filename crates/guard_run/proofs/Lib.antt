@@ -9,4 +9,3 @@ mod NetTexts
 mod TextFaults
 mod CountedRuns
 mod worked
-pub mod Exports

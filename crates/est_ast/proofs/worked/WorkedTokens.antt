@@ -1,13 +1,13 @@
 -- Worked tokens, by hand: how words and marks are written, the number that digits stand for, and where tokens stand.
 use Rattle.std.specs.Prelude.{◌≡◌, ℕ, List, [], ◌∷◌, map, codes, Some, None}
-use Rattle.std.proofs.Common.{refl}
+use Rattle.std.proofs.Common.{refl, arith}
 use Rattle.est_ast.specs.declared.tokens.Kind.TheVariants as kinds
 use Rattle.est_ast.specs.declared.tokens.Reserved.{Reserved}
 use Rattle.est_ast.specs.declared.tokens.Reserved.TheVariants as words
 use Rattle.est_ast.specs.declared.tokens.Mark.{Mark}
 use Rattle.est_ast.specs.declared.tokens.Mark.TheVariants as marks
 use Rattle.est_ast.specs.Spelling.{spelling, sign}
-use Rattle.est_ast.specs.Lexing.{Piece, number_of, width_of, tokens_from}
+use Rattle.est_ast.specs.Lexing.{BeginsWithBadByte, Piece, number_of, width_of, tokens_from}
 use Rattle.est_ast.specs.Grammar.{span_of}
 use Rattle.est_ast.proofs.worked.Spelled.{w, m, i, t, at}
 
@@ -69,3 +69,6 @@ span_of_three = refl
 
 span_of_one : span_of (t (w words.Pause) 4 9 ∷ []) ≡ at 4 9
 span_of_one = refl
+
+nothing_is_no_bad_byte : BeginsWithBadByte [] → ⊥
+nothing_is_no_bad_byte h = let some = h.some in omega (arith, some)

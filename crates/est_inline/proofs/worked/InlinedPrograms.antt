@@ -869,3 +869,35 @@ flat_19 : flat_alone alone_19 ≡ Ok (made (codes "M") ((codes "A") ∷ (codes "
     flat.NoStmts)))))) (flat.Plain (flat.Sig 2)))) flat.NoStmts)))))) flat.NoStmts)))))
 unfolding flattening
 flat_19 = refl
+
+-- A trap has the name of a formal, and of a local signal: names of traps do not come from outside of their module.
+--     module M: output O; signal X in trap X in run N [signal O/T]; emit X; exit X handle X do emit X end end end module module N: output
+--     T; trap T in emit T; exit T handle T do emit T end end module
+abbrev program_20 : Program
+program_20 = (modul (n (codes "M") 7 8) ((Output ((n (codes "O") 17 18) ∷ [])) ∷ []) (At (at 20 103) (Signal ((n (codes "X") 27 28) ∷ []) (At (at
+    32 99) (Trap (n (codes "X") 37 38) (At (at 42 76) (Seq (MoreStmts (At (at 42 60) (Run (n (codes "N") 46 47) ((as_ (n (codes "O") 56 57) (n
+    (codes "T") 58 59)) ∷ []))) (MoreStmts (At (at 62 68) (Emit (n (codes "X") 67 68))) (MoreStmts (At (at 70 76) (Exit (n (codes "X") 75 76)))
+    NoStmts))))) (Handled (n (codes "X") 84 85) (At (at 89 95) (Emit (n (codes "X") 94 95))))))))) ∷ (modul (n (codes "N") 122 123) ((Output ((n
+    (codes "T") 132 133) ∷ [])) ∷ []) (At (at 135 182) (Trap (n (codes "T") 140 141) (At (at 145 159) (Seq (MoreStmts (At (at 145 151) (Emit (n
+    (codes "T") 150 151))) (MoreStmts (At (at 153 159) (Exit (n (codes "T") 158 159))) NoStmts)))) (Handled (n (codes "T") 167 168) (At (at 172
+    178) (Emit (n (codes "T") 177 178))))))) ∷ []
+
+abbrev alone_20 : Module
+alone_20 = modul (n (codes "M") 7 8) ((Output ((n (0 ∷ codes "O") 17 18) ∷ [])) ∷ []) (At (at 20 103) (Signal ((n (0 ∷ codes "X") 27 28) ∷ [])
+    (At (at 32 99) (Trap (n (0 ∷ codes "X") 37 38) (At (at 42 76) (Seq (MoreStmts (At (at 42 60) (Group (At (at 135 182) (Trap (n (1 ∷ codes "T")
+    140 141) (At (at 145 159) (Seq (MoreStmts (At (at 145 151) (Emit (n (0 ∷ codes "O") 150 151))) (MoreStmts (At (at 153 159) (Exit (n (1 ∷
+    codes "T") 158 159))) NoStmts)))) (Handled (n (1 ∷ codes "T") 167 168) (At (at 172 178) (Emit (n (0 ∷ codes "O") 177 178)))))))) (MoreStmts
+    (At (at 62 68) (Emit (n (0 ∷ codes "X") 67 68))) (MoreStmts (At (at 70 76) (Exit (n (0 ∷ codes "X") 75 76))) NoStmts))))) (Handled (n (0 ∷
+    codes "X") 84 85) (At (at 89 95) (Emit (n (0 ∷ codes "X") 94 95))))))))
+
+inlined_20 : inlined_first program_20 ≡ alone_20
+unfolding inlining
+inlined_20 = refl
+
+flat_20 : flat_alone alone_20 ≡ Ok (made (codes "M") ((codes "O") ∷ (codes "X") ∷ []) 0 0 1 [] (flat.At (at 20 103) (flat.Signal (1 ∷ [])
+    (flat.At (at 32 99) (flat.Trap (flat.At (at 42 76) (flat.Seq (flat.MoreStmts (flat.At (at 135 182) (flat.Trap (flat.At (at 145 159) (flat.Seq
+    (flat.MoreStmts (flat.At (at 145 151) (flat.Emit 0)) (flat.MoreStmts (flat.At (at 153 159) (flat.Exit 0)) flat.NoStmts)))) (flat.Written
+    (flat.At (at 172 178) (flat.Emit 0))))) (flat.MoreStmts (flat.At (at 62 68) (flat.Emit 1)) (flat.MoreStmts (flat.At (at 70 76) (flat.Exit 0))
+    flat.NoStmts))))) (flat.Written (flat.At (at 89 95) (flat.Emit 1))))))))
+unfolding flattening
+flat_20 = refl

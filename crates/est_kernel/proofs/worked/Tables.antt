@@ -3,6 +3,7 @@ use Rattle.std.specs.Prelude.{◌≡◌, ℕ, ◌+◌, Bool, true, false, List, 
 use Rattle.std.proofs.Common.{refl, arith}
 use Rattle.std.proofs.lemmas.Bool.{false≢true}
 use Rattle.est_base.specs.declared.place.Span.{Span}
+use Rattle.est_kernel.specs.Statuses.{Status, Plus, Minus, Unknown, opposite, conjunction, disjunction}
 use Rattle.est_kernel.specs.Terms.{Term, Tick, Sig, Not, And, Or, Nothing, Pause, Emit, Exit, Present, Suspend, Seq, Loop, Par, Trap, Local}
 use Rattle.est_kernel.specs.StaticCodes.{started_codes, resumed_codes, instant_loops}
 use Rattle.est_kernel.specs.Sizes.{size_of, height_of, trap_depth}
@@ -129,3 +130,17 @@ implication_met_by_both h = refl
 -- A # B, over both
 exclusion_broken : Meets (true ∷ true ∷ []) (Excludes (0 ∷ 1 ∷ [])) → ⊥
 exclusion_broken h = h 0 1 (0, omega arith, refl) (1, omega arith, refl) (λ e. omega arith) refl refl
+
+-- ---- Kleene's tables
+
+abbrev all : List Status
+all = Plus ∷ Unknown ∷ Minus ∷ []
+
+not_table : map opposite all ≡ Minus ∷ Unknown ∷ Plus ∷ []
+not_table = refl
+
+and_table : map (λ v. map (conjunction v) all) all ≡ (Plus ∷ Unknown ∷ Minus ∷ []) ∷ (Unknown ∷ Unknown ∷ Minus ∷ []) ∷ (Minus ∷ Minus ∷ Minus ∷ []) ∷ []
+and_table = refl
+
+or_table : map (λ v. map (disjunction v) all) all ≡ (Plus ∷ Plus ∷ Plus ∷ []) ∷ (Plus ∷ Unknown ∷ Unknown ∷ []) ∷ (Plus ∷ Unknown ∷ Minus ∷ []) ∷ []
+or_table = refl

@@ -5,7 +5,7 @@ use Rattle.est_base.specs.Items.{Event, Reset}
 use Rattle.net_ir.specs.declared.netlist.Op.TheVariants.{Const, Copy, Not, And, Or}
 use Rattle.net_ir.specs.declared.netlist.Gate.{Gate}
 use Rattle.net_ir.specs.declared.netlist.NetOut.{NetOut}
-use Rattle.net_ir.specs.Gates.{carried, gate_values}
+use Rattle.net_ir.specs.Gates.{carried, gate_values, operand_end, value_in}
 use Rattle.est_base.specs.Names.{is_name}
 use Rattle.net_ir.specs.Netlists.{Netlist, IsNet, net_count}
 use Rattle.net_ir.specs.Runs.{Shown, net_values, net_run}
@@ -44,6 +44,14 @@ every_kind_of_gate : gate_values (true ∷ false ∷ []) (map (λ op. record { o
     (Const true ∷ Copy (record { 0 = 0 }) ∷ Not (record { 0 = 0 }) ∷ And (record { 0 = 0 }) (record { 0 = 1 }) ∷ Or (record { 0 = 0 }) (record { 0 = 1 }) ∷
     [])) ≡ true ∷ false ∷ true ∷ true ∷ false ∷ false ∷ true ∷ []
 every_kind_of_gate = refl
+
+above_what_is_read : map operand_end (Const true ∷ Copy (record { 0 = 4 }) ∷ Not (record { 0 = 5 }) ∷ And (record { 0 = 3 }) (record { 0 = 6 })
+    ∷ And (record { 0 = 6 }) (record { 0 = 3 }) ∷ Or (record { 0 = 3 }) (record { 0 = 6 }) ∷ Or (record { 0 = 6 }) (record { 0 = 3 }) ∷ [])
+    ≡ 0 ∷ 5 ∷ 6 ∷ 7 ∷ 7 ∷ 7 ∷ 7 ∷ []
+above_what_is_read = refl
+
+what_is_no_net_is_false : value_in (true ∷ []) 1 ≡ false
+what_is_no_net_is_false = refl
 
 names : map is_name (codes "a_1" ∷ codes "Z" ∷ codes "_a" ∷ codes "1a" ∷ codes "a.b" ∷ [] ∷ []) ≡ true ∷ true ∷ false ∷ false ∷ false ∷ false ∷ []
 names = refl
