@@ -38,8 +38,8 @@ pub fn kernel_program(
     ensures program { IfOk result (λ p. Expands text.now (option_map (λ m. m.now) main.entry) (program_of p)) }
     ensures refusal { IfErr result (IsRefused text.now (option_map (λ m. m.now) main.entry)) }
 {
-    let flat = flat_program(alloc, text, main)?;
-    match dismantle(alloc, flat) {
+    let flat = Box::new(alloc, flat_program(alloc, text, main)?)?;
+    match dismantle(alloc, &flat) {
         Ok(program) => Ok(program),
         Err(fault) => Err(expansion_refusal(fault)),
     }

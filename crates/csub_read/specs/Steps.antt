@@ -1,19 +1,17 @@
 -- Inner: what the steps of the reader answer of a text.
-use Rattle.std.specs.Prelude.{◌≡◌, ℕ, ⊤, List}
+use Rattle.std.specs.Prelude.{ℕ, ⊤, List}
+use Rattle.expr_text.specs.Spelled.{IsSpelled}
 use Rattle.csub_text.specs.Trees.{Program}
 use Rattle.csub_text.specs.Tokens.{kinds}
-use Rattle.csub_text.specs.Grammar.{WrittenProgram, IsText, program_meant}
+use Rattle.csub_text.specs.Grammar.{IsText, program_meant}
 use Rattle.csub_text.specs.Texts.{nesting_limit}
 use Rattle.csub_read.specs.declared.refusal.CError.{CError}
 use Rattle.csub_read.specs.declared.refusal.CError.TheVariants as faults
 use Rattle.csub_read.specs.Faults.{IsSyntaxFault}
 
 -- the tokens spell what is written for the program, and for no other one
-pub record Spells (text : List ℕ) (program : Program) : Type 0 where
-  pub written : WrittenProgram
-  pub spelled : IsText nesting_limit written (kinds text)
-  pub means : program_meant written ≡ program
-  pub only : (other : WrittenProgram) → IsText nesting_limit other (kinds text) → other ≡ written
+abbrev pub Spells : List ℕ → Program → Type 0
+Spells text = IsSpelled IsText nesting_limit program_meant (kinds text)
 
 abbrev pub SyntaxFault : List ℕ → CError → Type 0
 SyntaxFault text (faults.Syntax at) = IsSyntaxFault text at

@@ -6,6 +6,7 @@
 #![tactic(auto)]
 
 mod choices;
+mod copies;
 mod counts;
 mod derived;
 mod events;
@@ -19,7 +20,6 @@ mod measured_events;
 mod measured_rows;
 mod programs;
 mod refusal;
-mod signals;
 mod terms;
 
 pub use laws::{

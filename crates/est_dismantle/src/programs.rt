@@ -8,14 +8,14 @@ ghost use Rattle.est_dismantle.specs.Expansions.{Expanded, expansion, kernel_bod
 ghost use Rattle.est_dismantle.specs.Faults.{FaultHasCause};
 ghost use Rattle.est_dismantle.specs.FlatPrograms.{IsFlat};
 
+use crate::copies::{same_relations, signals_with};
 use crate::counts::first_bad;
 use crate::expansion::expand;
 use crate::marks::Marks;
 use crate::measure::measure;
 use crate::refusal::DismantleFault;
-use crate::signals::signals_with;
 use est_ast::Flat;
-use est_base::{Limits, NoMemory};
+use est_base::{Limits, NoMemory, Text};
 use est_kernel::KernelProgram;
 use std::alloc::Global;
 
@@ -25,13 +25,13 @@ use std::alloc::Global;
 /// A count that is 0 or above 255 is refused first, then a kernel body above the limits on size, on height and on
 /// traps one in another, in this order. A number of a new signal that does not fit 32 bits is want of
 /// memory.
-pub fn dismantle(alloc: Global, flat: Flat) -> Result<KernelProgram, DismantleFault>
-    ensures expands { IfOk result (λ p. expansion (flat_of flat) ≡ Expanded (program_of p)) }
-    ensures refuses { IfErr result (λ fault. FaultHasCause (expansion (flat_of flat)) fault) }
-    ensures well_formed { IsFlat (flat_of flat) → IfOk result (λ p. IsWellFormed (program_of p)) }
-    ensures names { IsFlat (flat_of flat) → IfOk result (λ p. HasNames (program_of p)) }
+pub fn dismantle(alloc: Global, flat: &Flat) -> Result<KernelProgram, DismantleFault>
+    ensures expands { IfOk result (λ p. expansion (flat_of flat.now) ≡ Expanded (program_of p)) }
+    ensures refuses { IfErr result (λ fault. FaultHasCause (expansion (flat_of flat.now)) fault) }
+    ensures well_formed { IsFlat (flat_of flat.now) → IfOk result (λ p. IsWellFormed (program_of p)) }
+    ensures names { IsFlat (flat_of flat.now) → IfOk result (λ p. HasNames (program_of p)) }
 {
-    match fault_in(&flat) {
+    match fault_in(flat) {
         Some(fault) => Err(fault),
         None => Ok(program(alloc, flat)?),
     }
@@ -62,21 +62,23 @@ fn fault_in(flat: &Flat) -> Option<DismantleFault>
 }
 
 // The program, whatever its size.
-fn program(alloc: Global, flat: Flat) -> Result<KernelProgram, NoMemory>
-    ensures { IfOk result (λ p. program_of p ≡ program_in (flat_of flat) (kernel_body (flat_of flat))) }
+fn program(alloc: Global, flat: &Flat) -> Result<KernelProgram, NoMemory>
+    ensures { IfOk result (λ p. program_of p ≡ program_in (flat_of flat.now) (kernel_body (flat_of flat.now))) }
 {
     let count = flat.signals.len();
     let first = count as u32;
     let mut next = first;
     let body = expand(alloc, &flat.body, &Marks::Whole, &mut next)?;
-    let signals = signals_with(alloc, flat.signals, next - first)?;
+    let signals = signals_with(alloc, flat.signals.as_slice(), next - first)?;
+    let relations = same_relations(alloc, flat.relations.as_slice())?;
+    let name = Text::from_bytes(alloc, flat.name.bytes())?;
     Ok(KernelProgram {
-        name: flat.name,
+        name,
         signals,
         inputs: flat.inputs,
         both: flat.both,
         outputs: flat.outputs,
-        relations: flat.relations,
+        relations,
         body: Box::into_inner(body),
     })
 }

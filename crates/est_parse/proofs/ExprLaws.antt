@@ -1,5 +1,5 @@
 -- Inner: judgements on tests, events and delays.
-use Rattle.std.proofs.Common.{◌≡◌, ◌⊎◌, inl, inr, ℕ, suc, max, true, false, IsTrue, List, [], ◌∷◌, Option, Some, None, refl, sym, ap, subst, arith}
+use Rattle.std.proofs.Common.{◌≡◌, ◌⊎◌, inl, inr, ℕ, suc, IsTrue, List, [], ◌∷◌, Option, Some, None, refl, sym, ◌∙◌, ap, subst, arith}
 use Rattle.std.specs.Option.{option_map}
 use Rattle.est_base.specs.declared.place.Span.{Span}
 use Rattle.est_ast.specs.declared.tokens.Token.{Token}
@@ -13,20 +13,20 @@ use Rattle.est_ast.specs.Trees.{Expr, Tick, Sig, Not, And, Or, Round, Square, Ex
 use Rattle.est_ast.specs.Grammar.{is_word, word, mark, name_at, name, number, tick_at, tick, Tier, Disjunction, Conjunction, Negation, SpellsExpr}
 use Rattle.est_ast.specs.Grammar.{SpellsExprs, SpellsNextExprs, SpellsOtherExprs, SpellsEvent, SpellsDelay, SpellsCount, SpellsTest}
 use Rattle.est_ast.specs.Nesting.{expr_nesting, exprs_nesting, delay_nesting}
-use Rattle.expr_tiers.specs.Reading.{Negates, Opens, IsLeaf, inside}
-use Rattle.expr_tiers.proofs.Exports.{Behind, IsGrammar, Kinds, KnownExprs, Begins, part-to, negation-from, bracket-from, leaf-from, IsRow, tier-of}
+use Rattle.expr_tiers.specs.Reading.{Opening, Negates, Opens, IsLeaf}
+use Rattle.expr_tiers.proofs.Exports.{Behind, IsGrammar, Kinds, KnownExprs, TellsOpenings, part-to, negation-from, bracket-from, leaf-from, IsRow, AtTier}
+use Rattle.expr_tiers.proofs.Exports.{IsBelow, IsNode, tier-of}
 use Rattle.expr_tiers.proofs.Judgements as tiers
 use Rattle.read_rules.specs.Languages.{One, Then, Led, Both}
-use Rattle.read_rules.specs.Choice.{Made, Only, adds, fits}
+use Rattle.read_rules.specs.Choice.{Made}
 use Rattle.read_rules.specs.Readings.{Rule}
-use Rattle.read_rules.proofs.Exports.{apart, Test, Shape, one_shape, Lang, Reads, the-reads, give-reads, both-reads, led-reads, trail-reads, ahead-reads}
-use Rattle.read_rules.proofs.Exports.{mapped-reads, told-reads, shape-reads, list_depth, Arm, arm, choose-lang, choose-reads}
+use Rattle.read_rules.proofs.Exports.{apart, Test, Shape, one_shape, Reads, the-reads, both-reads, led-reads, ahead-reads, mapped-reads, told-reads}
+use Rattle.read_rules.proofs.Exports.{shape-reads}
 use Rattle.est_parse.specs.declared.openings.Bracket.{Bracket}
 use Rattle.est_parse.specs.declared.openings.Bracket.TheVariants as brackets
-use Rattle.est_parse.specs.Openings.{Leaf, TickLeaf, NameLeaf, part_at, part_start, Event}
-use Rattle.est_parse.specs.Openings.{SquareEvent, TickEvent, NameEvent, event_at, event_start, is_deep_event}
+use Rattle.est_parse.specs.Openings.{Leaf, TickLeaf, NameLeaf, part_at, part_start, event_in, event_start}
 use Rattle.est_parse.specs.Parts.{count_of}
-use Rattle.est_parse.specs.Reading.{leaf_of, bracketed, closing_mark, tests, event_behind, event}
+use Rattle.est_parse.specs.Reading.{leaf_of, bracketed, closing_mark, tests, event}
 use Rattle.est_parse.specs.Reading.{immediate, count, delay, test}
 use Rattle.est_parse.proofs.TokenKinds.{word_class, mark_class, class, word-kind, mark-kind, word-test, mark-test, number-test, factor_set, part-test}
 use Rattle.est_parse.proofs.TokenKinds.{event_set, event-test}
@@ -77,7 +77,7 @@ leaf-to (NameLeaf n) span (kinds.Reserved words.Not) is = cc
 leaf-to (NameLeaf n) span (kinds.Mark marks.LeftBracket) is = cc
 leaf-to _ span _ is = cc
 
-begins : Begins tests (word words.Not) opening_mark
+begins : TellsOpenings tests (word words.Not) opening_mark
 begins = record {
   negates_hit = λ token. not-passes token.span token.kind;
   negates_sure = λ token is. ap (part_at token.span) (word-kind words.Not token.kind tt is);
@@ -85,15 +85,22 @@ begins = record {
   opens_sure = bracket-takes;
 }
 
-part-from : (v : Expr) (tokens : List Token) → SpellsExpr Negation v tokens
-    → Led part_start (λ o. Behind tests (SpellsExpr Negation) (SpellsExpr Disjunction) o v) tokens
-part-from (Tick span) tokens one =
-    leaf-from (SpellsExpr Negation) (SpellsExpr Disjunction) begins tick span (TickLeaf span) (λ token. tick-takes token.span token.kind span) tokens one
-part-from (Sig n) tokens one =
-    leaf-from (SpellsExpr Negation) (SpellsExpr Disjunction) begins name n (NameLeaf n) (λ token. name-takes token.span token.kind n) tokens one
-part-from (Not e) tokens led = negation-from (SpellsExpr Negation) (SpellsExpr Disjunction) begins e tokens led
-part-from (Round e) tokens led = bracket-from (SpellsExpr Negation) (SpellsExpr Disjunction) begins brackets.Round e tokens led
-part-from (Square e) tokens led = bracket-from (SpellsExpr Negation) (SpellsExpr Disjunction) begins brackets.Square e tokens led
+abbrev Parts : Expr → List Token → Type 0
+Parts = SpellsExpr Negation
+
+abbrev Tests : Expr → List Token → Type 0
+Tests = SpellsExpr Disjunction
+
+-- a part that such a token begins
+abbrev Opened : (Token → Option (Opening Bracket Leaf)) → Expr → List Token → Type 0
+Opened start v = Led start (λ o. Behind tests Parts Tests o v)
+
+abbrev part-from : (v : Expr) (tokens : List Token) → Parts v tokens → Opened part_start v tokens
+part-from (Tick span) tokens one = leaf-from Parts Tests begins tick span (TickLeaf span) (λ token. tick-takes token.span token.kind span) tokens one
+part-from (Sig n) tokens one = leaf-from Parts Tests begins name n (NameLeaf n) (λ token. name-takes token.span token.kind n) tokens one
+part-from (Not e) tokens led = negation-from Parts Tests begins e tokens led
+part-from (Round e) tokens led = bracket-from Parts Tests begins brackets.Round e tokens led
+part-from (Square e) tokens led = bracket-from Parts Tests begins brackets.Square e tokens led
 part-from (And parts) tokens member = absurd member
 part-from (Or parts) tokens member = absurd member
 
@@ -102,19 +109,25 @@ bracket-to : (b : Bracket) (e : Expr) (tokens : List Token) → Led (opening_mar
 bracket-to brackets.Round e tokens led = led
 bracket-to brackets.Square e tokens led = led
 
--- Lists of parts.
+-- Tiers.
 
-abbrev exprs_of : Exprs → List Expr
-exprs_of NoExprs = []
-exprs_of (MoreExprs e others) = e ∷ exprs_of others
+exprs-of : (others : Exprs) → (es : List Expr) × (exprs es ≡ others)
+exprs-of NoExprs = ([], refl)
+exprs-of (MoreExprs e others) = let es = exprs-of others in (e ∷ es.0, ap (MoreExprs e) es.1)
 
-exprs-of : (others : Exprs) → exprs (exprs_of others) ≡ others
-exprs-of NoExprs = refl
-exprs-of (MoreExprs e others) = ap (MoreExprs e) (exprs-of others)
+row : (w : Reserved) (tier : Tier) →
+    IsRow (word w) (SpellsExpr tier) expr_nesting exprs exprs_nesting (SpellsExprs w tier) (SpellsNextExprs w tier) (SpellsOtherExprs w tier)
+row w tier = record { listed = exprs-of; none = (refl, refl, refl, refl); more = λ e es. (refl, refl, refl, refl) }
 
-exprs-nesting : (others : List Expr) → exprs_nesting (exprs others) ≡ list_depth expr_nesting others
-exprs-nesting [] = refl
-exprs-nesting (e ∷ others) = ap (max (expr_nesting e)) (exprs-nesting others)
+conjunction : (v : Expr) → AtTier (SpellsExpr Negation) (SpellsExpr Conjunction) And v
+conjunction (And parts) = IsNode parts refl refl
+conjunction (Tick span) = IsBelow refl
+conjunction _ = IsBelow refl
+
+disjunction : (v : Expr) → AtTier (SpellsExpr Conjunction) (SpellsExpr Disjunction) Or v
+disjunction (Or parts) = IsNode parts refl refl
+disjunction (Tick span) = IsBelow refl
+disjunction _ = IsBelow refl
 
 leaf-nesting : (leaf : Leaf) → expr_nesting (leaf_of leaf) ≡ 0
 leaf-nesting (TickLeaf span) = refl
@@ -124,63 +137,28 @@ bracket-nesting : (b : Bracket) (e : Expr) → expr_nesting (bracketed b e) ≡ 
 bracket-nesting brackets.Round e = refl
 bracket-nesting brackets.Square e = refl
 
-row : (w : Reserved) (tier : Tier) → IsRow (word w) (SpellsExpr tier) exprs (SpellsExprs w tier) (SpellsNextExprs w tier) (SpellsOtherExprs w tier)
-row w tier = record {
-  items = exprs_of;
-  again = exprs-of;
-  all_none = λ tokens member. member;
-  all_more = λ e es. refl;
-  nexts_none = λ tokens member. member;
-  nexts_more = λ e es. refl;
-  others_none = refl;
-  others_more = λ e es. refl;
-}
-
-neg_conj : (e : Expr) (tokens : List Token) → SpellsExpr Negation e tokens → SpellsExpr Conjunction e tokens
-neg_conj (Tick span) tokens member = member
-neg_conj (Sig n) tokens member = member
-neg_conj (Not e) tokens member = member
-neg_conj (Round e) tokens member = member
-neg_conj (Square e) tokens member = member
-neg_conj (And parts) tokens member = absurd member
-neg_conj (Or parts) tokens member = absurd member
-
-conj-from : (e : Expr) (tokens : List Token) → SpellsExpr Conjunction e tokens
-    → SpellsExpr Negation e tokens ⊎ ((parts : Exprs) × (And parts ≡ e) × SpellsExprs words.And Negation parts tokens)
-conj-from (And parts) tokens member = inr (parts, refl, member)
-conj-from (Or parts) tokens member = absurd member
-conj-from (Tick span) tokens member = inl member
-conj-from _ tokens member = inl member
-
-conj_disj : (e : Expr) (tokens : List Token) → SpellsExpr Conjunction e tokens → SpellsExpr Disjunction e tokens
-conj_disj (Or parts) tokens member = absurd member
-conj_disj (Tick span) tokens member = member
-conj_disj _ tokens member = member
-
-disj-from : (e : Expr) (tokens : List Token) → SpellsExpr Disjunction e tokens
-    → SpellsExpr Conjunction e tokens ⊎ ((parts : Exprs) × (Or parts ≡ e) × SpellsExprs words.Or Conjunction parts tokens)
-disj-from (Or parts) tokens member = inr (parts, refl, member)
-disj-from (Tick span) tokens member = inl member
-disj-from _ tokens member = inl member
-
 -- The judgements.
-
-grammar : IsGrammar tests (SpellsExpr Negation) (SpellsExpr Conjunction) (SpellsExpr Disjunction) expr_nesting
-grammar = record {
-  part_to = part-to (SpellsExpr Negation) (SpellsExpr Disjunction) begins (λ e tokens led. led) bracket-to (λ leaf token. leaf-to leaf token.span token.kind);
-  part_from = part-from;
-  conjunctions = tier-of (row words.And Negation) And (SpellsExpr Conjunction) neg_conj (λ r tokens member. member) conj-from;
-  disjunctions = tier-of (row words.Or Conjunction) Or (SpellsExpr Disjunction) conj_disj (λ r tokens member. member) disj-from;
-  leaf_depth = leaf-nesting;
-  negation_depth = λ e. refl;
-  bracket_depth = bracket-nesting;
-  all_depth = exprs-nesting;
-  any_depth = exprs-nesting;
-}
 
 -- some place and a token at it
 abbrev nowhere : Span
 nowhere = record { start = 0; end = 0 }
+
+grammar : IsGrammar tests Parts (SpellsExpr Conjunction) Tests class factor_set expr_nesting
+grammar = record {
+  parts = record {
+    test = part-test;
+    token = record { kind = kinds.Reserved words.Tick; span = nowhere };
+    leaf = TickLeaf nowhere;
+    takes = refl;
+    to = part-to Parts Tests begins (λ e tokens led. led) bracket-to (λ leaf token. leaf-to leaf token.span token.kind);
+    from = part-from;
+  };
+  conjunctions = tier-of (row words.And Negation) And (SpellsExpr Conjunction) (λ r. refl) (λ r. refl) conjunction;
+  disjunctions = tier-of (row words.Or Conjunction) Or (SpellsExpr Disjunction) (λ r. refl) (λ r. refl) disjunction;
+  leaf_depth = leaf-nesting;
+  negation_depth = λ e. refl;
+  bracket_depth = bracket-nesting;
+}
 
 abbrev closing_class : Bracket → ℕ
 closing_class brackets.Round = mark_class marks.RightParenthesis
@@ -196,13 +174,9 @@ closing-apart brackets.Square = refl
 
 sorts : Kinds tests class factor_set (word_class words.And) (word_class words.Or) closing_class
 sorts = record {
-  opening_test = part-test;
   and_test = word-test words.And;
   or_test = word-test words.Or;
   closing_test = closing-test;
-  token = record { kind = kinds.Reserved words.Tick; span = nowhere };
-  leaf = TickLeaf nowhere;
-  takes = refl;
   starts_in = refl;
   and_in = refl;
   or_in = refl;
@@ -214,7 +188,7 @@ abbrev pub expr_shape : Shape
 expr_shape = tiers.expr_shape factor_set (word_class words.And) (word_class words.Or)
 
 abbrev pub KnownTests : Option ℕ → Type 0
-KnownTests = KnownExprs tests (SpellsExpr Negation) (SpellsExpr Disjunction) expr_nesting class factor_set (word_class words.And) (word_class words.Or)
+KnownTests = KnownExprs tests Parts Tests expr_nesting class factor_set (word_class words.And) (word_class words.Or)
 
 pub exprs_alone : KnownTests None
 exprs_alone = tiers.exprs_alone sorts grammar
@@ -222,107 +196,62 @@ exprs_alone = tiers.exprs_alone sorts grammar
 pub exprs_known : (room : ℕ) → KnownTests (Some room)
 exprs_known = tiers.exprs_known sorts grammar
 
-inside_known : (room : ℕ) → KnownTests (fits true room)
-inside_known = tiers.inside_known sorts grammar
-
 -- Events.
 
-abbrev EventBehind : Event → Expr → List Token → Type 0
-EventBehind SquareEvent = Made Square (λ e. Then (SpellsExpr Disjunction e) (One (mark marks.RightBracket) tt))
-EventBehind (TickEvent span) = Only (Tick span)
-EventBehind (NameEvent n) = Only (Sig n)
+only-event : (p : Option (Opening Bracket Leaf)) (o : Opening Bracket Leaf) → event_in p ≡ Some o → p ≡ Some o
+only-event None o is = is
+only-event (Some Negates) o is = cc
+only-event (Some (Opens brackets.Round)) o is = cc
+only-event (Some (Opens brackets.Square)) o is = is
+only-event (Some (IsLeaf leaf)) o is = is
 
-event-behind : (span : Span) (kind : Kind) (rest : List Token) (o : Event) → event_at span kind ≡ Some o → (v : Expr) → EventBehind o v rest →
-    SpellsEvent v (record { kind = kind; span = span } ∷ rest)
-event-behind span (kinds.Mark marks.LeftBracket) rest SquareEvent takes v made =
-    subst (λ v. SpellsEvent v (record { kind = kinds.Mark marks.LeftBracket; span = span } ∷ rest)) made.1
-    (record { token = record { kind = kinds.Mark marks.LeftBracket; span = span }; value = tt; rest = rest; cut = refl; passes = refl; behind = made.2 })
-event-behind span (kinds.Reserved words.Tick) rest (TickEvent other) takes v made =
-    let same : span ≡ other = cc in
-    subst (λ v. SpellsEvent v (record { kind = kinds.Reserved words.Tick; span = span } ∷ rest)) made.1
-    (record {
-      token = record { kind = kinds.Reserved words.Tick; span = span };
-      only = ap (λ r. record { kind = kinds.Reserved words.Tick; span = span } ∷ r) made.2;
-      passes = ap Some same;
-    })
-event-behind span (kinds.Ident text) rest (NameEvent n) takes v made =
-    let same : record { text = text; span = span } ≡ n = cc in
-    subst (λ v. SpellsEvent v (record { kind = kinds.Ident text; span = span } ∷ rest)) made.1
-    (record {
-      token = record { kind = kinds.Ident text; span = span };
-      only = ap (λ r. record { kind = kinds.Ident text; span = span } ∷ r) made.2;
-      passes = ap Some same;
-    })
-event-behind span _ rest _ takes v made = cc
+-- a part of a test that begins so is an event
+is-event : (o : Opening Bracket Leaf) → event_in (Some o) ≡ Some o → (v : Expr) (rest tokens : List Token) → Behind tests Parts Tests o v rest
+    → Parts v tokens → SpellsEvent v tokens
+is-event Negates is v rest tokens made = cc
+is-event (Opens brackets.Round) is v rest tokens made = cc
+is-event (Opens brackets.Square) is v rest tokens made = subst (λ v. Parts v tokens → SpellsEvent v tokens) made.1 (λ part. part)
+is-event (IsLeaf (TickLeaf at)) is v rest tokens made = subst (λ v. Parts v tokens → SpellsEvent v tokens) made.1 (λ part. part)
+is-event (IsLeaf (NameLeaf n)) is v rest tokens made = subst (λ v. Parts v tokens → SpellsEvent v tokens) made.1 (λ part. part)
 
-event-to : (v : Expr) (tokens : List Token) → Led event_start (λ o. EventBehind o v) tokens → SpellsEvent v tokens
-event-to v tokens led = subst (λ ts. SpellsEvent v ts) (sym led.cut) (event-behind led.token.span led.token.kind led.rest led.value led.passes v led.behind)
+event-to : (v : Expr) (tokens : List Token) → Opened event_start v tokens → SpellsEvent v tokens
+event-to v tokens led =
+    let is = only-event (part_start led.token) led.value led.passes in
+    is-event led.value (ap event_in (sym is) ∙ led.passes) v led.rest tokens led.behind (grammar.parts.to v tokens
+    (record { token = led.token; value = led.value; rest = led.rest; cut = led.cut; passes = is; behind = led.behind }))
 
-tick-event : (span : Span) (kind : Kind) (at : Span) → tick_at span kind ≡ Some at → event_at span kind ≡ Some (TickEvent at)
-tick-event span (kinds.Reserved words.Tick) at is = ap (option_map TickEvent) is
-tick-event span _ at is = cc
+narrowed : (v : Expr) (tokens : List Token) (led : Opened part_start v tokens) → event_in (Some led.value) ≡ Some led.value
+    → Opened event_start v tokens
+narrowed v tokens led same = record {
+  token = led.token;
+  value = led.value;
+  rest = led.rest;
+  cut = led.cut;
+  passes = ap event_in led.passes ∙ same;
+  behind = led.behind;
+}
 
-name-event : (span : Span) (kind : Kind) (n : Name) → name_at span kind ≡ Some n → event_at span kind ≡ Some (NameEvent n)
-name-event span (kinds.Ident text) n is = ap (option_map NameEvent) is
-name-event span (kinds.Reserved w) n is = cc
-name-event span (kinds.Mark m) n is = cc
-name-event span (kinds.Number value) n is = cc
-
-event-from : (v : Expr) (tokens : List Token) → SpellsEvent v tokens → Led event_start (λ o. EventBehind o v) tokens
-event-from (Tick span) tokens one =
-    record {
-      token = one.token;
-      value = TickEvent span;
-      rest = [];
-      cut = one.only;
-      passes = tick-event one.token.span one.token.kind span one.passes;
-      behind = (tt, refl, refl);
-    }
-event-from (Sig n) tokens one =
-    record {
-      token = one.token;
-      value = NameEvent n;
-      rest = [];
-      cut = one.only;
-      passes = name-event one.token.span one.token.kind n one.passes;
-      behind = (tt, refl, refl);
-    }
-event-from (Square e) tokens led =
-    record {
-      token = led.token;
-      value = SquareEvent;
-      rest = led.rest;
-      cut = led.cut;
-      passes = ap (event_at led.token.span) (mark-kind marks.LeftBracket led.token.kind tt led.passes);
-      behind = (e, refl, led.behind);
-    }
-event-from (Not e) tokens member = absurd member
-event-from (Round e) tokens member = absurd member
-event-from (And parts) tokens member = absurd member
-event-from (Or parts) tokens member = absurd member
-
-abbrev event_rule : Event → ℕ → Rule Token Expr
-event_rule o n = event_behind o (inside tests n)
+event-from : (v : Expr) (tokens : List Token) → SpellsEvent v tokens → Opened event_start v tokens
+event-from (Tick span) tokens part = narrowed (Tick span) tokens (part-from (Tick span) tokens part) refl
+event-from (Sig n) tokens part = narrowed (Sig n) tokens (part-from (Sig n) tokens part) refl
+event-from (Square e) tokens part = narrowed (Square e) tokens (part-from (Square e) tokens part) refl
+event-from (Not e) tokens part = absurd part
+event-from (Round e) tokens part = absurd part
+event-from (And parts) tokens part = absurd part
+event-from (Or parts) tokens part = absurd part
 
 abbrev pub event_shape : Shape
 event_shape = one_shape event_set
 
-event_tick-arm : {room : Option ℕ} (span : Span) → Arm class expr_nesting false [] (λ n. event_rule (TickEvent span) n) (EventBehind (TickEvent span)) room
-event_tick-arm span = arm (λ _. Tick span) give-reads (λ _. refl) refl
-
-event-arms : (room : ℕ) (o : Event) →
-    Arm class expr_nesting (is_deep_event o) [] (λ n. event_rule o (adds (is_deep_event o) n)) (EventBehind o) (fits (is_deep_event o) room)
-event-arms room SquareEvent = arm Square (trail-reads (inside_known room).whole (the-reads (mark-test marks.RightBracket)) refl) (λ _. refl) refl
-event-arms room (TickEvent span) = event_tick-arm span
-event-arms room (NameEvent n) = arm (λ _. Sig n) give-reads (λ _. refl) refl
-
-event-lang : Lang class (λ v. Led event_start (λ o. EventBehind o v)) expr_nesting event_shape
-event-lang = choose-lang EventBehind event-test (record { kind = kinds.Reserved words.Tick; span = nowhere }) (TickEvent nowhere) refl
-    (event_tick-arm {room = None} nowhere)
-
 pub event_known : (room : Option ℕ) → Reads class event SpellsEvent expr_nesting event_shape room
-event_known None = told-reads SpellsEvent (record { lang = event-lang; laws = tt }) event-to event-from
-event_known (Some room) = told-reads SpellsEvent (choose-reads event_rule event-lang room (event-arms room)) event-to event-from
+event_known = tiers.part_known sorts grammar (record {
+  test = event-test;
+  token = record { kind = kinds.Reserved words.Tick; span = nowhere };
+  leaf = TickLeaf nowhere;
+  takes = refl;
+  to = event-to;
+  from = event-from;
+})
 
 -- Delays, on an event's judgement.
 

@@ -10,9 +10,11 @@ use Rattle.est_ast.specs.Trees.{Stmt, At, Form, Stmts, stmts}
 use Rattle.est_parse.specs.Parts.{stmt_list}
 use Rattle.est_ast.specs.Grammar.{mark, name, Listed, Ends}
 use Rattle.read_rules.specs.Languages.{Empty, One, Both, Loop, Parted}
-use Rattle.read_rules.specs.Choice.{Made}
+use Rattle.read_rules.specs.Choice.{Made, entered, fits}
 use Rattle.std.specs.Option.{option_map_or}
 use Rattle.std.proofs.lemmas.List.{append_assoc, map-id}
+use Rattle.expr_tiers.specs.Reading.{Opening}
+use Rattle.expr_tiers.specs.Reading as tiers
 use Rattle.expr_tiers.specs.Views.{FindsBy}
 use Rattle.read_rules.specs.Found.{Finds}
 use Rattle.read_rules.specs.declared.faults.ReadError.{ReadError}
@@ -21,7 +23,9 @@ use Rattle.est_ast.specs.Grammar.{span_of}
 use Rattle.read_rules.specs.Readings.{Read, Rule, refuse, give, follow, mapped, on, the, picked, turn, loop, taken_of}
 use Rattle.read_rules.proofs.Exports.{Advances, loop-unfolds, apart, Shape, one_shape, no_shape, then_shape, Reads, the-reads, give-reads, both-reads}
 use Rattle.read_rules.proofs.Exports.{led-reads, may-reads, made-reads, or_turn, step_shape, list_depth, or-steps, loop-reads, Advances-step}
-use Rattle.est_parse.specs.Reading.{list_step, listed, ends, finished, stmt_parts}
+use Rattle.est_parse.specs.declared.openings.Bracket.{Bracket}
+use Rattle.est_parse.specs.Openings.{Leaf, part_start, event_start}
+use Rattle.est_parse.specs.Reading.{list_step, listed, ends, tests, event, finished, stmt_parts}
 use Rattle.est_parse.proofs.TokenKinds.{word_class, mark_class, class, word-test, mark-test, name-test}
 
 pub name-reads : {room : Option ℕ} → Reads class (λ _. the name) (One name) (λ _. 0) (one_shape (60 ∷ [])) room
@@ -61,6 +65,13 @@ pub finds-plain : {T X Y : Type 0} (view : X → Y) (result : Result (X × Bor (
 finds-plain view (Ok found) p tokens is = ap p (sym (map-id tokens)) ∙ is ∙ ap (λ ts. Ok (view found.0, ts)) (map-id found.1.now)
 finds-plain view (Err (errors.Fault fault)) p tokens is = ap p (sym (map-id tokens)) ∙ is
 finds-plain view (Err errors.NoMemory) p tokens is = tt
+
+-- where what begins an event begins the next part of a test, an event is that part
+pub event-part : (room : ℕ) (tokens : List Token) → picked event_start tokens ≡ picked part_start tokens
+    → tiers.neg tests room (tiers.inside tests room) tokens ≡ event room tokens
+event-part room tokens same =
+    ap (λ o. option_map_or {T = Opening Bracket Leaf × List Token}
+    (λ found. entered (fits (tiers.is_deep found.0) room) (tiers.opened tests found.0 (tiers.inside tests room)) tokens found.1) o (refuse tokens)) (sym same)
 
 -- What loops in code keep.
 

@@ -15,14 +15,15 @@ use Rattle.est_ast.specs.declared.tokens.Mark.TheVariants as marks
 use Rattle.est_ast.specs.Spelling.{spelling, sign}
 use Rattle.est_ast.specs.Grammar.{is_word, word, is_mark, mark, name_at, name, number_at, number}
 use Rattle.est_ast.proofs.Exports.{read_word, read-spelling, mark_of, mark_of-head}
-use Rattle.expr_tiers.specs.Reading.{Negates}
+use Rattle.expr_tiers.specs.Reading.{Negates, Opens}
 use Rattle.read_rules.proofs.Exports.{has, Test, test-of}
 use Rattle.est_parse.specs.declared.openings.Opening.{Opening}
 use Rattle.est_parse.specs.declared.openings.Opening.TheVariants as openings
 use Rattle.est_parse.specs.declared.openings.Flat.TheVariants as flats
 use Rattle.est_parse.specs.declared.openings.Block.TheVariants as blocks
+use Rattle.est_parse.specs.declared.openings.Bracket.TheVariants as brackets
 use Rattle.est_parse.specs.declared.openings.Declaration.TheVariants as declarations
-use Rattle.est_parse.specs.Openings.{kind_of, opening_of, opening, part_at, part_start, SquareEvent, event_at, event_start}
+use Rattle.est_parse.specs.Openings.{kind_of, opening_of, opening, part_at, part_start, event_in, event_start}
 use Rattle.est_parse.specs.Openings.{declaration_of, declaration}
 
 abbrev pub word_class : Reserved → ℕ
@@ -264,12 +265,12 @@ abbrev pub event_set : List ℕ
 event_set = 60 ∷ 33 ∷ 42 ∷ []
 
 pub event-test : Test class event_start event_set
-event-test = test-of event_set (λ token. agrees token.span token.kind) (at_kind (kinds.Mark marks.LeftBracket)) SquareEvent refl
+event-test = test-of event_set (λ token. agrees token.span token.kind) (at_kind (kinds.Mark marks.LeftBracket)) (Opens brackets.Square) refl
   where
-    agrees : (span : Span) (kind : Kind) → is_some (event_at span kind) ≡ has event_set (kind_class kind)
+    agrees : (span : Span) (kind : Kind) → is_some (event_in (part_at span kind)) ≡ has event_set (kind_class kind)
     agrees span (kinds.Ident text) = refl
     agrees span (kinds.Number value) = refl
-    agrees span (kinds.Reserved words.Tick) = refl
+    agrees span (kinds.Reserved words.Not) = refl
     agrees span (kinds.Reserved _) = refl
     agrees span (kinds.Mark marks.LeftBracket) = refl
     agrees span (kinds.Mark _) = refl

@@ -13,8 +13,6 @@ use Rattle.est_parse.specs.declared.openings.Flat.TheVariants as flats
 use Rattle.est_parse.specs.declared.openings.Block.TheVariants as blocks
 use Rattle.est_parse.specs.declared.openings.Bracket.{Bracket}
 use Rattle.est_parse.specs.declared.openings.Bracket.TheVariants as brackets
-use Rattle.est_parse.specs.declared.openings.Event.{Event as CodeEvent}
-use Rattle.est_parse.specs.declared.openings.Event.TheVariants as events
 use Rattle.est_parse.specs.declared.openings.Declaration.{Declaration}
 use Rattle.est_parse.specs.declared.openings.Declaration.TheVariants as declarations
 use Rattle.expr_tiers.specs.Reading.{Opening as PartOpening, Negates, Opens, IsLeaf}
@@ -88,30 +86,14 @@ part_at span _ = None
 abbrev pub part_start : Token → Option (PartOpening Bracket Leaf)
 part_start token = part_at token.span token.kind
 
--- what begins an event
-pub data Event : Type 0 where
-  SquareEvent : Event
-  TickEvent : Span → Event
-  NameEvent : Name → Event
+-- what begins an event: what begins a part of a test, without negations and round brackets
+abbrev pub event_in : Option (PartOpening Bracket Leaf) → Option (PartOpening Bracket Leaf)
+event_in (Some Negates) = None
+event_in (Some (Opens brackets.Round)) = None
+event_in found = found
 
-abbrev pub event_of : CodeEvent → Event
-event_of events.Square = SquareEvent
-event_of (events.Tick span) = TickEvent span
-event_of (events.Name text span) = NameEvent (record { text = text.now; span = span })
-
-abbrev pub event_at : Span → Kind → Option Event
-event_at span (kinds.Mark marks.LeftBracket) = Some SquareEvent
-event_at span (kinds.Reserved words.Tick) = Some (TickEvent span)
-event_at span (kinds.Ident text) = Some (NameEvent (record { text = text; span = span }))
-event_at span _ = None
-
-abbrev pub event_start : Token → Option Event
-event_start token = event_at token.span token.kind
-
-abbrev pub is_deep_event : Event → Bool
-is_deep_event SquareEvent = true
-is_deep_event (TickEvent span) = false
-is_deep_event (NameEvent n) = false
+abbrev pub event_start : Token → Option (PartOpening Bracket Leaf)
+event_start token = event_in (part_start token)
 
 -- the words that begin a declaration
 abbrev pub declaration_of : Kind → Option Declaration

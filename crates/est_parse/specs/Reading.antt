@@ -23,13 +23,13 @@ use Rattle.est_parse.specs.declared.openings.Bracket.{Bracket}
 use Rattle.est_parse.specs.declared.openings.Bracket.TheVariants as brackets
 use Rattle.est_parse.specs.declared.openings.Declaration.{Declaration}
 use Rattle.est_parse.specs.declared.openings.Declaration.TheVariants as declarations
-use Rattle.est_parse.specs.Openings.{opening, is_deep, Leaf, TickLeaf, NameLeaf, part_start, Event, SquareEvent}
-use Rattle.est_parse.specs.Openings.{TickEvent, NameEvent}
-use Rattle.est_parse.specs.Openings.{event_start, is_deep_event, declaration}
+use Rattle.est_parse.specs.Openings.{opening, is_deep, Leaf, TickLeaf, NameLeaf, part_start, event_start, declaration}
 use Rattle.est_parse.specs.Parts.{stmt_list, part_of, handler_of, renames_of, count_of, Tail, CaseTail}
 use Rattle.est_parse.specs.Parts.{DelayTail, await_of, abort_of, Choice, CaseChoice, TestChoice, present_of, loop_of}
 use Rattle.est_parse.specs.Parts.{Head, GroupHead, LoopHead, EveryHead, RepeatHead, AbortHead, WeakHead}
 use Rattle.est_parse.specs.Parts.{SuspendHead, TrapHead, SignalHead}
+use Rattle.expr_tiers.specs.declared.language.Joint.{Joint}
+use Rattle.expr_tiers.specs.declared.language.Joint.TheVariants as joints
 use Rattle.expr_tiers.specs.Reading as tiers
 use Rattle.read_rules.specs.Readings.{Read, Rule, follow, taken_of, refuse, give, mapped, both, trail, ahead, on, the}
 use Rattle.read_rules.specs.Readings.{maybe, loop, placed}
@@ -60,30 +60,32 @@ abbrev pub bracketed : Bracket → Expr → Expr
 bracketed brackets.Round = Round
 bracketed brackets.Square = Square
 
+abbrev pub joint_mark : Joint → Token → Option (Unit {0})
+joint_mark joints.And = word words.And
+joint_mark joints.Or = word words.Or
+
+abbrev pub joined : Joint → List Expr → Expr
+joined joints.And es = And (exprs es)
+joined joints.Or es = Or (exprs es)
+
 -- tests as expressions by tiers
 abbrev pub tests : tiers.Tiers Token Bracket Leaf Expr
 tests = record {
   opening = part_start;
   closing = closing_mark;
-  and_mark = word words.And;
-  or_mark = word words.Or;
+  mark = joint_mark;
   leaf = leaf_of;
   negation = Not;
   bracketed = bracketed;
-  all = λ es. And (exprs es);
-  any = λ es. Or (exprs es);
+  joined = joined;
 }
 
 abbrev pub expr : ℕ → Rule Token Expr
 expr room = tiers.expr tests room
 
-abbrev pub event_behind : Event → tiers.Rules Token Expr → Rule Token Expr
-event_behind SquareEvent inner = mapped Square (trail inner.whole (the (mark marks.RightBracket)))
-event_behind (TickEvent span) inner = give (Tick span)
-event_behind (NameEvent n) inner = give (Sig n)
-
+-- what an event begins with, it begins as a part of a test does
 abbrev pub event : ℕ → Rule Token Expr
-event room = choose event_start is_deep_event room (λ o. event_behind o (tiers.inside tests room))
+event room = choose event_start tiers.is_deep room (λ o. tiers.opened tests o (tiers.inside tests room))
 
 abbrev pub immediate : Rule Token Expr → Rule Token Delay
 immediate event = mapped Immediate (on (word words.Immediate) (λ _. event))

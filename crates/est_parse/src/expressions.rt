@@ -1,18 +1,15 @@
 // The reader of tests, events and delays.
 
 ghost use Rattle.std.specs.Prelude.{◌≡◌, ◌<◌, map, vec_len};
-ghost use Rattle.est_ast.specs.Trees.{And, Or, exprs};
 ghost use Rattle.est_ast.specs.Views.{expr_of, delay_of};
-ghost use Rattle.est_parse.specs.Reading.{expr, event, immediate, count, delay, test};
+ghost use Rattle.est_parse.specs.Reading.{expr, event, immediate, count, delay, test, joined};
 ghost use Rattle.read_rules.specs.Found.{Finds};
 
-use crate::openings::{Bracket, Event, past_event};
-use crate::signs::{
-    after_mark, after_word, copy_of, is_mark, is_number_next, is_word, past_word, read_number,
-};
+use crate::openings::{Bracket, check_event};
+use crate::signs::{after_word, copy_of, is_mark, is_number_next, is_word, past_word, read_number};
 use est_ast::{Delay, Kind, Mark, Name, Reserved, SigExpr, Token};
-use expr_tiers::{ExprLanguage, Opening};
-use read_rules::{ReadError, inside, refused};
+use expr_tiers::{ExprLanguage, Joint, Opening};
+use read_rules::ReadError;
 use std::alloc::Global;
 
 // A test: parts with `or` between them.
@@ -72,12 +69,11 @@ impl ExprLanguage for Tests {
         }
     }
 
-    fn is_and(token: &Token) -> bool {
-        is_word(Reserved::And, &token.kind)
-    }
-
-    fn is_or(token: &Token) -> bool {
-        is_word(Reserved::Or, &token.kind)
+    fn is_joint(joint: Joint, token: &Token) -> bool {
+        match joint {
+            Joint::And => is_word(Reserved::And, &token.kind),
+            Joint::Or => is_word(Reserved::Or, &token.kind),
+        }
     }
 
     fn leaf(alloc: Global, token: &Token) -> Result<SigExpr, ReadError> {
@@ -105,19 +101,14 @@ impl ExprLanguage for Tests {
     }
 
     #[tactic(auto, using(est_ast::proofs::Exports::rows))]
-    fn all(parts: Vec<SigExpr>) -> SigExpr
+    fn joined(joint: Joint, parts: Vec<SigExpr>) -> SigExpr
         requires { 1 < vec_len parts }
-        ensures { expr_of result ≡ And (exprs (map expr_of parts.items)) }
+        ensures { expr_of result ≡ joined joint (map expr_of parts.items) }
     {
-        SigExpr::And(parts)
-    }
-
-    #[tactic(auto, using(est_ast::proofs::Exports::rows))]
-    fn any(parts: Vec<SigExpr>) -> SigExpr
-        requires { 1 < vec_len parts }
-        ensures { expr_of result ≡ Or (exprs (map expr_of parts.items)) }
-    {
-        SigExpr::Or(parts)
+        match joint {
+            Joint::And => SigExpr::And(parts),
+            Joint::Or => SigExpr::Or(parts),
+        }
     }
 }
 
@@ -125,22 +116,8 @@ impl ExprLanguage for Tests {
 fn read_event(alloc: Global, tokens: &[Token], room: u32) -> Result<(SigExpr, &[Token]), ReadError>
     ensures { Finds expr_of result (event room tokens.now) }
 {
-    let Some((start, rest)) = past_event(tokens) else {
-        return Err(ReadError::Fault(refused(tokens)));
-    };
-    match start {
-        Event::Tick(span) => Ok((SigExpr::Tick(span), rest)),
-        Event::Name(text, span) => {
-            let text = copy_of(alloc, text)?;
-            Ok((SigExpr::Sig(Name { text, span }), rest))
-        }
-        Event::Square => {
-            let room = inside(room, tokens)?;
-            let (body, rest) = read_expr(alloc, rest, room)?;
-            let rest = after_mark(Mark::RightBracket, rest)?;
-            Ok((SigExpr::Square(Box::new(alloc, body)?), rest))
-        }
-    }
+    check_event(tokens)?;
+    expr_tiers::read_part::<Tests>(alloc, tokens, room)
 }
 
 // `immediate` and an event.

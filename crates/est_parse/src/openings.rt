@@ -1,12 +1,12 @@
 // What the next token begins.
 
-ghost use Rattle.std.specs.Prelude.{◌≡◌, Some, None, is_some, MatchOption};
-ghost use Rattle.est_parse.specs.Openings.{opening, event_start, declaration, event_of};
-ghost use Rattle.read_rules.specs.Readings.{picked};
+ghost use Rattle.std.specs.Prelude.{◌≡◌, Some, None, false, is_some, MatchOption, MatchResult};
+ghost use Rattle.est_parse.specs.Openings.{opening, part_start, event_start, declaration};
+ghost use Rattle.read_rules.specs.Readings.{picked, fault_at};
+ghost use Rattle.read_rules.specs.declared.faults.ReadError.TheVariants as errors;
 
 use est_ast::{Kind, Mark, Reserved, Token};
-use est_base::{Span, Text};
-use read_rules::first;
+use read_rules::{ReadError, first, refused};
 
 // What begins an item. All but the flat ones have room for a statement or a case, or stand before a
 // word that has.
@@ -50,14 +50,6 @@ pub enum Block {
 pub enum Bracket {
     Round,
     Square,
-}
-
-// What begins an event.
-#[derive(Clone, Copy, Drop)]
-pub enum Event<'a> {
-    Square,
-    Tick(Span),
-    Name(&'a Text, Span),
 }
 
 // What begins a declaration.
@@ -108,20 +100,21 @@ pub fn is_item_next(tokens: &[Token]) -> bool
     past_opening(tokens).is_some()
 }
 
-// What begins an event with the next token, and the tokens behind it.
-pub fn past_event(tokens: &[Token]) -> Option<(Event<'_>, &[Token])>
-    ensures { MatchOption result
-        (picked event_start tokens.now ≡ None)
-        (λ found. picked event_start tokens.now ≡ Some (event_of found.0, found.1.now)) }
+// Nothing where the next token begins an event, and else its fault.
+pub fn check_event(tokens: &[Token]) -> Result<(), ReadError>
+    ensures { MatchResult result
+        (λ _. picked event_start tokens.now ≡ picked part_start tokens.now)
+        (λ e. (picked event_start tokens.now ≡ None) × (e ≡ errors.Fault (fault_at false tokens.now))) }
 {
-    let (token, rest) = first(tokens)?;
-    let event = match &token.kind {
-        Kind::Mark(Mark::LeftBracket) => Event::Square,
-        Kind::Reserved(Reserved::Tick) => Event::Tick(token.span),
-        Kind::Ident(text) => Event::Name(text, token.span),
-        _ => return None,
+    let Some((token, _)) = first(tokens) else {
+        return Err(ReadError::Fault(refused(tokens)));
     };
-    Some((event, rest))
+    match token.kind {
+        Kind::Mark(Mark::LeftBracket) => Ok(()),
+        Kind::Reserved(Reserved::Tick) => Ok(()),
+        Kind::Ident(_) => Ok(()),
+        _ => Err(ReadError::Fault(refused(tokens))),
+    }
 }
 
 // What begins a declaration with the next token, and the tokens behind it.

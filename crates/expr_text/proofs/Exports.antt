@@ -14,4 +14,5 @@ pub use Rattle.expr_text.proofs.Naming.{differ-gates, differ-states, find-none, 
 pub use Rattle.expr_text.proofs.Naming.{state_names}
 pub use Rattle.expr_text.proofs.Instants.{numbered-same}
 pub use Rattle.expr_text.proofs.Places.{fault-place, kinds-are, left-low}
+pub use Rattle.expr_text.proofs.MeantTexts.{least-meant, spelled-meant, whole-ended}
 pub use Rattle.expr_text.proofs.Again.{again-first, once-behind}

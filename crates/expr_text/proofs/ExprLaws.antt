@@ -1,5 +1,5 @@
 -- Inner: judgements on expressions, for tokens of any kind whose signs are told, where each sign has a token.
-use Rattle.std.proofs.Common.{◌≡◌, ◌⊎◌, inl, inr, ℕ, max, List, [], ◌∷◌, Some, is_some, refl, ap}
+use Rattle.std.proofs.Common.{◌≡◌, ℕ, List, [], ◌∷◌, Some, is_some, refl, ap}
 use Rattle.expr_text.specs.Signs.{Sign, NameSign, BitSign, NotSign, OpenSign, CloseSign, AndSign, OrSign, sign_number, numbered_as, signed}
 use Rattle.expr_text.specs.Signs.{name_in, bit_in, named, constant}
 use Rattle.expr_text.specs.Grammar.{Written, Word, Bit, Not, Round, And, Or, Writtens, NoneWritten, MoreWritten}
@@ -8,10 +8,11 @@ use Rattle.expr_text.specs.Grammar.{SpellsExpr, SpellsExprs, SpellsNextExprs, Sp
 use Rattle.expr_text.specs.Reading.{writtens, makes_written, Leaf, NameLeaf, BitLeaf, leaf_of, opening_of, tiers_of}
 use Rattle.expr_text.proofs.Tests.{number-test}
 use Rattle.expr_tiers.specs.Reading.{Negates, Opens, IsLeaf, Tiers}
-use Rattle.expr_tiers.proofs.Exports.{IsTier, Behind, IsGrammar, Kinds, KnownExprs, Begins, part-to, negation-from, bracket-from, leaf-from, IsRow, tier-of}
+use Rattle.expr_tiers.proofs.Exports.{Behind, IsGrammar, Kinds, KnownExprs, TellsOpenings, part-to, negation-from, bracket-from, leaf-from, IsRow, AtTier}
+use Rattle.expr_tiers.proofs.Exports.{IsBelow, IsNode, tier-of}
 use Rattle.expr_tiers.proofs.Judgements as tiers
 use Rattle.read_rules.specs.Languages.{Led}
-use Rattle.read_rules.proofs.Exports.{has, Test, test-of, list_depth}
+use Rattle.read_rules.proofs.Exports.{has, Test, test-of}
 
 -- ---- what begins a part
 
@@ -57,17 +58,9 @@ opening-agrees _ = refl
 
 -- ---- rows of parts
 
-abbrev writtens_of : Writtens → List Written
-writtens_of NoneWritten = []
-writtens_of (MoreWritten e others) = e ∷ writtens_of others
-
-writtens-of : (others : Writtens) → writtens (writtens_of others) ≡ others
-writtens-of NoneWritten = refl
-writtens-of (MoreWritten e others) = ap (MoreWritten e) (writtens-of others)
-
-writtens-nesting : (others : List Written) → all_nesting (writtens others) ≡ list_depth written_nesting others
-writtens-nesting [] = refl
-writtens-nesting (e ∷ others) = ap (max (written_nesting e)) (writtens-nesting others)
+writtens-of : (others : Writtens) → (es : List Written) × (writtens es ≡ others)
+writtens-of NoneWritten = ([], refl)
+writtens-of (MoreWritten e others) = let es = writtens-of others in (e ∷ es.0, ap (MoreWritten e) es.1)
 
 leaf-nesting : (leaf : Leaf) → written_nesting (leaf_of makes_written leaf) ≡ 0
 leaf-nesting (NameLeaf n) = refl
@@ -83,7 +76,7 @@ module _ {K : Type 0} (sign : K → Sign) (spelled : (s : Sign) → (token : K) 
   abbrev written_tiers : Tiers K (Unit {0}) Leaf Written
   written_tiers = tiers_of sign makes_written
 
-  begins : Begins written_tiers (signed sign NotSign) (λ _. signed sign OpenSign)
+  begins : TellsOpenings written_tiers (signed sign NotSign) (λ _. signed sign OpenSign)
   begins = record {
     negates_hit = λ token. not-passes (sign token);
     negates_sure = λ token. not-takes (sign token);
@@ -109,56 +102,35 @@ module _ {K : Type 0} (sign : K → Sign) (spelled : (s : Sign) → (token : K) 
   part-from (And parts) tokens member = absurd member
   part-from (Or parts) tokens member = absurd member
 
-  row : (w : Sign) (tier : Tier) →
-      IsRow (signed sign w) (SpellsExpr sign tier) writtens (SpellsExprs sign w tier) (SpellsNextExprs sign w tier) (SpellsOtherExprs sign w tier)
-  row w tier = record {
-    items = writtens_of;
-    again = writtens-of;
-    all_none = λ tokens member. member;
-    all_more = λ e es. refl;
-    nexts_none = λ tokens member. member;
-    nexts_more = λ e es. refl;
-    others_none = refl;
-    others_more = λ e es. refl;
-  }
+  row : (w : Sign) (tier : Tier) → IsRow (signed sign w) (SpellsExpr sign tier) written_nesting writtens all_nesting
+      (SpellsExprs sign w tier) (SpellsNextExprs sign w tier) (SpellsOtherExprs sign w tier)
+  row w tier = record { listed = writtens-of; none = (refl, refl, refl, refl); more = λ e es. (refl, refl, refl, refl) }
 
-  neg_conj : (e : Written) (tokens : List K) → N e tokens → SpellsExpr sign Conjunction e tokens
-  neg_conj (Word n) tokens member = member
-  neg_conj (Bit b) tokens member = member
-  neg_conj (Not e) tokens member = member
-  neg_conj (Round e) tokens member = member
-  neg_conj (And parts) tokens member = absurd member
-  neg_conj (Or parts) tokens member = absurd member
+  conjunction : (e : Written) → AtTier N (SpellsExpr sign Conjunction) And e
+  conjunction (And parts) = IsNode parts refl refl
+  conjunction (Word n) = IsBelow refl
+  conjunction _ = IsBelow refl
 
-  conj-from : (e : Written) (tokens : List K) → SpellsExpr sign Conjunction e tokens
-      → N e tokens ⊎ ((parts : Writtens) × (And parts ≡ e) × SpellsExprs sign AndSign Negation parts tokens)
-  conj-from (And parts) tokens member = inr (parts, refl, member)
-  conj-from (Or parts) tokens member = absurd member
-  conj-from (Word n) tokens member = inl member
-  conj-from _ tokens member = inl member
+  disjunction : (e : Written) → AtTier (SpellsExpr sign Conjunction) D Or e
+  disjunction (Or parts) = IsNode parts refl refl
+  disjunction (Word n) = IsBelow refl
+  disjunction _ = IsBelow refl
 
-  conj_disj : (e : Written) (tokens : List K) → SpellsExpr sign Conjunction e tokens → D e tokens
-  conj_disj (Or parts) tokens member = absurd member
-  conj_disj (Word n) tokens member = member
-  conj_disj _ tokens member = member
-
-  disj-from : (e : Written) (tokens : List K) → D e tokens
-      → SpellsExpr sign Conjunction e tokens ⊎ ((parts : Writtens) × (Or parts ≡ e) × SpellsExprs sign OrSign Conjunction parts tokens)
-  disj-from (Or parts) tokens member = inr (parts, refl, member)
-  disj-from (Word n) tokens member = inl member
-  disj-from _ tokens member = inl member
-
-  grammar : IsGrammar written_tiers N (SpellsExpr sign Conjunction) D written_nesting
+  grammar : IsGrammar written_tiers N (SpellsExpr sign Conjunction) D (sign_class sign) factor_set written_nesting
   grammar = record {
-    part_to = part-to N D begins (λ e tokens led. led) (λ b e tokens led. led) leaf-to;
-    part_from = part-from;
-    conjunctions = tier-of (row AndSign Negation) And (SpellsExpr sign Conjunction) neg_conj (λ r tokens member. member) conj-from;
-    disjunctions = tier-of (row OrSign Conjunction) Or D conj_disj (λ r tokens member. member) disj-from;
+    parts = record {
+      test = test-of factor_set (λ token. opening-agrees (sign token)) (spelled NotSign).0 Negates (ap opening_of (spelled NotSign).1);
+      token = (spelled (NameSign [])).0;
+      leaf = NameLeaf [];
+      takes = ap opening_of (spelled (NameSign [])).1;
+      to = part-to N D begins (λ e tokens led. led) (λ b e tokens led. led) leaf-to;
+      from = part-from;
+    };
+    conjunctions = tier-of (row AndSign Negation) And (SpellsExpr sign Conjunction) (λ r. refl) (λ r. refl) conjunction;
+    disjunctions = tier-of (row OrSign Conjunction) Or D (λ r. refl) (λ r. refl) disjunction;
     leaf_depth = leaf-nesting;
     negation_depth = λ e. refl;
     bracket_depth = λ b e. refl;
-    all_depth = writtens-nesting;
-    any_depth = writtens-nesting;
   }
 
   sign-test : (s : Sign) → Test (sign_class sign) (signed sign s) (sign_number s ∷ [])
@@ -166,13 +138,9 @@ module _ {K : Type 0} (sign : K → Sign) (spelled : (s : Sign) → (token : K) 
 
   kinds : Kinds written_tiers (sign_class sign) factor_set 5 6 (λ _. 4)
   kinds = record {
-    opening_test = test-of factor_set (λ token. opening-agrees (sign token)) (spelled NotSign).0 Negates (ap opening_of (spelled NotSign).1);
     and_test = sign-test AndSign;
     or_test = sign-test OrSign;
     closing_test = λ b. sign-test CloseSign;
-    token = (spelled (NameSign [])).0;
-    leaf = NameLeaf [];
-    takes = ap opening_of (spelled (NameSign [])).1;
     starts_in = refl;
     and_in = refl;
     or_in = refl;

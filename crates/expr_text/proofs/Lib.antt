@@ -10,6 +10,7 @@ mod Operators
 pub mod Naming
 mod Instants
 mod Places
+mod MeantTexts
 mod Again
 mod worked
 pub mod Exports

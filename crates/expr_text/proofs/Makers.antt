@@ -1,23 +1,29 @@
 -- Inner: the reading function of expressions makes what is meant of what is written.
-use Rattle.std.proofs.Common.{◌≡◌, ℕ, zero, suc, List, [], ◌∷◌, map, refl, ap, ◌∙◌}
-use Rattle.expr_text.specs.Trees.{Expr, Exprs, MoreExprs}
+use Rattle.std.proofs.Common.{◌≡◌, ℕ, zero, suc, List, [], ◌∷◌, map, refl, ap}
+use Rattle.expr_text.specs.Trees.{Expr, MoreExprs}
 use Rattle.expr_text.specs.Trees as trees
-use Rattle.expr_text.specs.Signs.{Sign}
-use Rattle.expr_text.specs.Grammar.{Written, And, Or, Writtens, meant, all_meant}
-use Rattle.expr_text.specs.Reading.{exprs, writtens, makes_expr, makes_written, Leaf, NameLeaf, BitLeaf, tiers_of, expr}
+use Rattle.expr_text.specs.Signs.{Sign, signed}
+use Rattle.expr_text.specs.Grammar.{Written, meant, all_meant}
+use Rattle.expr_text.specs.Reading.{exprs, writtens, expr_joined, written_joined, makes_expr, makes_written, Leaf, NameLeaf, BitLeaf, joint_sign}
+use Rattle.expr_text.specs.Reading.{tiers_of, expr}
 use Rattle.expr_text.proofs.Images.{Image, image-refuse, image-mapped, image-both, image-trail, image-optional_or, image-loop, image-choose}
-use Rattle.expr_tiers.specs.Reading.{Opening, Negates, Opens, IsLeaf, Rules, is_deep, opened, neg, list_of, list_step, listed, conj, rules_of, inside}
+use Rattle.expr_tiers.specs.Reading.{Opening, Negates, Opens, IsLeaf, Rules, is_deep, opened, neg, list_of, list_step, listed, below, rules_of, inside}
+use Rattle.expr_tiers.specs.declared.language.Joint.{Joint}
+use Rattle.expr_tiers.specs.declared.language.Joint.TheVariants as joints
 use Rattle.read_rules.specs.Readings.{Rule, give, both, trail, the, loop}
 
 all-meant : (es : List Written) → all_meant (writtens es) ≡ exprs (map meant es)
 all-meant [] = refl
 all-meant (e ∷ others) = ap (MoreExprs (meant e)) (all-meant others)
 
-list-meant : (node : Writtens → Written) (made : Exprs → Expr) → ((es : Writtens) → meant (node es) ≡ made (all_meant es)) → (es : List Written)
-    → meant (list_of (λ es. node (writtens es)) es) ≡ list_of (λ es. made (exprs es)) (map meant es)
-list-meant node made same [] = same _
-list-meant node made same (e ∷ []) = refl
-list-meant node made same (e ∷ next ∷ others) = same _ ∙ ap (λ l. made (MoreExprs (meant e) (MoreExprs (meant next) l))) (all-meant others)
+joined-meant : (joint : Joint) (es : List Written) → meant (written_joined joint es) ≡ expr_joined joint (map meant es)
+joined-meant joints.And es = ap trees.And (all-meant es)
+joined-meant joints.Or es = ap trees.Or (all-meant es)
+
+list-meant : (joint : Joint) (es : List Written) → meant (list_of (written_joined joint) es) ≡ list_of (expr_joined joint) (map meant es)
+list-meant joint [] = joined-meant joint []
+list-meant joint (e ∷ []) = refl
+list-meant joint (e ∷ next ∷ others) = joined-meant joint (e ∷ next ∷ others)
 
 module _ {K : Type 0} (sign : K → Sign) where
   record MeantRules (w : Rules K Written) (e : Rules K Expr) : Type 0 where
@@ -40,13 +46,13 @@ module _ {K : Type 0} (sign : K → Sign) where
       image-choose meant (tiers_of sign makes_written).opening is_deep room (λ o. opened (tiers_of sign makes_written) o w)
       (λ o. opened (tiers_of sign makes_expr) o e) (λ o. opened-meant o w e k)
 
-  listed-meant : (mark : K → _) (node : List Written → Written) (made : List Expr → Expr)
-      → ((es : List Written) → meant (list_of node es) ≡ list_of made (map meant es))
-      → (w : Rule K Written) (e : Rule K Expr) → Image meant w e → Image meant (listed mark node w) (listed mark made e)
-  listed-meant mark node made same w e k =
+  listed-meant : (joint : Joint) (w : Rule K Written) (e : Rule K Expr) → Image meant w e
+      → Image meant (listed (signed sign (joint_sign joint)) (written_joined joint) w) (listed (signed sign (joint_sign joint)) (expr_joined joint) e)
+  listed-meant joint w e k =
+      let mark = signed sign (joint_sign joint) in
       image-mapped {A = Written × List Written} {B = Expr × List Expr} (λ v. (meant v.0, map meant v.1)) (both w (loop (list_step mark w)))
-      (both e (loop (list_step mark e))) (λ found. list_of node (found.0 ∷ found.1)) meant (λ found. list_of made (found.0 ∷ found.1))
-      (λ found. same (found.0 ∷ found.1))
+      (both e (loop (list_step mark e))) (λ found. list_of (written_joined joint) (found.0 ∷ found.1)) meant
+      (λ found. list_of (expr_joined joint) (found.0 ∷ found.1)) (λ found. list-meant joint (found.0 ∷ found.1))
       (image-both meant w e (map meant) (loop (list_step mark w)) (loop (list_step mark e)) k
       (image-loop meant (list_step mark w) (list_step mark e) (image-optional_or meant mark w e (give tt) k)))
 
@@ -58,8 +64,8 @@ module _ {K : Type 0} (sign : K → Sign) where
       let part = neg-meant room w e k in
       record {
         part = part;
-        whole = listed-meant written.or_mark written.any plain.any (list-meant Or trees.Or (λ es. refl)) (conj written room w) (conj plain room e)
-            (listed-meant written.and_mark written.all plain.all (list-meant And trees.And (λ es. refl)) (neg written room w) (neg plain room e) part);
+        whole = listed-meant joints.Or (below written joints.Or room w) (below plain joints.Or room e)
+            (listed-meant joints.And (neg written room w) (neg plain room e) part);
       }
 
   inside-meant : (room : ℕ) → MeantRules (inside (tiers_of sign makes_written) room) (inside (tiers_of sign makes_expr) room)

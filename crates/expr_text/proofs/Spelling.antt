@@ -1,16 +1,16 @@
 -- Inner: the texts of expressions with one operator at most: their tokens, and that the grammar has them.
 use Rattle.std.proofs.Common.{◌≡◌, ℕ, ◌≤◌, suc, Bool, false, List, [], ◌∷◌, ◌++◌, refl, sym, ap, ◌∙◌}
-use Rattle.std.proofs.Common.{subst, arith, append_assoc, All, map}
+use Rattle.std.proofs.Common.{subst, arith, append_assoc, All, map, Some}
 use Rattle.std.specs.Prelude.{flat_map, codes}
 use Rattle.std.proofs.lemmas.List.{append-nil}
 use Rattle.est_base.specs.Names.{is_name_byte}
 use Rattle.read_rules.specs.Languages.{One, Many}
 use Rattle.expr_text.specs.Lexemes.{Front}
-use Rattle.expr_text.specs.Signs.{Sign, NameSign, BitSign, NotSign, AndSign, OrSign, sign_number, numbered_as, name_in, bit_in, named, constant}
+use Rattle.expr_text.specs.Signs.{Sign, NameSign, BitSign, NotSign, AndSign, OrSign, sign_number, numbered_as, signed, name_in, bit_in, named, constant}
 use Rattle.expr_text.specs.Trees.{Expr, Name, Const, Not, And, Or, Exprs, NoExprs, MoreExprs}
 use Rattle.expr_text.specs.Grammar as grammar
 use Rattle.expr_text.specs.Grammar.{Written, Word, Bit, Writtens, NoneWritten, MoreWritten, meant, all_meant, written_nesting}
-use Rattle.expr_text.specs.Grammar.{Disjunction, SpellsExpr}
+use Rattle.expr_text.specs.Grammar.{Tier, Disjunction, Conjunction, Negation, SpellsExpr, SpellsExprs}
 use Rattle.expr_text.specs.Texts.{text_of}
 use Rattle.expr_text.proofs.Saying.{Says, says-then, says-name, IsVariable, FrontsNames}
 
@@ -131,6 +131,23 @@ module _ {K : Type 0} (sign : K → Sign) (bad : K) (front : ℕ → List ℕ �
   pub one-bit : (value : Bool) → One (constant sign) value (w.bit_kind value ∷ [])
   one-bit value = record { token = w.bit_kind value; only = refl; passes = ap bit_in (w.bit_is value) }
 
+  spells-pair : (s : Sign) (tier : Tier) (mark : K) (m n : List ℕ) → signed sign s mark ≡ Some tt → SpellsExpr sign tier (Word m) (w.name_kind m ∷ [])
+      → SpellsExpr sign tier (Word n) (w.name_kind n ∷ [])
+      → SpellsExprs sign s tier (MoreWritten (Word m) (MoreWritten (Word n) NoneWritten)) (w.name_kind m ∷ mark ∷ w.name_kind n ∷ [])
+  spells-pair s tier mark m n is first second = record {
+    front = w.name_kind m ∷ [];
+    back = mark ∷ w.name_kind n ∷ [];
+    cut = refl;
+    first = first;
+    second = record {
+      front = mark ∷ w.name_kind n ∷ [];
+      back = [];
+      cut = refl;
+      first = record { token = mark; value = tt; rest = w.name_kind n ∷ []; cut = refl; passes = is; behind = second };
+      second = refl;
+    };
+  }
+
   pub spells-plain : (e : Expr) → IsPlain (IsVariable word w.name_kind) e → SpellsExpr sign Disjunction (plain_written e) (expr_kinds e)
   spells-plain (Name n) plain = one-name n
   spells-plain (Const value) plain = one-bit value
@@ -142,46 +159,10 @@ module _ {K : Type 0} (sign : K → Sign) (bad : K) (front : ℕ → List ℕ �
     passes = ap (numbered_as sign_number 2) w.not_is;
     behind = one-name n;
   }
-  spells-plain (And (MoreExprs (Name m) (MoreExprs (Name n) NoExprs))) plain = record {
-    front = w.name_kind m ∷ [];
-    back = w.and_kind ∷ w.name_kind n ∷ [];
-    cut = refl;
-    first = one-name m;
-    second = record {
-      front = w.and_kind ∷ w.name_kind n ∷ [];
-      back = [];
-      cut = refl;
-      first = record {
-        token = w.and_kind;
-        value = tt;
-        rest = w.name_kind n ∷ [];
-        cut = refl;
-        passes = ap (numbered_as sign_number 5) w.and_is;
-        behind = one-name n;
-      };
-      second = refl;
-    };
-  }
-  spells-plain (Or (MoreExprs (Name m) (MoreExprs (Name n) NoExprs))) plain = record {
-    front = w.name_kind m ∷ [];
-    back = w.or_kind ∷ w.name_kind n ∷ [];
-    cut = refl;
-    first = one-name m;
-    second = record {
-      front = w.or_kind ∷ w.name_kind n ∷ [];
-      back = [];
-      cut = refl;
-      first = record {
-        token = w.or_kind;
-        value = tt;
-        rest = w.name_kind n ∷ [];
-        cut = refl;
-        passes = ap (numbered_as sign_number 6) w.or_is;
-        behind = one-name n;
-      };
-      second = refl;
-    };
-  }
+  spells-plain (And (MoreExprs (Name m) (MoreExprs (Name n) NoExprs))) plain =
+      spells-pair AndSign Negation w.and_kind m n (ap (numbered_as sign_number 5) w.and_is) (one-name m) (one-name n)
+  spells-plain (Or (MoreExprs (Name m) (MoreExprs (Name n) NoExprs))) plain =
+      spells-pair OrSign Conjunction w.or_kind m n (ap (numbered_as sign_number 6) w.or_is) (one-name m) (one-name n)
   spells-plain others plain = absurd plain
 
 -- ---- lists

@@ -11,3 +11,4 @@ pub mod NetNames
 pub mod NameTables
 pub mod Plain
 pub mod Reading
+pub mod Spelled

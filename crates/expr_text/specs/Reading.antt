@@ -8,6 +8,8 @@ use Rattle.expr_text.specs.Signs.{Sign, NameSign, BitSign, NotSign, OpenSign, Cl
 use Rattle.expr_text.specs.Grammar.{Written, Word, Bit, Not, Round, And, Or, Writtens, NoneWritten, MoreWritten}
 use Rattle.expr_text.specs.Plain.{kind_by}
 use Rattle.expr_text.specs.declared.kinds.Token.{Token}
+use Rattle.expr_tiers.specs.declared.language.Joint.{Joint}
+use Rattle.expr_tiers.specs.declared.language.Joint.TheVariants as joints
 use Rattle.expr_tiers.specs.Reading.{Opening, Negates, Opens, IsLeaf, Tiers}
 use Rattle.expr_tiers.specs.Reading as tiers
 use Rattle.expr_tiers.specs.Views.{FindsBy as Finds}
@@ -29,14 +31,13 @@ GivesKinds view (Err errors.NoMemory) answer = Unit {0}
 
 -- ---- what is made
 
--- what is made of the parts of an expression; of all and of any there are two or more
+-- what is made of the parts of an expression; of joined ones there are two or more
 pub record Maker (A : Type 0) : Type 0 where
   pub word : List ℕ → A
   pub value : Bool → A
   pub negation : A → A
   pub round : A → A
-  pub all : List A → A
-  pub any : List A → A
+  pub joined : Joint → List A → A
 
 abbrev pub exprs : List Expr → Exprs
 exprs [] = NoExprs
@@ -46,14 +47,21 @@ abbrev pub writtens : List Written → Writtens
 writtens [] = NoneWritten
 writtens (e ∷ others) = MoreWritten e (writtens others)
 
+abbrev pub expr_joined : Joint → List Expr → Expr
+expr_joined joints.And es = trees.And (exprs es)
+expr_joined joints.Or es = trees.Or (exprs es)
+
+abbrev pub written_joined : Joint → List Written → Written
+written_joined joints.And es = And (writtens es)
+written_joined joints.Or es = Or (writtens es)
+
 abbrev pub makes_expr : Maker Expr
 makes_expr = record {
   word = Name;
   value = Const;
   negation = trees.Not;
   round = λ e. e;
-  all = λ es. trees.And (exprs es);
-  any = λ es. trees.Or (exprs es);
+  joined = expr_joined;
 }
 
 abbrev pub makes_written : Maker Written
@@ -62,8 +70,7 @@ makes_written = record {
   value = Bit;
   negation = Not;
   round = Round;
-  all = λ es. And (writtens es);
-  any = λ es. Or (writtens es);
+  joined = written_joined;
 }
 
 -- ---- the rules
@@ -85,17 +92,19 @@ opening_of (BitSign value) = Some (IsLeaf (BitLeaf value))
 opening_of (NameSign name) = Some (IsLeaf (NameLeaf name))
 opening_of _ = None
 
+abbrev pub joint_sign : Joint → Sign
+joint_sign joints.And = AndSign
+joint_sign joints.Or = OrSign
+
 abbrev pub tiers_of : {K A : Type 0} → (K → Sign) → Maker A → Tiers K (Unit {0}) Leaf A
 tiers_of sign m = record {
   opening = λ token. opening_of (sign token);
   closing = λ _. signed sign CloseSign;
-  and_mark = signed sign AndSign;
-  or_mark = signed sign OrSign;
+  mark = λ joint. signed sign (joint_sign joint);
   leaf = leaf_of m;
   negation = m.negation;
   bracketed = λ _. m.round;
-  all = m.all;
-  any = m.any;
+  joined = m.joined;
 }
 
 abbrev pub expr : {K A : Type 0} → (K → Sign) → Maker A → ℕ → Rule K A

@@ -1,16 +1,15 @@
 // The reader of expressions: that by tiers, for a language's kinds of tokens.
 
 ghost use Rattle.std.specs.Prelude.{◌≡◌, ◌<◌, map, is_some, vec_len};
-ghost use Rattle.expr_text.specs.Trees.{And, Or};
 ghost use Rattle.expr_text.specs.Views.{expr_of};
-ghost use Rattle.expr_text.specs.Reading.{FindsBy, makes_expr, expr, exprs};
+ghost use Rattle.expr_text.specs.Reading.{FindsBy, makes_expr, expr};
 ghost use Rattle.expr_text.specs.Plain.{kind_by, sign_of};
 ghost use Rattle.expr_text.specs.Signs.{signed};
 
 use crate::kinds::{Sign, Token, TokenKind, sign_number};
 use crate::steps::copy_of;
 use crate::trees::Expr;
-use expr_tiers::{ExprLanguage, Opening};
+use expr_tiers::{ExprLanguage, Joint, Opening};
 use read_rules::ReadError;
 use std::alloc::Global;
 
@@ -63,12 +62,11 @@ impl<K: TokenKind> ExprLanguage for Token<K> {
         is_sign(Sign::Close, token)
     }
 
-    fn is_and(token: &Token<K>) -> bool {
-        is_sign(Sign::And, token)
-    }
-
-    fn is_or(token: &Token<K>) -> bool {
-        is_sign(Sign::Or, token)
+    fn is_joint(joint: Joint, token: &Token<K>) -> bool {
+        match joint {
+            Joint::And => is_sign(Sign::And, token),
+            Joint::Or => is_sign(Sign::Or, token),
+        }
     }
 
     fn leaf(alloc: Global, token: &Token<K>) -> Result<Expr, ReadError> {
@@ -88,19 +86,14 @@ impl<K: TokenKind> ExprLanguage for Token<K> {
     }
 
     #[tactic(auto, using(crate::proofs::Rows::list_rows))]
-    fn all(parts: Vec<Expr>) -> Expr
+    fn joined(joint: Joint, parts: Vec<Expr>) -> Expr
         requires { 1 < vec_len parts }
-        ensures { expr_of result ≡ And (exprs (map expr_of parts.items)) }
+        ensures { expr_of result ≡ makes_expr.joined joint (map expr_of parts.items) }
     {
-        Expr::And(parts)
-    }
-
-    #[tactic(auto, using(crate::proofs::Rows::list_rows))]
-    fn any(parts: Vec<Expr>) -> Expr
-        requires { 1 < vec_len parts }
-        ensures { expr_of result ≡ Or (exprs (map expr_of parts.items)) }
-    {
-        Expr::Or(parts)
+        match joint {
+            Joint::And => Expr::And(parts),
+            Joint::Or => Expr::Or(parts),
+        }
     }
 }
 

@@ -1,20 +1,21 @@
 -- Inner: how a language whose trees hold rows of parts comes to a grammar by tiers.
-use Rattle.std.proofs.Common.{◌≡◌, ◌⊎◌, inl, inr, List, [], ◌∷◌, Option, Some, refl, sym, ◌∙◌, ap, subst}
+use Rattle.std.proofs.Common.{◌≡◌, ◌⊎◌, inl, inr, ℕ, max, List, [], ◌∷◌, Option, Some, refl, sym, ◌∙◌, ap, subst}
 use Rattle.read_rules.specs.Languages.{Empty, One, Then, Led, Both, Loop}
+use Rattle.read_rules.proofs.Exports.{list_depth}
 use Rattle.expr_tiers.specs.Reading.{Opening, Negates, Opens, IsLeaf, Tiers}
 use Rattle.expr_tiers.proofs.Judgements.{Step, Several, IsTier, Behind}
 
 -- ---- parts
 
 -- the tests of its grammar tell what a token begins
-pub record Begins {T B F A : Type 0} (t : Tiers T B F A) (negates : T → Option (Unit {0})) (opens : B → T → Option (Unit {0})) : Type 0 where
+pub record TellsOpenings {T B F A : Type 0} (t : Tiers T B F A) (negates : T → Option (Unit {0})) (opens : B → T → Option (Unit {0})) : Type 0 where
   pub negates_hit : (token : T) → t.opening token ≡ Some Negates → negates token ≡ Some tt
   pub negates_sure : (token : T) → negates token ≡ Some tt → t.opening token ≡ Some Negates
   pub opens_hit : (b : B) (token : T) → t.opening token ≡ Some (Opens b) → opens b token ≡ Some tt
   pub opens_sure : (b : B) (token : T) → opens b token ≡ Some tt → t.opening token ≡ Some (Opens b)
 
 module _ {T B F A : Type 0} {t : Tiers T B F A} {negates : T → Option (Unit {0})} {opens : B → T → Option (Unit {0})} (N D : A → List T → Type 0)
-    (k : Begins t negates opens) where
+    (k : TellsOpenings t negates opens) where
   -- what stands behind the token makes a part
   pub part-to : ((e : A) (tokens : List T) → Led negates (λ _. N e) tokens → N (t.negation e) tokens) →
       ((b : B) (e : A) (tokens : List T) → Led (opens b) (λ _. Then (D e) (One (t.closing b) tt)) tokens → N (t.bracketed b e) tokens) →
@@ -31,7 +32,7 @@ module _ {T B F A : Type 0} {t : Tiers T B F A} {negates : T → Option (Unit {0
           subst (λ ts. N v (led.token ∷ ts)) (sym made.2) (subst (λ v. N v (led.token ∷ [])) made.1 (single leaf led.token is))
 
   -- and back, a node each
-  pub negation-from : (e : A) (tokens : List T) → Led negates (λ _. N e) tokens → Led t.opening (λ o. Behind t N D o (t.negation e)) tokens
+  abbrev pub negation-from : (e : A) (tokens : List T) → Led negates (λ _. N e) tokens → Led t.opening (λ o. Behind t N D o (t.negation e)) tokens
   negation-from e tokens led = record {
     token = led.token;
     value = Negates;
@@ -41,7 +42,7 @@ module _ {T B F A : Type 0} {t : Tiers T B F A} {negates : T → Option (Unit {0
     behind = (e, refl, led.behind);
   }
 
-  pub bracket-from : (b : B) (e : A) (tokens : List T) → Led (opens b) (λ _. Then (D e) (One (t.closing b) tt)) tokens
+  abbrev pub bracket-from : (b : B) (e : A) (tokens : List T) → Led (opens b) (λ _. Then (D e) (One (t.closing b) tt)) tokens
       → Led t.opening (λ o. Behind t N D o (t.bracketed b e)) tokens
   bracket-from b e tokens led = record {
     token = led.token;
@@ -52,7 +53,7 @@ module _ {T B F A : Type 0} {t : Tiers T B F A} {negates : T → Option (Unit {0
     behind = (e, refl, led.behind);
   }
 
-  pub leaf-from : {X : Type 0} (test : T → Option X) (x : X) (leaf : F) → ((token : T) → test token ≡ Some x → t.opening token ≡ Some (IsLeaf leaf)) →
+  abbrev pub leaf-from : {X : Type 0} (test : T → Option X) (x : X) (leaf : F) → ((token : T) → test token ≡ Some x → t.opening token ≡ Some (IsLeaf leaf)) →
       (tokens : List T) → One test x tokens → Led t.opening (λ o. Behind t N D o (t.leaf leaf)) tokens
   leaf-from test x leaf sure tokens one = record {
     token = one.token;
@@ -65,48 +66,58 @@ module _ {T B F A : Type 0} {t : Tiers T B F A} {negates : T → Option (Unit {0
 
 -- ---- rows of parts
 
--- Rows as lists: a row of no part, one more part before a row, and how a grammar has two parts or more, those behind the
--- first, and those behind the second.
-pub record IsRow {T A R : Type 0} (mark : T → Option (Unit {0})) (L : A → List T → Type 0) (row : List A → R) (All Nexts Others : R → List T → Type 0)
-    : Type 1 where
-  pub items : R → List A
-  pub again : (r : R) → row (items r) ≡ r
-  pub all_none : (tokens : List T) → All (row []) tokens → ⊥
-  pub all_more : (e : A) (es : List A) → All (row (e ∷ es)) ≡ Then (L e) (Nexts (row es))
-  pub nexts_none : (tokens : List T) → Nexts (row []) tokens → ⊥
-  pub nexts_more : (e : A) (es : List A) → Nexts (row (e ∷ es)) ≡ Then (Led mark (λ _. L e)) (Others (row es))
-  pub others_none : Others (row []) ≡ Empty
-  pub others_more : (e : A) (es : List A) → Others (row (e ∷ es)) ≡ Then (Led mark (λ _. L e)) (Others (row es))
+-- Rows as lists: a row of no part, one more part before a row, how deep they are, and how a grammar has two parts or
+-- more, those behind the first, and those behind the second.
+pub record IsRow {T A R : Type 0} (mark : T → Option (Unit {0})) (L : A → List T → Type 0) (depth : A → ℕ) (row : List A → R) (deep : R → ℕ)
+    (All Nexts Others : R → List T → Type 0) : Type 1 where
+  pub listed : (r : R) → (es : List A) × (row es ≡ r)
+  pub none : (deep (row []) ≡ 0) × (Others (row []) ≡ Empty) × (All (row []) ≡ (λ _. ⊥)) × (Nexts (row []) ≡ (λ _. ⊥))
+  pub more : (e : A) (es : List A) → (deep (row (e ∷ es)) ≡ max (depth e) (deep (row es))) × (All (row (e ∷ es)) ≡ Then (L e) (Nexts (row es)))
+      × (Nexts (row (e ∷ es)) ≡ Then (Led mark (λ _. L e)) (Others (row es))) × (Others (row (e ∷ es)) ≡ Then (Led mark (λ _. L e)) (Others (row es)))
 
-module _ {T A R : Type 0} {mark : T → Option (Unit {0})} {L : A → List T → Type 0} {row : List A → R} {All Nexts Others : R → List T → Type 0}
-    (k : IsRow mark L row All Nexts Others) where
+-- a tree is for the tier what it is below it, or it is the tier's node and nothing below it
+pub data AtTier {T A R : Type 0} (L M : A → List T → Type 0) (node : R → A) (v : A) : Type 1 where
+  IsBelow : (same : L v ≡ M v) → AtTier L M node v
+  IsNode : (r : R) (is : node r ≡ v) (none : L v ≡ (λ _. ⊥)) → AtTier L M node v
+
+module _ {T A R : Type 0} {mark : T → Option (Unit {0})} {L : A → List T → Type 0} {depth : A → ℕ} {row : List A → R} {deep : R → ℕ}
+    {All Nexts Others : R → List T → Type 0} (k : IsRow mark L depth row deep All Nexts Others) where
   others-are : (es : List A) → Others (row es) ≡ Loop (Step mark L) es
-  others-are [] = k.others_none
-  others-are (e ∷ es) = k.others_more e es ∙ ap (λ M. Then (Led mark (λ _. L e)) M) (others-are es)
+  others-are [] = k.none.1
+  others-are (e ∷ es) = (k.more e es).3 ∙ ap (λ M. Then (Led mark (λ _. L e)) M) (others-are es)
 
   several-are : (e next : A) (others : List A) → All (row (e ∷ next ∷ others)) ≡ Both L (Loop (Step mark L)) (e, next ∷ others)
   several-are e next others =
-      k.all_more e (next ∷ others) ∙ ap (λ M. Then (L e) M) (k.nexts_more next others ∙ ap (λ M. Then (Led mark (λ _. L next)) M) (others-are others))
+      (k.more e (next ∷ others)).1 ∙ ap (λ M. Then (L e) M) ((k.more next others).2 ∙ ap (λ M. Then (Led mark (λ _. L next)) M) (others-are others))
 
   all-parts : (node : R → A) (es : List A) (tokens : List T) → All (row es) tokens → Several mark (λ es. node (row es)) L (node (row es)) tokens
-  all-parts node [] tokens member = absurd (k.all_none tokens member)
+  all-parts node [] tokens member = absurd (subst (λ M. M tokens) k.none.2 member)
   all-parts node (e ∷ []) tokens member =
-      let member : Then (L e) (Nexts (row [])) tokens = subst (λ M. M tokens) (k.all_more e []) member in absurd (k.nexts_none member.back member.second)
+      let both = subst (λ M. M tokens) ((k.more e []).1 ∙ ap (λ M. Then (L e) M) k.none.3) member in absurd both.second
   all-parts node (e ∷ next ∷ others) tokens member = ((e, (next, others)), refl, subst (λ M. M tokens) (several-are e next others) member)
 
+  list-deep : (es : List A) → deep (row es) ≡ list_depth depth es
+  list-deep [] = k.none.0
+  list-deep (e ∷ es) = (k.more e es).0 ∙ ap (max (depth e)) (list-deep es)
+
   -- a tier whose node holds a row
-  pub tier-of : (node : R → A) (M : A → List T → Type 0) → ((e : A) (tokens : List T) → L e tokens → M e tokens) →
-      ((r : R) (tokens : List T) → All r tokens → M (node r) tokens) →
-      ((v : A) (tokens : List T) → M v tokens → L v tokens ⊎ ((r : R) × (node r ≡ v) × All r tokens)) → IsTier mark (λ es. node (row es)) L M
-  tier-of node M one to from = record {
-    one = one;
+  pub tier-of : (node : R → A) (M : A → List T → Type 0) → ((r : R) → M (node r) ≡ All r) → ((r : R) → depth (node r) ≡ deep r)
+      → ((v : A) → AtTier L M node v) → IsTier mark (λ es. node (row es)) L M depth
+  tier-of node M made nests tells = record {
+    one = λ e tokens. raised e tokens (tells e);
     many = λ e next others tokens member.
-        to (row (e ∷ next ∷ others)) tokens (subst (λ M. M tokens) (sym (several-are e next others)) member);
-    parts = λ v tokens member. go v tokens (from v tokens member);
+        subst (λ M. M tokens) (sym (several-are e next others) ∙ sym (made (row (e ∷ next ∷ others)))) member;
+    parts = λ v tokens. parted v tokens (tells v);
+    deep = λ es. nests (row es) ∙ list-deep es;
   }
     where
-      go : (v : A) (tokens : List T) → L v tokens ⊎ ((r : R) × (node r ≡ v) × All r tokens) → L v tokens ⊎ Several mark (λ es. node (row es)) L v tokens
-      go v tokens (inl one) = inl one
-      go v tokens (inr found) =
-          inr (subst (λ v. Several mark (λ es. node (row es)) L v tokens) (ap node (k.again found.0) ∙ found.1)
-          (all-parts node (k.items found.0) tokens (subst (λ r. All r tokens) (sym (k.again found.0)) found.2)))
+      raised : (e : A) (tokens : List T) → AtTier L M node e → L e tokens → M e tokens
+      raised e tokens (IsBelow same) member = subst (λ M. M tokens) same member
+      raised e tokens (IsNode r is none) member = absurd (subst (λ M. M tokens) none member)
+
+      parted : (v : A) (tokens : List T) → AtTier L M node v → M v tokens → L v tokens ⊎ Several mark (λ es. node (row es)) L v tokens
+      parted v tokens (IsBelow same) member = inl (subst (λ M. M tokens) (sym same) member)
+      parted v tokens (IsNode r is none) member =
+          let es = k.listed r in
+          let all = subst (λ M. M tokens) (ap M (sym is) ∙ made r ∙ ap All (sym es.1)) member in
+          inr (subst (λ v. Several mark (λ es. node (row es)) L v tokens) (ap node es.1 ∙ is) (all-parts node es.0 tokens all))

@@ -1,178 +1,135 @@
 -- Inner: what is left behind a rule is no more than what stood before it, and the steps of a list take a token each.
-use Rattle.std.proofs.Common.{◌≡◌, ℕ, zero, suc, ◌≤◌, ◌<◌, Bool, false, List, [], ◌∷◌, length, map, Option, Some, None, is_some, Ok, Err, refl, sym, ap}
-use Rattle.std.proofs.Common.{◌∙◌, arith}
+use Rattle.std.proofs.Common.{ℕ, zero, suc, ◌+◌, ◌≤◌, ◌<◌, Bool, List, [], ◌∷◌, length, map, Option, Some, None, Ok, Err, subst, arith}
 use Rattle.std.proofs.lemmas.List.{length-map}
-use Rattle.std.proofs.lemmas.Bool.{false≢true}
 use Rattle.std.specs.Option.{option_map, option_map_or}
-use Rattle.read_rules.specs.Readings.{Read, Rule, refuse, give, follow, mapped, both, trail, the, picked, turn, turns, loop}
+use Rattle.read_rules.specs.Readings.{Read, Rule, refuse, give, follow, mapped, both, trail, the, when, turn, turns, loop}
 use Rattle.read_rules.specs.Choice.{choose, entered, fits}
 use Rattle.read_rules.proofs.Exports.{Advances}
-use Rattle.expr_tiers.specs.Reading.{Opening, Negates, Opens, IsLeaf, Tiers, Rules, is_deep, opened, neg, list_of, list_step, listed, conj, inside}
+use Rattle.expr_tiers.specs.declared.language.Joint.{Joint}
+use Rattle.expr_tiers.specs.declared.language.Joint.TheVariants as joints
+use Rattle.expr_tiers.specs.Reading.{Opening, Negates, Opens, IsLeaf, Tiers, Rules, is_deep, opened, neg, list_of, list_step, listed, below, inside}
 
-abbrev Shrinks : {T A : Type 0} → Rule T A → Type 0
-Shrinks {T} {A} p = (tokens : List T) (value : A) (rest : List T) → p tokens ≡ Ok (value, rest) → length rest ≤ length tokens
+-- what a value is worth, and the tokens behind it, are at most so many
+abbrev Leaves : {T A : Type 0} → (A → ℕ) → ℕ → Read T A → Type 0
+Leaves worth n (Ok found) = worth found.0 + length found.1 ≤ n
+Leaves worth n (Err fault) = Unit {0}
 
--- what is known of an answer: the tokens behind its value, and whether a step gave one
-abbrev rest_of : {T A : Type 0} → List T → Read T A → List T
-rest_of other (Ok found) = found.1
-rest_of other (Err fault) = other
+abbrev Spends : {T A : Type 0} → (A → ℕ) → Rule T A → Type 0
+Spends {T} {A} worth p = (tokens : List T) → Leaves worth (length tokens) (p tokens)
 
-abbrev gives : {T A : Type 0} → Read T (Option A) → Bool
-gives (Ok found) = is_some found.0
-gives (Err fault) = false
+abbrev nothing : {A : Type 0} → A → ℕ
+nothing _ = 0
 
-even : {T A : Type 0} (a b : A) (xs ys : List T) (r s : Read T A) → r ≡ Ok (a, xs) → s ≡ Ok (b, ys) → r ≡ s → length xs ≡ length ys
-even a b xs ys r s first second same = ap (λ r. length (rest_of ys r)) (sym first ∙ same ∙ second)
+-- a part that a step gives is worth a token
+abbrev a_token : {A : Type 0} → Option A → ℕ
+a_token None = 0
+a_token (Some part) = 1
 
-shrinks-give : {T A : Type 0} (a : A) → Shrinks {T = T} (give a)
-shrinks-give a tokens value rest is = let same = even a value tokens rest (Ok (a, tokens)) (Ok (value, rest)) refl refl is in omega (arith, same)
+leaves-more : {T A : Type 0} (worth : A → ℕ) (m n : ℕ) (r : Read T A) → m ≤ n → Leaves worth m r → Leaves worth n r
+leaves-more worth m n (Ok found) more low = omega (arith, more, low)
+leaves-more worth m n (Err fault) more low = tt
 
-shrinks-follow : {T A B : Type 0} (p : Rule T A) (go : A → Rule T B) → Shrinks p → ((a : A) → Shrinks (go a)) → Shrinks (λ tokens. follow (p tokens) go)
-shrinks-follow {T} {A} {B} p go first second tokens value rest is = step (p tokens) refl is
+spends-follow : {T A B : Type 0} (worth : A → ℕ) (worth' : B → ℕ) (n : ℕ) (r : Read T A) (go : A → Rule T B) → Leaves worth n r
+    → ((a : A) → Spends worth' (go a)) → Leaves worth' n (follow r go)
+spends-follow worth worth' n (Ok found) go low each =
+    leaves-more worth' (length found.1) n (go found.0 found.1) (omega (arith, low)) (each found.0 found.1)
+spends-follow worth worth' n (Err fault) go low each = tt
+
+spends-mapped : {T A B : Type 0} (f : A → B) (p : Rule T A) → Spends nothing p → Spends nothing (mapped f p)
+spends-mapped f p k tokens = spends-follow nothing nothing (length tokens) (p tokens) (λ value. give (f value)) (k tokens) (λ value tokens. omega arith)
+
+spends-both : {T A B : Type 0} (p : Rule T A) (q : Rule T B) → Spends nothing p → Spends nothing q → Spends nothing (both p q)
+spends-both {T} {A} {B} p q k l tokens =
+    spends-follow {B = A × B} nothing nothing (length tokens) (p tokens) (λ value. mapped (λ other. (value, other)) q) (k tokens)
+    (λ value. spends-mapped {B = A × B} (λ other. (value, other)) q l)
+
+spends-trail : {T A B : Type 0} (p : Rule T A) (q : Rule T B) → Spends nothing p → Spends nothing q → Spends nothing (trail p q)
+spends-trail p q k l tokens =
+    spends-follow nothing nothing (length tokens) (p tokens) (λ value. mapped (λ _. value) q) (k tokens) (λ value. spends-mapped (λ _. value) q l)
+
+-- a token is taken before what it opens
+spends-when : {T X A : Type 0} (worth : A → ℕ) (test : T → Option X) (p : X → Rule T A) (q : Rule T A)
+    → ((x : X) (rest : List T) → Leaves worth (suc (length rest)) (p x rest)) → Spends worth q → Spends worth (when test p q)
+spends-when worth test p q each other [] = other []
+spends-when {T} {X} {A} worth test p q each other (token ∷ rest) = go (test token)
   where
-    step : (r : Read T A) → p tokens ≡ r → follow r go ≡ Ok (value, rest) → length rest ≤ length tokens
-    step (Ok found) at read = let a = first tokens found.0 found.1 at in let b = second found.0 found.1 value rest read in omega (arith, a, b)
-    step (Err fault) at read = cc
+    go : (o : Option X) → Leaves worth (suc (length rest)) (option_map_or {T = X × List T} (λ found. p found.0 found.1)
+        (option_map {T = X} {U = X × List T} (λ value. (value, rest)) o) (q (token ∷ rest)))
+    go None = other (token ∷ rest)
+    go (Some x) = each x rest
 
-shrinks-mapped : {T A B : Type 0} (f : A → B) (p : Rule T A) → Shrinks p → Shrinks (mapped f p)
-shrinks-mapped f p keeps = shrinks-follow p (λ value. give (f value)) keeps (λ value. shrinks-give (f value))
+spends-the : {T X : Type 0} (test : T → Option X) → Spends nothing (the test)
+spends-the test = spends-when nothing test give refuse (λ x rest. omega arith) (λ tokens. tt)
 
-shrinks-both : {T A B : Type 0} (p : Rule T A) (q : Rule T B) → Shrinks p → Shrinks q → Shrinks (both p q)
-shrinks-both p q first second =
-    shrinks-follow p (λ value. mapped (λ other. (value, other)) q) first (λ value. shrinks-mapped (λ other. (value, other)) q second)
-
-shrinks-trail : {T A B : Type 0} (p : Rule T A) (q : Rule T B) → Shrinks p → Shrinks q → Shrinks (trail p q)
-shrinks-trail p q first second = shrinks-follow p (λ value. mapped (λ _. value) q) first (λ value. shrinks-mapped (λ _. value) q second)
-
-abbrev behind_of : {X T : Type 0} → List T → Option (X × List T) → List T
-behind_of other None = other
-behind_of other (Some found) = found.1
-
--- what a test takes is one token
-picked-less : {T X : Type 0} (test : T → Option X) (tokens : List T) (x : X) (behind : List T) → picked test tokens ≡ Some (x, behind)
-    → length behind < length tokens
-picked-less test [] x behind is = cc
-picked-less {T} {X} test (token ∷ tokens) x behind is = go (test token) is
+spends-choose : {T X A : Type 0} (test : T → Option X) (deep : X → Bool) (room : ℕ) (p : X → Rule T A) → ((x : X) → Spends nothing (p x))
+    → Spends nothing (choose test deep room p)
+spends-choose {T} {X} {A} test deep room p each tokens =
+    spends-when nothing test (λ x. entered (fits (deep x) room) (p x) tokens) refuse (λ x rest. enter x rest (fits (deep x) room)) (λ other. tt) tokens
   where
-    go : (o : Option X) → option_map {T = X} {U = X × List T} (λ value. (value, tokens)) o ≡ Some (x, behind) → length behind < suc (length tokens)
-    go None is = cc
-    go (Some y) is = let same = ap (λ (o : Option (X × List T)). length (behind_of behind o)) is in omega (arith, same)
-
-shrinks-the : {T X : Type 0} (test : T → Option X) → Shrinks (the test)
-shrinks-the {T} {X} test tokens value rest is = go (picked test tokens) refl is
-  where
-    go : (o : Option (X × List T)) → picked test tokens ≡ o
-        → option_map_or {T = X × List T} (λ found. give found.0 found.1) o (refuse tokens) ≡ Ok (value, rest)
-        → length rest ≤ length tokens
-    go None at is = cc
-    go (Some found) at is =
-        let less = picked-less test tokens found.0 found.1 at in
-        let same = even found.0 value found.1 rest (Ok found) (Ok (value, rest)) refl refl is in
-        omega (arith, less, same)
-
-shrinks-choose : {T X A : Type 0} (test : T → Option X) (deep : X → Bool) (room : ℕ) (p : X → Rule T A) → ((x : X) → Shrinks (p x))
-    → Shrinks (choose test deep room p)
-shrinks-choose {T} {X} {A} test deep room p each tokens value rest is = go (picked test tokens) refl is
-  where
-    inner : (found : X × List T) (o : Option ℕ) → entered o (p found.0) tokens found.1 ≡ Ok (value, rest) → length rest ≤ length found.1
-    inner found None is = cc
-    inner found (Some less) is = each found.0 found.1 value rest is
-
-    go : (o : Option (X × List T)) → picked test tokens ≡ o
-        → option_map_or {T = X × List T} (λ found. entered (fits (deep found.0) room) (p found.0) tokens found.1) o (refuse tokens) ≡ Ok (value, rest)
-        → length rest ≤ length tokens
-    go None at is = cc
-    go (Some found) at is =
-        let less = picked-less test tokens found.0 found.1 at in
-        let low = inner found (fits (deep found.0) room) is in
-        omega (arith, less, low)
+    enter : (x : X) (rest : List T) (o : Option ℕ) → Leaves nothing (suc (length rest)) (entered o (p x) tokens rest)
+    enter x rest None = tt
+    enter x rest (Some less) = leaves-more nothing (length rest) (suc (length rest)) (p x rest) (omega arith) (each x rest)
 
 -- ---- steps of a list
 
--- a step that gives a part takes the token before it
-pub step-advances : {T A : Type 0} (mark : T → Option (Unit {0})) (p : Rule T A) → Shrinks p → Advances (list_step mark p)
-step-advances {T} {A} mark p keeps tokens value rest is = go (picked mark tokens) refl is
+spends-step : {T A : Type 0} (mark : T → Option (Unit {0})) (p : Rule T A) → Spends nothing p → Spends a_token (list_step mark p)
+spends-step {T} {A} mark p k =
+    spends-when a_token mark (λ _. mapped Some p) (mapped {A = Unit {0}} (λ _. None) (give tt)) (λ x rest. some (length rest) (p rest) (k rest))
+    (λ tokens. omega arith)
   where
-    part : (behind : List T) (r : Read T A) → p behind ≡ r → follow r (λ v. give (Some v)) ≡ Ok (Some value, rest) → length rest ≤ length behind
-    part behind (Ok found) at is =
-        let low = keeps behind found.0 found.1 at in
-        let same = even (Some found.0) (Some value) found.1 rest (Ok (Some found.0, found.1)) (Ok (Some value, rest)) refl refl is in
-        omega (arith, low, same)
-    part behind (Err fault) at is = cc
+    some : (n : ℕ) (r : Read T A) → Leaves nothing n r → Leaves a_token (suc n) (follow r (λ value. give (Some value)))
+    some n (Ok found) low = omega (arith, low)
+    some n (Err fault) low = tt
 
-    go : (o : Option (Unit {0} × List T)) → picked mark tokens ≡ o
-        → option_map_or {T = Unit {0} × List T} (λ found. mapped Some p found.1) o (mapped {A = Unit {0}} (λ _. None) (give tt) tokens) ≡ Ok (Some value, rest)
-        → length rest < length tokens
-    go None at is = absurd (false≢true (ap gives is))
-    go (Some found) at is =
-        let less = picked-less mark tokens found.0 found.1 at in
-        let low = part found.1 (p found.1) refl is in
-        omega (arith, less, low)
-
-shrinks-step : {T A : Type 0} (mark : T → Option (Unit {0})) (p : Rule T A) → Shrinks p → Shrinks (list_step mark p)
-shrinks-step {T} {A} mark p keeps tokens (Some value) rest is =
-    let less = step-advances mark p keeps tokens value rest is in omega (arith, less)
-shrinks-step {T} {A} mark p keeps tokens None rest is = go (picked mark tokens) is
+spends-turns : {T A : Type 0} (step : Rule T (Option A)) → Spends a_token step → (n : ℕ) → Spends nothing (turns n step)
+spends-turns step k zero tokens = omega arith
+spends-turns {T} {A} step k (suc n) tokens =
+    spends-follow a_token nothing (length tokens) (step tokens) (turn (turns n step)) (k tokens) (each (spends-turns step k n))
   where
-    part : (r : Read T A) → follow r (λ v. give (Some v)) ≡ Ok (None, rest) → length rest ≤ length tokens
-    part (Ok found) is = absurd (false≢true (sym (ap gives is)))
-    part (Err fault) is = cc
+    each : Spends nothing (turns n step) → (o : Option A) → Spends nothing (turn (turns n step) o)
+    each less None = λ tokens. omega arith
+    each less (Some value) = spends-mapped (λ others. value ∷ others) (turns n step) less
 
-    go : (o : Option (Unit {0} × List T))
-        → option_map_or {T = Unit {0} × List T} (λ found. mapped Some p found.1) o (mapped {A = Unit {0}} (λ _. None) (give tt) tokens) ≡ Ok (None, rest)
-        → length rest ≤ length tokens
-    go None is = shrinks-give {T = T} {A = Option A} None tokens None rest is
-    go (Some found) is = part (p found.1) is
+spends-listed : {T A : Type 0} (mark : T → Option (Unit {0})) (node : List A → A) (p : Rule T A) → Spends nothing p → Spends nothing (listed mark node p)
+spends-listed {T} {A} mark node p k =
+    spends-mapped {A = A × List A} (λ found. list_of node (found.0 ∷ found.1)) (both p (loop (list_step mark p)))
+    (spends-both p (loop (list_step mark p)) k (λ tokens. spends-turns (list_step mark p) (spends-step mark p k) (suc (length tokens)) tokens))
 
-shrinks-turns : {T A : Type 0} (step : Rule T (Option A)) → Shrinks step → (n : ℕ) → Shrinks (turns n step)
-shrinks-turns step keeps zero = shrinks-give []
-shrinks-turns {T} {A} step keeps (suc n) = shrinks-follow step (turn (turns n step)) keeps (each (shrinks-turns step keeps n))
-  where
-    each : Shrinks (turns n step) → (o : Option A) → Shrinks (turn (turns n step) o)
-    each less None = shrinks-give []
-    each less (Some v) = shrinks-mapped (λ others. v ∷ others) (turns n step) less
-
-shrinks-loop : {T A : Type 0} (step : Rule T (Option A)) → Shrinks step → Shrinks (loop step)
-shrinks-loop step keeps tokens value rest is = shrinks-turns step keeps (suc (length tokens)) tokens value rest is
-
-shrinks-listed : {T A : Type 0} (mark : T → Option (Unit {0})) (node : List A → A) (p : Rule T A) → Shrinks p → Shrinks (listed mark node p)
-shrinks-listed {T} {A} mark node p keeps =
-    shrinks-mapped {A = A × List A} (λ found. list_of node (found.0 ∷ found.1)) (both p (loop (list_step mark p)))
-    (shrinks-both p (loop (list_step mark p)) keeps (shrinks-loop (list_step mark p) (shrinks-step mark p keeps)))
+advances : {T A : Type 0} (mark : T → Option (Unit {0})) (p : Rule T A) → Spends nothing p → Advances (list_step mark p)
+advances mark p k tokens value rest is =
+    let low = subst (Leaves a_token (length tokens)) is (spends-step mark p k tokens) in omega (arith, low)
 
 -- ---- the rules
 
 module _ {T B F A : Type 0} (t : Tiers T B F A) where
-  record ShrinkRules (r : Rules T A) : Type 0 where
-    part : Shrinks r.part
-    whole : Shrinks r.whole
+  record SpendRules (r : Rules T A) : Type 0 where
+    part : Spends nothing r.part
+    whole : Spends nothing r.whole
 
-  opened-shrinks : (r : Rules T A) → ShrinkRules r → (o : Opening B F) → Shrinks (opened t o r)
-  opened-shrinks r k Negates = shrinks-mapped t.negation r.part k.part
-  opened-shrinks r k (Opens b) =
-      shrinks-mapped (t.bracketed b) (trail r.whole (the (t.closing b))) (shrinks-trail r.whole (the (t.closing b)) k.whole (shrinks-the (t.closing b)))
-  opened-shrinks r k (IsLeaf leaf) = shrinks-give (t.leaf leaf)
+  spends-opened : (r : Rules T A) → SpendRules r → (o : Opening B F) → Spends nothing (opened t o r)
+  spends-opened r k Negates = spends-mapped t.negation r.part k.part
+  spends-opened r k (Opens b) =
+      spends-mapped (t.bracketed b) (trail r.whole (the (t.closing b))) (spends-trail r.whole (the (t.closing b)) k.whole (spends-the (t.closing b)))
+  spends-opened r k (IsLeaf leaf) = λ tokens. omega arith
 
-  neg-shrinks : (room : ℕ) (r : Rules T A) → ShrinkRules r → Shrinks (neg t room r)
-  neg-shrinks room r k = shrinks-choose t.opening is_deep room (λ o. opened t o r) (opened-shrinks r k)
+  spends-neg : (room : ℕ) (r : Rules T A) → SpendRules r → Spends nothing (neg t room r)
+  spends-neg room r k = spends-choose t.opening is_deep room (λ o. opened t o r) (spends-opened r k)
 
-  conj-shrinks : (room : ℕ) (r : Rules T A) → ShrinkRules r → Shrinks (conj t room r)
-  conj-shrinks room r k = shrinks-listed t.and_mark t.all (neg t room r) (neg-shrinks room r k)
+  spends-below : (joint : Joint) (room : ℕ) (r : Rules T A) → SpendRules r → Spends nothing (below t joint room r)
+  spends-below joints.And room r k = spends-neg room r k
+  spends-below joints.Or room r k = spends-listed (t.mark joints.And) (t.joined joints.And) (neg t room r) (spends-neg room r k)
 
-  inside-shrinks : (room : ℕ) → ShrinkRules (inside t room)
-  inside-shrinks zero = record { part = λ tokens value rest is. cc; whole = λ tokens value rest is. cc }
-  inside-shrinks (suc room) =
-      let k = inside-shrinks room in record {
-        part = neg-shrinks room (inside t room) k;
-        whole = shrinks-listed t.or_mark t.any (conj t room (inside t room)) (conj-shrinks room (inside t room) k);
+  spends-inside : (room : ℕ) → SpendRules (inside t room)
+  spends-inside zero = record { part = λ tokens. tt; whole = λ tokens. tt }
+  spends-inside (suc room) =
+      let k = spends-inside room in record {
+        part = spends-neg room (inside t room) k;
+        whole = spends-listed (t.mark joints.Or) (t.joined joints.Or) (below t joints.Or room (inside t room)) (spends-below joints.Or room (inside t room) k);
       }
 
-  -- what loops over parts want to know
-  pub and-advances : (room : ℕ) → Advances (list_step t.and_mark (neg t room (inside t room)))
-  and-advances room = step-advances t.and_mark (neg t room (inside t room)) (neg-shrinks room (inside t room) (inside-shrinks room))
-
-  pub or-advances : (room : ℕ) → Advances (list_step t.or_mark (conj t room (inside t room)))
-  or-advances room = step-advances t.or_mark (conj t room (inside t room)) (conj-shrinks room (inside t room) (inside-shrinks room))
+  -- what the loop over parts wants to know
+  pub part-advances : (joint : Joint) (room : ℕ) → Advances (list_step (t.mark joint) (below t joint room (inside t room)))
+  part-advances joint room = advances (t.mark joint) (below t joint room (inside t room)) (spends-below joint room (inside t room) (spends-inside room))
 
 -- fewer plain tokens are fewer tokens
 pub shorter : {X Y : Type 0} (f : X → Y) (xs ys : List X) → length (map f xs) < length (map f ys) → length xs < length ys

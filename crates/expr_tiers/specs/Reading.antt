@@ -6,6 +6,8 @@
 --
 -- What the tokens are and what is made of the parts is left open.
 use Rattle.std.specs.Prelude.{ℕ, zero, suc, Bool, true, false, List, [], ◌∷◌, Option, Some, None}
+use Rattle.expr_tiers.specs.declared.language.Joint.{Joint}
+use Rattle.expr_tiers.specs.declared.language.Joint.TheVariants as joints
 use Rattle.read_rules.specs.Readings.{Rule, refuse, give, mapped, both, trail, the, loop}
 use Rattle.read_rules.specs.Choice.{optional_or, choose}
 
@@ -19,14 +21,12 @@ pub data Opening (B F : Type 0) : Type 0 where
 pub record Tiers (T B F A : Type 0) : Type 0 where
   pub opening : T → Option (Opening B F)
   pub closing : B → T → Option (Unit {0})
-  pub and_mark : T → Option (Unit {0})
-  pub or_mark : T → Option (Unit {0})
+  pub mark : Joint → T → Option (Unit {0})
   pub leaf : F → A
   pub negation : A → A
   pub bracketed : B → A → A
-  -- two parts or more, with and or with or between them
-  pub all : List A → A
-  pub any : List A → A
+  -- two parts or more, with the operator between them
+  pub joined : Joint → List A → A
 
 -- what is made of a leaf
 abbrev pub leaf_in : {T B F A : Type 0} → Tiers T B F A → Option (Opening B F) → Option A
@@ -68,17 +68,19 @@ abbrev pub listed : {T A : Type 0} → (T → Option (Unit {0})) → (List A →
 listed mark node part =
     mapped (λ found. list_of node (found.0 ∷ found.1)) (both part (loop (list_step mark part)))
 
-abbrev pub conj : {T B F A : Type 0} → Tiers T B F A → ℕ → Rules T A → Rule T A
-conj t room inner = listed t.and_mark t.all (neg t room inner)
+-- what stands between operators, and the whole tier
+abbrev pub below : {T B F A : Type 0} → Tiers T B F A → Joint → ℕ → Rules T A → Rule T A
+below t joints.And room inner = neg t room inner
+below t joints.Or room inner = listed (t.mark joints.And) (t.joined joints.And) (neg t room inner)
 
-abbrev pub disj : {T B F A : Type 0} → Tiers T B F A → ℕ → Rules T A → Rule T A
-disj t room inner = listed t.or_mark t.any (conj t room inner)
+abbrev pub tier : {T B F A : Type 0} → Tiers T B F A → Joint → ℕ → Rules T A → Rule T A
+tier t joint room inner = listed (t.mark joint) (t.joined joint) (below t joint room inner)
 
 abbrev pub no_rules : {T A : Type 0} → Rules T A
 no_rules = record { part = refuse; whole = refuse }
 
 abbrev pub rules_of : {T B F A : Type 0} → Tiers T B F A → ℕ → Rules T A → Rules T A
-rules_of t room inner = record { part = neg t room inner; whole = disj t room inner }
+rules_of t room inner = record { part = neg t room inner; whole = tier t joints.Or room inner }
 
 -- the rules inside what the next token opens, never used where there is no room
 abbrev pub inside : {T B F A : Type 0} → Tiers T B F A → ℕ → Rules T A

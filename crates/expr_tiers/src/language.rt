@@ -14,6 +14,13 @@ pub enum Opening<B> {
     Leaf,
 }
 
+/// An operator between parts. It binds closer than the one behind it here.
+#[derive(Clone, Copy)]
+pub enum Joint {
+    And,
+    Or,
+}
+
 /// A language of expressions: which tokens begin, part and close them, and how their trees are made.
 ///
 /// `Plain`, `PlainLeaf` and `PlainTree` are the types of tokens, leaves and trees as plain values. `tiers` says what
@@ -52,13 +59,9 @@ pub trait ExprLanguage {
     fn is_close(bracket: Self::Bracket, token: &Self::Token) -> bool
         ensures { result ≡ is_some (tiers.closing bracket (token_of token.now)) };
 
-    /// Whether the token is the operator and.
-    fn is_and(token: &Self::Token) -> bool
-        ensures { result ≡ is_some (tiers.and_mark (token_of token.now)) };
-
-    /// Whether the token is the operator or.
-    fn is_or(token: &Self::Token) -> bool
-        ensures { result ≡ is_some (tiers.or_mark (token_of token.now)) };
+    /// Whether the token is the operator.
+    fn is_joint(joint: Joint, token: &Self::Token) -> bool
+        ensures { result ≡ is_some (tiers.mark joint (token_of token.now)) };
 
     /// The tree of a token that is a part of its own. Want of memory is the only error.
     fn leaf(alloc: Global, token: &Self::Token) -> Result<Self::Tree, ReadError>
@@ -80,13 +83,8 @@ pub trait ExprLanguage {
         ensures { MatchResult result
             (λ tree. tree_of tree ≡ tiers.bracketed bracket (tree_of body)) (λ e. e ≡ errors.NoMemory) };
 
-    /// Two parts or more with and between them.
-    fn all(parts: Vec<Self::Tree>) -> Self::Tree
+    /// Two parts or more with the operator between them.
+    fn joined(joint: Joint, parts: Vec<Self::Tree>) -> Self::Tree
         requires { 1 < vec_len parts }
-        ensures { tree_of result ≡ tiers.all (map tree_of parts.items) };
-
-    /// Two parts or more with or between them.
-    fn any(parts: Vec<Self::Tree>) -> Self::Tree
-        requires { 1 < vec_len parts }
-        ensures { tree_of result ≡ tiers.any (map tree_of parts.items) };
+        ensures { tree_of result ≡ tiers.joined joint (map tree_of parts.items) };
 }

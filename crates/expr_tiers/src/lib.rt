@@ -10,5 +10,5 @@
 mod language;
 mod reader;
 
-pub use language::{ExprLanguage, Opening};
-pub use reader::read_expr;
+pub use language::{ExprLanguage, Joint, Opening};
+pub use reader::{read_expr, read_part};

@@ -2,17 +2,16 @@
 
 ghost use Rattle.std.specs.Prelude.{◌≡◌, ◌<◌, ◌∷◌, None, Some, map, vec_len, MatchOption, MatchResult};
 ghost use Rattle.std.specs.Prelude.{false};
-ghost use Rattle.expr_tiers.specs.Reading.{expr, conj, neg, inside, list_of};
+ghost use Rattle.expr_tiers.specs.Reading.{expr, tier, below, neg, inside, list_of};
 ghost use Rattle.expr_tiers.specs.Views.{FindsBy, opening_in};
 ghost use Rattle.read_rules.specs.Readings.{picked, fault_at};
 ghost use Rattle.read_rules.specs.declared.faults.ReadError.TheVariants as errors;
 
-use crate::language::{ExprLanguage, Opening};
+use crate::language::{ExprLanguage, Joint, Opening};
 use read_rules::{ReadError, first, inside, refused};
 use std::alloc::Global;
 
 /// An expression: parts with or between them. Its errors are the first fault of the tokens, and want of memory.
-#[cycle(tiers)]
 pub fn read_expr<'t, L: ExprLanguage>(
     alloc: Global,
     tokens: &'t [L::Token],
@@ -20,41 +19,52 @@ pub fn read_expr<'t, L: ExprLanguage>(
 ) -> Result<(L::Tree, &'t [L::Token]), ReadError>
     ensures { FindsBy L.token_of L.tree_of result (expr L.tiers room (map L.token_of tokens.now)) }
 {
-    let (first, mut rest) = read_conj::<L>(alloc, tokens, room)?;
-    let mut parts = Vec::new(alloc);
-    parts.push(first)?;
-    while let Some(behind) = past_or::<L>(rest) {
-        let (part, behind) = read_conj::<L>(alloc, behind, room)?;
-        parts.push(part)?;
-        rest = behind;
-    }
-    Ok((any_of::<L>(parts), rest))
+    read_joined::<L>(alloc, Joint::Or, tokens, room)
 }
 
-// Parts with and between them.
+// Parts with an operator between them.
 #[cycle(tiers)]
-fn read_conj<'t, L: ExprLanguage>(
+fn read_joined<'t, L: ExprLanguage>(
     alloc: Global,
+    joint: Joint,
     tokens: &'t [L::Token],
     room: u32,
 ) -> Result<(L::Tree, &'t [L::Token]), ReadError>
     ensures { FindsBy L.token_of L.tree_of result
-        (conj L.tiers room (inside L.tiers room) (map L.token_of tokens.now)) }
+        (tier L.tiers joint room (inside L.tiers room) (map L.token_of tokens.now)) }
 {
-    let (first, mut rest) = read_neg::<L>(alloc, tokens, room)?;
+    let (first, mut rest) = read_below::<L>(alloc, joint, tokens, room)?;
     let mut parts = Vec::new(alloc);
     parts.push(first)?;
-    while let Some(behind) = past_and::<L>(rest) {
-        let (part, behind) = read_neg::<L>(alloc, behind, room)?;
+    while let Some(behind) = past_joint::<L>(joint, rest) {
+        let (part, behind) = read_below::<L>(alloc, joint, behind, room)?;
         parts.push(part)?;
         rest = behind;
     }
-    Ok((all_of::<L>(parts), rest))
+    Ok((joined_or_one::<L>(joint, parts), rest))
 }
 
-// A part without and and or, but for those in brackets.
+// What stands between operators.
 #[cycle(tiers)]
-fn read_neg<'t, L: ExprLanguage>(
+fn read_below<'t, L: ExprLanguage>(
+    alloc: Global,
+    joint: Joint,
+    tokens: &'t [L::Token],
+    room: u32,
+) -> Result<(L::Tree, &'t [L::Token]), ReadError>
+    ensures { FindsBy L.token_of L.tree_of result
+        (below L.tiers joint room (inside L.tiers room) (map L.token_of tokens.now)) }
+{
+    match joint {
+        Joint::And => read_part::<L>(alloc, tokens, room),
+        Joint::Or => read_joined::<L>(alloc, Joint::And, tokens, room),
+    }
+}
+
+/// A part without and and or, but for those in brackets. Its errors are the first fault of the tokens, and want of
+/// memory.
+#[cycle(tiers)]
+pub fn read_part<'t, L: ExprLanguage>(
     alloc: Global,
     tokens: &'t [L::Token],
     room: u32,
@@ -69,12 +79,12 @@ fn read_neg<'t, L: ExprLanguage>(
         Opening::Leaf => Ok((L::leaf(alloc, token)?, rest)),
         Opening::Not => {
             let room = inside(room, tokens)?;
-            let (part, rest) = read_neg::<L>(alloc, rest, room)?;
+            let (part, rest) = read_part::<L>(alloc, rest, room)?;
             Ok((L::negation(alloc, part)?, rest))
         }
         Opening::Open(bracket) => {
             let room = inside(room, tokens)?;
-            let (body, rest) = read_expr::<L>(alloc, rest, room)?;
+            let (body, rest) = read_joined::<L>(alloc, Joint::Or, rest, room)?;
             let rest = after_close::<L>(bracket, rest)?;
             Ok((L::bracketed(alloc, bracket, body)?, rest))
         }
@@ -97,26 +107,14 @@ fn past_opening<'t, L: ExprLanguage>(
     }
 }
 
-// The tokens behind the operator and, where it stands next.
-fn past_and<'t, L: ExprLanguage>(tokens: &'t [L::Token]) -> Option<&'t [L::Token]>
+// The tokens behind the operator, where it stands next.
+fn past_joint<'t, L: ExprLanguage>(joint: Joint, tokens: &'t [L::Token]) -> Option<&'t [L::Token]>
     ensures { MatchOption result
-        (picked L.tiers.and_mark (map L.token_of tokens.now) ≡ None)
-        (λ rest. picked L.tiers.and_mark (map L.token_of tokens.now) ≡ Some (tt, map L.token_of rest.now)) }
+        (picked (L.tiers.mark joint) (map L.token_of tokens.now) ≡ None)
+        (λ rest. picked (L.tiers.mark joint) (map L.token_of tokens.now) ≡ Some (tt, map L.token_of rest.now)) }
 {
     match first(tokens) {
-        Some((token, rest)) if L::is_and(token) => Some(rest),
-        _ => None,
-    }
-}
-
-// The tokens behind the operator or, where it stands next.
-fn past_or<'t, L: ExprLanguage>(tokens: &'t [L::Token]) -> Option<&'t [L::Token]>
-    ensures { MatchOption result
-        (picked L.tiers.or_mark (map L.token_of tokens.now) ≡ None)
-        (λ rest. picked L.tiers.or_mark (map L.token_of tokens.now) ≡ Some (tt, map L.token_of rest.now)) }
-{
-    match first(tokens) {
-        Some((token, rest)) if L::is_or(token) => Some(rest),
+        Some((token, rest)) if L::is_joint(joint, token) => Some(rest),
         _ => None,
     }
 }
@@ -137,24 +135,13 @@ fn after_close<'t, L: ExprLanguage>(
     }
 }
 
-// The parts with or between them, of which there is one at least. One part alone makes no node.
-fn any_of<'t, L: ExprLanguage>(mut parts: Vec<L::Tree>) -> L::Tree
+// The parts with the operator between them, of which there is one at least. One part alone makes no node.
+fn joined_or_one<'t, L: ExprLanguage>(joint: Joint, mut parts: Vec<L::Tree>) -> L::Tree
     requires { 0 < vec_len parts }
-    ensures { L.tree_of result ≡ list_of L.tiers.any (map L.tree_of parts.items) }
+    ensures { L.tree_of result ≡ list_of (L.tiers.joined joint) (map L.tree_of parts.items) }
 {
     if parts.len() > 1 {
-        return L::any(parts);
-    }
-    parts.pop().unwrap()
-}
-
-// The parts with and between them, of which there is one at least. One part alone makes no node.
-fn all_of<'t, L: ExprLanguage>(mut parts: Vec<L::Tree>) -> L::Tree
-    requires { 0 < vec_len parts }
-    ensures { L.tree_of result ≡ list_of L.tiers.all (map L.tree_of parts.items) }
-{
-    if parts.len() > 1 {
-        return L::all(parts);
+        return L::joined(joint, parts);
     }
     parts.pop().unwrap()
 }

@@ -1,6 +1,5 @@
 -- Inner: what the answer of the reading function says of a text.
-use Rattle.std.proofs.Common.{◌≡◌, ℕ, ◌≤◌, Bool, true, false, List, [], ◌∷◌, length, map, None, Result, Ok, Err, refl, sym, ◌∙◌, ap, subst}
-use Rattle.std.proofs.lemmas.Bool.{false≢true}
+use Rattle.std.proofs.Common.{◌≡◌, ℕ, ◌≤◌, List, [], ◌∷◌, length, map, None, Ok, Err, refl, sym, ◌∙◌, ap, subst}
 use Rattle.est_base.specs.declared.bounds.TheConstants.Limits.{TEXT_BYTES}
 use Rattle.est_base.specs.Stops.{FaultIs}
 use Rattle.est_base.specs.declared.stop.Stop.{Stop}
@@ -10,9 +9,7 @@ use Rattle.csub_text.specs.Texts.{nesting_limit}
 use Rattle.csub_text.specs.Views.{assign_of}
 use Rattle.csub_text.specs.declared.trees.Assign.{Assign as CodeAssign}
 use Rattle.csub_read.specs.Reading.{expr_assign, pair_of}
-use Rattle.csub_read.specs.Tokens.{kind_in}
-use Rattle.csub_read.specs.declared.tokens.Kind.{Kind as CodeKind}
-use Rattle.csub_guard.specs.Grammar.{WrittenProgram, IsText, program_meant}
+use Rattle.csub_guard.specs.Grammar.{IsText, program_meant}
 use Rattle.csub_guard.specs.Names.{name_fault}
 use Rattle.csub_guard.specs.Tokens.{kinds}
 use Rattle.csub_guard.specs.Trees as trees
@@ -21,11 +18,11 @@ use Rattle.csub_guard.specs.Views.{piece_of, program_of}
 use Rattle.csub_guard.specs.declared.trees.GuardedProgram.{GuardedProgram}
 use Rattle.csub_guard.specs.declared.trees.Piece.{Piece as CodePiece}
 use Rattle.csub_guard.specs.declared.trees.Piece.TheVariants as pieces
-use Rattle.expr_text.proofs.Exports.{made}
-use Rattle.expr_text.specs.declared.kinds.Token.{Token}
+use Rattle.expr_text.specs.Spelled.{IsSpelled}
+use Rattle.expr_text.proofs.Exports.{least-meant, spelled-meant}
 use Rattle.read_rules.specs.declared.faults.Fault.{Fault}
-use Rattle.read_rules.specs.Readings.{ended, end_of, whole}
-use Rattle.read_rules.specs.Exact.{Exactly, IsLeastPlace}
+use Rattle.read_rules.specs.Readings.{whole}
+use Rattle.read_rules.specs.Exact.{IsLeastPlace}
 use Rattle.guard_read.specs.declared.refusal.GuardedFault.{GuardedFault}
 use Rattle.guard_read.specs.declared.refusal.GuardedFault.TheVariants as faults
 use Rattle.guard_read.specs.Faults.{ReadsAs, ReadsFault}
@@ -35,42 +32,16 @@ use Rattle.guard_read.specs.Steps.{SyntaxFault, Spells}
 use Rattle.guard_read.proofs.Makers.{whole-meant}
 use Rattle.guard_read.proofs.TextLaws.{text-exact}
 
-abbrev value_or : {A : Type 0} → A → Result A Fault → A
-value_or other (Ok a) = a
-value_or other (Err fault) = other
-
-abbrev fault_or : {A : Type 0} → Fault → Result A Fault → Fault
-fault_or other (Ok a) = other
-fault_or other (Err fault) = fault
-
-abbrev good : {A : Type 0} → Result A Fault → Bool
-good (Ok a) = true
-good (Err fault) = false
-
 spells-by : (text : List ℕ) (ks : List Kind) (p : Program) → ks ≡ kinds text → whole (program_rule nesting_limit) ks ≡ Ok p → Spells text p
-spells-by text ks p same is = go (whole (written_rule nesting_limit) ks) refl
-  where
-    go : (w : Result WrittenProgram Fault) → whole (written_rule nesting_limit) ks ≡ w → Spells text p
-    go (Ok written) at =
-        let exact = subst (Exactly IsText nesting_limit ks) at (text-exact nesting_limit ks) in
-        let told : Ok (program_meant written) ≡ Ok p = sym (whole-meant nesting_limit ks ∙ ap (made program_meant) at) ∙ is in
-        record {
-          written = written;
-          spelled = subst (IsText nesting_limit written) same exact.member;
-          means = ap (value_or p) told;
-          only = λ other spelled. exact.only other (subst (IsText nesting_limit other) (sym same) spelled);
-        }
-    go (Err fault) at = absurd (false≢true (ap good (sym (whole-meant nesting_limit ks ∙ ap (made program_meant) at) ∙ is)))
+spells-by text ks p same is =
+    subst (λ ks. IsSpelled IsText nesting_limit program_meant ks p) same
+    (spelled-meant IsText nesting_limit program_meant ks (whole (program_rule nesting_limit) ks) (whole (written_rule nesting_limit) ks)
+    (text-exact nesting_limit ks) (whole-meant nesting_limit ks) p is)
 
 pub least-by : (ks : List Kind) (fault : Fault) → whole (program_rule nesting_limit) ks ≡ Err fault → IsLeastPlace IsText nesting_limit ks fault
-least-by ks fault is = go (whole (written_rule nesting_limit) ks) refl
-  where
-    go : (w : Result WrittenProgram Fault) → whole (written_rule nesting_limit) ks ≡ w → IsLeastPlace IsText nesting_limit ks fault
-    go (Err other) at =
-        let told : Err other ≡ Err fault = sym (whole-meant nesting_limit ks ∙ ap (made program_meant) at) ∙ is in
-        subst (λ f. IsLeastPlace IsText nesting_limit ks f) (ap (fault_or {A = Program} fault) told)
-        (subst (Exactly IsText nesting_limit ks) at (text-exact nesting_limit ks))
-    go (Ok p) at = absurd (false≢true (ap good (sym is ∙ (whole-meant nesting_limit ks ∙ ap (made program_meant) at))))
+least-by ks fault is =
+    least-meant IsText nesting_limit program_meant ks (whole (program_rule nesting_limit) ks) (whole (written_rule nesting_limit) ks)
+    (text-exact nesting_limit ks) (whole-meant nesting_limit ks) fault is
 
 -- ---- programs as the rules make them
 
@@ -100,14 +71,6 @@ program-is p = ap (λ body. record {
 pub spells-program : (text : List ℕ) (ks : List Kind) (p : GuardedProgram) → ks ≡ kinds text
     → whole (program_rule nesting_limit) ks ≡ Ok (program_in p) → Spells text (program_of p)
 spells-program text ks p same is = spells-by text ks (program_of p) same (is ∙ ap Ok (program-is p))
-
--- what was read with nothing behind it
-pub whole-ended : (room : ℕ) (ks : List Kind) (p q : GuardedProgram) (rest : List (Token CodeKind))
-    → program_rule room ks ≡ Ok (program_in p, map kind_in rest) → ended p rest ≡ Ok q → whole (program_rule room) ks ≡ Ok (program_in q)
-whole-ended room ks p q [] read is =
-    let same : p ≡ q = cc in
-    ap end_of read ∙ ap (λ (x : GuardedProgram). Ok (program_in x)) same
-whole-ended room ks p q (token ∷ rest) read is = absurd (false≢true (ap good is))
 
 -- ---- whole texts
 

@@ -4,4 +4,5 @@ mod Stepping
 mod Fronts
 mod Events
 mod Written
+mod Pauses
 pub mod Exports

@@ -1,7 +1,7 @@
 -- Inner: what the steps of the reader answer of a text.
-use Rattle.std.specs.Prelude.{◌≡◌, ℕ, List}
+use Rattle.std.specs.Prelude.{ℕ, List}
+use Rattle.expr_text.specs.Spelled.{IsSpelled}
 use Rattle.expr_text.specs.Trees.{Expr}
-use Rattle.expr_text.specs.Grammar.{Written}
 use Rattle.vlog_text.specs.Trees.{Source}
 use Rattle.vlog_text.specs.Tokens.{kinds}
 use Rattle.vlog_text.specs.Grammar.{IsText, source_meant}
@@ -11,11 +11,8 @@ use Rattle.vlog_read.specs.declared.refusal.VlogFault.{VlogFault}
 use Rattle.vlog_read.specs.declared.refusal.VlogFault.TheVariants as faults
 
 -- the tokens spell what is written for the source, and for no other one
-pub record Spells (text : List ℕ) (source : Source Expr) : Type 0 where
-  pub written : Source Written
-  pub spelled : IsText nesting_limit written (kinds text)
-  pub means : source_meant written ≡ source
-  pub only : (other : Source Written) → IsText nesting_limit other (kinds text) → other ≡ written
+abbrev pub Spells : List ℕ → Source Expr → Type 0
+Spells text = IsSpelled IsText nesting_limit source_meant (kinds text)
 
 abbrev pub SyntaxFault : List ℕ → VlogFault → Type 0
 SyntaxFault text (faults.Syntax at) = IsSyntaxFault text at

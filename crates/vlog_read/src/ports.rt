@@ -99,26 +99,18 @@ pub fn first_input<'a>(declarations: &[Declaration<'a>]) -> Option<&'a [u8]>
     None
 }
 
+// From the back.
 fn last_output<'a>(declarations: &[Declaration<'a>]) -> Option<&'a [u8]>
     ensures { name_told result ≡ last_of (map declaration_of declarations.now) }
 {
-    let mut last = None;
-    for declaration in declarations {
-        last = later_output(last, *declaration);
+    let mut left = declarations.len();
+    'outputs: while left > 0 {
+        left -= 1;
+        if is_in(Group::Outputs, declarations[left].sort) {
+            return Some(declarations[left].name);
+        }
     }
-    last
-}
-
-// A declared name, where it is an output, or else the one before.
-fn later_output<'a>(last: Option<&'a [u8]>, declaration: Declaration<'a>) -> Option<&'a [u8]>
-    ensures { name_told result ≡ (if is_output (plain_sort declaration.entry.sort)
-        then Some declaration.entry.name.now else name_told last.entry) }
-{
-    if is_in(Group::Outputs, declaration.sort) {
-        Some(declaration.name)
-    } else {
-        last
-    }
+    None
 }
 
 // The first input is the clock and has any name; the others begin with `i_`, and the outputs with `o_`, but that the

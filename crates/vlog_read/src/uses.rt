@@ -2,13 +2,13 @@
 
 ghost use Rattle.std.specs.Prelude.{◌≡◌, ◌++◌, ℕ, List, [], map, find, IfOk, OnOk};
 ghost use Rattle.std.specs.HashSet.{contains_by};
-ghost use Rattle.std.specs.Option.{option_map};
 ghost use Rattle.est_base.specs.Names.{is_same_name};
 ghost use Rattle.net_ir.specs.NameLists.{is_among, first_again};
 ghost use Rattle.expr_text.specs.Names.{names_in};
 ghost use Rattle.expr_text.specs.NameTables.{name_told};
 ghost use Rattle.expr_text.specs.Views.{expr_of};
-ghost use Rattle.vlog_text.specs.Names.{names_of, declared, declared_twice, undeclared, uses, used_name, Taken};
+ghost use Rattle.vlog_text.specs.Names.{names_of, declared, declared_twice, undeclared, uses, used_name, use_found};
+ghost use Rattle.vlog_text.specs.Names.{Taken};
 ghost use Rattle.vlog_read.specs.NameTables.{AreKnown, wrong_in};
 ghost use Rattle.vlog_read.specs.NameTests.{group_test, is_told, use_of};
 ghost use Rattle.vlog_read.specs.Sources.{declaration_of, plain_source};
@@ -73,10 +73,7 @@ pub fn undeclared<'a>(alloc: Global, source: &'a Source<'a>) -> Result<Option<&'
 {
     let known = known_names(alloc, &source.declarations)?;
     let uses = uses(alloc, source)?;
-    match first_wrong(&known, &uses) {
-        Some(place) => Ok(Some(used_name(place))),
-        None => Ok(None),
-    }
+    Ok(first_wrong(&known, &uses))
 }
 
 fn known_names<'a>(alloc: Global, declarations: &[Declaration<'a>]) -> Result<Known<'a>, NoMemory>
@@ -111,13 +108,13 @@ fn declared_set<'a>(
     name_set(alloc, &names)
 }
 
-// The first use that is wrong.
-fn first_wrong<'a>(known: &Known<'_>, uses: &[Use<'a>]) -> Option<Use<'a>>
-    ensures { option_map use_of result ≡ find (wrong_in known.now) (map use_of uses.now) }
+// The name of the first use that is wrong.
+fn first_wrong<'a>(known: &Known<'_>, uses: &[Use<'a>]) -> Option<&'a [u8]>
+    ensures { name_told result ≡ use_found (find (wrong_in known.now) (map use_of uses.now)) }
 {
     for place in uses {
         if is_wrong(known, *place) {
-            return Some(*place);
+            return Some(used_name(*place));
         }
     }
     None

@@ -1,24 +1,22 @@
 -- To believe: what a module shows over items, as lines tell it. The names of the inputs besides the clock and of the
 -- outputs are those behind their signs. A last output `paused` is not listed, and its value gives the word; where there
 -- is none, there is no word.
-use Rattle.std.specs.Prelude.{ℕ, ◌-◌, Bool, false, if◌then◌else◌, List, [], length, map, take, drop, slice_index_or}
+use Rattle.std.specs.Prelude.{ℕ, Bool, List, map, take, drop}
 use Rattle.est_base.specs.Items.{Item}
-use Rattle.est_base.specs.Names.{is_same_name}
 use Rattle.machines.specs.Machines.{Shows}
-use Rattle.trace_io.specs.declared.lines.Word.TheVariants.{Bare}
-use Rattle.trace_run.specs.Languages.{word_of}
 use Rattle.trace_run.specs.Machines.{Answer}
+use Rattle.trace_run.specs.Pauses as pauses
 use Rattle.vlog_text.specs.Machine.{given_inputs, vlog_machine, initial_registers}
 use Rattle.vlog_text.specs.Names.{paused_name}
 use Rattle.vlog_text.specs.Trees.{Module}
 
 -- whether the last one is `paused`
 abbrev pub tells_pause : List (List ℕ) → Bool
-tells_pause outputs = is_same_name paused_name (slice_index_or outputs (length outputs - 1) [])
+tells_pause = pauses.tells_pause paused_name
 
 -- how many outputs are listed
 abbrev pub listed_count : List (List ℕ) → ℕ
-listed_count outputs = if tells_pause outputs then length outputs - 1 else length outputs
+listed_count = pauses.listed_count paused_name
 
 -- a name without the two bytes of its sign, `i_` or `o_`
 abbrev pub bare_name : List ℕ → List ℕ
@@ -33,10 +31,7 @@ bare_outputs design = map bare_name (take (listed_count design.outputs) design.o
 
 -- what is shown where the outputs have these values
 abbrev pub answer_of : List (List ℕ) → List Bool → Answer
-answer_of outputs values = record {
-  present = take (listed_count outputs) values;
-  word = if tells_pause outputs then word_of (slice_index_or values (length outputs - 1) false) else Bare;
-}
+answer_of = pauses.answer_of paused_name
 
 -- what is shown in an instant of a module
 abbrev pub module_answer : Module → (List ℕ → Bool) → Answer

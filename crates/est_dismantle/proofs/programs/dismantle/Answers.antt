@@ -7,5 +7,5 @@ use Rattle.est_dismantle.proofs.programs.dismantle.Goals as goal
 
 pub returns-in_ok-program-in-None-clause-well_formed : goal.returns-in_ok-program-in-None-clause-well_formed
 returns-in_ok-program-in-None-clause-well_formed c h =
-    expansion-well_formed (flat_of c.args.flat) (program_of c.in_ok-program-in-None.field-0) h
+    expansion-well_formed (flat_of c.args.flat.now) (program_of c.in_ok-program-in-None.field-0) h
     (c.in-None.ensures ∙ ap Expanded (sym c.in_ok-program-in-None.ensures))

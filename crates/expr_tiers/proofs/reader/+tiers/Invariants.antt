@@ -1,40 +1,33 @@
-use Rattle.std.proofs.Common.{◌≡◌, ◌++◌, ◌+◌, ◌*◌, ◌<◌, length, map, vec_len}
-use Rattle.expr_tiers.specs.Reading.{list_of, neg, conj, expr, list_step, inside}
+use Rattle.std.proofs.Common.{◌≡◌, ◌++◌, ◌+◌, ◌*◌, ◌<◌, ℕ, length, map, vec_len}
+use Rattle.expr_tiers.specs.declared.language.Joint.{Joint}
+use Rattle.expr_tiers.specs.declared.language.Joint.TheVariants as joints
+use Rattle.expr_tiers.specs.Reading.{list_of, tier, below, list_step, inside}
 use Rattle.read_rules.specs.Readings.{mapped, loop}
 use Rattle.expr_tiers.proofs.reader.+tiers.Given as goal
 
-abbrev pub decreases-read_neg : goal.decreases-read_neg
-decreases-read_neg g l = l.room * 4
+abbrev height : Joint → ℕ
+height joints.And = 1
+height joints.Or = 3
 
-abbrev pub decreases-read_conj : goal.decreases-read_conj
-decreases-read_conj g l = l.room * 4 + 1
+abbrev pub decreases-read_part : goal.decreases-read_part
+decreases-read_part g l = l.room * 8
 
-abbrev pub decreases-read_expr : goal.decreases-read_expr
-decreases-read_expr g l = l.room * 4 + 2
+abbrev pub decreases-read_below : goal.decreases-read_below
+decreases-read_below g l = l.room * 8 + height l.joint
+
+abbrev pub decreases-read_joined : goal.decreases-read_joined
+decreases-read_joined g l = l.room * 8 + height l.joint + 1
 
 -- What was read so far, in front of the steps on the rest, is the whole.
-abbrev pub invariant-read_expr-loop-behind : goal.invariant-read_expr-loop-behind
-invariant-read_expr-loop-behind g l =
+abbrev pub invariant-read_joined-loop-behind : goal.invariant-read_joined-loop-behind
+invariant-read_joined-loop-behind g l =
     let lang = g.L.ExprLanguage in
     record {
       some : 0 < vec_len l.parts;
-      whole : mapped (λ others. list_of lang.tiers.any (map lang.tree_of l.parts.items ++ others))
-          (loop (list_step lang.tiers.or_mark (conj lang.tiers l.room (inside lang.tiers l.room)))) (map lang.token_of l.rest)
-          ≡ expr lang.tiers l.room (map lang.token_of l.tokens);
+      whole : mapped (λ others. list_of (lang.tiers.joined l.joint) (map lang.tree_of l.parts.items ++ others))
+          (loop (list_step (lang.tiers.mark l.joint) (below lang.tiers l.joint l.room (inside lang.tiers l.room)))) (map lang.token_of l.rest)
+          ≡ tier lang.tiers l.joint l.room (inside lang.tiers l.room) (map lang.token_of l.tokens);
     }
 
-abbrev pub decreases-read_expr-loop-behind : goal.decreases-read_expr-loop-behind
-decreases-read_expr-loop-behind g l = length l.rest
-
-abbrev pub invariant-read_conj-loop-behind : goal.invariant-read_conj-loop-behind
-invariant-read_conj-loop-behind g l =
-    let lang = g.L.ExprLanguage in
-    record {
-      some : 0 < vec_len l.parts;
-      whole : mapped (λ others. list_of lang.tiers.all (map lang.tree_of l.parts.items ++ others))
-          (loop (list_step lang.tiers.and_mark (neg lang.tiers l.room (inside lang.tiers l.room)))) (map lang.token_of l.rest)
-          ≡ conj lang.tiers l.room (inside lang.tiers l.room) (map lang.token_of l.tokens);
-    }
-
-abbrev pub decreases-read_conj-loop-behind : goal.decreases-read_conj-loop-behind
-decreases-read_conj-loop-behind g l = length l.rest
+abbrev pub decreases-read_joined-loop-behind : goal.decreases-read_joined-loop-behind
+decreases-read_joined-loop-behind g l = length l.rest
