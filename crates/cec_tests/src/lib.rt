@@ -8,4 +8,6 @@
 #[cfg(test)]
 mod graphs;
 #[cfg(test)]
+mod sharing;
+#[cfg(test)]
 mod sources;

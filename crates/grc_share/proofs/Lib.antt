@@ -2,6 +2,18 @@ mod LoopNumbers
 mod RowsLive
 mod RootKeys
 mod SharedNames
+mod FirstRoots
+mod LeastInstances
+mod LoopEntries
+mod LoopCounting
+mod Leaders
+mod WireMembers
+mod WireLeast
+mod SharedNumbering
+mod SharedPairing
+mod Places
+mod MemberLists
 mod SharedWireNames
+mod FewStarts
 mod worked
 pub mod Exports

@@ -1,10 +1,10 @@
 -- Wires of a program are one shared wire exactly where they have one shared name.
-use Rattle.std.proofs.Common.{◌≡◌, ℕ, ◌+◌, ◌<◌, ◌≤◌, ◌==◌, ◌&&◌, ◌||◌, Bool, true, false, cond, List, [], ◌∷◌, refl, sym, ap, ◌∙◌, subst, ⊎_elim, arith}
+use Rattle.std.proofs.Common.{◌≡◌, ℕ, ◌==◌, ◌&&◌, Bool, true, false, cond, List, [], ◌∷◌, refl, sym, ap, ◌∙◌, subst, ⊎_elim}
 use Rattle.std.specs.List.{list_any}
-use Rattle.std.proofs.lemmas.Bool.{eq-eqb, eqb-true, false≢true, or_cases, and_parts, and_from, both_ways, cases_Bool}
-use Rattle.grc_graph.specs.Layers.{Layer, Resumed, Started, Liveness}
+use Rattle.std.proofs.lemmas.Bool.{eq-eqb, eqb-true, false≢true, or_cases, and_parts, and_from, both_ways}
+use Rattle.grc_graph.specs.Layers.{Layer, Resumed, Started}
 use Rattle.grc_graph.specs.Rows.{live_in}
-use Rattle.grc_share.specs.SharedInstances.{Sharing, key, one_instance, one_status}
+use Rattle.grc_share.specs.SharedInstances.{Sharing, key, one_instance}
 use Rattle.grc_share.specs.SharedWires.{first_root, shared_layer, status_layer}
 
 -- ---- the first root with a key

@@ -1,5 +1,5 @@
 -- Wires of a program are one shared wire exactly where they have one shared name.
-use Rattle.std.proofs.Common.{◌≡◌, ℕ, ◌+◌, ◌<◌, ◌≤◌, ◌==◌, ◌&&◌, Bool, true, false, refl, sym, ap, ◌∙◌, subst, arith}
+use Rattle.std.proofs.Common.{◌≡◌, ℕ, ◌==◌, ◌&&◌, true, sym, ap, ◌∙◌, subst, arith}
 use Rattle.std.specs.Prelude.{Contains, ⊤}
 use Rattle.std.proofs.lemmas.Bool.{eq-eqb, eqb-true, false≢true, and_parts, and_from}
 use Rattle.est_kernel.specs.Plain.{Program}
@@ -8,7 +8,7 @@ use Rattle.grc_graph.specs.GraphRuns.{program_wires}
 use Rattle.grc_graph.specs.Layers.{Layer}
 use Rattle.grc_graph.specs.Rows.{live_in}
 use Rattle.grc_graph.specs.Wires.{Wire, Out, Go, StatusOf, End}
-use Rattle.grc_graph.proofs.Exports.{IsGo, IsStatus, IsEnd, Kind, WireAt, wire_named, wire_only}
+use Rattle.grc_graph.proofs.Exports.{IsGo, IsStatus, IsEnd, Kind, wire_named, wire_only}
 use Rattle.grc_share.specs.SharedInstances.{Sharing, body_sharing, key, one_instance, one_status}
 use Rattle.grc_share.specs.SharedWires.{one_wire, shared_layer, shared_wire, status_layer}
 use Rattle.grc_share.proofs.RowsLive.{program_gives}

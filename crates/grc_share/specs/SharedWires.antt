@@ -1,5 +1,5 @@
 -- Contract: the shared wires of a program, each with the name of its least member, and the edges between them.
-use Rattle.std.specs.Prelude.{ℕ, Bool, false, ◌==◌, ◌&&◌, if◌then◌else◌, List, [], ◌∷◌, map, filter}
+use Rattle.std.specs.Prelude.{ℕ, Bool, true, false, ◌==◌, ◌&&◌, if◌then◌else◌, List, [], ◌∷◌, map, filter}
 use Rattle.est_kernel.specs.Plain.{Program}
 use Rattle.grc_graph.specs.Edges.{Edge, edge}
 use Rattle.grc_graph.specs.GraphRuns.{program_edges, program_wires}
@@ -52,6 +52,11 @@ shared_wire K (End n l k) = End n (shared_layer K n l) k
 -- the layers of a statement that name its shared instances
 abbrev pub shared_layers : Sharing → ℕ → List Layer
 shared_layers K n = filter (λ l. same_layer (shared_layer K n l) l) (layers_of (K.live n))
+
+-- whether a layer is that of a start
+abbrev pub is_started : Layer → Bool
+is_started Resumed = false
+is_started (Started r) = true
 
 -- the shared wires of a program, in the order of their least members
 abbrev pub shared_wires : Program → List Wire

@@ -3,5 +3,16 @@
 //! A statement of a kernel body is started at each root that can start it, and has an instance for each. Where one
 //! of two roots stands above the other and no loop body between them, they never start the statement in one
 //! instant, so that one instance can stand for both. The graph follows Potop-Butucaru, Edwards and Berry,
-//! "Compiling Esterel", where the surface of a statement is drawn once. This crate has definitions and lemmas alone.
+//! "Compiling Esterel", where the surface of a statement is drawn once. One call numbers the shared wires of a graph,
+//! another finds ranks of them along the edges between them, or a closed walk.
 #![tactic(auto)]
+
+mod least_members;
+mod loop_counts;
+mod numbering;
+mod placing;
+mod sharing;
+mod walking;
+
+pub use sharing::{SharedWires, shared_wires};
+pub use walking::shared_ranks_or_walk;

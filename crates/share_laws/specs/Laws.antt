@@ -1,6 +1,7 @@
 -- Contract: the laws of shared instances.
-use Rattle.std.specs.Prelude.{◌≡◌, ◌↔◌, ℕ, true, Bool, List, length, Contains}
+use Rattle.std.specs.Prelude.{◌≡◌, ◌↔◌, ◌<◌, ◌≤◌, ◌+◌, ℕ, true, Bool, List, length, filter, Contains}
 use Rattle.est_kernel.specs.Plain.{Program, given_count}
+use Rattle.est_kernel.specs.Preorder.{statement_count}
 use Rattle.est_kernel.specs.StaticCodes.{NoInstantLoop}
 use Rattle.est_kernel.specs.WellFormed.{IsKernel, IsWellFormed}
 use Rattle.grc_graph.specs.GraphRuns.{graph_of, program_wires, Solves}
@@ -10,7 +11,7 @@ use Rattle.grc_graph.specs.Selected.{IsState}
 use Rattle.grc_graph.specs.Walk.{State}
 use Rattle.grc_graph.specs.Wires.{Go, Wire}
 use Rattle.grc_share.specs.SharedInstances.{body_sharing, key, one_instance}
-use Rattle.grc_share.specs.SharedWires.{one_wire, shared_wire}
+use Rattle.grc_share.specs.SharedWires.{is_started, one_wire, shared_layers, shared_wire}
 
 -- In a solution of a program's graph, in a state of its body, of two instances of one statement for which this holds
 -- no two run.
@@ -36,3 +37,9 @@ NamesTellSharedWires =
     (p : Program) (u w : Wire) → IsKernel p.body → Contains (program_wires p) u → Contains (program_wires p) w
     → (one_wire (body_sharing p.body) u w ≡ true)
     ↔ (shared_wire (body_sharing p.body) u ≡ shared_wire (body_sharing p.body) w)
+
+-- A statement has at most one shared started instance more than there are loop bodies that it stands in or is.
+abbrev pub StartsAreFew : Type 0
+StartsAreFew =
+    (p : Program) (n : ℕ) → IsKernel p.body → n < statement_count p.body
+    → length (filter is_started (shared_layers (body_sharing p.body) n)) ≤ (body_sharing p.body).resumed n + 1

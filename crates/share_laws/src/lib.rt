@@ -8,4 +8,6 @@
 
 mod laws;
 
-pub use laws::{keys_tell_apart, members_exclude_each_other, names_tell_shared_wires};
+pub use laws::{
+    keys_tell_apart, members_exclude_each_other, names_tell_shared_wires, starts_are_few,
+};

@@ -1,0 +1,51 @@
+// The members of shared wires.
+
+ghost use Rattle.std.specs.Prelude.{◌≡◌, ◌++◌, ◌<◌, ◌^◌, [], ◌∷◌, ℕ, length, map, slice_index_or, slice_set, All, IfOk};
+ghost use Rattle.grc_share.specs.LeastMembers.{places_of};
+
+use est_base::{NoMemory, WireId};
+use std::alloc::Global;
+
+/// For each number the places that have it, ascending.
+pub(crate) fn places_by_number(
+    alloc: Global,
+    count: usize,
+    numbers: &[u32],
+) -> Result<Vec<Vec<WireId>>, NoMemory>
+    requires few { length numbers.now < 2 ^ 32 }
+    requires within { All (λ k. k < count) numbers.now }
+    ensures each { IfOk result (λ v. length v.items ≡ count) }
+    ensures places { IfOk result (λ v. (k : ℕ) → k < count
+        → slice_index_or (map (λ list. list.items) v.items) k [] ≡ places_of k 0 numbers.now) }
+{
+    let mut lists = empty_lists(alloc, count)?;
+    for w in 0..numbers.len() {
+        push_wire(&mut lists, numbers[w] as usize, WireId(w as u32))?;
+    }
+    Ok(lists)
+}
+
+// So many empty lists.
+fn empty_lists(alloc: Global, count: usize) -> Result<Vec<Vec<WireId>>, NoMemory>
+    ensures length { IfOk result (λ v. length v.items ≡ count) }
+    ensures empty { IfOk result (λ v. All (λ list. list ≡ []) (map (λ list. list.items) v.items)) }
+{
+    let mut lists = Vec::with_capacity(alloc, count)?;
+    for made in 0..count {
+        lists.push(Vec::new(alloc))?;
+    }
+    Ok(lists)
+}
+
+// Appends a wire to one of the lists.
+fn push_wire(lists: &mut Vec<Vec<WireId>>, place: usize, wire: WireId) -> Result<(), NoMemory>
+    requires { place < length lists.old.items }
+    ensures length { length lists.new.items ≡ length lists.old.items }
+    ensures lists { IfOk result (λ u. map (λ v. v.items) lists.new.items ≡
+        slice_set (map (λ v. v.items) lists.old.items)
+        place (slice_index_or (map (λ v. v.items) lists.old.items) place [] ++ wire ∷ [])) }
+{
+    let list = &mut lists[place];
+    list.push(wire)?;
+    Ok(())
+}

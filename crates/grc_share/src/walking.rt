@@ -1,0 +1,53 @@
+// Whether the edges between shared wires have a closed walk.
+
+ghost use Rattle.std.specs.Prelude.{◌≡◌, ◌↔◌, ◌<◌, ℕ, List, length, map, All, IfOk, IsTrue};
+ghost use Rattle.digraph.specs.Answers.{is_cycle};
+ghost use Rattle.est_kernel.specs.Plain.{program_of};
+ghost use Rattle.grc_graph.specs.GraphRuns.{program_edges};
+ghost use Rattle.grc_graph.specs.NumberedEdges.{AreEdgesOf};
+ghost use Rattle.grc_graph.specs.PlainGraphs.{names_of};
+ghost use Rattle.grc_share.specs.SharedNumbers.{IsSharedAnswer, IsSharedWalk};
+ghost use Rattle.grc_share.specs.SharedPairs.{numbered_pairs};
+
+use crate::sharing::{SharedWires, shared_wires};
+use digraph::{RanksOrCycle, ranks_or_cycle};
+use est_base::{NoMemory, WireId};
+use grc_graph::{Edges, Graph};
+use grc_solutions::edges_join_wires;
+use std::alloc::{AllocError, Global};
+
+/// Ranks of the shared wires of a graph, which each edge between them goes up in, or a closed walk, exactly where there
+/// is one. The edges are those of the graph. The time is linear in the wires and edges but for the search of status
+/// wires; the error is want of memory.
+pub fn shared_ranks_or_walk(
+    alloc: Global,
+    graph: &Graph,
+    edges: &Edges,
+) -> Result<RanksOrCycle, NoMemory>
+    requires { AreEdgesOf (names_of graph.now) (program_edges (program_of graph.now.program)) edges.now.pairs.items }
+    ensures found { IfOk result (IsSharedAnswer (program_of graph.now.program)) }
+    // The answer is a closed walk exactly where there is one.
+    ensures cyclic { IfOk result (λ r. IsTrue (is_cycle r)
+        ↔ ((walk : List ℕ) × IsSharedWalk (program_of graph.now.program) walk)) }
+{
+    edges_join_wires();
+    let shared = shared_wires(alloc, graph)?;
+    let pairs = pairs_between(alloc, &shared.numbers, &edges.pairs)?;
+    Ok(ranks_or_cycle(alloc, shared.least.len() as u32, &pairs)?)
+}
+
+// The edges between those with these numbers: one for each edge.
+fn pairs_between(
+    alloc: Global,
+    numbers: &[u32],
+    edges: &[(WireId, WireId)],
+) -> Result<Vec<(u32, u32)>, AllocError>
+    requires { All (λ e. (e.0.0 < length numbers.now) × (e.1.0 < length numbers.now)) edges.now }
+    ensures { IfOk result (λ v. v.items ≡ numbered_pairs numbers.now edges.now) }
+{
+    let mut pairs: Vec<(u32, u32)> = Vec::with_capacity(alloc, edges.len())?;
+    for (from, to) in edges {
+        pairs.push((numbers[from.0 as usize], numbers[to.0 as usize]))?;
+    }
+    Ok(pairs)
+}
