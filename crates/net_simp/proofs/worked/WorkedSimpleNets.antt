@@ -1,11 +1,12 @@
 -- Worked nets, by hand: what in a net is left to simplify, one cause each.
-use Rattle.std.proofs.Common.{◌≡◌, ℕ, true, false, None, Some, List, [], ◌∷◌, map, codes, refl, sym, inl, inr, arith, rules, lit<}
+use Rattle.std.proofs.Common.{◌≡◌, ℕ, true, false, None, Some, List, [], ◌∷◌, map, codes, refl, sym, ap, slice_index_or, inl, inr, arith, rules, lit<, lit≤}
 use Rattle.std.proofs.lemmas.Bool.{true≢false}
 use Rattle.est_base.specs.declared.indices.NetId.{NetId}
 use Rattle.net_ir.specs.declared.netlist.Op.{Op}
 use Rattle.net_ir.specs.declared.netlist.Op.TheVariants.{Const, Copy, Not, And, Or}
 use Rattle.net_ir.specs.declared.netlist.Gate.{Gate}
 use Rattle.net_ir.specs.Netlists.{Netlist}
+use Rattle.net_simp.specs.SameRuns.{carried_values, SameParts, SameInstants}
 use Rattle.net_simp.specs.SimpleNets.{EachFormOnce, EachIsReduced, NoCopies, IsNoCopy, Computes, ReadsComputed, ReadsNoneTwice, EachIsUsed}
 use Rattle.net_simp.specs.SimpleNets.{OperandsDiffer, reads, is_used}
 
@@ -76,3 +77,39 @@ who_is_used = refl
 
 a_gate_for_none : EachIsUsed in_each_way → ⊥
 a_gate_for_none h = true≢false (sym (h 4 any_gate (lit< tt) refl))
+
+-- ---- what a simplified net has in common with the one that it is made from
+
+abbrev carrying : Op → Gate
+carrying op = record { op = op; wire = Some (record { 0 = 9 }) }
+
+what_is_carried : carried_values 1 (gate (Const true) ∷ carrying (Const true) ∷ gate (Const true) ∷ carrying (Const true) ∷ [])
+    (false ∷ false ∷ true ∷ true ∷ false ∷ []) ≡ true ∷ false ∷ []
+what_is_carried = refl
+
+the_same_parts : SameParts in_each_way in_each_way
+the_same_parts = record { name = refl; inputs = refl; outputs = refl; latches = refl; carries = refl; fewer = lit≤ tt }
+
+one_gate_more : SameParts (with_gates []) (with_gates (gate (Const true) ∷ [])) → ⊥
+one_gate_more h = let few = h.fewer in omega (arith, few)
+
+another_name : SameParts in_each_way (record in_each_way { name = [] }) → ⊥
+another_name h = let e = h.name in cc
+
+another_input : SameParts in_each_way (record in_each_way { inputs = codes "A" ∷ [] }) → ⊥
+another_input h = let e = h.inputs in cc
+
+another_output : SameParts in_each_way (record in_each_way { outputs = [] }) → ⊥
+another_output h = let e = h.outputs in cc
+
+another_start : SameParts in_each_way (record in_each_way { latches = record { init = true; from = net 6 } ∷ [] }) → ⊥
+another_start h = let e = h.latches in cc
+
+another_wire : SameParts (with_gates (carrying (Const true) ∷ [])) (with_gates (gate (Const true) ∷ [])) → ⊥
+another_wire h = let e = h.carries in cc
+
+another_paused : SameInstants in_each_way (record in_each_way { paused = 4 }) → ⊥
+another_paused h = true≢false (ap (λ s. s.paused) (h (false ∷ []) (true ∷ false ∷ []) refl refl).shows)
+
+another_next_value : SameInstants in_each_way (record in_each_way { latches = record { init = false; from = net 4 } ∷ [] }) → ⊥
+another_next_value h = true≢false (ap (λ bits. slice_index_or bits 0 false) (h (false ∷ []) (true ∷ false ∷ []) refl refl).next)
