@@ -7,6 +7,7 @@ use Rattle.net_ir.specs.declared.netlist.Gate.{Gate}
 use Rattle.net_ir.specs.declared.netlist.NetOut.{NetOut}
 use Rattle.net_ir.specs.Gates.{carried, gate_values, operand_end, value_in}
 use Rattle.est_base.specs.Names.{is_name}
+use Rattle.net_ir.specs.NameLists.{is_among, first_again}
 use Rattle.net_ir.specs.Netlists.{Netlist, IsNet, net_count}
 use Rattle.net_ir.specs.Runs.{Shown, net_values, net_run}
 
@@ -52,6 +53,13 @@ above_what_is_read = refl
 
 what_is_no_net_is_false : value_in (true ∷ []) 1 ≡ false
 what_is_no_net_is_false = refl
+
+among : map (λ name. is_among name (codes "A" ∷ codes "B" ∷ [])) (codes "A" ∷ codes "B" ∷ codes "C" ∷ codes "AB" ∷ []) ≡ true ∷ true ∷ false ∷ false ∷ []
+among = refl
+
+again : first_again [] (codes "A" ∷ codes "B" ∷ codes "C" ∷ codes "B" ∷ codes "A" ∷ []) ∷ first_again [] (codes "A" ∷ codes "B" ∷ [])
+    ∷ first_again (codes "B" ∷ []) (codes "A" ∷ codes "B" ∷ codes "A" ∷ []) ∷ [] ≡ Some (codes "B") ∷ None ∷ Some (codes "B") ∷ []
+again = refl
 
 names : map is_name (codes "a_1" ∷ codes "Z" ∷ codes "_a" ∷ codes "1a" ∷ codes "a.b" ∷ [] ∷ []) ≡ true ∷ true ∷ false ∷ false ∷ false ∷ false ∷ []
 names = refl
