@@ -309,3 +309,10 @@ verilog_words_14 = refl
 
 verilog_words_15 : asked_by (codes "blif" ∷ codes "--via" ∷ codes "verilog" ∷ codes "a" ∷ []) ≡ None
 verilog_words_15 = refl
+
+-- no file and no value is empty
+an_empty_file : asked_by (codes "blif" ∷ [] ∷ []) ≡ None
+an_empty_file = refl
+
+an_empty_value : asked_by (codes "blif" ∷ codes "--main" ∷ [] ∷ codes "a" ∷ []) ≡ None
+an_empty_value = refl
