@@ -8,4 +8,5 @@ mod SourceNames
 mod FormedPrograms
 mod OneProgram
 pub mod Unrefused
+mod worked
 pub mod Exports

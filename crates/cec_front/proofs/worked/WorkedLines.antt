@@ -1,0 +1,75 @@
+-- Worked lines, by hand: a place on the first line, on a later one and at the end of the text, and what is said of each refusal.
+use Rattle.std.proofs.Common.{◌≡◌, ℕ, [], ◌∷◌, ◌++◌, List, map, codes, refl}
+use Rattle.std.specs.Fmt.{digits}
+use Rattle.est_base.specs.declared.place.Span.{Span}
+use Rattle.est_ast.specs.declared.tokens.Token.{Token}
+use Rattle.est_ast.specs.declared.tokens.Kind.TheVariants as kinds
+use Rattle.est_names.specs.declared.refusal.NameFault.TheVariants as naming
+use Rattle.est_expand.specs.declared.refusal.ExpandFault.TheVariants as expanding
+use Rattle.cec_front.specs.declared.refusal.Fault.TheVariants as faults
+use Rattle.cec_front.specs.declared.refusal.Quantity.TheVariants as quantities
+use Rattle.cec_front.specs.declared.refusal.Refusal.{Refusal}
+use Rattle.cec_front.specs.declared.refusal.Refusal.TheVariants.{Static, Limit, NoMemory}
+use Rattle.cec_front.specs.Lines.{refusal_line}
+use Rattle.cec_front.specs.Positions.{Position, position}
+use Rattle.cec_front.specs.Refusals.{token_place}
+
+abbrev at : ℕ → ℕ → Position
+at line column = record { line = line; column = column }
+
+-- two letters, a line feed, one letter, two line feeds, and one letter
+abbrev source : List ℕ
+source = codes "ab\nc\n\nd"
+
+places : map (position source) (0 ∷ 1 ∷ 2 ∷ 3 ∷ 4 ∷ 5 ∷ 6 ∷ 7 ∷ [])
+    ≡ at 1 1 ∷ at 1 2 ∷ at 1 3 ∷ at 2 1 ∷ at 2 2 ∷ at 3 1 ∷ at 4 1 ∷ at 4 2 ∷ []
+places = refl
+
+-- a carriage return and a tab are bytes as any
+other_bytes : position (13 ∷ 9 ∷ 10 ∷ 13 ∷ []) 2 ∷ position (13 ∷ 9 ∷ 10 ∷ 13 ∷ []) 4 ∷ [] ≡ at 1 3 ∷ at 2 2 ∷ []
+other_bytes = refl
+
+abbrev token : ℕ → ℕ → Token
+token start end = record { kind = kinds.Number 1; span = record { start = start; end = end } }
+
+places_of_tokens : map (token_place source (token 1 2 ∷ token 3 4 ∷ [])) (0 ∷ 1 ∷ 2 ∷ 3 ∷ []) ≡ 1 ∷ 3 ∷ 7 ∷ 7 ∷ []
+places_of_tokens = refl
+
+-- ---- lines, where the main module is asked for as M
+
+abbrev line : Refusal → List ℕ
+line = refusal_line (codes "M") source
+
+abbrev span : Span
+span = record { start = 3; end = 4 }
+
+of_tokens : map line (Static (faults.BadByte 3) ∷ Static (faults.OpenComment 0) ∷ Static (faults.BigNumber 4) ∷ Static (faults.Syntax 5 7) ∷ [])
+    ≡ codes "cec: 2:1: bad byte\n" ∷ codes "cec: 1:1: open comment\n" ∷ codes "cec: 2:2: number too large\n" ∷ codes "cec: 4:2: syntax\n" ∷ []
+unfolding digits
+of_tokens = refl
+
+of_names : map (λ fault. line (Static (faults.Name fault))) (naming.DuplicateModule span ∷ naming.NoMain ∷ naming.DuplicateSignal span ∷ naming.RelationName span ∷ [])
+    ≡ codes "cec: 2:1: module declared twice\n" ∷ codes "cec: no module M\n" ∷ codes "cec: 2:1: signal declared twice\n" ∷ codes "cec: 2:1: not an input\n" ∷ []
+unfolding digits
+of_names = refl
+
+of_runs : map (λ fault. line (Static (faults.Expand fault))) (expanding.UnknownModule span ∷ expanding.BadRename span ∷ expanding.UnknownSignal span
+    ∷ expanding.Unbound span (codes "S") ∷ expanding.UnknownTrap span ∷ expanding.EmitInput span ∷ [])
+    ≡ codes "cec: 2:1: unknown module\n" ∷ codes "cec: 2:1: bad renaming\n" ∷ codes "cec: 2:1: unknown signal\n" ∷ codes "cec: 2:1: unbound S\n"
+    ∷ codes "cec: 2:1: unknown trap\n" ∷ codes "cec: 2:1: input emitted\n" ∷ []
+unfolding digits
+of_runs = refl
+
+of_counts_and_loops : map line (Static (faults.BadCount span) ∷ Static (faults.InstantLoop span) ∷ [])
+    ≡ codes "cec: 2:1: bad count\n" ∷ codes "cec: 2:1: instantaneous loop\n" ∷ []
+unfolding digits
+of_counts_and_loops = refl
+
+of_limits : map (λ quantity. line (Limit quantity)) (quantities.Nesting ∷ quantities.Statements ∷ quantities.Signals ∷ quantities.Kernel ∷ quantities.Height
+    ∷ quantities.Traps ∷ [])
+    ≡ codes "cec: limit: nesting\n" ∷ codes "cec: limit: statements\n" ∷ codes "cec: limit: signals\n" ∷ codes "cec: limit: kernel\n"
+    ∷ codes "cec: limit: height\n" ∷ codes "cec: limit: traps\n" ∷ []
+of_limits = refl
+
+of_memory : line NoMemory ≡ codes "cec: out of memory\n"
+of_memory = refl
