@@ -1,4 +1,4 @@
--- Contract: what the guarded C text of a source is.
+-- To believe: what the guarded C text of a source is.
 use Rattle.std.specs.Prelude.{◌≡◌, ℕ, List, ◌++◌, map, Option, codes}
 use Rattle.est_base.specs.declared.indices.WireId.{WireId}
 use Rattle.est_kernel.specs.Plain.{Program, given_names, outgoing_names}

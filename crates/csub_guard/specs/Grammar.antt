@@ -1,4 +1,4 @@
--- Contract: the grammar of guarded texts, as a relation between whole lists of tokens and what is written. In words,
+-- To believe: the grammar of guarded texts, as a relation between whole lists of tokens and what is written. In words,
 -- with the rules of the C subset for states, globals, locals, assignments and what is returned:
 --
 --   text   = { state } { global } "int" "react" "(" "void" ")" "{" { local } { assign | block } "return" expr ";" "}"

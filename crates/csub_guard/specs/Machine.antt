@@ -1,4 +1,4 @@
--- Contract: the machine of a guarded program, over items, and how many assignments its calls run.
+-- To believe: the machine of a guarded program, over items, and how many assignments its calls run.
 use Rattle.std.specs.Prelude.{ℕ, ◌+◌, Bool, List, [], ◌∷◌, map, filter, length, sum, if◌then◌else◌}
 use Rattle.est_base.specs.Items.{Item}
 use Rattle.machines.specs.Machines.{Machine, computed, run_from}

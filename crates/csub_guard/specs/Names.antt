@@ -1,5 +1,5 @@
--- Contract: the rules on names of guarded programs. All declared names differ; each name that is used is declared, and
--- no input is assigned; a block tests a local, and in a block only locals are assigned. A local is assigned at one
+-- To believe: the rules on names of guarded programs. All declared names differ; each name that is used is declared,
+-- and no input is assigned; a block tests a local, and in a block only locals are assigned. A local is assigned at one
 -- place, or once in each half of one block. A local is read only after it was assigned outside of blocks, or in both
 -- halves of one block, or, in a half under a test, in the same kind of half under the same test; the local of a test
 -- was assigned outside of blocks. The first rule that is broken counts, at its first place in the text.

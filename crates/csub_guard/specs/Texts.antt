@@ -1,4 +1,4 @@
--- Contract: which guarded program a text describes.
+-- To believe: which guarded program a text describes.
 use Rattle.std.specs.Prelude.{◌≡◌, ℕ, List, None}
 use Rattle.csub_text.specs.Texts.{nesting_limit}
 use Rattle.csub_guard.specs.Tokens.{kinds}

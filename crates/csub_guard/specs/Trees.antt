@@ -1,4 +1,4 @@
--- Contract: guarded programs as plain trees, without where they lie in memory.
+-- To believe: guarded programs as plain trees, without where they lie in memory.
 use Rattle.std.specs.Prelude.{ℕ, List}
 use Rattle.csub_text.specs.Trees.{State, Assign, Expr}
 

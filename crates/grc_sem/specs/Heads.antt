@@ -1,4 +1,4 @@
--- Contract: the heads of a graph, and the region of each: what may be skipped where the head does not run.
+-- To believe: the heads of a graph, and the region of each: what may be skipped where the head does not run.
 --
 -- A head is a live instance of one of three kinds: the body, resumed; a part of a parallel, resumed; and the place
 -- where a start begins, in the layer of that start. The head of a started instance is the place where its start began;

@@ -1,6 +1,6 @@
--- Contract: the guarded program that stands for a netlist whose gates belong so to heads, and its text. The gates of a
--- head that stand one behind another are a block, whose first half computes them, and whose second half gives 0 to
--- those that something beside gates of the head uses.
+-- To believe: the guarded program that stands for a netlist whose gates belong so to heads, and its text. The gates
+-- of a head that stand one behind another are a block, whose first half computes them, and whose second half gives 0
+-- to those that something beside gates of the head uses.
 use Rattle.std.specs.Prelude.{ℕ, ◌+◌, ◌-◌, ◌<◌, Bool, true, false, ◌==◌, if◌then◌else◌, List, [], ◌∷◌, ◌++◌, map}
 use Rattle.std.specs.Prelude.{take, drop, filter, flat_map, codes, Option, Some, None, ⊤}
 use Rattle.net_ir.specs.declared.netlist.Gate.{Gate}

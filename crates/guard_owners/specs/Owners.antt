@@ -1,4 +1,4 @@
--- Contract: which gates of a netlist belong to which head, and which of them its own gates alone use.
+-- To believe: which gates of a netlist belong to which head, and which of them its own gates alone use.
 --
 -- A head is told by the place of the gate that says whether it runs; `region` says of a gate that carries a wire of
 -- some head's region which head that is. A gate belongs to a head where it stands behind the head's gate, and lies in

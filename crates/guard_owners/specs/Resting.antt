@@ -1,4 +1,4 @@
--- Contract: regions at rest in an instant of a netlist.
+-- To believe: regions at rest in an instant of a netlist.
 use Rattle.std.specs.Prelude.{◌≡◌, ℕ, ◌+◌, ◌<◌, Bool, false, List, length, slice_index_or, Option, Some, None}
 use Rattle.est_base.specs.declared.indices.WireId.{WireId}
 use Rattle.net_ir.specs.declared.netlist.Gate.{Gate}

@@ -1,4 +1,4 @@
--- Contract: the regions of a graph's wires, by number.
+-- To believe: the regions of a graph's wires, by number.
 use Rattle.std.specs.Prelude.{◌≡◌, ℕ, ◌<◌, List, length, slice_index_or, Option, Some, None}
 use Rattle.est_base.specs.declared.indices.WireId.{WireId}
 use Rattle.est_kernel.specs.Plain.{program_of}

@@ -1,4 +1,4 @@
--- Contract: what the guarded text of a netlist means, where wires lie in these regions.
+-- To believe: what the guarded text of a netlist means, where wires lie in these regions.
 use Rattle.std.specs.Prelude.{◌≡◌, ℕ, ◌+◌, ◌-◌, Bool, false, not, List, length, map, count_by, All, Option}
 use Rattle.est_base.specs.Items.{Item, EachEvent}
 use Rattle.est_base.specs.declared.indices.WireId.{WireId}

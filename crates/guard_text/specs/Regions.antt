@@ -1,4 +1,4 @@
--- Contract: the regions of gates by those of the wires that they carry.
+-- To believe: the regions of gates by those of the wires that they carry.
 use Rattle.std.specs.Prelude.{ℕ, ◌+◌, Bool, false, ◌==◌, if◌then◌else◌, List, [], ◌∷◌, Option, Some, None}
 use Rattle.std.specs.Prelude.{option_and_then, slice_get, slice_index_or}
 use Rattle.est_base.specs.declared.indices.WireId.{WireId}

@@ -1,4 +1,4 @@
--- Contract: what the guarded text of a netlist means, over all items.
+-- To believe: what the guarded text of a netlist means, over all items.
 use Rattle.std.specs.Prelude.{◌≡◌, ◌-◌, ℕ, List, length, map, Option}
 use Rattle.est_base.specs.Items.{Item, EachEvent}
 use Rattle.est_base.specs.declared.indices.WireId.{WireId}

@@ -48,7 +48,8 @@ of_tokens : map line (Static (faults.BadByte 3) ∷ Static (faults.OpenComment 0
 unfolding digits
 of_tokens = refl
 
-of_names : map (λ fault. line (Static (faults.Name fault))) (naming.DuplicateModule span ∷ naming.NoMain ∷ naming.DuplicateSignal span ∷ naming.RelationName span ∷ [])
+of_names : map (λ fault. line (Static (faults.Name fault))) (naming.DuplicateModule span ∷ naming.NoMain ∷ naming.DuplicateSignal span
+    ∷ naming.RelationName span ∷ [])
     ≡ codes "cec: 2:1: module declared twice\n" ∷ codes "cec: no module M\n" ∷ codes "cec: 2:1: signal declared twice\n" ∷ codes "cec: 2:1: not an input\n" ∷ []
 unfolding digits
 of_names = refl
