@@ -6,3 +6,4 @@ mod SpelledPrograms
 mod WorkedNestings
 mod WorkedTokens
 mod WorkedLexemes
+mod WorkedGrammar

@@ -2,3 +2,4 @@
 mod Examples
 mod InstanceExamples
 mod WorkedReadings
+mod WorkedNames

@@ -1,3 +1,4 @@
 mod Following
 mod Showing
+mod worked
 pub mod Exports

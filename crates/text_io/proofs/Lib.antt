@@ -1,4 +1,5 @@
 pub mod Pieces
 mod Reading
 mod Lines
+mod worked
 pub mod Exports

@@ -5,4 +5,5 @@ mod Fronts
 mod Events
 mod Written
 mod Pauses
+mod worked
 pub mod Exports

@@ -1,17 +1,18 @@
 -- Worked values, by hand: sets of completion codes, counts of faults, files and sinks in memory, and what a write appends.
-use Rattle.std.specs.Prelude.{◌≡◌, ℕ, ◌-◌, ◌^◌, Bool, true, false, List, [], ◌∷◌, filter, map, Some, None, Ok, Err, nat_le, nat_lt, length}
-use Rattle.std.proofs.Common.{refl, arith, lit<, lit≤}
-use Rattle.std.proofs.lemmas.Bool.{false≢true}
+use Rattle.std.specs.Prelude.{◌≡◌, ℕ, ◌-◌, ◌^◌, Bool, List, [], ◌∷◌, filter, Some, None, Ok, Err, length}
+use Rattle.std.proofs.Common.{refl, arith, lit≤}
 use Rattle.est_base.specs.declared.files.entry.FileEntry.{FileEntry}
 use Rattle.est_base.specs.declared.files.reading.FileFault.TheVariants as files
 use Rattle.est_base.specs.declared.sinks.writing.SinkFault.TheVariants as sinks
 use Rattle.est_base.specs.Codes.{no_code, only, either, except, upto, maxima, lowered}
 use Rattle.est_base.specs.Faults.{one_more, Rose}
-use Rattle.est_base.specs.FileEntry.{bytes_under, held, MapState, after_call, GivesWithin, AnswersNext}
-use Rattle.est_base.specs.Reading.{Reads, Counts}
-use Rattle.est_base.specs.SinkChanges.{SinkChange, IsUntouched}
-use Rattle.est_base.specs.SinkState.{Kept, told_of, after_piece, ListState, after_write, AnswersWrite}
-use Rattle.est_base.specs.Writing.{Gains, GainsFront, Appends, Stops, Wrote}
+use Rattle.est_base.specs.FileEntry.{bytes_under, held, MapState, after_call, GivesWithin}
+use Rattle.std.specs.Prelude.{Vec}
+use Rattle.std.specs.declared.alloc.Global.{Global}
+use Rattle.est_base.specs.Reading.{Reads, ReadsWhole}
+use Rattle.est_base.specs.SinkChanges.{IsUntouched}
+use Rattle.est_base.specs.SinkState.{Kept, told_of, after_piece, ListState, after_write}
+use Rattle.est_base.specs.Writing.{Gains, GainsFront, Wrote}
 
 -- ---- sets of codes, those below 5
 
@@ -138,6 +139,15 @@ never_fails h = h
 
 read_within_its_limit : Reads (Some (λ name. 1 ∷ 2 ∷ [])) (65 ∷ []) 2 (Err files.TooLong) → ⊥
 read_within_its_limit low = omega (arith, low)
+
+read_up_to_its_limit : (bytes : Vec ℕ Global) → length bytes.items ≡ 2 → Reads None (65 ∷ []) 2 (Ok bytes)
+read_up_to_its_limit bytes e = omega (arith, e)
+
+read_beyond_its_limit : (bytes : Vec ℕ Global) → length bytes.items ≡ 3 → Reads None (65 ∷ []) 2 (Ok bytes) → ⊥
+read_beyond_its_limit bytes e low = omega (arith, e, low)
+
+whole_within_its_limit : ReadsWhole (Some (1 ∷ 2 ∷ [])) 2 None → ⊥
+whole_within_its_limit low = omega (arith, low)
 
 -- ---- a sink before and behind a call
 
