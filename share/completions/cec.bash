@@ -11,8 +11,8 @@ _cec() {
     fi
     case $before in
     --via)
-        local ways="blif c verilog"
-        [ "$given" = run ] && ways="blif c verilog tri"
+        local ways="blif c guard verilog"
+        [ "$given" = run ] && ways="blif c guard verilog tri"
         mapfile -t COMPREPLY < <(compgen -W "$ways" -- "$now")
         return
         ;;
@@ -31,7 +31,8 @@ _cec() {
         local options=
         case $given in
         blif) options="--main --pick --encode" ;;
-        c | verilog) options="--main --pick" ;;
+        c) options="--main --pick --guard" ;;
+        verilog) options="--main --pick" ;;
         grc | check) options="--main" ;;
         run) options="--via --main --pick --encode" ;;
         exec) options="--via" ;;

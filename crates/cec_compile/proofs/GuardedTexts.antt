@@ -21,10 +21,12 @@ use Rattle.rest_laws.specs.Guarded.{GuardedRuns}
 use Rattle.rest_laws.proofs.Exports.{guarded_texts_run_lem}
 use Rattle.cec_compile.specs.Compiling.{IsCompiled, StandsForNet}
 use Rattle.cec_compile.specs.Following.{FollowsGraph}
-use Rattle.cec_compile.specs.GuardedTexts.{GuardedTextKeeps, IsGuardedText, guarded_seen}
+use Rattle.cec_compile.specs.GuardedTexts.{GuardedTextKeeps, guarded_seen}
 use Rattle.cec_compile.specs.MadeGuarded.{IsGuardedBy}
 use Rattle.cec_compile.specs.NetMeaning.{NetKeeps}
+use Rattle.cec_compile.specs.SourceTexts.{IsSourceText}
 use Rattle.cec_compile.specs.declared.compiler.Compiled.{Compiled}
+use Rattle.cec_compile.specs.declared.forms.TextForm.TheVariants as forms
 use Rattle.cec_compile.proofs.Joined.{given-few, inputs_wide, kernel_of}
 use Rattle.cec_compile.proofs.Keeping.{called, calls-seen, map-variables, widths}
 
@@ -66,13 +68,13 @@ guarded_by c p regions text h follows are spelled means = record {
 }
 
 pub guarded_is : (bytes : List ℕ) (main : Option (List ℕ)) (c : Compiled) (text : List ℕ) → StandsForNet bytes main c → IsGuardedBy c text
-    → IsGuardedText main bytes text
-guarded_is bytes main c text s g = record {
-  stands = record {
+    → IsSourceText forms.Guarded main bytes text
+guarded_is bytes main c text s g = (
+  record {
     program = s.program;
     source = s.source;
     compiles = s.compiled.compiles;
     keeps = guarded_keeps text (netlist_of c.net) g.regions s.program (given-few s.program s.compiled.formed) s.compiled.keeps g.runs;
-  };
-  is = record { made = c; compiled = s; regions = g.regions; are = g.are; text = g.spelled; runs = g.runs };
-}
+  },
+  record { made = c; compiled = s; regions = g.regions; are = g.are; text = g.spelled; runs = g.runs },
+)

@@ -95,6 +95,7 @@ made_keeps form bytes main made m = net_keeps form m.compiled m.source.program (
     net_keeps forms.Blif c p net h own = subst (λ n. NetKeeps n p) (sym own) h.keeps
     net_keeps forms.EncodedBlif c p net h e = e.keeps
     net_keeps forms.C c p net h own = subst (λ n. NetKeeps n p) (sym own) h.keeps
+    net_keeps forms.Guarded c p net h own = subst (λ n. NetKeeps n p) (sym own) h.keeps
     net_keeps forms.Verilog c p net h own = subst (λ n. NetKeeps n p) (sym own) h.keeps
 
 -- what was collected of a text

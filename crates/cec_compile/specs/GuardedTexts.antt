@@ -52,8 +52,3 @@ pub record IsGuardedOf (bytes : List ℕ) (main : Option (List ℕ)) (written : 
   pub text : written ≡ guarded_text (netlist_of made.net)
       (owners (netlist_of made.net) (region_by (netlist_of made.net) regions))
   pub runs : GuardedRuns written (netlist_of made.net) regions
-
--- both
-pub record IsGuardedText (main : Option (List ℕ)) (bytes written : List ℕ) : Type 0 where
-  pub stands : StandsForGuarded bytes main written
-  pub is : IsGuardedOf bytes main written

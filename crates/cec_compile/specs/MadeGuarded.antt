@@ -9,7 +9,7 @@ use Rattle.guard_text.specs.Regions.{region_by}
 use Rattle.rest_laws.specs.Guarded.{GuardedRuns}
 use Rattle.cec_compile.specs.MadeNets.{IsMade}
 use Rattle.cec_compile.specs.declared.compiler.Compiled.{Compiled}
-use Rattle.cec_compile.specs.declared.forms.TextForm.TheVariants.{C}
+use Rattle.cec_compile.specs.declared.forms.TextForm.TheVariants.{Guarded}
 use Rattle.cec_compile.specs.declared.guarded_texts.GuardedMade.{GuardedMade}
 
 -- the text is written of the netlist by the regions of the graph, and means it
@@ -27,5 +27,5 @@ pub record MeansGuarded (text : List ℕ) (g : GuardedMade) : Type 0 where
 
 -- the bytes stand for the program, and the text means its netlist
 pub record IsMadeGuarded (bytes : List ℕ) (main : Option (List ℕ)) (g : GuardedMade) : Type 0 where
-  pub made : IsMade C bytes main g.made
+  pub made : IsMade Guarded bytes main g.made
   pub means : MeansGuarded g.text.items g

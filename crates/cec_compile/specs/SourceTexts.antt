@@ -2,6 +2,7 @@
 use Rattle.std.specs.Prelude.{ℕ, List, Option}
 use Rattle.cec_compile.specs.Compiling.{StandsForText, StandsForC, StandsForVerilog, IsBlifOf, IsCOf, IsVerilogOf}
 use Rattle.cec_compile.specs.EncodedTexts.{StandsForEncoded, IsEncodedBlifOf}
+use Rattle.cec_compile.specs.GuardedTexts.{StandsForGuarded, IsGuardedOf}
 use Rattle.cec_compile.specs.declared.forms.TextForm.{TextForm}
 use Rattle.cec_compile.specs.declared.forms.TextForm.TheVariants as forms
 
@@ -12,4 +13,5 @@ IsSourceText forms.Blif main source text = StandsForText source main text × IsB
 IsSourceText forms.EncodedBlif main source text =
     StandsForEncoded source main text × IsEncodedBlifOf source main text
 IsSourceText forms.C main source text = StandsForC source main text × IsCOf source main text
+IsSourceText forms.Guarded main source text = StandsForGuarded source main text × IsGuardedOf source main text
 IsSourceText forms.Verilog main source text = StandsForVerilog source main text × IsVerilogOf source main text

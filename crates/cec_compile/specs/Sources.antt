@@ -8,6 +8,7 @@ use Rattle.cec_compile.specs.declared.forms.TextForm.TheVariants as forms
 use Rattle.cec_compile.specs.declared.refusal.Refusal as refused
 use Rattle.cec_compile.specs.Compiling.{IsVerilogOf}
 use Rattle.cec_compile.specs.EncodedTexts.{IsEncodedBlifOf}
+use Rattle.cec_compile.specs.GuardedTexts.{IsGuardedOf}
 use Rattle.cec_compile.specs.Refusals.{Compiles, IsRefused}
 
 -- The bytes stand for a program that compiles.
@@ -33,5 +34,6 @@ pub record HasLongText (IsOf : List ℕ → Option (List ℕ) → List ℕ → T
 -- no text of another form than these is too long
 abbrev pub WritesLongText : TextForm → Option (List ℕ) → List ℕ → Type 0
 WritesLongText forms.EncodedBlif main bytes = HasLongText IsEncodedBlifOf main bytes
+WritesLongText forms.Guarded main bytes = HasLongText IsGuardedOf main bytes
 WritesLongText forms.Verilog main bytes = HasLongText IsVerilogOf main bytes
 WritesLongText others main bytes = ⊥

@@ -9,6 +9,8 @@ pub enum TextForm {
     EncodedBlif,
     /// The C subset.
     C,
+    /// The C subset, with gates in blocks that a call skips.
+    Guarded,
     /// Structural Verilog.
     Verilog,
 }

@@ -4,9 +4,11 @@ ghost use Rattle.std.specs.Prelude.{◌≤◌, length, IfOk, IfErr, option_map};
 ghost use Rattle.est_kernel.specs.Plain.{Program};
 ghost use Rattle.cec_compile.specs.Compiling.{IsCompiled};
 ghost use Rattle.cec_compile.specs.Following.{FollowsGraph};
-ghost use Rattle.cec_compile.specs.GuardedTexts.{IsGuardedOf, IsGuardedText, StandsForGuarded};
+ghost use Rattle.cec_compile.specs.GuardedTexts.{IsGuardedOf, StandsForGuarded};
 ghost use Rattle.cec_compile.specs.MadeGuarded.{IsGuardedBy, IsMadeGuarded};
 ghost use Rattle.cec_compile.specs.Refusals.{IsRefused};
+ghost use Rattle.cec_compile.specs.SourceTexts.{IsSourceText};
+ghost use Rattle.cec_compile.specs.declared.forms.TextForm.TheVariants.{Guarded};
 
 use crate::compiler::{Compiled, compile};
 use crate::forms::TextForm;
@@ -54,12 +56,13 @@ pub fn guarded_made<P: Picker>(
 ) -> Result<GuardedMade, Refusal>
     requires { length source.now ≤ Limits.SOURCE_BYTES }
     ensures made { IfOk result (IsMadeGuarded source.now (option_map (λ m. m.now) main.entry)) }
-    ensures text { IfOk result (λ g. IsGuardedText (option_map (λ m. m.now) main.entry) source.now g.text.items) }
+    ensures text { IfOk result (λ g. IsSourceText Guarded (option_map (λ m. m.now) main.entry)
+        source.now g.text.items) }
     ensures refuses { IfErr result (IsRefused source.now (option_map (λ m. m.now) main.entry)) }
 {
     let compiled = compile(alloc, source, main, picker)?;
     let text = guarded_text(alloc, &compiled)?;
-    let made = made_in(alloc, TextForm::C, compiled)?;
+    let made = made_in(alloc, TextForm::Guarded, compiled)?;
     Ok(GuardedMade { made, text })
 }
 

@@ -62,7 +62,9 @@ pub fn made_in(alloc: Global, form: TextForm, compiled: Compiled) -> Result<Made
             let net = encoded_net(alloc, &net, &tree)?;
             Ok(Made { program, net })
         }
-        TextForm::Blif | TextForm::C | TextForm::Verilog => Ok(Made { program, net }),
+        TextForm::Blif | TextForm::C | TextForm::Guarded | TextForm::Verilog => {
+            Ok(Made { program, net })
+        }
     }
 }
 

@@ -15,7 +15,7 @@ use Rattle.blif_run.specs.Loops.{IsLoop}
 use Rattle.cec_front.proofs.Exports.{one_program}
 use Rattle.cec_front.proofs.Unrefused as front
 use Rattle.cec_words.specs.declared.asked.Via.{Via}
-use Rattle.cec_words.specs.declared.asked.Via.TheVariants.{Blif, C, Verilog}
+use Rattle.cec_words.specs.declared.asked.Via.TheVariants.{Blif, C, Guard, Verilog}
 use Rattle.csub_read.specs.declared.refusal.CError.TheVariants as c_faults
 use Rattle.csub_read.proofs.Exports.{described-are-read}
 use Rattle.csub_text.specs.Trees as c_trees
@@ -32,6 +32,17 @@ use Rattle.csub_run.specs.declared.language.TextFault as programs
 use Rattle.csub_run.specs.declared.language.TextFault.TheVariants.{Syntax, Twice, Undeclared, Unset}
 use Rattle.csub_run.specs.Texts.{IsTextFault as IsProgramFault}
 use Rattle.csub_read.specs.Faults.{ReadsAs}
+use Rattle.csub_guard.specs.Trees as guarded_trees
+use Rattle.guard_read.specs.Faults as guarded_reads
+use Rattle.guard_read.specs.declared.refusal.GuardedFault.{GuardedFault}
+use Rattle.guard_read.specs.declared.refusal.GuardedFault.TheVariants as g_faults
+use Rattle.guard_read.specs.Laws as guarded_laws
+use Rattle.guard_read.proofs.Exports as guardeds_read
+use Rattle.guard_run.specs.CountedRuns.{RunsCounted}
+use Rattle.guard_run.specs.ProgramAnswers as guarded_answers
+use Rattle.guard_run.specs.Texts as guarded_texts
+use Rattle.guard_run.specs.declared.language.TextFault as guardeds
+use Rattle.guard_run.specs.declared.language.TextFault.TheVariants as guarded_faults
 use Rattle.vlog_read.specs.declared.refusal.VlogFault.TheVariants as v_faults
 use Rattle.vlog_read.proofs.ReadBack as modules_read
 use Rattle.vlog_read.specs.declared.refusal.VlogFault.{VlogFault}
@@ -44,8 +55,11 @@ use Rattle.vlog_run.specs.declared.language.TextFault as modules
 use Rattle.vlog_run.specs.declared.language.TextFault.TheVariants as m_faults
 use Rattle.vlog_text.specs.Trees.{Module}
 use Rattle.cec_compile.specs.declared.forms.TextForm.{TextForm}
+use Rattle.cec_compile.specs.declared.forms.TextForm.TheVariants as forms
 use Rattle.cec_core.specs.declared.text_faults.TextFault.{TextFault}
 use Rattle.trace_run.specs.declared.running.RunFault.TheVariants as runs
+use Rattle.trace_run.specs.Machines.{Brings}
+use Rattle.trace_run.specs.Running.{RunsTrace}
 use Rattle.est_base.specs.SinkChanges.{SinkChange}
 use Rattle.csub_run.specs.ProgramAnswers.{bare_inputs}
 use Rattle.cec_core.specs.declared.outcome.Outcome.{Outcome}
@@ -62,7 +76,7 @@ use Rattle.cec_core.specs.ExecTexts.{IsTextIn, IsRunnable, HasFault, RunsBy}
 use Rattle.cec_core.specs.Jobs.{Job, Request, Help, Make, Run, RunTri, Exec, Generate, Load}
 use Rattle.cec_core.specs.Laws.{AcceptedRequestsAreDone}
 use Rattle.cec_core.specs.Outcomes.{MakesOn, RunsOn, ExecutesOn, AgreesOnFile, AgreesOnTwo, IsWriting, Agrees, CountsFiles, IsTextOf, GainsOut}
-use Rattle.cec_core.specs.Runs.{RunsSource}
+use Rattle.cec_core.specs.Runs.{RunsSource, RunsVia, ShowsRun}
 use Rattle.cec_compile.specs.Sources.{IsSource}
 use Rattle.cec_core.specs.Subjects.{LongTrace}
 use Rattle.cec_core.specs.TriRuns.{IsGraphSource, ReactsOn, ReactsOver, StopsOver, StopsTrace}
@@ -161,13 +175,31 @@ pub no_file_fault : (request : Request) (outcome : Outcome) (before now : ℕ) (
 no_file_fault request outcome before now failed_before failed_now file counts stays is =
     stays (subst (λ o. CountsFiles (Some request) o before now failed_before failed_now) is counts).0
 
+counted_rose : (Writes : List Item → List ℕ → Type 0) (last : List Item → List ℕ) (trace : Reading) (s : SinkChange)
+    → RunsCounted Writes last trace s (Err runs.Write) → Rose s.faults_before s.faults_now
+counted_rose Writes last trace s r = ⊎_elim (λ h. h.4.faults) (λ h. h.gained.faults) r
+
+via_rose : (via : TextForm) (main : Option (List ℕ)) (bytes : List ℕ) (p : Program) (trace : Reading) (s : SinkChange)
+    → RunsVia via main bytes p trace s (Err runs.Write) → Rose s.faults_before s.faults_now
+via_rose forms.Blif main bytes p trace s r = r.4.faults
+via_rose forms.EncodedBlif main bytes p trace s r = r.4.faults
+via_rose forms.C main bytes p trace s r = r.4.faults
+via_rose forms.Guarded main bytes p trace s r = counted_rose (ShowsRun p) (guarded_answers.last_line r.program) trace s r.ran
+via_rose forms.Verilog main bytes p trace s r = r.4.faults
+
 gains_rose : (request : Request) (content : Content) (s : SinkChange) → GainsOut (Some request) content WriteFault s → Rose s.faults_before s.faults_now
 gains_rose Help content s g = g.2.faults
 gains_rose (Make task job) content s g = answer_rose task (IsTextOf task job content) s g
-gains_rose (Run via job trace) content s g = g.2.2.ran.4.faults
+gains_rose (Run via job trace) content s g =
+    let p = g.2.2.program in
+    via_rose via job.main g.0 p (beginning g.2.0 (given_names p) p.relations) s g.2.2.ran
 gains_rose (RunTri job trace) content s g = g.2.2.ran.4.faults
 gains_rose (Exec Blif text trace) content s g = g.2.2.ran.4.faults
 gains_rose (Exec C text trace) content s g = g.2.2.ran.4.faults
+gains_rose (Exec Guard text trace) content s g =
+    let p = g.2.2.program in
+    counted_rose (Brings guarded_answers.program_shows (guarded_answers.bare_outputs p) p) (guarded_answers.last_line p)
+    (beginning g.2.0 (guarded_answers.bare_inputs p) []) s g.2.2.ran
 gains_rose (Exec Verilog text trace) content s g = g.2.2.ran.4.faults
 gains_rose (Generate start branches) content s g = g.2.faults
 gains_rose (Load start branches instants) content s g = g.2.faults
@@ -229,21 +261,31 @@ run_limit via main held name trace limits.Traps w on long = passes_limit main (h
 run_limit via main held name trace limits.Instances w on long = passes_limit main (held name) limits.Instances w.source on
 run_limit via main held name trace limits.Wires w on long = passes_limit main (held name) limits.Wires w.source on
 
+-- a trace with a fault, by which text ever it is run over
+via_fault : (via : TextForm) (main : Option (List ℕ)) (bytes : List ℕ) (p : Program) (trace : Reading) (s : SinkChange) (fault : TraceFault)
+    → RunsVia via main bytes p trace s (Err (runs.Trace fault)) → RunsTrace (ShowsRun p) trace s (Err (runs.Trace fault))
+via_fault forms.Blif main bytes p trace s fault r = r
+via_fault forms.EncodedBlif main bytes p trace s fault r = r
+via_fault forms.C main bytes p trace s fault r = r
+via_fault forms.Guarded main bytes p trace s fault r = r.ran
+via_fault forms.Verilog main bytes p trace s fault r = r
+
 -- a trace of a source with a fault
 run_no_fault : (via : TextForm) (main : Option (List ℕ)) (bytes trace : List ℕ) (s : SinkChange) (fault : TraceFault) → RunsToEnd via main bytes trace
-    → RunsSource main bytes trace s (Err (runs.Trace fault)) → ⊥
+    → RunsSource via main bytes trace s (Err (runs.Trace fault)) → ⊥
 run_no_fault via main bytes trace s fault w r =
     let p = w.source.program in
     let same : r.program ≡ p = one_program bytes main r.program p r.source w.source.source in
-    whole_has_no_fault (beginning trace (given_names p) p.relations) w.whole.items r.ran.0 fault w.whole.whole
-    (subst (λ (q : Program). IsTrace (beginning trace (given_names q) q.relations) r.ran.0 (Some fault)) same r.ran.2)
+    let ran = via_fault via main bytes r.program (beginning trace (given_names r.program) r.program.relations) s fault r.ran in
+    whole_has_no_fault (beginning trace (given_names p) p.relations) w.whole.items ran.0 fault w.whole.whole
+    (subst (λ (q : Program). IsTrace (beginning trace (given_names q) q.relations) ran.0 (Some fault)) same ran.2)
 
 run_trace_fault : (via : TextForm) (job : Job) (held : List ℕ → List ℕ) (trace : List ℕ) (s : SinkChange) (fault : TraceFault)
     → RunsToEnd via job.main (held job.name) (held trace) → GainsOut (Some (Run via job trace)) (Some held) (Trace fault) s → ⊥
 run_trace_fault via job held trace s fault w g =
     run_no_fault via job.main (held job.name) (held trace) s fault w
-    (subst (λ i. RunsSource job.main (held job.name) i s (Err (runs.Trace fault))) g.2.1
-    (subst (λ b. RunsSource job.main b g.2.0 s (Err (runs.Trace fault))) g.1 g.2.2))
+    (subst (λ i. RunsSource via job.main (held job.name) i s (Err (runs.Trace fault))) g.2.1
+    (subst (λ b. RunsSource via job.main b g.2.0 s (Err (runs.Trace fault))) g.1 g.2.2))
 
 run_end : (via : TextForm) (job : Job) (held : List ℕ → List ℕ) (trace : List ℕ) (outcome : Outcome) (s : SinkChange)
     → RunsToEnd via job.main (held job.name) (held trace) → OnTwo held job.name trace (RunsOn via job.main) outcome
@@ -364,6 +406,17 @@ program_no_fault bytes (Undeclared name) t h =
     (described-are-read bytes t.program t.read.describes).refusals (c_faults.Undeclared name) (t.read.short, h)
 program_no_fault bytes (Unset name) t h = (described-are-read bytes t.program t.read.describes).refusals (c_faults.Unset name) (t.read.short, h)
 
+guarded_lacks : (bytes : List ℕ) (fault : GuardedFault) → IsTextIn guarded_reads.ReadsAs bytes → guarded_reads.ReadsFault bytes fault
+    → guarded_laws.LacksRoom bytes fault
+guarded_lacks bytes fault t h = (guardeds_read.described-are-read bytes t.program t.read.describes).refusals fault h
+
+guarded_no_fault : (bytes : List ℕ) (fault : guardeds.TextFault) → IsTextIn guarded_reads.ReadsAs bytes → guarded_texts.IsTextFault bytes fault → ⊥
+guarded_no_fault bytes (guarded_faults.Syntax place) t h = guarded_lacks bytes (g_faults.Syntax place) t (t.read.short, h)
+guarded_no_fault bytes (guarded_faults.Twice name) t h = guarded_lacks bytes (g_faults.Twice name) t (t.read.short, h)
+guarded_no_fault bytes (guarded_faults.Undeclared name) t h = guarded_lacks bytes (g_faults.Undeclared name) t (t.read.short, h)
+guarded_no_fault bytes (guarded_faults.Again name) t h = guarded_lacks bytes (g_faults.Again name) t (t.read.short, h)
+guarded_no_fault bytes (guarded_faults.Unset name) t h = guarded_lacks bytes (g_faults.Unset name) t (t.read.short, h)
+
 module_no_fault : (bytes : List ℕ) (fault : modules.TextFault) → IsTextIn module_texts.ReadsModule bytes → module_texts.IsTextFault bytes fault → ⊥
 module_no_fault bytes (m_faults.Syntax place) t h = read_no_fault bytes (v_faults.Syntax place) t (t.read.is_read.short, h)
 module_no_fault bytes (m_faults.Twice name) t h = read_no_fault bytes (v_faults.Twice name) t (t.read.is_read.short, h)
@@ -377,11 +430,13 @@ module_no_fault bytes (m_faults.Loop names) t h =
 text_no_fault : (via : Via) (bytes : List ℕ) (fault : TextFault) → IsRunnable via bytes → HasFault via bytes fault → ⊥
 text_no_fault Blif bytes fault t h = circuit_no_fault bytes h.0 t h.1
 text_no_fault C bytes fault t h = program_no_fault bytes h.0 t h.1
+text_no_fault Guard bytes fault t h = guarded_no_fault bytes h.0 t h.1
 text_no_fault Verilog bytes fault t h = module_no_fault bytes h.0 t h.1
 
 text_short : (via : Via) (bytes : List ℕ) → IsRunnable via bytes → length bytes ≤ TEXT_BYTES
 text_short Blif bytes t = t.within
 text_short C bytes t = t.within
+text_short Guard bytes t = t.within
 text_short Verilog bytes t = t.within
 
 -- a trace of a text with a fault
@@ -396,6 +451,10 @@ text_run_no_fault C bytes trace s fault w r =
     let same : r.program ≡ w.text.program = w.text.read.only r.program r.read.describes in
     whole_has_no_fault (beginning trace (bare_inputs w.text.program) []) w.whole.items r.ran.0 fault w.whole.whole
     (subst (λ (p : c_trees.Program). IsTrace (beginning trace (bare_inputs p) []) r.ran.0 (Some fault)) same r.ran.2)
+text_run_no_fault Guard bytes trace s fault w r =
+    let same : r.program ≡ w.text.program = w.text.read.only r.program r.read.describes in
+    whole_has_no_fault (beginning trace (guarded_answers.bare_inputs w.text.program) []) w.whole.items r.ran.0 fault w.whole.whole
+    (subst (λ (p : guarded_trees.Program). IsTrace (beginning trace (guarded_answers.bare_inputs p) []) r.ran.0 (Some fault)) same r.ran.2)
 text_run_no_fault Verilog bytes trace s fault w r =
     let same : r.program ≡ w.text.program = w.text.read.is_read.only r.program r.read.is_read.describes in
     whole_has_no_fault (beginning trace (module_answers.bare_inputs w.text.program) []) w.whole.items r.ran.0 fault w.whole.whole

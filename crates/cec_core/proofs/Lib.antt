@@ -13,3 +13,5 @@ pub mod ReactionFiles
 pub mod RunnerReactions
 pub mod TraceEnds
 pub mod TextSizes
+pub mod GuardedMeans
+pub mod WrittenTexts

@@ -1,5 +1,5 @@
 -- What the outcome of a command says of the text that it wrote.
-use Rattle.std.proofs.Common.{ℕ, List, [], Option, Some, inl}
+use Rattle.std.proofs.Common.{ℕ, List, [], Option, None, Some, inl}
 use Rattle.est_base.specs.declared.files.reading.FileFault.{FileFault}
 use Rattle.est_base.specs.declared.files.reading.FileFault.TheVariants as reading
 use Rattle.est_base.specs.Faults.{Rose}
@@ -32,6 +32,16 @@ text_as P Q s outcome f l = texts.text_as P Q s (written_of outcome) f l
 pub pieces_as : (P Q : List ℕ → Type 0) (s : SinkChange) (outcome : Outcome) → ((text : List ℕ) → P text → Q text) → LeavesPieces P s outcome
     → LeavesPieces Q s outcome
 pieces_as P Q s outcome f l = texts.pieces_as P Q s (written_of outcome) f l
+
+-- a text that is written whole
+pub whole_pieces : (P : List ℕ → Type 0) (s : SinkChange) (outcome : Outcome) → LeavesText P s outcome → LeavesPieces P s outcome
+whole_pieces P s outcome l = by (written_of outcome) l
+  where
+    by : (ended : Option Written) → endings.LeavesText P s ended → endings.LeavesPieces P s ended
+    by None h = h
+    by (Some ends.Done) h = h
+    by (Some ends.WriteFault) h = h
+    by (Some ends.NoMemory) h = inl h
 
 pub answer_as : (task : Task) (P Q : List ℕ → Type 0) (s : SinkChange) (outcome : Outcome) → ((text : List ℕ) → P text → Q text) → LeavesAnswer task P s outcome
     → LeavesAnswer task Q s outcome

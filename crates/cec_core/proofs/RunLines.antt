@@ -1,5 +1,5 @@
 -- The lines of a compiled program's netlist over a trace are those of the program's own run.
-use Rattle.std.proofs.Common.{◌≡◌, ℕ, List, [], ◌∷◌, length, map, Result, refl, sym, ap, ◌∙◌, subst, arith}
+use Rattle.std.proofs.Common.{◌≡◌, ℕ, List, [], ◌∷◌, length, map, Option, Result, refl, sym, ap, ◌∙◌, subst, arith}
 use Rattle.std.proofs.lemmas.List.{length-take}
 use Rattle.est_base.specs.Items.{Item, Event, Reset, EachEvent}
 use Rattle.est_base.specs.Relations.{Relation, MeetsAll}
@@ -16,7 +16,14 @@ use Rattle.trace_run.specs.Running.{RunsTrace}
 use Rattle.trace_run.proofs.Exports.{events-fit, runs-along}
 use Rattle.cec_compile.specs.Meaning.{AreItems}
 use Rattle.cec_compile.specs.NetMeaning.{net_seen, NetKeeps}
-use Rattle.cec_core.specs.Runs.{line_answer, ShowsRun}
+use Rattle.cec_compile.specs.GuardedTexts.{IsGuardedOf}
+use Rattle.cec_compile.specs.declared.forms.TextForm.{TextForm}
+use Rattle.cec_compile.specs.declared.forms.TextForm.TheVariants as forms
+use Rattle.guard_run.specs.CountedRuns.{RunsCounted}
+use Rattle.guard_run.specs.ProgramAnswers.{last_line}
+use Rattle.guard_run.proofs.Exports.{counted-along}
+use Rattle.cec_core.specs.NetTexts.{RunsText}
+use Rattle.cec_core.specs.Runs.{line_answer, ShowsRun, RunsVia}
 
 -- the events of a trace are events of the program
 are_items : (p : Program) (n : ℕ) → n ≡ given_count p → (items : List Item) → EachEvent (λ event. (length event ≡ n) × MeetsAll p.relations event) items
@@ -54,6 +61,36 @@ runs_program net p wide keeps trace relations s result same runs =
     (λ items text front shows.
     shows_run net p keeps items text
     (are_items p (length (given_names p)) (sym wide) items (events-fit trace (given_names p) p.relations items front)) shows) by_relation
+
+-- so by the text that is run, which is made of the bytes where it is guarded
+pub runs_via : (via : TextForm) (main : Option (List ℕ)) (bytes text : List ℕ) (net : Netlist) (p : Program) → given_count p ≡ length (given_names p)
+    → NetKeeps net p → (trace : List ℕ) (relations : List Relation) (s : SinkChange) (result : Result (Unit {0}) RunFault) → relations ≡ p.relations
+    → (via ≡ forms.Guarded → IsGuardedOf bytes main text)
+    → RunsText via text (output_names net) net (beginning trace net.inputs relations) s result
+    → RunsVia via main bytes p (beginning trace (given_names p) p.relations) s result
+runs_via forms.Blif main bytes text net p wide keeps trace relations s result same guarded runs =
+    runs_program net p wide keeps trace relations s result same runs
+runs_via forms.EncodedBlif main bytes text net p wide keeps trace relations s result same guarded runs =
+    runs_program net p wide keeps trace relations s result same runs
+runs_via forms.C main bytes text net p wide keeps trace relations s result same guarded runs =
+    runs_program net p wide keeps trace relations s result same runs
+runs_via forms.Verilog main bytes text net p wide keeps trace relations s result same guarded runs =
+    runs_program net p wide keeps trace relations s result same runs
+runs_via forms.Guarded main bytes text net p wide keeps trace relations s result same guarded runs =
+    let last = last_line runs.program in
+    let by_name = subst (λ names. RunsCounted (ShowsNet names net) last (beginning trace net.inputs relations) s result) keeps.outputs runs.ran in
+    let by_input = subst (λ given. RunsCounted (ShowsNet (outgoing_names p) net) last (beginning trace given relations) s result) keeps.inputs by_name in
+    let by_relation = subst (λ r. RunsCounted (ShowsNet (outgoing_names p) net) last (beginning trace (given_names p) r) s result) same by_input in
+    record {
+      text = text;
+      made = guarded refl;
+      program = runs.program;
+      describes = runs.describes;
+      ran = counted-along (ShowsNet (outgoing_names p) net) (ShowsRun p) last (beginning trace (given_names p) p.relations) s result
+          (λ items lines front shows.
+          shows_run net p keeps items lines
+          (are_items p (length (given_names p)) (sym wide) items (events-fit trace (given_names p) p.relations items front)) shows) by_relation;
+    }
 
 -- a program has as many names of given signals as given signals
 pub given_wide : (p : Program) → IsWellFormed p → given_count p ≡ length (given_names p)

@@ -1,6 +1,6 @@
 -- A text that is written of a source is no longer than can be read.
 use Rattle.std.proofs.Common.{◌≡◌, ℕ, false, ◌+◌, ◌*◌, ◌^◌, ◌<◌, ◌≤◌, List, [], ◌∷◌, length, map, drop, Option, Some, None, sym, ap}
-use Rattle.std.proofs.Common.{◌∙◌, subst, arith, All}
+use Rattle.std.proofs.Common.{◌∙◌, subst, arith, All, refl}
 use Rattle.std.specs.Prelude.{IfSome, option_map}
 use Rattle.std.specs.List.{sum_by, cons_option}
 use Rattle.std.proofs.lemmas.List.{length-map, length-take, length-drop}
@@ -32,6 +32,7 @@ use Rattle.cec_compile.specs.declared.made.Made.{Made}
 use Rattle.cec_compile.specs.Compiling.{IsCompiled, StandsForNet}
 use Rattle.cec_compile.specs.MadeNets.{IsMade}
 use Rattle.cec_core.specs.NetTexts.{IsWritten, TextsFit}
+use Rattle.cec_compile.specs.GuardedTexts.{IsGuardedOf}
 use Rattle.cec_compile.specs.Sources.{WritesLongText}
 use Rattle.cec_compile.proofs.Exports.{wire_count}
 use Rattle.cec_front.proofs.Exports.{HasRoom, source-room, given-room, outgoing-room}
@@ -145,22 +146,24 @@ built_relations_few bytes main built short b =
     let same : map relation_of built.program.relations.items ≡ b.program.relations = ap (λ (q : Program). q.relations) b.built.graph.program in
     omega (arith, room.relations, short, ap (λ (rs : List Relation). length rs) same, length-map built.program.relations.items relation_of)
 
--- a text that is too long is one whose latches hold the state in a code, or one in Verilog
+-- a text that is too long is one whose latches hold the state in a code, a guarded one, or one in Verilog
 pub long_text : (form : TextForm) (bytes : List ℕ) (main : Option (List ℕ)) (made : Made) (text : List ℕ) → length bytes ≤ SOURCE_BYTES →
-    IsMade form bytes main made → IsWritten form text (netlist_of made.net) → TEXT_BYTES < length text → WritesLongText form main bytes
-long_text forms.Blif bytes main made text short m w long =
+    IsMade form bytes main made → IsWritten form text (netlist_of made.net) → (form ≡ forms.Guarded → IsGuardedOf bytes main text)
+    → TEXT_BYTES < length text → WritesLongText form main bytes
+long_text forms.Blif bytes main made text short m w guarded long =
     let both = both_fit bytes main m.compiled short m.source in
     omega (arith, long, ap (λ (t : List ℕ). length t) (w.spelled ∙ ap blif_texts.written m.net), both.circuit)
-long_text forms.C bytes main made text short m w long =
+long_text forms.C bytes main made text short m w guarded long =
     let both = both_fit bytes main m.compiled short m.source in
     omega (arith, long, ap (λ (t : List ℕ). length t) (w.spelled ∙ ap c_texts.written m.net), both.program)
-long_text forms.EncodedBlif bytes main made text short m w long = record {
+long_text forms.EncodedBlif bytes main made text short m w guarded long = record {
   short = short;
   text = text;
   written = record { made = m.compiled; compiled = m.source; net = netlist_of made.net; encoded = m.net; text = w.spelled };
   long = long;
 }
-long_text forms.Verilog bytes main made text short m w long = record {
+long_text forms.Guarded bytes main made text short m w guarded long = record { short = short; text = text; written = guarded refl; long = long }
+long_text forms.Verilog bytes main made text short m w guarded long = record {
   short = short;
   text = text;
   written = record { made = m.compiled; compiled = m.source; text = w.spelled ∙ ap verilog_texts.written m.net };

@@ -180,11 +180,12 @@ text_left reads given outgoing shows content trace text s r items held runs =
     leaves_ran (λ ended. Holds content trace (λ i. RunsIn reads given outgoing shows text i s ended)) s r (items, held, runs)
 
 -- where a source was run over it
-pub run_left : (content : Content) (trace : List ℕ) (main : Option (List ℕ)) (bytes : List ℕ) (s : SinkChange) (r : Result (Unit {0}) RunFault) (items : List ℕ)
-    → IsHeld content trace items → RunsSource main bytes items s r
-    → LeavesRun (λ ended. Holds content trace (λ i. RunsSource main bytes i s ended)) s (run_outcome r)
-run_left content trace main bytes s r items held runs =
-    leaves_ran (λ ended. Holds content trace (λ i. RunsSource main bytes i s ended)) s r (items, held, runs)
+pub run_left : (content : Content) (trace : List ℕ) (via : TextForm) (main : Option (List ℕ)) (bytes : List ℕ) (s : SinkChange)
+    (r : Result (Unit {0}) RunFault) (items : List ℕ)
+    → IsHeld content trace items → RunsSource via main bytes items s r
+    → LeavesRun (λ ended. Holds content trace (λ i. RunsSource via main bytes i s ended)) s (run_outcome r)
+run_left content trace via main bytes s r items held runs =
+    leaves_ran (λ ended. Holds content trace (λ i. RunsSource via main bytes i s ended)) s r (items, held, runs)
 
 -- ---- the first file is refused
 

@@ -10,7 +10,8 @@ use Rattle.trace_io.specs.Answers.{IsTrace, beginning}
 use Rattle.trace_run.specs.Running.{IsFront}
 use Rattle.csub_run.specs.ProgramAnswers.{bare_inputs}
 use Rattle.cec_words.specs.declared.asked.Via.{Via}
-use Rattle.cec_words.specs.declared.asked.Via.TheVariants.{Blif, C, Verilog}
+use Rattle.cec_words.specs.declared.asked.Via.TheVariants.{Blif, C, Guard, Verilog}
+use Rattle.guard_run.specs.ProgramAnswers as guardeds
 use Rattle.vlog_run.specs.ModuleAnswers as modules
 use Rattle.cec_compile.specs.declared.forms.TextForm.{TextForm}
 use Rattle.cec_core.specs.ExecTexts.{IsRunnable}
@@ -54,6 +55,7 @@ pub record ComesToStop (main : Option (List ℕ)) (bytes trace : List ℕ) : Typ
 abbrev pub inputs_by : (via : Via) (bytes : List ℕ) → IsRunnable via bytes → List (List ℕ)
 inputs_by Blif bytes text = text.program.inputs
 inputs_by C bytes text = bare_inputs text.program
+inputs_by Guard bytes text = guardeds.bare_inputs text.program
 inputs_by Verilog bytes text = modules.bare_inputs text.program
 
 -- The text can be run, and the trace is one of it.

@@ -6,10 +6,13 @@ use Rattle.blif_run.specs.CircuitAnswers.{listed_names, circuit_shows}
 use Rattle.blif_run.specs.Texts as circuits
 use Rattle.blif_run.specs.Texts.{ReadsCircuit}
 use Rattle.cec_words.specs.declared.asked.Via.{Via}
-use Rattle.cec_words.specs.declared.asked.Via.TheVariants.{Blif, C, Verilog}
+use Rattle.cec_words.specs.declared.asked.Via.TheVariants.{Blif, C, Guard, Verilog}
 use Rattle.csub_read.specs.Faults.{ReadsAs}
 use Rattle.csub_run.specs.ProgramAnswers.{bare_inputs, bare_outputs, program_shows}
 use Rattle.csub_run.specs.Texts as programs
+use Rattle.guard_read.specs.Faults as guarded_reads
+use Rattle.guard_run.specs.CountedRuns.{CountsIn}
+use Rattle.guard_run.specs.Texts as guarded_texts
 use Rattle.trace_run.specs.declared.running.RunFault.{RunFault}
 use Rattle.trace_run.specs.Languages.{RunsIn}
 use Rattle.vlog_run.specs.ModuleAnswers as modules
@@ -31,18 +34,21 @@ IsFaultIn {F} faulty told bytes fault = (own : F) × faulty bytes own × told ow
 abbrev pub IsRunnable : Via → List ℕ → Type 0
 IsRunnable Blif bytes = IsTextIn ReadsCircuit bytes
 IsRunnable C bytes = IsTextIn ReadsAs bytes
+IsRunnable Guard bytes = IsTextIn guarded_reads.ReadsAs bytes
 IsRunnable Verilog bytes = IsTextIn module_texts.ReadsModule bytes
 
 -- the first fault of a text
 abbrev pub HasFault : Via → List ℕ → TextFault → Type 0
 HasFault Blif bytes fault = IsFaultIn circuits.IsTextFault (λ own told. told ≡ texts.Blif own) bytes fault
 HasFault C bytes fault = IsFaultIn programs.IsTextFault (λ own told. told ≡ texts.C own) bytes fault
+HasFault Guard bytes fault = IsFaultIn guarded_texts.IsTextFault (λ own told. told ≡ texts.Guard own) bytes fault
 HasFault Verilog bytes fault = IsFaultIn module_texts.IsTextFault (λ own told. told ≡ texts.Verilog own) bytes fault
 
--- a text is run over a trace, by its own meaning alone
+-- a text is run over a trace, by its own meaning alone; behind the lines of a guarded text stands that of its count
 abbrev pub RunsBy : Via → (bytes trace : List ℕ) → SinkChange → Result (Unit {0}) RunFault → Type 0
 RunsBy Blif bytes trace s result =
     RunsIn ReadsCircuit (λ c. c.inputs) (λ c. listed_names c.outputs) circuit_shows bytes trace s result
 RunsBy C bytes trace s result = RunsIn ReadsAs bare_inputs bare_outputs program_shows bytes trace s result
+RunsBy Guard bytes trace s result = CountsIn bytes trace s result
 RunsBy Verilog bytes trace s result =
     RunsIn module_texts.ReadsModule modules.bare_inputs modules.bare_outputs modules.module_shows bytes trace s result

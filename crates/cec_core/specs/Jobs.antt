@@ -52,12 +52,17 @@ source_job words s =
 abbrev pub form_by : Via → Bool → TextForm
 form_by vias.Blif encode = if encode then forms.EncodedBlif else forms.Blif
 form_by vias.C encode = forms.C
+form_by vias.Guard encode = forms.Guarded
 form_by vias.Verilog encode = forms.Verilog
+
+-- the form of a C text, by whether it is to be guarded
+abbrev pub c_form : Bool → TextForm
+c_form guard = if guard then forms.Guarded else forms.C
 
 abbrev pub request_asked : List (List ℕ) → Asked → Request
 request_asked words asks.Help = Help
 request_asked words (asks.Blif s) = Make (Text (form_by vias.Blif s.encode)) (source_job words s)
-request_asked words (asks.C s) = Make (Text forms.C) (source_job words s)
+request_asked words (asks.C s) = Make (Text (c_form s.guard)) (source_job words s)
 request_asked words (asks.Verilog s) = Make (Text forms.Verilog) (source_job words s)
 request_asked words (asks.Grc s) = Make Grc (source_job words s)
 request_asked words (asks.Check s) = Make Check (source_job words s)

@@ -10,6 +10,8 @@ use Rattle.blif_run.specs.declared.language.TextFault as circuits
 use Rattle.blif_run.specs.declared.language.TextFault.TheVariants.{Line, TwoDrivers, NoDriver, Loop}
 use Rattle.csub_run.specs.declared.language.TextFault as programs
 use Rattle.csub_run.specs.declared.language.TextFault.TheVariants.{Syntax, Twice, Undeclared, Unset}
+use Rattle.guard_run.specs.declared.language.TextFault as guardeds
+use Rattle.guard_run.specs.declared.language.TextFault.TheVariants as guarded_faults
 use Rattle.vlog_run.specs.declared.language.TextFault as modules
 use Rattle.vlog_run.specs.declared.language.TextFault.TheVariants as module_faults
 use Rattle.cec_core.specs.declared.text_faults.TextFault.{TextFault}
@@ -76,6 +78,13 @@ program_fault_text (Twice name) = codes "declared twice: " ++ name
 program_fault_text (Undeclared name) = codes "undeclared: " ++ name
 program_fault_text (Unset name) = codes "unset: " ++ name
 
+abbrev pub guarded_fault_text : guardeds.TextFault → List ℕ
+guarded_fault_text (guarded_faults.Syntax place) = codes "byte " ++ (decimal place ++ codes ": syntax")
+guarded_fault_text (guarded_faults.Twice name) = codes "declared twice: " ++ name
+guarded_fault_text (guarded_faults.Undeclared name) = codes "undeclared: " ++ name
+guarded_fault_text (guarded_faults.Again name) = codes "assigned twice: " ++ name
+guarded_fault_text (guarded_faults.Unset name) = codes "unset: " ++ name
+
 abbrev pub module_fault_text : modules.TextFault → List ℕ
 module_fault_text (module_faults.Syntax place) = codes "byte " ++ (decimal place ++ codes ": syntax")
 module_fault_text (module_faults.Twice name) = codes "declared twice: " ++ name
@@ -89,6 +98,7 @@ module_fault_text (module_faults.Loop names) = codes "loop: " ++ joined_names na
 abbrev pub text_fault_text : TextFault → List ℕ
 text_fault_text (texts.Blif fault) = circuit_fault_text fault
 text_fault_text (texts.C fault) = program_fault_text fault
+text_fault_text (texts.Guard fault) = guarded_fault_text fault
 text_fault_text (texts.Verilog fault) = module_fault_text fault
 
 -- an instant that is not constructive, and the wires that stay unknown in it

@@ -156,7 +156,7 @@ GainsOut (Some Help) content outcome s = LeavesText (λ text. text ≡ help_text
 GainsOut (Some (Make task job)) content outcome s = LeavesAnswer task (IsTextOf task job content) s outcome
 GainsOut (Some (Run via job trace)) content outcome s =
     LeavesRun (λ result. Holds content job.name (λ bytes.
-    Holds content trace (λ items. RunsSource job.main bytes items s result))) s outcome
+    Holds content trace (λ items. RunsSource via job.main bytes items s result))) s outcome
 GainsOut (Some (RunTri job trace)) content outcome s =
     LeavesReactions (λ result. Holds content job.name (λ bytes.
     Holds content trace (λ items. ReactsOver job.main bytes items s result))) (λ wires. Holds content job.name (λ bytes.

@@ -23,14 +23,16 @@ use std::alloc::Global;
 /// Does what the words after the program's name ask for, and says how it ended.
 ///
 /// `blif FILE` reads the source under that name and writes its BLIF text to `out`, `c FILE` its C text, `verilog FILE`
-/// its Verilog text, piece by piece, `grc FILE` the listing of its graph, and `check FILE` a line of counts. `run --via
-/// blif FILE TRACE`, or `--via c`, or `--via verilog`, compiles the source, writes its text of that form into memory,
-/// reads it again and runs it over the trace: one line for each instant, right behind its reaction. `exec --via blif
-/// TEXT TRACE`, or `--via c`, or `--via verilog`, runs a text by its own meaning. `gen --start N --branches N` writes a
-/// generated source, with `--run N` the numbers of its run over so many drawn events, by its BLIF and by its C text,
-/// and `--help` the list of the commands. `--main M` names the main module, `--pick first`, `--pick last` or `--pick N`
-/// says how the evaluation order of a text is chosen. With `--encode` the latches of the BLIF text, which `blif` writes
-/// and `run --via blif` runs, hold the state in a code.
+/// its Verilog text, piece by piece, `c --guard FILE` its guarded C text, made whole, `grc FILE` the listing of its
+/// graph, and `check FILE` a line of counts. `run --via blif FILE TRACE`, or `--via c`, `--via guard` or
+/// `--via verilog`, compiles the source, writes its text of that form into memory, reads it again and runs it over the
+/// trace: one line for each instant, right behind its reaction. `exec --via blif TEXT TRACE`, or `--via c`,
+/// `--via guard` or `--via verilog`, runs a text by its own meaning. By a guarded text both write the number of
+/// assignments of all calls behind a whole run. `gen --start N --branches N` writes a generated source, with `--run N`
+/// the numbers of its run over so many drawn events, by its BLIF and by its C text, and `--help` the list of the
+/// commands. `--main M` names the main module, `--pick first`, `--pick last` or `--pick N` says how the evaluation
+/// order of a text is chosen. With `--encode` the latches of the BLIF text, which `blif` writes and `run --via blif`
+/// runs, hold the state in a code.
 /// Every other list of words is `Usage`. For every outcome but `Done` one line goes to `err`; a write to `err` that
 /// fails changes no outcome.
 ///
@@ -38,7 +40,8 @@ use std::alloc::Global;
 /// reading by the BLIF profile with the program's inputs, and its outputs and then `_paused`, and over every list of
 /// events that meet the relations each reaction of the source is constructive, the text has a run, any two runs agree,
 /// and the outputs and `_paused` are those of the reactions; with `--encode` too. For `c` it holds likewise, by the
-/// machine of the C subset (`CTextKeeps`), and for `verilog` by that of the text's module (`VerilogTextKeeps`). For
+/// machine of the C subset (`CTextKeeps`), with `--guard` by that of guarded programs (`GuardedTextKeeps`, and
+/// `IsGuardedOf` on what its calls run), and for `verilog` by that of the text's module (`VerilogTextKeeps`). For
 /// `run` the lines are those of the source's own reactions to the items of the trace (`RunsSource`), whichever text it
 /// is run by, and for `exec` those of the text's own run (`RunsBy`).
 /// `Static`, `Cyclic`, `Trace`, `BadText` and `Limit` come only where the source, the trace or the text has their

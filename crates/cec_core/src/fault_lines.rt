@@ -3,7 +3,7 @@
 ghost use Rattle.std.specs.Prelude.{◌++◌, codes, decimal, map};
 ghost use Rattle.est_base.specs.Writing.{Wrote};
 ghost use Rattle.cec_core.specs.Lines.{circuit_fault_text, program_fault_text, text_fault_text};
-ghost use Rattle.cec_core.specs.Lines.{module_fault_text, trace_text, unknown_text};
+ghost use Rattle.cec_core.specs.Lines.{guarded_fault_text, module_fault_text, trace_text, unknown_text};
 ghost use Rattle.grc_graph.specs.PlainWireNames.{wire_name_of};
 
 use crate::text_faults::TextFault;
@@ -11,6 +11,7 @@ use crate::unknown_wires::UnknownWires;
 use blif_run::TextFault as CircuitFault;
 use csub_run::TextFault as ProgramFault;
 use est_base::{Sink, SinkFault, write_pieces};
+use guard_run::TextFault as GuardedFault;
 use itoa::Buffer;
 use text_io::put_loop;
 use trace_io::TraceFault;
@@ -98,6 +99,7 @@ pub(crate) fn put_text_fault<E: Sink>(err: &mut E, fault: &TextFault) -> Result<
     match fault {
         TextFault::Blif(fault) => put_circuit_fault(err, fault),
         TextFault::C(fault) => put_program_fault(err, fault),
+        TextFault::Guard(fault) => put_guarded_fault(err, fault),
         TextFault::Verilog(fault) => put_module_fault(err, fault),
     }
 }
@@ -135,6 +137,28 @@ fn put_program_fault<E: Sink>(err: &mut E, fault: &ProgramFault) -> Result<(), S
             write_pieces(err, &[b"cec: ", b"undeclared: ", name.bytes(), b"\n"])
         }
         ProgramFault::Unset(name) => {
+            write_pieces(err, &[b"cec: ", b"unset: ", name.bytes(), b"\n"])
+        }
+    }
+}
+
+// The line of a fault of a guarded text.
+fn put_guarded_fault<E: Sink>(err: &mut E, fault: &GuardedFault) -> Result<(), SinkFault>
+    ensures { Wrote (E.told err.old) (E.told err.new) (E.faults err.old) (E.faults err.new)
+        (codes "cec: " ++ (guarded_fault_text fault.now ++ codes "\n")) result }
+{
+    match fault {
+        GuardedFault::Syntax(place) => put_numbered(err, b"byte ", *place, b": syntax", b""),
+        GuardedFault::Twice(name) => {
+            write_pieces(err, &[b"cec: ", b"declared twice: ", name.bytes(), b"\n"])
+        }
+        GuardedFault::Undeclared(name) => {
+            write_pieces(err, &[b"cec: ", b"undeclared: ", name.bytes(), b"\n"])
+        }
+        GuardedFault::Again(name) => {
+            write_pieces(err, &[b"cec: ", b"assigned twice: ", name.bytes(), b"\n"])
+        }
+        GuardedFault::Unset(name) => {
             write_pieces(err, &[b"cec: ", b"unset: ", name.bytes(), b"\n"])
         }
     }

@@ -2,7 +2,7 @@
 
 ghost use Rattle.std.specs.Prelude.{◌≡◌, drop, map, option_map, [], IfSome};
 ghost use Rattle.std.specs.String.{string_bytes};
-ghost use Rattle.cec_core.specs.Jobs.{form_by, source_job, request_asked, request_by, value_in, word_at};
+ghost use Rattle.cec_core.specs.Jobs.{c_form, form_by, source_job, request_asked, request_by, value_in, word_at};
 ghost use Rattle.cec_core.specs.JobViews.{CanBeGenerated, plain_job, plain_request};
 
 use cec_compile::TextForm;
@@ -67,7 +67,10 @@ fn request_asked(words: &[String], asked: Asked) -> Request<'_>
             let form = form_by(Via::Blif, source.encode);
             Request::Make(Task::Text(form), source_job(words, source))
         }
-        Asked::C(source) => Request::Make(Task::Text(TextForm::C), source_job(words, source)),
+        Asked::C(source) => {
+            let form = c_form(source.guard);
+            Request::Make(Task::Text(form), source_job(words, source))
+        }
         Asked::Verilog(source) => {
             Request::Make(Task::Text(TextForm::Verilog), source_job(words, source))
         }
@@ -96,7 +99,19 @@ fn form_by(via: Via, encode: bool) -> TextForm
         Via::Blif if encode => TextForm::EncodedBlif,
         Via::Blif => TextForm::Blif,
         Via::C => TextForm::C,
+        Via::Guard => TextForm::Guarded,
         Via::Verilog => TextForm::Verilog,
+    }
+}
+
+// The form of a C text, by whether it is to be guarded.
+fn c_form(guard: bool) -> TextForm
+    ensures { result ≡ c_form guard }
+{
+    if guard {
+        TextForm::Guarded
+    } else {
+        TextForm::C
     }
 }
 

@@ -22,7 +22,7 @@ mod writing;
 
 pub use cec_compile::{
     Compiled, Cycle, Graphed, Limit, Refusal, blif_of, c_of, compile, encoded_blif_of, graph_of,
-    source_graph, verilog_of,
+    guarded_c_of, source_graph, verilog_of,
 };
 pub use command::cec;
 pub use laws::{

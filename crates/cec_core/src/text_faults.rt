@@ -2,10 +2,11 @@
 
 ghost use Rattle.std.specs.Prelude.{◌≡◌};
 ghost use Rattle.cec_core.specs.declared.text_faults.TextFault.TheVariants.{Blif as of_blif, C as of_c};
-ghost use Rattle.cec_core.specs.declared.text_faults.TextFault.TheVariants.{Verilog as of_verilog};
+ghost use Rattle.cec_core.specs.declared.text_faults.TextFault.TheVariants.{Guard as of_guarded, Verilog as of_verilog};
 
 use blif_run::TextFault as CircuitFault;
 use csub_run::TextFault as ProgramFault;
+use guard_run::TextFault as GuardedFault;
 use vlog_run::TextFault as ModuleFault;
 
 /// The first fault of a text that is to be run, by its language.
@@ -15,6 +16,8 @@ pub enum TextFault {
     Blif(CircuitFault),
     /// Of a text of the C subset.
     C(ProgramFault),
+    /// Of a guarded text.
+    Guard(GuardedFault),
     /// Of a text of structural Verilog.
     Verilog(ModuleFault),
 }
@@ -32,6 +35,14 @@ impl From<ProgramFault> for TextFault {
 
     fn from(fault: ProgramFault) -> TextFault {
         TextFault::C(fault)
+    }
+}
+
+impl From<GuardedFault> for TextFault {
+    ghost from_gives = { λ fault told. told ≡ of_guarded fault };
+
+    fn from(fault: GuardedFault) -> TextFault {
+        TextFault::Guard(fault)
     }
 }
 

@@ -135,6 +135,9 @@ fn told_of_text(alloc: Global, words: &str, source: &[u8], out: &[u8]) -> &'stat
             return ", without a small text";
         }
     }
+    if words == "c --guard m" && !is_text_of(alloc, words, source, out) {
+        return ", not by one call";
+    }
     if words == "cec-opt blif m" || words == "cec-opt c m" || words == "cec-opt verilog m" {
         if !is_optimized_text(alloc, words, source, out) {
             return ", not by one call";

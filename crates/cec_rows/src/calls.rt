@@ -3,7 +3,7 @@
 ghost use Rattle.std.specs.Prelude.{◌≤◌, length};
 
 use crate::blocks::{Block, numbers_behind};
-use cec_core::{Refusal, blif_of, c_of, cec, cec_steadily, verilog_of};
+use cec_core::{Refusal, blif_of, c_of, cec, cec_steadily, guarded_c_of, verilog_of};
 use cec_small::{small_blif_of, small_c_of, small_verilog_of};
 use est_base::{
     FileEntry, Limits, ListSink, MapFiles, NoMemory, SteadyFiles, SteadySink, Stop, Text,
@@ -136,6 +136,8 @@ fn text_of(alloc: Global, words: &str, source: &[u8]) -> Result<Vec<u8>, Refusal
         blif_of(alloc, source, None, &mut First)
     } else if words.starts_with("verilog") {
         verilog_of(alloc, source, None, &mut First)
+    } else if words.starts_with("c --guard") {
+        guarded_c_of(alloc, source, None, &mut First)
     } else {
         c_of(alloc, source, None, &mut First)
     }

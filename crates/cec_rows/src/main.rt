@@ -27,8 +27,8 @@
 //! of `out` and `err`. Words behind `cec-opt` are those of the optimizer, and all others those of the compiler. Where
 //! `out` is to fail, the command runs once more without that, and the answer says whether
 //! `out` is a beginning of what it has then. Where it is done, it runs once more by `cec_steadily`, and a text of `blif
-//! m`, `c m` or `verilog m` is made once more by `blif_of`, `c_of` or `verilog_of`: the answer says where those write
-//! anything else.
+//! m`, `c m`, `c --guard m` or `verilog m` is made once more by `blif_of`, `c_of`, `guarded_c_of` or `verilog_of`: the
+//! answer says where those write anything else.
 #![tactic(auto)]
 
 mod answers;

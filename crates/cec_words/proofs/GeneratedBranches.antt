@@ -64,6 +64,7 @@ part_good settings.Pick place value = made GoodPart parts.Pick (λ p. tt) (pick_
 part_good settings.Start place value = made GoodPart parts.Start (λ n. tt) (number value)
 part_good settings.Branches place value = branches_good (number_within 1 BRANCHES value) (number_good value)
 part_good settings.Encode place value = tt
+part_good settings.Guard place value = tt
 part_good settings.Run place value = made GoodPart parts.Run (λ n. tt) (number_within 0 LOAD_INSTANTS value)
 
 ends_good : (o : Option Part) → IfSome o GoodPart → IfSome (option_map Ends o) GoodStep
@@ -78,6 +79,7 @@ bare_good at word settings.Start = tt
 bare_good at word settings.Branches = tt
 bare_good at word settings.Run = tt
 bare_good at word settings.Encode = tt
+bare_good at word settings.Guard = tt
 
 spelled_good : (at : ℕ) (word : List ℕ) (o : Option Spelling) → IfSome (option_and_then (spelled_step at word) o) GoodStep
 spelled_good at word None = tt
@@ -110,6 +112,7 @@ with_good (parts.Start n) g good all = all
 with_good (parts.Branches n) g good all = All-cons IsGood n g.branches good all
 with_good (parts.Run n) g good all = all
 with_good parts.Encode g good all = all
+with_good parts.Guard g good all = all
 
 after_good : (rest : Option Setting → Option Gathered) (o : Option Step) → IfSome o GoodStep → ((w : Option Setting) → IfSome (rest w) AreGood) →
     IfSome (after_step rest o) AreGood
@@ -161,6 +164,11 @@ run_well g f t (Some (Text vias.Blif)) = tt
 run_well g f t (Some (Text vias.C)) = by (source g f).encode
   where
     by : (b : Bool) → IfSome (if b then None else Some (asks.Run vias.C (source g f) t)) AsksWell
+    by true = tt
+    by false = tt
+run_well g f t (Some (Text vias.Guard)) = by (source g f).encode
+  where
+    by : (b : Bool) → IfSome (if b then None else Some (asks.Run vias.Guard (source g f) t)) AsksWell
     by true = tt
     by false = tt
 run_well g f t (Some (Text vias.Verilog)) = by (source g f).encode

@@ -1,4 +1,5 @@
 mod DecimalValues
+mod AskedOnce
 mod Gathering
 mod Options
 mod GeneratedBranches

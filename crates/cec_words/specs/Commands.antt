@@ -31,7 +31,7 @@ command_of word =
 -- the options of a command
 abbrev pub options : Command → List Setting
 options commands.Blif = settings.Main ∷ settings.Pick ∷ settings.Encode ∷ []
-options commands.C = settings.Main ∷ settings.Pick ∷ []
+options commands.C = settings.Main ∷ settings.Pick ∷ settings.Guard ∷ []
 options commands.Verilog = settings.Main ∷ settings.Pick ∷ []
 options commands.Grc = settings.Main ∷ []
 options commands.Check = settings.Main ∷ []
@@ -69,6 +69,7 @@ way_of value =
     if is_same_name value (codes "verilog") then Some (Text vias.Verilog)
     else if is_same_name value (codes "blif") then Some (Text vias.Blif)
     else if is_same_name value (codes "c") then Some (Text vias.C)
+    else if is_same_name value (codes "guard") then Some (Text vias.Guard)
     else if is_same_name value (codes "tri") then Some Tri
     else None
 
@@ -92,10 +93,12 @@ part_of settings.Start place value = option_map parts.Start (number value)
 part_of settings.Branches place value = option_map parts.Branches (number_within 1 BRANCHES value)
 part_of settings.Run place value = option_map parts.Run (number_within 0 LOAD_INSTANTS value)
 part_of settings.Encode place value = None
+part_of settings.Guard place value = None
 
 -- what a word does that spells an option: but for the one that takes no value, its name alone waits for one
 abbrev pub spelled_step : ℕ → List ℕ → Spelling → Option Step
 spelled_step at word (Bare settings.Encode) = Some (Ends parts.Encode)
+spelled_step at word (Bare settings.Guard) = Some (Ends parts.Guard)
 spelled_step at word (Bare setting) = Some (Waits setting)
 spelled_step at word (Valued setting start) =
     option_map Ends (part_of setting (record { word = at; start = start }) (drop start word))

@@ -9,6 +9,7 @@ pub data Setting : Type 0 where
   Branches : Setting
   Run : Setting
   Encode : Setting
+  Guard : Setting
 
 abbrev pub option_name : Setting → List ℕ
 option_name Via = codes "--via"
@@ -18,3 +19,4 @@ option_name Start = codes "--start"
 option_name Branches = codes "--branches"
 option_name Run = codes "--run"
 option_name Encode = codes "--encode"
+option_name Guard = codes "--guard"

@@ -25,6 +25,7 @@ pub data Part : Type 0 where
   Branches : (number : ℕ) → Part
   Run : (number : ℕ) → Part
   Encode : Part
+  Guard : Part
 
 -- what a word does: it makes an option wait for its value, or it ends a part
 pub data Step : Type 0 where

@@ -29,6 +29,7 @@ pub record Gathered : Type 0 where
   pub branches : List ℕ
   pub runs : List ℕ
   pub encodes : List Bool
+  pub guards : List Bool
 
 abbrev pub nothing : Gathered
 nothing = record {
@@ -40,6 +41,7 @@ nothing = record {
   branches = [];
   runs = [];
   encodes = [];
+  guards = [];
 }
 
 -- one part before those of the words behind it
@@ -52,6 +54,7 @@ with_part (parts.Start n) g = record g { starts = n ∷ g.starts }
 with_part (parts.Branches n) g = record g { branches = n ∷ g.branches }
 with_part (parts.Run n) g = record g { runs = n ∷ g.runs }
 with_part parts.Encode g = record g { encodes = true ∷ g.encodes }
+with_part parts.Guard g = record g { guards = true ∷ g.guards }
 
 -- what a step gives, by what the words behind it give, with the option that waits
 abbrev pub after_step : (Option Setting → Option Gathered) → Option Step → Option Gathered
@@ -76,15 +79,17 @@ abbrev pub each_once : Gathered → Bool
 each_once g =
     nat_le (length g.vias) 1 && nat_le (length g.mains) 1 && nat_le (length g.picks) 1
     && nat_le (length g.starts) 1 && nat_le (length g.branches) 1 && nat_le (length g.runs) 1
-    && nat_le (length g.encodes) 1
+    && nat_le (length g.encodes) 1 && nat_le (length g.guards) 1
 
--- the source in a file: the first ready wire is picked, and the state is not encoded, where the words do not say
+-- the source in a file: the first ready wire is picked, the state is not encoded, and no block is skipped, where the
+-- words do not say
 abbrev pub source : Gathered → ℕ → Source
 source g file = record {
   file = file;
   main = head g.mains;
   pick = unwrap_or (head g.picks) First;
   encode = unwrap_or (head g.encodes) false;
+  guard = unwrap_or (head g.guards) false;
 }
 
 -- a command on one file

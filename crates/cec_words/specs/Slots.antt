@@ -43,6 +43,7 @@ extended g rest = record {
   branches = option_to_list g.branches ++ rest.branches;
   runs = option_to_list g.run ++ rest.runs;
   encodes = flag_list g.encode ++ rest.encodes;
+  guards = flag_list g.guard ++ rest.guards;
 }
 
 abbrev pub slots : Given → Gathered
@@ -55,6 +56,7 @@ slots g = record {
   branches = option_to_list g.branches;
   runs = option_to_list g.run;
   encodes = flag_list g.encode;
+  guards = flag_list g.guard;
 }
 
 -- one part more is kept

@@ -36,6 +36,7 @@ plain_setting code_setting.Start = settings.Start
 plain_setting code_setting.Branches = settings.Branches
 plain_setting code_setting.Run = settings.Run
 plain_setting code_setting.Encode = settings.Encode
+plain_setting code_setting.Guard = settings.Guard
 
 abbrev pub plain_spelling : code_spellings.Spelling → Spelling
 plain_spelling (code_spelling.Bare setting) = Bare (plain_setting setting)
@@ -54,6 +55,7 @@ plain_part (code_part.Start number) = parts.Start number
 plain_part (code_part.Branches number) = parts.Branches number
 plain_part (code_part.Run number) = parts.Run number
 plain_part code_part.Encode = parts.Encode
+plain_part code_part.Guard = parts.Guard
 
 abbrev pub plain_step : code_steps.Step → Step
 plain_step (code_step.Waits setting) = Waits (plain_setting setting)

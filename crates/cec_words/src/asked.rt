@@ -5,6 +5,7 @@
 pub enum Via {
     Blif,
     C,
+    Guard,
     Verilog,
 }
 
@@ -32,6 +33,8 @@ pub struct Source {
     pub pick: Pick,
     /// Whether the latches of its text hold the state in a code. Only a BLIF text has this.
     pub encode: bool,
+    /// Whether blocks of its text are skipped where they are idle. Only a C text has this.
+    pub guard: bool,
 }
 
 /// What a list of words asks for. Files are given by the places of their words.

@@ -26,6 +26,7 @@ pub struct Given {
     pub branches: Option<u32>,
     pub run: Option<u32>,
     pub encode: bool,
+    pub guard: bool,
 }
 
 impl Given {
@@ -41,6 +42,7 @@ impl Given {
             branches: None,
             run: None,
             encode: false,
+            guard: false,
         }
     }
 
@@ -76,6 +78,10 @@ impl Given {
             }),
             Part::Encode if !self.encode => Some(Given {
                 encode: true,
+                ..self
+            }),
+            Part::Guard if !self.guard => Some(Given {
+                guard: true,
                 ..self
             }),
             _ => None,
@@ -147,7 +153,7 @@ impl Given {
         ensures { result ≡ run_asked (slots self) (plain_way way) file trace }
     {
         match way {
-            Way::Text(Via::C | Via::Verilog) if self.encode => None,
+            Way::Text(Via::C | Via::Guard | Via::Verilog) if self.encode => None,
             Way::Text(via) => Some(Asked::Run(via, self.source(file), trace)),
             Way::Tri if self.pick.is_none() && !self.encode => Some(Asked::RunTri(
                 self.source(file),
@@ -165,6 +171,7 @@ impl Given {
             main: self.main,
             pick: self.pick.unwrap_or(Pick::First),
             encode: self.encode,
+            guard: self.guard,
         }
     }
 }

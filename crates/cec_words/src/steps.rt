@@ -36,6 +36,7 @@ pub enum Setting {
     Branches,
     Run,
     Encode,
+    Guard,
 }
 
 // How a word spells an option: bare, with the value in the next word, or with the value from this
@@ -64,6 +65,7 @@ pub enum Part {
     Branches(u32),
     Run(u32),
     Encode,
+    Guard,
 }
 
 // What a word does: it makes an option wait for its value, or it ends a part.
@@ -108,6 +110,7 @@ pub fn step_of(command: Command, waiting: Option<Setting>, at: usize, word: &[u8
     }
     match named(options(command), word)? {
         Spelling::Bare(Setting::Encode) => Some(Step::Ends(Part::Encode)),
+        Spelling::Bare(Setting::Guard) => Some(Step::Ends(Part::Guard)),
         Spelling::Bare(setting) => Some(Step::Waits(setting)),
         Spelling::Valued(setting, start) => {
             let part = part_of(setting, Value { word: at, start }, &word[start..])?;
@@ -132,7 +135,8 @@ fn options(command: Command) -> &'static [Setting]
 {
     match command {
         Command::Blif => &[Setting::Main, Setting::Pick, Setting::Encode],
-        Command::C | Command::Verilog => &[Setting::Main, Setting::Pick],
+        Command::C => &[Setting::Main, Setting::Pick, Setting::Guard],
+        Command::Verilog => &[Setting::Main, Setting::Pick],
         Command::Grc | Command::Check => &[Setting::Main],
         Command::Run => &[Setting::Via, Setting::Main, Setting::Pick, Setting::Encode],
         Command::Exec => &[Setting::Via],
@@ -152,6 +156,7 @@ fn option_name(setting: Setting) -> &'static [u8]
         Setting::Branches => b"--branches",
         Setting::Run => b"--run",
         Setting::Encode => b"--encode",
+        Setting::Guard => b"--guard",
     }
 }
 
@@ -202,7 +207,7 @@ fn part_of(setting: Setting, value: Value, bytes: &[u8]) -> Option<Part>
             instants if instants <= Limits::LOAD_INSTANTS => Some(Part::Run(instants as u32)),
             _ => None,
         },
-        Setting::Encode => None,
+        Setting::Encode | Setting::Guard => None,
     }
 }
 
@@ -215,6 +220,7 @@ fn way_of(bytes: &[u8]) -> Option<Way>
     match bytes {
         b"blif" => Some(Way::Text(Via::Blif)),
         b"c" => Some(Way::Text(Via::C)),
+        b"guard" => Some(Way::Text(Via::Guard)),
         b"tri" => Some(Way::Tri),
         _ => None,
     }

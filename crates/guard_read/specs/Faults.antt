@@ -1,4 +1,4 @@
--- Contract: what it means that a text is read, and what a fault says of a text.
+-- To believe: what it means that a text is read, and what a fault says of a text.
 use Rattle.std.specs.Prelude.{◌≡◌, ℕ, ◌<◌, ◌≤◌, List, length, Some}
 use Rattle.est_base.specs.declared.bounds.TheConstants.Limits.{TEXT_BYTES}
 use Rattle.csub_guard.specs.Trees.{Program}

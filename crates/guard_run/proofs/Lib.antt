@@ -9,3 +9,4 @@ mod NetTexts
 mod TextFaults
 mod CountedRuns
 mod worked
+pub mod Exports

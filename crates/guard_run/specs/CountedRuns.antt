@@ -1,4 +1,4 @@
--- Contract: how a run of a guarded text over a trace ends. Where the whole trace was read, the number of assignments
+-- To believe: how a run of a guarded text over a trace ends. Where the whole trace was read, the number of assignments
 -- that all calls ran stands in a line behind the others.
 use Rattle.std.specs.Prelude.{ℕ, ◌++◌, ◌⊎◌, List, [], None, Result, Ok, Err}
 use Rattle.est_base.specs.Items.{Item}

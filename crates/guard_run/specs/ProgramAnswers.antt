@@ -1,4 +1,4 @@
--- Contract: what a guarded program shows over items, as lines tell it, and the line of its count. The names of the
+-- To believe: what a guarded program shows over items, as lines tell it, and the line of its count. The names of the
 -- inputs and outputs are those behind their signs, and the value returned gives the word.
 use Rattle.std.specs.Prelude.{ℕ, List, ◌++◌, codes, decimal, map}
 use Rattle.est_base.specs.Items.{Item}

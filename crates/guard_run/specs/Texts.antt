@@ -1,4 +1,4 @@
--- Contract: guarded texts as a language: which fault is the first, and what is written of a netlist.
+-- To believe: guarded texts as a language: which fault is the first, and what is written of a netlist.
 use Rattle.std.specs.Prelude.{◌≡◌, ℕ, List, length, map}
 use Rattle.est_base.specs.Items.{Item, EachEvent}
 use Rattle.net_ir.specs.Netlists.{Netlist}

@@ -8,6 +8,8 @@ ghost use Rattle.cec_core.specs.ExecTexts.{IsFaultIn, IsTextIn, RunsBy};
 ghost use Rattle.cec_core.specs.Jobs.{Exec};
 ghost use Rattle.cec_core.specs.Lines.{GainsErr};
 ghost use Rattle.cec_core.specs.Outcomes.{Agrees, CountsFiles, ExecutesIn, ExecutesOn, GainsOut};
+ghost use Rattle.cec_words.specs.declared.asked.Via.TheVariants.{Guard};
+ghost use Rattle.guard_run.specs.CountedRuns.{CountsIn};
 ghost use Rattle.cec_core.specs.Runs.{LeavesRun};
 ghost use Rattle.cec_core.specs.Subjects.{CountsTrace, LongTrace, run_outcome};
 
@@ -20,6 +22,7 @@ use cec_compile::Limit;
 use cec_words::Via;
 use csub_run::CTexts;
 use est_base::{Files, Limits, Sink, Stop};
+use guard_run::{read_machine, run_counted};
 use std::alloc::Global;
 use trace_run::{Language, RunFault, run_text};
 use vlog_run::VerilogTexts;
@@ -98,6 +101,7 @@ fn exec_bytes<F: Files, O: Sink>(
     match via {
         Via::Blif => exec_in::<BlifTexts, F, O>(alloc, text, trace, files, out),
         Via::C => exec_in::<CTexts, F, O>(alloc, text, trace, files, out),
+        Via::Guard => exec_guarded(alloc, text, trace, files, out),
         Via::Verilog => exec_in::<VerilogTexts, F, O>(alloc, text, trace, files, out),
     }
 }
@@ -131,6 +135,35 @@ where
     };
     match files.read(alloc, trace, Limits::TRACE_BYTES) {
         Ok(trace) => run_outcome(run_text::<L, O>(alloc, machine, trace, out)),
+        Err(fault) => unread(Which::Second, Limit::Trace, fault),
+    }
+}
+
+// Runs a guarded text over the trace in a file, with the line of its count behind the others.
+fn exec_guarded<F: Files, O: Sink>(
+    alloc: Global,
+    text: &[u8],
+    trace: &str,
+    files: &mut F,
+    out: &mut O,
+) -> Outcome
+    requires { length text.now ≤ Limits.TEXT_BYTES }
+    ensures agrees { ExecutesOn Guard result text.now }
+    ensures long_trace { LongTrace (F.content files.old) trace.now result }
+    ensures files_counted { CountsTrace trace.now result
+        (F.faults files.old) (F.faults files.new) (F.last_failed files.old) (F.last_failed files.new) }
+    ensures files_stay { F.content files.new ≡ F.content files.old }
+    ensures out { LeavesRun (λ ended. Holds (F.content files.old) trace.now
+        (λ items. CountsIn text.now items (change O.told O.faults out.old out.new) ended))
+        (change O.told O.faults out.old out.new) result }
+{
+    let machine = match read_machine(alloc, text) {
+        Ok(machine) => machine,
+        Err(Stop::Fault(fault)) => return Outcome::BadText(TextFault::Guard(fault)),
+        Err(Stop::NoMemory) => return Outcome::NoMemory,
+    };
+    match files.read(alloc, trace, Limits::TRACE_BYTES) {
+        Ok(trace) => run_outcome(run_counted(alloc, machine, trace, out)),
         Err(fault) => unread(Which::Second, Limit::Trace, fault),
     }
 }

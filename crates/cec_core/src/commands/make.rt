@@ -8,7 +8,10 @@ ghost use Rattle.cec_core.specs.Jobs.{Make};
 ghost use Rattle.cec_core.specs.JobViews.{plain_job};
 ghost use Rattle.cec_core.specs.Lines.{GainsErr};
 ghost use Rattle.cec_compile.specs.MadeNets.{IsWrittenOf};
-ghost use Rattle.cec_core.specs.Outcomes.{Agrees, CountsFiles, GainsOut, LeavesAnswer, LeavesPieces, MakesOn};
+ghost use Rattle.cec_compile.specs.SourceTexts.{IsSourceText};
+ghost use Rattle.cec_compile.specs.declared.forms.TextForm.TheVariants.{Guarded};
+ghost use Rattle.cec_core.specs.Outcomes.{Agrees, CountsFiles, GainsOut, LeavesAnswer};
+ghost use Rattle.cec_core.specs.Outcomes.{LeavesPieces, LeavesText, MakesOn};
 ghost use Rattle.cec_core.specs.Subjects.{plain_subject, unread_outcome};
 ghost use Rattle.cec_core.specs.declared.jobs.Task.TheVariants.{Text};
 
@@ -16,6 +19,7 @@ use crate::answers::{counts, listing};
 use crate::jobs::{Job, Task};
 use crate::lines::{Subject, report};
 use crate::outcome::{Outcome, Which};
+use crate::picked::guarded_picked;
 use crate::writing::write_whole;
 use blif_text::BlifWriter;
 use cec_compile::{Limit, TextForm, write_source_text};
@@ -123,7 +127,21 @@ fn write_form<O: Sink>(
         TextForm::Blif => write_text::<BlifWriter, O>(alloc, form, job, source, out),
         TextForm::EncodedBlif => write_text::<BlifWriter, O>(alloc, form, job, source, out),
         TextForm::C => write_text::<CWriter, O>(alloc, form, job, source, out),
+        TextForm::Guarded => write_guarded(alloc, job, source, out),
         TextForm::Verilog => write_text::<VlogWriter, O>(alloc, form, job, source, out),
+    }
+}
+
+// Writes the guarded text of a source, which is made whole.
+fn write_guarded<O: Sink>(alloc: Global, job: Job<'_>, source: &[u8], out: &mut O) -> Outcome
+    requires { length source.now ≤ Limits.SOURCE_BYTES }
+    ensures agrees { MakesOn (plain_job job.entry).main result source.now }
+    ensures out { LeavesText (IsSourceText Guarded (plain_job job.entry).main source.now)
+        (change O.told O.faults out.old out.new) result }
+{
+    match guarded_picked(alloc, source, job.main, job.pick) {
+        Ok(guarded) => write_whole(&guarded.text, out),
+        Err(refusal) => Outcome::from(refusal),
     }
 }
 

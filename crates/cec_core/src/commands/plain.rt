@@ -14,12 +14,12 @@ use est_gen::{GenFault, generate_source};
 use std::alloc::Global;
 
 const HELP: &[u8] = b"cec blif [--main M] [--pick P] [--encode] FILE
-cec c [--main M] [--pick P] FILE
+cec c [--main M] [--pick P] [--guard] FILE
 cec verilog [--main M] [--pick P] FILE
 cec grc [--main M] FILE
 cec check [--main M] FILE
-cec run --via blif|c|verilog|tri [--main M] [--pick P] [--encode] FILE TRACE
-cec exec --via blif|c|verilog TEXT TRACE
+cec run --via blif|c|guard|verilog|tri [--main M] [--pick P] [--encode] FILE TRACE
+cec exec --via blif|c|guard|verilog TEXT TRACE
 cec gen --start N --branches N [--run N]
 ";
 

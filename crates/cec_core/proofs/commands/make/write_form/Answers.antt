@@ -2,9 +2,9 @@ use Rattle.est_base.specs.SinkChanges.{change}
 use Rattle.cec_compile.specs.MadeNets.{IsWrittenOf}
 use Rattle.cec_compile.specs.SourceTexts.{IsSourceText}
 use Rattle.cec_core.specs.JobViews.{plain_job}
-use Rattle.cec_compile.specs.declared.forms.TextForm.TheVariants.{Blif, EncodedBlif, C, Verilog}
+use Rattle.cec_compile.specs.declared.forms.TextForm.TheVariants.{Blif, EncodedBlif, C, Guarded, Verilog}
 use Rattle.cec_compile.proofs.Exports.{IsBlifText, IsCText, IsVerilogText, blif_answers, encoded_answers, c_answers, verilog_answers}
-use Rattle.cec_core.proofs.Pieces.{pieces_as}
+use Rattle.cec_core.proofs.Pieces.{pieces_as, whole_pieces}
 use Rattle.cec_core.proofs.commands.make.write_form.Goals as goal
 
 pub returns-in-Blif-clause-out : goal.returns-in-Blif-clause-out
@@ -30,6 +30,13 @@ returns-in-C-clause-out g c =
     (pieces_as (IsWrittenOf C IsCText c.args.source.now main) (IsSourceText C main c.args.source.now)
     (change g.O.Sink.told g.O.Sink.faults c.args.out.now c.write_text-in-C.new.out) c.write_text-in-C.result (c_answers c.args.source.now main)
     (rw (← c.in-C.is) c.write_text-in-C.ensures.out))
+
+pub returns-in-Guarded-clause-out : goal.returns-in-Guarded-clause-out
+returns-in-Guarded-clause-out g c =
+    let main = (plain_job c.args.job).main in
+    rw c.in-Guarded.is
+    (whole_pieces (IsSourceText Guarded main c.args.source.now) (change g.O.Sink.told g.O.Sink.faults c.args.out.now c.write_guarded.new.out)
+    c.write_guarded.result c.write_guarded.ensures.out)
 
 pub returns-in-Verilog-clause-out : goal.returns-in-Verilog-clause-out
 returns-in-Verilog-clause-out g c =

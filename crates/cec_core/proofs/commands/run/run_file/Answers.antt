@@ -39,12 +39,12 @@ returns-in-Ok-clause-out g c =
       faults_now = g.O.Sink.faults c.source_run-outcome.new.out;
     } in
     let trace = c.args.trace.now in
-    leaves_as (λ ended. Holds content trace (λ items. RunsSource job.main c.in-Ok.source.items items s ended))
-    (λ ended. Holds content job.name (λ bytes. Holds content trace (λ items. RunsSource job.main bytes items s ended))) s c.source_run-outcome.result
+    leaves_as (λ ended. Holds content trace (λ items. RunsSource c.args.via job.main c.in-Ok.source.items items s ended))
+    (λ ended. Holds content job.name (λ bytes. Holds content trace (λ items. RunsSource c.args.via job.main bytes items s ended))) s c.source_run-outcome.result
     (λ r ran. (c.in-Ok.source.items, held_read content job.name SOURCE_BYTES c.in-Ok.source c.in-Ok.ensures.bytes, ran))
-    (subst (λ bytes. LeavesRun (λ ended. Holds content trace (λ items. RunsSource job.main bytes items s ended)) s c.source_run-outcome.result)
+    (subst (λ bytes. LeavesRun (λ ended. Holds content trace (λ items. RunsSource c.args.via job.main bytes items s ended)) s c.source_run-outcome.result)
     c.deref.ensures.value
-    (subst (λ k. LeavesRun (λ ended. Holds k trace (λ items. RunsSource job.main c.deref.result.now items s ended)) s c.source_run-outcome.result)
+    (subst (λ k. LeavesRun (λ ended. Holds k trace (λ items. RunsSource c.args.via job.main c.deref.result.now items s ended)) s c.source_run-outcome.result)
     c.in-Ok.ensures.content_stays c.source_run-outcome.ensures.out))
 
 pub returns-in-Ok-clause-err : goal.returns-in-Ok-clause-err

@@ -1,30 +1,41 @@
-use Rattle.std.proofs.Common.{rules, ◌<◌, length, map, refl, ap}
+use Rattle.std.proofs.Common.{rules, ◌<◌, length, map, refl, ap, subst}
 use Rattle.est_base.specs.declared.bounds.TheConstants.Limits.{TRACE_BYTES, TEXT_BYTES}
 use Rattle.est_base.specs.Relations.{relation_of}
 use Rattle.est_kernel.specs.Plain.{Program}
 use Rattle.net_ir.specs.Runs.{netlist_of}
-use Rattle.est_base.specs.SinkChanges.{SinkChange}
+use Rattle.est_base.specs.SinkChanges.{SinkChange, change}
 use Rattle.text_io.specs.Contents.{Holds}
 use Rattle.cec_core.specs.JobViews.{plain_job}
+use Rattle.net_ir.specs.Netlists.{output_names}
+use Rattle.trace_io.specs.Answers.{beginning}
+use Rattle.cec_core.specs.NetTexts.{RunsText}
 use Rattle.cec_core.specs.Runs.{RunsSource}
 use Rattle.text_io.proofs.Exports.{held_read}
 use Rattle.cec_compile.proofs.Exports.{made_source, made_keeps}
 use Rattle.cec_core.proofs.TextSizes.{long_text, made_relations_few}
-use Rattle.cec_core.proofs.RunLines.{given_wide, runs_program}
+use Rattle.cec_core.proofs.RunLines.{given_wide, runs_via}
 use Rattle.cec_core.specs.declared.outcome.Which.TheVariants.{Second}
 use Rattle.cec_compile.specs.declared.refusal.Limit.TheVariants as limits
-use Rattle.cec_core.proofs.TwoFiles.{run_left, run_trace_unread, count_trace_unread, leaves_unread, long_trace_unread, refused_runs}
+use Rattle.cec_core.proofs.TwoFiles.{run_left, run_ran, run_trace_unread, count_trace_unread, leaves_unread, long_trace_unread, refused_runs}
 use Rattle.cec_core.proofs.commands.run.source_run.Goals as goal
 
 pub returns-then-len-gt-TEXT_BYTES-clause-agrees : goal.returns-then-len-gt-TEXT_BYTES-clause-agrees
 returns-then-len-gt-TEXT_BYTES-clause-agrees g c =
     let made = c.in-Ok.made in
     let long : TEXT_BYTES < length made.1.items = search rules in
-    long_text c.args.via c.args.source.now (plain_job c.args.job).main made.0 made.1.items c.requires c.in-Ok.ensures.made c.in-Ok.ensures.text long
+    long_text c.args.via c.args.source.now (plain_job c.args.job).main made.0 made.1.items c.requires c.in-Ok.ensures.made c.in-Ok.ensures.text
+    c.in-Ok.ensures.guarded long
 
 pub run_made-requires-clause-few : goal.run_made-requires-clause-few
 run_made-requires-clause-few g c =
     made_relations_few c.args.via c.args.source.now (plain_job c.args.job).main c.in-Ok.made.0 c.requires c.in-Ok.ensures.made
+
+pub returns-in-Ok-read-clause-agrees : goal.returns-in-Ok-read-clause-agrees
+returns-in-Ok-read-clause-agrees g c =
+    let job = plain_job c.args.job in
+    rw c.run_outcome.ensures
+    (run_ran c.args.via job c.args.source.now c.run_made.result
+    (made_source c.args.via c.args.source.now job.main c.in-Ok.made.0 c.requires c.in-Ok.ensures.made))
 
 pub returns-in-Ok-read-clause-out : goal.returns-in-Ok-read-clause-out
 returns-in-Ok-read-clause-out g c =
@@ -34,17 +45,21 @@ returns-in-Ok-read-clause-out g c =
     let m = c.in-Ok.ensures.made in
     let s = m.source in
     let p = s.program in
+    let came = change g.O.Sink.told g.O.Sink.faults c.args.out.now c.run_made.new.out in
     rw c.run_outcome.ensures
-    (run_left content c.args.trace.now main c.args.source.now _ c.run_made.result c.in-Ok-read.items.items
+    (run_left content c.args.trace.now c.args.via main c.args.source.now came c.run_made.result c.in-Ok-read.items.items
     (held_read content c.args.trace.now TRACE_BYTES c.in-Ok-read.items c.in-Ok-read.ensures.bytes)
     (record {
       program = p;
       short = c.requires;
       source = s.source;
       compiles = s.compiled.compiles;
-      ran = runs_program (netlist_of made.net) p (given_wide p s.compiled.formed) (made_keeps c.args.via c.args.source.now main made m)
-          c.in-Ok-read.items.items
-          (map relation_of made.program.relations.items) _ c.run_made.result (ap (λ (q : Program). q.relations) m.program) c.run_made.ensures;
+      ran = runs_via c.args.via main c.args.source.now c.in-Ok.made.1.items (netlist_of made.net) p (given_wide p s.compiled.formed)
+          (made_keeps c.args.via c.args.source.now main made m) c.in-Ok-read.items.items (map relation_of made.program.relations.items) came
+          c.run_made.result (ap (λ (q : Program). q.relations) m.program) c.in-Ok.ensures.guarded
+          (subst (λ text. RunsText c.args.via text (output_names (netlist_of made.net)) (netlist_of made.net)
+          (beginning c.in-Ok-read.items.items (netlist_of made.net).inputs (map relation_of made.program.relations.items)) came c.run_made.result)
+          c.deref.ensures.value c.run_made.ensures);
     }))
 
 pub returns-in-Err-read-clause-long_trace : goal.returns-in-Err-read-clause-long_trace
@@ -75,5 +90,5 @@ returns-in-Err-read-clause-out g c =
       faults_now = g.O.Sink.faults c.args.out.now;
     } in
     rw c.unread.ensures
-    (leaves_unread (λ ended. Holds content c.args.trace.now (λ items. RunsSource (plain_job c.args.job).main c.args.source.now items s ended)) s Second
-    limits.Trace c.in-Err-read.fault (refl, refl))
+    (leaves_unread (λ ended. Holds content c.args.trace.now
+    (λ items. RunsSource c.args.via (plain_job c.args.job).main c.args.source.now items s ended)) s Second limits.Trace c.in-Err-read.fault (refl, refl))

@@ -1,0 +1,24 @@
+use Rattle.est_base.specs.declared.bounds.TheConstants.Limits.{TRACE_BYTES}
+use Rattle.est_base.specs.SinkChanges.{change}
+use Rattle.text_io.proofs.Exports.{held_read}
+use Rattle.guard_run.specs.CountedRuns.{CountsIn}
+use Rattle.guard_run.specs.Showing.{counted_program}
+use Rattle.text_io.specs.Contents.{Holds}
+use Rattle.cec_core.proofs.TwoFiles.{leaves_ran, long_trace_unread}
+use Rattle.cec_core.proofs.commands.exec.exec_guarded.Goals as goal
+
+pub returns-in-Ok-read-clause-out : goal.returns-in-Ok-read-clause-out
+returns-in-Ok-read-clause-out g c =
+    let content = g.F.Files.content c.args.files.now in
+    let trace = c.in-Ok-read.trace in
+    let came = change g.O.Sink.told g.O.Sink.faults c.args.out.now c.run_counted.new.out in
+    rw c.run_outcome.ensures
+    (leaves_ran (λ ended. Holds content c.args.trace.now (λ i. CountsIn c.args.text.now i came ended)) came c.run_counted.result (
+      trace.items,
+      held_read content c.args.trace.now TRACE_BYTES trace c.in-Ok-read.ensures.bytes,
+      record { program = counted_program c.in-Ok.machine; read = c.in-Ok.ensures.reads; ran = c.run_counted.ensures },
+    ))
+
+pub returns-in-Err-clause-long_trace : goal.returns-in-Err-clause-long_trace
+returns-in-Err-clause-long_trace g c =
+    rw c.unread.ensures (long_trace_unread (g.F.Files.content c.args.files.now) c.args.trace.now c.in-Err.fault c.in-Err.ensures.bytes)
