@@ -1,26 +1,19 @@
 -- What the passes above read of a program's graph.
-use Rattle.std.proofs.Common.{◌≡◌, ℕ, ◌+◌, ◌≤◌, List, [], ◌∷◌, length, map, refl, sym, ap, ◌∙◌, arith}
-use Rattle.std.specs.Prelude.{zip, sum_by}
+use Rattle.std.proofs.Common.{◌≡◌, List, [], ◌∷◌, length, map, refl, sym, ap, ◌∙◌, arith}
+use Rattle.std.specs.Prelude.{zip}
 use Rattle.std.proofs.lemmas.List.{length-map}
-use Rattle.est_base.specs.declared.bounds.TheConstants.Limits.{WIRES}
 use Rattle.est_kernel.specs.Plain.{Program, given_count, interface_of}
 use Rattle.grc_graph.specs.declared.formulas.Formula as stored
 use Rattle.grc_graph.specs.declared.graph.Graph.{Graph}
-use Rattle.grc_graph.specs.BuiltGraphs.{IsGraphOf, live_tests}
+use Rattle.grc_graph.specs.BuiltGraphs.{IsGraphOf}
 use Rattle.grc_graph.specs.Equations.{Equation, equations, next_formula}
 use Rattle.grc_graph.specs.Formulas.{Formula}
-use Rattle.grc_graph.specs.GraphRuns.{program_spots, program_wires}
+use Rattle.grc_graph.specs.GraphRuns.{program_spots}
 use Rattle.grc_graph.specs.Instances.{Instance}
 use Rattle.grc_graph.specs.Layers.{body_layers}
-use Rattle.grc_graph.specs.PlainGraphs.{equations_of, formula_of, instances_of, names_of, wire_of}
+use Rattle.grc_graph.specs.PlainGraphs.{formula_of, instances_of, names_of, wire_of}
 use Rattle.grc_graph.specs.SelectionTrees.{body_leaves}
 use Rattle.grc_graph.specs.Wires.{Wire}
-
--- its wires keep the limit
-pub wires_few : (g : Graph) (p : Program) → IsGraphOf g p → length g.wires.items ≤ WIRES
-wires_few g p h =
-    let few : length (program_wires p) + sum_by (λ x. live_tests x.statement x.layer) (program_spots p) ≤ WIRES = h.few in
-    omega (arith, few, length-map g.wires.items (wire_of (instances_of g)), ap length h.wires)
 
 -- it has a formula of the next state for each leaf
 pub next_each : (g : Graph) (p : Program) → IsGraphOf g p → length g.next.items ≡ length (body_leaves p.body)

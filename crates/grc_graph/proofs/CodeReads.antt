@@ -1,5 +1,5 @@
 -- The static codes of each statement stand at its number in the lists of a body's codes.
-use Rattle.std.proofs.Common.{◌≡◌, ℕ, zero, suc, ◌+◌, ◌<◌, ◌≤◌, Bool, List, [], ◌∷◌, ◌++◌, length, map, get_or, refl, sym, ap, ◌∙◌, subst, arith, length-append}
+use Rattle.std.proofs.Common.{◌≡◌, ℕ, ◌+◌, ◌<◌, ◌≤◌, Bool, List, [], ◌∷◌, ◌++◌, length, map, get_or, refl, sym, ap, ◌∙◌, subst, arith, length-append}
 use Rattle.std.proofs.lemmas.List.{length-map, map-append, get_or_append_left, get_or-append-add}
 use Rattle.est_base.specs.CodeSet.{members}
 use Rattle.est_base.specs.Codes.{no_code}
@@ -10,7 +10,7 @@ use Rattle.est_kernel.specs.Terms.{Term, Nothing, Pause, Emit, Exit, Present, Su
 use Rattle.est_kernel.specs.Preorder.{statement_count, preorder}
 use Rattle.est_kernel.specs.StaticCodes.{started_codes, resumed_codes}
 use Rattle.est_kernel.proofs.Exports.{length-preorder}
-use Rattle.grc_graph.specs.CodeTables.{set_at, HasCodesAt, CodesFrom}
+use Rattle.grc_graph.specs.CodeTables.{HasCodesAt, CodesFrom}
 
 -- a list stands in another at this place
 pub record StandsAt {A : Type 0} (xs : List A) (n : ℕ) (ys : List A) : Type 0 where
@@ -81,10 +81,6 @@ two_parts c t p q n e h =
     )
 
 codes_from : (c : Codes) (t : Term) (n : ℕ) → Lists c t n → CodesFrom c t n
-codes_from c Nothing n h = codes_here c Nothing n [] h.started h.resumed
-codes_from c Pause n h = codes_here c Pause n [] h.started h.resumed
-codes_from c (Emit s) n h = codes_here c (Emit s) n [] h.started h.resumed
-codes_from c (Exit k) n h = codes_here c (Exit k) n [] h.started h.resumed
 codes_from c (Present e p q) n h =
     let r = two_parts c (Present e p q) p q n refl h in (r.0, codes_from c p (n + 1) r.1, codes_from c q _ r.2)
 codes_from c (Suspend e p) n h = let r = one_part c (Suspend e p) p n refl h in (r.0, codes_from c p (n + 1) r.1)
@@ -96,6 +92,7 @@ codes_from c (Par p q) n h =
 codes_from c (Trap p) n h = let r = one_part c (Trap p) p n refl h in (r.0, codes_from c p (n + 1) r.1)
 codes_from c (Local s p) n h = let r = one_part c (Local s p) p n refl h in (r.0, codes_from c p (n + 1) r.1)
 codes_from c (Awake e p) n h = let r = one_part c (Awake e p) p n refl h in (r.0, codes_from c p (n + 1) r.1)
+codes_from c t n h = codes_here c t n [] h.started h.resumed
 
 pub codes_of_body : (c : Codes) (body : Term) → AreCodesOf c body → CodesFrom c body 0
 codes_of_body c body h = codes_from c body 0 (record {
@@ -109,21 +106,10 @@ codes_at c Nothing n h = h
 codes_at c Pause n h = h
 codes_at c (Emit s) n h = h
 codes_at c (Exit k) n h = h
-codes_at c (Present e p q) n h = h.0
-codes_at c (Suspend e p) n h = h.0
-codes_at c (Seq p q) n h = h.0
-codes_at c (Loop at p) n h = h.0
-codes_at c (Par p q) n h = h.0
-codes_at c (Trap p) n h = h.0
-codes_at c (Local s p) n h = h.0
-codes_at c (Awake e p) n h = h.0
+codes_at c _ n h = h.0
 
 -- tests only add to the size
 pub statement_count-le : (t : Term) → statement_count t ≤ size_of t
-statement_count-le Nothing = omega arith
-statement_count-le Pause = omega arith
-statement_count-le (Emit s) = omega arith
-statement_count-le (Exit k) = omega arith
 statement_count-le (Present e p q) = omega (arith, statement_count-le p, statement_count-le q)
 statement_count-le (Suspend e p) = omega (arith, statement_count-le p)
 statement_count-le (Seq p q) = omega (arith, statement_count-le p, statement_count-le q)
@@ -132,3 +118,4 @@ statement_count-le (Par p q) = omega (arith, statement_count-le p, statement_cou
 statement_count-le (Trap p) = omega (arith, statement_count-le p)
 statement_count-le (Local s p) = omega (arith, statement_count-le p)
 statement_count-le (Awake e p) = omega (arith, statement_count-le p)
+statement_count-le _ = omega arith

@@ -22,7 +22,7 @@ pub use Rattle.grc_graph.proofs.LiveLayers.{Agrees, body_agrees, first_agrees, h
 pub use Rattle.grc_graph.proofs.RowSpots.{Read, length-rows, program_spots_by_row, row_read, stands_first, stands_one, stands_second}
 pub use Rattle.grc_graph.proofs.CodeBounds.{codes_below-kernel, program_kernel, resumed_below, started_below}
 pub use Rattle.grc_graph.proofs.RowScopes.{EmitShown, HasStatus, out_there, program_fits}
-pub use Rattle.grc_graph.proofs.BuiltReads.{formulas_each, next_each, wires_few}
+pub use Rattle.grc_graph.proofs.BuiltReads.{formulas_each, next_each}
 pub use Rattle.grc_graph.proofs.SameWires.{layer_irrefl, same_layer-self, same_layer-true, same_wire-back, same_wire-self, same_wire-true}
 pub use Rattle.grc_graph.proofs.Holding.{holds-false, holds-none, holds_at-self}
 pub use Rattle.grc_graph.proofs.StateForms.{formed-part, states-are-formed}

@@ -8,10 +8,6 @@ use Rattle.grc_graph.specs.Readings.{holds_at}
 use Rattle.grc_graph.specs.Residuals.{holds}
 
 pub holds-false : (t : Term) (n : ℕ) → holds (λ m. false) t n ≡ false
-holds-false Nothing n = refl
-holds-false Pause n = refl
-holds-false (Emit x) n = refl
-holds-false (Exit k) n = refl
 holds-false (Present e p q) n = or-equal (holds-false p (n + 1)) (holds-false q (n + 1 + statement_count p))
 holds-false (Suspend e p) n = holds-false p (n + 1)
 holds-false (Seq p q) n = or-equal (holds-false p (n + 1)) (holds-false q (n + 1 + statement_count p))
@@ -19,14 +15,11 @@ holds-false (Loop at p) n = holds-false p (n + 1)
 holds-false (Par p q) n = or-equal (holds-false p (n + 1)) (holds-false q (n + 1 + statement_count p))
 holds-false (Trap p) n = holds-false p (n + 1)
 holds-false (Local x p) n = holds-false p (n + 1)
-holds-false (Awake e p) n = refl
+holds-false _ n = refl
 
 -- where no pause is selected, no statement holds one
 pub holds-none : (S : ℕ → Bool) (t : Term) (n : ℕ) → ((m : ℕ) → S m ≡ false) → holds S t n ≡ false
-holds-none S Nothing n h = refl
 holds-none S Pause n h = h n
-holds-none S (Emit s) n h = refl
-holds-none S (Exit k) n h = refl
 holds-none S (Present e p q) n h = λ i. holds-none S p (n + 1) h i || holds-none S q (n + 1 + statement_count p) h i
 holds-none S (Suspend e p) n h = holds-none S p (n + 1) h
 holds-none S (Seq p q) n h = λ i. holds-none S p (n + 1) h i || holds-none S q (n + 1 + statement_count p) h i
@@ -34,7 +27,7 @@ holds-none S (Loop at p) n h = holds-none S p (n + 1) h
 holds-none S (Par p q) n h = λ i. holds-none S p (n + 1) h i || holds-none S q (n + 1 + statement_count p) h i
 holds-none S (Trap p) n h = holds-none S p (n + 1) h
 holds-none S (Local s p) n h = holds-none S p (n + 1) h
-holds-none S (Awake e p) n h = refl
+holds-none S _ n h = refl
 
 -- what a lookup of held pauses finds
 pub holds_at-self : (S : ℕ → Bool) (t : Term) (n : ℕ) → holds_at S t n n ≡ holds S t n
@@ -42,11 +35,5 @@ holds_at-self S Nothing n = refl
 holds_at-self S Pause n = refl
 holds_at-self S (Emit s) n = refl
 holds_at-self S (Exit c) n = refl
-holds_at-self S (Present e p q) n = cond-true (n == n) _ _ (eq-eqb n n refl)
-holds_at-self S (Suspend e p) n = cond-true (n == n) _ _ (eq-eqb n n refl)
-holds_at-self S (Seq p q) n = cond-true (n == n) _ _ (eq-eqb n n refl)
-holds_at-self S (Loop at p) n = cond-true (n == n) _ _ (eq-eqb n n refl)
-holds_at-self S (Par p q) n = cond-true (n == n) _ _ (eq-eqb n n refl)
-holds_at-self S (Trap p) n = cond-true (n == n) _ _ (eq-eqb n n refl)
-holds_at-self S (Local s p) n = cond-true (n == n) _ _ (eq-eqb n n refl)
 holds_at-self S (Awake e p) n = refl
+holds_at-self S _ n = cond-true (n == n) _ _ (eq-eqb n n refl)

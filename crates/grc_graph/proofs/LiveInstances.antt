@@ -7,12 +7,12 @@ use Rattle.std.proofs.lemmas.List.{map-append, length-map, get_or-map}
 use Rattle.std.proofs.lemmas.Simd.{map-map}
 use Rattle.std.proofs.lemmas.List.Elements.{All-append, All-nil, All-cons, All-weaker, All-head, All-tail, All-map, Contains-append_left, Contains-append_right}
 use Rattle.std.proofs.lemmas.List.Elements.{Contains-append_cases, Contains-get_or, All-contains}
-use Rattle.est_kernel.specs.Terms.{Term, Nothing, Pause, Emit, Exit, Present, Suspend, Seq, Loop, Par, Trap, Local, Awake}
+use Rattle.est_kernel.specs.Terms.{Term, Present, Suspend, Seq, Loop, Par, Trap, Local, Awake}
 use Rattle.est_kernel.specs.Preorder.{statement_count}
 use Rattle.est_kernel.specs.StaticCodes.{started_codes, resumed_codes}
 use Rattle.grc_graph.specs.Layers.{Layer, Resumed, Started, Liveness, layer_above, layers_of, root_if, part_liveness, second_liveness, loop_liveness}
 use Rattle.grc_graph.specs.Layers.{body_liveness}
-use Rattle.grc_graph.specs.Instances.{Instance, instances_at, instances, body_instances, LayerBefore, Before, Ascends, enclosing}
+use Rattle.grc_graph.specs.Instances.{Instance, instances_at, instances, Before, Ascends, enclosing}
 use Rattle.grc_graph.specs.InstanceLaws.{InstancesAscend, EnclosingAreLive}
 
 -- ---- roots ascend, and none is behind the statement
@@ -109,10 +109,6 @@ both_among : (n m : ℕ) (xs ys : List Instance) → Among n m xs → Among n m 
 both_among n m xs ys h g = All-append (λ u. (n ≤ u.path) × (u.path < m)) xs ys h g
 
 pub instances_among : (a : Liveness) (t : Term) (n : ℕ) → Among n (n + statement_count t) (instances a t n)
-instances_among a Nothing n = here_among a n _ (omega arith)
-instances_among a Pause n = here_among a n _ (omega arith)
-instances_among a (Emit s) n = here_among a n _ (omega arith)
-instances_among a (Exit k) n = here_among a n _ (omega arith)
 instances_among a (Present e p q) n = both_among n _ _ _ (here_among a n _ (omega arith)) (both_among n _ _ _
     (wider (n + 1) (n + 1 + statement_count p) n _ _ (omega arith) (omega arith) (instances_among (part_liveness a p) p (n + 1)))
     (wider (n + 1 + statement_count p) (n + 1 + statement_count p + statement_count q) n _ _ (omega arith) (omega arith)
@@ -135,6 +131,7 @@ instances_among a (Local s p) n = both_among n _ _ _ (here_among a n _ (omega ar
     (wider (n + 1) (n + 1 + statement_count p) n _ _ (omega arith) (omega arith) (instances_among (part_liveness a p) p (n + 1)))
 instances_among a (Awake e p) n = both_among n _ _ _ (here_among a n _ (omega arith))
     (wider (n + 1) (n + 1 + statement_count p) n _ _ (omega arith) (omega arith) (instances_among (part_liveness a p) p (n + 1)))
+instances_among a _ n = here_among a n _ (omega arith)
 
 ascends_append : (xs ys : List Instance) → Ascends xs → Ascends ys → All (λ x. All (Before x) ys) xs → Ascends (xs ++ ys)
 ascends_append [] ys h g c = g
@@ -162,10 +159,6 @@ two_ascend a b c p q n h g k =
     (instances_among c q (n + 1 + statement_count p))))
 
 ascending : (a : Liveness) (t : Term) (n : ℕ) → RootsFit n a.roots → Ascends (instances a t n)
-ascending a Nothing n h = here_ascends a n h.rises
-ascending a Pause n h = here_ascends a n h.rises
-ascending a (Emit s) n h = here_ascends a n h.rises
-ascending a (Exit k) n h = here_ascends a n h.rises
 ascending a (Present e p q) n h = two_ascend a _ _ p q n h.rises
     (ascending (part_liveness a p) p (n + 1) (part_fits a p n (n + 1) (omega arith) h))
     (ascending (part_liveness a q) q (n + 1 + statement_count p) (part_fits a q n (n + 1 + statement_count p) (omega arith) h))
@@ -181,6 +174,7 @@ ascending a (Par p q) n h = two_ascend a _ _ p q n h.rises
 ascending a (Trap p) n h = one_ascends a _ p n h.rises (ascending (part_liveness a p) p (n + 1) (part_fits a p n (n + 1) (omega arith) h))
 ascending a (Local s p) n h = one_ascends a _ p n h.rises (ascending (part_liveness a p) p (n + 1) (part_fits a p n (n + 1) (omega arith) h))
 ascending a (Awake e p) n h = one_ascends a _ p n h.rises (ascending (part_liveness a p) p (n + 1) (part_fits a p n (n + 1) (omega arith) h))
+ascending a _ n h = here_ascends a n h.rises
 
 pub body_fits : (body : Term) → RootsFit 0 (body_liveness body).roots
 body_fits body = record {
@@ -390,10 +384,6 @@ leaf_around a n m l fit h =
 
 around : (a : Liveness) (t : Term) (n m : ℕ) (l : Layer) → RootsFit n a.roots → Contains (instances a t n) (at_layer m l) →
     Around a n m l (instances a t n) (enclosing t n m)
-around a Nothing n m l h k = leaf_around a n m l h k
-around a Pause n m l h k = leaf_around a n m l h k
-around a (Emit s) n m l h k = leaf_around a n m l h k
-around a (Exit c) n m l h k = leaf_around a n m l h k
 around a (Present e p q) n m l h k = two_around a (part_liveness a p) (part_liveness a q) p q n m l h (part_up a p n h) (part_up a q n h)
     (around (part_liveness a p) p (n + 1) m l (part_fits a p n (n + 1) (omega arith) h))
     (around (part_liveness a q) q (n + 1 + statement_count p) m l (part_fits a q n (n + 1 + statement_count p) (omega arith) h)) k
@@ -415,6 +405,7 @@ around a (Local s p) n m l h k = one_around a (part_liveness a p) p n m l h (par
     (around (part_liveness a p) p (n + 1) m l (part_fits a p n (n + 1) (omega arith) h)) k
 around a (Awake e p) n m l h k = one_around a (part_liveness a p) p n m l h (part_up a p n h)
     (around (part_liveness a p) p (n + 1) m l (part_fits a p n (n + 1) (omega arith) h)) k
+around a _ n m l h k = leaf_around a n m l h k
 
 pub enclosing_are_live_lem : EnclosingAreLive
 enclosing_are_live_lem body m l h = (around (body_liveness body) body 0 m l (body_fits body) h).around

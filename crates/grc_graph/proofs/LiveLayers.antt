@@ -2,7 +2,7 @@
 use Rattle.std.proofs.Common.{◌≡◌, ℕ, ◌+◌, ◌<◌, ◌≤◌, ◌==◌, cond, ltb, List, refl, ap, ◌∙◌, arith}
 use Rattle.std.proofs.lemmas.Bool.{eq-eqb, ne_eqb, cond-true, cond-false, lt-ltb}
 use Rattle.facts.proofs.Tests.{ltb-not}
-use Rattle.est_kernel.specs.Terms.{Term, Nothing, Pause, Emit, Exit, Present, Suspend, Seq, Loop, Par, Trap, Local, Awake}
+use Rattle.est_kernel.specs.Terms.{Term, Nothing, Pause, Emit, Exit, Awake}
 use Rattle.est_kernel.specs.Preorder.{statement_count}
 use Rattle.grc_graph.specs.Layers.{Layer, Liveness, layers_of, body_liveness, liveness_at, body_layers}
 
@@ -22,14 +22,8 @@ here_agrees L a Nothing n g = g.each n (omega arith) (omega arith)
 here_agrees L a Pause n g = g.each n (omega arith) (omega arith)
 here_agrees L a (Emit s) n g = g.each n (omega arith) (omega arith)
 here_agrees L a (Exit k) n g = g.each n (omega arith) (omega arith)
-here_agrees L a (Present e p q) n g = g.each n (omega arith) (omega arith) ∙ ap layers_of (self_first a _ n)
-here_agrees L a (Suspend e p) n g = g.each n (omega arith) (omega arith) ∙ ap layers_of (self_first a _ n)
-here_agrees L a (Seq p q) n g = g.each n (omega arith) (omega arith) ∙ ap layers_of (self_first a _ n)
-here_agrees L a (Loop at p) n g = g.each n (omega arith) (omega arith) ∙ ap layers_of (self_first a _ n)
-here_agrees L a (Par p q) n g = g.each n (omega arith) (omega arith) ∙ ap layers_of (self_first a _ n)
-here_agrees L a (Trap p) n g = g.each n (omega arith) (omega arith) ∙ ap layers_of (self_first a _ n)
-here_agrees L a (Local s p) n g = g.each n (omega arith) (omega arith) ∙ ap layers_of (self_first a _ n)
 here_agrees L a (Awake e p) n g = g.each n (omega arith) (omega arith)
+here_agrees L a _ n g = g.each n (omega arith) (omega arith) ∙ ap layers_of (self_first a _ n)
 
 not_self : (a b : Liveness) (n m : ℕ) → n < m → cond (m == n) a b ≡ b
 not_self a b n m l = cond-false (m == n) a b (ne_eqb m n (λ e. omega arith))

@@ -361,6 +361,20 @@ path_within body insts i x e l h =
     = ap instance_of h ∙ sym (name_at insts i x (instance_of x) l) ∙ ap (λ l. get_or l i (instance_of x)) e in
     omega (arith, a.1, ap (λ y. y.path) same)
 
+-- what a walk over a list of instances reads at the number i
+pub record InstanceRead (body : Term) (raw : List Instance) (i : ℕ) (y : Instance) : Type 0 where
+  pub inside : i < length raw
+  pub within : y.path.0 < statement_count body
+  pub named : instance_at (map instance_of raw) i ≡ instance_of y
+
+pub instance_read : (body : Term) (raw items : List Instance) (i : ℕ) → map instance_of raw ≡ body_instances body → items ≡ raw → i < length items →
+    InstanceRead body raw i (get_or items i first_instance)
+instance_read body raw items i live value l =
+    let y = get_or items i first_instance in
+    let inside : i < length raw = omega (arith, ap length value) in
+    let same : y ≡ get_or raw i y = ap (λ l. get_or l i first_instance) value ∙ get_or_default raw i first_instance y inside in
+    record { inside = inside; within = path_within body raw i y live inside same; named = name_at raw i y _ inside ∙ ap instance_of (sym same) }
+
 -- ---- wires of a statement in a layer
 
 abbrev NotLive : List Instance → ℕ → Layer → Type 0

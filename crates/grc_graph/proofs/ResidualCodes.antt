@@ -1,29 +1,26 @@
 -- What is left of a body in a state completes with codes that the body has when it is resumed.
-use Rattle.std.proofs.Common.{◌≡◌, ℕ, zero, suc, ◌+◌, ◌<◌, ◌≤◌, ◌⊎◌, inl, inr, Bool, true, false, not, ◌==◌, ◌&&◌, ◌||◌, List, [], ◌∷◌, ◌++◌, length, refl, sym}
-use Rattle.std.proofs.Common.{ap, ◌∙◌, subst, ⊎_elim, arith}
-use Rattle.std.specs.Prelude.{if◌then◌else◌, Contains, All}
-use Rattle.std.proofs.lemmas.Bool.{false≢true, and_parts, and_from, or_cases, or_left, or_right, eq-eqb, ne_eqb, false_from_ne_true}
+use Rattle.std.proofs.Common.{◌≡◌, ℕ, ◌+◌, ◌<◌, ◌≤◌, Bool, true, false, not, ◌&&◌, ◌||◌, List, [], length, refl, sym}
+use Rattle.std.proofs.Common.{◌∙◌, subst, ⊎_elim, arith}
+use Rattle.std.specs.Prelude.{if◌then◌else◌, Contains}
+use Rattle.std.proofs.lemmas.Bool.{false≢true, and_parts, and_from, or_cases, or_left, or_right, false_from_ne_true}
 use Rattle.std.proofs.lemmas.List.Elements.{Contains-append_cases, All-contains, All-nil}
 use Rattle.std.proofs.lemmas.List.{append-nil}
-use Rattle.est_base.specs.Codes.{only, either, except, maxima, lowered}
+use Rattle.est_base.specs.Codes.{only, either, except, maxima}
 use Rattle.est_kernel.specs.Laws.{IsSubset}
-use Rattle.est_kernel.specs.Terms.{Term, Nothing, Pause, Emit, Exit, Present, Suspend, Seq, Loop, Par, Trap, Local, Awake}
+use Rattle.est_kernel.specs.Terms.{Term, Pause, Present, Suspend, Seq, Loop, Par, Trap, Local}
 use Rattle.est_kernel.specs.Preorder.{statement_count}
 use Rattle.est_kernel.specs.StaticCodes.{codes_if, has_code, branch_codes, started_codes, resumed_codes}
 use Rattle.est_kernel.proofs.Exports.{maxima-subset, lowered-subset, except-in, except-parts}
 use Rattle.grc_graph.specs.Layers.{can_pass}
 use Rattle.grc_graph.specs.Residuals.{holds, residual, left_if}
 use Rattle.grc_graph.specs.SelectionTrees.{leaf_paths, resumes, second_resumes, body_leaves}
-use Rattle.grc_graph.specs.Selections.{well_formed, at_most_one, each_or_over, IsSelection}
+use Rattle.grc_graph.specs.Selections.{well_formed, at_most_one, each_or_over}
 use Rattle.grc_graph.specs.InstanceLaws.{ResidualHasResumedCodes}
 use Rattle.grc_graph.proofs.TreeSelections.{Placed, first_placed, second_placed, part_placed}
 
 -- selected pauses are live
 abbrev OnlyLive : (ℕ → Bool) → Bool → Term → ℕ → Type 0
-OnlyLive S b Nothing n = Unit {0}
 OnlyLive S b Pause n = b ≡ false → S n ≡ false
-OnlyLive S b (Emit s) n = Unit {0}
-OnlyLive S b (Exit c) n = Unit {0}
 OnlyLive S b (Present e p q) n = OnlyLive S (b && resumes p) p (n + 1) × OnlyLive S (b && resumes q) q (n + 1 + statement_count p)
 OnlyLive S b (Suspend e p) n = OnlyLive S (b && resumes p) p (n + 1)
 OnlyLive S b (Seq p q) n = OnlyLive S (b && resumes p) p (n + 1) × OnlyLive S (b && second_resumes p q) q (n + 1 + statement_count p)
@@ -31,13 +28,10 @@ OnlyLive S b (Loop at p) n = OnlyLive S (b && resumes p) p (n + 1)
 OnlyLive S b (Par p q) n = OnlyLive S (b && resumes p) p (n + 1) × OnlyLive S (b && resumes q) q (n + 1 + statement_count p)
 OnlyLive S b (Trap p) n = OnlyLive S (b && resumes p) p (n + 1)
 OnlyLive S b (Local s p) n = OnlyLive S (b && resumes p) p (n + 1)
-OnlyLive S b (Awake e p) n = Unit {0}
+OnlyLive S b _ n = Unit {0}
 
 holds_nothing : (S : ℕ → Bool) (t : Term) (n : ℕ) → OnlyLive S false t n → holds S t n ≡ false
-holds_nothing S Nothing n h = refl
 holds_nothing S Pause n h = h refl
-holds_nothing S (Emit s) n h = refl
-holds_nothing S (Exit c) n h = refl
 holds_nothing S (Present e p q) n h =
     (λ i. holds_nothing S p (n + 1) h.0 i || holds_nothing S q (n + 1 + statement_count p) h.1 i)
 holds_nothing S (Suspend e p) n h = holds_nothing S p (n + 1) h
@@ -48,7 +42,7 @@ holds_nothing S (Par p q) n h =
     (λ i. holds_nothing S p (n + 1) h.0 i || holds_nothing S q (n + 1 + statement_count p) h.1 i)
 holds_nothing S (Trap p) n h = holds_nothing S p (n + 1) h
 holds_nothing S (Local s p) n h = holds_nothing S p (n + 1) h
-holds_nothing S (Awake e p) n h = refl
+holds_nothing S _ n h = refl
 
 holds_live : (S : ℕ → Bool) (b : Bool) (t : Term) (n : ℕ) → OnlyLive S b t n → holds S t n ≡ true → b ≡ true
 holds_live S true t n h g = refl
@@ -96,10 +90,7 @@ branches_fit a x b y h g =
 
 residual_codes : (S : ℕ → Bool) (t : Term) (n : ℕ) → OnlyLive S true t n → well_formed S t n ≡ true → holds S t n ≡ true
     → IsSubset (started_codes (residual S t n)) (resumed_codes t)
-residual_codes S Nothing n o w h = λ k u. absurd (false≢true h)
 residual_codes S Pause n o w h = λ k u. u
-residual_codes S (Emit s) n o w h = λ k u. absurd (false≢true h)
-residual_codes S (Exit c) n o w h = λ k u. absurd (false≢true h)
 residual_codes S (Present e p q) n o w h =
     let m = n + 1 + statement_count p in
     let parts = and_parts (well_formed S p (n + 1)) (well_formed S q m) (and_parts (at_most_one (holds S p (n + 1)) (holds S q m)) _ w).1 in
@@ -151,7 +142,7 @@ residual_codes S (Trap p) n o w h =
     (residual_codes S p (n + 1) (subst (λ b. OnlyLive S b p (n + 1)) (holds_live S (resumes p) p (n + 1) o h) o) w h)
 residual_codes S (Local s p) n o w h =
     residual_codes S p (n + 1) (subst (λ b. OnlyLive S b p (n + 1)) (holds_live S (resumes p) p (n + 1) o h) o) w h
-residual_codes S (Awake e p) n o w h = λ k u. absurd (false≢true h)
+residual_codes S _ n o w h = λ k u. absurd (false≢true h)
 
 -- ---- the selected pauses are leaves
 
@@ -166,10 +157,7 @@ pause_live S us false n k pre post f h e =
 
 only_live : (S : ℕ → Bool) (us : List ℕ) (b : Bool) (t : Term) (n k : ℕ) (pre post : List ℕ)
     → ((m : ℕ) → S m ≡ true → Contains us m) → Placed us b t n k pre post → OnlyLive S b t n
-only_live S us b Nothing n k pre post f h = tt
 only_live S us b Pause n k pre post f h = pause_live S us b n k pre post f h
-only_live S us b (Emit s) n k pre post f h = tt
-only_live S us b (Exit c) n k pre post f h = tt
 only_live S us b (Present e p q) n k pre post f h = (
   only_live S us (b && resumes p) p (n + 1) k _ _ f (first_placed us b (resumes p) (resumes q) (Present e p q) p q n k pre post refl refl h),
   only_live S us (b && resumes q) q (n + 1 + statement_count p) (k + length (leaf_paths (resumes p) p (n + 1))) _ _ f
@@ -193,7 +181,7 @@ only_live S us b (Trap p) n k pre post f h =
     only_live S us (b && resumes p) p (n + 1) k _ _ f (part_placed us b (resumes p) (Trap p) p n k pre post refl refl h)
 only_live S us b (Local s p) n k pre post f h =
     only_live S us (b && resumes p) p (n + 1) k _ _ f (part_placed us b (resumes p) (Local s p) p n k pre post refl refl h)
-only_live S us b (Awake e p) n k pre post f h = tt
+only_live S us b _ n k pre post f h = tt
 
 pub residual_has_resumed_codes_lem : ResidualHasResumedCodes
 residual_has_resumed_codes_lem body S selection h =

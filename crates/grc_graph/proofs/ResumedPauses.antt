@@ -1,14 +1,14 @@
 -- The leaves of a body's selection tree are the pauses whose resumed instance is live.
-use Rattle.std.proofs.Common.{◌≡◌, ℕ, ◌+◌, Bool, true, false, ◌&&◌, List, [], ◌∷◌, ◌++◌, length, map, get_or, cond, refl, sym, ap, ◌∙◌, subst}
+use Rattle.std.proofs.Common.{◌≡◌, ℕ, ◌+◌, Bool, true, false, ◌&&◌, List, [], ◌∷◌, ◌++◌, map, get_or, refl, sym, ap, ◌∙◌, subst}
 use Rattle.std.specs.Prelude.{if◌then◌else◌, filter}
 use Rattle.std.proofs.lemmas.List.{map-append, append-nil}
 use Rattle.std.proofs.lemmas.Bool.{false≢true}
 use Rattle.std.proofs.lemmas.List.Elements.{filter-append}
-use Rattle.est_kernel.specs.Terms.{Term, Nothing, Pause, Emit, Exit, Present, Suspend, Seq, Loop, Par, Trap, Local, Awake}
+use Rattle.est_kernel.specs.Terms.{Term, Nothing, Pause, Present, Suspend, Seq, Loop, Par, Trap, Local, Awake}
 use Rattle.est_kernel.specs.Preorder.{statement_count, preorder}
 use Rattle.est_kernel.proofs.Exports.{length-preorder}
-use Rattle.grc_graph.specs.Layers.{Layer, Resumed, Started, Liveness, part_liveness, second_liveness, loop_liveness, body_liveness}
-use Rattle.grc_graph.specs.Instances.{Instance, instances_at, instances, body_instances}
+use Rattle.grc_graph.specs.Layers.{Resumed, Started, Liveness, part_liveness, second_liveness, loop_liveness, body_liveness}
+use Rattle.grc_graph.specs.Instances.{Instance, instances_at, instances}
 use Rattle.grc_graph.specs.Selected.{HasExitCodes}
 use Rattle.grc_graph.specs.SelectionTrees.{leaf_paths, resumes, second_resumes}
 use Rattle.grc_graph.specs.InstanceLaws.{is_pause, is_resumed_pause, LeavesAreResumedPauses}
@@ -119,10 +119,7 @@ none_if false = refl
 
 found : (body : Term) (a : Liveness) (t : Term) (n : ℕ) → HasExitCodes t → StandsAt (preorder body) n (preorder t) →
     leaf_paths a.resumed t n ≡ pauses body (instances a t n)
-found body a Nothing n k h = leaf_found body a Nothing n h (none_if a.resumed)
 found body a Pause n k h = leaf_found body a Pause n h refl
-found body a (Emit s) n k h = leaf_found body a (Emit s) n h (none_if a.resumed)
-found body a (Exit c) n k h = leaf_found body a (Exit c) n h (none_if a.resumed)
 found body a (Present e p q) n k h = two_found body a (part_liveness a p) (part_liveness a q) (Present e p q) p q n (resumes p)
     (resumes q) refl h refl refl refl refl refl
     (found body (part_liveness a p) p (n + 1) k.0) (found body (part_liveness a q) q (n + 1 + statement_count p) k.1)
@@ -140,6 +137,7 @@ found body a (Trap p) n k h = one_found body a (part_liveness a p) (Trap p) p n 
 found body a (Local s p) n k h = one_found body a (part_liveness a p) (Local s p) p n (resumes p) refl h refl refl refl refl
     (found body (part_liveness a p) p (n + 1) k)
 found body a (Awake e p) n k h = absurd k
+found body a t n k h = leaf_found body a t n h (none_if a.resumed)
 
 pub leaves_are_resumed_pauses_lem : LeavesAreResumedPauses
 leaves_are_resumed_pauses_lem body k = found body (body_liveness body) body 0 k (stands_whole (preorder body))

@@ -1,10 +1,10 @@
 -- What is true of each statement's row in the list of a program: where the rows of its parts stand, and how its
 -- liveness and scope come from those of the statement around it.
-use Rattle.std.proofs.Common.{◌≡◌, ℕ, ◌+◌, ◌<◌, ◌≤◌, ◌⊎◌, Bool, true, false, ◌==◌, List, [], ◌∷◌, ◌++◌, length, map, refl, sym, ap, ◌∙◌, subst, ⊎_elim, arith}
+use Rattle.std.proofs.Common.{◌≡◌, ℕ, ◌+◌, ◌<◌, ◌≤◌, Bool, true, false, ◌==◌, List, length, refl, sym, ap, ◌∙◌, subst, ⊎_elim, arith}
 use Rattle.std.specs.Prelude.{nat_lt, Contains, if◌then◌else◌}
-use Rattle.std.proofs.lemmas.Bool.{cases_lt, cases_eq, cases_Bool, eq-eqb, ne_eqb, eqb-true}
+use Rattle.std.proofs.lemmas.Bool.{cases_lt, cases_eq, cases_Bool}
 use Rattle.est_kernel.specs.Plain.{Program, interface_count}
-use Rattle.est_kernel.specs.Terms.{Expression, Term, Nothing, Pause, Emit, Exit, Present, Suspend, Seq, Loop, Par, Trap, Local, Awake}
+use Rattle.est_kernel.specs.Terms.{Expression, Term, Present, Suspend, Seq, Loop, Par, Trap, Local, Awake}
 use Rattle.est_kernel.specs.Preorder.{statement_count}
 use Rattle.est_kernel.proofs.Exports.{statement_count-pos}
 use Rattle.grc_graph.specs.Layers.{Layer, Liveness, layer_above, layers_of, body_liveness, part_liveness, second_liveness, loop_liveness}
@@ -85,10 +85,8 @@ local_binds W n c a b r w le e k g u = record {
 }
 
 bound_at : Binding → ℕ → ℕ
-bound_at Entering d = d
-bound_at Outgoing d = d
 bound_at (BoundAt n) d = n
-bound_at Unbound d = d
+bound_at _ d = d
 
 binders_bound : (W : List Row) (n c : ℕ) (B : Scope) (s : ℕ) (b : Liveness) → Binder W n c b → Binders W c B b → Binders W c (bind B s n) b
 binders_bound W n c B s b own h t k e =
@@ -161,14 +159,6 @@ pub placed : (W : List Row) (a : Liveness) (B : Scope) (x : Entry) (t : Term) (n
     → Entered W n x
     → Binders W n B a
     → (m : ℕ) → n ≤ m → m < n + statement_count t → Placed W m
-placed W a B x Nothing n h r en b m le lt =
-    subst (Placed W) (let z : n ≡ m = omega arith in z) (here_placed W a B x Nothing n h r en b)
-placed W a B x Pause n h r en b m le lt =
-    subst (Placed W) (let z : n ≡ m = omega arith in z) (here_placed W a B x Pause n h r en b)
-placed W a B x (Emit s) n h r en b m le lt =
-    subst (Placed W) (let z : n ≡ m = omega arith in z) (here_placed W a B x (Emit s) n h r en b)
-placed W a B x (Exit k) n h r en b m le lt =
-    subst (Placed W) (let z : n ≡ m = omega arith in z) (here_placed W a B x (Exit k) n h r en b)
 placed W a B x (Present e p q) n h r en b m le lt =
     let t = Present e p q in
     let c = n + 1 + statement_count p in
@@ -283,6 +273,8 @@ placed W a B x (Awake e p) n h r en b m le lt =
     one_place (Placed W) n (statement_count p) m (here_placed W a B x t n h r en b)
     (placed W (part_liveness a p) (B) (Part n) p (n + 1) hp (part_fits a p n (n + 1) (omega arith) r) pp
     (binders_below W n (n + 1) B a (part_liveness a p) (omega arith) (part_up a p n r) b)) le lt
+placed W a B x t n h r en b m le lt =
+    subst (Placed W) (let z : n ≡ m = omega arith in z) (here_placed W a B x t n h r en b)
 
 pub program_placed : (p : Program) (m : ℕ) → m < statement_count p.body → Placed (program_rows p) m
 program_placed p m h =

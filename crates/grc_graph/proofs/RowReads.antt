@@ -1,5 +1,5 @@
 -- What lists by statement numbers have of a program: the statement, what lets it run, and its codes.
-use Rattle.std.proofs.Common.{◌≡◌, ℕ, ◌+◌, ◌<◌, Bool, List, ◌∷◌, ◌++◌, length, map, get_or, refl, sym, ap, ◌∙◌, arith, Option, Some, None}
+use Rattle.std.proofs.Common.{◌≡◌, ℕ, ◌+◌, ◌<◌, Bool, List, ◌∷◌, ◌++◌, length, map, get_or, refl, sym, ap, ◌∙◌, arith}
 use Rattle.std.proofs.lemmas.List.{map-append, length-map, get_or-map}
 use Rattle.est_base.specs.declared.code_set.CodeSet.{CodeSet}
 use Rattle.est_base.specs.CodeSet.{members}
@@ -7,7 +7,7 @@ use Rattle.est_base.specs.Codes.{no_code}
 use Rattle.est_kernel.specs.declared.code_lists.Codes.{Codes}
 use Rattle.est_kernel.specs.CodeLists.{AreCodesOf}
 use Rattle.est_kernel.specs.Plain.{Program, interface_count}
-use Rattle.est_kernel.specs.Terms.{Term, Nothing, Pause, Emit, Exit, Present, Suspend, Seq, Loop, Par, Trap, Local, Awake}
+use Rattle.est_kernel.specs.Terms.{Term, Nothing, Present, Suspend, Seq, Loop, Par, Trap, Local, Awake}
 use Rattle.est_kernel.specs.Preorder.{statement_count, preorder}
 use Rattle.est_kernel.specs.StaticCodes.{started_codes, resumed_codes}
 use Rattle.grc_graph.specs.Layers.{Layer, Resumed, Started, Liveness, body_liveness, part_liveness, second_liveness, loop_liveness}
@@ -17,7 +17,7 @@ use Rattle.grc_graph.specs.CodeTables.{set_at, codes_at}
 use Rattle.grc_graph.specs.Statements.{Entry, Body, Part, Branch, Then, Else, Suspended, Second, Looped, Listed, listed, program_listed}
 use Rattle.grc_graph.specs.declared.statements.Statement.{Statement}
 use Rattle.grc_graph.specs.StatementViews.{view_of}
-use Rattle.grc_graph.specs.Rows.{Row, row, rows, listed_row, program_rows, row_at}
+use Rattle.grc_graph.specs.Rows.{Row, rows, listed_row, program_rows, row_at}
 use Rattle.grc_graph.proofs.RowSpots.{length-rows}
 
 -- the list of statements is that of the rows
@@ -29,10 +29,6 @@ list_two : (h : Listed) (xs us : List Listed) (ys vs : List Row) → xs ≡ map 
 list_two h xs us ys vs e f = ap (λ l. h ∷ l) ((λ i. e i ++ f i) ∙ sym (map-append listed_row ys vs))
 
 listed_rows : (a : Liveness) (B : Scope) (x : Entry) (t : Term) (n : ℕ) → listed B x t n ≡ map listed_row (rows a B x t n)
-listed_rows a B x Nothing n = refl
-listed_rows a B x Pause n = refl
-listed_rows a B x (Emit s) n = refl
-listed_rows a B x (Exit k) n = refl
 listed_rows a B x (Present e p q) n =
     list_two _ _ _ _ _ (listed_rows (part_liveness a p) B (Then n e) p (n + 1))
     (listed_rows (part_liveness a q) B (Else n e) q (n + 1 + statement_count p))
@@ -47,6 +43,7 @@ listed_rows a B x (Par p q) n =
 listed_rows a B x (Trap p) n = list_one _ _ _ (listed_rows (part_liveness a p) B (Part n) p (n + 1))
 listed_rows a B x (Local s p) n = list_one _ _ _ (listed_rows (part_liveness a p) (bind B s n) (Part n) p (n + 1))
 listed_rows a B x (Awake e p) n = list_one _ _ _ (listed_rows (part_liveness a p) B (Part n) p (n + 1))
+listed_rows a B x _ n = refl
 
 pub program_listed_rows : (p : Program) → program_listed p ≡ map listed_row (program_rows p)
 program_listed_rows p = listed_rows (body_liveness p.body) (program_scope p.inputs (interface_count p)) Body p.body 0
@@ -63,10 +60,6 @@ rows_both : (t : Term) (ps qs : List Row) (xs ys : List Term) → map term_of_ro
 rows_both t ps qs xs ys e f = ap (λ l. t ∷ l) (map-append term_of_row ps qs ∙ (λ i. e i ++ f i))
 
 rows_in_preorder : (a : Liveness) (B : Scope) (x : Entry) (t : Term) (n : ℕ) → map term_of_row (rows a B x t n) ≡ preorder t
-rows_in_preorder a B x Nothing n = refl
-rows_in_preorder a B x Pause n = refl
-rows_in_preorder a B x (Emit s) n = refl
-rows_in_preorder a B x (Exit k) n = refl
 rows_in_preorder a B x (Present e p q) n = rows_both _ _ _ _ _ (rows_in_preorder (part_liveness a p) B (Then n e) p (n + 1))
     (rows_in_preorder (part_liveness a q) B (Else n e) q (n + 1 + statement_count p))
 rows_in_preorder a B x (Suspend e p) n = rows_only _ _ _ (rows_in_preorder (part_liveness a p) B (Suspended n e) p (n + 1))
@@ -78,6 +71,7 @@ rows_in_preorder a B x (Par p q) n = rows_both _ _ _ _ _ (rows_in_preorder (part
 rows_in_preorder a B x (Trap p) n = rows_only _ _ _ (rows_in_preorder (part_liveness a p) B (Part n) p (n + 1))
 rows_in_preorder a B x (Local s p) n = rows_only _ _ _ (rows_in_preorder (part_liveness a p) (bind B s n) (Part n) p (n + 1))
 rows_in_preorder a B x (Awake e p) n = rows_only _ _ _ (rows_in_preorder (part_liveness a p) B (Part n) p (n + 1))
+rows_in_preorder a B x _ n = refl
 
 pub length-program_rows : (p : Program) → length (program_rows p) ≡ statement_count p.body
 length-program_rows p = length-rows (body_liveness p.body) (program_scope p.inputs (interface_count p)) Body p.body 0

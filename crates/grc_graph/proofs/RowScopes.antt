@@ -1,14 +1,13 @@
 -- In the scope of each statement of a program, what is outgoing is an outgoing signal, and what is emitted has a status
 -- wire.
-use Rattle.std.proofs.Common.{◌≡◌, ℕ, ◌+◌, ◌-◌, ◌<◌, ◌≤◌, ◌⊎◌, inl, inr, Bool, true, false, ◌==◌, ◌||◌, List, [], ◌∷◌, ◌++◌, length, map, refl, sym, ap, ◌∙◌}
+use Rattle.std.proofs.Common.{◌≡◌, ℕ, ◌+◌, ◌-◌, ◌<◌, ◌≤◌, ◌⊎◌, inl, inr, Bool, true, false, ◌==◌, ◌||◌, [], length, refl, sym, ap, ◌∙◌}
 use Rattle.std.proofs.Common.{subst, ⊎_elim, arith}
 use Rattle.std.specs.Prelude.{nat_lt, All, Contains, if◌then◌else◌, ⊤}
-use Rattle.std.specs.List.{range_with_len}
-use Rattle.std.proofs.lemmas.Bool.{cases_Bool, eqb-true, ltb-true, ltb-false, lt-ltb, le-ltb, or_cases}
+use Rattle.std.proofs.lemmas.Bool.{cases_Bool, ltb-true, ltb-false, le-ltb}
 use Rattle.std.proofs.lemmas.List.Elements.{All-cons, All-nil, All-append, All-get_or, Contains-append_left}
 use Rattle.std.proofs.lemmas.List.FromFn.{get_or-map-range_with_len, length-map-range_with_len}
 use Rattle.est_kernel.specs.Plain.{Program, interface_count, outgoing_count}
-use Rattle.est_kernel.specs.Terms.{Term, Nothing, Pause, Emit, Exit, Present, Suspend, Seq, Loop, Par, Trap, Local, Awake}
+use Rattle.est_kernel.specs.Terms.{Term, Emit, Present, Suspend, Seq, Loop, Par, Trap, Local, Awake}
 use Rattle.est_kernel.specs.Preorder.{statement_count}
 use Rattle.est_kernel.specs.WellFormed.{IsKernel, IsWellFormed, SignalsFit, with_signal}
 use Rattle.grc_graph.specs.Layers.{Liveness, body_liveness, part_liveness, second_liveness, loop_liveness}
@@ -30,18 +29,8 @@ pub record ScopeFits (inputs interface : ℕ) (visible : ℕ → Bool) (B : Scop
   pub shown : (s : ℕ) → visible s ≡ true → inputs ≤ s → HasStatus (B s)
 
 abbrev pub EmitShown : Term → Scope → Type 0
-EmitShown Nothing B = ⊤
-EmitShown Pause B = ⊤
 EmitShown (Emit s) B = HasStatus (B s)
-EmitShown (Exit k) B = ⊤
-EmitShown (Present e p q) B = ⊤
-EmitShown (Suspend e p) B = ⊤
-EmitShown (Seq p q) B = ⊤
-EmitShown (Loop at p) B = ⊤
-EmitShown (Par p q) B = ⊤
-EmitShown (Trap p) B = ⊤
-EmitShown (Local s p) B = ⊤
-EmitShown (Awake e p) B = ⊤
+EmitShown _ B = ⊤
 
 pub record RowFits (inputs interface : ℕ) (r : Row) : Type 0 where
   pub outs_from : (s : ℕ) → r.scope s ≡ Outgoing → inputs ≤ s
@@ -102,14 +91,8 @@ rows_fit : (inputs interface all : ℕ) (visible : ℕ → Bool) (B : Scope) (a 
     → ScopeFits inputs interface visible B
     → SignalsFit inputs interface all visible t
     → All (RowFits inputs interface) (rows a B x t n)
-rows_fit inputs interface all visible B a x Nothing n h g = All-cons (RowFits inputs interface) _ [] (own_fits inputs interface visible B a x Nothing 0 h tt)
-    (All-nil (RowFits inputs interface))
-rows_fit inputs interface all visible B a x Pause n h g = All-cons (RowFits inputs interface) _ [] (own_fits inputs interface visible B a x Pause 0 h tt)
-    (All-nil (RowFits inputs interface))
 rows_fit inputs interface all visible B a x (Emit s) n h g = All-cons (RowFits inputs interface) _ []
     (own_fits inputs interface visible B a x (Emit s) 0 h (h.shown s g.0 g.1)) (All-nil (RowFits inputs interface))
-rows_fit inputs interface all visible B a x (Exit k) n h g = All-cons (RowFits inputs interface) _ [] (own_fits inputs interface visible B a x (Exit k) 0 h tt)
-    (All-nil (RowFits inputs interface))
 rows_fit inputs interface all visible B a x (Present e p q) n h g =
     All-cons (RowFits inputs interface) _ _ (own_fits inputs interface visible B a x (Present e p q) (n + 1 + statement_count p) h tt)
     (All-append (RowFits inputs interface) _ _ (rows_fit inputs interface all visible B (part_liveness a p) (Then n e) p (n + 1) h g.1)
@@ -137,6 +120,8 @@ rows_fit inputs interface all visible B a x (Local s p) n h g =
 rows_fit inputs interface all visible B a x (Awake e p) n h g =
     All-cons (RowFits inputs interface) _ _ (own_fits inputs interface visible B a x (Awake e p) 0 h tt)
     (rows_fit inputs interface all visible B (part_liveness a p) (Part n) p (n + 1) h g.1)
+rows_fit inputs interface all visible B a x t n h g = All-cons (RowFits inputs interface) _ [] (own_fits inputs interface visible B a x t 0 h tt)
+    (All-nil (RowFits inputs interface))
 
 pub program_fits : (p : Program) (n : ℕ) → IsWellFormed p → n < statement_count p.body → RowFits p.inputs (interface_count p) (row_at (program_rows p) n)
 program_fits p n h l =

@@ -3,7 +3,7 @@ use Rattle.std.proofs.Common.{◌≡◌, ℕ, ◌+◌, ◌<◌, List, ◌∷◌,
 use Rattle.std.proofs.lemmas.List.{map-append}
 use Rattle.std.proofs.lemmas.Simd.{map-map}
 use Rattle.est_kernel.specs.Plain.{Program, interface_count}
-use Rattle.est_kernel.specs.Terms.{Term, Nothing, Pause, Emit, Exit, Present, Suspend, Seq, Loop, Par, Trap, Local, Awake}
+use Rattle.est_kernel.specs.Terms.{Term, Nothing, Present, Suspend, Seq, Loop, Par, Trap, Local, Awake}
 use Rattle.est_kernel.specs.Preorder.{statement_count}
 use Rattle.grc_graph.specs.Layers.{Layer, Liveness, layers_of, body_liveness, part_liveness, second_liveness, loop_liveness, body_layers}
 use Rattle.grc_graph.specs.Instances.{Instance, instances_at, instances, body_instances}
@@ -25,10 +25,6 @@ two : (r : Row) (xs ys : List Row) (p q : Term) → length xs ≡ statement_coun
 two r xs ys p q h g = omega (arith, length-append xs ys)
 
 pub length-rows : (a : Liveness) (B : Scope) (x : Entry) (t : Term) (n : ℕ) → length (rows a B x t n) ≡ statement_count t
-length-rows a B x Nothing n = refl
-length-rows a B x Pause n = refl
-length-rows a B x (Emit s) n = refl
-length-rows a B x (Exit k) n = refl
 length-rows a B x (Present e p q) n = two (row a B x (Present e p q) (n + 1 + statement_count p)) _ _ p q
     (length-rows (part_liveness a p) B (Then n e) p (n + 1)) (length-rows (part_liveness a q) B (Else n e) q (n + 1 + statement_count p))
 length-rows a B x (Suspend e p) n = one (row a B x (Suspend e p) 0) _ p (length-rows (part_liveness a p) B (Suspended n e) p (n + 1))
@@ -40,6 +36,7 @@ length-rows a B x (Par p q) n = two (row a B x (Par p q) (n + 1 + statement_coun
 length-rows a B x (Trap p) n = one (row a B x (Trap p) 0) _ p (length-rows (part_liveness a p) B (Part n) p (n + 1))
 length-rows a B x (Local s p) n = one (row a B x (Local s p) 0) _ p (length-rows (part_liveness a p) (bind B s n) (Part n) p (n + 1))
 length-rows a B x (Awake e p) n = one (row a B x (Awake e p) 0) _ p (length-rows (part_liveness a p) B (Part n) p (n + 1))
+length-rows a B x _ n = refl
 
 -- the rows of a statement's parts stand behind its own
 pub stands_one : (W : List Row) (n : ℕ) (r : Row) (ps : List Row) → StandsAt W n (r ∷ ps) → StandsAt W (n + 1) ps
@@ -62,17 +59,7 @@ read W n r rs h = record { within = omega (arith, h.within); same = stands_head 
 
 pub row_read : (W : List Row) (a : Liveness) (B : Scope) (x : Entry) (t : Term) (n : ℕ) → StandsAt W n (rows a B x t n) → Read W n (row a B x t (second_of t n))
 row_read W a B x Nothing n h = read W n _ _ h
-row_read W a B x Pause n h = read W n _ _ h
-row_read W a B x (Emit s) n h = read W n _ _ h
-row_read W a B x (Exit k) n h = read W n _ _ h
-row_read W a B x (Present e p q) n h = read W n _ _ h
-row_read W a B x (Suspend e p) n h = read W n _ _ h
-row_read W a B x (Seq p q) n h = read W n _ _ h
-row_read W a B x (Loop at p) n h = read W n _ _ h
-row_read W a B x (Par p q) n h = read W n _ _ h
-row_read W a B x (Trap p) n h = read W n _ _ h
-row_read W a B x (Local s p) n h = read W n _ _ h
-row_read W a B x (Awake e p) n h = read W n _ _ h
+row_read W a B x _ n h = read W n _ _ h
 
 -- the instances of one statement
 here_spots : (W : List Row) (L : ℕ → List Layer) (a : Liveness) (B : Scope) (x : Entry) (t : Term) (n : ℕ)
@@ -98,10 +85,6 @@ pub spots_by_row : (W : List Row) (L : ℕ → List Layer) (a : Liveness) (B : S
     → Agrees L a t n
     → StandsAt W n (rows a B x t n)
     → spots L B (entry_formula B x n) t n ≡ map (spot_at W) (instances a t n)
-spots_by_row W L a B x Nothing n k g h = here_spots W L a B x Nothing n g (row_read W a B x Nothing n h).same
-spots_by_row W L a B x Pause n k g h = here_spots W L a B x Pause n g (row_read W a B x Pause n h).same
-spots_by_row W L a B x (Emit s) n k g h = here_spots W L a B x (Emit s) n g (row_read W a B x (Emit s) n h).same
-spots_by_row W L a B x (Exit c) n k g h = here_spots W L a B x (Exit c) n g (row_read W a B x (Exit c) n h).same
 spots_by_row W L a B x (Present e p q) n k g h =
     let m = n + 1 + statement_count p in
     let t = Present e p q in
@@ -146,6 +129,7 @@ spots_by_row W L a B x (Local s p) n k g h =
     (spots_by_row W L (part_liveness a p) (bind B s n) (Part n) p (n + 1) k (only_agrees L a (part_liveness a p) t p n refl (λ j. refl) g)
     (stands_one W n _ _ h))
 spots_by_row W L a B x (Awake e p) n k g h = absurd k
+spots_by_row W L a B x t n k g h = here_spots W L a B x t n g (row_read W a B x t n h).same
 
 pub program_spots_by_row : (p : Program) → IsKernel p.body → program_spots p ≡ map (spot_at (program_rows p)) (body_instances p.body)
 program_spots_by_row p k =

@@ -2,7 +2,7 @@
 use Rattle.std.proofs.Common.{Bool, false, refl, sym, true, ℕ, ◌&&◌, ◌+◌, ◌||◌, ◌≡◌}
 use Rattle.std.proofs.lemmas.Bool.{false≢true, or_left, or_right}
 use Rattle.est_kernel.specs.Preorder.{statement_count}
-use Rattle.est_kernel.specs.Terms.{Awake, Emit, Exit, Local, Loop, Nothing, Par, Pause, Present, Seq, Suspend, Term, Trap}
+use Rattle.est_kernel.specs.Terms.{Local, Loop, Par, Present, Seq, Suspend, Term, Trap}
 use Rattle.grc_graph.specs.Layers.{can_pass}
 use Rattle.grc_graph.specs.Residuals.{holds}
 use Rattle.grc_graph.specs.Selected.{IsSelected, IsState}
@@ -22,10 +22,6 @@ together false x true y wp wq over over_y e f = λ i. (over refl i && true) && (
 
 -- where a part that holds a selected pause is selected as its form wants
 pub formed-part : (S : ℕ → Bool) (t : Term) (n : ℕ) → (holds S t n ≡ true → IsSelected S t n) → well_formed S t n ≡ true
-formed-part S Nothing n h = refl
-formed-part S Pause n h = refl
-formed-part S (Emit s) n h = refl
-formed-part S (Exit k) n h = refl
 formed-part S (Present e p q) n h =
     let m = n + 1 + statement_count p in
     exclusive (holds S p (n + 1)) (holds S q m) (well_formed S p (n + 1)) (well_formed S q m) (λ some. (h some).0)
@@ -46,7 +42,7 @@ formed-part S (Par p q) n h =
     (formed-part S q m (λ k. (h (or_right (holds S p (n + 1)) (holds S q m) k)).3 k))
 formed-part S (Trap p) n h = formed-part S p (n + 1) h
 formed-part S (Local s p) n h = formed-part S p (n + 1) h
-formed-part S (Awake e p) n h = refl
+formed-part S _ n h = refl
 
 pub states-are-formed : (S : ℕ → Bool) (body : Term) → IsState (Selecting S) body → well_formed S body 0 ≡ true
 states-are-formed S body state = formed-part S body 0 state

@@ -1,17 +1,17 @@
 -- The list of a body's statements, as it grows, and the table of its scopes.
-use Rattle.std.proofs.Common.{◌≡◌, ℕ, ◌+◌, ◌<◌, ◌≤◌, ◌⊎◌, Bool, true, false, ◌==◌, List, [], ◌∷◌, ◌++◌, length, map, get_or, set, refl, sym, ap, ◌∙◌, subst}
-use Rattle.std.proofs.Common.{⊎_elim, arith, length-append, append_assoc, get_or-set_same, get_or-set_other, set-set}
-use Rattle.std.specs.Prelude.{slice_index_or, slice_set, if◌then◌else◌, nat_lt}
+use Rattle.std.proofs.Common.{◌≡◌, ℕ, ◌+◌, ◌<◌, ◌≤◌, Bool, true, false, ◌==◌, List, [], ◌∷◌, ◌++◌, length, map, get_or, set, refl, sym, ap, ◌∙◌}
+use Rattle.std.proofs.Common.{⊎_elim, arith, append_assoc, get_or-set_same, get_or-set_other, set-set}
+use Rattle.std.specs.Prelude.{if◌then◌else◌, nat_lt}
 use Rattle.std.specs.List.{range_with_len}
-use Rattle.std.proofs.lemmas.Bool.{cases_lt, cases_eq, eq-eqb, ne_eqb, lt-ltb, le-ltb}
-use Rattle.std.proofs.lemmas.List.{length-map, map-append, get_or-map, map-set, get_or_append_left, get_or-append-add, get_or_default, set_at, set-get_or}
+use Rattle.std.proofs.lemmas.Bool.{cases_lt, cases_eq, eq-eqb, ne_eqb, le-ltb}
+use Rattle.std.proofs.lemmas.List.{length-map, get_or-map, map-set, get_or-append-add, set_at, set-get_or}
 use Rattle.std.proofs.Math.ListN.{get_or-eq_default}
 use Rattle.std.proofs.lemmas.List.FromFn.{get_or-map-range_with_len, length-map-range_with_len}
-use Rattle.est_kernel.specs.Terms.{Term, Nothing, Pause, Emit, Exit, Present, Suspend, Seq, Loop, Par, Trap, Local, Awake}
+use Rattle.est_kernel.specs.Terms.{Term, Present, Suspend, Seq, Loop, Par, Trap, Local, Awake}
 use Rattle.est_kernel.specs.WellFormed.{SignalsFit, with_signal}
 use Rattle.grc_graph.specs.declared.statements.Binding as bindings
 use Rattle.grc_graph.specs.declared.statements.Binding.TheVariants as kinds
-use Rattle.grc_graph.specs.Scopes.{Binding, Scope, Entering, Outgoing, BoundAt, Unbound, bind, program_scope}
+use Rattle.grc_graph.specs.Scopes.{Scope, Entering, Outgoing, BoundAt, Unbound, bind, program_scope}
 use Rattle.grc_graph.specs.Statements.{Listed, Entry, listed, listed_one, LocalsFit}
 use Rattle.est_kernel.specs.Preorder.{statement_count}
 use Rattle.grc_graph.specs.StatementViews.{binding_of, scope_of}
@@ -114,10 +114,6 @@ put_back table bound s b old e o =
 
 -- the signals of a well formed program fit
 pub locals_fit : (inputs interface all : ℕ) (visible : ℕ → Bool) (t : Term) → SignalsFit inputs interface all visible t → LocalsFit all t
-locals_fit inputs interface all visible Nothing h = tt
-locals_fit inputs interface all visible Pause h = tt
-locals_fit inputs interface all visible (Emit s) h = tt
-locals_fit inputs interface all visible (Exit k) h = tt
 locals_fit inputs interface all visible (Present e p q) h = (locals_fit inputs interface all visible p h.1, locals_fit inputs interface all visible q h.2)
 locals_fit inputs interface all visible (Suspend e p) h = locals_fit inputs interface all visible p h.1
 locals_fit inputs interface all visible (Seq p q) h = (locals_fit inputs interface all visible p h.0, locals_fit inputs interface all visible q h.1)
@@ -126,3 +122,4 @@ locals_fit inputs interface all visible (Par p q) h = (locals_fit inputs interfa
 locals_fit inputs interface all visible (Trap p) h = locals_fit inputs interface all visible p h
 locals_fit inputs interface all visible (Local s p) h = (h.1, locals_fit inputs interface all (with_signal s visible) p h.2)
 locals_fit inputs interface all visible (Awake e p) h = locals_fit inputs interface all visible p h.1
+locals_fit inputs interface all visible _ h = tt

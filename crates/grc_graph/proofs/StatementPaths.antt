@@ -5,7 +5,7 @@ use Rattle.std.specs.Prelude.{Option, Some, None}
 use Rattle.std.proofs.lemmas.Bool.{cases_lt, cond_both, eqb-true}
 use Rattle.std.proofs.lemmas.Option.{none-some}
 use Rattle.std.proofs.lemmas.List.{get_or_append_left, get_or-append-add, get_or-map, get_or_past, length-map}
-use Rattle.est_kernel.specs.Terms.{Term, Nothing, Pause, Emit, Exit, Present, Suspend, Seq, Loop, Par, Trap, Local, Awake}
+use Rattle.est_kernel.specs.Terms.{Term, Nothing, Present, Suspend, Seq, Loop, Par, Trap, Local, Awake}
 use Rattle.est_kernel.specs.Preorder.{statement_count, preorder}
 use Rattle.grc_graph.specs.WireNames.{below, paths, path_at, bound_signal, bound_at}
 use Rattle.grc_graph.specs.PathTargets.{one_part, two_parts, Target, behind, found_in, target}
@@ -29,10 +29,6 @@ two_paths : (p q : Term) → length (paths p) ≡ statement_count p → length (
 two_paths p q e f = long_two [] (below 0 (paths p)) (below 1 (paths q)) _ _ (long_below 0 (paths p) _ e) (long_below 1 (paths q) _ f)
 
 pub length-paths : (t : Term) → length (paths t) ≡ statement_count t
-length-paths Nothing = refl
-length-paths Pause = refl
-length-paths (Emit s) = refl
-length-paths (Exit k) = refl
 length-paths (Present e p q) = two_paths p q (length-paths p) (length-paths q)
 length-paths (Suspend e p) = one_path p (length-paths p)
 length-paths (Seq p q) = two_paths p q (length-paths p) (length-paths q)
@@ -41,12 +37,9 @@ length-paths (Par p q) = two_paths p q (length-paths p) (length-paths q)
 length-paths (Trap p) = one_path p (length-paths p)
 length-paths (Local s p) = one_path p (length-paths p)
 length-paths (Awake e p) = one_path p (length-paths p)
+length-paths _ = refl
 
 pub length-preorder : (t : Term) → length (preorder t) ≡ statement_count t
-length-preorder Nothing = refl
-length-preorder Pause = refl
-length-preorder (Emit s) = refl
-length-preorder (Exit k) = refl
 length-preorder (Present e p q) =
     long_two (Present e p q) (preorder p) (preorder q) (statement_count p) (statement_count q) (length-preorder p) (length-preorder q)
 length-preorder (Suspend e p) = long_one (Suspend e p) (preorder p) (statement_count p) (length-preorder p)
@@ -56,20 +49,11 @@ length-preorder (Par p q) = long_two (Par p q) (preorder p) (preorder q) (statem
 length-preorder (Trap p) = long_one (Trap p) (preorder p) (statement_count p) (length-preorder p)
 length-preorder (Local s p) = long_one (Local s p) (preorder p) (statement_count p) (length-preorder p)
 length-preorder (Awake e p) = long_one (Awake e p) (preorder p) (statement_count p) (length-preorder p)
+length-preorder _ = refl
 
 pub first_path : (t : Term) → get_or (paths t) 0 [] ≡ []
 first_path Nothing = refl
-first_path Pause = refl
-first_path (Emit s) = refl
-first_path (Exit k) = refl
-first_path (Present e p q) = refl
-first_path (Suspend e p) = refl
-first_path (Seq p q) = refl
-first_path (Loop at p) = refl
-first_path (Par p q) = refl
-first_path (Trap p) = refl
-first_path (Local s p) = refl
-first_path (Awake e p) = refl
+first_path _ = refl
 
 pub path_at-past : (body : Term) (j : ℕ) → statement_count body ≤ j → path_at body 0 ≡ path_at body j
 path_at-past body j h = first_path body ∙ sym (get_or_past (paths body) j [] (omega (arith, length-paths body, h)))
@@ -226,10 +210,6 @@ two b p q f e more first second = record {
     only (suc (suc k) ∷ ks) x h = absurd (none-some x (ap (λ o. found_in o (λ t. target t ks)) (sym (no_two p q k)) ∙ sym (more (suc (suc k)) ks) ∙ h))
 
 pub finds : (t : Term) → Finds (target t) (paths t) (preorder t)
-finds Nothing = alone Nothing (target Nothing) refl (λ k ks. refl)
-finds Pause = alone Pause (target Pause) refl (λ k ks. refl)
-finds (Emit s) = alone (Emit s) (target (Emit s)) refl (λ k ks. refl)
-finds (Exit c) = alone (Exit c) (target (Exit c)) refl (λ k ks. refl)
 finds (Present e p q) = two (Present e p q) p q (target (Present e p q)) refl (λ k ks. refl) (finds p) (finds q)
 finds (Suspend e p) = one (Suspend e p) p (target (Suspend e p)) refl (λ k ks. refl) (finds p)
 finds (Seq p q) = two (Seq p q) p q (target (Seq p q)) refl (λ k ks. refl) (finds p) (finds q)
@@ -238,3 +218,4 @@ finds (Par p q) = two (Par p q) p q (target (Par p q)) refl (λ k ks. refl) (fin
 finds (Trap p) = one (Trap p) p (target (Trap p)) refl (λ k ks. refl) (finds p)
 finds (Local s p) = one (Local s p) p (target (Local s p)) refl (λ k ks. refl) (finds p)
 finds (Awake e p) = one (Awake e p) p (target (Awake e p)) refl (λ k ks. refl) (finds p)
+finds t = alone t (target t) refl (λ k ks. refl)

@@ -1,5 +1,5 @@
 -- The judgement of a subtree by its places is that of its statement.
-use Rattle.std.proofs.Common.{◌≡◌, ℕ, zero, suc, ◌+◌, ◌-◌, ◌<◌, ◌≤◌, ◌⊎◌, Bool, true, false, ◌==◌, ◌&&◌, List, [], ◌∷◌, ◌++◌, length, map, get_or, refl, sym}
+use Rattle.std.proofs.Common.{◌≡◌, ℕ, ◌+◌, ◌<◌, ◌≤◌, Bool, true, false, ◌==◌, ◌&&◌, List, [], ◌∷◌, ◌++◌, length, map, get_or, refl, sym}
 use Rattle.std.proofs.Common.{ap, ◌∙◌, subst, ⊎_elim, arith, append_assoc, length-append}
 use Rattle.std.specs.Prelude.{nat_lt}
 use Rattle.std.proofs.lemmas.List.{append-nil, get_or-append-add, length-map, get_or-map, get_or_append_left, get_or_default}
@@ -15,7 +15,7 @@ use Rattle.grc_graph.specs.SelectionTrees.{Form, Leaf, Exclusive, Parallel, Pass
 use Rattle.grc_graph.specs.TreeForms.{form_of, node_of, end_of, SubtreesNest}
 use Rattle.grc_graph.specs.TreeJudgements.{Judgement, judgement, judgement_if, combined, none_selected}
 use Rattle.grc_graph.proofs.TreeLaws.{tree_none}
-use Rattle.grc_graph.specs.TreeReadings.{StandsBetween, Judges, second_place}
+use Rattle.grc_graph.specs.TreeReadings.{Judges, second_place}
 
 -- the first node of a statement that has nodes: its number, and the place behind them all
 pub record Heads (ns : List TreeNode) (n i : ℕ) : Type 0 where
@@ -38,14 +38,8 @@ heads_tree b Nothing n i k = heads_nil n i
 heads_tree b Pause n i k = heads_if b n i (Leaf k) []
 heads_tree b (Emit s) n i k = heads_nil n i
 heads_tree b (Exit c) n i k = heads_nil n i
-heads_tree b (Present e p q) n i k = heads_if b n i _ _
-heads_tree b (Suspend e p) n i k = heads_if b n i _ _
-heads_tree b (Seq p q) n i k = heads_if b n i _ _
-heads_tree b (Loop at p) n i k = heads_if b n i _ _
-heads_tree b (Par p q) n i k = heads_if b n i _ _
-heads_tree b (Trap p) n i k = heads_if b n i _ _
-heads_tree b (Local s p) n i k = heads_if b n i _ _
 heads_tree b (Awake e p) n i k = heads_nil n i
+heads_tree b _ n i k = heads_if b n i _ _
 
 -- where there are no nodes nothing is selected
 empty_if : (b : Bool) (n i : ℕ) (f : Form) (xs : List TreeNode) (j : Judgement) → length (subtree_if b n i f xs) ≡ 0 → judgement_if b j ≡ none_selected
@@ -57,14 +51,8 @@ judgement-empty bits b Nothing n i k h = refl
 judgement-empty bits b Pause n i k h = empty_if b n i (Leaf k) [] _ h
 judgement-empty bits b (Emit s) n i k h = refl
 judgement-empty bits b (Exit c) n i k h = refl
-judgement-empty bits b (Present e p q) n i k h = empty_if b n i _ _ _ h
-judgement-empty bits b (Suspend e p) n i k h = empty_if b n i _ _ _ h
-judgement-empty bits b (Seq p q) n i k h = empty_if b n i _ _ _ h
-judgement-empty bits b (Loop at p) n i k h = empty_if b n i _ _ _ h
-judgement-empty bits b (Par p q) n i k h = empty_if b n i _ _ _ h
-judgement-empty bits b (Trap p) n i k h = empty_if b n i _ _ _ h
-judgement-empty bits b (Local s p) n i k h = empty_if b n i _ _ _ h
 judgement-empty bits b (Awake e p) n i k h = refl
+judgement-empty bits b _ n i k h = empty_if b n i _ _ _ h
 
 -- A statement with nodes is a node over those of two parts; a form with fewer parts has an empty second one.
 pub record Row (bits : List Bool) (t : Term) (n i k : ℕ) : Type 0 where

@@ -1,5 +1,5 @@
 -- The list of nodes of a body's selection tree: its subtrees nest, and its leaves are numbered in order.
-use Rattle.std.proofs.Common.{◌≡◌, ℕ, zero, suc, ◌+◌, ◌<◌, ◌≤◌, ◌⊎◌, inl, inr, Bool, true, false, List, [], ◌∷◌, ◌++◌, length, map, take, get_or, fold, cond}
+use Rattle.std.proofs.Common.{◌≡◌, ℕ, zero, suc, ◌+◌, ◌<◌, ◌≤◌, Bool, true, false, List, [], ◌∷◌, ◌++◌, length, map, take, get_or, fold, cond}
 use Rattle.std.proofs.Common.{refl, sym, ap, ◌∙◌, subst, ⊎_elim, arith, length-append}
 use Rattle.std.specs.Prelude.{IsTrue, count_by, if◌then◌else◌}
 use Rattle.std.proofs.lemmas.List.{length-map, get_or_append_left, get_or-append-add}
@@ -7,7 +7,6 @@ use Rattle.std.proofs.lemmas.Bool.{cases_lt, eq-eqb}
 use Rattle.std.proofs.Common.{◌-◌}
 use Rattle.facts.proofs.Lists.{count_by-cons}
 use Rattle.est_kernel.specs.Terms.{Term, Nothing, Pause, Emit, Exit, Present, Suspend, Seq, Loop, Par, Trap, Local, Awake}
-use Rattle.est_kernel.specs.Preorder.{statement_count}
 use Rattle.grc_graph.specs.declared.trees.SelForm.{SelForm}
 use Rattle.grc_graph.specs.declared.trees.SelForm.TheVariants as forms
 use Rattle.grc_graph.specs.declared.trees.SelNode.{SelNode}
@@ -18,17 +17,7 @@ use Rattle.grc_graph.specs.TreeForms.{form_of, node_of, is_leaf, end_of, is_numb
 -- where the resumed instance is not live there are no nodes
 pub tree_none : (t : Term) (n i k : ℕ) → tree_nodes false t n i k ≡ []
 tree_none Nothing n i k = refl
-tree_none Pause n i k = refl
-tree_none (Emit s) n i k = refl
-tree_none (Exit c) n i k = refl
-tree_none (Present e p q) n i k = refl
-tree_none (Suspend e p) n i k = refl
-tree_none (Seq p q) n i k = refl
-tree_none (Loop at p) n i k = refl
-tree_none (Par p q) n i k = refl
-tree_none (Trap p) n i k = refl
-tree_none (Local s p) n i k = refl
-tree_none (Awake e p) n i k = refl
+tree_none _ n i k = refl
 
 -- ---- subtrees nest
 
@@ -119,10 +108,7 @@ nest_if true n i f xs h = nest_node n i f xs h
 nest_if false n i f xs h = nest_nil i
 
 nest_tree : (b : Bool) (t : Term) (n i k : ℕ) → NestFrom i (tree_nodes b t n i k)
-nest_tree b Nothing n i k = nest_nil i
 nest_tree b Pause n i k = nest_if b n i _ [] (nest_nil (i + 1))
-nest_tree b (Emit s) n i k = nest_nil i
-nest_tree b (Exit c) n i k = nest_nil i
 nest_tree b (Present e p q) n i k =
     nest_if b n i _ _ (nest_append (i + 1) _ _ (nest_tree (resumes p) p (n + 1) (i + 1) k) (nest_tree (resumes q) q _ _ _))
 nest_tree b (Suspend e p) n i k = nest_if b n i _ _ (nest_tree (resumes p) p (n + 1) (i + 1) k)
@@ -133,7 +119,7 @@ nest_tree b (Par p q) n i k =
     nest_if b n i _ _ (nest_append (i + 1) _ _ (nest_tree (resumes p) p (n + 1) (i + 1) k) (nest_tree (resumes q) q _ _ _))
 nest_tree b (Trap p) n i k = nest_if b n i _ _ (nest_tree (resumes p) p (n + 1) (i + 1) k)
 nest_tree b (Local s p) n i k = nest_if b n i _ _ (nest_tree (resumes p) p (n + 1) (i + 1) k)
-nest_tree b (Awake e p) n i k = nest_nil i
+nest_tree b _ n i k = nest_nil i
 
 -- the node at a place, by its plain form
 node_at : (nodes : List SelNode) (i : ℕ) (d : SelNode) → i < length nodes → get_or (map node_of nodes) i (node_of d) ≡ node_of (get_or nodes i d)
@@ -161,9 +147,7 @@ nest_nodes nodes h =
 
 abbrev leaf_in : Form → ℕ
 leaf_in (Leaf k) = 1
-leaf_in Exclusive = 0
-leaf_in (Parallel a b) = 0
-leaf_in Passing = 0
+leaf_in _ = 0
 
 abbrev leaf_count : List TreeNode → ℕ
 leaf_count [] = 0
@@ -176,9 +160,7 @@ leaf_count-append (x ∷ xs) ys = omega (arith, leaf_count-append xs ys)
 -- a leaf has this number; other nodes have none
 abbrev HasNumber : Form → ℕ → Type 0
 HasNumber (Leaf m) k = m ≡ k
-HasNumber Exclusive k = Unit {0}
-HasNumber (Parallel a b) k = Unit {0}
-HasNumber Passing k = Unit {0}
+HasNumber _ k = Unit {0}
 
 -- the leaves have the numbers from k on
 abbrev NumberedFrom : ℕ → List TreeNode → Type 0

@@ -1,26 +1,22 @@
 -- The judgement of a tree by the numbers of its leaves is that of the body by the pauses that they select.
-use Rattle.std.proofs.Common.{◌≡◌, ℕ, zero, suc, ◌+◌, ◌<◌, ◌≤◌, Bool, true, false, not, ◌==◌, ◌&&◌, ◌||◌, List, [], ◌∷◌, ◌++◌, length, get_or, refl, sym, ap}
-use Rattle.std.proofs.Common.{◌∙◌, subst, arith, append_assoc, length-append}
+use Rattle.std.proofs.Common.{◌≡◌, ℕ, ◌+◌, ◌<◌, ◌≤◌, Bool, true, false, ◌==◌, ◌&&◌, List, [], ◌∷◌, ◌++◌, length, get_or, refl, sym, ap}
+use Rattle.std.proofs.Common.{◌∙◌, arith, append_assoc, length-append}
 use Rattle.std.specs.Prelude.{if◌then◌else◌, All}
 use Rattle.std.proofs.lemmas.List.{append-nil}
 use Rattle.std.proofs.lemmas.List.Elements.{All-append, All-nil, All-cons, All-weaker, All-head, All-tail}
 use Rattle.std.proofs.lemmas.Bool.{false≢true, eq-eqb, ne_eqb}
-use Rattle.std.proofs.Math.Bool.{and-false, or-false}
 use Rattle.est_kernel.specs.Terms.{Term, Nothing, Pause, Emit, Exit, Present, Suspend, Seq, Loop, Par, Trap, Local, Awake}
 use Rattle.est_kernel.specs.Preorder.{statement_count}
 use Rattle.grc_graph.specs.Layers.{can_pass}
 use Rattle.grc_graph.specs.Residuals.{holds}
-use Rattle.grc_graph.specs.Selections.{well_formed, at_most_one, each_or_over}
-use Rattle.grc_graph.specs.SelectionTrees.{Leaf, Exclusive, Parallel, Passing, leaf_paths, resumes, second_resumes, selecting, body_leaves}
-use Rattle.grc_graph.specs.TreeJudgements.{Judgement, judgement, judgement_if, combined, none_selected}
+use Rattle.grc_graph.specs.Selections.{well_formed}
+use Rattle.grc_graph.specs.SelectionTrees.{Exclusive, Parallel, leaf_paths, resumes, second_resumes, selecting, body_leaves}
+use Rattle.grc_graph.specs.TreeJudgements.{Judgement, judgement, combined, none_selected}
 
 -- the pauses of a statement are selected as its leaves are, the first of which has the number k; where its resumed
 -- instance is not live, none is
 abbrev Agrees : (ℕ → Bool) → List Bool → Bool → Term → (n k : ℕ) → Type 0
-Agrees S bits b Nothing n k = Unit {0}
 Agrees S bits b Pause n k = S n ≡ (if b then get_or bits k false else false)
-Agrees S bits b (Emit s) n k = Unit {0}
-Agrees S bits b (Exit c) n k = Unit {0}
 Agrees S bits b (Present e p q) n k =
     Agrees S bits (b && resumes p) p (n + 1) k
     × Agrees S bits (b && resumes q) q (n + 1 + statement_count p) (k + length (leaf_paths (resumes p) p (n + 1)))
@@ -34,7 +30,7 @@ Agrees S bits b (Par p q) n k =
     × Agrees S bits (b && resumes q) q (n + 1 + statement_count p) (k + length (leaf_paths (resumes p) p (n + 1)))
 Agrees S bits b (Trap p) n k = Agrees S bits (b && resumes p) p (n + 1) k
 Agrees S bits b (Local s p) n k = Agrees S bits (b && resumes p) p (n + 1) k
-Agrees S bits b (Awake e p) n k = Unit {0}
+Agrees S bits b _ n k = Unit {0}
 
 -- what the selected pauses of a statement say
 abbrev pub selection_judgement : (ℕ → Bool) → Term → ℕ → Judgement
@@ -42,10 +38,7 @@ selection_judgement S t n = record { holds = holds S t n; formed = well_formed S
 
 -- where nothing is live nothing is selected
 judged_nothing : (S : ℕ → Bool) (bits : List Bool) (t : Term) (n k : ℕ) → Agrees S bits false t n k → selection_judgement S t n ≡ none_selected
-judged_nothing S bits Nothing n k h = refl
 judged_nothing S bits Pause n k h = λ i. record { holds = h i; formed = true }
-judged_nothing S bits (Emit s) n k h = refl
-judged_nothing S bits (Exit c) n k h = refl
 judged_nothing S bits (Present e p q) n k h =
     let a = judged_nothing S bits p (n + 1) k h.0 in
     let b = judged_nothing S bits q (n + 1 + statement_count p) _ h.1 in
@@ -62,7 +55,7 @@ judged_nothing S bits (Par p q) n k h =
     λ i. combined bits (Parallel (can_pass p) (can_pass q)) (a i) (b i)
 judged_nothing S bits (Trap p) n k h = judged_nothing S bits p (n + 1) k h
 judged_nothing S bits (Local s p) n k h = judged_nothing S bits p (n + 1) k h
-judged_nothing S bits (Awake e p) n k h = refl
+judged_nothing S bits _ n k h = refl
 
 judged_selection : (S : ℕ → Bool) (bits : List Bool) (b : Bool) (t : Term) (n k : ℕ) → Agrees S bits b t n k →
     judgement bits b t n k ≡ selection_judgement S t n
@@ -143,11 +136,8 @@ among_if true n m us h = h
 among_if false n m us h = All-nil (λ u. (n ≤ u) × (u < m))
 
 pub leaves_among : (b : Bool) (t : Term) (n : ℕ) → Among n (n + statement_count t) (leaf_paths b t n)
-leaves_among b Nothing n = All-nil (λ u. (n ≤ u) × (u < n + 1))
 leaves_among b Pause n = among_if b n (n + 1) (n ∷ []) (All-cons (λ u. (n ≤ u) × (u < n + 1)) n [] (omega arith, omega arith)
     (All-nil (λ u. (n ≤ u) × (u < n + 1))))
-leaves_among b (Emit s) n = All-nil (λ u. (n ≤ u) × (u < n + 1))
-leaves_among b (Exit c) n = All-nil (λ u. (n ≤ u) × (u < n + 1))
 leaves_among b (Present e p q) n = among_if b n _ _ (All-append (λ u. (n ≤ u) × (u < n + (1 + statement_count p + statement_count q))) _ _
     (wider (n + 1) (n + 1 + statement_count p) n _ _ (omega arith) (omega arith) (leaves_among (resumes p) p (n + 1)))
     (wider (n + 1 + statement_count p) (n + 1 + statement_count p + statement_count q) n _ _ (omega arith) (omega arith)
@@ -168,21 +158,12 @@ leaves_among b (Trap p) n = among_if b n _ _ (wider (n + 1) (n + 1 + statement_c
 leaves_among b (Local s p) n = among_if b n _ _ (wider (n + 1) (n + 1 + statement_count p) n _ _ (omega arith) (omega arith)
     (leaves_among (resumes p) p (n + 1)))
 leaves_among b (Awake e p) n = All-nil (λ u. (n ≤ u) × (u < n + (1 + statement_count p)))
+leaves_among b _ n = All-nil (λ u. (n ≤ u) × (u < n + 1))
 
 -- where the resumed instance is not live there are no leaves
 pub leaves_none : (t : Term) (n : ℕ) → leaf_paths false t n ≡ []
 leaves_none Nothing n = refl
-leaves_none Pause n = refl
-leaves_none (Emit s) n = refl
-leaves_none (Exit c) n = refl
-leaves_none (Present e p q) n = refl
-leaves_none (Suspend e p) n = refl
-leaves_none (Seq p q) n = refl
-leaves_none (Loop at p) n = refl
-leaves_none (Par p q) n = refl
-leaves_none (Trap p) n = refl
-leaves_none (Local s p) n = refl
-leaves_none (Awake e p) n = refl
+leaves_none _ n = refl
 
 -- the leaves of a statement stand in a list of leaves, those before it below its numbers and those behind it above
 pub record Placed (us : List ℕ) (b : Bool) (t : Term) (n k : ℕ) (pre post : List ℕ) : Type 0 where
@@ -272,10 +253,7 @@ pause_agrees us bits false n k pre post h =
 
 agrees : (us : List ℕ) (bits : List Bool) (b : Bool) (t : Term) (n k : ℕ) (pre post : List ℕ) → Placed us b t n k pre post →
     Agrees (selecting us bits) bits b t n k
-agrees us bits b Nothing n k pre post h = tt
 agrees us bits b Pause n k pre post h = pause_agrees us bits b n k pre post h
-agrees us bits b (Emit s) n k pre post h = tt
-agrees us bits b (Exit c) n k pre post h = tt
 agrees us bits b (Present e p q) n k pre post h = (
   agrees us bits (b && resumes p) p (n + 1) k _ _ (first_placed us b (resumes p) (resumes q) (Present e p q) p q n k pre post refl refl h),
   agrees us bits (b && resumes q) q (n + 1 + statement_count p) (k + length (leaf_paths (resumes p) p (n + 1))) _ _
@@ -299,7 +277,7 @@ agrees us bits b (Trap p) n k pre post h =
     agrees us bits (b && resumes p) p (n + 1) k _ _ (part_placed us b (resumes p) (Trap p) p n k pre post refl refl h)
 agrees us bits b (Local s p) n k pre post h =
     agrees us bits (b && resumes p) p (n + 1) k _ _ (part_placed us b (resumes p) (Local s p) p n k pre post refl refl h)
-agrees us bits b (Awake e p) n k pre post h = tt
+agrees us bits b _ n k pre post h = tt
 
 -- the judgement of a whole tree
 pub judged_body : (bits : List Bool) (body : Term)

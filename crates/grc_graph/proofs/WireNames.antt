@@ -1,24 +1,24 @@
 -- Which instances and wires a program has, by the rows of its statements.
-use Rattle.std.proofs.Common.{◌≡◌, ℕ, zero, suc, ◌+◌, ◌-◌, ◌<◌, ◌≤◌, ◌⊎◌, inl, inr, Bool, true, false, ◌==◌, ◌&&◌, List, [], ◌∷◌, ◌++◌, length, map, get_or}
-use Rattle.std.proofs.Common.{refl, sym, ap, ◌∙◌, subst, ⊎_elim, arith, length-append, append_assoc}
+use Rattle.std.proofs.Common.{◌≡◌, ℕ, zero, suc, ◌+◌, ◌-◌, ◌<◌, ◌≤◌, ◌⊎◌, inl, inr, Bool, true, false, ◌==◌, List, [], ◌∷◌, ◌++◌, length, map, get_or}
+use Rattle.std.proofs.Common.{refl, sym, ap, ◌∙◌, subst, ⊎_elim, arith, append_assoc}
 use Rattle.std.specs.Prelude.{Contains, if◌then◌else◌}
-use Rattle.std.specs.List.{flat_map, list_any, range_with_len}
-use Rattle.std.proofs.lemmas.Bool.{cases_lt, cases_Bool, eq-eqb, eqb-true, or_cases, or_left, false≢true}
+use Rattle.std.specs.List.{flat_map, list_any}
+use Rattle.std.proofs.lemmas.Bool.{cases_lt, eq-eqb, eqb-true, or_cases, or_left, false≢true}
 use Rattle.std.specs.Prelude.{◌||◌}
-use Rattle.std.proofs.lemmas.List.{map-append, append-nil}
+use Rattle.std.proofs.lemmas.List.{append-nil}
 use Rattle.std.proofs.lemmas.List.FromFn.{get_or-map-range_with_len, length-map-range_with_len}
-use Rattle.std.proofs.lemmas.List.Elements.{Contains-append_left, Contains-append_right, Contains-append_cases, Contains-get_or}
+use Rattle.std.proofs.lemmas.List.Elements.{Contains-append_left, Contains-append_right, Contains-append_cases}
 use Rattle.facts.proofs.Lists.{contains-flat_map, contains-map}
 use Rattle.est_kernel.specs.Plain.{Program, interface_count, outgoing_count}
 use Rattle.est_kernel.specs.WellFormed.{IsKernel}
-use Rattle.est_kernel.specs.Terms.{Term, Nothing, Pause, Emit, Exit, Present, Suspend, Seq, Loop, Par, Trap, Local, Awake}
+use Rattle.est_kernel.specs.Terms.{Term, Present, Suspend, Seq, Loop, Par, Trap, Local, Awake}
 use Rattle.est_kernel.specs.Preorder.{statement_count}
 use Rattle.grc_graph.specs.Layers.{Layer, Resumed, Started, Liveness, layers_of, body_liveness, part_liveness, second_liveness, loop_liveness}
 use Rattle.grc_graph.specs.Instances.{Instance, instances_at, instances, body_instances}
 use Rattle.grc_graph.specs.Neighbouring.{program_wires}
 use Rattle.grc_graph.specs.Scopes.{Scope, bind, program_scope}
 use Rattle.grc_graph.specs.Statements.{Entry, Body, Part, Branch, Then, Else, Suspended, Second, Looped}
-use Rattle.grc_graph.specs.Rows.{Row, row, rows, program_rows, row_at, live_in}
+use Rattle.grc_graph.specs.Rows.{Row, rows, program_rows, row_at, live_in}
 use Rattle.grc_graph.specs.Wires.{Wire, Out, Go, StatusOf, End, codes_below, listed, instance_codes, own_status, instance_wires}
 use Rattle.grc_graph.specs.WireTables.{is_local}
 use Rattle.grc_graph.proofs.LiveInstances.{at_layer, in_map, from_map, cases_of, resumed_in, started_in}
@@ -48,10 +48,6 @@ with_two : (here xs ys : List Instance) (ps qs : List Row) (n m : ℕ) → n + l
 with_two here xs ys ps qs n m e h g = ap (λ l. here ++ l) ((λ i. h i ++ g i) ∙ sym (row_instances-append ps qs n m e))
 
 instances_by_row : (a : Liveness) (B : Scope) (x : Entry) (t : Term) (n : ℕ) → instances a t n ≡ row_instances (rows a B x t n) n
-instances_by_row a B x Nothing n = alone a n
-instances_by_row a B x Pause n = alone a n
-instances_by_row a B x (Emit s) n = alone a n
-instances_by_row a B x (Exit k) n = alone a n
 instances_by_row a B x (Present e p q) n =
     with_two (instances_at a n) _ _ _ _ (n + 1) (n + 1 + statement_count p) (ap (λ k. n + 1 + k) (length-rows (part_liveness a p) B (Then n e) p (n + 1)))
     (instances_by_row (part_liveness a p) B (Then n e) p (n + 1)) (instances_by_row (part_liveness a q) B (Else n e) q (n + 1 + statement_count p))
@@ -67,6 +63,7 @@ instances_by_row a B x (Par p q) n =
 instances_by_row a B x (Trap p) n = ap (λ l. instances_at a n ++ l) (instances_by_row (part_liveness a p) B (Part n) p (n + 1))
 instances_by_row a B x (Local s p) n = ap (λ l. instances_at a n ++ l) (instances_by_row (part_liveness a p) (bind B s n) (Part n) p (n + 1))
 instances_by_row a B x (Awake e p) n = ap (λ l. instances_at a n ++ l) (instances_by_row (part_liveness a p) B (Part n) p (n + 1))
+instances_by_row a B x _ n = alone a n
 
 pub body_by_row : (p : Program) → body_instances p.body ≡ row_instances (program_rows p) 0
 body_by_row p = instances_by_row (body_liveness p.body) (program_scope p.inputs (interface_count p)) Body p.body 0
@@ -227,34 +224,14 @@ Has t l IsStatus = is_local t ≡ true
 Has t l (IsEnd k) = instance_codes t l k ≡ true
 
 in_status : (t : Term) (n : ℕ) (l : Layer) (w : Wire) → Contains (own_status t n l) w → (is_local t ≡ true) × (StatusOf n l ≡ w)
-in_status Nothing n l w h = absurd (omega (arith, h.1))
-in_status Pause n l w h = absurd (omega (arith, h.1))
-in_status (Emit s) n l w h = absurd (omega (arith, h.1))
-in_status (Exit k) n l w h = absurd (omega (arith, h.1))
-in_status (Present e p q) n l w h = absurd (omega (arith, h.1))
-in_status (Suspend e p) n l w h = absurd (omega (arith, h.1))
-in_status (Seq p q) n l w h = absurd (omega (arith, h.1))
-in_status (Loop at p) n l w h = absurd (omega (arith, h.1))
-in_status (Par p q) n l w h = absurd (omega (arith, h.1))
-in_status (Trap p) n l w h = absurd (omega (arith, h.1))
 in_status (Local s p) n l w h =
     let i : h.0 ≡ 0 = omega (arith, h.1) in
     (refl, (λ j. get_or (StatusOf n l ∷ []) (sym i j) w) ∙ h.2)
-in_status (Awake e p) n l w h = absurd (omega (arith, h.1))
+in_status _ n l w h = absurd (omega (arith, h.1))
 
 status_in : (t : Term) (n : ℕ) (l : Layer) → is_local t ≡ true → Contains (own_status t n l) (StatusOf n l)
-status_in Nothing n l h = absurd (false≢true h)
-status_in Pause n l h = absurd (false≢true h)
-status_in (Emit s) n l h = absurd (false≢true h)
-status_in (Exit k) n l h = absurd (false≢true h)
-status_in (Present e p q) n l h = absurd (false≢true h)
-status_in (Suspend e p) n l h = absurd (false≢true h)
-status_in (Seq p q) n l h = absurd (false≢true h)
-status_in (Loop at p) n l h = absurd (false≢true h)
-status_in (Par p q) n l h = absurd (false≢true h)
-status_in (Trap p) n l h = absurd (false≢true h)
 status_in (Local s p) n l h = (0, omega arith, refl)
-status_in (Awake e p) n l h = absurd (false≢true h)
+status_in _ n l h = absurd (false≢true h)
 
 abbrev Inside : Term → Wire → ℕ → Layer → Type 0
 Inside t w n l = (Go n l ≡ w) ⊎ (((is_local t ≡ true) × (StatusOf n l ≡ w)) ⊎ ((k : ℕ) × (instance_codes t l k ≡ true) × (End n l k ≡ w)))
@@ -354,9 +331,8 @@ wire_only p kernel c n l h =
     (subst (λ ws. Contains ws (wire_named c n l)) (program_wires_by_row p kernel) h))
 
 abbrev pub Below : Kind → Type 0
-Below IsGo = Unit {0}
-Below IsStatus = Unit {0}
 Below (IsEnd k) = k < 64
+Below _ = Unit {0}
 
 has_inside : (t : Term) (c : Kind) (n : ℕ) (l : Layer) → Below c → Has t l c → Contains (instance_wires t n l) (wire_named c n l)
 has_inside t IsGo n l b h = (0, omega arith, refl)

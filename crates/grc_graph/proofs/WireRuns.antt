@@ -8,7 +8,7 @@ use Rattle.std.proofs.lemmas.List.{map-append, get_or_append_left, get_or-append
 use Rattle.std.proofs.lemmas.List.Elements.{All-cons, All-append, All-map, All-nil}
 use Rattle.std.proofs.lemmas.List.FromFn.{get_or-map-range_with_len, length-map-range_with_len}
 use Rattle.std.proofs.lemmas.Simd.{map-map}
-use Rattle.est_kernel.specs.Terms.{Term, Nothing, Pause, Emit, Exit, Present, Suspend, Seq, Loop, Par, Trap, Local, Awake}
+use Rattle.est_kernel.specs.Terms.{Term, Local}
 use Rattle.grc_graph.specs.declared.wires.Wire.{Wire}
 use Rattle.grc_graph.specs.declared.wires.Wire.TheVariants as wires
 use Rattle.grc_graph.specs.Layers.{Layer}
@@ -145,18 +145,8 @@ AreOutgoing-more inputs outgoing i list b A o = record {
 
 own_names : (insts : List plain.Instance) (i n : ℕ) (l : Layer) (t : Term) → instance_at insts i ≡ record { path = n; layer = l }
     → map (wire_of insts) (if is_local t then wires.Local (record { 0 = i }) ∷ [] else []) ≡ names.own_status t n l
-own_names insts i n l Nothing e = refl
-own_names insts i n l Pause e = refl
-own_names insts i n l (Emit s) e = refl
-own_names insts i n l (Exit k) e = refl
-own_names insts i n l (Present x p q) e = refl
-own_names insts i n l (Suspend x p) e = refl
-own_names insts i n l (Seq p q) e = refl
-own_names insts i n l (Loop at p) e = refl
-own_names insts i n l (Par p q) e = refl
-own_names insts i n l (Trap p) e = refl
 own_names insts i n l (Local s p) e = λ j. names.StatusOf (e j).path (e j).layer ∷ []
-own_names insts i n l (Awake x p) e = refl
+own_names insts i n l _ e = refl
 
 pub run_names : (insts : List plain.Instance) (i : ℕ) (x : plain.Instance) (t : Term) (b : Bool) (A : ℕ → Bool)
     → instance_at insts i ≡ x

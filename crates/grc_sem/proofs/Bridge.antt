@@ -4,7 +4,7 @@ use Rattle.std.specs.List.{list_any}
 use Rattle.std.proofs.Math.Bool.{or_assoc, or_comm}
 use Rattle.std.proofs.lemmas.List.Folds.{list_any-append}
 use Rattle.facts.proofs.Tests.{or-false, or-swapped}
-use Rattle.est_kernel.specs.Terms.{Term, Nothing, Pause, Emit, Exit, Present, Suspend, Seq, Loop, Par, Trap, Local, Awake}
+use Rattle.est_kernel.specs.Terms.{Term, Present, Suspend, Seq, Loop, Par, Trap, Local, Awake}
 use Rattle.est_kernel.specs.Preorder.{statement_count}
 use Rattle.est_kernel.specs.StaticCodes.{has_code, started_codes, resumed_codes}
 use Rattle.grc_graph.specs.Layers.{Layer, Resumed, Started, Liveness, root_if, part_liveness, second_liveness, loop_liveness, can_pass}
@@ -50,10 +50,6 @@ any_layers G false rs = any_started G rs
 
 -- whether some instance of a started statement, in its layer, passes
 abbrev pub started_any : (Spot → Bool) → Scope → (Layer → Formula) → Term → ℕ → Layer → Bool
-started_any F B f Nothing n l = F (spot B f Nothing n l)
-started_any F B f Pause n l = F (spot B f Pause n l)
-started_any F B f (Emit s) n l = F (spot B f (Emit s) n l)
-started_any F B f (Exit k) n l = F (spot B f (Exit k) n l)
 started_any F B f (Present e p q) n l =
     F (spot B f (Present e p q) n l)
     || (started_any F B (tested_entry n (n + 1) (test_formula B e)) p (n + 1) l
@@ -71,14 +67,10 @@ started_any F B f (Par p q) n l =
     || started_any F B (branch_entry n (n + 1 + statement_count p)) q (n + 1 + statement_count p) l)
 started_any F B f (Trap p) n l = F (spot B f (Trap p) n l) || started_any F B (part_entry n) p (n + 1) l
 started_any F B f (Local s p) n l = F (spot B f (Local s p) n l) || started_any F (bind B s n) (part_entry n) p (n + 1) l
-started_any F B f (Awake e p) n l = F (spot B f (Awake e p) n l)
+started_any F B f t n l = F (spot B f t n l)
 
 -- and of a resumed statement, with all that it may start at roots of its own
 abbrev pub resumed_any : (Spot → Bool) → Scope → (Layer → Formula) → Term → ℕ → Bool
-resumed_any F B f Nothing n = F (spot B f Nothing n Resumed)
-resumed_any F B f Pause n = F (spot B f Pause n Resumed)
-resumed_any F B f (Emit s) n = F (spot B f (Emit s) n Resumed)
-resumed_any F B f (Exit k) n = F (spot B f (Exit k) n Resumed)
 resumed_any F B f (Present e p q) n =
     F (spot B f (Present e p q) n Resumed)
     || ((has_code (resumed_codes p) && resumed_any F B (tested_entry n (n + 1) (test_formula B e)) p (n + 1))
@@ -104,7 +96,7 @@ resumed_any F B f (Trap p) n =
     F (spot B f (Trap p) n Resumed) || (has_code (resumed_codes p) && resumed_any F B (part_entry n) p (n + 1))
 resumed_any F B f (Local s p) n =
     F (spot B f (Local s p) n Resumed) || (has_code (resumed_codes p) && resumed_any F (bind B s n) (part_entry n) p (n + 1))
-resumed_any F B f (Awake e p) n = F (spot B f (Awake e p) n Resumed)
+resumed_any F B f t n = F (spot B f t n Resumed)
 
 swap : (a b c : Bool) → (a || (b || c)) ≡ ((a || c) || b)
 swap a b c = ap (λ i. a || i) (or_comm b c) ∙ sym (or_assoc a c b)
@@ -153,10 +145,6 @@ module _ (F : Spot → Bool) (L : ℕ → List Layer) where
   join_two hs ps qs e f g = join_one hs (ps ++ qs) e (join_one ps qs f g)
 
   pub split : (a : Liveness) (B : Scope) (f : Layer → Formula) (t : Term) (n : ℕ) → HasExitCodes t → Agrees L a t n → Split a B f t n
-  split a B f Nothing n k g = here_any a B f Nothing n g
-  split a B f Pause n k g = here_any a B f Pause n g
-  split a B f (Emit s) n k g = here_any a B f (Emit s) n g
-  split a B f (Exit c) n k g = here_any a B f (Exit c) n g
   split a B f (Present e p q) n k g =
       let m = n + 1 + statement_count p in
       let t = Present e p q in
@@ -231,3 +219,4 @@ module _ (F : Spot → Bool) (L : ℕ → List Layer) where
       join_one (spots_at L B f t n) (spots L (bind B s n) fp p (n + 1)) (here_any a B f t n g) x
       ∙ one_part a.resumed _ _ _ _ _ ∙ ap (λ b. (a.resumed && resumed_any F B f t n) || b) (sym (any_or _ _ a.roots))
   split a B f (Awake e p) n k g = absurd k
+  split a B f t n k g = here_any a B f t n g

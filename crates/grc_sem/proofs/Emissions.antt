@@ -4,10 +4,10 @@ use Rattle.std.specs.List.{list_any}
 use Rattle.std.proofs.lemmas.List.Folds.{list_any-append}
 use Rattle.std.proofs.lemmas.Bool.{ne_eqb}
 use Rattle.facts.proofs.Tests.{or-nothing}
-use Rattle.est_kernel.specs.Terms.{Term, Nothing, Pause, Emit, Exit, Present, Suspend, Seq, Loop, Par, Trap, Local, Awake}
+use Rattle.est_kernel.specs.Terms.{Term, Emit, Present, Suspend, Seq, Loop, Par, Trap, Local, Awake}
 use Rattle.est_kernel.specs.Preorder.{statement_count}
 use Rattle.grc_graph.specs.Layers.{Layer, layer_above, same_layer}
-use Rattle.grc_graph.specs.Scopes.{Binding, Entering, Outgoing, BoundAt, Unbound, Scope, bind}
+use Rattle.grc_graph.specs.Scopes.{Binding, BoundAt, Scope, bind}
 use Rattle.grc_graph.specs.Wires.{Wire, Go, StatusOf, status_wire}
 use Rattle.grc_graph.specs.Formulas.{Formula, Negation}
 use Rattle.grc_graph.specs.Spots.{Spot, spots, spots_at, test_formula, tested_entry, suspended_entry, branch_entry, second_entry, loop_entry, part_entry}
@@ -37,10 +37,8 @@ any_second F hs ps qs h g = any_only F hs (ps ++ qs) h ∙ any_only F ps qs g
 
 -- a signal with another binding has another status wire
 pub other_binding : (b : Binding) (s j : ℕ) (l i : Layer) → (b ≡ BoundAt j → ⊥) → is_wire (status_wire b s l) (StatusOf j i) ≡ false
-other_binding Entering s j l i h = refl
-other_binding Outgoing s j l i h = refl
 other_binding (BoundAt c) s j l i h = ap (λ d. d && same_layer (layer_above c l) i) (ne_eqb c j (λ e. h (ap BoundAt e)))
-other_binding Unbound s j l i h = refl
+other_binding _ s j l i h = refl
 
 bound_other : (d : Bool) (n j : ℕ) (b : Binding) → (n ≡ j → ⊥) → (b ≡ BoundAt j → ⊥) → cond d (BoundAt n) b ≡ BoundAt j → ⊥
 bound_other true n j b h g e = h (let f : n ≡ j = cc in f)
@@ -50,12 +48,9 @@ module _ (V : Valuation) (L : ℕ → List Layer) where
   -- a statement that does not bind j and whose scope does not either emits nothing on a status wire of j
   pub emitted_none : (j : ℕ) (i : Layer) (t : Term) (B : Scope) (f : Layer → Formula) (n : ℕ) → (n ≤ j → j < n + statement_count t → ⊥) →
       ((s : ℕ) → B s ≡ BoundAt j → ⊥) → emitted V (StatusOf j i) (spots L B f t n) ≡ false
-  emitted_none j i Nothing B f n o h = any_none _ (λ l. spot B f Nothing n l) (L n) (λ l. refl)
-  emitted_none j i Pause B f n o h = any_none _ (λ l. spot B f Pause n l) (L n) (λ l. refl)
   emitted_none j i (Emit s) B f n o h =
       any_none _ (λ l. spot B f (Emit s) n l) (L n)
       (λ l. ap (λ b. b && V (Go n l)) (other_binding (B s) s j l i (h s)))
-  emitted_none j i (Exit k) B f n o h = any_none _ (λ l. spot B f (Exit k) n l) (L n) (λ l. refl)
   emitted_none j i (Present e p q) B f n o h =
       any_first (emission V (StatusOf j i)) (spots_at L B f (Present e p q) n) (spots L B (tested_entry n (n + 1) (test_formula B e)) p (n + 1))
       (spots L B (tested_entry n (n + 1 + statement_count p) (λ l. Negation (test_formula B e l))) q (n + 1 + statement_count p))
@@ -95,6 +90,7 @@ module _ (V : Valuation) (L : ℕ → List Layer) where
       any_only (emission V (StatusOf j i)) (spots_at L B f (Awake e p) n) (spots L B (part_entry n) p (n + 1))
       (any_none _ (λ l. spot B f (Awake e p) n l) (L n) (λ l. refl))
       ∙ emitted_none j i p B _ (n + 1) (λ x y. o (omega arith) (omega arith)) h
+  emitted_none j i t B f n o h = any_none _ (λ l. spot B f t n l) (L n) (λ l. refl)
 
   -- the emissions of the whole list, on the status wires that a statement binds, are its own
   pub record Whole (all : List Spot) (B : Scope) (f : Layer → Formula) (t : Term) (n : ℕ) : Type 0 where

@@ -11,7 +11,7 @@ use Rattle.est_kernel.specs.Steps.{trap_code}
 use Rattle.est_kernel.specs.StaticCodes.{has_code}
 use Rattle.est_kernel.proofs.Exports.{upto-in, upto-parts}
 use Rattle.grc_graph.specs.Layers.{Layer, Resumed}
-use Rattle.grc_graph.specs.Scopes.{Binding, Entering, Outgoing, BoundAt, Unbound, Scope}
+use Rattle.grc_graph.specs.Scopes.{Binding, Entering, Scope}
 use Rattle.grc_graph.specs.Wires.{Go, End}
 use Rattle.grc_graph.specs.Formulas.{Formula, Conjunction, Selected, Upto, Value, any_of, meaning}
 use Rattle.grc_graph.specs.Spots.{status_formula, test_formula}
@@ -44,9 +44,7 @@ module _ (B : Scope) (body : Term) (q : State) (given : Values) (V : Valuation) 
 
   status_meaning : (b : Binding) (s : ℕ) (l : Layer) → val (status_formula b s l) ≡ seen_value given V b s l
   status_meaning Entering s l = refl
-  status_meaning Outgoing s l = refl
-  status_meaning (BoundAt n) s l = refl
-  status_meaning Unbound s l = refl
+  status_meaning _ s l = refl
 
   -- a test means its truth under the values that the place sees
   pub test_meaning : (C : Scope) (e : Expression) (l : Layer) (v : Values) → ((s : ℕ) → v s ≡ seen_value given V (C s) s l) →

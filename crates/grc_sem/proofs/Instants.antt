@@ -2,7 +2,7 @@
 use Rattle.std.proofs.Common.{◌≡◌, ℕ, Bool, true, false, ◌&&◌, ◌||◌, ◌==◌, cond, List, refl, sym, ap, ◌∙◌, subst, ⊎_elim, arith, ◌<◌}
 use Rattle.std.proofs.lemmas.Bool.{and_parts, ne_eqb, cond_both, false≢true, cases_Bool, or_parts}
 use Rattle.facts.proofs.Tests.{or-equal, or-false}
-use Rattle.est_kernel.specs.Terms.{Term, Nothing, Pause, Emit, Exit, Present, Suspend, Seq, Loop, Par, Trap, Local, Awake}
+use Rattle.est_kernel.specs.Terms.{Term, Nothing}
 use Rattle.est_kernel.specs.StaticCodes.{has_code, resumed_codes, NoInstantLoop}
 use Rattle.est_kernel.specs.Plain.{Program, interface_count, outgoing_count, given_count}
 use Rattle.est_kernel.specs.Reactions.{is_given}
@@ -34,17 +34,7 @@ use Rattle.grc_sem.proofs.FirstCodes.{first_listed, none_listed}
 
 top_statement : (t : Term) → statement_at t 0 0 ≡ t
 top_statement Nothing = refl
-top_statement Pause = refl
-top_statement (Emit s) = refl
-top_statement (Exit k) = refl
-top_statement (Present e p q) = refl
-top_statement (Suspend e p) = refl
-top_statement (Seq p q) = refl
-top_statement (Loop at p) = refl
-top_statement (Par p q) = refl
-top_statement (Trap p) = refl
-top_statement (Local s p) = refl
-top_statement (Awake e p) = refl
+top_statement _ = refl
 
 no_code : (t : Term) (k : ℕ) → HasExitCodes t → has_code (resumed_codes t) ≡ false → resumed_codes t k ≡ false
 no_code t k b e =

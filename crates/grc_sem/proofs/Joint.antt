@@ -4,7 +4,7 @@ use Rattle.std.specs.List.{list_any, flat_map, range_with_len, All}
 use Rattle.std.proofs.lemmas.List.Folds.{list_any-append}
 use Rattle.std.proofs.lemmas.Bool.{and_parts, eqb-true, cond_both, false≢true}
 use Rattle.facts.proofs.Lists.{Every}
-use Rattle.est_kernel.specs.Terms.{Term, Nothing, Pause, Emit, Exit, Present, Suspend, Seq, Loop, Par, Trap, Local, Awake}
+use Rattle.est_kernel.specs.Terms.{Term, Nothing, Local, Awake}
 use Rattle.est_kernel.specs.Reactions.{is_given}
 use Rattle.grc_graph.specs.Layers.{Layer, Resumed, Started, same_layer, body_layers}
 use Rattle.grc_graph.specs.Scopes.{Scope, program_scope}
@@ -99,16 +99,6 @@ module _ (B0 : Scope) (body : Term) (q : State) (given : Values) (V : Valuation)
           ++ map (λ k. record { wire = End n l k; formula = end_formula B t n l k }) (listed (instance_codes t l)))) →
           ((k : ℕ) → instance_codes t l k ≡ false → V (End n l k) ≡ false) →
           Met B0 body q given V all (record { statement = t; path = n; layer = l; scope = B; entry = x.entry })
-      go B Nothing n l b h d = record { go = h.0; ends = ends_met B Nothing n l b h.1 d; status = tt }
-      go B Pause n l b h d = record { go = h.0; ends = ends_met B Pause n l b h.1 d; status = tt }
-      go B (Emit s) n l b h d = record { go = h.0; ends = ends_met B (Emit s) n l b h.1 d; status = tt }
-      go B (Exit c) n l b h d = record { go = h.0; ends = ends_met B (Exit c) n l b h.1 d; status = tt }
-      go B (Present e p p2) n l b h d = record { go = h.0; ends = ends_met B (Present e p p2) n l b h.1 d; status = tt }
-      go B (Suspend e p) n l b h d = record { go = h.0; ends = ends_met B (Suspend e p) n l b h.1 d; status = tt }
-      go B (Seq p p2) n l b h d = record { go = h.0; ends = ends_met B (Seq p p2) n l b h.1 d; status = tt }
-      go B (Loop at p) n l b h d = record { go = h.0; ends = ends_met B (Loop at p) n l b h.1 d; status = tt }
-      go B (Par p p2) n l b h d = record { go = h.0; ends = ends_met B (Par p p2) n l b h.1 d; status = tt }
-      go B (Trap p) n l b h d = record { go = h.0; ends = ends_met B (Trap p) n l b h.1 d; status = tt }
       go B (Local s p) n l b h d =
           let rest = h.1 in
           record {
@@ -117,6 +107,7 @@ module _ (B0 : Scope) (body : Term) (q : State) (given : Values) (V : Valuation)
             status = rest.0 ∙ any_meaning B0 body q given V (emissions (StatusOf n l) all) ∙ emissions_any B0 body q given V (StatusOf n l) all;
           }
       go B (Awake e p) n l b h d = absurd b
+      go B t n l b h d = record { go = h.0; ends = ends_met B t n l b h.1 d; status = tt }
 
 -- a wire that an instance does not have is not listed
 pub dead_in : (all : List Spot) (n : ℕ) (l : Layer) (k : ℕ) (y : Spot) → (y.path ≡ n → y.layer ≡ l → instance_codes y.statement y.layer k ≡ false) →
@@ -137,17 +128,7 @@ dead_in all n l k y h = go y.statement (λ i j. h i j)
 
     status_none : (t : Term) → list_any (λ e. same_wire (End n l k) e.wire) (instance_status all t y.path y.layer) ≡ false
     status_none Nothing = refl
-    status_none Pause = refl
-    status_none (Emit s) = refl
-    status_none (Exit c) = refl
-    status_none (Present e p q) = refl
-    status_none (Suspend e p) = refl
-    status_none (Seq p q) = refl
-    status_none (Loop at p) = refl
-    status_none (Par p q) = refl
-    status_none (Trap p) = refl
-    status_none (Local s p) = refl
-    status_none (Awake e p) = refl
+    status_none _ = refl
 
     go : (t : Term) → (y.path ≡ n → y.layer ≡ l → instance_codes t y.layer k ≡ false) → list_any same (own_rows t) ≡ false
     go t f =

@@ -31,10 +31,7 @@ pub only_same : {S T : ℕ → Bool} (n a : ℕ) → Same S T n (n + (1 + a)) �
 only_same n a s = same_within n (n + (1 + a)) (n + 1) (n + 1 + a) (omega arith) (omega arith) s
 
 pub holds_same : (S T : ℕ → Bool) (t : Term) (n : ℕ) → Same S T n (n + statement_count t) → holds S t n ≡ holds T t n
-holds_same S T Nothing n s = refl
 holds_same S T Pause n s = s.at n (omega arith) (omega arith)
-holds_same S T (Emit x) n s = refl
-holds_same S T (Exit k) n s = refl
 holds_same S T (Present e p q) n s =
     or-equal (holds_same S T p (n + 1) (first_same n (statement_count p) (statement_count q) s))
     (holds_same S T q (n + 1 + statement_count p) (second_same n (statement_count p) (statement_count q) s))
@@ -48,7 +45,7 @@ holds_same S T (Par p q) n s =
     (holds_same S T q (n + 1 + statement_count p) (second_same n (statement_count p) (statement_count q) s))
 holds_same S T (Trap p) n s = holds_same S T p (n + 1) (only_same n (statement_count p) s)
 holds_same S T (Local x p) n s = holds_same S T p (n + 1) (only_same n (statement_count p) s)
-holds_same S T (Awake e p) n s = refl
+holds_same S T _ n s = refl
 
 left_same : {b c : Bool} {r u : Term} → b ≡ c → r ≡ u → left_if b r ≡ left_if c u
 left_same {b} {c} {r} {u} e f = ap (λ x. left_if x r) e ∙ ap (λ x. left_if c x) f
@@ -57,10 +54,6 @@ cond_same : {b c : Bool} {r s u v : Term} → b ≡ c → r ≡ u → s ≡ v �
 cond_same {b} {c} {r} {s} {u} {v} e f g = ap (λ x. cond x r s) e ∙ ap (λ x. cond c x s) f ∙ ap (λ x. cond c u x) g
 
 pub residual_same : (S T : ℕ → Bool) (t : Term) (n : ℕ) → Same S T n (n + statement_count t) → residual S t n ≡ residual T t n
-residual_same S T Nothing n s = refl
-residual_same S T Pause n s = refl
-residual_same S T (Emit x) n s = refl
-residual_same S T (Exit k) n s = refl
 residual_same S T (Present e p q) n s =
     let a = first_same n (statement_count p) (statement_count q) s in
     let b = second_same n (statement_count p) (statement_count q) s in
@@ -82,7 +75,7 @@ residual_same S T (Par p q) n s =
     ∙ ap (λ r. Par (left_if (holds T p (n + 1)) (residual T p (n + 1))) r) y
 residual_same S T (Trap p) n s = ap Trap (residual_same S T p (n + 1) (only_same n (statement_count p) s))
 residual_same S T (Local x p) n s = ap (λ r. Local x r) (residual_same S T p (n + 1) (only_same n (statement_count p) s))
-residual_same S T (Awake e p) n s = refl
+residual_same S T _ n s = refl
 
 pub holds_none : (T : ℕ → Bool) (t : Term) (n : ℕ) → ((m : ℕ) → n ≤ m → m < n + statement_count t → T m ≡ false) → holds T t n ≡ false
 holds_none T t n f = holds_same T (λ m. false) t n (record { at = f }) ∙ holds-false t n
@@ -282,10 +275,7 @@ keeps_held false k j = j refl
 
 pub resumed_keeps : (Z : ℕ → Layer → Bool) (S : ℕ → Bool) (t : Term) (n : ℕ) (v : Values) → HasExitCodes t → holds S t n ≡ true →
     Keeps (resumed_walk Z S t n v) t n
-resumed_keeps Z S Nothing n v b h = absurd (false≢true h)
 resumed_keeps Z S Pause n v b h = keeps_none 0 Pause n refl
-resumed_keeps Z S (Emit x) n v b h = absurd (false≢true h)
-resumed_keeps Z S (Exit k) n v b h = absurd (false≢true h)
 resumed_keeps Z S (Present e p q) n v b h =
     keeps_held (holds S p (n + 1))
     (λ c. keeps_first q (Present e p q) n refl (λ T. refl) (resumed_keeps Z S p (n + 1) v b.0 c))
@@ -321,3 +311,4 @@ resumed_keeps Z S (Trap p) n v b h = keeps_trap n (resumed_keeps Z S p (n + 1) v
 resumed_keeps Z S (Local s p) n v b h =
     keeps_signals _ (keeps_only (Local s p) n refl (λ T. refl) (resumed_keeps Z S p (n + 1) (with_value v s (Z n Resumed)) b h))
 resumed_keeps Z S (Awake e p) n v b h = absurd b
+resumed_keeps Z S _ n v b h = absurd (false≢true h)

@@ -16,6 +16,8 @@ mod WalkEmits
 mod EndForms
 -- what the wires of an instance meet, and what its place sees and finds
 mod Meets
+-- where a statement stands in the list of live instances, and its parts
+mod Standing
 -- the status wire of a Local is what its body emits
 mod OwnStatus
 -- the ends of an instance, where its parts are those of the walk

@@ -4,13 +4,13 @@ use Rattle.std.proofs.Common.{inr, ⊎_elim, arith}
 use Rattle.std.specs.List.{list_any}
 use Rattle.std.proofs.lemmas.Bool.{or_cases, or_left, or_right, eqb-true, eqb-false, eq-eqb, ne_eqb, false≢true, cases_Bool, cond-true, cond-false}
 use Rattle.std.proofs.lemmas.Bool.{lt-ltb}
-use Rattle.facts.proofs.Tests.{ltb-not, same-tests}
-use Rattle.est_kernel.specs.Terms.{Term, Nothing, Pause, Emit, Exit, Present, Suspend, Seq, Loop, Par, Trap, Local, Awake}
+use Rattle.facts.proofs.Tests.{ltb-not, same-tests, and-true, and-false}
+use Rattle.est_kernel.specs.Terms.{Term, Nothing, Pause, Emit, Exit, Local, Awake}
 use Rattle.est_kernel.specs.Preorder.{statement_count}
 use Rattle.est_kernel.specs.StaticCodes.{has_code, resumed_codes}
 use Rattle.est_kernel.proofs.Exports.{statement_count-some}
 use Rattle.grc_graph.specs.Layers.{Layer, Resumed, Started, root_if, layer_above, same_layer}
-use Rattle.grc_graph.specs.Scopes.{Binding, Entering, Outgoing, BoundAt, Unbound, Scope, bind}
+use Rattle.grc_graph.specs.Scopes.{Binding, BoundAt, Scope, bind}
 use Rattle.grc_graph.specs.Wires.{Go, StatusOf, End, status_wire, instance_codes}
 use Rattle.grc_graph.specs.Formulas.{Formula}
 use Rattle.grc_graph.specs.Spots.{Spot}
@@ -46,28 +46,16 @@ head_started P B f Nothing n l k e = e
 head_started P B f Pause n l k e = e
 head_started P B f (Emit s) n l k e = e
 head_started P B f (Exit c) n l k e = e
-head_started P B f (Present x p q) n l k e = e.0
-head_started P B f (Suspend x p) n l k e = e.0
-head_started P B f (Seq p q) n l k e = e.0
-head_started P B f (Loop at p) n l k e = e.0
-head_started P B f (Par p q) n l k e = e.0
-head_started P B f (Trap p) n l k e = e.0
-head_started P B f (Local s p) n l k e = e.0
 head_started P B f (Awake x p) n l k e = absurd k
+head_started P B f _ n l k e = e.0
 
 pub head_resumed : (P : Spot → Type 0) (B : Scope) (f : Layer → Formula) (t : Term) (n : ℕ) → HasExitCodes t → EachResumed P B f t n → P (spot B f t n Resumed)
 head_resumed P B f Nothing n k e = e
 head_resumed P B f Pause n k e = e
 head_resumed P B f (Emit s) n k e = e
 head_resumed P B f (Exit c) n k e = e
-head_resumed P B f (Present x p q) n k e = e.0
-head_resumed P B f (Suspend x p) n k e = e.0
-head_resumed P B f (Seq p q) n k e = e.0
-head_resumed P B f (Loop at p) n k e = e.0
-head_resumed P B f (Par p q) n k e = e.0
-head_resumed P B f (Trap p) n k e = e.0
-head_resumed P B f (Local s p) n k e = e.0
 head_resumed P B f (Awake x p) n k e = absurd k
+head_resumed P B f _ n k e = e.0
 
 -- what a place sees
 pub record Sees (given : Values) (V : Valuation) (B : Scope) (l : Layer) (v : Values) : Type 0 where
@@ -84,10 +72,8 @@ sees_more given V B n s l v e h = record { each = λ t. bound_sees given V (t ==
 
 root_sees : (given : Values) (V : Valuation) (b : Binding) (s m : ℕ) → ((c : ℕ) → b ≡ BoundAt c → c < m) →
     seen_value given V b s Resumed ≡ seen_value given V b s (Started m)
-root_sees given V Entering s m h = refl
-root_sees given V Outgoing s m h = refl
 root_sees given V (BoundAt b) s m h = ap (λ j. V (StatusOf b j)) (sym (above_behind b m (h b refl)))
-root_sees given V Unbound s m h = refl
+root_sees given V _ s m h = refl
 
 pub sees_root : (given : Values) (V : Valuation) (B : Scope) (m : ℕ) (v : Values) → Above B m → Sees given V B Resumed v → Sees given V B (Started m) v
 sees_root given V B m v a h = record { each = λ s. h.each s ∙ root_sees given V (B s) s m (a.each s) }
@@ -118,16 +104,8 @@ own_fresh n l = record { other = λ m j k. ap (λ b. b && same_layer j l) (ne_eq
 
 own_bound : (d c : Bool) (n t : ℕ) (l i : Layer) (b : Binding) → same_layer (layer_above n l) i ≡ c → (b ≡ BoundAt n → ⊥) →
     is_wire (status_wire (cond d (BoundAt n) b) t l) (StatusOf n i) ≡ (c && d)
-own_bound true c n t l i b e h = ap (λ x. x && same_layer (layer_above n l) i) (eq-eqb n n refl) ∙ e ∙ sym (and_true_right c)
-  where
-    and_true_right : (c : Bool) → (c && true) ≡ c
-    and_true_right true = refl
-    and_true_right false = refl
-own_bound false c n t l i b e h = other_binding b t n l i h ∙ sym (and_false c)
-  where
-    and_false : (c : Bool) → (c && false) ≡ false
-    and_false true = refl
-    and_false false = refl
+own_bound true c n t l i b e h = ap (λ x. x && same_layer (layer_above n l) i) (eq-eqb n n refl) ∙ e ∙ sym (and-true c)
+own_bound false c n t l i b e h = other_binding b t n l i h ∙ sym (and-false c)
 
 pub own_shows : (B : Scope) (n s : ℕ) (l i : Layer) (c : Bool) → Above B n → same_layer (layer_above n l) i ≡ c → Shows (bind B s n) l (StatusOf n i) s c
 own_shows B n s l i c a e =
@@ -168,14 +146,8 @@ started_at V Nothing n l v b k w = w
 started_at V Pause n l v b k w = w
 started_at V (Emit s) n l v b k w = w
 started_at V (Exit c) n l v b k w = w
-started_at V (Present e p q) n l v b k w = w.0
-started_at V (Suspend e p) n l v b k w = w.0
-started_at V (Seq p q) n l v b k w = w.0
-started_at V (Loop at p) n l v b k w = w.0
-started_at V (Par p q) n l v b k w = w.0
-started_at V (Trap p) n l v b k w = w.0
-started_at V (Local s p) n l v b k w = w.0
 started_at V (Awake e p) n l v b k w = absurd k
+started_at V _ n l v b k w = w.0
 
 pub resumed_at : (V : Valuation) (S : ℕ → Bool) (t : Term) (n : ℕ) (v : Values) (b : Bool) → HasExitCodes t → ResumedWalked V S t n v b →
     InstanceWalked V n Resumed b (resumed_walk (statuses V) S t n v)
@@ -183,14 +155,8 @@ resumed_at V S Nothing n v b k w = w
 resumed_at V S Pause n v b k w = w
 resumed_at V S (Emit s) n v b k w = w
 resumed_at V S (Exit c) n v b k w = w
-resumed_at V S (Present e p q) n v b k w = w.0
-resumed_at V S (Suspend e p) n v b k w = w.0
-resumed_at V S (Seq p q) n v b k w = w.0
-resumed_at V S (Loop at p) n v b k w = w.0
-resumed_at V S (Par p q) n v b k w = w.0
-resumed_at V S (Trap p) n v b k w = w.0
-resumed_at V S (Local s p) n v b k w = w.0
 resumed_at V S (Awake e p) n v b k w = absurd k
+resumed_at V S _ n v b k w = w.0
 
 -- the lookup g finds in the statement t, at n, what S selects
 pub record Finds (g : ℕ → Bool) (S : ℕ → Bool) (t : Term) (n : ℕ) : Type 0 where

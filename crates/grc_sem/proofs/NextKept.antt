@@ -2,7 +2,8 @@
 use Rattle.std.proofs.Common.{◌≡◌, ℕ, ◌+◌, ◌≤◌, Bool, true, false, not, ◌&&◌, ◌||◌, ◌==◌, cond, ltb, max, refl, sym, ap, ◌∙◌, subst, inl, inr, ⊎_elim, arith}
 use Rattle.std.proofs.lemmas.Bool.{or_left, or_right, and_parts, eqb-true, eqb-false, eq-eqb, ne_eqb, cond_both, false≢true, cases_Bool, cond-true, cond-false}
 use Rattle.std.proofs.lemmas.Bool.{and_from, lt-ltb, le-leb}
-use Rattle.facts.proofs.Tests.{ltb-not, or-equal, or-left-none, or-other}
+use Rattle.facts.proofs.Tests.{ltb-not, or-equal, or-left-none, or-other, or-false, and-true, and-false}
+use Rattle.std.proofs.Math.Bool.{or_comm, and_assoc}
 use Rattle.est_kernel.specs.Terms.{Expression, Tick, Sig, Not, And, Or, Term, Nothing, Pause, Emit, Exit, Present, Suspend, Seq, Loop, Par, Trap, Local, Awake}
 use Rattle.est_kernel.specs.Preorder.{statement_count}
 use Rattle.est_kernel.specs.Steps.{trap_code}
@@ -81,11 +82,7 @@ guarded false true x P f h = absurd (false≢true (h refl))
 guarded false false x P f h = refl
 
 par_bits : (v b o x y : Bool) → v ≡ (b && o) → y ≡ false → (v && (b && x)) ≡ (b && (o && (x || y)))
-par_bits v true true x y e f = ap (λ i. i && x) e ∙ sym (ap (λ i. x || i) f ∙ or_nothing x)
-  where
-    or_nothing : (x : Bool) → (x || false) ≡ x
-    or_nothing true = refl
-    or_nothing false = refl
+par_bits v true true x y e f = ap (λ i. i && x) e ∙ sym (ap (λ i. x || i) f ∙ or-false x)
 par_bits v true false x y e f = ap (λ i. i && x) e
 par_bits v false o x y e f = ap (λ i. i && false) e
 
@@ -157,16 +154,12 @@ module _ (V : Valuation) where
       let wq = started_walk (statuses V) q m (Started r) v in
       ap (λ z. (started_codes p 0 && way_starts q y) && (V (Go g (Started r)) && z))
       (look_second g n (statement_count p) true (kept_at V p (n + 1) g (Started r)) (kept_at V q m g (Started r)) i.0)
-      ∙ assoc (started_codes p 0) (way_starts q y) (V (Go g (Started r)) && kept_at V q m g (Started r))
+      ∙ and_assoc (started_codes p 0) (way_starts q y) (V (Go g (Started r)) && kept_at V q m g (Started r))
       ∙ guarded (started_codes p 0) (b && wp.code == 0) (wq.kept g) (start_keeps V q m y r)
       (λ z. started_kept q m r v (b && wp.code == 0) y (omega arith) (no_loops-right (instant_loops p) (instant_loops q) nl) k.1 (w.2 z))
       (λ z. subst (λ j. started_codes p j ≡ true) (eqb-true wp.code 0 (and_parts b _ z).1) (started_code (statuses V) p (n + 1) (Started r) v np k.0))
       ∙ turn_second b (wp.code == 0) (wp.kept g) (wq.kept g) (not_second q n y (started_keeps (statuses V) p (n + 1) (Started r) v k.0))
       ∙ ap (λ z. b && z) (then_kept wp wq g)
-    where
-      assoc : (a b c : Bool) → ((a && b) && c) ≡ (a && (b && c))
-      assoc true b c = refl
-      assoc false b c = refl
   started_kept (Loop at p) n r v b h l nl k w =
       let i = inside p (n + 1) h in
       ap (λ z. way_starts p h && (V (Go (goal p (n + 1) h) (Started r)) && z))
@@ -201,13 +194,7 @@ module _ (V : Valuation) where
       ∙ ap (λ z. V (End n y 1) && z) (started_kept q m r v b x (omega arith) (no_loops-right (instant_loops p) (instant_loops q) nl) k.1 w.2)
       ∙ par_bits (V (End n y 1)) b (max wp.code wq.code == 1) (wq.kept g) (wp.kept g) (w.0.ends 1 ∙ ap (λ z. b && z) (one_flip (max wp.code wq.code)))
       (not_second q n x (started_keeps (statuses V) p (n + 1) y v k.0))
-      ∙ ap (λ z. b && ((max wp.code wq.code == 1) && z)) (flip (wq.kept g) (wp.kept g))
-    where
-      flip : (a b : Bool) → (a || b) ≡ (b || a)
-      flip true true = refl
-      flip true false = refl
-      flip false true = refl
-      flip false false = refl
+      ∙ ap (λ z. b && ((max wp.code wq.code == 1) && z)) (or_comm (wq.kept g) (wp.kept g))
   started_kept (Trap p) n r v b h l nl k w =
       let i = inside p (n + 1) h in
       let wp = started_walk (statuses V) p (n + 1) (Started r) v in
@@ -231,11 +218,7 @@ guard_total false R false H true x f g h = absurd (false≢true (g refl))
 guard_total false R false H false x f g h = refl
 
 suspend_bits : (a s H b d x : Bool) → (a || (s && H)) ≡ ((b && not d) && x) → (a || (s && ((b && d) || H))) ≡ (b && cond d s x)
-suspend_bits a s H true true x e = ap (λ i. i || (s && true)) (or-left-none a (s && H) e) ∙ keep s
-  where
-    keep : (s : Bool) → (s && true) ≡ s
-    keep true = refl
-    keep false = refl
+suspend_bits a s H true true x e = ap (λ i. i || (s && true)) (or-left-none a (s && H) e) ∙ and-true s
 suspend_bits a s H true false x e = e
 suspend_bits a s H false d x e = e
 
@@ -263,21 +246,13 @@ seq_second_bits : (b h k z x u y : Bool) → (b ≡ true → (h && k) ≡ false)
 seq_second_bits true true true z x u y f g e = absurd (false≢true (sym (f refl)))
 seq_second_bits true true false true x u y f g e = refl
 seq_second_bits true true false false x u y f g e = sym (e refl)
-seq_second_bits true false true z x u y f g e = nothing y
-  where
-    nothing : (y : Bool) → (y || false) ≡ y
-    nothing true = refl
-    nothing false = refl
+seq_second_bits true false true z x u y f g e = or-false y
 seq_second_bits true false false z x u y f g e = absurd (false≢true (g refl))
 seq_second_bits false h k z x u y f g e = refl
 
 loop_kept_bits : (b z x u : Bool) → (b ≡ true → z ≡ true → x ≡ false) → ((b && x) || ((b && z) && u)) ≡ (b && cond z u x)
 loop_kept_bits true true x u f = ap (λ i. i || u) (f refl refl)
-loop_kept_bits true false x u f = nothing x
-  where
-    nothing : (y : Bool) → (y || false) ≡ y
-    nothing true = refl
-    nothing false = refl
+loop_kept_bits true false x u f = or-false x
 loop_kept_bits false z x u f = refl
 
 move : (a k c : Bool) → ((a || k) || c) ≡ ((a || c) || k)
@@ -312,11 +287,7 @@ module _ (V : Valuation) (S : ℕ → Bool) (given : Values) where
       (holds S t n ≡ true → IsSelected S t n) → (b ≡ true → holds S t n ≡ true) → Sees given V B Resumed v → ResumedWalked V S t n v b →
       Total B t n h ≡ (b && (resumed_walk (statuses V) S t n v).kept (goal t n h))
   resumed_kept Nothing B n v b h nl k s r e w = absurd h
-  resumed_kept Pause B n v b h nl k s r e w = none (S n) ∙ sym (none b)
-    where
-      none : (c : Bool) → (c && false) ≡ false
-      none true = refl
-      none false = refl
+  resumed_kept Pause B n v b h nl k s r e w = and-false (S n) ∙ sym (and-false b)
   resumed_kept (Emit x) B n v b h nl k s r e w = absurd h
   resumed_kept (Exit c) B n v b h nl k s r e w = absurd h
   resumed_kept (Present c p q) B n v b (inl x) nl k s r e w =
@@ -363,7 +334,7 @@ module _ (V : Valuation) (S : ℕ → Bool) (given : Values) where
       let own : (V (Go n Resumed) && truth c (seen_values given V B Resumed)) ≡ (b && d) =
       and_same w.0.go (truth_same c (seen_values given V B Resumed) v (λ z. sym (e.each z))) in
       let kept : selected_in S p (n + 1) g ≡ S g =
-      ap (λ z. S g && z) (and_from _ _ (le-leb (n + 1) g i.0) (lt-ltb g (n + 1 + statement_count p) i.1)) ∙ keep (S g) in
+      ap (λ z. S g && z) (and_from _ _ (le-leb (n + 1) g i.0) (lt-ltb g (n + 1 + statement_count p) i.1)) ∙ and-true (S g) in
       ap (λ z. (has_code (resumed_codes p) && restart_keeps V p (n + 1) h) || (S g && z))
       (or-equal own (look_only g n false (held_at given V B p (n + 1) g Resumed) i.0))
       ∙ suspend_bits (has_code (resumed_codes p) && restart_keeps V p (n + 1) h) (S g) (held_at given V B p (n + 1) g Resumed) b d (wp.kept g)
@@ -372,10 +343,6 @@ module _ (V : Valuation) (S : ℕ → Bool) (given : Values) where
       (λ z. let y = r (and_parts b _ z).0 in resumed_live S p (n + 1) nl k y (s y))
       (λ z. let y = way_held S p (n + 1) h z in resumed_live S p (n + 1) nl k y (s y)))
       ∙ ap (λ z. b && cond d z (wp.kept g)) (sym kept) ∙ ap (λ z. b && z) (cond_kept d paused wp g)
-    where
-      keep : (s : Bool) → (s && true) ≡ s
-      keep true = refl
-      keep false = refl
   resumed_kept (Seq p q) B n v b (inl x) nl k s r e w =
       let m = n + 1 + statement_count p in
       let g = goal p (n + 1) x in
@@ -502,13 +469,7 @@ module _ (V : Valuation) (S : ℕ → Bool) (given : Values) where
       ∙ branch_kept hq wq b g)
       ∙ par_bits (V (End n Resumed 1)) b (max X.code Y.code == 1) (Y.kept g) (X.kept g) (w.0.ends 1 ∙ ap (λ z. b && z) (one_flip (max X.code Y.code)))
       (not_second q n x (keeps_branch hp (λ c. resumed_keeps (statuses V) S p (n + 1) v k.0 c)))
-      ∙ ap (λ z. b && ((max X.code Y.code == 1) && z)) (flip (Y.kept g) (X.kept g))
-    where
-      flip : (a b : Bool) → (a || b) ≡ (b || a)
-      flip true true = refl
-      flip true false = refl
-      flip false true = refl
-      flip false false = refl
+      ∙ ap (λ z. b && ((max X.code Y.code == 1) && z)) (or_comm (Y.kept g) (X.kept g))
   resumed_kept (Trap p) B n v b h nl k s r e w =
       let g = goal p (n + 1) h in
       let i = inside p (n + 1) h in

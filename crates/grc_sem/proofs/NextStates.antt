@@ -24,10 +24,6 @@ use Rattle.grc_sem.proofs.Ways.{Way, goal, inside, way_held}
 
 -- a well-formed selection depends on the pauses of the statement alone
 pub selected_as : (S T : ℕ → Bool) (t : Term) (n : ℕ) → Same S T n (n + statement_count t) → IsSelected S t n → IsSelected T t n
-selected_as S T Nothing n s h = tt
-selected_as S T Pause n s h = tt
-selected_as S T (Emit x) n s h = tt
-selected_as S T (Exit k) n s h = tt
 selected_as S T (Present e p q) n s h =
     let m = n + 1 + statement_count p in
     let sp = first_same n (statement_count p) (statement_count q) s in
@@ -63,7 +59,7 @@ selected_as S T (Par p q) n s h =
     )
 selected_as S T (Trap p) n s h = selected_as S T p (n + 1) (only_same n (statement_count p) s) h
 selected_as S T (Local x p) n s h = selected_as S T p (n + 1) (only_same n (statement_count p) s) h
-selected_as S T (Awake e p) n s h = tt
+selected_as S T _ n s h = tt
 
 flip_same : {S T : ℕ → Bool} {a b : ℕ} → Same S T a b → Same T S a b
 flip_same s = record { at = λ m l u. sym (s.at m l u) }
@@ -94,10 +90,6 @@ over_or_held p c n h l e f =
 pub started_selected : (Z : ℕ → Layer → Bool) (t : Term) (n : ℕ) (l : Layer) (v : Values) → NoInstantLoop t → HasExitCodes t →
     (started_walk Z t n l v).code ≡ 1 →
     (T : ℕ → Bool) → Same T (started_walk Z t n l v).kept n (n + statement_count t) → IsSelected T t n
-started_selected Z Nothing n l v nl k = λ c T s. tt
-started_selected Z Pause n l v nl k = λ c T s. tt
-started_selected Z (Emit x) n l v nl k = λ c T s. tt
-started_selected Z (Exit x) n l v nl k = λ c T s. tt
 started_selected Z (Present e p q) n l v nl k =
     let m = n + 1 + statement_count p in
     let np = no_loops-left (instant_loops p) (instant_loops q) nl in
@@ -150,7 +142,7 @@ started_selected Z (Trap p) n l v nl k = λ c T s.
     (record { at = λ m a b. s.at m (omega arith) (omega arith) ∙ ap (λ i. i && x.kept m) one })
 started_selected Z (Local x p) n l v nl k = λ c T s.
     started_selected Z p (n + 1) l (with_value v x (Z n l)) nl k c T (record { at = λ m a b. s.at m (omega arith) (omega arith) })
-started_selected Z (Awake e p) n l v nl k = λ c T s. tt
+started_selected Z _ n l v nl k = λ c T s. tt
 
 branch_over : (d : Bool) (p : Term) (x : Walk) → (d || can_pass p) ≡ true → (d ≡ true → resumed_codes p x.code ≡ true) → (cond d x (ended 0)).code ≡ 0 →
     can_pass p ≡ true
@@ -164,10 +156,6 @@ branch_selected false x T c s f = absurd (omega arith)
 
 pub resumed_selected : (Z : ℕ → Layer → Bool) (S : ℕ → Bool) (t : Term) (n : ℕ) (v : Values) → NoInstantLoop t → HasExitCodes t → holds S t n ≡ true →
     IsSelected S t n → (resumed_walk Z S t n v).code ≡ 1 → (T : ℕ → Bool) → Same T (resumed_walk Z S t n v).kept n (n + statement_count t) → IsSelected T t n
-resumed_selected Z S Nothing n v nl k h i = λ c T s. tt
-resumed_selected Z S Pause n v nl k h i = λ c T s. tt
-resumed_selected Z S (Emit x) n v nl k h i = λ c T s. tt
-resumed_selected Z S (Exit x) n v nl k h i = λ c T s. tt
 resumed_selected Z S (Present e p q) n v nl k h i =
     let m = n + 1 + statement_count p in
     let np = no_loops-left (instant_loops p) (instant_loops q) nl in
@@ -247,7 +235,7 @@ resumed_selected Z S (Trap p) n v nl k h i = λ c T s.
     (record { at = λ m a b. s.at m (omega arith) (omega arith) ∙ ap (λ j. j && x.kept m) one })
 resumed_selected Z S (Local x p) n v nl k h i = λ c T s.
     resumed_selected Z S p (n + 1) (with_value v x (Z n Resumed)) nl k h i c T (record { at = λ m a b. s.at m (omega arith) (omega arith) })
-resumed_selected Z S (Awake e p) n v nl k h i = λ c T s. tt
+resumed_selected Z S _ n v nl k h i = λ c T s. tt
 
 -- the pauses among selected numbers
 pub record Pauses (S : ℕ → Bool) (t : Term) (n : ℕ) : Type 0 where
@@ -302,10 +290,7 @@ by_second : (p q : Term) (n m : ℕ) → IsWay q (n + 1 + statement_count p) m �
 by_second p q n m w = (inr w.0, w.1)
 
 pub started_ways : (Z : ℕ → Layer → Bool) (t : Term) (n : ℕ) (l : Layer) (v : Values) → HasExitCodes t → AllWays (started_walk Z t n l v).kept t n
-started_ways Z Nothing n l v k = λ m e. absurd (false≢true e)
 started_ways Z Pause n l v k = λ m e. (tt, sym (eqb-true m n e))
-started_ways Z (Emit x) n l v k = λ m e. absurd (false≢true e)
-started_ways Z (Exit x) n l v k = λ m e. absurd (false≢true e)
 started_ways Z (Present c p q) n l v k =
     cond_ways (truth c v) _ _ (Present c p q) n
     (λ m e. by_first p q n m (started_ways Z p (n + 1) l v k.0 m e)) (λ m e. by_second p q n m (started_ways Z q (n + 1 + statement_count p) l v k.1 m e))
@@ -320,6 +305,7 @@ started_ways Z (Par p q) n l v k =
 started_ways Z (Trap p) n l v k = λ m e. started_ways Z p (n + 1) l v k m (and_parts _ _ e).1
 started_ways Z (Local x p) n l v k = started_ways Z p (n + 1) l (with_value v x (Z n l)) k
 started_ways Z (Awake c p) n l v k = absurd k
+started_ways Z _ n l v k = λ m e. absurd (false≢true e)
 
 ended_ways : (c : ℕ) (t : Term) (n : ℕ) → AllWays (ended c).kept t n
 ended_ways c t n m e = absurd (false≢true e)
@@ -330,10 +316,6 @@ pauses_only S t p n c f h = record { each = λ m e l u. f m (h.each m e (omega a
 
 pub resumed_ways : (Z : ℕ → Layer → Bool) (S : ℕ → Bool) (t : Term) (n : ℕ) (v : Values) → HasExitCodes t → Pauses S t n →
     AllWays (resumed_walk Z S t n v).kept t n
-resumed_ways Z S Nothing n v k h = ended_ways 0 Nothing n
-resumed_ways Z S Pause n v k h = ended_ways 0 Pause n
-resumed_ways Z S (Emit x) n v k h = ended_ways 0 (Emit x) n
-resumed_ways Z S (Exit x) n v k h = ended_ways 0 (Exit x) n
 resumed_ways Z S (Present c p q) n v k h =
     cond_ways (holds S p (n + 1)) _ _ (Present c p q) n
     (λ m e. by_first p q n m (resumed_ways Z S p (n + 1) v k.0 (pauses_first S p q n h.each) m e))
@@ -366,6 +348,7 @@ resumed_ways Z S (Par p q) n v k h =
 resumed_ways Z S (Trap p) n v k h = λ m e. resumed_ways Z S p (n + 1) v k (pauses_only S (Trap p) p n refl (λ i w. w) h) m (and_parts _ _ e).1
 resumed_ways Z S (Local x p) n v k h = resumed_ways Z S p (n + 1) (with_value v x (Z n Resumed)) k (pauses_only S (Local x p) p n refl (λ i w. w) h)
 resumed_ways Z S (Awake c p) n v k h = absurd k
+resumed_ways Z S t n v k h = ended_ways 0 t n
 
 -- a leaf is the pause at the end of a way
 abbrev pub among : ℕ → List ℕ → Bool
@@ -379,11 +362,8 @@ among_cases : (m : ℕ) (xs ys : List ℕ) → among m (xs ++ ys) ≡ true → (
 among_cases m xs ys e = or_cases (among m xs) (among m ys) (sym (list_any-append (λ x. m == x) xs ys) ∙ e)
 
 pub leaf_way : (b : Bool) (t : Term) (n m : ℕ) → among m (leaf_paths b t n) ≡ true → IsWay t n m
-leaf_way b Nothing n m e = absurd (false≢true e)
 leaf_way b Pause n m e =
     ⊎_elim (λ i. (tt, sym (eqb-true m n i))) (λ i. absurd (false≢true i)) (or_cases (m == n) false (leaves_if b m (n ∷ []) e))
-leaf_way b (Emit x) n m e = absurd (false≢true e)
-leaf_way b (Exit x) n m e = absurd (false≢true e)
 leaf_way b (Present c p q) n m e =
     ⊎_elim (λ i. by_first p q n m (leaf_way (resumes p) p (n + 1) m i)) (λ i. by_second p q n m (leaf_way (resumes q) q (n + 1 + statement_count p) m i))
     (among_cases m (leaf_paths (resumes p) p (n + 1)) _ (leaves_if b m _ e))
@@ -398,7 +378,7 @@ leaf_way b (Par p q) n m e =
     (among_cases m (leaf_paths (resumes p) p (n + 1)) _ (leaves_if b m _ e))
 leaf_way b (Trap p) n m e = leaf_way (resumes p) p (n + 1) m (leaves_if b m _ e)
 leaf_way b (Local x p) n m e = leaf_way (resumes p) p (n + 1) m (leaves_if b m _ e)
-leaf_way b (Awake c p) n m e = absurd (false≢true e)
+leaf_way b _ n m e = absurd (false≢true e)
 
 among_first : (m : ℕ) (xs ys : List ℕ) → among m xs ≡ true → among m (xs ++ ys) ≡ true
 among_first m xs ys e = list_any-append (λ x. m == x) xs ys ∙ or_left _ _ e

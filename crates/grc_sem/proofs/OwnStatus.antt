@@ -3,8 +3,9 @@ use Rattle.std.proofs.Common.{◌≡◌, ℕ, ◌+◌, ◌≤◌, Bool, true, fa
 use Rattle.std.specs.List.{list_any}
 use Rattle.std.proofs.lemmas.List.Folds.{list_any-append}
 use Rattle.std.proofs.lemmas.Bool.{ne_eqb, cond_both}
+use Rattle.facts.proofs.Tests.{or-false}
 use Rattle.est_kernel.specs.Terms.{Term, Local}
-use Rattle.est_kernel.specs.StaticCodes.{has_code, resumed_codes, NoInstantLoop}
+use Rattle.est_kernel.specs.StaticCodes.{has_code, resumed_codes}
 use Rattle.grc_graph.specs.Layers.{Layer, Resumed, Started, Liveness, part_liveness, layer_above, same_layer}
 use Rattle.grc_graph.specs.Scopes.{Scope, bind}
 use Rattle.grc_graph.specs.Wires.{StatusOf}
@@ -16,11 +17,12 @@ use Rattle.grc_graph.specs.Readings.{Valuation}
 use Rattle.grc_graph.specs.Coherence.{statuses, StartedWalked, ResumedWalked}
 use Rattle.grc_solutions.proofs.Exports.{spot, Above, above_bind, Root}
 use Rattle.grc_sem.proofs.Residues.{resumed_live}
-use Rattle.grc_graph.proofs.Exports.{Agrees, only_agrees, above_within, same_layer-self}
+use Rattle.grc_graph.proofs.Exports.{Agrees, above_within, same_layer-self}
 use Rattle.grc_sem.proofs.Emissions.{emission, emitted, Whole}
 use Rattle.grc_sem.proofs.Bridge.{started_any, resumed_any, split}
 use Rattle.grc_sem.proofs.WalkEmits.{Reach, started_silent, resumed_silent, started_emits, resumed_emits, guard_bits}
 use Rattle.grc_sem.proofs.Meets.{any_single, any_nothing, own_fresh, own_shows}
+use Rattle.grc_sem.proofs.Standing.{Stands, local_part}
 
 module _ (V : Valuation) (all : List Spot) (L : ℕ → List Layer) where
   pub started_emissions : (a : Liveness) (s : ℕ) (p : Term) (B : Scope) (f : Layer → Formula) (n r : ℕ) → HasExitCodes p → Above B n → Agrees L a p (n + 1) →
@@ -55,11 +57,7 @@ module _ (V : Valuation) (all : List Spot) (L : ℕ → List Layer) where
       (any_nothing (λ j. started_any F (bind B s n) f p (n + 1) (Started j)) a.roots
       (λ j i. started_silent V W s p (bind B s n) f (n + 1) (Started j) k (own_fresh n Resumed)
       (own_shows B n s (Started j) Resumed false ab (ap (λ y. same_layer y Resumed) (above_within n j (l j i))))))
-      ∙ or_nothing _
-    where
-      or_nothing : (x : Bool) → (x || false) ≡ x
-      or_nothing true = refl
-      or_nothing false = refl
+      ∙ or-false _
 
   -- the emissions of the whole list on a Local's own wire are in its body
   pub local_own : (x : ℕ) (p : Term) (B : Scope) (f : Layer → Formula) (n : ℕ) (y : Layer) → Whole V L all B f (Local x p) n →
@@ -74,33 +72,29 @@ module _ (V : Valuation) (all : List Spot) (L : ℕ → List Layer) where
       none (l ∷ ls) = none ls
 
   -- where its body is walked, they are the walk's
-  pub local_started : (a : Liveness) (x : ℕ) (p : Term) (B : Scope) (f : Layer → Formula) (n r : ℕ) (v : Values) (b : Bool) → Agrees L a (Local x p) n →
-      Root r a.roots → r ≤ n → NoInstantLoop p → HasExitCodes p → Above B n → Whole V L all B f (Local x p) n →
-      StartedWalked V p (n + 1) (Started r) (with_value v x (V (StatusOf n (Started r)))) b →
+  pub local_started : (a : Liveness) (x : ℕ) (p : Term) (B : Scope) (f : Layer → Formula) (n r : ℕ) (v : Values) (b : Bool) →
+      Stands V L all a B f (Local x p) n → Root r a.roots → StartedWalked V p (n + 1) (Started r) (with_value v x (V (StatusOf n (Started r)))) b →
       emitted V (StatusOf n (Started r)) all ≡ (b && (started_walk (statuses V) p (n + 1) (Started r) (with_value v x (V (StatusOf n (Started r))))).signals x)
-  local_started a x p B f n r v b g i l nl k ab w one =
+  local_started a x p B f n r v b c i one =
       let y = Started r in
       let W = StatusOf n y in
-      let ap1 = part_liveness a p in
-      local_own x p B f n y w
-      ∙ started_emissions ap1 x p B _ n r k ab (only_agrees L a ap1 (Local x p) p n refl (λ j. refl) g) i
-      ∙ started_emits V W x true p (bind B x n) _ (n + 1) y (with_value v x (V W)) b nl k one (own_fresh n y)
-      (own_shows B n x y y true ab (ap (λ z. same_layer z y) (above_within n r l) ∙ same_layer-self y))
+      local_own x p B f n y c.whole
+      ∙ started_emissions (part_liveness a p) x p B _ n r c.kernel c.above (local_part V L all c).agrees i
+      ∙ started_emits V W x true p (bind B x n) _ (n + 1) y (with_value v x (V W)) b c.loops c.kernel one (own_fresh n y)
+      (own_shows B n x y y true c.above (ap (λ z. same_layer z y) (above_within n r (c.low r i)) ∙ same_layer-self y))
 
   pub local_resumed : (S : ℕ → Bool) (a : Liveness) (x : ℕ) (p : Term) (B : Scope) (f : Layer → Formula) (n : ℕ) (v : Values) (b : Bool) →
-      Agrees L a (Local x p) n → a.resumed ≡ true → ((r : ℕ) → Root r a.roots → r ≤ n) → NoInstantLoop p → HasExitCodes p → Above B n →
-      Whole V L all B f (Local x p) n → Reach S p (n + 1) b → (has_code (resumed_codes p) ≡ true →
+      Stands V L all a B f (Local x p) n → a.resumed ≡ true → Reach S p (n + 1) b → (has_code (resumed_codes p) ≡ true →
       ResumedWalked V S p (n + 1) (with_value v x (V (StatusOf n Resumed))) b) →
       emitted V (StatusOf n Resumed) all ≡ (b && (resumed_walk (statuses V) S p (n + 1) (with_value v x (V (StatusOf n Resumed)))).signals x)
-  local_resumed S a x p B f n v b g i l nl k ab w up one =
+  local_resumed S a x p B f n v b c i up one =
       let W = StatusOf n Resumed in
-      let ap1 = part_liveness a p in
       let v2 = with_value v x (V W) in
       let wp = resumed_walk (statuses V) S p (n + 1) v2 in
-      local_own x p B f n Resumed w
-      ∙ resumed_emissions ap1 x p B _ n k ab (only_agrees L a ap1 (Local x p) p n refl (λ j. refl) g) l
+      local_own x p B f n Resumed c.whole
+      ∙ resumed_emissions (part_liveness a p) x p B _ n c.kernel c.above (local_part V L all c).agrees c.low
       ∙ ap (λ y. (y && has_code (resumed_codes p)) && resumed_any (emission V W) (bind B x n) (part_entry n) p (n + 1)) i
       ∙ guard_bits (has_code (resumed_codes p)) true b (wp.signals x) _
-      (λ z. resumed_emits V S W x true p (bind B x n) _ (n + 1) v2 b nl k up (one z) (own_fresh n Resumed) (above_bind B n x ab)
-      (own_shows B n x Resumed Resumed true ab refl))
-      (λ z. resumed_live S p (n + 1) nl k (up.held z) (up.selected z))
+      (λ z. resumed_emits V S W x true p (bind B x n) _ (n + 1) v2 b c.loops c.kernel up (one z) (own_fresh n Resumed) (above_bind B n x c.above)
+      (own_shows B n x Resumed Resumed true c.above refl))
+      (λ z. resumed_live S p (n + 1) c.loops c.kernel (up.held z) (up.selected z))

@@ -57,14 +57,8 @@ heads_here H h Nothing n g = g.each n (omega arith) (omega arith)
 heads_here H h Pause n g = g.each n (omega arith) (omega arith)
 heads_here H h (Emit s) n g = g.each n (omega arith) (omega arith)
 heads_here H h (Exit k) n g = g.each n (omega arith) (omega arith)
-heads_here H h (Present e p q) n g = g.each n (omega arith) (omega arith) ∙ cond-true (n == n) h _ (eq-eqb n n refl)
-heads_here H h (Suspend e p) n g = g.each n (omega arith) (omega arith) ∙ cond-true (n == n) h _ (eq-eqb n n refl)
-heads_here H h (Seq p q) n g = g.each n (omega arith) (omega arith) ∙ cond-true (n == n) h _ (eq-eqb n n refl)
-heads_here H h (Loop at p) n g = g.each n (omega arith) (omega arith) ∙ cond-true (n == n) h _ (eq-eqb n n refl)
-heads_here H h (Par p q) n g = g.each n (omega arith) (omega arith) ∙ cond-true (n == n) h _ (eq-eqb n n refl)
-heads_here H h (Trap p) n g = g.each n (omega arith) (omega arith) ∙ cond-true (n == n) h _ (eq-eqb n n refl)
-heads_here H h (Local s p) n g = g.each n (omega arith) (omega arith) ∙ cond-true (n == n) h _ (eq-eqb n n refl)
 heads_here H h (Awake e p) n g = g.each n (omega arith) (omega arith)
+heads_here H h _ n g = g.each n (omega arith) (omega arith) ∙ cond-true (n == n) h _ (eq-eqb n n refl)
 
 heads_only : (H : ℕ → ℕ) (h : ℕ) (t p : Term) (n : ℕ) → statement_count t ≡ 1 + statement_count p →
     ((m : ℕ) → head_in h t n m ≡ cond (m == n) h (head_in h p (n + 1) m)) → Heads H h t n → Heads H h p (n + 1)
@@ -98,10 +92,6 @@ module _ (V : Valuation) (body : Term) where
 
   started_rests : (t : Term) (B : Scope) (f : Layer → Formula) (n r : ℕ) (v : Values) (b : Bool) → Under (V (Go r (Started r))) b →
       StartedWalked V t n (Started r) v b → EachStarted P B f t n (Started r)
-  started_rests Nothing B f n r v b u w = rests V (Go r (Started r)) n (Started r) b _ u w
-  started_rests Pause B f n r v b u w = rests V (Go r (Started r)) n (Started r) b _ u w
-  started_rests (Emit s) B f n r v b u w = rests V (Go r (Started r)) n (Started r) b _ u w
-  started_rests (Exit k) B f n r v b u w = rests V (Go r (Started r)) n (Started r) b _ u w
   started_rests (Present e p q) B f n r v b u w = (
     rests V (Go r (Started r)) n (Started r) b _ u w.0,
     started_rests p B _ (n + 1) r v _ (under_and (V (Go r (Started r))) b _ u) w.1,
@@ -122,6 +112,7 @@ module _ (V : Valuation) (body : Term) where
   started_rests (Trap p) B f n r v b u w = (rests V (Go r (Started r)) n (Started r) b _ u w.0, started_rests p B _ (n + 1) r v b u w.1)
   started_rests (Local s p) B f n r v b u w = (rests V (Go r (Started r)) n (Started r) b _ u w.0, started_rests p _ _ (n + 1) r _ b u w.2)
   started_rests (Awake e p) B f n r v b u w = tt
+  started_rests _ B f n r v b u w = rests V (Go r (Started r)) n (Started r) b _ u w
 
   -- a start is its own head
   own_started : (t : Term) (B : Scope) (f : Layer → Formula) (n : ℕ) (v : Values) (b : Bool) → HasExitCodes t → StartedWalked V t n (Started n) v b →
@@ -138,10 +129,6 @@ module _ (V : Valuation) (body : Term) where
   module _ (S : ℕ → Bool) where
     resumed_rests : (h : ℕ) (t : Term) (B : Scope) (f : Layer → Formula) (n : ℕ) (v : Values) (b : Bool) → HasExitCodes t → Heads H h t n →
         Under (V (Go h Resumed)) b → ResumedWalked V S t n v b → EachResumed P B f t n
-    resumed_rests h Nothing B f n v b k g u w = here_rests h Nothing n b _ g u w
-    resumed_rests h Pause B f n v b k g u w = here_rests h Pause n b _ g u w
-    resumed_rests h (Emit s) B f n v b k g u w = here_rests h (Emit s) n b _ g u w
-    resumed_rests h (Exit c) B f n v b k g u w = here_rests h (Exit c) n b _ g u w
     resumed_rests h (Present e p q) B f n v b k g u w =
         let m = n + 1 + statement_count p in
         let t = Present e p q in (
@@ -184,6 +171,7 @@ module _ (V : Valuation) (body : Term) where
       (λ i. resumed_rests h p _ _ (n + 1) _ b k (heads_only H h (Local s p) p n refl (λ j. refl) g) u (w.2 i)),
     )
     resumed_rests h (Awake e p) B f n v b k g u w = absurd k
+    resumed_rests h t B f n v b k g u w = here_rests h t n b _ g u w
 
     -- the body is its own head
     own_resumed : (t : Term) (B : Scope) (f : Layer → Formula) (n : ℕ) (v : Values) (b : Bool) → HasExitCodes t → Heads H n t n → ResumedWalked V S t n v b →
@@ -201,18 +189,8 @@ module _ (V : Valuation) (body : Term) where
   end_rests n l k r head z = subst (λ x. V x ≡ false → V (End n l k) ≡ false) (same_Some (head_go body n l) head z) (r.ends k)
 
   status_rests : (t : Term) (n : ℕ) (l : Layer) → Every (RegionRests body V) (own_status t n l)
-  status_rests Nothing n l = tt
-  status_rests Pause n l = tt
-  status_rests (Emit s) n l = tt
-  status_rests (Exit k) n l = tt
-  status_rests (Present e p q) n l = tt
-  status_rests (Suspend e p) n l = tt
-  status_rests (Seq p q) n l = tt
-  status_rests (Loop at p) n l = tt
-  status_rests (Par p q) n l = tt
-  status_rests (Trap p) n l = tt
   status_rests (Local s p) n l = ((λ head z. absurd (none-some head z)), tt)
-  status_rests (Awake e p) n l = tt
+  status_rests _ n l = tt
 
   ends_rest : (n : ℕ) (l : Layer) (ks : List ℕ) → Rests V (head_go body n l) n l → Every (RegionRests body V) (map (λ k. End n l k) ks)
   ends_rest n l [] r = tt

@@ -5,7 +5,7 @@ use Rattle.std.proofs.lemmas.Bool.{or_cases, or_left, or_right, and_from, eqb-tr
 use Rattle.facts.proofs.Tests.{or-other}
 use Rattle.est_base.specs.declared.place.Span.{Span}
 use Rattle.est_base.specs.Codes.{either, except}
-use Rattle.est_kernel.specs.Terms.{Term, Nothing, Pause, Emit, Exit, Present, Suspend, Seq, Loop, Par, Trap, Local, Awake}
+use Rattle.est_kernel.specs.Terms.{Term, Pause, Exit, Present, Suspend, Seq, Loop, Par, Trap, Local, Awake}
 use Rattle.est_kernel.specs.Preorder.{statement_count}
 use Rattle.est_kernel.specs.Steps.{trap_code}
 use Rattle.est_kernel.specs.StaticCodes.{has_code, started_codes, resumed_codes, branch_codes, instant_loops, NoInstantLoop}
@@ -48,9 +48,7 @@ some_has A s = upto-in A s.0 63 s.2 s.1
 
 -- every statement has a code at its start
 pub started_some : (t : Term) → NoInstantLoop t → HasExitCodes t → SomeCode (started_codes t)
-started_some Nothing nl b = (0, omega arith, refl)
 started_some Pause nl b = (1, omega arith, refl)
-started_some (Emit s) nl b = (0, omega arith, refl)
 started_some (Exit k) nl b = (k, omega (arith, b.1), eq-eqb k k refl)
 started_some (Present e p q) nl b =
     let r = started_some p (no_loops-left (instant_loops p) (instant_loops q) nl) b.0 in
@@ -74,6 +72,7 @@ started_some (Trap p) nl b =
     (trap_code r.0, omega (arith, r.1, trap_code-most r.0), lowered-in (started_codes p) r.0 r.2)
 started_some (Local s p) nl b = started_some p nl b
 started_some (Awake e p) nl b = absurd b
+started_some _ nl b = (0, omega arith, refl)
 
 -- the codes of a resumed sequence and loop
 seq_first : (p q : Term) (k : ℕ) → resumed_codes p k ≡ true → (k ≡ 0 → ⊥) → resumed_codes (Seq p q) k ≡ true
@@ -119,10 +118,7 @@ module _ (S : ℕ → Bool) where
 
   -- a statement that holds a selected pause has a resumed code
   pub resumed_some : (t : Term) (n : ℕ) → NoInstantLoop t → HasExitCodes t → holds S t n ≡ true → IsSelected S t n → SomeCode (resumed_codes t)
-  resumed_some Nothing n nl b h s = absurd (false≢true h)
   resumed_some Pause n nl b h s = (0, omega arith, refl)
-  resumed_some (Emit x) n nl b h s = absurd (false≢true h)
-  resumed_some (Exit k) n nl b h s = absurd (false≢true h)
   resumed_some (Present e p q) n nl b h s =
       ⊎_elim
       (λ c. let r = resumed_some p (n + 1) (no_loops-left (instant_loops p) (instant_loops q) nl) b.0 c (s.1 c) in
@@ -177,6 +173,7 @@ module _ (S : ℕ → Bool) where
       (trap_code r.0, omega (arith, r.1, trap_code-most r.0), lowered-in (resumed_codes p) r.0 r.2)
   resumed_some (Local x p) n nl b h s = resumed_some p (n + 1) nl b h s
   resumed_some (Awake e p) n nl b h s = absurd b
+  resumed_some _ n nl b h s = absurd (false≢true h)
 
   pub resumed_live : (t : Term) (n : ℕ) → NoInstantLoop t → HasExitCodes t → holds S t n ≡ true → IsSelected S t n → has_code (resumed_codes t) ≡ true
   resumed_live t n nl b h s = some_has (resumed_codes t) (resumed_some t n nl b h s)
@@ -187,10 +184,6 @@ module _ (S : ℕ → Bool) where
   left_static false r h = refl
 
   pub residual_static : (t : Term) (n : ℕ) → NoInstantLoop t → NoInstantLoop (residual S t n)
-  residual_static Nothing n nl = refl
-  residual_static Pause n nl = refl
-  residual_static (Emit s) n nl = refl
-  residual_static (Exit k) n nl = refl
   residual_static (Present e p q) n nl =
       cond_both (holds S p (n + 1)) (residual S p (n + 1)) (residual S q (n + 1 + statement_count p)) NoInstantLoop
       (λ c. residual_static p (n + 1) (no_loops-left (instant_loops p) (instant_loops q) nl))
@@ -212,7 +205,7 @@ module _ (S : ℕ → Bool) where
       (λ c. residual_static q (n + 1 + statement_count p) (no_loops-right (instant_loops p) (instant_loops q) nl)))
   residual_static (Trap p) n nl = residual_static p (n + 1) nl
   residual_static (Local s p) n nl = residual_static p (n + 1) nl
-  residual_static (Awake e p) n nl = refl
+  residual_static _ n nl = refl
 
   -- the static codes of what is left
   left_codes : (b : Bool) (r p : Term) → (b || can_pass p) ≡ true → (b ≡ true → (k : ℕ) → started_codes r k ≡ true → resumed_codes p k ≡ true) → (k : ℕ) →
@@ -222,10 +215,7 @@ module _ (S : ℕ → Bool) where
       subst (λ i. branch_codes (started_codes p) (resumed_codes p) i ≡ true) (sym (eqb-true k 0 e)) (branch_over p o)
 
   pub residual_codes : (t : Term) (n : ℕ) → NoInstantLoop t → HasExitCodes t → holds S t n ≡ true → IsSelected S t n → (k : ℕ) → CodesFrom (residual S t n) t k
-  residual_codes Nothing n nl b h s k = λ e. absurd (false≢true h)
   residual_codes Pause n nl b h s k = λ e. e
-  residual_codes (Emit x) n nl b h s k = λ e. absurd (false≢true h)
-  residual_codes (Exit c) n nl b h s k = λ e. absurd (false≢true h)
   residual_codes (Present x p q) n nl b h s k =
       cond_both (holds S p (n + 1)) (residual S p (n + 1)) (residual S q (n + 1 + statement_count p))
       (λ t. started_codes t k ≡ true → resumed_codes (Present x p q) k ≡ true)
@@ -269,3 +259,4 @@ module _ (S : ℕ → Bool) where
       lowered-subset _ _ (residual_codes p (n + 1) nl b h s) k e
   residual_codes (Local x p) n nl b h s k = λ e. residual_codes p (n + 1) nl b h s k e
   residual_codes (Awake x p) n nl b h s k = λ e. absurd b
+  residual_codes _ n nl b h s k = λ e. absurd (false≢true h)

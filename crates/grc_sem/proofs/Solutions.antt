@@ -1,5 +1,5 @@
 -- A solution of a program's graph is a walk, with the outgoing signals that it emits.
-use Rattle.std.proofs.Common.{◌≡◌, ℕ, zero, suc, ◌+◌, ◌<◌, ◌≤◌, Bool, true, false, ◌||◌, List, [], ◌∷◌, length, get_or, map, refl, ◌∙◌, subst, inl, ⊎_elim}
+use Rattle.std.proofs.Common.{◌≡◌, ℕ, zero, suc, ◌+◌, ◌<◌, ◌≤◌, Bool, true, false, ◌||◌, List, [], ◌∷◌, length, get_or, map, refl, ◌∙◌, subst, inl}
 use Rattle.std.proofs.Common.{arith}
 use Rattle.std.specs.List.{list_any, flat_map, range_with_len, All, Contains}
 use Rattle.facts.proofs.Lists.{Every}
@@ -19,7 +19,7 @@ use Rattle.grc_graph.specs.Coherence.{StartedWalked, ResumedWalked}
 use Rattle.grc_sem.specs.GraphWalks.{selected_of}
 use Rattle.grc_solutions.proofs.Exports.{every_of_all, every_left, EachStarted, EachResumed, layered, range_has}
 use Rattle.grc_graph.proofs.Exports.{body_agrees}
-use Rattle.grc_sem.proofs.Emissions.{emitted, Whole}
+use Rattle.grc_sem.proofs.Emissions.{emitted}
 use Rattle.grc_sem.proofs.EndForms.{val}
 use Rattle.grc_sem.proofs.Meets.{Met, head_started, head_resumed, finds_self}
 use Rattle.grc_sem.proofs.Told.{told_started, told_resumed}
@@ -54,21 +54,17 @@ module _ (inputs outs given_count : ℕ) (body : Term) where
         (met_at B0 body q (is_given event) V body_all) (body_liveness body) B0 body_entry body 0 kernel (body_agrees body) spots_met in
         (l.0, l.1 0 (inl refl))
 
-    whole : Whole V (body_layers body) body_all B0 body_entry body 0
-    whole = record { own = λ j i l u. refl }
-
     pub top_started : StartedWalked V body 0 (Started 0) v (is_initial q)
     top_started =
-        told_started B0 body q (is_given event) V body_all (body_layers body) (body_liveness body) body B0 body_entry 0 0 v (is_initial q) (body_agrees body)
-        (inl refl) (omega arith) nl kernel (tops.above_top inputs outs body) whole each_met.1
+        told_started B0 body q (is_given event) V body_all (body_layers body) body 0 0 v (is_initial q) (tops.body_stands inputs outs body V nl kernel)
+        (inl refl) each_met.1
         (record { each = λ s. tops.seen_free inputs outs body (is_given event) V (B0 s) s (tops.no_bound inputs outs body s) })
         (head_started (Met B0 body q (is_given event) V body_all) B0 body_entry body 0 (Started 0) kernel each_met.1).go
 
     pub top_resumed : has_code (resumed_codes body) ≡ true → ResumedWalked V S body 0 v (holds S body 0)
     top_resumed live =
-        told_resumed B0 body q (is_given event) V body_all (body_layers body) S (body_liveness body) body B0 body_entry 0 v (holds S body 0)
-        (body_agrees body) live
-        (λ r i. ⊎_elim (λ e. omega arith) (λ e. absurd e) i) nl kernel (tops.above_top inputs outs body) whole (each_met.0 live)
+        told_resumed B0 body q (is_given event) V body_all (body_layers body) S body 0 v (holds S body 0) (tops.body_stands inputs outs body V nl kernel)
+        live (each_met.0 live)
         (record { each = λ s. refl }) (state_finds q body) (state_reach q body state)
         ((head_resumed (Met B0 body q (is_given event) V body_all) B0 body_entry body 0 kernel (each_met.0 live)).go
         ∙ finds_self (λ m. state_holds_at q body m) S body 0 (state_finds q body))

@@ -5,8 +5,8 @@ use Rattle.std.specs.List.{list_any}
 use Rattle.std.proofs.lemmas.List.{get_or_past}
 use Rattle.std.proofs.lemmas.List.Folds.{list_any-append}
 use Rattle.std.proofs.lemmas.Bool.{ne_eqb, cond_both, false≢true, lt-ltb, cases_lt, cond-true, cond-false}
-use Rattle.facts.proofs.Tests.{ltb-not}
-use Rattle.est_kernel.specs.Terms.{Term, Nothing, Pause, Emit, Exit, Present, Suspend, Seq, Loop, Par, Trap, Local, Awake}
+use Rattle.facts.proofs.Tests.{ltb-not, or-false}
+use Rattle.est_kernel.specs.Terms.{Term, Present, Suspend, Seq, Loop, Par, Trap, Local}
 use Rattle.est_kernel.specs.Preorder.{statement_count}
 use Rattle.est_kernel.specs.StaticCodes.{has_code, resumed_codes, NoInstantLoop}
 use Rattle.est_kernel.specs.Reactions.{is_given}
@@ -30,6 +30,7 @@ use Rattle.grc_sem.proofs.Bridge.{started_any, resumed_any, split}
 use Rattle.grc_sem.proofs.WalkEmits.{Fresh, Shows, Reach, started_emits, resumed_emits, guard_bits}
 use Rattle.grc_sem.proofs.EndForms.{val, any_meaning}
 use Rattle.grc_sem.proofs.Meets.{Finds}
+use Rattle.grc_sem.proofs.Standing.{Stands}
 use Rattle.grc_sem.proofs.Joint.{emissions_any}
 
 -- the place of a number in a program's scope
@@ -54,10 +55,6 @@ cond_none true e f = e
 cond_none false e f = f
 
 nothing_at : (t : Term) (n m : ℕ) → holds_at (λ i. false) t n m ≡ false
-nothing_at Nothing n m = refl
-nothing_at Pause n m = refl
-nothing_at (Emit x) n m = refl
-nothing_at (Exit k) n m = refl
 nothing_at (Present e p q) n m =
     cond_none (m == n) (holds-false (Present e p q) n) (cond_none (ltb m (n + 1 + statement_count p)) (nothing_at p (n + 1) m)
     (nothing_at q (n + 1 + statement_count p) m))
@@ -71,7 +68,7 @@ nothing_at (Par p q) n m =
     (nothing_at q (n + 1 + statement_count p) m))
 nothing_at (Trap p) n m = cond_none (m == n) (holds-false (Trap p) n) (nothing_at p (n + 1) m)
 nothing_at (Local x p) n m = cond_none (m == n) (holds-false (Local x p) n) (nothing_at p (n + 1) m)
-nothing_at (Awake e p) n m = refl
+nothing_at _ n m = refl
 
 pub state_finds : (q : State) (body : Term) → Finds (λ m. state_holds_at q body m) (selected_of q) body 0
 state_finds Initial body = record { each = λ m l u. sym (nothing_at body 0 m) }
@@ -102,13 +99,22 @@ module _ (inputs outs : ℕ) (body : Term) where
 
   pub seen_free : (given : Values) (V : Valuation) (b : Binding) (s : ℕ) → ((c : ℕ) → b ≡ BoundAt c → ⊥) →
       seen_value given V b s Resumed ≡ seen_value given V b s (Started 0)
-  seen_free given V Entering s h = refl
-  seen_free given V Outgoing s h = refl
   seen_free given V (BoundAt c) s h = absurd (h c refl)
-  seen_free given V Unbound s h = refl
+  seen_free given V _ s h = refl
 
   pub above_top : Above B0 0
   above_top = record { each = λ s b e. absurd (no_bound s b e) }
+
+  -- the body stands in the list of its own instances
+  pub body_stands : (V : Valuation) → NoInstantLoop body → HasExitCodes body → Stands V (body_layers body) body_all (body_liveness body) B0 body_entry body 0
+  body_stands V nl kernel = record {
+    agrees = body_agrees body;
+    low = λ r i. ⊎_elim (λ e. omega arith) (λ e. absurd e) i;
+    loops = nl;
+    kernel = kernel;
+    above = above_top;
+    whole = record { own = λ j i l u. refl };
+  }
 
   pub out_shows : (o : ℕ) (l : Layer) → inputs ≤ o → o < inputs + outs → Shows B0 l (Out o) o true
   out_shows o l i j = record { each = λ t. go t (B0 t) (scope_part inputs (inputs + outs) t (omega arith)) }
@@ -120,10 +126,6 @@ module _ (inputs outs : ℕ) (body : Term) where
 
   pub out_fresh : (o : ℕ) → Fresh (Out o) 0
   out_fresh o = record { other = λ m l k. refl }
-
-  or_nothing : (x : Bool) → (x || false) ≡ x
-  or_nothing true = refl
-  or_nothing false = refl
 
   -- what the program emits, where its wires are those of the walk
   module _ (q : State) (event : List Bool) (V : Valuation) (nl : NoInstantLoop body) (kernel : HasExitCodes body) (state : IsState q body)
@@ -148,7 +150,7 @@ module _ (inputs outs : ℕ) (body : Term) where
         (out_fresh o) above_top (out_shows o Resumed i j))
         (λ h. resumed_live S body 0 nl kernel h ((state_reach q body state).selected h)))
         ∙ ap (λ b. (holds S body 0 && (resumed_walk (statuses V) S body 0 v).signals o) || b)
-        (or_nothing (started_any F B0 body_entry body 0 (Started 0))
+        (or-false (started_any F B0 body_entry body 0 (Started 0))
         ∙ started_emits V (Out o) o true body B0 body_entry 0 (Started 0) v (is_initial q) nl kernel started (out_fresh o) (out_shows o (Started 0) i j))
 
     walk_signals : (o : ℕ) → ((holds S body 0 && (resumed_walk (statuses V) S body 0 v).signals o)
@@ -163,7 +165,7 @@ module _ (inputs outs : ℕ) (body : Term) where
           where
             held : (h : Bool) → ((h && (resumed_walk (statuses V) T body 0 u).signals o) || false) ≡
                 (cond h (resumed_walk (statuses V) T body 0 u) (ended 0)).signals o
-            held true = or_nothing _
+            held true = or-false _
             held false = refl
 
     pub body_emits : (o : ℕ) → inputs ≤ o → o < inputs + outs → emitted V (Out o) body_all ≡ (body_walk (statuses V) q body v).signals o
@@ -175,7 +177,7 @@ module _ (inputs outs : ℕ) (body : Term) where
         is_given event o
     given_only o w =
         cond_both (ltb o given_count) (Input o ∷ []) [] (λ l. list_any (val B0 body q (is_given event) V) l ≡ is_given event o)
-        (λ e. or_nothing (is_given event o))
+        (λ e. or-false (is_given event o))
         (λ e. sym (get_or_past event o false (⊎_elim (λ l. absurd (false≢true (sym e ∙ lt-ltb o given_count l))) (λ l. omega arith) (cases_lt o given_count))))
 
     pub output_means : length event ≡ given_count → (o : ℕ) → val B0 body q (is_given event) V (output_equation given_count body_all o).formula ≡

@@ -3,7 +3,7 @@ use Rattle.std.proofs.Common.{◌≡◌, ℕ, ◌+◌, Bool, true, false, ◌||�
 use Rattle.std.proofs.lemmas.Bool.{or_cases, or_left, or_right, and_from, eqb-true, eqb-false, eq-eqb, cond_both, false≢true, cond-true}
 use Rattle.facts.proofs.Tests.{or-other}
 use Rattle.est_base.specs.Codes.{either, except}
-use Rattle.est_kernel.specs.Terms.{Term, Nothing, Pause, Emit, Exit, Present, Suspend, Seq, Loop, Par, Trap, Local, Awake}
+use Rattle.est_kernel.specs.Terms.{Term, Pause, Exit, Present, Suspend, Seq, Loop, Par, Trap, Local, Awake}
 use Rattle.est_kernel.specs.Preorder.{statement_count}
 use Rattle.est_kernel.specs.StaticCodes.{has_code, started_codes, resumed_codes, branch_codes, instant_loops, NoInstantLoop}
 use Rattle.est_kernel.proofs.Exports.{except-in, maxima-in, lowered-in}
@@ -24,9 +24,6 @@ choice_code P false x y f g = g refl
 
 pub started_code : (Z : ℕ → Layer → Bool) (t : Term) (n : ℕ) (l : Layer) (v : Values) → NoInstantLoop t → HasExitCodes t →
     started_codes t (started_walk Z t n l v).code ≡ true
-started_code Z Nothing n l v nl k = refl
-started_code Z Pause n l v nl k = refl
-started_code Z (Emit s) n l v nl k = refl
 started_code Z (Exit c) n l v nl k = eq-eqb c c refl
 started_code Z (Present e p q) n l v nl k =
     choice_code (λ c. started_codes (Present e p q) c ≡ true) (truth e v) _ _
@@ -60,6 +57,7 @@ started_code Z (Par p q) n l v nl k =
 started_code Z (Trap p) n l v nl k = lowered-in (started_codes p) _ (started_code Z p (n + 1) l v nl k)
 started_code Z (Local s p) n l v nl k = started_code Z p (n + 1) l (with_value v s (Z n l)) nl k
 started_code Z (Awake e p) n l v nl k = absurd k
+started_code Z _ n l v nl k = refl
 
 branch_code : (c : Bool) (p : Term) (x : Walk) → (c || can_pass p) ≡ true → (c ≡ true → resumed_codes p x.code ≡ true) →
     branch_codes (started_codes p) (resumed_codes p) (cond c x (ended 0)).code ≡ true
@@ -68,10 +66,7 @@ branch_code false p x o f = or_right (resumed_codes p 0) _ (and_from _ _ o refl)
 
 pub resumed_code : (Z : ℕ → Layer → Bool) (S : ℕ → Bool) (t : Term) (n : ℕ) (v : Values) → NoInstantLoop t → HasExitCodes t → holds S t n ≡ true →
     IsSelected S t n → resumed_codes t (resumed_walk Z S t n v).code ≡ true
-resumed_code Z S Nothing n v nl k h s = absurd (false≢true h)
 resumed_code Z S Pause n v nl k h s = refl
-resumed_code Z S (Emit x) n v nl k h s = absurd (false≢true h)
-resumed_code Z S (Exit c) n v nl k h s = absurd (false≢true h)
 resumed_code Z S (Present e p q) n v nl k h s =
     choice_code (λ c. resumed_codes (Present e p q) c ≡ true) (holds S p (n + 1)) _ _
     (λ c. or_left _ _ (resumed_code Z S p (n + 1) v (no_loops-left (instant_loops p) (instant_loops q) nl) k.0 c (s.1 c)))
@@ -121,3 +116,4 @@ resumed_code Z S (Par p q) n v nl k h s =
 resumed_code Z S (Trap p) n v nl k h s = lowered-in (resumed_codes p) _ (resumed_code Z S p (n + 1) v nl k h s)
 resumed_code Z S (Local x p) n v nl k h s = resumed_code Z S p (n + 1) (with_value v x (Z n Resumed)) nl k h s
 resumed_code Z S (Awake e p) n v nl k h s = absurd k
+resumed_code Z S _ n v nl k h s = absurd (false≢true h)

@@ -1,12 +1,12 @@
 -- The emissions on a status wire that a place sees are those of its walk.
 use Rattle.std.proofs.Common.{◌≡◌, ℕ, ◌+◌, ◌<◌, ◌≤◌, Bool, true, false, not, ◌&&◌, ◌||◌, ◌==◌, cond, Some, refl, sym, ap, ◌∙◌, subst, arith}
 use Rattle.std.proofs.lemmas.Bool.{and_from, and_parts, eqb-true, eqb-false, ne_eqb, false≢true}
-use Rattle.facts.proofs.Tests.{and-moved, eqb-turned, or-equal, or-false}
+use Rattle.facts.proofs.Tests.{and-moved, eqb-turned, or-equal, or-false, and-false}
 use Rattle.est_kernel.specs.Terms.{Term, Nothing, Pause, Emit, Exit, Present, Suspend, Seq, Loop, Par, Trap, Local, Awake}
 use Rattle.est_kernel.specs.Preorder.{statement_count}
 use Rattle.est_kernel.specs.StaticCodes.{has_code, started_codes, resumed_codes, instant_loops, NoInstantLoop}
 use Rattle.grc_graph.specs.Layers.{Layer, Resumed, Started, layer_above, can_pass}
-use Rattle.grc_graph.specs.Scopes.{Binding, Entering, Outgoing, BoundAt, Unbound, Scope, bind}
+use Rattle.grc_graph.specs.Scopes.{Binding, BoundAt, Scope, bind}
 use Rattle.grc_graph.specs.Wires.{Wire, Go, StatusOf, same_wire, status_wire}
 use Rattle.grc_graph.specs.Formulas.{Formula}
 use Rattle.grc_graph.specs.Equations.{is_wire}
@@ -56,21 +56,15 @@ shows_bind B n x s l w c f h =
     record { each = λ t. bind_shows (t == x) n x s t (B t) l w c refl (f.other n (layer_above n l) (omega arith)) (h.each t) }
 
 root_wire : (b : Binding) (s m : ℕ) → ((c : ℕ) → b ≡ BoundAt c → c < m) → status_wire b s (Started m) ≡ status_wire b s Resumed
-root_wire Entering s m h = refl
-root_wire Outgoing s m h = refl
 root_wire (BoundAt b) s m h = ap (λ l. Some (StatusOf b l)) (above_behind b m (h b refl))
-root_wire Unbound s m h = refl
+root_wire _ s m h = refl
 
 pub shows_root : (B : Scope) (m s : ℕ) (w : Wire) (c : Bool) → Above B m → Shows B Resumed w s c → Shows B (Started m) w s c
 shows_root B m s w c a h =
     record { each = λ t. ap (λ o. is_wire o w) (root_wire (B t) t m (a.each t)) ∙ h.each t }
 
 choice_bits : (c b d x y : Bool) → ((c && ((b && d) && x)) || (c && ((b && not d) && y))) ≡ (c && (b && cond d x y))
-choice_bits true true true x y = or_nothing x
-  where
-    or_nothing : (x : Bool) → (x || false) ≡ x
-    or_nothing true = refl
-    or_nothing false = refl
+choice_bits true true true x y = or-false x
 choice_bits true true false x y = refl
 choice_bits true false true x y = refl
 choice_bits true false false x y = refl
@@ -119,10 +113,7 @@ module _ (V : Valuation) where
   -- a statement none of whose signals has the wire
   pub started_silent : (w : Wire) (s : ℕ) (t : Term) (B : Scope) (f : Layer → Formula) (n : ℕ) (l : Layer) → HasExitCodes t → Fresh w n → Shows B l w s false →
       started_any (emission V w) B f t n l ≡ false
-  started_silent w s Nothing B f n l k r h = refl
-  started_silent w s Pause B f n l k r h = refl
   started_silent w s (Emit x) B f n l k r h = ap (λ b. b && V (Go n l)) (h.each x)
-  started_silent w s (Exit c) B f n l k r h = refl
   started_silent w s (Present e p q) B f n l k r h =
       or-equal (started_silent w s p B _ (n + 1) l k.0 (fresh_more n (n + 1) (omega arith) r) h)
       (started_silent w s q B _ (n + 1 + statement_count p) l k.1 (fresh_more n (n + 1 + statement_count p) (omega arith) r) h)
@@ -131,11 +122,7 @@ module _ (V : Valuation) where
       or-equal (started_silent w s p B _ (n + 1) l k.0 (fresh_more n (n + 1) (omega arith) r) h)
       (ap (λ b. started_codes p 0 && b) (started_silent w s q B _ (n + 1 + statement_count p) l k.1
       (fresh_more n (n + 1 + statement_count p) (omega arith) r) h)
-      ∙ and_nothing (started_codes p 0))
-    where
-      and_nothing : (a : Bool) → (a && false) ≡ false
-      and_nothing true = refl
-      and_nothing false = refl
+      ∙ and-false (started_codes p 0))
   started_silent w s (Loop at p) B f n l k r h = started_silent w s p B _ (n + 1) l k (fresh_more n (n + 1) (omega arith) r) h
   started_silent w s (Par p q) B f n l k r h =
       or-equal (started_silent w s p B _ (n + 1) l k.0 (fresh_more n (n + 1) (omega arith) r) h)
@@ -144,6 +131,7 @@ module _ (V : Valuation) where
   started_silent w s (Local x p) B f n l k r h =
       started_silent w s p (bind B x n) _ (n + 1) l k (fresh_more n (n + 1) (omega arith) r) (shows_bind B n x s l w false r h)
   started_silent w s (Awake e p) B f n l k r h = absurd k
+  started_silent w s _ B f n l k r h = refl
 
   and_none : (a : Bool) {b : Bool} → b ≡ false → (a && b) ≡ false
   and_none true e = e
@@ -151,10 +139,7 @@ module _ (V : Valuation) where
 
   pub resumed_silent : (w : Wire) (s : ℕ) (t : Term) (B : Scope) (f : Layer → Formula) (n : ℕ) → HasExitCodes t → Fresh w n → Above B n →
       Shows B Resumed w s false → resumed_any (emission V w) B f t n ≡ false
-  resumed_silent w s Nothing B f n k r a h = refl
-  resumed_silent w s Pause B f n k r a h = refl
   resumed_silent w s (Emit x) B f n k r a h = ap (λ b. b && V (Go n Resumed)) (h.each x)
-  resumed_silent w s (Exit c) B f n k r a h = refl
   resumed_silent w s (Present e p q) B f n k r a h =
       let m = n + 1 + statement_count p in
       or-equal (and_none (has_code (resumed_codes p)) (resumed_silent w s p B _ (n + 1) k.0 (fresh_more n (n + 1) (omega arith) r)
@@ -187,6 +172,7 @@ module _ (V : Valuation) where
       and_none (has_code (resumed_codes p))
       (resumed_silent w s p (bind B x n) _ (n + 1) k (fresh_more n (n + 1) (omega arith) r) (above_bind B n x a) (shows_bind B n x s Resumed w false r h))
   resumed_silent w s (Awake e p) B f n k r a h = absurd k
+  resumed_silent w s _ B f n k r a h = refl
 
   pub started_emits : (w : Wire) (s : ℕ) (c : Bool) (t : Term) (B : Scope) (f : Layer → Formula) (n : ℕ) (l : Layer) (v : Values) (b : Bool) → NoInstantLoop t →
       HasExitCodes t → StartedWalked V t n l v b → Fresh w n → Shows B l w s c →
@@ -324,8 +310,6 @@ module _ (V : Valuation) (S : ℕ → Bool) where
   pub resumed_emits : (w : Wire) (s : ℕ) (c : Bool) (t : Term) (B : Scope) (f : Layer → Formula) (n : ℕ) (v : Values) (b : Bool) → NoInstantLoop t →
       HasExitCodes t → Reach S t n b → ResumedWalked V S t n v b → Fresh w n → Above B n → Shows B Resumed w s c →
       resumed_any (emission V w) B f t n ≡ (c && (b && (resumed_walk (statuses V) S t n v).signals s))
-  resumed_emits w s c Nothing B f n v b nl k q h r a e = sym (none_bits c b)
-  resumed_emits w s c Pause B f n v b nl k q h r a e = sym (none_bits c b)
   resumed_emits w s c (Emit x) B f n v b nl k q h r a e =
       ap (λ i. i && V (Go n Resumed)) (e.each x) ∙ ap (λ i. (c && x == s) && i) h.go ∙ unreached c (x == s) b (λ i. q.held i) ∙ sym (none_bits c b)
     where
@@ -334,7 +318,6 @@ module _ (V : Valuation) (S : ℕ → Bool) where
       unreached true true false f = refl
       unreached true false false f = refl
       unreached false a false f = refl
-  resumed_emits w s c (Exit j) B f n v b nl k q h r a e = sym (none_bits c b)
   resumed_emits w s c (Present x p p2) B f n v b nl k q h r a e =
       let m = n + 1 + statement_count p in
       let np = no_loops-left (instant_loops p) (instant_loops p2) nl in
@@ -440,3 +423,4 @@ module _ (V : Valuation) (S : ℕ → Bool) where
       ∙ hide_bits c (x == s) b _
       ∙ ap (λ i. c && (b && ((resumed_walk (statuses V) S p (n + 1) (with_value v x (V (StatusOf n Resumed)))).signals s && not i))) (eqb-turned x s)
   resumed_emits w s c (Awake x p) B f n v b nl k q h r a e = absurd k
+  resumed_emits w s c _ B f n v b nl k q h r a e = sym (none_bits c b)

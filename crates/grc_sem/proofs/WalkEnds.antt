@@ -27,10 +27,6 @@ use Rattle.grc_sem.proofs.Meets.{finds_first, finds_second, finds_self, Sees, Fi
 
 -- the wires of the parts of a started statement
 abbrev pub StartedParts : Valuation → Term → ℕ → Layer → Values → Bool → Type 0
-StartedParts V Nothing n l v b = Unit {0}
-StartedParts V Pause n l v b = Unit {0}
-StartedParts V (Emit s) n l v b = Unit {0}
-StartedParts V (Exit c) n l v b = Unit {0}
 StartedParts V (Present e p q) n l v b =
     StartedWalked V p (n + 1) l v (b && truth e v) × StartedWalked V q (n + 1 + statement_count p) l v (b && not (truth e v))
 StartedParts V (Suspend e p) n l v b = StartedWalked V p (n + 1) l v b
@@ -42,14 +38,10 @@ StartedParts V (Loop at p) n l v b = StartedWalked V p (n + 1) l v b
 StartedParts V (Par p q) n l v b = StartedWalked V p (n + 1) l v b × StartedWalked V q (n + 1 + statement_count p) l v b
 StartedParts V (Trap p) n l v b = StartedWalked V p (n + 1) l v b
 StartedParts V (Local s p) n l v b = StartedWalked V p (n + 1) l (with_value v s (V (StatusOf n l))) b
-StartedParts V (Awake e p) n l v b = Unit {0}
+StartedParts V _ n l v b = Unit {0}
 
 -- the wires of the parts of a resumed statement
 abbrev pub ResumedParts : Valuation → (ℕ → Bool) → Term → ℕ → Values → Bool → Type 0
-ResumedParts V S Nothing n v b = Unit {0}
-ResumedParts V S Pause n v b = Unit {0}
-ResumedParts V S (Emit s) n v b = Unit {0}
-ResumedParts V S (Exit c) n v b = Unit {0}
 ResumedParts V S (Present e p q) n v b =
     (has_code (resumed_codes p) ≡ true → ResumedWalked V S p (n + 1) v (b && holds S p (n + 1)))
     × (has_code (resumed_codes q) ≡ true
@@ -73,7 +65,7 @@ ResumedParts V S (Par p q) n v b =
 ResumedParts V S (Trap p) n v b = has_code (resumed_codes p) ≡ true → ResumedWalked V S p (n + 1) v b
 ResumedParts V S (Local s p) n v b =
     has_code (resumed_codes p) ≡ true → ResumedWalked V S p (n + 1) (with_value v s (V (StatusOf n Resumed))) b
-ResumedParts V S (Awake e p) n v b = Unit {0}
+ResumedParts V S _ n v b = Unit {0}
 
 never : (b y : Bool) → (b ≡ true → false ≡ true) → false ≡ (b && y)
 never true y f = absurd (false≢true (f refl))
@@ -177,10 +169,7 @@ module _ (B0 : Scope) (body : Term) (q : State) (given : Values) (V : Valuation)
   pub resumed_mean : (S : ℕ → Bool) (t : Term) (B : Scope) (n : ℕ) (v : Values) (b : Bool) → NoInstantLoop t → HasExitCodes t → Sees given V B Resumed v →
       Finds selects S t n → Reach S t n b → V (Go n Resumed) ≡ b → ResumedParts V S t n v b → (j : ℕ) →
       resumed_end B t n j ≡ (b && j == (resumed_walk (statuses V) S t n v).code)
-  resumed_mean S Nothing B n v b nl k s o u h w j = never b (j == 0) (λ z. u.held z)
   resumed_mean S Pause B n v b nl k s o u h w j = ap (λ x. (j == 0) && x) h ∙ and-turned (j == 0) b
-  resumed_mean S (Emit x) B n v b nl k s o u h w j = never b (j == 0) (λ z. u.held z)
-  resumed_mean S (Exit c) B n v b nl k s o u h w j = never b (j == 0) (λ z. u.held z)
   resumed_mean S (Present x p p2) B n v b nl k s o u h w j =
       let m = n + 1 + statement_count p in
       let t = Present x p p2 in
@@ -320,3 +309,4 @@ module _ (B0 : Scope) (body : Term) (q : State) (given : Values) (V : Valuation)
       (λ y z. (resumed_at V S p (n + 1) v2 _ k (w (code_lives p k y z))).ends y)
       (λ z. resumed_code (statuses V) S p (n + 1) v2 nl k (u.held z) (u.selected z)) j
   resumed_mean S (Awake x p) B n v b nl k s o u h w j = absurd k
+  resumed_mean S _ B n v b nl k s o u h w j = never b (j == 0) (λ z. u.held z)

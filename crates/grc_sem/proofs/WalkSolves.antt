@@ -6,7 +6,7 @@ use Rattle.std.proofs.lemmas.Bool.{false_from_ne_true, false≢true}
 use Rattle.std.proofs.lemmas.List.Elements.{All-contains}
 use Rattle.facts.proofs.Lists.{Every, all-of-every, every-append}
 use Rattle.est_kernel.specs.Plain.{Program, outgoing_count, given_count}
-use Rattle.est_kernel.specs.Terms.{Term, Nothing, Pause, Emit, Exit, Present, Suspend, Seq, Loop, Par, Trap, Local, Awake}
+use Rattle.est_kernel.specs.Terms.{Term, Local}
 use Rattle.est_kernel.specs.StaticCodes.{has_code, resumed_codes, NoInstantLoop}
 use Rattle.est_kernel.specs.Reactions.{is_given}
 use Rattle.grc_graph.specs.Layers.{Layer, Resumed, Started, body_layers, body_liveness}
@@ -25,7 +25,6 @@ use Rattle.grc_solutions.proofs.Exports.{equation_wires_are, every_mapped, every
 use Rattle.grc_graph.proofs.Exports.{body_agrees}
 use Rattle.grc_sem.specs.GraphWalks.{selected_of, graph_walk, IsWalkOf}
 use Rattle.grc_sem.specs.Laws.{EquationsAreTheWalk}
-use Rattle.grc_sem.proofs.Emissions.{Whole}
 use Rattle.grc_sem.proofs.EndForms.{val, any_meaning}
 use Rattle.grc_sem.proofs.Meets.{Met, StatusMet, finds_self}
 use Rattle.grc_sem.proofs.Joint.{MetRow, emissions_any}
@@ -48,19 +47,9 @@ module _ (B0 : Scope) (body : Term) (q : State) (event : List Bool) (V : Valuati
   Row e = MetRow B0 body q (is_given event) V all e
 
   status_row : (t : Term) (n : ℕ) (l : Layer) → StatusMet V all t n l → Every Row (instance_status all t n l)
-  status_row Nothing n l h = tt
-  status_row Pause n l h = tt
-  status_row (Emit s) n l h = tt
-  status_row (Exit k) n l h = tt
-  status_row (Present e p p2) n l h = tt
-  status_row (Suspend e p) n l h = tt
-  status_row (Seq p p2) n l h = tt
-  status_row (Loop at p) n l h = tt
-  status_row (Par p p2) n l h = tt
-  status_row (Trap p) n l h = tt
   status_row (Local s p) n l h =
       (h ∙ sym (any_meaning B0 body q (is_given event) V (emissions (StatusOf n l) all) ∙ emissions_any B0 body q (is_given event) V (StatusOf n l) all), tt)
-  status_row (Awake e p) n l h = tt
+  status_row _ n l h = tt
 
   rows_met : (x : Spot) → Met B0 body q (is_given event) V all x → Every Row (instance_equations all x)
   rows_met x m = (
@@ -122,20 +111,16 @@ module _ (p : Program) (q : State) (event : List Bool) (V : Valuation) (kernel :
 
   -- ---- the walk is a solution
 
-  whole : Whole V (body_layers p.body) all B0 body_entry p.body 0
-  whole = record { own = λ j i l u. refl }
-
   started_met : IsWalkOf p q event V → EachStarted M B0 body_entry p.body 0 (Started 0)
   started_met h =
-      meets_started B0 p.body q (is_given event) V all (body_layers p.body) (body_liveness p.body) p.body B0 body_entry 0 0 v (is_initial q)
-      (body_agrees p.body) (inl refl) (omega arith) nl kernel (tops.above_top p.inputs outs p.body) whole
+      meets_started B0 p.body q (is_given event) V all (body_layers p.body) p.body 0 0 v (is_initial q)
+      (tops.body_stands p.inputs outs p.body V nl kernel) (inl refl)
       (record { each = λ s. tops.seen_free p.inputs outs p.body (is_given event) V (B0 s) s (tops.no_bound p.inputs outs p.body s) }) refl h.started
 
   resumed_met : IsWalkOf p q event V → has_code (resumed_codes p.body) ≡ true → EachResumed M B0 body_entry p.body 0
   resumed_met h live =
-      meets_resumed B0 p.body q (is_given event) V all (body_layers p.body) S (body_liveness p.body) p.body B0 body_entry 0 v (holds S p.body 0)
-      (body_agrees p.body) live
-      (λ r i. ⊎_elim (λ e. omega arith) (λ e. absurd e) i) nl kernel (tops.above_top p.inputs outs p.body) whole
+      meets_resumed B0 p.body q (is_given event) V all (body_layers p.body) S p.body 0 v (holds S p.body 0)
+      (tops.body_stands p.inputs outs p.body V nl kernel) live
       (record { each = λ s. refl }) (state_finds q p.body) (state_reach q p.body state)
       (finds_self (λ m. state_holds_at q p.body m) S p.body 0 (state_finds q p.body)) (h.resumed live)
 

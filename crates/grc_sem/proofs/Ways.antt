@@ -18,10 +18,7 @@ use Rattle.grc_sem.proofs.Bridge.{any_and, any_if, any_root, any_layers}
 
 -- the ways down a statement to its pauses
 abbrev pub Way : Term → Type 0
-Way Nothing = ⊥
 Way Pause = Unit {0}
-Way (Emit s) = ⊥
-Way (Exit k) = ⊥
 Way (Present e p q) = Way p ⊎ Way q
 Way (Suspend e p) = Way p
 Way (Seq p q) = Way p ⊎ Way q
@@ -29,7 +26,7 @@ Way (Loop at p) = Way p
 Way (Par p q) = Way p ⊎ Way q
 Way (Trap p) = Way p
 Way (Local s p) = Way p
-Way (Awake e p) = ⊥
+Way _ = ⊥
 
 -- the number of the pause
 abbrev pub goal : (t : Term) → ℕ → Way t → ℕ

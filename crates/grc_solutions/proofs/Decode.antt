@@ -3,7 +3,7 @@ use Rattle.std.proofs.Common.{◌≡◌, ℕ, ◌+◌, ◌<◌, Bool, true, ◌&
 use Rattle.std.proofs.lemmas.Bool.{and_parts, le-leb}
 use Rattle.facts.proofs.Lists.{Every}
 use Rattle.est_base.specs.Codes.{except}
-use Rattle.est_kernel.specs.Terms.{Expression, Tick, Sig, Not, And, Or, Term, Nothing, Pause, Emit, Exit, Present, Suspend, Seq, Loop, Par, Trap, Local, Awake}
+use Rattle.est_kernel.specs.Terms.{Expression, Tick, Sig, Not, And, Or, Term, Pause, Emit, Present, Suspend, Seq, Loop, Par, Trap, Local, Awake}
 use Rattle.est_kernel.specs.Preorder.{statement_count}
 use Rattle.est_kernel.specs.Steps.{trap_code}
 use Rattle.est_kernel.specs.StaticCodes.{codes_if, has_code, started_codes, resumed_codes}
@@ -79,8 +79,6 @@ module _ (Q : Between) where
   rest xs ys h = every_right OnEdge xs ys h
 
   started_row : (B : Scope) (t : Term) (n r : ℕ) → HasExitCodes t → Every OnEdge (edges_at B t n (Started r)) → StartedRow Q B t n (Started r)
-  started_row B Nothing n r b h = row_ends (started_codes Nothing) n (Started r) (started_below Nothing b) h
-  started_row B Pause n r b h = row_ends (started_codes Pause) n (Started r) (started_below Pause b) h
   started_row B (Emit s) n r b h =
       let A = started_codes (Emit s) in
       let l = Started r in
@@ -88,7 +86,6 @@ module _ (Q : Between) where
         row_ends A n l (started_below (Emit s) b) (first (go_to_ends A n l) (to_status (Go n l) o) h),
         row_to_status (Go n l) o (rest (go_to_ends A n l) (to_status (Go n l) o) h),
       )
-  started_row B (Exit k) n r b h = row_ends (started_codes (Exit k)) n (Started r) (started_below (Exit k) b) h
   started_row B (Present e p q) n r b h =
       let m = n + 1 + statement_count p in
       let l = Started r in
@@ -141,6 +138,7 @@ module _ (Q : Between) where
   started_row B (Local s p) n r b h =
       (h.0, row_passes (started_codes p) (n + 1) (Started r) n (Started r) (started_below p b) h.1)
   started_row B (Awake e p) n r b h = absurd b
+  started_row B t n r b h = row_ends (started_codes t) n (Started r) (started_below t b) h
 
   -- `go` of a resumed part
   row_go : (p : Term) (n c : ℕ) (es : List Edge) → Every OnEdge (go_to_part p n c Resumed ++ es) → has_code (resumed_codes p) ≡ true →
@@ -149,10 +147,7 @@ module _ (Q : Between) where
       (row_if (has_code (resumed_codes p)) (edge (Go n Resumed) (Go c Resumed) ∷ []) (first (go_to_part p n c Resumed) es h) e).0
 
   resumed_row : (B : Scope) (t : Term) (n : ℕ) → HasExitCodes t → Every OnEdge (edges_at B t n Resumed) → ResumedRow Q B t n
-  resumed_row B Nothing n b h = tt
   resumed_row B Pause n b h = row_ends (resumed_codes Pause) n Resumed (resumed_below Pause b) h
-  resumed_row B (Emit s) n b h = tt
-  resumed_row B (Exit k) n b h = tt
   resumed_row B (Present e p q) n b h =
       let m = n + 1 + statement_count p in
       let l = Resumed in
@@ -251,6 +246,7 @@ module _ (Q : Between) where
         row_passes (resumed_codes p) (n + 1) Resumed n Resumed (resumed_below p b) (rest gp ep h),
       )
   resumed_row B (Awake e p) n b h = absurd b
+  resumed_row B _ n b h = tt
 
   pub row_at : (x : Spot) → HasExitCodes x.statement → Every OnEdge (edges_at x.scope x.statement x.path x.layer) → RowAt Q x
   row_at x = go x.scope x.statement x.path x.layer

@@ -3,13 +3,13 @@ use Rattle.std.proofs.Common.{◌≡◌, ℕ, ◌+◌, ◌<◌, Bool, true, ◌&
 use Rattle.std.proofs.lemmas.Bool.{and_parts, and_from, or_left, or_right, cond_both, cond-true}
 use Rattle.facts.proofs.Lists.{Every, every-append}
 use Rattle.est_base.specs.Codes.{except, either}
-use Rattle.est_kernel.specs.Terms.{Expression, Tick, Sig, Not, And, Or, Term, Nothing, Pause, Emit, Exit, Present, Suspend, Seq, Loop, Par, Trap, Local, Awake}
+use Rattle.est_kernel.specs.Terms.{Expression, Tick, Sig, Not, And, Or, Term, Emit, Present, Suspend, Seq, Loop, Par, Trap, Local, Awake}
 use Rattle.est_kernel.specs.Preorder.{statement_count}
 use Rattle.est_kernel.specs.Steps.{trap_code}
 use Rattle.est_kernel.specs.StaticCodes.{codes_if, has_code, started_codes, resumed_codes}
 use Rattle.est_kernel.proofs.Exports.{except-parts, upto-in, lowered-in}
 use Rattle.grc_graph.specs.Layers.{Layer, Resumed, Started, Liveness, root_if, can_pass}
-use Rattle.grc_graph.specs.Scopes.{Binding, Entering, Outgoing, BoundAt, Unbound, Scope}
+use Rattle.grc_graph.specs.Scopes.{Binding, Outgoing, BoundAt, Scope}
 use Rattle.grc_graph.specs.Wires.{Wire, Go, End, status_wire, listed, instance_codes}
 use Rattle.grc_graph.specs.Formulas.{Formula}
 use Rattle.grc_graph.specs.Spots.{Spot}
@@ -77,17 +77,15 @@ module _ (L : ℕ → List Layer) (g : ℕ → Term) (all : List Spot) (W : Wire
 
   status_joins : {a : Liveness} {B : Scope} {f : Layer → Formula} {t : Term} {n : ℕ} → At a B f t n → (s : ℕ) (l : Layer) → In a l → (w : Wire) → W w →
       (b : Binding) → B s ≡ b → AllJoin (status_to (status_wire b s l) w)
-  status_joins c s l i w h Entering e = tt
   status_joins c s l i w h Outgoing e = ((c.outgoing s e, h), tt)
   status_joins c s l i w h (BoundAt d) e = ((c.bound s d l e i, h), tt)
-  status_joins c s l i w h Unbound e = tt
+  status_joins c s l i w h _ e = tt
 
   emission_joins : {a : Liveness} {B : Scope} {f : Layer → Formula} {t : Term} {n : ℕ} → At a B f t n → (s : ℕ) (l : Layer) → In a l → (w : Wire) → W w →
       (b : Binding) → B s ≡ b → AllJoin (to_status w (status_wire b s l))
-  emission_joins c s l i w h Entering e = tt
   emission_joins c s l i w h Outgoing e = ((h, c.outgoing s e), tt)
   emission_joins c s l i w h (BoundAt d) e = ((h, c.bound s d l e i), tt)
-  emission_joins c s l i w h Unbound e = tt
+  emission_joins c s l i w h _ e = tt
 
   test_joins : {a : Liveness} {B : Scope} {f : Layer → Formula} {t : Term} {n : ℕ} → At a B f t n → (e : Expression) (l : Layer) → In a l → (w : Wire) → W w →
       AllJoin (test_to B e l w)
@@ -109,13 +107,10 @@ module _ (L : ℕ → List Layer) (g : ℕ → Term) (all : List Spot) (W : Wire
 
   started_joins : (a : Liveness) (B : Scope) (f : Layer → Formula) (t : Term) (n : ℕ) → At a B f t n → (r : ℕ) → Root r a.roots →
       AllJoin (edges_at B t n (Started r))
-  started_joins a B f Nothing n c r i = ends_join (started_codes Nothing) n (Started r) (go_of c (Started r) i) (end_of c (Started r) i)
-  started_joins a B f Pause n c r i = ends_join (started_codes Pause) n (Started r) (go_of c (Started r) i) (end_of c (Started r) i)
   started_joins a B f (Emit s) n c r i =
       two (go_to_ends (started_codes (Emit s)) n (Started r)) (to_status (Go n (Started r)) (status_wire (B s) s (Started r)))
       (ends_join (started_codes (Emit s)) n (Started r) (go_of c (Started r) i) (end_of c (Started r) i))
       (emission_joins c s (Started r) i (Go n (Started r)) (go_of c (Started r) i) (B s) refl)
-  started_joins a B f (Exit k) n c r i = ends_join (started_codes (Exit k)) n (Started r) (go_of c (Started r) i) (end_of c (Started r) i)
   started_joins a B f (Present e p q) n c r i =
       let m = n + 1 + statement_count p in
       let l = Started r in
@@ -191,18 +186,16 @@ module _ (L : ℕ → List Layer) (g : ℕ → Term) (all : List Spot) (W : Wire
       let x = local_part L g all W E told c in
       ((go_of c l i, go_of x l i), passes_join (started_codes p) (n + 1) l n l (λ k u z. end_of x l i k z) (λ k z. end_of c l i k z))
   started_joins a B f (Awake e p) n c r i = absurd c.kernel
+  started_joins a B f t n c r i = ends_join (started_codes t) n (Started r) (go_of c (Started r) i) (end_of c (Started r) i)
 
   go_joins : (p : Term) (n m : ℕ) → W (Go n Resumed) → (has_code (resumed_codes p) ≡ true → W (Go m Resumed)) → AllJoin (go_to_part p n m Resumed)
   go_joins p n m w k = if_joins (has_code (resumed_codes p)) (edge (Go n Resumed) (Go m Resumed) ∷ []) (λ e. ((w, k e), tt))
 
   resumed_joins : (a : Liveness) (B : Scope) (f : Layer → Formula) (t : Term) (n : ℕ) → At a B f t n → a.resumed ≡ true → AllJoin (edges_at B t n Resumed)
-  resumed_joins a B f Nothing n c i = ends_join (resumed_codes Nothing) n Resumed (go_of c Resumed i) (end_of c Resumed i)
-  resumed_joins a B f Pause n c i = ends_join (resumed_codes Pause) n Resumed (go_of c Resumed i) (end_of c Resumed i)
   resumed_joins a B f (Emit s) n c i =
       two (go_to_ends (resumed_codes (Emit s)) n Resumed) (to_status (Go n Resumed) (status_wire (B s) s Resumed))
       (ends_join (resumed_codes (Emit s)) n Resumed (go_of c Resumed i) (end_of c Resumed i))
       (emission_joins c s Resumed i (Go n Resumed) (go_of c Resumed i) (B s) refl)
-  resumed_joins a B f (Exit k) n c i = ends_join (resumed_codes (Exit k)) n Resumed (go_of c Resumed i) (end_of c Resumed i)
   resumed_joins a B f (Present e p q) n c i =
       let m = n + 1 + statement_count p in
       let x = then_part L g all W E told c in
@@ -308,6 +301,7 @@ module _ (L : ℕ → List Layer) (g : ℕ → Term) (all : List Spot) (W : Wire
       (passes_join (resumed_codes p) (n + 1) Resumed n Resumed (λ k u z. end_of x Resumed (and_from _ _ i (some_code (resumed_codes p) k u z)) k z)
       (λ k z. end_of c Resumed i k z))
   resumed_joins a B f (Awake e p) n c i = absurd c.kernel
+  resumed_joins a B f t n c i = ends_join (resumed_codes t) n Resumed (go_of c Resumed i) (end_of c Resumed i)
 
   pub edges_join : {a : Liveness} {B : Scope} {f : Layer → Formula} {t : Term} {n : ℕ} → At a B f t n → (l : Layer) → In a l → AllJoin (edges_at B t n l)
   edges_join {a} {B} {f} {t} {n} c Resumed i = resumed_joins a B f t n c i

@@ -1,17 +1,17 @@
 -- Each edge at a live instance ends at a wire whose equation reads its beginning.
 use Rattle.std.proofs.Common.{◌≡◌, ℕ, zero, suc, ◌+◌, ◌<◌, ◌≤◌, Bool, true, false, ◌&&◌, ◌==◌, cond, leb, List, [], ◌∷◌, ◌++◌, length, map, get_or, refl, sym}
 use Rattle.std.proofs.Common.{ap, ◌∙◌}
-use Rattle.std.proofs.Common.{subst, inl, inr, ⊎_elim, arith, Option, Some, None}
+use Rattle.std.proofs.Common.{subst, inl, inr, ⊎_elim, arith}
 use Rattle.std.specs.Prelude.{Contains, filter}
 use Rattle.std.proofs.lemmas.Bool.{and_from, cond_both, cond-true, cond-false, eq-eqb, ne_eqb, leb-true, false≢true}
 use Rattle.facts.proofs.Lists.{Every, every-append}
 use Rattle.est_base.specs.Codes.{except}
-use Rattle.est_kernel.specs.Terms.{Expression, Tick, Sig, Not, And, Or, Term, Nothing, Pause, Emit, Exit, Present, Suspend, Seq, Loop, Par, Trap, Local, Awake}
+use Rattle.est_kernel.specs.Terms.{Expression, Tick, Sig, Not, And, Or, Term, Emit, Exit, Present, Suspend, Seq, Loop, Par, Trap, Local, Awake}
 use Rattle.est_kernel.specs.Preorder.{statement_count}
 use Rattle.est_kernel.specs.Steps.{trap_code}
 use Rattle.est_kernel.specs.StaticCodes.{codes_if, has_code, started_codes, resumed_codes}
 use Rattle.grc_graph.specs.Layers.{Layer, Resumed, Started, Liveness, root_if, can_pass, layer_above}
-use Rattle.grc_graph.specs.Scopes.{Binding, Entering, Outgoing, BoundAt, Unbound, Scope}
+use Rattle.grc_graph.specs.Scopes.{Binding, Outgoing, BoundAt, Scope}
 use Rattle.grc_graph.specs.Wires.{Wire, Out, Go, StatusOf, End, status_wire, listed, instance_codes}
 use Rattle.grc_graph.specs.Formulas.{Formula, Value, Selected, Upto, Conjunction, any_of}
 use Rattle.grc_graph.specs.Spots.{Spot, status_formula, test_formula}
@@ -21,7 +21,7 @@ use Rattle.grc_graph.specs.Edges.{edges_at}
 use Rattle.grc_graph.proofs.Exports.{same_wire-self}
 use Rattle.grc_solutions.specs.GraphWires.{IsRead}
 use Rattle.grc_solutions.proofs.Each.{spot}
-use Rattle.grc_solutions.proofs.Lists.{every_all, every_from}
+use Rattle.grc_solutions.proofs.Lists.{every_all}
 use Rattle.grc_solutions.proofs.Rows.{Between}
 use Rattle.grc_solutions.proofs.Live.{Root, root_left, root_right, root_given, root_own}
 use Rattle.grc_solutions.proofs.Pairwise.{every_mapped, every_flat, listed_every}
@@ -182,10 +182,9 @@ module _ (L : ℕ → List Layer) (g : ℕ → Term) (all : List Spot) (W : Wire
   tests_read B (Sig s) l w a is h = go (B s) h
     where
       go : (b : Binding) → ((u : Wire) → IsRead u (status_formula b s l) → IsRead u a) → AllRead (status_to (status_wire b s l) w)
-      go Entering h = tt
       go Outgoing h = ((λ v. (a, is v, h (Out s) refl)), tt)
       go (BoundAt d) h = ((λ v. (a, is v, h (StatusOf d (layer_above d l)) refl)), tt)
-      go Unbound h = tt
+      go _ h = tt
   tests_read B (Not x) l w a is h = tests_read B x l w a is h
   tests_read B (And x y) l w a is h =
       two (test_to B x l w) (test_to B y l w) (tests_read B x l w a is (λ u r. h u (inl r))) (tests_read B y l w a is (λ u r. h u (inr r)))
@@ -200,10 +199,9 @@ module _ (L : ℕ → List Layer) (g : ℕ → Term) (all : List Spot) (W : Wire
       on b e w h t v = stands.status (spot B f (Emit s) n l) (own_of c l i) w v t (ap (λ d. is_wire (status_wire d s l) w) e ∙ h)
 
       go : (b : Binding) → B s ≡ b → AllRead (to_status (Go n l) (status_wire b s l))
-      go Entering e = tt
       go Outgoing e = (on Outgoing e (Out s) (same_wire-self (Out s)) tt, tt)
       go (BoundAt d) e = (on (BoundAt d) e (StatusOf d (layer_above d l)) (same_wire-self (StatusOf d (layer_above d l))) tt, tt)
-      go Unbound e = tt
+      go _ e = tt
 
   -- one of two or three parts that an end may come from
   one_of : {a : Liveness} {B : Scope} {f : Layer → Formula} {t : Term} {n : ℕ} → At a B f t n → (l : Layer) → In a l → (A : ℕ → Bool) (d : ℕ) (j : Layer)
@@ -226,8 +224,6 @@ module _ (L : ℕ → List Layer) (g : ℕ → Term) (all : List Spot) (W : Wire
 
   started_reads : (a : Liveness) (B : Scope) (f : Layer → Formula) (t : Term) (n : ℕ) → At a B f t n → (r : ℕ) → Root r a.roots →
       AllRead (edges_at B t n (Started r))
-  started_reads a B f Nothing n c r i = ends_read c (Started r) i (started_codes Nothing) (λ k. refl)
-  started_reads a B f Pause n c r i = ends_read c (Started r) i (started_codes Pause) (λ k. refl)
   started_reads a B f (Emit s) n c r i =
       let l = Started r in
       two (go_to_ends (started_codes (Emit s)) n l) (to_status (Go n l) (status_wire (B s) s l)) (ends_read c l i (started_codes (Emit s)) (λ k. refl))
@@ -308,6 +304,7 @@ module _ (L : ℕ → List Layer) (g : ℕ → Term) (all : List Spot) (W : Wire
       let x = local_part L g all W E told c in
       (to_go x l i (Go n l) refl, last_of c l i (started_codes p) (n + 1) l (λ k. []) (λ k. refl))
   started_reads a B f (Awake e p) n c r i = absurd c.kernel
+  started_reads a B f t n c r i = ends_read c (Started r) i (started_codes t) (λ k. refl)
 
   -- ---- the rows of what is resumed
 
@@ -317,8 +314,6 @@ module _ (L : ℕ → List Layer) (g : ℕ → Term) (all : List Spot) (W : Wire
       if_reads (has_code (resumed_codes p)) (edge (Go n Resumed) (Go m Resumed) ∷ []) (λ z. (to_go x Resumed (live z) (Go n Resumed) h, tt))
 
   resumed_reads : (a : Liveness) (B : Scope) (f : Layer → Formula) (t : Term) (n : ℕ) → At a B f t n → a.resumed ≡ true → AllRead (edges_at B t n Resumed)
-  resumed_reads a B f Nothing n c i = ends_read c Resumed i (resumed_codes Nothing) (λ k. refl)
-  resumed_reads a B f Pause n c i = ends_read c Resumed i (resumed_codes Pause) (λ k. refl)
   resumed_reads a B f (Emit s) n c i =
       two (go_to_ends (resumed_codes (Emit s)) n Resumed) (to_status (Go n Resumed) (status_wire (B s) s Resumed))
       (ends_read c Resumed i (resumed_codes (Emit s)) (λ k. refl)) (emitted c Resumed i)
@@ -431,6 +426,7 @@ module _ (L : ℕ → List Layer) (g : ℕ → Term) (all : List Spot) (W : Wire
       two (go_to_part p n (n + 1) Resumed) (ends_to_ends (resumed_codes p) (n + 1) Resumed n Resumed) (resumed_go n x (λ z. and_from _ _ i z) refl)
       (last_of c Resumed i (resumed_codes p) (n + 1) Resumed (λ k. []) (λ k. refl))
   resumed_reads a B f (Awake e p) n c i = absurd c.kernel
+  resumed_reads a B f t n c i = ends_read c Resumed i (resumed_codes t) (λ k. refl)
 
   pub edges_read : {a : Liveness} {B : Scope} {f : Layer → Formula} {t : Term} {n : ℕ} → At a B f t n → (l : Layer) → In a l → AllRead (edges_at B t n l)
   edges_read {a} {B} {f} {t} {n} c Resumed i = resumed_reads a B f t n c i

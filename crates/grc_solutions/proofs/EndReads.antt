@@ -3,7 +3,7 @@ use Rattle.std.proofs.Common.{◌≡◌, ℕ, zero, suc, ◌+◌, Bool, true, fa
 use Rattle.std.proofs.lemmas.Bool.{eqb-true, false≢true}
 use Rattle.facts.proofs.Lists.{Every, every-append}
 use Rattle.est_base.specs.Codes.{except}
-use Rattle.est_kernel.specs.Terms.{Term, Nothing, Pause, Emit, Exit, Present, Suspend, Seq, Loop, Par, Trap, Local, Awake}
+use Rattle.est_kernel.specs.Terms.{Term, Pause, Emit, Present, Suspend, Seq, Loop, Par, Trap, Local, Awake}
 use Rattle.est_kernel.specs.Preorder.{statement_count}
 use Rattle.est_kernel.specs.StaticCodes.{codes_if, has_code, started_codes, resumed_codes}
 use Rattle.grc_graph.specs.Layers.{Layer, Resumed, Started, can_pass}
@@ -113,26 +113,13 @@ module _ (W : Wire → Type 0) (E : Between) where
 
   -- the branches of a parallel have no ends but of their codes
   abbrev pub BranchCodes : Term → ℕ → Layer → Type 0
-  BranchCodes Nothing n l = Unit {0}
-  BranchCodes Pause n l = Unit {0}
-  BranchCodes (Emit s) n l = Unit {0}
-  BranchCodes (Exit k) n l = Unit {0}
-  BranchCodes (Present e p q) n l = Unit {0}
-  BranchCodes (Suspend e p) n l = Unit {0}
-  BranchCodes (Seq p q) n l = Unit {0}
-  BranchCodes (Loop at p) n l = Unit {0}
   BranchCodes (Par p q) n l =
       HasCodes (instance_codes p l) (n + 1) l × HasCodes (instance_codes q l) (n + 1 + statement_count p) l
-  BranchCodes (Trap p) n l = Unit {0}
-  BranchCodes (Local s p) n l = Unit {0}
-  BranchCodes (Awake e p) n l = Unit {0}
+  BranchCodes _ n l = Unit {0}
 
   started_end : (B : Scope) (t : Term) (n r k : ℕ) → HasExitCodes t → RowOf Q B t n (Started r) → BranchCodes t n (Started r) → started_codes t k ≡ true →
       ReadsOnly (λ u. Q u (End n (Started r) k)) (end_formula B t n (Started r) k)
-  started_end B Nothing n r k b h c e = h k e
-  started_end B Pause n r k b h c e = h k e
   started_end B (Emit s) n r k b h c e = h.0 k e
-  started_end B (Exit i) n r k b h c e = h k e
   started_end B (Present x p q) n r k b h c e =
       two_parts (started_codes p) (started_codes q) (n + 1) (n + 1 + statement_count p) (Started r) (Started r) n (Started r) k h.4 h.5
   started_end B (Suspend x p) n r k b h c e = one_part (started_codes p) (n + 1) (Started r) n (Started r) k h.1
@@ -145,13 +132,11 @@ module _ (W : Wire → Type 0) (E : Between) where
   started_end B (Trap p) n r k b h c e = trapped_reads (started_codes p) (n + 1) n (Started r) k h.1
   started_end B (Local s p) n r k b h c e = one_part (started_codes p) (n + 1) (Started r) n (Started r) k h.1
   started_end B (Awake x p) n r k b h c e = absurd b
+  started_end B _ n r k b h c e = h k e
 
   resumed_end_reads : (B : Scope) (t : Term) (n k : ℕ) → HasExitCodes t → RowOf Q B t n Resumed → BranchCodes t n Resumed → resumed_codes t k ≡ true →
       ReadsOnly (λ u. Q u (End n Resumed k)) (end_formula B t n Resumed k)
-  resumed_end_reads B Nothing n k b h c e = absurd (false≢true e)
   resumed_end_reads B Pause n k b h c e = h k e
-  resumed_end_reads B (Emit s) n k b h c e = absurd (false≢true e)
-  resumed_end_reads B (Exit i) n k b h c e = absurd (false≢true e)
   resumed_end_reads B (Present x p q) n k b h c e =
       two_parts (resumed_codes p) (resumed_codes q) (n + 1) (n + 1 + statement_count p) Resumed Resumed n Resumed k h.2 h.3
   resumed_end_reads B (Suspend x p) n k b h c e =
@@ -186,6 +171,7 @@ module _ (W : Wire → Type 0) (E : Between) where
   resumed_end_reads B (Trap p) n k b h c e = trapped_reads (resumed_codes p) (n + 1) n Resumed k h.1
   resumed_end_reads B (Local s p) n k b h c e = one_part (resumed_codes p) (n + 1) Resumed n Resumed k h.1
   resumed_end_reads B (Awake x p) n k b h c e = absurd b
+  resumed_end_reads B _ n k b h c e = absurd (false≢true e)
 
   pub end_reads : (B : Scope) (t : Term) (n : ℕ) (l : Layer) (k : ℕ) → HasExitCodes t → RowOf Q B t n l → BranchCodes t n l → instance_codes t l k ≡ true →
       ReadsOnly (λ u. Q u (End n l k)) (end_formula B t n l k)

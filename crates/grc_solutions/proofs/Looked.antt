@@ -3,7 +3,7 @@ use Rattle.std.proofs.Common.{◌≡◌, ℕ, ◌+◌, ◌<◌, ◌≤◌, ◌==
 use Rattle.std.proofs.lemmas.Bool.{eq-eqb, ne_eqb, cond-true, cond-false, lt-ltb}
 use Rattle.facts.proofs.Lists.{Every, every-append}
 use Rattle.facts.proofs.Tests.{ltb-not}
-use Rattle.est_kernel.specs.Terms.{Term, Nothing, Pause, Emit, Exit, Present, Suspend, Seq, Loop, Par, Trap, Local, Awake}
+use Rattle.est_kernel.specs.Terms.{Term, Emit, Exit, Present, Suspend, Seq, Loop, Par, Trap, Local, Awake}
 use Rattle.est_kernel.specs.Preorder.{statement_count}
 use Rattle.grc_graph.specs.Layers.{Layer}
 use Rattle.grc_graph.specs.Scopes.{Scope, bind}
@@ -14,8 +14,6 @@ use Rattle.grc_solutions.proofs.Each.{spot}
 
 -- the statement with a number
 abbrev pub statement_at : Term → ℕ → ℕ → Term
-statement_at Nothing n m = Nothing
-statement_at Pause n m = Pause
 statement_at (Emit s) n m = Emit s
 statement_at (Exit k) n m = Exit k
 statement_at (Present e p q) n m =
@@ -29,6 +27,7 @@ statement_at (Par p q) n m =
 statement_at (Trap p) n m = cond (m == n) (Trap p) (statement_at p (n + 1) m)
 statement_at (Local s p) n m = cond (m == n) (Local s p) (statement_at p (n + 1) m)
 statement_at (Awake e p) n m = Awake e p
+statement_at t n m = t
 
 -- a lookup g finds the statements of t
 pub record Contents (g : ℕ → Term) (t : Term) (n : ℕ) : Type 0 where
@@ -71,10 +70,6 @@ module _ (L : ℕ → List Layer) (g : ℕ → Term) where
   self t u n r l e = r.each n (omega arith) (omega arith) ∙ e ∙ cond-true (n == n) t u (eq-eqb n n refl)
 
   pub looked : (B : Scope) (f : Layer → Formula) (t : Term) (n : ℕ) → HasExitCodes t → Contents g t n → Every Looked (spots L B f t n)
-  looked B f Nothing n k r = looked_here B f Nothing n (L n) (r.each n (omega arith) (omega arith))
-  looked B f Pause n k r = looked_here B f Pause n (L n) (r.each n (omega arith) (omega arith))
-  looked B f (Emit s) n k r = looked_here B f (Emit s) n (L n) (r.each n (omega arith) (omega arith))
-  looked B f (Exit c) n k r = looked_here B f (Exit c) n (L n) (r.each n (omega arith) (omega arith))
   looked B f (Present e p q) n k r =
       every-append Looked (spots_at L B f (Present e p q) n) _ (looked_here B f (Present e p q) n (L n) (self (Present e p q) _ n r (omega arith) refl))
       (every-append Looked (spots L B _ p (n + 1)) _
@@ -103,3 +98,4 @@ module _ (L : ℕ → List Layer) (g : ℕ → Term) where
       every-append Looked (spots_at L B f (Local s p) n) _ (looked_here B f (Local s p) n (L n) (self (Local s p) _ n r (omega arith) refl))
       (looked (bind B s n) _ p (n + 1) k (reads_only g (Local s p) p n refl (λ m. refl) r))
   looked B f (Awake e p) n k r = absurd k
+  looked B f t n k r = looked_here B f t n (L n) (r.each n (omega arith) (omega arith))

@@ -7,7 +7,7 @@ use Rattle.std.proofs.lemmas.Bool.{cases_lt, cond_both, ltb-true, ltb-false, fal
 use Rattle.std.proofs.lemmas.List.Elements.{Contains-append_left, Contains-append_right}
 use Rattle.facts.proofs.Lists.{Every, all-of-every, contains-flat_map, contains-map, every-append}
 use Rattle.est_kernel.specs.Plain.{Program, interface_of, interface_count, outgoing_count, given_count}
-use Rattle.est_kernel.specs.Terms.{Term, Nothing, Pause, Emit, Exit, Present, Suspend, Seq, Loop, Par, Trap, Local, Awake}
+use Rattle.est_kernel.specs.Terms.{Term, Emit, Par, Local}
 use Rattle.est_kernel.specs.Preorder.{statement_count}
 use Rattle.grc_graph.specs.Layers.{Layer, Resumed, Started, Liveness, body_layers, body_liveness}
 use Rattle.grc_graph.specs.Scopes.{Entering, Outgoing, BoundAt, Unbound, Scope, program_scope}
@@ -157,21 +157,11 @@ module _ (p : Program) (kernel : HasExitCodes p.body) where
   branch_codes {a} {B} {f} {t} {n} c l = go t c
     where
       go : (t : Term) → Context L g all W E told a B f t n → BranchCodes W E t n l
-      go Nothing d = tt
-      go Pause d = tt
-      go (Emit s) d = tt
-      go (Exit k) d = tt
-      go (Present e x y) d = tt
-      go (Suspend e x) d = tt
-      go (Seq x y) d = tt
-      go (Loop at x) d = tt
       go (Par x y) d = (
         λ k w. subst (λ z. instance_codes z l k ≡ true) (looks L g all W E told (left_part L g all W E told d)) (told.codes (n + 1) l k w),
         λ k w. subst (λ z. instance_codes z l k ≡ true) (looks L g all W E told (right_part L g all W E told d)) (told.codes (n + 1 + statement_count x) l k w),
       )
-      go (Trap x) d = tt
-      go (Local s x) d = tt
-      go (Awake e x) d = tt
+      go _ d = tt
 
   reads : Every ReadsAt all
   reads =
@@ -184,8 +174,6 @@ module _ (p : Program) (kernel : HasExitCodes p.body) where
 
   -- an emission has an edge to the status wire
   emission_edge : (w : Wire) (B : Scope) (t : Term) (n : ℕ) (l : Layer) → emits_on w t B l ≡ true → Every (λ e. E e.from e.to) (edges_at B t n l) → E (Go n l) w
-  emission_edge w B Nothing n l e h = absurd (false≢true e)
-  emission_edge w B Pause n l e h = absurd (false≢true e)
   emission_edge w B (Emit s) n l e h =
       go (status_wire (B s) s l) e (every_right (λ x. E x.from x.to) (go_to_ends (instance_codes (Emit s) l) n l)
       (to_status (Go n l) (status_wire (B s) s l)) h)
@@ -193,15 +181,7 @@ module _ (p : Program) (kernel : HasExitCodes p.body) where
       go : (o : Option Wire) → is_wire o w ≡ true → Every (λ x. E x.from x.to) (to_status (Go n l) o) → E (Go n l) w
       go None i k = absurd (false≢true i)
       go (Some v) i k = subst (λ x. E (Go n l) x) (same_wire-true v w i) k.0
-  emission_edge w B (Exit k) n l e h = absurd (false≢true e)
-  emission_edge w B (Present x y z) n l e h = absurd (false≢true e)
-  emission_edge w B (Suspend x y) n l e h = absurd (false≢true e)
-  emission_edge w B (Seq y z) n l e h = absurd (false≢true e)
-  emission_edge w B (Loop at y) n l e h = absurd (false≢true e)
-  emission_edge w B (Par y z) n l e h = absurd (false≢true e)
-  emission_edge w B (Trap y) n l e h = absurd (false≢true e)
-  emission_edge w B (Local s y) n l e h = absurd (false≢true e)
-  emission_edge w B (Awake x y) n l e h = absurd (false≢true e)
+  emission_edge w B _ n l e h = absurd (false≢true e)
 
   emission_reads : (w : Wire) (xs : List Spot) → Every (λ x. Every (λ e. E e.from e.to) (edges_at x.scope x.statement x.path x.layer)) xs →
       Every (ReadsOnly (λ u. Asked W E u w)) (emissions w xs)
@@ -219,18 +199,8 @@ module _ (p : Program) (kernel : HasExitCodes p.body) where
   Read e = ReadsOnly (λ u. Asked W E u e.wire) e.formula
 
   status_reads : (t : Term) (n : ℕ) (l : Layer) → Every Read (instance_status all t n l)
-  status_reads Nothing n l = tt
-  status_reads Pause n l = tt
-  status_reads (Emit s) n l = tt
-  status_reads (Exit k) n l = tt
-  status_reads (Present e x y) n l = tt
-  status_reads (Suspend e x) n l = tt
-  status_reads (Seq x y) n l = tt
-  status_reads (Loop at x) n l = tt
-  status_reads (Par x y) n l = tt
-  status_reads (Trap x) n l = tt
   status_reads (Local s x) n l = (any_reads (λ u. Asked W E u (StatusOf n l)) (emissions (StatusOf n l) all) (all_emissions (StatusOf n l)), tt)
-  status_reads (Awake e x) n l = tt
+  status_reads _ n l = tt
 
   instance_reads : (x : Spot) → ReadsAt x → Every Read (instance_equations all x)
   instance_reads x h = (
@@ -285,18 +255,8 @@ module _ (p : Program) (kernel : HasExitCodes p.body) where
   Shows q = IsStatus q.wire → (x : Spot) → Contains all x → emits_on q.wire x.statement x.scope x.layer ≡ true → IsRead (Go x.path x.layer) q.formula
 
   status_shows : (t : Term) (n : ℕ) (l : Layer) → Every Shows (instance_status all t n l)
-  status_shows Nothing n l = tt
-  status_shows Pause n l = tt
-  status_shows (Emit s) n l = tt
-  status_shows (Exit k) n l = tt
-  status_shows (Present e x y) n l = tt
-  status_shows (Suspend e x) n l = tt
-  status_shows (Seq x y) n l = tt
-  status_shows (Loop at x) n l = tt
-  status_shows (Par x y) n l = tt
-  status_shows (Trap x) n l = tt
   status_shows (Local s y) n l = ((λ i x c e. emission_read (StatusOf n l) x all c e), tt)
-  status_shows (Awake e x) n l = tt
+  status_shows _ n l = tt
 
   instance_shows : (x : Spot) → Every Shows (instance_equations all x)
   instance_shows x = (

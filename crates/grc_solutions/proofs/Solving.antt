@@ -7,7 +7,7 @@ use Rattle.std.proofs.lemmas.List.{length-map, get_or-map}
 use Rattle.std.proofs.lemmas.List.Elements.{All-contains, Contains-get_or}
 use Rattle.est_base.specs.Codes.{upto}
 use Rattle.grc_graph.specs.Wires.{Wire, End, same_wire}
-use Rattle.grc_graph.specs.Formulas.{Formula, Const, Boot, Input, Value, Selected, Upto, Kept, Held, Negation, Conjunction, Disjunction}
+use Rattle.grc_graph.specs.Formulas.{Formula, Value, Upto, Kept, Held, Negation, Conjunction, Disjunction}
 use Rattle.grc_graph.specs.Equations.{Equation}
 use Rattle.grc_graph.specs.Reads.{ReadsOnly}
 use Rattle.grc_graph.specs.Walk.{State}
@@ -29,11 +29,7 @@ module _ (g : PlainGraph) (q : State) (event : List Bool) where
 
   -- a formula means the same where what it reads agrees
   pub agree : (P : Wire → Type 0) (V W : Valuation) → ((u : Wire) → P u → V u ≡ W u) → (a : Formula) → ReadsOnly P a → value V a ≡ value W a
-  agree P V W f (Const b) h = refl
-  agree P V W f Boot h = refl
-  agree P V W f (Input s) h = refl
   agree P V W f (Value w) h = f w h
-  agree P V W f (Selected n) h = refl
   agree P V W f (Upto n l k) h = upto_agree (λ j. V (End n l j)) (λ j. W (End n l j)) k (λ j i. f (End n l j) (h j i))
   agree P V W f (Kept n l) h = absurd h
   agree P V W f (Held n l) h = absurd h
@@ -42,6 +38,7 @@ module _ (g : PlainGraph) (q : State) (event : List Bool) where
       ap (λ x. x && value V b) (agree P V W f a h.0) ∙ ap (λ x. value W a && x) (agree P V W f b h.1)
   agree P V W f (Disjunction a b) h =
       ap (λ x. x || value V b) (agree P V W f a h.0) ∙ ap (λ x. value W a || x) (agree P V W f b h.1)
+  agree P V W f _ h = refl
 
   -- the value of the first equation of a wire; of no wire false
   step : Valuation → List Equation → Valuation

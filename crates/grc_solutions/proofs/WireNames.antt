@@ -6,7 +6,7 @@ use Rattle.std.proofs.lemmas.List.{map-append}
 use Rattle.std.proofs.lemmas.Simd.{map-map}
 use Rattle.facts.proofs.Lists.{Every, every-append}
 use Rattle.est_kernel.specs.Plain.{interface_count, outgoing_count, given_count}
-use Rattle.est_kernel.specs.Terms.{Term, Nothing, Pause, Emit, Exit, Present, Suspend, Seq, Loop, Par, Trap, Local, Awake}
+use Rattle.est_kernel.specs.Terms.{Term, Nothing, Present, Suspend, Seq, Loop, Par, Trap, Local, Awake}
 use Rattle.est_kernel.specs.Preorder.{statement_count}
 use Rattle.grc_graph.specs.Layers.{Layer, Resumed, Started, Liveness, body_liveness, body_layers, part_liveness, second_liveness, loop_liveness}
 use Rattle.grc_graph.specs.Instances.{Instance, instances, instances_at, Before, Ascends, LayerBefore}
@@ -28,17 +28,7 @@ use Rattle.grc_solutions.proofs.Pairwise.{listed_every, listed_ascend, range_asc
 
 status_wires : (all : List Spot) (t : Term) (n : ℕ) (l : Layer) → map (λ (e : Equation). e.wire) (instance_status all t n l) ≡ own_status t n l
 status_wires all Nothing n l = refl
-status_wires all Pause n l = refl
-status_wires all (Emit s) n l = refl
-status_wires all (Exit k) n l = refl
-status_wires all (Present e p q) n l = refl
-status_wires all (Suspend e p) n l = refl
-status_wires all (Seq p q) n l = refl
-status_wires all (Loop at p) n l = refl
-status_wires all (Par p q) n l = refl
-status_wires all (Trap p) n l = refl
-status_wires all (Local s p) n l = refl
-status_wires all (Awake e p) n l = refl
+status_wires all _ n l = refl
 
 own_wires : (all : List Spot) (x : Spot) → equation_wires (instance_equations all x) ≡ instance_wires x.statement x.path x.layer
 own_wires all x =
@@ -84,10 +74,6 @@ module _ (L : ℕ → List Layer) where
 
   pub places_are : (a : Liveness) (B : Scope) (f : Layer → Formula) (t : Term) (n : ℕ) → HasExitCodes t → Agrees L a t n →
       map place (spots L B f t n) ≡ instances a t n
-  places_are a B f Nothing n k g = here a B f Nothing n g
-  places_are a B f Pause n k g = here a B f Pause n g
-  places_are a B f (Emit s) n k g = here a B f (Emit s) n g
-  places_are a B f (Exit c) n k g = here a B f (Exit c) n g
   places_are a B f (Present e p q) n k g =
       two a (part_liveness a p) (part_liveness a q) B f _ _ (Present e p q) p q n g
       (places_are (part_liveness a p) B _ p (n + 1) k.0 (first_agrees L a (part_liveness a p) (part_liveness a q) (Present e p q) p q n refl (λ j. refl) g))
@@ -116,6 +102,7 @@ module _ (L : ℕ → List Layer) where
       one a (part_liveness a p) B (bind B s n) f _ (Local s p) p n g
       (places_are (part_liveness a p) (bind B s n) _ p (n + 1) k (only_agrees L a (part_liveness a p) (Local s p) p n refl (λ j. refl) g))
   places_are a B f (Awake e p) n k g = absurd k
+  places_are a B f t n k g = here a B f t n g
 
 -- ---- all different
 
@@ -160,32 +147,12 @@ abbrev Other : Wire → Wire → Type 0
 Other u w = u ≢ w
 
 own_statuses : (P : Wire → Type 0) (t : Term) (n : ℕ) (l : Layer) → P (StatusOf n l) → Every P (own_status t n l)
-own_statuses P Nothing n l h = tt
-own_statuses P Pause n l h = tt
-own_statuses P (Emit s) n l h = tt
-own_statuses P (Exit k) n l h = tt
-own_statuses P (Present e p q) n l h = tt
-own_statuses P (Suspend e p) n l h = tt
-own_statuses P (Seq p q) n l h = tt
-own_statuses P (Loop at p) n l h = tt
-own_statuses P (Par p q) n l h = tt
-own_statuses P (Trap p) n l h = tt
 own_statuses P (Local s p) n l h = (h, tt)
-own_statuses P (Awake e p) n l h = tt
+own_statuses P _ n l h = tt
 
 statuses_differ : (t : Term) (n : ℕ) (l : Layer) → Pairwise Other (own_status t n l)
-statuses_differ Nothing n l = tt
-statuses_differ Pause n l = tt
-statuses_differ (Emit s) n l = tt
-statuses_differ (Exit k) n l = tt
-statuses_differ (Present e p q) n l = tt
-statuses_differ (Suspend e p) n l = tt
-statuses_differ (Seq p q) n l = tt
-statuses_differ (Loop at p) n l = tt
-statuses_differ (Par p q) n l = tt
-statuses_differ (Trap p) n l = tt
 statuses_differ (Local s p) n l = (tt, tt)
-statuses_differ (Awake e p) n l = tt
+statuses_differ _ n l = tt
 
 -- what holds of each form of wire of an instance holds of its wires
 pub instance_every : (P : Wire → Type 0) (t : Term) (n : ℕ) (l : Layer) → P (Go n l) → P (StatusOf n l) →

@@ -59,8 +59,7 @@ module _ (inputs outs given_count : ℕ) (body : Term) (q : State) (event : List
   abbrev pub shown_as : Statuses → Binding → ℕ → Status
   shown_as U Entering s = known (is_given event s)
   shown_as U Outgoing s = U (Out s)
-  shown_as U (BoundAt n) s = Unknown
-  shown_as U Unbound s = Unknown
+  shown_as U _ s = Unknown
 
   abbrev pub shown_env : Statuses → Environment
   shown_env U = λ s. shown_as U (B0 s) s
@@ -69,10 +68,9 @@ module _ (inputs outs given_count : ℕ) (body : Term) (q : State) (event : List
   sees_shown U l = record { each = λ s. at s (B0 s) refl }
     where
       at : (s : ℕ) (b : Binding) → B0 s ≡ b → has_value b ≡ true → shown_as U b s ≡ seen_status body q (is_given event) U b s l
-      at s Entering e h = refl
-      at s Outgoing e h = refl
       at s (BoundAt n) e h = absurd (no_bound inputs outs body s n e)
       at s Unbound e h = absurd (false≢true h)
+      at s _ e h = refl
 
   -- ---- its wires
 

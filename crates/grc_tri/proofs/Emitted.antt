@@ -27,10 +27,7 @@ use Rattle.grc_tri.proofs.Quiet.{second_root_off, own_root_off, own_loop_off, de
 -- ---- nothing is emitted where nothing is live
 
 pub quiet_emits : (U : Statuses) (t : Term) (n : ℕ) (l : Layer) (s : ℕ) → Quiet U l n (statement_count t) → emits U t n l s ≡ Minus
-quiet_emits U Nothing n l s q = refl
-quiet_emits U Pause n l s q = refl
 quiet_emits U (Emit x) n l s q = ap (λ v. where_met (s == x) v) (q.at n (omega arith) (omega arith)).0 ∙ met_absent (s == x)
-quiet_emits U (Exit c) n l s q = refl
 quiet_emits U (Present e p p2) n l s q =
     ap (λ v. disjunction v (emits U p2 (n + 1 + statement_count p) l s)) (quiet_emits U p (n + 1) l s (quiet_first n _ _ q))
     ∙ quiet_emits U p2 (n + 1 + statement_count p) l s (quiet_second n _ _ q)
@@ -44,13 +41,9 @@ quiet_emits U (Par p p2) n l s q =
     ∙ quiet_emits U p2 (n + 1 + statement_count p) l s (quiet_second n _ _ q)
 quiet_emits U (Trap p) n l s q = quiet_emits U p (n + 1) l s (quiet_only n _ q)
 quiet_emits U (Local x p) n l s q = ap (λ v. where_met (not (s == x)) v) (quiet_emits U p (n + 1) l s (quiet_only n _ q)) ∙ met_absent (not (s == x))
-quiet_emits U (Awake e p) n l s q = refl
+quiet_emits U _ n l s q = refl
 
 pub deep_emits : (U : Statuses) (t : Term) (n s : ℕ) → DeepQuiet U n (statement_count t) → resumed_emits U t n s ≡ Minus
-deep_emits U Nothing n s d = refl
-deep_emits U Pause n s d = refl
-deep_emits U (Emit x) n s d = refl
-deep_emits U (Exit c) n s d = refl
 deep_emits U (Present e p q) n s d =
     ap (λ v. disjunction v (resumed_emits U q (n + 1 + statement_count p) s)) (deep_emits U p (n + 1) s (deep_first n _ _ d))
     ∙ deep_emits U q (n + 1 + statement_count p) s (deep_second n _ _ d)
@@ -68,7 +61,7 @@ deep_emits U (Par p q) n s d =
     ∙ deep_emits U q (n + 1 + statement_count p) s (deep_second n _ _ d)
 deep_emits U (Trap p) n s d = deep_emits U p (n + 1) s (deep_only n _ d)
 deep_emits U (Local x p) n s d = ap (λ v. where_met (not (s == x)) v) (deep_emits U p (n + 1) s (deep_only n _ d)) ∙ met_absent (not (s == x))
-deep_emits U (Awake e p) n s d = refl
+deep_emits U _ n s d = refl
 
 -- ---- Booleans
 
@@ -122,13 +115,10 @@ module _ (f : Status → Bool) (r : IsRail f) (L : ℕ → List Layer) (U : Stat
   pub started_emitted : (w : Wire) (s : ℕ) (c : Bool) (t : Term) (B : Scope) (g : Layer → Formula) (n x : ℕ) (a : Liveness) → Agrees L a t n → x ≤ n →
       HasExitCodes t → Fresh w n → Shows B (Started x) w s c →
       started_any (emission (λ u. f (U u)) w) B g t n (Started x) ≡ (c && f (emits U t n (Started x) s))
-  started_emitted w s c Nothing B g n x a ag i k h e = none c
-  started_emitted w s c Pause B g n x a ag i k h e = none c
   started_emitted w s c (Emit y) B g n x a ag i k h e =
       let v = U (Go n (Started x)) in
       ap (λ b. b && f v) (e.each y) ∙ and-moved c (y == s) (f v) ∙ ap (λ b. c && (f v && b)) (eqb-turned y s)
       ∙ ap (λ b. c && b) (sym (rail_met f r (s == y) v))
-  started_emitted w s c (Exit y) B g n x a ag i k h e = none c
   started_emitted w s c (Present y p q) B g n x a ag i k h e =
       let m = n + 1 + statement_count p in
       let t = Present y p q in
@@ -175,6 +165,7 @@ module _ (f : Status → Bool) (r : IsRail f) (L : ℕ → List Layer) (U : Stat
       (fresh_more n (n + 1) (omega arith) h) (shows_bind B n y s (Started x) w c h e)
       ∙ hide c y s (emits U p (n + 1) (Started x) s)
   started_emitted w s c (Awake y p) B g n x a ag i k h e = absurd k
+  started_emitted w s c _ B g n x a ag i k h e = none c
 
   -- a part that may be resumed with the whole, which may
   live_part : (a : Liveness) (x : Bool) → a.resumed ≡ true → x ≡ true → (a.resumed && x) ≡ true
@@ -214,10 +205,7 @@ module _ (f : Status → Bool) (r : IsRail f) (L : ℕ → List Layer) (U : Stat
   pub resumed_emitted : (w : Wire) (s : ℕ) (c : Bool) (t : Term) (B : Scope) (g : Layer → Formula) (n : ℕ) (a : Liveness) → Agrees L a t n → a.resumed ≡ true →
       LowRoots a.roots n → has_code (resumed_codes t) ≡ true → HasExitCodes t → Fresh w n → Above B n → Shows B Resumed w s c →
       resumed_any (emission (λ u. f (U u)) w) B g t n ≡ (c && f (resumed_emits U t n s))
-  resumed_emitted w s c Nothing B g n a ag i low on k h ab e = none c
-  resumed_emitted w s c Pause B g n a ag i low on k h ab e = none c
   resumed_emitted w s c (Emit y) B g n a ag i low on k h ab e = absurd (false≢true on)
-  resumed_emitted w s c (Exit y) B g n a ag i low on k h ab e = none c
   resumed_emitted w s c (Present y p q) B g n a ag i low on k h ab e =
       let m = n + 1 + statement_count p in
       let t = Present y p q in
@@ -298,3 +286,4 @@ module _ (f : Status → Bool) (r : IsRail f) (L : ℕ → List Layer) (U : Stat
       (fresh_more n (n + 1) (omega arith) h) (above_bind B n y ab) (shows_bind B n y s Resumed w c h e))
       ∙ hide c y s (resumed_emits U p (n + 1) s)
   resumed_emitted w s c (Awake y p) B g n a ag i low on k h ab e = absurd k
+  resumed_emitted w s c _ B g n a ag i low on k h ab e = none c

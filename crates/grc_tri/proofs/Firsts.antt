@@ -61,10 +61,6 @@ quiet_here : (U : Statuses) (t : Term) (n : ℕ) (l : Layer) (F : Environment) �
 quiet_here U t n l F q k = below_equal (q.2 k ∙ sym (silent_codes t F k))
 
 pub quiet_under : (U : Statuses) (t : Term) (n : ℕ) (l : Layer) (F : Environment) → HasExitCodes t → Quiet U l n (statement_count t) → Under U t n l Minus F
-quiet_under U Nothing n l F k q = let h = q.at n (omega arith) (omega arith) in (below_equal h.0, quiet_here U Nothing n l F h)
-quiet_under U Pause n l F k q = let h = q.at n (omega arith) (omega arith) in (below_equal h.0, quiet_here U Pause n l F h)
-quiet_under U (Emit s) n l F k q = let h = q.at n (omega arith) (omega arith) in (below_equal h.0, quiet_here U (Emit s) n l F h)
-quiet_under U (Exit c) n l F k q = let h = q.at n (omega arith) (omega arith) in (below_equal h.0, quiet_here U (Exit c) n l F h)
 quiet_under U (Present e p p2) n l F k q =
     let h = q.at n (omega arith) (omega arith) in (
       below_equal h.0,
@@ -101,16 +97,13 @@ quiet_under U (Local s p) n l F k q =
       quiet_under U p (n + 1) l (with_status F s (tri_decided p Minus F s)) k (quiet_only n _ q),
     )
 quiet_under U (Awake e p) n l F k q = absurd k
+quiet_under U t n l F k q = let h = q.at n (omega arith) (omega arith) in (below_equal h.0, quiet_here U t n l F h)
 
 deep_here : (U : Statuses) (S : ℕ → Bool) (t : Term) (n : ℕ) (F : Environment) → AllMinus U n Resumed → UnderHere U S t n Minus F
 deep_here U S t n F q = (below_equal q.0, λ k. below_equal (q.2 k ∙ sym (ap (λ a. a.codes k) (silent S t n F))))
 
 pub deep_under : (U : Statuses) (S : ℕ → Bool) (t : Term) (n : ℕ) (F : Environment) → HasExitCodes t → DeepQuiet U n (statement_count t) →
     UnderResumed U S t n Minus F
-deep_under U S Nothing n F k d = (deep_here U S Nothing n F (d.resumed.at n (omega arith) (omega arith)), tt)
-deep_under U S Pause n F k d = (deep_here U S Pause n F (d.resumed.at n (omega arith) (omega arith)), tt)
-deep_under U S (Emit s) n F k d = (deep_here U S (Emit s) n F (d.resumed.at n (omega arith) (omega arith)), tt)
-deep_under U S (Exit c) n F k d = (deep_here U S (Exit c) n F (d.resumed.at n (omega arith) (omega arith)), tt)
 deep_under U S (Present e p q) n F k d = (
   deep_here U S (Present e p q) n F (d.resumed.at n (omega arith) (omega arith)),
   deep_under U S p (n + 1) F k.0 (deep_first n _ _ d),
@@ -146,6 +139,7 @@ deep_under U S (Local s p) n F k d =
       deep_under U S p (n + 1) (with_status F s (resumed_decided S p (n + 1) Minus F s)) k (deep_only n _ d),
     )
 deep_under U S (Awake e p) n F k d = absurd k
+deep_under U S t n F k d = (deep_here U S t n F (d.resumed.at n (omega arith) (omega arith)), tt)
 
 -- ---- nothing is known of the wires of an instance
 
@@ -175,10 +169,6 @@ module _ (L : ℕ → List Layer) (U : Statuses) (o : OffLayers L U) where
 
   pub first_started : (a : Liveness) (t : Term) (B : Scope) (f : Layer → Formula) (n r : ℕ) (g : Status) (F : Environment) → Agrees L a t n → r ≤ n →
       NoInstantLoop t → HasExitCodes t → EachStarted (New U) B f t n (Started r) → Under U t n (Started r) g F
-  first_started a Nothing B f n r g F ag l nl k x = (new_go B f Nothing n r g k x, new_ends B f Nothing n r g F nl k x)
-  first_started a Pause B f n r g F ag l nl k x = (new_go B f Pause n r g k x, new_ends B f Pause n r g F nl k x)
-  first_started a (Emit s) B f n r g F ag l nl k x = (new_go B f (Emit s) n r g k x, new_ends B f (Emit s) n r g F nl k x)
-  first_started a (Exit c) B f n r g F ag l nl k x = (new_go B f (Exit c) n r g k x, new_ends B f (Exit c) n r g F nl k x)
   first_started a (Present e p q) B f n r g F ag l nl k x =
       let m = n + 1 + statement_count p in
       let t = Present e p q in
@@ -247,6 +237,7 @@ module _ (L : ℕ → List Layer) (U : Statuses) (o : OffLayers L U) where
             (omega arith) nl k x.1,
       )
   first_started a (Awake e p) B f n r g F ag l nl k x = absurd k
+  first_started a t B f n r g F ag l nl k x = (new_go B f t n r g k x, new_ends B f t n r g F nl k x)
 
   module _ (S : ℕ → Bool) where
     abbrev Sel : Term → ℕ → Type 0
@@ -285,10 +276,6 @@ module _ (L : ℕ → List Layer) (U : Statuses) (o : OffLayers L U) where
     pub first_resumed : (a : Liveness) (t : Term) (B : Scope) (f : Layer → Formula) (n : ℕ) (g : Status) (F : Environment) → Agrees L a t n → a.resumed ≡ true →
         LowRoots a.roots n → has_code (resumed_codes t) ≡ true → NoInstantLoop t → HasExitCodes t → Sel t n → (holds S t n ≡ false → g ≡ Minus) →
         EachResumed (New U) B f t n → UnderResumed U S t n g F
-    first_resumed a Nothing B f n g F ag i low live nl k sel ho x = (new_here B f Nothing n g F nl k sel ho x, tt)
-    first_resumed a Pause B f n g F ag i low live nl k sel ho x = (new_here B f Pause n g F nl k sel ho x, tt)
-    first_resumed a (Emit s) B f n g F ag i low live nl k sel ho x = (new_here B f (Emit s) n g F nl k sel ho x, tt)
-    first_resumed a (Exit c) B f n g F ag i low live nl k sel ho x = (new_here B f (Exit c) n g F nl k sel ho x, tt)
     first_resumed a (Present e p q) B f n g F ag i low live nl k sel ho x =
         let m = n + 1 + statement_count p in
         let t = Present e p q in
@@ -385,3 +372,4 @@ module _ (L : ℕ → List Layer) (U : Statuses) (o : OffLayers L U) where
               (x.1 live),
         )
     first_resumed a (Awake e p) B f n g F ag i low live nl k sel ho x = absurd k
+    first_resumed a t B f n g F ag i low live nl k sel ho x = (new_here B f t n g F nl k sel ho x, tt)

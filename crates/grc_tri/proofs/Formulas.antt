@@ -97,9 +97,7 @@ module _ (body : Term) (q : State) (given : Values) (U : Statuses) where
 
   status_meaning : (b : Binding) (s : ℕ) (l : Layer) → val (status_formula b s l) ≡ seen_status b s l
   status_meaning Entering s l = refl
-  status_meaning Outgoing s l = refl
-  status_meaning (BoundAt n) s l = refl
-  status_meaning Unbound s l = refl
+  status_meaning _ s l = refl
 
   pub test_meaning : (B : Scope) (e : Expression) (l : Layer) (E : Environment) → SeesStatuses B l E → TestInScope B e → val (test_formula B e l) ≡ value e E
   test_meaning B Tick l E h i = refl
@@ -123,10 +121,8 @@ module _ (body : Term) (q : State) (given : Values) (U : Statuses) where
   sees_more B n s l E e h = record { each = λ t i. bound_sees (t == s) n t l (B t) (E t) e (h.each t) i }
 
   root_sees : (b : Binding) (s m : ℕ) → ((c : ℕ) → b ≡ BoundAt c → c < m) → seen_status b s Resumed ≡ seen_status b s (Started m)
-  root_sees Entering s m h = refl
-  root_sees Outgoing s m h = refl
   root_sees (BoundAt b) s m h = ap (λ j. U (StatusOf b j)) (sym (above_behind b m (h b refl)))
-  root_sees Unbound s m h = refl
+  root_sees _ s m h = refl
 
   -- at a root of its own
   pub sees_root : (B : Scope) (m : ℕ) (E : Environment) → Above B m → SeesStatuses B Resumed E → SeesStatuses B (Started m) E

@@ -45,9 +45,8 @@ true_known T k w =
     h.1 ∙ ap known (sym (ap is_plus h.1 ∙ plus_known h.0))
 
 known_opposite : (v : Status) → statuses.IsKnown v → statuses.IsKnown (opposite v)
-known_opposite Plus k = tt
-known_opposite Minus k = tt
 known_opposite Unknown k = absurd k
+known_opposite _ k = tt
 
 known_const : (b : Bool) → statuses.IsKnown (known b)
 known_const true = tt
@@ -67,10 +66,7 @@ module _ (g : PlainGraph) (q : State) (event : List Bool) where
   formula_known : (P : Wire → Type 0) (T : Statuses) → ((u : Wire) → P u → statuses.IsKnown (T u)) → (a : Formula) → ReadsOnly P a →
       statuses.IsKnown (status g q event T a)
   formula_known P T f (Const b) h = known_const b
-  formula_known P T f Boot h = known_const _
-  formula_known P T f (Input s) h = known_const _
   formula_known P T f (Value w) h = f w h
-  formula_known P T f (Selected n) h = known_const _
   formula_known P T f (Upto n l k) h = known_up (λ j. T (End n l j)) k (λ j i. f (End n l j) (h j i))
   formula_known P T f (Kept n l) h = absurd h
   formula_known P T f (Held n l) h = absurd h
@@ -79,15 +75,12 @@ module _ (g : PlainGraph) (q : State) (event : List Bool) where
       known_conjunction (status g q event T a) (status g q event T b) (formula_known P T f a h.0) (formula_known P T f b h.1)
   formula_known P T f (Disjunction a b) h =
       known_disjunction (status g q event T a) (status g q event T b) (formula_known P T f a h.0) (formula_known P T f b h.1)
+  formula_known P T f _ h = known_const _
 
   -- where all wires are known, a formula has the value that it has in Booleans
   same_meaning : (P : Wire → Type 0) (T : Statuses) (V : Valuation) → ((w : Wire) → T w ≡ known (V w)) → (a : Formula) → ReadsOnly P a →
       status g q event T a ≡ known (formula_value g q event V a)
-  same_meaning P T V f (Const b) h = refl
-  same_meaning P T V f Boot h = refl
-  same_meaning P T V f (Input s) h = refl
   same_meaning P T V f (Value w) h = f w
-  same_meaning P T V f (Selected n) h = refl
   same_meaning P T V f (Upto n l k) h = upto_known (λ j. T (End n l j)) (λ j. V (End n l j)) k (λ j. f (End n l j))
   same_meaning P T V f (Kept n l) h = absurd h
   same_meaning P T V f (Held n l) h = absurd h
@@ -98,6 +91,7 @@ module _ (g : PlainGraph) (q : State) (event : List Bool) where
   same_meaning P T V f (Disjunction a b) h =
       ap (λ v. disjunction v (status g q event T b)) (same_meaning P T V f a h.0)
       ∙ ap (λ v. disjunction (known (formula_value g q event V a)) v) (same_meaning P T V f b h.1) ∙ disjunction-known _ _
+  same_meaning P T V f _ h = refl
 
   -- so the wires that are true solve the graph
   pub known_solves : (P : Equation → Wire → Type 0) → ((e : Equation) → Contains g.equations e → ReadsOnly (P e) e.formula) → (T : Statuses) →

@@ -65,10 +65,6 @@ first_true x y e = (and_parts x y e).0
 -- a root that a statement does not have, and that none of its parts can have as its own, is none of its parts' roots
 roots_off : (x : ℕ) (b : Liveness) (t : Term) (n m : ℕ) → has_root x b.roots ≡ false → (b.resumed ≡ true → x ≤ n) →
     has_root x (liveness_at b t n m).roots ≡ false
-roots_off x b Nothing n m h k = h
-roots_off x b Pause n m h k = h
-roots_off x b (Emit s) n m h k = h
-roots_off x b (Exit c) n m h k = h
 roots_off x b (Present e p q) n m h k =
     let r = n + 1 + statement_count p in
     cond_both (m == n) b _ (λ (l : Liveness). has_root x l.roots ≡ false) (λ z. h)
@@ -102,14 +98,10 @@ roots_off x b (Trap p) n m h k =
 roots_off x b (Local s p) n m h k =
     cond_both (m == n) b _ (λ (l : Liveness). has_root x l.roots ≡ false) (λ z. h)
     (λ z. roots_off x (part_liveness b p) p (n + 1) m h (λ c. let i = k (first_true _ _ c) in omega arith))
-roots_off x b (Awake e p) n m h k = h
+roots_off x b _ n m h k = h
 
 -- of what cannot be resumed no part can
 resumed_off : (b : Liveness) (t : Term) (n m : ℕ) → b.resumed ≡ false → (liveness_at b t n m).resumed ≡ false
-resumed_off b Nothing n m h = h
-resumed_off b Pause n m h = h
-resumed_off b (Emit s) n m h = h
-resumed_off b (Exit c) n m h = h
 resumed_off b (Present e p q) n m h =
     cond_both (m == n) b _ (λ (l : Liveness). l.resumed ≡ false) (λ z. h)
     (λ z. cond_both (ltb m (n + 1 + statement_count p)) _ _ (λ (l : Liveness). l.resumed ≡ false)
@@ -133,7 +125,7 @@ resumed_off b (Trap p) n m h =
     cond_both (m == n) b _ (λ (l : Liveness). l.resumed ≡ false) (λ z. h) (λ z. resumed_off (part_liveness b p) p (n + 1) m (and_left b.resumed _ h))
 resumed_off b (Local s p) n m h =
     cond_both (m == n) b _ (λ (l : Liveness). l.resumed ≡ false) (λ z. h) (λ z. resumed_off (part_liveness b p) p (n + 1) m (and_left b.resumed _ h))
-resumed_off b (Awake e p) n m h = h
+resumed_off b _ n m h = h
 
 -- ---- statuses that are false where nothing is live
 

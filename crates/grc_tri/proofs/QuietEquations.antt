@@ -30,12 +30,9 @@ over_none U false n c e f = fun_ext (λ k. ap (λ v. where_met (k == 0) v) e ∙
 
 pub deep_follows : (W U : Statuses) (S : ℕ → Bool) (t : Term) (n : ℕ) (E : Environment) → HasExitCodes t → DeepQuiet W n (statement_count t) →
     DeepQuiet U n (statement_count t) → FollowsResumed W U S t n E
-deep_follows W U S Nothing n E k v u = (v.resumed.at n (omega arith) (omega arith)).2
 deep_follows W U S Pause n E k v u = λ c.
     (v.resumed.at n (omega arith) (omega arith)).2 c
     ∙ sym (ap (λ x. where_met (c == 0) x) (u.resumed.at n (omega arith) (omega arith)).0 ∙ met_absent (c == 0))
-deep_follows W U S (Emit s) n E k v u = (v.resumed.at n (omega arith) (omega arith)).2
-deep_follows W U S (Exit y) n E k v u = (v.resumed.at n (omega arith) (omega arith)).2
 deep_follows W U S (Present e p q) n E k v u =
     let m = n + 1 + statement_count p in
     let go = (u.resumed.at n (omega arith) (omega arith)).0 in (
@@ -112,3 +109,4 @@ deep_follows W U S (Local s p) n E k v u = (
   deep_follows W U S p (n + 1) (with_status E s (U (StatusOf n Resumed))) k (deep_only n _ v) (deep_only n _ u),
 )
 deep_follows W U S (Awake e p) n E k v u = absurd k
+deep_follows W U S _ n E k v u = (v.resumed.at n (omega arith) (omega arith)).2

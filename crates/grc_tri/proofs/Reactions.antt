@@ -109,18 +109,9 @@ module _ (inputs outs given_count : ℕ) (body : Term) (U : Statuses) where
           ++ map (λ k. record { wire = End n l k; formula = end_formula B t n l k }) (listed (instance_codes t l)))) →
           ((k : ℕ) → instance_codes t l k ≡ false → U (End n l k) ≡ Minus) →
           New U (record { statement = t; path = n; layer = l; scope = B; entry = x.entry })
-      go B Nothing n l b h d = record { go = h.0; ends = new_ends B Nothing n l b h.1; status = tt; dead = d }
-      go B Pause n l b h d = record { go = h.0; ends = new_ends B Pause n l b h.1; status = tt; dead = d }
-      go B (Emit s) n l b h d = record { go = h.0; ends = new_ends B (Emit s) n l b h.1; status = tt; dead = d }
-      go B (Exit c) n l b h d = record { go = h.0; ends = new_ends B (Exit c) n l b h.1; status = tt; dead = d }
-      go B (Present e p q) n l b h d = record { go = h.0; ends = new_ends B (Present e p q) n l b h.1; status = tt; dead = d }
-      go B (Suspend e p) n l b h d = record { go = h.0; ends = new_ends B (Suspend e p) n l b h.1; status = tt; dead = d }
-      go B (Seq p q) n l b h d = record { go = h.0; ends = new_ends B (Seq p q) n l b h.1; status = tt; dead = d }
-      go B (Loop at p) n l b h d = record { go = h.0; ends = new_ends B (Loop at p) n l b h.1; status = tt; dead = d }
-      go B (Par p q) n l b h d = record { go = h.0; ends = new_ends B (Par p q) n l b h.1; status = tt; dead = d }
-      go B (Trap p) n l b h d = record { go = h.0; ends = new_ends B (Trap p) n l b h.1; status = tt; dead = d }
       go B (Local s p) n l b h d = record { go = h.0; ends = new_ends B (Local s p) n l b h.1.1; status = h.1.0; dead = d }
       go B (Awake e p) n l b h d = absurd b
+      go B t n l b h d = record { go = h.0; ends = new_ends B t n l b h.1; status = tt; dead = d }
 
   pub each_new : HasExitCodes body → Every Unmet (rows.rows inputs outs given_count body) → Off inputs outs given_count body U →
       (has_code (resumed_codes body) ≡ true → EachResumed (New U) (rows.B0 inputs outs given_count body) body_entry body 0)
@@ -146,18 +137,8 @@ module _ (T : Statuses) (all : List Spot) where
   KnownRow e = statuses.IsKnown (T e.wire)
 
   status_rows : (t : Term) (n : ℕ) (l : Layer) → StatusKnown T t n l → Every KnownRow (instance_status all t n l)
-  status_rows Nothing n l h = tt
-  status_rows Pause n l h = tt
-  status_rows (Emit s) n l h = tt
-  status_rows (Exit k) n l h = tt
-  status_rows (Present e p q) n l h = tt
-  status_rows (Suspend e p) n l h = tt
-  status_rows (Seq p q) n l h = tt
-  status_rows (Loop at p) n l h = tt
-  status_rows (Par p q) n l h = tt
-  status_rows (Trap p) n l h = tt
   status_rows (Local s p) n l h = (h, tt)
-  status_rows (Awake e p) n l h = tt
+  status_rows _ n l h = tt
 
   known_rows : (x : Spot) → WiresKnown T x → Every KnownRow (instance_equations all x)
   known_rows x m = (
@@ -449,8 +430,7 @@ module _ (p : Program) (q : State) (event : List Bool) (formed : IsWellFormed p)
               → IsBelow (bodies.shown_as p.inputs outs (given_count p) p.body q event T b s) (known (seen_value (is_given event) V b s Resumed))
           at s Entering = self (is_given event s)
           at s Outgoing = below_equal (true_known T known_all (Out s))
-          at s (BoundAt n) = tt
-          at s Unbound = tt
+          at s _ = tt
 
       -- the step completes with the walk's code, and leaves what the kept pauses leave
       step_is_walk : (made.0.code ≡ (graph_walk p q event V).code) × (made.0.residual ≡ resumption (graph_walk p q event V).kept p.body)

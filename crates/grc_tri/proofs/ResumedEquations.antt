@@ -239,10 +239,6 @@ module _ (body : Term) (q : State) (given : Values) (W U : Statuses) (all : List
   pub follows_resumed : (a : Liveness) (t : Term) (B : Scope) (g : Layer → Formula) (n : ℕ) (E : Environment) → Agrees L a t n → a.resumed ≡ true →
       ((r : ℕ) → Root r a.roots → r ≤ n) → has_code (resumed_codes t) ≡ true → NoInstantLoop t → HasExitCodes t → InScope B t → Above B n →
       WholeRails U all L B g t n → EachResumed N B g t n → SeesStatuses body q given U B Resumed E → Sel t n → Finds picks S t n → FollowsResumed W U S t n E
-  follows_resumed a Nothing B g n E ag i low live nl k sc ab w x s sel o = x.ends
-  follows_resumed a Pause B g n E ag i low live nl k sc ab w x s sel o = x.ends
-  follows_resumed a (Emit y) B g n E ag i low live nl k sc ab w x s sel o = x.ends
-  follows_resumed a (Exit y) B g n E ag i low live nl k sc ab w x s sel o = x.ends
   follows_resumed a (Present e p p2) B g n E ag i low live nl k sc ab w x s sel o =
       let m = n + 1 + statement_count p in
       let t = Present e p p2 in
@@ -443,3 +439,4 @@ module _ (body : Term) (q : State) (given : Values) (W U : Statuses) (all : List
             (sees_more body q given U B n z Resumed E refl s) sel op,
       )
   follows_resumed a (Awake e p) B g n E ag i low live nl k sc ab w x s sel o = absurd k
+  follows_resumed a _ B g n E ag i low live nl k sc ab w x s sel o = x.ends

@@ -27,10 +27,7 @@ known_over false g A i f k = known_met (k == 0) g i
 
 pub known_resumed_codes : (S : ℕ → Bool) (t : Term) (n : ℕ) (g : Status) (F : Environment) → KnownResumed S t n g F → (k : ℕ) →
     IsKnown ((resumed_tri S t n g F).codes k)
-known_resumed_codes S Nothing n g F k c = tt
 known_resumed_codes S Pause n g F k c = known_met (c == 0) g k
-known_resumed_codes S (Emit s) n g F k c = tt
-known_resumed_codes S (Exit x) n g F k c = tt
 known_resumed_codes S (Present e p q) n g F k c =
     known_disjunction _ _ (known_resumed_codes S p (n + 1) _ F k.1 c) (known_resumed_codes S q (n + 1 + statement_count p) _ F k.2 c)
 known_resumed_codes S (Suspend e p) n g F k c =
@@ -47,14 +44,10 @@ known_resumed_codes S (Par p q) n g F k c =
     (known_over (holds S q r) g _ k.0 (known_resumed_codes S q r _ F k.2)) c
 known_resumed_codes S (Trap p) n g F k c = known_lowered _ (known_resumed_codes S p (n + 1) g F k.1) c
 known_resumed_codes S (Local s p) n g F k c = known_resumed_codes S p (n + 1) g (with_status F s (resumed_decided S p (n + 1) g F s)) k.2 c
-known_resumed_codes S (Awake e p) n g F k c = tt
+known_resumed_codes S _ n g F k c = tt
 
 pub under_known_resumed : (T : Statuses) → ((w : Wire) → IsKnown (T w)) → (S : ℕ → Bool) (t : Term) (n : ℕ) (g : Status) (F : Environment) →
     UnderResumed T S t n g F → KnownResumed S t n g F
-under_known_resumed T a S Nothing n g F u = known_above _ g (a (Go n Resumed)) u.0.0
-under_known_resumed T a S Pause n g F u = known_above _ g (a (Go n Resumed)) u.0.0
-under_known_resumed T a S (Emit s) n g F u = known_above _ g (a (Go n Resumed)) u.0.0
-under_known_resumed T a S (Exit c) n g F u = known_above _ g (a (Go n Resumed)) u.0.0
 under_known_resumed T a S (Present e p q) n g F u = (
   known_above _ g (a (Go n Resumed)) u.0.0,
   under_known_resumed T a S p (n + 1) _ F u.1,
@@ -85,6 +78,7 @@ under_known_resumed T a S (Local s p) n g F u = (
   under_known_resumed T a S p (n + 1) g (with_status F s (resumed_decided S p (n + 1) g F s)) u.2,
 )
 under_known_resumed T a S (Awake e p) n g F u = absurd u
+under_known_resumed T a S _ n g F u = known_above _ g (a (Go n Resumed)) u.0.0
 
 -- the wires of a resumed instance other than a Local
 module _ (T : Statuses) (S : ℕ → Bool) where
@@ -98,14 +92,6 @@ module _ (T : Statuses) (S : ℕ → Bool) where
   pub above_known_resumed : (t : Term) (n : ℕ) (g : Status) (E F : Environment) (B : Scope) (f : Layer → Formula) → FollowsResumed T T S t n E →
       (holds S t n ≡ false → T (Go n Resumed) ≡ Minus) → KnownResumed S t n g F → IsBelow g (T (Go n Resumed)) → KnowsMore F E →
       EachResumed (WiresKnown T) B f t n
-  above_known_resumed Nothing n g E F B f w o k b m =
-      record { go = go_known Nothing n g F k b; ends = ends_known Nothing n g E F w o k b m; status = tt }
-  above_known_resumed Pause n g E F B f w o k b m =
-      record { go = go_known Pause n g F k b; ends = ends_known Pause n g E F w o k b m; status = tt }
-  above_known_resumed (Emit s) n g E F B f w o k b m =
-      record { go = go_known (Emit s) n g F k b; ends = ends_known (Emit s) n g E F w o k b m; status = tt }
-  above_known_resumed (Exit x) n g E F B f w o k b m =
-      record { go = go_known (Exit x) n g F k b; ends = ends_known (Exit x) n g E F w o k b m; status = tt }
   above_known_resumed (Present e p q) n g E F B f w o k b m =
       let r = n + 1 + statement_count p in (
         record { go = go_known (Present e p q) n g F k b; ends = ends_known (Present e p q) n g E F w o k b m; status = tt },
@@ -154,3 +140,5 @@ module _ (T : Statuses) (S : ℕ → Bool) where
             (below_to _ b w.0) (with_status-more s (resumed_decided S p (n + 1) g F s) c m d),
       )
   above_known_resumed (Awake e p) n g E F B f w o k b m = absurd w
+  above_known_resumed t n g E F B f w o k b m =
+      record { go = go_known t n g F k b; ends = ends_known t n g E F w o k b m; status = tt }

@@ -32,10 +32,7 @@ part_below S p n g g' b = conjunction_below g g' _ _ b (below_self (known (holds
 
 pub resumed_below : (S : ℕ → Bool) (t : Term) (n : ℕ) (g h : Status) (E F : Environment) → IsBelow g h → KnowsMore E F →
     Below (resumed_tri S t n g E) (resumed_tri S t n h F)
-resumed_below S Nothing n g h E F b m = below_itself tri_idle
 resumed_below S Pause n g h E F b m = completes_below 0 g h b
-resumed_below S (Emit x) n g h E F b m = below_itself tri_idle
-resumed_below S (Exit c) n g h E F b m = below_itself tri_idle
 resumed_below S (Present e p q) n g h E F b m =
     let r = n + 1 + statement_count p in
     either_below (resumed_below S p (n + 1) _ _ E F (part_below S p (n + 1) g h b) m) (resumed_below S q r _ _ E F (part_below S q r g h b) m)
@@ -61,7 +58,7 @@ resumed_below S (Local x p) n g h E F b m =
     hidden_below x
     (resumed_below S p (n + 1) g h (with_status E x (resumed_decided S p (n + 1) g E x)) (with_status F x (resumed_decided S p (n + 1) h F x)) b
     (with_status-more x (resumed_decided S p (n + 1) g E x) (resumed_decided S p (n + 1) h F x) m v))
-resumed_below S (Awake e p) n g h E F b m = below_itself tri_idle
+resumed_below S _ n g h E F b m = below_itself tri_idle
 
 resumed_again : (S : ℕ → Bool) (p : Term) (n : ℕ) (g : Status) (E : Environment) (s : ℕ) →
     (resumed_tri S p n g (with_status E s (resumed_decided S p n g E s))).signals s ≡ resumed_decided S p n g E s
@@ -73,10 +70,6 @@ resumed_again S p n g E s =
 
 -- the statuses of the emissions in it: in what is resumed, and in what that starts at roots of its own
 abbrev pub resumed_emits : Statuses → Term → ℕ → ℕ → Status
-resumed_emits U Nothing n s = Minus
-resumed_emits U Pause n s = Minus
-resumed_emits U (Emit x) n s = Minus
-resumed_emits U (Exit c) n s = Minus
 resumed_emits U (Present e p q) n s = disjunction (resumed_emits U p (n + 1) s) (resumed_emits U q (n + 1 + statement_count p) s)
 resumed_emits U (Suspend e p) n s = resumed_emits U p (n + 1) s
 resumed_emits U (Seq p q) n s =
@@ -87,7 +80,7 @@ resumed_emits U (Loop at p) n s = disjunction (resumed_emits U p (n + 1) s) (emi
 resumed_emits U (Par p q) n s = disjunction (resumed_emits U p (n + 1) s) (resumed_emits U q (n + 1 + statement_count p) s)
 resumed_emits U (Trap p) n s = resumed_emits U p (n + 1) s
 resumed_emits U (Local x p) n s = where_met (not (s == x)) (resumed_emits U p (n + 1) s)
-resumed_emits U (Awake e p) n s = Minus
+resumed_emits U _ n s = Minus
 
 abbrev pub resumed_place : Statuses → Term → ℕ → Tri
 resumed_place U t n = record { signals = resumed_emits U t n; codes = ends U n Resumed }
@@ -103,10 +96,7 @@ ParallelEnds W U hp hq n c d k =
 
 -- The wires of a resumed statement at n, and of what it starts at roots of its own, follow by their equations.
 abbrev pub FollowsResumed : Statuses → Statuses → (ℕ → Bool) → Term → ℕ → Environment → Type 0
-FollowsResumed W U S Nothing n E = (k : ℕ) → ends W n Resumed k ≡ Minus
 FollowsResumed W U S Pause n E = (k : ℕ) → ends W n Resumed k ≡ where_met (k == 0) (U (Go n Resumed))
-FollowsResumed W U S (Emit s) n E = (k : ℕ) → ends W n Resumed k ≡ Minus
-FollowsResumed W U S (Exit c) n E = (k : ℕ) → ends W n Resumed k ≡ Minus
 FollowsResumed W U S (Present e p q) n E =
     (W (Go (n + 1) Resumed) ≡ part_go (U (Go n Resumed)) S p (n + 1))
     × (W (Go (n + 1 + statement_count p) Resumed) ≡ part_go (U (Go n Resumed)) S q (n + 1 + statement_count p))
@@ -151,6 +141,7 @@ FollowsResumed W U S (Local s p) n E =
     × FollowsResumed W U S p (n + 1) (with_status E s (U (StatusOf n Resumed)))
 -- no body of a program has this form
 FollowsResumed W U S (Awake e p) n E = ⊥
+FollowsResumed W U S _ n E = (k : ℕ) → ends W n Resumed k ≡ Minus
 
 -- ---- a solution knows at least what the walk knows
 
@@ -165,10 +156,7 @@ whole_stops S t n g F b k =
 
 pub above_resumed : (T : Statuses) (S : ℕ → Bool) (t : Term) (n : ℕ) (g : Status) (E F : Environment) → FollowsResumed T T S t n E →
     (holds S t n ≡ false → T (Go n Resumed) ≡ Minus) → IsBelow g (T (Go n Resumed)) → KnowsMore F E → Below (resumed_tri S t n g F) (resumed_place T t n)
-above_resumed T S Nothing n g E F f o b m = record { signals = λ s. refl; codes = f }
 above_resumed T S Pause n g E F f o b m = record { signals = λ s. refl; codes = λ k. below_to _ (met_below (k == 0) g _ b) (f k) }
-above_resumed T S (Emit x) n g E F f o b m = record { signals = λ s. refl; codes = f }
-above_resumed T S (Exit c) n g E F f o b m = record { signals = λ s. refl; codes = f }
 above_resumed T S (Present e p q) n g E F f o b m =
     let r = n + 1 + statement_count p in
     let x = above_resumed T S p (n + 1) _ E F f.3 (part_stops _ S p (n + 1) f.0) (below_to _ (part_below S p (n + 1) g _ b) f.0) m in
@@ -230,6 +218,7 @@ above_resumed T S (Local s p) n g E F f o b m =
       codes = λ k. below_to _ (x.codes k) (f.1 k);
     }
 above_resumed T S (Awake e p) n g E F f o b m = absurd f
+above_resumed T S _ n g E F f o b m = record { signals = λ s. refl; codes = f }
 
 pub above_resumed_decided : (T : Statuses) (S : ℕ → Bool) (s : ℕ) (p : Term) (n : ℕ) (g : Status) (E F : Environment) → FollowsResumed T T S (Local s p) n E →
     (holds S p (n + 1) ≡ false → T (Go n Resumed) ≡ Minus) → IsBelow g (T (Go n Resumed)) → KnowsMore F E →
@@ -245,10 +234,6 @@ abbrev pub UnderHere : Statuses → (ℕ → Bool) → Term → ℕ → Status �
 UnderHere U S t n g F = IsBelow (U (Go n Resumed)) g × ((k : ℕ) → IsBelow (ends U n Resumed k) ((resumed_tri S t n g F).codes k))
 
 abbrev pub UnderResumed : Statuses → (ℕ → Bool) → Term → ℕ → Status → Environment → Type 0
-UnderResumed U S Nothing n g F = UnderHere U S Nothing n g F × Unit {0}
-UnderResumed U S Pause n g F = UnderHere U S Pause n g F × Unit {0}
-UnderResumed U S (Emit s) n g F = UnderHere U S (Emit s) n g F × Unit {0}
-UnderResumed U S (Exit c) n g F = UnderHere U S (Exit c) n g F × Unit {0}
 UnderResumed U S (Present e p q) n g F =
     UnderHere U S (Present e p q) n g F
     × UnderResumed U S p (n + 1) (part_go g S p (n + 1)) F
@@ -275,27 +260,14 @@ UnderResumed U S (Local s p) n g F =
     × UnderResumed U S p (n + 1) g (with_status F s (resumed_decided S p (n + 1) g F s))
 -- no body of a program has this form
 UnderResumed U S (Awake e p) n g F = ⊥
+UnderResumed U S t n g F = UnderHere U S t n g F × Unit {0}
 
 pub under_here : (U : Statuses) (S : ℕ → Bool) (t : Term) (n : ℕ) (g : Status) (F : Environment) → UnderResumed U S t n g F → UnderHere U S t n g F
-under_here U S Nothing n g F u = u.0
-under_here U S Pause n g F u = u.0
-under_here U S (Emit s) n g F u = u.0
-under_here U S (Exit c) n g F u = u.0
-under_here U S (Present e p q) n g F u = u.0
-under_here U S (Suspend e p) n g F u = u.0
-under_here U S (Seq p q) n g F u = u.0
-under_here U S (Loop at p) n g F u = u.0
-under_here U S (Par p q) n g F u = u.0
-under_here U S (Trap p) n g F u = u.0
-under_here U S (Local s p) n g F u = u.0
 under_here U S (Awake e p) n g F u = absurd u
+under_here U S _ n g F u = u.0
 
 pub under_resumed_emits : (U : Statuses) (S : ℕ → Bool) (t : Term) (n : ℕ) (g : Status) (F : Environment) → UnderResumed U S t n g F → (s : ℕ) →
     IsBelow (resumed_emits U t n s) ((resumed_tri S t n g F).signals s)
-under_resumed_emits U S Nothing n g F u s = refl
-under_resumed_emits U S Pause n g F u s = refl
-under_resumed_emits U S (Emit x) n g F u s = refl
-under_resumed_emits U S (Exit c) n g F u s = refl
 under_resumed_emits U S (Present e p q) n g F u s =
     disjunction_below _ _ _ _ (under_resumed_emits U S p (n + 1) _ F u.1 s) (under_resumed_emits U S q (n + 1 + statement_count p) _ F u.2 s)
 under_resumed_emits U S (Suspend e p) n g F u s = under_resumed_emits U S p (n + 1) _ F u.1 s
@@ -312,6 +284,7 @@ under_resumed_emits U S (Trap p) n g F u s = under_resumed_emits U S p (n + 1) g
 under_resumed_emits U S (Local x p) n g F u s =
     met_below (not (s == x)) _ _ (under_resumed_emits U S p (n + 1) g (with_status F x (resumed_decided S p (n + 1) g F x)) u.2 s)
 under_resumed_emits U S (Awake e p) n g F u s = absurd u
+under_resumed_emits U S _ n g F u s = refl
 
 -- what is below the codes of a part
 part_ends : (U : Statuses) (S : ℕ → Bool) (t : Term) (n : ℕ) (g : Status) (F : Environment) → UnderResumed U S t n g F → (k : ℕ) →
@@ -323,10 +296,7 @@ part_silent S p n g h = ap (λ b. conjunction g (known b)) h ∙ conjunction-min
 
 pub stays_resumed : (W U : Statuses) (S : ℕ → Bool) (t : Term) (n : ℕ) (g : Status) (E F : Environment) → FollowsResumed W U S t n E → KnowsMore E F →
     (holds S t n ≡ false → g ≡ Minus) → UnderResumed U S t n g F → IsBelow (W (Go n Resumed)) g → UnderResumed W S t n g F
-stays_resumed W U S Nothing n g E F f m o u h = ((h, λ k. to_below Minus refl (f k)), tt)
 stays_resumed W U S Pause n g E F f m o u h = ((h, λ k. to_below _ (met_below (k == 0) _ g u.0.0) (f k)), tt)
-stays_resumed W U S (Emit s) n g E F f m o u h = ((h, λ k. to_below Minus refl (f k)), tt)
-stays_resumed W U S (Exit c) n g E F f m o u h = ((h, λ k. to_below Minus refl (f k)), tt)
 stays_resumed W U S (Present e p q) n g E F f m o u h =
     let r = n + 1 + statement_count p in (
       (h, λ k. to_below _ (disjunction_below _ _ _ _ (part_ends U S p (n + 1) _ F u.1 k) (part_ends U S q r _ F u.2 k)) (f.2 k)),
@@ -398,3 +368,4 @@ stays_resumed W U S (Local s p) n g E F f m o u h =
           (to_below _ u.0.0 f.0),
     )
 stays_resumed W U S (Awake e p) n g E F f m o u h = absurd f
+stays_resumed W U S _ n g E F f m o u h = ((h, λ k. to_below Minus refl (f k)), tt)

@@ -27,10 +27,7 @@ part_go g S p n = conjunction g (known (holds S p n))
 
 -- The walk of what is left of a statement at n, where it runs with status g.
 abbrev pub resumed_tri : (ℕ → Bool) → Term → ℕ → Status → Environment → Tri
-resumed_tri S Nothing n g E = tri_idle
 resumed_tri S Pause n g E = tri_completes 0 g
-resumed_tri S (Emit s) n g E = tri_idle
-resumed_tri S (Exit c) n g E = tri_idle
 resumed_tri S (Present e p q) n g E =
     tri_either (resumed_tri S p (n + 1) (part_go g S p (n + 1)) E)
     (resumed_tri S q (n + 1 + statement_count p) (part_go g S q (n + 1 + statement_count p)) E)
@@ -50,7 +47,7 @@ resumed_tri S (Par p q) n g E =
 resumed_tri S (Trap p) n g E = tri_trapped (resumed_tri S p (n + 1) g E)
 resumed_tri S (Local s p) n g E =
     tri_hidden s (resumed_tri S p (n + 1) g (with_status E s ((resumed_tri S p (n + 1) g (with_status E s Unknown)).signals s)))
-resumed_tri S (Awake e p) n g E = tri_idle
+resumed_tri S _ n g E = tri_idle
 
 -- the status that the walk of what is left of a body gives a local signal
 abbrev pub resumed_decided : (ℕ → Bool) → Term → ℕ → Status → Environment → ℕ → Status
@@ -58,10 +55,6 @@ resumed_decided S p n g E s = (resumed_tri S p n g (with_status E s Unknown)).si
 
 -- In that walk it is known of each place whether it runs, and of each local signal whether it is present.
 abbrev pub KnownResumed : (ℕ → Bool) → Term → ℕ → Status → Environment → Type 0
-KnownResumed S Nothing n g E = IsKnown g
-KnownResumed S Pause n g E = IsKnown g
-KnownResumed S (Emit s) n g E = IsKnown g
-KnownResumed S (Exit c) n g E = IsKnown g
 KnownResumed S (Present e p q) n g E =
     IsKnown g
     × KnownResumed S p (n + 1) (part_go g S p (n + 1)) E
@@ -83,7 +76,7 @@ KnownResumed S (Local s p) n g E =
     IsKnown g
     × IsKnown (resumed_decided S p (n + 1) g E s)
     × KnownResumed S p (n + 1) g (with_status E s (resumed_decided S p (n + 1) g E s))
-KnownResumed S (Awake e p) n g E = IsKnown g
+KnownResumed S _ n g E = IsKnown g
 
 -- ---- what does not run does nothing
 
@@ -123,10 +116,7 @@ branch_idle : (h : Bool) → tri_branch h Minus tri_idle ≡ tri_idle
 branch_idle h = λ i. record { signals = λ t. Minus; codes = λ k. over_idle h k i }
 
 pub silent : (S : ℕ → Bool) (t : Term) (n : ℕ) (E : Environment) → resumed_tri S t n Minus E ≡ tri_idle
-silent S Nothing n E = refl
 silent S Pause n E = completes_idle 0
-silent S (Emit s) n E = refl
-silent S (Exit c) n E = refl
 silent S (Present e p q) n E =
     ap (λ a. tri_either a (resumed_tri S q (n + 1 + statement_count p) Minus E)) (silent S p (n + 1) E)
     ∙ ap (λ b. tri_either tri_idle b) (silent S q (n + 1 + statement_count p) E)
@@ -151,14 +141,13 @@ silent S (Par p q) n E =
 silent S (Trap p) n E = ap (λ a. tri_trapped a) (silent S p (n + 1) E) ∙ trapped_idle
 silent S (Local s p) n E =
     ap (λ a. tri_hidden s a) (silent S p (n + 1) (with_status E s (resumed_decided S p (n + 1) Minus E s))) ∙ hidden_idle s
-silent S (Awake e p) n E = refl
+silent S _ n E = refl
 
 -- ---- a part that holds no selected pause, and one that holds one
 
 pub conjunction_plus : (g : Status) → conjunction g Plus ≡ g
 conjunction_plus Plus = refl
-conjunction_plus Minus = refl
-conjunction_plus Unknown = refl
+conjunction_plus _ = refl
 
 pub part_on : (g : Status) (S : ℕ → Bool) (p : Term) (n : ℕ) → holds S p n ≡ true → part_go g S p n ≡ g
 part_on g S p n e = ap (λ b. conjunction g (known b)) e ∙ conjunction_plus g
@@ -216,10 +205,7 @@ branch_same S p n g E false h f = ap (λ a. tri_branch false g a) (idle_part S p
 
 pub left_walk : (S : ℕ → Bool) (t : Term) (n : ℕ) (g : Status) (E : Environment) → IsSelected S t n → holds S t n ≡ true →
     resumed_tri S t n g E ≡ tri (residual S t n) g E
-left_walk S Nothing n g E s h = absurd (false≢true h)
 left_walk S Pause n g E s h = refl
-left_walk S (Emit x) n g E s h = absurd (false≢true h)
-left_walk S (Exit c) n g E s h = absurd (false≢true h)
 left_walk S (Present e p q) n g E s h =
     choice_same S p q (n + 1) (n + 1 + statement_count p) g E (holds S p (n + 1)) refl s.0 h
     (λ z. left_walk S p (n + 1) g E (s.1 z) z) (λ z. left_walk S q (n + 1 + statement_count p) g E (s.2 z) z)
@@ -242,16 +228,12 @@ left_walk S (Local x p) n g E s h =
     let v = left_walk S p (n + 1) g (with_status E x Unknown) s h in
     ap (λ a. tri_hidden x (resumed_tri S p (n + 1) g (with_status E x (a.signals x)))) v
     ∙ ap (λ a. tri_hidden x a) (left_walk S p (n + 1) g (with_status E x (tri_decided (residual S p (n + 1)) g E x)) s h)
-left_walk S (Awake e p) n g E s h = absurd (false≢true h)
+left_walk S _ n g E s h = absurd (false≢true h)
 
 -- ---- and asks for nothing else
 
 -- what does not run asks for nothing
 pub quiet_known : (S : ℕ → Bool) (t : Term) (n : ℕ) (E : Environment) → KnownResumed S t n Minus E
-quiet_known S Nothing n E = tt
-quiet_known S Pause n E = tt
-quiet_known S (Emit x) n E = tt
-quiet_known S (Exit c) n E = tt
 quiet_known S (Present e p q) n E = (tt, quiet_known S p (n + 1) E, quiet_known S q (n + 1 + statement_count p) E)
 quiet_known S (Suspend e p) n E = (tt, quiet_known S p (n + 1) E)
 quiet_known S (Seq p q) n E = (
@@ -269,21 +251,15 @@ quiet_known S (Local x p) n E = (
   subst (λ a. IsKnown (a.signals x)) (sym (silent S p (n + 1) (with_status E x Unknown))) tt,
   quiet_known S p (n + 1) (with_status E x (resumed_decided S p (n + 1) Minus E x)),
 )
-quiet_known S (Awake e p) n E = tt
+quiet_known S _ n E = tt
 
 pub resumed_go : (S : ℕ → Bool) (t : Term) (n : ℕ) (g : Status) (E : Environment) → KnownResumed S t n g E → IsKnown g
 resumed_go S Nothing n g E k = k
 resumed_go S Pause n g E k = k
 resumed_go S (Emit x) n g E k = k
 resumed_go S (Exit c) n g E k = k
-resumed_go S (Present e p q) n g E k = k.0
-resumed_go S (Suspend e p) n g E k = k.0
-resumed_go S (Seq p q) n g E k = k.0
-resumed_go S (Loop at p) n g E k = k.0
-resumed_go S (Par p q) n g E k = k.0
-resumed_go S (Trap p) n g E k = k.0
-resumed_go S (Local x p) n g E k = k.0
 resumed_go S (Awake e p) n g E k = k
+resumed_go S _ n g E k = k.0
 
 -- a part, by whether it holds a selected pause
 on_known : (S : ℕ → Bool) (p : Term) (n : ℕ) (g : Status) (E : Environment) → holds S p n ≡ true → KnownResumed S p n (part_go g S p n) E
@@ -357,10 +333,7 @@ left_go S t n g E k = known_go (residual S t n) g E k
 
 pub left_known : (S : ℕ → Bool) (t : Term) (n : ℕ) (g : Status) (E : Environment) → IsSelected S t n → holds S t n ≡ true → KnownResumed S t n g E →
     Known (residual S t n) g E
-left_known S Nothing n g E s h k = absurd (false≢true h)
 left_known S Pause n g E s h k = k
-left_known S (Emit x) n g E s h k = absurd (false≢true h)
-left_known S (Exit c) n g E s h k = absurd (false≢true h)
 left_known S (Present e p q) n g E s h k =
     let m = n + 1 + statement_count p in
     choice_left S p q (n + 1) m g E (holds S p (n + 1)) refl h
@@ -388,14 +361,11 @@ left_known S (Local x p) n g E s h k =
       left_known S p (n + 1) g (with_status E x (tri_decided (residual S p (n + 1)) g E x)) s h
           (subst (λ v. KnownResumed S p (n + 1) g (with_status E x v)) d k.2),
     )
-left_known S (Awake e p) n g E s h k = absurd (false≢true h)
+left_known S _ n g E s h k = absurd (false≢true h)
 
 pub known_left : (S : ℕ → Bool) (t : Term) (n : ℕ) (g : Status) (E : Environment) → IsSelected S t n → holds S t n ≡ true → Known (residual S t n) g E →
     KnownResumed S t n g E
-known_left S Nothing n g E s h k = absurd (false≢true h)
 known_left S Pause n g E s h k = k
-known_left S (Emit x) n g E s h k = absurd (false≢true h)
-known_left S (Exit c) n g E s h k = absurd (false≢true h)
 known_left S (Present e p q) n g E s h k =
     let m = n + 1 + statement_count p in
     let parts = left_choice S p q (n + 1) m g E (holds S p (n + 1)) refl s.0 h
@@ -424,4 +394,4 @@ known_left S (Local x p) n g E s h k =
       subst (λ v. KnownResumed S p (n + 1) g (with_status E x v)) (sym d)
           (known_left S p (n + 1) g (with_status E x (tri_decided (residual S p (n + 1)) g E x)) s h k.2),
     )
-known_left S (Awake e p) n g E s h k = absurd (false≢true h)
+known_left S _ n g E s h k = absurd (false≢true h)

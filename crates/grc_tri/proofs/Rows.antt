@@ -48,10 +48,6 @@ lived_at : (L : ℕ → List Layer) (B : Scope) (f : Layer → Formula) (t : Ter
 lived_at L B f t n = lived_spots L B f t n (L n) (layers_live (L n))
 
 lived : (L : ℕ → List Layer) (B : Scope) (f : Layer → Formula) (t : Term) (n : ℕ) → Every (Lived L) (spots L B f t n)
-lived L B f Nothing n = lived_at L B f Nothing n
-lived L B f Pause n = lived_at L B f Pause n
-lived L B f (Emit s) n = lived_at L B f (Emit s) n
-lived L B f (Exit c) n = lived_at L B f (Exit c) n
 lived L B f (Present e p q) n =
     every-append (Lived L) (spots_at L B f (Present e p q) n) _ (lived_at L B f (Present e p q) n)
     (every-append (Lived L) (spots L B _ p (n + 1)) _ (lived L B _ p (n + 1)) (lived L B _ q (n + 1 + statement_count p)))
@@ -68,6 +64,7 @@ lived L B f (Trap p) n = every-append (Lived L) (spots_at L B f (Trap p) n) _ (l
 lived L B f (Local s p) n =
     every-append (Lived L) (spots_at L B f (Local s p) n) _ (lived_at L B f (Local s p) n) (lived L (bind B s n) _ p (n + 1))
 lived L B f (Awake e p) n = every-append (Lived L) (spots_at L B f (Awake e p) n) _ (lived_at L B f (Awake e p) n) (lived L B _ p (n + 1))
+lived L B f t n = lived_at L B f t n
 
 -- ---- the wires of a place where nothing is live are none of an instance's
 
@@ -86,31 +83,11 @@ module _ (all : List Spot) (L : ℕ → List Layer) (n : ℕ) (l : Layer) (out :
 
   go_status : (t : Term) → list_any (λ e. same_wire (Go n l) e.wire) (instance_status all t y.path y.layer) ≡ false
   go_status Nothing = refl
-  go_status Pause = refl
-  go_status (Emit s) = refl
-  go_status (Exit c) = refl
-  go_status (Present e p q) = refl
-  go_status (Suspend e p) = refl
-  go_status (Seq p q) = refl
-  go_status (Loop at p) = refl
-  go_status (Par p q) = refl
-  go_status (Trap p) = refl
-  go_status (Local s p) = refl
-  go_status (Awake e p) = refl
+  go_status _ = refl
 
   own_status : (t : Term) → list_any (λ e. same_wire (StatusOf n l) e.wire) (instance_status all t y.path y.layer) ≡ false
-  own_status Nothing = refl
-  own_status Pause = refl
-  own_status (Emit s) = refl
-  own_status (Exit c) = refl
-  own_status (Present e p q) = refl
-  own_status (Suspend e p) = refl
-  own_status (Seq p q) = refl
-  own_status (Loop at p) = refl
-  own_status (Par p q) = refl
-  own_status (Trap p) = refl
   own_status (Local s p) = ap (λ b. b || false) apart
-  own_status (Awake e p) = refl
+  own_status _ = refl
 
   go_out : list_any (λ e. same_wire (Go n l) e.wire) (instance_equations all y) ≡ false
   go_out =
@@ -212,16 +189,6 @@ module _ (inputs outs given_count : ℕ) (body : Term) where
             ++ map (λ k. record { wire = End n l k; formula = end_formula B t n l k }) (listed (instance_codes t l)))) →
             ((k : ℕ) → instance_codes t l k ≡ false → W (End n l k) ≡ Minus) → ((k : ℕ) → instance_codes t l k ≡ false → U (End n l k) ≡ Minus) →
             Next body q given W U all (record { statement = t; path = n; layer = l; scope = B; entry = x.entry })
-        go B Nothing n l b h d u = record { go = h.0; ends = ends_met B Nothing n l b h.1 d; status = tt; dead = u }
-        go B Pause n l b h d u = record { go = h.0; ends = ends_met B Pause n l b h.1 d; status = tt; dead = u }
-        go B (Emit s) n l b h d u = record { go = h.0; ends = ends_met B (Emit s) n l b h.1 d; status = tt; dead = u }
-        go B (Exit c) n l b h d u = record { go = h.0; ends = ends_met B (Exit c) n l b h.1 d; status = tt; dead = u }
-        go B (Present e p p2) n l b h d u = record { go = h.0; ends = ends_met B (Present e p p2) n l b h.1 d; status = tt; dead = u }
-        go B (Suspend e p) n l b h d u = record { go = h.0; ends = ends_met B (Suspend e p) n l b h.1 d; status = tt; dead = u }
-        go B (Seq p p2) n l b h d u = record { go = h.0; ends = ends_met B (Seq p p2) n l b h.1 d; status = tt; dead = u }
-        go B (Loop at p) n l b h d u = record { go = h.0; ends = ends_met B (Loop at p) n l b h.1 d; status = tt; dead = u }
-        go B (Par p p2) n l b h d u = record { go = h.0; ends = ends_met B (Par p p2) n l b h.1 d; status = tt; dead = u }
-        go B (Trap p) n l b h d u = record { go = h.0; ends = ends_met B (Trap p) n l b h.1 d; status = tt; dead = u }
         go B (Local s p) n l b h d u = record {
           go = h.0;
           ends = ends_met B (Local s p) n l b h.1.1 d;
@@ -229,6 +196,7 @@ module _ (inputs outs given_count : ℕ) (body : Term) where
           dead = u;
         }
         go B (Awake e p) n l b h d u = absurd b
+        go B t n l b h d u = record { go = h.0; ends = ends_met B t n l b h.1 d; status = tt; dead = u }
 
     -- what the rows of all instances give, by layers
     pub each_next : HasExitCodes body → Every RowMet rows → Off W → Off U →

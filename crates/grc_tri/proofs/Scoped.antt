@@ -13,10 +13,9 @@ has_value Unbound = false
 has_value b = true
 
 abbrev pub has_status : Binding → Bool
-has_status Entering = false
 has_status Outgoing = true
 has_status (BoundAt b) = true
-has_status Unbound = false
+has_status _ = false
 
 abbrev pub TestInScope : Scope → Expression → Type 0
 TestInScope B Tick = Unit {0}
@@ -26,10 +25,7 @@ TestInScope B (And a b) = TestInScope B a × TestInScope B b
 TestInScope B (Or a b) = TestInScope B a × TestInScope B b
 
 abbrev pub InScope : Scope → Term → Type 0
-InScope B Nothing = Unit {0}
-InScope B Pause = Unit {0}
 InScope B (Emit s) = has_status (B s) ≡ true
-InScope B (Exit k) = Unit {0}
 InScope B (Present e p q) = TestInScope B e × InScope B p × InScope B q
 InScope B (Suspend e p) = TestInScope B e × InScope B p
 InScope B (Seq p q) = InScope B p × InScope B q
@@ -37,7 +33,7 @@ InScope B (Loop at p) = InScope B p
 InScope B (Par p q) = InScope B p × InScope B q
 InScope B (Trap p) = InScope B p
 InScope B (Local s p) = (m : ℕ) → InScope (bind B s m) p
-InScope B (Awake e p) = Unit {0}
+InScope B _ = Unit {0}
 
 record Sighted (inputs : ℕ) (B : Scope) (visible : ℕ → Bool) : Type 0 where
   pub value : (s : ℕ) → visible s ≡ true → has_value (B s) ≡ true
@@ -59,10 +55,7 @@ test_scope (Or a b) k h = (test_scope a k h.0, test_scope b k h.1)
 
 term_scope : (inputs interface all : ℕ) (t : Term) (B : Scope) (visible : ℕ → Bool) → Sighted inputs B visible → SignalsFit inputs interface all visible t →
     InScope B t
-term_scope n i a Nothing B u k h = tt
-term_scope n i a Pause B u k h = tt
 term_scope n i a (Emit s) B u k h = k.status s h.0 h.1
-term_scope n i a (Exit c) B u k h = tt
 term_scope n i a (Present e p q) B u k h = (test_scope e k h.0, term_scope n i a p B u k h.1, term_scope n i a q B u k h.2)
 term_scope n i a (Suspend e p) B u k h = (test_scope e k h.0, term_scope n i a p B u k h.1)
 term_scope n i a (Seq p q) B u k h = (term_scope n i a p B u k h.0, term_scope n i a q B u k h.1)
@@ -70,7 +63,7 @@ term_scope n i a (Loop at p) B u k h = term_scope n i a p B u k h
 term_scope n i a (Par p q) B u k h = (term_scope n i a p B u k h.0, term_scope n i a q B u k h.1)
 term_scope n i a (Trap p) B u k h = term_scope n i a p B u k h
 term_scope n i a (Local s p) B u k h = λ m. term_scope n i a p (bind B s m) (with_signal s u) (sighted_more s m k) h.2
-term_scope n i a (Awake e p) B u k h = tt
+term_scope n i a _ B u k h = tt
 
 sighted_top : (inputs interface : ℕ) → inputs ≤ interface → Sighted inputs (program_scope inputs interface) (λ s. ltb s interface)
 sighted_top inputs interface u =

@@ -35,9 +35,8 @@ upto_status_below A B f (suc k) =
 
 -- one more where the status is unknown
 abbrev one_more : Status → ℕ → ℕ
-one_more Plus n = n
-one_more Minus n = n
 one_more Unknown n = suc n
+one_more _ n = n
 
 pub unknowns : Statuses → List Equation → ℕ
 unknowns T [] = 0
@@ -71,9 +70,8 @@ fewer_or_alike T U b (e ∷ es) =
     lost v w e l = subst (λ x. one_more x (unknowns U es) < one_more v (unknowns T es)) e (same v)
       where
         same : (v : Status) → one_more v (unknowns U es) < one_more v (unknowns T es)
-        same Plus = l
-        same Minus = l
         same Unknown = omega arith
+        same _ = l
 
 module _ (g : PlainGraph) (q : State) (event : List Bool) where
   abbrev pub status : Statuses → Formula → Status
@@ -81,11 +79,7 @@ module _ (g : PlainGraph) (q : State) (event : List Bool) where
 
   -- the more is known of wires, the more is known of each formula
   pub formula_below : (T U : Statuses) → AllBelow T U → (a : Formula) → IsBelow (status T a) (status U a)
-  formula_below T U b (Const c) = below_self _
-  formula_below T U b Boot = below_self _
-  formula_below T U b (Input s) = below_self _
   formula_below T U b (Value w) = b w
-  formula_below T U b (Selected n) = below_self _
   formula_below T U b (Upto n l k) = upto_status_below (λ j. T (End n l j)) (λ j. U (End n l j)) (λ j. b (End n l j)) k
   formula_below T U b (Kept n l) = tt
   formula_below T U b (Held n l) = tt
@@ -94,6 +88,7 @@ module _ (g : PlainGraph) (q : State) (event : List Bool) where
       conjunction_below (status T a) (status U a) (status T c) (status U c) (formula_below T U b a) (formula_below T U b c)
   formula_below T U b (Disjunction a c) =
       disjunction_below (status T a) (status U a) (status T c) (status U c) (formula_below T U b a) (formula_below T U b c)
+  formula_below T U b _ = below_self _
 
   -- ---- the next stage: the status of the first equation of a wire; of no wire false
 

@@ -52,12 +52,8 @@ minus_lowered (suc (suc k)) = refl
 
 pub quiet_follows : (W U : Statuses) (t : Term) (n : ℕ) (l : Layer) (E : Environment) → HasExitCodes t → Quiet W l n (statement_count t) →
     Quiet U l n (statement_count t) → Follows W U t n l E
-quiet_follows W U Nothing n l E k v u = λ c.
-    (v.at n (omega arith) (omega arith)).2 c ∙ sym (ap (λ x. where_met (c == 0) x) (u.at n (omega arith) (omega arith)).0 ∙ met_absent (c == 0))
 quiet_follows W U Pause n l E k v u = λ c.
     (v.at n (omega arith) (omega arith)).2 c ∙ sym (ap (λ x. where_met (c == 1) x) (u.at n (omega arith) (omega arith)).0 ∙ met_absent (c == 1))
-quiet_follows W U (Emit s) n l E k v u = λ c.
-    (v.at n (omega arith) (omega arith)).2 c ∙ sym (ap (λ x. where_met (c == 0) x) (u.at n (omega arith) (omega arith)).0 ∙ met_absent (c == 0))
 quiet_follows W U (Exit y) n l E k v u = λ c.
     (v.at n (omega arith) (omega arith)).2 c ∙ sym (ap (λ x. where_met (c == y) x) (u.at n (omega arith) (omega arith)).0 ∙ met_absent (c == y))
 quiet_follows W U (Present e p q) n l E k v u =
@@ -120,6 +116,8 @@ quiet_follows W U (Local s p) n l E k v u = (
   quiet_follows W U p (n + 1) l (with_status E s (U (StatusOf n l))) k (quiet_only n _ v) (quiet_only n _ u),
 )
 quiet_follows W U (Awake e p) n l E k v u = absurd k
+quiet_follows W U _ n l E k v u = λ c.
+    (v.at n (omega arith) (omega arith)).2 c ∙ sym (ap (λ x. where_met (c == 0) x) (u.at n (omega arith) (omega arith)).0 ∙ met_absent (c == 0))
 
 -- ---- the wires of an instance
 
@@ -215,10 +213,6 @@ module _ (body : Term) (q : State) (given : Values) (W U : Statuses) (all : List
     pub follows_started : (a : Liveness) (t : Term) (B : Scope) (g : Layer → Formula) (n r : ℕ) (E : Environment) → Agrees L a t n → Root r a.roots → r ≤ n →
         NoInstantLoop t → HasExitCodes t → InScope B t → Above B n → WholeRails U all L B g t n → EachStarted Next B g t n (Started r) →
         SeesStatuses body q given U B (Started r) E → Follows W U t n (Started r) E
-    follows_started a Nothing B g n r E ag i l nl k sc ab w x s = x.ends
-    follows_started a Pause B g n r E ag i l nl k sc ab w x s = x.ends
-    follows_started a (Emit y) B g n r E ag i l nl k sc ab w x s = x.ends
-    follows_started a (Exit y) B g n r E ag i l nl k sc ab w x s = x.ends
     follows_started a (Present e p p2) B g n r E ag i l nl k sc ab w x s =
         let m = n + 1 + statement_count p in
         let t = Present e p p2 in
@@ -359,3 +353,4 @@ module _ (body : Term) (q : State) (given : Values) (W U : Statuses) (all : List
               (sees_more body q given U B n z y E (above_within n r l) s),
         )
     follows_started a (Awake e p) B g n r E ag i l nl k sc ab w x s = absurd k
+    follows_started a _ B g n r E ag i l nl k sc ab w x s = x.ends

@@ -21,10 +21,7 @@ use Rattle.grc_tri.specs.LeastSolutions.{Statuses}
 
 -- what the walk's place is on the wires: the statuses of the emissions, and of the ends
 abbrev pub emits : Statuses → Term → ℕ → Layer → ℕ → Status
-emits U Nothing n l s = Minus
-emits U Pause n l s = Minus
 emits U (Emit x) n l s = where_met (s == x) (U (Go n l))
-emits U (Exit c) n l s = Minus
 emits U (Present e p q) n l s = disjunction (emits U p (n + 1) l s) (emits U q (n + 1 + statement_count p) l s)
 emits U (Suspend e p) n l s = emits U p (n + 1) l s
 emits U (Seq p q) n l s = disjunction (emits U p (n + 1) l s) (emits U q (n + 1 + statement_count p) l s)
@@ -32,7 +29,7 @@ emits U (Loop at p) n l s = emits U p (n + 1) l s
 emits U (Par p q) n l s = disjunction (emits U p (n + 1) l s) (emits U q (n + 1 + statement_count p) l s)
 emits U (Trap p) n l s = emits U p (n + 1) l s
 emits U (Local x p) n l s = where_met (not (s == x)) (emits U p (n + 1) l s)
-emits U (Awake e p) n l s = Minus
+emits U _ n l s = Minus
 
 abbrev pub ends : Statuses → ℕ → Layer → ℕ → Status
 ends U n l k = U (End n l k)
@@ -43,9 +40,7 @@ place U t n l = record { signals = emits U t n l; codes = ends U n l }
 -- The wires of a started statement at n in a layer follow by their equations, where its tests see the environment. A
 -- wire that the graph does not have counts as well: it is false.
 abbrev pub Follows : Statuses → Statuses → Term → ℕ → Layer → Environment → Type 0
-Follows W U Nothing n l E = (k : ℕ) → ends W n l k ≡ where_met (k == 0) (U (Go n l))
 Follows W U Pause n l E = (k : ℕ) → ends W n l k ≡ where_met (k == 1) (U (Go n l))
-Follows W U (Emit s) n l E = (k : ℕ) → ends W n l k ≡ where_met (k == 0) (U (Go n l))
 Follows W U (Exit c) n l E = (k : ℕ) → ends W n l k ≡ where_met (k == c) (U (Go n l))
 Follows W U (Present e p q) n l E =
     (W (Go (n + 1) l) ≡ conjunction (U (Go n l)) (value e E))
@@ -78,6 +73,7 @@ Follows W U (Local s p) n l E =
     × Follows W U p (n + 1) l (with_status E s (U (StatusOf n l)))
 -- no body of a program has this form
 Follows W U (Awake e p) n l E = ⊥
+Follows W U _ n l E = (k : ℕ) → ends W n l k ≡ where_met (k == 0) (U (Go n l))
 
 -- ---- a solution knows at least what the walk knows
 
@@ -155,10 +151,6 @@ above_decided T s p n l g E F f b m =
 
 -- Whether the places run, with what codes they end and the statuses of the Locals are below what the walk knows.
 abbrev pub Under : Statuses → Term → ℕ → Layer → Status → Environment → Type 0
-Under U Nothing n l g F = IsBelow (U (Go n l)) g × ((k : ℕ) → IsBelow (ends U n l k) ((tri Nothing g F).codes k))
-Under U Pause n l g F = IsBelow (U (Go n l)) g × ((k : ℕ) → IsBelow (ends U n l k) ((tri Pause g F).codes k))
-Under U (Emit s) n l g F = IsBelow (U (Go n l)) g × ((k : ℕ) → IsBelow (ends U n l k) ((tri (Emit s) g F).codes k))
-Under U (Exit c) n l g F = IsBelow (U (Go n l)) g × ((k : ℕ) → IsBelow (ends U n l k) ((tri (Exit c) g F).codes k))
 Under U (Present e p q) n l g F =
     IsBelow (U (Go n l)) g
     × ((k : ℕ) → IsBelow (ends U n l k) ((tri (Present e p q) g F).codes k))
@@ -187,28 +179,16 @@ Under U (Local s p) n l g F =
     × Under U p (n + 1) l g (with_status F s (tri_decided p g F s))
 -- no body of a program has this form
 Under U (Awake e p) n l g F = ⊥
+Under U t n l g F = IsBelow (U (Go n l)) g × ((k : ℕ) → IsBelow (ends U n l k) ((tri t g F).codes k))
 
 pub under_ends : (U : Statuses) (t : Term) (n : ℕ) (l : Layer) (g : Status) (F : Environment) → Under U t n l g F → (k : ℕ) →
     IsBelow (ends U n l k) ((tri t g F).codes k)
-under_ends U Nothing n l g F u = u.1
-under_ends U Pause n l g F u = u.1
-under_ends U (Emit s) n l g F u = u.1
-under_ends U (Exit c) n l g F u = u.1
-under_ends U (Present e p q) n l g F u = u.1
-under_ends U (Suspend e p) n l g F u = u.1
-under_ends U (Seq p q) n l g F u = u.1
-under_ends U (Loop at p) n l g F u = u.1
-under_ends U (Par p q) n l g F u = u.1
-under_ends U (Trap p) n l g F u = u.1
-under_ends U (Local s p) n l g F u = u.1
 under_ends U (Awake e p) n l g F u = absurd u
+under_ends U _ n l g F u = u.1
 
 pub under_emits : (U : Statuses) (t : Term) (n : ℕ) (l : Layer) (g : Status) (F : Environment) → Under U t n l g F → (s : ℕ) →
     IsBelow (emits U t n l s) ((tri t g F).signals s)
-under_emits U Nothing n l g F u s = refl
-under_emits U Pause n l g F u s = refl
 under_emits U (Emit x) n l g F u s = met_below (s == x) (U (Go n l)) g u.0
-under_emits U (Exit c) n l g F u s = refl
 under_emits U (Present e p q) n l g F u s =
     disjunction_below _ _ _ _ (under_emits U p (n + 1) l _ F u.2 s) (under_emits U q (n + 1 + statement_count p) l _ F u.3 s)
 under_emits U (Suspend e p) n l g F u s = under_emits U p (n + 1) l g F u.2 s
@@ -221,13 +201,12 @@ under_emits U (Trap p) n l g F u s = under_emits U p (n + 1) l g F u.2 s
 under_emits U (Local x p) n l g F u s =
     met_below (not (s == x)) _ _ (under_emits U p (n + 1) l g (with_status F x (tri_decided p g F x)) u.3 s)
 under_emits U (Awake e p) n l g F u s = absurd u
+under_emits U _ n l g F u s = refl
 
 -- Statuses that follow from such ones know no more than the walk either.
 pub stays_under : (W U : Statuses) (t : Term) (n : ℕ) (l : Layer) (g : Status) (E F : Environment) → Follows W U t n l E → KnowsMore E F → Under U t n l g F →
     IsBelow (W (Go n l)) g → Under W t n l g F
-stays_under W U Nothing n l g E F f m u h = (h, λ k. to_below _ (met_below (k == 0) (U (Go n l)) g u.0) (f k))
 stays_under W U Pause n l g E F f m u h = (h, λ k. to_below _ (met_below (k == 1) (U (Go n l)) g u.0) (f k))
-stays_under W U (Emit s) n l g E F f m u h = (h, λ k. to_below _ (met_below (k == 0) (U (Go n l)) g u.0) (f k))
 stays_under W U (Exit c) n l g E F f m u h = (h, λ k. to_below _ (met_below (k == c) (U (Go n l)) g u.0) (f k))
 stays_under W U (Present e p q) n l g E F f m u h =
     let r = n + 1 + statement_count p in
@@ -276,13 +255,13 @@ stays_under W U (Local s p) n l g E F f m u h =
       stays_under W U p (n + 1) l g (with_status E s (U (StatusOf n l))) G f.3 (with_status-more s (U (StatusOf n l)) d m u.2) u.3 (to_below _ u.0 f.0),
     )
 stays_under W U (Awake e p) n l g E F f m u h = absurd f
+stays_under W U _ n l g E F f m u h = (h, λ k. to_below _ (met_below (k == 0) (U (Go n l)) g u.0) (f k))
 
 -- ---- nothing is unknown
 
 pub known_above : (v w : Status) → IsKnown v → IsBelow v w → IsKnown w
-known_above Plus w k b = subst IsKnown (sym b) tt
-known_above Minus w k b = subst IsKnown (sym b) tt
 known_above Unknown w k b = absurd k
+known_above _ w k b = subst IsKnown (sym b) tt
 
 pub known_met : (b : Bool) (v : Status) → IsKnown v → IsKnown (where_met b v)
 known_met true v k = k
@@ -321,9 +300,7 @@ unopposed Unknown v k i = absurd k
 
 -- where the walk asks for nothing unknown, it is known with what codes it ends
 pub known_codes : (t : Term) (g : Status) (F : Environment) → Known t g F → (k : ℕ) → IsKnown ((tri t g F).codes k)
-known_codes Nothing g F k c = known_met (c == 0) g k
 known_codes Pause g F k c = known_met (c == 1) g k
-known_codes (Emit s) g F k c = known_met (c == 0) g k
 known_codes (Exit x) g F k c = known_met (c == x) g k
 known_codes (Present e p q) g F k c = known_disjunction _ _ (known_codes p _ F k.1 c) (known_codes q _ F k.2 c)
 known_codes (Suspend e p) g F k c = known_codes p g F k.1 c
@@ -335,14 +312,11 @@ known_codes (Trap p) g F k c = known_lowered _ (known_codes p g F k.1) c
 known_codes (Local s p) g F k c = known_codes p g (with_status F s (tri_decided p g F s)) k.2 c
 known_codes (Awake e p) g F k c =
     known_disjunction _ _ (known_met (c == 1) _ (unopposed g (value e F) k.0 (known_go p _ F k.1))) (known_codes p _ F k.1 c)
+known_codes _ g F k c = known_met (c == 0) g k
 
 -- where no wire of statuses that know no more than the walk is unknown, the walk asks for nothing unknown
 pub under_known : (T : Statuses) → ((w : Wire) → IsKnown (T w)) → (t : Term) (n : ℕ) (l : Layer) (g : Status) (F : Environment) → Under T t n l g F
     → Known t g F
-under_known T a Nothing n l g F u = known_above (T (Go n l)) g (a (Go n l)) u.0
-under_known T a Pause n l g F u = known_above (T (Go n l)) g (a (Go n l)) u.0
-under_known T a (Emit s) n l g F u = known_above (T (Go n l)) g (a (Go n l)) u.0
-under_known T a (Exit c) n l g F u = known_above (T (Go n l)) g (a (Go n l)) u.0
 under_known T a (Present e p q) n l g F u = (
   known_above (T (Go n l)) g (a (Go n l)) u.0,
   under_known T a p (n + 1) l _ F u.2,
@@ -367,6 +341,7 @@ under_known T a (Local s p) n l g F u = (
   under_known T a p (n + 1) l g (with_status F s (tri_decided p g F s)) u.3,
 )
 under_known T a (Awake e p) n l g F u = absurd u
+under_known T a _ n l g F u = known_above (T (Go n l)) g (a (Go n l)) u.0
 
 -- the wires of an instance are known
 abbrev pub StatusKnown : Statuses → Term → ℕ → Layer → Type 0
@@ -381,12 +356,8 @@ pub record WiresKnown (T : Statuses) (x : Spot) : Type 0 where
 -- Where the walk asks for nothing unknown, no wire of a solution that knows at least what the walk knows is unknown.
 pub above_known : (T : Statuses) (t : Term) (n : ℕ) (l : Layer) (g : Status) (E F : Environment) (B : Scope) (f : Layer → Formula) → Follows T T t n l E →
     Known t g F → IsBelow g (T (Go n l)) → KnowsMore F E → EachStarted (WiresKnown T) B f t n l
-above_known T Nothing n l g E F B f w k b m =
-    record { go = known_above g _ k b; ends = λ c. subst IsKnown (sym (w c)) (known_met (c == 0) _ (known_above g _ k b)); status = tt }
 above_known T Pause n l g E F B f w k b m =
     record { go = known_above g _ k b; ends = λ c. subst IsKnown (sym (w c)) (known_met (c == 1) _ (known_above g _ k b)); status = tt }
-above_known T (Emit s) n l g E F B f w k b m =
-    record { go = known_above g _ k b; ends = λ c. subst IsKnown (sym (w c)) (known_met (c == 0) _ (known_above g _ k b)); status = tt }
 above_known T (Exit x) n l g E F B f w k b m =
     record { go = known_above g _ k b; ends = λ c. subst IsKnown (sym (w c)) (known_met (c == x) _ (known_above g _ k b)); status = tt }
 above_known T (Present e p q) n l g E F B f w k b m =
@@ -454,3 +425,5 @@ above_known T (Local s p) n l g E F B f w k b m =
           (with_status-more s (tri_decided p g F s) c m d),
     )
 above_known T (Awake e p) n l g E F B f w k b m = absurd w
+above_known T _ n l g E F B f w k b m =
+    record { go = known_above g _ k b; ends = λ c. subst IsKnown (sym (w c)) (known_met (c == 0) _ (known_above g _ k b)); status = tt }

@@ -33,9 +33,8 @@ use Rattle.grc_tri.proofs.ResumedPlaces.{FollowsResumed, above_resumed, above_re
 
 -- a status that is known and below a value is that value
 pub is_value : (v : Status) (b : Bool) → IsKnown v → IsBelow v (known b) → v ≡ known b
-is_value Plus b k h = sym h
-is_value Minus b k h = sym h
 is_value Unknown b k h = absurd k
+is_value _ b k h = sym h
 
 -- the statuses of an environment are below values
 pub record Valued (E : Environment) (v : Values) : Type 0 where
@@ -43,8 +42,6 @@ pub record Valued (E : Environment) (v : Values) : Type 0 where
 
 -- in the environment of the values a test has its truth
 truth_known : (e : Expression) (v : Values) → value e (λ s. known (v s)) ≡ known (truth e v)
-truth_known Tick v = refl
-truth_known (Sig s) v = refl
 truth_known (Not a) v = ap opposite (truth_known a v) ∙ opposite-known (truth a v)
 truth_known (And a b) v =
     ap (λ x. conjunction x (value b (λ s. known (v s)))) (truth_known a v) ∙ ap (λ x. conjunction (known (truth a v)) x) (truth_known b v)
@@ -52,6 +49,7 @@ truth_known (And a b) v =
 truth_known (Or a b) v =
     ap (λ x. disjunction x (value b (λ s. known (v s)))) (truth_known a v) ∙ ap (λ x. disjunction (known (truth a v)) x) (truth_known b v)
     ∙ disjunction-known (truth a v) (truth b v)
+truth_known _ v = refl
 
 -- a test whose value is known has its truth
 test_is : (e : Expression) (E : Environment) (v : Values) → Valued E v → IsKnown (value e E) → value e E ≡ known (truth e v)
@@ -72,9 +70,8 @@ valued_more {E} {v} s b h = record { each = λ t. at t (t == s) }
 
 -- where a choice has a step its test is known
 chosen_known : (v : Status) (a b : Option Step) → HasStep (chosen_step v a b) → IsKnown v
-chosen_known Plus a b h = tt
-chosen_known Minus a b h = tt
 chosen_known Unknown a b h = let e = h.1 in cc
+chosen_known _ a b h = tt
 
 chosen_first : (v : Status) (a b : Option Step) (c : Bool) → v ≡ known c → HasStep (chosen_step v a b) → c ≡ true → HasStep a
 chosen_first v a b c e h z = subst (λ x. HasStep (chosen_step x a b)) (e ∙ ap known z) h
@@ -83,9 +80,8 @@ chosen_second : (v : Status) (a b : Option Step) (c : Bool) → v ≡ known c �
 chosen_second v a b c e h z = subst (λ x. HasStep (chosen_step x a b)) (e ∙ ap known z) h
 
 known_meets : (x y : Status) → IsKnown x → IsBelow x y → x ≡ y
-known_meets Plus y k h = sym h
-known_meets Minus y k h = sym h
 known_meets Unknown y k h = absurd k
+known_meets _ y k h = sym h
 
 -- the term that is left of the part that holds a selected pause
 cond_first : (c : Bool) (a b : Term) (E : Environment) → c ≡ true → HasStep (step (cond c a b) E) → HasStep (step a E)
@@ -118,11 +114,8 @@ module _ (T : Statuses) (V : Valuation) (known_all : (w : Wire) → T w ≡ know
 
   pub started_left : (t : Term) (n : ℕ) (l : Layer) (v : Values) (E F : Environment) → HasExitCodes t → Follows T T t n l E → T (Go n l) ≡ Plus →
       KnowsMore F E → Valued E v → HasStep (step t F) → Stepped t F (started_walk Z t n l v) t n
-  started_left Nothing n l v E F k f go m val h = record { done = _; is = refl; code = refl; left = λ S s. refl }
   started_left Pause n l v E F k f go m val h =
       record { done = _; is = refl; code = refl; left = λ S s. cond_both (S n) Nothing Nothing (λ z. Nothing ≡ z) (λ c. refl) (λ c. refl) }
-  started_left (Emit x) n l v E F k f go m val h = record { done = _; is = refl; code = refl; left = λ S s. refl }
-  started_left (Exit c) n l v E F k f go m val h = record { done = _; is = refl; code = refl; left = λ S s. refl }
   started_left (Present e p q) n l v E F k f go m val h =
       let r = n + 1 + statement_count p in
       let more = value_below e F E m in
@@ -185,15 +178,13 @@ module _ (T : Statuses) (V : Valuation) (known_all : (w : Wire) → T w ≡ know
       (subst (λ x. Valued (with_status E s x) (with_value v s c)) (sym (known_all (StatusOf n l))) (valued_more s c val))
       (subst (λ x. HasStep (step p (with_status F s x))) is (local_part s (step p (with_status F s d)) h.0 w.1)))
   started_left (Awake e p) n l v E F k f go m val h = absurd k
+  started_left _ n l v E F k f go m val h = record { done = _; is = refl; code = refl; left = λ S s. refl }
 
   pub resumed_left : (S : ℕ → Bool) (t : Term) (n : ℕ) (v : Values) (E F : Environment) → HasExitCodes t → FollowsResumed T T S t n E →
       holds S t n ≡ true → IsSelected S t n → T (Go n Resumed) ≡ Plus → KnowsMore F E → Valued E v → HasStep (step (residual S t n) F) →
       Stepped (residual S t n) F (resumed_walk Z S t n v) t n
-  resumed_left S Nothing n v E F k f ho sel go m val h = absurd (false≢true ho)
   resumed_left S Pause n v E F k f ho sel go m val h =
       record { done = _; is = refl; code = refl; left = λ X z. cond_both (X n) Nothing Nothing (λ u. Nothing ≡ u) (λ c. refl) (λ c. refl) }
-  resumed_left S (Emit x) n v E F k f ho sel go m val h = absurd (false≢true ho)
-  resumed_left S (Exit c) n v E F k f ho sel go m val h = absurd (false≢true ho)
   resumed_left S (Present e p q) n v E F k f ho sel go m val h =
       let r = n + 1 + statement_count p in
       let hp = holds S p (n + 1) in
@@ -306,4 +297,4 @@ module _ (T : Statuses) (V : Valuation) (known_all : (w : Wire) → T w ≡ know
       (with_status-more s (known c) (T (StatusOf n Resumed)) m (below_equal (sym (known_all (StatusOf n Resumed)))))
       (subst (λ x. Valued (with_status E s x) (with_value v s c)) (sym (known_all (StatusOf n Resumed))) (valued_more s c val))
       (subst (λ x. HasStep (step t (with_status F s x))) is (local_part s (step t (with_status F s d)) h.0 w.1)))
-  resumed_left S (Awake e p) n v E F k f ho sel go m val h = absurd (false≢true ho)
+  resumed_left S _ n v E F k f ho sel go m val h = absurd (false≢true ho)

@@ -1,13 +1,12 @@
 -- Worked words, nodes and orders, by hand: what keeps and what holds an instance in one body with every form around a pause, the node of each form, and what
 -- is an order of three wires.
-use Rattle.std.proofs.Common.{◌≡◌, ℕ, ◌==◌, Bool, true, false, List, [], ◌∷◌, Some, None, map, refl, sym, arith, lit<}
-use Rattle.std.proofs.lemmas.Bool.{true≢false}
+use Rattle.std.proofs.Common.{◌≡◌, ℕ, ◌==◌, Bool, true, false, List, [], ◌∷◌, Some, map, refl, arith, lit<}
 use Rattle.std.specs.Prelude.{⊤, ◌&&◌}
 use Rattle.est_base.specs.declared.indices.WireId.{WireId}
 use Rattle.est_base.specs.declared.place.Span.{Span}
 use Rattle.est_kernel.specs.Terms.{Tick, Sig, Term, Nothing, Pause, Emit, Exit, Present, Suspend, Seq, Loop, Par, Trap, Local}
-use Rattle.grc_graph.specs.Formulas.{Formula, Const, Value, Upto, Kept, Held, Negation, Conjunction, Disjunction}
-use Rattle.grc_graph.specs.Layers.{Layer, Resumed, Started}
+use Rattle.grc_graph.specs.Formulas.{Value, Upto, Kept, Held, Negation, Conjunction, Disjunction}
+use Rattle.grc_graph.specs.Layers.{Resumed, Started}
 use Rattle.grc_graph.specs.Nodes.{Node, Fork, Sync, Switch, Tested, Enter, Emission, Definition, Leave, Through, node_at}
 use Rattle.grc_graph.specs.Readings.{holds_at, kept_at, held_at}
 use Rattle.grc_graph.specs.Reads.{ReadsOnly}

@@ -1,4 +1,4 @@
-use Rattle.std.proofs.Common.{◌≡◌, ◌∙◌, get_or, sym, subst}
+use Rattle.std.proofs.Common.{◌≡◌, ◌∙◌, get_or, subst}
 use Rattle.std.proofs.lemmas.List.{get_or_default}
 use Rattle.grc_graph.specs.declared.trees.SelNode.{SelNode}
 use Rattle.grc_graph.specs.declared.trees.SelForm.TheVariants.{Pass}

@@ -1,6 +1,5 @@
-use Rattle.std.proofs.Common.{◌≡◌, ◌+◌, ◌<◌, ◌≤◌, ◌∙◌, length, get_or, ap, sym, arith}
+use Rattle.std.proofs.Common.{◌∙◌, sym}
 use Rattle.grc_graph.specs.declared.trees.SelNode.{SelNode}
-use Rattle.grc_graph.specs.TreeForms.{end_of}
 use Rattle.grc_graph.proofs.TreeJudging.{second_found}
 use Rattle.grc_graph.proofs.judgements.second_part.Goals as goal
 

@@ -1,20 +1,18 @@
 use Rattle.std.proofs.Common.{◌≡◌, ◌+◌, ◌<◌, ◌≤◌, ◌++◌, ◌∷◌, [], length, map, get_or, refl, sym, ap, ◌∙◌, subst, arith}
-use Rattle.std.proofs.lemmas.List.{length-map, get_or_default}
+use Rattle.std.proofs.lemmas.List.{length-map}
 use Rattle.est_base.specs.declared.bounds.TheConstants.Limits.{WIRES}
 use Rattle.est_base.specs.CodeSet.{members}
 use Rattle.est_kernel.specs.Plain.{program_of, term_of, outgoing_count}
-use Rattle.est_kernel.specs.Preorder.{statement_count}
 use Rattle.est_kernel.proofs.Exports.{trees_are_kernels_lem}
 use Rattle.grc_graph.specs.declared.wires.Wire.TheVariants.{Out}
 use Rattle.std.specs.List.{range_with_len}
-use Rattle.grc_graph.specs.PlainGraphs.{instance_at, wire_of}
 use Rattle.grc_graph.specs.PlainInstances.{instance_of}
 use Rattle.grc_graph.specs.Rows.{program_rows, row_at}
 use Rattle.grc_graph.specs.WireTables.{is_local, AreRuns}
 use Rattle.grc_graph.specs.Wires.{instance_codes}
 use Rattle.grc_graph.proofs.WireFilling.{Filled, Filled-none, Filled-more, Filled-all, Filled-few, few_instances}
 use Rattle.grc_graph.proofs.RowReads.{statement_read, codes_read, length-statements}
-use Rattle.grc_graph.proofs.NeighbourReads.{body_ascending, path_within, name_at, first_instance}
+use Rattle.grc_graph.proofs.NeighbourReads.{body_ascending, first_instance, instance_read}
 use Rattle.grc_graph.proofs.layout.wire_runs.Goals as goal
 
 pub loop-i-init : goal.loop-i-init
@@ -27,42 +25,30 @@ loop-i-init c =
 pub instance_codes-set-requires-clause-started : goal.instance_codes-set-requires-clause-started
 instance_codes-set-requires-clause-started c =
     let p = program_of c.args.program.now in
-    let raw = c.args.live.now.list.items in
-    let i = c.loop-i.i in
-    let y = get_or c.deref-instance-items.result.now i first_instance in
-    let inside : i < length raw = omega (arith, ap length c.deref-instance-items.ensures.value) in
-    let same : y ≡ get_or raw i y = ap (λ l. get_or l i first_instance) c.deref-instance-items.ensures.value ∙ get_or_default raw i first_instance y inside in
-    (codes_read c.args.codes.now p y.path.0 c.requires.codes (path_within p.body raw i y c.requires.live inside same)).started_in
+    let r = instance_read p.body c.args.live.now.list.items c.deref-instance-items.result.now c.loop-i.i c.requires.live
+    c.deref-instance-items.ensures.value (omega arith) in
+    (codes_read c.args.codes.now p _ c.requires.codes r.within).started_in
 
 pub instance_codes-set-requires-clause-resumed : goal.instance_codes-set-requires-clause-resumed
 instance_codes-set-requires-clause-resumed c =
     let p = program_of c.args.program.now in
-    let raw = c.args.live.now.list.items in
-    let i = c.loop-i.i in
-    let y = get_or c.deref-instance-items.result.now i first_instance in
-    let inside : i < length raw = omega (arith, ap length c.deref-instance-items.ensures.value) in
-    let same : y ≡ get_or raw i y = ap (λ l. get_or l i first_instance) c.deref-instance-items.ensures.value ∙ get_or_default raw i first_instance y inside in
-    (codes_read c.args.codes.now p y.path.0 c.requires.codes (path_within p.body raw i y c.requires.live inside same)).resumed_in
+    let r = instance_read p.body c.args.live.now.list.items c.deref-instance-items.result.now c.loop-i.i c.requires.live
+    c.deref-instance-items.ensures.value (omega arith) in
+    (codes_read c.args.codes.now p _ c.requires.codes r.within).resumed_in
 
 pub bounds-statements-path : goal.bounds-statements-path
 bounds-statements-path c =
     let p = program_of c.args.program.now in
-    let raw = c.args.live.now.list.items in
-    let i = c.loop-i.i in
-    let y = get_or c.deref-instance-items.result.now i first_instance in
-    let inside : i < length raw = omega (arith, ap length c.deref-instance-items.ensures.value) in
-    let same : y ≡ get_or raw i y = ap (λ l. get_or l i first_instance) c.deref-instance-items.ensures.value ∙ get_or_default raw i first_instance y inside in
-    omega (arith, path_within p.body raw i y c.requires.live inside same, length-statements p c.args.statements.now c.requires.statements)
+    let r = instance_read p.body c.args.live.now.list.items c.deref-instance-items.result.now c.loop-i.i c.requires.live
+    c.deref-instance-items.ensures.value (omega arith) in
+    omega (arith, r.within, length-statements p c.args.statements.now c.requires.statements)
 
 pub bounds-statements-path-in-loop-i : goal.bounds-statements-path-in-loop-i
 bounds-statements-path-in-loop-i c =
     let p = program_of c.args.program.now in
-    let raw = c.args.live.now.list.items in
-    let i = c.loop-i.i in
-    let y = get_or c.deref-instance-items.result.now i first_instance in
-    let inside : i < length raw = omega (arith, ap length c.deref-instance-items.ensures.value) in
-    let same : y ≡ get_or raw i y = ap (λ l. get_or l i first_instance) c.deref-instance-items.ensures.value ∙ get_or_default raw i first_instance y inside in
-    omega (arith, path_within p.body raw i y c.requires.live inside same, length-statements p c.args.statements.now c.requires.statements)
+    let r = instance_read p.body c.args.live.now.list.items c.deref-instance-items.result.now c.loop-i.i c.requires.live
+    c.deref-instance-items.ensures.value (omega arith) in
+    omega (arith, r.within, length-statements p c.args.statements.now c.requires.statements)
 
 pub overflow_cast-i : goal.overflow_cast-i
 overflow_cast-i c =
@@ -79,20 +65,19 @@ loop-i-preserved c =
     let insts = map instance_of raw in
     let i = c.loop-i.i in
     let y = get_or c.deref-instance-items.result.now i first_instance in
-    let inside : i < length raw = omega (arith, ap length c.deref-instance-items.ensures.value) in
-    let same : y ≡ get_or raw i y = ap (λ l. get_or l i first_instance) c.deref-instance-items.ensures.value ∙ get_or_default raw i first_instance y inside in
-    let within : y.path.0 < statement_count p.body = path_within p.body raw i y c.requires.live inside same in
-    let named : instance_at insts i ≡ instance_of y = name_at raw i y _ inside ∙ ap instance_of (sym same) in
-    let statement = ap (λ l. l.statement) (statement_read p c.args.statements.now y.path.0 c.index-statements-path.result c.requires.statements within
+    let r = instance_read p.body raw c.deref-instance-items.result.now i c.requires.live c.deref-instance-items.ensures.value (omega arith) in
+    let inside : i < length raw = r.inside in
+    let statement = ap (λ l. l.statement) (statement_read p c.args.statements.now y.path.0 c.index-statements-path.result c.requires.statements r.within
     c.index-statements-path.is) in
-    let read = codes_read c.args.codes.now p y.path.0 c.requires.codes within in
+    let read = codes_read c.args.codes.now p y.path.0 c.requires.codes r.within in
     subst (λ l. Filled p insts (i + 1) c.push_run.new.wires.items l) (sym c.in_ok-push-2.ensures.items)
     (Filled-more p insts i c.loop-i.wires.items c.push_run.new.wires.items c.loop-i.first.items c.is_local-local.result
     (members c.instance_codes-set.result) c.len.result
     c.loop-i.invariant (omega (arith, length-map raw instance_of))
     (c.is_local-local.ensures ∙ ap (λ s. is_local (term_of s.body.now)) (sym c.index-statements-path.is) ∙ ap is_local statement
-    ∙ ap (λ x. is_local (row_at (program_rows p) x.path).statement) (sym named))
-    (c.instance_codes-set.ensures ∙ read.codes (instance_of y).layer ∙ ap (λ x. instance_codes (row_at (program_rows p) x.path).statement x.layer) (sym named))
+    ∙ ap (λ x. is_local (row_at (program_rows p) x.path).statement) (sym r.named))
+    (c.instance_codes-set.ensures ∙ read.codes (instance_of y).layer
+    ∙ ap (λ x. instance_codes (row_at (program_rows p) x.path).statement x.layer) (sym r.named))
     c.in_ok-push_run.ensures (omega arith))
 
 pub overflow_cast-len : goal.overflow_cast-len
@@ -102,21 +87,20 @@ overflow_cast-len c =
     let insts = map instance_of raw in
     let i = c.loop-i.i in
     let y = get_or c.deref-instance-items.result.now i first_instance in
-    let inside : i < length raw = omega (arith, ap length c.deref-instance-items.ensures.value) in
-    let same : y ≡ get_or raw i y = ap (λ l. get_or l i first_instance) c.deref-instance-items.ensures.value ∙ get_or_default raw i first_instance y inside in
-    let within : y.path.0 < statement_count p.body = path_within p.body raw i y c.requires.live inside same in
-    let named : instance_at insts i ≡ instance_of y = name_at raw i y _ inside ∙ ap instance_of (sym same) in
-    let statement = ap (λ l. l.statement) (statement_read p c.args.statements.now y.path.0 c.index-statements-path.result c.requires.statements within
+    let r = instance_read p.body raw c.deref-instance-items.result.now i c.requires.live c.deref-instance-items.ensures.value (omega arith) in
+    let inside : i < length raw = r.inside in
+    let statement = ap (λ l. l.statement) (statement_read p c.args.statements.now y.path.0 c.index-statements-path.result c.requires.statements r.within
     c.index-statements-path.is) in
-    let read = codes_read c.args.codes.now p y.path.0 c.requires.codes within in
+    let read = codes_read c.args.codes.now p y.path.0 c.requires.codes r.within in
     let new : length c.push_run.new.wires.items ≤ WIRES
     = Filled-few p insts (i + 1) c.push_run.new.wires.items _ (trees_are_kernels_lem c.args.program.now.body) c.requires.live c.requires.few
     (Filled-more p insts i c.loop-i.wires.items c.push_run.new.wires.items c.loop-i.first.items c.is_local-local.result (members c.instance_codes-set.result)
     (length c.push_run.new.wires.items)
     c.loop-i.invariant (omega (arith, length-map raw instance_of))
     (c.is_local-local.ensures ∙ ap (λ s. is_local (term_of s.body.now)) (sym c.index-statements-path.is) ∙ ap is_local statement
-    ∙ ap (λ x. is_local (row_at (program_rows p) x.path).statement) (sym named))
-    (c.instance_codes-set.ensures ∙ read.codes (instance_of y).layer ∙ ap (λ x. instance_codes (row_at (program_rows p) x.path).statement x.layer) (sym named))
+    ∙ ap (λ x. is_local (row_at (program_rows p) x.path).statement) (sym r.named))
+    (c.instance_codes-set.ensures ∙ read.codes (instance_of y).layer
+    ∙ ap (λ x. instance_codes (row_at (program_rows p) x.path).statement x.layer) (sym r.named))
     c.in_ok-push_run.ensures refl) in
     omega arith
 

@@ -1,4 +1,4 @@
-use Rattle.std.proofs.Common.{◌≡◌, ◌+◌, ◌<◌, ◌≤◌, length, arith}
+use Rattle.std.proofs.Common.{◌+◌}
 use Rattle.std.specs.Prelude.{slice_index}
 use Rattle.grc_graph.specs.PlainInstances.{layer_of}
 use Rattle.grc_graph.proofs.InstanceRuns.{run-begins, run-ascends, number_in_run, absent_in_run, absent_past}
