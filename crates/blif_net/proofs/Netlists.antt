@@ -29,7 +29,7 @@ use Rattle.step_run.specs.Slots.{slot_in, value_at, memory_in}
 use Rattle.step_run.specs.Steps.{settled, AreSolved, driven}
 use Rattle.step_run.specs.Order.{IsEvaluationOrder}
 use Rattle.step_run.specs.Solvers.{ordered_steps, equation_edges}
-use Rattle.step_run.proofs.Exports.{driven-count, solved}
+use Rattle.step_run.proofs.Exports.{all-made, driven-count, solved}
 use Rattle.blif_run.specs.CircuitAnswers.{tells_pause, listed_count, listed_names}
 use Rattle.blif_run.specs.Loops.{equations_of}
 use Rattle.blif_run.specs.Plans.{given_names, all_names}
@@ -87,10 +87,6 @@ all-weaker : {X : Type 0} (P Q : X → Type 0) (xs : List X) → ((x : X) → P 
 all-weaker P Q [] more all = tt
 all-weaker P Q (x ∷ xs) more all = (more x all.0, all-weaker P Q xs more all.1)
 
-all-mapped : {X Y : Type 0} (P : Y → Type 0) (f : X → Y) (xs : List X) → AllByRecursion (λ x. P (f x)) xs → AllByRecursion P (map f xs)
-all-mapped P f [] all = tt
-all-mapped P f (x ∷ xs) all = (all.0, all-mapped P f xs all.1)
-
 -- what is so of names that have a value is so of the listed outputs, of `_paused`, and of the sources of latches
 module _ (c : Circuit) (sound : IsSound c) (pauses : tells_pause c.outputs ≡ true) where
   abbrev names : List (List ℕ)
@@ -132,14 +128,14 @@ module _ (c : Circuit) (sound : IsSound c) (pauses : tells_pause c.outputs ≡ t
         all-unmapped (λ (n : NetId). n.0 < bound) (λ (o : NetOut). o.net) outputs
         (subst (λ l. All (λ (n : NetId). n.0 < bound) l) (sym are)
         (All-from_recursion (λ (n : NetId). n.0 < bound) (map (net_named names nets) (listed_names c.outputs))
-        (all-mapped (λ (n : NetId). n.0 < bound) (net_named names nets) (listed_names c.outputs)
+        (all-made (λ (n : NetId). n.0 < bound) (net_named names nets) (listed_names c.outputs)
         (all-weaker IsDriven (λ x. (net_named names nets x).0 < bound) (listed_names c.outputs) net-low listed-driven))))
 
     pub latches-low : (latches : List Latch) → latches ≡ map (latch_named names nets) c.latches → All (λ (l : Latch). l.from.0 < bound) latches
     latches-low latches are =
         subst (λ l. All (λ (l : Latch). l.from.0 < bound) l) (sym are)
         (All-from_recursion (λ (l : Latch). l.from.0 < bound) (map (latch_named names nets) c.latches)
-        (all-mapped (λ (l : Latch). l.from.0 < bound) (latch_named names nets) c.latches
+        (all-made (λ (l : Latch). l.from.0 < bound) (latch_named names nets) c.latches
         (all-weaker (λ (l : CircuitLatch). IsDriven l.source) (λ l. (net_named names nets l.source).0 < bound) c.latches
         (λ l. net-low l.source) sound.driven.sources)))
 

@@ -13,7 +13,7 @@ use Rattle.step_run.specs.Slots.{slot_in, memory_in}
 use Rattle.step_run.specs.Equations.{Equation}
 use Rattle.step_run.specs.Steps.{equation_step, IsLocal, AreSound}
 use Rattle.step_run.specs.Order.{slots_read, no_equation}
-use Rattle.step_run.proofs.Exports.{output-slot, same-step, reads-at}
+use Rattle.step_run.proofs.Exports.{all-made, output-slot, same-step, reads-at}
 use Rattle.blif_run.specs.Loops.{equation_of, equations_of}
 use Rattle.step_run.specs.Solvers.{ordered_steps}
 use Rattle.blif_run.specs.Plans.{given_names, all_names}
@@ -51,11 +51,6 @@ tables-local : (tables : List Table) → AllByRecursion IsLocal (map equation_of
 tables-local [] = tt
 tables-local (t ∷ tables) = (table-local t, tables-local tables)
 
-reads-along : (names : List (List ℕ)) (tables : List Table) → AllByRecursion (λ t. AllByRecursion (λ x. is_among x names ≡ true) t.inputs) tables
-    → AllByRecursion (λ e. AllByRecursion (λ x. is_among x names ≡ true) e.reads) (map equation_of tables)
-reads-along names [] all = tt
-reads-along names (t ∷ tables) all = (all.0, reads-along names tables all.1)
-
 pub reads-same : (names : List (List ℕ)) (tables : List Table)
     → map (λ t. map (slot_in names) t.inputs) tables ≡ slots_read names (map equation_of tables)
 reads-same names [] = refl
@@ -64,7 +59,7 @@ reads-same names (t ∷ tables) = ap (λ l. map (slot_in names) t.inputs ∷ l) 
 pub sound-equations : (c : Circuit) → IsSound c → AreSound (given_names c) (equations_of c)
 sound-equations c sound = record {
   differ = ap (all_differ is_same_name) (names-are c) ∙ sound.differ;
-  reads_driven = reads-along (all_names c) c.tables
+  reads_driven = all-made (λ (e : Equation). AllByRecursion (λ x. is_among x (all_names c) ≡ true) e.reads) equation_of c.tables
       (subst (λ names. AllByRecursion (λ t. AllByRecursion (λ x. is_among x names ≡ true) t.inputs) c.tables) (sym (names-are c)) sound.driven.inputs);
   local = tables-local c.tables;
 }

@@ -1,6 +1,5 @@
 -- What the resolved names of a sound circuit give: a plan.
 use Rattle.std.proofs.Common.{◌≡◌, ℕ, ◌<◌, true, List, [], ◌∷◌, length, map, All, refl, ap, ◌∙◌, arith, subst}
-use Rattle.std.specs.List.{AllByRecursion}
 use Rattle.std.proofs.lemmas.List.{length-map}
 use Rattle.std.proofs.lemmas.List.Elements.{recursion_from_All}
 use Rattle.net_ir.specs.NameLists.{is_among}
@@ -11,16 +10,11 @@ use Rattle.step_run.specs.Slots.{slot_in}
 use Rattle.step_run.specs.Plans.{Planned, Makes}
 use Rattle.step_run.specs.Order.{IsEvaluationOrder, slots_read}
 use Rattle.step_run.specs.Solvers.{IsResolved, equation_edges, ordered_steps}
-use Rattle.step_run.proofs.Exports.{reads-count, slots-are}
+use Rattle.step_run.proofs.Exports.{all-made, reads-count, slots-are}
 use Rattle.blif_run.specs.Loops.{equation_of, equations_of}
 use Rattle.blif_run.specs.Plans.{IsPlan, given_names, all_names}
 use Rattle.blif_run.specs.Truths.{step_at}
 use Rattle.blif_run.proofs.CircuitEquations.{names-are, sound-equations, table-steps}
-
-sources-among : (names : List (List ℕ)) (latches : List CircuitLatch) → AllByRecursion (λ l. is_among l.source names ≡ true) latches
-    → AllByRecursion (λ x. is_among x names ≡ true) (map (λ l. l.source) latches)
-sources-among names [] all = tt
-sources-among names (l ∷ latches) all = (all.0, sources-among names latches all.1)
 
 widths : (names : List (List ℕ)) (tables : List Table) → map length (slots_read names (map equation_of tables)) ≡ map (λ t. length t.inputs) tables
 widths names [] = refl
@@ -54,6 +48,6 @@ module _ (c : Circuit) (sound : IsSound c) (names keys : List (List ℕ)) (first
           makes = subst (λ steps. Makes plan steps) steps_are makes;
         };
         sources_are = slots-are (driven_names c) keys (map (λ l. l.source) c.latches) sources same kept
-            (sources-among (driven_names c) c.latches sound.driven.sources);
+            (all-made (λ x. is_among x (driven_names c) ≡ true) (λ (l : CircuitLatch). l.source) c.latches sound.driven.sources);
         shown_are = slots-are (driven_names c) keys c.outputs shown same given sound.driven.outputs;
       }

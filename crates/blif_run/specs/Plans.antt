@@ -3,7 +3,7 @@ use Rattle.std.specs.Prelude.{ℕ, List, ◌++◌, map}
 use Rattle.blif_text.specs.Circuits.{Circuit}
 use Rattle.blif_text.specs.Runs.{driven_names}
 use Rattle.step_run.specs.Plans.{Planned}
-use Rattle.step_run.specs.Solvers.{IsSolver, AreSlots}
+use Rattle.step_run.specs.Solvers.{IsPlanOf}
 use Rattle.step_run.specs.Steps.{driven}
 use Rattle.blif_run.specs.Loops.{equations_of}
 
@@ -17,7 +17,7 @@ all_names circuit = driven (given_names circuit) (equations_of circuit)
 
 -- The plan makes the steps of the tables in an evaluation order, and there are the slots of the latches' sources and of
 -- the outputs.
-pub record IsPlan (circuit : Circuit) (plan : Planned) (sources shown : List ℕ) : Type 0 where
-  pub solver : IsSolver (given_names circuit) (equations_of circuit) plan
-  pub sources_are : AreSlots (driven_names circuit) (map (λ l. l.source) circuit.latches) sources
-  pub shown_are : AreSlots (driven_names circuit) circuit.outputs shown
+abbrev pub IsPlan : Circuit → Planned → List ℕ → List ℕ → Type 0
+IsPlan circuit =
+    IsPlanOf (given_names circuit) (equations_of circuit) (driven_names circuit) (map (λ l. l.source) circuit.latches)
+    circuit.outputs

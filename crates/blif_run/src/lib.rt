@@ -16,7 +16,8 @@ mod trace_runner;
 mod truths;
 
 pub use language::{BlifTexts, TextFault};
-pub use plan::{Resolved, resolved_names, table_order};
+pub use plan::{resolved_names, table_order};
 pub use refusal::RunError;
 pub use runner::NetRunner;
+pub use step_run::Resolved;
 pub use trace_runner::{BlifRunner, listed_count, tells_pause};

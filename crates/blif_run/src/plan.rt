@@ -1,10 +1,9 @@
 // The plan of a circuit's reactions: its tables as steps in order, and which slots the latches and outputs take.
 
-ghost use Rattle.std.specs.Prelude.{map, length, IfOk, IfErr, OnOk};
+ghost use Rattle.std.specs.Prelude.{IfOk, IfErr, OnOk};
 ghost use Rattle.blif_text.specs.Plain.{plain_circuit};
-ghost use Rattle.step_run.specs.Order.{IsEvaluationOrder};
 ghost use Rattle.blif_run.specs.Loops.{IsDescribed, LoopFault, HasNoLoop, equations_of};
-ghost use Rattle.step_run.specs.Solvers.{IsResolved, equation_edges};
+ghost use Rattle.step_run.specs.Solvers.{AreOrdered, AreResolved};
 ghost use Rattle.blif_run.specs.Plans.{IsPlan, given_names};
 
 use crate::refusal::RunError;
@@ -12,9 +11,8 @@ use crate::slots::{driven_names, slots_read, source_slots};
 use crate::truths::table_plan;
 use blif_text::Blif;
 use est_base::{NoMemory, Stop};
-use indexmap::IndexSet;
 use std::alloc::Global;
-use step_run::{Plan, evaluation_order, slot_table, slots_of};
+use step_run::{Plan, Resolved, evaluation_order, slot_table, slots_of};
 
 #[derive(Drop)]
 pub struct CircuitPlan {
@@ -49,11 +47,10 @@ fn ordered_plan(
     order: &[usize],
 ) -> Result<CircuitPlan, NoMemory>
     requires described { IsDescribed (plain_circuit blif.now) }
-    requires resolved { IsResolved (given_names (plain_circuit blif.now)) (equations_of (plain_circuit blif.now))
-        (map (λ w. w.now) resolved.now.names.items) (map (λ k. k.now) resolved.now.slots.keys) resolved.now.first
-        (map (λ s. s.items) resolved.now.reads.items) }
-    requires order { IsEvaluationOrder (length (equations_of (plain_circuit blif.now)))
-        (equation_edges (given_names (plain_circuit blif.now)) (equations_of (plain_circuit blif.now))) order.now }
+    requires resolved { AreResolved (given_names (plain_circuit blif.now)) (equations_of (plain_circuit blif.now))
+        resolved.now }
+    requires order { AreOrdered (given_names (plain_circuit blif.now)) (equations_of (plain_circuit blif.now))
+        order.now }
     ensures { IfOk result (λ p. IsPlan (plain_circuit blif.now) p.tables p.sources.items p.shown.items) }
 {
     let sources = source_slots(alloc, &resolved.slots, &blif.latches)?;
@@ -73,24 +70,11 @@ fn ordered_plan(
     })
 }
 
-/// The names of a circuit that have a value, each with its place as its slot: the inputs, the latches, and the outputs
-/// of the tables.
-#[derive(Drop)]
-pub struct Resolved<'a> {
-    pub names: Vec<&'a [u8]>,
-    pub slots: IndexSet<&'a [u8]>,
-    /// The slot of the first table's output.
-    pub first: usize,
-    /// For each table the slots that it reads.
-    pub reads: Vec<Vec<usize>>,
-}
-
 /// The slots of the names of a circuit. Its only error is want of memory.
 pub fn resolved_names<'a>(alloc: Global, blif: &'a Blif) -> Result<Resolved<'a>, NoMemory>
     requires { IsDescribed (plain_circuit blif.now) }
     ensures { IfOk result
-        (λ r. IsResolved (given_names (plain_circuit blif.now)) (equations_of (plain_circuit blif.now))
-        (map (λ w. w.now) r.names.items) (map (λ k. k.now) r.slots.keys) r.first (map (λ s. s.items) r.reads.items)) }
+        (AreResolved (given_names (plain_circuit blif.now)) (equations_of (plain_circuit blif.now))) }
 {
     let names = driven_names(alloc, blif)?;
     let slots = slot_table(alloc, &names)?;
@@ -110,11 +94,11 @@ pub fn table_order(
     resolved: &Resolved<'_>,
 ) -> Result<Vec<usize>, RunError>
     requires described { IsDescribed (plain_circuit blif.now) }
-    requires resolved { IsResolved (given_names (plain_circuit blif.now)) (equations_of (plain_circuit blif.now))
-        (map (λ w. w.now) resolved.now.names.items) (map (λ k. k.now) resolved.now.slots.keys) resolved.now.first
-        (map (λ s. s.items) resolved.now.reads.items) }
-    ensures order { IfOk result (λ order. IsEvaluationOrder (length (equations_of (plain_circuit blif.now)))
-        (equation_edges (given_names (plain_circuit blif.now)) (equations_of (plain_circuit blif.now))) order.items) }
+    requires resolved { AreResolved (given_names (plain_circuit blif.now)) (equations_of (plain_circuit blif.now))
+        resolved.now }
+    ensures order { IfOk result
+        (λ order. AreOrdered (given_names (plain_circuit blif.now)) (equations_of (plain_circuit blif.now))
+        order.items) }
     ensures acyclic { OnOk result (HasNoLoop (plain_circuit blif.now)) }
     ensures cyclic { IfErr result (LoopFault (plain_circuit blif.now)) }
 {

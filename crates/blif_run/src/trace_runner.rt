@@ -7,7 +7,6 @@ ghost use Rattle.blif_text.specs.Plain.{plain_circuit};
 ghost use Rattle.blif_run.specs.CircuitAnswers.{tells_pause, listed_count, listed_names};
 ghost use Rattle.blif_run.specs.Loops.{IsDescribed, LoopFault, HasNoLoop};
 ghost use Rattle.blif_run.specs.Runners.{IsFresh};
-ghost use Rattle.trace_run.specs.Languages.{word_of};
 
 use crate::refusal::RunError;
 use crate::runner::NetRunner;
@@ -16,7 +15,7 @@ use est_base::{NoMemory, Text};
 use std::alloc::Global;
 use std::marker::Model;
 use trace_io::Word;
-use trace_run::{Interface, Runner, copied_names};
+use trace_run::{Interface, Runner, copied_names, told_word};
 
 /// A runner of the circuit of a BLIF text. A last output `_paused` is none of the outgoing signals, and its value says
 /// whether the program is still active; where there is none, nothing is said. A contract sees it as the circuit, the
@@ -92,11 +91,7 @@ impl Runner for BlifRunner {
 
     fn react(&mut self, inputs: &[bool]) -> Word {
         self.runner.react(inputs);
-        if !tells_pause(&self.runner.blif().outputs) {
-            return Word::Bare;
-        }
-        let values = self.runner.outputs();
-        word_of(values[values.len() - 1])
+        told_word(PAUSED, &self.runner.blif().outputs, self.runner.outputs())
     }
 
     fn outputs(&self) -> &[bool] {
@@ -118,10 +113,7 @@ const PAUSED: &[u8] = b"_paused";
 pub fn tells_pause(outputs: &[Text]) -> bool
     ensures { result ≡ tells_pause outputs.now }
 {
-    match outputs.last() {
-        Some(name) => PAUSED == name.bytes(),
-        None => false,
-    }
+    trace_run::tells_pause(PAUSED, outputs)
 }
 
 /// How many of the outputs are listed.
@@ -129,15 +121,5 @@ pub fn listed_count(outputs: &[Text]) -> usize
     ensures count { result ≡ listed_count outputs.now }
     ensures within { result ≤ length outputs.now }
 {
-    if tells_pause(outputs) {
-        outputs.len() - 1
-    } else {
-        outputs.len()
-    }
-}
-
-fn word_of(paused: bool) -> Word
-    ensures { result ≡ word_of paused }
-{
-    if paused { Word::Paused } else { Word::Ended }
+    trace_run::listed_count(PAUSED, outputs)
 }

@@ -9,4 +9,4 @@ pub use Rattle.step_run.proofs.OnceNames.{among-element, differ-behind, differ-b
 pub use Rattle.step_run.proofs.OnceNames.{of-element, once-of}
 pub use Rattle.step_run.proofs.ExprValues.{value-is, value-local}
 pub use Rattle.step_run.proofs.Resolving.{acyclic, each-name, loop, ordered, parts-within, reads-count, reads-within, slots-are}
-pub use Rattle.step_run.proofs.Reacting.{reaction}
+pub use Rattle.step_run.proofs.Instants.{IsEquational, IsOnlyOne, all-made, all-of-made, decided, solved-only}

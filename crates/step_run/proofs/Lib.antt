@@ -12,4 +12,5 @@ mod ExprValues
 mod Compiling
 mod Resolving
 mod Reacting
+mod Instants
 pub mod Exports

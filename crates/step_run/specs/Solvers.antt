@@ -4,6 +4,7 @@ use Rattle.step_run.specs.Slots.{slot_in}
 use Rattle.step_run.specs.Equations.{Equation}
 use Rattle.step_run.specs.Steps.{Step, driven, equation_step}
 use Rattle.step_run.specs.Plans.{Planned, Makes}
+use Rattle.step_run.specs.declared.resolved.Resolved.{Resolved}
 use Rattle.step_run.specs.Order.{edges_from, IsEvaluationOrder, slots_read, no_equation}
 
 -- the edges between equations, where these names have values given
@@ -19,6 +20,15 @@ pub record IsResolved (given : List (List ℕ)) (equations : List Equation) (nam
   pub first_is : first ≡ length given
   pub reads_are : reads ≡ slots_read (driven given equations) equations
 
+abbrev pub AreResolved : List (List ℕ) → List Equation → Resolved → Type 0
+AreResolved given equations r =
+    IsResolved given equations (map (λ w. w.now) r.names.items) (map (λ k. k.now) r.slots.keys) r.first
+    (map (λ s. s.items) r.reads.items)
+
+-- equations in an order in which each one stands behind those that it reads
+abbrev pub AreOrdered : List (List ℕ) → List Equation → List ℕ → Type 0
+AreOrdered given equations order = IsEvaluationOrder (length equations) (equation_edges given equations) order
+
 -- the steps of equations in an order
 abbrev pub ordered_steps : List (List ℕ) → List Equation → List ℕ → List Step
 ordered_steps given equations order =
@@ -28,10 +38,17 @@ ordered_steps given equations order =
 pub record IsSolver (given : List (List ℕ)) (equations : List Equation) (plan : Planned) : Type 0 where
   pub named_is : plan.named ≡ length (driven given equations)
   pub order : List ℕ
-  pub ordered : IsEvaluationOrder (length equations) (equation_edges given equations) order
+  pub ordered : AreOrdered given equations order
   pub makes : Makes plan (ordered_steps given equations order)
 
 -- these are the slots of names that have a value
 pub record AreSlots (names picked : List (List ℕ)) (slots : List ℕ) : Type 0 where
   pub are : slots ≡ map (slot_in names) picked
   pub low : All (λ slot. slot < length names) slots
+
+-- a plan that solves equations, with the slots of the names whose values registers get, and of those that are shown
+pub record IsPlanOf (given : List (List ℕ)) (equations : List Equation) (names sources shown : List (List ℕ))
+    (plan : Planned) (from to : List ℕ) : Type 0 where
+  pub solver : IsSolver given equations plan
+  pub sources_are : AreSlots names sources from
+  pub shown_are : AreSlots names shown to

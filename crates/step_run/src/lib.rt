@@ -15,6 +15,7 @@ mod lookup;
 mod order;
 mod plan;
 mod registers;
+mod resolved;
 mod slots;
 mod term;
 
@@ -22,5 +23,6 @@ pub use expressions::{expr_term, push_expr};
 pub use order::evaluation_order;
 pub use plan::Plan;
 pub use registers::{Registers, take_values};
+pub use resolved::Resolved;
 pub use slots::{slot_of, slot_table, slots_of};
 pub use term::{Junction, Term};

@@ -6,3 +6,4 @@ pub use Rattle.trace_run.proofs.Fronts.{front-of, front-whole, lines-of}
 pub use Rattle.trace_run.proofs.Events.{events-fit, runs-along, traces-begin}
 pub use Rattle.trace_run.proofs.Written.{widths}
 pub use Rattle.trace_run.proofs.Pauses.{answers-run, listed-last}
+pub use Rattle.trace_run.proofs.Deciding.{event-told}

@@ -1,5 +1,5 @@
 -- Items between readings, and what they drive: one list behind another.
-use Rattle.std.proofs.Common.{◌≡◌, ◌+◌, Bool, List, [], ◌∷◌, ◌++◌, Some, None, sym, subst, append-nil}
+use Rattle.std.proofs.Common.{◌≡◌, ◌+◌, List, [], ◌∷◌, ◌++◌, Some, None, sym, subst, append-nil}
 use Rattle.std.proofs.lemmas.List.{append_assoc}
 use Rattle.est_base.specs.Items.{Item, Event, Reset}
 use Rattle.trace_io.specs.declared.faults.TraceFault.{TraceFault}

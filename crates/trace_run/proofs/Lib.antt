@@ -5,5 +5,6 @@ mod Fronts
 mod Events
 mod Written
 mod Pauses
+mod Deciding
 mod worked
 pub mod Exports

@@ -9,7 +9,9 @@ use Rattle.net_ir.specs.declared.netlist.NetOut.{NetOut}
 use Rattle.net_ir.specs.Gates.{value_in}
 use Rattle.net_ir.specs.Netlists.{Netlist}
 use Rattle.net_ir.specs.Runs.{Shown, shown}
-use Rattle.trace_run.specs.Languages.{shown_answer}
+use Rattle.trace_io.specs.declared.lines.Word.{Word}
+use Rattle.trace_io.specs.declared.lines.Word.TheVariants.{Bare}
+use Rattle.trace_run.specs.Languages.{shown_answer, word_of}
 use Rattle.trace_run.specs.Pauses.{tells_pause, listed_count, answer_of}
 
 module _ (paused : List ℕ) where
@@ -42,3 +44,13 @@ module _ (paused : List ℕ) where
       let here = answer-last names (shown net values) (wide ∙ sym same) in
       ap (λ x. x ∷ map (answer_of paused (names ++ paused ∷ [])) (map (λ (s : Shown). s.outputs ++ s.paused ∷ []) (map (shown net) runs))) here
       ∙ ap (λ x. shown_answer (shown net values) ∷ x) (answers-run net names runs same)
+
+  -- where the last output has another name, there is no word
+  pub bare-word : (outputs : List (List ℕ)) (values : List Bool) → tells_pause paused outputs ≡ false → Bare ≡ (answer_of paused outputs values).word
+  bare-word outputs values tells = sym (ap (λ b. if b then word_of (get_or values (length outputs - 1) false) else Bare) tells)
+
+  -- and else it is that of the last value
+  pub last-word : (outputs : List (List ℕ)) (values : List Bool) (word : Word) → tells_pause paused outputs ≡ true → length values ≡ length outputs
+      → word ≡ word_of (get_or values (length values - 1) false) → word ≡ (answer_of paused outputs values).word
+  last-word outputs values word tells same is =
+      is ∙ ap (λ n. word_of (get_or values (n - 1) false)) same ∙ sym (ap (λ b. if b then word_of (get_or values (length outputs - 1) false) else Bare) tells)

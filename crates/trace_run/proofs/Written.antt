@@ -1,5 +1,5 @@
 -- What a machine shows over a trace, told of what it runs.
-use Rattle.std.proofs.Common.{◌≡◌, ℕ, List, [], ◌∷◌, length, map, Result, subst, ap, ◌∙◌}
+use Rattle.std.proofs.Common.{◌≡◌, ℕ, List, [], ◌∷◌, length, Result, subst, ap, ◌∙◌}
 use Rattle.est_base.specs.Items.{Item, Event, Reset, EachEvent}
 use Rattle.est_base.specs.Relations.{Relation, MeetsAll}
 use Rattle.est_base.specs.SinkChanges.{SinkChange}

@@ -11,9 +11,11 @@ mod laws;
 mod machine;
 mod running;
 mod texts;
+mod words;
 
 pub use language::Language;
 pub use laws::{events_fit, runs_are_written};
 pub use machine::Runner;
 pub use running::{Interface, RunFault, run_trace};
 pub use texts::{copied_names, net_interface, run_text, run_written};
+pub use words::{listed_count, tells_pause, told_word, word_of};

@@ -1,17 +1,18 @@
 -- The assignments of a sound module as equations, and as steps of a plan.
 use Rattle.std.proofs.Common.{◌≡◌, ℕ, ◌+◌, ◌<◌, true, List, [], ◌∷◌, ◌++◌, length, map, get_or, All, refl, sym, ap, ◌∙◌, arith, subst, append_assoc}
 use Rattle.std.specs.List.{AllByRecursion}
-use Rattle.std.proofs.lemmas.List.{length-map, length-append, get_or-map}
+use Rattle.std.proofs.lemmas.List.{length-map, get_or-map}
 use Rattle.est_base.specs.Distinct.{all_differ}
 use Rattle.est_base.specs.Names.{is_same_name}
 use Rattle.net_ir.specs.NameLists.{is_among}
 use Rattle.expr_text.specs.Names.{names_in}
 use Rattle.expr_text.specs.Trees.{Expr}
+use Rattle.step_run.specs.Equations.{Equation}
 use Rattle.step_run.specs.Slots.{slot_in}
 use Rattle.step_run.specs.Steps.{driven, equation_step, IsLocal, AreSound}
 use Rattle.step_run.specs.Order.{slots_read, no_equation}
 use Rattle.step_run.specs.Solvers.{ordered_steps}
-use Rattle.step_run.proofs.Exports.{value-local, driven-count, output-slot}
+use Rattle.step_run.proofs.Exports.{all-made, value-local, driven-count, output-slot}
 use Rattle.vlog_text.specs.Machine.{given_inputs, driven_names}
 use Rattle.vlog_text.specs.Trees.{Assign, Module}
 use Rattle.vlog_run.specs.Loops.{equation_of, equations_of}
@@ -28,17 +29,6 @@ names-are design =
     append_assoc (given_inputs design) (map (λ r. r.name) design.registers) (map (λ e. e.output) (equations_of design))
     ∙ ap (λ outs. given_inputs design ++ (map (λ r. r.name) design.registers ++ outs)) (outputs-same design.assigns)
 
-pub given-count : (design : Module) → length (given_names design) ≡ length (given_inputs design) + length design.registers
-given-count design =
-    length-append (given_inputs design) (map (λ r. r.name) design.registers)
-    ∙ ap (λ n. length (given_inputs design) + n) (length-map design.registers (λ r. r.name))
-
-reads-along : (names : List (List ℕ)) (assigns : List (Assign Expr))
-    → AllByRecursion (λ a. AllByRecursion (λ x. is_among x names ≡ true) (names_in a.value)) assigns
-    → AllByRecursion (λ e. AllByRecursion (λ x. is_among x names ≡ true) e.reads) (map equation_of assigns)
-reads-along names [] all = tt
-reads-along names (a ∷ assigns) all = (all.0, reads-along names assigns all.1)
-
 assigns-local : (assigns : List (Assign Expr)) → AllByRecursion IsLocal (map equation_of assigns)
 assigns-local [] = tt
 assigns-local (a ∷ assigns) = (λ u v same. value-local u v a.value same, assigns-local assigns)
@@ -51,7 +41,8 @@ reads-same names (a ∷ assigns) = ap (λ l. map (slot_in names) (names_in a.val
 pub sound-equations : (design : Module) → IsSound design → AreSound (given_names design) (equations_of design)
 sound-equations design sound = record {
   differ = ap (all_differ is_same_name) (names-are design) ∙ sound.differ;
-  reads_driven = reads-along (driven (given_names design) (equations_of design)) design.assigns
+  reads_driven = all-made (λ (e : Equation). AllByRecursion (λ x. is_among x (driven (given_names design) (equations_of design)) ≡ true) e.reads)
+      equation_of design.assigns
       (subst (λ names. AllByRecursion (λ (a : Assign Expr). AllByRecursion (λ x. is_among x names ≡ true) (names_in a.value)) design.assigns)
       (sym (names-are design)) sound.reads);
   local = assigns-local design.assigns;

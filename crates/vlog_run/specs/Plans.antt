@@ -3,7 +3,7 @@ use Rattle.std.specs.Prelude.{ℕ, false, List, [], ◌++◌, map, slice_index_o
 use Rattle.expr_text.specs.Trees.{Expr, Const}
 use Rattle.step_run.specs.Expressions.{expr_step}
 use Rattle.step_run.specs.Plans.{Planned}
-use Rattle.step_run.specs.Solvers.{IsSolver, AreSlots}
+use Rattle.step_run.specs.Solvers.{IsPlanOf}
 use Rattle.step_run.specs.Steps.{Step}
 use Rattle.vlog_text.specs.Machine.{given_inputs, driven_names}
 use Rattle.vlog_text.specs.Trees.{Assign, Module}
@@ -26,7 +26,7 @@ step_at names assigns k = assign_step names (slice_index_or assigns k no_assign)
 
 -- The plan makes the assignments in an evaluation order, and there are the slots of the names that the registers get
 -- and of the outputs.
-pub record IsPlan (design : Module) (plan : Planned) (sources shown : List ℕ) : Type 0 where
-  pub solver : IsSolver (given_names design) (equations_of design) plan
-  pub sources_are : AreSlots (driven_names design) (map (λ r. r.from) design.registers) sources
-  pub shown_are : AreSlots (driven_names design) design.outputs shown
+abbrev pub IsPlan : Module → Planned → List ℕ → List ℕ → Type 0
+IsPlan design =
+    IsPlanOf (given_names design) (equations_of design) (driven_names design) (map (λ r. r.from) design.registers)
+    design.outputs

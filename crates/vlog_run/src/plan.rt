@@ -2,10 +2,9 @@
 
 ghost use Rattle.std.specs.Prelude.{◌≡◌, ◌<◌, map, length, All, IfOk, OnOk};
 ghost use Rattle.est_base.specs.Stops.{IfFault};
-ghost use Rattle.step_run.specs.Order.{IsEvaluationOrder};
 ghost use Rattle.step_run.specs.Plans.{Adds, Makes};
 ghost use Rattle.step_run.specs.Slots.{slot_in};
-ghost use Rattle.step_run.specs.Solvers.{IsResolved, equation_edges};
+ghost use Rattle.step_run.specs.Solvers.{AreOrdered, AreResolved};
 ghost use Rattle.vlog_run.specs.Loops.{IsDescribed, IsLoop, HasNoLoop, equations_of};
 ghost use Rattle.vlog_run.specs.Plans.{IsPlan, assign_step, given_names, step_at};
 ghost use Rattle.vlog_text.specs.Views.{assign_of, module_of};
@@ -14,7 +13,7 @@ use crate::slots::{driven_names, slots_read, source_slots};
 use est_base::{NoMemory, Stop, Text};
 use indexmap::IndexSet;
 use std::alloc::Global;
-use step_run::{Plan, evaluation_order, push_expr, slot_table, slots_of};
+use step_run::{Plan, Resolved, evaluation_order, push_expr, slot_table, slots_of};
 use vlog_text::{Assign, Module};
 
 #[derive(Drop)]
@@ -50,11 +49,9 @@ fn ordered_plan(
     order: &[usize],
 ) -> Result<ModulePlan, NoMemory>
     requires described { IsDescribed (module_of design.now) }
-    requires resolved { IsResolved (given_names (module_of design.now)) (equations_of (module_of design.now))
-        (map (λ w. w.now) resolved.now.names.items) (map (λ k. k.now) resolved.now.slots.keys) resolved.now.first
-        (map (λ s. s.items) resolved.now.reads.items) }
-    requires order { IsEvaluationOrder (length (equations_of (module_of design.now)))
-        (equation_edges (given_names (module_of design.now)) (equations_of (module_of design.now))) order.now }
+    requires resolved { AreResolved (given_names (module_of design.now)) (equations_of (module_of design.now))
+        resolved.now }
+    requires order { AreOrdered (given_names (module_of design.now)) (equations_of (module_of design.now)) order.now }
     ensures { IfOk result (λ p. IsPlan (module_of design.now) p.assigns p.sources.items p.shown.items) }
 {
     let sources = source_slots(alloc, &resolved.slots, &design.registers)?;
@@ -97,21 +94,10 @@ fn push_assign(plan: &mut Plan, slots: &IndexSet<&[u8]>, assign: &Assign) -> Res
 }
 
 // The slots of the names of a module.
-#[derive(Drop)]
-struct Resolved<'a> {
-    names: Vec<&'a [u8]>,
-    slots: IndexSet<&'a [u8]>,
-    // The slot of the first assignment's target.
-    first: usize,
-    // For each assignment the slots that it reads.
-    reads: Vec<Vec<usize>>,
-}
-
 fn resolved_names<'a>(alloc: Global, design: &'a Module) -> Result<Resolved<'a>, NoMemory>
     requires { IsDescribed (module_of design.now) }
     ensures { IfOk result
-        (λ r. IsResolved (given_names (module_of design.now)) (equations_of (module_of design.now))
-        (map (λ w. w.now) r.names.items) (map (λ k. k.now) r.slots.keys) r.first (map (λ s. s.items) r.reads.items)) }
+        (AreResolved (given_names (module_of design.now)) (equations_of (module_of design.now))) }
 {
     let names = driven_names(alloc, design)?;
     let slots = slot_table(alloc, &names)?;
@@ -131,11 +117,10 @@ fn assign_order(
     resolved: &Resolved<'_>,
 ) -> Result<Vec<usize>, Stop<Vec<Text>>>
     requires described { IsDescribed (module_of design.now) }
-    requires resolved { IsResolved (given_names (module_of design.now)) (equations_of (module_of design.now))
-        (map (λ w. w.now) resolved.now.names.items) (map (λ k. k.now) resolved.now.slots.keys) resolved.now.first
-        (map (λ s. s.items) resolved.now.reads.items) }
-    ensures order { IfOk result (λ order. IsEvaluationOrder (length (equations_of (module_of design.now)))
-        (equation_edges (given_names (module_of design.now)) (equations_of (module_of design.now))) order.items) }
+    requires resolved { AreResolved (given_names (module_of design.now)) (equations_of (module_of design.now))
+        resolved.now }
+    ensures order { IfOk result
+        (λ order. AreOrdered (given_names (module_of design.now)) (equations_of (module_of design.now)) order.items) }
     ensures acyclic { OnOk result (HasNoLoop (module_of design.now)) }
     ensures cyclic { IfFault result (λ names. IsLoop (module_of design.now) names.items) }
 {

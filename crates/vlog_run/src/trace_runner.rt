@@ -1,12 +1,11 @@
 // The runner of a module, as a machine that items drive.
 
-ghost use Rattle.std.specs.Prelude.{◌≡◌, ◌≤◌, [], map, length, IfOk, IsTrue, OnOk};
+ghost use Rattle.std.specs.Prelude.{◌≡◌, [], map, length, IfOk, IsTrue, OnOk};
 ghost use Rattle.est_base.specs.Distinct.{all_differ};
 ghost use Rattle.est_base.specs.Names.{is_same_name};
 ghost use Rattle.est_base.specs.Stops.{IfFault};
-ghost use Rattle.trace_run.specs.Languages.{word_of};
 ghost use Rattle.vlog_run.specs.Loops.{IsDescribed, IsLoop, HasNoLoop};
-ghost use Rattle.vlog_run.specs.ModuleAnswers.{bare_name, bare_inputs, bare_outputs, tells_pause, listed_count};
+ghost use Rattle.vlog_run.specs.ModuleAnswers.{bare_name, bare_inputs, bare_outputs, listed_count};
 ghost use Rattle.vlog_run.specs.Runners.{IsFresh, module_in};
 ghost use Rattle.vlog_text.specs.Views.{module_of};
 
@@ -16,7 +15,7 @@ use est_base::{NoMemory, Stop, Text};
 use std::alloc::Global;
 use std::marker::Model;
 use trace_io::Word;
-use trace_run::{Interface, Runner};
+use trace_run::{Interface, Runner, listed_count, told_word};
 use vlog_text::Module;
 
 /// A runner of a module, as one that items drive. A last output `paused` is none of the outgoing signals, and its value
@@ -98,15 +97,11 @@ impl Runner for VlogRunner {
 
     fn react(&mut self, inputs: &[bool]) -> Word {
         self.runner.react(inputs);
-        if !tells_pause(&self.runner.design().outputs) {
-            return Word::Bare;
-        }
-        let values = self.runner.outputs();
-        word_of(values[values.len() - 1])
+        told_word(PAUSED, &self.runner.design().outputs, self.runner.outputs())
     }
 
     fn outputs(&self) -> &[bool] {
-        &self.runner.outputs()[..listed_count(&self.runner.design().outputs)]
+        &self.runner.outputs()[..listed_count(PAUSED, &self.runner.design().outputs)]
     }
 
     fn reset(&mut self) {
@@ -127,7 +122,7 @@ fn module_interface(alloc: Global, design: &Module) -> Result<Interface, NoMemor
     let outputs = &design.outputs;
     Ok(Interface {
         given: bare_names(alloc, given_inputs(design))?,
-        outgoing: bare_names(alloc, &outputs[..listed_count(outputs)])?,
+        outgoing: bare_names(alloc, &outputs[..listed_count(PAUSED, outputs)])?,
         relations: Vec::new(alloc),
     })
 }
@@ -151,31 +146,3 @@ fn bare_name(name: &[u8]) -> &[u8]
 }
 
 const PAUSED: &[u8] = b"paused";
-
-// Whether the last of the outputs is `paused`.
-fn tells_pause(outputs: &[Text]) -> bool
-    ensures { result ≡ tells_pause outputs.now }
-{
-    match outputs.last() {
-        Some(name) => PAUSED == name.bytes(),
-        None => false,
-    }
-}
-
-// How many of the outputs are listed.
-fn listed_count(outputs: &[Text]) -> usize
-    ensures count { result ≡ listed_count outputs.now }
-    ensures within { result ≤ length outputs.now }
-{
-    if tells_pause(outputs) {
-        outputs.len() - 1
-    } else {
-        outputs.len()
-    }
-}
-
-fn word_of(paused: bool) -> Word
-    ensures { result ≡ word_of paused }
-{
-    if paused { Word::Paused } else { Word::Ended }
-}

@@ -1,29 +1,22 @@
-use Rattle.std.proofs.Common.{◌∙◌, ◌-◌, false, ap, sym, subst, length}
-use Rattle.std.specs.Prelude.{slice_index_or}
-use Rattle.trace_run.specs.Languages.{word_of}
+use Rattle.std.proofs.Common.{◌∙◌, ap, sym, subst, length}
 use Rattle.blif_text.specs.Circuits.{Circuit}
-use Rattle.blif_run.specs.CircuitAnswers.{tells_pause}
+use Rattle.blif_run.specs.CircuitAnswers.{answer_of}
 use Rattle.blif_run.specs.Loops.{IsDescribed}
 use Rattle.blif_run.specs.Runners.{Runner, Reacts}
-use Rattle.blif_run.proofs.Showing.{answered-as, bare-word, last-word, reacts-wide}
-use Rattle.trace_io.specs.declared.lines.Word.TheVariants.{Bare}
+use Rattle.blif_run.proofs.Showing.{answered-as, reacts-wide}
 use Rattle.blif_run.proofs.trace_runner.BlifRunnerRunner.react.Goals as goal
 
-pub returns-then-not-tells_pause-clause-answered : goal.returns-then-not-tells_pause-clause-answered
-returns-then-not-tells_pause-clause-answered c =
-    let new = c.react.new.self in
-    let described = subst (λ (r : Runner). IsDescribed r.circuit) c.self.view_is c.self.invariant.described in
-    let reacts = subst (λ r. Reacts r c.args.inputs.now new) c.self.view_is c.react.ensures in
-    let told = c.tells_pause.ensures ∙ ap tells_pause (c.deref.ensures.value ∙ ap (λ (k : Circuit). k.outputs) c.blif.ensures) in
-    answered-as c.args.self.now new c.args.inputs.now Bare described reacts (bare-word new.circuit.outputs new.outputs (sym told ∙ c.if-not-tells_pause.true))
+pub told_word-requires : goal.told_word-requires
+told_word-requires c =
+    let reacts = subst (λ r. Reacts r c.args.inputs.now c.react.new.self) c.self.view_is c.react.ensures in
+    ap length c.outputs.ensures ∙ reacts-wide c.args.self.now c.react.new.self c.args.inputs.now reacts
+    ∙ sym (ap length (c.deref.ensures.value ∙ ap (λ (k : Circuit). k.outputs) c.blif.ensures))
 
 pub returns-clause-answered : goal.returns-clause-answered
 returns-clause-answered c =
     let new = c.react.new.self in
     let described = subst (λ (r : Runner). IsDescribed r.circuit) c.self.view_is c.self.invariant.described in
     let reacts = subst (λ r. Reacts r c.args.inputs.now new) c.self.view_is c.react.ensures in
-    let told = c.tells_pause.ensures ∙ ap tells_pause (c.deref.ensures.value ∙ ap (λ (k : Circuit). k.outputs) c.blif.ensures) in
-    let wide = reacts-wide c.args.self.now new c.args.inputs.now reacts in
-    answered-as c.args.self.now new c.args.inputs.now c.word_of.result described reacts
-    (last-word new.circuit.outputs new.outputs c.word_of.result (sym told ∙ c.if-not-tells_pause.false) wide
-    (c.word_of.ensures ∙ ap (λ values. word_of (slice_index_or values (length values - 1) false)) c.outputs-values.ensures))
+    answered-as c.args.self.now new c.args.inputs.now c.told_word.result described reacts
+    (c.told_word.ensures ∙ ap (λ names. (answer_of names c.outputs.result.now).word) (c.deref.ensures.value ∙ ap (λ (k : Circuit). k.outputs) c.blif.ensures)
+    ∙ ap (λ values. (answer_of new.circuit.outputs values).word) c.outputs.ensures)
