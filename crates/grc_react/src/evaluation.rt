@@ -59,7 +59,7 @@ fn begin(alloc: Global, graph: &Graph, words: &Words, start: &Start<'_>) -> Resu
 {
     let wires = vec![in alloc; false; graph.wires.len()]?;
     let mut rows = Vec::new(alloc);
-    let early = words.early as usize;
+    let early = words.early;
     add_rows(start, &wires, &words.rows[..early], &mut rows)?;
     Ok(Values { wires, rows })
 }
@@ -91,7 +91,7 @@ fn add_late_rows(
     ensures late { OnOk result (Late graph.now words.now start.now values.new.wires.items values.new.rows.items) }
     ensures wires { values.new.wires.items ≡ values.old.wires.items }
 {
-    let early = words.early as usize;
+    let early = words.early;
     let rows = &mut values.rows;
     add_rows(start, &values.wires, &words.rows[early..], rows)?;
     Ok(())

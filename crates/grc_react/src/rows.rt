@@ -27,7 +27,7 @@ pub fn source_value(start: &Start<'_>, wires: &[bool], rows: &[bool], source: So
         Source::Leaf(leaf) => start.selected[leaf as usize],
         Source::Input(signal) => start.inputs[signal.0 as usize],
         Source::Wire(wire) => wires[wire.0 as usize],
-        Source::Row(row) => rows[row as usize],
+        Source::Row(row) => rows[row],
     }
 }
 

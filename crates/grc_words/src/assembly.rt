@@ -54,7 +54,7 @@ fn words_over(alloc: Global, graph: &Graph, statements: &[Statement<'_>]) -> Res
 /// What is said by rows, with the number of those that read neither wires nor the event.
 #[derive(Drop)]
 struct MadeSources {
-    early: u32,
+    early: usize,
     selected: Vec<Source>,
     kept: Vec<Source>,
     held: Vec<Source>,
@@ -74,7 +74,7 @@ fn made_sources(
 {
     let near = graph.neighbours();
     let selected = selected_sources(alloc, graph, statements, rows)?;
-    let early = count_rows(rows)?;
+    let early = rows.len();
     let made = make_holdings(alloc, graph, &near, statements, rows)?;
     let paused = paused_source(graph, &near, rows)?;
     Ok(MadeSources {
@@ -103,16 +103,6 @@ fn wire_places(alloc: Global, graph: &Graph) -> Result<WirePlaces, NoMemory>
     let ends = first_ends(alloc, graph)?;
     let outputs = output_sources(alloc, graph, &near)?;
     Ok(WirePlaces { ends, outputs })
-}
-
-// The number of rows so far. Numbers are u32, or else memory is said to be wanted.
-fn count_rows(rows: &[Row]) -> Result<u32, NoMemory>
-    ensures { IfOk result (λ count. count ≡ length rows.now) }
-{
-    if rows.len() > u32::MAX as usize {
-        return Err(NoMemory);
-    }
-    Ok(rows.len() as u32)
 }
 
 // What says that the program pauses.

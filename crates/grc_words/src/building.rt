@@ -7,17 +7,14 @@ ghost use Rattle.grc_words.specs.declared.table.Row.TheVariants.{Not};
 use crate::table::{Row, Source};
 use est_base::NoMemory;
 
-// One more row. Numbers are u32, or else memory is said to be wanted.
+// One more row.
 fn push_row(rows: &mut Vec<Row>, row: Row) -> Result<Source, NoMemory>
     ensures rows { IfOk result (λ s. rows.new.items ≡ rows.old.items ++ row ∷ []) }
     ensures source { IfOk result (λ s. s ≡ new_source rows.old.items) }
 {
     let number = rows.len();
-    if number >= u32::MAX as usize {
-        return Err(NoMemory);
-    }
     rows.push(row)?;
-    Ok(Source::Row(number as u32))
+    Ok(Source::Row(number))
 }
 
 // Whether a source is this constant.

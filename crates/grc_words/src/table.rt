@@ -12,7 +12,7 @@ pub enum Source {
     Input(SigId),
     Wire(WireId),
     /// The row with this number.
-    Row(u32),
+    Row(usize),
 }
 
 /// A row of the table.
@@ -29,7 +29,7 @@ pub enum Row {
 pub struct Words {
     pub rows: Vec<Row>,
     /// The number of rows at the front that read neither wires nor the event.
-    pub early: u32,
+    pub early: usize,
     /// For each statement, what says that it holds a selected pause.
     pub selected: Vec<Source>,
     /// For each instance, what says that every parallel that encloses it ends with code 1.

@@ -115,7 +115,7 @@ impl Circuit {
             Source::Leaf(leaf) => NetId(self.given + 1 + leaf),
             Source::Input(signal) => NetId(signal.0),
             Source::Wire(wire) => entry(&self.wires, wire.0 as usize),
-            Source::Row(row) => entry(&self.rows, row as usize),
+            Source::Row(row) => entry(&self.rows, row),
         }
     }
 

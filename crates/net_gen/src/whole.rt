@@ -38,7 +38,7 @@ pub(crate) fn make_circuit(
         (drawing_of whole.circuit) whole.next.items) }
 {
     let mut circuit = begin(alloc, graph, words)?;
-    let early = words.early as usize;
+    let early = words.early;
     make_rows(&mut circuit, graph, words, 0, early)?;
     make_wires(&mut circuit, graph, words, order)?;
     make_rows(&mut circuit, graph, words, early, words.rows.len())?;

@@ -1,6 +1,6 @@
 // Gates and systems of them.
 
-ghost use Rattle.std.specs.Prelude.{◌≡◌, ◌-◌, ◌<◌, ◌^◌, length, All, IsTrue, IfOk};
+ghost use Rattle.std.specs.Prelude.{◌≡◌, length, All, IsTrue, IfOk};
 ghost use Rattle.est_kernel.specs.Statuses.{conjunction, disjunction, known, opposite};
 ghost use Rattle.tri_gates.specs.Systems.{gate_fits, gate_status, operand, status_of, statuses_of, is_unknown};
 ghost use Rattle.tri_gates.specs.declared.gates.Side.{Side};
@@ -31,12 +31,12 @@ impl Value {
 #[derive(Clone, Copy)]
 pub enum Gate {
     /// The source with this number: what an instant brings, true or false.
-    Source(u32),
+    Source(usize),
     /// The same as the node.
-    Same(u32),
-    Not(u32),
-    And(u32, u32),
-    Or(u32, u32),
+    Same(usize),
+    Not(usize),
+    And(usize, usize),
+    Or(usize, usize),
 }
 
 /// Which operand of a gate is meant.
@@ -52,13 +52,12 @@ pub struct System {
     /// The gate of each node.
     pub gates: Vec<Gate>,
     /// The number of sources.
-    pub sources: u32,
+    pub sources: usize,
     /// Which gates have each node as their first operand.
     pub first: Links,
     /// Which gates have each node as their second operand.
     pub second: Links,
     ghost fit: { All (λ g. IsTrue (gate_fits (length gates.items) sources g)) gates.items },
-    ghost few: { length gates.items < 2 ^ 32 - 1 },
     ghost firsts: { AreLinks First gates.items first.last.items first.earlier.items },
     ghost seconds: { AreLinks Second gates.items second.last.items second.earlier.items },
 }
@@ -75,9 +74,8 @@ impl System {
     }
 
     /// The system of these gates. The time is linear in them. Its only error is want of memory.
-    pub fn new(alloc: Global, gates: Vec<Gate>, sources: u32) -> Result<System, NoMemory>
+    pub fn new(alloc: Global, gates: Vec<Gate>, sources: usize) -> Result<System, NoMemory>
         requires fit { All (λ g. IsTrue (gate_fits (length gates.items) sources g)) gates.items }
-        requires few { length gates.items < 2 ^ 32 - 1 }
         ensures gates { IfOk result (λ s. s.gates.items ≡ gates.items) }
         ensures sources { IfOk result (λ s. s.sources ≡ sources) }
     {
@@ -93,7 +91,7 @@ impl System {
 }
 
 // An operand of a gate.
-pub(crate) fn operand(gate: Gate, side: Side) -> Option<u32>
+pub(crate) fn operand(gate: Gate, side: Side) -> Option<usize>
     ensures { result ≡ operand side gate }
 {
     match side {
@@ -102,7 +100,7 @@ pub(crate) fn operand(gate: Gate, side: Side) -> Option<u32>
     }
 }
 
-fn first_operand(gate: Gate) -> Option<u32>
+fn first_operand(gate: Gate) -> Option<usize>
     ensures { result ≡ operand Side.First gate }
 {
     match gate {
@@ -111,7 +109,7 @@ fn first_operand(gate: Gate) -> Option<u32>
     }
 }
 
-fn second_operand(gate: Gate) -> Option<u32>
+fn second_operand(gate: Gate) -> Option<usize>
     ensures { result ≡ operand Side.Second gate }
 {
     match gate {
@@ -168,10 +166,10 @@ pub(crate) fn gate_value(gate: Gate, sources: &[bool], values: &[Value]) -> Valu
     ensures { status_of result ≡ gate_status sources.now (statuses_of values.now) gate }
 {
     match gate {
-        Gate::Source(k) => known(sources[k as usize]),
-        Gate::Same(a) => values[a as usize],
-        Gate::Not(a) => opposite(values[a as usize]),
-        Gate::And(a, b) => conjunction(values[a as usize], values[b as usize]),
-        Gate::Or(a, b) => disjunction(values[a as usize], values[b as usize]),
+        Gate::Source(k) => known(sources[k]),
+        Gate::Same(a) => values[a],
+        Gate::Not(a) => opposite(values[a]),
+        Gate::And(a, b) => conjunction(values[a], values[b]),
+        Gate::Or(a, b) => disjunction(values[a], values[b]),
     }
 }

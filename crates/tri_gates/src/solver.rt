@@ -14,7 +14,7 @@ use std::alloc::Global;
 #[derive(Drop)]
 pub struct Solver {
     pub values: Vec<Value>,
-    pub stack: Vec<u32>,
+    pub stack: Vec<usize>,
     pub height: usize,
 }
 
@@ -25,7 +25,7 @@ impl Solver {
     {
         Ok(Solver {
             values: vec![in alloc; Value::Unknown; nodes]?,
-            stack: vec![in alloc; 0u32; nodes]?,
+            stack: vec![in alloc; 0usize; nodes]?,
             height: 0,
         })
     }
@@ -40,7 +40,7 @@ impl Solver {
     {
         self.clear();
         for node in 0..system.gates.len() {
-            self.look_at(system, sources, node as u32);
+            self.look_at(system, sources, node);
             self.empty_stack(system, sources);
         }
     }
@@ -86,7 +86,7 @@ impl Solver {
     }
 
     // Takes the last node of the list.
-    fn pop(&mut self) -> u32
+    fn pop(&mut self) -> usize
         requires some { 0 < self.old.height }
         requires listed { self.old.height ≤ length self.old.stack.items }
         ensures { Pops self.old self.new result }
@@ -96,7 +96,7 @@ impl Solver {
     }
 
     // Looks at each gate that has the node as this operand.
-    fn look_at_readers(&mut self, system: &System, sources: &[bool], node: u32, side: Side)
+    fn look_at_readers(&mut self, system: &System, sources: &[bool], node: usize, side: Side)
         requires fits { Fits (length system.now.gates.items) self.old }
         requires sources { length sources.now ≡ system.now.sources }
         requires node { node < length system.now.gates.items }
@@ -108,15 +108,15 @@ impl Solver {
             → IsUnderway system.now.gates.items sources.now self.new todo }
     {
         let links = system.links(side);
-        let mut rest = links.last[node as usize];
+        let mut rest = links.last[node];
         while rest > 0 {
             self.look_at(system, sources, rest - 1);
-            rest = links.earlier[(rest - 1) as usize];
+            rest = links.earlier[rest - 1];
         }
     }
 
     // Decides a node, where its gate has a value.
-    fn look_at(&mut self, system: &System, sources: &[bool], node: u32)
+    fn look_at(&mut self, system: &System, sources: &[bool], node: usize)
         requires fits { Fits (length system.now.gates.items) self.old }
         requires sources { length sources.now ≡ system.now.sources }
         requires node { node < length system.now.gates.items }
@@ -125,8 +125,8 @@ impl Solver {
         ensures goes_on { (todo : ℕ → Bool) → IsUnderway system.now.gates.items sources.now self.old todo
             → IsUnderway system.now.gates.items sources.now self.new (without node todo) }
     {
-        if self.values[node as usize].is_unknown() {
-            let value = gate_value(system.gates[node as usize], sources, &self.values);
+        if self.values[node].is_unknown() {
+            let value = gate_value(system.gates[node], sources, &self.values);
             if !value.is_unknown() {
                 self.decide(node, value);
             }
@@ -134,12 +134,12 @@ impl Solver {
     }
 
     // Gives a node its value, and puts it on the list.
-    fn decide(&mut self, node: u32, value: Value)
+    fn decide(&mut self, node: usize, value: Value)
         requires node { node < length self.old.values.items }
         requires room { self.old.height < length self.old.stack.items }
         ensures { Decides self.old self.new node value }
     {
-        self.values[node as usize] = value;
+        self.values[node] = value;
         self.stack[self.height] = node;
         self.height += 1;
     }

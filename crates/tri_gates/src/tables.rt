@@ -1,22 +1,16 @@
-// Tables of gates behind the wires.
+// Tables of gates.
 
-ghost use Rattle.std.specs.Prelude.{◌≡◌, ◌+◌, ◌<◌, ◌-◌, ◌^◌, ◌++◌, ◌∷◌, [], length, IfOk};
+ghost use Rattle.std.specs.Prelude.{◌≡◌, ◌++◌, ◌∷◌, [], length, IfOk};
 
 use crate::gates::Gate;
 use est_base::NoMemory;
 
-/// Puts a gate at the end of a table behind so many wires, and gives its number among the nodes. Numbers
-/// are u32, or else memory is said to be wanted, which is the only error.
-pub fn push_gate(wires: u32, table: &mut Vec<Gate>, gate: Gate) -> Result<u32, NoMemory>
+/// Puts a gate at the end of a table, and gives its place there. Its only error is want of memory.
+pub fn push_gate(table: &mut Vec<Gate>, gate: Gate) -> Result<usize, NoMemory>
     ensures table { IfOk result (λ n. table.new.items ≡ table.old.items ++ gate ∷ []) }
-    ensures node { IfOk result (λ n. n ≡ wires + length table.old.items) }
-    ensures few { IfOk result (λ n. n < 2 ^ 32 - 2) }
+    ensures place { IfOk result (λ n. n ≡ length table.old.items) }
 {
-    let room = u32::MAX - 1;
-    let number = table.len();
-    if wires >= room || number >= (room - wires) as usize {
-        return Err(NoMemory);
-    }
+    let place = table.len();
     table.push(gate)?;
-    Ok(wires + number as u32)
+    Ok(place)
 }

@@ -27,7 +27,6 @@ use Rattle.tri_run.proofs.ChainSteps.{gate-means}
 pub ready-stays : (m : Making) (old new : List Gate) → Ready m old → Extends (shape_of m) old new → Ready m new
 ready-stays m old new r e = record {
   words = r.words;
-  few = r.few;
   small = r.small;
   some = r.some;
   each = r.each;

@@ -1,10 +1,7 @@
 -- What the graph of a program gives to its runner.
 use Rattle.std.proofs.Common.{◌≡◌, ◌<◌, false, List, length, slice_index_or, All, sym, ap, ◌∙◌, subst, arith}
-use Rattle.std.proofs.Common.{◌^◌}
 use Rattle.std.proofs.lemmas.List.{get_or_default}
-use Rattle.est_kernel.specs.Plain.{given_count}
 use Rattle.est_kernel.specs.Plain.{Program}
-use Rattle.est_kernel.specs.WellFormed.{IsWellFormed}
 use Rattle.grc_graph.specs.declared.formulas.Formula.{Formula}
 use Rattle.grc_graph.specs.declared.formulas.Formula.TheVariants as variants
 use Rattle.grc_graph.specs.declared.graph.Graph.{Graph}
@@ -56,9 +53,3 @@ equations-plain g p law kernel is k d low =
     ap (λ (P : PlainGraph). (slice_index_or P.equations k d2).formula) (sym is.graph) ∙ formula-of-equation g k d2 under in
     let known = plain-known _ (equation_at g k) (instances_of g) (names_of g) (subst (ReadsOnly _) at reads) in
     subst (IsKnown ⊥) (get_or_default g.equations.items k (variants.Const false) d low) known
-
-pub given-few : (p : Program) → IsWellFormed p → given_count p < 2 ^ 32
-given-few p formed =
-    let a = formed.at_most in
-    let b = formed.interface in
-    omega arith

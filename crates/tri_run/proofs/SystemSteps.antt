@@ -1,5 +1,5 @@
 -- The gates of a graph's wires, one after another.
-use Rattle.std.proofs.Common.{◌≡◌, ℕ, ◌+◌, ◌-◌, ◌<◌, ◌≤◌, ◌^◌, List, [], ◌∷◌, ◌++◌, length, slice_index_or, IsTrue, All, refl, sym, ap}
+use Rattle.std.proofs.Common.{◌≡◌, ℕ, ◌+◌, ◌-◌, ◌<◌, ◌≤◌, List, [], ◌∷◌, ◌++◌, length, slice_index_or, IsTrue, All, refl, sym, ap}
 use Rattle.std.proofs.Common.{◌∙◌, subst, ⊎_elim, arith}
 use Rattle.std.proofs.lemmas.Bool.{cases_eq, cases_lt, ltb-true}
 use Rattle.std.proofs.lemmas.List.{get_or_append_left, get_or_push, length_push, length-append, get_or-append-add, get_or_default}
@@ -24,16 +24,15 @@ fits-sources n m (gates.And a b) fits = fits
 fits-sources n m (gates.Or a b) fits = fits
 
 -- once the chains are made, gates can be
-pub ready-begun : (m : Making) (table : List Gate) → AreWordsOf m.graph.now m.words.now → length m.graph.now.wires.items < 2 ^ 32
+pub ready-begun : (m : Making) (table : List Gate) → AreWordsOf m.graph.now m.words.now
     → CountsOf m.graph.now m.words.now m.counts → AreChains m.graph.now m.words.now table m.chains.now → Ready m table
-ready-begun m table a few counted chains =
+ready-begun m table a counted chains =
     let some = a.one_per_statement in
     let all = counted.statements in
     let fit : TableFits (shape_of m) table =
     λ k low. fits-sources (length m.graph.now.wires.items + k) (shape_of m).sources (gate_at table k) (chains.fit k low) in
     record {
       words = a;
-      few = few;
       small = counted.small;
       some = omega arith;
       each = chains.each;

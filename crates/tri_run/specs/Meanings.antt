@@ -67,8 +67,7 @@ shape_of m = shape m.graph.now m.counts
 -- gates can be made over a table
 pub record Ready (m : Making) (table : List Gate) : Type 0 where
   pub words : AreWordsOf m.graph.now m.words.now
-  pub few : length m.graph.now.wires.items < 2 ^ 32
-  pub small : 3 + m.counts.given + m.counts.statements < 2 ^ 32
+  pub small : 3 + m.counts.given + m.counts.statements < 2 ^ 64
   pub some : 0 < m.counts.statements
   pub each : length m.chains.now ≡ length m.graph.now.wires.items
   pub extends : Extends (shape_of m) table table

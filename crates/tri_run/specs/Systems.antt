@@ -18,7 +18,7 @@ use Rattle.tri_run.specs.Numbers.{shape}
 pub record CountsOf (g : Graph) (w : Words) (c : Counts) : Type 0 where
   pub given : c.given ≡ given_count (program_of g.program)
   pub statements : c.statements ≡ length w.selected.items
-  pub small : 3 + c.given + c.statements < 2 ^ 32
+  pub small : 3 + c.given + c.statements < 2 ^ 64
 
 -- the formula of a wire
 abbrev pub equation_at : Graph → ℕ → Formula

@@ -1,6 +1,6 @@
 // For each end of an instance, what says that the instance ends with its code or an earlier one.
 
-ghost use Rattle.std.specs.Prelude.{◌≡◌, ◌+◌, ◌<◌, ◌≤◌, ◌^◌, ◌++◌, ◌∷◌, [], length, IfOk};
+ghost use Rattle.std.specs.Prelude.{◌≡◌, ◌+◌, ◌<◌, ◌≤◌, ◌++◌, ◌∷◌, [], length, IfOk};
 ghost use Rattle.grc_words.specs.WordLaws.{AreWordsOf, ends_upto, first_end};
 ghost use Rattle.tri_run.specs.Chains.{AreChains, ChainsSoFar, continues};
 
@@ -18,9 +18,8 @@ pub(crate) fn make_chains(
     graph: &Graph,
     words: &Words,
     table: &mut Vec<Gate>,
-) -> Result<Vec<u32>, NoMemory>
+) -> Result<Vec<usize>, NoMemory>
     requires words { AreWordsOf graph.now words.now }
-    requires few { length graph.now.wires.items < 2 ^ 32 }
     requires begun { length table.old.items ≡ 0 }
     ensures { IfOk result (λ chains. AreChains graph.now words.now table.new.items chains.items) }
 {
@@ -36,23 +35,22 @@ pub(crate) fn make_chains(
 fn chain_node(
     graph: &Graph,
     words: &Words,
-    chains: &[u32],
+    chains: &[usize],
     wire: usize,
     table: &mut Vec<Gate>,
-) -> Result<u32, NoMemory>
+) -> Result<usize, NoMemory>
     requires words { AreWordsOf graph.now words.now }
-    requires few { length graph.now.wires.items < 2 ^ 32 }
     requires wire { wire < length graph.now.wires.items }
     requires so_far { ChainsSoFar graph.now words.now table.old.items chains.now wire }
     ensures { IfOk result (λ node. ChainsSoFar graph.now words.now table.new.items (chains.now ++ node ∷ [])
         (wire + 1)) }
 {
     if continues(graph, words, wire) {
-        let gate = Gate::Or(chains[wire - 1], wire as u32);
-        let node = push_gate(graph.wires.len() as u32, table, gate)?;
-        Ok(node)
+        let gate = Gate::Or(chains[wire - 1], wire);
+        let place = push_gate(table, gate)?;
+        Ok(graph.wires.len() + place)
     } else {
-        Ok(wire as u32)
+        Ok(wire)
     }
 }
 

@@ -20,7 +20,7 @@ use tri_gates::{Gate, push_gate};
 pub(crate) struct Making<'a> {
     pub graph: &'a Graph,
     pub words: &'a Words,
-    pub chains: &'a [u32],
+    pub chains: &'a [usize],
     pub counts: Counts,
 }
 
@@ -42,7 +42,7 @@ pub(crate) fn make_gate(
         Formula::Const(value) => Ok(constant_gate(*value)),
         Formula::Boot => Ok(Gate::Source(BOOT)),
         Formula::Input(signal) => Ok(Gate::Source(making.counts.input(*signal))),
-        Formula::Wire(wire) => Ok(Gate::Same(wire.0)),
+        Formula::Wire(wire) => Ok(Gate::Same(wire.0 as usize)),
         Formula::Selected(path) => Ok(Gate::Source(making.counts.selected(*path))),
         Formula::Upto(instance, code) => Ok(upto_gate(making, *instance, *code)),
         Formula::Kept(_) | Formula::Held(_) => unreachable!(),
@@ -64,7 +64,11 @@ pub(crate) fn make_gate(
 
 // The node of a formula: a wire is one.
 #[cycle(making)]
-fn make_node(making: &Making<'_>, formula: &Formula, table: &mut Vec<Gate>) -> Result<u32, NoMemory>
+fn make_node(
+    making: &Making<'_>,
+    formula: &Formula,
+    table: &mut Vec<Gate>,
+) -> Result<usize, NoMemory>
     requires ready { Ready making.now table.old.items }
     requires fits { IsTrue (formula_fits (length making.now.graph.now.instances.list.items)
         (length making.now.graph.now.wires.items) formula.now) }
@@ -73,18 +77,18 @@ fn make_node(making: &Making<'_>, formula: &Formula, table: &mut Vec<Gate>) -> R
         (meaning_of making.now formula.now)) }
 {
     if let Formula::Wire(wire) = formula {
-        return Ok(wire.0);
+        return Ok(wire.0 as usize);
     }
     let gate = make_gate(making, formula, table)?;
-    let node = push_gate(making.graph.wires.len() as u32, table, gate)?;
-    Ok(node)
+    let place = push_gate(table, gate)?;
+    Ok(making.graph.wires.len() + place)
 }
 
 /// Two nodes.
 #[derive(Clone, Copy)]
 struct Nodes {
-    left: u32,
-    right: u32,
+    left: usize,
+    right: usize,
 }
 
 // The nodes of two formulas.
@@ -145,11 +149,12 @@ fn any_gate(making: &Making<'_>, list: &[WireId], table: &mut Vec<Gate>) -> Resu
     if list.is_empty() {
         return Ok(Gate::Source(FALSE));
     }
-    let wires = making.graph.wires.len() as u32;
+    let wires = making.graph.wires.len();
     let last = list.len() - 1;
-    let mut node = list[last].0;
+    let mut node = list[last].0 as usize;
     for place in (0..last).rev() {
-        node = push_gate(wires, table, Gate::Or(list[place].0, node))?;
+        let added = push_gate(table, Gate::Or(list[place].0 as usize, node))?;
+        node = wires + added;
     }
     Ok(Gate::Same(node))
 }

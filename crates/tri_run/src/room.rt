@@ -44,7 +44,7 @@ impl Room {
         ensures room { HasRoom graph.now words.now system.now self.new }
         ensures settled { Settled graph.now start.now self.new }
     {
-        let early = words.early as usize;
+        let early = words.early;
         fill_rows(start, &self.wires, &words.rows, 0, early, &mut self.rows);
         put_sources(words, start, &self.rows[..early], &mut self.sources);
         self.solver.settle(system, &self.sources);
@@ -103,7 +103,7 @@ pub(crate) fn make_room(
 {
     Ok(Room {
         solver: Solver::new(alloc, system.gates.len())?,
-        sources: vec![in alloc; false; system.sources as usize]?,
+        sources: vec![in alloc; false; system.sources]?,
         rows: vec![in alloc; false; words.rows.len()]?,
         wires: vec![in alloc; false; graph.wires.len()]?,
         next: vec![in alloc; false; graph.next.len()]?,
@@ -145,7 +145,7 @@ fn put_sources(words: &Words, start: &Start<'_>, rows: &[bool], sources: &mut Ve
     ensures { sources.new.items ≡ sources_in words.now start.now rows.now }
 {
     put_given(start, sources);
-    let from = INPUTS as usize + start.inputs.len();
+    let from = INPUTS + start.inputs.len();
     put_values(start, &[], rows, &words.selected, from, sources);
 }
 
@@ -156,11 +156,11 @@ fn put_given(start: &Start<'_>, sources: &mut Vec<bool>)
     ensures front { take (3 + length start.now.inputs.now) sources.new.items
         ≡ false ∷ (true ∷ (start.now.boot ∷ start.now.inputs.now)) }
 {
-    sources[FALSE as usize] = false;
-    sources[TRUE as usize] = true;
-    sources[BOOT as usize] = start.boot;
+    sources[FALSE] = false;
+    sources[TRUE] = true;
+    sources[BOOT] = start.boot;
     for (k, given) in start.inputs.iter().enumerate() {
-        sources[INPUTS as usize + k] = *given;
+        sources[INPUTS + k] = *given;
     }
 }
 

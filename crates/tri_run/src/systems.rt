@@ -1,10 +1,8 @@
 // The system of a graph: a gate for each wire, over a table of further gates.
 
-ghost use Rattle.std.specs.Prelude.{◌≡◌, ◌+◌, ◌<◌, ◌^◌, ◌++◌, length, All, IfOk, IsTrue, OnOk};
-ghost use Rattle.est_kernel.specs.Plain.{program_of, given_count};
+ghost use Rattle.std.specs.Prelude.{◌≡◌, ◌++◌, length, All, IfOk, OnOk};
 ghost use Rattle.grc_react.specs.Evaluations.{IsKnown};
 ghost use Rattle.grc_words.specs.WordLaws.{AreWordsOf};
-ghost use Rattle.tri_gates.specs.Systems.{gate_fits};
 ghost use Rattle.tri_run.specs.Meanings.{Ready};
 ghost use Rattle.tri_run.specs.Systems.{CountsOf, GatesMade, IsSystemOf};
 
@@ -23,12 +21,10 @@ use tri_gates::{Gate, System};
 /// equations. Its only error is want of memory.
 pub(crate) fn make_system(alloc: Global, graph: &Graph, words: &Words) -> Result<System, NoMemory>
     requires words { AreWordsOf graph.now words.now }
-    requires few { length graph.now.wires.items < 2 ^ 32 }
-    requires given { given_count (program_of graph.now.program) < 2 ^ 32 }
     requires plain { All (λ f. IsKnown ⊥ f) graph.now.equations.items }
     ensures { IfOk result (λ s. IsSystemOf graph.now words.now s) }
 {
-    let counts = count_sources(graph, words)?;
+    let counts = count_sources(graph, words);
     let mut table = Vec::new(alloc);
     let chains = make_chains(alloc, graph, words, &mut table)?;
     let making = Making {
@@ -39,40 +35,18 @@ pub(crate) fn make_system(alloc: Global, graph: &Graph, words: &Words) -> Result
     };
     let mut gates = make_gates(alloc, &making, &mut table)?;
     append(&mut gates, &table)?;
-    let system = finish(alloc, gates, counts)?;
-    Ok(system)
-}
-
-// The system of these gates. Numbers are u32, or else memory is said to be wanted.
-fn finish(alloc: Global, gates: Vec<Gate>, counts: Counts) -> Result<System, NoMemory>
-    requires small { 3 + counts.given + counts.statements < 2 ^ 32 }
-    requires fit { All (λ g. IsTrue (gate_fits (length gates.items) (3 + counts.given + counts.statements) g))
-        gates.items }
-    ensures gates { IfOk result (λ s. s.gates.items ≡ gates.items) }
-    ensures sources { IfOk result (λ s. s.sources ≡ 3 + counts.given + counts.statements) }
-{
-    if gates.len() >= u32::MAX as usize {
-        return Err(NoMemory);
-    }
     let system = System::new(alloc, gates, counts.sources())?;
     Ok(system)
 }
 
-// How many given signals and statements there are. Numbers are u32, or else memory is said to be wanted.
-fn count_sources(graph: &Graph, words: &Words) -> Result<Counts, NoMemory>
-    requires given { given_count (program_of graph.now.program) < 2 ^ 32 }
-    ensures { IfOk result (λ c. CountsOf graph.now words.now c) }
+// How many given signals and statements there are.
+fn count_sources(graph: &Graph, words: &Words) -> Counts
+    ensures { CountsOf graph.now words.now result }
 {
     let program = graph.program();
-    let given = program.inputs + program.both;
+    let given = program.inputs as usize + program.both as usize;
     let statements = words.selected.len();
-    if statements > 0x4000_0000 || given > 0x4000_0000 {
-        return Err(NoMemory);
-    }
-    Ok(Counts {
-        given,
-        statements: statements as u32,
-    })
+    Counts { given, statements }
 }
 
 // The gate of each wire.

@@ -25,10 +25,10 @@ make_node-returns t c =
     let f = meaning_of m c.args.formula.now in
     let made = node-made m old mid c.in_ok-gate.gate f c.in_ok-gate.ensures in
     let count : c.len.result ≡ length m.graph.now.wires.items = omega (arith, c.len.ensures, m.graph.now.wires.ok.0) in
-    let node : length m.graph.now.wires.items + length mid ≡ c.in_ok-node.node = let n = c.in_ok-node.ensures.node in omega arith in
+    let node : length m.graph.now.wires.items + length mid ≡ c.len.result + c.in_ok-place.place = let n = c.in_ok-place.ensures.place in omega arith in
     let N : List Gate → ℕ → Type 0 = λ xs n. NodeMade m old xs n f in
     subst (λ n. N c.push_gate.new.table.items n) node
-    (subst (λ xs. N xs (length m.graph.now.wires.items + length mid)) (sym c.in_ok-node.ensures.table) made)
+    (subst (λ xs. N xs (length m.graph.now.wires.items + length mid)) (sym c.in_ok-place.ensures.table) made)
 
 pub make_nodes-make_node-requires-2 : goal.make_nodes-make_node-requires-2
 make_nodes-make_node-requires-2 t c =

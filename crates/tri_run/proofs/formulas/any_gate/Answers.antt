@@ -32,12 +32,12 @@ loop-place-preserved c =
     let made = any-more m old t list place c.loop-place.node (record { 0 = 0 }) c.requires.ready (omega arith)
     (c.requires.fits place (record { 0 = 0 }) (omega arith)) before in
     let count : c.len-wires.result ≡ length m.graph.now.wires.items = omega (arith, c.len-wires.ensures, m.graph.now.wires.ok.0) in
-    let node : length m.graph.now.wires.items + length t ≡ c.in_ok-node.node = let n = c.in_ok-node.ensures.node in omega arith in
+    let node : length m.graph.now.wires.items + length t ≡ c.len-wires.result + c.in_ok-added.added = let n = c.in_ok-added.ensures.place in omega arith in
     let N : List Gate → ℕ → Type 0 = λ xs n. NodeMade m old xs n (any_meaning (drop place list)) in
     record {
       within = omega arith;
       made = subst (λ n. N c.push_gate.new.table.items n) node
-          (subst (λ xs. N xs (length m.graph.now.wires.items + length t)) (sym c.in_ok-node.ensures.table) made);
+          (subst (λ xs. N xs (length m.graph.now.wires.items + length t)) (sym c.in_ok-added.ensures.table) made);
     }
 
 pub returns : goal.returns

@@ -1,21 +1,11 @@
-use Rattle.std.proofs.Common.{arith}
 use Rattle.est_kernel.specs.Plain.{program_of}
 use Rattle.est_kernel.proofs.Exports.{trees_are_kernels_lem}
-use Rattle.grc_graph.proofs.Exports.{wires_few}
 use Rattle.grc_sem.proofs.Exports.{program_kernel}
 use Rattle.grc_solutions.proofs.Exports.{reads_are_edges_lem, wires_differ_lem}
-use Rattle.tri_run.proofs.Premises.{equations-plain, given-few, wires-differ}
+use Rattle.tri_run.proofs.Premises.{equations-plain, wires-differ}
 use Rattle.tri_run.proofs.Programs.{keeps-fresh}
 use Rattle.tri_run.specs.States.{runner_with}
 use Rattle.tri_run.proofs.runner.TriRunner.new.Goals as goal
-
-pub make_system-requires-clause-few : goal.make_system-requires-clause-few
-make_system-requires-clause-few c =
-    let few = wires_few c.args.graph.now (program_of c.args.graph.now.program) c.requires.graph in
-    omega arith
-
-pub make_system-requires-clause-given : goal.make_system-requires-clause-given
-make_system-requires-clause-given c = given-few (program_of c.args.graph.now.program) c.args.graph.now.laid_out.formed
 
 pub make_system-requires-clause-plain : goal.make_system-requires-clause-plain
 make_system-requires-clause-plain c =
