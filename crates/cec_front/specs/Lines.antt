@@ -1,4 +1,4 @@
--- To believe: the line that is written about a refusal. A place of the source is shown by its line and column.
+-- To believe: what is written about a static fault. A place of the source is shown by its line and column.
 use Rattle.std.specs.Prelude.{ℕ, List, [], ◌++◌, flat_map, codes, decimal}
 use Rattle.est_names.specs.declared.refusal.NameFault.{NameFault}
 use Rattle.est_names.specs.declared.refusal.NameFault.TheVariants as naming
@@ -6,10 +6,6 @@ use Rattle.est_expand.specs.declared.refusal.ExpandFault.{ExpandFault}
 use Rattle.est_expand.specs.declared.refusal.ExpandFault.TheVariants as expanding
 use Rattle.cec_front.specs.declared.refusal.Fault.{Fault}
 use Rattle.cec_front.specs.declared.refusal.Fault.TheVariants as faults
-use Rattle.cec_front.specs.declared.refusal.Quantity.{Quantity}
-use Rattle.cec_front.specs.declared.refusal.Quantity.TheVariants as quantities
-use Rattle.cec_front.specs.declared.refusal.Refusal.{Refusal}
-use Rattle.cec_front.specs.declared.refusal.Refusal.TheVariants.{Static, Limit, NoMemory}
 use Rattle.cec_front.specs.Positions.{position}
 
 -- a text about a place of a source
@@ -46,21 +42,3 @@ fault_text source main (faults.Name fault) = name_text source main fault
 fault_text source main (faults.Expand fault) = expand_text source fault
 fault_text source main (faults.BadCount at) = placed source at.start (codes "bad count")
 fault_text source main (faults.InstantLoop at) = placed source at.start (codes "instantaneous loop")
-
-abbrev pub quantity_word : Quantity → List ℕ
-quantity_word quantities.Nesting = codes "nesting"
-quantity_word quantities.Statements = codes "statements"
-quantity_word quantities.Signals = codes "signals"
-quantity_word quantities.Kernel = codes "kernel"
-quantity_word quantities.Height = codes "height"
-quantity_word quantities.Traps = codes "traps"
-
--- what is said of a refusal
-abbrev pub refusal_text : (main source : List ℕ) → Refusal → List ℕ
-refusal_text main source (Static fault) = fault_text source main fault
-refusal_text main source (Limit quantity) = codes "limit: " ++ quantity_word quantity
-refusal_text main source NoMemory = codes "out of memory"
-
--- the line about a refusal
-abbrev pub refusal_line : (main source : List ℕ) → Refusal → List ℕ
-refusal_line main source refusal = codes "cec: " ++ (refusal_text main source refusal ++ codes "\n")

@@ -5,7 +5,7 @@
 //! program with a loop whose body can terminate in the instant in which it starts is refused, and `analyse` answers the
 //! program with the static codes of its statements.
 //! `specs/Sources.antt` says which kernel program the bytes stand for, `specs/Refusals.antt` why they are refused,
-//! and `specs/Lines.antt` what is written about a refusal.
+//! and `specs/Lines.antt` what is written about a fault.
 #![tactic(auto)]
 
 mod analysis;
@@ -20,7 +20,7 @@ pub use analysis::{Analysed, analyse, front};
 pub use laws::{
     expanded_texts_are_well_formed, standing_texts_are_not_refused, texts_stand_for_one_program,
 };
-pub use lines::{Subject, put_fault, put_refusal};
+pub use lines::{Subject, put_fault};
 pub use position::{Position, position_of};
 pub use programs::{flat_program, kernel_program};
 pub use refusal::{Fault, Quantity, Refusal};

@@ -1,11 +1,11 @@
-// The line about a refusal.
+// The line about a static fault.
 
 ghost use Rattle.std.specs.Prelude.{◌≡◌, ◌≤◌, ◌++◌, length, codes, flat_map};
 ghost use Rattle.est_base.specs.Writing.{Wrote};
-ghost use Rattle.cec_front.specs.Lines.{refusal_line, placed, fault_text, name_text, expand_text, quantity_word};
+ghost use Rattle.cec_front.specs.Lines.{placed, fault_text, name_text, expand_text};
 
 use crate::position::position_of;
-use crate::refusal::{Fault, Quantity, Refusal};
+use crate::refusal::Fault;
 use est_base::{Limits, Sink, SinkFault, Text, write_pieces};
 use est_expand::ExpandFault;
 use est_names::NameFault;
@@ -16,40 +16,6 @@ use itoa::Buffer;
 pub struct Subject<'a> {
     pub main: &'a [u8],
     pub source: &'a [u8],
-}
-
-/// The line about a refusal: for a static fault its place, by line and column, and what is wrong there. Writing it
-/// takes no memory; a prefix of the line was appended where the sink failed.
-pub fn put_refusal<E: Sink>(
-    err: &mut E,
-    subject: Subject<'_>,
-    refusal: &Refusal,
-) -> Result<(), SinkFault>
-    requires { length subject.source.now ≤ Limits.SOURCE_BYTES }
-    ensures { Wrote (E.told err.old) (E.told err.new) (E.faults err.old) (E.faults err.new)
-        (refusal_line subject.entry.main.now subject.entry.source.now refusal.now) result }
-{
-    match refusal {
-        Refusal::Static(fault) => put_fault(err, subject, fault),
-        Refusal::Limit(quantity) => {
-            write_pieces(err, &[b"cec: ", b"limit: ", word_of(*quantity), b"\n"])
-        }
-        Refusal::NoMemory => write_pieces(err, &[b"cec: ", b"out of memory", b"\n"]),
-    }
-}
-
-// The word for what passes its limit.
-fn word_of(quantity: Quantity) -> &'static [u8]
-    ensures { result.now ≡ quantity_word quantity }
-{
-    match quantity {
-        Quantity::Nesting => b"nesting",
-        Quantity::Statements => b"statements",
-        Quantity::Signals => b"signals",
-        Quantity::Kernel => b"kernel",
-        Quantity::Height => b"height",
-        Quantity::Traps => b"traps",
-    }
 }
 
 /// The line of a static fault: its place, by line and column, and what is wrong there. Writing it takes no memory; a

@@ -1,6 +1,7 @@
 // From the bytes of a source to its flat program, and to the kernel program that this is expanded into.
 
 ghost use Rattle.std.specs.Prelude.{◌≡◌, ◌≤◌, ℕ, List, Option, Some, length, slice_get, IfOk, IfErr, option_map};
+ghost use Rattle.est_base.specs.Stops.{FaultIs};
 ghost use Rattle.est_ast.specs.FlatViews.{flat_of};
 ghost use Rattle.est_ast.specs.FlatTrees.{Flat as PlainFlat};
 ghost use Rattle.est_ast.specs.Trees.{Program as PlainProgram, Module as PlainModule};
@@ -19,7 +20,7 @@ ghost use Rattle.cec_front.specs.Refusals.{IsRefused, Unflattened};
 use crate::refusal::{Fault, Quantity, Refusal};
 use crate::sources::read_source;
 use est_ast::{Flat, Program};
-use est_base::Limits;
+use est_base::{Limits, Stop};
 use est_dismantle::{DismantleFault, dismantle};
 use est_expand::{ExpandFault, expand};
 use est_kernel::KernelProgram;
@@ -39,7 +40,7 @@ pub fn kernel_program(
     ensures refusal { IfErr result (IsRefused text.now (option_map (λ m. m.now) main.entry)) }
 {
     let flat = Box::new(alloc, flat_program(alloc, text, main)?)?;
-    match dismantle(alloc, &flat) {
+    match dismantle(alloc, flat) {
         Ok(program) => Ok(program),
         Err(fault) => Err(expansion_refusal(fault)),
     }
@@ -123,15 +124,15 @@ fn flattening_refusal(fault: ExpandFault) -> Refusal
 }
 
 // The refusal of a flat program that has no kernel program.
-fn expansion_refusal(fault: DismantleFault) -> Refusal
+fn expansion_refusal(stop: Stop<DismantleFault>) -> Refusal
     ensures { (text : List ℕ) (main : Option (List ℕ)) (flat : PlainFlat)
-        → Flattens text main flat → FaultHasCause (expansion flat) fault → IsRefused text main result }
+        → Flattens text main flat → FaultIs (FaultHasCause (expansion flat)) stop → IsRefused text main result }
 {
-    match fault {
-        DismantleFault::BadCount(place) => Refusal::Static(Fault::BadCount(place)),
-        DismantleFault::TooLarge => Refusal::Limit(Quantity::Kernel),
-        DismantleFault::TooHigh => Refusal::Limit(Quantity::Height),
-        DismantleFault::TooManyTraps => Refusal::Limit(Quantity::Traps),
-        DismantleFault::NoMemory => Refusal::NoMemory,
+    match stop {
+        Stop::Fault(DismantleFault::BadCount(place)) => Refusal::Static(Fault::BadCount(place)),
+        Stop::Fault(DismantleFault::TooLarge) => Refusal::Limit(Quantity::Kernel),
+        Stop::Fault(DismantleFault::TooHigh) => Refusal::Limit(Quantity::Height),
+        Stop::Fault(DismantleFault::TooManyTraps) => Refusal::Limit(Quantity::Traps),
+        Stop::NoMemory => Refusal::NoMemory,
     }
 }

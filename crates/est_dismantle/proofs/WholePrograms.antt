@@ -1,7 +1,6 @@
 -- Inner: a kernel program put together from what was made of a flat program's parts.
-use Rattle.std.proofs.Common.{◌≡◌, ℕ, ◌+◌, ◌-◌, List, [], ◌++◌, length, map, codes, refl, sym, ◌∙◌, ap, arith}
+use Rattle.std.proofs.Common.{◌≡◌, ℕ, ◌+◌, ◌-◌, List, [], ◌++◌, length, codes, ◌∙◌, ap, arith}
 use Rattle.std.specs.Prelude.{replicate}
-use Rattle.std.proofs.lemmas.List.{length-map}
 use Rattle.est_base.specs.Relations.{Relation}
 use Rattle.est_kernel.specs.Terms.{Term}
 use Rattle.est_kernel.specs.Plain.{Program}
@@ -19,12 +18,9 @@ unfolding stmt_kernel
 body-made flat p marks first k is made none same =
     made ∙ ap (λ m. kernel m first (flat_stmt_of p)) none ∙ ap (λ n. kernel [] n (flat_stmt_of p)) same ∙ ap (kernel [] (length flat.signals)) is
 
-pub signals-made : (flat : Flat) (p : FlatStmt) (all : List (List ℕ)) (first next : ℕ) → flat_stmt_of p ≡ flat.body → next ≡ first + stmt_new p →
-    all ≡ flat.signals ++ replicate (next - first) (codes "x") → all ≡ flat.signals ++ replicate (new_in flat.body) (codes "x")
+pub new-counted : (p : FlatStmt) (first next : ℕ) → next ≡ first + stmt_new p → next - first ≡ new_in (flat_stmt_of p)
 unfolding stmt_new
-signals-made flat p all first next is numbered made =
-    let count : next - first ≡ new_in (flat_stmt_of p) = omega arith in
-    made ∙ ap (λ n. flat.signals ++ replicate n (codes "x")) (count ∙ ap new_in is)
+new-counted p first next numbered = omega arith
 
 pub program-made : (flat : Flat) (name : List ℕ) (signals : List (List ℕ)) (relations : List Relation) (body : Term)
     → name ≡ flat.name → signals ≡ flat.signals ++ replicate (new_in flat.body) (codes "x") → relations ≡ flat.relations → body ≡ kernel_body flat

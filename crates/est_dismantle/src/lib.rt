@@ -6,7 +6,6 @@
 #![tactic(auto)]
 
 mod choices;
-mod copies;
 mod counts;
 mod derived;
 mod events;
@@ -20,6 +19,7 @@ mod measured_events;
 mod measured_rows;
 mod programs;
 mod refusal;
+mod signals;
 mod terms;
 
 pub use laws::{

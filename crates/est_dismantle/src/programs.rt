@@ -1,22 +1,25 @@
 // From a flat program to its kernel program.
 
-ghost use Rattle.std.specs.Prelude.{◌≡◌, IfOk, IfErr, MatchOption};
+ghost use Rattle.std.specs.Prelude.{◌≡◌, IfOk, MatchOption};
+ghost use Rattle.est_base.specs.Stops.{IfFault};
 ghost use Rattle.est_ast.specs.FlatViews.{flat_of};
 ghost use Rattle.est_kernel.specs.Plain.{program_of};
 ghost use Rattle.est_kernel.specs.WellFormed.{IsWellFormed, HasNames};
+ghost use Rattle.est_ast.specs.NewSignals.{new_in};
+ghost use Rattle.est_dismantle.specs.Boxes.{boxed_term};
 ghost use Rattle.est_dismantle.specs.Expansions.{Expanded, expansion, kernel_body, program_in};
 ghost use Rattle.est_dismantle.specs.Faults.{FaultHasCause};
 ghost use Rattle.est_dismantle.specs.FlatPrograms.{IsFlat};
 
-use crate::copies::{same_relations, signals_with};
 use crate::counts::first_bad;
 use crate::expansion::expand;
 use crate::marks::Marks;
 use crate::measure::measure;
 use crate::refusal::DismantleFault;
+use crate::signals::signals_with;
 use est_ast::Flat;
-use est_base::{Limits, NoMemory, Text};
-use est_kernel::KernelProgram;
+use est_base::{Limits, NoMemory, Stop};
+use est_kernel::{Kernel, KernelProgram};
 use std::alloc::Global;
 
 /// The kernel program of a flat program. It takes time and memory in proportion to that program, and a program
@@ -25,14 +28,14 @@ use std::alloc::Global;
 /// A count that is 0 or above 255 is refused first, then a kernel body above the limits on size, on height and on
 /// traps one in another, in this order. A number of a new signal that does not fit 32 bits is want of
 /// memory.
-pub fn dismantle(alloc: Global, flat: &Flat) -> Result<KernelProgram, DismantleFault>
-    ensures expands { IfOk result (λ p. expansion (flat_of flat.now) ≡ Expanded (program_of p)) }
-    ensures refuses { IfErr result (λ fault. FaultHasCause (expansion (flat_of flat.now)) fault) }
-    ensures well_formed { IsFlat (flat_of flat.now) → IfOk result (λ p. IsWellFormed (program_of p)) }
-    ensures names { IsFlat (flat_of flat.now) → IfOk result (λ p. HasNames (program_of p)) }
+pub fn dismantle(alloc: Global, flat: Box<Flat>) -> Result<KernelProgram, Stop<DismantleFault>>
+    ensures expands { IfOk result (λ p. expansion (flat_of flat.value) ≡ Expanded (program_of p)) }
+    ensures refuses { IfFault result (λ fault. FaultHasCause (expansion (flat_of flat.value)) fault) }
+    ensures well_formed { IsFlat (flat_of flat.value) → IfOk result (λ p. IsWellFormed (program_of p)) }
+    ensures names { IsFlat (flat_of flat.value) → IfOk result (λ p. HasNames (program_of p)) }
 {
-    match fault_in(flat) {
-        Some(fault) => Err(fault),
+    match fault_in(&flat) {
+        Some(fault) => Err(Stop::Fault(fault)),
         None => Ok(program(alloc, flat)?),
     }
 }
@@ -61,24 +64,51 @@ fn fault_in(flat: &Flat) -> Option<DismantleFault>
     }
 }
 
-// The program, whatever its size.
-fn program(alloc: Global, flat: &Flat) -> Result<KernelProgram, NoMemory>
-    ensures { IfOk result (λ p. program_of p ≡ program_in (flat_of flat.now) (kernel_body (flat_of flat.now))) }
+// The body of a program, and how many new signals are in it.
+#[derive(Drop)]
+struct NewBody {
+    term: Box<Kernel>,
+    signals: u32,
+}
+
+// That of a flat program, whatever its size.
+fn new_body(alloc: Global, flat: &Flat) -> Result<NewBody, NoMemory>
+    ensures term { IfOk result (λ b. boxed_term b.term ≡ kernel_body (flat_of flat.now)) }
+    ensures signals { IfOk result (λ b. b.signals ≡ new_in (flat_of flat.now).body) }
 {
     let count = flat.signals.len();
     let first = count as u32;
     let mut next = first;
-    let body = expand(alloc, &flat.body, &Marks::Whole, &mut next)?;
-    let signals = signals_with(alloc, flat.signals.as_slice(), next - first)?;
-    let relations = same_relations(alloc, flat.relations.as_slice())?;
-    let name = Text::from_bytes(alloc, flat.name.bytes())?;
+    let term = expand(alloc, &flat.body, &Marks::Whole, &mut next)?;
+    Ok(NewBody {
+        term,
+        signals: next - first,
+    })
+}
+
+// The program, whatever its size. The flat body is let go by a call, since its forms are many.
+fn program(alloc: Global, flat: Box<Flat>) -> Result<KernelProgram, NoMemory>
+    ensures { IfOk result (λ p. program_of p ≡ program_in (flat_of flat.value) (kernel_body (flat_of flat.value))) }
+{
+    let expanded = new_body(alloc, &flat)?;
+    let Flat {
+        name,
+        signals,
+        inputs,
+        both,
+        outputs,
+        relations,
+        body,
+    } = Box::into_inner(flat);
+    drop(body);
+    let signals = signals_with(alloc, signals, expanded.signals)?;
     Ok(KernelProgram {
         name,
         signals,
-        inputs: flat.inputs,
-        both: flat.both,
-        outputs: flat.outputs,
+        inputs,
+        both,
+        outputs,
         relations,
-        body: Box::into_inner(body),
+        body: Box::into_inner(expanded.term),
     })
 }

@@ -1,13 +1,9 @@
 // Why a flat program has no kernel program.
 
-ghost use Rattle.std.specs.Prelude.{◌≡◌};
-ghost use Rattle.est_dismantle.specs.declared.refusal.DismantleFault.TheVariants.{NoMemory as lacks_memory};
-
-use est_base::{NoMemory, Span};
-use std::alloc::{AllocError, AllocFailed};
+use est_base::Span;
 use thiserror::Error;
 
-/// Why `dismantle` gives no kernel program.
+/// Why `dismantle` gives no kernel program, where it does not lack memory.
 #[derive(Debug, PartialEq, Drop, Error)]
 pub enum DismantleFault {
     /// The first count that is 0 or above 255, in the order in which they are written.
@@ -22,31 +18,4 @@ pub enum DismantleFault {
     /// More than 60 traps stand one in another.
     #[error("more than 60 traps stand one in another")]
     TooManyTraps,
-    /// Want of memory.
-    #[error("no memory")]
-    NoMemory,
-}
-
-impl From<AllocError> for DismantleFault {
-    ghost from_gives = { λ _ error. error ≡ lacks_memory };
-
-    fn from(_error: AllocError) -> DismantleFault {
-        DismantleFault::NoMemory
-    }
-}
-
-impl<T: Drop> From<AllocFailed<T>> for DismantleFault {
-    ghost from_gives = { λ _ error. error ≡ lacks_memory };
-
-    fn from(_error: AllocFailed<T>) -> DismantleFault {
-        DismantleFault::NoMemory
-    }
-}
-
-impl From<NoMemory> for DismantleFault {
-    ghost from_gives = { λ _ error. error ≡ lacks_memory };
-
-    fn from(_error: NoMemory) -> DismantleFault {
-        DismantleFault::NoMemory
-    }
 }

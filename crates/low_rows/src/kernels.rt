@@ -4,7 +4,7 @@ ghost use Rattle.std.specs.Prelude.{◌≤◌, length};
 
 use crate::kernel_texts::write_statement;
 use crate::sets::write_set;
-use cec_front::{Refusal, Subject, analyse, front, put_refusal};
+use cec_front::{Fault, Refusal, Subject, analyse, front, put_fault};
 use est_base::{CodeSet, Limits, NoMemory, SteadySink};
 use est_kernel::{KernelProgram, height, size};
 use std::alloc::Global;
@@ -48,7 +48,7 @@ pub(crate) fn put_size(alloc: Global, text: &mut String, source: &[u8]) -> Resul
     }
 }
 
-// The line about a refusal.
+// What is said of a refusal.
 fn put_refused(
     alloc: Global,
     text: &mut String,
@@ -57,9 +57,28 @@ fn put_refused(
 ) -> Result<(), NoMemory>
     requires { length source.now ≤ Limits.SOURCE_BYTES }
 {
+    match refusal {
+        Refusal::Static(fault) => put_fault_line(alloc, text, source, fault),
+        Refusal::Limit(quantity) => {
+            write!(text, "limit: {:?}", *quantity)?;
+            Ok(())
+        }
+        Refusal::NoMemory => Err(NoMemory),
+    }
+}
+
+// The line about a fault.
+fn put_fault_line(
+    alloc: Global,
+    text: &mut String,
+    source: &[u8],
+    fault: &Fault,
+) -> Result<(), NoMemory>
+    requires { length source.now ≤ Limits.SOURCE_BYTES }
+{
     let mut line = SteadySink::new(alloc, LINE_ROOM)?;
     let subject = Subject { main: b"", source };
-    let _ = put_refusal(&mut line, subject, refusal);
+    let _ = put_fault(&mut line, subject, fault);
     text.push_str(str::from_utf8(line.bytes()).unwrap_or("").trim_end())?;
     Ok(())
 }

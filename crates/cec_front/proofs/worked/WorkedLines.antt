@@ -1,4 +1,4 @@
--- Worked lines, by hand: a place on the first line, on a later one and at the end of the text, and what is said of each refusal.
+-- Worked lines, by hand: a place on the first line, on a later one and at the end of the text, and what is said of each fault.
 use Rattle.std.proofs.Common.{◌≡◌, ℕ, [], ◌∷◌, ◌++◌, List, map, codes, refl}
 use Rattle.std.specs.Fmt.{digits}
 use Rattle.est_base.specs.declared.place.Span.{Span}
@@ -7,10 +7,8 @@ use Rattle.est_ast.specs.declared.tokens.Kind.TheVariants as kinds
 use Rattle.est_names.specs.declared.refusal.NameFault.TheVariants as naming
 use Rattle.est_expand.specs.declared.refusal.ExpandFault.TheVariants as expanding
 use Rattle.cec_front.specs.declared.refusal.Fault.TheVariants as faults
-use Rattle.cec_front.specs.declared.refusal.Quantity.TheVariants as quantities
-use Rattle.cec_front.specs.declared.refusal.Refusal.{Refusal}
-use Rattle.cec_front.specs.declared.refusal.Refusal.TheVariants.{Static, Limit, NoMemory}
-use Rattle.cec_front.specs.Lines.{refusal_line}
+use Rattle.cec_front.specs.declared.refusal.Fault.{Fault}
+use Rattle.cec_front.specs.Lines.{fault_text}
 use Rattle.cec_front.specs.Positions.{Position, position}
 use Rattle.cec_front.specs.Refusals.{token_place}
 
@@ -37,40 +35,31 @@ places_of_tokens = refl
 
 -- ---- lines, where the main module is asked for as M
 
-abbrev line : Refusal → List ℕ
-line = refusal_line (codes "M") source
+abbrev line : Fault → List ℕ
+line fault = codes "cec: " ++ (fault_text source (codes "M") fault ++ codes "\n")
 
 abbrev span : Span
 span = record { start = 3; end = 4 }
 
-of_tokens : map line (Static (faults.BadByte 3) ∷ Static (faults.OpenComment 0) ∷ Static (faults.BigNumber 4) ∷ Static (faults.Syntax 5 7) ∷ [])
+of_tokens : map line (faults.BadByte 3 ∷ faults.OpenComment 0 ∷ faults.BigNumber 4 ∷ faults.Syntax 5 7 ∷ [])
     ≡ codes "cec: 2:1: bad byte\n" ∷ codes "cec: 1:1: open comment\n" ∷ codes "cec: 2:2: number too large\n" ∷ codes "cec: 4:2: syntax\n" ∷ []
 unfolding digits
 of_tokens = refl
 
-of_names : map (λ fault. line (Static (faults.Name fault))) (naming.DuplicateModule span ∷ naming.NoMain ∷ naming.DuplicateSignal span
+of_names : map (λ fault. line (faults.Name fault)) (naming.DuplicateModule span ∷ naming.NoMain ∷ naming.DuplicateSignal span
     ∷ naming.RelationName span ∷ [])
     ≡ codes "cec: 2:1: module declared twice\n" ∷ codes "cec: no module M\n" ∷ codes "cec: 2:1: signal declared twice\n" ∷ codes "cec: 2:1: not an input\n" ∷ []
 unfolding digits
 of_names = refl
 
-of_runs : map (λ fault. line (Static (faults.Expand fault))) (expanding.UnknownModule span ∷ expanding.BadRename span ∷ expanding.UnknownSignal span
+of_runs : map (λ fault. line (faults.Expand fault)) (expanding.UnknownModule span ∷ expanding.BadRename span ∷ expanding.UnknownSignal span
     ∷ expanding.Unbound span (codes "S") ∷ expanding.UnknownTrap span ∷ expanding.EmitInput span ∷ [])
     ≡ codes "cec: 2:1: unknown module\n" ∷ codes "cec: 2:1: bad renaming\n" ∷ codes "cec: 2:1: unknown signal\n" ∷ codes "cec: 2:1: unbound S\n"
     ∷ codes "cec: 2:1: unknown trap\n" ∷ codes "cec: 2:1: input emitted\n" ∷ []
 unfolding digits
 of_runs = refl
 
-of_counts_and_loops : map line (Static (faults.BadCount span) ∷ Static (faults.InstantLoop span) ∷ [])
+of_counts_and_loops : map line (faults.BadCount span ∷ faults.InstantLoop span ∷ [])
     ≡ codes "cec: 2:1: bad count\n" ∷ codes "cec: 2:1: instantaneous loop\n" ∷ []
 unfolding digits
 of_counts_and_loops = refl
-
-of_limits : map (λ quantity. line (Limit quantity)) (quantities.Nesting ∷ quantities.Statements ∷ quantities.Signals ∷ quantities.Kernel ∷ quantities.Height
-    ∷ quantities.Traps ∷ [])
-    ≡ codes "cec: limit: nesting\n" ∷ codes "cec: limit: statements\n" ∷ codes "cec: limit: signals\n" ∷ codes "cec: limit: kernel\n"
-    ∷ codes "cec: limit: height\n" ∷ codes "cec: limit: traps\n" ∷ []
-of_limits = refl
-
-of_memory : line NoMemory ≡ codes "cec: out of memory\n"
-of_memory = refl

@@ -1,6 +1,0 @@
-use Rattle.std.proofs.Common.{◌≡◌, ◌++◌, map, codes}
-use Rattle.std.specs.Prelude.{replicate}
-use Rattle.est_dismantle.proofs.copies.signals_with.Given as goal
-
-abbrev pub invariant-loop : goal.invariant-loop
-invariant-loop l = map (λ s. s.name) l.all.items ≡ map (λ s. s.name) l.signals ++ replicate l.counter (codes "x")
