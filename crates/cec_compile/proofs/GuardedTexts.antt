@@ -7,7 +7,7 @@ use Rattle.est_base.specs.declared.indices.WireId.{WireId}
 use Rattle.est_kernel.specs.Plain.{Program, given_count}
 use Rattle.machines.proofs.Exports.{shows-computed}
 use Rattle.grc_sem.proofs.Exports.{program_kernel}
-use Rattle.guard_regions.specs.Regions.{AreRegions}
+use Rattle.guard_regions.specs.Regions.{AreRegions, HeadsAreFree}
 use Rattle.net_ir.specs.Netlists.{Netlist}
 use Rattle.net_ir.specs.Runs.{netlist_of}
 use Rattle.csub_text.specs.Machine.{first_memory}
@@ -57,11 +57,12 @@ guarded_keeps text net regions p few keeps means = record {
 
 -- the text that is written of a compiled program by the regions of its graph
 pub guarded_by : (c : Compiled) (p : Program) (regions : List (Option WireId)) (text : List ℕ) → IsCompiled c p → FollowsGraph c → AreRegions c.graph regions
-    → text ≡ guarded_text (netlist_of c.net) (owners (netlist_of c.net) (region_by (netlist_of c.net) regions))
+    → HeadsAreFree regions → text ≡ guarded_text (netlist_of c.net) (owners (netlist_of c.net) (region_by (netlist_of c.net) regions))
     → GuardedMeans text (netlist_of c.net) regions → IsGuardedBy c text
-guarded_by c p regions text h follows are spelled means = record {
+guarded_by c p regions text h follows are free spelled means = record {
   regions = regions;
   are = are;
+  free = free;
   spelled = spelled;
   runs = guarded_texts_run_lem c.graph p (netlist_of c.net) regions h.compiles.acyclic.rank text
       (program_kernel p h.formed (kernel_of c.graph p h.graph)) h.no_loop h.compiles.acyclic.up h.graph (sym (inputs_wide c p h)) follows.runs are means;
@@ -76,5 +77,5 @@ guarded_is bytes main c text s g = (
     compiles = s.compiled.compiles;
     keeps = guarded_keeps text (netlist_of c.net) g.regions s.program (given-few s.program s.compiled.formed) s.compiled.keeps g.runs;
   },
-  record { made = c; compiled = s; regions = g.regions; are = g.are; text = g.spelled; runs = g.runs },
+  record { made = c; compiled = s; regions = g.regions; are = g.are; free = g.free; text = g.spelled; runs = g.runs },
 )

@@ -14,9 +14,9 @@ use Rattle.est_kernel.proofs.Exports.{trees_are_kernels_lem}
 use Rattle.blif_text.specs.Written.{Means}
 use Rattle.csub_text.specs.Written as c_meant
 use Rattle.vlog_text.specs.Written as verilog_meant
-use Rattle.grc_copies.specs.Faults as copying
-use Rattle.grc_copies.specs.declared.refusal.CopyFault.{CopyFault}
-use Rattle.grc_copies.specs.declared.refusal.CopyFault.TheVariants as copy_faults
+use Rattle.grc_layout.specs.Faults as copying
+use Rattle.grc_layout.specs.declared.refusal.CopyFault.{CopyFault}
+use Rattle.grc_layout.specs.declared.refusal.CopyFault.TheVariants as copy_faults
 use Rattle.grc_graph.specs.declared.graph.Graph.{Graph}
 use Rattle.grc_graph.specs.declared.orders.Edges.{Edges}
 use Rattle.grc_graph.specs.declared.orders.Order.{Order}

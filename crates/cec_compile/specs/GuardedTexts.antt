@@ -2,7 +2,7 @@
 use Rattle.std.specs.Prelude.{◌≡◌, ℕ, List, ◌++◌, map, Option, codes}
 use Rattle.est_base.specs.declared.indices.WireId.{WireId}
 use Rattle.est_kernel.specs.Plain.{Program, given_names, outgoing_names}
-use Rattle.guard_regions.specs.Regions.{AreRegions}
+use Rattle.guard_regions.specs.Regions.{AreRegions, HeadsAreFree}
 use Rattle.net_ir.specs.Runs.{netlist_of}
 use Rattle.csub_text.specs.Machine.{value_of}
 use Rattle.csub_guard.specs.Machine.{Counted, guarded_machine, inputs_of, outputs_of}
@@ -49,6 +49,7 @@ pub record IsGuardedOf (bytes : List ℕ) (main : Option (List ℕ)) (written : 
   pub compiled : StandsForNet bytes main made
   pub regions : List (Option WireId)
   pub are : AreRegions made.graph regions
+  pub free : HeadsAreFree regions
   pub text : written ≡ guarded_text (netlist_of made.net)
       (owners (netlist_of made.net) (region_by (netlist_of made.net) regions))
   pub runs : GuardedRuns written (netlist_of made.net) regions

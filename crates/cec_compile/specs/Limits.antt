@@ -5,8 +5,8 @@ use Rattle.cec_front.specs.declared.refusal.Refusal as fronts
 use Rattle.cec_front.specs.declared.refusal.Refusal.TheVariants as front
 use Rattle.grc_build.specs.declared.refusal.BuildFault.{BuildFault}
 use Rattle.grc_build.specs.declared.refusal.BuildFault.TheVariants as building
-use Rattle.grc_copies.specs.declared.refusal.CopyFault.{CopyFault}
-use Rattle.grc_copies.specs.declared.refusal.CopyFault.TheVariants as copying
+use Rattle.grc_layout.specs.declared.refusal.CopyFault.{CopyFault}
+use Rattle.grc_layout.specs.declared.refusal.CopyFault.TheVariants as copying
 use Rattle.cec_compile.specs.declared.refusal.Limit as bounds
 use Rattle.cec_compile.specs.declared.refusal.Limit.TheVariants as limits
 use Rattle.cec_compile.specs.declared.refusal.Refusal.{Refusal}

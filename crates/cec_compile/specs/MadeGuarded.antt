@@ -1,7 +1,7 @@
 -- Inner: the guarded text of a compiled program, and what it is written of.
 use Rattle.std.specs.Prelude.{◌≡◌, ℕ, List, Option}
 use Rattle.est_base.specs.declared.indices.WireId.{WireId}
-use Rattle.guard_regions.specs.Regions.{AreRegions}
+use Rattle.guard_regions.specs.Regions.{AreRegions, HeadsAreFree}
 use Rattle.net_ir.specs.Runs.{netlist_of}
 use Rattle.guard_owners.specs.Blocks.{guarded_text}
 use Rattle.guard_owners.specs.Owners.{owners}
@@ -16,6 +16,7 @@ use Rattle.cec_compile.specs.declared.guarded_texts.GuardedMade.{GuardedMade}
 pub record IsGuardedBy (c : Compiled) (text : List ℕ) : Type 0 where
   pub regions : List (Option WireId)
   pub are : AreRegions c.graph regions
+  pub free : HeadsAreFree regions
   pub spelled : text ≡ guarded_text (netlist_of c.net)
       (owners (netlist_of c.net) (region_by (netlist_of c.net) regions))
   pub runs : GuardedRuns text (netlist_of c.net) regions

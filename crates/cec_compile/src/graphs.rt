@@ -11,9 +11,8 @@ use crate::refusal::Refusal;
 use cec_front::{Analysed, analyse};
 use est_base::Limits;
 use grc_build::build;
-use grc_copies::copies;
 use grc_graph::Graph;
-use grc_select::select;
+use grc_layout::{copies, select};
 use std::alloc::Global;
 
 /// The graph of a source, which has at most 1 MiB. `main` is the name of the main module; without it that is the first

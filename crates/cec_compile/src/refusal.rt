@@ -8,7 +8,7 @@ use crate::cycles::Cycle;
 use cec_front::{Fault, Quantity};
 use est_base::NoMemory;
 use grc_build::BuildFault;
-use grc_copies::CopyFault;
+use grc_layout::CopyFault;
 use std::alloc::AllocError;
 
 /// What passes its limit; `est_base::Limits` has the numbers.

@@ -13,7 +13,7 @@ use Rattle.est_kernel.specs.Plain.{Program, given_count, outgoing_count}
 use Rattle.grc_graph.specs.declared.graph.Graph.{Graph}
 use Rattle.grc_graph.specs.SelectionTrees.{body_leaves, resumes}
 use Rattle.grc_graph.proofs.Exports.{statement_count-le}
-use Rattle.grc_select.proofs.Exports.{length-leaf_paths}
+use Rattle.grc_layout.proofs.Exports.{length-leaf_paths}
 use Rattle.net_ir.specs.declared.netlist.Gate.{Gate}
 use Rattle.net_ir.specs.Gates.{carried}
 use Rattle.net_ir.specs.Netlists.{Netlist, output_names}

@@ -1,3 +1,4 @@
 pub mod HeadReads
 pub mod LiveHeads
 pub mod RegionReads
+pub mod OwnHeads

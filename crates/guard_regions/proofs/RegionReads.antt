@@ -29,12 +29,12 @@ use Rattle.guard_regions.proofs.LiveHeads.{heads_live}
 
 -- ---- heads by number
 
-head-wire : (body : Term) (n : ℕ) (l : Layer) → head_go body n l ≡ Go (head_number (head_in 0 body 0 n) l) l
+pub head-wire : (body : Term) (n : ℕ) (l : Layer) → head_go body n l ≡ Go (head_number (head_in 0 body 0 n) l) l
 head-wire body n Resumed = refl
 head-wire body n (Started r) = refl
 
 -- a head lies in no region
-own-region : (body : Term) (n : ℕ) (l : Layer) → head_number (head_in 0 body 0 n) l ≡ n → region_of body (Go n l) ≡ None
+pub own-region : (body : Term) (n : ℕ) (l : Layer) → head_number (head_in 0 body 0 n) l ≡ n → region_of body (Go n l) ≡ None
 own-region body n l e =
     let whole : same_wire (Go n l) (head_go body n l) ≡ true
     = ap (same_wire (Go n l)) (head-wire body n l ∙ ap (λ h. Go h l) e) ∙ ap (λ b. b && same_layer l l) (eq-eqb n n refl) ∙ same_layer-self l in

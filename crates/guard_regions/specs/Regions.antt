@@ -23,3 +23,9 @@ pub record AreRegionsBefore (g : Graph) (count : ℕ) (regions : List (Option Wi
 -- for each wire of a graph
 abbrev pub AreRegions : Graph → List (Option WireId) → Type 0
 AreRegions g regions = AreRegionsBefore g (length g.wires.items) regions
+
+-- The wire that says whether a head runs lies in no region.
+abbrev pub HeadsAreFree : List (Option WireId) → Type 0
+HeadsAreFree regions =
+    (w : ℕ) (head : WireId) → w < length regions → slice_index_or regions w None ≡ Some head
+    → slice_index_or regions head.0 None ≡ None

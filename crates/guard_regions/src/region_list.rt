@@ -8,7 +8,7 @@ ghost use Rattle.grc_graph.specs.PlainInstances.{layer_of};
 ghost use Rattle.grc_graph.specs.Wires.{Go};
 ghost use Rattle.grc_sem.specs.Heads.{region_of};
 ghost use Rattle.guard_regions.specs.HeadLists.{heads_of, head_number};
-ghost use Rattle.guard_regions.specs.Regions.{AreRegions, IsRegion};
+ghost use Rattle.guard_regions.specs.Regions.{AreRegions, HeadsAreFree, IsRegion};
 
 use crate::heads::resumed_heads;
 use est_base::{NoMemory, WireId};
@@ -19,7 +19,8 @@ use std::alloc::Global;
 /// region. The memory is linear in the graph, and so is the time but for a search of one instance a wire. Its only
 /// error is want of memory.
 pub fn regions(alloc: Global, graph: &Graph) -> Result<Vec<Option<WireId>>, NoMemory>
-    ensures { IfOk result (λ regions. AreRegions graph.now regions.items) }
+    ensures are { IfOk result (λ regions. AreRegions graph.now regions.items) }
+    ensures free { IfOk result (λ regions. HeadsAreFree regions.items) }
 {
     let heads = resumed_heads(alloc, &graph.program.body)?;
     let near = graph.neighbours();

@@ -12,3 +12,4 @@ mod Spelled
 mod GateRegions
 mod Means
 mod OwnersFound
+mod worked

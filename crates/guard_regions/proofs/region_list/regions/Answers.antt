@@ -1,7 +1,8 @@
-use Rattle.std.proofs.Common.{◌+◌, sym, subst, arith}
+use Rattle.std.proofs.Common.{rules, ◌+◌, sym, subst, arith}
 use Rattle.est_kernel.specs.Plain.{term_of}
 use Rattle.grc_graph.proofs.Exports.{statement_count-le}
 use Rattle.guard_regions.specs.Regions.{AreRegionsBefore}
+use Rattle.guard_regions.proofs.OwnHeads.{heads-free}
 use Rattle.guard_regions.proofs.RegionReads.{one-more}
 use Rattle.guard_regions.proofs.region_list.regions.Goals as goal
 
@@ -13,3 +14,6 @@ loop-w-preserved c =
     let g = c.args.graph.now in
     subst (AreRegionsBefore g (c.loop-w.w + 1)) (sym c.in_ok-push.ensures.items)
     (one-more g c.loop-w.w c.loop-w.regions.items c.region_of.result c.loop-w.invariant c.region_of.ensures)
+
+pub returns-clause-free : goal.returns-clause-free
+returns-clause-free c = heads-free c.args.graph.now c.loop-w.regions.items (search rules)

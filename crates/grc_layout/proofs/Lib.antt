@@ -1,0 +1,4 @@
+mod Counts
+mod Positions
+mod Growth
+pub mod Exports

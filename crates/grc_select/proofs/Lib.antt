@@ -1,2 +1,0 @@
-mod Growth
-pub mod Exports
