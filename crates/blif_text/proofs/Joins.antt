@@ -1,5 +1,5 @@
 -- Inner: the parts of a net's text, one behind another, are the text.
-use Rattle.std.proofs.Common.{◌≡◌, ℕ, ◌^◌, ◌<◌, Bool, false, List, [], ◌∷◌, ◌++◌, length, map, get_or, refl, sym, ap, ◌∙◌, arith, append_assoc}
+use Rattle.std.proofs.Common.{◌≡◌, ℕ, ◌^◌, ◌<◌, Bool, false, List, [], ◌∷◌, ◌++◌, length, map, drop, get_or, refl, sym, ap, ◌∙◌, arith, append_assoc}
 use Rattle.std.specs.Prelude.{flat_map, codes}
 use Rattle.std.proofs.lemmas.List.{append-nil, get_or-map}
 use Rattle.std.proofs.lemmas.List.Concat.{flat_map-append}
@@ -13,8 +13,8 @@ use Rattle.blif_text.specs.Circuits.{CircuitLatch, Table}
 use Rattle.blif_text.specs.Statements.{Statement, Model, Outputs, End}
 use Rattle.blif_text.specs.Spelled.{text_of, line_text, spelled, table_statements, latch_statement, inputs_statements}
 use Rattle.blif_text.specs.Written.{output_word, paused_word, input_table, gate_table, output_table, copy_table, net_word, net_latch, given_outputs, written}
-use Rattle.blif_text.specs.Parts.{spaced, latch_text, table_text, first_lines, inputs_start, inputs_end, outputs_end, last_lines, from_outputs, from_gates}
-use Rattle.blif_text.specs.Parts.{from_inputs, from_latches, from_output_names, from_input_names, net_parts}
+use Rattle.blif_text.specs.Parts.{spaced, latch_text, table_text, first_lines, inputs_start, inputs_end, outputs_end, last_lines, parts_in, net_parts}
+use Rattle.blif_text.specs.declared.parts.TheConstants.{SECTIONS}
 
 -- ---- lists
 
@@ -65,16 +65,17 @@ whole-parts head latches end a b c d =
 pub written-joined : (net : Netlist) → joined (net_parts net) ≡ written net
 unfolding net_parts
 written-joined net =
+    let from : ℕ → List (List ℕ) = λ n. flat_map (parts_in net) (drop n SECTIONS) in
     let names = map (λ (o : NetOut). output_word net.inputs o.name) net.outputs in
-    joined-one (first_lines net) (from_input_names net)
-    (joined-each spaced net.inputs (inputs_end net.inputs ∷ from_output_names net)
-    (joined-one (inputs_end net.inputs) (from_output_names net)
-    (joined-mapped spaced (λ (o : NetOut). output_word net.inputs o.name) net.outputs (outputs_end ∷ from_latches net)
-    (joined-one outputs_end (from_latches net)
-    (joined-numbered latch_text (net_latch net) 0 net.latches (from_inputs net)
-    (joined-numbered table_text input_table 0 net.inputs (from_gates net)
-    (joined-numbered table_text (gate_table net) 0 net.gates (from_outputs net)
-    (joined-mapped table_text (output_table net) net.outputs (last_lines net ∷ [])
+    joined-one (first_lines net) (from 1)
+    (joined-each spaced net.inputs (from 2)
+    (joined-one (inputs_end net.inputs) (from 3)
+    (joined-mapped spaced (λ (o : NetOut). output_word net.inputs o.name) net.outputs (from 4)
+    (joined-one outputs_end (from 5)
+    (joined-numbered latch_text (net_latch net) 0 net.latches (from 6)
+    (joined-numbered table_text input_table 0 net.inputs (from 7)
+    (joined-numbered table_text (gate_table net) 0 net.gates (from 8)
+    (joined-mapped table_text (output_table net) net.outputs (from 9)
     (joined-last (last_lines net))))))))))
     ∙ head-parts net.name net.inputs names _
     ∙ whole-parts ((Model net.name ∷ []) ++ inputs_statements net.inputs ++ (Outputs (names ++ paused_word ∷ []) ∷ []))
@@ -85,12 +86,3 @@ pub few-parts : (net : Netlist) → length net.inputs < 2 ^ 63 → length net.ou
     → length (net_parts net) < 2 ^ 128
 unfolding net_parts
 few-parts net i o l g = simp (count-numbered, count-mapped) (omega (arith, i, o, l, g))
-
--- ---- outputs
-
--- whether the name of an output is also that of an input
-pub given-at : (net : Netlist) (given : List Bool) (k : ℕ) (x : NetOut) → given ≡ given_outputs net → k < length net.outputs → x ≡ get_or net.outputs k x
-    → get_or given k false ≡ is_among x.name net.inputs
-given-at net given k x e low at =
-    ap (λ g. get_or g k false) e ∙ get_or-map (λ o. is_among o.name net.inputs) net.outputs k x false low
-    ∙ ap (λ o. is_among o.name net.inputs) (sym at)

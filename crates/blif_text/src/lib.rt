@@ -11,4 +11,5 @@ mod pieces;
 mod writer;
 
 pub use circuit::{Blif, BlifLatch, Cell, Row, Table};
-pub use pieces::{BlifPieces, BlifWriter, write_blif};
+pub use parts::Section;
+pub use pieces::{BlifWriter, write_blif};

@@ -7,18 +7,17 @@ ghost use Rattle.net_ir.specs.Runs.{netlist_of};
 ghost use Rattle.net_ir.specs.NameLists.{is_among};
 ghost use Rattle.blif_text.specs.Written.{given_outputs, written, Means};
 
-use crate::parts::put_heads;
 use est_base::{NoMemory, Text};
 use net_ir::{Net, look_at_wires};
-use net_text::{NetPieces, NetText, write_net};
+use net_text::{NetText, put_section_part, write_net};
 use std::alloc::Global;
 use std::collections::HashSet;
 
-/// What writes the BLIF text of a net.
+/// What writes the BLIF text of a net, for `net_text::net_pieces` piece by piece.
 #[derive(Drop)]
 pub struct BlifWriter {
     // For each output, whether its name is also that of an input.
-    given: Vec<bool>,
+    pub(crate) given: Vec<bool>,
 }
 
 impl NetText for BlifWriter {
@@ -39,17 +38,15 @@ impl NetText for BlifWriter {
         })
     }
 
+    #[tactic(auto, unfolding(crate::specs::Parts::net_parts))]
     fn put_part(&self, text: &mut Vec<u8>, net: &Net, k: u128) -> Result<bool, NoMemory> {
-        put_heads(text, net, &self.given, k)
+        put_section_part(self, text, net, k)
     }
 
     fn look_at(net: &Net) {
         look_at_wires(net);
     }
 }
-
-/// The BLIF text of a net, piece by piece.
-pub type BlifPieces<'a> = NetPieces<'a, BlifWriter>;
 
 /// The BLIF text of a net: one line feed behind each line, and one space between words.
 ///

@@ -15,7 +15,7 @@ ghost use Rattle.blif_text.specs.Parts.{latch_text, table_text};
 
 use est_base::{NetId, NoMemory, Text};
 use net_ir::{Gate, Latch, Net, NetOut, Op};
-use net_text::{put, put_number};
+use net_text::{Driver, driver_of, put, put_number};
 
 // The line of the model, and the beginning of that of the inputs, where there are any.
 pub fn put_first_lines(text: &mut Vec<u8>, net: &Net) -> Result<(), NoMemory>
@@ -187,15 +187,10 @@ fn put_net(text: &mut Vec<u8>, net: &Net, from: NetId) -> Result<(), NoMemory>
     requires { from.0 < net_count (netlist_of net.now) }
     ensures { OnOk result (text.new.items ≡ text.old.items ++ net_word (netlist_of net.now) from.0) }
 {
-    let n = from.0 as usize;
-    let first_latch = net.inputs.len();
-    let first_gate = first_latch + net.latches.len();
-    if n < first_latch {
-        put_number(text, b"_i", n)
-    } else if n < first_gate {
-        put_number(text, b"_s", n - first_latch)
-    } else {
-        put_gate_word(text, n - first_gate, net.gates[n - first_gate])
+    match driver_of(net, from) {
+        Driver::Input(j) => put_number(text, b"_i", j),
+        Driver::Latch(j) => put_number(text, b"_s", j),
+        Driver::Gate(k) => put_gate_word(text, k, net.gates[k]),
     }
 }
 

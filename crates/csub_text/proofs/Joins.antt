@@ -1,5 +1,5 @@
 -- Inner: the parts of a net's text, one behind another, are the text.
-use Rattle.std.proofs.Common.{◌≡◌, ℕ, ◌^◌, ◌<◌, List, [], ◌∷◌, ◌++◌, length, map, refl, ◌∙◌, arith, append_assoc}
+use Rattle.std.proofs.Common.{◌≡◌, ℕ, ◌^◌, ◌<◌, List, [], ◌∷◌, ◌++◌, length, map, drop, refl, ◌∙◌, arith, append_assoc}
 use Rattle.std.specs.Prelude.{flat_map}
 use Rattle.std.proofs.lemmas.List.{append-nil}
 use Rattle.std.proofs.lemmas.List.Concat.{flat_map-append}
@@ -13,8 +13,8 @@ use Rattle.csub_text.specs.Trees.{Name}
 use Rattle.csub_text.specs.Written.{input_name, gate_name, next_name, answer_name, input_variable, output_variable, net_state, input_assign}
 use Rattle.csub_text.specs.Written.{gate_assign, next_assign, output_assign, answer_assign, state_assign, gate_names, state_line, declaration, assign_line}
 use Rattle.csub_text.specs.Written.{head_line, last_lines, written}
-use Rattle.csub_text.specs.Parts.{from_inputs, from_outputs, from_input_locals, from_gate_locals, from_next_locals, from_input_assigns}
-use Rattle.csub_text.specs.Parts.{from_gate_assigns, from_next_assigns, from_output_assigns, from_state_assigns, net_parts}
+use Rattle.csub_text.specs.Parts.{parts_in, net_parts}
+use Rattle.csub_text.specs.declared.parts.TheConstants.{SECTIONS}
 
 whole-parts : {S A : Type 0} (state : S → List ℕ) (declared : List ℕ → List ℕ) (assign : A → List ℕ) (head last : List ℕ)
     (s : List S) (a b c d e : List (List ℕ)) (r : List ℕ) (v w x y z : List A) (t : A)
@@ -28,20 +28,21 @@ whole-parts state declared assign head last s a b c d e r v w x y z t = simp (fl
 pub written-joined : (net : Netlist) → joined (net_parts net) ≡ written net
 unfolding net_parts
 written-joined net =
-    joined-numbered state_line net_state 0 net.latches (from_inputs net)
-    (joined-mapped declaration input_variable net.inputs (from_outputs net)
-    (joined-mapped declaration output_variable net.outputs (head_line ∷ from_input_locals net)
-    (joined-one head_line (from_input_locals net)
-    (joined-numbered declaration (λ j (name : List ℕ). input_name j) 0 net.inputs (from_gate_locals net)
-    (joined-numbered declaration (λ k (gate : Gate). gate_name k gate.wire) 0 net.gates (from_next_locals net)
-    (joined-numbered declaration (λ j (latch : Latch). next_name j) 0 net.latches (declaration answer_name ∷ from_input_assigns net)
-    (joined-one (declaration answer_name) (from_input_assigns net)
-    (joined-numbered assign_line input_assign 0 net.inputs (from_gate_assigns net)
-    (joined-numbered assign_line (gate_assign net) 0 net.gates (from_next_assigns net)
-    (joined-numbered assign_line (next_assign net) 0 net.latches (from_output_assigns net)
-    (joined-mapped assign_line (output_assign net) net.outputs (assign_line (answer_assign net) ∷ from_state_assigns net)
-    (joined-one (assign_line (answer_assign net)) (from_state_assigns net)
-    (joined-numbered assign_line state_assign 0 net.latches (last_lines (Name answer_name) ∷ [])
+    let from : ℕ → List (List ℕ) = λ n. flat_map (parts_in net) (drop n SECTIONS) in
+    joined-numbered state_line net_state 0 net.latches (from 1)
+    (joined-mapped declaration input_variable net.inputs (from 2)
+    (joined-mapped declaration output_variable net.outputs (from 3)
+    (joined-one head_line (from 4)
+    (joined-numbered declaration (λ j (name : List ℕ). input_name j) 0 net.inputs (from 5)
+    (joined-numbered declaration (λ k (gate : Gate). gate_name k gate.wire) 0 net.gates (from 6)
+    (joined-numbered declaration (λ j (latch : Latch). next_name j) 0 net.latches (from 7)
+    (joined-one (declaration answer_name) (from 8)
+    (joined-numbered assign_line input_assign 0 net.inputs (from 9)
+    (joined-numbered assign_line (gate_assign net) 0 net.gates (from 10)
+    (joined-numbered assign_line (next_assign net) 0 net.latches (from 11)
+    (joined-mapped assign_line (output_assign net) net.outputs (from 12)
+    (joined-one (assign_line (answer_assign net)) (from 13)
+    (joined-numbered assign_line state_assign 0 net.latches (from 14)
     (joined-last (last_lines (Name answer_name))))))))))))))))
     ∙ whole-parts state_line declaration assign_line head_line (last_lines (Name answer_name)) (numbered net_state 0 net.latches)
     (map input_variable net.inputs) (map output_variable net.outputs) (numbered (λ j name. input_name j) 0 net.inputs) (gate_names net)

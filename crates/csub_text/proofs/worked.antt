@@ -2,3 +2,4 @@
 mod TextEquations
 mod WorkedNames
 mod WorkedKinds
+mod WorkedTexts

@@ -13,5 +13,6 @@ mod writer;
 
 pub use expr_text::Expr;
 pub use names::{begins_input, begins_output, declared_names, front_two, variable_names};
-pub use pieces::{CPieces, CWriter, write_c};
+pub use parts::Section;
+pub use pieces::{CWriter, write_c};
 pub use trees::{Assign, CProgram, State};

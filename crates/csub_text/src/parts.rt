@@ -1,12 +1,10 @@
-// The parts of the C text of a net.
+// The parts of the C text of a net, section by section.
 
-ghost use Rattle.std.specs.Prelude.{IfOk};
+ghost use Rattle.std.specs.Prelude.{◌≡◌, ◌<◌, ◌++◌, [], length, slice_index_or, OnOk};
 ghost use Rattle.net_ir.specs.Runs.{netlist_of};
-ghost use Rattle.net_text.specs.Parts.{PutsPart};
-ghost use Rattle.csub_text.specs.Parts.{from_state_assigns, from_output_assigns, from_next_assigns, from_gate_assigns};
-ghost use Rattle.csub_text.specs.Parts.{from_input_assigns, from_next_locals, from_gate_locals, from_input_locals};
-ghost use Rattle.csub_text.specs.Parts.{from_outputs, from_inputs, net_parts};
+ghost use Rattle.csub_text.specs.Parts.{parts_in};
 
+use crate::pieces::CWriter;
 use crate::writer::{
     put_answer_assign, put_answer_local, put_gate, put_gate_local, put_head, put_input,
     put_input_assign, put_input_local, put_last_lines, put_next_assign, put_next_local, put_output,
@@ -14,158 +12,98 @@ use crate::writer::{
 };
 use est_base::NoMemory;
 use net_ir::Net;
+use net_text::Sections;
 
-// A declaration for each latch.
-pub fn put_states(text: &mut Vec<u8>, net: &Net, k: u128) -> Result<bool, NoMemory>
-    ensures { IfOk result (PutsPart (net_parts (netlist_of net.now)) k text.old.items text.new.items) }
-{
-    let count = net.latches.len() as u128;
-    if k < count {
-        put_state(text, k as usize, net.latches[k as usize])?;
-        Ok(true)
-    } else {
-        put_inputs(text, net, k - count)
-    }
+/// The sections of a C text: the declarations, and in the function the locals and the assignments.
+#[derive(Clone, Copy)]
+pub enum Section {
+    States,
+    Inputs,
+    Outputs,
+    Head,
+    InputLocals,
+    GateLocals,
+    NextLocals,
+    AnswerLocal,
+    InputAssigns,
+    GateAssigns,
+    NextAssigns,
+    OutputAssigns,
+    AnswerAssign,
+    StateAssigns,
+    LastLines,
 }
 
-// A declaration for each input.
-fn put_inputs(text: &mut Vec<u8>, net: &Net, k: u128) -> Result<bool, NoMemory>
-    ensures { IfOk result (PutsPart (from_inputs (netlist_of net.now)) k text.old.items text.new.items) }
-{
-    let count = net.inputs.len() as u128;
-    if k < count {
-        put_input(text, &net.inputs[k as usize])?;
-        Ok(true)
-    } else {
-        put_outputs(text, net, k - count)
-    }
-}
+static SECTIONS: [Section; 15] = [
+    Section::States,
+    Section::Inputs,
+    Section::Outputs,
+    Section::Head,
+    Section::InputLocals,
+    Section::GateLocals,
+    Section::NextLocals,
+    Section::AnswerLocal,
+    Section::InputAssigns,
+    Section::GateAssigns,
+    Section::NextAssigns,
+    Section::OutputAssigns,
+    Section::AnswerAssign,
+    Section::StateAssigns,
+    Section::LastLines,
+];
 
-// A declaration for each output, and the line that begins the function.
-fn put_outputs(text: &mut Vec<u8>, net: &Net, k: u128) -> Result<bool, NoMemory>
-    ensures { IfOk result (PutsPart (from_outputs (netlist_of net.now)) k text.old.items text.new.items) }
-{
-    let count = net.outputs.len() as u128;
-    if k < count {
-        put_output(text, &net.outputs[k as usize])?;
-        Ok(true)
-    } else if k == count {
-        put_head(text)?;
-        Ok(true)
-    } else {
-        put_input_locals(text, net, k - count - 1)
-    }
-}
+impl Sections for CWriter {
+    ghost use Rattle.csub_text.specs.Parts.{parts_in};
+    ghost use Rattle.csub_text.specs.declared.parts.TheConstants.{SECTIONS};
 
-// A local for each input.
-fn put_input_locals(text: &mut Vec<u8>, net: &Net, k: u128) -> Result<bool, NoMemory>
-    ensures { IfOk result (PutsPart (from_input_locals (netlist_of net.now)) k text.old.items text.new.items) }
-{
-    let count = net.inputs.len() as u128;
-    if k < count {
-        put_input_local(text, k as usize)?;
-        Ok(true)
-    } else {
-        put_gate_locals(text, net, k - count)
-    }
-}
+    type Section = Section;
 
-// A local for each gate.
-fn put_gate_locals(text: &mut Vec<u8>, net: &Net, k: u128) -> Result<bool, NoMemory>
-    ensures { IfOk result (PutsPart (from_gate_locals (netlist_of net.now)) k text.old.items text.new.items) }
-{
-    let count = net.gates.len() as u128;
-    if k < count {
-        put_gate_local(text, k as usize, net.gates[k as usize])?;
-        Ok(true)
-    } else {
-        put_next_locals(text, net, k - count)
-    }
-}
+    ghost sections = { SECTIONS };
 
-// A local for the next value of each latch, and one for the answer.
-fn put_next_locals(text: &mut Vec<u8>, net: &Net, k: u128) -> Result<bool, NoMemory>
-    ensures { IfOk result (PutsPart (from_next_locals (netlist_of net.now)) k text.old.items text.new.items) }
-{
-    let count = net.latches.len() as u128;
-    if k < count {
-        put_next_local(text, k as usize)?;
-        Ok(true)
-    } else if k == count {
-        put_answer_local(text)?;
-        Ok(true)
-    } else {
-        put_input_assigns(text, net, k - count - 1)
-    }
-}
+    ghost parts_in = { parts_in };
 
-// Each input is copied into its local.
-fn put_input_assigns(text: &mut Vec<u8>, net: &Net, k: u128) -> Result<bool, NoMemory>
-    ensures { IfOk result (PutsPart (from_input_assigns (netlist_of net.now)) k text.old.items text.new.items) }
-{
-    let count = net.inputs.len() as u128;
-    if k < count {
-        put_input_assign(text, k as usize, &net.inputs[k as usize])?;
-        Ok(true)
-    } else {
-        put_gate_assigns(text, net, k - count)
-    }
-}
+    ghost is_ready = { λ _ _. Unit {0} };
 
-// Each gate is computed.
-fn put_gate_assigns(text: &mut Vec<u8>, net: &Net, k: u128) -> Result<bool, NoMemory>
-    ensures { IfOk result (PutsPart (from_gate_assigns (netlist_of net.now)) k text.old.items text.new.items) }
-{
-    let count = net.gates.len() as u128;
-    if k < count {
-        put_gate(text, net, k as usize, net.gates[k as usize])?;
-        Ok(true)
-    } else {
-        put_next_assigns(text, net, k - count)
+    fn sections() -> &'static [Section] {
+        &SECTIONS
     }
-}
 
-// The next value of each latch is computed.
-fn put_next_assigns(text: &mut Vec<u8>, net: &Net, k: u128) -> Result<bool, NoMemory>
-    ensures { IfOk result (PutsPart (from_next_assigns (netlist_of net.now)) k text.old.items text.new.items) }
-{
-    let count = net.latches.len() as u128;
-    if k < count {
-        put_next_assign(text, net, k as usize, net.latches[k as usize])?;
-        Ok(true)
-    } else {
-        put_output_assigns(text, net, k - count)
+    #[tactic(auto, using(net_text::proofs::Exports::section_parts))]
+    fn count(net: &Net, section: Section) -> usize {
+        match section {
+            Section::Inputs | Section::InputLocals | Section::InputAssigns => net.inputs.len(),
+            Section::Outputs | Section::OutputAssigns => net.outputs.len(),
+            Section::GateLocals | Section::GateAssigns => net.gates.len(),
+            Section::Head | Section::AnswerLocal | Section::AnswerAssign | Section::LastLines => 1,
+            Section::States | Section::NextLocals | Section::NextAssigns | Section::StateAssigns =>
+                net.latches.len(),
+        }
     }
-}
 
-// Each output gets its value, and so does the answer.
-fn put_output_assigns(text: &mut Vec<u8>, net: &Net, k: u128) -> Result<bool, NoMemory>
-    ensures { IfOk result (PutsPart (from_output_assigns (netlist_of net.now)) k text.old.items text.new.items) }
-{
-    let count = net.outputs.len() as u128;
-    if k < count {
-        put_output_assign(text, net, &net.outputs[k as usize])?;
-        Ok(true)
-    } else if k == count {
-        put_answer_assign(text, net)?;
-        Ok(true)
-    } else {
-        put_state_assigns(text, net, k - count - 1)
-    }
-}
-
-// Each latch gets its next value, and the function ends.
-fn put_state_assigns(text: &mut Vec<u8>, net: &Net, k: u128) -> Result<bool, NoMemory>
-    ensures { IfOk result (PutsPart (from_state_assigns (netlist_of net.now)) k text.old.items text.new.items) }
-{
-    let count = net.latches.len() as u128;
-    if k < count {
-        put_state_assign(text, k as usize, net.latches[k as usize])?;
-        Ok(true)
-    } else if k == count {
-        put_last_lines(text)?;
-        Ok(true)
-    } else {
-        Ok(false)
+    #[tactic(auto, using(net_text::proofs::Exports::section_parts))]
+    fn put_in(
+        &self,
+        text: &mut Vec<u8>,
+        net: &Net,
+        section: Section,
+        k: usize,
+    ) -> Result<(), NoMemory> {
+        match section {
+            Section::States => put_state(text, k, net.latches[k]),
+            Section::Inputs => put_input(text, &net.inputs[k]),
+            Section::Outputs => put_output(text, &net.outputs[k]),
+            Section::Head => put_head(text),
+            Section::InputLocals => put_input_local(text, k),
+            Section::GateLocals => put_gate_local(text, k, net.gates[k]),
+            Section::NextLocals => put_next_local(text, k),
+            Section::AnswerLocal => put_answer_local(text),
+            Section::InputAssigns => put_input_assign(text, k, &net.inputs[k]),
+            Section::GateAssigns => put_gate(text, net, k, net.gates[k]),
+            Section::NextAssigns => put_next_assign(text, net, k, net.latches[k]),
+            Section::OutputAssigns => put_output_assign(text, net, &net.outputs[k]),
+            Section::AnswerAssign => put_answer_assign(text, net),
+            Section::StateAssigns => put_state_assign(text, k, net.latches[k]),
+            Section::LastLines => put_last_lines(text),
+        }
     }
 }

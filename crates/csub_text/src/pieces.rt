@@ -4,13 +4,12 @@ ghost use Rattle.std.specs.Prelude.{◌≡◌, IfOk};
 ghost use Rattle.net_ir.specs.Runs.{netlist_of};
 ghost use Rattle.csub_text.specs.Written.{written, Means};
 
-use crate::parts::put_states;
 use est_base::NoMemory;
 use net_ir::{Net, look_at_wires};
-use net_text::{NetPieces, NetText, write_net};
+use net_text::{NetText, put_section_part, write_net};
 use std::alloc::Global;
 
-/// What writes the C text of a net.
+/// What writes the C text of a net, for `net_text::net_pieces` piece by piece.
 #[derive(Drop)]
 pub struct CWriter {}
 
@@ -29,17 +28,15 @@ impl NetText for CWriter {
         Ok(CWriter {})
     }
 
+    #[tactic(auto, unfolding(crate::specs::Parts::net_parts))]
     fn put_part(&self, text: &mut Vec<u8>, net: &Net, k: u128) -> Result<bool, NoMemory> {
-        put_states(text, net, k)
+        put_section_part(self, text, net, k)
     }
 
     fn look_at(net: &Net) {
         look_at_wires(net);
     }
 }
-
-/// The C text of a net, piece by piece.
-pub type CPieces<'a> = NetPieces<'a, CWriter>;
 
 /// The C text of a net: one line feed behind each line.
 ///

@@ -10,10 +10,34 @@ ghost use Rattle.csub_text.specs.Written.{output_assign, answer_assign, state_as
 ghost use Rattle.csub_text.specs.Written.{declaration, assign_line, head_line, last_lines};
 ghost use Rattle.csub_text.specs.Trees.{Name};
 
-use est_base::{NetId, NoMemory, Text};
-use expr_text::put_gate_name;
-use net_ir::{Gate, Latch, Net, NetOut, Op};
+use crate::pieces::CWriter;
+use est_base::{NoMemory, Text};
+use expr_text::{GateText, put_gate_name, put_net, put_op};
+use net_ir::{Gate, Latch, Net, NetOut};
 use net_text::{put, put_named, put_number};
+
+impl GateText for CWriter {
+    ghost use Rattle.std.specs.Prelude.{codes};
+    ghost use Rattle.csub_text.specs.Written.{input_name, bit_text};
+
+    ghost input = { λ _ j. input_name j };
+
+    ghost negation = { codes "!" };
+
+    ghost bit = { bit_text };
+
+    fn put_input(text: &mut Vec<u8>, _net: &Net, n: usize) -> Result<(), NoMemory> {
+        put_number(text, b"i", n)
+    }
+
+    fn negation() -> &'static [u8] {
+        b"!"
+    }
+
+    fn bit(value: bool) -> &'static [u8] {
+        if value { b"1" } else { b"0" }
+    }
+}
 
 // The declaration of a latch.
 pub fn put_state(text: &mut Vec<u8>, j: usize, latch: Latch) -> Result<(), NoMemory>
@@ -96,38 +120,8 @@ pub fn put_gate(text: &mut Vec<u8>, net: &Net, k: usize, gate: Gate) -> Result<(
 {
     put_gate_name(text, k, gate)?;
     put(text, b" = ")?;
-    put_op(text, net, gate.op)?;
+    put_op::<CWriter>(text, net, gate.op)?;
     put(text, b";\n")
-}
-
-// What a gate makes of the nets that it reads.
-fn put_op(text: &mut Vec<u8>, net: &Net, op: Op) -> Result<(), NoMemory>
-    requires { operand_end op ≤ net_count (netlist_of net.now) }
-    ensures { OnOk result (text.new.items ≡ text.old.items
-        ++ expr_text (op_expr (net_name (netlist_of net.now)) op)) }
-{
-    match op {
-        Op::Const(value) => put(text, if value { b"1" } else { b"0" }),
-        Op::Copy(a) => put_net(text, net, a),
-        Op::Not(a) => {
-            put(text, b"!")?;
-            put_net(text, net, a)
-        }
-        Op::And(a, b) => put_pair(text, net, a, b" & ", b),
-        Op::Or(a, b) => put_pair(text, net, a, b" | ", b),
-    }
-}
-
-// Two nets with a mark between them.
-fn put_pair(text: &mut Vec<u8>, net: &Net, a: NetId, mark: &[u8], b: NetId) -> Result<(), NoMemory>
-    requires first { a.0 < net_count (netlist_of net.now) }
-    requires second { b.0 < net_count (netlist_of net.now) }
-    ensures { OnOk result (text.new.items ≡ text.old.items
-        ++ (net_name (netlist_of net.now) a.0 ++ (mark.now ++ net_name (netlist_of net.now) b.0))) }
-{
-    put_net(text, net, a)?;
-    put(text, mark)?;
-    put_net(text, net, b)
 }
 
 // The next value of a latch is computed.
@@ -143,7 +137,7 @@ pub fn put_next_assign(
 {
     put_number(text, b"t", j)?;
     put(text, b" = ")?;
-    put_net(text, net, latch.from)?;
+    put_net::<CWriter>(text, net, latch.from)?;
     put(text, b";\n")
 }
 
@@ -154,7 +148,7 @@ pub fn put_output_assign(text: &mut Vec<u8>, net: &Net, output: &NetOut) -> Resu
         ++ assign_line (output_assign (netlist_of net.now) output.now)) }
 {
     put_named(text, b"O_", output.name.bytes(), b" = ")?;
-    put_net(text, net, output.net)?;
+    put_net::<CWriter>(text, net, output.net)?;
     put(text, b";\n")
 }
 
@@ -163,7 +157,7 @@ pub fn put_answer_assign(text: &mut Vec<u8>, net: &Net) -> Result<(), NoMemory>
     ensures { OnOk result (text.new.items ≡ text.old.items ++ assign_line (answer_assign (netlist_of net.now))) }
 {
     put(text, b"r = ")?;
-    put_net(text, net, net.paused)?;
+    put_net::<CWriter>(text, net, net.paused)?;
     put(text, b";\n")
 }
 
@@ -181,21 +175,4 @@ pub fn put_last_lines(text: &mut Vec<u8>) -> Result<(), NoMemory>
     ensures { OnOk result (text.new.items ≡ text.old.items ++ last_lines (Name answer_name)) }
 {
     put(text, b"return r;\n}\n")
-}
-
-// The name of a net.
-fn put_net(text: &mut Vec<u8>, net: &Net, from: NetId) -> Result<(), NoMemory>
-    requires { from.0 < net_count (netlist_of net.now) }
-    ensures { OnOk result (text.new.items ≡ text.old.items ++ net_name (netlist_of net.now) from.0) }
-{
-    let n = from.0 as usize;
-    let first_latch = net.inputs.len();
-    let first_gate = first_latch + net.latches.len();
-    if n < first_latch {
-        put_number(text, b"i", n)
-    } else if n < first_gate {
-        put_number(text, b"s", n - first_latch)
-    } else {
-        put_gate_name(text, n - first_gate, net.gates[n - first_gate])
-    }
 }

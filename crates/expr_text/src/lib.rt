@@ -21,4 +21,4 @@ pub use reader::read_expr;
 pub use steps::{after, copy_of, nothing_read, past, past_name, read_bit, refused_here};
 pub use tables::{NameTable, name_set, name_table};
 pub use trees::Expr;
-pub use writing::put_gate_name;
+pub use writing::{GateText, put_gate_name, put_net, put_op};

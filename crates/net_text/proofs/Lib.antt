@@ -1,2 +1,4 @@
 mod Joined
+mod SectionParts
+mod NetMachines
 pub mod Exports

@@ -1,47 +1,42 @@
-// Texts of nets, piece by piece.
+// Texts, piece by piece.
 
-ghost use Rattle.std.specs.Prelude.{◌≡◌, ◌⊎◌, ◌<◌, ◌≤◌, ◌^◌, [], ◌++◌, length, take, drop};
+ghost use Rattle.std.specs.Prelude.{◌≡◌, ◌⊎◌, ◌<◌, ◌≤◌, [], ◌++◌, length, take, drop};
 ghost use Rattle.std.specs.Prelude.{IfOk, IfErr, OnOk, MatchOption};
-ghost use Rattle.net_ir.specs.Runs.{netlist_of};
-ghost use Rattle.net_text.specs.Parts.{joined, to_come};
 
-use crate::texts::NetText;
+use crate::places::Places;
 use est_base::{Limits, NoMemory};
-use net_ir::Net;
 use std::alloc::Global;
 use std::marker::Model;
 
-/// The text of a net, piece by piece. A contract sees the text that is still to come.
+/// A text, piece by piece. A contract sees the text that is still to come.
 #[derive(Drop)]
-pub struct NetPieces<'a, T: NetText + Drop> {
-    net: &'a Net,
-    // Made with the first piece.
-    progress: Option<Progress<T>>,
+pub struct Pieces<P: Places + Drop> {
+    places: P,
+    // What is left of what stood before the next place.
+    left: Vec<u8>,
+    place: u128,
 }
 
-impl<'a, T: NetText + Drop> Model for NetPieces<'a, T> {
-    ghost use Rattle.std.specs.Prelude.{List, ℕ, ◌<◌, ◌^◌, length, IfSome};
-    ghost use Rattle.net_ir.specs.Runs.{netlist_of};
-    ghost use Rattle.net_text.specs.Parts.{still_to_come};
+impl<P: Places + Drop> Model for Pieces<P> {
+    ghost use Rattle.std.specs.Prelude.{List, ℕ, ◌++◌};
 
     ghost Value = { List ℕ };
 
-    ghost view = { λ p. still_to_come (T.parts (netlist_of p.net.now)) p.progress };
+    ghost view = { λ p. p.left.items ++ P.text_from p.places p.place };
 
-    ghost invariant = { λ p. (length (T.parts (netlist_of p.net.now)) < 2 ^ 128)
-        × IfSome p.progress (λ q. T.is_of q.form (netlist_of p.net.now)) };
+    ghost invariant = { λ p. P.is_sound p.places };
 }
 
-impl<'a, T: NetText + Drop> NetPieces<'a, T> {
-    /// The whole text of a net, which is that of `write_net`. It takes no memory.
-    pub fn new(net: &'a Net) -> NetPieces<'a, T>
-        ensures text { result ≡ T.written (netlist_of net.now) }
-        ensures means { T.means (T.written (netlist_of net.now)) (netlist_of net.now) }
+impl<P: Places + Drop> Pieces<P> {
+    /// The whole text. It takes no memory.
+    pub fn new(alloc: Global, places: P) -> Pieces<P>
+        requires { P.is_sound places }
+        ensures { result ≡ P.text_from places 0 }
     {
-        T::look_at(net);
-        NetPieces {
-            net,
-            progress: None,
+        Pieces {
+            places,
+            left: Vec::new(alloc),
+            place: 0,
         }
     }
 
@@ -54,100 +49,51 @@ impl<'a, T: NetText + Drop> NetPieces<'a, T> {
         ensures rest { OnOk result (self.new ≡ drop Limits.PIECE_BYTES self.old) }
         ensures stays { IfErr result (λ _. self.new ≡ self.old) }
     {
-        match &mut self.progress {
-            Some(progress) => progress.next(alloc, self.net),
-            None => {
-                let mut progress = Progress::<T>::start(alloc, self.net)?;
-                let piece = progress.next(alloc, self.net)?;
-                self.progress = Some(progress);
-                Ok(piece)
-            }
-        }
-    }
-}
-
-/// The text of a net, all pieces of it. The time and the memory that it takes are linear in the length of the text;
-/// want of memory is its only error.
-pub fn write_net<T: NetText + Drop>(alloc: Global, net: &Net) -> Result<Vec<u8>, NoMemory>
-    ensures text { IfOk result (λ t. t.items ≡ T.written (netlist_of net.now)) }
-    ensures means { IfOk result (λ t. T.means t.items (netlist_of net.now)) }
-{
-    let mut pieces = NetPieces::<T>::new(net);
-    let mut text = Vec::new(alloc);
-    while let Some(piece) = pieces.next(alloc)? {
-        text.extend_from_slice(&piece)?;
-    }
-    Ok(text)
-}
-
-// How far a text is given away: what is made of the net, what is left of the parts before the next one, and its number.
-// As far as a proof knows, the lists of a net may have more elements together than a `usize` counts.
-#[derive(Drop)]
-struct Progress<T> {
-    form: T,
-    left: Vec<u8>,
-    part: u128,
-}
-
-impl<T: NetText + Drop> Progress<T> {
-    // Nothing is given away.
-    fn start(alloc: Global, net: &Net) -> Result<Progress<T>, NoMemory>
-        ensures form { IfOk result (λ p. T.is_of p.form (netlist_of net.now)) }
-        ensures whole { IfOk result
-            (λ p. to_come (T.parts (netlist_of net.now)) p ≡ joined (T.parts (netlist_of net.now))) }
-    {
-        Ok(Progress {
-            form: T::of(alloc, net)?,
-            left: Vec::new(alloc),
-            part: 0,
-        })
-    }
-
-    // The next piece. All that was to come is to come still where memory is short.
-    fn next(&mut self, alloc: Global, net: &Net) -> Result<Option<Vec<u8>>, NoMemory>
-        requires form { T.is_of self.old.form (netlist_of net.now) }
-        requires few { length (T.parts (netlist_of net.now)) < 2 ^ 128 }
-        ensures form { T.is_of self.new.form (netlist_of net.now) }
-        ensures piece { IfOk result (λ answer. MatchOption answer (to_come (T.parts (netlist_of net.now)) self.old ≡ [])
-            (λ piece. (0 < length piece.items)
-            × (piece.items ≡ take Limits.PIECE_BYTES (to_come (T.parts (netlist_of net.now)) self.old)))) }
-        ensures rest { OnOk result (to_come (T.parts (netlist_of net.now)) self.new
-            ≡ drop Limits.PIECE_BYTES (to_come (T.parts (netlist_of net.now)) self.old)) }
-        ensures stays { IfErr result (λ _. to_come (T.parts (netlist_of net.now)) self.new
-            ≡ to_come (T.parts (netlist_of net.now)) self.old) }
-    {
-        let (mut text, part) = filled(alloc, net, self)?;
+        let (mut text, place) = filled(alloc, &self.places, &self.left, self.place)?;
         if text.is_empty() {
             return Ok(None);
         }
         self.left = cut(&mut text)?;
-        self.part = part;
+        self.place = place;
         Ok(Some(text))
+    }
+
+    /// All pieces, one behind another. The time and the memory that it takes are linear in the length of the text;
+    /// want of memory is its only error.
+    pub fn all(self, alloc: Global) -> Result<Vec<u8>, NoMemory>
+        ensures { IfOk result (λ t. t.items ≡ self) }
+    {
+        let mut pieces = self;
+        let mut text = Vec::new(alloc);
+        while let Some(piece) = pieces.next(alloc)? {
+            text.extend_from_slice(&piece)?;
+        }
+        Ok(text)
     }
 }
 
-// What is to come, at least as far as a piece goes or to the end of the text, and the number of the part behind it.
-fn filled<T: NetText>(
+// What is left and what stands at the places from this one on, at least as far as a piece goes or to the end of the
+// text, and the place behind it.
+fn filled<P: Places>(
     alloc: Global,
-    net: &Net,
-    progress: &Progress<T>,
+    places: &P,
+    left: &[u8],
+    place: u128,
 ) -> Result<(Vec<u8>, u128), NoMemory>
-    requires form { T.is_of progress.now.form (netlist_of net.now) }
-    requires few { length (T.parts (netlist_of net.now)) < 2 ^ 128 }
-    ensures text { IfOk result (λ f. f.0.items ++ joined (drop f.1 (T.parts (netlist_of net.now)))
-        ≡ to_come (T.parts (netlist_of net.now)) progress.now) }
-    ensures full { IfOk result (λ f. (Limits.PIECE_BYTES ≤ length f.0.items)
-        ⊎ (joined (drop f.1 (T.parts (netlist_of net.now))) ≡ [])) }
+    requires { P.is_sound places.now }
+    ensures text { IfOk result (λ f. f.0.items ++ P.text_from places.now f.1
+        ≡ left.now ++ P.text_from places.now place) }
+    ensures full { IfOk result (λ f. (Limits.PIECE_BYTES ≤ length f.0.items) ⊎ (P.text_from places.now f.1 ≡ [])) }
 {
-    let mut text = Vec::from_slice(alloc, &progress.left)?;
-    let mut part = progress.part;
-    'parts: while text.len() < Limits::PIECE_BYTES {
-        if !progress.form.put_part(&mut text, net, part)? {
-            return Ok((text, part));
+    let mut text = Vec::from_slice(alloc, left)?;
+    let mut at = place;
+    'places: while text.len() < Limits::PIECE_BYTES {
+        match places.put_place(&mut text, at)? {
+            Some(next) => at = next,
+            None => return Ok((text, at)),
         }
-        part += 1;
     }
-    Ok((text, part))
+    Ok((text, at))
 }
 
 // Cuts a text behind its first piece; the answer is what stood there.

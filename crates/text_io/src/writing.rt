@@ -8,7 +8,7 @@ ghost use Rattle.text_io.specs.Writings.{LeavesPieces, LeavesText};
 
 use est_base::{NoMemory, Sink, write_text};
 use net_ir::Net;
-use net_text::{NetPieces, NetText};
+use net_text::{NetText, Pieces, Places, net_pieces};
 use std::alloc::Global;
 
 /// How the writing of a text ended.
@@ -24,9 +24,9 @@ pub enum Written {
 
 /// Writes a text piece by piece, each right when it is made. It stops at the first piece that fails, and where memory
 /// is wanting; a prefix of the text was appended then.
-pub fn write_in_pieces<T: NetText + Drop, O: Sink>(
+pub fn write_in_pieces<P: Places + Drop, O: Sink>(
     alloc: Global,
-    pieces: &mut NetPieces<'_, T>,
+    pieces: &mut Pieces<P>,
     out: &mut O,
 ) -> Written
     ensures { LeavesPieces (λ text. text ≡ pieces.old) (change O.told O.faults out.old out.new) (Some result) }
@@ -53,8 +53,10 @@ pub fn write_net_in_pieces<T: NetText + Drop, O: Sink>(
     ensures { LeavesPieces (λ text. IsWrittenIn T.written T.means text (netlist_of net.now))
         (change O.told O.faults out.old out.new) (Some result) }
 {
-    let mut pieces = NetPieces::<T>::new(net);
-    write_in_pieces(alloc, &mut pieces, out)
+    match net_pieces::<T>(alloc, net) {
+        Ok(mut pieces) => write_in_pieces(alloc, &mut pieces, out),
+        Err(NoMemory) => Written::NoMemory,
+    }
 }
 
 /// Writes a text that is in memory. It takes no more.

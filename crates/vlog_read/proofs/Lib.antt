@@ -6,4 +6,5 @@ mod LexLaws
 mod NameLaws
 pub mod ReadBack
 mod RegisterTables
+mod worked
 pub mod Exports

@@ -1,6 +1,6 @@
 // Names that are declared, and names that are used.
 
-ghost use Rattle.std.specs.Prelude.{◌≡◌, ◌++◌, ℕ, List, [], map, find, IfOk, OnOk};
+ghost use Rattle.std.specs.Prelude.{◌≡◌, ◌++◌, ℕ, List, [], map, flat_map, find, IfOk, OnOk};
 ghost use Rattle.std.specs.HashSet.{contains_by};
 ghost use Rattle.est_base.specs.Names.{is_same_name};
 ghost use Rattle.net_ir.specs.NameLists.{is_among, first_again};
@@ -8,17 +8,19 @@ ghost use Rattle.expr_text.specs.Names.{names_in};
 ghost use Rattle.expr_text.specs.NameTables.{name_told};
 ghost use Rattle.expr_text.specs.Views.{expr_of};
 ghost use Rattle.vlog_text.specs.Names.{names_of, declared, declared_twice, undeclared, uses, used_name, use_found};
-ghost use Rattle.vlog_text.specs.Names.{Taken};
+ghost use Rattle.vlog_text.specs.Names.{Kept, Taken, assign_uses, next_uses};
+ghost use Rattle.vlog_text.specs.Views.{assign_of};
 ghost use Rattle.vlog_read.specs.NameTables.{AreKnown, wrong_in};
 ghost use Rattle.vlog_read.specs.NameTests.{group_test, is_told, use_of};
-ghost use Rattle.vlog_read.specs.Sources.{declaration_of, plain_source};
+ghost use Rattle.vlog_read.specs.Sources.{declaration_of, initial_of, next_of, plain_source};
 
 use crate::ports::first_input;
-use crate::sources::{Declaration, Group, Source, names_of};
+use crate::sources::{Declaration, Group, Initial, Next, Source, names_of};
 use est_base::NoMemory;
 use expr_text::{Expr, name_set, name_table, names_in};
 use std::alloc::Global;
 use std::collections::HashSet;
+use vlog_text::Assign;
 
 // A reg under `initial` or left of `<=`, a name under `assign`, or a name whose value is taken.
 #[derive(Clone, Copy)]
@@ -155,18 +157,49 @@ fn uses<'a>(alloc: Global, source: &'a Source<'a>) -> Result<Vec<Use<'a>>, NoMem
     ensures { IfOk result (λ v. map use_of v.items ≡ uses (plain_source source.now)) }
 {
     let mut uses = Vec::new(alloc);
-    for initial in &source.initials {
+    push_kept(&mut uses, &source.initials)?;
+    push_assigned(alloc, &mut uses, &source.assigns)?;
+    push_clocked(&mut uses, &source.clocked.nexts)?;
+    Ok(uses)
+}
+
+// The names under `initial` are kept.
+fn push_kept<'a>(uses: &mut Vec<Use<'a>>, initials: &[Initial<'a>]) -> Result<(), NoMemory>
+    ensures { OnOk result (map use_of uses.new.items
+        ≡ map use_of uses.old.items ++ map (λ i. Kept i.name) (map initial_of initials.now)) }
+{
+    for initial in initials {
         uses.push(Use::Kept(initial.name))?;
     }
-    for assign in &source.assigns {
+    Ok(())
+}
+
+// The names under `assign` are assigned, and the names in their expressions are taken.
+fn push_assigned<'a>(
+    alloc: Global,
+    uses: &mut Vec<Use<'a>>,
+    assigns: &'a [Assign],
+) -> Result<(), NoMemory>
+    ensures { OnOk result (map use_of uses.new.items
+        ≡ map use_of uses.old.items ++ flat_map assign_uses (map assign_of assigns.now)) }
+{
+    for assign in assigns {
         uses.push(Use::Assigned(assign.to.bytes()))?;
-        push_taken(alloc, &mut uses, &assign.value)?;
+        push_taken(alloc, uses, &assign.value)?;
     }
-    for next in &source.clocked.nexts {
+    Ok(())
+}
+
+// The names left of `<=` are kept, and those right of it are taken.
+fn push_clocked<'a>(uses: &mut Vec<Use<'a>>, nexts: &[Next<'a>]) -> Result<(), NoMemory>
+    ensures { OnOk result (map use_of uses.new.items
+        ≡ map use_of uses.old.items ++ flat_map next_uses (map next_of nexts.now)) }
+{
+    for next in nexts {
         uses.push(Use::Kept(next.target))?;
         uses.push(Use::Taken(next.source))?;
     }
-    Ok(uses)
+    Ok(())
 }
 
 // The names in an expression are taken.

@@ -1,5 +1,5 @@
 -- Inner: the parts of a net's text, one behind another, are the text.
-use Rattle.std.proofs.Common.{◌≡◌, ℕ, ◌^◌, ◌<◌, List, [], ◌∷◌, ◌++◌, length, map, refl, sym, ap, ◌∙◌, arith, append_assoc}
+use Rattle.std.proofs.Common.{◌≡◌, ℕ, ◌^◌, ◌<◌, List, [], ◌∷◌, ◌++◌, length, map, drop, refl, sym, ap, ◌∙◌, arith, append_assoc}
 use Rattle.std.specs.Prelude.{flat_map}
 use Rattle.std.proofs.lemmas.List.{append-nil, map-append}
 use Rattle.std.proofs.lemmas.List.Concat.{flat_map-append}
@@ -12,8 +12,8 @@ use Rattle.net_text.specs.Parts.{joined}
 use Rattle.net_text.proofs.Exports.{joined-numbered, joined-mapped, joined-one, joined-last, count-numbered, count-mapped}
 use Rattle.vlog_text.specs.Trees.{Input, Output, Reg, Wire}
 use Rattle.vlog_text.specs.Names.{paused_name}
-use Rattle.vlog_text.specs.Parts.{from_nexts, from_output_assigns, from_gate_assigns, from_initials, from_wires, from_regs, from_outputs}
-use Rattle.vlog_text.specs.Parts.{from_inputs, from_output_ports, from_input_ports, net_parts}
+use Rattle.vlog_text.specs.Parts.{parts_in, net_parts}
+use Rattle.vlog_text.specs.declared.parts.TheConstants.{SECTIONS}
 use Rattle.vlog_text.specs.Written.{module_name, clock_name, input_name, output_name, declares, gate_assign, output_assign, paused_assign, latch_initial}
 use Rattle.vlog_text.specs.Written.{latch_next, next_port, head_front, head_end, declaration_line, initial_line, assign_line, clock_line, next_line, last_lines}
 use Rattle.vlog_text.specs.Written.{written}
@@ -41,24 +41,25 @@ regrouped port declared initial assign next head clock end line last p a b c q u
 pub written-joined : (net : Netlist) → joined (net_parts net) ≡ written net
 unfolding net_parts
 written-joined net =
+    let from : ℕ → List (List ℕ) = λ n. flat_map (parts_in net) (drop n SECTIONS) in
     let regs = numbered (λ j (latch : Latch). declares Reg (state_name j)) 0 net.latches in
     let ports_end = next_port paused_name ++ (head_end ++ declaration_line (declares Input clock_name)) in
     let begins = assign_line (paused_assign net) ++ clock_line clock_name in
     let wires = numbered (λ k (gate : Gate). declares Wire (gate_name k gate.wire)) 0 net.gates in
-    joined-one (head_front (module_name net.name) ++ clock_name) (from_input_ports net)
-    (joined-mapped next_port input_name net.inputs (from_output_ports net)
-    (joined-mapped next_port output_name net.outputs (ports_end ∷ from_inputs net)
-    (joined-one ports_end (from_inputs net)
-    (joined-twice declaration_line (declares Input) input_name net.inputs (from_outputs net)
-    (joined-twice declaration_line (declares Output) output_name net.outputs (declaration_line (declares Output paused_name) ∷ from_regs net)
-    (joined-one (declaration_line (declares Output paused_name)) (from_regs net)
-    (joined-numbered declaration_line (λ j (latch : Latch). declares Reg (state_name j)) 0 net.latches (from_wires net)
-    (joined-numbered declaration_line (λ k (gate : Gate). declares Wire (gate_name k gate.wire)) 0 net.gates (from_initials net)
-    (joined-numbered initial_line latch_initial 0 net.latches (from_gate_assigns net)
-    (joined-numbered assign_line (gate_assign net) 0 net.gates (from_output_assigns net)
-    (joined-mapped assign_line (output_assign net) net.outputs (begins ∷ from_nexts net)
-    (joined-one begins (from_nexts net)
-    (joined-numbered next_line (latch_next net) 0 net.latches (last_lines ∷ [])
+    joined-one (head_front (module_name net.name) ++ clock_name) (from 1)
+    (joined-mapped next_port input_name net.inputs (from 2)
+    (joined-mapped next_port output_name net.outputs (from 3)
+    (joined-one ports_end (from 4)
+    (joined-twice declaration_line (declares Input) input_name net.inputs (from 5)
+    (joined-twice declaration_line (declares Output) output_name net.outputs (from 6)
+    (joined-one (declaration_line (declares Output paused_name)) (from 7)
+    (joined-numbered declaration_line (λ j (latch : Latch). declares Reg (state_name j)) 0 net.latches (from 8)
+    (joined-numbered declaration_line (λ k (gate : Gate). declares Wire (gate_name k gate.wire)) 0 net.gates (from 9)
+    (joined-numbered initial_line latch_initial 0 net.latches (from 10)
+    (joined-numbered assign_line (gate_assign net) 0 net.gates (from 11)
+    (joined-mapped assign_line (output_assign net) net.outputs (from 12)
+    (joined-one begins (from 13)
+    (joined-numbered next_line (latch_next net) 0 net.latches (from 14)
     (joined-last last_lines))))))))))))))
     ∙ regrouped next_port declaration_line initial_line assign_line next_line (head_front (module_name net.name)) clock_name head_end (clock_line clock_name)
     last_lines paused_name (map input_name net.inputs) (map output_name net.outputs) (declares Input clock_name) (declares Output paused_name)

@@ -1,22 +1,23 @@
 -- Inner: the runs of a net's module: there is one over every list of inputs, and it shows what the net shows.
-use Rattle.std.proofs.Common.{◌≡◌, ℕ, Bool, true, not, ◌==◌, List, [], ◌∷◌, ◌++◌, length, map, get_or, take, drop, refl, sym, ap, ◌∙◌, subst}
+use Rattle.std.proofs.Common.{◌≡◌, ℕ, Bool, true, not, ◌==◌, List, [], ◌∷◌, ◌++◌, length, map, get_or, take, drop, refl, sym, ap, ◌∙◌}
 use Rattle.std.specs.List.{range_with_len}
 use Rattle.std.proofs.lemmas.List.{map-append, length-append, length-map, map-id, drop_at, take-append-drop}
 use Rattle.std.proofs.lemmas.List.FromFn.{fill_by_all}
 use Rattle.facts.proofs.Lists.{map-composed, map-equal, same-parts}
 use Rattle.est_base.specs.Distinct.{all_differ}
-use Rattle.est_base.specs.Items.{Item, Event, Reset, EachEvent}
+use Rattle.est_base.specs.Items.{Item}
 use Rattle.est_base.specs.Names.{is_same_name}
-use Rattle.machines.specs.Machines.{IsRun, IsRunFrom}
+use Rattle.machines.specs.Machines.{IsRun}
 use Rattle.net_ir.specs.declared.netlist.Gate.{Gate}
 use Rattle.net_ir.specs.declared.netlist.Latch.{Latch}
 use Rattle.net_ir.specs.declared.netlist.NetOut.{NetOut}
 use Rattle.net_ir.specs.Gates.{value_in}
 use Rattle.net_ir.specs.Netlists.{Netlist, first_gate, net_count}
-use Rattle.net_ir.specs.Runs.{Shown, net_values, next_latches, initial_latches, values_from, net_values_run, shown}
+use Rattle.net_ir.specs.Runs.{Shown, net_values, next_latches, initial_latches, net_values_run, shown}
 use Rattle.net_ir.specs.Writing.{IsWritable}
 use Rattle.net_ir.proofs.Exports.{length-numbered, map-numbered, numbered-map, take-gate_values, looked_up, map-looked_up, gate_part, length-gate_part}
-use Rattle.net_ir.proofs.Exports.{output_part, told-values, told_from}
+use Rattle.net_ir.proofs.Exports.{output_part}
+use Rattle.net_text.proofs.Exports.{HasNet, runs, runs-are, runs-tell}
 use Rattle.expr_text.specs.NetNames.{state_name, gate_name, gate_names}
 use Rattle.expr_text.proofs.Exports.{state_names, marks-states, marks-gates, in-front, all-both, differ-states}
 use Rattle.vlog_text.specs.Trees.{Register, Assign}
@@ -155,49 +156,24 @@ initial-module : (net : Netlist) → initial_registers (net_module net) ≡ init
 initial-module net =
     map-numbered (λ (r : Register). r.init) (net_register net) 0 net.latches ∙ numbered-map (λ (x : Latch). x.init) 0 net.latches
 
-length-initial : (net : Netlist) → length (initial_registers (net_module net)) ≡ length net.latches
-length-initial net = ap length (initial-module net) ∙ length-map net.latches (λ (x : Latch). x.init)
-
-runs_from : (net : Netlist) → IsWritable net → (latches : List Bool) (items : List Item) → length latches ≡ length net.latches
-    → EachEvent (λ inputs. length inputs ≡ length net.inputs) items
-    → (vs : List (List ℕ → Bool)) × IsRunFrom (vlog_machine (net_module net)) latches items vs
-runs_from net is latches [] l wide = ([], tt)
-runs_from net is latches (Event inputs ∷ items) l wide =
-    let here = instant_exists net is latches inputs l wide.0 in
-    let next = map (λ (r : Register). here.0 r.from) (net_module net).registers in
-    let len : length next ≡ length net.latches = length-map (net_module net).registers (λ (r : Register). here.0 r.from)
-    ∙ length-numbered (net_register net) 0 net.latches in
-    let rest = runs_from net is next items len wide.1 in
-    (here.0 ∷ rest.0, (here.1, rest.1))
-runs_from net is latches (Reset ∷ items) l wide =
-    runs_from net is (initial_registers (net_module net)) items (length-initial net) wide
-
--- what is so of every instant with a net's values is so of every run: f of the valuations is g of the values
-runs-are : {X : Type 0} (net : Netlist) → IsWritable net → (f : (List ℕ → Bool) → X) (g : List Bool → List Bool → X)
-    → ((latches inputs : List Bool) (v : List ℕ → Bool) → Holds net latches inputs v → f v ≡ g latches inputs)
-    → (latches : List Bool) (items : List Item) (vs : List (List ℕ → Bool)) → IsRunFrom (vlog_machine (net_module net)) latches items vs
-    → map f vs ≡ told_from net g latches items
-runs-are net is f g each latches [] [] run = refl
-runs-are net is f g each latches [] (v ∷ vs) run = absurd run
-runs-are net is f g each latches (Event inputs ∷ items) [] run = absurd run
-runs-are net is f g each latches (Event inputs ∷ items) (v ∷ vs) run =
-    let holds = Holds-from_instant net is latches inputs v run.0 in
-    let next = next_latches-module net is latches inputs v holds in
-    let rest = subst (λ l. IsRunFrom (vlog_machine (net_module net)) l items vs) next run.1 in
-    let later = runs-are net is f g each (next_latches net (net_values net latches inputs)) items vs rest in
-    ap (λ x. x ∷ map f vs) (each latches inputs v holds) ∙ ap (λ x. g latches inputs ∷ x) later
-runs-are net is f g each latches (Reset ∷ items) vs run =
-    runs-are net is f g each (initial_latches net) items vs
-    (subst (λ l. IsRunFrom (vlog_machine (net_module net)) l items vs) (initial-module net) run)
+has-net : (net : Netlist) → IsWritable net → HasNet net (initial_registers (net_module net)) (IsInstant (net_module net))
+    (λ kept inputs v. map (λ (x : Register). v x.from) (net_module net).registers) (Holds net)
+has-net net is = record {
+  begins = initial-module net;
+  exists = instant_exists net is;
+  holds = Holds-from_instant net is;
+  kept = next_latches-module net is;
+}
 
 -- ---- the written text means the net
 
 pub Means-written : (net : Netlist) → IsWritable net → Means (written net) net
 Means-written net is =
+    let k = has-net net is in
     let start = initial_registers (net_module net) in
     let names = driven_names (net_module net) in
     let values_told = λ (items : List Item) (vs : List (List ℕ → Bool)) (run : IsRun (vlog_machine (net_module net)) items vs).
-    runs-are net is (λ v. map v names) (all_values net) (values-from_Holds net) start items vs run in
+    runs-are k (λ v. map v names) (all_values net) (values-from_Holds net) start items vs run in
     let all_shown = λ (values : List Bool). (shown net values).outputs ++ (shown net values).paused ∷ [] in
     let named = λ (latches inputs : List Bool) (v : List ℕ → Bool) (holds : Holds net latches inputs v). map-composed v (net_name net)
     (range_with_len 0 (net_count net)) ∙ ap (map v) (sym (net_names-numbers net)) ∙ holds.nets in
@@ -209,13 +185,10 @@ Means-written net is =
       outputs = refl;
       registers = refl;
       wires = refl;
-      runs = λ items widths. runs_from net is start items (length-initial net) widths;
+      runs = λ items widths. runs k items widths;
       one_run = λ items us vs u v. values_told items us u ∙ sym (values_told items vs v);
-      shows = λ items vs run. runs-are net is (λ v. map v (net_outputs net)) (λ l i. all_shown (net_values net l i)) (shown-module net) start items vs run
-          ∙ told-values net all_shown start items ∙ ap (λ l. map all_shown (values_from net l items)) (initial-module net)
+      shows = λ items vs run. runs-tell k (λ v. map v (net_outputs net)) all_shown (shown-module net) items vs run
           ∙ map-composed (λ (s : Shown). s.outputs ++ s.paused ∷ []) (shown net) (net_values_run net items);
-      nets = λ items vs run. runs-are net is (λ v. map (λ n. v (net_name net n)) (range_with_len 0 (net_count net))) (λ l i. net_values net l i) named start
-          items vs run
-          ∙ told-values net (λ values. values) start items ∙ ap (λ l. map (λ values. values) (values_from net l items)) (initial-module net)
+      nets = λ items vs run. runs-tell k (λ v. map (λ n. v (net_name net n)) (range_with_len 0 (net_count net))) (λ values. values) named items vs run
           ∙ map-id (net_values_run net items);
     }

@@ -10,5 +10,6 @@ mod pieces;
 mod trees;
 mod writer;
 
-pub use pieces::{VlogPieces, VlogWriter, write_verilog};
+pub use parts::Section;
+pub use pieces::{VlogWriter, write_verilog};
 pub use trees::{Assign, Module, Register};

@@ -13,10 +13,34 @@ ghost use Rattle.vlog_text.specs.Written.{gate_assign, output_assign, paused_ass
 ghost use Rattle.vlog_text.specs.Written.{expr_text, next_port, head_front, head_end, declaration_line, initial_line};
 ghost use Rattle.vlog_text.specs.Written.{assign_line, clock_line, next_line, last_lines};
 
-use est_base::{NetId, NoMemory, Text};
-use expr_text::put_gate_name;
-use net_ir::{Gate, Latch, Net, NetOut, Op};
+use crate::pieces::VlogWriter;
+use est_base::{NoMemory, Text};
+use expr_text::{GateText, put_gate_name, put_net, put_op};
+use net_ir::{Gate, Latch, Net, NetOut};
 use net_text::{put, put_named, put_number};
+
+impl GateText for VlogWriter {
+    ghost use Rattle.std.specs.Prelude.{codes, slice_get};
+    ghost use Rattle.vlog_text.specs.Written.{name_at, bit_text};
+
+    ghost input = { λ net n. name_at (slice_get net.inputs n) };
+
+    ghost negation = { codes "~" };
+
+    ghost bit = { bit_text };
+
+    fn put_input(text: &mut Vec<u8>, net: &Net, n: usize) -> Result<(), NoMemory> {
+        put_named(text, b"i_", net.inputs[n].bytes(), b"")
+    }
+
+    fn negation() -> &'static [u8] {
+        b"~"
+    }
+
+    fn bit(value: bool) -> &'static [u8] {
+        if value { b"1'b1" } else { b"1'b0" }
+    }
+}
 
 // The name of the module, and the clock among its ports.
 pub fn put_clock_port(text: &mut Vec<u8>, name: &Text) -> Result<(), NoMemory>
@@ -112,38 +136,8 @@ pub fn put_gate(text: &mut Vec<u8>, net: &Net, k: usize, gate: Gate) -> Result<(
     put(text, b"assign ")?;
     put_gate_name(text, k, gate)?;
     put(text, b" = ")?;
-    put_op(text, net, gate.op)?;
+    put_op::<VlogWriter>(text, net, gate.op)?;
     put(text, b";\n")
-}
-
-// What a gate makes of the nets that it reads.
-fn put_op(text: &mut Vec<u8>, net: &Net, op: Op) -> Result<(), NoMemory>
-    requires { operand_end op ≤ net_count (netlist_of net.now) }
-    ensures { OnOk result (text.new.items ≡ text.old.items
-        ++ expr_text (op_expr (net_name (netlist_of net.now)) op)) }
-{
-    match op {
-        Op::Const(value) => put(text, if value { b"1'b1" } else { b"1'b0" }),
-        Op::Copy(a) => put_net(text, net, a),
-        Op::Not(a) => {
-            put(text, b"~")?;
-            put_net(text, net, a)
-        }
-        Op::And(a, b) => put_pair(text, net, a, b" & ", b),
-        Op::Or(a, b) => put_pair(text, net, a, b" | ", b),
-    }
-}
-
-// Two nets with a mark between them.
-fn put_pair(text: &mut Vec<u8>, net: &Net, a: NetId, mark: &[u8], b: NetId) -> Result<(), NoMemory>
-    requires first { a.0 < net_count (netlist_of net.now) }
-    requires second { b.0 < net_count (netlist_of net.now) }
-    ensures { OnOk result (text.new.items ≡ text.old.items
-        ++ (net_name (netlist_of net.now) a.0 ++ (mark.now ++ net_name (netlist_of net.now) b.0))) }
-{
-    put_net(text, net, a)?;
-    put(text, mark)?;
-    put_net(text, net, b)
 }
 
 // An output is assigned.
@@ -153,7 +147,7 @@ pub fn put_output_assign(text: &mut Vec<u8>, net: &Net, output: &NetOut) -> Resu
         ++ assign_line (output_assign (netlist_of net.now) output.now)) }
 {
     put_named(text, b"assign o_", output.name.bytes(), b" = ")?;
-    put_net(text, net, output.net)?;
+    put_net::<VlogWriter>(text, net, output.net)?;
     put(text, b";\n")
 }
 
@@ -163,7 +157,7 @@ pub fn put_paused_assign(text: &mut Vec<u8>, net: &Net) -> Result<(), NoMemory>
         ≡ text.old.items ++ (assign_line (paused_assign (netlist_of net.now)) ++ clock_line clock_name)) }
 {
     put(text, b"assign paused = ")?;
-    put_net(text, net, net.paused)?;
+    put_net::<VlogWriter>(text, net, net.paused)?;
     put(text, b";\nalways @(posedge clk) begin\n")
 }
 
@@ -175,7 +169,7 @@ pub fn put_next(text: &mut Vec<u8>, net: &Net, j: usize, latch: Latch) -> Result
 {
     put_number(text, b"s", j)?;
     put(text, b" <= ")?;
-    put_net(text, net, latch.from)?;
+    put_net::<VlogWriter>(text, net, latch.from)?;
     put(text, b";\n")
 }
 
@@ -184,22 +178,4 @@ pub fn put_last_lines(text: &mut Vec<u8>) -> Result<(), NoMemory>
     ensures { OnOk result (text.new.items ≡ text.old.items ++ last_lines) }
 {
     put(text, b"end\nendmodule\n")
-}
-
-// The name of a net.
-fn put_net(text: &mut Vec<u8>, net: &Net, from: NetId) -> Result<(), NoMemory>
-    requires { from.0 < net_count (netlist_of net.now) }
-    ensures { OnOk result (text.new.items ≡ text.old.items ++ net_name (netlist_of net.now) from.0) }
-{
-    let n = from.0 as usize;
-    let first_latch = net.inputs.len();
-    let first_gate = first_latch + net.latches.len();
-    if n < first_latch {
-        put(text, b"i_")?;
-        put(text, net.inputs[n].bytes())
-    } else if n < first_gate {
-        put_number(text, b"s", n - first_latch)
-    } else {
-        put_gate_name(text, n - first_gate, net.gates[n - first_gate])
-    }
 }

@@ -1,12 +1,9 @@
-use Rattle.std.proofs.Common.{◌≡◌, ◌++◌, ◌-◌, length, drop}
-use Rattle.net_ir.specs.Runs.{netlist_of}
-use Rattle.net_text.specs.Parts.{joined, to_come}
+use Rattle.std.proofs.Common.{◌≡◌, ◌++◌, ◌-◌, ◌^◌}
 use Rattle.net_text.proofs.pieces.filled.Given as goal
 
--- what is there, and the parts behind, are what is to come
-abbrev pub invariant-parts : goal.invariant-parts
-invariant-parts g l =
-    l.text.items ++ joined (drop l.part (g.T.NetText.parts (netlist_of l.net))) ≡ to_come (g.T.NetText.parts (netlist_of l.net)) l.progress
+-- what is there, and the text from the place on, are what is to come
+abbrev pub invariant-places : goal.invariant-places
+invariant-places g l = l.text.items ++ g.P.Places.text_from l.places l.at ≡ l.left ++ g.P.Places.text_from l.places l.place
 
-abbrev pub decreases-parts : goal.decreases-parts
-decreases-parts g l = length (g.T.NetText.parts (netlist_of l.net)) - l.part
+abbrev pub decreases-places : goal.decreases-places
+decreases-places g l = 2 ^ 128 - l.at
