@@ -1,6 +1,5 @@
 mod Written
 mod TokenCounts
-mod FlatFaults
 mod MainModules
 mod Named
 mod SourceWeights

@@ -24,7 +24,7 @@ use Rattle.read_rules.specs.Languages.{Empty, One, Then, Led, Optional, Parted, 
 use Rattle.read_rules.specs.Languages.{Loop as Steps}
 use Rattle.est_names.specs.Names.{texts}
 use Rattle.est_expand.specs.Scopes.{inputs_in, both_in, outputs_in}
-use Rattle.est_expand.specs.FlatPrograms.{IsNamedModule}
+use Rattle.est_expand.specs.NamedModules.{IsNamedModule}
 use Rattle.cec_front.specs.Sources.{ReadsAs}
 
 -- ---- the identifiers among the tokens

@@ -15,11 +15,9 @@ use Rattle.read_rules.specs.Exact.{IsLeastPlace}
 use Rattle.est_parse.specs.declared.refusal.ParseError.TheVariants as parsing
 use Rattle.est_names.specs.NameFaults.{first, name_faults}
 use Rattle.est_names.specs.declared.refusal.NameFault.{NameFault}
-use Rattle.est_names.specs.declared.refusal.NameFault.TheVariants as naming
+use Rattle.est_expand.specs.Answers.{scope_fault}
 use Rattle.est_expand.specs.Faults as flattening
 use Rattle.est_expand.specs.Flattening.{flattened}
-use Rattle.est_expand.specs.declared.refusal.ExpandFault.{ExpandFault}
-use Rattle.est_expand.specs.declared.refusal.ExpandFault.TheVariants as expanding
 use Rattle.est_kernel.specs.Plain.{Program}
 use Rattle.est_kernel.specs.StaticCodes.{instant_loops}
 use Rattle.est_codes.specs.Faults.{IsLeast}
@@ -31,7 +29,7 @@ use Rattle.cec_front.specs.declared.refusal.Quantity.TheVariants as quantities
 use Rattle.cec_front.specs.declared.refusal.Refusal.{Refusal}
 use Rattle.cec_front.specs.declared.refusal.Refusal.TheVariants.{Static, Limit, NoMemory}
 use Rattle.cec_front.specs.Sources.{ReadsAs, Declares, Flattens, Expands, StandsFor, main_module}
-use Rattle.cec_front.specs.Refusals.{Misspells, HasNameFault, Unflattened, HasExpandFault, Unexpanded, LoopsAtOnce, HasFault, IsRefused}
+use Rattle.cec_front.specs.Refusals.{Misspells, Misnames, Unflattened, Unexpanded, LoopsAtOnce, HasFault, IsRefused}
 use Rattle.cec_front.proofs.OneProgram.{one_tree, one_flat}
 
 -- ---- tokens and trees
@@ -82,18 +80,9 @@ none_first : (all : List NameFault) (fault : NameFault) → all ≡ [] → first
 none_first [] fault empty is = cc
 none_first (f ∷ fs) fault empty is = cc
 
-all_named : (text : List ℕ) (main : Option (List ℕ)) (tree other : source.Program) (fault : NameFault) → Declares text main tree → ReadsAs text other
-    → first (name_faults main other) ≡ Some fault → ⊥
-all_named text main tree other fault d r is =
-    none_first (name_faults main other) fault (subst (λ t. name_faults main t ≡ []) (one_tree text tree other d.reads r) d.names) is
-
-no_name_fault : (text : List ℕ) (main : Option (List ℕ)) (tree : source.Program) (fault : NameFault) → Declares text main tree
-    → HasNameFault text main fault → ⊥
-no_name_fault text main tree (naming.DuplicateModule at) d m = all_named text main tree m.tree (naming.DuplicateModule at) d m.reads m.first
-no_name_fault text main tree naming.NoMain d m = all_named text main tree m.tree naming.NoMain d m.reads m.first
-no_name_fault text main tree (naming.DuplicateSignal at) d m = all_named text main tree m.tree (naming.DuplicateSignal at) d m.reads m.first
-no_name_fault text main tree (naming.RelationName at) d m = all_named text main tree m.tree (naming.RelationName at) d m.reads m.first
-no_name_fault text main tree naming.NoMemory d m = m
+no_name_fault : (text : List ℕ) (main : Option (List ℕ)) (tree : source.Program) (fault : NameFault) → Declares text main tree → Misnames text main fault → ⊥
+no_name_fault text main tree fault d m =
+    none_first (name_faults main m.tree) fault (subst (λ t. name_faults main t ≡ []) (one_tree text tree m.tree d.reads m.reads) d.names) m.first
 
 -- ---- the flat form
 
@@ -106,19 +95,6 @@ no_unflattened text main flat fault f u =
   where
     some_same : {a b : source.Module} → Some a ≡ Some b → a ≡ b
     some_same is = cc
-
-no_expand_fault : (text : List ℕ) (main : Option (List ℕ)) (flat : Flat) (fault : ExpandFault) → Flattens text main flat → HasExpandFault text main fault → ⊥
-no_expand_fault text main flat (expanding.UnknownModule at) f h = no_unflattened text main flat h.0 f h.2
-no_expand_fault text main flat (expanding.Recursive at names) f h = no_unflattened text main flat h.0 f h.2
-no_expand_fault text main flat (expanding.BadRename at) f h = no_unflattened text main flat h.0 f h.2
-no_expand_fault text main flat (expanding.UnknownSignal at) f h = no_unflattened text main flat h.0 f h.2
-no_expand_fault text main flat (expanding.Unbound at formal) f h = no_unflattened text main flat h.0 f h.2
-no_expand_fault text main flat (expanding.UnknownTrap at) f h = no_unflattened text main flat h.0 f h.2
-no_expand_fault text main flat (expanding.EmitInput at) f h = no_unflattened text main flat h.0 f h.2
-no_expand_fault text main flat expanding.TooManyStatements f h = h
-no_expand_fault text main flat expanding.TooDeep f h = h
-no_expand_fault text main flat expanding.TooManySignals f h = h
-no_expand_fault text main flat expanding.NoMemory f h = h
 
 -- ---- the kernel program
 
@@ -171,7 +147,7 @@ no_fault text main p (faults.OpenComment place) s h = no_open_comment text s.exp
 no_fault text main p (faults.BigNumber place) s h = no_big_number text s.expands.flattens.tree place s.expands.flattens.declares.reads h
 no_fault text main p (faults.Syntax token place) s h = no_syntax text s.expands.flattens.tree token s.expands.flattens.declares.reads h.0
 no_fault text main p (faults.Name fault) s h = no_name_fault text main s.expands.flattens.tree fault s.expands.flattens.declares h
-no_fault text main p (faults.Expand fault) s h = no_expand_fault text main s.expands.flat fault s.expands.flattens h
+no_fault text main p (faults.Scope fault) s h = no_unflattened text main s.expands.flat (scope_fault fault) s.expands.flattens h
 no_fault text main p (faults.BadCount place) s h = no_bad_count text main p place s.expands h
 no_fault text main p (faults.InstantLoop place) s h = no_loop text main p place s h
 

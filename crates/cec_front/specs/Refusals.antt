@@ -16,12 +16,9 @@ use Rattle.est_parse.specs.declared.refusal.ParseError.{ParseError}
 use Rattle.est_parse.specs.declared.refusal.ParseError.TheVariants as parsing
 use Rattle.est_names.specs.NameFaults.{IsFirst, name_faults}
 use Rattle.est_names.specs.declared.refusal.NameFault.{NameFault}
-use Rattle.est_names.specs.declared.refusal.NameFault.TheVariants as naming
 use Rattle.est_expand.specs.Faults as flattening
-use Rattle.est_expand.specs.Answers.{fault_of}
+use Rattle.est_expand.specs.Answers.{scope_fault}
 use Rattle.est_expand.specs.Flattening.{flattened}
-use Rattle.est_expand.specs.declared.refusal.ExpandFault.{ExpandFault}
-use Rattle.est_expand.specs.declared.refusal.ExpandFault.TheVariants as expanding
 use Rattle.est_kernel.specs.Plain.{Program}
 use Rattle.est_kernel.specs.StaticCodes.{instant_loops}
 use Rattle.est_codes.specs.Faults.{IsLeast}
@@ -57,11 +54,6 @@ pub record Misnames (text : List ℕ) (main : Option (List ℕ)) (fault : NameFa
   pub reads : ReadsAs text tree
   pub first : IsFirst (name_faults main tree) fault
 
--- a fault of names that is no want of memory
-abbrev pub HasNameFault : List ℕ → Option (List ℕ) → NameFault → Type 0
-HasNameFault text main naming.NoMemory = ⊥
-HasNameFault text main others = Misnames text main others
-
 -- ---- the flat form
 
 -- the names are declared as they may be, but the walk over the main module ends at this fault
@@ -71,15 +63,6 @@ pub record Unflattened (text : List ℕ) (main : Option (List ℕ)) (fault : fla
   pub main_one : source.Module
   pub is_main : main_module main tree ≡ Some main_one
   pub ends : flattened tree main_one ≡ Err fault
-
--- a fault of that walk that is no limit
-abbrev pub HasExpandFault : List ℕ → Option (List ℕ) → ExpandFault → Type 0
-HasExpandFault text main expanding.TooManyStatements = ⊥
-HasExpandFault text main expanding.TooDeep = ⊥
-HasExpandFault text main expanding.TooManySignals = ⊥
-HasExpandFault text main expanding.NoMemory = ⊥
-HasExpandFault text main others = (fault : flattening.Fault) × (fault_of others ≡ Some fault)
-    × Unflattened text main fault
 
 -- ---- the kernel program
 
@@ -105,8 +88,8 @@ HasFault text main (faults.OpenComment place) = LexesAs text (lexing.OpenComment
 HasFault text main (faults.BigNumber place) = LexesAs text (lexing.BigNumber place)
 HasFault text main (faults.Syntax token place) =
     (m : Misspells text (parsing.Syntax token)) × (place ≡ token_place text m.tokens token)
-HasFault text main (faults.Name fault) = HasNameFault text main fault
-HasFault text main (faults.Expand fault) = HasExpandFault text main fault
+HasFault text main (faults.Name fault) = Misnames text main fault
+HasFault text main (faults.Scope fault) = Unflattened text main (scope_fault fault)
 HasFault text main (faults.BadCount place) = Unexpanded text main (expansions.BadCount place)
 HasFault text main (faults.InstantLoop place) = LoopsAtOnce text main place
 

@@ -2,12 +2,12 @@
 
 ghost use Rattle.std.specs.Prelude.{◌≡◌, ◌≤◌, ◌++◌, length, codes, flat_map};
 ghost use Rattle.est_base.specs.Writing.{Wrote};
-ghost use Rattle.cec_front.specs.Lines.{placed, fault_text, name_text, expand_text};
+ghost use Rattle.cec_front.specs.Lines.{placed, fault_text, name_text, scope_text};
 
 use crate::position::position_of;
 use crate::refusal::Fault;
 use est_base::{Limits, Sink, SinkFault, Text, write_pieces};
-use est_expand::ExpandFault;
+use est_expand::ScopeFault;
 use est_names::NameFault;
 use itoa::Buffer;
 
@@ -37,7 +37,7 @@ pub fn put_fault<E: Sink>(err: &mut E, subject: Subject<'_>, fault: &Fault) -> R
         ),
         Fault::Syntax(_, place) => put_placed(err, subject.source, *place, b"syntax", b""),
         Fault::Name(fault) => put_name_fault(err, subject, *fault),
-        Fault::Expand(fault) => put_expand_fault(err, subject.source, fault),
+        Fault::Scope(fault) => put_scope_fault(err, subject.source, fault),
         Fault::BadCount(at) => put_placed(err, subject.source, at.start, b"bad count", b""),
         Fault::InstantLoop(at) => put_placed(
             err,
@@ -82,38 +82,29 @@ fn put_name_fault<E: Sink>(
             b"not an input",
             b"",
         ),
-        NameFault::NoMemory => write_pieces(err, &[b"cec: ", b"\n"]),
     }
 }
 
-// The line of a fault of flattening.
-fn put_expand_fault<E: Sink>(
-    err: &mut E,
-    source: &[u8],
-    fault: &ExpandFault,
-) -> Result<(), SinkFault>
+// The line of a name, a `run` or an `exit` without a meaning.
+fn put_scope_fault<E: Sink>(err: &mut E, source: &[u8], fault: &ScopeFault) -> Result<(), SinkFault>
     requires { length source.now ≤ Limits.SOURCE_BYTES }
     ensures { Wrote (E.told err.old) (E.told err.new) (E.faults err.old) (E.faults err.new)
-        (codes "cec: " ++ (expand_text source.now fault.now ++ codes "\n")) result }
+        (codes "cec: " ++ (scope_text source.now fault.now ++ codes "\n")) result }
 {
     match fault {
-        ExpandFault::UnknownModule(at) => put_placed(err, source, at.start, b"unknown module", b""),
-        ExpandFault::Recursive(at, names) => put_recursive(err, source, at.start, names),
-        ExpandFault::BadRename(at) => put_placed(err, source, at.start, b"bad renaming", b""),
-        ExpandFault::UnknownSignal(at) => put_placed(err, source, at.start, b"unknown signal", b""),
-        ExpandFault::Unbound(at, formal) => put_placed(
+        ScopeFault::UnknownModule(at) => put_placed(err, source, at.start, b"unknown module", b""),
+        ScopeFault::Recursive(at, names) => put_recursive(err, source, at.start, names),
+        ScopeFault::BadRename(at) => put_placed(err, source, at.start, b"bad renaming", b""),
+        ScopeFault::UnknownSignal(at) => put_placed(err, source, at.start, b"unknown signal", b""),
+        ScopeFault::Unbound(at, formal) => put_placed(
             err,
             source,
             at.start,
             b"unbound ",
             formal.bytes(),
         ),
-        ExpandFault::UnknownTrap(at) => put_placed(err, source, at.start, b"unknown trap", b""),
-        ExpandFault::EmitInput(at) => put_placed(err, source, at.start, b"input emitted", b""),
-        ExpandFault::TooManyStatements
-        | ExpandFault::TooDeep
-        | ExpandFault::TooManySignals
-        | ExpandFault::NoMemory => write_pieces(err, &[b"cec: ", b"\n"]),
+        ScopeFault::UnknownTrap(at) => put_placed(err, source, at.start, b"unknown trap", b""),
+        ScopeFault::EmitInput(at) => put_placed(err, source, at.start, b"input emitted", b""),
     }
 }
 

@@ -42,7 +42,7 @@ pub fn kernel_program(
     let flat = Box::new(alloc, flat_program(alloc, text, main)?)?;
     match dismantle(alloc, flat) {
         Ok(program) => Ok(program),
-        Err(fault) => Err(expansion_refusal(fault)),
+        Err(stop) => Err(expansion_refusal(stop)),
     }
 }
 
@@ -69,7 +69,7 @@ fn flat_tree(alloc: Global, tree: &Program, main: Option<&[u8]>) -> Result<Flat,
 {
     let table = match check_modules(alloc, tree, main) {
         Ok(table) => table,
-        Err(fault) => return Err(name_refusal(fault)),
+        Err(stop) => return Err(name_refusal(stop)),
     };
     match flat_form(alloc, tree, &table) {
         Ok(flat) => Ok(flat),
@@ -77,7 +77,8 @@ fn flat_tree(alloc: Global, tree: &Program, main: Option<&[u8]>) -> Result<Flat,
     }
 }
 
-// The flat program of a tree with its table of modules.
+// The flat program of a tree with its table of modules, which is lent for a shorter time than the tree that its names
+// are of.
 fn flat_form<'a, 't>(
     alloc: Global,
     tree: &'a Program,
@@ -91,20 +92,13 @@ fn flat_form<'a, 't>(
 }
 
 // The refusal of a source for its names.
-fn name_refusal(fault: NameFault) -> Refusal
+fn name_refusal(stop: Stop<NameFault>) -> Refusal
     ensures { (text : List ℕ) (main : Option (List ℕ)) (tree : PlainProgram)
-        → ReadsAs text tree → IsFirst (name_faults main tree) fault → IsRefused text main result }
+        → ReadsAs text tree → FaultIs (IsFirst (name_faults main tree)) stop → IsRefused text main result }
 {
-    match fault {
-        NameFault::NoMemory => Refusal::NoMemory,
-        NameFault::NoMain => Refusal::Static(Fault::Name(NameFault::NoMain)),
-        NameFault::DuplicateModule(at) => Refusal::Static(Fault::Name(NameFault::DuplicateModule(
-            at,
-        ))),
-        NameFault::DuplicateSignal(at) => Refusal::Static(Fault::Name(NameFault::DuplicateSignal(
-            at,
-        ))),
-        NameFault::RelationName(at) => Refusal::Static(Fault::Name(NameFault::RelationName(at))),
+    match stop {
+        Stop::Fault(fault) => Refusal::Static(Fault::Name(fault)),
+        Stop::NoMemory => Refusal::NoMemory,
     }
 }
 
@@ -115,11 +109,11 @@ fn flattening_refusal(fault: ExpandFault) -> Refusal
         → IsRefused text main result }
 {
     match fault {
+        ExpandFault::Scope(fault) => Refusal::Static(Fault::Scope(fault)),
         ExpandFault::TooManyStatements => Refusal::Limit(Quantity::Statements),
         ExpandFault::TooDeep => Refusal::Limit(Quantity::Height),
         ExpandFault::TooManySignals => Refusal::Limit(Quantity::Signals),
         ExpandFault::NoMemory => Refusal::NoMemory,
-        fault => Refusal::Static(Fault::Expand(fault)),
     }
 }
 

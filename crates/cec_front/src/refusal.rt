@@ -4,12 +4,11 @@ ghost use Rattle.std.specs.Prelude.{◌≡◌};
 ghost use Rattle.cec_front.specs.declared.refusal.Refusal.TheVariants.{NoMemory as lacks_memory};
 
 use est_base::Span;
-use est_expand::ExpandFault;
+use est_expand::ScopeFault;
 use est_names::NameFault;
 use std::alloc::AllocFailed;
 
-/// A static fault of a source, with its place. The variants of the inner faults that say that memory ran out or that a
-/// limit was passed do not occur: `Refusal` has its own.
+/// A static fault of a source, with its place.
 #[derive(Debug, Drop)]
 pub enum Fault {
     /// At this byte no space, comment or token begins.
@@ -24,8 +23,8 @@ pub enum Fault {
     Syntax(u32, u32),
     /// A name is declared twice, or is no input in a relation, or no module has the main one's.
     Name(NameFault),
-    /// A name or a `run` has no meaning where it stands.
-    Expand(ExpandFault),
+    /// A name, a `run` or an `exit` has no meaning where it stands.
+    Scope(ScopeFault),
     /// A count is 0 or above 255.
     BadCount(Span),
     /// The body of this loop can terminate in the instant in which it starts. Of all such loops this is the one whose

@@ -7,3 +7,4 @@ mod WorkedNestings
 mod WorkedTokens
 mod WorkedLexemes
 mod WorkedGrammar
+mod WorkedTrees

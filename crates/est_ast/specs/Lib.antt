@@ -9,4 +9,5 @@ pub mod Views
 pub mod FlatTrees
 pub mod FlatViews
 pub mod FlatFits
+pub mod FlatPrograms
 pub mod NewSignals

@@ -13,7 +13,7 @@ use Rattle.est_kernel.specs.Terms as terms
 use Rattle.est_kernel.specs.Terms.{Term, Expression}
 use Rattle.est_kernel.proofs.Exports.{left_whole, trap_code-one, same_step}
 use Rattle.est_ast.specs.FlatTrees.{Expr, Plain, Immediate, Stmt, At, Await, Abort, Repeat, Sustain, LoopEach, Seq, Missing, Written, NoStmts, MoreStmts}
-use Rattle.est_dismantle.specs.Kernels.{Marks, expression, halting, watching, aborting, kernel}
+use Rattle.est_dismantle.specs.Kernels.{Traps, expression, halting, watching, aborting, kernel}
 use Rattle.est_ast.specs.NewSignals.{new_by, new_in}
 use Rattle.est_dismantle.specs.Laws.{ImmediateAbortionsRunTheirRest, ImmediateAwaitsEndAtOnce, RepetitionsAreSequences, Sustains, SustainedSignalsStay}
 use Rattle.est_dismantle.specs.Laws.{LoopsEachStartAnew}
@@ -31,9 +31,9 @@ sequence-part q Minus a b h = cc
 sequence-part q Unknown a b h = cc
 
 pub immediate-abortion : ImmediateAbortionsRunTheirRest
-immediate-abortion marks x at p q e E h =
-    let rest = kernel (false ∷ marks) (x + new_by (Immediate e) + new_in p) q in
-    let body = aborting at (expression e) 3 (kernel (false ∷ (false ∷ marks)) (x + new_by (Immediate e)) p) in
+immediate-abortion traps x at p q e E h =
+    let rest = kernel (false ∷ traps) (x + new_by (Immediate e) + new_in p) q in
+    let body = aborting at (expression e) 3 (kernel (false ∷ (false ∷ traps)) (x + new_by (Immediate e)) p) in
     ap trap_step (sequence-part rest (value (expression e) E) (step body E) (step rest E) h)
 
 -- ---- await immediate e
@@ -45,7 +45,7 @@ immediate-end whole last Minus b h = cc
 immediate-end whole last Unknown b h = cc
 
 pub immediate-await : ImmediateAwaitsEndAtOnce
-immediate-await marks x at e E h =
+immediate-await traps x at e E h =
     immediate-end (terms.Loop at (terms.Seq (terms.Present (expression e) (terms.Exit 2) terms.Nothing) terms.Pause)) terms.Pause (value (expression e) E)
     (Some (ended 1)) h
 
@@ -53,8 +53,8 @@ immediate-await marks x at e E h =
 
 pub two-copies : RepetitionsAreSequences
 two-copies = record {
-  twice = λ marks x at place p. refl;
-  in_source = λ marks x at place p none. ap (λ y. terms.Seq (kernel marks x p) (kernel marks y p)) (let e : x ≡ x + new_in p = omega (arith, none) in e);
+  twice = λ traps x at place p. refl;
+  in_source = λ traps x at place p none. ap (λ y. terms.Seq (kernel traps x p) (kernel traps y p)) (let e : x ≡ x + new_in p = omega (arith, none) in e);
 }
 
 -- ---- sustain s
@@ -82,7 +82,7 @@ stays-after at s r (E ∷ rest) h =
     (next.0, ap (λ o. option_and_then (λ q. left_after q rest) (left_by_step o)) (stays-step at s r E h) ∙ next.1, next.2)
 
 pub sustained-signals : SustainedSignalsStay
-sustained-signals marks x at s instants E =
+sustained-signals traps x at s instants E =
     let found = stays-after at s (sustaining at s) instants (Starts refl) in
     (found.0, sustained at s, found.1, stays-step at s found.0 E found.2, record { signals = λ t. or-false (t == s); pauses = refl })
 
@@ -321,8 +321,8 @@ anew at e whole p o s Minus h = cc
 anew at e whole p o s Unknown h = cc
 
 pub loops-each : LoopsEachStartAnew
-loops-each marks x at p e first instants r E left h =
-    let body = terms.Seq (kernel (false ∷ marks) (x + new_by (Plain e)) p) (halting at) in
+loops-each traps x at p e first instants r E left h =
+    let body = terms.Seq (kernel (false ∷ traps) (x + new_by (Plain e)) p) (halting at) in
     let k = goes-on (step (each at (expression e) body) first) instants r left in
     let l = each-left at (expression e) body k.at.residual r instants (first-left at (expression e) body first k.at k.is k.code) k.later in
     ap (λ t. step t E) l.is ∙ anew at (expression e) (each at (expression e) body) l.body (step l.body E) (step (each at (expression e) body) E)

@@ -1,21 +1,24 @@
 -- Inner: the kernel program of a flat program is well formed.
-use Rattle.std.proofs.Common.{◌≡◌, ◌+◌, ◌≤◌, Bool, true, false, nat_lt, cond, All, IsTrue, List, [], ◌∷◌, ◌++◌, length, refl, sym, ◌∙◌, ap, subst, arith, codes}
-use Rattle.std.specs.Prelude.{replicate}
+use Rattle.std.proofs.Common.{◌≡◌, ℕ, ◌+◌, ◌≤◌, Bool, true, false, nat_lt, cond, All, IsTrue, List, [], ◌∷◌, ◌++◌, length, refl, sym, ◌∙◌, ap, subst, arith}
+use Rattle.std.specs.Prelude.{codes, replicate}
+use Rattle.std.proofs.lemmas.List.Elements.{All-weaker}
 use Rattle.std.proofs.lemmas.List.{length-append, length-replicate, take-append-le}
 use Rattle.std.proofs.lemmas.Bool.{ltb-false}
 use Rattle.est_base.specs.declared.place.Span.{Span}
 use Rattle.est_base.specs.declared.bounds.TheConstants.Limits.{KERNEL_NODES, KERNEL_HEIGHT, TRAPS}
 use Rattle.est_base.specs.Names.{is_name, is_same_name}
 use Rattle.est_base.specs.Distinct.{all_differ}
+use Rattle.est_base.specs.Relations.{Relation, Implies, Excludes}
 use Rattle.est_kernel.specs.Terms.{Term}
 use Rattle.est_kernel.specs.Plain.{Program}
 use Rattle.est_kernel.specs.Sizes.{size_of, height_of, trap_depth}
-use Rattle.est_kernel.specs.WellFormed.{SignalsFit, IsWellFormed, HasNames}
+use Rattle.est_kernel.specs.WellFormed.{SignalsFit, RelatesGiven, IsWellFormed, HasNames}
 use Rattle.est_ast.specs.FlatTrees.{Flat}
+use Rattle.est_ast.specs.FlatPrograms as flats
+use Rattle.est_ast.specs.FlatPrograms.{seen_count, whole_scope, IsFlat, IsNamed}
 use Rattle.est_ast.specs.NewSignals.{new_in}
 use Rattle.est_dismantle.specs.Counts.{bad_in}
 use Rattle.est_dismantle.specs.Expansions.{Expanded, TooLarge, TooHigh, TooManyTraps, kernel_body, program_in, limited, counted, expansion}
-use Rattle.est_dismantle.specs.FlatPrograms.{seen_count, whole_scope, IsFlat}
 use Rattle.est_dismantle.proofs.Fitting.{Placed, placed}
 
 -- a body within the limits, and its program
@@ -58,6 +61,10 @@ whole flat h =
     placed flat.inputs (seen_count flat) (length flat.signals) (length flat.signals + new_in flat.body) (whole_scope flat) [] (length flat.signals) flat.body
     (record { traps = refl; given = omega (arith, h.interface); local = h.interface; room = omega arith; wide = omega arith }) h.body
 
+relates-given : (given : ℕ) (r : Relation) → flats.RelatesGiven given r → RelatesGiven given r
+relates-given given (Implies a b) h = h
+relates-given given (Excludes list) h = h
+
 made : (flat : Flat) (p : Program) → IsFlat flat → Limited flat (kernel_body flat) p → IsWellFormed (program_in flat (kernel_body flat))
 made flat p h l =
     let w = whole flat h in let n = signal_count flat in
@@ -66,7 +73,8 @@ made flat p h l =
       at_most = omega (arith, n, h.room);
       interface = omega (arith, n, h.interface);
       signals = subst (λ k. SignalsFit flat.inputs (seen_count flat) k (λ s. nat_lt s (seen_count flat)) (kernel_body flat)) (sym n) w.signals;
-      relations = h.relations;
+      relations = All-weaker (flats.RelatesGiven (flat.inputs + flat.both)) (RelatesGiven (flat.inputs + flat.both)) (relates-given (flat.inputs + flat.both))
+          flat.relations h.relations;
     }
 
 -- the program that a flat program stands for is well formed
@@ -74,16 +82,16 @@ pub expansion-well_formed : (flat : Flat) (p : Program) → IsFlat flat → expa
 expansion-well_formed flat p h is =
     let l = counted-inside flat (bad_in flat.body) p is in subst IsWellFormed l.program (made flat p h l)
 
-named : (flat : Flat) → IsFlat flat → HasNames (program_in flat (kernel_body flat))
-named flat h =
+named : (flat : Flat) → IsFlat flat → IsNamed flat → HasNames (program_in flat (kernel_body flat))
+named flat h written =
     let same = take-append-le (seen_count flat) flat.signals (replicate (new_in flat.body) (codes "x")) h.interface in
     record {
-      name = h.name;
-      interface = subst (λ l. All (λ n. IsTrue (is_name n)) l) (sym same) h.names;
+      name = written.name;
+      interface = subst (λ l. All (λ n. IsTrue (is_name n)) l) (sym same) written.names;
       differ = subst (λ l. IsTrue (all_differ is_same_name l)) (sym same) h.differ;
     }
 
--- and its names can be written and differ
-pub expansion-names : (flat : Flat) (p : Program) → IsFlat flat → expansion flat ≡ Expanded p → HasNames p
-expansion-names flat p h is =
-    let l = counted-inside flat (bad_in flat.body) p is in subst HasNames l.program (named flat h)
+-- and its names differ, and can be written where those of the flat program can
+pub expansion-names : (flat : Flat) (p : Program) → IsFlat flat → IsNamed flat → expansion flat ≡ Expanded p → HasNames p
+expansion-names flat p h names is =
+    let l = counted-inside flat (bad_in flat.body) p is in subst HasNames l.program (named flat h names)

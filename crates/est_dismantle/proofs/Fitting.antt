@@ -12,7 +12,7 @@ use Rattle.est_ast.specs.FlatTrees.{Nothing, Pause, Halt, Emit, Sustain, Await, 
 use Rattle.est_ast.specs.FlatTrees.{AbortCase, WeakAbort, Suspend, Trap, Exit, Signal, Seq, Par, Part, Missing, Written, Stmts, NoStmts, MoreStmts, Cases}
 use Rattle.est_ast.specs.FlatTrees.{NoCases, MoreCases}
 use Rattle.est_ast.specs.FlatFits.{Scope, binding, in_signals, in_trap, TestFits, TestsFit, DelayFits, AreLocal, Fits, FormFits, PartFits, AllFit, CasesFit}
-use Rattle.est_dismantle.specs.Kernels.{nested, sequence, parallel, times, expression, expressions, events, any_event, Marks, exit_code, halting, watching}
+use Rattle.est_dismantle.specs.Kernels.{nested, sequence, parallel, times, expression, expressions, events, any_event, Traps, exit_code, halting, watching}
 use Rattle.est_dismantle.specs.Kernels.{awaiting, awaiting_immediately, awaiting_delay, aborting, aborting_counted, abortion, aborting_handled, handled}
 use Rattle.est_dismantle.specs.Kernels.{looping_each, later_delay, aborting_weakly, suspension, locals, kernel, kernel_of_form, part, kernels, chosen}
 use Rattle.est_ast.specs.NewSignals.{new_by, new_in, new_in_form, new_in_part, new_in_stmts, new_in_cases}
@@ -82,18 +82,18 @@ mutual
 -- ---- exits
 
 -- how many traps of the source stand around
-abbrev pub sources : Marks → ℕ
+abbrev pub sources : Traps → ℕ
 sources [] = 0
-sources (true ∷ marks) = suc (sources marks)
-sources (false ∷ marks) = sources marks
+sources (true ∷ traps) = suc (sources traps)
+sources (false ∷ traps) = sources traps
 
-exit_placed : (marks : Marks) (k : ℕ) → k < sources marks → (2 ≤ exit_code marks k) × (exit_code marks k < length marks + 2)
+exit_placed : (traps : Traps) (k : ℕ) → k < sources traps → (2 ≤ exit_code traps k) × (exit_code traps k < length traps + 2)
 exit_placed [] k h = absurd (omega (arith, h))
-exit_placed (true ∷ marks) zero h = (omega arith, omega arith)
-exit_placed (true ∷ marks) (suc k) h =
-    let g = exit_placed marks k (omega (arith, h)) in (omega (arith, g.0), omega (arith, g.1))
-exit_placed (false ∷ marks) k h =
-    let g = exit_placed marks k h in (omega (arith, g.0), omega (arith, g.1))
+exit_placed (true ∷ traps) zero h = (omega arith, omega arith)
+exit_placed (true ∷ traps) (suc k) h =
+    let g = exit_placed traps k (omega (arith, h)) in (omega (arith, g.0), omega (arith, g.1))
+exit_placed (false ∷ traps) k h =
+    let g = exit_placed traps k h in (omega (arith, g.0), omega (arith, g.1))
 
 -- ---- statements
 
@@ -314,15 +314,15 @@ module _ (inputs interface bound all : ℕ) where
   -- ---- the expansion
 
   -- a place in the program, where the next new signal has the number x and there are n of them
-  pub record Around (scope : Scope) (marks : Marks) (x n : ℕ) : Type 0 where
-    pub traps : scope.traps ≡ sources marks
+  pub record Around (scope : Scope) (others : Traps) (x n : ℕ) : Type 0 where
+    pub traps : scope.traps ≡ sources others
     pub given : inputs ≤ x
     pub local : interface ≤ x
     pub room : x + n ≤ all
     pub wide : bound ≤ all
 
-  around : (scope : Scope) (marks : Marks) (x n y m : ℕ) → Around scope marks x n → x ≤ y → y + m ≤ x + n → Around scope marks y m
-  around scope marks x n y m h low high = record {
+  around : (scope : Scope) (traps : Traps) (x n y m : ℕ) → Around scope traps x n → x ≤ y → y + m ≤ x + n → Around scope traps y m
+  around scope traps x n y m h low high = record {
     traps = h.traps;
     given = omega (arith, h.given, low);
     local = omega (arith, h.local, low);
@@ -330,26 +330,26 @@ module _ (inputs interface bound all : ℕ) where
     wide = h.wide;
   }
 
-  around_new : (scope : Scope) (marks : Marks) (x n : ℕ) → Around scope marks x n → Around scope (false ∷ marks) x n
-  around_new scope marks x n h = record { traps = h.traps; given = h.given; local = h.local; room = h.room; wide = h.wide }
+  around_new : (scope : Scope) (traps : Traps) (x n : ℕ) → Around scope traps x n → Around scope (false ∷ traps) x n
+  around_new scope traps x n h = record { traps = h.traps; given = h.given; local = h.local; room = h.room; wide = h.wide }
 
-  around_source : (scope : Scope) (marks : Marks) (x n : ℕ) → Around scope marks x n → Around (in_trap scope) (true ∷ marks) x n
-  around_source scope marks x n h = record { traps = omega (arith, h.traps); given = h.given; local = h.local; room = h.room; wide = h.wide }
+  around_source : (scope : Scope) (traps : Traps) (x n : ℕ) → Around scope traps x n → Around (in_trap scope) (true ∷ traps) x n
+  around_source scope traps x n h = record { traps = omega (arith, h.traps); given = h.given; local = h.local; room = h.room; wide = h.wide }
 
-  numbered : (scope : Scope) (marks : Marks) (x n : ℕ) (d : Delay) → Around scope marks x n → new_by d ≤ n → Numbered x d
-  numbered scope marks x n d h few = (h.given, h.local, omega (arith, h.room, few))
+  numbered : (scope : Scope) (traps : Traps) (x n : ℕ) (d : Delay) → Around scope traps x n → new_by d ≤ n → Numbered x d
+  numbered scope traps x n d h few = (h.given, h.local, omega (arith, h.room, few))
 
-  around_signals : (signals : List ℕ) (scope : Scope) (marks : Marks) (x n : ℕ) → Around scope marks x n → Around (in_signals signals scope) marks x n
-  around_signals signals scope marks x n h = record { traps = h.traps; given = h.given; local = h.local; room = h.room; wide = h.wide }
+  around_signals : (signals : List ℕ) (scope : Scope) (traps : Traps) (x n : ℕ) → Around scope traps x n → Around (in_signals signals scope) traps x n
+  around_signals signals scope traps x n h = record { traps = h.traps; given = h.given; local = h.local; room = h.room; wide = h.wide }
 
-  one_trap : (marks : Marks) (mark : Bool) (v : ℕ → Bool) (t : Term) → Placed (length (mark ∷ marks)) v t → Placed (length marks + 1) v t
-  one_trap marks mark v t h =
-      let same : length (mark ∷ marks) ≡ length marks + 1 = omega arith in
+  one_trap : (traps : Traps) (own : Bool) (v : ℕ → Bool) (t : Term) → Placed (length (own ∷ traps)) v t → Placed (length traps + 1) v t
+  one_trap traps own v t h =
+      let same : length (own ∷ traps) ≡ length traps + 1 = omega arith in
       record { exits = subst (λ n. ExitsStandInTraps n t) same h.exits; signals = h.signals }
 
-  two_traps : (marks : Marks) (mark : Bool) (v : ℕ → Bool) (t : Term) → Placed (length (mark ∷ (false ∷ marks))) v t → Placed (length marks + 1 + 1) v t
-  two_traps marks mark v t h =
-      let same : length (mark ∷ (false ∷ marks)) ≡ length marks + 1 + 1 = omega arith in
+  two_traps : (traps : Traps) (own : Bool) (v : ℕ → Bool) (t : Term) → Placed (length (own ∷ (false ∷ traps))) v t → Placed (length traps + 1 + 1) v t
+  two_traps traps own v t h =
+      let same : length (own ∷ (false ∷ traps)) ≡ length traps + 1 + 1 = omega arith in
       record { exits = subst (λ n. ExitsStandInTraps n t) same h.exits; signals = h.signals }
 
   events_visible : (scope : Scope) (list : Cases) → CasesFit inputs interface bound scope list → AllVisible scope.visible (events list)
@@ -357,131 +357,131 @@ module _ (inputs interface bound all : ℕ) where
   events_visible scope (MoreCases event body others) h = (test_visible scope.visible event h.0, events_visible scope others h.2)
 
   mutual
-    pub placed : (scope : Scope) (marks : Marks) (x : ℕ) (p : Stmt) → Around scope marks x (new_in p) → Fits inputs interface bound scope p →
-        Placed (length marks) scope.visible (kernel marks x p)
-    placed scope marks x (At at form) h fits = placed-form scope marks x at form h fits
+    pub placed : (scope : Scope) (traps : Traps) (x : ℕ) (p : Stmt) → Around scope traps x (new_in p) → Fits inputs interface bound scope p →
+        Placed (length traps) scope.visible (kernel traps x p)
+    placed scope traps x (At at form) h fits = placed-form scope traps x at form h fits
 
-    placed-form : (scope : Scope) (marks : Marks) (x : ℕ) (at : Span) (form : Form) → Around scope marks x (new_in_form form) →
-        FormFits inputs interface bound scope form → Placed (length marks) scope.visible (kernel_of_form marks x at form)
-    placed-form scope marks x at Nothing h fits = placed-Nothing (length marks) scope.visible
-    placed-form scope marks x at Pause h fits = placed-Pause (length marks) scope.visible
-    placed-form scope marks x at Halt h fits = placed-halting (length marks) scope.visible at
-    placed-form scope marks x at (Emit s) h fits = placed-Emit (length marks) scope.visible s fits.0 fits.1
-    placed-form scope marks x at (Sustain s) h fits =
-        placed-Loop (length marks) scope.visible at (terms.Seq (terms.Emit s) terms.Pause) (placed-Seq (length marks) scope.visible (terms.Emit s) terms.Pause
-        (placed-Emit (length marks) scope.visible s fits.0 fits.1) (placed-Pause (length marks) scope.visible))
-    placed-form scope marks x at (Await d Missing) h fits = placed-delay (length marks) scope.visible at d fits.0
-    placed-form scope marks x at (Await d (Written q)) h fits =
-        placed-Seq (length marks) scope.visible (awaiting_delay at d) (kernel marks x q) (placed-delay (length marks) scope.visible at d fits.0)
-        (placed scope marks x q h fits.1)
-    placed-form scope marks x at (AwaitCase list) h fits =
-        placed-Seq (length marks) scope.visible (awaiting at (any_event list)) (chosen marks x list terms.Nothing)
-        (placed-awaiting (length marks) scope.visible at (any_event list) (or_visible scope.visible (events list) (events_visible scope list fits)))
-        (placed-chosen scope marks x list terms.Nothing h fits (placed-Nothing (length marks) scope.visible))
-    placed-form scope marks x at (Present e p q) h fits =
+    placed-form : (scope : Scope) (traps : Traps) (x : ℕ) (at : Span) (form : Form) → Around scope traps x (new_in_form form) →
+        FormFits inputs interface bound scope form → Placed (length traps) scope.visible (kernel_of_form traps x at form)
+    placed-form scope traps x at Nothing h fits = placed-Nothing (length traps) scope.visible
+    placed-form scope traps x at Pause h fits = placed-Pause (length traps) scope.visible
+    placed-form scope traps x at Halt h fits = placed-halting (length traps) scope.visible at
+    placed-form scope traps x at (Emit s) h fits = placed-Emit (length traps) scope.visible s fits.0 fits.1
+    placed-form scope traps x at (Sustain s) h fits =
+        placed-Loop (length traps) scope.visible at (terms.Seq (terms.Emit s) terms.Pause) (placed-Seq (length traps) scope.visible (terms.Emit s) terms.Pause
+        (placed-Emit (length traps) scope.visible s fits.0 fits.1) (placed-Pause (length traps) scope.visible))
+    placed-form scope traps x at (Await d Missing) h fits = placed-delay (length traps) scope.visible at d fits.0
+    placed-form scope traps x at (Await d (Written q)) h fits =
+        placed-Seq (length traps) scope.visible (awaiting_delay at d) (kernel traps x q) (placed-delay (length traps) scope.visible at d fits.0)
+        (placed scope traps x q h fits.1)
+    placed-form scope traps x at (AwaitCase list) h fits =
+        placed-Seq (length traps) scope.visible (awaiting at (any_event list)) (chosen traps x list terms.Nothing)
+        (placed-awaiting (length traps) scope.visible at (any_event list) (or_visible scope.visible (events list) (events_visible scope list fits)))
+        (placed-chosen scope traps x list terms.Nothing h fits (placed-Nothing (length traps) scope.visible))
+    placed-form scope traps x at (Present e p q) h fits =
         let n = new_in_part p + new_in_part q in
-        placed-Present (length marks) scope.visible (expression e) (part marks x p) (part marks (x + new_in_part p) q) (test_visible scope.visible e fits.0)
-        (placed-part scope marks x p (around scope marks x n x (new_in_part p) h (omega arith) (omega arith)) fits.1)
-        (placed-part scope marks (x + new_in_part p) q (around scope marks x n (x + new_in_part p) (new_in_part q) h (omega arith) (omega arith)) fits.2)
-    placed-form scope marks x at (PresentCase list q) h fits =
+        placed-Present (length traps) scope.visible (expression e) (part traps x p) (part traps (x + new_in_part p) q) (test_visible scope.visible e fits.0)
+        (placed-part scope traps x p (around scope traps x n x (new_in_part p) h (omega arith) (omega arith)) fits.1)
+        (placed-part scope traps (x + new_in_part p) q (around scope traps x n (x + new_in_part p) (new_in_part q) h (omega arith) (omega arith)) fits.2)
+    placed-form scope traps x at (PresentCase list q) h fits =
         let n = new_in_cases list + new_in_part q in let y = x + new_in_cases list in
-        placed-chosen scope marks x list (part marks y q) (around scope marks x n x (new_in_cases list) h (omega arith) (omega arith)) fits.0
-        (placed-part scope marks y q (around scope marks x n y (new_in_part q) h (omega arith) (omega arith)) fits.1)
-    placed-form scope marks x at (Loop p) h fits =
-        placed-Loop (length marks) scope.visible at (kernel marks x p) (placed scope marks x p h fits)
-    placed-form scope marks x at (LoopEach p d) h fits =
+        placed-chosen scope traps x list (part traps y q) (around scope traps x n x (new_in_cases list) h (omega arith) (omega arith)) fits.0
+        (placed-part scope traps y q (around scope traps x n y (new_in_part q) h (omega arith) (omega arith)) fits.1)
+    placed-form scope traps x at (Loop p) h fits =
+        placed-Loop (length traps) scope.visible at (kernel traps x p) (placed scope traps x p h fits)
+    placed-form scope traps x at (LoopEach p d) h fits =
         let n = new_by d + new_in p in
-        placed-each (length marks) scope.visible at d x (kernel (false ∷ marks) (x + new_by d) p) (numbered scope marks x n d h (omega arith)) fits.1
-        (one_trap marks false scope.visible (kernel (false ∷ marks) (x + new_by d) p)
-        (placed scope (false ∷ marks) (x + new_by d) p (around_new scope marks (x + new_by d) (new_in p)
-        (around scope marks x (n) (x + new_by d) (new_in p) h (omega arith) (omega arith))) fits.0))
-    placed-form scope marks x at (Every d p) h fits =
-        let n = new_by d + new_in p in let body = kernel (false ∷ marks) (x + new_by d) p in
-        placed-Seq (length marks) scope.visible (awaiting_delay at d) (looping_each at (later_delay d) x body)
-        (placed-delay (length marks) scope.visible at d fits.0)
-        (placed-each (length marks) scope.visible at (later_delay d) x body (later_numbered x d (numbered scope marks x n d h (omega arith)))
+        placed-each (length traps) scope.visible at d x (kernel (false ∷ traps) (x + new_by d) p) (numbered scope traps x n d h (omega arith)) fits.1
+        (one_trap traps false scope.visible (kernel (false ∷ traps) (x + new_by d) p)
+        (placed scope (false ∷ traps) (x + new_by d) p (around_new scope traps (x + new_by d) (new_in p)
+        (around scope traps x (n) (x + new_by d) (new_in p) h (omega arith) (omega arith))) fits.0))
+    placed-form scope traps x at (Every d p) h fits =
+        let n = new_by d + new_in p in let body = kernel (false ∷ traps) (x + new_by d) p in
+        placed-Seq (length traps) scope.visible (awaiting_delay at d) (looping_each at (later_delay d) x body)
+        (placed-delay (length traps) scope.visible at d fits.0)
+        (placed-each (length traps) scope.visible at (later_delay d) x body (later_numbered x d (numbered scope traps x n d h (omega arith)))
         (later_fits scope.visible d fits.0)
-        (one_trap marks false scope.visible (kernel (false ∷ marks) (x + new_by d) p)
-        (placed scope (false ∷ marks) (x + new_by d) p (around_new scope marks (x + new_by d) (new_in p)
-        (around scope marks x (n) (x + new_by d) (new_in p) h (omega arith) (omega arith))) fits.1)))
-    placed-form scope marks x at (Repeat count span p) h fits =
-        placed-times (length marks) scope.visible count (kernel marks x p) (placed scope marks x p h fits)
-    placed-form scope marks x at (Abort p d Missing) h fits =
+        (one_trap traps false scope.visible (kernel (false ∷ traps) (x + new_by d) p)
+        (placed scope (false ∷ traps) (x + new_by d) p (around_new scope traps (x + new_by d) (new_in p)
+        (around scope traps x (n) (x + new_by d) (new_in p) h (omega arith) (omega arith))) fits.1)))
+    placed-form scope traps x at (Repeat count span p) h fits =
+        placed-times (length traps) scope.visible count (kernel traps x p) (placed scope traps x p h fits)
+    placed-form scope traps x at (Abort p d Missing) h fits =
         let n = new_by d + (new_in p + 0) in
-        placed-abortion (length marks) scope.visible at d x (kernel (false ∷ marks) (x + new_by d) p) (numbered scope marks x n d h (omega arith)) fits.1
-        (one_trap marks false scope.visible (kernel (false ∷ marks) (x + new_by d) p)
-        (placed scope (false ∷ marks) (x + new_by d) p (around_new scope marks (x + new_by d) (new_in p)
-        (around scope marks x (n) (x + new_by d) (new_in p) h (omega arith) (omega arith))) fits.0))
-    placed-form scope marks x at (Abort p d (Written q)) h fits =
+        placed-abortion (length traps) scope.visible at d x (kernel (false ∷ traps) (x + new_by d) p) (numbered scope traps x n d h (omega arith)) fits.1
+        (one_trap traps false scope.visible (kernel (false ∷ traps) (x + new_by d) p)
+        (placed scope (false ∷ traps) (x + new_by d) p (around_new scope traps (x + new_by d) (new_in p)
+        (around scope traps x (n) (x + new_by d) (new_in p) h (omega arith) (omega arith))) fits.0))
+    placed-form scope traps x at (Abort p d (Written q)) h fits =
         let n = new_by d + (new_in p + new_in q) in let y = x + new_by d + new_in p in
-        placed-handled (length marks) scope.visible (aborting_handled at d x (kernel (false ∷ (false ∷ marks)) (x + new_by d) p)) (kernel (false ∷ marks) y q)
-        (placed-aborting_handled (length marks) scope.visible at d x (kernel (false ∷ (false ∷ marks)) (x + new_by d) p)
-        (numbered scope marks x n d h (omega arith)) fits.1
-        (two_traps marks false scope.visible (kernel (false ∷ (false ∷ marks)) (x + new_by d) p)
-        (placed scope (false ∷ (false ∷ marks)) (x + new_by d) p (around_new scope (false ∷ marks) (x + new_by d) (new_in p)
-        (around_new scope marks (x + new_by d) (new_in p) (around scope marks x (n) (x + new_by d) (new_in p) h (omega arith) (omega arith)))) fits.0)))
-        (one_trap marks false scope.visible (kernel (false ∷ marks) (y) q)
-        (placed scope (false ∷ marks) (y) q (around_new scope marks (y) (new_in q) (around scope marks x (n) (y) (new_in q) h (omega arith) (omega arith)))
+        placed-handled (length traps) scope.visible (aborting_handled at d x (kernel (false ∷ (false ∷ traps)) (x + new_by d) p)) (kernel (false ∷ traps) y q)
+        (placed-aborting_handled (length traps) scope.visible at d x (kernel (false ∷ (false ∷ traps)) (x + new_by d) p)
+        (numbered scope traps x n d h (omega arith)) fits.1
+        (two_traps traps false scope.visible (kernel (false ∷ (false ∷ traps)) (x + new_by d) p)
+        (placed scope (false ∷ (false ∷ traps)) (x + new_by d) p (around_new scope (false ∷ traps) (x + new_by d) (new_in p)
+        (around_new scope traps (x + new_by d) (new_in p) (around scope traps x (n) (x + new_by d) (new_in p) h (omega arith) (omega arith)))) fits.0)))
+        (one_trap traps false scope.visible (kernel (false ∷ traps) (y) q)
+        (placed scope (false ∷ traps) (y) q (around_new scope traps (y) (new_in q) (around scope traps x (n) (y) (new_in q) h (omega arith) (omega arith)))
         fits.2))
-    placed-form scope marks x at (AbortCase p list) h fits =
-        let n = new_in p + new_in_cases list in let y = x + new_in p in let body = kernel (false ∷ (false ∷ marks)) x p in
-        placed-handled (length marks) scope.visible (aborting at (any_event list) 3 body) (chosen (false ∷ marks) y list terms.Nothing)
-        (placed-aborting (length marks + 1) scope.visible at (any_event list) 3 body (omega arith) (omega arith)
+    placed-form scope traps x at (AbortCase p list) h fits =
+        let n = new_in p + new_in_cases list in let y = x + new_in p in let body = kernel (false ∷ (false ∷ traps)) x p in
+        placed-handled (length traps) scope.visible (aborting at (any_event list) 3 body) (chosen (false ∷ traps) y list terms.Nothing)
+        (placed-aborting (length traps + 1) scope.visible at (any_event list) 3 body (omega arith) (omega arith)
         (or_visible scope.visible (events list) (events_visible scope list fits.1))
-        (two_traps marks false scope.visible (kernel (false ∷ (false ∷ marks)) (x) p)
-        (placed scope (false ∷ (false ∷ marks)) (x) p (around_new scope (false ∷ marks) (x) (new_in p)
-        (around_new scope marks (x) (new_in p) (around scope marks x (n) (x) (new_in p) h (omega arith) (omega arith)))) fits.0)))
-        (one_trap marks false scope.visible (chosen (false ∷ marks) y list terms.Nothing) (placed-chosen scope (false ∷ marks) y list terms.Nothing
-        (around_new scope marks y (new_in_cases list) (around scope marks x n y (new_in_cases list) h (omega arith) (omega arith))) fits.1
-        (placed-Nothing (length (false ∷ marks)) scope.visible)))
-    placed-form scope marks x at (WeakAbort p d) h fits =
-        placed-weakly (length marks) scope.visible at d (kernel (false ∷ marks) x p) fits.1
-        (one_trap marks false scope.visible (kernel (false ∷ marks) x p) (placed scope (false ∷ marks) x p (around_new scope marks x (new_in p) h) fits.0))
-    placed-form scope marks x at (Suspend p d) h fits =
-        placed-suspension (length marks) scope.visible at d (kernel marks x p) fits.1 (placed scope marks x p h fits.0)
-    placed-form scope marks x at (Trap p Missing) h fits =
-        placed-Trap (length marks) scope.visible (kernel (true ∷ marks) x p) (one_trap marks true scope.visible (kernel (true ∷ marks) x p)
-        (placed (in_trap scope) (true ∷ marks) x p (around_source scope marks x (new_in p)
-        (around scope marks x (new_in p + 0) x (new_in p) h (omega arith) (omega arith))) fits.0))
-    placed-form scope marks x at (Trap p (Written q)) h fits =
-        let n = new_in p + new_in q in let y = x + new_in p in let body = kernel (true ∷ (false ∷ marks)) x p in
-        placed-handled (length marks) scope.visible (terms.Seq body (terms.Exit 3)) (kernel (false ∷ marks) y q)
-        (placed-Seq (length marks + 1 + 1) scope.visible body (terms.Exit 3) (two_traps marks true scope.visible body
-        (placed (in_trap scope) (true ∷ (false ∷ marks)) x p (around_source scope (false ∷ marks) x (new_in p) (around_new scope marks x (new_in p)
-        (around scope marks x n x (new_in p) h (omega arith) (omega arith)))) fits.0))
-        (placed-Exit (length marks + 1 + 1) scope.visible 3 (omega arith) (omega arith)))
-        (one_trap marks false scope.visible (kernel (false ∷ marks) (y) q)
-        (placed scope (false ∷ marks) (y) q (around_new scope marks (y) (new_in q) (around scope marks x (n) (y) (new_in q) h (omega arith) (omega arith)))
+        (two_traps traps false scope.visible (kernel (false ∷ (false ∷ traps)) (x) p)
+        (placed scope (false ∷ (false ∷ traps)) (x) p (around_new scope (false ∷ traps) (x) (new_in p)
+        (around_new scope traps (x) (new_in p) (around scope traps x (n) (x) (new_in p) h (omega arith) (omega arith)))) fits.0)))
+        (one_trap traps false scope.visible (chosen (false ∷ traps) y list terms.Nothing) (placed-chosen scope (false ∷ traps) y list terms.Nothing
+        (around_new scope traps y (new_in_cases list) (around scope traps x n y (new_in_cases list) h (omega arith) (omega arith))) fits.1
+        (placed-Nothing (length (false ∷ traps)) scope.visible)))
+    placed-form scope traps x at (WeakAbort p d) h fits =
+        placed-weakly (length traps) scope.visible at d (kernel (false ∷ traps) x p) fits.1
+        (one_trap traps false scope.visible (kernel (false ∷ traps) x p) (placed scope (false ∷ traps) x p (around_new scope traps x (new_in p) h) fits.0))
+    placed-form scope traps x at (Suspend p d) h fits =
+        placed-suspension (length traps) scope.visible at d (kernel traps x p) fits.1 (placed scope traps x p h fits.0)
+    placed-form scope traps x at (Trap p Missing) h fits =
+        placed-Trap (length traps) scope.visible (kernel (true ∷ traps) x p) (one_trap traps true scope.visible (kernel (true ∷ traps) x p)
+        (placed (in_trap scope) (true ∷ traps) x p (around_source scope traps x (new_in p)
+        (around scope traps x (new_in p + 0) x (new_in p) h (omega arith) (omega arith))) fits.0))
+    placed-form scope traps x at (Trap p (Written q)) h fits =
+        let n = new_in p + new_in q in let y = x + new_in p in let body = kernel (true ∷ (false ∷ traps)) x p in
+        placed-handled (length traps) scope.visible (terms.Seq body (terms.Exit 3)) (kernel (false ∷ traps) y q)
+        (placed-Seq (length traps + 1 + 1) scope.visible body (terms.Exit 3) (two_traps traps true scope.visible body
+        (placed (in_trap scope) (true ∷ (false ∷ traps)) x p (around_source scope (false ∷ traps) x (new_in p) (around_new scope traps x (new_in p)
+        (around scope traps x n x (new_in p) h (omega arith) (omega arith)))) fits.0))
+        (placed-Exit (length traps + 1 + 1) scope.visible 3 (omega arith) (omega arith)))
+        (one_trap traps false scope.visible (kernel (false ∷ traps) (y) q)
+        (placed scope (false ∷ traps) (y) q (around_new scope traps (y) (new_in q) (around scope traps x (n) (y) (new_in q) h (omega arith) (omega arith)))
         fits.1))
-    placed-form scope marks x at (Exit k) h fits =
-        let g = exit_placed marks k (omega (arith, fits, h.traps)) in placed-Exit (length marks) scope.visible (exit_code marks k) g.0 g.1
-    placed-form scope marks x at (Signal signals p) h fits =
-        placed-locals (length marks) scope.visible signals (kernel marks x p) h.wide fits.0
-        (placed (in_signals signals scope) marks x p (around_signals signals scope marks x (new_in p) h) fits.1)
-    placed-form scope marks x at (Seq parts) h fits =
-        placed-sequence (length marks) scope.visible (kernels marks x parts) (placed-all scope marks x parts h fits)
-    placed-form scope marks x at (Par parts) h fits =
-        placed-parallel (length marks) scope.visible (kernels marks x parts) (placed-all scope marks x parts h fits)
+    placed-form scope traps x at (Exit k) h fits =
+        let g = exit_placed traps k (omega (arith, fits, h.traps)) in placed-Exit (length traps) scope.visible (exit_code traps k) g.0 g.1
+    placed-form scope traps x at (Signal signals p) h fits =
+        placed-locals (length traps) scope.visible signals (kernel traps x p) h.wide fits.0
+        (placed (in_signals signals scope) traps x p (around_signals signals scope traps x (new_in p) h) fits.1)
+    placed-form scope traps x at (Seq parts) h fits =
+        placed-sequence (length traps) scope.visible (kernels traps x parts) (placed-all scope traps x parts h fits)
+    placed-form scope traps x at (Par parts) h fits =
+        placed-parallel (length traps) scope.visible (kernels traps x parts) (placed-all scope traps x parts h fits)
 
-    placed-part : (scope : Scope) (marks : Marks) (x : ℕ) (p : Part) → Around scope marks x (new_in_part p) → PartFits inputs interface bound scope p →
-        Placed (length marks) scope.visible (part marks x p)
-    placed-part scope marks x Missing h fits = placed-Nothing (length marks) scope.visible
-    placed-part scope marks x (Written p) h fits = placed scope marks x p h fits
+    placed-part : (scope : Scope) (traps : Traps) (x : ℕ) (p : Part) → Around scope traps x (new_in_part p) → PartFits inputs interface bound scope p →
+        Placed (length traps) scope.visible (part traps x p)
+    placed-part scope traps x Missing h fits = placed-Nothing (length traps) scope.visible
+    placed-part scope traps x (Written p) h fits = placed scope traps x p h fits
 
-    placed-all : (scope : Scope) (marks : Marks) (x : ℕ) (ps : Stmts) → Around scope marks x (new_in_stmts ps) → AllFit inputs interface bound scope ps →
-        AllPlaced (length marks) scope.visible (kernels marks x ps)
-    placed-all scope marks x NoStmts h fits = tt
-    placed-all scope marks x (MoreStmts p others) h fits =
+    placed-all : (scope : Scope) (traps : Traps) (x : ℕ) (ps : Stmts) → Around scope traps x (new_in_stmts ps) → AllFit inputs interface bound scope ps →
+        AllPlaced (length traps) scope.visible (kernels traps x ps)
+    placed-all scope traps x NoStmts h fits = tt
+    placed-all scope traps x (MoreStmts p others) h fits =
         let n = new_in p + new_in_stmts others in (
-          placed scope marks x p (around scope marks x n x (new_in p) h (omega arith) (omega arith)) fits.0,
-          placed-all scope marks (x + new_in p) others (around scope marks x n (x + new_in p) (new_in_stmts others) h (omega arith) (omega arith)) fits.1,
+          placed scope traps x p (around scope traps x n x (new_in p) h (omega arith) (omega arith)) fits.0,
+          placed-all scope traps (x + new_in p) others (around scope traps x n (x + new_in p) (new_in_stmts others) h (omega arith) (omega arith)) fits.1,
         )
 
-    placed-chosen : (scope : Scope) (marks : Marks) (x : ℕ) (list : Cases) (r : Term) → Around scope marks x (new_in_cases list) →
-        CasesFit inputs interface bound scope list → Placed (length marks) scope.visible r → Placed (length marks) scope.visible (chosen marks x list r)
-    placed-chosen scope marks x NoCases r h fits g = g
-    placed-chosen scope marks x (MoreCases event body others) r h fits g =
+    placed-chosen : (scope : Scope) (traps : Traps) (x : ℕ) (list : Cases) (r : Term) → Around scope traps x (new_in_cases list) →
+        CasesFit inputs interface bound scope list → Placed (length traps) scope.visible r → Placed (length traps) scope.visible (chosen traps x list r)
+    placed-chosen scope traps x NoCases r h fits g = g
+    placed-chosen scope traps x (MoreCases event body others) r h fits g =
         let n = new_in_part body + new_in_cases others in let y = x + new_in_part body in
-        placed-Present (length marks) scope.visible (expression event) (part marks x body) (chosen marks y others r) (test_visible scope.visible event fits.0)
-        (placed-part scope marks x body (around scope marks x n x (new_in_part body) h (omega arith) (omega arith)) fits.1)
-        (placed-chosen scope marks y others r (around scope marks x n y (new_in_cases others) h (omega arith) (omega arith)) fits.2 g)
+        placed-Present (length traps) scope.visible (expression event) (part traps x body) (chosen traps y others r) (test_visible scope.visible event fits.0)
+        (placed-part scope traps x body (around scope traps x n x (new_in_part body) h (omega arith) (omega arith)) fits.1)
+        (placed-chosen scope traps y others r (around scope traps x n y (new_in_cases others) h (omega arith) (omega arith)) fits.2 g)

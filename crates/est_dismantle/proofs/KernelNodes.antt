@@ -25,11 +25,11 @@ use Rattle.est_ast.proofs.Exports.{flat_expr-And, flat_expr-Or, flat_form-Seq, f
 use Rattle.est_dismantle.specs.Choices.{chosen_of}
 use Rattle.est_dismantle.specs.FlatNodes.{event_test, events_tests, case_test, any_event_test, delay_new, stmt_new, node_new, part_new, stmts_new, case_new}
 use Rattle.est_dismantle.specs.FlatNodes.{cases_new, stmt_kernel, node_kernel, part_kernel, stmts_kernels, case_choice, choices}
-use Rattle.est_dismantle.specs.Kernels.{nested, sequence, parallel, times, expression, expressions, events, any_event, Marks, exit_code, halting, awaiting}
+use Rattle.est_dismantle.specs.Kernels.{nested, sequence, parallel, times, expression, expressions, events, any_event, Traps, exit_code, halting, awaiting}
 use Rattle.est_dismantle.specs.Kernels.{awaiting_delay, aborting, abortion, aborting_handled, handled, looping_each, later_delay, aborting_weakly, suspension}
 use Rattle.est_dismantle.specs.Kernels.{locals, kernel, kernel_of_form, part, kernels, chosen}
 use Rattle.est_ast.specs.NewSignals.{new_by, new_in, new_in_form, new_in_part, new_in_stmts, new_in_cases}
-use Rattle.est_dismantle.proofs.Exits.{marks-Whole, marks-Source, marks-New}
+use Rattle.est_dismantle.proofs.Exits.{traps-Whole, traps-Source, traps-New}
 use Rattle.est_dismantle.proofs.Found.{none-some, some-same}
 
 -- ---- tests
@@ -227,158 +227,158 @@ new-part_written p = refl
 
 -- ---- kernel terms
 
-pub kernel-stmt : (marks : Marks) (x : ℕ) (p : FlatStmt) → stmt_kernel marks x p ≡ node_kernel marks x p.span p.form
+pub kernel-stmt : (traps : Traps) (x : ℕ) (p : FlatStmt) → stmt_kernel traps x p ≡ node_kernel traps x p.span p.form
 unfolding stmt_kernel node_kernel
-kernel-stmt marks x p = refl
+kernel-stmt traps x p = refl
 
-pub kernel-Nothing : (marks : Marks) (x : ℕ) (at : Span) → node_kernel marks x at forms.Nothing ≡ terms.Nothing
+pub kernel-Nothing : (traps : Traps) (x : ℕ) (at : Span) → node_kernel traps x at forms.Nothing ≡ terms.Nothing
 unfolding node_kernel
-kernel-Nothing marks x at = refl
+kernel-Nothing traps x at = refl
 
-pub kernel-Pause : (marks : Marks) (x : ℕ) (at : Span) → node_kernel marks x at forms.Pause ≡ terms.Pause
+pub kernel-Pause : (traps : Traps) (x : ℕ) (at : Span) → node_kernel traps x at forms.Pause ≡ terms.Pause
 unfolding node_kernel
-kernel-Pause marks x at = refl
+kernel-Pause traps x at = refl
 
-pub kernel-Halt : (marks : Marks) (x : ℕ) (at : Span) → node_kernel marks x at forms.Halt ≡ halting at
+pub kernel-Halt : (traps : Traps) (x : ℕ) (at : Span) → node_kernel traps x at forms.Halt ≡ halting at
 unfolding node_kernel
-kernel-Halt marks x at = refl
+kernel-Halt traps x at = refl
 
-pub kernel-Emit : (marks : Marks) (x : ℕ) (at : Span) (s : SigId) → node_kernel marks x at (forms.Emit s) ≡ terms.Emit s.0
+pub kernel-Emit : (traps : Traps) (x : ℕ) (at : Span) (s : SigId) → node_kernel traps x at (forms.Emit s) ≡ terms.Emit s.0
 unfolding node_kernel
-kernel-Emit marks x at s = refl
+kernel-Emit traps x at s = refl
 
-pub kernel-Sustain : (marks : Marks) (x : ℕ) (at : Span) (s : SigId) →
-    node_kernel marks x at (forms.Sustain s) ≡ terms.Loop at (terms.Seq (terms.Emit s.0) terms.Pause)
+pub kernel-Sustain : (traps : Traps) (x : ℕ) (at : Span) (s : SigId) →
+    node_kernel traps x at (forms.Sustain s) ≡ terms.Loop at (terms.Seq (terms.Emit s.0) terms.Pause)
 unfolding node_kernel
-kernel-Sustain marks x at s = refl
+kernel-Sustain traps x at s = refl
 
-pub kernel-Await_missing : (marks : Marks) (x : ℕ) (at : Span) (d : FlatDelay) →
-    node_kernel marks x at (forms.Await d None) ≡ awaiting_delay at (flat_delay_of d)
+pub kernel-Await_missing : (traps : Traps) (x : ℕ) (at : Span) (d : FlatDelay) →
+    node_kernel traps x at (forms.Await d None) ≡ awaiting_delay at (flat_delay_of d)
 unfolding node_kernel
-kernel-Await_missing marks x at d = refl
+kernel-Await_missing traps x at d = refl
 
-pub kernel-Await_written : (marks : Marks) (x : ℕ) (at : Span) (d : FlatDelay) (r : Box FlatStmt Global) →
-    node_kernel marks x at (forms.Await d (Some r)) ≡ terms.Seq (awaiting_delay at (flat_delay_of d)) (stmt_kernel marks x r.value)
+pub kernel-Await_written : (traps : Traps) (x : ℕ) (at : Span) (d : FlatDelay) (r : Box FlatStmt Global) →
+    node_kernel traps x at (forms.Await d (Some r)) ≡ terms.Seq (awaiting_delay at (flat_delay_of d)) (stmt_kernel traps x r.value)
 unfolding node_kernel stmt_kernel
-kernel-Await_written marks x at d r = refl
+kernel-Await_written traps x at d r = refl
 
-chosen-choices : (marks : Marks) (x : ℕ) (l : List FlatCase) (r : Term) → chosen marks x (cases (map flat_case_of l)) r ≡ chosen_of (choices marks x l) r
+chosen-choices : (traps : Traps) (x : ℕ) (l : List FlatCase) (r : Term) → chosen traps x (cases (map flat_case_of l)) r ≡ chosen_of (choices traps x l) r
 unfolding choices case_choice case_test case_new
-chosen-choices marks x [] r = refl
-chosen-choices marks x (c ∷ l) r =
-    ap (terms.Present (expression (flat_event_of c)) (part marks x (flat_body_of c))) (chosen-choices marks (x + new_in_part (flat_body_of c)) l r)
+chosen-choices traps x [] r = refl
+chosen-choices traps x (c ∷ l) r =
+    ap (terms.Present (expression (flat_event_of c)) (part traps x (flat_body_of c))) (chosen-choices traps (x + new_in_part (flat_body_of c)) l r)
 
-pub kernel-AwaitCase : (marks : Marks) (x : ℕ) (at : Span) (v : Vec FlatCase Global) →
-    node_kernel marks x at (forms.AwaitCase v) ≡ terms.Seq (awaiting at (any_event_test v.items)) (chosen_of (choices marks x v.items) terms.Nothing)
+pub kernel-AwaitCase : (traps : Traps) (x : ℕ) (at : Span) (v : Vec FlatCase Global) →
+    node_kernel traps x at (forms.AwaitCase v) ≡ terms.Seq (awaiting at (any_event_test v.items)) (chosen_of (choices traps x v.items) terms.Nothing)
 unfolding node_kernel any_event_test
-kernel-AwaitCase marks x at v = ap (kernel_of_form marks x at) (flat_form-AwaitCase v)
-    ∙ ap (terms.Seq (awaiting at (any_event (cases (map flat_case_of v.items))))) (chosen-choices marks x v.items terms.Nothing)
+kernel-AwaitCase traps x at v = ap (kernel_of_form traps x at) (flat_form-AwaitCase v)
+    ∙ ap (terms.Seq (awaiting at (any_event (cases (map flat_case_of v.items))))) (chosen-choices traps x v.items terms.Nothing)
 
-pub kernel-Present : (marks : Marks) (x : ℕ) (at : Span) (e : FlatExpr) (p q : Option (Box FlatStmt Global)) →
-    node_kernel marks x at (forms.Present e p q) ≡ terms.Present (event_test e) (part_kernel marks x p) (part_kernel marks (x + part_new p) q)
+pub kernel-Present : (traps : Traps) (x : ℕ) (at : Span) (e : FlatExpr) (p q : Option (Box FlatStmt Global)) →
+    node_kernel traps x at (forms.Present e p q) ≡ terms.Present (event_test e) (part_kernel traps x p) (part_kernel traps (x + part_new p) q)
 unfolding node_kernel event_test part_kernel part_new
-kernel-Present marks x at e p q = refl
+kernel-Present traps x at e p q = refl
 
-pub kernel-PresentCase : (marks : Marks) (x : ℕ) (at : Span) (v : Vec FlatCase Global) (q : Option (Box FlatStmt Global)) →
-    node_kernel marks x at (forms.PresentCase v q) ≡ chosen_of (choices marks x v.items) (part_kernel marks (x + cases_new v.items) q)
+pub kernel-PresentCase : (traps : Traps) (x : ℕ) (at : Span) (v : Vec FlatCase Global) (q : Option (Box FlatStmt Global)) →
+    node_kernel traps x at (forms.PresentCase v q) ≡ chosen_of (choices traps x v.items) (part_kernel traps (x + cases_new v.items) q)
 unfolding node_kernel part_kernel cases_new
-kernel-PresentCase marks x at v q = ap (kernel_of_form marks x at) (flat_form-PresentCase v q)
-    ∙ chosen-choices marks x v.items (part marks (x + new_in_cases (cases (map flat_case_of v.items))) (flat_part_of q))
+kernel-PresentCase traps x at v q = ap (kernel_of_form traps x at) (flat_form-PresentCase v q)
+    ∙ chosen-choices traps x v.items (part traps (x + new_in_cases (cases (map flat_case_of v.items))) (flat_part_of q))
 
-pub kernel-Loop : (marks : Marks) (x : ℕ) (at : Span) (p : Box FlatStmt Global) →
-    node_kernel marks x at (forms.Loop p) ≡ terms.Loop at (stmt_kernel marks x p.value)
+pub kernel-Loop : (traps : Traps) (x : ℕ) (at : Span) (p : Box FlatStmt Global) →
+    node_kernel traps x at (forms.Loop p) ≡ terms.Loop at (stmt_kernel traps x p.value)
 unfolding node_kernel stmt_kernel
-kernel-Loop marks x at p = refl
+kernel-Loop traps x at p = refl
 
-pub kernel-LoopEach : (marks : Marks) (x : ℕ) (at : Span) (p : Box FlatStmt Global) (d : FlatDelay) →
-    node_kernel marks x at (forms.LoopEach p d) ≡ looping_each at (flat_delay_of d) x (stmt_kernel (false ∷ marks) (x + delay_new d) p.value)
+pub kernel-LoopEach : (traps : Traps) (x : ℕ) (at : Span) (p : Box FlatStmt Global) (d : FlatDelay) →
+    node_kernel traps x at (forms.LoopEach p d) ≡ looping_each at (flat_delay_of d) x (stmt_kernel (false ∷ traps) (x + delay_new d) p.value)
 unfolding node_kernel stmt_kernel delay_new
-kernel-LoopEach marks x at p d = refl
+kernel-LoopEach traps x at p d = refl
 
-pub kernel-Every : (marks : Marks) (x : ℕ) (at : Span) (d : FlatDelay) (p : Box FlatStmt Global) →
-    node_kernel marks x at (forms.Every d p) ≡ terms.Seq (awaiting_delay at (flat_delay_of d))
-    (looping_each at (later_delay (flat_delay_of d)) x (stmt_kernel (false ∷ marks) (x + delay_new d) p.value))
+pub kernel-Every : (traps : Traps) (x : ℕ) (at : Span) (d : FlatDelay) (p : Box FlatStmt Global) →
+    node_kernel traps x at (forms.Every d p) ≡ terms.Seq (awaiting_delay at (flat_delay_of d))
+    (looping_each at (later_delay (flat_delay_of d)) x (stmt_kernel (false ∷ traps) (x + delay_new d) p.value))
 unfolding node_kernel stmt_kernel delay_new
-kernel-Every marks x at d p = refl
+kernel-Every traps x at d p = refl
 
-pub kernel-Repeat : (marks : Marks) (x : ℕ) (at : Span) (count : ℕ) (span : Span) (p : Box FlatStmt Global) →
-    node_kernel marks x at (forms.Repeat count span p) ≡ sequence (times count (stmt_kernel marks x p.value))
+pub kernel-Repeat : (traps : Traps) (x : ℕ) (at : Span) (count : ℕ) (span : Span) (p : Box FlatStmt Global) →
+    node_kernel traps x at (forms.Repeat count span p) ≡ sequence (times count (stmt_kernel traps x p.value))
 unfolding node_kernel stmt_kernel
-kernel-Repeat marks x at count span p = refl
+kernel-Repeat traps x at count span p = refl
 
-pub kernel-Abort_missing : (marks : Marks) (x : ℕ) (at : Span) (p : Box FlatStmt Global) (d : FlatDelay) →
-    node_kernel marks x at (forms.Abort p d None) ≡ abortion at (flat_delay_of d) x (stmt_kernel (false ∷ marks) (x + delay_new d) p.value)
+pub kernel-Abort_missing : (traps : Traps) (x : ℕ) (at : Span) (p : Box FlatStmt Global) (d : FlatDelay) →
+    node_kernel traps x at (forms.Abort p d None) ≡ abortion at (flat_delay_of d) x (stmt_kernel (false ∷ traps) (x + delay_new d) p.value)
 unfolding node_kernel stmt_kernel delay_new
-kernel-Abort_missing marks x at p d = refl
+kernel-Abort_missing traps x at p d = refl
 
-pub kernel-Abort_written : (marks : Marks) (x : ℕ) (at : Span) (p : Box FlatStmt Global) (d : FlatDelay) (r : Box FlatStmt Global) →
-    node_kernel marks x at (forms.Abort p d (Some r)) ≡ handled (aborting_handled at (flat_delay_of d) x
-    (stmt_kernel (false ∷ (false ∷ marks)) (x + delay_new d) p.value)) (stmt_kernel (false ∷ marks) (x + delay_new d + stmt_new p.value) r.value)
+pub kernel-Abort_written : (traps : Traps) (x : ℕ) (at : Span) (p : Box FlatStmt Global) (d : FlatDelay) (r : Box FlatStmt Global) →
+    node_kernel traps x at (forms.Abort p d (Some r)) ≡ handled (aborting_handled at (flat_delay_of d) x
+    (stmt_kernel (false ∷ (false ∷ traps)) (x + delay_new d) p.value)) (stmt_kernel (false ∷ traps) (x + delay_new d + stmt_new p.value) r.value)
 unfolding node_kernel stmt_kernel delay_new stmt_new
-kernel-Abort_written marks x at p d r = refl
+kernel-Abort_written traps x at p d r = refl
 
-pub kernel-AbortCase : (marks : Marks) (x : ℕ) (at : Span) (p : Box FlatStmt Global) (v : Vec FlatCase Global) →
-    node_kernel marks x at (forms.AbortCase p v) ≡ handled (aborting at (any_event_test v.items) 3 (stmt_kernel (false ∷ (false ∷ marks)) x p.value))
-    (chosen_of (choices (false ∷ marks) (x + stmt_new p.value) v.items) terms.Nothing)
+pub kernel-AbortCase : (traps : Traps) (x : ℕ) (at : Span) (p : Box FlatStmt Global) (v : Vec FlatCase Global) →
+    node_kernel traps x at (forms.AbortCase p v) ≡ handled (aborting at (any_event_test v.items) 3 (stmt_kernel (false ∷ (false ∷ traps)) x p.value))
+    (chosen_of (choices (false ∷ traps) (x + stmt_new p.value) v.items) terms.Nothing)
 unfolding node_kernel stmt_kernel any_event_test stmt_new
-kernel-AbortCase marks x at p v = ap (kernel_of_form marks x at) (flat_form-AbortCase p v)
-    ∙ ap (handled (aborting at (any_event (cases (map flat_case_of v.items))) 3 (kernel (false ∷ (false ∷ marks)) x (flat_stmt_of p.value))))
-    (chosen-choices (false ∷ marks) (x + new_in (flat_stmt_of p.value)) v.items terms.Nothing)
+kernel-AbortCase traps x at p v = ap (kernel_of_form traps x at) (flat_form-AbortCase p v)
+    ∙ ap (handled (aborting at (any_event (cases (map flat_case_of v.items))) 3 (kernel (false ∷ (false ∷ traps)) x (flat_stmt_of p.value))))
+    (chosen-choices (false ∷ traps) (x + new_in (flat_stmt_of p.value)) v.items terms.Nothing)
 
-pub kernel-WeakAbort : (marks : Marks) (x : ℕ) (at : Span) (p : Box FlatStmt Global) (d : FlatDelay) →
-    node_kernel marks x at (forms.WeakAbort p d) ≡ aborting_weakly at (flat_delay_of d) (stmt_kernel (false ∷ marks) x p.value)
+pub kernel-WeakAbort : (traps : Traps) (x : ℕ) (at : Span) (p : Box FlatStmt Global) (d : FlatDelay) →
+    node_kernel traps x at (forms.WeakAbort p d) ≡ aborting_weakly at (flat_delay_of d) (stmt_kernel (false ∷ traps) x p.value)
 unfolding node_kernel stmt_kernel
-kernel-WeakAbort marks x at p d = refl
+kernel-WeakAbort traps x at p d = refl
 
-pub kernel-Suspend : (marks : Marks) (x : ℕ) (at : Span) (p : Box FlatStmt Global) (d : FlatDelay) →
-    node_kernel marks x at (forms.Suspend p d) ≡ suspension at (flat_delay_of d) (stmt_kernel marks x p.value)
+pub kernel-Suspend : (traps : Traps) (x : ℕ) (at : Span) (p : Box FlatStmt Global) (d : FlatDelay) →
+    node_kernel traps x at (forms.Suspend p d) ≡ suspension at (flat_delay_of d) (stmt_kernel traps x p.value)
 unfolding node_kernel stmt_kernel
-kernel-Suspend marks x at p d = refl
+kernel-Suspend traps x at p d = refl
 
-pub kernel-Trap_missing : (marks : Marks) (x : ℕ) (at : Span) (p : Box FlatStmt Global) →
-    node_kernel marks x at (forms.Trap p None) ≡ terms.Trap (stmt_kernel (true ∷ marks) x p.value)
+pub kernel-Trap_missing : (traps : Traps) (x : ℕ) (at : Span) (p : Box FlatStmt Global) →
+    node_kernel traps x at (forms.Trap p None) ≡ terms.Trap (stmt_kernel (true ∷ traps) x p.value)
 unfolding node_kernel stmt_kernel
-kernel-Trap_missing marks x at p = refl
+kernel-Trap_missing traps x at p = refl
 
-pub kernel-Trap_written : (marks : Marks) (x : ℕ) (at : Span) (p : Box FlatStmt Global) (r : Box FlatStmt Global) →
-    node_kernel marks x at (forms.Trap p (Some r)) ≡ handled (terms.Seq (stmt_kernel (true ∷ (false ∷ marks)) x p.value) (terms.Exit 3))
-    (stmt_kernel (false ∷ marks) (x + stmt_new p.value) r.value)
+pub kernel-Trap_written : (traps : Traps) (x : ℕ) (at : Span) (p : Box FlatStmt Global) (r : Box FlatStmt Global) →
+    node_kernel traps x at (forms.Trap p (Some r)) ≡ handled (terms.Seq (stmt_kernel (true ∷ (false ∷ traps)) x p.value) (terms.Exit 3))
+    (stmt_kernel (false ∷ traps) (x + stmt_new p.value) r.value)
 unfolding node_kernel stmt_kernel stmt_new
-kernel-Trap_written marks x at p r = refl
+kernel-Trap_written traps x at p r = refl
 
-pub kernel-Exit : (marks : Marks) (x : ℕ) (at : Span) (k : ℕ) → node_kernel marks x at (forms.Exit k) ≡ terms.Exit (exit_code marks k)
+pub kernel-Exit : (traps : Traps) (x : ℕ) (at : Span) (k : ℕ) → node_kernel traps x at (forms.Exit k) ≡ terms.Exit (exit_code traps k)
 unfolding node_kernel
-kernel-Exit marks x at k = refl
+kernel-Exit traps x at k = refl
 
-pub kernel-Signal : (marks : Marks) (x : ℕ) (at : Span) (v : Vec SigId Global) (p : Box FlatStmt Global) →
-    node_kernel marks x at (forms.Signal v p) ≡ locals (map (λ s. s.0) v.items) (stmt_kernel marks x p.value)
+pub kernel-Signal : (traps : Traps) (x : ℕ) (at : Span) (v : Vec SigId Global) (p : Box FlatStmt Global) →
+    node_kernel traps x at (forms.Signal v p) ≡ locals (map (λ s. s.0) v.items) (stmt_kernel traps x p.value)
 unfolding node_kernel stmt_kernel
-kernel-Signal marks x at v p = refl
+kernel-Signal traps x at v p = refl
 
-pub kernel-Seq : (marks : Marks) (x : ℕ) (at : Span) (v : Vec FlatStmt Global) → node_kernel marks x at (forms.Seq v) ≡ sequence (stmts_kernels marks x v.items)
+pub kernel-Seq : (traps : Traps) (x : ℕ) (at : Span) (v : Vec FlatStmt Global) → node_kernel traps x at (forms.Seq v) ≡ sequence (stmts_kernels traps x v.items)
 unfolding node_kernel stmts_kernels
-kernel-Seq marks x at v = ap (kernel_of_form marks x at) (flat_form-Seq v)
+kernel-Seq traps x at v = ap (kernel_of_form traps x at) (flat_form-Seq v)
 
-pub kernel-Par : (marks : Marks) (x : ℕ) (at : Span) (v : Vec FlatStmt Global) → node_kernel marks x at (forms.Par v) ≡ parallel (stmts_kernels marks x v.items)
+pub kernel-Par : (traps : Traps) (x : ℕ) (at : Span) (v : Vec FlatStmt Global) → node_kernel traps x at (forms.Par v) ≡ parallel (stmts_kernels traps x v.items)
 unfolding node_kernel stmts_kernels
-kernel-Par marks x at v = ap (kernel_of_form marks x at) (flat_form-Par v)
+kernel-Par traps x at v = ap (kernel_of_form traps x at) (flat_form-Par v)
 
-pub kernel-part_missing : (marks : Marks) (x : ℕ) → part_kernel marks x None ≡ terms.Nothing
+pub kernel-part_missing : (traps : Traps) (x : ℕ) → part_kernel traps x None ≡ terms.Nothing
 unfolding part_kernel
-kernel-part_missing marks x = refl
+kernel-part_missing traps x = refl
 
-pub kernel-part_written : (marks : Marks) (x : ℕ) (p : Box FlatStmt Global) → part_kernel marks x (Some p) ≡ stmt_kernel marks x p.value
+pub kernel-part_written : (traps : Traps) (x : ℕ) (p : Box FlatStmt Global) → part_kernel traps x (Some p) ≡ stmt_kernel traps x p.value
 unfolding part_kernel stmt_kernel
-kernel-part_written marks x p = refl
+kernel-part_written traps x p = refl
 
-pub stmts-none : (marks : Marks) (x : ℕ) → stmts_kernels marks x [] ≡ []
+pub stmts-none : (traps : Traps) (x : ℕ) → stmts_kernels traps x [] ≡ []
 unfolding stmts_kernels
-stmts-none marks x = refl
+stmts-none traps x = refl
 
-pub stmts-more : (marks : Marks) (x : ℕ) (p : FlatStmt) (l : List FlatStmt) →
-    stmts_kernels marks x (p ∷ l) ≡ stmt_kernel marks x p ∷ stmts_kernels marks (x + stmt_new p) l
+pub stmts-more : (traps : Traps) (x : ℕ) (p : FlatStmt) (l : List FlatStmt) →
+    stmts_kernels traps x (p ∷ l) ≡ stmt_kernel traps x p ∷ stmts_kernels traps (x + stmt_new p) l
 unfolding stmts_kernels stmt_kernel stmt_new
-stmts-more marks x p l = refl
+stmts-more traps x p l = refl
 
 pub stmts-new_none : stmts_new [] ≡ 0
 unfolding stmts_new
@@ -388,14 +388,14 @@ pub stmts-new_more : (p : FlatStmt) (l : List FlatStmt) → stmts_new (p ∷ l) 
 unfolding stmts_new stmt_new
 stmts-new_more p l = refl
 
-pub choices-none : (marks : Marks) (x : ℕ) → choices marks x [] ≡ []
+pub choices-none : (traps : Traps) (x : ℕ) → choices traps x [] ≡ []
 unfolding choices
-choices-none marks x = refl
+choices-none traps x = refl
 
-pub choices-more : (marks : Marks) (x : ℕ) (c : FlatCase) (l : List FlatCase) →
-    choices marks x (c ∷ l) ≡ case_choice marks x c ∷ choices marks (x + case_new c) l
+pub choices-more : (traps : Traps) (x : ℕ) (c : FlatCase) (l : List FlatCase) →
+    choices traps x (c ∷ l) ≡ case_choice traps x c ∷ choices traps (x + case_new c) l
 unfolding choices
-choices-more marks x c l = refl
+choices-more traps x c l = refl
 
 pub cases-new_none : cases_new [] ≡ 0
 unfolding cases_new
@@ -405,18 +405,18 @@ pub cases-new_more : (c : FlatCase) (l : List FlatCase) → cases_new (c ∷ l) 
 unfolding cases_new case_new
 cases-new_more c l = refl
 
-pub case-missing : (marks : Marks) (x : ℕ) (c : FlatCase) → (out-FlatCase c).body ≡ None →
-    case_choice marks x c ≡ (event_test (out-FlatCase c).event, terms.Nothing)
+pub case-missing : (traps : Traps) (x : ℕ) (c : FlatCase) → (out-FlatCase c).body ≡ None →
+    case_choice traps x c ≡ (event_test (out-FlatCase c).event, terms.Nothing)
 unfolding case_choice case_test event_test out-FlatCase denote.Hole.Carrier.out
-case-missing marks x (FlatCase' event FlatCase-body-None') h = refl
-case-missing marks x (FlatCase' event (FlatCase-body-Some' span form)) h = absurd (none-some (record { span = span; form = form }) (sym h))
+case-missing traps x (FlatCase' event FlatCase-body-None') h = refl
+case-missing traps x (FlatCase' event (FlatCase-body-Some' span form)) h = absurd (none-some (record { span = span; form = form }) (sym h))
 
-pub case-written : (marks : Marks) (x : ℕ) (c : FlatCase) (p : FlatStmt) → (out-FlatCase c).body ≡ Some p →
-    case_choice marks x c ≡ (event_test (out-FlatCase c).event, stmt_kernel marks x p)
+pub case-written : (traps : Traps) (x : ℕ) (c : FlatCase) (p : FlatStmt) → (out-FlatCase c).body ≡ Some p →
+    case_choice traps x c ≡ (event_test (out-FlatCase c).event, stmt_kernel traps x p)
 unfolding case_choice case_test event_test stmt_kernel out-FlatCase denote.Hole.Carrier.out
-case-written marks x (FlatCase' event FlatCase-body-None') p h = absurd (none-some p h)
-case-written marks x (FlatCase' event (FlatCase-body-Some' span form)) p h =
-    ap (λ q. (expression (flat_expr_of event), kernel marks x (flat_stmt_of q))) (some-same (record { span = span; form = form }) p h)
+case-written traps x (FlatCase' event FlatCase-body-None') p h = absurd (none-some p h)
+case-written traps x (FlatCase' event (FlatCase-body-Some' span form)) p h =
+    ap (λ q. (expression (flat_expr_of event), kernel traps x (flat_stmt_of q))) (some-same (record { span = span; form = form }) p h)
 
 pub case-new_missing : (c : FlatCase) → (out-FlatCase c).body ≡ None → case_new c ≡ 0
 unfolding case_new out-FlatCase denote.Hole.Carrier.out
@@ -430,73 +430,73 @@ case-new_written (FlatCase' event (FlatCase-body-Some' span form)) p h = ap (λ 
 
 -- ---- rows put together
 
-pub put-Present : (marks : Marks) (x y : ℕ) (at : Span) (form : FlatForm) (e : FlatExpr) (p q : Option (Box FlatStmt Global)) (t : Expression) (a b k : Term)
-    → form ≡ forms.Present e p q → t ≡ event_test e → a ≡ part_kernel marks x p → y ≡ x + part_new p → b ≡ part_kernel marks y q → k ≡ terms.Present t a b →
-    k ≡ node_kernel marks x at form
-put-Present marks x y at form e p q t a b k is test a_is next b_is whole = let row = kernel-Present marks x at e p q in cc
+pub put-Present : (traps : Traps) (x y : ℕ) (at : Span) (form : FlatForm) (e : FlatExpr) (p q : Option (Box FlatStmt Global)) (t : Expression) (a b k : Term)
+    → form ≡ forms.Present e p q → t ≡ event_test e → a ≡ part_kernel traps x p → y ≡ x + part_new p → b ≡ part_kernel traps y q → k ≡ terms.Present t a b →
+    k ≡ node_kernel traps x at form
+put-Present traps x y at form e p q t a b k is test a_is next b_is whole = let row = kernel-Present traps x at e p q in cc
 
-pub put-Abort : (marks outer inner : Marks) (x y z : ℕ) (at : Span) (form : FlatForm) (p r : Box FlatStmt Global) (d : FlatDelay)
+pub put-Abort : (traps outer inner : Traps) (x y z : ℕ) (at : Span) (form : FlatForm) (p r : Box FlatStmt Global) (d : FlatDelay)
     (rest : Option (Box FlatStmt Global)) (s u : FlatStmt) (n : ℕ) (a b c k : Term)
     → a ≡ stmt_kernel inner y s → b ≡ stmt_kernel outer z u → c ≡ aborting_handled at (flat_delay_of d) n a → k ≡ handled c b
-    → outer ≡ false ∷ marks → inner ≡ false ∷ outer
+    → outer ≡ false ∷ traps → inner ≡ false ∷ outer
     → form ≡ forms.Abort p d rest → rest ≡ Some r → s ≡ p.value → u ≡ r.value → n ≡ x → y ≡ x + delay_new d → z ≡ y + stmt_new s →
-    k ≡ node_kernel marks x at form
-put-Abort marks outer inner x y z at form p r d rest s u n a b c k a_is b_is c_is whole around within is written body box number first next =
-    let row = kernel-Abort_written marks x at p d r in cc
+    k ≡ node_kernel traps x at form
+put-Abort traps outer inner x y z at form p r d rest s u n a b c k a_is b_is c_is whole around within is written body box number first next =
+    let row = kernel-Abort_written traps x at p d r in cc
 
-pub put-AbortCase : (marks outer inner : Marks) (x y : ℕ) (at : Span) (form : FlatForm) (p : Box FlatStmt Global) (v : Vec FlatCase Global) (s : FlatStmt)
+pub put-AbortCase : (traps outer inner : Traps) (x y : ℕ) (at : Span) (form : FlatForm) (p : Box FlatStmt Global) (v : Vec FlatCase Global) (s : FlatStmt)
     (l m : List FlatCase) (ch : List (Expression × Term)) (t : Expression) (a b c k : Term)
     → a ≡ stmt_kernel inner x s → ch ≡ choices outer y l → b ≡ chosen_of ch terms.Nothing → t ≡ any_event_test m → c ≡ aborting at t 3 a → k ≡ handled c b
-    → outer ≡ false ∷ marks → inner ≡ false ∷ outer
-    → form ≡ forms.AbortCase p v → s ≡ p.value → l ≡ v.items → m ≡ v.items → y ≡ x + stmt_new s → k ≡ node_kernel marks x at form
-put-AbortCase marks outer inner x y at form p v s l m ch t a b c k a_is ch_is b_is any c_is whole around within is body list same next =
-    let row = kernel-AbortCase marks x at p v in cc
+    → outer ≡ false ∷ traps → inner ≡ false ∷ outer
+    → form ≡ forms.AbortCase p v → s ≡ p.value → l ≡ v.items → m ≡ v.items → y ≡ x + stmt_new s → k ≡ node_kernel traps x at form
+put-AbortCase traps outer inner x y at form p v s l m ch t a b c k a_is ch_is b_is any c_is whole around within is body list same next =
+    let row = kernel-AbortCase traps x at p v in cc
 
-pub put-Trap : (marks outer inner : Marks) (x y : ℕ) (at : Span) (form : FlatForm) (p r : Box FlatStmt Global) (rest : Option (Box FlatStmt Global))
+pub put-Trap : (traps outer inner : Traps) (x y : ℕ) (at : Span) (form : FlatForm) (p r : Box FlatStmt Global) (rest : Option (Box FlatStmt Global))
     (s u : FlatStmt) (a b c k : Term)
     → a ≡ stmt_kernel inner x s → b ≡ stmt_kernel outer y u → c ≡ terms.Seq a (terms.Exit 3) → k ≡ handled c b
-    → outer ≡ false ∷ marks → inner ≡ true ∷ outer
-    → form ≡ forms.Trap p rest → rest ≡ Some r → s ≡ p.value → u ≡ r.value → y ≡ x + stmt_new s → k ≡ node_kernel marks x at form
-put-Trap marks outer inner x y at form p r rest s u a b c k a_is b_is c_is whole around within is written body box next =
-    let row = kernel-Trap_written marks x at p r in cc
+    → outer ≡ false ∷ traps → inner ≡ true ∷ outer
+    → form ≡ forms.Trap p rest → rest ≡ Some r → s ≡ p.value → u ≡ r.value → y ≡ x + stmt_new s → k ≡ node_kernel traps x at form
+put-Trap traps outer inner x y at form p r rest s u a b c k a_is b_is c_is whole around within is written body box next =
+    let row = kernel-Trap_written traps x at p r in cc
 
 -- ---- lists
 
-pub stmts-at : (marks : Marks) (x y : ℕ) (l : List FlatStmt) (i : ℕ) (p : FlatStmt) → i < length l → p ≡ get_or l i p → y ≡ x + stmt_new p →
-    stmts_kernels marks x (drop i l) ≡ stmt_kernel marks x p ∷ stmts_kernels marks y (drop (i + 1) l)
-stmts-at marks x y l i p h is next =
-    ap (stmts_kernels marks x) (drop-at l i p h is) ∙ stmts-more marks x p (drop (i + 1) l)
-    ∙ ap (λ z. stmt_kernel marks x p ∷ stmts_kernels marks z (drop (i + 1) l)) (sym next)
+pub stmts-at : (traps : Traps) (x y : ℕ) (l : List FlatStmt) (i : ℕ) (p : FlatStmt) → i < length l → p ≡ get_or l i p → y ≡ x + stmt_new p →
+    stmts_kernels traps x (drop i l) ≡ stmt_kernel traps x p ∷ stmts_kernels traps y (drop (i + 1) l)
+stmts-at traps x y l i p h is next =
+    ap (stmts_kernels traps x) (drop-at l i p h is) ∙ stmts-more traps x p (drop (i + 1) l)
+    ∙ ap (λ z. stmt_kernel traps x p ∷ stmts_kernels traps z (drop (i + 1) l)) (sym next)
 
 pub stmts-new_at : (l : List FlatStmt) (i : ℕ) (p : FlatStmt) → i < length l → p ≡ get_or l i p → stmts_new (drop i l) ≡ stmt_new p + stmts_new (drop (i + 1) l)
 stmts-new_at l i p h is = ap stmts_new (drop-at l i p h is) ∙ stmts-new_more p (drop (i + 1) l)
 
-pub stmts-past : (marks : Marks) (x : ℕ) (l : List FlatStmt) (i : ℕ) → length l ≤ i → stmts_kernels marks x (drop i l) ≡ []
-stmts-past marks x l i h = ap (stmts_kernels marks x) (drop_of_length-le l h) ∙ stmts-none marks x
+pub stmts-past : (traps : Traps) (x : ℕ) (l : List FlatStmt) (i : ℕ) → length l ≤ i → stmts_kernels traps x (drop i l) ≡ []
+stmts-past traps x l i h = ap (stmts_kernels traps x) (drop_of_length-le l h) ∙ stmts-none traps x
 
 pub stmts-new_past : (l : List FlatStmt) (i : ℕ) → length l ≤ i → stmts_new (drop i l) ≡ 0
 stmts-new_past l i h = ap stmts_new (drop_of_length-le l h) ∙ stmts-new_none
 
-pub choices-at : (marks : Marks) (x y : ℕ) (l : List FlatCase) (i : ℕ) (c : FlatCase) → i < length l → c ≡ get_or l i c → y ≡ x + case_new c →
-    choices marks x (drop i l) ≡ case_choice marks x c ∷ choices marks y (drop (i + 1) l)
-choices-at marks x y l i c h is next =
-    ap (choices marks x) (drop-at l i c h is) ∙ choices-more marks x c (drop (i + 1) l)
-    ∙ ap (λ z. case_choice marks x c ∷ choices marks z (drop (i + 1) l)) (sym next)
+pub choices-at : (traps : Traps) (x y : ℕ) (l : List FlatCase) (i : ℕ) (c : FlatCase) → i < length l → c ≡ get_or l i c → y ≡ x + case_new c →
+    choices traps x (drop i l) ≡ case_choice traps x c ∷ choices traps y (drop (i + 1) l)
+choices-at traps x y l i c h is next =
+    ap (choices traps x) (drop-at l i c h is) ∙ choices-more traps x c (drop (i + 1) l)
+    ∙ ap (λ z. case_choice traps x c ∷ choices traps z (drop (i + 1) l)) (sym next)
 
 pub cases-new_at : (l : List FlatCase) (i : ℕ) (c : FlatCase) → i < length l → c ≡ get_or l i c → cases_new (drop i l) ≡ case_new c + cases_new (drop (i + 1) l)
 cases-new_at l i c h is = ap cases_new (drop-at l i c h is) ∙ cases-new_more c (drop (i + 1) l)
 
-pub choices-past : (marks : Marks) (x : ℕ) (l : List FlatCase) (i : ℕ) → length l ≤ i → choices marks x (drop i l) ≡ []
-choices-past marks x l i h = ap (choices marks x) (drop_of_length-le l h) ∙ choices-none marks x
+pub choices-past : (traps : Traps) (x : ℕ) (l : List FlatCase) (i : ℕ) → length l ≤ i → choices traps x (drop i l) ≡ []
+choices-past traps x l i h = ap (choices traps x) (drop_of_length-le l h) ∙ choices-none traps x
 
 pub cases-new_past : (l : List FlatCase) (i : ℕ) → length l ≤ i → cases_new (drop i l) ≡ 0
 cases-new_past l i h = ap cases_new (drop_of_length-le l h) ∙ cases-new_none
 
 -- all of them
 pub ruleset kernel_rows = (
-  marks-Whole,
-  marks-Source,
-  marks-New,
+  traps-Whole,
+  traps-Source,
+  traps-New,
   new-stmt,
   new-Nothing,
   new-Pause,

@@ -7,7 +7,7 @@ use Rattle.est_kernel.specs.Sizes.{size_of, height_of, trap_depth}
 use Rattle.est_ast.specs.FlatTrees.{Delay, Plain, Immediate, Count, Stmt, At, Form, Nothing, Pause, Halt, Emit, Sustain, Await, AwaitCase, Present, PresentCase}
 use Rattle.est_ast.specs.FlatTrees.{Loop, LoopEach, Every, Repeat, Abort, AbortCase, WeakAbort, Suspend, Trap, Exit, Signal, Seq, Par, Part, Missing, Written}
 use Rattle.est_ast.specs.FlatTrees.{Stmts, NoStmts, MoreStmts, Cases, NoCases, MoreCases}
-use Rattle.est_dismantle.specs.Kernels.{nested, sequence, parallel, times, expression, any_event, Marks, exit_code, halting, watching, awaiting, awaiting_delay}
+use Rattle.est_dismantle.specs.Kernels.{nested, sequence, parallel, times, expression, any_event, Traps, exit_code, halting, watching, awaiting, awaiting_delay}
 use Rattle.est_dismantle.specs.Kernels.{aborting, aborting_counted, abortion, aborting_handled, handled, looping_each, later_delay, aborting_weakly, suspension}
 use Rattle.est_dismantle.specs.Kernels.{locals, kernel, kernel_of_form, part, kernels, chosen}
 use Rattle.est_ast.specs.NewSignals.{new_by, new_in, new_in_part, new_in_cases}
@@ -211,82 +211,82 @@ m-suspension at (Count count span event) p = refl
 -- ---- flat statements
 
 mutual
-  pub m-kernel : (marks : Marks) (x : ℕ) (p : Stmt) → measures_of (kernel marks x p) ≡ kernel_measures p
-  m-kernel marks x (At at form) = m-form marks x at form
+  pub m-kernel : (traps : Traps) (x : ℕ) (p : Stmt) → measures_of (kernel traps x p) ≡ kernel_measures p
+  m-kernel traps x (At at form) = m-form traps x at form
 
-  m-form : (marks : Marks) (x : ℕ) (at : Span) (form : Form) → measures_of (kernel_of_form marks x at form) ≡ form_measures form
-  m-form marks x at Nothing = m-Nothing
-  m-form marks x at Pause = m-Pause
-  m-form marks x at Halt = m-halting at
-  m-form marks x at (Emit s) = m-Emit s
-  m-form marks x at (Sustain s) = m-sustaining at s
-  m-form marks x at (Await d Missing) = m-delay at d
-  m-form marks x at (Await d (Written q)) =
-      m-Seq (awaiting_delay at d) (kernel marks x q) ∙ ap (λ m. joined m (measures_of (kernel marks x q))) (m-delay at d)
-      ∙ ap (joined (awaited_delay d)) (m-kernel marks x q)
-  m-form marks x at (AwaitCase list) =
-      m-Seq (awaiting at (any_event list)) (chosen marks x list terms.Nothing)
-      ∙ ap (λ m. joined m (measures_of (chosen marks x list terms.Nothing))) (m-awaiting at (any_event list))
-      ∙ ap (joined (awaited (test_measures (any_event list)))) (m-chosen marks x list terms.Nothing ∙ ap (cases_measures list) m-Nothing)
-  m-form marks x at (Present e p q) =
-      m-Present (expression e) (part marks x p) (part marks (x + new_in_part p) q)
-      ∙ ap (λ m. tested (test_measures (expression e)) m (measures_of (part marks (x + new_in_part p) q))) (m-part marks x p)
-      ∙ ap (tested (test_measures (expression e)) (part_measures p)) (m-part marks (x + new_in_part p) q)
-  m-form marks x at (PresentCase list q) =
-      m-chosen marks x list (part marks (x + new_in_cases list) q) ∙ ap (cases_measures list) (m-part marks (x + new_in_cases list) q)
-  m-form marks x at (Loop p) = m-Loop at (kernel marks x p) ∙ ap over (m-kernel marks x p)
-  m-form marks x at (LoopEach p d) =
-      m-each at d x (kernel (false ∷ marks) (x + new_by d) p) ∙ ap (each_measures d) (m-kernel (false ∷ marks) (x + new_by d) p)
-  m-form marks x at (Every d p) =
-      let body = kernel (false ∷ marks) (x + new_by d) p in
+  m-form : (traps : Traps) (x : ℕ) (at : Span) (form : Form) → measures_of (kernel_of_form traps x at form) ≡ form_measures form
+  m-form traps x at Nothing = m-Nothing
+  m-form traps x at Pause = m-Pause
+  m-form traps x at Halt = m-halting at
+  m-form traps x at (Emit s) = m-Emit s
+  m-form traps x at (Sustain s) = m-sustaining at s
+  m-form traps x at (Await d Missing) = m-delay at d
+  m-form traps x at (Await d (Written q)) =
+      m-Seq (awaiting_delay at d) (kernel traps x q) ∙ ap (λ m. joined m (measures_of (kernel traps x q))) (m-delay at d)
+      ∙ ap (joined (awaited_delay d)) (m-kernel traps x q)
+  m-form traps x at (AwaitCase list) =
+      m-Seq (awaiting at (any_event list)) (chosen traps x list terms.Nothing)
+      ∙ ap (λ m. joined m (measures_of (chosen traps x list terms.Nothing))) (m-awaiting at (any_event list))
+      ∙ ap (joined (awaited (test_measures (any_event list)))) (m-chosen traps x list terms.Nothing ∙ ap (cases_measures list) m-Nothing)
+  m-form traps x at (Present e p q) =
+      m-Present (expression e) (part traps x p) (part traps (x + new_in_part p) q)
+      ∙ ap (λ m. tested (test_measures (expression e)) m (measures_of (part traps (x + new_in_part p) q))) (m-part traps x p)
+      ∙ ap (tested (test_measures (expression e)) (part_measures p)) (m-part traps (x + new_in_part p) q)
+  m-form traps x at (PresentCase list q) =
+      m-chosen traps x list (part traps (x + new_in_cases list) q) ∙ ap (cases_measures list) (m-part traps (x + new_in_cases list) q)
+  m-form traps x at (Loop p) = m-Loop at (kernel traps x p) ∙ ap over (m-kernel traps x p)
+  m-form traps x at (LoopEach p d) =
+      m-each at d x (kernel (false ∷ traps) (x + new_by d) p) ∙ ap (each_measures d) (m-kernel (false ∷ traps) (x + new_by d) p)
+  m-form traps x at (Every d p) =
+      let body = kernel (false ∷ traps) (x + new_by d) p in
       m-Seq (awaiting_delay at d) (looping_each at (later_delay d) x body)
       ∙ ap (λ m. joined m (measures_of (looping_each at (later_delay d) x body))) (m-delay at d)
       ∙ ap (joined (awaited_delay d)) (m-each at (later_delay d) x body ∙ later-same d (measures_of body)
-      ∙ ap (each_later_measures d) (m-kernel (false ∷ marks) (x + new_by d) p))
-  m-form marks x at (Repeat count span p) = m-times count (kernel marks x p) ∙ ap (copied count) (m-kernel marks x p)
-  m-form marks x at (Abort p d Missing) =
-      m-abortion at d x (kernel (false ∷ marks) (x + new_by d) p) ∙ ap (abortion_measures d) (m-kernel (false ∷ marks) (x + new_by d) p)
-  m-form marks x at (Abort p d (Written q)) =
-      let body = kernel (false ∷ (false ∷ marks)) (x + new_by d) p in let y = x + new_by d + new_in p in
-      m-handled (aborting_handled at d x body) (kernel (false ∷ marks) y q)
-      ∙ ap (λ m. handled_measures m (measures_of (kernel (false ∷ marks) y q)))
-      (m-aborting_handled at d x body ∙ ap (λ m. tested_first d (aborted_later d m)) (m-kernel (false ∷ (false ∷ marks)) (x + new_by d) p))
-      ∙ ap (handled_measures (tested_first d (aborted_later d (kernel_measures p)))) (m-kernel (false ∷ marks) y q)
-  m-form marks x at (AbortCase p list) =
-      let body = kernel (false ∷ (false ∷ marks)) x p in let y = x + new_in p in
-      m-handled (aborting at (any_event list) 3 body) (chosen (false ∷ marks) y list terms.Nothing)
-      ∙ ap (λ m. handled_measures m (measures_of (chosen (false ∷ marks) y list terms.Nothing)))
-      (m-aborting at (any_event list) 3 body ∙ ap (aborted (test_measures (any_event list))) (m-kernel (false ∷ (false ∷ marks)) x p))
+      ∙ ap (each_later_measures d) (m-kernel (false ∷ traps) (x + new_by d) p))
+  m-form traps x at (Repeat count span p) = m-times count (kernel traps x p) ∙ ap (copied count) (m-kernel traps x p)
+  m-form traps x at (Abort p d Missing) =
+      m-abortion at d x (kernel (false ∷ traps) (x + new_by d) p) ∙ ap (abortion_measures d) (m-kernel (false ∷ traps) (x + new_by d) p)
+  m-form traps x at (Abort p d (Written q)) =
+      let body = kernel (false ∷ (false ∷ traps)) (x + new_by d) p in let y = x + new_by d + new_in p in
+      m-handled (aborting_handled at d x body) (kernel (false ∷ traps) y q)
+      ∙ ap (λ m. handled_measures m (measures_of (kernel (false ∷ traps) y q)))
+      (m-aborting_handled at d x body ∙ ap (λ m. tested_first d (aborted_later d m)) (m-kernel (false ∷ (false ∷ traps)) (x + new_by d) p))
+      ∙ ap (handled_measures (tested_first d (aborted_later d (kernel_measures p)))) (m-kernel (false ∷ traps) y q)
+  m-form traps x at (AbortCase p list) =
+      let body = kernel (false ∷ (false ∷ traps)) x p in let y = x + new_in p in
+      m-handled (aborting at (any_event list) 3 body) (chosen (false ∷ traps) y list terms.Nothing)
+      ∙ ap (λ m. handled_measures m (measures_of (chosen (false ∷ traps) y list terms.Nothing)))
+      (m-aborting at (any_event list) 3 body ∙ ap (aborted (test_measures (any_event list))) (m-kernel (false ∷ (false ∷ traps)) x p))
       ∙ ap (handled_measures (aborted (test_measures (any_event list)) (kernel_measures p)))
-      (m-chosen (false ∷ marks) y list terms.Nothing ∙ ap (cases_measures list) m-Nothing)
-  m-form marks x at (WeakAbort p d) = m-weakly at d (kernel (false ∷ marks) x p) ∙ ap (weakly_measures d) (m-kernel (false ∷ marks) x p)
-  m-form marks x at (Suspend p d) = m-suspension at d (kernel marks x p) ∙ ap (suspension_measures d) (m-kernel marks x p)
-  m-form marks x at (Trap p Missing) = m-Trap (kernel (true ∷ marks) x p) ∙ ap trapped (m-kernel (true ∷ marks) x p)
-  m-form marks x at (Trap p (Written q)) =
-      let body = kernel (true ∷ (false ∷ marks)) x p in let y = x + new_in p in
-      m-handled (terms.Seq body (terms.Exit 3)) (kernel (false ∷ marks) y q)
-      ∙ ap (λ m. handled_measures m (measures_of (kernel (false ∷ marks) y q)))
-      (m-Seq body (terms.Exit 3) ∙ ap (λ m. joined m (measures_of (terms.Exit 3))) (m-kernel (true ∷ (false ∷ marks)) x p)
+      (m-chosen (false ∷ traps) y list terms.Nothing ∙ ap (cases_measures list) m-Nothing)
+  m-form traps x at (WeakAbort p d) = m-weakly at d (kernel (false ∷ traps) x p) ∙ ap (weakly_measures d) (m-kernel (false ∷ traps) x p)
+  m-form traps x at (Suspend p d) = m-suspension at d (kernel traps x p) ∙ ap (suspension_measures d) (m-kernel traps x p)
+  m-form traps x at (Trap p Missing) = m-Trap (kernel (true ∷ traps) x p) ∙ ap trapped (m-kernel (true ∷ traps) x p)
+  m-form traps x at (Trap p (Written q)) =
+      let body = kernel (true ∷ (false ∷ traps)) x p in let y = x + new_in p in
+      m-handled (terms.Seq body (terms.Exit 3)) (kernel (false ∷ traps) y q)
+      ∙ ap (λ m. handled_measures m (measures_of (kernel (false ∷ traps) y q)))
+      (m-Seq body (terms.Exit 3) ∙ ap (λ m. joined m (measures_of (terms.Exit 3))) (m-kernel (true ∷ (false ∷ traps)) x p)
       ∙ ap (joined (kernel_measures p)) (m-Exit 3))
-      ∙ ap (handled_measures (joined (kernel_measures p) leaf)) (m-kernel (false ∷ marks) y q)
-  m-form marks x at (Exit k) = m-Exit (exit_code marks k)
-  m-form marks x at (Signal signals p) = m-locals signals (kernel marks x p) ∙ ap (raised (length signals)) (m-kernel marks x p)
-  m-form marks x at (Seq parts) = m-sequence (kernels marks x parts) ∙ ap (nested joined leaf) (m-kernels marks x parts)
-  m-form marks x at (Par parts) = m-parallel (kernels marks x parts) ∙ ap (nested joined leaf) (m-kernels marks x parts)
+      ∙ ap (handled_measures (joined (kernel_measures p) leaf)) (m-kernel (false ∷ traps) y q)
+  m-form traps x at (Exit k) = m-Exit (exit_code traps k)
+  m-form traps x at (Signal signals p) = m-locals signals (kernel traps x p) ∙ ap (raised (length signals)) (m-kernel traps x p)
+  m-form traps x at (Seq parts) = m-sequence (kernels traps x parts) ∙ ap (nested joined leaf) (m-kernels traps x parts)
+  m-form traps x at (Par parts) = m-parallel (kernels traps x parts) ∙ ap (nested joined leaf) (m-kernels traps x parts)
 
-  m-part : (marks : Marks) (x : ℕ) (p : Part) → measures_of (part marks x p) ≡ part_measures p
-  m-part marks x Missing = m-Nothing
-  m-part marks x (Written p) = m-kernel marks x p
+  m-part : (traps : Traps) (x : ℕ) (p : Part) → measures_of (part traps x p) ≡ part_measures p
+  m-part traps x Missing = m-Nothing
+  m-part traps x (Written p) = m-kernel traps x p
 
-  m-kernels : (marks : Marks) (x : ℕ) (ps : Stmts) → map measures_of (kernels marks x ps) ≡ stmts_measures ps
-  m-kernels marks x NoStmts = refl
-  m-kernels marks x (MoreStmts p others) =
-      ap (λ m. m ∷ map measures_of (kernels marks (x + new_in p) others)) (m-kernel marks x p)
-      ∙ ap (λ l. kernel_measures p ∷ l) (m-kernels marks (x + new_in p) others)
+  m-kernels : (traps : Traps) (x : ℕ) (ps : Stmts) → map measures_of (kernels traps x ps) ≡ stmts_measures ps
+  m-kernels traps x NoStmts = refl
+  m-kernels traps x (MoreStmts p others) =
+      ap (λ m. m ∷ map measures_of (kernels traps (x + new_in p) others)) (m-kernel traps x p)
+      ∙ ap (λ l. kernel_measures p ∷ l) (m-kernels traps (x + new_in p) others)
 
-  m-chosen : (marks : Marks) (x : ℕ) (list : Cases) (r : Term) → measures_of (chosen marks x list r) ≡ cases_measures list (measures_of r)
-  m-chosen marks x NoCases r = refl
-  m-chosen marks x (MoreCases event body others) r =
-      m-Present (expression event) (part marks x body) (chosen marks (x + new_in_part body) others r)
-      ∙ ap (λ m. tested (test_measures (expression event)) m (measures_of (chosen marks (x + new_in_part body) others r))) (m-part marks x body)
-      ∙ ap (tested (test_measures (expression event)) (part_measures body)) (m-chosen marks (x + new_in_part body) others r)
+  m-chosen : (traps : Traps) (x : ℕ) (list : Cases) (r : Term) → measures_of (chosen traps x list r) ≡ cases_measures list (measures_of r)
+  m-chosen traps x NoCases r = refl
+  m-chosen traps x (MoreCases event body others) r =
+      m-Present (expression event) (part traps x body) (chosen traps (x + new_in_part body) others r)
+      ∙ ap (λ m. tested (test_measures (expression event)) m (measures_of (chosen traps (x + new_in_part body) others r))) (m-part traps x body)
+      ∙ ap (tested (test_measures (expression event)) (part_measures body)) (m-chosen traps (x + new_in_part body) others r)

@@ -9,13 +9,13 @@ use Rattle.est_ast.specs.FlatViews.{flat_stmt_of}
 use Rattle.est_ast.specs.declared.flat.FlatStmt.{FlatStmt}
 use Rattle.est_dismantle.specs.Expansions.{kernel_body, program_in}
 use Rattle.est_dismantle.specs.FlatNodes.{stmt_kernel, stmt_new}
-use Rattle.est_dismantle.specs.Kernels.{Marks, kernel}
+use Rattle.est_dismantle.specs.Kernels.{Traps, kernel}
 use Rattle.est_ast.specs.NewSignals.{new_in}
 
-pub body-made : (flat : Flat) (p : FlatStmt) (marks : Marks) (first : ℕ) (k : Term) → flat_stmt_of p ≡ flat.body → k ≡ stmt_kernel marks first p → marks ≡ [] →
+pub body-made : (flat : Flat) (p : FlatStmt) (traps : Traps) (first : ℕ) (k : Term) → flat_stmt_of p ≡ flat.body → k ≡ stmt_kernel traps first p → traps ≡ [] →
     first ≡ length flat.signals → k ≡ kernel_body flat
 unfolding stmt_kernel
-body-made flat p marks first k is made none same =
+body-made flat p traps first k is made none same =
     made ∙ ap (λ m. kernel m first (flat_stmt_of p)) none ∙ ap (λ n. kernel [] n (flat_stmt_of p)) same ∙ ap (kernel [] (length flat.signals)) is
 
 pub new-counted : (p : FlatStmt) (first next : ℕ) → next ≡ first + stmt_new p → next - first ≡ new_in (flat_stmt_of p)

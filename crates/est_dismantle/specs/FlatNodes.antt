@@ -13,7 +13,7 @@ use Rattle.est_ast.specs.declared.flat.FlatStmt.{FlatStmt}
 use Rattle.est_ast.specs.FlatTrees.{Part, Missing, Written, Cases, NoCases, MoreCases, exprs, stmts, cases}
 use Rattle.est_ast.specs.FlatViews.{flat_expr_of, flat_delay_of, flat_form_of, flat_stmt_of, flat_case_of, flat_part_of}
 use Rattle.est_ast.specs.FlatViews.{flat_event_of, flat_body_of}
-use Rattle.est_dismantle.specs.Kernels.{Marks, nested, expression, expressions, any_event, kernel, kernel_of_form, part}
+use Rattle.est_dismantle.specs.Kernels.{Traps, nested, expression, expressions, any_event, kernel, kernel_of_form, part}
 use Rattle.est_dismantle.specs.Kernels.{kernels}
 use Rattle.est_ast.specs.NewSignals.{new_by, new_in, new_in_form, new_in_part, new_in_stmts, new_in_cases}
 use Rattle.est_dismantle.specs.Counts.{bad_count, bad_in_delay, bad_in, bad_in_form, bad_in_part, bad_in_stmts}
@@ -119,21 +119,21 @@ cases_new list = new_in_cases (cases (map flat_case_of list))
 
 -- ---- kernel terms
 
-unfoldable pub stmt_kernel : Marks → ℕ → FlatStmt → Term
-stmt_kernel marks x p = kernel marks x (flat_stmt_of p)
+unfoldable pub stmt_kernel : Traps → ℕ → FlatStmt → Term
+stmt_kernel traps x p = kernel traps x (flat_stmt_of p)
 
-unfoldable pub node_kernel : Marks → ℕ → Span → FlatForm → Term
-node_kernel marks x at form = kernel_of_form marks x at (flat_form_of form)
+unfoldable pub node_kernel : Traps → ℕ → Span → FlatForm → Term
+node_kernel traps x at form = kernel_of_form traps x at (flat_form_of form)
 
-unfoldable pub part_kernel : Marks → ℕ → Option (Box FlatStmt Global) → Term
-part_kernel marks x q = part marks x (flat_part_of q)
+unfoldable pub part_kernel : Traps → ℕ → Option (Box FlatStmt Global) → Term
+part_kernel traps x q = part traps x (flat_part_of q)
 
-unfoldable pub stmts_kernels : Marks → ℕ → List FlatStmt → List Term
-stmts_kernels marks x parts = kernels marks x (stmts (map flat_stmt_of parts))
+unfoldable pub stmts_kernels : Traps → ℕ → List FlatStmt → List Term
+stmts_kernels traps x parts = kernels traps x (stmts (map flat_stmt_of parts))
 
-unfoldable pub case_choice : Marks → ℕ → FlatCase → Expression × Term
-case_choice marks x c = (case_test c, part marks x (flat_body_of c))
+unfoldable pub case_choice : Traps → ℕ → FlatCase → Expression × Term
+case_choice traps x c = (case_test c, part traps x (flat_body_of c))
 
-unfoldable pub choices : Marks → ℕ → List FlatCase → List (Expression × Term)
-choices marks x [] = []
-choices marks x (c ∷ others) = case_choice marks x c ∷ choices marks (x + case_new c) others
+unfoldable pub choices : Traps → ℕ → List FlatCase → List (Expression × Term)
+choices traps x [] = []
+choices traps x (c ∷ others) = case_choice traps x c ∷ choices traps (x + case_new c) others

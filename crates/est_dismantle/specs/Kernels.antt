@@ -64,15 +64,15 @@ any_event cases = nested terms.Or terms.Tick (events cases)
 
 -- The traps around a statement, the nearest first: true for a trap of the source, false for one that an expansion puts
 -- there.
-abbrev pub Marks : Type 0
-Marks = List Bool
+abbrev pub Traps : Type 0
+Traps = List Bool
 
 -- the code of an exit that leaves the source trap with k source traps between
-abbrev pub exit_code : Marks → ℕ → ℕ
+abbrev pub exit_code : Traps → ℕ → ℕ
 exit_code [] k = 2
-exit_code (true ∷ marks) zero = 2
-exit_code (true ∷ marks) (suc k) = suc (exit_code marks k)
-exit_code (false ∷ marks) k = suc (exit_code marks k)
+exit_code (true ∷ traps) zero = 2
+exit_code (true ∷ traps) (suc k) = suc (exit_code traps k)
+exit_code (false ∷ traps) k = suc (exit_code traps k)
 
 -- ---- the rows of derived statements, over kernel terms
 
@@ -169,73 +169,73 @@ locals (s ∷ ss) p = terms.Local s (locals ss p)
 
 -- The traps around the body of an abortion and around what it does at its end: one new trap, or with `do` two
 -- around the body and one around the rest.
-abbrev pub around_body : Part → Marks → Marks
-around_body Missing marks = false ∷ marks
-around_body (Written q) marks = false ∷ false ∷ marks
+abbrev pub around_body : Part → Traps → Traps
+around_body Missing traps = false ∷ traps
+around_body (Written q) traps = false ∷ false ∷ traps
 
 -- The kernel term of a statement, where these traps stand around it and the next new signal has the number x. The parts
 -- of a statement have the new signals in the order in which they are written, behind that of the statement.
 abbrev mutual
-  pub kernel : Marks → ℕ → Stmt → Term
-  kernel marks x (At at form) = kernel_of_form marks x at form
+  pub kernel : Traps → ℕ → Stmt → Term
+  kernel traps x (At at form) = kernel_of_form traps x at form
 
-  pub kernel_of_form : Marks → ℕ → Span → Form → Term
-  kernel_of_form marks x at Nothing = terms.Nothing
-  kernel_of_form marks x at Pause = terms.Pause
-  kernel_of_form marks x at Halt = halting at
-  kernel_of_form marks x at (Emit s) = terms.Emit s
+  pub kernel_of_form : Traps → ℕ → Span → Form → Term
+  kernel_of_form traps x at Nothing = terms.Nothing
+  kernel_of_form traps x at Pause = terms.Pause
+  kernel_of_form traps x at Halt = halting at
+  kernel_of_form traps x at (Emit s) = terms.Emit s
   -- loop emit s; pause end
-  kernel_of_form marks x at (Sustain s) = terms.Loop at (terms.Seq (terms.Emit s) terms.Pause)
-  kernel_of_form marks x at (Await delay Missing) = awaiting_delay at delay
+  kernel_of_form traps x at (Sustain s) = terms.Loop at (terms.Seq (terms.Emit s) terms.Pause)
+  kernel_of_form traps x at (Await delay Missing) = awaiting_delay at delay
   -- await d; q
-  kernel_of_form marks x at (Await delay (Written q)) = terms.Seq (awaiting_delay at delay) (kernel marks x q)
+  kernel_of_form traps x at (Await delay (Written q)) = terms.Seq (awaiting_delay at delay) (kernel traps x q)
   -- await [e1 or .. or ek]; present case e1 do q1 .. case ek do qk end
-  kernel_of_form marks x at (AwaitCase cases) =
-      terms.Seq (awaiting at (any_event cases)) (chosen marks x cases terms.Nothing)
-  kernel_of_form marks x at (Present e p q) =
-      terms.Present (expression e) (part marks x p) (part marks (x + new_in_part p) q)
+  kernel_of_form traps x at (AwaitCase cases) =
+      terms.Seq (awaiting at (any_event cases)) (chosen traps x cases terms.Nothing)
+  kernel_of_form traps x at (Present e p q) =
+      terms.Present (expression e) (part traps x p) (part traps (x + new_in_part p) q)
   -- present e1 then q1 else (the rest) end, the last else being r
-  kernel_of_form marks x at (PresentCase cases r) = chosen marks x cases (part marks (x + new_in_cases cases) r)
-  kernel_of_form marks x at (Loop p) = terms.Loop at (kernel marks x p)
-  kernel_of_form marks x at (LoopEach p delay) =
-      looping_each at delay x (kernel (false ∷ marks) (x + new_by delay) p)
+  kernel_of_form traps x at (PresentCase cases r) = chosen traps x cases (part traps (x + new_in_cases cases) r)
+  kernel_of_form traps x at (Loop p) = terms.Loop at (kernel traps x p)
+  kernel_of_form traps x at (LoopEach p delay) =
+      looping_each at delay x (kernel (false ∷ traps) (x + new_by delay) p)
   -- await d; loop p each d
-  kernel_of_form marks x at (Every delay p) =
+  kernel_of_form traps x at (Every delay p) =
       terms.Seq (awaiting_delay at delay)
-      (looping_each at (later_delay delay) x (kernel (false ∷ marks) (x + new_by delay) p))
+      (looping_each at (later_delay delay) x (kernel (false ∷ traps) (x + new_by delay) p))
   -- n times p in one sequence
-  kernel_of_form marks x at (Repeat count span p) = sequence (times count (kernel marks x p))
-  kernel_of_form marks x at (Abort p delay Missing) =
-      abortion at delay x (kernel (false ∷ marks) (x + new_by delay) p)
-  kernel_of_form marks x at (Abort p delay (Written q)) =
-      handled (aborting_handled at delay x (kernel (false ∷ false ∷ marks) (x + new_by delay) p))
-      (kernel (false ∷ marks) (x + new_by delay + new_in p) q)
+  kernel_of_form traps x at (Repeat count span p) = sequence (times count (kernel traps x p))
+  kernel_of_form traps x at (Abort p delay Missing) =
+      abortion at delay x (kernel (false ∷ traps) (x + new_by delay) p)
+  kernel_of_form traps x at (Abort p delay (Written q)) =
+      handled (aborting_handled at delay x (kernel (false ∷ false ∷ traps) (x + new_by delay) p))
+      (kernel (false ∷ traps) (x + new_by delay + new_in p) q)
   -- abort p when [e1 or .. or ek] do present case e1 do q1 .. case ek do qk end end
-  kernel_of_form marks x at (AbortCase p cases) =
-      handled (aborting at (any_event cases) 3 (kernel (false ∷ false ∷ marks) x p))
-      (chosen (false ∷ marks) (x + new_in p) cases terms.Nothing)
-  kernel_of_form marks x at (WeakAbort p delay) = aborting_weakly at delay (kernel (false ∷ marks) x p)
-  kernel_of_form marks x at (Suspend p delay) = suspension at delay (kernel marks x p)
-  kernel_of_form marks x at (Trap p Missing) = terms.Trap (kernel (true ∷ marks) x p)
+  kernel_of_form traps x at (AbortCase p cases) =
+      handled (aborting at (any_event cases) 3 (kernel (false ∷ false ∷ traps) x p))
+      (chosen (false ∷ traps) (x + new_in p) cases terms.Nothing)
+  kernel_of_form traps x at (WeakAbort p delay) = aborting_weakly at delay (kernel (false ∷ traps) x p)
+  kernel_of_form traps x at (Suspend p delay) = suspension at delay (kernel traps x p)
+  kernel_of_form traps x at (Trap p Missing) = terms.Trap (kernel (true ∷ traps) x p)
   -- trap N in trap T in p; exit N end; q end
-  kernel_of_form marks x at (Trap p (Written q)) =
-      handled (terms.Seq (kernel (true ∷ false ∷ marks) x p) (terms.Exit 3)) (kernel (false ∷ marks) (x + new_in p) q)
-  kernel_of_form marks x at (Exit k) = terms.Exit (exit_code marks k)
-  kernel_of_form marks x at (Signal signals p) = locals signals (kernel marks x p)
-  kernel_of_form marks x at (Seq parts) = sequence (kernels marks x parts)
-  kernel_of_form marks x at (Par parts) = parallel (kernels marks x parts)
+  kernel_of_form traps x at (Trap p (Written q)) =
+      handled (terms.Seq (kernel (true ∷ false ∷ traps) x p) (terms.Exit 3)) (kernel (false ∷ traps) (x + new_in p) q)
+  kernel_of_form traps x at (Exit k) = terms.Exit (exit_code traps k)
+  kernel_of_form traps x at (Signal signals p) = locals signals (kernel traps x p)
+  kernel_of_form traps x at (Seq parts) = sequence (kernels traps x parts)
+  kernel_of_form traps x at (Par parts) = parallel (kernels traps x parts)
 
   -- a part that may be left out
-  pub part : Marks → ℕ → Part → Term
-  part marks x Missing = terms.Nothing
-  part marks x (Written p) = kernel marks x p
+  pub part : Traps → ℕ → Part → Term
+  part traps x Missing = terms.Nothing
+  part traps x (Written p) = kernel traps x p
 
-  pub kernels : Marks → ℕ → Stmts → List Term
-  kernels marks x NoStmts = []
-  kernels marks x (MoreStmts p others) = kernel marks x p ∷ kernels marks (x + new_in p) others
+  pub kernels : Traps → ℕ → Stmts → List Term
+  kernels traps x NoStmts = []
+  kernels traps x (MoreStmts p others) = kernel traps x p ∷ kernels traps (x + new_in p) others
 
   -- the first case whose event is there, or else the term r
-  pub chosen : Marks → ℕ → Cases → Term → Term
-  chosen marks x NoCases r = r
-  chosen marks x (MoreCases event body others) r =
-      terms.Present (expression event) (part marks x body) (chosen marks (x + new_in_part body) others r)
+  pub chosen : Traps → ℕ → Cases → Term → Term
+  chosen traps x NoCases r = r
+  chosen traps x (MoreCases event body others) r =
+      terms.Present (expression event) (part traps x body) (chosen traps (x + new_in_part body) others r)

@@ -2,7 +2,6 @@ pub mod Boxes
 pub mod Kernels
 pub mod Counts
 pub mod Expansions
-pub mod FlatPrograms
 pub mod Faults
 pub mod Laws
 pub mod Measures
@@ -10,4 +9,4 @@ pub mod Abortions
 pub mod Choices
 pub mod Extents
 pub mod FlatNodes
-pub mod MarkLists
+pub mod TrapLists

@@ -6,7 +6,7 @@ ghost use Rattle.est_dismantle.specs.Choices.{choice_of};
 ghost use Rattle.est_dismantle.specs.FlatNodes.{stmt_kernel, node_kernel, part_kernel, stmts_kernels, choices};
 ghost use Rattle.est_dismantle.specs.FlatNodes.{case_choice, stmt_new, node_new, part_new, stmts_new, cases_new};
 ghost use Rattle.est_dismantle.specs.FlatNodes.{case_new};
-ghost use Rattle.est_dismantle.specs.MarkLists.{marks_of};
+ghost use Rattle.est_dismantle.specs.TrapLists.{traps_of};
 
 use crate::choices::Choice;
 use crate::events::test_of;
@@ -15,7 +15,7 @@ use crate::forms::{
     expand_loop_each, expand_par, expand_present, expand_present_case, expand_repeat, expand_seq,
     expand_signal, expand_suspend, expand_trap, expand_weak_abort,
 };
-use crate::marks::{Marks, code};
+use crate::traps::{Traps, code};
 use crate::{derived as rows, terms};
 use est_ast::{FlatCase, FlatForm, FlatStmt};
 use est_base::{NoMemory, Span};
@@ -29,13 +29,13 @@ use std::alloc::Global;
 pub(crate) fn expand(
     alloc: Global,
     statement: &FlatStmt,
-    marks: &Marks,
+    traps: &Traps,
     next: &mut u32,
 ) -> Result<Box<Kernel>, NoMemory>
-    ensures term { IfOk result (λ k. boxed_term k ≡ stmt_kernel (marks_of marks.now) next.old statement.now) }
+    ensures term { IfOk result (λ k. boxed_term k ≡ stmt_kernel (traps_of traps.now) next.old statement.now) }
     ensures next { OnOk result (next.new ≡ next.old + stmt_new statement.now) }
 {
-    Ok(expand_form(alloc, &statement.form, statement.span, marks, next)?)
+    Ok(expand_form(alloc, &statement.form, statement.span, traps, next)?)
 }
 
 #[cycle(expansion)]
@@ -44,10 +44,10 @@ fn expand_form(
     alloc: Global,
     form: &FlatForm,
     at: Span,
-    marks: &Marks,
+    traps: &Traps,
     next: &mut u32,
 ) -> Result<Box<Kernel>, NoMemory>
-    ensures term { IfOk result (λ k. boxed_term k ≡ node_kernel (marks_of marks.now) next.old at form.now) }
+    ensures term { IfOk result (λ k. boxed_term k ≡ node_kernel (traps_of traps.now) next.old at form.now) }
     ensures next { OnOk result (next.new ≡ next.old + node_new form.now) }
 {
     match form {
@@ -56,28 +56,28 @@ fn expand_form(
         FlatForm::Halt => Ok(rows::halting(alloc, at)?),
         FlatForm::Emit(signal) => terms::node(alloc, Kernel::Emit(*signal)),
         FlatForm::Sustain(signal) => Ok(rows::sustaining(alloc, at, *signal)?),
-        FlatForm::Await(delay, rest) => expand_await(alloc, at, delay, rest, marks, next),
-        FlatForm::AwaitCase(cases) => expand_await_case(alloc, at, cases, marks, next),
-        FlatForm::Present(test, yes, no) => expand_present(alloc, test, yes, no, marks, next),
-        FlatForm::PresentCase(cases, no) => expand_present_case(alloc, cases, no, marks, next),
-        FlatForm::Loop(body) => expand_loop(alloc, at, body, marks, next),
-        FlatForm::LoopEach(body, delay) => expand_loop_each(alloc, at, body, delay, marks, next),
-        FlatForm::Every(delay, body) => expand_every(alloc, at, delay, body, marks, next),
-        FlatForm::Repeat(count, _, body) => expand_repeat(alloc, *count, body, marks, next),
+        FlatForm::Await(delay, rest) => expand_await(alloc, at, delay, rest, traps, next),
+        FlatForm::AwaitCase(cases) => expand_await_case(alloc, at, cases, traps, next),
+        FlatForm::Present(test, yes, no) => expand_present(alloc, test, yes, no, traps, next),
+        FlatForm::PresentCase(cases, no) => expand_present_case(alloc, cases, no, traps, next),
+        FlatForm::Loop(body) => expand_loop(alloc, at, body, traps, next),
+        FlatForm::LoopEach(body, delay) => expand_loop_each(alloc, at, body, delay, traps, next),
+        FlatForm::Every(delay, body) => expand_every(alloc, at, delay, body, traps, next),
+        FlatForm::Repeat(count, _, body) => expand_repeat(alloc, *count, body, traps, next),
         FlatForm::Abort(body, delay, rest) => {
-            expand_abort(alloc, at, body, delay, rest, marks, next)
+            expand_abort(alloc, at, body, delay, rest, traps, next)
         }
-        FlatForm::AbortCase(body, cases) => expand_abort_case(alloc, at, body, cases, marks, next),
-        FlatForm::WeakAbort(body, delay) => expand_weak_abort(alloc, at, body, delay, marks, next),
-        FlatForm::Suspend(body, delay) => expand_suspend(alloc, at, body, delay, marks, next),
-        FlatForm::Trap(body, handler) => expand_trap(alloc, body, handler, marks, next),
-        FlatForm::Exit(between) => match code(marks, *between) {
+        FlatForm::AbortCase(body, cases) => expand_abort_case(alloc, at, body, cases, traps, next),
+        FlatForm::WeakAbort(body, delay) => expand_weak_abort(alloc, at, body, delay, traps, next),
+        FlatForm::Suspend(body, delay) => expand_suspend(alloc, at, body, delay, traps, next),
+        FlatForm::Trap(body, handler) => expand_trap(alloc, body, handler, traps, next),
+        FlatForm::Exit(between) => match code(traps, *between) {
             Some(code) => terms::node(alloc, Kernel::Exit(code)),
             None => Err(NoMemory),
         },
-        FlatForm::Signal(signals, body) => expand_signal(alloc, signals, body, marks, next),
-        FlatForm::Seq(parts) => expand_seq(alloc, parts, marks, next),
-        FlatForm::Par(parts) => expand_par(alloc, parts, marks, next),
+        FlatForm::Signal(signals, body) => expand_signal(alloc, signals, body, traps, next),
+        FlatForm::Seq(parts) => expand_seq(alloc, parts, traps, next),
+        FlatForm::Par(parts) => expand_par(alloc, parts, traps, next),
     }
 }
 
@@ -86,15 +86,15 @@ fn expand_form(
 pub(crate) fn expand_part(
     alloc: Global,
     part: &Option<Box<FlatStmt>>,
-    marks: &Marks,
+    traps: &Traps,
     next: &mut u32,
 ) -> Result<Box<Kernel>, NoMemory>
-    ensures term { IfOk result (λ k. boxed_term k ≡ part_kernel (marks_of marks.now) next.old part.now) }
+    ensures term { IfOk result (λ k. boxed_term k ≡ part_kernel (traps_of traps.now) next.old part.now) }
     ensures next { OnOk result (next.new ≡ next.old + part_new part.now) }
 {
     match part {
         None => terms::node(alloc, Kernel::Nothing),
-        Some(statement) => Ok(expand(alloc, statement, marks, next)?),
+        Some(statement) => Ok(expand(alloc, statement, traps, next)?),
     }
 }
 
@@ -103,15 +103,15 @@ pub(crate) fn expand_part(
 pub(crate) fn expand_parts(
     alloc: Global,
     parts: &[FlatStmt],
-    marks: &Marks,
+    traps: &Traps,
     next: &mut u32,
 ) -> Result<Vec<Box<Kernel>>, NoMemory>
-    ensures terms { IfOk result (λ v. map boxed_term v.items ≡ stmts_kernels (marks_of marks.now) next.old parts.now) }
+    ensures terms { IfOk result (λ v. map boxed_term v.items ≡ stmts_kernels (traps_of traps.now) next.old parts.now) }
     ensures next { OnOk result (next.new ≡ next.old + stmts_new parts.now) }
 {
     let mut kernels = Vec::new(alloc);
     for part in parts {
-        kernels.push(expand(alloc, part, marks, next)?)?;
+        kernels.push(expand(alloc, part, traps, next)?)?;
     }
     Ok(kernels)
 }
@@ -121,15 +121,15 @@ pub(crate) fn expand_parts(
 pub(crate) fn expand_cases(
     alloc: Global,
     cases: &[FlatCase],
-    marks: &Marks,
+    traps: &Traps,
     next: &mut u32,
 ) -> Result<Vec<Choice>, NoMemory>
-    ensures choices { IfOk result (λ v. map choice_of v.items ≡ choices (marks_of marks.now) next.old cases.now) }
+    ensures choices { IfOk result (λ v. map choice_of v.items ≡ choices (traps_of traps.now) next.old cases.now) }
     ensures next { OnOk result (next.new ≡ next.old + cases_new cases.now) }
 {
     let mut found = Vec::new(alloc);
     for case in cases {
-        found.push(expand_case(alloc, case, marks, next)?)?;
+        found.push(expand_case(alloc, case, traps, next)?)?;
     }
     Ok(found)
 }
@@ -139,10 +139,10 @@ pub(crate) fn expand_cases(
 fn expand_case(
     alloc: Global,
     case: &FlatCase,
-    marks: &Marks,
+    traps: &Traps,
     next: &mut u32,
 ) -> Result<Choice, NoMemory>
-    ensures choice { IfOk result (λ c. choice_of c ≡ case_choice (marks_of marks.now) next.old case.now) }
+    ensures choice { IfOk result (λ c. choice_of c ≡ case_choice (traps_of traps.now) next.old case.now) }
     ensures next { OnOk result (next.new ≡ next.old + case_new case.now) }
 {
     let event = test_of(alloc, &case.event)?;
@@ -152,7 +152,7 @@ fn expand_case(
             Ok(Choice { event, body })
         }
         Some(statement) => {
-            let body = expand(alloc, statement, marks, next)?;
+            let body = expand(alloc, statement, traps, next)?;
             Ok(Choice { event, body })
         }
     }

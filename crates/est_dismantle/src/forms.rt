@@ -10,11 +10,11 @@ ghost use Rattle.est_ast.specs.declared.flat.FlatForm.TheVariants.{LoopEach, Eve
 ghost use Rattle.est_ast.specs.declared.flat.FlatForm.TheVariants.{WeakAbort, Suspend, Trap, Signal, Seq, Par};
 ghost use Rattle.est_dismantle.specs.Boxes.{boxed_term};
 ghost use Rattle.est_dismantle.specs.FlatNodes.{node_kernel, node_new, delay_new};
-ghost use Rattle.est_dismantle.specs.MarkLists.{marks_of};
+ghost use Rattle.est_dismantle.specs.TrapLists.{traps_of};
 
 use crate::choices::{aborting_cases, awaiting_cases, choice_by, chosen};
 use crate::expansion::{expand, expand_cases, expand_part, expand_parts};
-use crate::marks::Marks;
+use crate::traps::Traps;
 use crate::{derived as rows, terms};
 use est_ast::{FlatCase, FlatDelay, FlatExpr, FlatStmt};
 use est_base::{NoMemory, SigId, Span};
@@ -30,17 +30,17 @@ pub(crate) fn expand_await(
     at: Span,
     delay: &FlatDelay,
     rest: &Option<Box<FlatStmt>>,
-    marks: &Marks,
+    traps: &Traps,
     next: &mut u32,
 ) -> Result<Box<Kernel>, NoMemory>
     ensures term { IfOk result (λ k. boxed_term k
-        ≡ node_kernel (marks_of marks.now) next.old at (Await delay.now rest.now)) }
+        ≡ node_kernel (traps_of traps.now) next.old at (Await delay.now rest.now)) }
     ensures next { OnOk result (next.new ≡ next.old + node_new (Await delay.now rest.now)) }
 {
     match rest {
         None => Ok(rows::awaiting_delay(alloc, at, delay)?),
         Some(rest) => {
-            let rest = expand(alloc, rest, marks, next)?;
+            let rest = expand(alloc, rest, traps, next)?;
             Ok(rows::after_delay(alloc, at, delay, rest)?)
         }
     }
@@ -54,14 +54,14 @@ pub(crate) fn expand_await_case(
     alloc: Global,
     at: Span,
     cases: &Vec<FlatCase>,
-    marks: &Marks,
+    traps: &Traps,
     next: &mut u32,
 ) -> Result<Box<Kernel>, NoMemory>
     ensures term { IfOk result (λ k. boxed_term k
-        ≡ node_kernel (marks_of marks.now) next.old at (AwaitCase cases.now)) }
+        ≡ node_kernel (traps_of traps.now) next.old at (AwaitCase cases.now)) }
     ensures next { OnOk result (next.new ≡ next.old + node_new (AwaitCase cases.now)) }
 {
-    let choices = expand_cases(alloc, cases.as_slice(), marks, next)?;
+    let choices = expand_cases(alloc, cases.as_slice(), traps, next)?;
     Ok(awaiting_cases(alloc, at, cases.as_slice(), choices)?)
 }
 
@@ -74,15 +74,15 @@ pub(crate) fn expand_present(
     test: &FlatExpr,
     yes: &Option<Box<FlatStmt>>,
     no: &Option<Box<FlatStmt>>,
-    marks: &Marks,
+    traps: &Traps,
     next: &mut u32,
 ) -> Result<Box<Kernel>, NoMemory>
     ensures term { (at : CodeSpan) → IfOk result (λ k. boxed_term k
-        ≡ node_kernel (marks_of marks.now) next.old at (Present test.now yes.now no.now)) }
+        ≡ node_kernel (traps_of traps.now) next.old at (Present test.now yes.now no.now)) }
     ensures next { OnOk result (next.new ≡ next.old + node_new (Present test.now yes.now no.now)) }
 {
-    let yes = expand_part(alloc, yes, marks, next)?;
-    let no = expand_part(alloc, no, marks, next)?;
+    let yes = expand_part(alloc, yes, traps, next)?;
+    let no = expand_part(alloc, no, traps, next)?;
     Ok(choice_by(alloc, test, yes, no)?)
 }
 
@@ -94,15 +94,15 @@ pub(crate) fn expand_present_case(
     alloc: Global,
     cases: &Vec<FlatCase>,
     no: &Option<Box<FlatStmt>>,
-    marks: &Marks,
+    traps: &Traps,
     next: &mut u32,
 ) -> Result<Box<Kernel>, NoMemory>
     ensures term { (at : CodeSpan) → IfOk result (λ k. boxed_term k
-        ≡ node_kernel (marks_of marks.now) next.old at (PresentCase cases.now no.now)) }
+        ≡ node_kernel (traps_of traps.now) next.old at (PresentCase cases.now no.now)) }
     ensures next { OnOk result (next.new ≡ next.old + node_new (PresentCase cases.now no.now)) }
 {
-    let choices = expand_cases(alloc, cases.as_slice(), marks, next)?;
-    let no = expand_part(alloc, no, marks, next)?;
+    let choices = expand_cases(alloc, cases.as_slice(), traps, next)?;
+    let no = expand_part(alloc, no, traps, next)?;
     Ok(chosen(alloc, choices, no)?)
 }
 
@@ -114,14 +114,14 @@ pub(crate) fn expand_loop(
     alloc: Global,
     at: Span,
     body: &Box<FlatStmt>,
-    marks: &Marks,
+    traps: &Traps,
     next: &mut u32,
 ) -> Result<Box<Kernel>, NoMemory>
     ensures term { IfOk result (λ k. boxed_term k
-        ≡ node_kernel (marks_of marks.now) next.old at (Loop body.now)) }
+        ≡ node_kernel (traps_of traps.now) next.old at (Loop body.now)) }
     ensures next { OnOk result (next.new ≡ next.old + node_new (Loop body.now)) }
 {
-    let body = expand(alloc, body, marks, next)?;
+    let body = expand(alloc, body, traps, next)?;
     Ok(terms::endless_loop(alloc, at, body)?)
 }
 
@@ -134,15 +134,15 @@ pub(crate) fn expand_loop_each(
     at: Span,
     body: &Box<FlatStmt>,
     delay: &FlatDelay,
-    marks: &Marks,
+    traps: &Traps,
     next: &mut u32,
 ) -> Result<Box<Kernel>, NoMemory>
     ensures term { IfOk result (λ k. boxed_term k
-        ≡ node_kernel (marks_of marks.now) next.old at (LoopEach body.now delay.now)) }
+        ≡ node_kernel (traps_of traps.now) next.old at (LoopEach body.now delay.now)) }
     ensures next { OnOk result (next.new ≡ next.old + node_new (LoopEach body.now delay.now)) }
 {
     let signal = new_signal(delay, next)?;
-    let body = expand(alloc, body, &Marks::New(marks), next)?;
+    let body = expand(alloc, body, &Traps::New(traps), next)?;
     Ok(rows::looping_each(alloc, at, delay, signal, body)?)
 }
 
@@ -155,15 +155,15 @@ pub(crate) fn expand_every(
     at: Span,
     delay: &FlatDelay,
     body: &Box<FlatStmt>,
-    marks: &Marks,
+    traps: &Traps,
     next: &mut u32,
 ) -> Result<Box<Kernel>, NoMemory>
     ensures term { IfOk result (λ k. boxed_term k
-        ≡ node_kernel (marks_of marks.now) next.old at (Every delay.now body.now)) }
+        ≡ node_kernel (traps_of traps.now) next.old at (Every delay.now body.now)) }
     ensures next { OnOk result (next.new ≡ next.old + node_new (Every delay.now body.now)) }
 {
     let signal = new_signal(delay, next)?;
-    let body = expand(alloc, body, &Marks::New(marks), next)?;
+    let body = expand(alloc, body, &Traps::New(traps), next)?;
     Ok(rows::looping_every(alloc, at, delay, signal, body)?)
 }
 
@@ -175,14 +175,14 @@ pub(crate) fn expand_repeat(
     alloc: Global,
     count: u128,
     body: &Box<FlatStmt>,
-    marks: &Marks,
+    traps: &Traps,
     next: &mut u32,
 ) -> Result<Box<Kernel>, NoMemory>
     ensures term { (at span : CodeSpan) → IfOk result (λ k. boxed_term k
-        ≡ node_kernel (marks_of marks.now) next.old at (Repeat count span body.now)) }
+        ≡ node_kernel (traps_of traps.now) next.old at (Repeat count span body.now)) }
     ensures next { (span : CodeSpan) → OnOk result (next.new ≡ next.old + node_new (Repeat count span body.now)) }
 {
-    let body = expand(alloc, body, marks, next)?;
+    let body = expand(alloc, body, traps, next)?;
     Ok(terms::repeated(alloc, count, body)?)
 }
 
@@ -196,22 +196,22 @@ pub(crate) fn expand_abort(
     body: &Box<FlatStmt>,
     delay: &FlatDelay,
     rest: &Option<Box<FlatStmt>>,
-    marks: &Marks,
+    traps: &Traps,
     next: &mut u32,
 ) -> Result<Box<Kernel>, NoMemory>
     ensures term { IfOk result (λ k. boxed_term k
-        ≡ node_kernel (marks_of marks.now) next.old at (Abort body.now delay.now rest.now)) }
+        ≡ node_kernel (traps_of traps.now) next.old at (Abort body.now delay.now rest.now)) }
     ensures next { OnOk result (next.new ≡ next.old + node_new (Abort body.now delay.now rest.now)) }
 {
     let signal = new_signal(delay, next)?;
-    let outer = Marks::New(marks);
+    let outer = Traps::New(traps);
     match rest {
         None => {
             let body = expand(alloc, body, &outer, next)?;
             Ok(rows::abortion(alloc, at, delay, signal, body)?)
         }
         Some(rest) => {
-            let body = expand(alloc, body, &Marks::New(&outer), next)?;
+            let body = expand(alloc, body, &Traps::New(&outer), next)?;
             let rest = expand(alloc, rest, &outer, next)?;
             Ok(rows::handled_abortion(alloc, at, delay, signal, body, rest)?)
         }
@@ -227,15 +227,15 @@ pub(crate) fn expand_abort_case(
     at: Span,
     body: &Box<FlatStmt>,
     cases: &Vec<FlatCase>,
-    marks: &Marks,
+    traps: &Traps,
     next: &mut u32,
 ) -> Result<Box<Kernel>, NoMemory>
     ensures term { IfOk result (λ k. boxed_term k
-        ≡ node_kernel (marks_of marks.now) next.old at (AbortCase body.now cases.now)) }
+        ≡ node_kernel (traps_of traps.now) next.old at (AbortCase body.now cases.now)) }
     ensures next { OnOk result (next.new ≡ next.old + node_new (AbortCase body.now cases.now)) }
 {
-    let outer = Marks::New(marks);
-    let body = expand(alloc, body, &Marks::New(&outer), next)?;
+    let outer = Traps::New(traps);
+    let body = expand(alloc, body, &Traps::New(&outer), next)?;
     let choices = expand_cases(alloc, cases.as_slice(), &outer, next)?;
     Ok(aborting_cases(alloc, at, cases.as_slice(), body, choices)?)
 }
@@ -249,14 +249,14 @@ pub(crate) fn expand_weak_abort(
     at: Span,
     body: &Box<FlatStmt>,
     delay: &FlatDelay,
-    marks: &Marks,
+    traps: &Traps,
     next: &mut u32,
 ) -> Result<Box<Kernel>, NoMemory>
     ensures term { IfOk result (λ k. boxed_term k
-        ≡ node_kernel (marks_of marks.now) next.old at (WeakAbort body.now delay.now)) }
+        ≡ node_kernel (traps_of traps.now) next.old at (WeakAbort body.now delay.now)) }
     ensures next { OnOk result (next.new ≡ next.old + node_new (WeakAbort body.now delay.now)) }
 {
-    let body = expand(alloc, body, &Marks::New(marks), next)?;
+    let body = expand(alloc, body, &Traps::New(traps), next)?;
     Ok(rows::aborting_weakly(alloc, at, delay, body)?)
 }
 
@@ -269,14 +269,14 @@ pub(crate) fn expand_suspend(
     at: Span,
     body: &Box<FlatStmt>,
     delay: &FlatDelay,
-    marks: &Marks,
+    traps: &Traps,
     next: &mut u32,
 ) -> Result<Box<Kernel>, NoMemory>
     ensures term { IfOk result (λ k. boxed_term k
-        ≡ node_kernel (marks_of marks.now) next.old at (Suspend body.now delay.now)) }
+        ≡ node_kernel (traps_of traps.now) next.old at (Suspend body.now delay.now)) }
     ensures next { OnOk result (next.new ≡ next.old + node_new (Suspend body.now delay.now)) }
 {
-    let body = expand(alloc, body, marks, next)?;
+    let body = expand(alloc, body, traps, next)?;
     Ok(rows::suspension(alloc, at, delay, body)?)
 }
 
@@ -288,21 +288,21 @@ pub(crate) fn expand_trap(
     alloc: Global,
     body: &Box<FlatStmt>,
     handler: &Option<Box<FlatStmt>>,
-    marks: &Marks,
+    traps: &Traps,
     next: &mut u32,
 ) -> Result<Box<Kernel>, NoMemory>
     ensures term { (at : CodeSpan) → IfOk result (λ k. boxed_term k
-        ≡ node_kernel (marks_of marks.now) next.old at (Trap body.now handler.now)) }
+        ≡ node_kernel (traps_of traps.now) next.old at (Trap body.now handler.now)) }
     ensures next { OnOk result (next.new ≡ next.old + node_new (Trap body.now handler.now)) }
 {
     match handler {
         None => {
-            let body = expand(alloc, body, &Marks::Source(marks), next)?;
+            let body = expand(alloc, body, &Traps::Source(traps), next)?;
             Ok(terms::trap(alloc, body)?)
         }
         Some(handler) => {
-            let outer = Marks::New(marks);
-            let body = expand(alloc, body, &Marks::Source(&outer), next)?;
+            let outer = Traps::New(traps);
+            let body = expand(alloc, body, &Traps::Source(&outer), next)?;
             let rest = expand(alloc, handler, &outer, next)?;
             Ok(rows::handled_trap(alloc, body, rest)?)
         }
@@ -317,14 +317,14 @@ pub(crate) fn expand_signal(
     alloc: Global,
     signals: &Vec<SigId>,
     body: &Box<FlatStmt>,
-    marks: &Marks,
+    traps: &Traps,
     next: &mut u32,
 ) -> Result<Box<Kernel>, NoMemory>
     ensures term { (at : CodeSpan) → IfOk result (λ k. boxed_term k
-        ≡ node_kernel (marks_of marks.now) next.old at (Signal signals.now body.now)) }
+        ≡ node_kernel (traps_of traps.now) next.old at (Signal signals.now body.now)) }
     ensures next { OnOk result (next.new ≡ next.old + node_new (Signal signals.now body.now)) }
 {
-    let body = expand(alloc, body, marks, next)?;
+    let body = expand(alloc, body, traps, next)?;
     Ok(rows::locals(alloc, signals.as_slice(), body)?)
 }
 
@@ -335,14 +335,14 @@ pub(crate) fn expand_signal(
 pub(crate) fn expand_seq(
     alloc: Global,
     parts: &Vec<FlatStmt>,
-    marks: &Marks,
+    traps: &Traps,
     next: &mut u32,
 ) -> Result<Box<Kernel>, NoMemory>
     ensures term { (at : CodeSpan) → IfOk result (λ k. boxed_term k
-        ≡ node_kernel (marks_of marks.now) next.old at (Seq parts.now)) }
+        ≡ node_kernel (traps_of traps.now) next.old at (Seq parts.now)) }
     ensures next { OnOk result (next.new ≡ next.old + node_new (Seq parts.now)) }
 {
-    let parts = expand_parts(alloc, parts.as_slice(), marks, next)?;
+    let parts = expand_parts(alloc, parts.as_slice(), traps, next)?;
     Ok(terms::sequence_of(alloc, parts)?)
 }
 
@@ -353,14 +353,14 @@ pub(crate) fn expand_seq(
 pub(crate) fn expand_par(
     alloc: Global,
     parts: &Vec<FlatStmt>,
-    marks: &Marks,
+    traps: &Traps,
     next: &mut u32,
 ) -> Result<Box<Kernel>, NoMemory>
     ensures term { (at : CodeSpan) → IfOk result (λ k. boxed_term k
-        ≡ node_kernel (marks_of marks.now) next.old at (Par parts.now)) }
+        ≡ node_kernel (traps_of traps.now) next.old at (Par parts.now)) }
     ensures next { OnOk result (next.new ≡ next.old + node_new (Par parts.now)) }
 {
-    let parts = expand_parts(alloc, parts.as_slice(), marks, next)?;
+    let parts = expand_parts(alloc, parts.as_slice(), traps, next)?;
     Ok(terms::parallel_of(alloc, parts)?)
 }
 

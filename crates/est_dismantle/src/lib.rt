@@ -13,7 +13,6 @@ mod expansion;
 mod extent;
 mod forms;
 mod laws;
-mod marks;
 mod measure;
 mod measured_events;
 mod measured_rows;
@@ -21,6 +20,7 @@ mod programs;
 mod refusal;
 mod signals;
 mod terms;
+mod traps;
 
 pub use laws::{
     expansions_are_well_formed, immediate_abortions_run_their_rest, immediate_awaits_end_at_once,

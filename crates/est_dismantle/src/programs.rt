@@ -2,6 +2,7 @@
 
 ghost use Rattle.std.specs.Prelude.{◌≡◌, IfOk, MatchOption};
 ghost use Rattle.est_base.specs.Stops.{IfFault};
+ghost use Rattle.est_ast.specs.FlatPrograms.{IsFlat, IsNamed};
 ghost use Rattle.est_ast.specs.FlatViews.{flat_of};
 ghost use Rattle.est_kernel.specs.Plain.{program_of};
 ghost use Rattle.est_kernel.specs.WellFormed.{IsWellFormed, HasNames};
@@ -9,14 +10,13 @@ ghost use Rattle.est_ast.specs.NewSignals.{new_in};
 ghost use Rattle.est_dismantle.specs.Boxes.{boxed_term};
 ghost use Rattle.est_dismantle.specs.Expansions.{Expanded, expansion, kernel_body, program_in};
 ghost use Rattle.est_dismantle.specs.Faults.{FaultHasCause};
-ghost use Rattle.est_dismantle.specs.FlatPrograms.{IsFlat};
 
 use crate::counts::first_bad;
 use crate::expansion::expand;
-use crate::marks::Marks;
 use crate::measure::measure;
 use crate::refusal::DismantleFault;
 use crate::signals::signals_with;
+use crate::traps::Traps;
 use est_ast::Flat;
 use est_base::{Limits, NoMemory, Stop};
 use est_kernel::{Kernel, KernelProgram};
@@ -32,7 +32,8 @@ pub fn dismantle(alloc: Global, flat: Box<Flat>) -> Result<KernelProgram, Stop<D
     ensures expands { IfOk result (λ p. expansion (flat_of flat.value) ≡ Expanded (program_of p)) }
     ensures refuses { IfFault result (λ fault. FaultHasCause (expansion (flat_of flat.value)) fault) }
     ensures well_formed { IsFlat (flat_of flat.value) → IfOk result (λ p. IsWellFormed (program_of p)) }
-    ensures names { IsFlat (flat_of flat.value) → IfOk result (λ p. HasNames (program_of p)) }
+    ensures names { IsFlat (flat_of flat.value) → IsNamed (flat_of flat.value)
+        → IfOk result (λ p. HasNames (program_of p)) }
 {
     match fault_in(&flat) {
         Some(fault) => Err(Stop::Fault(fault)),
@@ -79,7 +80,7 @@ fn new_body(alloc: Global, flat: &Flat) -> Result<NewBody, NoMemory>
     let count = flat.signals.len();
     let first = count as u32;
     let mut next = first;
-    let term = expand(alloc, &flat.body, &Marks::Whole, &mut next)?;
+    let term = expand(alloc, &flat.body, &Traps::Whole, &mut next)?;
     Ok(NewBody {
         term,
         signals: next - first,

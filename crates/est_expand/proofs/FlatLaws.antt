@@ -33,7 +33,8 @@ use Rattle.est_expand.specs.Walks.{Met, beginning, meet_signals}
 use Rattle.est_expand.specs.Flattening.{around_main, related, relation_in, relations_in, main_flattening, main_walk, flat_program, flattened, flattening}
 use Rattle.est_ast.specs.FlatFits as fits
 use Rattle.est_ast.specs.NewSignals.{new_in}
-use Rattle.est_expand.specs.FlatPrograms.{seen_count, RelatesGiven, IsFlat, IsNamed, IsNamedModule}
+use Rattle.est_ast.specs.FlatPrograms.{RelatesGiven, IsFlat, IsNamed}
+use Rattle.est_expand.specs.NamedModules.{IsNamedModule}
 use Rattle.est_expand.proofs.DistinctNames.{interface-differs}
 use Rattle.est_expand.proofs.FlatFitting.{on_ok-IfOk, if-IfOk, SeesNames, sees_none, sees_more, Begun, Kept, Sees, flattening-IfOk}
 

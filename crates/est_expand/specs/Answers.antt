@@ -2,17 +2,22 @@
 use Rattle.std.specs.Prelude.{◌≡◌, Option, Some, None, Result, Ok, Err}
 use Rattle.est_expand.specs.declared.refusal.ExpandFault.{ExpandFault}
 use Rattle.est_expand.specs.declared.refusal.ExpandFault.TheVariants as code
+use Rattle.est_expand.specs.declared.refusal.ScopeFault.{ScopeFault}
+use Rattle.est_expand.specs.declared.refusal.ScopeFault.TheVariants as scope
 use Rattle.est_expand.specs.Faults.{Fault, UnknownModule, Recursive, BadRename, UnknownSignal, Unbound, UnknownTrap}
 use Rattle.est_expand.specs.Faults.{EmitInput, TooManyStatements, TooDeep, TooManySignals}
 
+abbrev pub scope_fault : ScopeFault → Fault
+scope_fault (scope.UnknownModule place) = UnknownModule place
+scope_fault (scope.Recursive place names) = Recursive place names.items
+scope_fault (scope.BadRename place) = BadRename place
+scope_fault (scope.UnknownSignal place) = UnknownSignal place
+scope_fault (scope.Unbound place formal) = Unbound place formal
+scope_fault (scope.UnknownTrap place) = UnknownTrap place
+scope_fault (scope.EmitInput place) = EmitInput place
+
 abbrev pub fault_of : ExpandFault → Option Fault
-fault_of (code.UnknownModule place) = Some (UnknownModule place)
-fault_of (code.Recursive place names) = Some (Recursive place names.items)
-fault_of (code.BadRename place) = Some (BadRename place)
-fault_of (code.UnknownSignal place) = Some (UnknownSignal place)
-fault_of (code.Unbound place formal) = Some (Unbound place formal)
-fault_of (code.UnknownTrap place) = Some (UnknownTrap place)
-fault_of (code.EmitInput place) = Some (EmitInput place)
+fault_of (code.Scope fault) = Some (scope_fault fault)
 fault_of code.TooManyStatements = Some TooManyStatements
 fault_of code.TooDeep = Some TooDeep
 fault_of code.TooManySignals = Some TooManySignals

@@ -3,7 +3,8 @@ use Rattle.std.specs.Prelude.{◌≡◌, [], IfOk}
 use Rattle.est_ast.specs.Trees.{Stmt, Program, Module}
 use Rattle.est_names.specs.NameFaults.{interface_faults}
 use Rattle.est_expand.specs.Flattening.{flattened}
-use Rattle.est_expand.specs.FlatPrograms.{IsFlat, IsNamed, IsNamedModule}
+use Rattle.est_ast.specs.FlatPrograms.{IsFlat, IsNamed}
+use Rattle.est_expand.specs.NamedModules.{IsNamedModule}
 use Rattle.est_expand.specs.Renaming.{no_binders, SameStmt, SamePrograms, BothAre, SameButForNames}
 
 -- The flat form of a program, where the names of its main module's interface have no fault, keeps what a flat program

@@ -9,6 +9,6 @@ pub mod Answers
 pub mod Tables
 pub mod Counted
 pub mod Views
-pub mod FlatPrograms
+pub mod NamedModules
 pub mod Renaming
 pub mod Laws

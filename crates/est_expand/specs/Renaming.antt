@@ -19,7 +19,7 @@ use Rattle.est_ast.specs.Trees.{NoHandler, Handled, Stmts, NoStmts, MoreStmts, C
 use Rattle.est_ast.specs.Trees.{Program}
 use Rattle.est_names.specs.Names.{texts, is_among}
 use Rattle.est_expand.specs.Faults.{Fault, Unbound}
-use Rattle.est_expand.specs.FlatPrograms.{seen_count}
+use Rattle.est_ast.specs.FlatPrograms.{seen_count}
 use Rattle.est_expand.specs.Runs.{module_named, formal_names}
 use Rattle.est_expand.specs.Scopes.{interface}
 

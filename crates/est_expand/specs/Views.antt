@@ -1,11 +1,12 @@
 -- Inner: the plain forms of what the walk keeps.
-use Rattle.std.specs.Prelude.{map, Result}
+use Rattle.std.specs.Prelude.{ℕ, ◌+◌, ◌≤◌, length, map, Result}
+use Rattle.est_base.specs.declared.bounds.TheConstants.Limits.{DEPTH}
 use Rattle.est_base.specs.declared.place.Span.{Span}
 use Rattle.est_ast.specs.FlatTrees as flat
 use Rattle.est_ast.specs.Trees.{Expr, Stmt, Form, Part, Program}
 use Rattle.est_ast.specs.Views.{module_of}
 use Rattle.est_expand.specs.declared.interface.Formal.{Formal as CodeFormal}
-use Rattle.est_expand.specs.declared.interface.Shown.{Shown}
+use Rattle.est_expand.specs.declared.interface.Interface.{Interface as CodeInterface}
 use Rattle.est_expand.specs.declared.met.Met.{Met as CodeMet}
 use Rattle.est_expand.specs.declared.place.Around.{Around as CodeAround}
 use Rattle.est_expand.specs.declared.place.Site.{Site}
@@ -24,7 +25,7 @@ met_of met = record {
   added = met.added;
 }
 
-abbrev pub interface_of : Shown → Interface
+abbrev pub interface_of : CodeInterface → Interface
 interface_of shown = record {
   inputs = map (λ name. name.now) shown.inputs.items;
   both = map (λ name. name.now) shown.both.items;
@@ -33,6 +34,10 @@ interface_of shown = record {
 
 abbrev pub around_of : CodeAround → Around
 around_of around = record { scope = around.scope; traps = around.traps; chain = around.chain }
+
+-- the traps around a place and the statements that may still stand in one another there are within the limit on depths
+abbrev pub TrapsFit : CodeAround → ℕ → Type 0
+TrapsFit around room = length around.traps + room ≤ DEPTH + 1
 
 abbrev pub program_in : Source → Program
 program_in source = map module_of source.modules.now

@@ -6,12 +6,12 @@ ghost use Rattle.est_ast.specs.FlatViews.{flat_stmt_of, flat_part_of};
 ghost use Rattle.est_ast.specs.Trees.{Trap, Signal};
 ghost use Rattle.est_ast.specs.Views.{stmt_of, handle_of};
 ghost use Rattle.est_expand.specs.Flattening.{in_trap, numbers, handler as handler_walk, ran};
-ghost use Rattle.est_expand.specs.Views.{around_of, program_in, inside_of, site_walk, Walks};
+ghost use Rattle.est_expand.specs.Views.{around_of, program_in, inside_of, site_walk, TrapsFit, Walks};
 
 use crate::interface::text_list;
 use crate::met::Met;
 use crate::place::{Around, Site, Source};
-use crate::refusal::ExpandFault;
+use crate::refusal::{ExpandFault, ScopeFault};
 use crate::runs::{enter, module_named, module_scope};
 use crate::traps::Traps;
 use crate::walk::{boxed, walk};
@@ -33,6 +33,7 @@ pub fn flat_trap<'a>(
     p: &'a Stmt,
     handle: &'a Option<Handle>,
 ) -> Result<FlatStmt, ExpandFault>
+    requires room { TrapsFit around.old (site.now.source.room + 1) }
     ensures walks { Walks flat_stmt_of result met.old met.new
         (site_walk site.now (around_of around.old) (Trap name.now (stmt_of p.now) (handle_of handle.now))) }
     ensures kept { OnOk result (around_of around.new ≡ around_of around.old) }
@@ -55,6 +56,7 @@ pub fn flat_signal<'a>(
     names: &'a [Name],
     p: &'a Stmt,
 ) -> Result<FlatStmt, ExpandFault>
+    requires room { TrapsFit around.old (site.now.source.room + 1) }
     ensures walks { Walks flat_stmt_of result met.old met.new
         (site_walk site.now (around_of around.old) (Signal names.now (stmt_of p.now))) }
     ensures kept { OnOk result (around_of around.new ≡ around_of around.old) }
@@ -80,6 +82,7 @@ fn trapped<'a>(
     name: &'a Name,
     p: &'a Stmt,
 ) -> Result<Box<FlatStmt>, ExpandFault>
+    requires room { TrapsFit around.old (source.now.room + 1) }
     ensures walks { Walks (λ p. flat_stmt_of p.value) result met.old met.new
         (inside_of source.now (in_trap name.now.text (around_of around.old)) (stmt_of p.now)) }
     ensures kept { OnOk result (around_of around.new ≡ around_of around.old) }
@@ -100,6 +103,7 @@ fn handler<'a>(
     name: &'a Name,
     handle: &'a Option<Handle>,
 ) -> Result<Option<Box<FlatStmt>>, ExpandFault>
+    requires room { TrapsFit around.old source.now.room }
     ensures walks { Walks flat_part_of result met.old met.new
         (handler_walk (inside_of source.now (around_of around.old)) name.now (handle_of handle.now)) }
     ensures kept { OnOk result (around_of around.new ≡ around_of around.old) }
@@ -108,7 +112,7 @@ fn handler<'a>(
         return Ok(None);
     };
     if handle.name.text.bytes() != name.text.bytes() {
-        return Err(ExpandFault::UnknownTrap(handle.name.span));
+        return Err(ExpandFault::Scope(ScopeFault::UnknownTrap(handle.name.span)));
     }
     Ok(Some(boxed(alloc, source, around, met, &handle.body)?))
 }
@@ -139,6 +143,7 @@ pub fn run<'a>(
     name: &'a Name,
     renames: &'a [Rename],
 ) -> Result<FlatStmt, ExpandFault>
+    requires room { TrapsFit around.old source.now.room }
     ensures walks { Walks flat_stmt_of result met.old met.new
         (ran (program_in source.now) source.now.inputs (inside_of source.now)
         (around_of around.old) name.now renames.now) }

@@ -8,14 +8,15 @@ ghost use Rattle.est_ast.specs.Views.{program_of, module_of, decl_of, relation_o
 ghost use Rattle.est_names.specs.NameFaults.{module_names};
 ghost use Rattle.est_names.specs.Tables.{IsTableOf};
 ghost use Rattle.est_expand.specs.Answers.{Answers};
-ghost use Rattle.est_expand.specs.FlatPrograms.{IsFlat, IsNamed, IsNamedModule};
+ghost use Rattle.est_ast.specs.FlatPrograms.{IsFlat, IsNamed};
+ghost use Rattle.est_expand.specs.NamedModules.{IsNamedModule};
 ghost use Rattle.est_expand.specs.Flattening.{related, relation_in, relations_in, main_flattening, flat_program};
 ghost use Rattle.est_expand.specs.Flattening.{flattened};
 ghost use Rattle.est_expand.specs.Scopes.{main_interface, main_signals, main_scope};
 ghost use Rattle.est_expand.specs.MainHeads.{IsHeadOf};
 ghost use Rattle.est_expand.specs.Views.{interface_of, met_of, Walks};
 
-use crate::interface::{Shown, main_interface, main_names};
+use crate::interface::{Interface, main_interface, main_names};
 use crate::met::Met;
 use crate::place::{Around, Source};
 use crate::refusal::ExpandFault;
@@ -78,7 +79,7 @@ fn main_body<'a>(
     modules: &'a [Module],
     table: &'a Table<'a>,
     main: &'a Module,
-    shown: &Shown<'a>,
+    shown: &Interface<'a>,
     met: &mut Met,
 ) -> Result<FlatStmt, ExpandFault>
     requires named { table.now.names ≡ module_names (map module_of modules.now) }
@@ -106,7 +107,7 @@ fn main_body<'a>(
 }
 
 // The scope of the main module's body.
-fn main_scope<'a>(alloc: Global, shown: &Shown<'a>) -> Result<Scope<'a>, NoMemory>
+fn main_scope<'a>(alloc: Global, shown: &Interface<'a>) -> Result<Scope<'a>, NoMemory>
     requires { length (main_signals (interface_of shown.now)) ≤ 4096 }
     ensures { IfOk result (λ scope. scope ≡ main_scope (interface_of shown.now)) }
 {
@@ -130,7 +131,7 @@ struct MainHead {
 }
 
 // That of the main module.
-fn main_head(alloc: Global, main: &Module, shown: &Shown) -> Result<MainHead, NoMemory>
+fn main_head(alloc: Global, main: &Module, shown: &Interface) -> Result<MainHead, NoMemory>
     requires shown { interface_of shown.now ≡ main_interface (module_of main.now) }
     requires few { length (main_signals (interface_of shown.now)) ≤ 4096 }
     ensures { IfOk result (IsHeadOf (module_of main.now)) }

@@ -8,7 +8,7 @@ ghost use Rattle.est_ast.specs.Views.{expr_of, delay_of};
 ghost use Rattle.est_expand.specs.Answers.{Answers};
 ghost use Rattle.est_expand.specs.Tests.{signal_of, test, tests, awaited};
 
-use crate::refusal::ExpandFault;
+use crate::refusal::{ExpandFault, ScopeFault};
 use crate::scope::{Meaning, Scope};
 use est_ast::{Delay, FlatDelay, FlatExpr, Name, SigExpr};
 use est_base::SigId;
@@ -20,7 +20,7 @@ pub fn signal(scope: &Scope, name: &Name) -> Result<Meaning, ExpandFault>
 {
     match scope.find(name.text.bytes()) {
         Some(meaning) => Ok(meaning),
-        None => Err(ExpandFault::UnknownSignal(name.span)),
+        None => Err(ExpandFault::Scope(ScopeFault::UnknownSignal(name.span))),
     }
 }
 

@@ -1,7 +1,7 @@
 // A function for each form of a statement, so that a walk keeps on the stack what one form needs and no other's. None
 // is inlined into the walk, whose frame would then have room for all of them.
 
-ghost use Rattle.std.specs.Prelude.{◌≡◌, map, OnOk};
+ghost use Rattle.std.specs.Prelude.{◌≡◌, ◌+◌, map, OnOk};
 ghost use Rattle.est_ast.specs.FlatViews.{flat_stmt_of};
 ghost use Rattle.est_ast.specs.Trees.{stmts, cases as case_list, Emit, Sustain, Exit, Await, AwaitCase, Present};
 ghost use Rattle.est_ast.specs.Trees.{PresentCase, Loop, LoopEach, Every, Repeat, Abort, AbortCase, WeakAbort, Suspend};
@@ -9,12 +9,12 @@ ghost use Rattle.est_ast.specs.Trees.{Seq, Par};
 ghost use Rattle.est_ast.specs.Views.{stmt_of, expr_of, delay_of, part_of, case_of};
 ghost use Rattle.est_expand.specs.Answers.{Answers};
 ghost use Rattle.est_expand.specs.Flattening.{exit_of, emitted};
-ghost use Rattle.est_expand.specs.Views.{around_of, site_walk, Walks, Gives};
+ghost use Rattle.est_expand.specs.Views.{around_of, site_walk, TrapsFit, Walks, Gives};
 
 use crate::expressions::{flat_delay, flat_test, signal};
 use crate::met::Met;
 use crate::place::{Around, Site, Source};
-use crate::refusal::ExpandFault;
+use crate::refusal::{ExpandFault, ScopeFault};
 use crate::scope::Scope;
 use crate::traps::Traps;
 use crate::walk::{boxed, each, each_case, part};
@@ -58,7 +58,7 @@ fn emitted(source: &Source, scope: &Scope, name: &Name) -> Result<SigId, ExpandF
 {
     let meaning = signal(scope, name)?;
     if meaning.input || meaning.signal < source.inputs {
-        return Err(ExpandFault::EmitInput(name.span));
+        return Err(ExpandFault::Scope(ScopeFault::EmitInput(name.span)));
     }
     Ok(SigId(meaning.signal))
 }
@@ -69,7 +69,7 @@ fn exit(traps: &Traps, name: &Name) -> Result<u32, ExpandFault>
 {
     match traps.place(name.text.bytes()) {
         Some(place) => Ok(place),
-        None => Err(ExpandFault::UnknownTrap(name.span)),
+        None => Err(ExpandFault::Scope(ScopeFault::UnknownTrap(name.span))),
     }
 }
 
@@ -84,6 +84,7 @@ pub fn flat_await<'a>(
     delay: &'a Delay,
     q: &'a Option<Box<Stmt>>,
 ) -> Result<FlatStmt, ExpandFault>
+    requires room { TrapsFit around.old (site.now.source.room + 1) }
     ensures walks { Walks flat_stmt_of result met.old met.new
         (site_walk site.now (around_of around.old) (Await (delay_of delay.now) (part_of q.now))) }
     ensures kept { OnOk result (around_of around.new ≡ around_of around.old) }
@@ -105,6 +106,7 @@ pub fn flat_await_case<'a>(
     met: &mut Met,
     cases: &'a [Case],
 ) -> Result<FlatStmt, ExpandFault>
+    requires room { TrapsFit around.old (site.now.source.room + 1) }
     ensures walks { Walks flat_stmt_of result met.old met.new
         (site_walk site.now (around_of around.old) (AwaitCase (case_list (map case_of cases.now)))) }
     ensures kept { OnOk result (around_of around.new ≡ around_of around.old) }
@@ -127,6 +129,7 @@ pub fn flat_present<'a>(
     p: &'a Option<Box<Stmt>>,
     q: &'a Option<Box<Stmt>>,
 ) -> Result<FlatStmt, ExpandFault>
+    requires room { TrapsFit around.old (site.now.source.room + 1) }
     ensures walks { Walks flat_stmt_of result met.old met.new
         (site_walk site.now (around_of around.old) (Present (expr_of e.now) (part_of p.now) (part_of q.now))) }
     ensures kept { OnOk result (around_of around.new ≡ around_of around.old) }
@@ -150,6 +153,7 @@ pub fn flat_present_case<'a>(
     cases: &'a [Case],
     q: &'a Option<Box<Stmt>>,
 ) -> Result<FlatStmt, ExpandFault>
+    requires room { TrapsFit around.old (site.now.source.room + 1) }
     ensures walks { Walks flat_stmt_of result met.old met.new
         (site_walk site.now (around_of around.old) (PresentCase (case_list (map case_of cases.now)) (part_of q.now))) }
     ensures kept { OnOk result (around_of around.new ≡ around_of around.old) }
@@ -171,6 +175,7 @@ pub fn flat_loop<'a>(
     met: &mut Met,
     p: &'a Stmt,
 ) -> Result<FlatStmt, ExpandFault>
+    requires room { TrapsFit around.old (site.now.source.room + 1) }
     ensures walks { Walks flat_stmt_of result met.old met.new
         (site_walk site.now (around_of around.old) (Loop (stmt_of p.now))) }
     ensures kept { OnOk result (around_of around.new ≡ around_of around.old) }
@@ -192,6 +197,7 @@ pub fn flat_loop_each<'a>(
     p: &'a Stmt,
     delay: &'a Delay,
 ) -> Result<FlatStmt, ExpandFault>
+    requires room { TrapsFit around.old (site.now.source.room + 1) }
     ensures walks { Walks flat_stmt_of result met.old met.new
         (site_walk site.now (around_of around.old) (LoopEach (stmt_of p.now) (delay_of delay.now))) }
     ensures kept { OnOk result (around_of around.new ≡ around_of around.old) }
@@ -215,6 +221,7 @@ pub fn flat_every<'a>(
     delay: &'a Delay,
     p: &'a Stmt,
 ) -> Result<FlatStmt, ExpandFault>
+    requires room { TrapsFit around.old (site.now.source.room + 1) }
     ensures walks { Walks flat_stmt_of result met.old met.new
         (site_walk site.now (around_of around.old) (Every (delay_of delay.now) (stmt_of p.now))) }
     ensures kept { OnOk result (around_of around.new ≡ around_of around.old) }
@@ -239,6 +246,7 @@ pub fn flat_repeat<'a>(
     at: Span,
     p: &'a Stmt,
 ) -> Result<FlatStmt, ExpandFault>
+    requires room { TrapsFit around.old (site.now.source.room + 1) }
     ensures walks { Walks flat_stmt_of result met.old met.new
         (site_walk site.now (around_of around.old) (Repeat count at (stmt_of p.now))) }
     ensures kept { OnOk result (around_of around.new ≡ around_of around.old) }
@@ -261,6 +269,7 @@ pub fn flat_abort<'a>(
     delay: &'a Delay,
     q: &'a Option<Box<Stmt>>,
 ) -> Result<FlatStmt, ExpandFault>
+    requires room { TrapsFit around.old (site.now.source.room + 1) }
     ensures walks { Walks flat_stmt_of result met.old met.new
         (site_walk site.now (around_of around.old) (Abort (stmt_of p.now) (delay_of delay.now) (part_of q.now))) }
     ensures kept { OnOk result (around_of around.new ≡ around_of around.old) }
@@ -285,6 +294,7 @@ pub fn flat_abort_case<'a>(
     p: &'a Stmt,
     cases: &'a [Case],
 ) -> Result<FlatStmt, ExpandFault>
+    requires room { TrapsFit around.old (site.now.source.room + 1) }
     ensures walks { Walks flat_stmt_of result met.old met.new
         (site_walk site.now (around_of around.old) (AbortCase (stmt_of p.now) (case_list (map case_of cases.now)))) }
     ensures kept { OnOk result (around_of around.new ≡ around_of around.old) }
@@ -307,6 +317,7 @@ pub fn flat_weak_abort<'a>(
     p: &'a Stmt,
     delay: &'a Delay,
 ) -> Result<FlatStmt, ExpandFault>
+    requires room { TrapsFit around.old (site.now.source.room + 1) }
     ensures walks { Walks flat_stmt_of result met.old met.new
         (site_walk site.now (around_of around.old) (WeakAbort (stmt_of p.now) (delay_of delay.now))) }
     ensures kept { OnOk result (around_of around.new ≡ around_of around.old) }
@@ -329,6 +340,7 @@ pub fn flat_suspend<'a>(
     p: &'a Stmt,
     delay: &'a Delay,
 ) -> Result<FlatStmt, ExpandFault>
+    requires room { TrapsFit around.old (site.now.source.room + 1) }
     ensures walks { Walks flat_stmt_of result met.old met.new
         (site_walk site.now (around_of around.old) (Suspend (stmt_of p.now) (delay_of delay.now))) }
     ensures kept { OnOk result (around_of around.new ≡ around_of around.old) }
@@ -350,6 +362,7 @@ pub fn flat_seq<'a>(
     met: &mut Met,
     parts: &'a [Stmt],
 ) -> Result<FlatStmt, ExpandFault>
+    requires room { TrapsFit around.old (site.now.source.room + 1) }
     ensures walks { Walks flat_stmt_of result met.old met.new
         (site_walk site.now (around_of around.old) (Seq (stmts (map stmt_of parts.now)))) }
     ensures kept { OnOk result (around_of around.new ≡ around_of around.old) }
@@ -370,6 +383,7 @@ pub fn flat_par<'a>(
     met: &mut Met,
     parts: &'a [Stmt],
 ) -> Result<FlatStmt, ExpandFault>
+    requires room { TrapsFit around.old (site.now.source.room + 1) }
     ensures walks { Walks flat_stmt_of result met.old met.new
         (site_walk site.now (around_of around.old) (Par (stmts (map stmt_of parts.now)))) }
     ensures kept { OnOk result (around_of around.new ≡ around_of around.old) }

@@ -111,17 +111,17 @@ fn output_names<'a>(alloc: Global, decls: &'a [Decl]) -> Result<Vec<&'a [u8]>, N
 
 /// The names of the main module's signals.
 #[derive(Drop)]
-pub struct Shown<'a> {
+pub struct Interface<'a> {
     pub inputs: Vec<&'a [u8]>,
     pub both: Vec<&'a [u8]>,
     pub outputs: Vec<&'a [u8]>,
 }
 
 /// Those that this module shows.
-pub fn main_interface<'a>(alloc: Global, main: &'a Module) -> Result<Shown<'a>, NoMemory>
+pub fn main_interface<'a>(alloc: Global, main: &'a Module) -> Result<Interface<'a>, NoMemory>
     ensures { IfOk result (λ shown. interface_of shown ≡ main_interface (module_of main.now)) }
 {
-    Ok(Shown {
+    Ok(Interface {
         inputs: input_names(alloc, &main.decls)?,
         both: both_names(alloc, &main.decls)?,
         outputs: output_names(alloc, &main.decls)?,
@@ -129,7 +129,7 @@ pub fn main_interface<'a>(alloc: Global, main: &'a Module) -> Result<Shown<'a>, 
 }
 
 /// All of them, in the order of their numbers.
-pub fn main_names<'a>(alloc: Global, shown: &Shown<'a>) -> Result<Vec<&'a [u8]>, NoMemory>
+pub fn main_names<'a>(alloc: Global, shown: &Interface<'a>) -> Result<Vec<&'a [u8]>, NoMemory>
     ensures { IfOk result (λ names. map (λ name. name.now) names.items ≡ main_signals (interface_of shown.now)) }
 {
     let mut names = Vec::from_slice(alloc, &shown.inputs)?;

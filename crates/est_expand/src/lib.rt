@@ -22,4 +22,4 @@ mod walk;
 
 pub use expansion::expand;
 pub use laws::{flat_forms_fit, renaming_changes_names_alone};
-pub use refusal::ExpandFault;
+pub use refusal::{ExpandFault, ScopeFault};

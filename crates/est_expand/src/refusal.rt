@@ -7,9 +7,9 @@ use est_base::{Span, Text};
 use std::alloc::{AllocError, AllocFailed};
 use thiserror::Error;
 
-/// Why `expand` gives no flat program. A place is that of the name at fault.
+/// A name, a `run` or an `exit` that has no meaning where it stands. A place is that of the name at fault.
 #[derive(Debug, Drop, Error)]
-pub enum ExpandFault {
+pub enum ScopeFault {
     /// A `run` of a module that is not there.
     #[error("the module at byte {} is unknown", .0.start)]
     UnknownModule(Span),
@@ -34,17 +34,20 @@ pub enum ExpandFault {
     /// An `emit` or a `sustain` of what is an input of its module or of the main module.
     #[error("the signal at byte {} is an input", .0.start)]
     EmitInput(Span),
+}
+
+/// Why `expand` gives no flat program.
+#[derive(Debug, Drop)]
+pub enum ExpandFault {
+    /// The first name without a meaning, in the order of the walk.
+    Scope(ScopeFault),
     /// More than 65,536 statements are met.
-    #[error("too many statements")]
     TooManyStatements,
     /// A statement stands in more than 2,048 statements.
-    #[error("statements are nested too deep")]
     TooDeep,
     /// More than 4,096 signals are met.
-    #[error("too many signals")]
     TooManySignals,
     /// Want of memory.
-    #[error("no memory")]
     NoMemory,
 }
 

@@ -15,7 +15,7 @@ ghost use Rattle.est_expand.specs.Walks.{on_ok};
 use crate::expressions::signal;
 use crate::interface::{Formal, formals};
 use crate::place::Source;
-use crate::refusal::ExpandFault;
+use crate::refusal::{ExpandFault, ScopeFault};
 use crate::scope::{Meaning, Scope};
 use est_ast::{Module, Name, Rename};
 use est_base::{NoMemory, Span, Text};
@@ -29,7 +29,7 @@ pub fn module_named<'a>(source: &Source<'a>, name: &Name) -> Result<&'a Module, 
 {
     match source.table.find(name.text.bytes()) {
         Some(place) => Ok(&source.modules[place]),
-        None => Err(ExpandFault::UnknownModule(name.span)),
+        None => Err(ExpandFault::Scope(ScopeFault::UnknownModule(name.span))),
     }
 }
 
@@ -52,7 +52,7 @@ fn recursion(alloc: Global, chain: &NameSet, name: &Name) -> Result<ExpandFault,
 {
     let mut names = chain.texts(alloc)?;
     names.push(Text::from_bytes(alloc, name.text.bytes())?)?;
-    Ok(ExpandFault::Recursive(name.span, names))
+    Ok(ExpandFault::Scope(ScopeFault::Recursive(name.span, names)))
 }
 
 /// The scope of the body of a module that is run with these renamings.
@@ -87,7 +87,7 @@ fn given_formals<'a>(
     for rename in renames {
         let formal = rename.formal.text.bytes();
         if !is_free(&shown, &given, formal) {
-            return Err(ExpandFault::BadRename(rename.formal.span));
+            return Err(ExpandFault::Scope(ScopeFault::BadRename(rename.formal.span)));
         }
         let actual = signal(scope, &rename.actual)?;
         given.bind(formal, actual)?;
@@ -147,6 +147,9 @@ fn actual(
 {
     match given.find(formal).or(scope.find(formal)) {
         Some(actual) => Ok(actual),
-        None => Err(ExpandFault::Unbound(place, Text::from_bytes(alloc, formal)?)),
+        None => Err(ExpandFault::Scope(ScopeFault::Unbound(
+            place,
+            Text::from_bytes(alloc, formal)?,
+        ))),
     }
 }

@@ -1,6 +1,6 @@
 // The traps around a place.
 
-ghost use Rattle.std.specs.Prelude.{◌≡◌, [], ◌∷◌, drop, OnOk};
+ghost use Rattle.std.specs.Prelude.{◌≡◌, ◌-◌, ◌<◌, ◌^◌, [], ◌∷◌, drop, length, OnOk};
 ghost use Rattle.est_expand.specs.Flattening.{traps_between};
 
 use crate::scope::{Meaning, Scope};
@@ -39,14 +39,12 @@ impl<'a> Traps<'a> {
         }
     }
 
-    /// Enters a trap. More than 2^32 - 1 traps count as want of memory.
+    /// Enters a trap. Its only error is want of memory.
     #[inline(never)]
     pub fn enter(&mut self, name: &'a [u8]) -> Result<(), NoMemory>
+        requires { length self.old < 2 ^ 32 - 1 }
         ensures { OnOk result (self.new ≡ name.now ∷ self.old) }
     {
-        let Some(count) = self.count.checked_add(1) else {
-            return Err(NoMemory);
-        };
         let signal = self.count;
         self.around.bind(
             name,
@@ -55,7 +53,7 @@ impl<'a> Traps<'a> {
                 input: false,
             },
         )?;
-        self.count = count;
+        self.count = signal + 1;
         Ok(())
     }
 

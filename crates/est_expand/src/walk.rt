@@ -2,13 +2,13 @@
 // stack counts: a form has a function of its own (`forms`), and what stands in a statement is boxed as soon as it is
 // found.
 
-ghost use Rattle.std.specs.Prelude.{◌≡◌, map, OnOk};
+ghost use Rattle.std.specs.Prelude.{◌≡◌, ◌+◌, map, OnOk};
 ghost use Rattle.est_ast.specs.FlatTrees.{stmts as flat_stmts, cases as flat_cases, At as flat_at};
 ghost use Rattle.est_ast.specs.FlatViews.{flat_stmt_of, flat_form_of, flat_part_of, flat_case_of};
 ghost use Rattle.est_ast.specs.Trees.{stmts, cases as case_list};
 ghost use Rattle.est_ast.specs.Views.{stmt_of, form_of, part_of, case_of};
 ghost use Rattle.est_expand.specs.Flattening.{part as part_walk, each as each_walk, each_case as each_case_walk};
-ghost use Rattle.est_expand.specs.Views.{around_of, inside_of, site_walk, one_case, Walks};
+ghost use Rattle.est_expand.specs.Views.{around_of, inside_of, site_walk, one_case, TrapsFit, Walks};
 
 use crate::binders::{flat_signal, flat_trap, run};
 use crate::expressions::flat_test;
@@ -33,6 +33,7 @@ pub fn walk<'a>(
     met: &mut Met,
     statement: &'a Stmt,
 ) -> Result<FlatStmt, ExpandFault>
+    requires room { TrapsFit around.old source.now.room }
     ensures walks { Walks flat_stmt_of result met.old met.new
         (inside_of source.now (around_of around.old) (stmt_of statement.now)) }
     ensures kept { OnOk result (around_of around.new ≡ around_of around.old) }
@@ -57,6 +58,7 @@ fn row<'a>(
     met: &mut Met,
     form: &'a Form,
 ) -> Result<FlatStmt, ExpandFault>
+    requires room { TrapsFit around.old (site.now.source.room + 1) }
     ensures walks { Walks flat_stmt_of result met.old met.new
         (site_walk site.now (around_of around.old) (form_of form.now)) }
     ensures kept { OnOk result (around_of around.new ≡ around_of around.old) }
@@ -106,6 +108,7 @@ pub fn boxed<'a>(
     met: &mut Met,
     statement: &'a Stmt,
 ) -> Result<Box<FlatStmt>, ExpandFault>
+    requires room { TrapsFit around.old source.now.room }
     ensures walks { Walks (λ p. flat_stmt_of p.value) result met.old met.new
         (inside_of source.now (around_of around.old) (stmt_of statement.now)) }
     ensures kept { OnOk result (around_of around.new ≡ around_of around.old) }
@@ -123,6 +126,7 @@ pub fn part<'a>(
     met: &mut Met,
     part: &'a Option<Box<Stmt>>,
 ) -> Result<Option<Box<FlatStmt>>, ExpandFault>
+    requires room { TrapsFit around.old source.now.room }
     ensures walks { Walks flat_part_of result met.old met.new
         (part_walk (inside_of source.now (around_of around.old)) (part_of part.now)) }
     ensures kept { OnOk result (around_of around.new ≡ around_of around.old) }
@@ -142,6 +146,7 @@ pub fn each<'a>(
     met: &mut Met,
     parts: &'a [Stmt],
 ) -> Result<Vec<FlatStmt>, ExpandFault>
+    requires room { TrapsFit around.old source.now.room }
     ensures walks { Walks (λ found. flat_stmts (map flat_stmt_of found.items)) result met.old met.new
         (each_walk (inside_of source.now (around_of around.old)) (stmts (map stmt_of parts.now))) }
     ensures kept { OnOk result (around_of around.new ≡ around_of around.old) }
@@ -162,6 +167,7 @@ pub fn each_case<'a>(
     met: &mut Met,
     cases: &'a [Case],
 ) -> Result<Vec<FlatCase>, ExpandFault>
+    requires room { TrapsFit around.old source.now.room }
     ensures walks { Walks (λ found. flat_cases (map flat_case_of found.items)) result met.old met.new
         (each_case_walk (around_of around.old).scope (inside_of source.now (around_of around.old))
         (case_list (map case_of cases.now))) }
@@ -183,6 +189,7 @@ fn flat_case<'a>(
     met: &mut Met,
     case: &'a Case,
 ) -> Result<FlatCase, ExpandFault>
+    requires room { TrapsFit around.old source.now.room }
     ensures walks { Walks flat_case_of result met.old met.new
         (one_case (around_of around.old).scope (inside_of source.now (around_of around.old)) (case_of case.now)) }
     ensures kept { OnOk result (around_of around.new ≡ around_of around.old) }

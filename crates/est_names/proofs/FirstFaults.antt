@@ -1,7 +1,9 @@
 -- The first of several lists of faults.
 use Rattle.std.proofs.Common.{◌≡◌, List, [], ◌∷◌, ◌++◌, sym, subst}
+use Rattle.est_base.specs.declared.stop.Stop.{Stop}
+use Rattle.est_base.specs.declared.stop.Stop.TheVariants.{Fault, NoMemory}
+use Rattle.est_base.specs.Stops.{FaultIs}
 use Rattle.est_names.specs.declared.refusal.NameFault.{NameFault}
-use Rattle.est_names.specs.declared.refusal.NameFault.TheVariants.{DuplicateModule, NoMain, DuplicateSignal, RelationName, NoMemory}
 use Rattle.est_names.specs.NameFaults.{first, IsFirst}
 use Rattle.std.specs.Prelude.{Some}
 
@@ -10,15 +12,12 @@ first-append fault [] ys is = cc
 first-append fault (x ∷ xs) ys is = is
 
 -- that of the first list
-pub IsFirst-append : (fault : NameFault) (xs ys : List NameFault) → IsFirst xs fault → IsFirst (xs ++ ys) fault
+pub IsFirst-append : (stop : Stop NameFault) (xs ys : List NameFault) → FaultIs (IsFirst xs) stop → FaultIs (IsFirst (xs ++ ys)) stop
+IsFirst-append (Fault fault) xs ys is = first-append fault xs ys is
 IsFirst-append NoMemory xs ys is = is
-IsFirst-append (DuplicateModule span) xs ys is = first-append (DuplicateModule span) xs ys is
-IsFirst-append NoMain xs ys is = first-append NoMain xs ys is
-IsFirst-append (DuplicateSignal span) xs ys is = first-append (DuplicateSignal span) xs ys is
-IsFirst-append (RelationName span) xs ys is = first-append (RelationName span) xs ys is
 
 -- that of the second list, where the first has none
-pub IsFirst-behind : (fault : NameFault) (xs ys : List NameFault) → xs ≡ [] → IsFirst ys fault → IsFirst (xs ++ ys) fault
-IsFirst-behind fault xs ys none is = subst (λ l. IsFirst (l ++ ys) fault) (sym none) is
+pub IsFirst-behind : (stop : Stop NameFault) (xs ys : List NameFault) → xs ≡ [] → FaultIs (IsFirst ys) stop → FaultIs (IsFirst (xs ++ ys)) stop
+IsFirst-behind stop xs ys none is = subst (λ l. FaultIs (IsFirst (l ++ ys)) stop) (sym none) is
 
 pub ruleset firsts = (IsFirst-append, IsFirst-behind)

@@ -1,5 +1,5 @@
 -- To believe: what is wrong with the names of a program, in the order of the text.
-use Rattle.std.specs.Prelude.{◌≡◌, ℕ, List, [], ◌∷◌, ◌++◌, map, flat_map, Option, Some, None, if◌then◌else◌, ⊤}
+use Rattle.std.specs.Prelude.{◌≡◌, ℕ, List, [], ◌∷◌, ◌++◌, map, flat_map, Option, Some, None, if◌then◌else◌}
 use Rattle.est_base.specs.declared.place.Span.{Span}
 use Rattle.est_ast.specs.declared.trees.Name.{Name}
 use Rattle.est_ast.specs.Trees.{Stmt, At, Form, Nothing, Pause, Halt, Emit, Sustain, Await, AwaitCase, Present}
@@ -9,7 +9,7 @@ use Rattle.est_ast.specs.Trees.{Stmts, NoStmts, MoreStmts, Cases, NoCases, MoreC
 use Rattle.est_ast.specs.Trees.{Input, InputOutput, Output, Relations, Module, Program}
 use Rattle.est_names.specs.declared.refusal.NameFault.{NameFault}
 use Rattle.est_names.specs.declared.refusal.NameFault.TheVariants.{DuplicateModule, NoMain, DuplicateSignal}
-use Rattle.est_names.specs.declared.refusal.NameFault.TheVariants.{RelationName, NoMemory}
+use Rattle.est_names.specs.declared.refusal.NameFault.TheVariants.{RelationName}
 use Rattle.est_names.specs.Names.{texts, is_among, place_of}
 
 -- a fault at each name that stands in the list, or in the one before it, already
@@ -145,7 +145,6 @@ abbrev pub first : List NameFault → Option NameFault
 first [] = None
 first (fault ∷ faults) = Some fault
 
--- the answer is the first of the faults, or want of memory
+-- this is the first of the faults
 abbrev pub IsFirst : List NameFault → NameFault → Type 0
-IsFirst faults NoMemory = ⊤
 IsFirst faults fault = first faults ≡ Some fault

@@ -1,8 +1,9 @@
 // The checks of the names of a program, in the order in which they answer.
 
-ghost use Rattle.std.specs.Prelude.{◌≡◌, ℕ, ◌<◌, ◌≤◌, List, [], ◌∷◌, ◌++◌, map, flat_map, length, IfOk, OnOk, IfErr};
+ghost use Rattle.std.specs.Prelude.{◌≡◌, ℕ, ◌<◌, ◌≤◌, List, [], ◌∷◌, ◌++◌, map, flat_map, length, IfOk, OnOk};
 ghost use Rattle.std.specs.Prelude.{IfSome};
 ghost use Rattle.std.specs.Option.{option_map};
+ghost use Rattle.est_base.specs.Stops.{IfFault};
 ghost use Rattle.est_ast.specs.Views.{program_of, module_of, decl_of, relation_of, stmt_of};
 ghost use Rattle.est_names.specs.declared.refusal.NameFault.TheVariants as faults;
 ghost use Rattle.est_names.specs.Names.{texts, is_among};
@@ -16,7 +17,7 @@ use crate::refusal::NameFault;
 use crate::signal_lists::push_lists;
 use crate::table::Table;
 use est_ast::{Decl, Module, Name, Program, Relation, Stmt};
-use est_base::NoMemory;
+use est_base::{NoMemory, Stop};
 use std::alloc::Global;
 
 /// The table of a program's modules, where the names have no fault. The main module is the one of the given
@@ -32,9 +33,10 @@ pub fn check_modules<'a>(
     alloc: Global,
     program: &'a Program,
     main: Option<&[u8]>,
-) -> Result<Table<'a>, NameFault>
+) -> Result<Table<'a>, Stop<NameFault>>
     ensures table { IfOk result (IsTable (option_map (λ m. m.now) main.entry) (program_of program.now)) }
-    ensures fault { IfErr result (IsFirst (name_faults (option_map (λ m. m.now) main.entry) (program_of program.now))) }
+    ensures fault { IfFault result
+        (IsFirst (name_faults (option_map (λ m. m.now) main.entry) (program_of program.now))) }
 {
     let modules = module_name_set(alloc, &program.modules)?;
     let main = main_module(&modules, main)?;
@@ -43,26 +45,27 @@ pub fn check_modules<'a>(
 }
 
 // The names of the modules, none of which has the name of another.
-fn module_name_set<'a>(alloc: Global, modules: &'a [Module]) -> Result<NameSet<'a>, NameFault>
+fn module_name_set<'a>(alloc: Global, modules: &'a [Module]) -> Result<NameSet<'a>, Stop<NameFault>>
     ensures names { IfOk result (λ names. names ≡ module_names (map module_of modules.now)) }
     ensures differ { OnOk result
         (again faults.DuplicateModule [] (map (λ m. m.name) (map module_of modules.now)) ≡ []) }
-    ensures fault { IfErr result
+    ensures fault { IfFault result
         (IsFirst (again faults.DuplicateModule [] (map (λ m. m.name) (map module_of modules.now)))) }
 {
     let mut names = NameSet::new(alloc);
     for module in modules {
         if !names.insert(module.name.text.bytes())? {
-            return Err(NameFault::DuplicateModule(module.name.span));
+            return Err(Stop::Fault(NameFault::DuplicateModule(module.name.span)));
         }
     }
     Ok(names)
 }
 
 // The place of the main module.
-fn main_module(modules: &NameSet, main: Option<&[u8]>) -> Result<usize, NameFault>
+fn main_module(modules: &NameSet, main: Option<&[u8]>) -> Result<usize, Stop<NameFault>>
     ensures place { IfOk result (λ m. main_place (option_map (λ m. m.now) main.entry) modules.now ≡ Some m) }
-    ensures fault { IfErr result (IsFirst (main_faults (main_place (option_map (λ m. m.now) main.entry) modules.now))) }
+    ensures fault { IfFault result
+        (IsFirst (main_faults (main_place (option_map (λ m. m.now) main.entry) modules.now))) }
 {
     let place = match main {
         Some(name) => modules.place(name),
@@ -70,7 +73,7 @@ fn main_module(modules: &NameSet, main: Option<&[u8]>) -> Result<usize, NameFaul
     };
     match place {
         Some(place) => Ok(place),
-        None => Err(NameFault::NoMain),
+        None => Err(Stop::Fault(NameFault::NoMain)),
     }
 }
 
@@ -84,9 +87,9 @@ fn first_place(names: &NameSet) -> Option<usize>
 
 // That the names of all modules have no fault.
 #[tactic(auto, using(crate::proofs::FirstFaults::firsts))]
-fn check_all(alloc: Global, modules: &[Module]) -> Result<(), NameFault>
+fn check_all(alloc: Global, modules: &[Module]) -> Result<(), Stop<NameFault>>
     ensures faultless { OnOk result (flat_map module_faults (map module_of modules.now) ≡ []) }
-    ensures fault { IfErr result (IsFirst (flat_map module_faults (map module_of modules.now))) }
+    ensures fault { IfFault result (IsFirst (flat_map module_faults (map module_of modules.now))) }
 {
     for module in modules {
         check_module(alloc, module)?;
@@ -96,9 +99,9 @@ fn check_all(alloc: Global, modules: &[Module]) -> Result<(), NameFault>
 
 // That the names of a module have no fault.
 #[tactic(auto, using(crate::proofs::FirstFaults::firsts))]
-fn check_module(alloc: Global, module: &Module) -> Result<(), NameFault>
+fn check_module(alloc: Global, module: &Module) -> Result<(), Stop<NameFault>>
     ensures faultless { OnOk result (module_faults (module_of module.now) ≡ []) }
-    ensures fault { IfErr result (IsFirst (module_faults (module_of module.now))) }
+    ensures fault { IfFault result (IsFirst (module_faults (module_of module.now))) }
 {
     check_interface(alloc, &module.decls)?;
     check_body(alloc, &module.body)?;
@@ -106,18 +109,18 @@ fn check_module(alloc: Global, module: &Module) -> Result<(), NameFault>
 }
 
 // That no name is declared twice, and that relations speak of what may be given.
-fn check_interface(alloc: Global, decls: &[Decl]) -> Result<(), NameFault>
+fn check_interface(alloc: Global, decls: &[Decl]) -> Result<(), Stop<NameFault>>
     ensures faultless { OnOk result (interface_faults (map decl_of decls.now) ≡ []) }
-    ensures fault { IfErr result (IsFirst (interface_faults (map decl_of decls.now))) }
+    ensures fault { IfFault result (IsFirst (interface_faults (map decl_of decls.now))) }
 {
     let given = given_names(alloc, decls)?;
     check_decls(alloc, &given, decls)
 }
 
 // That no name stands twice behind one `signal`.
-fn check_body(alloc: Global, body: &Stmt) -> Result<(), NameFault>
+fn check_body(alloc: Global, body: &Stmt) -> Result<(), Stop<NameFault>>
     ensures faultless { OnOk result (body_faults (stmt_of body.now) ≡ []) }
-    ensures fault { IfErr result (IsFirst (body_faults (stmt_of body.now))) }
+    ensures fault { IfFault result (IsFirst (body_faults (stmt_of body.now))) }
 {
     let mut lists = Vec::new(alloc);
     push_lists(&mut lists, body)?;
@@ -152,9 +155,9 @@ fn add_names<'a>(set: &mut NameSet<'a>, names: &'a [Name]) -> Result<(), NoMemor
 }
 
 // That no name is declared twice, and each that is related is one of those given.
-fn check_decls(alloc: Global, given: &NameSet, decls: &[Decl]) -> Result<(), NameFault>
+fn check_decls(alloc: Global, given: &NameSet, decls: &[Decl]) -> Result<(), Stop<NameFault>>
     ensures faultless { OnOk result (decl_faults given.now [] (map decl_of decls.now) ≡ []) }
-    ensures fault { IfErr result (IsFirst (decl_faults given.now [] (map decl_of decls.now))) }
+    ensures fault { IfFault result (IsFirst (decl_faults given.now [] (map decl_of decls.now))) }
 {
     let mut seen = NameSet::new(alloc);
     for decl in decls {
@@ -169,24 +172,24 @@ fn check_decls(alloc: Global, given: &NameSet, decls: &[Decl]) -> Result<(), Nam
 }
 
 // Puts names into a set, none of which is in it before.
-fn add_new_names<'a>(set: &mut NameSet<'a>, names: &'a [Name]) -> Result<(), NameFault>
+fn add_new_names<'a>(set: &mut NameSet<'a>, names: &'a [Name]) -> Result<(), Stop<NameFault>>
     ensures names { OnOk result (set.new ≡ set.old ++ texts names.now) }
     ensures differ { OnOk result (again faults.DuplicateSignal set.old names.now ≡ []) }
-    ensures fault { IfErr result (IsFirst (again faults.DuplicateSignal set.old names.now)) }
+    ensures fault { IfFault result (IsFirst (again faults.DuplicateSignal set.old names.now)) }
 {
     for name in names {
         if !set.insert(name.text.bytes())? {
-            return Err(NameFault::DuplicateSignal(name.span));
+            return Err(Stop::Fault(NameFault::DuplicateSignal(name.span)));
         }
     }
     Ok(())
 }
 
 // That each name in relations is one of those given.
-fn check_relations(given: &NameSet, relations: &[Relation]) -> Result<(), NameFault>
+fn check_relations(given: &NameSet, relations: &[Relation]) -> Result<(), Stop<NameFault>>
     ensures faultless { OnOk result
         (not_given given.now (flat_map names_of_relation (map relation_of relations.now)) ≡ []) }
-    ensures fault { IfErr result
+    ensures fault { IfFault result
         (IsFirst (not_given given.now (flat_map names_of_relation (map relation_of relations.now)))) }
 {
     for relation in relations {
@@ -202,9 +205,9 @@ fn check_relations(given: &NameSet, relations: &[Relation]) -> Result<(), NameFa
 }
 
 // That each name is one of those given.
-fn check_all_given(given: &NameSet, names: &[Name]) -> Result<(), NameFault>
+fn check_all_given(given: &NameSet, names: &[Name]) -> Result<(), Stop<NameFault>>
     ensures faultless { OnOk result (not_given given.now names.now ≡ []) }
-    ensures fault { IfErr result (IsFirst (not_given given.now names.now)) }
+    ensures fault { IfFault result (IsFirst (not_given given.now names.now)) }
 {
     for name in names {
         check_given(given, name)?;
@@ -213,20 +216,20 @@ fn check_all_given(given: &NameSet, names: &[Name]) -> Result<(), NameFault>
 }
 
 // That a name is one of those given.
-fn check_given(given: &NameSet, name: &Name) -> Result<(), NameFault>
+fn check_given(given: &NameSet, name: &Name) -> Result<(), Stop<NameFault>>
     ensures faultless { OnOk result (not_given given.now (name.now ∷ []) ≡ []) }
-    ensures fault { IfErr result (IsFirst (not_given given.now (name.now ∷ []))) }
+    ensures fault { IfFault result (IsFirst (not_given given.now (name.now ∷ []))) }
 {
     if !given.contains(name.text.bytes()) {
-        return Err(NameFault::RelationName(name.span));
+        return Err(Stop::Fault(NameFault::RelationName(name.span)));
     }
     Ok(())
 }
 
 // That in no list a name stands twice.
-fn check_lists(alloc: Global, lists: &[&[Name]]) -> Result<(), NameFault>
+fn check_lists(alloc: Global, lists: &[&[Name]]) -> Result<(), Stop<NameFault>>
     ensures faultless { OnOk result (flat_map (again faults.DuplicateSignal []) (map (λ l. l.now) lists.now) ≡ []) }
-    ensures fault { IfErr result
+    ensures fault { IfFault result
         (IsFirst (flat_map (again faults.DuplicateSignal []) (map (λ l. l.now) lists.now))) }
 {
     for names in lists {

@@ -1,13 +1,9 @@
 // Why names are refused.
 
-ghost use Rattle.std.specs.Prelude.{◌≡◌};
-ghost use Rattle.est_names.specs.declared.refusal.NameFault.TheVariants.{NoMemory as lacks_memory};
-
 use est_base::Span;
-use std::alloc::{AllocError, AllocFailed};
 use thiserror::Error;
 
-/// Why `check_modules` gives no table.
+/// Why `check_modules` gives no table, where it does not lack memory.
 #[derive(Clone, Copy, Debug, Error)]
 pub enum NameFault {
     /// The first module name in the text that an earlier module has.
@@ -22,31 +18,4 @@ pub enum NameFault {
     /// A name in a relation that its module declares neither as an input nor as an inputoutput.
     #[error("the name at byte {} is no input of its module", .0.start)]
     RelationName(Span),
-    /// Want of memory.
-    #[error("no memory")]
-    NoMemory,
-}
-
-impl From<AllocError> for NameFault {
-    ghost from_gives = { λ _ error. error ≡ lacks_memory };
-
-    fn from(_error: AllocError) -> NameFault {
-        NameFault::NoMemory
-    }
-}
-
-impl<T: Drop> From<AllocFailed<T>> for NameFault {
-    ghost from_gives = { λ _ error. error ≡ lacks_memory };
-
-    fn from(_error: AllocFailed<T>) -> NameFault {
-        NameFault::NoMemory
-    }
-}
-
-impl From<est_base::NoMemory> for NameFault {
-    ghost from_gives = { λ _ error. error ≡ lacks_memory };
-
-    fn from(_error: est_base::NoMemory) -> NameFault {
-        NameFault::NoMemory
-    }
 }

@@ -5,7 +5,7 @@ use Rattle.est_base.specs.declared.place.Span.{Span}
 use Rattle.est_ast.specs.declared.tokens.Token.{Token}
 use Rattle.est_ast.specs.declared.tokens.Kind.TheVariants as kinds
 use Rattle.est_names.specs.declared.refusal.NameFault.TheVariants as naming
-use Rattle.est_expand.specs.declared.refusal.ExpandFault.TheVariants as expanding
+use Rattle.est_expand.specs.declared.refusal.ScopeFault.TheVariants as scope
 use Rattle.cec_front.specs.declared.refusal.Fault.TheVariants as faults
 use Rattle.cec_front.specs.declared.refusal.Fault.{Fault}
 use Rattle.cec_front.specs.Lines.{fault_text}
@@ -52,8 +52,8 @@ of_names : map (λ fault. line (faults.Name fault)) (naming.DuplicateModule span
 unfolding digits
 of_names = refl
 
-of_runs : map (λ fault. line (faults.Expand fault)) (expanding.UnknownModule span ∷ expanding.BadRename span ∷ expanding.UnknownSignal span
-    ∷ expanding.Unbound span (codes "S") ∷ expanding.UnknownTrap span ∷ expanding.EmitInput span ∷ [])
+of_runs : map (λ fault. line (faults.Scope fault)) (scope.UnknownModule span ∷ scope.BadRename span ∷ scope.UnknownSignal span
+    ∷ scope.Unbound span (codes "S") ∷ scope.UnknownTrap span ∷ scope.EmitInput span ∷ [])
     ≡ codes "cec: 2:1: unknown module\n" ∷ codes "cec: 2:1: bad renaming\n" ∷ codes "cec: 2:1: unknown signal\n" ∷ codes "cec: 2:1: unbound S\n"
     ∷ codes "cec: 2:1: unknown trap\n" ∷ codes "cec: 2:1: input emitted\n" ∷ []
 unfolding digits

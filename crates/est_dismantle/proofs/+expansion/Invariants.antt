@@ -5,7 +5,7 @@ use Rattle.est_ast.specs.declared.flat.FlatForm.TheShapes.{weighed-FlatForm-Awai
 use Rattle.est_dismantle.specs.Boxes.{boxed_term}
 use Rattle.est_dismantle.specs.Choices.{choice_of}
 use Rattle.est_dismantle.specs.FlatNodes.{stmts_kernels, choices, stmts_new, cases_new}
-use Rattle.est_dismantle.specs.MarkLists.{marks_of}
+use Rattle.est_dismantle.specs.TrapLists.{traps_of}
 use Rattle.est_dismantle.proofs.+expansion.Given as goal
 
 -- A part is less deep than what holds it, and of the functions at one depth those that call come after those that are called.
@@ -79,13 +79,13 @@ decreases-forms::expand_trap l = 8 * max (the_size l.body.now.value) (weighed-Fl
 
 abbrev pub invariant-expansion::expand_parts-loop-part : goal.invariant-expansion::expand_parts-loop-part
 invariant-expansion::expand_parts-loop-part l = record {
-  terms : map boxed_term l.kernels.items ++ stmts_kernels (marks_of l.marks) l.next (drop l.part-index l.parts) ≡
-      stmts_kernels (marks_of l.marks) l.initial.next l.parts;
+  terms : map boxed_term l.kernels.items ++ stmts_kernels (traps_of l.traps) l.next (drop l.part-index l.parts) ≡
+      stmts_kernels (traps_of l.traps) l.initial.next l.parts;
   next : l.next + stmts_new (drop l.part-index l.parts) ≡ l.initial.next + stmts_new l.parts;
 }
 
 abbrev pub invariant-expansion::expand_cases-loop-case : goal.invariant-expansion::expand_cases-loop-case
 invariant-expansion::expand_cases-loop-case l = record {
-  choices : map choice_of l.found.items ++ choices (marks_of l.marks) l.next (drop l.case-index l.cases) ≡ choices (marks_of l.marks) l.initial.next l.cases;
+  choices : map choice_of l.found.items ++ choices (traps_of l.traps) l.next (drop l.case-index l.cases) ≡ choices (traps_of l.traps) l.initial.next l.cases;
   next : l.next + cases_new (drop l.case-index l.cases) ≡ l.initial.next + cases_new l.cases;
 }

@@ -1,4 +1,5 @@
-use Rattle.std.proofs.Common.{◌≡◌, ◌∷◌, [], ◌++◌, map, drop, take, length, ◌-◌, ℕ, List, Bor, false, suc, sym, ap, ◌∙◌, Ok, Err, arith, drop-cons, add-one}
+use Rattle.std.proofs.Common.{◌≡◌, ◌∷◌, [], ◌++◌, map, drop, take, length, ◌-◌, ℕ, List}
+use Rattle.std.proofs.Common.{Bor, false, suc, sym, ap, ◌∙◌, Ok, Err, arith, rules, drop-cons, add-one}
 use Rattle.std.proofs.lemmas.Result.{err_from_is_err_and}
 use Rattle.std.proofs.lemmas.List.{map-append, drop_all, length-map}
 use Rattle.est_ast.specs.FlatTrees as flat
@@ -12,10 +13,34 @@ use Rattle.est_expand.specs.Scopes.{binding}
 use Rattle.est_expand.specs.Flattening.{each, each_case, part, row, flattening}
 use Rattle.est_expand.specs.Views.{around_of, program_in, inside_of, site_walk, met_of, one_case}
 use Rattle.est_expand.proofs.FoundLists.{fault_stays, value_passes}
-use Rattle.est_expand.proofs.WalkSteps.{answers_along, stmts_behind, each-step, before_stmts-all, cases_behind, each_case-step, before_cases-all, drop-binding}
+use Rattle.est_expand.proofs.WalkSteps.{answers_along, stmts_behind, each-step, before_stmts-all}
+use Rattle.est_expand.proofs.WalkSteps.{cases_behind, each_case-step, before_cases-all, drop-binding}
 use Rattle.est_expand.proofs.WalkSteps.{chain_with-Ok, take-push, ran-inside, flattening-in, flattening-deep, flattening-uncounted}
 use Rattle.est_expand.proofs.RowForms.{row-Seq, row-Par, row-AwaitCase, row-PresentCase, row-AbortCase}
 use Rattle.est_expand.proofs.+walk.Goals as goal
+
+-- ---- a second call: the first one has kept the traps
+
+pub forms::flat_present-part-requires-2 : goal.forms::flat_present-part-requires-2
+forms::flat_present-part-requires-2 t c = let kept = ap (λ a. length a.traps) c.in_ok-p.ensures.kept in search rules
+
+pub forms::flat_present_case-part-requires : goal.forms::flat_present_case-part-requires
+forms::flat_present_case-part-requires t c = let kept = ap (λ a. length a.traps) c.in_ok-cases.ensures.kept in search rules
+
+pub forms::flat_abort-part-requires : goal.forms::flat_abort-part-requires
+forms::flat_abort-part-requires t c = let kept = ap (λ a. length a.traps) c.in_ok-p.ensures.kept in search rules
+
+pub forms::flat_abort_case-each_case-requires : goal.forms::flat_abort_case-each_case-requires
+forms::flat_abort_case-each_case-requires t c = let kept = ap (λ a. length a.traps) c.in_ok-p.ensures.kept in search rules
+
+pub binders::flat_trap-handler-requires : goal.binders::flat_trap-handler-requires
+binders::flat_trap-handler-requires t c = let kept = ap (λ a. length a.traps) c.in_ok-p.ensures.kept in search rules
+
+pub walk::each-walk-requires : goal.walk::each-walk-requires
+walk::each-walk-requires t c = let kept = ap (λ a. length a.traps) c.loop-p.invariant.kept in search rules
+
+pub walk::each_case-flat_case-requires : goal.walk::each_case-flat_case-requires
+walk::each_case-flat_case-requires t c = let kept = ap (λ a. length a.traps) c.loop-case.invariant.kept in search rules
 
 -- ---- lists
 
@@ -144,7 +169,8 @@ walk::row-returns-in-AbortCase-clause-walks t c =
     let met = met_of c.args.met.now in
     answers_along (λ value. (flat_stmt_of value, met_of c.flat_abort_case.new.met)) c.flat_abort_case.result _ _
     (ap (λ w. w met) (row-AbortCase site.source around site.span c.args.form.now c.in-AbortCase.p c.in-AbortCase.cases c.in-AbortCase.is)
-    ∙ ap (λ l. site_walk site around (trees.AbortCase (stmt_of c.in-AbortCase.p.value) (cases (map case_of l))) met) (sym c.deref-in-AbortCase-2.ensures.value)
+    ∙ ap (λ l. site_walk site around (trees.AbortCase (stmt_of c.in-AbortCase.p.value) (cases (map case_of l))) met) (sym
+    c.deref-in-AbortCase-2.ensures.value)
     ∙ ap (λ s. site_walk site around (trees.AbortCase (stmt_of s) (cases (map case_of c.deref-in-AbortCase-2.result.now))) met)
     (sym c.deref-in-AbortCase.ensures))
     c.flat_abort_case.ensures.walks
@@ -187,7 +213,12 @@ binders::flat_signal-returns-clause-kept t c =
     let names = map (λ (n : Bor (List ℕ)). n.now) c.deref-2.result.now in
     let scope = c.args.around.now.scope in
     let kept = c.in_ok-p.ensures.kept in
-    let count : c.len.result ≡ length names = omega (arith, c.len.ensures, c.deref-2.ensures.len, length-map c.deref-2.result.now (λ (n : Bor (List ℕ)). n.now))
+    let count : c.len.result ≡ length names = omega (
+      arith,
+      c.len.ensures,
+      c.deref-2.ensures.len,
+      length-map c.deref-2.result.now (λ (n : Bor (List ℕ)). n.now),
+    )
     in
     let back : c.unbind_all.new.self ≡ scope =
     c.unbind_all.ensures ∙ ap (drop c.len.result) (ap (λ a. a.scope) kept ∙ c.in_ok-bind_all.ensures)
@@ -202,7 +233,8 @@ binders::run-returns-in_err-p-clause-walks t c =
     let source = c.args.source.now in
     let met = met_of c.args.met.now in
     let m = c.in_ok-module.module.now in
-    rw (p.1, p.2) (λ fault is. ran-inside (program_in source) source.inputs (inside_of source) (around_of c.args.around.now) c.args.name.now c.args.renames.now
+    rw (p.1, p.2) (λ fault is. ran-inside (program_in source) source.inputs (inside_of source) (around_of c.args.around.now) c.args.name.now
+    c.args.renames.now
     (module_of m) c.enter.new.chain c.in_ok-scope.scope met c.in_ok-module.ensures c.in_ok-enter.ensures c.in_ok-scope.ensures
     ∙ (λ i. inside_of source (record { scope = c.in_ok-scope.scope; traps = sym c.new-traps.ensures i; chain = sym c.swap.ensures.y_after i })
     (stmt_of m.body) met)

@@ -6,7 +6,7 @@ use Rattle.est_ast.specs.Trees.{Module}
 use Rattle.est_ast.specs.Views.{module_of}
 use Rattle.est_names.specs.NameFaults.{module_names, interface_faults}
 use Rattle.est_names.proofs.Exports.{faultless-interface, main_place-within}
-use Rattle.est_expand.specs.FlatPrograms.{IsNamedModule}
+use Rattle.est_expand.specs.NamedModules.{IsNamedModule}
 use Rattle.est_expand.proofs.FlatLaws.{answer-fits, answer-named}
 use Rattle.est_expand.proofs.expansion.expand.Goals as goal
 

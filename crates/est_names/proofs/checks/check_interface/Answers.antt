@@ -1,5 +1,6 @@
 use Rattle.std.proofs.Common.{◌≡◌, [], map, subst}
-use Rattle.std.specs.Prelude.{flat_map, OnOk, IfErr}
+use Rattle.std.specs.Prelude.{flat_map, OnOk}
+use Rattle.est_base.specs.Stops.{IfFault}
 use Rattle.est_ast.specs.Views.{decl_of}
 use Rattle.est_names.specs.Names.{texts}
 use Rattle.est_names.specs.NameFaults.{given_in, IsFirst}
@@ -15,5 +16,5 @@ returns-clause-faultless c =
 pub returns-clause-fault : goal.returns-clause-fault
 returns-clause-fault c =
     let decls = map decl_of c.args.decls.now in
-    subst (λ faults. IfErr c.check_decls.result (IsFirst faults))
+    subst (λ faults. IfFault c.check_decls.result (IsFirst faults))
     (decl_faults-same c.in_ok-given.given (texts (flat_map given_in decls)) [] decls c.in_ok-given.ensures) c.check_decls.ensures.fault

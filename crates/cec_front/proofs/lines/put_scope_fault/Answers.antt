@@ -1,4 +1,4 @@
-use Rattle.cec_front.proofs.lines.put_expand_fault.Goals as goal
+use Rattle.cec_front.proofs.lines.put_scope_fault.Goals as goal
 
 pub returns-in-UnknownModule : goal.returns-in-UnknownModule
 returns-in-UnknownModule g c = rw c.in-UnknownModule.is c.put_placed.ensures

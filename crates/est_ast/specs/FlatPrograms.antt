@@ -5,8 +5,6 @@ use Rattle.est_base.specs.Distinct.{all_differ}
 use Rattle.est_base.specs.Names.{is_name, is_same_name}
 use Rattle.est_base.specs.Relations.{Relation, Implies, Excludes}
 use Rattle.est_ast.specs.FlatTrees.{Flat}
-use Rattle.est_ast.specs.Trees.{Module}
-use Rattle.est_expand.specs.Scopes.{main_interface, main_signals}
 use Rattle.est_ast.specs.FlatFits.{Scope, Fits}
 use Rattle.est_ast.specs.NewSignals.{new_in}
 
@@ -36,8 +34,3 @@ pub record IsFlat (flat : Flat) : Type 0 where
 pub record IsNamed (flat : Flat) : Type 0 where
   pub name : IsTrue (is_name flat.name)
   pub names : All (λ n. IsTrue (is_name n)) (take (seen_count flat) flat.signals)
-
--- the names of a main module and of its interface can
-pub record IsNamedModule (main : Module) : Type 0 where
-  pub name : IsTrue (is_name main.name.text)
-  pub names : All (λ n. IsTrue (is_name n)) (main_signals (main_interface main))

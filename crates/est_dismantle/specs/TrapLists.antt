@@ -1,0 +1,13 @@
+-- Inner: the traps around a statement as a list.
+use Rattle.std.specs.Prelude.{Bool, true, false, List, [], ◌∷◌}
+use Rattle.est_dismantle.specs.declared.traps.Traps.{Traps as CodeTraps, fold-Traps}
+use Rattle.est_dismantle.specs.declared.traps.Traps.TheOpen.{Traps-F}
+use Rattle.est_dismantle.specs.Kernels.{Traps}
+
+abbrev pub traps_step : Traps-F (List Bool) → List Bool
+traps_step Traps-F.Whole = []
+traps_step (Traps-F.Source around) = true ∷ around.now
+traps_step (Traps-F.New around) = false ∷ around.now
+
+abbrev pub traps_of : CodeTraps → Traps
+traps_of = fold-Traps (List Bool) traps_step
