@@ -8,7 +8,7 @@ use Rattle.std.proofs.lemmas.Bool.{cases_eq, cases_lt, ne_eqb, eq-eqb, cases_Boo
 use Rattle.std.proofs.lemmas.List.{length-set, length_push, get_or_append_left, get_or_push, get_or_default, nil_from_length}
 use Rattle.std.proofs.lemmas.List.Sums.{sum_by-set, sum_by-swap_remove, sum_by-le, get_or-le-sum_by}
 use Rattle.std.proofs.lemmas.List.Elements.{All-push, All-tail}
-use Rattle.std.proofs.lemmas.List.Sorted.{IsPermutation-swap_remove, All-permutation, length_permutation}
+use Rattle.std.proofs.lemmas.List.Sorted.{IsPermutation-swap_remove, All-permutation, length_permutation, sum_by-IsPermutation}
 use Rattle.facts.proofs.Lists.{count_by-no, count_by-yes}
 use Rattle.facts.proofs.Tests.{and-true}
 use Rattle.est_base.specs.declared.indices.WireId.{WireId}
@@ -109,6 +109,19 @@ module _ (count : ℕ) (pairs : List WireEdge) (e : WireEdge) (further : List Wi
           total = let one : bit (not (left == 0)) ≡ 0 = rw tests refl in omega (arith, counts_after, schedule.total, length_push ready e.1);
           along = schedule.along;
         }
+
+-- The ready wires may stand in any order.
+pub IsSchedule-mixed : (count : ℕ) (pairs further : List WireEdge) (waiting : List ℕ) (ready mixed placed : List WireId)
+    → IsSchedule count pairs further waiting ready placed → IsPermutation ready mixed → IsSchedule count pairs further waiting mixed placed
+IsSchedule-mixed count pairs further waiting ready mixed placed schedule moved = record {
+  each_wire = schedule.each_wire;
+  ready_in = All-permutation (λ (v : WireId). v.0 < count) ready mixed moved schedule.ready_in;
+  placed_in = schedule.placed_in;
+  waits = schedule.waits;
+  once = λ w h. let same = sum_by-IsPermutation (λ (v : WireId). bit (v.0 == w)) ready mixed moved in omega (arith, schedule.once w h, same);
+  total = omega (arith, schedule.total, length_permutation ready mixed moved);
+  along = schedule.along;
+}
 
 -- A ready wire is placed. The edges from it are then still to be taken off.
 module _ (count : ℕ) (pairs : List WireEdge) (waiting : List ℕ) (ready placed : List WireId) (schedule : IsSchedule count pairs [] waiting ready placed)

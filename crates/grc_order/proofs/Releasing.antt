@@ -1,11 +1,12 @@
 -- The edges from a placed wire are taken off one by one.
 use Rattle.std.proofs.Common.{◌≡◌, ℕ, ◌+◌, ◌<◌, List, [], ◌∷◌, ◌++◌, length, slice_index, drop, set, subst, ◌==◌}
+use Rattle.std.specs.List.Sorted.{IsPermutation}
 use Rattle.std.proofs.lemmas.List.{drop_more}
 use Rattle.std.proofs.lemmas.List.Elements.{All-filter}
 use Rattle.est_base.specs.declared.indices.WireId.{WireId}
 use Rattle.grc_graph.specs.WireOrders.{WireEdge, edge_at, AreEdges}
 use Rattle.grc_order.specs.Schedules.{edges_from, IsSchedule}
-use Rattle.grc_order.proofs.Placing.{waits-some, IsSchedule-waits, IsSchedule-ready}
+use Rattle.grc_order.proofs.Placing.{waits-some, IsSchedule-waits, IsSchedule-ready, IsSchedule-mixed}
 
 -- the edge at k of those from a wire
 module _ (count : ℕ) (pairs : List WireEdge) (v k : ℕ) (waiting : List ℕ) (ready placed : List WireId) (edges : AreEdges count pairs)
@@ -26,7 +27,8 @@ module _ (count : ℕ) (pairs : List WireEdge) (v k : ℕ) (waiting : List ℕ) 
       → IsSchedule count pairs (drop (k + 1) (edges_from v pairs)) (set waiting (edge_at (edges_from v pairs) k).1.0 left) ready placed
   release-waits left less some = IsSchedule-waits count pairs _ _ waiting ready placed here target_low left less some
 
-  pub release-ready : (left : ℕ) → left + 1 ≡ slice_index waiting (edge_at (edges_from v pairs) k).1.0 → left ≡ 0
-      → IsSchedule count pairs (drop (k + 1) (edges_from v pairs)) (set waiting (edge_at (edges_from v pairs) k).1.0 left)
-      (ready ++ (edge_at (edges_from v pairs) k).1 ∷ []) placed
-  release-ready left less none = IsSchedule-ready count pairs _ _ waiting ready placed here target_low left less none
+  pub release-ready : (left : ℕ) → left + 1 ≡ slice_index waiting (edge_at (edges_from v pairs) k).1.0 → left ≡ 0 → (mixed : List WireId)
+      → IsPermutation (ready ++ (edge_at (edges_from v pairs) k).1 ∷ []) mixed
+      → IsSchedule count pairs (drop (k + 1) (edges_from v pairs)) (set waiting (edge_at (edges_from v pairs) k).1.0 left) mixed placed
+  release-ready left less none mixed moved =
+      IsSchedule-mixed count pairs _ _ _ mixed placed (IsSchedule-ready count pairs _ _ waiting ready placed here target_low left less none) moved

@@ -1,6 +1,7 @@
 // Wires placed one by one, each when all wires that have an edge to it are placed.
 
-ghost use Rattle.std.specs.Prelude.{◌≡◌, ℕ, ◌+◌, ◌<◌, [], length, slice_index, IfOk, OnOk};
+ghost use Rattle.std.specs.Prelude.{◌≡◌, ℕ, ◌+◌, ◌<◌, [], ◌∷◌, ◌++◌, length, slice_index, IfOk, OnOk};
+ghost use Rattle.std.specs.List.Sorted.{IsPermutation};
 ghost use Rattle.grc_order.specs.Runs.{AreBegins};
 ghost use Rattle.grc_order.specs.Schedules.{IsScheduleOf, IsReadyOf, arrivals, edges_from};
 
@@ -67,11 +68,22 @@ impl Schedule {
             let left = self.waiting[to.0 as usize] - 1;
             self.waiting[to.0 as usize] = left;
             if left == 0 {
-                self.ready.push(to)?;
+                put_in_front(&mut self.ready, to)?;
             }
         }
         Ok(())
     }
+}
+
+// Puts a wire in front of ready ones; the one that stood there goes to the end. So the first ready wire is always the
+// one that became ready last, and what belongs together stands together in the order that `First` makes.
+fn put_in_front(ready: &mut Vec<WireId>, wire: WireId) -> Result<(), AllocError>
+    ensures { OnOk result (IsPermutation (ready.old.items ++ wire ∷ []) ready.new.items) }
+{
+    let end = ready.len();
+    ready.push(wire)?;
+    ready.swap(0, end);
+    Ok(())
 }
 
 // How many edges lead to each wire.

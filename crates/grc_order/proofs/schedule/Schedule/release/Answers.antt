@@ -4,7 +4,7 @@ use Rattle.grc_graph.specs.WireOrders.{edge_at}
 use Rattle.grc_order.specs.Schedules.{edges_from}
 use Rattle.grc_order.proofs.Releasing.{target_low, release-some, release-waits, release-ready}
 use Rattle.grc_order.proofs.schedule.Schedule.release.Goals as goal
-use Rattle.grc_order.proofs.schedule.Schedule.release.Goals.{then-left-eq0+in_ok-push, else-left-eq0}
+use Rattle.grc_order.proofs.schedule.Schedule.release.Goals.{then-left-eq0+in_ok-put_in_front, else-left-eq0}
 
 pub index-requires : goal.index-requires
 index-requires c =
@@ -43,8 +43,10 @@ loop-edge-preserved c =
     let some = release-some _ _ _ _ _ _ _ edges inv.schedule low in
     let less : c.index.result.now - 1 + 1 ≡ slice_index c.loop-edge.self.waiting.items e.1.0 = omega arith in
     elim c.if-left-eq0.branch [
-      | then-left-eq0+in_ok-push w ↦ rw (w.self-is, w.in_ok-push.ensures.items, run)
-          (record { schedule = release-ready _ _ _ _ _ _ _ edges inv.schedule low _ less w.if-left-eq0.true; placed = inv.placed })
+      | then-left-eq0+in_ok-put_in_front w ↦ rw (w.self-is, run) (record {
+        schedule = release-ready _ _ _ _ _ _ _ edges inv.schedule low _ less w.if-left-eq0.true _ (rw run at w.in_ok-put_in_front.ensures);
+        placed = inv.placed;
+      })
       | else-left-eq0 w ↦ rw (w.self-is, run) (record {
         schedule = release-waits _ _ _ _ _ _ _ edges inv.schedule low _ less w.if-left-eq0.false;
         placed = inv.placed;
