@@ -3,3 +3,4 @@ mod WorkedTexts
 mod WorkedPrograms
 mod DrawnPrograms
 mod MoreDrawnPrograms
+mod WorkedMeanings

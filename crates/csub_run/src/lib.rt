@@ -16,4 +16,4 @@ pub use interface::globals_interface;
 pub use language::{CTexts, TextFault};
 pub use plan::{input_slots, output_slots, push_assign, push_assigns, variable_values};
 pub use runner::{CRunner, put_front, put_values};
-pub use trace_runner::{CMachine, word_of};
+pub use trace_runner::CMachine;

@@ -100,6 +100,7 @@ pub fn push_assigns(
     requires declared { All (λ a. slot_in (map (λ k. k.now) slots.now.keys) a.to < plan.old.named) body.now }
     requires none { Makes plan.old [] }
     ensures named { OnOk result (plan.new.named ≡ plan.old.named) }
+    ensures tables { OnOk result (plan.new.tables ≡ plan.old.tables) }
     ensures makes { OnOk result
         (Makes plan.new (map (assign_step (map (λ k. k.now) slots.now.keys)) (map assign_of body.now))) }
 {
@@ -116,7 +117,8 @@ pub fn push_assign(
     assign: &Assign,
 ) -> Result<(), NoMemory>
     requires { slot_in (map (λ k. k.now) slots.now.keys) assign.now.to < plan.old.named }
-    ensures { OnOk result
+    ensures tables { OnOk result (plan.new.tables ≡ plan.old.tables) }
+    ensures adds { OnOk result
         (Adds (assign_step (map (λ k. k.now) slots.now.keys) (assign_of assign.now)) plan.old plan.new) }
 {
     push_expr(plan, slots, assign.to.bytes(), &assign.value)

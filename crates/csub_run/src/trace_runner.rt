@@ -7,7 +7,6 @@ ghost use Rattle.csub_text.specs.Names.{outputs_of};
 ghost use Rattle.csub_text.specs.Views.{program_of};
 ghost use Rattle.csub_run.specs.ProgramAnswers.{bare_inputs, bare_outputs};
 ghost use Rattle.csub_run.specs.Runners.{KeepsNames, IsFresh, program_in};
-ghost use Rattle.trace_run.specs.Languages.{word_of};
 
 use crate::interface::globals_interface;
 use crate::runner::CRunner;
@@ -16,7 +15,7 @@ use est_base::NoMemory;
 use std::alloc::Global;
 use std::marker::Model;
 use trace_io::Word;
-use trace_run::{Interface, Runner};
+use trace_run::{Interface, Runner, word_of};
 
 /// The machine of a program, as one that items drive: an event is one call, whose returned value gives the word. A
 /// contract sees it as the program and the values of its variables.
@@ -103,11 +102,4 @@ impl Runner for CMachine {
     ghost ends = { λ r. shows_nothing r };
 
     ghost stays = { λ r. tt };
-}
-
-/// The word for a value that is returned.
-pub fn word_of(paused: bool) -> Word
-    ensures { result ≡ word_of paused }
-{
-    if paused { Word::Paused } else { Word::Ended }
 }

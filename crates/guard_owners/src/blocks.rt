@@ -1,19 +1,20 @@
 // The text of a net in which the gates of a head stand in blocks.
 
-ghost use Rattle.std.specs.Prelude.{◌≡◌, ◌≢◌, ℕ, false, ◌+◌, ◌^◌, ◌<◌, ◌≤◌, Some, ◌++◌, length, map, drop, take};
+ghost use Rattle.std.specs.Prelude.{◌≡◌, ◌≢◌, ℕ, false, ◌+◌, ◌^◌, ◌<◌, ◌≤◌, Some, ◌++◌, length, map};
 ghost use Rattle.std.specs.Prelude.{filter};
 ghost use Rattle.std.specs.Prelude.{flat_map, slice_index_or, IfOk, OnOk, All};
 ghost use Rattle.std.specs.List.{list_any};
 ghost use Rattle.net_ir.specs.Runs.{netlist_of};
 ghost use Rattle.net_ir.specs.declared.netlist.Gate.{Gate as stored_gate};
-ghost use Rattle.net_text.specs.Parts.{joined};
+ghost use Rattle.net_text.specs.Parts.{PutsPlace};
 ghost use Rattle.csub_text.specs.Parts.{net_parts};
 ghost use Rattle.csub_text.specs.Trees.{Const};
 ghost use Rattle.csub_text.specs.Written.{assign_line, gate_assign, gate_name};
-ghost use Rattle.guard_owners.specs.Blocks.{guarded_text, groups, groups_text, HasHead, Run, piece_text, group_piece};
+ghost use Rattle.guard_owners.specs.Blocks.{HasHead, Run, piece_text, group_piece};
 ghost use Rattle.guard_owners.specs.Blocks.{head_of, is_outer, members_between, member_assign, zero_assign};
 ghost use Rattle.guard_owners.specs.Blocks.{if_line, head_name, second_text, parts_before};
 ghost use Rattle.guard_owners.specs.declared.owning.Owner.TheVariants as codes;
+ghost use Rattle.guard_owners.specs.Pieces.{PutsPlain, groups_from, text_from};
 ghost use Rattle.guard_owners.specs.Usages.{owner_in};
 
 use crate::owning::Owner;
@@ -24,19 +25,67 @@ use net_ir::{Gate, Net};
 use net_text::{NetText, put};
 use std::alloc::Global;
 
-/// The text of a net whose gates belong so: that of the C subset, in which the gates of a head that stand one behind
-/// another are a block. Want of memory is its only error.
-pub fn write_blocks(alloc: Global, net: &Net, owners: &[Owner]) -> Result<Vec<u8>, NoMemory>
+// Puts what stands at a place behind a text: a part of the text of the C subset, or in place of those of gates one that
+// belongs to no head, or the block of those that do from there on. The answer is the place behind; none at the end.
+pub fn put_place(
+    text: &mut Vec<u8>,
+    net: &Net,
+    owners: &[Owner],
+    place: u128,
+) -> Result<Option<u128>, NoMemory>
     requires count { length owners.now ≡ length net.now.gates.items }
     requires heads { All (λ o. HasHead (length net.now.gates.items) (owner_in o)) owners.now }
-    ensures { IfOk result (λ t. t.items ≡ guarded_text (netlist_of net.now) (map owner_in owners.now)) }
+    ensures { IfOk result (PutsPlace (text_from (netlist_of net.now) (map owner_in owners.now)) place
+        text.old.items text.new.items) }
 {
     let begin = gates_begin(net);
-    let mut text = Vec::new(alloc);
-    put_parts_before(&mut text, net, begin)?;
-    put_gates(&mut text, net, owners)?;
-    put_parts_from(&mut text, net, begin + net.gates.len() as u128)?;
-    Ok(text)
+    let end = begin + net.gates.len() as u128;
+    if place < begin {
+        return put_plain(text, net, place);
+    }
+    if end <= place {
+        return put_plain(text, net, place);
+    }
+    let next = put_group(text, net, owners, (place - begin) as usize)?;
+    Ok(Some(begin + next as u128))
+}
+
+// Puts a part of the text of the C subset behind a text. The answer is the number of the next one; none at the end.
+fn put_plain(text: &mut Vec<u8>, net: &Net, place: u128) -> Result<Option<u128>, NoMemory>
+    requires { length (net_parts (netlist_of net.now)) < 2 ^ 128 }
+    ensures { IfOk result (PutsPlain (net_parts (netlist_of net.now)) place text.old.items text.new.items) }
+{
+    let writer = CWriter {};
+    if writer.put_part(text, net, place)? {
+        Ok(Some(place + 1))
+    } else {
+        Ok(None)
+    }
+}
+
+// Puts a gate that belongs to no head behind a text, or the block of those that do from this place on. The answer is
+// the place behind.
+fn put_group(text: &mut Vec<u8>, net: &Net, owners: &[Owner], k: usize) -> Result<usize, NoMemory>
+    requires count { length owners.now ≡ length net.now.gates.items }
+    requires heads { All (λ o. HasHead (length net.now.gates.items) (owner_in o)) owners.now }
+    requires here { k < length owners.now }
+    ensures more { IfOk result (λ next. k < next) }
+    ensures within { IfOk result (λ next. next ≤ length owners.now) }
+    ensures text { IfOk result (λ next. text.new.items
+        ++ groups_from (netlist_of net.now) (map owner_in owners.now) next
+        ≡ text.old.items ++ groups_from (netlist_of net.now) (map owner_in owners.now) k) }
+{
+    match head_of(owners[k]) {
+        None => {
+            put_gate(text, net, k)?;
+            Ok(k + 1)
+        }
+        Some(head) => {
+            let end = run_end(owners, k, head);
+            put_block(text, net, owners, head, k, end)?;
+            Ok(end)
+        }
+    }
 }
 
 // The number of the first gate among the parts of the text of the C subset.
@@ -47,57 +96,6 @@ fn gates_begin(net: &Net) -> u128
     let latches = net.latches.len() as u128;
     let inputs = net.inputs.len() as u128;
     2 * latches + 3 * inputs + net.outputs.len() as u128 + net.gates.len() as u128 + 2
-}
-
-// The parts of the text of the C subset before the one with this number.
-fn put_parts_before(text: &mut Vec<u8>, net: &Net, end: u128) -> Result<(), NoMemory>
-    requires { end ≤ length (net_parts (netlist_of net.now)) }
-    ensures { OnOk result (text.new.items ≡ text.old.items ++ joined (take end (net_parts (netlist_of net.now)))) }
-{
-    let writer = CWriter {};
-    let mut k = 0;
-    while k < end {
-        writer.put_part(text, net, k)?;
-        k += 1;
-    }
-    Ok(())
-}
-
-// Those from this number on.
-fn put_parts_from(text: &mut Vec<u8>, net: &Net, begin: u128) -> Result<(), NoMemory>
-    requires { length (net_parts (netlist_of net.now)) < 2 ^ 128 }
-    ensures { OnOk result (text.new.items ≡ text.old.items ++ joined (drop begin (net_parts (netlist_of net.now)))) }
-{
-    let writer = CWriter {};
-    let mut k = begin;
-    while writer.put_part(text, net, k)? {
-        k += 1;
-    }
-    Ok(())
-}
-
-// The gates, those of heads in blocks.
-fn put_gates(text: &mut Vec<u8>, net: &Net, owners: &[Owner]) -> Result<(), NoMemory>
-    requires count { length owners.now ≡ length net.now.gates.items }
-    requires heads { All (λ o. HasHead (length net.now.gates.items) (owner_in o)) owners.now }
-    ensures { OnOk result (text.new.items ≡ text.old.items
-        ++ groups_text (netlist_of net.now) (groups 0 net.now.gates.items (map owner_in owners.now))) }
-{
-    let mut k = 0;
-    while k < owners.len() {
-        match head_of(owners[k]) {
-            None => {
-                put_gate(text, net, k)?;
-                k += 1;
-            }
-            Some(head) => {
-                let end = run_end(owners, k, head);
-                put_block(text, net, owners, head, k, end)?;
-                k = end;
-            }
-        }
-    }
-    Ok(())
 }
 
 // The place of the head of a gate that belongs so.

@@ -3,6 +3,7 @@
 
 mod blocks;
 mod owning;
+mod pieces;
 
-pub use blocks::write_blocks;
 pub use owning::{Owner, owners};
+pub use pieces::{BlockPieces, Blocks, block_pieces, write_blocks};

@@ -7,4 +7,5 @@ mod PutPlaces
 mod TokenWords
 mod UseLaws
 mod Misplacing
+mod worked
 pub mod Exports

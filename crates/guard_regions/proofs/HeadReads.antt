@@ -9,10 +9,6 @@ use Rattle.grc_sem.specs.Heads.{head_in}
 use Rattle.guard_regions.specs.HeadLists.{heads_of}
 
 pub length-heads : (h : ℕ) (t : Term) (n : ℕ) → length (heads_of h t n) ≡ statement_count t
-length-heads h Nothing n = refl
-length-heads h Pause n = refl
-length-heads h (Emit s) n = refl
-length-heads h (Exit k) n = refl
 length-heads h (Present e p q) n =
     let m = n + 1 + statement_count p in
     omega (arith, length-append (heads_of h p (n + 1)) (heads_of h q m), length-heads h p (n + 1), length-heads h q m)
@@ -27,6 +23,7 @@ length-heads h (Par p q) n =
 length-heads h (Trap p) n = omega (arith, length-heads h p (n + 1))
 length-heads h (Local s p) n = omega (arith, length-heads h p (n + 1))
 length-heads h (Awake e p) n = omega (arith, length-map (heads_of h p (n + 1)) (λ m. h), length-heads h p (n + 1))
+length-heads h _ n = refl
 
 -- ---- the head of a statement, by its place in the list
 

@@ -18,17 +18,7 @@ use Rattle.guard_regions.specs.HeadLists.{head_number}
 
 encloses_itself : (t : Term) (n m : ℕ) → Contains (enclosing t n m) n
 encloses_itself Nothing n m = (0, omega arith, refl)
-encloses_itself Pause n m = (0, omega arith, refl)
-encloses_itself (Emit s) n m = (0, omega arith, refl)
-encloses_itself (Exit k) n m = (0, omega arith, refl)
-encloses_itself (Present e p q) n m = (0, omega arith, refl)
-encloses_itself (Suspend e p) n m = (0, omega arith, refl)
-encloses_itself (Seq p q) n m = (0, omega arith, refl)
-encloses_itself (Loop at p) n m = (0, omega arith, refl)
-encloses_itself (Par p q) n m = (0, omega arith, refl)
-encloses_itself (Trap p) n m = (0, omega arith, refl)
-encloses_itself (Local s p) n m = (0, omega arith, refl)
-encloses_itself (Awake e p) n m = (0, omega arith, refl)
+encloses_itself _ n m = (0, omega arith, refl)
 
 -- x is the head of the whole, or one of these
 abbrev HeadOr : ℕ → List ℕ → ℕ → Type 0
@@ -55,10 +45,6 @@ branch_around : (t : Term) (h n m x : ℕ) → HeadOr n (enclosing t n m) x → 
 branch_around t h n m x k = ⊎_elim (λ e. inr (subst (Contains (enclosing t n m)) (sym e) (encloses_itself t n m))) (λ i. inr i) k
 
 head_around : (h : ℕ) (t : Term) (n m : ℕ) → n ≤ m → m < n + statement_count t → HeadOr h (enclosing t n m) (head_in h t n m)
-head_around h Nothing n m l u = inl refl
-head_around h Pause n m l u = inl refl
-head_around h (Emit s) n m l u = inl refl
-head_around h (Exit k) n m l u = inl refl
 head_around h (Present e p q) n m l u =
     two_around h n (n + 1 + statement_count p) m _ _ (enclosing p (n + 1) m) (enclosing q (n + 1 + statement_count p) m) l
     (λ a b. head_around h p (n + 1) m a b) (λ a. head_around h q (n + 1 + statement_count p) m a (omega (arith, u)))
@@ -73,7 +59,7 @@ head_around h (Par p q) n m l u =
     (λ a b. branch_around p h (n + 1) m _ (head_around (n + 1) p (n + 1) m a b)) (λ a. branch_around q h c m _ (head_around c q c m a (omega (arith, u))))
 head_around h (Trap p) n m l u = one_around h n m _ (enclosing p (n + 1) m) l (λ a. head_around h p (n + 1) m a (omega (arith, u)))
 head_around h (Local s p) n m l u = one_around h n m _ (enclosing p (n + 1) m) l (λ a. head_around h p (n + 1) m a (omega (arith, u)))
-head_around h (Awake e p) n m l u = inl refl
+head_around h _ n m l u = inl refl
 
 -- ---- a start is live where it began
 
@@ -82,14 +68,7 @@ own_instances a Nothing n x k = k
 own_instances a Pause n x k = k
 own_instances a (Emit s) n x k = k
 own_instances a (Exit c) n x k = k
-own_instances a (Present e p q) n x k = Contains-append_left (instances_at a n) _ x k
-own_instances a (Suspend e p) n x k = Contains-append_left (instances_at a n) _ x k
-own_instances a (Seq p q) n x k = Contains-append_left (instances_at a n) _ x k
-own_instances a (Loop at p) n x k = Contains-append_left (instances_at a n) _ x k
-own_instances a (Par p q) n x k = Contains-append_left (instances_at a n) _ x k
-own_instances a (Trap p) n x k = Contains-append_left (instances_at a n) _ x k
-own_instances a (Local s p) n x k = Contains-append_left (instances_at a n) _ x k
-own_instances a (Awake e p) n x k = Contains-append_left (instances_at a n) _ x k
+own_instances a _ n x k = Contains-append_left (instances_at a n) _ x k
 
 -- the root of a start is one of those of the whole, or is live among these
 abbrev RootOr : Liveness → List Instance → ℕ → Type 0
@@ -157,10 +136,6 @@ second_from a p q c = record {
 }
 
 start_live : (a : Liveness) (t : Term) (n m r : ℕ) → Contains (instances a t n) (at_layer m (Started r)) → RootOr a (instances a t n) r
-start_live a Nothing n m r k = inl (root_of a n m r k)
-start_live a Pause n m r k = inl (root_of a n m r k)
-start_live a (Emit s) n m r k = inl (root_of a n m r k)
-start_live a (Exit c) n m r k = inl (root_of a n m r k)
 start_live a (Present e p q) n m r k =
     let c = n + 1 + statement_count p in
     two_root a (part_liveness a p) (part_liveness a q) p q n (n + 1) c m r (part_from a p (n + 1)) (part_from a q c)
@@ -183,6 +158,7 @@ start_live a (Local s p) n m r k =
     one_root a (part_liveness a p) p n (n + 1) m r (part_from a p (n + 1)) (start_live (part_liveness a p) p (n + 1) m r) k
 start_live a (Awake e p) n m r k =
     one_root a (part_liveness a p) p n (n + 1) m r (part_from a p (n + 1)) (start_live (part_liveness a p) p (n + 1) m r) k
+start_live a _ n m r k = inl (root_of a n m r k)
 
 -- ---- heads are live
 

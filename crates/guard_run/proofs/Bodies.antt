@@ -1,6 +1,7 @@
 -- Inner: the plans of pieces, one piece more.
 use Rattle.std.proofs.Common.{◌≡◌, ℕ, ◌+◌, ◌<◌, List, [], ◌∷◌, ◌++◌, length, map, take, get_or, refl, sym, ◌∙◌, ap, arith, subst}
 use Rattle.std.specs.Prelude.{flat_map}
+use Rattle.std.specs.List.{AllByRecursion}
 use Rattle.std.proofs.lemmas.Grind.{flat_map-append}
 use Rattle.std.proofs.lemmas.List.{append_assoc, append-nil, get_or-map, length-map, map-append, map_more}
 use Rattle.std.proofs.lemmas.List.Elements.{All-from_recursion}
@@ -15,6 +16,7 @@ use Rattle.guard_run.specs.declared.plan.Block.{Block}
 use Rattle.guard_run.specs.declared.plan.Body.{Body}
 use Rattle.guard_run.specs.Plans.{IsStretch, Segment, segment_pieces, IsBlock, AreBlocks, IsBody, IsEnd, PieceFits, AllTargets}
 use Rattle.guard_run.specs.Runs.{BodyFits}
+use Rattle.guard_run.specs.Tracks.{BlockGates, BodyGates}
 
 -- an assignment more
 pub body-one : (names : List (List ℕ)) (pieces : List Piece) (old new : Body) (a : Assign) → (is : IsBody names pieces old)
@@ -67,6 +69,21 @@ body-none names b none last = record {
   split = refl;
   blocks = subst (AreBlocks names []) (sym none) tt;
   last = last;
+}
+
+-- ---- all plans are of gates alone
+
+blocks-gates : (names : List (List ℕ)) (segments : List Segment) (blocks : List Block) → AreBlocks names segments blocks → AllByRecursion BlockGates blocks
+blocks-gates names [] [] are = tt
+blocks-gates names [] (b ∷ blocks) are = absurd are
+blocks-gates names (s ∷ segments) [] are = absurd are
+blocks-gates names (s ∷ segments) (b ∷ blocks) are =
+    (record { before = are.0.before.tables; first = are.0.first.tables; second = are.0.second.tables }, blocks-gates names segments blocks are.1)
+
+pub body-gates : (names : List (List ℕ)) (pieces : List Piece) (b : Body) → IsBody names pieces b → BodyGates b
+body-gates names pieces b is = record {
+  blocks = All-from_recursion BlockGates b.blocks.items (blocks-gates names is.segments b.blocks.items is.blocks);
+  last = is.last.tables;
 }
 
 -- there are slots for all names

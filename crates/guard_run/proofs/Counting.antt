@@ -1,13 +1,11 @@
--- Inner: blocks one after another: what they make, what they count, and how many slots they need.
-use Rattle.std.proofs.Common.{◌≡◌, ℕ, ◌+◌, ◌<◌, ◌≤◌, Bool, true, false, List, All, length, drop, take, get_or, ◌∙◌, ap, subst, arith}
+-- Inner: what one half of a block makes and counts, and how many slots blocks need.
+use Rattle.std.proofs.Common.{◌≡◌, ℕ, ◌+◌, ◌<◌, ◌≤◌, Bool, true, false, List, All, length, take, get_or, ap, subst, arith}
 use Rattle.std.specs.Prelude.{if◌then◌else◌}
 use Rattle.std.proofs.lemmas.List.Elements.{All-more}
-use Rattle.facts.proofs.Lists.{drop-at}
 use Rattle.step_run.specs.Plans.{made}
 use Rattle.step_run.specs.Slots.{value_at}
-use Rattle.step_run.proofs.Exports.{length-made}
 use Rattle.guard_run.specs.declared.plan.Block.{Block}
-use Rattle.guard_run.specs.Runs.{BlockFits, half_of, behind_before, block_made, block_count, blocks_made, blocks_count, block_total, blocks_total}
+use Rattle.guard_run.specs.Runs.{BlockFits, behind_before, block_made, block_count}
 
 -- ---- one half of a block
 
@@ -26,24 +24,6 @@ first-counted b values is = ap (λ t. b.before.count + (if t then b.first else b
 pub second-counted : (b : Block) (values : List Bool) → value_at (behind_before b values) b.test ≡ false
     → block_count b values ≡ b.before.count + b.second.count
 second-counted b values is = ap (λ t. b.before.count + (if t then b.first else b.second).count) is
-
-pub wide-block : (b : Block) (values : List Bool) → length (block_made b values) ≡ length values
-wide-block b values =
-    length-made (half_of b (behind_before b values)).plan.lookups (behind_before b values) ∙ length-made b.before.plan.lookups values
-
--- ---- blocks that are left
-
-pub made-next : (blocks : List Block) (i : ℕ) (b : Block) (values : List Bool) → i < length blocks → b ≡ get_or blocks i b
-    → blocks_made (drop i blocks) values ≡ blocks_made (drop (i + 1) blocks) (block_made b values)
-made-next blocks i b values low at = ap (λ l. blocks_made l values) (drop-at blocks i b low at)
-
-pub counted-next : (blocks : List Block) (i : ℕ) (b : Block) (values : List Bool) → i < length blocks → b ≡ get_or blocks i b
-    → blocks_count (drop i blocks) values ≡ block_count b values + blocks_count (drop (i + 1) blocks) (block_made b values)
-counted-next blocks i b values low at = ap (λ l. blocks_count l values) (drop-at blocks i b low at)
-
-pub total-next : (blocks : List Block) (i : ℕ) (b : Block) → i < length blocks → b ≡ get_or blocks i b
-    → blocks_total (drop i blocks) ≡ block_total b + blocks_total (drop (i + 1) blocks)
-total-next blocks i b low at = ap blocks_total (drop-at blocks i b low at)
 
 -- ---- slots
 

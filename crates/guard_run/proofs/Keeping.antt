@@ -1,7 +1,7 @@
 -- Inner: a machine and its fields.
-use Rattle.std.proofs.Common.{◌≡◌, ℕ, ◌+◌, ◌<◌, ◌≤◌, ◌^◌, Bool, List, [], length, map, take, refl, sym, ◌∙◌, ap, arith, subst}
+use Rattle.std.proofs.Common.{◌≡◌, ℕ, ◌+◌, ◌<◌, ◌≤◌, ◌^◌, Bool, List, [], ◌∷◌, length, map, take, refl, sym, ◌∙◌, ap, arith, subst}
 use Rattle.std.proofs.lemmas.List.{length-take-le}
-use Rattle.std.proofs.lemmas.List.Elements.{All-from_recursion}
+use Rattle.std.specs.List.{AllByRecursion}
 use Rattle.csub_guard.specs.Machine.{Counted, inputs_of, call}
 use Rattle.csub_guard.specs.Names.{declared}
 use Rattle.csub_guard.specs.Trees.{Program}
@@ -14,11 +14,13 @@ use Rattle.csub_text.specs.Trees as plain
 use Rattle.step_run.specs.Plans.{made, term_value}
 use Rattle.step_run.specs.Slots.{slot_in, value_at, memory_in}
 use Rattle.guard_run.specs.declared.runner.GuardedRunner.TheInside.{Inside}
+use Rattle.guard_run.specs.declared.plan.Block.{Block}
 use Rattle.guard_run.specs.declared.plan.Body.{Body}
 use Rattle.guard_run.specs.Insides.{KeepsPlan}
 use Rattle.guard_run.specs.Plans.{IsPlan, IsEnd, first_values}
 use Rattle.guard_run.specs.Runners.{KeepsNames, Reacts, IsFresh}
-use Rattle.guard_run.specs.Runs.{BodyFits, TestsFit, blocks_made, body_made, body_count, body_total}
+use Rattle.guard_run.specs.Runs.{BodyFits, blocks_made, body_made, body_count}
+use Rattle.guard_run.specs.Tracks.{track_total}
 use Rattle.guard_run.proofs.Bodies.{names-low}
 use Rattle.guard_run.proofs.Runs.{tests-low, steps, segments_run, segments_count, stretch-made, blocks-run, Agrees, body-agrees}
 use Rattle.step_run.specs.declared.term.Term.{Term}
@@ -35,7 +37,7 @@ fresh-by code values count is none = record {
 }
 
 pub keeps-by : (inside : Inside) → KeepsNames (program_of inside.program) → IsPlan (program_of inside.program) inside.plan
-    → BodyFits (length inside.values.items) inside.plan.body → body_total inside.plan.body < 2 ^ 64
+    → inside.plan.track.gates.slots ≤ length inside.values.items → track_total inside.plan.track < 2 ^ 64
     → inside.outputs.items ≡ map (value_at inside.values.items) inside.plan.outputs.items
     → KeepsPlan inside
 keeps-by inside fits plan wide few shown = record {
@@ -105,9 +107,10 @@ reacts-by code body term inputs values begun after items before count answer cal
       returned = told ∙ called.returned ∙ ap (λ l. value_of (memory_in (declared p) (take (length (declared p)) l)) p.answer) (sym same);
     }
 
-pub tests-fit : (p : Program) (body : Body) (answer : Term) (n : ℕ) → IsEnd p body answer → BodyFits n body → TestsFit n body.blocks.items
-tests-fit p body answer n is fits =
-    let low = All-from_recursion (λ b. b.test < length (declared p)) body.blocks.items
-    (tests-low (declared p) is.makes.segments body.blocks.items is.makes.blocks) in
-    let names = names-low p body answer n is fits in
-    λ k d h. omega (arith, low k d h, names)
+pub tests-fit : (p : Program) (body : Body) (answer : Term) (n : ℕ) → IsEnd p body answer → BodyFits n body
+    → AllByRecursion (λ b. b.test < n) body.blocks.items
+tests-fit p body answer n is fits = go body.blocks.items (tests-low (declared p) is.makes.segments body.blocks.items is.makes.blocks)
+  where
+    go : (blocks : List Block) → AllByRecursion (λ b. b.test < length (declared p)) blocks → AllByRecursion (λ b. b.test < n) blocks
+    go [] low = tt
+    go (b ∷ blocks) low = let names = names-low p body answer n is fits in (omega (arith, low.0, names), go blocks low.1)

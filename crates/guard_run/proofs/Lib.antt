@@ -2,6 +2,7 @@ mod Fits
 mod Bodies
 mod Stretches
 mod Counting
+mod Tracks
 mod Runs
 mod Keeping
 mod Showing

@@ -35,12 +35,13 @@ low-more names (x ∷ xs) a low is = (low.0, low-more names xs a low.1 is)
 
 -- a step more
 pub stretch-more : (names : List (List ℕ)) (assigns : List Assign) (a : Assign) (old new : Stretch) → IsStretch names assigns old
-    → Adds (assign_step names a) old.plan new.plan → slot_in names a.target < length names → new.count ≡ old.count + 1
+    → Adds (assign_step names a) old.plan new.plan → new.plan.tables ≡ old.plan.tables → slot_in names a.target < length names → new.count ≡ old.count + 1
     → IsStretch names (assigns ++ a ∷ []) new
-stretch-more names assigns a old new is adds low counted =
+stretch-more names assigns a old new is adds tables low counted =
     let wide = length-append assigns (a ∷ []) in
     record {
       named = adds.named ∙ is.named;
+      tables = tables ∙ is.tables;
       makes = subst (Makes new.plan) (sym (map-append (assign_step names) assigns (a ∷ []))) (adds.makes (map (assign_step names) assigns) is.makes);
       counts = omega (arith, counted, is.counts, wide);
       low = low-more names assigns a is.low low;
@@ -62,6 +63,7 @@ ends-by program names old new t same is blocks counted compiles named free =
         blocks = subst (λ l. AreBlocks (declared p) made.segments l) (sym blocks) made.blocks;
         last = record {
           named = compiles.keeps.named ∙ made.last.named;
+          tables = compiles.keeps.tables ∙ made.last.tables;
           makes = compiles.keeps.makes (map (assign_step (declared p)) made.behind) made.last.makes;
           counts = counted ∙ made.last.counts;
           low = made.last.low;

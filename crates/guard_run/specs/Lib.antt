@@ -1,5 +1,6 @@
-pub mod Plans
 pub mod Runs
+pub mod Tracks
+pub mod Plans
 pub mod Runners
 pub mod Insides
 pub mod ProgramAnswers

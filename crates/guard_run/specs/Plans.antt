@@ -15,6 +15,7 @@ use Rattle.guard_run.specs.declared.plan.Block.{Block}
 use Rattle.guard_run.specs.declared.plan.Body.{Body}
 use Rattle.guard_run.specs.declared.plan.CallPlan.{CallPlan}
 use Rattle.guard_run.specs.declared.plan.Stretch.{Stretch}
+use Rattle.guard_run.specs.Tracks.{IsTrack}
 
 -- the values of the states, and 0 for all others
 abbrev pub first_values : Program → List Bool
@@ -32,9 +33,10 @@ PieceFits names (If test first second) = (slot_in names test < length names) × 
 abbrev pub AllTargets : List (List ℕ) → List Piece → Type 0
 AllTargets names = AllByRecursion (PieceFits names)
 
--- the plan makes the assignments, and the count is their number
+-- the plan makes the assignments by gates alone, and the count is their number
 pub record IsStretch (names : List (List ℕ)) (assigns : List Assign) (s : Stretch) : Type 0 where
   pub named : s.plan.named ≡ length names
+  pub tables : s.plan.tables ≡ 0
   pub makes : Makes s.plan (map (assign_step names) assigns)
   pub counts : s.count ≡ length assigns
   pub low : AreLow names assigns
@@ -76,9 +78,11 @@ pub record IsEnd (p : Program) (body : Body) (answer : Term) : Type 0 where
   pub free_low : body.last.plan.free ≤ body.last.plan.slots
   pub says : Says body.last.plan answer (λ values. value_of (memory_in (declared p) values) p.answer)
 
--- the plan of a program
+-- the plan of a program: what the plans of some body make, on one track
 pub record IsPlan (p : Program) (plan : CallPlan) : Type 0 where
   pub inputs_are : plan.inputs.items ≡ map (slot_in (declared p)) (inputs_of p)
   pub outputs_are : plan.outputs.items ≡ map (slot_in (declared p)) (outputs_of p)
-  pub end_is : IsEnd p plan.body plan.answer
+  pub body : Body
+  pub end_is : IsEnd p body plan.answer
+  pub track_is : IsTrack body plan.track
   pub initial_is : plan.initial.items ≡ first_values p

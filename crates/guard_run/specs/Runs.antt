@@ -1,5 +1,5 @@
 -- Inner: what runs of bodies make of the values of all slots, and how many assignments they run.
-use Rattle.std.specs.Prelude.{ℕ, ◌+◌, ◌≤◌, ◌<◌, Bool, List, [], ◌∷◌, All, if◌then◌else◌}
+use Rattle.std.specs.Prelude.{ℕ, ◌+◌, ◌≤◌, Bool, List, [], ◌∷◌, All, if◌then◌else◌}
 use Rattle.step_run.specs.Plans.{made}
 use Rattle.step_run.specs.Slots.{value_at}
 use Rattle.guard_run.specs.declared.plan.Block.{Block}
@@ -15,10 +15,6 @@ pub record BlockFits (n : ℕ) (b : Block) : Type 0 where
 pub record BodyFits (n : ℕ) (b : Body) : Type 0 where
   pub blocks : All (BlockFits n) b.blocks.items
   pub last : b.last.plan.slots ≤ n
-
--- what blocks test has a slot
-abbrev pub TestsFit : ℕ → List Block → Type 0
-TestsFit n = All (λ b. b.test < n)
 
 -- the half of a block that is run where the values are these behind the assignments before it
 abbrev pub half_of : Block → List Bool → Stretch
@@ -46,14 +42,3 @@ body_made b values = made b.last.plan.lookups (blocks_made b.blocks.items values
 
 abbrev pub body_count : Body → List Bool → ℕ
 body_count b values = blocks_count b.blocks.items values + b.last.count
-
--- all assignments, of both halves
-abbrev pub block_total : Block → ℕ
-block_total b = b.before.count + (b.first.count + b.second.count)
-
-abbrev pub blocks_total : List Block → ℕ
-blocks_total [] = 0
-blocks_total (b ∷ blocks) = block_total b + blocks_total blocks
-
-abbrev pub body_total : Body → ℕ
-body_total b = blocks_total b.blocks.items + b.last.count

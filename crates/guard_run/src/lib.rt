@@ -7,13 +7,13 @@
 //! the lines of a trace.
 #![tactic(auto)]
 
-mod counts;
 mod language;
 mod plan;
 mod run;
 mod runner;
 mod running;
 mod trace_runner;
+mod track;
 
 pub use language::{GuardedTexts, TextFault, read_machine, written_machine};
 pub use runner::GuardedRunner;

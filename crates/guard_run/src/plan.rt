@@ -13,6 +13,7 @@ ghost use Rattle.step_run.specs.Expressions.{expr_value};
 ghost use Rattle.step_run.specs.Plans.{Compiles};
 ghost use Rattle.step_run.specs.Slots.{slot_in};
 
+use crate::track::{Track, track_of};
 use csub_guard::{GuardedProgram, Piece, declared_names};
 use csub_run::{input_slots, output_slots, push_assign, push_assigns, variable_values};
 use csub_text::{Assign, Expr};
@@ -51,7 +52,7 @@ pub struct Body {
 pub struct CallPlan {
     pub inputs: Vec<usize>,
     pub outputs: Vec<usize>,
-    pub body: Body,
+    pub track: Track,
     // The value that is returned, behind the body.
     pub answer: Term,
     // The values of the variables before the first call.
@@ -71,10 +72,11 @@ pub fn plan_of(alloc: Global, program: &GuardedProgram) -> Result<CallPlan, NoMe
         initial,
     } = places_of(alloc, &slots, program)?;
     let End { body, answer } = end_of(alloc, &slots, program)?;
+    let track = track_of(alloc, &body)?;
     Ok(CallPlan {
         inputs,
         outputs,
-        body,
+        track,
         answer,
         initial,
     })

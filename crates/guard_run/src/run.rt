@@ -1,53 +1,60 @@
 // Runs of bodies.
 
 ghost use Rattle.std.specs.Prelude.{◌≡◌, ◌+◌, ◌≤◌, ◌<◌, ◌^◌, length, All};
-ghost use Rattle.guard_run.specs.Runs.{BlockFits, BodyFits, TestsFit, block_made, blocks_made, body_made};
-ghost use Rattle.guard_run.specs.Runs.{block_count, blocks_count, body_count, block_total, blocks_total, body_total};
+ghost use Rattle.guard_run.specs.Tracks.{AreInOrder, IsInOrder, jump_total, track_total};
+ghost use Rattle.guard_run.specs.Tracks.{jump_made, jump_place, jump_count, track_made, track_count};
 
-use crate::plan::{Block, Body};
+use crate::track::{Jump, Track};
+use step_run::Gates;
+
+// The place among gates up to which they were made, and the number of the assignments that were run.
+#[derive(Clone, Copy)]
+struct Reached {
+    place: usize,
+    count: u64,
+}
 
 // Runs a body, one half of each block: the number of the assignments that were run. It takes no memory.
-pub fn run_body(body: &Body, values: &mut [bool]) -> u64
-    requires fits { BodyFits (length values.old) body.now }
-    requires tests { TestsFit (length values.old) body.now.blocks.items }
-    requires few { body_total body.now < 2 ^ 64 }
-    ensures values { values.new ≡ body_made body.now values.old }
-    ensures count { result ≡ body_count body.now values.old }
+pub fn run_track(track: &Track, values: &mut [bool]) -> u64
+    requires fits { track.now.gates.slots ≤ length values.old }
+    requires order { AreInOrder (length track.now.gates.lookups) 0 track.now.jumps.items }
+    requires tests { All (λ j. j.test < length values.old) track.now.jumps.items }
+    requires few { track_total track.now < 2 ^ 64 }
+    ensures values { values.new ≡ track_made track.now values.old }
+    ensures count { result ≡ track_count track.now values.old }
 {
-    let count = run_blocks(&body.blocks, values);
-    body.last.plan.run(values);
-    count + body.last.count
-}
-
-fn run_blocks(blocks: &[Block], values: &mut [bool]) -> u64
-    requires fits { All (BlockFits (length values.old)) blocks.now }
-    requires tests { TestsFit (length values.old) blocks.now }
-    requires few { blocks_total blocks.now < 2 ^ 64 }
-    ensures values { values.new ≡ blocks_made blocks.now values.old }
-    ensures count { result ≡ blocks_count blocks.now values.old }
-    ensures most { result ≤ blocks_total blocks.now }
-{
-    let mut count = 0;
-    for block in blocks {
-        count += run_block(block, values);
+    let mut reached = Reached { place: 0, count: 0 };
+    for jump in &track.jumps {
+        reached = run_jump(&track.gates, jump, reached, values);
     }
-    count
+    track.gates.run(reached.place, track.gates.len(), values);
+    reached.count + track.behind
 }
 
-fn run_block(block: &Block, values: &mut [bool]) -> u64
-    requires fits { BlockFits (length values.old) block.now }
-    requires test { block.now.test < length values.old }
-    requires few { block_total block.now < 2 ^ 64 }
-    ensures values { values.new ≡ block_made block.now values.old }
-    ensures count { result ≡ block_count block.now values.old }
-    ensures most { result ≤ block_total block.now }
+// Makes the gates up to a block, and those of its second half where the first is skipped. Else the first half is to be
+// made, with what is behind it.
+fn run_jump(gates: &Gates, jump: &Jump, reached: Reached, values: &mut [bool]) -> Reached
+    requires order { IsInOrder (length gates.now.lookups) reached.place jump.now }
+    requires fits { gates.now.slots ≤ length values.old }
+    requires test { jump.now.test < length values.old }
+    requires few { reached.count + jump_total jump.now < 2 ^ 64 }
+    ensures values { values.new ≡ jump_made gates.now.lookups reached.place jump.now values.old }
+    ensures place { result.place ≡ jump_place gates.now.lookups reached.place jump.now values.old }
+    ensures count { result.count
+        ≡ reached.count + jump_count gates.now.lookups reached.place jump.now values.old }
+    ensures most { result.count ≤ reached.count + jump_total jump.now }
 {
-    block.before.plan.run(values);
-    if values[block.test] {
-        block.first.plan.run(values);
-        block.before.count + block.first.count
+    gates.run(reached.place, jump.second as usize, values);
+    if values[jump.test as usize] {
+        Reached {
+            place: jump.first as usize,
+            count: reached.count + u64::from(jump.first_count),
+        }
     } else {
-        block.second.plan.run(values);
-        block.before.count + block.second.count
+        gates.run(jump.second as usize, jump.first as usize, values);
+        Reached {
+            place: jump.next as usize,
+            count: reached.count + u64::from(jump.second_count),
+        }
     }
 }

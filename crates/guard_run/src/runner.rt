@@ -6,12 +6,12 @@ ghost use Rattle.csub_guard.specs.Names.{declared};
 ghost use Rattle.csub_guard.specs.Views.{program_of};
 ghost use Rattle.guard_run.specs.Plans.{IsPlan, first_values};
 ghost use Rattle.guard_run.specs.Runners.{KeepsNames, program_in, Reacts, Resets, IsFresh, outputs_shown};
-ghost use Rattle.guard_run.specs.Runs.{BodyFits, body_total};
+ghost use Rattle.guard_run.specs.Tracks.{track_total};
 ghost use Rattle.step_run.specs.Slots.{value_at};
 
-use crate::counts::{slots_in, total_of};
 use crate::plan::{CallPlan, plan_of};
-use crate::run::run_body;
+use crate::run::run_track;
+use crate::track::total_of;
 use csub_guard::GuardedProgram;
 use csub_run::{put_front, put_values};
 use est_base::NoMemory;
@@ -50,7 +50,7 @@ impl Model for GuardedRunner {
 
 impl GuardedRunner {
     /// The machine of a program before its first call. The program keeps the rules on names, as each one does that some
-    /// text describes. Want of memory is the only error, which also more than 2^64 assignments are.
+    /// text describes. Want of memory is the only error, which also 2^32 gates or assignments are.
     pub fn new(alloc: Global, program: GuardedProgram) -> Result<GuardedRunner, NoMemory>
         requires { KeepsNames (program_of program) }
         ensures program { IfOk result (λ r. r.code ≡ program) }
@@ -76,7 +76,7 @@ impl GuardedRunner {
         ensures { Reacts self.old inputs.now result self.new }
     {
         put_values(&self.plan.inputs, inputs, &mut self.values);
-        self.count = run_body(&self.plan.body, &mut self.values);
+        self.count = run_track(&self.plan.track, &mut self.values);
         take_values(&self.plan.outputs, &self.values, &mut self.outputs);
         self.plan.answer.value(&self.values)
     }
@@ -126,15 +126,15 @@ struct Parts {
 fn runner_parts(alloc: Global, program: &GuardedProgram) -> Result<Parts, NoMemory>
     requires { KeepsNames (program_of program.now) }
     ensures plan { IfOk result (λ p. IsPlan (program_of program.now) p.plan) }
-    ensures few { IfOk result (λ p. body_total p.plan.body < 2 ^ 64) }
-    ensures slots { IfOk result (λ p. BodyFits (length p.values.items) p.plan.body) }
+    ensures few { IfOk result (λ p. track_total p.plan.track < 2 ^ 64) }
+    ensures slots { IfOk result (λ p. length p.values.items ≡ p.plan.track.gates.slots) }
     ensures values { IfOk result (λ p. take (length (declared (program_of program.now))) p.values.items
         ≡ first_values (program_of program.now)) }
     ensures outputs { IfOk result (λ p. p.outputs.items ≡ map (value_at p.values.items) p.plan.outputs.items) }
 {
     let plan = plan_of(alloc, program)?;
-    total_of(&plan.body).ok_or(NoMemory)?;
-    let mut values = vec![in alloc; false; slots_in(&plan.body)]?;
+    total_of(&plan.track).ok_or(NoMemory)?;
+    let mut values = vec![in alloc; false; plan.track.gates.slots()]?;
     put_front(&mut values, &plan.initial);
     let mut outputs = vec![in alloc; false; plan.outputs.len()]?;
     take_values(&plan.outputs, &values, &mut outputs);

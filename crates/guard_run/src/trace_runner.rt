@@ -10,12 +10,12 @@ ghost use Rattle.guard_run.specs.Showing.{IsNew, IsSum, counted_program};
 
 use crate::runner::GuardedRunner;
 use csub_guard::GuardedProgram;
-use csub_run::{globals_interface, word_of};
+use csub_run::globals_interface;
 use est_base::NoMemory;
 use std::alloc::Global;
 use std::marker::Model;
 use trace_io::Word;
-use trace_run::{Interface, Runner};
+use trace_run::{Interface, Runner, word_of};
 
 /// The machine of a guarded program, as one that items drive: an event is one call, whose returned value gives the
 /// word. A contract sees it as the machine of the program and the number of assignments that all calls so far ran.

@@ -5,6 +5,7 @@ use Rattle.est_base.specs.declared.indices.WireId.{WireId}
 use Rattle.net_ir.specs.declared.netlist.Gate.{Gate}
 use Rattle.net_ir.specs.Netlists.{Netlist, wire_at}
 
+-- what a gate carries is this wire
 abbrev pub is_wire : ℕ → Option WireId → Bool
 is_wire w None = false
 is_wire w (Some v) = v.0 == w

@@ -6,4 +6,4 @@
 mod gate_regions;
 mod writer;
 
-pub use writer::write_guarded;
+pub use writer::{GuardedPieces, guarded_pieces, write_guarded};

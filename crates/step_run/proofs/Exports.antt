@@ -1,5 +1,5 @@
 -- What other crates use of these proofs.
-pub use Rattle.step_run.proofs.Makings.{length-made, length-settled, same-step, says-is, taken-front, through}
+pub use Rattle.step_run.proofs.Makings.{length-made, length-settled, made-append, same-step, says-is, taken-front, through}
 pub use Rattle.step_run.proofs.TermValues.{digits-number, number-below}
 pub use Rattle.step_run.proofs.Places.{driven-count, output-slot, place-at}
 pub use Rattle.step_run.proofs.EquationEdges.{reads-at}

@@ -13,4 +13,5 @@ mod Compiling
 mod Resolving
 mod Reacting
 mod Instants
+mod worked
 pub mod Exports

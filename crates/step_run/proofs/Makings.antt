@@ -98,7 +98,7 @@ module _ (old new : Planned) (l : Lookup) (named : new.named ≡ old.named) (slo
 
   -- a slot that was free gets the value of a term
   module _ (t : Term) (above : old.named < old.free) (output : l.output ≡ old.free) (free : new.free ≡ old.free + 1) (room : new.free ≤ new.slots)
-      (value : (values : List Bool) → looked_up l.reads l.truth values ≡ term_value t values) where
+      (value : (values : List Bool) → looked_up l.reads l.truth values ≡ term_value t values) (tables : new.tables ≡ old.tables) where
     beyond : old.named ≤ l.output
     beyond = omega (arith, above, output)
 
@@ -106,6 +106,7 @@ module _ (old new : Planned) (l : Lookup) (named : new.named ≡ old.named) (slo
     operand-keeps = record {
       named = named;
       free = omega (arith, free);
+      tables = tables;
       makes = scratch-makes beyond;
       says = λ u f said. record {
         fits = record { left_low = omega (arith, said.fits.left_low, free); right_low = omega (arith, said.fits.right_low, free) };
@@ -157,12 +158,13 @@ adds-is s t old new output value adds = record {
 }
 
 pub keeps-refl : (plan : Planned) → Keeps plan plan
-keeps-refl plan = record { named = refl; free = omega arith; makes = λ steps makes. makes; says = λ t f said. said }
+keeps-refl plan = record { named = refl; free = omega arith; tables = refl; makes = λ steps makes. makes; says = λ t f said. said }
 
 pub keeps-trans : (a b c : Planned) → Keeps a b → Keeps b c → Keeps a c
 keeps-trans a b c first second = record {
   named = second.named ∙ first.named;
   free = omega (arith, first.free, second.free);
+  tables = second.tables ∙ first.tables;
   makes = λ steps makes. second.makes steps (first.makes steps makes);
   says = λ t f said. second.says t f (first.says t f said);
 }

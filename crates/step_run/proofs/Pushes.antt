@@ -14,8 +14,9 @@ use Rattle.step_run.proofs.TermValues.{gate-term}
 -- a gate that gives a slot of a name the value of a term
 pub gate-adds : (old new : Planned) (output : ℕ) (t : Term) (g : Gate) → new.named ≡ old.named → old.slots ≤ new.slots
     → new.lookups ≡ old.lookups ++ gate_lookup g ∷ [] → g.output ≡ output → g.left ≡ t.left → g.right ≡ t.right → g.truth ≡ number_of (term_truth t)
-    → output < old.named → AddsTerm output t old new
-gate-adds old new output t g named slots more out left right truth low = record {
+    → output < old.named → new.tables ≡ old.tables → AddsTerm output t old new
+gate-adds old new output t g named slots more out left right truth low tables = record {
+  tables = tables;
   adds = λ f said.
       step-adds old new (gate_lookup g) named slots more (record { output = output; value = f }) out low
       (λ values wide. gate-term g t left right truth (made old.lookups values) ∙ said.says values wide);
@@ -33,15 +34,15 @@ lookup-adds old new output reads truth named slots more low reads_low =
 pub operand-is : (old new : Planned) (t u : Term) (g : Gate) → new.named ≡ old.named → old.slots ≤ new.slots
     → new.lookups ≡ old.lookups ++ gate_lookup g ∷ [] → g.output ≡ old.free → g.left ≡ t.left → g.right ≡ t.right → g.truth ≡ number_of (term_truth t)
     → old.named < old.free → new.free ≡ old.free + 1 → new.free ≤ new.slots → u.left ≡ old.free → u.right ≡ old.free
-    → ((values : List Bool) → term_value u values ≡ (if value_at values old.free then true else false)) → IsOperand t old u new
-operand-is old new t u g named slots more out left right truth above free room u_left u_right copies =
+    → ((values : List Bool) → term_value u values ≡ (if value_at values old.free then true else false)) → new.tables ≡ old.tables → IsOperand t old u new
+operand-is old new t u g named slots more out left right truth above free room u_left u_right copies tables =
     let value : (values : List Bool) → looked_up (gate_lookup g).reads (gate_lookup g).truth values ≡ term_value t values =
     gate-term g t left right truth in
     record {
-      keeps = operand-keeps old new (gate_lookup g) named slots more t above out free room value;
+      keeps = operand-keeps old new (gate_lookup g) named slots more t above out free room value tables;
       one_slot = u_left ∙ sym u_right;
       fits = record { left_low = omega (arith, u_left, free); right_low = omega (arith, u_right, free) };
-      says = operand-says old new (gate_lookup g) named slots more t above out free room value u u_left u_right copies;
+      says = operand-says old new (gate_lookup g) named slots more t above out free room value tables u u_left u_right copies;
     }
 
 -- two operands, joined

@@ -1,6 +1,8 @@
 -- The records of the code as lookups.
-use Rattle.std.proofs.Common.{◌≡◌, ℕ, ◌≤◌, Bool, List, [], ◌∷◌, ◌++◌, map, set, flat_map, All, refl, sym, ap, ◌∙◌, arith, append_assoc}
-use Rattle.std.proofs.lemmas.List.{map-append, append-nil}
+use Rattle.std.proofs.Common.{◌≡◌, ℕ, ◌+◌, ◌-◌, ◌<◌, ◌≤◌, Bool, List, [], ◌∷◌, ◌++◌, length, map, set, take, drop, flat_map, All, refl, sym, ap}
+use Rattle.std.proofs.Common.{◌∙◌, subst, arith, append_assoc}
+use Rattle.std.specs.Prelude.{slice_range}
+use Rattle.std.proofs.lemmas.List.{map-append, append-nil, drop-map, take-map, length-take, length-drop, get_or-take, get_or-drop}
 use Rattle.std.proofs.lemmas.Grind.{flat_map-append}
 use Rattle.step_run.specs.declared.gate.Gate.{Gate}
 use Rattle.step_run.specs.declared.plan.Stretch.{Stretch}
@@ -77,3 +79,24 @@ stretches-fit-more few many stretches more all k d h =
       gates_fit = gates-fit-more few many _ more f.gates_fit;
       last_fits = lookup-fits-more few many _ more f.last_fits;
     }
+
+-- ---- gates alone, and a part of them
+
+pub gates-alone : (stretches : List Stretch) (gates : List Gate) → length stretches ≡ 0
+    → map gate_lookup gates ≡ flat_map stretch_lookups stretches ++ map gate_lookup gates
+gates-alone [] gates none = refl
+gates-alone (s ∷ stretches) gates none = cc
+
+pub part-made : (gates : List Gate) (from to : ℕ) (values : List Bool)
+    → gates_made (slice_range gates from to) values ≡ made (slice_range (map gate_lookup gates) from to) values
+part-made gates from to values =
+    gates-made (slice_range gates from to) values
+    ∙ ap (λ l. made l values) (sym (ap (take (to - from)) (drop-map gate_lookup from gates) ∙ take-map gate_lookup (to - from) (drop from gates)))
+
+pub part-fits : (slots : ℕ) (gates : List Gate) (from to : ℕ) → All (GateFits slots) gates → All (GateFits slots) (slice_range gates from to)
+part-fits slots gates from to all k d low =
+    let front = length-take (to - from) (drop from gates) in
+    let behind = length-drop from gates in
+    let inside : k < to - from = omega (arith, low, front) in
+    subst (GateFits slots) (sym (get_or-take (to - from) (drop from gates) k d inside ∙ get_or-drop from gates k d))
+    (all (from + k) d (omega (arith, low, front, behind)))

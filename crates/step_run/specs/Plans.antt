@@ -28,10 +28,17 @@ pub record Lookup : Type 0 where
   pub reads : List ℕ
   pub truth : List Bool
 
--- a plan: how many slots have names, the first slot behind them that is free, how many slots there are, and the lookups
+-- a plan: how many slots have names, the first slot behind them that is free, how many slots there are, the lookups,
+-- and how many of them are no gates
 pub record Planned : Type 0 where
   pub named : ℕ
   pub free : ℕ
+  pub slots : ℕ
+  pub lookups : List Lookup
+  pub tables : ℕ
+
+-- gates: how many slots there are, and their lookups
+pub record Listed : Type 0 where
   pub slots : ℕ
   pub lookups : List Lookup
 
@@ -88,6 +95,7 @@ pub record Says (plan : Planned) (t : Term) (value : List Bool → Bool) : Type 
 pub record Keeps (old new : Planned) : Type 0 where
   pub named : new.named ≡ old.named
   pub free : old.free ≤ new.free
+  pub tables : new.tables ≡ old.tables
   pub makes : (steps : List Step) → Makes old steps → Makes new steps
   pub says : (t : Term) (value : List Bool → Bool) → Says old t value → Says new t value
 
@@ -98,6 +106,7 @@ pub record Compiles (value : List Bool → Bool) (old : Planned) (t : Term) (new
 
 -- one step more, whose value is what a term says
 pub record AddsTerm (output : ℕ) (t : Term) (old new : Planned) : Type 0 where
+  pub tables : new.tables ≡ old.tables
   pub adds : (value : List Bool → Bool) → Says old t value → Adds (record { output = output; value = value }) old new
 
 abbrev pub joined : Junction → Bool → Bool → Bool

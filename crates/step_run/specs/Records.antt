@@ -6,8 +6,9 @@ use Rattle.step_run.specs.declared.gate.Gate.{Gate}
 use Rattle.step_run.specs.declared.lookup.Lookup.{Lookup as CodeLookup}
 use Rattle.step_run.specs.declared.plan.Stretch.{Stretch}
 use Rattle.step_run.specs.declared.plan.Plan.TheInside.{Inside}
+use Rattle.step_run.specs.declared.gates.Gates.TheInside.{Inside as GatesInside}
 use Rattle.step_run.specs.Slots.{value_at}
-use Rattle.step_run.specs.Plans.{number_of, digits, Lookup, Planned, lookup_made}
+use Rattle.step_run.specs.Plans.{number_of, digits, Lookup, Planned, Listed, lookup_made}
 
 -- the four values of a term, in the order of their places
 abbrev pub term_truth : Term → List Bool
@@ -66,6 +67,7 @@ plan_of p = record {
   free = p.free;
   slots = p.slots;
   lookups = flat_map stretch_lookups p.stretches.items ++ map gate_lookup p.gates.items;
+  tables = length p.stretches.items;
 }
 
 -- every record reads and writes slots that there are
@@ -74,3 +76,11 @@ pub record AreWithin (p : Inside) : Type 0 where
   pub free_low : p.free ≤ p.slots
   pub stretches_fit : All (StretchFits p.slots) p.stretches.items
   pub gates_fit : All (GateFits p.slots) p.gates.items
+
+-- ---- the gates that callers see
+
+abbrev pub gates_of : GatesInside → Listed
+gates_of g = record { slots = g.slots; lookups = map gate_lookup g.gates.items }
+
+abbrev pub AreFitting : GatesInside → Type 0
+AreFitting g = All (GateFits g.slots) g.gates.items

@@ -71,7 +71,8 @@ pub fn push_expr(
     value: &Expr,
 ) -> Result<(), NoMemory>
     requires { slot_in (map (λ k. k.now) slots.now.keys) target.now < plan.old.named }
-    ensures { OnOk result
+    ensures tables { OnOk result (plan.new.tables ≡ plan.old.tables) }
+    ensures adds { OnOk result
         (Adds (expr_step (map (λ k. k.now) slots.now.keys) target.now (expr_of value.now)) plan.old plan.new) }
 {
     let term = expr_term(plan, slots, value)?;

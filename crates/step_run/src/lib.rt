@@ -6,11 +6,12 @@
 //! steps: behind `Plan::run` the slots of the names have the values that the steps give them, one after another.
 //! `evaluation_order` puts equations into an order in which each one stands behind those that it reads, or finds a
 //! combinational cycle; in such an order the steps solve the equations. `Registers` runs a plan from instant to
-//! instant.
+//! instant, and `Gates` a part of what stands in several plans, of gates alone.
 #![tactic(auto)]
 
 mod expressions;
 mod gate;
+mod gates;
 mod lookup;
 mod order;
 mod plan;
@@ -20,6 +21,7 @@ mod slots;
 mod term;
 
 pub use expressions::{expr_term, push_expr};
+pub use gates::Gates;
 pub use order::evaluation_order;
 pub use plan::Plan;
 pub use registers::{Registers, take_values};

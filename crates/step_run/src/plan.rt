@@ -1,10 +1,10 @@
 // Plans: steps as records, one behind another.
 
-ghost use Rattle.std.specs.Prelude.{◌≡◌, ◌<◌, ◌≤◌, ◌^◌, [], ◌∷◌, length, All, IfOk, IfSome, OnOk};
+ghost use Rattle.std.specs.Prelude.{◌≡◌, ◌<◌, ◌≤◌, ◌^◌, [], ◌∷◌, length, map, All, IfOk, IfSome, OnOk};
 ghost use Rattle.step_run.specs.Slots.{value_at};
 ghost use Rattle.step_run.specs.Plans.{Adds, AddsTerm, Joins, Makes, Says, TermFits, made, table_step};
 ghost use Rattle.step_run.specs.Plans.{IsOperand, IsTable, Tabulates};
-ghost use Rattle.step_run.specs.Records.{StretchFits, stretches_made};
+ghost use Rattle.step_run.specs.Records.{GateFits, StretchFits, gate_lookup, stretches_made};
 
 use crate::gate::{Gate, gate_of, make_gates};
 use crate::lookup::{Lookup, lookup_value};
@@ -21,8 +21,8 @@ pub struct Stretch {
     pub last: Lookup,
 }
 
-/// A plan. A contract sees it as the list of its lookups, with how many slots have names and how many there are
-/// (`Planned`).
+/// A plan. A contract sees it as the list of its lookups, with how many slots have names, how many there are, and how
+/// many of the lookups are no gates (`Planned`).
 #[derive(Drop)]
 pub struct Plan {
     named: u32,
@@ -50,6 +50,7 @@ impl Plan {
     /// 2^32 slots are.
     pub fn new(alloc: Global, named: usize) -> Result<Plan, NoMemory>
         ensures named { IfOk result (λ p. p.named ≡ named) }
+        ensures tables { IfOk result (λ p. p.tables ≡ 0) }
         ensures makes { IfOk result (λ p. Makes p []) }
     {
         let Ok(named) = u32::try_from(named) else {
@@ -73,6 +74,15 @@ impl Plan {
         ensures few { result < 2 ^ 32 }
     {
         self.slots as usize
+    }
+
+    // The gates, where no lookup is anything else.
+    pub(crate) fn gates(&self) -> &[Gate]
+        requires { self.now.tables ≡ 0 }
+        ensures lookups { map gate_lookup result.now ≡ self.now.lookups }
+        ensures fit { All (GateFits self.now.slots) result.now }
+    {
+        &self.gates
     }
 
     /// Adds the step of a table over slots of names: its element at the place whose binary digits are their values, the

@@ -3,6 +3,7 @@ use Rattle.csub_guard.specs.Machine.{inputs_of, outputs_of}
 use Rattle.csub_guard.specs.Names.{declared}
 use Rattle.csub_guard.specs.Views.{program_of}
 use Rattle.step_run.specs.Slots.{slot_in}
+use Rattle.guard_run.proofs.Bodies.{body-gates}
 use Rattle.guard_run.proofs.Fits.{names-once}
 use Rattle.guard_run.proofs.plan.plan_of.Goals as goal
 
@@ -13,6 +14,11 @@ slot_table-requires c =
 pub end_of-requires-clause-slots : goal.end_of-requires-clause-slots
 end_of-requires-clause-slots c = c.in_ok-slots.ensures ∙ ap (map (λ w. w.now)) c.deref.ensures.value ∙ c.in_ok-names.ensures
 
+pub track_of-requires : goal.track_of-requires
+track_of-requires c =
+    let p = program_of c.args.program.now in
+    body-gates (declared p) p.body c.in_ok-body.field-0.body c.in_ok-body.ensures.makes
+
 pub returns : goal.returns
 returns c =
     let p = program_of c.args.program.now in
@@ -22,6 +28,8 @@ returns c =
     record {
       inputs_are = places.inputs ∙ ap (λ ks. map (slot_in ks) (inputs_of p)) keys;
       outputs_are = places.outputs ∙ ap (λ ks. map (slot_in ks) (outputs_of p)) keys;
+      body = c.in_ok-body.field-0.body;
       end_is = c.in_ok-body.ensures;
+      track_is = c.in_ok-track.ensures;
       initial_is = places.initial;
     }

@@ -11,4 +11,4 @@ returns c =
     let counted = subst (λ o. SomeIff o (n + 1 < 2 ^ 64) (n + 1)) c.in_ok-count.ensures.ok_part c.checked_add.ensures in
     let wide = length-map c.args.slots.now.keys (λ k. k.now) in
     λ assigns is. stretch-more (map (λ k. k.now) c.args.slots.now.keys) assigns (assign_of c.args.assign.now) c.args.stretch.now _ is
-    c.in_ok-push_assign.ensures (omega (arith, c.requires.low, wide)) counted.1
+    c.in_ok-push_assign.ensures.adds c.in_ok-push_assign.ensures.tables (omega (arith, c.requires.low, wide)) counted.1

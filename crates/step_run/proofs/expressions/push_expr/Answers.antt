@@ -1,4 +1,4 @@
-use Rattle.std.proofs.Common.{map}
+use Rattle.std.proofs.Common.{◌≡◌, ◌∙◌, map}
 use Rattle.expr_text.specs.Views.{expr_of}
 use Rattle.step_run.specs.Plans.{Adds, AddsTerm}
 use Rattle.step_run.specs.Expressions.{expr_value, expr_step}
@@ -7,8 +7,13 @@ use Rattle.step_run.proofs.Makings.{adds-is, adds-behind}
 use Rattle.step_run.proofs.Pushes.{on-ok}
 use Rattle.step_run.proofs.expressions.push_expr.Goals as goal
 
-pub returns : goal.returns
-returns c =
+pub returns-clause-tables : goal.returns-clause-tables
+returns-clause-tables c =
+    on-ok c.push_term.result (AddsTerm c.slot_of.result c.in_ok-term.term c.expr_term.new.plan c.push_term.new.self)
+    (c.push_term.new.self.tables ≡ c.args.plan.now.tables) (λ adds. adds.tables ∙ c.in_ok-term.ensures.keeps.tables) c.push_term.ensures
+
+pub returns-clause-adds : goal.returns-clause-adds
+returns-clause-adds c =
     let keys = map (λ k. k.now) c.args.slots.now.keys in
     let value = c.args.value.now in
     let step = expr_step keys c.args.target.now (expr_of value) in

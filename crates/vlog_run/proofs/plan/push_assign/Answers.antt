@@ -9,4 +9,4 @@ pub returns : goal.returns
 returns c =
     let keys = map (λ k. k.now) c.args.slots.now.keys in
     subst (λ x. OnOk c.push_expr.result (Adds (expr_step keys x (expr_of c.args.assign.now.value)) c.args.plan.now c.push_expr.new.plan)) c.bytes.ensures
-    c.push_expr.ensures
+    c.push_expr.ensures.adds

@@ -6,9 +6,9 @@ use Rattle.csub_guard.specs.Views.{program_of}
 use Rattle.csub_run.proofs.Exports.{wide-first, outputs-low}
 use Rattle.step_run.specs.Slots.{value_at}
 use Rattle.guard_run.specs.Runners.{Runner, Resets}
-use Rattle.guard_run.specs.Runs.{BodyFits}
 use Rattle.guard_run.proofs.Bodies.{names-low}
 use Rattle.guard_run.proofs.Keeping.{shell, fresh-by, keeps-by}
+use Rattle.guard_run.proofs.Tracks.{track-fits}
 use Rattle.guard_run.proofs.runner.GuardedRunner.reset.Goals as goal
 
 pub put_front-requires : goal.put_front-requires
@@ -17,7 +17,8 @@ put_front-requires c =
     let plan = c.self.invariant.plan in
     let front = ap length (c.deref.ensures.value ∙ plan.initial_is) ∙ wide-first (shell p) in
     let wide = ap length c.deref_mut.ensures.value in
-    let names = names-low p c.self.inside.plan.body c.self.inside.plan.answer (length c.self.inside.values.items) plan.end_is c.self.invariant.each_slot in
+    let names = names-low p plan.body c.self.inside.plan.answer (length c.self.inside.values.items) plan.end_is
+    (track-fits plan.body c.self.inside.plan.track (length c.self.inside.values.items) plan.track_is c.self.invariant.each_slot) in
     omega (arith, front, wide, names)
 
 pub take_values-requires-clause-within : goal.take_values-requires-clause-within
@@ -26,7 +27,8 @@ take_values-requires-clause-within c =
     let plan = c.self.invariant.plan in
     let begun = with_items_is c.self.inside.values c.put_front.new.values (c.put_front.auto.values ∙ c.deref_mut.ensures.len) in
     let wide = ap length (c.deref-3.ensures.value ∙ begun) ∙ c.put_front.ensures.len ∙ ap length c.deref_mut.ensures.value in
-    let names = names-low p c.self.inside.plan.body c.self.inside.plan.answer (length c.self.inside.values.items) plan.end_is c.self.invariant.each_slot in
+    let names = names-low p plan.body c.self.inside.plan.answer (length c.self.inside.values.items) plan.end_is
+    (track-fits plan.body c.self.inside.plan.track (length c.self.inside.values.items) plan.track_is c.self.invariant.each_slot) in
     let low = subst (λ l. All (λ k. k < length (declared p)) l) (sym (c.deref-2.ensures.value ∙ plan.outputs_are)) (outputs-low (shell p)) in
     λ k d h. omega (arith, low k d h, wide, names)
 
@@ -36,7 +38,7 @@ invariant_of-self c =
     let wide = ap length begun ∙ c.put_front.ensures.len ∙ ap length c.deref_mut.ensures.value in
     let shown = with_items_is c.self.inside.outputs c.take_values.new.taken (c.take_values.auto.taken ∙ c.deref_mut-2.ensures.len)
     ∙ c.take_values.ensures ∙ ap (λ v. map (value_at v) c.deref-2.result.now) c.deref-3.ensures.value ∙ ap (map (value_at _)) c.deref-2.ensures.value in
-    keeps-by _ c.self.invariant.names_fit c.self.invariant.plan (subst (λ n. BodyFits n c.self.inside.plan.body) (sym wide) c.self.invariant.each_slot)
+    keeps-by _ c.self.invariant.names_fit c.self.invariant.plan (omega (arith, wide, c.self.invariant.each_slot))
     c.self.invariant.few shown
 
 pub returns : goal.returns

@@ -22,4 +22,4 @@ returns c =
     subst (λ old. IsOperand c.args.term old c.unary.result new) c.self.view_is
     (operand-is (plan_of inside) new c.args.term c.unary.result c.gate_of.result refl grown more c.gate_of.ensures.output c.gate_of.ensures.left
     c.gate_of.ensures.right c.gate_of.ensures.truth c.self.invariant.named_low free room c.unary.ensures.left c.unary.ensures.right
-    c.unary.ensures.value)
+    c.unary.ensures.value refl)

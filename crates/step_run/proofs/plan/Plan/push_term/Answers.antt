@@ -13,4 +13,4 @@ returns c =
     let new = plan_of (record { named = inside.named; free = inside.named + 1; slots = inside.slots; stretches = inside.stretches; gates = c.push.new.self }) in
     subst (λ old. AddsTerm c.args.output c.args.term old new) c.self.view_is
     (gate-adds (plan_of inside) new c.args.output c.args.term c.gate_of.result refl (omega arith) more c.gate_of.ensures.output c.gate_of.ensures.left
-    c.gate_of.ensures.right c.gate_of.ensures.truth low)
+    c.gate_of.ensures.right c.gate_of.ensures.truth low refl)
