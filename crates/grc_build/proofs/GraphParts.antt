@@ -10,7 +10,8 @@ use Rattle.grc_graph.specs.declared.graph.Graph.{Graph}
 use Rattle.grc_graph.specs.declared.instances.Instances.{Instances}
 use Rattle.grc_graph.specs.declared.neighbours.Neighbours.{Neighbours}
 use Rattle.grc_graph.specs.declared.trees.SelTree.{SelTree}
-use Rattle.grc_graph.specs.BuiltGraphs.{IsGraphOf, graph_size}
+use Rattle.grc_graph.specs.BuiltGraphs.{IsGraphOf}
+use Rattle.grc_graph.specs.GraphSizes.{graph_size}
 use Rattle.grc_graph.specs.GraphRuns.{graph_of, program_spots}
 use Rattle.grc_graph.specs.GraphShapes.{IndicesFit, formula_fits, node_fits, wire_fits}
 use Rattle.grc_graph.specs.Instances.{body_instances}

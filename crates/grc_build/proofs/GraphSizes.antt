@@ -13,7 +13,7 @@ use Rattle.est_kernel.specs.Terms.{Expression, Tick, Sig, Not, And, Or, Term, No
 use Rattle.est_kernel.specs.WellFormed.{IsKernel}
 use Rattle.est_kernel.specs.Preorder.{statement_count}
 use Rattle.grc_graph.specs.declared.instances.Instance as stored
-use Rattle.grc_graph.specs.BuiltGraphs.{graph_size, live_tests}
+use Rattle.grc_graph.specs.GraphSizes.{graph_size, live_tests}
 use Rattle.grc_graph.specs.GraphRuns.{program_spots}
 use Rattle.grc_graph.specs.Instances.{Instance, body_instances}
 use Rattle.grc_graph.specs.Layers.{Layer}

@@ -12,3 +12,10 @@ pub mod GraphSizes
 pub mod GraphParts
 pub mod StatementRuns
 pub mod NextFacts
+pub mod FormulaGates
+pub mod InstanceGates
+pub mod RowGates
+pub mod EmissionGates
+pub mod NextGates
+pub mod EquationGates
+pub mod GateBounds

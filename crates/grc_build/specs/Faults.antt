@@ -2,7 +2,7 @@
 use Rattle.std.specs.Prelude.{◌<◌, ⊤}
 use Rattle.est_base.specs.declared.bounds.TheConstants.Limits.{WIRES}
 use Rattle.est_kernel.specs.Plain.{Program}
-use Rattle.grc_graph.specs.BuiltGraphs.{graph_size}
+use Rattle.grc_graph.specs.GraphSizes.{graph_size}
 use Rattle.grc_build.specs.declared.refusal.BuildFault.{BuildFault}
 use Rattle.grc_build.specs.declared.refusal.BuildFault.TheVariants.{TooManyWires, NoMemory}
 

@@ -2,7 +2,7 @@
 use Rattle.std.specs.Prelude.{◌≡◌, ℕ, ◌+◌, ◌<◌, if◌then◌else◌, length, Option, MatchOption}
 use Rattle.est_kernel.specs.Plain.{Program}
 use Rattle.est_kernel.specs.Terms.{Term}
-use Rattle.grc_graph.specs.BuiltGraphs.{live_tests}
+use Rattle.grc_graph.specs.GraphSizes.{live_tests}
 use Rattle.grc_graph.specs.Instances.{Instance}
 use Rattle.grc_graph.specs.Layers.{Layer}
 use Rattle.grc_graph.specs.Rows.{program_rows, row_at}

@@ -3,3 +3,4 @@ mod Examples
 mod InstanceExamples
 mod WorkedReadings
 mod WorkedNames
+mod WorkedGraphs

@@ -33,8 +33,8 @@ all_of [] = Const true
 all_of (a ∷ []) = a
 all_of (a ∷ (b ∷ fs)) = Conjunction a (all_of (b ∷ fs))
 
--- A reading gives a meaning to each word, in Booleans or in other truth values.
-pub record Reading (A : Type 0) : Type 0 where
+-- An interpretation gives a meaning to each word, in Booleans or in other truth values.
+pub record Interpretation (A : Type 0) : Type 0 where
   pub constant : Bool → A
   pub negation : A → A
   pub conjunction : A → A → A
@@ -47,8 +47,8 @@ pub record Reading (A : Type 0) : Type 0 where
   pub kept : ℕ → Layer → A
   pub held : ℕ → Layer → A
 
--- what a formula means in a reading
-abbrev pub meaning : {A : Type 0} → Reading A → Formula → A
+-- what a formula means in an interpretation
+abbrev pub meaning : {A : Type 0} → Interpretation A → Formula → A
 meaning R (Const b) = R.constant b
 meaning R Boot = R.boot
 meaning R (Input s) = R.input s

@@ -16,7 +16,7 @@ use Rattle.grc_graph.specs.Equations.{Equation, equations, next_formula, wires}
 use Rattle.grc_graph.specs.Edges.{Edge, edges}
 use Rattle.grc_graph.specs.SelectionTrees.{body_leaves, selecting}
 use Rattle.grc_graph.specs.Walk.{State, Initial, Selecting}
-use Rattle.grc_graph.specs.Readings.{Valuation, boolean_reading}
+use Rattle.grc_graph.specs.Readings.{Valuation, boolean_interpretation}
 
 -- A graph by names: one equation per wire, in order; for each leaf of the selection tree the path of its pause and its
 -- next formula; and the body, with its scope, over which the words of formulas are read.
@@ -52,7 +52,7 @@ graph_of p = record {
 
 -- what a formula of the graph means in a state and an event, under a valuation
 abbrev pub formula_value : PlainGraph → State → List Bool → Valuation → Formula → Bool
-formula_value g q event V a = meaning (boolean_reading g.scope g.body q (is_given event) V) a
+formula_value g q event V a = meaning (boolean_interpretation g.scope g.body q (is_given event) V) a
 
 -- A valuation solves the graph: each equation is met, and what is no wire is false.
 pub record Solves (g : PlainGraph) (q : State) (event : List Bool) (V : Valuation) : Type 0 where

@@ -38,4 +38,8 @@ pub mod NamedWires
 pub mod Neighbouring
 pub mod WireNames
 pub mod PlainWireNames
+pub mod GraphSizes
+pub mod GateCosts
+pub mod RowCosts
+pub mod FewGates
 pub mod BuiltGraphs

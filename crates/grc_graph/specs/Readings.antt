@@ -7,7 +7,7 @@ use Rattle.est_kernel.specs.Preorder.{statement_count}
 use Rattle.grc_graph.specs.Layers.{Layer, Resumed, layer_above, same_layer}
 use Rattle.grc_graph.specs.Scopes.{Binding, Entering, Outgoing, BoundAt, Unbound, Scope, bind}
 use Rattle.grc_graph.specs.Wires.{Wire, Out, Go, StatusOf, End}
-use Rattle.grc_graph.specs.Formulas.{Reading}
+use Rattle.grc_graph.specs.Formulas.{Interpretation}
 use Rattle.grc_graph.specs.Residuals.{holds}
 use Rattle.grc_graph.specs.Walk.{State, Initial, Selecting, Values, truth, is_initial}
 
@@ -111,8 +111,8 @@ held_at given V B (Local s p) n m l = if m == n then false else held_at given V 
 held_at given V B (Awake e p) n m l = false
 
 -- the words of formulas over a body, in a state and an event, with these values of the wires
-abbrev pub boolean_reading : Scope → Term → State → Values → Valuation → Reading Bool
-boolean_reading B body q given V = record {
+abbrev pub boolean_interpretation : Scope → Term → State → Values → Valuation → Interpretation Bool
+boolean_interpretation B body q given V = record {
   constant = λ b. b;
   negation = not;
   conjunction = λ a b. a && b;

@@ -2,13 +2,13 @@
 use Rattle.std.specs.Prelude.{◌≡◌, ℕ, ◌+◌, ◌==◌, ◌&&◌, nat_lt, Bool, if◌then◌else◌, List, ◌++◌, length, map}
 use Rattle.std.specs.Prelude.{slice_index_or}
 use Rattle.est_kernel.specs.Terms.{Term}
-use Rattle.grc_graph.specs.declared.judgements.Judged.{Judged}
+use Rattle.grc_graph.specs.declared.judgements.Judgement.{Judgement as CodeJudgement}
 use Rattle.grc_graph.specs.declared.trees.SelNode.{SelNode}
 use Rattle.grc_graph.specs.SelectionTrees.{TreeNode, tree_nodes}
 use Rattle.grc_graph.specs.TreeForms.{node_of, end_of}
 use Rattle.grc_graph.specs.TreeJudgements.{Judgement, judgement}
 
-abbrev pub judgement_of : Judged → Judgement
+abbrev pub judgement_of : CodeJudgement → Judgement
 judgement_of j = record { holds = j.holds; formed = j.formed }
 
 -- the nodes from one place up to another are those of a statement

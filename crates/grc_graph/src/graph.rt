@@ -4,6 +4,7 @@ ghost use Rattle.std.specs.Prelude.{◌+◌, length, map};
 ghost use Rattle.std.proofs.Props.{props};
 ghost use Rattle.est_kernel.specs.CodeLists.{AreCodesOf};
 ghost use Rattle.est_kernel.specs.Plain.{program_of, term_of};
+ghost use Rattle.grc_graph.specs.FewGates.{HasFewGates};
 ghost use Rattle.grc_graph.specs.GraphShapes.{IndicesFit};
 ghost use Rattle.grc_graph.specs.LayoutFacts.{exits-prop, signals-prop, relates-prop};
 ghost use Rattle.grc_graph.specs.Layouts.{IsLaidOut};
@@ -53,6 +54,7 @@ pub struct Graph {
     ghost tables: { AreNeighbours instances.list.items wires.items first_wires.items program.inputs
         (program.both + program.outputs) },
     ghost statements: { AreFirsts instances.list.items first_instances.items },
+    ghost few: { HasFewGates (program_of program) (length wires.items) equations.items next.items },
 }
 
 impl Graph {

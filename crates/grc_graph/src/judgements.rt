@@ -12,39 +12,39 @@ use crate::trees::{SelForm, SelNode, SelTree};
 
 /// Whether a subtree holds a selected leaf, and whether its leaves are selected as its forms want.
 #[derive(Clone, Copy)]
-pub(crate) struct Judged {
+pub(crate) struct Judgement {
     pub holds: bool,
     pub formed: bool,
 }
 
 // The judgement of no node.
-fn none_judged() -> Judged
+fn none_judged() -> Judgement
     ensures holds { result.holds ≡ false }
     ensures formed { result.formed ≡ true }
 {
-    Judged {
+    Judgement {
         holds: false,
         formed: true,
     }
 }
 
 // The judgement of a node from those of its parts.
-fn judged_node(form: SelForm, first: Judged, second: Judged, selected: &[bool]) -> Judged
+fn judged_node(form: SelForm, first: Judgement, second: Judgement, selected: &[bool]) -> Judgement
     requires { LeafWithin form (length selected.now) }
     ensures { judgement_of result ≡ combined selected.now (form_of form) (judgement_of first) (judgement_of second) }
 {
     let either = first.holds || second.holds;
     let parts = first.formed && second.formed;
     match form {
-        SelForm::Leaf(k) => Judged {
+        SelForm::Leaf(k) => Judgement {
             holds: selected[k as usize],
             formed: true,
         },
-        SelForm::Excl => Judged {
+        SelForm::Excl => Judgement {
             holds: either,
             formed: !(first.holds && second.holds) && parts,
         },
-        SelForm::Par(over, other) => Judged {
+        SelForm::Par(over, other) => Judgement {
             holds: either,
             formed: (!either || (first.holds || over) && (second.holds || other)) && parts,
         },
@@ -54,7 +54,7 @@ fn judged_node(form: SelForm, first: Judged, second: Judged, selected: &[bool]) 
 
 // The judgement of the subtree that stands from one place up to another; there may be none.
 #[cycle(judging)]
-fn judged_between(tree: &SelTree, from: usize, to: usize, selected: &[bool]) -> Judged
+fn judged_between(tree: &SelTree, from: usize, to: usize, selected: &[bool]) -> Judgement
     requires all { length selected.now ≡ tree.now.leaves }
     requires within { to ≤ length tree.now.nodes.items }
     ensures { Judges tree.now.nodes.items from to selected.now (judgement_of result) }
@@ -68,7 +68,7 @@ fn judged_between(tree: &SelTree, from: usize, to: usize, selected: &[bool]) -> 
 
 // The judgement of the subtree of the node at a place.
 #[cycle(judging)]
-fn judged_at(tree: &SelTree, at: usize, selected: &[bool]) -> Judged
+fn judged_at(tree: &SelTree, at: usize, selected: &[bool]) -> Judgement
     requires all { length selected.now ≡ tree.now.leaves }
     requires within { at < length tree.now.nodes.items }
     ensures { (d : SelNode) → Judges tree.now.nodes.items at (end_of tree.now.nodes.items at d) selected.now

@@ -1,5 +1,7 @@
 // Selection trees.
 
+ghost use Rattle.std.specs.Prelude.{◌≤◌, length};
+ghost use Rattle.est_base.specs.declared.bounds.TheConstants.Limits.{KERNEL_NODES};
 ghost use Rattle.grc_graph.specs.TreeForms.{SubtreesNest, LeavesAscend};
 
 use est_base::PathId;
@@ -36,4 +38,5 @@ pub struct SelTree {
     pub leaves: u32,
     ghost nested: { SubtreesNest nodes.items },
     ghost numbered: { LeavesAscend nodes.items leaves },
+    ghost few: { length nodes.items ≤ KERNEL_NODES },
 }

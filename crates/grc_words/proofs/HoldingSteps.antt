@@ -33,7 +33,8 @@ use Rattle.grc_words.specs.declared.tests_of.Tested.{Tested}
 use Rattle.grc_words.specs.Building.{Says, Extends, RowsFit, with_both, both_source, with_either, either_source}
 use Rattle.grc_words.specs.Enclosures.{around, kept_of, held_of, lasts, suspends, IsWithin, IsOutermost}
 use Rattle.grc_words.specs.Holdings.{readings, HoldingsMade, AboveMade, OwnMade, LastsSaid, held_around, OwnFew}
-use Rattle.grc_words.specs.Sizes.{statement_row, test_of, rows_by, instance_rows}
+use Rattle.grc_words.specs.Sizes.{statement_row, instance_rows}
+use Rattle.grc_graph.specs.RowCosts.{test_of, rows_by}
 use Rattle.grc_words.specs.Occasions.{Occasion}
 use Rattle.grc_words.specs.Testing.{TestMade}
 use Rattle.grc_words.specs.WordLaws.{late_bounds}

@@ -22,7 +22,8 @@ use Rattle.grc_words.specs.declared.table.Source.TheVariants.{Const}
 use Rattle.grc_words.specs.declared.table.Row as tables
 use Rattle.grc_words.specs.Building.{Says, Extends, with_either, either_source}
 use Rattle.grc_words.specs.Choosing.{LeavesChosen, SelectedMade, selection}
-use Rattle.grc_words.specs.Sizes.{selection_rows, statement_row}
+use Rattle.grc_words.specs.Sizes.{statement_row}
+use Rattle.grc_graph.specs.RowCosts.{selection_rows}
 use Rattle.grc_words.specs.Occasions.{Occasion}
 use Rattle.grc_words.specs.PartKinds.{kind_of}
 use Rattle.grc_words.specs.WordLaws.{early_bounds}

@@ -25,6 +25,7 @@ use Rattle.grc_graph.specs.SelectionTrees.{body_leaves, selecting}
 use Rattle.grc_graph.specs.Walk.{State, Initial, Selecting}
 use Rattle.grc_graph.specs.Wires as names
 use Rattle.grc_graph.proofs.Exports.{holds-none}
+use Rattle.grc_words.specs.declared.assembly.MadeSources.{MadeSources}
 use Rattle.grc_words.specs.declared.table.Source.{Source}
 use Rattle.grc_words.specs.declared.table.Source.TheVariants as sources
 use Rattle.grc_words.specs.declared.table.Row.{Row}
@@ -34,6 +35,7 @@ use Rattle.grc_words.specs.Building.{Says, Extends, RowsFit}
 use Rattle.grc_words.specs.Choosing.{SelectedMade, selection}
 use Rattle.grc_words.specs.EndLists.{EndsFound, OutputsSaid, PausedMade, is_no_end_of}
 use Rattle.grc_words.specs.Holdings.{HoldingsMade}
+use Rattle.grc_words.specs.MadeSources.{AreMade}
 use Rattle.grc_words.specs.Occasions.{Occasion, FalseOffWires, state_in}
 use Rattle.grc_words.specs.Rows.{source_fits, row_fits}
 use Rattle.grc_words.specs.Sizes.{instance_rows, rows_at_most}
@@ -204,8 +206,8 @@ words-are g w m =
       paused = λ t off. m.paused.says.value t off;
     }
 
-pub rows-few : (g : Graph) (w : Words) → Made g w → length w.rows.items ≤ rows_at_most g
-rows-few g w m =
+pub rows-few : (g : Graph) (rows : List Row) (s : MadeSources) → AreMade g rows s → length rows ≤ rows_at_most g
+rows-few g rows s m =
     let many = length-map g.instances.list.items instance_of in
     let all = ap (sum_by (instance_rows g)) (take_all (length g.instances.list.items) (instances_of g) (omega arith)) in
     omega (arith, m.selected.few, m.selected.many, m.holdings.few, m.paused.few)

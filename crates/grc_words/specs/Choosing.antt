@@ -12,7 +12,7 @@ use Rattle.grc_words.specs.declared.table.Source.TheVariants.{Const}
 use Rattle.grc_words.specs.declared.table.Row.{Row}
 use Rattle.grc_words.specs.Building.{Says, RowsFit}
 use Rattle.grc_words.specs.Occasions.{Occasion}
-use Rattle.grc_words.specs.Sizes.{selection_rows}
+use Rattle.grc_graph.specs.RowCosts.{selection_rows}
 use Rattle.grc_words.specs.WordLaws.{early_bounds}
 use Rattle.std.specs.Prelude.{Bool, []}
 

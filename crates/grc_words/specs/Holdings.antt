@@ -26,7 +26,8 @@ use Rattle.grc_words.specs.declared.table.Row.{Row}
 use Rattle.grc_words.specs.Building.{Says, Extends}
 use Rattle.grc_words.specs.Enclosures.{Readings, around, kept_of, held_of, suspends}
 use Rattle.grc_words.specs.Occasions.{Occasion}
-use Rattle.grc_words.specs.Sizes.{statement_row, test_of, operators, instance_rows}
+use Rattle.grc_words.specs.Sizes.{statement_row, instance_rows}
+use Rattle.grc_graph.specs.RowCosts.{test_of, operators}
 use Rattle.grc_words.specs.Testing.{wire_source}
 use Rattle.grc_words.specs.WordLaws.{late_bounds}
 use Rattle.grc_graph.specs.Scopes.{program_scope}

@@ -1,55 +1,19 @@
 -- Contract: the greatest number of rows of a table of words.
-use Rattle.std.specs.Prelude.{ℕ, ◌+◌, if◌then◌else◌, Option, Some, None}
+use Rattle.std.specs.Prelude.{ℕ, ◌+◌}
 use Rattle.std.specs.List.{sum_by}
 use Rattle.est_kernel.specs.Plain.{program_of}
-use Rattle.est_kernel.specs.Terms.{Expression, Tick, Sig, Not, And, Or, Term, Nothing, Pause, Emit, Exit, Present}
-use Rattle.est_kernel.specs.Terms.{Suspend, Seq, Loop, Par, Trap, Local, Awake}
 use Rattle.grc_graph.specs.declared.graph.Graph.{Graph}
 use Rattle.grc_graph.specs.Instances.{Instance}
-use Rattle.grc_graph.specs.Layers.{Layer, Resumed, Started}
 use Rattle.grc_graph.specs.PlainGraphs.{instances_of}
+use Rattle.grc_graph.specs.RowCosts.{rows_by, selection_rows, test_of}
 use Rattle.grc_graph.specs.Rows as listed_rows
 
 -- a statement with its number
 abbrev pub statement_row : Graph → ℕ → listed_rows.Row
 statement_row g c = listed_rows.row_at (listed_rows.program_rows (program_of g.program)) c
 
--- the test of a suspension
-abbrev pub test_of : Term → Option Expression
-test_of Nothing = None
-test_of Pause = None
-test_of (Emit s) = None
-test_of (Exit k) = None
-test_of (Present e p q) = None
-test_of (Suspend e p) = Some e
-test_of (Seq p q) = None
-test_of (Loop at p) = None
-test_of (Par p q) = None
-test_of (Trap p) = None
-test_of (Local s p) = None
-test_of (Awake e p) = None
-
--- how many operators a test has
-abbrev pub operators : Expression → ℕ
-operators Tick = 0
-operators (Sig s) = 0
-operators (Not a) = operators a + 1
-operators (And a b) = operators a + operators b + 1
-operators (Or a b) = operators a + operators b + 1
-
--- An instance takes a row to say that it is kept. A resumed suspension takes its test, and three more rows to say that
--- it is held: that it runs, that it is kept, and what is held around.
-abbrev pub rows_by : Option Expression → Layer → ℕ
-rows_by None l = 1
-rows_by (Some e) Resumed = operators e + 4
-rows_by (Some e) (Started r) = 1
-
 abbrev pub instance_rows : Graph → Instance → ℕ
 instance_rows g x = rows_by (test_of (statement_row g x.path).statement) x.layer
-
--- A statement that may be resumed takes a row to say whether it holds a selected pause. No other holds one.
-abbrev pub selection_rows : listed_rows.Row → ℕ
-selection_rows r = if r.live.resumed then 1 else 0
 
 -- The rows of the statements, those of the instances, and one to say that the program pauses.
 abbrev pub rows_at_most : Graph → ℕ

@@ -19,7 +19,7 @@ use Rattle.grc_words.specs.declared.table.Row.{Row}
 use Rattle.grc_words.specs.declared.tests_of.Tested.{Tested}
 use Rattle.grc_words.specs.Building.{Says, Extends, rows_below}
 use Rattle.grc_words.specs.Rows.{source_fits}
-use Rattle.grc_words.specs.Sizes.{operators}
+use Rattle.grc_graph.specs.RowCosts.{operators}
 use Rattle.grc_words.specs.WordLaws.{late_bounds}
 
 -- what says that the event gives a signal

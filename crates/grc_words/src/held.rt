@@ -12,7 +12,7 @@ ghost use Rattle.grc_words.specs.Building.{RowsFit};
 ghost use Rattle.grc_words.specs.Enclosures.{around};
 ghost use Rattle.grc_words.specs.Holdings.{AreListed, IsLive, AboveMade, LastsSaid, OwnMade, HoldingsMade};
 ghost use Rattle.grc_words.specs.Holdings.{StatementRead};
-ghost use Rattle.grc_words.specs.Sizes.{test_of};
+ghost use Rattle.grc_graph.specs.RowCosts.{test_of};
 ghost use Rattle.grc_words.specs.WordLaws.{late_bounds};
 
 use crate::building::{both, either};

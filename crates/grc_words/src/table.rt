@@ -1,5 +1,8 @@
 // The table of words.
 
+ghost use Rattle.std.specs.Prelude.{◌*◌, ◌≤◌, length};
+ghost use Rattle.est_base.specs.declared.bounds.TheConstants.Limits.{WIRES};
+
 use est_base::{SigId, WireId};
 
 /// What a row, or a word, reads.
@@ -42,4 +45,5 @@ pub struct Words {
     pub outputs: Vec<Source>,
     /// What says that the program pauses.
     pub paused: Source,
+    ghost few: { length rows.items ≤ 15 * WIRES },
 }

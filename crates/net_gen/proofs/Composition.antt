@@ -13,7 +13,8 @@ use Rattle.grc_graph.proofs.Exports.{length-names, place-of}
 use Rattle.grc_words.specs.declared.table.Words.{Words}
 use Rattle.grc_words.specs.WordLaws.{AreWordsOf}
 use Rattle.net_ir.specs.Gates.{carried}
-use Rattle.net_gen.specs.Costs.{cost_of, wire_cost, gates_at_most}
+use Rattle.net_gen.specs.Costs.{wire_cost, gates_at_most}
+use Rattle.grc_graph.specs.GateCosts.{cost_of}
 use Rattle.net_gen.specs.Drawings.{Drawing, Placed}
 use Rattle.net_gen.specs.Growing.{spent}
 use Rattle.net_gen.specs.Making.{Begun, RowsMade, WiresMade, NextMade, CircuitMade}

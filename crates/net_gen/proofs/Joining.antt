@@ -11,7 +11,7 @@ use Rattle.grc_graph.specs.declared.graph.Graph.{Graph}
 use Rattle.grc_words.specs.declared.table.Words.{Words}
 use Rattle.net_ir.specs.declared.netlist.Op.{Op}
 use Rattle.net_ir.specs.declared.netlist.Op.TheVariants.{Copy, Or}
-use Rattle.net_gen.specs.Costs.{any_cost}
+use Rattle.grc_graph.specs.GateCosts.{any_cost}
 use Rattle.net_gen.specs.Drawings.{Drawing, with_net, net_number, with_joined, joined_op, JoinFits}
 use Rattle.net_gen.specs.Growing.{Grew, Lowers, Places, Joins}
 use Rattle.net_gen.specs.Senses.{Instant, Sense, Sound, Stands, any_sense, wire_sense, wire_value}

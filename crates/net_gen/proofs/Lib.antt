@@ -17,11 +17,7 @@ pub mod Naming
 pub mod NetFacts
 pub mod NetRuns
 pub mod GateSums
-pub mod FormulaGates
-pub mod InstanceGates
-pub mod RowGates
-pub mod EmissionGates
-pub mod NextGates
-pub mod EquationGates
-pub mod SizeBounds
 mod FirstNumbers
+pub mod SizeBounds
+mod Rooms
+mod worked

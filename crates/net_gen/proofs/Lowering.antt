@@ -16,7 +16,7 @@ use Rattle.grc_words.specs.Occasions.{state_in}
 use Rattle.grc_words.specs.WordLaws.{selected_source}
 use Rattle.net_ir.specs.declared.netlist.Op.{Op}
 use Rattle.net_ir.specs.declared.netlist.Op.TheVariants.{Const, Copy, Not, And, Or}
-use Rattle.net_gen.specs.Costs.{cost_of}
+use Rattle.grc_graph.specs.GateCosts.{cost_of}
 use Rattle.net_gen.specs.Drawings.{Drawing, Placed, with_net, net_number}
 use Rattle.net_gen.specs.Growing.{Grew, Lowers, Places}
 use Rattle.net_gen.specs.Readiness.{SourceReady, FormulaReady, EndsReady, kept_source, held_source}

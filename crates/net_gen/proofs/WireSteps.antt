@@ -25,7 +25,8 @@ use Rattle.net_ir.specs.declared.netlist.Gate.{Gate}
 use Rattle.net_ir.specs.declared.netlist.Op.{Op}
 use Rattle.net_ir.specs.Gates.{carried}
 use Rattle.net_ir.proofs.Exports.{ReadsLower-push, carried-push}
-use Rattle.net_gen.specs.Costs.{cost_of, wire_cost}
+use Rattle.net_gen.specs.Costs.{wire_cost}
+use Rattle.grc_graph.specs.GateCosts.{cost_of}
 use Rattle.net_gen.specs.Drawings.{Drawing, Placed, next_number, with_gate, with_wire, with_net, net_number}
 use Rattle.net_gen.specs.Growing.{Grew, Lowers, Places, spent}
 use Rattle.net_gen.specs.Making.{WiresMade, NextMade}

@@ -16,7 +16,7 @@ use Rattle.grc_graph.specs.declared.graph.Graph.{Graph}
 use Rattle.grc_graph.specs.Formulas as plain
 use Rattle.grc_graph.specs.GraphRuns.{formula_value}
 use Rattle.grc_graph.specs.PlainGraphs.{formula_of, instances_of, names_of, plain_graph, wire_at}
-use Rattle.grc_graph.specs.Readings.{boolean_reading}
+use Rattle.grc_graph.specs.Readings.{boolean_interpretation}
 use Rattle.grc_graph.specs.Walk.{is_initial}
 use Rattle.grc_graph.specs.Wires.{Wire}
 use Rattle.grc_words.specs.declared.table.Source.{Source}
@@ -28,7 +28,7 @@ use Rattle.net_ir.specs.declared.netlist.Op.{Op}
 use Rattle.net_ir.specs.declared.netlist.Op.TheVariants.{Const, Copy, Not, And, Or}
 use Rattle.net_ir.specs.Gates.{value_in, gate_values}
 use Rattle.net_ir.proofs.Exports.{value_in-gate_values}
-use Rattle.net_gen.specs.Costs.{cost_of}
+use Rattle.grc_graph.specs.GateCosts.{cost_of}
 use Rattle.net_gen.specs.Drawings.{Drawing, next_number, net_at, Placed, constant_net, input_net, gates_for}
 use Rattle.net_gen.specs.Growing.{Grew, Lowers, Places, spent}
 use Rattle.net_gen.specs.Readiness.{SourceReady, source_net, kept_source, held_source}

@@ -6,7 +6,7 @@ use Rattle.est_base.specs.declared.indices.WireId.{WireId}
 use Rattle.net_ir.specs.declared.netlist.Gate.{Gate}
 use Rattle.net_ir.specs.declared.netlist.Op.{Op}
 use Rattle.net_ir.specs.declared.netlist.Op.TheVariants.{Const, Copy, Not, And, Or}
-use Rattle.net_gen.specs.declared.circuit.Circuit.{Circuit}
+use Rattle.net_gen.specs.declared.circuit.Draft.{Draft}
 
 -- The number of inputs, the number of the first gate, the nets that are never and always true, the gates, and which
 -- nets say what wires, runs of ends and rows say, as far as they were made.
@@ -20,7 +20,7 @@ pub record Drawing : Type 0 where
   pub ends : List (Option NetId)
   pub rows : List (Option NetId)
 
-abbrev pub drawing_of : Circuit → Drawing
+abbrev pub drawing_of : Draft → Drawing
 drawing_of c = record {
   given = c.given;
   first = c.first;

@@ -1,5 +1,5 @@
 -- Inner: how a circuit grows.
-use Rattle.std.specs.Prelude.{◌≡◌, ℕ, ◌+◌, ◌<◌, ◌≤◌, Option, Some, None, List, [], length}
+use Rattle.std.specs.Prelude.{◌≡◌, ℕ, ◌+◌, ◌<◌, ◌≤◌, ◌^◌, Option, Some, None, List, [], length}
 use Rattle.std.specs.List.{sum_by}
 use Rattle.est_base.specs.declared.indices.NetId.{NetId}
 use Rattle.est_base.specs.declared.indices.WireId.{WireId}
@@ -8,7 +8,7 @@ use Rattle.grc_words.specs.declared.table.Words.{Words}
 use Rattle.net_ir.specs.declared.netlist.Op.{Op}
 use Rattle.net_ir.specs.Gates.{carried}
 use Rattle.net_gen.specs.Drawings.{Drawing, gates_for}
-use Rattle.net_gen.specs.Costs.{any_cost}
+use Rattle.grc_graph.specs.GateCosts.{any_cost}
 use Rattle.net_gen.specs.Senses.{Sense, Sound, Stands, OpStands, run_sense, any_sense}
 
 -- the gates that there are, and one for each run of ends that is not made yet
@@ -18,6 +18,10 @@ spare (Some n) = 0
 
 abbrev pub spent : Drawing → ℕ
 spent d = length d.gates + sum_by spare d.ends
+
+-- the numbers of these gates, and of so many more, are small
+abbrev pub HasRoom : Drawing → ℕ → Type 0
+HasRoom d cost = d.first + spent d + cost < 2 ^ 32
 
 -- Whatever stood before still stands, no wire and no row is noted, and no gate that carries a wire is new.
 pub record Grew (g : Graph) (w : Words) (old new : Drawing) : Type 0 where

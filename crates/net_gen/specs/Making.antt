@@ -10,7 +10,8 @@ use Rattle.grc_graph.specs.declared.graph.Graph.{Graph}
 use Rattle.grc_graph.specs.WireOrders.{wire_at}
 use Rattle.grc_words.specs.declared.table.Words.{Words}
 use Rattle.net_ir.specs.Gates.{carried}
-use Rattle.net_gen.specs.Costs.{cost_of, wire_cost, gates_at_most}
+use Rattle.net_gen.specs.Costs.{wire_cost, gates_at_most}
+use Rattle.grc_graph.specs.GateCosts.{cost_of}
 use Rattle.net_gen.specs.Drawings.{Drawing, Placed}
 use Rattle.net_gen.specs.Growing.{Grew, spent}
 use Rattle.net_gen.specs.Readiness.{RowsPlaced, WiresPlaced}

@@ -6,7 +6,7 @@ ghost use Rattle.net_gen.specs.Drawings.{drawing_of};
 ghost use Rattle.net_gen.specs.Making.{Begun};
 ghost use Rattle.net_gen.specs.Senses.{first_of};
 
-use crate::circuit::Circuit;
+use crate::circuit::Draft;
 use est_base::{NetId, NoMemory};
 use grc_graph::Graph;
 use grc_words::Words;
@@ -51,12 +51,12 @@ fn constant_gate(value: bool) -> Gate
 }
 
 /// A circuit of two gates, the constants.
-pub(crate) fn begin(alloc: Global, graph: &Graph, words: &Words) -> Result<Circuit, NoMemory>
+pub(crate) fn begin(alloc: Global, graph: &Graph, words: &Words) -> Result<Draft, NoMemory>
     ensures { IfOk result (λ c. Begun graph.now words.now (drawing_of c)) }
 {
     let numbers = count_before_gates(graph);
     let wires = graph.wires().len();
-    Ok(Circuit {
+    Ok(Draft {
         given: numbers.given,
         first: numbers.first,
         no: NetId(numbers.first),

@@ -13,7 +13,7 @@ use net_ir::{Gate, Op};
 /// The gates so far, and which nets say what the wires and the rows of the graph say, as far as they
 /// were made.
 #[derive(Drop)]
-pub(crate) struct Circuit {
+pub(crate) struct Draft {
     /// The number of inputs, which is that of the boot latch.
     pub given: u32,
     /// The number of the first gate.
@@ -30,33 +30,30 @@ pub(crate) struct Circuit {
     pub rows: Vec<Option<NetId>>,
 }
 
-impl Circuit {
-    // The number of the next gate. Where there is none left, memory is said to be wanted.
-    fn next_number(&self) -> Result<u32, NoMemory>
-        ensures number { IfOk result (λ n. n ≡ next_number (drawing_of self.now)) }
-        ensures fits { IfOk result (λ n. next_number (drawing_of self.now) < 2 ^ 32) }
+impl Draft {
+    // The number of the next gate.
+    fn next_number(&self) -> u32
+        requires { next_number (drawing_of self.now) < 2 ^ 32 }
+        ensures { result ≡ next_number (drawing_of self.now) }
     {
-        let made = self.gates.len();
-        if made < (u32::MAX - self.first) as usize {
-            Ok(self.first + made as u32)
-        } else {
-            Err(NoMemory)
-        }
+        self.first + self.gates.len() as u32
     }
 
     /// One more gate, and its net.
     pub(crate) fn push(&mut self, op: Op) -> Result<NetId, NoMemory>
+        requires { next_number (drawing_of self.old) < 2 ^ 32 }
         ensures drawn { IfOk result (λ n. drawing_of self.new ≡ with_gate (drawing_of self.old) op None) }
         ensures number { IfOk result (λ n. n.0 ≡ next_number (drawing_of self.old)) }
         ensures fits { IfOk result (λ n. next_number (drawing_of self.old) < 2 ^ 32) }
     {
-        let number = self.next_number()?;
+        let number = self.next_number();
         self.gates.push(Gate { op, wire: None })?;
         Ok(NetId(number))
     }
 
     /// A net of this value. What only copies a net needs no gate.
     pub(crate) fn net(&mut self, op: Op) -> Result<NetId, NoMemory>
+        requires { next_number (drawing_of self.old) < 2 ^ 32 }
         ensures drawn { IfOk result (λ n. drawing_of self.new ≡ with_net (drawing_of self.old) op) }
         ensures number { IfOk result (λ n. n.0 ≡ net_number (drawing_of self.old) op) }
         ensures fits { IfOk result (λ n. net_number (drawing_of self.old) op < 2 ^ 32) }
@@ -72,11 +69,12 @@ impl Circuit {
 
     /// One more gate, which carries a wire.
     pub(crate) fn carry(&mut self, op: Op, wire: WireId) -> Result<(), NoMemory>
-        requires { wire.0 < length self.old.wires.items }
+        requires wire { wire.0 < length self.old.wires.items }
+        requires room { next_number (drawing_of self.old) < 2 ^ 32 }
         ensures drawn { OnOk result (drawing_of self.new ≡ with_wire (drawing_of self.old) op wire) }
         ensures fits { OnOk result (next_number (drawing_of self.old) < 2 ^ 32) }
     {
-        let number = self.next_number()?;
+        let number = self.next_number();
         let wire_of_gate = Some(wire);
         self.gates.push(Gate {
             op,
@@ -133,7 +131,8 @@ impl Circuit {
 
     /// One more gate, for a row.
     pub(crate) fn add_row(&mut self, op: Op, row: usize) -> Result<(), NoMemory>
-        requires { row < length self.old.rows.items }
+        requires row { row < length self.old.rows.items }
+        requires room { next_number (drawing_of self.old) < 2 ^ 32 }
         ensures drawn { OnOk result (drawing_of self.new ≡ with_row (drawing_of self.old) op row) }
         ensures fits { OnOk result (next_number (drawing_of self.old) < 2 ^ 32) }
     {
@@ -148,6 +147,7 @@ impl Circuit {
     pub(crate) fn run(&mut self, before: Option<NetId>, wire: usize) -> Result<NetId, NoMemory>
         requires wire { Placed (drawing_of self.old).wires wire }
         requires place { wire < length self.old.ends.items }
+        requires room { next_number (drawing_of self.old) < 2 ^ 32 }
         ensures drawn { IfOk result (λ n. drawing_of self.new ≡ with_run_once (drawing_of self.old) before wire) }
         ensures number { IfOk result (λ n. n.0 ≡ run_number_once (drawing_of self.old) before wire) }
         ensures fits { IfOk result (λ n. RunFits (drawing_of self.old) before wire) }
@@ -167,6 +167,7 @@ impl Circuit {
 
     /// The or of an operator, if there is one, and of a net.
     pub(crate) fn join(&mut self, so_far: Option<Op>, own: NetId) -> Result<Op, NoMemory>
+        requires { next_number (drawing_of self.old) < 2 ^ 32 }
         ensures drawn { IfOk result (λ op. drawing_of self.new ≡ with_joined (drawing_of self.old) so_far) }
         ensures op { IfOk result (λ op. op ≡ joined_op (drawing_of self.old) so_far own) }
         ensures fits { IfOk result (λ op. JoinFits (drawing_of self.old) so_far) }

@@ -3,13 +3,13 @@
 ghost use Rattle.std.specs.Prelude.{◌≡◌, ◌+◌, ◌<◌, ◌≤◌, length, drop, IfOk, All};
 ghost use Rattle.std.specs.List.{prefix_len};
 ghost use Rattle.grc_words.specs.WordLaws.{AreWordsOf, is_end_upto, first_end, ends_upto};
-ghost use Rattle.net_gen.specs.Costs.{cost_of, any_cost};
+ghost use Rattle.grc_graph.specs.GateCosts.{cost_of, any_cost};
 ghost use Rattle.net_gen.specs.Drawings.{drawing_of, Placed};
-ghost use Rattle.net_gen.specs.Growing.{Lowers};
+ghost use Rattle.net_gen.specs.Growing.{HasRoom, Lowers};
 ghost use Rattle.net_gen.specs.Readiness.{FormulaReady, EndsReady};
 ghost use Rattle.net_gen.specs.Senses.{Sound, form_sense, run_sense, any_sense};
 
-use crate::circuit::{Circuit, entry};
+use crate::circuit::{Draft, entry};
 use est_base::{InstId, NetId, NoMemory, WireId};
 use grc_graph::{Formula, Graph, Wire};
 use grc_words::{Words, is_end_upto, selected_source};
@@ -17,7 +17,7 @@ use net_ir::Op;
 
 /// A formula as an operator. Only its parts are made here, so that a wire's own gate can carry it.
 pub(crate) fn lower(
-    circuit: &mut Circuit,
+    circuit: &mut Draft,
     graph: &Graph,
     words: &Words,
     formula: &Formula,
@@ -25,6 +25,7 @@ pub(crate) fn lower(
     requires words { AreWordsOf graph.now words.now }
     requires sound { Sound graph.now words.now (drawing_of circuit.old) }
     requires ready { FormulaReady graph.now words.now (drawing_of circuit.old) formula.now }
+    requires room { HasRoom (drawing_of circuit.old) (cost_of formula.now) }
     ensures { IfOk result (λ op. Lowers graph.now words.now (drawing_of circuit.old) (drawing_of circuit.new)
         op (form_sense graph.now formula.now) (cost_of formula.now)) }
 {
@@ -89,7 +90,7 @@ fn ends_from(wires: &[Wire], first: usize, instance: InstId, code: u8) -> usize
 
 // The or of the ends of an instance with at most a code. It is made once for each code.
 fn ends_op(
-    circuit: &mut Circuit,
+    circuit: &mut Draft,
     graph: &Graph,
     words: &Words,
     instance: InstId,
@@ -99,6 +100,7 @@ fn ends_op(
     requires sound { Sound graph.now words.now (drawing_of circuit.old) }
     requires instance { instance.0 < length graph.now.instances.list.items }
     requires ready { EndsReady graph.now words.now (drawing_of circuit.old) instance.0 code }
+    requires room { HasRoom (drawing_of circuit.old) 0 }
     ensures { IfOk result (λ op. Lowers graph.now words.now (drawing_of circuit.old) (drawing_of circuit.new)
         op (run_sense graph.now (first_end words.now instance.0) (ends_upto graph.now words.now instance.0 code)) 0) }
 {
@@ -117,13 +119,14 @@ fn ends_op(
 
 // The or of wires.
 fn any_of(
-    circuit: &mut Circuit,
+    circuit: &mut Draft,
     graph: &Graph,
     words: &Words,
     wires: &[WireId],
 ) -> Result<Op, NoMemory>
     requires sound { Sound graph.now words.now (drawing_of circuit.old) }
     requires ready { All (λ u. Placed (drawing_of circuit.old).wires u.0) wires.now }
+    requires room { HasRoom (drawing_of circuit.old) (any_cost (length wires.now)) }
     ensures { IfOk result (λ op. Lowers graph.now words.now (drawing_of circuit.old) (drawing_of circuit.new)
         op (any_sense graph.now wires.now) (any_cost (length wires.now))) }
 {

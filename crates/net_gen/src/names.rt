@@ -6,7 +6,7 @@ ghost use Rattle.grc_words.specs.declared.table.Source.{Source};
 ghost use Rattle.net_gen.specs.Drawings.{drawing_of};
 ghost use Rattle.net_gen.specs.Readiness.{SourceReady, source_net};
 
-use crate::circuit::Circuit;
+use crate::circuit::Draft;
 use est_base::{NoMemory, Text};
 use est_kernel::KernelProgram;
 use grc_words::Source;
@@ -40,7 +40,7 @@ fn signal_name(alloc: Global, program: &KernelProgram, signal: usize) -> Result<
 pub(crate) fn outputs_of(
     alloc: Global,
     program: &KernelProgram,
-    circuit: &Circuit,
+    circuit: &Draft,
     sources: &[Source],
 ) -> Result<Vec<NetOut>, NoMemory>
     requires interface { interface_count (program_of program.now) ≤ length program.now.signals.items }

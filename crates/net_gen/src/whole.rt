@@ -1,14 +1,16 @@
 // The whole circuit of a graph.
 
-ghost use Rattle.std.specs.Prelude.{map, IfOk};
+ghost use Rattle.std.specs.Prelude.{◌+◌, ◌<◌, ◌^◌, length, map, IfOk};
 ghost use Rattle.grc_graph.specs.PlainGraphs.{formula_of, instances_of, names_of};
 ghost use Rattle.grc_graph.specs.Reads.{IsReadingOrder};
 ghost use Rattle.grc_words.specs.WordLaws.{AreWordsOf};
+ghost use Rattle.net_gen.specs.Costs.{gates_at_most};
 ghost use Rattle.net_gen.specs.Drawings.{drawing_of};
 ghost use Rattle.net_gen.specs.Making.{CircuitMade};
+ghost use Rattle.net_gen.specs.Senses.{first_of};
 
 use crate::begin::begin;
-use crate::circuit::Circuit;
+use crate::circuit::Draft;
 use crate::making::{make_next, make_rows, make_wires};
 use est_base::{NetId, NoMemory};
 use grc_graph::{Graph, Order};
@@ -18,7 +20,7 @@ use std::alloc::Global;
 /// A circuit that has a net for each wire and row, and the nets of the leaves' next values.
 #[derive(Drop)]
 pub(crate) struct Whole {
-    pub circuit: Circuit,
+    pub circuit: Draft,
     pub next: Vec<NetId>,
 }
 
@@ -34,6 +36,8 @@ pub(crate) fn make_circuit(
     requires order { IsReadingOrder (names_of graph.now)
         (map (formula_of (instances_of graph.now) (names_of graph.now)) graph.now.equations.items)
         order.now.list.items }
+    requires room { first_of graph.now + gates_at_most graph.now (length words.now.rows.items) order.now.list.items
+        < 2 ^ 32 }
     ensures { IfOk result (λ whole. CircuitMade graph.now words.now order.now.list.items
         (drawing_of whole.circuit) whole.next.items) }
 {

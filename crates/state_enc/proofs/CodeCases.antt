@@ -47,11 +47,10 @@ few-coded f g a b way bit w es (two h k) none fa fb = absurd (omega arith)
 
 pub no-codes : (t : Shape) (way : Way) (bit : ℕ) → (widths_of t).parts ≡ 0 → leaf_codes t way bit ≡ []
 no-codes NoLeaf way bit none = refl
-no-codes (OneLeaf k) way bit none = absurd (omega arith)
 no-codes (OneOf a b) way bit none =
     few-coded (leaf_codes a) (leaf_codes b) (widths_of a) (widths_of b) way bit _ _
     (coding (leaf_codes a) (leaf_codes b) (widths_of a) (widths_of b) way bit) none (no-codes a way bit) (no-codes b way bit)
-no-codes (AllOf x y a b) way bit none = absurd (omega arith)
+no-codes _ way bit none = absurd (omega arith)
 
 -- ---- some leaf of the code is selected where one of the tree is
 

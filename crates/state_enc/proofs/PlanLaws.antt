@@ -33,11 +33,10 @@ no-width-coded f g a b w es (two h k) none fa fb = absurd (omega arith)
 -- a tree without parts takes no bits
 no-width : (t : Shape) → (widths_of t).parts ≡ 0 → widths_of t ≡ no_widths
 no-width NoLeaf none = refl
-no-width (OneLeaf k) none = absurd (omega arith)
 no-width (OneOf a b) none =
     no-width-coded (leaf_codes a) (leaf_codes b) (widths_of a) (widths_of b) _ _ (coding (leaf_codes a) (leaf_codes b) (widths_of a) (widths_of b) Full 0) none
     (no-width a) (no-width b)
-no-width (AllOf x y a b) none = absurd (omega arith)
+no-width _ none = absurd (omega arith)
 
 no-bits : (way : Way) (a b : Widths) → a ≡ no_widths → width_by way a ≤ width_by way b
 no-bits way a b e = subst (λ w. width_by way w ≤ width_by way b) (sym e) (by way)

@@ -36,10 +36,7 @@ module _ {X Y : Type 0} (none : X) (join : Form → X → X → X) (nothing : Y)
   fused-if false x y q = e
 
   fused : (b : Bool) (t : Term) (n k : ℕ) → h (fold_tree none join b t n k) ≡ fold_tree nothing joined b t n k
-  fused b Nothing n k = e
   fused b Pause n k = fused-if b _ _ (each (Leaf k) none none ∙ (λ i. joined (Leaf k) (e i) (e i)))
-  fused b (Emit s) n k = e
-  fused b (Exit c) n k = e
   fused b (Present x p q) n k =
       let one = fused (resumes p) p (n + 1) k in
       let other = fused (resumes q) q (n + 1 + statement_count p) (k + length (leaf_paths (resumes p) p (n + 1))) in
@@ -64,13 +61,11 @@ module _ {X Y : Type 0} (none : X) (join : Form → X → X → X) (nothing : Y)
   fused b (Local s p) n k =
       let one = fused (resumes p) p (n + 1) k in
       fused-if b _ _ (each Passing _ none ∙ (λ i. joined Passing (one i) (e i)))
-  fused b (Awake x p) n k = e
+  fused b _ n k = e
 
 widths-joined : (f : Form) (a b : Shape) → widths_of (joined_shape f a b) ≡ joined_widths f (widths_of a) (widths_of b)
 widths-joined (Leaf k) a b = refl
-widths-joined Exclusive a b = refl
-widths-joined (Parallel x y) a b = refl
-widths-joined Passing a b = refl
+widths-joined _ a b = refl
 
 -- the widths of a shape are those of its tree
 pub widths-are : (body : Term) → widths_of (shape_of (resumes body) body 0 0) ≡ tree_widths body
@@ -82,19 +77,13 @@ judged bits t = record { holds = holds_in (value_in bits) t; formed = formed_in 
 judged-joined : (bits : List Bool) (f : Form) (a b : Shape) → judged bits (joined_shape f a b) ≡ combined bits f (judged bits a) (judged bits b)
 unfolding judged
 judged-joined bits (Leaf k) a b = refl
-judged-joined bits Exclusive a b = refl
-judged-joined bits (Parallel x y) a b = refl
-judged-joined bits Passing a b = refl
+judged-joined bits _ a b = refl
 
 judged-nothing : (bits : List Bool) → judged bits NoLeaf ≡ none_selected
 unfolding judged
 judged-nothing bits = refl
 
 judgement-is-fold : (bits : List Bool) (b : Bool) (t : Term) (n k : ℕ) → judgement bits b t n k ≡ fold_tree none_selected (combined bits) b t n k
-judgement-is-fold bits b Nothing n k = refl
-judgement-is-fold bits b Pause n k = refl
-judgement-is-fold bits b (Emit s) n k = refl
-judgement-is-fold bits b (Exit c) n k = refl
 judgement-is-fold bits b (Present x p q) n k =
     let one = judgement-is-fold bits (resumes p) p (n + 1) k in
     let other = judgement-is-fold bits (resumes q) q (n + 1 + statement_count p) (k + length (leaf_paths (resumes p) p (n + 1))) in
@@ -115,7 +104,7 @@ judgement-is-fold bits b (Trap p) n k =
     let one = judgement-is-fold bits (resumes p) p (n + 1) k in λ i. if b then combined bits Passing (one i) none_selected else none_selected
 judgement-is-fold bits b (Local s p) n k =
     let one = judgement-is-fold bits (resumes p) p (n + 1) k in λ i. if b then combined bits Passing (one i) none_selected else none_selected
-judgement-is-fold bits b (Awake x p) n k = refl
+judgement-is-fold bits b _ n k = refl
 
 -- leaves are selected as the shape wants where they are a well-formed selection of the body
 pub formed-body : (bits : List Bool) (body : Term) → well_formed (selecting (body_leaves body) bits) body 0 ≡ true
@@ -162,10 +151,7 @@ leaves-two xs ys us vs k e f =
 
 pub leaves-shape : (b : Bool) (t : Term) (n k : ℕ) → leaves_in (shape_of b t n k) ≡ ascending k (length (leaf_paths b t n))
 unfolding ascending
-leaves-shape b Nothing n k = refl
 leaves-shape b Pause n k = leaves-if b (OneLeaf k) (n ∷ []) k refl
-leaves-shape b (Emit s) n k = refl
-leaves-shape b (Exit c) n k = refl
 leaves-shape b (Present x p q) n k = leaves-if b _ _ k (leaves-two _ _ (leaf_paths (resumes p) p (n + 1)) (leaf_paths (resumes q) q (n + 1 + statement_count
     p)) k
     (leaves-shape (resumes p) p (n + 1) k) (leaves-shape (resumes q) q (n + 1 + statement_count p) (k + length (leaf_paths (resumes p) p (n + 1)))))
@@ -178,7 +164,7 @@ leaves-shape b (Par p q) n k = leaves-if b _ _ k (leaves-two _ _ (leaf_paths (re
     (leaves-shape (resumes p) p (n + 1) k) (leaves-shape (resumes q) q (n + 1 + statement_count p) (k + length (leaf_paths (resumes p) p (n + 1)))))
 leaves-shape b (Trap p) n k = leaves-if b _ _ k (leaves-shape (resumes p) p (n + 1) k)
 leaves-shape b (Local s p) n k = leaves-if b _ _ k (leaves-shape (resumes p) p (n + 1) k)
-leaves-shape b (Awake x p) n k = refl
+leaves-shape b _ n k = refl
 
 -- the leaves of a code, in order
 abbrev leaves_of : List LeafCode → List ℕ
@@ -200,8 +186,6 @@ leaves-absent : (t : Shape) (xs : List ℕ) → (widths_of t).parts ≡ 0 → le
 leaves-absent t xs none e = sym e ∙ ap leaves_of (no-codes t Full 0 none)
 
 pub codes-leaves : (t : Shape) (way : Way) (bit : ℕ) → leaves_of (leaf_codes t way bit) ≡ leaves_in t
-codes-leaves NoLeaf way bit = refl
-codes-leaves (OneLeaf k) way bit = refl
 codes-leaves (OneOf a b) way bit =
     leaves-coded (leaf_codes a) (leaf_codes b) (widths_of a) (widths_of b) way bit _ _ (leaves_in a) (leaves_in b)
     (coding (leaf_codes a) (leaf_codes b) (widths_of a) (widths_of b) way bit)
@@ -214,6 +198,7 @@ codes-leaves (AllOf x y a b) way bit =
     let second = leaf_codes b (branch_way y) (base + branch_width x (widths_of a)) in
     leaves-front (front_code way said bit) (first ++ second) ∙ map-append (λ (e : LeafCode). e.leaf) first second
     ∙ (λ i. codes-leaves a (branch_way x) base i ++ codes-leaves b (branch_way y) (base + branch_width x (widths_of a)) i)
+codes-leaves _ way bit = refl
 
 -- ---- leaves by their places
 

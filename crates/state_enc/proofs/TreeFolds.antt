@@ -27,14 +27,8 @@ fold-empty none join b Nothing n i k h = refl
 fold-empty none join b Pause n i k h = empty_if none b n i (Leaf k) [] _ h
 fold-empty none join b (Emit s) n i k h = refl
 fold-empty none join b (Exit c) n i k h = refl
-fold-empty none join b (Present e p q) n i k h = empty_if none b n i _ _ _ h
-fold-empty none join b (Suspend e p) n i k h = empty_if none b n i _ _ _ h
-fold-empty none join b (Seq p q) n i k h = empty_if none b n i _ _ _ h
-fold-empty none join b (Loop at p) n i k h = empty_if none b n i _ _ _ h
-fold-empty none join b (Par p q) n i k h = empty_if none b n i _ _ _ h
-fold-empty none join b (Trap p) n i k h = empty_if none b n i _ _ _ h
-fold-empty none join b (Local s p) n i k h = empty_if none b n i _ _ _ h
 fold-empty none join b (Awake e p) n i k h = refl
+fold-empty none join b _ n i k h = empty_if none b n i _ _ _ h
 
 -- A statement with nodes is a node over those of two parts; a form with fewer parts has an empty second one.
 record Row {X : Type 0} (none : X) (join : Form → X → X → X) (t : Term) (n i k : ℕ) : Type 0 where

@@ -16,7 +16,7 @@ use Rattle.grc_graph.specs.Equations.{equations, wires, next_formula}
 use Rattle.grc_graph.specs.Edges.{Edge, edge, edges}
 use Rattle.grc_graph.specs.Residuals.{resumption}
 use Rattle.grc_graph.specs.Walk.{State, Initial, Selecting, body_walk}
-use Rattle.grc_graph.specs.Readings.{Valuation, seen_values, boolean_reading}
+use Rattle.grc_graph.specs.Readings.{Valuation, seen_values, boolean_interpretation}
 
 abbrev place : ℕ → Span
 place n = record { start = n; end = n + 1 }
@@ -54,13 +54,13 @@ same_edges es fs = list_all (λ e. list_any (same_edge e) fs) es && list_all (λ
 abbrev equation_values : Term → State → List Bool → List Bool → List Bool
 unfolding listed codes_below
 equation_values t q event bs =
-    map (λ e. meaning (boolean_reading scope t q (value_of event) (value_at (graph_wires t) bs)) e.formula)
+    map (λ e. meaning (boolean_interpretation scope t q (value_of event) (value_at (graph_wires t) bs)) e.formula)
     (equations 2 outgoing (graph_spots t))
 
 abbrev next_values : Term → State → List Bool → List Bool → List ℕ → List Bool
 unfolding listed codes_below
 next_values t q event bs leaves =
-    map (λ n. meaning (boolean_reading scope t q (value_of event) (value_at (graph_wires t) bs)) (next_formula n (body_layers t n)))
+    map (λ n. meaning (boolean_interpretation scope t q (value_of event) (value_at (graph_wires t) bs)) (next_formula n (body_layers t n)))
     leaves
 
 record Seen : Type 0 where

@@ -3,7 +3,7 @@ use Rattle.std.proofs.Common.{◌≡◌, ℕ, List, [], ◌∷◌, map, None, So
 use Rattle.est_base.specs.declared.place.Span.{Span}
 use Rattle.est_kernel.specs.Plain.{Program}
 use Rattle.est_kernel.specs.Terms.{Tick, Sig, And, Term, Nothing, Pause, Emit, Exit, Present, Suspend, Seq, Loop, Par, Trap, Local}
-use Rattle.grc_graph.specs.BuiltGraphs.{live_tests}
+use Rattle.grc_graph.specs.GraphSizes.{live_tests}
 use Rattle.grc_graph.specs.Layers as layers
 use Rattle.grc_graph.specs.WireNames.{Resumed, Started, Out, Go, StatusOf, End, paths, bound_at, wire_name}
 use Rattle.grc_graph.specs.Wires as wires

@@ -4,7 +4,7 @@ use Rattle.std.proofs.lemmas.List.{length-map, take_all}
 use Rattle.est_base.specs.declared.bounds.TheConstants.Limits.{WIRES}
 use Rattle.est_kernel.specs.Plain.{program_of, term_of, outgoing_count}
 use Rattle.est_kernel.proofs.Exports.{trees_are_kernels_lem}
-use Rattle.grc_graph.specs.BuiltGraphs.{graph_size}
+use Rattle.grc_graph.specs.GraphSizes.{graph_size}
 use Rattle.grc_graph.specs.PlainInstances.{instance_of, layer_of}
 use Rattle.grc_graph.specs.Wires.{instance_codes}
 use Rattle.grc_graph.proofs.Exports.{first_instance, statement_read, codes_read, length-statements}

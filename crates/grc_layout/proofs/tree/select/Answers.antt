@@ -33,6 +33,13 @@ invariant_of-result c =
     record {
       nested = tree_nests c.select_part.new.draft.nodes.items (term_of c.args.body.now) tree.nodes;
       numbered = tree_numbers c.select_part.new.draft.nodes.items c.select_part.new.draft.leaves (term_of c.args.body.now) tree.nodes tree.leaves;
+      few = omega (
+        arith,
+        c.in_ok-select_part.ensures.few,
+        ap length c.new.ensures.items,
+        statement_count-le (term_of c.args.body.now),
+        c.requires.limits.size,
+      );
     }
 
 pub returns-clause-nodes : goal.returns-clause-nodes

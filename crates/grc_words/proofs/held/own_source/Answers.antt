@@ -12,7 +12,8 @@ use Rattle.grc_graph.specs.Statements.{Listed}
 use Rattle.grc_graph.specs.Wires.{Go}
 use Rattle.grc_graph.specs.WireTables.{IsNumberOf}
 use Rattle.grc_words.specs.Holdings.{OwnMade}
-use Rattle.grc_words.specs.Sizes.{statement_row, test_of}
+use Rattle.grc_words.specs.Sizes.{statement_row}
+use Rattle.grc_graph.specs.RowCosts.{test_of}
 use Rattle.grc_words.proofs.HoldingSteps.{own-other, own-suspends, suspension-room, suspends_by}
 use Rattle.grc_words.proofs.held.own_source.Goals as goal
 

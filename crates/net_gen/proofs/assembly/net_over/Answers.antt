@@ -11,6 +11,7 @@ use Rattle.net_gen.specs.Drawings.{drawing_of}
 use Rattle.net_gen.specs.Readiness.{source_net}
 use Rattle.net_gen.proofs.NetFacts.{is-net, has-interface, follows-instants}
 use Rattle.net_gen.proofs.NetRuns.{follows-runs}
+use Rattle.net_gen.proofs.SizeBounds.{numbers_small}
 use Rattle.net_gen.proofs.assembly.net_over.Goals as goal
 
 pub invariant_of-result : goal.invariant_of-result
@@ -73,3 +74,6 @@ returns-clause-graph c =
     let interface = has-interface g w c.args.order.now.list.items (drawing_of circuit) nets net c.in_ok-circuit.ensures around in
     let instants = follows-instants g w c.args.order.now.list.items (drawing_of circuit) nets net signals c.requires.words c.in_ok-circuit.ensures around in
     record { interface = interface; instants = instants; runs = follows-runs g net interface instants }
+
+pub make_circuit-requires-clause-room : goal.make_circuit-requires-clause-room
+make_circuit-requires-clause-room c = numbers_small c.args.graph.now c.args.words.now _ c.args.order.now.list.items c.requires.order

@@ -8,13 +8,15 @@ use Rattle.grc_graph.specs.PlainGraphs.{formula_of, instances_of, names_of, wire
 use Rattle.grc_words.specs.declared.table.Source.TheVariants.{Const}
 use Rattle.grc_words.specs.WordLaws.{selected_source}
 use Rattle.net_ir.specs.declared.netlist.Op.TheVariants.{Copy}
-use Rattle.net_gen.specs.Costs.{cost_of, any_cost}
+use Rattle.grc_graph.specs.GateCosts.{cost_of, any_cost}
 use Rattle.net_gen.specs.Drawings.{drawing_of, Placed}
 use Rattle.net_gen.specs.Growing.{Lowers}
 use Rattle.net_gen.specs.Readiness.{FormulaReady, kept_source, held_source, source_net}
 use Rattle.net_gen.specs.Senses.{form_sense, any_sense}
 use Rattle.net_gen.proofs.Lowering.{lowers-same, not-lowered, and-lowered, or-lowered, second-ready}
 use Rattle.net_gen.proofs.Wording.{lowers-const, lowers-boot, lowers-input, lowers-wire, lowers-selected, lowers-kept, lowers-held, lowers-upto, lowers-any}
+use Rattle.net_gen.proofs.Growth.{places-lowered}
+use Rattle.net_gen.proofs.Rooms.{room-lowered, room-placed}
 use Rattle.net_gen.proofs.Weights.{weight}
 use Rattle.net_gen.proofs.formulas.+lower.Goals as goal
 
@@ -36,7 +38,15 @@ lower-requires-in-And-2 t c =
     c.in_ok-first-in-And.ensures.number c.in_ok-first-in-And.ensures.fits right in
     let whole = ap weight c.in-And.is in
     let part = ap weight c.deref-in-And-2.ensures in
-    (omega arith, (c.requires.words, (next.0, next.1)))
+    let first = places-lowered g w old (drawing_of c.lower-in-And.new.circuit) (drawing_of c.net-in-And.new.self) c.in_ok-op-in-And.op
+    c.in_ok-first-in-And.first.0 _ (cost_of c.deref-in-And.result.now) c.in_ok-op-in-And.ensures c.in_ok-first-in-And.ensures.drawn
+    c.in_ok-first-in-And.ensures.number c.in_ok-first-in-And.ensures.fits in
+    let costs = ap cost_of c.in-And.is in
+    let left_cost = ap cost_of c.deref-in-And.ensures in
+    let right_cost = ap cost_of c.deref-in-And-2.ensures in
+    let room = room-placed g w old (drawing_of c.net-in-And.new.self) c.in_ok-first-in-And.first.0 _ (cost_of c.deref-in-And.result.now)
+    (cost_of c.deref-in-And-2.result.now) (cost_of c.args.formula.now) c.requires.sound first (omega arith) c.requires.room in
+    (omega arith, (c.requires.words, (next.0, (next.1, room))))
 
 pub lower-requires-in-Or-2 : goal.lower-requires-in-Or-2
 lower-requires-in-Or-2 t c =
@@ -50,7 +60,15 @@ lower-requires-in-Or-2 t c =
     c.in_ok-first-in-Or.ensures.number c.in_ok-first-in-Or.ensures.fits right in
     let whole = ap weight c.in-Or.is in
     let part = ap weight c.deref-in-Or-2.ensures in
-    (omega arith, (c.requires.words, (next.0, next.1)))
+    let first = places-lowered g w old (drawing_of c.lower-in-Or.new.circuit) (drawing_of c.net-in-Or.new.self) c.in_ok-op-in-Or.op
+    c.in_ok-first-in-Or.first.0 _ (cost_of c.deref-in-Or.result.now) c.in_ok-op-in-Or.ensures c.in_ok-first-in-Or.ensures.drawn
+    c.in_ok-first-in-Or.ensures.number c.in_ok-first-in-Or.ensures.fits in
+    let costs = ap cost_of c.in-Or.is in
+    let left_cost = ap cost_of c.deref-in-Or.ensures in
+    let right_cost = ap cost_of c.deref-in-Or-2.ensures in
+    let room = room-placed g w old (drawing_of c.net-in-Or.new.self) c.in_ok-first-in-Or.first.0 _ (cost_of c.deref-in-Or.result.now)
+    (cost_of c.deref-in-Or-2.result.now) (cost_of c.args.formula.now) c.requires.sound first (omega arith) c.requires.room in
+    (omega arith, (c.requires.words, (next.0, (next.1, room))))
 
 pub any_of-requires-clause-ready : goal.any_of-requires-clause-ready
 any_of-requires-clause-ready t c =
@@ -184,3 +202,13 @@ returns-in_ok-op-in-AnyOf t c =
     let form = ap (formula_of (instances_of g) (names_of g)) c.in-AnyOf.is in
     subst (λ k. Lowers g w old new c.in_ok-op-in-AnyOf.op (form_sense g c.args.formula.now) k) (sym (ap cost_of c.in-AnyOf.is))
     (lowers-any g w old new c.in_ok-op-in-AnyOf.op c.args.formula.now list (any_cost (length list)) form lowered)
+
+pub ends_op-requires-clause-room : goal.ends_op-requires-clause-room
+ends_op-requires-clause-room t c = let room = c.requires.room in omega arith
+
+pub any_of-requires-clause-room : goal.any_of-requires-clause-room
+any_of-requires-clause-room t c =
+    let cost = ap cost_of c.in-AnyOf.is in
+    let same = ap (λ xs. any_cost (length xs)) c.deref-in-AnyOf.ensures.value in
+    let room = c.requires.room in
+    omega arith

@@ -3,10 +3,11 @@ use Rattle.std.proofs.lemmas.List.{take_more, take_all}
 use Rattle.est_base.specs.declared.indices.WireId.{WireId}
 use Rattle.net_gen.specs.Drawings.{drawing_of}
 use Rattle.net_ir.specs.declared.netlist.Op.TheVariants.{Copy}
-use Rattle.net_gen.specs.Costs.{any_cost}
+use Rattle.grc_graph.specs.GateCosts.{any_cost}
 use Rattle.net_gen.specs.Growing.{Joins, Lowers}
 use Rattle.net_gen.specs.Senses.{any_sense}
 use Rattle.net_gen.proofs.Joining.{joins-wires, joins-step, joins-none}
+use Rattle.net_gen.proofs.Rooms.{room-joined}
 use Rattle.net_gen.proofs.formulas.any_of.Goals as goal
 
 pub entry-own-requires : goal.entry-own-requires
@@ -43,3 +44,8 @@ returns-in-None c =
     c.loop-wire.invariant c.in-None.is in
     subst (λ xs. Lowers g w (drawing_of c.args.circuit.now) (drawing_of c.loop-wire.circuit) (Copy c.loop-wire.circuit.no) (any_sense g xs)
     (any_cost (length xs))) whole joined
+
+pub join-requires : goal.join-requires
+join-requires c =
+    room-joined c.args.graph.now c.args.words.now (drawing_of c.args.circuit.now) (drawing_of c.loop-wire.circuit) c.loop-wire.so_far c.args.wires.now
+    c.loop-wire.wire-index c.requires.sound c.loop-wire.invariant c.loop-wire-test.true c.requires.room

@@ -13,6 +13,7 @@ use Rattle.net_gen.specs.Growing.{Lowers}
 use Rattle.net_gen.specs.Readiness.{EndsReady}
 use Rattle.net_gen.specs.Senses.{run_sense}
 use Rattle.net_gen.proofs.EndRuns.{RunMade, run-step, run-some, run-empty}
+use Rattle.net_gen.proofs.Rooms.{next-small, room-later}
 use Rattle.net_gen.proofs.formulas.ends_op.Goals as goal
 
 -- the first end and the number of ends that the function read are those of the table
@@ -103,3 +104,9 @@ returns-in-None c =
     let made = ends-made g w (drawing_of c.args.circuit.now) (drawing_of c.loop-wire.circuit) c.loop-wire.so_far i c.args.code c.loop-wire.wire
     c.index.result.now.0 c.ends_from-count.result f n c.loop-wire.invariant c.loop-wire.auto.wire (omega arith) c.loop-wire-test.false in
     run-empty g w (drawing_of c.args.circuit.now) (drawing_of c.loop-wire.circuit) c.loop-wire.so_far _ _ made c.in-None.is
+
+pub run-requires-clause-room : goal.run-requires-clause-room
+run-requires-clause-room c =
+    let m = c.loop-wire.invariant in
+    next-small (drawing_of c.loop-wire.circuit) 0 (room-later c.args.graph.now c.args.words.now (drawing_of c.args.circuit.now)
+    (drawing_of c.loop-wire.circuit) 0 0 c.requires.sound m.grew.sound (omega (arith, m.within)) c.requires.room)

@@ -5,6 +5,7 @@ use Rattle.net_gen.specs.Drawings.{drawing_of}
 use Rattle.net_gen.specs.Making.{NextMade}
 use Rattle.net_gen.proofs.Lowering.{placed-stays}
 use Rattle.net_gen.proofs.Reading.{ready-late}
+use Rattle.net_gen.proofs.Rooms.{room-lowered, room-next}
 use Rattle.net_gen.proofs.WireSteps.{next-step}
 use Rattle.net_gen.proofs.making.make_next.Goals as goal
 
@@ -42,3 +43,25 @@ returns c =
     let whole : c.loop-formula.formula-index ≡ length g.next.items = omega (arith, ap length c.as_slice-formula-items.ensures.value) in
     subst (λ n. NextMade g c.args.words.now (drawing_of c.args.circuit.now) (drawing_of c.loop-formula.circuit) c.loop-formula.nets.items n) whole
     c.loop-formula.invariant
+
+pub lower-requires-clause-room : goal.lower-requires-clause-room
+lower-requires-clause-room c =
+    let g = c.args.graph.now in
+    let j = c.loop-formula.formula-index in
+    let f = c.formula-item.result in
+    let h : j < length g.next.items = omega (arith, ap length c.as_slice-formula-items.ensures.value) in
+    let is : f ≡ slice_index_or g.next.items j f = c.formula-item.is ∙ ap (λ xs. slice_index_or xs j f) c.as_slice-formula-items.ensures.value in
+    room-next g c.args.words.now (drawing_of c.args.circuit.now) (drawing_of c.loop-formula.circuit) c.loop-formula.nets.items f j c.requires.sound
+    c.loop-formula.invariant h is c.requires.room
+
+pub net-requires : goal.net-requires
+net-requires c =
+    let g = c.args.graph.now in
+    let w = c.args.words.now in
+    let j = c.loop-formula.formula-index in
+    let f = c.formula-item.result in
+    let now = drawing_of c.loop-formula.circuit in
+    let h : j < length g.next.items = omega (arith, ap length c.as_slice-formula-items.ensures.value) in
+    let is : f ≡ slice_index_or g.next.items j f = c.formula-item.is ∙ ap (λ xs. slice_index_or xs j f) c.as_slice-formula-items.ensures.value in
+    let room = room-next g w (drawing_of c.args.circuit.now) now c.loop-formula.nets.items f j c.requires.sound c.loop-formula.invariant h is c.requires.room in
+    room-lowered g w now (drawing_of c.lower.new.circuit) c.in_ok-op.op _ _ _ c.loop-formula.invariant.grew.sound c.in_ok-op.ensures (omega arith) room

@@ -1,6 +1,7 @@
 use Rattle.std.proofs.Common.{◌≡◌, ◌<◌, length, slice_index_or, sym, subst, arith}
 use Rattle.net_gen.specs.Drawings.{drawing_of}
 use Rattle.net_gen.specs.Readiness.{RowReads, RowReady}
+use Rattle.net_gen.proofs.Rooms.{room-row}
 use Rattle.net_gen.proofs.RowSteps.{row-now, rows-step}
 use Rattle.net_gen.proofs.making.make_rows.Goals as goal
 
@@ -28,3 +29,8 @@ loop-row-preserved c =
     let ready = row-now g w old now k x c.requires.sound m.sound m.wires m.placed reads in
     rows-step g w old now (drawing_of c.add_row.new.self) c.row-op.result c.args.from k x m c.requires.words.fit low read ready c.row-op.ensures
     c.in_ok-add_row.ensures.drawn c.in_ok-add_row.ensures.fits
+
+pub add_row-requires-clause-room : goal.add_row-requires-clause-room
+add_row-requires-clause-room c =
+    room-row c.args.graph.now c.args.words.now (drawing_of c.args.circuit.now) (drawing_of c.loop-row.circuit) c.args.from c.loop-row.row c.args.to
+    c.requires.sound c.loop-row.invariant c.loop-row.auto.row c.loop-row-test.true c.requires.room

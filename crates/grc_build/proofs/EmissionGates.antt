@@ -20,8 +20,8 @@ use Rattle.grc_graph.specs.Scopes.{Scope}
 use Rattle.grc_graph.specs.Spots.{Spot}
 use Rattle.grc_graph.specs.Wires.{Wire, Out, Go, StatusOf, End, same_wire, status_wire, own_status}
 use Rattle.grc_graph.proofs.Exports.{instances_ascend_lem, program_spots_by_row, sum_none, sum_mapped, sum_swap, layer_irrefl, same_layer-true}
-use Rattle.net_gen.proofs.FormulaGates.{joined}
-use Rattle.net_gen.proofs.InstanceGates.{emit_gates}
+use Rattle.grc_build.proofs.FormulaGates.{joined}
+use Rattle.grc_build.proofs.InstanceGates.{emit_gates}
 
 abbrev pub one_if : Bool → ℕ
 one_if b = if b then 1 else 0
@@ -50,22 +50,12 @@ once_at_most ws = (v : Wire) → sum_by (λ w. one_if (same_wire v w)) ws ≤ 1
 
 emits_once : (ws : List Wire) → once_at_most ws → (t : Term) (B : Scope) (l : Layer)
     → sum_by (λ w. one_if (emits_on w t B l)) ws ≤ emit_gates t
-emits_once ws h Nothing B l = omega (arith, sum_none ws)
-emits_once ws h Pause B l = omega (arith, sum_none ws)
 emits_once ws h (Emit s) B l = by (status_wire (B s) s l)
   where
     by : (o : Option Wire) → sum_by (λ w. one_if (is_wire o w)) ws ≤ 1
     by None = omega (arith, sum_none ws)
     by (Some v) = h v
-emits_once ws h (Exit k) B l = omega (arith, sum_none ws)
-emits_once ws h (Present e p q) B l = omega (arith, sum_none ws)
-emits_once ws h (Suspend e p) B l = omega (arith, sum_none ws)
-emits_once ws h (Seq p q) B l = omega (arith, sum_none ws)
-emits_once ws h (Loop at p) B l = omega (arith, sum_none ws)
-emits_once ws h (Par p q) B l = omega (arith, sum_none ws)
-emits_once ws h (Trap p) B l = omega (arith, sum_none ws)
-emits_once ws h (Local s p) B l = omega (arith, sum_none ws)
-emits_once ws h (Awake e p) B l = omega (arith, sum_none ws)
+emits_once ws h _ B l = omega (arith, sum_none ws)
 
 pub emitters_once : (ws : List Wire) (all : List Spot) → once_at_most ws → sum_by (emitters all) ws ≤ sum_by (λ x. emit_gates x.statement) all
 emitters_once ws all h =
@@ -137,36 +127,16 @@ places_once b l (x ∷ xs) h = elim (cases_Bool (is_place b l x)) [
 -- the status wire of an instance is of that instance
 status_place : (b : ℕ) (l : Layer) (t : Term) (y : Instance)
     → sum_by (λ w. one_if (same_wire (StatusOf b l) w)) (own_status t y.path y.layer) ≤ one_if (is_place b l y)
-status_place b l Nothing y = omega arith
-status_place b l Pause y = omega arith
-status_place b l (Emit s) y = omega arith
-status_place b l (Exit k) y = omega arith
-status_place b l (Present e p q) y = omega arith
-status_place b l (Suspend e p) y = omega arith
-status_place b l (Seq p q) y = omega arith
-status_place b l (Loop at p) y = omega arith
-status_place b l (Par p q) y = omega arith
-status_place b l (Trap p) y = omega arith
 status_place b l (Local s p) y = omega (arith, sum_by-cons (λ w. one_if (same_wire (StatusOf b l) w)) (StatusOf y.path y.layer) [])
-status_place b l (Awake e p) y = omega arith
+status_place b l _ y = omega arith
 
 -- what is no status wire is none of them
 no_status : (v : Wire) → ((n : ℕ) (l : Layer) → same_wire v (StatusOf n l) ≡ false) → (t : Term) (n : ℕ) (l : Layer)
     → sum_by (λ w. one_if (same_wire v w)) (own_status t n l) ≤ 0
-no_status v h Nothing n l = omega arith
-no_status v h Pause n l = omega arith
-no_status v h (Emit s) n l = omega arith
-no_status v h (Exit k) n l = omega arith
-no_status v h (Present e p q) n l = omega arith
-no_status v h (Suspend e p) n l = omega arith
-no_status v h (Seq p q) n l = omega arith
-no_status v h (Loop at p) n l = omega arith
-no_status v h (Par p q) n l = omega arith
-no_status v h (Trap p) n l = omega arith
 no_status v h (Local s p) n l =
     let none : one_if (same_wire v (StatusOf n l)) ≡ 0 = ap one_if (h n l) in
     omega (arith, none, sum_by-cons (λ w. one_if (same_wire v w)) (StatusOf n l) [])
-no_status v h (Awake e p) n l = omega arith
+no_status v h _ n l = omega arith
 
 no_statuses : (v : Wire) → ((n : ℕ) (l : Layer) → same_wire v (StatusOf n l) ≡ false) → (all : List Spot)
     → sum_by (λ w. one_if (same_wire v w)) (flat_map (λ x. own_status x.statement x.path x.layer) all) ≡ 0

@@ -4,12 +4,12 @@ use Rattle.std.proofs.Common.{◌≡◌, ℕ, ◌+◌, ◌*◌, ◌≤◌, lengt
 use Rattle.std.proofs.lemmas.List.{length-map}
 use Rattle.est_kernel.specs.Sizes.{test_size}
 use Rattle.est_kernel.specs.Terms.{Expression, Tick, Sig, Not, And, Or, Term, Nothing, Pause, Emit, Exit, Present, Suspend, Seq, Loop, Par, Trap, Local, Awake}
-use Rattle.grc_graph.specs.BuiltGraphs.{live_tests}
+use Rattle.grc_graph.specs.GraphSizes.{live_tests}
 use Rattle.grc_graph.specs.Layers.{Layer, Resumed, Started}
 use Rattle.grc_graph.specs.Statements.{Entry}
 use Rattle.grc_graph.specs.Wires.{End, listed, instance_codes, own_status, instance_wires}
-use Rattle.grc_words.specs.Sizes.{operators, test_of, rows_by}
-use Rattle.net_gen.proofs.FormulaGates.{where_started, where_resumed, entry_tests, dear_gates}
+use Rattle.grc_graph.specs.RowCosts.{operators, test_of, rows_by}
+use Rattle.grc_build.proofs.FormulaGates.{where_started, where_resumed, entry_tests, dear_gates}
 
 -- the wires of an instance
 abbrev pub wire_count : Term → Layer → ℕ
@@ -17,17 +17,7 @@ wire_count t l = 1 + (length (own_status t 0 l) + length (listed (instance_codes
 
 length-own_status : (t : Term) (n : ℕ) (l : Layer) → length (own_status t n l) ≡ length (own_status t 0 l)
 length-own_status Nothing n l = refl
-length-own_status Pause n l = refl
-length-own_status (Emit s) n l = refl
-length-own_status (Exit k) n l = refl
-length-own_status (Present e p q) n l = refl
-length-own_status (Suspend e p) n l = refl
-length-own_status (Seq p q) n l = refl
-length-own_status (Loop at p) n l = refl
-length-own_status (Par p q) n l = refl
-length-own_status (Trap p) n l = refl
-length-own_status (Local s p) n l = refl
-length-own_status (Awake e p) n l = refl
+length-own_status _ n l = refl
 
 pub wires_counted : (t : Term) (n : ℕ) (l : Layer) → length (instance_wires t n l) ≡ wire_count t l
 wires_counted t n l =
@@ -66,11 +56,10 @@ instance_gates t x l =
     + row_gates t l + emit_gates t + next_gates t l + 3
 
 operators_few : (e : Expression) → operators e + 1 ≤ test_size e
-operators_few Tick = omega arith
-operators_few (Sig s) = omega arith
 operators_few (Not a) = omega (arith, operators_few a)
 operators_few (And a b) = omega (arith, operators_few a, operators_few b)
 operators_few (Or a b) = omega (arith, operators_few a, operators_few b)
+operators_few _ = omega arith
 
 -- what does not go by the wires, and the tests of the parts
 others_few : (t : Term) (l : Layer)

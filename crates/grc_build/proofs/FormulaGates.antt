@@ -17,22 +17,15 @@ use Rattle.grc_graph.specs.Scopes.{Binding, Entering, Outgoing, BoundAt, Unbound
 use Rattle.grc_graph.specs.Spots.{status_formula, test_formula}
 use Rattle.grc_graph.specs.Statements.{Entry, Body, Part, Branch, Then, Else, Suspended, Second, Looped}
 use Rattle.grc_graph.specs.Wires.{Wire, Go, End, instance_codes}
-use Rattle.grc_words.specs.Sizes.{operators}
-use Rattle.net_gen.specs.Costs.{any_cost, cost_of}
+use Rattle.grc_graph.specs.RowCosts.{operators}
+use Rattle.grc_graph.specs.GateCosts.{any_cost, cost_of}
 
 -- the same as `cost_of`, by names
 abbrev pub gates_of : Formula → ℕ
-gates_of (Const b) = 0
-gates_of Boot = 0
-gates_of (Input s) = 0
-gates_of (Value w) = 0
-gates_of (Selected n) = 0
-gates_of (Upto n l k) = 0
-gates_of (Kept n l) = 0
-gates_of (Held n l) = 0
 gates_of (Negation a) = gates_of a + 1
 gates_of (Conjunction a b) = gates_of a + gates_of b + 1
 gates_of (Disjunction a b) = gates_of a + gates_of b + 1
+gates_of _ = 0
 
 -- each of these, and one to join it to the others
 abbrev pub joined : List Formula → ℕ
@@ -83,9 +76,7 @@ cost_by_name insts names (formulas.AnyOf v) = any_values (λ w. wire_at names w.
 
 status_gates : (b : Binding) (s : ℕ) (l : Layer) → gates_of (status_formula b s l) ≡ 0
 status_gates Entering s l = refl
-status_gates Outgoing s l = refl
-status_gates (BoundAt n) s l = refl
-status_gates Unbound s l = refl
+status_gates _ s l = refl
 
 pub tested_gates : (B : Scope) (e : Expression) (l : Layer) → gates_of (test_formula B e l) ≡ operators e
 tested_gates B Tick l = refl
@@ -105,14 +96,10 @@ where_resumed k (Started r) = 0
 
 -- the operators of the test that lets an instance run
 abbrev pub entry_tests : Entry → Layer → ℕ
-entry_tests Body l = 0
-entry_tests (Part n) l = 0
-entry_tests (Branch n) l = 0
 entry_tests (Then n e) l = where_started (operators e) l
 entry_tests (Else n e) l = where_started (operators e) l
 entry_tests (Suspended n e) l = where_resumed (operators e) l
-entry_tests (Second n) l = 0
-entry_tests (Looped n) l = 0
+entry_tests _ l = 0
 
 pub entry_gates : (B : Scope) (x : Entry) (c : ℕ) (l : Layer) → gates_of (entry_formula B x c l) ≤ 2 + entry_tests x l
 entry_gates B Body c Resumed = omega arith

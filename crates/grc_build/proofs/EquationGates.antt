@@ -19,10 +19,10 @@ use Rattle.grc_graph.specs.Scopes.{Scope}
 use Rattle.grc_graph.specs.Spots.{Spot}
 use Rattle.grc_graph.specs.Wires.{Wire, Out, Go, StatusOf, End, codes_below, listed, instance_codes, own_status}
 use Rattle.grc_graph.proofs.Exports.{codes_below-none, codes_below-suc, listed-below, program_spots_by_row, sum_both, sum_mapped}
-use Rattle.net_gen.proofs.EmissionGates.{emitters, emissions_joined, emitters_once, once_at_most, status_wires, statuses_apart}
-use Rattle.net_gen.proofs.FormulaGates.{gates_of, any_gates, any_within, entry_tests, entry_gates, end_gates, dear_code, dear_gates}
-use Rattle.net_gen.proofs.InstanceGates.{emit_gates}
-use Rattle.net_gen.proofs.RowGates.{Measure}
+use Rattle.grc_build.proofs.EmissionGates.{emitters, emissions_joined, emitters_once, once_at_most, status_wires, statuses_apart}
+use Rattle.grc_build.proofs.FormulaGates.{gates_of, any_gates, any_within, entry_tests, entry_gates, end_gates, dear_code, dear_gates}
+use Rattle.grc_build.proofs.InstanceGates.{emit_gates}
+use Rattle.grc_build.proofs.RowGates.{Measure}
 
 -- ---- the ends of an instance
 
@@ -76,21 +76,11 @@ equation_cost e = gates_of e.formula
 
 status_within : (all : List Spot) (t : Term) (n : ℕ) (l : Layer)
     → sum_by equation_cost (instance_status all t n l) ≤ sum_by (emitters all) (own_status t n l)
-status_within all Nothing n l = omega arith
-status_within all Pause n l = omega arith
-status_within all (Emit s) n l = omega arith
-status_within all (Exit k) n l = omega arith
-status_within all (Present e p q) n l = omega arith
-status_within all (Suspend e p) n l = omega arith
-status_within all (Seq p q) n l = omega arith
-status_within all (Loop at p) n l = omega arith
-status_within all (Par p q) n l = omega arith
-status_within all (Trap p) n l = omega arith
 status_within all (Local s p) n l =
     let w = StatusOf n l in
     let e : Equation = record { wire = w; formula = any_of (emissions w all) } in
     omega (arith, sum_by-cons equation_cost e [], sum_by-cons (emitters all) w [], any_within (emissions w all), emissions_joined w all)
-status_within all (Awake e p) n l = omega arith
+status_within all _ n l = omega arith
 
 output_within : (given : ℕ) (all : List Spot) (s : ℕ) → equation_cost (output_equation given all s) ≤ emitters all (Out s)
 output_within given all s = by (nat_lt s given)

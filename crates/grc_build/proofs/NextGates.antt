@@ -15,9 +15,9 @@ use Rattle.grc_graph.specs.Scopes.{Scope, bind, program_scope}
 use Rattle.grc_graph.specs.SelectionTrees.{leaf_paths, body_leaves, resumes, second_resumes}
 use Rattle.grc_graph.specs.Statements.{Entry, Body, Part, Branch, Then, Else, Suspended, Second, Looped}
 use Rattle.grc_graph.proofs.Exports.{Agrees, body_agrees, here_agrees, only_agrees, first_agrees, second_agrees}
-use Rattle.net_gen.proofs.FormulaGates.{gates_of, joined, joined-append, any_last, where_started}
-use Rattle.net_gen.proofs.InstanceGates.{next_gates, pause_gates}
-use Rattle.net_gen.proofs.RowGates.{Measure, row_sum}
+use Rattle.grc_build.proofs.FormulaGates.{gates_of, joined, joined-append, any_last, where_started}
+use Rattle.grc_build.proofs.InstanceGates.{next_gates, pause_gates}
+use Rattle.grc_build.proofs.RowGates.{Measure, row_sum}
 
 kept_joined : (n : ℕ) (ls : List Layer) → joined (flat_map (kept_start n) ls) ≡ sum_by (λ l. where_started 2 l) ls
 kept_joined n [] = refl

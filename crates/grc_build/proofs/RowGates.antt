@@ -7,16 +7,16 @@ use Rattle.est_kernel.specs.Plain.{Program, interface_count}
 use Rattle.est_kernel.specs.Preorder.{statement_count}
 use Rattle.est_kernel.specs.StaticCodes.{has_code, resumed_codes}
 use Rattle.est_kernel.specs.Terms.{Term, Nothing, Pause, Emit, Exit, Present, Suspend, Seq, Loop, Par, Trap, Local, Awake}
-use Rattle.grc_graph.specs.BuiltGraphs.{live_tests}
+use Rattle.grc_graph.specs.GraphSizes.{live_tests}
 use Rattle.grc_graph.specs.Instances.{Instance, instances_at, body_instances}
 use Rattle.grc_graph.specs.Layers.{Layer, Resumed, Started, Liveness, layers_of, body_liveness, part_liveness, second_liveness, loop_liveness}
 use Rattle.grc_graph.specs.Rows.{Row, row, rows, row_at, program_rows}
 use Rattle.grc_graph.specs.Scopes.{Scope, bind, program_scope}
 use Rattle.grc_graph.specs.Statements.{Entry, Body, Part, Branch, Then, Else, Suspended, Second, Looped}
 use Rattle.grc_graph.proofs.Exports.{StandsAt, stands_head, stands_tail, stands_whole, at_layer, row_instances, body_by_row, sum_both, sum_none, sum_mapped}
-use Rattle.grc_words.specs.Sizes.{operators}
-use Rattle.net_gen.proofs.FormulaGates.{where_started, where_resumed, entry_tests}
-use Rattle.net_gen.proofs.InstanceGates.{wire_count, part_tests, instance_gates, instance_within}
+use Rattle.grc_graph.specs.RowCosts.{operators}
+use Rattle.grc_build.proofs.FormulaGates.{where_started, where_resumed, entry_tests}
+use Rattle.grc_build.proofs.InstanceGates.{wire_count, part_tests, instance_gates, instance_within}
 
 -- what an instance counts by its statement, what lets it run, and its layer; and what the instances of a statement count
 abbrev pub Measure : Type 0
@@ -130,10 +130,6 @@ tested_two k a p q =
     omega (arith, started_with k a p, started_with k a q, sum_both (λ l. where_started k l) (λ l. where_started k l) (layers_of a))
 
 rows_within : (a : Liveness) (B : Scope) (x : Entry) (t : Term) (n : ℕ) → Within (rows a B x t n) (tests_by x a)
-rows_within a B x Nothing n = none_within a B x Nothing 0
-rows_within a B x Pause n = none_within a B x Pause 0
-rows_within a B x (Emit s) n = none_within a B x (Emit s) 0
-rows_within a B x (Exit k) n = none_within a B x (Exit k) 0
 rows_within a B x (Present e p q) n =
     let c = n + 1 + statement_count p in
     two_within a B x (Present e p q) c (tests_by (Then n e) (part_liveness a p)) (tests_by (Else n e) (part_liveness a q))
@@ -166,6 +162,7 @@ rows_within a B x (Local s p) n =
 rows_within a B x (Awake e p) n =
     one_within a B x (Awake e p) 0 (tests_by (Part n) (part_liveness a p)) (rows (part_liveness a p) B (Part n) p (n + 1))
     (rows_within (part_liveness a p) B (Part n) p (n + 1)) (untested (layers_of (part_liveness a p)) (tests_under (Awake e p) a))
+rows_within a B x t n = none_within a B x t 0
 
 -- the whole program; nothing lets the body run but the instant
 pub program_within : (p : Program) → sum_by (row_sum instance_gates) (program_rows p) ≤ 15 * sum_by (row_sum sizes) (program_rows p)
