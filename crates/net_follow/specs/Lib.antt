@@ -4,3 +4,4 @@ pub mod Proving
 pub mod Frames
 pub mod Following
 pub mod Matching
+pub mod Inducing

@@ -19,10 +19,11 @@ use net_ir::Net;
 use std::alloc::Global;
 
 /// The places of the claims that are not shown of an instant where all hold one instant before, or, where there is
-/// none, of the first instant. Claimed is what the caller claims of the nets in one instant, and then, which may rest
-/// on it, that each output, in order, and then `paused` is the same in both netlists. Where the result is empty, the
-/// new netlist follows the given one: over every list of items both show the same. Netlists that have not as many
-/// inputs and outputs are not compared, and the result has an element.
+/// none, of the first instant. A claim is shown by those before it, whether these were shown or not. Claimed is what
+/// the caller claims of the nets in one instant, and then, which may rest on it, that each output, in order, and then
+/// `paused` is the same in both netlists. Where the result is empty, the new netlist follows the given one: over every
+/// list of items both show the same. Netlists that have not as many inputs and outputs are not compared, and the result
+/// has an element.
 pub fn unshown_places(
     alloc: Global,
     old: &Net,

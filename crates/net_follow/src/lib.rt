@@ -12,10 +12,12 @@
 mod checking;
 mod clauses;
 mod frames;
+mod inducing;
 mod literals;
 mod proving;
 mod refuting;
 mod trails;
 
 pub use checking::unshown_places;
+pub use inducing::{Instant, Parted, inductive_claims};
 pub use literals::{Equation, Literal, Side};

@@ -12,22 +12,58 @@ use crate::trails::Trail;
 use est_base::NoMemory;
 use std::alloc::Global;
 
-// How often a literal is tried for one clause that is to be proved, and how many are tried in one another.
-const TRIES: u64 = 40;
-
+// How many literals are tried in one another.
 const DEPTH: usize = 40;
 
-// How many clauses are looked at behind each literal that is tried, at first and once more.
-const EFFORT: u64 = 400;
+// How much is done to show a clause: how many clauses are looked at of each literal, behind each one that is tried, and
+// in all; and how often one is tried.
+#[derive(Clone, Copy)]
+struct Effort {
+    reach: u64,
+    allowance: u64,
+    fuel: u64,
+    tries: u64,
+}
 
-const GREAT_EFFORT: u64 = 6_000;
+const LITTLE: Effort = Effort {
+    reach: 4,
+    allowance: 30,
+    fuel: 60,
+    tries: 1,
+};
 
-/// What is assumed, and what is known by it. All that is known up to `settled` has been followed up.
+const SOME: Effort = Effort {
+    reach: 12,
+    allowance: 400,
+    fuel: 3_200,
+    tries: 8,
+};
+
+const MUCH: Effort = Effort {
+    reach: u64::MAX,
+    allowance: 6_000,
+    fuel: 12_000,
+    tries: 40,
+};
+
+const MOST: Effort = Effort {
+    reach: u64::MAX,
+    allowance: 6_000,
+    fuel: 60_000,
+    tries: 40,
+};
+
+// How many clauses may fail by the greatest effort before it is spared.
+const PATIENCE: u64 = 60;
+
+/// What is assumed, and what is known by it. All that is known up to `settled` has been followed up. The greatest
+/// effort is made while there is `patience`.
 #[derive(Drop)]
 pub(crate) struct Prover {
     pub clauses: Clauses,
     pub trail: Trail,
     settled: usize,
+    patience: u64,
 }
 
 impl Prover {
@@ -40,6 +76,7 @@ impl Prover {
             clauses: Clauses::new(alloc, nets)?,
             trail: Trail::new(alloc, nets)?,
             settled: 0,
+            patience: PATIENCE,
         })
     }
 
@@ -68,6 +105,7 @@ impl Prover {
         ensures keeps { OnOk result (Keeps (λ V. ⊤) self.old self.new) }
     {
         self.trail.effort = u64::MAX;
+        self.trail.reach = u64::MAX;
         let _clash = propagate(&self.clauses, &mut self.trail, self.settled)?;
         self.settled = self.trail.known.len();
         Ok(())
@@ -91,28 +129,47 @@ impl Prover {
         ensures known { OnOk result (self.new.trail.known.items ≡ self.old.trail.known.items) }
         ensures sees { IfOk result (Sees self.old clause) }
     {
-        if self.sees_by(clause, EFFORT)? {
+        if self.sees_by(clause, LITTLE)? {
             return Ok(true);
         }
-        self.sees_by(clause, GREAT_EFFORT)
+        if self.sees_by(clause, SOME)? {
+            return Ok(true);
+        }
+        self.sees_at_last(clause)
+    }
+
+    // Whether a clause follows, by the greatest effort; where that does not show it, there is less patience.
+    fn sees_at_last(&mut self, clause: Clause) -> Result<bool, NoMemory>
+        ensures clauses { OnOk result (self.new.clauses ≡ self.old.clauses) }
+        ensures known { OnOk result (self.new.trail.known.items ≡ self.old.trail.known.items) }
+        ensures sees { IfOk result (Sees self.old clause) }
+    {
+        let effort = if self.patience == 0 { MUCH } else { MOST };
+        let seen = self.sees_by(clause, effort)?;
+        if !seen {
+            self.patience = self.patience.saturating_sub(1);
+        }
+        Ok(seen)
     }
 
     // Whether a clause follows, as far as this effort shows.
-    fn sees_by(&mut self, clause: Clause, effort: u64) -> Result<bool, NoMemory>
+    fn sees_by(&mut self, clause: Clause, effort: Effort) -> Result<bool, NoMemory>
         ensures clauses { OnOk result (self.new.clauses ≡ self.old.clauses) }
         ensures known { OnOk result (self.new.trail.known.items ≡ self.old.trail.known.items) }
         ensures sees { IfOk result (Sees self.old clause) }
     {
         let mark = self.trail.known.len();
-        self.trail.tries = TRIES;
-        self.trail.allowance = effort;
+        self.trail.tries = effort.tries;
+        self.trail.allowance = effort.allowance;
+        self.trail.fuel = effort.fuel;
+        self.trail.reach = effort.reach;
         let seen = denial_fails(&self.clauses, &mut self.trail, clause)?;
         self.trail.known.truncate(mark);
         Ok(seen)
     }
 
-    // Whether an equation follows; if so, it is assumed from then on.
-    fn follows(&mut self, equation: Equation) -> Result<bool, NoMemory>
+    /// Whether an equation follows; if so, it is assumed from then on.
+    pub fn follows(&mut self, equation: Equation) -> Result<bool, NoMemory>
         ensures { IfOk result (Shown (λ V. Meets V equation) self.old self.new) }
     {
         if !self.shows(from_parts(equation))? {
@@ -124,7 +181,7 @@ impl Prover {
         Ok(self.shows(to_right(equation))?)
     }
 
-    // Whether an equation follows; it is assumed from then on.
+    // Whether an equation follows; it is assumed from then on in any case.
     fn claim(&mut self, equation: Equation) -> Result<bool, NoMemory>
         ensures { IfOk result (Shown (λ V. Meets V equation) self.old self.new) }
     {
@@ -191,8 +248,8 @@ fn to_right(equation: Equation) -> Clause
     }
 }
 
-/// The places of the claims that were not shown to follow from what is assumed and the claims before them. Where there
-/// is none, each claim follows.
+/// The places of the claims that were not shown to follow from what is assumed and the claims before them, whether or
+/// not these were shown. Where there is none, each claim follows.
 pub(crate) fn unshown_claims(
     alloc: Global,
     nets: usize,
@@ -225,8 +282,8 @@ fn claim_at(
     Ok(())
 }
 
-// A prover that assumes these equations.
-fn assuming(alloc: Global, nets: usize, assumed: &[Equation]) -> Result<Prover, NoMemory>
+/// A prover that assumes these equations.
+pub(crate) fn assuming(alloc: Global, nets: usize, assumed: &[Equation]) -> Result<Prover, NoMemory>
     ensures { IfOk result (Begins assumed.now) }
 {
     let mut prover = Prover::new(alloc, nets)?;

@@ -9,6 +9,14 @@ use crate::literals::{Clause, Literal, opposite};
 use crate::trails::Trail;
 use est_base::NoMemory;
 
+// How often what is known is looked at again.
+const ROUNDS: u64 = 6;
+
+// Which part of the effort that is left goes in a round to what nets are made of, and which then to other clauses.
+const SWEPT: u64 = 4;
+
+const SPREAD: u64 = 2;
+
 /// Learns what a clause forces, where two of its literals are false, and tells whether the third is false too.
 pub(crate) fn look_at(trail: &mut Trail, clause: Clause) -> Result<bool, NoMemory>
     ensures { IfOk result (Grows (λ V. meets_clause V clause ≡ true) trail.old.known.items trail.new.known.items) }
@@ -27,13 +35,13 @@ pub(crate) fn look_at(trail: &mut Trail, clause: Clause) -> Result<bool, NoMemor
     }
 }
 
-// Learns what the clauses force in which a literal stands that is false now.
+// Learns what the clauses force in which a literal stands that is false now: the last ones of them.
 fn visit(clauses: &Clauses, trail: &mut Trail, denied: Literal) -> Result<bool, NoMemory>
     ensures { IfOk result (Grows (λ V. MeetsClauses V clauses.now.clauses.items)
         trail.old.known.items trail.new.known.items) }
 {
     let mut link = clauses.head(denied);
-    'links: for _step in 0..trail.effort {
+    'links: for _step in 0..trail.effort.min(trail.reach) {
         let Some(clause) = clauses.linked(link) else {
             return Ok(false);
         };
@@ -42,6 +50,43 @@ fn visit(clauses: &Clauses, trail: &mut Trail, denied: Literal) -> Result<bool, 
         }
         trail.effort = trail.effort.saturating_sub(1);
         link = clauses.next(link);
+    }
+    Ok(false)
+}
+
+// Learns what the clauses force in which a literal that is false now stands first: those that say of what its net is
+// made.
+fn visit_parts(clauses: &Clauses, trail: &mut Trail, denied: Literal) -> Result<bool, NoMemory>
+    ensures { IfOk result (Grows (λ V. MeetsClauses V clauses.now.clauses.items)
+        trail.old.known.items trail.new.known.items) }
+{
+    let mut place = clauses.first_head(denied);
+    'places: for _step in 0..trail.effort {
+        let Some(clause) = clauses.at(place) else {
+            return Ok(false);
+        };
+        if look_at(trail, clause)? {
+            return Ok(true);
+        }
+        trail.effort = trail.effort.saturating_sub(1);
+        place = clauses.first_next(place);
+    }
+    Ok(false)
+}
+
+// Visits the parts of all that is known from this place on.
+fn sweep(clauses: &Clauses, trail: &mut Trail, from: usize) -> Result<bool, NoMemory>
+    ensures { IfOk result (Grows (λ V. MeetsClauses V clauses.now.clauses.items)
+        trail.old.known.items trail.new.known.items) }
+{
+    'learned: for at in from..usize::MAX {
+        if at >= trail.known.len() || trail.effort == 0 {
+            return Ok(false);
+        }
+        let denied = opposite(trail.known[at]);
+        if visit_parts(clauses, trail, denied)? {
+            return Ok(true);
+        }
     }
     Ok(false)
 }
@@ -61,6 +106,85 @@ pub(crate) fn propagate(clauses: &Clauses, trail: &mut Trail, from: usize) -> Re
         }
     }
     Ok(false)
+}
+
+// Learns what is forced by what is known from this place on, and tells whether it contradicts itself: of each literal
+// what its net is made of, and then a few clauses more, before the next one.
+fn scan(clauses: &Clauses, trail: &mut Trail, from: usize) -> Result<bool, NoMemory>
+    ensures { IfOk result (Grows (λ V. MeetsClauses V clauses.now.clauses.items)
+        trail.old.known.items trail.new.known.items) }
+{
+    'learned: for at in from..usize::MAX {
+        if at >= trail.known.len() || trail.effort == 0 {
+            return Ok(false);
+        }
+        let denied = opposite(trail.known[at]);
+        if visit_parts(clauses, trail, denied)? {
+            return Ok(true);
+        }
+        if visit(clauses, trail, denied)? {
+            return Ok(true);
+        }
+    }
+    Ok(false)
+}
+
+// Scans twice what is known from this place on: a clause of a literal may clash with what came behind it.
+fn scans(clauses: &Clauses, trail: &mut Trail, from: usize) -> Result<bool, NoMemory>
+    ensures { IfOk result (Grows (λ V. MeetsClauses V clauses.now.clauses.items)
+        trail.old.known.items trail.new.known.items) }
+{
+    if scan(clauses, trail, from)? {
+        return Ok(true);
+    }
+    trail.effort = trail.allowance;
+    Ok(scan(clauses, trail, from)?)
+}
+
+// Learns what is forced by what is known from this place on, and tells whether it contradicts itself: what nets are
+// made of is looked at first, and again behind what few clauses of each literal force.
+fn clashes(clauses: &Clauses, trail: &mut Trail, from: usize) -> Result<bool, NoMemory>
+    ensures { IfOk result (Grows (λ V. MeetsClauses V clauses.now.clauses.items)
+        trail.old.known.items trail.new.known.items) }
+{
+    let mut next = from;
+    'rounds: for _round in 0..ROUNDS {
+        let all = trail.effort;
+        trail.effort = all / SWEPT;
+        if sweep(clauses, trail, from)? {
+            return Ok(true);
+        }
+        trail.effort = trail.effort.saturating_add(all - all / SWEPT);
+        if next >= trail.known.len() {
+            return Ok(false);
+        }
+        let all = trail.effort;
+        trail.effort = all / SPREAD;
+        if propagate(clauses, trail, next)? {
+            return Ok(true);
+        }
+        trail.effort = trail.effort.saturating_add(all - all / SPREAD);
+        next = trail.known.len();
+    }
+    Ok(false)
+}
+
+// Learns what is forced by what is known from this place on, and tells whether it contradicts itself, as far as the
+// allowance shows, and what is left in all.
+fn clashes_soon(clauses: &Clauses, trail: &mut Trail, from: usize) -> Result<bool, NoMemory>
+    ensures { IfOk result (Grows (λ V. MeetsClauses V clauses.now.clauses.items)
+        trail.old.known.items trail.new.known.items) }
+{
+    let given = trail.allowance.min(trail.fuel);
+    trail.effort = given;
+    let clash = if trail.tries == 0 {
+        scans(clauses, trail, from)?
+    } else {
+        clashes(clauses, trail, from)?
+    };
+    let spent = given.saturating_sub(trail.effort);
+    trail.fuel = trail.fuel.saturating_sub(spent);
+    Ok(clash)
 }
 
 // A literal to try, and the place of the known literal whose clause it would meet.
@@ -108,9 +232,8 @@ pub(crate) fn refutes(
     ensures { IfOk result (Tries (λ V. MeetsClauses V clauses.now.clauses.items)
         trail.old.known.items trail.new.known.items) }
 {
-    trail.effort = trail.allowance;
     trail.tries = trail.tries.saturating_sub(1);
-    if propagate(clauses, trail, from)? {
+    if clashes_soon(clauses, trail, from)? {
         return Ok(true);
     }
     if depth == 0 || trail.tries == 0 {

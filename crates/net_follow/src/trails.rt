@@ -10,13 +10,16 @@ use std::alloc::Global;
 
 /// The literals that are known, and for each net where it may stand among them: what a slot says is looked up there, so
 /// that nothing must be undone when literals are taken back. `effort` is how many clauses may still be looked at before
-/// a literal is tried, `allowance` how many may be behind each that is, and `tries` how often one may be tried.
+/// a literal is tried, `allowance` how many may be behind each that is, `fuel` how many in all, `reach` how many of
+/// each literal, and `tries` how often one may be tried.
 #[derive(Drop)]
 pub(crate) struct Trail {
     pub known: Vec<Literal>,
     slots: Vec<usize>,
     pub effort: u64,
+    pub reach: u64,
     pub allowance: u64,
+    pub fuel: u64,
     pub tries: u64,
 }
 
@@ -29,7 +32,9 @@ impl Trail {
             known: Vec::new(alloc),
             slots: vec![in alloc; 0; nets.saturating_mul(4)]?,
             effort: 0,
+            reach: 0,
             allowance: 0,
+            fuel: 0,
             tries: 0,
         })
     }

@@ -1,3 +1,4 @@
 pub mod Assembling
 pub mod Optimized
+pub mod Showing
 pub mod Silencing

@@ -1,18 +1,16 @@
 // Which nets are taken to be equal or opposite.
 
-use crate::edges::{Edge, TRUE, edge_at, is_marked, mark, number_at, straight};
+use crate::edges::{Edge, TRUE, edge_at, is_marked, number_at, straight};
 use crate::simulating::NetHistories;
 use est_base::NoMemory;
+use net_follow::{Equation, Literal, Side};
 use net_ir::Net;
 use std::alloc::Global;
 
-/// For each place the one that stands for it: always one that is not higher. A place is silent where nothing is claimed
-/// of it. Of a place that stood for others the heir is the first of those that were parted from it.
+/// For each place the one that stands for it: itself, or a lower one that stands for itself.
 #[derive(Drop)]
 pub(crate) struct Classes {
     pub stand_ins: Vec<Edge>,
-    pub silent: Vec<bool>,
-    heirs: Vec<Edge>,
 }
 
 /// Each net stands in for those behind it that have its history, or the opposite one.
@@ -30,11 +28,7 @@ pub(crate) fn first_classes(alloc: Global, histories: &NetHistories) -> Result<C
             heads[bucket] = place;
         }
     }
-    Ok(Classes {
-        stand_ins,
-        silent: vec![in alloc; false; count]?,
-        heirs: vec![in alloc; TRUE; count]?,
-    })
+    Ok(Classes { stand_ins })
 }
 
 /// Each net stands for itself.
@@ -49,11 +43,7 @@ pub(crate) fn own_classes(alloc: Global, net: &Net) -> Result<Classes, NoMemory>
     for place in 0..count {
         stand_ins.push(straight(place))?;
     }
-    Ok(Classes {
-        stand_ins,
-        silent: vec![in alloc; false; count]?,
-        heirs: vec![in alloc; TRUE; count]?,
-    })
+    Ok(Classes { stand_ins })
 }
 
 fn bucket_of(histories: &NetHistories, place: usize, size: usize) -> usize {
@@ -91,61 +81,97 @@ fn stand_in(histories: &NetHistories, other: usize, place: usize) -> Edge {
 }
 
 impl Classes {
-    /// Parts the places that fail from what stands for them: those of one class form a new one. Where there are none,
-    /// nothing is claimed any more of those that fail. Tells whether anything changed.
-    pub fn refine(&mut self, failing: &[bool]) -> bool {
-        let mut changed = false;
+    /// Whether another place stands for one of these.
+    pub fn joins_some(&self, places: &[bool]) -> bool {
         for place in 0..self.stand_ins.len() {
-            if is_marked(failing, place) && edge_at(&self.stand_ins, place).node != place {
-                changed = true;
-                self.part(place);
+            if is_marked(places, place) && self.joins(place) {
+                return true;
             }
         }
-        changed || self.silence(failing)
+        false
     }
 
-    // Claims nothing any more of the places that fail. Tells whether something was claimed of one.
-    fn silence(&mut self, failing: &[bool]) -> bool {
-        let mut changed = false;
-        for place in 0..self.silent.len() {
-            if is_marked(failing, place) && !is_marked(&self.silent, place) {
-                changed = true;
-                mark(&mut self.silent, place);
+    /// Whether another place stands for this one.
+    pub fn joins(&self, place: usize) -> bool {
+        edge_at(&self.stand_ins, place).node != place
+    }
+
+    /// Lets the places that are marked stand for themselves.
+    pub fn part(&mut self, places: &[bool]) {
+        for place in 0..self.stand_ins.len() {
+            if is_marked(places, place) {
+                set(&mut self.stand_ins, place, straight(place));
             }
         }
-        changed
     }
 
-    // Parts a place from what stands for it, together with those that were parted from that before.
-    fn part(&mut self, place: usize) {
-        let old = edge_at(&self.stand_ins, place);
-        let heir = edge_at(&self.heirs, old.node);
-        if heir.node != 0 && heir.node < place {
-            let new = Edge {
-                node: heir.node,
-                negative: old.negative != heir.negative,
-            };
-            set(&mut self.stand_ins, place, new);
-            return;
+    /// What the classes say: that a net has the value of the one that stands for it, or of its negation.
+    pub fn claims(&self, alloc: Global) -> Result<Vec<Equation>, NoMemory> {
+        let mut claims = Vec::new(alloc);
+        for place in 0..self.stand_ins.len() {
+            let edge = edge_at(&self.stand_ins, place);
+            if edge.node != place {
+                claims.push(equation(place, edge))?;
+            }
         }
-        if heir.node != 0 && edge_at(&self.stand_ins, heir.node).node == heir.node {
-            let new = Edge {
-                node: place,
-                negative: old.negative != heir.negative,
-            };
-            set(&mut self.stand_ins, heir.node, new);
+        Ok(claims)
+    }
+
+    /// Takes up what claims say in place of what the classes said.
+    pub fn take_up(&mut self, claims: &[Equation]) {
+        let mut next: usize = 0;
+        for place in 0..self.stand_ins.len() {
+            let mut edge = straight(place);
+            if next < claims.len() && place_of(claims[next].out) == place {
+                edge = edge_of(claims[next].left);
+                next = next.saturating_add(1);
+            }
+            set(&mut self.stand_ins, place, edge);
         }
-        let first = Edge {
-            node: place,
-            negative: old.negative,
-        };
-        set(&mut self.heirs, old.node, first);
-        set(&mut self.stand_ins, place, straight(place));
     }
 }
 
 fn set(list: &mut [Edge], place: usize, edge: Edge) {
     if place < list.len() {
         list[place] = edge;
+    }
+}
+
+/// A net has the value of another one of the netlist, or of its negation.
+pub(crate) fn equation(place: usize, edge: Edge) -> Equation {
+    Equation {
+        out: literal(Side::Old, straight(place)),
+        left: literal(Side::Old, edge),
+        right: literal(Side::Always, TRUE),
+    }
+}
+
+/// An edge as a literal of a netlist.
+pub(crate) fn literal(side: Side, edge: Edge) -> Literal {
+    let number = edge.node.saturating_sub(1);
+    Literal {
+        late: false,
+        side: if edge.node == 0 { Side::Always } else { side },
+        number: if number < 0x1_0000_0000 {
+            number as u32
+        } else {
+            0
+        },
+        positive: !edge.negative,
+    }
+}
+
+fn edge_of(literal: Literal) -> Edge {
+    Edge {
+        node: place_of(literal),
+        negative: !literal.positive,
+    }
+}
+
+fn place_of(literal: Literal) -> usize {
+    if literal.side == Side::Always {
+        0
+    } else {
+        literal.number as usize + 1
     }
 }

@@ -2,7 +2,6 @@
 
 use crate::edges::{Edge, number_at, word_at};
 use crate::graphs::Graph;
-use crate::plans::VARIABLES;
 use crate::tables::variable_table;
 use est_base::NoMemory;
 use std::alloc::Global;
@@ -17,15 +16,28 @@ pub(crate) struct Cut {
     pub inside: Vec<usize>,
 }
 
-/// A cut of a pair. It grows by the leaf that has the fewest new parts.
-pub(crate) fn cut_of(alloc: Global, graph: &Graph, node: usize) -> Result<Cut, NoMemory> {
+/// How a cut is grown: up to so many leaves, and whether by leaves first that nothing else needs.
+#[derive(Clone, Copy)]
+pub(crate) struct Style {
+    pub leaves: usize,
+    pub own_first: bool,
+}
+
+/// A cut of a pair, where `fans` counts what needs a node. It grows by the leaf that has the fewest new parts.
+pub(crate) fn cut_of(
+    alloc: Global,
+    graph: &Graph,
+    node: usize,
+    fans: &[usize],
+    style: Style,
+) -> Result<Cut, NoMemory> {
     let mut cut = Cut {
         leaves: Vec::new(alloc),
         inside: Vec::new(alloc),
     };
     cut.leaves.push(node)?;
     for _step in 0..INSIDE {
-        let leaf = cut.cheapest_leaf(graph);
+        let leaf = cut.cheapest_leaf(graph, fans, style);
         if leaf == usize::MAX {
             break;
         }
@@ -36,16 +48,18 @@ pub(crate) fn cut_of(alloc: Global, graph: &Graph, node: usize) -> Result<Cut, N
 
 impl Cut {
     // The leaf that has the fewest new parts, where there is room for them; of those that have as few the highest.
-    fn cheapest_leaf(&self, graph: &Graph) -> usize {
+    fn cheapest_leaf(&self, graph: &Graph, fans: &[usize], style: Style) -> usize {
         let mut best = usize::MAX;
         let mut fewest = usize::MAX;
         for leaf in &self.leaves {
             if graph.is_pair(*leaf) {
                 let new = self.new_parts(graph, *leaf);
-                let fits = self.leaves.len().saturating_add(new) <= VARIABLES + 1;
-                if fits && (new < fewest || (new == fewest && *leaf > best)) {
+                let fits = self.leaves.len().saturating_add(new) <= style.leaves.saturating_add(1);
+                let late = style.own_first && number_at(fans, *leaf) != 1;
+                let cost = if late { new.saturating_add(3) } else { new };
+                if fits && (cost < fewest || (cost == fewest && *leaf > best)) {
                     best = *leaf;
-                    fewest = new;
+                    fewest = cost;
                 }
             }
         }

@@ -17,6 +17,7 @@ mod graphs;
 mod optimizing;
 mod plans;
 mod rewriting;
+mod showing;
 mod silencing;
 mod simulating;
 mod tables;

@@ -5,19 +5,25 @@ ghost use Rattle.net_ir.specs.Netlists.{Netlist};
 ghost use Rattle.net_ir.specs.Runs.{netlist_of};
 ghost use Rattle.net_simp.specs.SimpleNets.{IsSimple};
 ghost use Rattle.net_opt.specs.Optimized.{Optimizes, Replaces};
+ghost use Rattle.net_opt.specs.Showing.{ShowsAll};
 
-use crate::classes::{first_classes, own_classes};
+use crate::classes::{Classes, first_classes, own_classes};
+use crate::showing::shown_net;
 use crate::silencing::silent_copy;
 use crate::simulating::histories;
 use crate::trying::tried_classes;
 use est_base::NoMemory;
+use net_follow::{Instant, inductive_claims};
 use net_ir::Net;
 use net_simp::simplify;
 use std::alloc::Global;
 
-// How often the classes are parted before a pass is given up, and how many passes there are at most.
+// How often classes are parted, and how often they are tried, before a pass is given up.
 const ROUNDS: usize = 100;
 
+const TRIALS: usize = 20;
+
+// How many passes there are at most.
 const PASSES: usize = 8;
 
 // How many passes in a row may bring nothing.
@@ -39,15 +45,15 @@ pub fn optimize(alloc: Global, net: &Net) -> Result<Net, NoMemory>
     Ok(simplify(alloc, small)?)
 }
 
-// What the passes find.
+// What the passes find: each gives a smaller netlist, or none.
 fn searched_net(alloc: Global, net: &Net) -> Result<Net, NoMemory>
     ensures { IfOk result (λ new. Optimizes (netlist_of net.now) (netlist_of new)) }
 {
-    let mut best = silent_copy(alloc, net)?;
+    let mut best = begun_net(alloc, net)?;
     let mut idle: usize = 0;
-    'passes: for pass in 0..PASSES {
+    'passes: for place in 0..PASSES {
         let size = size_of(&best);
-        let new = improved(alloc, &best, pass < 2 || pass % 2 == 1)?;
+        let new = improved(alloc, &best, pass_at(place))?;
         best = chosen(best, new);
         idle = idle_passes(idle, size, size_of(&best));
         if idle >= IDLE {
@@ -55,6 +61,35 @@ fn searched_net(alloc: Global, net: &Net) -> Result<Net, NoMemory>
         }
     }
     Ok(best)
+}
+
+// The netlist, of which no gate carries a wire, without what nothing shows.
+fn begun_net(alloc: Global, net: &Net) -> Result<Net, NoMemory>
+    ensures { IfOk result (λ new. Optimizes (netlist_of net.now) (netlist_of new)) }
+{
+    let silent = silent_copy(alloc, net)?;
+    let shown = improved(alloc, &silent, Pass::Show)?;
+    Ok(chosen(silent, shown))
+}
+
+// What a pass does.
+#[derive(Clone, Copy)]
+enum Pass {
+    // What nothing shows goes.
+    Show,
+    // Nets that are equal or opposite become one.
+    Merge,
+    // Parts are replaced by smaller ones that compute the same.
+    Rewrite,
+}
+
+// The pass of a place: nets are made one twice, and then in every second pass.
+fn pass_at(place: usize) -> Pass {
+    if place < 2 || place % 2 == 1 {
+        Pass::Merge
+    } else {
+        Pass::Rewrite
+    }
 }
 
 // The gates and the latches together.
@@ -82,11 +117,11 @@ fn chosen(best: Net, new: Option<Net>) -> Net
     }
 }
 
-// A netlist that replaces this one, with fewer gates or fewer latches, and not more of either.
-fn improved(alloc: Global, net: &Net, merges: bool) -> Result<Option<Net>, NoMemory>
+// What a pass makes of a netlist, where that has no more gates and no more latches.
+fn improved(alloc: Global, net: &Net, pass: Pass) -> Result<Option<Net>, NoMemory>
     ensures { IfOk result (λ o. IfSome o (λ new. Optimizes (netlist_of net.now) (netlist_of new))) }
 {
-    let Some(new) = remade(alloc, net, merges)? else {
+    let Some(new) = passed(alloc, net, pass)? else {
         return Ok(None);
     };
     if new.gates.len() > net.gates.len() {
@@ -98,24 +133,67 @@ fn improved(alloc: Global, net: &Net, merges: bool) -> Result<Option<Net>, NoMem
     Ok(Some(new))
 }
 
-// A netlist in which nets are one that were shown to be equal or opposite, or else one with parts rewritten.
-fn remade(alloc: Global, net: &Net, merges: bool) -> Result<Option<Net>, NoMemory>
+// What a pass makes of a netlist, if it is shown to follow it.
+fn passed(alloc: Global, net: &Net, pass: Pass) -> Result<Option<Net>, NoMemory>
     ensures { IfOk result (λ o. IfSome o (λ new. Replaces (netlist_of net.now) (netlist_of new))) }
 {
-    let mut classes = if merges {
-        first_classes(alloc, &histories(alloc, net)?)?
-    } else {
-        own_classes(alloc, net)?
-    };
-    let rewrites = if merges { 0 } else { REWRITES };
-    for _round in 0..ROUNDS {
-        let trial = tried_classes(alloc, net, &classes, rewrites)?;
+    match pass {
+        Pass::Show => shown_net(alloc, net),
+        Pass::Merge => merged_net(alloc, net),
+        Pass::Rewrite => rewritten_net(alloc, net),
+    }
+}
+
+// A netlist in which nets are one that are constant, or equal or opposite to others, in every instant that the given
+// one reaches.
+fn merged_net(alloc: Global, net: &Net) -> Result<Option<Net>, NoMemory>
+    ensures { IfOk result (λ o. IfSome o (λ new. Replaces (netlist_of net.now) (netlist_of new))) }
+{
+    let mut classes = first_classes(alloc, &histories(alloc, net)?)?;
+    for _trial in 0..TRIALS {
+        part_classes(alloc, net, &mut classes)?;
+        let trial = tried_classes(alloc, net, &classes, 0)?;
         if trial.new.is_some() {
             return Ok(trial.new);
         }
-        if !classes.refine(&trial.failing) {
+        if !classes.joins_some(&trial.failing) {
             return Ok(None);
         }
+        classes.part(&trial.failing);
     }
     Ok(None)
+}
+
+// Parts the classes until they hold by induction over instants.
+fn part_classes(alloc: Global, net: &Net, classes: &mut Classes) -> Result<(), NoMemory> {
+    for _round in 0..ROUNDS {
+        if !parts(alloc, net, classes, Instant::Later)? {
+            if !parts(alloc, net, classes, Instant::First)? {
+                return Ok(());
+            }
+        }
+    }
+    Ok(())
+}
+
+// Parts what does not hold in an instant, and tells whether there is such.
+fn parts(
+    alloc: Global,
+    net: &Net,
+    classes: &mut Classes,
+    instant: Instant,
+) -> Result<bool, NoMemory> {
+    let claims = classes.claims(alloc)?;
+    let parted = inductive_claims(alloc, net, &claims, instant)?;
+    classes.take_up(&parted.claims);
+    Ok(!parted.unshown.is_empty())
+}
+
+// A netlist in which parts are replaced by smaller ones that compute the same.
+fn rewritten_net(alloc: Global, net: &Net) -> Result<Option<Net>, NoMemory>
+    ensures { IfOk result (λ o. IfSome o (λ new. Replaces (netlist_of net.now) (netlist_of new))) }
+{
+    let classes = own_classes(alloc, net)?;
+    let trial = tried_classes(alloc, net, &classes, REWRITES)?;
+    Ok(trial.new)
 }

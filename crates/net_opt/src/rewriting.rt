@@ -1,7 +1,7 @@
 // Graphs in which parts are replaced by smaller ones that compute the same.
 
 use crate::building::Built;
-use crate::cuts::{cut_of, place_in};
+use crate::cuts::{Cut, Style, cut_of, place_in};
 use crate::edges::{Edge, TRUE, edge_at, is_marked, negated_if, straight};
 use crate::graphs::Graph;
 use crate::plans::{Plan, VARIABLES, planned};
@@ -16,6 +16,45 @@ struct Rewriter {
     edges: Vec<Edge>,
     fans: Vec<usize>,
     changes: bool,
+}
+
+// A graph that may stand for a pair, what its variables are, and how many nodes it spares.
+#[derive(Drop)]
+struct Offer {
+    plan: Plan,
+    inputs: Vec<Edge>,
+    gain: usize,
+}
+
+// How cuts are grown.
+const STYLES: usize = 3;
+
+fn style_of(number: usize) -> Style {
+    match number {
+        0 => Style {
+            leaves: VARIABLES,
+            own_first: false,
+        },
+        1 => Style {
+            leaves: VARIABLES,
+            own_first: true,
+        },
+        _ => Style {
+            leaves: 4,
+            own_first: false,
+        },
+    }
+}
+
+// The one that spares more, the first where both spare as much.
+fn better(best: Option<Offer>, offer: Option<Offer>) -> Option<Offer> {
+    match best {
+        None => offer,
+        Some(old) => match offer {
+            None => Some(old),
+            Some(new) => Some(if new.gain > old.gain { new } else { old }),
+        },
+    }
 }
 
 /// The graph of a netlist, where each marked pair is made anew: as it was, or as a graph of a cut says it that is
@@ -40,7 +79,7 @@ pub(crate) fn rewritten(
         } else if is_marked(marks, node) {
             rewriter.pair_edge(alloc, &built.graph, node)?
         } else {
-            TRUE
+            UNKNOWN
         };
         rewriter.edges.push(edge)?;
     }
@@ -58,27 +97,51 @@ pub(crate) fn rewritten(
 }
 
 impl Rewriter {
+    // What stands for an edge: nothing, where its node is not made anew.
     fn image(&self, edge: Edge) -> Edge {
-        negated_if(edge_at(&self.edges, edge.node), edge.negative)
+        named(&self.edges, edge)
     }
 
-    // What stands for a pair: the smaller graph of its cut, if that spares nodes.
+    // What stands for a pair: the smallest graph of its cuts, if that spares nodes.
     fn pair_edge(&mut self, alloc: Global, old: &Graph, node: usize) -> Result<Edge, NoMemory> {
         let pair = old.pair(node);
-        let plain_left = self.image(pair.left);
-        let plain_right = self.image(pair.right);
-        let cut = cut_of(alloc, old, node)?;
-        if cut.inside.len() > 1 {
-            let plan = planned(alloc, cut.table(alloc, old)?)?;
-            let spared = cut.spared(alloc, old, &self.fans)?;
-            let freed = self.images(alloc, &spared)?;
-            let inputs = self.images_of(alloc, &cut.leaves)?;
-            let cost = self.cost(alloc, &plan, &inputs, &freed)?;
-            if cost < spared.len() || (self.changes && cost == spared.len()) {
-                return self.placed(alloc, &plan, &inputs);
+        let left = self.image(pair.left);
+        let right = self.image(pair.right);
+        match self.best_offer(alloc, old, node)? {
+            Some(offer) => self.placed(alloc, &offer.plan, &offer.inputs),
+            None => self.graph.both(left, right),
+        }
+    }
+
+    // The offer that spares most.
+    fn best_offer(
+        &self,
+        alloc: Global,
+        old: &Graph,
+        node: usize,
+    ) -> Result<Option<Offer>, NoMemory> {
+        let mut best: Option<Offer> = None;
+        for number in 0..STYLES {
+            let cut = cut_of(alloc, old, node, &self.fans, style_of(number))?;
+            if cut.inside.len() > 1 {
+                best = better(best, self.offer(alloc, old, &cut)?);
             }
         }
-        self.graph.both(plain_left, plain_right)
+        Ok(best)
+    }
+
+    // The graph that a cut's function has, if it spares nodes, or, where changes are asked for, takes no more.
+    fn offer(&self, alloc: Global, old: &Graph, cut: &Cut) -> Result<Option<Offer>, NoMemory> {
+        let plan = planned(alloc, cut.table(alloc, old)?)?;
+        let spared = cut.spared(alloc, old, &self.fans)?;
+        let freed = self.images(alloc, &spared)?;
+        let inputs = self.images_of(alloc, &cut.leaves)?;
+        let cost = self.cost(alloc, &plan, &inputs, &freed)?;
+        if cost < spared.len() || (self.changes && cost == spared.len()) {
+            let gain = spared.len().saturating_sub(cost);
+            return Ok(Some(Offer { plan, inputs, gain }));
+        }
+        Ok(None)
     }
 
     fn images(&self, alloc: Global, nodes: &[usize]) -> Result<Vec<usize>, NoMemory> {
@@ -141,14 +204,17 @@ impl Rewriter {
     }
 }
 
-// What no node has.
+// What stands for a node that is not there.
 const UNKNOWN: Edge = Edge {
     node: usize::MAX,
     negative: false,
 };
 
 fn named(names: &[Edge], edge: Edge) -> Edge {
-    let name = edge_at(names, edge.node);
+    if edge.node >= names.len() {
+        return UNKNOWN;
+    }
+    let name = names[edge.node];
     if name.node == usize::MAX {
         UNKNOWN
     } else {

@@ -2,18 +2,21 @@
 
 ghost use Rattle.std.specs.Prelude.{IfOk, IfSome};
 ghost use Rattle.net_ir.specs.Runs.{netlist_of};
-ghost use Rattle.net_opt.specs.Optimized.{Replaces};
+ghost use Rattle.net_opt.specs.Optimized.{Replaces, SameInterface};
 
 use crate::assembling::{Parts, assembled_net};
 use crate::building::{Built, built_graph, marked_nodes};
-use crate::classes::Classes;
-use crate::edges::{Edge, edge_at, is_marked, mark, number_at};
+use crate::classes::{Classes, equation, literal};
+use crate::edges::{Edge, TRUE, edge_at, is_marked, mark, negated_if, number_at, straight};
 use crate::emitting::{Emitted, emitted_parts, parts_of};
 use crate::rewriting::rewritten;
 use est_base::NoMemory;
-use net_follow::{Equation, Literal, Side, unshown_places};
+use net_follow::{Equation, Side, unshown_places};
 use net_ir::Net;
 use std::alloc::Global;
+
+// How often a netlist is checked, each time with fewer claims.
+const CHECKS: usize = 100;
 
 /// A netlist that shows what the given one shows, or else the places of the given one's nets of which the claims were
 /// not shown.
@@ -30,7 +33,7 @@ struct Claims {
     places: Vec<usize>,
 }
 
-/// The netlist in which the classes' nets are one, if it can be shown to follow.
+/// The netlist in which the classes' nets are one, rewritten so many times, if it can be shown to follow.
 pub(crate) fn tried_classes(
     alloc: Global,
     net: &Net,
@@ -43,9 +46,12 @@ pub(crate) fn tried_classes(
     let built = remade(alloc, net, plain, rewrites)?;
     let marks = marked_nodes(alloc, net, &built)?;
     let emitted = emitted_parts(alloc, net, &built, &marks)?;
-    let claims = claimed(alloc, &built, &marks, &emitted, classes)?;
+    let claims = claimed(alloc, classes, &built, &marks, &emitted)?;
     let mut failing = vec![in alloc; false; classes.stand_ins.len()]?;
-    let new = followed_net(alloc, net, parts_of(emitted), &claims, &mut failing)?;
+    let new = match assembled_net(alloc, net, parts_of(emitted))? {
+        Some(made) => followed_net(alloc, net, made, claims, classes, &mut failing)?,
+        None => None,
+    };
     Ok(Trial { new, failing })
 }
 
@@ -59,22 +65,29 @@ fn remade(alloc: Global, net: &Net, built: Built, rewrites: usize) -> Result<Bui
     Ok(now)
 }
 
-// What is claimed: that each net has the value of what stands for it.
+// What is claimed: what the classes say, and that each net has the value of what becomes of it.
 fn claimed(
     alloc: Global,
+    classes: &Classes,
     built: &Built,
     marks: &[bool],
     emitted: &Emitted,
-    classes: &Classes,
 ) -> Result<Claims, NoMemory> {
     let mut claims = Claims {
         equations: Vec::new(alloc),
         places: Vec::new(alloc),
     };
     for place in 1..built.edges.len() {
+        if classes.joins(place) {
+            claims
+                .equations
+                .push(equation(place, edge_at(&classes.stand_ins, place)))?;
+            claims.places.push(place)?;
+        }
+    }
+    for place in 1..built.edges.len() {
         let edge = edge_at(&built.edges, place);
-        let is_there = edge.node == 0 || is_marked(marks, edge.node);
-        if is_there && !is_marked(&classes.silent, place) {
+        if edge.node == 0 || is_marked(marks, edge.node) {
             let name = emitted.name(edge);
             claims.equations.push(claim(place - 1, name))?;
             claims.places.push(place)?;
@@ -83,54 +96,70 @@ fn claimed(
     Ok(claims)
 }
 
-// A net of the given netlist has the value of a net of the new one, or of its negation.
-fn claim(number: usize, name: Edge) -> Equation {
-    let right = literal(Side::Always, 0, true);
-    let left = if name.node == 0 {
-        literal(Side::Always, 0, !name.negative)
+/// A net of the given netlist has the value of a net of the new one, or of its negation.
+pub(crate) fn claim(number: usize, name: Edge) -> Equation {
+    let old = straight(number.saturating_add(1));
+    if name.node == 0 {
+        Equation {
+            out: literal(Side::Old, old),
+            left: literal(Side::Always, name),
+            right: literal(Side::Always, TRUE),
+        }
     } else {
-        literal(Side::New, name.node - 1, !name.negative)
-    };
-    Equation {
-        out: literal(Side::Old, number, true),
-        left,
-        right,
+        Equation {
+            out: literal(Side::New, straight(name.node)),
+            left: literal(Side::Old, negated_if(old, name.negative)),
+            right: literal(Side::Always, TRUE),
+        }
     }
 }
 
-fn literal(side: Side, number: usize, positive: bool) -> Literal {
-    let number = if number < 0x1_0000_0000 {
-        number as u32
-    } else {
-        0
-    };
-    Literal {
-        late: false,
-        side,
-        number,
-        positive,
-    }
-}
-
-// The netlist of the parts, if it is shown to follow; else the places of the claims that are not shown are marked.
+// The netlist, if it is shown to follow; else the places of the claims that are not shown are marked. Where none of
+// them is of a net that another one stands for, they are not claimed any more, and the netlist is checked again.
 fn followed_net(
     alloc: Global,
     net: &Net,
-    parts: Parts,
-    claims: &Claims,
+    new: Net,
+    claims: Claims,
+    classes: &Classes,
     failing: &mut Vec<bool>,
 ) -> Result<Option<Net>, NoMemory>
-    ensures { IfOk result (λ o. IfSome o (λ new. Replaces (netlist_of net.now) (netlist_of new))) }
+    requires { SameInterface (netlist_of net.now) (netlist_of new) }
+    ensures { IfOk result (λ o. IfSome o (λ made. Replaces (netlist_of net.now) (netlist_of made))) }
 {
-    let Some(new) = assembled_net(alloc, net, parts)? else {
-        return Ok(None);
-    };
-    let unshown = unshown_places(alloc, net, &new, &claims.equations)?;
-    if unshown.is_empty() {
-        return Ok(Some(new));
-    }
-    for place in &unshown {
-        mark(failing, number_at(&claims.places, *place));
+    let mut claims = claims;
+    for _check in 0..CHECKS {
+        let unshown = unshown_places(alloc, net, &new, &claims.equations)?;
+        if unshown.is_empty() {
+            return Ok(Some(new));
+        }
+        for place in &unshown {
+            mark(failing, number_at(&claims.places, *place));
+        }
+        if classes.joins_some(failing) {
+            return Ok(None);
+        }
+        let fewer = fewer_claims(alloc, &claims, failing)?;
+        if fewer.places.len() == claims.places.len() {
+            return Ok(None);
+        }
+        claims = fewer;
     }
     Ok(None)
+}
+
+// The claims that are not of these places.
+fn fewer_claims(alloc: Global, claims: &Claims, places: &[bool]) -> Result<Claims, NoMemory> {
+    let mut fewer = Claims {
+        equations: Vec::new(alloc),
+        places: Vec::new(alloc),
+    };
+    for (k, equation) in claims.equations.iter().enumerate() {
+        let place = number_at(&claims.places, k);
+        if !is_marked(places, place) {
+            fewer.equations.push(*equation)?;
+            fewer.places.push(place)?;
+        }
+    }
+    Ok(fewer)
 }
