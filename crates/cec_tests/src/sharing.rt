@@ -1,61 +1,91 @@
 // Shared wires of worked sources.
 
-use cec_compile::compile;
-use digraph::RanksOrCycle;
+ghost use Rattle.cec_tests.specs.Reacting.{IsAnyCompiled};
+
+use cec_compile::{Compiled, compile};
 use est_base::Limits;
 use grc_dep::edges;
 use grc_order::First;
-use grc_share::{shared_ranks_or_walk, shared_wires};
+use grc_share::{SharedGraph, SharedOrFull, share, shared_wires};
 use std::alloc::Global;
 use std::test::Fail;
 
-// A source, how many wires its graph has, how many shared wires, and whether the edges between these have a closed
-// walk.
-type Shared = (&'static str, (usize, usize, bool));
+// How many wires, instances and formulas of the next state a shared graph has.
+type Counts = (usize, usize, usize);
+
+// A source, how many wires and instances its graph has, how many shared wires, and what its shared graph has, where the
+// edges between shared wires have no closed walk.
+type Shared = (&'static str, (usize, usize, usize), Option<Counts>);
 
 const SHARED: [Shared; 4] = [
     // The second part may be started by what passes at once, and the third by both.
     (
         "module M: input A; present A then pause end; present A then pause end; present A then pause end end module",
-        (69, 45, false),
+        (69, 29, 45),
+        Some((45, 19, 3)),
     ),
     // What starts at once, what is resumed, and a restart of the loop's body.
     (
         "module M: output O; loop signal S in present S then emit O end; pause; emit S end end end module",
-        (46, 31, false),
+        (46, 21, 31),
+        Some((31, 14, 1)),
     ),
     (
         "module M: input A; loop present A then pause end; present A then pause end; pause end end module",
-        (73, 51, false),
+        (73, 33, 51),
+        Some((51, 23, 3)),
     ),
     // Two threads hand each other a signal, one when it starts and one when it is resumed.
     (
         "module M: output O; signal S, T in [present S else pause end; emit T; emit O] \
          || [emit S; pause; present T then emit S end] end end module",
-        (65, 57, true),
+        (65, 29, 57),
+        None,
     ),
 ];
 
 #[test]
 fn wires_of_worked_sources_are_shared(rt: HostRuntime) -> Result<(), Fail> {
     let alloc = rt.alloc();
-    for (source, wanted) in SHARED.iter() {
-        let counts = shared_counts(alloc, source.as_bytes())?;
+    for (source, wanted, wanted_shared) in SHARED.iter() {
+        let (counts, shared) = shared_counts(alloc, source.as_bytes())?;
         assert_eq!(rt; counts, *wanted, "{source}");
+        assert_eq!(rt; shared, *wanted_shared, "{source}");
     }
     Ok(())
 }
 
-// How many wires a source's graph has, how many shared wires, and whether the edges between these have a closed walk.
-fn shared_counts(alloc: Global, source: &[u8]) -> Result<(usize, usize, bool), Fail> {
+// How many wires and instances a source's graph has, how many shared wires, and what its shared graph has.
+fn shared_counts(
+    alloc: Global,
+    source: &[u8],
+) -> Result<((usize, usize, usize), Option<Counts>), Fail> {
     if source.len() as u64 > Limits::SOURCE_BYTES {
-        return Ok((0, 0, false));
+        return Ok(((0, 0, 0), None));
     }
     let compiled = compile(alloc, source, None, &mut First)?;
     let graph = &compiled.graph;
-    let shared = shared_wires(alloc, graph)?;
+    let count = shared_wires(alloc, graph)?.members.len();
+    let counts = (graph.wires.len(), graph.instances.list.len(), count);
+    Ok((counts, graph_counts(alloc, &compiled)?))
+}
+
+// What the shared graph of a compiled program has, where there is one.
+fn graph_counts(alloc: Global, compiled: &Compiled) -> Result<Option<Counts>, Fail>
+    requires { IsAnyCompiled compiled.now }
+{
+    let graph = &compiled.graph;
     let edges = edges(alloc, graph)?;
-    let answer = shared_ranks_or_walk(alloc, graph, &edges)?;
-    let walks = matches!(answer, RanksOrCycle::Cycle(_));
-    Ok((graph.wires.len(), shared.members.len(), walks))
+    match share(alloc, graph, &edges)? {
+        SharedOrFull::Shared(shared) => Ok(Some(counts_of(&shared))),
+        SharedOrFull::Full(_) => Ok(None),
+    }
+}
+
+fn counts_of(shared: &SharedGraph) -> Counts {
+    (
+        shared.equations.len(),
+        shared.instances.list.len(),
+        shared.next.len(),
+    )
 }

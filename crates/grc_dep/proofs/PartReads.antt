@@ -31,14 +31,7 @@ own_codes c Nothing n h = h
 own_codes c Pause n h = h
 own_codes c (Emit s) n h = h
 own_codes c (Exit k) n h = h
-own_codes c (Present e p q) n h = h.0
-own_codes c (Suspend e p) n h = h.0
-own_codes c (Seq p q) n h = h.0
-own_codes c (Loop at p) n h = h.0
-own_codes c (Par p q) n h = h.0
-own_codes c (Trap p) n h = h.0
-own_codes c (Local s p) n h = h.0
-own_codes c (Awake e p) n h = h.0
+own_codes c _ n h = h.0
 
 -- ---- codes by rows
 
@@ -75,10 +68,6 @@ has_two c p a b d B x y z t q u n are h e =
 
 parts_of : (c : Codes) (p : Program) (a : Liveness) (B : Scope) (x : Entry) (t : Term) (n : ℕ) → AreCodesOf c p.body
     → StandsAt (program_rows p) n (rows a B x t n) → PartsHaveCodes c t n
-parts_of c p a B x Nothing n are h = of_row c p n _ are (row_read (program_rows p) a B x Nothing n h)
-parts_of c p a B x Pause n are h = of_row c p n _ are (row_read (program_rows p) a B x Pause n h)
-parts_of c p a B x (Emit s) n are h = of_row c p n _ are (row_read (program_rows p) a B x (Emit s) n h)
-parts_of c p a B x (Exit k) n are h = of_row c p n _ are (row_read (program_rows p) a B x (Exit k) n h)
 parts_of c p a B x (Present e q u) n are h =
     has_two c p a (part_liveness a q) (part_liveness a u) B x (Then n e) (Else n e) (Present e q u) q u n are h refl
 parts_of c p a B x (Suspend e q) n are h =
@@ -95,6 +84,7 @@ parts_of c p a B x (Local s q) n are h =
     has_one c p a (part_liveness a q) B (bind B s n) x (Part n) (Local s q) q n are h (stands_one (program_rows p) n _ _ h)
 parts_of c p a B x (Awake e q) n are h =
     has_one c p a (part_liveness a q) B B x (Part n) (Awake e q) q n are h (stands_one (program_rows p) n _ _ h)
+parts_of c p a B x t n are h = of_row c p n _ are (row_read (program_rows p) a B x t n h)
 
 -- ---- a statement of the list
 

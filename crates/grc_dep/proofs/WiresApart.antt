@@ -107,32 +107,12 @@ is_end (StatusOf n l) = false
 is_end (End n l k) = true
 
 status_all : (P : Wire → Type 0) (t : Term) (n : ℕ) (l : Layer) → P (StatusOf n l) → All P (own_status t n l)
-status_all P Nothing n l h = All-nil P
-status_all P Pause n l h = All-nil P
-status_all P (Emit s) n l h = All-nil P
-status_all P (Exit k) n l h = All-nil P
-status_all P (Present e p q) n l h = All-nil P
-status_all P (Suspend e p) n l h = All-nil P
-status_all P (Seq p q) n l h = All-nil P
-status_all P (Loop at p) n l h = All-nil P
-status_all P (Par p q) n l h = All-nil P
-status_all P (Trap p) n l h = All-nil P
 status_all P (Local s p) n l h = All-cons P (StatusOf n l) [] h (All-nil P)
-status_all P (Awake e p) n l h = All-nil P
+status_all P _ n l h = All-nil P
 
 once_status : (t : Term) (n : ℕ) (l : Layer) → Once (own_status t n l)
-once_status Nothing n l = tt
-once_status Pause n l = tt
-once_status (Emit s) n l = tt
-once_status (Exit k) n l = tt
-once_status (Present e p q) n l = tt
-once_status (Suspend e p) n l = tt
-once_status (Seq p q) n l = tt
-once_status (Loop at p) n l = tt
-once_status (Par p q) n l = tt
-once_status (Trap p) n l = tt
 once_status (Local s p) n l = (λ c. absurd (omega (arith, c.1)), tt)
-once_status (Awake e p) n l = tt
+once_status _ n l = tt
 
 ends_all : (P : Wire → Type 0) (n : ℕ) (l : Layer) (ks : List ℕ) → ((k : ℕ) → P (End n l k)) → All P (map (λ k. End n l k) ks)
 ends_all P n l ks h = All-map P (λ k. End n l k) ks (λ i d z. h (get_or ks i d))

@@ -19,3 +19,4 @@ mod tested;
 
 pub use graph_edges::edges;
 pub use ranking::{Ranked, cycle_or_rank};
+pub use sorting::edges_of;

@@ -1,10 +1,11 @@
 -- Those of a list that stand for themselves: their places, and what a list of names has of them.
 use Rattle.std.proofs.Common.{◌≡◌, ℕ, ◌+◌, ◌<◌, ◌≤◌, ◌==◌, suc, cond, Bool, true, false, List, [], ◌∷◌, ◌++◌, length, map, get_or, take, refl, sym, ap, ◌∙◌}
 use Rattle.std.proofs.Common.{subst, ⊎_elim, arith}
-use Rattle.std.specs.Prelude.{filter, slice_index}
+use Rattle.std.specs.Prelude.{All, filter, slice_index}
 use Rattle.std.proofs.Math.Seq.{get_or-append_seam}
 use Rattle.std.proofs.lemmas.Bool.{both_ways, cases_eq, cases_lt, eq-eqb, eqb-true, ne_eqb}
 use Rattle.std.proofs.lemmas.List.{append-nil, get_or_append_left, get_or_default, length-append, length-take, take_more}
+use Rattle.std.proofs.lemmas.List.Elements.{All-cons, All-head, All-tail}
 use Rattle.est_base.specs.declared.indices.WireId.{WireId}
 use Rattle.grc_graph.specs.PlainGraphs.{wire_at}
 use Rattle.grc_graph.specs.Wires.{Wire, same_wire}
@@ -31,6 +32,15 @@ leaders-append i (x ∷ xs) ys =
 pub leaders-more : (ws : List WireId) (n : ℕ) (x : WireId) → length ws ≡ n → leaders 0 (ws ++ (x ∷ [])) ≡ leaders 0 ws ++ cond (x.0 == n) (x ∷ []) []
 leaders-more ws n x e =
     leaders-append 0 ws (x ∷ []) ∙ ap (λ k. leaders 0 ws ++ cond (x.0 == k) (x ∷ []) []) (let z : 0 + length ws ≡ n = omega (arith, e) in z)
+
+-- what is true of each is true of each leader
+pub leaders-all : (P : WireId → Type 0) (i : ℕ) (ms : List WireId) → All P ms → All P (leaders i ms)
+leaders-all P i [] h = h
+leaders-all P i (m ∷ ms) h = by (m.0 == i) (leaders-all P (i + 1) ms (All-tail P m ms h))
+  where
+    by : (b : Bool) → All P (leaders (i + 1) ms) → All P (cond b (m ∷ leaders (i + 1) ms) (leaders (i + 1) ms))
+    by true rest = All-cons P m (leaders (i + 1) ms) (All-head P m ms h) rest
+    by false rest = rest
 
 -- ---- by name
 

@@ -15,5 +15,13 @@ mod Places
 mod MemberLists
 mod SharedWireNames
 mod FewStarts
+mod InstanceNumbers
+mod RenamedFormulas
+mod EmissionLists
+mod EquationLists
+mod SharedFormulas
+mod NextFormulas
+mod SharedNaming
+mod GraphParts
 mod worked
 pub mod Exports

@@ -20,7 +20,7 @@ use Rattle.grc_share.proofs.SharedNumbering.{shared-apart}
 use Rattle.grc_share.proofs.SharedWireNames.{IsLive, named-one_wire, one_wire-named, wires_live}
 
 -- what a filter lets through passes the test
-passes : {X : Type 0} (p : X → Bool) (xs : List X) → All (λ x. p x ≡ true) (filter p xs)
+pub passes : {X : Type 0} (p : X → Bool) (xs : List X) → All (λ x. p x ≡ true) (filter p xs)
 passes p [] = All-nil (λ x. p x ≡ true)
 passes p (x ∷ xs) = by (p x) refl (passes p xs)
   where

@@ -25,7 +25,7 @@ use Rattle.grc_share.specs.LeastMembers.{AreLeastWires, Settled, leaders}
 use Rattle.grc_share.specs.SharedInstances.{body_sharing}
 use Rattle.grc_share.specs.SharedNumbers.{AreSharedWires}
 use Rattle.grc_share.specs.SharedWires.{shared_wire, shared_wires}
-use Rattle.grc_share.proofs.Leaders.{Apart, leaders-named, leaders-settled}
+use Rattle.grc_share.proofs.Leaders.{Apart, leaders-all, leaders-named, leaders-settled}
 use Rattle.grc_share.proofs.WireMembers.{wire-twice}
 
 -- the exits of a program's body have codes that fit
@@ -46,10 +46,11 @@ module _ (p : Program) (kernel : IsKernel p.body) (limits : KeepsLimits p.body) 
   wires-apart : Apart (program_wires p)
   wires-apart = differ-apart (program_wires p) differ
 
+  pub shared-differ : Differ (shared_wires p)
+  shared-differ = AllPairs-filter (λ u w. u ≢ w) (λ w. same_wire (shared_wire (body_sharing p.body) w) w) (program_wires p) differ
+
   pub shared-apart : Apart (shared_wires p)
-  shared-apart =
-      differ-apart (shared_wires p)
-      (AllPairs-filter (λ u w. u ≢ w) (λ w. same_wire (shared_wire (body_sharing p.body) w) w) (program_wires p) differ)
+  shared-apart = differ-apart (shared_wires p) shared-differ
 
   pub members-settled : (members : List WireId) → length members ≡ length (program_wires p)
       → AreLeastWires (body_sharing p.body) (program_wires p) members → Settled members
@@ -65,6 +66,8 @@ module _ (p : Program) (kernel : IsKernel p.body) (limits : KeepsLimits p.body) 
       → AreSharedWires p least numbers
   are-shared members least numbers e are is each within same = record {
     least_members = names;
+    least_within = subst (λ (l : List WireId). All (λ w. w.0 < length (program_wires p)) l) (sym is)
+        (leaders-all (λ w. w.0 < length (program_wires p)) 0 members (λ w d l. (are w d l).within));
     each_wire = each ∙ e;
     within = within;
     named = λ w l.
@@ -106,3 +109,8 @@ module _ (g : Graph) (members : List WireId) (each : length members ≡ length g
       → ((w : ℕ) (d : WireId) → w < length members → get_or first (slice_index numbers w) d ≡ get_or members w d)
       → AreSharedWires (program_of g.program) first numbers
   graph-shared first numbers = are-shared (program_of g.program) (trees_are_kernels_lem g.program.body) g.laid_out.formed.body members first numbers long least
+
+-- no two wires of a graph have one name
+pub graph-apart : (g : Graph) → Apart (names_of g)
+graph-apart g =
+    subst Apart (sym g.laid_out.names) (wires-apart (program_of g.program) (trees_are_kernels_lem g.program.body) g.laid_out.formed.body)

@@ -17,12 +17,13 @@ use Rattle.grc_graph.specs.GraphRuns.{program_edges, program_wires}
 use Rattle.grc_graph.specs.Layers.{Resumed}
 use Rattle.grc_graph.specs.NumberedEdges.{AreEdgesOf, named_edge}
 use Rattle.grc_graph.specs.PlainGraphs.{wire_at}
+use Rattle.grc_graph.specs.WireOrders as orders
 use Rattle.grc_graph.specs.WireOrders.{WireEdge}
 use Rattle.grc_graph.specs.Wires.{Wire, Out, Go, same_wire}
 use Rattle.grc_solutions.specs.GraphWires.{EdgesJoinWires}
 use Rattle.grc_share.specs.SharedInstances.{body_sharing}
 use Rattle.grc_share.specs.SharedNumbers.{AreSharedRanks, AreSharedWires, HasSharedEdge, IsSharedAnswer, IsSharedWalk}
-use Rattle.grc_share.specs.SharedPairs.{numbered_pairs}
+use Rattle.grc_share.specs.SharedPairs.{numbered_edges, numbered_pairs}
 use Rattle.grc_share.specs.SharedWires.{shared_edge, shared_edges, shared_wire, shared_wires}
 use Rattle.grc_share.proofs.SharedNumbering.{body_codes, shared-apart}
 
@@ -37,15 +38,15 @@ no_edge = (record { 0 = 0 }, record { 0 = 0 })
 
 module _ (p : Program) (kernel : IsKernel p.body) (limits : KeepsLimits p.body) (join : EdgesJoinWires) (least : List WireId) (numbers : List ℕ)
     (shared : AreSharedWires p least numbers) (pairs : List WireEdge) (edges : AreEdgesOf (program_wires p) (program_edges p) pairs) where
-  many : length least ≡ length (shared_wires p)
-  many = sym (length-map least (λ w. wire_at (program_wires p) w.0)) ∙ ap length shared.least_members
+  pub least-many : length least ≡ length (shared_wires p)
+  least-many = sym (length-map least (λ w. wire_at (program_wires p) w.0)) ∙ ap length shared.least_members
 
   number : ℕ → ℕ
   number w = slice_index numbers w
 
   number-low : (w : ℕ) → w < length (program_wires p) → slice_index numbers w < length (shared_wires p)
   number-low w l =
-      omega (arith, many, All-get_or (λ k. k < length least) numbers w 0 (omega (arith, l, shared.each_wire)) shared.within)
+      omega (arith, least-many, All-get_or (λ k. k < length least) numbers w 0 (omega (arith, l, shared.each_wire)) shared.within)
 
   ends : All (λ e. (e.0.0 < length (program_wires p)) × (e.1.0 < length (program_wires p))) pairs
   ends = edges.ascending.join
@@ -57,7 +58,7 @@ module _ (p : Program) (kernel : IsKernel p.body) (limits : KeepsLimits p.body) 
   pub least-few : length least ≤ length (program_wires p)
   least-few =
       let leads : Wire → Bool = λ w. same_wire (shared_wire (body_sharing p.body) w) w in
-      omega (arith, many, length-filter_both leads (λ w. not (leads w)) (λ w. refl) (program_wires p))
+      omega (arith, least-many, length-filter_both leads (λ w. not (leads w)) (λ w. refl) (program_wires p))
 
   join-nodes : JoinsNodes (length (shared_wires p)) (numbered_pairs numbers pairs)
   join-nodes =
@@ -135,14 +136,45 @@ module _ (p : Program) (kernel : IsKernel p.body) (limits : KeepsLimits p.body) 
   shared-answer (Ranks r) h = (shared-ranks r.ranks.items h.0, h.1)
   shared-answer (Cycle walk) h = shared-walk walk.items h
 
+  -- the edges between shared wires, each once, are those that the numbers of the edges' ends make
+  pub joined-low : (n : ℕ) → n ≡ length least → All (λ e. (e.0.0 < n) × (e.1.0 < n)) (numbered_edges numbers pairs)
+  joined-low n e =
+      subst (λ m. All (λ (e : WireEdge). (e.0.0 < m) × (e.1.0 < m)) (numbered_edges numbers pairs)) (sym (e ∙ least-many))
+      (All-map (λ (e : WireEdge). (e.0.0 < length (shared_wires p)) × (e.1.0 < length (shared_wires p)))
+      (λ (e : WireEdge). (record { 0 = slice_index numbers e.0.0 }, record { 0 = slice_index numbers e.1.0 })) pairs
+      (λ k d l. let x = ends k d l in (number-low (get_or pairs k d).0.0 x.0, number-low (get_or pairs k d).1.0 x.1)))
+
+  pub joined-edges : (n : ℕ) (out : List WireEdge) → n ≡ length least → orders.AreEdges n out
+      → ((e : WireEdge) → Contains out e ↔ Contains (numbered_edges numbers pairs) e) → AreEdgesOf (shared_wires p) (shared_edges p) out
+  joined-edges n out many ascending same = record {
+    ascending = subst (λ m. orders.AreEdges m out) (many ∙ least-many) ascending;
+    sound = λ from to c. (leads (record { 0 = from }, record { 0 = to }) ((same (record { 0 = from }, record { 0 = to })).0 c)).leads;
+    whole = λ from to l m c.
+        let found = edge-pair from to (record { begins = l; ends = m; leads = c }) in
+        let x = image (λ (e : WireEdge). (slice_index numbers e.0.0, slice_index numbers e.1.0)) pairs no_edge (from, to) found in
+        let e = get_or pairs x.0 no_edge in
+        (same (record { 0 = from }, record { 0 = to })).1
+        (subst (λ (y : ℕ × ℕ). Contains (numbered_edges numbers pairs) (record { 0 = y.0 }, record { 0 = y.1 })) x.2
+        (contains-map (λ (e : WireEdge). (record { 0 = slice_index numbers e.0.0 }, record { 0 = slice_index numbers e.1.0 })) pairs e
+        (Contains-get_or pairs x.0 no_edge x.1)));
+  }
+    where
+      leads : (e : WireEdge) → Contains (numbered_edges numbers pairs) e → HasSharedEdge p e.0.0 e.1.0
+      leads e c =
+          let x = image (λ (e : WireEdge). (record { 0 = slice_index numbers e.0.0 }, record { 0 = slice_index numbers e.1.0 })) pairs no_edge e c in
+          pair-edge e.0.0 e.1.0
+          (subst (λ (y : WireEdge). Contains (numbered_pairs numbers pairs) (y.0.0, y.1.0)) x.2
+          (contains-map (λ (e : WireEdge). (slice_index numbers e.0.0, slice_index numbers e.1.0)) pairs (get_or pairs x.0 no_edge)
+          (Contains-get_or pairs x.0 no_edge x.1)))
+
   -- what is found of these nodes and edges
   module _ (count : ℕ) (nodes : List (ℕ × ℕ)) (many_nodes : count ≡ length least) (are_nodes : nodes ≡ numbered_pairs numbers pairs) where
     pub nodes-join : JoinsNodes count nodes
-    nodes-join = subst (λ n. JoinsNodes n nodes) (sym (many_nodes ∙ many)) (subst (JoinsNodes (length (shared_wires p))) (sym are_nodes) join-nodes)
+    nodes-join = subst (λ n. JoinsNodes n nodes) (sym (many_nodes ∙ least-many)) (subst (JoinsNodes (length (shared_wires p))) (sym are_nodes) join-nodes)
 
     pub found : (r : RanksOrCycle) → digraph.IsAnswer count nodes r → IsSharedAnswer p r
     found r h =
-        shared-answer r (subst (λ n. digraph.IsAnswer n (numbered_pairs numbers pairs) r) (many_nodes ∙ many)
+        shared-answer r (subst (λ n. digraph.IsAnswer n (numbered_pairs numbers pairs) r) (many_nodes ∙ least-many)
         (subst (λ (es : List (ℕ × ℕ)). digraph.IsAnswer count es r) are_nodes h))
 
     pub cyclic : (r : RanksOrCycle) → (IsTrue (digraph.is_cycle r) ↔ ((walk : List ℕ) × IsClosedWalk nodes walk))
@@ -151,3 +183,14 @@ module _ (p : Program) (kernel : IsKernel p.body) (limits : KeepsLimits p.body) 
       λ t. let x = h.0 t in (x.0, shared-walk x.0 (subst (λ (es : List (ℕ × ℕ)). IsClosedWalk es x.0) are_nodes x.1)),
       λ w. h.1 (w.0, subst (λ (es : List (ℕ × ℕ)). IsClosedWalk es w.0) (sym are_nodes) (closed-walk w.0 w.1)),
     )
+
+-- ranks of shared wires grow along the edges between them
+pub ranks-along : (p : Program) (out : List WireEdge) (ranks : List ℕ) → AreEdgesOf (shared_wires p) (shared_edges p) out → AreSharedRanks p ranks
+    → orders.AreRanks (length (shared_wires p)) out ranks
+ranks-along p out ranks are h = record {
+  each_wire = h.each_wire;
+  grow = λ k d l.
+      let e = get_or out k d in
+      let low = are.ascending.join k d l in
+      h.grow e.0.0 e.1.0 (record { begins = low.0; ends = low.1; leads = are.sound e.0.0 e.1.0 (Contains-get_or out k d l) });
+}

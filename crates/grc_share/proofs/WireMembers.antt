@@ -34,7 +34,7 @@ first-same c (s ∷ ss) r q e = by (c s == c r) (c s == c q) (ap (λ k. c s == k
 first-twice : (c : ℕ → ℕ) (rs : List ℕ) (r : ℕ) → first_root c rs (first_root c rs r) ≡ first_root c rs r
 first-twice c rs r = ⊎_elim (λ e. e) (λ e. e.0) (first-same c rs r (first_root c rs r) (first_key c rs r))
 
-layer-twice : (K : Sharing) (n : ℕ) (l : Layer) → shared_layer K n (shared_layer K n l) ≡ shared_layer K n l
+pub layer-twice : (K : Sharing) (n : ℕ) (l : Layer) → shared_layer K n (shared_layer K n l) ≡ shared_layer K n l
 layer-twice K n Resumed = refl
 layer-twice K n (Started r) = ap Started (first-twice K.root (K.live n).roots r)
 
@@ -47,7 +47,7 @@ status-key K n l = by ((K.live n).resumed && K.resumed n == key K n l) refl l re
     by false e Resumed f = (λ i. key K n (shared_layer K n (f i))) ∙ ap (key K n) (sym f)
     by false e (Started r) f = (λ i. key K n (shared_layer K n (f i))) ∙ first_key K.root (K.live n).roots r ∙ ap (key K n) (sym f)
 
-status-twice : (K : Sharing) (n : ℕ) (l : Layer) → status_layer K n (status_layer K n l) ≡ status_layer K n l
+pub status-twice : (K : Sharing) (n : ℕ) (l : Layer) → status_layer K n (status_layer K n l) ≡ status_layer K n l
 status-twice K n l =
     ap (λ k. cond ((K.live n).resumed && K.resumed n == k) Resumed (shared_layer K n (status_layer K n l))) (status-key K n l)
     ∙ by ((K.live n).resumed && K.resumed n == key K n l)

@@ -4,3 +4,7 @@ pub mod LeastMembers
 pub mod LoopCounts
 pub mod SharedNumbers
 pub mod SharedPairs
+pub mod SharedGraphs
+pub mod Renamings
+pub mod SharedGraphForms
+pub mod SharedParts

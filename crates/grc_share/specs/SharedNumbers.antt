@@ -16,6 +16,7 @@ use Rattle.grc_share.specs.SharedWires.{members, shared_edges, shared_wire, shar
 -- number of its shared wire.
 pub record AreSharedWires (p : Program) (least : List WireId) (numbers : List ℕ) : Type 0 where
   pub least_members : map (λ w. wire_at (program_wires p) w.0) least ≡ shared_wires p
+  pub least_within : All (λ w. w.0 < length (program_wires p)) least
   pub each_wire : length numbers ≡ length (program_wires p)
   pub within : All (λ k. k < length least) numbers
   pub named : (w : ℕ) → w < length (program_wires p)

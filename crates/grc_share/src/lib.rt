@@ -7,12 +7,23 @@
 //! another finds ranks of them along the edges between them, or a closed walk.
 #![tactic(auto)]
 
+mod edges;
+mod emissions;
+mod equations;
+mod formulas;
+mod graphs;
+mod guards;
+mod instances;
 mod least_members;
 mod loop_counts;
+mod naming;
+mod next;
 mod numbering;
 mod placing;
+mod renaming;
 mod sharing;
 mod walking;
 
+pub use graphs::{SharedGraph, SharedOrFull, share};
 pub use sharing::{SharedWires, shared_wires};
 pub use walking::shared_ranks_or_walk;

@@ -25,8 +25,8 @@ pub(crate) fn places_by_number(
     Ok(lists)
 }
 
-// So many empty lists.
-fn empty_lists(alloc: Global, count: usize) -> Result<Vec<Vec<WireId>>, NoMemory>
+/// So many empty lists.
+pub(crate) fn empty_lists(alloc: Global, count: usize) -> Result<Vec<Vec<WireId>>, NoMemory>
     ensures length { IfOk result (λ v. length v.items ≡ count) }
     ensures empty { IfOk result (λ v. All (λ list. list ≡ []) (map (λ list. list.items) v.items)) }
 {
@@ -37,8 +37,12 @@ fn empty_lists(alloc: Global, count: usize) -> Result<Vec<Vec<WireId>>, NoMemory
     Ok(lists)
 }
 
-// Appends a wire to one of the lists.
-fn push_wire(lists: &mut Vec<Vec<WireId>>, place: usize, wire: WireId) -> Result<(), NoMemory>
+/// Appends a wire to one of the lists.
+pub(crate) fn push_wire(
+    lists: &mut Vec<Vec<WireId>>,
+    place: usize,
+    wire: WireId,
+) -> Result<(), NoMemory>
     requires { place < length lists.old.items }
     ensures length { length lists.new.items ≡ length lists.old.items }
     ensures lists { IfOk result (λ u. map (λ v. v.items) lists.new.items ≡

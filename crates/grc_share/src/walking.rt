@@ -6,7 +6,7 @@ ghost use Rattle.est_kernel.specs.Plain.{program_of};
 ghost use Rattle.grc_graph.specs.GraphRuns.{program_edges};
 ghost use Rattle.grc_graph.specs.NumberedEdges.{AreEdgesOf};
 ghost use Rattle.grc_graph.specs.PlainGraphs.{names_of};
-ghost use Rattle.grc_share.specs.SharedNumbers.{IsSharedAnswer, IsSharedWalk};
+ghost use Rattle.grc_share.specs.SharedNumbers.{AreSharedWires, IsSharedAnswer, IsSharedWalk};
 ghost use Rattle.grc_share.specs.SharedPairs.{numbered_pairs};
 
 use crate::sharing::{SharedWires, shared_wires};
@@ -30,8 +30,25 @@ pub fn shared_ranks_or_walk(
     ensures cyclic { IfOk result (λ r. IsTrue (is_cycle r)
         ↔ ((walk : List ℕ) × IsSharedWalk (program_of graph.now.program) walk)) }
 {
-    edges_join_wires();
     let shared = shared_wires(alloc, graph)?;
+    ranks_or_walk(alloc, graph, edges, &shared)
+}
+
+/// The same from the shared wires.
+pub(crate) fn ranks_or_walk(
+    alloc: Global,
+    graph: &Graph,
+    edges: &Edges,
+    shared: &SharedWires,
+) -> Result<RanksOrCycle, NoMemory>
+    requires edges { AreEdgesOf (names_of graph.now) (program_edges (program_of graph.now.program))
+        edges.now.pairs.items }
+    requires wires { AreSharedWires (program_of graph.now.program) shared.now.least.items shared.now.numbers.items }
+    ensures found { IfOk result (IsSharedAnswer (program_of graph.now.program)) }
+    ensures cyclic { IfOk result (λ r. IsTrue (is_cycle r)
+        ↔ ((walk : List ℕ) × IsSharedWalk (program_of graph.now.program) walk)) }
+{
+    edges_join_wires();
     let pairs = pairs_between(alloc, &shared.numbers, &edges.pairs)?;
     Ok(ranks_or_cycle(alloc, shared.least.len() as u32, &pairs)?)
 }

@@ -90,7 +90,7 @@ apart_at V c k (Awake e p) n m x a l u = absurd x
 
 -- ---- the body
 
-is_in : (a : Liveness) (l : Layer) → live_in a l ≡ true → IsIn a l
+pub is_in : (a : Liveness) (l : Layer) → live_in a l ≡ true → IsIn a l
 is_in a Resumed h = h
 is_in a (Started r) h = among a.roots h
   where
@@ -110,13 +110,13 @@ module _ (p : Program) (q : State) (event : List Bool) (V : Valuation) (kernel :
   A = live_row (program_rows p)
 
   -- what runs is live
-  live : (m : ℕ) (l : Layer) → Runs V m l → IsIn (A m) l
+  pub live : (m : ℕ) (l : Layer) → Runs V m l → IsIn (A m) l
   live m l h =
       is_in (A m) l (⊎_elim (λ e. e)
       (λ e. absurd (both_ways (V (Go m l)) (walk.others (Go m l) (λ w. both_ways (live_in (A m) l) e (wire_only p kernel IsGo m l w).live)) h))
       (cases_Bool (live_in (A m) l)))
 
-  within : (m : ℕ) (l : Layer) → Runs V m l → m < statement_count p.body
+  pub within : (m : ℕ) (l : Layer) → Runs V m l → m < statement_count p.body
   within m l h =
       ⊎_elim (λ e. e)
       (λ e. absurd (both_ways (V (Go m l)) (walk.others (Go m l) (λ w. omega (arith, e, (wire_only p kernel IsGo m l w).within))) h))
@@ -125,7 +125,7 @@ module _ (p : Program) (q : State) (event : List Bool) (V : Valuation) (kernel :
   here : A 0 ≡ body_liveness p.body
   here = gives-here A (body_liveness p.body) p.body 0 (program_gives p kernel)
 
-  walked : Walked V S (body_liveness p.body) p.body 0
+  pub walked : Walked V S (body_liveness p.body) p.body 0
   walked = record {
     resumed = λ h. record { values = _; runs = _; is = walk.resumed h };
     started = λ r i. ⊎_elim (λ e. subst (λ u. StartedHere V p.body 0 u) (sym e) (record { values = _; runs = _; is = walk.started })) (λ z. absurd z) i;
@@ -187,7 +187,7 @@ keys_tell_apart_lem p q event V formed kernel no_loop state width solves n l j g
     excluded p q event V kernel codes state walk n l j g h e
 
 -- instances that are one have one key
-one_key : (K : Sharing) (n : ℕ) (l j : Layer) → one_instance K n l j ≡ true → key K n l ≡ key K n j
+pub one_key : (K : Sharing) (n : ℕ) (l j : Layer) → one_instance K n l j ≡ true → key K n l ≡ key K n j
 one_key K n Resumed Resumed e = refl
 one_key K n Resumed (Started r) e = absurd (false≢true e)
 one_key K n (Started q) Resumed e = absurd (false≢true e)

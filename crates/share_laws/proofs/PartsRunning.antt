@@ -1,6 +1,7 @@
 -- Where the wires of a body are those of its walk, a part runs only where what it stands in does.
 use Rattle.std.proofs.Common.{◌≡◌, ℕ, ◌+◌, ◌⊎◌, Bool, true, false, ◌&&◌, cond, List, [], refl, sym, ap, ◌∙◌, subst, inl, inr}
 use Rattle.std.proofs.Common.{⊎_elim, arith}
+use Rattle.std.specs.Prelude.{⊤}
 use Rattle.std.proofs.lemmas.Bool.{and_parts}
 use Rattle.est_base.specs.declared.place.Span.{Span}
 use Rattle.est_kernel.specs.Terms.{Term, Nothing, Pause, Emit, Exit, Present, Suspend, Seq, Loop, Par, Trap, Local, Awake}
@@ -47,6 +48,46 @@ record PartResumed (V : Valuation) (S : ℕ → Bool) (p : Term) (m n : ℕ) : T
 record PartStarted (V : Valuation) (p : Term) (m n r : ℕ) : Type 0 where
   pub here : StartedHere V p m r
   pub above : here.runs ≡ true → Runs V n (Started r)
+
+-- a part of a statement with its liveness, which runs as it does and is walked
+abbrev WalkedPart : (V : Valuation) (S : ℕ → Bool) → Liveness → Term → (m n : ℕ) → Type 0
+WalkedPart V S a p m n = Descends V m n × Walked V S a p m
+
+-- so are the parts of a statement at n
+abbrev pub PartsHere : (V : Valuation) (S : ℕ → Bool) → Liveness → Term → ℕ → Type 0
+PartsHere V S a Nothing n = ⊤
+PartsHere V S a Pause n = ⊤
+PartsHere V S a (Emit s) n = ⊤
+PartsHere V S a (Exit k) n = ⊤
+PartsHere V S a (Present e p q) n =
+    WalkedPart V S (part_liveness a p) p (n + 1) n × WalkedPart V S (part_liveness a q) q (n + 1 + statement_count p) n
+PartsHere V S a (Suspend e p) n = WalkedPart V S (part_liveness a p) p (n + 1) n
+PartsHere V S a (Seq p q) n =
+    WalkedPart V S (part_liveness a p) p (n + 1) n
+    × (Follows V (holds S p (n + 1)) (holds S q (n + 1 + statement_count p)) (n + 1 + statement_count p) n
+    × Walked V S (second_liveness a p q (n + 1 + statement_count p)) q (n + 1 + statement_count p))
+PartsHere V S a (Loop at p) n = Restarts V (n + 1) n × Walked V S (loop_liveness a p (n + 1)) p (n + 1)
+PartsHere V S a (Par p q) n =
+    WalkedPart V S (part_liveness a p) p (n + 1) n × WalkedPart V S (part_liveness a q) q (n + 1 + statement_count p) n
+PartsHere V S a (Trap p) n = WalkedPart V S (part_liveness a p) p (n + 1) n
+PartsHere V S a (Local s p) n = WalkedPart V S (part_liveness a p) p (n + 1) n
+PartsHere V S a (Awake e p) n = ⊤
+
+-- the parts of a statement at n have their liveness
+abbrev pub PartsLive : (ℕ → Liveness) → Liveness → Term → ℕ → Type 0
+PartsLive A a Nothing n = ⊤
+PartsLive A a Pause n = ⊤
+PartsLive A a (Emit s) n = ⊤
+PartsLive A a (Exit k) n = ⊤
+PartsLive A a (Present e p q) n = (A (n + 1) ≡ part_liveness a p) × (A (n + 1 + statement_count p) ≡ part_liveness a q)
+PartsLive A a (Suspend e p) n = A (n + 1) ≡ part_liveness a p
+PartsLive A a (Seq p q) n =
+    (A (n + 1) ≡ part_liveness a p) × (A (n + 1 + statement_count p) ≡ second_liveness a p q (n + 1 + statement_count p))
+PartsLive A a (Loop at p) n = A (n + 1) ≡ loop_liveness a p (n + 1)
+PartsLive A a (Par p q) n = (A (n + 1) ≡ part_liveness a p) × (A (n + 1 + statement_count p) ≡ part_liveness a q)
+PartsLive A a (Trap p) n = A (n + 1) ≡ part_liveness a p
+PartsLive A a (Local s p) n = A (n + 1) ≡ part_liveness a p
+PartsLive A a (Awake e p) n = ⊤
 
 -- ---- steps
 
@@ -181,6 +222,69 @@ module _ (V : Valuation) (S : ℕ → Bool) (A : ℕ → Liveness) (live : (m : 
 
   -- ---- all statements
 
+  -- the parts of a statement run as it does, and are walked as it is
+  pub parts_here : (a : Liveness) (t : Term) (n : ℕ) → HasExitCodes t → PartsLive A a t n → Walked V S a t n → PartsHere V S a t n
+  parts_here a Nothing n k z w = tt
+  parts_here a Pause n k z w = tt
+  parts_here a (Emit s) n k z w = tt
+  parts_here a (Exit c) n k z w = tt
+  parts_here a (Present e p q) n k z w =
+      let m = n + 1 + statement_count p in
+      let x = part-lives a p (n + 1) n k.0 z.0
+      (λ h c. let y = w.resumed h in record { here = record { values = y.values; runs = _; is = y.is.1 c }; above = λ b. y.is.0.go ∙ (and_parts y.runs _ b).0 })
+      (λ r i. let y = w.started r i in record {
+        here = record { values = y.values; runs = _; is = y.is.1 };
+        above = λ b. y.is.0.go ∙ (and_parts y.runs _ b).0;
+      }) in
+      let y = part-lives a q m n k.1 z.1
+      (λ h c. let y = w.resumed h in record { here = record { values = y.values; runs = _; is = y.is.2 c }; above = λ b. y.is.0.go ∙ (and_parts y.runs _ b).0 })
+      (λ r i. let y = w.started r i in record {
+        here = record { values = y.values; runs = _; is = y.is.2 };
+        above = λ b. y.is.0.go ∙ (and_parts y.runs _ b).0;
+      }) in
+      (x, y)
+  parts_here a (Suspend e p) n k z w =
+      let x = part-lives a p (n + 1) n k z
+      (λ h c. let y = w.resumed h in record { here = record { values = y.values; runs = _; is = y.is.1 c }; above = λ b. y.is.0.go ∙ (and_parts y.runs _ b).0 })
+      (λ r i. let y = w.started r i in record { here = record { values = y.values; runs = _; is = y.is.1 }; above = λ b. y.is.0.go ∙ b }) in
+      x
+  parts_here a (Seq p q) n k z w =
+      let m = n + 1 + statement_count p in
+      let x = part-lives a p (n + 1) n k.0 z.0
+      (λ h c. let y = w.resumed h in record { here = record { values = y.values; runs = _; is = y.is.1 c }; above = λ b. y.is.0.go ∙ (and_parts y.runs _ b).0 })
+      (λ r i. let y = w.started r i in record { here = record { values = y.values; runs = _; is = y.is.1 }; above = λ b. y.is.0.go ∙ b }) in
+      let y = seq-second a p q n k z.1 w in
+      (x, y)
+  parts_here a (Loop at p) n k z w =
+      let x = loop-body a at p n k z w in
+      x
+  parts_here a (Par p q) n k z w =
+      let m = n + 1 + statement_count p in
+      let x = part-lives a p (n + 1) n k.0 z.0
+      (λ h c. let y = w.resumed h in record { here = record { values = y.values; runs = _; is = y.is.1 c }; above = λ b. y.is.0.go ∙ (and_parts y.runs _ b).0 })
+      (λ r i. let y = w.started r i in record { here = record { values = y.values; runs = _; is = y.is.1 }; above = λ b. y.is.0.go ∙ b }) in
+      let y = part-lives a q m n k.1 z.1
+      (λ h c. let y = w.resumed h in record { here = record { values = y.values; runs = _; is = y.is.2 c }; above = λ b. y.is.0.go ∙ (and_parts y.runs _ b).0 })
+      (λ r i. let y = w.started r i in record { here = record { values = y.values; runs = _; is = y.is.2 }; above = λ b. y.is.0.go ∙ b }) in
+      (x, y)
+  parts_here a (Trap p) n k z w =
+      let x = part-lives a p (n + 1) n k z
+      (λ h c. let y = w.resumed h in record { here = record { values = y.values; runs = _; is = y.is.1 c }; above = λ b. y.is.0.go ∙ b })
+      (λ r i. let y = w.started r i in record { here = record { values = y.values; runs = _; is = y.is.1 }; above = λ b. y.is.0.go ∙ b }) in
+      x
+  parts_here a (Local s p) n k z w =
+      let x = part-lives a p (n + 1) n k z
+      (λ h c. let y = w.resumed h in record {
+        here = record { values = with_value y.values s (V (StatusOf n Resumed)); runs = _; is = y.is.2 c };
+        above = λ b. y.is.0.go ∙ b;
+      })
+      (λ r i. let y = w.started r i in record {
+        here = record { values = with_value y.values s (V (StatusOf n (Started r))); runs = _; is = y.is.2 };
+        above = λ b. y.is.0.go ∙ b;
+      }) in
+      x
+  parts_here a (Awake e p) n k z w = tt
+
   pub parts_running : (a : Liveness) (t : Term) (n : ℕ) → HasExitCodes t → Gives A a t n → Walked V S a t n → PartsRun V S t n
   parts_running a Nothing n k g w = tt
   parts_running a Pause n k g w = tt
@@ -190,65 +294,34 @@ module _ (V : Valuation) (S : ℕ → Bool) (A : ℕ → Liveness) (live : (m : 
       let m = n + 1 + statement_count p in
       let gp : Gives A (part_liveness a p) p (n + 1) = λ i l h. g i (omega arith) (omega arith) ∙ at-first i n m a _ _ (omega arith) (omega arith) in
       let gq : Gives A (part_liveness a q) q m = λ i l h. g i (omega arith) (omega arith) ∙ at-second i n m a _ _ (omega arith) (omega arith) in
-      let x = part-lives a p (n + 1) n k.0 (gives-here A _ p (n + 1) gp)
-      (λ h c. let y = w.resumed h in record { here = record { values = y.values; runs = _; is = y.is.1 c }; above = λ b. y.is.0.go ∙ (and_parts y.runs _ b).0 })
-      (λ r i. let y = w.started r i in record {
-        here = record { values = y.values; runs = _; is = y.is.1 };
-        above = λ b. y.is.0.go ∙ (and_parts y.runs _ b).0;
-      }) in
-      let y = part-lives a q m n k.1 (gives-here A _ q m gq)
-      (λ h c. let y = w.resumed h in record { here = record { values = y.values; runs = _; is = y.is.2 c }; above = λ b. y.is.0.go ∙ (and_parts y.runs _ b).0 })
-      (λ r i. let y = w.started r i in record {
-        here = record { values = y.values; runs = _; is = y.is.2 };
-        above = λ b. y.is.0.go ∙ (and_parts y.runs _ b).0;
-      }) in
-      (x.0, y.0, parts_running (part_liveness a p) p (n + 1) k.0 gp x.1, parts_running (part_liveness a q) q m k.1 gq y.1)
+      let s = parts_here a (Present e p q) n k (gives-here A _ p (n + 1) gp, gives-here A _ q m gq) w in
+      (s.0.0, s.1.0, parts_running (part_liveness a p) p (n + 1) k.0 gp s.0.1, parts_running (part_liveness a q) q m k.1 gq s.1.1)
   parts_running a (Suspend e p) n k g w =
       let gp : Gives A (part_liveness a p) p (n + 1) = λ i l h. g i (omega arith) (omega arith) ∙ at-only i n a _ (omega arith) in
-      let x = part-lives a p (n + 1) n k (gives-here A _ p (n + 1) gp)
-      (λ h c. let y = w.resumed h in record { here = record { values = y.values; runs = _; is = y.is.1 c }; above = λ b. y.is.0.go ∙ (and_parts y.runs _ b).0 })
-      (λ r i. let y = w.started r i in record { here = record { values = y.values; runs = _; is = y.is.1 }; above = λ b. y.is.0.go ∙ b }) in
-      (x.0, parts_running (part_liveness a p) p (n + 1) k gp x.1)
+      let s = parts_here a (Suspend e p) n k (gives-here A _ p (n + 1) gp) w in
+      (s.0, parts_running (part_liveness a p) p (n + 1) k gp s.1)
   parts_running a (Seq p q) n k g w =
       let m = n + 1 + statement_count p in
       let gp : Gives A (part_liveness a p) p (n + 1) = λ i l h. g i (omega arith) (omega arith) ∙ at-first i n m a _ _ (omega arith) (omega arith) in
       let gq : Gives A (second_liveness a p q m) q m = λ i l h. g i (omega arith) (omega arith) ∙ at-second i n m a _ _ (omega arith) (omega arith) in
-      let x = part-lives a p (n + 1) n k.0 (gives-here A _ p (n + 1) gp)
-      (λ h c. let y = w.resumed h in record { here = record { values = y.values; runs = _; is = y.is.1 c }; above = λ b. y.is.0.go ∙ (and_parts y.runs _ b).0 })
-      (λ r i. let y = w.started r i in record { here = record { values = y.values; runs = _; is = y.is.1 }; above = λ b. y.is.0.go ∙ b }) in
-      let y = seq-second a p q n k (gives-here A _ q m gq) w in
-      (x.0, y.0, parts_running (part_liveness a p) p (n + 1) k.0 gp x.1, parts_running (second_liveness a p q m) q m k.1 gq y.1)
+      let s = parts_here a (Seq p q) n k (gives-here A _ p (n + 1) gp, gives-here A _ q m gq) w in
+      (s.0.0, s.1.0, parts_running (part_liveness a p) p (n + 1) k.0 gp s.0.1, parts_running (second_liveness a p q m) q m k.1 gq s.1.1)
   parts_running a (Loop at p) n k g w =
       let gp : Gives A (loop_liveness a p (n + 1)) p (n + 1) = λ i l h. g i (omega arith) (omega arith) ∙ at-only i n a _ (omega arith) in
-      let x = loop-body a at p n k (gives-here A _ p (n + 1) gp) w in
-      (x.0, parts_running (loop_liveness a p (n + 1)) p (n + 1) k gp x.1)
+      let s = parts_here a (Loop at p) n k (gives-here A _ p (n + 1) gp) w in
+      (s.0, parts_running (loop_liveness a p (n + 1)) p (n + 1) k gp s.1)
   parts_running a (Par p q) n k g w =
       let m = n + 1 + statement_count p in
       let gp : Gives A (part_liveness a p) p (n + 1) = λ i l h. g i (omega arith) (omega arith) ∙ at-first i n m a _ _ (omega arith) (omega arith) in
       let gq : Gives A (part_liveness a q) q m = λ i l h. g i (omega arith) (omega arith) ∙ at-second i n m a _ _ (omega arith) (omega arith) in
-      let x = part-lives a p (n + 1) n k.0 (gives-here A _ p (n + 1) gp)
-      (λ h c. let y = w.resumed h in record { here = record { values = y.values; runs = _; is = y.is.1 c }; above = λ b. y.is.0.go ∙ (and_parts y.runs _ b).0 })
-      (λ r i. let y = w.started r i in record { here = record { values = y.values; runs = _; is = y.is.1 }; above = λ b. y.is.0.go ∙ b }) in
-      let y = part-lives a q m n k.1 (gives-here A _ q m gq)
-      (λ h c. let y = w.resumed h in record { here = record { values = y.values; runs = _; is = y.is.2 c }; above = λ b. y.is.0.go ∙ (and_parts y.runs _ b).0 })
-      (λ r i. let y = w.started r i in record { here = record { values = y.values; runs = _; is = y.is.2 }; above = λ b. y.is.0.go ∙ b }) in
-      (x.0, y.0, parts_running (part_liveness a p) p (n + 1) k.0 gp x.1, parts_running (part_liveness a q) q m k.1 gq y.1)
+      let s = parts_here a (Par p q) n k (gives-here A _ p (n + 1) gp, gives-here A _ q m gq) w in
+      (s.0.0, s.1.0, parts_running (part_liveness a p) p (n + 1) k.0 gp s.0.1, parts_running (part_liveness a q) q m k.1 gq s.1.1)
   parts_running a (Trap p) n k g w =
       let gp : Gives A (part_liveness a p) p (n + 1) = λ i l h. g i (omega arith) (omega arith) ∙ at-only i n a _ (omega arith) in
-      let x = part-lives a p (n + 1) n k (gives-here A _ p (n + 1) gp)
-      (λ h c. let y = w.resumed h in record { here = record { values = y.values; runs = _; is = y.is.1 c }; above = λ b. y.is.0.go ∙ b })
-      (λ r i. let y = w.started r i in record { here = record { values = y.values; runs = _; is = y.is.1 }; above = λ b. y.is.0.go ∙ b }) in
-      (x.0, parts_running (part_liveness a p) p (n + 1) k gp x.1)
+      let s = parts_here a (Trap p) n k (gives-here A _ p (n + 1) gp) w in
+      (s.0, parts_running (part_liveness a p) p (n + 1) k gp s.1)
   parts_running a (Local s p) n k g w =
       let gp : Gives A (part_liveness a p) p (n + 1) = λ i l h. g i (omega arith) (omega arith) ∙ at-only i n a _ (omega arith) in
-      let x = part-lives a p (n + 1) n k (gives-here A _ p (n + 1) gp)
-      (λ h c. let y = w.resumed h in record {
-        here = record { values = with_value y.values s (V (StatusOf n Resumed)); runs = _; is = y.is.2 c };
-        above = λ b. y.is.0.go ∙ b;
-      })
-      (λ r i. let y = w.started r i in record {
-        here = record { values = with_value y.values s (V (StatusOf n (Started r))); runs = _; is = y.is.2 };
-        above = λ b. y.is.0.go ∙ b;
-      }) in
-      (x.0, parts_running (part_liveness a p) p (n + 1) k gp x.1)
+      let s = parts_here a (Local s p) n k (gives-here A _ p (n + 1) gp) w in
+      (s.0, parts_running (part_liveness a p) p (n + 1) k gp s.1)
   parts_running a (Awake e p) n k g w = tt

@@ -1,6 +1,21 @@
 // The laws of shared instances. Each call does nothing: its contract is the law.
 
 ghost use Rattle.share_laws.specs.Laws.{KeysTellApart, MembersExcludeEachOther, NamesTellSharedWires, StartsAreFew};
+ghost use Rattle.share_laws.specs.SharedReactions.{
+  RunsAreShared,
+  SharedReactionsAreGiven,
+  SharedRunsAreRuns,
+  SharedSolutionsAreMembers,
+  SharedWiresAreMembers,
+};
+ghost use Rattle.share_laws.specs.SharedSolutions.{
+  SharedGraphsHaveOneSolution,
+  SharedGraphsReadUp,
+  SharedRanksGoUp,
+  SharedReadsHaveWalks,
+};
+
+use grc_solutions::edges_join_wires;
 
 /// Of two members of a shared instance no two run in one instant.
 pub fn members_exclude_each_other()
@@ -20,4 +35,52 @@ pub fn names_tell_shared_wires()
 /// A statement has at most one shared started instance more than there are loop bodies around it.
 pub fn starts_are_few()
     ensures { StartsAreFew }
+{}
+
+/// From each shared wire that a shared equation reads a walk of edges leads to its own wire.
+pub fn shared_reads_have_walks()
+    ensures { SharedReadsHaveWalks }
+{}
+
+/// Where the edges between shared wires go up in some rank, the equations of the shared wires read up in it.
+pub fn shared_graphs_read_up()
+    ensures { SharedGraphsReadUp }
+{}
+
+/// Ranks of the shared wires by number are such ranks.
+pub fn shared_ranks_go_up()
+    ensures { SharedRanksGoUp }
+{
+    edges_join_wires();
+}
+
+/// So the equations of the shared wires have one solution in each state and event.
+pub fn shared_graphs_have_one_solution()
+    ensures { SharedGraphsHaveOneSolution }
+{}
+
+/// A solution of the program's equations, in a state, gives one of the shared wires' equations: a shared wire is true
+/// exactly where a member is.
+pub fn shared_wires_are_members()
+    ensures { SharedWiresAreMembers }
+{}
+
+/// Where the edges between shared wires go up in some rank, the shared equations have no other solution.
+pub fn shared_solutions_are_members()
+    ensures { SharedSolutionsAreMembers }
+{}
+
+/// The outgoing signals, the completion and the next state of a shared solution are those of the program's.
+pub fn shared_reactions_are_given()
+    ensures { SharedReactionsAreGiven }
+{}
+
+/// Where the edges between shared wires go up in some rank, the runs of the shared graph are those of the program's.
+pub fn shared_runs_are_runs()
+    ensures { SharedRunsAreRuns }
+{}
+
+/// Each run of a program's graph is one of its shared graph.
+pub fn runs_are_shared()
+    ensures { RunsAreShared }
 {}

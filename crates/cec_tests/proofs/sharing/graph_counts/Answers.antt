@@ -1,0 +1,4 @@
+use Rattle.cec_tests.proofs.sharing.graph_counts.Goals as goal
+
+pub share-requires-clause-built : goal.share-requires-clause-built
+share-requires-clause-built c = c.requires.compiled.graph
