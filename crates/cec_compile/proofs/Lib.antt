@@ -7,4 +7,5 @@ mod Simplified
 mod Joined
 mod EncodedNets
 mod GuardedTexts
+mod worked
 pub mod Exports

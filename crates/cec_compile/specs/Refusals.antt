@@ -3,7 +3,7 @@
 use Rattle.std.specs.Prelude.{◌<◌, ◌≤◌, ℕ, List, length, map, Option, ⊤}
 use Rattle.est_base.specs.declared.bounds.TheConstants.Limits.{SOURCE_BYTES, INSTANCES, WIRES}
 use Rattle.est_kernel.specs.Plain.{Program}
-use Rattle.grc_graph.specs.BuiltGraphs.{graph_size}
+use Rattle.grc_graph.specs.GraphSizes.{graph_size}
 use Rattle.grc_graph.specs.Instances.{body_instances}
 use Rattle.grc_graph.specs.PlainWireNames.{wire_name_of}
 use Rattle.cec_front.specs.Refusals as front

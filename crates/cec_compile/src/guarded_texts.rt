@@ -1,24 +1,29 @@
 // The guarded C texts of sources.
 
-ghost use Rattle.std.specs.Prelude.{◌≤◌, length, IfOk, IfErr, option_map};
+ghost use Rattle.std.specs.Prelude.{◌≤◌, [], Some, length, IfOk, IfErr, MatchResult, option_map};
+ghost use Rattle.est_base.specs.SinkChanges.{change};
+ghost use Rattle.est_base.specs.Writing.{Appends};
 ghost use Rattle.est_kernel.specs.Plain.{Program};
+ghost use Rattle.text_io.specs.Writings.{LeavesPieces};
 ghost use Rattle.cec_compile.specs.Compiling.{IsCompiled};
 ghost use Rattle.cec_compile.specs.Following.{FollowsGraph};
 ghost use Rattle.cec_compile.specs.GuardedTexts.{IsGuardedOf, StandsForGuarded};
 ghost use Rattle.cec_compile.specs.MadeGuarded.{IsGuardedBy, IsMadeGuarded};
 ghost use Rattle.cec_compile.specs.Refusals.{IsRefused};
 ghost use Rattle.cec_compile.specs.SourceTexts.{IsSourceText};
+ghost use Rattle.cec_compile.specs.Sources.{IsSource};
 ghost use Rattle.cec_compile.specs.declared.forms.TextForm.TheVariants.{Guarded};
 
 use crate::compiler::{Compiled, compile};
 use crate::forms::TextForm;
 use crate::made::{Made, made_in};
 use crate::refusal::Refusal;
-use est_base::{Limits, NoMemory};
+use est_base::{Limits, NoMemory, Sink};
 use grc_order::Picker;
 use guard_regions::regions;
-use guard_text::write_guarded;
+use guard_text::{guarded_pieces, write_guarded};
 use std::alloc::Global;
+use text_io::{Written, write_in_pieces};
 
 /// A kernel program with the netlist that its guarded text is written of, and the text.
 #[derive(Drop)]
@@ -74,4 +79,42 @@ fn guarded_text(alloc: Global, compiled: &Compiled) -> Result<Vec<u8>, NoMemory>
     let regions = regions(alloc, &compiled.graph)?;
     let text = write_guarded(alloc, &compiled.net, &regions)?;
     Ok(text)
+}
+
+/// Compiles a source and writes its guarded C text to `out`, piece by piece, and says how the writing ended. The errors
+/// are those of `blif_of`; nothing is written then.
+pub fn write_guarded_text<P: Picker, O: Sink>(
+    alloc: Global,
+    source: &[u8],
+    main: Option<&[u8]>,
+    picker: &mut P,
+    out: &mut O,
+) -> Result<Written, Refusal>
+    requires { length source.now ≤ Limits.SOURCE_BYTES }
+    ensures compiles { IfOk result (λ _. IsSource (option_map (λ m. m.now) main.entry) source.now) }
+    ensures out { MatchResult result
+        (λ ended. LeavesPieces (IsSourceText Guarded (option_map (λ m. m.now) main.entry) source.now)
+        (change O.told O.faults out.old out.new) (Some ended))
+        (λ _. Appends (O.told out.old) (O.told out.new) (O.faults out.old) (O.faults out.new) []) }
+    ensures refuses { IfErr result (IsRefused source.now (option_map (λ m. m.now) main.entry)) }
+{
+    match compile(alloc, source, main, picker) {
+        Ok(compiled) => Ok(write_compiled(alloc, &compiled, out)),
+        Err(refusal) => Err(refusal),
+    }
+}
+
+// Writes the guarded text of a compiled program, piece by piece.
+fn write_compiled<O: Sink>(alloc: Global, compiled: &Compiled, out: &mut O) -> Written
+    requires { FollowsGraph compiled.now }
+    ensures { LeavesPieces (λ text. (p : Program) → IsCompiled compiled.now p → IsGuardedBy compiled.now text)
+        (change O.told O.faults out.old out.new) (Some result) }
+{
+    let Ok(regions) = regions(alloc, &compiled.graph) else {
+        return Written::NoMemory;
+    };
+    let Ok(mut pieces) = guarded_pieces(alloc, &compiled.net, &regions) else {
+        return Written::NoMemory;
+    };
+    write_in_pieces(alloc, &mut pieces, out)
 }

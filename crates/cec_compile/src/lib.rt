@@ -22,7 +22,7 @@ pub use compiler::{
 pub use cycles::Cycle;
 pub use forms::TextForm;
 pub use graphs::graph_of;
-pub use guarded_texts::{GuardedMade, guarded_c_of, guarded_made};
+pub use guarded_texts::{GuardedMade, guarded_c_of, guarded_made, write_guarded_text};
 pub use made::{Made, made_in, source_made};
 pub use refusal::{Limit, Refusal};
 pub use source_texts::write_source_text;

@@ -15,3 +15,4 @@ pub mod TraceEnds
 pub mod TextSizes
 pub mod GuardedMeans
 pub mod WrittenTexts
+mod worked

@@ -33,16 +33,6 @@ pub pieces_as : (P Q : List ℕ → Type 0) (s : SinkChange) (outcome : Outcome)
     → LeavesPieces Q s outcome
 pieces_as P Q s outcome f l = texts.pieces_as P Q s (written_of outcome) f l
 
--- a text that is written whole
-pub whole_pieces : (P : List ℕ → Type 0) (s : SinkChange) (outcome : Outcome) → LeavesText P s outcome → LeavesPieces P s outcome
-whole_pieces P s outcome l = by (written_of outcome) l
-  where
-    by : (ended : Option Written) → endings.LeavesText P s ended → endings.LeavesPieces P s ended
-    by None h = h
-    by (Some ends.Done) h = h
-    by (Some ends.WriteFault) h = h
-    by (Some ends.NoMemory) h = inl h
-
 pub answer_as : (task : Task) (P Q : List ℕ → Type 0) (s : SinkChange) (outcome : Outcome) → ((text : List ℕ) → P text → Q text) → LeavesAnswer task P s outcome
     → LeavesAnswer task Q s outcome
 answer_as (Text form) P Q s outcome f l = pieces_as P Q s outcome f l

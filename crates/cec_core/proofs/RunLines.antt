@@ -1,9 +1,9 @@
 -- The lines of a compiled program's netlist over a trace are those of the program's own run.
-use Rattle.std.proofs.Common.{◌≡◌, ℕ, List, [], ◌∷◌, length, map, Option, Result, refl, sym, ap, ◌∙◌, subst, arith}
-use Rattle.std.proofs.lemmas.List.{length-take}
+use Rattle.std.proofs.Common.{◌≡◌, ℕ, List, [], ◌∷◌, length, map, drop, Option, Result, refl, sym, ap, ◌∙◌, subst, arith}
+use Rattle.std.proofs.lemmas.List.{length-drop, length-take}
 use Rattle.est_base.specs.Items.{Item, Event, Reset, EachEvent}
 use Rattle.est_base.specs.Relations.{Relation, MeetsAll}
-use Rattle.est_kernel.specs.Plain.{Program, given_count, given_names, outgoing_names}
+use Rattle.est_kernel.specs.Plain.{Program, given_count, given_names, outgoing_count, outgoing_names}
 use Rattle.est_kernel.specs.Reactions.{Answer}
 use Rattle.est_kernel.specs.WellFormed.{IsWellFormed}
 use Rattle.net_ir.specs.Netlists.{Netlist, output_names}
@@ -97,3 +97,8 @@ pub given_wide : (p : Program) → IsWellFormed p → given_count p ≡ length (
 given_wide p formed =
     let fits = formed.interface in
     omega (arith, fits, length-take (given_count p) p.signals)
+
+pub outgoing_wide : (p : Program) → IsWellFormed p → outgoing_count p ≡ length (outgoing_names p)
+outgoing_wide p formed =
+    let fits = formed.interface in
+    omega (arith, fits, length-take (outgoing_count p) (drop p.inputs p.signals), length-drop p.inputs p.signals)

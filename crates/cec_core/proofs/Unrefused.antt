@@ -2,7 +2,7 @@
 use Rattle.std.proofs.Common.{◌≡◌, ℕ, ◌<◌, ◌≤◌, List, [], ◌∷◌, length, Option, refl, subst, arith}
 use Rattle.est_base.specs.declared.bounds.TheConstants.Limits.{SOURCE_BYTES, INSTANCES, WIRES}
 use Rattle.est_kernel.specs.Plain.{Program}
-use Rattle.grc_graph.specs.BuiltGraphs.{graph_size}
+use Rattle.grc_graph.specs.GraphSizes.{graph_size}
 use Rattle.grc_graph.specs.Edges.{Edge, edge}
 use Rattle.grc_graph.specs.Instances.{body_instances}
 use Rattle.grc_graph.specs.Orders.{GoUp}

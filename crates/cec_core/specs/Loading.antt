@@ -1,5 +1,5 @@
 -- Inner: what is counted of a machine's answers.
-use Rattle.std.specs.Prelude.{◌≡◌, ℕ, zero, suc, ◌+◌, ◌≤◌, Bool, List, [], ◌∷◌, map, count_by, codes, decimal}
+use Rattle.std.specs.Prelude.{◌≡◌, ℕ, zero, suc, ◌+◌, ◌≤◌, Bool, List, [], ◌∷◌, None, map, count_by, codes, decimal}
 use Rattle.std.specs.List.{concat}
 use Rattle.est_base.specs.Draws.{state_after}
 use Rattle.est_base.specs.Items.{Item}
@@ -10,7 +10,14 @@ use Rattle.trace_io.specs.declared.lines.Word.TheVariants.{Paused, Ended, Bare}
 use Rattle.trace_run.specs.Machines.{Answer, Answered}
 use Rattle.trace_run.specs.Steps.{Led}
 use Rattle.trace_run.specs.Languages.{shown_answer}
+use Rattle.cec_front.specs.Sources.{StandsFor}
+use Rattle.est_kernel.specs.Plain.{Program}
+use Rattle.gen_laws.specs.Laws.{HasDrawnInterface}
 use Rattle.cec_core.specs.declared.commands.load.Counts.{Counts}
+
+-- each program that a source stands for has the interface of a generated one
+abbrev pub IsDrawn : List ℕ → Type 0
+IsDrawn source = (p : Program) → StandsFor source None p → HasDrawnInterface p
 
 -- how many outgoing signals are present in some instants
 abbrev pub present_count : List Answer → ℕ

@@ -7,14 +7,13 @@ ghost use Rattle.est_base.specs.Relations.{relation_of};
 ghost use Rattle.est_base.specs.SinkChanges.{change};
 ghost use Rattle.est_kernel.specs.Plain.{given_count, outgoing_count};
 ghost use Rattle.trace_io.specs.Answers.{beginning, reading_of};
-ghost use Rattle.trace_run.specs.Languages.{word_of};
 ghost use Rattle.tri_run.specs.Runners.{program_in};
 ghost use Rattle.cec_core.specs.ReactionSteps.{IsReaction, IsReactionStep, RunsReactions};
 
 use est_base::{NoMemory, Sink, SinkFault, Text};
 use std::alloc::Global;
-use trace_io::{Item, TraceError, TraceReader, Word, reaction_line};
-use trace_run::{Interface, RunFault};
+use trace_io::{Item, TraceError, TraceReader, reaction_line};
+use trace_run::{Interface, RunFault, word_of};
 use tri_run::TriRunner;
 
 /// Why a run by three-valued reactions was not done.
@@ -120,11 +119,4 @@ fn react_to_event<O: Sink>(
         Ok(()) => Ok(()),
         Err(SinkFault::Failed) => Err(ReactionFault::Run(RunFault::Write)),
     }
-}
-
-// The word for whether a program pauses.
-fn word_of(paused: bool) -> Word
-    ensures { result ≡ word_of paused }
-{
-    if paused { Word::Paused } else { Word::Ended }
 }

@@ -1,6 +1,6 @@
-// The command that runs a generated source over drawn events, by both of its texts.
+// The command that runs a generated source over drawn events, by its BLIF text and by its C text.
 
-ghost use Rattle.std.specs.Prelude.{◌≡◌, ◌+◌, ◌<◌, ◌≤◌, ◌^◌, [], length, count_by, Some, None, IfOk, IfErr, OnOk};
+ghost use Rattle.std.specs.Prelude.{◌≡◌, ◌+◌, ◌<◌, ◌≤◌, ◌^◌, length, count_by, Some, None, IfOk, IfErr};
 ghost use Rattle.est_base.specs.SinkChanges.{change};
 ghost use Rattle.est_gen.specs.Sources.{source_text};
 ghost use Rattle.net_ir.specs.Runs.{netlist_of};
@@ -9,7 +9,7 @@ ghost use Rattle.cec_core.specs.Jobs.{Load};
 ghost use Rattle.cec_core.specs.JobViews.{AreBranches};
 ghost use Rattle.cec_core.specs.Lines.{GainsErr};
 ghost use Rattle.cec_core.specs.Loads.{IsSummary, drawn_items, state_behind};
-ghost use Rattle.cec_core.specs.Loading.{CountsMachine, CountsMore, CountsNet, counted_text, pause_of};
+ghost use Rattle.cec_core.specs.Loading.{CountsMachine, CountsMore, CountsNet, IsDrawn, counted_text, pause_of};
 ghost use Rattle.cec_core.specs.NetTexts.{TextsFit};
 ghost use Rattle.cec_core.specs.Outcomes.{LeavesText, MakesOn};
 ghost use Rattle.cec_compile.specs.Refusals.{IsRefused};
@@ -20,7 +20,7 @@ use crate::picked::compile_picked;
 use crate::writing::write_whole;
 use blif_run::BlifTexts;
 use blif_text::write_blif;
-use cec_compile::{Compiled, Limit, Refusal};
+use cec_compile::{Limit, Refusal};
 use cec_words::Pick;
 use csub_run::CTexts;
 use csub_text::write_c;
@@ -82,7 +82,7 @@ pub(crate) fn write_load<O: Sink, E: Sink>(
     outcome
 }
 
-// Runs a source over drawn events, writes the numbers of the run, and says how it ended.
+// Runs a generated source over drawn events, writes the numbers of the run, and says how it ended.
 fn write_summary<O: Sink>(
     alloc: Global,
     source: &[u8],
@@ -90,7 +90,8 @@ fn write_summary<O: Sink>(
     instants: u32,
     out: &mut O,
 ) -> Outcome
-    requires { length source.now ≤ Limits.SOURCE_BYTES }
+    requires short { length source.now ≤ Limits.SOURCE_BYTES }
+    requires drawn { IsDrawn source.now }
     ensures agrees { MakesOn None result source.now }
     ensures out { LeavesText (IsSummary source.now draw instants)
         (change O.told O.faults out.old out.new)
@@ -102,14 +103,15 @@ fn write_summary<O: Sink>(
     }
 }
 
-// The numbers of a source's run over drawn events.
+// The numbers of a generated source's run over drawn events.
 fn summary(alloc: Global, source: &[u8], draw: Draw, instants: u32) -> Result<Vec<u8>, Refusal>
-    requires { length source.now ≤ Limits.SOURCE_BYTES }
+    requires short { length source.now ≤ Limits.SOURCE_BYTES }
+    requires drawn { IsDrawn source.now }
     ensures text { IfOk result (λ text. IsSummary source.now draw instants text.items) }
     ensures refuses { IfErr result (IsRefused source.now None) }
 {
     let compiled = compile_picked(alloc, source, None, Pick::First)?;
-    let counts = drawn_counts(alloc, &compiled, draw, instants)?;
+    let counts = run_both(alloc, &compiled.net, draw, instants)?;
     let text = summary_text(alloc, instants, counts)?;
     Ok(text)
 }
@@ -134,29 +136,6 @@ fn summary_text(alloc: Global, instants: u32, counts: Counts) -> Result<Vec<u8>,
         ],
     )?;
     Ok(text)
-}
-
-// What both texts of a compiled source show over drawn events. A generated source has eight inputs and outputs, and no
-// relations.
-fn drawn_counts(
-    alloc: Global,
-    compiled: &Compiled,
-    draw: Draw,
-    instants: u32,
-) -> Result<Counts, NoMemory>
-    requires { TextsFit (netlist_of compiled.now.net) }
-    ensures inputs { OnOk result (length compiled.now.net.inputs.items ≡ 8) }
-    ensures relations { OnOk result (compiled.now.graph.program.relations.items ≡ []) }
-    ensures counts { IfOk result (CountsNet (netlist_of compiled.now.net) (drawn_items instants draw)) }
-{
-    let net = &compiled.net;
-    if net.inputs.len() != 8
-        || net.outputs.len() != 8
-        || !compiled.graph.program.relations.is_empty()
-    {
-        return Err(NoMemory);
-    }
-    run_both(alloc, net, draw, instants)
 }
 
 // What both texts of a net show over drawn events.

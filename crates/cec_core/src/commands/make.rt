@@ -11,7 +11,7 @@ ghost use Rattle.cec_compile.specs.MadeNets.{IsWrittenOf};
 ghost use Rattle.cec_compile.specs.SourceTexts.{IsSourceText};
 ghost use Rattle.cec_compile.specs.declared.forms.TextForm.TheVariants.{Guarded};
 ghost use Rattle.cec_core.specs.Outcomes.{Agrees, CountsFiles, GainsOut, LeavesAnswer};
-ghost use Rattle.cec_core.specs.Outcomes.{LeavesPieces, LeavesText, MakesOn};
+ghost use Rattle.cec_core.specs.Outcomes.{LeavesPieces, MakesOn};
 ghost use Rattle.cec_core.specs.Subjects.{plain_subject, unread_outcome};
 ghost use Rattle.cec_core.specs.declared.jobs.Task.TheVariants.{Text};
 
@@ -19,10 +19,9 @@ use crate::answers::{counts, listing};
 use crate::jobs::{Job, Task};
 use crate::lines::{Subject, report};
 use crate::outcome::{Outcome, Which};
-use crate::picked::guarded_picked;
 use crate::writing::write_whole;
 use blif_text::BlifWriter;
-use cec_compile::{Limit, TextForm, write_source_text};
+use cec_compile::{Limit, TextForm, write_guarded_text, write_source_text};
 use cec_words::Pick;
 use csub_text::CWriter;
 use est_base::{Draw, FileFault, Files, Limits, Sink};
@@ -132,15 +131,38 @@ fn write_form<O: Sink>(
     }
 }
 
-// Writes the guarded text of a source, which is made whole.
+// Writes the guarded text of a source, piece by piece.
 fn write_guarded<O: Sink>(alloc: Global, job: Job<'_>, source: &[u8], out: &mut O) -> Outcome
     requires { length source.now ≤ Limits.SOURCE_BYTES }
     ensures agrees { MakesOn (plain_job job.entry).main result source.now }
-    ensures out { LeavesText (IsSourceText Guarded (plain_job job.entry).main source.now)
+    ensures out { LeavesPieces (IsSourceText Guarded (plain_job job.entry).main source.now)
         (change O.told O.faults out.old out.new) result }
 {
-    match guarded_picked(alloc, source, job.main, job.pick) {
-        Ok(guarded) => write_whole(&guarded.text, out),
+    match job.pick {
+        Pick::First => guarded_into::<First, O>(alloc, source, job.main, &mut First, out),
+        Pick::Last => guarded_into::<Last, O>(alloc, source, job.main, &mut Last, out),
+        Pick::Drawn(start) => {
+            let mut drawn = Drawn(Draw::new(start));
+            guarded_into::<Drawn, O>(alloc, source, job.main, &mut drawn, out)
+        }
+    }
+}
+
+// Writes the guarded text of a source along the order that a picker makes, and says how that ended.
+fn guarded_into<P: Picker, O: Sink>(
+    alloc: Global,
+    source: &[u8],
+    main: Option<&[u8]>,
+    picker: &mut P,
+    out: &mut O,
+) -> Outcome
+    requires { length source.now ≤ Limits.SOURCE_BYTES }
+    ensures agrees { MakesOn (option_map (λ m. m.now) main.entry) result source.now }
+    ensures out { LeavesPieces (IsSourceText Guarded (option_map (λ m. m.now) main.entry) source.now)
+        (change O.told O.faults out.old out.new) result }
+{
+    match write_guarded_text::<P, O>(alloc, source, main, picker, out) {
+        Ok(ended) => Outcome::from(ended),
         Err(refusal) => Outcome::from(refusal),
     }
 }

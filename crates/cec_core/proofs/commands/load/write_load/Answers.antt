@@ -6,6 +6,8 @@ use Rattle.cec_compile.specs.declared.refusal.Limit.TheVariants as limits
 use Rattle.cec_core.specs.Lines.{Subject}
 use Rattle.cec_core.specs.Loads.{IsSummary}
 use Rattle.cec_core.specs.Outcomes.{LeavesText, MakesOn}
+use Rattle.cec_front.specs.Sources.{StandsFor}
+use Rattle.gen_laws.proofs.Exports.{drawn-interface}
 use Rattle.cec_core.proofs.OneFile.{err_alone}
 use Rattle.cec_core.proofs.commands.load.write_load.Goals as goal
 
@@ -36,3 +38,8 @@ pub returns-clause-agrees : goal.returns-clause-agrees
 returns-clause-agrees g c =
     let made = c.in-Ok.ensures in
     subst (MakesOn None c.write_summary-outcome.result) (c.deref.ensures.value ∙ made.source) c.write_summary-outcome.ensures.agrees
+
+pub write_summary-outcome-requires-clause-drawn : goal.write_summary-outcome-requires-clause-drawn
+write_summary-outcome-requires-clause-drawn g c =
+    let is = c.deref.ensures.value ∙ c.in-Ok.ensures.source in
+    λ p stands. drawn-interface c.args.start c.args.branches p (subst (λ text. StandsFor text None p) is stands)

@@ -4,7 +4,7 @@ use Rattle.cec_compile.specs.SourceTexts.{IsSourceText}
 use Rattle.cec_core.specs.JobViews.{plain_job}
 use Rattle.cec_compile.specs.declared.forms.TextForm.TheVariants.{Blif, EncodedBlif, C, Guarded, Verilog}
 use Rattle.cec_compile.proofs.Exports.{IsBlifText, IsCText, IsVerilogText, blif_answers, encoded_answers, c_answers, verilog_answers}
-use Rattle.cec_core.proofs.Pieces.{pieces_as, whole_pieces}
+use Rattle.cec_core.proofs.Pieces.{pieces_as}
 use Rattle.cec_core.proofs.commands.make.write_form.Goals as goal
 
 pub returns-in-Blif-clause-out : goal.returns-in-Blif-clause-out
@@ -33,10 +33,7 @@ returns-in-C-clause-out g c =
 
 pub returns-in-Guarded-clause-out : goal.returns-in-Guarded-clause-out
 returns-in-Guarded-clause-out g c =
-    let main = (plain_job c.args.job).main in
-    rw c.in-Guarded.is
-    (whole_pieces (IsSourceText Guarded main c.args.source.now) (change g.O.Sink.told g.O.Sink.faults c.args.out.now c.write_guarded.new.out)
-    c.write_guarded.result c.write_guarded.ensures.out)
+    rw c.in-Guarded.is c.write_guarded.ensures.out
 
 pub returns-in-Verilog-clause-out : goal.returns-in-Verilog-clause-out
 returns-in-Verilog-clause-out g c =

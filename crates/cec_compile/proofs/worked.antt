@@ -1,0 +1,5 @@
+-- Worked examples of the definitions: values by hand. No law stands on them.
+mod WorkedTexts
+mod WorkedMeanings
+mod WorkedRefusals
+mod WorkedWires

@@ -1,0 +1,5 @@
+-- Worked examples of the definitions: values by hand. No law stands on them.
+mod WorkedLines
+mod WorkedOutcomes
+mod WorkedAnswers
+mod WorkedRequests

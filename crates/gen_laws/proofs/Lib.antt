@@ -1,0 +1,5 @@
+mod Bits
+mod Openings
+mod Heads
+mod Interfaces
+pub mod Exports
