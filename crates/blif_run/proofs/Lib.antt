@@ -6,4 +6,5 @@ mod Showing
 mod NetLoops
 mod NetTexts
 mod TextFaults
+mod worked
 pub mod Exports

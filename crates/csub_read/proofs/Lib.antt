@@ -7,4 +7,5 @@ mod LongestTokens
 mod ReaderLaws
 mod ReadBack
 mod NameFaults
+mod worked
 pub mod Exports

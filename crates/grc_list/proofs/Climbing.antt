@@ -21,10 +21,6 @@ two_places : (x : Place) (p q : Term) (n : ℕ) → length (places n 0 p (n + 1)
 two_places x p q n e f = long_two x (places n 0 p (n + 1)) (places n 1 q (n + (1 + statement_count p))) _ _ e f
 
 pub length-places : (a c : ℕ) (t : Term) (n : ℕ) → length (places a c t n) ≡ statement_count t
-length-places a c Nothing n = refl
-length-places a c Pause n = refl
-length-places a c (Emit s) n = refl
-length-places a c (Exit k) n = refl
 length-places a c (Present e p q) n =
     two_places (place a c (Present e p q)) p q n (length-places n 0 p (n + 1)) (length-places n 1 q (n + (1 + statement_count p)))
 length-places a c (Suspend e p) n = one_place (place a c (Suspend e p)) p n (length-places n 0 p (n + 1))
@@ -36,22 +32,13 @@ length-places a c (Par p q) n =
 length-places a c (Trap p) n = one_place (place a c (Trap p)) p n (length-places n 0 p (n + 1))
 length-places a c (Local s p) n = one_place (place a c (Local s p)) p n (length-places n 0 p (n + 1))
 length-places a c (Awake e p) n = one_place (place a c (Awake e p)) p n (length-places n 0 p (n + 1))
+length-places a c _ n = refl
 
 -- ---- the first place is that of the statement itself
 
 first_place : (a c : ℕ) (t : Term) (n : ℕ) (d : Place) → get_or (places a c t n) 0 d ≡ place a c t
 first_place a c Nothing n d = refl
-first_place a c Pause n d = refl
-first_place a c (Emit s) n d = refl
-first_place a c (Exit k) n d = refl
-first_place a c (Present e p q) n d = refl
-first_place a c (Suspend e p) n d = refl
-first_place a c (Seq p q) n d = refl
-first_place a c (Loop at p) n d = refl
-first_place a c (Par p q) n d = refl
-first_place a c (Trap p) n d = refl
-first_place a c (Local s p) n d = refl
-first_place a c (Awake e p) n d = refl
+first_place a c _ n d = refl
 
 -- ---- each other place leads to one before it
 
@@ -162,10 +149,6 @@ climb_two x p q n one two (suc i) d h low = ⊎_elim left right (cases_lt i (sta
         (climb_part whole q 1 n (1 + statement_count p) k d (part_second p q) two (omega (arith, low))))
 
 climbs : (a c : ℕ) (t : Term) (n : ℕ) → Climbs a c t n
-climbs a c Nothing n = record { each = λ j d h low. absurd (omega (arith, h, low)) }
-climbs a c Pause n = record { each = λ j d h low. absurd (omega (arith, h, low)) }
-climbs a c (Emit s) n = record { each = λ j d h low. absurd (omega (arith, h, low)) }
-climbs a c (Exit k) n = record { each = λ j d h low. absurd (omega (arith, h, low)) }
 climbs a c (Present e p q) n = record { each = climb_two _ p q n (climbs n 0 p (n + 1)) (climbs n 1 q (n + (1 + statement_count p))) }
 climbs a c (Suspend e p) n = record { each = climb_one _ p n (climbs n 0 p (n + 1)) }
 climbs a c (Seq p q) n = record { each = climb_two _ p q n (climbs n 0 p (n + 1)) (climbs n 1 q (n + (1 + statement_count p))) }
@@ -174,6 +157,7 @@ climbs a c (Par p q) n = record { each = climb_two _ p q n (climbs n 0 p (n + 1)
 climbs a c (Trap p) n = record { each = climb_one _ p n (climbs n 0 p (n + 1)) }
 climbs a c (Local s p) n = record { each = climb_one _ p n (climbs n 0 p (n + 1)) }
 climbs a c (Awake e p) n = record { each = climb_one _ p n (climbs n 0 p (n + 1)) }
+climbs a c _ n = record { each = λ j d h low. absurd (omega (arith, h, low)) }
 
 -- a place of a body leads to one before it, whose path is the same without the last step
 pub record LeadsUp (body : Term) (j : ℕ) (x : Place) : Type 0 where
@@ -196,10 +180,6 @@ bound_two b xs ys ps qs e f =
     ∙ sym (map-append bound_signal ps qs))
 
 bounds : (a c : ℕ) (t : Term) (n : ℕ) → map (λ x. x.bound) (places a c t n) ≡ map bound_signal (preorder t)
-bounds a c Nothing n = refl
-bounds a c Pause n = refl
-bounds a c (Emit s) n = refl
-bounds a c (Exit k) n = refl
 bounds a c (Present e p q) n = bound_two _ _ _ (preorder p) (preorder q) (bounds n 0 p (n + 1)) (bounds n 1 q (n + (1 + statement_count p)))
 bounds a c (Suspend e p) n = ap (λ l. bound_signal (Suspend e p) ∷ l) (bounds n 0 p (n + 1))
 bounds a c (Seq p q) n = bound_two _ _ _ (preorder p) (preorder q) (bounds n 0 p (n + 1)) (bounds n 1 q (n + (1 + statement_count p)))
@@ -208,6 +188,7 @@ bounds a c (Par p q) n = bound_two _ _ _ (preorder p) (preorder q) (bounds n 0 p
 bounds a c (Trap p) n = ap (λ l. bound_signal (Trap p) ∷ l) (bounds n 0 p (n + 1))
 bounds a c (Local s p) n = ap (λ l. bound_signal (Local s p) ∷ l) (bounds n 0 p (n + 1))
 bounds a c (Awake e p) n = ap (λ l. bound_signal (Awake e p) ∷ l) (bounds n 0 p (n + 1))
+bounds a c _ n = refl
 
 pub bound_at-place : (body : Term) (j : ℕ) (d : Place) → j < statement_count body → (get_or (body_places body) j d).bound ≡ bound_at body j
 bound_at-place body j d low =

@@ -20,10 +20,6 @@ use Rattle.grc_sem.specs.GraphWalks.{SelectsLeaves}
 
 -- what holds no selected pause is well formed
 formed-none : (S : ℕ → Bool) (t : Term) (n : ℕ) → holds S t n ≡ false → well_formed S t n ≡ true
-formed-none S Nothing n e = refl
-formed-none S Pause n e = refl
-formed-none S (Emit s) n e = refl
-formed-none S (Exit k) n e = refl
 formed-none S (Present c p q) n e =
     let m = n + 1 + statement_count p in
     let none = or_parts (holds S p (n + 1)) (holds S q m) e in
@@ -44,7 +40,7 @@ formed-none S (Par p q) n e =
     (and_from (well_formed S p (n + 1)) (well_formed S q m) (formed-none S p (n + 1) none.0) (formed-none S q m none.1))
 formed-none S (Trap p) n e = formed-none S p (n + 1) e
 formed-none S (Local s p) n e = formed-none S p (n + 1) e
-formed-none S (Awake c p) n e = refl
+formed-none S _ n e = refl
 
 -- a part whose selected pauses are as its form wants where it holds one
 part-formed : (S : ℕ → Bool) (p : Term) (n : ℕ) → (holds S p n ≡ true → well_formed S p n ≡ true) → well_formed S p n ≡ true
@@ -57,10 +53,6 @@ over-true a x b y h g = (λ i. not (a || b) || (h i && g i)) ∙ last (not (a ||
   last false = refl
 
 selected-formed : (S : ℕ → Bool) (t : Term) (n : ℕ) → IsSelected S t n → well_formed S t n ≡ true
-selected-formed S Nothing n h = refl
-selected-formed S Pause n h = refl
-selected-formed S (Emit s) n h = refl
-selected-formed S (Exit k) n h = refl
 selected-formed S (Present c p q) n h =
     let m = n + 1 + statement_count p in
     and_from (at_most_one (holds S p (n + 1)) (holds S q m)) (well_formed S p (n + 1) && well_formed S q m) (ap not h.0)
@@ -81,7 +73,7 @@ selected-formed S (Par p q) n h =
     (part-formed S p (n + 1) (λ e. selected-formed S p (n + 1) (h.2 e))) (part-formed S q m (λ e. selected-formed S q m (h.3 e))))
 selected-formed S (Trap p) n h = selected-formed S p (n + 1) h
 selected-formed S (Local s p) n h = selected-formed S p (n + 1) h
-selected-formed S (Awake c p) n h = refl
+selected-formed S _ n h = refl
 
 -- ---- what is well formed is a state
 
@@ -96,10 +88,7 @@ some-wider : (S : ℕ → Bool) (t p : Term) (n m : ℕ) → n ≤ m → m + sta
 some-wider S t p n m le high x = record { place = x.place; from = omega (arith, x.from); below = omega (arith, x.below); chosen = x.chosen }
 
 some-chosen : (S : ℕ → Bool) (t : Term) (n : ℕ) → holds S t n ≡ true → Some S t n
-some-chosen S Nothing n e = absurd (false≢true e)
 some-chosen S Pause n e = record { place = n; from = omega arith; below = omega arith; chosen = e }
-some-chosen S (Emit s) n e = absurd (false≢true e)
-some-chosen S (Exit k) n e = absurd (false≢true e)
 some-chosen S (Present c p q) n e = elim (or_cases (holds S p (n + 1)) (holds S q (n + 1 + statement_count p)) e) [
   | inl h ↦ some-wider S (Present c p q) p n (n + 1) (omega arith) (omega arith) (some-chosen S p (n + 1) h)
   | inr h ↦
@@ -117,7 +106,7 @@ some-chosen S (Par p q) n e = elim (or_cases (holds S p (n + 1)) (holds S q (n +
 ]
 some-chosen S (Trap p) n e = some-wider S (Trap p) p n (n + 1) (omega arith) (omega arith) (some-chosen S p (n + 1) e)
 some-chosen S (Local s p) n e = some-wider S (Local s p) p n (n + 1) (omega arith) (omega arith) (some-chosen S p (n + 1) e)
-some-chosen S (Awake c p) n e = absurd (false≢true e)
+some-chosen S _ n e = absurd (false≢true e)
 
 -- the selected pauses of a statement at n are among these leaves
 Chosen : (ℕ → Bool) → Term → ℕ → List ℕ → Type 0
@@ -182,10 +171,6 @@ second-live S b d t p q n count h e =
     live-leaf d q c x.place (second-leaf S b d t p q n count h x.place x.from x.below x.chosen)
 
 formed-selected : (S : ℕ → Bool) (t : Term) (n : ℕ) → Chosen S t n (leaf_paths true t n) → well_formed S t n ≡ true → holds S t n ≡ true → IsSelected S t n
-formed-selected S Nothing n h w e = tt
-formed-selected S Pause n h w e = tt
-formed-selected S (Emit s) n h w e = tt
-formed-selected S (Exit k) n h w e = tt
 formed-selected S (Present x p q) n h w e =
     let c = n + 1 + statement_count p in
     let parts = and_parts (at_most_one (holds S p (n + 1)) (holds S q c)) (well_formed S p (n + 1) && well_formed S q c) w in
@@ -220,7 +205,7 @@ formed-selected S (Par p q) n h w e =
     )
 formed-selected S (Trap p) n h w e = formed-selected S p (n + 1) (part-chosen S (resumes p) (Trap p) p n refl h) w e
 formed-selected S (Local s p) n h w e = formed-selected S p (n + 1) (part-chosen S (resumes p) (Local s p) p n refl h) w e
-formed-selected S (Awake x p) n h w e = tt
+formed-selected S _ n h w e = tt
 
 body-chosen : (S : ℕ → Bool) (body : Term) → SelectsLeaves (Selecting S) body → Chosen S body 0 (leaf_paths true body 0)
 unfolding Chosen

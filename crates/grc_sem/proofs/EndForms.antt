@@ -17,7 +17,7 @@ use Rattle.grc_graph.specs.Formulas.{Formula, Conjunction, Selected, Upto, Value
 use Rattle.grc_graph.specs.Spots.{status_formula, test_formula}
 use Rattle.grc_graph.specs.Equations.{part_end, trapped_ends, started_parallel, branch_over, branch_upto, branch_end, resumed_parallel}
 use Rattle.grc_graph.specs.Walk.{Walk, Values, State, truth, ended}
-use Rattle.grc_graph.specs.Readings.{Valuation, seen_value, boolean_reading}
+use Rattle.grc_graph.specs.Readings.{Valuation, seen_value, boolean_interpretation}
 
 -- a value, from what follows if it is true and from when it is
 pub ends_by : (A X b : Bool) (k c : ℕ) → (X ≡ true → (b ≡ true) × (k ≡ c)) → (b ≡ true → k ≡ c → (A ≡ true) × (X ≡ true)) → (A && X) ≡ (b && (k == c))
@@ -28,7 +28,7 @@ ends_by A X b k c f g =
 
 module _ (B : Scope) (body : Term) (q : State) (given : Values) (V : Valuation) where
   abbrev pub val : Formula → Bool
-  val a = meaning (boolean_reading B body q given V) a
+  val a = meaning (boolean_interpretation B body q given V) a
 
   pub any_meaning : (fs : List Formula) → val (any_of fs) ≡ list_any val fs
   any_meaning [] = refl

@@ -54,4 +54,5 @@ mod GraphLaws
 mod Regions
 -- a step that does what the walk does, form by form
 mod StepWalks
+mod worked
 pub mod Exports

@@ -16,7 +16,7 @@ use Rattle.grc_sem.proofs.Exports.{emitted}
 use Rattle.est_tri.specs.TriWalks.{where_met, tri_upto}
 use Rattle.est_tri.proofs.Exports.{IsRail}
 use Rattle.grc_graph.proofs.Exports.{above_behind}
-use Rattle.grc_tri.specs.LeastSolutions.{Statuses, upto_status, kleene_reading}
+use Rattle.grc_tri.specs.LeastSolutions.{Statuses, upto_status, kleene_interpretation}
 
 -- ---- statuses
 
@@ -55,7 +55,7 @@ met_same false x f = sym (f refl)
 
 module _ (body : Term) (q : State) (given : Values) (U : Statuses) where
   abbrev pub val : Formula → Status
-  val a = meaning (kleene_reading body q given U) a
+  val a = meaning (kleene_interpretation body q given U) a
 
   -- the or of a list
   pub or_all : List Formula → Status

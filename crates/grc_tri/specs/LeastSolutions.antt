@@ -11,7 +11,7 @@ use Rattle.est_kernel.specs.Laws.{IsBelow}
 use Rattle.est_kernel.specs.Reactions.{is_given}
 use Rattle.est_kernel.specs.Statuses.{Status, Plus, Minus, Unknown, known, opposite, conjunction, disjunction}
 use Rattle.est_kernel.specs.Terms.{Term}
-use Rattle.grc_graph.specs.Formulas.{Formula, Reading, meaning}
+use Rattle.grc_graph.specs.Formulas.{Formula, Interpretation, meaning}
 use Rattle.grc_graph.specs.GraphRuns.{PlainGraph}
 use Rattle.grc_graph.specs.Readings.{Valuation, state_holds_at}
 use Rattle.grc_graph.specs.Walk.{State, Values, is_initial}
@@ -28,8 +28,8 @@ upto_status U (suc k) = disjunction (upto_status U k) (U (suc k))
 
 -- The words of formulas over a body, in a state and an event, with these statuses of the wires. What the state and the
 -- event say is known. No equation of a wire speaks of what a state keeps or holds: nothing is said of it here.
-abbrev pub kleene_reading : Term → State → Values → Statuses → Reading Status
-kleene_reading body q given T = record {
+abbrev pub kleene_interpretation : Term → State → Values → Statuses → Interpretation Status
+kleene_interpretation body q given T = record {
   constant = known;
   negation = opposite;
   conjunction = conjunction;
@@ -45,7 +45,7 @@ kleene_reading body q given T = record {
 
 -- the status of a formula of the graph in a state and an event, under statuses of the wires
 abbrev pub formula_status : PlainGraph → State → List Bool → Statuses → Formula → Status
-formula_status g q event T a = meaning (kleene_reading g.body q (is_given event) T) a
+formula_status g q event T a = meaning (kleene_interpretation g.body q (is_given event) T) a
 
 -- Statuses solve the graph: each equation is met, and what is no wire is false.
 pub record TriSolves (g : PlainGraph) (q : State) (event : List Bool) (T : Statuses) : Type 0 where

@@ -1,3 +1,4 @@
 mod RestingNets
 mod GuardedTexts
+mod worked
 pub mod Exports

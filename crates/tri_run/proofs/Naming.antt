@@ -25,7 +25,7 @@ use Rattle.grc_solutions.proofs.Exports.{is_given, unnamed}
 use Rattle.grc_react.specs.Evaluations.{IsKnown}
 use Rattle.grc_react.proofs.Exports.{plain-formulas, plain-wires}
 use Rattle.grc_solutions.specs.GraphWires.{Differ, equation_wires}
-use Rattle.grc_tri.specs.LeastSolutions.{IsLeast, Statuses, formula_status, is_plus, kleene_reading, upto_status}
+use Rattle.grc_tri.specs.LeastSolutions.{IsLeast, Statuses, formula_status, is_plus, kleene_interpretation, upto_status}
 use Rattle.grc_words.specs.declared.table.Words.{Words}
 use Rattle.grc_words.specs.Occasions.{Occasion}
 use Rattle.grc_words.specs.WordLaws.{AreWordsOf, any_from, ends_upto, first_end, is_end_upto}
@@ -112,7 +112,7 @@ upto-said g w t T i k a off low =
     ∙ a.upto (occasion g t (λ u. f (T u))) i k (λ u out. ap f (off u out) ∙ none) low ∙ sym (rail-upto f either A k) in
     two-rails (any_status (numbered g T) (first_end w i) (ends_upto g w i k)) (upto_status A k) (rail is_plus refl plus-or) (rail maybe refl maybe-or)
 
-any-said : (g : Graph) (R : plain.Reading Status) (S : List Bool) (vs : List WireId)
+any-said : (g : Graph) (R : plain.Interpretation Status) (S : List Bool) (vs : List WireId)
     → R.constant false ≡ Minus → R.disjunction ≡ disjunction
     → any_meaning vs S (numbered g R.wire) ≡ plain.meaning R (plain.any_of (map (λ (v : WireId). plain.Value (wire_at (names_of g) v.0)) vs))
 any-said g R S [] none either = sym none
@@ -146,7 +146,7 @@ meaning-said g w c t S q T (formulas.Or' x f y h) a off s fits k =
     let n = meaning-said g w c t S q T h a off s p.1 k.1 in
     λ i. disjunction (m i) (n i)
 meaning-said g w c t S q T (formulas.AnyOf v) a off s fits k =
-    any-said g (kleene_reading (plain_graph g).body q (reactions.is_given t.event) T) S v.items refl refl
+    any-said g (kleene_interpretation (plain_graph g).body q (reactions.is_given t.event) T) S v.items refl refl
 
 -- ---- what a formula means depends on the wires that there are
 

@@ -1,7 +1,7 @@
 -- Worked runs, by hand: a machine that tells in each instant whether there was an odd number of events before, and what the event gives.
 use Rattle.std.proofs.Common.{◌≡◌, Bool, true, false, not, List, [], ◌∷◌, map, refl}
 use Rattle.est_base.specs.Items.{Item, Event, Reset}
-use Rattle.machines.specs.Machines.{Machine, IsRun, computed, run_from, within, Shows}
+use Rattle.machines.specs.Machines.{Machine, IsRun, IsRunFrom, computed, run_from, within, Shows}
 
 abbrev told : Bool → List Bool → List Bool
 told odd inputs = odd ∷ inputs
@@ -23,6 +23,9 @@ from_the_other_state = refl
 
 a_run : IsRun odd_events items ((false ∷ true ∷ []) ∷ (true ∷ []) ∷ (false ∷ []) ∷ [])
 a_run = (refl, (refl, (refl, tt)))
+
+a_reset_begins_anew : IsRunFrom odd_events true (Reset ∷ Event [] ∷ []) ((false ∷ []) ∷ [])
+a_reset_begins_anew = (refl, tt)
 
 no_run_that_goes_on : IsRun odd_events (Event [] ∷ []) ((false ∷ []) ∷ (true ∷ []) ∷ []) → ⊥
 no_run_that_goes_on h = h.1

@@ -9,6 +9,7 @@ use Rattle.net_ir.specs.Gates.{carried, gate_values, operand_end, value_in}
 use Rattle.est_base.specs.Names.{is_name}
 use Rattle.net_ir.specs.NameLists.{is_among, first_again}
 use Rattle.net_ir.specs.Netlists.{Netlist, IsNet, net_count}
+use Rattle.net_ir.specs.Numbered.{numbered}
 use Rattle.net_ir.specs.Runs.{Shown, net_values, net_run}
 
 -- one input, one latch that reads the second gate, an And and a Not
@@ -145,3 +146,6 @@ one_wire_twice = record { op = Const true; wire = Some (record { 0 = 7 }) } ∷ 
 
 a_wire_that_two_gates_carry : IsNet (record worked { gates = one_wire_twice }) → ⊥
 a_wire_that_two_gates_carry is = true≢false (sym is.carries_once)
+
+numbers_from_four : numbered (λ n x. n ∷ x ∷ []) 4 (7 ∷ 8 ∷ 9 ∷ []) ≡ (4 ∷ 7 ∷ []) ∷ (5 ∷ 8 ∷ []) ∷ (6 ∷ 9 ∷ []) ∷ []
+numbers_from_four = refl

@@ -1,0 +1,3 @@
+-- Worked examples of the definitions: values by hand. No law stands on them.
+mod WorkedHeads
+mod WorkedWalks
