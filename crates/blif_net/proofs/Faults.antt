@@ -11,7 +11,7 @@ use Rattle.est_base.specs.Stops.{IfFault}
 use Rattle.net_ir.specs.NameLists.{first_again}
 use Rattle.blif_text.specs.Circuits.{Circuit}
 use Rattle.blif_net.specs.declared.fault.CircuitFault.{CircuitFault}
-use Rattle.blif_net.specs.declared.fault.CircuitFault.TheVariants.{NoPause, Model, Input, Output, Again, Loop}
+use Rattle.blif_net.specs.declared.fault.CircuitFault.TheVariants.{NoPause, Model, Input, Output, Again, Loop, TooManyNets}
 use Rattle.blif_net.specs.Checking.{IsAgain}
 use Rattle.blif_net.specs.Interfaces.{IsFirstWithout, NamesFit, IsFit, HasName, IsCircuitFault}
 
@@ -67,3 +67,4 @@ once-fault c (Err (Fault (Input name))) names outputs is = absurd is
 once-fault c (Err (Fault (Output word))) names outputs is = absurd is
 once-fault c (Err (Fault (Again word))) names outputs is = record { names = names; outputs = outputs; again = is }
 once-fault c (Err (Fault (Loop cycle))) names outputs is = absurd is
+once-fault c (Err (Fault TooManyNets)) names outputs is = absurd is

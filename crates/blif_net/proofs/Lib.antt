@@ -1,4 +1,6 @@
 pub mod Drawings
+pub mod OrderSums
+pub mod DrawnSizes
 pub mod Rows
 pub mod Slots
 pub mod Words

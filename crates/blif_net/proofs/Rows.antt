@@ -1,8 +1,10 @@
 -- Rows and tables, cell by cell and row by row.
-use Rattle.std.proofs.Common.{◌≡◌, ℕ, ◌+◌, ◌<◌, zero, suc, Bool, true, false, ◌&&◌, ◌||◌, List, [], ◌∷◌, length, map, take, get_or, refl, ap, ◌∙◌, sym, arith}
-use Rattle.std.specs.List.{list_any}
+use Rattle.std.proofs.Common.{◌≡◌, ℕ, ◌+◌, ◌<◌, ◌≤◌, zero, suc, Bool, true, false, ◌&&◌, ◌||◌, List, [], ◌∷◌, length, map, take, get_or}
+use Rattle.std.proofs.Common.{refl, ap, ◌∙◌, sym, arith}
+use Rattle.std.specs.List.{list_any, sum_by}
 use Rattle.std.proofs.lemmas.List.{length-map, get_or-map, take-map}
 use Rattle.std.proofs.lemmas.List.Folds.{list_any_more}
+use Rattle.std.proofs.lemmas.List.Sums.{sum_by_more, sum_by-take-le}
 use Rattle.facts.proofs.Tests.{and-true}
 use Rattle.blif_text.specs.declared.circuit.Cell.{Cell}
 use Rattle.blif_text.specs.declared.circuit.Row.{Row}
@@ -50,3 +52,17 @@ rows-more rows values i row low is =
     ap (list_any fits) (sym (take-map plain_row (i + 1) rows)) ∙ list_any_more fits (map plain_row rows) i [] inside
     ∙ ap (λ l. list_any fits l || fits (get_or (map plain_row rows) i [])) (take-map plain_row i rows)
     ∙ ap (λ cells. list_any fits (map plain_row (take i rows)) || fits cells) (get_or-map plain_row rows i row [] low ∙ ap plain_row (sym is))
+
+-- what one element more adds to a sum over what is made of each
+pub mapped-sum : {X Y : Type 0} (f : Y → ℕ) (g : X → Y) (xs : List X) (i : ℕ) (x : X) → i < length xs → x ≡ get_or xs i x
+    → sum_by f (map g (take (i + 1) xs)) ≡ sum_by f (map g (take i xs)) + f (g x)
+mapped-sum f g xs i x low is =
+    let inside : i < length (map g xs) = omega (arith, low, length-map xs g) in
+    ap (sum_by f) (sym (take-map g (i + 1) xs)) ∙ sum_by_more f (map g xs) i (g x) inside
+    ∙ ap (λ l. sum_by f l + f (get_or (map g xs) i (g x))) (take-map g i xs)
+    ∙ ap (λ y. sum_by f (map g (take i xs)) + f y) (get_or-map g xs i x (g x) low ∙ ap g (sym is))
+
+pub mapped-within : {X Y : Type 0} (f : Y → ℕ) (g : X → Y) (xs : List X) (i : ℕ) (x : X) → i < length xs → x ≡ get_or xs i x
+    → sum_by f (map g (take i xs)) + f (g x) ≤ sum_by f (map g xs)
+mapped-within f g xs i x low is =
+    omega (arith, mapped-sum f g xs i x low is, ap (sum_by f) (take-map g (i + 1) xs), sum_by-take-le f (map g xs) (i + 1))

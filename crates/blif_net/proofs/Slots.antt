@@ -187,6 +187,13 @@ settles-as first other count number gates nets steps others f n s settles =
     subst (λ l. Settles other number gates nets l) s (subst (λ m. Settles other m gates nets steps) n
     (subst (λ m. Settles m count gates nets steps) f settles))
 
+-- the rows of a table of the code
+pub table-rows : (tables : List CodeTable) (t : ℕ) (rows : List Row) (table : CodeTable) → t < length tables → rows ≡ table.rows.items
+    → table ≡ get_or tables t table → map plain_row rows ≡ (get_or (map plain_table tables) t no_table).rows
+table-rows tables t rows table inside rows_are table_is =
+    ap (map plain_row) (rows_are ∙ ap (λ (k : CodeTable). k.rows.items) table_is)
+    ∙ ap (λ (k : Table). k.rows) (sym (get_or-map plain_table tables t table no_table inside))
+
 -- the step of a table of the code
 pub step-is : (tables : List CodeTable) (reads : List (Vec ℕ Global)) (first t : ℕ) (own : List ℕ) (rows : List Row) (v : Vec ℕ Global) (table : CodeTable)
     → t < length reads → t < length tables → own ≡ v.items → v ≡ get_or reads t v → rows ≡ table.rows.items → table ≡ get_or tables t table
@@ -194,7 +201,5 @@ pub step-is : (tables : List CodeTable) (reads : List (Vec ℕ Global)) (first t
 step-is tables reads first t own rows v table low inside own_is v_is rows_are table_is =
     let a : own ≡ get_or (map (λ (s : Vec ℕ Global). s.items) reads) t [] =
     own_is ∙ ap (λ (s : Vec ℕ Global). s.items) v_is ∙ sym (get_or-map (λ (s : Vec ℕ Global). s.items) reads t v [] low) in
-    let b : map plain_row rows ≡ (get_or (map plain_table tables) t no_table).rows =
-    ap (map plain_row) (rows_are ∙ ap (λ (k : CodeTable). k.rows.items) table_is)
-    ∙ ap (λ (k : Table). k.rows) (sym (get_or-map plain_table tables t table no_table inside)) in
+    let b = table-rows tables t rows table inside rows_are table_is in
     λ i. rows_step (first + t) (a i) (b i)

@@ -1,13 +1,15 @@
 -- Contract: which circuits have a netlist, and why another has none.
-use Rattle.std.specs.Prelude.{◌≡◌, ℕ, false, List, [], ◌∷◌, ◌++◌, Some, None, All, IsTrue}
+use Rattle.std.specs.Prelude.{◌≡◌, ℕ, ◌<◌, ◌^◌, false, List, [], ◌∷◌, ◌++◌, Some, None, All, IsTrue}
 use Rattle.est_base.specs.Names.{is_name}
 use Rattle.net_ir.specs.NameLists.{first_again}
 use Rattle.blif_text.specs.Circuits.{Circuit}
 use Rattle.blif_text.specs.OutputNames.{output_word}
 use Rattle.blif_run.specs.CircuitAnswers.{tells_pause, listed_names}
-use Rattle.blif_run.specs.Loops.{IsLoop}
+use Rattle.blif_run.specs.Loops.{IsLoop, HasNoLoop}
 use Rattle.blif_net.specs.declared.fault.CircuitFault.{CircuitFault}
 use Rattle.blif_net.specs.declared.fault.CircuitFault.TheVariants.{NoPause, Model, Input, Output, Again, Loop}
+use Rattle.blif_net.specs.declared.fault.CircuitFault.TheVariants.{TooManyNets}
+use Rattle.blif_net.specs.Sizes.{nets_at_most}
 
 -- a word is that of an output of a netlist with these inputs
 abbrev pub HasName : List (List ℕ) → List ℕ → Type 0
@@ -57,6 +59,11 @@ pub record IsLoopFault (c : Circuit) (names : List (List ℕ)) : Type 0 where
   pub fits : IsFit c
   pub cycle : IsLoop c names
 
+pub record IsLargeFault (c : Circuit) : Type 0 where
+  pub fits : IsFit c
+  pub acyclic : HasNoLoop c
+  pub large : 2 ^ 32 < nets_at_most c
+
 -- the first fault of a circuit
 abbrev pub IsCircuitFault : Circuit → CircuitFault → Type 0
 IsCircuitFault c NoPause = tells_pause c.outputs ≡ false
@@ -65,3 +72,4 @@ IsCircuitFault c (Input name) = IsInputFault c name
 IsCircuitFault c (Output word) = IsOutputFault c word
 IsCircuitFault c (Again word) = IsAgainFault c word
 IsCircuitFault c (Loop names) = IsLoopFault c names.items
+IsCircuitFault c TooManyNets = IsLargeFault c

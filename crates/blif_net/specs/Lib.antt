@@ -1,4 +1,6 @@
 pub mod Drawings
+pub mod Sizes
+pub mod Rooms
 pub mod Interfaces
 pub mod Checking
 pub mod Conversions

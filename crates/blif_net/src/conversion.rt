@@ -1,20 +1,22 @@
 // The netlist of a circuit.
 
-ghost use Rattle.std.specs.Prelude.{◌≡◌, map, length, IfOk, OnOk};
+ghost use Rattle.std.specs.Prelude.{◌≡◌, ◌≤◌, ◌^◌, map, length, IfOk, OnOk};
 ghost use Rattle.est_base.specs.Stops.{IfFault};
 ghost use Rattle.net_ir.specs.Runs.{netlist_of};
 ghost use Rattle.blif_text.specs.Plain.{plain_circuit};
-ghost use Rattle.blif_run.specs.Loops.{IsDescribed, equations_of};
+ghost use Rattle.blif_run.specs.Loops.{HasNoLoop, IsDescribed, equations_of};
 ghost use Rattle.blif_run.specs.Plans.{given_names};
 ghost use Rattle.step_run.specs.Order.{IsEvaluationOrder};
 ghost use Rattle.step_run.specs.Solvers.{IsResolved, equation_edges};
 ghost use Rattle.blif_net.specs.Conversions.{IsNetOf};
 ghost use Rattle.blif_net.specs.Interfaces.{IsFit, IsCircuitFault};
+ghost use Rattle.blif_net.specs.Sizes.{nets_at_most};
 
 use crate::assembling::assembled_net;
 use crate::drawing::drawn_tables;
 use crate::fault::CircuitFault;
 use crate::interface::check_interface;
+use crate::sizes::has_few_nets;
 use blif_run::{Resolved, RunError, resolved_names, table_order};
 use blif_text::Blif;
 use est_base::{NoMemory, Stop};
@@ -22,8 +24,7 @@ use net_ir::Net;
 use std::alloc::Global;
 
 /// The netlist of a circuit that some text describes, which shows over all items what the circuit shows. The fault is
-/// the circuit's first one, in the order of `CircuitFault`; the only other error is want of memory, which also more
-/// than 2^32 nets are.
+/// the circuit's first one, in the order of `CircuitFault`; the only other error is want of memory.
 pub fn net_of_circuit(alloc: Global, blif: &Blif) -> Result<Net, Stop<CircuitFault>>
     requires { IsDescribed (plain_circuit blif.now) }
     ensures net { IfOk result (λ net. IsNetOf (plain_circuit blif.now) (netlist_of net)) }
@@ -32,6 +33,9 @@ pub fn net_of_circuit(alloc: Global, blif: &Blif) -> Result<Net, Stop<CircuitFau
     let resolved = resolved_names(alloc, blif)?;
     check_interface(alloc, blif, &resolved.slots)?;
     let order = tables_in_order(alloc, blif, &resolved)?;
+    if !has_few_nets(blif) {
+        return Err(Stop::Fault(CircuitFault::TooManyNets));
+    }
     Ok(made_net(alloc, blif, &resolved, &order)?)
 }
 
@@ -48,6 +52,7 @@ fn tables_in_order(
         (map (λ s. s.items) resolved.now.reads.items) }
     ensures order { IfOk result (λ order. IsEvaluationOrder (length (equations_of (plain_circuit blif.now)))
         (equation_edges (given_names (plain_circuit blif.now)) (equations_of (plain_circuit blif.now))) order.items) }
+    ensures acyclic { OnOk result (HasNoLoop (plain_circuit blif.now)) }
     ensures cyclic { IfFault result (IsCircuitFault (plain_circuit blif.now)) }
 {
     match table_order(alloc, blif, resolved) {
@@ -71,6 +76,7 @@ fn made_net(
         (map (λ s. s.items) resolved.now.reads.items) }
     requires order { IsEvaluationOrder (length (equations_of (plain_circuit blif.now)))
         (equation_edges (given_names (plain_circuit blif.now)) (equations_of (plain_circuit blif.now))) order.now }
+    requires few { nets_at_most (plain_circuit blif.now) ≤ 2 ^ 32 }
     ensures { IfOk result (λ net. IsNetOf (plain_circuit blif.now) (netlist_of net)) }
 {
     let drawing = drawn_tables(alloc, blif, resolved, order)?;

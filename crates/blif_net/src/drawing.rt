@@ -1,6 +1,6 @@
 // The gates of a circuit's tables, drawn one after another.
 
-ghost use Rattle.std.specs.Prelude.{◌≡◌, ℕ, ◌+◌, ◌<◌, ◌^◌, [], None, false, length, map, min, slice_index_or, All};
+ghost use Rattle.std.specs.Prelude.{◌≡◌, ℕ, ◌+◌, ◌<◌, ◌≤◌, ◌^◌, [], None, false, length, map, min, slice_index_or, All};
 ghost use Rattle.std.specs.Prelude.{IfOk, OnOk};
 ghost use Rattle.est_base.specs.declared.indices.NetId.{NetId};
 ghost use Rattle.blif_text.specs.Plain.{plain_circuit, plain_row};
@@ -9,6 +9,7 @@ ghost use Rattle.blif_run.specs.Plans.{given_names};
 ghost use Rattle.step_run.specs.Order.{IsEvaluationOrder};
 ghost use Rattle.step_run.specs.Solvers.{IsResolved, equation_edges, ordered_steps};
 ghost use Rattle.blif_net.specs.Drawings.{IsDrawing};
+ghost use Rattle.blif_net.specs.Sizes.{nets_at_most, table_nets};
 ghost use Rattle.blif_net.specs.Tables.{Settles, AddsStep, rows_step};
 
 use crate::tables::table_net;
@@ -38,6 +39,7 @@ pub(crate) fn drawn_tables(
         (map (λ s. s.items) resolved.now.reads.items) }
     requires order { IsEvaluationOrder (length (equations_of (plain_circuit blif.now)))
         (equation_edges (given_names (plain_circuit blif.now)) (equations_of (plain_circuit blif.now))) order.now }
+    requires few { nets_at_most (plain_circuit blif.now) ≤ 2 ^ 32 }
     ensures { IfOk result (λ d. Settles (length (given_names (plain_circuit blif.now)))
         (length (equations_of (plain_circuit blif.now))) d.gates.items d.nets.items
         (ordered_steps (given_names (plain_circuit blif.now)) (equations_of (plain_circuit blif.now)) order.now)) }
@@ -59,12 +61,11 @@ pub(crate) fn drawn_tables(
 
 // Before the first table: the nets of the inputs and of the latches, and the one that is never true for all others.
 fn first_drawing(alloc: Global, first: usize, count: usize) -> Result<Drawing, NoMemory>
-    requires { first + count < 2 ^ 64 }
-    ensures { IfOk result (λ d. Settles first count d.gates.items d.nets.items []) }
+    requires sum { first + count < 2 ^ 64 }
+    requires few { first < 2 ^ 32 }
+    ensures settles { IfOk result (λ d. Settles first count d.gates.items d.nets.items []) }
+    ensures one { IfOk result (λ d. length d.gates.items ≡ 1) }
 {
-    if first >= 0x1_0000_0000 {
-        return Err(NoMemory);
-    }
     let nets = first_nets(alloc, first, count)?;
     let gates = vec![in alloc; never()]?;
     Ok(Drawing { gates, nets })
@@ -106,8 +107,11 @@ fn draw_table(
     requires low { All (λ n. n.0 < first + length drawing.old.gates.items) drawing.old.nets.items }
     requires reads { All (λ s. s < length drawing.old.nets.items) reads.now }
     requires slot { slot < length drawing.old.nets.items }
-    ensures { OnOk result (AddsStep first drawing.old.gates.items drawing.old.nets.items drawing.new.gates.items
+    requires room { first + length drawing.old.gates.items + table_nets (map plain_row rows.now) ≤ 2 ^ 32 }
+    ensures adds { OnOk result (AddsStep first drawing.old.gates.items drawing.old.nets.items drawing.new.gates.items
         drawing.new.nets.items (rows_step slot reads.now (map plain_row rows.now))) }
+    ensures few { OnOk result (length drawing.new.gates.items
+        ≤ length drawing.old.gates.items + table_nets (map plain_row rows.now)) }
 {
     let inputs = nets_at(alloc, &drawing.nets, reads)?;
     let net = table_net(first, &mut drawing.gates, &inputs, rows)?;

@@ -18,4 +18,7 @@ pub enum CircuitFault {
     /// A combinational cycle: each next name is an input of the table that drives the one before, and the first is an
     /// input of the table that drives the last.
     Loop(Vec<Text>),
+    /// The netlist might need more than 2^32 nets: two for each cell of a row and two for each row, one for each table,
+    /// each input and each latch, and one more.
+    TooManyNets,
 }

@@ -1,24 +1,23 @@
 // Gates one behind another, none of which carries a wire.
 
-ghost use Rattle.std.specs.Prelude.{◌≡◌, ◌+◌, ◌≤◌, true, false, not, ◌&&◌, ◌||◌, Option, Some, length, IfOk};
+ghost use Rattle.std.specs.Prelude.{◌≡◌, ◌+◌, ◌<◌, ◌≤◌, ◌^◌, true, false, not, ◌&&◌, ◌||◌, Option, Some, length};
+ghost use Rattle.std.specs.Prelude.{IfOk, OnOk};
 ghost use Rattle.net_ir.specs.Gates.{op_value, operand_end, value_in};
 ghost use Rattle.blif_net.specs.Drawings.{IsDrawing, Draws, is_low, said};
 
 use est_base::{NetId, NoMemory};
 use net_ir::{Gate, Op};
 
-/// One more gate, and its net, where `first` is the number of the first gate. Where there is no number left, memory is
-/// said to be wanted.
+/// One more gate, and its net, where `first` is the number of the first gate.
 pub(crate) fn push_gate(first: usize, gates: &mut Vec<Gate>, op: Op) -> Result<NetId, NoMemory>
     requires drawing { IsDrawing first gates.old.items }
     requires low { operand_end op ≤ first + length gates.old.items }
-    ensures { IfOk result (λ n. Draws first gates.old.items gates.new.items (Some n) false
+    requires room { first + length gates.old.items < 2 ^ 32 }
+    ensures draws { IfOk result (λ n. Draws first gates.old.items gates.new.items (Some n) false
         (λ values. op_value (value_in values) op)) }
+    ensures one { OnOk result (length gates.new.items ≡ length gates.old.items + 1) }
 {
     let number = first + gates.len();
-    if number >= 0x1_0000_0000 {
-        return Err(NoMemory);
-    }
     gates.push(Gate { op, wire: None })?;
     Ok(NetId(number as u32))
 }
@@ -33,8 +32,10 @@ pub(crate) fn both(
     requires drawing { IsDrawing first gates.old.items }
     requires all { is_low (first + length gates.old.items) all }
     requires net { is_low (first + length gates.old.items) (Some net) }
-    ensures { IfOk result (λ n. Draws first gates.old.items gates.new.items (Some n) true
+    requires room { first + length gates.old.items < 2 ^ 32 }
+    ensures draws { IfOk result (λ n. Draws first gates.old.items gates.new.items (Some n) true
         (λ values. said true all values && said true (Some net) values)) }
+    ensures few { OnOk result (length gates.new.items ≤ length gates.old.items + 1) }
 {
     match all {
         Some(others) => push_gate(first, gates, Op::And(others, net)),
@@ -52,8 +53,10 @@ pub(crate) fn either(
     requires drawing { IsDrawing first gates.old.items }
     requires any { is_low (first + length gates.old.items) any }
     requires net { is_low (first + length gates.old.items) (Some net) }
-    ensures { IfOk result (λ n. Draws first gates.old.items gates.new.items (Some n) false
+    requires room { first + length gates.old.items < 2 ^ 32 }
+    ensures draws { IfOk result (λ n. Draws first gates.old.items gates.new.items (Some n) false
         (λ values. said false any values || said false (Some net) values)) }
+    ensures few { OnOk result (length gates.new.items ≤ length gates.old.items + 1) }
 {
     match any {
         Some(others) => push_gate(first, gates, Op::Or(others, net)),

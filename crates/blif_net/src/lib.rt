@@ -12,6 +12,7 @@ mod drawing;
 mod fault;
 mod gates;
 mod interface;
+mod sizes;
 mod tables;
 
 pub use conversion::net_of_circuit;

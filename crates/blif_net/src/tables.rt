@@ -1,10 +1,12 @@
 // Gates that compute tables.
 
-ghost use Rattle.std.specs.Prelude.{◌≡◌, ◌+◌, ◌<◌, ◌&&◌, ◌||◌, true, false, Some, map, length, All, IfOk};
+ghost use Rattle.std.specs.Prelude.{◌≡◌, ◌+◌, ◌*◌, ◌<◌, ◌≤◌, ◌^◌, ◌&&◌, ◌||◌, true, false, Some, map, length};
+ghost use Rattle.std.specs.Prelude.{All, IfOk, OnOk};
 ghost use Rattle.std.specs.List.{list_any};
 ghost use Rattle.blif_text.specs.Plain.{plain_row};
 ghost use Rattle.blif_text.specs.Runs.{cell_fits, row_fits};
 ghost use Rattle.blif_net.specs.Drawings.{IsDrawing, Draws, is_low, said, read_values};
+ghost use Rattle.blif_net.specs.Sizes.{row_nets, table_nets};
 
 use crate::gates::{both, either, push_gate};
 use blif_text::{Cell, Row};
@@ -20,8 +22,10 @@ pub(crate) fn table_net(
 ) -> Result<NetId, NoMemory>
     requires drawing { IsDrawing first gates.old.items }
     requires low { All (λ n. n.0 < first + length gates.old.items) reads.now }
-    ensures { IfOk result (λ n. Draws first gates.old.items gates.new.items (Some n) false
+    requires room { first + length gates.old.items + table_nets (map plain_row rows.now) ≤ 2 ^ 32 }
+    ensures draws { IfOk result (λ n. Draws first gates.old.items gates.new.items (Some n) false
         (λ values. list_any (λ row. row_fits row (read_values reads.now values)) (map plain_row rows.now))) }
+    ensures few { OnOk result (length gates.new.items ≤ length gates.old.items + table_nets (map plain_row rows.now)) }
 {
     let mut any = None;
     for row in rows {
@@ -44,8 +48,10 @@ fn with_row(
     requires drawing { IsDrawing first gates.old.items }
     requires any { is_low (first + length gates.old.items) any }
     requires low { All (λ n. n.0 < first + length gates.old.items) reads.now }
-    ensures { IfOk result (λ o. Draws first gates.old.items gates.new.items o false
+    requires room { first + length gates.old.items + row_nets row.now.cells.items ≤ 2 ^ 32 }
+    ensures draws { IfOk result (λ o. Draws first gates.old.items gates.new.items o false
         (λ values. said false any values || row_fits row.now.cells.items (read_values reads.now values))) }
+    ensures few { OnOk result (length gates.new.items ≤ length gates.old.items + row_nets row.now.cells.items) }
 {
     if row.cells.len() != reads.len() {
         return Ok(any);
@@ -65,8 +71,10 @@ fn row_net(
     requires drawing { IsDrawing first gates.old.items }
     requires low { All (λ n. n.0 < first + length gates.old.items) reads.now }
     requires width { length cells.now ≡ length reads.now }
-    ensures { IfOk result (λ n. Draws first gates.old.items gates.new.items (Some n) true
+    requires room { first + length gates.old.items + (2 * length cells.now + 1) ≤ 2 ^ 32 }
+    ensures draws { IfOk result (λ n. Draws first gates.old.items gates.new.items (Some n) true
         (λ values. row_fits cells.now (read_values reads.now values))) }
+    ensures few { OnOk result (length gates.new.items ≤ length gates.old.items + (2 * length cells.now + 1)) }
 {
     match joined_cells(first, gates, reads, cells)? {
         Some(net) => Ok(net),
@@ -84,8 +92,10 @@ fn joined_cells(
     requires drawing { IsDrawing first gates.old.items }
     requires low { All (λ n. n.0 < first + length gates.old.items) reads.now }
     requires width { length cells.now ≡ length reads.now }
-    ensures { IfOk result (λ o. Draws first gates.old.items gates.new.items o true
+    requires room { first + length gates.old.items + 2 * length cells.now ≤ 2 ^ 32 }
+    ensures draws { IfOk result (λ o. Draws first gates.old.items gates.new.items o true
         (λ values. row_fits cells.now (read_values reads.now values))) }
+    ensures few { OnOk result (length gates.new.items ≤ length gates.old.items + 2 * length cells.now) }
 {
     let mut all = None;
     for (k, cell) in cells.iter().enumerate() {
@@ -105,8 +115,10 @@ fn with_cell(
     requires drawing { IsDrawing first gates.old.items }
     requires all { is_low (first + length gates.old.items) all }
     requires low { is_low (first + length gates.old.items) (Some net) }
-    ensures { IfOk result (λ o. Draws first gates.old.items gates.new.items o true
+    requires room { first + length gates.old.items + 2 ≤ 2 ^ 32 }
+    ensures draws { IfOk result (λ o. Draws first gates.old.items gates.new.items o true
         (λ values. said true all values && cell_fits cell (said true (Some net) values))) }
+    ensures few { OnOk result (length gates.new.items ≤ length gates.old.items + 2) }
 {
     match cell {
         Cell::Any => Ok(all),

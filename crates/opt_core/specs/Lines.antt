@@ -2,6 +2,7 @@
 use Rattle.std.specs.Prelude.{ℕ, List, [], ◌++◌, Option, Some, codes, decimal}
 use Rattle.blif_net.specs.declared.fault.CircuitFault.{CircuitFault}
 use Rattle.blif_net.specs.declared.fault.CircuitFault.TheVariants.{NoPause, Model, Input, Output, Again, Loop}
+use Rattle.blif_net.specs.declared.fault.CircuitFault.TheVariants.{TooManyNets}
 use Rattle.opt_texts.specs.declared.fault.OptFault.{OptFault}
 use Rattle.opt_texts.specs.declared.fault.OptFault.TheVariants.{Line, TwoDrivers, NoDriver, Circuit}
 use Rattle.text_io.specs.ErrorLines.{GainsLine, joined_names}
@@ -17,6 +18,7 @@ circuit_text (Input name) = codes "bad input: " ++ name
 circuit_text (Output name) = codes "bad output: " ++ name
 circuit_text (Again name) = codes "output twice: " ++ name
 circuit_text (Loop names) = codes "loop: " ++ joined_names names.items
+circuit_text TooManyNets = codes "limit: nets"
 
 abbrev pub fault_text : OptFault → List ℕ
 fault_text (Line number) = codes "line " ++ (decimal number ++ codes ": not in the profile")

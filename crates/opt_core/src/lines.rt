@@ -94,5 +94,6 @@ fn put_circuit_fault<E: Sink>(err: &mut E, fault: &CircuitFault) -> Result<(), S
             write_pieces(err, &[b"cec-opt: ", b"output twice: ", name.bytes(), b"\n"])
         }
         CircuitFault::Loop(names) => put_loop(err, b"cec-opt: ", names),
+        CircuitFault::TooManyNets => { write_pieces(err, &[b"cec-opt: ", b"limit: nets", b"\n"]) }
     }
 }

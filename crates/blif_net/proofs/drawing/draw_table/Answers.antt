@@ -15,10 +15,10 @@ table_net-requires-clause-low c =
     subst (λ (l : List NetId). All (λ n. n.0 < c.args.first + length d.gates.items) l) (sym are)
     (nets-low (c.args.first + length d.gates.items) d.nets.items reads c.requires.low c.requires.reads)
 
-pub returns : goal.returns
-returns c =
+pub returns-clause-adds : goal.returns-clause-adds
+returns-clause-adds c =
     let d = c.args.drawing.now in
     let reads = c.args.reads.now in
     let are = c.deref-2.ensures.value ∙ c.in_ok-inputs.ensures ∙ ap (λ nets. map (λ s. slice_index_or nets s none) reads) c.deref.ensures.value in
     settles-table c.args.first d.gates.items c.table_net.new.gates.items d.nets.items c.deref-2.result.now c.in_ok-net.net reads c.args.slot
-    (map plain_row c.args.rows.now) c.requires.low c.requires.reads c.requires.slot are c.in_ok-net.ensures
+    (map plain_row c.args.rows.now) c.requires.low c.requires.reads c.requires.slot are c.in_ok-net.ensures.draws

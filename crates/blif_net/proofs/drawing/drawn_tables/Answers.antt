@@ -11,8 +11,10 @@ use Rattle.step_run.proofs.Exports.{reads-within, parts-within}
 use Rattle.blif_run.specs.Loops.{equation_of, equations_of}
 use Rattle.blif_run.specs.Plans.{given_names}
 use Rattle.blif_run.proofs.Exports.{sound-equations, tables-count}
+use Rattle.blif_net.specs.Sizes.{table_nets}
 use Rattle.blif_net.specs.Tables.{Settles, drawn_step, rows_step}
-use Rattle.blif_net.proofs.Slots.{steps-more, step-is, settles-as, table-steps}
+use Rattle.blif_net.proofs.DrawnSizes.{given-few, next-made, next-room}
+use Rattle.blif_net.proofs.Slots.{steps-more, step-is, settles-as, table-rows, table-steps}
 use Rattle.blif_net.proofs.drawing.drawn_tables.Goals as goal
 
 pub draw_table-requires-clause-reads : goal.draw_table-requires-clause-reads
@@ -37,7 +39,7 @@ draw_table-requires-clause-reads c =
     (within t c.index.result.now (omega (arith, node, count, many))) in
     λ k d low.
     let slot = here k d low in
-    omega (arith, slot, c.loop-table.invariant.each_slot, count, wide)
+    omega (arith, slot, c.loop-table.invariant.settles.each_slot, count, wide)
 
 pub loop-table-preserved : goal.loop-table-preserved
 loop-table-preserved c =
@@ -59,13 +61,19 @@ loop-table-preserved c =
     let f : ℕ → Step = drawn_step circuit.tables first lists in
     let made : Settles first (length tables) c.draw_table.new.drawing.gates.items c.draw_table.new.drawing.nets.items
     (map f (take i order) ++ rows_step (first + t) c.deref.result.now (map plain_row c.deref-in-loop-table.result.now) ∷ []) =
-    c.in_ok-draw_table.ensures.settles (length tables) (map f (take i order)) c.loop-table.invariant in
+    c.in_ok-draw_table.ensures.adds.settles (length tables) (map f (take i order)) c.loop-table.invariant.settles in
     let one : rows_step (first + t) c.deref.result.now (map plain_row c.deref-in-loop-table.result.now) ≡ f t =
     step-is tables reads first t c.deref.result.now c.deref-in-loop-table.result.now c.index.result.now c.index-in-loop-table.result.now
     (omega (arith, node, count, many)) (omega (arith, node, wide)) c.deref.ensures.value c.index.ensures c.deref-in-loop-table.ensures.value
     c.index-in-loop-table.ensures in
-    subst (λ (l : List Step). Settles first (length tables) c.draw_table.new.drawing.gates.items c.draw_table.new.drawing.nets.items l)
-    (ap (λ s. map f (take i order) ++ s ∷ []) one ∙ sym (steps-more f order i 0 (omega arith))) made
+    let rows = table-rows tables t c.deref-in-loop-table.result.now c.index-in-loop-table.result.now (omega (arith, node, wide))
+    c.deref-in-loop-table.ensures.value c.index-in-loop-table.ensures in
+    record {
+      settles = subst (λ (l : List Step). Settles first (length tables) c.draw_table.new.drawing.gates.items c.draw_table.new.drawing.nets.items l)
+          (ap (λ s. map f (take i order) ++ s ∷ []) one ∙ sym (steps-more f order i 0 (omega arith))) made;
+      few = next-made circuit order i (length c.loop-table.drawing.gates.items) (length c.draw_table.new.drawing.gates.items) (omega arith)
+          c.loop-table.invariant.few (omega (arith, c.in_ok-draw_table.ensures.few, ap table_nets rows));
+    }
 
 pub returns : goal.returns
 returns c =
@@ -89,4 +97,21 @@ returns c =
     ∙ ap (λ rs. map (drawn_step circuit.tables (length (given_names circuit)) rs) order) c.requires.resolved.reads_are
     ∙ table-steps circuit sound order (recursion_from_All (λ k. k < length circuit.tables) order nodes) in
     settles-as resolved.first (length (given_names circuit)) (length tables) (length (equations_of circuit)) c.loop-table.drawing.gates.items
-    c.loop-table.drawing.nets.items _ _ c.requires.resolved.first_is count steps c.loop-table.invariant
+    c.loop-table.drawing.nets.items _ _ c.requires.resolved.first_is count steps c.loop-table.invariant.settles
+
+pub first_drawing-requires-clause-few : goal.first_drawing-requires-clause-few
+first_drawing-requires-clause-few c = omega (arith, c.requires.resolved.first_is, given-few (plain_circuit c.args.blif.now) c.requires.few)
+
+pub draw_table-requires-clause-room : goal.draw_table-requires-clause-room
+draw_table-requires-clause-room c =
+    let circuit = plain_circuit c.args.blif.now in
+    let tables = c.args.blif.now.tables.items in
+    let order = c.args.order.now in
+    let i = c.loop-table.table-index in
+    let t = get_or order i 0 in
+    let node : t < length circuit.tables =
+    omega (arith, c.requires.order.against.nodes i 0 (omega arith), c.requires.order.each_node, length-map circuit.tables equation_of) in
+    let rows = table-rows tables t c.deref-in-loop-table.result.now c.index-in-loop-table.result.now (omega (arith, node, length-map tables plain_table))
+    c.deref-in-loop-table.ensures.value c.index-in-loop-table.ensures in
+    let room = next-room circuit _ order i (length c.loop-table.drawing.gates.items) c.requires.order c.requires.few (omega arith) c.loop-table.invariant.few in
+    omega (arith, room, ap table_nets rows, c.requires.resolved.first_is)

@@ -5,10 +5,9 @@ use Rattle.blif_net.specs.Tables.{Settles}
 use Rattle.blif_net.proofs.Slots.{settles-none}
 use Rattle.blif_net.proofs.drawing.first_drawing.Goals as goal
 
-pub returns : goal.returns
-returns c =
+pub returns-clause-settles : goal.returns-clause-settles
+returns-clause-settles c =
     let never : Gate = record { op = Const false; wire = None } in
-    let few : c.args.first < 2 ^ 32 = omega (arith, c.if-first-ge4294967296.false) in
     let gates : c.in_ok-gates.gates.items ≡ never ∷ [] = c.in_ok-gates.ensures.items ∙ ap (λ g. g ∷ []) c.never.ensures in
     subst (λ (l : List Gate). Settles c.args.first c.args.count l c.in_ok-nets.nets.items []) (sym gates)
-    (settles-none c.args.first c.args.count c.in_ok-nets.nets.items few c.in_ok-nets.ensures.each c.in_ok-nets.ensures.own)
+    (settles-none c.args.first c.args.count c.in_ok-nets.nets.items c.requires.few c.in_ok-nets.ensures.each c.in_ok-nets.ensures.own)

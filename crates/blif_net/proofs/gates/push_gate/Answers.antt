@@ -6,14 +6,13 @@ use Rattle.blif_net.specs.Drawings.{Draws}
 use Rattle.blif_net.proofs.Drawings.{draws-push}
 use Rattle.blif_net.proofs.gates.push_gate.Goals as goal
 
-pub returns : goal.returns
-returns c =
+pub returns-clause-draws : goal.returns-clause-draws
+returns-clause-draws c =
     let first = c.args.first in
     let old = c.args.gates.now.items in
     let f : List Bool → Bool = λ values. op_value (value_in values) c.args.op in
-    let few : first + length old < 2 ^ 32 = omega (arith, c.if-number-ge4294967296.false, c.len.ensures) in
     let count : c.len.result ≡ length old = search rules in
     let number : ℕ → NetId = λ k. record { 0 = first + k } in
     subst (λ (n : NetId). Draws first old c.push.new.self.items (Some n) false f) (ap number (sym count))
     (subst (λ (gates : List Gate). Draws first old gates (Some (record { 0 = first + length old })) false f) (sym c.in_ok-push.ensures.items)
-    (draws-push first old c.args.op c.requires.drawing c.requires.low few))
+    (draws-push first old c.args.op c.requires.drawing c.requires.low c.requires.room))

@@ -23,16 +23,19 @@ loop-k-preserved c =
     let cell = slice_index_or cells k zero in
     let net = slice_index_or reads k none in
     let f : List Bool → Bool = λ values. row_fits (take k cells) (take k (read_values reads values)) in
-    draws-then first a b c.with_cell.new.gates.items all c.in_ok-all.all true true f
-    (λ values. said true all values && cell_fits cell (said true (Some net) values))
-    (λ values. row_fits (take (k + 1) cells) (take (k + 1) (read_values reads values))) c.loop-k.invariant c.in_ok-all.ensures
-    (λ given wide.
-    let values = gate_values given a in
-    let low = c.requires.low k none (omega (arith, c.requires.width)) in
-    let here : value_in (gate_values given b) net.0 ≡ get_or (read_values reads values) k false =
-    value-stays first a b all true f c.loop-k.invariant given wide net.0 low
-    ∙ sym (get_or-map (λ (n : NetId). value_in values n.0) reads k none false (omega (arith, c.requires.width))) in
-    ap (λ x. x && cell_fits cell (value_in (gate_values given b) net.0)) (c.loop-k.invariant.says given wide)
-    ∙ ap (λ x. row_fits (take k cells) (take k (read_values reads values)) && cell_fits cell x) here
-    ∙ sym (row-more cells (read_values reads values) k zero (omega arith)
-    (c.requires.width ∙ sym (length-map reads (λ (n : NetId). value_in values n.0)))))
+    record {
+      draws = draws-then first a b c.with_cell.new.gates.items all c.in_ok-all.all true true f
+          (λ values. said true all values && cell_fits cell (said true (Some net) values))
+          (λ values. row_fits (take (k + 1) cells) (take (k + 1) (read_values reads values))) c.loop-k.invariant.draws c.in_ok-all.ensures.draws
+          (λ given wide.
+          let values = gate_values given a in
+          let low = c.requires.low k none (omega (arith, c.requires.width)) in
+          let here : value_in (gate_values given b) net.0 ≡ get_or (read_values reads values) k false =
+          value-stays first a b all true f c.loop-k.invariant.draws given wide net.0 low
+          ∙ sym (get_or-map (λ (n : NetId). value_in values n.0) reads k none false (omega (arith, c.requires.width))) in
+          ap (λ x. x && cell_fits cell (value_in (gate_values given b) net.0)) (c.loop-k.invariant.draws.says given wide)
+          ∙ ap (λ x. row_fits (take k cells) (take k (read_values reads values)) && cell_fits cell x) here
+          ∙ sym (row-more cells (read_values reads values) k zero (omega arith)
+          (c.requires.width ∙ sym (length-map reads (λ (n : NetId). value_in values n.0)))));
+      few = omega (arith, c.in_ok-all.ensures.few, c.loop-k.invariant.few);
+    }

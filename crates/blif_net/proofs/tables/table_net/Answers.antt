@@ -8,8 +8,9 @@ use Rattle.blif_text.specs.declared.circuit.Cell.{Cell}
 use Rattle.blif_text.specs.Plain.{plain_row}
 use Rattle.blif_text.specs.Runs.{row_fits}
 use Rattle.blif_net.specs.Drawings.{Draws, said, read_values}
+use Rattle.blif_net.specs.Sizes.{row_nets}
 use Rattle.blif_net.proofs.Drawings.{draws-then, reads-stay}
-use Rattle.blif_net.proofs.Rows.{rows-more}
+use Rattle.blif_net.proofs.Rows.{mapped-sum, mapped-within, rows-more}
 use Rattle.blif_net.proofs.tables.table_net.Goals as goal
 
 pub loop-row-preserved : goal.loop-row-preserved
@@ -24,18 +25,22 @@ loop-row-preserved c =
     let row = c.row-item.result in
     let some_fits : ℕ → List Bool → Bool =
     λ j values. list_any (λ (cells : List Cell). row_fits cells (read_values reads values)) (map plain_row (take j rows)) in
-    draws-then first a b c.with_row.new.gates.items any c.in_ok-any.any false false (some_fits i)
-    (λ values. said false any values || row_fits row.cells.items (read_values reads values))
-    (some_fits (i + 1)) c.loop-row.invariant c.in_ok-any.ensures
-    (λ given wide.
-    let values = gate_values given a in
-    ap (λ x. x || row_fits row.cells.items (read_values reads (gate_values given b))) (c.loop-row.invariant.says given wide)
-    ∙ ap (λ l. some_fits i values || row_fits row.cells.items l)
-    (reads-stay first a b any false (some_fits i) c.loop-row.invariant given wide reads c.requires.low)
-    ∙ sym (rows-more rows (read_values reads values) i row (omega arith) c.row-item.is))
+    let more = mapped-sum row_nets plain_row c.args.rows.now c.loop-row.row-index c.row-item.result (omega arith) c.row-item.is in
+    record {
+      draws = draws-then first a b c.with_row.new.gates.items any c.in_ok-any.any false false (some_fits i)
+          (λ values. said false any values || row_fits row.cells.items (read_values reads values))
+          (some_fits (i + 1)) c.loop-row.invariant.draws c.in_ok-any.ensures.draws
+          (λ given wide.
+          let values = gate_values given a in
+          ap (λ x. x || row_fits row.cells.items (read_values reads (gate_values given b))) (c.loop-row.invariant.draws.says given wide)
+          ∙ ap (λ l. some_fits i values || row_fits row.cells.items l)
+          (reads-stay first a b any false (some_fits i) c.loop-row.invariant.draws given wide reads c.requires.low)
+          ∙ sym (rows-more rows (read_values reads values) i row (omega arith) c.row-item.is));
+      few = omega (arith, more, c.in_ok-any.ensures.few, c.loop-row.invariant.few);
+    }
 
-pub returns-in-None : goal.returns-in-None
-returns-in-None c =
+pub returns-in-None-clause-draws : goal.returns-in-None-clause-draws
+returns-in-None-clause-draws c =
     let first = c.args.first in
     let a = c.args.gates.now.items in
     let b = c.loop-row.gates.items in
@@ -51,8 +56,13 @@ returns-in-None c =
     (λ n. Draws first a new (Some n) false f)
     (λ n made.
     draws-then first a b new c.loop-row.any (Some n) false false (some_fits c.loop-row.row-index) (λ values. op_value (value_in values) (Const false)) f
-    c.loop-row.invariant made
+    c.loop-row.invariant.draws made
     (λ given wide.
-    ap (λ o. said false o (gate_values given b)) (sym none) ∙ c.loop-row.invariant.says given wide
+    ap (λ o. said false o (gate_values given b)) (sym none) ∙ c.loop-row.invariant.draws.says given wide
     ∙ ap (λ l. list_any (λ (cells : List Cell). row_fits cells (read_values reads (gate_values given a))) (map plain_row l)) all))
-    c.push_gate.ensures
+    c.push_gate.ensures.draws
+
+pub with_row-requires-clause-room : goal.with_row-requires-clause-room
+with_row-requires-clause-room c =
+    let within = mapped-within row_nets plain_row c.args.rows.now c.loop-row.row-index c.row-item.result (omega arith) c.row-item.is in
+    omega (arith, within, c.requires.room, c.loop-row.invariant.few)

@@ -6,18 +6,18 @@ use Rattle.blif_net.specs.Drawings.{said}
 use Rattle.blif_net.proofs.Drawings.{draws-then, said-stays}
 use Rattle.blif_net.proofs.tables.with_cell.Goals as goal
 
-pub returns-in_ok-with-in-Zero : goal.returns-in_ok-with-in-Zero
-returns-in_ok-with-in-Zero c =
+pub returns-in_ok-with-in-Zero-clause-draws : goal.returns-in_ok-with-in-Zero-clause-draws
+returns-in_ok-with-in-Zero-clause-draws c =
     let first = c.args.first in
     let a = c.args.gates.now.items in
     let b = c.push_gate.new.gates.items in
     let all = c.args.all in
     let opposite = c.in_ok-opposite-in-Zero.opposite in
     let f : List Bool → Bool = λ values. op_value (value_in values) (Not c.args.net) in
-    let one = c.in_ok-opposite-in-Zero.ensures in
+    let one = c.in_ok-opposite-in-Zero.ensures.draws in
     draws-then first a b c.both-in-Zero.new.gates.items (Some opposite) (Some c.in_ok-with-in-Zero.with) false true f
     (λ values. said true all values && said true (Some opposite) values)
-    (λ values. said true all values && cell_fits c.args.cell (said true (Some c.args.net) values)) one c.in_ok-with-in-Zero.ensures
+    (λ values. said true all values && cell_fits c.args.cell (said true (Some c.args.net) values)) one c.in_ok-with-in-Zero.ensures.draws
     (λ given wide.
     let first_part = said-stays first a b (Some opposite) false f one given wide all true c.requires.all in
     let here = one.says given wide in

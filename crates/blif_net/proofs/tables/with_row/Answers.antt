@@ -9,8 +9,8 @@ use Rattle.blif_net.proofs.Drawings.{draws-then, draws-none, draws-value, said-s
 use Rattle.blif_net.proofs.Rows.{row-wide}
 use Rattle.blif_net.proofs.tables.with_row.Goals as goal
 
-pub returns-then-len-reads : goal.returns-then-len-reads
-returns-then-len-reads c =
+pub returns-then-len-reads-clause-draws : goal.returns-then-len-reads-clause-draws
+returns-then-len-reads-clause-draws c =
     let first = c.args.first in
     let a = c.args.gates.now.items in
     let any = c.args.any in
@@ -24,8 +24,8 @@ returns-then-len-reads c =
     sym (ap (λ x. said false any values || x) other ∙ or-false (said false any values)))
     (draws-none first a any false c.requires.drawing c.requires.any)
 
-pub returns : goal.returns
-returns c =
+pub returns-clause-draws : goal.returns-clause-draws
+returns-clause-draws c =
     let first = c.args.first in
     let a = c.args.gates.now.items in
     let b = c.row_net.new.gates.items in
@@ -34,10 +34,10 @@ returns c =
     let reads = c.args.reads.now in
     let net = c.in_ok-net.net in
     let f : List Bool → Bool = λ values. row_fits cells (read_values reads values) in
-    let one = rw c.deref.ensures.value at c.in_ok-net.ensures in
+    let one = rw c.deref.ensures.value at c.in_ok-net.ensures.draws in
     draws-then first a b c.either.new.gates.items (Some net) (Some c.in_ok-with.with) true false f
     (λ values. said false any values || said false (Some net) values)
-    (λ values. said false any values || row_fits cells (read_values reads values)) one c.in_ok-with.ensures
+    (λ values. said false any values || row_fits cells (read_values reads values)) one c.in_ok-with.ensures.draws
     (λ given wide.
     ap (λ x. x || value_in (gate_values given b) net.0) (said-stays first a b (Some net) true f one given wide any false c.requires.any)
     ∙ ap (λ x. said false any (gate_values given a) || x) (one.says given wide))

@@ -17,3 +17,6 @@ returns-in-Again g c = rw (c.in-Again.is, ← c.bytes-in-Again.ensures) c.write_
 
 pub returns-in-Loop : goal.returns-in-Loop
 returns-in-Loop g c = rw (c.in-Loop.is, ← c.deref.ensures.value) c.put_loop.ensures
+
+pub returns-in-TooManyNets : goal.returns-in-TooManyNets
+returns-in-TooManyNets g c = rw c.in-TooManyNets.is c.write_pieces-in-TooManyNets.ensures
