@@ -1,7 +1,7 @@
 -- A statement and those around it: their layers, and the keys of these.
 use Rattle.std.proofs.Common.{◌≡◌, ℕ, ◌+◌, ◌<◌, ◌≤◌, ◌⊎◌, ◌&&◌, ◌==◌, Bool, true, false, cond, List, [], ◌∷◌, ◌++◌, refl, sym, ap, ◌∙◌, subst, inl, inr}
 use Rattle.std.proofs.Common.{⊎_elim, arith}
-use Rattle.std.specs.Prelude.{⊤, All, length, nat_lt}
+use Rattle.std.specs.Prelude.{All, nat_lt}
 use Rattle.std.specs.List.{list_any}
 use Rattle.std.proofs.lemmas.Bool.{and_parts, cases_lt, cases_Bool, eq-eqb, eqb-true, false≢true, or_cases, or_left, or_right}
 use Rattle.std.proofs.lemmas.List.Elements.{All-head, All-tail}
@@ -11,10 +11,10 @@ use Rattle.est_kernel.specs.StaticCodes.{started_codes, resumed_codes}
 use Rattle.est_kernel.specs.Terms.{Term, Nothing, Pause, Emit, Exit, Present, Suspend, Seq, Loop, Par, Trap, Local, Awake}
 use Rattle.est_kernel.specs.WellFormed.{IsKernel}
 use Rattle.grc_graph.specs.GraphRuns.{Solves, graph_of}
-use Rattle.grc_graph.specs.Layers.{Layer, Resumed, Started, Liveness, body_liveness, layer_above, root_if, part_liveness, second_liveness, loop_liveness}
+use Rattle.grc_graph.specs.Layers.{Layer, Resumed, Started, Liveness, body_liveness, layer_above, root_if}
 use Rattle.grc_graph.specs.Readings.{Valuation}
 use Rattle.grc_graph.specs.Rows.{Row, live_in, program_rows, row, row_at, second_of}
-use Rattle.grc_graph.specs.Scopes.{Scope, Binding, BoundAt, bind, program_scope, Entering, Outgoing, Unbound}
+use Rattle.grc_graph.specs.Scopes.{Scope, BoundAt, bind, program_scope, Entering, Outgoing, Unbound}
 use Rattle.grc_graph.specs.Selected.{HasExitCodes, IsState}
 use Rattle.grc_graph.specs.Statements.{Entry, Body, Part, Branch, Then, Else, Suspended, Second, Looped}
 use Rattle.grc_graph.specs.Walk.{State}
@@ -22,13 +22,13 @@ use Rattle.grc_graph.specs.Wires.{Go}
 use Rattle.est_kernel.proofs.Exports.{statement_count-pos}
 use Rattle.grc_graph.proofs.Exports.{Entered, PartOf, program_placed, IsGo, LiveAt, wire_only, RootsFit, above_behind, above_within, length-program_rows}
 use Rattle.grc_graph.proofs.Exports.{row_read, stands_whole}
-use Rattle.grc_sem.specs.GraphWalks.{IsWalkOf, selected_of}
-use Rattle.grc_share.specs.SharedInstances.{Sharing, body_sharing, key, loops_above, loops_at, one_instance}
+use Rattle.grc_sem.specs.GraphWalks.{IsWalkOf}
+use Rattle.grc_share.specs.SharedInstances.{body_sharing, key, one_instance}
 use Rattle.grc_share.proofs.Exports.{Told, program_tells, body_keys_rise, KeysRise, program_gives}
 use Rattle.share_laws.proofs.Exclusion.{Descends, Restarts, Runs}
 use Rattle.share_laws.proofs.Excluded.{live}
 use Rattle.share_laws.proofs.Reached.{Goes, Kids, Parts, Site, each_part, each_statement}
-use Rattle.share_laws.proofs.Running.{RunsAt, Under, each, there}
+use Rattle.share_laws.proofs.Running.{Under, each, there}
 
 -- ---- lists of roots
 

@@ -1,7 +1,6 @@
 -- Two valuations that agree in what an instance and its parts do give its ends one value.
-use Rattle.std.proofs.Common.{◌≡◌, ℕ, zero, suc, ◌+◌, Bool, true, false, ◌&&◌, ◌||◌, ◌==◌, cond, List, [], ◌∷◌, ◌++◌, refl, sym, ap, ◌∙◌}
+use Rattle.std.proofs.Common.{◌≡◌, ℕ, zero, suc, ◌+◌, Bool, true, false, ◌&&◌, ◌||◌, ◌==◌, cond, List, [], ◌∷◌, ◌++◌, refl, ap, ◌∙◌}
 use Rattle.std.specs.Prelude.{⊤}
-use Rattle.std.proofs.lemmas.Bool.{false≢true}
 use Rattle.est_base.specs.Codes.{except}
 use Rattle.est_kernel.specs.Preorder.{statement_count}
 use Rattle.est_kernel.specs.StaticCodes.{codes_if, has_code, resumed_codes, started_codes}
@@ -15,7 +14,7 @@ use Rattle.grc_graph.specs.Scopes.{Scope}
 use Rattle.grc_graph.specs.Selected.{HasExitCodes}
 use Rattle.grc_graph.specs.Spots.{test_formula}
 use Rattle.grc_graph.specs.Walk.{State}
-use Rattle.grc_graph.specs.Wires.{Go, End, instance_codes}
+use Rattle.grc_graph.specs.Wires.{Go, End}
 use Rattle.share_laws.proofs.Lists.{upto-same}
 use Rattle.share_laws.proofs.Reached.{Parts}
 

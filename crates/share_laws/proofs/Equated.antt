@@ -1,5 +1,5 @@
 -- The equations of a program's graph, by the numbers of its statements.
-use Rattle.std.proofs.Common.{◌≡◌, ℕ, ◌+◌, ◌<◌, Bool, true, false, not, ◌&&◌, ◌||◌, List, [], ◌∷◌, ◌++◌, length, map, get_or, refl, sym, ap, ◌∙◌, subst}
+use Rattle.std.proofs.Common.{◌≡◌, ℕ, ◌+◌, ◌<◌, Bool, true, false, List, [], ◌∷◌, ◌++◌, length, map, get_or, refl, sym, ◌∙◌, subst}
 use Rattle.std.proofs.Common.{⊎_elim, arith}
 use Rattle.std.specs.Prelude.{Contains}
 use Rattle.std.specs.List.{flat_map}
@@ -8,21 +8,20 @@ use Rattle.std.proofs.lemmas.List.{get_or-map, length-map}
 use Rattle.std.proofs.lemmas.List.Elements.{All-contains, Contains-append_left, Contains-append_right}
 use Rattle.facts.proofs.Lists.{contains-flat_map, contains-map}
 use Rattle.est_kernel.specs.Plain.{Program, given_count, interface_of}
-use Rattle.est_kernel.specs.Preorder.{statement_count}
 use Rattle.est_kernel.specs.Terms.{Term, Local}
 use Rattle.est_kernel.specs.WellFormed.{IsKernel, KeepsLimits}
 use Rattle.grc_graph.specs.Equations.{Equation, emissions, end_formula, instance_equations, instance_status, output_equation}
-use Rattle.grc_graph.specs.Formulas.{Formula, Input, any_of}
+use Rattle.grc_graph.specs.Formulas.{any_of}
 use Rattle.grc_graph.specs.GraphRuns.{Solves, formula_value, graph_of, program_spots}
-use Rattle.grc_graph.specs.Instances.{Instance, body_instances}
+use Rattle.grc_graph.specs.Instances.{body_instances}
 use Rattle.grc_graph.specs.Layers.{Layer}
 use Rattle.grc_graph.specs.Readings.{Valuation}
-use Rattle.grc_graph.specs.Rows.{entry_formula, live_in, program_rows, row_at, spot_at}
+use Rattle.grc_graph.specs.Rows.{entry_formula, program_rows, row_at, spot_at}
 use Rattle.grc_graph.specs.Selected.{HasExitCodes}
 use Rattle.grc_graph.specs.Spots.{Spot}
 use Rattle.grc_graph.specs.Walk.{State}
 use Rattle.grc_graph.specs.WireTables.{is_local}
-use Rattle.grc_graph.specs.Wires.{Wire, Out, Go, StatusOf, End, instance_codes, listed}
+use Rattle.grc_graph.specs.Wires.{Go, StatusOf, End, instance_codes, listed}
 use Rattle.grc_graph.proofs.Exports.{LiveAt, instance_live, codes_below-kernel, program_kernel, program_spots_by_row}
 use Rattle.grc_share.specs.SharedGraphs.{formula_for}
 use Rattle.grc_share.proofs.Exports.{formula_for-at}

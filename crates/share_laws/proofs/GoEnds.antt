@@ -1,25 +1,24 @@
 -- Where what each edge joins is related, and what is related can be joined, the `go` of an instance is related to each of its ends.
-use Rattle.std.proofs.Common.{◌≡◌, ℕ, zero, suc, ◌+◌, ◌<◌, ◌≤◌, ◌&&◌, ◌||◌, ◌==◌, Bool, true, false, cond, max, List, [], ◌∷◌, ◌++◌, length, map, get_or}
-use Rattle.std.proofs.Common.{refl, sym, ap, ◌∙◌, subst}
+use Rattle.std.proofs.Common.{◌≡◌, ℕ, ◌+◌, ◌<◌, ◌≤◌, ◌&&◌, ◌||◌, ◌==◌, Bool, true, false, cond, List, [], ◌∷◌, ◌++◌, map}
+use Rattle.std.proofs.Common.{refl, sym, ◌∙◌, subst}
 use Rattle.std.proofs.Common.{⊎_elim, arith}
 use Rattle.std.specs.Prelude.{Contains, filter, nat_le}
-use Rattle.std.specs.List.{flat_map}
 use Rattle.std.proofs.lemmas.Bool.{and_from, and_parts, eqb-true, false≢true, le-leb, or_cases}
 use Rattle.std.proofs.lemmas.List.Elements.{Contains-append_left, Contains-append_right}
 use Rattle.facts.proofs.Lists.{contains-flat_map, contains-map}
-use Rattle.est_base.specs.Codes.{either, except, maxima, lowered}
+use Rattle.est_base.specs.Codes.{either, except}
 use Rattle.est_kernel.specs.Preorder.{statement_count}
-use Rattle.est_kernel.specs.StaticCodes.{codes_if, has_code, started_codes, resumed_codes, branch_codes}
+use Rattle.est_kernel.specs.StaticCodes.{codes_if, has_code, started_codes, resumed_codes}
 use Rattle.est_kernel.specs.Steps.{trap_code}
 use Rattle.est_kernel.specs.Terms.{Term, Nothing, Pause, Emit, Exit, Present, Suspend, Seq, Loop, Par, Trap, Local, Awake}
 use Rattle.est_kernel.proofs.Exports.{except-in, except-parts, lowered-parts, maxima-parts, upto-in}
-use Rattle.grc_graph.specs.Edges.{Edge, edge, edges_at, edges_if, go_to_ends, ends_to_ends, branch_to_ends, trapped_to_ends, go_to_part, test_to, to_status}
+use Rattle.grc_graph.specs.Edges.{Edge, edge, edges_at, edges_if, go_to_ends, ends_to_ends, branch_to_ends, trapped_to_ends, test_to, to_status}
 use Rattle.grc_graph.specs.Formulas.{Formula, Negation}
 use Rattle.grc_graph.specs.Layers.{Layer, Resumed, Started, can_pass}
 use Rattle.grc_graph.specs.Scopes.{Scope, bind}
 use Rattle.grc_graph.specs.Selected.{HasExitCodes}
 use Rattle.grc_graph.specs.Spots.{Spot, branch_entry, loop_entry, part_entry, second_entry, suspended_entry, test_formula, tested_entry}
-use Rattle.grc_graph.specs.Wires.{Wire, Go, End, listed, instance_codes, status_wire}
+use Rattle.grc_graph.specs.Wires.{Wire, Go, End, listed, status_wire}
 use Rattle.grc_graph.proofs.Exports.{resumed_below, started_below}
 use Rattle.grc_solutions.proofs.Exports.{EachResumed, EachStarted, every_contained, every_listed}
 use Rattle.share_laws.proofs.Lists.{filter-has, listed-in}

@@ -1,7 +1,7 @@
 -- In a solution of a program's graph: whether a member of a `go` is true is what its shared equation gives.
-use Rattle.std.proofs.Common.{◌≡◌, ℕ, ◌+◌, ◌<◌, ◌≤◌, ◌⊎◌, Bool, true, false, not, ◌&&◌, ◌||◌, ◌==◌, cond, List, [], ◌∷◌, ◌++◌, refl, sym, ap, ◌∙◌, subst}
+use Rattle.std.proofs.Common.{◌≡◌, ℕ, ◌+◌, ◌<◌, ◌⊎◌, Bool, true, false, not, ◌&&◌, ◌||◌, ◌==◌, cond, List, [], ◌++◌, refl, sym, ap, ◌∙◌, subst}
 use Rattle.std.proofs.Common.{⊎_elim, arith}
-use Rattle.std.specs.Prelude.{Contains, length}
+use Rattle.std.specs.Prelude.{Contains}
 use Rattle.std.specs.List.{list_any}
 use Rattle.std.proofs.lemmas.Bool.{and_from, and_left, and_parts, and_right, both_ways, cases_Bool, cases_eq, cond-false, cond-true, eq-eqb, eqb-true}
 use Rattle.std.proofs.lemmas.Bool.{false≢true}
@@ -10,12 +10,12 @@ use Rattle.est_kernel.specs.Plain.{Program, interface_count}
 use Rattle.est_kernel.specs.Preorder.{statement_count}
 use Rattle.est_kernel.specs.StaticCodes.{resumed_codes, started_codes}
 use Rattle.est_kernel.specs.Terms.{Expression}
-use Rattle.grc_graph.specs.Formulas.{Formula, Selected, Negation}
+use Rattle.grc_graph.specs.Formulas.{Selected}
 use Rattle.grc_graph.specs.GraphRuns.{formula_value, graph_of, program_wires}
 use Rattle.grc_graph.specs.Layers.{Layer, Resumed, Started, Liveness, body_liveness, root_if}
 use Rattle.grc_graph.specs.Readings.{Valuation}
 use Rattle.grc_graph.specs.Rows.{Row, entry_formula, live_in, program_rows, row_at}
-use Rattle.grc_graph.specs.Scopes.{Scope, program_scope}
+use Rattle.grc_graph.specs.Scopes.{program_scope}
 use Rattle.grc_graph.specs.Spots.{test_formula}
 use Rattle.grc_graph.specs.Statements.{Entry, Body, Part, Branch, Then, Else, Suspended, Second, Looped}
 use Rattle.grc_graph.specs.Walk.{State}
@@ -27,13 +27,13 @@ use Rattle.grc_share.specs.SharedInstances.{Sharing, body_sharing, one_instance}
 use Rattle.grc_share.specs.SharedWires.{first_root}
 use Rattle.grc_share.proofs.Exports.{Rises, first_least, first_key, first_same, program_gives}
 use Rattle.share_laws.specs.SharedReactions.{some_member}
-use Rattle.share_laws.proofs.Around.{Among, among-given, among-left, among-own, own-roots, roots-low}
+use Rattle.share_laws.proofs.Around.{Among, among-given, among-left, roots-low}
 use Rattle.share_laws.proofs.EndsAlike.{and-like}
 use Rattle.share_laws.proofs.Equated.{go-met}
 use Rattle.share_laws.proofs.Exclusion.{Runs}
 use Rattle.facts.proofs.Tests.{same-tests}
 use Rattle.share_laws.proofs.MemberValues.{end-alone, end-from, end-some, go-alone, go-some}
-use Rattle.share_laws.proofs.Settled.{Binds, Solution, binds, ended, is-live, is-there, mfrom-go, settle, statement, test-alike, test-settled}
+use Rattle.share_laws.proofs.Settled.{Binds, Solution, binds, is-live, is-there, mfrom-go, settle, statement, test-alike, test-settled}
 
 -- a start at a statement's own root is none besides itself
 own-self : (K : Sharing) (n : ℕ) → has_own K n n ≡ false

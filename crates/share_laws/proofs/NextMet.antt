@@ -1,49 +1,43 @@
 -- In a state of a program: behind the values of members is the state that is behind the solution itself.
-use Rattle.std.proofs.Common.{◌≡◌, ℕ, ◌+◌, ◌<◌, ◌≤◌, ◌⊎◌, Bool, true, false, not, ◌&&◌, ◌||◌, ◌==◌, cond, List, [], ◌∷◌, ◌++◌, length, map, refl, sym, ap}
+use Rattle.std.proofs.Common.{◌≡◌, ℕ, ◌+◌, ◌<◌, ◌≤◌, ◌⊎◌, Bool, true, false, ◌&&◌, ◌||◌, ◌==◌, cond, List, refl, sym, ap}
 use Rattle.std.proofs.Common.{◌∙◌, subst}
-use Rattle.std.proofs.Common.{inl, inr, ⊎_elim, arith}
-use Rattle.std.specs.Prelude.{Contains, filter, nat_lt}
-use Rattle.std.specs.List.{flat_map, list_any}
+use Rattle.std.proofs.Common.{⊎_elim, arith}
+use Rattle.std.specs.Prelude.{Contains, nat_lt}
+use Rattle.std.specs.List.{list_any}
 use Rattle.std.proofs.Math.Path.{fun_ext}
 use Rattle.std.proofs.lemmas.Bool.{and_from, and_parts, both_ways, cases_Bool, cases_lt, cond-false, cond-true, eq-eqb, eqb-true, false≢true}
 use Rattle.std.proofs.lemmas.Bool.{false_from_ne_true, le-ltb, lt-ltb}
 use Rattle.std.proofs.lemmas.Bool.{or_cases, or_left, or_right}
-use Rattle.est_kernel.specs.Plain.{Program, interface_count}
+use Rattle.est_kernel.specs.Plain.{Program}
 use Rattle.est_kernel.specs.Preorder.{statement_count}
 use Rattle.est_kernel.specs.Reactions.{is_given}
-use Rattle.est_kernel.specs.Terms.{Expression, Term, Nothing, Pause, Emit, Exit, Present, Suspend, Seq, Loop, Par, Trap, Local, Awake}
-use Rattle.est_kernel.specs.WellFormed.{IsKernel, KeepsLimits}
-use Rattle.grc_graph.specs.Equations.{kept_start, next_formula}
-use Rattle.grc_graph.specs.Formulas.{Formula, Selected, Kept, Held, Value, Conjunction, any_of}
-use Rattle.grc_graph.specs.GraphRuns.{PlainGraph, formula_value, graph_of, next_state, program_wires, shown}
-use Rattle.grc_graph.specs.Layers.{Layer, Resumed, Started, Liveness, body_layers, body_liveness, layer_above, layers_of, part_liveness, same_layer}
+use Rattle.est_kernel.specs.Terms.{Term, Nothing, Pause, Emit, Exit, Present, Suspend, Seq, Loop, Par, Trap, Local, Awake}
+use Rattle.grc_graph.specs.GraphRuns.{program_wires}
+use Rattle.grc_graph.specs.Layers.{Layer, Resumed, Started, Liveness, layer_above, part_liveness}
 use Rattle.grc_graph.specs.Layers.{second_liveness}
 use Rattle.grc_graph.specs.Layers.{loop_liveness}
 use Rattle.grc_graph.specs.Readings.{Valuation, held_at, kept_at, seen_value, seen_values}
-use Rattle.grc_graph.specs.Rows.{Row, live_in, program_rows, row, row_at, rows, second_of}
-use Rattle.grc_graph.specs.Scopes.{Scope, Binding, Entering, Outgoing, BoundAt, Unbound, bind, program_scope}
-use Rattle.grc_graph.specs.SelectionTrees.{body_leaves, selecting}
-use Rattle.grc_graph.specs.Statements.{Entry, Body, Part, Branch, Then, Else, Suspended, Second, Looped}
-use Rattle.grc_graph.specs.Walk.{State, Selecting, Values, truth}
+use Rattle.grc_graph.specs.Rows.{Row, program_rows, row, row_at, rows}
+use Rattle.grc_graph.specs.Scopes.{Scope, Binding, Entering, Outgoing, BoundAt, Unbound, bind}
+use Rattle.grc_graph.specs.Statements.{Entry, Part, Branch, Then, Else, Suspended, Second, Looped}
+use Rattle.grc_graph.specs.Walk.{State, truth}
 use Rattle.grc_graph.specs.Wires.{Wire, Out, Go, StatusOf, End, same_wire}
-use Rattle.grc_graph.proofs.Exports.{LiveAt, in_layers, live_of, StandsAt, above_behind, above_within, length-program_rows, length-rows, row_read}
-use Rattle.grc_graph.proofs.Exports.{program_placed, same_layer-self, same_layer-true, same_wire-self, stands_first, stands_one, stands_second, stands_whole}
-use Rattle.grc_graph.proofs.Exports.{wire_there, IsGo}
-use Rattle.grc_share.specs.SharedGraphs.{lasting, shared_graph, shared_next}
+use Rattle.grc_graph.proofs.Exports.{StandsAt, above_behind, above_within, length-program_rows, length-rows, row_read, program_placed, same_wire-self}
+use Rattle.grc_graph.proofs.Exports.{stands_first, stands_one, stands_second}
+use Rattle.grc_share.specs.SharedGraphs.{lasting}
 use Rattle.grc_share.specs.SharedInstances.{Sharing, body_sharing, key, one_instance}
-use Rattle.grc_share.specs.SharedWires.{first_root, shared_layer, shared_layers, shared_wire, shared_wires}
-use Rattle.grc_share.proofs.Exports.{Rises, first_among, first_least, first_key, first_same, one_instance-named, program_gives}
+use Rattle.grc_share.specs.SharedWires.{first_root, shared_layer, shared_wire, shared_wires}
+use Rattle.grc_share.proofs.Exports.{Rises, first_among, first_least, first_key, first_same}
 use Rattle.share_laws.specs.SharedReactions.{shared_values, some_member}
-use Rattle.share_laws.proofs.Around.{Among, Inside, above-key, inside}
+use Rattle.share_laws.proofs.Around.{Among, above-key, inside}
 use Rattle.share_laws.proofs.EndsAlike.{and-like}
 use Rattle.share_laws.proofs.Exclusion.{Runs}
 use Rattle.facts.proofs.Tests.{same-tests}
-use Rattle.share_laws.proofs.Lists.{any-append, any-from, any-some, filter-has, filter-some}
-use Rattle.share_laws.proofs.MemberValues.{end-alone, end-from, end-some, go-alone, go-some, one-instance-self, out-alone}
+use Rattle.share_laws.proofs.Lists.{any-from}
+use Rattle.share_laws.proofs.MemberValues.{end-alone, end-some, go-alone, out-alone}
 use Rattle.share_laws.proofs.Settled.{Binds, In, Solution, apart, binds, ended, is-live, is-there, own-end, status-settled}
-use Rattle.share_laws.proofs.SharedMet.{named-there, value-named, value-on}
+use Rattle.share_laws.proofs.SharedMet.{named-there, value-named}
 use Rattle.share_laws.proofs.SharedThere.{row_live}
-use Rattle.share_laws.proofs.Statuses.{any-worth, named-live, named-one}
 
 -- ---- reads of a number in a statement at n
 

@@ -1,5 +1,5 @@
 -- In a solution of a program's graph: what is true of the wires of each statement, by its number.
-use Rattle.std.proofs.Common.{◌≡◌, ℕ, ◌+◌, ◌<◌, ◌⊎◌, ◌&&◌, ◌==◌, Bool, true, false, refl, sym, ap, ◌∙◌, subst, inl, inr, ⊎_elim, arith}
+use Rattle.std.proofs.Common.{◌≡◌, ℕ, ◌+◌, ◌<◌, ◌⊎◌, Bool, true, false, sym, ap, ◌∙◌, subst, inl, inr, ⊎_elim}
 use Rattle.std.specs.Prelude.{Contains, List, ⊤}
 use Rattle.std.proofs.lemmas.Bool.{and_parts, both_ways, cases_Bool, false≢true}
 use Rattle.est_kernel.specs.Plain.{Program, interface_count}
@@ -11,21 +11,21 @@ use Rattle.grc_graph.specs.GraphRuns.{Solves, graph_of, program_wires}
 use Rattle.grc_graph.specs.Layers.{Layer, Resumed, Started, Liveness, body_liveness, part_liveness, second_liveness, loop_liveness}
 use Rattle.grc_graph.specs.Readings.{Valuation}
 use Rattle.grc_graph.specs.Residuals.{holds}
-use Rattle.grc_graph.specs.Rows.{Row, row, second_of, program_rows, row_at}
+use Rattle.grc_graph.specs.Rows.{Row, row, program_rows, row_at}
 use Rattle.grc_graph.specs.Scopes.{Scope, program_scope}
 use Rattle.grc_graph.specs.Selected.{HasExitCodes, IsState}
 use Rattle.grc_graph.specs.Statements.{Entry, Body, Part, Branch, Then, Else, Suspended, Second, Looped}
 use Rattle.grc_graph.specs.Walk.{State, Values}
-use Rattle.grc_graph.specs.Wires.{Wire, Go, StatusOf, End}
+use Rattle.grc_graph.specs.Wires.{Wire, StatusOf, End}
 use Rattle.grc_graph.specs.WireTables.{is_local}
-use Rattle.grc_graph.proofs.Exports.{IsEnd, IsGo, IsStatus, wire_only, row_read, stands_whole}
+use Rattle.grc_graph.proofs.Exports.{IsEnd, IsStatus, wire_only, row_read, stands_whole}
 use Rattle.grc_sem.specs.GraphWalks.{IsWalkOf, selected_of}
 use Rattle.grc_sem.proofs.Exports.{resumed_at, started_at}
 use Rattle.grc_share.proofs.Exports.{live_row}
 use Rattle.grc_solutions.proofs.Exports.{equation_wires_are, given_contained, is_given}
 use Rattle.share_laws.proofs.Excluded.{is_in, live, walked}
 use Rattle.share_laws.proofs.Exclusion.{Descends, Follows, Restarts, Runs}
-use Rattle.share_laws.proofs.PartsRunning.{IsIn, PartsHere, PartsLive, ResumedHere, StartedHere, Walked, parts_here}
+use Rattle.share_laws.proofs.PartsRunning.{IsIn, PartsHere, PartsLive, Walked, parts_here}
 use Rattle.share_laws.proofs.Reached.{Kids, Parts, Site, each_statement}
 
 -- what runs at c, which is entered so, runs in the statement around it

@@ -1,6 +1,6 @@
 -- In a solution of a program's graph: where an instance runs, no other member of its shared instance does, so what it reads
 -- is what its shared instance reads.
-use Rattle.std.proofs.Common.{◌≡◌, ℕ, ◌+◌, ◌<◌, ◌⊎◌, Bool, true, false, not, ◌&&◌, ◌||◌, List, refl, sym, ap, ◌∙◌, subst, inl, inr, ⊎_elim, arith}
+use Rattle.std.proofs.Common.{◌≡◌, ℕ, ◌<◌, ◌⊎◌, Bool, true, false, not, ◌&&◌, ◌||◌, List, refl, sym, ap, ◌∙◌, subst, ⊎_elim, arith}
 use Rattle.std.specs.Prelude.{Contains}
 use Rattle.std.proofs.lemmas.Bool.{both_ways, eqb-true, false≢true, false_from_ne_true}
 use Rattle.est_kernel.specs.Plain.{Program}
@@ -16,12 +16,12 @@ use Rattle.grc_graph.specs.Scopes.{Scope, Binding, Entering, Outgoing, BoundAt, 
 use Rattle.grc_graph.specs.Selected.{HasExitCodes, IsState}
 use Rattle.grc_graph.specs.Spots.{status_formula, test_formula}
 use Rattle.grc_graph.specs.Walk.{State}
-use Rattle.grc_graph.specs.Wires.{Wire, Out, Go, StatusOf, End}
+use Rattle.grc_graph.specs.Wires.{Wire, Go, StatusOf, End}
 use Rattle.grc_graph.proofs.Exports.{LiveAt, length-program_rows, program_placed}
 use Rattle.grc_sem.specs.GraphWalks.{IsWalkOf, selected_of}
-use Rattle.grc_share.specs.SharedInstances.{Sharing, body_sharing, key, one_instance}
+use Rattle.grc_share.specs.SharedInstances.{body_sharing, key, one_instance}
 use Rattle.share_laws.specs.SharedReactions.{some_member}
-use Rattle.share_laws.proofs.Around.{Inside, InsideOf, above-key, binder-around, live-at}
+use Rattle.share_laws.proofs.Around.{InsideOf, above-key, binder-around, live-at}
 use Rattle.share_laws.proofs.Excluded.{excluded, one_key}
 use Rattle.share_laws.proofs.Exclusion.{Descends, Restarts, Runs}
 use Rattle.share_laws.proofs.MemberValues.{end-from, end-some, go-from, one-instance-back, out-alone, settled-by, status-same, status-some}

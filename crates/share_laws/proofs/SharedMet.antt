@@ -1,27 +1,25 @@
 -- In a state of a program, the values of members solve the equations of the shared wires.
-use Rattle.std.proofs.Common.{◌≡◌, ℕ, ◌+◌, ◌<◌, ◌≤◌, Bool, true, false, not, ◌&&◌, ◌||◌, ◌==◌, cond, List, [], ◌∷◌, ◌++◌, length, map, get_or, refl, sym, ap}
+use Rattle.std.proofs.Common.{◌≡◌, ℕ, ◌+◌, ◌<◌, Bool, true, false, not, ◌&&◌, ◌||◌, ◌==◌, cond, List, [], ◌∷◌, ◌++◌, length, get_or, refl, sym, ap}
 use Rattle.std.proofs.Common.{◌∙◌, subst}
 use Rattle.std.proofs.Common.{⊎_elim, arith}
-use Rattle.std.specs.Prelude.{All, Contains, filter, nat_lt, option_map, ⊤}
+use Rattle.std.specs.Prelude.{All, Contains, filter, nat_lt, option_map}
 use Rattle.std.specs.List.{list_any}
-use Rattle.std.proofs.lemmas.Bool.{and_from, and_parts, both_ways, cases_Bool, cond-false, cond-true, eqb-true, false_from_ne_true}
+use Rattle.std.proofs.lemmas.Bool.{and_parts, both_ways, cases_Bool, cond-false, cond-true, false_from_ne_true}
 use Rattle.std.proofs.lemmas.List.{get_or-map, length-map}
 use Rattle.std.proofs.lemmas.List.Elements.{Contains-get_or}
-use Rattle.est_base.specs.Codes.{upto}
-use Rattle.est_kernel.specs.Plain.{Program, given_count, interface_of, program_of}
-use Rattle.est_kernel.specs.Preorder.{statement_count}
+use Rattle.est_kernel.specs.Plain.{Program, given_count, program_of}
 use Rattle.est_kernel.specs.WellFormed.{IsKernel, KeepsLimits}
 use Rattle.grc_graph.specs.declared.graph.Graph.{Graph}
 use Rattle.grc_graph.specs.BuiltGraphs.{IsGraphOf}
 use Rattle.grc_graph.specs.Equations.{Equation, end_formula, is_wire}
-use Rattle.grc_graph.specs.Formulas.{Formula, Const, Boot, Input, Value, Selected, Upto, Kept, Held, Negation, Conjunction, Disjunction, any_of}
+use Rattle.grc_graph.specs.Formulas.{Formula, Const, Boot, Input, Value, Selected, Upto, Kept, Held, Negation, Conjunction, Disjunction}
 use Rattle.grc_graph.specs.GraphRuns.{Solves, formula_value, graph_of, program_spots, program_wires}
-use Rattle.grc_graph.specs.Instances.{Instance, body_instances}
+use Rattle.grc_graph.specs.Instances.{body_instances}
 use Rattle.grc_graph.specs.Layers.{Layer, Resumed, Started, Liveness, same_layer}
 use Rattle.grc_graph.specs.Nodes.{node_of}
 use Rattle.grc_graph.specs.Readings.{Valuation}
 use Rattle.grc_graph.specs.Reads.{ReadsOnly}
-use Rattle.grc_graph.specs.Rows.{entry_formula, live_in, program_rows, row_at, spot_at}
+use Rattle.grc_graph.specs.Rows.{live_in, program_rows, row_at, spot_at}
 use Rattle.grc_graph.specs.Spots.{Spot}
 use Rattle.grc_graph.specs.Walk.{State}
 use Rattle.grc_graph.specs.Wires.{Wire, Out, Go, StatusOf, End, same_wire}
@@ -30,10 +28,9 @@ use Rattle.grc_graph.proofs.Exports.{same_wire-true, wire_there}
 use Rattle.grc_share.specs.SharedGraphs.{emits_on, emitted_on, formula_for, go_value, has_own, is_guarded, is_least, renamed, shared_emissions}
 use Rattle.grc_share.specs.SharedGraphs.{shared_equations, shared_formula}
 use Rattle.grc_share.specs.SharedGraphs.{shared_graph}
-use Rattle.grc_share.specs.SharedInstances.{Sharing, body_sharing, key}
-use Rattle.grc_share.specs.SharedWires.{first_root, one_wire, shared_layer, shared_wire, shared_wires, status_layer}
+use Rattle.grc_share.specs.SharedInstances.{body_sharing, key}
+use Rattle.grc_share.specs.SharedWires.{shared_layer, shared_wire, shared_wires}
 use Rattle.grc_share.proofs.Exports.{IsLive, named-one_wire, one_wire-named, wires_live, end-there, status-there, wire-twice}
-use Rattle.grc_solutions.specs.GraphWires.{equation_wires}
 use Rattle.grc_solutions.proofs.Exports.{unnamed}
 use Rattle.share_laws.specs.SharedReactions.{shared_values, some_member}
 use Rattle.share_laws.proofs.EndsMet.{EndMet, resumed-met, started-met}
@@ -43,7 +40,7 @@ use Rattle.share_laws.proofs.GraphReads.{Edged, reads-found}
 use Rattle.facts.proofs.Tests.{same-tests}
 use Rattle.share_laws.proofs.Lists.{any-append, any-from, any-some, filter-has, filter-some, of-mapped, upto-same}
 use Rattle.share_laws.proofs.MemberValues.{member-from, member-some}
-use Rattle.share_laws.proofs.Settled.{Solution, is-live, is-there}
+use Rattle.share_laws.proofs.Settled.{Solution, is-there}
 use Rattle.share_laws.proofs.SharedThere.{equation-names, row_live, shared-itself, shared-there}
 use Rattle.share_laws.proofs.Statuses.{any-worth, named-live, out-met, status-met}
 

@@ -1,54 +1,36 @@
 -- A walk of edges leads from what a shared equation reads to its own wire; so where the edges go up there is one solution.
-use Rattle.std.proofs.Common.{◌≡◌, ℕ, ◌+◌, ◌<◌, ◌==◌, ◌&&◌, Bool, true, false, cond, List, [], ◌∷◌, ◌++◌, length, map, get_or, refl, sym, ap, ◌∙◌, subst}
-use Rattle.std.proofs.Common.{Option, Some, None, ⊎_elim, arith}
-use Rattle.std.specs.Prelude.{All, Contains, IsTrue, filter, nat_lt, option_map}
+use Rattle.std.proofs.Common.{◌≡◌, ℕ, ◌+◌, ◌<◌, ◌==◌, Bool, true, false, cond, List, [], ◌∷◌, ◌++◌, length, get_or, refl, sym, ap, ◌∙◌, subst}
+use Rattle.std.proofs.Common.{arith}
+use Rattle.std.specs.Prelude.{All, Contains, nat_lt}
 use Rattle.std.specs.List.{list_any}
-use Rattle.std.proofs.lemmas.Bool.{and_parts, eqb-true, false≢true}
-use Rattle.std.proofs.lemmas.List.{get_or-map, get_or_default, length-map}
-use Rattle.std.proofs.lemmas.List.Elements.{Contains-append_right, Contains-get_or}
-use Rattle.facts.proofs.Lists.{Every, contains-flat_map, contains-map}
-use Rattle.est_kernel.specs.Plain.{Program, given_count, interface_count, program_of}
-use Rattle.est_kernel.specs.Preorder.{statement_count}
-use Rattle.est_kernel.specs.Terms.{Term, Nothing, Pause, Emit, Exit, Present, Suspend, Seq, Loop, Par, Trap, Local, Awake}
-use Rattle.est_kernel.specs.WellFormed.{IsKernel, KeepsLimits}
-use Rattle.est_kernel.proofs.Exports.{trees_are_kernels_lem}
+use Rattle.std.proofs.lemmas.Bool.{and_parts, eqb-true}
+use Rattle.std.proofs.lemmas.List.{get_or-map, length-map}
+use Rattle.std.proofs.lemmas.List.Elements.{Contains-get_or}
+use Rattle.facts.proofs.Lists.{contains-map}
+use Rattle.est_kernel.specs.Plain.{Program, given_count, program_of}
 use Rattle.grc_graph.specs.declared.formulas.Formula.TheVariants as formulas
 use Rattle.grc_graph.specs.declared.graph.Graph.{Graph}
 use Rattle.grc_graph.specs.BuiltGraphs.{IsGraphOf}
-use Rattle.grc_graph.specs.Edges.{Edge, edge, edges_at, go_to_ends, to_status}
-use Rattle.grc_graph.specs.Equations.{Equation, is_wire}
-use Rattle.grc_graph.specs.Formulas.{Formula, Input, Value, Conjunction, Disjunction, any_of}
-use Rattle.grc_graph.specs.GraphRuns.{graph_of, program_edges, program_spots, program_wires}
-use Rattle.grc_graph.specs.GraphShapes.{formula_fits}
-use Rattle.grc_graph.specs.Instances.{Instance, body_instances}
-use Rattle.grc_graph.specs.Layers.{Layer, Resumed, Started, body_layers, body_liveness, same_layer}
-use Rattle.grc_graph.specs.Nodes.{node_at, node_of}
+use Rattle.grc_graph.specs.Edges.{Edge}
+use Rattle.grc_graph.specs.Equations.{Equation}
+use Rattle.grc_graph.specs.Formulas.{Value, Conjunction, Disjunction}
+use Rattle.grc_graph.specs.GraphRuns.{graph_of, program_edges, program_wires}
+use Rattle.grc_graph.specs.Layers.{Layer, Resumed, Started}
 use Rattle.grc_graph.specs.Orders.{GoUp}
-use Rattle.grc_graph.specs.PlainGraphs.{instance_at, instances_of, names_of, wire_at, wire_of}
-use Rattle.grc_graph.specs.PlainInstances.{instance_of}
 use Rattle.grc_graph.specs.Reads.{ReadsOnly}
-use Rattle.grc_graph.specs.Rows.{live_in, program_rows, row_at, spot_at}
-use Rattle.grc_graph.specs.Scopes.{Scope, program_scope}
-use Rattle.grc_graph.specs.Selected.{HasExitCodes}
-use Rattle.grc_graph.specs.Spots.{Spot, body_entry}
-use Rattle.grc_graph.specs.Wires.{Wire, Out, Go, StatusOf, End, instance_codes, same_wire, status_wire}
-use Rattle.grc_graph.specs.WireTables.{IsNumberOf}
-use Rattle.grc_graph.proofs.Exports.{IsEnd, IsGo, IsStatus, instance_live, live_instance, body_agrees, codes_below-kernel, program_kernel}
-use Rattle.grc_graph.proofs.Exports.{program_spots_by_row, same_layer-true, same_wire-true, wire_only, wire_there}
-use Rattle.grc_share.specs.Renamings.{formula_at}
-use Rattle.grc_share.specs.SharedGraphs.{emits_on, emitted_on, formula_for, go_value, has_own, is_guarded, is_least, renamed, shared_emissions}
+use Rattle.grc_graph.specs.Rows.{program_rows, row_at}
+use Rattle.grc_graph.specs.Wires.{Wire, Out, Go, StatusOf, End}
+use Rattle.grc_share.specs.SharedGraphs.{formula_for, has_own, is_guarded, renamed, shared_emissions}
 use Rattle.grc_share.specs.SharedGraphs.{shared_equations, shared_formula, shared_graph}
 use Rattle.grc_share.specs.SharedInstances.{Sharing, body_sharing}
-use Rattle.grc_share.specs.SharedWires.{first_root, shared_edge, shared_edges, shared_layer, shared_wire, shared_wires, status_layer}
-use Rattle.grc_share.proofs.Exports.{IsLive, wires_live, body_codes, shared-differ, equation-at, equations-each, formula-found, program_gives}
+use Rattle.grc_share.specs.SharedWires.{first_root, shared_edge, shared_edges, shared_layer, shared_wire, shared_wires}
+use Rattle.grc_share.proofs.Exports.{IsLive, shared-differ}
 use Rattle.grc_solutions.specs.GraphWires.{Differ, equation_wires}
 use Rattle.grc_solutions.specs.Solutions.{HasOneSolution, ReadUp}
 use Rattle.grc_solutions.proofs.Exports.{one_solution_lem}
 use Rattle.share_laws.specs.SharedSolutions.{IsWalk, LeadsTo, SharedGraphsHaveOneSolution, SharedGraphsReadUp, SharedReadsHaveWalks}
 use Rattle.share_laws.proofs.SharedThere.{equation-names}
-use Rattle.share_laws.proofs.EndsUp.{Below, below}
-use Rattle.share_laws.proofs.GoEnds.{Rises}
-use Rattle.share_laws.proofs.SharedReads.{Both, reads-live, renamed-reads}
+use Rattle.share_laws.proofs.SharedReads.{renamed-reads}
 use Rattle.share_laws.proofs.GraphReads.{Edged, kernel, limits, reads-found}
 use Rattle.share_laws.proofs.ReadUps.{any-reads, emissions-below, end-above, if-given, read-below}
 use Rattle.share_laws.proofs.SharedThere.{back, shared-itself, shared-there}

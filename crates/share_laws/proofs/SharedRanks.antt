@@ -1,10 +1,8 @@
 -- Ranks of shared wires by number are ranks in which the edges between them go up.
-use Rattle.std.proofs.Common.{◌≡◌, ℕ, zero, suc, ◌+◌, ◌<◌, Bool, true, false, cond, List, [], ◌∷◌, length, get_or, refl, sym, ap, ◌∙◌, subst, ⊎_elim, arith}
+use Rattle.std.proofs.Common.{◌≡◌, ℕ, zero, suc, ◌<◌, Bool, true, false, cond, List, [], ◌∷◌, length, get_or, refl, sym, ap, ◌∙◌, subst, ⊎_elim, arith}
 use Rattle.std.specs.Prelude.{Contains, slice_index}
-use Rattle.std.proofs.lemmas.Bool.{cases_Bool, cases_order, cond-false, cond-true, false≢true}
+use Rattle.std.proofs.lemmas.Bool.{cases_order, cond-false, cond-true, false≢true}
 use Rattle.std.proofs.lemmas.List.Elements.{All-contains, Contains-get_or}
-use Rattle.est_kernel.specs.Plain.{Program}
-use Rattle.est_kernel.specs.WellFormed.{IsKernel, KeepsLimits}
 use Rattle.grc_graph.specs.Edges.{Edge, edge}
 use Rattle.grc_graph.specs.GraphRuns.{program_edges, program_wires}
 use Rattle.grc_graph.specs.Layers.{Resumed}
@@ -12,7 +10,6 @@ use Rattle.grc_graph.specs.PlainGraphs.{wire_at}
 use Rattle.grc_graph.specs.Wires.{Wire, Go, same_wire}
 use Rattle.grc_graph.proofs.Exports.{same_wire-self, same_wire-true}
 use Rattle.grc_share.specs.SharedInstances.{body_sharing}
-use Rattle.grc_share.specs.SharedNumbers.{AreSharedRanks}
 use Rattle.grc_share.specs.SharedWires.{shared_edge, shared_edges, shared_wire, shared_wires}
 use Rattle.grc_share.proofs.Exports.{body_codes, shared-differ}
 use Rattle.grc_solutions.specs.GraphWires.{Differ, EdgesJoinWires}

@@ -2,30 +2,24 @@
 --
 -- A formula of a built graph names live instances alone, since its numbers fit. So a wire that it reads is one of the
 -- program's where its shared wire is, and then the edge from it is a shared edge.
-use Rattle.std.proofs.Common.{◌≡◌, ℕ, ◌+◌, ◌<◌, ◌≤◌, ◌&&◌, Bool, true, List, [], ◌∷◌, length, map, get_or, refl, sym, ap, ◌∙◌, subst, arith}
-use Rattle.std.specs.Prelude.{All, Contains, IsTrue, nat_lt, ⊤}
-use Rattle.std.specs.List.{list_all}
+use Rattle.std.proofs.Common.{◌≡◌, ℕ, ◌<◌, true, List, [], ◌∷◌, length, map, get_or}
+use Rattle.std.specs.Prelude.{All, IsTrue, nat_lt}
 use Rattle.std.proofs.lemmas.Bool.{and_parts, ltb-true}
-use Rattle.std.proofs.lemmas.List.Elements.{All-head, All-tail, Contains-get_or}
+use Rattle.std.proofs.lemmas.List.Elements.{All-head, All-tail}
 use Rattle.std.proofs.lemmas.List.Sums.{AllPass-from_list_all}
 use Rattle.est_base.specs.declared.indices.WireId.{WireId}
-use Rattle.est_kernel.specs.Plain.{Program}
-use Rattle.est_kernel.specs.Terms.{Term}
-use Rattle.est_kernel.specs.WellFormed.{IsKernel, KeepsLimits}
 use Rattle.grc_graph.specs.declared.formulas.Formula as stored
 use Rattle.grc_graph.specs.declared.formulas.Formula.TheVariants as formulas
 use Rattle.grc_graph.specs.Formulas.{Formula, Const, Boot, Input, Value, Selected, Upto, Kept, Held, Negation, Conjunction, Disjunction, any_of}
-use Rattle.grc_graph.specs.GraphRuns.{program_wires}
 use Rattle.grc_graph.specs.GraphShapes.{formula_fits}
 use Rattle.grc_graph.specs.Instances.{Instance}
-use Rattle.grc_graph.specs.Layers.{Layer, Resumed, Started}
 use Rattle.grc_graph.specs.PlainGraphs.{formula_of, instance_at, wire_at}
 use Rattle.grc_graph.specs.Reads.{ReadsOnly}
 use Rattle.grc_graph.specs.Rows.{live_in}
-use Rattle.grc_graph.specs.Wires.{Wire, Out, Go, StatusOf, End}
+use Rattle.grc_graph.specs.Wires.{Wire, End}
 use Rattle.grc_share.specs.SharedGraphs.{renamed}
 use Rattle.grc_share.specs.SharedInstances.{Sharing}
-use Rattle.grc_share.specs.SharedWires.{shared_layer, shared_wire}
+use Rattle.grc_share.specs.SharedWires.{shared_wire}
 use Rattle.grc_share.proofs.Exports.{IsLive}
 
 -- ---- renamed formulas read shared wires

@@ -1,5 +1,5 @@
 -- The reactions and the runs of a shared graph are those of the program's graph.
-use Rattle.std.proofs.Common.{◌≡◌, ◌<◌, Bool, List, [], ◌∷◌, length, map, refl, sym, ap, ◌∙◌, subst}
+use Rattle.std.proofs.Common.{◌≡◌, Bool, List, [], ◌∷◌, length, map, refl, sym, ap, ◌∙◌, subst}
 use Rattle.std.specs.Prelude.{ℕ}
 use Rattle.std.proofs.Math.Path.{fun_ext}
 use Rattle.est_base.specs.Items.{Item, Event, Reset, EachEvent}
@@ -20,8 +20,10 @@ use Rattle.grc_share.specs.SharedGraphs.{shared_graph, shared_next}
 use Rattle.grc_share.specs.SharedInstances.{body_sharing}
 use Rattle.grc_share.specs.SharedWires.{shared_edges, shared_wire}
 use Rattle.grc_share.proofs.Exports.{body_codes}
-use Rattle.grc_solutions.proofs.Exports.{graphs_have_one_solution_lem}
-use Rattle.share_laws.specs.SharedReactions.{RunsAreShared, SharedReactionsAreGiven, SharedRunsAreRuns, SharedSolutionsAreMembers, SharedWiresAreMembers}
+use Rattle.grc_solutions.proofs.Exports.{graph_runs_exist_lem, graphs_have_one_solution_lem}
+use Rattle.grc_tri.proofs.Exports.{graph_runs_are_runs_lem}
+use Rattle.share_laws.specs.SharedReactions.{RunsAreShared, SharedGraphsRun, SharedReactionsAreGiven, SharedRunsAnswer, SharedRunsAreRuns}
+use Rattle.share_laws.specs.SharedReactions.{SharedSolutionsAreMembers, SharedWiresAreMembers}
 use Rattle.share_laws.specs.SharedReactions.{shared_machine, shared_values}
 use Rattle.share_laws.proofs.GraphReads.{kernel, limits}
 use Rattle.share_laws.proofs.Settled.{Solution}
@@ -102,6 +104,28 @@ module _ (g : Graph) (built : IsGraphOf g (program_of g.program)) (no_loop : NoI
       )
   shared (Reset ∷ items) q Vs state leaves fits run = shared items Initial Vs tt tt fits run
 
+module _ (g : Graph) (built : IsGraphOf g (program_of g.program)) (no_loop : NoInstantLoop (program_of g.program).body) (rank : Wire → ℕ)
+    (up : GoUp rank (shared_edges (program_of g.program))) (items : List Item)
+    (fits : EachEvent (λ event. length event ≡ given_count (program_of g.program)) items) where
+  -- the rank of a wire's shared wire
+  abbrev members-rank : Wire → ℕ
+  members-rank u = rank (shared_wire (body_sharing (program_of g.program).body) u)
+
+  run-there : (Us : List Valuation) × IsRunFrom (shared_machine (program_of g.program)) Initial items Us
+  run-there =
+      let p = program_of g.program in
+      let given = (graph_runs_exist_lem p members-rank (exits g built no_loop) (members-up g built rank up) Initial items).0 in
+      (map (shared_values p) given.0, shared g built no_loop items Initial given.0 tt tt fits given.1)
+
+  one-run : (Us Ws : List Valuation) → IsRunFrom (shared_machine (program_of g.program)) Initial items Us
+      → IsRunFrom (shared_machine (program_of g.program)) Initial items Ws → Us ≡ Ws
+  one-run Us Ws h k =
+      let p = program_of g.program in
+      let a = runs g built no_loop rank up items Initial Us tt tt fits h in
+      let b = runs g built no_loop rank up items Initial Ws tt tt fits k in
+      let same = (graph_runs_exist_lem p members-rank (exits g built no_loop) (members-up g built rank up) Initial items).1 a.0 b.0 a.1 b.1 in
+      a.2 ∙ ap (λ Vs. map (shared_values p) Vs) same ∙ sym b.2
+
 pub shared_wires_are_members_lem : SharedWiresAreMembers
 shared_wires_are_members_lem g q event V built no_loop state width solves = solved g built no_loop q event V state width solves
 
@@ -117,3 +141,14 @@ shared_runs_are_runs_lem g rank items Us built no_loop up fits run = runs g buil
 
 pub runs_are_shared_lem : RunsAreShared
 runs_are_shared_lem g items Vs built no_loop fits run = shared g built no_loop items Initial Vs tt tt fits run
+
+pub shared_graphs_run_lem : SharedGraphsRun
+shared_graphs_run_lem g rank items built no_loop up fits = (run-there g built no_loop rank up items fits, one-run g built no_loop rank up items fits)
+
+pub shared_runs_answer_lem : SharedRunsAnswer
+shared_runs_answer_lem g rank items Us built formed no_loop up fits run =
+    let p = program_of g.program in
+    let r = runs g built no_loop rank up items Initial Us tt tt fits run in
+    let R : Wire → ℕ = λ u. rank (shared_wire (body_sharing p.body) u) in
+    let a = graph_runs_are_runs_lem p R formed (kernel g built) no_loop (members-up g built rank up) items fits r.0 r.1 in
+    (a.0, a.1, a.2 ∙ sym r.3)

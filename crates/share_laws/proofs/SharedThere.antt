@@ -1,52 +1,23 @@
 -- The shared wires of a program are among its wires, and each is its own shared wire.
-use Rattle.std.proofs.Common.{◌≡◌, ℕ, ◌+◌, ◌<◌, ◌==◌, ◌&&◌, Bool, true, false, cond, List, [], ◌∷◌, ◌++◌, length, map, get_or, refl, sym, ap, ◌∙◌, subst}
-use Rattle.std.proofs.Common.{Option, Some, None, ⊎_elim, arith}
-use Rattle.std.specs.Prelude.{Contains, IsTrue, filter, nat_lt, option_map}
-use Rattle.std.specs.List.{list_any}
-use Rattle.std.proofs.lemmas.Bool.{and_parts, eqb-true, false≢true}
-use Rattle.std.proofs.lemmas.List.{get_or-map, get_or_default, length-map}
-use Rattle.std.proofs.lemmas.List.Elements.{Contains-append_right, Contains-get_or}
-use Rattle.facts.proofs.Lists.{Every, contains-flat_map, contains-map}
-use Rattle.est_kernel.specs.Plain.{Program, given_count, interface_count, program_of}
+use Rattle.std.proofs.Common.{◌≡◌, ℕ, ◌<◌, Bool, true, List, [], ◌∷◌, map, refl, sym, ap, subst}
+use Rattle.std.proofs.Common.{arith}
+use Rattle.std.specs.Prelude.{Contains}
+use Rattle.est_kernel.specs.Plain.{Program}
 use Rattle.est_kernel.specs.Preorder.{statement_count}
-use Rattle.est_kernel.specs.Terms.{Term, Nothing, Pause, Emit, Exit, Present, Suspend, Seq, Loop, Par, Trap, Local, Awake}
+use Rattle.est_kernel.specs.Terms.{Term}
 use Rattle.est_kernel.specs.WellFormed.{IsKernel, KeepsLimits}
-use Rattle.est_kernel.proofs.Exports.{trees_are_kernels_lem}
 use Rattle.grc_graph.specs.declared.formulas.Formula.TheVariants as formulas
-use Rattle.grc_graph.specs.declared.graph.Graph.{Graph}
-use Rattle.grc_graph.specs.BuiltGraphs.{IsGraphOf}
-use Rattle.grc_graph.specs.Edges.{Edge, edge, edges_at, go_to_ends, to_status}
-use Rattle.grc_graph.specs.Equations.{Equation, is_wire}
-use Rattle.grc_graph.specs.Formulas.{Formula, Input, Value, Conjunction, Disjunction, any_of}
-use Rattle.grc_graph.specs.GraphRuns.{graph_of, program_edges, program_spots, program_wires}
-use Rattle.grc_graph.specs.GraphShapes.{formula_fits}
-use Rattle.grc_graph.specs.Instances.{Instance, body_instances}
-use Rattle.grc_graph.specs.Layers.{Layer, Resumed, Started, body_layers, body_liveness, same_layer}
-use Rattle.grc_graph.specs.Nodes.{node_at, node_of}
-use Rattle.grc_graph.specs.Orders.{GoUp}
-use Rattle.grc_graph.specs.PlainGraphs.{instance_at, instances_of, names_of, wire_at, wire_of}
-use Rattle.grc_graph.specs.PlainInstances.{instance_of}
-use Rattle.grc_graph.specs.Reads.{ReadsOnly}
-use Rattle.grc_graph.specs.Rows.{live_in, program_rows, row_at, spot_at}
-use Rattle.grc_graph.specs.Scopes.{Scope, program_scope}
-use Rattle.grc_graph.specs.Selected.{HasExitCodes}
-use Rattle.grc_graph.specs.Spots.{Spot, body_entry}
-use Rattle.grc_graph.specs.Wires.{Wire, Out, Go, StatusOf, End, instance_codes, same_wire, status_wire}
-use Rattle.grc_graph.specs.WireTables.{IsNumberOf}
-use Rattle.grc_graph.proofs.Exports.{IsEnd, IsGo, IsStatus, instance_live, live_instance, body_agrees, codes_below-kernel, program_kernel}
-use Rattle.grc_graph.proofs.Exports.{program_spots_by_row, same_layer-true, same_wire-true, wire_only, wire_there}
-use Rattle.grc_share.specs.Renamings.{formula_at}
-use Rattle.grc_share.specs.SharedGraphs.{emits_on, emitted_on, formula_for, go_value, has_own, is_guarded, is_least, renamed, shared_emissions}
-use Rattle.grc_share.specs.SharedGraphs.{shared_equations, shared_formula, shared_graph}
-use Rattle.grc_share.specs.SharedInstances.{Sharing, body_sharing}
-use Rattle.grc_share.specs.SharedWires.{first_root, shared_edge, shared_edges, shared_layer, shared_wire, shared_wires, status_layer}
-use Rattle.grc_share.proofs.Exports.{IsLive, wires_live, body_codes, shared-differ, equation-at, equations-each, formula-found, program_gives}
-use Rattle.grc_solutions.specs.GraphWires.{Differ, equation_wires}
-use Rattle.grc_solutions.specs.Solutions.{HasOneSolution, ReadUp}
-use Rattle.grc_solutions.proofs.Exports.{reads_are_edges_lem}
+use Rattle.grc_graph.specs.Formulas.{Formula}
+use Rattle.grc_graph.specs.GraphRuns.{program_wires}
+use Rattle.grc_graph.specs.Layers.{Layer, Resumed, Started}
+use Rattle.grc_graph.specs.Rows.{live_in, program_rows, row_at}
+use Rattle.grc_graph.specs.Wires.{Wire, Out, Go, StatusOf, End, instance_codes, same_wire}
+use Rattle.grc_graph.proofs.Exports.{IsEnd, IsGo, IsStatus, wire_only, wire_there, codes_below-kernel, program_kernel, same_wire-true}
+use Rattle.grc_share.specs.SharedInstances.{body_sharing}
+use Rattle.grc_share.specs.SharedWires.{shared_layer, shared_wire, shared_wires, status_layer}
+use Rattle.grc_share.proofs.Exports.{IsLive, program_gives}
+use Rattle.grc_solutions.specs.GraphWires.{equation_wires}
 use Rattle.share_laws.proofs.Lists.{filter-some}
-use Rattle.share_laws.proofs.GoEnds.{Rises}
-use Rattle.share_laws.proofs.SharedReads.{Both, reads-live, renamed-reads}
 
 -- the wires of the shared equations
 pub equation-names : (f : Wire → Formula) (ws : List Wire) → equation_wires (map (λ (w : Wire). record { wire = w; formula = f w }) ws) ≡ ws

@@ -1,19 +1,18 @@
 -- In a state of a program: what is seen of the values of members, and the state behind them, are those of the solution.
-use Rattle.std.proofs.Common.{◌≡◌, ℕ, ◌+◌, ◌<◌, ◌≤◌, Bool, true, false, ◌&&◌, ◌||◌, ◌==◌, cond, List, [], ◌∷◌, ◌++◌, map, refl, sym, ap, ◌∙◌, subst, ⊎_elim}
+use Rattle.std.proofs.Common.{◌≡◌, ℕ, ◌+◌, Bool, true, false, ◌&&◌, ◌||◌, ◌==◌, List, [], ◌∷◌, ◌++◌, map, refl, sym, ap, ◌∙◌, subst, ⊎_elim}
 use Rattle.std.proofs.Common.{arith}
-use Rattle.std.specs.Prelude.{Contains, filter}
+use Rattle.std.specs.Prelude.{Contains}
 use Rattle.std.specs.List.{flat_map, list_any}
 use Rattle.std.proofs.Math.Path.{fun_ext}
 use Rattle.std.proofs.lemmas.Bool.{and_from, and_parts, cond-true, eq-eqb, eqb-true, false≢true, or_cases}
 use Rattle.est_kernel.specs.Plain.{Program, interface_count, interface_of}
-use Rattle.est_kernel.specs.Preorder.{statement_count}
 use Rattle.est_kernel.proofs.Exports.{statement_count-pos}
 use Rattle.grc_graph.specs.Equations.{kept_start, next_formula}
 use Rattle.grc_graph.specs.Formulas.{Formula, Selected, Held, Conjunction}
 use Rattle.grc_graph.specs.GraphRuns.{formula_value, graph_of, next_state, program_wires, shown}
 use Rattle.grc_graph.specs.Layers.{Layer, Resumed, Started, Liveness, body_layers, body_liveness, layers_of, same_layer}
 use Rattle.grc_graph.specs.Readings.{Valuation, kept_at}
-use Rattle.grc_graph.specs.Rows.{Row, live_in, program_rows, row_at}
+use Rattle.grc_graph.specs.Rows.{Row, live_in, program_rows}
 use Rattle.grc_graph.specs.Scopes.{program_scope}
 use Rattle.grc_graph.specs.SelectionTrees.{body_leaves, selecting}
 use Rattle.grc_graph.specs.Statements.{Body}

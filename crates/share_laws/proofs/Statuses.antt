@@ -1,22 +1,21 @@
 -- In a solution of a program's graph: whether a member of a status wire is true is what its shared equation gives.
-use Rattle.std.proofs.Common.{◌≡◌, ℕ, ◌+◌, ◌<◌, ◌≤◌, ◌⊎◌, Bool, true, false, ◌&&◌, ◌||◌, ◌==◌, cond, List, [], ◌∷◌, ◌++◌, length, map, get_or, zero, suc}
+use Rattle.std.proofs.Common.{◌≡◌, ℕ, ◌+◌, ◌<◌, ◌⊎◌, Bool, true, false, ◌||◌, ◌==◌, cond, List, [], ◌∷◌, ◌++◌, length, get_or, zero, suc}
 use Rattle.std.proofs.Common.{Option, Some, None, refl, sym, ap, ◌∙◌, subst}
-use Rattle.std.proofs.Common.{inl, inr, ⊎_elim, arith}
-use Rattle.std.specs.Prelude.{Contains, filter, nat_lt, option_map, ⊤}
+use Rattle.std.proofs.Common.{⊎_elim, arith}
+use Rattle.std.specs.Prelude.{Contains, filter, nat_lt, option_map}
 use Rattle.std.specs.List.{list_any}
-use Rattle.std.proofs.lemmas.Bool.{and_from, and_parts, eq-eqb, eqb-true, false≢true, or_cases, or_left, or_right}
+use Rattle.std.proofs.lemmas.Bool.{and_from, and_parts, eq-eqb, false≢true, or_cases, or_left, or_right}
 use Rattle.std.proofs.lemmas.List.Elements.{Contains-append_right}
 use Rattle.std.proofs.lemmas.Option.{none-some}
 use Rattle.facts.proofs.Lists.{contains-map}
 use Rattle.est_kernel.specs.Plain.{Program, given_count, interface_of, outgoing_count}
 use Rattle.est_kernel.specs.Preorder.{statement_count}
-use Rattle.est_kernel.specs.Reactions.{is_given}
 use Rattle.est_kernel.specs.Terms.{Term, Nothing, Pause, Emit, Exit, Present, Suspend, Seq, Loop, Par, Trap, Local, Awake}
 use Rattle.grc_graph.specs.Equations.{emissions, is_wire, output_equation}
 use Rattle.grc_graph.specs.Equations as given
 use Rattle.grc_graph.specs.Formulas.{Formula, Input, Value, any_of}
 use Rattle.grc_graph.specs.GraphRuns.{PlainGraph, formula_value, graph_of, program_spots, program_wires}
-use Rattle.grc_graph.specs.Instances.{Instance, body_instances}
+use Rattle.grc_graph.specs.Instances.{body_instances}
 use Rattle.grc_graph.specs.Layers.{Layer, Resumed, Started, Liveness, layer_above, same_layer}
 use Rattle.grc_graph.specs.Nodes.{node_at, node_of}
 use Rattle.grc_graph.specs.Readings.{Valuation}
@@ -26,7 +25,7 @@ use Rattle.grc_graph.specs.Spots.{Spot}
 use Rattle.grc_graph.specs.Walk.{State}
 use Rattle.grc_graph.specs.Wires.{Wire, Out, Go, StatusOf, same_wire, status_wire}
 use Rattle.grc_graph.proofs.Exports.{IsStatus, LiveAt, in_layers, live_instance, live_of, out_only, program_placed, program_spots_by_row, same_layer-self}
-use Rattle.grc_graph.proofs.Exports.{same_layer-true, same_wire-self, same_wire-true, wire_only}
+use Rattle.grc_graph.proofs.Exports.{same_wire-self, same_wire-true, wire_only}
 use Rattle.grc_share.specs.SharedGraphs.{emits_on, emitted_on, go_value, is_least, shared_emissions}
 use Rattle.grc_share.specs.SharedInstances.{Sharing, body_sharing, key, one_instance, one_status}
 use Rattle.grc_share.specs.SharedWires.{first_root, one_wire, shared_layer, shared_wire}
@@ -38,7 +37,7 @@ use Rattle.share_laws.proofs.Equated.{met, out-there-equation, spot-there, statu
 use Rattle.share_laws.proofs.Exclusion.{Runs}
 use Rattle.facts.proofs.Tests.{same-tests}
 use Rattle.share_laws.proofs.Lists.{any-from, any-append, any-some, filter-has, filter-some, of-mapped}
-use Rattle.share_laws.proofs.MemberValues.{go-some, member-from, member-some, one-instance-back, one-instance-self, out-alone, status-some}
+use Rattle.share_laws.proofs.MemberValues.{go-some, member-from, one-instance-back, out-alone, status-some}
 use Rattle.share_laws.proofs.Outputs.{scope-out}
 use Rattle.share_laws.proofs.Settled.{Solution, binds, is-live, is-there, mfrom-go}
 

@@ -1,10 +1,12 @@
 -- Contract: the laws of shared graphs: what their reactions are.
-use Rattle.std.specs.Prelude.{◌≡◌, ◌↔◌, ℕ, Bool, false, if◌then◌else◌, List, length, map, All}
+use Rattle.std.specs.Prelude.{◌≡◌, ℕ, Bool, Some, false, if◌then◌else◌, List, length, map}
 use Rattle.std.specs.List.{list_any}
 use Rattle.est_base.specs.Items.{Item, EachEvent}
 use Rattle.machines.specs.Machines.{Machine, IsRun}
 use Rattle.est_kernel.specs.Plain.{Program, given_count, program_of}
+use Rattle.est_kernel.specs.Reactions.{Answer, run_of}
 use Rattle.est_kernel.specs.StaticCodes.{NoInstantLoop}
+use Rattle.est_kernel.specs.WellFormed.{IsWellFormed}
 use Rattle.grc_graph.specs.declared.graph.Graph.{Graph}
 use Rattle.grc_graph.specs.BuiltGraphs.{IsGraphOf}
 use Rattle.grc_graph.specs.GraphRuns.{IsGraphRun, Solves, graph_of, next_state, shown}
@@ -13,6 +15,7 @@ use Rattle.grc_graph.specs.Readings.{Valuation}
 use Rattle.grc_graph.specs.Selected.{IsState}
 use Rattle.grc_graph.specs.Walk.{State, Initial}
 use Rattle.grc_graph.specs.Wires.{Wire, same_wire}
+use Rattle.grc_sem.specs.GraphWalks.{shown_answer}
 use Rattle.grc_share.specs.SharedGraphs.{shared_graph, shared_next}
 use Rattle.grc_share.specs.SharedWires.{members, shared_edges, shared_wires}
 
@@ -91,3 +94,29 @@ RunsAreShared =
     → EachEvent (λ event. length event ≡ given_count (program_of g.program)) items
     → IsGraphRun (graph_of (program_of g.program)) Initial items Vs
     → IsSharedRun (program_of g.program) items (map (shared_values (program_of g.program)) Vs)
+
+-- Where the edges between shared wires go up in some rank, the shared graph has one run over all items of the right
+-- width.
+abbrev pub SharedGraphsRun : Type 0
+SharedGraphsRun =
+    (g : Graph) (rank : Wire → ℕ) (items : List Item)
+    → IsGraphOf g (program_of g.program) → NoInstantLoop (program_of g.program).body
+    → GoUp rank (shared_edges (program_of g.program))
+    → EachEvent (λ event. length event ≡ given_count (program_of g.program)) items
+    → ((Us : List Valuation) × IsSharedRun (program_of g.program) items Us)
+    × ((Us Ws : List Valuation) → IsSharedRun (program_of g.program) items Us
+    → IsSharedRun (program_of g.program) items Ws → Us ≡ Ws)
+
+-- That run is the run of the program: every reaction is constructive, and what is seen of the answers is what the
+-- shared
+-- graph shows.
+abbrev pub SharedRunsAnswer : Type 0
+SharedRunsAnswer =
+    (g : Graph) (rank : Wire → ℕ) (items : List Item) (Us : List Valuation)
+    → IsGraphOf g (program_of g.program) → IsWellFormed (program_of g.program)
+    → NoInstantLoop (program_of g.program).body → GoUp rank (shared_edges (program_of g.program))
+    → EachEvent (λ event. length event ≡ given_count (program_of g.program)) items
+    → IsSharedRun (program_of g.program) items Us
+    → (answers : List Answer)
+    × (run_of (program_of g.program) items ≡ Some answers)
+    × (map shown_answer answers ≡ map (λ U. shown (shared_graph (program_of g.program)) U) Us)

@@ -3,7 +3,9 @@
 ghost use Rattle.share_laws.specs.Laws.{KeysTellApart, MembersExcludeEachOther, NamesTellSharedWires, StartsAreFew};
 ghost use Rattle.share_laws.specs.SharedReactions.{
   RunsAreShared,
+  SharedGraphsRun,
   SharedReactionsAreGiven,
+  SharedRunsAnswer,
   SharedRunsAreRuns,
   SharedSolutionsAreMembers,
   SharedWiresAreMembers,
@@ -83,4 +85,14 @@ pub fn shared_runs_are_runs()
 /// Each run of a program's graph is one of its shared graph.
 pub fn runs_are_shared()
     ensures { RunsAreShared }
+{}
+
+/// Where the edges between shared wires go up in some rank, the shared graph has one run over all items that fit.
+pub fn shared_graphs_run()
+    ensures { SharedGraphsRun }
+{}
+
+/// That run is the run of the program, which answers what the shared graph shows.
+pub fn shared_runs_answer()
+    ensures { SharedRunsAnswer }
 {}
