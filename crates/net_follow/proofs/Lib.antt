@@ -3,4 +3,5 @@ mod Clausal
 mod Meeting
 mod Listing
 mod Induction
+mod worked
 pub mod Exports

@@ -2,3 +2,4 @@ pub mod DepthLaws
 pub mod Answers
 pub mod Outcomes
 pub mod Accepting
+mod worked

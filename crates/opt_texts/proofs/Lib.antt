@@ -1,2 +1,3 @@
 mod Keeping
+mod worked
 pub mod Exports
