@@ -58,3 +58,6 @@ module _ (count : ℕ) (edges : List (ℕ × ℕ)) (states : List State) (rest o
         let low : node < count = omega (arith, length-map states rank_in, search.state_each) in
         rw (rank_at node low) (search.placed node low (all_ranked node low)).1;
   }
+
+  pub order-low : All (λ node. node < count) order
+  order-low k d h = let e = get_or_default order k d 0 h in rw e (search.ordered k h)

@@ -2,4 +2,5 @@ mod Linking
 mod Searching
 mod Steps
 mod Ends
-pub mod Rising
+mod Rising
+pub mod Exports

@@ -1,6 +1,22 @@
--- Where ranks grow along each edge, no walk is closed.
-use Rattle.std.proofs.Common.{◌≡◌, ℕ, ◌+◌, ◌-◌, ◌<◌, ◌≤◌, zero, suc, List, length, slice_index, arith}
-use Rattle.digraph.specs.Walks.{HasEdge, IsClosedWalk, AreRanks}
+-- Closed walks: their nodes are nodes, and where ranks grow along each edge, no walk is closed.
+use Rattle.std.proofs.Common.{◌≡◌, ℕ, ◌+◌, ◌-◌, ◌<◌, ◌≤◌, zero, suc, List, All, length, get_or, slice_index, inl, inr, ap, subst, arith}
+use Rattle.std.proofs.lemmas.Bool.{cases_lt}
+use Rattle.std.proofs.lemmas.List.{get_or_default}
+use Rattle.digraph.specs.Walks.{HasEdge, JoinsNodes, IsClosedWalk, AreRanks}
+
+pub walk-within : (count : ℕ) (edges : List (ℕ × ℕ)) (walk : List ℕ) → JoinsNodes count edges → IsClosedWalk edges walk → All (λ t. t < count) walk
+walk-within count edges walk joins closed k d h =
+    let at : get_or walk k d ≡ get_or walk k 0 = get_or_default walk k d 0 h in
+    let begins : (a b : ℕ) → HasEdge edges a b → a < count = λ a b e.
+    let inside = (joins e.0 (a, b) e.1).0 in
+    let is = ap (λ (x : ℕ × ℕ). x.0) e.2 in
+    omega (arith, is, inside) in
+    elim (cases_lt (k + 1) (length walk)) [
+      | inl low ↦ rw at (begins _ _ (closed.steps k low))
+      | inr last ↦
+          let n : length walk - 1 ≡ k = omega arith in
+          rw at (begins _ _ (subst (λ m. HasEdge edges (get_or walk m 0) (get_or walk 0 0)) n closed.closes))
+    ]
 
 module _ (count : ℕ) (edges : List (ℕ × ℕ)) (ranks : List ℕ) (are : AreRanks count edges ranks) where
   -- the rank grows along an edge

@@ -122,6 +122,7 @@ module _ (count : ℕ) (edges : List (ℕ × ℕ)) (states : List State) (rest p
           (λ here. let last : k ≡ length path - 1 = omega (arith, here.0) in rw (first, here.1, last) (joined (omega arith)))
           (λ before. rw (first, before.1) (search.path_steps k before.0))
           (slice_index-push path node (k + 1) h);
+      ordered = search.ordered;
       total =
           let longer = length_push path node in
           let counts = new_count-met states node (OnPath (length path)) in_states new refl in
@@ -211,6 +212,10 @@ module _ (count : ℕ) (edges : List (ℕ × ℕ)) (states : List State) (rest p
       path_steps = λ k h.
           let low : k + 1 < length path - 1 = omega (arith, path_length) in
           rw (path_before k (omega arith), path_before (k + 1) low) (search.path_steps k (omega arith));
+      ordered = λ k h. ⊎_elim
+          (λ here. rw here.1 last_node.0)
+          (λ before. rw before.1 (search.ordered k before.0))
+          (slice_index-push order node k h);
       total =
           let counts = new_count-same states node (Ranked (length order)) in_states' (ap is_new last_node.1) refl in
           omega (arith, search.total, path_length, length_push order node);
@@ -262,6 +267,7 @@ module _ (count : ℕ) (edges : List (ℕ × ℕ)) (states : List State) (rest p
       path_nodes = search.path_nodes;
       path_places = search.path_places;
       path_steps = search.path_steps;
+      ordered = search.ordered;
       total = search.total;
     }
 

@@ -65,6 +65,7 @@ pub record IsSearch (count : ℕ) (edges : List (ℕ × ℕ)) (states : List Sta
   pub path_places : (node k : ℕ) → node < count → state_of states node ≡ OnPath k
       → (k < length path) × (slice_index path k ≡ node)
   pub path_steps : (k : ℕ) → k + 1 < length path → HasEdge edges (slice_index path (k + 1)) (slice_index path k)
+  pub ordered : (k : ℕ) → k < length order → slice_index order k < count
   pub total : length order + length path + count_by is_new states ≡ count
 
 -- a search that has met no node

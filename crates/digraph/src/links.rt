@@ -16,14 +16,18 @@ pub struct Links {
     pub earlier: Vec<usize>,
 }
 
-pub fn edge_links(alloc: Global, count: u32, edges: &[(u32, u32)]) -> Result<Links, AllocError>
+pub fn edge_links(
+    alloc: Global,
+    count: usize,
+    edges: &[(usize, usize)],
+) -> Result<Links, AllocError>
     requires { JoinsNodes count edges.now }
     ensures { IfOk result (λ l. AreLinks count edges.now l.last.items l.earlier.items) }
 {
-    let mut last = vec![in alloc; 0usize; count as usize]?;
+    let mut last = vec![in alloc; 0usize; count]?;
     let mut earlier = Vec::with_capacity(alloc, edges.len())?;
     for (k, edge) in edges.iter().enumerate() {
-        let to = edge.1 as usize;
+        let to = edge.1;
         earlier.push(last[to])?;
         last[to] = k + 1;
     }

@@ -1,12 +1,10 @@
-// The one call: ranks or a closed walk.
+// Ranks or a closed walk, of nodes whose numbers have 32 bits.
 
-ghost use Rattle.std.specs.Prelude.{◌≡◌, ◌↔◌, ℕ, List, map, All, IfOk, IsTrue};
+ghost use Rattle.std.specs.Prelude.{◌≡◌, ◌↔◌, ◌<◌, ◌^◌, ℕ, List, All, IfOk, IsTrue};
 ghost use Rattle.digraph.specs.Walks.{JoinsNodes, IsClosedWalk};
-ghost use Rattle.digraph.specs.Searches.{is_ranked, rank_in};
 ghost use Rattle.digraph.specs.Answers.{IsAnswer, is_cycle};
 
-use crate::links::{Links, edge_links};
-use crate::search::{Search, State};
+use crate::wide::{WideRanksOrCycle, wide_ranks_or_cycle};
 use std::alloc::{AllocError, Global};
 
 /// The nodes of a graph in an order along which each edge leads forward.
@@ -42,31 +40,33 @@ pub fn ranks_or_cycle(
     // The answer is a closed walk exactly where there is one.
     ensures cyclic { IfOk result (λ r. IsTrue (is_cycle r) ↔ ((walk : List ℕ) × IsClosedWalk edges.now walk)) }
 {
-    let Links { last, earlier } = edge_links(alloc, count, edges)?;
-    let mut search = Search::new(alloc, count, last)?;
-    for root in 0..count {
-        if let Some(walk) = search.rank_back_from(alloc, edges, &earlier, root)? {
-            return Ok(RanksOrCycle::Cycle(walk));
-        }
+    let pairs = widened(alloc, edges)?;
+    match wide_ranks_or_cycle(alloc, count as usize, &pairs)? {
+        WideRanksOrCycle::Ranks(ranking) => Ok(RanksOrCycle::Ranks(Ranking {
+            ranks: narrowed(alloc, &ranking.ranks)?,
+            order: narrowed(alloc, &ranking.order)?,
+        })),
+        WideRanksOrCycle::Cycle(walk) => Ok(RanksOrCycle::Cycle(narrowed(alloc, &walk)?)),
     }
-    let Search { states, order, .. } = search;
-    Ok(RanksOrCycle::Ranks(Ranking {
-        ranks: ranks_of(alloc, &states)?,
-        order,
-    }))
 }
 
-// The ranks of nodes that are all ranked.
-fn ranks_of(alloc: Global, states: &[State]) -> Result<Vec<u32>, AllocError>
-    requires { All (λ s. IsTrue (is_ranked s)) states.now }
-    ensures { IfOk result (λ ranks. ranks.items ≡ map rank_in states.now) }
+fn widened(alloc: Global, edges: &[(u32, u32)]) -> Result<Vec<(usize, usize)>, AllocError>
+    ensures { IfOk result (λ pairs. pairs.items ≡ edges.now) }
 {
-    let mut ranks = Vec::with_capacity(alloc, states.len())?;
-    for state in states {
-        match state {
-            State::Ranked(rank) => ranks.push(*rank)?,
-            State::New | State::OnPath(_) => unreachable!(),
-        }
+    let mut pairs = Vec::with_capacity(alloc, edges.len())?;
+    for edge in edges {
+        pairs.push((edge.0 as usize, edge.1 as usize))?;
     }
-    Ok(ranks)
+    Ok(pairs)
+}
+
+fn narrowed(alloc: Global, numbers: &[usize]) -> Result<Vec<u32>, AllocError>
+    requires { All (λ number. number < 2 ^ 32) numbers.now }
+    ensures { IfOk result (λ narrow. narrow.items ≡ numbers.now) }
+{
+    let mut narrow = Vec::with_capacity(alloc, numbers.len())?;
+    for number in numbers {
+        narrow.push(*number as u32)?;
+    }
+    Ok(narrow)
 }

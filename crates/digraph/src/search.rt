@@ -1,6 +1,6 @@
 // The depth-first search: from a node back along the edges into it.
 
-ghost use Rattle.std.specs.Prelude.{◌≡◌, ◌-◌, ◌<◌, ◌^◌, ◌≤◌, [], length, drop, slice_index, reverse, IfOk, OnOk};
+ghost use Rattle.std.specs.Prelude.{◌≡◌, ◌-◌, ◌<◌, ◌≤◌, [], length, drop, slice_index, reverse, IfOk, OnOk};
 ghost use Rattle.std.specs.Prelude.{MatchOption};
 ghost use Rattle.digraph.specs.Walks.{JoinsNodes, IsClosedWalk};
 ghost use Rattle.digraph.specs.Searches.{AreEarlier, IsFresh, IsSearchOf, Enters, Leaves, StepsOn, EndsSearch};
@@ -12,9 +12,9 @@ use std::alloc::{AllocError, Global};
 pub enum State {
     New,
     // It stands at this place of the path.
-    OnPath(u32),
+    OnPath(usize),
     // Each node that has an edge to it is ranked before it.
-    Ranked(u32),
+    Ranked(usize),
 }
 
 impl State {
@@ -33,21 +33,21 @@ pub struct Search {
     // The last edge into each node whose beginning may not be ranked yet, in the terms of `Links`.
     pub rest: Vec<usize>,
     // A walk against the edges: each node has an edge to the one before it.
-    pub path: Vec<u32>,
+    pub path: Vec<usize>,
     // The ranked nodes in the order of their ranks.
-    pub order: Vec<u32>,
+    pub order: Vec<usize>,
 }
 
 impl Search {
     // A search that has met no node.
-    pub fn new(alloc: Global, count: u32, last: Vec<usize>) -> Result<Search, AllocError>
+    pub fn new(alloc: Global, count: usize, last: Vec<usize>) -> Result<Search, AllocError>
         ensures { IfOk result (λ s. IsFresh count last.items s) }
     {
         Ok(Search {
-            states: vec![in alloc; State::New; count as usize]?,
+            states: vec![in alloc; State::New; count]?,
             rest: last,
             path: Vec::new(alloc),
-            order: Vec::with_capacity(alloc, count as usize)?,
+            order: Vec::with_capacity(alloc, count)?,
         })
     }
 
@@ -55,12 +55,11 @@ impl Search {
     pub fn rank_back_from(
         &mut self,
         alloc: Global,
-        edges: &[(u32, u32)],
+        edges: &[(usize, usize)],
         earlier: &[usize],
-        root: u32,
-    ) -> Result<Option<Vec<u32>>, AllocError>
+        root: usize,
+    ) -> Result<Option<Vec<usize>>, AllocError>
         requires nodes { JoinsNodes (length self.old.states.items) edges.now }
-        requires countable { length self.old.states.items < 2 ^ 32 }
         requires links { AreEarlier edges.now earlier.now }
         requires places { length earlier.now ≡ length edges.now }
         requires search { IsSearchOf (length self.old.states.items) edges.now self.old }
@@ -69,7 +68,7 @@ impl Search {
         ensures { IfOk result (λ w. MatchOption w (EndsSearch edges.now self.old self.new root)
             (λ walk. IsClosedWalk edges.now walk.items)) }
     {
-        if !self.states[root as usize].is_new() {
+        if !self.states[root].is_new() {
             return Ok(None);
         }
         self.enter(root)?;
@@ -86,12 +85,11 @@ impl Search {
     fn step(
         &mut self,
         alloc: Global,
-        edges: &[(u32, u32)],
+        edges: &[(usize, usize)],
         earlier: &[usize],
-        node: u32,
-    ) -> Result<Option<Vec<u32>>, AllocError>
+        node: usize,
+    ) -> Result<Option<Vec<usize>>, AllocError>
         requires nodes { JoinsNodes (length self.old.states.items) edges.now }
-        requires countable { length self.old.states.items < 2 ^ 32 }
         requires links { AreEarlier edges.now earlier.now }
         requires places { length earlier.now ≡ length edges.now }
         requires search { IsSearchOf (length self.old.states.items) edges.now self.old }
@@ -100,46 +98,44 @@ impl Search {
         ensures { IfOk result (λ w. MatchOption w (StepsOn edges.now self.old self.new)
             (λ walk. IsClosedWalk edges.now walk.items)) }
     {
-        let rest = self.rest[node as usize];
+        let rest = self.rest[node];
         if rest == 0 {
             self.leave(node)?;
             return Ok(None);
         }
         let source = edges[rest - 1].0;
-        match self.states[source as usize] {
+        match self.states[source] {
             State::New => {
                 self.enter(source)?;
                 Ok(None)
             }
             State::OnPath(place) => {
-                let walk = closed_walk(alloc, &self.path, place as usize)?;
+                let walk = closed_walk(alloc, &self.path, place)?;
                 Ok(Some(walk))
             }
             State::Ranked(_) => {
-                self.rest[node as usize] = earlier[rest - 1];
+                self.rest[node] = earlier[rest - 1];
                 Ok(None)
             }
         }
     }
 
     // Puts a new node at the end of the path.
-    fn enter(&mut self, node: u32) -> Result<(), AllocError>
+    fn enter(&mut self, node: usize) -> Result<(), AllocError>
         requires is_node { node < length self.old.states.items }
-        requires countable { length self.old.path.items < 2 ^ 32 }
         ensures { OnOk result (Enters self.old self.new node) }
     {
-        self.states[node as usize] = State::OnPath(self.path.len() as u32);
+        self.states[node] = State::OnPath(self.path.len());
         self.path.push(node)?;
         Ok(())
     }
 
     // Takes the last node of the path from there and ranks it.
-    fn leave(&mut self, node: u32) -> Result<(), AllocError>
+    fn leave(&mut self, node: usize) -> Result<(), AllocError>
         requires is_node { node < length self.old.states.items }
-        requires countable { length self.old.order.items < 2 ^ 32 }
         ensures { OnOk result (Leaves self.old self.new node) }
     {
-        self.states[node as usize] = State::Ranked(self.order.len() as u32);
+        self.states[node] = State::Ranked(self.order.len());
         self.order.push(node)?;
         self.path.pop();
         Ok(())
@@ -147,7 +143,7 @@ impl Search {
 }
 
 // The walk along the edges that a path against the edges makes from this place on.
-fn closed_walk(alloc: Global, path: &[u32], place: usize) -> Result<Vec<u32>, AllocError>
+fn closed_walk(alloc: Global, path: &[usize], place: usize) -> Result<Vec<usize>, AllocError>
     requires { place ≤ length path.now }
     ensures { IfOk result (λ w. w.items ≡ reverse (drop place path.now)) }
 {

@@ -1,9 +1,9 @@
 -- Inner: the plans of pieces, one piece more.
-use Rattle.std.proofs.Common.{◌≡◌, ℕ, ◌+◌, ◌<◌, List, [], ◌∷◌, ◌++◌, length, map, take, get_or, refl, sym, ◌∙◌, ap, arith, subst}
+use Rattle.std.proofs.Common.{◌≡◌, ℕ, ◌+◌, ◌<◌, ◌≤◌, List, [], ◌∷◌, ◌++◌, length, map, take, get_or, refl, sym, ◌∙◌, ap, arith, subst}
 use Rattle.std.specs.Prelude.{flat_map}
 use Rattle.std.specs.List.{AllByRecursion}
 use Rattle.std.proofs.lemmas.Grind.{flat_map-append}
-use Rattle.std.proofs.lemmas.List.{append_assoc, append-nil, get_or-map, length-map, map-append, map_more}
+use Rattle.std.proofs.lemmas.List.{append_assoc, append-nil, get_or-map, length-append, length-map, map-append, map_more}
 use Rattle.std.proofs.lemmas.List.Elements.{All-from_recursion}
 use Rattle.csub_guard.specs.Names.{declared}
 use Rattle.csub_guard.specs.Trees.{Piece, One, If, Program}
@@ -85,6 +85,12 @@ body-gates names pieces b is = record {
   blocks = All-from_recursion BlockGates b.blocks.items (blocks-gates names is.segments b.blocks.items is.blocks);
   last = is.last.tables;
 }
+
+-- the assignments behind the last block are pieces
+pub body-few : (names : List (List ℕ)) (pieces : List Piece) (b : Body) → IsBody names pieces b → b.last.count ≤ length pieces
+body-few names pieces b is =
+    let all = ap length is.split ∙ length-append (flat_map segment_pieces is.segments) (map One is.behind) in
+    omega (arith, all, length-map is.behind One, is.last.counts)
 
 -- there are slots for all names
 pub names-low : (p : Program) (body : Body) (answer : Term) (n : ℕ) → IsEnd p body answer → BodyFits n body → length (declared p) < n

@@ -1,5 +1,5 @@
 -- Inner: a machine and its fields.
-use Rattle.std.proofs.Common.{◌≡◌, ℕ, ◌+◌, ◌<◌, ◌≤◌, ◌^◌, Bool, List, [], ◌∷◌, length, map, take, refl, sym, ◌∙◌, ap, arith, subst}
+use Rattle.std.proofs.Common.{◌≡◌, ℕ, ◌+◌, ◌<◌, ◌≤◌, Bool, List, [], ◌∷◌, length, map, take, refl, sym, ◌∙◌, ap, arith, subst}
 use Rattle.std.proofs.lemmas.List.{length-take-le}
 use Rattle.std.specs.List.{AllByRecursion}
 use Rattle.csub_guard.specs.Machine.{Counted, inputs_of, call}
@@ -20,7 +20,6 @@ use Rattle.guard_run.specs.Insides.{KeepsPlan}
 use Rattle.guard_run.specs.Plans.{IsPlan, IsEnd, first_values}
 use Rattle.guard_run.specs.Runners.{KeepsNames, Reacts, IsFresh}
 use Rattle.guard_run.specs.Runs.{BodyFits, blocks_made, body_made, body_count}
-use Rattle.guard_run.specs.Tracks.{track_total}
 use Rattle.guard_run.proofs.Bodies.{names-low}
 use Rattle.guard_run.proofs.Runs.{tests-low, steps, segments_run, segments_count, stretch-made, blocks-run, Agrees, body-agrees}
 use Rattle.step_run.specs.declared.term.Term.{Term}
@@ -37,14 +36,13 @@ fresh-by code values count is none = record {
 }
 
 pub keeps-by : (inside : Inside) → KeepsNames (program_of inside.program) → IsPlan (program_of inside.program) inside.plan
-    → inside.plan.track.gates.slots ≤ length inside.values.items → track_total inside.plan.track < 2 ^ 64
+    → inside.plan.track.gates.slots ≤ length inside.values.items
     → inside.outputs.items ≡ map (value_at inside.values.items) inside.plan.outputs.items
     → KeepsPlan inside
-keeps-by inside fits plan wide few shown = record {
+keeps-by inside fits plan wide shown = record {
   names_fit = fits;
   plan = plan;
   each_slot = wide;
-  few = few;
   shown = shown ∙ shown-front (shell (program_of inside.program)) inside.plan.outputs.items inside.values.items plan.outputs_are;
 }
 

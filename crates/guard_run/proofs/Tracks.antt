@@ -1,5 +1,5 @@
 -- Inner: what is made on one track is what the plans of the body make.
-use Rattle.std.proofs.Common.{◌≡◌, ℕ, ◌+◌, ◌-◌, ◌<◌, ◌≤◌, Bool, true, false, List, [], ◌∷◌, ◌++◌, All, length, take, drop, get_or}
+use Rattle.std.proofs.Common.{◌≡◌, ℕ, ◌+◌, ◌-◌, ◌^◌, ◌<◌, ◌≤◌, Bool, true, false, List, [], ◌∷◌, ◌++◌, All, length, take, drop, get_or}
 use Rattle.std.proofs.Common.{refl, sym, ◌∙◌, ap, arith, subst, append_assoc}
 use Rattle.std.specs.Prelude.{flat_map, if◌then◌else◌, slice_range}
 use Rattle.std.specs.List.{AllByRecursion}
@@ -17,7 +17,7 @@ use Rattle.guard_run.specs.declared.track.Jump.{Jump}
 use Rattle.guard_run.specs.declared.track.Track.{Track}
 use Rattle.guard_run.specs.Runs.{BodyFits, behind_before, block_made, block_count, blocks_made, blocks_count, body_made, body_count}
 use Rattle.guard_run.specs.Tracks.{block_lookups, jump_at, jumps_at, IsTrack, before_jump, jump_made, jump_place, jump_count, jumps_made, jumps_count}
-use Rattle.guard_run.specs.Tracks.{track_made, track_count, IsInOrder, AreInOrder, jump_total, jumps_total}
+use Rattle.guard_run.specs.Tracks.{track_made, track_count, IsInOrder, AreInOrder}
 use Rattle.guard_run.proofs.Counting.{first-made, second-made, first-counted, second-counted, fits-more}
 
 -- ---- parts of lists
@@ -123,7 +123,8 @@ track-follows (b ∷ blocks) last gates done pending at place values is begins h
         let to : jump_place gates at j values ≡ j.first = ap (λ t. if t then j.first else j.next) found in
         let made_here : jump_made gates at j values ≡ middle =
         ap (λ t. if t then before_jump gates at j values else made (slice_range gates j.second j.first) (before_jump gates at j values)) found ∙ reached in
-        let count : jump_count gates at j values ≡ j.first_count = ap (λ t. if t then j.first_count else j.second_count) found in
+        let count : jump_count gates at j values ≡ j.before_count + j.first_count =
+        ap (λ t. j.before_count + (if t then j.first_count else j.second_count)) found in
         let more = further (up_to ++ second) first j.first (place + length (block_lookups b)) middle first_behind
         (omega (arith, here, longer)) (omega (arith, here, longer, own)) in
         let counts = ap (λ p. jumps_count gates p jumps (jump_made gates at j values)) to ∙ ap (jumps_count gates j.first jumps) made_here ∙ more.counted
@@ -139,7 +140,8 @@ track-follows (b ∷ blocks) last gates done pending at place values is begins h
         let made_here : jump_made gates at j values ≡ made second middle =
         ap (λ t. if t then before_jump gates at j values else made (slice_range gates j.second j.first) (before_jump gates at j values)) found
         ∙ ap (λ l. made l (before_jump gates at j values)) skipped ∙ ap (made second) reached in
-        let count : jump_count gates at j values ≡ j.second_count = ap (λ t. if t then j.first_count else j.second_count) found in
+        let count : jump_count gates at j values ≡ j.before_count + j.second_count =
+        ap (λ t. j.before_count + (if t then j.first_count else j.second_count)) found in
         let more = further ((up_to ++ second) ++ first) [] j.next (place + length (block_lookups b)) (made second middle)
         rest_behind (omega (arith, here, longest, own)) (omega (arith, here, longest, own)) in
         let counts = ap (λ p. jumps_count gates p jumps (jump_made gates at j values)) to ∙ ap (jumps_count gates j.next jumps) made_here ∙ more.counted
@@ -241,7 +243,7 @@ jumps-next blocks i b gates old new j low at is before own more =
 
 -- what stands at no place
 abbrev pub no_jump : Jump
-no_jump = record { test = 0; second = 0; first = 0; next = 0; first_count = 0; second_count = 0 }
+no_jump = record { test = 0; second = 0; first = 0; next = 0; before_count = 0; first_count = 0; second_count = 0 }
 
 pub jump-here : (jumps taken : List Jump) (i : ℕ) → taken ≡ jumps → i < length taken → get_or taken i no_jump ≡ get_or jumps i (get_or taken i no_jump)
 jump-here jumps taken i same low = get_or_default taken i no_jump (get_or taken i no_jump) low ∙ ap (λ l. get_or l i (get_or taken i no_jump)) same
@@ -286,6 +288,6 @@ module _ (gates : List Lookup) where
       ≡ jump_count gates at j values + jumps_count gates (jump_place gates at j values) (drop (i + 1) jumps) (jump_made gates at j values)
   counted-next at jumps i j values low is = ap (λ l. jumps_count gates at l values) (drop-at jumps i j low is)
 
-pub total-next : (jumps : List Jump) (i : ℕ) (j : Jump) → i < length jumps → j ≡ get_or jumps i j
-    → jumps_total (drop i jumps) ≡ jump_total j + jumps_total (drop (i + 1) jumps)
-total-next jumps i j low is = ap jumps_total (drop-at jumps i j low is)
+-- no more of them than memory has room for
+pub few-jumps : (t : Track) → length t.jumps.items < 2 ^ 63
+few-jumps t = omega (arith, t.jumps.ok.0, t.jumps.ok.1, t.jumps.small)

@@ -1,11 +1,10 @@
 -- Inner: the fields of a machine.
-use Rattle.std.specs.Prelude.{◌≡◌, ◌<◌, ◌≤◌, ◌^◌, length, take}
+use Rattle.std.specs.Prelude.{◌≡◌, ◌≤◌, length, take}
 use Rattle.csub_guard.specs.Names.{declared}
 use Rattle.csub_guard.specs.Views.{program_of}
 use Rattle.guard_run.specs.declared.runner.GuardedRunner.TheInside.{Inside}
 use Rattle.guard_run.specs.Plans.{IsPlan}
 use Rattle.guard_run.specs.Runners.{Runner, KeepsNames, outputs_shown}
-use Rattle.guard_run.specs.Tracks.{track_total}
 
 -- the values of the declared variables, which have the first slots
 abbrev pub runner_of : Inside → Runner
@@ -15,11 +14,9 @@ runner_of r = record {
   count = r.count;
 }
 
--- The plan is the program's, each slot has a value, a counter holds the number of all assignments, and the outputs are
--- those of the memory.
+-- The plan is the program's, each slot has a value, and the outputs are those of the memory.
 pub record KeepsPlan (r : Inside) : Type 0 where
   pub names_fit : KeepsNames (program_of r.program)
   pub plan : IsPlan (program_of r.program) r.plan
   pub each_slot : r.plan.track.gates.slots ≤ length r.values.items
-  pub few : track_total r.plan.track < 2 ^ 64
   pub shown : r.outputs.items ≡ outputs_shown (runner_of r)

@@ -33,8 +33,9 @@ jump_at at b = record {
   second = at + length b.before.plan.lookups;
   first = at + length b.before.plan.lookups + length b.second.plan.lookups;
   next = at + length (block_lookups b);
-  first_count = b.before.count + b.first.count;
-  second_count = b.before.count + b.second.count;
+  before_count = b.before.count;
+  first_count = b.first.count;
+  second_count = b.second.count;
 }
 
 abbrev pub jumps_at : ℕ → List Block → List Jump
@@ -64,7 +65,8 @@ module _ (gates : List Lookup) where
   jump_place at j values = if value_at (before_jump at j values) j.test then j.first else j.next
 
   abbrev pub jump_count : ℕ → Jump → List Bool → ℕ
-  jump_count at j values = if value_at (before_jump at j values) j.test then j.first_count else j.second_count
+  jump_count at j values =
+      j.before_count + (if value_at (before_jump at j values) j.test then j.first_count else j.second_count)
 
   abbrev pub jumps_made : ℕ → List Jump → List Bool → List Bool
   jumps_made at [] values = made (slice_range gates at (length gates)) values
@@ -91,14 +93,3 @@ pub record IsInOrder (n at : ℕ) (j : Jump) : Type 0 where
 abbrev pub AreInOrder : ℕ → ℕ → List Jump → Type 0
 AreInOrder n at [] = at ≤ n
 AreInOrder n at (j ∷ jumps) = IsInOrder n at j × AreInOrder n j.next jumps
-
--- all assignments, of both halves
-abbrev pub jump_total : Jump → ℕ
-jump_total j = j.first_count + j.second_count
-
-abbrev pub jumps_total : List Jump → ℕ
-jumps_total [] = 0
-jumps_total (j ∷ jumps) = jump_total j + jumps_total jumps
-
-abbrev pub track_total : Track → ℕ
-track_total t = jumps_total t.jumps.items + t.behind

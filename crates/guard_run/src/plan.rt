@@ -1,6 +1,6 @@
 // What a call does, with the names resolved.
 
-ghost use Rattle.std.specs.Prelude.{◌≡◌, ◌<◌, ◌≤◌, List, [], ◌∷◌, ◌++◌, map, length, IfOk, OnOk};
+ghost use Rattle.std.specs.Prelude.{◌≡◌, ◌+◌, ◌<◌, ◌≤◌, ◌^◌, List, [], ◌∷◌, ◌++◌, map, length, IfOk, OnOk};
 ghost use Rattle.csub_guard.specs.Machine.{inputs_of, outputs_of};
 ghost use Rattle.csub_guard.specs.Names.{declared};
 ghost use Rattle.csub_guard.specs.Trees.{Piece as PlainPiece};
@@ -140,7 +140,8 @@ fn answer_of(last: &mut Stretch, slots: &IndexSet<&[u8]>, value: &Expr) -> Resul
 
 // The plans of pieces.
 fn body_of(alloc: Global, slots: &IndexSet<&[u8]>, pieces: &[Piece]) -> Result<Body, NoMemory>
-    requires { AllTargets (map (λ k. k.now) slots.now.keys) (map piece_of pieces.now) }
+    requires fits { AllTargets (map (λ k. k.now) slots.now.keys) (map piece_of pieces.now) }
+    requires few { length pieces.now < 2 ^ 64 }
     ensures { IfOk result (λ b. IsBody (map (λ k. k.now) slots.now.keys) (map piece_of pieces.now) b) }
 {
     let mut body = Body {
@@ -162,6 +163,7 @@ fn push_piece(
 ) -> Result<(), NoMemory>
     requires fits { PieceFits (map (λ k. k.now) slots.now.keys) (piece_of piece.now) }
     requires named { body.old.last.plan.named ≡ length slots.now.keys }
+    requires few { body.old.last.count + 1 < 2 ^ 64 }
     ensures { OnOk result ((pieces : List PlainPiece) → IsBody (map (λ k. k.now) slots.now.keys) pieces body.old
         → IsBody (map (λ k. k.now) slots.now.keys) (pieces ++ piece_of piece.now ∷ []) body.new) }
 {
@@ -243,16 +245,16 @@ fn no_steps(alloc: Global, slots: &IndexSet<&[u8]>) -> Result<Stretch, NoMemory>
     Ok(Stretch { plan, count: 0 })
 }
 
-// One step more. That there are more than a counter holds is want of memory.
+// One step more.
 fn push_one(stretch: &mut Stretch, slots: &IndexSet<&[u8]>, assign: &Assign) -> Result<(), NoMemory>
     requires low { slot_in (map (λ k. k.now) slots.now.keys) assign.now.to < length slots.now.keys }
     requires named { stretch.old.plan.named ≡ length slots.now.keys }
+    requires few { stretch.old.count + 1 < 2 ^ 64 }
     ensures { OnOk result ((assigns : List PlainAssign)
         → IsStretch (map (λ k. k.now) slots.now.keys) assigns stretch.old
         → IsStretch (map (λ k. k.now) slots.now.keys) (assigns ++ assign_of assign.now ∷ []) stretch.new) }
 {
-    let count = stretch.count.checked_add(1).ok_or(NoMemory)?;
     push_assign(&mut stretch.plan, slots, assign)?;
-    stretch.count = count;
+    stretch.count += 1;
     Ok(())
 }

@@ -1,7 +1,7 @@
 // Runs of bodies.
 
 ghost use Rattle.std.specs.Prelude.{◌≡◌, ◌+◌, ◌≤◌, ◌<◌, ◌^◌, length, All};
-ghost use Rattle.guard_run.specs.Tracks.{AreInOrder, IsInOrder, jump_total, track_total};
+ghost use Rattle.guard_run.specs.Tracks.{AreInOrder, IsInOrder};
 ghost use Rattle.guard_run.specs.Tracks.{jump_made, jump_place, jump_count, track_made, track_count};
 
 use crate::track::{Jump, Track};
@@ -11,15 +11,14 @@ use step_run::Gates;
 #[derive(Clone, Copy)]
 struct Reached {
     place: usize,
-    count: u64,
+    count: u128,
 }
 
 // Runs a body, one half of each block: the number of the assignments that were run. It takes no memory.
-pub fn run_track(track: &Track, values: &mut [bool]) -> u64
+pub fn run_track(track: &Track, values: &mut [bool]) -> u128
     requires fits { track.now.gates.slots ≤ length values.old }
     requires order { AreInOrder (length track.now.gates.lookups) 0 track.now.jumps.items }
     requires tests { All (λ j. j.test < length values.old) track.now.jumps.items }
-    requires few { track_total track.now < 2 ^ 64 }
     ensures values { values.new ≡ track_made track.now values.old }
     ensures count { result ≡ track_count track.now values.old }
 {
@@ -28,7 +27,7 @@ pub fn run_track(track: &Track, values: &mut [bool]) -> u64
         reached = run_jump(&track.gates, jump, reached, values);
     }
     track.gates.run(reached.place, track.gates.len(), values);
-    reached.count + track.behind
+    reached.count + u128::from(track.behind)
 }
 
 // Makes the gates up to a block, and those of its second half where the first is skipped. Else the first half is to be
@@ -37,24 +36,25 @@ fn run_jump(gates: &Gates, jump: &Jump, reached: Reached, values: &mut [bool]) -
     requires order { IsInOrder (length gates.now.lookups) reached.place jump.now }
     requires fits { gates.now.slots ≤ length values.old }
     requires test { jump.now.test < length values.old }
-    requires few { reached.count + jump_total jump.now < 2 ^ 64 }
+    requires few { reached.count + 2 ^ 65 ≤ 2 ^ 128 }
     ensures values { values.new ≡ jump_made gates.now.lookups reached.place jump.now values.old }
     ensures place { result.place ≡ jump_place gates.now.lookups reached.place jump.now values.old }
     ensures count { result.count
         ≡ reached.count + jump_count gates.now.lookups reached.place jump.now values.old }
-    ensures most { result.count ≤ reached.count + jump_total jump.now }
+    ensures most { result.count ≤ reached.count + 2 ^ 65 }
 {
-    gates.run(reached.place, jump.second as usize, values);
-    if values[jump.test as usize] {
+    gates.run(reached.place, jump.second, values);
+    let before = reached.count + u128::from(jump.before_count);
+    if values[jump.test] {
         Reached {
-            place: jump.first as usize,
-            count: reached.count + u64::from(jump.first_count),
+            place: jump.first,
+            count: before + u128::from(jump.first_count),
         }
     } else {
-        gates.run(jump.second as usize, jump.first as usize, values);
+        gates.run(jump.second, jump.first, values);
         Reached {
-            place: jump.next as usize,
-            count: reached.count + u64::from(jump.second_count),
+            place: jump.next,
+            count: before + u128::from(jump.second_count),
         }
     }
 }

@@ -1,17 +1,15 @@
 // The machine of a guarded program.
 
-ghost use Rattle.std.specs.Prelude.{◌≡◌, ◌<◌, ◌^◌, map, length, take, IfOk};
+ghost use Rattle.std.specs.Prelude.{◌≡◌, map, length, take, IfOk};
 ghost use Rattle.csub_guard.specs.Machine.{inputs_of};
 ghost use Rattle.csub_guard.specs.Names.{declared};
 ghost use Rattle.csub_guard.specs.Views.{program_of};
 ghost use Rattle.guard_run.specs.Plans.{IsPlan, first_values};
 ghost use Rattle.guard_run.specs.Runners.{KeepsNames, program_in, Reacts, Resets, IsFresh, outputs_shown};
-ghost use Rattle.guard_run.specs.Tracks.{track_total};
 ghost use Rattle.step_run.specs.Slots.{value_at};
 
 use crate::plan::{CallPlan, plan_of};
 use crate::run::run_track;
-use crate::track::total_of;
 use csub_guard::GuardedProgram;
 use csub_run::{put_front, put_values};
 use est_base::NoMemory;
@@ -28,7 +26,7 @@ pub struct GuardedRunner {
     // The value of each slot.
     values: Vec<bool>,
     outputs: Vec<bool>,
-    count: u64,
+    count: u128,
 }
 
 impl Model for GuardedRunner {
@@ -50,7 +48,7 @@ impl Model for GuardedRunner {
 
 impl GuardedRunner {
     /// The machine of a program before its first call. The program keeps the rules on names, as each one does that some
-    /// text describes. Want of memory is the only error, which also 2^32 gates or assignments are.
+    /// text describes. Want of memory is the only error.
     pub fn new(alloc: Global, program: GuardedProgram) -> Result<GuardedRunner, NoMemory>
         requires { KeepsNames (program_of program) }
         ensures program { IfOk result (λ r. r.code ≡ program) }
@@ -91,7 +89,7 @@ impl GuardedRunner {
 
     /// The number of assignments that the last call ran; 0 before the first call and behind a reset. It takes no
     /// memory.
-    pub fn count(&self) -> u64
+    pub fn count(&self) -> u128
         ensures { result ≡ self.now.count }
     {
         self.count
@@ -126,14 +124,12 @@ struct Parts {
 fn runner_parts(alloc: Global, program: &GuardedProgram) -> Result<Parts, NoMemory>
     requires { KeepsNames (program_of program.now) }
     ensures plan { IfOk result (λ p. IsPlan (program_of program.now) p.plan) }
-    ensures few { IfOk result (λ p. track_total p.plan.track < 2 ^ 64) }
     ensures slots { IfOk result (λ p. length p.values.items ≡ p.plan.track.gates.slots) }
     ensures values { IfOk result (λ p. take (length (declared (program_of program.now))) p.values.items
         ≡ first_values (program_of program.now)) }
     ensures outputs { IfOk result (λ p. p.outputs.items ≡ map (value_at p.values.items) p.plan.outputs.items) }
 {
     let plan = plan_of(alloc, program)?;
-    total_of(&plan.track).ok_or(NoMemory)?;
     let mut values = vec![in alloc; false; plan.track.gates.slots()]?;
     put_front(&mut values, &plan.initial);
     let mut outputs = vec![in alloc; false; plan.outputs.len()]?;

@@ -119,8 +119,12 @@ impl Runner for GuardedMachine {
 }
 
 // The sum of a number and a count, where a counter holds it.
-fn sum_of(total: Option<u64>, count: u64) -> Option<u64>
+fn sum_of(total: Option<u64>, count: u128) -> Option<u64>
     ensures { IsSum total count result }
 {
-    total?.checked_add(count)
+    let sum = u128::from(total?).checked_add(count)?;
+    match u64::try_from(sum) {
+        Ok(sum) => Some(sum),
+        Err(_) => None,
+    }
 }

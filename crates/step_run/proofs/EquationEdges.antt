@@ -9,6 +9,7 @@ use Rattle.std.proofs.lemmas.List.Elements.{Contains-append_left, Contains-appen
 use Rattle.std.proofs.lemmas.List.Elements.{All-from_recursion, All-map, recursion_from_All}
 use Rattle.facts.proofs.Lists.{contains-later}
 use Rattle.digraph.specs.Walks.{HasEdge, JoinsNodes, IsClosedWalk}
+use Rattle.digraph.proofs.Exports.{walk-within}
 use Rattle.net_ir.specs.NameLists.{is_among}
 use Rattle.net_ir.proofs.Exports.{found-low, found-at, place-among}
 use Rattle.step_run.specs.Slots.{slot_in}
@@ -119,21 +120,6 @@ edges-join-of items first vs within =
     let parts = All-map (λ slots. All (λ slot. slot < first + length vs) slots) items vs within in
     subst (λ m. JoinsNodes m (edges_from first 0 (map items vs))) n
     (edges-join first (map items vs) (subst (λ m. All (λ slots. All (λ slot. slot < first + m) slots) (map items vs)) (sym n) parts))
-
--- the nodes of a walk are ends of edges
-pub walk-within : (count : ℕ) (edges : List (ℕ × ℕ)) (walk : List ℕ) → JoinsNodes count edges → IsClosedWalk edges walk → All (λ t. t < count) walk
-walk-within count edges walk joins closed k d h =
-    let at : get_or walk k d ≡ get_or walk k 0 = get_or_default walk k d 0 h in
-    let begins : (a b : ℕ) → HasEdge edges a b → a < count = λ a b e.
-    let inside = (joins e.0 (a, b) e.1).0 in
-    let is = ap (λ (x : ℕ × ℕ). x.0) e.2 in
-    omega (arith, is, inside) in
-    elim (cases_lt (k + 1) (length walk)) [
-      | inl low ↦ rw at (begins _ _ (closed.steps k low))
-      | inr last ↦
-          let n : length walk - 1 ≡ k = omega arith in
-          rw at (begins _ _ (subst (λ m. HasEdge edges (get_or walk m 0) (get_or walk 0 0)) n closed.closes))
-    ]
 
 module _ (given : List (List ℕ)) (equations : List Equation) (sound : AreSound given equations) where
   abbrev names : List (List ℕ)

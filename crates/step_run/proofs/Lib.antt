@@ -1,6 +1,7 @@
 mod Makings
 mod TermValues
 mod RecordLists
+mod GateParts
 mod Pushes
 mod Places
 mod Settling

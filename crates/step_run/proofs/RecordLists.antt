@@ -20,9 +20,9 @@ gates-made (g ∷ gates) values =
 pub stretches-made : (stretches : List Stretch) (values : List Bool) → stretches_made stretches values ≡ made (flat_map stretch_lookups stretches) values
 stretches-made [] values = refl
 stretches-made (s ∷ stretches) values =
-    let gates = map gate_lookup s.gates.items in
-    stretches-made stretches (lookup_made (plain_lookup s.last) (gates_made s.gates.items values))
-    ∙ ap (λ w. made (flat_map stretch_lookups stretches) (lookup_made (plain_lookup s.last) w)) (gates-made s.gates.items values)
+    let gates = map gate_lookup s.gates in
+    stretches-made stretches (lookup_made (plain_lookup s.last) (gates_made s.gates values))
+    ∙ ap (λ w. made (flat_map stretch_lookups stretches) (lookup_made (plain_lookup s.last) w)) (gates-made s.gates values)
     ∙ ap (made (flat_map stretch_lookups stretches)) (sym (made-append gates (plain_lookup s.last ∷ []) values))
     ∙ sym (made-append (stretch_lookups s) (flat_map stretch_lookups stretches) values)
 
@@ -43,7 +43,7 @@ gate-more stretches gates new g more =
 
 -- one stretch more, which ends in a lookup that is no gate
 pub stretch-more : (stretches new_stretches : List Stretch) (gates new_gates : List Gate) (s : Stretch) (l : Lookup)
-    → new_stretches ≡ stretches ++ s ∷ [] → new_gates ≡ [] → s.gates.items ≡ gates → plain_lookup s.last ≡ l
+    → new_stretches ≡ stretches ++ s ∷ [] → new_gates ≡ [] → s.gates ≡ gates → plain_lookup s.last ≡ l
     → flat_map stretch_lookups new_stretches ++ map gate_lookup new_gates ≡ (flat_map stretch_lookups stretches ++ map gate_lookup gates) ++ l ∷ []
 stretch-more stretches new_stretches gates new_gates s l more none same last =
     let front = flat_map stretch_lookups stretches in

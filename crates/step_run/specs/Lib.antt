@@ -3,6 +3,7 @@ pub mod Equations
 pub mod Steps
 pub mod Plans
 pub mod Records
+pub mod GateLists
 pub mod Order
 pub mod Solvers
 pub mod Registers

@@ -3,6 +3,7 @@ use Rattle.std.specs.Prelude.{◌≡◌, ℕ, ◌/◌, ◌%◌, ◌^◌, ◌<◌
 use Rattle.std.specs.Prelude.{All, length, map, flat_map, slice_set}
 use Rattle.step_run.specs.declared.term.Term.{Term}
 use Rattle.step_run.specs.declared.gate.Gate.{Gate}
+use Rattle.step_run.specs.declared.gate.NarrowGate.{NarrowGate}
 use Rattle.step_run.specs.declared.lookup.Lookup.{Lookup as CodeLookup}
 use Rattle.step_run.specs.declared.plan.Stretch.{Stretch}
 use Rattle.step_run.specs.declared.plan.Plan.TheInside.{Inside}
@@ -21,6 +22,10 @@ digit_at n k = n / 2 ^ k % 2 == 1
 -- the digit that the values of the two slots lead to
 abbrev pub gate_value : Gate → List Bool → Bool
 gate_value g values = digit_at g.truth (number_of (value_at values g.left ∷ value_at values g.right ∷ []))
+
+-- the gate that a record of 16 bytes stands for
+abbrev pub widened : NarrowGate → Gate
+widened n = record { output = n.output; left = n.left; right = n.right; truth = n.truth }
 
 abbrev pub gate_lookup : Gate → Lookup
 gate_lookup g = record { output = g.output; reads = g.left ∷ g.right ∷ []; truth = digits 4 g.truth }
@@ -42,7 +47,7 @@ pub record LookupFits (slots : ℕ) (l : Lookup) : Type 0 where
   pub few : length l.reads ≤ 8
 
 pub record StretchFits (slots : ℕ) (s : Stretch) : Type 0 where
-  pub gates_fit : All (GateFits slots) s.gates.items
+  pub gates_fit : All (GateFits slots) s.gates
   pub last_fits : LookupFits slots (plain_lookup s.last)
 
 -- ---- what the code does
@@ -54,19 +59,19 @@ gates_made (g ∷ gates) values = gates_made gates (slice_set values g.output (g
 abbrev pub stretches_made : List Stretch → List Bool → List Bool
 stretches_made [] values = values
 stretches_made (s ∷ stretches) values =
-    stretches_made stretches (lookup_made (plain_lookup s.last) (gates_made s.gates.items values))
+    stretches_made stretches (lookup_made (plain_lookup s.last) (gates_made s.gates values))
 
 -- ---- the plan that callers see
 
 abbrev pub stretch_lookups : Stretch → List Lookup
-stretch_lookups s = map gate_lookup s.gates.items ++ plain_lookup s.last ∷ []
+stretch_lookups s = map gate_lookup s.gates ++ plain_lookup s.last ∷ []
 
 abbrev pub plan_of : Inside → Planned
 plan_of p = record {
   named = p.named;
   free = p.free;
   slots = p.slots;
-  lookups = flat_map stretch_lookups p.stretches.items ++ map gate_lookup p.gates.items;
+  lookups = flat_map stretch_lookups p.stretches.items ++ map gate_lookup p.gates;
   tables = length p.stretches.items;
 }
 
@@ -75,12 +80,12 @@ pub record AreWithin (p : Inside) : Type 0 where
   pub named_low : p.named < p.free
   pub free_low : p.free ≤ p.slots
   pub stretches_fit : All (StretchFits p.slots) p.stretches.items
-  pub gates_fit : All (GateFits p.slots) p.gates.items
+  pub gates_fit : All (GateFits p.slots) p.gates
 
 -- ---- the gates that callers see
 
 abbrev pub gates_of : GatesInside → Listed
-gates_of g = record { slots = g.slots; lookups = map gate_lookup g.gates.items }
+gates_of g = record { slots = g.slots; lookups = map gate_lookup g.gates }
 
 abbrev pub AreFitting : GatesInside → Type 0
-AreFitting g = All (GateFits g.slots) g.gates.items
+AreFitting g = All (GateFits g.slots) g.gates

@@ -3,7 +3,7 @@
 ghost use Rattle.std.specs.Prelude.{◌≡◌, ◌≤◌, [], ◌++◌, length, max, slice_range, OnOk};
 ghost use Rattle.step_run.specs.Plans.{made};
 
-use crate::gate::{Gate, make_gates};
+use crate::gate_list::GateList;
 use crate::plan::Plan;
 use est_base::NoMemory;
 use std::alloc::Global;
@@ -14,7 +14,7 @@ use std::marker::Model;
 #[derive(Drop)]
 pub struct Gates {
     slots: usize,
-    gates: Vec<Gate>,
+    gates: GateList,
 }
 
 impl Model for Gates {
@@ -37,7 +37,7 @@ impl Gates {
     {
         Gates {
             slots: 0,
-            gates: Vec::new(alloc),
+            gates: GateList::new(alloc),
         }
     }
 
@@ -47,8 +47,8 @@ impl Gates {
         ensures slots { OnOk result (self.new.slots ≡ max self.old.slots plan.now.slots) }
         ensures lookups { OnOk result (self.new.lookups ≡ self.old.lookups ++ plan.now.lookups) }
     {
-        self.gates.extend_from_slice(plan.gates())?;
         self.slots = self.slots.max(plan.slots());
+        self.gates.append(plan.gates())?;
         Ok(())
     }
 
@@ -73,6 +73,6 @@ impl Gates {
         requires fits { self.now.slots ≤ length values.old }
         ensures { values.new ≡ made (slice_range self.now.lookups from to) values.old }
     {
-        make_gates(&self.gates[from..to], values);
+        self.gates.make_part(from, to, values);
     }
 }

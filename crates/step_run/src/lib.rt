@@ -11,6 +11,7 @@
 
 mod expressions;
 mod gate;
+mod gate_list;
 mod gates;
 mod lookup;
 mod order;

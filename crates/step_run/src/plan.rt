@@ -6,7 +6,8 @@ ghost use Rattle.step_run.specs.Plans.{Adds, AddsTerm, Joins, Makes, Says, TermF
 ghost use Rattle.step_run.specs.Plans.{IsOperand, IsTable, Tabulates};
 ghost use Rattle.step_run.specs.Records.{GateFits, StretchFits, gate_lookup, stretches_made};
 
-use crate::gate::{Gate, gate_of, make_gates};
+use crate::gate::gate_of;
+use crate::gate_list::GateList;
 use crate::lookup::{Lookup, lookup_value};
 use crate::term::{Junction, Term, pair};
 use est_base::NoMemory;
@@ -17,7 +18,7 @@ use std::mem;
 /// Gates, and behind them a lookup that is none.
 #[derive(Drop)]
 pub struct Stretch {
-    pub gates: Vec<Gate>,
+    pub gates: GateList,
     pub last: Lookup,
 }
 
@@ -25,12 +26,12 @@ pub struct Stretch {
 /// many of the lookups are no gates (`Planned`).
 #[derive(Drop)]
 pub struct Plan {
-    named: u32,
-    free: u32,
-    slots: u32,
+    named: usize,
+    free: usize,
+    slots: usize,
     stretches: Vec<Stretch>,
     // The gates behind the last stretch.
-    gates: Vec<Gate>,
+    gates: GateList,
 }
 
 impl Model for Plan {
@@ -46,23 +47,20 @@ impl Model for Plan {
 }
 
 impl Plan {
-    /// A plan without a step, where so many slots have names. Its only error is want of memory, which also more than
-    /// 2^32 slots are.
+    /// A plan without a step, where so many slots have names. Its only error is want of memory: none holds a value for
+    /// each of 2^64 slots.
     pub fn new(alloc: Global, named: usize) -> Result<Plan, NoMemory>
         ensures named { IfOk result (λ p. p.named ≡ named) }
         ensures tables { IfOk result (λ p. p.tables ≡ 0) }
         ensures makes { IfOk result (λ p. Makes p []) }
     {
-        let Ok(named) = u32::try_from(named) else {
-            return Err(NoMemory);
-        };
         let free = named.checked_add(1).ok_or(NoMemory)?;
         Ok(Plan {
             named,
             free,
             slots: free,
             stretches: Vec::new(alloc),
-            gates: Vec::new(alloc),
+            gates: GateList::new(alloc),
         })
     }
 
@@ -71,13 +69,12 @@ impl Plan {
         ensures slots { result ≡ self.now.slots }
         ensures names { self.now.named < self.now.free }
         ensures free { self.now.free ≤ self.now.slots }
-        ensures few { result < 2 ^ 32 }
     {
-        self.slots as usize
+        self.slots
     }
 
     // The gates, where no lookup is anything else.
-    pub(crate) fn gates(&self) -> &[Gate]
+    pub(crate) fn gates(&self) -> &GateList
         requires { self.now.tables ≡ 0 }
         ensures lookups { map gate_lookup result.now ≡ self.now.lookups }
         ensures fit { All (GateFits self.now.slots) result.now }
@@ -101,7 +98,7 @@ impl Plan {
         ensures { OnOk result (Adds (table_step output reads.now truth.now) self.old self.new) }
     {
         self.slots();
-        match table_term(output as u32, reads, truth) {
+        match table_term(output, reads, truth) {
             Some(term) => self.push_term(output, term),
             None => self.push_lookup(alloc, output, reads, truth),
         }
@@ -126,7 +123,7 @@ impl Plan {
             reads: Vec::from_slice(alloc, reads)?,
             truth: Vec::from_slice(alloc, truth)?,
         };
-        let gates = mem::replace(&mut self.gates, Vec::new(alloc));
+        let gates = mem::replace(&mut self.gates, GateList::new(alloc));
         self.stretches.push(Stretch { gates, last })?;
         self.free = self.named + 1;
         Ok(())
@@ -143,8 +140,8 @@ impl Plan {
     pub fn copied(&self, slot: usize) -> Term
         ensures { Says self.now result (λ values. value_at values slot) }
     {
-        if slot < self.named as usize {
-            Term::unary(slot as u32, false, true)
+        if slot < self.named {
+            Term::unary(slot, false, true)
         } else {
             Term::unary(self.named, false, false)
         }
@@ -184,7 +181,7 @@ impl Plan {
         requires fits { TermFits self.old.free term }
         ensures { OnOk result (AddsTerm output term self.old self.new) }
     {
-        self.gates.push(gate_of(output as u32, &term))?;
+        self.gates.push(gate_of(output, &term))?;
         self.free = self.named + 1;
         Ok(())
     }
@@ -195,7 +192,7 @@ impl Plan {
         ensures { values.new ≡ made self.now.lookups values.old }
     {
         make_stretches(&self.stretches, values);
-        make_gates(&self.gates, values);
+        self.gates.make_all(values);
     }
 }
 
@@ -204,26 +201,25 @@ fn make_stretches(stretches: &[Stretch], values: &mut [bool])
     ensures { values.new ≡ stretches_made stretches.now values.old }
 {
     for stretch in stretches {
-        make_gates(&stretch.gates, values);
+        stretch.gates.make_all(values);
         let value = lookup_value(&stretch.last, values);
         values[stretch.last.output] = value;
     }
 }
 
 // The term of a table that reads at most two slots. One that reads none has the slot of its output.
-fn table_term(output: u32, reads: &[usize], truth: &[bool]) -> Option<Term>
-    requires { All (λ slot. slot < 2 ^ 32) reads.now }
+fn table_term(output: usize, reads: &[usize], truth: &[bool]) -> Option<Term>
     ensures { IfSome result (IsTable output reads.now truth.now) }
 {
     match reads {
         [] => constant_term(output, truth),
-        [slot] => unary_term(*slot as u32, truth),
-        [left, right] => binary_term(*left as u32, *right as u32, truth),
+        [slot] => unary_term(*slot, truth),
+        [left, right] => binary_term(*left, *right, truth),
         _ => None,
     }
 }
 
-fn constant_term(slot: u32, truth: &[bool]) -> Option<Term>
+fn constant_term(slot: usize, truth: &[bool]) -> Option<Term>
     ensures { IfSome result (Tabulates slot slot [] truth.now) }
 {
     if truth.len() != 1 {
@@ -232,7 +228,7 @@ fn constant_term(slot: u32, truth: &[bool]) -> Option<Term>
     Some(Term::unary(slot, truth[0], truth[0]))
 }
 
-fn unary_term(slot: u32, truth: &[bool]) -> Option<Term>
+fn unary_term(slot: usize, truth: &[bool]) -> Option<Term>
     ensures { IfSome result (Tabulates slot slot (slot ∷ []) truth.now) }
 {
     if truth.len() != 2 {
@@ -241,7 +237,7 @@ fn unary_term(slot: u32, truth: &[bool]) -> Option<Term>
     Some(Term::unary(slot, truth[0], truth[1]))
 }
 
-fn binary_term(left: u32, right: u32, truth: &[bool]) -> Option<Term>
+fn binary_term(left: usize, right: usize, truth: &[bool]) -> Option<Term>
     ensures { IfSome result (Tabulates left right (left ∷ right ∷ []) truth.now) }
 {
     if truth.len() != 4 {

@@ -15,8 +15,8 @@ pub enum Junction {
 /// 1, where the second alone is, and where both are.
 #[derive(Clone, Copy)]
 pub struct Term {
-    pub left: u32,
-    pub right: u32,
+    pub left: usize,
+    pub right: usize,
     pub neither: bool,
     pub first: bool,
     pub second: bool,
@@ -25,7 +25,7 @@ pub struct Term {
 
 impl Term {
     // The value `low` where the slot is 0, and `high` where it is 1.
-    pub(crate) fn unary(slot: u32, low: bool, high: bool) -> Term
+    pub(crate) fn unary(slot: usize, low: bool, high: bool) -> Term
         ensures left { result.left ≡ slot }
         ensures right { result.right ≡ slot }
         ensures value { (values : List Bool)
@@ -62,8 +62,8 @@ impl Term {
         requires { TermFits (length values.now) self.now }
         ensures { result ≡ term_value self.now values.now }
     {
-        let left = values[self.left as usize];
-        let right = values[self.right as usize];
+        let left = values[self.left];
+        let right = values[self.right];
         match (left, right) {
             (false, false) => self.neither,
             (true, false) => self.first,

@@ -1,34 +1,17 @@
-use Rattle.std.proofs.Common.{ℕ, ◌<◌, [], arith}
-use Rattle.std.proofs.lemmas.Bool.{false≢true}
-use Rattle.digraph.specs.Searches.{IsSearch}
-use Rattle.digraph.proofs.Ends.{All-ranked, AreRanks-ended, IsOrderOf-ended}
-use Rattle.digraph.proofs.Rising.{no_closed_walk}
+use Rattle.std.proofs.Common.{◌∙◌, ◌<◌, All, sym, subst, arith}
+use Rattle.digraph.specs.Answers.{IsWideAnswer}
+use Rattle.digraph.specs.Walks.{IsClosedWalk}
+use Rattle.digraph.specs.declared.wide.WideRanksOrCycle.TheVariants.{Cycle}
+use Rattle.digraph.proofs.Rising.{walk-within}
 use Rattle.digraph.proofs.ranking.ranks_or_cycle.Goals as goal
 
-pub ranks_of-requires : goal.ranks_of-requires
-ranks_of-requires c =
-    let s = c.loop-root.search in
-    let inv = c.loop-root.invariant in
-    let ended : IsSearch c.args.count c.args.edges.now s.states.items s.rest.items [] s.order.items = rw inv.between at inv.search in
-    rw c.deref-2.ensures.value (All-ranked c.args.count c.args.edges.now s.states.items s.rest.items s.order.items ended c.requires
-    (λ node low. inv.met node (omega arith)))
-
-pub returns-clause-found : goal.returns-clause-found
-returns-clause-found c =
-    let s = c.loop-root.search in
-    let inv = c.loop-root.invariant in
-    let ended : IsSearch c.args.count c.args.edges.now s.states.items s.rest.items [] s.order.items = rw inv.between at inv.search in
-    let met = λ (node : ℕ) (low : node < c.args.count). inv.met node (omega arith) in
-    rw (c.in_ok-ranks_of.ensures, c.deref-2.ensures.value) (
-      AreRanks-ended c.args.count c.args.edges.now s.states.items s.rest.items s.order.items ended c.requires met,
-      IsOrderOf-ended c.args.count c.args.edges.now s.states.items s.rest.items s.order.items ended c.requires met,
-    )
-
-pub returns-clause-cyclic : goal.returns-clause-cyclic
-returns-clause-cyclic c =
-    let s = c.loop-root.search in
-    let inv = c.loop-root.invariant in
-    let ended : IsSearch c.args.count c.args.edges.now s.states.items s.rest.items [] s.order.items = rw inv.between at inv.search in
-    let met = λ (node : ℕ) (low : node < c.args.count). inv.met node (omega arith) in
-    let ranks = AreRanks-ended c.args.count c.args.edges.now s.states.items s.rest.items s.order.items ended c.requires met in
-    (λ e. absurd (false≢true e), λ w. absurd (no_closed_walk c.args.count c.args.edges.now _ ranks w.0 w.1))
+pub narrowed-requires-in-Cycle : goal.narrowed-requires-in-Cycle
+narrowed-requires-in-Cycle c =
+    let edges = c.args.edges.now in
+    let walk = c.in-Cycle.walk.items in
+    let nodes = c.deref.ensures.value ∙ c.in_ok-pairs.ensures in
+    let found : IsWideAnswer c.args.count c.deref.result.now (Cycle c.in-Cycle.walk) =
+    subst (IsWideAnswer c.args.count c.deref.result.now) c.in-Cycle.is c.in_ok-ranking.ensures.found in
+    let within = walk-within c.args.count edges walk c.requires (subst (λ pairs. IsClosedWalk pairs walk) nodes found) in
+    let few = c.ranges.count.fits in
+    subst (All (λ n. n < 4294967296)) (sym c.deref-in-Cycle.ensures.value) (λ k d low. omega (arith, within k d low, few))

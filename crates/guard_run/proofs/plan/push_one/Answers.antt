@@ -1,5 +1,4 @@
-use Rattle.std.proofs.Common.{◌+◌, ◌<◌, ◌^◌, map, arith, subst}
-use Rattle.std.specs.Prelude.{SomeIff}
+use Rattle.std.proofs.Common.{map, refl, arith}
 use Rattle.std.proofs.lemmas.List.{length-map}
 use Rattle.csub_text.specs.Views.{assign_of}
 use Rattle.guard_run.proofs.Stretches.{stretch-more}
@@ -7,8 +6,6 @@ use Rattle.guard_run.proofs.plan.push_one.Goals as goal
 
 pub returns : goal.returns
 returns c =
-    let n = c.args.stretch.now.count in
-    let counted = subst (λ o. SomeIff o (n + 1 < 2 ^ 64) (n + 1)) c.in_ok-count.ensures.ok_part c.checked_add.ensures in
     let wide = length-map c.args.slots.now.keys (λ k. k.now) in
     λ assigns is. stretch-more (map (λ k. k.now) c.args.slots.now.keys) assigns (assign_of c.args.assign.now) c.args.stretch.now _ is
-    c.in_ok-push_assign.ensures.adds c.in_ok-push_assign.ensures.tables (omega (arith, c.requires.low, wide)) counted.1
+    c.in_ok-push_assign.ensures.adds c.in_ok-push_assign.ensures.tables (omega (arith, c.requires.low, wide)) refl

@@ -1,7 +1,7 @@
 use Rattle.std.proofs.Common.{◌≡◌, ◌+◌, ◌<◌, ◌≤◌, All, length, drop, get_or, sym, ap, ◌∙◌, subst, arith}
 use Rattle.guard_run.specs.declared.track.Jump.{Jump}
 use Rattle.guard_run.specs.Tracks.{AreInOrder, jumps_made, jumps_count}
-use Rattle.guard_run.proofs.Tracks.{no_jump, jump-here, wide-jump, order-here, order-next, made-next, counted-next, total-next}
+use Rattle.guard_run.proofs.Tracks.{no_jump, jump-here, wide-jump, order-here, order-next, made-next, counted-next, few-jumps}
 use Rattle.guard_run.proofs.run.run_track.Goals as goal
 
 pub run_jump-reached-requires-clause-order : goal.run_jump-reached-requires-clause-order
@@ -28,12 +28,8 @@ run_jump-reached-requires-clause-test c =
 
 pub run_jump-reached-requires-clause-few : goal.run_jump-reached-requires-clause-few
 run_jump-reached-requires-clause-few c =
-    let jumps = c.args.track.now.jumps.items in
-    let i = c.loop-jump.jump-index in
-    let item = get_or c.deref-jump-items.result.now i no_jump in
-    let at : item ≡ get_or jumps i item = jump-here jumps c.deref-jump-items.result.now i c.deref-jump-items.ensures.value c.loop-jump-test.true in
-    let total = total-next jumps i item (omega arith) at in
-    omega (arith, total, c.loop-jump.invariant.most, c.requires.few)
+    let few = few-jumps c.args.track.now in
+    omega (arith, few, c.loop-jump.invariant.most, ap length c.deref-jump-items.ensures.value)
 
 pub loop-jump-preserved : goal.loop-jump-preserved
 loop-jump-preserved c =
@@ -49,7 +45,6 @@ loop-jump-preserved c =
     let new = c.run_jump-reached.new.values in
     let to = c.run_jump-reached.result.place in
     let low : i < length jumps = omega arith in
-    let total = total-next jumps i item low at in
     let counted = counted-next gates place jumps i item old low at in
     let rest = ap (λ p. jumps_count gates p (drop (i + 1) jumps) new) next.place ∙ ap (jumps_count gates _ (drop (i + 1) jumps)) next.values in
     record {
@@ -59,5 +54,5 @@ loop-jump-preserved c =
       made = ap (λ p. jumps_made gates p (drop (i + 1) jumps) new) next.place ∙ ap (jumps_made gates _ (drop (i + 1) jumps)) next.values
           ∙ sym (made-next gates place jumps i item old low at) ∙ c.loop-jump.invariant.made;
       counted = omega (arith, rest, counted, next.count, c.loop-jump.invariant.counted);
-      most = omega (arith, total, next.most, c.loop-jump.invariant.most);
+      most = omega (arith, next.most, c.loop-jump.invariant.most);
     }

@@ -1,5 +1,5 @@
-use Rattle.std.proofs.Common.{◌≡◌, ◌+◌, ◌≤◌, length, drop}
-use Rattle.guard_run.specs.Tracks.{AreInOrder, jumps_made, jumps_count, jumps_total}
+use Rattle.std.proofs.Common.{◌≡◌, ◌+◌, ◌*◌, ◌^◌, ◌≤◌, length, drop}
+use Rattle.guard_run.specs.Tracks.{AreInOrder, jumps_made, jumps_count}
 use Rattle.guard_run.proofs.run.run_track.Given as goal
 
 -- what is left makes of the values so far what all make of those at the beginning, and the counts add up
@@ -11,5 +11,5 @@ invariant-loop-jump l = record {
       ≡ jumps_made l.track.gates.lookups 0 l.track.jumps.items l.fn.values;
   counted : l.reached.count + jumps_count l.track.gates.lookups l.reached.place (drop l.jump-index l.track.jumps.items) l.values
       ≡ jumps_count l.track.gates.lookups 0 l.track.jumps.items l.fn.values;
-  most : l.reached.count + jumps_total (drop l.jump-index l.track.jumps.items) ≤ jumps_total l.track.jumps.items;
+  most : l.reached.count ≤ l.jump-index * 2 ^ 65;
 }

@@ -1,14 +1,14 @@
 use Rattle.std.proofs.Common.{sym, ◌∙◌, subst, map, length, arith}
 use Rattle.digraph.specs.Walks.{JoinsNodes}
 use Rattle.step_run.specs.Order.{edges_from}
-use Rattle.step_run.proofs.EquationEdges.{edges-join-of, walk-within}
+use Rattle.digraph.proofs.Exports.{walk-within}
+use Rattle.step_run.proofs.EquationEdges.{edges-join-of}
 use Rattle.step_run.proofs.order.evaluation_order.Goals as goal
 
-pub ranks_or_cycle-requires : goal.ranks_or_cycle-requires
-ranks_or_cycle-requires c =
+pub wide_ranks_or_cycle-requires : goal.wide_ranks_or_cycle-requires
+wide_ranks_or_cycle-requires c =
     let joins = edges-join-of (λ r. r.items) c.args.first c.args.reads.now c.requires.within in
-    let own = edges_from c.args.first 0 (map (λ r. r.items) c.args.reads.now) in
-    rw (c.deref.ensures.value, c.in_ok-edges.ensures) (subst (λ n. JoinsNodes n own) (sym c.in-Ok.ensures.1) joins)
+    rw (c.deref.ensures.value, c.in_ok-edges.ensures) joins
 
 pub names_along-requires : goal.names_along-requires
 names_along-requires c =

@@ -4,7 +4,7 @@ use Rattle.guard_run.proofs.runner.GuardedRunner.new.Goals as goal
 
 pub invariant_of-result : goal.invariant_of-result
 invariant_of-result c =
-    let parts = c.in_ok-plan.ensures in keeps-by _ c.requires parts.plan (omega (arith, parts.slots)) parts.few parts.outputs
+    let parts = c.in_ok-plan.ensures in keeps-by _ c.requires parts.plan (omega (arith, parts.slots)) parts.outputs
 
 pub returns-clause-fresh : goal.returns-clause-fresh
 returns-clause-fresh c = fresh-by c.args.program _ 0 c.in_ok-plan.ensures.values refl

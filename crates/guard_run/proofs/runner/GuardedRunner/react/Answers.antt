@@ -45,9 +45,6 @@ run_track-self-inside-requires-clause-tests c =
     (track-tests plan.body c.self.inside.plan.track n plan.track_is
     (tests-fit p plan.body c.self.inside.plan.answer n plan.end_is (track-fits plan.body c.self.inside.plan.track n plan.track_is c.self.invariant.each_slot)))
 
-pub run_track-self-inside-requires-clause-few : goal.run_track-self-inside-requires-clause-few
-run_track-self-inside-requires-clause-few c = c.self.invariant.few
-
 pub take_values-requires-clause-within : goal.take_values-requires-clause-within
 take_values-requires-clause-within c =
     let p = program_of c.self.inside.program in
@@ -89,7 +86,7 @@ invariant_of-self c =
     let shown = with_items_is c.self.inside.outputs c.take_values.new.taken (c.take_values.auto.taken ∙ c.deref_mut-3.ensures.len)
     ∙ c.take_values.ensures ∙ ap (λ v. map (value_at v) c.deref-2.result.now) c.deref-3.ensures.value ∙ ap (map (value_at _)) c.deref-2.ensures.value in
     keeps-by _ c.self.invariant.names_fit c.self.invariant.plan (omega (arith, wide, c.self.invariant.each_slot))
-    c.self.invariant.few shown
+    shown
 
 pub returns : goal.returns
 returns c =

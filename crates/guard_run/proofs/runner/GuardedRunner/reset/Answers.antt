@@ -39,7 +39,7 @@ invariant_of-self c =
     let shown = with_items_is c.self.inside.outputs c.take_values.new.taken (c.take_values.auto.taken ∙ c.deref_mut-2.ensures.len)
     ∙ c.take_values.ensures ∙ ap (λ v. map (value_at v) c.deref-2.result.now) c.deref-3.ensures.value ∙ ap (map (value_at _)) c.deref-2.ensures.value in
     keeps-by _ c.self.invariant.names_fit c.self.invariant.plan (omega (arith, wide, c.self.invariant.each_slot))
-    c.self.invariant.few shown
+    shown
 
 pub returns : goal.returns
 returns c =

@@ -1,6 +1,6 @@
-use Rattle.std.proofs.Common.{◌≡◌, All, map, sym, ap, ◌∙◌, subst}
+use Rattle.std.proofs.Common.{◌≡◌, All, sym, ap, ◌∙◌, subst}
 use Rattle.step_run.specs.Plans.{Planned}
-use Rattle.step_run.specs.Records.{GateFits, gate_lookup}
+use Rattle.step_run.specs.Records.{GateFits}
 use Rattle.step_run.proofs.RecordLists.{gates-alone}
 use Rattle.step_run.proofs.plan.Plan.gates.Goals as goal
 
@@ -8,9 +8,8 @@ pub returns-clause-lookups : goal.returns-clause-lookups
 returns-clause-lookups c =
     let inside = c.self.inside in
     let none = subst (λ (p : Planned). p.tables ≡ 0) (sym c.self.view_is) c.requires in
-    ap (map gate_lookup) c.deref.ensures.value ∙ gates-alone inside.stretches.items inside.gates.items none ∙ ap (λ (p : Planned). p.lookups) c.self.view_is
+    gates-alone inside.stretches.items inside.gates none ∙ ap (λ (p : Planned). p.lookups) c.self.view_is
 
 pub returns-clause-fit : goal.returns-clause-fit
 returns-clause-fit c =
-    subst (λ (p : Planned). All (GateFits p.slots) c.deref.result.now) c.self.view_is
-    (subst (All (GateFits c.self.inside.slots)) (sym c.deref.ensures.value) c.self.invariant.gates_fit)
+    subst (λ (p : Planned). All (GateFits p.slots) c.self.inside.gates) c.self.view_is c.self.invariant.gates_fit

@@ -8,7 +8,7 @@ use Rattle.step_run.proofs.plan.Plan.operand.Goals as goal
 pub returns : goal.returns
 returns c =
     let inside = c.self.inside in
-    let more = gate-more inside.stretches.items inside.gates.items c.push.new.self.items c.gate_of.result c.in_ok-push.ensures.items in
+    let more = gate-more inside.stretches.items inside.gates c.push.new.self c.gate_of.result c.in_ok-push.ensures.more in
     let free : c.in_ok-free.free ≡ inside.free + 1 = search rules in
     let grown : inside.slots ≤ c.max-self-inside.result = omega (arith, c.max-self-inside.ensures) in
     let room : c.in_ok-free.free ≤ c.max-self-inside.result = omega (arith, c.max-self-inside.ensures) in

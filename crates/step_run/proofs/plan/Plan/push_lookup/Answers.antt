@@ -21,8 +21,8 @@ returns c =
     ap (λ r. record { output = output; reads = r; truth = c.in_ok-from_slice-2.field-0.items }) c.in_ok-from_slice.ensures.items
     ∙ ap (λ t. record { output = output; reads = reads; truth = t }) c.in_ok-from_slice-2.ensures.items in
     let stretch : Stretch = record { gates = c.replace-gates.result; last = last } in
-    let more = stretch-more inside.stretches.items c.push.new.self.items inside.gates.items c.replace-gates.new.dest.items stretch l
-    c.in_ok-push.ensures.items (ap (λ v. v.items) c.replace-gates.ensures.after ∙ c.new.ensures.items) (ap (λ v. v.items) c.replace-gates.ensures.value) is in
+    let more = stretch-more inside.stretches.items c.push.new.self.items inside.gates c.replace-gates.new.dest stretch l
+    c.in_ok-push.ensures.items (c.replace-gates.ensures.after ∙ c.new.ensures) c.replace-gates.ensures.value is in
     let new = plan_of (record {
       named = inside.named;
       free = inside.named + 1;

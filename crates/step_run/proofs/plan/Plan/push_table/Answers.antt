@@ -3,9 +3,6 @@ use Rattle.step_run.specs.Plans.{Adds, AddsTerm, table_step}
 use Rattle.step_run.proofs.Pushes.{table-adds, on-ok}
 use Rattle.step_run.proofs.plan.Plan.push_table.Goals as goal
 
-pub table_term-requires : goal.table_term-requires
-table_term-requires c = λ k d h. let low = c.requires.reads k d h in let few = c.slots.ensures.few in omega arith
-
 pub push_term-requires-clause-fits : goal.push_term-requires-clause-fits
 push_term-requires-clause-fits c =
     c.in-Some.ensures.fits c.args.self.now.free (omega (arith, c.requires.output, c.slots.ensures.names))

@@ -9,7 +9,7 @@ pub returns : goal.returns
 returns c =
     let inside = c.self.inside in
     let low = subst (λ (p : Planned). c.args.output < p.named) (sym c.self.view_is) c.requires.output in
-    let more = gate-more inside.stretches.items inside.gates.items c.push.new.self.items c.gate_of.result c.in_ok-push.ensures.items in
+    let more = gate-more inside.stretches.items inside.gates c.push.new.self c.gate_of.result c.in_ok-push.ensures.more in
     let new = plan_of (record { named = inside.named; free = inside.named + 1; slots = inside.slots; stretches = inside.stretches; gates = c.push.new.self }) in
     subst (λ old. AddsTerm c.args.output c.args.term old new) c.self.view_is
     (gate-adds (plan_of inside) new c.args.output c.args.term c.gate_of.result refl (omega arith) more c.gate_of.ensures.output c.gate_of.ensures.left

@@ -7,8 +7,7 @@ use Rattle.step_run.proofs.plan.Plan.run.Goals as goal
 pub returns : goal.returns
 returns c =
     let stretches = c.self.inside.stretches.items in
-    let gates = c.self.inside.gates.items in
+    let gates = c.self.inside.gates in
     let values = c.args.values.now in
-    c.make_gates.ensures ∙ ap (λ gs. gates_made gs c.make_stretches.new.values) c.deref-2.ensures.value
-    ∙ ap (gates_made gates) (c.make_stretches.ensures ∙ ap (λ ss. stretches_made ss values) c.deref.ensures.value)
+    c.make_all.ensures ∙ ap (gates_made gates) (c.make_stretches.ensures ∙ ap (λ ss. stretches_made ss values) c.deref.ensures.value)
     ∙ records-made stretches gates values ∙ ap (λ (p : Planned). made p.lookups values) c.self.view_is

@@ -1,6 +1,6 @@
 use Rattle.std.proofs.Common.{◌≡◌, ℕ, ◌<◌, false, []}
 use Rattle.digraph.specs.Searches.{IsSearchOf, is_new, state_of}
-use Rattle.digraph.proofs.ranking.ranks_or_cycle.Given as goal
+use Rattle.digraph.proofs.wide.wide_ranks_or_cycle.Given as goal
 
 abbrev pub invariant-loop-root : goal.invariant-loop-root
 invariant-loop-root l = record {
