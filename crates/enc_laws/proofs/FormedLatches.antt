@@ -26,7 +26,7 @@ use Rattle.net_ir.specs.Netlists.{Netlist}
 use Rattle.net_ir.specs.Runs.{net_values, initial_latches, next_latches}
 use Rattle.state_enc.specs.Encodings.{SelectsWell}
 use Rattle.state_enc.specs.Meeting.{LatchesMeet}
-use Rattle.enc_laws.specs.Laws.{LatchesAreFormed}
+use Rattle.enc_laws.specs.Laws.{GraphsKeepStates, KeepsStates, KeptStatesAreFormed, LatchesAreFormed}
 use Rattle.enc_laws.proofs.StateForms.{nothing-is-formed}
 
 -- what the values of the latches keep from instant to instant: they stand for a state of leaves
@@ -47,33 +47,42 @@ zeros-all : (fs : List Formula) → All (λ b. b ≡ false) (map (λ (f : Formul
 zeros-all [] = All-nil (λ (b : Bool). b ≡ false)
 zeros-all (f ∷ fs) = All-cons (λ (b : Bool). b ≡ false) false (map (λ (f : Formula). false) fs) refl (zeros-all fs)
 
-module _ (kept : NextStateIsKept) (g : Graph) (p : Program) (net : Netlist) (codes : HasExitCodes p.body) (no_loop : NoInstantLoop p.body)
-    (graph : IsGraphOf g p) (interface : HasInterfaceOf g net) (follows : FollowsInstants g net) where
+-- the graph of a program keeps its states
+pub graph-keeps : NextStateIsKept → GraphsKeepStates
+graph-keeps kept g p codes no_loop graph = record {
+  program = graph.program;
+  next = λ q event V state leaves wide solves.
+      let law = kept p q event V codes no_loop state leaves (subst (λ (h : PlainGraph). Solves h q event V) graph.graph solves) in
+      let same : next_state (graph_of p) q event V ≡ next_state (plain_graph g) q event V = λ i. next_state (sym graph.graph i) q event V in (
+        subst (λ s. IsState s p.body) same law.1,
+        subst (λ s. SelectsLeaves s p.body) same law.2,
+      );
+}
+
+module _ (g : Graph) (p : Program) (net : Netlist) (keeps : KeepsStates g p) (interface : HasInterfaceOf g net) (follows : FollowsInstants g net) where
   next-bits : State → List Bool → Valuation → List Bool
   next-bits q event V = map (formula_value (plain_graph g) q event V) (plain_graph g).next
 
   leaves-same : (plain_graph g).leaves ≡ body_leaves p.body
-  leaves-same = ap (λ (h : PlainGraph). h.leaves) graph.graph
+  leaves-same = ap (λ (q : Program). body_leaves q.body) keeps.program
 
   -- the next state is kept too
-  kept-next : (boot : Bool) (bits event : List Bool) (V : Valuation) → Kept g p boot bits
+  kept-next : (boot : Bool) (bits event : List Bool) (V : Valuation) → Kept g p boot bits → length event ≡ given_count p
       → Solves (plain_graph g) (state_of (body_leaves p.body) boot bits) event V
       → Kept g p false (next-bits (state_of (body_leaves p.body) boot bits) event V)
   unfolding next-bits
-  kept-next boot bits event V k solves =
+  kept-next boot bits event V k wide solves =
       let q = state_of (body_leaves p.body) boot bits in
-      let on = subst (λ (h : PlainGraph). Solves h q event V) graph.graph solves in
-      let law = kept p q event V codes no_loop k.state k.leaves on in
-      let same : next_state (graph_of p) q event V ≡ Selecting (selecting (body_leaves p.body) (map (formula_value (plain_graph g) q event V) (plain_graph
-      g).next))
-      = (λ i. next_state (sym graph.graph i) q event V)
-      ∙ (λ i. Selecting (selecting (leaves-same i) (map (formula_value (plain_graph g) q event V) (plain_graph g).next))) in
+      let law = keeps.next q event V k.state k.leaves wide solves in
+      let same : next_state (plain_graph g) q event V
+      ≡ Selecting (selecting (body_leaves p.body) (map (formula_value (plain_graph g) q event V) (plain_graph g).next))
+      = λ i. Selecting (selecting (leaves-same i) (map (formula_value (plain_graph g) q event V) (plain_graph g).next)) in
       record {
         many = length-map (plain_graph g).next (formula_value (plain_graph g) q event V)
             ∙ length-map g.next.items (formula_of (instances_of g) (names_of g));
         unselected = no-boot;
-        state = subst (λ s. IsState s p.body) same law.1;
-        leaves = subst (λ s. SelectsLeaves s p.body) same law.2;
+        state = subst (λ s. IsState s p.body) same law.0;
+        leaves = subst (λ s. SelectsLeaves s p.body) same law.1;
       }
 
   start : Kept g p true (map (λ (f : Formula). false) g.next.items)
@@ -99,7 +108,7 @@ module _ (kept : NextStateIsKept) (g : Graph) (p : Program) (net : Netlist) (cod
         event = event;
         valuation = V;
         one_per_leaf = k.many;
-        one_per_given = fit.0 ∙ ap given_count (sym graph.program);
+        one_per_given = fit.0 ∙ ap given_count (sym keeps.program);
         unselected = k.unselected;
       } in
       let there : state_of (body_leaves p.body) boot bits ≡ state_of (plain_graph g).leaves boot bits
@@ -110,7 +119,8 @@ module _ (kept : NextStateIsKept) (g : Graph) (p : Program) (net : Netlist) (cod
       let after : next_state (plain_graph g) q event V
       ≡ state_of (body_leaves p.body) false (map (formula_value (plain_graph g) q event V) (plain_graph g).next)
       = λ i. Selecting (selecting (leaves-same i) (map (formula_value (plain_graph g) q event V) (plain_graph g).next)) in
-      let rest = formed-from items false (map (formula_value (plain_graph g) q event V) (plain_graph g).next) Vs (kept-next boot bits event V k run.0) fit.1
+      let next-values = map (formula_value (plain_graph g) q event V) (plain_graph g).next in
+      let rest = formed-from items false next-values Vs (kept-next boot bits event V k fit.0 run.0) fit.1
       (subst (λ s. IsGraphRun (plain_graph g) s items Vs) after run.1) in
       (formed-kept g p boot bits k, subst (λ l. LatchesMeet (SelectsWell p.body) net l items) (sym next) rest)
   formed-from (Reset ∷ items) boot bits Vs k fit run =
@@ -118,12 +128,15 @@ module _ (kept : NextStateIsKept) (g : Graph) (p : Program) (net : Netlist) (cod
       (formed-from items true (map (λ (f : Formula). false) g.next.items) Vs start fit run)
 
   formed-run : (items : List Item) (Vs : List Valuation) → EachEvent (λ event. length event ≡ given_count p) items
-      → IsGraphRun (graph_of p) Initial items Vs → LatchesMeet (SelectsWell p.body) net (initial_latches net) items
+      → IsGraphRun (plain_graph g) Initial items Vs → LatchesMeet (SelectsWell p.body) net (initial_latches net) items
   formed-run items Vs fit run =
       subst (λ l. LatchesMeet (SelectsWell p.body) net l items) (sym interface.latches)
-      (formed-from items true (map (λ (f : Formula). false) g.next.items) Vs start fit
-      (subst (λ (h : PlainGraph). IsGraphRun h Initial items Vs) (sym graph.graph) run))
+      (formed-from items true (map (λ (f : Formula). false) g.next.items) Vs start fit run)
+
+pub kept-formed : KeptStatesAreFormed
+kept-formed g p net keeps interface follows items Vs fit run = formed-run g p net keeps interface follows items Vs fit run
 
 pub latches-formed : NextStateIsKept → LatchesAreFormed
 latches-formed kept g p net codes no_loop graph interface follows items Vs fit run =
-    formed-run kept g p net codes no_loop graph interface follows items Vs fit run
+    formed-run g p net (graph-keeps kept g p codes no_loop graph) interface follows items Vs fit
+    (subst (λ (h : PlainGraph). IsGraphRun h Initial items Vs) (sym graph.graph) run)

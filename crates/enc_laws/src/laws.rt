@@ -1,8 +1,21 @@
 // The laws of encoded states. Each call does nothing: its contract is the law.
 
-ghost use Rattle.enc_laws.specs.Laws.{LatchesAreFormed};
+ghost use Rattle.enc_laws.specs.Laws.{GraphsKeepStates, KeptStatesAreFormed, LatchesAreFormed};
 
 use grc_sem::next_state_is_kept;
+
+/// The graph of a program keeps its states: behind each instant is a state of the body again.
+pub fn graphs_keep_states()
+    ensures { GraphsKeepStates }
+{
+    next_state_is_kept();
+}
+
+/// The latches of a netlist that follows a graph that keeps its program's states, its own graph or that of its shared
+/// wires, select, in each instant of a run, leaves as the selection tree wants.
+pub fn kept_states_are_formed()
+    ensures { KeptStatesAreFormed }
+{}
 
 /// The latches of a netlist that follows a program's graph select, in each instant of a run, leaves as the selection
 /// tree wants.

@@ -3,4 +3,4 @@
 
 mod laws;
 
-pub use laws::latches_are_formed;
+pub use laws::{graphs_keep_states, kept_states_are_formed, latches_are_formed};

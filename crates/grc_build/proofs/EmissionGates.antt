@@ -8,7 +8,7 @@ use Rattle.std.proofs.lemmas.List.Elements.{All-head, All-tail}
 use Rattle.std.proofs.lemmas.List.Sums.{sum_by-cons, sum_by-append, sum_by-le-sum_by}
 use Rattle.facts.proofs.Lists.{sum-flat_map}
 use Rattle.est_kernel.specs.Plain.{Program, interface_of, outgoing_count}
-use Rattle.est_kernel.specs.Terms.{Term, Nothing, Pause, Emit, Exit, Present, Suspend, Seq, Loop, Par, Trap, Local, Awake}
+use Rattle.est_kernel.specs.Terms.{Term, Emit, Local}
 use Rattle.est_kernel.specs.WellFormed.{IsKernel}
 use Rattle.grc_graph.specs.Equations.{emits_on, is_wire, emissions}
 use Rattle.grc_graph.specs.Formulas.{Formula, Value}

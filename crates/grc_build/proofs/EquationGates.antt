@@ -7,7 +7,7 @@ use Rattle.std.proofs.lemmas.Bool.{cases_eq, ne_eqb}
 use Rattle.std.proofs.lemmas.List.Sums.{sum_by-cons, sum_by-append, sum_by-le-sum_by}
 use Rattle.facts.proofs.Lists.{sum-flat_map}
 use Rattle.est_kernel.specs.Plain.{Program, interface_of, given_count}
-use Rattle.est_kernel.specs.Terms.{Term, Nothing, Pause, Emit, Exit, Present, Suspend, Seq, Loop, Par, Trap, Local, Awake}
+use Rattle.est_kernel.specs.Terms.{Term, Local}
 use Rattle.est_kernel.specs.WellFormed.{IsKernel}
 use Rattle.grc_graph.specs.Equations.{Equation, equations, output_equation, instance_equations, instance_status, emissions, end_formula}
 use Rattle.grc_graph.specs.Formulas.{Formula, Input, any_of}
@@ -63,11 +63,15 @@ codes_cost f c d each (suc n) A =
 abbrev ends_sum : Scope → Term → ℕ → Layer → ℕ
 ends_sum B t n l = sum_by (λ k. gates_of (end_formula B t n l k)) (listed (instance_codes t l))
 
+-- the codes of an instance
+pub listed_cost : (f : ℕ → ℕ) (c d : ℕ) → ((k : ℕ) → f k ≤ 13 + (if k == c then d else 0)) → (A : ℕ → Bool)
+    → sum_by f (listed A) ≤ 13 * length (listed A) + d
+listed_cost f c d each A =
+    subst (λ ks. sum_by f ks ≤ 13 * length ks + d) (sym (listed-below A)) (codes_cost f c d each 64 A).within
+
 ends_within : (B : Scope) (t : Term) (n : ℕ) (l : Layer) → ends_sum B t n l ≤ 13 * length (listed (instance_codes t l)) + dear_gates t l
 ends_within B t n l =
-    let f : ℕ → ℕ = λ k. gates_of (end_formula B t n l k) in
-    subst (λ ks. sum_by f ks ≤ 13 * length ks + dear_gates t l) (sym (listed-below (instance_codes t l)))
-    (codes_cost f (dear_code t) (dear_gates t l) (end_gates B t n l) 64 (instance_codes t l)).within
+    listed_cost (λ k. gates_of (end_formula B t n l k)) (dear_code t) (dear_gates t l) (end_gates B t n l) (instance_codes t l)
 
 -- ---- all equations
 

@@ -1,6 +1,7 @@
 -- How many gates the formulas of a graph need, by names.
 use Rattle.std.proofs.Common.{◌≡◌, ℕ, zero, suc, ◌+◌, ◌≤◌, Bool, true, false, ◌==◌, List, [], ◌∷◌, ◌++◌, length, map, refl, ap, arith}
 use Rattle.std.specs.Prelude.{if◌then◌else◌}
+use Rattle.est_base.specs.declared.place.Span.{Span}
 use Rattle.est_kernel.specs.Preorder.{statement_count}
 use Rattle.est_kernel.specs.StaticCodes.{codes_if, has_code, started_codes, resumed_codes}
 use Rattle.est_base.specs.Codes.{except}
@@ -8,12 +9,12 @@ use Rattle.est_kernel.specs.Terms.{Expression, Tick, Sig, Not, And, Or, Term, No
 use Rattle.grc_graph.specs.declared.formulas.Formula as declared
 use Rattle.grc_graph.specs.declared.formulas.Formula.TheVariants as formulas
 use Rattle.grc_graph.specs.Equations.{part_end, trapped_ends, branch_over, resumed_parallel, end_formula}
-use Rattle.grc_graph.specs.Formulas.{Formula, Const, Boot, Input, Value, Selected, Upto, Kept, Held, Negation, Conjunction, Disjunction, any_of}
+use Rattle.grc_graph.specs.Formulas.{Formula, Value, Selected, Upto, Negation, Conjunction, Disjunction, any_of}
 use Rattle.grc_graph.specs.Instances.{Instance}
 use Rattle.grc_graph.specs.Layers.{Layer, Resumed, Started, can_pass}
 use Rattle.grc_graph.specs.PlainGraphs.{formula_of, wire_at}
 use Rattle.grc_graph.specs.Rows.{entry_formula}
-use Rattle.grc_graph.specs.Scopes.{Binding, Entering, Outgoing, BoundAt, Unbound, Scope}
+use Rattle.grc_graph.specs.Scopes.{Binding, Entering, Scope}
 use Rattle.grc_graph.specs.Spots.{status_formula, test_formula}
 use Rattle.grc_graph.specs.Statements.{Entry, Body, Part, Branch, Then, Else, Suspended, Second, Looped}
 use Rattle.grc_graph.specs.Wires.{Wire, Go, End, instance_codes}
@@ -177,6 +178,30 @@ suspend_gates B e fs n true h =
     omega (arith, any_last fs f, tested_gates B e Resumed)
 suspend_gates B e fs n false h = omega (arith, any_within (fs ++ []), joined-append fs [])
 
+-- the ends of a sequence and of a loop
+pub sequence_gates : (B : Scope) (p q : Term) (n : ℕ) (l : Layer) (k : ℕ) → gates_of (end_formula B (Seq p q) n l k) ≤ 3
+sequence_gates B p q n Resumed k =
+    let m = n + 1 + statement_count p in
+    omega (
+      arith,
+      three_gates (part_end (except 0 (resumed_codes p)) (n + 1) Resumed k) (part_end (codes_if (can_pass p) (resumed_codes q)) m Resumed k)
+          (part_end (codes_if (resumed_codes p 0) (started_codes q)) m (Started m) k) (part_gates (except 0 (resumed_codes p)) (n + 1) Resumed k)
+          (part_gates (codes_if (can_pass p) (resumed_codes q)) m Resumed k) (part_gates (codes_if (resumed_codes p 0) (started_codes q)) m (Started m) k),
+    )
+sequence_gates B p q n (Started r) k =
+    omega (
+      arith,
+      two_gates (except 0 (started_codes p)) (codes_if (started_codes p 0) (started_codes q)) (n + 1) (n + 1 + statement_count p) (Started r) (Started r) k k,
+    )
+
+pub loop_gates : (B : Scope) (at : Span) (p : Term) (n : ℕ) (l : Layer) (k : ℕ) → gates_of (end_formula B (Loop at p) n l k) ≤ 2
+loop_gates B at p n Resumed k =
+    omega (
+      arith,
+      two_gates (except 0 (resumed_codes p)) (codes_if (resumed_codes p 0) (except 0 (started_codes p))) (n + 1) (n + 1) Resumed (Started (n + 1)) k k,
+    )
+loop_gates B at p n (Started r) k = omega (arith, one_gate (except 0 (started_codes p)) (n + 1) (Started r) k)
+
 -- the end of a statement that needs more gates than others: which, and how many more
 abbrev pub dear_code : Term → ℕ
 dear_code (Suspend e p) = 1
@@ -198,25 +223,8 @@ end_gates B (Present e p q) n l k =
 end_gates B (Suspend e p) n Resumed k =
     suspend_gates B e (part_end (resumed_codes p) (n + 1) Resumed k) n (k == 1) (part_gates (resumed_codes p) (n + 1) Resumed k)
 end_gates B (Suspend e p) n (Started r) k = omega (arith, one_gate (started_codes p) (n + 1) (Started r) k)
-end_gates B (Seq p q) n Resumed k =
-    let m = n + 1 + statement_count p in
-    omega (
-      arith,
-      three_gates (part_end (except 0 (resumed_codes p)) (n + 1) Resumed k) (part_end (codes_if (can_pass p) (resumed_codes q)) m Resumed k)
-          (part_end (codes_if (resumed_codes p 0) (started_codes q)) m (Started m) k) (part_gates (except 0 (resumed_codes p)) (n + 1) Resumed k)
-          (part_gates (codes_if (can_pass p) (resumed_codes q)) m Resumed k) (part_gates (codes_if (resumed_codes p 0) (started_codes q)) m (Started m) k),
-    )
-end_gates B (Seq p q) n (Started r) k =
-    omega (
-      arith,
-      two_gates (except 0 (started_codes p)) (codes_if (started_codes p 0) (started_codes q)) (n + 1) (n + 1 + statement_count p) (Started r) (Started r) k k,
-    )
-end_gates B (Loop at p) n Resumed k =
-    omega (
-      arith,
-      two_gates (except 0 (resumed_codes p)) (codes_if (resumed_codes p 0) (except 0 (started_codes p))) (n + 1) (n + 1) Resumed (Started (n + 1)) k k,
-    )
-end_gates B (Loop at p) n (Started r) k = omega (arith, one_gate (except 0 (started_codes p)) (n + 1) (Started r) k)
+end_gates B (Seq p q) n l k = omega (arith, sequence_gates B p q n l k)
+end_gates B (Loop at p) n l k = omega (arith, loop_gates B at p n l k)
 end_gates B (Par p q) n Resumed k = parallel_gates (resumed_codes p) (resumed_codes q) n (n + 1) (n + 1 + statement_count p) k
 end_gates B (Par p q) n (Started r) k =
     omega (arith, two_gates (started_codes p) (started_codes q) (n + 1) (n + 1 + statement_count p) (Started r) (Started r) k k)

@@ -1,11 +1,11 @@
 -- A program's graph needs at most 15 gates for each wire and each live test node.
-use Rattle.std.proofs.Common.{◌≡◌, ℕ, ◌+◌, ◌*◌, ◌<◌, ◌≤◌, Bool, true, false, List, [], ◌∷◌, ◌++◌, length, map, sym, ap, ◌∙◌, arith, length-append}
-use Rattle.std.specs.Prelude.{if◌then◌else◌, zip}
+use Rattle.std.proofs.Common.{None, ◌≡◌, ℕ, ◌+◌, ◌*◌, ◌≤◌, Bool, true, false, List, [], ◌∷◌, ◌++◌, length, map, sym, ap, ◌∙◌, arith, length-append}
+use Rattle.std.specs.Prelude.{Contains, if◌then◌else◌, zip}
 use Rattle.std.specs.List.{sum_by, flat_map}
 use Rattle.std.proofs.lemmas.List.{length-map}
 use Rattle.std.proofs.lemmas.List.FromFn.{length-map-range_with_len}
 use Rattle.std.proofs.lemmas.List.Concat.{length-flat_map}
-use Rattle.std.proofs.lemmas.List.Sums.{sum_by-cons, sum_by-le-sum_by}
+use Rattle.std.proofs.lemmas.List.Sums.{get_or-le-sum_by, sum_by-cons, sum_by-le-sum_by}
 use Rattle.std.proofs.lemmas.Slice.Zip.{seconds-zip}
 use Rattle.est_base.specs.declared.bounds.TheConstants.Limits.{WIRES}
 use Rattle.est_kernel.specs.declared.programs.KernelProgram.{KernelProgram}
@@ -23,7 +23,7 @@ use Rattle.grc_graph.specs.Instances.{Instance, body_instances}
 use Rattle.grc_graph.specs.Layers.{Layer, Resumed, Started, body_layers, body_liveness}
 use Rattle.grc_graph.specs.PlainGraphs.{equations_of, formula_of, wire_of}
 use Rattle.grc_graph.specs.PlainInstances.{instance_of}
-use Rattle.grc_graph.specs.RowCosts.{rows_by, rows_of, selection_rows, test_of}
+use Rattle.grc_graph.specs.RowCosts.{rows_by, rows_of, rows_over, selection_rows, test_of}
 use Rattle.grc_graph.specs.Rows.{Row, row_at, program_rows, spot_at, live_in}
 use Rattle.grc_graph.specs.Scopes.{program_scope}
 use Rattle.grc_graph.specs.SelectionTrees.{body_leaves}
@@ -36,16 +36,16 @@ use Rattle.grc_build.specs.declared.graphs.Parts.{Parts}
 use Rattle.grc_build.specs.Parts.{AreParts}
 use Rattle.grc_build.proofs.EquationGates.{equation_gates, program_equations}
 use Rattle.grc_build.proofs.FormulaGates.{gates_of, cost_by_name, where_resumed}
-use Rattle.grc_build.proofs.InstanceGates.{wire_count, wires_counted, next_gates, instance_gates}
+use Rattle.grc_build.proofs.InstanceGates.{wire_count, wires_counted, next_gates, instance_gates, three_spare}
 use Rattle.grc_build.proofs.NextGates.{program_leaves}
 use Rattle.grc_build.proofs.RowGates.{Measure, row_sum, sizes, program_counted, program_within}
 
 -- ---- formulas by names
 
-list_cost : (insts : List Instance) (names : List Wire) (fs : List declared.Formula) → sum_by cost_of fs ≡ sum_by gates_of (map (formula_of insts names) fs)
+pub list_cost : (insts : List Instance) (names : List Wire) (fs : List declared.Formula) → sum_by cost_of fs ≡ sum_by gates_of (map (formula_of insts names) fs)
 list_cost insts names fs = (λ i. sum_by (λ f. cost_by_name insts names f i) fs) ∙ sym (sum_mapped gates_of (formula_of insts names) fs)
 
-equations_cost : (insts : List Instance) (names : List Wire) (fs : List declared.Formula) → length fs ≡ length names
+pub equations_cost : (insts : List Instance) (names : List Wire) (fs : List declared.Formula) → length fs ≡ length names
     → sum_by cost_of fs ≡ sum_by (λ e. gates_of e.formula) (equations_of insts names fs)
 equations_cost insts names fs all =
     let pairs = zip names fs in
@@ -59,25 +59,25 @@ next_cost p = sum_mapped gates_of (λ m. next_formula m (body_layers p.body m)) 
 
 -- ---- what is counted of a program, by its live instances
 
-abbrev by_instance : Program → Measure → Instance → ℕ
+abbrev pub by_instance : Program → Measure → Instance → ℕ
 by_instance p F y = F (row_at (program_rows p) y.path).statement (row_at (program_rows p) y.path).entry y.layer
 
-abbrev over : Program → Measure → ℕ
+abbrev pub over : Program → Measure → ℕ
 over p F = sum_by (by_instance p F) (body_instances p.body)
 
-abbrev wire_counts : Measure
+abbrev pub wire_counts : Measure
 wire_counts t x l = wire_count t l
 
-abbrev kept_rows : Measure
+abbrev pub kept_rows : Measure
 kept_rows t x l = rows_by (test_of t) l
 
-abbrev resumed_rows : Measure
+abbrev pub resumed_rows : Measure
 resumed_rows t x l = where_resumed 1 l
 
-abbrev next_counts : Measure
+abbrev pub next_counts : Measure
 next_counts t x l = next_gates t l
 
-wires_by_instance : (p : Program) → IsKernel p.body → length (program_wires p) ≡ outgoing_count p + over p wire_counts
+pub wires_by_instance : (p : Program) → IsKernel p.body → length (program_wires p) ≡ outgoing_count p + over p wire_counts
 wires_by_instance p kernel =
     let W = program_rows p in
     let insts = body_instances p.body in
@@ -85,7 +85,7 @@ wires_by_instance p kernel =
     ∙ (λ i. length-map-range_with_len Out p.inputs (outgoing_count p) i + length-flat_map (row_wires W) insts i)
     ∙ (λ i. outgoing_count p + sum_by (λ y. wires_counted (row_at W y.path).statement y.path y.layer i) insts)
 
-size_by_instance : (p : Program) → IsKernel p.body → graph_size p ≡ outgoing_count p + over p sizes
+pub size_by_instance : (p : Program) → IsKernel p.body → graph_size p ≡ outgoing_count p + over p sizes
 size_by_instance p kernel =
     let W = program_rows p in
     let insts = body_instances p.body in
@@ -96,19 +96,18 @@ size_by_instance p kernel =
     omega (arith, wires_by_instance p kernel, tests, both)
 
 -- some instance is live: the start of the body
-some_instance : (p : Program) → 0 < length (body_instances p.body)
+pub some_instance : (p : Program) → Contains (body_instances p.body) (record { path = 0; layer = Started 0 })
 some_instance p =
     let row = row_read (program_rows p) (body_liveness p.body) (program_scope p.inputs (interface_count p)) Body p.body 0 (stands_whole (program_rows p)) in
     let live : live_in (row_at (program_rows p) 0).live (Started 0) ≡ true = ap (λ (r : Row). live_in r.live (Started 0)) row.same in
-    let there = instance_live p 0 (Started 0) (statement_count-pos p.body) live in
-    omega (arith, there.1)
+    instance_live p 0 (Started 0) (statement_count-pos p.body) live
 
 -- ---- all together
 
-gathered : {X : Type 0} (w e r s n all : X → ℕ) → ((x : X) → 2 * w x + e x + r x + s x + n x + 3 ≡ all x) → (xs : List X)
-    → 2 * sum_by w xs + sum_by e xs + sum_by r xs + sum_by s xs + sum_by n xs + 3 * length xs ≡ sum_by all xs
-gathered w e r s n all h [] = omega arith
-gathered w e r s n all h (x ∷ xs) =
+pub gathered : {X : Type 0} (w e r s n more all : X → ℕ) → ((x : X) → 2 * w x + e x + r x + s x + n x + more x ≤ all x) → (xs : List X)
+    → 2 * sum_by w xs + sum_by e xs + sum_by r xs + sum_by s xs + sum_by n xs + sum_by more xs ≤ sum_by all xs
+gathered w e r s n more all h [] = omega arith
+gathered w e r s n more all h (x ∷ xs) =
     omega (
       arith,
       sum_by-cons w x xs,
@@ -116,18 +115,25 @@ gathered w e r s n all h (x ∷ xs) =
       sum_by-cons r x xs,
       sum_by-cons s x xs,
       sum_by-cons n x xs,
+      sum_by-cons more x xs,
       sum_by-cons all x xs,
       h x,
-      gathered w e r s n all h xs,
+      gathered w e r s n more all h xs,
     )
+
+-- what all instances need
+pub all_within : (p : Program) → over p instance_gates ≤ 15 * over p sizes
+all_within p = omega (arith, program_counted instance_gates p, program_counted sizes p, program_within p)
 
 instances_within : (p : Program)
     → 2 * over p wire_counts + over p equation_gates + over p kept_rows + over p resumed_rows + over p next_counts + 3 ≤ 15 * over p sizes
 instances_within p =
     let insts = body_instances p.body in
     let sum = gathered (by_instance p wire_counts) (by_instance p equation_gates) (by_instance p kept_rows) (by_instance p resumed_rows)
-    (by_instance p next_counts) (by_instance p instance_gates) (λ y. omega arith) insts in
-    omega (arith, sum, some_instance p, program_counted instance_gates p, program_counted sizes p, program_within p)
+    (by_instance p next_counts) (λ y. 3) (by_instance p instance_gates) (λ y. omega (arith, three_spare y.layer)) insts in
+    let there = some_instance p in
+    let spare = get_or-le-sum_by (λ (y : Instance). 3) insts there.0 (record { path = 0; layer = Started 0 }) there.1 in
+    omega (arith, sum, spare, all_within p)
 
 selected_within : (r : Row) → selection_rows r ≤ row_sum resumed_rows r
 selected_within r = by r.live.resumed (map Started r.live.roots)
@@ -137,14 +143,18 @@ selected_within r = by r.live.resumed (map Started r.live.roots)
     by true ls = omega (arith, sum_by-cons (λ l. where_resumed 1 l) Resumed ls)
     by false ls = omega arith
 
-rows_few : (p : Program) → rows_of p ≤ over p kept_rows + over p resumed_rows + 1
-rows_few p =
+pub selected_few : (p : Program) → sum_by selection_rows (program_rows p) ≤ over p resumed_rows
+selected_few p =
     let selected = sum_by-le-sum_by selection_rows (row_sum resumed_rows) (program_rows p) selected_within in
     omega (arith, selected, program_counted resumed_rows p)
 
+rows_few : (p : Program) → rows_of p ≤ over p kept_rows + over p resumed_rows + 1
+rows_few p = omega (arith, selected_few p)
+
 pub few_gates : (p : KernelProgram) (live : Instances) (x : Parts) → IsKernel (program_of p).body → AreParts p live x → graph_size (program_of p) ≤ WIRES
-    → HasFewGates (program_of p) (length x.layout.wires.items) x.formulas.equations.items x.formulas.next.items
-few_gates p live x kernel h few =
+    → map instance_of live.list.items ≡ body_instances (program_of p).body
+    → HasFewGates (program_of p) (map instance_of live.list.items) None (length x.layout.wires.items) x.formulas.equations.items x.formulas.next.items
+few_gates p live x kernel h few own =
     let q = program_of p in
     let insts = map instance_of live.list.items in
     let raw = x.layout.wires.items in
@@ -168,6 +178,7 @@ few_gates p live x kernel h few =
         program_leaves q,
         program_counted next_counts q,
         rows_few q,
+        ap (λ xs. rows_over q xs None) own,
         instances_within q,
       );
     }

@@ -1,11 +1,12 @@
 -- The parts of a graph, and the graph that they make.
 use Rattle.std.proofs.Common.{◌≡◌, ◌≤◌, length, map, refl, sym, ap, ◌∙◌, subst}
-use Rattle.std.specs.Prelude.{All, IsTrue}
+use Rattle.std.specs.Prelude.{All, IsTrue, None}
 use Rattle.std.proofs.lemmas.List.{length-map}
 use Rattle.est_base.specs.declared.bounds.TheConstants.Limits.{WIRES}
 use Rattle.est_kernel.specs.declared.programs.KernelProgram.{KernelProgram}
 use Rattle.est_kernel.specs.Plain.{program_of, interface_of, interface_count}
 use Rattle.est_kernel.specs.WellFormed.{IsWellFormed}
+use Rattle.est_kernel.proofs.Exports.{trees_are_kernels_lem}
 use Rattle.grc_graph.specs.declared.graph.Graph.{Graph}
 use Rattle.grc_graph.specs.declared.instances.Instances.{Instances}
 use Rattle.grc_graph.specs.declared.neighbours.Neighbours.{Neighbours}
@@ -13,18 +14,18 @@ use Rattle.grc_graph.specs.declared.trees.SelTree.{SelTree}
 use Rattle.grc_graph.specs.BuiltGraphs.{IsGraphOf}
 use Rattle.grc_graph.specs.GraphSizes.{graph_size}
 use Rattle.grc_graph.specs.GraphRuns.{graph_of, program_spots}
-use Rattle.grc_graph.specs.GraphShapes.{IndicesFit, formula_fits, node_fits, wire_fits}
+use Rattle.grc_graph.specs.GraphShapes.{IndicesFit, formula_fits, node_fits}
 use Rattle.grc_graph.specs.Instances.{body_instances}
 use Rattle.grc_graph.specs.Layouts.{IsLaidOut}
 use Rattle.grc_graph.specs.Neighbouring.{instances_in, names_in, program_wires}
 use Rattle.grc_graph.specs.Nodes as plain
-use Rattle.grc_graph.specs.PlainGraphs.{instances_of, names_of, wire_of, node_of, formula_of, equations_of}
+use Rattle.grc_graph.specs.PlainGraphs.{instances_of, names_of, wire_of, node_of, formula_of, equations_of, lasting_in}
 use Rattle.grc_graph.specs.PlainInstances.{instance_of}
 use Rattle.grc_graph.specs.Rows.{program_rows, spot_at}
 use Rattle.grc_graph.specs.Scopes.{program_scope}
 use Rattle.grc_graph.specs.SelectionTrees.{body_leaves, body_tree}
 use Rattle.grc_graph.specs.TreeForms as forms
-use Rattle.grc_graph.proofs.Exports.{wires_fit, program_spots_by_row}
+use Rattle.grc_graph.proofs.Exports.{laid-out, wires_fit, program_spots_by_row}
 use Rattle.grc_build.specs.declared.graphs.Formulas.{Formulas}
 use Rattle.grc_build.specs.declared.graphs.Parts.{Parts}
 use Rattle.grc_build.specs.declared.tables.Tables.{Tables}
@@ -98,13 +99,10 @@ pub laid_by : (p : KernelProgram) (live : Instances) (tree : SelTree) (x : Parts
     → map forms.node_of tree.nodes.items ≡ body_tree (program_of p).body
     → AreParts p live x
     → IsLaidOut (program_of p) (map instance_of live.list.items) x.layout.wires.items tree.nodes.items (length x.formulas.next.items)
-laid_by p live tree x w l t h = record {
-  formed = w;
-  instances = l;
-  names = h.layout.wires;
-  tree = t;
-  leaves = sym (length-map x.formulas.next.items _) ∙ ap length h.formulas.next ∙ length-map (body_leaves (program_of p).body) _;
-}
+laid_by p live tree x w l t h =
+    laid-out (program_of p) (trees_are_kernels_lem p.body) (map instance_of live.list.items) x.layout.wires.items tree.nodes.items
+    (length x.formulas.next.items) w l h.layout.wires t
+    (sym (length-map x.formulas.next.items _) ∙ ap length h.formulas.next ∙ length-map (body_leaves (program_of p).body) _)
 
 -- the graph that they make
 pub graph_by : (g : Graph) (x : Parts)
@@ -115,14 +113,16 @@ pub graph_by : (g : Graph) (x : Parts)
     → g.wires.items ≡ x.layout.wires.items
     → g.equations.items ≡ x.formulas.equations.items
     → g.next.items ≡ x.formulas.next.items
+    → g.loops ≡ None
     → IsGraphOf g (program_of g.program)
-graph_by g x live h few n w e k =
+graph_by g x live h few n w e k own_loops =
     let p = program_of g.program in
     let insts = instances_of g in
     let names : names_of g ≡ program_wires p = ap (map (wire_of insts)) w ∙ h.layout.wires in
     let own : AreFormulasBy p insts x.layout.wires.items (names_of g) x.formulas
     = subst (λ raw. AreFormulasBy p insts x.layout.wires.items (map (wire_of insts) raw) x.formulas) (sym w) h.formulas in
     let equations : equations_of insts (names_of g) g.equations.items ≡ (graph_of p).equations = ap (equations_of insts (names_of g)) e ∙ own.equations in
+    let lasts = ap (λ loops. lasting_in loops p.body) own_loops in
     let next : map (formula_of insts (names_of g)) g.next.items ≡ (graph_of p).next = ap (map (formula_of insts (names_of g))) k ∙ own.next in
     record {
       program = refl;
@@ -136,6 +136,8 @@ graph_by g x live h few n w e k =
         equations = equations i;
         leaves = body_leaves p.body;
         next = next i;
+        lasting = lasts i;
       };
       few = few;
+      own = own_loops;
     }

@@ -3,7 +3,7 @@
 use Rattle.std.proofs.Common.{◌≡◌, ℕ, ◌+◌, ◌*◌, ◌≤◌, length, map, refl, arith, length-append}
 use Rattle.std.proofs.lemmas.List.{length-map}
 use Rattle.est_kernel.specs.Sizes.{test_size}
-use Rattle.est_kernel.specs.Terms.{Expression, Tick, Sig, Not, And, Or, Term, Nothing, Pause, Emit, Exit, Present, Suspend, Seq, Loop, Par, Trap, Local, Awake}
+use Rattle.est_kernel.specs.Terms.{Expression, Not, And, Or, Term, Nothing, Pause, Emit, Exit, Present, Suspend, Seq, Loop, Par, Trap, Local, Awake}
 use Rattle.grc_graph.specs.GraphSizes.{live_tests}
 use Rattle.grc_graph.specs.Layers.{Layer, Resumed, Started}
 use Rattle.grc_graph.specs.Statements.{Entry}
@@ -49,11 +49,20 @@ part_tests (Present e p q) l = where_started (operators e) l + where_started (op
 part_tests (Suspend e p) l = where_resumed (operators e) l
 part_tests t l = 0
 
--- all of these; three more are left over
+-- so many are left over: what a graph needs besides, and what one of shared wires needs more
+abbrev pub spare_gates : Layer → ℕ
+spare_gates Resumed = 3
+spare_gates (Started r) = 7
+
+pub three_spare : (l : Layer) → 3 ≤ spare_gates l
+three_spare Resumed = omega arith
+three_spare (Started r) = omega arith
+
+-- all of these
 abbrev pub instance_gates : Term → Entry → Layer → ℕ
 instance_gates t x l =
     2 * wire_count t l + (2 + entry_tests x l) + (13 * length (listed (instance_codes t l)) + dear_gates t l)
-    + row_gates t l + emit_gates t + next_gates t l + 3
+    + row_gates t l + emit_gates t + next_gates t l + spare_gates l
 
 operators_few : (e : Expression) → operators e + 1 ≤ test_size e
 operators_few (Not a) = omega (arith, operators_few a)
@@ -63,7 +72,7 @@ operators_few _ = omega arith
 
 -- what does not go by the wires, and the tests of the parts
 others_few : (t : Term) (l : Layer)
-    → 2 + dear_gates t l + row_gates t l + emit_gates t + next_gates t l + part_tests t l + 3 ≤ 13 + 15 * live_tests t l
+    → 2 + dear_gates t l + row_gates t l + emit_gates t + next_gates t l + part_tests t l + spare_gates l ≤ 13 + 15 * live_tests t l
 others_few Nothing Resumed = omega arith
 others_few Nothing (Started r) = omega arith
 others_few Pause Resumed = omega arith

@@ -1,21 +1,22 @@
-pub mod AnyOf
-pub mod PartLiveness
-pub mod TableFacts
-pub mod Bindings
-pub mod StatusWires
-pub mod EndFacts
-pub mod EmissionLists
-pub mod TableSpots
-pub mod WireEquations
-pub mod NodeFacts
-pub mod GraphSizes
-pub mod GraphParts
-pub mod StatementRuns
-pub mod NextFacts
-pub mod FormulaGates
-pub mod InstanceGates
-pub mod RowGates
-pub mod EmissionGates
-pub mod NextGates
-pub mod EquationGates
-pub mod GateBounds
+mod AnyOf
+mod PartLiveness
+mod TableFacts
+mod Bindings
+mod StatusWires
+mod EndFacts
+mod EmissionLists
+mod TableSpots
+mod WireEquations
+mod NodeFacts
+mod GraphSizes
+mod GraphParts
+mod StatementRuns
+mod NextFacts
+mod FormulaGates
+mod InstanceGates
+mod RowGates
+mod EmissionGates
+mod NextGates
+mod EquationGates
+mod GateBounds
+pub mod Exports

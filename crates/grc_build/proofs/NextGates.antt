@@ -29,7 +29,7 @@ kept_joined n (l ∷ ls) =
     one Resumed = refl
     one (Started r) = refl
 
-formula_gates : (n : ℕ) (ls : List Layer) → gates_of (next_formula n ls) ≡ sum_by (λ l. where_started 2 l) ls + 1
+pub formula_gates : (n : ℕ) (ls : List Layer) → gates_of (next_formula n ls) ≡ sum_by (λ l. where_started 2 l) ls + 1
 formula_gates n ls =
     any_last (flat_map (kept_start n) ls) (Conjunction (Selected n) (Held n Resumed)) ∙ ap (λ k. k + 1) (kept_joined n ls)
 

@@ -6,7 +6,7 @@ use Rattle.std.proofs.lemmas.List.Sums.{sum_by-cons, sum_by-append}
 use Rattle.est_kernel.specs.Plain.{Program, interface_count}
 use Rattle.est_kernel.specs.Preorder.{statement_count}
 use Rattle.est_kernel.specs.StaticCodes.{has_code, resumed_codes}
-use Rattle.est_kernel.specs.Terms.{Term, Nothing, Pause, Emit, Exit, Present, Suspend, Seq, Loop, Par, Trap, Local, Awake}
+use Rattle.est_kernel.specs.Terms.{Term, Present, Suspend, Seq, Loop, Par, Trap, Local, Awake}
 use Rattle.grc_graph.specs.GraphSizes.{live_tests}
 use Rattle.grc_graph.specs.Instances.{Instance, instances_at, body_instances}
 use Rattle.grc_graph.specs.Layers.{Layer, Resumed, Started, Liveness, layers_of, body_liveness, part_liveness, second_liveness, loop_liveness}

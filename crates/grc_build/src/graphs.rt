@@ -63,6 +63,7 @@ pub fn build(
         next: formulas.next,
         first_wires: layout.first_wires,
         first_instances: layout.first_instances,
+        loops: None,
     })
 }
 

@@ -2,6 +2,7 @@
 
 ghost use Rattle.std.specs.Prelude.{◌≡◌, ◌++◌, length, map, IfOk, OnOk};
 ghost use Rattle.est_kernel.specs.Plain.{program_of};
+ghost use Rattle.grc_graph.specs.BuiltGraphs.{IsGraphOf};
 ghost use Rattle.grc_graph.specs.PlainGraphs.{names_of};
 ghost use Rattle.grc_graph.specs.GraphRuns.{program_spots};
 ghost use Rattle.grc_graph.specs.Edges.{edges};
@@ -20,6 +21,7 @@ use std::alloc::Global;
 /// The dependency edges between the wires of a graph, each once, in ascending order. The time is linear in the edges
 /// but for a logarithm; the error is want of memory.
 pub fn edges(alloc: Global, graph: &Graph) -> Result<Edges, NoMemory>
+    requires { IsGraphOf graph.now (program_of graph.now.program) }
     ensures count { IfOk result (λ e. e.count ≡ length graph.now.wires.items) }
     ensures edges { IfOk result (λ e. AreEdgesOf (names_of graph.now)
         (edges (program_spots (program_of graph.now.program))) e.pairs.items) }
@@ -45,7 +47,8 @@ fn push_edges(
     statements: &[Statement],
     pairs: &mut Vec<(WireId, WireId)>,
 ) -> Result<(), NoMemory>
-    requires { map view_of statements.now ≡ program_listed (program_of graph.now.program) }
+    requires built { IsGraphOf graph.now (program_of graph.now.program) }
+    requires statements { map view_of statements.now ≡ program_listed (program_of graph.now.program) }
     ensures { OnOk result (pairs.new.items ≡ pairs.old.items
         ++ found_by lookups.now (edges (program_spots (program_of graph.now.program)))) }
 {

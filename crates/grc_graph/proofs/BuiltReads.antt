@@ -6,20 +6,12 @@ use Rattle.est_kernel.specs.Plain.{Program, given_count, interface_of}
 use Rattle.grc_graph.specs.declared.formulas.Formula as stored
 use Rattle.grc_graph.specs.declared.graph.Graph.{Graph}
 use Rattle.grc_graph.specs.BuiltGraphs.{IsGraphOf}
-use Rattle.grc_graph.specs.Equations.{Equation, equations, next_formula}
+use Rattle.grc_graph.specs.Equations.{Equation, equations}
 use Rattle.grc_graph.specs.Formulas.{Formula}
 use Rattle.grc_graph.specs.GraphRuns.{program_spots}
 use Rattle.grc_graph.specs.Instances.{Instance}
-use Rattle.grc_graph.specs.Layers.{body_layers}
 use Rattle.grc_graph.specs.PlainGraphs.{formula_of, instances_of, names_of, wire_of}
-use Rattle.grc_graph.specs.SelectionTrees.{body_leaves}
 use Rattle.grc_graph.specs.Wires.{Wire}
-
--- it has a formula of the next state for each leaf
-pub next_each : (g : Graph) (p : Program) → IsGraphOf g p → length g.next.items ≡ length (body_leaves p.body)
-next_each g p h =
-    sym (length-map g.next.items (formula_of (instances_of g) (names_of g))) ∙ ap (λ x. length x.next) h.graph
-    ∙ length-map (body_leaves p.body) (λ n. next_formula n (body_layers p.body n))
 
 abbrev pub formula_in : Equation → Formula
 formula_in e = e.formula

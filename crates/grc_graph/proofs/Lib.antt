@@ -27,5 +27,7 @@ mod SameWires
 mod Holding
 mod StateForms
 mod WirePlaces
+mod Beside
+mod BuiltLayouts
 mod worked
 pub mod Exports

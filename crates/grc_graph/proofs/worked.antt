@@ -4,3 +4,10 @@ mod InstanceExamples
 mod WorkedReadings
 mod WorkedNames
 mod WorkedGraphs
+mod WorkedLoops
+mod WorkedNumbers
+mod WorkedEdges
+mod WorkedTrees
+mod WorkedCoherence
+mod WorkedSizes
+mod WorkedOrders

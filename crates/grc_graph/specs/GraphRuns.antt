@@ -19,7 +19,8 @@ use Rattle.grc_graph.specs.Walk.{State, Initial, Selecting}
 use Rattle.grc_graph.specs.Readings.{Valuation, boolean_interpretation}
 
 -- A graph by names: one equation per wire, in order; for each leaf of the selection tree the path of its pause and its
--- next formula; and the body, with its scope, over which the words of formulas are read.
+-- next formula; the body, with its scope, over which the words of formulas are read; and what they see of the ends of
+-- parallels: in a program's graph these ends themselves.
 pub record PlainGraph : Type 0 where
   pub interface : Interface
   pub scope : Scope
@@ -27,6 +28,7 @@ pub record PlainGraph : Type 0 where
   pub equations : List Equation
   pub leaves : List ℕ
   pub next : List Formula
+  pub lasting : Valuation → Valuation
 
 -- the live instances of a program
 abbrev pub program_spots : Program → List Spot
@@ -48,11 +50,12 @@ graph_of p = record {
   equations = equations (given_count p) (interface_of p).outgoing (program_spots p);
   leaves = body_leaves p.body;
   next = map (λ n. next_formula n (body_layers p.body n)) (body_leaves p.body);
+  lasting = λ V. V;
 }
 
 -- what a formula of the graph means in a state and an event, under a valuation
 abbrev pub formula_value : PlainGraph → State → List Bool → Valuation → Formula → Bool
-formula_value g q event V a = meaning (boolean_interpretation g.scope g.body q (is_given event) V) a
+formula_value g q event V a = meaning (boolean_interpretation g.scope g.body q (is_given event) V (g.lasting V)) a
 
 -- A valuation solves the graph: each equation is met, and what is no wire is false.
 pub record Solves (g : PlainGraph) (q : State) (event : List Bool) (V : Valuation) : Type 0 where

@@ -6,6 +6,8 @@ pub mod Spots
 pub mod Equations
 pub mod Nodes
 pub mod Readings
+pub mod LoopKeys
+pub mod LoopTables
 pub mod Edges
 pub mod Orders
 pub mod Residuals

@@ -11,7 +11,12 @@ use Rattle.grc_graph.specs.Instances.{Instance}
 use Rattle.grc_graph.specs.Wires as plain
 use Rattle.grc_graph.specs.Nodes as plain_nodes
 use Rattle.grc_graph.specs.Formulas as plain_formulas
-use Rattle.std.specs.Prelude.{Option, Some}
+use Rattle.std.specs.Prelude.{None, Option, Some, Vec}
+use Rattle.std.specs.Global.{Global}
+use Rattle.est_kernel.specs.Terms.{Term}
+use Rattle.grc_graph.specs.declared.loops.LoopBodies.{LoopBodies}
+use Rattle.grc_graph.specs.LoopKeys.{body_sharing, lasting}
+use Rattle.grc_graph.specs.Readings.{Valuation}
 use Rattle.grc_graph.specs.declared.graph.Graph.{Graph}
 use Rattle.grc_graph.specs.PlainInstances.{instance_of}
 use Rattle.grc_graph.specs.Scopes.{program_scope}
@@ -72,6 +77,12 @@ abbrev pub equations_of : List Instance → List plain.Wire → List Formula →
 equations_of insts names formulas =
     map (λ e. record { wire = e.0; formula = formula_of insts names e.1 }) (zip names formulas)
 
+-- What is seen of the ends of parallels: in a graph that keeps the numbers of loop bodies around its statements, whose
+-- instances are shared ones, what these see.
+abbrev pub lasting_in : Option (Vec LoopBodies Global) → Term → Valuation → Valuation
+lasting_in None body V = V
+lasting_in (Some loops) body V = lasting (body_sharing body) V
+
 -- a graph by names, with the leaves of its program's body
 abbrev pub plain_graph : Graph → PlainGraph
 plain_graph g = record {
@@ -81,4 +92,5 @@ plain_graph g = record {
   equations = equations_of (instances_of g) (names_of g) g.equations.items;
   leaves = body_leaves (program_of g.program).body;
   next = map (formula_of (instances_of g) (names_of g)) g.next.items;
+  lasting = lasting_in g.loops (program_of g.program).body;
 }

@@ -110,9 +110,10 @@ held_at given V B (Trap p) n m l = if m == n then false else held_at given V B p
 held_at given V B (Local s p) n m l = if m == n then false else held_at given V (bind B s n) p (n + 1) m l
 held_at given V B (Awake e p) n m l = false
 
--- the words of formulas over a body, in a state and an event, with these values of the wires
-abbrev pub boolean_interpretation : Scope → Term → State → Values → Valuation → Interpretation Bool
-boolean_interpretation B body q given V = record {
+-- the words of formulas over a body, in a state and an event, with these values of the wires, and those as what lasts
+-- sees them
+abbrev pub boolean_interpretation : Scope → Term → State → Values → (V lasts : Valuation) → Interpretation Bool
+boolean_interpretation B body q given V lasts = record {
   constant = λ b. b;
   negation = not;
   conjunction = λ a b. a && b;
@@ -122,6 +123,6 @@ boolean_interpretation B body q given V = record {
   wire = V;
   selected = state_holds_at q body;
   upto = λ n l k. upto (λ j. V (End n l j)) k;
-  kept = λ n l. kept_at V body 0 n l;
-  held = λ n l. held_at given V B body 0 n l;
+  kept = λ n l. kept_at lasts body 0 n l;
+  held = λ n l. held_at given lasts B body 0 n l;
 }

@@ -1,6 +1,6 @@
 -- Contract: the statements of a body by number, each with what lets it run, the number of its second part, and what
 -- the signals that it reads or emits stand for.
-use Rattle.std.specs.Prelude.{ℕ, ◌+◌, ◌<◌, List, [], ◌∷◌, ◌++◌, map, ⊤}
+use Rattle.std.specs.Prelude.{ℕ, ◌+◌, ◌<◌, List, [], ◌∷◌, ◌++◌, map, Option, Some, None, ⊤}
 use Rattle.est_kernel.specs.Plain.{Program, interface_count}
 use Rattle.grc_graph.specs.Scopes.{Binding, Scope, bind, program_scope}
 use Rattle.est_kernel.specs.Terms.{Expression, Tick, Sig, Not, And, Or, Term, Nothing, Pause, Emit, Exit, Present}
@@ -17,6 +17,17 @@ pub data Entry : Type 0 where
   Suspended : (n : ℕ) (e : Expression) → Entry
   Second : (n : ℕ) → Entry
   Looped : (n : ℕ) → Entry
+
+-- the number of the statement around one that is entered so
+abbrev pub around : Entry → Option ℕ
+around Body = None
+around (Part n) = Some n
+around (Branch n) = Some n
+around (Then n e) = Some n
+around (Else n e) = Some n
+around (Suspended n e) = Some n
+around (Second n) = Some n
+around (Looped n) = Some n
 
 -- the signals of a test, in order, and those that a statement itself reads or emits
 abbrev pub signals_in : Expression → List ℕ

@@ -8,11 +8,13 @@ ghost use Rattle.grc_graph.specs.FewGates.{HasFewGates};
 ghost use Rattle.grc_graph.specs.GraphShapes.{IndicesFit};
 ghost use Rattle.grc_graph.specs.LayoutFacts.{exits-prop, signals-prop, relates-prop};
 ghost use Rattle.grc_graph.specs.Layouts.{IsLaidOut};
+ghost use Rattle.grc_graph.specs.LoopTables.{KeepsLoops};
 ghost use Rattle.grc_graph.specs.PlainInstances.{instance_of};
 ghost use Rattle.grc_graph.specs.WireTables.{AreFirsts, AreNeighbours};
 
 use crate::formulas::Formula;
 use crate::instances::Instances;
+use crate::loops::LoopBodies;
 use crate::neighbours::Neighbours;
 use crate::trees::SelTree;
 use crate::wire_names::WireName;
@@ -21,10 +23,11 @@ use crate::wires::{Node, Wire};
 use est_base::{InstId, WireId};
 use est_kernel::{Codes, KernelProgram};
 
-/// The graph of a kernel program: a node per live instance, an equation per wire, and a formula per
-/// leaf of the selection tree, which says whether the leaf is selected in the next instant. Each
-/// index in it is in range. With it go the static codes and the selection tree of the body, and where each
-/// instance and each wire is found (`neighbours`).
+/// A graph of a kernel program: a node per instance, an equation per wire, and a formula per leaf of the selection
+/// tree, which says whether the leaf is selected in the next instant. Each index in it is in range. Its instances are
+/// live ones of the program's body, each with the one around it, and each has its wires: in the program's own graph all
+/// of them, in a graph of shared wires those that name the shared ones. With it go the static codes and the selection
+/// tree of the body, and where each instance and each wire is found (`neighbours`).
 #[derive(Drop)]
 pub struct Graph {
     /// The program that this is the graph of.
@@ -47,6 +50,8 @@ pub struct Graph {
     pub first_wires: Vec<u32>,
     /// For each statement the number of its first instance, and at last the number of instances.
     pub first_instances: Vec<u32>,
+    /// Where instances are shared ones, for each statement the loop bodies around it; none in a program's own graph.
+    pub loops: Option<Vec<LoopBodies>>,
     ghost laid_out: { IsLaidOut (program_of program) (map instance_of instances.list.items) wires.items
         tree.nodes.items (length next.items) } by { Prim.hlevel (props, exits-prop, signals-prop, relates-prop) },
     ghost code_sets: { AreCodesOf codes (term_of program.body) },
@@ -54,7 +59,9 @@ pub struct Graph {
     ghost tables: { AreNeighbours instances.list.items wires.items first_wires.items program.inputs
         (program.both + program.outputs) },
     ghost statements: { AreFirsts instances.list.items first_instances.items },
-    ghost few: { HasFewGates (program_of program) (length wires.items) equations.items next.items },
+    ghost counted: { KeepsLoops loops (term_of program.body) } by { Prim.hlevel props },
+    ghost few: { HasFewGates (program_of program) (map instance_of instances.list.items) loops (length wires.items)
+        equations.items next.items },
 }
 
 impl Graph {

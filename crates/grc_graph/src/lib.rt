@@ -14,6 +14,7 @@ mod instances;
 mod judgements;
 mod laws;
 mod layout;
+mod loops;
 mod neighbours;
 mod orders;
 mod statements;
@@ -30,7 +31,8 @@ pub use laws::{
     enclosing_instances_are_live, instances_ascend, leaves_are_resumed_pauses,
     residual_has_resumed_codes,
 };
-pub use layout::{WireLayout, wire_layout};
+pub use layout::{WireLayout, first_instances, wire_layout};
+pub use loops::LoopBodies;
 pub use neighbours::{Neighbours, layer_above};
 pub use orders::{Edges, Order, Ranks};
 pub use statements::{Binding, Entry, Statement, list_statements};

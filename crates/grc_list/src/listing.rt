@@ -3,6 +3,7 @@
 ghost use Rattle.std.specs.Prelude.{◌≡◌, ◌++◌, ◌∷◌, [], flat_map, map, codes, decimal, IfOk, OnOk};
 ghost use Rattle.std.specs.List.{concat};
 ghost use Rattle.est_kernel.specs.Plain.{term_of, program_of};
+ghost use Rattle.grc_graph.specs.BuiltGraphs.{IsGraphOf};
 ghost use Rattle.grc_graph.specs.TreeForms.{node_of};
 ghost use Rattle.grc_graph.specs.PlainGraphs.{names_of};
 ghost use Rattle.grc_graph.specs.PlainWireNames.{wire_name_of};
@@ -19,6 +20,7 @@ use std::alloc::Global;
 /// and a line for each wire by its number. The time is linear in the body and in the text.
 /// Its only error is want of memory.
 pub fn list(alloc: Global, graph: &Graph) -> Result<Vec<u8>, NoMemory>
+    requires { IsGraphOf graph.now (program_of graph.now.program) }
     ensures { IfOk result (λ text. text.items ≡ program_listing (program_of graph.now.program)) }
 {
     let places = Places::new(alloc, &graph.program.body)?;

@@ -1,3 +1,4 @@
+mod WiresDiffer
 mod Agreement
 mod Stages
 mod Meanings

@@ -1,25 +1,28 @@
 -- The wires of a graph by number: its instances' runs, one after another, and so where the ends of each stand.
-use Rattle.std.proofs.Common.{◌≡◌, ℕ, ◌+◌, ◌-◌, ◌<◌, ◌≤◌, zero, suc, Bool, true, false, not, List, [], ◌∷◌, ◌++◌, length, map, refl, sym, ap, ◌∙◌, subst, arith}
-use Rattle.std.proofs.Common.{append_assoc}
+use Rattle.std.proofs.Common.{◌≡◌, ℕ, ◌+◌, ◌-◌, ◌<◌, ◌≤◌, zero, suc, Bool, true, false, not, List, [], ◌∷◌, ◌++◌, length, map, take}
+use Rattle.std.proofs.Common.{refl, sym, ap, ◌∙◌, subst, arith, append_assoc}
 use Rattle.std.specs.Prelude.{All, IsTrue, Contains, if◌then◌else◌}
-use Rattle.std.specs.List.{range_with_len}
+use Rattle.std.specs.List.{flat_map, range_with_len}
 use Rattle.std.proofs.lemmas.Bool.{ne_eqb, lt-ltb, ltb-true}
-use Rattle.std.proofs.lemmas.List.{length-map, append-nil}
+use Rattle.std.proofs.lemmas.List.{length-map, append-nil, map-append, take_all, take_more}
+use Rattle.std.proofs.lemmas.List.Concat.{flat_map-append}
+use Rattle.std.proofs.lemmas.Simd.{map-map}
 use Rattle.std.proofs.lemmas.List.Elements.{All-nil, All-cons, All-head, All-tail, All-append, All-map}
 use Rattle.est_kernel.specs.Plain.{Program, program_of, outgoing_count}
-use Rattle.est_kernel.specs.WellFormed.{IsKernel}
 use Rattle.grc_graph.specs.declared.graph.Graph.{Graph}
 use Rattle.grc_graph.specs.declared.wires.Wire.{Wire}
 use Rattle.grc_graph.specs.declared.wires.Wire.TheVariants as wires
 use Rattle.grc_graph.specs.GraphShapes.{wire_fits}
 use Rattle.grc_graph.specs.Instances as plain
-use Rattle.grc_graph.specs.Neighbouring.{program_wires}
+use Rattle.grc_graph.specs.Layers.{Resumed}
+use Rattle.grc_graph.specs.Layouts.{has_status, laid_wires}
 use Rattle.grc_graph.specs.PlainGraphs.{instance_at, instances_of, names_of, wire_of}
 use Rattle.grc_graph.specs.PlainInstances.{instance_of}
 use Rattle.grc_graph.specs.Rows.{row_at, program_rows}
-use Rattle.grc_graph.specs.WireTables.{wire_run, is_local}
+use Rattle.grc_graph.specs.WireTables.{wire_run}
+use Rattle.grc_graph.specs.Wires as names
 use Rattle.grc_graph.specs.Wires.{listed, instance_codes}
-use Rattle.grc_graph.proofs.Exports.{body_ascending, place_once, Filled, Filled-none, Filled-more, Filled-all}
+use Rattle.grc_graph.proofs.Exports.{outs_of, place_once}
 use Rattle.grc_words.specs.EndLists.{is_no_end_of}
 
 -- ---- the lists that the definition has
@@ -28,31 +31,52 @@ use Rattle.grc_words.specs.EndLists.{is_no_end_of}
 abbrev pub codes_at : Program → List plain.Instance → ℕ → ℕ → Bool
 codes_at p insts i = instance_codes (row_at (program_rows p) (instance_at insts i).path).statement (instance_at insts i).layer
 
-abbrev pub local_at : Program → List plain.Instance → ℕ → Bool
-local_at p insts i = is_local (row_at (program_rows p) (instance_at insts i).path).statement
+-- whether its status is among these wires
+abbrev pub status_at : List names.Wire → List plain.Instance → ℕ → Bool
+status_at ns insts i = has_status ns (instance_at insts i).path (instance_at insts i).layer
 
 -- the outgoing signals' wires, and those of so many instances
-abbrev wires_to : Program → List plain.Instance → ℕ → List Wire
-wires_to p insts zero = map (λ s. wires.Out (record { 0 = s })) (range_with_len p.inputs (outgoing_count p))
-wires_to p insts (suc i) = wires_to p insts i ++ wire_run (local_at p insts i) (codes_at p insts i) i
-
-abbrev first_to : Program → List plain.Instance → ℕ → List ℕ
-first_to p insts zero = outgoing_count p ∷ []
-first_to p insts (suc i) = first_to p insts i ++ length (wires_to p insts (suc i)) ∷ []
-
-filled : (p : Program) (insts : List plain.Instance) (i : ℕ) → i ≤ length insts → Filled p insts i (wires_to p insts i) (first_to p insts i)
-filled p insts zero h = Filled-none p insts (wires_to p insts 0) (first_to p insts 0) refl refl
-filled p insts (suc i) h =
-    let next : i + 1 ≡ suc i = omega arith in
-    subst (λ k. Filled p insts k (wires_to p insts (suc i)) (first_to p insts (suc i))) next
-    (Filled-more p insts i (wires_to p insts i) (wires_to p insts (suc i)) (first_to p insts i) (local_at p insts i) (codes_at p insts i)
-    (length (wires_to p insts (suc i))) (filled p insts i (omega arith)) (omega arith) refl refl refl refl)
+abbrev wires_to : Program → List names.Wire → List plain.Instance → ℕ → List Wire
+wires_to p ns insts zero = map (λ s. wires.Out (record { 0 = s })) (range_with_len p.inputs (outgoing_count p))
+wires_to p ns insts (suc i) = wires_to p ns insts i ++ wire_run (status_at ns insts i) (codes_at p insts i) i
 
 abbrev own_run : Bool → ℕ → List Wire
 own_run b i = if b then wires.Local (record { 0 = i }) ∷ [] else []
 
 abbrev end_run : (ℕ → Bool) → ℕ → List Wire
 end_run A i = map (λ k. wires.End (record { 0 = i }) k) (listed A)
+
+-- ---- their names
+
+own-names : (insts : List plain.Instance) (b : Bool) (i : ℕ)
+    → map (wire_of insts) (own_run b i) ≡ (if b then names.StatusOf (instance_at insts i).path (instance_at insts i).layer ∷ [] else [])
+own-names insts true i = refl
+own-names insts false i = refl
+
+run-names : (p : Program) (ns : List names.Wire) (insts : List plain.Instance) (i : ℕ)
+    → map (wire_of insts) (wire_run (status_at ns insts i) (codes_at p insts i) i) ≡ laid_wires p ns (instance_at insts i)
+run-names p ns insts i =
+    let x = instance_at insts i in
+    let own = own-names insts (status_at ns insts i) i in
+    let ends = map-map (wire_of insts) (λ k. wires.End (record { 0 = i }) k) (listed (codes_at p insts i)) in
+    ap (λ l. names.Go x.path x.layer ∷ l)
+    (map-append (wire_of insts) (own_run (status_at ns insts i) i) (end_run (codes_at p insts i) i) ∙ λ t. own t ++ ends t)
+
+names-to : (p : Program) (ns : List names.Wire) (insts : List plain.Instance) (i : ℕ) → i ≤ length insts
+    → map (wire_of insts) (wires_to p ns insts i) ≡ outs_of p ++ flat_map (laid_wires p ns) (take i insts)
+names-to p ns insts zero h =
+    map-map (wire_of insts) (λ s. wires.Out (record { 0 = s })) (range_with_len p.inputs (outgoing_count p)) ∙ sym (append-nil (outs_of p))
+names-to p ns insts (suc i) h =
+    let F = laid_wires p ns in
+    let x = instance_at insts i in
+    let next : i + 1 ≡ suc i = omega arith in
+    let more : flat_map F (take i insts) ++ F x ≡ flat_map F (take (i + 1) insts) =
+    ap (λ l. flat_map F (take i insts) ++ l) (sym (append-nil (F x))) ∙ sym (flat_map-append F (take i insts) (x ∷ []))
+    ∙ ap (flat_map F) (sym (take_more insts i (record { path = 0; layer = Resumed }) (omega arith))) in
+    map-append (wire_of insts) (wires_to p ns insts i) (wire_run (status_at ns insts i) (codes_at p insts i) i)
+    ∙ (λ t. names-to p ns insts i (omega arith) t ++ run-names p ns insts i t)
+    ∙ append_assoc (outs_of p) (flat_map F (take i insts)) (F x)
+    ∙ ap (λ l. outs_of p ++ l) (more ∙ ap (λ k. flat_map F (take k insts)) next)
 
 fits-if : (n : ℕ) (b : Bool) (i : ℕ) → i < n → All (λ w. IsTrue (wire_fits n w)) (if b then wires.Local (record { 0 = i }) ∷ [] else [])
 fits-if n true i h = All-cons (λ w. IsTrue (wire_fits n w)) (wires.Local (record { 0 = i })) [] (lt-ltb i n h) (All-nil (λ w. IsTrue (wire_fits n w)))
@@ -64,12 +88,13 @@ run-fits n b A i h =
     (All-append (λ w. IsTrue (wire_fits n w)) (own_run b i) (end_run A i) (fits-if n b i h)
     (All-map (λ w. IsTrue (wire_fits n w)) (λ k. wires.End (record { 0 = i }) k) (listed A) (λ k d low. lt-ltb i n h)))
 
-all-fit : (p : Program) (insts : List plain.Instance) (n i : ℕ) → i ≤ n → All (λ w. IsTrue (wire_fits n w)) (wires_to p insts i)
-all-fit p insts n zero h =
+all-fit : (p : Program) (ns : List names.Wire) (insts : List plain.Instance) (n i : ℕ) → i ≤ n → All (λ w. IsTrue (wire_fits n w)) (wires_to p ns insts i)
+all-fit p ns insts n zero h =
     All-map (λ w. IsTrue (wire_fits n w)) (λ s. wires.Out (record { 0 = s })) (range_with_len p.inputs (outgoing_count p)) (λ k d low. refl)
-all-fit p insts n (suc i) h =
-    All-append (λ w. IsTrue (wire_fits n w)) (wires_to p insts i) (wire_run (local_at p insts i) (codes_at p insts i) i) (all-fit p insts n i (omega arith))
-    (run-fits n (local_at p insts i) (codes_at p insts i) i (omega arith))
+all-fit p ns insts n (suc i) h =
+    All-append (λ w. IsTrue (wire_fits n w)) (wires_to p ns insts i) (wire_run (status_at ns insts i) (codes_at p insts i) i)
+    (all-fit p ns insts n i (omega arith))
+    (run-fits n (status_at ns insts i) (codes_at p insts i) i (omega arith))
 
 -- ---- a name is that of one wire
 
@@ -121,21 +146,21 @@ one-list insts apart (u ∷ us) (w ∷ ws) f h e =
 
 -- ---- the wires of a graph whose names are its program's
 
-apart-of : (g : Graph) → instances_of g ≡ plain.body_instances (program_of g.program).body → Apart (instances_of g)
-apart-of g e i j low high same =
+apart-of : (g : Graph) → Apart (instances_of g)
+apart-of g i j low high same =
     let many = length-map g.instances.list.items instance_of in
-    place_once g.instances.list.items i j (body_ascending (program_of g.program).body g.instances.list.items e) (omega arith) (omega arith) same
+    place_once g.instances.list.items i j g.tables.ascend (omega arith) (omega arith) same
 
-wires-are : (g : Graph) → IsKernel (program_of g.program).body → instances_of g ≡ plain.body_instances (program_of g.program).body
-    → names_of g ≡ program_wires (program_of g.program) → g.wires.items ≡ wires_to (program_of g.program) (instances_of g) (length (instances_of g))
-wires-are g kernel insts names =
+wires-are : (g : Graph) → g.wires.items ≡ wires_to (program_of g.program) (names_of g) (instances_of g) (length (instances_of g))
+wires-are g =
     let p = program_of g.program in
     let I = instances_of g in
     let N = length I in
+    let ns = names_of g in
     let many = length-map g.instances.list.items instance_of in
     let fit : All (λ w. IsTrue (wire_fits N w)) g.wires.items = subst (λ n. All (λ w. IsTrue (wire_fits n w)) g.wires.items) (sym many) g.indices.wires_fit in
-    let made = Filled-all p I N (wires_to p I N) (first_to p I N) kernel insts refl (filled p I N (omega arith)) in
-    one-list I (apart-of g insts) g.wires.items (wires_to p I N) fit (all-fit p I N N (omega arith)) (names ∙ sym made)
+    let made = names-to p ns I N (omega arith) ∙ ap (λ xs. outs_of p ++ flat_map (laid_wires p ns) xs) (take_all N I (omega arith)) in
+    one-list I (apart-of g) g.wires.items (wires_to p ns I N) fit (all-fit p ns I N N (omega arith)) (g.laid_out.names ∙ sym made)
 
 -- ---- where ends stand
 
@@ -153,33 +178,33 @@ none-run i b A k other =
     (All-append (λ w. is_no_end_of i w ≡ true) (own_run b k) (end_run A k) (none-if i b k)
     (All-map (λ w. is_no_end_of i w ≡ true) (λ c. wires.End (record { 0 = k }) c) (listed A) (λ j d low. ap not (ne_eqb k i other))))
 
-none-before : (p : Program) (insts : List plain.Instance) (i k : ℕ) → k ≤ i → NoEndsOf i (wires_to p insts k)
-none-before p insts i zero h =
+none-before : (p : Program) (ns : List names.Wire) (insts : List plain.Instance) (i k : ℕ) → k ≤ i → NoEndsOf i (wires_to p ns insts k)
+none-before p ns insts i zero h =
     All-map (λ w. is_no_end_of i w ≡ true) (λ s. wires.Out (record { 0 = s })) (range_with_len p.inputs (outgoing_count p)) (λ k d low. refl)
-none-before p insts i (suc k) h =
-    All-append (λ w. is_no_end_of i w ≡ true) (wires_to p insts k) (wire_run (local_at p insts k) (codes_at p insts k) k)
-    (none-before p insts i k (omega arith))
-    (none-run i (local_at p insts k) (codes_at p insts k) k (λ e. absurd (omega arith)))
+none-before p ns insts i (suc k) h =
+    All-append (λ w. is_no_end_of i w ≡ true) (wires_to p ns insts k) (wire_run (status_at ns insts k) (codes_at p insts k) k)
+    (none-before p ns insts i k (omega arith))
+    (none-run i (status_at ns insts k) (codes_at p insts k) k (λ e. absurd (omega arith)))
 
 -- the wires of later instances
-record Later (p : Program) (insts : List plain.Instance) (i count : ℕ) : Type 0 where
+record Later (p : Program) (ns : List names.Wire) (insts : List plain.Instance) (i count : ℕ) : Type 0 where
   rest : List Wire
-  whole : wires_to p insts count ≡ wires_to p insts (suc i) ++ rest
+  whole : wires_to p ns insts count ≡ wires_to p ns insts (suc i) ++ rest
   none : NoEndsOf i rest
 
-later : (p : Program) (insts : List plain.Instance) (i more count : ℕ) → count ≡ suc i + more → Later p insts i count
-later p insts i zero count e =
+later : (p : Program) (ns : List names.Wire) (insts : List plain.Instance) (i more count : ℕ) → count ≡ suc i + more → Later p ns insts i count
+later p ns insts i zero count e =
     let same : count ≡ suc i = omega arith in
-    record { rest = []; whole = ap (wires_to p insts) same ∙ sym (append-nil (wires_to p insts (suc i))); none = All-nil (λ w. is_no_end_of i w ≡ true) }
-later p insts i (suc more) zero e = absurd (omega arith)
-later p insts i (suc more) (suc count) e =
-    let r = later p insts i more count (omega arith) in
-    let run = wire_run (local_at p insts count) (codes_at p insts count) count in
+    record { rest = []; whole = ap (wires_to p ns insts) same ∙ sym (append-nil (wires_to p ns insts (suc i))); none = All-nil (λ w. is_no_end_of i w ≡ true) }
+later p ns insts i (suc more) zero e = absurd (omega arith)
+later p ns insts i (suc more) (suc count) e =
+    let r = later p ns insts i more count (omega arith) in
+    let run = wire_run (status_at ns insts count) (codes_at p insts count) count in
     record {
       rest = r.rest ++ run;
-      whole = ap (λ ws. ws ++ run) r.whole ∙ append_assoc (wires_to p insts (suc i)) r.rest run;
+      whole = ap (λ ws. ws ++ run) r.whole ∙ append_assoc (wires_to p ns insts (suc i)) r.rest run;
       none = All-append (λ w. is_no_end_of i w ≡ true) r.rest run r.none
-          (none-run i (local_at p insts count) (codes_at p insts count) count (λ q. absurd (omega arith)));
+          (none-run i (status_at ns insts count) (codes_at p insts count) count (λ q. absurd (omega arith)));
     }
 
 pub record EndsAt (g : Graph) (i : ℕ) : Type 0 where
@@ -190,35 +215,35 @@ pub record EndsAt (g : Graph) (i : ℕ) : Type 0 where
   pub none_before : NoEndsOf i front
   pub none_behind : NoEndsOf i behind
 
-pub ends-at : (g : Graph) (i : ℕ) → IsKernel (program_of g.program).body → instances_of g ≡ plain.body_instances (program_of g.program).body
-    → names_of g ≡ program_wires (program_of g.program) → i < length (instances_of g) → EndsAt g i
-ends-at g i kernel insts names low =
+pub ends-at : (g : Graph) (i : ℕ) → i < length (instances_of g) → EndsAt g i
+ends-at g i low =
     let p = program_of g.program in
     let I = instances_of g in
     let N = length I in
-    let r = later p I i (N - suc i) N (omega arith) in
-    let b = local_at p I i in
+    let ns = names_of g in
+    let r = later p ns I i (N - suc i) N (omega arith) in
+    let b = status_at ns I i in
     let A = codes_at p I i in
     let own : List Wire = if b then wires.Local (record { 0 = i }) ∷ [] else [] in
     let ends = map (λ c. wires.End (record { 0 = i }) c) (listed A) in
-    let before = wires_to p I i in
+    let before = wires_to p ns I i in
     let head : List Wire = wires.Go (record { 0 = i }) ∷ own in
     record {
       front = before ++ head;
       behind = r.rest;
-      whole = wires-are g kernel insts names ∙ r.whole
+      whole = wires-are g ∙ r.whole
           ∙ ap (λ ws. ws ++ r.rest) (sym (append_assoc before head ends)) ∙ append_assoc (before ++ head) ends r.rest;
-      none_before = All-append (λ w. is_no_end_of i w ≡ true) before head (none-before p I i i (omega arith))
+      none_before = All-append (λ w. is_no_end_of i w ≡ true) before head (none-before p ns I i i (omega arith))
           (All-cons (λ w. is_no_end_of i w ≡ true) (wires.Go (record { 0 = i })) own refl (none-if i b i));
       none_behind = r.none;
     }
 
 -- a wire of this name is that one
-pub end-among : (g : Graph) (i c : ℕ) (w : Wire) → instances_of g ≡ plain.body_instances (program_of g.program).body → i < length (instances_of g)
+pub end-among : (g : Graph) (i c : ℕ) (w : Wire) → i < length (instances_of g)
     → Contains g.wires.items w → wire_of (instances_of g) w ≡ wire_of (instances_of g) (wires.End (record { 0 = i }) c) → w ≡ wires.End (record { 0 = i }) c
-end-among g i c w insts low there e =
+end-among g i c w low there e =
     let many = length-map g.instances.list.items instance_of in
     let fit : IsTrue (wire_fits (length g.instances.list.items) w) =
     subst (λ x. IsTrue (wire_fits (length g.instances.list.items) x)) there.2 (g.indices.wires_fit there.0 w there.1) in
-    one-wire (instances_of g) (apart-of g insts) w (wires.End (record { 0 = i }) c)
+    one-wire (instances_of g) (apart-of g) w (wires.End (record { 0 = i }) c)
     (subst (λ n. IsTrue (wire_fits n w)) (sym many) fit) (lt-ltb i (length (instances_of g)) low) e

@@ -10,13 +10,10 @@ use Rattle.std.proofs.lemmas.List.Sums.{prefix_len-drop_all}
 use Rattle.std.proofs.Math.Seq.{take-append_seam, drop-append_seam}
 use Rattle.est_base.specs.Codes.{upto}
 use Rattle.est_kernel.specs.Plain.{program_of}
-use Rattle.est_kernel.specs.WellFormed.{IsKernel}
 use Rattle.grc_graph.specs.declared.graph.Graph.{Graph}
 use Rattle.grc_graph.specs.declared.wires.Wire.{Wire}
 use Rattle.grc_graph.specs.declared.wires.Wire.TheVariants as wires
-use Rattle.grc_graph.specs.Instances as plain
 use Rattle.grc_graph.specs.Layers.{Resumed}
-use Rattle.grc_graph.specs.Neighbouring.{program_wires}
 use Rattle.grc_graph.specs.PlainGraphs.{instance_at, instances_of, names_of, wire_of, wire_at}
 use Rattle.grc_graph.specs.Readings.{Valuation}
 use Rattle.grc_graph.specs.Wires as names
@@ -55,11 +52,8 @@ not-upto i k (wires.End j c) h = by (j.0 == i) h
 not-upto i k (wires.Local j) h = refl
 not-upto i k (wires.Out s) h = refl
 
--- a graph whose lists are its program's, one of its instances, and a valuation that is false off its wires
+-- one of a graph's instances, and a valuation that is false off its wires
 pub record Setting (g : Graph) (V : Valuation) (i : ℕ) : Type 0 where
-  pub kernel : IsKernel (program_of g.program).body
-  pub instances : instances_of g ≡ plain.body_instances (program_of g.program).body
-  pub wires : names_of g ≡ program_wires (program_of g.program)
   pub low : i < length (instances_of g)
   pub off : FalseOffWires g V
 
@@ -82,7 +76,7 @@ only g V i c s e h =
       | inr none ↦ absurd (false≢true (sym (s.off u none) ∙ h))
     ] in
     let from = mapped (wire_of (instances_of g)) g.wires.items u named in
-    let is : from.0 ≡ end_of i c = end-among g i c from.0 s.instances s.low from.1 from.2 in
+    let is : from.0 ≡ end_of i c = end-among g i c from.0 s.low from.1 from.2 in
     let there : Contains g.wires.items (end_of i c) = subst (Contains g.wires.items) is from.1 in
     let split : Contains (e.front ++ (ends ++ e.behind)) (end_of i c) = subst (λ ws. Contains ws (end_of i c)) e.whole there in
     let not_outside : is_no_end_of i (end_of i c) ≡ true → ⊥ = λ q. false≢true (sym (ap not (eq-eqb i i refl)) ∙ q) in
@@ -228,5 +222,5 @@ upto-by-ends g V i k first s begins = by (listed (codes_of g i)) refl
   where
     by : (cs : List ℕ) → listed (codes_of g i) ≡ cs
         → any_from (λ v. V (wire_at (names_of g) v)) first (prefix_len (is_end_upto i k) (drop first g.wires.items)) ≡ upto (λ c. V (name_at g i c)) k
-    by [] e = no-ends g V i k first s (ends-at g i s.kernel s.instances s.wires s.low) e begins
-    by (c ∷ cs) e = some-ends g V i k first c cs s (ends-at g i s.kernel s.instances s.wires s.low) e begins
+    by [] e = no-ends g V i k first s (ends-at g i s.low) e begins
+    by (c ∷ cs) e = some-ends g V i k first c cs s (ends-at g i s.low) e begins

@@ -1,3 +1,2 @@
 -- What other crates use of these proofs.
-pub use Rattle.grc_words.proofs.RowCounts.{rows-of}
 pub use Rattle.grc_words.proofs.RowValues.{length-row_values, row_values-append, rows-met, source_value-same, value-stays}

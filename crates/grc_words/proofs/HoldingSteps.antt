@@ -3,7 +3,8 @@ use Rattle.std.proofs.Common.{◌≡◌, ℕ, ◌+◌, ◌<◌, ◌≤◌, Bool,
 use Rattle.std.proofs.Common.{◌∙◌, subst, arith, Option, Some, None, inl, inr}
 use Rattle.std.specs.List.{sum_by}
 use Rattle.std.proofs.lemmas.List.Sums.{sum_by-append}
-use Rattle.std.specs.Prelude.{MatchOption}
+use Rattle.std.specs.Prelude.{MatchOption, Vec}
+use Rattle.std.specs.Global.{Global}
 use Rattle.std.proofs.lemmas.Bool.{cases_lt}
 use Rattle.std.proofs.lemmas.List.{get_or_append_left, get_or_push, length_push, length-map, take_all, take_more}
 use Rattle.est_base.specs.declared.indices.WireId.{WireId}
@@ -13,18 +14,19 @@ use Rattle.est_kernel.specs.Reactions.{is_given}
 use Rattle.est_kernel.specs.Terms.{Expression, Term, Nothing, Pause, Emit, Exit, Present, Suspend, Seq, Loop, Par, Trap, Local, Awake}
 use Rattle.est_kernel.specs.WellFormed.{IsKernel}
 use Rattle.grc_graph.specs.declared.graph.Graph.{Graph}
+use Rattle.grc_graph.specs.declared.loops.LoopBodies.{LoopBodies}
 use Rattle.grc_graph.specs.declared.neighbours.Neighbours.{Neighbours}
 use Rattle.grc_graph.specs.declared.statements.Binding as bindings
 use Rattle.grc_graph.specs.Instances.{Instance}
 use Rattle.grc_graph.specs.Layers.{Layer, Resumed, Started, layer_above, same_layer}
 use Rattle.grc_graph.specs.Neighbouring.{names_in}
-use Rattle.grc_graph.specs.PlainGraphs.{names_of, instances_of, instance_at}
-use Rattle.grc_graph.specs.Readings.{Valuation, seen_values}
-use Rattle.grc_graph.specs.Scopes.{Scope}
+use Rattle.grc_graph.specs.PlainGraphs.{names_of, instances_of, instance_at, lasting_in, plain_graph}
+use Rattle.grc_graph.specs.Readings.{Valuation, seen_value, seen_values}
+use Rattle.grc_graph.specs.Scopes.{Binding, Entering, Outgoing, BoundAt, Unbound, Scope}
 use Rattle.grc_graph.specs.Statements.{signals_in, signals_of}
 use Rattle.grc_graph.specs.StatementViews.{binding_of}
 use Rattle.grc_graph.specs.Walk.{Values, truth}
-use Rattle.grc_graph.specs.WireTables.{IsNumberOf}
+use Rattle.grc_graph.specs.WireTables.{HasName, IsNumberOf}
 use Rattle.grc_graph.specs.Wires.{Wire, Go, End}
 use Rattle.grc_words.specs.declared.table.Source.{Source}
 use Rattle.grc_words.specs.declared.table.Source.TheVariants as sources
@@ -32,11 +34,11 @@ use Rattle.grc_words.specs.declared.table.Row as tables
 use Rattle.grc_words.specs.declared.tests_of.Tested.{Tested}
 use Rattle.grc_words.specs.Building.{Says, Extends, RowsFit, with_both, both_source, with_either, either_source}
 use Rattle.grc_words.specs.Enclosures.{around, kept_of, held_of, lasts, suspends, IsWithin, IsOutermost}
-use Rattle.grc_words.specs.Holdings.{readings, HoldingsMade, AboveMade, OwnMade, LastsSaid, held_around, OwnFew}
-use Rattle.grc_words.specs.Sizes.{statement_row, instance_rows}
-use Rattle.grc_graph.specs.RowCosts.{test_of, rows_by}
+use Rattle.grc_words.specs.Holdings.{readings, HoldingsMade, AboveMade, OwnMade, LastsMade, held_around, OwnFew}
+use Rattle.grc_words.specs.Sizes.{statement_row, instance_rows, lasting_rows}
+use Rattle.grc_graph.specs.RowCosts.{test_of, rows_by, with_lasting}
 use Rattle.grc_words.specs.Occasions.{Occasion}
-use Rattle.grc_words.specs.Testing.{TestMade}
+use Rattle.grc_words.specs.Testing.{TestMade, wire_source}
 use Rattle.grc_words.specs.WordLaws.{late_bounds}
 use Rattle.grc_words.proofs.Enclosed.{program_follows}
 use Rattle.grc_words.proofs.RowCounts.{both-few, either-few, both-none, either-none}
@@ -47,7 +49,7 @@ says-as : (g : Graph) (rs : List tables.Row) (s : Source) (m n : Occasion g → 
     → Says g (late_bounds g 0) rs s n
 says-as g rs s m n e h = record { fits = h.fits; value = λ t off. h.value t off ∙ e t }
 
-constant-says : (g : Graph) (rs : List tables.Row) (b : Bool) (m : Occasion g → Bool) → ((t : Occasion g) → b ≡ m t)
+pub constant-says : (g : Graph) (rs : List tables.Row) (b : Bool) (m : Occasion g → Bool) → ((t : Occasion g) → b ≡ m t)
     → Says g (late_bounds g 0) rs (sources.Const b) m
 constant-says g rs b m e = record { fits = refl; value = λ t off. e t }
 
@@ -155,7 +157,7 @@ own-suspends g near c e signals go old mid new tested own is listed names h m gr
 follows-of : (g : Graph) (t : Occasion g) (c : ℕ) → IsKernel (program_of g.program).body → c < statement_count (program_of g.program).body
     → MatchOption (around (statement_row g c).entry) (IsOutermost (readings g t) (statement_row g c) c)
     (λ n. IsWithin (readings g t) (statement_row g n) (statement_row g c) n c)
-follows-of g t c kernel low = program_follows (program_of g.program) (is_given t.event) t.valuation c kernel low
+follows-of g t c kernel low = program_follows (program_of g.program) (is_given t.event) ((plain_graph g).lasting t.valuation) c kernel low
 
 pub above-none : (g : Graph) (x : Instance) (rs : List tables.Row) → RowsFit (late_bounds g 0) rs → IsKernel (program_of g.program).body
     → x.path < statement_count (program_of g.program).body → around (statement_row g x.path).entry ≡ None
@@ -170,52 +172,84 @@ above-none g x rs f kernel low is =
       held_says = constant-says g rs false _ (λ t. ap (λ o. held_around (readings g t) o x.layer) (sym is));
     }
 
-lasts-says : (g : Graph) (near : Neighbours) (s : Term) (n : ℕ) (l : Layer) (x : Source) (rs : List tables.Row) → names_in near ≡ names_of g
-    → LastsSaid near s n l x → Says g (late_bounds g 0) rs x (λ t. lasts t.valuation s n l)
-lasts-says g near Nothing n l x rs names h = subst (λ y. Says g (late_bounds g 0) rs y (λ t. true)) (sym h) (constant-says g rs true _ (λ t. refl))
-lasts-says g near Pause n l x rs names h = subst (λ y. Says g (late_bounds g 0) rs y (λ t. true)) (sym h) (constant-says g rs true _ (λ t. refl))
-lasts-says g near (Emit s) n l x rs names h = subst (λ y. Says g (late_bounds g 0) rs y (λ t. true)) (sym h) (constant-says g rs true _ (λ t. refl))
-lasts-says g near (Exit k) n l x rs names h = subst (λ y. Says g (late_bounds g 0) rs y (λ t. true)) (sym h) (constant-says g rs true _ (λ t. refl))
-lasts-says g near (Present e p q) n l x rs names h = subst (λ y. Says g (late_bounds g 0) rs y (λ t. true)) (sym h) (constant-says g rs true _ (λ t. refl))
-lasts-says g near (Suspend e p) n l x rs names h = subst (λ y. Says g (late_bounds g 0) rs y (λ t. true)) (sym h) (constant-says g rs true _ (λ t. refl))
-lasts-says g near (Seq p q) n l x rs names h = subst (λ y. Says g (late_bounds g 0) rs y (λ t. true)) (sym h) (constant-says g rs true _ (λ t. refl))
-lasts-says g near (Loop at p) n l x rs names h = subst (λ y. Says g (late_bounds g 0) rs y (λ t. true)) (sym h) (constant-says g rs true _ (λ t. refl))
-lasts-says g near (Par p q) n l x rs names h =
-    subst (λ y. Says g (late_bounds g 0) rs y (λ t. t.valuation (End n l 1))) (sym h.2) (wire-says g near h.0 (End n l 1) rs names h.1)
-lasts-says g near (Trap p) n l x rs names h = subst (λ y. Says g (late_bounds g 0) rs y (λ t. true)) (sym h) (constant-says g rs true _ (λ t. refl))
-lasts-says g near (Local s p) n l x rs names h = subst (λ y. Says g (late_bounds g 0) rs y (λ t. true)) (sym h) (constant-says g rs true _ (λ t. refl))
-lasts-says g near (Awake d p) n l x rs names h = subst (λ y. Says g (late_bounds g 0) rs y (λ t. true)) (sym h) (constant-says g rs true _ (λ t. refl))
-
-pub above-some : (g : Graph) (near : Neighbours) (x : Instance) (rs new : List tables.Row) (n : ℕ) (i : ℕ) (kept held : List Source) (count : ℕ)
-    (lasting own held_own d : Source) → IsKernel (program_of g.program).body → names_in near ≡ names_of g → x.path < statement_count (program_of g.program).body
+pub above-some : (g : Graph) (x : Instance) (rs mid new : List tables.Row) (n : ℕ) (i : ℕ) (kept held : List Source) (count : ℕ)
+    (lasting own held_own d : Source) → IsKernel (program_of g.program).body → x.path < statement_count (program_of g.program).body
     → around (statement_row g x.path).entry ≡ Some n → HoldingsMade g rs rs kept held count → i < count
     → instance_at (instances_of g) i ≡ record { path = n; layer = layer_above n x.layer }
-    → LastsSaid near (statement_row g n).statement n (layer_above n x.layer) lasting → new ≡ with_both rs (slice_index_or kept i d) lasting
-    → own ≡ both_source rs (slice_index_or kept i d) lasting → held_own ≡ slice_index_or held i d → AboveMade g x rs new own held_own
-above-some g near x rs new n i kept held count lasting own held_own d kernel names low is m h here said grown fresh read =
+    → LastsMade g (statement_row g n).statement n (layer_above n x.layer) rs mid lasting → new ≡ with_both mid (slice_index_or kept i d) lasting
+    → own ≡ both_source mid (slice_index_or kept i d) lasting → held_own ≡ slice_index_or held i d → AboveMade g x rs new own held_own
+above-some g x rs mid new n i kept held count lasting own held_own d kernel low is m h here said grown fresh read =
     let b = late_bounds g 0 in
-    let fit = m.extends.fit in
     let law = λ (t : Occasion g). subst (λ o. MatchOption o (IsOutermost (readings g t) (statement_row g x.path) x.path)
     (λ k. IsWithin (readings g t) (statement_row g k) (statement_row g x.path) k x.path)) is (follows-of g t x.path kernel low) in
     let k = slice_index_or kept i d in
     let first : Says g b rs k (λ t. kept_of (readings g t) n (layer_above n x.layer)) =
     says-as g rs k _ _ (λ t. ap (λ (y : Instance). kept_of (readings g t) y.path y.layer) here) (m.kept_says i d h) in
-    let last = lasts-says g near (statement_row g n).statement n (layer_above n x.layer) lasting rs names said in
-    let made = makes-both g b rs k lasting _ _ fit first last in
-    let whole = with_both rs k lasting in
-    let kept_here : Says g b whole (both_source rs k lasting) (λ t. kept_of (readings g t) x.path x.layer) =
-    says-as g whole (both_source rs k lasting) _ _ (λ t. sym ((law t).kept x.layer)) made.says in
+    let made = makes-both g b mid k lasting _ _ said.extends.fit (says-more g b rs mid k _ said.extends first) said.says in
+    let whole = with_both mid k lasting in
+    let grows = extends-trans b rs mid whole said.extends made.extends in
+    let kept_here : Says g b whole (both_source mid k lasting) (λ t. kept_of (readings g t) x.path x.layer) =
+    says-as g whole (both_source mid k lasting) _ _ (λ t. sym ((law t).kept x.layer)) made.says in
     let held_there : Says g b rs (slice_index_or held i d) (λ t. held_around (readings g t) (around (statement_row g x.path).entry) x.layer) =
     says-as g rs (slice_index_or held i d) _ _ (λ t. ap (λ (y : Instance). held_of (readings g t) y.path y.layer) here
     ∙ ap (λ o. held_around (readings g t) o x.layer) (sym is)) (m.held_says i d h) in
-    let done : AboveMade g x rs whole (both_source rs k lasting) (slice_index_or held i d) = record {
-      extends = made.extends;
-      few = both-few rs k lasting;
+    let done : AboveMade g x rs whole (both_source mid k lasting) (slice_index_or held i d) = record {
+      extends = grows;
+      few = omega (arith, said.few, both-few mid k lasting);
       kept_says = kept_here;
-      held_says = says-more g b rs whole (slice_index_or held i d) _ made.extends held_there;
+      held_says = says-more g b rs whole (slice_index_or held i d) _ grows held_there;
     } in
     subst (λ z. AboveMade g x rs z own held_own) (sym grown) (subst (λ z. AboveMade g x rs whole z held_own) (sym fresh)
-    (subst (λ z. AboveMade g x rs whole (both_source rs k lasting) z) (sym read) done))
+    (subst (λ z. AboveMade g x rs whole (both_source mid k lasting) z) (sym read) done))
+
+-- what is seen of a parallel's end is its own end, or also that of the resumed one
+pub own-lasts : (g : Graph) (near : Neighbours) (found : Option WireId) (x : Source) (s : Term) (n : ℕ) (l : Layer) (rs : List tables.Row)
+    → names_in near ≡ names_of g → HasName (names_in near) found (End n l 1) → x ≡ wire_source found → RowsFit (late_bounds g 0) rs
+    → ((V : Valuation) → lasts ((plain_graph g).lasting V) s n l ≡ V (End n l 1)) → LastsMade g s n l rs rs x
+own-lasts g near found x s n l rs names has is fit e = record {
+  extends = extends-refl (late_bounds g 0) rs fit;
+  few = omega arith;
+  says = says-as g rs x _ _ (λ t. sym (e t.valuation))
+      (subst (λ y. Says g (late_bounds g 0) rs y (λ t. t.valuation (End n l 1))) (sym is) (wire-says g near found (End n l 1) rs names has));
+}
+
+pub both-lasts : (g : Graph) (near : Neighbours) (found other : Option WireId) (x y : Source) (s : Term) (n : ℕ) (l : Layer) (rs new : List tables.Row)
+    (z : Source) → names_in near ≡ names_of g → HasName (names_in near) found (End n l 1) → HasName (names_in near) other (End n Resumed 1)
+    → x ≡ wire_source found → y ≡ wire_source other → RowsFit (late_bounds g 0) rs → lasting_rows g ≡ 1
+    → ((V : Valuation) → lasts ((plain_graph g).lasting V) s n l ≡ (V (End n l 1) || V (End n Resumed 1)))
+    → new ≡ with_either rs x y → z ≡ either_source rs x y → LastsMade g s n l rs new z
+both-lasts g near found other x y s n l rs new z names has there is also fit one e grown fresh =
+    let b = late_bounds g 0 in
+    let own = subst (λ v. Says g b rs v (λ t. t.valuation (End n l 1))) (sym is) (wire-says g near found (End n l 1) rs names has) in
+    let resumed = subst (λ v. Says g b rs v (λ t. t.valuation (End n Resumed 1))) (sym also) (wire-says g near other (End n Resumed 1) rs names there) in
+    let made = makes-either g b rs x y _ _ fit own resumed in
+    let done : LastsMade g s n l rs (with_either rs x y) (either_source rs x y) = record {
+      extends = made.extends;
+      few = omega (arith, either-few rs x y, one);
+      says = says-as g (with_either rs x y) (either_source rs x y) _ _ (λ t. sym (e t.valuation)) made.says;
+    } in
+    subst (λ r. LastsMade g s n l rs r z) (sym grown) (subst (λ v. LastsMade g s n l rs (with_either rs x y) v) (sym fresh) done)
+
+-- what is seen of the ends of parallels is nothing else of a suspension
+seen-lasting : (loops : Option (Vec LoopBodies Global)) (body : Term) (given : Values) (V : Valuation) (b : Binding) (s : ℕ) (l : Layer)
+    → seen_value given (lasting_in loops body V) b s l ≡ seen_value given V b s l
+seen-lasting None body given V b s l = refl
+seen-lasting (Some loops) body given V Entering s l = refl
+seen-lasting (Some loops) body given V Outgoing s l = refl
+seen-lasting (Some loops) body given V (BoundAt n) s l = refl
+seen-lasting (Some loops) body given V Unbound s l = refl
+
+go-lasting : (loops : Option (Vec LoopBodies Global)) (body : Term) (V : Valuation) (n : ℕ) (l : Layer)
+    → lasting_in loops body V (Go n l) ≡ V (Go n l)
+go-lasting None body V n l = refl
+go-lasting (Some loops) body V n l = refl
+
+suspends-lasting : (loops : Option (Vec LoopBodies Global)) (body : Term) (given : Values) (V : Valuation) (B : Scope) (t : Term) (n : ℕ) (l : Layer)
+    → suspends given (lasting_in loops body V) B t n l ≡ suspends given V B t n l
+suspends-lasting loops body given V B (Suspend e p) n l = λ i.
+    same_layer l Resumed
+    && (go-lasting loops body V n Resumed i && truth e (λ s. seen-lasting loops body given V (B s) s Resumed i))
+suspends-lasting loops body given V B _ n l = refl
 
 -- ---- one more instance
 
@@ -226,6 +260,12 @@ held-follows : (g : Graph) (t : Occasion g) (x : Instance) → IsKernel (program
     ≡ held_of (readings g t) x.path x.layer
 held-follows g t x kernel low own = by_entry (around (statement_row g x.path).entry) (follows-of g t x.path kernel low)
   where
+    other : suspends (is_given t.event) (readings g t).wires (statement_row g x.path).scope (statement_row g x.path).statement x.path x.layer
+        ≡ suspends (is_given t.event) t.valuation (statement_row g x.path).scope (statement_row g x.path).statement x.path x.layer
+    other =
+        suspends-lasting g.loops (program_of g.program).body (is_given t.event) t.valuation (statement_row g x.path).scope
+        (statement_row g x.path).statement x.path x.layer
+
     by_entry : (o : Option ℕ) → MatchOption o (IsOutermost (readings g t) (statement_row g x.path) x.path)
         (λ n. IsWithin (readings g t) (statement_row g n) (statement_row g x.path) n x.path)
         → (held_around (readings g t) o x.layer || (kept_of (readings g t) x.path x.layer
@@ -234,11 +274,12 @@ held-follows g t x kernel low own = by_entry (around (statement_row g x.path).en
     by_entry None law =
         ap (λ b. b && suspends (is_given t.event) t.valuation (statement_row g x.path).scope (statement_row g x.path).statement x.path x.layer)
         (law.kept x.layer)
-        ∙ sym (law.held x.layer ∙ ap (λ l. suspends (is_given t.event) t.valuation (statement_row g x.path).scope (statement_row g x.path).statement x.path l)
-        own)
+        ∙ sym (law.held x.layer ∙ ap (λ l. suspends (is_given t.event) (readings g t).wires (statement_row g x.path).scope (statement_row g x.path).statement
+        x.path l) own ∙ other)
     by_entry (Some n) law =
         sym (law.held x.layer ∙ ap (λ l. held_of (readings g t) n (layer_above n x.layer) || (kept_of (readings g t) x.path x.layer
-        && suspends (is_given t.event) t.valuation (statement_row g x.path).scope (statement_row g x.path).statement x.path l)) own)
+        && suspends (is_given t.event) (readings g t).wires (statement_row g x.path).scope (statement_row g x.path).statement x.path l)) own
+        ∙ ap (λ b. held_of (readings g t) n (layer_above n x.layer) || (kept_of (readings g t) x.path x.layer && b)) other)
 
 pub holdings-begun : (g : Graph) (rs : List tables.Row) → RowsFit (late_bounds g 0) rs → HoldingsMade g rs rs [] [] 0
 holdings-begun g rs f = record {
@@ -269,6 +310,10 @@ rows-of-one (Some e) Resumed r1 r2 r3 r4 above_kept above_held own both_own few 
     omega (arith, few, ap length g3, both-few r2 above_kept own, ap length g4, either-few r3 above_held both_own)
 rows-of-one (Some e) (Started r) r1 r2 r3 r4 above_kept above_held own both_own few g3 s3 g4 =
     rows-of-other r1 r2 r3 r4 above_kept above_held own both_own few.0 few.1 g3 s3 g4
+
+lasting-more : (loops : Option (Vec LoopBodies Global)) (rows : ℕ) → with_lasting loops rows ≡ rows + with_lasting loops 0
+lasting-more None rows = omega arith
+lasting-more (Some loops) rows = omega arith
 
 sum-more : (g : Graph) (i : ℕ) (x : Instance) → i < length (instances_of g) → instance_at (instances_of g) i ≡ x
     → sum_by (instance_rows g) (take (i + 1) (instances_of g)) ≡ sum_by (instance_rows g) (take i (instances_of g)) + instance_rows g x
@@ -314,6 +359,7 @@ holdings-step g x old r0 r1 r2 r3 r4 kept held i above_kept above_held own both_
         a.few,
         sum-more g i x within here,
         rows-of-one (test_of (statement_row g x.path).statement) x.layer r1 r2 r3 r4 above_kept above_held own both_own o.few g3 s3 g4,
+        lasting-more g.loops (rows_by (test_of (statement_row g x.path).statement) x.layer),
       );
       kept_all = omega (arith, m.kept_all, length_push kept above_kept);
       held_all = omega (arith, m.held_all, length_push held last);

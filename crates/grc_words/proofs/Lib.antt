@@ -8,9 +8,9 @@ mod Holding
 mod LeafChoices
 mod PartSteps
 mod TestSteps
-mod Beside
 mod HoldingSteps
 mod Listing
+mod Lastings
 mod EndSteps
 mod EndPlaces
 mod EndCodes

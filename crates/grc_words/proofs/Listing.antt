@@ -1,8 +1,9 @@
 -- What the lists of a program say of an instance, and of the one around it.
-use Rattle.std.proofs.Common.{◌≡◌, ℕ, ◌<◌, ◌≤◌, false, List, length, slice_index_or, refl, sym, ap, ◌∙◌, subst, arith, inl, inr}
+use Rattle.std.proofs.Common.{◌≡◌, ℕ, ◌<◌, ◌≤◌, ◌==◌, ◌&&◌, true, false, Some, List, length, slice_index_or, refl, sym, ap, ◌∙◌, subst, arith, inl, inr}
 use Rattle.std.specs.Prelude.{Contains}
-use Rattle.std.proofs.lemmas.Bool.{cases_lt, ne_eqb, le-ltb, false≢true}
+use Rattle.std.proofs.lemmas.Bool.{and_parts, cases_lt, eqb-true, ne_eqb, le-ltb, false≢true}
 use Rattle.std.proofs.lemmas.List.{length-map, get_or_default}
+use Rattle.std.proofs.lemmas.List.Folds.{Any-from_list_any}
 use Rattle.est_kernel.specs.Plain.{program_of}
 use Rattle.est_kernel.specs.Preorder.{statement_count}
 use Rattle.grc_graph.specs.declared.graph.Graph.{Graph}
@@ -11,24 +12,43 @@ use Rattle.grc_graph.specs.declared.instances.Layer.TheVariants as layers
 use Rattle.grc_graph.specs.declared.neighbours.Neighbours.{Neighbours}
 use Rattle.grc_graph.specs.declared.statements.Statement.{Statement}
 use Rattle.grc_graph.specs.Instances.{Instance}
-use Rattle.grc_graph.specs.Layers.{Resumed}
+use Rattle.grc_graph.specs.Layers.{Layer, Resumed, layer_above, same_layer}
+use Rattle.grc_graph.specs.Layouts.{is_among}
 use Rattle.grc_graph.specs.PlainGraphs.{instances_of, instance_at}
 use Rattle.grc_graph.specs.PlainInstances.{instance_of}
 use Rattle.grc_graph.specs.StatementViews.{view_of}
 use Rattle.grc_graph.specs.Neighbouring.{instances_in}
 use Rattle.grc_graph.specs.WireTables.{comes_before, IsNumberOf}
-use Rattle.grc_graph.proofs.Exports.{body_ascending, name_at, statement_read, LiveAt, live_instance}
+use Rattle.grc_graph.proofs.Exports.{name_at, same_layer-true, statement_read, LiveAt}
+use Rattle.grc_words.specs.Enclosures.{around}
 use Rattle.grc_words.specs.Holdings.{AreListed, IsLive, StatementRead}
+use Rattle.grc_words.specs.Sizes.{statement_row}
 
 -- an instance by number is live
 pub live-number : (g : Graph) (near : Neighbours) (list : List Statement) (i : ℕ) (x : Instance) → AreListed g near list → IsLive g i x
     → LiveAt (program_of g.program) x.path x.layer
 live-number g near list i x l live =
-    let many = length-map g.instances.list.items instance_of in
-    let low : i < length (instances_of g) = omega (arith, live.low) in
-    let default = get_or_default (instances_of g) i x (record { path = 0; layer = Resumed }) low in
-    let here : Contains (instances_of g) x = (i, low, default ∙ live.same) in
-    live_instance (program_of g.program) x.path x.layer (subst (λ xs. Contains xs x) l.body here)
+    let low : i < length (instances_of g) = omega (arith, live.low, length-map g.instances.list.items instance_of) in
+    subst (λ (y : Instance). LiveAt (program_of g.program) y.path y.layer) live.same
+    (record { within = g.laid_out.within i low; live = g.laid_out.live i low })
+
+among-has : (insts : List Instance) (n : ℕ) (l : Layer) → is_among insts n l ≡ true → Contains insts (record { path = n; layer = l })
+among-has insts n l h =
+    let test = λ (x : Instance). x.path == n && same_layer x.layer l in
+    let a = Any-from_list_any test insts h in
+    let both = and_parts (a.1.path == n) (same_layer a.1.layer l) a.4 in
+    let y : Instance = record { path = n; layer = l } in
+    let same : a.1 ≡ y = λ t. record { path = eqb-true a.1.path n both.0 t; layer = same_layer-true a.1.layer l both.1 t } in
+    (a.0, a.2, get_or_default insts a.0 y a.1 a.2 ∙ a.3 ∙ same)
+
+-- and so is that around it
+pub enclosing-there : (g : Graph) (i n : ℕ) (x : Instance) → IsLive g i x → around (statement_row g x.path).entry ≡ Some n
+    → Contains (instances_of g) (record { path = n; layer = layer_above n x.layer })
+enclosing-there g i n x live is =
+    let low : i < length (instances_of g) = omega (arith, live.low, length-map g.instances.list.items instance_of) in
+    among-has (instances_of g) n (layer_above n x.layer)
+    (subst (λ (y : Instance). around (statement_row g y.path).entry ≡ Some n → is_among (instances_of g) n (layer_above n y.layer) ≡ true) live.same
+    (g.laid_out.enclosed i n low) is)
 
 pub statement-read : (g : Graph) (near : Neighbours) (list : List Statement) (n : ℕ) (s : Statement) → AreListed g near list
     → n < statement_count (program_of g.program).body → s ≡ slice_index_or list n s → StatementRead g n (view_of s)
@@ -53,7 +73,7 @@ instance-before g near list i j x y l live low is before = elim (cases_lt j i) [
     not_more : i ≤ j → ⊥
     not_more more = elim (cases_lt i j) [
       | inl less ↦
-          let ascends = body_ascending (program_of g.program).body g.instances.list.items l.body i j first less low in
+          let ascends = g.tables.ascend i j first less low in
           let a = sym (name_at g.instances.list.items i first (record { path = 0; layer = Resumed }) live.low) ∙ live.same in
           let b = sym (name_at g.instances.list.items j first (record { path = 0; layer = Resumed }) low) ∙ is in
           false≢true (sym (not-before x y before) ∙ ap (λ (z : Instance). comes_before z y) (sym a)

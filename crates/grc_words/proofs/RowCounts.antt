@@ -1,19 +1,15 @@
 -- How many rows connectives take, and a whole table.
 use Rattle.std.proofs.Common.{◌≡◌, ◌+◌, ◌*◌, ◌≤◌, Bool, true, false, List, [], ◌∷◌, ◌++◌, length, refl, ap, arith}
 use Rattle.std.specs.Prelude.{if◌then◌else◌}
-use Rattle.std.specs.List.{sum_by}
 use Rattle.std.proofs.lemmas.List.{length_push}
 use Rattle.est_base.specs.declared.bounds.TheConstants.Limits.{WIRES}
-use Rattle.est_kernel.specs.Plain.{program_of}
 use Rattle.grc_graph.specs.declared.graph.Graph.{Graph}
-use Rattle.grc_graph.specs.RowCosts.{rows_of, selection_rows}
-use Rattle.grc_graph.specs.Rows.{program_rows}
 use Rattle.grc_words.specs.declared.table.Source.{Source}
 use Rattle.grc_words.specs.declared.table.Source.TheVariants.{Const}
 use Rattle.grc_words.specs.declared.table.Row.{Row}
 use Rattle.grc_words.specs.declared.table.Row.TheVariants as rows
 use Rattle.grc_words.specs.Building.{is_constant, with_both, both_source, with_either}
-use Rattle.grc_words.specs.Sizes.{instance_rows, rows_at_most}
+use Rattle.grc_words.specs.Sizes.{rows_at_most}
 
 pub both-few : (rs : List Row) (a b : Source) → length (with_both rs a b) ≤ length rs + 1
 both-few rs a b = by (is_constant true a) (is_constant true b) (is_constant false b)
@@ -47,9 +43,6 @@ either-none rs a = by (is_constant false a)
     by true = refl
     by false = refl
 
--- the rows of a graph's table are those of its program's, and few
-pub rows-of : (g : Graph) → rows_at_most g ≡ rows_of (program_of g.program)
-rows-of g = ap (λ insts. sum_by selection_rows (program_rows (program_of g.program)) + sum_by (instance_rows g) insts + 1) g.laid_out.instances
-
+-- the rows of a graph's table are few
 pub rows-small : (g : Graph) → rows_at_most g ≤ 15 * WIRES
-rows-small g = omega (arith, rows-of g, g.few.size, g.few.gates)
+rows-small g = omega (arith, g.few.size, g.few.gates)

@@ -14,8 +14,6 @@ use Rattle.est_kernel.specs.WellFormed.{IsKernel}
 use Rattle.est_kernel.proofs.Exports.{statement_count-pos}
 use Rattle.grc_graph.specs.declared.graph.Graph.{Graph}
 use Rattle.grc_graph.specs.GraphRuns.{shown}
-use Rattle.grc_graph.specs.Instances.{body_instances}
-use Rattle.grc_graph.specs.Neighbouring.{program_wires}
 use Rattle.grc_graph.specs.PlainGraphs.{instances_of, names_of, plain_graph}
 use Rattle.grc_graph.specs.PlainInstances.{instance_of}
 use Rattle.grc_graph.specs.Readings.{holds_at, state_holds_at}
@@ -114,8 +112,6 @@ holds-clamped g t n m e = by (state_in g t)
 
 pub record Made (g : Graph) (w : Words) : Type 0 where
   pub kernel : IsKernel (program_of g.program).body
-  pub instances : instances_of g ≡ body_instances (program_of g.program).body
-  pub wires : names_of g ≡ program_wires (program_of g.program)
   pub early_rows : List Row
   pub late_rows : List Row
   pub early : w.early ≡ length early_rows
@@ -200,7 +196,7 @@ words-are g w m =
           (says-more g (late_bounds g 0) m.late_rows w.rows.items (slice_index_or w.held.items i d) _ m.paused.extends (m.holdings.held_says i d low)).value t
           off;
       upto = λ t i k off low.
-          upto-by-ends g t.valuation i k (first_end w i) (record { kernel = m.kernel; instances = m.instances; wires = m.wires; low = omega arith; off = off })
+          upto-by-ends g t.valuation i k (first_end w i) (record { low = omega arith; off = off })
           (m.ends.found i (record { 0 = 0 }) (omega (arith, m.ends.each)) ∙ omega arith);
       outputs = λ t off. outputs-of g w m t off;
       paused = λ t off. m.paused.says.value t off;

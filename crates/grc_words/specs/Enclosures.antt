@@ -6,20 +6,9 @@ use Rattle.grc_graph.specs.Layers.{Layer, Resumed, layer_above, same_layer}
 use Rattle.grc_graph.specs.Readings.{Valuation, seen_values, kept_at, held_at}
 use Rattle.grc_graph.specs.Rows.{Row, row_at}
 use Rattle.grc_graph.specs.Scopes.{Scope}
-use Rattle.grc_graph.specs.Statements.{Entry, Body, Part, Branch, Then, Else, Suspended, Second, Looped}
+pub use Rattle.grc_graph.specs.Statements.{around}
 use Rattle.grc_graph.specs.Walk.{Values, truth}
 use Rattle.grc_graph.specs.Wires.{Go, End}
-
--- the number of the statement around one that is entered so
-abbrev pub around : Entry → Option ℕ
-around Body = None
-around (Part n) = Some n
-around (Branch n) = Some n
-around (Then n e) = Some n
-around (Else n e) = Some n
-around (Suspended n e) = Some n
-around (Second n) = Some n
-around (Looped n) = Some n
 
 -- a parallel at n ends with code 1; of other statements nothing is asked
 abbrev pub lasts : Valuation → Term → ℕ → Layer → Bool

@@ -2,49 +2,43 @@
 use Rattle.std.specs.Prelude.{◌≡◌, ℕ, ◌+◌, ◌<◌, ◌≤◌, Bool, true, false, Option, Some, None, List, length, map, take}
 use Rattle.std.specs.Prelude.{slice_index_or}
 use Rattle.std.specs.List.{sum_by}
-use Rattle.est_base.specs.declared.indices.WireId.{WireId}
 use Rattle.est_kernel.specs.Plain.{program_of}
 use Rattle.est_kernel.specs.Preorder.{statement_count}
 use Rattle.est_kernel.specs.Reactions.{is_given}
-use Rattle.est_kernel.specs.Terms.{Expression, Term, Nothing, Pause, Emit, Exit, Present, Suspend, Seq, Loop, Par, Trap}
-use Rattle.est_kernel.specs.Terms.{Local, Awake}
+use Rattle.est_kernel.specs.Terms.{Expression, Term}
 use Rattle.grc_graph.specs.declared.graph.Graph.{Graph}
 use Rattle.grc_graph.specs.declared.neighbours.Neighbours.{Neighbours}
 use Rattle.grc_graph.specs.declared.statements.Statement.{Statement}
-use Rattle.grc_graph.specs.Instances.{Instance, body_instances}
+use Rattle.grc_graph.specs.Instances.{Instance}
 use Rattle.grc_graph.specs.Layers.{Layer, Resumed, Started, layer_above}
 use Rattle.grc_graph.specs.Neighbouring.{instances_in, names_in}
-use Rattle.grc_graph.specs.PlainGraphs.{instances_of, names_of, instance_at}
+use Rattle.grc_graph.specs.PlainGraphs.{instances_of, names_of, instance_at, plain_graph}
 use Rattle.grc_graph.specs.Rows as listed_rows
 use Rattle.grc_graph.specs.Statements.{Listed, program_listed}
 use Rattle.grc_graph.specs.StatementViews.{view_of}
-use Rattle.grc_graph.specs.WireTables.{HasName}
-use Rattle.grc_graph.specs.Wires.{End}
 use Rattle.grc_words.specs.declared.table.Source.{Source}
 use Rattle.grc_words.specs.declared.table.Source.TheVariants as sources
 use Rattle.grc_words.specs.declared.table.Row.{Row}
 use Rattle.grc_words.specs.Building.{Says, Extends}
-use Rattle.grc_words.specs.Enclosures.{Readings, around, kept_of, held_of, suspends}
+use Rattle.grc_words.specs.Enclosures.{Readings, around, kept_of, held_of, lasts, suspends}
 use Rattle.grc_words.specs.Occasions.{Occasion}
-use Rattle.grc_words.specs.Sizes.{statement_row, instance_rows}
+use Rattle.grc_words.specs.Sizes.{statement_row, instance_rows, lasting_rows}
 use Rattle.grc_graph.specs.RowCosts.{test_of, operators}
-use Rattle.grc_words.specs.Testing.{wire_source}
 use Rattle.grc_words.specs.WordLaws.{late_bounds}
 use Rattle.grc_graph.specs.Scopes.{program_scope}
 use Rattle.est_kernel.specs.Plain.{interface_count}
 
--- the lists are those of the graph's program
+-- the lists are those of the graph and of its program
 pub record AreListed (g : Graph) (near : Neighbours) (list : List Statement) : Type 0 where
   pub instances : instances_in near ≡ instances_of g
   pub wires : names_in near ≡ names_of g
-  pub body : instances_of g ≡ body_instances (program_of g.program).body
   pub statements : map view_of list ≡ program_listed (program_of g.program)
 
 -- how Kept and Held are read on an occasion
 abbrev pub readings : (g : Graph) → Occasion g → Readings
 readings g t = record {
   given = is_given t.event;
-  wires = t.valuation;
+  wires = (plain_graph g).lasting t.valuation;
   scope = program_scope (program_of g.program).inputs (interface_count (program_of g.program));
   body = (program_of g.program).body;
 }
@@ -76,25 +70,16 @@ held_around r (Some n) l = held_of r n (layer_above n l)
 
 pub record AboveMade (g : Graph) (x : Instance) (old new : List Row) (kept held : Source) : Type 0 where
   pub extends : Extends (late_bounds g 0) old new
-  pub few : length new ≤ length old + 1
+  pub few : length new ≤ length old + 1 + lasting_rows g
   pub kept_says : Says g (late_bounds g 0) new kept (λ t. kept_of (readings g t) x.path x.layer)
   pub held_says : Says g (late_bounds g 0) new held
       (λ t. held_around (readings g t) (around (statement_row g x.path).entry) x.layer)
 
--- the source of a parallel's end with code 1, if it has one; of other statements nothing is asked
-abbrev pub LastsSaid : Neighbours → Term → ℕ → Layer → Source → Type 0
-LastsSaid near Nothing n l x = x ≡ sources.Const true
-LastsSaid near Pause n l x = x ≡ sources.Const true
-LastsSaid near (Emit s) n l x = x ≡ sources.Const true
-LastsSaid near (Exit k) n l x = x ≡ sources.Const true
-LastsSaid near (Present e p q) n l x = x ≡ sources.Const true
-LastsSaid near (Suspend e p) n l x = x ≡ sources.Const true
-LastsSaid near (Seq p q) n l x = x ≡ sources.Const true
-LastsSaid near (Loop at p) n l x = x ≡ sources.Const true
-LastsSaid near (Par p q) n l x = (r : Option WireId) × HasName (names_in near) r (End n l 1) × (x ≡ wire_source r)
-LastsSaid near (Trap p) n l x = x ≡ sources.Const true
-LastsSaid near (Local s p) n l x = x ≡ sources.Const true
-LastsSaid near (Awake e p) n l x = x ≡ sources.Const true
+-- a source says what is seen of a parallel's end with code 1; of other statements nothing is asked
+pub record LastsMade (g : Graph) (s : Term) (n : ℕ) (l : Layer) (old new : List Row) (x : Source) : Type 0 where
+  pub extends : Extends (late_bounds g 0) old new
+  pub few : length new ≤ length old + lasting_rows g
+  pub says : Says g (late_bounds g 0) new x (λ t. lasts ((plain_graph g).lasting t.valuation) s n l)
 
 -- rows for a resumed suspension, and none for other instances
 abbrev pub OwnFew : Option Expression → Layer → (old new : List Row) → Source → Type 0

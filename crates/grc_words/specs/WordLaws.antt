@@ -84,11 +84,11 @@ pub record AreWordsOf (g : Graph) (w : Words) : Type 0 where
       → value_of g w t (selected_source w n) ≡ state_holds_at (state_in g t) (plain_graph g).body n
   pub kept : (t : Occasion g) (i : ℕ) (d : Source) → FalseOffWires g t.valuation → i < length g.instances.list.items
       → value_of g w t (slice_index_or w.kept.items i d)
-      ≡ kept_at t.valuation (plain_graph g).body 0 (instance_at (instances_of g) i).path
+      ≡ kept_at ((plain_graph g).lasting t.valuation) (plain_graph g).body 0 (instance_at (instances_of g) i).path
       (instance_at (instances_of g) i).layer
   pub held : (t : Occasion g) (i : ℕ) (d : Source) → FalseOffWires g t.valuation → i < length g.instances.list.items
       → value_of g w t (slice_index_or w.held.items i d)
-      ≡ held_at (is_given t.event) t.valuation (plain_graph g).scope (plain_graph g).body 0
+      ≡ held_at (is_given t.event) ((plain_graph g).lasting t.valuation) (plain_graph g).scope (plain_graph g).body 0
       (instance_at (instances_of g) i).path (instance_at (instances_of g) i).layer
   pub upto : (t : Occasion g) (i k : ℕ) → FalseOffWires g t.valuation → i < length g.instances.list.items
       → any_from (λ v. t.valuation (wire_at (names_of g) v)) (first_end w i) (ends_upto g w i k)

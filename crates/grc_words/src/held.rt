@@ -1,17 +1,22 @@
 // What says that an instance is kept, and that it is held.
 
-ghost use Rattle.std.specs.Prelude.{◌≡◌, ◌+◌, ◌<◌, ◌≤◌, length, map, option_map, slice_index_or, IfOk};
+ghost use Rattle.std.specs.Prelude.{◌≡◌, ◌+◌, ◌<◌, ◌≤◌, ◌||◌, ◌&&◌, length, map, option_map, slice_index_or};
+ghost use Rattle.std.specs.Prelude.{IfOk, IsTrue};
 ghost use Rattle.est_kernel.specs.Plain.{program_of, term_of, expression_of};
-ghost use Rattle.grc_graph.specs.Layers.{layer_above};
+ghost use Rattle.est_kernel.specs.Preorder.{statement_count};
+ghost use Rattle.grc_graph.specs.Layers.{Resumed, layer_above};
 ghost use Rattle.grc_graph.specs.Neighbouring.{instances_in, names_in};
-ghost use Rattle.grc_graph.specs.PlainGraphs.{instances_of, names_of, instance_at};
+ghost use Rattle.grc_graph.specs.PlainGraphs.{instances_of, names_of, instance_at, plain_graph};
 ghost use Rattle.grc_graph.specs.PlainInstances.{instance_of, layer_of};
+ghost use Rattle.grc_graph.specs.Readings.{Valuation};
 ghost use Rattle.grc_graph.specs.Statements.{program_listed};
 ghost use Rattle.grc_graph.specs.StatementViews.{view_of, entry_view};
+ghost use Rattle.grc_graph.specs.Wires.{End};
 ghost use Rattle.grc_words.specs.Building.{RowsFit};
 ghost use Rattle.grc_words.specs.Enclosures.{around};
-ghost use Rattle.grc_words.specs.Holdings.{AreListed, IsLive, AboveMade, LastsSaid, OwnMade, HoldingsMade};
+ghost use Rattle.grc_words.specs.Holdings.{AreListed, IsLive, AboveMade, LastsMade, OwnMade, HoldingsMade};
 ghost use Rattle.grc_words.specs.Holdings.{StatementRead};
+ghost use Rattle.grc_words.specs.Sizes.{lasting_rows};
 ghost use Rattle.grc_graph.specs.RowCosts.{test_of};
 ghost use Rattle.grc_words.specs.WordLaws.{late_bounds};
 
@@ -114,7 +119,7 @@ fn above_sources(
                 None => unreachable!(),
             };
             let layer = layer_above(n, instance.layer);
-            let lasts = lasts_source(near, statements[n as usize].body, n, layer);
+            let lasts = lasts_source(graph, near, statements[n as usize].body, n, layer, rows)?;
             let kept = both(rows, made.kept[i], lasts)?;
             Ok(Above {
                 kept,
@@ -124,14 +129,50 @@ fn above_sources(
     }
 }
 
-// What says that a parallel with this number, in this layer, ends with code 1; of other statements
-// nothing is asked.
-fn lasts_source(near: &Neighbours, body: &Kernel, path: u32, layer: Layer) -> Source
-    ensures { LastsSaid near.now (term_of body.now) path (layer_of layer) result }
+// What says that a parallel with this number ends with code 1, as what is in it sees it in this layer; of other
+// statements nothing is asked.
+fn lasts_source(
+    graph: &Graph,
+    near: &Neighbours,
+    body: &Kernel,
+    path: u32,
+    layer: Layer,
+    rows: &mut Vec<Row>,
+) -> Result<Source, NoMemory>
+    requires names { names_in near.now ≡ names_of graph.now }
+    requires fit { RowsFit (late_bounds graph.now 0) rows.old.items }
+    requires within { path < statement_count (term_of graph.now.program.body) }
+    requires root { layer_above path (layer_of layer) ≡ layer_of layer }
+    ensures { IfOk result (LastsMade graph.now (term_of body.now) path (layer_of layer) rows.old.items rows.new.items) }
 {
     match body {
-        Kernel::Par(_, _) => wire_source(near.find_end(path, layer, 1)),
-        _ => Source::Const(true),
+        Kernel::Par(_, _) => {
+            let own = wire_source(near.find_end(path, layer, 1));
+            if sees_resumed(graph, path, layer) {
+                let resumed = wire_source(near.find_end(path, Layer::Resumed, 1));
+                either(rows, own, resumed)
+            } else {
+                Ok(own)
+            }
+        }
+        _ => Ok(Source::Const(true)),
+    }
+}
+
+// Whether what is in a statement with this number sees it resumed, where it sees it in this layer.
+fn sees_resumed(graph: &Graph, path: u32, layer: Layer) -> bool
+    requires within { path < statement_count (term_of graph.now.program.body) }
+    requires root { layer_above path (layer_of layer) ≡ layer_of layer }
+    ensures sees { (V : Valuation) → (plain_graph graph.now).lasting V (End path (layer_of layer) 1)
+        ≡ (V (End path (layer_of layer) 1) || (result && V (End path Resumed 1))) }
+    ensures rows { IsTrue result → lasting_rows graph.now ≡ 1 }
+{
+    match layer {
+        Layer::Resumed => false,
+        Layer::Started(root) => match &graph.loops {
+            None => false,
+            Some(loops) => loops[path as usize].inside == loops[root.0 as usize].above,
+        },
     }
 }
 

@@ -153,10 +153,7 @@ module _ (g : Graph) where
       → IsTrue (wire_fits (length g.instances.list.items) (wires.Go (record { 0 = i }))) → (instance_at (instances_of g) i).path < statement_count body
   place-low i fits =
       let few = ltb-true i (length g.instances.list.items) fits in
-      let all = subst (All (λ (x : plain.Instance). (0 ≤ x.path) × (x.path < 0 + statement_count body))) (sym g.laid_out.instances)
-      (instances_among (body_liveness body) body 0) in
-      let at = all i (record { path = 0; layer = Resumed }) (omega (arith, few, length-map g.instances.list.items instance_of)) in
-      omega (arith, at.1)
+      g.laid_out.within i (omega (arith, few, length-map g.instances.list.items instance_of))
 
   by-wire : (x : Stored) (w : Wire) → IsTrue (wire_fits (length g.instances.list.items) x) → region_of body (wire_of (instances_of g) x) ≡ Some w
       → region_of body w ≡ None

@@ -1,26 +1,27 @@
 -- The region of a wire of a graph, by the list of heads.
 use Rattle.std.proofs.Common.{◌≡◌, ℕ, ◌+◌, ◌<◌, ◌≤◌, true, false, ◌&&◌, List, [], ◌∷◌, ◌++◌, length, get_or, Option, Some, None, refl, sym, ap}
 use Rattle.std.proofs.Common.{◌∙◌, subst, ⊎_elim, arith}
-use Rattle.std.specs.Prelude.{All, Contains, IsTrue, if◌then◌else◌}
+use Rattle.std.specs.Prelude.{Contains, IsTrue, if◌then◌else◌}
 use Rattle.std.proofs.lemmas.Bool.{cases_lt, eq-eqb, ne_eqb, ltb-true}
 use Rattle.std.proofs.lemmas.List.{length-map, get_or-map, length_push, get_or_append_left, get_or_push}
 use Rattle.est_base.specs.declared.indices.InstId.{InstId}
 use Rattle.est_base.specs.declared.indices.WireId.{WireId}
-use Rattle.est_kernel.specs.Plain.{term_of}
+use Rattle.est_kernel.specs.Plain.{program_of, term_of}
 use Rattle.est_kernel.specs.Preorder.{statement_count}
 use Rattle.est_kernel.specs.Terms.{Term}
 use Rattle.grc_graph.specs.declared.graph.Graph.{Graph}
 use Rattle.grc_graph.specs.declared.instances.Instance.{Instance}
 use Rattle.grc_graph.specs.declared.wires.Wire.{Wire as Stored}
 use Rattle.grc_graph.specs.declared.wires.Wire.TheVariants as wires
+use Rattle.grc_graph.specs.BuiltGraphs.{IsGraphOf}
 use Rattle.grc_graph.specs.GraphShapes.{wire_fits}
 use Rattle.grc_graph.specs.Instances as plain
-use Rattle.grc_graph.specs.Layers.{Layer, Resumed, Started, same_layer, body_liveness}
+use Rattle.grc_graph.specs.Layers.{Layer, Resumed, Started, same_layer}
 use Rattle.grc_graph.specs.PlainGraphs.{instances_of, names_of, wire_at, wire_of}
 use Rattle.grc_graph.specs.PlainInstances.{instance_of, layer_of}
 use Rattle.grc_graph.specs.WireTables.{IsNumberOf}
 use Rattle.grc_graph.specs.Wires.{Go, End, same_wire}
-use Rattle.grc_graph.proofs.Exports.{at_layer, instances_among, same_layer-self}
+use Rattle.grc_graph.proofs.Exports.{at_layer, same_layer-self}
 use Rattle.grc_sem.specs.Heads.{head_in, head_go, region_of}
 use Rattle.guard_regions.specs.HeadLists.{heads_of, head_number}
 use Rattle.guard_regions.specs.Regions.{IsRegion, AreRegionsBefore}
@@ -73,11 +74,7 @@ module _ (g : Graph) where
   -- and is of a statement
   pub path-low : (i : ℕ) (own : Instance) → IsNumberOf (instances_of g) i (instance_of own) → own.path.0 < statement_count body
   path-low i own number =
-      let d = instance_of own in
-      let all = subst (All (λ (x : plain.Instance). (0 ≤ x.path) × (x.path < 0 + statement_count body))) (sym g.laid_out.instances)
-      (instances_among (body_liveness body) body 0) in
-      let at = subst (λ (x : plain.Instance). (0 ≤ x.path) × (x.path < 0 + statement_count body)) (number.same d) (all i d number.within) in
-      omega (arith, at.1)
+      omega (arith, g.laid_out.within i number.within, ap (λ (x : plain.Instance). x.path) (number.same (record { path = 0; layer = Resumed })))
 
   abbrev head : List ℕ → Instance → ℕ
   head heads own = head_number (get_or heads own.path.0 0) (layer_of own.layer)
@@ -90,14 +87,15 @@ module _ (g : Graph) where
       (ap (λ hs. get_or hs own.path.0 0) is ∙ heads-at 0 body 0 own.path.0 low ∙ ap (head_in 0 body 0) z)
 
   -- the head of an instance is live
-  pub head-live : (heads : List ℕ) (own : Instance) (i : ℕ) → heads ≡ heads_of 0 body 0 → IsNumberOf (instances_of g) i (instance_of own)
+  pub head-live : IsGraphOf g (program_of g.program)
+      → (heads : List ℕ) (own : Instance) (i : ℕ) → heads ≡ heads_of 0 body 0 → IsNumberOf (instances_of g) i (instance_of own)
       → Contains (instances_of g) (record { path = head heads own; layer = layer_of own.layer })
-  head-live heads own i is number =
+  head-live built heads own i is number =
       let here : Contains (instances_of g) (instance_of own) = (i, number.within, number.same (instance_of own)) in
       subst (λ h. Contains (instances_of g) (at_layer h (layer_of own.layer))) (sym (head-is heads own is (path-low i own number)))
       (subst (λ xs. Contains xs (at_layer (head_number (head_in 0 body 0 own.path.0) (layer_of own.layer)) (layer_of own.layer)))
-      (sym g.laid_out.instances)
-      (heads_live body own.path.0 (layer_of own.layer) (subst (λ xs. Contains xs (instance_of own)) g.laid_out.instances here)))
+      (sym built.instances)
+      (heads_live body own.path.0 (layer_of own.layer) (subst (λ xs. Contains xs (instance_of own)) built.instances here)))
 
   module _ (w : ℕ) (x : Stored) (low : w < length g.wires.items) (at : x ≡ get_or g.wires.items w x) (heads : List ℕ) (is : heads ≡ heads_of 0 body 0)
       (own : Instance) (i : InstId) (number : IsNumberOf (instances_of g) i.0 (instance_of own)) (found : Option WireId) where

@@ -2,6 +2,7 @@
 
 ghost use Rattle.std.specs.Prelude.{◌≡◌, ◌<◌, Some, length, slice_index_or, IfOk, Contains};
 ghost use Rattle.est_kernel.specs.Plain.{program_of};
+ghost use Rattle.grc_graph.specs.BuiltGraphs.{IsGraphOf};
 ghost use Rattle.grc_graph.specs.Neighbouring.{instances_in, names_in};
 ghost use Rattle.grc_graph.specs.PlainGraphs.{instances_of, names_of, wire_at};
 ghost use Rattle.grc_graph.specs.PlainInstances.{layer_of};
@@ -19,6 +20,7 @@ use std::alloc::Global;
 /// region. The memory is linear in the graph, and so is the time but for a search of one instance a wire. Its only
 /// error is want of memory.
 pub fn regions(alloc: Global, graph: &Graph) -> Result<Vec<Option<WireId>>, NoMemory>
+    requires { IsGraphOf graph.now (program_of graph.now.program) }
     ensures are { IfOk result (λ regions. AreRegions graph.now regions.items) }
     ensures free { IfOk result (λ regions. HeadsAreFree regions.items) }
 {
@@ -33,6 +35,7 @@ pub fn regions(alloc: Global, graph: &Graph) -> Result<Vec<Option<WireId>>, NoMe
 
 // The region of the wire with this number.
 fn region_of(graph: &Graph, near: &Neighbours<'_>, heads: &[u32], w: usize) -> Option<WireId>
+    requires built { IsGraphOf graph.now (program_of graph.now.program) }
     requires instances { instances_in near.now ≡ instances_of graph.now }
     requires names { names_in near.now ≡ names_of graph.now }
     requires heads { heads.now ≡ heads_of 0 (program_of graph.now.program).body 0 }

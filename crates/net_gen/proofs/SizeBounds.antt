@@ -13,10 +13,8 @@ use Rattle.grc_graph.specs.GateCosts.{cost_of}
 use Rattle.grc_graph.specs.GraphSizes.{graph_size}
 use Rattle.grc_graph.specs.PlainGraphs.{instances_of, names_of, wire_of}
 use Rattle.grc_graph.specs.Reads.{IsReadingOrder}
-use Rattle.grc_graph.specs.RowCosts.{rows_of}
 use Rattle.grc_words.specs.declared.table.Words.{Words}
 use Rattle.grc_words.specs.Sizes.{rows_at_most}
-use Rattle.grc_words.proofs.Exports.{rows-of}
 use Rattle.net_gen.specs.Costs.{wire_cost, gates_at_most}
 use Rattle.net_gen.specs.Senses.{first_of}
 use Rattle.net_gen.proofs.FirstNumbers.{numbers_are_few}
@@ -41,12 +39,12 @@ wires_cost g forms order o =
 
 -- all gates but those of the rows
 others_cost : (g : Graph) (rows : ℕ) (forms : List Formula) (order : List WireId) → IsReadingOrder (names_of g) forms order
-    → gates_at_most g rows order + rows_of (program_of g.program) ≤ 15 * graph_size (program_of g.program) + rows
+    → gates_at_most g rows order + rows_at_most g ≤ 15 * graph_size (program_of g.program) + rows
 others_cost g rows forms order o = omega (arith, wires_cost g forms order o, g.few.gates)
 
 pub gates_few : (g : Graph) (forms : List Formula) (order : List WireId) → IsReadingOrder (names_of g) forms order
     → gates_at_most g (rows_at_most g) order ≤ 15 * graph_size (program_of g.program)
-gates_few g forms order o = omega (arith, others_cost g (rows_at_most g) forms order o, rows-of g)
+gates_few g forms order o = omega (arith, others_cost g (rows_at_most g) forms order o)
 
 -- the numbers of all nets are small
 pub numbers_small : (g : Graph) (w : Words) (forms : List Formula) (order : List WireId) → IsReadingOrder (names_of g) forms order

@@ -3,7 +3,6 @@
 ghost use Rattle.std.specs.Prelude.{◌≡◌, ◌≤◌, length, map, IfOk};
 ghost use Rattle.est_kernel.specs.Plain.{program_of};
 ghost use Rattle.est_kernel.specs.WellFormed.{HasNames};
-ghost use Rattle.grc_graph.specs.BuiltGraphs.{IsGraphOf};
 ghost use Rattle.grc_graph.specs.PlainGraphs.{formula_of, instances_of, names_of};
 ghost use Rattle.grc_graph.specs.Reads.{IsReadingOrder};
 ghost use Rattle.net_ir.specs.Gates.{carried};
@@ -20,7 +19,7 @@ use net_ir::Net;
 use std::alloc::Global;
 
 /// The netlist of a graph along an order in which its equations read. The graph's equations and `next` formulas are
-/// any. Where they are the program's, the netlist has at most 15 gates for each wire and each live test node. Its only
+/// any. The netlist has at most 15 gates for each wire and each live test node of the program's own graph. Its only
 /// error is want of memory.
 pub fn generate(alloc: Global, graph: &Graph, order: &Order) -> Result<Net, NoMemory>
     requires names { HasNames (program_of graph.now.program) }
@@ -31,8 +30,7 @@ pub fn generate(alloc: Global, graph: &Graph, order: &Order) -> Result<Net, NoMe
     ensures order { IfOk result (λ net. carried net.gates.items ≡ map (λ v. v.0) order.now.list.items) }
     ensures size { IfOk result (λ net. length net.gates.items
         ≤ gates_at_most graph.now (rows_at_most graph.now) order.now.list.items) }
-    ensures linear { IfOk result (λ net. IsGraphOf graph.now (program_of graph.now.program)
-        → length net.gates.items ≤ linear_bound (program_of graph.now.program)) }
+    ensures linear { IfOk result (λ net. length net.gates.items ≤ linear_bound (program_of graph.now.program)) }
     ensures instants { IfOk result (λ net. FollowsInstants graph.now (netlist_of net)) }
     ensures runs { IfOk result (λ net. FollowsRuns graph.now (netlist_of net)) }
 {

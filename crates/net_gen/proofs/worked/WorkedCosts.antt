@@ -1,26 +1,12 @@
--- Worked costs, by hand: of each form of formula, of the wires and the next state of a graph, and of a small program.
-use Rattle.std.proofs.Common.{◌≡◌, true, [], ◌∷◌, length, map, codes, refl, ap, arith, Vec, Global}
+-- Worked costs, by hand: of the wires and the next state of a graph, and of a small program.
+use Rattle.std.proofs.Common.{◌≡◌, [], ◌∷◌, length, codes, refl, ap, arith}
 use Rattle.std.specs.List.{sum_by}
-use Rattle.est_base.specs.declared.indices.WireId.{WireId}
 use Rattle.est_kernel.specs.Terms.{Nothing}
 use Rattle.grc_graph.specs.Wires.{listed, codes_below}
 use Rattle.grc_graph.specs.declared.formulas.Formula.TheVariants as formulas
 use Rattle.grc_graph.specs.declared.graph.Graph.{Graph}
-use Rattle.grc_graph.specs.GateCosts.{any_cost, cost_of}
+use Rattle.grc_graph.specs.GateCosts.{cost_of}
 use Rattle.net_gen.specs.Costs.{wire_cost, gates_at_most, linear_bound}
-
-some_wires : map any_cost (0 ∷ 1 ∷ 2 ∷ 5 ∷ []) ≡ 0 ∷ 0 ∷ 1 ∷ 4 ∷ []
-some_wires = refl
-
-without_a_gate : map cost_of (formulas.Const true ∷ formulas.Boot ∷ formulas.Input (record { 0 = 3 }) ∷ formulas.Wire (record { 0 = 3 })
-    ∷ formulas.Selected (record { 0 = 3 }) ∷ formulas.Upto (record { 0 = 3 }) 2 ∷ formulas.Kept (record { 0 = 3 }) ∷ formulas.Held (record { 0 = 3 }) ∷ [])
-    ≡ 0 ∷ 0 ∷ 0 ∷ 0 ∷ 0 ∷ 0 ∷ 0 ∷ 0 ∷ []
-without_a_gate = refl
-
--- two negations around an or of three wires and of a conjunction, whose parts lie anywhere
-of_operators : (v : Vec WireId Global) → length v.items ≡ 3 → (p q r s t u : _)
-    → cost_of (formulas.Not' p (formulas.Not' q (formulas.Or' r (formulas.AnyOf v) s (formulas.And' t formulas.Boot u (formulas.Const true))))) ≡ 6
-of_operators v three p q r s t u = let e = ap any_cost three in omega (arith, e)
 
 -- five wires, three rows, and nothing to be kept
 of_a_graph : (g : Graph) → length g.wires.items ≡ 5 → g.next.items ≡ [] → gates_at_most g 3 [] ≡ 10

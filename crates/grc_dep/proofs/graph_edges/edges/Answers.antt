@@ -5,6 +5,7 @@ use Rattle.est_kernel.specs.Plain.{program_of}
 use Rattle.est_kernel.proofs.Exports.{trees_are_kernels_lem}
 use Rattle.grc_graph.specs.declared.graph.Graph.{Graph}
 use Rattle.grc_graph.specs.declared.neighbours.Neighbours.{Neighbours}
+use Rattle.grc_graph.specs.BuiltGraphs.{IsGraphOf}
 use Rattle.grc_graph.specs.Edges.{Edge, edges}
 use Rattle.grc_graph.specs.GraphRuns.{program_spots}
 use Rattle.grc_graph.specs.Neighbouring.{names_in}
@@ -19,13 +20,13 @@ use Rattle.grc_dep.proofs.FoundPairs.{are_edges_of}
 use Rattle.grc_dep.proofs.graph_edges.edges.Goals as goal
 
 -- no two wires that the tables of a graph name are the same
-own-apart : (g : Graph) (near : Neighbours) → names_in near ≡ names_of g → Apart (names_in near)
-own-apart g near e = subst Apart (sym (e ∙ g.laid_out.names)) (wires_apart (program_of g.program) (trees_are_kernels_lem g.program.body))
+own-apart : (g : Graph) (near : Neighbours) → IsGraphOf g (program_of g.program) → names_in near ≡ names_of g → Apart (names_in near)
+own-apart g near built e = subst Apart (sym (e ∙ built.wires)) (wires_apart (program_of g.program) (trees_are_kernels_lem g.program.body))
 
 pub invariant_of-lookups : goal.invariant_of-lookups
 invariant_of-lookups c =
     let g = c.args.graph.now in
-    record { apart = own-apart g c.neighbours-tables.result c.neighbours-tables.ensures.wires }
+    record { apart = own-apart g c.neighbours-tables.result c.requires c.neighbours-tables.ensures.wires }
 
 -- what is found, sorted
 sorted : (names ws : List Wire) (es : List Edge) (none found_pairs pairs : List WireEdge) → names ≡ ws → Apart ws → none ≡ []
@@ -41,7 +42,7 @@ returns-clause-edges c =
     let p = program_of g.program in
     sorted (names_of g) (names_in c.neighbours-tables.result) (edges (program_spots p)) c.in_ok-pairs.pairs.items c.push_edges.new.pairs.items
     c.sort_pairs.new.pairs.items (sym c.neighbours-tables.ensures.wires)
-    (own-apart g c.neighbours-tables.result c.neighbours-tables.ensures.wires) c.in_ok-pairs.ensures.items
+    (own-apart g c.neighbours-tables.result c.requires c.neighbours-tables.ensures.wires) c.in_ok-pairs.ensures.items
     c.in_ok-push_edges.ensures c.in_ok-sort_pairs.ensures.ascend c.in_ok-sort_pairs.ensures.same
 
 pub invariant_of-result : goal.invariant_of-result
@@ -50,7 +51,7 @@ invariant_of-result c =
     let p = program_of g.program in
     let are = sorted (names_of g) (names_in c.neighbours-tables.result) (edges (program_spots p)) c.in_ok-pairs.pairs.items c.push_edges.new.pairs.items
     c.sort_pairs.new.pairs.items (sym c.neighbours-tables.ensures.wires)
-    (own-apart g c.neighbours-tables.result c.neighbours-tables.ensures.wires) c.in_ok-pairs.ensures.items
+    (own-apart g c.neighbours-tables.result c.requires c.neighbours-tables.ensures.wires) c.in_ok-pairs.ensures.items
     c.in_ok-push_edges.ensures c.in_ok-sort_pairs.ensures.ascend c.in_ok-sort_pairs.ensures.same in
     let count : length (names_of g) ≡ c.len-2.result = length-map g.wires.items (wire_of (instances_of g)) ∙ sym (search rules) in
     record { are_edges = subst (λ n. AreEdges n c.sort_pairs.new.pairs.items) count are.ascending }

@@ -28,22 +28,22 @@ inside p insts i e low = path_within p.body insts i (get_or insts i first) e low
 pub bounds-statements-instance : goal.bounds-statements-instance
 bounds-statements-instance c =
     let p = program_of c.args.graph.now.program in
-    let live = ap (map instance_of) c.deref-instance-items.ensures.value ∙ c.args.graph.now.laid_out.instances in
+    let live = ap (map instance_of) c.deref-instance-items.ensures.value ∙ c.requires.built.instances in
     omega (
       arith,
       inside p c.deref-instance-items.result.now c.loop-instance.instance-index live c.loop-instance-test.true,
-      length-statements p c.args.statements.now c.requires,
+      length-statements p c.args.statements.now c.requires.statements,
     )
 
 pub push_edges_at-requires : goal.push_edges_at-requires
 push_edges_at-requires c =
     let p = program_of c.args.graph.now.program in
-    let live = ap (map instance_of) c.deref-instance-items.ensures.value ∙ c.args.graph.now.laid_out.instances in
+    let live = ap (map instance_of) c.deref-instance-items.ensures.value ∙ c.requires.built.instances in
     let n = (get_or c.deref-instance-items.result.now c.loop-instance.instance-index first).path.0 in
     let s = c.index-statements-instance.result in
     let low : n < statement_count p.body = inside p c.deref-instance-items.result.now c.loop-instance.instance-index live c.loop-instance-test.true in
     let reads = reads_row p c.args.graph.now.codes s n c.args.graph.now.laid_out.formed.body c.args.graph.now.code_sets low
-    (statement_read p c.args.statements.now n s c.requires low c.index-statements-instance.is) in
+    (statement_read p c.args.statements.now n s c.requires.statements low c.index-statements-instance.is) in
     record { codes = reads.codes; listed = reads.listed }
 
 pub loop-instance-init : goal.loop-instance-init
@@ -56,14 +56,14 @@ loop-instance-preserved c =
     let w = c.args.lookups.now in
     let insts = c.args.graph.now.instances.list.items in
     let same = c.deref-instance-items.ensures.value in
-    let live = ap (map instance_of) same ∙ c.args.graph.now.laid_out.instances in
+    let live = ap (map instance_of) same ∙ c.requires.built.instances in
     let i = c.loop-instance.instance-index in
     let x = get_or c.deref-instance-items.result.now i first in
     let n = x.path.0 in
     let s = c.index-statements-instance.result in
     let low : n < statement_count p.body = inside p c.deref-instance-items.result.now i live c.loop-instance-test.true in
     let reads = reads_row p c.args.graph.now.codes s n c.args.graph.now.laid_out.formed.body c.args.graph.now.code_sets low
-    (statement_read p c.args.statements.now n s c.requires low c.index-statements-instance.is) in
+    (statement_read p c.args.statements.now n s c.requires.statements low c.index-statements-instance.is) in
     let here = c.in_ok-push_edges_at.ensures (row_at W n).scope reads.signals
     ∙ λ j. c.loop-instance.pairs.items ++ found_by w (edges_at (row_at W n).scope (reads.statement j) n (layer_of x.layer)) in
     let next : map instance_of (take (i + 1) insts) ≡ map instance_of (take i insts) ++ instance_of x ∷ [] =
@@ -81,5 +81,5 @@ returns c =
     let long : length insts ≤ i = omega (arith, ap length c.deref-instance-items.ensures.value) in
     c.loop-instance.invariant
     ∙ ap (λ xs. c.args.pairs.now.items ++ found_by c.args.lookups.now (flat_map (instance_edges (program_rows p)) xs))
-    (ap (map instance_of) (take_all i insts long) ∙ c.args.graph.now.laid_out.instances)
+    (ap (map instance_of) (take_all i insts long) ∙ c.requires.built.instances)
     ∙ ap (λ es. c.args.pairs.now.items ++ found_by c.args.lookups.now es) (sym (spots_edges p (trees_are_kernels_lem c.args.graph.now.program.body)))

@@ -11,4 +11,4 @@ returns c =
     let g = c.args.graph.now in
     let p = program_of g.program in
     let e : c.put_wires.new.text.items ≡ listing p (names_of g) (map node_of g.tree.nodes.items) = grind (arith, common_steps) in
-    e ∙ (λ i. listing p (g.laid_out.names i) (g.laid_out.tree i))
+    e ∙ (λ i. listing p (c.requires.wires i) (g.laid_out.tree i))

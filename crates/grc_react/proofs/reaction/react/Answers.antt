@@ -1,20 +1,15 @@
-use Rattle.std.proofs.Common.{sym, subst}
 use Rattle.est_kernel.specs.Plain.{program_of, term_of}
 use Rattle.est_kernel.proofs.Exports.{trees_are_kernels_lem}
 use Rattle.grc_graph.specs.SelectionTrees.{body_leaves}
 use Rattle.grc_sem.proofs.Exports.{program_kernel}
-use Rattle.grc_solutions.specs.GraphWires.{Differ}
-use Rattle.grc_solutions.proofs.Exports.{wires_differ_lem}
 use Rattle.grc_words.specs.Occasions.{state_of}
 use Rattle.grc_react.proofs.OrderRanks.{edges-up}
 use Rattle.grc_react.proofs.Results.{Premises, start-leaves, begun-state, walked, constructive}
+use Rattle.grc_react.proofs.WiresDiffer.{graph-wires-differ}
 use Rattle.grc_react.proofs.reaction.react.Goals as goal
 
 pub react_over-requires-clause-differ : goal.react_over-requires-clause-differ
-react_over-requires-clause-differ c =
-    let p = program_of c.args.graph.now.program in
-    let kernel = program_kernel p c.args.graph.now.laid_out.formed (trees_are_kernels_lem c.args.graph.now.program.body) in
-    subst Differ (sym c.args.graph.now.laid_out.names) (wires_differ_lem p kernel).1
+react_over-requires-clause-differ c = graph-wires-differ c.args.graph.now
 
 pub returns-clause-walk : goal.returns-clause-walk
 returns-clause-walk c = λ graph begins.

@@ -16,8 +16,6 @@ returns c =
     record {
       words = words-are g _ (record {
         kernel = trees_are_kernels_lem g.program.body;
-        instances = g.laid_out.instances;
-        wires = g.laid_out.names;
         early_rows = are.early_rows;
         late_rows = are.late_rows;
         early = are.early;

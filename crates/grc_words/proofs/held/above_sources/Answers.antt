@@ -12,15 +12,14 @@ use Rattle.grc_graph.specs.Neighbouring.{instances_in}
 use Rattle.grc_graph.specs.PlainInstances.{instance_of, layer_of}
 use Rattle.grc_graph.specs.Statements.{Listed}
 use Rattle.grc_graph.specs.StatementViews.{entry_view}
-use Rattle.grc_graph.proofs.Exports.{length-statements}
+use Rattle.grc_graph.proofs.Exports.{LiveAround, row-around, above_above, length-statements}
 use Rattle.grc_words.specs.Building.{with_both, both_source}
 use Rattle.grc_words.specs.Enclosures.{around}
-use Rattle.grc_words.specs.Holdings.{AreListed, IsLive, LastsSaid}
+use Rattle.grc_words.specs.Holdings.{AreListed, IsLive, LastsMade}
 use Rattle.grc_words.specs.Sizes.{statement_row}
-use Rattle.grc_words.proofs.Beside.{LiveAround, row-around}
 use Rattle.grc_words.proofs.HoldingSteps.{above-none, above-some}
 use Rattle.grc_graph.specs.WireTables.{IsNumberOf}
-use Rattle.grc_words.proofs.Listing.{live-number, statement-read, instance-before, found-below, found-at}
+use Rattle.grc_words.proofs.Listing.{enclosing-there, live-number, statement-read, instance-before, found-below, found-at}
 use Rattle.grc_words.proofs.held.above_sources.Goals as goal
 
 within : (g : Graph) (near : Neighbours) (list : List Statement) (i : ℕ) (x : Instance) → AreListed g near list → IsLive g i x → x.path < length list
@@ -54,11 +53,11 @@ pub unreachable-requires : goal.unreachable-requires
 unreachable-requires c =
     let g = c.args.graph.now in
     let x = instance_of c.args.instance in
-    let side = beside g c.args.near.now c.args.statements.now (length c.args.made.now.kept.items) c.in-Some.n x c.index-statements-path.result c.requires.listed
-    c.requires.live c.index-statements-path.is (ap (λ (z : Statement). around (entry_view z.control)) c.index-statements-path.is ∙ sym c.around.ensures
-    ∙ c.in-Some.is) in
+    let i = length c.args.made.now.kept.items in
+    let entry = entry-is g c.args.near.now c.args.statements.now i x c.index-statements-path.result (Some c.in-Some.n) c.requires.listed c.requires.live
+    c.index-statements-path.is (ap (λ (z : Statement). around (entry_view z.control)) c.index-statements-path.is ∙ sym c.around.ensures ∙ c.in-Some.is) in
     c.in-None-find_above.ensures (subst (λ xs. Contains xs (record { path = c.in-Some.n; layer = layer_above c.in-Some.n x.layer }))
-    (sym (c.requires.listed.instances ∙ c.requires.listed.body)) side.live)
+    (sym c.requires.listed.instances) (enclosing-there g i c.in-Some.n x c.requires.live entry))
 
 pub bounds-statements-n : goal.bounds-statements-n
 bounds-statements-n c =
@@ -141,17 +140,32 @@ returns-in_ok-kept-in-Some c =
     let row = statement-read g near list n c.index-statements-n.result c.requires.listed side.within c.index-statements-n.is in
     let body : term_of (slice_index_or list n c.index-statements-n.result).body.now ≡ (statement_row g n).statement =
     ap (λ (z : Statement). term_of z.body.now) (sym c.index-statements-n.is) ∙ ap (λ (z : Listed). z.statement) row.same in
-    let told_lasts = c.lasts_source-lasts.ensures in
-    let said : LastsSaid near (statement_row g n).statement n (layer_above n x.layer) c.lasts_source-lasts.result =
-    subst (λ l. LastsSaid near (statement_row g n).statement n l c.lasts_source-lasts.result) c.layer_above-layer.ensures
-    (subst (λ s. LastsSaid near s n (layer_of c.layer_above-layer.result) c.lasts_source-lasts.result) body told_lasts) in
     let rows = c.args.rows.now.items in
+    let mid = c.lasts_source.new.rows.items in
+    let lasts = c.in_ok-lasts-in-Some.lasts in
+    let said : LastsMade g (statement_row g n).statement n (layer_above n x.layer) rows mid lasts =
+    subst (λ l. LastsMade g (statement_row g n).statement n l rows mid lasts) c.layer_above-layer.ensures
+    (subst (λ s. LastsMade g s n (layer_of c.layer_above-layer.result) rows mid lasts) body c.in_ok-lasts-in-Some.ensures) in
     let kept = c.args.made.now.kept.items in
     let held = c.args.made.now.held.items in
     let k = c.index.result.now in
-    let lasts = c.lasts_source-lasts.result in
-    let grown = c.in_ok-kept-in-Some.ensures.rows ∙ ap (λ z. with_both rows z lasts) c.index.ensures in
-    let fresh = c.in_ok-kept-in-Some.ensures.source ∙ ap (λ z. both_source rows z lasts) c.index.ensures in
+    let grown = c.in_ok-kept-in-Some.ensures.rows ∙ ap (λ z. with_both mid z lasts) c.index.ensures in
+    let fresh = c.in_ok-kept-in-Some.ensures.source ∙ ap (λ z. both_source mid z lasts) c.index.ensures in
     let read = c.index-in-Some.ensures ∙ get_or_default held j c.index-in-Some.result.now k (omega (arith, before, c.requires.made.held_all)) in
-    above-some g near x rows c.both.new.rows.items n j kept held (length kept) lasts c.in_ok-kept-in-Some.kept c.index-in-Some.result.now k
-    (trees_are_kernels_lem g.program.body) c.requires.listed.wires at.within entry c.requires.made before here said grown fresh read
+    above-some g x rows mid c.both.new.rows.items n j kept held (length kept) lasts c.in_ok-kept-in-Some.kept c.index-in-Some.result.now k
+    (trees_are_kernels_lem g.program.body) at.within entry c.requires.made before here said grown fresh read
+
+pub lasts_source-requires-clause-within : goal.lasts_source-requires-clause-within
+lasts_source-requires-clause-within c =
+    let side = beside c.args.graph.now c.args.near.now c.args.statements.now (length c.args.made.now.kept.items) c.in-Some.n
+    (instance_of c.args.instance) c.index-statements-path.result
+    c.requires.listed c.requires.live c.index-statements-path.is (ap (λ (z : Statement). around (entry_view z.control)) c.index-statements-path.is
+    ∙ sym c.around.ensures ∙ c.in-Some.is) in
+    side.within
+
+pub lasts_source-requires-clause-root : goal.lasts_source-requires-clause-root
+lasts_source-requires-clause-root c =
+    let n = c.in-Some.n in
+    let l = layer_of c.args.instance.layer in
+    let e = c.layer_above-layer.ensures in
+    ap (layer_above n) e ∙ above_above n n l (omega arith) ∙ sym e

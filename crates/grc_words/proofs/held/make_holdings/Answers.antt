@@ -9,9 +9,8 @@ use Rattle.grc_graph.specs.declared.statements.Statement.{Statement}
 use Rattle.grc_graph.specs.Layers.{Resumed}
 use Rattle.grc_graph.specs.PlainGraphs.{instances_of, instance_at}
 use Rattle.grc_graph.specs.PlainInstances.{instance_of}
-use Rattle.grc_graph.proofs.Exports.{length-statements, LiveAt}
+use Rattle.grc_graph.proofs.Exports.{length-statements, LiveAt, own-layer}
 use Rattle.grc_words.specs.Holdings.{AreListed, HoldingsMade}
-use Rattle.grc_words.proofs.Beside.{own-layer}
 use Rattle.grc_words.proofs.HoldingSteps.{holdings-begun, holdings-now, holdings-step}
 use Rattle.grc_words.proofs.Listing.{live-number, statement-read}
 use Rattle.grc_words.proofs.held.make_holdings.Goals as goal

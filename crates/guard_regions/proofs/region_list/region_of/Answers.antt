@@ -58,7 +58,7 @@ find_head-requires c =
     let number = subst (λ xs. IsNumberOf xs c.in-Go.i.0 (instance_of own)) c.requires.instances c.instance-own.ensures in
     subst (λ xs. Contains xs (record { path = c.head_of-head.result; layer = layer_of own.layer })) (sym c.requires.instances)
     (subst (λ h. Contains (instances_of c.args.graph.now) (record { path = h; layer = layer_of own.layer })) (sym c.head_of-head.ensures)
-    (head-live c.args.graph.now c.args.heads.now own c.in-Go.i.0 c.requires.heads number))
+    (head-live c.args.graph.now c.requires.built c.args.heads.now own c.in-Go.i.0 c.requires.heads number))
 
 pub find_head-requires-in-End : goal.find_head-requires-in-End
 find_head-requires-in-End c =
@@ -66,4 +66,4 @@ find_head-requires-in-End c =
     let number = subst (λ xs. IsNumberOf xs c.in-End.i.0 (instance_of own)) c.requires.instances c.instance-own-in-End.ensures in
     subst (λ xs. Contains xs (record { path = c.head_of.result; layer = layer_of own.layer })) (sym c.requires.instances)
     (subst (λ h. Contains (instances_of c.args.graph.now) (record { path = h; layer = layer_of own.layer })) (sym c.head_of.ensures)
-    (head-live c.args.graph.now c.args.heads.now own c.in-End.i.0 c.requires.heads number))
+    (head-live c.args.graph.now c.requires.built c.args.heads.now own c.in-End.i.0 c.requires.heads number))

@@ -6,10 +6,11 @@ use Rattle.est_kernel.specs.Preorder.{statement_count}
 use Rattle.grc_graph.specs.Instances.{body_instances}
 use Rattle.grc_graph.specs.Layers.{Layer, layer_above}
 use Rattle.grc_graph.specs.Rows.{row_at, program_rows}
-use Rattle.grc_graph.specs.Statements.{Entry, Body, Part, Branch, Then, Else, Suspended, Second, Looped}
-use Rattle.grc_graph.proofs.Exports.{Upwards, part_up, second_up, loop_up, above_itself, PartOf, Entered, program_placed, length-program_rows, LiveAt}
-use Rattle.grc_graph.proofs.Exports.{instance_live, in_layers, live_of}
-use Rattle.grc_words.specs.Enclosures.{around}
+use Rattle.grc_graph.specs.Statements.{Entry, Body, Part, Branch, Then, Else, Suspended, Second, Looped, around}
+use Rattle.grc_graph.proofs.LiveInstances.{Upwards, part_up, second_up, loop_up, above_itself}
+use Rattle.grc_graph.proofs.RowFacts.{PartOf, Entered, program_placed}
+use Rattle.grc_graph.proofs.RowReads.{length-program_rows}
+use Rattle.grc_graph.proofs.WireNames.{LiveAt, instance_live, in_layers, live_of}
 
 -- the instance of the statement around, as seen from a live instance
 pub record LiveAround (p : Program) (n c : ℕ) (l : Layer) : Type 0 where

@@ -1,0 +1,10 @@
+// Loop bodies around statements.
+
+/// How many loop bodies there are around a statement.
+#[derive(Clone, Copy)]
+pub struct LoopBodies {
+    /// Those that it stands in.
+    pub above: u32,
+    /// Those that it stands in or is.
+    pub inside: u32,
+}
