@@ -167,6 +167,21 @@ copies-stay net width codes before gates names d n m s =
       says = λ v len. values-more v d.decode copies n (let b = mid.below in omega arith) ∙ mid.says v len;
     })
 
+-- how many gates there are with the copies
+pub copies-length : (net : Netlist) (width : ℕ) (codes : List (List Literal)) (before gates : List Gate) (names : List NetId)
+    → CopiesDrawn net width codes before names gates → length gates ≤ length before + (2 * (length codes * width) + length net.gates)
+copies-length net width codes before gates names d =
+    let copies = copied (stand_in names) in
+    omega (
+      arith,
+      ap length d.is,
+      length-append d.decode (map copies net.gates),
+      length-map net.gates copies,
+      ap length d.grew.is,
+      length-append before d.grew.more,
+      d.grew.few,
+    )
+
 -- ---- all
 
 pub all-drawn : (net : Netlist) (width : ℕ) (codes : List (List Literal)) (before mid gates : List Gate) (names bits : List NetId) (leaves : List Latch)

@@ -1,8 +1,10 @@
 -- Gates that are added one after another, and what their nets say.
-use Rattle.std.proofs.Common.{◌≡◌, ℕ, ◌+◌, ◌*◌, ◌<◌, ◌≤◌, Bool, true, false, not, ◌&&◌, ◌||◌, ◌==◌, List, [], ◌∷◌, ◌++◌, length, take, refl}
+use Rattle.std.proofs.Common.{◌≡◌, ℕ, suc, ◌+◌, ◌*◌, ◌<◌, ◌≤◌, Bool, true, false, not, ◌&&◌, ◌||◌, ◌==◌, List, [], ◌∷◌, ◌++◌, length, take, refl}
 use Rattle.std.proofs.Common.{sym}
 use Rattle.std.proofs.Common.{ap, ◌∙◌, subst, arith, All, None, slice_index_or, append_assoc, length-append, set, inl, inr, Vec, Global}
 use Rattle.std.specs.Prelude.{if◌then◌else◌, replicate}
+use Rattle.std.proofs.lemmas.Nat.{mul-le}
+use Rattle.std.proofs.Math.Nat.{mul-le-mul_right, suc-mul}
 use Rattle.std.proofs.lemmas.List.{append-nil, take_more, take_all, get_or_push, length_push, get_or_append_left, get_or-set_same, get_or-set_other, length-set}
 use Rattle.std.proofs.lemmas.List.{get_or-replicate, get_or_default, get_or-map, length-map, length-take, length-replicate, map_more}
 use Rattle.std.proofs.lemmas.List.Elements.{All-append, All-nil, All-cons, All-set, All-weaker}
@@ -84,6 +86,18 @@ grew-trans first a b c m n k g h fit = record {
 
 pub grew-most : (first : ℕ) (a b : List Gate) (m n : ℕ) → Grew first a b m → m ≤ n → Grew first a b n
 grew-most first a b m n g low = record { more = g.more; is = g.is; silent = g.silent; few = omega (arith, g.few); reads = g.reads }
+
+-- how many there are then
+pub grew-length : (first : ℕ) (old new : List Gate) (most : ℕ) → Grew first old new most → length new ≤ length old + most
+grew-length first old new most g = omega (arith, ap length g.is, length-append old g.more, g.few)
+
+-- so many times a width, and once more, is at most as often as there are
+pub times-within : (k n width : ℕ) → k < n → k * width + width ≤ n * width
+times-within k n width low = subst (λ x. x ≤ n * width) (suc-mul k width) (mul-le-mul_right {m = suc k} {n = n} width (omega arith))
+
+-- what a code of few leaves comes to
+pub coded-few : (leaves width : ℕ) → leaves ≤ 1024 → width < leaves → leaves * width ≤ 1048576
+coded-few leaves width few narrow = mul-le leaves width 1024 1024 few (omega arith)
 
 -- ---- a literal
 

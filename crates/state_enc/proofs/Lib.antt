@@ -1,6 +1,7 @@
 pub mod TreeFolds
 pub mod CodeValues
 pub mod NumberCodes
+pub mod Extents
 pub mod CodeCases
 pub mod CodeLaws
 pub mod GateLaws

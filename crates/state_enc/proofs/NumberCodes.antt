@@ -63,23 +63,30 @@ few-bits count (suc b) less = let l = less b (omega arith) in let s = below-powe
 pub width-is : (count b : ℕ) → count ≤ 2 ^ b → ((c : ℕ) → c < b → 2 ^ c < count) → number_width count ≡ b
 width-is count b fits less = width-is-least count b fits less (few-bits count b less)
 
-short-from : (tries width count : ℕ) → count ≤ 2 ^ 32 → width ≤ 32 → width_from tries width count ≤ 32
-short-from zero width count fits low = low
-short-from (suc tries) width count fits low =
-    let next : nat_le count (2 ^ width) ≡ false → width + 1 ≤ 32 = λ no.
-    elim (cases_lt width 32) [
+short-from : (tries width count most : ℕ) → count ≤ 2 ^ most → width ≤ most → width_from tries width count ≤ most
+short-from zero width count most fits low = low
+short-from (suc tries) width count most fits low =
+    let next : nat_le count (2 ^ width) ≡ false → width + 1 ≤ most = λ no.
+    elim (cases_lt width most) [
       | inl lt ↦ omega arith
       | inr ge ↦
-          let e : 32 ≡ width = omega arith in
+          let e : most ≡ width = omega arith in
           absurd (false≢true (sym no ∙ le-leb count (2 ^ width) (subst (λ w. count ≤ 2 ^ w) e fits)))
     ] in
-    elim (nat_le count (2 ^ width)) as (λ b. (b ≡ false → width + 1 ≤ 32) → (if b then width else width_from tries (width + 1) count) ≤ 32) [
+    elim (nat_le count (2 ^ width)) as (λ b. (b ≡ false → width + 1 ≤ most) → (if b then width else width_from tries (width + 1) count) ≤ most) [
       | true ↦ λ k. low
-      | false ↦ λ k. short-from tries (width + 1) count fits (k refl)
+      | false ↦ λ k. short-from tries (width + 1) count most fits (k refl)
     ] next
 
 pub width-short : (count : ℕ) → count ≤ 2 ^ 32 → number_width count ≤ 32
-width-short count fits = short-from count 0 count fits (omega arith)
+width-short count fits = short-from count 0 count 32 fits (omega arith)
+
+-- and fewer bits than there are numbers
+pub width-less : (count : ℕ) → 0 < count → number_width count < count
+width-less zero some = absurd (omega arith)
+width-less (suc n) some =
+    let fits : suc n ≤ 2 ^ n = let b = below-power n in omega arith in
+    omega (arith, short-from (suc n) 0 (suc n) n fits (omega arith))
 
 pub number-length : (width number bit : ℕ) → length (number_code width number bit) ≡ width
 number-length zero number bit = refl

@@ -4,6 +4,7 @@ pub mod EncodedCounts
 pub mod Shapes
 pub mod TreeWalks
 pub mod CodeTrees
+pub mod Extents
 pub mod Plans
 pub mod Codes
 pub mod Drafts

@@ -1,14 +1,15 @@
 // Netlists whose latches hold the state in a code.
 
-ghost use Rattle.std.specs.Prelude.{◌≡◌, ◌+◌, ◌*◌, ◌<◌, ◌≤◌, true, false, ◌∷◌, length, map, replicate, IfOk};
+ghost use Rattle.std.specs.Prelude.{◌≡◌, ◌+◌, ◌*◌, ◌<◌, ◌≤◌, ◌^◌, true, false, ◌∷◌, length, map, replicate, IfOk};
+ghost use Rattle.est_base.specs.Stops.{IfFault};
 ghost use Rattle.est_kernel.specs.Terms.{Term};
 ghost use Rattle.net_ir.specs.Runs.{netlist_of, initial_latches};
 ghost use Rattle.state_enc.specs.Encodings.{IsTreeOf, Encodes};
 
 use crate::codes::leaf_codes;
-use crate::netlist::coded_net;
+use crate::netlist::{TooManyNets, coded_net};
 use crate::trees::{code_tree, sizes_of};
-use est_base::{NoMemory, Text};
+use est_base::{NoMemory, Stop, Text};
 use grc_graph::SelTree;
 use net_ir::{Net, NetOut};
 use net_simp::copied_names;
@@ -21,15 +22,16 @@ const LEAVES_AT_MOST: u32 = 1024;
 /// of the selection tree behind the one that tells the first instant. Of the parts of an exclusive node, whose leaves
 /// are never selected together, the code says by a number which one holds a selected leaf; the branches of a parallel
 /// have bits of their own. It shows the same over items, wherever the leaves are selected as the tree wants in each
-/// instant. Where a code would not be shorter, or there are more than 1,024 leaves, the result is a copy. Its only
-/// error is want of memory.
-pub fn encode(alloc: Global, net: &Net, tree: &SelTree) -> Result<Net, NoMemory>
+/// instant. Where a code would not be shorter, or there are more than 1,024 leaves, the result is a copy. Its fault is
+/// that there are more than 2^31 inputs and gates, and its only other error is want of memory.
+pub fn encode(alloc: Global, net: &Net, tree: &SelTree) -> Result<Net, Stop<TooManyNets>>
     requires tree { (body : Term) × IsTreeOf tree.now body }
     requires latches { initial_latches (netlist_of net.now) ≡ true ∷ replicate tree.now.leaves false }
     ensures encodes { IfOk result (λ new. (body : Term) → IsTreeOf tree.now body
         → Encodes (netlist_of net.now) (netlist_of new) body) }
     ensures size { IfOk result (λ new. length new.gates.items ≤ length net.now.gates.items
         + 64 * (length tree.now.nodes.items * length new.latches.items)) }
+    ensures fault { IfFault result (λ fault. 2 ^ 31 < length net.now.inputs.items + length net.now.gates.items) }
 {
     if tree.leaves <= LEAVES_AT_MOST {
         let made = shorter_net(alloc, net, tree)?;
@@ -41,7 +43,7 @@ pub fn encode(alloc: Global, net: &Net, tree: &SelTree) -> Result<Net, NoMemory>
 }
 
 // The netlist of the code, where this is shorter; else a copy.
-fn shorter_net(alloc: Global, net: &Net, tree: &SelTree) -> Result<Net, NoMemory>
+fn shorter_net(alloc: Global, net: &Net, tree: &SelTree) -> Result<Net, Stop<TooManyNets>>
     requires tree { (body : Term) × IsTreeOf tree.now body }
     requires few { tree.now.leaves ≤ 1024 }
     requires latches { initial_latches (netlist_of net.now) ≡ true ∷ replicate tree.now.leaves false }
@@ -49,6 +51,7 @@ fn shorter_net(alloc: Global, net: &Net, tree: &SelTree) -> Result<Net, NoMemory
         → Encodes (netlist_of net.now) (netlist_of new) body) }
     ensures size { IfOk result (λ new. length new.gates.items ≤ length net.now.gates.items
         + 64 * (length tree.now.nodes.items * length new.latches.items)) }
+    ensures fault { IfFault result (λ fault. 2 ^ 31 < length net.now.inputs.items + length net.now.gates.items) }
 {
     let code = code_tree(alloc, tree)?;
     let width = sizes_of(&code).loose;

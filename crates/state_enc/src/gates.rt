@@ -20,28 +20,24 @@ pub(crate) struct Draft {
 }
 
 impl Draft {
-    /// The number of the next gate. Where there is none left, memory is said to be wanted.
-    pub(crate) fn next_number(&self) -> Result<u32, NoMemory>
-        ensures number { IfOk result (λ n. n ≡ self.now.first + length self.now.gates.items) }
-        ensures fits { OnOk result (self.now.first + length self.now.gates.items < 2 ^ 32) }
+    /// The number of the next gate.
+    pub(crate) fn next_number(&self) -> u32
+        requires { self.now.first + length self.now.gates.items < 2 ^ 32 }
+        ensures { result ≡ self.now.first + length self.now.gates.items }
     {
-        let made = self.gates.len();
-        if made < (u32::MAX - self.first) as usize {
-            Ok(self.first + made as u32)
-        } else {
-            Err(NoMemory)
-        }
+        self.first + self.gates.len() as u32
     }
 
     /// One more gate, which carries no wire, and its net.
     pub(crate) fn push(&mut self, op: Op) -> Result<NetId, NoMemory>
+        requires { self.old.first + length self.old.gates.items < 2 ^ 32 }
         ensures gates { IfOk result (λ n. self.new.gates.items
             ≡ self.old.gates.items ++ record { op = op; wire = None } ∷ []) }
         ensures number { IfOk result (λ n. n.0 ≡ self.old.first + length self.old.gates.items) }
         ensures fits { OnOk result (self.old.first + length self.old.gates.items < 2 ^ 32) }
         ensures first { OnOk result (self.new.first ≡ self.old.first) }
     {
-        let number = self.next_number()?;
+        let number = self.next_number();
         self.gates.push(Gate { op, wire: None })?;
         Ok(NetId(number))
     }
@@ -51,6 +47,7 @@ impl Draft {
 fn literal_net(draft: &mut Draft, base: u32, literal: Literal) -> Result<NetId, NoMemory>
     requires reads { ReadsLower draft.old.first draft.old.gates.items }
     requires within { base + literal.bit < draft.old.first }
+    requires room { draft.old.first + length draft.old.gates.items < 2 ^ 32 }
     ensures grew { OnOk result (Grew draft.old.first draft.old.gates.items draft.new.gates.items 1) }
     ensures says { IfOk result (λ n.
         Says draft.old.first draft.new.gates.items n.0 (λ v. is_met (bits_at base v) literal)) }
@@ -73,6 +70,7 @@ fn product(
 ) -> Result<NetId, NoMemory>
     requires reads { ReadsLower draft.old.first draft.old.gates.items }
     requires within { All (λ l. base + l.bit < draft.old.first) literals.now }
+    requires room { draft.old.first + length draft.old.gates.items + 2 * length literals.now < 2 ^ 32 }
     requires yes { Says draft.old.first draft.old.gates.items yes.0 (λ v. true) }
     ensures grew { OnOk result (Grew draft.old.first draft.old.gates.items draft.new.gates.items
         (2 * length literals.now)) }
@@ -100,6 +98,7 @@ pub(crate) fn leaf_nets(
     requires reads { ReadsLower draft.old.first draft.old.gates.items }
     requires within { All (λ ls. All (λ l. l.bit < width) ls) (literals_of codes.now) }
     requires bits { base + width ≤ draft.old.first }
+    requires room { draft.old.first + length draft.old.gates.items + 2 * (length codes.now * width) < 2 ^ 32 }
     requires short { All (λ ls. length ls ≤ width) (literals_of codes.now) }
     requires yes { Says draft.old.first draft.old.gates.items yes.0 (λ v. true) }
     ensures grew { OnOk result (Grew draft.old.first draft.old.gates.items draft.new.gates.items
@@ -127,6 +126,7 @@ fn add_leaf(
     requires within { All (λ l. l.bit < length sums.old) code.now }
     requires sums { All (λ n. n.0 < draft.old.first + length draft.old.gates.items) sums.old }
     requires net { net.0 < draft.old.first + length draft.old.gates.items }
+    requires room { draft.old.first + length draft.old.gates.items + length code.now < 2 ^ 32 }
     ensures grew { OnOk result (Grew draft.old.first draft.old.gates.items draft.new.gates.items (length code.now)) }
     ensures says { OnOk result ((ms : ℕ → List Bool → Bool)
         → EachSays draft.old.first draft.old.gates.items sums.old ms
@@ -159,6 +159,7 @@ pub(crate) fn bit_nets(
     requires within { All (λ ls. All (λ l. l.bit < width) ls) (literals_of codes.now) }
     requires short { All (λ ls. length ls ≤ width) (literals_of codes.now) }
     requires count { length nets.now ≡ length codes.now }
+    requires room { draft.old.first + length draft.old.gates.items + length codes.now * width < 2 ^ 32 }
     requires nets { All (λ n. n.0 < draft.old.first + length draft.old.gates.items) nets.now }
     requires no { Says draft.old.first draft.old.gates.items no.0 (λ v. false) }
     ensures grew { OnOk result (Grew draft.old.first draft.old.gates.items draft.new.gates.items

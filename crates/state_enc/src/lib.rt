@@ -14,3 +14,4 @@ mod netlist;
 mod trees;
 
 pub use encoding::encode;
+pub use netlist::TooManyNets;

@@ -3,6 +3,7 @@
 ghost use Rattle.std.specs.Prelude.{◌≡◌, ℕ, true, false, ◌+◌, ◌*◌, ◌<◌, ◌≤◌, ◌^◌, [], ◌∷◌, ◌++◌, length, map, take};
 ghost use Rattle.std.specs.Prelude.{IfOk, OnOk, All};
 ghost use Rattle.std.specs.Prelude.{None, drop, replicate};
+ghost use Rattle.est_base.specs.Stops.{IfFault};
 ghost use Rattle.net_ir.specs.Gates.{operand_end, ReadsLower};
 ghost use Rattle.net_ir.specs.Netlists.{IsNet, first_gate, net_count};
 ghost use Rattle.net_ir.specs.Runs.{netlist_of, initial_latches};
@@ -13,7 +14,7 @@ ghost use Rattle.state_enc.specs.Recodings.{latch_net, CopiesDrawn, IsCodedNet};
 
 use crate::codes::Literal;
 use crate::gates::{Draft, bit_nets, leaf_nets};
-use est_base::{NetId, NoMemory, Text};
+use est_base::{NetId, NoMemory, Stop, Text};
 use net_ir::{Gate, Latch, Net, NetOut, Op};
 use net_simp::{copied_names, renamed_op, stand_in};
 use std::alloc::Global;
@@ -26,14 +27,11 @@ struct Drawing {
     bits: Vec<NetId>,
 }
 
-// So many nets from a number on. Where there are not so many numbers, memory is said to be wanted.
+// So many nets from a number on.
 fn push_numbers(names: &mut Vec<NetId>, from: u32, count: usize) -> Result<(), NoMemory>
-    ensures names { OnOk result (names.new.items ≡ names.old.items ++ numbers_from from count) }
-    ensures fits { OnOk result (from + count < 2 ^ 32) }
+    requires { from + count < 2 ^ 32 }
+    ensures { OnOk result (names.new.items ≡ names.old.items ++ numbers_from from count) }
 {
-    if count > (u32::MAX - from) as usize {
-        return Err(NoMemory);
-    }
     for k in 0..count {
         names.push(NetId(from + k as u32))?;
     }
@@ -49,9 +47,8 @@ fn new_names(
     here: u32,
     gates: usize,
 ) -> Result<Vec<NetId>, NoMemory>
-    ensures names { IfOk result (λ names. names.items
-        ≡ (numbers_from 0 base ++ leaves.now) ++ numbers_from here gates) }
-    ensures fits { OnOk result (here + gates < 2 ^ 32) }
+    requires { here + gates < 2 ^ 32 }
+    ensures { IfOk result (λ names. names.items ≡ (numbers_from 0 base ++ leaves.now) ++ numbers_from here gates) }
 {
     let mut names = Vec::new(alloc);
     push_numbers(&mut names, 0, base as usize)?;
@@ -105,13 +102,15 @@ fn draw_copies(
     requires reads { ReadsLower draft.old.first draft.old.gates.items }
     requires silent { All (λ g. g.wire ≡ None) draft.old.gates.items }
     requires yes { Says draft.old.first draft.old.gates.items yes.0 (λ v. true) }
+    requires room { draft.old.first + length draft.old.gates.items
+        + (2 * (length codes.now * width) + length net.now.gates.items) < 2 ^ 32 }
     ensures drawn { IfOk result (λ names. CopiesDrawn (netlist_of net.now) width (literals_of codes.now)
         draft.old.gates.items names.items draft.new.gates.items) }
     ensures first { OnOk result (draft.new.first ≡ draft.old.first) }
 {
     let base = draft.first - width;
     let leaves = leaf_nets(alloc, draft, yes, base, width, codes)?;
-    let here = draft.next_number()?;
+    let here = draft.next_number();
     let names = new_names(alloc, base, &leaves, here, net.gates.len())?;
     copy_gates(draft, &names, &net.gates)?;
     Ok(names)
@@ -135,6 +134,7 @@ fn draw_bits(
     requires low { All (λ l. stand_in names.now l.from.0 < draft.old.first + length draft.old.gates.items)
         net.now.latches.items }
     requires no { Says draft.old.first draft.old.gates.items no.0 (λ v. false) }
+    requires room { draft.old.first + length draft.old.gates.items + length codes.now * width < 2 ^ 32 }
     ensures grew { OnOk result (Grew draft.old.first draft.old.gates.items draft.new.gates.items
         (length codes.now * width)) }
     ensures says { IfOk result (λ sums. EachSays draft.old.first draft.new.gates.items sums.items
@@ -159,6 +159,8 @@ fn drawing_of(
     requires narrow { width < length codes.now }
     requires within { All (λ ls. All (λ l. l.bit < width) ls) (literals_of codes.now) }
     requires short { All (λ ls. length ls ≤ width) (literals_of codes.now) }
+    requires leaves { length codes.now ≤ 1024 }
+    requires nets { length net.now.inputs.items + length net.now.gates.items ≤ 2 ^ 31 }
     ensures { IfOk result (λ d. Drawn (netlist_of net.now) (map (λ l. l.from) (drop 1 net.now.latches.items)) width
         (literals_of codes.now) d.names.items d.gates.items d.bits.items) }
 {
@@ -170,21 +172,17 @@ fn drawing_of(
     let no = draft.push(Op::Const(false))?;
     let names = draw_copies(alloc, &mut draft, yes, net, width, codes)?;
     let bits = draw_bits(alloc, &mut draft, no, &names, net, width, codes)?;
-    let gates = numbered_gates(draft)?;
+    let Draft { gates, .. } = draft;
     Ok(Drawing { names, gates, bits })
 }
 
-// The gates of a draft. Where there are more than numbers, memory is said to be wanted.
-fn numbered_gates(draft: Draft) -> Result<Vec<Gate>, NoMemory>
-    ensures gates { IfOk result (λ gates. gates.items ≡ draft.gates.items) }
-    ensures fits { OnOk result (draft.first + length draft.gates.items ≤ 2 ^ 32) }
-{
-    let Draft { first, gates } = draft;
-    if gates.len() > (u32::MAX - first) as usize {
-        return Err(NoMemory);
-    }
-    Ok(gates)
-}
+/// The netlist has more than 2^31 inputs and gates.
+#[derive(Drop)]
+pub struct TooManyNets;
+
+/// How many inputs and gates a netlist may have whose state is coded. The gates that read and write a code have room
+/// behind them.
+const NETS_AT_MOST: usize = 0x8000_0000;
 
 /// The netlist whose latches hold the code of those of a netlist, where `codes` are the literals of the leaves in a
 /// code of this width.
@@ -193,14 +191,20 @@ pub(crate) fn coded_net(
     net: &Net,
     width: u32,
     codes: &[Vec<Literal>],
-) -> Result<Net, NoMemory>
+) -> Result<Net, Stop<TooManyNets>>
     requires count { length codes.now + 1 ≡ length net.now.latches.items }
     requires narrow { width < length codes.now }
     requires within { All (λ ls. All (λ l. l.bit < width) ls) (literals_of codes.now) }
     requires short { All (λ ls. length ls ≤ width) (literals_of codes.now) }
+    requires leaves { length codes.now ≤ 1024 }
     requires inits { initial_latches (netlist_of net.now) ≡ true ∷ replicate (length codes.now) false }
-    ensures { IfOk result (λ new. IsCodedNet (netlist_of net.now) (netlist_of new) width (literals_of codes.now)) }
+    ensures coded { IfOk result (λ new.
+        IsCodedNet (netlist_of net.now) (netlist_of new) width (literals_of codes.now)) }
+    ensures fault { IfFault result (λ fault. 2 ^ 31 < length net.now.inputs.items + length net.now.gates.items) }
 {
+    if net.inputs.len() + net.gates.len() > NETS_AT_MOST {
+        return Err(Stop::Fault(TooManyNets));
+    }
     let Drawing { names, gates, bits } = drawing_of(alloc, net, width, codes)?;
     let made = net_around(alloc, net, &names, gates, &bits)?;
     Ok(made)

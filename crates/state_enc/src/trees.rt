@@ -1,6 +1,6 @@
 // Selection trees with the widths of their codes.
 
-ghost use Rattle.std.specs.Prelude.{◌≡◌, ◌==◌, ◌+◌, ◌<◌, ◌≤◌, ◌^◌, ◌&&◌, ◌||◌, length, map, max, IfOk, OnOk};
+ghost use Rattle.std.specs.Prelude.{◌≡◌, ◌==◌, ◌+◌, ◌-◌, ◌<◌, ◌≤◌, ◌^◌, ◌&&◌, ◌||◌, length, map, max, IfOk, OnOk};
 ghost use Rattle.std.specs.Prelude.{if◌then◌else◌};
 ghost use Rattle.est_kernel.specs.Terms.{Term};
 ghost use Rattle.grc_graph.specs.declared.trees.SelNode.{SelNode};
@@ -12,6 +12,7 @@ ghost use Rattle.state_enc.specs.TreeWalks.{Folds};
 ghost use Rattle.state_enc.specs.Widths.{number_width, branch_width, all_marked, several_parts, exclusive_widths};
 ghost use Rattle.state_enc.specs.Widths.{parallel_widths};
 ghost use Rattle.state_enc.specs.CodeTrees.{shape_in, widths_in, IsSized};
+ghost use Rattle.state_enc.specs.Extents.{AreNarrow, AreSlight};
 
 use est_base::NoMemory;
 use grc_graph::{SelForm, SelNode, SelTree};
@@ -54,17 +55,6 @@ pub(crate) fn number_width(count: u32) -> u32
     width
 }
 
-// The sum of two widths. One that does not fit 32 bits takes a tree that does not fit memory.
-fn sum(a: u32, b: u32) -> Result<u32, NoMemory>
-    ensures { IfOk result (λ n. n ≡ a + b) }
-{
-    if a > u32::MAX - b {
-        Err(NoMemory)
-    } else {
-        Ok(a + b)
-    }
-}
-
 /// The widths of a tree.
 pub(crate) fn sizes_of(tree: &CodeTree) -> Sizes
     requires { IsSized tree.now }
@@ -91,36 +81,38 @@ fn one_size(parts: u32, full: u32, loose: u32) -> Sizes
 }
 
 // The widths of several parts.
-fn several_sizes(a: Sizes, b: Sizes) -> Result<Sizes, NoMemory>
-    ensures sizes { IfOk result (λ s. widths_in s ≡ several_parts (widths_in a) (widths_in b)) }
-    ensures few { IfOk result (λ s. s.parts + 1 < 2 ^ 32) }
+fn several_sizes(a: Sizes, b: Sizes) -> Sizes
+    requires first { AreSlight (widths_in a) }
+    requires second { AreSlight (widths_in b) }
+    ensures sizes { widths_in result ≡ several_parts (widths_in a) (widths_in b) }
+    ensures few { result.parts + 1 < 2 ^ 32 }
 {
-    let parts = sum(a.parts, b.parts)?;
-    let more = sum(parts, 1)?;
+    let parts = a.parts + b.parts;
+    let more = parts + 1;
     let greatest = a.greatest.max(b.greatest);
-    let full = sum(number_width(parts), greatest)?;
-    let loose = sum(number_width(more), greatest)?;
-    Ok(Sizes {
+    let full = number_width(parts) + greatest;
+    let loose = number_width(more) + greatest;
+    Sizes {
         parts,
         greatest,
         full,
         loose,
-    })
+    }
 }
 
 // The widths of an exclusive node.
-fn exclusive_sizes(a: Sizes, b: Sizes) -> Result<Sizes, NoMemory>
-    requires first { a.parts + 1 < 2 ^ 32 }
-    requires second { b.parts + 1 < 2 ^ 32 }
-    ensures sizes { IfOk result (λ s. widths_in s ≡ exclusive_widths (widths_in a) (widths_in b)) }
-    ensures few { IfOk result (λ s. s.parts + 1 < 2 ^ 32) }
+fn exclusive_sizes(a: Sizes, b: Sizes) -> Sizes
+    requires first { AreSlight (widths_in a) }
+    requires second { AreSlight (widths_in b) }
+    ensures sizes { widths_in result ≡ exclusive_widths (widths_in a) (widths_in b) }
+    ensures few { result.parts + 1 < 2 ^ 32 }
 {
     if a.parts == 0 {
-        Ok(b)
+        b
     } else if b.parts == 0 {
-        Ok(a)
+        a
     } else {
-        Ok(several_sizes(a, b)?)
+        several_sizes(a, b)
     }
 }
 
@@ -139,24 +131,28 @@ pub(crate) fn all_marked(x: bool, y: bool, a: Sizes, b: Sizes) -> bool
 }
 
 // The widths of a parallel.
-fn parallel_sizes(x: bool, y: bool, a: Sizes, b: Sizes) -> Result<Sizes, NoMemory>
-    ensures sizes { IfOk result (λ s. widths_in s ≡ parallel_widths x y (widths_in a) (widths_in b)) }
-    ensures few { IfOk result (λ s. s.parts + 1 < 2 ^ 32) }
+fn parallel_sizes(x: bool, y: bool, a: Sizes, b: Sizes) -> Sizes
+    requires first { AreSlight (widths_in a) }
+    requires second { AreSlight (widths_in b) }
+    ensures sizes { widths_in result ≡ parallel_widths x y (widths_in a) (widths_in b) }
+    ensures few { result.parts + 1 < 2 ^ 32 }
 {
-    let full = sum(branch_width(x, a), branch_width(y, b))?;
-    let more = sum(full, 1)?;
+    let full = branch_width(x, a) + branch_width(y, b);
+    let more = full + 1;
     let loose = if all_marked(x, y, a, b) { full } else { more };
-    Ok(one_size(1, full, loose))
+    one_size(1, full, loose)
 }
 
 // The tree of an exclusive node.
 fn exclusive_tree(alloc: Global, first: CodeTree, second: CodeTree) -> Result<CodeTree, NoMemory>
     requires first { IsSized first }
     requires second { IsSized second }
+    requires first_slight { AreSlight (widths_of (shape_in first)) }
+    requires second_slight { AreSlight (widths_of (shape_in second)) }
     ensures shape { IfOk result (λ t. shape_in t ≡ joined_shape Exclusive (shape_in first) (shape_in second)) }
     ensures sized { IfOk result IsSized }
 {
-    let sizes = exclusive_sizes(sizes_of(&first), sizes_of(&second))?;
+    let sizes = exclusive_sizes(sizes_of(&first), sizes_of(&second));
     let first = Box::new(alloc, first)?;
     let second = Box::new(alloc, second)?;
     Ok(CodeTree::OneOf(sizes, first, second))
@@ -172,10 +168,12 @@ fn parallel_tree(
 ) -> Result<CodeTree, NoMemory>
     requires first { IsSized first }
     requires second { IsSized second }
+    requires first_slight { AreSlight (widths_of (shape_in first)) }
+    requires second_slight { AreSlight (widths_of (shape_in second)) }
     ensures shape { IfOk result (λ t. shape_in t ≡ joined_shape (Parallel x y) (shape_in first) (shape_in second)) }
     ensures sized { IfOk result IsSized }
 {
-    let sizes = parallel_sizes(x, y, sizes_of(&first), sizes_of(&second))?;
+    let sizes = parallel_sizes(x, y, sizes_of(&first), sizes_of(&second));
     let first = Box::new(alloc, first)?;
     let second = Box::new(alloc, second)?;
     Ok(CodeTree::AllOf(sizes, x, y, first, second))
@@ -190,6 +188,8 @@ fn joined_tree(
 ) -> Result<CodeTree, NoMemory>
     requires first { IsSized first }
     requires second { IsSized second }
+    requires first_slight { AreSlight (widths_of (shape_in first)) }
+    requires second_slight { AreSlight (widths_of (shape_in second)) }
     ensures shape { IfOk result (λ t. shape_in t ≡ joined_shape (form_of form) (shape_in first) (shape_in second)) }
     ensures sized { IfOk result IsSized }
 {
@@ -205,8 +205,10 @@ fn joined_tree(
 #[cycle(subtrees)]
 fn tree_between(alloc: Global, tree: &SelTree, from: usize, to: usize) -> Result<CodeTree, NoMemory>
     requires within { to ≤ length tree.now.nodes.items }
+    requires whole { (d : SelNode) → from < to → end_of tree.now.nodes.items from d ≤ to }
     ensures shape { IfOk result (λ t. Folds NoLeaf joined_shape tree.now.nodes.items from to (shape_in t)) }
     ensures sized { IfOk result IsSized }
+    ensures narrow { IfOk result (λ t. AreNarrow (widths_of (shape_in t)) (to - from)) }
 {
     if from < to {
         let made = tree_at(alloc, tree, from)?;
@@ -223,6 +225,8 @@ fn tree_at(alloc: Global, tree: &SelTree, at: usize) -> Result<CodeTree, NoMemor
     ensures shape { IfOk result (λ t. (d : SelNode) → Folds NoLeaf joined_shape tree.now.nodes.items at
         (end_of tree.now.nodes.items at d) (shape_in t)) }
     ensures sized { IfOk result IsSized }
+    ensures narrow { IfOk result (λ t. (d : SelNode)
+        → AreNarrow (widths_of (shape_in t)) (end_of tree.now.nodes.items at d - at)) }
 {
     let node = tree.nodes[at];
     let middle = second_part(tree, at);

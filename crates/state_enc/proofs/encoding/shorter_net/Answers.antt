@@ -68,7 +68,7 @@ returns-then-width-tree-clause-encodes c body is =
     let are = ap literals_of c.deref.ensures.value ∙ c.in_ok-codes.ensures ∙ ap (λ t. needs_of (leaf_codes t Loose 0)) shape in
     let wide = ap (λ (w : Widths). w.loose) c.sizes_of-width.ensures.sizes ∙ ap (λ t. (widths_of t).loose) shape in
     encodes-coded (netlist_of c.args.net.now) (netlist_of c.in_ok-made.made) body c.args.tree.now c.sizes_of-width.result.loose codes is c.requires.latches
-    c.in_ok-made.ensures are wide c.if-width-tree.true c.requires.few
+    c.in_ok-made.ensures.coded are wide c.if-width-tree.true c.requires.few
 
 pub returns-then-width-tree-clause-size : goal.returns-then-width-tree-clause-size
 returns-then-width-tree-clause-size c =
@@ -77,7 +77,7 @@ returns-then-width-tree-clause-size c =
     let codes = literals_of c.deref.result.now in
     let shape = c.in_ok-code.ensures.shape body c.requires.tree.1.nodes in
     let are = ap literals_of c.deref.ensures.value ∙ c.in_ok-codes.ensures ∙ ap (λ t. needs_of (leaf_codes t Loose 0)) shape in
-    coded-size tree (netlist_of c.args.net.now) (netlist_of c.in_ok-made.made) c.sizes_of-width.result.loose codes c.in_ok-made.ensures
+    coded-size tree (netlist_of c.args.net.now) (netlist_of c.in_ok-made.made) c.sizes_of-width.result.loose codes c.in_ok-made.ensures.coded
     (codes-of-tree tree body codes c.requires.tree.1 are) c.if-width-tree.true tree.numbered
 
 pub returns-clause-encodes : goal.returns-clause-encodes
@@ -86,3 +86,14 @@ returns-clause-encodes c body is =
     let wide = ap (λ (w : Widths). w.loose) (c.sizes_of-width.ensures.sizes ∙ ap widths_of shape ∙ widths-are body) in
     encodes-copy (netlist_of c.args.net.now) (netlist_of c.in_ok-copy.copy) body c.args.tree.now 0 [] is c.requires.latches c.in_ok-copy.ensures
     (inl (omega (arith, wide, c.if-width-tree.false)))
+
+pub coded_net-requires-clause-leaves : goal.coded_net-requires-clause-leaves
+coded_net-requires-clause-leaves c =
+    let tree = c.args.tree.now in
+    let body = c.requires.tree.0 in
+    let codes = literals_of c.deref.result.now in
+    let shape = c.in_ok-code.ensures.shape body c.requires.tree.1.nodes in
+    let are = ap literals_of c.deref.ensures.value ∙ c.in_ok-codes.ensures ∙ ap (λ t. needs_of (leaf_codes t Loose 0)) shape in
+    let many = codes-of-tree tree body codes c.requires.tree.1 are in
+    let all = length-map c.deref.result.now (λ (x : Vec Literal Global). x.items) in
+    omega (arith, all, many, c.requires.few)

@@ -4,7 +4,7 @@ use Rattle.est_base.specs.declared.indices.NetId.{NetId}
 use Rattle.net_ir.specs.declared.netlist.Gate.{Gate}
 use Rattle.state_enc.specs.declared.codes.Literal.{Literal}
 use Rattle.state_enc.specs.declared.gates.Draft.{Draft}
-use Rattle.state_enc.proofs.GateLaws.{Added, added-skip, added-step}
+use Rattle.state_enc.proofs.GateLaws.{Added, added-skip, added-step, grew-length}
 use Rattle.state_enc.proofs.gates.add_leaf.Goals as goal
 use Rattle.state_enc.proofs.gates.add_leaf.Goals.{then-literal+in_ok-sum, else-literal}
 
@@ -48,3 +48,14 @@ returns-clause-says c =
     let whole = subst (λ ls. Added c.args.draft.now.first c.args.draft.now.gates.items c.loop-literal.draft.gates.items c.args.sums.now c.loop-literal.sums
     c.args.net ls c.loop-literal.literal-index) all c.loop-literal.invariant.made in
     whole.says
+
+pub push-requires : goal.push-requires
+push-requires c =
+    omega (
+      arith,
+      c.requires.room,
+      c.loop-literal.invariant.first,
+      c.loop-literal-test.true,
+      grew-length c.args.draft.now.first c.args.draft.now.gates.items c.loop-literal.draft.gates.items c.loop-literal.literal-index
+          c.loop-literal.invariant.made.grew,
+    )

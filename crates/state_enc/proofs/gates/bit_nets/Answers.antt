@@ -1,10 +1,10 @@
-use Rattle.std.proofs.Common.{◌≡◌, ◌+◌, ◌<◌, ◌≤◌, ◌∙◌, length, List, All, refl, ap, sym, subst, arith}
+use Rattle.std.proofs.Common.{◌≡◌, ◌+◌, ◌*◌, ◌<◌, ◌≤◌, ◌∙◌, length, List, All, refl, ap, sym, subst, arith}
 use Rattle.std.proofs.lemmas.List.{with_items_is}
 use Rattle.std.proofs.lemmas.List.Elements.{All-weaker}
 use Rattle.est_base.specs.declared.indices.NetId.{NetId}
 use Rattle.state_enc.specs.declared.codes.Literal.{Literal}
 use Rattle.state_enc.specs.Drafts.{EachSays}
-use Rattle.state_enc.proofs.GateLaws.{Bits, all-here, bits-step, bits-all}
+use Rattle.state_enc.proofs.GateLaws.{Bits, all-here, grew-length, times-within, bits-step, bits-all}
 use Rattle.state_enc.proofs.gates.bit_nets.Goals as goal
 
 pub add_leaf-requires-clause-within : goal.add_leaf-requires-clause-within
@@ -45,3 +45,18 @@ pub returns-clause-says : goal.returns-clause-says
 returns-clause-says c =
     bits-all c.args.draft.now.first c.args.width c.args.draft.now.gates.items c.loop-k.draft.gates.items c.loop-k.sums.items c.args.codes.now c.args.nets.now
     c.loop-k.k c.loop-k-test.false c.requires.count c.loop-k.invariant.made
+
+pub add_leaf-requires-clause-room : goal.add_leaf-requires-clause-room
+add_leaf-requires-clause-room c =
+    let k = c.loop-k.k in
+    let short = all-here (λ (ls : List Literal). length ls ≤ c.args.width) c.args.codes.now k c.index-codes-k.result c.loop-k-test.true c.index-codes-k.is
+    c.requires.short in
+    omega (
+      arith,
+      c.requires.room,
+      c.loop-k.invariant.first,
+      ap length c.deref.ensures.value,
+      short,
+      times-within k (length c.args.codes.now) c.args.width c.loop-k-test.true,
+      grew-length c.args.draft.now.first c.args.draft.now.gates.items c.loop-k.draft.gates.items (k * c.args.width) c.loop-k.invariant.made.grew,
+    )

@@ -1,8 +1,8 @@
-use Rattle.std.proofs.Common.{◌+◌, ◌<◌, ◌≤◌, ◌∙◌, true, length, List, All, sym, subst, arith}
+use Rattle.std.proofs.Common.{◌+◌, ◌*◌, ◌<◌, ◌≤◌, ◌∙◌, true, ap, length, List, All, sym, subst, arith}
 use Rattle.std.proofs.lemmas.List.Elements.{All-weaker}
 use Rattle.state_enc.specs.declared.codes.Literal.{Literal}
 use Rattle.state_enc.specs.Drafts.{Says}
-use Rattle.state_enc.proofs.GateLaws.{all-here, says-later, leaves-step}
+use Rattle.state_enc.proofs.GateLaws.{all-here, grew-length, times-within, says-later, leaves-step}
 use Rattle.state_enc.proofs.gates.leaf_nets.Goals as goal
 
 pub product-requires-clause-within : goal.product-requires-clause-within
@@ -33,3 +33,19 @@ loop-code-preserved c =
           c.requires.short)
           c.in_ok-product.ensures.grew c.in_ok-product.ensures.says c.in_ok-push.ensures.items;
     }
+
+pub product-requires-clause-room : goal.product-requires-clause-room
+product-requires-clause-room c =
+    let k = c.loop-code.code-index in
+    let short = all-here (λ (ls : List Literal). length ls ≤ c.args.width) c.args.codes.now k c.code-item.result c.loop-code-test.true c.code-item.is
+    c.requires.short in
+    omega (
+      arith,
+      c.requires.room,
+      c.loop-code.invariant.first,
+      ap length c.deref.ensures.value,
+      short,
+      times-within k (length c.args.codes.now) c.args.width c.loop-code-test.true,
+      grew-length c.args.draft.now.first c.args.draft.now.gates.items c.loop-code.draft.gates.items (2 * (k * c.args.width))
+          c.loop-code.invariant.made.grew,
+    )

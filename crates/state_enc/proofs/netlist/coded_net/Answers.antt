@@ -23,8 +23,8 @@ net_around-requires-clause-is_net c =
     subst (λ ns. IsNet (coded_net net (stand_in ns) made.gates.items c.deref-2.result.now)) (sym c.deref.ensures.value)
     (subst (λ bs. IsNet (coded_net net (stand_in made.names.items) made.gates.items bs)) (sym c.deref-2.ensures.value) is)
 
-pub returns : goal.returns
-returns c =
+pub returns-clause-coded : goal.returns-clause-coded
+returns-clause-coded c =
     let old = c.args.net.now in
     let net = netlist_of old in
     let made = c.in_ok-names.field-0 in

@@ -9,6 +9,7 @@ use Rattle.state_enc.specs.Codes.{are_met}
 use Rattle.state_enc.specs.Drafts.{Grew, EachSays, bits_at, literals_of, literals_at}
 use Rattle.state_enc.specs.Recodings.{code_base, first_behind, copied, numbers_from}
 use Rattle.std.proofs.lemmas.List.{length-map}
+use Rattle.state_enc.proofs.GateLaws.{grew-length}
 use Rattle.state_enc.proofs.Drawing.{names-many, copies-drawn, reads-within}
 use Rattle.state_enc.proofs.netlist.draw_copies.Goals as goal
 
@@ -17,8 +18,8 @@ copy_gates-requires c =
     let net = netlist_of c.args.net.now in
     let leaves = c.in_ok-leaves.leaves.items in
     let given = ap length c.deref.ensures.value in
-    let many = names-many c.in_ok-names.names.items c.deref.result.now (c.args.draft.now.first - c.args.width) c.in_ok-here.here c.len.result
-    c.in_ok-names.ensures.names in
+    let many = names-many c.in_ok-names.names.items c.deref.result.now (c.args.draft.now.first - c.args.width) c.next_number-here.result c.len.result
+    c.in_ok-names.ensures in
     let first = c.requires.first in
     let count = c.requires.count in
     let leaf_count = c.in_ok-leaves.ensures.count in
@@ -50,10 +51,33 @@ returns-clause-drawn c =
     let says = subst (λ ns. EachSays F decode ns M) (sym c.deref.ensures.value) (subst (λ f. EachSays f decode c.in_ok-leaves.leaves.items M) first
     c.in_ok-leaves.ensures.says) in
     let many : length leaves ≡ length codes = ap length c.deref.ensures.value ∙ c.in_ok-leaves.ensures.count ∙ sym codes_many in
-    let there : c.in_ok-here.here ≡ F + length decode = c.in_ok-here.ensures.number
+    let there : c.next_number-here.result ≡ F + length decode = c.next_number-here.ensures
     ∙ ap (λ f. f + length decode) (c.in_ok-leaves.ensures.first ∙ first) in
     let gates_many : c.len.result ≡ length net.gates = omega (arith, c.len.ensures, c.args.net.now.gates.ok.0) in
-    let is = c.in_ok-names.ensures.names ∙ ap (λ n. (numbers_from 0 base ++ leaves) ++ numbers_from c.in_ok-here.here n) gates_many in
+    let is = c.in_ok-names.ensures ∙ ap (λ n. (numbers_from 0 base ++ leaves) ++ numbers_from c.next_number-here.result n) gates_many in
     let all = c.in_ok-copy_gates.ensures.gates ∙ (λ i. decode ++ map (copied (stand_in (c.deref-2.ensures.value i))) (c.deref-3.ensures.value i)) in
-    copies-drawn net width codes before decode c.copy_gates.new.draft.gates.items names leaves base c.in_ok-here.here c.args.net.now.is_net
+    copies-drawn net width codes before decode c.copy_gates.new.draft.gates.items names leaves base c.next_number-here.result c.args.net.now.is_net
     (let q = c.requires.count in let ok = c.args.net.now.latches.ok.0 in omega (arith, codes_many)) at there grew c.requires.silent many says is all
+
+pub next_number-here-requires : goal.next_number-here-requires
+next_number-here-requires c =
+    omega (
+      arith,
+      c.requires.room,
+      c.in_ok-leaves.ensures.first,
+      grew-length c.args.draft.now.first c.args.draft.now.gates.items c.leaf_nets.new.draft.gates.items (2 * (length c.args.codes.now * c.args.width))
+          c.in_ok-leaves.ensures.grew,
+    )
+
+pub new_names-requires : goal.new_names-requires
+new_names-requires c =
+    omega (
+      arith,
+      c.requires.room,
+      c.in_ok-leaves.ensures.first,
+      c.next_number-here.ensures,
+      c.len.ensures,
+      c.args.net.now.gates.ok.0,
+      grew-length c.args.draft.now.first c.args.draft.now.gates.items c.leaf_nets.new.draft.gates.items (2 * (length c.args.codes.now * c.args.width))
+          c.in_ok-leaves.ensures.grew,
+    )

@@ -1,4 +1,4 @@
-use Rattle.std.proofs.Common.{◌≡◌, ◌+◌, ◌*◌, ◌<◌, ◌∙◌, ℕ, Bool, List, true, false, length, map, drop, slice_index_or, subst, sym, ap}
+use Rattle.std.proofs.Common.{◌≡◌, ◌+◌, ◌*◌, ◌^◌, ◌<◌, ◌≤◌, ◌∙◌, ℕ, Bool, List, true, false, length, map, drop, slice_index_or, subst, sym, ap}
 use Rattle.std.proofs.Common.{arith, Vec, Global}
 use Rattle.std.proofs.lemmas.List.{length-map, length_push}
 use Rattle.net_ir.specs.declared.netlist.Op.TheVariants.{Const}
@@ -9,8 +9,8 @@ use Rattle.net_simp.specs.Renaming.{stand_in}
 use Rattle.state_enc.specs.declared.codes.Literal.{Literal}
 use Rattle.state_enc.specs.Drafts.{Grew, Says, EachSays, literals_of, values_of, wanted}
 use Rattle.state_enc.specs.Recodings.{first_behind, latch_net}
-use Rattle.state_enc.proofs.GateLaws.{says-push, silent_gate}
-use Rattle.state_enc.proofs.Drawing.{copies-low, copies-stay, all-drawn}
+use Rattle.state_enc.proofs.GateLaws.{coded-few, grew-length, says-push, silent_gate}
+use Rattle.state_enc.proofs.Drawing.{copies-length, copies-low, copies-stay, all-drawn}
 use Rattle.state_enc.proofs.netlist.drawing_of.Goals as goal
 
 pub draw_bits-requires-clause-low : goal.draw_bits-requires-clause-low
@@ -59,21 +59,83 @@ returns c =
     let first : c.draw_copies.new.draft.first ≡ F = c.in_ok-names.ensures.first ∙ c.in_ok-no.ensures.first ∙ start in
     let names = c.in_ok-names.names.items in
     let mid = c.draw_copies.new.draft.gates.items in
-    let gates = c.in_ok-gates.gates.items in
+    let gates = c.draw_bits.new.draft.gates.items in
     let bits = c.in_ok-bits.bits.items in
     let leaves = drop 1 c.args.net.now.latches.items in
-    let drawn_gates = c.in_ok-gates.ensures.gates in
     let two : length c.push-2.new.self.gates.items ≡ 2 = ap length c.in_ok-no.ensures.gates ∙ length_push c.push.new.self.gates.items (silent_gate (Const
     false))
     ∙ ap (λ n. n + 1) (ap length c.in_ok-yes.ensures.gates ∙ length_push c.new.result.items (silent_gate (Const true))
     ∙ ap (λ (gs : List Gate). length gs + 1) c.new.ensures.items) in
     let most : length c.args.codes.now * width ≡ length codes * width = ap (λ n. n * width) (sym codes_many) in
-    let grew = subst (λ gs. Grew F mid gs (length codes * width)) (sym drawn_gates) (subst (λ n. Grew F mid c.draw_bits.new.draft.gates.items n) most
-    (subst (λ f. Grew f mid c.draw_bits.new.draft.gates.items (length c.args.codes.now * width)) first c.in_ok-bits.ensures.grew)) in
+    let grew = subst (λ n. Grew F mid gates n) most (subst (λ f. Grew f mid gates (length c.args.codes.now * width)) first c.in_ok-bits.ensures.grew) in
     let M = λ (ns : _) (i : ℕ) (v : List Bool). wanted codes (values_of mid (map (latch_net (stand_in ns)) leaves) v) i in
-    let says = subst (λ gs. EachSays F gs bits (M names)) (sym drawn_gates)
-    (subst (λ f. EachSays f c.draw_bits.new.draft.gates.items bits (M names)) first
-    (subst (λ ns. EachSays c.draw_copies.new.draft.first c.draw_bits.new.draft.gates.items bits (M ns)) c.deref.ensures.value c.in_ok-bits.ensures.says)) in
-    let last : c.draw_bits.new.draft.first ≡ F = c.in_ok-bits.ensures.first ∙ first in
+    let says = subst (λ f. EachSays f gates bits (M names)) first
+    (subst (λ ns. EachSays c.draw_copies.new.draft.first gates bits (M ns)) c.deref.ensures.value c.in_ok-bits.ensures.says) in
+    let small = coded-few (length codes) width (omega (arith, codes_many, c.requires.leaves)) (omega (arith, codes_many, c.requires.narrow)) in
+    let fits : F + length gates ≤ 2 ^ 32 =
+    omega (
+      arith,
+      small,
+      two,
+      c.requires.nets,
+      c.requires.narrow,
+      c.requires.leaves,
+      copies-length net width codes c.push-2.new.self.gates.items mid names c.in_ok-names.ensures.drawn,
+      grew-length F mid gates (length codes * width) grew,
+    ) in
     all-drawn net width codes c.push-2.new.self.gates.items mid gates names bits leaves two c.in_ok-names.ensures.drawn grew says c.in_ok-bits.ensures.count
-    (omega (arith, c.in_ok-gates.ensures.fits, last, ap length drawn_gates))
+    fits
+
+pub push-requires : goal.push-requires
+push-requires c = omega (arith, c.requires.nets, c.requires.narrow, c.requires.leaves, c.len.ensures, ap length c.new.ensures.items)
+
+pub push-requires-2 : goal.push-requires-2
+push-requires-2 c =
+    let one = ap length c.in_ok-yes.ensures.gates ∙ length_push c.new.result.items (silent_gate (Const true)) in
+    omega (arith, c.requires.nets, c.requires.narrow, c.requires.leaves, c.len.ensures, c.in_ok-yes.ensures.first, one, ap length c.new.ensures.items)
+
+pub draw_copies-requires-clause-room : goal.draw_copies-requires-clause-room
+draw_copies-requires-clause-room c =
+    let one = ap length c.in_ok-yes.ensures.gates ∙ length_push c.new.result.items (silent_gate (Const true)) in
+    let two = ap length c.in_ok-no.ensures.gates ∙ length_push c.push.new.self.gates.items (silent_gate (Const false)) in
+    let small = coded-few (length c.args.codes.now) c.args.width c.requires.leaves c.requires.narrow in
+    omega (
+      arith,
+      small,
+      one,
+      two,
+      c.requires.nets,
+      c.requires.narrow,
+      c.requires.leaves,
+      c.len.ensures,
+      c.in_ok-yes.ensures.first,
+      c.in_ok-no.ensures.first,
+      ap length c.new.ensures.items,
+    )
+
+pub draw_bits-requires-clause-room : goal.draw_bits-requires-clause-room
+draw_bits-requires-clause-room c =
+    let net = netlist_of c.args.net.now in
+    let width = c.args.width in
+    let codes = literals_of c.args.codes.now in
+    let codes_many = length-map c.args.codes.now (λ (x : Vec Literal Global). x.items) in
+    let one = ap length c.in_ok-yes.ensures.gates ∙ length_push c.new.result.items (silent_gate (Const true)) in
+    let two = ap length c.in_ok-no.ensures.gates ∙ length_push c.push.new.self.gates.items (silent_gate (Const false)) in
+    let small = coded-few (length codes) width (omega (arith, codes_many, c.requires.leaves)) (omega (arith, codes_many, c.requires.narrow)) in
+    let most : length c.args.codes.now * width ≡ length codes * width = ap (λ n. n * width) (sym codes_many) in
+    omega (
+      arith,
+      small,
+      most,
+      one,
+      two,
+      c.requires.nets,
+      c.requires.narrow,
+      c.requires.leaves,
+      c.len.ensures,
+      c.in_ok-yes.ensures.first,
+      c.in_ok-no.ensures.first,
+      c.in_ok-names.ensures.first,
+      ap length c.new.ensures.items,
+      copies-length net width codes c.push-2.new.self.gates.items c.draw_copies.new.draft.gates.items c.in_ok-names.names.items c.in_ok-names.ensures.drawn,
+    )

@@ -1,4 +1,4 @@
-use Rattle.std.proofs.Common.{◌≡◌, [], ◌+◌, length, ap, refl, sym, ◌∙◌, arith}
+use Rattle.std.proofs.Common.{◌≡◌, [], ◌+◌, ◌<◌, ◌≤◌, length, ap, refl, sym, ◌∙◌, arith}
 use Rattle.std.proofs.lemmas.List.{append-nil, length-map}
 use Rattle.grc_graph.specs.SelectionTrees.{resumes, body_tree}
 use Rattle.grc_graph.specs.TreeForms.{node_of}
@@ -13,3 +13,8 @@ returns-clause-shape c body tree =
           ∙ sym (length-map c.args.tree.now.nodes.items node_of) ∙ ap length tree
           ∙ (let z : length (body_tree body) ≡ 0 + length (body_tree body) = omega arith in z);
     })
+
+pub tree_between-requires-clause-whole : goal.tree_between-requires-clause-whole
+tree_between-requires-clause-whole c d some =
+    let counts : c.len.result ≡ length c.args.tree.now.nodes.items = omega arith in
+    omega (arith, counts, c.args.tree.now.nested.ended 0 d (omega arith))
