@@ -47,7 +47,7 @@ module _ (g : Graph) (built : IsGraphOf g (program_of g.program)) where
   spots : program_spots (program_of g.program) ≡ map (spot_at (program_rows (program_of g.program))) (instances_of g)
   spots =
       program_spots_by_row (program_of g.program) kernel
-      ∙ ap (map (spot_at (program_rows (program_of g.program)))) (sym g.laid_out.instances)
+      ∙ ap (map (spot_at (program_rows (program_of g.program)))) (sym built.instances)
 
   pub spots-many : length (program_spots (program_of g.program)) ≡ length g.instances.list.items
   spots-many =

@@ -87,7 +87,7 @@ module _ (g : Graph) (built : IsGraphOf g (program_of g.program)) where
   differ i j d l m e =
       let a : i < length g.wires.items = omega (arith, l, equations-each) in
       let b : j < length g.wires.items = omega (arith, m, equations-each) in
-      graph-apart g i j (omega (arith, a, length-map g.wires.items (wire_of (instances_of g))))
+      graph-apart g built i j (omega (arith, a, length-map g.wires.items (wire_of (instances_of g))))
       (omega (arith, b, length-map g.wires.items (wire_of (instances_of g))))
       (sym (ap (λ x. x.wire) (equation-at i d a)) ∙ e ∙ ap (λ x. x.wire) (equation-at j d b))
 

@@ -1,5 +1,5 @@
 -- The shared graph of a program, part by part.
-use Rattle.std.proofs.Common.{◌≡◌, ℕ, ◌<◌, List, length, map, get_or, sym, ap, ◌∙◌, subst, arith}
+use Rattle.std.proofs.Common.{◌≡◌, ℕ, ◌<◌, ◌≤◌, List, length, map, get_or, sym, ap, ◌∙◌, subst, arith}
 use Rattle.std.specs.Prelude.{All, IsTrue, slice_index}
 use Rattle.std.proofs.lemmas.List.{get_or_default, length-map}
 use Rattle.std.proofs.lemmas.List.Elements.{All-get_or}
@@ -16,7 +16,7 @@ use Rattle.grc_graph.specs.GraphRuns.{program_wires}
 use Rattle.grc_graph.specs.GraphShapes.{IndicesFit, formula_fits, node_fits, wire_fits}
 use Rattle.grc_graph.specs.PlainGraphs.{instances_of, names_of, node_of, wire_at, wire_of}
 use Rattle.grc_graph.specs.PlainInstances.{instance_of}
-use Rattle.grc_graph.specs.Wires.{Wire}
+use Rattle.grc_graph.specs.Wires.{Wire, same_wire}
 use Rattle.grc_graph.specs.WireTables.{IsNumberOf}
 use Rattle.grc_share.specs.declared.graphs.GraphParts.{GraphParts}
 use Rattle.grc_share.specs.declared.graphs.Numbered.{Numbered}
@@ -27,14 +27,26 @@ use Rattle.grc_share.specs.SharedNumbers.{AreSharedWires}
 use Rattle.grc_share.specs.SharedParts.{AreGraphParts, AreNumbered}
 use Rattle.grc_share.specs.SharedWires.{shared_wire, shared_wires}
 use Rattle.grc_share.proofs.EquationLists.{equations-fit, formula-found}
+use Rattle.grc_share.proofs.Ranks.{rank-all, rank-few}
 use Rattle.grc_share.proofs.SharedNaming.{least-at, least-low, nodes-many}
 
-module _ (g : Graph) (least : List WireId) (numbers : List ℕ) (shared : AreSharedWires (program_of g.program) least numbers) where
+module _ (g : Graph) (built : IsGraphOf g (program_of g.program)) (least : List WireId) (numbers : List ℕ)
+    (shared : AreSharedWires (program_of g.program) least numbers) where
   pub least-of : AreLeastMembers g least
   least-of = record {
-    names = ap (λ (ns : List Wire). map (λ (w : WireId). wire_at ns w.0) least) g.laid_out.names ∙ shared.least_members;
-    within = λ w d l. omega (arith, shared.least_within w d l, ap length g.laid_out.names, length-map g.wires.items (wire_of (instances_of g)));
+    names = ap (λ (ns : List Wire). map (λ (w : WireId). wire_at ns w.0) least) built.wires ∙ shared.least_members;
+    within = λ w d l. omega (arith, shared.least_within w d l, ap length built.wires, length-map g.wires.items (wire_of (instances_of g)));
   }
+
+  pub least-many : length least ≡ length (shared_wires (program_of g.program))
+  least-many = sym (length-map least (λ (v : WireId). wire_at (program_wires (program_of g.program)) v.0)) ∙ ap length shared.least_members
+
+  -- there are no more shared wires than wires
+  pub least-few : length least ≤ length g.wires.items
+  least-few =
+      let S = λ (u : Wire). same_wire (shared_wire (body_sharing (program_of g.program).body) u) u in
+      let names = program_wires (program_of g.program) in
+      omega (arith, least-many, rank-few S names (length names), rank-all S names, ap length built.wires, length-map g.wires.items (wire_of (instances_of g)))
 
   pub numbers-of : (s : Numbered) → AreNumbered g s → AreNumbersOf g s.least.items s.instances.numbers.items numbers
   numbers-of s are = record {
@@ -42,18 +54,17 @@ module _ (g : Graph) (least : List WireId) (numbers : List ℕ) (shared : AreSha
     least_instances = are.least;
     numbers = record {
       each_instance = are.each ∙ sym (length-map g.instances.list.items instance_of);
-      each_wire = shared.each_wire ∙ sym (ap length g.laid_out.names);
+      each_wire = shared.each_wire ∙ sym (ap length built.wires);
       instance_numbers = are.numbers;
       wire_numbers = λ w l.
           let p = program_of g.program in
           let K = body_sharing p.body in
-          let many : length least ≡ length (shared_wires p) =
-          sym (length-map least (λ (v : WireId). wire_at (program_wires p) v.0)) ∙ ap length shared.least_members in
-          let low : slice_index numbers w < length (shared_wires p) = omega (arith, many, All-get_or (λ k. k < length least) numbers w 0 l shared.within) in
+          let low : slice_index numbers w < length (shared_wires p)
+          = omega (arith, least-many, All-get_or (λ k. k < length least) numbers w 0 l shared.within) in
           record {
             within = low;
             same = λ d. get_or_default (shared_wires p) (slice_index numbers w) d _ low ∙ shared.named w (omega (arith, l, shared.each_wire))
-                ∙ ap (λ (ns : List Wire). shared_wire K (wire_at ns w)) (sym g.laid_out.names);
+                ∙ ap (λ (ns : List Wire). shared_wire K (wire_at ns w)) (sym built.wires);
           };
     };
   }
@@ -66,7 +77,10 @@ numbers-read g least instances l i numbers n a b c h =
     (subst (λ (xs : List InstId). AreNumbersOf g least xs n) (sym b) (subst (λ (xs : List ℕ). AreNumbersOf g least instances xs) (sym c) h))
 
 -- the parts have the indices of a graph
-module _ (p : Program) (s : GraphParts) (are : AreGraphParts p s) where
+module _ (g : Graph) (s : GraphParts) (are : AreGraphParts g s) where
+  abbrev p : Program
+  p = program_of g.program
+
   insts-many : length s.instances.items ≡ length (shared_instances p)
   insts-many = sym (length-map s.instances.items instance_of) ∙ ap length are.instances
 
@@ -104,7 +118,7 @@ formula-named g built least are k v l e =
     let p = program_of g.program in
     let m = (get_or least k v).0 in
     let u = wire_at (names_of g) m in
-    let low : m < length (names_of g) = omega (arith, least-low g least are k v l, length-map g.wires.items (wire_of (instances_of g))) in
+    let low : m < length (names_of g) = omega (arith, least-low g built least are k v l, length-map g.wires.items (wire_of (instances_of g))) in
     let number : IsNumberOf (names_of g) m u = record { within = low; same = λ d. get_or_default (names_of g) m d _ low } in
     ap (λ (x : WireId). shared_formula p (wire_at (names_of g) x.0) (formula_at g x.0)) e
-    ∙ ap (shared_formula p u) (formula-found g built m u number) ∙ ap (formula_in p) (sym (least-at g least are k v l))
+    ∙ ap (shared_formula p u) (formula-found g built m u number) ∙ ap (formula_in p) (sym (least-at g built least are k v l))

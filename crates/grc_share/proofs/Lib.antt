@@ -13,6 +13,16 @@ mod SharedNumbering
 mod SharedPairing
 mod Places
 mod MemberLists
+mod MemberRuns
+mod Ranks
+mod Counting
+mod FirstWires
+mod WireRanks
+mod SharedTables
+mod Enclosing
+mod SharedLayouts
+mod SharedFinding
+mod JoinedGraphs
 mod SharedWireNames
 mod FewStarts
 mod InstanceNumbers
@@ -23,5 +33,8 @@ mod SharedFormulas
 mod NextFormulas
 mod SharedNaming
 mod GraphParts
+mod SharedCosts
+mod SharedCostBounds
+mod SharedCostParts
 mod worked
 pub mod Exports

@@ -13,7 +13,7 @@ use Rattle.grc_graph.specs.StatementViews.{entry_view, view_of}
 use Rattle.grc_graph.proofs.Exports.{length-statements, statement_read}
 use Rattle.grc_share.specs.LoopCounts.{AreLoopCounts, Enters, counts_in, inside_at}
 use Rattle.grc_share.specs.SharedInstances.{loops_above, loops_at}
-use Rattle.grc_share.specs.declared.loop_counts.LoopBodies.{LoopBodies}
+use Rattle.grc_graph.specs.declared.loops.LoopBodies.{LoopBodies}
 use Rattle.grc_share.proofs.LoopEntries.{Around, Told, loops-low, program_tells}
 
 -- what is counted from the statement around it is what there is

@@ -18,6 +18,7 @@ use Rattle.grc_graph.specs.declared.graph.Graph.{Graph}
 use Rattle.grc_graph.specs.declared.instances.Instance as listed
 use Rattle.grc_graph.specs.declared.wires.Wire as kept
 use Rattle.grc_graph.specs.declared.wires.Wire.TheVariants as wires
+use Rattle.grc_graph.specs.BuiltGraphs.{IsGraphOf}
 use Rattle.grc_graph.specs.Formulas.{Formula, Input, Value, Conjunction, Disjunction, any_of}
 use Rattle.grc_graph.specs.GraphRuns.{graph_of}
 use Rattle.grc_graph.specs.GraphShapes.{formula_fits}
@@ -28,7 +29,7 @@ use Rattle.grc_graph.specs.PlainInstances.{instance_of}
 use Rattle.grc_graph.specs.Rows.{live_in, program_rows, row_at}
 use Rattle.grc_graph.specs.Wires.{Wire, Out, Go, StatusOf}
 use Rattle.grc_graph.specs.WireTables.{HasInstance, IsNumberOf, owner}
-use Rattle.grc_graph.proofs.Exports.{instance_live, live_instance, name_at, path_within, place_once}
+use Rattle.grc_graph.proofs.Exports.{instance_live, live_instance, name_at, place_once}
 use Rattle.grc_share.specs.LeastMembers.{shared_of}
 use Rattle.grc_share.specs.Renamings.{AreEmissions, AreNumbersOf, StandsFor, StandsIn, formula_at, own_in, values}
 use Rattle.grc_share.specs.SharedGraphs.{formula_for, has_own, is_guarded, renamed, shared_end, shared_go}
@@ -80,7 +81,8 @@ end-free p n l f h =
 
 -- ---- members that are started by themselves
 
-module _ (g : Graph) (least instances : List InstId) (wires : List ℕ) (are : AreNumbersOf g least instances wires) where
+module _ (g : Graph) (built : IsGraphOf g (program_of g.program)) (least instances : List InstId) (wires : List ℕ)
+    (are : AreNumbersOf g least instances wires) where
   abbrev p : Program
   p = program_of g.program
 
@@ -113,13 +115,13 @@ module _ (g : Graph) (least instances : List InstId) (wires : List ℕ) (are : A
       → list_any (λ s. s == n) (K.live n).roots ≡ true
   own-live n low c =
       let x = live_instance (program_of g.program) n (Started n)
-      (subst (λ (xs : List Instance). Contains xs (record { path = n; layer = Started n })) g.laid_out.instances c) in
+      (subst (λ (xs : List Instance). Contains xs (record { path = n; layer = Started n })) built.instances c) in
       subst (λ a. live_in a (Started n) ≡ true) (program_gives (program_of g.program) kernel n (omega arith) (omega (arith, low))) x.live
 
   live-own : (n : ℕ) → n < statement_count (program_of g.program).body → list_any (λ s. s == n) (K.live n).roots ≡ true
       → Contains (instances_of g) (record { path = n; layer = Started n })
   live-own n low h =
-      subst (λ (xs : List Instance). Contains xs (record { path = n; layer = Started n })) (sym g.laid_out.instances)
+      subst (λ (xs : List Instance). Contains xs (record { path = n; layer = Started n })) (sym built.instances)
       (instance_live (program_of g.program) n (Started n) low
       (subst (λ a. live_in a (Started n) ≡ true) (sym (program_gives (program_of g.program) kernel n (omega arith) (omega (arith, low)))) h))
 
@@ -227,7 +229,8 @@ module _ (g : Graph) (i : ℕ) (x : listed.Instance) (low : i < length g.instanc
   instance-read = name_at g.instances.list.items i x _ low ∙ ap instance_of (sym is)
 
   pub path-low : x.path.0 < statement_count (program_of g.program).body
-  path-low = path_within (program_of g.program).body g.instances.list.items i x g.laid_out.instances low is
+  path-low =
+      omega (arith, g.laid_out.within i (omega (arith, low, length-map g.instances.list.items instance_of)), ap (λ (z : Instance). z.path) instance-read)
 
   -- what a search for its statement, started at its own root, answers
   pub own-sought : (near : List Instance) (r : Option InstId) → near ≡ instances_of g

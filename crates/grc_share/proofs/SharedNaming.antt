@@ -8,6 +8,7 @@ use Rattle.est_kernel.specs.Plain.{Program, program_of}
 use Rattle.est_kernel.specs.WellFormed.{IsKernel}
 use Rattle.grc_graph.specs.declared.graph.Graph.{Graph}
 use Rattle.grc_graph.specs.declared.wires.Node.{Node}
+use Rattle.grc_graph.specs.BuiltGraphs.{IsGraphOf}
 use Rattle.grc_graph.specs.GraphRuns.{program_spots}
 use Rattle.grc_graph.specs.GraphShapes.{node_fits}
 use Rattle.grc_graph.specs.Instances.{Instance, body_instances}
@@ -52,7 +53,7 @@ own-by_instance K (StatusOf n l) e = ap (StatusOf n) (instance-layer K n l (ap n
 own-by_instance K (End n l k) e = ap (λ j. End n j k) (ap named_layer e)
 
 -- the least members of shared wires are their own shared wires
-module _ (g : Graph) (least : List WireId) (are : AreLeastMembers g least) where
+module _ (g : Graph) (built : IsGraphOf g (program_of g.program)) (least : List WireId) (are : AreLeastMembers g least) where
   pub least-own : (k : ℕ) (d : WireId) → k < length least
       → shared_wire (body_sharing (program_of g.program).body) (wire_at (names_of g) (get_or least k d).0) ≡ wire_at (names_of g) (get_or least k d).0
   least-own k d l =
@@ -60,7 +61,7 @@ module _ (g : Graph) (least : List WireId) (are : AreLeastMembers g least) where
       let at = λ (w : WireId). wire_at (names_of g) w.0 in
       let all : All (λ u. same_wire (shared_wire K u) u ≡ true) (map at least) =
       subst (λ us. All (λ u. same_wire (shared_wire K u) u ≡ true) us)
-      (sym (are.names ∙ ap (λ us. filter (λ u. same_wire (shared_wire K u) u) us) (sym g.laid_out.names)))
+      (sym (are.names ∙ ap (λ us. filter (λ u. same_wire (shared_wire K u) u) us) (sym built.wires)))
       (passes (λ u. same_wire (shared_wire K u) u) (names_of g)) in
       let many : k < length (map at least) = omega (arith, l, length-map least at) in
       let here : get_or (map at least) k (Go 0 Resumed) ≡ at (get_or least k d) = get_or-map at least k d (Go 0 Resumed) l in

@@ -10,6 +10,7 @@ use Rattle.est_kernel.specs.Plain.{Program, interface_count, program_of}
 use Rattle.est_kernel.specs.WellFormed.{IsKernel, KeepsLimits}
 use Rattle.est_kernel.proofs.Exports.{trees_are_kernels_lem}
 use Rattle.grc_graph.specs.declared.graph.Graph.{Graph}
+use Rattle.grc_graph.specs.BuiltGraphs.{IsGraphOf}
 use Rattle.grc_graph.specs.GraphRuns.{program_wires}
 use Rattle.grc_graph.specs.Layers.{Resumed, body_liveness}
 use Rattle.grc_graph.specs.PlainGraphs.{instances_of, names_of, wire_at, wire_of}
@@ -87,16 +88,16 @@ module _ (p : Program) (kernel : IsKernel p.body) (limits : KeepsLimits p.body) 
 
 -- ---- of a graph
 
-module _ (g : Graph) (members : List WireId) (each : length members ≡ length g.wires.items)
+module _ (g : Graph) (built : IsGraphOf g (program_of g.program)) (members : List WireId) (each : length members ≡ length g.wires.items)
     (are : AreLeastWires (body_sharing (program_of g.program).body) (names_of g) members) where
   p : Program
   p = program_of g.program
 
   long : length members ≡ length (program_wires (program_of g.program))
-  long = each ∙ sym (length-map g.wires.items (wire_of (instances_of g))) ∙ ap length g.laid_out.names
+  long = each ∙ sym (length-map g.wires.items (wire_of (instances_of g))) ∙ ap length built.wires
 
   least : AreLeastWires (body_sharing (program_of g.program).body) (program_wires (program_of g.program)) members
-  least = subst (λ (ns : List Wire). AreLeastWires (body_sharing (program_of g.program).body) ns members) g.laid_out.names are
+  least = subst (λ (ns : List Wire). AreLeastWires (body_sharing (program_of g.program).body) ns members) built.wires are
 
   pub graph-settled : Settled members
   graph-settled = members-settled (program_of g.program) (trees_are_kernels_lem g.program.body) g.laid_out.formed.body members long least
@@ -111,6 +112,6 @@ module _ (g : Graph) (members : List WireId) (each : length members ≡ length g
   graph-shared first numbers = are-shared (program_of g.program) (trees_are_kernels_lem g.program.body) g.laid_out.formed.body members first numbers long least
 
 -- no two wires of a graph have one name
-pub graph-apart : (g : Graph) → Apart (names_of g)
-graph-apart g =
-    subst Apart (sym g.laid_out.names) (wires-apart (program_of g.program) (trees_are_kernels_lem g.program.body) g.laid_out.formed.body)
+pub graph-apart : (g : Graph) → IsGraphOf g (program_of g.program) → Apart (names_of g)
+graph-apart g built =
+    subst Apart (sym built.wires) (wires-apart (program_of g.program) (trees_are_kernels_lem g.program.body) g.laid_out.formed.body)

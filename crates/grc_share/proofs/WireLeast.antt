@@ -16,6 +16,7 @@ use Rattle.grc_graph.specs.declared.instances.Instance as stored
 use Rattle.grc_graph.specs.declared.neighbours.Neighbours.{Neighbours}
 use Rattle.grc_graph.specs.declared.wires.Wire as kept
 use Rattle.grc_graph.specs.declared.wires.Wire.TheVariants as wires
+use Rattle.grc_graph.specs.BuiltGraphs.{IsGraphOf}
 use Rattle.grc_graph.specs.GraphRuns.{program_wires}
 use Rattle.grc_graph.specs.Instances.{Instance}
 use Rattle.grc_graph.specs.Layers.{Resumed}
@@ -46,8 +47,8 @@ each-more P xs x n e old new i d l =
 none_id : InstId
 none_id = record { 0 = 0 }
 
-module _ (g : Graph) (least : List InstId) (near : Neighbours) (near_instances : instances_in near ≡ instances_of g)
-    (near_names : names_in near ≡ names_of g) where
+module _ (g : Graph) (built : IsGraphOf g (program_of g.program)) (least : List InstId) (near : Neighbours)
+    (near_instances : instances_in near ≡ instances_of g) (near_names : names_in near ≡ names_of g) where
   abbrev p : Program
   p = program_of g.program
 
@@ -95,7 +96,7 @@ module _ (g : Graph) (least : List InstId) (near : Neighbours) (near_instances :
     own-wire : (u : Wire) → wire_of (instances_of g) x ≡ u → Contains (program_wires (program_of g.program)) u
     own-wire u e =
         subst (λ v. Contains (program_wires (program_of g.program)) v) (name-of ∙ e)
-        (subst (λ (ns : List Wire). Contains ns (wire_at (names_of g) w)) g.laid_out.names own-name)
+        (subst (λ (ns : List Wire). Contains ns (wire_at (names_of g) w)) built.wires own-name)
 
     found : (u v : Wire) (r : ℕ) → wire_of (instances_of g) x ≡ v → u ≡ shared_wire K v → IsNumberOf (names_in near) r u
         → IsNumberOf (names_of g) r (shared_wire K (wire_at (names_of g) w))
@@ -118,7 +119,7 @@ module _ (g : Graph) (least : List InstId) (near : Neighbours) (near_instances :
     pub end-some : (i c : ℕ) → x ≡ wires.End (record { 0 = i }) c → Least i → ¬ Contains (names_in near) (End (there i).path (there i).layer c) → ⊥
     end-some i c e l none =
         none (subst (λ u. Contains (names_in near) u) (sym (ap (λ (y : Instance). End y.path y.layer c) l.named))
-        (subst (λ (ns : List Wire). Contains ns (End (at i).path (shared_layer K (at i).path (at i).layer) c)) (sym (near_names ∙ g.laid_out.names))
+        (subst (λ (ns : List Wire). Contains ns (End (at i).path (shared_layer K (at i).path (at i).layer) c)) (sym (near_names ∙ built.wires))
         (end-there (program_of g.program) kernel g.laid_out.formed.body (at i).path (at i).layer c (own-wire _ (ap (wire_of (instances_of g)) e)))))
 
     -- the instance of a status
@@ -136,7 +137,7 @@ module _ (g : Graph) (least : List InstId) (near : Neighbours) (near_instances :
           → IsNumberOf (names_of g) r.0 (shared_wire K (wire_at (names_of g) w))
       status-resumed-least r h =
           let a = subst (λ (z : Instance). HasResumedStatus K (names_in near) z (Some r)) named h in
-          let b = subst (λ (ns : List Wire). Contains ns (StatusOf (at i).path Resumed)) (near_names ∙ g.laid_out.names) (r.0, a.1.within, a.1.same _) in
+          let b = subst (λ (ns : List Wire). Contains ns (StatusOf (at i).path Resumed)) (near_names ∙ built.wires) (r.0, a.1.within, a.1.same _) in
           found (StatusOf (at i).path Resumed) (StatusOf (at i).path (at i).layer) r.0 (ap (wire_of (instances_of g)) e)
           (ap (StatusOf (at i).path) (sym (status-resumed (program_of g.program) kernel (at i).path (at i).layer status b a.0))) a.1
 
@@ -146,7 +147,7 @@ module _ (g : Graph) (least : List InstId) (near : Neighbours) (near_instances :
       status-started-least r l h n =
           let a = subst (λ (z : Instance). HasResumedStatus K (names_in near) z None) named h in
           let b = λ (q : K.resumed (at i).path ≡ key K (at i).path (at i).layer).
-          subst (λ (ns : List Wire). ¬ Contains ns (StatusOf (at i).path Resumed)) (near_names ∙ g.laid_out.names) (a q) in
+          subst (λ (ns : List Wire). ¬ Contains ns (StatusOf (at i).path Resumed)) (near_names ∙ built.wires) (a q) in
           found (StatusOf (there i).path (there i).layer) (StatusOf (at i).path (at i).layer) r (ap (wire_of (instances_of g)) e)
           (ap (λ (z : Instance). StatusOf z.path z.layer) l.named
           ∙ ap (StatusOf (at i).path) (sym (status-started (program_of g.program) kernel (at i).path (at i).layer status b))) n
@@ -154,12 +155,12 @@ module _ (g : Graph) (least : List InstId) (near : Neighbours) (near_instances :
       pub status-some : Least i → ¬ Contains (names_in near) (StatusOf (there i).path (there i).layer) → ⊥
       status-some l none =
           none (subst (λ u. Contains (names_in near) u) (sym (ap (λ (z : Instance). StatusOf z.path z.layer) l.named))
-          (subst (λ (ns : List Wire). Contains ns (StatusOf (at i).path (shared_layer K (at i).path (at i).layer))) (sym (near_names ∙ g.laid_out.names))
+          (subst (λ (ns : List Wire). Contains ns (StatusOf (at i).path (shared_layer K (at i).path (at i).layer))) (sym (near_names ∙ built.wires))
           (status-there (program_of g.program) kernel (at i).path (at i).layer status)))
 
       -- its statement and its root are among so many
       pub path-low : (count : ℕ) → count ≡ statement_count (program_of g.program).body → y.path.0 < count
-      path-low count n = omega (arith, n, path_within (program_of g.program).body g.instances.list.items i y g.laid_out.instances inside f)
+      path-low count n = omega (arith, n, path_within (program_of g.program).body g.instances.list.items i y built.instances inside f)
 
       pub root-low : (count : ℕ) → count ≡ statement_count (program_of g.program).body → RootIn count (layer_of y.layer)
-      root-low count n = root_of (program_of g.program) kernel g.instances.list.items g.laid_out.instances i y count n f inside
+      root-low count n = root_of (program_of g.program) kernel g.instances.list.items built.instances i y count n f inside

@@ -6,5 +6,7 @@ pub mod SharedNumbers
 pub mod SharedPairs
 pub mod SharedGraphs
 pub mod Renamings
+pub mod MemberRuns
+pub mod Tables
 pub mod SharedGraphForms
 pub mod SharedParts

@@ -1,16 +1,8 @@
--- Inner: for each statement of a body how many loop bodies stand above it, and how many at or above it, as they are
--- counted from the statement around it.
-use Rattle.std.specs.Prelude.{◌≡◌, ℕ, ◌+◌, ◌<◌, List, length, slice_index_or, ⊤}
-use Rattle.est_kernel.specs.Terms.{Term}
+-- Inner: how the loop bodies around a statement are counted from those around the statement around it.
+use Rattle.std.specs.Prelude.{ℕ, ◌+◌, ◌<◌, List, slice_index_or, ⊤}
 use Rattle.grc_graph.specs.Statements.{Entry, Body, Part, Branch, Then, Else, Suspended, Second, Looped}
-use Rattle.grc_share.specs.SharedInstances.{loops_above, loops_at}
-use Rattle.grc_share.specs.declared.loop_counts.LoopBodies.{LoopBodies}
-
--- the counts of the first statements of a body
-pub record AreLoopCounts (body : Term) (list : List LoopBodies) : Type 0 where
-  pub above : (n : ℕ) (d : LoopBodies) → n < length list
-      → (slice_index_or list n d).above ≡ loops_above 0 0 body 0 n
-  pub inside : (n : ℕ) (d : LoopBodies) → n < length list → (slice_index_or list n d).inside ≡ loops_at 0 body 0 n
+use Rattle.grc_graph.specs.declared.loops.LoopBodies.{LoopBodies}
+pub use Rattle.grc_graph.specs.LoopTables.{AreLoopCounts}
 
 abbrev pub inside_at : List LoopBodies → ℕ → ℕ
 inside_at list n = (slice_index_or list n (record { above = 0; inside = 0 })).inside

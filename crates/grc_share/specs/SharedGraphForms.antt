@@ -1,38 +1,44 @@
 -- Contract: the graph of a program's shared wires by number, and when a program has one.
-use Rattle.std.specs.Prelude.{◌≡◌, Bool, true, false, length, map}
-use Rattle.est_kernel.specs.Plain.{Program}
-use Rattle.grc_graph.specs.GraphShapes.{IndicesFit}
+use Rattle.std.specs.Prelude.{◌≡◌, ◌<◌, ℕ, Bool, true, false, List, length, map}
+use Rattle.est_base.specs.declared.indices.WireId.{WireId}
+use Rattle.est_kernel.specs.Plain.{Program, program_of}
+use Rattle.grc_graph.specs.declared.graph.Graph.{Graph}
+use Rattle.grc_graph.specs.GraphRuns.{program_wires}
 use Rattle.grc_graph.specs.NumberedEdges.{AreEdgesOf}
-use Rattle.grc_graph.specs.PlainGraphs.{equations_of, formula_of, node_of, wire_of}
-use Rattle.grc_graph.specs.PlainInstances.{instance_of}
+use Rattle.grc_graph.specs.PlainGraphs.{instances_of, names_of, node_of, plain_graph, wire_at}
 use Rattle.grc_graph.specs.WireOrders.{AreRanks}
-use Rattle.grc_share.specs.declared.graphs.SharedGraph.{SharedGraph}
+use Rattle.grc_share.specs.declared.shared_graph.SharedGraph.{SharedGraph}
 use Rattle.grc_share.specs.declared.graphs.SharedOrFull.{SharedOrFull}
 use Rattle.grc_share.specs.declared.graphs.SharedOrFull.TheVariants.{Shared, Full}
-use Rattle.grc_share.specs.SharedGraphs.{shared_equations, shared_graph, shared_instances, shared_nodes}
-use Rattle.grc_share.specs.SharedNumbers.{AreMemberLists, IsSharedWalk}
-use Rattle.grc_share.specs.SharedWires.{shared_edges, shared_wires}
+use Rattle.grc_share.specs.MemberRuns.{member_run}
+use Rattle.grc_share.specs.SharedGraphs.{shared_graph, shared_instances, shared_nodes}
+use Rattle.grc_share.specs.SharedNumbers.{IsSharedWalk}
+use Rattle.grc_share.specs.SharedWires.{members, shared_edges, shared_wires}
 
--- The graph is that of the shared wires of a program: its instances, nodes, wires, equations and formulas of the next
--- state are the shared ones, in order, and each index in it is in range. The members of each wire are those of the
--- shared wire, and the edges are those between shared wires, which go up in the ranks.
-pub record IsSharedGraphOf (p : Program) (g : SharedGraph) : Type 0 where
-  pub instances : map instance_of g.instances.list.items ≡ shared_instances p
-  pub wires : map (wire_of (shared_instances p)) g.wires.items ≡ shared_wires p
-  pub members : AreMemberLists p (map (λ list. list.items) g.members.items)
-  pub nodes : map (node_of (shared_instances p) (shared_wires p)) g.nodes.items ≡ shared_nodes p
-  pub equations : equations_of (shared_instances p) (shared_wires p) g.equations.items ≡ shared_equations p
-  pub next : map (formula_of (shared_instances p) (shared_wires p)) g.next.items ≡ (shared_graph p).next
-  pub indices : IndicesFit (length g.instances.list.items) g.wires.items g.nodes.items g.equations.items g.next.items
-  pub count : g.edges.count ≡ length g.wires.items
-  pub edges : AreEdgesOf (shared_wires p) (shared_edges p) g.edges.pairs.items
-  pub ranks : AreRanks g.edges.count g.edges.pairs.items g.ranks.of.items
+-- the members of the shared wire with this number
+abbrev pub members_at : SharedGraph → ℕ → List WireId
+members_at s k = member_run s.member_list.items s.first_members.items k
 
--- the shared graph, or a closed walk
-abbrev pub IsSharedOrFull : Program → SharedOrFull → Type 0
-IsSharedOrFull p (Shared g) = IsSharedGraphOf p g
-IsSharedOrFull p (Full walk) = IsSharedWalk p walk.items
+-- The graph is that of the shared wires of a program: its instances and wires are the shared ones, in order, and so are
+-- its nodes, equations and formulas of the next state. The members of each wire are those of the shared wire, and the
+-- edges are those between shared wires, which go up in the ranks.
+pub record IsSharedGraphOf (p : Program) (s : SharedGraph) : Type 0 where
+  pub program : program_of s.graph.program ≡ p
+  pub instances : instances_of s.graph ≡ shared_instances p
+  pub wires : names_of s.graph ≡ shared_wires p
+  pub nodes : map (node_of (instances_of s.graph) (names_of s.graph)) s.graph.nodes.items ≡ shared_nodes p
+  pub graph : plain_graph s.graph ≡ shared_graph p
+  pub members : (k : ℕ) → k < length (shared_wires p)
+      → map (λ w. wire_at (program_wires p) w.0) (members_at s k) ≡ members p (wire_at (shared_wires p) k)
+  pub count : s.edges.count ≡ length s.graph.wires.items
+  pub edges : AreEdgesOf (shared_wires p) (shared_edges p) s.edges.pairs.items
+  pub ranks : AreRanks s.edges.count s.edges.pairs.items s.ranks.of.items
+
+-- the shared graph of a graph, or the graph itself and a closed walk
+abbrev pub IsSharedOrFull : Graph → SharedOrFull → Type 0
+IsSharedOrFull g (Shared s) = IsSharedGraphOf (program_of g.program) s
+IsSharedOrFull g (Full h walk) = (h ≡ g) × IsSharedWalk (program_of g.program) walk.items
 
 abbrev pub is_full : SharedOrFull → Bool
-is_full (Shared g) = false
-is_full (Full walk) = true
+is_full (Shared s) = false
+is_full (Full g walk) = true

@@ -1,5 +1,5 @@
 -- Contract: the shared graph of a program: its equations and formulas of the next state, over its shared wires.
-use Rattle.std.specs.Prelude.{ℕ, Bool, true, false, ◌==◌, ◌&&◌, ◌||◌, nat_lt, if◌then◌else◌, List, [], ◌∷◌, ◌++◌, map}
+use Rattle.std.specs.Prelude.{ℕ, Bool, true, false, ◌==◌, ◌&&◌, nat_lt, if◌then◌else◌, List, [], ◌∷◌, ◌++◌, map}
 use Rattle.std.specs.Prelude.{filter, Option, None, option_map}
 use Rattle.std.specs.List.{list_any}
 use Rattle.est_kernel.specs.Plain.{Program, interface_of, interface_count, given_count}
@@ -11,6 +11,7 @@ use Rattle.grc_graph.specs.Formulas.{Conjunction, Disjunction, any_of}
 use Rattle.grc_graph.specs.GraphRuns.{PlainGraph, graph_of, next_state, program_spots}
 use Rattle.grc_graph.specs.Instances.{Instance, body_instances}
 use Rattle.grc_graph.specs.Layers.{Layer, Resumed, Started, same_layer}
+use Rattle.grc_graph.specs.LoopKeys.{lasting}
 use Rattle.grc_graph.specs.Nodes.{Node, Fork, Sync, Switch, Tested, Enter, Emission, Definition, Leave, Through}
 use Rattle.grc_graph.specs.Nodes.{node_of}
 use Rattle.grc_graph.specs.Readings.{Valuation}
@@ -20,7 +21,7 @@ use Rattle.grc_graph.specs.SelectionTrees.{body_leaves}
 use Rattle.grc_graph.specs.Spots.{Spot}
 use Rattle.grc_graph.specs.Walk.{State}
 use Rattle.grc_graph.specs.Wires.{Wire, Out, Go, StatusOf, End, same_wire}
-use Rattle.grc_share.specs.SharedInstances.{Sharing, body_sharing, key}
+use Rattle.grc_share.specs.SharedInstances.{Sharing, body_sharing}
 use Rattle.grc_share.specs.SharedWires.{first_root, shared_layer, shared_layers, shared_wire, shared_wires}
 
 -- a formula whose wires and instances are shared ones
@@ -135,6 +136,7 @@ shared_graph p = record {
   equations = shared_equations p;
   leaves = body_leaves p.body;
   next = map (λ n. next_formula n (shared_layers (body_sharing p.body) n)) (body_leaves p.body);
+  lasting = lasting (body_sharing p.body);
 }
 
 -- a node whose wires and instances are shared ones
@@ -155,14 +157,6 @@ shared_nodes p =
     map (λ x. renamed_node (body_sharing p.body) (node_of x))
     (filter (is_least (body_sharing p.body)) (program_spots p))
 
--- What a shared instance sees of the end of a parallel around it. Its members see the parallel started or resumed, and
--- the resumed one counts as the started one of the same key.
-abbrev pub lasting : Sharing → Valuation → Valuation
-lasting K V (Out s) = V (Out s)
-lasting K V (Go n l) = V (Go n l)
-lasting K V (StatusOf n l) = V (StatusOf n l)
-lasting K V (End n l k) = V (End n l k) || (K.resumed n == key K n l && V (End n Resumed k))
-
 -- the state behind an instant in which the shared wires have these values
 abbrev pub shared_next : Program → State → List Bool → Valuation → State
-shared_next p q event V = next_state (shared_graph p) q event (lasting (body_sharing p.body) V)
+shared_next p q event V = next_state (shared_graph p) q event V

@@ -1,19 +1,33 @@
 -- Inner: what a shared graph is made of.
-use Rattle.std.specs.Prelude.{◌≡◌, length, map, All, IsTrue}
+use Rattle.std.specs.Prelude.{◌≡◌, ℕ, ◌<◌, Bool, true, false, List, length, map, All, IsTrue}
 use Rattle.est_kernel.specs.Plain.{Program, program_of}
+use Rattle.est_kernel.specs.Preorder.{statement_count}
 use Rattle.grc_graph.specs.declared.graph.Graph.{Graph}
+use Rattle.grc_graph.specs.declared.instances.Instance.{Instance}
+use Rattle.grc_graph.specs.GraphRuns.{program_wires}
 use Rattle.grc_graph.specs.GraphShapes.{formula_fits, node_fits, wire_fits}
-use Rattle.grc_graph.specs.PlainGraphs.{formula_of, instances_of, node_of, wire_of}
+use Rattle.grc_graph.specs.LoopTables.{AreLoopCounts}
+use Rattle.grc_graph.specs.NumberedEdges.{AreEdgesOf}
+use Rattle.grc_graph.specs.PlainGraphs.{formula_of, instances_of, names_of, node_of, plain_graph, wire_at, wire_of}
 use Rattle.grc_graph.specs.PlainInstances.{instance_of}
+use Rattle.grc_graph.specs.WireOrders.{AreRanks}
+use Rattle.grc_graph.specs.WireTables.{AreFirsts}
 use Rattle.grc_share.specs.declared.graphs.Formulas.{Formulas}
 use Rattle.grc_share.specs.declared.graphs.GraphParts.{GraphParts}
 use Rattle.grc_share.specs.declared.graphs.Named.{Named}
 use Rattle.grc_share.specs.declared.graphs.Numbered.{Numbered}
+use Rattle.grc_share.specs.declared.graphs.Parts as parts
+use Rattle.grc_share.specs.declared.graphs.PartsOrWalk.{PartsOrWalk}
+use Rattle.grc_share.specs.declared.graphs.PartsOrWalk.TheVariants.{Parts, Walk}
+use Rattle.grc_share.specs.declared.tables.Tables.{Tables}
 use Rattle.grc_share.specs.LeastMembers.{AreLeast}
+use Rattle.grc_share.specs.MemberRuns.{AreMemberRuns, member_run}
 use Rattle.grc_share.specs.Renamings.{AreInstanceNumbers, AreSharedFormulas}
 use Rattle.grc_share.specs.SharedGraphs.{shared_graph, shared_instances, shared_nodes}
 use Rattle.grc_share.specs.SharedInstances.{body_sharing}
-use Rattle.grc_share.specs.SharedWires.{shared_wires}
+use Rattle.grc_share.specs.SharedNumbers.{IsSharedWalk}
+use Rattle.grc_share.specs.SharedWires.{members, shared_edges, shared_wires}
+use Rattle.grc_share.specs.Tables.{AreFirstWires}
 
 -- the shared instances of a graph, by number
 pub record AreNumbered (g : Graph) (s : Numbered) : Type 0 where
@@ -37,7 +51,45 @@ pub record AreFormulas (p : Program) (s : Formulas) : Type 0 where
   pub next : map (formula_of (shared_instances p) (shared_wires p)) s.next.items ≡ (shared_graph p).next
   pub next_fit : All (λ f. IsTrue (formula_fits (length (shared_instances p)) (length (shared_wires p)) f)) s.next.items
 
-pub record AreGraphParts (p : Program) (s : GraphParts) : Type 0 where
-  pub instances : map instance_of s.instances.items ≡ shared_instances p
-  pub named : AreNamed p s.named
-  pub formulas : AreFormulas p s.formulas
+-- where the instances and wires of a graph's shared graph are found
+pub record AreTables (g : Graph) (list : List Instance) (t : Tables) : Type 0 where
+  pub wires : AreFirstWires g t.first_wires.items
+  pub instances : AreFirsts list t.first_instances.items
+  pub each : length t.loops.items ≡ statement_count (program_of g.program).body
+  pub loops : AreLoopCounts (program_of g.program).body t.loops.items
+
+-- the lists of a graph's shared graph
+pub record AreGraphParts (g : Graph) (s : GraphParts) : Type 0 where
+  pub instances : map instance_of s.instances.items ≡ shared_instances (program_of g.program)
+  pub named : AreNamed (program_of g.program) s.named
+  pub formulas : AreFormulas (program_of g.program) s.formulas
+  pub tables : AreTables g s.instances.items s.tables
+
+-- what a graph's shared graph is made of
+pub record AreParts (g : Graph) (s : parts.Parts) : Type 0 where
+  pub graph : AreGraphParts g s.graph
+  pub runs : AreMemberRuns (length (shared_wires (program_of g.program))) s.members.list.items s.members.firsts.items
+  pub members : (k : ℕ) → k < length (shared_wires (program_of g.program))
+      → map (λ w. wire_at (program_wires (program_of g.program)) w.0)
+      (member_run s.members.list.items s.members.firsts.items k)
+      ≡ members (program_of g.program) (wire_at (shared_wires (program_of g.program)) k)
+  pub count : s.edges.count ≡ length (shared_wires (program_of g.program))
+  pub edges : AreEdgesOf (shared_wires (program_of g.program)) (shared_edges (program_of g.program))
+      s.edges.pairs.items
+  pub ranks : AreRanks s.edges.count s.edges.pairs.items s.ranks.of.items
+
+-- they are these, or there is a closed walk
+abbrev pub ArePartsOrWalk : Graph → PartsOrWalk → Type 0
+ArePartsOrWalk g (Parts s) = AreParts g s
+ArePartsOrWalk g (Walk walk) = IsSharedWalk (program_of g.program) walk.items
+
+abbrev pub is_walk : PartsOrWalk → Bool
+is_walk (Parts s) = false
+is_walk (Walk walk) = true
+
+-- a graph is that of the shared wires of a program
+pub record IsGraphOfShared (p : Program) (g : Graph) : Type 0 where
+  pub instances : instances_of g ≡ shared_instances p
+  pub wires : names_of g ≡ shared_wires p
+  pub nodes : map (node_of (instances_of g) (names_of g)) g.nodes.items ≡ shared_nodes p
+  pub graph : plain_graph g ≡ shared_graph p

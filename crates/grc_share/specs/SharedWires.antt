@@ -1,4 +1,4 @@
--- Contract: the shared wires of a program, each with the name of its least member, and the edges between them.
+-- To believe: the shared wires of a program, each with the name of its least member, and the edges between them.
 use Rattle.std.specs.Prelude.{ℕ, Bool, true, false, ◌==◌, ◌&&◌, if◌then◌else◌, List, [], ◌∷◌, map, filter}
 use Rattle.est_kernel.specs.Plain.{Program}
 use Rattle.grc_graph.specs.Edges.{Edge, edge}

@@ -2,6 +2,7 @@
 
 ghost use Rattle.std.specs.Prelude.{◌≡◌, ◌<◌, length, All, IfOk};
 ghost use Rattle.est_kernel.specs.Plain.{program_of};
+ghost use Rattle.grc_graph.specs.BuiltGraphs.{IsGraphOf};
 ghost use Rattle.grc_graph.specs.GraphRuns.{program_edges};
 ghost use Rattle.grc_graph.specs.NumberedEdges.{AreEdgesOf};
 ghost use Rattle.grc_graph.specs.PlainGraphs.{names_of};
@@ -24,6 +25,7 @@ pub(crate) fn shared_edges(
     edges: &Edges,
     shared: &SharedWires,
 ) -> Result<Edges, NoMemory>
+    requires built { IsGraphOf graph.now (program_of graph.now.program) }
     requires edges { AreEdgesOf (names_of graph.now) (program_edges (program_of graph.now.program))
         edges.now.pairs.items }
     requires wires { AreSharedWires (program_of graph.now.program) shared.now.least.items shared.now.numbers.items }

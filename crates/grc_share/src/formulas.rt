@@ -121,6 +121,7 @@ fn go_formula(
 
 // Another member of a shared instance that is started by itself: the one whose root is the statement.
 fn own_start(graph: &Graph, numbers: &Numbers, i: InstId) -> Option<InstId>
+    requires built { IsGraphOf graph.now (program_of graph.now.program) }
     requires numbers { AreNumbersOf graph.now numbers.now.least.now numbers.now.instances.now numbers.now.wires.now }
     requires instance { i.0 < length graph.now.instances.list.items }
     requires own { shared_layer (body_sharing (program_of graph.now.program).body)

@@ -2,6 +2,7 @@
 
 ghost use Rattle.std.specs.Prelude.{◌≡◌, ℕ, ◌<◌, ◌++◌, length, map, slice_index_or, IfOk, OnOk};
 ghost use Rattle.est_kernel.specs.Plain.{program_of, term_of};
+ghost use Rattle.grc_graph.specs.BuiltGraphs.{IsGraphOf};
 ghost use Rattle.grc_graph.specs.PlainGraphs.{instance_at, instances_of};
 ghost use Rattle.grc_graph.specs.PlainInstances.{instance_of};
 ghost use Rattle.grc_share.specs.LeastMembers.{AreLeast, IsLeast};
@@ -28,6 +29,7 @@ pub(crate) fn shared_instances(
     graph: &Graph,
     least: &[InstId],
 ) -> Result<SharedInstances, NoMemory>
+    requires built { IsGraphOf graph.now (program_of graph.now.program) }
     requires each { length least.now ≡ length graph.now.instances.list.items }
     requires least { AreLeast (body_sharing (term_of graph.now.program.body)) graph.now.instances.list.items least.now }
     ensures list { IfOk result (λ s. map instance_of s.list.items ≡ shared_instances (program_of graph.now.program)) }
@@ -52,6 +54,7 @@ struct OwnInstances {
 
 // The instances that are the least members of theirs.
 fn own_instances(alloc: Global, graph: &Graph, least: &[InstId]) -> Result<OwnInstances, NoMemory>
+    requires built { IsGraphOf graph.now (program_of graph.now.program) }
     requires each { length least.now ≡ length graph.now.instances.list.items }
     requires least { AreLeast (body_sharing (term_of graph.now.program.body)) graph.now.instances.list.items least.now }
     ensures list { IfOk result (λ s. map instance_of s.list.items ≡ shared_instances (program_of graph.now.program)) }

@@ -1,9 +1,10 @@
 // The least members of shared instances and of shared wires.
 
 ghost use Rattle.std.specs.Prelude.{◌≡◌, ℕ, ◌<◌, length, map, IfOk};
-ghost use Rattle.est_kernel.specs.Plain.{term_of};
+ghost use Rattle.est_kernel.specs.Plain.{program_of, term_of};
 ghost use Rattle.est_kernel.specs.Preorder.{statement_count};
 ghost use Rattle.est_kernel.specs.Terms.{Term};
+ghost use Rattle.grc_graph.specs.BuiltGraphs.{IsGraphOf};
 ghost use Rattle.grc_graph.specs.Neighbouring.{instances_in, names_in};
 ghost use Rattle.grc_graph.specs.PlainGraphs.{instances_of, names_of, wire_at};
 ghost use Rattle.grc_graph.specs.PlainInstances.{instance_of, layer_of};
@@ -14,9 +15,8 @@ ghost use Rattle.grc_share.specs.LoopCounts.{AreLoopCounts};
 ghost use Rattle.grc_share.specs.SharedInstances.{body_sharing, key};
 ghost use Rattle.grc_share.specs.SharedWires.{shared_wire};
 
-use crate::loop_counts::LoopBodies;
 use est_base::{InstId, NoMemory, WireId};
-use grc_graph::{Graph, Instance, Layer, Neighbours, Wire};
+use grc_graph::{Graph, Instance, Layer, LoopBodies, Neighbours, Wire};
 use std::alloc::Global;
 
 /// For each instance of a graph the least member of its shared instance: instances that are one stand side by side.
@@ -25,6 +25,7 @@ pub(crate) fn least_instances(
     graph: &Graph,
     loops: &[LoopBodies],
 ) -> Result<Vec<InstId>, NoMemory>
+    requires built { IsGraphOf graph.now (program_of graph.now.program) }
     requires each { length loops.now ≡ statement_count (term_of graph.now.program.body) }
     requires counts { AreLoopCounts (term_of graph.now.program.body) loops.now }
     ensures each { IfOk result (λ v. length v.items ≡ length graph.now.instances.list.items) }
@@ -42,6 +43,7 @@ pub(crate) fn least_instances(
 
 // The least member of an instance's shared instance; those of the instances before it are known.
 fn least_instance(graph: &Graph, loops: &[LoopBodies], least: &[InstId], i: usize) -> InstId
+    requires built { IsGraphOf graph.now (program_of graph.now.program) }
     requires each { length loops.now ≡ statement_count (term_of graph.now.program.body) }
     requires counts { AreLoopCounts (term_of graph.now.program.body) loops.now }
     requires place { length least.now ≡ i }
@@ -91,6 +93,7 @@ pub(crate) fn least_wires(
     loops: &[LoopBodies],
     least: &[InstId],
 ) -> Result<Vec<WireId>, NoMemory>
+    requires built { IsGraphOf graph.now (program_of graph.now.program) }
     requires each { length loops.now ≡ statement_count (term_of graph.now.program.body) }
     requires counts { AreLoopCounts (term_of graph.now.program.body) loops.now }
     requires instances { length least.now ≡ length graph.now.instances.list.items }
@@ -112,6 +115,7 @@ pub(crate) fn least_wires(
 // The least member of a wire's shared wire.
 fn least_wire(graph: &Graph, loops: &[LoopBodies], least: &[InstId], w: WireId) -> WireId
     requires within { w.0 < length graph.now.wires.items }
+    requires built { IsGraphOf graph.now (program_of graph.now.program) }
     requires each { length loops.now ≡ statement_count (term_of graph.now.program.body) }
     requires counts { AreLoopCounts (term_of graph.now.program.body) loops.now }
     requires instances { length least.now ≡ length graph.now.instances.list.items }

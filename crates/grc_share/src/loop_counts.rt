@@ -9,17 +9,8 @@ ghost use Rattle.grc_share.specs.LoopCounts.{AreLoopCounts, Enters, counts_in};
 
 use est_base::NoMemory;
 use est_kernel::KernelProgram;
-use grc_graph::{Entry, list_statements};
+use grc_graph::{Entry, LoopBodies, list_statements};
 use std::alloc::Global;
-
-/// How many loop bodies there are around a statement.
-#[derive(Clone, Copy)]
-pub(crate) struct LoopBodies {
-    /// Those that it stands in.
-    pub above: u32,
-    /// Those that it stands in or is.
-    pub inside: u32,
-}
 
 /// The loop bodies around each statement of a program's body. The error is want of memory.
 pub(crate) fn loop_bodies(

@@ -25,6 +25,7 @@ pub(crate) fn shared_wire_list(
     least: &[WireId],
     numbers: &Numbers,
 ) -> Result<Vec<Wire>, NoMemory>
+    requires built { IsGraphOf graph.now (program_of graph.now.program) }
     requires least { AreLeastMembers graph.now least.now }
     requires numbers { AreNumbersOf graph.now numbers.now.least.now numbers.now.instances.now numbers.now.wires.now }
     ensures wires { IfOk result (λ v. map (wire_of (shared_instances (program_of graph.now.program))) v.items

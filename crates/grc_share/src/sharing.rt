@@ -2,6 +2,7 @@
 
 ghost use Rattle.std.specs.Prelude.{◌≡◌, length, map, IfOk};
 ghost use Rattle.est_kernel.specs.Plain.{program_of, term_of};
+ghost use Rattle.grc_graph.specs.BuiltGraphs.{IsGraphOf};
 ghost use Rattle.grc_graph.specs.PlainGraphs.{names_of};
 ghost use Rattle.grc_share.specs.LeastMembers.{AreLeastWires};
 ghost use Rattle.grc_share.specs.SharedInstances.{body_sharing};
@@ -29,6 +30,7 @@ pub struct SharedWires {
 /// The shared wires of a graph. The time is linear in the wires but for the search of status wires among the instances
 /// of a Local, which is logarithmic; the error is want of memory.
 pub fn shared_wires(alloc: Global, graph: &Graph) -> Result<SharedWires, NoMemory>
+    requires { IsGraphOf graph.now (program_of graph.now.program) }
     ensures wires { IfOk result (λ s. AreSharedWires (program_of graph.now.program) s.least.items s.numbers.items) }
     ensures members { IfOk result (λ s. AreMemberLists (program_of graph.now.program)
         (map (λ list. list.items) s.members.items)) }
@@ -45,6 +47,7 @@ pub fn shared_wires(alloc: Global, graph: &Graph) -> Result<SharedWires, NoMemor
 
 // For each wire of a graph the least member of its shared wire.
 fn first_members(alloc: Global, graph: &Graph) -> Result<Vec<WireId>, NoMemory>
+    requires { IsGraphOf graph.now (program_of graph.now.program) }
     ensures each { IfOk result (λ v. length v.items ≡ length graph.now.wires.items) }
     ensures least { IfOk result (λ v. AreLeastWires (body_sharing (term_of graph.now.program.body))
         (names_of graph.now) v.items) }

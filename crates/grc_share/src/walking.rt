@@ -3,6 +3,7 @@
 ghost use Rattle.std.specs.Prelude.{◌≡◌, ◌↔◌, ◌<◌, ℕ, List, length, map, All, IfOk, IsTrue};
 ghost use Rattle.digraph.specs.Answers.{is_cycle};
 ghost use Rattle.est_kernel.specs.Plain.{program_of};
+ghost use Rattle.grc_graph.specs.BuiltGraphs.{IsGraphOf};
 ghost use Rattle.grc_graph.specs.GraphRuns.{program_edges};
 ghost use Rattle.grc_graph.specs.NumberedEdges.{AreEdgesOf};
 ghost use Rattle.grc_graph.specs.PlainGraphs.{names_of};
@@ -24,7 +25,9 @@ pub fn shared_ranks_or_walk(
     graph: &Graph,
     edges: &Edges,
 ) -> Result<RanksOrCycle, NoMemory>
-    requires { AreEdgesOf (names_of graph.now) (program_edges (program_of graph.now.program)) edges.now.pairs.items }
+    requires built { IsGraphOf graph.now (program_of graph.now.program) }
+    requires edges { AreEdgesOf (names_of graph.now) (program_edges (program_of graph.now.program))
+        edges.now.pairs.items }
     ensures found { IfOk result (IsSharedAnswer (program_of graph.now.program)) }
     // The answer is a closed walk exactly where there is one.
     ensures cyclic { IfOk result (λ r. IsTrue (is_cycle r)
@@ -41,6 +44,7 @@ pub(crate) fn ranks_or_walk(
     edges: &Edges,
     shared: &SharedWires,
 ) -> Result<RanksOrCycle, NoMemory>
+    requires built { IsGraphOf graph.now (program_of graph.now.program) }
     requires edges { AreEdgesOf (names_of graph.now) (program_edges (program_of graph.now.program))
         edges.now.pairs.items }
     requires wires { AreSharedWires (program_of graph.now.program) shared.now.least.items shared.now.numbers.items }

@@ -1,5 +1,5 @@
 -- In a solution of a program's graph: whether a member of a `go` is true is what its shared equation gives.
-use Rattle.std.proofs.Common.{◌≡◌, ℕ, ◌+◌, ◌<◌, ◌⊎◌, Bool, true, false, not, ◌&&◌, ◌||◌, ◌==◌, cond, List, [], ◌++◌, refl, sym, ap, ◌∙◌, subst}
+use Rattle.std.proofs.Common.{◌≡◌, ℕ, ◌+◌, ◌<◌, Bool, true, false, not, ◌&&◌, ◌||◌, ◌==◌, cond, List, [], ◌++◌, refl, sym, ap, ◌∙◌, subst}
 use Rattle.std.proofs.Common.{⊎_elim, arith}
 use Rattle.std.specs.Prelude.{Contains}
 use Rattle.std.specs.List.{list_any}
@@ -33,7 +33,7 @@ use Rattle.share_laws.proofs.Equated.{go-met}
 use Rattle.share_laws.proofs.Exclusion.{Runs}
 use Rattle.facts.proofs.Tests.{same-tests}
 use Rattle.share_laws.proofs.MemberValues.{end-alone, end-from, end-some, go-alone, go-some}
-use Rattle.share_laws.proofs.Settled.{Binds, Solution, binds, is-live, is-there, mfrom-go, settle, statement, test-alike, test-settled}
+use Rattle.share_laws.proofs.Settled.{Binds, Solution, binds, is-live, is-there, mfrom-go, settle, test-alike, test-settled}
 
 -- a start at a statement's own root is none besides itself
 own-self : (K : Sharing) (n : ℕ) → has_own K n n ≡ false

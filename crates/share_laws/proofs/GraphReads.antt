@@ -48,14 +48,14 @@ module _ (g : Graph) (built : IsGraphOf g (program_of g.program)) where
   instances-live i l =
       let x = instance_at (instances_of g) i in
       let c : Contains (body_instances p.body) x =
-      subst (λ (xs : List Instance). Contains xs x) g.laid_out.instances (Contains-get_or (instances_of g) i (record { path = 0; layer = Resumed }) l) in
+      subst (λ (xs : List Instance). Contains xs x) built.instances (Contains-get_or (instances_of g) i (record { path = 0; layer = Resumed }) l) in
       let a = live_instance p x.path x.layer c in
       subst (λ a. live_in a x.layer ≡ true) (program_gives p kernel x.path (omega arith) (omega (arith, a.within))) a.live
 
   names-live : (w : ℕ) → w < length (names_of g) → IsLive K (wire_at (names_of g) w)
   names-live w l =
       wires_live p kernel (wire_at (names_of g) w)
-      (subst (λ (ws : List Wire). Contains ws (wire_at (names_of g) w)) g.laid_out.names (Contains-get_or (names_of g) w (Go 0 Resumed) l))
+      (subst (λ (ws : List Wire). Contains ws (wire_at (names_of g) w)) built.wires (Contains-get_or (names_of g) w (Go 0 Resumed) l))
 
   fits-at : (v : ℕ) → v < length g.wires.items
       → IsTrue (formula_fits (length (instances_of g)) (length (names_of g)) (get_or g.equations.items v formulas.Boot))
@@ -79,7 +79,7 @@ module _ (g : Graph) (built : IsGraphOf g (program_of g.program)) where
   pub reads-found : (u : Wire) → Contains (program_wires (program_of g.program)) u
       → ReadsOnly (λ w. Edged u w × IsLive (body_sharing (program_of g.program).body) w) (formula_for (graph_of (program_of g.program)).equations u)
   reads-found u c =
-      let d = subst (λ (ws : List Wire). Contains ws u) (sym g.laid_out.names) c in
+      let d = subst (λ (ws : List Wire). Contains ws u) (sym built.wires) c in
       let low : d.0 < length g.wires.items = omega (arith, d.1, length-map g.wires.items (wire_of (instances_of g))) in
       let same : wire_at (names_of g) d.0 ≡ u = get_or_default (names_of g) d.0 (Go 0 Resumed) u d.1 ∙ d.2 in
       let number : IsNumberOf (names_of g) d.0 u = record { within = d.1; same = λ e. get_or_default (names_of g) d.0 e u d.1 ∙ d.2 } in

@@ -1,18 +1,18 @@
-pub mod Exclusion
-pub mod PartsRunning
-pub mod Excluded
-pub mod Reached
-pub mod Running
-pub mod Around
-pub mod Lists
-pub mod MemberValues
-pub mod Equated
-pub mod Settled
-pub mod EndsAlike
-pub mod EndsMet
-pub mod GoMet
-pub mod Outputs
-pub mod Statuses
+mod Exclusion
+mod PartsRunning
+mod Excluded
+mod Reached
+mod Running
+mod Around
+mod Lists
+mod MemberValues
+mod Equated
+mod Settled
+mod EndsAlike
+mod EndsMet
+mod GoMet
+mod Outputs
+mod Statuses
 mod GoEnds
 mod SharedReads
 mod EndsUp
@@ -20,8 +20,9 @@ mod SharedThere
 mod ReadUps
 mod GraphReads
 mod SharedOnce
-pub mod SharedMet
-pub mod NextMet
-pub mod StatesMet
-pub mod SharedRuns
+mod SharedMet
+mod NextMet
+mod StatesMet
+mod SharedRuns
 mod SharedRanks
+pub mod Exports

@@ -1,5 +1,5 @@
 -- In a state of a program: behind the values of members is the state that is behind the solution itself.
-use Rattle.std.proofs.Common.{◌≡◌, ℕ, ◌+◌, ◌<◌, ◌≤◌, ◌⊎◌, Bool, true, false, ◌&&◌, ◌||◌, ◌==◌, cond, List, refl, sym, ap}
+use Rattle.std.proofs.Common.{◌≡◌, ℕ, ◌+◌, ◌<◌, ◌≤◌, Bool, true, false, ◌&&◌, ◌||◌, ◌==◌, cond, List, refl, sym, ap}
 use Rattle.std.proofs.Common.{◌∙◌, subst}
 use Rattle.std.proofs.Common.{⊎_elim, arith}
 use Rattle.std.specs.Prelude.{Contains, nat_lt}
@@ -24,7 +24,7 @@ use Rattle.grc_graph.specs.Walk.{State, truth}
 use Rattle.grc_graph.specs.Wires.{Wire, Out, Go, StatusOf, End, same_wire}
 use Rattle.grc_graph.proofs.Exports.{StandsAt, above_behind, above_within, length-program_rows, length-rows, row_read, program_placed, same_wire-self}
 use Rattle.grc_graph.proofs.Exports.{stands_first, stands_one, stands_second}
-use Rattle.grc_share.specs.SharedGraphs.{lasting}
+use Rattle.grc_graph.specs.LoopKeys.{lasting}
 use Rattle.grc_share.specs.SharedInstances.{Sharing, body_sharing, key, one_instance}
 use Rattle.grc_share.specs.SharedWires.{first_root, shared_layer, shared_wire, shared_wires}
 use Rattle.grc_share.proofs.Exports.{Rises, first_among, first_least, first_key, first_same}

@@ -1,5 +1,5 @@
 -- What the edges between shared wires give of what they join, the equations of shared wires give of what they read.
-use Rattle.std.proofs.Common.{◌≡◌, ℕ, ◌+◌, ◌<◌, Bool, true, false, cond, List, [], ◌∷◌, ◌++◌, refl, sym, ap, ◌∙◌, subst}
+use Rattle.std.proofs.Common.{◌≡◌, ℕ, ◌<◌, Bool, true, false, cond, List, [], ◌∷◌, ◌++◌, refl, sym, ap, ◌∙◌, subst}
 use Rattle.std.proofs.Common.{Option, Some, None, arith}
 use Rattle.std.specs.Prelude.{Contains, filter, option_map}
 use Rattle.std.proofs.lemmas.Bool.{and_parts, false≢true}
@@ -10,7 +10,6 @@ use Rattle.est_kernel.specs.Plain.{Program, interface_count}
 use Rattle.est_kernel.specs.Preorder.{statement_count}
 use Rattle.est_kernel.specs.Terms.{Term, Nothing, Pause, Emit, Exit, Present, Suspend, Seq, Loop, Par, Trap, Local, Awake}
 use Rattle.est_kernel.specs.WellFormed.{IsKernel, KeepsLimits}
-use Rattle.grc_graph.specs.declared.formulas.Formula.TheVariants as formulas
 use Rattle.grc_graph.specs.Edges.{Edge, edge, edges_at, go_to_ends, to_status}
 use Rattle.grc_graph.specs.Equations.{is_wire}
 use Rattle.grc_graph.specs.Formulas.{Formula, Input, any_of}

@@ -6,7 +6,6 @@ use Rattle.est_kernel.specs.Plain.{Program}
 use Rattle.est_kernel.specs.Preorder.{statement_count}
 use Rattle.est_kernel.specs.Terms.{Term}
 use Rattle.est_kernel.specs.WellFormed.{IsKernel, KeepsLimits}
-use Rattle.grc_graph.specs.declared.formulas.Formula.TheVariants as formulas
 use Rattle.grc_graph.specs.Formulas.{Formula}
 use Rattle.grc_graph.specs.GraphRuns.{program_wires}
 use Rattle.grc_graph.specs.Layers.{Layer, Resumed, Started}

@@ -1,5 +1,5 @@
 -- In a state of a program: what is seen of the values of members, and the state behind them, are those of the solution.
-use Rattle.std.proofs.Common.{◌≡◌, ℕ, ◌+◌, Bool, true, false, ◌&&◌, ◌||◌, ◌==◌, List, [], ◌∷◌, ◌++◌, map, refl, sym, ap, ◌∙◌, subst, ⊎_elim}
+use Rattle.std.proofs.Common.{◌≡◌, ℕ, Bool, true, false, ◌&&◌, ◌||◌, ◌==◌, List, [], ◌∷◌, ◌++◌, map, refl, sym, ap, ◌∙◌, subst, ⊎_elim}
 use Rattle.std.proofs.Common.{arith}
 use Rattle.std.specs.Prelude.{Contains}
 use Rattle.std.specs.List.{flat_map, list_any}
@@ -19,7 +19,8 @@ use Rattle.grc_graph.specs.Statements.{Body}
 use Rattle.grc_graph.specs.Walk.{State, Selecting}
 use Rattle.grc_graph.specs.Wires.{Wire, Out, Go, End, same_wire}
 use Rattle.grc_graph.proofs.Exports.{in_layers, live_of, row_read, same_layer-self, same_layer-true, stands_whole}
-use Rattle.grc_share.specs.SharedGraphs.{lasting, shared_graph, shared_next}
+use Rattle.grc_graph.specs.LoopKeys.{lasting}
+use Rattle.grc_share.specs.SharedGraphs.{shared_graph, shared_next}
 use Rattle.grc_share.specs.SharedInstances.{Sharing, body_sharing, one_instance}
 use Rattle.grc_share.specs.SharedWires.{first_root, shared_layer, shared_layers, shared_wire, shared_wires}
 use Rattle.grc_share.proofs.Exports.{one_instance-named}
@@ -55,6 +56,25 @@ module _ (p : Program) (q : State) (event : List Bool) where
       let starts = flat_map (kept_start n) ls in
       let held = Conjunction (Selected n) (Held n Resumed) ∷ [] in
       any-worth (graph_of p) q event X (starts ++ held) ∙ any-append f starts held ∙ ap (λ b. b || list_any f held) (list-starts X n ls)
+
+  -- the same of the shared graph, whose formulas see the ends of parallels as those that last
+  list-lasting : (X : Valuation) (n : ℕ) (ls : List Layer)
+      → list_any (λ a. formula_value (shared_graph p) q event X a) (flat_map (kept_start n) ls)
+      ≡ list_any (kept-from (lasting (body_sharing p.body) X) n) ls
+  list-lasting X n [] = refl
+  list-lasting X n (Resumed ∷ ls) = list-lasting X n ls
+  list-lasting X n (Started r ∷ ls) =
+      ap (λ b. (X (Go n (Started r)) && kept_at (lasting (body_sharing p.body) X) p.body 0 n (Started r)) || b) (list-lasting X n ls)
+
+  next-lasting : (X : Valuation) (n : ℕ) (ls : List Layer)
+      → formula_value (shared_graph p) q event X (next_formula n ls)
+      ≡ (list_any (kept-from (lasting (body_sharing p.body) X) n) ls
+      || ((formula_value (shared_graph p) q event X (Selected n) && formula_value (shared_graph p) q event X (Held n Resumed)) || false))
+  next-lasting X n ls =
+      let f = λ (a : Formula). formula_value (shared_graph p) q event X a in
+      let starts = flat_map (kept_start n) ls in
+      let held = Conjunction (Selected n) (Held n Resumed) ∷ [] in
+      any-worth (shared_graph p) q event X (starts ++ held) ∙ any-append f starts held ∙ ap (λ b. b || list_any f held) (list-lasting X n ls)
 
 module _ (p : Program) (q : State) (event : List Bool) (V : Valuation) (F : Solution p q event V) where
   abbrev K : Sharing
@@ -134,17 +154,17 @@ module _ (p : Program) (q : State) (event : List Bool) (V : Valuation) (F : Solu
 
   next-same : (n : ℕ)
       → formula_value (graph_of p) q event V (next_formula n (body_layers p.body n))
-      ≡ formula_value (graph_of p) q event (lasting (body_sharing p.body) (shared_values p V)) (next_formula n (shared_layers (body_sharing p.body) n))
+      ≡ formula_value (shared_graph p) q event (shared_values p V) (next_formula n (shared_layers (body_sharing p.body) n))
   next-same n =
       let held = held-same p q event V F (body_liveness p.body) (program_scope p.inputs (interface_count p)) Body p.body 0 (stands_whole (program_rows p)) n in
       next-worth p q event V n (body_layers p.body n)
       ∙ ap (λ b. b || ((formula_value (graph_of p) q event V (Selected n) && formula_value (graph_of p) q event V (Held n Resumed)) || false)) (starts-same n)
       ∙ ap (λ b. list_any (kept-from p q event L n) (shared_layers K n) || ((formula_value (graph_of p) q event V (Selected n) && b) || false)) held
-      ∙ sym (next-worth p q event L n (shared_layers K n))
+      ∙ sym (next-lasting p q event U n (shared_layers K n))
 
   bits-same : (ns : List ℕ)
       → map (λ a. formula_value (graph_of p) q event V a) (map (λ n. next_formula n (body_layers p.body n)) ns)
-      ≡ map (λ a. formula_value (shared_graph p) q event (lasting (body_sharing p.body) (shared_values p V)) a)
+      ≡ map (λ a. formula_value (shared_graph p) q event (shared_values p V) a)
       (map (λ n. next_formula n (shared_layers (body_sharing p.body) n)) ns)
   bits-same [] = refl
   bits-same (n ∷ ns) = λ i. next-same n i ∷ bits-same ns i

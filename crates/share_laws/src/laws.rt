@@ -13,8 +13,10 @@ ghost use Rattle.share_laws.specs.SharedReactions.{
 ghost use Rattle.share_laws.specs.SharedSolutions.{
   SharedGraphsHaveOneSolution,
   SharedGraphsReadUp,
+  SharedOrdersAreReadingOrders,
   SharedRanksGoUp,
   SharedReadsHaveWalks,
+  SharedWiresDiffer,
 };
 
 use grc_solutions::edges_join_wires;
@@ -49,12 +51,24 @@ pub fn shared_graphs_read_up()
     ensures { SharedGraphsReadUp }
 {}
 
-/// Ranks of the shared wires by number are such ranks.
+/// The ranks that a shared graph is answered with are such ranks.
 pub fn shared_ranks_go_up()
     ensures { SharedRanksGoUp }
 {
     edges_join_wires();
 }
+
+/// An evaluation order along the edges that a shared graph is answered with is one along which its equations read.
+pub fn shared_orders_are_reading_orders()
+    ensures { SharedOrdersAreReadingOrders }
+{
+    edges_join_wires();
+}
+
+/// No shared wire stands twice.
+pub fn shared_wires_differ()
+    ensures { SharedWiresDiffer }
+{}
 
 /// So the equations of the shared wires have one solution in each state and event.
 pub fn shared_graphs_have_one_solution()

@@ -12,7 +12,8 @@ mod laws;
 
 pub use laws::{
     keys_tell_apart, members_exclude_each_other, names_tell_shared_wires, runs_are_shared,
-    shared_graphs_have_one_solution, shared_graphs_read_up, shared_graphs_run, shared_ranks_go_up,
-    shared_reactions_are_given, shared_reads_have_walks, shared_runs_answer, shared_runs_are_runs,
-    shared_solutions_are_members, shared_wires_are_members, starts_are_few,
+    shared_graphs_have_one_solution, shared_graphs_read_up, shared_graphs_run,
+    shared_orders_are_reading_orders, shared_ranks_go_up, shared_reactions_are_given,
+    shared_reads_have_walks, shared_runs_answer, shared_runs_are_runs,
+    shared_solutions_are_members, shared_wires_are_members, shared_wires_differ, starts_are_few,
 };

@@ -17,7 +17,7 @@ numbered_edges-requires c =
     let g = c.args.graph.now in
     let p = program_of g.program in
     let s = c.args.shared.now in
-    let edges = subst (λ (ns : List Wire). AreEdgesOf ns (program_edges p) c.args.edges.now.pairs.items) g.laid_out.names c.requires.edges in
+    let edges = subst (λ (ns : List Wire). AreEdgesOf ns (program_edges p) c.args.edges.now.pairs.items) c.requires.built.wires c.requires.edges in
     let low = ends-low p (trees_are_kernels_lem g.program.body) g.laid_out.formed.body c.edges_join_wires.ensures s.least.items s.numbers.items
     c.requires.wires c.args.edges.now.pairs.items edges in
     subst (λ (n : List ℕ). All (λ (e : WireEdge). (e.0.0 < length n) × (e.1.0 < length n)) c.deref-2.result.now) (sym c.deref.ensures.value)
@@ -29,18 +29,18 @@ overflow_cast-len c =
     let g = c.args.graph.now in
     let p = program_of g.program in
     let s = c.args.shared.now in
-    let edges = subst (λ (ns : List Wire). AreEdgesOf ns (program_edges p) c.args.edges.now.pairs.items) g.laid_out.names c.requires.edges in
+    let edges = subst (λ (ns : List Wire). AreEdgesOf ns (program_edges p) c.args.edges.now.pairs.items) c.requires.built.wires c.requires.edges in
     let few = least-few p (trees_are_kernels_lem g.program.body) g.laid_out.formed.body c.edges_join_wires.ensures s.least.items s.numbers.items
     c.requires.wires c.args.edges.now.pairs.items edges in
     let count : c.len.result ≡ length s.least.items = search rules in
-    omega (arith, few, count, length-map g.wires.items (wire_of (instances_of g)), ap length g.laid_out.names, g.tables.few)
+    omega (arith, few, count, length-map g.wires.items (wire_of (instances_of g)), ap length c.requires.built.wires, g.tables.few)
 
 pub edges_of-requires : goal.edges_of-requires
 edges_of-requires c =
     let g = c.args.graph.now in
     let p = program_of g.program in
     let s = c.args.shared.now in
-    let edges = subst (λ (ns : List Wire). AreEdgesOf ns (program_edges p) c.args.edges.now.pairs.items) g.laid_out.names c.requires.edges in
+    let edges = subst (λ (ns : List Wire). AreEdgesOf ns (program_edges p) c.args.edges.now.pairs.items) c.requires.built.wires c.requires.edges in
     let count : c.len.result ≡ length s.least.items = search rules in
     let numbered = c.in_ok-pairs.ensures ∙ λ i. numbered_edges (c.deref.ensures.value i) (c.deref-2.ensures.value i) in
     subst (λ (l : List WireEdge). All (λ (e : WireEdge). (e.0.0 < c.len.result) × (e.1.0 < c.len.result)) l) (sym numbered)
@@ -52,7 +52,7 @@ returns-clause-count c =
     let g = c.args.graph.now in
     let p = program_of g.program in
     let s = c.args.shared.now in
-    let edges = subst (λ (ns : List Wire). AreEdgesOf ns (program_edges p) c.args.edges.now.pairs.items) g.laid_out.names c.requires.edges in
+    let edges = subst (λ (ns : List Wire). AreEdgesOf ns (program_edges p) c.args.edges.now.pairs.items) c.requires.built.wires c.requires.edges in
     let count : c.len.result ≡ length s.least.items = search rules in
     c.in_ok-made.ensures.count ∙ count
     ∙ least-many p (trees_are_kernels_lem g.program.body) g.laid_out.formed.body c.edges_join_wires.ensures s.least.items s.numbers.items
@@ -63,7 +63,7 @@ returns-clause-edges c =
     let g = c.args.graph.now in
     let p = program_of g.program in
     let s = c.args.shared.now in
-    let edges = subst (λ (ns : List Wire). AreEdgesOf ns (program_edges p) c.args.edges.now.pairs.items) g.laid_out.names c.requires.edges in
+    let edges = subst (λ (ns : List Wire). AreEdgesOf ns (program_edges p) c.args.edges.now.pairs.items) c.requires.built.wires c.requires.edges in
     let count : c.len.result ≡ length s.least.items = search rules in
     let made = c.in_ok-made.made in
     let numbered = c.in_ok-pairs.ensures ∙ λ i. numbered_edges (c.deref.ensures.value i) (c.deref-2.ensures.value i) in

@@ -16,7 +16,7 @@ use Rattle.grc_share.proofs.equations.shared_equations.Goals as goal
 
 pub shared_formula-requires-clause-own : goal.shared_formula-requires-clause-own
 shared_formula-requires-clause-own c =
-    least-own c.args.graph.now c.args.least.now c.requires.least c.loop-k.k (record { 0 = 0 }) c.loop-k-test.true
+    least-own c.args.graph.now c.requires.built c.args.least.now c.requires.least c.loop-k.k (record { 0 = 0 }) c.loop-k-test.true
 
 pub shared_formula-requires-clause-emissions : goal.shared_formula-requires-clause-emissions
 shared_formula-requires-clause-emissions c =
@@ -28,7 +28,8 @@ shared_formula-requires-clause-emissions c =
     let low : k < length vecs = omega (arith, c.loop-k-test.true, c.in_ok-emissions.ensures.each) in
     let list = get_or-map (λ v. v.items) vecs k c.index.result.now [] low ∙ ap (λ v. v.items) (sym c.index.ensures)
     ∙ sym c.deref-in-loop-k.ensures.value in
-    subst (λ (u : Wire). AreEmissions p u c.deref-in-loop-k.result.now) (least-at g least c.requires.least k (record { 0 = 0 }) c.loop-k-test.true)
+    subst (λ (u : Wire). AreEmissions p u c.deref-in-loop-k.result.now)
+    (least-at g c.requires.built least c.requires.least k (record { 0 = 0 }) c.loop-k-test.true)
     (subst (λ (l : List WireId). AreEmissions p (wire_at (shared_wires p) k) l) list (c.in_ok-emissions.ensures.lists k c.loop-k-test.true))
 
 pub loop-k-preserved : goal.loop-k-preserved

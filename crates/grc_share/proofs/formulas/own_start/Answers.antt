@@ -26,7 +26,7 @@ returns-then-numbers-own c =
     let found = subst (λ (r : Option InstId). HasInstance (instances_of g) r (record { path = n; layer = Started n })) c.in-Some.is
     (own-sought g i c.index.result.now low c.index.ensures (instances_in c.neighbours.result) c.find_instance.result c.neighbours.ensures.instances
     c.find_instance.ensures) in (
-      own-found g m.least.now m.instances.now m.wires.now c.requires.numbers i low c.in-Started.field-0.0 layer within c.in-Some.own.0 found
+      own-found g c.requires.built m.least.now m.instances.now m.wires.now c.requires.numbers i low c.in-Started.field-0.0 layer within c.in-Some.own.0 found
           c.if-own-i.true c.if-numbers-own.true,
       found,
     )
@@ -45,7 +45,7 @@ returns-else-own-i c =
     let found = subst (λ (r : Option InstId). HasInstance (instances_of g) r (record { path = n; layer = Started n })) c.in-Some.is
     (own-sought g i c.index.result.now low c.index.ensures (instances_in c.neighbours.result) c.find_instance.result c.neighbours.ensures.instances
     c.find_instance.ensures) in
-    own-same g m.least.now m.instances.now m.wires.now c.requires.numbers i low c.in-Started.field-0.0 layer within c.in-Some.own.0 found
+    own-same g c.requires.built m.least.now m.instances.now m.wires.now c.requires.numbers i low c.in-Started.field-0.0 layer within c.in-Some.own.0 found
     (elim c.else-own-i.branch [
       | else-own-i-via-then-own-i+else-numbers-own w ↦ λ a b. w.if-numbers-own.false b
       | else-own-i-via-else-own-i w ↦ λ a b. a w.if-own-i.false
@@ -65,4 +65,4 @@ returns-in-None c =
     let none = subst (λ (r : Option InstId). HasInstance (instances_of g) r (record { path = n; layer = Started n })) c.in-None.is
     (own-sought g i c.index.result.now low c.index.ensures (instances_in c.neighbours.result) c.find_instance.result c.neighbours.ensures.instances
     c.find_instance.ensures) in
-    own-missing g m.least.now m.instances.now m.wires.now c.requires.numbers i low c.in-Started.field-0.0 layer within none
+    own-missing g c.requires.built m.least.now m.instances.now m.wires.now c.requires.numbers i low c.in-Started.field-0.0 layer within none

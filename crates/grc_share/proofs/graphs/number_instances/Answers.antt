@@ -7,4 +7,4 @@ use Rattle.grc_share.proofs.graphs.number_instances.Goals as goal
 pub shared_instances-requires-clause-least : goal.shared_instances-requires-clause-least
 shared_instances-requires-clause-least c =
     let g = c.args.graph.now in
-    subst (AreLeast (body_sharing (term_of g.program.body)) g.instances.list.items) (sym c.deref-2.ensures.value) c.in_ok-least.ensures.least
+    subst (AreLeast (body_sharing (term_of g.program.body)) g.instances.list.items) (sym c.deref.ensures.value) c.in_ok-least.ensures.least

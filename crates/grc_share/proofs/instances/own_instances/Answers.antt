@@ -37,7 +37,7 @@ returns-clause-list c =
     let g = c.args.graph.now in
     let all = take_all c.loop-i.i (instances_of g) (omega (arith, length-map g.instances.list.items instance_of)) in
     c.loop-i.invariant.list
-    ∙ ap (filter (is_named (body_sharing (program_of g.program).body))) (all ∙ g.laid_out.instances)
+    ∙ ap (filter (is_named (body_sharing (program_of g.program).body))) (all ∙ c.requires.built.instances)
 
 pub push_own-requires-clause-least : goal.push_own-requires-clause-least
 push_own-requires-clause-least c =

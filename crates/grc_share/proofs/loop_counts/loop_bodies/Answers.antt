@@ -4,7 +4,7 @@ use Rattle.est_kernel.proofs.Exports.{trees_are_kernels_lem}
 use Rattle.grc_graph.specs.StatementViews.{entry_view, view_of}
 use Rattle.grc_graph.proofs.Exports.{length-statements, statement_count-le}
 use Rattle.grc_share.specs.LoopCounts.{AreLoopCounts, Enters, counts_in}
-use Rattle.grc_share.specs.declared.loop_counts.LoopBodies.{LoopBodies}
+use Rattle.grc_graph.specs.declared.loops.LoopBodies.{LoopBodies}
 use Rattle.grc_share.proofs.LoopCounting.{counts-more, few, listed-counted}
 use Rattle.grc_share.proofs.loop_counts.loop_bodies.Goals as goal
 

@@ -31,9 +31,9 @@ loop-w-preserved c =
     let w = (get_or least i d).0 in
     let x = c.index.result.now in
     let named = c.renamed_wire.ensures.named K (instances_of g) (shared_instances p) numbers
-    ∙ ap (by_instance K) (sym (wire-read g w x (least-low g least are i d low) c.index.ensures))
-    ∙ own-by_instance K (wire_at (names_of g) w) (least-own g least are i d low) ∙ sym (least-at g least are i d low) in
-    let more = take_more (shared_wires p) i (Go 0 Resumed) (omega (arith, low, least-many g least are)) in
+    ∙ ap (by_instance K) (sym (wire-read g w x (least-low g c.requires.built least are i d low) c.index.ensures))
+    ∙ own-by_instance K (wire_at (names_of g) w) (least-own g c.requires.built least are i d low) ∙ sym (least-at g c.requires.built least are i d low) in
+    let more = take_more (shared_wires p) i (Go 0 Resumed) (omega (arith, low, least-many g c.requires.built least are)) in
     let fits = λ (v : Wire). IsTrue (wire_fits (length (shared_instances p)) v) in
     record {
       wires = ap (map (wire_of (shared_instances p))) c.in_ok-push.ensures.items

@@ -13,14 +13,14 @@ pub number_members-requires-clause-settled : goal.number_members-requires-clause
 number_members-requires-clause-settled c =
     let g = c.args.graph.now in
     let K = body_sharing (term_of g.program.body) in
-    graph-settled g c.deref.result.now (ap length c.deref.ensures.value ∙ c.in_ok-first.ensures.each)
+    graph-settled g c.requires c.deref.result.now (ap length c.deref.ensures.value ∙ c.in_ok-first.ensures.each)
     (subst (AreLeastWires K (names_of g)) (sym c.deref.ensures.value) c.in_ok-first.ensures.least)
 
 pub returns-clause-wires : goal.returns-clause-wires
 returns-clause-wires c =
     let g = c.args.graph.now in
     let K = body_sharing (term_of g.program.body) in
-    graph-shared g c.deref.result.now (ap length c.deref.ensures.value ∙ c.in_ok-first.ensures.each)
+    graph-shared g c.requires c.deref.result.now (ap length c.deref.ensures.value ∙ c.in_ok-first.ensures.each)
     (subst (AreLeastWires K (names_of g)) (sym c.deref.ensures.value) c.in_ok-first.ensures.least)
     c.in_ok-least.field-0.least.items c.in_ok-least.field-0.numbers.items c.in_ok-least.ensures.least c.in_ok-least.ensures.each
     c.in_ok-least.ensures.within c.in_ok-least.ensures.numbers
@@ -29,7 +29,7 @@ pub returns-clause-members : goal.returns-clause-members
 returns-clause-members c =
     let g = c.args.graph.now in
     let K = body_sharing (term_of g.program.body) in
-    let shared = graph-shared g c.deref.result.now (ap length c.deref.ensures.value ∙ c.in_ok-first.ensures.each)
+    let shared = graph-shared g c.requires c.deref.result.now (ap length c.deref.ensures.value ∙ c.in_ok-first.ensures.each)
     (subst (AreLeastWires K (names_of g)) (sym c.deref.ensures.value) c.in_ok-first.ensures.least)
     c.in_ok-least.field-0.least.items c.in_ok-least.field-0.numbers.items c.in_ok-least.ensures.least c.in_ok-least.ensures.each
     c.in_ok-least.ensures.within c.in_ok-least.ensures.numbers in

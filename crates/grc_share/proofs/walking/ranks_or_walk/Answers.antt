@@ -17,7 +17,7 @@ pairs_between-requires c =
     let g = c.args.graph.now in
     let p = program_of g.program in
     let s = c.args.shared.now in
-    let edges = subst (λ (ns : List Wire). AreEdgesOf ns (program_edges p) c.args.edges.now.pairs.items) g.laid_out.names c.requires.edges in
+    let edges = subst (λ (ns : List Wire). AreEdgesOf ns (program_edges p) c.args.edges.now.pairs.items) c.requires.built.wires c.requires.edges in
     let low = ends-low p (trees_are_kernels_lem g.program.body) g.laid_out.formed.body c.edges_join_wires.ensures s.least.items s.numbers.items
     c.requires.wires c.args.edges.now.pairs.items edges in
     subst (λ (n : List ℕ). All (λ (e : WireEdge). (e.0.0 < length n) × (e.1.0 < length n)) c.deref-2.result.now) (sym c.deref.ensures.value)
@@ -29,18 +29,18 @@ overflow_cast-len c =
     let g = c.args.graph.now in
     let p = program_of g.program in
     let s = c.args.shared.now in
-    let edges = subst (λ (ns : List Wire). AreEdgesOf ns (program_edges p) c.args.edges.now.pairs.items) g.laid_out.names c.requires.edges in
+    let edges = subst (λ (ns : List Wire). AreEdgesOf ns (program_edges p) c.args.edges.now.pairs.items) c.requires.built.wires c.requires.edges in
     let few = least-few p (trees_are_kernels_lem g.program.body) g.laid_out.formed.body c.edges_join_wires.ensures s.least.items s.numbers.items
     c.requires.wires c.args.edges.now.pairs.items edges in
     let count : c.len.result ≡ length s.least.items = search rules in
-    omega (arith, few, count, length-map g.wires.items (wire_of (instances_of g)), ap length g.laid_out.names, g.tables.few)
+    omega (arith, few, count, length-map g.wires.items (wire_of (instances_of g)), ap length c.requires.built.wires, g.tables.few)
 
 pub ranks_or_cycle-requires : goal.ranks_or_cycle-requires
 ranks_or_cycle-requires c =
     let g = c.args.graph.now in
     let p = program_of g.program in
     let s = c.args.shared.now in
-    let edges = subst (λ (ns : List Wire). AreEdgesOf ns (program_edges p) c.args.edges.now.pairs.items) g.laid_out.names c.requires.edges in
+    let edges = subst (λ (ns : List Wire). AreEdgesOf ns (program_edges p) c.args.edges.now.pairs.items) c.requires.built.wires c.requires.edges in
     let count : c.len.result ≡ length s.least.items = search rules in
     let nodes = c.deref-3.ensures.value ∙ c.in_ok-pairs.ensures ∙ λ i. numbered_pairs (c.deref.ensures.value i) (c.deref-2.ensures.value i) in
     nodes-join p (trees_are_kernels_lem g.program.body) g.laid_out.formed.body c.edges_join_wires.ensures s.least.items s.numbers.items
@@ -51,7 +51,7 @@ returns-clause-found c =
     let g = c.args.graph.now in
     let p = program_of g.program in
     let s = c.args.shared.now in
-    let edges = subst (λ (ns : List Wire). AreEdgesOf ns (program_edges p) c.args.edges.now.pairs.items) g.laid_out.names c.requires.edges in
+    let edges = subst (λ (ns : List Wire). AreEdgesOf ns (program_edges p) c.args.edges.now.pairs.items) c.requires.built.wires c.requires.edges in
     let count : c.len.result ≡ length s.least.items = search rules in
     let nodes = c.deref-3.ensures.value ∙ c.in_ok-pairs.ensures ∙ λ i. numbered_pairs (c.deref.ensures.value i) (c.deref-2.ensures.value i) in
     found p (trees_are_kernels_lem g.program.body) g.laid_out.formed.body c.edges_join_wires.ensures s.least.items s.numbers.items
@@ -63,7 +63,7 @@ returns-clause-cyclic c =
     let g = c.args.graph.now in
     let p = program_of g.program in
     let s = c.args.shared.now in
-    let edges = subst (λ (ns : List Wire). AreEdgesOf ns (program_edges p) c.args.edges.now.pairs.items) g.laid_out.names c.requires.edges in
+    let edges = subst (λ (ns : List Wire). AreEdgesOf ns (program_edges p) c.args.edges.now.pairs.items) c.requires.built.wires c.requires.edges in
     let count : c.len.result ≡ length s.least.items = search rules in
     let nodes = c.deref-3.ensures.value ∙ c.in_ok-pairs.ensures ∙ λ i. numbered_pairs (c.deref.ensures.value i) (c.deref-2.ensures.value i) in
     cyclic p (trees_are_kernels_lem g.program.body) g.laid_out.formed.body c.edges_join_wires.ensures s.least.items s.numbers.items
