@@ -12,8 +12,13 @@ const FEWEST: usize = 256;
 
 const MOST: usize = 16_384;
 
-// For how many instants the inputs keep their densities.
+// For how many instants the inputs keep their densities; and for how many such stretches in the runs that are steady,
+// one of eight, in which an input of a choice keeps its value too.
 const STRETCH: usize = 64;
+
+const STRETCHES: usize = 6;
+
+const STEADY: u64 = 0x8080_8080_8080_8080;
 
 /// What is remembered of the values of each net, first of what is always true: a mark that equal nets share, as
 /// opposite nets do, and whether a net is true in the first instant of the first run.
@@ -32,7 +37,7 @@ pub(crate) fn histories(alloc: Global, net: &Net) -> Result<NetHistories, NoMemo
     let mut seed: u64 = 0x2545_f491_4f6c_dd1d;
     let mut values = Vec::new(alloc);
     let mut choices = vec![in alloc; 0; net.inputs.len()]?;
-    draw_choices(&mut choices, &mut seed);
+    draw_choices(&mut choices, &mut seed, true);
     run_instant(net, &latches, &choices, &mut seed, &mut values)?;
     let mut signs = Vec::new(alloc);
     for value in &values {
@@ -42,9 +47,16 @@ pub(crate) fn histories(alloc: Global, net: &Net) -> Result<NetHistories, NoMemo
     mix(&mut marks, &signs, &values);
     for instant in 0..instants(values.len()) {
         if instant % STRETCH == 0 {
-            draw_choices(&mut choices, &mut seed);
+            draw_choices(
+                &mut choices,
+                &mut seed,
+                instant % (STRETCH * STRETCHES) == 0,
+            );
         }
         step(net, &values, &mut latches);
+        if instant % STRETCH == 0 {
+            restart(net, &mut latches, restarted(instant, &mut seed));
+        }
         run_instant(net, &latches, &choices, &mut seed, &mut values)?;
         mix(&mut marks, &signs, &values);
     }
@@ -78,6 +90,26 @@ fn step(net: &Net, values: &[u64], latches: &mut Vec<u64>) {
         if k < latches.len() {
             latches[k] = word_at(values, latch.from.0 as usize + 1);
         }
+    }
+}
+
+// Lets the latches begin anew in these runs.
+fn restart(net: &Net, latches: &mut Vec<u64>, runs: u64) {
+    for (k, latch) in net.latches.iter().enumerate() {
+        if k < latches.len() {
+            let begun = if latch.init { u64::MAX } else { 0 };
+            latches[k] = (latches[k] & !runs) | (begun & runs);
+        }
+    }
+}
+
+// In which runs the latches begin anew: in some, and in all steady ones where their inputs are drawn anew.
+fn restarted(instant: usize, seed: &mut u64) -> u64 {
+    let some = drawn_word(seed) & !STEADY;
+    if instant % (STRETCH * STRETCHES) == 0 {
+        some | STEADY
+    } else {
+        some
     }
 }
 
@@ -115,18 +147,24 @@ fn instants(nets: usize) -> usize {
     }
 }
 
-// Draws anew in which runs an input is rare.
-fn draw_choices(choices: &mut Vec<u64>, seed: &mut u64) {
+// Draws anew in which runs an input is rare: in the steady ones too, or not.
+fn draw_choices(choices: &mut Vec<u64>, seed: &mut u64, all: bool) {
     for k in 0..choices.len() {
-        choices[k] = drawn_word(seed);
+        let drawn = drawn_word(seed);
+        choices[k] = if all {
+            drawn
+        } else {
+            (drawn & !STEADY) | (choices[k] & STEADY)
+        };
     }
 }
 
-// Drawn values of an input: it is true in about one instant of sixteen in the runs of its choice, else in every second
-// one; and in the last quarter of the runs the other way round, almost always.
+// Drawn values of an input: it is true in about one instant of sixteen in the runs of its choice, and never in those
+// that are steady, else in every second one; and in the last quarter of the runs the other way round, almost always, or
+// always.
 fn drawn_input(seed: &mut u64, choice: u64) -> u64 {
     let plain = drawn_word(seed);
-    let rare = plain & drawn_word(seed) & drawn_word(seed) & drawn_word(seed);
+    let rare = plain & drawn_word(seed) & drawn_word(seed) & drawn_word(seed) & !STEADY;
     let turned = choice & 0xffff_0000_0000_0000;
     ((plain & !choice) | (rare & choice)) ^ turned
 }
