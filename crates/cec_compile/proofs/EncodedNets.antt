@@ -1,17 +1,16 @@
 -- The netlist of a compiled program whose latches hold the state in a code keeps what the program means.
-use Rattle.std.proofs.Common.{◌≡◌, ℕ, ◌+◌, ◌*◌, ◌<◌, ◌≤◌, true, false, List, [], ◌∷◌, length, map, Option, refl, sym, ap, ◌∙◌, subst, arith}
+use Rattle.std.proofs.Common.{◌≡◌, ℕ, ◌+◌, ◌*◌, ◌^◌, ◌<◌, ◌≤◌, true, false, List, [], ◌∷◌, length, map, Option, refl, sym, ap, ◌∙◌, subst, arith}
 use Rattle.std.specs.Prelude.{Contains, replicate}
-use Rattle.std.proofs.lemmas.List.{length-map, length-replicate}
+use Rattle.std.proofs.lemmas.List.{length-map, length-replicate, length-take}
 use Rattle.est_base.specs.Items.{Item, EachEvent}
 use Rattle.est_kernel.specs.Plain.{Program, given_count}
 use Rattle.est_kernel.specs.Terms.{Term}
-use Rattle.grc_graph.specs.GraphRuns.{program_wires}
 use Rattle.grc_graph.specs.SelectionTrees.{body_leaves, body_tree}
 use Rattle.grc_graph.specs.TreeForms.{node_of}
 use Rattle.grc_graph.specs.Walk.{Initial}
-use Rattle.grc_sem.proofs.Exports.{next_state_is_kept_lem, program_kernel}
+use Rattle.grc_sem.proofs.Exports.{program_kernel}
 use Rattle.grc_solutions.proofs.Exports.{graph_runs_exist_lem}
-use Rattle.enc_laws.proofs.Exports.{latches-formed}
+use Rattle.enc_laws.proofs.Exports.{kept-formed}
 use Rattle.net_ir.specs.Gates.{carried}
 use Rattle.net_ir.specs.Netlists.{Netlist, output_names}
 use Rattle.net_ir.specs.Runs.{netlist_of, initial_latches}
@@ -27,8 +26,9 @@ use Rattle.cec_compile.specs.Compiling.{IsCompiled, StandsForNet}
 use Rattle.cec_compile.specs.EncodedTexts.{IsEncoded, StandsForEncoded}
 use Rattle.cec_compile.specs.Following.{FollowsGraph}
 use Rattle.cec_compile.specs.NetMeaning.{NetKeeps}
+use Rattle.cec_compile.specs.WireGroups.{SharesWires, is_shared, wire_groups}
 use Rattle.cec_compile.specs.WireNames.{TextNames}
-use Rattle.cec_compile.proofs.Joined.{kernel_of, given-few, wires_carried, inputs_wide}
+use Rattle.cec_compile.proofs.Joined.{compiled_reads, kernel_of, given-few, wires_carried, inputs_wide}
 use Rattle.cec_compile.proofs.Keeping.{widths, text_keeps}
 use Rattle.cec_compile.proofs.Simplified.{runs_stay}
 use Rattle.cec_compile.proofs.WireWords.{names_wires}
@@ -44,6 +44,18 @@ pub first_latches : (c : Compiled) (p : Program) → IsCompiled c p → initial_
 first_latches c p h =
     h.latches ∙ ap (λ l. true ∷ l) (all_same (body_leaves p.body) false ∙ ap (λ n. replicate n false) (sym h.leaves))
 
+-- the gates of a compiled program are few
+pub few_nets : (c : Compiled) (p : Program) → IsCompiled c p → length c.net.inputs.items + length c.net.gates.items ≤ 2 ^ 31
+few_nets c p h =
+    omega (
+      arith,
+      h.linear,
+      h.compiles.limits.few_wires,
+      ap length h.keeps.inputs,
+      length-take (given_count p) p.signals,
+      h.formed.at_most,
+    )
+
 pub own_tree : (c : Compiled) (p : Program) → IsCompiled c p → IsTreeOf c.graph.tree p.body
 own_tree c p h = record { nodes = h.tree; leaves = h.leaves }
 
@@ -53,9 +65,10 @@ own_tree c p h = record { nodes = h.tree; leaves = h.leaves }
 latches_formed : (c : Compiled) (p : Program) → IsCompiled c p → FollowsGraph c → (items : List Item) → EachEvent (λ event. length event ≡ given_count p) items
     → LatchesMeet (SelectsWell p.body) (netlist_of c.net) (initial_latches (netlist_of c.net)) items
 latches_formed c p h f items wide =
-    let kernel = program_kernel p h.formed (kernel_of c.graph p h.graph) in
+    let kernel = program_kernel p h.formed (kernel_of c.graph p h.program) in
     let one = graph_runs_exist_lem p h.compiles.acyclic.rank kernel h.compiles.acyclic.up Initial items in
-    latches-formed next_state_is_kept_lem c.graph p (netlist_of c.net) kernel h.no_loop h.graph f.interface f.instants items one.0.0 wide one.0.1
+    let reads = compiled_reads c p h f in
+    kept-formed c.graph p (netlist_of c.net) reads.states f.interface f.instants items (map reads.read one.0.0) wide (reads.runs items one.0.0 wide one.0.1)
 
 same_runs : (c : Compiled) (p : Program) (coded : Netlist) → IsCompiled c p → FollowsGraph c → Encodes (netlist_of c.net) coded p.body →
     SameRuns (netlist_of c.net) coded
@@ -118,13 +131,13 @@ encoded_is c p new h f e few simple =
       simple = simple;
     }
 
-encoded_names : (c : Compiled) (p : Program) (net : Netlist) (written : List ℕ) → IsCompiled c p → FollowsGraph c → IsEncoded c p net → Means written net
-    → TextNames (encoded_count p.body) written p
-encoded_names c p net written h f e means =
-    let kernel = program_kernel p h.formed (kernel_of c.graph p h.graph) in
-    let few = subst (λ q. given_count q ≤ length q.signals) (sym h.graph.program) (given-few p h.formed) in
+encoded_names : (c : Compiled) (p : Program) (net : Netlist) (written : List ℕ) → IsCompiled c p → SharesWires p (is_shared c.graph) → FollowsGraph c
+    → IsEncoded c p net → Means written net → TextNames (encoded_count p.body) written p
+encoded_names c p net written h shares f e means =
+    let kernel = program_kernel p h.formed (kernel_of c.graph p h.program) in
+    let few = subst (λ q. given_count q ≤ length q.signals) (sym h.program) (given-few p h.formed) in
     let follows = runs_stay c.graph (netlist_of c.net) net few f.interface e.carries e.runs f.runs in
-    let carriers : (n : ℕ) → n < length (program_wires p) → Contains (carried net.gates) n
+    let carriers : (n : ℕ) → n < length (wire_groups (is_shared c.graph) p) → Contains (carried net.gates) n
     = λ n l. subst (λ wires. Contains wires n) (sym e.carries) (wires_carried c p h n l) in
     let count : length net.latches ≡ encoded_count p.body
     = omega (arith, length-map net.latches (λ l. l.init), ap length e.latches, length-replicate (encoded_bits p.body) false) in
@@ -132,17 +145,17 @@ encoded_names c p net written h f e means =
       circuit = means.circuit;
       reads = means.reads;
       stored = ap length means.latches ∙ length-numbered (net_latch net) 0 net.latches ∙ count;
-      wires = names_wires c.graph p net h.graph carriers kernel h.no_loop h.compiles.acyclic follows written means e.keeps.inputs
-          (inputs_wide c p h ∙ ap length (sym e.inputs));
+      wires = names_wires (is_shared c.graph) c.graph p net (compiled_reads c p h f) carriers kernel h.no_loop h.compiles.acyclic shares follows written
+          means e.keeps.inputs (inputs_wide c p h ∙ ap length (sym e.inputs));
     }
 
 -- the text of such a netlist, from these bytes
 pub encoded_stands : (bytes : List ℕ) (main : Option (List ℕ)) (c : Compiled) (net : Netlist) (written : List ℕ) → (s : StandsForNet bytes main c)
-    → FollowsGraph c → IsEncoded c s.program net → Means written net → StandsForEncoded bytes main written
-encoded_stands bytes main c net written s f e means = record {
+    → SharesWires s.program (is_shared c.graph) → FollowsGraph c → IsEncoded c s.program net → Means written net → StandsForEncoded bytes main written
+encoded_stands bytes main c net written s shares f e means = record {
   program = s.program;
   source = s.source;
   compiles = s.compiled.compiles;
   keeps = text_keeps written net s.program (given-few s.program s.compiled.formed) e.keeps means;
-  names = encoded_names c s.program net written s.compiled f e means;
+  names = encoded_names c s.program net written s.compiled shares f e means;
 }

@@ -20,9 +20,12 @@ use Rattle.grc_graph.specs.Selected.{HasExitCodes}
 use Rattle.grc_graph.specs.WireNames.{WireName, wire_name}
 use Rattle.grc_graph.specs.WireOrders.{WireEdge, AreRanks, IsWireOrder}
 use Rattle.grc_graph.specs.Wires.{Wire}
+use Rattle.grc_share.specs.SharedNumbers.{IsSharedWalk}
+use Rattle.grc_share.specs.SharedWires.{shared_edges, shared_wires}
 use Rattle.grc_solutions.specs.NumberedGraphs.{formulas_of}
 use Rattle.grc_solutions.proofs.Exports.{wire_orders_are_reading_orders_lem, wire_ranks_go_up_lem}
 use Rattle.cec_compile.specs.Cycles.{LeadsBack, IsCycle, ShowsCycle, IsAcyclic}
+use Rattle.cec_compile.specs.WireGroups.{HasSharedCycle}
 
 -- ---- wires and formulas
 
@@ -80,12 +83,23 @@ leads_back edges F first last (w ∷ ws) steps closes = (
       closes,
 )
 
+-- a closed walk by places is a cycle
+pub closed_cycle : (edges : List Edge) (F : ℕ → Wire) (ns : List ℕ) → 0 < length ns
+    → ((k : ℕ) → k + 1 < length ns → Contains edges (edge (F (slice_index ns k)) (F (slice_index ns (k + 1)))))
+    → Contains edges (edge (F (slice_index ns (length ns - 1))) (F (slice_index ns 0))) → IsCycle edges (map F ns)
+closed_cycle edges F [] some steps closes = absurd (omega (arith, some))
+closed_cycle edges F (n ∷ ns) some steps closes =
+    let e : suc (length ns) - 1 ≡ length ns = omega arith in
+    leads_back edges F n n ns steps (subst (λ j. Contains edges (edge (F (slice_index (n ∷ ns) j)) (F n))) e closes)
+
 pub shows_cycle : (p : Program) (names : List Wire) (pairs : List WireEdge) (walk : List WireId) (shown : List WireName) →
     AreEdgesOf names (program_edges p) pairs
     → IsClosedWalk (numbered pairs) (numbers_of walk) → shown ≡ map (λ w. wire_name p (wire_at names w.0)) walk → ShowsCycle p shown
 shows_cycle p names pairs walk shown are closed named = record {
   walk = map (wire_at names) (numbers_of walk);
-  cycle = cycle (numbers_of walk) closed;
+  cycle = closed_cycle (program_edges p) (wire_at names) (numbers_of walk) closed.some_node
+      (λ k l. step (slice_index (numbers_of walk) k) (slice_index (numbers_of walk) (k + 1)) (closed.steps k l))
+      (step (slice_index (numbers_of walk) (length (numbers_of walk) - 1)) (slice_index (numbers_of walk) 0) closed.closes);
   named =
       named ∙ sym (map-map (λ n. wire_name p (wire_at names n)) (λ (w : WireId). w.0) walk)
       ∙ sym (map-map (wire_name p) (wire_at names) (numbers_of walk));
@@ -94,9 +108,9 @@ shows_cycle p names pairs walk shown are closed named = record {
     step : (u w : ℕ) → HasEdge (numbered pairs) u w → Contains (program_edges p) (edge (wire_at names u) (wire_at names w))
     step u w h = are.sound u w (pair-there u w pairs h)
 
-    cycle : (ns : List ℕ) → IsClosedWalk (numbered pairs) ns → IsCycle (program_edges p) (map (wire_at names) ns)
-    cycle [] c = absurd (omega (arith, c.some_node))
-    cycle (n ∷ ns) c =
-        let e : suc (length ns) - 1 ≡ length ns = omega arith in
-        leads_back (program_edges p) (wire_at names) n n ns (λ k l. step (slice_index (n ∷ ns) k) (slice_index (n ∷ ns) (k + 1)) (c.steps k l))
-        (step (slice_index (n ∷ ns) (length ns)) n (subst (λ j. HasEdge (numbered pairs) (slice_index (n ∷ ns) j) n) e c.closes))
+-- a closed walk of edges between shared wires is a cycle of them
+pub shared_cycle : (p : Program) (walk : List ℕ) → IsSharedWalk p walk → HasSharedCycle p
+shared_cycle p walk closed = record {
+  walk = map (wire_at (shared_wires p)) walk;
+  cycle = closed_cycle (shared_edges p) (wire_at (shared_wires p)) walk closed.some_wire (λ k l. (closed.steps k l).leads) closed.closes.leads;
+}

@@ -1,11 +1,12 @@
 -- The guarded text of a compiled program keeps what the program means.
-use Rattle.std.proofs.Common.{◌≡◌, ℕ, ◌≤◌, List, ◌++◌, map, length, Option, sym, ap, ◌∙◌, arith}
+use Rattle.std.proofs.Common.{◌≡◌, ℕ, ◌≤◌, List, ◌++◌, map, length, Option, sym, ap, ◌∙◌, subst, arith}
 use Rattle.std.proofs.lemmas.List.{length-take}
 use Rattle.std.proofs.lemmas.Simd.{map-map}
-use Rattle.std.specs.Prelude.{codes}
+use Rattle.std.specs.Prelude.{false, codes}
 use Rattle.est_base.specs.declared.indices.WireId.{WireId}
-use Rattle.est_kernel.specs.Plain.{Program, given_count}
+use Rattle.est_kernel.specs.Plain.{Program, given_count, program_of}
 use Rattle.machines.proofs.Exports.{shows-computed}
+use Rattle.grc_graph.specs.BuiltGraphs.{IsGraphOf}
 use Rattle.grc_sem.proofs.Exports.{program_kernel}
 use Rattle.guard_regions.specs.Regions.{AreRegions, HeadsAreFree}
 use Rattle.net_ir.specs.Netlists.{Netlist}
@@ -25,6 +26,7 @@ use Rattle.cec_compile.specs.GuardedTexts.{GuardedTextKeeps, guarded_seen}
 use Rattle.cec_compile.specs.MadeGuarded.{IsGuardedBy}
 use Rattle.cec_compile.specs.NetMeaning.{NetKeeps}
 use Rattle.cec_compile.specs.SourceTexts.{IsSourceText}
+use Rattle.cec_compile.specs.WireGroups.{is_shared}
 use Rattle.cec_compile.specs.declared.compiler.Compiled.{Compiled}
 use Rattle.cec_compile.specs.declared.forms.TextForm.TheVariants as forms
 use Rattle.cec_compile.proofs.Joined.{given-few, inputs_wide, kernel_of}
@@ -55,27 +57,34 @@ guarded_keeps text net regions p few keeps means = record {
   };
 }
 
+-- where wires are not shared, the graph of what a source is compiled to is that of its own program
+pub own_made : {text : List ℕ} {main : Option (List ℕ)} (c : Compiled) → StandsForNet text main c → is_shared c.graph ≡ false
+    → IsGraphOf c.graph (program_of c.graph.program)
+own_made c s own = subst (IsGraphOf c.graph) (sym s.compiled.program) (s.compiled.own own)
+
 -- the text that is written of a compiled program by the regions of its graph
-pub guarded_by : (c : Compiled) (p : Program) (regions : List (Option WireId)) (text : List ℕ) → IsCompiled c p → FollowsGraph c → AreRegions c.graph regions
+pub guarded_by : (c : Compiled) (p : Program) (regions : List (Option WireId)) (text : List ℕ) → IsCompiled c p
+    → IsGraphOf c.graph (program_of c.graph.program) → FollowsGraph c → AreRegions c.graph regions
     → HeadsAreFree regions → text ≡ guarded_text (netlist_of c.net) (owners (netlist_of c.net) (region_by (netlist_of c.net) regions))
     → GuardedMeans text (netlist_of c.net) regions → IsGuardedBy c text
-guarded_by c p regions text h follows are free spelled means = record {
+guarded_by c p regions text h built follows are free spelled means = record {
   regions = regions;
   are = are;
   free = free;
   spelled = spelled;
   runs = guarded_texts_run_lem c.graph p (netlist_of c.net) regions h.compiles.acyclic.rank text
-      (program_kernel p h.formed (kernel_of c.graph p h.graph)) h.no_loop h.compiles.acyclic.up h.graph (sym (inputs_wide c p h)) follows.runs are means;
+      (program_kernel p h.formed (kernel_of c.graph p h.program)) h.no_loop h.compiles.acyclic.up (subst (IsGraphOf c.graph) h.program built)
+      (sym (inputs_wide c p h)) follows.runs are means;
 }
 
-pub guarded_is : (bytes : List ℕ) (main : Option (List ℕ)) (c : Compiled) (text : List ℕ) → StandsForNet bytes main c → IsGuardedBy c text
-    → IsSourceText forms.Guarded main bytes text
-guarded_is bytes main c text s g = (
+pub guarded_is : (bytes : List ℕ) (main : Option (List ℕ)) (c : Compiled) (text : List ℕ) → StandsForNet bytes main c
+    → is_shared c.graph ≡ false → IsGuardedBy c text → IsSourceText forms.Guarded main bytes text
+guarded_is bytes main c text s own g = (
   record {
     program = s.program;
     source = s.source;
     compiles = s.compiled.compiles;
     keeps = guarded_keeps text (netlist_of c.net) g.regions s.program (given-few s.program s.compiled.formed) s.compiled.keeps g.runs;
   },
-  record { made = c; compiled = s; regions = g.regions; are = g.are; free = g.free; text = g.spelled; runs = g.runs },
+  record { made = c; compiled = s; own = own; regions = g.regions; are = g.are; free = g.free; text = g.spelled; runs = g.runs },
 )

@@ -1,6 +1,6 @@
 -- What the passes joined give.
 use Rattle.std.proofs.Common.{◌≡◌, ℕ, ◌+◌, ◌-◌, ◌<◌, ◌≤◌, List, [], ◌∷◌, length, map, get_or, Option, refl, sym, ap, ◌∙◌, subst, ⊎_elim, arith}
-use Rattle.std.specs.Prelude.{true, false, All, Contains, slice_index}
+use Rattle.std.specs.Prelude.{Bool, true, false, All, Contains, is_some, slice_index}
 use Rattle.std.proofs.lemmas.Bool.{cases_lt}
 use Rattle.std.proofs.lemmas.List.Elements.{All-contains, All-map}
 use Rattle.std.proofs.lemmas.List.{length-map, length-take, get_or-map}
@@ -22,7 +22,7 @@ use Rattle.grc_graph.specs.declared.orders.Edges.{Edges}
 use Rattle.grc_graph.specs.declared.orders.Order.{Order}
 use Rattle.grc_graph.specs.declared.orders.Ranks.{Ranks}
 use Rattle.grc_graph.specs.BuiltGraphs.{IsGraphOf}
-use Rattle.grc_graph.proofs.Exports.{next_each, tree_numbers}
+use Rattle.grc_graph.proofs.Exports.{tree_numbers}
 use Rattle.grc_graph.specs.GraphRuns.{program_edges, program_wires}
 use Rattle.grc_dep.specs.Cycles.{numbered, numbers_of}
 use Rattle.grc_graph.specs.Edges.{Edge}
@@ -34,6 +34,14 @@ use Rattle.grc_graph.specs.SelectionTrees.{body_leaves, body_tree}
 use Rattle.grc_graph.specs.TreeForms.{node_of}
 use Rattle.grc_graph.specs.WireOrders.{WireEdge, AreRanks, IsWireOrder}
 use Rattle.grc_sem.proofs.Exports.{program_kernel}
+use Rattle.grc_share.specs.declared.shared_graph.SharedGraph.{SharedGraph}
+use Rattle.grc_share.specs.SharedGraphForms.{IsSharedGraphOf}
+use Rattle.grc_share.specs.SharedNumbers.{IsSharedWalk}
+use Rattle.grc_share.specs.SharedWires.{members, shared_edges, shared_wires}
+use Rattle.grc_share.proofs.Exports.{shared-differ}
+use Rattle.grc_solutions.specs.GraphWires.{Differ}
+use Rattle.grc_solutions.proofs.Exports.{wires_differ_lem}
+use Rattle.share_laws.specs.SharedSolutions.{SharedOrdersAreReadingOrders, SharedRanksGoUp}
 use Rattle.grc_words.specs.Sizes.{rows_at_most}
 use Rattle.net_gen.specs.Costs.{gates_at_most, linear_bound}
 use Rattle.net_gen.specs.Generated.{HasInterfaceOf, FollowsInstants, FollowsRuns}
@@ -49,8 +57,11 @@ use Rattle.cec_compile.specs.Compiling.{IsGraphed, IsCompiled, StandsForGraph, S
 use Rattle.cec_compile.specs.Following.{FollowsGraph}
 use Rattle.cec_compile.specs.Limits.{copying_refusal}
 use Rattle.cec_compile.specs.Graphs.{HasNoGraph, IsBuilt}
+use Rattle.cec_compile.specs.GraphsMade.{IsGraphIn, IsOwnOrShared, IsRanked}
 use Rattle.cec_compile.specs.Refusals.{Compiles}
-use Rattle.cec_compile.proofs.GraphFacts.{acyclic, reading_order}
+use Rattle.cec_compile.specs.WireGroups.{HasSharedRank, SharesWires, graph_edges, graph_wires, is_shared, wire_groups}
+use Rattle.cec_compile.proofs.GraphFacts.{acyclic, reading_order, shared_cycle}
+use Rattle.cec_compile.proofs.GraphsRead.{ReadsIn, graph_reads, next_count, shared_loops}
 use Rattle.cec_compile.proofs.Simplified.{interface_stays, instants_stay, runs_stay}
 use Rattle.cec_compile.proofs.WireWords.{order_carried, holds_wires, names_wires, module_wires, latches_stored, states_stored, registers_stored}
 use Rattle.cec_compile.specs.WireNames.{one_per_leaf, TextNames, CTextNames, VerilogTextNames}
@@ -58,8 +69,16 @@ use Rattle.cec_compile.proofs.Keeping.{net_keeps, text_keeps, c_text_keeps, veri
 
 -- ---- graphs
 
-pub kernel_of : (g : Graph) (p : Program) → IsGraphOf g p → programs.IsKernel p.body
-kernel_of g p is = subst (λ q. programs.IsKernel q.body) is.program (trees_are_kernels_lem g.program.body)
+pub kernel_of : (g : Graph) (p : Program) → program_of g.program ≡ p → programs.IsKernel p.body
+kernel_of g p program = subst (λ q. programs.IsKernel q.body) program (trees_are_kernels_lem g.program.body)
+
+-- the selection tree of a graph is its program's, with so many leaves
+graph_tree : (g : Graph) (p : Program) → program_of g.program ≡ p → map node_of g.tree.nodes.items ≡ body_tree p.body
+graph_tree g p program = g.laid_out.tree ∙ ap (λ (q : Program). body_tree q.body) program
+
+graph_leaves : (g : Graph) (p : Program) → program_of g.program ≡ p → g.tree.leaves ≡ length (body_leaves p.body)
+graph_leaves g p program =
+    g.tree.numbered.counted ∙ sym (tree_numbers g.tree.nodes.items (length (body_leaves p.body)) p.body (graph_tree g p program) refl).counted
 
 -- a graph is that of the program that it has
 pub own_graph : (g : Graphed) (p : Program) → IsGraphed g p → IsGraphed g (program_of g.graph.program)
@@ -68,17 +87,15 @@ own_graph g p h = subst (IsGraphed g) (sym h.graph.program) h
 -- a graph has the selection tree of its program, with a leaf for each of the program's
 pub built_is : (g : Graph) (p : Program) → programs.IsWellFormed p → programs.HasNames p → NoInstantLoop p.body
     → length (body_instances p.body) ≤ INSTANCES → IsGraphOf g p → IsBuilt g p
-built_is g p formed names no_loop few is =
-    let tree : map node_of g.tree.nodes.items ≡ body_tree p.body = g.laid_out.tree ∙ ap (λ (q : Program). body_tree q.body) is.program in
-    record {
-      formed = formed;
-      names = names;
-      no_loop = no_loop;
-      few = few;
-      graph = is;
-      tree = tree;
-      leaves = g.tree.numbered.counted ∙ sym (tree_numbers g.tree.nodes.items (length (body_leaves p.body)) p.body tree refl).counted;
-    }
+built_is g p formed names no_loop few is = record {
+  formed = formed;
+  names = names;
+  no_loop = no_loop;
+  few = few;
+  graph = is;
+  tree = graph_tree g p is.program;
+  leaves = graph_leaves g p is.program;
+}
 
 pub own_built : (g : Graph) (p : Program) → IsBuilt g p → IsBuilt g (program_of g.program)
 own_built g p h = subst (IsBuilt g) (sym h.graph.program) h
@@ -105,13 +122,88 @@ pub graph_compiles : (g : Graphed) (p : Program) → IsGraphed g p → Compiles 
 graph_compiles g p h = record {
   limits = record { few_instances = h.few; few_wires = h.graph.few };
   acyclic = acyclic g.graph p g.edges.count g.edges.pairs.items g.ranks.of.items h.graph
-      (program_kernel p h.formed (kernel_of g.graph p h.graph)) h.count h.edges h.ranks;
+      (program_kernel p h.formed (kernel_of g.graph p h.graph.program)) h.count h.edges h.ranks;
 }
 
 pub graph_order : (g : Graphed) (p : Program) (order : List WireId) → IsGraphed g p → IsWireOrder g.edges.count g.edges.pairs.items order
     → IsReadingOrder (names_of g.graph) (map (formula_of (instances_of g.graph) (names_of g.graph)) g.graph.equations.items) order
 graph_order g p order h along =
-    reading_order g.graph p g.edges.count g.edges.pairs.items order h.graph (program_kernel p h.formed (kernel_of g.graph p h.graph)) h.count h.edges along
+    reading_order g.graph p g.edges.count g.edges.pairs.items order h.graph (program_kernel p h.formed (kernel_of g.graph p h.graph.program)) h.count h.edges
+    along
+
+-- the graph of a program as it is
+pub own_ranked : (g : Graphed) (p : Program) → IsGraphed g p → IsRanked g p
+own_ranked g p h =
+    let own : is_shared g.graph ≡ false = ap is_some h.graph.own in
+    record {
+      formed = h.formed;
+      names = h.names;
+      no_loop = h.no_loop;
+      compiles = graph_compiles g p h;
+      graph = record { given = g.graph; built = h.graph; graph = subst (λ shared. IsGraphIn shared g.graph p) (sym own) h.graph };
+      count = h.count;
+      edges = subst (λ shared. AreEdgesOf (names_of g.graph) (graph_edges shared p) g.edges.pairs.items) (sym own) h.edges;
+      ranks = h.ranks;
+      orders = λ order along. graph_order g p order h along;
+    }
+
+pub own_shares : (g : Graphed) (p : Program) (walk : List ℕ) → IsGraphed g p → IsSharedWalk p walk → SharesWires p (is_shared g.graph)
+own_shares g p walk h closed = subst (SharesWires p) (sym (ap is_some h.graph.own)) (shared_cycle p walk closed)
+
+-- the graph of the shared wires of a program that has a graph
+pub shared_rank : (p : Program) (s : SharedGraph) → SharedRanksGoUp → programs.IsKernel p.body → programs.KeepsLimits p.body → IsSharedGraphOf p s
+    → HasSharedRank p
+shared_rank p s go_up kernel limits is =
+    let found = go_up p s kernel limits is in
+    record { rank = found.0; up = found.1 }
+
+pub shared_ranked : (given : Graphed) (s : SharedGraph) → IsGraphed given (program_of given.graph.program) → HasSharedRank (program_of given.graph.program)
+    → SharedOrdersAreReadingOrders → IsSharedGraphOf (program_of given.graph.program) s
+    → IsRanked (record { graph = s.graph; edges = s.edges; ranks = s.ranks }) (program_of given.graph.program)
+shared_ranked given s h ranked reading is =
+    let p = program_of given.graph.program in
+    let shared : is_shared s.graph ≡ true = shared_loops s.graph p is.program is.graph in
+    record {
+      formed = h.formed;
+      names = h.names;
+      no_loop = h.no_loop;
+      compiles = graph_compiles given p h;
+      graph = record {
+        given = given.graph;
+        built = h.graph;
+        graph = subst (λ b. IsGraphIn b s.graph p) (sym shared) (record {
+          program = is.program;
+          instances = is.instances;
+          wires = is.wires;
+          nodes = is.nodes;
+          graph = is.graph;
+          ranked = ranked;
+        });
+      };
+      count = is.count;
+      edges = subst (λ b. AreEdgesOf (names_of s.graph) (graph_edges b p) s.edges.pairs.items) (sym shared)
+          (subst (λ names. AreEdgesOf names (shared_edges p) s.edges.pairs.items) (sym is.wires) is.edges);
+      ranks = is.ranks;
+      orders = λ order along. reading given.graph s order h.graph is along;
+    }
+
+pub shared_shares : (p : Program) (s : SharedGraph) → IsSharedGraphOf p s → HasSharedRank p → SharesWires p (is_shared s.graph)
+shared_shares p s is ranked = subst (SharesWires p) (sym (shared_loops s.graph p is.program is.graph)) ranked
+
+-- a graph that is the program's, or that of its shared wires, has the program and names its wires
+pub its_program : (g : Graph) (p : Program) → IsOwnOrShared g p → program_of g.program ≡ p
+its_program g p is = by (is_shared g) is.graph
+  where
+    by : (shared : Bool) → IsGraphIn shared g p → program_of g.program ≡ p
+    by false own = own.program
+    by true shared = shared.program
+
+its_wires : (g : Graph) (p : Program) → IsOwnOrShared g p → names_of g ≡ graph_wires (is_shared g) p
+its_wires g p is = by (is_shared g) is.graph
+  where
+    by : (shared : Bool) → IsGraphIn shared g p → names_of g ≡ graph_wires shared p
+    by false own = own.wires
+    by true shared = shared.wires
 
 pub copy_refused : (p : Program) (fault : CopyFault) → copying.FaultHasCause p.body fault → HasNoGraph p (copying_refusal fault)
 copy_refused p copy_faults.TooManyInstances h = h
@@ -123,9 +215,9 @@ pub given-few : (p : Program) → programs.IsWellFormed p → given_count p ≤ 
 given-few p h = omega (arith, h.interface)
 
 -- a latch for the first instant, and one for each leaf
-latches_stand : (g : Graph) (p : Program) (net : Net) → IsGraphOf g p → HasInterfaceOf g (netlist_of net)
+latches_stand : (g : Graph) (p : Program) (net : Net) → program_of g.program ≡ p → HasInterfaceOf g (netlist_of net)
     → map (λ l. l.init) net.latches.items ≡ true ∷ map (λ n. false) (body_leaves p.body)
-latches_stand g p net is interface = interface.latches ∙ ap (λ bits. true ∷ bits) (same_bits g.next.items (body_leaves p.body) (next_each g p is))
+latches_stand g p net is interface = interface.latches ∙ ap (λ bits. true ∷ bits) (same_bits g.next.items (body_leaves p.body) (next_count g p is))
   where
     same_bits : {A B : Type 0} (xs : List A) (ys : List B) → length xs ≡ length ys → map (λ x. false) xs ≡ map (λ y. false) ys
     same_bits [] [] e = refl
@@ -134,126 +226,157 @@ latches_stand g p net is interface = interface.latches ∙ ap (λ bits. true ∷
     same_bits (x ∷ xs) (y ∷ ys) e = ap (λ bits. false ∷ bits) (same_bits xs ys (omega (arith, e)))
 
 -- it follows the graph as the one does that it is made from
-pub simplified_follows : (g : Graph) (order : Order) (net new : Net)
+pub simplified_follows : (g : Graph) (order : Order) (net new : Net) → IsOwnOrShared g (program_of g.program)
     → HasInterfaceOf g (netlist_of net) → length net.gates.items ≤ gates_at_most g (rows_at_most g) order.list.items
     → FollowsInstants g (netlist_of net) → FollowsRuns g (netlist_of net)
     → SameParts (netlist_of net) (netlist_of new) → SameInstants (netlist_of net) (netlist_of new) → SameRuns (netlist_of net) (netlist_of new)
     → FollowsGraph (record { graph = g; order = order; net = new })
-simplified_follows g order net new interface size instants runs parts same alike =
+simplified_follows g order net new graph interface size instants runs parts same alike =
     let few = given-few (program_of g.program) g.laid_out.formed in
     record {
+      graph = graph;
       size = omega (arith, parts.fewer, size);
       interface = interface_stays g (netlist_of net) (netlist_of new) parts interface;
       instants = instants_stay g (netlist_of net) (netlist_of new) few interface parts same instants;
       runs = runs_stay g (netlist_of net) (netlist_of new) few interface parts.carries alike runs;
     }
 
+-- how the wires of a compiled graph are read off the program's
+pub compiled_reads : (c : Compiled) (p : Program) → IsCompiled c p → FollowsGraph c → ReadsIn (is_shared c.graph) c.graph p
+compiled_reads c p h f =
+    graph_reads c.graph p h.formed (kernel_of c.graph p h.program) h.no_loop h.compiles.acyclic (subst (IsOwnOrShared c.graph) h.program f.graph)
+
 -- a graph with an order along its edges, and a netlist that follows it
-pub compiled_is : (g : Graphed) (order : Order) (net : Net) → IsGraphed g (program_of g.graph.program)
+pub compiled_is : (g : Graphed) (order : Order) (net : Net) → IsRanked g (program_of g.graph.program)
     → IsWireOrder g.edges.count g.edges.pairs.items order.list.items
     → carried net.gates.items ≡ map (λ v. v.0) order.list.items
-    → (IsGraphOf g.graph (program_of g.graph.program) → length net.gates.items ≤ linear_bound (program_of g.graph.program))
+    → length net.gates.items ≤ linear_bound (program_of g.graph.program)
     → FollowsGraph (record { graph = g.graph; order = order; net = net })
     → IsSimple (netlist_of net) → IsCompiled (record { graph = g.graph; order = order; net = net }) (program_of g.graph.program)
 compiled_is g order net h along carries linear follows simple =
     let p = program_of g.graph.program in
-    let compiles = graph_compiles g p h in
+    let kernel = kernel_of g.graph p refl in
     record {
       formed = h.formed;
       no_loop = h.no_loop;
-      compiles = compiles;
-      graph = h.graph;
-      tree = h.tree;
-      leaves = h.leaves;
-      order = graph_order g p order.list.items h along;
+      compiles = h.compiles;
+      program = refl;
+      wires = its_wires g.graph p h.graph;
+      own = λ own. subst (λ shared. IsGraphIn shared g.graph p) own h.graph.graph;
+      tree = graph_tree g.graph p refl;
+      leaves = graph_leaves g.graph p refl;
+      order = h.orders order.list.items along;
       along = record { pairs = g.edges.pairs.items; edges = h.edges; order = subst (λ n. IsWireOrder n g.edges.pairs.items order.list.items) h.count along };
       carried = carries;
-      linear = linear h.graph;
-      latches = latches_stand g.graph p net h.graph follows.interface;
-      keeps = net_keeps g.graph p (netlist_of net) h.formed (kernel_of g.graph p h.graph) h.no_loop h.graph compiles.acyclic follows.interface follows.runs;
+      linear = linear;
+      latches = latches_stand g.graph p net refl follows.interface;
+      keeps = net_keeps g.graph p (netlist_of net) h.formed kernel (graph_reads g.graph p h.formed kernel h.no_loop h.compiles.acyclic h.graph)
+          h.compiles.acyclic follows.interface follows.runs;
       simple = simple;
     }
 
 pub own_source : (text : List ℕ) (main : Option (List ℕ)) (g : Graphed) → (s : StandsForGraph text main g) → StandsFor text main (program_of g.graph.program)
 own_source text main g s = subst (StandsFor text main) (sym s.graphed.graph.program) s.source
 
-pub compiled_stands : (text : List ℕ) (main : Option (List ℕ)) (g : Graphed) (order : Order) (net : Net) → StandsForGraph text main g
-    → IsCompiled (record { graph = g.graph; order = order; net = net }) (program_of g.graph.program)
-    → StandsForNet text main (record { graph = g.graph; order = order; net = net })
-compiled_stands text main g order net s h = record { program = program_of g.graph.program; source = own_source text main g s; compiled = h }
+pub compiled_stands : (text : List ℕ) (main : Option (List ℕ)) (given : Graphed) (c : Compiled) → StandsForGraph text main given
+    → program_of c.graph.program ≡ program_of given.graph.program → IsCompiled c (program_of c.graph.program) → StandsForNet text main c
+compiled_stands text main given c s same h = record {
+  program = program_of c.graph.program;
+  source = subst (StandsFor text main) (sym same) (own_source text main given s);
+  compiled = h;
+}
+
+-- a group for each wire
+group_count : (shared : Bool) (p : Program) → length (wire_groups shared p) ≡ length (graph_wires shared p)
+group_count false p = length-map (program_wires p) (λ w. w ∷ [])
+group_count true p = length-map (shared_wires p) (members p)
 
 -- each wire of a compiled program is carried
-pub wires_carried : (c : Compiled) (p : Program) → IsCompiled c p → (n : ℕ) → n < length (program_wires p) → Contains (carried c.net.gates.items) n
+pub wires_carried : (c : Compiled) (p : Program) → IsCompiled c p → (n : ℕ) → n < length (wire_groups (is_shared c.graph) p)
+    → Contains (carried c.net.gates.items) n
 wires_carried c p h n l =
-    order_carried c.order.list.items c.net.gates.items n h.carried (h.order.each_once n (subst (λ ws. n < length ws) (sym h.graph.wires) l))
+    let few : n < length (graph_wires (is_shared c.graph) p) = omega (arith, l, group_count (is_shared c.graph) p) in
+    order_carried c.order.list.items c.net.gates.items n h.carried (h.order.each_once n (subst (λ ws. n < length ws) (sym h.wires) few))
 
 pub inputs_wide : (c : Compiled) (p : Program) → IsCompiled c p → given_count p ≡ length (netlist_of c.net).inputs
 inputs_wide c p h = sym (ap length h.keeps.inputs ∙ omega (arith, length-take (given_count p) p.signals, given-few p h.formed))
 
--- the text of a compiled program names its wires
-net_wires : (c : Compiled) (p : Program) → IsCompiled c p → FollowsGraph c → (written : List ℕ) → Means written (netlist_of c.net)
-    → TextNames (one_per_leaf p) written p
-net_wires c p h follows written means =
-    let kernel = program_kernel p h.formed (kernel_of c.graph p h.graph) in
+-- no two of its wires are one
+names_differ : (shared : Bool) (p : Program) → programs.IsKernel p.body → programs.IsWellFormed p → Differ (graph_wires shared p)
+names_differ false p kernel formed = (wires_differ_lem p (program_kernel p formed kernel)).1
+names_differ true p kernel formed = shared-differ p kernel formed.body
+
+pub compiled_differ : (c : Compiled) (p : Program) → IsCompiled c p → Differ (names_of c.graph)
+compiled_differ c p h = subst Differ (sym h.wires) (names_differ (is_shared c.graph) p (kernel_of c.graph p h.program) h.formed)
+
+-- the text of a compiled program whose wires are shared where they can be names its wires
+net_wires : (c : Compiled) (p : Program) → IsCompiled c p → SharesWires p (is_shared c.graph) → FollowsGraph c → (written : List ℕ)
+    → Means written (netlist_of c.net) → TextNames (one_per_leaf p) written p
+net_wires c p h shares follows written means =
+    let kernel = program_kernel p h.formed (kernel_of c.graph p h.program) in
+    let reads = compiled_reads c p h follows in
     record {
       circuit = means.circuit;
       reads = means.reads;
-      stored = latches_stored c.graph p (netlist_of c.net) h.graph (wires_carried c p h) follows.interface written means;
-      wires = names_wires c.graph p (netlist_of c.net) h.graph (wires_carried c p h) kernel h.no_loop h.compiles.acyclic follows.runs written means
-          h.keeps.inputs (inputs_wide c p h);
+      stored = latches_stored (is_shared c.graph) c.graph p (netlist_of c.net) reads (wires_carried c p h) follows.interface written means;
+      wires = names_wires (is_shared c.graph) c.graph p (netlist_of c.net) reads (wires_carried c p h) kernel h.no_loop h.compiles.acyclic shares
+          follows.runs written means h.keeps.inputs (inputs_wide c p h);
     }
 
-c_net_wires : (c : Compiled) (p : Program) → IsCompiled c p → FollowsGraph c → (written : List ℕ) → c_meant.Means written (netlist_of c.net)
-    → CTextNames (one_per_leaf p) written p
-c_net_wires c p h follows written means =
-    let kernel = program_kernel p h.formed (kernel_of c.graph p h.graph) in
+c_net_wires : (c : Compiled) (p : Program) → IsCompiled c p → SharesWires p (is_shared c.graph) → FollowsGraph c → (written : List ℕ)
+    → c_meant.Means written (netlist_of c.net) → CTextNames (one_per_leaf p) written p
+c_net_wires c p h shares follows written means =
+    let kernel = program_kernel p h.formed (kernel_of c.graph p h.program) in
+    let reads = compiled_reads c p h follows in
     record {
       program = means.program;
       describes = means.describes;
-      stored = states_stored c.graph p (netlist_of c.net) h.graph (wires_carried c p h) follows.interface written means;
-      wires = holds_wires c.graph p (netlist_of c.net) h.graph (wires_carried c p h) kernel h.no_loop h.compiles.acyclic follows.runs written means
-          (inputs_wide c p h);
+      stored = states_stored (is_shared c.graph) c.graph p (netlist_of c.net) reads (wires_carried c p h) follows.interface written means;
+      wires = holds_wires (is_shared c.graph) c.graph p (netlist_of c.net) reads (wires_carried c p h) kernel h.no_loop h.compiles.acyclic shares
+          follows.runs written means (inputs_wide c p h);
     }
 
-verilog_net_wires : (c : Compiled) (p : Program) → IsCompiled c p → FollowsGraph c → (written : List ℕ) → verilog_meant.Means written (netlist_of c.net)
-    → VerilogTextNames (one_per_leaf p) written p
-verilog_net_wires c p h follows written means =
-    let kernel = program_kernel p h.formed (kernel_of c.graph p h.graph) in
+verilog_net_wires : (c : Compiled) (p : Program) → IsCompiled c p → SharesWires p (is_shared c.graph) → FollowsGraph c → (written : List ℕ)
+    → verilog_meant.Means written (netlist_of c.net) → VerilogTextNames (one_per_leaf p) written p
+verilog_net_wires c p h shares follows written means =
+    let kernel = program_kernel p h.formed (kernel_of c.graph p h.program) in
+    let reads = compiled_reads c p h follows in
     record {
       design = means.design;
       describes = means.describes;
-      stored = registers_stored c.graph p (netlist_of c.net) h.graph (wires_carried c p h) follows.interface written means;
-      wires = module_wires c.graph p (netlist_of c.net) h.graph (wires_carried c p h) kernel h.no_loop h.compiles.acyclic follows.runs written means;
+      stored = registers_stored (is_shared c.graph) c.graph p (netlist_of c.net) reads (wires_carried c p h) follows.interface written means;
+      wires = module_wires (is_shared c.graph) c.graph p (netlist_of c.net) reads (wires_carried c p h) kernel h.no_loop h.compiles.acyclic shares
+          follows.runs written means;
     }
 
-pub text_stands : (text : List ℕ) (main : Option (List ℕ)) (c : Compiled) (written : List ℕ) → StandsForNet text main c → FollowsGraph c →
-    Means written (netlist_of c.net) → StandsForText text main written
-text_stands text main c written s follows means = record {
+pub text_stands : (text : List ℕ) (main : Option (List ℕ)) (c : Compiled) (written : List ℕ) → (s : StandsForNet text main c)
+    → SharesWires s.program (is_shared c.graph) → FollowsGraph c → Means written (netlist_of c.net) → StandsForText text main written
+text_stands text main c written s shares follows means = record {
   program = s.program;
   source = s.source;
   compiles = s.compiled.compiles;
   keeps = text_keeps written (netlist_of c.net) s.program (given-few s.program s.compiled.formed) s.compiled.keeps means;
-  names = net_wires c s.program s.compiled follows written means;
+  names = net_wires c s.program s.compiled shares follows written means;
 }
 
-pub verilog_text_stands : (text : List ℕ) (main : Option (List ℕ)) (c : Compiled) (written : List ℕ) → StandsForNet text main c → FollowsGraph c →
-    verilog_meant.Means written (netlist_of c.net) → StandsForVerilog text main written
-verilog_text_stands text main c written s follows means = record {
+pub verilog_text_stands : (text : List ℕ) (main : Option (List ℕ)) (c : Compiled) (written : List ℕ) → (s : StandsForNet text main c)
+    → SharesWires s.program (is_shared c.graph) → FollowsGraph c → verilog_meant.Means written (netlist_of c.net) → StandsForVerilog text main written
+verilog_text_stands text main c written s shares follows means = record {
   program = s.program;
   source = s.source;
   compiles = s.compiled.compiles;
   keeps = verilog_text_keeps written (netlist_of c.net) s.program (given-few s.program s.compiled.formed) s.compiled.keeps means;
-  names = verilog_net_wires c s.program s.compiled follows written means;
+  names = verilog_net_wires c s.program s.compiled shares follows written means;
 }
 
-pub c_text_stands : (text : List ℕ) (main : Option (List ℕ)) (c : Compiled) (written : List ℕ) → StandsForNet text main c → FollowsGraph c →
-    c_meant.Means written (netlist_of c.net) → StandsForC text main written
-c_text_stands text main c written s follows means = record {
+pub c_text_stands : (text : List ℕ) (main : Option (List ℕ)) (c : Compiled) (written : List ℕ) → (s : StandsForNet text main c)
+    → SharesWires s.program (is_shared c.graph) → FollowsGraph c → c_meant.Means written (netlist_of c.net) → StandsForC text main written
+c_text_stands text main c written s shares follows means = record {
   program = s.program;
   source = s.source;
   compiles = s.compiled.compiles;
   keeps = c_text_keeps written (netlist_of c.net) s.program (given-few s.program s.compiled.formed) s.compiled.keeps means;
-  names = c_net_wires c s.program s.compiled follows written means;
+  names = c_net_wires c s.program s.compiled shares follows written means;
 }
 
 -- ---- walks

@@ -8,17 +8,15 @@ use Rattle.est_base.specs.Items.{Item, Event, Reset, EachEvent}
 use Rattle.est_kernel.specs.Plain.{Program, given_count, given_names, outgoing_names}
 use Rattle.est_kernel.specs.Reactions.{Answer, run_of}
 use Rattle.machines.proofs.Exports.{shows-computed}
-use Rattle.est_kernel.specs.StaticCodes.{NoInstantLoop}
 use Rattle.est_kernel.specs.WellFormed as programs
 use Rattle.est_kernel.specs.WellFormed.{IsWellFormed}
 use Rattle.grc_graph.specs.declared.graph.Graph.{Graph}
-use Rattle.grc_graph.specs.BuiltGraphs.{IsGraphOf}
-use Rattle.grc_graph.specs.GraphRuns.{PlainGraph, IsGraphRun, graph_of, shown}
+use Rattle.grc_graph.specs.GraphRuns.{PlainGraph, shown}
+use Rattle.grc_graph.specs.PlainGraphs.{plain_graph}
 use Rattle.grc_graph.specs.Readings.{Valuation}
 use Rattle.grc_graph.specs.Walk.{Initial}
 use Rattle.grc_sem.specs.GraphWalks.{shown_answer}
 use Rattle.grc_sem.proofs.Exports.{program_kernel}
-use Rattle.grc_tri.proofs.Exports.{graph_runs_are_runs_lem}
 use Rattle.grc_solutions.proofs.Exports.{graph_runs_exist_lem}
 use Rattle.net_gen.specs.Generated.{HasInterfaceOf, FollowsRuns, shown_as}
 use Rattle.net_ir.specs.declared.netlist.NetOut.{NetOut}
@@ -36,6 +34,7 @@ use Rattle.cec_compile.specs.Cycles.{IsAcyclic}
 use Rattle.cec_compile.specs.Meaning.{AreItems, Seen, seen_of, outgoing_words, circuit_seen, TextKeeps, call_seen, CTextKeeps}
 use Rattle.cec_compile.specs.Meaning.{output_wires, VerilogTextKeeps}
 use Rattle.cec_compile.specs.NetMeaning.{net_seen, NetKeeps}
+use Rattle.cec_compile.proofs.GraphsRead.{ReadsIn}
 
 -- each event has a truth value per given signal
 pub widths : (p : Program) (n : ℕ) → given_count p ≡ n → (items : List Item) → AreItems p items → EachEvent (λ event. length event ≡ n) items
@@ -52,26 +51,25 @@ shown-all : (g : PlainGraph) (Vs : List Valuation) → map (λ V. shown_as (show
 shown-all g [] = refl
 shown-all g (V ∷ Vs) = ap (λ l. shown_as (shown g V) ∷ l) (shown-all g Vs)
 
--- A netlist that has the interface of a program's graph and follows its runs keeps what the program means, where the
--- dependencies have no cycle.
-pub net_keeps : (g : Graph) (p : Program) (net : Netlist) → IsWellFormed p → programs.IsKernel p.body → NoInstantLoop p.body
-    → IsGraphOf g p → IsAcyclic p → HasInterfaceOf g net → FollowsRuns g net → NetKeeps net p
-net_keeps g p net formed kernel no_loop graph acyclic interface follows = record {
-  name = interface.name ∙ ap (λ q. q.name) graph.program;
-  inputs = interface.inputs ∙ ap given_names graph.program;
-  outputs = interface.outputs ∙ ap outgoing_names graph.program;
+-- A netlist that has the interface of a program's graph, own or shared, and follows its runs keeps what the program
+-- means, where the dependencies have no cycle.
+pub net_keeps : {shared : Bool} (g : Graph) (p : Program) (net : Netlist) → IsWellFormed p → programs.IsKernel p.body → ReadsIn shared g p → IsAcyclic p
+    → HasInterfaceOf g net → FollowsRuns g net → NetKeeps net p
+net_keeps g p net formed kernel reads acyclic interface follows = record {
+  name = interface.name ∙ ap (λ q. q.name) reads.states.program;
+  inputs = interface.inputs ∙ ap given_names reads.states.program;
+  outputs = interface.outputs ∙ ap outgoing_names reads.states.program;
   runs = λ items fits.
       let wide = widths p (given_count p) refl items fits in
       let one = graph_runs_exist_lem p acyclic.rank (program_kernel p formed kernel) acyclic.up Initial items in
       let run = one.0.1 in
-      let found = graph_runs_are_runs_lem p acyclic.rank formed kernel no_loop acyclic.up items wide one.0.0 run in
+      let found = reads.answers items one.0.0 wide run in
       let followed =
-      follows items one.0.0 (subst (λ q. EachEvent (λ event. length event ≡ given_count q) items) (sym graph.program) wide)
-      (subst (λ h. IsGraphRun h Initial items one.0.0) (sym graph.graph) run) in (
+      follows items (map reads.read one.0.0) (subst (λ q. EachEvent (λ event. length event ≡ given_count q) items) (sym reads.states.program) wide)
+      (reads.runs items one.0.0 wide run) in (
         found.0,
         found.1,
-        followed.shows ∙ ap (λ h. map (λ V. shown_as (shown h V)) one.0.0) graph.graph ∙ shown-all (graph_of p) one.0.0
-            ∙ ap (map shown_as) (sym found.2) ∙ seen-shown found.0,
+        followed.shows ∙ shown-all (plain_graph g) (map reads.read one.0.0) ∙ ap (map shown_as) (sym found.2) ∙ seen-shown found.0,
       );
 }
 

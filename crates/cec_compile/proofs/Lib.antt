@@ -1,4 +1,6 @@
 mod GraphFacts
+mod SharedLaws
+mod GraphsRead
 mod Keeping
 mod NetTexts
 mod WalkRuns

@@ -19,6 +19,7 @@ use Rattle.cec_compile.specs.MadeNets.{IsNetIn, IsMade, IsWrittenOf}
 use Rattle.cec_compile.specs.NetMeaning.{NetKeeps}
 use Rattle.cec_compile.specs.SourceTexts.{IsSourceText}
 use Rattle.cec_compile.specs.Sources.{IsSource}
+use Rattle.cec_compile.specs.WireGroups.{SharesWires, is_shared}
 use Rattle.cec_compile.proofs.EncodedNets.{encoded_stands}
 use Rattle.cec_compile.proofs.Joined.{text_stands, c_text_stands, verilog_text_stands}
 
@@ -33,17 +34,17 @@ IsCText = IsWrittenIn c_texts.written c_texts.Means
 abbrev pub IsVerilogText : List ℕ → Netlist → Type 0
 IsVerilogText = IsWrittenIn verilog_texts.written verilog_texts.Means
 
-own_blif : (bytes : List ℕ) (main : Option (List ℕ)) (text : List ℕ) → (c : Compiled) → StandsForNet bytes main c → (net : Netlist) → net ≡ netlist_of c.net
-    → text ≡ blif_texts.written net → IsBlifOf bytes main text
-own_blif bytes main text c s net own w = record { made = c; compiled = s; text = w ∙ ap blif_texts.written own }
+own_blif : (bytes : List ℕ) (main : Option (List ℕ)) (text : List ℕ) → (c : Compiled) → (s : StandsForNet bytes main c)
+    → SharesWires s.program (is_shared c.graph) → (net : Netlist) → net ≡ netlist_of c.net → text ≡ blif_texts.written net → IsBlifOf bytes main text
+own_blif bytes main text c s shares net own w = record { made = c; compiled = s; shares = shares; text = w ∙ ap blif_texts.written own }
 
-own_c : (bytes : List ℕ) (main : Option (List ℕ)) (text : List ℕ) → (c : Compiled) → StandsForNet bytes main c → (net : Netlist) → net ≡ netlist_of c.net
-    → text ≡ c_texts.written net → IsCOf bytes main text
-own_c bytes main text c s net own w = record { made = c; compiled = s; text = w ∙ ap c_texts.written own }
+own_c : (bytes : List ℕ) (main : Option (List ℕ)) (text : List ℕ) → (c : Compiled) → (s : StandsForNet bytes main c)
+    → SharesWires s.program (is_shared c.graph) → (net : Netlist) → net ≡ netlist_of c.net → text ≡ c_texts.written net → IsCOf bytes main text
+own_c bytes main text c s shares net own w = record { made = c; compiled = s; shares = shares; text = w ∙ ap c_texts.written own }
 
-own_verilog : (bytes : List ℕ) (main : Option (List ℕ)) (text : List ℕ) → (c : Compiled) → StandsForNet bytes main c → (net : Netlist) → net ≡ netlist_of c.net
-    → text ≡ verilog_texts.written net → IsVerilogOf bytes main text
-own_verilog bytes main text c s net own w = record { made = c; compiled = s; text = w ∙ ap verilog_texts.written own }
+own_verilog : (bytes : List ℕ) (main : Option (List ℕ)) (text : List ℕ) → (c : Compiled) → (s : StandsForNet bytes main c)
+    → SharesWires s.program (is_shared c.graph) → (net : Netlist) → net ≡ netlist_of c.net → text ≡ verilog_texts.written net → IsVerilogOf bytes main text
+own_verilog bytes main text c s shares net own w = record { made = c; compiled = s; shares = shares; text = w ∙ ap verilog_texts.written own }
 
 -- ---- the text that is written is what is asked for
 
@@ -51,32 +52,32 @@ pub blif_answers : (bytes : List ℕ) (main : Option (List ℕ)) (text : List �
     → IsSourceText forms.Blif main bytes text
 blif_answers bytes main text w =
     let m = w.is_made in (
-      text_stands bytes main m.compiled text m.source m.follows (subst (blif_texts.Means text) m.net w.written.means),
-      own_blif bytes main text m.compiled m.source (netlist_of w.made.net) m.net w.written.spelled,
+      text_stands bytes main m.compiled text m.source m.shares m.follows (subst (blif_texts.Means text) m.net w.written.means),
+      own_blif bytes main text m.compiled m.source m.shares (netlist_of w.made.net) m.net w.written.spelled,
     )
 
 pub encoded_answers : (bytes : List ℕ) (main : Option (List ℕ)) (text : List ℕ) → IsWrittenOf forms.EncodedBlif IsBlifText bytes main text
     → IsSourceText forms.EncodedBlif main bytes text
 encoded_answers bytes main text w =
     let m = w.is_made in (
-      encoded_stands bytes main m.compiled (netlist_of w.made.net) text m.source m.follows m.net w.written.means,
-      record { made = m.compiled; compiled = m.source; net = netlist_of w.made.net; encoded = m.net; text = w.written.spelled },
+      encoded_stands bytes main m.compiled (netlist_of w.made.net) text m.source m.shares m.follows m.net w.written.means,
+      record { made = m.compiled; compiled = m.source; shares = m.shares; net = netlist_of w.made.net; encoded = m.net; text = w.written.spelled },
     )
 
 pub c_answers : (bytes : List ℕ) (main : Option (List ℕ)) (text : List ℕ) → IsWrittenOf forms.C IsCText bytes main text
     → IsSourceText forms.C main bytes text
 c_answers bytes main text w =
     let m = w.is_made in (
-      c_text_stands bytes main m.compiled text m.source m.follows (subst (c_texts.Means text) m.net w.written.means),
-      own_c bytes main text m.compiled m.source (netlist_of w.made.net) m.net w.written.spelled,
+      c_text_stands bytes main m.compiled text m.source m.shares m.follows (subst (c_texts.Means text) m.net w.written.means),
+      own_c bytes main text m.compiled m.source m.shares (netlist_of w.made.net) m.net w.written.spelled,
     )
 
 pub verilog_answers : (bytes : List ℕ) (main : Option (List ℕ)) (text : List ℕ) → IsWrittenOf forms.Verilog IsVerilogText bytes main text
     → IsSourceText forms.Verilog main bytes text
 verilog_answers bytes main text w =
     let m = w.is_made in (
-      verilog_text_stands bytes main m.compiled text m.source m.follows (subst (verilog_texts.Means text) m.net w.written.means),
-      own_verilog bytes main text m.compiled m.source (netlist_of w.made.net) m.net w.written.spelled,
+      verilog_text_stands bytes main m.compiled text m.source m.shares m.follows (subst (verilog_texts.Means text) m.net w.written.means),
+      own_verilog bytes main text m.compiled m.source m.shares (netlist_of w.made.net) m.net w.written.spelled,
     )
 
 -- ---- what is made of a source

@@ -2,7 +2,7 @@
 use Rattle.std.proofs.Common.{◌≡◌, ℕ, zero, suc, ◌+◌, ◌-◌, ◌<◌, Bool, false, List, [], ◌∷◌, length, map, drop, get_or, Option, Some, None, refl, sym}
 use Rattle.std.proofs.Common.{ap, ◌∙◌, subst, arith}
 use Rattle.std.specs.Prelude.{nat_lt, option_map, option_and_then, Contains, if◌then◌else◌}
-use Rattle.std.specs.List.{AllZip, range_with_len, cons_option}
+use Rattle.std.specs.List.{AllZip, range_with_len, cons_option, list_any}
 use Rattle.std.proofs.lemmas.Bool.{le-ltb}
 use Rattle.std.proofs.lemmas.List.{length-map, get_or-map, get_or-drop}
 use Rattle.std.proofs.lemmas.List.FromFn.{get_or-map-range_with_len}
@@ -25,11 +25,8 @@ use Rattle.std.specs.Prelude.{slice_get}
 use Rattle.net_ir.specs.Runs.{net_values_run}
 use Rattle.net_ir.proofs.Exports.{get_or-numbered, length-numbered}
 use Rattle.grc_graph.specs.declared.graph.Graph.{Graph}
-use Rattle.grc_graph.specs.BuiltGraphs.{IsGraphOf}
-use Rattle.grc_graph.proofs.Exports.{next_each}
-use Rattle.grc_graph.specs.GraphRuns.{IsGraphRun, program_wires}
 use Rattle.est_kernel.specs.StaticCodes.{NoInstantLoop}
-use Rattle.grc_graph.specs.PlainGraphs.{names_of, plain_graph}
+use Rattle.grc_graph.specs.PlainGraphs.{names_of}
 use Rattle.grc_graph.specs.PlainGraphs as graphs
 use Rattle.grc_graph.specs.Readings.{Valuation}
 use Rattle.grc_graph.specs.Walk.{Initial}
@@ -41,7 +38,9 @@ use Rattle.net_ir.specs.declared.netlist.Gate.{Gate}
 use Rattle.net_ir.specs.Gates.{carried, value_in}
 use Rattle.net_ir.specs.Netlists.{Netlist, first_gate, net_count, wire_at}
 use Rattle.cec_compile.specs.Cycles.{IsAcyclic}
+use Rattle.cec_compile.specs.WireGroups.{SharesWires, wire_groups}
 use Rattle.cec_compile.specs.WireNames.{wire_word, wire_variable, TellsWires, WiresTold, NamesWires, one_per_leaf}
+use Rattle.cec_compile.proofs.GraphsRead.{ReadsIn, next_count}
 use Rattle.cec_compile.proofs.Keeping.{widths}
 use Rattle.cec_compile.proofs.WalkRuns.{run_walks}
 
@@ -126,35 +125,37 @@ wire_of net n c =
 abbrev by_name : (ℕ → List ℕ) → Netlist → (List ℕ → Bool) → List Bool
 by_name name net v = map (λ n. v (name n)) (range_with_len 0 (net_count net))
 
-module _ (g : Graph) (p : Program) (net : Netlist) (is : IsGraphOf g p)
-    (carriers : (n : ℕ) → n < length (program_wires p) → Contains (carried net.gates) n) where
+module _ (shared : Bool) (g : Graph) (p : Program) (net : Netlist) (reads : ReadsIn shared g p)
+    (carriers : (n : ℕ) → n < length (wire_groups shared p) → Contains (carried net.gates) n) where
   told-once : (name word : ℕ → List ℕ) → ((n : ℕ) (c : Carrier net.gates n) → name (first_gate net + c.place) ≡ word n) → (v : List ℕ → Bool) (V : Valuation)
-      → Carries g net (by_name name net v) V → TellsWires word p v V
+      → Carries g net (by_name name net v) (reads.read V) → TellsWires word (wire_groups shared p) v V
   told-once name word named v V c n l = by_carrier (carrier net.gates n (carriers n l))
     where
-      by_carrier : Carrier net.gates n → v (word n) ≡ V (graphs.wire_at (program_wires p) n)
+      by_carrier : Carrier net.gates n → v (word n) ≡ list_any V (get_or (wire_groups shared p) n [])
       by_carrier k =
           let i = first_gate net + k.place in
           let inside : i < net_count net = omega (arith, k.within) in
           let value : value_in (by_name name net v) i ≡ v (name i) =
           get_or-map-range_with_len (λ m. v (name m)) 0 (net_count net) i i false inside (omega arith) in
           let x = any_in net.gates k.place k.within in
-          let carried_value : value_in (by_name name net v) i ≡ V (graphs.wire_at (names_of g) n) = c k.place x (record { 0 = n }) k.within (k.is x) in
-          sym (ap v (named n k)) ∙ sym value ∙ carried_value ∙ ap (λ names. V (graphs.wire_at names n)) is.wires
+          let carried_value : value_in (by_name name net v) i ≡ reads.read V (graphs.wire_at (names_of g) n) =
+          c k.place x (record { 0 = n }) k.within (k.is x) in
+          sym (ap v (named n k)) ∙ sym value ∙ carried_value ∙ reads.told V n l
 
   told-all : (name word : ℕ → List ℕ) → ((n : ℕ) (c : Carrier net.gates n) → name (first_gate net + c.place) ≡ word n) → (valuations : List (List ℕ → Bool))
-      → (Vs : List Valuation) → EachInstant (Carries g net) (map (by_name name net) valuations) Vs → AllZip (TellsWires word p) valuations Vs
+      → (Vs : List Valuation) → EachInstant (Carries g net) (map (by_name name net) valuations) (map reads.read Vs)
+      → AllZip (TellsWires word (wire_groups shared p)) valuations Vs
   told-all name word named [] [] h = tt
   told-all name word named [] (V ∷ Vs) h = absurd h
   told-all name word named (v ∷ valuations) [] h = absurd h
   told-all name word named (v ∷ valuations) (V ∷ Vs) h = (told-once name word named v V h.0, told-all name word named valuations Vs h.1)
 
   -- behind a call
-  told-call : (m : List ℕ → Bool) (values : List Bool) (V : Valuation) → map m (gate_names net) ≡ drop (first_gate net) values → Carries g net values V
-      → TellsWires wire_variable p m V
+  told-call : (m : List ℕ → Bool) (values : List Bool) (V : Valuation) → map m (gate_names net) ≡ drop (first_gate net) values
+      → Carries g net values (reads.read V) → TellsWires wire_variable (wire_groups shared p) m V
   told-call m values V e c n l = by_carrier (carrier net.gates n (carriers n l))
     where
-      by_carrier : Carrier net.gates n → m (wire_variable n) ≡ V (graphs.wire_at (program_wires p) n)
+      by_carrier : Carrier net.gates n → m (wire_variable n) ≡ list_any V (get_or (wire_groups shared p) n [])
       by_carrier k =
           let x = any_in net.gates k.place k.within in
           let many = length-numbered (λ j (gate : Gate). gate_name j gate.wire) 0 net.gates in
@@ -162,13 +163,13 @@ module _ (g : Graph) (p : Program) (net : Netlist) (is : IsGraphOf g p)
           get_or-map m (gate_names net) k.place [] false (omega (arith, k.within, many)) in
           let value : get_or (map m (gate_names net)) k.place false ≡ value_in values (first_gate net + k.place) =
           ap (λ vs. get_or vs k.place false) e ∙ get_or-drop (first_gate net) values k.place false in
-          let carried_value : value_in values (first_gate net + k.place) ≡ V (graphs.wire_at (names_of g) n) =
+          let carried_value : value_in values (first_gate net + k.place) ≡ reads.read V (graphs.wire_at (names_of g) n) =
           c k.place x (record { 0 = n }) k.within (k.is x) in
-          sym (ap m (gate_of net n k)) ∙ sym there ∙ value ∙ carried_value ∙ ap (λ names. V (graphs.wire_at names n)) is.wires
+          sym (ap m (gate_of net n k)) ∙ sym there ∙ value ∙ carried_value ∙ reads.told V n l
 
   told-calls : (ms : List (List ℕ → Bool)) (vs : List (List Bool)) (Vs : List Valuation)
-      → map (λ m. map m (gate_names net)) ms ≡ map (drop (first_gate net)) vs → EachInstant (Carries g net) vs Vs
-      → AllZip (TellsWires wire_variable p) ms Vs
+      → map (λ m. map m (gate_names net)) ms ≡ map (drop (first_gate net)) vs → EachInstant (Carries g net) vs (map reads.read Vs)
+      → AllZip (TellsWires wire_variable (wire_groups shared p)) ms Vs
   told-calls [] [] [] e h = tt
   told-calls [] [] (V ∷ Vs) e h = absurd h
   told-calls [] (v ∷ vs) Vs e h = cc
@@ -183,7 +184,7 @@ module _ (g : Graph) (p : Program) (net : Netlist) (is : IsGraphOf g p)
     sym (length-map net.latches (λ l. l.init))
         ∙ ap length interface.latches,
     length-map g.next.items (λ f. false),
-    next_each g p is,
+    next_count g p reads.states.program,
   )
 
   pub states_stored : HasInterfaceOf g net → (text : List ℕ) → (means : meant.Means text net) → length means.program.states ≡ one_per_leaf p
@@ -192,19 +193,21 @@ module _ (g : Graph) (p : Program) (net : Netlist) (is : IsGraphOf g p)
   pub latches_stored : HasInterfaceOf g net → (text : List ℕ) → (means : Means text net) → length means.circuit.latches ≡ one_per_leaf p
   latches_stored interface text means = ap length means.latches ∙ length-numbered (net_latch net) 0 net.latches ∙ latch_count interface
 
-  pub holds_wires : HasExitCodes p.body → NoInstantLoop p.body → IsAcyclic p → FollowsRuns g net → (text : List ℕ) → (means : meant.Means text net) →
-      given_count p ≡ length net.inputs → NamesWires (program_machine means.program) wire_variable p
-  holds_wires kernel no_loop acyclic follows text means wide = record {
+  pub holds_wires : HasExitCodes p.body → NoInstantLoop p.body → IsAcyclic p → SharesWires p shared → FollowsRuns g net → (text : List ℕ)
+      → (means : meant.Means text net) → given_count p ≡ length net.inputs → NamesWires (program_machine means.program) wire_variable p
+  holds_wires kernel no_loop acyclic shares follows text means wide = record {
+    shared = shared;
+    shares = shares;
     wires = λ items fits ms called.
         let c = means.program in
         let events = widths p (given_count p) refl items fits in
         let one = graph_runs_exist_lem p acyclic.rank kernel acyclic.up Initial items in
         let run = one.0.1 in
         let followed =
-        follows items one.0.0 (subst (λ q. EachEvent (λ event. length event ≡ given_count q) items) (sym is.program) events)
-        (subst (λ h. IsGraphRun h Initial items one.0.0) (sym is.graph) run) in
+        follows items (map reads.read one.0.0) (subst (λ q. EachEvent (λ event. length event ≡ given_count q) items) (sym reads.states.program) events)
+        (reads.runs items one.0.0 events run) in
         let are = computed-only (first_memory c.states) (λ m inputs. call c inputs m) (λ m inputs behind. behind) (first_memory c.states) items ms called in
-        subst (λ l. WiresTold wire_variable p items l) (sym are) (record {
+        subst (λ l. WiresTold wire_variable (wire_groups shared p) p items l) (sym are) (record {
           run = one.0.0;
           is_run = run_walks p kernel no_loop items Initial one.0.0 tt tt events run;
           told = told-calls (memories means.program items) (net_values_run net items) one.0.0
@@ -217,33 +220,36 @@ module _ (g : Graph) (p : Program) (net : Netlist) (is : IsGraphOf g p)
       ap length means.registers ∙ length-numbered (net_register net) 0 net.latches ∙ latch_count interface
 
   -- along the runs of a machine in which the nets have their values by these names
-  named_wires : HasExitCodes p.body → NoInstantLoop p.body → IsAcyclic p → FollowsRuns g net → (M : Machine (List ℕ → Bool)) (name word : ℕ → List ℕ)
+  named_wires : HasExitCodes p.body → NoInstantLoop p.body → IsAcyclic p → SharesWires p shared → FollowsRuns g net
+      → (M : Machine (List ℕ → Bool)) (name word : ℕ → List ℕ)
       → ((n : ℕ) (c : Carrier net.gates n) → name (first_gate net + c.place) ≡ word n)
       → ((items : List Item) (valuations : List (List ℕ → Bool)) → IsRun M items valuations → map (by_name name net) valuations ≡ net_values_run net items)
       → NamesWires M word p
-  named_wires kernel no_loop acyclic follows M name word named nets = record {
+  named_wires kernel no_loop acyclic shares follows M name word named nets = record {
+    shared = shared;
+    shares = shares;
     wires = λ items fits valuations is_run.
         let events = widths p (given_count p) refl items fits in
         let one = graph_runs_exist_lem p acyclic.rank kernel acyclic.up Initial items in
         let run = one.0.1 in
         let followed =
-        follows items one.0.0 (subst (λ q. EachEvent (λ event. length event ≡ given_count q) items) (sym is.program) events)
-        (subst (λ h. IsGraphRun h Initial items one.0.0) (sym is.graph) run) in
+        follows items (map reads.read one.0.0) (subst (λ q. EachEvent (λ event. length event ≡ given_count q) items) (sym reads.states.program) events)
+        (reads.runs items one.0.0 events run) in
         record {
           run = one.0.0;
           is_run = run_walks p kernel no_loop items Initial one.0.0 tt tt events run;
-          told = told-all name word named valuations one.0.0 (subst (λ values. EachInstant (Carries g net) values one.0.0)
+          told = told-all name word named valuations one.0.0 (subst (λ values. EachInstant (Carries g net) values (map reads.read one.0.0))
               (sym (nets items valuations is_run)) followed.carries);
         };
   }
 
-  pub names_wires : HasExitCodes p.body → NoInstantLoop p.body → IsAcyclic p → FollowsRuns g net → (text : List ℕ) → (means : Means text net) →
-      net.inputs ≡ given_names p
-      → given_count p ≡ length net.inputs → NamesWires (circuit_machine means.circuit) wire_word p
-  names_wires kernel no_loop acyclic follows text means inputs wide =
-      named_wires kernel no_loop acyclic follows (circuit_machine means.circuit) (net_word net) wire_word (word_of net) means.nets
+  pub names_wires : HasExitCodes p.body → NoInstantLoop p.body → IsAcyclic p → SharesWires p shared → FollowsRuns g net → (text : List ℕ)
+      → (means : Means text net) → net.inputs ≡ given_names p → given_count p ≡ length net.inputs
+      → NamesWires (circuit_machine means.circuit) wire_word p
+  names_wires kernel no_loop acyclic shares follows text means inputs wide =
+      named_wires kernel no_loop acyclic shares follows (circuit_machine means.circuit) (net_word net) wire_word (word_of net) means.nets
 
-  pub module_wires : HasExitCodes p.body → NoInstantLoop p.body → IsAcyclic p → FollowsRuns g net → (text : List ℕ) → (means : module_meant.Means text net)
-      → NamesWires (vlog_machine means.design) wire_variable p
-  module_wires kernel no_loop acyclic follows text means =
-      named_wires kernel no_loop acyclic follows (vlog_machine means.design) (net_name net) wire_variable (wire_of net) means.nets
+  pub module_wires : HasExitCodes p.body → NoInstantLoop p.body → IsAcyclic p → SharesWires p shared → FollowsRuns g net → (text : List ℕ)
+      → (means : module_meant.Means text net) → NamesWires (vlog_machine means.design) wire_variable p
+  module_wires kernel no_loop acyclic shares follows text means =
+      named_wires kernel no_loop acyclic shares follows (vlog_machine means.design) (net_name net) wire_variable (wire_of net) means.nets

@@ -1,7 +1,7 @@
 -- To believe: what the passes make of a source: each field says what its pass keeps.
 use Rattle.std.specs.Prelude.{◌≡◌, ◌≤◌, ℕ, true, false, List, ◌∷◌, length, map, Option}
 use Rattle.est_base.specs.declared.bounds.TheConstants.Limits.{INSTANCES}
-use Rattle.est_kernel.specs.Plain.{Program}
+use Rattle.est_kernel.specs.Plain.{Program, program_of}
 use Rattle.est_kernel.specs.StaticCodes.{NoInstantLoop}
 use Rattle.est_kernel.specs.WellFormed.{IsWellFormed, HasNames}
 use Rattle.grc_graph.specs.BuiltGraphs.{IsGraphOf}
@@ -25,6 +25,7 @@ use Rattle.cec_compile.specs.Meaning.{TextKeeps, CTextKeeps, VerilogTextKeeps}
 use Rattle.cec_compile.specs.WireNames.{one_per_leaf, TextNames, CTextNames, VerilogTextNames}
 use Rattle.cec_compile.specs.NetMeaning.{NetKeeps}
 use Rattle.cec_compile.specs.Refusals.{Compiles}
+use Rattle.cec_compile.specs.WireGroups.{SharesWires, graph_edges, graph_wires, is_shared}
 use Rattle.cec_compile.specs.declared.compiler.Compiled.{Compiled}
 use Rattle.cec_compile.specs.declared.compiler.Graphed.{Graphed}
 
@@ -41,20 +42,24 @@ pub record IsGraphed (g : Graphed) (p : Program) : Type 0 where
   pub edges : AreEdgesOf (names_of g.graph) (program_edges p) g.edges.pairs.items
   pub ranks : AreRanks g.edges.count g.edges.pairs.items g.ranks.of.items
 
--- The order of a compiled program is one along the dependency edges: no wire stands before one that has an edge to it.
+-- The order of a compiled program is one along the edges of its graph: no wire stands before one that has an edge to
+-- it.
 pub record FollowsEdges (c : Compiled) (p : Program) : Type 0 where
   pub pairs : List WireEdge
-  pub edges : AreEdgesOf (names_of c.graph) (program_edges p) pairs
+  pub edges : AreEdgesOf (names_of c.graph) (graph_edges (is_shared c.graph) p) pairs
   pub order : IsWireOrder (length c.graph.wires.items) pairs c.order.list.items
 
--- The same graph, an evaluation order along its edges, and its netlist: the netlist has at most so many gates, one of
--- them for each wire, in that order. Its first latch tells the first instant; the others, one for each leaf of the
--- selection tree, are false at first. It keeps what the program means, and has nothing left to simplify.
+-- A graph of the program, its own or that of its shared wires, an evaluation order along its edges, and its netlist:
+-- the netlist has at most so many gates, one of them for each wire of the graph, in that order. Its first latch tells
+-- the first instant; the others, one for each leaf of the selection tree, are false at first. It keeps what the program
+-- means, and has nothing left to simplify.
 pub record IsCompiled (c : Compiled) (p : Program) : Type 0 where
   pub formed : IsWellFormed p
   pub no_loop : NoInstantLoop p.body
   pub compiles : Compiles p
-  pub graph : IsGraphOf c.graph p
+  pub program : program_of c.graph.program ≡ p
+  pub wires : names_of c.graph ≡ graph_wires (is_shared c.graph) p
+  pub own : is_shared c.graph ≡ false → IsGraphOf c.graph p
   pub tree : map node_of c.graph.tree.nodes.items ≡ body_tree p.body
   pub leaves : c.graph.tree.leaves ≡ length (body_leaves p.body)
   pub order : IsReadingOrder (names_of c.graph)
@@ -99,19 +104,22 @@ pub record StandsForVerilog (text : List ℕ) (main : Option (List ℕ)) (writte
   pub keeps : VerilogTextKeeps written program
   pub names : VerilogTextNames (one_per_leaf program) written program
 
--- The text is that of a compiled program's netlist, from the same bytes: it has a table for each gate, in the order of
--- the gates, and a gate that carries a wire is named by it.
+-- The text is that of a compiled program's netlist, from the same bytes, whose wires are shared where they can be: it
+-- has a table for each gate, in the order of the gates, and a gate that carries a wire is named by it.
 pub record IsBlifOf (bytes : List ℕ) (main : Option (List ℕ)) (written : List ℕ) : Type 0 where
   pub made : Compiled
   pub compiled : StandsForNet bytes main made
+  pub shares : SharesWires compiled.program (is_shared made.graph)
   pub text : written ≡ blif_texts.written (netlist_of made.net)
 
 pub record IsCOf (bytes : List ℕ) (main : Option (List ℕ)) (written : List ℕ) : Type 0 where
   pub made : Compiled
   pub compiled : StandsForNet bytes main made
+  pub shares : SharesWires compiled.program (is_shared made.graph)
   pub text : written ≡ c_texts.written (netlist_of made.net)
 
 pub record IsVerilogOf (bytes : List ℕ) (main : Option (List ℕ)) (written : List ℕ) : Type 0 where
   pub made : Compiled
   pub compiled : StandsForNet bytes main made
+  pub shares : SharesWires compiled.program (is_shared made.graph)
   pub text : written ≡ verilog_texts.written (netlist_of made.net)

@@ -14,6 +14,7 @@ use Rattle.cec_compile.specs.Compiling.{StandsForNet}
 use Rattle.cec_compile.specs.Meaning.{TextKeeps}
 use Rattle.cec_compile.specs.NetMeaning.{NetKeeps}
 use Rattle.cec_compile.specs.Refusals.{Compiles}
+use Rattle.cec_compile.specs.WireGroups.{SharesWires, is_shared}
 use Rattle.cec_compile.specs.WireNames.{TextNames}
 use Rattle.cec_compile.specs.declared.compiler.Compiled.{Compiled}
 
@@ -41,11 +42,12 @@ pub record StandsForEncoded (text : List ℕ) (main : Option (List ℕ)) (writte
   pub keeps : TextKeeps written program
   pub names : TextNames (encoded_count program.body) written program
 
--- The text is that of such a netlist, from the same bytes: it has a table for each gate, in the order of the gates, and
--- a gate that carries a wire is named by it.
+-- The text is that of such a netlist, from the same bytes, whose wires are shared where they can be: it has a table for
+-- each gate, in the order of the gates, and a gate that carries a wire is named by it.
 pub record IsEncodedBlifOf (bytes : List ℕ) (main : Option (List ℕ)) (written : List ℕ) : Type 0 where
   pub made : Compiled
   pub compiled : StandsForNet bytes main made
+  pub shares : SharesWires compiled.program (is_shared made.graph)
   pub net : Netlist
   pub encoded : IsEncoded made compiled.program net
   pub text : written ≡ blif_texts.written net

@@ -1,5 +1,5 @@
 -- To believe: what the guarded C text of a source is.
-use Rattle.std.specs.Prelude.{◌≡◌, ℕ, List, ◌++◌, map, Option, codes}
+use Rattle.std.specs.Prelude.{◌≡◌, ℕ, false, List, ◌++◌, map, Option, codes}
 use Rattle.est_base.specs.declared.indices.WireId.{WireId}
 use Rattle.est_kernel.specs.Plain.{Program, given_names, outgoing_names}
 use Rattle.guard_regions.specs.Regions.{AreRegions, HeadsAreFree}
@@ -16,6 +16,7 @@ use Rattle.cec_front.specs.Sources.{StandsFor}
 use Rattle.cec_compile.specs.Compiling.{StandsForNet}
 use Rattle.cec_compile.specs.Meaning.{Keeps, Seen}
 use Rattle.cec_compile.specs.Refusals.{Compiles}
+use Rattle.cec_compile.specs.WireGroups.{is_shared}
 use Rattle.cec_compile.specs.declared.compiler.Compiled.{Compiled}
 
 -- what is seen of a call: the outputs in declared order, and the value returned
@@ -41,12 +42,13 @@ pub record StandsForGuarded (bytes : List ℕ) (main : Option (List ℕ)) (writt
   pub compiles : Compiles program
   pub keeps : GuardedTextKeeps written program
 
--- The text is that of a compiled program's netlist, from the same bytes, whose gates lie in the regions of the
--- program's graph: the gates of a head that stand one behind another are a block. A call runs the assignments of the
--- text of the C subset, but for the gates that it skips.
+-- The text is that of a compiled program's netlist, from the same bytes, whose wires are not shared, and whose gates
+-- lie in the regions of the program's graph: the gates of a head that stand one behind another are a block. A call runs
+-- the assignments of the text of that netlist in the C subset, but for the gates that it skips.
 pub record IsGuardedOf (bytes : List ℕ) (main : Option (List ℕ)) (written : List ℕ) : Type 0 where
   pub made : Compiled
   pub compiled : StandsForNet bytes main made
+  pub own : is_shared made.graph ≡ false
   pub regions : List (Option WireId)
   pub are : AreRegions made.graph regions
   pub free : HeadsAreFree regions

@@ -1,12 +1,14 @@
 pub mod Meaning
-pub mod WireNames
 pub mod NetMeaning
 pub mod Limits
 pub mod WireTexts
 pub mod Cycles
+pub mod WireGroups
+pub mod WireNames
 pub mod Refusals
 pub mod Graphs
 pub mod Compiling
+pub mod GraphsMade
 pub mod Following
 pub mod EncodedTexts
 pub mod SourceTexts

@@ -1,13 +1,12 @@
--- To believe: what it means that a text names the wires of a program's graph, and stores so many values.
-use Rattle.std.specs.Prelude.{◌≡◌, ℕ, Bool, List, ◌++◌, length, Ok, codes, decimal, ◌+◌, ◌<◌}
-use Rattle.std.specs.List.{AllZip}
+-- To believe: what it means that a text names the wires of a program's compiled graph, and stores so many values.
+use Rattle.std.specs.Prelude.{◌≡◌, ℕ, Bool, List, [], ◌++◌, length, Ok, codes, decimal, ◌+◌, ◌<◌, slice_index_or}
+use Rattle.std.specs.List.{AllZip, list_any}
 use Rattle.est_base.specs.Items.{Item}
 use Rattle.est_kernel.specs.Plain.{Program}
-use Rattle.grc_graph.specs.GraphRuns.{program_wires}
-use Rattle.grc_graph.specs.PlainGraphs.{wire_at}
 use Rattle.grc_graph.specs.Readings.{Valuation}
 use Rattle.grc_graph.specs.SelectionTrees.{body_leaves}
 use Rattle.grc_graph.specs.Walk.{State, Initial, Selecting}
+use Rattle.grc_graph.specs.Wires.{Wire}
 use Rattle.grc_sem.specs.GraphWalks.{IsWalkOf, graph_walk}
 use Rattle.machines.specs.Machines.{Machine, IsRun}
 use Rattle.blif_text.specs.Circuits.{Circuit, reading}
@@ -19,6 +18,7 @@ use Rattle.vlog_text.specs.Machine.{vlog_machine}
 use Rattle.vlog_text.specs.Texts as modules
 use Rattle.vlog_text.specs.Trees.{Module}
 use Rattle.cec_compile.specs.Meaning.{AreItems}
+use Rattle.cec_compile.specs.WireGroups.{SharesWires, wire_groups}
 
 -- the name of the wire with this number in a BLIF text
 abbrev pub wire_word : ℕ → List ℕ
@@ -28,9 +28,10 @@ wire_word n = codes "_w" ++ decimal n
 abbrev pub wire_variable : ℕ → List ℕ
 wire_variable n = codes "w" ++ decimal n
 
--- in an instant the name of each wire of the program's graph has the wire's value
-abbrev pub TellsWires : (ℕ → List ℕ) → Program → (List ℕ → Bool) → Valuation → Type 0
-TellsWires name p v V = (n : ℕ) → n < length (program_wires p) → v (name n) ≡ V (wire_at (program_wires p) n)
+-- in an instant the name of each wire of the compiled graph is true where one of the wires is that it stands for
+abbrev pub TellsWires : (ℕ → List ℕ) → List (List Wire) → (List ℕ → Bool) → Valuation → Type 0
+TellsWires name groups v V =
+    (n : ℕ) → n < length groups → v (name n) ≡ list_any V (slice_index_or groups n [])
 
 -- The walk of a program from instant to instant, as a machine: in an instant the wires of the program's graph have the
 -- values of the walk of the state under coherent statuses, and the pauses that this walk keeps are the next state.
@@ -43,16 +44,19 @@ walk_machine p = record {
 }
 
 -- The program is walked over the items, from instant to instant, and in each the names tell the wires.
-pub record WiresTold (name : ℕ → List ℕ) (p : Program) (items : List Item) (valuations : List (List ℕ → Bool)) :
-    Type 0 where
+pub record WiresTold (name : ℕ → List ℕ) (groups : List (List Wire)) (p : Program) (items : List Item)
+    (valuations : List (List ℕ → Bool)) : Type 0 where
   pub run : List Valuation
   pub is_run : IsRun (walk_machine p) items run
-  pub told : AllZip (TellsWires name p) valuations run
+  pub told : AllZip (TellsWires name groups) valuations run
 
--- Along each run of a machine the names tell the wires of the program's graph.
+-- Along each run of a machine the names tell the wires of the program's compiled graph, which are shared exactly where
+-- the edges between shared wires have no cycle.
 pub record NamesWires (M : Machine (List ℕ → Bool)) (name : ℕ → List ℕ) (p : Program) : Type 0 where
+  pub shared : Bool
+  pub shares : SharesWires p shared
   pub wires : (items : List Item) → AreItems p items → (valuations : List (List ℕ → Bool)) → IsRun M items valuations
-      → WiresTold name p items valuations
+      → WiresTold name (wire_groups shared p) p items valuations
 
 -- as many values as the selection tree has leaves, and one more, for the first instant
 abbrev pub one_per_leaf : Program → ℕ

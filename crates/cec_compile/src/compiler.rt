@@ -1,11 +1,10 @@
 // The compiler: its passes, in their order.
 
-ghost use Rattle.std.specs.Prelude.{◌≡◌, ◌≤◌, ℕ, List, Option, length, map, IfOk, IfErr, option_map};
+ghost use Rattle.std.specs.Prelude.{◌≡◌, ◌≤◌, ℕ, false, List, Option, length, map, IfOk, IfErr, option_map};
 ghost use Rattle.est_kernel.specs.CodeLists.{AreCodesOf};
 ghost use Rattle.est_kernel.specs.Plain.{program_of, term_of};
 ghost use Rattle.est_kernel.specs.StaticCodes.{NoInstantLoop};
 ghost use Rattle.est_kernel.specs.WellFormed.{IsWellFormed, HasNames};
-ghost use Rattle.grc_graph.specs.BuiltGraphs.{IsGraphOf};
 ghost use Rattle.grc_graph.specs.GraphRuns.{program_edges};
 ghost use Rattle.grc_graph.specs.NumberedEdges.{AreEdgesOf};
 ghost use Rattle.grc_graph.specs.PlainGraphs.{formula_of, instances_of, names_of};
@@ -20,7 +19,9 @@ ghost use Rattle.cec_compile.specs.Compiling.{StandsForC, StandsForVerilog, IsBl
 ghost use Rattle.cec_compile.specs.EncodedTexts.{StandsForEncoded, IsEncodedBlifOf};
 ghost use Rattle.cec_compile.specs.Following.{FollowsGraph};
 ghost use Rattle.cec_compile.specs.Graphs.{IsBuilt};
+ghost use Rattle.cec_compile.specs.GraphsMade.{IsOwnOrShared, IsRanked};
 ghost use Rattle.cec_compile.specs.Refusals.{DoesNotCompile, IsRefused};
+ghost use Rattle.cec_compile.specs.WireGroups.{SharesWires, is_shared};
 
 use crate::cycles::cycle_of;
 use crate::forms::TextForm;
@@ -34,13 +35,15 @@ use est_base::{Limits, NoMemory};
 use grc_dep::{Ranked, cycle_or_rank, edges};
 use grc_graph::{Edges, Graph, Order, Ranks};
 use grc_order::{Picker, order};
+use grc_share::{SharedOrFull, share};
 use net_gen::generate;
 use net_ir::Net;
 use net_simp::simplify;
+use share_laws::{shared_orders_are_reading_orders, shared_ranks_go_up};
 use std::alloc::Global;
 use vlog_text::VlogWriter;
 
-/// The graph of a program, its dependency edges, and ranks that grow along them.
+/// The graph of a program, or that of its shared wires, the edges between its wires, and ranks that grow along them.
 #[derive(Drop)]
 pub struct Graphed {
     pub graph: Graph,
@@ -48,8 +51,8 @@ pub struct Graphed {
     pub ranks: Ranks,
 }
 
-/// A compiled program: its graph, which has the kernel program, the live instances and the selection tree, an
-/// evaluation order of its wires, and its simplified netlist.
+/// A compiled program: its graph, or that of its shared wires, which has the kernel program, the instances and the
+/// selection tree, an evaluation order of the graph's wires, and the simplified netlist.
 #[derive(Drop)]
 pub struct Compiled {
     pub graph: Graph,
@@ -153,7 +156,8 @@ pub fn verilog_of<P: Picker>(
 }
 
 /// A source compiled: its graph, an evaluation order, and its simplified netlist, which has the graph's values in each
-/// state. The errors are those of `blif_of`.
+/// state. The graph is that of the program's shared wires where the edges between these have no cycle, else the
+/// program's own. The errors are those of `blif_of`.
 pub fn compile<P: Picker>(
     alloc: Global,
     text: &[u8],
@@ -162,6 +166,30 @@ pub fn compile<P: Picker>(
 ) -> Result<Compiled, Refusal>
     requires { length text.now ≤ Limits.SOURCE_BYTES }
     ensures compiles { IfOk result (StandsForNet text.now (option_map (λ m. m.now) main.entry)) }
+    ensures shares { IfOk result (λ c. SharesWires (program_of c.graph.program) (is_shared c.graph)) }
+    ensures follows { IfOk result FollowsGraph }
+    ensures refuses { IfErr result (IsRefused text.now (option_map (λ m. m.now) main.entry)) }
+{
+    let found = source_graph(alloc, text, main)?;
+    let ranked = shared_where_possible(alloc, found)?;
+    let made = ordered_net(alloc, &ranked, picker)?;
+    Ok(Compiled {
+        graph: ranked.graph,
+        order: made.order,
+        net: made.net,
+    })
+}
+
+/// A source compiled by its program's own graph, whose wires are not shared. The errors are those of `blif_of`.
+pub fn compile_unshared<P: Picker>(
+    alloc: Global,
+    text: &[u8],
+    main: Option<&[u8]>,
+    picker: &mut P,
+) -> Result<Compiled, Refusal>
+    requires { length text.now ≤ Limits.SOURCE_BYTES }
+    ensures compiles { IfOk result (StandsForNet text.now (option_map (λ m. m.now) main.entry)) }
+    ensures own { IfOk result (λ c. is_shared c.graph ≡ false) }
     ensures follows { IfOk result FollowsGraph }
     ensures refuses { IfErr result (IsRefused text.now (option_map (λ m. m.now) main.entry)) }
 {
@@ -172,6 +200,34 @@ pub fn compile<P: Picker>(
         order: made.order,
         net: made.net,
     })
+}
+
+// The graph of the shared wires, where the edges between these have no cycle, else the program's own as it is.
+fn shared_where_possible(alloc: Global, found: Graphed) -> Result<Graphed, NoMemory>
+    requires { IsGraphed found (program_of found.graph.program) }
+    ensures program { IfOk result (λ g. program_of g.graph.program ≡ program_of found.graph.program) }
+    ensures ranked { IfOk result (λ g. IsRanked g (program_of found.graph.program)) }
+    ensures shares { IfOk result (λ g. SharesWires (program_of found.graph.program) (is_shared g.graph)) }
+{
+    shared_ranks_go_up();
+    shared_orders_are_reading_orders();
+    let Graphed {
+        graph,
+        edges,
+        ranks,
+    } = found;
+    match share(alloc, graph, &edges)? {
+        SharedOrFull::Shared(shared) => Ok(Graphed {
+            graph: shared.graph,
+            edges: shared.edges,
+            ranks: shared.ranks,
+        }),
+        SharedOrFull::Full(graph, _) => Ok(Graphed {
+            graph,
+            edges,
+            ranks,
+        }),
+    }
 }
 
 /// An evaluation order of a graph's wires, and the simplified netlist along it.
@@ -187,7 +243,7 @@ fn ordered_net<P: Picker>(
     found: &Graphed,
     picker: &mut P,
 ) -> Result<OrderedNet, NoMemory>
-    requires { IsGraphed found.now (program_of found.now.graph.program) }
+    requires { IsRanked found.now (program_of found.now.graph.program) }
     ensures compiled { IfOk result (λ made. IsCompiled
         (record { graph = found.now.graph; order = made.order; net = made.net })
         (program_of found.now.graph.program)) }
@@ -202,12 +258,12 @@ fn ordered_net<P: Picker>(
 // The simplified netlist of a graph along an order in which its equations read.
 fn graph_net(alloc: Global, graph: &Graph, order: &Order) -> Result<Net, NoMemory>
     requires names { HasNames (program_of graph.now.program) }
+    requires graph { IsOwnOrShared graph.now (program_of graph.now.program) }
     requires order { IsReadingOrder (names_of graph.now)
         (map (formula_of (instances_of graph.now) (names_of graph.now)) graph.now.equations.items)
         order.now.list.items }
     ensures order { IfOk result (λ net. carried net.gates.items ≡ map (λ v. v.0) order.now.list.items) }
-    ensures linear { IfOk result (λ net. IsGraphOf graph.now (program_of graph.now.program)
-        → length net.gates.items ≤ linear_bound (program_of graph.now.program)) }
+    ensures linear { IfOk result (λ net. length net.gates.items ≤ linear_bound (program_of graph.now.program)) }
     ensures follows { IfOk result (λ net. FollowsGraph
         (record { graph = graph.now; order = order.now; net = net })) }
     ensures simple { IfOk result (λ net. IsSimple (netlist_of net)) }

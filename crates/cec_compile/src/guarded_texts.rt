@@ -3,7 +3,8 @@
 ghost use Rattle.std.specs.Prelude.{◌≤◌, [], Some, length, IfOk, IfErr, MatchResult, option_map};
 ghost use Rattle.est_base.specs.SinkChanges.{change};
 ghost use Rattle.est_base.specs.Writing.{Appends};
-ghost use Rattle.est_kernel.specs.Plain.{Program};
+ghost use Rattle.est_kernel.specs.Plain.{Program, program_of};
+ghost use Rattle.grc_graph.specs.BuiltGraphs.{IsGraphOf};
 ghost use Rattle.text_io.specs.Writings.{LeavesPieces};
 ghost use Rattle.cec_compile.specs.Compiling.{IsCompiled};
 ghost use Rattle.cec_compile.specs.Following.{FollowsGraph};
@@ -14,7 +15,7 @@ ghost use Rattle.cec_compile.specs.SourceTexts.{IsSourceText};
 ghost use Rattle.cec_compile.specs.Sources.{IsSource};
 ghost use Rattle.cec_compile.specs.declared.forms.TextForm.TheVariants.{Guarded};
 
-use crate::compiler::{Compiled, compile};
+use crate::compiler::{Compiled, compile_unshared};
 use crate::forms::TextForm;
 use crate::made::{Made, made_in};
 use crate::refusal::Refusal;
@@ -32,10 +33,11 @@ pub struct GuardedMade {
     pub text: Vec<u8>,
 }
 
-/// The guarded C text of a source, likewise: the text is that of `c_of`, but that the gates of a head that stand one
-/// behind another are a block, which a call skips where the head does not run. The theorem holds of it by the machine
-/// of guarded programs (`GuardedTextKeeps`), and a call runs the assignments of the text of `c_of` but for the gates
-/// that it skips (`IsGuardedOf`). It refuses what `blif_of` refuses.
+/// The guarded C text of a source, likewise: the text is that of the program's own graph, whose wires are not shared,
+/// in the C subset, but that the gates of a head that stand one behind another are a block, which a call skips where
+/// the head does not run. The theorem holds of it by the machine of guarded programs (`GuardedTextKeeps`), and a call
+/// runs the assignments of that text but for the gates that it skips (`IsGuardedOf`). It refuses what `blif_of`
+/// refuses.
 pub fn guarded_c_of<P: Picker>(
     alloc: Global,
     text: &[u8],
@@ -65,7 +67,7 @@ pub fn guarded_made<P: Picker>(
         source.now g.text.items) }
     ensures refuses { IfErr result (IsRefused source.now (option_map (λ m. m.now) main.entry)) }
 {
-    let compiled = compile(alloc, source, main, picker)?;
+    let compiled = compile_unshared(alloc, source, main, picker)?;
     let text = guarded_text(alloc, &compiled)?;
     let made = made_in(alloc, TextForm::Guarded, compiled)?;
     Ok(GuardedMade { made, text })
@@ -74,6 +76,7 @@ pub fn guarded_made<P: Picker>(
 // The guarded text of a compiled program.
 fn guarded_text(alloc: Global, compiled: &Compiled) -> Result<Vec<u8>, NoMemory>
     requires follows { FollowsGraph compiled.now }
+    requires built { IsGraphOf compiled.now.graph (program_of compiled.now.graph.program) }
     ensures { IfOk result (λ text. (p : Program) → IsCompiled compiled.now p → IsGuardedBy compiled.now text.items) }
 {
     let regions = regions(alloc, &compiled.graph)?;
@@ -98,7 +101,7 @@ pub fn write_guarded_text<P: Picker, O: Sink>(
         (λ _. Appends (O.told out.old) (O.told out.new) (O.faults out.old) (O.faults out.new) []) }
     ensures refuses { IfErr result (IsRefused source.now (option_map (λ m. m.now) main.entry)) }
 {
-    match compile(alloc, source, main, picker) {
+    match compile_unshared(alloc, source, main, picker) {
         Ok(compiled) => Ok(write_compiled(alloc, &compiled, out)),
         Err(refusal) => Err(refusal),
     }
@@ -106,7 +109,8 @@ pub fn write_guarded_text<P: Picker, O: Sink>(
 
 // Writes the guarded text of a compiled program, piece by piece.
 fn write_compiled<O: Sink>(alloc: Global, compiled: &Compiled, out: &mut O) -> Written
-    requires { FollowsGraph compiled.now }
+    requires follows { FollowsGraph compiled.now }
+    requires built { IsGraphOf compiled.now.graph (program_of compiled.now.graph.program) }
     ensures { LeavesPieces (λ text. (p : Program) → IsCompiled compiled.now p → IsGuardedBy compiled.now text)
         (change O.told O.faults out.old out.new) (Some result) }
 {

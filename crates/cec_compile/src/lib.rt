@@ -17,7 +17,8 @@ mod source_texts;
 mod wire_texts;
 
 pub use compiler::{
-    Compiled, Graphed, blif_of, c_of, compile, encoded_blif_of, source_graph, verilog_of,
+    Compiled, Graphed, blif_of, c_of, compile, compile_unshared, encoded_blif_of, source_graph,
+    verilog_of,
 };
 pub use cycles::Cycle;
 pub use forms::TextForm;

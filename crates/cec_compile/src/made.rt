@@ -1,20 +1,22 @@
 // The netlist of a source that a text of a form is written of.
 
-ghost use Rattle.std.specs.Prelude.{◌≡◌, ◌+◌, ◌*◌, ◌≤◌, true, false, ◌∷◌, length, replicate, IfOk, IfErr, option_map};
-ghost use Rattle.est_kernel.specs.Plain.{Program};
+ghost use Rattle.std.specs.Prelude.{◌≡◌, ◌+◌, ◌*◌, ◌≤◌, ◌^◌, true, false, ◌∷◌, length, replicate, IfOk, IfErr};
+ghost use Rattle.std.specs.Prelude.{option_map};
+ghost use Rattle.est_kernel.specs.Plain.{Program, program_of};
 ghost use Rattle.est_kernel.specs.Terms.{Term};
 ghost use Rattle.net_ir.specs.Runs.{netlist_of, initial_latches};
 ghost use Rattle.net_simp.specs.SimpleNets.{IsSimple};
 ghost use Rattle.state_enc.specs.Encodings.{IsTreeOf, Encodes};
-ghost use Rattle.cec_compile.specs.Compiling.{IsCompiled};
+ghost use Rattle.cec_compile.specs.Compiling.{IsCompiled, StandsForNet};
 ghost use Rattle.cec_compile.specs.Following.{FollowsGraph};
-ghost use Rattle.cec_compile.specs.MadeNets.{IsMade, IsNetIn};
+ghost use Rattle.cec_compile.specs.MadeNets.{IsMade, IsNetIn, IsSharedIn};
 ghost use Rattle.cec_compile.specs.Refusals.{IsRefused};
+ghost use Rattle.cec_compile.specs.WireGroups.{is_shared};
 
-use crate::compiler::{Compiled, compile};
+use crate::compiler::{Compiled, compile, compile_unshared};
 use crate::forms::TextForm;
 use crate::refusal::Refusal;
-use est_base::{Limits, NoMemory};
+use est_base::{Limits, NoMemory, Stop};
 use est_kernel::KernelProgram;
 use grc_graph::{Graph, SelTree};
 use grc_order::Picker;
@@ -42,9 +44,32 @@ pub fn source_made<P: Picker>(
     ensures made { IfOk result (IsMade form source.now (option_map (λ m. m.now) main.entry)) }
     ensures refuses { IfErr result (IsRefused source.now (option_map (λ m. m.now) main.entry)) }
 {
-    let compiled = compile(alloc, source, main, picker)?;
+    let compiled = compiled_for(alloc, form, source, main, picker)?;
     let made = made_in(alloc, form, compiled)?;
     Ok(made)
+}
+
+// A source compiled for a text of a form. The blocks of a guarded text are told by the program's own graph, so that its
+// wires are not shared.
+fn compiled_for<P: Picker>(
+    alloc: Global,
+    form: TextForm,
+    source: &[u8],
+    main: Option<&[u8]>,
+    picker: &mut P,
+) -> Result<Compiled, Refusal>
+    requires { length source.now ≤ Limits.SOURCE_BYTES }
+    ensures compiles { IfOk result (StandsForNet source.now (option_map (λ m. m.now) main.entry)) }
+    ensures shares { IfOk result (λ c. IsSharedIn form (program_of c.graph.program) (is_shared c.graph)) }
+    ensures follows { IfOk result FollowsGraph }
+    ensures refuses { IfErr result (IsRefused source.now (option_map (λ m. m.now) main.entry)) }
+{
+    match form {
+        TextForm::Guarded => compile_unshared(alloc, source, main, picker),
+        TextForm::Blif | TextForm::EncodedBlif | TextForm::C | TextForm::Verilog => {
+            compile(alloc, source, main, picker)
+        }
+    }
 }
 
 /// What a text of a form is written of, of a compiled program.
@@ -73,13 +98,31 @@ pub fn made_in(alloc: Global, form: TextForm, compiled: Compiled) -> Result<Made
 fn encoded_net(alloc: Global, net: &Net, tree: &SelTree) -> Result<Net, NoMemory>
     requires tree { (body : Term) × IsTreeOf tree.now body }
     requires latches { initial_latches (netlist_of net.now) ≡ true ∷ replicate tree.now.leaves false }
+    requires few { length net.now.inputs.items + length net.now.gates.items ≤ 2 ^ 31 }
     ensures encodes { IfOk result (λ new. (body : Term) → IsTreeOf tree.now body
         → Encodes (netlist_of net.now) (netlist_of new) body) }
     ensures size { IfOk result (λ new. length new.gates.items ≤ length net.now.gates.items
         + 64 * (length tree.now.nodes.items * length new.latches.items)) }
     ensures simple { IfOk result (λ new. IsSimple (netlist_of new)) }
 {
-    let coded = encode(alloc, net, tree)?;
+    let coded = coded_net(alloc, net, tree)?;
     let made = simplify(alloc, coded)?;
     Ok(made)
+}
+
+// The same before it is simplified. The limit on wires keeps the netlist's gates few.
+fn coded_net(alloc: Global, net: &Net, tree: &SelTree) -> Result<Net, NoMemory>
+    requires tree { (body : Term) × IsTreeOf tree.now body }
+    requires latches { initial_latches (netlist_of net.now) ≡ true ∷ replicate tree.now.leaves false }
+    requires few { length net.now.inputs.items + length net.now.gates.items ≤ 2 ^ 31 }
+    ensures encodes { IfOk result (λ new. (body : Term) → IsTreeOf tree.now body
+        → Encodes (netlist_of net.now) (netlist_of new) body) }
+    ensures size { IfOk result (λ new. length new.gates.items ≤ length net.now.gates.items
+        + 64 * (length tree.now.nodes.items * length new.latches.items)) }
+{
+    match encode(alloc, net, tree) {
+        Ok(coded) => Ok(coded),
+        Err(Stop::Fault(_)) => unreachable!(),
+        Err(Stop::NoMemory) => Err(NoMemory),
+    }
 }

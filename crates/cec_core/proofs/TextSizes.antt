@@ -34,7 +34,6 @@ use Rattle.cec_compile.specs.MadeNets.{IsMade}
 use Rattle.cec_core.specs.NetTexts.{IsWritten, TextsFit}
 use Rattle.cec_compile.specs.GuardedTexts.{IsGuardedOf}
 use Rattle.cec_compile.specs.Sources.{WritesLongText}
-use Rattle.cec_compile.proofs.Exports.{wire_count}
 use Rattle.cec_front.proofs.Exports.{HasRoom, source-room, given-room, outgoing-room}
 
 -- ---- what is counted of the netlist of a compiled program
@@ -55,11 +54,10 @@ wires_fit (g ∷ gates) all =
 -- each wire of a compiled program has one of few numbers
 wires_low : (c : Compiled) (p : Program) → IsCompiled c p → All Fits (carried c.net.gates.items)
 wires_low c p h =
-    let few = h.graph.few in
-    let count = wire_count c.graph p h.graph in
     subst (λ l. All Fits l) (sym h.carried)
     (All-map Fits (λ (v : WireId). v.0) c.order.list.items
-    (All-weaker (λ (w : WireId). w.0 < length c.graph.wires.items) (λ w. w.0 < 2 ^ 32) (λ w low. omega (arith, low, count, few)) c.order.list.items
+    (All-weaker (λ (w : WireId). w.0 < length c.graph.wires.items) (λ w. w.0 < 2 ^ 32)
+    (λ w low. omega (arith, low, c.graph.few.size, c.graph.few.gates)) c.order.list.items
     h.along.order.in_range))
 
 writable : (c : Compiled) (p : Program) → IsCompiled c p → IsWritable (netlist_of c.net)
@@ -159,13 +157,13 @@ long_text forms.C bytes main made text short m w guarded long =
 long_text forms.EncodedBlif bytes main made text short m w guarded long = record {
   short = short;
   text = text;
-  written = record { made = m.compiled; compiled = m.source; net = netlist_of made.net; encoded = m.net; text = w.spelled };
+  written = record { made = m.compiled; compiled = m.source; shares = m.shares; net = netlist_of made.net; encoded = m.net; text = w.spelled };
   long = long;
 }
 long_text forms.Guarded bytes main made text short m w guarded long = record { short = short; text = text; written = guarded refl; long = long }
 long_text forms.Verilog bytes main made text short m w guarded long = record {
   short = short;
   text = text;
-  written = record { made = m.compiled; compiled = m.source; text = w.spelled ∙ ap verilog_texts.written m.net };
+  written = record { made = m.compiled; compiled = m.source; shares = m.shares; text = w.spelled ∙ ap verilog_texts.written m.net };
   long = long;
 }

@@ -3,3 +3,4 @@ mod WorkedLines
 mod WorkedOutcomes
 mod WorkedAnswers
 mod WorkedRequests
+mod WorkedSubjects

@@ -1,10 +1,19 @@
--- Inner: what a graph's reactions ask of a compiled program.
+-- Inner: what a graph's reactions ask of a compiled program, and what is asked of a graph whose wires are shared.
 use Rattle.est_kernel.specs.Plain.{program_of}
 use Rattle.est_kernel.specs.StaticCodes.{NoInstantLoop}
+use Rattle.grc_graph.specs.declared.graph.Graph.{Graph}
+use Rattle.grc_graph.specs.BuiltGraphs.{IsGraphOf}
+use Rattle.grc_graph.specs.PlainGraphs.{names_of}
+use Rattle.grc_solutions.specs.GraphWires.{Differ}
 use Rattle.cec_compile.specs.Compiling.{IsCompiled}
 use Rattle.cec_compile.specs.declared.compiler.Compiled.{Compiled}
 
--- the program of the graph was compiled, and none of its loops is instantaneous
+-- the program of the graph was compiled, none of its loops is instantaneous, and no two wires are one
 pub record IsAnyCompiled (c : Compiled) : Type 0 where
   pub no_loop : NoInstantLoop (program_of c.graph.program).body
   pub compiled : IsCompiled c (program_of c.graph.program)
+  pub differ : Differ (names_of c.graph)
+
+-- the graph is that of its program
+pub record IsAnyBuilt (g : Graph) : Type 0 where
+  pub graph : IsGraphOf g (program_of g.program)

@@ -1,10 +1,11 @@
 // Shared wires of worked sources.
 
-ghost use Rattle.cec_tests.specs.Reacting.{IsAnyCompiled};
+ghost use Rattle.cec_tests.specs.Reacting.{IsAnyBuilt};
 
-use cec_compile::{Compiled, compile};
+use cec_compile::{compile, graph_of};
 use est_base::Limits;
 use grc_dep::edges;
+use grc_graph::Graph;
 use grc_order::First;
 use grc_share::{SharedGraph, SharedOrFull, share, shared_wires};
 use std::alloc::Global;
@@ -51,6 +52,15 @@ fn wires_of_worked_sources_are_shared(rt: HostRuntime) -> Result<(), Fail> {
         let (counts, shared) = shared_counts(alloc, source.as_bytes())?;
         assert_eq!(rt; counts, *wanted, "{source}");
         assert_eq!(rt; shared, *wanted_shared, "{source}");
+        let compiled = match wanted_shared {
+            Some((wires, _, _)) => *wires,
+            None => wanted.0,
+        };
+        assert_eq!(rt;
+            compiled_wires(alloc, source.as_bytes())?,
+            compiled,
+            "{source}"
+        );
     }
     Ok(())
 }
@@ -63,29 +73,37 @@ fn shared_counts(
     if source.len() as u64 > Limits::SOURCE_BYTES {
         return Ok(((0, 0, 0), None));
     }
-    let compiled = compile(alloc, source, None, &mut First)?;
-    let graph = &compiled.graph;
-    let count = shared_wires(alloc, graph)?.members.len();
+    let graph = graph_of(alloc, source, None)?;
+    let count = shared_wires(alloc, &graph)?.members.len();
     let counts = (graph.wires.len(), graph.instances.list.len(), count);
-    Ok((counts, graph_counts(alloc, &compiled)?))
+    Ok((counts, graph_counts(alloc, graph)?))
 }
 
-// What the shared graph of a compiled program has, where there is one.
-fn graph_counts(alloc: Global, compiled: &Compiled) -> Result<Option<Counts>, Fail>
-    requires { IsAnyCompiled compiled.now }
+// How many wires the graph has that a source is compiled by.
+fn compiled_wires(alloc: Global, source: &[u8]) -> Result<usize, Fail> {
+    if source.len() as u64 > Limits::SOURCE_BYTES {
+        return Ok(0);
+    }
+    let compiled = compile(alloc, source, None, &mut First)?;
+    Ok(compiled.graph.wires.len())
+}
+
+// What the shared graph of a graph has, where there is one.
+fn graph_counts(alloc: Global, graph: Graph) -> Result<Option<Counts>, Fail>
+    requires { IsAnyBuilt graph }
 {
-    let graph = &compiled.graph;
-    let edges = edges(alloc, graph)?;
+    let edges = edges(alloc, &graph)?;
     match share(alloc, graph, &edges)? {
         SharedOrFull::Shared(shared) => Ok(Some(counts_of(&shared))),
-        SharedOrFull::Full(_) => Ok(None),
+        SharedOrFull::Full(_, _) => Ok(None),
     }
 }
 
 fn counts_of(shared: &SharedGraph) -> Counts {
+    let graph = &shared.graph;
     (
-        shared.equations.len(),
-        shared.instances.list.len(),
-        shared.next.len(),
+        graph.equations.len(),
+        graph.instances.list.len(),
+        graph.next.len(),
     )
 }

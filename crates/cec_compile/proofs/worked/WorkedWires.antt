@@ -1,26 +1,31 @@
 -- Names of wires and numbers of stored values, by hand, and what the passes make of a source, field by field.
 use Rattle.std.proofs.Common.{◌≡◌, ◌+◌, ◌*◌, ◌<◌, ◌≤◌, ℕ, Bool, true, false, List, [], ◌∷◌, length, map, Option, Ok, codes, refl}
 use Rattle.std.specs.Fmt.{digits}
-use Rattle.std.specs.Prelude.{replicate}
-use Rattle.std.specs.List.{AllZip}
+use Rattle.std.specs.Prelude.{is_some, replicate, slice_index_or}
+use Rattle.std.specs.List.{AllZip, list_any}
 use Rattle.est_base.specs.Items.{Item}
-use Rattle.est_kernel.specs.Plain.{Program}
+use Rattle.est_kernel.specs.Plain.{Program, program_of}
 use Rattle.est_kernel.specs.StaticCodes.{NoInstantLoop}
 use Rattle.est_kernel.specs.Terms.{Pause, Seq, Par, Nothing}
 use Rattle.est_kernel.specs.WellFormed.{IsWellFormed, HasNames}
 use Rattle.machines.specs.Machines.{Machine, IsRun}
+use Rattle.grc_graph.specs.declared.graph.Graph.{Graph}
 use Rattle.grc_graph.specs.BuiltGraphs.{IsGraphOf}
 use Rattle.grc_graph.specs.GraphRuns.{program_edges, program_wires}
 use Rattle.grc_graph.specs.Instances.{body_instances}
+use Rattle.grc_graph.specs.Layers.{Started}
 use Rattle.grc_graph.specs.NumberedEdges.{AreEdgesOf}
-use Rattle.grc_graph.specs.PlainGraphs.{formula_of, instances_of, names_of, wire_at}
+use Rattle.grc_graph.specs.Orders.{GoUp}
+use Rattle.grc_graph.specs.PlainGraphs.{formula_of, instances_of, names_of}
 use Rattle.grc_graph.specs.Reads.{IsReadingOrder}
 use Rattle.grc_graph.specs.Readings.{Valuation}
 use Rattle.grc_graph.specs.SelectionTrees.{body_leaves, body_tree}
 use Rattle.grc_graph.specs.TreeForms.{node_of}
 use Rattle.grc_graph.specs.Walk.{Selecting}
 use Rattle.grc_graph.specs.WireOrders.{AreRanks, IsWireOrder}
+use Rattle.grc_graph.specs.Wires.{Wire, Go}
 use Rattle.grc_sem.specs.GraphWalks.{IsWalkOf, graph_walk}
+use Rattle.grc_share.specs.SharedWires.{members, shared_edges, shared_wires}
 use Rattle.guard_owners.specs.Blocks.{guarded_text}
 use Rattle.guard_owners.specs.Owners.{owners}
 use Rattle.guard_regions.specs.Regions.{AreRegions, HeadsAreFree}
@@ -45,12 +50,14 @@ use Rattle.vlog_text.specs.Written as verilog_texts
 use Rattle.cec_front.specs.Sources.{StandsFor}
 use Rattle.cec_compile.specs.Compiling.{IsGraphed, FollowsEdges, IsCompiled, StandsForGraph, StandsForNet, StandsForText, StandsForC, StandsForVerilog}
 use Rattle.cec_compile.specs.Compiling.{IsBlifOf, IsCOf, IsVerilogOf}
+use Rattle.cec_compile.specs.Cycles.{IsCycle}
 use Rattle.cec_compile.specs.EncodedTexts.{IsEncoded, StandsForEncoded, IsEncodedBlifOf}
 use Rattle.cec_compile.specs.GuardedTexts.{GuardedTextKeeps, StandsForGuarded, IsGuardedOf}
 use Rattle.cec_compile.specs.Meaning.{AreItems, TextKeeps, CTextKeeps, VerilogTextKeeps}
 use Rattle.cec_compile.specs.NetMeaning.{NetKeeps}
 use Rattle.cec_compile.specs.Refusals.{Compiles}
 use Rattle.cec_compile.specs.SourceTexts.{IsSourceText}
+use Rattle.cec_compile.specs.WireGroups.{SharesWires, graph_edges, graph_wires, is_shared, wire_groups}
 use Rattle.cec_compile.specs.WireNames.{wire_word, wire_variable, TellsWires, walk_machine, WiresTold, NamesWires, one_per_leaf, TextNames, CTextNames}
 use Rattle.cec_compile.specs.WireNames.{VerilogTextNames}
 use Rattle.cec_compile.specs.declared.compiler.Compiled.{Compiled}
@@ -76,9 +83,27 @@ stored = refl
 
 -- ---- wires
 
-told_wires : (name : ℕ → List ℕ) (p : Program) (v : List ℕ → Bool) (V : Valuation) → TellsWires name p v V
-    → (n : ℕ) → n < length (program_wires p) → v (name n) ≡ V (wire_at (program_wires p) n)
-told_wires name p v V h = h
+told_wires : (name : ℕ → List ℕ) (groups : List (List Wire)) (v : List ℕ → Bool) (V : Valuation) → TellsWires name groups v V
+    → (n : ℕ) → n < length groups → v (name n) ≡ list_any V (slice_index_or groups n [])
+told_wires name groups v V h = h
+
+-- a wire by itself, and two that are one
+of_groups : (V : Valuation) → V (Go 1 (Started 0)) ≡ false → V (Go 1 (Started 1)) ≡ true
+    → map (λ group. list_any V group) ((Go 1 (Started 0) ∷ []) ∷ (Go 1 (Started 0) ∷ (Go 1 (Started 1) ∷ [])) ∷ []) ≡ false ∷ true ∷ []
+of_groups V off on = rw (off, on) refl
+
+grouped : (p : Program) → (wire_groups false p ≡ map (λ w. w ∷ []) (program_wires p)) × (wire_groups true p ≡ map (members p) (shared_wires p))
+grouped p = (refl, refl)
+
+named_wires : (p : Program) → (graph_wires false p ≡ program_wires p) × (graph_wires true p ≡ shared_wires p)
+    × (graph_edges false p ≡ program_edges p) × (graph_edges true p ≡ shared_edges p)
+named_wires p = (refl, refl, refl, refl)
+
+where_shared : (p : Program) → ((h : SharesWires p true) → GoUp h.rank (shared_edges p)) × ((h : SharesWires p false) → IsCycle (shared_edges p) h.walk)
+where_shared p = (λ h. h.up, λ h. h.cycle)
+
+told_apart : (g : Graph) → is_shared g ≡ is_some g.loops
+told_apart g = refl
 
 walked : (p : Program) (event : List Bool) (V : Valuation)
     → (walk_machine p).next (walk_machine p).start event V ≡ Selecting (graph_walk p (walk_machine p).start event V).kept
@@ -88,13 +113,13 @@ walked_instants : (p : Program) (event : List Bool) (V : Valuation) → (walk_ma
     → IsWalkOf p (walk_machine p).start event V
 walked_instants p event V h = h
 
-along_a_run : (name : ℕ → List ℕ) (p : Program) (items : List Item) (vs : List (List ℕ → Bool)) (h : WiresTold name p items vs)
-    → IsRun (walk_machine p) items h.run × AllZip (TellsWires name p) vs h.run
-along_a_run name p items vs h = (h.is_run, h.told)
+along_a_run : (name : ℕ → List ℕ) (groups : List (List Wire)) (p : Program) (items : List Item) (vs : List (List ℕ → Bool))
+    (h : WiresTold name groups p items vs) → IsRun (walk_machine p) items h.run × AllZip (TellsWires name groups) vs h.run
+along_a_run name groups p items vs h = (h.is_run, h.told)
 
-along_each_run : (M : Machine (List ℕ → Bool)) (name : ℕ → List ℕ) (p : Program) → NamesWires M name p → (items : List Item) → AreItems p items
-    → (vs : List (List ℕ → Bool)) → IsRun M items vs → WiresTold name p items vs
-along_each_run M name p h = h.wires
+along_each_run : (M : Machine (List ℕ → Bool)) (name : ℕ → List ℕ) (p : Program) (h : NamesWires M name p) → SharesWires p h.shared
+    × ((items : List Item) → AreItems p items → (vs : List (List ℕ → Bool)) → IsRun M items vs → WiresTold name (wire_groups h.shared p) p items vs)
+along_each_run M name p h = (h.shares, h.wires)
 
 of_texts : (n : ℕ) (text : List ℕ) (p : Program) (h : TextNames n text p)
     → (reading text ≡ Ok h.circuit) × (length h.circuit.latches ≡ n) × NamesWires (circuit_machine h.circuit) wire_word p
@@ -118,16 +143,17 @@ what_is_graphed : (g : Graphed) (p : Program) (h : IsGraphed g p) → IsWellForm
 what_is_graphed g p h = (h.formed, h.names, h.no_loop, h.few, h.graph, h.tree, h.leaves, h.count, h.edges, h.ranks)
 
 along_edges : (c : Compiled) (p : Program) (h : FollowsEdges c p)
-    → AreEdgesOf (names_of c.graph) (program_edges p) h.pairs × IsWireOrder (length c.graph.wires.items) h.pairs c.order.list.items
+    → AreEdgesOf (names_of c.graph) (graph_edges (is_shared c.graph) p) h.pairs × IsWireOrder (length c.graph.wires.items) h.pairs c.order.list.items
 along_edges c p h = (h.edges, h.order)
 
-what_is_compiled : (c : Compiled) (p : Program) (h : IsCompiled c p) → IsWellFormed p × NoInstantLoop p.body × Compiles p × IsGraphOf c.graph p
+what_is_compiled : (c : Compiled) (p : Program) (h : IsCompiled c p) → IsWellFormed p × NoInstantLoop p.body × Compiles p
+    × (program_of c.graph.program ≡ p) × (names_of c.graph ≡ graph_wires (is_shared c.graph) p) × (is_shared c.graph ≡ false → IsGraphOf c.graph p)
     × (map node_of c.graph.tree.nodes.items ≡ body_tree p.body) × (c.graph.tree.leaves ≡ length (body_leaves p.body))
     × IsReadingOrder (names_of c.graph) (map (formula_of (instances_of c.graph) (names_of c.graph)) c.graph.equations.items) c.order.list.items
     × FollowsEdges c p × (carried c.net.gates.items ≡ map (λ v. v.0) c.order.list.items) × (length c.net.gates.items ≤ linear_bound p)
     × (map (λ l. l.init) c.net.latches.items ≡ true ∷ map (λ n. false) (body_leaves p.body)) × NetKeeps (netlist_of c.net) p × IsSimple (netlist_of c.net)
 what_is_compiled c p h =
-    (h.formed, h.no_loop, h.compiles, h.graph, h.tree, h.leaves, h.order, h.along, h.carried, h.linear, h.latches, h.keeps, h.simple)
+    (h.formed, h.no_loop, h.compiles, h.program, h.wires, h.own, h.tree, h.leaves, h.order, h.along, h.carried, h.linear, h.latches, h.keeps, h.simple)
 
 what_is_encoded : (c : Compiled) (p : Program) (net : Netlist) (h : IsEncoded c p net) → (net.name ≡ (netlist_of c.net).name)
     × (net.inputs ≡ (netlist_of c.net).inputs) × (output_names net ≡ output_names (netlist_of c.net)) × (carried net.gates ≡ carried c.net.gates.items)
@@ -182,15 +208,18 @@ what_texts_keep text main written = (
 )
 
 what_texts_are : (bytes : List ℕ) (main : Option (List ℕ)) (written : List ℕ)
-    → ((h : IsBlifOf bytes main written) → StandsForNet bytes main h.made × (written ≡ blif_texts.written (netlist_of h.made.net)))
-    × ((h : IsCOf bytes main written) → StandsForNet bytes main h.made × (written ≡ c_texts.written (netlist_of h.made.net)))
-    × ((h : IsVerilogOf bytes main written) → StandsForNet bytes main h.made × (written ≡ verilog_texts.written (netlist_of h.made.net)))
-    × ((h : IsEncodedBlifOf bytes main written) → IsEncoded h.made h.compiled.program h.net × (written ≡ blif_texts.written h.net))
+    → ((h : IsBlifOf bytes main written) → SharesWires h.compiled.program (is_shared h.made.graph)
+    × (written ≡ blif_texts.written (netlist_of h.made.net)))
+    × ((h : IsCOf bytes main written) → SharesWires h.compiled.program (is_shared h.made.graph) × (written ≡ c_texts.written (netlist_of h.made.net)))
+    × ((h : IsVerilogOf bytes main written) → SharesWires h.compiled.program (is_shared h.made.graph)
+    × (written ≡ verilog_texts.written (netlist_of h.made.net)))
+    × ((h : IsEncodedBlifOf bytes main written) → SharesWires h.compiled.program (is_shared h.made.graph)
+    × IsEncoded h.made h.compiled.program h.net × (written ≡ blif_texts.written h.net))
 what_texts_are bytes main written =
-    (λ h. (h.compiled, h.text), λ h. (h.compiled, h.text), λ h. (h.compiled, h.text), λ h. (h.encoded, h.text))
+    (λ h. (h.shares, h.text), λ h. (h.shares, h.text), λ h. (h.shares, h.text), λ h. (h.shares, h.encoded, h.text))
 
 what_guarded_texts_are : (bytes : List ℕ) (main : Option (List ℕ)) (written : List ℕ) (h : IsGuardedOf bytes main written)
-    → StandsForNet bytes main h.made × AreRegions h.made.graph h.regions × HeadsAreFree h.regions
+    → StandsForNet bytes main h.made × (is_shared h.made.graph ≡ false) × AreRegions h.made.graph h.regions × HeadsAreFree h.regions
     × (written ≡ guarded_text (netlist_of h.made.net) (owners (netlist_of h.made.net) (region_by (netlist_of h.made.net) h.regions)))
     × GuardedRuns written (netlist_of h.made.net) h.regions
-what_guarded_texts_are bytes main written h = (h.compiled, h.are, h.free, h.text, h.runs)
+what_guarded_texts_are bytes main written h = (h.compiled, h.own, h.are, h.free, h.text, h.runs)

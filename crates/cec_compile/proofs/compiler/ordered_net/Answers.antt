@@ -1,11 +1,8 @@
-use Rattle.est_kernel.specs.Plain.{program_of}
-use Rattle.cec_compile.proofs.Joined.{compiled_is, graph_order}
+use Rattle.cec_compile.proofs.Joined.{compiled_is}
 use Rattle.cec_compile.proofs.compiler.ordered_net.Goals as goal
 
 pub graph_net-requires-clause-order : goal.graph_net-requires-clause-order
-graph_net-requires-clause-order g c =
-    let found = c.args.found.now in
-    graph_order found (program_of found.graph.program) c.in_ok-order.order.list.items c.requires c.in_ok-order.ensures
+graph_net-requires-clause-order g c = c.requires.orders c.in_ok-order.order.list.items c.in_ok-order.ensures
 
 pub returns-clause-compiled : goal.returns-clause-compiled
 returns-clause-compiled g c =

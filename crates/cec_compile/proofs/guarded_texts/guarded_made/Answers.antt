@@ -2,8 +2,12 @@ use Rattle.std.proofs.Common.{ap, ◌∙◌, sym, subst}
 use Rattle.std.specs.Prelude.{option_map}
 use Rattle.est_kernel.specs.Plain.{program_of}
 use Rattle.rest_laws.specs.Guarded.{GuardedRuns}
-use Rattle.cec_compile.proofs.GuardedTexts.{guarded_is}
+use Rattle.cec_compile.proofs.GuardedTexts.{guarded_is, own_made}
 use Rattle.cec_compile.proofs.guarded_texts.guarded_made.Goals as goal
+
+pub guarded_text-requires-clause-built : goal.guarded_text-requires-clause-built
+guarded_text-requires-clause-built g c =
+    own_made c.in_ok-compiled.compiled c.in_ok-compiled.ensures.compiles c.in_ok-compiled.ensures.own
 
 pub returns-clause-made : goal.returns-clause-made
 returns-clause-made g c =
@@ -14,8 +18,9 @@ returns-clause-made g c =
       made = record {
         compiled = c.in_ok-compiled.compiled;
         source = s;
+        shares = c.in_ok-compiled.ensures.own;
         follows = c.in_ok-compiled.ensures.follows;
-        program = ap program_of e.program ∙ s.compiled.graph.program;
+        program = ap program_of e.program ∙ s.compiled.program;
         net = e.net s.program s.compiled;
       };
       means = record {
@@ -27,5 +32,5 @@ returns-clause-made g c =
 pub returns-clause-text : goal.returns-clause-text
 returns-clause-text g c =
     let s = c.in_ok-compiled.ensures.compiles in
-    guarded_is c.args.source.now (option_map (λ m. m.now) c.args.main) c.in_ok-compiled.compiled c.in_ok-text.text.items s
+    guarded_is c.args.source.now (option_map (λ m. m.now) c.args.main) c.in_ok-compiled.compiled c.in_ok-text.text.items s c.in_ok-compiled.ensures.own
     (c.in_ok-text.ensures s.program s.compiled)
