@@ -1,10 +1,9 @@
 -- Inner: the parts of a net's text, one behind another, are the text.
-use Rattle.std.proofs.Common.{◌≡◌, ℕ, ◌^◌, ◌<◌, Bool, false, List, [], ◌∷◌, ◌++◌, length, map, drop, get_or, refl, sym, ap, ◌∙◌, arith, append_assoc}
+use Rattle.std.proofs.Common.{◌≡◌, ℕ, ◌^◌, ◌<◌, List, [], ◌∷◌, ◌++◌, length, map, drop, refl, sym, ap, ◌∙◌, arith, append_assoc}
 use Rattle.std.specs.Prelude.{flat_map, codes}
-use Rattle.std.proofs.lemmas.List.{append-nil, get_or-map}
+use Rattle.std.proofs.lemmas.List.{append-nil}
 use Rattle.std.proofs.lemmas.List.Concat.{flat_map-append}
 use Rattle.net_ir.specs.declared.netlist.NetOut.{NetOut}
-use Rattle.net_ir.specs.NameLists.{is_among}
 use Rattle.net_ir.specs.Netlists.{Netlist}
 use Rattle.net_ir.specs.Numbered.{numbered}
 use Rattle.net_text.specs.Parts.{joined}
@@ -12,7 +11,7 @@ use Rattle.net_text.proofs.Exports.{joined-numbered, joined-mapped, joined-each,
 use Rattle.blif_text.specs.Circuits.{CircuitLatch, Table}
 use Rattle.blif_text.specs.Statements.{Statement, Model, Outputs, End}
 use Rattle.blif_text.specs.Spelled.{text_of, line_text, spelled, table_statements, latch_statement, inputs_statements}
-use Rattle.blif_text.specs.Written.{output_word, paused_word, input_table, gate_table, output_table, copy_table, net_word, net_latch, given_outputs, written}
+use Rattle.blif_text.specs.Written.{output_word, paused_word, input_table, gate_table, output_table, copy_table, net_word, net_latch, written}
 use Rattle.blif_text.specs.Parts.{spaced, latch_text, table_text, first_lines, inputs_start, inputs_end, outputs_end, last_lines, parts_in, net_parts}
 use Rattle.blif_text.specs.declared.parts.TheConstants.{SECTIONS}
 

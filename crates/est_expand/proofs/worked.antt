@@ -4,3 +4,4 @@ mod WorkedPrograms
 mod FaultOrders
 mod DrawnPrograms
 mod RenamedPrograms
+mod WorkedAnswers

@@ -16,7 +16,7 @@ use Rattle.est_ast.specs.Spelling.{spelling, sign}
 use Rattle.est_ast.specs.Lexemes.{IsSpace, IsLetter, IsDigit, IsNameByte}
 use Rattle.est_ast.specs.Lexing.{IsFront, Piece, Cuts, tokens_from, Tokens, LexesAs}
 use Rattle.est_ast.specs.Runs.{IsRun}
-use Rattle.est_ast.proofs.Exports.{at_most_one, front_fits, ident_front, mark_front, read-spelling, read_word, reserved_front, space_front}
+use Rattle.est_ast.proofs.Exports.{at_most_one, front_fits, ident_front, mark_front, reserved_front, space_front, read-spelling, read_word}
 
 -- a space, a reserved word, an identifier or a mark
 pub data Bit : Type 0 where

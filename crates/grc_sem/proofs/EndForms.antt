@@ -28,7 +28,7 @@ ends_by A X b k c f g =
 
 module _ (B : Scope) (body : Term) (q : State) (given : Values) (V : Valuation) where
   abbrev pub val : Formula → Bool
-  val a = meaning (boolean_interpretation B body q given V) a
+  val a = meaning (boolean_interpretation B body q given V V) a
 
   pub any_meaning : (fs : List Formula) → val (any_of fs) ≡ list_any val fs
   any_meaning [] = refl

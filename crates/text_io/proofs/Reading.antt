@@ -1,5 +1,5 @@
 -- What a read of a file says of the bytes under its name.
-use Rattle.std.proofs.Common.{◌≡◌, ℕ, ◌+◌, ◌<◌, ◌≤◌, List, [], length, None, Some, Ok, Err, Vec, refl, sym, subst, arith}
+use Rattle.std.proofs.Common.{ℕ, ◌+◌, ◌<◌, ◌≤◌, List, [], length, None, Some, Ok, Err, Vec, refl, sym, subst, arith}
 use Rattle.std.proofs.lemmas.List.{length-replicate}
 use Rattle.std.specs.Prelude.{⊤, replicate}
 use Rattle.std.specs.declared.alloc.Global.{Global}

@@ -1,3 +1,5 @@
 -- Worked examples of the definitions: values by hand. No law stands on them.
 mod WorkedLines
 mod WorkedPauses
+mod WorkedFronts
+mod WorkedLanguages

@@ -1,10 +1,14 @@
 -- Worked answers, by hand: which outputs of a circuit are listed, and what is shown of their values.
-use Rattle.std.proofs.Common.{◌≡◌, ℕ, true, false, List, [], ◌∷◌, map, codes, refl}
+use Rattle.std.proofs.Common.{◌≡◌, ℕ, true, false, List, [], ◌∷◌, map, Ok, codes, refl}
+use Rattle.est_base.specs.Items.{Item}
 use Rattle.est_base.specs.Names.{is_same_name}
+use Rattle.machines.specs.Machines.{Shows}
 use Rattle.trace_io.specs.declared.lines.Word.TheVariants.{Bare, Paused, Ended}
 use Rattle.trace_run.specs.Machines.{Answer}
-use Rattle.blif_text.specs.Circuits.{Circuit}
-use Rattle.blif_run.specs.CircuitAnswers.{tells_pause, listed_count, listed_names, answer_of, circuit_answer}
+use Rattle.blif_text.specs.Circuits.{Circuit, reading}
+use Rattle.blif_text.specs.Runs.{circuit_machine, circuit_latches}
+use Rattle.blif_run.specs.Loops.{IsDescribed}
+use Rattle.blif_run.specs.CircuitAnswers.{tells_pause, listed_count, listed_names, answer_of, circuit_answer, circuit_shows}
 
 abbrev with_pause : List (List ℕ)
 with_pause = codes "O" ∷ codes "P" ∷ codes "_paused" ∷ []
@@ -36,3 +40,11 @@ circuit = record { name = codes "T"; inputs = codes "A" ∷ []; outputs = with_p
 in_instants : circuit_answer circuit (is_same_name (codes "P")) ∷ circuit_answer circuit (is_same_name (codes "_paused")) ∷ []
     ≡ record { present = false ∷ true ∷ []; word = Ended } ∷ record { present = false ∷ false ∷ []; word = Paused } ∷ []
 in_instants = refl
+
+what_is_shown_over_items : (circuit : Circuit) (items : List Item) (answers : List Answer) → circuit_shows circuit items answers
+    → Shows (circuit_machine circuit) (circuit_answer circuit) (circuit_latches circuit) items answers
+what_is_shown_over_items circuit items answers h = h
+
+-- each of these circuits is one that some text describes
+described : (circuit : Circuit) (text : List ℕ) → reading text ≡ Ok circuit → IsDescribed circuit
+described circuit text is = (text, is)

@@ -1,10 +1,13 @@
 -- A worked program and its lines. The values are those of an implementation in Python.
 use Rattle.std.proofs.Common.{◌≡◌, true, false, List, [], ◌∷◌, map, codes, refl}
 use Rattle.est_base.specs.Items.{Item, Event, Reset}
+use Rattle.est_base.specs.Names.{is_same_name}
 use Rattle.csub_text.specs.Trees.{Expr, Exprs, Name, Not, And, Or, NoExprs, MoreExprs, Program}
-use Rattle.csub_text.specs.Machine.{run}
-use Rattle.csub_run.specs.ProgramAnswers.{answer_seen, bare_inputs, bare_outputs}
-use Rattle.trace_run.specs.Machines.{answer_lines}
+use Rattle.csub_text.specs.Machine.{first_memory, program_machine, run}
+use Rattle.machines.specs.Machines.{Shows}
+use Rattle.csub_run.specs.ProgramAnswers.{answer_seen, bare_inputs, bare_outputs, call_answer, program_shows}
+use Rattle.trace_io.specs.declared.lines.Word.TheVariants.{Paused}
+use Rattle.trace_run.specs.Machines.{Answer, answer_lines}
 
 abbrev two : Expr → Expr → Exprs
 two a b = MoreExprs a (MoreExprs b NoExprs)
@@ -34,3 +37,11 @@ outputs_in_order = refl
 
 lines : answer_lines (bare_outputs signs) (map answer_seen (run signs items)) ≡ codes "- | ended\n- | ended\nA | paused\n- | ended\nY A | paused\n- | ended\n- | ended\n"
 lines = refl
+
+-- behind a call that left these values
+of_a_memory : call_answer signs (is_same_name (codes "O_A")) ≡ record { present = false ∷ true ∷ []; word = Paused }
+of_a_memory = refl
+
+what_is_shown_over_items : (p : Program) (items : List Item) (answers : List Answer) → program_shows p items answers
+    → Shows (program_machine p) (call_answer p) (first_memory p.states) items answers
+what_is_shown_over_items p items answers h = h

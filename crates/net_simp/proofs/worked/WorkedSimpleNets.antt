@@ -7,7 +7,7 @@ use Rattle.net_ir.specs.declared.netlist.Op.TheVariants.{Const, Copy, Not, And, 
 use Rattle.net_ir.specs.declared.netlist.Gate.{Gate}
 use Rattle.net_ir.specs.Netlists.{Netlist}
 use Rattle.net_simp.specs.SameRuns.{carried_values, SameParts, SameInstants}
-use Rattle.net_simp.specs.SimpleNets.{EachFormOnce, EachIsReduced, NoCopies, IsNoCopy, Computes, ReadsComputed, ReadsNoneTwice, EachIsUsed}
+use Rattle.net_simp.specs.SimpleNets.{EachFormOnce, EachIsReduced, NoCopies, Computes, ReadsComputed, ReadsNoneTwice, EachIsUsed}
 use Rattle.net_simp.specs.SimpleNets.{OperandsDiffer, reads, is_used}
 
 abbrev net : ℕ → NetId
@@ -84,7 +84,7 @@ abbrev carrying : Op → Gate
 carrying op = record { op = op; wire = Some (record { 0 = 9 }) }
 
 what_is_carried : carried_values 1 (gate (Const true) ∷ carrying (Const true) ∷ gate (Const true) ∷ carrying (Const true) ∷ [])
-    (false ∷ false ∷ true ∷ true ∷ false ∷ []) ≡ true ∷ false ∷ []
+    (false ∷ false ∷ true ∷ false ∷ true ∷ []) ≡ true ∷ true ∷ []
 what_is_carried = refl
 
 the_same_parts : SameParts in_each_way in_each_way

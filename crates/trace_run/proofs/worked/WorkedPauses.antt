@@ -26,3 +26,7 @@ what_is_told = refl
 what_is_listed : answers (answer_of (codes "P") pause_first (true ∷ false ∷ [])) (answer_of (codes "P") [] [])
     ≡ answers (record { present = true ∷ false ∷ []; word = Bare }) (record { present = []; word = Bare })
 what_is_listed = refl
+
+-- a value that is not there counts as false
+what_is_missing : answer_of (codes "P") with_pause [] ≡ record { present = []; word = Ended }
+what_is_missing = refl

@@ -3,14 +3,15 @@
 use Rattle.std.proofs.Common.{◌≡◌, ℕ, ◌+◌, ◌<◌, zero, suc, Bool, true, false, List, [], ◌∷◌, map, codes, refl, arith}
 use Rattle.est_base.specs.Items.{Item, Event, Reset}
 use Rattle.expr_text.specs.Trees.{Expr, Exprs, Name, Const, Not, And, Or, NoExprs, MoreExprs}
-use Rattle.machines.specs.Machines.{IsRun}
+use Rattle.machines.specs.Machines.{IsRun, Shows}
 use Rattle.net_ir.proofs.Exports.{looked_up}
-use Rattle.trace_run.specs.Machines.{answer_lines}
-use Rattle.vlog_text.specs.Machine.{vlog_machine}
+use Rattle.trace_run.specs.Machines.{Answer, answer_lines}
+use Rattle.vlog_text.specs.Machine.{initial_registers, vlog_machine}
+use Rattle.vlog_text.specs.Texts.{Describes}
 use Rattle.vlog_text.specs.Trees.{Module}
 use Rattle.step_run.specs.Equations.{NeedsName, name_at}
-use Rattle.vlog_run.specs.Loops.{IsLoop, equation_of, equations_of}
-use Rattle.vlog_run.specs.ModuleAnswers.{bare_inputs, bare_outputs, module_answer}
+use Rattle.vlog_run.specs.Loops.{IsDescribed, IsLoop, equation_of, equations_of}
+use Rattle.vlog_run.specs.ModuleAnswers.{bare_inputs, bare_outputs, module_answer, module_shows, tells_pause}
 
 abbrev two : Expr → Expr → Exprs
 two a b = MoreExprs a (MoreExprs b NoExprs)
@@ -162,3 +163,15 @@ turning_loop = record {
       reads = (0, omega arith, refl);
     }
     first (suc k) h = absurd (omega (arith, h))
+
+-- ---- what tells that a module pauses, and what it shows
+
+who_tells : map tells_pause (toggle.outputs ∷ turned.outputs ∷ [] ∷ []) ≡ true ∷ false ∷ false ∷ []
+who_tells = refl
+
+what_is_shown_over_items : (design : Module) (items : List Item) (answers : List Answer) → module_shows design items answers
+    → Shows (vlog_machine design) (module_answer design) (initial_registers design) items answers
+what_is_shown_over_items design items answers h = h
+
+described : (design : Module) (text : List ℕ) → Describes text design → IsDescribed design
+described design text is = (text, is)
