@@ -5,7 +5,7 @@ use Rattle.est_kernel.specs.Terms as terms
 use Rattle.est_kernel.specs.Terms.{Term}
 use Rattle.est_ast.specs.FlatTrees.{Delay, Plain, Immediate, Count}
 use Rattle.est_dismantle.specs.Abortions.{aborting_later, tested_at_once}
-use Rattle.est_dismantle.specs.Kernels.{expression, halting, aborting, aborting_counted, abortion, aborting_handled, looping_each, later_delay}
+use Rattle.est_dismantle.specs.Kernels.{expression, aborting, aborting_counted, abortion, aborting_handled, later_delay}
 
 trap-if : (b : Bool) (p q : Term) → cond b (terms.Trap p) (terms.Trap q) ≡ terms.Trap (cond b p q)
 trap-if true p q = refl

@@ -14,9 +14,9 @@ use Rattle.est_ast.specs.declared.flat.FlatDelay.TheVariants as delays
 use Rattle.est_ast.specs.declared.flat.FlatExpr.{FlatExpr}
 use Rattle.est_ast.specs.declared.flat.FlatForm.TheVariants as forms
 use Rattle.est_ast.specs.declared.flat.FlatStmt.{FlatStmt}
-use Rattle.est_ast.specs.FlatViews.{flat_delay_of, flat_stmt_of, flat_case_of, flat_part_of, flat_body_of}
+use Rattle.est_ast.specs.FlatViews.{flat_delay_of, flat_stmt_of, flat_part_of, flat_body_of}
 use Rattle.est_ast.proofs.Exports.{flat_form-Seq, flat_form-Par, flat_form-AwaitCase, flat_form-PresentCase, flat_form-AbortCase}
-use Rattle.est_dismantle.specs.Counts.{bad_count, bad_in_delay, bad_in, bad_in_form, bad_in_part, bad_in_stmts, bad_in_cases}
+use Rattle.est_dismantle.specs.Counts.{bad_count, bad_in_delay, bad_in, bad_in_form, bad_in_part}
 use Rattle.est_dismantle.specs.FlatNodes.{first_place, bad_of_count, bad_of_delay, bad_of_stmt, bad_of_form, bad_of_part, bad_of_stmts, bad_of_cases}
 use Rattle.est_dismantle.specs.FlatNodes.{bad_of_case}
 use Rattle.est_dismantle.proofs.Found.{none-some, some-same}

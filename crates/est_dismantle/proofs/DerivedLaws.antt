@@ -1,6 +1,6 @@
 -- Inner: what some derived statements do, on steps.
-use Rattle.std.proofs.Common.{◌≡◌, ◌⊎◌, inl, inr, ℕ, ◌+◌, ◌<◌, ◌≤◌, ◌==◌, ◌||◌, max, Bool, true, false, cond, List, [], ◌∷◌, Option, Some, None}
-use Rattle.std.proofs.Common.{refl, sym, ◌∙◌, ap, subst, arith}
+use Rattle.std.proofs.Common.{◌≡◌, ◌⊎◌, inl, inr, ℕ, ◌+◌, ◌≤◌, ◌==◌, ◌||◌, max, Bool, true, false, cond, List, [], ◌∷◌, Option, Some, None}
+use Rattle.std.proofs.Common.{refl, sym, ◌∙◌, ap, arith}
 use Rattle.std.proofs.lemmas.Bool.{eqb-true, eqb-false}
 use Rattle.std.specs.Prelude.{option_and_then}
 use Rattle.facts.proofs.Tests.{or-false}
@@ -12,10 +12,10 @@ use Rattle.est_kernel.specs.Steps.{step}
 use Rattle.est_kernel.specs.Terms as terms
 use Rattle.est_kernel.specs.Terms.{Term, Expression}
 use Rattle.est_kernel.proofs.Exports.{left_whole, trap_code-one, same_step}
-use Rattle.est_ast.specs.FlatTrees.{Expr, Plain, Immediate, Stmt, At, Await, Abort, Repeat, Sustain, LoopEach, Seq, Missing, Written, NoStmts, MoreStmts}
-use Rattle.est_dismantle.specs.Kernels.{Traps, expression, halting, watching, aborting, kernel}
+use Rattle.est_ast.specs.FlatTrees.{Plain, Immediate}
+use Rattle.est_dismantle.specs.Kernels.{expression, halting, watching, aborting, kernel}
 use Rattle.est_ast.specs.NewSignals.{new_by, new_in}
-use Rattle.est_dismantle.specs.Laws.{ImmediateAbortionsRunTheirRest, ImmediateAwaitsEndAtOnce, RepetitionsAreSequences, Sustains, SustainedSignalsStay}
+use Rattle.est_dismantle.specs.Laws.{ImmediateAbortionsRunTheirRest, ImmediateAwaitsEndAtOnce, RepetitionsAreSequences, SustainedSignalsStay}
 use Rattle.est_dismantle.specs.Laws.{LoopsEachStartAnew}
 
 -- nothing was done before it

@@ -1,5 +1,5 @@
 -- Inner: the traps around a statement as a list, and the code of an exit past a trap of the source.
-use Rattle.std.proofs.Common.{◌≡◌, ℕ, zero, suc, ◌+◌, ◌-◌, ◌<◌, true, false, [], ◌∷◌, Bool, List, sym, ◌∙◌, ap, arith, Bor}
+use Rattle.std.proofs.Common.{◌≡◌, ℕ, zero, suc, ◌+◌, ◌-◌, ◌<◌, true, false, [], ◌∷◌, Bool, List, length, sym, ◌∙◌, ap, arith, Bor}
 use Rattle.est_dismantle.specs.declared.traps.Traps.{Traps as CodeTraps, fold-roll-Traps}
 use Rattle.est_dismantle.specs.declared.traps.Traps.TheOpen.{Traps-F}
 use Rattle.est_dismantle.specs.declared.traps.Traps.TheVariants as traps
@@ -14,6 +14,12 @@ traps-Source around = ap traps_of (sym (traps.rolls-Source around)) ∙ fold-rol
 
 pub traps-New : (around : Bor CodeTraps) → traps_of (traps.New around) ≡ false ∷ traps_of around.now
 traps-New around = ap traps_of (sym (traps.rolls-New around)) ∙ fold-roll-Traps (List Bool) traps_step (Traps-F.New around)
+
+pub length-Source : (around : Bor CodeTraps) → length (traps_of (traps.Source around)) ≡ 1 + length (traps_of around.now)
+length-Source around = omega (arith, ap length (traps-Source around))
+
+pub length-New : (around : Bor CodeTraps) → length (traps_of (traps.New around)) ≡ 1 + length (traps_of around.now)
+length-New around = omega (arith, ap length (traps-New around))
 
 pub exit-past : (list : Traps) (k : ℕ) → 0 < k → exit_code (true ∷ list) k ≡ exit_code list (k - 1) + 1
 exit-past list zero h = absurd (omega (arith, h))

@@ -19,7 +19,11 @@ use Rattle.est_ast.specs.FlatPrograms.{seen_count, whole_scope, IsFlat, IsNamed}
 use Rattle.est_ast.specs.NewSignals.{new_in}
 use Rattle.est_dismantle.specs.Counts.{bad_in}
 use Rattle.est_dismantle.specs.Expansions.{Expanded, TooLarge, TooHigh, TooManyTraps, kernel_body, program_in, limited, counted, expansion}
+use Rattle.est_dismantle.specs.Measures.{kernel_measures}
+use Rattle.est_dismantle.specs.NewTraps.{traps_in}
 use Rattle.est_dismantle.proofs.Fitting.{Placed, placed}
+use Rattle.est_dismantle.proofs.Measured.{m-kernel}
+use Rattle.est_dismantle.proofs.NewTraps.{new-within, traps-within}
 
 -- a body within the limits, and its program
 record Limited (flat : Flat) (body : Term) (p : Program) : Type 0 where
@@ -48,6 +52,20 @@ limited-inside flat body p h =
 counted-inside : (flat : Flat) (bad : List Span) (p : Program) → counted flat bad ≡ Expanded p → Limited flat (kernel_body flat) p
 counted-inside flat [] p h = limited-inside flat (kernel_body flat) p h
 counted-inside flat (place ∷ places) p h = cc
+
+counted-good : (flat : Flat) (bad : List Span) (p : Program) → counted flat bad ≡ Expanded p → bad ≡ []
+counted-good flat [] p h = refl
+counted-good flat (place ∷ places) p h = cc
+
+-- where a flat program stands for a kernel program, its new signals and the traps around its exits keep the limits
+pub expansion-inside : (flat : Flat) (p : Program) → expansion flat ≡ Expanded p → (new_in flat.body ≤ KERNEL_NODES) × (traps_in flat.body ≤ TRAPS)
+expansion-inside flat p is =
+    let good = counted-good flat (bad_in flat.body) p is in
+    let l = counted-inside flat (bad_in flat.body) p is in
+    let m = m-kernel [] (length flat.signals) flat.body in
+    let size : size_of (kernel_body flat) ≡ (kernel_measures flat.body).size = ap (λ x. x.size) m in
+    let traps : trap_depth (kernel_body flat) ≡ (kernel_measures flat.body).traps = ap (λ x. x.traps) m in
+    (omega (arith, new-within flat.body good, l.size, size), omega (arith, traps-within flat.body good, l.traps, traps))
 
 -- ---- the program
 

@@ -1,6 +1,6 @@
 -- Inner: the kernel term of each node of the code, and the number of its new signals.
-use Rattle.std.proofs.Common.{◌≡◌, ℕ, zero, suc, ◌+◌, ◌<◌, ◌≤◌, Bool, true, false, nat_le, cond, List, [], ◌∷◌, ◌++◌, length, map, take, drop, get_or, Option}
-use Rattle.std.proofs.Common.{Some, None, refl, sym, ◌∙◌, ap, subst, arith}
+use Rattle.std.proofs.Common.{◌≡◌, ℕ, zero, suc, ◌+◌, ◌<◌, ◌≤◌, max, true, false, cond, List, [], ◌∷◌, length, map, drop, get_or}
+use Rattle.std.proofs.Common.{Option, Some, None, refl, sym, ◌∙◌, ap, arith}
 use Rattle.std.proofs.Math.ListN.{drop_of_length-le}
 use Rattle.std.proofs.lemmas.Bool.{le-leb, lt-leb}
 use Rattle.std.specs.declared.alloc.Global.{Global}
@@ -19,16 +19,18 @@ use Rattle.est_ast.specs.declared.flat.FlatExpr.TheVariants as nodes
 use Rattle.est_ast.specs.declared.flat.FlatForm.{FlatForm}
 use Rattle.est_ast.specs.declared.flat.FlatForm.TheVariants as forms
 use Rattle.est_ast.specs.declared.flat.FlatStmt.{FlatStmt}
-use Rattle.est_ast.specs.FlatTrees.{exprs, stmts, cases}
+use Rattle.est_ast.specs.FlatTrees.{exprs, cases}
 use Rattle.est_ast.specs.FlatViews.{flat_expr_of, flat_delay_of, flat_stmt_of, flat_case_of, flat_part_of, flat_event_of, flat_body_of}
 use Rattle.est_ast.proofs.Exports.{flat_expr-And, flat_expr-Or, flat_form-Seq, flat_form-Par, flat_form-AwaitCase, flat_form-PresentCase, flat_form-AbortCase}
 use Rattle.est_dismantle.specs.Choices.{chosen_of}
 use Rattle.est_dismantle.specs.FlatNodes.{event_test, events_tests, case_test, any_event_test, delay_new, stmt_new, node_new, part_new, stmts_new, case_new}
 use Rattle.est_dismantle.specs.FlatNodes.{cases_new, stmt_kernel, node_kernel, part_kernel, stmts_kernels, case_choice, choices}
+use Rattle.est_dismantle.specs.FlatNodes.{stmt_traps, node_traps, part_traps, stmts_traps, case_traps, cases_traps}
+use Rattle.est_dismantle.specs.NewTraps.{traps_in, traps_in_form}
 use Rattle.est_dismantle.specs.Kernels.{nested, sequence, parallel, times, expression, expressions, events, any_event, Traps, exit_code, halting, awaiting}
 use Rattle.est_dismantle.specs.Kernels.{awaiting_delay, aborting, abortion, aborting_handled, handled, looping_each, later_delay, aborting_weakly, suspension}
-use Rattle.est_dismantle.specs.Kernels.{locals, kernel, kernel_of_form, part, kernels, chosen}
-use Rattle.est_ast.specs.NewSignals.{new_by, new_in, new_in_form, new_in_part, new_in_stmts, new_in_cases}
+use Rattle.est_dismantle.specs.Kernels.{locals, kernel, kernel_of_form, part, chosen}
+use Rattle.est_ast.specs.NewSignals.{new_in, new_in_form, new_in_part, new_in_cases}
 use Rattle.est_dismantle.proofs.Exits.{traps-Whole, traps-Source, traps-New}
 use Rattle.est_dismantle.proofs.Found.{none-some, some-same}
 
@@ -224,6 +226,106 @@ new-part_missing = refl
 pub new-part_written : (p : Box FlatStmt Global) → part_new (Some p) ≡ stmt_new p.value
 unfolding part_new stmt_new
 new-part_written p = refl
+
+-- ---- traps around exits
+
+pub traps-stmt : (p : FlatStmt) → stmt_traps p ≡ node_traps p.form
+unfolding stmt_traps node_traps
+traps-stmt p = refl
+
+pub traps-Await_written : (d : FlatDelay) (r : Box FlatStmt Global) → node_traps (forms.Await d (Some r)) ≡ stmt_traps r.value
+unfolding node_traps stmt_traps
+traps-Await_written d r = refl
+
+pub traps-AwaitCase : (v : Vec FlatCase Global) → node_traps (forms.AwaitCase v) ≡ cases_traps v.items
+unfolding node_traps cases_traps
+traps-AwaitCase v = ap traps_in_form (flat_form-AwaitCase v)
+
+pub traps-Present : (e : FlatExpr) (p q : Option (Box FlatStmt Global)) → node_traps (forms.Present e p q) ≡ max (part_traps p) (part_traps q)
+unfolding node_traps part_traps
+traps-Present e p q = refl
+
+pub traps-PresentCase : (v : Vec FlatCase Global) (q : Option (Box FlatStmt Global)) →
+    node_traps (forms.PresentCase v q) ≡ max (cases_traps v.items) (part_traps q)
+unfolding node_traps cases_traps part_traps
+traps-PresentCase v q = ap traps_in_form (flat_form-PresentCase v q)
+
+pub traps-Loop : (p : Box FlatStmt Global) → node_traps (forms.Loop p) ≡ stmt_traps p.value
+unfolding node_traps stmt_traps
+traps-Loop p = refl
+
+pub traps-LoopEach : (p : Box FlatStmt Global) (d : FlatDelay) → node_traps (forms.LoopEach p d) ≡ 1 + stmt_traps p.value
+unfolding node_traps stmt_traps
+traps-LoopEach p d = refl
+
+pub traps-Every : (d : FlatDelay) (p : Box FlatStmt Global) → node_traps (forms.Every d p) ≡ 1 + stmt_traps p.value
+unfolding node_traps stmt_traps
+traps-Every d p = refl
+
+pub traps-Repeat : (count : ℕ) (span : Span) (p : Box FlatStmt Global) → node_traps (forms.Repeat count span p) ≡ stmt_traps p.value
+unfolding node_traps stmt_traps
+traps-Repeat count span p = refl
+
+pub traps-Abort_missing : (p : Box FlatStmt Global) (d : FlatDelay) → node_traps (forms.Abort p d None) ≡ 1 + stmt_traps p.value
+unfolding node_traps stmt_traps
+traps-Abort_missing p d = refl
+
+pub traps-Abort_written : (p : Box FlatStmt Global) (d : FlatDelay) (r : Box FlatStmt Global) →
+    node_traps (forms.Abort p d (Some r)) ≡ max (2 + stmt_traps p.value) (1 + stmt_traps r.value)
+unfolding node_traps stmt_traps
+traps-Abort_written p d r = refl
+
+pub traps-AbortCase : (p : Box FlatStmt Global) (v : Vec FlatCase Global) →
+    node_traps (forms.AbortCase p v) ≡ max (2 + stmt_traps p.value) (1 + cases_traps v.items)
+unfolding node_traps stmt_traps cases_traps
+traps-AbortCase p v = ap traps_in_form (flat_form-AbortCase p v)
+
+pub traps-WeakAbort : (p : Box FlatStmt Global) (d : FlatDelay) → node_traps (forms.WeakAbort p d) ≡ 1 + stmt_traps p.value
+unfolding node_traps stmt_traps
+traps-WeakAbort p d = refl
+
+pub traps-Suspend : (p : Box FlatStmt Global) (d : FlatDelay) → node_traps (forms.Suspend p d) ≡ stmt_traps p.value
+unfolding node_traps stmt_traps
+traps-Suspend p d = refl
+
+pub traps-Trap_missing : (p : Box FlatStmt Global) → node_traps (forms.Trap p None) ≡ 1 + stmt_traps p.value
+unfolding node_traps stmt_traps
+traps-Trap_missing p = refl
+
+pub traps-Trap_written : (p : Box FlatStmt Global) (r : Box FlatStmt Global) →
+    node_traps (forms.Trap p (Some r)) ≡ max (2 + stmt_traps p.value) (1 + stmt_traps r.value)
+unfolding node_traps stmt_traps
+traps-Trap_written p r = refl
+
+pub traps-Signal : (v : Vec SigId Global) (p : Box FlatStmt Global) → node_traps (forms.Signal v p) ≡ stmt_traps p.value
+unfolding node_traps stmt_traps
+traps-Signal v p = refl
+
+pub traps-Seq : (v : Vec FlatStmt Global) → node_traps (forms.Seq v) ≡ stmts_traps v.items
+unfolding node_traps stmts_traps
+traps-Seq v = ap traps_in_form (flat_form-Seq v)
+
+pub traps-Par : (v : Vec FlatStmt Global) → node_traps (forms.Par v) ≡ stmts_traps v.items
+unfolding node_traps stmts_traps
+traps-Par v = ap traps_in_form (flat_form-Par v)
+
+pub traps-part_written : (p : Box FlatStmt Global) → part_traps (Some p) ≡ stmt_traps p.value
+unfolding part_traps stmt_traps
+traps-part_written p = refl
+
+pub stmts-traps_more : (p : FlatStmt) (l : List FlatStmt) → stmts_traps (p ∷ l) ≡ max (stmt_traps p) (stmts_traps l)
+unfolding stmts_traps stmt_traps
+stmts-traps_more p l = refl
+
+pub cases-traps_more : (c : FlatCase) (l : List FlatCase) → cases_traps (c ∷ l) ≡ max (case_traps c) (cases_traps l)
+unfolding cases_traps case_traps
+cases-traps_more c l = refl
+
+pub case-traps_written : (c : FlatCase) (p : FlatStmt) → (out-FlatCase c).body ≡ Some p → case_traps c ≡ stmt_traps p
+unfolding case_traps stmt_traps out-FlatCase denote.Hole.Carrier.out
+case-traps_written (FlatCase' event FlatCase-body-None') p h = absurd (none-some p h)
+case-traps_written (FlatCase' event (FlatCase-body-Some' span form)) p h =
+    ap (λ q. traps_in (flat_stmt_of q)) (some-same (record { span = span; form = form }) p h)
 
 -- ---- kernel terms
 
@@ -492,6 +594,24 @@ choices-past traps x l i h = ap (choices traps x) (drop_of_length-le l h) ∙ ch
 pub cases-new_past : (l : List FlatCase) (i : ℕ) → length l ≤ i → cases_new (drop i l) ≡ 0
 cases-new_past l i h = ap cases_new (drop_of_length-le l h) ∙ cases-new_none
 
+-- a statement of a list has at most the list's traps around its exits
+pub stmts-traps_of : (l : List FlatStmt) (i : ℕ) (p : FlatStmt) → i < length l → p ≡ get_or l i p → stmt_traps p ≤ stmts_traps l
+stmts-traps_of [] i p h is = absurd (omega (arith, h))
+stmts-traps_of (q ∷ l) zero p h is = omega (arith, ap stmt_traps is, stmts-traps_more q l)
+stmts-traps_of (q ∷ l) (suc i) p h is = omega (arith, stmts-traps_of l i p (omega (arith, h)) is, stmts-traps_more q l)
+
+pub cases-traps_of : (l : List FlatCase) (i : ℕ) (c : FlatCase) → i < length l → c ≡ get_or l i c → case_traps c ≤ cases_traps l
+cases-traps_of [] i c h is = absurd (omega (arith, h))
+cases-traps_of (d ∷ l) zero c h is = omega (arith, ap case_traps is, cases-traps_more d l)
+cases-traps_of (d ∷ l) (suc i) c h is = omega (arith, cases-traps_of l i c (omega (arith, h)) is, cases-traps_more d l)
+
+-- those of a statement, of a case, and of lists
+pub ruleset stmt_rows = (new-stmt, traps-stmt, kernel-stmt)
+
+pub ruleset case_rows = (case-new_missing, case-new_written, case-traps_written)
+
+pub ruleset list_rows = (stmts-new_at, stmts-traps_of, cases-new_at, cases-traps_of)
+
 -- all of them
 pub ruleset kernel_rows = (
   traps-Whole,
@@ -525,6 +645,26 @@ pub ruleset kernel_rows = (
   new-Par,
   new-part_missing,
   new-part_written,
+  traps-stmt,
+  traps-Await_written,
+  traps-AwaitCase,
+  traps-Present,
+  traps-PresentCase,
+  traps-Loop,
+  traps-LoopEach,
+  traps-Every,
+  traps-Repeat,
+  traps-Abort_missing,
+  traps-Abort_written,
+  traps-AbortCase,
+  traps-WeakAbort,
+  traps-Suspend,
+  traps-Trap_missing,
+  traps-Trap_written,
+  traps-Signal,
+  traps-Seq,
+  traps-Par,
+  traps-part_written,
   kernel-stmt,
   kernel-Nothing,
   kernel-Pause,

@@ -11,5 +11,7 @@ mod Measured
 mod MeasuredNodes
 mod WholePrograms
 mod Found
+mod NewTraps
 mod worked
 pub mod Exports
+mod Depths

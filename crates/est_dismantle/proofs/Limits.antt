@@ -1,5 +1,5 @@
 -- Inner: which fault a flat program has, by its first bad count and the measures of its body.
-use Rattle.std.proofs.Common.{◌≡◌, ℕ, ◌+◌, ◌-◌, ◌^◌, ◌<◌, ◌≤◌, min, Bool, true, false, nat_lt, cond, List, [], ◌∷◌, length, Some, None, refl, sym, ◌∙◌, ap}
+use Rattle.std.proofs.Common.{◌≡◌, ◌<◌, ◌≤◌, Bool, true, false, nat_lt, cond, List, [], ◌∷◌, length, Some, None, refl, sym, ◌∙◌, ap}
 use Rattle.std.proofs.Common.{subst, arith}
 use Rattle.std.proofs.lemmas.Bool.{lt-ltb, le-ltb}
 use Rattle.est_base.specs.declared.place.Span.{Span}
@@ -11,11 +11,10 @@ use Rattle.est_ast.specs.FlatViews.{flat_stmt_of}
 use Rattle.est_ast.specs.declared.flat.FlatStmt.{FlatStmt}
 use Rattle.est_dismantle.specs.declared.extent.Extent.{Extent}
 use Rattle.est_dismantle.specs.Counts.{bad_in}
-use Rattle.est_dismantle.specs.Expansions.{Expansion, Expanded, BadCount, TooLarge, TooHigh, TooManyTraps, kernel_body, program_in, limited, counted, expansion}
+use Rattle.est_dismantle.specs.Expansions.{Expanded, BadCount, TooLarge, TooHigh, TooManyTraps, kernel_body, program_in, limited, counted, expansion}
 use Rattle.est_dismantle.specs.Extents.{IsExtent, IsCapped}
 use Rattle.est_dismantle.specs.FlatNodes.{first_place, bad_of_stmt, stmt_measures}
-use Rattle.est_dismantle.specs.Kernels.{kernel}
-use Rattle.est_dismantle.specs.Measures.{Measures, measures_of, kernel_measures}
+use Rattle.est_dismantle.specs.Measures.{measures_of, kernel_measures}
 use Rattle.est_dismantle.proofs.Measured.{m-kernel}
 
 counted-first : (flat : Flat) (places : List Span) (place : Span) → first_place places ≡ Some place → counted flat places ≡ BadCount place

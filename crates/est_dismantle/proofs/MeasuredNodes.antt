@@ -1,5 +1,5 @@
 -- Inner: the measures of each node of the code, as far as they fit.
-use Rattle.std.proofs.Common.{◌≡◌, ℕ, zero, suc, ◌+◌, ◌<◌, ◌≤◌, List, [], ◌∷◌, length, length-drop, map, drop, get_or, Option, Some, None, refl, sym, ◌∙◌, ap}
+use Rattle.std.proofs.Common.{◌≡◌, ℕ, suc, ◌+◌, ◌<◌, ◌≤◌, List, [], ◌∷◌, length, length-drop, map, drop, get_or, Option, Some, None, refl, sym, ◌∙◌, ap}
 use Rattle.std.proofs.Common.{subst, arith}
 use Rattle.std.proofs.lemmas.List.{length-map}
 use Rattle.std.proofs.Math.ListN.{drop_of_length-le}
@@ -19,13 +19,13 @@ use Rattle.est_ast.specs.declared.flat.FlatForm.{FlatForm}
 use Rattle.est_ast.specs.declared.flat.FlatForm.TheVariants as forms
 use Rattle.est_ast.specs.declared.flat.FlatStmt.{FlatStmt}
 use Rattle.est_ast.specs.FlatTrees.{exprs, stmts, cases}
-use Rattle.est_ast.specs.FlatViews.{flat_expr_of, flat_delay_of, flat_stmt_of, flat_case_of, flat_part_of, flat_event_of, flat_body_of}
+use Rattle.est_ast.specs.FlatViews.{flat_expr_of, flat_delay_of, flat_stmt_of, flat_case_of, flat_event_of, flat_body_of}
 use Rattle.est_ast.proofs.Exports.{flat_expr-And, flat_expr-Or, flat_form-Seq, flat_form-Par, flat_form-AwaitCase, flat_form-PresentCase, flat_form-AbortCase}
 use Rattle.est_dismantle.specs.declared.extent.Extent.{Extent}
 use Rattle.est_dismantle.specs.Extents.{IsExtent}
 use Rattle.est_dismantle.specs.FlatNodes.{event_measures, events_measures, case_events_measures, stmt_measures, node_measures, part_node_measures}
 use Rattle.est_dismantle.specs.FlatNodes.{parts_measures, case_measures, chosen_measures}
-use Rattle.est_dismantle.specs.Kernels.{nested, expression, expressions, events, any_event}
+use Rattle.est_dismantle.specs.Kernels.{nested, expression, expressions, events}
 use Rattle.est_dismantle.specs.Measures.{Measures, test_measures, leaf, over, trapped, joined, tested, copied, raised, awaited, awaited_delay, aborted}
 use Rattle.est_dismantle.specs.Measures.{aborted_later, tested_first, abortion_measures, handled_measures, each_measures, each_later_measures, weakly_measures}
 use Rattle.est_dismantle.specs.Measures.{suspension_measures, kernel_measures, form_measures, part_measures, stmts_measures, cases_measures}

@@ -1,16 +1,19 @@
 -- Inner: a kernel program put together from what was made of a flat program's parts.
-use Rattle.std.proofs.Common.{◌≡◌, ℕ, ◌+◌, ◌-◌, List, [], ◌++◌, length, codes, ◌∙◌, ap, arith}
+use Rattle.std.proofs.Common.{◌≡◌, ℕ, ◌+◌, ◌-◌, ◌≤◌, List, [], ◌++◌, length, codes, sym, ◌∙◌, ap, subst, arith}
 use Rattle.std.specs.Prelude.{replicate}
+use Rattle.est_base.specs.declared.bounds.TheConstants.Limits.{KERNEL_NODES, TRAPS}
 use Rattle.est_base.specs.Relations.{Relation}
 use Rattle.est_kernel.specs.Terms.{Term}
 use Rattle.est_kernel.specs.Plain.{Program}
 use Rattle.est_ast.specs.FlatTrees.{Flat}
 use Rattle.est_ast.specs.FlatViews.{flat_stmt_of}
 use Rattle.est_ast.specs.declared.flat.FlatStmt.{FlatStmt}
-use Rattle.est_dismantle.specs.Expansions.{kernel_body, program_in}
-use Rattle.est_dismantle.specs.FlatNodes.{stmt_kernel, stmt_new}
+use Rattle.est_dismantle.specs.Expansions.{Expanded, kernel_body, program_in, expansion}
+use Rattle.est_dismantle.specs.FlatNodes.{stmt_kernel, stmt_new, stmt_traps}
 use Rattle.est_dismantle.specs.Kernels.{Traps, kernel}
+use Rattle.est_dismantle.specs.NewTraps.{traps_in}
 use Rattle.est_ast.specs.NewSignals.{new_in}
+use Rattle.est_dismantle.proofs.Expanded.{expansion-inside}
 
 pub body-made : (flat : Flat) (p : FlatStmt) (traps : Traps) (first : ℕ) (k : Term) → flat_stmt_of p ≡ flat.body → k ≡ stmt_kernel traps first p → traps ≡ [] →
     first ≡ length flat.signals → k ≡ kernel_body flat
@@ -21,6 +24,14 @@ body-made flat p traps first k is made none same =
 pub new-counted : (p : FlatStmt) (first next : ℕ) → next ≡ first + stmt_new p → next - first ≡ new_in (flat_stmt_of p)
 unfolding stmt_new
 new-counted p first next numbered = omega arith
+
+-- the numbers of its new signals and the codes of its exits fit
+pub body-fits : (flat : Flat) (p : FlatStmt) (k : Program) → flat_stmt_of p ≡ flat.body → expansion flat ≡ Expanded k →
+    (stmt_new p ≤ KERNEL_NODES) × (stmt_traps p ≤ TRAPS)
+unfolding stmt_new stmt_traps
+body-fits flat p k is h =
+    let g = expansion-inside flat k h in
+    (subst (λ s. new_in s ≤ KERNEL_NODES) (sym is) g.0, subst (λ s. traps_in s ≤ TRAPS) (sym is) g.1)
 
 pub program-made : (flat : Flat) (name : List ℕ) (signals : List (List ℕ)) (relations : List Relation) (body : Term)
     → name ≡ flat.name → signals ≡ flat.signals ++ replicate (new_in flat.body) (codes "x") → relations ≡ flat.relations → body ≡ kernel_body flat

@@ -1,25 +1,25 @@
 -- Inner: the expansion at the nodes of the code. The definitions are closed, so that a proof sees one row at a time.
-use Rattle.std.specs.Prelude.{ℕ, ◌+◌, Bool, true, false, nat_le, if◌then◌else◌, List, [], ◌∷◌, map, Option, Some, None}
+use Rattle.std.specs.Prelude.{ℕ, ◌+◌, List, [], ◌∷◌, map, Option, Some, None}
 use Rattle.std.specs.declared.alloc.Global.{Global}
 use Rattle.std.specs.declared.boxed.Box.{Box}
 use Rattle.est_base.specs.declared.place.Span.{Span}
-use Rattle.est_kernel.specs.Terms as terms
 use Rattle.est_kernel.specs.Terms.{Term, Expression}
 use Rattle.est_ast.specs.declared.flat.FlatCase.{FlatCase}
 use Rattle.est_ast.specs.declared.flat.FlatDelay.{FlatDelay}
 use Rattle.est_ast.specs.declared.flat.FlatExpr.{FlatExpr}
 use Rattle.est_ast.specs.declared.flat.FlatForm.{FlatForm}
 use Rattle.est_ast.specs.declared.flat.FlatStmt.{FlatStmt}
-use Rattle.est_ast.specs.FlatTrees.{Part, Missing, Written, Cases, NoCases, MoreCases, exprs, stmts, cases}
+use Rattle.est_ast.specs.FlatTrees.{stmts, cases}
 use Rattle.est_ast.specs.FlatViews.{flat_expr_of, flat_delay_of, flat_form_of, flat_stmt_of, flat_case_of, flat_part_of}
 use Rattle.est_ast.specs.FlatViews.{flat_event_of, flat_body_of}
-use Rattle.est_dismantle.specs.Kernels.{Traps, nested, expression, expressions, any_event, kernel, kernel_of_form, part}
+use Rattle.est_dismantle.specs.Kernels.{Traps, nested, expression, any_event, kernel, kernel_of_form, part}
 use Rattle.est_dismantle.specs.Kernels.{kernels}
 use Rattle.est_ast.specs.NewSignals.{new_by, new_in, new_in_form, new_in_part, new_in_stmts, new_in_cases}
 use Rattle.est_dismantle.specs.Counts.{bad_count, bad_in_delay, bad_in, bad_in_form, bad_in_part, bad_in_stmts}
 use Rattle.est_dismantle.specs.Counts.{bad_in_cases}
 use Rattle.est_dismantle.specs.Measures.{Measures, test_measures, leaf, joined, kernel_measures, form_measures}
 use Rattle.est_dismantle.specs.Measures.{part_measures, stmts_measures, cases_measures}
+use Rattle.est_dismantle.specs.NewTraps.{traps_in, traps_in_form, traps_in_part, traps_in_stmts, traps_in_cases}
 
 -- ---- the first bad count
 
@@ -137,3 +137,23 @@ case_choice traps x c = (case_test c, part traps x (flat_body_of c))
 unfoldable pub choices : Traps → ℕ → List FlatCase → List (Expression × Term)
 choices traps x [] = []
 choices traps x (c ∷ others) = case_choice traps x c ∷ choices traps (x + case_new c) others
+
+-- ---- traps around exits
+
+unfoldable pub stmt_traps : FlatStmt → ℕ
+stmt_traps p = traps_in (flat_stmt_of p)
+
+unfoldable pub node_traps : FlatForm → ℕ
+node_traps form = traps_in_form (flat_form_of form)
+
+unfoldable pub part_traps : Option (Box FlatStmt Global) → ℕ
+part_traps q = traps_in_part (flat_part_of q)
+
+unfoldable pub stmts_traps : List FlatStmt → ℕ
+stmts_traps parts = traps_in_stmts (stmts (map flat_stmt_of parts))
+
+unfoldable pub case_traps : FlatCase → ℕ
+case_traps c = traps_in_part (flat_body_of c)
+
+unfoldable pub cases_traps : List FlatCase → ℕ
+cases_traps list = traps_in_cases (cases (map flat_case_of list))

@@ -8,5 +8,6 @@ pub mod Measures
 pub mod Abortions
 pub mod Choices
 pub mod Extents
+pub mod NewTraps
 pub mod FlatNodes
 pub mod TrapLists

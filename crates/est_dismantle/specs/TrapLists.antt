@@ -1,5 +1,6 @@
 -- Inner: the traps around a statement as a list.
-use Rattle.std.specs.Prelude.{Bool, true, false, List, [], ◌∷◌}
+use Rattle.std.specs.Prelude.{ℕ, ◌+◌, ◌≤◌, Bool, true, false, List, [], ◌∷◌, length}
+use Rattle.est_base.specs.declared.bounds.TheConstants.Limits.{TRAPS}
 use Rattle.est_dismantle.specs.declared.traps.Traps.{Traps as CodeTraps, fold-Traps}
 use Rattle.est_dismantle.specs.declared.traps.Traps.TheOpen.{Traps-F}
 use Rattle.est_dismantle.specs.Kernels.{Traps}
@@ -11,3 +12,7 @@ traps_step (Traps-F.New around) = false ∷ around.now
 
 abbrev pub traps_of : CodeTraps → Traps
 traps_of = fold-Traps (List Bool) traps_step
+
+-- so many more traps can stand in these
+abbrev pub HasRoom : CodeTraps → ℕ → Type 0
+HasRoom traps more = length (traps_of traps) + more ≤ TRAPS

@@ -1,12 +1,13 @@
 // Kernel expansion: the kernel term of a flat statement.
 
-ghost use Rattle.std.specs.Prelude.{◌≡◌, ◌+◌, IfOk, OnOk, map};
+ghost use Rattle.std.specs.Prelude.{◌≡◌, ◌+◌, ◌<◌, ◌^◌, IfOk, OnOk, map};
 ghost use Rattle.est_dismantle.specs.Boxes.{boxed_term};
 ghost use Rattle.est_dismantle.specs.Choices.{choice_of};
 ghost use Rattle.est_dismantle.specs.FlatNodes.{stmt_kernel, node_kernel, part_kernel, stmts_kernels, choices};
 ghost use Rattle.est_dismantle.specs.FlatNodes.{case_choice, stmt_new, node_new, part_new, stmts_new, cases_new};
-ghost use Rattle.est_dismantle.specs.FlatNodes.{case_new};
-ghost use Rattle.est_dismantle.specs.TrapLists.{traps_of};
+ghost use Rattle.est_dismantle.specs.FlatNodes.{case_new, stmt_traps, node_traps, part_traps, stmts_traps};
+ghost use Rattle.est_dismantle.specs.FlatNodes.{cases_traps, case_traps};
+ghost use Rattle.est_dismantle.specs.TrapLists.{traps_of, HasRoom};
 
 use crate::choices::Choice;
 use crate::events::test_of;
@@ -23,15 +24,17 @@ use est_kernel::Kernel;
 use std::alloc::Global;
 
 /// The kernel term of a statement in these traps. The new signals of the statement have the numbers from `next`
-/// on, and behind them stands the next. A number that does not fit is want of memory.
+/// on, and behind them stands the next.
 #[cycle(expansion)]
-#[tactic(auto, using(crate::proofs::KernelNodes::kernel_rows))]
+#[tactic(auto, using(crate::proofs::KernelNodes::stmt_rows))]
 pub(crate) fn expand(
     alloc: Global,
     statement: &FlatStmt,
     traps: &Traps,
     next: &mut u32,
 ) -> Result<Box<Kernel>, NoMemory>
+    requires room { HasRoom traps.now (stmt_traps statement.now) }
+    requires numbers { next.old + stmt_new statement.now < 2 ^ 32 }
     ensures term { IfOk result (λ k. boxed_term k ≡ stmt_kernel (traps_of traps.now) next.old statement.now) }
     ensures next { OnOk result (next.new ≡ next.old + stmt_new statement.now) }
 {
@@ -47,6 +50,8 @@ fn expand_form(
     traps: &Traps,
     next: &mut u32,
 ) -> Result<Box<Kernel>, NoMemory>
+    requires room { HasRoom traps.now (node_traps form.now) }
+    requires numbers { next.old + node_new form.now < 2 ^ 32 }
     ensures term { IfOk result (λ k. boxed_term k ≡ node_kernel (traps_of traps.now) next.old at form.now) }
     ensures next { OnOk result (next.new ≡ next.old + node_new form.now) }
 {
@@ -63,7 +68,9 @@ fn expand_form(
         FlatForm::Loop(body) => expand_loop(alloc, at, body, traps, next),
         FlatForm::LoopEach(body, delay) => expand_loop_each(alloc, at, body, delay, traps, next),
         FlatForm::Every(delay, body) => expand_every(alloc, at, delay, body, traps, next),
-        FlatForm::Repeat(count, _, body) => expand_repeat(alloc, *count, body, traps, next),
+        FlatForm::Repeat(count, place, body) => {
+            expand_repeat(alloc, *count, *place, body, traps, next)
+        }
         FlatForm::Abort(body, delay, rest) => {
             expand_abort(alloc, at, body, delay, rest, traps, next)
         }
@@ -71,10 +78,10 @@ fn expand_form(
         FlatForm::WeakAbort(body, delay) => expand_weak_abort(alloc, at, body, delay, traps, next),
         FlatForm::Suspend(body, delay) => expand_suspend(alloc, at, body, delay, traps, next),
         FlatForm::Trap(body, handler) => expand_trap(alloc, body, handler, traps, next),
-        FlatForm::Exit(between) => match code(traps, *between) {
-            Some(code) => terms::node(alloc, Kernel::Exit(code)),
-            None => Err(NoMemory),
-        },
+        FlatForm::Exit(between) => {
+            let code = code(traps, *between);
+            terms::node(alloc, Kernel::Exit(code))
+        }
         FlatForm::Signal(signals, body) => expand_signal(alloc, signals, body, traps, next),
         FlatForm::Seq(parts) => expand_seq(alloc, parts, traps, next),
         FlatForm::Par(parts) => expand_par(alloc, parts, traps, next),
@@ -89,6 +96,8 @@ pub(crate) fn expand_part(
     traps: &Traps,
     next: &mut u32,
 ) -> Result<Box<Kernel>, NoMemory>
+    requires room { HasRoom traps.now (part_traps part.now) }
+    requires numbers { next.old + part_new part.now < 2 ^ 32 }
     ensures term { IfOk result (λ k. boxed_term k ≡ part_kernel (traps_of traps.now) next.old part.now) }
     ensures next { OnOk result (next.new ≡ next.old + part_new part.now) }
 {
@@ -99,13 +108,15 @@ pub(crate) fn expand_part(
 }
 
 #[cycle(expansion)]
-#[tactic(auto, using(crate::proofs::KernelNodes::kernel_rows))]
+#[tactic(auto, using(crate::proofs::KernelNodes::list_rows))]
 pub(crate) fn expand_parts(
     alloc: Global,
     parts: &[FlatStmt],
     traps: &Traps,
     next: &mut u32,
 ) -> Result<Vec<Box<Kernel>>, NoMemory>
+    requires room { HasRoom traps.now (stmts_traps parts.now) }
+    requires numbers { next.old + stmts_new parts.now < 2 ^ 32 }
     ensures terms { IfOk result (λ v. map boxed_term v.items ≡ stmts_kernels (traps_of traps.now) next.old parts.now) }
     ensures next { OnOk result (next.new ≡ next.old + stmts_new parts.now) }
 {
@@ -117,13 +128,15 @@ pub(crate) fn expand_parts(
 }
 
 #[cycle(expansion)]
-#[tactic(auto, using(crate::proofs::KernelNodes::kernel_rows))]
+#[tactic(auto, using(crate::proofs::KernelNodes::list_rows))]
 pub(crate) fn expand_cases(
     alloc: Global,
     cases: &[FlatCase],
     traps: &Traps,
     next: &mut u32,
 ) -> Result<Vec<Choice>, NoMemory>
+    requires room { HasRoom traps.now (cases_traps cases.now) }
+    requires numbers { next.old + cases_new cases.now < 2 ^ 32 }
     ensures choices { IfOk result (λ v. map choice_of v.items ≡ choices (traps_of traps.now) next.old cases.now) }
     ensures next { OnOk result (next.new ≡ next.old + cases_new cases.now) }
 {
@@ -135,13 +148,15 @@ pub(crate) fn expand_cases(
 }
 
 #[cycle(expansion)]
-#[tactic(auto, using(crate::proofs::KernelNodes::kernel_rows))]
+#[tactic(auto, using(crate::proofs::KernelNodes::case_rows))]
 fn expand_case(
     alloc: Global,
     case: &FlatCase,
     traps: &Traps,
     next: &mut u32,
 ) -> Result<Choice, NoMemory>
+    requires room { HasRoom traps.now (case_traps case.now) }
+    requires numbers { next.old + case_new case.now < 2 ^ 32 }
     ensures choice { IfOk result (λ c. choice_of c ≡ case_choice (traps_of traps.now) next.old case.now) }
     ensures next { OnOk result (next.new ≡ next.old + case_new case.now) }
 {

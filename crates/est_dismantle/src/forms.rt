@@ -3,14 +3,14 @@
 // function that chooses among them. Each takes its parts as the form holds them, boxes and lists, so that its contract
 // can name the form.
 
-ghost use Rattle.std.specs.Prelude.{◌≡◌, ◌+◌, IfOk, OnOk};
+ghost use Rattle.std.specs.Prelude.{◌≡◌, ◌+◌, ◌<◌, ◌^◌, IfOk, OnOk};
 ghost use Rattle.est_base.specs.declared.place.Span.{Span as CodeSpan};
 ghost use Rattle.est_ast.specs.declared.flat.FlatForm.TheVariants.{Await, AwaitCase, Present, PresentCase, Loop};
 ghost use Rattle.est_ast.specs.declared.flat.FlatForm.TheVariants.{LoopEach, Every, Repeat, Abort, AbortCase};
 ghost use Rattle.est_ast.specs.declared.flat.FlatForm.TheVariants.{WeakAbort, Suspend, Trap, Signal, Seq, Par};
 ghost use Rattle.est_dismantle.specs.Boxes.{boxed_term};
-ghost use Rattle.est_dismantle.specs.FlatNodes.{node_kernel, node_new, delay_new};
-ghost use Rattle.est_dismantle.specs.TrapLists.{traps_of};
+ghost use Rattle.est_dismantle.specs.FlatNodes.{node_kernel, node_new, node_traps, delay_new};
+ghost use Rattle.est_dismantle.specs.TrapLists.{traps_of, HasRoom};
 
 use crate::choices::{aborting_cases, awaiting_cases, choice_by, chosen};
 use crate::expansion::{expand, expand_cases, expand_part, expand_parts};
@@ -33,6 +33,8 @@ pub(crate) fn expand_await(
     traps: &Traps,
     next: &mut u32,
 ) -> Result<Box<Kernel>, NoMemory>
+    requires room { HasRoom traps.now (node_traps (Await delay.now rest.now)) }
+    requires numbers { next.old + node_new (Await delay.now rest.now) < 2 ^ 32 }
     ensures term { IfOk result (λ k. boxed_term k
         ≡ node_kernel (traps_of traps.now) next.old at (Await delay.now rest.now)) }
     ensures next { OnOk result (next.new ≡ next.old + node_new (Await delay.now rest.now)) }
@@ -57,6 +59,8 @@ pub(crate) fn expand_await_case(
     traps: &Traps,
     next: &mut u32,
 ) -> Result<Box<Kernel>, NoMemory>
+    requires room { HasRoom traps.now (node_traps (AwaitCase cases.now)) }
+    requires numbers { next.old + node_new (AwaitCase cases.now) < 2 ^ 32 }
     ensures term { IfOk result (λ k. boxed_term k
         ≡ node_kernel (traps_of traps.now) next.old at (AwaitCase cases.now)) }
     ensures next { OnOk result (next.new ≡ next.old + node_new (AwaitCase cases.now)) }
@@ -77,6 +81,8 @@ pub(crate) fn expand_present(
     traps: &Traps,
     next: &mut u32,
 ) -> Result<Box<Kernel>, NoMemory>
+    requires room { HasRoom traps.now (node_traps (Present test.now yes.now no.now)) }
+    requires numbers { next.old + node_new (Present test.now yes.now no.now) < 2 ^ 32 }
     ensures term { (at : CodeSpan) → IfOk result (λ k. boxed_term k
         ≡ node_kernel (traps_of traps.now) next.old at (Present test.now yes.now no.now)) }
     ensures next { OnOk result (next.new ≡ next.old + node_new (Present test.now yes.now no.now)) }
@@ -97,6 +103,8 @@ pub(crate) fn expand_present_case(
     traps: &Traps,
     next: &mut u32,
 ) -> Result<Box<Kernel>, NoMemory>
+    requires room { HasRoom traps.now (node_traps (PresentCase cases.now no.now)) }
+    requires numbers { next.old + node_new (PresentCase cases.now no.now) < 2 ^ 32 }
     ensures term { (at : CodeSpan) → IfOk result (λ k. boxed_term k
         ≡ node_kernel (traps_of traps.now) next.old at (PresentCase cases.now no.now)) }
     ensures next { OnOk result (next.new ≡ next.old + node_new (PresentCase cases.now no.now)) }
@@ -117,6 +125,8 @@ pub(crate) fn expand_loop(
     traps: &Traps,
     next: &mut u32,
 ) -> Result<Box<Kernel>, NoMemory>
+    requires room { HasRoom traps.now (node_traps (Loop body.now)) }
+    requires numbers { next.old + node_new (Loop body.now) < 2 ^ 32 }
     ensures term { IfOk result (λ k. boxed_term k
         ≡ node_kernel (traps_of traps.now) next.old at (Loop body.now)) }
     ensures next { OnOk result (next.new ≡ next.old + node_new (Loop body.now)) }
@@ -137,11 +147,13 @@ pub(crate) fn expand_loop_each(
     traps: &Traps,
     next: &mut u32,
 ) -> Result<Box<Kernel>, NoMemory>
+    requires room { HasRoom traps.now (node_traps (LoopEach body.now delay.now)) }
+    requires numbers { next.old + node_new (LoopEach body.now delay.now) < 2 ^ 32 }
     ensures term { IfOk result (λ k. boxed_term k
         ≡ node_kernel (traps_of traps.now) next.old at (LoopEach body.now delay.now)) }
     ensures next { OnOk result (next.new ≡ next.old + node_new (LoopEach body.now delay.now)) }
 {
-    let signal = new_signal(delay, next)?;
+    let signal = new_signal(delay, next);
     let body = expand(alloc, body, &Traps::New(traps), next)?;
     Ok(rows::looping_each(alloc, at, delay, signal, body)?)
 }
@@ -158,29 +170,34 @@ pub(crate) fn expand_every(
     traps: &Traps,
     next: &mut u32,
 ) -> Result<Box<Kernel>, NoMemory>
+    requires room { HasRoom traps.now (node_traps (Every delay.now body.now)) }
+    requires numbers { next.old + node_new (Every delay.now body.now) < 2 ^ 32 }
     ensures term { IfOk result (λ k. boxed_term k
         ≡ node_kernel (traps_of traps.now) next.old at (Every delay.now body.now)) }
     ensures next { OnOk result (next.new ≡ next.old + node_new (Every delay.now body.now)) }
 {
-    let signal = new_signal(delay, next)?;
+    let signal = new_signal(delay, next);
     let body = expand(alloc, body, &Traps::New(traps), next)?;
     Ok(rows::looping_every(alloc, at, delay, signal, body)?)
 }
 
-/// `repeat n times p end`.
+/// `repeat n times p end`. The place of its count is there for the contract.
 #[cycle(expansion)]
 #[inline(never)]
 #[tactic(auto, using(crate::proofs::KernelNodes::kernel_rows))]
 pub(crate) fn expand_repeat(
     alloc: Global,
     count: u128,
+    place: Span,
     body: &Box<FlatStmt>,
     traps: &Traps,
     next: &mut u32,
 ) -> Result<Box<Kernel>, NoMemory>
-    ensures term { (at span : CodeSpan) → IfOk result (λ k. boxed_term k
-        ≡ node_kernel (traps_of traps.now) next.old at (Repeat count span body.now)) }
-    ensures next { (span : CodeSpan) → OnOk result (next.new ≡ next.old + node_new (Repeat count span body.now)) }
+    requires room { HasRoom traps.now (node_traps (Repeat count place body.now)) }
+    requires numbers { next.old + node_new (Repeat count place body.now) < 2 ^ 32 }
+    ensures term { (at : CodeSpan) → IfOk result (λ k. boxed_term k
+        ≡ node_kernel (traps_of traps.now) next.old at (Repeat count place body.now)) }
+    ensures next { OnOk result (next.new ≡ next.old + node_new (Repeat count place body.now)) }
 {
     let body = expand(alloc, body, traps, next)?;
     Ok(terms::repeated(alloc, count, body)?)
@@ -199,11 +216,13 @@ pub(crate) fn expand_abort(
     traps: &Traps,
     next: &mut u32,
 ) -> Result<Box<Kernel>, NoMemory>
+    requires room { HasRoom traps.now (node_traps (Abort body.now delay.now rest.now)) }
+    requires numbers { next.old + node_new (Abort body.now delay.now rest.now) < 2 ^ 32 }
     ensures term { IfOk result (λ k. boxed_term k
         ≡ node_kernel (traps_of traps.now) next.old at (Abort body.now delay.now rest.now)) }
     ensures next { OnOk result (next.new ≡ next.old + node_new (Abort body.now delay.now rest.now)) }
 {
-    let signal = new_signal(delay, next)?;
+    let signal = new_signal(delay, next);
     let outer = Traps::New(traps);
     match rest {
         None => {
@@ -230,6 +249,8 @@ pub(crate) fn expand_abort_case(
     traps: &Traps,
     next: &mut u32,
 ) -> Result<Box<Kernel>, NoMemory>
+    requires room { HasRoom traps.now (node_traps (AbortCase body.now cases.now)) }
+    requires numbers { next.old + node_new (AbortCase body.now cases.now) < 2 ^ 32 }
     ensures term { IfOk result (λ k. boxed_term k
         ≡ node_kernel (traps_of traps.now) next.old at (AbortCase body.now cases.now)) }
     ensures next { OnOk result (next.new ≡ next.old + node_new (AbortCase body.now cases.now)) }
@@ -252,6 +273,8 @@ pub(crate) fn expand_weak_abort(
     traps: &Traps,
     next: &mut u32,
 ) -> Result<Box<Kernel>, NoMemory>
+    requires room { HasRoom traps.now (node_traps (WeakAbort body.now delay.now)) }
+    requires numbers { next.old + node_new (WeakAbort body.now delay.now) < 2 ^ 32 }
     ensures term { IfOk result (λ k. boxed_term k
         ≡ node_kernel (traps_of traps.now) next.old at (WeakAbort body.now delay.now)) }
     ensures next { OnOk result (next.new ≡ next.old + node_new (WeakAbort body.now delay.now)) }
@@ -272,6 +295,8 @@ pub(crate) fn expand_suspend(
     traps: &Traps,
     next: &mut u32,
 ) -> Result<Box<Kernel>, NoMemory>
+    requires room { HasRoom traps.now (node_traps (Suspend body.now delay.now)) }
+    requires numbers { next.old + node_new (Suspend body.now delay.now) < 2 ^ 32 }
     ensures term { IfOk result (λ k. boxed_term k
         ≡ node_kernel (traps_of traps.now) next.old at (Suspend body.now delay.now)) }
     ensures next { OnOk result (next.new ≡ next.old + node_new (Suspend body.now delay.now)) }
@@ -291,6 +316,8 @@ pub(crate) fn expand_trap(
     traps: &Traps,
     next: &mut u32,
 ) -> Result<Box<Kernel>, NoMemory>
+    requires room { HasRoom traps.now (node_traps (Trap body.now handler.now)) }
+    requires numbers { next.old + node_new (Trap body.now handler.now) < 2 ^ 32 }
     ensures term { (at : CodeSpan) → IfOk result (λ k. boxed_term k
         ≡ node_kernel (traps_of traps.now) next.old at (Trap body.now handler.now)) }
     ensures next { OnOk result (next.new ≡ next.old + node_new (Trap body.now handler.now)) }
@@ -320,6 +347,8 @@ pub(crate) fn expand_signal(
     traps: &Traps,
     next: &mut u32,
 ) -> Result<Box<Kernel>, NoMemory>
+    requires room { HasRoom traps.now (node_traps (Signal signals.now body.now)) }
+    requires numbers { next.old + node_new (Signal signals.now body.now) < 2 ^ 32 }
     ensures term { (at : CodeSpan) → IfOk result (λ k. boxed_term k
         ≡ node_kernel (traps_of traps.now) next.old at (Signal signals.now body.now)) }
     ensures next { OnOk result (next.new ≡ next.old + node_new (Signal signals.now body.now)) }
@@ -338,6 +367,8 @@ pub(crate) fn expand_seq(
     traps: &Traps,
     next: &mut u32,
 ) -> Result<Box<Kernel>, NoMemory>
+    requires room { HasRoom traps.now (node_traps (Seq parts.now)) }
+    requires numbers { next.old + node_new (Seq parts.now) < 2 ^ 32 }
     ensures term { (at : CodeSpan) → IfOk result (λ k. boxed_term k
         ≡ node_kernel (traps_of traps.now) next.old at (Seq parts.now)) }
     ensures next { OnOk result (next.new ≡ next.old + node_new (Seq parts.now)) }
@@ -356,6 +387,8 @@ pub(crate) fn expand_par(
     traps: &Traps,
     next: &mut u32,
 ) -> Result<Box<Kernel>, NoMemory>
+    requires room { HasRoom traps.now (node_traps (Par parts.now)) }
+    requires numbers { next.old + node_new (Par parts.now) < 2 ^ 32 }
     ensures term { (at : CodeSpan) → IfOk result (λ k. boxed_term k
         ≡ node_kernel (traps_of traps.now) next.old at (Par parts.now)) }
     ensures next { OnOk result (next.new ≡ next.old + node_new (Par parts.now)) }
@@ -366,25 +399,21 @@ pub(crate) fn expand_par(
 
 // The number of the next new signal, which an abortion by a count of 2 or more takes.
 #[tactic(auto, using(crate::proofs::KernelNodes::delay_rows))]
-fn new_signal(delay: &FlatDelay, next: &mut u32) -> Result<SigId, NoMemory>
-    ensures signal { IfOk result (λ s. s.0 ≡ next.old) }
-    ensures next { OnOk result (next.new ≡ next.old + delay_new delay.now) }
+fn new_signal(delay: &FlatDelay, next: &mut u32) -> SigId
+    requires { next.old + delay_new delay.now < 2 ^ 32 }
+    ensures signal { result.0 ≡ next.old }
+    ensures next { next.new ≡ next.old + delay_new delay.now }
 {
     let signal = SigId(*next);
     match delay {
-        FlatDelay::Plain(_) => Ok(signal),
-        FlatDelay::Immediate(_) => Ok(signal),
+        FlatDelay::Plain(_) => signal,
+        FlatDelay::Immediate(_) => signal,
         FlatDelay::Count(count, _, _) => {
             if *count <= 1 {
-                return Ok(signal);
+                return signal;
             }
-            match signal.0.checked_add(1) {
-                Some(number) => {
-                    *next = number;
-                    Ok(signal)
-                }
-                None => Err(NoMemory),
-            }
+            *next = signal.0 + 1;
+            signal
         }
     }
 }

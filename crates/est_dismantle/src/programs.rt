@@ -26,8 +26,7 @@ use std::alloc::Global;
 /// that is too large is refused before any of it is made.
 ///
 /// A count that is 0 or above 255 is refused first, then a kernel body above the limits on size, on height and on
-/// traps one in another, in this order. A number of a new signal that does not fit 32 bits is want of
-/// memory.
+/// traps one in another, in this order.
 pub fn dismantle(alloc: Global, flat: Box<Flat>) -> Result<KernelProgram, Stop<DismantleFault>>
     ensures expands { IfOk result (λ p. expansion (flat_of flat.value) ≡ Expanded (program_of p)) }
     ensures refuses { IfFault result (λ fault. FaultHasCause (expansion (flat_of flat.value)) fault) }
@@ -72,8 +71,10 @@ struct NewBody {
     signals: u32,
 }
 
-// That of a flat program, whatever its size.
+// That of a flat program that keeps the limits.
 fn new_body(alloc: Global, flat: &Flat) -> Result<NewBody, NoMemory>
+    requires { expansion (flat_of flat.now)
+        ≡ Expanded (program_in (flat_of flat.now) (kernel_body (flat_of flat.now))) }
     ensures term { IfOk result (λ b. boxed_term b.term ≡ kernel_body (flat_of flat.now)) }
     ensures signals { IfOk result (λ b. b.signals ≡ new_in (flat_of flat.now).body) }
 {
@@ -87,8 +88,10 @@ fn new_body(alloc: Global, flat: &Flat) -> Result<NewBody, NoMemory>
     })
 }
 
-// The program, whatever its size. The flat body is let go by a call, since its forms are many.
+// The program, where it keeps the limits. The flat body is let go by a call, since its forms are many.
 fn program(alloc: Global, flat: Box<Flat>) -> Result<KernelProgram, NoMemory>
+    requires { expansion (flat_of flat.value)
+        ≡ Expanded (program_in (flat_of flat.value) (kernel_body (flat_of flat.value))) }
     ensures { IfOk result (λ p. program_of p ≡ program_in (flat_of flat.value) (kernel_body (flat_of flat.value))) }
 {
     let expanded = new_body(alloc, &flat)?;

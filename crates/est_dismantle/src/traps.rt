@@ -1,6 +1,7 @@
 // The traps around a statement, and the codes of exits.
 
-ghost use Rattle.std.specs.Prelude.{◌≡◌, IfSome};
+ghost use Rattle.std.specs.Prelude.{◌≡◌, ◌+◌, ◌≤◌, length};
+ghost use Rattle.est_base.specs.declared.bounds.TheConstants.Limits.{TRAPS};
 ghost use Rattle.est_dismantle.specs.Kernels.{exit_code};
 ghost use Rattle.est_dismantle.specs.TrapLists.{traps_of};
 
@@ -13,21 +14,22 @@ pub(crate) enum Traps<'a> {
     New(&'a Traps<'a>),
 }
 
-/// The code of an exit that leaves the source trap with so many source traps between; none where there is no code
-/// of that number.
+/// The code of an exit that leaves the source trap with so many source traps between.
 #[tactic(auto, using(crate::proofs::Exits::exit_rows))]
-pub(crate) fn code(traps: &Traps, between: u32) -> Option<u8>
-    ensures { IfSome result (λ code. code ≡ exit_code (traps_of traps.now) between) }
+pub(crate) fn code(traps: &Traps, between: u32) -> u8
+    requires { length (traps_of traps.now) ≤ TRAPS }
+    ensures code { result ≡ exit_code (traps_of traps.now) between }
+    ensures within { result ≤ 2 + length (traps_of traps.now) }
 {
     match traps {
-        Traps::Whole => Some(2),
+        Traps::Whole => 2,
         Traps::Source(around) => {
             if between == 0 {
-                Some(2)
+                2
             } else {
-                code(around, between - 1)?.checked_add(1)
+                code(around, between - 1) + 1
             }
         }
-        Traps::New(around) => code(around, between)?.checked_add(1),
+        Traps::New(around) => code(around, between) + 1,
     }
 }

@@ -5,7 +5,7 @@ use Rattle.est_base.specs.declared.bounds.TheConstants.Limits.{KERNEL_NODES, KER
 use Rattle.est_kernel.specs.Terms.{Term}
 use Rattle.est_kernel.specs.Sizes.{size_of, height_of, trap_depth}
 use Rattle.est_ast.specs.FlatTrees.{Flat}
-use Rattle.est_dismantle.specs.Expansions.{Expansion, Expanded, TooLarge, TooHigh, TooManyTraps, limited, program_in}
+use Rattle.est_dismantle.specs.Expansions.{Expanded, TooLarge, TooHigh, TooManyTraps, limited, program_in}
 
 module _ (flat : Flat) (body : Term) where
   -- what stands behind a number that is within its limit

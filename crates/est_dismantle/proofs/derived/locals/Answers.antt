@@ -1,4 +1,4 @@
-use Rattle.std.proofs.Common.{◌+◌, ◌-◌, ◌<◌, ◌≡◌, length, get_or, refl, sym, ◌∙◌, ap, arith}
+use Rattle.std.proofs.Common.{◌+◌, ◌-◌, length, get_or, sym, ◌∙◌, ap, arith}
 use Rattle.est_dismantle.specs.Boxes.{boxed_term}
 use Rattle.est_kernel.specs.Terms.{Local}
 use Rattle.est_dismantle.proofs.Lists.{locals-at, get_or-same}

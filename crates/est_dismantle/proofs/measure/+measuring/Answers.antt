@@ -1,4 +1,4 @@
-use Rattle.std.proofs.Common.{◌+◌, ◌-◌, length, arith, drop, refl, sym}
+use Rattle.std.proofs.Common.{◌+◌, ◌-◌, length, arith, refl}
 use Rattle.est_dismantle.proofs.MeasuredNodes.{along, node-Await_written, node-Present, node-Every, node-Repeat, node-Abort_written, node-AbortCase}
 use Rattle.est_dismantle.proofs.MeasuredNodes.{node-Trap_written, parts-none, parts-last, parts-step, boxed, events_in, chosen_in, chosen-past, chosen-step}
 use Rattle.est_dismantle.proofs.MeasuredNodes.{case-missing, case-written}

@@ -1,4 +1,4 @@
-use Rattle.std.proofs.Common.{◌≡◌, ◌-◌, ◌≤◌, length, drop}
+use Rattle.std.proofs.Common.{◌-◌, drop}
 use Rattle.est_dismantle.specs.Extents.{IsExtent}
 use Rattle.est_dismantle.specs.FlatNodes.{parts_measures, chosen_measures}
 use Rattle.est_dismantle.specs.Measures.{Measures}

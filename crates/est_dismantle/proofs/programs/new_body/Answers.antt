@@ -1,10 +1,20 @@
-use Rattle.std.proofs.Common.{◌≡◌, length, map, refl, arith}
+use Rattle.std.proofs.Common.{◌≡◌, length, map, refl, ap, arith}
 use Rattle.std.proofs.lemmas.List.{length-map}
 use Rattle.est_ast.specs.FlatViews.{flat_of}
 use Rattle.est_dismantle.specs.Boxes.{boxed_term}
 use Rattle.est_dismantle.proofs.Exits.{traps-Whole}
-use Rattle.est_dismantle.proofs.WholePrograms.{body-made, new-counted}
+use Rattle.est_dismantle.proofs.WholePrograms.{body-fits, body-made, new-counted}
 use Rattle.est_dismantle.proofs.programs.new_body.Goals as goal
+
+pub expand-requires-clause-room : goal.expand-requires-clause-room
+expand-requires-clause-room c =
+    let fits = body-fits (flat_of c.args.flat.now) c.args.flat.now.body _ refl c.requires in
+    omega (arith, fits.1, ap length traps-Whole)
+
+pub expand-requires-clause-numbers : goal.expand-requires-clause-numbers
+expand-requires-clause-numbers c =
+    let fits = body-fits (flat_of c.args.flat.now) c.args.flat.now.body _ refl c.requires in
+    omega (arith, fits.0, c.args.flat.now.few, c.len-count.ensures)
 
 pub returns-clause-term : goal.returns-clause-term
 returns-clause-term c =

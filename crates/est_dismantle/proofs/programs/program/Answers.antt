@@ -1,12 +1,16 @@
-use Rattle.std.proofs.Common.{map, ◌++◌, codes, refl, sym, ◌∙◌, ap}
+use Rattle.std.proofs.Common.{◌≡◌, map, ◌++◌, codes, refl, sym, ◌∙◌, ap, subst}
 use Rattle.std.specs.Prelude.{replicate}
 use Rattle.est_base.specs.Relations.{relation_of}
 use Rattle.est_kernel.specs.Plain.{term_of}
 use Rattle.est_ast.specs.FlatViews.{flat_of}
 use Rattle.est_ast.specs.NewSignals.{new_in}
-use Rattle.est_dismantle.specs.Expansions.{kernel_body, program_in}
+use Rattle.est_dismantle.specs.Expansions.{Expanded, expansion, kernel_body, program_in}
 use Rattle.est_dismantle.proofs.WholePrograms.{program-made}
 use Rattle.est_dismantle.proofs.programs.program.Goals as goal
+
+pub new_body-requires : goal.new_body-requires
+new_body-requires c =
+    subst (λ f. expansion (flat_of f) ≡ Expanded (program_in (flat_of f) (kernel_body (flat_of f)))) (sym c.deref.ensures) c.requires
 
 pub returns : goal.returns
 returns c =
