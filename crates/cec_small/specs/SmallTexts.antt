@@ -5,6 +5,7 @@ use Rattle.net_ir.specs.Netlists.{Netlist}
 use Rattle.net_ir.specs.Runs.{netlist_of}
 use Rattle.net_simp.specs.SimpleNets.{IsSimple}
 use Rattle.net_opt.specs.Optimized.{Optimizes}
+use Rattle.net_opt.specs.Shown.{EachIsShown}
 use Rattle.blif_text.specs.Written as blif_texts
 use Rattle.csub_text.specs.Written as c_texts
 use Rattle.vlog_text.specs.Written as vlog_texts
@@ -43,12 +44,13 @@ pub record StandsForSmallVerilog (text : List ℕ) (main : Option (List ℕ)) (w
   pub keeps : VerilogTextKeeps written program
 
 -- The netlist is that of the compiled program, optimized: it has its interface, follows it, has no more gates and no
--- more latches, and nothing is left to simplify.
+-- more latches, nothing is left to simplify, and something shows each latch and each gate.
 pub record IsSmallNetOf (bytes : List ℕ) (main : Option (List ℕ)) (net : Netlist) : Type 0 where
   pub made : Compiled
   pub compiled : StandsForNet bytes main made
   pub optimizes : Optimizes (netlist_of made.net) net
   pub simple : IsSimple net
+  pub shown : EachIsShown net
 
 -- The text is that of such a netlist: it has a table for each gate, in the order of the gates.
 pub record IsSmallBlifOf (bytes : List ℕ) (main : Option (List ℕ)) (written : List ℕ) : Type 0 where

@@ -8,7 +8,8 @@ use Rattle.est_base.specs.declared.indices.NetId.{NetId}
 use Rattle.net_ir.specs.declared.netlist.Gate.{Gate}
 use Rattle.net_ir.specs.declared.netlist.Latch.{Latch}
 use Rattle.net_ir.specs.Netlists.{Netlist, first_gate}
-use Rattle.net_opt.specs.Showing.{marked, AllAre, IsClosed, IsRead}
+use Rattle.net_opt.specs.Showing.{marked, AllAre}
+use Rattle.net_opt.specs.Shown.{IsClosed, IsRead}
 
 -- what a latch reads
 pub latch-read : (net : Netlist) (P : ℕ → Bool) → IsClosed net P → (n k : ℕ) (l : Latch) → n ≡ length net.inputs + k → k < length net.latches
@@ -22,7 +23,7 @@ pub gate-read : (net : Netlist) (P : ℕ → Bool) → IsClosed net P → (n k :
 gate-read net P closed n k g at low is here =
     subst (λ (x : Gate). IsRead P x.op) (sym is) (closed.gates k g low (subst (λ m. IsTrue (P m)) at here))
 
-none-marked : (count n : ℕ) → marked (replicate count false) n ≡ false
+pub none-marked : (count n : ℕ) → marked (replicate count false) n ≡ false
 none-marked count n = elim (cases_lt n count) [
   | inl low ↦ get_or-replicate count n false false low
   | inr high ↦ get_or-eq_default (replicate count false) false (omega (arith, length-replicate count false))

@@ -1,11 +1,11 @@
 -- Netlists that replace others, one after another.
-use Rattle.std.proofs.Common.{◌≡◌, Bool, List, [], ◌∷◌, ◌++◌, length, map, refl, sym, ap, ◌∙◌, subst, arith}
+use Rattle.std.proofs.Common.{◌≡◌, Bool, List, [], ◌∷◌, ◌++◌, ◌≤◌, length, map, refl, sym, ap, ◌∙◌, subst, arith}
 use Rattle.std.proofs.lemmas.List.{length-map}
 use Rattle.est_base.specs.Items.{Item, Event, Reset, EachEvent}
 use Rattle.net_ir.specs.declared.netlist.Gate.{Gate}
 use Rattle.net_ir.specs.declared.netlist.Latch.{Latch}
 use Rattle.net_ir.specs.Gates.{carried, gate_values, value_in, op_value}
-use Rattle.net_ir.specs.Netlists.{Netlist}
+use Rattle.net_ir.specs.Netlists.{Netlist, net_count}
 use Rattle.net_ir.specs.Runs.{shown, net_values, initial_latches, next_latches, values_from}
 use Rattle.net_follow.specs.Following.{IsWide}
 use Rattle.net_follow.proofs.Exports.{followed-by-runs}
@@ -63,11 +63,21 @@ optimizes-twice old mid new a b =
       fewer_latches = omega (arith, a.fewer_latches, b.fewer_latches);
     }
 
--- a simplified netlist
+-- a simplified netlist has as many latches, and no more nets
+simplified-sizes : (old new : Netlist) → SameParts old new → (length new.latches ≡ length old.latches) × (net_count new ≤ net_count old)
+simplified-sizes old new parts =
+    let latches : length new.latches ≡ length old.latches =
+    sym (length-map new.latches (λ (l : Latch). l.init)) ∙ ap length parts.latches ∙ length-map old.latches (λ (l : Latch). l.init) in
+    let inputs = ap length parts.inputs in
+    let gates = parts.fewer in
+    (latches, omega arith)
+
+pub simplified-count : (old new : Netlist) → SameParts old new → net_count new ≤ net_count old
+simplified-count old new parts = (simplified-sizes old new parts).1
+
 simplified-optimizes : (old new : Netlist) → carried old.gates ≡ [] → SameParts old new → SameRuns old new → Optimizes old new
 simplified-optimizes old new silent parts runs =
-    let same : length new.latches ≡ length old.latches =
-    sym (length-map new.latches (λ (l : Latch). l.init)) ∙ ap length parts.latches ∙ length-map old.latches (λ (l : Latch). l.init) in
+    let same = (simplified-sizes old new parts).0 in
     record {
       replaces = record {
         interface = record { name = parts.name; inputs = parts.inputs; outputs = parts.outputs; silent = parts.carries ∙ silent };

@@ -129,3 +129,34 @@ fn reach(marks: &mut Vec<bool>, stack: &mut Vec<usize>, node: usize) -> Result<(
     mark(marks, node);
     Ok(stack.push(node)?)
 }
+
+/// How many marked pairs, outputs, latches and `paused` need each node.
+pub(crate) fn reader_counts(
+    alloc: Global,
+    net: &Net,
+    built: &Built,
+    marks: &[bool],
+) -> Result<Vec<usize>, NoMemory> {
+    let mut readers = vec![in alloc; 0; built.graph.count()]?;
+    for node in 0..built.graph.count() {
+        if built.graph.is_pair(node) && is_marked(marks, node) {
+            let pair = built.graph.pair(node);
+            count(&mut readers, pair.left.node);
+            count(&mut readers, pair.right.node);
+        }
+    }
+    count(&mut readers, built.edge(net.paused).node);
+    for output in &net.outputs {
+        count(&mut readers, built.edge(output.net).node);
+    }
+    for latch in &net.latches {
+        count(&mut readers, built.edge(latch.from).node);
+    }
+    Ok(readers)
+}
+
+fn count(readers: &mut Vec<usize>, node: usize) {
+    if node < readers.len() {
+        readers[node] = readers[node].saturating_add(1);
+    }
+}

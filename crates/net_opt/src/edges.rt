@@ -13,6 +13,12 @@ pub(crate) const TRUE: Edge = Edge {
     negative: false,
 };
 
+/// What stands for a node that is not there.
+pub(crate) const UNKNOWN: Edge = Edge {
+    node: usize::MAX,
+    negative: false,
+};
+
 /// A node itself.
 pub(crate) fn straight(node: usize) -> Edge {
     Edge {
@@ -66,5 +72,18 @@ pub(crate) fn is_marked(list: &[bool], place: usize) -> bool {
 pub(crate) fn mark(list: &mut [bool], place: usize) {
     if place < list.len() {
         list[place] = true;
+    }
+}
+
+/// The edge that names have for a node, or its negation: `UNKNOWN` where there is none.
+pub(crate) fn named(names: &[Edge], edge: Edge) -> Edge {
+    if edge.node >= names.len() {
+        return UNKNOWN;
+    }
+    let name = names[edge.node];
+    if name.node == usize::MAX {
+        UNKNOWN
+    } else {
+        negated_if(name, edge.negative)
     }
 }

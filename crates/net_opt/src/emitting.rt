@@ -174,8 +174,8 @@ fn net_of(edge: Edge) -> NetId {
     net_number(edge.node.saturating_sub(1))
 }
 
-/// The net of a number, where there can be so many.
-pub(crate) fn net_number(number: usize) -> NetId {
+// The net of a number, where there can be so many.
+fn net_number(number: usize) -> NetId {
     if number < 0x1_0000_0000 {
         NetId(number as u32)
     } else {

@@ -8,12 +8,14 @@
 #![tactic(auto)]
 
 mod assembling;
+mod balancing;
 mod building;
 mod classes;
 mod cuts;
 mod edges;
 mod emitting;
 mod graphs;
+mod keeping;
 mod optimizing;
 mod plans;
 mod rewriting;

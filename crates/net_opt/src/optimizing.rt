@@ -5,13 +5,13 @@ ghost use Rattle.net_ir.specs.Netlists.{Netlist};
 ghost use Rattle.net_ir.specs.Runs.{netlist_of};
 ghost use Rattle.net_simp.specs.SimpleNets.{IsSimple};
 ghost use Rattle.net_opt.specs.Optimized.{Optimizes, Replaces};
-ghost use Rattle.net_opt.specs.Showing.{ShowsAll};
+ghost use Rattle.net_opt.specs.Shown.{EachIsShown};
 
 use crate::classes::{Classes, first_classes, own_classes};
-use crate::showing::shown_net;
+use crate::showing::shown_part;
 use crate::silencing::silent_copy;
 use crate::simulating::histories;
-use crate::trying::tried_classes;
+use crate::trying::{Change, tried_classes};
 use est_base::NoMemory;
 use net_follow::{Instant, inductive_claims};
 use net_ir::Net;
@@ -24,25 +24,32 @@ const ROUNDS: usize = 100;
 const TRIALS: usize = 20;
 
 // How many passes there are at most.
-const PASSES: usize = 8;
+const PASSES: usize = 12;
 
 // How many passes in a row may bring nothing.
-const IDLE: usize = 3;
+const IDLE: usize = 5;
 
 // How often a pass that rewrites does so.
 const REWRITES: usize = 5;
 
 /// A netlist that does what the given one does, with no more gates and no more latches: the same inputs and outputs, in
-/// the same order, and over every list of items, resets included, the same outputs and `paused`. What nothing shows
-/// goes, and so do latches and gates that are found to be constant, or equal or opposite to others, in every instant
-/// that the netlist reaches. Which wires the gates carry is forgotten, and nothing is left to simplify (`net_simp`).
-/// The only error is want of memory.
+/// the same order, and over every list of items, resets included, the same outputs and `paused`. Latches and gates go
+/// that are found to be constant, or equal or opposite to others, in every instant that the netlist reaches. Each latch
+/// and each gate that stays is read on a way to an output or `paused`. Which wires the gates carry is forgotten, and
+/// nothing is left to simplify (`net_simp`). The only error is want of memory.
 pub fn optimize(alloc: Global, net: &Net) -> Result<Net, NoMemory>
     ensures optimizes { IfOk result (λ new. Optimizes (netlist_of net.now) (netlist_of new)) }
     ensures simple { IfOk result (λ new. IsSimple (netlist_of new)) }
+    ensures shown { IfOk result (λ new. EachIsShown (netlist_of new)) }
 {
-    let small = searched_net(alloc, net)?;
-    Ok(simplify(alloc, small)?)
+    let mut best = searched_net(alloc, net)?;
+    'rounds: loop {
+        let simple = simplify(alloc, best)?;
+        match shown_part(alloc, &simple)? {
+            Some(part) => best = part,
+            None => return Ok(simple),
+        }
+    }
 }
 
 // What the passes find: each gives a smaller netlist, or none.
@@ -68,27 +75,32 @@ fn begun_net(alloc: Global, net: &Net) -> Result<Net, NoMemory>
     ensures { IfOk result (λ new. Optimizes (netlist_of net.now) (netlist_of new)) }
 {
     let silent = silent_copy(alloc, net)?;
-    let shown = improved(alloc, &silent, Pass::Show)?;
-    Ok(chosen(silent, shown))
+    match shown_part(alloc, &silent)? {
+        Some(part) => Ok(part),
+        None => Ok(silent),
+    }
 }
 
 // What a pass does.
 #[derive(Clone, Copy)]
 enum Pass {
-    // What nothing shows goes.
-    Show,
     // Nets that are equal or opposite become one.
     Merge,
+    // What many nets say together is balanced by depth.
+    Balance,
     // Parts are replaced by smaller ones that compute the same.
     Rewrite,
 }
 
-// The pass of a place: nets are made one twice, and then in every second pass.
+// The pass of a place: nets are made one twice at first; then chains are balanced, parts are rewritten, and nets are
+// made one again, in turn.
 fn pass_at(place: usize) -> Pass {
-    if place < 2 || place % 2 == 1 {
-        Pass::Merge
-    } else {
+    if place % 3 == 2 {
+        Pass::Balance
+    } else if place > 0 && place % 3 == 0 {
         Pass::Rewrite
+    } else {
+        Pass::Merge
     }
 }
 
@@ -138,9 +150,9 @@ fn passed(alloc: Global, net: &Net, pass: Pass) -> Result<Option<Net>, NoMemory>
     ensures { IfOk result (λ o. IfSome o (λ new. Replaces (netlist_of net.now) (netlist_of new))) }
 {
     match pass {
-        Pass::Show => shown_net(alloc, net),
         Pass::Merge => merged_net(alloc, net),
-        Pass::Rewrite => rewritten_net(alloc, net),
+        Pass::Balance => changed_net(alloc, net, Change::Balance),
+        Pass::Rewrite => changed_net(alloc, net, Change::Rewrite(REWRITES)),
     }
 }
 
@@ -152,7 +164,7 @@ fn merged_net(alloc: Global, net: &Net) -> Result<Option<Net>, NoMemory>
     let mut classes = first_classes(alloc, &histories(alloc, net)?)?;
     for _trial in 0..TRIALS {
         part_classes(alloc, net, &mut classes)?;
-        let trial = tried_classes(alloc, net, &classes, 0)?;
+        let trial = tried_classes(alloc, net, &classes, Change::Keep)?;
         if trial.new.is_some() {
             return Ok(trial.new);
         }
@@ -189,11 +201,11 @@ fn parts(
     Ok(!parted.unshown.is_empty())
 }
 
-// A netlist in which parts are replaced by smaller ones that compute the same.
-fn rewritten_net(alloc: Global, net: &Net) -> Result<Option<Net>, NoMemory>
+// A netlist that computes the same by another graph: balanced by depth, or of smaller parts.
+fn changed_net(alloc: Global, net: &Net, change: Change) -> Result<Option<Net>, NoMemory>
     ensures { IfOk result (λ o. IfSome o (λ new. Replaces (netlist_of net.now) (netlist_of new))) }
 {
     let classes = own_classes(alloc, net)?;
-    let trial = tried_classes(alloc, net, &classes, REWRITES)?;
+    let trial = tried_classes(alloc, net, &classes, change)?;
     Ok(trial.new)
 }

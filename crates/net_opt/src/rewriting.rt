@@ -1,8 +1,8 @@
 // Graphs in which parts are replaced by smaller ones that compute the same.
 
-use crate::building::Built;
+use crate::building::{Built, reader_counts};
 use crate::cuts::{Cut, Style, cut_of, place_in};
-use crate::edges::{Edge, TRUE, edge_at, is_marked, negated_if, straight};
+use crate::edges::{Edge, TRUE, UNKNOWN, edge_at, is_marked, named, straight};
 use crate::graphs::Graph;
 use crate::plans::{Plan, VARIABLES, planned};
 use est_base::NoMemory;
@@ -70,7 +70,7 @@ pub(crate) fn rewritten(
     let mut rewriter = Rewriter {
         graph: Graph::new(alloc, built.graph.leaves, count)?,
         edges: Vec::new(alloc),
-        fans: fan_counts(alloc, net, built, marks)?,
+        fans: reader_counts(alloc, net, built, marks)?,
         changes,
     };
     for node in 0..count {
@@ -201,54 +201,5 @@ impl Rewriter {
             names.push(edge)?;
         }
         Ok(named(&names, plan.root))
-    }
-}
-
-// What stands for a node that is not there.
-const UNKNOWN: Edge = Edge {
-    node: usize::MAX,
-    negative: false,
-};
-
-fn named(names: &[Edge], edge: Edge) -> Edge {
-    if edge.node >= names.len() {
-        return UNKNOWN;
-    }
-    let name = names[edge.node];
-    if name.node == usize::MAX {
-        UNKNOWN
-    } else {
-        negated_if(name, edge.negative)
-    }
-}
-
-// How many marked pairs, outputs, latches and `paused` need each node.
-fn fan_counts(
-    alloc: Global,
-    net: &Net,
-    built: &Built,
-    marks: &[bool],
-) -> Result<Vec<usize>, NoMemory> {
-    let mut fans = vec![in alloc; 0; built.graph.count()]?;
-    for node in 0..built.graph.count() {
-        if built.graph.is_pair(node) && is_marked(marks, node) {
-            let pair = built.graph.pair(node);
-            count(&mut fans, pair.left.node);
-            count(&mut fans, pair.right.node);
-        }
-    }
-    count(&mut fans, built.edge(net.paused).node);
-    for output in &net.outputs {
-        count(&mut fans, built.edge(output.net).node);
-    }
-    for latch in &net.latches {
-        count(&mut fans, built.edge(latch.from).node);
-    }
-    Ok(fans)
-}
-
-fn count(fans: &mut Vec<usize>, node: usize) {
-    if node < fans.len() {
-        fans[node] = fans[node].saturating_add(1);
     }
 }

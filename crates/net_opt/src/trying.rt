@@ -4,7 +4,8 @@ ghost use Rattle.std.specs.Prelude.{IfOk, IfSome};
 ghost use Rattle.net_ir.specs.Runs.{netlist_of};
 ghost use Rattle.net_opt.specs.Optimized.{Replaces, SameInterface};
 
-use crate::assembling::{Parts, assembled_net};
+use crate::assembling::assembled_net;
+use crate::balancing::balanced;
 use crate::building::{Built, built_graph, marked_nodes};
 use crate::classes::{Classes, equation, literal};
 use crate::edges::{Edge, TRUE, edge_at, is_marked, mark, negated_if, number_at, straight};
@@ -33,17 +34,28 @@ struct Claims {
     places: Vec<usize>,
 }
 
-/// The netlist in which the classes' nets are one, rewritten so many times, if it can be shown to follow.
+/// How the graph of a netlist is changed.
+#[derive(Clone, Copy)]
+pub(crate) enum Change {
+    // not at all
+    Keep,
+    // chains are balanced by depth
+    Balance,
+    // parts are rewritten so many times
+    Rewrite(usize),
+}
+
+/// The netlist in which the classes' nets are one, changed so, if it can be shown to follow.
 pub(crate) fn tried_classes(
     alloc: Global,
     net: &Net,
     classes: &Classes,
-    rewrites: usize,
+    change: Change,
 ) -> Result<Trial, NoMemory>
     ensures { IfOk result (λ t. IfSome t.new (λ new. Replaces (netlist_of net.now) (netlist_of new))) }
 {
     let plain = built_graph(alloc, net, &classes.stand_ins)?;
-    let built = remade(alloc, net, plain, rewrites)?;
+    let built = changed(alloc, net, plain, change)?;
     let marks = marked_nodes(alloc, net, &built)?;
     let emitted = emitted_parts(alloc, net, &built, &marks)?;
     let claims = claimed(alloc, classes, &built, &marks, &emitted)?;
@@ -55,10 +67,22 @@ pub(crate) fn tried_classes(
     Ok(Trial { new, failing })
 }
 
+// The graph, changed so.
+fn changed(alloc: Global, net: &Net, built: Built, change: Change) -> Result<Built, NoMemory> {
+    match change {
+        Change::Keep => Ok(built),
+        Change::Balance => {
+            let marks = marked_nodes(alloc, net, &built)?;
+            balanced(alloc, net, &built, &marks)
+        }
+        Change::Rewrite(times) => remade(alloc, net, built, times),
+    }
+}
+
 // The graph, rewritten so many times; every second time what only changes is taken too.
-fn remade(alloc: Global, net: &Net, built: Built, rewrites: usize) -> Result<Built, NoMemory> {
+fn remade(alloc: Global, net: &Net, built: Built, times: usize) -> Result<Built, NoMemory> {
     let mut now = built;
-    for pass in 0..rewrites {
+    for pass in 0..times {
         let marks = marked_nodes(alloc, net, &now)?;
         now = rewritten(alloc, net, &now, &marks, pass % 2 == 1)?;
     }
@@ -96,8 +120,8 @@ fn claimed(
     Ok(claims)
 }
 
-/// A net of the given netlist has the value of a net of the new one, or of its negation.
-pub(crate) fn claim(number: usize, name: Edge) -> Equation {
+// A net of the given netlist has the value of a net of the new one, or of its negation.
+fn claim(number: usize, name: Edge) -> Equation {
     let old = straight(number.saturating_add(1));
     if name.node == 0 {
         Equation {

@@ -3,6 +3,7 @@ use Rattle.std.specs.Prelude.{◌≡◌, ℕ, ◌+◌, List, [], ◌∷◌, ◌+
 use Rattle.std.specs.List.{concat}
 use Rattle.net_ir.specs.Netlists.{Netlist}
 use Rattle.net_opt.specs.Optimized.{Optimizes}
+use Rattle.net_opt.specs.Shown.{EachIsShown}
 use Rattle.net_simp.specs.SimpleNets.{IsSimple}
 use Rattle.blif_text.specs.Written as blif_texts
 use Rattle.csub_text.specs.Written as c_texts
@@ -35,6 +36,7 @@ pub record TellsNets (net : Netlist) (lines : List ℕ) : Type 0 where
   pub small : Netlist
   pub optimizes : Optimizes net small
   pub simple : IsSimple small
+  pub shown : EachIsShown small
   pub is : lines ≡ counts_line net ++ counts_line small
 
 -- the same of the netlist of a text

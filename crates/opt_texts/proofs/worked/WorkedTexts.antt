@@ -8,6 +8,7 @@ use Rattle.expr_text.specs.Values.{value_of}
 use Rattle.machines.specs.Machines.{Machine, Shows}
 use Rattle.net_ir.specs.Netlists.{Netlist}
 use Rattle.net_opt.specs.Optimized.{Optimizes}
+use Rattle.net_opt.specs.Shown.{EachIsShown}
 use Rattle.net_simp.specs.SimpleNets.{IsSimple}
 use Rattle.blif_text.specs.Circuits.{Circuit, reading}
 use Rattle.blif_text.specs.Circuits as circuits
@@ -110,7 +111,8 @@ by_verilog_texts : (text written : List ℕ) (h : VerilogKeeps text written) →
 by_verilog_texts text written h = (h.reads, h.named, h.describes, h.name, h.inputs, h.outputs, h.shows)
 
 by_netlists : (circuit : Circuit) (net : Netlist) (h : IsSmallOf circuit net) → IsNetOf circuit h.made × Optimizes h.made net × IsSimple net
-by_netlists circuit net h = (h.is, h.optimizes, h.simple)
+    × EachIsShown net
+by_netlists circuit net h = (h.is, h.optimizes, h.simple, h.shown)
 
 of_texts : (text : List ℕ) (net : Netlist) → ((h : IsSmallNetOf text net) → (reading text ≡ Ok h.circuit) × IsSmallOf h.circuit net)
     × ((h : IsTextNet text net) → (reading text ≡ Ok h.circuit) × IsNetOf h.circuit net)

@@ -9,6 +9,7 @@ returns-clause-made g c = record {
   compiled = c.in_ok-compiled.ensures.compiles;
   optimizes = c.in_ok-net.ensures.optimizes;
   simple = c.in_ok-net.ensures.simple;
+  shown = c.in_ok-net.ensures.shown;
 }
 
 pub returns-clause-compiles : goal.returns-clause-compiles

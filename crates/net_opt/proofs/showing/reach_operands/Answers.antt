@@ -1,6 +1,10 @@
 use Rattle.std.proofs.Common.{subst, inl, inr}
-use Rattle.net_opt.specs.Showing.{IsRead}
+use Rattle.net_opt.specs.Shown.{IsRead}
+use Rattle.net_opt.proofs.Reaching.{grows-then}
 use Rattle.net_opt.proofs.showing.reach_operands.Goals as goal
+
+pub returns-in_ok-reach-in-And-2-clause-grows : goal.returns-in_ok-reach-in-And-2-clause-grows
+returns-in_ok-reach-in-And-2-clause-grows c = grows-then _ _ _ _ _ _ c.in_ok-reach-in-And.ensures.grows c.in_ok-reach-in-And-2.ensures.grows
 
 pub returns-in_ok-reach-in-And-2-clause-shown : goal.returns-in_ok-reach-in-And-2-clause-shown
 returns-in_ok-reach-in-And-2-clause-shown c = λ P read all. elim c.in-And.is [
