@@ -35,7 +35,7 @@ if_code : (f : ℕ → ℕ) (n e : ℕ) (b : Bool) → f n ≤ 13 + e → sum_by
 if_code f n e true h = omega (arith, sum_by-cons f n [])
 if_code f n e false h = omega arith
 
-dear_once : (b : Bool) (d : ℕ) → (if b then d else 0) ≤ d
+pub dear_once : (b : Bool) (d : ℕ) → (if b then d else 0) ≤ d
 dear_once true d = omega arith
 dear_once false d = omega arith
 

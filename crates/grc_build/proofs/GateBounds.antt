@@ -1,5 +1,5 @@
 -- A program's graph needs at most 15 gates for each wire and each live test node.
-use Rattle.std.proofs.Common.{None, ◌≡◌, ℕ, ◌+◌, ◌*◌, ◌≤◌, Bool, true, false, List, [], ◌∷◌, ◌++◌, length, map, sym, ap, ◌∙◌, arith, length-append}
+use Rattle.std.proofs.Common.{None, ◌≡◌, ℕ, ◌+◌, ◌*◌, ◌≤◌, Bool, true, false, List, [], ◌∷◌, ◌++◌, length, map, refl, sym, ap, ◌∙◌, arith, length-append}
 use Rattle.std.specs.Prelude.{Contains, if◌then◌else◌, zip}
 use Rattle.std.specs.List.{sum_by, flat_map}
 use Rattle.std.proofs.lemmas.List.{length-map}
@@ -36,9 +36,9 @@ use Rattle.grc_build.specs.declared.graphs.Parts.{Parts}
 use Rattle.grc_build.specs.Parts.{AreParts}
 use Rattle.grc_build.proofs.EquationGates.{equation_gates, program_equations}
 use Rattle.grc_build.proofs.FormulaGates.{gates_of, cost_by_name, where_resumed}
-use Rattle.grc_build.proofs.InstanceGates.{wire_count, wires_counted, next_gates, instance_gates, three_spare}
+use Rattle.grc_build.proofs.InstanceGates.{run_count, status_count, wires_counted, next_gates, instance_gates, three_spare}
 use Rattle.grc_build.proofs.NextGates.{program_leaves}
-use Rattle.grc_build.proofs.RowGates.{Measure, row_sum, sizes, program_counted, program_within}
+use Rattle.grc_build.proofs.RowGates.{Choice, Measure, every_start, row_sum, sizes, program_counted, program_within}
 
 -- ---- formulas by names
 
@@ -65,8 +65,11 @@ by_instance p F y = F (row_at (program_rows p) y.path).statement (row_at (progra
 abbrev pub over : Program → Measure → ℕ
 over p F = sum_by (by_instance p F) (body_instances p.body)
 
-abbrev pub wire_counts : Measure
-wire_counts t x l = wire_count t l
+abbrev pub run_counts : Measure
+run_counts t x l = run_count t l
+
+abbrev statuses : Measure
+statuses t x l = status_count t l
 
 abbrev pub kept_rows : Measure
 kept_rows t x l = rows_by (test_of t) l
@@ -77,22 +80,24 @@ resumed_rows t x l = where_resumed 1 l
 abbrev pub next_counts : Measure
 next_counts t x l = next_gates t l
 
-pub wires_by_instance : (p : Program) → IsKernel p.body → length (program_wires p) ≡ outgoing_count p + over p wire_counts
+wires_by_instance : (p : Program) → IsKernel p.body
+    → length (program_wires p) ≡ outgoing_count p + over p run_counts + over p statuses
 wires_by_instance p kernel =
     let W = program_rows p in
     let insts = body_instances p.body in
-    ap length (program_wires_by_row p kernel) ∙ length-append (outs_of p) (flat_map (row_wires W) insts)
+    let own = ap length (program_wires_by_row p kernel) ∙ length-append (outs_of p) (flat_map (row_wires W) insts)
     ∙ (λ i. length-map-range_with_len Out p.inputs (outgoing_count p) i + length-flat_map (row_wires W) insts i)
-    ∙ (λ i. outgoing_count p + sum_by (λ y. wires_counted (row_at W y.path).statement y.path y.layer i) insts)
+    ∙ (λ i. outgoing_count p + sum_by (λ y. wires_counted (row_at W y.path).statement y.path y.layer i) insts) in
+    omega (arith, own, sum_both (by_instance p run_counts) (by_instance p statuses) insts)
 
-pub size_by_instance : (p : Program) → IsKernel p.body → graph_size p ≡ outgoing_count p + over p sizes
+size_by_instance : (p : Program) → IsKernel p.body → graph_size p ≡ outgoing_count p + over p sizes + over p statuses
 size_by_instance p kernel =
     let W = program_rows p in
     let insts = body_instances p.body in
     let T : Spot → ℕ = λ x. live_tests x.statement x.layer in
     let tests : sum_by T (program_spots p) ≡ sum_by (λ y. T (spot_at W y)) insts
     = ap (sum_by T) (program_spots_by_row p kernel) ∙ sum_mapped T (spot_at W) insts in
-    let both = sum_both (by_instance p wire_counts) (λ y. T (spot_at W y)) insts in
+    let both = sum_both (by_instance p run_counts) (λ y. T (spot_at W y)) insts in
     omega (arith, wires_by_instance p kernel, tests, both)
 
 -- some instance is live: the start of the body
@@ -121,35 +126,29 @@ gathered w e r s n more all h (x ∷ xs) =
       gathered w e r s n more all h xs,
     )
 
--- what all instances need
-pub all_within : (p : Program) → over p instance_gates ≤ 15 * over p sizes
-all_within p = omega (arith, program_counted instance_gates p, program_counted sizes p, program_within p)
-
 instances_within : (p : Program)
-    → 2 * over p wire_counts + over p equation_gates + over p kept_rows + over p resumed_rows + over p next_counts + 3 ≤ 15 * over p sizes
+    → 2 * over p run_counts + over p equation_gates + over p kept_rows + over p resumed_rows + over p next_counts + 3 ≤ 15 * over p sizes
 instances_within p =
     let insts = body_instances p.body in
-    let sum = gathered (by_instance p wire_counts) (by_instance p equation_gates) (by_instance p kept_rows) (by_instance p resumed_rows)
+    let sum = gathered (by_instance p run_counts) (by_instance p equation_gates) (by_instance p kept_rows) (by_instance p resumed_rows)
     (by_instance p next_counts) (λ y. 3) (by_instance p instance_gates) (λ y. omega (arith, three_spare y.layer)) insts in
     let there = some_instance p in
     let spare = get_or-le-sum_by (λ (y : Instance). 3) insts there.0 (record { path = 0; layer = Started 0 }) there.1 in
-    omega (arith, sum, spare, all_within p)
+    omega (arith, sum, spare, program_counted instance_gates p, program_counted sizes p, program_within every_start p)
 
-selected_within : (r : Row) → selection_rows r ≤ row_sum resumed_rows r
-selected_within r = by r.live.resumed (map Started r.live.roots)
+selected_within : (S : Choice) (r : Row) → selection_rows r ≤ row_sum S resumed_rows r
+selected_within S r = by r.live.resumed (map Started (S r.live.roots))
   where
     by : (b : Bool) (ls : List Layer)
         → (if b then 1 else 0) ≤ sum_by (λ l. where_resumed 1 l) ((if b then Resumed ∷ [] else []) ++ ls)
     by true ls = omega (arith, sum_by-cons (λ l. where_resumed 1 l) Resumed ls)
     by false ls = omega arith
 
-pub selected_few : (p : Program) → sum_by selection_rows (program_rows p) ≤ over p resumed_rows
-selected_few p =
-    let selected = sum_by-le-sum_by selection_rows (row_sum resumed_rows) (program_rows p) selected_within in
-    omega (arith, selected, program_counted resumed_rows p)
+pub selected_few : (S : Choice) (p : Program) → sum_by selection_rows (program_rows p) ≤ sum_by (row_sum S resumed_rows) (program_rows p)
+selected_few S p = sum_by-le-sum_by selection_rows (row_sum S resumed_rows) (program_rows p) (selected_within S)
 
 rows_few : (p : Program) → rows_of p ≤ over p kept_rows + over p resumed_rows + 1
-rows_few p = omega (arith, selected_few p)
+rows_few p = omega (arith, selected_few every_start p, program_counted resumed_rows p)
 
 pub few_gates : (p : KernelProgram) (live : Instances) (x : Parts) → IsKernel (program_of p).body → AreParts p live x → graph_size (program_of p) ≤ WIRES
     → map instance_of live.list.items ≡ body_instances (program_of p).body
@@ -175,7 +174,7 @@ few_gates p live x kernel h few own =
         equations,
         program_equations q kernel,
         next,
-        program_leaves q,
+        program_leaves every_start (λ ls. ls) (λ a. refl) q,
         program_counted next_counts q,
         rows_few q,
         ap (λ xs. rows_over q xs None) own,

@@ -11,15 +11,18 @@ use Rattle.grc_graph.specs.Wires.{End, listed, instance_codes, own_status, insta
 use Rattle.grc_graph.specs.RowCosts.{operators, test_of, rows_by}
 use Rattle.grc_build.proofs.FormulaGates.{where_started, where_resumed, entry_tests, dear_gates}
 
--- the wires of an instance
-abbrev pub wire_count : Term → Layer → ℕ
-wire_count t l = 1 + (length (own_status t 0 l) + length (listed (instance_codes t l)))
+-- the wires of an instance, without its status and with it
+abbrev pub run_count : Term → Layer → ℕ
+run_count t l = 1 + length (listed (instance_codes t l))
+
+abbrev pub status_count : Term → Layer → ℕ
+status_count t l = length (own_status t 0 l)
 
 length-own_status : (t : Term) (n : ℕ) (l : Layer) → length (own_status t n l) ≡ length (own_status t 0 l)
 length-own_status Nothing n l = refl
 length-own_status _ n l = refl
 
-pub wires_counted : (t : Term) (n : ℕ) (l : Layer) → length (instance_wires t n l) ≡ wire_count t l
+pub wires_counted : (t : Term) (n : ℕ) (l : Layer) → length (instance_wires t n l) ≡ run_count t l + status_count t l
 wires_counted t n l =
     let codes = listed (instance_codes t l) in
     let ends = map (λ k. End n l k) codes in
@@ -58,10 +61,10 @@ pub three_spare : (l : Layer) → 3 ≤ spare_gates l
 three_spare Resumed = omega arith
 three_spare (Started r) = omega arith
 
--- all of these
+-- all of these, but for those of a status wire
 abbrev pub instance_gates : Term → Entry → Layer → ℕ
 instance_gates t x l =
-    2 * wire_count t l + (2 + entry_tests x l) + (13 * length (listed (instance_codes t l)) + dear_gates t l)
+    2 * run_count t l + (2 + entry_tests x l) + (13 * length (listed (instance_codes t l)) + dear_gates t l)
     + row_gates t l + emit_gates t + next_gates t l + spare_gates l
 
 operators_few : (e : Expression) → operators e + 1 ≤ test_size e
@@ -99,5 +102,5 @@ others_few (Awake e p) Resumed = omega arith
 others_few (Awake e p) (Started r) = omega arith
 
 pub instance_within : (t : Term) (x : Entry) (l : Layer)
-    → instance_gates t x l + part_tests t l ≤ 15 * (wire_count t l + live_tests t l) + entry_tests x l
+    → instance_gates t x l + part_tests t l ≤ 15 * (run_count t l + live_tests t l) + entry_tests x l
 instance_within t x l = omega (arith, others_few t l)

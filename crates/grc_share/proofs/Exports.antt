@@ -10,3 +10,4 @@ pub use Rattle.grc_share.proofs.SharedNumbering.{body_codes, shared-differ}
 pub use Rattle.grc_share.proofs.SharedWireNames.{IsLive, named-one_wire, one_wire-named, wires_live}
 pub use Rattle.grc_share.proofs.FewStarts.{few-starts}
 pub use Rattle.grc_share.proofs.EquationLists.{equation-at, equations-each, formula-found, formula_for-at}
+pub use Rattle.grc_share.proofs.SharedCostBounds.{graph_gates}

@@ -15,7 +15,6 @@ mod Places
 mod MemberLists
 mod MemberRuns
 mod Ranks
-mod Counting
 mod FirstWires
 mod WireRanks
 mod SharedTables

@@ -3,7 +3,7 @@ use Rattle.std.proofs.Common.{◌≡◌, ℕ, suc, ◌+◌, ◌<◌, ◌≤◌, 
 use Rattle.std.proofs.Common.{refl, sym, ap, ◌∙◌, subst, ⊎_elim, arith, append_assoc, Option, Some, None}
 use Rattle.std.specs.Prelude.{All, Contains, filter, if◌then◌else◌, nat_lt, option_map}
 use Rattle.std.specs.List.{flat_map, list_any, sum_by}
-use Rattle.std.proofs.lemmas.Bool.{and_parts, cases_order, eqb-true, false≢true, or_cases}
+use Rattle.std.proofs.lemmas.Bool.{and_parts, cases_Bool, cases_order, eq-eqb, eqb-true, false≢true, or_cases}
 use Rattle.std.proofs.lemmas.List.{get_or-map, length-map}
 use Rattle.std.proofs.lemmas.List.Concat.{flat_map-cons}
 use Rattle.std.proofs.lemmas.List.Elements.{All-head, All-tail}
@@ -29,11 +29,11 @@ use Rattle.grc_graph.proofs.Exports.{Entered, PartOf, program_placed, length-pro
 use Rattle.grc_graph.proofs.Exports.{sum_mapped, sum_none, sum_swap}
 use Rattle.grc_solutions.specs.GraphWires.{Differ, equation_wires}
 use Rattle.grc_solutions.proofs.Exports.{wires_differ_lem}
-use Rattle.grc_build.proofs.Exports.{once_at_most, one_if, status_wires, statuses_apart, equation_gates, listed_cost, any_gates, any_within, dear_code}
-use Rattle.grc_build.proofs.Exports.{dear_gates, end_gates, entry_gates, entry_tests, gates_of, joined, loop_gates, sequence_gates, where_started}
+use Rattle.grc_build.proofs.Exports.{dear_once, once_at_most, one_if, status_wires, statuses_apart, equation_gates, listed_cost, any_gates, any_within}
+use Rattle.grc_build.proofs.Exports.{dear_code, dear_gates, end_gates, entry_gates, entry_tests, gates_of, joined, loop_gates, sequence_gates, where_started}
 use Rattle.grc_build.proofs.Exports.{by_instance, emit_gates, Measure}
 use Rattle.grc_share.specs.SharedGraphs.{emits_on, emitted_on, formula_for, go_value, has_own, is_guarded, is_least, renamed, shared_emissions, shared_end}
-use Rattle.grc_share.specs.SharedGraphs.{shared_equations, shared_formula, shared_go}
+use Rattle.grc_share.specs.SharedGraphs.{shared_equations, shared_formula, shared_go, names_itself, shared_instances}
 use Rattle.grc_share.specs.SharedInstances.{Sharing, body_sharing}
 use Rattle.grc_share.specs.SharedWires.{shared_wire, shared_wires}
 use Rattle.grc_share.proofs.EquationLists.{formula_for-at}
@@ -49,6 +49,15 @@ sum_at f g (x ∷ xs) h =
     omega (arith, sum_by-cons f x xs, sum_by-cons g x xs, h 0 x (omega arith), sum_at f g xs (λ k d l. h (suc k) d (omega (arith, l))))
 
 -- what is left out counts nothing
+pub sum_filter : {X : Type 0} (test : X → Bool) (f : X → ℕ) (xs : List X) → sum_by f (filter test xs) ≡ sum_by (λ x. if test x then f x else 0) xs
+sum_filter test f [] = refl
+sum_filter test f (x ∷ xs) =
+    by (test x) ∙ ap (λ n. (if test x then f x else 0) + n) (sum_filter test f xs) ∙ sym (sum_by-cons (λ y. if test y then f y else 0) x xs)
+  where
+    by : (b : Bool) → sum_by f (cond b (x ∷ filter test xs) (filter test xs)) ≡ (if b then f x else 0) + sum_by f (filter test xs)
+    by true = sum_by-cons f x (filter test xs)
+    by false = omega arith
+
 pub sum_filtered : {X : Type 0} (test : X → Bool) (f : X → ℕ) (xs : List X) → sum_by f (filter test xs) ≤ sum_by f xs
 sum_filtered test f xs = omega (arith, sum_by-filter_both test (λ x. not (test x)) (λ x. refl) f xs)
 
@@ -257,20 +266,21 @@ module _ (p : Program) where
       node_once (Local s q) B n l = never
       node_once (Awake e q) B n l = never
 
-      spot_once : (x : Spot) → sum_by (λ w. one_if (emits_on K w x)) ws ≤ emit_gates x.statement
+      spot_once : (x : Spot) → sum_by (λ w. one_if (emits_on K w x)) ws ≤ (if is_least K x then emit_gates x.statement else 0)
       spot_once x = by (is_least K x)
         where
-          by : (b : Bool) → sum_by (λ w. one_if (b && is_wire (option_map (shared_wire K) (emitted_on (node_of x))) w)) ws ≤ emit_gates x.statement
+          by : (b : Bool) → sum_by (λ w. one_if (b && is_wire (option_map (shared_wire K) (emitted_on (node_of x))) w)) ws
+              ≤ (if b then emit_gates x.statement else 0)
           by true = node_once x.statement x.scope x.path x.layer
           by false = omega (arith, never)
 
-      emitters_once : sum_by emitters ws ≤ sum_by (λ x. emit_gates x.statement) (program_spots p)
+      emitters_once : sum_by emitters ws ≤ sum_by (λ x. if is_least K x then emit_gates x.statement else 0) (program_spots p)
       emitters_once =
           let swap : sum_by (λ w. sum_by (λ x. one_if (emits_on K w x)) (program_spots p)) ws
           ≡ sum_by (λ x. sum_by (λ w. one_if (emits_on K w x)) ws) (program_spots p)
           = sum_swap (λ w x. one_if (emits_on K w x)) ws (program_spots p) in
-          let each = sum_by-le-sum_by (λ (x : Spot). sum_by (λ w. one_if (emits_on K w x)) ws) (λ x. emit_gates x.statement) (program_spots p)
-          spot_once in
+          let each = sum_by-le-sum_by (λ (x : Spot). sum_by (λ w. one_if (emits_on K w x)) ws) (λ x. if is_least K x then emit_gates x.statement else 0)
+          (program_spots p) spot_once in
           omega (arith, swap, each)
 
     -- ---- all equations
@@ -293,10 +303,10 @@ module _ (p : Program) where
         omega (arith, sum_by-cons shared_cost e [], sum_by-cons emitters w [], emissions_within w)
     status_within all _ n l = omega arith
 
-    spot_within : (all : List Spot) (y : Instance)
+    named_within : (all : List Spot) (y : Instance)
         → sum_by shared_cost (instance_equations all (spot_at W y))
         ≤ sum_by emitters (own_status (spot_at W y).statement y.path y.layer) + spot_cost (spot_at W y)
-    spot_within all y =
+    named_within all y =
         let x = spot_at W y in
         let f : ℕ → Equation = λ k. record {
           wire = End x.path x.layer k;
@@ -317,6 +327,59 @@ module _ (p : Program) where
           shared_go_gates x.path x.layer x.entry,
         )
 
+    -- an equation whose wire names its shared one
+    abbrev own : Wire → Bool
+    own w = same_wire (shared_wire K w) w
+
+    abbrev own_cost : Equation → ℕ
+    own_cost e = if own e.wire then shared_cost e else 0
+
+    own_few : (es : List Equation) → sum_by own_cost es ≤ sum_by shared_cost es
+    own_few es = sum_by-le-sum_by own_cost shared_cost es (λ e. dear_once (own e.wire) (shared_cost e))
+
+    -- an instance that does not name its shared instance has no such equation, but for its status
+    other_within : (all : List Spot) (y : Instance) → names_itself K y.path y.layer ≡ false
+        → sum_by own_cost (instance_equations all (spot_at W y)) ≤ sum_by emitters (own_status (spot_at W y).statement y.path y.layer)
+    other_within all y other =
+        let x = spot_at W y in
+        let f : ℕ → Equation = λ k. record {
+          wire = End x.path x.layer k;
+          formula = end_formula x.scope x.statement x.path x.layer k;
+        } in
+        let go : Equation = record { wire = Go x.path x.layer; formula = x.entry } in
+        let status = instance_status all x.statement x.path x.layer in
+        let codes = listed (instance_codes x.statement x.layer) in
+        let self = eq-eqb y.path y.path refl in
+        let none : own_cost go ≡ 0 = (λ i. if self i && other i then shared_cost go else 0) in
+        let ends : sum_by (λ k. own_cost (f k)) codes ≡ sum_by (λ k. 0) codes
+        = λ i. sum_by (λ k. if self i && (other i && k == k) then shared_cost (f k) else 0) codes in
+        omega (
+          arith,
+          sum_by-cons own_cost go (status ++ map f codes),
+          sum_by-append own_cost status (map f codes),
+          sum_mapped own_cost f codes,
+          none,
+          ends,
+          sum_none codes,
+          own_few status,
+          status_within all x.statement x.path x.layer,
+        )
+
+    spot_within : (all : List Spot) (y : Instance)
+        → sum_by own_cost (instance_equations all (spot_at W y))
+        ≤ sum_by emitters (own_status (spot_at W y).statement y.path y.layer)
+        + (if names_itself K y.path y.layer then spot_cost (spot_at W y) else 0)
+    spot_within all y =
+        ⊎_elim
+        (λ h.
+        let n : (if names_itself K y.path y.layer then spot_cost (spot_at W y) else 0) ≡ spot_cost (spot_at W y)
+        = ap (λ b. if b then spot_cost (spot_at W y) else 0) h in
+        omega (arith, n, own_few (instance_equations all (spot_at W y)), named_within all y))
+        (λ h.
+        let n : (if names_itself K y.path y.layer then spot_cost (spot_at W y) else 0) ≡ 0
+        = ap (λ b. if b then spot_cost (spot_at W y) else 0) h in
+        omega (arith, n, other_within all y h)) (cases_Bool (names_itself K y.path y.layer))
+
     instance_within : (y : Instance) → emit_gates (row_at W y.path).statement + spot_cost (spot_at W y) ≤ by_instance p shared_equation_gates y
     instance_within y =
         let r = row_at W y.path in
@@ -327,36 +390,49 @@ module _ (p : Program) where
               (dear_gates r.statement y.layer) (guarded_gates r.scope r.statement y.path y.layer) (instance_codes r.statement y.layer),
         )
 
-    equations_within : sum_by shared_cost (graph_of p).equations ≤ sum_by (by_instance p shared_equation_gates) (body_instances p.body)
+    abbrev named : Instance → Bool
+    named y = names_itself K y.path y.layer
+
+    both_named : (y : Instance) → (if named y then emit_gates (row_at W y.path).statement else 0) + (if named y then spot_cost (spot_at W y) else 0)
+        ≤ (if named y then by_instance p shared_equation_gates y else 0)
+    both_named y = by (named y)
+      where
+        by : (b : Bool) → (if b then emit_gates (row_at W y.path).statement else 0) + (if b then spot_cost (spot_at W y) else 0)
+            ≤ (if b then by_instance p shared_equation_gates y else 0)
+        by true = instance_within y
+        by false = omega arith
+
+    equations_within : sum_by own_cost (graph_of p).equations ≤ sum_by (by_instance p shared_equation_gates) (shared_instances p)
     equations_within =
         let all = program_spots p in
         let insts = body_instances p.body in
         let outgoing = (interface_of p).outgoing in
+        let output : ℕ → Equation = output_equation (given_count p) all in
         let statuses : Spot → List Wire = λ x. own_status x.statement x.path x.layer in
-        let split = sum_by-append shared_cost (map (output_equation (given_count p) all) outgoing) (flat_map (instance_equations all) all) in
-        let outs = sum_mapped shared_cost (output_equation (given_count p) all) outgoing in
-        let outs_few = sum_by-le-sum_by (λ s. shared_cost (output_equation (given_count p) all s)) (λ s. emitters (Out s)) outgoing
-        (λ s. output_within s (output_equation (given_count p) all s).formula) in
+        let status : Instance → ℕ = λ y. sum_by emitters (statuses (spot_at W y)) in
+        let cost : Instance → ℕ = λ y. if named y then spot_cost (spot_at W y) else 0 in
+        let emit : Instance → ℕ = λ y. if named y then emit_gates (row_at W y.path).statement else 0 in
+        let made : Spot → ℕ = λ x. sum_by own_cost (instance_equations all x) in
+        let least : Spot → ℕ = λ x. if is_least K x then emit_gates x.statement else 0 in
+        let split = sum_by-append own_cost (map output outgoing) (flat_map (instance_equations all) all) in
+        let outs = sum_mapped own_cost output outgoing in
+        let outs_few = sum_by-le-sum_by (λ s. own_cost (output s)) (λ s. emitters (Out s)) outgoing
+        (λ s. omega (arith, dear_once (own (Out s)) (shared_cost (output s)), output_within s (output s).formula)) in
         let outs_named = sum_mapped emitters Out outgoing in
-        let each = sum-flat_map shared_cost (instance_equations all) all in
-        let rows : sum_by (λ x. sum_by shared_cost (instance_equations all x)) all
-        ≡ sum_by (λ y. sum_by shared_cost (instance_equations all (spot_at W y))) insts
-        = ap (sum_by (λ x. sum_by shared_cost (instance_equations all x))) (program_spots_by_row p kernel)
-        ∙ sum_mapped (λ x. sum_by shared_cost (instance_equations all x)) (spot_at W) insts in
-        let each_few = sum_by-le-sum_by (λ y. sum_by shared_cost (instance_equations all (spot_at W y)))
-        (λ y. sum_by emitters (statuses (spot_at W y)) + spot_cost (spot_at W y)) insts (spot_within all) in
-        let apart = sum_both (λ y. sum_by emitters (statuses (spot_at W y))) (λ y. spot_cost (spot_at W y)) insts in
-        let status_rows : sum_by (λ x. sum_by emitters (statuses x)) all ≡ sum_by (λ y. sum_by emitters (statuses (spot_at W y))) insts
+        let each = sum-flat_map own_cost (instance_equations all) all in
+        let rows : sum_by made all ≡ sum_by (λ y. made (spot_at W y)) insts
+        = ap (sum_by made) (program_spots_by_row p kernel) ∙ sum_mapped made (spot_at W) insts in
+        let each_few = sum_by-le-sum_by (λ y. made (spot_at W y)) (λ y. status y + cost y) insts (spot_within all) in
+        let apart = sum_both status cost insts in
+        let status_rows : sum_by (λ x. sum_by emitters (statuses x)) all ≡ sum_by status insts
         = ap (sum_by (λ x. sum_by emitters (statuses x))) (program_spots_by_row p kernel)
         ∙ sum_mapped (λ x. sum_by emitters (statuses x)) (spot_at W) insts in
-        let named = sum-flat_map emitters statuses all in
+        let flat = sum-flat_map emitters statuses all in
         let wires = sum_by-append emitters (map Out outgoing) (flat_map statuses all) in
-        let emit_rows : sum_by (λ (x : Spot). emit_gates x.statement) all ≡ sum_by (λ y. emit_gates (row_at W y.path).statement) insts
-        = ap (sum_by (λ (x : Spot). emit_gates x.statement)) (program_spots_by_row p kernel)
-        ∙ sum_mapped (λ (x : Spot). emit_gates x.statement) (spot_at W) insts in
-        let both = sum_both (λ y. emit_gates (row_at W y.path).statement) (λ y. spot_cost (spot_at W y)) insts in
-        let whole = sum_by-le-sum_by (λ y. emit_gates (row_at W y.path).statement + spot_cost (spot_at W y)) (by_instance p shared_equation_gates) insts
-        instance_within in
+        let emit_rows : sum_by least all ≡ sum_by emit insts
+        = ap (sum_by least) (program_spots_by_row p kernel) ∙ sum_mapped least (spot_at W) insts in
+        let both = sum_both emit cost insts in
+        let whole = sum_by-le-sum_by (λ y. emit y + cost y) (λ y. if named y then by_instance p shared_equation_gates y else 0) insts both_named in
         omega (
           arith,
           split,
@@ -368,28 +444,31 @@ module _ (p : Program) where
           each_few,
           apart,
           status_rows,
-          named,
+          flat,
           wires,
           emitters_once (status_wires outgoing all) (statuses_apart p kernel),
           emit_rows,
           both,
           whole,
+          sum_filter named (by_instance p shared_equation_gates) insts,
         )
 
     module _ (limits : KeepsLimits p.body) where
       pub shared_equations_within : sum_by (λ e. gates_of e.formula) (shared_equations p)
-          ≤ sum_by (by_instance p shared_equation_gates) (body_instances p.body)
+          ≤ sum_by (by_instance p shared_equation_gates) (shared_instances p)
       shared_equations_within =
           let es = (graph_of p).equations in
           let C : Wire → ℕ = λ w. gates_of (shared_formula p w (formula_for es w)) in
           let made = sum_mapped (λ (e : Equation). gates_of e.formula)
           (λ w. record { wire = w; formula = shared_formula p w (formula_for es w) }) (shared_wires p) in
-          let few = sum_filtered (λ w. same_wire (shared_wire (body_sharing p.body) w) w) C (program_wires p) in
+          let kept = sum_filter own C (program_wires p) in
           let names = (wires_differ_lem p (body_codes p kernel limits)).0 in
-          let by_equation : sum_by C (program_wires p) ≡ sum_by (λ (e : Equation). C e.wire) es
-          = ap (sum_by C) (sym names) ∙ sum_mapped C (λ (e : Equation). e.wire) es in
-          let each = sum_at (λ (e : Equation). C e.wire) shared_cost es (λ k d l. omega (arith, at k d l)) in
-          omega (arith, made, few, by_equation, each, equations_within)
+          let D : Wire → ℕ = λ w. if own w then C w else 0 in
+          let by_equation : sum_by D (program_wires p) ≡ sum_by (λ (e : Equation). D e.wire) es
+          = ap (sum_by D) (sym names) ∙ sum_mapped D (λ (e : Equation). e.wire) es in
+          let each = sum_at (λ (e : Equation). D e.wire) own_cost es
+          (λ k d l. omega (arith, ap (λ n. if own (get_or es k d).wire then n else 0) (at k d l))) in
+          omega (arith, made, kept, by_equation, each, equations_within)
         where
           differ : (i j : ℕ) (d : Equation) → i < length (graph_of p).equations → j < length (graph_of p).equations
               → (get_or (graph_of p).equations i d).wire ≡ (get_or (graph_of p).equations j d).wire → i ≡ j

@@ -3,13 +3,15 @@ use Rattle.std.proofs.Common.{◌≡◌, ℕ, zero, suc, ◌<◌, ◌≤◌, Lis
 use Rattle.std.proofs.lemmas.Bool.{cases_lt}
 use Rattle.std.proofs.lemmas.List.{get_or-map, length-map}
 use Rattle.est_kernel.specs.Plain.{program_of}
+use Rattle.est_kernel.specs.Preorder.{statement_count}
 use Rattle.grc_graph.specs.declared.graph.Graph.{Graph}
 use Rattle.grc_graph.specs.declared.instances.Instance as stored
 use Rattle.grc_graph.specs.BuiltGraphs.{IsGraphOf}
 use Rattle.grc_graph.specs.Instances.{Instance}
+use Rattle.grc_graph.specs.Layers.{Resumed}
 use Rattle.grc_graph.specs.PlainGraphs.{instances_of}
 use Rattle.grc_graph.specs.PlainInstances.{instance_of}
-use Rattle.grc_graph.specs.WireTables.{AreCountsBefore, AreFirsts, Ascending, comes_before}
+use Rattle.grc_graph.specs.WireTables.{AreBelow, Ascending, comes_before}
 use Rattle.grc_share.specs.Renamings.{is_named}
 use Rattle.grc_share.specs.SharedGraphs.{shared_instances}
 use Rattle.grc_share.specs.SharedInstances.{body_sharing}
@@ -58,8 +60,11 @@ module _ (g : Graph) (built : IsGraphOf g (program_of g.program)) (list : List s
           let l : n < length list = omega (arith, e) in
           omega (arith, e, (found n l).ranked, rank-few (is_named (body_sharing (program_of g.program).body)) (instances_of g) (found n l).place, found-low n l)
 
-  pub shared-firsts : (firsts : List ℕ) → length firsts ≡ length g.first_instances.items → AreCountsBefore list firsts → AreFirsts list firsts
-  shared-firsts firsts e h = record {
-    counts = h;
-    all = λ i d l. omega (arith, e, ap (λ (x : Instance). x.path) (found-read i l d), g.statements.all (found i l).place d (found-low i l));
-  }
+  -- each is of a statement of the body
+  pub shared-below : AreBelow (statement_count (program_of g.program).body) list
+  shared-below i d l =
+      let there = (found i l).place in
+      let x : Instance = record { path = 0; layer = Resumed } in
+      let path = ap (λ (y : Instance). y.path) (found-read i l d) in
+      let read = ap (λ (y : Instance). y.path) (get_or-map instance_of g.instances.list.items there d x (found-low i l)) in
+      omega (arith, g.laid_out.within there (found i l).low, path, read)

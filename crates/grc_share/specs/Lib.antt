@@ -10,3 +10,4 @@ pub mod MemberRuns
 pub mod Tables
 pub mod SharedGraphForms
 pub mod SharedParts
+pub mod SharedSizes

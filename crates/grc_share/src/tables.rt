@@ -1,10 +1,11 @@
 // Where the instances and the wires of a shared graph are found.
 
-ghost use Rattle.std.specs.Prelude.{◌≡◌, ◌+◌, ◌<◌, ◌≤◌, ◌^◌, length, map, IfOk, OnOk};
-ghost use Rattle.est_kernel.specs.Plain.{program_of};
+ghost use Rattle.std.specs.Prelude.{◌≡◌, ◌+◌, ◌<◌, length, map, IfOk, OnOk};
+ghost use Rattle.est_kernel.specs.Plain.{program_of, term_of};
+ghost use Rattle.est_kernel.specs.Preorder.{statement_count};
 ghost use Rattle.grc_graph.specs.BuiltGraphs.{IsGraphOf};
 ghost use Rattle.grc_graph.specs.PlainInstances.{instance_of};
-ghost use Rattle.grc_graph.specs.WireTables.{Ascending, AreCountsBefore, AreFirsts, SplitsAtStatement};
+ghost use Rattle.grc_graph.specs.WireTables.{AreFirsts};
 ghost use Rattle.grc_share.specs.Renamings.{AreNumbersOf};
 ghost use Rattle.grc_share.specs.SharedGraphs.{shared_instances};
 ghost use Rattle.grc_share.specs.SharedWires.{shared_wires};
@@ -12,7 +13,7 @@ ghost use Rattle.grc_share.specs.Tables.{AreFirstsOf, AreFirstWires};
 
 use crate::renaming::Numbers;
 use est_base::NoMemory;
-use grc_graph::{Graph, Instance, LoopBodies};
+use grc_graph::{Graph, Instance, LoopBodies, first_instances};
 use std::alloc::Global;
 
 /// For each shared instance the number of its first shared wire, and at last the number of shared wires, which are so
@@ -55,33 +56,6 @@ fn push_first(
     Ok(())
 }
 
-/// For each of so many numbers how many instances are of statements before it.
-pub(crate) fn counts_before(
-    alloc: Global,
-    list: &[Instance],
-    count: usize,
-) -> Result<Vec<u32>, NoMemory>
-    requires ascend { Ascending list.now }
-    requires few { length list.now < 2 ^ 32 }
-    ensures each { IfOk result (λ v. length v.items ≡ count) }
-    ensures counts { IfOk result (λ v. AreCountsBefore list.now v.items) }
-{
-    let mut firsts: Vec<u32> = Vec::with_capacity(alloc, count)?;
-    for statement in 0..count {
-        firsts.push(count_before(list, statement) as u32)?;
-    }
-    Ok(firsts)
-}
-
-// The number of instances of statements before this one.
-fn count_before(list: &[Instance], statement: usize) -> usize
-    requires { Ascending list.now }
-    ensures within { result ≤ length list.now }
-    ensures place { SplitsAtStatement statement list.now result }
-{
-    list.partition_point(|x| (x.path.0 as usize) < statement)
-}
-
 /// Where the instances and the wires of a shared graph are found, and the loop bodies around each statement.
 #[derive(Drop)]
 pub(crate) struct Tables {
@@ -103,12 +77,13 @@ pub(crate) fn place_tables(
     requires numbers { AreNumbersOf graph.now numbers.now.least.now numbers.now.instances.now numbers.now.wires.now }
     requires list { map instance_of list.now ≡ shared_instances (program_of graph.now.program) }
     requires count { count ≡ length (shared_wires (program_of graph.now.program)) }
+    requires each { length loops.items ≡ statement_count (term_of graph.now.program.body) }
     ensures wires { IfOk result (λ t. AreFirstWires graph.now t.first_wires.items) }
     ensures instances { IfOk result (λ t. AreFirsts list.now t.first_instances.items) }
     ensures loops { IfOk result (λ t. t.loops ≡ loops) }
 {
     let first_wires = first_wires(alloc, graph, numbers, count)?;
-    let first_instances = counts_before(alloc, list, graph.first_instances.len())?;
+    let first_instances = first_instances(alloc, list, loops.len() as u32)?;
     Ok(Tables {
         first_wires,
         first_instances,

@@ -1,23 +1,24 @@
-pub mod Weights
-pub mod Sensing
-pub mod Growth
-pub mod GraphValues
-pub mod Wording
-pub mod Joining
-pub mod EndRuns
-pub mod Lowering
-pub mod Tables
-pub mod RowSteps
-pub mod Reading
-pub mod WireSteps
-pub mod Beginnings
-pub mod Standing
-pub mod Composition
-pub mod Naming
-pub mod NetFacts
-pub mod NetRuns
-pub mod GateSums
+mod Weights
+mod Sensing
+mod Growth
+mod GraphValues
+mod Wording
+mod Joining
+mod EndRuns
+mod Lowering
+mod Tables
+mod RowSteps
+mod Reading
+mod WireSteps
+mod Beginnings
+mod Standing
+mod Composition
+mod Naming
+mod NetFacts
+mod NetRuns
+mod GateSums
 mod FirstNumbers
-pub mod SizeBounds
+mod SizeBounds
 mod Rooms
 mod worked
+pub mod Exports

@@ -25,7 +25,7 @@ one_more_each f [] = refl
 one_more_each f (x ∷ xs) = omega (arith, sum_by-cons (λ y. f y + 1) x xs, sum_by-cons f x xs, one_more_each f xs)
 
 -- each wire of an order has its equation, and its gate
-wires_cost : (g : Graph) (forms : List Formula) (order : List WireId) → IsReadingOrder (names_of g) forms order
+pub wires_cost : (g : Graph) (forms : List Formula) (order : List WireId) → IsReadingOrder (names_of g) forms order
     → sum_by (wire_cost g) order ≡ sum_by cost_of g.equations.items + length g.wires.items
 wires_cost g forms order o =
     let xs = g.equations.items in
