@@ -1,7 +1,7 @@
 -- How the wires of a compiled graph, own or shared, are read off those of the program's graph.
 use Rattle.std.proofs.Common.{◌≡◌, ℕ, ◌<◌, Bool, true, false, List, [], ◌∷◌, length, map, get_or, Option, Some, None, refl, sym, ap, ap₂, ◌∙◌, subst}
 use Rattle.std.proofs.Common.{arith}
-use Rattle.std.specs.Prelude.{◌==◌, ◌&&◌, Vec, cond, is_some, slice_index_or}
+use Rattle.std.specs.Prelude.{◌==◌, ◌&&◌, Vec, is_some, slice_index_or}
 use Rattle.std.specs.Global.{Global}
 use Rattle.std.specs.List.{list_any}
 use Rattle.std.proofs.Math.Bool.{or-false}

@@ -1,5 +1,5 @@
 -- What the passes joined give.
-use Rattle.std.proofs.Common.{◌≡◌, ℕ, ◌+◌, ◌-◌, ◌<◌, ◌≤◌, List, [], ◌∷◌, length, map, get_or, Option, refl, sym, ap, ◌∙◌, subst, ⊎_elim, arith}
+use Rattle.std.proofs.Common.{◌≡◌, ℕ, ◌+◌, ◌-◌, ◌*◌, ◌<◌, ◌≤◌, List, [], ◌∷◌, length, map, get_or, Option, refl, sym, ap, ◌∙◌, subst, ⊎_elim, arith}
 use Rattle.std.specs.Prelude.{Bool, true, false, All, Contains, is_some, slice_index}
 use Rattle.std.proofs.lemmas.Bool.{cases_lt}
 use Rattle.std.proofs.lemmas.List.Elements.{All-contains, All-map}
@@ -37,14 +37,16 @@ use Rattle.grc_sem.proofs.Exports.{program_kernel}
 use Rattle.grc_share.specs.declared.shared_graph.SharedGraph.{SharedGraph}
 use Rattle.grc_share.specs.SharedGraphForms.{IsSharedGraphOf}
 use Rattle.grc_share.specs.SharedNumbers.{IsSharedWalk}
+use Rattle.grc_share.specs.SharedSizes.{shared_size}
 use Rattle.grc_share.specs.SharedWires.{members, shared_edges, shared_wires}
-use Rattle.grc_share.proofs.Exports.{shared-differ}
+use Rattle.grc_share.proofs.Exports.{graph_gates, shared-differ}
 use Rattle.grc_solutions.specs.GraphWires.{Differ}
 use Rattle.grc_solutions.proofs.Exports.{wires_differ_lem}
 use Rattle.share_laws.specs.SharedSolutions.{SharedOrdersAreReadingOrders, SharedRanksGoUp}
 use Rattle.grc_words.specs.Sizes.{rows_at_most}
 use Rattle.net_gen.specs.Costs.{gates_at_most, linear_bound}
 use Rattle.net_gen.specs.Generated.{HasInterfaceOf, FollowsInstants, FollowsRuns}
+use Rattle.net_gen.proofs.Exports.{wires_cost}
 use Rattle.net_ir.specs.declared.netlist.Net.{Net}
 use Rattle.net_ir.specs.Gates.{carried}
 use Rattle.net_ir.specs.Runs.{netlist_of}
@@ -57,7 +59,7 @@ use Rattle.cec_compile.specs.Compiling.{IsGraphed, IsCompiled, StandsForGraph, S
 use Rattle.cec_compile.specs.Following.{FollowsGraph}
 use Rattle.cec_compile.specs.Limits.{copying_refusal}
 use Rattle.cec_compile.specs.Graphs.{HasNoGraph, IsBuilt}
-use Rattle.cec_compile.specs.GraphsMade.{IsGraphIn, IsOwnOrShared, IsRanked}
+use Rattle.cec_compile.specs.GraphsMade.{IsGraphIn, IsOwnOrShared, IsRanked, IsSharedOf}
 use Rattle.cec_compile.specs.Refusals.{Compiles}
 use Rattle.cec_compile.specs.WireGroups.{HasSharedRank, SharesWires, graph_edges, graph_wires, is_shared, wire_groups}
 use Rattle.cec_compile.proofs.GraphFacts.{acyclic, reading_order, shared_cycle}
@@ -246,6 +248,18 @@ pub compiled_reads : (c : Compiled) (p : Program) → IsCompiled c p → Follows
 compiled_reads c p h f =
     graph_reads c.graph p h.formed (kernel_of c.graph p h.program) h.no_loop h.compiles.acyclic (subst (IsOwnOrShared c.graph) h.program f.graph)
 
+-- the gates of a graph of shared wires, by its own size
+shared_gates : (g : Graph) (p : Program) (order : List WireId) (gates : ℕ) → IsSharedOf g p → is_shared g ≡ true
+    → IsReadingOrder (names_of g) (map (formula_of (instances_of g) (names_of g)) g.equations.items) order
+    → gates ≤ gates_at_most g (rows_at_most g) order → gates ≤ 15 * shared_size p
+shared_gates g p order gates is shared reads few =
+    omega (
+      arith,
+      few,
+      wires_cost g (map (formula_of (instances_of g) (names_of g)) g.equations.items) order reads,
+      graph_gates g p is.program is.instances is.wires is.graph shared,
+    )
+
 -- a graph with an order along its edges, and a netlist that follows it
 pub compiled_is : (g : Graphed) (order : Order) (net : Net) → IsRanked g (program_of g.graph.program)
     → IsWireOrder g.edges.count g.edges.pairs.items order.list.items
@@ -269,6 +283,8 @@ compiled_is g order net h along carries linear follows simple =
       along = record { pairs = g.edges.pairs.items; edges = h.edges; order = subst (λ n. IsWireOrder n g.edges.pairs.items order.list.items) h.count along };
       carried = carries;
       linear = linear;
+      shared_linear = λ shared. shared_gates g.graph p order.list.items (length net.gates.items) (subst (λ b. IsGraphIn b g.graph p) shared h.graph.graph)
+          shared (h.orders order.list.items along) follows.size;
       latches = latches_stand g.graph p net refl follows.interface;
       keeps = net_keeps g.graph p (netlist_of net) h.formed kernel (graph_reads g.graph p h.formed kernel h.no_loop h.compiles.acyclic h.graph)
           h.compiles.acyclic follows.interface follows.runs;

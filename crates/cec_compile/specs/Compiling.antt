@@ -1,5 +1,5 @@
 -- To believe: what the passes make of a source: each field says what its pass keeps.
-use Rattle.std.specs.Prelude.{◌≡◌, ◌≤◌, ℕ, true, false, List, ◌∷◌, length, map, Option}
+use Rattle.std.specs.Prelude.{◌≡◌, ◌*◌, ◌≤◌, ℕ, true, false, List, ◌∷◌, length, map, Option}
 use Rattle.est_base.specs.declared.bounds.TheConstants.Limits.{INSTANCES}
 use Rattle.est_kernel.specs.Plain.{Program, program_of}
 use Rattle.est_kernel.specs.StaticCodes.{NoInstantLoop}
@@ -13,6 +13,7 @@ use Rattle.grc_graph.specs.Reads.{IsReadingOrder}
 use Rattle.grc_graph.specs.SelectionTrees.{body_leaves, body_tree}
 use Rattle.grc_graph.specs.TreeForms.{node_of}
 use Rattle.grc_graph.specs.WireOrders.{WireEdge, AreRanks, IsWireOrder}
+use Rattle.grc_share.specs.SharedSizes.{shared_size}
 use Rattle.net_gen.specs.Costs.{linear_bound}
 use Rattle.net_ir.specs.Gates.{carried}
 use Rattle.net_ir.specs.Runs.{netlist_of}
@@ -50,9 +51,10 @@ pub record FollowsEdges (c : Compiled) (p : Program) : Type 0 where
   pub order : IsWireOrder (length c.graph.wires.items) pairs c.order.list.items
 
 -- A graph of the program, its own or that of its shared wires, an evaluation order along its edges, and its netlist:
--- the netlist has at most so many gates, one of them for each wire of the graph, in that order. Its first latch tells
--- the first instant; the others, one for each leaf of the selection tree, are false at first. It keeps what the program
--- means, and has nothing left to simplify.
+-- the netlist has at most so many gates, by the wires and the live test nodes of the program's own graph and, where
+-- wires are shared, by those of the shared one too; one of them stands for each wire of the graph, in that order. Its
+-- first latch tells the first instant; the others, one for each leaf of the selection tree, are false at first. It
+-- keeps what the program means, and has nothing left to simplify.
 pub record IsCompiled (c : Compiled) (p : Program) : Type 0 where
   pub formed : IsWellFormed p
   pub no_loop : NoInstantLoop p.body
@@ -67,6 +69,7 @@ pub record IsCompiled (c : Compiled) (p : Program) : Type 0 where
   pub along : FollowsEdges c p
   pub carried : carried c.net.gates.items ≡ map (λ v. v.0) c.order.list.items
   pub linear : length c.net.gates.items ≤ linear_bound p
+  pub shared_linear : is_shared c.graph ≡ true → length c.net.gates.items ≤ 15 * shared_size p
   pub latches : map (λ l. l.init) c.net.latches.items ≡ true ∷ map (λ n. false) (body_leaves p.body)
   pub keeps : NetKeeps (netlist_of c.net) p
   pub simple : IsSimple (netlist_of c.net)

@@ -25,6 +25,7 @@ use Rattle.grc_graph.specs.Walk.{Selecting}
 use Rattle.grc_graph.specs.WireOrders.{AreRanks, IsWireOrder}
 use Rattle.grc_graph.specs.Wires.{Wire, Go}
 use Rattle.grc_sem.specs.GraphWalks.{IsWalkOf, graph_walk}
+use Rattle.grc_share.specs.SharedSizes.{shared_size}
 use Rattle.grc_share.specs.SharedWires.{members, shared_edges, shared_wires}
 use Rattle.guard_owners.specs.Blocks.{guarded_text}
 use Rattle.guard_owners.specs.Owners.{owners}
@@ -151,9 +152,26 @@ what_is_compiled : (c : Compiled) (p : Program) (h : IsCompiled c p) → IsWellF
     × (map node_of c.graph.tree.nodes.items ≡ body_tree p.body) × (c.graph.tree.leaves ≡ length (body_leaves p.body))
     × IsReadingOrder (names_of c.graph) (map (formula_of (instances_of c.graph) (names_of c.graph)) c.graph.equations.items) c.order.list.items
     × FollowsEdges c p × (carried c.net.gates.items ≡ map (λ v. v.0) c.order.list.items) × (length c.net.gates.items ≤ linear_bound p)
+    × (is_shared c.graph ≡ true → length c.net.gates.items ≤ 15 * shared_size p)
     × (map (λ l. l.init) c.net.latches.items ≡ true ∷ map (λ n. false) (body_leaves p.body)) × NetKeeps (netlist_of c.net) p × IsSimple (netlist_of c.net)
-what_is_compiled c p h =
-    (h.formed, h.no_loop, h.compiles, h.program, h.wires, h.own, h.tree, h.leaves, h.order, h.along, h.carried, h.linear, h.latches, h.keeps, h.simple)
+what_is_compiled c p h = (
+  h.formed,
+  h.no_loop,
+  h.compiles,
+  h.program,
+  h.wires,
+  h.own,
+  h.tree,
+  h.leaves,
+  h.order,
+  h.along,
+  h.carried,
+  h.linear,
+  h.shared_linear,
+  h.latches,
+  h.keeps,
+  h.simple,
+)
 
 what_is_encoded : (c : Compiled) (p : Program) (net : Netlist) (h : IsEncoded c p net) → (net.name ≡ (netlist_of c.net).name)
     × (net.inputs ≡ (netlist_of c.net).inputs) × (output_names net ≡ output_names (netlist_of c.net)) × (carried net.gates ≡ carried c.net.gates.items)

@@ -1,5 +1,4 @@
 use Rattle.std.proofs.Common.{sym, subst}
-use Rattle.est_kernel.specs.Plain.{program_of}
 use Rattle.cec_compile.specs.GraphsMade.{IsRanked}
 use Rattle.cec_compile.specs.WireGroups.{SharesWires, is_shared}
 use Rattle.cec_compile.proofs.Joined.{own_graph, compiled_stands}
