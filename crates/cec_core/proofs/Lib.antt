@@ -14,5 +14,5 @@ pub mod RunnerReactions
 pub mod TraceEnds
 pub mod TextSizes
 pub mod GuardedMeans
-pub mod WrittenTexts
+pub mod FormLanguages
 mod worked

@@ -1,5 +1,5 @@
 -- What the outcome of a command says of the text that it wrote.
-use Rattle.std.proofs.Common.{ℕ, List, [], Option, None, Some, inl}
+use Rattle.std.proofs.Common.{ℕ, List, [], Option, Some, inl}
 use Rattle.est_base.specs.declared.files.reading.FileFault.{FileFault}
 use Rattle.est_base.specs.declared.files.reading.FileFault.TheVariants as reading
 use Rattle.est_base.specs.Faults.{Rose}

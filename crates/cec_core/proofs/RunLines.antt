@@ -1,14 +1,17 @@
 -- The lines of a compiled program's netlist over a trace are those of the program's own run.
-use Rattle.std.proofs.Common.{◌≡◌, ℕ, List, [], ◌∷◌, length, map, drop, Option, Result, refl, sym, ap, ◌∙◌, subst, arith}
+use Rattle.std.proofs.Common.{◌≡◌, ℕ, List, [], ◌∷◌, length, map, drop, Option, Result, Err, refl, sym, ap, ◌∙◌, subst, arith}
 use Rattle.std.proofs.lemmas.List.{length-drop, length-take}
 use Rattle.est_base.specs.Items.{Item, Event, Reset, EachEvent}
+use Rattle.est_base.proofs.Exports.{gains-nothing}
 use Rattle.est_base.specs.Relations.{Relation, MeetsAll}
 use Rattle.est_kernel.specs.Plain.{Program, given_count, given_names, outgoing_count, outgoing_names}
 use Rattle.est_kernel.specs.Reactions.{Answer}
 use Rattle.est_kernel.specs.WellFormed.{IsWellFormed}
 use Rattle.net_ir.specs.Netlists.{Netlist, output_names}
 use Rattle.trace_io.specs.Answers.{beginning}
+use Rattle.trace_io.specs.Traces.{Reading}
 use Rattle.trace_run.specs.declared.running.RunFault.{RunFault}
+use Rattle.trace_run.specs.declared.running.RunFault.TheVariants.{NoMemory}
 use Rattle.trace_run.specs.Machines.{answer_lines}
 use Rattle.trace_run.specs.Languages.{shown_answer, ShowsNet}
 use Rattle.est_base.specs.SinkChanges.{SinkChange}
@@ -22,7 +25,7 @@ use Rattle.cec_compile.specs.declared.forms.TextForm.TheVariants as forms
 use Rattle.guard_run.specs.CountedRuns.{RunsCounted}
 use Rattle.guard_run.specs.ProgramAnswers.{last_line}
 use Rattle.guard_run.proofs.Exports.{counted-along}
-use Rattle.cec_core.specs.NetTexts.{RunsText}
+use Rattle.cec_core.specs.NetTexts.{IsWritten, RunsText}
 use Rattle.cec_core.specs.Runs.{line_answer, ShowsRun, RunsVia}
 
 -- the events of a trace are events of the program
@@ -102,3 +105,21 @@ pub outgoing_wide : (p : Program) → IsWellFormed p → outgoing_count p ≡ le
 outgoing_wide p formed =
     let fits = formed.interface in
     omega (arith, fits, length-take (outgoing_count p) (drop p.inputs p.signals), length-drop p.inputs p.signals)
+
+-- where memory is wanting before the run, nothing is written
+nothing : (names : List (List ℕ)) (net : Netlist) (trace : Reading) (told : Option (List ℕ)) (faults : ℕ)
+    → RunsTrace (ShowsNet names net) trace (record { before = told; after = told; faults_before = faults; faults_now = faults }) (Err NoMemory)
+nothing names net trace told faults = ([], [], tt, refl, refl, record { taken = 0; gains = gains-nothing told })
+
+pub runs_nothing : (form : TextForm) (text : List ℕ) (names : List (List ℕ)) (net : Netlist) (trace : Reading) (told : Option (List ℕ)) (faults : ℕ)
+    → IsWritten form text net
+    → RunsText form text names net trace (record { before = told; after = told; faults_before = faults; faults_now = faults }) (Err NoMemory)
+runs_nothing forms.Guarded text names net trace told faults w = record {
+  program = w.program;
+  describes = w.describes;
+  ran = nothing names net trace told faults;
+}
+runs_nothing forms.Blif text names net trace told faults w = nothing names net trace told faults
+runs_nothing forms.EncodedBlif text names net trace told faults w = nothing names net trace told faults
+runs_nothing forms.C text names net trace told faults w = nothing names net trace told faults
+runs_nothing forms.Verilog text names net trace told faults w = nothing names net trace told faults

@@ -17,3 +17,5 @@ pub mod Subjects
 pub mod Accepted
 pub mod Laws
 pub mod NetTexts
+pub mod Targets
+pub mod TextTasks

@@ -27,6 +27,17 @@ pub(crate) struct Job<'a> {
     pub pick: Pick,
 }
 
+/// What is done with texts of a form.
+#[derive(Clone, Copy)]
+pub(crate) enum TextTask<'a> {
+    /// The text of a source is written.
+    Write(Job<'a>),
+    /// A source is run by its text, over the trace in this file.
+    Run(Job<'a>, &'a str),
+    /// A text is run over the trace in this file.
+    Exec(&'a str),
+}
+
 /// What is asked for.
 #[derive(Clone, Copy)]
 pub(crate) enum Request<'a> {
@@ -91,8 +102,8 @@ fn request_asked(words: &[String], asked: Asked) -> Request<'_>
     }
 }
 
-// The form of a source's text, by its language, and by whether its latches are to hold the state in a code.
-fn form_by(via: Via, encode: bool) -> TextForm
+/// The form of a source's text, by its language, and by whether its latches are to hold the state in a code.
+pub(crate) fn form_by(via: Via, encode: bool) -> TextForm
     ensures { result ≡ form_by via encode }
 {
     match via {

@@ -1,7 +1,6 @@
 -- What a line speaks of, row by row: by each command the names of the files, the main module's name and the source.
 use Rattle.std.proofs.Common.{◌≡◌, ℕ, List, [], ◌∷◌, Option, Some, None, codes, refl, inl}
 use Rattle.cec_compile.specs.declared.forms.TextForm.{TextForm}
-use Rattle.cec_core.specs.declared.jobs.Task.{Task}
 use Rattle.cec_core.specs.declared.outcome.Outcome.{Outcome}
 use Rattle.cec_core.specs.declared.outcome.Outcome.TheVariants.{Usage}
 use Rattle.cec_core.specs.Jobs.{Job, Request, Help, Make, Run, RunTri, Exec, Generate, Load}
@@ -40,7 +39,7 @@ not_of_another_main_module h = let e = h.1 in cc
 
 -- ---- by commands
 
-of_a_task : (task : Task) (job : Job) (content : Content) (x : Subject) → IsSubjectOf (Some (Make task job)) content x → IsSourceSubject job content x
+of_a_task : (task : _) (job : Job) (content : Content) (x : Subject) → IsSubjectOf (Some (Make task job)) content x → IsSourceSubject job content x
 of_a_task task job content x h = h
 
 of_a_run : (via : TextForm) (job : Job) (trace : List ℕ) (content : Content) (x : Subject) → IsSubjectOf (Some (Run via job trace)) content x

@@ -2,30 +2,26 @@
 
 ghost use Rattle.std.specs.Prelude.{◌≡◌, ◌≤◌, length, Some};
 ghost use Rattle.est_base.specs.SinkChanges.{change};
-ghost use Rattle.trace_run.specs.Languages.{RunsIn};
 ghost use Rattle.text_io.specs.Contents.{Holds};
-ghost use Rattle.cec_core.specs.ExecTexts.{IsFaultIn, IsTextIn, RunsBy};
+ghost use Rattle.cec_core.specs.ExecTexts.{RunsBy};
 ghost use Rattle.cec_core.specs.Jobs.{Exec};
 ghost use Rattle.cec_core.specs.Lines.{GainsErr};
-ghost use Rattle.cec_core.specs.Outcomes.{Agrees, CountsFiles, ExecutesIn, ExecutesOn, GainsOut};
-ghost use Rattle.cec_words.specs.declared.asked.Via.TheVariants.{Guard};
-ghost use Rattle.guard_run.specs.CountedRuns.{CountsIn};
+ghost use Rattle.cec_core.specs.Outcomes.{Agrees, CountsFiles, ExecutesOn, GainsOut};
 ghost use Rattle.cec_core.specs.Runs.{LeavesRun};
 ghost use Rattle.cec_core.specs.Subjects.{CountsTrace, LongTrace, run_outcome};
+ghost use Rattle.cec_core.specs.Targets.{language_of};
 
 use crate::commands::make::unread;
+use crate::commands::texts::do_in_form;
+use crate::jobs::{TextTask, form_by};
 use crate::lines::{Subject, report};
 use crate::outcome::{Outcome, Which};
-use crate::text_faults::TextFault;
-use blif_run::BlifTexts;
-use cec_compile::Limit;
+use crate::targets::Target;
+use cec_compile::{Limit, TextForm};
 use cec_words::Via;
-use csub_run::CTexts;
 use est_base::{Files, Limits, Sink, Stop};
-use guard_run::{read_machine, run_counted};
 use std::alloc::Global;
-use trace_run::{Language, RunFault, run_text};
-use vlog_run::VerilogTexts;
+use trace_run::RunFault;
 
 /// Runs the text in a file over the trace in another, and says how it ended.
 pub(crate) fn exec_text<F: Files, O: Sink, E: Sink>(
@@ -98,72 +94,43 @@ fn exec_bytes<F: Files, O: Sink>(
         (λ items. RunsBy via text.now items (change O.told O.faults out.old out.new) ended))
         (change O.told O.faults out.old out.new) result }
 {
-    match via {
-        Via::Blif => exec_in::<BlifTexts, F, O>(alloc, text, trace, files, out),
-        Via::C => exec_in::<CTexts, F, O>(alloc, text, trace, files, out),
-        Via::Guard => exec_guarded(alloc, text, trace, files, out),
-        Via::Verilog => exec_in::<VerilogTexts, F, O>(alloc, text, trace, files, out),
-    }
+    do_in_form(
+        alloc,
+        form_by(via, false),
+        TextTask::Exec(trace),
+        text,
+        files,
+        out,
+    )
 }
 
-// Runs a text of a language over the trace in a file.
-fn exec_in<L: Language, F: Files, O: Sink>(
+/// Runs a text of a form over the trace in a file, in a language.
+pub(crate) fn exec_in<T: Target, F: Files, O: Sink>(
     alloc: Global,
+    form: TextForm,
     text: &[u8],
     trace: &str,
     files: &mut F,
     out: &mut O,
 ) -> Outcome
-where
-    TextFault: From<L::Fault>,
-    requires { length text.now ≤ Limits.TEXT_BYTES }
-    ensures agrees { ExecutesIn (IsTextIn L.reads)
-        (IsFaultIn L.faulty ⟦<TextFault as From<L::Fault>>⟧.from_gives) result text.now }
+    requires fits { length text.now ≤ Limits.TEXT_BYTES }
+    requires form { T.serves form }
+    ensures agrees { ExecutesOn (language_of form) result text.now }
     ensures long_trace { LongTrace (F.content files.old) trace.now result }
     ensures files_counted { CountsTrace trace.now result
         (F.faults files.old) (F.faults files.new) (F.last_failed files.old) (F.last_failed files.new) }
     ensures files_stay { F.content files.new ≡ F.content files.old }
     ensures out { LeavesRun (λ ended. Holds (F.content files.old) trace.now
-        (λ items. RunsIn L.reads L.given L.outgoing L.shows text.now items
-        (change O.told O.faults out.old out.new) ended))
+        (λ items. RunsBy (language_of form) text.now items (change O.told O.faults out.old out.new) ended))
         (change O.told O.faults out.old out.new) result }
 {
-    let machine = match L::read(alloc, text) {
+    let machine = match T::read(alloc, form, text) {
         Ok(machine) => machine,
-        Err(Stop::Fault(fault)) => return Outcome::BadText(TextFault::from(fault)),
+        Err(Stop::Fault(fault)) => return Outcome::BadText(fault),
         Err(Stop::NoMemory) => return Outcome::NoMemory,
     };
     match files.read(alloc, trace, Limits::TRACE_BYTES) {
-        Ok(trace) => run_outcome(run_text::<L, O>(alloc, machine, trace, out)),
-        Err(fault) => unread(Which::Second, Limit::Trace, fault),
-    }
-}
-
-// Runs a guarded text over the trace in a file, with the line of its count behind the others.
-fn exec_guarded<F: Files, O: Sink>(
-    alloc: Global,
-    text: &[u8],
-    trace: &str,
-    files: &mut F,
-    out: &mut O,
-) -> Outcome
-    requires { length text.now ≤ Limits.TEXT_BYTES }
-    ensures agrees { ExecutesOn Guard result text.now }
-    ensures long_trace { LongTrace (F.content files.old) trace.now result }
-    ensures files_counted { CountsTrace trace.now result
-        (F.faults files.old) (F.faults files.new) (F.last_failed files.old) (F.last_failed files.new) }
-    ensures files_stay { F.content files.new ≡ F.content files.old }
-    ensures out { LeavesRun (λ ended. Holds (F.content files.old) trace.now
-        (λ items. CountsIn text.now items (change O.told O.faults out.old out.new) ended))
-        (change O.told O.faults out.old out.new) result }
-{
-    let machine = match read_machine(alloc, text) {
-        Ok(machine) => machine,
-        Err(Stop::Fault(fault)) => return Outcome::BadText(TextFault::Guard(fault)),
-        Err(Stop::NoMemory) => return Outcome::NoMemory,
-    };
-    match files.read(alloc, trace, Limits::TRACE_BYTES) {
-        Ok(trace) => run_outcome(run_counted(alloc, machine, trace, out)),
+        Ok(trace) => run_outcome(T::run_read::<O>(alloc, form, machine, trace, out)),
         Err(fault) => unread(Which::Second, Limit::Trace, fault),
     }
 }

@@ -16,16 +16,15 @@ ghost use Rattle.cec_compile.specs.Refusals.{IsRefused};
 
 use crate::lines::{Subject, report, subject_of_none};
 use crate::outcome::Outcome;
-use crate::picked::compile_picked;
 use crate::writing::write_whole;
 use blif_run::BlifTexts;
 use blif_text::write_blif;
-use cec_compile::{Limit, Refusal};
-use cec_words::Pick;
+use cec_compile::{Limit, Refusal, compile};
 use csub_run::CTexts;
 use csub_text::write_c;
 use est_base::{Draw, Limits, NoMemory, Sink};
 use est_gen::{GenFault, generate_source, next_event};
+use grc_order::First;
 use itoa::Buffer;
 use net_ir::Net;
 use std::alloc::Global;
@@ -110,7 +109,7 @@ fn summary(alloc: Global, source: &[u8], draw: Draw, instants: u32) -> Result<Ve
     ensures text { IfOk result (λ text. IsSummary source.now draw instants text.items) }
     ensures refuses { IfErr result (IsRefused source.now None) }
 {
-    let compiled = compile_picked(alloc, source, None, Pick::First)?;
+    let compiled = compile(alloc, source, None, &mut First)?;
     let counts = run_both(alloc, &compiled.net, draw, instants)?;
     let text = summary_text(alloc, instants, counts)?;
     Ok(text)

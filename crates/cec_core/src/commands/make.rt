@@ -1,34 +1,29 @@
 // The commands that make a text of a source.
 
 ghost use Rattle.std.specs.Prelude.{◌≡◌, ◌≤◌, length, Some, option_map, unwrap_or, []};
+ghost use Rattle.est_base.specs.Reading.{Keeps};
 ghost use Rattle.est_base.specs.SinkChanges.{change};
-ghost use Rattle.text_io.specs.NetWriting.{IsWrittenIn};
 ghost use Rattle.cec_core.specs.Answers.{IsAnswer};
 ghost use Rattle.cec_core.specs.Jobs.{Make};
 ghost use Rattle.cec_core.specs.JobViews.{plain_job};
 ghost use Rattle.cec_core.specs.Lines.{GainsErr};
-ghost use Rattle.cec_compile.specs.MadeNets.{IsWrittenOf};
 ghost use Rattle.cec_compile.specs.SourceTexts.{IsSourceText};
-ghost use Rattle.cec_compile.specs.declared.forms.TextForm.TheVariants.{Guarded};
 ghost use Rattle.cec_core.specs.Outcomes.{Agrees, CountsFiles, GainsOut, LeavesAnswer};
 ghost use Rattle.cec_core.specs.Outcomes.{LeavesPieces, MakesOn};
 ghost use Rattle.cec_core.specs.Subjects.{plain_subject, unread_outcome};
-ghost use Rattle.cec_core.specs.declared.jobs.Task.TheVariants.{Text};
 
 use crate::answers::{counts, listing};
-use crate::jobs::{Job, Task};
+use crate::commands::texts::do_in_form;
+use crate::jobs::{Job, Task, TextTask};
 use crate::lines::{Subject, report};
 use crate::outcome::{Outcome, Which};
+use crate::targets::Target;
 use crate::writing::write_whole;
-use blif_text::BlifWriter;
-use cec_compile::{Limit, TextForm, write_guarded_text, write_source_text};
+use cec_compile::{Limit, TextForm};
 use cec_words::Pick;
-use csub_text::CWriter;
 use est_base::{Draw, FileFault, Files, Limits, Sink};
 use grc_order::{Drawn, First, Last, Picker};
-use net_text::NetText;
 use std::alloc::Global;
-use vlog_text::VlogWriter;
 
 /// Does a task on the source in a file, and says how it ended.
 pub(crate) fn make_text<F: Files, O: Sink, E: Sink>(
@@ -50,7 +45,7 @@ pub(crate) fn make_text<F: Files, O: Sink, E: Sink>(
 {
     match files.read(alloc, job.name, Limits::SOURCE_BYTES) {
         Ok(source) => {
-            let outcome = do_task(alloc, task, job, &source, out);
+            let outcome = do_task(alloc, task, job, &source, files, out);
             report(err, subject_of(job, "", &source), &outcome);
             outcome
         }
@@ -88,16 +83,26 @@ pub(crate) fn unread(file: Which, limit: Limit, fault: FileFault) -> Outcome
     }
 }
 
-// Does a task on a source, writes what it makes to `out`, and says how it ended.
-fn do_task<O: Sink>(alloc: Global, task: Task, job: Job<'_>, source: &[u8], out: &mut O) -> Outcome
+// Does a task on a source, writes what it makes to `out`, and says how it ended. It reads no file.
+fn do_task<F: Files, O: Sink>(
+    alloc: Global,
+    task: Task,
+    job: Job<'_>,
+    source: &[u8],
+    files: &mut F,
+    out: &mut O,
+) -> Outcome
     requires { length source.now ≤ Limits.SOURCE_BYTES }
     ensures agrees { MakesOn (plain_job job.entry).main result source.now }
+    ensures files_counted { Keeps (F.faults files.old) (F.faults files.new)
+        (F.last_failed files.old) (F.last_failed files.new) }
+    ensures files_stay { F.content files.new ≡ F.content files.old }
     ensures out { LeavesAnswer task (IsAnswer task (plain_job job.entry).main source.now)
         (change O.told O.faults out.old out.new)
         result }
 {
     match task {
-        Task::Text(form) => write_form(alloc, form, job, source, out),
+        Task::Text(form) => do_in_form(alloc, form, TextTask::Write(job), source, files, out),
         Task::Grc => match listing(alloc, source, job.main) {
             Ok(text) => write_whole(&text, out),
             Err(refusal) => Outcome::from(refusal),
@@ -109,89 +114,32 @@ fn do_task<O: Sink>(alloc: Global, task: Task, job: Job<'_>, source: &[u8], out:
     }
 }
 
-// Writes the text of a source of a form.
-fn write_form<O: Sink>(
+/// Writes the text of a source of a form, in a language, piece by piece.
+pub(crate) fn write_in<T: Target, O: Sink>(
     alloc: Global,
     form: TextForm,
     job: Job<'_>,
     source: &[u8],
     out: &mut O,
 ) -> Outcome
-    requires { length source.now ≤ Limits.SOURCE_BYTES }
+    requires short { length source.now ≤ Limits.SOURCE_BYTES }
+    requires form { T.serves form }
     ensures agrees { MakesOn (plain_job job.entry).main result source.now }
-    ensures out { LeavesPieces (IsAnswer (Text form) (plain_job job.entry).main source.now)
-        (change O.told O.faults out.old out.new) result }
-{
-    match form {
-        TextForm::Blif => write_text::<BlifWriter, O>(alloc, form, job, source, out),
-        TextForm::EncodedBlif => write_text::<BlifWriter, O>(alloc, form, job, source, out),
-        TextForm::C => write_text::<CWriter, O>(alloc, form, job, source, out),
-        TextForm::Guarded => write_guarded(alloc, job, source, out),
-        TextForm::Verilog => write_text::<VlogWriter, O>(alloc, form, job, source, out),
-    }
-}
-
-// Writes the guarded text of a source, piece by piece.
-fn write_guarded<O: Sink>(alloc: Global, job: Job<'_>, source: &[u8], out: &mut O) -> Outcome
-    requires { length source.now ≤ Limits.SOURCE_BYTES }
-    ensures agrees { MakesOn (plain_job job.entry).main result source.now }
-    ensures out { LeavesPieces (IsSourceText Guarded (plain_job job.entry).main source.now)
+    ensures out { LeavesPieces (IsSourceText form (plain_job job.entry).main source.now)
         (change O.told O.faults out.old out.new) result }
 {
     match job.pick {
-        Pick::First => guarded_into::<First, O>(alloc, source, job.main, &mut First, out),
-        Pick::Last => guarded_into::<Last, O>(alloc, source, job.main, &mut Last, out),
+        Pick::First => write_picked::<T, First, O>(alloc, form, source, job.main, &mut First, out),
+        Pick::Last => write_picked::<T, Last, O>(alloc, form, source, job.main, &mut Last, out),
         Pick::Drawn(start) => {
             let mut drawn = Drawn(Draw::new(start));
-            guarded_into::<Drawn, O>(alloc, source, job.main, &mut drawn, out)
-        }
-    }
-}
-
-// Writes the guarded text of a source along the order that a picker makes, and says how that ended.
-fn guarded_into<P: Picker, O: Sink>(
-    alloc: Global,
-    source: &[u8],
-    main: Option<&[u8]>,
-    picker: &mut P,
-    out: &mut O,
-) -> Outcome
-    requires { length source.now ≤ Limits.SOURCE_BYTES }
-    ensures agrees { MakesOn (option_map (λ m. m.now) main.entry) result source.now }
-    ensures out { LeavesPieces (IsSourceText Guarded (option_map (λ m. m.now) main.entry) source.now)
-        (change O.told O.faults out.old out.new) result }
-{
-    match write_guarded_text::<P, O>(alloc, source, main, picker, out) {
-        Ok(ended) => Outcome::from(ended),
-        Err(refusal) => Outcome::from(refusal),
-    }
-}
-
-// Writes the text of a source of a form, in a language, piece by piece.
-fn write_text<T: NetText + Drop, O: Sink>(
-    alloc: Global,
-    form: TextForm,
-    job: Job<'_>,
-    source: &[u8],
-    out: &mut O,
-) -> Outcome
-    requires { length source.now ≤ Limits.SOURCE_BYTES }
-    ensures agrees { MakesOn (plain_job job.entry).main result source.now }
-    ensures out { LeavesPieces (IsWrittenOf form (IsWrittenIn T.written T.means) source.now (plain_job job.entry).main)
-        (change O.told O.faults out.old out.new) result }
-{
-    match job.pick {
-        Pick::First => text_into::<T, First, O>(alloc, form, source, job.main, &mut First, out),
-        Pick::Last => text_into::<T, Last, O>(alloc, form, source, job.main, &mut Last, out),
-        Pick::Drawn(start) => {
-            let mut drawn = Drawn(Draw::new(start));
-            text_into::<T, Drawn, O>(alloc, form, source, job.main, &mut drawn, out)
+            write_picked::<T, Drawn, O>(alloc, form, source, job.main, &mut drawn, out)
         }
     }
 }
 
 // Writes the text of a source of a form, in a language, along the order that a picker makes, and says how that ended.
-fn text_into<T: NetText + Drop, P: Picker, O: Sink>(
+fn write_picked<T: Target, P: Picker, O: Sink>(
     alloc: Global,
     form: TextForm,
     source: &[u8],
@@ -199,12 +147,13 @@ fn text_into<T: NetText + Drop, P: Picker, O: Sink>(
     picker: &mut P,
     out: &mut O,
 ) -> Outcome
-    requires { length source.now ≤ Limits.SOURCE_BYTES }
+    requires short { length source.now ≤ Limits.SOURCE_BYTES }
+    requires form { T.serves form }
     ensures agrees { MakesOn (option_map (λ m. m.now) main.entry) result source.now }
-    ensures out { LeavesPieces (IsWrittenOf form (IsWrittenIn T.written T.means) source.now
-        (option_map (λ m. m.now) main.entry)) (change O.told O.faults out.old out.new) result }
+    ensures out { LeavesPieces (IsSourceText form (option_map (λ m. m.now) main.entry) source.now)
+        (change O.told O.faults out.old out.new) result }
 {
-    match write_source_text::<T, P, O>(alloc, form, source, main, picker, out) {
+    match T::write::<P, O>(alloc, form, source, main, picker, out) {
         Ok(ended) => Outcome::from(ended),
         Err(refusal) => Outcome::from(refusal),
     }

@@ -1,16 +1,23 @@
 use Rattle.est_base.specs.declared.bounds.TheConstants.Limits.{TRACE_BYTES}
+use Rattle.est_base.specs.SinkChanges.{change}
+use Rattle.text_io.specs.Contents.{Holds}
 use Rattle.text_io.proofs.Exports.{held_read}
-use Rattle.cec_core.proofs.TwoFiles.{text_left, long_trace_unread}
+use Rattle.cec_core.specs.ExecTexts.{RunsBy}
+use Rattle.cec_core.specs.Targets.{language_of}
+use Rattle.cec_core.proofs.TwoFiles.{leaves_ran, long_trace_unread}
 use Rattle.cec_core.proofs.commands.exec.exec_in.Goals as goal
 
 pub returns-in-Ok-read-clause-out : goal.returns-in-Ok-read-clause-out
 returns-in-Ok-read-clause-out g c =
-    let language = g.L.Language in
     let content = g.F.Files.content c.args.files.now in
+    let trace = c.in-Ok-read.trace in
+    let came = change g.O.Sink.told g.O.Sink.faults c.args.out.now c.run_read.new.out in
     rw c.run_outcome.ensures
-    (text_left language.reads language.given language.outgoing language.shows content c.args.trace.now c.args.text.now _ c.run_text.result
-    c.in-Ok-read.trace.items (held_read content c.args.trace.now TRACE_BYTES c.in-Ok-read.trace c.in-Ok-read.ensures.bytes)
-    (record { program = language.plain c.in-Ok.machine; read = c.in-Ok.ensures.reads; ran = c.run_text.ensures }))
+    (leaves_ran (λ ended. Holds content c.args.trace.now (λ i. RunsBy (language_of c.args.form) c.args.text.now i came ended)) came c.run_read.result (
+      trace.items,
+      held_read content c.args.trace.now TRACE_BYTES trace c.in-Ok-read.ensures.bytes,
+      c.run_read.ensures c.args.text.now c.in-Ok.ensures.reads,
+    ))
 
 pub returns-in-Err-clause-long_trace : goal.returns-in-Err-clause-long_trace
 returns-in-Err-clause-long_trace g c =

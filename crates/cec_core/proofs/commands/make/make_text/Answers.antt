@@ -23,7 +23,10 @@ returns-in-Ok-clause-agrees g c =
 pub returns-in-Ok-clause-files_counted : goal.returns-in-Ok-clause-files_counted
 returns-in-Ok-clause-files_counted g c =
     let job = plain_job c.args.job in
-    make_counts c.args.task job c.do_task-outcome.result c.deref.result.now _ _ _ _ c.do_task-outcome.ensures.agrees c.in-Ok.ensures.counts
+    let read = c.in-Ok.ensures.counts in
+    let stays = c.do_task-outcome.ensures.files_counted in
+    make_counts c.args.task job c.do_task-outcome.result c.deref.result.now _ _ _ _ c.do_task-outcome.ensures.agrees
+    (record { faults = stays.faults ∙ read.faults; failed = stays.failed ∙ read.failed })
 
 pub returns-in-Ok-clause-out : goal.returns-in-Ok-clause-out
 returns-in-Ok-clause-out g c =

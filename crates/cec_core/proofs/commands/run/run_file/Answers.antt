@@ -17,16 +17,16 @@ pub returns-in-Ok-clause-agrees : goal.returns-in-Ok-clause-agrees
 returns-in-Ok-clause-agrees g c =
     let job = plain_job c.args.job in
     let content = g.F.Files.content c.args.files.now in
-    two_agree content job.name c.args.trace.now (RunsOn c.args.via job.main) c.source_run-outcome.result c.in-Ok.source.items
+    two_agree content job.name c.args.trace.now (RunsOn c.args.via job.main) c.do_in_form-outcome.result c.in-Ok.source.items
     (held_read content job.name SOURCE_BYTES c.in-Ok.source c.in-Ok.ensures.bytes)
-    (subst (RunsOn c.args.via job.main c.source_run-outcome.result) c.deref.ensures.value c.source_run-outcome.ensures.agrees)
-    (rw (← c.in-Ok.ensures.content_stays) c.source_run-outcome.ensures.long_trace)
+    (subst (RunsOn c.args.via job.main c.do_in_form-outcome.result) c.deref.ensures.value c.do_in_form-outcome.ensures.agrees)
+    (rw (← c.in-Ok.ensures.content_stays) c.do_in_form-outcome.ensures.long_trace)
 
 pub returns-in-Ok-clause-files_counted : goal.returns-in-Ok-clause-files_counted
 returns-in-Ok-clause-files_counted g c =
     let job = plain_job c.args.job in
-    two_count (Run c.args.via job c.args.trace.now) c.args.trace.now c.source_run-outcome.result _ _ _ _ _ _ (λ n is. is) c.in-Ok.ensures.counts
-    c.source_run-outcome.ensures.files_counted
+    two_count (Run c.args.via job c.args.trace.now) c.args.trace.now c.do_in_form-outcome.result _ _ _ _ _ _ (λ n is. is) c.in-Ok.ensures.counts
+    c.do_in_form-outcome.ensures.files_counted
 
 pub returns-in-Ok-clause-out : goal.returns-in-Ok-clause-out
 returns-in-Ok-clause-out g c =
@@ -34,25 +34,25 @@ returns-in-Ok-clause-out g c =
     let content = g.F.Files.content c.args.files.now in
     let s : SinkChange = record {
       before = g.O.Sink.told c.args.out.now;
-      after = g.O.Sink.told c.source_run-outcome.new.out;
+      after = g.O.Sink.told c.do_in_form-outcome.new.out;
       faults_before = g.O.Sink.faults c.args.out.now;
-      faults_now = g.O.Sink.faults c.source_run-outcome.new.out;
+      faults_now = g.O.Sink.faults c.do_in_form-outcome.new.out;
     } in
     let trace = c.args.trace.now in
     leaves_as (λ ended. Holds content trace (λ items. RunsSource c.args.via job.main c.in-Ok.source.items items s ended))
-    (λ ended. Holds content job.name (λ bytes. Holds content trace (λ items. RunsSource c.args.via job.main bytes items s ended))) s c.source_run-outcome.result
+    (λ ended. Holds content job.name (λ bytes. Holds content trace (λ items. RunsSource c.args.via job.main bytes items s ended))) s c.do_in_form-outcome.result
     (λ r ran. (c.in-Ok.source.items, held_read content job.name SOURCE_BYTES c.in-Ok.source c.in-Ok.ensures.bytes, ran))
-    (subst (λ bytes. LeavesRun (λ ended. Holds content trace (λ items. RunsSource c.args.via job.main bytes items s ended)) s c.source_run-outcome.result)
+    (subst (λ bytes. LeavesRun (λ ended. Holds content trace (λ items. RunsSource c.args.via job.main bytes items s ended)) s c.do_in_form-outcome.result)
     c.deref.ensures.value
-    (subst (λ k. LeavesRun (λ ended. Holds k trace (λ items. RunsSource c.args.via job.main c.deref.result.now items s ended)) s c.source_run-outcome.result)
-    c.in-Ok.ensures.content_stays c.source_run-outcome.ensures.out))
+    (subst (λ k. LeavesRun (λ ended. Holds k trace (λ items. RunsSource c.args.via job.main c.deref.result.now items s ended)) s c.do_in_form-outcome.result)
+    c.in-Ok.ensures.content_stays c.do_in_form-outcome.ensures.out))
 
 pub returns-in-Ok-clause-err : goal.returns-in-Ok-clause-err
 returns-in-Ok-clause-err g c =
     let job = plain_job c.args.job in
     let content = g.F.Files.content c.args.files.now in
     let subject = c.subject_of.ensures in
-    err_alone _ content c.source_run-outcome.result (plain_subject c.subject_of.result) _ _ _ _ (
+    err_alone _ content c.do_in_form-outcome.result (plain_subject c.subject_of.result) _ _ _ _ (
       source_subject content job c.in-Ok.source.items (plain_subject c.subject_of.result)
           (held_read content job.name SOURCE_BYTES c.in-Ok.source c.in-Ok.ensures.bytes) subject.name subject.main
           (subject.source ∙ c.deref-in-Ok.ensures.value),

@@ -1,34 +1,14 @@
-use Rattle.std.proofs.Common.{subst}
+use Rattle.std.proofs.Common.{map}
+use Rattle.est_base.specs.Relations.{relation_of}
+use Rattle.net_ir.specs.Netlists.{output_names}
 use Rattle.net_ir.specs.Runs.{netlist_of}
-use Rattle.cec_core.specs.NetTexts.{IsWritten}
+use Rattle.trace_io.specs.Answers.{beginning}
+use Rattle.cec_core.proofs.RunLines.{runs_nothing}
 use Rattle.cec_core.proofs.commands.run.run_made.Goals as goal
 
-pub run_in-requires-clause-text : goal.run_in-requires-clause-text
-run_in-requires-clause-text g c = subst (λ form. IsWritten form c.args.text.now (netlist_of c.args.made.net)) c.in-Blif.is c.requires.text
-
-pub returns-in-Blif : goal.returns-in-Blif
-returns-in-Blif g c = rw c.in-Blif.is c.run_in.ensures
-
-pub run_in-requires-in-EncodedBlif-clause-text : goal.run_in-requires-in-EncodedBlif-clause-text
-run_in-requires-in-EncodedBlif-clause-text g c = subst (λ form. IsWritten form c.args.text.now (netlist_of c.args.made.net)) c.in-EncodedBlif.is c.requires.text
-
-pub returns-in-EncodedBlif : goal.returns-in-EncodedBlif
-returns-in-EncodedBlif g c = rw c.in-EncodedBlif.is c.run_in-in-EncodedBlif.ensures
-
-pub run_in-requires-in-C-clause-text : goal.run_in-requires-in-C-clause-text
-run_in-requires-in-C-clause-text g c = subst (λ form. IsWritten form c.args.text.now (netlist_of c.args.made.net)) c.in-C.is c.requires.text
-
-pub returns-in-C : goal.returns-in-C
-returns-in-C g c = rw c.in-C.is c.run_in-in-C.ensures
-
-pub run_guarded-requires-clause-text : goal.run_guarded-requires-clause-text
-run_guarded-requires-clause-text g c = subst (λ form. IsWritten form c.args.text.now (netlist_of c.args.made.net)) c.in-Guarded.is c.requires.text
-
-pub returns-in-Guarded : goal.returns-in-Guarded
-returns-in-Guarded g c = rw c.in-Guarded.is c.run_guarded.ensures
-
-pub run_in-requires-in-Verilog-clause-text : goal.run_in-requires-in-Verilog-clause-text
-run_in-requires-in-Verilog-clause-text g c = subst (λ form. IsWritten form c.args.text.now (netlist_of c.args.made.net)) c.in-Verilog.is c.requires.text
-
-pub returns-in-Verilog : goal.returns-in-Verilog
-returns-in-Verilog g c = rw c.in-Verilog.is c.run_in-in-Verilog.ensures
+pub returns-in-Err : goal.returns-in-Err
+returns-in-Err g c =
+    let net = netlist_of c.args.made.net in
+    runs_nothing c.args.form c.args.text.now (output_names net) net
+    (beginning c.args.trace.items net.inputs (map relation_of c.args.made.program.relations.items)) (g.O.Sink.told c.args.out.now)
+    (g.O.Sink.faults c.args.out.now) c.requires.text
