@@ -1,14 +1,16 @@
 -- Worked nets, by hand: what in a net is left to simplify, one cause each.
-use Rattle.std.proofs.Common.{◌≡◌, ℕ, true, false, None, Some, List, [], ◌∷◌, map, codes, refl, sym, ap, slice_index_or, inl, inr, arith, rules, lit<, lit≤}
+use Rattle.std.proofs.Common.{◌≡◌, ℕ, true, false, None, Some, List, [], ◌∷◌, map, codes, refl, sym, ap}
+use Rattle.std.proofs.Common.{length, slice_index_or, inl, inr, arith, rules, lit<, lit≤}
 use Rattle.std.proofs.lemmas.Bool.{true≢false}
+use Rattle.est_base.specs.Items.{Event}
 use Rattle.est_base.specs.declared.indices.NetId.{NetId}
 use Rattle.net_ir.specs.declared.netlist.Op.{Op}
 use Rattle.net_ir.specs.declared.netlist.Op.TheVariants.{Const, Copy, Not, And, Or}
 use Rattle.net_ir.specs.declared.netlist.Gate.{Gate}
 use Rattle.net_ir.specs.Netlists.{Netlist}
-use Rattle.net_simp.specs.SameRuns.{carried_values, SameParts, SameInstants}
+use Rattle.net_simp.specs.SameRuns.{carried_values, SameParts, SameInstants, SameRuns}
 use Rattle.net_simp.specs.SimpleNets.{EachFormOnce, EachIsReduced, NoCopies, Computes, ReadsComputed, ReadsNoneTwice, EachIsUsed}
-use Rattle.net_simp.specs.SimpleNets.{OperandsDiffer, reads, is_used}
+use Rattle.net_simp.specs.SimpleNets.{OperandsDiffer, reads, is_used, IsSimple}
 
 abbrev net : ℕ → NetId
 net n = record { 0 = n }
@@ -113,3 +115,17 @@ another_paused h = true≢false (ap (λ s. s.paused) (h (false ∷ []) (true ∷
 
 another_next_value : SameInstants in_each_way (record in_each_way { latches = record { init = false; from = net 4 } ∷ [] }) → ⊥
 another_next_value h = true≢false (ap (λ bits. slice_index_or bits 0 false) (h (false ∷ []) (true ∷ false ∷ []) refl refl).next)
+
+-- ---- over items
+
+another_run : SameRuns in_each_way (record in_each_way { paused = 4 }) → ⊥
+another_run h = true≢false (ap (λ seen. slice_index_or (map (λ s. s.paused) seen) 0 false) (h (Event (true ∷ false ∷ []) ∷ []) (refl, tt)).shows)
+
+another_carried_value : SameRuns (with_gates (carrying (Const true) ∷ [])) (with_gates (gate (Const true) ∷ [])) → ⊥
+another_carried_value h =
+    let e : 0 ≡ 1 = ap (λ values. length (slice_index_or values 0 [])) (h (Event (true ∷ false ∷ []) ∷ []) (refl, tt)).carries in
+    omega (arith, e)
+
+what_is_simple : (net : Netlist) → IsSimple net
+    → EachFormOnce net × EachIsReduced net × NoCopies net × ReadsComputed net × ReadsNoneTwice net × EachIsUsed net
+what_is_simple net h = (h.once, h.reduced, h.no_copies, h.reads_computed, h.reads_none_twice, h.used)

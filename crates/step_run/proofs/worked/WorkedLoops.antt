@@ -1,6 +1,6 @@
 -- Worked cycles, by hand: two equations that read one another, one that reads itself, and what is no cycle.
 use Rattle.std.proofs.Common.{◌≡◌, ℕ, zero, suc, ◌+◌, ◌<◌, List, [], ◌∷◌, codes, refl, arith, lit<}
-use Rattle.step_run.specs.Equations.{Equation, NeedsName, name_at, IsLoop}
+use Rattle.step_run.specs.Equations.{Equation, NeedsName, name_at, IsLoop, HasNoLoop}
 
 abbrev a : List ℕ
 a = codes "a"
@@ -47,3 +47,9 @@ no_cycle_of_none h = let low = h.some_name in omega (arith, low)
 
 names_by_place : name_at (a ∷ b ∷ []) 0 ∷ name_at (a ∷ b ∷ []) 1 ∷ name_at (a ∷ b ∷ []) 2 ∷ [] ≡ a ∷ b ∷ [] ∷ []
 names_by_place = refl
+
+they_have_a_cycle : HasNoLoop equations → ⊥
+they_have_a_cycle h = h (c ∷ []) itself
+
+none_has_none : HasNoLoop []
+none_has_none names loop = let low = loop.closes.stands.1 in omega (arith, low)
