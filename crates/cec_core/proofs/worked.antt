@@ -4,3 +4,4 @@ mod WorkedOutcomes
 mod WorkedAnswers
 mod WorkedRequests
 mod WorkedSubjects
+mod WorkedFaults

@@ -2,3 +2,4 @@
 mod Examples
 mod DrawnKernels
 mod DrawnReactions
+mod WorkedShares

@@ -4,7 +4,7 @@ ghost use Rattle.std.specs.Prelude.{◌≤◌, length};
 
 use est_ast::Program;
 use est_base::{Limits, NoMemory};
-use est_lex::lex;
+use est_lex::{LexError, lex};
 use est_parse::{ParseError, parse};
 use std::alloc::Global;
 
@@ -17,7 +17,8 @@ pub(crate) fn put_tree(alloc: Global, text: &mut String, source: &[u8]) -> Resul
         Ok(tokens) if tokens.len() as u64 <= Limits::SOURCE_BYTES => {
             put_parsed(text, &parse(alloc, &tokens))
         }
-        _ => Err(NoMemory),
+        Err(LexError::NoMemory) => Err(NoMemory),
+        _ => Ok(write!(text, "no tokens")?),
     }
 }
 

@@ -1,5 +1,5 @@
 -- Worked lines, by hand: a place on the first line, on a later one and at the end of the text, and what is said of each fault.
-use Rattle.std.proofs.Common.{◌≡◌, ℕ, [], ◌∷◌, ◌++◌, List, map, codes, refl}
+use Rattle.std.proofs.Common.{◌≡◌, ℕ, [], ◌∷◌, ◌++◌, List, map, flat_map, codes, refl, ap, Vec, Global}
 use Rattle.std.specs.Fmt.{digits}
 use Rattle.est_base.specs.declared.place.Span.{Span}
 use Rattle.est_ast.specs.declared.tokens.Token.{Token}
@@ -58,6 +58,11 @@ of_runs : map (λ fault. line (faults.Scope fault)) (scope.UnknownModule span �
     ∷ codes "cec: 2:1: unknown trap\n" ∷ codes "cec: 2:1: input emitted\n" ∷ []
 unfolding digits
 of_runs = refl
+
+of_recursion : (names : Vec (List ℕ) Global) → names.items ≡ codes "M" ∷ codes "N" ∷ []
+    → fault_text source (codes "M") (faults.Scope (scope.Recursive span names)) ≡ codes "2:1: recursive run M N"
+unfolding digits
+of_recursion names is = ap (λ names. codes "2:1: recursive run" ++ flat_map (λ name. codes " " ++ name) names) is
 
 of_counts_and_loops : map line (faults.BadCount span ∷ faults.InstantLoop span ∷ [])
     ≡ codes "cec: 2:1: bad count\n" ∷ codes "cec: 2:1: instantaneous loop\n" ∷ []
