@@ -42,26 +42,26 @@ all-taken before after text gains = subst (Gains before after) (sym (take-length
 
 -- a run that was done has one, or what came of it
 pub counted-by : (m last : Counter) (names : List (List ℕ)) (trace : Reading) (a b c : Option (List ℕ)) (f g h : ℕ) (result : Result (Unit {0}) RunFault)
-    → RunsTrace (Ran names m last) trace (over a b f g) (Ok tt) → CountCame last.total (over b c g h) result
+    → RunsTrace (Ran names m last) trace (over a b f g) (Ok tt) → (n : ℕ) → last.total ≡ Some n → CountCame n (over b c g h) result
     → RunsCounted (Brings counter_shows names m) (last_line (counted_program m)) trace (over a c f h) result
-counted-by m last names trace a b c f g h (Ok done) runs came = record {
+counted-by m last names trace a b c f g h (Ok done) runs n is came = record {
   items = runs.0;
   text = runs.1;
   whole = runs.2;
   writes = runs.3.brings;
-  gained = subst (λ l. Appends a c f h (runs.1 ++ l)) (runs.3.counts came.0 came.1)
-      (appends-twice a b c f g h runs.1 (count_line came.0) runs.4 came.2);
+  gained = subst (λ l. Appends a c f h (runs.1 ++ l)) (runs.3.counts n is)
+      (appends-twice a b c f g h runs.1 (count_line n) runs.4 came);
 }
-counted-by m last names trace a b c f g h (Err (Trace fault)) runs came = absurd came
-counted-by m last names trace a b c f g h (Err Write) runs came = inr (record {
+counted-by m last names trace a b c f g h (Err (Trace fault)) runs n is came = absurd came
+counted-by m last names trace a b c f g h (Err Write) runs n is came = inr (record {
   items = runs.0;
   text = runs.1;
   whole = runs.2;
   writes = runs.3.brings;
-  gained = subst (λ l. Stops a c f h (runs.1 ++ l)) (append-nil (count_line came.0) ∙ runs.3.counts came.0 came.1)
-      (stops-behind a b c f g h runs.1 (count_line came.0) [] runs.4 came.2);
+  gained = subst (λ l. Stops a c f h (runs.1 ++ l)) (append-nil (count_line n) ∙ runs.3.counts n is)
+      (stops-behind a b c f g h runs.1 (count_line n) [] runs.4 came);
 })
-counted-by m last names trace a b c f g h (Err NoMemory) runs came = (
+counted-by m last names trace a b c f g h (Err NoMemory) runs n is came = (
   runs.0,
   runs.1,
   traces-begin trace runs.0 None runs.2,

@@ -6,6 +6,7 @@ mod Tracks
 mod Runs
 mod Keeping
 mod Showing
+mod Totals
 mod NetTexts
 mod TextFaults
 mod CountedRuns

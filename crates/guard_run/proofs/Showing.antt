@@ -1,5 +1,5 @@
 -- Inner: what a machine shows and counts: a call and a reset put their item in front of what comes from then on.
-use Rattle.std.proofs.Common.{◌≡◌, ℕ, ◌+◌, Bool, List, [], ◌∷◌, map, refl, sym, ap, ◌∙◌, subst, arith, Option, Some, None, Result, Ok, Err}
+use Rattle.std.proofs.Common.{◌≡◌, ℕ, ◌+◌, ◌<◌, ◌^◌, Bool, List, [], ◌∷◌, map, refl, sym, ap, ◌∙◌, subst, arith, Option, Some, None, Result, Ok, Err}
 use Rattle.std.specs.Prelude.{sum, IfOk}
 use Rattle.std.proofs.lemmas.List.Sums.{sum_by-cons}
 use Rattle.est_base.specs.Items.{Item, Event, Reset}
@@ -63,14 +63,18 @@ put_back old new resets items answers shows =
 
 -- the number behind a call is that before it and the call's own
 pub call_passes : (old new : Counter) (inputs : List Bool) (value : Bool) → Reacts old.calls inputs value new.calls
-    → IsSum old.total new.calls.count new.total → Passes adds_up (Event inputs) old new
-call_passes old new inputs value reacts sums items last behind =
+    → IsSum old.total new.calls.count new.total → new.calls.count < 2 ^ 128 → Passes adds_up (Event inputs) old new
+call_passes old new inputs value reacts sums small items last behind =
     let p = counted_program old in
     let after = call p inputs (memory_of old.calls) in
     let memory : memory_of new.calls ≡ after.memory = same-memory (memory_of new.calls) after.memory reacts.memory in
     let calls : calls_from (counted_program new) (memory_of new.calls) items ≡ calls_from p after.memory items =
-    ap (λ q. calls_from q (memory_of new.calls) items) (ap program_of reacts.same) ∙ ap (λ m. calls_from p m items) memory in
-    (new.total, subst (λ k. IsSum old.total k new.total) reacts.counted sums, subst (λ l. Summed new.total l last.total) calls behind)
+    ap (λ q. calls_from q (memory_of new.calls) items) (ap program_of reacts.same) ∙ ap (λ m. calls_from p m items) memory in (
+      new.total,
+      subst (λ k. IsSum old.total k new.total) reacts.counted sums,
+      subst (λ l. Summed new.total l last.total) calls behind,
+      subst (λ k. k < 2 ^ 128) reacts.counted small,
+    )
 
 pub reset_passes : (old new : Counter) → Resets old.calls new.calls → new.total ≡ old.total → Passes adds_up Reset old new
 reset_passes old new resets same items last behind =

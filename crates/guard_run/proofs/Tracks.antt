@@ -15,7 +15,7 @@ use Rattle.guard_run.specs.declared.plan.Block.{Block}
 use Rattle.guard_run.specs.declared.plan.Body.{Body}
 use Rattle.guard_run.specs.declared.track.Jump.{Jump}
 use Rattle.guard_run.specs.declared.track.Track.{Track}
-use Rattle.guard_run.specs.Runs.{BodyFits, behind_before, block_made, block_count, blocks_made, blocks_count, body_made, body_count}
+use Rattle.guard_run.specs.Runs.{BodyFits, behind_before, blocks_made, blocks_count, body_made, body_count}
 use Rattle.guard_run.specs.Tracks.{block_lookups, jump_at, jumps_at, IsTrack, before_jump, jump_made, jump_place, jump_count, jumps_made, jumps_count}
 use Rattle.guard_run.specs.Tracks.{track_made, track_count, IsInOrder, AreInOrder}
 use Rattle.guard_run.proofs.Counting.{first-made, second-made, first-counted, second-counted, fits-more}

@@ -5,6 +5,7 @@ pub mod Runners
 pub mod Insides
 pub mod ProgramAnswers
 pub mod Showing
+pub mod Totals
 pub mod Ends
 pub mod CountedRuns
 pub mod Texts

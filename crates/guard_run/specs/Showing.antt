@@ -1,5 +1,5 @@
 -- Contract: a machine that a trace drives, and what it shows and counts from its present state on.
-use Rattle.std.specs.Prelude.{◌≡◌, ℕ, ◌+◌, ◌<◌, ◌^◌, List, [], ◌∷◌, Option, Some, None, SomeIff}
+use Rattle.std.specs.Prelude.{◌≡◌, ℕ, ◌+◌, ◌*◌, ◌<◌, ◌^◌, List, [], ◌∷◌, Option, Some, None, SomeIff}
 use Rattle.est_base.specs.Items.{Item}
 use Rattle.machines.specs.Machines.{Shows, run_from}
 use Rattle.csub_guard.specs.Machine.{Counted, guarded_machine, call}
@@ -35,12 +35,18 @@ calls_from p memory items =
 -- the sum of a number and a count, where a counter holds it
 abbrev pub IsSum : Option ℕ → ℕ → Option ℕ → Type 0
 IsSum None count sum = sum ≡ None
-IsSum (Some before) count sum = SomeIff sum (before + count < 2 ^ 64) (before + count)
+IsSum (Some before) count sum = SomeIff sum (before + count < 2 ^ 64 * 10 ^ 38) (before + count)
 
--- the counts of calls on top of a number, one after another
+-- a number, where 64 bits hold it
+abbrev pub IsHeld : Option ℕ → Option ℕ → Type 0
+IsHeld None held = held ≡ None
+IsHeld (Some n) held = SomeIff held (n < 2 ^ 64) n
+
+-- the counts of calls on top of a number, one after another, each of at most 128 bits
 abbrev pub Summed : Option ℕ → List Counted → Option ℕ → Type 0
 Summed total [] last = last ≡ total
-Summed total (behind ∷ calls) last = (sum : Option ℕ) × IsSum total behind.count sum × Summed sum calls last
+Summed total (behind ∷ calls) last =
+    (sum : Option ℕ) × IsSum total behind.count sum × Summed sum calls last × (behind.count < 2 ^ 128)
 
 -- behind the items the number is greater by the counts of their calls
 abbrev pub adds_up : Counter → List Item → Counter → Type 0

@@ -1,6 +1,6 @@
 -- Inner: the fields of a machine that a trace drives, the program of a net's text, why a text has no machine, and what
 -- came to the sink of the line of a count.
-use Rattle.std.specs.Prelude.{◌≡◌, ℕ, List, Option, Some, Result, Ok, Err}
+use Rattle.std.specs.Prelude.{◌≡◌, ℕ, List, Result, Ok, Err}
 use Rattle.est_base.specs.SinkChanges.{SinkChange, IsUntouched}
 use Rattle.est_base.specs.Writing.{Appends, Stops}
 use Rattle.net_ir.specs.Netlists.{Netlist}
@@ -11,6 +11,7 @@ use Rattle.guard_run.specs.Runners.{KeepsNames, program_in}
 use Rattle.guard_run.specs.ProgramAnswers.{count_line}
 use Rattle.guard_run.specs.Showing.{Counter}
 use Rattle.guard_run.specs.Texts.{Means}
+use Rattle.guard_run.specs.Totals.{worth_of, HasRoom}
 use Rattle.guard_run.specs.declared.language.TextFault.{TextFault}
 use Rattle.guard_run.specs.declared.language.TextFault.TheVariants.{Syntax, Twice, Undeclared, Again, Unset}
 use Rattle.guard_run.specs.declared.trace_runner.GuardedMachine.TheInside.{Inside}
@@ -18,11 +19,12 @@ use Rattle.trace_run.specs.declared.running.RunFault.{RunFault}
 use Rattle.trace_run.specs.declared.running.RunFault.TheVariants.{Trace, Write, NoMemory}
 
 abbrev pub counter_of : Inside → Counter
-counter_of m = record { calls = m.calls; total = m.total }
+counter_of m = record { calls = m.calls; total = worth_of m.total }
 
--- the program keeps the rules on names
-abbrev pub KeepsRules : Inside → Type 0
-KeepsRules m = KeepsNames (program_in m.calls)
+-- the program keeps the rules on names, and the number is one of its two parts
+pub record KeepsRules (m : Inside) : Type 0 where
+  pub names_fit : KeepsNames (program_in m.calls)
+  pub room : HasRoom m.total
 
 -- the program by which a text means the net
 pub record IsProgramOf (text : List ℕ) (net : Netlist) (program : Program) : Type 0 where
@@ -38,11 +40,9 @@ IsFaultOf (faults.Undeclared name) fault = fault ≡ Undeclared name
 IsFaultOf (faults.Again name) fault = fault ≡ Again name
 IsFaultOf (faults.Unset name) fault = fault ≡ Unset name
 
--- what came to the sink of the line of a count; where no counter holds it, nothing
-abbrev pub CountCame : Option ℕ → SinkChange → Result (Unit {0}) RunFault → Type 0
-CountCame total s (Ok done) =
-    (n : ℕ) × (total ≡ Some n) × Appends s.before s.after s.faults_before s.faults_now (count_line n)
-CountCame total s (Err (Trace fault)) = ⊥
-CountCame total s (Err Write) =
-    (n : ℕ) × (total ≡ Some n) × Stops s.before s.after s.faults_before s.faults_now (count_line n)
-CountCame total s (Err NoMemory) = IsUntouched s
+-- what came to the sink of the line of a count
+abbrev pub CountCame : ℕ → SinkChange → Result (Unit {0}) RunFault → Type 0
+CountCame n s (Ok done) = Appends s.before s.after s.faults_before s.faults_now (count_line n)
+CountCame n s (Err (Trace fault)) = ⊥
+CountCame n s (Err Write) = Stops s.before s.after s.faults_before s.faults_now (count_line n)
+CountCame n s (Err NoMemory) = IsUntouched s

@@ -12,6 +12,7 @@ mod plan;
 mod run;
 mod runner;
 mod running;
+mod total;
 mod trace_runner;
 mod track;
 

@@ -11,22 +11,22 @@ ghost use Rattle.guard_run.specs.CountedRuns.{CountsNet, CountsProgram, RunsCoun
 ghost use Rattle.guard_run.specs.ProgramAnswers.{count_line, last_line};
 ghost use Rattle.guard_run.specs.Showing.{IsNew, counted_program, counter_shows};
 ghost use Rattle.guard_run.specs.Texts.{Means};
+ghost use Rattle.guard_run.specs.Totals.{worth};
 ghost use Rattle.guard_run.specs.Tracing.{CountCame};
 ghost use Rattle.trace_io.specs.Answers.{beginning};
 ghost use Rattle.trace_run.specs.Machines.{Brings};
 
 use crate::language::written_machine;
+use crate::total::{Total, put_total};
 use crate::trace_runner::GuardedMachine;
-use est_base::{Limits, NoMemory, Sink, SinkFault};
+use est_base::{Limits, NoMemory, Sink, SinkFault, put, put_number};
 use net_ir::Net;
-use net_text::{put, put_number};
 use std::alloc::Global;
 use trace_run::{Interface, RunFault, run_trace};
 
 /// Runs a text that was read over a trace, by its own interface: one line for each instant, right behind its reaction,
 /// and, where the whole trace was read, the number of assignments that all calls ran.
-/// Its errors are the first fault of the trace, a write that failed, and want of memory, which also 2^64 assignments
-/// are.
+/// Its errors are the first fault of the trace, a write that failed, and want of memory.
 pub fn run_counted<O: Sink>(
     alloc: Global,
     machine: GuardedMachine,
@@ -45,8 +45,7 @@ pub fn run_counted<O: Sink>(
 
 /// Reads the text that was written of a net, and runs it over a trace, with these names in its lines. What is written
 /// is what the net shows, and, where the whole trace was read, the number of assignments that all calls ran.
-/// Its errors are the first fault of the trace, a write that failed, and want of memory, which also 2^64 assignments
-/// are.
+/// Its errors are the first fault of the trace, a write that failed, and want of memory.
 pub fn run_written_counted<O: Sink>(
     alloc: Global,
     net: &Net,
@@ -91,19 +90,21 @@ fn run_over<O: Sink>(
 {
     let mut machine = machine;
     match run_trace(alloc, &mut machine, interface, trace, out) {
-        Ok(()) => write_count(alloc, machine.total(), out),
+        Ok(()) => match machine.sum() {
+            Some(total) => write_count(alloc, total, out),
+            // so many calls as a trace has cannot run more assignments than a counter holds
+            None => unreachable!(),
+        },
         Err(fault) => Err(fault),
     }
 }
 
 // Writes the line of a count.
-fn write_count<O: Sink>(alloc: Global, total: Option<u64>, out: &mut O) -> Result<(), RunFault>
-    ensures { CountCame total (change O.told O.faults out.old out.new) result }
+fn write_count<O: Sink>(alloc: Global, total: Total, out: &mut O) -> Result<(), RunFault>
+    requires room { total.low < 10 ^ 38 }
+    ensures { CountCame (worth total) (change O.told O.faults out.old out.new) result }
 {
-    let Some(count) = total else {
-        return Err(RunFault::NoMemory);
-    };
-    let line = match count_line(alloc, count) {
+    let line = match count_line(alloc, total) {
         Ok(line) => line,
         Err(NoMemory) => return Err(RunFault::NoMemory),
     };
@@ -114,11 +115,13 @@ fn write_count<O: Sink>(alloc: Global, total: Option<u64>, out: &mut O) -> Resul
 }
 
 // The line of a count.
-fn count_line(alloc: Global, count: u64) -> Result<Vec<u8>, NoMemory>
-    ensures { IfOk result (λ line. line.items ≡ count_line count) }
+fn count_line(alloc: Global, total: Total) -> Result<Vec<u8>, NoMemory>
+    requires room { total.low < 10 ^ 38 }
+    ensures { IfOk result (λ line. line.items ≡ count_line (worth total)) }
 {
     let mut line = Vec::new(alloc);
-    put_number(&mut line, b"assignments ", count as usize)?;
+    put(&mut line, b"assignments ")?;
+    put_total(&mut line, total)?;
     put(&mut line, b"\n")?;
     Ok(line)
 }

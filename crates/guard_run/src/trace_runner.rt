@@ -6,9 +6,11 @@ ghost use Rattle.est_base.specs.Names.{is_same_name};
 ghost use Rattle.csub_guard.specs.Views.{program_of};
 ghost use Rattle.guard_run.specs.ProgramAnswers.{bare_inputs, bare_outputs};
 ghost use Rattle.guard_run.specs.Runners.{KeepsNames};
-ghost use Rattle.guard_run.specs.Showing.{IsNew, IsSum, counted_program};
+ghost use Rattle.guard_run.specs.Showing.{IsHeld, IsNew, counted_program};
+ghost use Rattle.guard_run.specs.Totals.{worth_of, HasRoom};
 
 use crate::runner::GuardedRunner;
+use crate::total::{Total, held, sum_of};
 use csub_guard::GuardedProgram;
 use csub_run::globals_interface;
 use est_base::NoMemory;
@@ -23,7 +25,7 @@ use trace_run::{Interface, Runner, word_of};
 pub struct GuardedMachine {
     calls: GuardedRunner,
     // None where no counter holds it.
-    total: Option<u64>,
+    total: Option<Total>,
 }
 
 impl Model for GuardedMachine {
@@ -54,7 +56,7 @@ impl GuardedMachine {
         match GuardedRunner::new(alloc, program) {
             Ok(calls) => Ok(GuardedMachine {
                 calls,
-                total: Some(0),
+                total: Some(Total { high: 0, low: 0 }),
             }),
             Err(NoMemory) => Err(NoMemory),
         }
@@ -76,7 +78,15 @@ impl GuardedMachine {
 
     /// The number of assignments that all calls so far ran; none where it is 2^64 or more.
     pub fn total(&self) -> Option<u64>
-        ensures { result ≡ self.now.total }
+        ensures { IsHeld self.now.total result }
+    {
+        held(self.total)
+    }
+
+    // The number of assignments that all calls so far ran, where a counter holds it.
+    pub(crate) fn sum(&self) -> Option<Total>
+        ensures worth { worth_of result ≡ self.now.total }
+        ensures room { HasRoom result }
     {
         self.total
     }
@@ -116,15 +126,4 @@ impl Runner for GuardedMachine {
     ghost ends = { λ m. shows_nothing m };
 
     ghost stays = { λ m. adds_nothing m };
-}
-
-// The sum of a number and a count, where a counter holds it.
-fn sum_of(total: Option<u64>, count: u128) -> Option<u64>
-    ensures { IsSum total count result }
-{
-    let sum = u128::from(total?).checked_add(count)?;
-    match u64::try_from(sum) {
-        Ok(sum) => Some(sum),
-        Err(_) => None,
-    }
 }

@@ -1,4 +1,4 @@
-use Rattle.std.proofs.Common.{◌≡◌, ◌+◌, ◌<◌, ◌≤◌, All, length, drop, get_or, sym, ap, ◌∙◌, subst, arith}
+use Rattle.std.proofs.Common.{◌≡◌, ◌+◌, ◌<◌, length, drop, get_or, sym, ap, ◌∙◌, subst, arith}
 use Rattle.guard_run.specs.declared.track.Jump.{Jump}
 use Rattle.guard_run.specs.Tracks.{AreInOrder, jumps_made, jumps_count}
 use Rattle.guard_run.proofs.Tracks.{no_jump, jump-here, wide-jump, order-here, order-next, made-next, counted-next, few-jumps}

@@ -1,4 +1,4 @@
-use Rattle.std.proofs.Common.{◌≡◌, ◌+◌, ◌<◌, ◌≤◌, ◌++◌, [], ◌∷◌, All, length, take, get_or, sym, ap, ◌∙◌, subst, arith}
+use Rattle.std.proofs.Common.{◌≡◌, ◌<◌, length, get_or, sym, subst, arith}
 use Rattle.guard_run.specs.Tracks.{BlockGates}
 use Rattle.guard_run.proofs.Counting.{fits-next}
 use Rattle.guard_run.proofs.Tracks.{gates-next, jumps-next}

@@ -15,7 +15,7 @@ use Rattle.guard_run.proofs.trace_runner.GuardedMachine.interface.Goals as goal
 
 pub returns-in-Ok-clause-differ : goal.returns-in-Ok-clause-differ
 returns-in-Ok-clause-differ c =
-    let keeps = subst (λ (m : Counter). KeepsNames (counted_program m)) c.self.view_is c.self.invariant in
+    let keeps = subst (λ (m : Counter). KeepsNames (counted_program m)) c.self.view_is c.self.invariant.names_fit in
     let p = counted_program c.args.self.now in
     let own = ap (λ l. map bare_name (filter begins_input l)) c.deref.ensures.value ∙ ap (λ k. bare_inputs (program_of k)) c.program.ensures
     ∙ ap (λ (m : Counter). bare_inputs (counted_program m)) c.self.view_is in
