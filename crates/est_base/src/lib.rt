@@ -4,8 +4,9 @@
 //! (`CodeSet`), what a program says of its signals (`SignalInfo`, `InputRelation`), the stated limits
 //! (`Limits`), want of memory (`NoMemory`) and other early ends (`Stop`), draws from a start number
 //! (`Draw`), and what is read and written: `Files` and `Sink`, over the disk and standard output, and
-//! in memory. Completion codes are those of Berry, "The Constructive Semantics of Pure Esterel": 0 is
-//! termination, 1 a pause, and k of at least 2 leaves the trap that is k - 2 traps further out.
+//! in memory, and bytes behind a text (`put`). Completion codes are those of Berry, "The Constructive
+//! Semantics of Pure Esterel": 0 is termination, 1 a pause, and k of at least 2 leaves the trap that is
+//! k - 2 traps further out.
 #![tactic(auto)]
 
 mod bounds;
@@ -17,6 +18,7 @@ mod interface;
 mod memory;
 mod names;
 mod place;
+mod putting;
 mod sinks;
 mod stop;
 mod texts;
@@ -30,6 +32,7 @@ pub use interface::{InputRelation, SignalInfo};
 pub use memory::NoMemory;
 pub use names::{is_digit, is_letter, is_name_byte};
 pub use place::Span;
+pub use putting::{put, put_number};
 pub use sinks::{ListSink, Sink, SinkFault, SteadySink, WriterSink, write_pieces, write_text};
 pub use stop::Stop;
 pub use texts::Text;

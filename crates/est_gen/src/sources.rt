@@ -6,8 +6,7 @@ ghost use Rattle.est_base.specs.Draws.{first_state, state_after};
 ghost use Rattle.est_gen.specs.Sources.{source_text, names_from, head_text, branch_text, branches_text, statement};
 ghost use Rattle.est_gen.specs.Sources.{waited_name};
 
-use est_base::{Draw, Limits, NoMemory};
-use itoa::Buffer;
+use est_base::{Draw, Limits, NoMemory, put};
 use std::alloc::Global;
 
 /// A generated source, and the draws that go on after it.
@@ -172,13 +171,5 @@ fn put_between(text: &mut Vec<u8>, separator: &[u8], number: u32) -> Result<(), 
 fn put_number(text: &mut Vec<u8>, mark: &[u8], number: u32) -> Result<(), NoMemory>
     ensures { OnOk result (text.new.items ≡ text.old.items ++ (mark.now ++ decimal number)) }
 {
-    put(text, mark)?;
-    put(text, Buffer::new().format(number).as_bytes())
-}
-
-fn put(text: &mut Vec<u8>, bytes: &[u8]) -> Result<(), NoMemory>
-    ensures { OnOk result (text.new.items ≡ text.old.items ++ bytes.now) }
-{
-    text.extend_from_slice(bytes)?;
-    Ok(())
+    est_base::put_number(text, mark, number as usize)
 }

@@ -8,9 +8,9 @@ ghost use Rattle.expr_text.specs.NetNames.{gate_name, name_of_net};
 ghost use Rattle.expr_text.specs.Operators.{op_expr};
 ghost use Rattle.expr_text.specs.Texts.{text_of};
 
-use est_base::{NetId, NoMemory};
+use est_base::{NetId, NoMemory, put, put_number};
 use net_ir::{Gate, Net, Op};
-use net_text::{Driver, driver_of, put, put_number};
+use net_text::{Driver, driver_of};
 
 /// How a language writes what gates make of the nets that they read: `input` are the names of a net's inputs, by their
 /// numbers, `negation` is the sign of not, and `bit` are the constants.

@@ -11,8 +11,8 @@ ghost use Rattle.grc_list.specs.Listings.{node_line, wire_text, wire_lines, prog
 
 use crate::names::wire_name;
 use crate::places::Places;
-use crate::texts::{put, put_node, put_number, put_wire};
-use est_base::NoMemory;
+use crate::texts::{put_node, put_wire};
+use est_base::{NoMemory, put, put_number};
 use grc_graph::{Graph, SelTree, WireName};
 use std::alloc::Global;
 

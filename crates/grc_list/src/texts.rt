@@ -5,9 +5,8 @@ ghost use Rattle.grc_graph.specs.PlainWireNames.{wire_name_of, layer_name_of};
 ghost use Rattle.grc_graph.specs.TreeForms.{form_of};
 ghost use Rattle.grc_list.specs.Listings.{path_text, layer_text, wire_text, mark_text, node_text};
 
-use est_base::NoMemory;
+use est_base::{NoMemory, put, put_number};
 use grc_graph::{LayerName, Path, SelForm, WireName};
-use itoa::Buffer;
 use std::alloc::Global;
 
 /// The text of a wire: `out NAME`, `go PATH LAYER`, `st PATH LAYER NAME` or `end PATH LAYER CODE`.
@@ -121,20 +120,5 @@ fn put_steps(text: &mut Vec<u8>, steps: &[u8]) -> Result<(), NoMemory>
     for child in steps {
         put_number(text, b".", usize::from(*child))?;
     }
-    Ok(())
-}
-
-// Some bytes, and a decimal number behind them.
-pub fn put_number(text: &mut Vec<u8>, mark: &[u8], number: usize) -> Result<(), NoMemory>
-    ensures { OnOk result (text.new.items ≡ text.old.items ++ (mark.now ++ decimal number)) }
-{
-    put(text, mark)?;
-    put(text, Buffer::new().format(number).as_bytes())
-}
-
-pub fn put(text: &mut Vec<u8>, bytes: &[u8]) -> Result<(), NoMemory>
-    ensures { OnOk result (text.new.items ≡ text.old.items ++ bytes.now) }
-{
-    text.extend_from_slice(bytes)?;
     Ok(())
 }

@@ -3,7 +3,7 @@
 ghost use Rattle.std.specs.Prelude.{◌≡◌, ◌||◌, [], ◌++◌, false, length, IfOk, OnOk, if◌then◌else◌};
 ghost use Rattle.trace_io.specs.Lines.{line, shown, spaced, word_text};
 
-use est_base::{NoMemory, Text};
+use est_base::{NoMemory, Text, put};
 use std::alloc::Global;
 
 /// What a line says of the program after the instant.
@@ -69,11 +69,4 @@ fn word_text(word: Word) -> &'static [u8]
         Word::Ended => b" | ended\n",
         Word::Bare => b"\n",
     }
-}
-
-fn put(text: &mut Vec<u8>, bytes: &[u8]) -> Result<(), NoMemory>
-    ensures { OnOk result (text.new.items ≡ text.old.items ++ bytes.now) }
-{
-    text.extend_from_slice(bytes)?;
-    Ok(())
 }

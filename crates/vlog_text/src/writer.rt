@@ -14,10 +14,10 @@ ghost use Rattle.vlog_text.specs.Written.{expr_text, next_port, head_front, head
 ghost use Rattle.vlog_text.specs.Written.{assign_line, clock_line, next_line, last_lines};
 
 use crate::pieces::VlogWriter;
-use est_base::{NoMemory, Text};
+use est_base::{NoMemory, Text, put, put_number};
 use expr_text::{GateText, put_gate_name, put_net, put_op};
 use net_ir::{Gate, Latch, Net, NetOut};
-use net_text::{put, put_named, put_number};
+use net_text::put_named;
 
 impl GateText for VlogWriter {
     ghost use Rattle.std.specs.Prelude.{codes, slice_get};
