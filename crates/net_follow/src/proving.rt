@@ -48,8 +48,8 @@ const MUCH: Effort = Effort {
 
 const MOST: Effort = Effort {
     reach: u64::MAX,
-    allowance: 6_000,
-    fuel: 60_000,
+    allowance: 240_000,
+    fuel: 2_400_000,
     tries: 40,
 };
 
