@@ -7,12 +7,12 @@ use Rattle.net_ir.specs.declared.netlist.NetOut.{NetOut}
 use Rattle.net_ir.specs.Netlists.{Netlist}
 use Rattle.net_ir.specs.Numbered.{numbered}
 use Rattle.net_text.specs.Parts.{joined}
-use Rattle.net_text.proofs.Exports.{joined-numbered, joined-mapped, joined-each, joined-one, joined-last, count-numbered, count-mapped}
+use Rattle.net_text.proofs.Exports.{joined-numbered, joined-mapped, joined-each, joined-one, joined-last}
 use Rattle.blif_text.specs.Circuits.{CircuitLatch, Table}
 use Rattle.blif_text.specs.Statements.{Statement, Model, Outputs, End}
 use Rattle.blif_text.specs.Spelled.{text_of, line_text, spelled, table_statements, latch_statement, inputs_statements}
 use Rattle.blif_text.specs.Written.{output_word, paused_word, input_table, gate_table, output_table, copy_table, net_word, net_latch, written}
-use Rattle.blif_text.specs.Parts.{spaced, latch_text, table_text, first_lines, inputs_start, inputs_end, outputs_end, last_lines, parts_in, net_parts}
+use Rattle.blif_text.specs.Parts.{spaced, latch_text, table_text, first_lines, inputs_start, inputs_end, outputs_end, last_lines, parts_in}
 use Rattle.blif_text.specs.declared.parts.TheConstants.{SECTIONS}
 
 -- ---- lists
@@ -61,8 +61,7 @@ whole-parts : (head : List Statement) (latches : List CircuitLatch) (end : List 
 whole-parts head latches end a b c d =
     rw (latches-text latches, tables-text a, tables-text b, tables-text c) (simp (flat_map-append, append_assoc) refl)
 
-pub written-joined : (net : Netlist) → joined (net_parts net) ≡ written net
-unfolding net_parts
+pub written-joined : (net : Netlist) → joined (flat_map (parts_in net) SECTIONS) ≡ written net
 written-joined net =
     let from : ℕ → List (List ℕ) = λ n. flat_map (parts_in net) (drop n SECTIONS) in
     let names = map (λ (o : NetOut). output_word net.inputs o.name) net.outputs in
@@ -80,8 +79,3 @@ written-joined net =
     ∙ whole-parts ((Model net.name ∷ []) ++ inputs_statements net.inputs ++ (Outputs (names ++ paused_word ∷ []) ∷ []))
     (numbered (net_latch net) 0 net.latches) (End ∷ []) (numbered input_table 0 net.inputs) (numbered (gate_table net) 0 net.gates)
     (map (output_table net) net.outputs) (copy_table (net_word net net.paused) paused_word ∷ [])
-
-pub few-parts : (net : Netlist) → length net.inputs < 2 ^ 63 → length net.outputs < 2 ^ 63 → length net.latches < 2 ^ 63 → length net.gates < 2 ^ 63
-    → length (net_parts net) < 2 ^ 128
-unfolding net_parts
-few-parts net i o l g = simp (count-numbered, count-mapped) (omega (arith, i, o, l, g))

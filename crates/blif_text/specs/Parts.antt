@@ -1,5 +1,5 @@
 -- Inner: the parts of a net's text, section by section.
-use Rattle.std.specs.Prelude.{ℕ, List, [], ◌∷◌, ◌++◌, map, flat_map, codes}
+use Rattle.std.specs.Prelude.{ℕ, List, [], ◌∷◌, ◌++◌, map, codes}
 use Rattle.net_ir.specs.Netlists.{Netlist}
 use Rattle.net_ir.specs.Numbered.{numbered}
 use Rattle.blif_text.specs.Statements.{Model, End}
@@ -10,7 +10,6 @@ use Rattle.blif_text.specs.Written.{output_table, net_latch}
 use Rattle.blif_text.specs.declared.parts.Section.{Section}
 use Rattle.blif_text.specs.declared.parts.Section.TheVariants.{FirstLines, InputNames, InputsEnd, OutputNames}
 use Rattle.blif_text.specs.declared.parts.Section.TheVariants.{OutputsEnd, Latches, Inputs, Gates, Outputs, LastLines}
-use Rattle.blif_text.specs.declared.parts.TheConstants.{SECTIONS}
 
 -- a space and a word
 abbrev pub spaced : List ℕ → List ℕ
@@ -55,7 +54,3 @@ parts_in net Inputs = numbered (λ j name. table_text (input_table j name)) 0 ne
 parts_in net Gates = numbered (λ k gate. table_text (gate_table net k gate)) 0 net.gates
 parts_in net Outputs = map (λ o. table_text (output_table net o)) net.outputs
 parts_in net LastLines = last_lines net ∷ []
-
--- all parts
-unfoldable pub net_parts : Netlist → List (List ℕ)
-net_parts net = flat_map (parts_in net) SECTIONS

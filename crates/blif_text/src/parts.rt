@@ -4,14 +4,15 @@ ghost use Rattle.std.specs.Prelude.{◌≡◌, ◌<◌, ◌++◌, [], length, sl
 ghost use Rattle.net_ir.specs.Runs.{netlist_of};
 ghost use Rattle.blif_text.specs.Parts.{parts_in};
 
-use crate::pieces::BlifWriter;
+use crate::pieces::{BlifWriter, given_outputs};
 use crate::writer::{
     put_first_lines, put_gate, put_input, put_input_name, put_inputs_end, put_last_lines,
     put_latch, put_output, put_output_word, put_outputs_end,
 };
 use est_base::NoMemory;
-use net_ir::Net;
-use net_text::Sections;
+use net_ir::{Net, look_at_wires};
+use net_text::NetText;
+use std::alloc::Global;
 
 /// The sections of a BLIF text: the lines of the model, the inputs and the outputs, of which a name is a part, then the
 /// latches and the tables.
@@ -42,10 +43,10 @@ static SECTIONS: [Section; 10] = [
     Section::LastLines,
 ];
 
-impl Sections for BlifWriter {
+impl NetText for BlifWriter {
     ghost use Rattle.std.specs.Prelude.{◌≡◌};
     ghost use Rattle.blif_text.specs.Parts.{parts_in};
-    ghost use Rattle.blif_text.specs.Written.{given_outputs};
+    ghost use Rattle.blif_text.specs.Written.{given_outputs, written, Means};
     ghost use Rattle.blif_text.specs.declared.parts.TheConstants.{SECTIONS};
 
     type Section = Section;
@@ -54,7 +55,17 @@ impl Sections for BlifWriter {
 
     ghost parts_in = { parts_in };
 
-    ghost is_ready = { λ w net. w.given.items ≡ given_outputs net };
+    ghost written = { written };
+
+    ghost means = { Means };
+
+    ghost is_of = { λ w net. w.given.items ≡ given_outputs net };
+
+    fn of(alloc: Global, net: &Net) -> Result<BlifWriter, NoMemory> {
+        Ok(BlifWriter {
+            given: given_outputs(alloc, net)?,
+        })
+    }
 
     fn sections() -> &'static [Section] {
         &SECTIONS
@@ -92,5 +103,9 @@ impl Sections for BlifWriter {
             Section::Outputs => put_output(text, net, &net.outputs[k], self.given[k]),
             Section::LastLines => put_last_lines(text, net),
         }
+    }
+
+    fn look_at(net: &Net) {
+        look_at_wires(net);
     }
 }

@@ -8,8 +8,8 @@ ghost use Rattle.net_ir.specs.NameLists.{is_among};
 ghost use Rattle.blif_text.specs.Written.{given_outputs, written, Means};
 
 use est_base::{NoMemory, Text};
-use net_ir::{Net, look_at_wires};
-use net_text::{NetText, put_section_part, write_net};
+use net_ir::Net;
+use net_text::write_net;
 use std::alloc::Global;
 use std::collections::HashSet;
 
@@ -18,34 +18,6 @@ use std::collections::HashSet;
 pub struct BlifWriter {
     // For each output, whether its name is also that of an input.
     pub(crate) given: Vec<bool>,
-}
-
-impl NetText for BlifWriter {
-    ghost use Rattle.std.specs.Prelude.{◌≡◌};
-    ghost use Rattle.blif_text.specs.Parts.{net_parts};
-
-    ghost parts = { net_parts };
-
-    ghost written = { written };
-
-    ghost means = { Means };
-
-    ghost is_of = { λ w net. w.given.items ≡ given_outputs net };
-
-    fn of(alloc: Global, net: &Net) -> Result<BlifWriter, NoMemory> {
-        Ok(BlifWriter {
-            given: given_outputs(alloc, net)?,
-        })
-    }
-
-    #[tactic(auto, unfolding(crate::specs::Parts::net_parts))]
-    fn put_part(&self, text: &mut Vec<u8>, net: &Net, k: u128) -> Result<bool, NoMemory> {
-        put_section_part(self, text, net, k)
-    }
-
-    fn look_at(net: &Net) {
-        look_at_wires(net);
-    }
 }
 
 /// The BLIF text of a net: one line feed behind each line, and one space between words.
@@ -64,7 +36,7 @@ pub fn write_blif(alloc: Global, net: &Net) -> Result<Vec<u8>, NoMemory>
 }
 
 // For each output, whether its name is also that of an input.
-fn given_outputs(alloc: Global, net: &Net) -> Result<Vec<bool>, NoMemory>
+pub(crate) fn given_outputs(alloc: Global, net: &Net) -> Result<Vec<bool>, NoMemory>
     ensures { IfOk result (λ given. given.items ≡ given_outputs (netlist_of net.now)) }
 {
     let inputs = name_set(alloc, &net.inputs)?;

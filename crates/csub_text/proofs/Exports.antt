@@ -1,5 +1,4 @@
 -- What other crates use of these proofs.
-pub use Rattle.csub_text.proofs.Joins.{few-parts}
 pub use Rattle.csub_text.proofs.Lexing.{IsVariable, Says, bit_kind, fronts-names}
 pub use Rattle.csub_text.proofs.Spelling.{IsFramed, IsPlain, assign_kinds, declaration_kinds, expr_kinds, framed_kinds, head_kinds, last_kinds, meant-body}
 pub use Rattle.csub_text.proofs.Spelling.{nesting-body, says-assign, says-framed, spells-assign, spells-framed, state_kinds, written_assign}

@@ -8,12 +8,12 @@ use Rattle.net_ir.specs.declared.netlist.Latch.{Latch}
 use Rattle.net_ir.specs.Netlists.{Netlist}
 use Rattle.net_ir.specs.Numbered.{numbered}
 use Rattle.net_text.specs.Parts.{joined}
-use Rattle.net_text.proofs.Exports.{joined-numbered, joined-mapped, joined-one, joined-last, count-numbered, count-mapped}
+use Rattle.net_text.proofs.Exports.{joined-numbered, joined-mapped, joined-one, joined-last}
 use Rattle.csub_text.specs.Trees.{Name}
 use Rattle.csub_text.specs.Written.{input_name, gate_name, next_name, answer_name, input_variable, output_variable, net_state, input_assign}
 use Rattle.csub_text.specs.Written.{gate_assign, next_assign, output_assign, answer_assign, state_assign, gate_names, state_line, declaration, assign_line}
 use Rattle.csub_text.specs.Written.{head_line, last_lines, written}
-use Rattle.csub_text.specs.Parts.{parts_in, net_parts}
+use Rattle.csub_text.specs.Parts.{parts_in}
 use Rattle.csub_text.specs.declared.parts.TheConstants.{SECTIONS}
 
 whole-parts : {S A : Type 0} (state : S → List ℕ) (declared : List ℕ → List ℕ) (assign : A → List ℕ) (head last : List ℕ)
@@ -25,8 +25,7 @@ whole-parts : {S A : Type 0} (state : S → List ℕ) (declared : List ℕ → L
     ++ (flat_map assign (v ++ (w ++ (x ++ (y ++ ((t ∷ []) ++ z))))) ++ last))))
 whole-parts state declared assign head last s a b c d e r v w x y z t = simp (flat_map-append, append_assoc, append-nil) refl
 
-pub written-joined : (net : Netlist) → joined (net_parts net) ≡ written net
-unfolding net_parts
+pub written-joined : (net : Netlist) → joined (flat_map (parts_in net) SECTIONS) ≡ written net
 written-joined net =
     let from : ℕ → List (List ℕ) = λ n. flat_map (parts_in net) (drop n SECTIONS) in
     joined-numbered state_line net_state 0 net.latches (from 1)
@@ -48,8 +47,3 @@ written-joined net =
     (map input_variable net.inputs) (map output_variable net.outputs) (numbered (λ j name. input_name j) 0 net.inputs) (gate_names net)
     (numbered (λ j latch. next_name j) 0 net.latches) answer_name (numbered input_assign 0 net.inputs) (numbered (gate_assign net) 0 net.gates)
     (numbered (next_assign net) 0 net.latches) (map (output_assign net) net.outputs) (numbered state_assign 0 net.latches) (answer_assign net)
-
-pub few-parts : (net : Netlist) → length net.inputs < 2 ^ 63 → length net.outputs < 2 ^ 63 → length net.latches < 2 ^ 63 → length net.gates < 2 ^ 63
-    → length (net_parts net) < 2 ^ 128
-unfolding net_parts
-few-parts net i o l g = simp (count-numbered, count-mapped) (omega (arith, i, o, l, g))

@@ -11,8 +11,9 @@ use crate::writer::{
     put_output_assign, put_state, put_state_assign,
 };
 use est_base::NoMemory;
-use net_ir::Net;
-use net_text::Sections;
+use net_ir::{Net, look_at_wires};
+use net_text::NetText;
+use std::alloc::Global;
 
 /// The sections of a C text: the declarations, and in the function the locals and the assignments.
 #[derive(Clone, Copy)]
@@ -52,8 +53,9 @@ static SECTIONS: [Section; 15] = [
     Section::LastLines,
 ];
 
-impl Sections for CWriter {
+impl NetText for CWriter {
     ghost use Rattle.csub_text.specs.Parts.{parts_in};
+    ghost use Rattle.csub_text.specs.Written.{written, Means};
     ghost use Rattle.csub_text.specs.declared.parts.TheConstants.{SECTIONS};
 
     type Section = Section;
@@ -62,7 +64,15 @@ impl Sections for CWriter {
 
     ghost parts_in = { parts_in };
 
-    ghost is_ready = { λ _ _. Unit {0} };
+    ghost written = { written };
+
+    ghost means = { Means };
+
+    ghost is_of = { λ _ _. Unit {0} };
+
+    fn of(_alloc: Global, _net: &Net) -> Result<CWriter, NoMemory> {
+        Ok(CWriter {})
+    }
 
     fn sections() -> &'static [Section] {
         &SECTIONS
@@ -105,5 +115,9 @@ impl Sections for CWriter {
             Section::StateAssigns => put_state_assign(text, k, net.latches[k]),
             Section::LastLines => put_last_lines(text),
         }
+    }
+
+    fn look_at(net: &Net) {
+        look_at_wires(net);
     }
 }

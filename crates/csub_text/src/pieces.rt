@@ -5,38 +5,13 @@ ghost use Rattle.net_ir.specs.Runs.{netlist_of};
 ghost use Rattle.csub_text.specs.Written.{written, Means};
 
 use est_base::NoMemory;
-use net_ir::{Net, look_at_wires};
-use net_text::{NetText, put_section_part, write_net};
+use net_ir::Net;
+use net_text::write_net;
 use std::alloc::Global;
 
 /// What writes the C text of a net, for `net_text::net_pieces` piece by piece.
 #[derive(Drop)]
 pub struct CWriter {}
-
-impl NetText for CWriter {
-    ghost use Rattle.csub_text.specs.Parts.{net_parts};
-
-    ghost parts = { net_parts };
-
-    ghost written = { written };
-
-    ghost means = { Means };
-
-    ghost is_of = { λ _ _. Unit {0} };
-
-    fn of(_alloc: Global, _net: &Net) -> Result<CWriter, NoMemory> {
-        Ok(CWriter {})
-    }
-
-    #[tactic(auto, unfolding(crate::specs::Parts::net_parts))]
-    fn put_part(&self, text: &mut Vec<u8>, net: &Net, k: u128) -> Result<bool, NoMemory> {
-        put_section_part(self, text, net, k)
-    }
-
-    fn look_at(net: &Net) {
-        look_at_wires(net);
-    }
-}
 
 /// The C text of a net: one line feed behind each line.
 ///

@@ -19,10 +19,10 @@ ghost use Rattle.guard_owners.specs.Usages.{owner_in};
 
 use crate::owning::Owner;
 use csub_text::CWriter;
-use est_base::NoMemory;
+use est_base::{NoMemory, put};
 use expr_text::put_gate_name;
 use net_ir::{Gate, Net};
-use net_text::{NetText, put};
+use net_text::put_part;
 use std::alloc::Global;
 
 // Puts what stands at a place behind a text: a part of the text of the C subset, or in place of those of gates one that
@@ -51,12 +51,12 @@ pub fn put_place(
 }
 
 // Puts a part of the text of the C subset behind a text. The answer is the number of the next one; none at the end.
+#[tactic(auto, unfolding(csub_text::specs::Parts::net_parts))]
 fn put_plain(text: &mut Vec<u8>, net: &Net, place: u128) -> Result<Option<u128>, NoMemory>
-    requires { length (net_parts (netlist_of net.now)) < 2 ^ 128 }
     ensures { IfOk result (PutsPlain (net_parts (netlist_of net.now)) place text.old.items text.new.items) }
 {
     let writer = CWriter {};
-    if writer.put_part(text, net, place)? {
+    if put_part(&writer, text, net, place)? {
         Ok(Some(place + 1))
     } else {
         Ok(None)
@@ -214,7 +214,7 @@ fn put_gate(text: &mut Vec<u8>, net: &Net, k: usize) -> Result<(), NoMemory>
         ++ assign_line (gate_assign (netlist_of net.now) k (slice_index_or net.now.gates.items k g))) }
 {
     let writer = CWriter {};
-    writer.put_part(text, net, gates_begin(net) + k as u128)?;
+    put_part(&writer, text, net, gates_begin(net) + k as u128)?;
     Ok(())
 }
 

@@ -33,10 +33,6 @@ count-numbered f xs ys = length-append (numbered f 0 xs) ys ∙ ap (λ n. n + le
 pub count-mapped : {X : Type 0} (f : X → List ℕ) (xs : List X) (ys : List (List ℕ)) → length (map f xs ++ ys) ≡ length xs + length ys
 count-mapped f xs ys = length-append (map f xs) ys ∙ ap (λ n. n + length ys) (length-map xs f)
 
--- how many elements a `Vec` has at most
-pub few-items : {X Z : Type 0} (v : Vec X Z) → length v.items < 2 ^ 63
-few-items v = omega (arith, v.ok.0, v.ok.1, v.small)
-
 -- ---- the text of parts, where that of those behind is known
 
 pub joined-numbered : {X Y : Type 0} (line : Y → List ℕ) (f : ℕ → X → Y) (n : ℕ) (xs : List X) (ys : List (List ℕ)) {rest : List ℕ} → joined ys ≡ rest

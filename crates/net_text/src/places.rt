@@ -3,6 +3,7 @@
 ghost use Rattle.std.specs.Prelude.{◌≡◌, IfOk};
 ghost use Rattle.net_ir.specs.Runs.{netlist_of};
 
+use crate::parts::put_part;
 use crate::pieces::Pieces;
 use crate::texts::NetText;
 use est_base::NoMemory;
@@ -35,18 +36,16 @@ pub struct NetPlaces<'a, T: NetText + Drop> {
 }
 
 impl<'a, T: NetText + Drop> Places for NetPlaces<'a, T> {
-    ghost use Rattle.std.specs.Prelude.{◌<◌, ◌^◌, length, drop};
+    ghost use Rattle.std.specs.Prelude.{drop, flat_map};
     ghost use Rattle.net_ir.specs.Runs.{netlist_of};
     ghost use Rattle.net_text.specs.Parts.{joined};
 
-    // As far as a proof knows, the lists of a net may have more elements together than a `usize` counts.
-    ghost text_from = { λ p place. joined (drop place (T.parts (netlist_of p.net.now))) };
+    ghost text_from = { λ p place. joined (drop place (flat_map (T.parts_in (netlist_of p.net.now)) T.sections)) };
 
-    ghost is_sound = { λ p. (length (T.parts (netlist_of p.net.now)) < 2 ^ 128)
-        × T.is_of p.form (netlist_of p.net.now) };
+    ghost is_sound = { λ p. T.is_of p.form (netlist_of p.net.now) };
 
     fn put_place(&self, text: &mut Vec<u8>, place: u128) -> Result<Option<u128>, NoMemory> {
-        if self.form.put_part(text, self.net, place)? {
+        if put_part(&self.form, text, self.net, place)? {
             Ok(Some(place + 1))
         } else {
             Ok(None)

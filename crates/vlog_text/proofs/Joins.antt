@@ -9,10 +9,10 @@ use Rattle.net_ir.specs.Netlists.{Netlist}
 use Rattle.net_ir.specs.Numbered.{numbered}
 use Rattle.expr_text.specs.NetNames.{state_name, gate_name}
 use Rattle.net_text.specs.Parts.{joined}
-use Rattle.net_text.proofs.Exports.{joined-numbered, joined-mapped, joined-one, joined-last, count-numbered, count-mapped}
+use Rattle.net_text.proofs.Exports.{joined-numbered, joined-mapped, joined-one, joined-last}
 use Rattle.vlog_text.specs.Trees.{Input, Output, Reg, Wire}
 use Rattle.vlog_text.specs.Names.{paused_name}
-use Rattle.vlog_text.specs.Parts.{parts_in, net_parts}
+use Rattle.vlog_text.specs.Parts.{parts_in}
 use Rattle.vlog_text.specs.declared.parts.TheConstants.{SECTIONS}
 use Rattle.vlog_text.specs.Written.{module_name, clock_name, input_name, output_name, declares, gate_assign, output_assign, paused_assign, latch_initial}
 use Rattle.vlog_text.specs.Written.{latch_next, next_port, head_front, head_end, declaration_line, initial_line, assign_line, clock_line, next_line, last_lines}
@@ -38,8 +38,7 @@ regrouped : {D I A N : Type 0} (port : List ℕ → List ℕ) (declared : D → 
     ++ (flat_map initial i ++ (flat_map assign (g ++ (o ++ t ∷ [])) ++ (line ++ (flat_map next n ++ last)))))))
 regrouped port declared initial assign next head clock end line last p a b c q u v r w i g o t n = simp (flat_map-append, append_assoc, append-nil) refl
 
-pub written-joined : (net : Netlist) → joined (net_parts net) ≡ written net
-unfolding net_parts
+pub written-joined : (net : Netlist) → joined (flat_map (parts_in net) SECTIONS) ≡ written net
 written-joined net =
     let from : ℕ → List (List ℕ) = λ n. flat_map (parts_in net) (drop n SECTIONS) in
     let regs = numbered (λ j (latch : Latch). declares Reg (state_name j)) 0 net.latches in
@@ -66,8 +65,3 @@ written-joined net =
     (map (declares Input) (map input_name net.inputs)) (map (declares Output) (map output_name net.outputs)) regs wires (numbered latch_initial 0 net.latches)
     (numbered (gate_assign net) 0 net.gates) (map (output_assign net) net.outputs) (paused_assign net) (numbered (latch_next net) 0 net.latches)
     ∙ rw (map-append (declares Output) (map output_name net.outputs) (paused_name ∷ [])) refl
-
-pub few-parts : (net : Netlist) → length net.inputs < 2 ^ 63 → length net.outputs < 2 ^ 63 → length net.latches < 2 ^ 63 → length net.gates < 2 ^ 63
-    → length (net_parts net) < 2 ^ 128
-unfolding net_parts
-few-parts net i o l g = simp (count-numbered, count-mapped) (omega (arith, i, o, l, g))

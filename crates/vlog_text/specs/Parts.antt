@@ -1,5 +1,5 @@
 -- Inner: the parts of a net's text, section by section.
-use Rattle.std.specs.Prelude.{ℕ, List, [], ◌∷◌, ◌++◌, map, flat_map}
+use Rattle.std.specs.Prelude.{ℕ, List, [], ◌∷◌, ◌++◌, map}
 use Rattle.net_ir.specs.Netlists.{Netlist}
 use Rattle.net_ir.specs.Numbered.{numbered}
 use Rattle.expr_text.specs.NetNames.{gate_name, state_name}
@@ -13,7 +13,6 @@ use Rattle.vlog_text.specs.declared.parts.Section.{Section}
 use Rattle.vlog_text.specs.declared.parts.Section.TheVariants.{ClockPort, InputPorts, OutputPorts, HeadEnd, Inputs}
 use Rattle.vlog_text.specs.declared.parts.Section.TheVariants.{Outputs, Paused, Regs, Wires, Initials, GateAssigns}
 use Rattle.vlog_text.specs.declared.parts.Section.TheVariants.{OutputAssigns, PausedAssign, Nexts, LastLines}
-use Rattle.vlog_text.specs.declared.parts.TheConstants.{SECTIONS}
 
 -- the parts of a section
 abbrev pub parts_in : Netlist → Section → List (List ℕ)
@@ -33,7 +32,3 @@ parts_in net OutputAssigns = map (λ o. assign_line (output_assign net o)) net.o
 parts_in net PausedAssign = (assign_line (paused_assign net) ++ clock_line clock_name) ∷ []
 parts_in net Nexts = numbered (λ j latch. next_line (latch_next net j latch)) 0 net.latches
 parts_in net LastLines = last_lines ∷ []
-
--- all parts
-unfoldable pub net_parts : Netlist → List (List ℕ)
-net_parts net = flat_map (parts_in net) SECTIONS

@@ -11,8 +11,9 @@ use crate::writer::{
     put_reg, put_wire,
 };
 use est_base::NoMemory;
-use net_ir::Net;
-use net_text::Sections;
+use net_ir::{Net, look_at_wires};
+use net_text::NetText;
+use std::alloc::Global;
 
 /// The sections of a Verilog text: the ports, the declarations, the first values, the assignments, and what the
 /// registers get.
@@ -53,8 +54,9 @@ static SECTIONS: [Section; 15] = [
     Section::LastLines,
 ];
 
-impl Sections for VlogWriter {
+impl NetText for VlogWriter {
     ghost use Rattle.vlog_text.specs.Parts.{parts_in};
+    ghost use Rattle.vlog_text.specs.Written.{written, Means};
     ghost use Rattle.vlog_text.specs.declared.parts.TheConstants.{SECTIONS};
 
     type Section = Section;
@@ -63,7 +65,15 @@ impl Sections for VlogWriter {
 
     ghost parts_in = { parts_in };
 
-    ghost is_ready = { λ _ _. Unit {0} };
+    ghost written = { written };
+
+    ghost means = { Means };
+
+    ghost is_of = { λ _ _. Unit {0} };
+
+    fn of(_alloc: Global, _net: &Net) -> Result<VlogWriter, NoMemory> {
+        Ok(VlogWriter {})
+    }
 
     fn sections() -> &'static [Section] {
         &SECTIONS
@@ -111,5 +121,9 @@ impl Sections for VlogWriter {
             Section::Nexts => put_next(text, net, k, net.latches[k]),
             Section::LastLines => put_last_lines(text),
         }
+    }
+
+    fn look_at(net: &Net) {
+        look_at_wires(net);
     }
 }

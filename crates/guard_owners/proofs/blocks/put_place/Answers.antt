@@ -2,24 +2,12 @@ use Rattle.std.proofs.Common.{◌≡◌, ◌+◌, ◌-◌, ◌<◌, ◌≤◌, i
 use Rattle.std.proofs.lemmas.Result.{IfOk-weaker}
 use Rattle.net_ir.specs.Runs.{netlist_of}
 use Rattle.net_text.specs.Parts.{PutsPlace}
-use Rattle.net_text.proofs.Exports.{few-items}
 use Rattle.csub_text.specs.Parts.{net_parts}
-use Rattle.csub_text.proofs.Exports.{few-parts}
 use Rattle.guard_owners.specs.Blocks.{parts_before}
 use Rattle.guard_owners.specs.Pieces.{PutsPlain, text_from}
 use Rattle.guard_owners.specs.Usages.{owner_in}
 use Rattle.guard_owners.proofs.BlockTexts.{plain-puts, group-puts}
 use Rattle.guard_owners.proofs.blocks.put_place.Goals as goal
-
-pub put_plain-requires : goal.put_plain-requires
-put_plain-requires c =
-    let net = c.args.net.now in
-    few-parts (netlist_of net) (few-items net.inputs) (few-items net.outputs) (few-items net.latches) (few-items net.gates)
-
-pub put_plain-requires-then-end-place : goal.put_plain-requires-then-end-place
-put_plain-requires-then-end-place c =
-    let net = c.args.net.now in
-    few-parts (netlist_of net) (few-items net.inputs) (few-items net.outputs) (few-items net.latches) (few-items net.gates)
 
 pub returns-then-place-begin : goal.returns-then-place-begin
 returns-then-place-begin c =

@@ -4,7 +4,7 @@ use Rattle.net_text.proofs.Exports.{put-counted}
 use Rattle.csub_text.specs.Parts.{parts_in}
 use Rattle.csub_text.specs.Written.{declaration, input_name, next_name}
 use Rattle.csub_text.specs.declared.parts.Section.TheVariants.{InputLocals, NextLocals}
-use Rattle.csub_text.proofs.parts.CWriterSections.put_in.Goals as goal
+use Rattle.csub_text.proofs.parts.CWriterNetText.put_in.Goals as goal
 
 pub returns-in-InputLocals : goal.returns-in-InputLocals
 returns-in-InputLocals c =

@@ -6,7 +6,7 @@ use Rattle.vlog_text.specs.Parts.{parts_in}
 use Rattle.vlog_text.specs.Trees.{Reg}
 use Rattle.vlog_text.specs.Written.{declaration_line, declares}
 use Rattle.vlog_text.specs.declared.parts.Section.TheVariants.{Regs}
-use Rattle.vlog_text.proofs.parts.VlogWriterSections.put_in.Goals as goal
+use Rattle.vlog_text.proofs.parts.VlogWriterNetText.put_in.Goals as goal
 
 pub returns-in-Regs : goal.returns-in-Regs
 returns-in-Regs c =

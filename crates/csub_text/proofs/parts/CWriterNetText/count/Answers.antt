@@ -1,7 +1,7 @@
 use Rattle.std.proofs.Common.{arith, ⊎_elim}
 use Rattle.std.proofs.lemmas.List.{length-map}
 use Rattle.net_ir.proofs.Exports.{length-numbered}
-use Rattle.csub_text.proofs.parts.CWriterSections.count.Goals as goal
+use Rattle.csub_text.proofs.parts.CWriterNetText.count.Goals as goal
 
 pub returns-in-Inputs : goal.returns-in-Inputs
 returns-in-Inputs c =
