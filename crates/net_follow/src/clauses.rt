@@ -13,10 +13,10 @@ use std::alloc::Global;
 #[derive(Drop)]
 pub(crate) struct Clauses {
     pub clauses: Vec<Clause>,
-    heads: Vec<usize>,
-    links: Vec<usize>,
-    first_heads: Vec<usize>,
-    first_links: Vec<usize>,
+    heads: Vec<u32>,
+    links: Vec<u32>,
+    first_heads: Vec<u32>,
+    first_links: Vec<u32>,
 }
 
 impl Clauses {
@@ -27,9 +27,9 @@ impl Clauses {
         let count = nets.saturating_mul(8);
         Ok(Clauses {
             clauses: Vec::new(alloc),
-            heads: vec![in alloc; usize::MAX; count]?,
+            heads: vec![in alloc; u32::MAX; count]?,
             links: Vec::new(alloc),
-            first_heads: vec![in alloc; usize::MAX; count]?,
+            first_heads: vec![in alloc; u32::MAX; count]?,
             first_links: Vec::new(alloc),
         })
     }
@@ -85,18 +85,20 @@ impl Clauses {
 }
 
 // One link more, in front of the chain of its literal. What is always true has no chain.
-fn link(heads: &mut Vec<usize>, links: &mut Vec<usize>, literal: Literal) -> Result<(), NoMemory> {
+fn link(heads: &mut Vec<u32>, links: &mut Vec<u32>, literal: Literal) -> Result<(), NoMemory> {
     let index = literal_index(literal);
-    let next = entry(heads, index);
+    let mut next = u32::MAX;
     if index < heads.len() {
-        heads[index] = links.len();
+        next = heads[index];
+        heads[index] = u32::try_from(links.len()).unwrap_or(u32::MAX);
     }
     Ok(links.push(next)?)
 }
 
-fn entry(list: &[usize], place: usize) -> usize {
+// What stands at a place: no place where it is too far.
+fn entry(list: &[u32], place: usize) -> usize {
     if place < list.len() {
-        list[place]
+        list[place] as usize
     } else {
         usize::MAX
     }

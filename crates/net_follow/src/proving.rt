@@ -46,23 +46,32 @@ const MUCH: Effort = Effort {
     tries: 40,
 };
 
-const MOST: Effort = Effort {
-    reach: u64::MAX,
-    allowance: 240_000,
-    fuel: 2_400_000,
-    tries: 40,
-};
+// The greatest effort over so many nets: behind each literal that is tried all that it forces can be looked at.
+fn most(nets: u64) -> Effort {
+    let allowance = nets.saturating_mul(12).max(240_000);
+    Effort {
+        reach: u64::MAX,
+        allowance,
+        fuel: allowance.saturating_mul(10),
+        tries: 40,
+    }
+}
 
-// How many clauses may fail by the greatest effort before it is spared.
-const PATIENCE: u64 = 60;
+// How many clauses may be looked at in vain, for each net and beside, before the greatest effort is spared; and as many
+// more before only some effort is made. What is looked at with success is given back.
+const PATIENCE: u64 = 200;
 
-/// What is assumed, and what is known by it. All that is known up to `settled` has been followed up. The greatest
-/// effort is made while there is `patience`.
+const BESIDE: u64 = 20_000_000;
+
+/// What is assumed, and what is known by it. All that is known up to `settled` has been followed up. `most` is the
+/// greatest effort, which is made while there is more `patience` than `spared`.
 #[derive(Drop)]
 pub(crate) struct Prover {
     pub clauses: Clauses,
     pub trail: Trail,
     settled: usize,
+    most: Effort,
+    spared: u64,
     patience: u64,
 }
 
@@ -72,11 +81,16 @@ impl Prover {
         ensures clauses { IfOk result (λ p. p.clauses.clauses.items ≡ []) }
         ensures known { IfOk result (λ p. p.trail.known.items ≡ []) }
     {
+        let spared = (nets as u64)
+            .saturating_mul(PATIENCE)
+            .saturating_add(BESIDE);
         Ok(Prover {
             clauses: Clauses::new(alloc, nets)?,
             trail: Trail::new(alloc, nets)?,
             settled: 0,
-            patience: PATIENCE,
+            most: most(nets as u64),
+            spared,
+            patience: spared.saturating_mul(2),
         })
     }
 
@@ -138,17 +152,29 @@ impl Prover {
         self.sees_at_last(clause)
     }
 
-    // Whether a clause follows, by the greatest effort; where that does not show it, there is less patience.
+    // Whether a clause follows, by the effort for which there is patience; where that does not show it, there is less.
     fn sees_at_last(&mut self, clause: Clause) -> Result<bool, NoMemory>
         ensures clauses { OnOk result (self.new.clauses ≡ self.old.clauses) }
         ensures known { OnOk result (self.new.trail.known.items ≡ self.old.trail.known.items) }
         ensures sees { IfOk result (Sees self.old clause) }
     {
-        let effort = if self.patience == 0 { MUCH } else { MOST };
-        let seen = self.sees_by(clause, effort)?;
-        if !seen {
-            self.patience = self.patience.saturating_sub(1);
+        if self.patience == 0 {
+            return Ok(false);
         }
+        let effort = if self.patience > self.spared {
+            self.most
+        } else {
+            MUCH
+        };
+        let seen = self.sees_by(clause, effort)?;
+        let spent = effort.fuel.saturating_sub(self.trail.fuel);
+        self.patience = if seen {
+            self.patience
+                .saturating_add(spent)
+                .min(self.spared.saturating_mul(2))
+        } else {
+            self.patience.saturating_sub(spent)
+        };
         Ok(seen)
     }
 

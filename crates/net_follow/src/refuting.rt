@@ -21,17 +21,26 @@ const SPREAD: u64 = 2;
 pub(crate) fn look_at(trail: &mut Trail, clause: Clause) -> Result<bool, NoMemory>
     ensures { IfOk result (Grows (λ V. meets_clause V clause ≡ true) trail.old.known.items trail.new.known.items) }
 {
-    let first = trail.is_false(clause.first);
-    let second = trail.is_false(clause.second);
-    let third = trail.is_false(clause.third);
-    if first && second {
-        trail.learn(clause.third)
-    } else if first && third {
-        trail.learn(clause.second)
-    } else if second && third {
-        trail.learn(clause.first)
-    } else {
-        Ok(false)
+    match trail.value(clause.first) {
+        Some(true) => Ok(false),
+        Some(false) => match trail.value(clause.second) {
+            Some(true) => Ok(false),
+            Some(false) => trail.learn(clause.third),
+            None => {
+                if trail.is_false(clause.third) {
+                    trail.learn(clause.second)
+                } else {
+                    Ok(false)
+                }
+            }
+        },
+        None => {
+            if trail.is_false(clause.second) && trail.is_false(clause.third) {
+                trail.learn(clause.first)
+            } else {
+                Ok(false)
+            }
+        }
     }
 }
 
@@ -151,19 +160,21 @@ fn clashes(clauses: &Clauses, trail: &mut Trail, from: usize) -> Result<bool, No
     'rounds: for _round in 0..ROUNDS {
         let all = trail.effort;
         trail.effort = all / SWEPT;
-        if sweep(clauses, trail, from)? {
+        let clash = sweep(clauses, trail, from)?;
+        trail.effort = trail.effort.saturating_add(all - all / SWEPT);
+        if clash {
             return Ok(true);
         }
-        trail.effort = trail.effort.saturating_add(all - all / SWEPT);
         if next >= trail.known.len() {
             return Ok(false);
         }
         let all = trail.effort;
         trail.effort = all / SPREAD;
-        if propagate(clauses, trail, next)? {
+        let clash = propagate(clauses, trail, next)?;
+        trail.effort = trail.effort.saturating_add(all - all / SPREAD);
+        if clash {
             return Ok(true);
         }
-        trail.effort = trail.effort.saturating_add(all - all / SPREAD);
         next = trail.known.len();
     }
     Ok(false)

@@ -15,7 +15,7 @@ use std::alloc::Global;
 #[derive(Drop)]
 pub(crate) struct Trail {
     pub known: Vec<Literal>,
-    slots: Vec<usize>,
+    slots: Vec<u32>,
     pub effort: u64,
     pub reach: u64,
     pub allowance: u64,
@@ -48,7 +48,7 @@ impl Trail {
         }
         let index = variable_index(literal);
         if index < self.slots.len() {
-            let place = self.slots[index];
+            let place = self.slots[index] as usize;
             if place < self.known.len() {
                 return told_value(self.known[place], literal);
             }
@@ -85,7 +85,7 @@ impl Trail {
     {
         let index = variable_index(literal);
         if index < self.slots.len() {
-            self.slots[index] = self.known.len();
+            self.slots[index] = u32::try_from(self.known.len()).unwrap_or(u32::MAX);
         }
         Ok(self.known.push(literal)?)
     }
