@@ -10,7 +10,7 @@ use Rattle.net_ir.specs.Runs.{shown, net_values, initial_latches, next_latches, 
 use Rattle.net_follow.specs.Following.{IsWide}
 use Rattle.net_follow.proofs.Exports.{followed-by-runs}
 use Rattle.net_simp.specs.SameRuns.{SameParts, SameRuns}
-use Rattle.net_opt.specs.Optimized.{Optimizes}
+use Rattle.net_opt.specs.Optimized.{Replaces, Optimizes}
 use Rattle.net_opt.specs.Silencing.{silent_gate, silent_net}
 use Rattle.net_opt.proofs.Parts.{silent-wires}
 
@@ -44,24 +44,27 @@ silent-optimizes net = record {
 wide-through : (old mid : Netlist) → mid.inputs ≡ old.inputs → (items : List Item) → EachEvent (IsWide old) items → EachEvent (IsWide mid) items
 wide-through old mid same items fit = subst (λ inputs. EachEvent (λ event. length event ≡ length inputs) items) (sym same) fit
 
-pub optimizes-twice : (old mid new : Netlist) → Optimizes old mid → Optimizes mid new → Optimizes old new
-optimizes-twice old mid new a b =
-    let p = a.replaces.interface in
-    let q = b.replaces.interface in
+pub replaces-twice : (old mid new : Netlist) → Replaces old mid → Replaces mid new → Replaces old new
+replaces-twice old mid new a b =
+    let p = a.interface in
+    let q = b.interface in
     record {
-      replaces = record {
-        interface = record {
-          name = q.name ∙ p.name;
-          inputs = q.inputs ∙ p.inputs;
-          outputs = q.outputs ∙ p.outputs;
-          silent = q.silent;
-        };
-        followed = followed-by-runs old new
-            (λ items fit. b.replaces.followed.runs items (wide-through old mid p.inputs items fit) ∙ a.replaces.followed.runs items fit);
+      interface = record {
+        name = q.name ∙ p.name;
+        inputs = q.inputs ∙ p.inputs;
+        outputs = q.outputs ∙ p.outputs;
+        silent = q.silent;
       };
-      fewer_gates = omega (arith, a.fewer_gates, b.fewer_gates);
-      fewer_latches = omega (arith, a.fewer_latches, b.fewer_latches);
+      followed = followed-by-runs old new
+          (λ items fit. b.followed.runs items (wide-through old mid p.inputs items fit) ∙ a.followed.runs items fit);
     }
+
+pub optimizes-twice : (old mid new : Netlist) → Optimizes old mid → Optimizes mid new → Optimizes old new
+optimizes-twice old mid new a b = record {
+  replaces = replaces-twice old mid new a.replaces b.replaces;
+  fewer_gates = omega (arith, a.fewer_gates, b.fewer_gates);
+  fewer_latches = omega (arith, a.fewer_latches, b.fewer_latches);
+}
 
 -- a simplified netlist has as many latches, and no more nets
 simplified-sizes : (old new : Netlist) → SameParts old new → (length new.latches ≡ length old.latches) × (net_count new ≤ net_count old)

@@ -56,8 +56,8 @@ impl Built {
         }
     }
 
-    // The edge of what a gate computes.
-    fn gate_edge(&mut self, op: Op) -> Result<Edge, NoMemory> {
+    /// The edge of what a gate computes.
+    pub fn gate_edge(&mut self, op: Op) -> Result<Edge, NoMemory> {
         match op {
             Op::Const(value) => Ok(negated_if(TRUE, !value)),
             Op::Copy(a) => Ok(self.edge(a)),

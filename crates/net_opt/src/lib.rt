@@ -11,6 +11,7 @@ mod assembling;
 mod balancing;
 mod building;
 mod classes;
+mod copying;
 mod cuts;
 mod edges;
 mod emitting;
@@ -23,6 +24,7 @@ mod showing;
 mod silencing;
 mod simulating;
 mod tables;
+mod telling;
 mod trying;
 
 pub use optimizing::optimize;

@@ -32,6 +32,13 @@ const IDLE: usize = 5;
 // How often a pass that rewrites does so.
 const REWRITES: usize = 5;
 
+// Of how many gates and latches a netlist is small; what a latch may cost to go then; and what it weighs.
+const SMALL: usize = 600;
+
+const WORTH: usize = 12;
+
+const LATCH_WEIGHT: usize = 10;
+
 /// A netlist that does what the given one does, with no more gates and no more latches: the same inputs and outputs, in
 /// the same order, and over every list of items, resets included, the same outputs and `paused`. Latches and gates go
 /// that are found to be constant, or equal or opposite to others, in every instant that the netlist reaches. Each latch
@@ -52,15 +59,70 @@ pub fn optimize(alloc: Global, net: &Net) -> Result<Net, NoMemory>
     }
 }
 
-// What the passes find: each gives a smaller netlist, or none.
+// The lightest that the passes find, where the netlist is small on several ways.
 fn searched_net(alloc: Global, net: &Net) -> Result<Net, NoMemory>
     ensures { IfOk result (λ new. Optimizes (netlist_of net.now) (netlist_of new)) }
 {
     let mut best = begun_net(alloc, net)?;
+    let ways: usize = if size_of(net) > SMALL { 1 } else { WAYS };
+    'ways: for number in 0..ways {
+        let other = passed_net(alloc, net, way_of(number))?;
+        best = lighter(net, best, other);
+    }
+    Ok(best)
+}
+
+// How the passes go: whether the gates are brought in order first, and how many pairs a latch may cost to go.
+#[derive(Clone, Copy)]
+struct Way {
+    ordered: bool,
+    worth: usize,
+}
+
+const WAYS: usize = 4;
+
+fn way_of(number: usize) -> Way {
+    Way {
+        ordered: number < 2,
+        worth: if number % 2 == 0 { 0 } else { WORTH },
+    }
+}
+
+// The other netlist where it weighs less, and has no more gates and no more latches than the given one. A latch weighs
+// as much as some gates.
+fn lighter(net: &Net, best: Net, other: Net) -> Net
+    requires { Replaces (netlist_of net.now) (netlist_of other) }
+    ensures { Optimizes (netlist_of net.now) (netlist_of best) → Optimizes (netlist_of net.now) (netlist_of result) }
+{
+    if other.gates.len() > net.gates.len() {
+        return best;
+    }
+    if other.latches.len() > net.latches.len() {
+        return best;
+    }
+    if weight(&other) < weight(&best) {
+        other
+    } else {
+        best
+    }
+}
+
+fn weight(net: &Net) -> usize {
+    net.latches
+        .len()
+        .saturating_mul(LATCH_WEIGHT)
+        .saturating_add(net.gates.len())
+}
+
+// What the passes make of it, each a smaller netlist or none.
+fn passed_net(alloc: Global, net: &Net, way: Way) -> Result<Net, NoMemory>
+    ensures { IfOk result (λ new. Replaces (netlist_of net.now) (netlist_of new)) }
+{
+    let mut best = ordered_net(alloc, net, way)?;
     let mut idle: usize = 0;
     'passes: for place in 0..PASSES {
         let size = size_of(&best);
-        let new = improved(alloc, &best, pass_at(place))?;
+        let new = improved(alloc, &best, pass_at(place, way.worth))?;
         best = chosen(best, new);
         idle = idle_passes(idle, size, size_of(&best));
         if idle >= IDLE {
@@ -68,6 +130,20 @@ fn searched_net(alloc: Global, net: &Net) -> Result<Net, NoMemory>
         }
     }
     Ok(best)
+}
+
+// The netlist that the passes begin with.
+fn ordered_net(alloc: Global, net: &Net, way: Way) -> Result<Net, NoMemory>
+    ensures { IfOk result (λ new. Replaces (netlist_of net.now) (netlist_of new)) }
+{
+    let begun = begun_net(alloc, net)?;
+    if !way.ordered {
+        return Ok(begun);
+    }
+    match changed_net(alloc, &begun, Change::Order)? {
+        Some(new) => Ok(new),
+        None => Ok(begun),
+    }
 }
 
 // The netlist, of which no gate carries a wire, without what nothing shows.
@@ -84,8 +160,8 @@ fn begun_net(alloc: Global, net: &Net) -> Result<Net, NoMemory>
 // What a pass does.
 #[derive(Clone, Copy)]
 enum Pass {
-    // Nets that are equal or opposite become one.
-    Merge,
+    // Nets that are equal or opposite become one, and latches go that gates tell at this price.
+    Merge(usize),
     // What many nets say together is balanced by depth.
     Balance,
     // Parts are replaced by smaller ones that compute the same.
@@ -94,13 +170,13 @@ enum Pass {
 
 // The pass of a place: nets are made one twice at first; then chains are balanced, parts are rewritten, and nets are
 // made one again, in turn.
-fn pass_at(place: usize) -> Pass {
+fn pass_at(place: usize, worth: usize) -> Pass {
     if place % 3 == 2 {
         Pass::Balance
     } else if place > 0 && place % 3 == 0 {
         Pass::Rewrite
     } else {
-        Pass::Merge
+        Pass::Merge(worth)
     }
 }
 
@@ -121,7 +197,7 @@ fn idle_passes(idle: usize, before: usize, now: usize) -> usize {
 // The new netlist, if there is one.
 fn chosen(best: Net, new: Option<Net>) -> Net
     requires { IfSome new (λ n. Optimizes (netlist_of best) (netlist_of n)) }
-    ensures { (given : Netlist) → Optimizes given (netlist_of best) → Optimizes given (netlist_of result) }
+    ensures { (given : Netlist) → Replaces given (netlist_of best) → Replaces given (netlist_of result) }
 {
     match new {
         Some(net) => net,
@@ -150,7 +226,7 @@ fn passed(alloc: Global, net: &Net, pass: Pass) -> Result<Option<Net>, NoMemory>
     ensures { IfOk result (λ o. IfSome o (λ new. Replaces (netlist_of net.now) (netlist_of new))) }
 {
     match pass {
-        Pass::Merge => merged_net(alloc, net),
+        Pass::Merge(worth) => merged_net(alloc, net, worth),
         Pass::Balance => changed_net(alloc, net, Change::Balance),
         Pass::Rewrite => changed_net(alloc, net, Change::Rewrite(REWRITES)),
     }
@@ -158,12 +234,16 @@ fn passed(alloc: Global, net: &Net, pass: Pass) -> Result<Option<Net>, NoMemory>
 
 // A netlist in which nets are one that are constant, or equal or opposite to others, in every instant that the given
 // one reaches.
-fn merged_net(alloc: Global, net: &Net) -> Result<Option<Net>, NoMemory>
+fn merged_net(alloc: Global, net: &Net, worth: usize) -> Result<Option<Net>, NoMemory>
     ensures { IfOk result (λ o. IfSome o (λ new. Replaces (netlist_of net.now) (netlist_of new))) }
 {
     let mut classes = first_classes(alloc, &histories(alloc, net)?)?;
     for _trial in 0..TRIALS {
         part_classes(alloc, net, &mut classes)?;
+        let telling = tried_classes(alloc, net, &classes, Change::Tell(worth))?;
+        if is_no_larger(&telling.new, net) {
+            return Ok(telling.new);
+        }
         let trial = tried_classes(alloc, net, &classes, Change::Keep)?;
         if trial.new.is_some() {
             return Ok(trial.new);
@@ -174,6 +254,14 @@ fn merged_net(alloc: Global, net: &Net) -> Result<Option<Net>, NoMemory>
         classes.part(&trial.failing);
     }
     Ok(None)
+}
+
+// Whether there is a netlist, of no more gates and no more latches.
+fn is_no_larger(new: &Option<Net>, net: &Net) -> bool {
+    match new {
+        Some(new) => new.gates.len() <= net.gates.len() && new.latches.len() <= net.latches.len(),
+        None => false,
+    }
 }
 
 // Parts the classes until they hold by induction over instants.

@@ -1,7 +1,7 @@
 // Values of a netlist over instants with drawn inputs, 64 runs at a time.
 
 use crate::edges::word_at;
-use est_base::NoMemory;
+use est_base::{NetId, NoMemory};
 use net_ir::{Net, Op};
 use std::alloc::Global;
 
@@ -10,7 +10,7 @@ const VALUES: usize = 20_000_000;
 
 const FEWEST: usize = 256;
 
-const MOST: usize = 16_384;
+const MOST: usize = 4_096;
 
 // For how many instants the inputs keep their densities; and for how many such stretches in the runs that are steady,
 // one of eight, in which an input of a choice keeps its value too.
@@ -30,21 +30,33 @@ pub(crate) struct NetHistories {
 
 /// NetHistories of the nets.
 pub(crate) fn histories(alloc: Global, net: &Net) -> Result<NetHistories, NoMemory> {
+    let mut steps = Vec::new(alloc);
+    for gate in &net.gates {
+        steps.push(step_of(gate.op))?;
+    }
     let mut latches = Vec::new(alloc);
     for latch in &net.latches {
         latches.push(if latch.init { u64::MAX } else { 0 })?;
     }
     let mut seed: u64 = 0x2545_f491_4f6c_dd1d;
-    let mut values = Vec::new(alloc);
+    let count = net
+        .inputs
+        .len()
+        .saturating_add(net.latches.len())
+        .saturating_add(net.gates.len())
+        .saturating_add(1);
+    let mut values = vec![in alloc; 0; count]?;
     let mut choices = vec![in alloc; 0; net.inputs.len()]?;
     draw_choices(&mut choices, &mut seed, true);
-    run_instant(net, &latches, &choices, &mut seed, &mut values)?;
+    run_instant(&steps, &latches, &choices, &mut seed, &mut values);
     let mut signs = Vec::new(alloc);
+    let mut flips = Vec::new(alloc);
     for value in &values {
         signs.push(*value & 1 == 1)?;
+        flips.push(flip(*value))?;
     }
     let mut marks = vec![in alloc; 0; values.len()]?;
-    mix(&mut marks, &signs, &values);
+    mix(&mut marks, &flips, &values);
     for instant in 0..instants(values.len()) {
         if instant % STRETCH == 0 {
             draw_choices(
@@ -53,39 +65,97 @@ pub(crate) fn histories(alloc: Global, net: &Net) -> Result<NetHistories, NoMemo
                 instant % (STRETCH * STRETCHES) == 0,
             );
         }
-        step(net, &values, &mut latches);
+        go_on(net, &values, &mut latches);
         if instant % STRETCH == 0 {
             restart(net, &mut latches, restarted(instant, &mut seed));
         }
-        run_instant(net, &latches, &choices, &mut seed, &mut values)?;
-        mix(&mut marks, &signs, &values);
+        run_instant(&steps, &latches, &choices, &mut seed, &mut values);
+        mix(&mut marks, &flips, &values);
     }
     Ok(NetHistories { marks, signs })
 }
 
-// The values of all nets, with drawn inputs.
+// How a gate's value comes of two others: each may be taken negated, and so may what is true where both are. The
+// places of the two stand before a bit that says so.
+#[derive(Clone, Copy)]
+struct Step {
+    left: u64,
+    right: u64,
+    flipped: u64,
+}
+
+fn step_of(op: Op) -> Step {
+    match op {
+        Op::Const(value) => of_one(0, !value),
+        Op::Copy(a) => of_one(read(a), false),
+        Op::Not(a) => of_one(read(a), true),
+        Op::And(a, b) => Step {
+            left: read(a),
+            right: read(b),
+            flipped: 0,
+        },
+        Op::Or(a, b) => Step {
+            left: read(a) | 1,
+            right: read(b) | 1,
+            flipped: u64::MAX,
+        },
+    }
+}
+
+// A net as it is read: what is always true stands before all nets.
+fn read(net: NetId) -> u64 {
+    (net.0 as u64 + 1) * 2
+}
+
+fn of_one(read: u64, negated: bool) -> Step {
+    Step {
+        left: read,
+        right: read,
+        flipped: if negated { u64::MAX } else { 0 },
+    }
+}
+
+// A word without ones, or of ones alone where the last bit of a number is one.
+fn flip(number: u64) -> u64 {
+    (number & 1).wrapping_neg()
+}
+
+// The value that is read.
+fn value_at(values: &[u64], read: u64) -> u64 {
+    word_at(values, (read / 2) as usize) ^ flip(read)
+}
+
+// The values of what is always true and of all nets, with drawn inputs.
 fn run_instant(
-    net: &Net,
+    steps: &[Step],
     latches: &[u64],
     choices: &[u64],
     seed: &mut u64,
-    values: &mut Vec<u64>,
-) -> Result<(), NoMemory> {
-    values.clear();
-    values.push(u64::MAX)?;
-    for choice in choices {
-        values.push(drawn_input(seed, *choice))?;
+    values: &mut [u64],
+) {
+    let first_latch = choices.len().saturating_add(1);
+    let first_gate = first_latch.saturating_add(latches.len());
+    put(values, 0, u64::MAX);
+    for (k, choice) in choices.iter().enumerate() {
+        put(values, k.saturating_add(1), drawn_input(seed, *choice));
     }
-    values.extend_from_slice(latches)?;
-    for gate in &net.gates {
-        let value = op_word(values, gate.op);
-        values.push(value)?;
+    for (k, latch) in latches.iter().enumerate() {
+        put(values, first_latch.saturating_add(k), *latch);
     }
-    Ok(())
+    for (k, step) in steps.iter().enumerate() {
+        let value = (value_at(values, step.left) & value_at(values, step.right)) ^ step.flipped;
+        put(values, first_gate.saturating_add(k), value);
+    }
+}
+
+fn put(values: &mut [u64], place: usize, value: u64) {
+    if place < values.len() {
+        values[place] = value;
+    }
 }
 
 // The values of the latches in the next instant.
-fn step(net: &Net, values: &[u64], latches: &mut Vec<u64>) {
+fn go_on(net: &Net, values: &[u64], latches: &mut Vec<u64>) {
     for (k, latch) in net.latches.iter().enumerate() {
         if k < latches.len() {
             latches[k] = word_at(values, latch.from.0 as usize + 1);
@@ -113,28 +183,11 @@ fn restarted(instant: usize, seed: &mut u64) -> u64 {
     }
 }
 
-// What an operator makes of the values.
-fn op_word(values: &[u64], op: Op) -> u64 {
-    match op {
-        Op::Const(value) => { if value { u64::MAX } else { 0 } }
-        Op::Copy(a) => word_at(values, a.0 as usize + 1),
-        Op::Not(a) => !word_at(values, a.0 as usize + 1),
-        Op::And(a, b) => word_at(values, a.0 as usize + 1) & word_at(values, b.0 as usize + 1),
-        Op::Or(a, b) => word_at(values, a.0 as usize + 1) | word_at(values, b.0 as usize + 1),
-    }
-}
-
-// Takes the values of an instant into the marks.
-fn mix(marks: &mut Vec<u64>, signs: &[bool], values: &[u64]) {
-    for k in 0..marks.len() {
-        let value = word_at(values, k);
-        let plain = if k < signs.len() && signs[k] {
-            !value
-        } else {
-            value
-        };
-        let mixed = (marks[k] ^ plain).wrapping_mul(0x9e37_79b9_7f4a_7c15);
-        marks[k] = mixed ^ (mixed >> 29);
+// Takes the values of an instant into the marks, flipped where they were true at first.
+fn mix(marks: &mut Vec<u64>, flips: &[u64], values: &[u64]) {
+    for (mark, (value, flip)) in marks.iter_mut().zip(values.iter().zip(flips)) {
+        let mixed = (*mark ^ *value ^ *flip).wrapping_mul(0x9e37_79b9_7f4a_7c15);
+        *mark = mixed ^ (mixed >> 29);
     }
 }
 

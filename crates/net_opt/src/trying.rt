@@ -8,9 +8,11 @@ use crate::assembling::assembled_net;
 use crate::balancing::balanced;
 use crate::building::{Built, built_graph, marked_nodes};
 use crate::classes::{Classes, equation, literal};
+use crate::copying::{in_order_of_need, places_in_order, without_told};
 use crate::edges::{Edge, TRUE, edge_at, is_marked, mark, negated_if, number_at, straight};
 use crate::emitting::{Emitted, emitted_parts, parts_of};
 use crate::rewriting::rewritten;
+use crate::telling::{told_latches, untold};
 use est_base::NoMemory;
 use net_follow::{Equation, Side, unshown_places};
 use net_ir::Net;
@@ -39,6 +41,10 @@ struct Claims {
 pub(crate) enum Change {
     // not at all
     Keep,
+    // latches go that gates tell, where that takes at most so many pairs more than go with them
+    Tell(usize),
+    // nodes stand in the order in which they are needed
+    Order,
     // chains are balanced by depth
     Balance,
     // parts are rewritten so many times
@@ -54,11 +60,17 @@ pub(crate) fn tried_classes(
 ) -> Result<Trial, NoMemory>
     ensures { IfOk result (λ t. IfSome t.new (λ new. Replaces (netlist_of net.now) (netlist_of new))) }
 {
-    let plain = built_graph(alloc, net, &classes.stand_ins)?;
-    let built = changed(alloc, net, plain, change)?;
+    let mut plain = built_graph(alloc, net, &classes.stand_ins)?;
+    let told = match change {
+        Change::Tell(worth) => told_latches(alloc, net, classes, &mut plain, worth)?,
+        _ => untold(alloc, net)?,
+    };
+    let begun = without_told(alloc, net, plain, &told)?;
+    let built = changed(alloc, net, begun, change)?;
+    let order = places_in_order(alloc, net, &told)?;
     let marks = marked_nodes(alloc, net, &built)?;
     let emitted = emitted_parts(alloc, net, &built, &marks)?;
-    let claims = claimed(alloc, classes, &built, &marks, &emitted)?;
+    let claims = claimed(alloc, classes, &built, &order, &marks, &emitted)?;
     let mut failing = vec![in alloc; false; classes.stand_ins.len()]?;
     let new = match assembled_net(alloc, net, parts_of(emitted))? {
         Some(made) => followed_net(alloc, net, made, claims, classes, &mut failing)?,
@@ -70,7 +82,8 @@ pub(crate) fn tried_classes(
 // The graph, changed so.
 fn changed(alloc: Global, net: &Net, built: Built, change: Change) -> Result<Built, NoMemory> {
     match change {
-        Change::Keep => Ok(built),
+        Change::Keep | Change::Tell(_) => Ok(built),
+        Change::Order => in_order_of_need(alloc, net, &built),
         Change::Balance => {
             let marks = marked_nodes(alloc, net, &built)?;
             balanced(alloc, net, &built, &marks)
@@ -89,11 +102,12 @@ fn remade(alloc: Global, net: &Net, built: Built, times: usize) -> Result<Built,
     Ok(now)
 }
 
-// What is claimed: what the classes say, and that each net has the value of what becomes of it.
+// What is claimed: what the classes say, and that each net has the value of what becomes of it, in this order.
 fn claimed(
     alloc: Global,
     classes: &Classes,
     built: &Built,
+    order: &[usize],
     marks: &[bool],
     emitted: &Emitted,
 ) -> Result<Claims, NoMemory> {
@@ -109,12 +123,12 @@ fn claimed(
             claims.places.push(place)?;
         }
     }
-    for place in 1..built.edges.len() {
-        let edge = edge_at(&built.edges, place);
-        if edge.node == 0 || is_marked(marks, edge.node) {
+    for place in order {
+        let edge = edge_at(&built.edges, *place);
+        if *place > 0 && (edge.node == 0 || is_marked(marks, edge.node)) {
             let name = emitted.name(edge);
-            claims.equations.push(claim(place - 1, name))?;
-            claims.places.push(place)?;
+            claims.equations.push(claim(*place - 1, name))?;
+            claims.places.push(*place)?;
         }
     }
     Ok(claims)

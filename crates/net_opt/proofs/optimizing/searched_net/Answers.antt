@@ -1,8 +1,4 @@
-use Rattle.net_ir.specs.Runs.{netlist_of}
 use Rattle.net_opt.proofs.optimizing.searched_net.Goals as goal
 
-pub passes-preserved : goal.passes-preserved
-passes-preserved c = c.chosen-best.ensures (netlist_of c.args.net.now) c.passes.invariant
-
-pub returns-then-idle-ge-IDLE : goal.returns-then-idle-ge-IDLE
-returns-then-idle-ge-IDLE c = c.chosen-best.ensures (netlist_of c.args.net.now) c.passes.invariant
+pub ways-preserved : goal.ways-preserved
+ways-preserved c = c.lighter-best.ensures c.ways.invariant

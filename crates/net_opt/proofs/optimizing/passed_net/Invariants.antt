@@ -1,0 +1,6 @@
+use Rattle.net_ir.specs.Runs.{netlist_of}
+use Rattle.net_opt.specs.Optimized.{Replaces}
+use Rattle.net_opt.proofs.optimizing.passed_net.Given as goal
+
+abbrev pub invariant-passes : goal.invariant-passes
+invariant-passes l = Replaces (netlist_of l.net) (netlist_of l.best)
