@@ -1,8 +1,9 @@
 // Cuts: few nodes that settle another one.
 
-use crate::edges::{Edge, number_at, word_at};
+use crate::edges::{Edge, negated, number_at, straight, word_at};
+use crate::excluding::Exclusions;
 use crate::graphs::Graph;
-use crate::tables::variable_table;
+use crate::tables::{Between, variable_table};
 use est_base::NoMemory;
 use std::alloc::Global;
 
@@ -94,8 +95,57 @@ impl Cut {
         Ok(())
     }
 
-    /// The function of the node, with the leaves as variables.
-    pub fn table(&self, alloc: Global, graph: &Graph) -> Result<u64, NoMemory> {
+    /// The functions that the node may have, with the leaves as variables: free where leaves exclude each other.
+    pub fn functions(
+        &self,
+        alloc: Global,
+        graph: &Graph,
+        exclusions: &Exclusions,
+    ) -> Result<Between, NoMemory> {
+        let table = self.table(alloc, graph)?;
+        let free = self.excluded(exclusions);
+        Ok(Between {
+            low: table & !free,
+            high: table | free,
+        })
+    }
+
+    // Where the leaves have values that exclude each other.
+    fn excluded(&self, exclusions: &Exclusions) -> u64 {
+        let mut table: u64 = 0;
+        for (k, leaf) in self.leaves.iter().enumerate() {
+            for (j, other) in self.leaves.iter().enumerate() {
+                if j < k {
+                    table |= excluded_at(exclusions, straight(*leaf), k, straight(*other), j);
+                    table |= excluded_at(
+                        exclusions,
+                        negated(straight(*leaf)),
+                        k,
+                        straight(*other),
+                        j,
+                    );
+                    table |= excluded_at(
+                        exclusions,
+                        straight(*leaf),
+                        k,
+                        negated(straight(*other)),
+                        j,
+                    );
+                    table |= excluded_at(
+                        exclusions,
+                        negated(straight(*leaf)),
+                        k,
+                        negated(straight(*other)),
+                        j,
+                    );
+                }
+            }
+        }
+        table
+    }
+
+    // The function of the node, with the leaves as variables.
+    fn table(&self, alloc: Global, graph: &Graph) -> Result<u64, NoMemory> {
         let mut nodes = Vec::new(alloc);
         let mut tables = Vec::new(alloc);
         for (k, leaf) in self.leaves.iter().enumerate() {
@@ -133,6 +183,20 @@ impl Cut {
         }
         Ok(spared)
     }
+}
+
+// Where two literals of variables are true, if they exclude each other.
+fn excluded_at(exclusions: &Exclusions, left: Edge, one: usize, right: Edge, other: usize) -> u64 {
+    if exclusions.excludes(left, right) {
+        signed_table(one, left.negative) & signed_table(other, right.negative)
+    } else {
+        0
+    }
+}
+
+fn signed_table(variable: usize, negative: bool) -> u64 {
+    let table = variable_table(variable);
+    if negative { !table } else { table }
 }
 
 // How often these nodes hold a node.

@@ -8,6 +8,7 @@ ghost use Rattle.net_opt.specs.Optimized.{Optimizes, Replaces};
 ghost use Rattle.net_opt.specs.Shown.{EachIsShown};
 
 use crate::classes::{Classes, first_classes, own_classes};
+use crate::excluding::{Exclusions, exclusions_of, no_exclusions};
 use crate::showing::shown_part;
 use crate::silencing::silent_copy;
 use crate::simulating::histories;
@@ -64,9 +65,10 @@ fn searched_net(alloc: Global, net: &Net) -> Result<Net, NoMemory>
     ensures { IfOk result (λ new. Optimizes (netlist_of net.now) (netlist_of new)) }
 {
     let mut best = begun_net(alloc, net)?;
+    let exclusions = exclusions_of(alloc, &best)?;
     let ways: usize = if size_of(net) > SMALL { 1 } else { WAYS };
     'ways: for number in 0..ways {
-        let other = passed_net(alloc, net, way_of(number))?;
+        let other = passed_net(alloc, net, way_of(number), &exclusions)?;
         best = lighter(net, best, other);
     }
     Ok(best)
@@ -114,15 +116,15 @@ fn weight(net: &Net) -> usize {
         .saturating_add(net.gates.len())
 }
 
-// What the passes make of it, each a smaller netlist or none.
-fn passed_net(alloc: Global, net: &Net, way: Way) -> Result<Net, NoMemory>
+// What the passes make of it, each a smaller netlist or none. The first pass knows what is excluded.
+fn passed_net(alloc: Global, net: &Net, way: Way, exclusions: &Exclusions) -> Result<Net, NoMemory>
     ensures { IfOk result (λ new. Replaces (netlist_of net.now) (netlist_of new)) }
 {
     let mut best = ordered_net(alloc, net, way)?;
     let mut idle: usize = 0;
     'passes: for place in 0..PASSES {
         let size = size_of(&best);
-        let new = improved(alloc, &best, pass_at(place, way.worth))?;
+        let new = improved_at(alloc, &best, place, way, exclusions)?;
         best = chosen(best, new);
         idle = idle_passes(idle, size, size_of(&best));
         if idle >= IDLE {
@@ -140,7 +142,7 @@ fn ordered_net(alloc: Global, net: &Net, way: Way) -> Result<Net, NoMemory>
     if !way.ordered {
         return Ok(begun);
     }
-    match changed_net(alloc, &begun, Change::Order)? {
+    match changed_net(alloc, &begun, Change::Order, &no_exclusions(alloc))? {
         Some(new) => Ok(new),
         None => Ok(begun),
     }
@@ -205,11 +207,37 @@ fn chosen(best: Net, new: Option<Net>) -> Net
     }
 }
 
-// What a pass makes of a netlist, where that has no more gates and no more latches.
-fn improved(alloc: Global, net: &Net, pass: Pass) -> Result<Option<Net>, NoMemory>
+// What the pass of a place makes of a netlist, of which the first one knows what is excluded.
+fn improved_at(
+    alloc: Global,
+    net: &Net,
+    place: usize,
+    way: Way,
+    first: &Exclusions,
+) -> Result<Option<Net>, NoMemory>
     ensures { IfOk result (λ o. IfSome o (λ new. Optimizes (netlist_of net.now) (netlist_of new))) }
 {
-    let Some(new) = passed(alloc, net, pass)? else {
+    let pass = pass_at(place, way.worth);
+    if place == 0 && first.are_of(net) {
+        return improved(alloc, net, pass, first);
+    }
+    let exclusions = match pass {
+        Pass::Balance => no_exclusions(alloc),
+        _ => exclusions_of(alloc, net)?,
+    };
+    Ok(improved(alloc, net, pass, &exclusions)?)
+}
+
+// What a pass makes of a netlist, where that has no more gates and no more latches.
+fn improved(
+    alloc: Global,
+    net: &Net,
+    pass: Pass,
+    exclusions: &Exclusions,
+) -> Result<Option<Net>, NoMemory>
+    ensures { IfOk result (λ o. IfSome o (λ new. Optimizes (netlist_of net.now) (netlist_of new))) }
+{
+    let Some(new) = passed(alloc, net, pass, exclusions)? else {
         return Ok(None);
     };
     if new.gates.len() > net.gates.len() {
@@ -222,29 +250,39 @@ fn improved(alloc: Global, net: &Net, pass: Pass) -> Result<Option<Net>, NoMemor
 }
 
 // What a pass makes of a netlist, if it is shown to follow it.
-fn passed(alloc: Global, net: &Net, pass: Pass) -> Result<Option<Net>, NoMemory>
+fn passed(
+    alloc: Global,
+    net: &Net,
+    pass: Pass,
+    exclusions: &Exclusions,
+) -> Result<Option<Net>, NoMemory>
     ensures { IfOk result (λ o. IfSome o (λ new. Replaces (netlist_of net.now) (netlist_of new))) }
 {
     match pass {
-        Pass::Merge(worth) => merged_net(alloc, net, worth),
-        Pass::Balance => changed_net(alloc, net, Change::Balance),
-        Pass::Rewrite => changed_net(alloc, net, Change::Rewrite(REWRITES)),
+        Pass::Merge(worth) => merged_net(alloc, net, worth, exclusions),
+        Pass::Balance => changed_net(alloc, net, Change::Balance, exclusions),
+        Pass::Rewrite => changed_net(alloc, net, Change::Rewrite(REWRITES), exclusions),
     }
 }
 
 // A netlist in which nets are one that are constant, or equal or opposite to others, in every instant that the given
 // one reaches.
-fn merged_net(alloc: Global, net: &Net, worth: usize) -> Result<Option<Net>, NoMemory>
+fn merged_net(
+    alloc: Global,
+    net: &Net,
+    worth: usize,
+    exclusions: &Exclusions,
+) -> Result<Option<Net>, NoMemory>
     ensures { IfOk result (λ o. IfSome o (λ new. Replaces (netlist_of net.now) (netlist_of new))) }
 {
     let mut classes = first_classes(alloc, &histories(alloc, net)?)?;
     for _trial in 0..TRIALS {
-        part_classes(alloc, net, &mut classes)?;
-        let telling = tried_classes(alloc, net, &classes, Change::Tell(worth))?;
+        part_classes(alloc, net, exclusions, &mut classes)?;
+        let telling = tried_classes(alloc, net, &classes, exclusions, Change::Tell(worth))?;
         if is_no_larger(&telling.new, net) {
             return Ok(telling.new);
         }
-        let trial = tried_classes(alloc, net, &classes, Change::Keep)?;
+        let trial = tried_classes(alloc, net, &classes, exclusions, Change::Keep)?;
         if trial.new.is_some() {
             return Ok(trial.new);
         }
@@ -265,10 +303,15 @@ fn is_no_larger(new: &Option<Net>, net: &Net) -> bool {
 }
 
 // Parts the classes until they hold by induction over instants.
-fn part_classes(alloc: Global, net: &Net, classes: &mut Classes) -> Result<(), NoMemory> {
+fn part_classes(
+    alloc: Global,
+    net: &Net,
+    exclusions: &Exclusions,
+    classes: &mut Classes,
+) -> Result<(), NoMemory> {
     for _round in 0..ROUNDS {
-        if !parts(alloc, net, classes, Instant::Later)? {
-            if !parts(alloc, net, classes, Instant::First)? {
+        if !parts(alloc, net, exclusions, classes, Instant::Later)? {
+            if !parts(alloc, net, exclusions, classes, Instant::First)? {
                 return Ok(());
             }
         }
@@ -280,20 +323,26 @@ fn part_classes(alloc: Global, net: &Net, classes: &mut Classes) -> Result<(), N
 fn parts(
     alloc: Global,
     net: &Net,
+    exclusions: &Exclusions,
     classes: &mut Classes,
     instant: Instant,
 ) -> Result<bool, NoMemory> {
-    let claims = classes.claims(alloc)?;
+    let claims = classes.claims(alloc, &exclusions.claims)?;
     let parted = inductive_claims(alloc, net, &claims, instant)?;
     classes.take_up(&parted.claims);
     Ok(!parted.unshown.is_empty())
 }
 
 // A netlist that computes the same by another graph: balanced by depth, or of smaller parts.
-fn changed_net(alloc: Global, net: &Net, change: Change) -> Result<Option<Net>, NoMemory>
+fn changed_net(
+    alloc: Global,
+    net: &Net,
+    change: Change,
+    exclusions: &Exclusions,
+) -> Result<Option<Net>, NoMemory>
     ensures { IfOk result (λ o. IfSome o (λ new. Replaces (netlist_of net.now) (netlist_of new))) }
 {
     let classes = own_classes(alloc, net)?;
-    let trial = tried_classes(alloc, net, &classes, change)?;
+    let trial = tried_classes(alloc, net, &classes, exclusions, change)?;
     Ok(trial.new)
 }

@@ -18,18 +18,14 @@ pub(crate) struct Plan {
     pub root: Edge,
 }
 
-/// A graph that computes a function.
-pub(crate) fn planned(alloc: Global, table: u64) -> Result<Plan, NoMemory> {
+/// A graph that computes one of these functions.
+pub(crate) fn planned(alloc: Global, functions: Between) -> Result<Plan, NoMemory> {
     let mut plan = Plan {
         lefts: Vec::new(alloc),
         rights: Vec::new(alloc),
         root: TRUE,
     };
-    let all = Between {
-        low: table,
-        high: table,
-    };
-    plan.root = plan.edge_between(all, VARIABLES + 1)?;
+    plan.root = plan.edge_between(functions, VARIABLES + 1)?;
     Ok(plan)
 }
 

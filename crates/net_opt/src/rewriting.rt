@@ -3,6 +3,7 @@
 use crate::building::{Built, reader_counts};
 use crate::cuts::{Cut, Style, cut_of, place_in};
 use crate::edges::{Edge, TRUE, UNKNOWN, edge_at, is_marked, named, straight};
+use crate::excluding::Exclusions;
 use crate::graphs::Graph;
 use crate::plans::{Plan, VARIABLES, planned};
 use est_base::NoMemory;
@@ -64,6 +65,7 @@ pub(crate) fn rewritten(
     net: &Net,
     built: &Built,
     marks: &[bool],
+    exclusions: &Exclusions,
     changes: bool,
 ) -> Result<Built, NoMemory> {
     let count = built.graph.count();
@@ -77,7 +79,7 @@ pub(crate) fn rewritten(
         let edge = if !built.graph.is_pair(node) {
             straight(node)
         } else if is_marked(marks, node) {
-            rewriter.pair_edge(alloc, &built.graph, node)?
+            rewriter.pair_edge(alloc, &built.graph, exclusions, node)?
         } else {
             UNKNOWN
         };
@@ -103,11 +105,17 @@ impl Rewriter {
     }
 
     // What stands for a pair: the smallest graph of its cuts, if that spares nodes.
-    fn pair_edge(&mut self, alloc: Global, old: &Graph, node: usize) -> Result<Edge, NoMemory> {
+    fn pair_edge(
+        &mut self,
+        alloc: Global,
+        old: &Graph,
+        exclusions: &Exclusions,
+        node: usize,
+    ) -> Result<Edge, NoMemory> {
         let pair = old.pair(node);
         let left = self.image(pair.left);
         let right = self.image(pair.right);
-        match self.best_offer(alloc, old, node)? {
+        match self.best_offer(alloc, old, exclusions, node)? {
             Some(offer) => self.placed(alloc, &offer.plan, &offer.inputs),
             None => self.graph.both(left, right),
         }
@@ -118,21 +126,28 @@ impl Rewriter {
         &self,
         alloc: Global,
         old: &Graph,
+        exclusions: &Exclusions,
         node: usize,
     ) -> Result<Option<Offer>, NoMemory> {
         let mut best: Option<Offer> = None;
         for number in 0..STYLES {
             let cut = cut_of(alloc, old, node, &self.fans, style_of(number))?;
             if cut.inside.len() > 1 {
-                best = better(best, self.offer(alloc, old, &cut)?);
+                best = better(best, self.offer(alloc, old, exclusions, &cut)?);
             }
         }
         Ok(best)
     }
 
     // The graph that a cut's function has, if it spares nodes, or, where changes are asked for, takes no more.
-    fn offer(&self, alloc: Global, old: &Graph, cut: &Cut) -> Result<Option<Offer>, NoMemory> {
-        let plan = planned(alloc, cut.table(alloc, old)?)?;
+    fn offer(
+        &self,
+        alloc: Global,
+        old: &Graph,
+        exclusions: &Exclusions,
+        cut: &Cut,
+    ) -> Result<Option<Offer>, NoMemory> {
+        let plan = planned(alloc, cut.functions(alloc, old, exclusions)?)?;
         let spared = cut.spared(alloc, old, &self.fans)?;
         let freed = self.images(alloc, &spared)?;
         let inputs = self.images_of(alloc, &cut.leaves)?;

@@ -12,6 +12,9 @@ const FEWEST: usize = 256;
 
 const MOST: usize = 4_096;
 
+// In how many instants pairs of latches are looked at.
+const PAIRED: usize = 1_024;
+
 // For how many instants the inputs keep their densities; and for how many such stretches in the runs that are steady,
 // one of eight, in which an input of a choice keeps its value too.
 const STRETCH: usize = 64;
@@ -30,49 +33,132 @@ pub(crate) struct NetHistories {
 
 /// NetHistories of the nets.
 pub(crate) fn histories(alloc: Global, net: &Net) -> Result<NetHistories, NoMemory> {
-    let mut steps = Vec::new(alloc);
-    for gate in &net.gates {
-        steps.push(step_of(gate.op))?;
-    }
-    let mut latches = Vec::new(alloc);
-    for latch in &net.latches {
-        latches.push(if latch.init { u64::MAX } else { 0 })?;
-    }
-    let mut seed: u64 = 0x2545_f491_4f6c_dd1d;
-    let count = net
-        .inputs
-        .len()
-        .saturating_add(net.latches.len())
-        .saturating_add(net.gates.len())
-        .saturating_add(1);
-    let mut values = vec![in alloc; 0; count]?;
-    let mut choices = vec![in alloc; 0; net.inputs.len()]?;
-    draw_choices(&mut choices, &mut seed, true);
-    run_instant(&steps, &latches, &choices, &mut seed, &mut values);
+    let mut runs = Runs::new(alloc, net)?;
     let mut signs = Vec::new(alloc);
     let mut flips = Vec::new(alloc);
-    for value in &values {
+    for value in &runs.values {
         signs.push(*value & 1 == 1)?;
         flips.push(flip(*value))?;
     }
-    let mut marks = vec![in alloc; 0; values.len()]?;
-    mix(&mut marks, &flips, &values);
-    for instant in 0..instants(values.len()) {
-        if instant % STRETCH == 0 {
-            draw_choices(
-                &mut choices,
-                &mut seed,
-                instant % (STRETCH * STRETCHES) == 0,
-            );
-        }
-        go_on(net, &values, &mut latches);
-        if instant % STRETCH == 0 {
-            restart(net, &mut latches, restarted(instant, &mut seed));
-        }
-        run_instant(&steps, &latches, &choices, &mut seed, &mut values);
-        mix(&mut marks, &flips, &values);
+    let mut marks = vec![in alloc; 0; runs.values.len()]?;
+    mix(&mut marks, &flips, &runs.values);
+    for _instant in 0..instants(runs.values.len()) {
+        runs.step(net);
+        mix(&mut marks, &flips, &runs.values);
     }
     Ok(NetHistories { marks, signs })
+}
+
+/// Two literals of latches, by their numbers: the latches in order, each behind twice as many literals as there are
+/// latches before it, and its negation behind it.
+#[derive(Clone, Copy)]
+pub(crate) struct Literals {
+    pub left: usize,
+    pub right: usize,
+}
+
+/// The pairs of literals of different latches that are true together in no instant that is run.
+pub(crate) fn unseen_pairs(alloc: Global, net: &Net) -> Result<Vec<Literals>, NoMemory> {
+    let mut runs = Runs::new(alloc, net)?;
+    let count = net.latches.len().saturating_mul(2);
+    let mut words = vec![in alloc; 0; count]?;
+    let mut unseen = Vec::new(alloc);
+    for right in 0..count {
+        for left in 0..right / 2 * 2 {
+            unseen.push(Literals { left, right })?;
+        }
+    }
+    for _instant in 0..PAIRED {
+        for (k, latch) in runs.latches.iter().enumerate() {
+            put(&mut words, k.saturating_mul(2), *latch);
+            put(&mut words, k.saturating_mul(2).saturating_add(1), !*latch);
+        }
+        keep_unseen(&mut unseen, &words);
+        runs.step(net);
+    }
+    Ok(unseen)
+}
+
+// Keeps the pairs of which both are true in none of these runs.
+fn keep_unseen(pairs: &mut Vec<Literals>, words: &[u64]) {
+    let mut kept: usize = 0;
+    for at in 0..pairs.len() {
+        let pair = pairs[at];
+        if word_at(words, pair.left) & word_at(words, pair.right) == 0 && kept < pairs.len() {
+            pairs[kept] = pair;
+            kept = kept.saturating_add(1);
+        }
+    }
+    pairs.truncate(kept);
+}
+
+// Sixty-four runs of a netlist: the values of the latches, and those of what is always true and of all nets, in an
+// instant.
+#[derive(Drop)]
+struct Runs {
+    steps: Vec<Step>,
+    latches: Vec<u64>,
+    choices: Vec<u64>,
+    values: Vec<u64>,
+    seed: u64,
+    instant: usize,
+}
+
+impl Runs {
+    // The first instant.
+    fn new(alloc: Global, net: &Net) -> Result<Runs, NoMemory> {
+        let mut steps = Vec::new(alloc);
+        for gate in &net.gates {
+            steps.push(step_of(gate.op))?;
+        }
+        let mut latches = Vec::new(alloc);
+        for latch in &net.latches {
+            latches.push(if latch.init { u64::MAX } else { 0 })?;
+        }
+        let count = net
+            .inputs
+            .len()
+            .saturating_add(net.latches.len())
+            .saturating_add(net.gates.len())
+            .saturating_add(1);
+        let mut runs = Runs {
+            steps,
+            latches,
+            choices: vec![in alloc; 0; net.inputs.len()]?,
+            values: vec![in alloc; 0; count]?,
+            seed: 0x2545_f491_4f6c_dd1d,
+            instant: 0,
+        };
+        draw_choices(&mut runs.choices, &mut runs.seed, true);
+        runs.run();
+        Ok(runs)
+    }
+
+    // The next instant.
+    fn step(&mut self, net: &Net) {
+        let instant = self.instant;
+        if instant % STRETCH == 0 {
+            let all = instant % (STRETCH * STRETCHES) == 0;
+            draw_choices(&mut self.choices, &mut self.seed, all);
+        }
+        go_on(net, &self.values, &mut self.latches);
+        if instant % STRETCH == 0 {
+            let runs = restarted(instant, &mut self.seed);
+            restart(net, &mut self.latches, runs);
+        }
+        self.run();
+        self.instant = self.instant.saturating_add(1);
+    }
+
+    fn run(&mut self) {
+        run_instant(
+            &self.steps,
+            &self.latches,
+            &self.choices,
+            &mut self.seed,
+            &mut self.values,
+        );
+    }
 }
 
 // How a gate's value comes of two others: each may be taken negated, and so may what is true where both are. The

@@ -11,6 +11,7 @@ use crate::classes::{Classes, equation, literal};
 use crate::copying::{in_order_of_need, places_in_order, without_told};
 use crate::edges::{Edge, TRUE, edge_at, is_marked, mark, negated_if, number_at, straight};
 use crate::emitting::{Emitted, emitted_parts, parts_of};
+use crate::excluding::Exclusions;
 use crate::rewriting::rewritten;
 use crate::telling::{told_latches, untold};
 use est_base::NoMemory;
@@ -56,6 +57,7 @@ pub(crate) fn tried_classes(
     alloc: Global,
     net: &Net,
     classes: &Classes,
+    exclusions: &Exclusions,
     change: Change,
 ) -> Result<Trial, NoMemory>
     ensures { IfOk result (λ t. IfSome t.new (λ new. Replaces (netlist_of net.now) (netlist_of new))) }
@@ -66,11 +68,11 @@ pub(crate) fn tried_classes(
         _ => untold(alloc, net)?,
     };
     let begun = without_told(alloc, net, plain, &told)?;
-    let built = changed(alloc, net, begun, change)?;
+    let built = changed(alloc, net, begun, exclusions, change)?;
     let order = places_in_order(alloc, net, &told)?;
     let marks = marked_nodes(alloc, net, &built)?;
     let emitted = emitted_parts(alloc, net, &built, &marks)?;
-    let claims = claimed(alloc, classes, &built, &order, &marks, &emitted)?;
+    let claims = claimed(alloc, classes, exclusions, &built, &order, &marks, &emitted)?;
     let mut failing = vec![in alloc; false; classes.stand_ins.len()]?;
     let new = match assembled_net(alloc, net, parts_of(emitted))? {
         Some(made) => followed_net(alloc, net, made, claims, classes, &mut failing)?,
@@ -80,7 +82,13 @@ pub(crate) fn tried_classes(
 }
 
 // The graph, changed so.
-fn changed(alloc: Global, net: &Net, built: Built, change: Change) -> Result<Built, NoMemory> {
+fn changed(
+    alloc: Global,
+    net: &Net,
+    built: Built,
+    exclusions: &Exclusions,
+    change: Change,
+) -> Result<Built, NoMemory> {
     match change {
         Change::Keep | Change::Tell(_) => Ok(built),
         Change::Order => in_order_of_need(alloc, net, &built),
@@ -88,24 +96,32 @@ fn changed(alloc: Global, net: &Net, built: Built, change: Change) -> Result<Bui
             let marks = marked_nodes(alloc, net, &built)?;
             balanced(alloc, net, &built, &marks)
         }
-        Change::Rewrite(times) => remade(alloc, net, built, times),
+        Change::Rewrite(times) => remade(alloc, net, built, exclusions, times),
     }
 }
 
 // The graph, rewritten so many times; every second time what only changes is taken too.
-fn remade(alloc: Global, net: &Net, built: Built, times: usize) -> Result<Built, NoMemory> {
+fn remade(
+    alloc: Global,
+    net: &Net,
+    built: Built,
+    exclusions: &Exclusions,
+    times: usize,
+) -> Result<Built, NoMemory> {
     let mut now = built;
     for pass in 0..times {
         let marks = marked_nodes(alloc, net, &now)?;
-        now = rewritten(alloc, net, &now, &marks, pass % 2 == 1)?;
+        now = rewritten(alloc, net, &now, &marks, exclusions, pass % 2 == 1)?;
     }
     Ok(now)
 }
 
-// What is claimed: what the classes say, and that each net has the value of what becomes of it, in this order.
+// What is claimed: what is excluded, what the classes say, and that each net, in this order, has the value of what
+// becomes of it.
 fn claimed(
     alloc: Global,
     classes: &Classes,
+    exclusions: &Exclusions,
     built: &Built,
     order: &[usize],
     marks: &[bool],
@@ -115,6 +131,10 @@ fn claimed(
         equations: Vec::new(alloc),
         places: Vec::new(alloc),
     };
+    for claim in &exclusions.claims {
+        claims.equations.push(*claim)?;
+        claims.places.push(0)?;
+    }
     for place in 1..built.edges.len() {
         if classes.joins(place) {
             claims
