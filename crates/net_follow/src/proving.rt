@@ -39,6 +39,13 @@ const SOME: Effort = Effort {
     tries: 8,
 };
 
+const MORE: Effort = Effort {
+    reach: 30,
+    allowance: 1_500,
+    fuel: 4_000,
+    tries: 8,
+};
+
 const MUCH: Effort = Effort {
     reach: u64::MAX,
     allowance: 6_000,
@@ -57,11 +64,13 @@ fn most(nets: u64) -> Effort {
     }
 }
 
-// How many clauses may be looked at in vain, for each net and beside, before the greatest effort is spared; and as many
-// more before only some effort is made. What is looked at with success is given back.
-const PATIENCE: u64 = 200;
-
-const BESIDE: u64 = 20_000_000;
+// How many clauses may be looked at in vain over so many nets before the greatest effort is spared; and as many more
+// before only less effort is made. Where nets are few, a check is short, and more may be in vain. What is looked at
+// with success is given back.
+fn patience(nets: u64) -> u64 {
+    let few = 30_000_000_u64.saturating_sub(nets.saturating_mul(4_000));
+    nets.saturating_mul(200).max(few)
+}
 
 /// What is assumed, and what is known by it. All that is known up to `settled` has been followed up. `most` is the
 /// greatest effort, which is made while there is more `patience` than `spared`.
@@ -81,9 +90,7 @@ impl Prover {
         ensures clauses { IfOk result (λ p. p.clauses.clauses.items ≡ []) }
         ensures known { IfOk result (λ p. p.trail.known.items ≡ []) }
     {
-        let spared = (nets as u64)
-            .saturating_mul(PATIENCE)
-            .saturating_add(BESIDE);
+        let spared = patience(nets as u64);
         Ok(Prover {
             clauses: Clauses::new(alloc, nets)?,
             trail: Trail::new(alloc, nets)?,
@@ -147,6 +154,9 @@ impl Prover {
             return Ok(true);
         }
         if self.sees_by(clause, SOME)? {
+            return Ok(true);
+        }
+        if self.sees_by(clause, MORE)? {
             return Ok(true);
         }
         self.sees_at_last(clause)
