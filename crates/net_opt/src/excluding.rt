@@ -9,8 +9,10 @@ use net_follow::{Equation, Instant, Literal, Side, inductive_claims};
 use net_ir::Net;
 use std::alloc::Global;
 
-// How many latches are looked at in pairs.
+// How many latches are looked at in pairs, in netlists of how many gates.
 const LATCHES: usize = 64;
+
+const GATES: usize = 4_000;
 
 // How often pairs are parted by induction.
 const ROUNDS: usize = 40;
@@ -36,9 +38,9 @@ pub(crate) fn no_exclusions(alloc: Global) -> Exclusions {
 }
 
 /// The pairs that are never seen in drawn runs, as far as they hold by induction over instants; none where there are
-/// many latches.
+/// many latches or gates.
 pub(crate) fn exclusions_of(alloc: Global, net: &Net) -> Result<Exclusions, NoMemory> {
-    if net.latches.len() > LATCHES {
+    if net.latches.len() > LATCHES || net.gates.len() > GATES {
         return Ok(no_exclusions(alloc));
     }
     let first = latch_node(net, 0);

@@ -116,15 +116,17 @@ fn weight(net: &Net) -> usize {
         .saturating_add(net.gates.len())
 }
 
-// What the passes make of it, each a smaller netlist or none. The first pass knows what is excluded.
+// What the passes make of it, each a smaller netlist or none. What is excluded is known of the given one.
 fn passed_net(alloc: Global, net: &Net, way: Way, exclusions: &Exclusions) -> Result<Net, NoMemory>
     ensures { IfOk result (λ new. Replaces (netlist_of net.now) (netlist_of new)) }
 {
     let mut best = ordered_net(alloc, net, way)?;
+    let mut last = no_exclusions(alloc);
     let mut idle: usize = 0;
     'passes: for place in 0..PASSES {
         let size = size_of(&best);
-        let new = improved_at(alloc, &best, place, way, exclusions)?;
+        let pass = pass_at(place, way.worth);
+        let new = improved_at(alloc, &best, pass, exclusions, &mut last)?;
         best = chosen(best, new);
         idle = idle_passes(idle, size, size_of(&best));
         if idle >= IDLE {
@@ -207,25 +209,27 @@ fn chosen(best: Net, new: Option<Net>) -> Net
     }
 }
 
-// What the pass of a place makes of a netlist, of which the first one knows what is excluded.
+// What the pass of a place makes of a netlist. What is excluded is known of as many latches as there were at first, or
+// last; else it is found anew.
 fn improved_at(
     alloc: Global,
     net: &Net,
-    place: usize,
-    way: Way,
+    pass: Pass,
     first: &Exclusions,
+    last: &mut Exclusions,
 ) -> Result<Option<Net>, NoMemory>
     ensures { IfOk result (λ o. IfSome o (λ new. Optimizes (netlist_of net.now) (netlist_of new))) }
 {
-    let pass = pass_at(place, way.worth);
-    if place == 0 && first.are_of(net) {
+    if let Pass::Balance = pass {
+        return improved(alloc, net, pass, &no_exclusions(alloc));
+    }
+    if first.are_of(net) {
         return improved(alloc, net, pass, first);
     }
-    let exclusions = match pass {
-        Pass::Balance => no_exclusions(alloc),
-        _ => exclusions_of(alloc, net)?,
-    };
-    Ok(improved(alloc, net, pass, &exclusions)?)
+    if !last.are_of(net) {
+        *last = exclusions_of(alloc, net)?;
+    }
+    improved(alloc, net, pass, last)
 }
 
 // What a pass makes of a netlist, where that has no more gates and no more latches.
